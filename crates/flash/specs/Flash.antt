@@ -1,0 +1,76 @@
+-- The flash, document 01, "What the board holds": an image is blocks of one size; a step changes one byte or one block.
+use mathlib.Core.List.{List, [], _∷_, _++_}
+use mathlib.Core.Bool.{Bool, _&&_}
+use Prim.Native.Nat.{ℕ, suc, _+_, _*_, _/_}
+use lib.Bits.{bitAnd}
+use lib.Dec.{ltb}
+use lib.ListN.{length, getD, take, drop, set, replicate}
+
+-- "It is two halves of S bytes each." Document 01's half is a block here; blocks are known by number.
+abbrev pub blocks : ℕ
+blocks = 2
+
+abbrev pub blockNumbers : List ℕ
+blockNumbers = 0 ∷ 1 ∷ []
+
+abbrev pub sizeOf : List ℕ → ℕ
+sizeOf img = length img / blocks
+
+-- block k of an image of blocks of s bytes
+abbrev pub block : ℕ → ℕ → List ℕ → List ℕ
+block s k img = take s (drop (k * s) img)
+
+-- "A step does one thing: program one byte (new value = old AND given), erase one half (all bytes 0xFF), or nothing."
+-- A step that does nothing is none: a call that takes no step leaves the image as it is.
+pub data Step : Type 0 where
+  program : ℕ → ℕ → ℕ → Step  -- block, offset, byte
+  erase : ℕ → Step  -- block
+
+abbrev pub programAt : List ℕ → ℕ → ℕ → List ℕ
+programAt l i v = set l i (bitAnd (getD l i 0) v)
+
+-- as many bytes as there are: an image keeps its length whatever the block's number
+abbrev pub eraseBlock : ℕ → ℕ → List ℕ → List ℕ
+eraseBlock s k img = take (k * s) img ++ (replicate (length (block s k img)) 255 ++ drop (k * s + s) img)
+
+abbrev pub apply : ℕ → Step → List ℕ → List ℕ
+apply s (program k o v) img = programAt img (k * s + o) v
+apply s (erase k) img = eraseBlock s k img
+
+unfoldable pub applyAll : ℕ → List Step → List ℕ → List ℕ
+applyAll s [] img = img
+applyAll s (x ∷ xs) img = applyAll s xs (apply s x img)
+
+-- the step's place lies in the image: its block is there and its offset is below the block's size
+abbrev pub blockOf : Step → ℕ
+blockOf (program k o v) = k
+blockOf (erase k) = k
+
+abbrev pub offsetOf : Step → ℕ
+offsetOf (program k o v) = o
+offsetOf (erase k) = 0
+
+abbrev pub within : ℕ → Step → Bool
+within s x = ltb (blockOf x) blocks && ltb (offsetOf x) s
+
+-- ---- writes to one block
+
+-- one byte programmed at an offset of a block
+pub record Write : Type 0 where
+  pub at : ℕ
+  pub byte : ℕ
+
+abbrev pub write : ℕ → ℕ → Write
+write o b = record { at = o; byte = b }
+
+abbrev pub writeStep : ℕ → Write → Step
+writeStep k w = program k (w .at) (w .byte)
+
+-- "Bytes are programmed in address order, each one a step, 0xFF bytes too."
+unfoldable pub writes : ℕ → List ℕ → List Write
+writes o [] = []
+writes o (b ∷ bs) = write o b ∷ writes (suc o) bs
+
+unfoldable pub writeAll : List ℕ → List Write → List ℕ
+writeAll l [] = l
+writeAll l (w ∷ ws) = writeAll (programAt l (w .at) (w .byte)) ws

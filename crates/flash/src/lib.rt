@@ -1,0 +1,1 @@
+// The flash: an image of bytes in blocks of one size. A step programs one byte or erases one block.

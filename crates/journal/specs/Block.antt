@@ -1,0 +1,117 @@
+-- A block's header and its state, document 01, "Half header" and "Frames".
+use mathlib.Core.List.{List, [], _∷_, _++_}
+use mathlib.Core.Option.{Option, none, some}
+use mathlib.Core.Bool.{Bool, true, false}
+use Prim.Native.Nat.{ℕ, _-_}
+use lib.Dec.{eqb}
+use lib.ListN.{getD, take, drop}
+use Rattle.flash.specs.Bytes.{u16le, u32le, le32, allFF, sameBytes}
+use Rattle.flash.specs.Flash.{Write, write, writes}
+use Rattle.frame.specs.declared.Fault.{Fault}
+use Rattle.frame.specs.declared.Field.the-variants as field
+use Rattle.frame.specs.Frame.{Frame, encodeAll}
+use Rattle.frame.specs.Reader.{fault, Tail, clean, cut, bad, Scan, scan}
+
+abbrev pub headerLen : ℕ
+headerLen = 16
+
+abbrev pub headerKind : ℕ
+headerKind = 0x4A01
+
+-- "1 to 4,294,967,295"
+abbrev pub lastTime : ℕ
+lastTime = 4294967295
+
+-- byte 8: "0xFF ready, 0xFE transfer in progress, 0xFC valid data"
+abbrev pub stateAt : ℕ
+stateAt = 8
+
+abbrev pub inTransfer : ℕ
+inTransfer = 0xFE
+
+abbrev pub validData : ℕ
+validData = 0xFC
+
+-- the sixteen bytes for a creation time and a state: "bitwise inverse of the creation time", "9-15: 0xFF"
+abbrev pub header : ℕ → ℕ → List ℕ
+header time mark =
+    u16le headerLen ++ (u16le headerKind ++ (u32le (lastTime - time) ++ (mark ∷ 255 ∷ 255 ∷ 255 ∷ 255 ∷ 255 ∷ 255 ∷ 255 ∷ [])))
+
+abbrev pub createdAt : List ℕ → ℕ
+createdAt b = lastTime - le32 (getD b 4 0) (getD b 5 0) (getD b 6 0) (getD b 7 0)
+
+-- the first field of a header that isn't as above, in address order
+unfoldable pub headerFault : List ℕ → Option Fault
+headerFault b =
+    elim (sameBytes (take 2 b) (u16le headerLen)) [
+      | false ↦ some (fault field.Length 0)
+      | true ↦ elim (sameBytes (take 2 (drop 2 b)) (u16le headerKind)) [
+        | false ↦ some (fault field.Kind 2)
+        | true ↦ elim (eqb (createdAt b) 0) [
+          | true ↦ some (fault field.Created 4)
+          | false ↦ elim (eqb (getD b stateAt 0) validData) [
+            | false ↦ some (fault field.State 8)
+            | true ↦ elim (allFF (take 7 (drop 9 b))) [ false ↦ some (fault field.Spare 9) | true ↦ none ]
+          ]
+        ]
+      ]
+    ]
+
+-- "A half is blank if every byte is 0xFF; in progress if byte 8 is 0xFE; valid if byte 8 is 0xFC, the header is as above, and
+-- whole legal frames, the settled ones placed as said above, run to a tail that is all 0xFF or torn. Any other half is foreign."
+pub data BlockState : Type 0 where
+  blank : BlockState
+  inProgress : BlockState
+  valid : ℕ → List Frame → Tail → BlockState  -- creation time, frames, tail
+  foreign : Fault → BlockState
+
+abbrev pub ofTail : ℕ → List Frame → Tail → BlockState
+ofTail time fs clean = valid time fs clean
+ofTail time fs (cut n) = valid time fs (cut n)
+ofTail time fs (bad e) = foreign e
+
+abbrev pub ofHeader : List ℕ → Option Fault → BlockState
+ofHeader b (some e) = foreign e
+ofHeader b none = let s : Scan = scan 0 headerLen 0 (drop headerLen b) in ofTail (createdAt b) (s .frames) (s .tail)
+
+unfoldable pub blockState : List ℕ → BlockState
+blockState b =
+    elim (allFF b) [
+      | true ↦ blank
+      | false ↦ elim (eqb (getD b stateAt 0) inTransfer) [ true ↦ inProgress | false ↦ ofHeader b (headerFault b) ]
+    ]
+
+-- the frames and the creation time of a valid block
+abbrev pub framesIn : BlockState → List Frame
+framesIn blank = []
+framesIn inProgress = []
+framesIn (valid time fs t) = fs
+framesIn (foreign e) = []
+
+abbrev pub timeIn : BlockState → ℕ
+timeIn blank = 0
+timeIn inProgress = 0
+timeIn (valid time fs t) = time
+timeIn (foreign e) = 0
+
+-- ---- a block made, document 01, "Transfer": "byte 8 to 0xFE, header bytes 0-3, .., inverse of (time + 1), byte 8 to 0xFC"
+
+abbrev pub openWrites : List Write
+openWrites = write stateAt inTransfer ∷ writes 0 (u16le headerLen ++ u16le headerKind)
+
+abbrev pub sealWrites : ℕ → List Write
+sealWrites time = writes 4 (u32le (lastTime - time)) ++ (write stateAt validData ∷ [])
+
+-- each of them by its number, which only a forged record has too large
+abbrev pub openWrite : ℕ → Write
+openWrite i = getD openWrites i (write stateAt inTransfer)
+
+abbrev pub sealWrite : ℕ → ℕ → Write
+sealWrite time i = getD (sealWrites time) i (write stateAt validData)
+
+abbrev pub markWrites : ℕ  -- how many of each there are
+markWrites = 5
+
+-- all writes that make a blank block a valid one of these frames
+abbrev pub build : ℕ → List Frame → List Write
+build time fs = openWrites ++ (writes headerLen (encodeAll fs) ++ sealWrites time)

@@ -1,0 +1,134 @@
+-- Where a journal's frames stand: what a read and a transfer find without a replay.
+use mathlib.Core.List.{List, [], _∷_}
+use mathlib.Core.Option.{Option, none, some}
+use mathlib.Core.Bool.{Bool, true, false, _&&_}
+use Prim.Native.Nat.{ℕ, zero, suc, _+_, _-_}
+use lib.Dec.{eqb, leb}
+use lib.ListN.{getD, take, drop}
+use Rattle.frame.specs.declared.Host.{Host}
+use Rattle.frame.specs.declared.ObjectId.{ObjectId}
+use Rattle.frame.specs.Frame.{hostOf, idOf, ChangeOf, Change, put, delete, FrameOf, Frame, change, commit, abort, settled, mapFrame, frameLen}
+use Rattle.frame.specs.Reader.{Read, blank, whole, torn, wrong, readFrame}
+use Rattle.journal.specs.Replay.{ObjectOf, lookup, replay}
+use Rattle.journal.specs.Block.{headerLen}
+
+-- the frames with each value's frame's offset for the value: replay of them finds where each settled object stands
+unfoldable pub sited : ℕ → List Frame → List (FrameOf ℕ)
+sited o [] = []
+sited o (f ∷ fs) = mapFrame (λ v. o) f ∷ sited (o + frameLen f) fs
+
+abbrev pub orZero : Option ℕ → ℕ
+orZero none = 0
+orZero (some p) = p
+
+-- one place for each of n ids from i on
+unfoldable pub placesFrom : ℕ → ℕ → List (ObjectOf ℕ) → List ℕ
+placesFrom zero i os = []
+placesFrom (suc n) i os = orZero (lookup (idOf i) os) ∷ placesFrom n (suc i) os
+
+-- for every id the offset of the frame that its settled value stands in; 0 where it has none
+abbrev pub placesOf : List Frame → List ℕ
+placesOf fs = placesFrom 256 0 (replay (sited headerLen fs) .objects)
+
+-- the frame ends a host's pending list
+abbrev pub isEnd : Host → Frame → Bool
+isEnd h (change g c) = false
+isEnd h (commit g) = eqb (h .0) (g .0)
+isEnd h (abort g) = eqb (h .0) (g .0)
+isEnd h (settled i v) = false
+
+abbrev pub pick : Bool → ℕ → ℕ → ℕ
+pick true a b = a
+pick false a b = b
+
+-- the offset past a host's last commit or abort, of frames that start at o; d where there is none
+unfoldable pub sinceFrom : Host → ℕ → ℕ → List Frame → ℕ
+sinceFrom h o d [] = d
+sinceFrom h o d (f ∷ fs) = sinceFrom h (o + frameLen f) (pick (isEnd h f) (o + frameLen f) d) fs
+
+abbrev pub since : Host → List Frame → ℕ
+since h fs = sinceFrom h headerLen headerLen fs
+
+-- one such offset for each host: what stands below it of that host's is no longer pending
+abbrev pub sinceOf : List Frame → List ℕ
+sinceOf fs = since (hostOf 0) fs ∷ since (hostOf 1) fs ∷ since (hostOf 2) fs ∷ since (hostOf 3) fs ∷ []
+
+-- ---- a value by its place
+
+-- a value and its offset in the block
+pub record Value : Type 0 where
+  pub at : ℕ
+  pub bytes : List ℕ
+
+abbrev pub onlyIf : {A : Type 0} → Bool → A → Option A
+onlyIf true x = some x
+onlyIf false x = none
+
+-- the value of an id that a frame at offset p holds: a put's or a settled frame's
+abbrev pub valueIn : ObjectId → ℕ → Frame → Option Value
+valueIn i p (change h (put j v)) = onlyIf (eqb (i .0) (j .0)) (record { at = p + 7; bytes = v })
+valueIn i p (change h (delete j)) = none
+valueIn i p (commit h) = none
+valueIn i p (abort h) = none
+valueIn i p (settled j v) = onlyIf (eqb (i .0) (j .0)) (record { at = p + 6; bytes = v })
+
+abbrev pub valueRead : ObjectId → ℕ → Read → Option Value
+valueRead i p blank = none
+valueRead i p (whole f) = valueIn i p f
+valueRead i p (torn n) = none
+valueRead i p (wrong e) = none
+
+-- the value of an id at a place of a block; place 0, in the header, is none
+unfoldable pub valueAt : List ℕ → ObjectId → ℕ → Option Value
+valueAt b i p = elim (eqb p 0) [ true ↦ none | false ↦ valueRead i p (readFrame 0 p (drop p b)) ]
+
+-- ---- the frames of a state, one at a time: what is left from a cursor on
+
+-- a frame to copy, and the cursor after it: the next id, and the next offset of the journal
+pub record Load : Type 0 where
+  pub frame : Frame
+  pub id : ℕ
+  pub source : ℕ
+
+abbrev pub load : Frame → ℕ → ℕ → Load
+load f i s = record { frame = f; id = i; source = s }
+
+-- the settled frame of the first of n ids from i on whose place holds its value
+unfoldable pub nextSettled : List ℕ → List ℕ → ℕ → ℕ → ℕ → Option Load
+nextSettled b places source zero i = none
+nextSettled b places source (suc n) i =
+    elim (valueAt b (idOf i) (getD places i 0)) [
+      | some x ↦ some (load (settled (idOf i) (x .bytes)) (suc i) source)
+      | none ↦ nextSettled b places source n (suc i)
+    ]
+
+-- a put or delete at or past its host's mark
+abbrev pub isPending : List ℕ → ℕ → Frame → Bool
+isPending marks at (change h c) = leb (getD marks (h .0) 0) at
+isPending marks at (commit h) = false
+isPending marks at (abort h) = false
+isPending marks at (settled i v) = false
+
+-- the first pending frame of a journal's bytes, which start at offset `at` of the block; k as in `scan`
+unfoldable pub nextPending : List ℕ → ℕ → ℕ → List ℕ → Option Load
+nextPending marks at k [] = none
+nextPending marks at zero (b ∷ t) =
+    elim (readFrame 256 at (b ∷ t)) [
+      | blank ↦ none
+      | whole f ↦ elim (isPending marks at f) [
+        | true ↦ some (load f 256 (at + frameLen f))
+        | false ↦ nextPending marks (suc at) (frameLen f - 1) t
+      ]
+      | torn n ↦ none
+      | wrong e ↦ none
+    ]
+nextPending marks at (suc k) (b ∷ t) = nextPending marks (suc at) k t
+
+abbrev pub orElse : Option Load → Option Load → Option Load
+orElse (some u) o = some u
+orElse none o = o
+
+-- the next frame that a transfer of block b writes, whose whole frames run to `end`
+unfoldable pub nextLoad : List ℕ → ℕ → List ℕ → List ℕ → ℕ → ℕ → Option Load
+nextLoad b end places marks id source =
+    orElse (nextSettled b places source (256 - id) id) (nextPending marks source 0 (drop source (take end b)))

@@ -1,0 +1,4 @@
+pub mod Replay
+pub mod Block
+pub mod Room
+pub mod Index

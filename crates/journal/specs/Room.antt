@@ -1,0 +1,37 @@
+-- How much of a block a state takes, document 01, "Frames" and "Jobs".
+use mathlib.Core.List.{List, [], _∷_, _++_, map}
+use mathlib.Core.Bool.{Bool, true, false}
+use Prim.Native.Nat.{ℕ, _+_, _*_}
+use lib.Dec.{ltb}
+use Rattle.frame.specs.declared.Host.{Host}
+use Rattle.frame.specs.Frame.{hostOf, Change, put, delete, change, frameLen, deleteLen, endLen, total}
+use Rattle.journal.specs.Replay.{Object, Entry, entry, State, isOpen, settledFrame, pendingFrame}
+use Rattle.journal.specs.Block.{headerLen}
+
+-- "U is 16 plus the length of one settled frame for each settled object, whether or not such frames stand in the half."
+abbrev pub usedBy : List Object → ℕ
+usedBy os = headerLen + total (map settledFrame os)
+
+abbrev pub used : State → ℕ
+used s = usedBy (s .objects)
+
+-- "C is U plus the pending frames' lengths."
+abbrev pub claimed : State → ℕ
+claimed s = used s + total (map pendingFrame (s .pending))
+
+abbrev pub one : Bool → ℕ
+one true = 1
+one false = 0
+
+-- "`open` the hosts that would then have something pending": how many
+abbrev pub openHosts : List Entry → ℕ
+openHosts es = one (isOpen (hostOf 0) es) + one (isOpen (hostOf 1) es) + one (isOpen (hostOf 2) es) + one (isOpen (hostOf 3) es)
+
+-- what a put leaves free besides: a delete and its commit
+abbrev pub spare : Change → ℕ
+spare (put i v) = deleteLen + endLen
+spare (delete i) = 0
+
+-- "a put is refused exactly if C + n + 6·open + 14 > S, a delete exactly if C + 8 + 6·open > S"
+unfoldable pub noRoom : ℕ → State → Host → Change → Bool
+noRoom size s h c = ltb size (claimed s + frameLen (change h c) + endLen * openHosts (s .pending ++ (entry h c ∷ [])) + spare c)

@@ -1,0 +1,81 @@
+-- Messages and replies, document 01, "What hosts send".
+use mathlib.Core.List.{List, [], _∷_, _++_}
+use mathlib.Core.Bool.{Bool, true, false, _&&_}
+use Prim.Native.Nat.{ℕ, _+_}
+use lib.Dec.{eqb, leb}
+use lib.ListN.{length, getD, drop}
+use Rattle.flash.specs.Bytes.{u16le, u32le, le16}
+use Rattle.frame.specs.declared.ObjectId.{ObjectId}
+use Rattle.frame.specs.Frame.{idMax, valueMax}
+use Rattle.wire.specs.declared.Page.{Page}
+use Rattle.wire.specs.declared.Page.the-variants.{Summary}
+use Rattle.wire.specs.declared.Request.{Request}
+use Rattle.wire.specs.declared.Request.the-variants.{Put, Delete, Commit, Abort, Read, Log}
+use Rattle.wire.specs.declared.Parsed.{Parsed}
+use Rattle.wire.specs.declared.Parsed.the-variants.{Is, Malformed}
+
+-- the number of two bytes of a message
+abbrev pub wordAt : List ℕ → ℕ → ℕ
+wordAt m i = le16 (getD m i 0) (getD m (i + 1) 0)
+
+abbrev pub idIn : List ℕ → ObjectId
+idIn m = record { 0 = wordAt m 4 }
+
+abbrev pub valueIn : List ℕ → List ℕ
+valueIn m = drop 6 m
+
+abbrev pub isIf : Bool → Request → Parsed
+isIf true q = Is q
+isIf false q = Malformed
+
+-- an id of at most 255 follows, and nothing else
+abbrev pub onlyId : List ℕ → Bool
+onlyId m = eqb (length m) 6 && leb (wordAt m 4) idMax
+
+abbrev pub noBody : List ℕ → Bool
+noBody m = eqb (length m) 4
+
+-- an id and a value of at most 64 bytes
+abbrev pub idAndValue : List ℕ → Bool
+idAndValue m = leb 6 (length m) && (leb (length m) (6 + valueMax) && leb (wordAt m 4) idMax)
+
+-- "0x0106 log: page 1 byte, which must be 1"
+abbrev pub summaryPage : List ℕ → Bool
+summaryPage m = eqb (length m) 5 && eqb (getD m 4 0) 1
+
+-- "0x0101 put: id 2, value. 0x0102 delete: id 2. 0x0103 commit. 0x0104 abort. 0x0105 read: id 2. 0x0106 log"
+abbrev pub ofKind : ℕ → List ℕ → Parsed
+ofKind k m =
+    elim (eqb k 0x0101) [
+      | true ↦ isIf (idAndValue m) (Put (idIn m))
+      | false ↦ elim (eqb k 0x0102) [
+        | true ↦ isIf (onlyId m) (Delete (idIn m))
+        | false ↦ elim (eqb k 0x0103) [
+          | true ↦ isIf (noBody m) Commit
+          | false ↦ elim (eqb k 0x0104) [
+            | true ↦ isIf (noBody m) Abort
+            | false ↦ elim (eqb k 0x0105) [
+              | true ↦ isIf (onlyId m) (Read (idIn m))
+              | false ↦ isIf (eqb k 0x0106 && summaryPage m) (Log Summary)
+            ]
+          ]
+        ]
+      ]
+    ]
+
+-- "A message is length (2, equal to the bytes given), kind (2), body."
+unfoldable pub parse : List ℕ → Parsed
+parse m = elim (leb 4 (length m) && eqb (wordAt m 0) (length m)) [ true ↦ ofKind (wordAt m 2) m | false ↦ Malformed ]
+
+-- ---- the log page
+
+abbrev pub pageLen : ℕ
+pageLen = 14
+
+-- "length 14 (2), kind 0x0201 (2), creation time (4), settled count (2), U (2), S (2)"
+abbrev pub logPage : ℕ → ℕ → ℕ → ℕ → List ℕ
+logPage time count u s = u16le pageLen ++ (u16le 0x0201 ++ (u32le time ++ (u16le count ++ (u16le u ++ u16le s))))
+
+-- "later reply bytes stay"
+abbrev pub withPage : List ℕ → List ℕ → List ℕ
+withPage page reply = page ++ drop pageLen reply
