@@ -113,7 +113,7 @@ isPending marks at (settled i v) = false
 unfoldable pub nextPending : List ℕ → ℕ → ℕ → List ℕ → Option Load
 nextPending marks at k [] = none
 nextPending marks at zero (b ∷ t) =
-    elim (readFrame 256 at (b ∷ t)) [
+    elim (readFrame 0 at (b ∷ t)) [
       | blank ↦ none
       | whole f ↦ elim (isPending marks at f) [
         | true ↦ some (load f 256 (at + frameLen f))

@@ -1,0 +1,169 @@
+-- Demand 3: the claim about every list of calls from a finished format on. Beyond document 01's letter it says that the store
+-- stays available: a store that loses all at a cut and then refuses every mount would meet the letter.
+use mathlib.Core.List.{List, [], _∷_, _++_}
+use mathlib.Core.Option.{Option, none, some}
+use mathlib.Core.Bool.{Bool, true, false}
+use mathlib.Core.Path.{_≡_}
+use Prim.Native.Nat.{ℕ, zero, suc, _+_, _≤_, _<_}
+use lib.ListN.{length, take, drop}
+use Rattle.flash.specs.Bytes.{Bytes, u16le}
+use Rattle.flash.specs.Flash.{Step, blocks, block, sizeOf}
+use Rattle.frame.specs.declared.Host.{Host}
+use Rattle.frame.specs.Frame.{Frame, hostMax, deleteLen, endLen}
+use Rattle.frame.specs.Reader.{Tail, clean}
+use Rattle.journal.specs.Replay.{Object, replay, lookup, listOf}
+use Rattle.journal.specs.Block.{valid, blockState, lastTime}
+use Rattle.journal.specs.Room.{used, usedBy}
+use Rattle.wire.specs.declared.Answer.{Answer}
+use Rattle.wire.specs.declared.Answer.the-variants.{Done, More, Refused}
+use Rattle.wire.specs.declared.Refusal.{Refusal}
+use Rattle.wire.specs.declared.Refusal.the-variants as refusal
+use Rattle.wire.specs.declared.Request.{Request}
+use Rattle.wire.specs.declared.Request.the-variants.{Put, Delete, Commit, Abort, Read, Log}
+use Rattle.wire.specs.declared.Parsed.{Parsed}
+use Rattle.wire.specs.declared.Parsed.the-variants.{Is, Malformed}
+use Rattle.wire.specs.Message.{parse, pageLen}
+use Rattle.board.specs.declared.Phase.{Phase}
+use Rattle.board.specs.declared.Phase.the-variants.{Unmounted, Idle, Busy}
+use Rattle.board.specs.declared.Record.{Record}
+use Rattle.board.specs.Record.{allowed, Out}
+use Rattle.board.specs.Step.{stepOn}
+use Rattle.board.specs.Mount.{needsTransfer, formatOn}
+use Rattle.board.specs.Exec.{Call, request, step, mount, format, exec}
+use Rattle.board.specs.Plan.{Follows}
+use Rattle.board.specs.Book.{Book, UnderWay, nothing, committing, formatting, firstBook, enterCall}
+
+-- ---- between calls
+
+-- "replay of the record's half gives exactly the book's objects and, for each host, the book's list"
+pub record IdleAgrees (img : List ℕ) (r : Record) (b : Book) : Type 0 where
+  pub time : ℕ
+  pub frames : List Frame
+  pub is-valid : blockState (block (sizeOf img) (r .block) img) ≡ valid time frames clean
+  pub objects : replay frames .objects ≡ b .objects
+  pub lists : (h : Host) → h .0 ≤ hostMax → listOf h (replay frames .pending) ≡ b .lists h
+  -- when nothing is pending there is room for a delete and its commit
+  pub room : replay frames .pending ≡ [] → used (replay frames) + (deleteLen + endLen) ≤ sizeOf img
+
+-- a job whose steps are all made ends idle, after at most S of them
+pub record Finishes (img : List ℕ) (r : Record) : Type 0 where
+  pub plan : List Step
+  pub follows : Follows img r plan
+  pub short : length plan ≤ sizeOf img
+
+abbrev pub AgreesIn : Phase → List ℕ → Record → Book → Type 0
+AgreesIn Unmounted img r b = Unit {0}
+AgreesIn Idle img r b = IdleAgrees img r b
+AgreesIn (Busy s) img r b = Finishes img r
+
+abbrev pub Agrees : List ℕ → Record → Book → Type 0
+Agrees img r b = AgreesIn (r .phase) img r b
+
+-- ---- what a call says of the book's objects
+
+abbrev pub ReadSays : Out → Option (List ℕ) → Type 0
+ReadSays o none = o .answer ≡ Refused refusal.NoObject
+ReadSays o (some v) = (o .answer ≡ Done) × (take (o .stretch .size) (drop (o .stretch .at) (o .image)) ≡ v)
+
+-- "The settled count and U of log page 1 are those of the book's objects."
+abbrev pub LogSays : Out → List ℕ → List Object → Type 0
+LogSays o reply os =
+    pageLen ≤ length reply → (o .answer ≡ Done) × (take 4 (drop 8 (o .reply)) ≡ u16le (length os) ++ u16le (usedBy os))
+
+-- "A read that no earlier check refuses answers 0 exactly when the book holds its object, and its stretch is then that value byte
+-- for byte; otherwise it answers 8." On an idle record the earlier checks are 10 and 1 alone: 4 and 11 are ruled out below.
+abbrev pub RequestSays : Parsed → List ℕ → Out → Book → Type 0
+RequestSays Malformed reply o b = o .answer ≡ Refused refusal.Malformed
+RequestSays (Is (Put i)) reply o b = Unit {0}
+RequestSays (Is (Delete i)) reply o b = Unit {0}
+RequestSays (Is Commit) reply o b = Unit {0}
+RequestSays (Is Abort) reply o b = Unit {0}
+RequestSays (Is (Read i)) reply o b = ReadSays o (lookup i (b .objects))
+RequestSays (Is (Log p)) reply o b = LogSays o reply (b .objects)
+
+-- ---- availability
+
+abbrev pub Never : Refusal → Out → Type 0
+Never n o = o .answer ≡ Refused n → ⊥
+
+-- the current block's time is the last and a transfer is due
+pub record WornOut (img : List ℕ) : Type 0 where
+  pub number : ℕ
+  pub frames : List Frame
+  pub tail : Tail
+  pub there : number < blocks
+  pub is-valid : blockState (block (sizeOf img) number img) ≡ valid lastTime frames tail
+  pub due : needsTransfer frames tail ≡ true
+
+-- `unfinished`: a format was accepted and has since neither finished nor been followed by an accepted mount
+pub record MountSays (img : List ℕ) (unfinished : Bool) (o : Out) : Type 0 where
+  pub never-foreign : Never refusal.Foreign o
+  pub never-length : Never refusal.ImageLength o
+  pub no-store : o .answer ≡ Refused refusal.NoStore → unfinished ≡ true
+  pub worn : o .answer ≡ Refused refusal.Worn → WornOut img
+
+abbrev pub Says : List ℕ → Record → Book → Bool → Call → Out → Type 0
+Says img r b u (request h m reply) o =
+    Never refusal.ImageLength o × Never refusal.Stale o × (r .phase ≡ Idle → h .0 ≤ hostMax → RequestSays (parse m) reply o b)
+Says img r b u step o = (n : Refusal) → Never n o
+Says img r b u mount o = MountSays img u o
+Says img r b u format o = o .answer ≡ More
+
+abbrev pub trackStep : Bool → UnderWay → Answer → Bool
+trackStep u formatting Done = false
+trackStep u formatting More = u
+trackStep u formatting (Refused n) = u
+trackStep u nothing a = u
+trackStep u (committing h) a = u
+
+abbrev pub trackMount : Bool → Answer → Bool
+trackMount u Done = false
+trackMount u More = false
+trackMount u (Refused n) = u
+
+abbrev pub trackFormat : Bool → Answer → Bool
+trackFormat u Done = true
+trackFormat u More = true
+trackFormat u (Refused n) = u
+
+abbrev pub track : Bool → Book → Call → Answer → Bool
+track u b (request h m reply) a = u
+track u b step a = trackStep u (b .under) a
+track u b mount a = trackMount u a
+track u b format a = trackFormat u a
+
+-- ---- the run
+
+-- the claim from an image, a record, a book: at the start and after each call
+abbrev pub Run : List ℕ → Record → Book → Bool → List Call → Type 0
+Run img r b u [] = Agrees img r b
+Run img r b u (c ∷ cs) =
+    let o : Out = exec img r c in
+    Agrees img r b × Says img r b u c o × Run (o .image) (o .board) (enterCall b c (o .answer)) (track u b c (o .answer)) cs
+
+-- step calls, each on what the call before gave back
+abbrev pub stepsOn : ℕ → Out → Out
+stepsOn zero o = o
+stepsOn (suc n) o = stepsOn n (stepOn (o .image) (o .board))
+
+-- what a format and its twelve steps give back
+abbrev pub formatted : List ℕ → Out
+formatted img = stepsOn 12 (formatOn img)
+
+-- messages are bytes
+abbrev pub ByteCall : Call → Type 0
+ByteCall (request h m reply) = Bytes m
+ByteCall step = Unit {0}
+ByteCall mount = Unit {0}
+ByteCall format = Unit {0}
+
+abbrev pub ByteCalls : List Call → Type 0
+ByteCalls [] = Unit {0}
+ByteCalls (c ∷ cs) = ByteCall c × ByteCalls cs
+
+-- "This is a single claim about the whole list": every image of an allowed length, every list of calls
+unfoldable pub Claim : Type 0
+Claim =
+    (img : List ℕ) → Bytes img → allowed (length img) ≡ true
+    → (formatted img .answer ≡ Done) × (formatted img .board .phase ≡ Idle)
+    × ((cs : List Call) → ByteCalls cs → Run (formatted img .image) (formatted img .board) firstBook false cs)

@@ -1,0 +1,22 @@
+-- The machine: one call on an image and a record.
+use mathlib.Core.List.{List}
+use Prim.Native.Nat.{ℕ}
+use Rattle.frame.specs.declared.Host.{Host}
+use Rattle.board.specs.declared.Record.{Record}
+use Rattle.board.specs.Record.{Out}
+use Rattle.board.specs.Step.{stepOn}
+use Rattle.board.specs.Mount.{mountOn, formatOn}
+use Rattle.board.specs.Queue.{requestOn}
+
+-- "queue requests (any host number, message and reply buffer), steps, mounts and formats"
+pub data Call : Type 0 where
+  request : Host → List ℕ → List ℕ → Call -- host, message, reply
+  step : Call
+  mount : Call
+  format : Call
+
+abbrev pub exec : List ℕ → Record → Call → Out
+exec img r (request h m reply) = requestOn img r reply h m
+exec img r step = stepOn img r
+exec img r mount = mountOn img
+exec img r format = formatOn img

@@ -1,0 +1,165 @@
+-- Mount and format, document 01, "Jobs". Both take no record.
+use mathlib.Core.List.{List, [], _∷_, _++_, map}
+use mathlib.Core.Option.{Option, none, some}
+use mathlib.Core.Bool.{Bool, true, false, _&&_, _||_, cond}
+use Prim.Native.Nat.{ℕ, suc, _+_, _-_}
+use lib.Dec.{eqb, ltb}
+use lib.ListN.{length, replicate}
+use Rattle.flash.specs.Flash.{blocks, blockNumbers, block, sizeOf}
+use Rattle.frame.specs.Frame.{Frame, total}
+use Rattle.frame.specs.Reader.{Tail, clean, cut, bad}
+use Rattle.journal.specs.Replay.{EntryOf, Entry, replay}
+use Rattle.journal.specs.Block.{BlockState, blank, inProgress, valid, foreign, blockState, headerLen, lastTime}
+use Rattle.journal.specs.Index.{placesOf}
+use Rattle.wire.specs.declared.Refusal.the-variants as refusal
+use Rattle.board.specs.declared.Job.{Job}
+use Rattle.board.specs.declared.Record.{Record}
+use Rattle.board.specs.Record.{allowed, noPlaces, noMarks, unmounted, busy, Out, refuse}
+use Rattle.board.specs.Step.{begin}
+
+-- the block that a transfer goes to
+abbrev pub nextBlock : ℕ → ℕ
+nextBlock k = cond (ltb (suc k) blocks) (suc k) 0
+
+-- the creation time of the block that is made, if one is
+abbrev pub newTime : Bool → ℕ → ℕ
+newTime true t = suc t
+newTime false t = 0
+
+abbrev pub endOf : List Frame → ℕ
+endOf fs = headerLen + total fs
+
+-- ---- the blocks of an image
+
+-- a block by its number
+pub record Found : Type 0 where
+  pub number : ℕ
+  pub state : BlockState
+
+abbrev pub found : List ℕ → ℕ → Found
+found img k = record { number = k; state = blockState (block (sizeOf img) k img) }
+
+abbrev pub allFound : List ℕ → List Found
+allFound img = map (found img) blockNumbers
+
+abbrev pub isForeign : BlockState → Bool
+isForeign blank = false
+isForeign inProgress = false
+isForeign (valid t fs c) = false
+isForeign (foreign e) = true
+
+abbrev pub isBlank : BlockState → Bool
+isBlank blank = true
+isBlank inProgress = false
+isBlank (valid t fs c) = false
+isBlank (foreign e) = false
+
+abbrev pub anyForeign : List Found → Bool
+anyForeign [] = false
+anyForeign (x ∷ xs) = isForeign (x .state) || anyForeign xs
+
+-- a valid block
+pub record Store : Type 0 where
+  pub number : ℕ
+  pub time : ℕ
+  pub frames : List Frame
+  pub tail : Tail
+
+abbrev pub storeIn : ℕ → BlockState → List Store → List Store
+storeIn k blank xs = xs
+storeIn k inProgress xs = xs
+storeIn k (valid t fs c) xs = record { number = k; time = t; frames = fs; tail = c } ∷ xs
+storeIn k (foreign e) xs = xs
+
+abbrev pub stores : List Found → List Store
+stores [] = []
+stores (x ∷ xs) = storeIn (x .number) (x .state) (stores xs)
+
+abbrev pub sameTime : ℕ → List Store → Bool
+sameTime t [] = false
+sameTime t (x ∷ xs) = eqb t (x .time) || sameTime t xs
+
+abbrev pub equalTimes : List Store → Bool
+equalTimes [] = false
+equalTimes (x ∷ xs) = sameTime (x .time) xs || equalTimes xs
+
+-- "of two, the one with the larger time"
+abbrev pub newest : Store → List Store → Store
+newest x [] = x
+newest x (y ∷ ys) = cond (ltb (x .time) (y .time)) (newest y ys) (newest x ys)
+
+-- "The other is erased if it isn't blank."
+abbrev pub wipeList : ℕ → List Found → List ℕ
+wipeList k [] = []
+wipeList k (x ∷ xs) = cond (eqb k (x .number) || isBlank (x .state)) (wipeList k xs) (x .number ∷ wipeList k xs)
+
+-- the blocks to erase, in the record's array
+abbrev pub wipeArray : List ℕ → List ℕ
+wipeArray ks = ks ++ replicate (blocks - length ks) 0
+
+-- "If the current one has a torn tail or anything pending, a transfer of the settled objects alone follows."
+abbrev pub anyPending : List Entry → Bool
+anyPending [] = false
+anyPending (e ∷ es) = true
+
+abbrev pub needsTransfer : List Frame → Tail → Bool
+needsTransfer fs clean = anyPending (replay fs .pending)
+needsTransfer fs (cut n) = true
+needsTransfer fs (bad e) = true
+
+-- ---- mount
+
+-- a transfer copies no pending frame: it starts to look for them at the end
+abbrev pub mountJob : List ℕ → Store → List ℕ → Record
+mountJob img x ks =
+    busy (length img - 1) (x .number) (endOf (x .frames)) (placesOf (x .frames))
+    (record {
+      wipe = wipeArray ks;
+      wipes = length ks;
+      moves = needsTransfer (x .frames) (x .tail);
+      drops = true;
+      target = nextBlock (x .number);
+      time = newTime (needsTransfer (x .frames) (x .tail)) (x .time);
+      since = noMarks;
+      size = 0;
+    })
+    0 (endOf (x .frames)) []
+
+-- 6: "a transfer is needed, by a mount too, at time 4,294,967,295"
+unfoldable pub mountAt : List ℕ → List Found → Store → Out
+mountAt img xs x =
+    cond (needsTransfer (x .frames) (x .tail) && eqb (x .time) lastTime) (refuse refusal.Worn img unmounted [])
+    (begin img [] (mountJob img x (wipeList (x .number) xs)))
+
+-- 2: "for mount, no valid half and none foreign"; 3: "two valid halves of equal time"
+abbrev pub mountStores : List ℕ → List Found → List Store → Out
+mountStores img xs [] = refuse refusal.NoStore img unmounted []
+mountStores img xs (y ∷ ys) = cond (equalTimes (y ∷ ys)) (refuse refusal.Foreign img unmounted []) (mountAt img xs (newest y ys))
+
+-- 3: "a foreign half"
+unfoldable pub mountFound : List ℕ → List Found → Out
+mountFound img xs = cond (anyForeign xs) (refuse refusal.Foreign img unmounted []) (mountStores img xs (stores xs))
+
+unfoldable pub mountOn : List ℕ → Out
+mountOn img = cond (allowed (length img)) (mountFound img (allFound img)) (refuse refusal.ImageLength img unmounted [])
+
+-- ---- format
+
+-- "erase half 0, erase half 1, then half 0's header at time 1 in the same order": no frame is copied
+abbrev pub formatJob : List ℕ → Record
+formatJob img =
+    busy (length img - 1) 0 headerLen noPlaces
+    (record {
+      wipe = wipeArray blockNumbers;
+      wipes = length blockNumbers;
+      moves = true;
+      drops = false;
+      target = 0;
+      time = 1;
+      since = noMarks;
+      size = 0;
+    })
+    256 headerLen []
+
+unfoldable pub formatOn : List ℕ → Out
+formatOn img = cond (allowed (length img)) (begin img [] (formatJob img)) (refuse refusal.ImageLength img unmounted [])

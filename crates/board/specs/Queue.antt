@@ -1,0 +1,163 @@
+-- Queue requests, document 01, "What hosts send" and "When the queue says no".
+use mathlib.Core.List.{List, [], _∷_}
+use mathlib.Core.Option.{Option, none, some}
+use mathlib.Core.Bool.{Bool, true, false, _&&_, _||_, cond}
+use Prim.Native.Nat.{ℕ, suc, _+_, _-_, _*_}
+use lib.Dec.{eqb, ltb, leb}
+use lib.ListN.{length, getD}
+use Rattle.flash.specs.Bytes.{allFF}
+use Rattle.flash.specs.Flash.{blocks, blockNumbers, block, sizeOf}
+use Rattle.frame.specs.declared.Host.{Host}
+use Rattle.frame.specs.declared.ObjectId.{ObjectId}
+use Rattle.frame.specs.Frame.{hostMax, Change, put, delete, Frame, change, commit, abort, frameLen, encode, endLen}
+use Rattle.frame.specs.Reader.{Tail, clean, cut, bad}
+use Rattle.journal.specs.Replay.{State, replay, lookup, isOpen}
+use Rattle.journal.specs.Block.{BlockState, blank, inProgress, valid, foreign, blockState, headerLen, lastTime}
+use Rattle.journal.specs.Room.{used, claimed, openHosts, noRoom}
+use Rattle.journal.specs.Index.{placesOf, sinceOf, Value, valueAt}
+use Rattle.wire.specs.declared.Answer.the-variants.{Done, More, Refused}
+use Rattle.wire.specs.declared.Refusal.the-variants as refusal
+use Rattle.wire.specs.declared.Page.{Page}
+use Rattle.wire.specs.declared.Page.the-variants.{Summary}
+use Rattle.wire.specs.declared.Request.{Request}
+use Rattle.wire.specs.declared.Request.the-variants.{Put, Delete, Commit, Abort, Read, Log}
+use Rattle.wire.specs.declared.Parsed.{Parsed}
+use Rattle.wire.specs.declared.Parsed.the-variants.{Is, Malformed}
+use Rattle.wire.specs.Message.{parse, valueIn, pageLen, logPage, withPage}
+use Rattle.board.specs.declared.Phase.{Phase}
+use Rattle.board.specs.declared.Phase.the-variants.{Unmounted, Idle, Busy}
+use Rattle.board.specs.declared.Record.{Record}
+use Rattle.board.specs.Record.{allowed, busy, Stretch, noStretch, Out, out, refuse}
+use Rattle.board.specs.Step.{begin}
+use Rattle.board.specs.Mount.{nextBlock, newTime, endOf}
+
+-- ---- 11: the image read afresh
+
+-- what the recorded block holds
+pub record Held : Type 0 where
+  pub time : ℕ
+  pub frames : List Frame
+
+abbrev pub heldIf : Bool → ℕ → List Frame → Option Held
+heldIf true t fs = some (record { time = t; frames = fs })
+heldIf false t fs = none
+
+-- "its last whole frame (or the header, if none) ending exactly at the recorded end with only 0xFF after it, .. C + 6·open at most S"
+abbrev pub fitsRecord : ℕ → ℕ → List Frame → Bool
+fitsRecord size end fs = eqb (endOf fs) end && leb (claimed (replay fs) + endLen * openHosts (replay fs .pending)) size
+
+abbrev pub heldIn : ℕ → ℕ → BlockState → Option Held
+heldIn size end blank = none
+heldIn size end inProgress = none
+heldIn size end (valid t fs clean) = heldIf (fitsRecord size end fs) t fs
+heldIn size end (valid t fs (cut n)) = none
+heldIn size end (valid t fs (bad e)) = none
+heldIn size end (foreign e) = none
+
+-- "other half blank"
+abbrev pub othersBlank : ℕ → List ℕ → List ℕ → Bool
+othersBlank k img [] = true
+othersBlank k img (j ∷ js) = (eqb k j || allFF (block (sizeOf img) j img)) && othersBlank k img js
+
+-- "idle record: its length differs, or the image read afresh isn't: recorded half valid, .."
+abbrev pub sameImage : List ℕ → Record → Bool
+sameImage img r = eqb (length img) (suc (r .last)) && (ltb (r .block) blocks && othersBlank (r .block) img blockNumbers)
+
+abbrev pub heldBy : Bool → List ℕ → Record → Option Held
+heldBy true img r = heldIn (sizeOf img) (r .end) (blockState (block (sizeOf img) (r .block) img))
+heldBy false img r = none
+
+unfoldable pub held : List ℕ → Record → Option Held
+held img r = heldBy (sameImage img r) img r
+
+-- ---- a frame is appended, "after a transfer if end + n exceeds S"
+
+abbrev pub needsRoom : List ℕ → Record → Frame → Bool
+needsRoom img r f = ltb (sizeOf img) (r .end + frameLen f)
+
+abbrev pub appendJob : List ℕ → Record → Held → Frame → Record
+appendJob img r x f =
+    busy (r .last) (r .block) (r .end) (placesOf (x .frames))
+    (record {
+      wipe = 0 ∷ 0 ∷ [];
+      wipes = 0;
+      moves = needsRoom img r f;
+      drops = true;
+      target = nextBlock (r .block);
+      time = newTime (needsRoom img r f) (x .time);
+      since = sinceOf (x .frames);
+      size = frameLen f;
+    })
+    0 headerLen (encode f)
+
+-- 6: "a transfer is needed .. at time 4,294,967,295"
+unfoldable pub append : List ℕ → Record → List ℕ → Held → Frame → Out
+append img r reply x f =
+    cond (needsRoom img r f && eqb (x .time) lastTime) (refuse refusal.Worn img r reply) (begin img reply (appendJob img r x f))
+
+-- ---- the requests
+
+-- a put or delete; 7: the room rule
+unfoldable pub serveChange : List ℕ → Record → List ℕ → Host → Held → Change → Out
+serveChange img r reply h x c =
+    cond (noRoom (sizeOf img) (replay (x .frames)) h c) (refuse refusal.NoRoom img r reply) (append img r reply x (change h c))
+
+-- "Commit or abort with nothing pending is done in 0 steps."
+unfoldable pub serveEnd : List ℕ → Record → List ℕ → Host → Held → Frame → Out
+serveEnd img r reply h x f = cond (isOpen h (replay (x .frames) .pending)) (append img r reply x f) (out Done img r reply)
+
+abbrev pub stretchOf : ℕ → Option Value → Stretch
+stretchOf start none = noStretch
+stretchOf start (some x) = record { at = start + x .at; size = length (x .bytes) }
+
+-- "A read that finds its object hands back that stretch of the caller's own flash image": where replay took the value from
+abbrev pub placeOf : List ℕ → Record → Held → ObjectId → Stretch
+placeOf img r x i =
+    stretchOf (r .block * sizeOf img) (valueAt (block (sizeOf img) (r .block) img) i (getD (placesOf (x .frames)) (i .0) 0))
+
+-- "Reads see settled objects only"; 8: "no such settled object"
+abbrev pub serveRead : List ℕ → Record → List ℕ → Held → ObjectId → Option (List ℕ) → Out
+serveRead img r reply x i none = refuse refusal.NoObject img r reply
+serveRead img r reply x i (some v) =
+    record { answer = Done; image = img; board = r; reply = reply; stretch = placeOf img r x i }
+
+-- 9: "log: reply under 14 bytes"
+unfoldable pub serveLog : List ℕ → Record → List ℕ → Held → Page → Out
+serveLog img r reply x Summary =
+    let st : State = replay (x .frames) in
+    cond (ltb (length reply) pageLen) (refuse refusal.ShortReply img r reply)
+    (out Done img r (withPage (logPage (x .time) (length (st .objects)) (used st) (sizeOf img)) reply))
+
+unfoldable pub serve : List ℕ → Record → List ℕ → Host → List ℕ → Held → Request → Out
+serve img r reply h m x (Put i) = serveChange img r reply h x (put i (valueIn m))
+serve img r reply h m x (Delete i) = serveChange img r reply h x (delete i)
+serve img r reply h m x Commit = serveEnd img r reply h x (commit h)
+serve img r reply h m x Abort = serveEnd img r reply h x (abort h)
+serve img r reply h m x (Read i) = serveRead img r reply x i (lookup i (replay (x .frames) .objects))
+serve img r reply h m x (Log p) = serveLog img r reply x p
+
+-- 1, after 11
+abbrev pub serveParsed : List ℕ → Record → List ℕ → Host → List ℕ → Held → Parsed → Out
+serveParsed img r reply h m x Malformed = refuse refusal.Malformed img r reply
+serveParsed img r reply h m x (Is q) = serve img r reply h m x q
+
+abbrev pub serveHeld : List ℕ → Record → List ℕ → Host → List ℕ → Option Held → Out
+serveHeld img r reply h m none = refuse refusal.Stale img r reply
+serveHeld img r reply h m (some x) = serveParsed img r reply h m x (parse m)
+
+-- 5, then 2, then 11
+abbrev pub requestIn : Phase → List ℕ → Record → List ℕ → Host → List ℕ → Out
+requestIn (Busy s) img r reply h m = refuse refusal.Busy img r reply
+requestIn Unmounted img r reply h m = refuse refusal.NoStore img r reply
+requestIn Idle img r reply h m = serveHeld img r reply h m (held img r)
+
+-- 4, then 10
+unfoldable pub requestOn : List ℕ → Record → List ℕ → Host → List ℕ → Out
+requestOn img r reply h m =
+    cond (allowed (length img))
+    (cond (leb (h .0) hostMax) (requestIn (r .phase) img r reply h m) (refuse refusal.HostRange img r reply))
+    (refuse refusal.ImageLength img r reply)
+
+-- the stretch of a read alone; "a refused read hands back an empty stretch", and so does a message that is no read
+abbrev pub readOn : List ℕ → Record → Host → List ℕ → Stretch
+readOn img r h m = requestOn img r [] h m .stretch

@@ -1,0 +1,117 @@
+-- The board record: unmounted, idle, or in a job; and what a call gives back.
+use mathlib.Core.List.{List, [], _∷_, _++_}
+use mathlib.Core.Bool.{Bool, true, false, _&&_}
+use Prim.Native.Nat.{ℕ, _+_, _-_, _%_}
+use lib.Dec.{eqb, leb}
+use lib.ListN.{length, replicate}
+use Rattle.frame.specs.Frame.{maxFrame}
+use Rattle.journal.specs.Block.{headerLen}
+use Rattle.wire.specs.declared.Answer.{Answer}
+use Rattle.wire.specs.declared.Answer.the-variants.{Done, More, Refused}
+use Rattle.wire.specs.declared.Refusal.{Refusal}
+use Rattle.board.specs.declared.Stage.{Stage}
+use Rattle.board.specs.declared.Stage.the-variants.{Wipe, Open, Copy, Seal, Drop, Append}
+use Rattle.board.specs.declared.Phase.{Phase}
+use Rattle.board.specs.declared.Phase.the-variants.{Unmounted, Idle, Busy}
+use Rattle.board.specs.declared.Job.{Job}
+use Rattle.board.specs.declared.Cursor.{Cursor}
+use Rattle.board.specs.declared.Record.{Record}
+
+-- "Its length is a multiple of 256 from 512 to 65,536."
+abbrev pub allowed : ℕ → Bool
+allowed n = leb 512 n && leb n 65536 && eqb (n % 256) 0
+
+-- ---- records
+
+unfoldable pub noPlaces : List ℕ
+noPlaces = replicate 256 0
+
+unfoldable pub noFrame : List ℕ
+noFrame = replicate maxFrame 0
+
+-- bytes at the front of a frame buffer
+abbrev pub buffer : List ℕ → List ℕ
+buffer bs = bs ++ replicate (maxFrame - length bs) 0
+
+abbrev pub noMarks : List ℕ
+noMarks = 0 ∷ 0 ∷ 0 ∷ 0 ∷ []
+
+abbrev pub noJob : Job
+noJob = record { wipe = 0 ∷ 0 ∷ []; wipes = 0; moves = false; drops = false; target = 0; time = 0; since = noMarks; size = 0 }
+
+abbrev pub cursor : ℕ → ℕ → ℕ → ℕ → ℕ → ℕ → Cursor
+cursor i a d s z o = record { index = i; at = a; id = d; source = s; size = z; off = o }
+
+abbrev pub resting : Phase → ℕ → ℕ → ℕ → Record
+resting p l k e =
+    record { phase = p; last = l; block = k; end = e; places = noPlaces; job = noJob; cursor = cursor 0 0 0 0 0 0; unit = noFrame; frame = noFrame }
+
+abbrev pub unmounted : Record
+unmounted = resting Unmounted 0 0 0
+
+-- image length less one, current block, end of its whole frames
+abbrev pub idle : ℕ → ℕ → ℕ → Record
+idle l k e = resting Idle l k e
+
+-- a job not yet begun, on block k whose whole frames run to e: the first id to copy, the first offset to look at for pending
+-- frames, and the bytes of the frame to append
+abbrev pub busy : ℕ → ℕ → ℕ → List ℕ → Job → ℕ → ℕ → List ℕ → Record
+busy l k e places j id source bytes =
+    record {
+      phase = Busy Wipe;
+      last = l;
+      block = k;
+      end = e;
+      places = places;
+      job = j;
+      cursor = cursor 0 headerLen id source 0 0;
+      unit = noFrame;
+      frame = buffer bytes;
+    }
+
+-- the same job in a stage, at a cursor
+abbrev pub inStage : Stage → Cursor → Record → Record
+inStage s c r =
+    record {
+      phase = Busy s;
+      last = r .last;
+      block = r .block;
+      end = r .end;
+      places = r .places;
+      job = r .job;
+      cursor = c;
+      unit = r .unit;
+      frame = r .frame;
+    }
+
+-- ---- what a call gives back
+
+-- a stretch of the image
+pub record Stretch : Type 0 where
+  pub at : ℕ
+  pub size : ℕ
+
+abbrev pub noStretch : Stretch
+noStretch = record { at = 0; size = 0 }
+
+pub record Out : Type 0 where
+  pub answer : Answer
+  pub image : List ℕ
+  pub board : Record
+  pub reply : List ℕ
+  pub stretch : Stretch
+
+abbrev pub out : Answer → List ℕ → Record → List ℕ → Out
+out a i b r = record { answer = a; image = i; board = b; reply = r; stretch = noStretch }
+
+abbrev pub refuse : Refusal → List ℕ → Record → List ℕ → Out
+refuse n i b r = out (Refused n) i b r
+
+-- "It answers 0 with an idle record if the job has no steps, else more with the job in the record"
+abbrev pub answerIn : Phase → Answer
+answerIn Unmounted = Done
+answerIn Idle = Done
+answerIn (Busy s) = More
+
+abbrev pub answerOf : Record → Answer
+answerOf r = answerIn (r .phase)

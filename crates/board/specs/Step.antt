@@ -1,0 +1,133 @@
+-- A step call on any record and any image, document 01, "Jobs" and "When the queue says no".
+use mathlib.Core.List.{List, [], _∷_}
+use mathlib.Core.Option.{Option, none, some}
+use mathlib.Core.Bool.{Bool, true, false, _&&_, cond}
+use Prim.Native.Nat.{ℕ, suc, _+_}
+use lib.Dec.{eqb, ltb}
+use lib.ListN.{length, getD}
+use Rattle.flash.specs.Flash.{Step, program, erase, apply, block, sizeOf, within, writeStep}
+use Rattle.frame.specs.Frame.{encode, frameLen}
+use Rattle.journal.specs.Block.{openWrite, sealWrite, markWrites}
+use Rattle.journal.specs.Index.{Load, nextLoad}
+use Rattle.wire.specs.declared.Refusal.the-variants as refusal
+use Rattle.wire.specs.declared.Answer.the-variants.{Done}
+use Rattle.board.specs.declared.Stage.{Stage}
+use Rattle.board.specs.declared.Stage.the-variants.{Wipe, Open, Copy, Seal, Drop, Append}
+use Rattle.board.specs.declared.Phase.{Phase}
+use Rattle.board.specs.declared.Phase.the-variants.{Unmounted, Idle, Busy}
+use Rattle.board.specs.declared.Cursor.{Cursor}
+use Rattle.board.specs.declared.Record.{Record}
+use Rattle.board.specs.Record.{idle, cursor, inStage, buffer, Out, out, refuse, answerOf}
+
+-- ---- entering a stage: the first from there on that has a step; the record idle where none has
+
+-- the cursor at a stage's first step
+abbrev pub first : Cursor → Cursor
+first c = cursor 0 (c .at) (c .id) (c .source) (c .size) (c .off)
+
+abbrev pub enter : Stage → Record → Record
+enter s r = inStage s (first (r .cursor)) r
+
+unfoldable pub enterAppend : Record → Record
+enterAppend r = cond (ltb 0 (r .job .size)) (enter Append r) (idle (r .last) (r .block) (r .end))
+
+-- the block that was made is the current one
+abbrev pub landed : Record → Record
+landed r =
+    record {
+      phase = r .phase;
+      last = r .last;
+      block = r .job .target;
+      end = r .cursor .at;
+      places = r .places;
+      job = r .job;
+      cursor = r .cursor;
+      unit = r .unit;
+      frame = r .frame;
+    }
+
+unfoldable pub enterDrop : Record → Record
+enterDrop r = cond (r .job .drops) (enter Drop r) (enterAppend (landed r))
+
+-- a frame to copy is put into the buffer; where none is left the block is sealed
+abbrev pub loaded : Record → Load → Record
+loaded r u =
+    record {
+      phase = Busy Copy;
+      last = r .last;
+      block = r .block;
+      end = r .end;
+      places = r .places;
+      job = r .job;
+      cursor = cursor 0 (r .cursor .at) (u .id) (u .source) (frameLen (u .frame)) 0;
+      unit = buffer (encode (u .frame));
+      frame = r .frame;
+    }
+
+abbrev pub loadOr : Record → Option Load → Record
+loadOr r (some u) = loaded r u
+loadOr r none = enter Seal r
+
+unfoldable pub enterCopy : List ℕ → Record → Record
+enterCopy img r =
+    loadOr r (nextLoad (block (sizeOf img) (r .block) img) (r .end) (r .places) (r .job .since) (r .cursor .id) (r .cursor .source))
+
+unfoldable pub enterOpen : Record → Record
+enterOpen r = cond (r .job .moves) (enter Open r) (enterAppend r)
+
+unfoldable pub enterWipe : Record → Record
+enterWipe r = cond (ltb 0 (r .job .wipes)) (enter Wipe r) (enterOpen r)
+
+-- "Accepting takes no step."
+abbrev pub begin : List ℕ → List ℕ → Record → Out
+begin img reply r = out (answerOf (enterWipe r)) img (enterWipe r) reply
+
+-- ---- one step
+
+-- the flash step that a job does next
+abbrev pub action : Stage → Record → Step
+action Wipe r = erase (getD (r .job .wipe) (r .cursor .index) 0)
+action Open r = writeStep (r .job .target) (openWrite (r .cursor .index))
+action Copy r = program (r .job .target) (r .cursor .at) (getD (r .unit) (r .cursor .off) 0)
+action Seal r = writeStep (r .job .target) (sealWrite (r .job .time) (r .cursor .index))
+action Drop r = erase (r .block)
+action Append r = program (r .block) (r .end + r .cursor .index) (getD (r .frame) (r .cursor .index) 0)
+
+abbrev pub nextIndex : Cursor → Cursor
+nextIndex c = cursor (suc (c .index)) (c .at) (c .id) (c .source) (c .size) (c .off)
+
+abbrev pub nextByte : Cursor → Cursor
+nextByte c = cursor (c .index) (suc (c .at)) (c .id) (c .source) (c .size) (suc (c .off))
+
+-- on to the stage's next step, or out of the stage after its last
+abbrev pub onward : Stage → ℕ → Record → Record → Record
+onward s count r after = cond (ltb (suc (r .cursor .index)) count) (inStage s (nextIndex (r .cursor)) r) after
+
+-- the record after the step that gave the image
+unfoldable pub advance : Stage → List ℕ → Record → Record
+advance Wipe img r = onward Wipe (r .job .wipes) r (enterOpen r)
+advance Open img r = onward Open markWrites r (enterCopy img r)
+advance Copy img r =
+    let c : Record = inStage Copy (nextByte (r .cursor)) r in
+    cond (ltb (suc (r .cursor .off)) (r .cursor .size)) c (enterCopy img c)
+advance Seal img r = onward Seal markWrites r (enterDrop r)
+advance Drop img r = enterAppend (landed r)
+advance Append img r = onward Append (r .job .size) r (idle (r .last) (r .block) (r .end + r .job .size))
+
+abbrev pub stepped : List ℕ → Record → Out
+stepped img r = out (answerOf r) img r []
+
+-- "in a job, 11 is given exactly if the image length isn't the record's or the job's next place lies outside it"
+unfoldable pub stepBusy : Stage → List ℕ → Record → Out
+stepBusy s img r =
+    let after : List ℕ = apply (sizeOf img) (action s r) img in
+    cond (eqb (length img) (suc (r .last)) && within (sizeOf img) (action s r)) (stepped after (advance s after r)) (refuse refusal.Stale img r [])
+
+-- "on an unmounted or idle record it answers 0 and changes nothing"
+abbrev pub stepIn : Phase → List ℕ → Record → Out
+stepIn Unmounted img r = out Done img r []
+stepIn Idle img r = out Done img r []
+stepIn (Busy s) img r = stepBusy s img r
+
+unfoldable pub stepOn : List ℕ → Record → Out
+stepOn img r = stepIn (r .phase) img r

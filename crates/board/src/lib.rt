@@ -1,0 +1,62 @@
+// The stages of a job, in their order. A stage with nothing to do is passed over.
+pub enum Stage {
+    Wipe,
+    Open,
+    Copy,
+    Seal,
+    Drop,
+    Append,
+}
+
+pub enum Phase {
+    Unmounted,
+    Idle,
+    Busy(Stage),
+}
+
+// What a job is to do; it stays as it is while the job runs.
+pub struct Job {
+    // blocks to erase first, and how many of them
+    pub wipe: [u8; 2],
+    pub wipes: u8,
+    // a block is made, and the one it is made from erased
+    pub moves: bool,
+    pub drops: bool,
+    pub target: u8,
+    pub time: u32,
+    // the offset past each host's last commit or abort
+    pub since: [u16; 4],
+    // the length of the frame to append, 0 for none
+    pub size: u8,
+}
+
+// How far a job has come.
+pub struct Cursor {
+    // the step of the stage, but for Copy
+    pub index: u8,
+    // the next offset of the block that is made
+    pub at: u16,
+    // the next id to copy, then the next offset to look at for pending frames
+    pub id: u16,
+    pub source: u16,
+    // the length of the frame that is copied, and its next byte
+    pub size: u8,
+    pub off: u8,
+}
+
+// The board record.
+pub struct Record {
+    pub phase: Phase,
+    // the image's length less one
+    pub last: u16,
+    // the current block, and where its whole frames end
+    pub block: u8,
+    pub end: u16,
+    // for every id the offset of its settled value's frame, 0 for none; only while a job runs
+    pub places: [u16; 256],
+    pub job: Job,
+    pub cursor: Cursor,
+    // the frame that is copied, and the frame to append
+    pub unit: [u8; 72],
+    pub frame: [u8; 72],
+}
