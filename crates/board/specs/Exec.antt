@@ -10,7 +10,7 @@ use Rattle.board.specs.Queue.{requestOn}
 
 -- "queue requests (any host number, message and reply buffer), steps, mounts and formats"
 pub data Call : Type 0 where
-  request : Host → List ℕ → List ℕ → Call -- host, message, reply
+  request : Host → List ℕ → List ℕ → Call  -- host, message, reply
   step : Call
   mount : Call
   format : Call

@@ -6,3 +6,4 @@ pub mod Exec
 pub mod Plan
 pub mod Book
 pub mod Claim
+pub mod Rows

@@ -2,3 +2,4 @@ pub mod Replay
 pub mod Block
 pub mod Room
 pub mod Index
+pub mod Examples

@@ -1,0 +1,52 @@
+-- The starred bench rows, computed over the definitions.
+use mathlib.Core.Path.{refl}
+use Rattle.flash.specs.Bytes.{allFF, sameBytes}
+use Rattle.flash.specs.Flash.{writes}
+use Rattle.frame.specs.Frame.{encodeAll, total}
+use Rattle.frame.specs.Reader.{match, readFrame, scan}
+use Rattle.journal.specs.Replay.{insert, remove, lookup, changeAll, listOf, without, isOpen, replayFrom}
+use Rattle.journal.specs.Block.{headerFault, blockState}
+use Rattle.journal.specs.Room.{noRoom}
+use Rattle.journal.specs.Index.{sited, placesFrom, sinceFrom, valueAt, nextSettled, nextPending, nextLoad}
+use Rattle.wire.specs.Message.{parse}
+use Rattle.board.specs.Record.{noPlaces, noFrame}
+use Rattle.board.specs.Step.{enterAppend, enterDrop, enterCopy, enterOpen, enterWipe, advance, stepBusy, stepOn}
+use Rattle.board.specs.Mount.{mountAt, mountFound, mountOn, formatOn}
+use Rattle.board.specs.Queue.{held, append, serveChange, serveEnd, serveLog, serve, requestOn}
+use Rattle.board.specs.Rows.{drive, returned, ask, asked, cutIn, mounted, holds, timed, part, rowA, rowB, rowC, rowD, rowE, rowF, rowG, rowH, rowI, rowK, commitMessage, putMessage, Rows}
+
+pub rows : Rows
+unfolding drive returned ask asked cutIn mounted holds timed part rowA rowB rowC rowD rowE rowF rowG rowH rowI rowK commitMessage putMessage allFF sameBytes writes encodeAll total match readFrame scan insert remove lookup changeAll listOf without isOpen replayFrom headerFault blockState noRoom sited placesFrom sinceFrom valueAt nextSettled nextPending nextLoad parse noPlaces noFrame enterAppend enterDrop enterCopy enterOpen enterWipe advance stepBusy stepOn mountAt mountFound mountOn formatOn held append serveChange serveEnd serveLog serve requestOn
+rows =
+    record {
+      a-steps = refl;
+      a-done = refl;
+      a-half = refl;
+      a-rest = refl;
+      b-steps = refl;
+      b-done = refl;
+      b-frame = refl;
+      c-steps = refl;
+      c-frame = refl;
+      c-end = refl;
+      c-rest = refl;
+      d-answer = refl;
+      d-place = refl;
+      e-answer = refl;
+      e-reply = refl;
+      f-steps = refl;
+      f-done = refl;
+      f-time = refl;
+      f-holds = refl;
+      g-steps = refl;
+      g-holds = refl;
+      h-steps = refl;
+      h-holds = refl;
+      i-accepted = refl;
+      i-done = refl;
+      i-claimed = refl;
+      j = refl;
+      k-refused = refl;
+      k-accepted = refl;
+      n = refl;
+    }
