@@ -48,7 +48,9 @@ pub record IdleAgrees (img : List ℕ) (r : Record) (b : Book) : Type 0 where
 -- a job whose steps are all made ends idle, after at most S of them
 pub record Finishes (img : List ℕ) (r : Record) : Type 0 where
   pub plan : List Step
-  pub follows : Follows img r plan
+  pub last : Record
+  pub follows : Follows img r plan last
+  pub rests : last .phase ≡ Idle
   pub short : length plan ≤ sizeOf img
 
 abbrev pub AgreesIn : Phase → List ℕ → Record → Book → Type 0

@@ -1,17 +1,19 @@
 -- Plans: document 01's list of flash steps for each job.
 use mathlib.Core.List.{List, [], _∷_, _++_, map}
+use mathlib.Core.Bool.{Bool, true, false}
 use mathlib.Core.Path.{_≡_}
-use Prim.Native.Nat.{ℕ, suc}
+use Prim.Native.Nat.{ℕ, suc, _+_}
 use Rattle.flash.specs.Flash.{Step, program, erase, blockNumbers, apply, sizeOf, Write, writeStep, writes}
-use Rattle.frame.specs.Frame.{Frame, encode}
-use Rattle.journal.specs.Replay.{State, framesOf}
+use Rattle.frame.specs.Frame.{Frame, encode, frameLen}
+use Rattle.journal.specs.Replay.{State, framesOf, replay, settledOnly}
 use Rattle.journal.specs.Block.{build}
+use Rattle.journal.specs.Room.{used, claimed}
 use Rattle.wire.specs.declared.Answer.the-variants.{More}
-use Rattle.board.specs.declared.Phase.the-variants.{Idle}
 use Rattle.board.specs.declared.Record.{Record}
-use Rattle.board.specs.Record.{answerOf, out}
+use Rattle.board.specs.Record.{answerOf, out, idle}
 use Rattle.board.specs.Step.{stepOn}
-use Rattle.board.specs.Mount.{nextBlock}
+use Rattle.board.specs.Mount.{nextBlock, endOf, Found, Store, wipeList, needsTransfer}
+use Rattle.board.specs.Queue.{Held}
 
 abbrev pub onBlock : ℕ → List Write → List Step
 onBlock k ws = map (writeStep k) ws
@@ -29,9 +31,37 @@ formatPlan = map erase blockNumbers ++ onBlock 0 (build 1 [])
 abbrev pub appendPlan : ℕ → ℕ → Frame → List Step
 appendPlan k end f = onBlock k (writes end (encode f))
 
--- the record's step calls do exactly these steps, one each, and the record is in a job until the last is done, then idle
-abbrev pub Follows : List ℕ → Record → List Step → Type 0
-Follows img r [] = r .phase ≡ Idle
-Follows img r (x ∷ xs) =
+-- the record's step calls do exactly these steps, one each; it is in a job until the last is done, and then this record
+abbrev pub Follows : List ℕ → Record → List Step → Record → Type 0
+Follows img r [] z = r ≡ z
+Follows img r (x ∷ xs) z =
     (answerOf r ≡ More)
-    × ((next : Record) × (stepOn img r ≡ out (answerOf next) (apply (sizeOf img) x img) next []) × Follows (apply (sizeOf img) x img) next xs)
+    × ((next : Record) × (stepOn img r ≡ out (answerOf next) (apply (sizeOf img) x img) next []) × Follows (apply (sizeOf img) x img) next xs z)
+
+-- ---- the plan of each accepted call
+
+-- "Mount: .. The other is erased if it isn't blank. If the current one has a torn tail or anything pending, a transfer of the
+-- settled objects alone follows."
+abbrev pub transferIf : Bool → ℕ → ℕ → State → List Step
+transferIf true k time st = transferPlan k time st
+transferIf false k time st = []
+
+abbrev pub mountPlan : List Found → Store → List Step
+mountPlan xs x =
+    map erase (wipeList (x .number) xs)
+    ++ transferIf (needsTransfer (x .frames) (x .tail)) (x .number) (x .time) (settledOnly (replay (x .frames)))
+
+-- the record after it
+abbrev pub mountedAt : Bool → ℕ → Store → Record
+mountedAt true l x = idle l (nextBlock (x .number)) (used (replay (x .frames)))
+mountedAt false l x = idle l (x .number) (endOf (x .frames))
+
+-- "one frame of n bytes, after a transfer if end + n exceeds S": on block k whose frames run to `end`
+abbrev pub framePlan : Bool → ℕ → ℕ → Held → Frame → List Step
+framePlan true k end x f =
+    transferPlan k (x .time) (replay (x .frames)) ++ appendPlan (nextBlock k) (claimed (replay (x .frames))) f
+framePlan false k end x f = appendPlan k end f
+
+abbrev pub framedAt : Bool → ℕ → ℕ → ℕ → Held → Frame → Record
+framedAt true l k end x f = idle l (nextBlock k) (claimed (replay (x .frames)) + frameLen f)
+framedAt false l k end x f = idle l k (end + frameLen f)
