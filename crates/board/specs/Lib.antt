@@ -7,3 +7,5 @@ pub mod Plan
 pub mod Book
 pub mod Claim
 pub mod Rows
+pub mod Table
+pub mod Demand1

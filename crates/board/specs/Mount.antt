@@ -145,10 +145,10 @@ mountOn img = cond (allowed (length img)) (mountFound img (allFound img)) (refus
 
 -- ---- format
 
--- "erase half 0, erase half 1, then half 0's header at time 1 in the same order": no frame is copied
+-- "erase half 0, erase half 1, then half 0's header at time 1 in the same order": no frame is copied, from no id and no offset on
 abbrev pub formatJob : List ℕ → Record
 formatJob img =
-    busy (length img - 1) 0 headerLen noPlaces
+    busy (length img - 1) (nextBlock 0) headerLen noPlaces
     (record {
       wipe = wipeArray blockNumbers;
       wipes = length blockNumbers;
