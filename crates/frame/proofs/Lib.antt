@@ -1,3 +1,4 @@
 pub mod Examples
 pub mod Encode
 pub mod Fit
+pub mod Reading
