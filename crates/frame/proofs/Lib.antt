@@ -2,3 +2,4 @@ pub mod Examples
 pub mod Encode
 pub mod Fit
 pub mod Reading
+pub mod Scanning
