@@ -3,3 +3,4 @@ pub mod Encode
 pub mod Fit
 pub mod Reading
 pub mod Scanning
+pub mod Inverse
