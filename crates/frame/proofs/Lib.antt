@@ -4,3 +4,4 @@ pub mod Fit
 pub mod Reading
 pub mod Scanning
 pub mod Inverse
+pub mod Exact
