@@ -55,7 +55,7 @@ settled-part at x g all e = let z : _≡_ {A = ℕ} 0 1 = cc in omega arith
 settled-part at x g (part p) e = let z : _≡_ {A = ℕ} 0 1 = cc in omega arith
 settled-part at x g (misfit p) e = let z : _≡_ {A = ℕ} 0 1 = cc in omega arith
 
-only-size : (next n k : ℕ) → onlySettled next n k ≡ true → (settledLen 0 ≤ n) × (n ≤ settledLen valueMax)
+pub only-size : (next n k : ℕ) → onlySettled next n k ≡ true → (settledLen 0 ≤ n) × (n ≤ settledLen valueMax)
 only-size next n k e =
     let size : Bool = leb (settledLen 0) n && leb n (settledLen valueMax) in
     between (settledLen 0) n (settledLen valueMax) (and-right (leb next idMax) size (and-left (leb next idMax && size) (eqb k 5 || eqb n (settledLen 0)) e))

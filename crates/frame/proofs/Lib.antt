@@ -5,3 +5,5 @@ pub mod Reading
 pub mod Scanning
 pub mod Inverse
 pub mod Exact
+pub mod Scanned
+pub mod Places

@@ -18,7 +18,7 @@ pub scan-read-blank : (next at b : ℕ) (t : List ℕ) → readFrame next at (b 
 unfolding scan
 scan-read-blank next at b t e = rw (e, scan)
 
-scan-read-whole : (next at b : ℕ) (t : List ℕ) (f : Frame) → readFrame next at (b ∷ t) ≡ whole f
+pub scan-read-whole : (next at b : ℕ) (t : List ℕ) (f : Frame) → readFrame next at (b ∷ t) ≡ whole f
     → scan next at 0 (b ∷ t) ≡ push f (scan (nextAfter f) (suc at) (frameLen f - 1) t)
 unfolding scan
 scan-read-whole next at b t f e = rw (e, scan)
