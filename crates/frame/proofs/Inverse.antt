@@ -107,8 +107,8 @@ cons a b x y p q = cc
 kind-2 : (n k : ℕ) → k ≤ lastKind (eqb n deleteLen) → 1 ≤ k → (k ≡ 1 → ⊥) → (k ≡ 2) × (n ≡ deleteLen)
 kind-2 n k h l m =
     on-test (eqb n deleteLen)
-    (λ e. let q : k ≤ 2 = rw e at h in (omega arith, eqb-true n deleteLen e))
-    (λ e. let q : k ≤ 1 = rw e at h in absurd (m (omega arith)))
+    (λ e. let q : k ≤ lastKind true = rw e at h in (omega arith, eqb-true n deleteLen e))
+    (λ e. let q : k ≤ lastKind false = rw e at h in absurd (m (omega arith)))
 
 no-value : (l : List ℕ) → length l ≡ 0 → l ≡ []
 no-value [] e = refl
