@@ -3,14 +3,15 @@ use mathlib.Core.Path.{_≡_, refl, sym, ap, _∙_}
 use mathlib.Core.Bool.{Bool, true, false, _&&_, _||_, false≢true}
 use Prim.Native.Nat.{ℕ, _≤_, _<_, compare, Ordering, Ordering·lt, Ordering·eq, Ordering·gt}
 use native.Mathlib.Omega.{arith}
-use lib.Dec.{eqb, leb, isLe, isEq}
+use lib.Dec.{leb, isLe, isEq}
 use borrow.Author.Tests.{leb-true, leb-false, eqb-true, eqb-false, le-leb}
 
 pub on-test {ℓ} : {P : Type ℓ} (b : Bool) → (b ≡ true → P) → (b ≡ false → P) → P
 on-test true f g = f refl
 on-test false f g = g refl
 
-pub on-order {ℓ} : {P : Type ℓ} (i j : ℕ) → (compare i j ≡ Ordering·lt → i < j → P) → (compare i j ≡ Ordering·eq → i ≡ j → P) → (compare i j ≡ Ordering·gt → j < i → P) → P
+pub on-order {ℓ} : {P : Type ℓ} (i j : ℕ) → (compare i j ≡ Ordering·lt → i < j → P) → (compare i j ≡ Ordering·eq → i ≡ j → P)
+    → (compare i j ≡ Ordering·gt → j < i → P) → P
 on-order {P} i j f g h = go (compare i j) refl
   where
     go : (o : Ordering) → compare i j ≡ o → P

@@ -1,9 +1,8 @@
 -- The reader is the document's: it says blank, whole, torn or wrong exactly where the sentences do.
-use mathlib.Core.Path.{_≡_, refl, sym, ap, ap₂, subst, _∙_}
+use mathlib.Core.Path.{_≡_, refl, sym, ap, subst, _∙_}
 use mathlib.Core.List.{List, [], _∷_, _++_}
 use mathlib.Core.Bool.{Bool, true, false, _&&_, _||_}
-use mathlib.Core.Logic.{_↔_}
-use Prim.Native.Nat.{ℕ, zero, suc, _+_, _-_, _≤_, _<_}
+use Prim.Native.Nat.{ℕ, zero, suc, _+_, _-_, _≤_}
 use native.Mathlib.Omega.{arith}
 use lib.Dec.{eqb, leb}
 use lib.ListN.{length, getD, take, replicate, length-append, length-take, length-replicate}
@@ -12,8 +11,8 @@ use borrow.Author.Tests.{leb-true}
 use Rattle.flash.specs.Bytes.{allFF}
 use Rattle.flash.proofs.Cases.{on-test, clash, and-left, and-right, between}
 use Rattle.flash.proofs.Blank.{allFF-all, all-ff, is-ff}
-use Rattle.frame.specs.Frame.{Frame, idMax, valueMax, putLen, deleteLen, endLen, settledLen, encode, frameLen, MayStand, OfHost}
-use Rattle.frame.specs.Reader.{Read, blank, whole, torn, wrong, fault, Slot, slot, fits, valueSlots, lastKind, changeSlots, endSlots, settledSlots, noSlots, hostSlots, onlySettled, Match, all, part, misfit, match, decode, ofHostMatch, ofSettledMatch, readLaid, readFrame}
+use Rattle.frame.specs.Frame.{Frame, idMax, valueMax, putLen, deleteLen, settledLen, encode, frameLen}
+use Rattle.frame.specs.Reader.{Read, blank, whole, torn, wrong, fault, Slot, slot, fits, valueSlots, changeSlots, endSlots, settledSlots, noSlots, hostSlots, onlySettled, Match, all, part, misfit, match, decode, ofHostMatch, ofSettledMatch, readLaid, readFrame}
 use Rattle.frame.specs.Sentences.{Whole, Torn, Blank, Wrong, ReaderExact}
 use Rattle.frame.specs.declared.Fault.{Fault}
 use Rattle.frame.specs.declared.Field.the-variants as field
@@ -69,7 +68,8 @@ host-inv next n xs r =
     (λ lo hi s. change-inv next n xs lo hi (subst (λ (ps : List Slot). Fit ps xs) s r) .0)
     (λ s. absurd (none-inv xs (subst (λ (ps : List Slot). Fit ps xs) s r)))
 
-whole-of : (next at : ℕ) (t : List ℕ) (f : Frame) (ps : List Slot) → readFrame next at t ≡ whole f → match ps t ≡ all → ((xs : List ℕ) → Fit ps xs → IsFrame next xs) → Whole next t f
+whole-of : (next at : ℕ) (t : List ℕ) (f : Frame) (ps : List Slot) → readFrame next at t ≡ whole f → match ps t ≡ all
+    → ((xs : List ℕ) → Fit ps xs → IsFrame next xs) → Whole next t f
 whole-of next at t f ps e m inv =
     let y : Seen ps t = match-seen ps t m in
     let g : IsFrame next (y .bytes) = inv (y .bytes) (y .fit) in

@@ -1,17 +1,17 @@
 -- Layouts: what bytes that fit one match as, and which layout a legal frame's bytes fit.
-use mathlib.Core.Path.{_≡_, refl, sym, ap, _∙_}
+use mathlib.Core.Path.{_≡_, refl, ap, _∙_}
 use mathlib.Core.List.{List, [], _∷_, _++_}
-use mathlib.Core.Bool.{Bool, true, false, _&&_}
+use mathlib.Core.Bool.{Bool, true, false}
 use Prim.Native.Nat.{ℕ, zero, suc, _+_, _-_, _≤_, _<_}
 use native.Mathlib.Omega.{arith}
 use lib.Dec.{eqb, leb}
 use lib.ListN.{length, getD, take, replicate}
-use borrow.Author.Tests.{eq-eqb, ne-eqb, le-leb, lt-leb}
+use borrow.Author.Tests.{ne-eqb, lt-leb}
 use Rattle.flash.specs.Bytes.{Bytes, allFF}
 use Rattle.flash.proofs.Cases.{on-test, and-no-right, between-yes}
 use Rattle.flash.proofs.Blank.{allFF-all}
-use Rattle.frame.specs.Frame.{Frame, change, commit, abort, settled, put, delete, finish, valueMax, putLen, deleteLen, endLen, settledLen, frameLen, MayStand, OfHost}
-use Rattle.frame.specs.Reader.{Slot, slot, fits, valueSlots, frontSlots, lastKind, changeSlots, endSlots, settledSlots, hostSlots, Match, all, part, misfit, match}
+use Rattle.frame.specs.Frame.{Frame, change, commit, abort, settled, put, delete, finish, valueMax, putLen, deleteLen, endLen, settledLen, MayStand, OfHost}
+use Rattle.frame.specs.Reader.{Slot, slot, fits, valueSlots, lastKind, changeSlots, settledSlots, hostSlots, Match, all, part, misfit, match}
 use Rattle.frame.specs.declared.ObjectId.{ObjectId}
 use Rattle.frame.specs.declared.Field.the-variants as field
 use Rattle.frame.proofs.Encode.{plain}
@@ -80,7 +80,8 @@ match-ff (p ∷ q ∷ ps) (suc m) c h =
     (λ e. match-no p (q ∷ ps) m e)
 
 -- fewer than all of them, and 0xFF after
-pub match-some : (ps : List Slot) (bs : List ℕ) (k m : ℕ) → Fit ps bs → Closed ps → k < length bs → length bs ≤ k + m → Partly (match ps (take k bs ++ replicate m 255))
+pub match-some : (ps : List Slot) (bs : List ℕ) (k m : ℕ) → Fit ps bs → Closed ps → k < length bs → length bs ≤ k + m
+    → Partly (match ps (take k bs ++ replicate m 255))
 match-some ps bs zero m r c h l = match-ff ps m c (omega (arith, fit-length ps bs r))
 match-some [] bs (suc k) m r c h l = absurd c
 match-some (p ∷ ps) [] (suc k) m r c h l = absurd r
@@ -95,9 +96,6 @@ match-some (p ∷ q ∷ ps) (b ∷ t) (suc k) m r c h l =
 fit-value : (o : ℕ) (v : List ℕ) → Bytes v → Fit (valueSlots o (length v)) (v ++ (finish ∷ []))
 fit-value o [] h = (omega arith, omega arith, tt)
 fit-value o (b ∷ v) (h, r) = (omega arith, omega arith, fit-value (suc o) v r)
-
-pub slots-end : hostSlots endLen ≡ endSlots
-slots-end = refl
 
 pub slots-change : (n : ℕ) → putLen 0 ≤ n → n ≤ putLen valueMax → hostSlots n ≡ changeSlots n
 slots-change n lo hi = rw (ne-eqb n endLen (omega arith), between-yes (putLen 0) n (putLen valueMax) lo hi, hostSlots)

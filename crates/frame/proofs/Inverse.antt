@@ -1,8 +1,8 @@
 -- Back from layouts to frames: what a match has seen, and that bytes which fit a layout are a frame's.
-use mathlib.Core.Path.{_≡_, refl, sym, ap, ap₂, subst, _∙_}
+use mathlib.Core.Path.{_≡_, refl, sym, ap, _∙_}
 use mathlib.Core.List.{List, [], _∷_, _++_}
-use mathlib.Core.Bool.{Bool, true, false, _&&_}
-use Prim.Native.Nat.{ℕ, zero, suc, _+_, _-_, _≤_, _<_}
+use mathlib.Core.Bool.{true, false, _&&_}
+use Prim.Native.Nat.{ℕ, zero, suc, _-_, _≤_}
 use native.Mathlib.Omega.{arith}
 use lib.Dec.{eqb, leb}
 use lib.ListN.{length, replicate}
@@ -11,7 +11,7 @@ use Rattle.flash.specs.Bytes.{Bytes, allFF}
 use Rattle.flash.proofs.Cases.{on-test, between}
 use Rattle.flash.proofs.Blank.{all-ff}
 use Rattle.frame.specs.Frame.{Frame, change, commit, abort, settled, put, delete, finish, hostOf, idOf, valueMax, putLen, deleteLen, endLen, settledLen, encode, MayStand, OfHost}
-use Rattle.frame.specs.Reader.{Slot, fits, valueSlots, lastKind, changeSlots, endSlots, settledSlots, noSlots, hostSlots, Match, all, part, misfit, match}
+use Rattle.frame.specs.Reader.{Slot, fits, valueSlots, lastKind, changeSlots, endSlots, settledSlots, noSlots, hostSlots, all, part, misfit, match}
 use Rattle.frame.proofs.Encode.{encode-plain}
 use Rattle.frame.proofs.Fit.{Fit, Partly, match-go, match-part, match-misfit}
 

@@ -1,16 +1,15 @@
 -- The place of a fault lies in the bytes that were read.
-use mathlib.Core.Path.{_≡_, refl, sym, ap, subst, _∙_}
+use mathlib.Core.Path.{_≡_, sym, ap, subst, _∙_}
 use mathlib.Core.List.{List, [], _∷_}
-use mathlib.Core.Bool.{Bool, true, false}
 use Prim.Native.Nat.{ℕ, zero, suc, _+_, _-_, _≤_, _<_}
 use native.Mathlib.Omega.{arith}
-use lib.Dec.{eqb, leb}
+use lib.Dec.{leb}
 use lib.ListN.{length, getD}
 use borrow.Author.Tests.{leb-true}
 use Rattle.flash.specs.Bytes.{allFF}
 use Rattle.flash.proofs.Cases.{on-test}
-use Rattle.frame.specs.Frame.{Frame, total, nextOf, putLen, settledLen, valueMax}
-use Rattle.frame.specs.Reader.{Read, blank, whole, torn, wrong, fault, faultAt, Slot, fits, valueSlots, changeSlots, settledSlots, hostSlots, onlySettled, Match, all, part, misfit, match, decode, ofHostMatch, ofSettledMatch, readLaid, readFrame, bad, Scan, ends, scan}
+use Rattle.frame.specs.Frame.{Frame, total, nextOf, putLen, settledLen}
+use Rattle.frame.specs.Reader.{Read, blank, whole, torn, wrong, fault, Slot, fits, valueSlots, changeSlots, settledSlots, hostSlots, onlySettled, Match, all, part, misfit, match, decode, ofHostMatch, ofSettledMatch, readLaid, readFrame, bad, Scan, ends, scan}
 use Rattle.frame.specs.declared.Fault.{Fault}
 use Rattle.frame.specs.declared.Field.the-variants as field
 use Rattle.frame.proofs.Fit.{match-go, match-part, match-misfit}

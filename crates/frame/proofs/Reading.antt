@@ -8,18 +8,19 @@ use native.Mathlib.Nat.{add-zero}
 use lib.Dec.{eqb, leb}
 use lib.ListN.{length, getD, take, replicate, length-append, length-take, length-replicate}
 use lib.Seq.{take-at}
-use borrow.Author.Tests.{eq-eqb, ne-eqb, le-leb}
+use borrow.Author.Tests.{ne-eqb, le-leb}
 use Rattle.flash.specs.Bytes.{allFF}
-use Rattle.flash.proofs.Cases.{and-both, and-no-right, or-left, or-neither, between-yes}
+use Rattle.flash.proofs.Cases.{and-both, and-no-right, or-neither, between-yes}
 use Rattle.flash.proofs.Blank.{allFF-no, allFF-all}
 use Rattle.frame.specs.Frame.{Frame, change, commit, abort, settled, put, delete, finish, idMax, valueMax, putLen, deleteLen, endLen, settledLen, encode, frameLen, MayStand, OfHost}
-use Rattle.frame.specs.Reader.{Read, blank, whole, torn, wrong, Match, all, part, match, Slot, hostSlots, settledSlots, onlySettled, decode, ofHostMatch, ofSettledMatch, readLaid, readFrame}
+use Rattle.frame.specs.Reader.{blank, whole, torn, Match, match, hostSlots, settledSlots, onlySettled, decode, ofHostMatch, ofSettledMatch, readLaid, readFrame}
 use Rattle.frame.proofs.Encode.{plain, encode-plain, length-encode}
 use Rattle.frame.proofs.Fit.{Fit, match-all, Closed, Partly, match-some, fit-host, fit-settled, closed-host}
 
 -- ---- the steps of the reader
 
-pub read-step : (next at : ℕ) (t : List ℕ) → allFF t ≡ false → leb (getD t 0 0) (length t) ≡ true → readFrame next at t ≡ readLaid next at (getD t 0 0) (getD t 2 0) t
+pub read-step : (next at : ℕ) (t : List ℕ) → allFF t ≡ false → leb (getD t 0 0) (length t) ≡ true
+    → readFrame next at t ≡ readLaid next at (getD t 0 0) (getD t 2 0) t
 unfolding readFrame
 read-step next at t p q = rw (p, q, readFrame)
 
@@ -33,7 +34,8 @@ read-blank next at m = read-ff next at (replicate m 255) (allFF-all m)
 pub laid-host : (next at n k : ℕ) (t : List ℕ) → onlySettled next n k ≡ false → readLaid next at n k t ≡ ofHostMatch at n (decode k n t) (match (hostSlots n) t)
 laid-host next at n k t e = rw (e, readLaid)
 
-pub laid-settled : (next at n k : ℕ) (t : List ℕ) → onlySettled next n k ≡ true → readLaid next at n k t ≡ ofSettledMatch at (decode 5 n t) (match (settledSlots next n) t)
+pub laid-settled : (next at n k : ℕ) (t : List ℕ) → onlySettled next n k ≡ true
+    → readLaid next at n k t ≡ ofSettledMatch at (decode 5 n t) (match (settledSlots next n) t)
 laid-settled next at n k t e = rw (e, readLaid)
 
 only-no : (next n k : ℕ) → (k ≡ 5 → ⊥) → (n ≡ settledLen 0 → ⊥) → onlySettled next n k ≡ false
@@ -101,7 +103,8 @@ third b k t (suc zero) zero h l e = omega arith
 third b k t (suc zero) (suc m) h l e = omega arith
 third b k t (suc (suc j)) m h l e = h e
 
-torn-host : (next at n b k : ℕ) (t : List ℕ) (j m : ℕ) → n < 255 → n ≡ length t + 3 → (n ≡ settledLen 0 → ⊥) → (k ≡ 5 → ⊥) → Fit (hostSlots n) (n ∷ b ∷ k ∷ t) → Closed (hostSlots n)
+torn-host : (next at n b k : ℕ) (t : List ℕ) (j m : ℕ) → n < 255 → n ≡ length t + 3 → (n ≡ settledLen 0 → ⊥) → (k ≡ 5 → ⊥)
+    → Fit (hostSlots n) (n ∷ b ∷ k ∷ t) → Closed (hostSlots n)
     → suc j < n → n ≤ suc j + m → readFrame next at (n ∷ (take j (b ∷ k ∷ t) ++ replicate m 255)) ≡ torn n
 torn-host next at n b k t j m h l n7 k5 fit closed lo hi =
     let u : List ℕ = take j (b ∷ k ∷ t) ++ replicate m 255 in

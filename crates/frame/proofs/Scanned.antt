@@ -1,7 +1,7 @@
 -- Any bytes read as a journal: they are the frames' bytes and a rest, and the tail says what the rest is.
-use mathlib.Core.Path.{_≡_, refl, sym, ap, ap₂, subst, _∙_}
+use mathlib.Core.Path.{_≡_, refl, sym, ap, subst, _∙_}
 use mathlib.Core.List.{List, [], _∷_, _++_, append-assoc}
-use Prim.Native.Nat.{ℕ, zero, suc, _+_, _-_, _≤_, _<_}
+use Prim.Native.Nat.{ℕ, zero, suc, _+_, _-_, _≤_}
 use native.Mathlib.Omega.{arith}
 use native.Mathlib.Nat.{add-zero}
 use lib.ListN.{length, drop, length-append}
@@ -58,7 +58,8 @@ at-once : (next at : ℕ) (l : List ℕ) (c : Tail) → scan next at 0 l ≡ end
 unfolding encodeAll total
 at-once next at l c e = record { rest = l; is = refl; stands = tt; tail = ap (λ (x : ℕ). scan next x 0 l) (add-zero at) ∙ e }
 
-one-more : (next at : ℕ) (l : List ℕ) (f : Frame) (s : Scan) (w : Whole next l f) → Scanned (nextAfter f) (at + frameLen f) (w .rest) s → Scanned next at l (push f s)
+one-more : (next at : ℕ) (l : List ℕ) (f : Frame) (s : Scan) (w : Whole next l f) → Scanned (nextAfter f) (at + frameLen f) (w .rest) s
+    → Scanned next at l (push f s)
 unfolding encodeAll total
 one-more next at l f s w y =
     let e : at + frameLen f + total (s .frames) ≡ at + (frameLen f + total (s .frames)) = omega arith in

@@ -4,10 +4,10 @@ use mathlib.Core.List.{List, [], _∷_, _++_, append-assoc}
 use Prim.Native.Nat.{ℕ, zero, suc, _+_, _-_, _%_, _≤_, _<_}
 use native.Mathlib.Omega.{arith}
 use native.Mathlib.Nat.{add-zero}
-use lib.ListN.{length, take, drop, replicate, length-append}
+use lib.ListN.{length, take, drop, replicate}
 use lib.Seq.{drop-at}
 use Rattle.frame.specs.Frame.{Frame, encode, frameLen, encodeAll, total, MayStand, AllMayStand, OfHost, nextAfter, nextOf}
-use Rattle.frame.specs.Reader.{Read, blank, whole, torn, wrong, readFrame, Tail, clean, cut, bad, Scan, push, ends, scan}
+use Rattle.frame.specs.Reader.{blank, whole, torn, wrong, readFrame, Tail, clean, cut, bad, Scan, push, ends, scan}
 use Rattle.frame.specs.declared.Fault.{Fault}
 use Rattle.frame.proofs.Encode.{length-encode}
 use Rattle.frame.proofs.Reading.{read-back, read-torn, read-blank}
