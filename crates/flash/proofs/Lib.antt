@@ -1,2 +1,5 @@
 pub mod Cases
 pub mod Blank
+pub mod Stretches
+pub mod Programming
+pub mod Image

@@ -1,1 +1,74 @@
 // The flash: an image of bytes in blocks of one size. A step programs one byte or erases one block.
+ghost use mathlib.Core.Path.{_≡_};
+ghost use Prim.Native.Nat.{_+_, _*_, _-_, _≤_, min};
+ghost use lib.ListN.{length, replicate};
+ghost use Rattle.flash.specs.Bytes.{allFF};
+ghost use Rattle.flash.specs.Flash.{programAt, eraseBlock};
+
+// Every byte is 0xFF.
+pub fn is_blank(s: &[u8]) -> bool
+    ensures { λ r. ⌜ r ≡ allFF (now (s .entry)) ⌝ }
+{
+    let mut i = 0;
+    while i < s.len() {
+        if s[i] != 255 {
+            return false;
+        }
+        i += 1;
+    }
+    true
+}
+
+// Programs one byte, where there is one: bits only clear.
+pub fn program(image: &mut [u8], at: usize, byte: u8)
+    ensures { λ r. ⌜ now (image .exit) ≡ programAt (now (image .entry)) at byte ⌝ }
+{
+    if image.len() <= at {
+        return;
+    }
+    image[at] = image[at] & byte;
+}
+
+// Stores 0xFF over a whole slice.
+fn fill(s: &mut [u8])
+    ensures { λ r. ⌜ now (s .exit) ≡ replicate (length (now (s .entry))) 255 ⌝ }
+{
+    let mut i = 0;
+    while i < s.len() {
+        s[i] = 255;
+        i += 1;
+    }
+}
+
+// Where a block starts, or the image's end if it isn't there.
+fn start_of(size: usize, number: usize, end: usize) -> usize
+    ensures { λ r. ⌜ r ≡ min end (number * size) ⌝ }
+{
+    if size == 0 {
+        return 0;
+    }
+    if end / size < number {
+        return end;
+    }
+    number * size
+}
+
+// As many bytes as there are from a place on, and at most a block.
+fn reach(size: usize, start: usize, end: usize) -> usize
+    requires { ⌜ start ≤ end ⌝ }
+    ensures { λ r. ⌜ r ≡ start + min size (end - start) ⌝ }
+{
+    if end - start < size {
+        return end;
+    }
+    start + size
+}
+
+// Erases one block, as much of it as there is.
+pub fn erase_block(image: &mut [u8], size: usize, number: usize)
+    ensures { λ r. ⌜ now (image .exit) ≡ eraseBlock size number (now (image .entry)) ⌝ }
+{
+    let start = start_of(size, number, image.len());
+    let end = reach(size, start, image.len());
+    fill(&mut image[start..end]);
+}

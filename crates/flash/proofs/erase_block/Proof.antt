@@ -1,0 +1,25 @@
+-- Erasing a block: the part from its start to its end, as far as the image goes, is filled.
+use native.Mathlib.Omega.{arith}
+use borrow.Rule.Slice.PartMut.{mid-len, post-is}
+use denote.Ref.{now}
+use Rattle.flash.proofs.Stretches.{erase-part}
+use borrow.Author.Needs.{needs}
+use Rattle.flash.proofs.erase_block.Statement.{statement}
+use Rattle.flash.proofs.erase_block.Tie as tie
+
+pub erase-block-spec : {M : Type 1} → statement M
+erase-block-spec =
+    tie.close
+    (tie.spec
+    (λ c κs. search needs)
+    (λ c κs. search needs)
+    (λ c. search needs)
+    (λ c. search needs)
+    (λ c. search needs)
+    (λ c κs. search needs)
+    (λ c. search needs)
+    (λ c. let img = now (c .before .before .before .before .before .before .before .args .image) in
+    let a = c .before .before .before .before .before .start-of .result in
+    let e = c .before .before .before .before .reach .result in
+    rw (c .before .before .fill .ensures, mid-len a e img (omega (arith, c .before .before .before .before .before .start-of .ensures, c .before .before .before .before .reach .ensures)), post-is a e img (omega (arith, c .before .before .before .before .reach .ensures)))
+    (erase-part (c .before .before .before .before .before .before .before .args .size) (c .before .before .before .before .before .before .before .args .number) a e img (c .before .before .before .before .before .start-of .ensures) (c .before .before .before .before .reach .ensures))))
