@@ -1,1 +1,9 @@
 pub mod Examples
+pub mod Lookups
+pub mod Lists
+pub mod Replaying
+pub mod Room
+pub mod Mapping
+pub mod Places
+pub mod Pending
+pub mod Loading

@@ -109,7 +109,7 @@ isPending marks at (commit h) = false
 isPending marks at (abort h) = false
 isPending marks at (settled i v) = false
 
--- the first pending frame of a journal's bytes, which start at offset `at` of the block; k as in `scan`
+-- the first pending frame of a journal's bytes, which start at offset `at` of the block; k as in `scan`; settled frames are passed over
 unfoldable pub nextPending : List ℕ → ℕ → ℕ → List ℕ → Option Load
 nextPending marks at k [] = none
 nextPending marks at zero (b ∷ t) =

@@ -1,0 +1,204 @@
+-- Where the objects' values stand: the places that replay of the sited frames finds hold them.
+use mathlib.Core.Path.{_≡_, refl, sym, ap, ap₂, subst, _∙_}
+use mathlib.Core.List.{List, [], _∷_, _++_, append-assoc, map}
+use mathlib.Core.Option.{Option, none, some, Option·map}
+use Prim.Native.Nat.{ℕ, zero, suc, _+_, _≤_, _<_}
+use native.Mathlib.Omega.{arith}
+use lib.Dec.{eqb, leb}
+use lib.ListN.{length, getD, take, drop, length-append, List·getD-eq-default}
+use lib.Seq.{drop-append-add, take-at, drop-at}
+use borrow.Author.Tests.{eq-eqb, ne-eqb, leb-true, leb-false}
+use Rattle.flash.proofs.Cases.{on-test}
+use Rattle.frame.specs.declared.ObjectId.{ObjectId}
+use Rattle.frame.specs.Frame.{idMax, idOf, put, delete, FrameOf, Frame, change, commit, abort, settled, mapFrame, encode, encodeAll, frameLen, MayStand, AllMayStand, nextAfter}
+use Rattle.frame.specs.Reader.{whole, readFrame}
+use Rattle.frame.proofs.Encode.{length-encode, stands-any}
+use Rattle.frame.proofs.Reading.{read-back}
+use Rattle.journal.specs.Block.{headerLen}
+use Rattle.journal.specs.Replay.{ObjectOf, StateOf, lookup, replay}
+use Rattle.journal.specs.Index.{sited, orZero, placesFrom, placesOf, Value, onlyIf, valueIn, valueAt}
+use Rattle.journal.proofs.Mapping.{located, located-sited, located-plain, located-map, map-lookup, map-replay, OfFrame, AllFrames, all-replay, all-lookup}
+
+-- a value and the offset of its frame
+record Spot : Type 0 where
+  place : ℕ
+  bytes : List ℕ
+
+abbrev spot : ℕ → List ℕ → Spot
+spot o v = record { place = o; bytes = v }
+
+abbrev spots : ℕ → List Frame → List (FrameOf Spot)
+spots o fs = located spot o fs
+
+-- ---- a value in the bytes of a block
+
+-- the frame at offset p of block b holds value v of id i
+pub record Holds (b : List ℕ) (i : ObjectId) (p : ℕ) (v : List ℕ) : Type 0 where
+  pub at : ℕ
+  pub found : valueAt b i p ≡ some (record { at = at; bytes = v })
+  pub same : take (length v) (drop at b) ≡ v
+  pub fits : at + length v ≤ length b
+  pub past : headerLen ≤ p
+  pub inside : p < length b
+
+at-found : (b : List ℕ) (i : ObjectId) (p : ℕ) (f : Frame) → headerLen ≤ p → readFrame 0 p (drop p b) ≡ whole f → valueAt b i p ≡ valueIn i p f
+unfolding valueAt
+at-found b i p f h e = rw (ne-eqb p 0 (omega arith), e, valueAt)
+
+own : {A : Type 0} (i : ObjectId) (x : A) → onlyIf (eqb (i .0) (i .0)) x ≡ some x
+own i x = rw (eq-eqb (i .0) (i .0) refl, onlyIf)
+
+slice : (pre front v back : List ℕ) (o n : ℕ) → length pre ≡ o → length front ≡ n → take (length v) (drop (o + n) (pre ++ (front ++ (v ++ back)))) ≡ v
+slice pre front v back o n l k =
+    let q : o + n ≡ length pre + (length front + 0) = omega arith in
+    ap (λ (m : ℕ). take (length v) (drop m (pre ++ (front ++ (v ++ back))))) q
+    ∙ ap (take (length v)) (drop-append-add pre (front ++ (v ++ back)) (length front + 0) ∙ drop-append-add front (v ++ back) 0)
+    ∙ take-at v back (length v) refl
+
+slice-in : (pre front v back : List ℕ) (o n : ℕ) → length pre ≡ o → length front ≡ n → o + n + length v ≤ length (pre ++ (front ++ (v ++ back)))
+slice-in pre front v back o n l k = simp length-append (omega arith)
+
+pub stands-zero : (n : ℕ) (f : Frame) → MayStand n f → MayStand 0 f
+stands-zero n (change h c) g = stands-any n 0 (change h c) tt g
+stands-zero n (commit h) g = g
+stands-zero n (abort h) g = g
+stands-zero n (settled i v) (a, b, c) = (omega arith, b, c)
+
+-- a frame whose value v stands n bytes in
+holds : (pre front v back rest : List ℕ) (i : ObjectId) (o n m : ℕ) (f : Frame) → length pre ≡ o → length front ≡ n → headerLen ≤ o → MayStand m f
+    → encode f ++ rest ≡ front ++ (v ++ back) → 1 ≤ n → valueIn i o f ≡ some (record { at = o + n; bytes = v }) → Holds (pre ++ (encode f ++ rest)) i o v
+holds pre front v back rest i o n m f l k h g e s q =
+    let b : List ℕ = pre ++ (encode f ++ rest) in
+    let e′ : b ≡ pre ++ (front ++ (v ++ back)) = ap (λ (x : List ℕ). pre ++ x) e in
+    let t : o + n + length v ≤ length b = subst (λ (x : List ℕ). o + n + length v ≤ length x) (sym e′) (slice-in pre front v back o n l k) in
+    record {
+      at = o + n;
+      found = at-found b i o f h (ap (readFrame 0 o) (drop-at pre (encode f ++ rest) o l) ∙ read-back 0 o f rest (stands-zero m f g)) ∙ q;
+      same = subst (λ (x : List ℕ). take (length v) (drop (o + n) x) ≡ v) (sym e′) (slice pre front v back o n l k);
+      fits = t;
+      past = h;
+      inside = omega arith;
+    }
+
+abbrev SpotHolds : List ℕ → ObjectId → Spot → Type 0
+SpotHolds b i x = Holds b i (x .place) (x .bytes)
+
+spot-holds : (pre rest : List ℕ) (o m : ℕ) (f : Frame) → length pre ≡ o → headerLen ≤ o → MayStand m f
+    → OfFrame (SpotHolds (pre ++ (encode f ++ rest))) (mapFrame (spot o) f)
+spot-holds pre rest o m (change h (put i v)) l k g =
+    holds pre (take 7 (encode (change h (put i v)))) v (254 ∷ rest) rest i o 7 m (change h (put i v)) l refl k g (simp append-assoc) (omega arith) (own i _)
+spot-holds pre rest o m (change h (delete i)) l k g = tt
+spot-holds pre rest o m (commit h) l k g = tt
+spot-holds pre rest o m (abort h) l k g = tt
+spot-holds pre rest o m (settled i v) l k g =
+    holds pre (take 6 (encode (settled i v))) v (254 ∷ rest) rest i o 6 m (settled i v) l refl k g (simp append-assoc) (omega arith) (own i _)
+
+spots-hold : (b pre : List ℕ) (o m : ℕ) (fs : List Frame) (rest : List ℕ) → length pre ≡ o → headerLen ≤ o → AllMayStand m fs
+    → b ≡ pre ++ (encodeAll fs ++ rest)
+    → AllFrames (SpotHolds b) (spots o fs)
+unfolding located encodeAll
+spots-hold b pre o m [] rest l k g e = tt
+spots-hold b pre o m (f ∷ fs) rest l k (g, gs) e =
+    let e′ : b ≡ pre ++ (encode f ++ (encodeAll fs ++ rest)) = e ∙ ap (λ (x : List ℕ). pre ++ x) (append-assoc (encode f) (encodeAll fs) rest) in (
+      subst (λ (x : List ℕ). OfFrame (SpotHolds x) (mapFrame (spot o) f)) (sym e′) (spot-holds pre (encodeAll fs ++ rest) o m f l k g),
+      spots-hold b (pre ++ encode f) (o + frameLen f) (nextAfter f) fs rest (length-append pre (encode f) ∙ omega (arith, length-encode f)) (omega arith) gs
+          (e′ ∙ sym (append-assoc pre (encode f) (encodeAll fs ++ rest))),
+    )
+
+-- ---- the table of places
+
+pub places-at : (n k m : ℕ) (os : List (ObjectOf ℕ)) → m < n → getD (placesFrom n k os) m 0 ≡ orZero (lookup (idOf (k + m)) os)
+unfolding placesFrom
+places-at zero k m os h = absurd (omega arith)
+places-at (suc n) k zero os h = let e : k + 0 ≡ k = omega arith in ap (λ (x : ℕ). orZero (lookup (idOf x) os)) (sym e)
+places-at (suc n) k (suc m) os h =
+    let e : suc k + m ≡ k + suc m = omega arith in places-at n (suc k) m os (omega arith) ∙ ap (λ (x : ℕ). orZero (lookup (idOf x) os)) e
+
+length-from : (n k : ℕ) (os : List (ObjectOf ℕ)) → length (placesFrom n k os) ≡ n
+unfolding placesFrom
+length-from zero k os = refl
+length-from (suc n) k os = ap suc (length-from n (suc k) os)
+
+pub length-places : (fs : List Frame) → length (placesOf fs) ≡ 256
+length-places fs = length-from 256 0 (replay (sited headerLen fs) .objects)
+
+-- what both replays find of an id
+sited-lookup : (fs : List Frame) (i : ObjectId)
+    → lookup i (replay (sited headerLen fs) .objects) ≡ Option·map (λ (x : Spot). x .place) (lookup i (replay (spots headerLen fs) .objects))
+sited-lookup fs i =
+    ap (λ (x : List (FrameOf ℕ)). lookup i (replay x .objects)) (located-sited headerLen fs ∙ located-map (λ (x : Spot). x .place) spot headerLen fs)
+    ∙ ap (λ (x : StateOf ℕ). lookup i (x .objects)) (map-replay (λ (x : Spot). x .place) (spots headerLen fs))
+    ∙ map-lookup (λ (x : Spot). x .place) i (replay (spots headerLen fs) .objects)
+
+bytes-lookup : (fs : List Frame) (i : ObjectId)
+    → lookup i (replay fs .objects) ≡ Option·map (λ (x : Spot). x .bytes) (lookup i (replay (spots headerLen fs) .objects))
+bytes-lookup fs i =
+    ap (λ (x : List Frame). lookup i (replay x .objects)) (located-plain headerLen fs ∙ located-map (λ (x : Spot). x .bytes) spot headerLen fs)
+    ∙ ap (λ (x : StateOf (List ℕ)). lookup i (x .objects)) (map-replay (λ (x : Spot). x .bytes) (spots headerLen fs))
+    ∙ map-lookup (λ (x : Spot). x .bytes) i (replay (spots headerLen fs) .objects)
+
+place-is : (fs : List Frame) (i : ObjectId) → i .0 ≤ idMax
+    → getD (placesOf fs) (i .0) 0 ≡ orZero (Option·map (λ (x : Spot). x .place) (lookup i (replay (spots headerLen fs) .objects)))
+place-is fs i h =
+    let z : 0 + i .0 ≡ i .0 = omega arith in
+    places-at 256 0 (i .0) (replay (sited headerLen fs) .objects) (omega arith)
+    ∙ ap (λ (x : ℕ). orZero (lookup (idOf x) (replay (sited headerLen fs) .objects))) z ∙ ap orZero (sited-lookup fs i)
+
+pub no-place : (fs : List Frame) (i : ObjectId) → i .0 ≤ idMax → lookup i (replay fs .objects) ≡ none → getD (placesOf fs) (i .0) 0 ≡ 0
+no-place fs i h n = place-is fs i h ∙ go (lookup i (replay (spots headerLen fs) .objects)) (sym (bytes-lookup fs i) ∙ n)
+  where
+    go : (x : Option Spot) → Option·map (λ (y : Spot). y .bytes) x ≡ none → orZero (Option·map (λ (y : Spot). y .place) x) ≡ 0
+    go none q = refl
+    go (some y) q = let z : _≡_ {A = ℕ} 0 1 = cc in absurd (omega arith)
+
+pub value-zero : (b : List ℕ) (i : ObjectId) → valueAt b i 0 ≡ none
+unfolding valueAt
+value-zero b i = refl
+
+-- a block whose journal starts with these frames
+pub record Journal (b : List ℕ) (fs : List Frame) : Type 0 where
+  pub head : List ℕ
+  pub rest : List ℕ
+  pub split : b ≡ head ++ (encodeAll fs ++ rest)
+  pub long : length head ≡ headerLen
+  pub stand : AllMayStand 0 fs
+
+pub place-law : (b : List ℕ) (fs : List Frame) (i : ObjectId) (v : List ℕ) → Journal b fs → i .0 ≤ idMax → lookup i (replay fs .objects) ≡ some v
+    → Holds b i (getD (placesOf fs) (i .0) 0) v
+place-law b fs i v j h s = subst (λ (p : ℕ). Holds b i p v) (sym (place-is fs i h)) (go (lookup i (replay (spots headerLen fs) .objects)) refl)
+  where
+    go : (x : Option Spot) → lookup i (replay (spots headerLen fs) .objects) ≡ x → Holds b i (orZero (Option·map (λ (y : Spot). y .place) x)) v
+    go none q =
+        let z : _≡_ {A = Option (List ℕ)} none (some v) = sym (bytes-lookup fs i ∙ ap (Option·map (λ (y : Spot). y .bytes)) q) ∙ s in
+        let y : _≡_ {A = ℕ} 0 1 = cc in
+        absurd (omega arith)
+    go (some x) q =
+        let z : _≡_ {A = Option (List ℕ)} (some (x .bytes)) (some v) = sym (bytes-lookup fs i ∙ ap (Option·map (λ (y : Spot). y .bytes)) q) ∙ s in
+        let y : x .bytes ≡ v = cc in
+        let a : AllFrames (SpotHolds b) (spots headerLen fs) = spots-hold b (j .head) headerLen 0 fs (j .rest) (j .long) (omega arith) (j .stand) (j .split) in
+        subst (Holds b i (x .place)) y (all-lookup (SpotHolds b) i (replay (spots headerLen fs) .objects) x (all-replay (SpotHolds b) (spots headerLen fs) a .0) q)
+
+abbrev pub bytesOf : Option Value → Option (List ℕ)
+bytesOf none = none
+bytesOf (some x) = some (x .bytes)
+
+-- what stands at an id's place is the object that replay finds
+pub place-value : (b : List ℕ) (fs : List Frame) (i : ObjectId) → Journal b fs → i .0 ≤ idMax
+    → bytesOf (valueAt b i (getD (placesOf fs) (i .0) 0)) ≡ lookup i (replay fs .objects)
+place-value b fs i j h = go (lookup i (replay fs .objects)) refl
+  where
+    go : (x : Option (List ℕ)) → lookup i (replay fs .objects) ≡ x → bytesOf (valueAt b i (getD (placesOf fs) (i .0) 0)) ≡ lookup i (replay fs .objects)
+    go none q = ap (λ (p : ℕ). bytesOf (valueAt b i p)) (no-place fs i h q) ∙ ap bytesOf (value-zero b i) ∙ sym q
+    go (some v) q = ap bytesOf (place-law b fs i v j h q .found) ∙ sym q
+
+pub place-inside : (b : List ℕ) (fs : List Frame) (k : ℕ) → Journal b fs → getD (placesOf fs) k 0 < length b
+place-inside b fs k j =
+    on-test (leb k 255) (λ t. inside (leb-true k 255 t) (lookup (idOf k) (replay fs .objects)) refl)
+    (λ t. rw (List·getD-eq-default (placesOf fs) 0 {n = k} (omega (arith, length-places fs, leb-false k 255 t))) some-bytes)
+  where
+    some-bytes : 0 < length b
+    some-bytes = subst (λ (x : List ℕ). 0 < length x) (sym (j .split)) (simp length-append (omega (arith, j .long)))
+
+    inside : k ≤ 255 → (x : Option (List ℕ)) → lookup (idOf k) (replay fs .objects) ≡ x → getD (placesOf fs) k 0 < length b
+    inside h none q = rw (no-place fs (idOf k) h q) some-bytes
+    inside h (some v) q = place-law b fs (idOf k) v j h q .inside
