@@ -4,6 +4,7 @@ use mathlib.Core.Bool.{Bool, true, false, _&&_}
 use Prim.Native.Nat.{ℕ, _+_, _-_, _%_}
 use lib.Dec.{eqb, leb}
 use lib.ListN.{length, replicate}
+pub use Rattle.frame.specs.Frame.{buffer}
 use Rattle.frame.specs.Frame.{maxFrame}
 use Rattle.journal.specs.Block.{headerLen}
 use Rattle.wire.specs.declared.Answer.{Answer}
@@ -28,10 +29,6 @@ noPlaces = replicate 256 0
 
 unfoldable pub noFrame : List ℕ
 noFrame = replicate maxFrame 0
-
--- bytes at the front of a frame buffer
-abbrev pub buffer : List ℕ → List ℕ
-buffer bs = bs ++ replicate (maxFrame - length bs) 0
 
 abbrev pub noMarks : List ℕ
 noMarks = 0 ∷ 0 ∷ 0 ∷ 0 ∷ []

@@ -1,8 +1,8 @@
 -- Frames, document 01, "Frames": what they say and their bytes.
 use mathlib.Core.List.{List, [], _∷_, _++_}
 use mathlib.Core.Bool.{Bool, true, false}
-use Prim.Native.Nat.{ℕ, suc, _+_, _/_, _%_, _≤_}
-use lib.ListN.{length}
+use Prim.Native.Nat.{ℕ, suc, _+_, _-_, _≤_}
+use lib.ListN.{length, replicate}
 use Rattle.flash.specs.Bytes.{Bytes, u16le}
 use Rattle.frame.specs.declared.Host.{Host}
 use Rattle.frame.specs.declared.ObjectId.{ObjectId}
@@ -95,6 +95,10 @@ settledLen v = overhead + 2 + v
 
 abbrev pub maxFrame : ℕ
 maxFrame = putLen valueMax
+
+-- bytes at the front of a frame buffer, zeros after them
+abbrev pub buffer : List ℕ → List ℕ
+buffer bs = bs ++ replicate (maxFrame - length bs) 0
 
 -- ---- legal frames
 

@@ -19,5 +19,5 @@ pub enum Field {
 // The first bad field, and its offset in the block.
 pub struct Fault {
     pub field: Field,
-    pub place: u16,
+    pub place: usize,
 }
