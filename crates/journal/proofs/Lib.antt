@@ -7,3 +7,5 @@ pub mod Mapping
 pub mod Places
 pub mod Pending
 pub mod Loading
+pub mod Blocks
+pub mod States

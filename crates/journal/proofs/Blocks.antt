@@ -1,0 +1,97 @@
+-- What each shape of a block reads as.
+use mathlib.Core.Path.{_≡_, refl, ap, ap₂, _∙_}
+use mathlib.Core.List.{List, _++_}
+use mathlib.Core.Option.{none}
+use mathlib.Core.Bool.{true, false}
+use Prim.Native.Nat.{ℕ, _+_, _-_, _≤_, _<_}
+use native.Mathlib.Omega.{arith}
+use lib.Dec.{eqb}
+use lib.ListN.{length, getD, take, drop, replicate, length-append}
+use borrow.Author.Tests.{ne-eqb}
+use Rattle.flash.specs.Bytes.{u16le, allFF, sameBytes}
+use Rattle.flash.proofs.Blank.{allFF-no, allFF-all, allFF-at, same-refl, le32-u32}
+use Rattle.frame.specs.Frame.{Frame, encodeAll, total, AllMayStand, nextOf}
+use Rattle.frame.specs.Reader.{Tail, clean, cut, bad, Scan, scan, ends}
+use Rattle.frame.proofs.Encode.{length-all}
+use Rattle.frame.proofs.Scanning.{scan-with}
+use Rattle.journal.specs.Block.{headerLen, headerKind, lastTime, stateAt, inTransfer, validData, header, createdAt, headerFault, BlockState, blank, inProgress, valid, ofTail, blockState}
+
+-- a block of s bytes: header, frames, and what follows them
+pub record Layout (s : ℕ) (b : List ℕ) (t : ℕ) (fs : List Frame) (rest : List ℕ) : Type 0 where
+  pub is : b ≡ header t validData ++ (encodeAll fs ++ rest)
+  pub stands : AllMayStand 0 fs
+  pub time-lo : 0 < t
+  pub time-hi : t ≤ lastTime
+  pub size : length b ≡ s
+
+pub layout-size : {s : ℕ} {b : List ℕ} {t : ℕ} {fs : List Frame} {rest : List ℕ} → Layout s b t fs rest → s ≡ headerLen + total fs + length rest
+layout-size {s} {b} {t} {fs} {rest} y =
+    let e : length b ≡ headerLen + length (encodeAll fs ++ rest) = ap length (y .is) ∙ omega arith in
+    omega (arith, y .size, length-append (encodeAll fs) rest, length-all fs)
+
+-- ---- the header
+
+-- a header without fault is this
+pub record Header (b : List ℕ) : Type 0 where
+  pub long : sameBytes (take 2 b) (u16le headerLen) ≡ true
+  pub kind : sameBytes (take 2 (drop 2 b)) (u16le headerKind) ≡ true
+  pub created : eqb (createdAt b) 0 ≡ false
+  pub state : eqb (getD b stateAt 0) validData ≡ true
+  pub spare : allFF (take 7 (drop 9 b)) ≡ true
+
+header-none : (b : List ℕ) → Header b → headerFault b ≡ none
+unfolding headerFault
+header-none b h = rw (h .long, h .kind, h .created, h .state, h .spare, headerFault)
+
+pub time-back : (t mark : ℕ) (rest : List ℕ) → t ≤ lastTime → createdAt (header t mark ++ rest) ≡ t
+time-back t mark rest h = ap (λ (x : ℕ). lastTime - x) (le32-u32 (lastTime - t)) ∙ omega arith
+
+header-is : (t : ℕ) (rest : List ℕ) → 0 < t → t ≤ lastTime → Header (header t validData ++ rest)
+header-is t rest lo hi =
+    record {
+      long = same-refl (u16le headerLen);
+      kind = same-refl (u16le headerKind);
+      created = ap (λ (x : ℕ). eqb x 0) (time-back t validData rest hi) ∙ ne-eqb t 0 (omega arith);
+      state = refl;
+      spare = allFF-all 7;
+    }
+
+-- ---- valid
+
+-- a valid block's tail
+abbrev pub Okay : Tail → Type 0
+Okay clean = Unit {0}
+Okay (cut n) = Unit {0}
+Okay (bad e) = ⊥
+
+okay-tail : (t : ℕ) (fs : List Frame) (c : Tail) → Okay c → ofTail t fs c ≡ valid t fs c
+okay-tail t fs clean o = refl
+okay-tail t fs (cut n) o = refl
+okay-tail t fs (bad e) o = absurd o
+
+abbrev pub ofScan : ℕ → Scan → BlockState
+ofScan t s = ofTail t (s .frames) (s .tail)
+
+valid-step : (b : List ℕ) → allFF b ≡ false → eqb (getD b stateAt 0) inTransfer ≡ false → headerFault b ≡ none
+    → blockState b ≡ ofScan (createdAt b) (scan 0 headerLen 0 (drop headerLen b))
+unfolding blockState
+valid-step b p q e = rw (p, q, e, blockState)
+
+pub valid-block : {s : ℕ} {b : List ℕ} {t : ℕ} {fs : List Frame} {rest : List ℕ} (c : Tail) → Layout s b t fs rest
+    → scan (nextOf 0 fs) (headerLen + total fs) 0 rest ≡ ends c → Okay c → blockState b ≡ valid t fs c
+valid-block {s} {b} {t} {fs} {rest} c y reads o =
+    let r : List ℕ = encodeAll fs ++ rest in
+    ap blockState (y .is)
+    ∙ valid-step (header t validData ++ r) (allFF-no headerLen _ (omega arith)) refl (header-none (header t validData ++ r) (header-is t r (y .time-lo) (y .time-hi)))
+    ∙ ap₂ ofScan (time-back t validData r (y .time-hi)) (scan-with 0 headerLen fs rest c (y .stands) reads)
+    ∙ okay-tail t fs c o
+
+-- ---- blank and in progress
+
+pub blank-block : (s : ℕ) → blockState (replicate s 255) ≡ blank
+unfolding blockState
+blank-block s = rw (allFF-all s, blockState)
+
+pub progress-block : (b : List ℕ) → stateAt < length b → getD b stateAt 0 ≡ inTransfer → blockState b ≡ inProgress
+unfolding blockState
+progress-block b l e = rw (allFF-at b stateAt l (omega arith), e, blockState)
