@@ -1,1 +1,4 @@
 pub mod Bench
+pub mod Images
+pub mod Outcomes
+pub mod Invariant

@@ -3,3 +3,4 @@ pub mod Blank
 pub mod Stretches
 pub mod Programming
 pub mod Image
+pub mod Offsets

@@ -7,5 +7,7 @@ pub mod Mapping
 pub mod Places
 pub mod Pending
 pub mod Loading
+pub mod Indexing
 pub mod Blocks
 pub mod States
+pub mod Building

@@ -3,7 +3,7 @@ use mathlib.Core.Path.{_≡_, refl, sym, ap, ap₂, subst, _∙_}
 use mathlib.Core.List.{List, [], _∷_, _++_, map}
 use mathlib.Core.Option.{Option, none, some}
 use mathlib.Core.Bool.{true, false}
-use Prim.Native.Nat.{ℕ, zero, suc, _+_, _-_, _≤_, _<_}
+use Prim.Native.Nat.{ℕ, zero, suc, _+_, _-_, _≤_}
 use native.Mathlib.Omega.{arith}
 use lib.Dec.{eqb, leb}
 use lib.ListN.{length, getD, take, drop, length-take, drop-of-length-le}
@@ -11,17 +11,16 @@ use lib.Seq.{take-append-add, take-at, drop-at, drop-drop}
 use borrow.Author.Tests.{ne-eqb, eqb-true, eqb-false, leb-true, leb-false}
 use Rattle.flash.proofs.Cases.{on-test}
 use Rattle.frame.specs.declared.Host.{Host}
-use Rattle.frame.specs.declared.ObjectId.{ObjectId}
 use Rattle.frame.specs.Frame.{hostMax, idOf, Change, put, delete, Frame, change, commit, abort, settled, encode, encodeAll, frameLen, total, MayStand, AllMayStand, nextAfter, nextOf}
 use Rattle.frame.proofs.Encode.{length-encode, length-all}
 use Rattle.frame.proofs.Reading.{read-back}
 use Rattle.journal.specs.Block.{headerLen}
-use Rattle.journal.specs.Replay.{Object, Entry, lookup, replay, settledFrame, pendingFrame, framesOf, settledOnly}
-use Rattle.journal.specs.Index.{placesOf, since, sinceOf, Value, valueAt, Load, load, nextSettled, isPending, nextPending, orElse, nextLoad}
+use Rattle.journal.specs.Replay.{Object, Entry, entry, lookup, replay, settledFrame, pendingFrame, framesOf, settledOnly}
+use Rattle.journal.specs.Index.{placesOf, sinceOf, Value, valueAt, Load, load, nextSettled, isPending, nextPending, orElse, nextLoad}
 use Rattle.journal.proofs.Lookups.{lookup-yes, lookup-no}
-use Rattle.journal.proofs.Replaying.{Rising, rising-from, rising-to, Sound, sound-replay}
+use Rattle.journal.proofs.Replaying.{Rising, below-none, rising-from, rising-to, Sound, sound-replay}
 use Rattle.journal.proofs.Places.{Journal, stands-zero, bytesOf, place-value}
-use Rattle.journal.proofs.Pending.{entriesOf, changeAt, change-yes, change-no, pending-marks, since-at}
+use Rattle.journal.proofs.Pending.{entriesOf, changeAt, bytesThere, change-plain, marksOf, change-yes, change-no, pending-marks, since-at}
 
 -- from a cursor on exactly these frames are left to copy
 abbrev pub Yields : List ℕ → ℕ → List ℕ → List ℕ → ℕ → ℕ → List Frame → Type 0
@@ -52,11 +51,6 @@ pending-no marks o n f rest g t =
     let first : nextPending marks o 0 (encode f ++ rest) ≡ nextPending marks (suc o) (frameLen f - 1) (p ++ rest) =
     rw (read-back 0 o f rest (stands-zero n f g), t, nextPending) in
     first ∙ ap (λ (x : ℕ). nextPending marks (suc o) x (p ++ rest)) e ∙ pending-skip marks (suc o) p rest ∙ ap (λ (x : ℕ). nextPending marks x 0 rest) u
-
-below-none : (i : ObjectId) (lo : ℕ) (os : List Object) (hi : ℕ) → i .0 < lo → Rising lo os hi → lookup i os ≡ none
-unfolding lookup
-below-none i lo [] hi l r = refl
-below-none i lo (o ∷ os) hi l ((a, b, c), r) = lookup-no i o os (ne-eqb (i .0) (o .id .0) (omega arith)) ∙ below-none i (suc (o .id .0)) os hi (omega arith) r
 
 no-value : (x : Option Value) → bytesOf x ≡ none → x ≡ none
 no-value none e = refl
@@ -96,27 +90,27 @@ module _ (b : List ℕ) (end : ℕ) (places marks : List ℕ) where
 
     one-frame : (o n : ℕ) (f : Frame) (rest : List ℕ) (es : List Entry) → MayStand n f → drop o (take end b) ≡ encode f ++ rest
         → drop (o + frameLen f) (take end b) ≡ rest → o + frameLen f ≤ end → Yields b end places marks 256 (o + frameLen f) (map pendingFrame es)
-        → Yields b end places marks 256 o (map pendingFrame (changeAt m o f ++ es))
+        → Yields b end places marks 256 o (map pendingFrame (changeAt bytesThere m o f ++ es))
     one-frame o n (change h c) rest es g e e′ k y =
         let f : Frame = change h c in
         let mark : getD marks (h .0) 0 ≡ m h = ms h (of-host n h c g) in
         on-test (leb (m h) o)
-        (λ t. subst (λ (x : List Entry). Yields b end places marks 256 o (map pendingFrame (x ++ es))) (sym (change-yes m o h c (leb-true (m h) o t)))
+        (λ t. subst (λ (x : List Entry). Yields b end places marks 256 o (map pendingFrame (x ++ es))) (sym (change-yes bytesThere m o h c (leb-true (m h) o t) ∙ ap (λ (x : Change). entry h x ∷ []) (change-plain c)))
         (256, o + frameLen f, load-pending o ∙ ap (nextPending marks o 0) e ∙ pending-yes marks o n f rest g (ap (λ (x : ℕ). leb x o) mark ∙ t), omega arith, k, y))
-        (λ t. subst (λ (x : List Entry). Yields b end places marks 256 o (map pendingFrame (x ++ es))) (sym (change-no m o h c (leb-false (m h) o t)))
+        (λ t. subst (λ (x : List Entry). Yields b end places marks 256 o (map pendingFrame (x ++ es))) (sym (change-no bytesThere m o h c (leb-false (m h) o t)))
         (pass o n f rest (map pendingFrame es) g (ap (λ (x : ℕ). leb x o) mark ∙ t) e e′ y))
     one-frame o n (commit h) rest es g e e′ k y = pass o n (commit h) rest (map pendingFrame es) g refl e e′ y
     one-frame o n (abort h) rest es g e e′ k y = pass o n (abort h) rest (map pendingFrame es) g refl e e′ y
     one-frame o n (settled i v) rest es g e e′ k y = pass o n (settled i v) rest (map pendingFrame es) g refl e e′ y
 
     yields-pending : (o n : ℕ) (fs : List Frame) → AllMayStand n fs → drop o (take end b) ≡ encodeAll fs → o + total fs ≡ end
-        → Yields b end places marks 256 o (map pendingFrame (entriesOf m o fs))
+        → Yields b end places marks 256 o (map pendingFrame (entriesOf bytesThere m o fs))
     unfolding encodeAll total entriesOf nextPending
     yields-pending o n [] g e q = load-pending o ∙ ap (nextPending marks o 0) e
     yields-pending o n (f ∷ fs) (g, gs) e q =
         let e′ : drop (o + frameLen f) (take end b) ≡ encodeAll fs =
         sym (drop-drop (frameLen f) o (take end b)) ∙ ap (drop (frameLen f)) e ∙ drop-at (encode f) (encodeAll fs) (frameLen f) (length-encode f) in
-        one-frame o n f (encodeAll fs) (entriesOf m (o + frameLen f) fs) g e e′ (omega arith) (yields-pending (o + frameLen f) (nextAfter f) fs gs e′ (omega arith))
+        one-frame o n f (encodeAll fs) (entriesOf bytesThere m (o + frameLen f) fs) g e e′ (omega arith) (yields-pending (o + frameLen f) (nextAfter f) fs gs e′ (omega arith))
 
   -- ---- the settled part
 
@@ -196,7 +190,7 @@ yields-all b fs j =
     yields-objects b end (placesOf fs) (sinceOf fs) 256 0 headerLen (replay fs .objects) (map pendingFrame (replay fs .pending)) (omega arith) (omega arith)
     (objects-rise fs (j .stand)) (λ i u w. place-value b fs (idOf i) j w)
     (subst (λ (x : List Entry). Yields b end (placesOf fs) (sinceOf fs) 256 headerLen (map pendingFrame x)) (sym (pending-marks fs))
-    (yields-pending b end (placesOf fs) (sinceOf fs) (λ h. since h fs) (since-at fs) headerLen 0 fs (j .stand) (journal-bytes b fs j) refl))
+    (yields-pending b end (placesOf fs) (sinceOf fs) (marksOf fs) (since-at fs) headerLen 0 fs (j .stand) (journal-bytes b fs j) refl))
 
 -- a mount's, which drops it
 pub yields-settled : (b : List ℕ) (fs : List Frame) (marks : List ℕ) → Journal b fs

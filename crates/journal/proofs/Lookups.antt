@@ -1,6 +1,6 @@
 -- What a lookup finds after a change to the objects.
 use mathlib.Core.Path.{_≡_, refl, sym, ap, _∙_}
-use mathlib.Core.List.{List, [], _∷_, _++_}
+use mathlib.Core.List.{List, [], _∷_}
 use mathlib.Core.Option.{none, some}
 use mathlib.Core.Bool.{true, false}
 use Prim.Native.Nat.{compare, Ordering·lt, Ordering·eq, Ordering·gt}
@@ -9,8 +9,7 @@ use lib.Dec.{eqb}
 use borrow.Author.Tests.{eq-eqb, ne-eqb, eqb-true}
 use Rattle.flash.proofs.Cases.{on-test, on-order}
 use Rattle.frame.specs.declared.ObjectId.{ObjectId}
-use Rattle.frame.specs.Frame.{ChangeOf}
-use Rattle.journal.specs.Replay.{ObjectOf, object, insert, remove, lookup, change1, changeAll}
+use Rattle.journal.specs.Replay.{ObjectOf, object, insert, remove, lookup}
 
 module _ {A : Type 0} where
   pub insert-lt : (i : ObjectId) (v : A) (o : ObjectOf A) (os : List (ObjectOf A)) → compare (i .0) (o .id .0) ≡ Ordering·lt
@@ -72,8 +71,3 @@ module _ {A : Type 0} where
       (λ t. rw (t, remove) (on-test (eqb (i .0) (o .id .0))
       (λ u. lookup-yes i o (remove j os) u ∙ sym (lookup-yes i o os u))
       (λ u. lookup-no i o (remove j os) u ∙ lookup-remove-other i j os n ∙ sym (lookup-no i o os u))))
-
-  pub changes-append : (cs ds : List (ChangeOf A)) (os : List (ObjectOf A)) → changeAll (cs ++ ds) os ≡ changeAll ds (changeAll cs os)
-  unfolding changeAll
-  changes-append [] ds os = refl
-  changes-append (c ∷ cs) ds os = changes-append cs ds (change1 c os)

@@ -1,6 +1,6 @@
 -- Where the objects' values stand: the places that replay of the sited frames finds hold them.
-use mathlib.Core.Path.{_≡_, refl, sym, ap, ap₂, subst, _∙_}
-use mathlib.Core.List.{List, [], _∷_, _++_, append-assoc, map}
+use mathlib.Core.Path.{_≡_, refl, sym, ap, subst, _∙_}
+use mathlib.Core.List.{List, [], _∷_, _++_, append-assoc}
 use mathlib.Core.Option.{Option, none, some, Option·map}
 use Prim.Native.Nat.{ℕ, zero, suc, _+_, _≤_, _<_}
 use native.Mathlib.Omega.{arith}
@@ -114,7 +114,7 @@ places-at (suc n) k zero os h = let e : k + 0 ≡ k = omega arith in ap (λ (x :
 places-at (suc n) k (suc m) os h =
     let e : suc k + m ≡ k + suc m = omega arith in places-at n (suc k) m os (omega arith) ∙ ap (λ (x : ℕ). orZero (lookup (idOf x) os)) e
 
-length-from : (n k : ℕ) (os : List (ObjectOf ℕ)) → length (placesFrom n k os) ≡ n
+pub length-from : (n k : ℕ) (os : List (ObjectOf ℕ)) → length (placesFrom n k os) ≡ n
 unfolding placesFrom
 length-from zero k os = refl
 length-from (suc n) k os = ap suc (length-from n (suc k) os)
@@ -137,19 +137,22 @@ bytes-lookup fs i =
     ∙ ap (λ (x : StateOf (List ℕ)). lookup i (x .objects)) (map-replay (λ (x : Spot). x .bytes) (spots headerLen fs))
     ∙ map-lookup (λ (x : Spot). x .bytes) i (replay (spots headerLen fs) .objects)
 
-place-is : (fs : List Frame) (i : ObjectId) → i .0 ≤ idMax
-    → getD (placesOf fs) (i .0) 0 ≡ orZero (Option·map (λ (x : Spot). x .place) (lookup i (replay (spots headerLen fs) .objects)))
-place-is fs i h =
-    let z : 0 + i .0 ≡ i .0 = omega arith in
-    places-at 256 0 (i .0) (replay (sited headerLen fs) .objects) (omega arith)
-    ∙ ap (λ (x : ℕ). orZero (lookup (idOf x) (replay (sited headerLen fs) .objects))) z ∙ ap orZero (sited-lookup fs i)
-
-pub no-place : (fs : List Frame) (i : ObjectId) → i .0 ≤ idMax → lookup i (replay fs .objects) ≡ none → getD (placesOf fs) (i .0) 0 ≡ 0
-no-place fs i h n = place-is fs i h ∙ go (lookup i (replay (spots headerLen fs) .objects)) (sym (bytes-lookup fs i) ∙ n)
+pub sited-none : (fs : List Frame) (i : ObjectId) → lookup i (replay fs .objects) ≡ none → lookup i (replay (sited headerLen fs) .objects) ≡ none
+sited-none fs i n = sited-lookup fs i ∙ go (lookup i (replay (spots headerLen fs) .objects)) (sym (bytes-lookup fs i) ∙ n)
   where
-    go : (x : Option Spot) → Option·map (λ (y : Spot). y .bytes) x ≡ none → orZero (Option·map (λ (y : Spot). y .place) x) ≡ 0
+    go : (x : Option Spot) → Option·map (λ (y : Spot). y .bytes) x ≡ none → Option·map (λ (y : Spot). y .place) x ≡ none
     go none q = refl
     go (some y) q = let z : _≡_ {A = ℕ} 0 1 = cc in absurd (omega arith)
+
+-- the place of an id
+pub place-at : (fs : List Frame) (i : ObjectId) → i .0 ≤ idMax → getD (placesOf fs) (i .0) 0 ≡ orZero (lookup i (replay (sited headerLen fs) .objects))
+place-at fs i h =
+    let z : 0 + i .0 ≡ i .0 = omega arith in
+    let os : List (ObjectOf ℕ) = replay (sited headerLen fs) .objects in
+    places-at 256 0 (i .0) os (omega arith) ∙ ap (λ (x : ℕ). orZero (lookup (idOf x) os)) z
+
+pub no-place : (fs : List Frame) (i : ObjectId) → i .0 ≤ idMax → lookup i (replay fs .objects) ≡ none → getD (placesOf fs) (i .0) 0 ≡ 0
+no-place fs i h n = place-at fs i h ∙ ap orZero (sited-none fs i n)
 
 pub value-zero : (b : List ℕ) (i : ObjectId) → valueAt b i 0 ≡ none
 unfolding valueAt
@@ -165,7 +168,7 @@ pub record Journal (b : List ℕ) (fs : List Frame) : Type 0 where
 
 pub place-law : (b : List ℕ) (fs : List Frame) (i : ObjectId) (v : List ℕ) → Journal b fs → i .0 ≤ idMax → lookup i (replay fs .objects) ≡ some v
     → Holds b i (getD (placesOf fs) (i .0) 0) v
-place-law b fs i v j h s = subst (λ (p : ℕ). Holds b i p v) (sym (place-is fs i h)) (go (lookup i (replay (spots headerLen fs) .objects)) refl)
+place-law b fs i v j h s = subst (λ (p : ℕ). Holds b i p v) (sym (place-at fs i h ∙ ap orZero (sited-lookup fs i))) (go (lookup i (replay (spots headerLen fs) .objects)) refl)
   where
     go : (x : Option Spot) → lookup i (replay (spots headerLen fs) .objects) ≡ x → Holds b i (orZero (Option·map (λ (y : Spot). y .place) x)) v
     go none q =

@@ -1,16 +1,18 @@
 -- Replay: one frame more, and the frames that a state is written as.
+use mathlib.Core.Option.{none}
 use mathlib.Core.Path.{_≡_, refl, ap, _∙_}
 use mathlib.Core.List.{List, [], _∷_, _++_, append-assoc, append-nil, map}
-use Prim.Native.Nat.{ℕ, suc, _≤_}
+use Prim.Native.Nat.{ℕ, suc, _≤_, _<_}
 use native.Mathlib.Omega.{arith}
 use lib.Dec.{eqb}
+use borrow.Author.Tests.{ne-eqb}
 use Rattle.flash.proofs.Cases.{on-test, on-order}
 use Rattle.frame.specs.declared.Host.{Host}
 use Rattle.frame.specs.declared.ObjectId.{ObjectId}
 use Rattle.frame.specs.Frame.{hostOf, Change, put, delete, FrameOf, Frame, change, commit, abort, settled, MayStand, AllMayStand, nextAfter, nextOf}
 use Rattle.frame.proofs.Encode.{stands-any, stands-append}
-use Rattle.journal.specs.Replay.{ObjectOf, object, EntryOf, entry, StateOf, state, Object, Entry, State, insert, remove, change1, changeAll, listOf, without, next, replayFrom, replay, settledFrame, pendingFrame, framesOf, settledOnly}
-use Rattle.journal.proofs.Lookups.{insert-lt, insert-eq, insert-gt}
+use Rattle.journal.specs.Replay.{ObjectOf, object, EntryOf, entry, StateOf, state, Object, Entry, State, insert, remove, lookup, change1, changeAll, listOf, without, next, replayFrom, replay, settledFrame, pendingFrame, framesOf, settledOnly}
+use Rattle.journal.proofs.Lookups.{lookup-no, insert-lt, insert-eq, insert-gt}
 
 module _ {A : Type 0} where
   -- replay goes on where it stopped
@@ -62,6 +64,22 @@ rising-from lo lo′ (o ∷ os) hi h ((a, b, c), r) = ((omega arith, b, c), r)
 pub rising-to : (lo : ℕ) (os : List Object) (hi hi′ : ℕ) → hi ≤ hi′ → Rising lo os hi → Rising lo os hi′
 rising-to lo [] hi hi′ h r = omega arith
 rising-to lo (o ∷ os) hi hi′ h (g, r) = (g, rising-to (suc (o .id .0)) os hi hi′ h r)
+
+rising-bound : (lo : ℕ) (os : List Object) (hi : ℕ) → Rising lo os hi → lo ≤ hi
+rising-bound lo [] hi r = r
+rising-bound lo (o ∷ os) hi ((a, b, c), r) = omega (arith, rising-bound (suc (o .id .0)) os hi r)
+
+-- no id outside the range has an object
+pub below-none : (i : ObjectId) (lo : ℕ) (os : List Object) (hi : ℕ) → i .0 < lo → Rising lo os hi → lookup i os ≡ none
+unfolding lookup
+below-none i lo [] hi l r = refl
+below-none i lo (o ∷ os) hi l ((a, b, c), r) = lookup-no i o os (ne-eqb (i .0) (o .id .0) (omega arith)) ∙ below-none i (suc (o .id .0)) os hi (omega arith) r
+
+pub above-none : (i : ObjectId) (lo : ℕ) (os : List Object) (hi : ℕ) → hi ≤ i .0 → Rising lo os hi → lookup i os ≡ none
+unfolding lookup
+above-none i lo [] hi l r = refl
+above-none i lo (o ∷ os) hi l (g, r) =
+    lookup-no i o os (ne-eqb (i .0) (o .id .0) (omega (arith, rising-bound (suc (o .id .0)) os hi r))) ∙ above-none i (suc (o .id .0)) os hi l r
 
 rising-snoc : (lo : ℕ) (os : List Object) (hi : ℕ) (i : ObjectId) (v : List ℕ) → MayStand hi (settled i v) → Rising lo os hi
     → Rising lo (os ++ (object i v ∷ [])) (suc (i .0))

@@ -1,0 +1,118 @@
+-- What holds of image, record and book between the calls of a run.
+use mathlib.Core.Path.{_≡_}
+use mathlib.Core.List.{List, []}
+use mathlib.Core.Bool.{Bool, true}
+use Prim.Native.Nat.{ℕ, suc, _+_, _*_, _≤_, _<_}
+use lib.ListN.{length, getD, take, drop, replicate}
+use Rattle.flash.specs.Bytes.{Bytes}
+use Rattle.flash.specs.Flash.{Step, program, erase, applyAll, block, blocks, write}
+use Rattle.frame.specs.declared.Host.{Host}
+use Rattle.frame.specs.Frame.{Frame, hostMax, deleteLen, endLen}
+use Rattle.frame.specs.Reader.{Tail, clean}
+use Rattle.journal.specs.Replay.{Object, Entry, State, replay, listOf}
+use Rattle.journal.specs.Block.{BlockState, blank, inProgress, valid, foreign, blockState}
+use Rattle.journal.specs.Room.{claimed, openHosts}
+use Rattle.journal.proofs.States.{Contents}
+use Rattle.journal.proofs.Room.{kept}
+use Rattle.journal.proofs.Building.{Lands}
+use Rattle.board.specs.declared.Phase.{Phase}
+use Rattle.board.specs.declared.Phase.the-variants.{Unmounted, Idle, Busy}
+use Rattle.board.specs.declared.Record.{Record}
+use Rattle.board.specs.Record.{idle}
+use Rattle.board.specs.Mount.{endOf}
+use Rattle.board.specs.Plan.{Follows}
+use Rattle.board.specs.Book.{Book, UnderWay, nothing, finishing}
+use Rattle.board.proofs.Images.{Sized}
+
+-- ---- blocks
+
+-- block k is valid and holds the objects, with room for a delete and its commit
+pub record Valid (s : ℕ) (img : List ℕ) (k : ℕ) (os : List Object) : Type 0 where
+  pub time : ℕ
+  pub frames : List Frame
+  pub tail : Tail
+  pub contents : Contents (block s k img) time frames tail
+  pub room : kept (replay frames) + (deleteLen + endLen) ≤ s
+  pub same : replay frames .objects ≡ os
+
+-- a block that a mount erases: blank or in progress
+abbrev pub Quiet : BlockState → Type 0
+Quiet blank = Unit {0}
+Quiet inProgress = Unit {0}
+Quiet (valid t fs c) = ⊥
+Quiet (foreign e) = ⊥
+
+-- every block but these
+abbrev pub Others : (ℕ → Type 0) → ℕ → Type 0
+Others P k = (j : ℕ) → j < blocks → (j ≡ k → ⊥) → P j
+
+-- a mount of the image finds the objects; nothing at all only while a format is unfinished
+pub data Safe (s : ℕ) (img : List ℕ) (os : List Object) (unfinished : Bool) : Type 0 where
+  no-valid : unfinished ≡ true → ((j : ℕ) → j < blocks → Quiet (blockState (block s j img))) → Safe s img os unfinished
+  one-valid : (k : ℕ) → k < blocks → Valid s img k os → Others (λ j. Quiet (blockState (block s j img))) k → Safe s img os unfinished
+  two-valid : (x : Valid s img 0 os) (y : Valid s img 1 os) → (x .time ≡ y .time → ⊥) → Safe s img os unfinished
+
+-- ---- an idle record
+
+-- the image is as the record says, the book apart
+pub record Ready (s : ℕ) (img : List ℕ) (r : Record) : Type 0 where
+  pub last : ℕ
+  pub number : ℕ
+  pub end : ℕ
+  pub is : r ≡ idle last number end
+  pub long : length img ≡ suc last
+  pub there : number < blocks
+  pub time : ℕ
+  pub frames : List Frame
+  pub contents : Contents (block s number img) time frames clean
+  pub ends : end ≡ endOf frames
+  pub room : claimed (replay frames) + endLen * openHosts (replay frames .pending) ≤ s
+  pub others : Others (λ j. block s j img ≡ replicate s 255) number
+
+abbrev pub Lists : List Entry → Book → Type 0
+Lists ps b = (h : Host) → h .0 ≤ hostMax → listOf h ps ≡ b .lists h
+
+pub record IdleBook (s : ℕ) (img : List ℕ) (r : Record) (b : Book) : Type 0 where
+  pub ready : Ready s img r
+  pub spare : kept (replay (ready .frames)) + (deleteLen + endLen) ≤ s
+  pub objects : replay (ready .frames) .objects ≡ b .objects
+  pub lists : Lists (replay (ready .frames) .pending) b
+  pub under : b .under ≡ nothing
+
+-- ---- a record in a job: `count` steps of a plan are done on the image it began with; P holds of every step still to be done
+-- and the image it is done on, Q of what the last gives
+pub record InJob (s : ℕ) (P : Step → List ℕ → Type 0) (Q : List ℕ → Record → Type 0) (img : List ℕ) (r : Record) : Type 0 where
+  pub start : List ℕ
+  pub plan : List Step
+  pub last : Record
+  pub count : ℕ
+  pub now : img ≡ applyAll s (take count plan) start
+  pub follows : Follows img r (drop count plan) last
+  pub begun : count < length plan
+  pub short : length plan ≤ s
+  pub each : (j : ℕ) → j < length plan → P (getD plan j (erase 0)) (applyAll s (take j plan) start)
+  pub ends : Q (applyAll s plan start) last
+  pub rests : last .phase ≡ Idle
+
+-- a programmed byte lands as given
+abbrev pub StepLands : ℕ → Step → List ℕ → Type 0
+StepLands s (program k o v) img = Lands (block s k img) (write o v)
+StepLands s (erase k) img = Unit {0}
+
+-- ---- between calls
+
+abbrev pub InPhase : Phase → ℕ → List ℕ → Record → Book → Bool → Type 0
+InPhase Unmounted s img r b u = Safe s img (b .objects) u × (b .under ≡ nothing)
+InPhase Idle s img r b u = IdleBook s img r b
+InPhase (Busy g) s img r b u = InJob s (λ x i. Safe s i (b .objects) u) (λ i z. IdleBook s i z (finishing b (b .under))) img r
+
+pub record Inv (s : ℕ) (img : List ℕ) (r : Record) (b : Book) (u : Bool) : Type 0 where
+  pub sized : Sized s img
+  pub bytes : Bytes img
+  pub phase : InPhase (r .phase) s img r b u
+
+-- the same without a book, for images that no run of ours left
+abbrev pub Sound : Phase → ℕ → List ℕ → Record → Type 0
+Sound Unmounted s img r = Unit {0}
+Sound Idle s img r = Ready s img r
+Sound (Busy g) s img r = InJob s (StepLands s) (Ready s) img r
