@@ -3,3 +3,7 @@ pub mod Images
 pub mod Outcomes
 pub mod Invariant
 pub mod Jobs
+pub mod Keeping
+pub mod Refusals
+pub mod Ending
+pub mod Numbers

@@ -1,0 +1,182 @@
+-- Demand 1, forged records: whatever a record and an image hold, step calls end or get 11 within 65,536 of them.
+use mathlib.Core.Path.{_≡_, refl, sym, ap, subst}
+use mathlib.Core.List.{List}
+use mathlib.Core.Logic.{_⊎_, inl, inr}
+use mathlib.Core.Option.{Option, none, some}
+use mathlib.Core.Bool.{true, false, _&&_}
+use Prim.Native.Nat.{ℕ, zero, suc, _+_, _-_, _/_, _≤_, _<_}
+use native.Mathlib.Omega.{arith}
+use lib.Dec.{eqb, ltb}
+use lib.ListN.{length}
+use borrow.Author.Tests.{ltb-true, eqb-true}
+use Rattle.flash.specs.Flash.{apply, blocks, sizeOf, within}
+use Rattle.flash.proofs.Cases.{on-test, and-right, and-no-left}
+use Rattle.flash.proofs.Image.{length-apply}
+use Rattle.journal.specs.Block.{markWrites}
+use Rattle.journal.specs.Index.{Load}
+use Rattle.wire.specs.declared.Answer.the-variants.{Refused}
+use Rattle.wire.specs.declared.Refusal.the-variants as refusal
+use Rattle.board.specs.declared.Stage.{Stage}
+use Rattle.board.specs.declared.Stage.the-variants.{Wipe, Open, Copy, Seal, Drop, Append}
+use Rattle.board.specs.declared.Phase.{Phase}
+use Rattle.board.specs.declared.Phase.the-variants.{Unmounted, Idle, Busy}
+use Rattle.board.specs.declared.Record.{Record}
+use Rattle.board.specs.Record.{inStage, Out}
+use Rattle.board.specs.Step.{landed, enterAppend, enterDrop, enterCopy, enterOpen, action, nextByte, advance, stepOn}
+use Rattle.board.specs.Demand1.{Declared, Rests, EndsWithin, ForgedEnds}
+use Rattle.board.proofs.Outcomes.{nextFor, open-enters, open-skips, copy-loads, copy-ends, drop-enters, drop-skips, append-enters, append-skips, wipe-next, wipe-last, open-next, open-last, copy-next, copy-last, seal-next, seal-last, drop-last, append-next, append-last, step-outside, step-goes}
+
+-- ---- a bound on the calls left, in blocks of z bytes: every stage's own, and those of the stages that may follow
+
+abbrev inAppend : Record → ℕ
+inAppend r = r .job .size
+
+abbrev inDrop : Record → ℕ
+inDrop r = suc (inAppend r)
+
+abbrev inSeal : Record → ℕ
+inSeal r = markWrites + inDrop r
+
+abbrev inCopy : ℕ → Record → ℕ
+inCopy z r = z - r .cursor .at + inSeal r
+
+abbrev inOpen : ℕ → Record → ℕ
+inOpen z r = markWrites + (z + inSeal r)
+
+abbrev leftIn : Phase → ℕ → Record → ℕ
+leftIn Unmounted z r = 0
+leftIn Idle z r = 0
+leftIn (Busy Wipe) z r = suc (r .job .wipes - suc (r .cursor .index)) + inOpen z r
+leftIn (Busy Open) z r = suc (markWrites - suc (r .cursor .index)) + (z + inSeal r)
+leftIn (Busy Copy) z r = inCopy z r
+leftIn (Busy Seal) z r = suc (markWrites - suc (r .cursor .index)) + inDrop r
+leftIn (Busy Drop) z r = inDrop r
+leftIn (Busy Append) z r = suc (r .job .size - suc (r .cursor .index))
+
+abbrev left : ℕ → Record → ℕ
+left z r = leftIn (r .phase) z r
+
+-- ---- entering a stage
+
+append-left : (z : ℕ) (r : Record) → left z (enterAppend r) ≤ inAppend r
+append-left z r =
+    on-test (ltb 0 (r .job .size))
+    (λ e. rw (append-enters r e) (omega (arith, ltb-true 0 (r .job .size) e)))
+    (λ e. rw (append-skips r e) (omega arith))
+
+drop-left : (z : ℕ) (r : Record) → left z (enterDrop r) ≤ inDrop r
+drop-left z r =
+    on-test (r .job .drops)
+    (λ e. rw (drop-enters r e) (omega arith))
+    (λ e. rw (drop-skips r e) (omega (arith, append-left z (landed r))))
+
+copy-left : (z : ℕ) (img : List ℕ) (r : Record) → left z (enterCopy img r) ≤ inCopy z r
+copy-left z img r = go (nextFor img r) refl
+  where
+    go : (u : Option Load) → nextFor img r ≡ u → left z (enterCopy img r) ≤ inCopy z r
+    go (some u) e = rw (copy-loads img r u e) (omega arith)
+    go none e = rw (copy-ends img r e) (omega arith)
+
+open-left : (z : ℕ) (r : Record) → left z (enterOpen r) ≤ inOpen z r
+open-left z r =
+    on-test (r .job .moves)
+    (λ e. rw (open-enters r e) (omega arith))
+    (λ e. rw (open-skips r e) (omega (arith, append-left z r)))
+
+-- ---- each step leaves less
+
+advance-less : (z : ℕ) (s : Stage) (img : List ℕ) (r : Record) → within z (action s r) ≡ true → left z (advance s img r) < leftIn (Busy s) z r
+advance-less z Wipe img r w =
+    on-test (ltb (suc (r .cursor .index)) (r .job .wipes))
+    (λ e. rw (wipe-next img r e) (omega (arith, ltb-true (suc (r .cursor .index)) (r .job .wipes) e)))
+    (λ e. rw (wipe-last img r e) (omega (arith, open-left z r)))
+advance-less z Open img r w =
+    on-test (ltb (suc (r .cursor .index)) markWrites)
+    (λ e. rw (open-next img r e) (omega (arith, ltb-true (suc (r .cursor .index)) markWrites e)))
+    (λ e. rw (open-last img r e) (omega (arith, copy-left z img r)))
+advance-less z Copy img r w =
+    let t : r .cursor .at < z = ltb-true (r .cursor .at) z (and-right (ltb (r .job .target) blocks) (ltb (r .cursor .at) z) w) in
+    on-test (ltb (suc (r .cursor .off)) (r .cursor .size))
+    (λ e. rw (copy-next img r e) (omega arith))
+    (λ e. rw (copy-last img r e) (omega (arith, copy-left z img (inStage Copy (nextByte (r .cursor)) r))))
+advance-less z Seal img r w =
+    on-test (ltb (suc (r .cursor .index)) markWrites)
+    (λ e. rw (seal-next img r e) (omega (arith, ltb-true (suc (r .cursor .index)) markWrites e)))
+    (λ e. rw (seal-last img r e) (omega (arith, drop-left z r)))
+advance-less z Drop img r w = rw (drop-last img r) (omega (arith, append-left z (landed r)))
+advance-less z Append img r w =
+    on-test (ltb (suc (r .cursor .index)) (r .job .size))
+    (λ e. rw (append-next img r e) (omega (arith, ltb-true (suc (r .cursor .index)) (r .job .size) e)))
+    (λ e. rw (append-last img r e) (omega arith))
+
+-- ---- so they end
+
+none-left : (p : Phase) (z : ℕ) (r : Record) → leftIn p z r ≤ 0 → Rests p
+none-left Unmounted z r h = tt
+none-left Idle z r h = tt
+none-left (Busy Wipe) z r h = omega arith
+none-left (Busy Open) z r h = omega arith
+none-left (Busy Copy) z r h = omega arith
+none-left (Busy Seal) z r h = omega arith
+none-left (Busy Drop) z r h = omega arith
+none-left (Busy Append) z r h = omega arith
+
+-- one call more
+module _ (n : ℕ) (img : List ℕ) (r : Record) where
+  abbrev Goes : Type 0
+  Goes = (stepOn img r .answer ≡ Refused refusal.Stale) ⊎ EndsWithin n (stepOn img r .image) (stepOn img r .board)
+
+  one-more : ((s : Stage) → r .phase ≡ Busy s → Goes) → EndsWithin (suc n) img r
+  unfolding EndsWithin
+  one-more f = go (r .phase) refl
+    where
+      go : (p : Phase) → r .phase ≡ p → Rests (r .phase) ⊎ Goes
+      go Unmounted e = inl (subst Rests (sym e) tt)
+      go Idle e = inl (subst Rests (sym e) tt)
+      go (Busy s) e = inr (f s e)
+
+  gets-11 : (s : Stage) → r .phase ≡ Busy s → (eqb (length img) (suc (r .last)) && within (sizeOf img) (action s r)) ≡ false → Goes
+  gets-11 s e t = inl (ap (λ (o : Out). o .answer) (step-outside img r s e t))
+
+  goes-on : left (sizeOf img) r ≤ suc n → ((i : List ℕ) (b : Record) → left (sizeOf i) b ≤ n → EndsWithin n i b) → (s : Stage) → r .phase ≡ Busy s
+      → (eqb (length img) (suc (r .last)) && within (sizeOf img) (action s r)) ≡ true → Goes
+  goes-on h rest s e t =
+      let after : List ℕ = apply (sizeOf img) (action s r) img in
+      let l : length after ≡ length img = length-apply (sizeOf img) (action s r) img in
+      let b : leftIn (Busy s) (sizeOf img) r ≤ suc n = subst (λ (p : Phase). leftIn p (sizeOf img) r ≤ suc n) e h in
+      let less : left (sizeOf img) (advance s after r) ≤ n =
+      omega (arith, advance-less (sizeOf img) s after r (and-right (eqb (length img) (suc (r .last))) (within (sizeOf img) (action s r)) t)) in
+      inr
+      (subst (λ (o : Out). EndsWithin n (o .image) (o .board)) (sym (step-goes img r s e t))
+      (rest after (advance s after r) (subst (λ (m : ℕ). left (m / blocks) (advance s after r) ≤ n) (sym l) less)))
+
+ends : (n : ℕ) (img : List ℕ) (r : Record) → left (sizeOf img) r ≤ n → EndsWithin n img r
+unfolding EndsWithin
+ends zero img r h = none-left (r .phase) (sizeOf img) r h
+ends (suc n) img r h =
+    one-more n img r
+    (λ s e. on-test (eqb (length img) (suc (r .last)) && within (sizeOf img) (action s r)) (goes-on n img r h (λ i b l. ends n i b l) s e)
+    (gets-11 n img r s e))
+
+-- another image's length
+ends-at-once : (n : ℕ) (img : List ℕ) (r : Record) → 0 < n → eqb (length img) (suc (r .last)) ≡ false → EndsWithin n img r
+ends-at-once zero img r h e = absurd (omega arith)
+ends-at-once (suc n) img r h e =
+    one-more n img r (λ s p. gets-11 n img r s p (and-no-left (eqb (length img) (suc (r .last))) (within (sizeOf img) (action s r)) e))
+
+few-left : (p : Phase) (img : List ℕ) (r : Record) → Declared r → length img ≡ suc (r .last) → leftIn p (sizeOf img) r ≤ 65536
+few-left Unmounted img r d e = omega arith
+few-left Idle img r d e = omega arith
+few-left (Busy Wipe) img r d e = omega arith
+few-left (Busy Open) img r d e = omega arith
+few-left (Busy Copy) img r d e = omega arith
+few-left (Busy Seal) img r d e = omega arith
+few-left (Busy Drop) img r d e = omega arith
+few-left (Busy Append) img r d e = omega arith
+
+pub forged-ends : ForgedEnds
+unfolding ForgedEnds
+forged-ends img r d =
+    on-test (eqb (length img) (suc (r .last)))
+    (λ e. ends 65536 img r (few-left (r .phase) img r d (eqb-true (length img) (suc (r .last)) e)))
+    (λ e. ends-at-once 65536 img r (omega arith) e)

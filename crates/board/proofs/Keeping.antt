@@ -1,0 +1,142 @@
+-- The invariant of runs: how it is had in each phase, that it keeps the objects safe, and that a step call keeps it.
+use mathlib.Core.Path.{_≡_, refl, sym, ap, subst, _∙_}
+use mathlib.Core.List.{List, [], _∷_, _++_}
+use mathlib.Core.Logic.{_⊎_, inl, inr}
+use mathlib.Core.Bool.{Bool, true, false}
+use Prim.Native.Nat.{ℕ, zero, suc, _+_, _≤_, _<_}
+use native.Mathlib.Omega.{arith}
+use lib.ListN.{length, replicate}
+use Rattle.flash.specs.Bytes.{Bytes}
+use Rattle.flash.specs.Flash.{Step, apply, applyAll, block, blocks}
+use Rattle.flash.proofs.Image.{length-apply, bytes-apply}
+use Rattle.frame.specs.Frame.{deleteLen, endLen}
+use Rattle.frame.specs.Reader.{clean}
+use Rattle.journal.specs.Replay.{Object, replay}
+use Rattle.journal.specs.Block.{BlockState, blank, blockState}
+use Rattle.journal.proofs.Blocks.{blank-block}
+use Rattle.wire.specs.declared.Answer.{Answer}
+use Rattle.wire.specs.declared.Answer.the-variants.{Done, More, Refused}
+use Rattle.wire.specs.declared.Refusal.{Refusal}
+use Rattle.board.specs.declared.Stage.{Stage}
+use Rattle.board.specs.declared.Phase.{Phase}
+use Rattle.board.specs.declared.Phase.the-variants.{Unmounted, Idle, Busy}
+use Rattle.board.specs.declared.Record.{Record}
+use Rattle.board.specs.Record.{Out, out, answerOf, answerIn}
+use Rattle.board.specs.Step.{stepOn}
+use Rattle.board.specs.Demand1.{Rests}
+use Rattle.board.specs.Book.{Book, UnderWay, nothing, committing, formatting, finishing, enterStep}
+use Rattle.board.specs.Claim.{trackStep, Never}
+use Rattle.board.proofs.Images.{Sized, sized-as}
+use Rattle.board.proofs.Invariant.{Valid, Quiet, Others, Safe, no-valid, one-valid, two-valid, Ready, IdleBook, InJob, InPhase, Inv}
+use Rattle.board.proofs.Outcomes.{step-resting}
+use Rattle.board.proofs.Jobs.{Stepped, job-step, Begun}
+
+-- ---- the phase that an answer shows
+
+pub record IsBusy (p : Phase) : Type 0 where
+  pub stage : Stage
+  pub is : p ≡ Busy stage
+
+pub more-busy : (p : Phase) → answerIn p ≡ More → IsBusy p
+more-busy Unmounted e = let z : _≡_ {A = ℕ} 0 1 = cc in absurd (omega arith)
+more-busy Idle e = let z : _≡_ {A = ℕ} 0 1 = cc in absurd (omega arith)
+more-busy (Busy g) e = record { stage = g; is = refl }
+
+-- ---- the invariant in each phase
+
+-- a record in a job, with what the book has under way
+abbrev pub Working : ℕ → List ℕ → Record → Book → Bool → Type 0
+Working s img r b u = InJob s (λ x i. Safe s i (b .objects) u) (λ i z. IdleBook s i z (finishing b (b .under))) img r
+
+pub inv-unmounted : {s : ℕ} {img : List ℕ} {b : Book} {u : Bool} (r : Record) → Sized s img → Bytes img → r .phase ≡ Unmounted → Safe s img (b .objects) u
+    → b .under ≡ nothing → Inv s img r b u
+inv-unmounted {s} {img} {b} {u} r z y e f n = record { sized = z; bytes = y; phase = subst (λ (p : Phase). InPhase p s img r b u) (sym e) (f, n) }
+
+pub ready-idle : {s : ℕ} {img : List ℕ} {r : Record} → Ready s img r → r .phase ≡ Idle
+ready-idle y = ap (λ (x : Record). x .phase) (y .is)
+
+pub inv-idle : {s : ℕ} {img : List ℕ} {b : Book} {u : Bool} (r : Record) → Sized s img → Bytes img → IdleBook s img r b → Inv s img r b u
+inv-idle {s} {img} {b} {u} r z y i = record { sized = z; bytes = y; phase = subst (λ (p : Phase). InPhase p s img r b u) (sym (ready-idle (i .ready))) i }
+
+pub inv-busy : {s : ℕ} {img : List ℕ} {b : Book} {u : Bool} (r : Record) → Sized s img → Bytes img → answerOf r ≡ More → Working s img r b u → Inv s img r b u
+inv-busy {s} {img} {b} {u} r z y m j =
+    record { sized = z; bytes = y; phase = subst (λ (p : Phase). InPhase p s img r b u) (sym (more-busy (r .phase) m .is)) j }
+
+-- by the record's phase
+pub on-phase : {C : Type 0} {s : ℕ} {img : List ℕ} {r : Record} {b : Book} {u : Bool} → Inv s img r b u
+    → (r .phase ≡ Unmounted → Safe s img (b .objects) u → b .under ≡ nothing → C) → (r .phase ≡ Idle → IdleBook s img r b → C)
+    → (IsBusy (r .phase) → Working s img r b u → C) → C
+on-phase {C} {s} {img} {r} {b} {u} v f g h = go (r .phase) refl (v .phase)
+  where
+    go : (p : Phase) → r .phase ≡ p → InPhase p s img r b u → C
+    go Unmounted e (x, n) = f e x n
+    go Idle e x = g e x
+    go (Busy q) e x = h (record { stage = q; is = e }) x
+
+-- ---- the objects are safe
+
+quiet-blank : (s k : ℕ) (img : List ℕ) → block s k img ≡ replicate s 255 → Quiet (blockState (block s k img))
+quiet-blank s k img e = subst (λ (x : BlockState). Quiet x) (sym (ap blockState e ∙ blank-block s)) tt
+
+pub idle-valid : {s : ℕ} {img : List ℕ} {r : Record} {b : Book} (y : IdleBook s img r b) → Valid s img (y .ready .number) (b .objects)
+idle-valid y =
+    record { time = y .ready .time; frames = y .ready .frames; tail = clean; contents = y .ready .contents; room = y .spare; same = y .objects }
+
+pub safe-idle : {s : ℕ} {img : List ℕ} {r : Record} {b : Book} {u : Bool} → IdleBook s img r b → Safe s img (b .objects) u
+safe-idle {s} {img} y =
+    one-valid (y .ready .number) (y .ready .there) (idle-valid y) (λ j h n. quiet-blank s j img (y .ready .others j h n))
+
+pub safe-of : {s : ℕ} {img : List ℕ} {r : Record} {b : Book} {u : Bool} → Inv s img r b u → Safe s img (b .objects) u
+safe-of {s} {img} {r} {b} {u} v =
+    on-phase v (λ e f n. f) (λ e y. safe-idle y) (λ g j. subst (λ (i : List ℕ). Safe s i (b .objects) u) (sym (j .now)) (j .each (j .count) (j .begun)))
+
+pub safe-true : {s : ℕ} {img : List ℕ} {os : List Object} {u : Bool} → Safe s img os u → Safe s img os true
+safe-true (no-valid e q) = no-valid refl q
+safe-true (one-valid k h v q) = one-valid k h v q
+safe-true (two-valid x y n) = two-valid x y n
+
+-- ---- a step call
+
+track-more : (u : Bool) (w : UnderWay) → trackStep u w More ≡ u
+track-more u nothing = refl
+track-more u (committing h) = refl
+track-more u formatting = refl
+
+abbrev pub StepKeeps : ℕ → Book → Bool → Out → Type 0
+StepKeeps s b u o = Inv s (o .image) (o .board) (enterStep b (o .answer)) (trackStep u (b .under) (o .answer)) × ((n : Refusal) → Never n o)
+
+done-never : (o : Out) (a : Answer) → o .answer ≡ a → (a ≡ Done) ⊎ (a ≡ More) → (n : Refusal) → Never n o
+done-never o a e (inl d) n x = let z : _≡_ {A = ℕ} 0 1 = cc in omega arith
+done-never o a e (inr m) n x = let z : _≡_ {A = ℕ} 0 1 = cc in omega arith
+
+resting-keeps : {s : ℕ} {img : List ℕ} {r : Record} {b : Book} {u : Bool} → Inv s img r b u → b .under ≡ nothing → StepKeeps s b u (out Done img r [])
+resting-keeps {s} {img} {r} {b} {u} v n = (
+  subst (λ (w : UnderWay). Inv s img r (finishing b w) (trackStep u w Done)) (sym n) v,
+  done-never (out Done img r []) Done refl (inl refl),
+)
+
+abbrev Then : ℕ → Book → Bool → List ℕ → Record → Type 0
+Then s b u img r =
+    ((answerOf r ≡ More) × Working s img r b u) ⊎ ((answerOf r ≡ Done) × IdleBook s img r (finishing b (b .under)))
+
+then-keeps : (s : ℕ) (b : Book) (u : Bool) (img : List ℕ) (r : Record) → Sized s img → Bytes img → Then s b u img r → StepKeeps s b u (out (answerOf r) img r [])
+then-keeps s b u img r z y (inl (m, j)) = (
+  subst (λ (a : Answer). Inv s img r (enterStep b a) (trackStep u (b .under) a)) (sym m)
+  (subst (λ (w : Bool). Inv s img r b w) (sym (track-more u (b .under))) (inv-busy r z y m j)),
+  done-never (out (answerOf r) img r []) (answerOf r) refl (inr m),
+)
+then-keeps s b u img r z y (inr (d, i)) = (
+  subst (λ (a : Answer). Inv s img r (enterStep b a) (trackStep u (b .under) a)) (sym d) (inv-idle r z y i),
+  done-never (out (answerOf r) img r []) (answerOf r) refl (inl d),
+)
+
+pub step-keeps : {s : ℕ} {img : List ℕ} {r : Record} {b : Book} {u : Bool} → Inv s img r b u → StepKeeps s b u (stepOn img r)
+step-keeps {s} {img} {r} {b} {u} v =
+    on-phase v
+    (λ e f n. subst (StepKeeps s b u) (sym (step-resting img r (subst (λ (p : Phase). Rests p) (sym e) tt))) (resting-keeps v n))
+    (λ e y. subst (StepKeeps s b u) (sym (step-resting img r (subst (λ (p : Phase). Rests p) (sym e) tt))) (resting-keeps v (y .under)))
+    (λ g j.
+    let y : Stepped s (λ x i. Safe s i (b .objects) u) (λ i z. IdleBook s i z (finishing b (b .under))) img r = job-step (v .sized) j in
+    subst (StepKeeps s b u) (sym (y .gives))
+    (then-keeps s b u (apply s (y .does) img) (y .next) (sized-as (apply s (y .does) img) (length-apply s (y .does) img) (v .sized))
+    (bytes-apply s (y .does) img (v .bytes)) (y .then)))

@@ -1,0 +1,241 @@
+-- Demand 1, refusals: each call is refused as the table says, a refusal changes nothing, and only a step changes the image.
+use mathlib.Core.Path.{_≡_, refl, sym, ap, subst, _∙_}
+use mathlib.Core.List.{List, [], _∷_}
+use mathlib.Core.Logic.{inl, inr}
+use mathlib.Core.Option.{Option, none, some}
+use mathlib.Core.Bool.{Bool, true, false, _&&_, _||_, not}
+use Prim.Native.Nat.{ℕ, suc}
+use native.Mathlib.Omega.{arith}
+use lib.Dec.{eqb, ltb, leb}
+use lib.ListN.{length}
+use borrow.Author.Tests.{leb-true, leb-false, lt-ltb, le-ltb}
+use Rattle.flash.specs.Flash.{apply, sizeOf, within}
+use Rattle.flash.proofs.Cases.{on-test, and-no-right, or-left, or-right, or-neither}
+use Rattle.frame.specs.declared.Host.{Host}
+use Rattle.frame.specs.declared.ObjectId.{ObjectId}
+use Rattle.frame.specs.Frame.{hostMax, Change, put, delete, Frame, change, commit, abort}
+use Rattle.journal.specs.Replay.{replay, lookup, isOpen}
+use Rattle.journal.specs.Block.{lastTime}
+use Rattle.journal.specs.Room.{noRoom}
+use Rattle.wire.specs.declared.Answer.{Answer}
+use Rattle.wire.specs.declared.Answer.the-variants.{Refused}
+use Rattle.wire.specs.declared.Refusal.{Refusal}
+use Rattle.wire.specs.declared.Refusal.the-variants as refusal
+use Rattle.wire.specs.declared.Page.the-variants.{Summary}
+use Rattle.wire.specs.declared.Request.{Request}
+use Rattle.wire.specs.declared.Request.the-variants.{Put, Delete, Commit, Abort, Read, Log}
+use Rattle.wire.specs.declared.Parsed.{Parsed}
+use Rattle.wire.specs.declared.Parsed.the-variants.{Is, Malformed}
+use Rattle.wire.specs.Message.{parse, valueIn, pageLen}
+use Rattle.board.specs.declared.Phase.{Phase}
+use Rattle.board.specs.declared.Phase.the-variants.{Unmounted, Idle, Busy}
+use Rattle.board.specs.declared.Record.{Record}
+use Rattle.board.specs.Record.{allowed, unmounted, Out, refuse, answerIn}
+use Rattle.board.specs.Step.{enterWipe, action, advance, stepOn}
+use Rattle.board.specs.Mount.{allFound, anyForeign, Found, Store, stores, equalTimes, newest, wipeList, needsTransfer, mountJob, mountAt, mountStores, mountOn, formatJob, formatOn}
+use Rattle.board.specs.Queue.{Held, held, needsRoom, appendJob, append, serveChange, serveEnd, serve, serveParsed, serveHeld, requestIn, requestOn}
+use Rattle.board.specs.Exec.{request, step, mount, format}
+use Rattle.board.specs.Table.{Check, check, firstOf, isBusy, isUnmounted, isNone, isMalformed, frameIf, worn, heldChecks, laterChecks, requestChecks, outside, noStore, wornStore, mountChecks, checks, refusalIn}
+use Rattle.board.specs.Demand1.{RefusedByTable, RefusalsUntouched, OneStep, AtMostOneStep, Rests}
+use Rattle.board.proofs.Outcomes.{append-worn, append-begins, change-refused, change-goes, end-goes, end-idle, log-short, log-done, serve-put, serve-delete, serve-commit, serve-abort, serve-log, read-none, read-some, request-length, request-host, request-in, mount-length, mount-foreign, mount-stores, mount-worn, mount-begins, format-length, format-begins, step-resting, step-outside, step-goes}
+
+-- ---- what is claimed of a call's outcome, against the lines of the table that are left
+
+-- K: what the call may do to the image; b, reply: what a refusal hands back
+record Follows (K : List ℕ → Type 0) (img : List ℕ) (b : Record) (reply : List ℕ) (cs : List Check) (o : Out) : Type 0 where
+  table : refusalIn (o .answer) ≡ firstOf cs
+  untouched : (n : Refusal) → o .answer ≡ Refused n → o ≡ refuse n img b reply
+  kept : K (o .image)
+
+no-refusal : (a : Answer) (n : Refusal) → refusalIn a ≡ none → a ≡ Refused n → ⊥
+no-refusal a n e p = let z : _≡_ {A = Option Refusal} none (some n) = sym e ∙ ap refusalIn p in let q : _≡_ {A = ℕ} 0 1 = cc in absurd (omega arith)
+
+begin-accepts : (p : Phase) → refusalIn (answerIn p) ≡ none
+begin-accepts Unmounted = refl
+begin-accepts Idle = refl
+begin-accepts (Busy s) = refl
+
+-- the first line that is left holds
+stops : {K : List ℕ → Type 0} {img : List ℕ} {b : Record} {reply : List ℕ} {n : Refusal} {t : Bool} {cs : List Check} {o : Out}
+    → K img → t ≡ true → o ≡ refuse n img b reply → Follows K img b reply (check n t ∷ cs) o
+unfolding firstOf
+stops {K} {img} {b} {reply} {n} {t} {cs} k e z = subst (λ (x : Out). Follows K img b reply (check n t ∷ cs) x) (sym z) stopped
+  where
+    stopped : Follows K img b reply (check n t ∷ cs) (refuse n img b reply)
+    stopped =
+        record {
+          table = rw (e, firstOf);
+          untouched = λ m p. let q : n ≡ m = cc in ap (λ (x : Refusal). refuse x img b reply) q;
+          kept = k;
+        }
+
+-- the first line that is left does not hold
+passes : {K : List ℕ → Type 0} {img : List ℕ} {b : Record} {reply : List ℕ} {n : Refusal} {t : Bool} {cs : List Check} {o : Out}
+    → t ≡ false → Follows K img b reply cs o → Follows K img b reply (check n t ∷ cs) o
+unfolding firstOf
+passes e f = record { table = rw (e, firstOf) (f .table); untouched = f .untouched; kept = f .kept }
+
+-- no line is left
+accepted : {K : List ℕ → Type 0} {img : List ℕ} {b : Record} {reply : List ℕ} {o : Out}
+    → refusalIn (o .answer) ≡ none → K (o .image) → Follows K img b reply [] o
+unfolding firstOf
+accepted {o} e k = record { table = e; untouched = λ n p. absurd (no-refusal (o .answer) n e p); kept = k }
+
+over : {K : List ℕ → Type 0} {img : List ℕ} {b : Record} {reply : List ℕ} {cs : List Check} {o o′ : Out}
+    → o ≡ o′ → Follows K img b reply cs o′ → Follows K img b reply cs o
+over {K} {img} {b} {reply} {cs} e f = subst (λ (x : Out). Follows K img b reply cs x) (sym e) f
+
+-- ---- requests
+
+abbrev Same : List ℕ → List ℕ → Type 0
+Same img i = i ≡ img
+
+module _ (img : List ℕ) (r : Record) (reply : List ℕ) where
+  abbrev Asked : List Check → Out → Type 0
+  Asked cs o = Follows (Same img) img r reply cs o
+
+  append-asked : (x : Held) (f : Frame) → Asked (check refusal.Worn (needsRoom img r f && eqb (x .time) lastTime) ∷ []) (append img r reply x f)
+  append-asked x f =
+      on-test (needsRoom img r f && eqb (x .time) lastTime)
+      (λ e. stops refl e (append-worn img r reply x f e))
+      (λ e. over (append-begins img r reply x f e) (passes e (accepted (begin-accepts (enterWipe (appendJob img r x f) .phase)) refl)))
+
+  change-asked : (h : Host) (x : Held) (c : Change)
+      → Asked (check refusal.NoRoom (noRoom (sizeOf img) (replay (x .frames)) h c) ∷ check refusal.Worn (worn img r x (some (change h c))) ∷ [])
+      (serveChange img r reply h x c)
+  change-asked h x c =
+      on-test (noRoom (sizeOf img) (replay (x .frames)) h c)
+      (λ e. stops refl e (change-refused img r reply h x c e))
+      (λ e. over (change-goes img r reply h x c e) (passes e (append-asked x (change h c))))
+
+  end-asked : (h : Host) (x : Held) (f : Frame)
+      → Asked (check refusal.Worn (worn img r x (frameIf (isOpen h (replay (x .frames) .pending)) f)) ∷ []) (serveEnd img r reply h x f)
+  end-asked h x f =
+      on-test (isOpen h (replay (x .frames) .pending))
+      (λ e. over (end-goes img r reply h x f e) (rw e (append-asked x f)))
+      (λ e. over (end-idle img r reply h x f e) (passes (rw e) (accepted refl refl)))
+
+  read-asked : (h : Host) (m : List ℕ) (x : Held) (i : ObjectId) (v : Option (List ℕ)) → lookup i (replay (x .frames) .objects) ≡ v
+      → Asked (heldChecks img r h m reply x (Read i)) (serve img r reply h m x (Read i))
+  read-asked h m x i none e = stops refl (rw e) (read-none img r reply h m x i e)
+  read-asked h m x i (some v) e =
+      over (read-some img r reply h m x i v e) (passes (rw e) (passes refl (passes refl (passes refl (accepted refl refl)))))
+
+  log-asked : (h : Host) (m : List ℕ) (x : Held) → Asked (heldChecks img r h m reply x (Log Summary)) (serve img r reply h m x (Log Summary))
+  log-asked h m x =
+      over (serve-log img r reply h m x)
+      (passes refl
+      (on-test (ltb (length reply) pageLen)
+      (λ e. stops refl e (log-short img r reply x e))
+      (λ e. over (log-done img r reply x e) (passes e (passes refl (passes refl (accepted refl refl)))))))
+
+  serve-asked : (h : Host) (m : List ℕ) (x : Held) (q : Request) → Asked (heldChecks img r h m reply x q) (serve img r reply h m x q)
+  serve-asked h m x (Put i) = over (serve-put img r reply h m x i) (passes refl (passes refl (change-asked h x (put i (valueIn m)))))
+  serve-asked h m x (Delete i) = over (serve-delete img r reply h m x i) (passes refl (passes refl (change-asked h x (delete i))))
+  serve-asked h m x Commit = over (serve-commit img r reply h m x) (passes refl (passes refl (passes refl (end-asked h x (commit h)))))
+  serve-asked h m x Abort = over (serve-abort img r reply h m x) (passes refl (passes refl (passes refl (end-asked h x (abort h)))))
+  serve-asked h m x (Read i) = read-asked h m x i (lookup i (replay (x .frames) .objects)) refl
+  serve-asked h m x (Log Summary) = log-asked h m x
+
+  parsed-asked : (h : Host) (m : List ℕ) (x : Held) (p : Parsed)
+      → Asked (check refusal.Malformed (isMalformed p) ∷ laterChecks img r h m reply (some x) p) (serveParsed img r reply h m x p)
+  parsed-asked h m x Malformed = stops refl refl refl
+  parsed-asked h m x (Is q) = passes refl (serve-asked h m x q)
+
+  held-asked : (h : Host) (m : List ℕ) (x : Option Held)
+      → Asked (check refusal.Stale (isNone x) ∷ check refusal.Malformed (isMalformed (parse m)) ∷ laterChecks img r h m reply x (parse m))
+      (serveHeld img r reply h m x)
+  held-asked h m none = stops refl refl refl
+  held-asked h m (some x) = passes refl (parsed-asked h m x (parse m))
+
+  phase-asked : (h : Host) (m : List ℕ) (p : Phase)
+      → Asked (check refusal.Busy (isBusy p) ∷ check refusal.NoStore (isUnmounted p) ∷ check refusal.Stale (isNone (held img r))
+      ∷ check refusal.Malformed (isMalformed (parse m)) ∷ laterChecks img r h m reply (held img r) (parse m))
+      (requestIn p img r reply h m)
+  phase-asked h m (Busy s) = stops refl refl refl
+  phase-asked h m Unmounted = passes refl (stops refl refl refl)
+  phase-asked h m Idle = passes refl (passes refl (held-asked h m (held img r)))
+
+  request-asked : (h : Host) (m : List ℕ) → Asked (requestChecks img r h m reply) (requestOn img r reply h m)
+  request-asked h m =
+      on-test (allowed (length img))
+      (λ a. passes (ap not a)
+      (on-test (leb (h .0) hostMax)
+      (λ e. over (request-in img r reply h m a e) (passes (le-ltb hostMax (h .0) (leb-true (h .0) hostMax e)) (phase-asked h m (r .phase))))
+      (λ e. stops refl (lt-ltb hostMax (h .0) (leb-false (h .0) hostMax e)) (request-host img r reply h m a e))))
+      (λ a. stops refl (ap not a) (request-length img r reply h m a))
+
+-- ---- mount and format
+
+abbrev Made : List ℕ → List Check → Out → Type 0
+Made img cs o = Follows (Same img) img unmounted [] cs o
+
+at-made : (img : List ℕ) (xs : List Found) (x : Store)
+    → Made img (check refusal.Worn (needsTransfer (x .frames) (x .tail) && eqb (x .time) lastTime) ∷ []) (mountAt img xs x)
+at-made img xs x =
+    on-test (needsTransfer (x .frames) (x .tail) && eqb (x .time) lastTime)
+    (λ e. stops refl e (mount-worn img xs x e))
+    (λ e. over (mount-begins img xs x e) (passes e (accepted (begin-accepts (enterWipe (mountJob img x (wipeList (x .number) xs)) .phase)) refl)))
+
+-- f: whether a block is foreign
+stores-made : (img : List ℕ) (xs : List Found) (f : Bool) → f ≡ false → (ys : List Store)
+    → Made img
+    (check refusal.NoStore (noStore ys && not f) ∷ check refusal.Foreign (f || equalTimes ys) ∷ check refusal.Worn (wornStore ys) ∷ [])
+    (mountStores img xs ys)
+stores-made img xs f n [] = stops refl (ap not n) refl
+stores-made img xs f n (y ∷ ys) =
+    passes refl
+    (on-test (equalTimes (y ∷ ys))
+    (λ e. stops refl (or-right f (equalTimes (y ∷ ys)) e) (rw e))
+    (λ e. passes (or-neither f (equalTimes (y ∷ ys)) n e) (over (rw e) (at-made img xs (newest y ys)))))
+
+mount-made : (img : List ℕ) → Made img (mountChecks img) (mountOn img)
+mount-made img =
+    on-test (allowed (length img))
+    (λ a. passes (ap not a)
+    (on-test (anyForeign (allFound img))
+    (λ e. passes (and-no-right (noStore (stores (allFound img))) (not (anyForeign (allFound img))) (ap not e))
+    (stops refl (or-left (anyForeign (allFound img)) (equalTimes (stores (allFound img))) e) (mount-foreign img a e)))
+    (λ e. over (mount-stores img a e) (stores-made img (allFound img) (anyForeign (allFound img)) e (stores (allFound img))))))
+    (λ a. stops refl (ap not a) (mount-length img a))
+
+format-made : (img : List ℕ) → Made img (checks img unmounted format) (formatOn img)
+format-made img =
+    on-test (allowed (length img))
+    (λ a. over (format-begins img a) (passes (ap not a) (accepted (begin-accepts (enterWipe (formatJob img) .phase)) refl)))
+    (λ a. stops refl (ap not a) (format-length img a))
+
+-- ---- step
+
+step-follows : (img : List ℕ) (r : Record) (p : Phase) → r .phase ≡ p
+    → Follows (OneStep img) img r [] (check refusal.Stale (outside p img r) ∷ []) (stepOn img r)
+step-follows img r Unmounted e = over (step-resting img r (subst Rests (sym e) tt)) (passes refl (accepted refl (inl refl)))
+step-follows img r Idle e = over (step-resting img r (subst Rests (sym e) tt)) (passes refl (accepted refl (inl refl)))
+step-follows img r (Busy s) e =
+    on-test (eqb (length img) (suc (r .last)) && within (sizeOf img) (action s r))
+    (λ t. over (step-goes img r s e t)
+    (passes (ap not t) (accepted (begin-accepts (advance s (apply (sizeOf img) (action s r) img) r .phase)) (inr (action s r, refl)))))
+    (λ t. stops (inl refl) (ap not t) (step-outside img r s e t))
+
+-- ---- demand 1
+
+pub refused-by-table : RefusedByTable
+unfolding RefusedByTable
+refused-by-table img r (request h m reply) = request-asked img r reply h m .table
+refused-by-table img r step = step-follows img r (r .phase) refl .table
+refused-by-table img r mount = mount-made img .table
+refused-by-table img r format = format-made img .table
+
+pub refusals-untouched : RefusalsUntouched
+unfolding RefusalsUntouched
+refusals-untouched img r (request h m reply) n e = request-asked img r reply h m .untouched n e
+refusals-untouched img r step n e = step-follows img r (r .phase) refl .untouched n e
+refusals-untouched img r mount n e = mount-made img .untouched n e
+refusals-untouched img r format n e = format-made img .untouched n e
+
+pub at-most-one-step : AtMostOneStep
+unfolding AtMostOneStep
+at-most-one-step img r (request h m reply) = request-asked img r reply h m .kept
+at-most-one-step img r step = step-follows img r (r .phase) refl .kept
+at-most-one-step img r mount = mount-made img .kept
+at-most-one-step img r format = format-made img .kept
