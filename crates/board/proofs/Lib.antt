@@ -4,6 +4,7 @@ pub mod Outcomes
 pub mod Invariant
 pub mod Jobs
 pub mod Keeping
+pub mod Replies
 pub mod Refusals
 pub mod Ending
 pub mod Numbers

@@ -38,7 +38,7 @@ in-image s blocks k img e h = omega (arith, blocks-le s k blocks h)
 pub length-block : (s k : ℕ) (img : List ℕ) → k * s + s ≤ length img → length (block s k img) ≡ s
 length-block s k img h = simp (length-take, length-drop) (omega arith)
 
-take-drop-take : (s n m : ℕ) (l : List ℕ) → n + s ≤ m → take s (drop n (take m l)) ≡ take s (drop n l)
+pub take-drop-take : (s n m : ℕ) (l : List ℕ) → n + s ≤ m → take s (drop n (take m l)) ≡ take s (drop n l)
 take-drop-take s zero m l h = take-take s m l (omega arith)
 take-drop-take s (suc n) zero l h = absurd (omega arith)
 take-drop-take s (suc n) (suc m) [] h = refl

@@ -1,0 +1,120 @@
+-- What an idle record of a run is found to hold, and what reads and the log say of it.
+use mathlib.Core.Path.{_≡_, refl, sym, ap, subst, _∙_}
+use mathlib.Core.List.{List, [], _∷_, _++_}
+use mathlib.Core.Option.{Option, none, some}
+use mathlib.Core.Bool.{Bool, true, false, _&&_, _||_}
+use Prim.Native.Nat.{ℕ, zero, suc, _+_, _*_, _≤_, _<_}
+use native.Mathlib.Omega.{arith}
+use lib.Dec.{eqb, ltb, leb}
+use lib.ListN.{length, getD, take, drop, replicate}
+use lib.Seq.{drop-drop}
+use borrow.Author.Tests.{eq-eqb, le-leb, lt-ltb, eqb-false, ltb-true, ltb-false}
+use Rattle.flash.specs.Bytes.{allFF, u16le}
+use Rattle.flash.specs.Flash.{blocks, blockNumbers, block, sizeOf}
+use Rattle.flash.proofs.Cases.{on-test, and-both, or-left, or-right}
+use Rattle.flash.proofs.Blank.{allFF-all}
+use Rattle.flash.proofs.Image.{take-drop-take, length-block}
+use Rattle.frame.specs.declared.Host.{Host}
+use Rattle.frame.specs.declared.ObjectId.{ObjectId}
+use Rattle.frame.specs.Frame.{Frame, idMax, endLen}
+use Rattle.frame.specs.Reader.{Tail}
+use Rattle.journal.specs.Replay.{Object, replay, lookup}
+use Rattle.journal.specs.Block.{blockState, header, validData}
+use Rattle.journal.specs.Room.{claimed, openHosts, used, usedBy}
+use Rattle.journal.specs.Index.{placesOf, valueAt}
+use Rattle.journal.proofs.States.{Contents, contents-valid}
+use Rattle.journal.proofs.Places.{Journal, Holds, place-law}
+use Rattle.wire.specs.declared.Answer.the-variants.{Done, Refused}
+use Rattle.wire.specs.declared.Refusal.the-variants as refusal
+use Rattle.wire.specs.declared.Page.the-variants.{Summary}
+use Rattle.wire.specs.declared.Request.{Request}
+use Rattle.wire.specs.declared.Request.the-variants.{Put, Delete, Commit, Abort, Read, Log}
+use Rattle.wire.specs.Message.{pageLen}
+use Rattle.board.specs.declared.Record.{Record}
+use Rattle.board.specs.Record.{Out, out, idle, refuse, Stretch}
+use Rattle.board.specs.Mount.{endOf}
+use Rattle.board.specs.Queue.{Held, held, heldBy, heldIn, heldIf, fitsRecord, sameImage, othersBlank, stretchOf, placeOf, serve}
+use Rattle.board.specs.Claim.{ReadSays, LogSays}
+use Rattle.board.proofs.Images.{Sized, size-of, sized-block}
+use Rattle.board.proofs.Invariant.{Others, Ready}
+use Rattle.board.proofs.Outcomes.{read-none, read-some, serve-log, log-short, log-done}
+
+-- ---- the image fits the record
+
+others-blank : (s k : ℕ) (img : List ℕ) → sizeOf img ≡ s → Others (λ j. block s j img ≡ replicate s 255) k → othersBlank k img blockNumbers ≡ true
+others-blank s k img e o =
+    and-both (one 0) (one 1 && true) (each 0 (omega arith)) (and-both (one 1) true (each 1 (omega arith)) refl)
+  where
+    one : ℕ → Bool
+    one j = eqb k j || allFF (block (sizeOf img) j img)
+
+    each : (j : ℕ) → j < blocks → (eqb k j || allFF (block (sizeOf img) j img)) ≡ true
+    each j h =
+        on-test (eqb k j) (λ t. or-left (eqb k j) (allFF (block (sizeOf img) j img)) t)
+        (λ t. or-right (eqb k j) (allFF (block (sizeOf img) j img))
+        (ap (λ (n : ℕ). allFF (block n j img)) e ∙ ap allFF (o j h (λ q. eqb-false k j t (sym q))) ∙ allFF-all s))
+
+abbrev pub heldOf : {s : ℕ} {img : List ℕ} {r : Record} → Ready s img r → Held
+heldOf y = record { time = y .time; frames = y .frames }
+
+pub held-ready : {s : ℕ} {img : List ℕ} {r : Record} → Sized s img → (y : Ready s img r) → held img r ≡ some (heldOf y)
+unfolding held
+held-ready {s} {img} {r} z y =
+    ap (held img) (y .is) ∙ ap (λ (b : Bool). heldBy b img (idle (y .last) (y .number) (y .end))) same
+    ∙ ap (λ (n : ℕ). heldIn n (y .end) (blockState (block n (y .number) img))) (size-of z)
+    ∙ ap (heldIn s (y .end)) (contents-valid (y .contents)) ∙ ap (λ (b : Bool). heldIf b (y .time) (y .frames)) fit
+  where
+    same : sameImage img (idle (y .last) (y .number) (y .end)) ≡ true
+    same =
+        and-both (eqb (length img) (suc (y .last))) (ltb (y .number) blocks && othersBlank (y .number) img blockNumbers)
+        (eq-eqb (length img) (suc (y .last)) (y .long))
+        (and-both (ltb (y .number) blocks) (othersBlank (y .number) img blockNumbers) (lt-ltb (y .number) blocks (y .there))
+        (others-blank s (y .number) img (size-of z) (y .others)))
+
+    fit : fitsRecord s (y .end) (y .frames) ≡ true
+    fit =
+        and-both (eqb (endOf (y .frames)) (y .end)) (leb (claimed (replay (y .frames)) + endLen * openHosts (replay (y .frames) .pending)) s)
+        (eq-eqb (endOf (y .frames)) (y .end) (sym (y .ends)))
+        (le-leb (claimed (replay (y .frames)) + endLen * openHosts (replay (y .frames) .pending)) s (y .room))
+
+-- ---- reads
+
+-- a stretch of a block is a stretch of the image
+stretch : (s k p n : ℕ) (img : List ℕ) → p + n ≤ s → take n (drop (k * s + p) img) ≡ take n (drop p (block s k img))
+stretch s k p n img h = sym (ap (take n) (drop-drop p (k * s) img)) ∙ sym (take-drop-take n p s (drop (k * s) img) h)
+
+pub journal-of : {b : List ℕ} {t : ℕ} {fs : List Frame} {c : Tail} → Contents b t fs c → Journal b fs
+journal-of {b} {t} x = record { head = header t validData; rest = x .rest; split = x .layout .is; long = refl; stand = x .layout .stands }
+
+module _ {s : ℕ} {img : List ℕ} {r : Record} (z : Sized s img) (y : Ready s img r) (reply : List ℕ) (h : Host) (m : List ℕ) where
+  abbrev served : Request → Out
+  served q = serve img r reply h m (heldOf y) q
+
+  pub read-says : (i : ObjectId) → i .0 ≤ idMax → ReadSays (served (Read i)) (lookup i (replay (y .frames) .objects))
+  read-says i l = go (lookup i (replay (y .frames) .objects)) refl
+    where
+      go : (o : Option (List ℕ)) → lookup i (replay (y .frames) .objects) ≡ o → ReadSays (served (Read i)) o
+      go none e = ap (λ (o : Out). o .answer) (read-none img r reply h m (heldOf y) i e)
+      go (some v) e =
+          let k : ℕ = y .number in
+          let b : List ℕ = block s k img in
+          let x : Holds b i (getD (placesOf (y .frames)) (i .0) 0) v = place-law b (y .frames) i v (journal-of (y .contents)) l e in
+          let n : length b ≡ s = length-block s k img (sized-block k z (y .there)) in
+          let at : placeOf img r (heldOf y) i ≡ record { at = k * s + x .at; size = length v } =
+          ap (λ (q : Record). placeOf img q (heldOf y) i) (y .is)
+          ∙ ap (λ (w : ℕ). stretchOf (k * w) (valueAt (block w k img) i (getD (placesOf (y .frames)) (i .0) 0))) (size-of z)
+          ∙ ap (stretchOf (k * s)) (x .found) in
+          let f : served (Read i) ≡ record { answer = Done; image = img; board = r; reply = reply; stretch = record { at = k * s + x .at; size = length v } } =
+          read-some img r reply h m (heldOf y) i v e
+          ∙ ap (λ (t : Stretch). record { answer = Done; image = img; board = r; reply = reply; stretch = t }) at in
+          (ap (λ (o : Out). o .answer) f,
+           subst (λ (o : Out). take (o .stretch .size) (drop (o .stretch .at) (o .image)) ≡ v) (sym f)
+           (stretch s k (x .at) (length v) img (omega (arith, x .fits)) ∙ x .same))
+
+  pub log-says : (os : List Object) → replay (y .frames) .objects ≡ os → LogSays (served (Log Summary)) reply os
+  log-says os e l =
+      subst (λ (x : List Object). (served (Log Summary) .answer ≡ Done) × (take 4 (drop 8 (served (Log Summary) .reply)) ≡ u16le (length x) ++ u16le (usedBy x))) e
+      (on-test (ltb (length reply) pageLen)
+      (λ t. absurd (omega (arith, ltb-true (length reply) pageLen t)))
+      (λ t. subst (λ (o : Out). (o .answer ≡ Done) × (take 4 (drop 8 (o .reply)) ≡ u16le (length (replay (y .frames) .objects)) ++ u16le (usedBy (replay (y .frames) .objects))))
+      (sym (serve-log img r reply h m (heldOf y) ∙ log-done img r reply (heldOf y) t)) (refl, refl)))
