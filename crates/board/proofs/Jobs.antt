@@ -66,7 +66,7 @@ job-step {s} {P} {Q} {img} {r} z y =
           let h : suc (y .count) < length (y .plan) = ltb-true (suc (y .count)) (length (y .plan)) t in
           inl (
             in-more s (apply s x img) (f .0) (getD (y .plan) (suc (y .count)) (erase 0)) (drop (suc (suc (y .count))) (y .plan)) (y .last)
-            (subst (λ (l : List Step). Follows (apply s x img) (f .0) l (y .last)) (drop-cons (y .plan) (suc (y .count)) (erase 0) h) (f .2)),
+                (subst (λ (l : List Step). Follows (apply s x img) (f .0) l (y .last)) (drop-cons (y .plan) (suc (y .count)) (erase 0) h) (f .2)),
             record {
               start = y .start;
               plan = y .plan;

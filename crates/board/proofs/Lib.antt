@@ -5,6 +5,9 @@ pub mod Invariant
 pub mod Jobs
 pub mod Keeping
 pub mod Replies
+pub mod Books
 pub mod Refusals
 pub mod Ending
 pub mod Numbers
+pub mod Prefixes
+pub mod Current

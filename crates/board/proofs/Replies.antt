@@ -106,10 +106,11 @@ module _ {s : ℕ} {img : List ℕ} {r : Record} (z : Sized s img) (y : Ready s 
           ∙ ap (stretchOf (k * s)) (x .found) in
           let f : served (Read i) ≡ record { answer = Done; image = img; board = r; reply = reply; stretch = record { at = k * s + x .at; size = length v } } =
           read-some img r reply h m (heldOf y) i v e
-          ∙ ap (λ (t : Stretch). record { answer = Done; image = img; board = r; reply = reply; stretch = t }) at in
-          (ap (λ (o : Out). o .answer) f,
-           subst (λ (o : Out). take (o .stretch .size) (drop (o .stretch .at) (o .image)) ≡ v) (sym f)
-           (stretch s k (x .at) (length v) img (omega (arith, x .fits)) ∙ x .same))
+          ∙ ap (λ (t : Stretch). record { answer = Done; image = img; board = r; reply = reply; stretch = t }) at in (
+            ap (λ (o : Out). o .answer) f,
+            subst (λ (o : Out). take (o .stretch .size) (drop (o .stretch .at) (o .image)) ≡ v) (sym f)
+                (stretch s k (x .at) (length v) img (omega (arith, x .fits)) ∙ x .same),
+          )
 
   pub log-says : (os : List Object) → replay (y .frames) .objects ≡ os → LogSays (served (Log Summary)) reply os
   log-says os e l =

@@ -1,0 +1,93 @@
+-- One valid block with every other blank, and the idle record that goes with it.
+use mathlib.Core.Path.{_≡_, refl, sym, ap, subst, _∙_}
+use mathlib.Core.List.{List}
+use mathlib.Core.Bool.{Bool}
+use Prim.Native.Nat.{ℕ, suc, _+_, _*_, _≤_, _<_}
+use lib.ListN.{length, replicate}
+use Rattle.flash.specs.Flash.{applyAll, block, blocks, Write, writeAll}
+use Rattle.flash.proofs.Image.{length-block}
+use Rattle.flash.proofs.Offsets.{Below}
+use Rattle.frame.specs.Frame.{Frame, deleteLen, endLen}
+use Rattle.frame.specs.Reader.{Tail, clean}
+use Rattle.journal.specs.Replay.{Object, State, replay}
+use Rattle.journal.specs.Block.{blockState}
+use Rattle.journal.specs.Room.{claimed, openHosts}
+use Rattle.journal.proofs.Blocks.{blank-block}
+use Rattle.journal.proofs.States.{Contents}
+use Rattle.journal.proofs.Room.{kept}
+use Rattle.board.specs.declared.Record.{Record}
+use Rattle.board.specs.Record.{idle}
+use Rattle.board.specs.Mount.{endOf}
+use Rattle.board.specs.Plan.{onBlock}
+use Rattle.board.proofs.Images.{Sized, sized-as, sized-block, length-all-steps, block-writes, other-writes}
+use Rattle.board.proofs.Invariant.{Valid, Quiet, Others, Safe, one-valid, Ready}
+
+pub record Alone (s : ℕ) (img : List ℕ) (k t : ℕ) (fs : List Frame) (c : Tail) : Type 0 where
+  pub sized : Sized s img
+  pub there : k < blocks
+  pub contents : Contents (block s k img) t fs c
+  pub others : Others (λ j. block s j img ≡ replicate s 255) k
+
+-- an idle record whose block replays to a state
+pub record After (s : ℕ) (img : List ℕ) (r : Record) (st : State) : Type 0 where
+  pub ready : Ready s img r
+  pub state : replay (ready .frames) ≡ st
+
+pub block-long : {s : ℕ} {img : List ℕ} (k : ℕ) → Sized s img → k < blocks → length (block s k img) ≡ s
+block-long {s} {img} k z h = length-block s k img (sized-block k z h)
+
+pub ready-alone : {s : ℕ} {img : List ℕ} {r : Record} → Sized s img → (y : Ready s img r) → Alone s img (y .number) (y .time) (y .frames) clean
+ready-alone z y = record { sized = z; there = y .there; contents = y .contents; others = y .others }
+
+-- the room that an idle record's block leaves
+abbrev pub Roomy : ℕ → State → Type 0
+Roomy s st = claimed st + endLen * openHosts (st .pending) ≤ s
+
+pub alone-after : {s k t : ℕ} {img : List ℕ} {fs : List Frame} (l : ℕ) (st : State) → Alone s img k t fs clean → length img ≡ suc l → replay fs ≡ st
+    → Roomy s st → After s img (idle l k (endOf fs)) st
+alone-after {s} {k} {t} {img} {fs} l st x long e room =
+    record {
+      ready = record {
+        last = l;
+        number = k;
+        end = endOf fs;
+        is = refl;
+        long = long;
+        there = x .there;
+        time = t;
+        frames = fs;
+        contents = x .contents;
+        ends = refl;
+        room = subst (Roomy s) (sym e) room;
+        others = x .others;
+      };
+      state = e;
+    }
+
+-- ---- safe images
+
+-- a mount finds the objects in block k
+pub record Keeps (s : ℕ) (fs : List Frame) (os : List Object) : Type 0 where
+  pub room : kept (replay fs) + (deleteLen + endLen) ≤ s
+  pub same : replay fs .objects ≡ os
+
+pub valid-of : {s k t : ℕ} {img : List ℕ} {fs : List Frame} {c : Tail} {os : List Object} → Contents (block s k img) t fs c → Keeps s fs os → Valid s img k os
+valid-of {s} {k} {t} {img} {fs} {c} x p = record { time = t; frames = fs; tail = c; contents = x; room = p .room; same = p .same }
+
+pub blank-quiet : (s : ℕ) (b : List ℕ) → b ≡ replicate s 255 → Quiet (blockState b)
+blank-quiet s b e = subst Quiet (sym (ap blockState e ∙ blank-block s)) tt
+
+pub alone-safe : {s k t : ℕ} {img : List ℕ} {fs : List Frame} {c : Tail} {os : List Object} (u : Bool) → Alone s img k t fs c → Keeps s fs os → Safe s img os u
+alone-safe {s} {k} {t} {img} u x p = one-valid k (x .there) (valid-of (x .contents) p) (λ j h n. blank-quiet s (block s j img) (x .others j h n))
+
+-- ---- the block written to
+
+pub alone-written : {s k t t′ : ℕ} {img : List ℕ} {fs fs′ : List Frame} {c c′ : Tail} (ws : List Write) → Alone s img k t fs c → Below s ws
+    → Contents (writeAll (block s k img) ws) t′ fs′ c′ → Alone s (applyAll s (onBlock k ws) img) k t′ fs′ c′
+alone-written {s} {k} {t} {t′} {img} {fs} {fs′} {c} {c′} ws x b y =
+    record {
+      sized = sized-as (applyAll s (onBlock k ws) img) (length-all-steps s (onBlock k ws) img) (x .sized);
+      there = x .there;
+      contents = subst (λ (l : List ℕ). Contents l t′ fs′ c′) (sym (block-writes s k ws img b)) y;
+      others = λ j h n. other-writes s j k ws img n b ∙ x .others j h n;
+    }
