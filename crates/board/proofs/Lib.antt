@@ -6,6 +6,7 @@ pub mod Jobs
 pub mod Keeping
 pub mod Replies
 pub mod Books
+pub mod Holding
 pub mod Refusals
 pub mod Ending
 pub mod Numbers

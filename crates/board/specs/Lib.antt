@@ -9,3 +9,4 @@ pub mod Claim
 pub mod Rows
 pub mod Table
 pub mod Demand1
+pub mod Demand2

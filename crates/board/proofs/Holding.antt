@@ -1,0 +1,116 @@
+-- An image that passes refusal 11 is as an idle record of a run has it, whoever made the record.
+use mathlib.Core.Path.{_≡_, refl, sym, ap, subst, _∙_}
+use mathlib.Core.List.{List, [], _∷_, _++_}
+use mathlib.Core.Option.{Option, none, some}
+use mathlib.Core.Bool.{Bool, true, false, _&&_, _||_}
+use Prim.Native.Nat.{ℕ, zero, suc, _+_, _*_, _≤_, _<_}
+use native.Mathlib.Omega.{arith}
+use lib.Dec.{eqb, ltb, leb}
+use lib.ListN.{length, replicate}
+use borrow.Author.Tests.{eqb-true, leb-true, ltb-true}
+use Rattle.flash.specs.Bytes.{Bytes, allFF}
+use Rattle.flash.specs.Flash.{blocks, blockNumbers, block, sizeOf}
+use Rattle.flash.proofs.Cases.{on-test, and-left, and-right}
+use Rattle.flash.proofs.Blank.{all-ff}
+use Rattle.flash.proofs.Image.{length-block, bytes-block}
+use Rattle.frame.specs.Frame.{Frame, endLen}
+use Rattle.frame.specs.Reader.{Tail, clean, cut, bad}
+use Rattle.journal.specs.Replay.{replay}
+use Rattle.journal.specs.Block.{BlockState, blank, inProgress, valid, foreign, blockState}
+use Rattle.journal.specs.Room.{claimed, openHosts}
+use Rattle.journal.proofs.States.{valid-inv}
+use Rattle.board.specs.declared.Record.{Record}
+use Rattle.board.specs.Record.{idle}
+use Rattle.board.specs.Mount.{endOf}
+use Rattle.board.specs.Queue.{Held, held, heldBy, heldIn, heldIf, fitsRecord, sameImage, othersBlank}
+use Rattle.board.proofs.Images.{Sized, size-of, sized-block}
+use Rattle.board.proofs.Invariant.{Others, Ready}
+
+-- what a check that passed has seen
+record Passed (s : ℕ) (img : List ℕ) (r : Record) (x : Held) : Type 0 where
+  same : sameImage img r ≡ true
+  is-valid : blockState (block s (r .block) img) ≡ valid (x .time) (x .frames) clean
+  fits : fitsRecord s (r .end) (x .frames) ≡ true
+
+held-if : (b : Bool) (t : ℕ) (fs : List Frame) (x : Held) → heldIf b t fs ≡ some x → (b ≡ true) × (record { time = t; frames = fs } ≡ x)
+held-if true t fs x e = (refl, cc)
+held-if false t fs x e = let z : _≡_ {A = ℕ} 0 1 = cc in absurd (omega arith)
+
+record Inside (s e : ℕ) (b : BlockState) (x : Held) : Type 0 where
+  is-valid : b ≡ valid (x .time) (x .frames) clean
+  fits : fitsRecord s e (x .frames) ≡ true
+
+inside-clean : (s e t : ℕ) (fs : List Frame) (x : Held) → heldIf (fitsRecord s e fs) t fs ≡ some x → Inside s e (valid t fs clean) x
+inside-clean s e t fs x q =
+    let y : (fitsRecord s e fs ≡ true) × (record { time = t; frames = fs } ≡ x) = held-if (fitsRecord s e fs) t fs x q in
+    subst (λ (w : Held). Inside s e (valid t fs clean) w) (y .1) (record { is-valid = refl; fits = y .0 })
+
+held-in : (s e : ℕ) (b : BlockState) (x : Held) → heldIn s e b ≡ some x → Inside s e b x
+held-in s e blank x q = let z : _≡_ {A = ℕ} 0 1 = cc in absurd (omega arith)
+held-in s e inProgress x q = let z : _≡_ {A = ℕ} 0 1 = cc in absurd (omega arith)
+held-in s e (valid t fs clean) x q = inside-clean s e t fs x q
+held-in s e (valid t fs (cut n)) x q = let z : _≡_ {A = ℕ} 0 1 = cc in absurd (omega arith)
+held-in s e (valid t fs (bad f)) x q = let z : _≡_ {A = ℕ} 0 1 = cc in absurd (omega arith)
+held-in s e (foreign f) x q = let z : _≡_ {A = ℕ} 0 1 = cc in absurd (omega arith)
+
+held-by : (b : Bool) (img : List ℕ) (r : Record) (x : Held) → heldBy b img r ≡ some x
+    → (b ≡ true) × Inside (sizeOf img) (r .end) (blockState (block (sizeOf img) (r .block) img)) x
+held-by true img r x e = (refl, held-in (sizeOf img) (r .end) (blockState (block (sizeOf img) (r .block) img)) x e)
+held-by false img r x e = let z : _≡_ {A = ℕ} 0 1 = cc in absurd (omega arith)
+
+passed : {s : ℕ} {img : List ℕ} {r : Record} {x : Held} → Sized s img → held img r ≡ some x → Passed s img r x
+unfolding held
+passed {s} {img} {r} {x} z e =
+    let y : (sameImage img r ≡ true) × Inside (sizeOf img) (r .end) (blockState (block (sizeOf img) (r .block) img)) x = held-by (sameImage img r) img r x e in
+    let i : Inside s (r .end) (blockState (block s (r .block) img)) x =
+    subst (λ (n : ℕ). Inside n (r .end) (blockState (block n (r .block) img)) x) (size-of z) (y .1) in
+    record { same = y .0; is-valid = i .is-valid; fits = i .fits }
+
+-- "other half blank", block by block
+blank-other : (k j : ℕ) (img : List ℕ) → (j ≡ k → ⊥) → (eqb k j || allFF (block (sizeOf img) j img)) ≡ true → allFF (block (sizeOf img) j img) ≡ true
+blank-other k j img n t =
+    on-test (eqb k j) (λ e. absurd (n (sym (eqb-true k j e)))) (λ e. rw e at t)
+
+pub held-inv : {s : ℕ} {img : List ℕ} {x : Held} (r : Record) → Sized s img → Bytes img → held img r ≡ some x
+    → (y : Ready s img (idle (r .last) (r .block) (r .end))) × (y .time ≡ x .time) × (y .frames ≡ x .frames)
+held-inv {s} {img} {x} r z b e =
+    let p : Passed s img r x = passed z e in
+    let k : ℕ = r .block in
+    let long : eqb (length img) (suc (r .last)) ≡ true = and-left (eqb (length img) (suc (r .last))) (ltb k blocks && othersBlank k img blockNumbers) (p .same) in
+    let rest : (ltb k blocks && othersBlank k img blockNumbers) ≡ true = and-right (eqb (length img) (suc (r .last))) (ltb k blocks && othersBlank k img blockNumbers) (p .same) in
+    let there : k < blocks = ltb-true k blocks (and-left (ltb k blocks) (othersBlank k img blockNumbers) rest) in
+    let others : othersBlank k img blockNumbers ≡ true = and-right (ltb k blocks) (othersBlank k img blockNumbers) rest in
+    let n : length (block s k img) ≡ s = length-block s k img (sized-block k z there) in
+    let room : leb (claimed (replay (x .frames)) + endLen * openHosts (replay (x .frames) .pending)) s ≡ true =
+    and-right (eqb (endOf (x .frames)) (r .end)) (leb (claimed (replay (x .frames)) + endLen * openHosts (replay (x .frames) .pending)) s) (p .fits) in (
+      record {
+        last = r .last;
+        number = k;
+        end = r .end;
+        is = refl;
+        long = eqb-true (length img) (suc (r .last)) long;
+        there = there;
+        time = x .time;
+        frames = x .frames;
+        contents = valid-inv (block s k img) (x .time) (x .frames) clean (bytes-block s k img b) (omega (arith, z .low)) (p .is-valid);
+        ends = sym (eqb-true (endOf (x .frames)) (r .end) (and-left (eqb (endOf (x .frames)) (r .end)) (leb (claimed (replay (x .frames)) + endLen * openHosts (replay (x .frames) .pending)) s) (p .fits)));
+        room = leb-true (claimed (replay (x .frames)) + endLen * openHosts (replay (x .frames) .pending)) s room;
+        others = blanks k others;
+      },
+      refl,
+      refl,
+    )
+  where
+    one : ℕ → ℕ → Bool
+    one k j = eqb k j || allFF (block (sizeOf img) j img)
+
+    each : (k j : ℕ) → othersBlank k img blockNumbers ≡ true → j < blocks → one k j ≡ true
+    each k zero t h = and-left (one k 0) (one k 1 && true) t
+    each k (suc zero) t h = and-left (one k 1) true (and-right (one k 0) (one k 1 && true) t)
+    each k (suc (suc j)) t h = absurd (omega arith)
+
+    blanks : (k : ℕ) → othersBlank k img blockNumbers ≡ true → Others (λ j. block s j img ≡ replicate s 255) k
+    blanks k t j h m =
+        let q : allFF (block s j img) ≡ true =
+        subst (λ (w : ℕ). allFF (block w j img) ≡ true) (size-of z) (blank-other k j img m (each k j t h)) in
+        all-ff (block s j img) q ∙ ap (λ (w : ℕ). replicate w 255) (length-block s j img (sized-block j z h))
