@@ -2,25 +2,26 @@
 use mathlib.Core.Path.{_≡_, refl, sym, ap, subst, _∙_}
 use mathlib.Core.List.{List}
 use mathlib.Core.Bool.{Bool}
-use Prim.Native.Nat.{ℕ, suc, _+_, _*_, _≤_, _<_}
+use Prim.Native.Nat.{ℕ, zero, suc, _+_, _*_, _≤_, _<_}
+use native.Mathlib.Omega.{arith}
 use lib.ListN.{length, replicate}
 use Rattle.flash.specs.Flash.{applyAll, block, blocks, Write, writeAll}
 use Rattle.flash.proofs.Image.{length-block}
 use Rattle.flash.proofs.Offsets.{Below}
 use Rattle.frame.specs.Frame.{Frame, deleteLen, endLen}
 use Rattle.frame.specs.Reader.{Tail, clean}
-use Rattle.journal.specs.Replay.{Object, State, replay}
+use Rattle.journal.specs.Replay.{Object, State, replay, settledOnly}
 use Rattle.journal.specs.Block.{blockState}
 use Rattle.journal.specs.Room.{claimed, openHosts}
 use Rattle.journal.proofs.Blocks.{blank-block}
 use Rattle.journal.proofs.States.{Contents}
-use Rattle.journal.proofs.Room.{kept}
+use Rattle.journal.proofs.Room.{kept, used-kept, kept-none}
 use Rattle.board.specs.declared.Record.{Record}
 use Rattle.board.specs.Record.{idle}
-use Rattle.board.specs.Mount.{endOf}
+use Rattle.board.specs.Mount.{nextBlock, endOf}
 use Rattle.board.specs.Plan.{onBlock}
 use Rattle.board.proofs.Images.{Sized, sized-as, sized-block, length-all-steps, block-writes, other-writes}
-use Rattle.board.proofs.Invariant.{Valid, Quiet, Others, Safe, one-valid, Ready}
+use Rattle.board.proofs.Invariant.{Valid, Quiet, Others, Safe, one-valid, two-valid, Ready}
 
 pub record Alone (s : ℕ) (img : List ℕ) (k t : ℕ) (fs : List Frame) (c : Tail) : Type 0 where
   pub sized : Sized s img
@@ -66,19 +67,31 @@ alone-after {s} {k} {t} {img} {fs} l st x long e room =
 
 -- ---- safe images
 
--- a mount finds the objects in block k
-pub record Keeps (s : ℕ) (fs : List Frame) (os : List Object) : Type 0 where
-  pub room : kept (replay fs) + (deleteLen + endLen) ≤ s
-  pub same : replay fs .objects ≡ os
+-- the state has these objects, with room for a delete and its commit
+pub record Keeps (s : ℕ) (st : State) (os : List Object) : Type 0 where
+  pub room : kept st + (deleteLen + endLen) ≤ s
+  pub same : st .objects ≡ os
 
-pub valid-of : {s k t : ℕ} {img : List ℕ} {fs : List Frame} {c : Tail} {os : List Object} → Contents (block s k img) t fs c → Keeps s fs os → Valid s img k os
+pub keeps-settled : {s : ℕ} {st : State} {os : List Object} → Keeps s st os → Keeps s (settledOnly st) os
+keeps-settled {s} {st} p = record { room = omega (arith, p .room, used-kept st, kept-none (settledOnly st) refl); same = p .same }
+
+abbrev pub valid-of : {s k t : ℕ} {img : List ℕ} {fs : List Frame} {c : Tail} {os : List Object} → Contents (block s k img) t fs c → Keeps s (replay fs) os
+    → Valid s img k os
 valid-of {s} {k} {t} {img} {fs} {c} x p = record { time = t; frames = fs; tail = c; contents = x; room = p .room; same = p .same }
 
 pub blank-quiet : (s : ℕ) (b : List ℕ) → b ≡ replicate s 255 → Quiet (blockState b)
 blank-quiet s b e = subst Quiet (sym (ap blockState e ∙ blank-block s)) tt
 
-pub alone-safe : {s k t : ℕ} {img : List ℕ} {fs : List Frame} {c : Tail} {os : List Object} (u : Bool) → Alone s img k t fs c → Keeps s fs os → Safe s img os u
+pub alone-safe : {s k t : ℕ} {img : List ℕ} {fs : List Frame} {c : Tail} {os : List Object} (u : Bool) → Alone s img k t fs c → Keeps s (replay fs) os
+    → Safe s img os u
 alone-safe {s} {k} {t} {img} u x p = one-valid k (x .there) (valid-of (x .contents) p) (λ j h n. blank-quiet s (block s j img) (x .others j h n))
+
+-- two valid blocks
+pub both-safe : {s : ℕ} {img : List ℕ} {os : List Object} (u : Bool) (k : ℕ) → k < blocks → (x : Valid s img k os) (y : Valid s img (nextBlock k) os)
+    → (x .time ≡ y .time → ⊥) → Safe s img os u
+both-safe u zero h x y n = two-valid x y n
+both-safe u (suc zero) h x y n = two-valid y x (λ e. n (sym e))
+both-safe u (suc (suc k)) h x y n = absurd (omega arith)
 
 -- ---- the block written to
 

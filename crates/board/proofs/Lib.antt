@@ -12,3 +12,13 @@ pub mod Ending
 pub mod Numbers
 pub mod Prefixes
 pub mod Current
+pub mod Blocks
+pub mod Pipeline
+pub mod PipelineEnd
+pub mod PipelineCopy
+pub mod PipelineJob
+pub mod Accepted
+pub mod Lengths
+pub mod Appending
+pub mod Transferring
+pub mod Framing

@@ -7,8 +7,9 @@ use lib.Dec.{ltb}
 use lib.ListN.{length, getD, take, length-map, length-append, List·getD-append}
 use lib.Seq.{take-append-le, take-append-add, getD-append-add}
 use borrow.Author.Tests.{ltb-true, ltb-false}
-use Rattle.flash.specs.Flash.{Step, program, erase, applyAll, Write, writeStep}
+use Rattle.flash.specs.Flash.{Step, erase, applyAll, Write, writeStep}
 use Rattle.flash.proofs.Cases.{on-test}
+use Rattle.flash.proofs.Offsets.{Below}
 use Rattle.board.specs.Plan.{onBlock}
 use Rattle.board.proofs.Images.{apply-append}
 
@@ -58,3 +59,8 @@ pub each-writes : (s k : ℕ) (P : Step → List ℕ → Type 0) (ws : List Writ
 each-writes s k P ws d img a j h =
     let l : j < length ws = omega (arith, length-on k ws) in
     subst₂ P (sym (getD-on k j ws (erase 0) d l)) (ap (λ (p : List Step). applyAll s p img) (sym (take-on k j ws))) (a j l)
+
+pub below-take : (s j : ℕ) (ws : List Write) → Below s ws → Below s (take j ws)
+below-take s zero ws b = tt
+below-take s (suc j) [] b = tt
+below-take s (suc j) (w ∷ ws) (h, b) = (h, below-take s j ws b)

@@ -1,0 +1,135 @@
+-- The accepted calls: the step calls of a format, of a mount and of a queue request do exactly the steps of its plan.
+use mathlib.Core.Path.{_≡_, refl, sym, ap, ap₂, subst, subst₂, _∙_}
+use mathlib.Core.List.{List, [], _∷_, _++_, append-nil, map}
+use mathlib.Core.Bool.{Bool, true}
+use Prim.Native.Nat.{ℕ, suc, _+_, _-_, _*_, _≤_, _<_}
+use native.Mathlib.Omega.{arith}
+use lib.ListN.{length, drop, length-append, length-take}
+use borrow.Author.Tests.{ltb-false}
+use Rattle.flash.specs.Flash.{Step, erase, blocks, blockNumbers, block, sizeOf, applyAll, writes}
+use Rattle.flash.proofs.Cases.{on-test}
+use Rattle.frame.specs.Frame.{Frame, encode, encodeAll, frameLen, total}
+use Rattle.frame.proofs.Encode.{length-encode, length-all}
+use Rattle.journal.specs.Replay.{State, framesOf, replay, settledOnly}
+use Rattle.journal.specs.Block.{build, headerLen}
+use Rattle.journal.specs.Room.{used, claimed}
+use Rattle.journal.specs.Index.{placesOf, sinceOf}
+use Rattle.journal.proofs.Places.{Journal}
+use Rattle.journal.proofs.Room.{frames-total, used-claimed, claimed-settled, claimed-replay}
+use Rattle.journal.proofs.Loading.{Yields, yields-none, yields-settled, yields-all}
+use Rattle.board.specs.declared.Job.{Job}
+use Rattle.board.specs.declared.Record.{Record}
+use Rattle.board.specs.Record.{allowed, noPlaces, noMarks, idle}
+use Rattle.board.specs.Step.{enterWipe}
+use Rattle.board.specs.Mount.{nextBlock, newTime, endOf, Store, needsTransfer, mountJob, formatJob}
+use Rattle.board.specs.Queue.{Held, needsRoom, appendJob}
+use Rattle.board.specs.Plan.{Follows, onBlock, formatPlan, transferIf, mountedAt, framePlan, framedAt}
+use Rattle.board.proofs.Numbers.{next-there, next-other}
+use Rattle.board.proofs.Images.{Sized, sized-of}
+use Rattle.board.proofs.Blocks.{Besides, besides-blocks, besides-kept}
+use Rattle.board.proofs.PipelineJob.{Has, follows-staying, follows-moving}
+
+-- a journal in a block lies below the block's end
+pub journal-fits : (s k : ℕ) (img : List ℕ) (fs : List Frame) → Journal (block s k img) fs → endOf fs ≤ s
+journal-fits s k img fs g =
+    let e : length (block s k img) ≡ headerLen + (total fs + length (g .rest)) =
+    ap (λ (l : List ℕ). length l) (g .split) ∙ length-append (g .head) (encodeAll fs ++ g .rest)
+    ∙ ap₂ _+_ (g .long) (length-append (encodeAll fs) (g .rest) ∙ ap (λ (n : ℕ). n + length (g .rest)) (length-all fs)) in
+    omega (arith, length-take s (drop (k * s) img))
+
+-- ---- format
+
+pub follows-format : (img : List ℕ) → allowed (length img) ≡ true → Follows img (enterWipe (formatJob img)) formatPlan (idle (length img - 1) 0 headerLen)
+unfolding writes encodeAll total
+follows-format img h =
+    let j : Job = formatJob img .job in
+    let sized : Sized (sizeOf img) img = sized-of img h in
+    follows-moving img (length img - 1) (nextBlock 0) headerLen noPlaces j 256 headerLen [] blockNumbers (omega arith) (omega arith, (omega arith, tt))
+    (record { wipe = refl; wipes = refl; size = refl }) (omega arith) (omega arith) [] refl (omega arith) (λ q. omega arith) (omega arith)
+    (yields-none (block (sizeOf img) (nextBlock 0) (applyAll (sizeOf img) (map erase blockNumbers) img)) headerLen noPlaces noMarks)
+
+-- ---- mount
+
+-- nothing is appended
+no-append : (k e : ℕ) (xs ys : List Step) → xs ++ (ys ++ onBlock k (writes e [])) ≡ xs ++ ys
+unfolding writes
+no-append k e xs ys = ap (λ (zs : List Step). xs ++ zs) (append-nil ys)
+
+pub follows-mount : (img : List ℕ) (x : Store) (ks : List ℕ) → allowed (length img) ≡ true → x .number < blocks → Besides (x .number) ks
+    → Journal (block (sizeOf img) (x .number) img) (x .frames)
+    → Follows img (enterWipe (mountJob img x ks))
+    (map erase ks ++ transferIf (needsTransfer (x .frames) (x .tail)) (x .number) (x .time) (settledOnly (replay (x .frames))))
+    (mountedAt (needsTransfer (x .frames) (x .tail)) (length img - 1) x)
+follows-mount img x ks h here others g =
+    let k : ℕ = x .number in
+    let s : ℕ = sizeOf img in
+    let l : ℕ = length img - 1 in
+    let e : ℕ = endOf (x .frames) in
+    let moves : Bool = needsTransfer (x .frames) (x .tail) in
+    let st : State = settledOnly (replay (x .frames)) in
+    let r : Record = mountJob img x ks in
+    let sized : Sized (sizeOf img) img = sized-of img h in
+    let fits : e ≤ s = journal-fits s k img (x .frames) g in
+    let has : Has (r .job) ks [] = record { wipe = refl; wipes = refl; size = refl } in
+    on-test moves
+    (λ t.
+    let same : block s k (applyAll s (map erase ks) img) ≡ block s k img = besides-kept s k ks img others in
+    let total-is : headerLen + total (framesOf st) ≡ used (replay (x .frames)) = frames-total st ∙ claimed-settled (replay (x .frames)) in
+    let end-is : headerLen + total (framesOf st) + 0 ≡ used (replay (x .frames)) = omega arith in
+    subst (λ (b : Bool). Follows img (enterWipe r) (map erase ks ++ transferIf b k (x .time) st) (mountedAt b l x)) (sym t)
+    (subst (λ (n : ℕ). Follows img (enterWipe r) (map erase ks ++ (onBlock (nextBlock k) (build n (framesOf st)) ++ (erase k ∷ []))) (mountedAt true l x))
+    (ap (λ (b : Bool). newTime b (x .time)) t)
+    (subst (λ (n : ℕ). Follows img (enterWipe r) (map erase ks ++ (onBlock (nextBlock k) (build (r .job .time) (framesOf st)) ++ (erase k ∷ []))) (idle l (nextBlock k) n)) end-is
+    (subst (λ (ys : List Step). Follows img (enterWipe r) ys (idle l (nextBlock k) (headerLen + total (framesOf st) + 0)))
+    (no-append (nextBlock k) (headerLen + total (framesOf st)) (map erase ks) (onBlock (nextBlock k) (build (r .job .time) (framesOf st)) ++ (erase k ∷ [])))
+    (follows-moving img l k e (placesOf (x .frames)) (r .job) 0 e [] ks (omega arith) (besides-blocks k ks others) has here (omega arith) (framesOf st) t
+    (next-there k here) (next-other k here)
+    (omega (arith, used-claimed (replay (x .frames)), claimed-replay (x .frames)))
+    (subst (λ (b : List ℕ). Yields b e (placesOf (x .frames)) noMarks 0 e (framesOf st)) (sym same) (yields-settled (block s k img) (x .frames) noMarks g)))))))
+    (λ t.
+    let end-is : e + 0 ≡ e = omega arith in
+    subst (λ (b : Bool). Follows img (enterWipe r) (map erase ks ++ transferIf b k (x .time) st) (mountedAt b l x)) (sym t)
+    (subst (λ (n : ℕ). Follows img (enterWipe r) (map erase ks ++ []) (idle l k n)) end-is
+    (subst (λ (ys : List Step). Follows img (enterWipe r) ys (idle l k (e + 0))) (no-append k e (map erase ks) [])
+    (follows-staying img l k e (placesOf (x .frames)) (r .job) 0 e [] ks (omega arith) (besides-blocks k ks others) has here (omega arith) t (omega arith)))))
+
+-- ---- a queue request's frame
+
+pub follows-frame : (img : List ℕ) (r : Record) (x : Held) (f : Frame) → length img ≡ suc (r .last) → r .block < blocks
+    → Journal (block (sizeOf img) (r .block) img) (x .frames) → r .end ≡ endOf (x .frames) → claimed (replay (x .frames)) + frameLen f ≤ sizeOf img
+    → Follows img (enterWipe (appendJob img r x f)) (framePlan (needsRoom img r f) (r .block) (r .end) x f)
+    (framedAt (needsRoom img r f) (r .last) (r .block) (r .end) x f)
+unfolding applyAll
+follows-frame img r x f long here g end room =
+    let k : ℕ = r .block in
+    let s : ℕ = sizeOf img in
+    let l : ℕ = r .last in
+    let e : ℕ = r .end in
+    let st : State = replay (x .frames) in
+    let fs : List Frame = framesOf st in
+    let a : Record = appendJob img r x f in
+    let header : headerLen ≤ s = omega (arith, journal-fits s k img (x .frames) g) in
+    let has : Has (a .job) [] (encode f) = record { wipe = refl; wipes = refl; size = sym (length-encode f) } in
+    on-test (needsRoom img r f)
+    (λ t.
+    let total-is : headerLen + total fs ≡ claimed st = frames-total st in
+    subst (λ (b : Bool). Follows img (enterWipe a) (framePlan b k e x f) (framedAt b l k e x f)) (sym t)
+    (subst
+    (λ (n : ℕ).
+    Follows img (enterWipe a) ((onBlock (nextBlock k) (build n fs) ++ (erase k ∷ [])) ++ onBlock (nextBlock k) (writes (claimed st) (encode f)))
+    (idle l (nextBlock k) (claimed st + frameLen f)))
+    (ap (λ (b : Bool). newTime b (x .time)) t)
+    (subst₂
+    (λ (n m : ℕ).
+    Follows img (enterWipe a) ((onBlock (nextBlock k) (build (a .job .time) fs) ++ (erase k ∷ [])) ++ onBlock (nextBlock k) (writes n (encode f)))
+    (idle l (nextBlock k) (n + m)))
+    total-is (length-encode f)
+    (follows-moving img l k e (placesOf (x .frames)) (a .job) 0 headerLen (encode f) [] long tt has here header fs t (next-there k here) (next-other k here)
+    (omega (arith, length-encode f))
+    (subst (λ (n : ℕ). Yields (block s k img) n (placesOf (x .frames)) (sinceOf (x .frames)) 0 headerLen fs) (sym end)
+    (yields-all (block s k img) (x .frames) g))))))
+    (λ t.
+    subst (λ (b : Bool). Follows img (enterWipe a) (framePlan b k e x f) (framedAt b l k e x f)) (sym t)
+    (subst (λ (m : ℕ). Follows img (enterWipe a) (onBlock k (writes e (encode f))) (idle l k (e + m))) (length-encode f)
+    (follows-staying img l k e (placesOf (x .frames)) (a .job) 0 headerLen (encode f) [] long tt has here header t
+    (omega (arith, length-encode f, ltb-false (sizeOf img) (r .end + frameLen f) t)))))

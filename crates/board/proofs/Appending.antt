@@ -1,0 +1,187 @@
+-- A frame appended to the current block: each of its bytes lands, every prefix keeps what a mount finds, and the block then has one frame more.
+use mathlib.Core.Path.{_≡_, refl, sym, ap, ap₂, subst, _∙_}
+use mathlib.Core.List.{List, [], _∷_, _++_, append-assoc, append-nil}
+use mathlib.Core.Bool.{Bool}
+use mathlib.Core.Logic.{inl}
+use Prim.Native.Nat.{ℕ, zero, suc, _+_, _-_, _≤_, _<_}
+use native.Mathlib.Omega.{arith}
+use lib.Bits.{bitAnd}
+use lib.ListN.{length, getD, take, replicate, length-take, length-replicate, getD-replicate}
+use lib.Seq.{length-take-le, getD-append-add}
+use Rattle.flash.specs.Bytes.{Bytes}
+use Rattle.flash.specs.Flash.{Step, applyAll, block, Write, write, writes, writeAll}
+use Rattle.flash.proofs.Blank.{bytes-take}
+use Rattle.flash.proofs.Programming.{and-ff, write-bytes, take-writes, length-writes, writes-at}
+use Rattle.flash.proofs.Image.{program-same}
+use Rattle.flash.proofs.Offsets.{Below, below-writes, Given, given-writes, given-at, Fresh, fresh-at, fresh-stretch, untouched}
+use Rattle.frame.specs.Frame.{Frame, encode, frameLen, encodeAll, MayStand, OfHost, nextOf}
+use Rattle.frame.specs.Reader.{clean, cut}
+use Rattle.frame.proofs.Encode.{length-encode, length-all, bytes-encode, stands-any, stands-append, encode-snoc, total-snoc}
+use Rattle.frame.proofs.Scanning.{scan-blank, scan-cut}
+use Rattle.journal.specs.Block.{validData, header}
+use Rattle.journal.specs.Replay.{Object, next, replay}
+use Rattle.journal.proofs.Blocks.{layout-size}
+use Rattle.journal.proofs.Replaying.{replay-snoc}
+use Rattle.journal.proofs.States.{Contents}
+use Rattle.journal.proofs.Building.{Lands}
+use Rattle.board.specs.Record.{idle}
+use Rattle.board.specs.Mount.{endOf}
+use Rattle.board.specs.Plan.{onBlock, appendPlan}
+use Rattle.board.proofs.Invariant.{StepLands, Safe}
+use Rattle.board.proofs.Images.{length-all-steps, block-writes}
+use Rattle.board.proofs.Prefixes.{Each, each-writes}
+use Rattle.board.proofs.Current.{Alone, After, Roomy, Keeps, block-long, alone-after, alone-safe, alone-written}
+
+-- ---- bytes after the last frame
+
+front-of : ℕ → List Frame → List ℕ
+front-of t fs = header t validData ++ encodeAll fs
+
+length-front : (t : ℕ) (fs : List Frame) → length (front-of t fs) ≡ endOf fs
+unfolding front-of
+length-front t fs = omega (arith, length-all fs)
+
+-- a block with a clean tail
+clean-block : {b : List ℕ} {t : ℕ} {fs : List Frame} → Contents b t fs clean → b ≡ front-of t fs ++ replicate (length b - endOf fs) 255
+unfolding front-of
+clean-block {b} {t} {fs} y =
+    let m : length (y .rest) ≡ length b - endOf fs = omega (arith, layout-size (y .layout)) in
+    y .layout .is
+    ∙ ap (λ (l : List ℕ). header t validData ++ (encodeAll fs ++ l)) (y .clean-is refl ∙ ap (λ (n : ℕ). replicate n 255) m)
+
+tail-ff : {b : List ℕ} {t : ℕ} {fs : List Frame} → Contents b t fs clean → (i : ℕ) → endOf fs + i < length b → getD b (endOf fs + i) 0 ≡ 255
+tail-ff {b} {t} {fs} y i h =
+    let m : ℕ = length b - endOf fs in
+    let e : endOf fs + i ≡ length (front-of t fs) + i = omega (arith, length-front t fs) in
+    ap₂ (λ (l : List ℕ) (n : ℕ). getD l n 0) (clean-block y) e ∙ getD-append-add (front-of t fs) (replicate m 255) i 0 ∙ getD-replicate m i 255 0 (omega arith)
+
+written : {b : List ℕ} {t : ℕ} {fs : List Frame} → Contents b t fs clean → (bs : List ℕ) → Bytes bs → endOf fs + length bs ≤ length b
+    → writeAll b (writes (endOf fs) bs) ≡ header t validData ++ (encodeAll fs ++ (bs ++ replicate (length b - (endOf fs + length bs)) 255))
+unfolding front-of
+written {b} {t} {fs} y bs g h =
+    let n : ℕ = length b - (endOf fs + length bs) in
+    let e : length b - endOf fs ≡ length bs + n = omega arith in
+    let is : b ≡ front-of t fs ++ (replicate (length bs + n) 255 ++ []) =
+    clean-block y ∙ ap (λ (m : ℕ). front-of t fs ++ replicate m 255) e ∙ simp append-nil in
+    ap (λ (l : List ℕ). writeAll l (writes (endOf fs) bs)) is
+    ∙ write-bytes (endOf fs) (front-of t fs) [] n bs (sym (length-front t fs)) g ∙ simp (append-nil, append-assoc)
+
+-- ---- what the block holds meanwhile and after
+
+-- the frame and where it goes: at the end of a block of s bytes
+pub record Fits (s : ℕ) (fs : List Frame) (f : Frame) : Type 0 where
+  pub host : OfHost f
+  pub legal : MayStand 256 f
+  pub short : endOf fs + frameLen f ≤ s
+
+-- some of its bytes: the tail is torn
+torn-contents : {b : List ℕ} {t : ℕ} {fs : List Frame} → Contents b t fs clean → (f : Frame) → Fits (length b) fs f → (j : ℕ) → 1 ≤ j → j < frameLen f
+    → Contents (writeAll b (writes (endOf fs) (take j (encode f)))) t fs (cut (frameLen f))
+torn-contents {b} {t} {fs} y f x j lo hi =
+    let bs : List ℕ = take j (encode f) in
+    let e : length bs ≡ j = length-take-le j (encode f) (omega (arith, length-encode f)) in
+    let n : ℕ = length b - (endOf fs + length bs) in
+    record {
+      rest = bs ++ replicate n 255;
+      layout = record {
+        is = written y bs (bytes-take j (encode f) (bytes-encode 256 f (x .legal))) (omega (arith, x .short));
+        stands = y .layout .stands;
+        time-lo = y .layout .time-lo;
+        time-hi = y .layout .time-hi;
+        size = refl;
+      };
+      reads = scan-cut (nextOf 0 fs) (endOf fs) f j n (x .host) (stands-any 256 (nextOf 0 fs) f (x .host) (x .legal)) lo hi (omega (arith, x .short));
+      okay = tt;
+      clean-is = λ q. let z : _≡_ {A = ℕ} 0 1 = cc in absurd (omega arith);
+    }
+
+-- all of them: one frame more
+whole-contents : {b : List ℕ} {t : ℕ} {fs : List Frame} → Contents b t fs clean → (f : Frame) → Fits (length b) fs f
+    → Contents (writeAll b (writes (endOf fs) (encode f))) t (fs ++ (f ∷ [])) clean
+whole-contents {b} {t} {fs} y f x =
+    let n : ℕ = length b - (endOf fs + length (encode f)) in
+    record {
+      rest = replicate n 255;
+      layout = record {
+        is = written y (encode f) (bytes-encode 256 f (x .legal)) (omega (arith, x .short, length-encode f))
+            ∙ ap (λ (l : List ℕ). header t validData ++ l) (sym (append-assoc (encodeAll fs) (encode f) (replicate n 255))
+            ∙ ap (λ (l : List ℕ). l ++ replicate n 255) (sym (encode-snoc fs f)));
+        stands = stands-append 0 fs (f ∷ []) (y .layout .stands) (stands-any 256 (nextOf 0 fs) f (x .host) (x .legal), tt);
+        time-lo = y .layout .time-lo;
+        time-hi = y .layout .time-hi;
+        size = refl;
+      };
+      reads = scan-blank (nextOf 0 (fs ++ (f ∷ []))) (endOf (fs ++ (f ∷ []))) n;
+      okay = tt;
+      clean-is = λ q. ap (λ (m : ℕ). replicate m 255) (sym (length-replicate n 255));
+    }
+
+-- ---- the plan
+
+-- a write to a byte that no earlier one went to, where 0xFF stood
+lands-fresh : (l : List ℕ) (ws : List Write) (q : ℕ) (d : Write) → Fresh ws → Given ws → q < length ws → getD l (getD ws q d .at) 0 ≡ 255
+    → Lands (writeAll l (take q ws)) (getD ws q d)
+lands-fresh l ws q d f g h e =
+    let w : Write = getD ws q d in
+    let was : getD (writeAll l (take q ws)) (w .at) 0 ≡ 255 = untouched (w .at) l (take q ws) (fresh-at ws q d f h) ∙ e in
+    record {
+      before = inl was;
+      after = program-same (writeAll l (take q ws)) (w .at) (w .byte) ∙ ap (λ (x : ℕ). bitAnd x (w .byte)) was ∙ and-ff (w .byte) (given-at ws q d g h);
+    }
+
+abbrev frameWrites : List Frame → Frame → List Write
+frameWrites fs f = writes (endOf fs) (encode f)
+
+module _ {s k t : ℕ} {img : List ℕ} {fs : List Frame} (a : Alone s img k t fs clean) (f : Frame) (x : Fits s fs f) where
+  long : length (block s k img) ≡ s
+  long = block-long k (a .sized) (a .there)
+
+  fits : Fits (length (block s k img)) fs f
+  fits = subst (λ (n : ℕ). Fits n fs f) (sym long) x
+
+  below : (j : ℕ) → Below s (writes (endOf fs) (take j (encode f)))
+  below j =
+      below-writes s (endOf fs) (take j (encode f)) (omega (arith, length-take j (encode f), length-encode f, x .short))
+
+  -- the image with j bytes of the frame
+  part-is : (j : ℕ) → onBlock k (take j (frameWrites fs f)) ≡ onBlock k (writes (endOf fs) (take j (encode f)))
+  part-is j = ap (onBlock k) (take-writes (endOf fs) j (encode f))
+
+  pub append-lands : Each s (StepLands s) (appendPlan k (endOf fs) f) img
+  append-lands = each-writes s k (StepLands s) (frameWrites fs f) (write 0 0) img go
+    where
+      go : (j : ℕ) → j < length (frameWrites fs f)
+          → Lands (block s k (applyAll s (onBlock k (take j (frameWrites fs f))) img)) (getD (frameWrites fs f) j (write 0 0))
+      go j h =
+          let l : j < length (encode f) = omega (arith, length-writes (endOf fs) (encode f)) in
+          let place : getD (frameWrites fs f) j (write 0 0) .at ≡ endOf fs + j = ap (λ (w : Write). w .at) (writes-at (endOf fs) (encode f) j (write 0 0) l) in
+          let was : getD (block s k img) (endOf fs + j) 0 ≡ 255 = tail-ff (a .contents) j (omega (arith, fits .short, length-encode f)) in
+          subst (λ (b : List ℕ). Lands b (getD (frameWrites fs f) j (write 0 0)))
+          (sym
+          (ap (λ (q : List Step). block s k (applyAll s q img)) (part-is j)
+          ∙ block-writes s k (writes (endOf fs) (take j (encode f))) img (below j)
+          ∙ ap (writeAll (block s k img)) (sym (take-writes (endOf fs) j (encode f)))))
+          (lands-fresh (block s k img) (frameWrites fs f) j (write 0 0) (fresh-stretch (endOf fs) (encode f))
+          (given-writes (endOf fs) (encode f) (bytes-encode 256 f (x .legal))) h (ap (λ (n : ℕ). getD (block s k img) n 0) place ∙ was))
+
+  pub append-safe : {os : List Object} (u : Bool) → Keeps s (replay fs) os → Each s (λ y i. Safe s i os u) (appendPlan k (endOf fs) f) img
+  unfolding applyAll
+  append-safe {os} u p = each-writes s k (λ y i. Safe s i os u) (frameWrites fs f) (write 0 0) img go
+    where
+      go : (j : ℕ) → j < length (frameWrites fs f) → Safe s (applyAll s (onBlock k (take j (frameWrites fs f))) img) os u
+      go zero h = alone-safe u a p
+      go (suc j) h =
+          subst (λ (q : List Step). Safe s (applyAll s q img) os u) (sym (part-is (suc j)))
+          (alone-safe u (alone-written (writes (endOf fs) (take (suc j) (encode f))) a (below (suc j))
+          (torn-contents (a .contents) f fits (suc j) (omega arith) (omega (arith, length-writes (endOf fs) (encode f), length-encode f)))) p)
+
+  pub append-alone : Alone s (applyAll s (appendPlan k (endOf fs) f) img) k t (fs ++ (f ∷ [])) clean
+  append-alone =
+      alone-written (frameWrites fs f) a (below-writes s (endOf fs) (encode f) (omega (arith, length-encode f, x .short))) (whole-contents (a .contents) f fits)
+
+  pub append-ends : (l : ℕ) → length img ≡ suc l → Roomy s (next (replay fs) f)
+      → After s (applyAll s (appendPlan k (endOf fs) f) img) (idle l k (endOf fs + frameLen f)) (next (replay fs) f)
+  append-ends l e room =
+      let end : endOf (fs ++ (f ∷ [])) ≡ endOf fs + frameLen f = omega (arith, total-snoc fs f) in
+      subst (λ (n : ℕ). After s (applyAll s (appendPlan k (endOf fs) f) img) (idle l k n) (next (replay fs) f)) end
+      (alone-after l (next (replay fs) f) append-alone (length-all-steps s (appendPlan k (endOf fs) f) img ∙ e) (replay-snoc fs f) room)

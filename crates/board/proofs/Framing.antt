@@ -1,0 +1,116 @@
+-- The job of a put, delete, commit or abort, with a transfer first or without: each step lands, every prefix keeps what a mount finds,
+-- and the record is then idle with the frame in its block.
+use mathlib.Core.Path.{_≡_, refl, sym, ap, subst, subst₂, subst₃, _∙_}
+use mathlib.Core.List.{List}
+use mathlib.Core.Bool.{Bool, true, false}
+use Prim.Native.Nat.{ℕ, suc, _+_, _≤_, _<_}
+use native.Mathlib.Omega.{arith}
+use lib.ListN.{length}
+use borrow.Author.Tests.{ltb-false}
+use Rattle.flash.specs.Flash.{Step, applyAll, sizeOf}
+use Rattle.frame.specs.Frame.{Frame, frameLen, MayStand, OfHost}
+use Rattle.frame.specs.Reader.{clean}
+use Rattle.journal.specs.Block.{lastTime}
+use Rattle.journal.specs.Replay.{Object, State, next, replay, framesOf}
+use Rattle.journal.specs.Room.{claimed}
+use Rattle.journal.proofs.Replaying.{replay-framesOf, stands-replay}
+use Rattle.journal.proofs.Room.{frames-total}
+use Rattle.board.specs.declared.Record.{Record}
+use Rattle.board.specs.Record.{idle}
+use Rattle.board.specs.Mount.{nextBlock, endOf}
+use Rattle.board.specs.Queue.{Held, needsRoom}
+use Rattle.board.specs.Plan.{transferPlan, appendPlan, framePlan, framedAt}
+use Rattle.board.proofs.Images.{Sized, size-of, apply-append, length-all-steps}
+use Rattle.board.proofs.Invariant.{StepLands, Safe, Ready}
+use Rattle.board.proofs.Prefixes.{Each, each-append}
+use Rattle.board.proofs.Current.{Alone, After, Roomy, Keeps, ready-alone}
+use Rattle.board.proofs.Appending.{Fits, append-lands, append-safe, append-ends}
+use Rattle.board.proofs.Transferring.{Moves, transfer-lands, transfer-safe, transfer-alone}
+
+-- the image is as an idle record says, and what its block holds is this
+pub record Holds (s : ℕ) (img : List ℕ) (r : Record) (x : Held) : Type 0 where
+  pub alone : Alone s img (r .block) (x .time) (x .frames) clean
+  pub ends : endOf (x .frames) ≡ r .end
+  pub long : length img ≡ suc (r .last)
+
+pub ready-holds : {s : ℕ} {img : List ℕ} {r : Record} {x : Held} → Sized s img → (y : Ready s img r) → y .time ≡ x .time → y .frames ≡ x .frames
+    → Holds s img r x
+ready-holds {s} {img} {r} {x} z y t e =
+    record {
+      alone = subst₃ (λ (k n : ℕ) (fs : List Frame). Alone s img k n fs clean) (sym (ap (λ (q : Record). q .block) (y .is))) t e (ready-alone z y);
+      ends = sym (ap (λ (q : Record). q .end) (y .is) ∙ y .ends ∙ ap endOf e);
+      long = y .long ∙ ap suc (sym (ap (λ (q : Record). q .last) (y .is)));
+    }
+
+-- a frame that a request may append
+pub record Appendable (s : ℕ) (img : List ℕ) (r : Record) (x : Held) (f : Frame) : Type 0 where
+  pub host : OfHost f
+  pub legal : MayStand 256 f
+  pub fits : claimed (replay (x .frames)) + frameLen f ≤ s
+  pub young : needsRoom img r f ≡ true → x .time < lastTime
+
+module _ {s : ℕ} {img : List ℕ} {r : Record} {x : Held} {f : Frame} (h : Holds s img r x) (y : Appendable s img r x f) where
+  abbrev st : State
+  st = replay (x .frames)
+
+  abbrev planned : Bool → List Step
+  planned b = framePlan b (r .block) (r .end) x f
+
+  abbrev moved : List ℕ
+  moved = applyAll s (transferPlan (r .block) (x .time) st) img
+
+  -- no transfer: the frame fits where it goes
+  here : needsRoom img r f ≡ false → Fits s (x .frames) f
+  here e =
+      let l : r .end + frameLen f ≤ sizeOf img = ltb-false (sizeOf img) (r .end + frameLen f) e in
+      record { host = y .host; legal = y .legal; short = omega (arith, h .ends, size-of (h .alone .sized)) }
+
+  -- a transfer: it fits after what was moved
+  moves : needsRoom img r f ≡ true → Moves s (x .time) st
+  moves e = record { young = y .young e; stands = stands-replay (x .frames) (h .alone .contents .layout .stands); short = omega (arith, y .fits) }
+
+  after : Fits s (framesOf st) f
+  after = record { host = y .host; legal = y .legal; short = omega (arith, y .fits, frames-total st) }
+
+  new : needsRoom img r f ≡ true → Alone s moved (nextBlock (r .block)) (suc (x .time)) (framesOf st) clean
+  new e = transfer-alone (h .alone) st (moves e)
+
+  -- what holds at every step, either way
+  each : (P : Step → List ℕ → Type 0) → (needsRoom img r f ≡ false → Each s P (appendPlan (r .block) (endOf (x .frames)) f) img)
+      → (needsRoom img r f ≡ true → Each s P (transferPlan (r .block) (x .time) st) img)
+      → (needsRoom img r f ≡ true → Each s P (appendPlan (nextBlock (r .block)) (endOf (framesOf st)) f) moved) → Each s P (planned (needsRoom img r f)) img
+  each P one first second = go (needsRoom img r f) refl
+    where
+      go : (b : Bool) → needsRoom img r f ≡ b → Each s P (planned b) img
+      go false e = subst (λ (n : ℕ). Each s P (appendPlan (r .block) n f) img) (h .ends) (one e)
+      go true e =
+          each-append s P (transferPlan (r .block) (x .time) st) (appendPlan (nextBlock (r .block)) (claimed st) f) img (first e)
+          (subst (λ (n : ℕ). Each s P (appendPlan (nextBlock (r .block)) n f) moved) (frames-total st) (second e))
+
+  pub frame-lands : Each s (StepLands s) (framePlan (needsRoom img r f) (r .block) (r .end) x f) img
+  frame-lands =
+      each (StepLands s) (λ e. append-lands (h .alone) f (here e)) (λ e. transfer-lands (h .alone) st (moves e)) (λ e. append-lands (new e) f after)
+
+  pub frame-safe : {os : List Object} (u : Bool) → Keeps s (replay (x .frames)) os
+      → Each s (λ w i. Safe s i os u) (framePlan (needsRoom img r f) (r .block) (r .end) x f) img
+  frame-safe {os} u p =
+      each (λ w i. Safe s i os u) (λ e. append-safe (h .alone) f (here e) u p) (λ e. transfer-safe (h .alone) st (moves e) u p p)
+      (λ e. append-safe (new e) f after u (subst (λ (z : State). Keeps s z os) (sym (replay-framesOf st)) p))
+
+  pub frame-ends : Roomy s (next (replay (x .frames)) f)
+      → After s (applyAll s (framePlan (needsRoom img r f) (r .block) (r .end) x f) img) (framedAt (needsRoom img r f) (r .last) (r .block) (r .end) x f)
+      (next (replay (x .frames)) f)
+  frame-ends room = go (needsRoom img r f) refl
+    where
+      go : (b : Bool) → needsRoom img r f ≡ b → After s (applyAll s (planned b) img) (framedAt b (r .last) (r .block) (r .end) x f) (next st f)
+      go false e =
+          subst (λ (n : ℕ). After s (applyAll s (appendPlan (r .block) n f) img) (idle (r .last) (r .block) (n + frameLen f)) (next st f)) (h .ends)
+          (append-ends (h .alone) f (here e) (r .last) (h .long) room)
+      go true e =
+          let k : ℕ = nextBlock (r .block) in
+          let long : length moved ≡ suc (r .last) = length-all-steps s (transferPlan (r .block) (x .time) st) img ∙ h .long in
+          subst (λ (i : List ℕ). After s i (idle (r .last) k (claimed st + frameLen f)) (next st f))
+          (sym (apply-append s (transferPlan (r .block) (x .time) st) (appendPlan k (claimed st) f) img))
+          (subst₂ (λ (n : ℕ) (z : State). After s (applyAll s (appendPlan k n f) moved) (idle (r .last) k (n + frameLen f)) (next z f)) (frames-total st)
+          (replay-framesOf st)
+          (append-ends (new e) f after (r .last) long (subst (λ (z : State). Roomy s (next z f)) (sym (replay-framesOf st)) room)))

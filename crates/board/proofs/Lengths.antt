@@ -1,0 +1,69 @@
+-- How many steps each plan has.
+use mathlib.Core.Path.{_≡_, refl, ap, _∙_}
+use mathlib.Core.List.{List, [], _∷_, _++_, map}
+use mathlib.Core.Bool.{Bool, true, false}
+use Prim.Native.Nat.{ℕ, suc, _+_}
+use native.Mathlib.Omega.{arith}
+use lib.ListN.{length, length-append, length-map}
+use Rattle.flash.specs.Flash.{Step, erase, Write, writeStep, writes}
+use Rattle.flash.proofs.Programming.{length-writes}
+use Rattle.frame.specs.Frame.{Frame, encode, encodeAll, frameLen, total}
+use Rattle.frame.proofs.Encode.{length-encode, length-all}
+use Rattle.journal.specs.Replay.{State, framesOf, settledOnly, replay}
+use Rattle.journal.specs.Block.{build, sealWrites, headerLen}
+use Rattle.journal.specs.Room.{used, claimed}
+use Rattle.journal.proofs.Room.{frames-total, claimed-settled}
+use Rattle.board.specs.Mount.{nextBlock, Found, Store, wipeList, needsTransfer}
+use Rattle.board.specs.Queue.{Held}
+use Rattle.board.specs.Plan.{onBlock, transferPlan, formatPlan, appendPlan, transferIf, mountPlan, framePlan}
+
+-- ten writes for the header, one for each byte of a frame
+length-build : (time : ℕ) (fs : List Frame) → length (build time fs) ≡ 10 + total fs
+unfolding writes
+length-build time fs =
+    let e : length (writes headerLen (encodeAll fs) ++ sealWrites time) ≡ total fs + 5 =
+    length-append (writes headerLen (encodeAll fs)) (sealWrites time) ∙ ap (λ (n : ℕ). n + 5) (length-writes headerLen (encodeAll fs) ∙ length-all fs) in
+    omega arith
+
+-- "C - 5 steps"
+pub length-transfer : (k time : ℕ) (st : State) → length (transferPlan k time st) + 5 ≡ claimed st
+length-transfer k time st =
+    let ws : List Write = build (suc time) (framesOf st) in
+    let e : length (transferPlan k time st) ≡ length ws + 1 =
+    length-append (onBlock (nextBlock k) ws) (erase k ∷ []) ∙ ap (λ (n : ℕ). n + 1) (length-map ws (writeStep (nextBlock k))) in
+    omega (arith, length-build (suc time) (framesOf st), frames-total st)
+
+pub length-plan-append : (k end : ℕ) (f : Frame) → length (appendPlan k end f) ≡ frameLen f
+length-plan-append k end f = length-map (writes end (encode f)) (writeStep k) ∙ length-writes end (encode f) ∙ length-encode f
+
+pub length-format : length formatPlan ≡ 12
+unfolding writes encodeAll
+length-format = refl
+
+pub length-frame-moved : (k end : ℕ) (x : Held) (f : Frame) → length (framePlan true k end x f) + 5 ≡ claimed (replay (x .frames)) + frameLen f
+length-frame-moved k end x f =
+    let ts : List Step = transferPlan k (x .time) (replay (x .frames)) in
+    let ys : List Step = appendPlan (nextBlock k) (claimed (replay (x .frames))) f in
+    omega (arith, length-append ts ys, length-transfer k (x .time) (replay (x .frames)), length-plan-append (nextBlock k) (claimed (replay (x .frames))) f)
+
+pub length-frame-stayed : (k end : ℕ) (x : Held) (f : Frame) → length (framePlan false k end x f) ≡ frameLen f
+length-frame-stayed k end x f = length-plan-append k end f
+
+-- a mount's wipes, with a transfer of the settled objects or without
+wipes-then : (ks : List ℕ) (xs : List Step) → length (map erase ks ++ xs) ≡ length ks + length xs
+wipes-then ks xs = length-append (map erase ks) xs ∙ ap (λ (n : ℕ). n + length xs) (length-map ks erase)
+
+pub length-mount-moved : (xs : List Found) (x : Store) → needsTransfer (x .frames) (x .tail) ≡ true
+    → length (mountPlan xs x) + 5 ≡ length (wipeList (x .number) xs) + used (replay (x .frames))
+length-mount-moved xs x t =
+    let ks : List ℕ = wipeList (x .number) xs in
+    let st : State = settledOnly (replay (x .frames)) in
+    let e : length (mountPlan xs x) ≡ length (map erase ks ++ transferPlan (x .number) (x .time) st) =
+    ap (λ (b : Bool). length (map erase ks ++ transferIf b (x .number) (x .time) st)) t in
+    omega (arith, wipes-then ks (transferPlan (x .number) (x .time) st), length-transfer (x .number) (x .time) st, claimed-settled (replay (x .frames)))
+
+pub length-mount-stayed : (xs : List Found) (x : Store) → needsTransfer (x .frames) (x .tail) ≡ false
+    → length (mountPlan xs x) ≡ length (wipeList (x .number) xs)
+length-mount-stayed xs x t =
+    let ks : List ℕ = wipeList (x .number) xs in
+    ap (λ (b : Bool). length (map erase ks ++ transferIf b (x .number) (x .time) (settledOnly (replay (x .frames))))) t ∙ wipes-then ks [] ∙ omega arith

@@ -1,0 +1,187 @@
+-- The first stages of a transfer: the new block opened and the frames copied.
+use mathlib.Core.Path.{_≡_, refl, sym, ap, ap₂, subst, _∙_}
+use mathlib.Core.List.{List, [], _∷_, _++_, append-assoc, map}
+use mathlib.Core.Option.{Option, none, some}
+use mathlib.Core.Bool.{Bool, true, cond}
+use Prim.Native.Nat.{ℕ, zero, suc, _+_, _-_, _/_, _≤_, _<_}
+use native.Mathlib.Omega.{arith}
+use lib.ListN.{length, getD, length-map, List·getD-map}
+use borrow.Author.Tests.{lt-ltb, le-ltb}
+use Rattle.flash.specs.Flash.{Step, program, blocks, block, within, applyAll, Write, write, writeStep, writes}
+use Rattle.flash.proofs.Programming.{writes-append}
+use Rattle.frame.specs.Frame.{Frame, encode, encodeAll, frameLen, total}
+use Rattle.frame.proofs.Encode.{length-encode}
+use Rattle.journal.specs.Block.{openWrites, openWrite, markWrites, stateAt, inTransfer, headerLen}
+use Rattle.journal.specs.Index.{Load, load, nextLoad}
+use Rattle.journal.proofs.Loading.{Yields}
+use Rattle.board.specs.declared.Stage.{Stage}
+use Rattle.board.specs.declared.Stage.the-variants.{Open, Copy}
+use Rattle.board.specs.declared.Job.{Job}
+use Rattle.board.specs.declared.Record.{Record}
+use Rattle.board.specs.Record.{buffer, cursor, idle}
+use Rattle.board.specs.Step.{enter, loadOr, enterCopy, advance}
+use Rattle.board.specs.Plan.{Follows, onBlock}
+use Rattle.board.proofs.Images.{length-all-steps}
+use Rattle.board.proofs.Pipeline.{Runs, follows-stage, kept-stage}
+use Rattle.board.proofs.PipelineEnd.{jobAt, onward-on, onward-off, length-steps, step-inside, buffered, on-block, marks-inside, sealing, follows-seal}
+
+pub map-append : {A B : Type 0} (f : A → B) (xs ys : List A) → map f (xs ++ ys) ≡ map f xs ++ map f ys
+map-append f [] ys = refl
+map-append f (x ∷ xs) ys = ap (λ (zs : List _). f x ∷ zs) (map-append f xs ys)
+
+open-at : (i : ℕ) → i < markWrites → openWrite i .at < headerLen
+unfolding writes
+open-at zero h = omega arith
+open-at (suc zero) h = omega arith
+open-at (suc (suc zero)) h = omega arith
+open-at (suc (suc (suc zero))) h = omega arith
+open-at (suc (suc (suc (suc zero)))) h = omega arith
+open-at (suc (suc (suc (suc (suc i))))) h = absurd (omega arith)
+
+length-open : (k : ℕ) → length (onBlock k openWrites) ≡ markWrites
+unfolding writes
+length-open k = refl
+
+-- the steps that copy frames, with others behind them
+copy-append : (k a n : ℕ) (bs cs : List ℕ) (xs : List Step) → length bs ≡ n
+    → onBlock k (writes a (bs ++ cs)) ++ xs ≡ onBlock k (writes a bs) ++ (onBlock k (writes (a + n) cs) ++ xs)
+copy-append k a n bs cs xs q =
+    ap (λ (ws : List Write). onBlock k ws ++ xs) (writes-append a bs cs ∙ ap (λ (m : ℕ). writes a bs ++ writes (a + m) cs) q)
+    ∙ ap (λ (ys : List Step). ys ++ xs) (map-append (writeStep k) (writes a bs) (writes (a + n) cs))
+    ∙ append-assoc (onBlock k (writes a bs)) (onBlock k (writes (a + n) cs)) xs
+
+copy-cons : (k a : ℕ) (f : Frame) (fs : List Frame) (xs : List Step)
+    → onBlock k (writes a (encodeAll (f ∷ fs))) ++ xs ≡ onBlock k (writes a (encode f)) ++ (onBlock k (writes (a + frameLen f) (encodeAll fs)) ++ xs)
+unfolding encodeAll
+copy-cons k a f fs xs = copy-append k a (frameLen f) (encode f) (encodeAll fs) xs (length-encode f)
+
+copy-nil : (k a : ℕ) (xs : List Step) → onBlock k (writes a (encodeAll [])) ++ xs ≡ xs
+unfolding encodeAll writes
+copy-nil k a xs = refl
+
+total-nil : total [] ≡ 0
+unfolding total
+total-nil = refl
+
+total-cons : (f : Frame) (fs : List Frame) → total (f ∷ fs) ≡ frameLen f + total fs
+unfolding total
+total-cons f fs = refl
+
+module _ (l s : ℕ) (half : suc l / blocks ≡ s) (k e : ℕ) (places : List ℕ) (j : Job) (bytes : List ℕ) (size : j .size ≡ length bytes) (here : k < blocks)
+    (there : j .target < blocks) (apart : j .target ≡ k → ⊥) (header : headerLen ≤ s) where
+  abbrev at : Stage → ℕ → ℕ → ℕ → ℕ → ℕ → ℕ → List ℕ → Record
+  at st i a d so z o u = jobAt l k e places j (buffer bytes) st (cursor i a d so z o) u
+
+  -- the next frame to copy, as the record finds it
+  next-frame : (b img : List ℕ) (st : Stage) (i a d so z o : ℕ) (u : List ℕ) (x : Option Load) → length img ≡ suc l → block s k img ≡ b
+      → nextLoad b e places (j .since) d so ≡ x → enterCopy img (at st i a d so z o u) ≡ loadOr (at st i a d so z o u) x
+  unfolding enterCopy
+  next-frame b img st i a d so z o u x q h n =
+      let r : Record = at st i a d so z o u in
+      ap (λ (m : ℕ). loadOr r (nextLoad (block (m / blocks) k img) e places (j .since) d so)) q
+      ∙ ap (λ (m : ℕ). loadOr r (nextLoad (block m k img) e places (j .since) d so)) half
+      ∙ ap (λ (y : List ℕ). loadOr r (nextLoad y e places (j .since) d so)) h ∙ ap (loadOr r) n
+
+  copies : (bs : List ℕ) (a d so n : ℕ) → length bs ≡ n → a + n ≤ s
+      → Runs l s Copy (λ o. at Copy 0 (a + o) d so n o (buffer bs)) (λ img. enterCopy img (at Copy 0 (a + n) d so n n (buffer bs)))
+      (onBlock (j .target) (writes a bs)) (program (j .target) 0 0)
+  unfolding advance
+  copies bs a d so n q room =
+      record {
+        phase = λ i. refl;
+        last = λ i. refl;
+        acts = λ i h. buffered (j .target) a bs i h;
+        inside = step-inside s (j .target) a bs there (omega arith);
+        goes = λ i img h.
+            let c : Record = at Copy 0 (suc (a + i)) d so n (suc i) (buffer bs) in
+            let e′ : suc (a + i) ≡ a + suc i = omega arith in
+            ap (λ (b : Bool). cond b c (enterCopy img c)) (lt-ltb (suc i) n (omega (arith, length-steps (j .target) a bs)))
+            ∙ ap (λ (m : ℕ). at Copy 0 m d so n (suc i) (buffer bs)) e′;
+        ends = λ i img h.
+            let c : Record = at Copy 0 (suc (a + i)) d so n (suc i) (buffer bs) in
+            let e′ : suc (a + i) ≡ a + n = omega (arith, length-steps (j .target) a bs) in
+            let o′ : suc i ≡ n = omega (arith, length-steps (j .target) a bs) in
+            ap (λ (b : Bool). cond b c (enterCopy img c)) (le-ltb (suc i) n (omega (arith, length-steps (j .target) a bs)))
+            ∙ ap₂ (λ (m m′ : ℕ). enterCopy img (at Copy 0 m d so n m′ (buffer bs))) e′ o′;
+      }
+
+  -- the copying leaves the block that is copied
+  source-kept : (ws : List Write) (w : Write) (img : List ℕ) → ((i : ℕ) → i < length (onBlock (j .target) ws)
+      → within s (getD (onBlock (j .target) ws) i (writeStep (j .target) w)) ≡ true) → block s k (applyAll s (onBlock (j .target) ws) img) ≡ block s k img
+  source-kept ws w img h =
+      kept-stage s (onBlock (j .target) ws) (writeStep (j .target) w) h k (λ i q. apart (sym (q ∙ on-block (j .target) ws i w))) img
+
+  copy-one : (b bs : List ℕ) (a d so n : ℕ) (img : List ℕ) (tail : List Step) (z : Record) → length img ≡ suc l → block s k img ≡ b → length bs ≡ n → 0 < n
+      → a + n ≤ s
+      → ((img′ : List ℕ) → length img′ ≡ suc l → block s k img′ ≡ b → Follows img′ (enterCopy img′ (at Copy 0 (a + n) d so n n (buffer bs))) tail z)
+      → Follows img (at Copy 0 a d so n 0 (buffer bs)) (onBlock (j .target) (writes a bs) ++ tail) z
+  copy-one b bs a d so n img tail z q h w p room f =
+      let xs : List Step = onBlock (j .target) (writes a bs) in
+      let a′ : a + 0 ≡ a = omega arith in
+      subst (λ (m : ℕ). Follows img (at Copy 0 m d so n 0 (buffer bs)) (xs ++ tail) z) a′
+      (follows-stage l s Copy (λ o. at Copy 0 (a + o) d so n o (buffer bs)) (λ img′. enterCopy img′ (at Copy 0 (a + n) d so n n (buffer bs))) xs
+      (program (j .target) 0 0) half (copies bs a d so n w room) tail z (n - 1) img (omega (arith, length-steps (j .target) a bs)) q
+      (f (applyAll s xs img) (length-all-steps s xs img ∙ q)
+      (source-kept (writes a bs) (write 0 0) img (copies bs a d so n w room .inside) ∙ h)))
+
+  follows-copy : (b : List ℕ) (fs : List Frame) (st : Stage) (i a d so z o : ℕ) (u img : List ℕ) → length img ≡ suc l → block s k img ≡ b
+      → Yields b e places (j .since) d so fs → a + total fs + length bytes ≤ s
+      → Follows img (enterCopy img (at st i a d so z o u)) (onBlock (j .target) (writes a (encodeAll fs)) ++ sealing j k bytes (a + total fs))
+      (idle l (j .target) (a + total fs + length bytes))
+  follows-copy b [] st i a d so z o u img q h y room =
+      let t : a ≡ a + total [] = omega (arith, total-nil) in
+      let r : Record = at st i a d so z o u in
+      subst (λ (xs : List Step). Follows img (enterCopy img r) xs (idle l (j .target) (a + total [] + length bytes)))
+      (sym (copy-nil (j .target) a (sealing j k bytes (a + total []))))
+      (subst (λ (n : ℕ). Follows img (enterCopy img r) (sealing j k bytes n) (idle l (j .target) (n + length bytes))) t
+      (subst (λ (x : Record). Follows img x (sealing j k bytes a) (idle l (j .target) (a + length bytes)))
+      (sym (next-frame b img st i a d so z o u none q h y))
+      (follows-seal l s half k e places j bytes size here there st i a d so z o u img q header (omega arith))))
+  follows-copy b (f ∷ fs) st i a d so z o u img q h (d′, so′, n, low, end, y) room =
+      let m : ℕ = frameLen f in
+      let t : a + m + total fs ≡ a + total (f ∷ fs) = omega (arith, total-cons f fs) in
+      let r : Record = at st i a d so z o u in
+      let tail : List Step = onBlock (j .target) (writes (a + m) (encodeAll fs)) ++ sealing j k bytes (a + m + total fs) in
+      let done : Record = idle l (j .target) (a + m + total fs + length bytes) in
+      subst
+      (λ (x : ℕ).
+      Follows img (enterCopy img r) (onBlock (j .target) (writes a (encodeAll (f ∷ fs))) ++ sealing j k bytes x) (idle l (j .target) (x + length bytes))) t
+      (subst (λ (xs : List Step). Follows img (enterCopy img r) xs done) (sym (copy-cons (j .target) a f fs (sealing j k bytes (a + m + total fs))))
+      (subst (λ (x : Record). Follows img x (onBlock (j .target) (writes a (encode f)) ++ tail) done)
+      (sym (next-frame b img st i a d so z o u (some (load f d′ so′)) q h n))
+      (copy-one b (encode f) a d′ so′ m img tail done q h (length-encode f) (omega arith) (omega arith)
+      (λ img′ q′ h′. follows-copy b fs Copy 0 (a + m) d′ so′ m m (buffer (encode f)) img′ q′ h′ y (omega arith)))))
+
+  -- ---- the block opened
+
+  opens : (a d so z o : ℕ) (u : List ℕ)
+      → Runs l s Open (λ i. at Open i a d so z o u) (λ img. enterCopy img (at Open 4 a d so z o u)) (onBlock (j .target) openWrites)
+      (writeStep (j .target) (write stateAt inTransfer))
+  unfolding advance
+  opens a d so z o u =
+      let r : ℕ → Record = λ i. at Open i a d so z o u in
+      record {
+        phase = λ i. refl;
+        last = λ i. refl;
+        acts = λ i h. sym (List·getD-map (writeStep (j .target)) openWrites i (write stateAt inTransfer));
+        inside = marks-inside s (j .target) openWrites (write stateAt inTransfer) there
+            (λ i h. omega (arith, open-at i (omega (arith, length-map openWrites (writeStep (j .target)), length-open (j .target)))));
+        goes = λ i img h. onward-on Open markWrites (r i) (enterCopy img (r i)) (omega (arith, length-open (j .target)));
+        ends = λ i img h.
+            let n : i ≡ 4 = omega (arith, length-open (j .target)) in
+            onward-off Open markWrites (r i) (enterCopy img (r i)) (omega arith) ∙ ap (λ (m : ℕ). enterCopy img (r m)) n;
+      }
+
+  pub follows-open : (b : List ℕ) (fs : List Frame) (st : Stage) (i a d so z o : ℕ) (u img : List ℕ) → length img ≡ suc l → block s k img ≡ b
+      → Yields b e places (j .since) d so fs → a + total fs + length bytes ≤ s
+      → Follows img (enter Open (at st i a d so z o u))
+      (onBlock (j .target) openWrites ++ (onBlock (j .target) (writes a (encodeAll fs)) ++ sealing j k bytes (a + total fs)))
+      (idle l (j .target) (a + total fs + length bytes))
+  follows-open b fs st i a d so z o u img q h y room =
+      let xs : List Step = onBlock (j .target) openWrites in
+      follows-stage l s Open (λ n. at Open n a d so z o u) (λ img′. enterCopy img′ (at Open 4 a d so z o u)) xs
+      (writeStep (j .target) (write stateAt inTransfer)) half (opens a d so z o u)
+      (onBlock (j .target) (writes a (encodeAll fs)) ++ sealing j k bytes (a + total fs)) (idle l (j .target) (a + total fs + length bytes)) 4 img
+      (sym (length-open (j .target))) q
+      (follows-copy b fs Open 4 a d so z o u (applyAll s xs img) (length-all-steps s xs img ∙ q)
+      (source-kept openWrites (write stateAt inTransfer) img (opens a d so z o u .inside) ∙ h) y room)

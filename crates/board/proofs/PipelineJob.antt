@@ -1,0 +1,127 @@
+-- A whole job: its step calls do the wipes, the transfer if it makes one, and the frame that it appends.
+use mathlib.Core.Path.{_≡_, refl, sym, ap, subst, _∙_}
+use mathlib.Core.List.{List, [], _∷_, _++_, append-assoc, map}
+use mathlib.Core.Bool.{Bool, true, false, cond}
+use Prim.Native.Nat.{ℕ, suc, _+_, _-_, _/_, _≤_, _<_}
+use native.Mathlib.Omega.{arith}
+use lib.Dec.{ltb}
+use lib.ListN.{length, getD, length-map, List·getD-map, List·getD-append, replicate}
+use borrow.Author.Tests.{ltb-true, ltb-false}
+use Rattle.flash.specs.Flash.{Step, erase, blocks, block, sizeOf, within, applyAll, writeStep, writes}
+use Rattle.flash.proofs.Cases.{on-test}
+use Rattle.frame.specs.Frame.{Frame, encodeAll, total}
+use Rattle.journal.specs.Block.{openWrites, sealWrites, build, headerLen}
+use Rattle.journal.proofs.Loading.{Yields}
+use Rattle.board.specs.declared.Stage.the-variants.{Wipe, Open}
+use Rattle.board.specs.declared.Job.{Job}
+use Rattle.board.specs.declared.Record.{Record}
+use Rattle.board.specs.Record.{noFrame, buffer, cursor, idle, busy}
+use Rattle.board.specs.Step.{enter, enterAppend, enterOpen, enterWipe, advance}
+use Rattle.board.specs.Mount.{wipeArray}
+use Rattle.board.specs.Plan.{Follows, onBlock}
+use Rattle.board.proofs.Blocks.{Blocks, a-block}
+use Rattle.board.proofs.Images.{length-all-steps}
+use Rattle.board.proofs.Pipeline.{inside-yes, Runs, follows-stage}
+use Rattle.board.proofs.PipelineEnd.{jobAt, onward-on, onward-off, dropped, follows-append}
+use Rattle.board.proofs.PipelineCopy.{map-append, follows-open}
+
+no-wipes : (ks : List ℕ) → length ks ≡ 0 → map erase ks ≡ []
+no-wipes [] h = refl
+no-wipes (k ∷ ks) h = absurd (omega arith)
+
+-- ---- the wipes
+
+module _ (l s : ℕ) (half : suc l / blocks ≡ s) (ks : List ℕ) (there : Blocks ks) (some-room : 0 < s) (k e : ℕ) (places : List ℕ) (j : Job) (frame : List ℕ)
+    (array : j .wipe ≡ wipeArray ks) (count : j .wipes ≡ length ks) where
+  abbrev wiping : ℕ → ℕ → ℕ → ℕ → ℕ → ℕ → List ℕ → Record
+  wiping a d so z o i u = jobAt l k e places j frame Wipe (cursor i a d so z o) u
+
+  wipes : (a d so z o : ℕ) (u : List ℕ)
+      → Runs l s Wipe (λ i. wiping a d so z o i u) (λ img. enterOpen (wiping a d so z o (length ks - 1) u)) (map erase ks) (erase 0)
+  unfolding advance
+  wipes a d so z o u =
+      let r : ℕ → Record = λ i. wiping a d so z o i u in
+      record {
+        phase = λ i. refl;
+        last = λ i. refl;
+        acts = λ i h.
+            ap (λ (x : List ℕ). erase (getD x i 0)) array
+            ∙ ap erase (List·getD-append ks (replicate (blocks - length ks) 0) 0 i (omega (arith, length-map ks erase))) ∙ sym (List·getD-map erase ks i 0);
+        inside = λ i h.
+            ap (within s) (List·getD-map erase ks i 0)
+            ∙ inside-yes s (erase (getD ks i 0)) (a-block ks i there (omega (arith, length-map ks erase))) some-room;
+        goes = λ i img h. onward-on Wipe (j .wipes) (r i) (enterOpen (r i)) (omega (arith, length-map ks erase));
+        ends = λ i img h.
+            let n : i ≡ length ks - 1 = omega (arith, length-map ks erase) in
+            onward-off Wipe (j .wipes) (r i) (enterOpen (r i)) (omega (arith, length-map ks erase)) ∙ ap (λ (m : ℕ). enterOpen (r m)) n;
+      }
+
+  pub follows-wipe : (a d so z o : ℕ) (u img : List ℕ) (tail : List Step) (done : Record) → length img ≡ suc l
+      → ((n : ℕ) (img′ : List ℕ) → length img′ ≡ suc l → img′ ≡ applyAll s (map erase ks) img → Follows img′ (enterOpen (wiping a d so z o n u)) tail done)
+      → Follows img (enterWipe (wiping a d so z o 0 u)) (map erase ks ++ tail) done
+  unfolding enterWipe applyAll
+  follows-wipe a d so z o u img tail done q f =
+      let r : Record = wiping a d so z o 0 u in
+      let xs : List Step = map erase ks in
+      on-test (ltb 0 (j .wipes))
+      (λ t.
+      subst (λ (b : Bool). Follows img (cond b (enter Wipe r) (enterOpen r)) (xs ++ tail) done) (sym t)
+      (follows-stage l s Wipe (λ i. wiping a d so z o i u) (λ img. enterOpen (wiping a d so z o (length ks - 1) u)) xs (erase 0) half (wipes a d so z o u) tail done
+      (length ks - 1) img (omega (arith, length-map ks erase, ltb-true 0 (j .wipes) t)) q
+      (f (length ks - 1) (applyAll s xs img) (length-all-steps s xs img ∙ q) refl)))
+      (λ t.
+      let none : xs ≡ [] = no-wipes ks (omega (arith, ltb-false 0 (j .wipes) t)) in
+      subst (λ (b : Bool). Follows img (cond b (enter Wipe r) (enterOpen r)) (xs ++ tail) done) (sym t)
+      (subst (λ (ys : List Step). Follows img (enterOpen r) (ys ++ tail) done) (sym none) (f 0 img q (ap (λ (ys : List Step). applyAll s ys img) (sym none)))))
+
+-- ---- the jobs
+
+-- what a job with wipes and a frame to append has in its record
+pub record Has (j : Job) (ks bytes : List ℕ) : Type 0 where
+  pub wipe : j .wipe ≡ wipeArray ks
+  pub wipes : j .wipes ≡ length ks
+  pub size : j .size ≡ length bytes
+
+-- the plan of a transfer and what follows it, as the stages do it
+map-three : {A B : Type 0} (f : A → B) (ds bs cs : List A) (xs ys : List B)
+    → (map f (ds ++ (bs ++ cs)) ++ xs) ++ ys ≡ map f ds ++ (map f bs ++ (map f cs ++ (xs ++ ys)))
+map-three f ds bs cs xs ys = simp (map-append, append-assoc)
+
+built : (k time : ℕ) (fs : List Frame) (xs ys : List Step)
+    → (onBlock k (build time fs) ++ xs) ++ ys ≡ onBlock k openWrites ++ (onBlock k (writes headerLen (encodeAll fs)) ++ (onBlock k (sealWrites time) ++ (xs ++ ys)))
+built k time fs xs ys = map-three (writeStep k) openWrites (writes headerLen (encodeAll fs)) (sealWrites time) xs ys
+
+module _ (img : List ℕ) (l k e : ℕ) (places : List ℕ) (j : Job) (id source : ℕ) (bytes ks : List ℕ) (long : length img ≡ suc l) (there : Blocks ks)
+    (has : Has j ks bytes) (here : k < blocks) (header : headerLen ≤ sizeOf img) where
+  half : suc l / blocks ≡ sizeOf img
+  half = ap (λ (n : ℕ). n / blocks) (sym long)
+
+  pub follows-staying : j .moves ≡ false → e + length bytes ≤ sizeOf img
+      → Follows img (enterWipe (busy l k e places j id source bytes)) (map erase ks ++ onBlock k (writes e bytes)) (idle l k (e + length bytes))
+  unfolding enterOpen
+  follows-staying t room =
+      follows-wipe l (sizeOf img) half ks there (omega arith) k e places j (buffer bytes) (has .wipe) (has .wipes) headerLen id source 0 0 noFrame img
+      (onBlock k (writes e bytes)) (idle l k (e + length bytes)) long
+      (λ n img′ q′ p.
+      let r : Record = jobAt l k e places j (buffer bytes) Wipe (cursor n headerLen id source 0 0) noFrame in
+      subst (λ (b : Bool). Follows img′ (cond b (enter Open r) (enterAppend r)) (onBlock k (writes e bytes)) (idle l k (e + length bytes))) (sym t)
+      (follows-append l (sizeOf img) half k e places j bytes (has .size) here room Wipe (cursor n headerLen id source 0 0) noFrame img′ q′))
+
+  pub follows-moving : (fs : List Frame) → j .moves ≡ true → j .target < blocks → (j .target ≡ k → ⊥) → headerLen + total fs + length bytes ≤ sizeOf img
+      → Yields (block (sizeOf img) k (applyAll (sizeOf img) (map erase ks) img)) e places (j .since) id source fs
+      → Follows img (enterWipe (busy l k e places j id source bytes))
+      (map erase ks ++ ((onBlock (j .target) (build (j .time) fs) ++ dropped j k) ++ onBlock (j .target) (writes (headerLen + total fs) bytes)))
+      (idle l (j .target) (headerLen + total fs + length bytes))
+  unfolding enterOpen
+  follows-moving fs t target apart room y =
+      let s : ℕ = sizeOf img in
+      let tail : List Step = (onBlock (j .target) (build (j .time) fs) ++ dropped j k) ++ onBlock (j .target) (writes (headerLen + total fs) bytes) in
+      let done : Record = idle l (j .target) (headerLen + total fs + length bytes) in
+      follows-wipe l s half ks there (omega arith) k e places j (buffer bytes) (has .wipe) (has .wipes) headerLen id source 0 0 noFrame img tail done long
+      (λ n img′ q′ p.
+      let r : Record = jobAt l k e places j (buffer bytes) Wipe (cursor n headerLen id source 0 0) noFrame in
+      subst (λ (b : Bool). Follows img′ (cond b (enter Open r) (enterAppend r)) tail done) (sym t)
+      (subst (λ (xs : List Step). Follows img′ (enter Open r) xs done)
+      (sym (built (j .target) (j .time) fs (dropped j k) (onBlock (j .target) (writes (headerLen + total fs) bytes))))
+      (follows-open l s half k e places j bytes (has .size) here target apart header (block s k (applyAll s (map erase ks) img)) fs Wipe n headerLen id source 0 0 noFrame
+      img′ q′ (ap (block s k) p) y room)))

@@ -1,0 +1,160 @@
+-- A transfer: each of its bytes lands, every prefix keeps what a mount finds, and the next block is then the only one.
+use mathlib.Core.Path.{_≡_, refl, sym, ap, subst, _∙_}
+use mathlib.Core.List.{List, [], _∷_}
+use mathlib.Core.Bool.{Bool}
+use Prim.Native.Nat.{ℕ, zero, suc, _+_, _-_, _≤_, _<_}
+use native.Mathlib.Omega.{arith}
+use lib.ListN.{length, getD, take, replicate, length-replicate}
+use Rattle.flash.specs.Flash.{erase, eraseBlock, applyAll, block, blocks, Write, write, writeAll}
+use Rattle.flash.proofs.Image.{block-erase, other-erase, length-erase}
+use Rattle.flash.proofs.Offsets.{Below}
+use Rattle.frame.specs.Frame.{Frame, total, AllMayStand, nextOf}
+use Rattle.frame.specs.Reader.{Tail, clean}
+use Rattle.frame.proofs.Scanning.{scan-blank}
+use Rattle.journal.specs.Block.{headerLen, lastTime, blockState, build}
+use Rattle.journal.specs.Replay.{Object, State, isOpen, replay, framesOf, settledOnly}
+use Rattle.journal.specs.Room.{claimed}
+use Rattle.journal.proofs.Blocks.{layout-size}
+use Rattle.journal.proofs.States.{Contents}
+use Rattle.journal.proofs.Building.{Lands, below-build, built, making, lands}
+use Rattle.journal.proofs.Replaying.{replay-framesOf, stands-settled}
+use Rattle.journal.proofs.Room.{frames-total, used-claimed, claimed-settled, claimed-replay}
+use Rattle.board.specs.Record.{idle}
+use Rattle.board.specs.Mount.{nextBlock}
+use Rattle.board.specs.Plan.{onBlock, transferPlan}
+use Rattle.board.proofs.Numbers.{next-there, next-other, next-next, next-only}
+use Rattle.board.proofs.Images.{Sized, sized-as, sized-block, apply-append, length-all-steps, block-writes, other-writes}
+use Rattle.board.proofs.Invariant.{StepLands, Quiet, Others, Valid, Safe, one-valid}
+use Rattle.board.proofs.Prefixes.{Each, each-append, each-one, each-writes, below-take}
+use Rattle.board.proofs.Current.{Alone, After, Roomy, Keeps, block-long, alone-after, valid-of, blank-quiet, both-safe}
+
+-- a state that a block may be made of, after one of time t
+pub record Moves (s t : ℕ) (st : State) : Type 0 where
+  pub young : t < lastTime
+  pub stands : AllMayStand 0 (framesOf st)
+  pub short : claimed st ≤ s
+
+-- what a mount leaves: the settled objects alone
+pub roomy-settled : {s k t : ℕ} {img : List ℕ} {fs : List Frame} {c : Tail} → Alone s img k t fs c → Roomy s (settledOnly (replay fs))
+unfolding isOpen
+roomy-settled {k = k} {fs = fs} a =
+    omega
+    (arith, claimed-settled (replay fs), used-claimed (replay fs), claimed-replay fs, layout-size (a .contents .layout), block-long k (a .sized) (a .there))
+
+pub moves-settled : {s k t : ℕ} {img : List ℕ} {fs : List Frame} {c : Tail} → Alone s img k t fs c → t < lastTime → Moves s t (settledOnly (replay fs))
+moves-settled {fs = fs} a y =
+    record { young = y; stands = stands-settled fs (a .contents .layout .stands); short = omega (arith, roomy-settled a) }
+
+-- the writes of a transfer
+abbrev copyWrites : ℕ → State → List Write
+copyWrites t st = build (suc t) (framesOf st)
+
+copied : (s t : ℕ) (st : State) → Moves s t st → Contents (writeAll (replicate s 255) (copyWrites t st)) (suc t) (framesOf st) clean
+copied s t st x =
+    let fs : List Frame = framesOf st in
+    let n : ℕ = s - (headerLen + total fs) in
+    record {
+      rest = replicate n 255;
+      layout = record {
+        is = built s (suc t) fs (omega (arith, x .short, frames-total st)) (x .stands);
+        stands = x .stands;
+        time-lo = omega arith;
+        time-hi = x .young;
+        size = refl;
+      };
+      reads = scan-blank (nextOf 0 fs) (headerLen + total fs) n;
+      okay = tt;
+      clean-is = λ q. ap (λ (m : ℕ). replicate m 255) (sym (length-replicate n 255));
+    }
+
+module _ {s k t : ℕ} {img : List ℕ} {fs : List Frame} {c : Tail} (a : Alone s img k t fs c) (st : State) (x : Moves s t st) where
+  -- the image after j bytes of the copy
+  abbrev during : ℕ → List ℕ
+  during j = applyAll s (onBlock (nextBlock k) (take j (copyWrites t st))) img
+
+  abbrev copy : List ℕ
+  copy = applyAll s (onBlock (nextBlock k) (copyWrites t st)) img
+
+  fits : headerLen + total (framesOf st) ≤ s
+  fits = omega (arith, x .short, frames-total st)
+
+  below : Below s (copyWrites t st)
+  below = below-build s (suc t) (framesOf st) fits
+
+  -- the block that is made, and the one that it is made of
+  made-part : (ws : List Write) → Below s ws → block s (nextBlock k) (applyAll s (onBlock (nextBlock k) ws) img) ≡ writeAll (replicate s 255) ws
+  made-part ws b =
+      block-writes s (nextBlock k) ws img b ∙ ap (λ (l : List ℕ). writeAll l ws) (a .others (nextBlock k) (next-there k (a .there)) (next-other k (a .there)))
+
+  kept-part : (ws : List Write) → Below s ws → block s k (applyAll s (onBlock (nextBlock k) ws) img) ≡ block s k img
+  kept-part ws b = other-writes s k (nextBlock k) ws img (λ e. next-other k (a .there) (sym e)) b
+
+  new : Contents (block s (nextBlock k) copy) (suc t) (framesOf st) clean
+  new = subst (λ (b : List ℕ). Contents b (suc t) (framesOf st) clean) (sym (made-part (copyWrites t st) below)) (copied s t st x)
+
+  pub transfer-lands : Each s (StepLands s) (transferPlan k t st) img
+  transfer-lands =
+      each-append s (StepLands s) (onBlock (nextBlock k) (copyWrites t st)) (erase k ∷ []) img
+      (each-writes s (nextBlock k) (StepLands s) (copyWrites t st) (write 0 0) img go) (each-one s (StepLands s) (erase k) copy tt)
+    where
+      go : (j : ℕ) → j < length (copyWrites t st) → Lands (block s (nextBlock k) (during j)) (getD (copyWrites t st) j (write 0 0))
+      go j h =
+          subst (λ (b : List ℕ). Lands b (getD (copyWrites t st) j (write 0 0))) (sym (made-part (take j (copyWrites t st)) (below-take s j (copyWrites t st) below)))
+          (lands s (suc t) j (framesOf st) (write 0 0) fits (x .stands) h)
+
+  pub transfer-safe : {os : List Object} (u : Bool) → Keeps s (replay fs) os → Keeps s st os → Each s (λ y i. Safe s i os u) (transferPlan k t st) img
+  unfolding writeAll
+  transfer-safe {os} u p q =
+      each-append s (λ y i. Safe s i os u) (onBlock (nextBlock k) (copyWrites t st)) (erase k ∷ []) img
+      (each-writes s (nextBlock k) (λ y i. Safe s i os u) (copyWrites t st) (write 0 0) img go) (each-one s (λ y i. Safe s i os u) (erase k) copy both)
+    where
+      old : (ws : List Write) → Below s ws → Valid s (applyAll s (onBlock (nextBlock k) ws) img) k os
+      old ws b = valid-of (subst (λ (l : List ℕ). Contents l t fs c) (sym (kept-part ws b)) (a .contents)) p
+
+      quiet : (j : ℕ) → j < length (copyWrites t st) → Quiet (blockState (writeAll (replicate s 255) (take j (copyWrites t st))))
+      quiet zero h = blank-quiet s (replicate s 255) refl
+      quiet (suc j) h = subst Quiet (sym (making s (suc t) (suc j) (framesOf st) fits (omega arith) h)) tt
+
+      others : (j : ℕ) → j < length (copyWrites t st) → Others (λ i. Quiet (blockState (block s i (during j)))) k
+      others j h i l n =
+          subst (λ (m : ℕ). Quiet (blockState (block s m (during j)))) (sym (next-only k (a .there) i l n))
+          (subst (λ (b : List ℕ). Quiet (blockState b)) (sym (made-part (take j (copyWrites t st)) (below-take s j (copyWrites t st) below))) (quiet j h))
+
+      go : (j : ℕ) → j < length (copyWrites t st) → Safe s (during j) os u
+      go j h =
+          let b : Below s (take j (copyWrites t st)) = below-take s j (copyWrites t st) below in
+          one-valid k (a .there) (old (take j (copyWrites t st)) b) (others j h)
+
+      both : Safe s copy os u
+      both =
+          both-safe u k (a .there) (old (copyWrites t st) below) (valid-of new (subst (λ (z : State). Keeps s z os) (sym (replay-framesOf st)) q))
+          (λ e. let d : t ≡ suc t = e in omega arith)
+
+  pub transfer-alone : Alone s (applyAll s (transferPlan k t st) img) (nextBlock k) (suc t) (framesOf st) clean
+  unfolding applyAll
+  transfer-alone = subst (λ (i : List ℕ). Alone s i (nextBlock k) (suc t) (framesOf st) clean) (sym all-is) dropped
+    where
+      all-is : applyAll s (transferPlan k t st) img ≡ eraseBlock s k copy
+      all-is = apply-append s (onBlock (nextBlock k) (copyWrites t st)) (erase k ∷ []) img
+
+      sized : Sized s copy
+      sized = sized-as copy (length-all-steps s (onBlock (nextBlock k) (copyWrites t st)) img) (a .sized)
+
+      blank : (j : ℕ) → j < blocks → (j ≡ nextBlock k → ⊥) → block s j (eraseBlock s k copy) ≡ replicate s 255
+      blank j h n =
+          let e : j ≡ k = next-only (nextBlock k) (next-there k (a .there)) j h n ∙ next-next k (a .there) in
+          ap (λ (i : ℕ). block s i (eraseBlock s k copy)) e ∙ block-erase s k copy (sized-block k sized (a .there))
+
+      dropped : Alone s (eraseBlock s k copy) (nextBlock k) (suc t) (framesOf st) clean
+      dropped =
+          record {
+            sized = sized-as (eraseBlock s k copy) (length-erase s k copy) sized;
+            there = next-there k (a .there);
+            contents = subst (λ (b : List ℕ). Contents b (suc t) (framesOf st) clean) (sym (other-erase s (nextBlock k) k copy (next-other k (a .there)))) new;
+            others = blank;
+          }
+
+  pub transferred : (l : ℕ) → length img ≡ suc l → Roomy s st → After s (applyAll s (transferPlan k t st) img) (idle l (nextBlock k) (claimed st)) st
+  transferred l e room =
+      subst (λ (n : ℕ). After s (applyAll s (transferPlan k t st) img) (idle l (nextBlock k) n) st) (frames-total st)
+      (alone-after l st transfer-alone (length-all-steps s (transferPlan k t st) img ∙ e) (replay-framesOf st) room)
