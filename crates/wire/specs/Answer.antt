@@ -24,3 +24,9 @@ abbrev pub numberOf : Answer → Option ℕ
 numberOf Done = some 0
 numberOf More = none
 numberOf (Refused r) = some (refusalNumber r)
+
+-- "more" has no number in the paper; it is 255 at the edge to C
+abbrev pub edgeNumber : Answer → ℕ
+edgeNumber Done = 0
+edgeNumber More = 255
+edgeNumber (Refused r) = refusalNumber r

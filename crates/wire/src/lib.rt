@@ -1,4 +1,12 @@
+// Messages, answers and the log page: what hosts send, and what they get.
 use frame::ObjectId;
+ghost use mathlib.Core.Path.{_≡_};
+ghost use Prim.Native.Nat.{_+_, _<_};
+ghost use denote.Ref.{ptr};
+ghost use lib.ListN.{getD};
+ghost use Rattle.wire.specs.Answer.{refusalNumber, edgeNumber};
+ghost use Rattle.wire.specs.Message.{wordAt, idIn, valueIn, isIf, onlyId, noBody, idAndValue, summaryPage, ofKind, parse, logPage};
+ghost use Rattle.wire.specs.Code.{overlay, pageInto, valuePlace};
 
 // What a log request asks for.
 pub enum Page {
@@ -41,4 +49,182 @@ pub enum Answer {
     Done,
     More,
     Refused(Refusal),
+}
+
+// The greatest id, and the longest value.
+const ID_MAX: u16 = 255;
+
+const VALUE_MAX: usize = 64;
+
+// A byte of a message, 0 past its end.
+fn byte_at(m: &[u8], i: usize) -> u16
+    ensures { λ r. ⌜ (r ≡ getD (now (m .entry)) i 0) × (r < 256) ⌝ }
+{
+    if i < m.len() { m[i] as u16 } else { 0 }
+}
+
+// The number that two bytes of a message are.
+fn word_at(m: &[u8], i: u8) -> u16
+    ensures { λ r. ⌜ r ≡ wordAt (now (m .entry)) i ⌝ }
+{
+    let at = i as usize;
+    byte_at(m, at) + 256 * byte_at(m, at + 1)
+}
+
+fn id_in(m: &[u8]) -> ObjectId
+    ensures { λ r. ⌜ r ≡ idIn (now (m .entry)) ⌝ }
+{
+    ObjectId(word_at(m, 4))
+}
+
+fn is_if(fits: bool, ask: Request) -> Parsed
+    ensures { λ r. ⌜ r ≡ isIf fits ask ⌝ }
+{
+    if fits {
+        Parsed::Is(ask)
+    } else {
+        Parsed::Malformed
+    }
+}
+
+fn only_id(m: &[u8]) -> bool
+    ensures { λ r. ⌜ r ≡ onlyId (now (m .entry)) ⌝ }
+{
+    if m.len() != 6 {
+        return false;
+    }
+    word_at(m, 4) <= ID_MAX
+}
+
+fn no_body(m: &[u8]) -> bool
+    ensures { λ r. ⌜ r ≡ noBody (now (m .entry)) ⌝ }
+{
+    m.len() == 4
+}
+
+fn id_and_value(m: &[u8]) -> bool
+    ensures { λ r. ⌜ r ≡ idAndValue (now (m .entry)) ⌝ }
+{
+    if m.len() < 6 {
+        return false;
+    }
+    if 6 + VALUE_MAX < m.len() {
+        return false;
+    }
+    word_at(m, 4) <= ID_MAX
+}
+
+fn summary_page(m: &[u8]) -> bool
+    ensures { λ r. ⌜ r ≡ summaryPage (now (m .entry)) ⌝ }
+{
+    if m.len() != 5 {
+        return false;
+    }
+    byte_at(m, 4) == 1
+}
+
+// The request that a message of a kind is.
+fn of_kind(kind: u16, m: &[u8]) -> Parsed
+    ensures { λ r. ⌜ r ≡ ofKind kind (now (m .entry)) ⌝ }
+{
+    match kind {
+        0x0101 => is_if(id_and_value(m), Request::Put(id_in(m))),
+        0x0102 => is_if(only_id(m), Request::Delete(id_in(m))),
+        0x0103 => is_if(no_body(m), Request::Commit),
+        0x0104 => is_if(no_body(m), Request::Abort),
+        0x0105 => is_if(only_id(m), Request::Read(id_in(m))),
+        0x0106 => is_if(summary_page(m), Request::Log(Page::Summary)),
+        _ => Parsed::Malformed,
+    }
+}
+
+// What a message asks for.
+pub fn parse(message: &[u8]) -> Parsed
+    ensures { λ r. ⌜ r ≡ parse (now (message .entry)) ⌝ }
+{
+    if message.len() < 4 {
+        return Parsed::Malformed;
+    }
+    if word_at(message, 0) as usize != message.len() {
+        return Parsed::Malformed;
+    }
+    of_kind(word_at(message, 2), message)
+}
+
+fn refusal_number(why: Refusal) -> u8
+    ensures { λ r. ⌜ r ≡ refusalNumber why ⌝ }
+{
+    match why {
+        Refusal::Malformed => 1,
+        Refusal::NoStore => 2,
+        Refusal::Foreign => 3,
+        Refusal::ImageLength => 4,
+        Refusal::Busy => 5,
+        Refusal::Worn => 6,
+        Refusal::NoRoom => 7,
+        Refusal::NoObject => 8,
+        Refusal::ShortReply => 9,
+        Refusal::HostRange => 10,
+        Refusal::Stale => 11,
+    }
+}
+
+// An answer's number; "more", which has none, is 255.
+pub fn number(answer: Answer) -> u8
+    ensures { λ r. ⌜ r ≡ edgeNumber answer ⌝ }
+{
+    match answer {
+        Answer::Done => 0,
+        Answer::More => 255,
+        Answer::Refused(why) => refusal_number(why),
+    }
+}
+
+// A put's value: a part of the message itself, empty where the message is too short.
+pub fn value(message: &[u8]) -> &[u8]
+    ensures value { λ r. ⌜ now r ≡ valueIn (now (message .entry)) ⌝ }
+    ensures place { λ r. ⌜ (ptr r .0 ≡ ptr (message .entry) .0) × (ptr r .1 ≡ valuePlace (now (message .entry)) + ptr (message .entry) .1) ⌝ }
+{
+    let n = message.len();
+    if n < 6 {
+        return &message[n..];
+    }
+    &message[6..]
+}
+
+// Lays a source over the first bytes of a slice that is no shorter.
+fn lay(bytes: &mut [u8], source: &[u8])
+    ensures { λ r. ⌜ now (bytes .exit) ≡ overlay (now (source .entry)) (now (bytes .entry)) ⌝ }
+{
+    if bytes.len() < source.len() {
+        return;
+    }
+    let mut i = 0;
+    while i < source.len() {
+        bytes[i] = source[i];
+        i += 1;
+    }
+}
+
+// Writes log page 1 to a reply that has room for it; later bytes stay.
+pub fn write_page(reply: &mut [u8], time: u32, count: u16, used: u16, size: u16)
+    ensures { λ r. ⌜ now (reply .exit) ≡ pageInto (logPage time count used size) (now (reply .entry)) ⌝ }
+{
+    let page = [
+        14,
+        0,
+        0x01,
+        0x02,
+        (time % 256) as u8,
+        (time / 256 % 256) as u8,
+        (time / 65536 % 256) as u8,
+        (time / 16777216) as u8,
+        (count % 256) as u8,
+        (count / 256) as u8,
+        (used % 256) as u8,
+        (used / 256) as u8,
+        (size % 256) as u8,
+        (size / 256) as u8,
+    ];
+    lay(reply, &page);
 }

@@ -1,0 +1,44 @@
+-- A copy to the front: after i turns the first i bytes are the source's.
+use mathlib.Core.Path.{_≡_}
+use mathlib.Core.List.{_++_}
+use Prim.Native.Nat.{_-_, _≤_, _<_}
+use native.Mathlib.Omega.{arith}
+use lib.ListN.{length, take, drop, length-set}
+use lib.Seq.{take-length}
+use denote.Ref.{now}
+use borrow.Author.Tests.{lt-ltb, le-ltb}
+use borrow.Author.Needs.{needs}
+use Rattle.wire.specs.Code.{overlay}
+use Rattle.wire.proofs.Laying.{copy-more}
+use Rattle.wire.proofs.lay.Statement.{statement}
+use Rattle.wire.proofs.lay.Tie as tie
+
+abbrev Inv-loop : tie.InvT-loop
+Inv-loop bytes₀ source i₀ bytes i = (bytes ≡ take i source ++ drop i bytes₀) × (i ≤ length source) × (length bytes ≡ length bytes₀)
+
+abbrev μ-loop : tie.MeasureT-loop
+μ-loop bytes₀ source i₀ bytes i = length source - i
+
+pub lay-spec : {M : Type 1} → statement M
+unfolding overlay
+lay-spec =
+    tie.close
+    (tie.spec
+    Inv-loop
+    μ-loop
+    (λ c. rw (lt-ltb (length (now (c .before .args .bytes))) (length (now (c .before .args .source))) (omega arith), overlay))
+    (λ c. search needs)
+    (λ c. search needs)
+    (λ c. omega (arith, c .before .before .before .if1 .left))
+    (λ c. search needs)
+    (λ c. search needs)
+    (λ c.
+    let s = now (c .before .before .before .before .args .source) in
+    let b = now (c .before .before .before .before .args .bytes) in
+    let i = c .before .before .loop .i in
+    let l : c .before .before .loop .i < length (now (c .before .before .before .before .args .bytes)) = omega (arith, c .before .before .before .if1 .left) in
+    (rw (c .before .before .loop .inv .0) (copy-more s b i (c .before .loop-test .taken) l), omega arith, simp length-set (omega arith)))
+    (λ c. search needs)
+    (λ c.
+    let z : c .before .loop .i ≡ length (now (c .before .before .before .args .source)) = omega arith in
+    rw (le-ltb _ _ (c .before .before .if1 .left), overlay) (rw (z, take-length) at (c .before .loop .inv .0))))

@@ -1,0 +1,19 @@
+-- Parsing: the length field first, then the kind.
+use borrow.Author.Tests.{le-leb, lt-leb, eq-eqb, ne-eqb}
+use borrow.Author.Needs.{needs}
+use Rattle.wire.specs.Message.{parse}
+use Rattle.wire.proofs.parse.Statement.{statement}
+use Rattle.wire.proofs.parse.Tie as tie
+
+pub parse-spec : {M : Type 1} → statement M
+unfolding parse
+parse-spec =
+    tie.close
+    (tie.spec
+    (λ c. rw (lt-leb _ _ (c .if1 .taken), parse))
+    (λ c κs. search needs)
+    (λ c. search needs)
+    (λ c. rw (le-leb _ _ (c .before .before .if1 .left), ← c .before .word-at .ensures, ne-eqb _ _ (c .if2 .taken), parse))
+    (λ c κs. search needs)
+    (λ c κs. search needs)
+    (λ c. rw (le-leb _ _ (c .before .before .before .before .if1 .left), ← c .before .before .before .word-at .ensures, eq-eqb _ _ (c .before .before .if2 .left), parse, ← c .before .word-at2 .ensures) (c .of-kind .ensures)))
