@@ -20,6 +20,7 @@ use Rattle.board.specs.Step.{stepOn, enterWipe, begin}
 use Rattle.board.specs.Plan.{Follows}
 use Rattle.board.proofs.Images.{Sized, size-of, apply-append}
 use Rattle.board.proofs.Invariant.{InJob}
+use Rattle.board.proofs.Prefixes.{Each}
 
 pub idle-done : (p : Phase) → p ≡ Idle → answerIn p ≡ Done
 idle-done p e = ap answerIn e
@@ -95,13 +96,19 @@ job-step {s} {P} {Q} {img} {r} z y =
 abbrev pub Begun : ℕ → (Step → List ℕ → Type 0) → (List ℕ → Record → Type 0) → List ℕ → Record → Type 0
 Begun s P Q img r = ((answerOf r ≡ More) × InJob s P Q img r) ⊎ ((answerOf r ≡ Done) × Q img r)
 
+-- a plan with steps is begun
+pub job-starts : {s : ℕ} {P : Step → List ℕ → Type 0} {Q : List ℕ → Record → Type 0} (img : List ℕ) (r : Record) (plan : List Step) (last : Record)
+    → Follows img r plan last → 0 < length plan → length plan ≤ s → Each s P plan img → Q (applyAll s plan img) last → last .phase ≡ Idle
+    → (answerOf r ≡ More) × InJob s P Q img r
+unfolding applyAll
+job-starts img r [] last f n h e q i = absurd (omega arith)
+job-starts img r (x ∷ xs) last f n h e q i = (
+  f .0,
+  record { start = img; plan = x ∷ xs; last = last; count = 0; now = refl; follows = f; begun = n; short = h; each = e; ends = q; rests = i },
+)
+
 pub job-begins : {s : ℕ} {P : Step → List ℕ → Type 0} {Q : List ℕ → Record → Type 0} (img : List ℕ) (r : Record) (plan : List Step) (last : Record)
-    → Follows img r plan last → length plan ≤ s → ((j : ℕ) → j < length plan → P (getD plan j (erase 0)) (applyAll s (take j plan) img))
-    → Q (applyAll s plan img) last → last .phase ≡ Idle → Begun s P Q img r
+    → Follows img r plan last → length plan ≤ s → Each s P plan img → Q (applyAll s plan img) last → last .phase ≡ Idle → Begun s P Q img r
 unfolding applyAll
 job-begins {s} {P} {Q} img r [] last f h e q i = inr (idle-done (r .phase) (ap (λ (x : Record). x .phase) f ∙ i), subst (Q img) (sym f) q)
-job-begins {s} {P} {Q} img r (x ∷ xs) last f h e q i =
-    inl (
-      f .0,
-      record { start = img; plan = x ∷ xs; last = last; count = 0; now = refl; follows = f; begun = omega arith; short = h; each = e; ends = q; rests = i },
-    )
+job-begins {s} {P} {Q} img r (x ∷ xs) last f h e q i = inl (job-starts img r (x ∷ xs) last f (omega arith) h e q i)

@@ -13,7 +13,6 @@ use Rattle.frame.specs.Frame.{deleteLen, endLen}
 use Rattle.frame.specs.Reader.{clean}
 use Rattle.journal.specs.Replay.{Object, replay}
 use Rattle.journal.specs.Block.{BlockState, blank, blockState}
-use Rattle.journal.proofs.Blocks.{blank-block}
 use Rattle.wire.specs.declared.Answer.{Answer}
 use Rattle.wire.specs.declared.Answer.the-variants.{Done, More, Refused}
 use Rattle.wire.specs.declared.Refusal.{Refusal}
@@ -28,6 +27,7 @@ use Rattle.board.specs.Book.{Book, UnderWay, nothing, committing, format
 use Rattle.board.specs.Claim.{trackStep, Never}
 use Rattle.board.proofs.Images.{Sized, sized-as}
 use Rattle.board.proofs.Invariant.{Valid, Quiet, Others, Safe, no-valid, one-valid, two-valid, Ready, IdleBook, InJob, InPhase, Inv}
+use Rattle.board.proofs.Current.{blank-quiet}
 use Rattle.board.proofs.Outcomes.{step-resting}
 use Rattle.board.proofs.Jobs.{Stepped, job-step, Begun}
 
@@ -75,16 +75,13 @@ on-phase {C} {s} {img} {r} {b} {u} v f g h = go (r .phase) refl (v .phase)
 
 -- ---- the objects are safe
 
-quiet-blank : (s k : ℕ) (img : List ℕ) → block s k img ≡ replicate s 255 → Quiet (blockState (block s k img))
-quiet-blank s k img e = subst (λ (x : BlockState). Quiet x) (sym (ap blockState e ∙ blank-block s)) tt
-
 pub idle-valid : {s : ℕ} {img : List ℕ} {r : Record} {b : Book} (y : IdleBook s img r b) → Valid s img (y .ready .number) (b .objects)
 idle-valid y =
     record { time = y .ready .time; frames = y .ready .frames; tail = clean; contents = y .ready .contents; room = y .spare; same = y .objects }
 
 pub safe-idle : {s : ℕ} {img : List ℕ} {r : Record} {b : Book} {u : Bool} → IdleBook s img r b → Safe s img (b .objects) u
 safe-idle {s} {img} y =
-    one-valid (y .ready .number) (y .ready .there) (idle-valid y) (λ j h n. quiet-blank s j img (y .ready .others j h n))
+    one-valid (y .ready .number) (y .ready .there) (idle-valid y) (λ j h n. blank-quiet s (block s j img) (y .ready .others j h n))
 
 pub safe-of : {s : ℕ} {img : List ℕ} {r : Record} {b : Book} {u : Bool} → Inv s img r b u → Safe s img (b .objects) u
 safe-of {s} {img} {r} {b} {u} v =

@@ -22,3 +22,9 @@ pub mod Lengths
 pub mod Appending
 pub mod Transferring
 pub mod Framing
+pub mod Serving
+pub mod Erasing
+pub mod Formatting
+pub mod Deciding
+pub mod Wiping
+pub mod Mounting

@@ -1,0 +1,304 @@
+-- What a mount decides: which refusal, or which store it takes.
+use mathlib.Core.Path.{_≡_, refl, sym, ap, ap₂, subst, subst₃, _∙_}
+use mathlib.Core.List.{List, [], _∷_}
+use mathlib.Core.Logic.{_⊎_, inl, inr}
+use mathlib.Core.Bool.{Bool, true, false, _&&_, cond}
+use Prim.Native.Nat.{ℕ, zero, suc, _<_}
+use native.Mathlib.Omega.{arith}
+use lib.Dec.{eqb, ltb}
+use borrow.Author.Tests.{eqb-true, eqb-false, ltb-true, ltb-false}
+use Rattle.flash.specs.Bytes.{Bytes}
+use Rattle.flash.specs.Flash.{block, blocks, sizeOf}
+use Rattle.flash.proofs.Cases.{on-test, and-left, and-right, and-both, clash}
+use Rattle.flash.proofs.Image.{bytes-block}
+use Rattle.frame.specs.declared.Fault.{Fault}
+use Rattle.frame.specs.Frame.{Frame}
+use Rattle.frame.specs.Reader.{Tail}
+use Rattle.journal.specs.Replay.{Object, replay}
+use Rattle.journal.specs.Block.{BlockState, blank, inProgress, valid, foreign, blockState, lastTime}
+use Rattle.journal.proofs.States.{Contents, contents-valid, valid-inv}
+use Rattle.wire.specs.declared.Answer.the-variants.{Refused}
+use Rattle.wire.specs.declared.Refusal.{Refusal}
+use Rattle.wire.specs.declared.Refusal.the-variants as refusal
+use Rattle.board.specs.declared.Phase.{Phase}
+use Rattle.board.specs.declared.Phase.the-variants.{Unmounted, Idle, Busy}
+use Rattle.board.specs.Record.{Out, unmounted, refuse, answerIn}
+use Rattle.board.specs.Step.{enterWipe, begin}
+use Rattle.board.specs.Mount.{Found, allFound, anyForeign, Store, stores, wipeList, needsTransfer, mountJob, mountAt, mountOn}
+use Rattle.board.specs.Claim.{WornOut}
+use Rattle.board.specs.Demand2.{Accepted}
+use Rattle.board.proofs.Images.{Sized, size-of}
+use Rattle.board.proofs.Invariant.{Valid, Quiet, Others, Safe, no-valid, one-valid, two-valid}
+use Rattle.board.proofs.Outcomes.{mount-foreign, mount-none, mount-equal, mount-at, mount-worn, mount-begins}
+use Rattle.board.proofs.Current.{Keeps, block-long}
+use Rattle.board.proofs.Erasing.{NoStore, safe-some, safe-or, safe-at, SameValid, same-valid, quiet-not-valid}
+
+-- ---- the decision
+
+-- a block beside one of a time: not foreign, and if valid of a smaller time
+abbrev pub Older : ℕ → BlockState → Type 0
+Older t blank = Unit {0}
+Older t inProgress = Unit {0}
+Older t (valid u fs c) = u < t
+Older t (foreign e) = ⊥
+
+-- the store that a mount takes
+pub record Taken (s : ℕ) (img : List ℕ) (x : Store) : Type 0 where
+  pub there : x .number < blocks
+  pub is-valid : blockState (block s (x .number) img) ≡ valid (x .time) (x .frames) (x .tail)
+  pub others : Others (λ j. Older (x .time) (blockState (block s j img))) (x .number)
+  pub decides : mountOn img ≡ mountAt img (allFound img) x
+
+pub data Decided (s : ℕ) (img : List ℕ) : Type 0 where
+  foreign-block : (j : ℕ) → j < blocks → (e : Fault) → blockState (block s j img) ≡ foreign e → mountOn img ≡ refuse refusal.Foreign img unmounted []
+      → Decided s img
+  equal-times : (t : ℕ) (fs gs : List Frame) (c d : Tail) → blockState (block s 0 img) ≡ valid t fs c → blockState (block s 1 img) ≡ valid t gs d
+      → mountOn img ≡ refuse refusal.Foreign img unmounted [] → Decided s img
+  none-valid : NoStore s img → mountOn img ≡ refuse refusal.NoStore img unmounted [] → Decided s img
+  at-store : (x : Store) → Taken s img x → Decided s img
+
+abbrev foundIn : BlockState → BlockState → List Found
+foundIn a b = record { number = 0; state = a } ∷ record { number = 1; state = b } ∷ []
+
+abbrev store : ℕ → ℕ → List Frame → Tail → Store
+store k t fs c = record { number = k; time = t; frames = fs; tail = c }
+
+found-is : {s : ℕ} {img : List ℕ} → Sized s img → allFound img ≡ foundIn (blockState (block s 0 img)) (blockState (block s 1 img))
+found-is {s} {img} z = ap (λ (n : ℕ). foundIn (blockState (block n 0 img)) (blockState (block n 1 img))) (size-of z)
+
+module _ {s : ℕ} {img : List ℕ} (z : Sized s img) where
+  abbrev State0 : BlockState → Type 0
+  State0 a = blockState (block s 0 img) ≡ a
+
+  abbrev State1 : BlockState → Type 0
+  State1 b = blockState (block s 1 img) ≡ b
+
+  all-is : {a b : BlockState} → State0 a → State1 b → allFound img ≡ foundIn a b
+  all-is p q = found-is z ∙ ap₂ foundIn p q
+
+  quiet-both : {a b : BlockState} → State0 a → State1 b → Quiet a → Quiet b → NoStore s img
+  quiet-both p q x y zero h = subst Quiet (sym p) x
+  quiet-both p q x y (suc zero) h = subst Quiet (sym q) y
+  quiet-both p q x y (suc (suc j)) h = absurd (omega arith)
+
+  neither : NoStore s img → anyForeign (allFound img) ≡ false → stores (allFound img) ≡ [] → Decided s img
+  neither n f e = none-valid n (mount-none img (z .ok) f e)
+
+  older-first : (t : ℕ) (a : BlockState) → State0 a → Older t a → Others (λ j. Older t (blockState (block s j img))) 1
+  older-first t a p o zero h n = subst (Older t) (sym p) o
+  older-first t a p o (suc zero) h n = absurd (n refl)
+  older-first t a p o (suc (suc j)) h n = absurd (omega arith)
+
+  older-second : (t : ℕ) (b : BlockState) → State1 b → Older t b → Others (λ j. Older t (blockState (block s j img))) 0
+  older-second t b q o zero h n = absurd (n refl)
+  older-second t b q o (suc zero) h n = subst (Older t) (sym q) o
+  older-second t b q o (suc (suc j)) h n = absurd (omega arith)
+
+  only : (x : Store) → x .number < blocks → blockState (block s (x .number) img) ≡ valid (x .time) (x .frames) (x .tail)
+      → Others (λ j. Older (x .time) (blockState (block s j img))) (x .number)
+      → anyForeign (allFound img) ≡ false → stores (allFound img) ≡ x ∷ [] → Decided s img
+  only x h v o f e = at-store x (record { there = h; is-valid = v; others = o; decides = mount-at img (z .ok) f x [] e refl })
+
+  both : (t t′ : ℕ) (fs gs : List Frame) (c d : Tail) → State0 (valid t fs c) → State1 (valid t′ gs d) → Decided s img
+  both t t′ fs gs c d p q =
+      let x : Store = store 0 t fs c in
+      let y : Store = store 1 t′ gs d in
+      let all : allFound img ≡ foundIn (valid t fs c) (valid t′ gs d) = all-is p q in
+      let f : anyForeign (allFound img) ≡ false = ap anyForeign all in
+      let e : stores (allFound img) ≡ x ∷ y ∷ [] = ap stores all in
+      on-test (eqb t t′)
+      (λ a. equal-times t fs gs c d p (subst (λ (n : ℕ). State1 (valid n gs d)) (sym (eqb-true t t′ a)) q)
+      (mount-equal img (z .ok) f x (y ∷ []) e (rw a)))
+      (λ a.
+      let r : mountOn img ≡ mountAt img (allFound img) (cond (ltb t t′) y x) = mount-at img (z .ok) f x (y ∷ []) e (rw a) in
+      on-test (ltb t t′)
+      (λ l. at-store y
+      (record {
+        there = omega arith;
+        is-valid = q;
+        others = older-first t′ (valid t fs c) p (ltb-true t t′ l);
+        decides = r ∙ ap (λ (b : Bool). mountAt img (allFound img) (cond b y x)) l;
+      }))
+      (λ l. at-store x
+      (record {
+        there = omega arith;
+        is-valid = p;
+        others = older-second t (valid t′ gs d) q (omega (arith, ltb-false t t′ l, eqb-false t t′ a));
+        decides = r ∙ ap (λ (b : Bool). mountAt img (allFound img) (cond b y x)) l;
+      })))
+
+  decide : (a b : BlockState) → State0 a → State1 b → Decided s img
+  decide (foreign e) b p q = foreign-block 0 (omega arith) e p (mount-foreign img (z .ok) (ap anyForeign (all-is p q)))
+  decide blank (foreign e) p q = foreign-block 1 (omega arith) e q (mount-foreign img (z .ok) (ap anyForeign (all-is p q)))
+  decide inProgress (foreign e) p q = foreign-block 1 (omega arith) e q (mount-foreign img (z .ok) (ap anyForeign (all-is p q)))
+  decide (valid t fs c) (foreign e) p q = foreign-block 1 (omega arith) e q (mount-foreign img (z .ok) (ap anyForeign (all-is p q)))
+  decide blank blank p q = neither (quiet-both p q tt tt) (ap anyForeign (all-is p q)) (ap stores (all-is p q))
+  decide blank inProgress p q = neither (quiet-both p q tt tt) (ap anyForeign (all-is p q)) (ap stores (all-is p q))
+  decide inProgress blank p q = neither (quiet-both p q tt tt) (ap anyForeign (all-is p q)) (ap stores (all-is p q))
+  decide inProgress inProgress p q = neither (quiet-both p q tt tt) (ap anyForeign (all-is p q)) (ap stores (all-is p q))
+  decide (valid t fs c) blank p q = only (store 0 t fs c) (omega arith) p (older-second t blank q tt) (ap anyForeign (all-is p q)) (ap stores (all-is p q))
+  decide (valid t fs c) inProgress p q = only (store 0 t fs c) (omega arith) p (older-second t inProgress q tt) (ap anyForeign (all-is p q)) (ap stores (all-is p q))
+  decide blank (valid t fs c) p q = only (store 1 t fs c) (omega arith) q (older-first t blank p tt) (ap anyForeign (all-is p q)) (ap stores (all-is p q))
+  decide inProgress (valid t fs c) p q = only (store 1 t fs c) (omega arith) q (older-first t inProgress p tt) (ap anyForeign (all-is p q)) (ap stores (all-is p q))
+  decide (valid t fs c) (valid t′ gs d) p q = both t t′ fs gs c d p q
+
+  pub mount-decides : Decided s img
+  mount-decides = decide (blockState (block s 0 img)) (blockState (block s 1 img)) refl refl
+
+-- of the store that is taken: it is newer than every other valid block, and no block is foreign
+module _ {s : ℕ} {img : List ℕ} {x : Store} (z : Sized s img) (y : Taken s img x) where
+  at-size : (k : ℕ) (a : BlockState) → blockState (block (sizeOf img) k img) ≡ a → blockState (block s k img) ≡ a
+  at-size k a e = subst (λ (n : ℕ). blockState (block n k img) ≡ a) (size-of z) e
+
+  pub taken-newest : (k t : ℕ) (fs : List Frame) (c : Tail) → k < blocks → (k ≡ x .number → ⊥) → blockState (block (sizeOf img) k img) ≡ valid t fs c
+      → t < x .time
+  taken-newest k t fs c h n e = subst (Older (x .time)) (at-size k (valid t fs c) e) (y .others k h n)
+
+  pub taken-none-foreign : (k : ℕ) (e : Fault) → k < blocks → blockState (block (sizeOf img) k img) ≡ foreign e → ⊥
+  taken-none-foreign k e h p =
+      on-test (eqb k (x .number))
+      (λ t.
+      let q : foreign e ≡ valid (x .time) (x .frames) (x .tail) =
+      sym (at-size k (foreign e) p) ∙ ap (λ (n : ℕ). blockState (block s n img)) (eqb-true k (x .number) t) ∙ y .is-valid in
+      let w : _≡_ {A = ℕ} 0 1 = cc in omega arith)
+      (λ t. subst (Older (x .time)) (at-size k (foreign e) p) (y .others k h (eqb-false k (x .number) t)))
+
+-- ---- the outcome
+
+-- a transfer is not due at the last time
+abbrev pub InTime : Store → Type 0
+InTime x = needsTransfer (x .frames) (x .tail) ≡ true → x .time < lastTime
+
+pub data Outcome (img : List ℕ) (x : Store) : Type 0 where
+  worn-out : WornOut img → mountOn img ≡ refuse refusal.Worn img unmounted [] → Outcome img x
+  begins : InTime x → mountOn img ≡ begin img [] (mountJob img x (wipeList (x .number) (allFound img)))
+      → Outcome img x
+
+abbrev pub Holds : ℕ → List ℕ → Store → Type 0
+Holds s img x = Contents (block s (x .number) img) (x .time) (x .frames) (x .tail)
+
+pub mount-outcome : {s : ℕ} {img : List ℕ} (x : Store) → Sized s img → Taken s img x → Holds s img x → Outcome img x
+mount-outcome {s} {img} x z k y =
+    let n : Bool = needsTransfer (x .frames) (x .tail) in
+    let e : Bool = eqb (x .time) lastTime in
+    on-test (n && e)
+    (λ t. worn-out
+    (record {
+      number = x .number;
+      frames = x .frames;
+      tail = x .tail;
+      there = k .there;
+      is-valid =
+          ap (λ (m : ℕ). blockState (block m (x .number) img)) (size-of z)
+          ∙ k .is-valid ∙ ap (λ (m : ℕ). valid m (x .frames) (x .tail)) (eqb-true (x .time) lastTime (and-right n e t));
+      due = and-left n e t;
+    })
+    (k .decides ∙ mount-worn img (allFound img) x t))
+    (λ t. begins
+    (λ d. on-test e (λ a. clash (n && e) (and-both n e d a) t) (λ a. omega (arith, eqb-false (x .time) lastTime a, y .layout .time-hi)))
+    (k .decides ∙ mount-begins img (allFound img) x t))
+
+-- ---- on any image
+
+pub taken-holds : {s : ℕ} {img : List ℕ} (x : Store) → Sized s img → Bytes img → Taken s img x → Holds s img x
+taken-holds {s} {img} x z y k =
+    valid-inv (block s (x .number) img) (x .time) (x .frames) (x .tail) (bytes-block s (x .number) img y)
+    (omega (arith, block-long (x .number) z (k .there), z .low)) (k .is-valid)
+
+-- what an accepted mount begins
+pub record Begins (s : ℕ) (img : List ℕ) : Type 0 where
+  pub store : Store
+  pub taken : Taken s img store
+  pub holds : Holds s img store
+  pub in-time : InTime store
+  pub begins : mountOn img ≡ begin img [] (mountJob img store (wipeList (store .number) (allFound img)))
+
+answer : {o p : Out} → o ≡ p → o .answer ≡ p .answer
+answer e = ap (λ (x : Out). x .answer) e
+
+pub mount-accepted : {s : ℕ} {img : List ℕ} → Sized s img → Bytes img → Accepted (mountOn img .answer) → Begins s img
+mount-accepted {s} {img} z y f = go (mount-decides z)
+  where
+    refused : {n : Refusal} → mountOn img ≡ refuse n img unmounted [] → Begins s img
+    refused r = absurd (subst Accepted (answer r) f)
+
+    at : (x : Store) → Taken s img x → Outcome img x → Begins s img
+    at x k (worn-out w r) = refused r
+    at x k (begins t r) = record { store = x; taken = k; holds = taken-holds x z y k; in-time = t; begins = r }
+
+    go : Decided s img → Begins s img
+    go (foreign-block j h e p r) = refused r
+    go (equal-times t fs gs c d p q r) = refused r
+    go (none-valid n r) = refused r
+    go (at-store x k) = at x k (mount-outcome x z k (taken-holds x z y k))
+
+-- a record that a call gives back is no refusal
+not-refused : (p : Phase) (n : Refusal) → answerIn p ≡ Refused n → ⊥
+not-refused Unmounted n e = let y : _≡_ {A = ℕ} 0 1 = cc in omega arith
+not-refused Idle n e = let y : _≡_ {A = ℕ} 0 1 = cc in omega arith
+not-refused (Busy g) n e = let y : _≡_ {A = ℕ} 0 1 = cc in omega arith
+
+-- 6 is given only where the current block's time is the last and a transfer is due
+pub mount-worn-out : {s : ℕ} {img : List ℕ} → Sized s img → Bytes img → mountOn img .answer ≡ Refused refusal.Worn → WornOut img
+mount-worn-out {s} {img} z y e = go (mount-decides z)
+  where
+    taken : (x : Store) → Outcome img x → WornOut img
+    taken x (worn-out w r) = w
+    taken x (begins t r) =
+        absurd (not-refused (enterWipe (mountJob img x (wipeList (x .number) (allFound img))) .phase) refusal.Worn (sym (answer r) ∙ e))
+
+    other : {n : Refusal} → mountOn img ≡ refuse n img unmounted [] → Refused n ≡ Refused refusal.Worn
+    other r = sym (answer r) ∙ e
+
+    go : Decided s img → WornOut img
+    go (foreign-block j h f p r) = let q = other r in let x : _≡_ {A = ℕ} 0 1 = cc in absurd (omega arith)
+    go (equal-times t fs gs c d p q r) = let q = other r in let x : _≡_ {A = ℕ} 0 1 = cc in absurd (omega arith)
+    go (none-valid n r) = let q = other r in let x : _≡_ {A = ℕ} 0 1 = cc in absurd (omega arith)
+    go (at-store x k) = taken x (mount-outcome x z k (taken-holds x z y k))
+
+-- ---- on a safe image
+
+pub data MountSafe (s : ℕ) (img : List ℕ) (os : List Object) (u : Bool) : Type 0 where
+  nothing-there : u ≡ true → mountOn img ≡ refuse refusal.NoStore img unmounted [] → MountSafe s img os u
+  store-there : (x : Store) → Taken s img x → Holds s img x → Keeps s (replay (x .frames)) os → Safe s img os false → MountSafe s img os u
+
+pub mount-safe : {s : ℕ} {img : List ℕ} {os : List Object} {u : Bool} → Sized s img → Safe s img os u → MountSafe s img os u
+mount-safe {s} {img} {os} {u} z f = go (mount-decides z)
+  where
+    not-foreign : (j : ℕ) (e : Fault) → blockState (block s j img) ≡ foreign e → Quiet (blockState (block s j img)) ⊎ Valid s img j os → ⊥
+    not-foreign j e p (inl q) = subst Quiet p q
+    not-foreign j e p (inr v) =
+        let c : valid (v .time) (v .frames) (v .tail) ≡ foreign e = sym (contents-valid (v .contents)) ∙ p in
+        let y : _≡_ {A = ℕ} 0 1 = cc in omega arith
+
+    not-equal : (t : ℕ) (fs gs : List Frame) (c d : Tail) → blockState (block s 0 img) ≡ valid t fs c → blockState (block s 1 img) ≡ valid t gs d
+        → Safe s img os u → ⊥
+    not-equal t fs gs c d p q (no-valid e n) = quiet-not-valid (blockState (block s 0 img)) t fs c (n 0 (omega arith)) p
+    not-equal t fs gs c d p q (one-valid k h v n) =
+        on-test (eqb k 0)
+        (λ a. let e : k ≡ 0 = eqb-true k 0 a in quiet-not-valid (blockState (block s 1 img)) t gs d (n 1 (omega arith) (λ b. omega arith)) q)
+        (λ a. quiet-not-valid (blockState (block s 0 img)) t fs c (n 0 (omega arith) (λ b. eqb-false k 0 a (sym b))) p)
+    not-equal t fs gs c d p q (two-valid x y n) =
+        n (same-valid (sym (contents-valid (x .contents)) ∙ p) .time ∙ sym (same-valid (sym (contents-valid (y .contents)) ∙ q) .time))
+
+    none : NoStore s img → mountOn img ≡ refuse refusal.NoStore img unmounted [] → Safe s img os false ⊎ ((u ≡ true) × NoStore s img)
+        → MountSafe s img os u
+    none n r (inl g) = absurd (safe-some g n)
+    none n r (inr (e, q)) = nothing-there e r
+
+    safe-now : (x : Store) → Taken s img x → Safe s img os false ⊎ ((u ≡ true) × NoStore s img) → Safe s img os false
+    safe-now x k (inl g) = g
+    safe-now x k (inr (e, n)) = quiet-not-valid (blockState (block s (x .number) img)) (x .time) (x .frames) (x .tail) (n (x .number) (k .there)) (k .is-valid)
+
+    at : (x : Store) → Taken s img x → Quiet (blockState (block s (x .number) img)) ⊎ Valid s img (x .number) os → MountSafe s img os u
+    at x k (inl q) = quiet-not-valid (blockState (block s (x .number) img)) (x .time) (x .frames) (x .tail) q (k .is-valid)
+    at x k (inr v) =
+        let m : SameValid (v .time) (v .frames) (v .tail) (x .time) (x .frames) (x .tail) = same-valid (sym (contents-valid (v .contents)) ∙ k .is-valid) in
+        store-there x k (subst₃ (Contents (block s (x .number) img)) (m .time) (m .frames) (m .tail) (v .contents))
+        (subst (λ (fs : List Frame). Keeps s (replay fs) os) (m .frames) (record { room = v .room; same = v .same })) (safe-now x k (safe-or f))
+
+    go : Decided s img → MountSafe s img os u
+    go (foreign-block j h e p r) = absurd (not-foreign j e p (safe-at j h f))
+    go (equal-times t fs gs c d p q r) = absurd (not-equal t fs gs c d p q f)
+    go (none-valid n r) = none n r (safe-or f)
+    go (at-store x k) = at x k (safe-at (x .number) (k .there) f)

@@ -1,0 +1,167 @@
+-- What a format does: each step lands, a cut leaves the old objects, no store or the empty one, and it ends in the empty one.
+use mathlib.Core.Path.{_≡_, refl, sym, ap, subst, _∙_}
+use mathlib.Core.List.{List, [], map}
+use mathlib.Core.Logic.{_⊎_, inl, inr}
+use mathlib.Core.Bool.{Bool, true, false}
+use Prim.Native.Nat.{ℕ, zero, suc, _+_, _-_, _≤_, _<_}
+use native.Mathlib.Omega.{arith}
+use lib.Dec.{ltb}
+use lib.ListN.{length, getD, take, replicate, length-replicate}
+use lib.Seq.{take-all}
+use borrow.Author.Tests.{ltb-true, ltb-false}
+use Rattle.flash.specs.Flash.{Step, erase, applyAll, block, blocks, blockNumbers, Write, write, writeAll}
+use Rattle.flash.proofs.Cases.{on-test}
+use Rattle.flash.proofs.Offsets.{Below}
+use Rattle.frame.specs.Frame.{Frame, total, AllMayStand, nextOf}
+use Rattle.frame.specs.Reader.{clean}
+use Rattle.frame.proofs.Scanning.{scan-blank}
+use Rattle.journal.specs.Replay.{Object, state, replayFrom, isOpen}
+use Rattle.journal.specs.Block.{headerLen, lastTime, blockState, build}
+use Rattle.journal.proofs.Blocks.{Layout}
+use Rattle.journal.proofs.States.{Contents}
+use Rattle.journal.proofs.Building.{Lands, below-build, made, making, lands}
+use Rattle.board.specs.Record.{idle}
+use Rattle.board.specs.Plan.{onBlock, formatPlan}
+use Rattle.board.proofs.Images.{Sized, sized-as, apply-append, block-writes, other-writes, length-all-steps}
+use Rattle.board.proofs.Invariant.{Quiet, Safe, no-valid, StepLands}
+use Rattle.board.proofs.Prefixes.{Each, each-append, each-writes, below-take}
+use Rattle.board.proofs.Current.{Alone, After, alone-after, blank-quiet}
+use Rattle.board.proofs.Erasing.{In, NoStore, safe-or, safe-more, erase-leaves, erases-land, erases-blank}
+
+-- ---- a block made of a blank one
+
+module _ (s k : ℕ) (img : List ℕ) (bl : block s k img ≡ replicate s 255) (t : ℕ) (fs : List Frame) (fit : headerLen + total fs ≤ s) where
+  part-made : (j : ℕ) → block s k (applyAll s (onBlock k (take j (build t fs))) img) ≡ writeAll (replicate s 255) (take j (build t fs))
+  part-made j =
+      block-writes s k (take j (build t fs)) img (below-take s j (build t fs) (below-build s t fs fit))
+      ∙ ap (λ (l : List ℕ). writeAll l (take j (build t fs))) bl
+
+  part-quiet : (j : ℕ) → j < length (build t fs) → Quiet (blockState (block s k (applyAll s (onBlock k (take j (build t fs))) img)))
+  unfolding writeAll
+  part-quiet zero h = blank-quiet s (block s k (applyAll s (onBlock k (take 0 (build t fs))) img)) (part-made 0)
+  part-quiet (suc j) h = subst Quiet (sym (ap blockState (part-made (suc j)) ∙ making s t (suc j) fs fit (omega arith) h)) tt
+
+  part-lands : AllMayStand 0 fs → Each s (StepLands s) (onBlock k (build t fs)) img
+  part-lands g =
+      each-writes s k (StepLands s) (build t fs) (write 0 0) img
+      (λ j h. subst (λ (l : List ℕ). Lands l (getD (build t fs) j (write 0 0))) (sym (part-made j)) (lands s t j fs (write 0 0) fit g h))
+
+made-contents : (s t : ℕ) (fs : List Frame) → headerLen + total fs ≤ s → AllMayStand 0 fs → 0 < t → t ≤ lastTime
+    → Contents (writeAll (replicate s 255) (build t fs)) t fs clean
+made-contents s t fs h g lo hi =
+    let m : ℕ = s - (headerLen + total fs) in
+    let y : Layout s (writeAll (replicate s 255) (build t fs)) t fs (replicate m 255) = made s t fs h g lo hi in
+    record {
+      rest = replicate m 255;
+      layout = subst (λ (n : ℕ). Layout n (writeAll (replicate s 255) (build t fs)) t fs (replicate m 255)) (sym (y .size)) y;
+      reads = scan-blank (nextOf 0 fs) (headerLen + total fs) m;
+      okay = tt;
+      clean-is = λ e. ap (λ (n : ℕ). replicate n 255) (sym (length-replicate m 255));
+    }
+
+-- ---- the format
+
+none-fit : {s : ℕ} {img : List ℕ} → Sized s img → headerLen + total [] ≤ s
+unfolding total
+none-fit z = omega (arith, z .low)
+
+each-number : (j : ℕ) → j < blocks → In j blockNumbers
+each-number zero h = inl refl
+each-number (suc zero) h = inr (inl refl)
+each-number (suc (suc j)) h = absurd (omega arith)
+
+module _ {s : ℕ} {img : List ℕ} (z : Sized s img) where
+  -- the image with every block erased
+  abbrev wiped : List ℕ
+  wiped = applyAll s (map erase blockNumbers) img
+
+  wiped-blank : (j : ℕ) → j < blocks → block s j wiped ≡ replicate s 255
+  wiped-blank j h =
+      erases-blank j blockNumbers img z (omega arith, (omega arith, tt)) (inr (each-number j h))
+
+  -- some of the header's writes are done
+  abbrev part : ℕ → List ℕ
+  part j = applyAll s (onBlock 0 (take j (build 1 []))) wiped
+
+  part-other : (i j : ℕ) → i < blocks → (i ≡ 0 → ⊥) → block s i (part j) ≡ replicate s 255
+  part-other i j h n =
+      other-writes s i 0 (take j (build 1 [])) wiped n (below-take s j (build 1 []) (below-build s 1 [] (none-fit z))) ∙ wiped-blank i h
+
+  part-empty : (j : ℕ) → j < length (build 1 []) → NoStore s (part j)
+  part-empty j h zero g = part-quiet s 0 wiped (wiped-blank 0 g) 1 [] (none-fit z) j h
+  part-empty j h (suc i) g = blank-quiet s (block s (suc i) (part j)) (part-other (suc i) j g (λ e. omega arith))
+
+  pub format-lands : Each s (StepLands s) formatPlan img
+  format-lands =
+      each-append s (StepLands s) (map erase blockNumbers) (onBlock 0 (build 1 [])) img (erases-land s blockNumbers img)
+      (part-lands s 0 wiped (wiped-blank 0 (omega arith)) 1 [] (none-fit z) tt)
+
+  -- before each step the objects are there, or no store
+  format-leaves : {os : List Object} {u : Bool} → Safe s img os u → Each s (λ y i. Safe s i os false ⊎ NoStore s i) formatPlan img
+  unfolding applyAll
+  format-leaves {os} {u} f =
+      each-append s (λ y i. Safe s i os false ⊎ NoStore s i) (map erase blockNumbers) (onBlock 0 (build 1 [])) img first
+      (each-writes s 0 (λ y i. Safe s i os false ⊎ NoStore s i) (build 1 []) (write 0 0) wiped (λ j h. inr (part-empty j h)))
+    where
+      start : Safe s img os false ⊎ ((u ≡ true) × NoStore s img) → Safe s img os false ⊎ NoStore s img
+      start (inl x) = inl x
+      start (inr (e, q)) = inr q
+
+      first : Each s (λ y i. Safe s i os false ⊎ NoStore s i) (map erase blockNumbers) img
+      first zero h = start (safe-or f)
+      first (suc zero) h = erase-leaves z 0 (omega arith) f
+      first (suc (suc j)) h = absurd (omega arith)
+
+  pub format-safe : {os : List Object} {u : Bool} → Safe s img os u → Each s (λ y i. Safe s i os true) formatPlan img
+  format-safe {os} f j h = go (format-leaves f j h)
+    where
+      go : Safe s (applyAll s (take j formatPlan) img) os false ⊎ NoStore s (applyAll s (take j formatPlan) img)
+          → Safe s (applyAll s (take j formatPlan) img) os true
+      go (inl x) = safe-more true x
+      go (inr q) = no-valid refl q
+
+  -- the empty store: one block, of time 1 and no frames
+  pub format-alone : Alone s (applyAll s formatPlan img) 0 1 [] clean
+  format-alone =
+      let ws : List Write = build 1 [] in
+      let b : Below s ws = below-build s 1 [] (none-fit z) in
+      let i : List ℕ = applyAll s (onBlock 0 ws) wiped in
+      subst (λ (l : List ℕ). Alone s l 0 1 [] clean) (sym (apply-append s (map erase blockNumbers) (onBlock 0 ws) img))
+      (record {
+        sized = sized-as i (length-all-steps s (onBlock 0 ws) wiped ∙ length-all-steps s (map erase blockNumbers) img) z;
+        there = omega arith;
+        contents =
+            subst (λ (l : List ℕ). Contents l 1 [] clean)
+            (sym (block-writes s 0 ws wiped b ∙ ap (λ (l : List ℕ). writeAll l ws) (wiped-blank 0 (omega arith))))
+            (made-contents s 1 [] (none-fit z) tt (omega arith) (omega arith));
+        others = λ j h n. other-writes s j 0 ws wiped n b ∙ wiped-blank j h;
+      })
+
+  pub format-ends : After s (applyAll s formatPlan img) (idle (length img - 1) 0 headerLen) (state [] [])
+  unfolding total replayFrom isOpen
+  format-ends =
+      alone-after (length img - 1) (state [] []) format-alone (omega (arith, length-all-steps s formatPlan img, z .two, z .low)) refl (omega (arith, z .low))
+
+-- "On an image the store left, a cut format leaves the old settled objects, no store, or the empty store": after j of the steps.
+-- A mount finds the objects where an image is safe and no format is unfinished.
+pub data FormatCut (s : ℕ) (img : List ℕ) (os : List Object) (j : ℕ) : Type 0 where
+  old-objects : Safe s img os false → FormatCut s img os j
+  no-store : NoStore s img → FormatCut s img os j
+  empty-store : j ≡ length formatPlan → Alone s img 0 1 [] clean → FormatCut s img os j
+
+pub format-cut : {s : ℕ} {img : List ℕ} {os : List Object} {u : Bool} → Sized s img → Safe s img os u → (j : ℕ) → j ≤ length formatPlan
+    → FormatCut s (applyAll s (take j formatPlan) img) os j
+format-cut {s} {img} {os} z f j h =
+    on-test (ltb j (length formatPlan))
+    (λ t. early (format-leaves z f j (ltb-true j (length formatPlan) t)))
+    (λ t. last (omega (arith, ltb-false j (length formatPlan) t)))
+  where
+    early : Safe s (applyAll s (take j formatPlan) img) os false ⊎ NoStore s (applyAll s (take j formatPlan) img)
+        → FormatCut s (applyAll s (take j formatPlan) img) os j
+    early (inl x) = old-objects x
+    early (inr q) = no-store q
+
+    last : j ≡ length formatPlan → FormatCut s (applyAll s (take j formatPlan) img) os j
+    last e =
+        empty-store e
+        (subst (λ (p : List Step). Alone s (applyAll s p img) 0 1 [] clean) (sym (take-all j formatPlan (omega arith))) (format-alone z))

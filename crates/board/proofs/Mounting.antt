@@ -1,0 +1,108 @@
+-- What an accepted mount does: each step lands, every prefix keeps what a mount finds, and it ends with the settled objects alone.
+use mathlib.Core.Path.{_≡_, refl, sym, ap, subst}
+use mathlib.Core.List.{List, [], _∷_, map}
+use mathlib.Core.Bool.{Bool, true, false, false≢true}
+use Prim.Native.Nat.{ℕ, suc, _-_, _≤_, _<_}
+use native.Mathlib.Omega.{arith}
+use lib.ListN.{length}
+use Rattle.flash.specs.Flash.{erase, applyAll, blocks}
+use Rattle.flash.proofs.Cases.{on-test}
+use Rattle.frame.specs.Frame.{Frame}
+use Rattle.frame.specs.Reader.{Tail, clean, cut, bad}
+use Rattle.journal.specs.Replay.{Object, Entry, State, state, replay, settledOnly}
+use Rattle.journal.specs.Block.{lastTime}
+use Rattle.journal.proofs.Room.{claimed-settled}
+use Rattle.board.specs.Record.{idle}
+use Rattle.board.specs.Mount.{Store, allFound, wipeList, nextBlock, anyPending, needsTransfer}
+use Rattle.board.specs.Plan.{transferIf, mountPlan, mountedAt}
+use Rattle.board.proofs.Blocks.{wiped-besides}
+use Rattle.board.proofs.Images.{Sized, apply-append, length-all-steps}
+use Rattle.board.proofs.Lengths.{length-mount-moved, length-mount-stayed}
+use Rattle.board.proofs.Invariant.{Safe, StepLands}
+use Rattle.board.proofs.Prefixes.{Each, each-append}
+use Rattle.board.proofs.Current.{Alone, After, Keeps, alone-after, valid-of, keeps-settled}
+use Rattle.board.proofs.Erasing.{erases-land, erases-safe, erases-alone}
+use Rattle.board.proofs.Transferring.{transfer-lands, transfer-safe, transferred, moves-settled, roomy-settled}
+use Rattle.board.proofs.Deciding.{Holds, InTime}
+use Rattle.board.proofs.Wiping.{wipes-others, wipes-few}
+
+-- ---- where no transfer is due
+
+needs-clean : (fs : List Frame) (c : Tail) → needsTransfer fs c ≡ false → c ≡ clean
+needs-clean fs clean e = refl
+needs-clean fs (cut n) e = absurd (false≢true (sym e))
+needs-clean fs (bad f) e = absurd (false≢true (sym e))
+
+no-pending : (ps : List Entry) → anyPending ps ≡ false → ps ≡ []
+no-pending [] e = refl
+no-pending (p ∷ ps) e = absurd (false≢true (sym e))
+
+needs-none : (fs : List Frame) (c : Tail) → needsTransfer fs c ≡ false → replay fs ≡ settledOnly (replay fs)
+needs-none fs clean e = ap (λ (ps : List Entry). state (replay fs .objects) ps) (no-pending (replay fs .pending) e)
+needs-none fs (cut n) e = absurd (false≢true (sym e))
+needs-none fs (bad f) e = absurd (false≢true (sym e))
+
+-- ---- the plan
+
+module _ {s : ℕ} {img : List ℕ} (x : Store) (z : Sized s img) (h : x .number < blocks) (y : Holds s img x) (t : InTime x) where
+  abbrev ks : List ℕ
+  ks = wipeList (x .number) (allFound img)
+
+  abbrev st : State
+  st = settledOnly (replay (x .frames))
+
+  -- the other blocks erased
+  abbrev wiped : List ℕ
+  wiped = applyAll s (map erase ks) img
+
+  alone : Alone s wiped (x .number) (x .time) (x .frames) (x .tail)
+  alone = erases-alone ks img z h y (wiped-besides (x .number) img) (wipes-others z (x .number))
+
+  pub mount-lands : Each s (StepLands s) (mountPlan (allFound img) x) img
+  mount-lands =
+      each-append s (StepLands s) (map erase ks) (transferIf (needsTransfer (x .frames) (x .tail)) (x .number) (x .time) st) img (erases-land s ks img)
+      (go (needsTransfer (x .frames) (x .tail)) t)
+    where
+      go : (b : Bool) → (b ≡ true → x .time < lastTime) → Each s (StepLands s) (transferIf b (x .number) (x .time) st) wiped
+      go true l = transfer-lands alone st (moves-settled alone (l refl))
+      go false l = λ j k. absurd (omega arith)
+
+  pub mount-keeps : {os : List Object} {u : Bool} → Keeps s (replay (x .frames)) os → Safe s img os u
+      → Each s (λ w i. Safe s i os u) (mountPlan (allFound img) x) img
+  mount-keeps {os} {u} p f =
+      each-append s (λ w i. Safe s i os u) (map erase ks) (transferIf (needsTransfer (x .frames) (x .tail)) (x .number) (x .time) st) img
+      (erases-safe (x .number) ks img z h (wiped-besides (x .number) img) (valid-of y p) f) (go (needsTransfer (x .frames) (x .tail)) t)
+    where
+      go : (b : Bool) → (b ≡ true → x .time < lastTime) → Each s (λ w i. Safe s i os u) (transferIf b (x .number) (x .time) st) wiped
+      go true l = transfer-safe alone st (moves-settled alone (l refl)) u p (keeps-settled p)
+      go false l = λ j k. absurd (omega arith)
+
+  pub mount-ends : After s (applyAll s (mountPlan (allFound img) x) img) (mountedAt (needsTransfer (x .frames) (x .tail)) (length img - 1) x) st
+  unfolding applyAll
+  mount-ends =
+      subst (λ (i : List ℕ). After s i (mountedAt needs (length img - 1) x) st)
+      (sym (apply-append s (map erase ks) (transferIf needs (x .number) (x .time) st) img)) (go needs refl)
+    where
+      needs : Bool
+      needs = needsTransfer (x .frames) (x .tail)
+
+      long : length wiped ≡ suc (length img - 1)
+      long = omega (arith, length-all-steps s (map erase ks) img, z .two, z .low)
+
+      go : (b : Bool) → needs ≡ b → After s (applyAll s (transferIf b (x .number) (x .time) st) wiped) (mountedAt b (length img - 1) x) st
+      go true e =
+          subst (λ (n : ℕ). After s (applyAll s (transferIf true (x .number) (x .time) st) wiped) (idle (length img - 1) (nextBlock (x .number)) n) st)
+          (claimed-settled (replay (x .frames)))
+          (transferred alone st (moves-settled alone (t e)) (length img - 1) long (roomy-settled alone))
+      go false e =
+          alone-after (length img - 1) st
+          (subst (λ (c : Tail). Alone s wiped (x .number) (x .time) (x .frames) c) (needs-clean (x .frames) (x .tail) e) alone) long
+          (needs-none (x .frames) (x .tail) e) (roomy-settled alone)
+
+  -- at most S steps
+  pub mount-short : length (mountPlan (allFound img) x) ≤ s
+  mount-short =
+      let few : length ks ≤ 1 = wipes-few img (x .number) h in
+      on-test (needsTransfer (x .frames) (x .tail))
+      (λ e. omega (arith, length-mount-moved (allFound img) x e, roomy-settled alone, claimed-settled (replay (x .frames))))
+      (λ e. omega (arith, length-mount-stayed (allFound img) x e, z .low))

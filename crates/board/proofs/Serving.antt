@@ -1,0 +1,204 @@
+-- A request keeps the invariant: its frame is begun, or nothing changes.
+use mathlib.Core.Path.{_≡_, refl, sym, ap, subst, _∙_}
+use mathlib.Core.List.{List, [], _∷_, _++_}
+use mathlib.Core.Option.{Option, none, some}
+use mathlib.Core.Bool.{Bool, true, false, _&&_}
+use Prim.Native.Nat.{ℕ, zero, suc, _+_, _≤_, _<_}
+use native.Mathlib.Omega.{arith}
+use lib.Dec.{eqb, ltb, leb}
+use lib.ListN.{length}
+use borrow.Author.Tests.{eqb-false, leb-true}
+use Rattle.flash.specs.Bytes.{Bytes}
+use Rattle.flash.specs.Flash.{Step, applyAll, block, sizeOf}
+use Rattle.flash.proofs.Cases.{on-test}
+use Rattle.frame.specs.declared.Host.{Host}
+use Rattle.frame.specs.declared.ObjectId.{ObjectId}
+use Rattle.frame.specs.Frame.{hostMax, Change, put, delete, Frame, change, commit, abort, frameLen, OfHost, MayStand}
+use Rattle.journal.specs.Replay.{State, replay, lookup, next, isOpen}
+use Rattle.journal.specs.Block.{lastTime}
+use Rattle.journal.specs.Room.{claimed, used, noRoom}
+use Rattle.journal.proofs.Places.{Journal}
+use Rattle.wire.specs.declared.Answer.{Answer}
+use Rattle.wire.specs.declared.Answer.the-variants.{Done, More, Refused}
+use Rattle.wire.specs.declared.Refusal.{Refusal}
+use Rattle.wire.specs.declared.Refusal.the-variants as refusal
+use Rattle.wire.specs.declared.Page.the-variants.{Summary}
+use Rattle.wire.specs.declared.Request.{Request}
+use Rattle.wire.specs.declared.Request.the-variants.{Put, Delete, Commit, Abort, Read, Log}
+use Rattle.wire.specs.Message.{valueIn, pageLen, logPage, withPage}
+use Rattle.board.specs.declared.Record.{Record}
+use Rattle.board.specs.declared.Phase.the-variants.{Idle}
+use Rattle.board.specs.Record.{Out, out, refuse, answerOf}
+use Rattle.board.specs.Step.{enterWipe, begin}
+use Rattle.board.specs.Queue.{Held, placeOf, needsRoom, appendJob, append, serve, serveEnd, serveChange}
+use Rattle.board.specs.Plan.{framePlan, framedAt}
+use Rattle.board.specs.Book.{Book, book, committing, withList, join, finishing, accept}
+use Rattle.board.specs.Claim.{Never}
+use Rattle.board.proofs.Images.{Sized, size-of}
+use Rattle.board.proofs.Invariant.{Safe, Ready, IdleBook, InJob, Inv}
+use Rattle.board.proofs.Outcomes.{append-worn, append-begins, change-refused, change-goes, end-goes, end-idle, log-short, log-done, serve-put, serve-delete, serve-commit, serve-abort, serve-log, read-none, read-some}
+use Rattle.board.proofs.Prefixes.{Each}
+use Rattle.board.proofs.Current.{Alone, After, Keeps}
+use Rattle.board.proofs.Jobs.{job-starts}
+use Rattle.board.proofs.Keeping.{Working, inv-idle, inv-busy, ready-idle}
+use Rattle.board.proofs.Replies.{heldOf, journal-of}
+use Rattle.board.proofs.Books.{Entered, idle-book, Found, entered-change, entered-commit, entered-abort, lists-none}
+use Rattle.board.proofs.Accepted.{follows-frame}
+use Rattle.board.proofs.Lengths.{length-frame-moved, length-frame-stayed}
+use Rattle.board.proofs.Framing.{Holds, ready-holds, Appendable, frame-safe, frame-ends}
+
+-- ---- a frame job is begun
+
+frame-short : (needs : Bool) (s k e : ℕ) (x : Held) (f : Frame) → claimed (replay (x .frames)) + frameLen f ≤ s → length (framePlan needs k e x f) ≤ s
+frame-short true s k e x f h = omega (arith, length-frame-moved k e x f)
+frame-short false s k e x f h = omega (arith, length-frame-stayed k e x f)
+
+frame-some : (needs : Bool) (k e : ℕ) (x : Held) (f : Frame) → 0 < length (framePlan needs k e x f)
+frame-some true k e x f = omega (arith, length-frame-moved k e x f)
+frame-some false k e x f = omega (arith, length-frame-stayed k e x f)
+
+-- whatever holds of each step and of the end: the job of a frame is begun
+pub frame-starts : {s : ℕ} {P : Step → List ℕ → Type 0} {Q : List ℕ → Record → Type 0} {img : List ℕ} (r : Record) (x : Held) (f : Frame)
+    → Sized s img → Holds s img r x → Appendable s img r x f → Each s P (framePlan (needsRoom img r f) (r .block) (r .end) x f) img
+    → Q (applyAll s (framePlan (needsRoom img r f) (r .block) (r .end) x f) img) (framedAt (needsRoom img r f) (r .last) (r .block) (r .end) x f)
+    → framedAt (needsRoom img r f) (r .last) (r .block) (r .end) x f .phase ≡ Idle
+    → (answerOf (enterWipe (appendJob img r x f)) ≡ More) × InJob s P Q img (enterWipe (appendJob img r x f))
+frame-starts {s} {P} {Q} {img} r x f z h y each ends idle =
+    let j : Journal (block (sizeOf img) (r .block) img) (x .frames) =
+    subst (λ (n : ℕ). Journal (block n (r .block) img) (x .frames)) (sym (size-of z)) (journal-of (h .alone .contents)) in
+    job-starts img (enterWipe (appendJob img r x f)) (framePlan (needsRoom img r f) (r .block) (r .end) x f)
+    (framedAt (needsRoom img r f) (r .last) (r .block) (r .end) x f)
+    (follows-frame img r x f (h .long) (h .alone .there) j (sym (h .ends)) (omega (arith, y .fits, size-of z)))
+    (frame-some (needsRoom img r f) (r .block) (r .end) x f) (frame-short (needsRoom img r f) s (r .block) (r .end) x f (y .fits)) each ends idle
+
+-- ---- serving one request on an idle record of a run
+
+-- the book after a request that is no refusal, and after one
+abbrev pub entered : Book → Host → List ℕ → Request → Answer → Book
+entered b h m q Done = accept b h m q Done
+entered b h m q More = accept b h m q More
+entered b h m q (Refused n) = b
+
+-- the invariant is kept and neither 4 nor 11 is answered
+abbrev pub Served : ℕ → Book → Bool → Host → List ℕ → Request → Out → Type 0
+Served s b u h m q o =
+    Inv s (o .image) (o .board) (entered b h m q (o .answer)) u × Never refusal.ImageLength o × Never refusal.Stale o
+
+-- a change that a request asks for is legal
+abbrev pub Legal : Host → List ℕ → Request → Type 0
+Legal h m (Put i) = MayStand 256 (change h (put i (valueIn m)))
+Legal h m (Delete i) = MayStand 256 (change h (delete i))
+Legal h m Commit = Unit {0}
+Legal h m Abort = Unit {0}
+Legal h m (Read i) = Unit {0}
+Legal h m (Log p) = Unit {0}
+
+-- what is known of an idle record
+pub found : {s : ℕ} {img : List ℕ} {r : Record} {b : Book} (y : IdleBook s img r b) → Found s (replay (y .ready .frames)) b
+found y = record { room = y .ready .room; spare = y .spare; objects = y .objects; lists = y .lists; under = y .under }
+
+module _ {s : ℕ} {img : List ℕ} {r : Record} {b : Book} (u : Bool) (z : Sized s img) (by : Bytes img) (y : IdleBook s img r b) (reply : List ℕ) (h : Host)
+    (k : h .0 ≤ hostMax) (m : List ℕ) where
+  abbrev x : Held
+  x = heldOf (y .ready)
+
+  abbrev st : State
+  st = replay (y .ready .frames)
+
+  same : Inv s img r b u
+  same = inv-idle r z by y
+
+  begun : (q : Request) (f : Frame) → OfHost f → MayStand 256 f → Entered s st f (accept b h m q More) → accept b h m q More .objects ≡ b .objects
+      → (needsRoom img r f && eqb (y .ready .time) lastTime) ≡ false → Served s b u h m q (begin img reply (appendJob img r x f))
+  begun q f o g e os t =
+      let b′ : Book = accept b h m q More in
+      let hold : Holds s img r x = ready-holds z (y .ready) refl refl in
+      let fit : Appendable s img r x f =
+      record {
+        host = o;
+        legal = g;
+        fits = e .fits;
+        young = λ n. let v : eqb (y .ready .time) lastTime ≡ false = rw n at t in omega (arith, eqb-false (y .ready .time) lastTime v, y .ready .contents .layout .time-hi);
+      } in
+      let after : After s (applyAll s (framePlan (needsRoom img r f) (r .block) (r .end) x f) img)
+      (framedAt (needsRoom img r f) (r .last) (r .block) (r .end) x f) (next st f) = frame-ends hold fit (e .room) in
+      let keeps : Keeps s st (b′ .objects) = record { room = y .spare; same = y .objects ∙ sym os } in
+      let j : (answerOf (enterWipe (appendJob img r x f)) ≡ More) × Working s img (enterWipe (appendJob img r x f)) b′ u =
+      frame-starts r x f z hold fit (frame-safe hold fit u keeps) (idle-book e after) (ready-idle (after .ready)) in (
+        subst (λ (a : Answer). Inv s img (enterWipe (appendJob img r x f)) (entered b h m q a) u) (sym (j .0))
+            (inv-busy (enterWipe (appendJob img r x f)) z by (j .0) (j .1)),
+        no-refusal (j .0),
+        no-refusal (j .0),
+      )
+    where
+      no-refusal : {a : Answer} {n : Refusal} → a ≡ More → a ≡ Refused n → ⊥
+      no-refusal p q = let w : _≡_ {A = ℕ} 0 1 = cc in omega arith
+
+  -- a refusal changes nothing
+  refused : (q : Request) (n : Refusal) → (Refused n ≡ Refused refusal.ImageLength → ⊥) → (Refused n ≡ Refused refusal.Stale → ⊥)
+      → Served s b u h m q (refuse n img r reply)
+  refused q n a c = (same, a, c)
+
+  -- an answer of 0 on the record as it is, with another reply or a stretch
+  done : (q : Request) (o : Out) → o .answer ≡ Done → o .image ≡ img → o .board ≡ r → IdleBook s img r (accept b h m q Done) → Served s b u h m q o
+  done q o e i p w = (
+    subst (λ (a : Answer). Inv s (o .image) (o .board) (entered b h m q a) u) (sym e)
+        (subst (λ (l : List ℕ). Inv s l (o .board) (accept b h m q Done) u) (sym i)
+        (subst (λ (c : Record). Inv s img c (accept b h m q Done) u) (sym p) (inv-idle r z by w))),
+    λ c. (let w : _≡_ {A = ℕ} 0 1 = cc in omega arith),
+    λ c. (let w : _≡_ {A = ℕ} 0 1 = cc in omega arith),
+  )
+
+  appended : (q : Request) (f : Frame) → OfHost f → MayStand 256 f → Entered s st f (accept b h m q More) → accept b h m q More .objects ≡ b .objects
+      → Served s b u h m q (append img r reply x f)
+  appended q f o g e os =
+      on-test (needsRoom img r f && eqb (y .ready .time) lastTime)
+      (λ t. subst (Served s b u h m q) (sym (append-worn img r reply x f t))
+      (refused q refusal.Worn (λ c. let w : _≡_ {A = ℕ} 0 1 = cc in omega arith) (λ c. let w : _≡_ {A = ℕ} 0 1 = cc in omega arith)))
+      (λ t. subst (Served s b u h m q) (sym (append-begins img r reply x f t)) (begun q f o g e os t))
+
+  changed : (q : Request) (c : Change) → accept b h m q More ≡ join b h c → MayStand 256 (change h c) → Served s b u h m q (serveChange img r reply h x c)
+  changed q c e g =
+      on-test (noRoom (sizeOf img) st h c)
+      (λ t. subst (Served s b u h m q) (sym (change-refused img r reply h x c t))
+      (refused q refusal.NoRoom (λ c. let w : _≡_ {A = ℕ} 0 1 = cc in omega arith) (λ c. let w : _≡_ {A = ℕ} 0 1 = cc in omega arith)))
+      (λ t. subst (Served s b u h m q) (sym (change-goes img r reply h x c t))
+      (appended q (change h c) tt g
+      (subst (Entered s st (change h c)) (sym e) (entered-change (found y) h k c (subst (λ (n : ℕ). noRoom n st h c ≡ false) (size-of z) t)))
+      (ap (λ (w : Book). w .objects) e)))
+
+  ended : (q : Request) (f : Frame) → OfHost f → MayStand 256 f → (isOpen h (st .pending) ≡ true → Entered s st f (accept b h m q More))
+      → accept b h m q More .objects ≡ b .objects → (isOpen h (st .pending) ≡ false → IdleBook s img r (accept b h m q Done))
+      → Served s b u h m q (serveEnd img r reply h x f)
+  ended q f o g e os n =
+      on-test (isOpen h (st .pending))
+      (λ t. subst (Served s b u h m q) (sym (end-goes img r reply h x f t)) (appended q f o g (e t) os))
+      (λ t. subst (Served s b u h m q) (sym (end-idle img r reply h x f t)) (done q (out Done img r reply) refl refl refl (n t)))
+
+  -- an abort with nothing pending leaves the book as it is, but for an empty list
+  abort-none : isOpen h (st .pending) ≡ false → IdleBook s img r (book (b .objects) (withList (b .lists) h []) (b .under))
+  abort-none t = record { ready = y .ready; spare = y .spare; objects = y .objects; lists = lists-none (st .pending) b h t (y .lists); under = y .under }
+
+  pub served : (q : Request) → Legal h m q → Served s b u h m q (serve img r reply h m x q)
+  served (Put i) g = subst (Served s b u h m (Put i)) (sym (serve-put img r reply h m x i)) (changed (Put i) (put i (valueIn m)) refl g)
+  served (Delete i) g = subst (Served s b u h m (Delete i)) (sym (serve-delete img r reply h m x i)) (changed (Delete i) (delete i) refl g)
+  served Commit g =
+      subst (Served s b u h m Commit) (sym (serve-commit img r reply h m x))
+      (ended Commit (commit h) tt k (entered-commit (found y) h k) refl (λ t. y))
+  served Abort g =
+      subst (Served s b u h m Abort) (sym (serve-abort img r reply h m x)) (ended Abort (abort h) tt k (entered-abort (found y) h k) refl abort-none)
+  served (Read i) g = go (lookup i (st .objects)) refl
+    where
+      go : (v : Option (List ℕ)) → lookup i (st .objects) ≡ v → Served s b u h m (Read i) (serve img r reply h m x (Read i))
+      go none e =
+          subst (Served s b u h m (Read i)) (sym (read-none img r reply h m x i e))
+          (refused (Read i) refusal.NoObject (λ c. let w : _≡_ {A = ℕ} 0 1 = cc in omega arith) (λ c. let w : _≡_ {A = ℕ} 0 1 = cc in omega arith))
+      go (some v) e =
+          let o : Out = serve img r reply h m x (Read i) in
+          let f : o ≡ record { answer = Done; image = img; board = r; reply = reply; stretch = placeOf img r x i } = read-some img r reply h m x i v e in
+          done (Read i) o (ap (λ (w : Out). w .answer) f) (ap (λ (w : Out). w .image) f) (ap (λ (w : Out). w .board) f) y
+  served (Log Summary) g =
+      on-test (ltb (length reply) pageLen)
+      (λ t. subst (Served s b u h m (Log Summary)) (sym (serve-log img r reply h m x ∙ log-short img r reply x t))
+      (refused (Log Summary) refusal.ShortReply (λ c. let w : _≡_ {A = ℕ} 0 1 = cc in omega arith) (λ c. let w : _≡_ {A = ℕ} 0 1 = cc in omega arith)))
+      (λ t. subst (Served s b u h m (Log Summary)) (sym (serve-log img r reply h m x ∙ log-done img r reply x t)) (done (Log Summary) (out Done img r (withPage (logPage (y .ready .time) (length (st .objects)) (used st) (sizeOf img)) reply)) refl refl refl y))
