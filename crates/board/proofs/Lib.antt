@@ -23,6 +23,8 @@ pub mod Appending
 pub mod Transferring
 pub mod Framing
 pub mod Serving
+pub mod Requests
+pub mod Claiming
 pub mod Erasing
 pub mod Formatting
 pub mod Deciding

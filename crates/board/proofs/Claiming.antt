@@ -1,0 +1,251 @@
+-- Demand 3: every run from a finished format agrees with the book, and the store stays available.
+use mathlib.Core.Path.{_≡_, refl, sym, ap, subst, _∙_}
+use mathlib.Core.List.{List, [], _∷_, _++_}
+use mathlib.Core.Logic.{_⊎_, inl, inr}
+use mathlib.Core.Bool.{Bool, true, false}
+use Prim.Native.Nat.{ℕ, zero, suc, _+_, _-_, _/_, _≤_, _<_}
+use native.Mathlib.Omega.{arith}
+use lib.ListN.{length, take, drop, length-drop}
+use Rattle.flash.specs.Bytes.{Bytes}
+use Rattle.flash.specs.Flash.{Step, erase, apply, applyAll, blocks, block, sizeOf}
+use Rattle.flash.proofs.Image.{length-apply}
+use Rattle.frame.specs.Frame.{Frame, deleteLen, endLen, total}
+use Rattle.journal.specs.Replay.{Object, State, state, replay, listOf, settledOnly}
+use Rattle.journal.specs.Block.{BlockState, valid, blockState, headerLen}
+use Rattle.journal.specs.Room.{used}
+use Rattle.journal.proofs.Room.{kept, kept-none, used-kept}
+use Rattle.journal.proofs.Places.{Journal}
+use Rattle.journal.proofs.States.{contents-valid}
+use Rattle.wire.specs.declared.Answer.{Answer}
+use Rattle.wire.specs.declared.Answer.the-variants.{Done, More, Refused}
+use Rattle.wire.specs.declared.Refusal.{Refusal}
+use Rattle.wire.specs.declared.Refusal.the-variants as refusal
+use Rattle.board.specs.declared.Phase.{Phase}
+use Rattle.board.specs.declared.Phase.the-variants.{Unmounted, Idle, Busy}
+use Rattle.board.specs.declared.Record.{Record}
+use Rattle.board.specs.Record.{Out, out, refuse, unmounted, idle, answerOf, allowed}
+use Rattle.board.specs.Step.{stepOn, enterWipe, begin}
+use Rattle.board.specs.Mount.{Store, allFound, wipeList, needsTransfer, mountJob, mountOn, formatJob, formatOn}
+use Rattle.board.specs.Exec.{Call, request, step, mount, format, exec}
+use Rattle.board.specs.Plan.{Follows, formatPlan, mountPlan, mountedAt}
+use Rattle.board.specs.Book.{Book, book, UnderWay, nothing, formatting, noLists, firstBook, finishing, enterCall, enterFormat}
+use Rattle.board.specs.Claim.{IdleAgrees, Finishes, AgreesIn, Agrees, Never, WornOut, MountSays, Says, trackMount, trackFormat, track, Run, stepsOn, formatted, ByteCall, ByteCalls, Claim}
+use Rattle.board.proofs.Images.{Sized, size-of, sized-of, sized-as, length-all-steps, bytes-all-steps}
+use Rattle.board.proofs.Invariant.{Safe, Lists, Ready, IdleBook, InJob, InPhase, Inv}
+use Rattle.board.proofs.Outcomes.{format-begins}
+use Rattle.board.proofs.Current.{After, Keeps}
+use Rattle.board.proofs.Jobs.{Begun, job-starts, job-begins}
+use Rattle.board.proofs.Keeping.{Working, IsBusy, inv-unmounted, inv-idle, inv-busy, ready-idle, on-phase, safe-of, step-keeps}
+use Rattle.board.proofs.Accepted.{follows-format, follows-mount}
+use Rattle.board.proofs.Blocks.{wiped-besides}
+use Rattle.board.proofs.Lengths.{length-format}
+use Rattle.board.proofs.Replies.{journal-of}
+use Rattle.board.proofs.Formatting.{format-safe, format-ends}
+use Rattle.board.proofs.Deciding.{Taken, Holds, InTime, Outcome, worn-out, begins, mount-outcome, MountSafe, nothing-there, store-there, mount-safe}
+use Rattle.board.proofs.Mounting.{mount-keeps, mount-ends, mount-short}
+use Rattle.board.proofs.Requests.{Requested, request-keeps}
+
+-- ---- what the invariant gives between calls
+
+finishes : {s : ℕ} {P : Step → List ℕ → Type 0} {Q : List ℕ → Record → Type 0} {img : List ℕ} {r : Record} → Sized s img → InJob s P Q img r → Finishes img r
+finishes z j =
+    record {
+      plan = drop (j .count) (j .plan);
+      last = j .last;
+      follows = j .follows;
+      rests = j .rests;
+      short = omega (arith, size-of z, j .short, length-drop (j .count) (j .plan));
+    }
+
+idle-agrees : {s : ℕ} {img : List ℕ} {r : Record} {b : Book} → Sized s img → IdleBook s img r b → IdleAgrees img r b
+idle-agrees {s} {img} {r} {b} z y =
+    record {
+      time = y .ready .time;
+      frames = y .ready .frames;
+      is-valid = ap (λ (n : ℕ). blockState (block n (r .block) img)) (size-of z)
+          ∙ ap (λ (q : Record). blockState (block s (q .block) img)) (y .ready .is) ∙ contents-valid (y .ready .contents);
+      objects = y .objects;
+      lists = y .lists;
+      room = λ e. omega (arith, size-of z, y .spare, kept-none (replay (y .ready .frames)) e);
+    }
+
+pub agrees : {s : ℕ} {img : List ℕ} {r : Record} {b : Book} {u : Bool} → Inv s img r b u → Agrees img r b
+agrees {s} {img} {r} {b} {u} v = go (r .phase) (v .phase)
+  where
+    go : (p : Phase) → InPhase p s img r b u → AgreesIn p img r b
+    go Unmounted x = tt
+    go Idle y = idle-agrees (v .sized) y
+    go (Busy g) j = finishes (v .sized) j
+
+-- ---- a format call
+
+abbrev FormatKeeps : ℕ → Book → Bool → Out → Type 0
+FormatKeeps s b u o = Inv s (o .image) (o .board) (enterFormat b (o .answer)) (trackFormat u (o .answer)) × (o .answer ≡ More)
+
+-- an empty store with an empty book
+empty-book : {s : ℕ} {img : List ℕ} {r : Record} → 256 ≤ s → After s img r (state [] []) → IdleBook s img r (book [] noLists nothing)
+unfolding total listOf
+empty-book {s} {img} {r} h a =
+    let empty : State = state [] [] in
+    record {
+      ready = a .ready;
+      spare = subst (λ (x : State). kept x + (deleteLen + endLen) ≤ s) (sym (a .state)) (omega (arith, kept-none empty refl));
+      objects = ap (λ (x : State). x .objects) (a .state);
+      lists = λ g k. ap (λ (x : State). listOf g (x .pending)) (a .state);
+      under = refl;
+    }
+
+format-works : {s : ℕ} {img : List ℕ} (os : List Object) {u : Bool} → Sized s img → Safe s img os u
+    → (answerOf (enterWipe (formatJob img)) ≡ More) × Working s img (enterWipe (formatJob img)) (book os noLists formatting) true
+format-works {s} {img} os z f =
+    let a : After s (applyAll s formatPlan img) (idle (length img - 1) 0 headerLen) (state [] []) = format-ends z in
+    job-starts img (enterWipe (formatJob img)) formatPlan (idle (length img - 1) 0 headerLen) (follows-format img (z .ok)) (omega (arith, length-format))
+    (omega (arith, length-format, z .low)) (format-safe z f) (empty-book (z .low) a) (ready-idle (a .ready))
+
+format-call : {s : ℕ} {img : List ℕ} {r : Record} {b : Book} {u : Bool} → Inv s img r b u → FormatKeeps s b u (formatOn img)
+format-call {s} {img} {r} {b} {u} v =
+    let w : (answerOf (enterWipe (formatJob img)) ≡ More) × Working s img (enterWipe (formatJob img)) (book (b .objects) noLists formatting) true =
+    format-works (b .objects) (v .sized) (safe-of v) in
+    subst (FormatKeeps s b u) (sym (format-begins img (v .sized .ok))) (
+      subst (λ (a : Answer). Inv s img (enterWipe (formatJob img)) (enterFormat b a) (trackFormat u a)) (sym (w .0))
+          (inv-busy (enterWipe (formatJob img)) (v .sized) (v .bytes) (w .0) (w .1)),
+      w .0,
+    )
+
+-- ---- a mount call
+
+abbrev MountKeeps : ℕ → List ℕ → Book → Bool → Out → Type 0
+MountKeeps s img b u o = Inv s (o .image) (o .board) (book (b .objects) noLists nothing) (trackMount u (o .answer)) × MountSays img u o
+
+-- a refused mount
+turned-down : {s : ℕ} {img : List ℕ} {r : Record} {b : Book} {u : Bool} (n : Refusal) → Inv s img r b u → (Refused n ≡ Refused refusal.Foreign → ⊥)
+    → (Refused n ≡ Refused refusal.ImageLength → ⊥) → (Refused n ≡ Refused refusal.NoStore → u ≡ true) → (Refused n ≡ Refused refusal.Worn → WornOut img)
+    → MountKeeps s img b u (refuse n img unmounted [])
+turned-down n v a c d e = (
+  inv-unmounted unmounted (v .sized) (v .bytes) refl (safe-of v) refl,
+  record { never-foreign = a; never-length = c; no-store = d; worn = e },
+)
+
+-- the settled objects alone, in a book with no lists
+settled-book : {s : ℕ} {img : List ℕ} {r : Record} {st : State} {os : List Object} → Keeps s st os → After s img r (settledOnly st)
+    → IdleBook s img r (book os noLists nothing)
+unfolding listOf
+settled-book {s} {img} {r} {st} {os} k a =
+    record {
+      ready = a .ready;
+      spare = subst (λ (x : State). kept x + (deleteLen + endLen) ≤ s) (sym (a .state)) (omega (arith, k .room, used-kept st, kept-none (settledOnly st) refl));
+      objects = ap (λ (x : State). x .objects) (a .state) ∙ k .same;
+      lists = λ g h. ap (λ (x : State). listOf g (x .pending)) (a .state);
+      under = refl;
+    }
+
+accepted-says : {img : List ℕ} {u : Bool} (o : Out) → (o .answer ≡ More) ⊎ (o .answer ≡ Done) → MountSays img u o
+accepted-says o (inl e) =
+    record {
+      never-foreign = λ c. (let w : _≡_ {A = ℕ} 0 1 = cc in omega arith);
+      never-length = λ c. (let w : _≡_ {A = ℕ} 0 1 = cc in omega arith);
+      no-store = λ c. (let w : _≡_ {A = ℕ} 0 1 = cc in absurd (omega arith));
+      worn = λ c. (let w : _≡_ {A = ℕ} 0 1 = cc in absurd (omega arith));
+    }
+accepted-says o (inr e) =
+    record {
+      never-foreign = λ c. (let w : _≡_ {A = ℕ} 0 1 = cc in omega arith);
+      never-length = λ c. (let w : _≡_ {A = ℕ} 0 1 = cc in omega arith);
+      no-store = λ c. (let w : _≡_ {A = ℕ} 0 1 = cc in absurd (omega arith));
+      worn = λ c. (let w : _≡_ {A = ℕ} 0 1 = cc in absurd (omega arith));
+    }
+
+module _ {s : ℕ} {img : List ℕ} {r : Record} {b : Book} {u : Bool} (v : Inv s img r b u) where
+  mount-begun : (x : Store) → Taken s img x → Holds s img x → Keeps s (replay (x .frames)) (b .objects) → Safe s img (b .objects) false → InTime x
+      → MountKeeps s img b u (begin img [] (mountJob img x (wipeList (x .number) (allFound img))))
+  mount-begun x y h k f t =
+      let ks : List ℕ = wipeList (x .number) (allFound img) in
+      let g : Record = enterWipe (mountJob img x ks) in
+      let last : Record = mountedAt (needsTransfer (x .frames) (x .tail)) (length img - 1) x in
+      let a : After s (applyAll s (mountPlan (allFound img) x) img) last (settledOnly (replay (x .frames))) = mount-ends x (v .sized) (y .there) h t in
+      finish g (job-begins img g (mountPlan (allFound img) x) last
+      (follows-mount img x ks (v .sized .ok) (y .there) (wiped-besides (x .number) img)
+      (subst (λ (n : ℕ). Journal (block n (x .number) img) (x .frames)) (sym (size-of (v .sized))) (journal-of h)))
+      (mount-short x (v .sized) (y .there) h t) (mount-keeps x (v .sized) (y .there) h t k f) (settled-book k a) (ready-idle (a .ready)))
+    where
+      finish : (g : Record) → Begun s (λ w i. Safe s i (b .objects) false) (λ i q. IdleBook s i q (book (b .objects) noLists nothing)) img g
+          → MountKeeps s img b u (out (answerOf g) img g [])
+      finish g (inl (m, j)) = (
+        subst (λ (w : Answer). Inv s img g (book (b .objects) noLists nothing) (trackMount u w)) (sym m) (inv-busy g (v .sized) (v .bytes) m j),
+        accepted-says (out (answerOf g) img g []) (inl m),
+      )
+      finish g (inr (d, i)) = (
+        subst (λ (w : Answer). Inv s img g (book (b .objects) noLists nothing) (trackMount u w)) (sym d) (inv-idle g (v .sized) (v .bytes) i),
+        accepted-says (out (answerOf g) img g []) (inr d),
+      )
+
+  mount-found : (x : Store) → Taken s img x → Holds s img x → Keeps s (replay (x .frames)) (b .objects) → Safe s img (b .objects) false → Outcome img x
+      → MountKeeps s img b u (mountOn img)
+  mount-found x y h k f (worn-out w e) =
+      subst (MountKeeps s img b u) (sym e)
+      (turned-down refusal.Worn v (λ c. let w : _≡_ {A = ℕ} 0 1 = cc in omega arith) (λ c. let w : _≡_ {A = ℕ} 0 1 = cc in omega arith)
+      (λ c. let w : _≡_ {A = ℕ} 0 1 = cc in absurd (omega arith)) (λ c. w))
+  mount-found x y h k f (begins t e) = subst (MountKeeps s img b u) (sym e) (mount-begun x y h k f t)
+
+  mount-call : MountKeeps s img b u (mountOn img)
+  mount-call = go (mount-safe (v .sized) (safe-of v))
+    where
+      go : MountSafe s img (b .objects) u → MountKeeps s img b u (mountOn img)
+      go (nothing-there e q) =
+          subst (MountKeeps s img b u) (sym q)
+          (turned-down refusal.NoStore v (λ c. let w : _≡_ {A = ℕ} 0 1 = cc in omega arith) (λ c. let w : _≡_ {A = ℕ} 0 1 = cc in omega arith) (λ c. e)
+          (λ c. let w : _≡_ {A = ℕ} 0 1 = cc in absurd (omega arith)))
+      go (store-there x y h k f) = mount-found x y h k f (mount-outcome x (v .sized) y h)
+
+-- ---- every call, and every run
+
+call-keeps : {s : ℕ} {img : List ℕ} {r : Record} {b : Book} {u : Bool} → Inv s img r b u → (c : Call) → ByteCall c
+    → Says img r b u c (exec img r c)
+    × Inv s (exec img r c .image) (exec img r c .board) (enterCall b c (exec img r c .answer)) (track u b c (exec img r c .answer))
+call-keeps {s} {img} {r} {b} {u} v (request h m reply) by =
+    let y : Requested s img r b u h m reply (exec img r (request h m reply)) = request-keeps v h m reply by in
+    ((y .0 .1, y .0 .2, y .1), y .0 .0)
+call-keeps v step by = let y = step-keeps v in (y .1, y .0)
+call-keeps v mount by = let y = mount-call v in (y .1, y .0)
+call-keeps v format by = let y = format-call v in (y .1, y .0)
+
+pub run-holds : {s : ℕ} {img : List ℕ} {r : Record} {b : Book} {u : Bool} → Inv s img r b u → (cs : List Call) → ByteCalls cs → Run img r b u cs
+run-holds v [] by = agrees v
+run-holds v (c ∷ cs) (by, bys) = let y = call-keeps v c by in (agrees v, y .0, run-holds (y .1) cs bys)
+
+-- ---- from a finished format on
+
+-- all steps of a plan, made
+follows-steps : (plan : List Step) (x : Step) (xs : List Step) → plan ≡ x ∷ xs → (s : ℕ) (o : Out) (last : Record) → sizeOf (o .image) ≡ s
+    → Follows (o .image) (o .board) plan last → stepsOn (length plan) o ≡ out (answerOf last) (applyAll s plan (o .image)) last []
+unfolding applyAll
+follows-steps [] x xs e s o last z f = let w : _≡_ {A = ℕ} 0 1 = cc in absurd (omega arith)
+follows-steps (y ∷ []) x xs e s o last z (m, (n, g, f)) =
+    g ∙ ap (λ (q : Record). out (answerOf q) (apply (sizeOf (o .image)) y (o .image)) q []) f
+    ∙ ap (λ (w : ℕ). out (answerOf last) (apply w y (o .image)) last []) z
+follows-steps (y ∷ y′ ∷ ys) x xs e s o last z (m, (n, g, f)) =
+    let i : List ℕ = apply (sizeOf (o .image)) y (o .image) in
+    ap (λ (q : Out). stepsOn (length (y′ ∷ ys)) q) g
+    ∙ follows-steps (y′ ∷ ys) y′ ys refl s (out (answerOf n) i n []) last (ap (λ (w : ℕ). w / blocks) (length-apply (sizeOf (o .image)) y (o .image)) ∙ z) f
+    ∙ ap (λ (w : ℕ). out (answerOf last) (applyAll s (y′ ∷ ys) (apply w y (o .image))) last []) z
+
+format-done : {s : ℕ} {img : List ℕ} → Sized s img → formatted img ≡ out Done (applyAll s formatPlan img) (idle (length img - 1) 0 headerLen) []
+format-done {s} {img} z =
+    ap (stepsOn 12) (format-begins img (z .ok))
+    ∙ ap (λ (n : ℕ). stepsOn n (begin img [] (formatJob img))) (sym length-format)
+    ∙ follows-steps formatPlan (erase 0) (drop 1 formatPlan) refl s (begin img [] (formatJob img)) (idle (length img - 1) 0 headerLen) (size-of z)
+    (follows-format img (z .ok))
+
+pub claim : Claim
+unfolding Claim
+claim img by ok =
+    let z : Sized (sizeOf img) img = sized-of img ok in
+    let e : formatted img ≡ out Done (applyAll (sizeOf img) formatPlan img) (idle (length img - 1) 0 headerLen) [] = format-done z in
+    let i : List ℕ = applyAll (sizeOf img) formatPlan img in
+    let v : Inv (sizeOf img) i (idle (length img - 1) 0 headerLen) firstBook false =
+    inv-idle (idle (length img - 1) 0 headerLen) (sized-as i (length-all-steps (sizeOf img) formatPlan img) z) (bytes-all-steps (sizeOf img) formatPlan img by)
+    (empty-book (z .low) (format-ends z)) in (
+      ap (λ (o : Out). o .answer) e,
+      ap (λ (o : Out). o .board .phase) e,
+      λ cs bs. subst (λ (o : Out). Run (o .image) (o .board) firstBook false cs) (sym e) (run-holds v cs bs),
+    )
