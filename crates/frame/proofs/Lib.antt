@@ -7,3 +7,7 @@ pub mod Inverse
 pub mod Exact
 pub mod Scanned
 pub mod Places
+pub mod Heads
+pub mod Stores
+pub mod Misfits
+pub mod Answers

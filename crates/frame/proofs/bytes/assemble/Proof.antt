@@ -1,0 +1,21 @@
+-- A frame put together: a front, a value and the finish byte in a buffer of zeros.
+use denote.Ref.{now}
+use Rattle.frame.specs.Frame.{maxFrame, finish}
+use Rattle.frame.proofs.Stores.{assembled}
+use borrow.Author.Needs.{needs}
+use Rattle.frame.proofs.bytes.assemble.Statement.{statement}
+use Rattle.frame.proofs.bytes.assemble.Tie as tie
+
+pub assemble-spec : {M : Type 1} → statement M
+assemble-spec =
+    tie.close
+    (tie.spec
+    (λ c. search needs)
+    (λ c κs. search needs)
+    (λ c. search needs)
+    (λ c. search needs)
+    (λ c. search needs)
+    (λ c κs. search needs)
+    (λ c. search needs)
+    (λ c. search needs)
+    (λ c. assembled (now (c .before .before .before .before .before .before .before .before .args .front)) (now (c .before .before .before .before .before .before .before .before .args .value)) (c .before .before .before .before .copy-front .last .0) (c .before .copy-front2 .last .0) maxFrame (c .before .before .before .before .before .before .before .before .pre) (c .before .before .before .before .copy-front .ensures) (c .before .copy-front2 .ensures) finish))

@@ -1,0 +1,33 @@
+-- The bytes of each kind.
+use mathlib.Core.Path.{sym, ap₂, _∙_}
+use mathlib.Core.List.{List}
+use Prim.Native.Nat.{ℕ}
+use native.Mathlib.Omega.{arith}
+use lib.ListN.{length-take}
+use Rattle.frame.specs.Frame.{buffer, encode}
+use Rattle.frame.specs.Code.{frameOf}
+use Rattle.frame.specs.declared.Head.{Head}
+use borrow.Author.Needs.{needs}
+use Rattle.frame.proofs.bytes.encode_frame.Statement.{statement}
+use Rattle.frame.proofs.bytes.encode_frame.Tie as tie
+
+pub encode-frame-spec : {M : Type 1} → statement M
+encode-frame-spec =
+    tie.close
+    (tie.spec
+    (λ c κs. search needs)
+    (λ c. search needs)
+    (λ c κs. rw (c .before .before .before .cut .ensures) (simp length-take (omega arith)))
+    (λ c. search needs)
+    (λ c κs. search needs)
+    (λ c. search needs)
+    (λ c κs. search needs)
+    (λ c. search needs)
+    (λ c κs. search needs)
+    (λ c. search needs)
+    (λ c κs. rw (c .before .before .before .cut .ensures) (simp length-take (omega arith)))
+    (λ c. c .put-bytes .ensures ∙ ap₂ (λ (x : Head) (v : List ℕ). buffer (encode (frameOf x v))) (sym (c .before .before .head .given .1)) (c .before .before .before .before .cut .ensures))
+    (λ c. c .delete-bytes .ensures ∙ ap₂ (λ (x : Head) (v : List ℕ). buffer (encode (frameOf x v))) (sym (c .before .before .head2 .given .1)) (c .before .before .before .before .cut .ensures))
+    (λ c. c .commit-bytes .ensures ∙ ap₂ (λ (x : Head) (v : List ℕ). buffer (encode (frameOf x v))) (sym (c .before .before .head3 .given .1)) (c .before .before .before .before .cut .ensures))
+    (λ c. c .abort-bytes .ensures ∙ ap₂ (λ (x : Head) (v : List ℕ). buffer (encode (frameOf x v))) (sym (c .before .before .head4 .given .1)) (c .before .before .before .before .cut .ensures))
+    (λ c. c .settled-bytes .ensures ∙ ap₂ (λ (x : Head) (v : List ℕ). buffer (encode (frameOf x v))) (sym (c .before .before .head5 .given .1)) (c .before .before .before .before .cut .ensures)))

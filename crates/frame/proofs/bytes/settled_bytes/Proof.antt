@@ -1,0 +1,13 @@
+-- A settled frame's bytes: its length fits one byte.
+use mathlib.Core.Path.{ap, _∙_}
+use denote.Ref.{now}
+use Rattle.frame.specs.Frame.{buffer}
+use Rattle.frame.proofs.Stores.{settled-front}
+use borrow.Author.Needs.{needs}
+use Rattle.frame.proofs.bytes.settled_bytes.Statement.{statement}
+use Rattle.frame.proofs.bytes.settled_bytes.Tie as tie
+
+pub settled-bytes-spec : {M : Type 1} → statement M
+settled-bytes-spec =
+    tie.close
+    (tie.spec (λ c. search needs) (λ c. search needs) (λ c. search needs) (λ c. search needs) (λ c. search needs) (λ c κs. search needs) (λ c. c .assemble .ensures ∙ ap buffer (settled-front (c .before .before .before .before .before .args .i) (now (c .before .before .before .before .before .args .v)) (c .before .before .before .before .before .pre))))

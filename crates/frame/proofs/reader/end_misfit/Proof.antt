@@ -1,0 +1,19 @@
+-- The tests of a commit or an abort.
+use mathlib.Core.Path.{sym}
+use native.Mathlib.Omega.{arith}
+use denote.Ref.{now}
+use Rattle.frame.proofs.Misfits.{end-is, bytes-of}
+use borrow.Author.Needs.{needs}
+use Rattle.frame.proofs.reader.end_misfit.Statement.{statement}
+use Rattle.frame.proofs.reader.end_misfit.Tie as tie
+
+pub end-misfit-spec : {M : Type 1} → statement M
+end-misfit-spec =
+    tie.close
+    (tie.spec
+    (λ c κs. search needs)
+    (λ c κs. search needs)
+    (λ c κs. search needs)
+    (λ c κs. search needs)
+    (λ c κs. search needs)
+    (λ c. rw (c .first2 .ensures, c .before .first .ensures, c .before .before .before .before .front-misfit .ensures, c .before .before .before .test-byte .ensures, c .before .before .test-byte2 .ensures) (sym (end-is (now (c .before .before .before .before .before .before .args .t)) (c .before .before .before .before .before .before .pre .0) (c .before .before .before .before .before .before .pre .1) (bytes-of (now (c .before .before .before .before .before .before .args .t)) (λ i. omega (arith, c .before .before .before .before .before .shared-slice-known .given i)))))))

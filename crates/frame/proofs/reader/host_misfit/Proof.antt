@@ -1,0 +1,17 @@
+-- The layout by the length.
+use mathlib.Core.Path.{sym, ap, _∙_}
+use mathlib.Core.List.{List}
+use native.Mathlib.Omega.{arith}
+use denote.Ref.{now}
+use Rattle.frame.specs.Reader.{Slot}
+use Rattle.frame.specs.Code.{misfitFrom}
+use Rattle.frame.proofs.Fit.{slots-change}
+use Rattle.frame.proofs.Misfits.{host-none, host-end}
+use borrow.Author.Needs.{needs}
+use Rattle.frame.proofs.reader.host_misfit.Statement.{statement}
+use Rattle.frame.proofs.reader.host_misfit.Tie as tie
+
+pub host-misfit-spec : {M : Type 1} → statement M
+host-misfit-spec =
+    tie.close
+    (tie.spec (λ c κs. search needs) (λ c. c .end-misfit .ensures ∙ sym (host-end (c .before .before .before .args .n) (now (c .before .before .before .args .t)) (c .before .if1 .taken))) (λ c. sym (host-none (c .before .before .before .args .n) (now (c .before .before .before .args .t)) (c .before .if1 .left) (λ lo hi. omega (arith, c .if2 .taken)))) (λ c. sym (host-none (c .before .before .before .before .args .n) (now (c .before .before .before .before .args .t)) (c .before .before .if1 .left) (λ lo hi. omega (arith, c .if3 .taken)))) (λ c κs. search needs) (λ c. c .change-misfit .ensures ∙ sym (ap (λ (ps : List Slot). misfitFrom 0 ps (now (c .before .before .before .before .before .args .t))) (slots-change (c .before .before .before .before .before .args .n) (c .before .before .if2 .left) (c .before .if3 .left)))))

@@ -1,0 +1,25 @@
+-- A frame of kinds 1 to 4 is whole, torn or wrong.
+use borrow.Author.Needs.{needs}
+use Rattle.flash.specs.Bytes.{allFF}
+use Rattle.frame.specs.declared.FrameRead.the-variants as read
+use mathlib.Core.Path.{sym, ap, _∙_}
+use mathlib.Core.Bool.{Bool}
+use denote.Ref.{now}
+use Rattle.frame.specs.Reader.{decode}
+use Rattle.frame.proofs.Answers.{hostRead, cutOff, host-read}
+use Rattle.frame.proofs.reader.read_of_host.Statement.{statement}
+use Rattle.frame.proofs.reader.read_of_host.Tie as tie
+
+pub read-of-host-spec : {M : Type 1} → statement M
+read-of-host-spec =
+    tie.close
+    (tie.spec
+    (λ c κs. search needs)
+    (λ c. search needs)
+    (λ c κs. search needs)
+    (λ c. search needs)
+    (λ c κs. search needs)
+    (λ c κs. search needs)
+    (λ c. sym (host-read (c .before .before .before .before .before .before .before .before .args .n) (decode (c .before .before .before .before .before .before .before .before .args .k) (c .before .before .before .before .before .before .before .before .args .n) (now (c .before .before .before .before .before .before .before .before .args .t))) (now (c .before .before .before .before .before .before .before .before .args .t)) (c .before .before .before .before .before .before .before .before .pre .1) (c .before .before .before .before .before .before .before .before .pre .2) ∙ ap (hostRead (c .before .before .before .before .before .before .before .before .args .n) (decode (c .before .before .before .before .before .before .before .before .args .k) (c .before .before .before .before .before .before .before .before .args .n) (now (c .before .before .before .before .before .before .before .before .args .t))) (now (c .before .before .before .before .before .before .before .before .args .t))) (sym (c .before .before .before .before .before .before .host-misfit .ensures) ∙ c .before .before .before .before .o .given .1) ∙ ap (λ (x : Bool). cutOff x (c .before .before .before .before .before .before .before .before .args .n) (c .before .before .before .before .o .given .0 .1 .0) (c .before .before .before .before .o .given .0 .1 .1 .0)) (ap allFF (sym (c .before .before .rest .ensures)) ∙ sym (c .before .is-blank .ensures) ∙ c .if1 .taken)))
+    (λ c. sym (host-read (c .before .before .before .before .before .args .n) (decode (c .before .before .before .before .before .args .k) (c .before .before .before .before .before .args .n) (now (c .before .before .before .before .before .args .t))) (now (c .before .before .before .before .before .args .t)) (c .before .before .before .before .before .pre .1) (c .before .before .before .before .before .pre .2) ∙ ap (hostRead (c .before .before .before .before .before .args .n) (decode (c .before .before .before .before .before .args .k) (c .before .before .before .before .before .args .n) (now (c .before .before .before .before .before .args .t))) (now (c .before .before .before .before .before .args .t))) (sym (c .before .before .before .host-misfit .ensures) ∙ c .before .enum-told .given .1) ∙ ap read.Whole (sym (c .head-at .ensures))))
+    (λ c. sym (host-read (c .before .before .before .before .before .before .before .before .args .n) (decode (c .before .before .before .before .before .before .before .before .args .k) (c .before .before .before .before .before .before .before .before .args .n) (now (c .before .before .before .before .before .before .before .before .args .t))) (now (c .before .before .before .before .before .before .before .before .args .t)) (c .before .before .before .before .before .before .before .before .pre .1) (c .before .before .before .before .before .before .before .before .pre .2) ∙ ap (hostRead (c .before .before .before .before .before .before .before .before .args .n) (decode (c .before .before .before .before .before .before .before .before .args .k) (c .before .before .before .before .before .before .before .before .args .n) (now (c .before .before .before .before .before .before .before .before .args .t))) (now (c .before .before .before .before .before .before .before .before .args .t))) (sym (c .before .before .before .before .before .before .host-misfit .ensures) ∙ c .before .before .before .before .o .given .1) ∙ ap (λ (x : Bool). cutOff x (c .before .before .before .before .before .before .before .before .args .n) (c .before .before .before .before .o .given .0 .1 .0) (c .before .before .before .before .o .given .0 .1 .1 .0)) (ap allFF (sym (c .before .before .rest .ensures)) ∙ sym (c .before .is-blank .ensures) ∙ c .if1 .left))))

@@ -1,0 +1,21 @@
+-- The bytes from an offset on.
+use Prim.Native.Nat.{_-_}
+use lib.Seq.{take-all}
+use mathlib.Core.Path.{sym}
+use native.Mathlib.Omega.{arith}
+use lib.ListN.{length, drop, length-drop, drop-of-length-le}
+use denote.Ref.{now}
+use borrow.Author.Needs.{needs}
+use Rattle.frame.proofs.reader.rest.Statement.{statement}
+use Rattle.frame.proofs.reader.rest.Tie as tie
+
+pub rest-spec : {M : Type 1} → statement M
+rest-spec =
+    tie.close
+    (tie.spec
+    (λ c. search needs)
+    (λ c. sym (drop-of-length-le (now (c .before .before .args .t)) {i = c .before .before .args .o} (omega (arith, c .before .if1 .taken))))
+    (λ c. search needs)
+    (λ c. search needs)
+    (λ c. search needs)
+    (λ c. take-all (length (now (c .before .before .args .t)) - c .before .before .args .o) (drop (c .before .before .args .o) (now (c .before .before .args .t))) (omega (arith, length-drop (c .before .before .args .o) (now (c .before .before .args .t))))))

@@ -1,0 +1,247 @@
+// Reading a frame out of any bytes.
+ghost use mathlib.Core.Path.{_≡_};
+ghost use Prim.Native.Nat.{_-_, _≤_};
+ghost use lib.Dec.{eqb};
+ghost use lib.ListN.{length, getD, drop};
+ghost use Rattle.flash.specs.Bytes.{le16};
+ghost use Rattle.frame.specs.Frame.{putLen, deleteLen, endLen, settledLen, idOf};
+ghost use Rattle.frame.specs.Reader.{slot, changeSlots, endSlots, settledSlots, hostSlots, lastKind, onlySettled, match, decode, ofHostMatch, ofSettledMatch, readFrame};
+ghost use Rattle.frame.specs.Code.{headOf, readOf, firstOf, oneMisfit, misfitFrom, frontMisfit};
+use crate::Fault;
+use crate::Field;
+use crate::FrameRead;
+use crate::Head;
+use crate::Host;
+use crate::MAX_FRAME;
+use crate::ObjectId;
+use crate::VALUE_MAX;
+
+// The first byte of a frame that does not fit: its offset, its field, and where that starts.
+enum Misfit {
+    None,
+    At(usize, Field, usize),
+}
+
+// The byte at an offset, 0 past the end.
+fn byte_at(t: &[u8], i: usize) -> u8
+    ensures { λ r. ⌜ r ≡ getD (now (t .entry)) i 0 ⌝ }
+{
+    if i < t.len() { t[i] } else { 0 }
+}
+
+// The bytes from an offset on, none past the end.
+fn rest(t: &[u8], o: usize) -> &[u8]
+    ensures { λ r. ⌜ now r ≡ drop o (now (t .entry)) ⌝ }
+{
+    if t.len() < o {
+        return &t[..0];
+    }
+    &t[o..]
+}
+
+// The id of two bytes.
+fn id_of(low: u8, high: u8) -> ObjectId
+    ensures { λ r. ⌜ r ≡ idOf (le16 low high) ⌝ }
+{
+    ObjectId(low as u16 + high as u16 * 256)
+}
+
+fn less(a: u8, b: u8) -> u8
+    ensures { λ r. ⌜ r ≡ a - b ⌝ }
+{
+    if a < b { 0 } else { a - b }
+}
+
+// The frame of a low kind byte and a length.
+fn head_at(t: &[u8], k: u8, n: u8) -> Head
+    requires { ⌜ n ≤ length (now t) ⌝ }
+    ensures { λ r. ⌜ r ≡ headOf (decode k n (now (t .entry))) ⌝ }
+{
+    let host = Host(byte_at(t, 4));
+    match k {
+        0 => Head::Commit(host),
+        1 => Head::Put(host, id_of(byte_at(t, 5), byte_at(t, 6)), less(n, 8)),
+        2 => Head::Delete(host, id_of(byte_at(t, 5), byte_at(t, 6))),
+        3 => Head::Commit(host),
+        4 => Head::Abort(host),
+        _ => Head::Settled(id_of(byte_at(t, 4), byte_at(t, 5)), less(n, 7)),
+    }
+}
+
+// Tests the byte at an offset: lo to hi, in a field that starts at `start`.
+fn test_byte(t: &[u8], o: usize, lo: usize, hi: usize, field: Field, start: usize) -> Misfit
+    ensures { λ r. ⌜ r ≡ oneMisfit o (slot field start lo hi) (getD (now (t .entry)) o 0) ⌝ }
+{
+    let b = byte_at(t, o) as usize;
+    if b < lo {
+        return Misfit::At(o, field, start);
+    }
+    if hi < b {
+        return Misfit::At(o, field, start);
+    }
+    Misfit::None
+}
+
+fn first(a: Misfit, b: Misfit) -> Misfit
+    ensures { λ r. ⌜ r ≡ firstOf a b ⌝ }
+{
+    match a {
+        Misfit::None => b,
+        Misfit::At(o, f, s) => Misfit::At(o, f, s),
+    }
+}
+
+// Length's high byte, and a kind from lo to hi.
+fn front_misfit(t: &[u8], lo: usize, hi: usize) -> Misfit
+    ensures { λ r. ⌜ r ≡ frontMisfit lo hi (now (t .entry)) ⌝ }
+{
+    let length = test_byte(t, 1, 0, 0, Field::Length, 0);
+    let kind = test_byte(t, 2, lo, hi, Field::Kind, 2);
+    let high = test_byte(t, 3, 0, 0, Field::Kind, 2);
+    first(length, first(kind, high))
+}
+
+// Only a frame of a delete's length can be a delete.
+fn last_kind(n: u8) -> usize
+    ensures { λ r. ⌜ r ≡ lastKind (eqb n deleteLen) ⌝ }
+{
+    if n == 8 { 2 } else { 1 }
+}
+
+// A put or a delete of n bytes.
+fn change_misfit(t: &[u8], n: u8) -> Misfit
+    requires { ⌜ (n ≡ getD (now t) 0 0) × (putLen 0 ≤ n) × (n ≤ length (now t)) ⌝ }
+    ensures { λ r. ⌜ r ≡ misfitFrom 0 (changeSlots n) (now (t .entry)) ⌝ }
+{
+    let last = n as usize - 1;
+    let front = front_misfit(t, 1, last_kind(n));
+    let host = test_byte(t, 4, 0, 3, Field::Host, 4);
+    let id = test_byte(t, 6, 0, 0, Field::Id, 5);
+    let finish = test_byte(t, last, 254, 254, Field::Finish, last);
+    first(front, first(host, first(id, finish)))
+}
+
+// A commit or an abort.
+fn end_misfit(t: &[u8]) -> Misfit
+    requires { ⌜ (getD (now t) 0 0 ≡ endLen) × (endLen ≤ length (now t)) ⌝ }
+    ensures { λ r. ⌜ r ≡ misfitFrom 0 endSlots (now (t .entry)) ⌝ }
+{
+    let front = front_misfit(t, 3, 4);
+    let host = test_byte(t, 4, 0, 3, Field::Host, 4);
+    let finish = test_byte(t, 5, 254, 254, Field::Finish, 5);
+    first(front, first(host, finish))
+}
+
+// A settled frame of n bytes whose id is at least next.
+fn settled_misfit(t: &[u8], next: usize, n: u8) -> Misfit
+    requires { ⌜ (n ≡ getD (now t) 0 0) × (settledLen 0 ≤ n) × (n ≤ length (now t)) ⌝ }
+    ensures { λ r. ⌜ r ≡ misfitFrom 0 (settledSlots next n) (now (t .entry)) ⌝ }
+{
+    let last = n as usize - 1;
+    let front = front_misfit(t, 5, 5);
+    let id = test_byte(t, 4, next, 255, Field::Id, 4);
+    let high = test_byte(t, 5, 0, 0, Field::Id, 4);
+    let finish = test_byte(t, last, 254, 254, Field::Finish, last);
+    first(front, first(id, first(high, finish)))
+}
+
+// A frame of kinds 1 to 4 of n bytes: no frame has another length.
+fn host_misfit(t: &[u8], n: u8) -> Misfit
+    requires { ⌜ (n ≡ getD (now t) 0 0) × (n ≤ length (now t)) ⌝ }
+    ensures { λ r. ⌜ r ≡ misfitFrom 0 (hostSlots n) (now (t .entry)) ⌝ }
+{
+    if n == 6 {
+        return end_misfit(t);
+    }
+    if n < 8 {
+        return Misfit::At(0, Field::Length, 0);
+    }
+    if MAX_FRAME < n as usize {
+        return Misfit::At(0, Field::Length, 0);
+    }
+    change_misfit(t, n)
+}
+
+// The bytes can only be a settled frame's.
+fn only_settled(next: usize, n: u8, k: u8) -> bool
+    ensures { λ r. ⌜ r ≡ onlySettled next n k ⌝ }
+{
+    if 255 < next {
+        return false;
+    }
+    if n < 7 {
+        return false;
+    }
+    if 7 + VALUE_MAX < n as usize {
+        return false;
+    }
+    if k == 5 {
+        return true;
+    }
+    n == 7
+}
+
+fn read_settled(t: &[u8], next: usize, n: u8) -> FrameRead
+    requires { ⌜ (n ≡ getD (now t) 0 0) × (settledLen 0 ≤ n) × (n ≤ length (now t)) ⌝ }
+    ensures { λ r. ⌜ r ≡ readOf (ofSettledMatch 0 (decode 5 n (now (t .entry))) (match (settledSlots next n) (now (t .entry)))) ⌝ }
+{
+    match settled_misfit(t, next, n) {
+        Misfit::None => FrameRead::Whole(head_at(t, 5, n)),
+        Misfit::At(_, f, s) => FrameRead::Wrong(Fault { field: f, place: s }),
+    }
+}
+
+// A frame of kinds 1 to 4 that is cut off is torn.
+fn read_of_host(t: &[u8], n: u8, k: u8) -> FrameRead
+    requires { ⌜ (n ≡ getD (now t) 0 0) × (n ≤ length (now t)) × (1 ≤ length (now t)) ⌝ }
+    ensures { λ r. ⌜ r ≡ readOf (ofHostMatch 0 n (decode k n (now (t .entry))) (match (hostSlots n) (now (t .entry)))) ⌝ }
+{
+    match host_misfit(t, n) {
+        Misfit::None => FrameRead::Whole(head_at(t, k, n)),
+        Misfit::At(o, f, s) => {
+            if flash::is_blank(rest(t, o)) {
+                return FrameRead::Torn(n as usize);
+            }
+            FrameRead::Wrong(Fault { field: f, place: s })
+        }
+    }
+}
+
+// The frame at the front of some bytes, which run to the block's end.
+fn read_front(t: &[u8], next: usize) -> FrameRead
+    ensures { λ r. ⌜ r ≡ readOf (readFrame next 0 (now (t .entry))) ⌝ }
+{
+    if flash::is_blank(t) {
+        return FrameRead::Blank;
+    }
+    let n = byte_at(t, 0);
+    if t.len() < n as usize {
+        return FrameRead::Wrong(Fault {
+            field: Field::Length,
+            place: 0,
+        });
+    }
+    let k = byte_at(t, 2);
+    if only_settled(next, n, k) {
+        return read_settled(t, next, n);
+    }
+    read_of_host(t, n, k)
+}
+
+// The frame at an offset of a block: blank past its end. A settled frame's id is at least next.
+pub fn read_frame(block: &[u8], at: usize, next: usize) -> FrameRead
+    ensures { λ r. ⌜ r ≡ readOf (readFrame next at (drop at (now (block .entry)))) ⌝ }
+{
+    match read_front(rest(block, at), next) {
+        FrameRead::Blank => FrameRead::Blank,
+        FrameRead::Whole(h) => FrameRead::Whole(h),
+        FrameRead::Torn(n) => FrameRead::Torn(n),
+        FrameRead::Wrong(e) => {
+            let field = e.field;
+            FrameRead::Wrong(Fault {
+                field: field,
+                place: at + e.place,
+            })
+        }
+    }
+}
