@@ -233,7 +233,7 @@ mount-accepted {s} {img} z y f = go (mount-decides z)
     go (at-store x k) = at x k (mount-outcome x z k (taken-holds x z y k))
 
 -- a record that a call gives back is no refusal
-not-refused : (p : Phase) (n : Refusal) → answerIn p ≡ Refused n → ⊥
+pub not-refused : (p : Phase) (n : Refusal) → answerIn p ≡ Refused n → ⊥
 not-refused Unmounted n e = let y : _≡_ {A = ℕ} 0 1 = cc in omega arith
 not-refused Idle n e = let y : _≡_ {A = ℕ} 0 1 = cc in omega arith
 not-refused (Busy g) n e = let y : _≡_ {A = ℕ} 0 1 = cc in omega arith

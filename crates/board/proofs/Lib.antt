@@ -30,3 +30,6 @@ pub mod Formatting
 pub mod Deciding
 pub mod Wiping
 pub mod Mounting
+pub mod Planning
+pub mod Demand2
+pub mod Limits

@@ -50,7 +50,7 @@ entered-is b h m q Done e = ap (λ (p : Parsed). enterParsed b h m p Done) (sym 
 entered-is b h m q More e = ap (λ (p : Parsed). enterParsed b h m p More) (sym e)
 entered-is b h m q (Refused n) e = refl
 
-legal : (h : Host) (m : List ℕ) (q : Request) → h .0 ≤ hostMax → Bytes m → parse m ≡ Is q → Legal h m q
+pub legal : (h : Host) (m : List ℕ) (q : Request) → h .0 ≤ hostMax → Bytes m → parse m ≡ Is q → Legal h m q
 legal h m (Put i) k b e = let g = put-parsed m i b e in (k, g .0, (g .1, g .2))
 legal h m (Delete i) k b e = (k, delete-parsed m i e)
 legal h m Commit k b e = tt

@@ -49,7 +49,7 @@ use Rattle.board.proofs.Framing.{Holds, ready-holds, Appendable, frame-
 
 -- ---- a frame job is begun
 
-frame-short : (needs : Bool) (s k e : ℕ) (x : Held) (f : Frame) → claimed (replay (x .frames)) + frameLen f ≤ s → length (framePlan needs k e x f) ≤ s
+pub frame-short : (needs : Bool) (s k e : ℕ) (x : Held) (f : Frame) → claimed (replay (x .frames)) + frameLen f ≤ s → length (framePlan needs k e x f) ≤ s
 frame-short true s k e x f h = omega (arith, length-frame-moved k e x f)
 frame-short false s k e x f h = omega (arith, length-frame-stayed k e x f)
 
