@@ -1,4 +1,6 @@
 // The store in code: every call equal to its definition, on every input.
+pub mod records;
+
 use board::Record;
 use wire::Answer;
 

@@ -1,0 +1,102 @@
+-- What the code's parts do: a record's numbers by themselves, its arrays apart.
+use mathlib.Core.List.{List}
+use mathlib.Core.Bool.{Bool, true, false, cond}
+use Prim.Native.Nat.{ℕ}
+use lib.Dec.{ltb}
+use Rattle.wire.specs.declared.Answer.{Answer}
+use Rattle.wire.specs.declared.Answer.the-variants.{Done, More}
+use Rattle.board.specs.declared.Stage.{Stage}
+use Rattle.board.specs.declared.Stage.the-variants.{Wipe, Open, Drop, Append}
+use Rattle.board.specs.declared.Phase.the-variants.{Idle, Busy}
+use Rattle.board.specs.declared.Job.{Job}
+use Rattle.board.specs.declared.Cursor.{Cursor}
+use Rattle.board.specs.declared.Record.{Record}
+use Rattle.board.specs.Record.{noPlaces, noFrame, noJob, cursor}
+use Rattle.board.specs.Step.{first}
+use Rattle.store.specs.declared.Outcome.{Outcome}
+use Rattle.store.specs.declared.records.Numbers.{Numbers}
+use Rattle.store.specs.declared.records.Stepped.{Stepped}
+use Rattle.journal.specs.Block.{headerLen}
+
+-- a job not yet begun, its frame to append in a buffer
+abbrev pub busyWith : ℕ → ℕ → ℕ → List ℕ → Job → ℕ → ℕ → List ℕ → Record
+busyWith l k e places j id source frame =
+    record {
+      phase = Busy Wipe;
+      last = l;
+      block = k;
+      end = e;
+      places = places;
+      job = j;
+      cursor = cursor 0 headerLen id source 0 0;
+      unit = noFrame;
+      frame = frame;
+    }
+
+-- ---- a record apart
+
+abbrev pub numbersOf : Record → Numbers
+numbersOf r = record { phase = r .phase; last = r .last; block = r .block; end = r .end; job = r .job; cursor = r .cursor }
+
+abbrev pub assemble : Numbers → List ℕ → List ℕ → List ℕ → Record
+assemble n places unit frame =
+    record {
+      phase = n .phase;
+      last = n .last;
+      block = n .block;
+      end = n .end;
+      places = places;
+      job = n .job;
+      cursor = n .cursor;
+      unit = unit;
+      frame = frame;
+    }
+
+-- the same job in a stage, at a cursor
+abbrev pub staged : Stage → Cursor → Numbers → Numbers
+staged s c n = record { phase = Busy s; last = n .last; block = n .block; end = n .end; job = n .job; cursor = c }
+
+-- ---- where a call leaves a job
+
+-- it goes on
+abbrev pub going : Stage → Cursor → Numbers → Stepped
+going s c n = record { answer = More; next = staged s c n; ended = false }
+
+-- it ended
+abbrev pub over : ℕ → ℕ → ℕ → Stepped
+over l k e =
+    record {
+      answer = Done;
+      next = record { phase = Idle; last = l; block = k; end = e; job = noJob; cursor = cursor 0 0 0 0 0 0 };
+      ended = true;
+    }
+
+-- a job that ended leaves no places and no frames
+abbrev pub leavesIf : Bool → Numbers → List ℕ → List ℕ → List ℕ → Record
+leavesIf true n places unit frame = assemble n noPlaces noFrame noFrame
+leavesIf false n places unit frame = assemble n places unit frame
+
+abbrev pub leaves : Stepped → List ℕ → List ℕ → List ℕ → Record
+leaves s places unit frame = leavesIf (s .ended) (s .next) places unit frame
+
+abbrev pub outcome : Answer → Record → Outcome
+outcome a b = record { answer = a; board = b }
+
+-- ---- entering a stage
+
+unfoldable pub goAppend : Numbers → Stepped
+goAppend n = cond (ltb 0 (n .job .size)) (going Append (first (n .cursor)) n) (over (n .last) (n .block) (n .end))
+
+-- the block that was made is the current one
+abbrev pub landedOn : Numbers → Numbers
+landedOn n =
+    record { phase = n .phase; last = n .last; block = n .job .target; end = n .cursor .at; job = n .job; cursor = n .cursor }
+
+unfoldable pub goDrop : Numbers → Stepped
+goDrop n = cond (n .job .drops) (going Drop (first (n .cursor)) n) (goAppend (landedOn n))
+
+unfoldable pub goOpen : Numbers → Stepped
+goOpen n = cond (n .job .moves) (going Open (first (n .cursor)) n) (goAppend n)
+
+unfoldable pub goWipe : Numbers → Stepped
+goWipe n = cond (ltb 0 (n .job .wipes)) (going Wipe (first (n .cursor)) n) (goOpen n)
