@@ -1,18 +1,17 @@
 -- Demand 3: every run from a finished format agrees with the book, and the store stays available.
 use mathlib.Core.Path.{_≡_, refl, sym, ap, subst, _∙_}
-use mathlib.Core.List.{List, [], _∷_, _++_}
+use mathlib.Core.List.{List, [], _∷_}
 use mathlib.Core.Logic.{_⊎_, inl, inr}
 use mathlib.Core.Bool.{Bool, true, false}
-use Prim.Native.Nat.{ℕ, zero, suc, _+_, _-_, _/_, _≤_, _<_}
+use Prim.Native.Nat.{ℕ, _+_, _-_, _/_, _≤_}
 use native.Mathlib.Omega.{arith}
-use lib.ListN.{length, take, drop, length-drop}
+use lib.ListN.{length, drop, length-drop}
 use Rattle.flash.specs.Bytes.{Bytes}
 use Rattle.flash.specs.Flash.{Step, erase, apply, applyAll, blocks, block, sizeOf}
 use Rattle.flash.proofs.Image.{length-apply}
-use Rattle.frame.specs.Frame.{Frame, deleteLen, endLen, total}
+use Rattle.frame.specs.Frame.{deleteLen, endLen, total}
 use Rattle.journal.specs.Replay.{Object, State, state, replay, listOf, settledOnly}
-use Rattle.journal.specs.Block.{BlockState, valid, blockState, headerLen}
-use Rattle.journal.specs.Room.{used}
+use Rattle.journal.specs.Block.{blockState, headerLen}
 use Rattle.journal.proofs.Room.{kept, kept-none, used-kept}
 use Rattle.journal.proofs.Places.{Journal}
 use Rattle.journal.proofs.States.{contents-valid}
@@ -24,18 +23,18 @@ use Rattle.board.specs.declared.Phase.{Phase}
 use Rattle.board.specs.declared.Phase.the-variants.{Unmounted, Idle, Busy}
 use Rattle.board.specs.declared.Record.{Record}
 use Rattle.board.specs.Record.{Out, out, refuse, unmounted, idle, answerOf, allowed}
-use Rattle.board.specs.Step.{stepOn, enterWipe, begin}
+use Rattle.board.specs.Step.{enterWipe, begin}
 use Rattle.board.specs.Mount.{Store, allFound, wipeList, needsTransfer, mountJob, mountOn, formatJob, formatOn}
 use Rattle.board.specs.Exec.{Call, request, step, mount, format, exec}
 use Rattle.board.specs.Plan.{Follows, formatPlan, mountPlan, mountedAt}
-use Rattle.board.specs.Book.{Book, book, UnderWay, nothing, formatting, noLists, firstBook, finishing, enterCall, enterFormat}
-use Rattle.board.specs.Claim.{IdleAgrees, Finishes, AgreesIn, Agrees, Never, WornOut, MountSays, Says, trackMount, trackFormat, track, Run, stepsOn, formatted, ByteCall, ByteCalls, Claim}
+use Rattle.board.specs.Book.{Book, book, nothing, formatting, noLists, firstBook, enterCall, enterFormat}
+use Rattle.board.specs.Claim.{IdleAgrees, Finishes, AgreesIn, Agrees, WornOut, MountSays, Says, trackMount, trackFormat, track, Run, stepsOn, formatted, ByteCall, ByteCalls, Claim}
 use Rattle.board.proofs.Images.{Sized, size-of, sized-of, sized-as, length-all-steps, bytes-all-steps}
-use Rattle.board.proofs.Invariant.{Safe, Lists, Ready, IdleBook, InJob, InPhase, Inv}
+use Rattle.board.proofs.Invariant.{Safe, IdleBook, InJob, InPhase, Inv}
 use Rattle.board.proofs.Outcomes.{format-begins}
 use Rattle.board.proofs.Current.{After, Keeps}
 use Rattle.board.proofs.Jobs.{Begun, job-starts, job-begins}
-use Rattle.board.proofs.Keeping.{Working, IsBusy, inv-unmounted, inv-idle, inv-busy, ready-idle, on-phase, safe-of, step-keeps}
+use Rattle.board.proofs.Keeping.{Working, inv-unmounted, inv-idle, inv-busy, ready-idle, safe-of, step-keeps}
 use Rattle.board.proofs.Accepted.{follows-format, follows-mount}
 use Rattle.board.proofs.Blocks.{wiped-besides}
 use Rattle.board.proofs.Lengths.{length-format}
@@ -199,7 +198,7 @@ module _ {s : ℕ} {img : List ℕ} {r : Record} {b : Book} {u : Bool} (v : Inv 
 
 -- ---- every call, and every run
 
-call-keeps : {s : ℕ} {img : List ℕ} {r : Record} {b : Book} {u : Bool} → Inv s img r b u → (c : Call) → ByteCall c
+pub call-keeps : {s : ℕ} {img : List ℕ} {r : Record} {b : Book} {u : Bool} → Inv s img r b u → (c : Call) → ByteCall c
     → Says img r b u c (exec img r c)
     × Inv s (exec img r c .image) (exec img r c .board) (enterCall b c (exec img r c .answer)) (track u b c (exec img r c .answer))
 call-keeps {s} {img} {r} {b} {u} v (request h m reply) by =
@@ -236,16 +235,18 @@ format-done {s} {img} z =
     ∙ follows-steps formatPlan (erase 0) (drop 1 formatPlan) refl s (begin img [] (formatJob img)) (idle (length img - 1) 0 headerLen) (size-of z)
     (follows-format img (z .ok))
 
+-- the invariant after a finished format
+pub formatted-inv : (img : List ℕ) → Bytes img → allowed (length img) ≡ true
+    → Inv (sizeOf img) (formatted img .image) (formatted img .board) firstBook false
+formatted-inv img by ok =
+    let z : Sized (sizeOf img) img = sized-of img ok in
+    let i : List ℕ = applyAll (sizeOf img) formatPlan img in
+    subst (λ (o : Out). Inv (sizeOf img) (o .image) (o .board) firstBook false) (sym (format-done z))
+    (inv-idle (idle (length img - 1) 0 headerLen) (sized-as i (length-all-steps (sizeOf img) formatPlan img) z)
+    (bytes-all-steps (sizeOf img) formatPlan img by) (empty-book (z .low) (format-ends z)))
+
 pub claim : Claim
 unfolding Claim
 claim img by ok =
-    let z : Sized (sizeOf img) img = sized-of img ok in
-    let e : formatted img ≡ out Done (applyAll (sizeOf img) formatPlan img) (idle (length img - 1) 0 headerLen) [] = format-done z in
-    let i : List ℕ = applyAll (sizeOf img) formatPlan img in
-    let v : Inv (sizeOf img) i (idle (length img - 1) 0 headerLen) firstBook false =
-    inv-idle (idle (length img - 1) 0 headerLen) (sized-as i (length-all-steps (sizeOf img) formatPlan img) z) (bytes-all-steps (sizeOf img) formatPlan img by)
-    (empty-book (z .low) (format-ends z)) in (
-      ap (λ (o : Out). o .answer) e,
-      ap (λ (o : Out). o .board .phase) e,
-      λ cs bs. subst (λ (o : Out). Run (o .image) (o .board) firstBook false cs) (sym e) (run-holds v cs bs),
-    )
+    let e : formatted img ≡ out Done (applyAll (sizeOf img) formatPlan img) (idle (length img - 1) 0 headerLen) [] = format-done (sized-of img ok) in
+    (ap (λ (o : Out). o .answer) e, ap (λ (o : Out). o .board .phase) e, λ cs bs. run-holds (formatted-inv img by ok) cs bs)

@@ -33,3 +33,4 @@ pub mod Mounting
 pub mod Planning
 pub mod Demand2
 pub mod Limits
+pub mod CutFormat

@@ -10,3 +10,4 @@ pub mod Rows
 pub mod Table
 pub mod Demand1
 pub mod Demand2
+pub mod CutFormat

@@ -1,0 +1,80 @@
+-- "On an image the store left, a cut format leaves the old settled objects, no store, or the empty store": of every image that a run left.
+use mathlib.Core.List.{List, [], _∷_}
+use mathlib.Core.Bool.{true}
+use mathlib.Core.Path.{_≡_}
+use Prim.Native.Nat.{ℕ, _≤_, _<_}
+use lib.ListN.{length}
+use Rattle.flash.specs.Bytes.{Bytes}
+use Rattle.flash.specs.Flash.{blocks, block, sizeOf}
+use Rattle.frame.specs.Frame.{Frame}
+use Rattle.frame.specs.Reader.{Tail, clean}
+use Rattle.journal.specs.Replay.{Object, replay}
+use Rattle.journal.specs.Block.{BlockState, blank, inProgress, valid, foreign, blockState}
+use Rattle.board.specs.declared.Record.{Record}
+use Rattle.board.specs.Record.{Out, allowed}
+use Rattle.board.specs.Mount.{formatOn}
+use Rattle.board.specs.Exec.{Call, exec}
+use Rattle.board.specs.Book.{Book, firstBook, enterCall}
+use Rattle.board.specs.Claim.{stepsOn, formatted, ByteCalls}
+
+-- ---- what calls leave
+
+pub record Left : Type 0 where
+  pub image : List ℕ
+  pub board : Record
+  pub book : Book
+
+-- calls that each got what the last gave back
+abbrev pub afterAll : List ℕ → Record → Book → List Call → Left
+afterAll img r b [] = record { image = img; board = r; book = b }
+afterAll img r b (c ∷ cs) = let o : Out = exec img r c in afterAll (o .image) (o .board) (enterCall b c (o .answer)) cs
+
+-- a run from a finished format on
+abbrev pub leftBy : List ℕ → List Call → Left
+leftBy img cs = afterAll (formatted img .image) (formatted img .board) firstBook cs
+
+-- ---- what a cut leaves
+
+-- beside a valid block of a time and these objects: a mount takes either, and finds them
+abbrev pub Beside : ℕ → List Object → BlockState → Type 0
+Beside t os blank = Unit {0}
+Beside t os inProgress = Unit {0}
+Beside t os (valid u fs c) = (u ≡ t → ⊥) × (replay fs .objects ≡ os)
+Beside t os (foreign e) = ⊥
+
+-- "the old settled objects"
+pub record OldObjects (img : List ℕ) (os : List Object) : Type 0 where
+  pub number : ℕ
+  pub time : ℕ
+  pub frames : List Frame
+  pub tail : Tail
+  pub there : number < blocks
+  pub is-valid : blockState (block (sizeOf img) number img) ≡ valid time frames tail
+  pub objects : replay frames .objects ≡ os
+  pub others : (j : ℕ) → j < blocks → (j ≡ number → ⊥) → Beside time os (blockState (block (sizeOf img) j img))
+
+-- "no store": a mount answers 2
+abbrev pub Empty : BlockState → Type 0
+Empty blank = Unit {0}
+Empty inProgress = Unit {0}
+Empty (valid t fs c) = ⊥
+Empty (foreign e) = ⊥
+
+abbrev pub NoStore : List ℕ → Type 0
+NoStore img = (j : ℕ) → j < blocks → Empty (blockState (block (sizeOf img) j img))
+
+-- "the empty store"
+pub record EmptyStore (img : List ℕ) : Type 0 where
+  pub first : blockState (block (sizeOf img) 0 img) ≡ valid 1 [] clean
+  pub others : (j : ℕ) → j < blocks → (j ≡ 0 → ⊥) → blockState (block (sizeOf img) j img) ≡ blank
+
+-- after j of the twelve steps, on an image that held these objects
+pub data Leaves (os : List Object) (j : ℕ) (img : List ℕ) : Type 0 where
+  old-objects : j < 12 → OldObjects img os → Leaves os j img
+  no-store : j < 12 → NoStore img → Leaves os j img
+  empty-store : j ≡ 12 → EmptyStore img → Leaves os j img
+
+unfoldable pub CutFormat : Type 0
+CutFormat =
+    (img : List ℕ) (cs : List Call) (j : ℕ) → Bytes img → allowed (length img) ≡ true → ByteCalls cs → j ≤ 12
+    → Leaves (leftBy img cs .book .objects) j (stepsOn j (formatOn (leftBy img cs .image)) .image)
