@@ -47,6 +47,7 @@ fn cut(value: &[u8]) -> &[u8]
     &value[..VALUE_MAX]
 }
 
+// A put's bytes.
 fn put_bytes(h: Host, i: ObjectId, v: &[u8]) -> [u8; MAX_FRAME]
     requires { ⌜ length (now v) ≤ valueMax ⌝ }
     ensures { λ r. ⌜ r ≡ buffer (encode (change h (put i (now (v .entry))))) ⌝ }
@@ -63,6 +64,7 @@ fn put_bytes(h: Host, i: ObjectId, v: &[u8]) -> [u8; MAX_FRAME]
     assemble(&front, v)
 }
 
+// A delete's bytes. Frames without a value take none of v.
 fn delete_bytes(h: Host, i: ObjectId, v: &[u8]) -> [u8; MAX_FRAME]
     ensures { λ r. ⌜ r ≡ buffer (encode (change h (delete i))) ⌝ }
 {
@@ -70,6 +72,7 @@ fn delete_bytes(h: Host, i: ObjectId, v: &[u8]) -> [u8; MAX_FRAME]
     assemble(&front, &v[..0])
 }
 
+// A commit's bytes.
 fn commit_bytes(h: Host, v: &[u8]) -> [u8; MAX_FRAME]
     ensures { λ r. ⌜ r ≡ buffer (encode (commit h)) ⌝ }
 {
@@ -77,6 +80,7 @@ fn commit_bytes(h: Host, v: &[u8]) -> [u8; MAX_FRAME]
     assemble(&front, &v[..0])
 }
 
+// An abort's bytes.
 fn abort_bytes(h: Host, v: &[u8]) -> [u8; MAX_FRAME]
     ensures { λ r. ⌜ r ≡ buffer (encode (abort h)) ⌝ }
 {
@@ -84,6 +88,7 @@ fn abort_bytes(h: Host, v: &[u8]) -> [u8; MAX_FRAME]
     assemble(&front, &v[..0])
 }
 
+// A settled frame's bytes.
 fn settled_bytes(i: ObjectId, v: &[u8]) -> [u8; MAX_FRAME]
     requires { ⌜ length (now v) ≤ valueMax ⌝ }
     ensures { λ r. ⌜ r ≡ buffer (encode (settled i (now (v .entry)))) ⌝ }
@@ -99,7 +104,8 @@ fn settled_bytes(i: ObjectId, v: &[u8]) -> [u8; MAX_FRAME]
     assemble(&front, v)
 }
 
-// The frame with this head and this value, of which at most VALUE_MAX bytes count; the head's own count does not. Zeros follow it.
+// The frame with this head and this value, of which at most VALUE_MAX bytes are taken, and zeros after it.
+// The head's own count is not looked at.
 pub fn encode_frame(head: Head, value: &[u8]) -> [u8; MAX_FRAME]
     ensures { λ r. ⌜ r ≡ buffer (encode (frameOf head (take valueMax (now (value .entry))))) ⌝ }
 {

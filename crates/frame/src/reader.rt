@@ -46,6 +46,7 @@ fn id_of(low: u8, high: u8) -> ObjectId
     ObjectId(low as u16 + high as u16 * 256)
 }
 
+// The difference, and 0 below it.
 fn less(a: u8, b: u8) -> u8
     ensures { λ r. ⌜ r ≡ a - b ⌝ }
 {
@@ -82,6 +83,7 @@ fn test_byte(t: &[u8], o: usize, lo: usize, hi: usize, field: Field, start: usiz
     Misfit::None
 }
 
+// The first misfit of tests in address order.
 fn first(a: Misfit, b: Misfit) -> Misfit
     ensures { λ r. ⌜ r ≡ firstOf a b ⌝ }
 {
@@ -181,6 +183,7 @@ fn only_settled(next: usize, n: u8, k: u8) -> bool
     n == 7
 }
 
+// A settled frame is never torn.
 fn read_settled(t: &[u8], next: usize, n: u8) -> FrameRead
     requires { ⌜ (n ≡ getD (now t) 0 0) × (settledLen 0 ≤ n) × (n ≤ length (now t)) ⌝ }
     ensures { λ r. ⌜ r ≡ readOf (ofSettledMatch 0 (decode 5 n (now (t .entry))) (match (settledSlots next n) (now (t .entry)))) ⌝ }
