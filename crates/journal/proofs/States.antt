@@ -1,5 +1,5 @@
 -- What a block's state says of its bytes.
-use mathlib.Core.Path.{_≡_, refl, sym, ap, ap₂, subst₃, _∙_}
+use mathlib.Core.Path.{_≡_, refl, sym, ap, ap₂, subst, subst₃, _∙_}
 use mathlib.Core.List.{List, [], _∷_, _++_}
 use mathlib.Core.Option.{Option, none, some}
 use Prim.Native.Nat.{ℕ, _+_, _-_, _*_, _/_, _%_, _≤_, _<_}
@@ -15,7 +15,7 @@ use Rattle.frame.specs.declared.Fault.{Fault}
 use Rattle.frame.specs.Frame.{Frame, total, nextOf}
 use Rattle.frame.specs.Reader.{Tail, clean, cut, bad, Scan, scan, ends}
 use Rattle.frame.proofs.Scanned.{Scanned, scan-inv, scan-clean}
-use Rattle.journal.specs.Block.{headerLen, headerKind, lastTime, stateAt, inTransfer, validData, header, createdAt, headerFault, blank, inProgress, valid, foreign, ofTail, ofHeader, blockState}
+use Rattle.journal.specs.Block.{headerLen, headerKind, lastTime, stateAt, inTransfer, validData, header, createdAt, headerFault, BlockState, blank, inProgress, valid, foreign, ofTail, ofHeader, blockState}
 use Rattle.journal.proofs.Blocks.{Layout, Header, Okay, ofScan, valid-block}
 
 some-none : {A : Type 0} {a : A} → some a ≡ none → ⊥
@@ -90,14 +90,21 @@ header-bytes b y h x =
 
 -- ---- blank
 
-tail-not-blank : (t : ℕ) (fs : List Frame) (c : Tail) → ofTail t fs c ≡ blank → ⊥
-tail-not-blank t fs clean q = let z : _≡_ {A = ℕ} 0 1 = cc in omega arith
-tail-not-blank t fs (cut n) q = let z : _≡_ {A = ℕ} 0 1 = cc in omega arith
-tail-not-blank t fs (bad e) q = let z : _≡_ {A = ℕ} 0 1 = cc in omega arith
+-- what a header makes of a block: valid or foreign
+abbrev pub Headed : BlockState → Type 0
+Headed blank = ⊥
+Headed inProgress = ⊥
+Headed (valid t fs c) = Unit {0}
+Headed (foreign e) = Unit {0}
 
-header-not-blank : (b : List ℕ) (o : Option Fault) → ofHeader b o ≡ blank → ⊥
-header-not-blank b none q = let s : Scan = scan 0 headerLen 0 (drop headerLen b) in tail-not-blank (createdAt b) (s .frames) (s .tail) q
-header-not-blank b (some e) q = let z : _≡_ {A = ℕ} 0 1 = cc in omega arith
+tail-headed : (t : ℕ) (fs : List Frame) (c : Tail) → Headed (ofTail t fs c)
+tail-headed t fs clean = tt
+tail-headed t fs (cut n) = tt
+tail-headed t fs (bad e) = tt
+
+pub header-headed : (b : List ℕ) (o : Option Fault) → Headed (ofHeader b o)
+header-headed b none = let s : Scan = scan 0 headerLen 0 (drop headerLen b) in tail-headed (createdAt b) (s .frames) (s .tail)
+header-headed b (some e) = tt
 
 pub blank-is : (b : List ℕ) → blockState b ≡ blank → b ≡ replicate (length b) 255
 unfolding blockState
@@ -105,7 +112,7 @@ blank-is b e =
     on-test (allFF b) (all-ff b)
     (λ a. on-test (eqb (getD b stateAt 0) inTransfer)
     (λ p. let q : inProgress ≡ blank = rw (a, p, blockState) at e in let z : _≡_ {A = ℕ} 0 1 = cc in absurd (omega arith))
-    (λ p. absurd (header-not-blank b (headerFault b) (rw (a, p, blockState) at e))))
+    (λ p. let q : ofHeader b (headerFault b) ≡ blank = rw (a, p, blockState) at e in absurd (subst Headed q (header-headed b (headerFault b)))))
 
 -- ---- valid
 

@@ -3,3 +3,4 @@ pub mod Block
 pub mod Room
 pub mod Index
 pub mod Examples
+pub mod Sentences

@@ -1,0 +1,99 @@
+-- The state of every block is the one that document 01's sentence gives it.
+use mathlib.Core.Path.{_≡_, refl, sym, ap, subst, _∙_}
+use mathlib.Core.List.{List, [], _∷_}
+use Prim.Native.Nat.{ℕ, _+_, _≤_}
+use native.Mathlib.Omega.{arith}
+use lib.Dec.{eqb}
+use lib.ListN.{length, getD}
+use borrow.Author.Tests.{eqb-true}
+use Rattle.flash.specs.Bytes.{Bytes, allFF}
+use Rattle.flash.proofs.Cases.{on-test}
+use Rattle.frame.specs.declared.Fault.{Fault}
+use Rattle.frame.specs.Frame.{Frame, total, nextOf}
+use Rattle.frame.specs.Reader.{Tail, clean, cut, bad, scan, ends}
+use Rattle.frame.specs.Sentences.{Torn}
+use Rattle.frame.proofs.Exact.{torn-reads}
+use Rattle.frame.proofs.Scanning.{scan-read-torn, scan-blank}
+use Rattle.frame.proofs.Scanned.{tail-clean, tail-cut}
+use Rattle.journal.specs.Block.{headerLen, stateAt, inTransfer, headerFault, BlockState, blank, inProgress, valid, foreign, ofHeader, blockState}
+use Rattle.journal.specs.Sentences.{BlankBlock, InProgressBlock, TailIs, ValidBlock, ForeignBlock, StatesExact}
+use Rattle.journal.proofs.Blocks.{Okay, valid-block, blank-block, progress-block}
+use Rattle.journal.proofs.States.{Contents, valid-inv, Headed, header-headed, blank-is}
+
+-- ---- blank and in progress
+
+blank-state : (b : List ℕ) → BlankBlock b → blockState b ≡ blank
+blank-state b e = ap blockState e ∙ blank-block (length b)
+
+progress-is : (b : List ℕ) → blockState b ≡ inProgress → InProgressBlock b
+unfolding blockState
+progress-is b e =
+    on-test (allFF b)
+    (λ a. let q : blank ≡ inProgress = rw (a, blockState) at e in let z : _≡_ {A = ℕ} 0 1 = cc in absurd (omega arith))
+    (λ a. on-test (eqb (getD b stateAt 0) inTransfer) (eqb-true (getD b stateAt 0) inTransfer)
+    (λ p. let q : ofHeader b (headerFault b) ≡ inProgress = rw (a, p, blockState) at e in absurd (subst Headed q (header-headed b (headerFault b)))))
+
+-- ---- valid
+
+scan-torn : (next at : ℕ) (l : List ℕ) (n : ℕ) → Torn next l n → scan next at 0 l ≡ ends (cut n)
+scan-torn next at [] n y = absurd (omega (arith, y .would-fit))
+scan-torn next at (b ∷ l) n y = scan-read-torn next at b l n (torn-reads next at (b ∷ l) n y)
+
+tail-okay : (next : ℕ) (l : List ℕ) (c : Tail) → TailIs next l c → Okay c
+tail-okay next l clean y = tt
+tail-okay next l (cut n) y = tt
+tail-okay next l (bad e) y = y
+
+tail-scan : (next at : ℕ) (l : List ℕ) (c : Tail) → TailIs next l c → scan next at 0 l ≡ ends c
+tail-scan next at l clean y = ap (scan next at 0) y ∙ scan-blank next at (length l)
+tail-scan next at l (cut n) y = scan-torn next at l n y
+tail-scan next at l (bad e) y = absurd y
+
+tail-is : (next at : ℕ) (l : List ℕ) (c : Tail) → Okay c → scan next at 0 l ≡ ends c → TailIs next l c
+tail-is next at l clean o e = tail-clean next at l e
+tail-is next at l (cut n) o e = tail-cut next at l n e
+tail-is next at l (bad f) o e = o
+
+valid-state : (b : List ℕ) (t : ℕ) (fs : List Frame) (c : Tail) → ValidBlock b t fs c → blockState b ≡ valid t fs c
+valid-state b t fs c y =
+    valid-block {s = length b} c (record { is = y .bytes; stands = y .frames; time-lo = y .time-lo; time-hi = y .time-hi; size = refl })
+    (tail-scan (nextOf 0 fs) (headerLen + total fs) (y .rest) c (y .tail)) (tail-okay (nextOf 0 fs) (y .rest) c (y .tail))
+
+valid-is : (b : List ℕ) (t : ℕ) (fs : List Frame) (c : Tail) → Contents b t fs c → ValidBlock b t fs c
+valid-is b t fs c x =
+    record {
+      rest = x .rest;
+      bytes = x .layout .is;
+      time-lo = x .layout .time-lo;
+      time-hi = x .layout .time-hi;
+      frames = x .layout .stands;
+      tail = tail-is (nextOf 0 fs) (headerLen + total fs) (x .rest) c (x .okay) (x .reads);
+    }
+
+-- ---- all four
+
+foreign-is : (b : List ℕ) (e : Fault) → headerLen ≤ length b → blockState b ≡ foreign e → ForeignBlock b
+foreign-is b e h q =
+    record {
+      not-blank = λ y. let r : blank ≡ foreign e = sym (blank-state b y) ∙ q in let z : _≡_ {A = ℕ} 0 1 = cc in omega arith;
+      not-in-progress = λ y. let r : inProgress ≡ foreign e = sym (progress-block b (omega arith) y) ∙ q in let z : _≡_ {A = ℕ} 0 1 = cc in omega arith;
+      not-valid = λ t fs c y. let r : valid t fs c ≡ foreign e = sym (valid-state b t fs c y) ∙ q in let z : _≡_ {A = ℕ} 0 1 = cc in omega arith;
+    }
+
+foreign-state : (b : List ℕ) → Bytes b → headerLen ≤ length b → ForeignBlock b → (e : Fault) × (blockState b ≡ foreign e)
+foreign-state b y h x = go (blockState b) refl
+  where
+    go : (a : BlockState) → blockState b ≡ a → (e : Fault) × (blockState b ≡ foreign e)
+    go blank q = absurd (x .not-blank (blank-is b q))
+    go inProgress q = absurd (x .not-in-progress (progress-is b q))
+    go (valid t fs c) q = absurd (x .not-valid t fs c (valid-is b t fs c (valid-inv b t fs c y h q)))
+    go (foreign e) q = (e, q)
+
+pub states-exact : StatesExact
+states-exact =
+    record {
+      is-blank = λ b y h. (blank-is b, blank-state b);
+      is-in-progress = λ b y h. (progress-is b, progress-block b (omega arith));
+      is-valid = λ b t fs c y h. ((λ q. valid-is b t fs c (valid-inv b t fs c y h q)), valid-state b t fs c);
+      is-foreign = λ b y h. ((λ p. foreign-is b (p .0) h (p .1)), foreign-state b y h);
+    }

@@ -1,0 +1,51 @@
+-- Document 01's sentence on the states of a half, and the statement that `blockState` says exactly this.
+use mathlib.Core.List.{List, _++_}
+use mathlib.Core.Logic.{_↔_}
+use mathlib.Core.Path.{_≡_}
+use Prim.Native.Nat.{ℕ, _≤_}
+use lib.ListN.{length, getD}
+use Rattle.flash.specs.Bytes.{Bytes}
+use Rattle.frame.specs.declared.Fault.{Fault}
+use Rattle.frame.specs.Frame.{Frame, encodeAll, AllMayStand, nextOf}
+use Rattle.frame.specs.Reader.{Tail, clean, cut, bad}
+use Rattle.frame.specs.Sentences.{Blank, Torn}
+use Rattle.journal.specs.Block.{headerLen, lastTime, stateAt, inTransfer, validData, header, blank, inProgress, valid, foreign, blockState}
+
+-- "A half is blank if every byte is 0xFF"
+abbrev pub BlankBlock : List ℕ → Type 0
+BlankBlock b = Blank b
+
+-- "in progress if byte 8 is 0xFE"
+abbrev pub InProgressBlock : List ℕ → Type 0
+InProgressBlock b = getD b stateAt 0 ≡ inTransfer
+
+-- "a tail that is all 0xFF or torn": the bytes after the frames, up to the block's end
+abbrev pub TailIs : ℕ → List ℕ → Tail → Type 0
+TailIs next t clean = Blank t
+TailIs next t (cut n) = Torn next t n
+TailIs next t (bad e) = ⊥
+
+-- "valid if byte 8 is 0xFC, the header is as above, and whole legal frames, the settled ones placed as said above, run to a tail that
+-- is all 0xFF or torn"; `header` has 0xFC in byte 8
+pub record ValidBlock (b : List ℕ) (t : ℕ) (fs : List Frame) (c : Tail) : Type 0 where
+  pub rest : List ℕ
+  pub bytes : b ≡ header t validData ++ (encodeAll fs ++ rest)
+  pub time-lo : 1 ≤ t
+  pub time-hi : t ≤ lastTime
+  pub frames : AllMayStand 0 fs
+  pub tail : TailIs (nextOf 0 fs) rest c
+
+-- "Any other half is foreign."
+pub record ForeignBlock (b : List ℕ) : Type 0 where
+  pub not-blank : BlankBlock b → ⊥
+  pub not-in-progress : InProgressBlock b → ⊥
+  pub not-valid : (t : ℕ) (fs : List Frame) (c : Tail) → ValidBlock b t fs c → ⊥
+
+-- every block of bytes that has a header is blank, in progress, valid or foreign exactly as the sentence says; its state being one,
+-- they exclude each other
+pub record StatesExact : Type 0 where
+  pub is-blank : (b : List ℕ) → Bytes b → headerLen ≤ length b → (blockState b ≡ blank) ↔ BlankBlock b
+  pub is-in-progress : (b : List ℕ) → Bytes b → headerLen ≤ length b → (blockState b ≡ inProgress) ↔ InProgressBlock b
+  pub is-valid : (b : List ℕ) (t : ℕ) (fs : List Frame) (c : Tail) → Bytes b → headerLen ≤ length b
+      → (blockState b ≡ valid t fs c) ↔ ValidBlock b t fs c
+  pub is-foreign : (b : List ℕ) → Bytes b → headerLen ≤ length b → ((e : Fault) × (blockState b ≡ foreign e)) ↔ ForeignBlock b
