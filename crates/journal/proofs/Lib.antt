@@ -11,3 +11,4 @@ pub mod Indexing
 pub mod Blocks
 pub mod States
 pub mod Building
+pub mod Headers

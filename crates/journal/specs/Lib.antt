@@ -2,4 +2,5 @@ pub mod Replay
 pub mod Block
 pub mod Room
 pub mod Index
+pub mod Survey
 pub mod Examples
