@@ -1,11 +1,11 @@
 -- The next frame that a transfer copies, found step by step; and the settled frames that the places tell of.
 use mathlib.Core.Path.{_≡_, refl, sym, ap, ap₂, _∙_}
-use mathlib.Core.List.{List, [], _∷_, _++_, map}
+use mathlib.Core.List.{List, [], _∷_, map}
 use mathlib.Core.Option.{Option, none, some}
 use mathlib.Core.Bool.{Bool, true, false}
 use Prim.Native.Nat.{ℕ, zero, suc, _+_, _-_, _≤_, _<_}
 use native.Mathlib.Omega.{arith}
-use lib.Dec.{eqb, leb}
+use lib.Dec.{eqb}
 use lib.ListN.{length, getD, take, drop, length-take}
 use lib.Seq.{take-length, take-all}
 use borrow.Author.Tests.{ne-eqb, eqb-true, eqb-false}
@@ -22,7 +22,7 @@ use Rattle.journal.specs.declared.Fetched.{Fetched}
 use Rattle.journal.specs.declared.Fetched.the-variants as fetched
 use Rattle.journal.specs.Replay.{Object, lookup, settledFrame}
 use Rattle.journal.specs.Index.{Value, onlyIf, valueIn, valueRead, valueAt, Load, load, nextSettled, isPending, nextPending, orElse, nextLoad}
-use Rattle.journal.specs.Survey.{foundOf, onlyAt, valueHead, pendingHead, loadOf, Inside, settledAt}
+use Rattle.journal.specs.Survey.{foundOf, valueHead, pendingHead, loadOf, Inside, settledAt}
 use Rattle.journal.proofs.Lookups.{lookup-yes, lookup-no}
 use Rattle.journal.proofs.Replaying.{Rising, below-none, rising-from}
 use Rattle.journal.proofs.Places.{bytesOf}

@@ -1,16 +1,16 @@
 -- A frame read somewhere in a block: what its head says, what it is followed by, and where its value stands.
-use mathlib.Core.Path.{_≡_, refl, sym, ap, subst, _∙_}
+use mathlib.Core.Path.{_≡_, refl, sym, ap, _∙_}
 use mathlib.Core.List.{List, [], _∷_, _++_}
 use Prim.Native.Nat.{ℕ, zero, suc, _+_, _-_, _≤_, min}
 use native.Mathlib.Omega.{arith}
 use native.Mathlib.Nat.{sub-zero}
 use lib.ListN.{length, take, drop, length-append, length-take, length-drop}
-use lib.Seq.{drop-at, drop-drop, take-take, take-nil, drop-nil}
+use lib.Seq.{drop-at, drop-drop, take-take, take-nil}
 use Rattle.frame.specs.declared.Head.{Head}
 use Rattle.frame.specs.declared.FrameRead.the-variants as read
 use Rattle.frame.specs.declared.Fault.{Fault}
 use Rattle.frame.specs.Frame.{Frame, change, commit, abort, settled, put, delete, valueMax, encode, frameLen, MayStand, nextAfter}
-use Rattle.frame.specs.Reader.{Read, blank, whole, torn, wrong, readFrame, clean, cut, bad, Scan, push, ends, scan}
+use Rattle.frame.specs.Reader.{Read, blank, whole, torn, wrong, readFrame, clean, cut, bad, push, ends, scan}
 use Rattle.frame.specs.Sentences.{Whole}
 use Rattle.frame.specs.Code.{headOf, valueOf, readOf, headLen, valueLen, valueStart}
 use Rattle.frame.proofs.Encode.{length-encode}

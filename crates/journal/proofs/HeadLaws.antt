@@ -1,11 +1,11 @@
 -- The laws of places, loads and of the pass, by the heads that the code reads.
 use mathlib.Core.Path.{_≡_, refl, sym, ap, ap₂, subst, subst₂, _∙_}
-use mathlib.Core.List.{List, [], _∷_, _++_, map}
+use mathlib.Core.List.{List, [], _∷_}
 use mathlib.Core.Option.{Option, none, some}
-use mathlib.Core.Bool.{Bool, true, false, _&&_}
-use Prim.Native.Nat.{ℕ, zero, suc, _+_, _-_, _≤_, _<_}
+use mathlib.Core.Bool.{true, false}
+use Prim.Native.Nat.{ℕ, suc, _+_, _-_, _≤_, _<_}
 use native.Mathlib.Omega.{arith}
-use lib.Dec.{eqb, leb}
+use lib.Dec.{eqb}
 use lib.ListN.{length, getD, take, drop}
 use lib.Seq.{drop-drop, take-length}
 use borrow.Author.Tests.{le-leb}
@@ -16,19 +16,18 @@ use Rattle.frame.specs.declared.Fault.{Fault}
 use Rattle.frame.specs.declared.Head.{Head}
 use Rattle.frame.specs.declared.Head.the-variants as head
 use Rattle.frame.specs.declared.FrameRead.the-variants as read
-use Rattle.frame.specs.Frame.{idOf, valueMax, put, delete, Frame, change, commit, abort, settled, frameLen, total, nextAfter}
-use Rattle.frame.specs.Reader.{Read, blank, whole, torn, wrong, readFrame, Tail, clean, cut, bad, Scan, push, ends, scan}
-use Rattle.frame.specs.Code.{headOf, valueOf, frameOf, readOf, headLen, valueLen, valueStart}
+use Rattle.frame.specs.Frame.{idOf, put, delete, Frame, change, commit, abort, settled, frameLen, total, nextAfter}
+use Rattle.frame.specs.Reader.{blank, whole, torn, wrong, readFrame, Tail, clean, cut, bad, Scan, ends, scan}
+use Rattle.frame.specs.Code.{headOf, frameOf, readOf, headLen, valueLen, valueStart}
 use Rattle.frame.proofs.Heads.{frame-of-head, head-len}
 use Rattle.frame.proofs.Scanning.{pushAll, push-ends}
 use Rattle.journal.specs.declared.Found.the-variants as found
 use Rattle.journal.specs.declared.Fetch.{Fetch}
 use Rattle.journal.specs.declared.Fetched.the-variants as fetched
 use Rattle.journal.specs.declared.Progress.{Progress}
-use Rattle.journal.specs.declared.Walk.{Walk}
 use Rattle.journal.specs.Block.{headerLen}
-use Rattle.journal.specs.Index.{placesOf, Value, valueRead, valueAt, Load, load, isPending, nextPending}
-use Rattle.journal.specs.Survey.{foundOf, valueHead, pendingHead, loadOf, Inside, placeIf, placeFrame, commitPlaces, placeHead, recommit, nextHead, progressOf, grown, closed, passed, tookFrame, tookPlaces, tailOf, walkOf, settledWith, settledAt, tallyOf}
+use Rattle.journal.specs.Index.{placesOf, Value, valueAt, load, isPending, nextPending}
+use Rattle.journal.specs.Survey.{foundOf, valueHead, pendingHead, loadOf, Inside, placeFrame, commitPlaces, placeHead, nextHead, grown, closed, passed, tookFrame, tookPlaces, tailOf, walkOf, settledWith, settledAt, tallyOf}
 use Rattle.journal.proofs.PerHost.{pending-most}
 use Rattle.journal.proofs.FrameReads.{whole-is, blank-is, torn-is, wrong-is, scan-blank-at, scan-torn-at, scan-wrong-at, scan-whole-at, value-there, value-inside}
 use Rattle.journal.proofs.Fetching.{value-head, value-reads, Held, held, found-none, found-at, pending-head, pending-blank, pending-torn, pending-wrong, pending-yes, pending-no}
@@ -197,8 +196,7 @@ module _ {b t : List ℕ} {p : Progress} (y : Reached b t p) where
 
   ends-with : (c : Tail) → scan (p .next) (p .end) 0 (drop (p .end) b) ≡ ends c → Ends c
   ends-with c e =
-      let q : whole-scan ≡ record { frames = y .frames; tail = c } = y .scanned ∙ ap (pushAll (y .frames)) e ∙ push-ends (y .frames) c in
-      (
+      let q : whole-scan ≡ record { frames = y .frames; tail = c } = y .scanned ∙ ap (pushAll (y .frames)) e ∙ push-ends (y .frames) c in (
         ap (λ (x : Progress). record { progress = x; tail = tailOf c }) (y .progress) ∙ ap walkOf (sym q),
         y .places ∙ ap (λ (s : Scan). placesOf (s .frames)) (sym q),
       )

@@ -2,10 +2,10 @@
 use mathlib.Core.Path.{_≡_, refl, sym, ap, ap₂, subst₂, _∙_}
 use mathlib.Core.List.{List, [], _∷_, _++_, append-assoc, append-nil}
 use mathlib.Core.Bool.{Bool, true, false}
-use Prim.Native.Nat.{ℕ, suc, _+_, _-_, _≤_}
+use Prim.Native.Nat.{ℕ, _+_, _-_, _≤_}
 use native.Mathlib.Omega.{arith}
 use lib.Dec.{eqb}
-use lib.ListN.{length, getD, take, drop, set}
+use lib.ListN.{getD, take, drop, set}
 use lib.Seq.{take-at, drop-at, drop-drop}
 use borrow.Author.Tests.{eq-eqb, ne-eqb}
 use Rattle.frame.specs.declared.Host.{Host}
@@ -16,7 +16,7 @@ use Rattle.frame.proofs.Encode.{length-all, encode-append, encode-snoc, total-s
 use Rattle.frame.proofs.Scanning.{scan-nil, pushAll, scan-with}
 use Rattle.journal.specs.declared.Progress.{Progress}
 use Rattle.journal.specs.Block.{headerLen}
-use Rattle.journal.specs.Replay.{EntryOf, Entry, State, next, replay, replayFrom}
+use Rattle.journal.specs.Replay.{Entry, State, next, replay}
 use Rattle.journal.specs.Index.{placesOf, isEnd, pick, since, sinceOf}
 use Rattle.journal.specs.Survey.{pendingBytes, pendingOf, commitPlaces, recommit, progress, progressOf, grown, closed, passed, tookFrame, tookPlaces}
 use Rattle.journal.proofs.Replaying.{replay-snoc}

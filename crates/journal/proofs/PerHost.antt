@@ -1,18 +1,15 @@
 -- One number for each host, and each host's pending bytes.
-use mathlib.Core.Path.{_≡_, refl, sym, ap, _∙_}
+use mathlib.Core.Path.{_≡_, refl, ap, _∙_}
 use mathlib.Core.List.{List, [], _∷_, _++_, map}
-use mathlib.Core.Bool.{true, false}
 use Prim.Native.Nat.{ℕ, zero, suc, _+_, _≤_}
 use native.Mathlib.Omega.{arith}
 use lib.Dec.{eqb}
-use lib.ListN.{length, getD, set}
+use lib.ListN.{getD, set}
 use Rattle.flash.proofs.Cases.{on-test}
 use Rattle.frame.specs.declared.Host.{Host}
 use Rattle.frame.specs.Frame.{hostOf, hostMax, Change, put, delete, Frame, change, frameLen, total}
-use Rattle.frame.proofs.Encode.{total-snoc}
 use Rattle.journal.specs.Block.{headerLen}
 use Rattle.journal.specs.Replay.{Entry, entry, listOf, without, replay, pendingFrame}
-use Rattle.journal.specs.Room.{claimed}
 use Rattle.journal.specs.Survey.{pendingBytes, perHost, pendingOf}
 use Rattle.journal.proofs.Lists.{list-own, list-other, list-snoc, list-snoc-other}
 use Rattle.journal.proofs.Room.{claimed-replay}

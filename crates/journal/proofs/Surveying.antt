@@ -3,14 +3,14 @@ use mathlib.Core.Path.{_≡_, refl, sym, ap, ap₂, subst, _∙_}
 use mathlib.Core.List.{List, [], _∷_, _++_, map}
 use mathlib.Core.Option.{Option, none, some}
 use mathlib.Core.Bool.{true, false}
-use Prim.Native.Nat.{ℕ, zero, suc, _+_, _≤_}
+use Prim.Native.Nat.{ℕ, suc, _+_, _≤_}
 use native.Mathlib.Omega.{arith}
 use lib.Dec.{eqb}
 use lib.ListN.{length, getD, take, drop, replicate, length-drop, take-append-drop}
 use lib.Seq.{length-take-le}
 use Rattle.flash.specs.Bytes.{allFF}
 use Rattle.frame.specs.declared.Fault.{Fault}
-use Rattle.frame.specs.Frame.{Frame, total, encodeAll, AllMayStand, nextOf}
+use Rattle.frame.specs.Frame.{Frame, total, nextOf}
 use Rattle.frame.specs.Reader.{Tail, clean, cut, bad, Scan, scan, ends}
 use Rattle.frame.specs.Sentences.{Torn}
 use Rattle.frame.proofs.Scanned.{Scanned, scan-inv, scan-length, tail-cut}
@@ -21,11 +21,11 @@ use Rattle.journal.specs.declared.Walk.{Walk}
 use Rattle.journal.specs.declared.BlockKind.{BlockKind}
 use Rattle.journal.specs.declared.BlockKind.the-variants as kind
 use Rattle.journal.specs.declared.Survey.{Survey}
-use Rattle.journal.specs.Replay.{Object, State, lookup, listOf, replay, replayFrom, settledFrame}
+use Rattle.journal.specs.Replay.{Object, lookup, listOf, replay, replayFrom, settledFrame}
 use Rattle.journal.specs.Block.{headerLen, stateAt, inTransfer, createdAt, headerFault, BlockState, blank, inProgress, valid, foreign, ofTail, ofHeader, blockState}
 use Rattle.journal.specs.Index.{sited, placesFrom, placesOf, sinceFrom, sinceOf}
-use Rattle.journal.specs.Survey.{headerOf, pendingOf, kindIn, tornLen, surveyOf, placesIn, progressOf, tailOf, walkOf, settledAt, emptySurvey, foundSurvey}
-use Rattle.journal.proofs.Replaying.{Rising, rising-to, Sound, sound-replay}
+use Rattle.journal.specs.Survey.{headerOf, pendingOf, tornLen, surveyOf, placesIn, progressOf, tailOf, walkOf, settledAt, emptySurvey, foundSurvey}
+use Rattle.journal.proofs.Replaying.{rising-to, Sound, sound-replay}
 use Rattle.journal.proofs.Places.{Journal, place-value}
 use Rattle.journal.proofs.Fetching.{collect}
 

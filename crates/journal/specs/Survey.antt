@@ -18,7 +18,6 @@ use Rattle.journal.specs.declared.HeaderCheck.{HeaderCheck}
 use Rattle.journal.specs.declared.HeaderCheck.the-variants.{Sound, Bad}
 use Rattle.journal.specs.declared.Found.{Found}
 use Rattle.journal.specs.declared.Found.the-variants as found
-use Rattle.journal.specs.declared.Fetch.{Fetch}
 use Rattle.journal.specs.declared.Fetched.{Fetched}
 use Rattle.journal.specs.declared.Fetched.the-variants as fetched
 use Rattle.journal.specs.declared.Progress.{Progress}

@@ -59,13 +59,22 @@ fn walk(block: &[u8], places: &mut [u16; 256]) -> Walk
                 p = pass::take_frame(block, p, head, places);
             }
             FrameRead::Blank => {
-                return Walk { progress: p, tail: Tail::Clean };
+                return Walk {
+                    progress: p,
+                    tail: Tail::Clean,
+                };
             }
             FrameRead::Torn(n) => {
-                return Walk { progress: p, tail: Tail::Cut(n) };
+                return Walk {
+                    progress: p,
+                    tail: Tail::Cut(n),
+                };
             }
             FrameRead::Wrong(fault) => {
-                return Walk { progress: p, tail: Tail::Bad(fault) };
+                return Walk {
+                    progress: p,
+                    tail: Tail::Bad(fault),
+                };
             }
         }
     }

@@ -120,7 +120,14 @@ fn next_pending(part: &[u8], since: [u16; 4], source: u16) -> Fetched
 }
 
 // The next frame that a transfer of a block writes, whose whole frames run to `end`.
-pub fn next_load(block: &[u8], end: u16, places: &[u16; 256], since: [u16; 4], id: u16, source: u16) -> Fetched
+pub fn next_load(
+    block: &[u8],
+    end: u16,
+    places: &[u16; 256],
+    since: [u16; 4],
+    id: u16,
+    source: u16,
+) -> Fetched
     ensures { λ r. ⌜ (loadOf (now (block .entry)) r ≡ nextLoad (now (block .entry)) end (now (places .entry)) since id source) × Inside (now (block .entry)) r ⌝ }
 {
     let e = end as usize;

@@ -6,13 +6,12 @@ mod index;
 mod pass;
 
 pub use block::survey_block;
+use frame::Fault;
+use frame::Head;
 pub use header::created;
 pub use header::header_fault;
 pub use index::next_load;
 pub use index::value_at;
-
-use frame::Fault;
-use frame::Head;
 
 // What is wrong with a header, if anything is.
 pub enum HeaderCheck {
