@@ -2,7 +2,7 @@
 use mathlib.Core.Path.{_≡_, refl, sym, ap, subst, _∙_}
 use mathlib.Core.List.{List, [], _∷_, _++_, append-assoc, append-nil}
 use mathlib.Core.Option.{Option, none, some}
-use mathlib.Core.Bool.{Bool, true, false, _&&_}
+use mathlib.Core.Bool.{Bool, true, false}
 use Prim.Native.Nat.{ℕ, _+_, _≤_, _<_}
 use native.Mathlib.Omega.{arith}
 use lib.Dec.{eqb, leb}
@@ -17,6 +17,7 @@ use Rattle.frame.proofs.Encode.{total-snoc}
 use Rattle.journal.specs.Block.{headerLen}
 use Rattle.journal.specs.Replay.{ObjectOf, object, EntryOf, StateOf, insert, remove, lookup, change1, changeAll, listOf, next, replay}
 use Rattle.journal.specs.Index.{sited, orZero, placesFrom, placesOf, isEnd, pick, sinceFrom, since}
+use Rattle.journal.specs.Survey.{placeChange, placeIf, placeFrame, commitPlaces}
 use Rattle.journal.proofs.Lookups.{lookup-yes, lookup-no, lookup-insert, lookup-insert-other, lookup-remove, lookup-remove-other}
 use Rattle.journal.proofs.Replaying.{replay-snoc, above-none, sound-replay}
 use Rattle.journal.proofs.Mapping.{located-sited, located-snoc}
@@ -46,11 +47,6 @@ table-set os new i p e k =
     let q : j ≡ i .0 → ⊥ = eqb-false j (i .0) t in
     table-at new j l′ ∙ ap orZero (k (idOf j) q) ∙ sym (getD-set-other (table os) (i .0) j p 0 q ∙ table-at os j l′)))
 
--- what a change of a frame at offset p does: a put's place is p, and a delete leaves none
-abbrev pub placeChange : ChangeOf ℕ → List ℕ → List ℕ
-placeChange (put i p) t = set t (i .0) p
-placeChange (delete i) t = set t (i .0) 0
-
 table-change : (c : ChangeOf ℕ) (os : List (ObjectOf ℕ)) → table (change1 c os) ≡ placeChange c (table os)
 table-change (put i p) os = table-set os (insert i p os) i p (ap orZero (lookup-insert i p os)) (λ j n. lookup-insert-other j i p os n)
 table-change (delete i) os = table-set os (remove i os) i 0 (ap orZero (lookup-remove i os)) (λ j n. lookup-remove-other j i os n)
@@ -65,21 +61,6 @@ table-changes [] os = refl
 table-changes (c ∷ cs) os = table-changes cs (change1 c os) ∙ ap (placeChanges cs) (table-change c os)
 
 -- ---- a commit: one pass over the frames
-
-abbrev pub placeIf : Bool → ChangeOf ℕ → List ℕ → List ℕ
-placeIf true c t = placeChange c t
-placeIf false c t = t
-
--- what a frame at offset o does in a commit of host h, whose pending part starts at d
-abbrev pub placeFrame : Host → ℕ → ℕ → Frame → List ℕ → List ℕ
-placeFrame h d o (change g c) t = placeIf (eqb (h .0) (g .0) && leb d o) (mapChange (λ v. o) c) t
-placeFrame h d o (commit g) t = t
-placeFrame h d o (abort g) t = t
-placeFrame h d o (settled i v) t = t
-
-unfoldable pub commitPlaces : Host → ℕ → ℕ → List ℕ → List Frame → List ℕ
-commitPlaces h d o t [] = t
-commitPlaces h d o t (f ∷ fs) = commitPlaces h d (o + frameLen f) (placeFrame h d o f t) fs
 
 abbrev offsetThere : ℕ → List ℕ → ℕ
 offsetThere o v = o

@@ -12,3 +12,10 @@ pub mod Blocks
 pub mod States
 pub mod Building
 pub mod Sentences
+pub mod Headers
+pub mod FrameReads
+pub mod PerHost
+pub mod Passing
+pub mod Fetching
+pub mod HeadLaws
+pub mod Surveying

@@ -1,0 +1,27 @@
+-- Past the header: the scan's tail decides.
+use mathlib.Core.Path.{_∙_}
+use native.Mathlib.Omega.{arith}
+use denote.Ref.{now}
+use Rattle.journal.specs.declared.BlockKind.the-variants as kind
+use Rattle.journal.specs.Survey.{emptySurvey}
+use Rattle.journal.proofs.Surveying.{right-clean, right-cut, right-bad, cut-fits, no-places-of}
+use borrow.Author.Needs.{needs}
+use Rattle.journal.proofs.block.survey_frames.Statement.{statement}
+use Rattle.journal.proofs.block.survey_frames.Tie as tie
+
+pub survey-frames-spec : {M : Type 1} → statement M
+survey-frames-spec =
+    tie.close
+    (tie.spec
+    (λ c κs. search needs)
+    (λ c. search needs)
+    (λ c κs. search needs)
+    (λ c. right-clean (now (c .before .before .before .before .before .before .before .before .args .block)) (c .before .before .before .before .before .before .before .before .pre .0) (c .before .before .before .before .before .walk .result) _ _ (c .before .before .before .before .before .walk .ensures .0) (c .before .before .before .before .before .walk .ensures .1) (c .before .before .enum-told .given .1) (c .found .ensures))
+    (λ c. search needs)
+    (λ c. omega (arith, cut-fits (now (c .before .before .before .before .before .before .before .before .args .block)) (c .before .before .before .before .before .before .before .before .pre .0) (c .before .before .before .before .before .walk .result) _ (emptySurvey kind.Blank) (c .before .before .before .before .before .walk .ensures .0) (c .before .before .before .before .before .walk .ensures .1) _ (c .before .before .tail .given .1), c .before .before .before .before .before .before .before .before .pre))
+    (λ c κs. search needs)
+    (λ c. right-cut (now (c .before .before .before .before .before .before .before .before .before .args .block)) (c .before .before .before .before .before .before .before .before .before .pre .0) (c .before .before .before .before .before .before .walk .result) _ _ (c .before .before .before .before .before .before .walk .ensures .0) (c .before .before .before .before .before .before .walk .ensures .1) _ (c .before .before .before .tail .given .1) (c .found2 .ensures))
+    (λ c. search needs)
+    (λ c κs. search needs)
+    (λ c κs. search needs)
+    (λ c. right-bad (now (c .before .before .before .before .before .before .before .before .before .before .args .block)) (c .before .before .before .before .before .before .before .before .before .before .pre .0) (c .before .before .before .before .before .before .before .walk .result) _ _ (c .before .before .before .before .before .before .before .walk .ensures .0) (c .before .before .before .before .before .before .before .walk .ensures .1) _ _ (c .before .before .before .before .tail2 .given .1) (c .empty .ensures) (c .before .clear .ensures ∙ no-places-of _ (c .before .before .clear-arg .given .0 .1))))

@@ -1,0 +1,46 @@
+-- The tally: what was counted and what is left make the whole.
+use mathlib.Core.List.{[]}
+use Rattle.journal.proofs.HeadLaws.{settled-none, no-frames, same-tally}
+use mathlib.Core.Path.{_≡_, sym, ap, _∙_}
+use native.Mathlib.Omega.{arith}
+use Prim.Native.Nat.{_+_, _-_, _≤_}
+use denote.Ref.{now}
+use lib.ListN.{length}
+use borrow.Author.Needs.{needs}
+use Rattle.journal.proofs.HeadLaws.{tally-no, tally-yes}
+use Prim.Native.Nat.{_*_}
+use Rattle.frame.specs.Frame.{total}
+use Rattle.journal.specs.Survey.{settledAt}
+use Rattle.journal.proofs.block.tally.Statement.{statement}
+use Rattle.journal.proofs.block.tally.Tie as tie
+
+abbrev Inv-loop : tie.InvT-loop
+Inv-loop block places i₀ count₀ used₀ i count used = (count + length (settledAt block places (256 - i) i) ≡ length (settledAt block places 256 0)) × (used + total (settledAt block places (256 - i) i) ≡ 16 + total (settledAt block places 256 0)) × (i ≤ 256) × (count ≤ i) × (used ≤ 16 + 71 * i)
+
+abbrev μ-loop : tie.MeasureT-loop
+μ-loop block places i₀ count₀ used₀ i count used = 256 - i
+
+pub tally-spec : {M : Type 1} → statement M
+tally-spec =
+    tie.close
+    (tie.spec
+    Inv-loop
+    μ-loop
+    (λ c. (omega arith, omega arith, omega arith, omega arith, omega arith))
+    (λ c. search needs)
+    (λ c. search needs)
+    (λ c. search needs)
+    (λ c κs. search needs)
+    (λ c. search needs)
+    (λ c. search needs)
+    (λ c. search needs)
+    (λ c. omega (arith, tally-yes (now (c .before .before .before .before .before .before .before .before .args .block)) (now (c .before .before .before .before .before .before .before .before .args .places)) (c .before .before .before .before .before .before .loop .i) (c .before .before .before .before .before .loop-test .taken) _ _ (sym (c .before .before .before .value-at .ensures) ∙ c .before .n .given .1)))
+    (λ c. omega (arith, tally-yes (now (c .before .before .before .before .before .before .before .before .args .block)) (now (c .before .before .before .before .before .before .before .before .args .places)) (c .before .before .before .before .before .before .loop .i) (c .before .before .before .before .before .loop-test .taken) _ _ (sym (c .before .before .before .value-at .ensures) ∙ c .before .n .given .1)))
+    (λ c. omega (arith, tally-yes (now (c .before .before .before .before .before .before .before .before .args .block)) (now (c .before .before .before .before .before .before .before .before .args .places)) (c .before .before .before .before .before .before .loop .i) (c .before .before .before .before .before .loop-test .taken) _ _ (sym (c .before .before .before .value-at .ensures) ∙ c .before .n .given .1)))
+    (λ c. search needs)
+    (λ c. let z = tally-yes (now (c .before .before .before .before .before .before .before .before .args .block)) (now (c .before .before .before .before .before .before .before .before .args .places)) (c .before .before .before .before .before .before .loop .i) (c .before .before .before .before .before .loop-test .taken) _ _ (sym (c .before .before .before .value-at .ensures) ∙ c .before .n .given .1) in (omega (arith, z .count), omega (arith, z .used), omega arith, omega arith, omega (arith, z .small)))
+    (λ c. search needs)
+    (λ c. search needs)
+    (λ c. search needs)
+    (λ c. let z = tally-no (now (c .before .before .before .before .before .before .before .args .block)) (now (c .before .before .before .before .before .before .before .args .places)) (c .before .before .before .before .before .loop .i) (c .before .before .before .before .loop-test .taken) (sym (c .before .before .value-at .ensures) ∙ c .enum-told .given .1) in (omega (arith, ap length z), omega (arith, ap total z), omega arith, omega arith, omega arith))
+    (λ c. let z : (settledAt (now (c .before .before .before .args .block)) (now (c .before .before .before .args .places)) (256 - c .before .loop .i) (c .before .loop .i)) ≡ [] = settled-none (now (c .before .before .before .args .block)) (now (c .before .before .before .args .places)) (c .before .loop .i) (c .loop-test .left) in same-tally _ _ _ (omega (arith, ap length z)) (omega (arith, no-frames (settledAt (now (c .before .before .before .args .block)) (now (c .before .before .before .args .places)) (256 - c .before .loop .i) (c .before .loop .i)) z))))

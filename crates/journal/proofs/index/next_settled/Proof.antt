@@ -1,0 +1,36 @@
+-- The next settled frame: from i on it is the same as from the first id on.
+use mathlib.Core.Path.{_≡_, refl, sym, _∙_}
+use Prim.Native.Nat.{_-_}
+use denote.Ref.{now}
+use borrow.Author.Needs.{needs}
+use Rattle.journal.proofs.HeadLaws.{fetch-settled}
+use Rattle.journal.specs.Index.{nextSettled}
+use Rattle.journal.proofs.Fetching.{found-none, found-at, settled-end, settled-no, settled-yes}
+use Rattle.journal.proofs.index.next_settled.Statement.{statement}
+use Rattle.journal.proofs.index.next_settled.Tie as tie
+
+abbrev Inv-loop : tie.InvT-loop
+Inv-loop block places id source i₀ i = nextSettled block places source (256 - i) i ≡ nextSettled block places source (256 - id) id
+
+abbrev μ-loop : tie.MeasureT-loop
+μ-loop block places id source i₀ i = 256 - i
+
+pub next-settled-spec : {M : Type 1} → statement M
+next-settled-spec =
+    tie.close
+    (tie.spec
+    Inv-loop
+    μ-loop
+    (λ c. refl)
+    (λ c. search needs)
+    (λ c. search needs)
+    (λ c. search needs)
+    (λ c κs. search needs)
+    (λ c. search needs)
+    (λ c. search needs)
+    (λ c. let w = (found-at _ _ _ (sym (c .before .before .before .value-at .ensures) ∙ c .before .value .given .1)) in let z = fetch-settled (now (c .before .before .before .before .before .before .before .before .args .block)) (c .before .before .before .before .before .before .loop .i) _ _ _ (c .before .before .before .before .before .before .before .before .args .source) (w .0) (w .1) (w .2) (w .3) in (z .0 ∙ sym (settled-yes (now (c .before .before .before .before .before .before .before .before .args .block)) (now (c .before .before .before .before .before .before .before .before .args .places)) (c .before .before .before .before .before .before .before .before .args .source) (c .before .before .before .before .before .before .loop .i) (c .before .before .before .before .before .loop-test .taken) (w .0) (w .1)) ∙ c .before .before .before .before .before .before .loop .inv, z .1))
+    (λ c. search needs)
+    (λ c. search needs)
+    (λ c. search needs)
+    (λ c. sym (settled-no (now (c .before .before .before .before .before .before .before .args .block)) (now (c .before .before .before .before .before .before .before .args .places)) (c .before .before .before .before .before .before .before .args .source) (c .before .before .before .before .before .loop .i) (c .before .before .before .before .loop-test .taken) (found-none _ (sym (c .before .before .value-at .ensures) ∙ c .enum-told .given .1))) ∙ c .before .before .before .before .before .loop .inv)
+    (λ c. (sym (settled-end (now (c .before .before .before .args .block)) (now (c .before .before .before .args .places)) (c .before .before .before .args .source) (c .before .loop .i) (c .loop-test .left)) ∙ c .before .loop .inv, tt)))

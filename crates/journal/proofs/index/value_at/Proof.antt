@@ -1,0 +1,27 @@
+-- The value at a place: each return is what the read there says.
+use mathlib.Core.Path.{sym, ap, _∙_}
+use Prim.Native.Nat.{ℕ}
+use denote.Ref.{now}
+use Rattle.journal.proofs.HeadLaws.{value-whole, value-blank, value-torn, value-wrong}
+use Rattle.journal.specs.Survey.{foundOf}
+use Rattle.journal.specs.Index.{valueAt}
+use Rattle.journal.proofs.Places.{value-zero}
+use borrow.Author.Needs.{needs}
+use Rattle.journal.proofs.index.value_at.Statement.{statement}
+use Rattle.journal.proofs.index.value_at.Tie as tie
+
+pub value-at-spec : {M : Type 1} → statement M
+value-at-spec =
+    tie.close
+    (tie.spec
+    (λ c. sym (ap (λ (p : ℕ). foundOf (valueAt (now (c .before .before .args .block)) (c .before .before .args .id) p)) (c .if1 .taken) ∙ ap foundOf (value-zero (now (c .before .before .args .block)) (c .before .before .args .id))))
+    (λ c κs. search needs)
+    (λ c. search needs)
+    (λ c κs. search needs)
+    (λ c. c .value-in .ensures ∙ value-whole (now (c .before .before .before .before .before .before .before .args .block)) (c .before .before .before .before .before .before .before .args .id) (c .before .before .before .before .before .before .before .args .place) (c .before .before .before .before .before .if1 .left) _ (sym (c .before .before .before .before .read-frame .ensures) ∙ c .before .before .head .given .1))
+    (λ c. search needs)
+    (λ c. value-blank (now (c .before .before .before .before .before .args .block)) (c .before .before .before .before .before .args .id) (c .before .before .before .before .before .args .place) (c .before .before .before .if1 .left) (sym (c .before .before .read-frame .ensures) ∙ c .enum-told .given .1))
+    (λ c. search needs)
+    (λ c. value-torn (now (c .before .before .before .before .before .args .block)) (c .before .before .before .before .before .args .id) (c .before .before .before .before .before .args .place) (c .before .before .before .if1 .left) _ (sym (c .before .before .read-frame .ensures) ∙ c .enum-told2 .given .1))
+    (λ c. search needs)
+    (λ c. value-wrong (now (c .before .before .before .before .before .args .block)) (c .before .before .before .before .before .args .id) (c .before .before .before .before .before .args .place) (c .before .before .before .if1 .left) _ (sym (c .before .before .read-frame .ensures) ∙ c .enum-told3 .given .1)))

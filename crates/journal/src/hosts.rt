@@ -1,0 +1,27 @@
+// A number for each host.
+ghost use mathlib.Core.Path.{_≡_};
+ghost use lib.ListN.{getD, set};
+use frame::Host;
+
+// A host's number; 0 for a host that isn't there.
+pub fn of_host(marks: [u16; 4], host: Host) -> u16
+    ensures { λ r. ⌜ r ≡ getD marks (host .0) 0 ⌝ }
+{
+    let i = host.0 as usize;
+    if i < 4 {
+        return marks[i];
+    }
+    0
+}
+
+// The numbers with another one for a host.
+pub fn with_host(marks: [u16; 4], host: Host, at: u16) -> [u16; 4]
+    ensures { λ r. ⌜ r ≡ set marks (host .0) at ⌝ }
+{
+    let mut m = marks;
+    let i = host.0 as usize;
+    if i < 4 {
+        m[i] = at;
+    }
+    m
+}
