@@ -27,10 +27,13 @@ use Rattle.journal.specs.declared.Fetched.the-variants as fetched
 use Rattle.journal.specs.declared.Progress.{Progress}
 use Rattle.journal.specs.Block.{headerLen}
 use Rattle.journal.specs.Index.{placesOf, Value, valueAt, load, isPending, nextPending}
-use Rattle.journal.specs.Survey.{foundOf, valueHead, pendingHead, loadOf, Inside, placeFrame, commitPlaces, placeHead, nextHead, grown, closed, passed, tookFrame, tookPlaces, tailOf, walkOf, settledWith, settledAt, tallyOf}
+use Rattle.journal.specs.Survey.{foundOf, valueHead, pendingHead, loadOf, Inside, placeFrame, commitPlaces, placeHead, nextHead, grown, closed}
+use Rattle.journal.specs.Survey.{passed, tookFrame, tookPlaces, tailOf, walkOf, settledWith, settledAt, tallyOf}
 use Rattle.journal.proofs.PerHost.{pending-most}
-use Rattle.journal.proofs.FrameReads.{whole-is, blank-is, torn-is, wrong-is, scan-blank-at, scan-torn-at, scan-wrong-at, scan-whole-at, value-there, value-inside}
-use Rattle.journal.proofs.Fetching.{value-head, value-reads, Held, held, found-none, found-at, pending-head, pending-blank, pending-torn, pending-wrong, pending-yes, pending-no}
+use Rattle.journal.proofs.FrameReads.{whole-is, blank-is, torn-is, wrong-is, scan-blank-at, scan-torn-at, scan-wrong-at, scan-whole-at}
+use Rattle.journal.proofs.FrameReads.{value-there, value-inside}
+use Rattle.journal.proofs.Fetching.{value-head, value-reads, Held, held, found-none, found-at, pending-head, pending-blank, pending-torn}
+use Rattle.journal.proofs.Fetching.{pending-wrong, pending-yes, pending-no}
 use Rattle.journal.proofs.Passing.{Reached, reached-on}
 
 -- ---- a value at a place

@@ -9,7 +9,8 @@ use lib.ListN.{getD, take, drop, set}
 use lib.Seq.{take-at, drop-at, drop-drop}
 use borrow.Author.Tests.{eq-eqb, ne-eqb}
 use Rattle.frame.specs.declared.Host.{Host}
-use Rattle.frame.specs.Frame.{hostMax, put, delete, Frame, change, commit, abort, settled, Change, encode, frameLen, encodeAll, total, MayStand, AllMayStand, nextAfter, nextOf}
+use Rattle.frame.specs.Frame.{hostMax, put, delete, Frame, change, commit, abort, settled, Change, encode, frameLen, encodeAll, total, MayStand}
+use Rattle.frame.specs.Frame.{AllMayStand, nextAfter, nextOf}
 use Rattle.frame.specs.Reader.{whole, readFrame, clean, Scan, push, scan}
 use Rattle.frame.specs.Code.{headOf}
 use Rattle.frame.proofs.Encode.{length-all, encode-append, encode-snoc, total-snoc, stands-append, next-append}
@@ -74,7 +75,8 @@ progress-step : (fs : List Frame) (f : Frame) → MayStand (nextOf 0 fs) f → p
 unfolding tookFrame grown closed passed
 progress-step fs (change h (put i v)) (a, b, c) =
     let f : Frame = change h (put i v) in
-    same (end-snoc fs f ∙ omega arith) (next-snoc fs f) (since-stays fs f (λ g. refl)) (pending-grows fs h (put i v) a ∙ ap (λ (x : ℕ). set (pendingOf fs) (h .0) x) (omega arith))
+    same (end-snoc fs f ∙ omega arith) (next-snoc fs f) (since-stays fs f (λ g. refl))
+    (pending-grows fs h (put i v) a ∙ ap (λ (x : ℕ). set (pendingOf fs) (h .0) x) (omega arith))
 progress-step fs (change h (delete i)) (a, b) =
     let f : Frame = change h (delete i) in
     same (end-snoc fs f) (next-snoc fs f) (since-stays fs f (λ g. refl)) (pending-grows fs h (delete i) a)

@@ -1,17 +1,21 @@
 -- One number for each host, and each host's pending bytes.
-use mathlib.Core.Path.{_≡_, refl, ap, _∙_}
+use mathlib.Core.Path.{_≡_, refl, sym, ap, _∙_}
 use mathlib.Core.List.{List, [], _∷_, _++_, map}
+use mathlib.Core.Bool.{true, false}
 use Prim.Native.Nat.{ℕ, zero, suc, _+_, _≤_}
 use native.Mathlib.Omega.{arith}
-use lib.Dec.{eqb}
+use lib.Dec.{eqb, ltb}
 use lib.ListN.{getD, set}
+use borrow.Author.Tests.{lt-ltb, eq-eqb, ne-eqb}
 use Rattle.flash.proofs.Cases.{on-test}
 use Rattle.frame.specs.declared.Host.{Host}
-use Rattle.frame.specs.Frame.{hostOf, hostMax, Change, put, delete, Frame, change, frameLen, total}
+use Rattle.frame.specs.Frame.{hostOf, hostMax, Change, put, delete, Frame, change, frameLen, total, MayStand, AllMayStand}
 use Rattle.journal.specs.Block.{headerLen}
-use Rattle.journal.specs.Replay.{Entry, entry, listOf, without, replay, pendingFrame}
+use Rattle.journal.specs.Replay.{Entry, entry, listOf, without, isOpen, replay, pendingFrame}
+use Rattle.journal.specs.Room.{used, claimed, one, openHosts}
 use Rattle.journal.specs.Survey.{pendingBytes, perHost, pendingOf}
 use Rattle.journal.proofs.Lists.{list-own, list-other, list-snoc, list-snoc-other}
+use Rattle.journal.proofs.Replaying.{LegalEntries, sound-replay}
 use Rattle.journal.proofs.Room.{claimed-replay}
 
 -- ---- four numbers
@@ -82,3 +86,67 @@ bytes-most h (e ∷ es) =
 pub pending-most : (fs : List Frame) (k : ℕ) → getD (pendingOf fs) k 0 ≤ headerLen + total fs
 pending-most fs k =
     per-most (λ h. pendingBytes h (replay fs .pending)) (headerLen + total fs) k (λ h. omega (arith, bytes-most h (replay fs .pending), claimed-replay fs))
+
+-- ---- what the four numbers tell: who has something pending, how many hosts have, and C
+
+bytes-yes : (h : Host) (e : Entry) (es : List Entry) → eqb (h .0) (e .host .0) ≡ true → pendingBytes h (e ∷ es) ≡ frameLen (pendingFrame e) + pendingBytes h es
+unfolding listOf total
+bytes-yes h e es t = rw (t, listOf) (omega (arith, any-host h (e .host) (e .what)))
+
+bytes-no : (h : Host) (e : Entry) (es : List Entry) → eqb (h .0) (e .host .0) ≡ false → pendingBytes h (e ∷ es) ≡ pendingBytes h es
+unfolding listOf
+bytes-no h e es t = rw (t, listOf)
+
+pub open-bytes : (h : Host) (es : List Entry) → isOpen h es ≡ ltb 0 (pendingBytes h es)
+unfolding isOpen listOf total
+open-bytes h [] = refl
+open-bytes h (e ∷ es) =
+    on-test (eqb (h .0) (e .host .0))
+    (λ t. rw (t, isOpen) (sym (lt-ltb 0 (pendingBytes h (e ∷ es)) (omega (arith, bytes-yes h e es t)))))
+    (λ t. rw (t, isOpen) (open-bytes h es ∙ ap (ltb 0) (sym (bytes-no h e es t))))
+
+abbrev pub bytesOfAll : List Entry → ℕ
+bytesOfAll es = pendingBytes (hostOf 0) es + pendingBytes (hostOf 1) es + pendingBytes (hostOf 2) es + pendingBytes (hostOf 3) es
+
+pub open-count : (es : List Entry)
+    → openHosts es
+    ≡ one (ltb 0 (pendingBytes (hostOf 0) es)) + one (ltb 0 (pendingBytes (hostOf 1) es)) + one (ltb 0 (pendingBytes (hostOf 2) es)) + one (ltb 0 (pendingBytes (hostOf 3) es))
+open-count es = rw (open-bytes (hostOf 0) es, open-bytes (hostOf 1) es, open-bytes (hostOf 2) es, open-bytes (hostOf 3) es)
+
+host-most : (e : Entry) → MayStand 256 (pendingFrame e) → e .host .0 ≤ 3
+host-most e g = go (e .what) g
+  where
+    go : (c : Change) → MayStand 256 (change (e .host) c) → e .host .0 ≤ 3
+    go (put i v) (a, b, c) = a
+    go (delete i) (a, b) = a
+
+one-more : (e : Entry) (es : List Entry) → e .host .0 ≤ 3 → bytesOfAll (e ∷ es) ≡ frameLen (pendingFrame e) + bytesOfAll es
+one-more e es l = go (e .host .0) refl l
+  where
+    yes : (n : ℕ) → e .host .0 ≡ n → pendingBytes (hostOf n) (e ∷ es) ≡ frameLen (pendingFrame e) + pendingBytes (hostOf n) es
+    yes n q = bytes-yes (hostOf n) e es (eq-eqb n (e .host .0) (sym q))
+
+    no : (m n : ℕ) → e .host .0 ≡ n → (m ≡ n → ⊥) → pendingBytes (hostOf m) (e ∷ es) ≡ pendingBytes (hostOf m) es
+    no m n q d = bytes-no (hostOf m) e es (ne-eqb m (e .host .0) (λ z. d (z ∙ q)))
+
+    go : (n : ℕ) → e .host .0 ≡ n → n ≤ 3 → bytesOfAll (e ∷ es) ≡ frameLen (pendingFrame e) + bytesOfAll es
+    go zero q k = omega (arith, yes 0 q, no 1 0 q (λ z. omega arith), no 2 0 q (λ z. omega arith), no 3 0 q (λ z. omega arith))
+    go (suc zero) q k = omega (arith, yes 1 q, no 0 1 q (λ z. omega arith), no 2 1 q (λ z. omega arith), no 3 1 q (λ z. omega arith))
+    go (suc (suc zero)) q k = omega (arith, yes 2 q, no 0 2 q (λ z. omega arith), no 1 2 q (λ z. omega arith), no 3 2 q (λ z. omega arith))
+    go (suc (suc (suc zero))) q k = omega (arith, yes 3 q, no 0 3 q (λ z. omega arith), no 1 3 q (λ z. omega arith), no 2 3 q (λ z. omega arith))
+    go (suc (suc (suc (suc n)))) q k = absurd (omega arith)
+
+pub bytes-total : (es : List Entry) → LegalEntries es → total (map pendingFrame es) ≡ bytesOfAll es
+unfolding total listOf
+bytes-total [] g = refl
+bytes-total (e ∷ es) (g, gs) = omega (arith, bytes-total es gs, one-more e es (host-most e g))
+
+-- C
+pub claimed-bytes : (fs : List Frame) → AllMayStand 0 fs → claimed (replay fs) ≡ used (replay fs) + bytesOfAll (replay fs .pending)
+claimed-bytes fs g = omega (arith, bytes-total (replay fs .pending) (sound-replay fs g .entries))
+
+-- nothing is pending exactly if the sum is 0
+pub none-pending : (es : List Entry) → LegalEntries es → bytesOfAll es ≡ 0 → es ≡ []
+unfolding total
+none-pending [] g z = refl
+none-pending (e ∷ es) (g, gs) z = absurd (omega (arith, one-more e es (host-most e g)))

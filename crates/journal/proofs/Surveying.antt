@@ -22,7 +22,8 @@ use Rattle.journal.specs.declared.BlockKind.{BlockKind}
 use Rattle.journal.specs.declared.BlockKind.the-variants as kind
 use Rattle.journal.specs.declared.Survey.{Survey}
 use Rattle.journal.specs.Replay.{Object, lookup, listOf, replay, replayFrom, settledFrame}
-use Rattle.journal.specs.Block.{headerLen, stateAt, inTransfer, createdAt, headerFault, BlockState, blank, inProgress, valid, foreign, ofTail, ofHeader, blockState}
+use Rattle.journal.specs.Block.{headerLen, stateAt, inTransfer, createdAt, headerFault, BlockState, blank, inProgress, valid, foreign, ofTail}
+use Rattle.journal.specs.Block.{ofHeader, blockState}
 use Rattle.journal.specs.Index.{sited, placesFrom, placesOf, sinceFrom, sinceOf}
 use Rattle.journal.specs.Survey.{headerOf, pendingOf, tornLen, surveyOf, placesIn, progressOf, tailOf, walkOf, settledAt, emptySurvey, foundSurvey}
 use Rattle.journal.proofs.Replaying.{rising-to, Sound, sound-replay}

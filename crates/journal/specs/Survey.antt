@@ -2,6 +2,7 @@
 use mathlib.Core.List.{List, [], _∷_, map}
 use mathlib.Core.Option.{Option, none, some}
 use mathlib.Core.Bool.{Bool, true, false, _&&_}
+use mathlib.Core.Path.{_≡_}
 use Prim.Native.Nat.{ℕ, zero, suc, _+_, _≤_}
 use lib.Dec.{eqb, leb}
 use lib.ListN.{length, getD, take, drop, set}
@@ -10,7 +11,8 @@ use Rattle.frame.specs.declared.ObjectId.{ObjectId}
 use Rattle.frame.specs.declared.Fault.{Fault}
 use Rattle.frame.specs.declared.Head.{Head}
 use Rattle.frame.specs.declared.Head.the-variants as head
-use Rattle.frame.specs.Frame.{hostOf, idOf, valueMax, ChangeOf, put, delete, Frame, change, commit, abort, settled, mapChange, frameLen, putLen, deleteLen, endLen, settledLen, total, nextOf}
+use Rattle.frame.specs.Frame.{hostOf, idOf, valueMax, ChangeOf, put, delete, Frame, change, commit, abort, settled, mapChange}
+use Rattle.frame.specs.Frame.{frameLen, putLen, deleteLen, endLen, settledLen, total, nextOf}
 use Rattle.frame.specs.Reader.{clean, cut, bad, Scan, scan}
 use Rattle.frame.specs.Reader.{Tail as ScanTail}
 use Rattle.frame.specs.Code.{frameOf, valueLen}
@@ -120,7 +122,15 @@ abbrev pub Inside : List ℕ → Fetched → Type 0
 Inside b fetched.Nothing = Unit {0}
 Inside b (fetched.Frame f) = (f .value + valueLen (f .head) ≤ length b) × (valueLen (f .head) ≤ valueMax)
 
--- ---- the pass as the code makes it: proofs/Passing.antt ties it to the above
+-- the answer of a search for a frame to copy
+abbrev pub Fetches : List ℕ → Fetched → Option Load → Type 0
+Fetches b r o = (loadOf b r ≡ o) × Inside b r
+
+-- ---- the pass as the code makes it: proofs/Passing.antt and Surveying.antt tie it to the above
+
+-- the frames of a block, and what follows them, past its header
+abbrev pub scanBlock : List ℕ → Scan
+scanBlock b = scan 0 headerLen 0 (drop headerLen b)
 
 -- what a change of a frame at offset p does: a put's place is p, and a delete leaves none
 abbrev pub placeChange : ChangeOf ℕ → List ℕ → List ℕ

@@ -3,11 +3,10 @@ ghost use mathlib.Core.Path.{_≡_};
 ghost use mathlib.Core.List.{[]};
 ghost use mathlib.Core.Option.{none};
 ghost use Prim.Native.Nat.{_≤_, _<_};
-ghost use lib.ListN.{length, drop, replicate};
-ghost use Rattle.frame.specs.Reader.{scan};
+ghost use lib.ListN.{length, replicate};
 ghost use Rattle.journal.specs.Block.{headerLen, ofHeader, blockState};
 ghost use Rattle.journal.specs.Index.{placesOf};
-ghost use Rattle.journal.specs.Survey.{settledAt, tallyOf, progressOf, walkOf, emptySurvey, foundSurvey, surveyOf, placesIn};
+ghost use Rattle.journal.specs.Survey.{scanBlock, settledAt, tallyOf, progressOf, walkOf, emptySurvey, foundSurvey, surveyOf, placesIn};
 use crate::BlockKind;
 use crate::Found;
 use crate::HeaderCheck;
@@ -48,7 +47,7 @@ fn begin() -> Progress
 // The frames of a block up to its tail. Offsets fit a u16; no id has a place yet.
 fn walk(block: &[u8], places: &mut [u16; 256]) -> Walk
     requires { ⌜ (length (now block) ≤ 32768) × (now places ≡ placesOf []) ⌝ }
-    ensures { λ r. ⌜ (r ≡ walkOf (scan 0 headerLen 0 (drop headerLen (now (block .entry))))) × (now (places .exit) ≡ placesOf (scan 0 headerLen 0 (drop headerLen (now (block .entry))) .frames)) ⌝ }
+    ensures { λ r. ⌜ (r ≡ walkOf (scanBlock (now (block .entry)))) × (now (places .exit) ≡ placesOf (scanBlock (now (block .entry)) .frames)) ⌝ }
 {
     let mut p = begin();
     loop {

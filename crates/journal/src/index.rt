@@ -3,7 +3,7 @@ ghost use mathlib.Core.Path.{_≡_};
 ghost use Prim.Native.Nat.{_-_, _≤_, _<_};
 ghost use lib.ListN.{length, drop};
 ghost use Rattle.journal.specs.Index.{valueAt, nextSettled, nextPending, nextLoad};
-ghost use Rattle.journal.specs.Survey.{foundOf, valueHead, pendingHead, loadOf, Inside};
+ghost use Rattle.journal.specs.Survey.{foundOf, valueHead, pendingHead, Fetches};
 use crate::Fetch;
 use crate::Fetched;
 use crate::Found;
@@ -52,7 +52,7 @@ pub fn value_at(block: &[u8], id: ObjectId, place: u16) -> Found
 
 // The settled frame of the first id from `id` on whose place holds its value.
 fn next_settled(block: &[u8], places: &[u16; 256], id: u16, source: u16) -> Fetched
-    ensures { λ r. ⌜ (loadOf (now (block .entry)) r ≡ nextSettled (now (block .entry)) (now (places .entry)) source (256 - id) id) × Inside (now (block .entry)) r ⌝ }
+    ensures { λ r. ⌜ Fetches (now (block .entry)) r (nextSettled (now (block .entry)) (now (places .entry)) source (256 - id) id) ⌝ }
 {
     let mut i = id;
     while i < 256 {
@@ -89,7 +89,7 @@ fn is_pending(since: [u16; 4], at: usize, head: Head) -> bool
 // The first pending frame of a journal that starts at `source`; an offset past it must fit a u16.
 fn next_pending(part: &[u8], since: [u16; 4], source: u16) -> Fetched
     requires { ⌜ length (now part) < 65536 ⌝ }
-    ensures { λ r. ⌜ (loadOf (now (part .entry)) r ≡ nextPending since source 0 (drop source (now (part .entry)))) × Inside (now (part .entry)) r ⌝ }
+    ensures { λ r. ⌜ Fetches (now (part .entry)) r (nextPending since source 0 (drop source (now (part .entry)))) ⌝ }
 {
     let mut at = source as usize;
     loop {
@@ -128,7 +128,7 @@ pub fn next_load(
     id: u16,
     source: u16,
 ) -> Fetched
-    ensures { λ r. ⌜ (loadOf (now (block .entry)) r ≡ nextLoad (now (block .entry)) end (now (places .entry)) since id source) × Inside (now (block .entry)) r ⌝ }
+    ensures { λ r. ⌜ Fetches (now (block .entry)) r (nextLoad (now (block .entry)) end (now (places .entry)) since id source) ⌝ }
 {
     let e = end as usize;
     match next_settled(block, places, id, source) {
