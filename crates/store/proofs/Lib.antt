@@ -1,1 +1,8 @@
 pub mod Entering
+pub mod Images
+pub mod Rooms
+pub mod Choosing
+pub mod Asking
+pub mod Answering
+pub mod Outcomes
+pub mod Handing

@@ -1,5 +1,15 @@
 // The store in code: every call equal to its definition, on every input.
+mod image;
+mod mounts;
+mod queue;
 pub mod records;
+mod room;
+mod serving;
+
+pub use mounts::format;
+pub use mounts::mount;
+pub use queue::read;
+pub use queue::request;
 
 use board::Record;
 use wire::Answer;

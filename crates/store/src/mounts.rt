@@ -1,0 +1,227 @@
+// Mount and format.
+ghost use mathlib.Core.Path.{_≡_};
+ghost use mathlib.Core.Bool.{false, _&&_};
+ghost use lib.Dec.{eqb};
+ghost use Rattle.journal.specs.Block.{lastTime};
+ghost use Rattle.journal.specs.Room.{one};
+ghost use Rattle.board.specs.Mount.{newTime, mountOn, formatOn};
+ghost use Rattle.store.specs.Calls.{refused, isValid, isForeignKind, isBlankKind, chooseValid, chooseOf, needsIn, wipeOther, mountIn, mountChosen};
+use board::Job;
+use board::Record;
+use crate::Outcome;
+use crate::image;
+use crate::records;
+use crate::room;
+use journal::BlockKind;
+use journal::Survey;
+use wire::Answer;
+use wire::Refusal;
+
+// The block that a mount takes, or why it takes none.
+pub enum Choice {
+    First,
+    Second,
+    Refused(Refusal),
+}
+
+pub fn refused(why: Refusal, board: Record) -> Outcome
+    ensures { λ r. ⌜ r ≡ refused why board ⌝ }
+{
+    Outcome {
+        answer: Answer::Refused(why),
+        board: board,
+    }
+}
+
+// ---- what a survey tells
+
+pub fn is_valid(kind: BlockKind) -> bool
+    ensures { λ r. ⌜ r ≡ isValid kind ⌝ }
+{
+    match kind {
+        BlockKind::Blank => false,
+        BlockKind::InProgress => false,
+        BlockKind::Valid => true,
+        BlockKind::Foreign(_) => false,
+    }
+}
+
+fn is_foreign(kind: BlockKind) -> bool
+    ensures { λ r. ⌜ r ≡ isForeignKind kind ⌝ }
+{
+    match kind {
+        BlockKind::Blank => false,
+        BlockKind::InProgress => false,
+        BlockKind::Valid => false,
+        BlockKind::Foreign(_) => true,
+    }
+}
+
+fn is_blank(kind: BlockKind) -> bool
+    ensures { λ r. ⌜ r ≡ isBlankKind kind ⌝ }
+{
+    match kind {
+        BlockKind::Blank => true,
+        BlockKind::InProgress => false,
+        BlockKind::Valid => false,
+        BlockKind::Foreign(_) => false,
+    }
+}
+
+// ---- mount
+
+fn choose_valid(a: bool, b: bool, t: u32, u: u32) -> Choice
+    ensures { λ r. ⌜ r ≡ chooseValid a b t u ⌝ }
+{
+    if !a {
+        if b {
+            return Choice::Second;
+        }
+        return Choice::Refused(Refusal::NoStore);
+    }
+    if !b {
+        return Choice::First;
+    }
+    if t == u {
+        return Choice::Refused(Refusal::Foreign);
+    }
+    if t < u {
+        return Choice::Second;
+    }
+    Choice::First
+}
+
+fn choose(a: Survey, b: Survey) -> Choice
+    ensures { λ r. ⌜ r ≡ chooseOf a b ⌝ }
+{
+    let first = a.kind;
+    let second = b.kind;
+    if is_foreign(first) {
+        return Choice::Refused(Refusal::Foreign);
+    }
+    if is_foreign(second) {
+        return Choice::Refused(Refusal::Foreign);
+    }
+    choose_valid(is_valid(first), is_valid(second), a.time, b.time)
+}
+
+// There is a torn frame, or something is pending.
+fn needs_transfer(s: Survey) -> bool
+    ensures { λ r. ⌜ r ≡ needsIn s ⌝ }
+{
+    if 0 < s.torn {
+        return true;
+    }
+    let p = s.pending;
+    0 < room::sum(p)
+}
+
+// A transfer is needed, and there is no later time.
+pub fn is_worn(moves: bool, time: u32) -> bool
+    ensures { λ r. ⌜ r ≡ (moves && eqb time lastTime) ⌝ }
+{
+    if moves {
+        return time == 4294967295;
+    }
+    false
+}
+
+// The creation time of the block that is made, if one is.
+pub fn new_time(moves: bool, time: u32) -> u32
+    requires { ⌜ (moves && eqb time lastTime) ≡ false ⌝ }
+    ensures { λ r. ⌜ r ≡ newTime moves time ⌝ }
+{
+    if moves {
+        return time + 1;
+    }
+    0
+}
+
+fn wipe_other(wipes: bool, number: u8) -> [u8; 2]
+    ensures { λ r. ⌜ r ≡ wipeOther wipes number ⌝ }
+{
+    if wipes {
+        return [image::next_block(number), 0];
+    }
+    [0, 0]
+}
+
+fn how_many(wipes: bool) -> u8
+    ensures { λ r. ⌜ r ≡ one wipes ⌝ }
+{
+    if wipes { 1 } else { 0 }
+}
+
+// The chosen block, and whether the other is to be erased.
+fn mount_at(last: u16, number: u8, s: Survey, places: [u16; 256], wipes: bool) -> Outcome
+    ensures { λ r. ⌜ r ≡ mountIn last number s places wipes ⌝ }
+{
+    let moves = needs_transfer(s);
+    if is_worn(moves, s.time) {
+        return refused(Refusal::Worn, records::unmounted());
+    }
+    let wipe = wipe_other(wipes, number);
+    let job = Job {
+        wipe: wipe,
+        wipes: how_many(wipes),
+        moves: moves,
+        drops: true,
+        target: image::next_block(number),
+        time: new_time(moves, s.time),
+        since: [0, 0, 0, 0],
+        size: 0,
+    };
+    let frame = records::no_frame();
+    records::begin(records::busy(last, number, s.end, places, job, 0, s.end, frame))
+}
+
+fn mount_chosen(last: u16, choice: Choice, a: Survey, p: [u16; 256], b: Survey, q: [u16; 256]) -> Outcome
+    ensures { λ r. ⌜ r ≡ mountChosen last choice a p b q ⌝ }
+{
+    match choice {
+        Choice::First => {
+            let kind = b.kind;
+            return mount_at(last, 0, a, p, !is_blank(kind));
+        }
+        Choice::Second => {
+            let kind = a.kind;
+            return mount_at(last, 1, b, q, !is_blank(kind));
+        }
+        Choice::Refused(why) => return refused(why, records::unmounted()),
+    }
+}
+
+pub fn mount(image: &[u8]) -> Outcome
+    ensures { λ r. ⌜ (r .answer ≡ mountOn (now (image .entry)) .answer) × (r .board ≡ mountOn (now (image .entry)) .board) ⌝ }
+{
+    if !image::is_allowed(image.len()) {
+        return refused(Refusal::ImageLength, records::unmounted());
+    }
+    let mut p = records::no_places();
+    let mut q = records::no_places();
+    let a = journal::survey_block(image::block_of(image, 0), &mut p);
+    let b = journal::survey_block(image::block_of(image, 1), &mut q);
+    mount_chosen((image.len() - 1) as u16, choose(a, b), a, p, b, q)
+}
+
+// ---- format
+
+pub fn format(image: &[u8]) -> Outcome
+    ensures { λ r. ⌜ (r .answer ≡ formatOn (now (image .entry)) .answer) × (r .board ≡ formatOn (now (image .entry)) .board) ⌝ }
+{
+    if !image::is_allowed(image.len()) {
+        return refused(Refusal::ImageLength, records::unmounted());
+    }
+    let job = Job {
+        wipe: [0, 1],
+        wipes: 2,
+        moves: true,
+        drops: false,
+        target: 0,
+        time: 1,
+        since: [0, 0, 0, 0],
+        size: 0,
+    };
+    let last = (image.len() - 1) as u16;
+    records::begin(records::busy(last, 1, 16, records::no_places(), job, 256, 16, records::no_frame()))
+}
