@@ -1,13 +1,13 @@
 -- The requests by surveys and places are the definitions' requests.
 use mathlib.Core.Path.{_≡_, refl, sym, ap, ap₂, _∙_}
-use mathlib.Core.List.{List, [], _∷_}
+use mathlib.Core.List.{List}
 use mathlib.Core.Option.{Option, none, some}
 use mathlib.Core.Bool.{Bool, true, false, _&&_, cond}
-use Prim.Native.Nat.{ℕ, _+_, _*_, _≤_, _<_}
+use Prim.Native.Nat.{ℕ, _≤_}
 use native.Mathlib.Omega.{arith}
-use lib.Dec.{eqb, ltb, leb}
+use lib.Dec.{eqb, ltb}
 use lib.ListN.{length, getD}
-use borrow.Author.Tests.{ne-eqb, leb-true}
+use borrow.Author.Tests.{ne-eqb}
 use Rattle.flash.specs.Flash.{block, sizeOf}
 use Rattle.flash.proofs.Cases.{on-test}
 use Rattle.frame.specs.declared.Host.{Host}
@@ -15,15 +15,14 @@ use Rattle.frame.specs.declared.ObjectId.{ObjectId}
 use Rattle.frame.specs.Frame.{hostMax, idMax, Change, put, delete, Frame, change, commit, abort, frameLen}
 use Rattle.frame.specs.Reader.{clean}
 use Rattle.journal.specs.declared.Survey.{Survey}
-use Rattle.journal.specs.declared.Found.the-variants as found
 use Rattle.journal.specs.Block.{valid, lastTime, header, validData}
 use Rattle.journal.specs.Replay.{replay, lookup, isOpen}
 use Rattle.journal.specs.Room.{noRoom, spare}
-use Rattle.journal.specs.Index.{placesOf, Value, valueAt}
-use Rattle.journal.specs.Survey.{pendingBytes, surveyOf, foundOf}
+use Rattle.journal.specs.Index.{placesOf}
+use Rattle.journal.specs.Survey.{pendingBytes, surveyOf}
 use Rattle.journal.proofs.PerHost.{per-at, open-bytes}
 use Rattle.journal.proofs.States.{Contents}
-use Rattle.journal.proofs.Places.{Journal, Holds, place-law, no-place, value-zero}
+use Rattle.journal.proofs.Places.{Journal, Holds, place-law, no-place}
 use Rattle.wire.specs.declared.Refusal.the-variants as refusal
 use Rattle.wire.specs.declared.Page.{Page}
 use Rattle.wire.specs.declared.Page.the-variants.{Summary}
@@ -34,9 +33,9 @@ use Rattle.wire.specs.Code.{pageInto}
 use Rattle.wire.proofs.Parsing.{InRange}
 use Rattle.board.specs.declared.Record.{Record}
 use Rattle.board.specs.Record.{Out}
-use Rattle.board.specs.Queue.{Held, needsRoom, append, serveChange, serveEnd, serveRead, serveLog, serve, placeOf}
+use Rattle.board.specs.Queue.{Held, needsRoom, append, serveChange, serveEnd, serveRead, serveLog, serve}
 use Rattle.store.specs.declared.Outcome.{Outcome}
-use Rattle.store.specs.Calls.{outcome, refused, done, bytesOf, noRoomIn, appendIn, changeIn, endIn, readIn, logIn, serveIn, replyIn, stretchAt, foundFor}
+use Rattle.store.specs.Calls.{outcome, refused, done, bytesOf, appendIn, changeIn, endIn, readIn, logIn, serveIn, replyIn}
 use Rattle.store.proofs.Rooms.{no-room-is}
 use Rattle.store.proofs.Choosing.{outcome-cond}
 

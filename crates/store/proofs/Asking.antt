@@ -7,15 +7,15 @@ use Prim.Native.Nat.{ℕ, _+_, _*_, _≤_, _<_}
 use native.Mathlib.Omega.{arith}
 use lib.Dec.{eqb, leb}
 use lib.ListN.{length}
-use borrow.Author.Tests.{ne-eqb, leb-true}
+use borrow.Author.Tests.{ne-eqb}
 use Rattle.flash.specs.Bytes.{Bytes}
 use Rattle.flash.specs.Flash.{blocks, block, sizeOf}
-use Rattle.flash.proofs.Cases.{on-test, clash}
+use Rattle.flash.proofs.Cases.{on-test}
 use Rattle.flash.proofs.Image.{bytes-block}
 use Rattle.frame.specs.declared.Host.{Host}
 use Rattle.frame.specs.Frame.{Frame, hostMax, endLen}
-use Rattle.frame.specs.Reader.{Tail, clean, cut, bad}
-use Rattle.journal.specs.Block.{headerLen, BlockState, blank, inProgress, valid, foreign, blockState, framesIn, timeIn}
+use Rattle.frame.specs.Reader.{clean, cut, bad}
+use Rattle.journal.specs.Block.{headerLen, BlockState, blank, inProgress, valid, foreign, blockState}
 use Rattle.journal.specs.Survey.{surveyOf}
 use Rattle.journal.proofs.States.{Contents, valid-inv}
 use Rattle.wire.specs.declared.Refusal.{Refusal}
@@ -29,13 +29,12 @@ use Rattle.board.specs.declared.Phase.the-variants.{Unmounted, Idle, Busy}
 use Rattle.board.specs.declared.Record.{Record}
 use Rattle.board.specs.Record.{allowed, refuse}
 use Rattle.board.specs.Mount.{endOf}
-use Rattle.board.specs.Queue.{Held, held, heldBy, heldIn, heldIf, fitsRecord, sameImage, serve, requestOn}
+use Rattle.board.specs.Queue.{Held, held, heldBy, heldIn, heldIf, fitsRecord, serve, requestOn}
 use Rattle.board.proofs.Outcomes.{request-length, request-host, request-busy, request-unmounted, request-stale, request-malformed, request-served}
-use Rattle.store.specs.declared.queue.Gate.{Gate}
 use Rattle.store.specs.declared.queue.Gate.the-variants as gate
 use Rattle.store.specs.declared.queue.Ask.{Ask}
 use Rattle.store.specs.declared.queue.Ask.the-variants as ask
-use Rattle.store.specs.Calls.{openIn, claimedIn, sameAs, openIf, gateIn, gateOf, holdsIn, askIf, askOf}
+use Rattle.store.specs.Calls.{sameAs, openIf, gateIn, gateOf, holdsIn, askIf, askOf}
 use Rattle.store.proofs.Images.{block-fits, same-as, same-inside}
 use Rattle.store.proofs.Rooms.{claimed-is, open-is, cut-not}
 

@@ -1,8 +1,8 @@
 -- What a mount does with two surveys is what it does with the blocks.
-use mathlib.Core.Path.{_≡_, refl, sym, ap, ap₂, _∙_}
+use mathlib.Core.Path.{_≡_, refl, sym, _∙_}
 use mathlib.Core.List.{List, [], _∷_}
 use mathlib.Core.Bool.{Bool, true, false, _&&_, cond}
-use Prim.Native.Nat.{ℕ, zero, suc, _-_, _<_}
+use Prim.Native.Nat.{ℕ, _-_, _<_}
 use native.Mathlib.Omega.{arith}
 use lib.Dec.{eqb, ltb}
 use lib.ListN.{length}
@@ -17,9 +17,8 @@ use Rattle.journal.specs.Room.{one}
 use Rattle.journal.specs.Index.{placesOf}
 use Rattle.journal.specs.Survey.{surveyOf, placesIn}
 use Rattle.journal.proofs.States.{valid-inv}
-use Rattle.board.specs.Record.{allowed, noFrame, Out, out}
-use Rattle.board.specs.Mount.{Found, allFound, Store, wipeList, wipeArray, needsTransfer, mountAt, mountFound, mountOn}
-use Rattle.store.specs.declared.Outcome.{Outcome}
+use Rattle.board.specs.Record.{allowed, noFrame, Out}
+use Rattle.board.specs.Mount.{Found, Store, wipeList, wipeArray, needsTransfer, mountAt, mountFound, mountOn}
 use Rattle.store.specs.Calls.{outcome, needsIn, wipeOther, chooseValid, chooseOf, mountIn, mountChosen}
 use Rattle.store.proofs.Images.{block-fits}
 use Rattle.store.proofs.Rooms.{needs-is}
@@ -93,8 +92,8 @@ told img k a y h = go (blockState (block (sizeOf img) k img)) refl
 -- a mount of an image of allowed length
 pub mounts : (img : List ℕ) → allowed (length img) ≡ true → Bytes img
     → let a : BlockState = blockState (block (sizeOf img) 0 img) in
-      let b : BlockState = blockState (block (sizeOf img) 1 img) in
-      mountChosen (length img - 1) (chooseOf (surveyOf a) (surveyOf b)) (surveyOf a) (placesIn a) (surveyOf b) (placesIn b) ≡ outcome (mountOn img)
+    let b : BlockState = blockState (block (sizeOf img) 1 img) in
+    mountChosen (length img - 1) (chooseOf (surveyOf a) (surveyOf b)) (surveyOf a) (placesIn a) (surveyOf b) (placesIn b) ≡ outcome (mountOn img)
 unfolding mountOn
 mounts img a y =
     mounts-two img (blockState (block (sizeOf img) 0 img)) (blockState (block (sizeOf img) 1 img)) (told img 0 a y (omega arith)) (told img 1 a y (omega arith))

@@ -5,7 +5,7 @@ use mathlib.Core.Option.{Option, none, some}
 use mathlib.Core.Bool.{Bool, true, false, _&&_, cond}
 use Prim.Native.Nat.{ℕ, _+_, _*_, _≤_, _<_}
 use native.Mathlib.Omega.{arith}
-use lib.Dec.{eqb, ltb, leb}
+use lib.Dec.{eqb, ltb}
 use lib.ListN.{length, getD}
 use borrow.Author.Tests.{leb-true}
 use Rattle.flash.specs.Bytes.{Bytes}
@@ -17,7 +17,7 @@ use Rattle.frame.specs.Reader.{clean}
 use Rattle.journal.specs.declared.Survey.{Survey}
 use Rattle.journal.specs.declared.Found.{Found}
 use Rattle.journal.specs.declared.Found.the-variants as found
-use Rattle.journal.specs.Block.{BlockState, valid, blockState, lastTime}
+use Rattle.journal.specs.Block.{valid, blockState, lastTime}
 use Rattle.journal.specs.Replay.{replay, lookup, isOpen}
 use Rattle.journal.specs.Room.{noRoom}
 use Rattle.journal.specs.Index.{placesOf, Value, valueAt}
@@ -33,7 +33,7 @@ use Rattle.wire.specs.declared.Request.the-variants.{Put, Delete, Commit, Abort
 use Rattle.wire.specs.Message.{parse, valueIn, pageLen}
 use Rattle.wire.proofs.Parsing.{InRange, in-range}
 use Rattle.board.specs.declared.Record.{Record}
-use Rattle.board.specs.Record.{allowed, Stretch, noStretch, Out, refuse}
+use Rattle.board.specs.Record.{allowed, noStretch, Out, refuse}
 use Rattle.board.proofs.Images.{Sized, sized-of, sized-block}
 use Rattle.board.specs.Queue.{Held, needsRoom, append, serveChange, serveEnd, serveRead, serveLog, serve, stretchOf, requestOn, readOn}
 use Rattle.store.specs.declared.queue.Ask.{Ask}
@@ -70,7 +70,7 @@ module _ (img : List ℕ) (r : Record) (reply : List ℕ) (h : Host) (x : Held) 
 
   read-found : (i : ObjectId) → i .0 ≤ idMax → (o : Option (List ℕ)) → lookup i (replay (x .frames) .objects) ≡ o
       → serveRead img r reply x i o .stretch
-        ≡ stretchAt (r .block * sizeOf img) (foundFor (block (sizeOf img) (r .block) img) (placesOf (x .frames)) (Read i))
+      ≡ stretchAt (r .block * sizeOf img) (foundFor (block (sizeOf img) (r .block) img) (placesOf (x .frames)) (Read i))
   read-found i l none e =
       let q : valueAt (block (sizeOf img) (r .block) img) i (getD (placesOf (x .frames)) (i .0) 0) ≡ none =
       ap (valueAt (block (sizeOf img) (r .block) img) i) (no-place (x .frames) i l e) ∙ value-zero (block (sizeOf img) (r .block) img) i in
@@ -112,6 +112,10 @@ module _ (img : List ℕ) (r : Record) (reply : List ℕ) (h : Host) (x : Held) 
   found-inside m Abort p n k e = let u : _≡_ {A = ℕ} 0 1 = cc in absurd (omega arith)
   found-inside m (Read i) p n k e = found-in i k p n (lookup i (replay (x .frames) .objects)) refl e
   found-inside m (Log g) p n k e = let u : _≡_ {A = ℕ} 0 1 = cc in absurd (omega arith)
+
+-- nothing is handed back by a refused read
+pub none-read : (img : List ℕ) (r : Record) (h : Host) (m : List ℕ) (why : Refusal) → requestOn img r [] h m ≡ refuse why img r [] → readOn img r h m ≡ noStretch
+none-read img r h m why e = ap (λ (o : Out). o .stretch) e
 
 -- ---- a request as far as its message was read
 

@@ -1,5 +1,5 @@
 -- What a call gives back, put together from what its parts give.
-use mathlib.Core.Path.{_≡_, refl, sym, ap, ap₂, _∙_}
+use mathlib.Core.Path.{_≡_, sym, ap, ap₂, _∙_}
 use mathlib.Core.List.{List, [], _∷_}
 use mathlib.Core.Bool.{Bool, true, false, _&&_, cond}
 use Prim.Native.Nat.{ℕ, _+_, _-_, _≤_}
@@ -18,10 +18,12 @@ use Rattle.journal.specs.declared.Survey.{Survey}
 use Rattle.journal.specs.Block.{blockState, lastTime}
 use Rattle.journal.specs.Survey.{surveyOf, placesIn}
 use Rattle.wire.specs.declared.Answer.{Answer}
+use Rattle.wire.specs.declared.Refusal.{Refusal}
 use Rattle.wire.specs.declared.Refusal.the-variants as refusal
 use Rattle.board.specs.declared.Record.{Record}
-use Rattle.board.specs.Record.{allowed, noPlaces, noMarks, noFrame, unmounted, answerOf, Out}
+use Rattle.board.specs.Record.{allowed, noPlaces, noMarks, noFrame, unmounted, answerOf, Out, refuse}
 use Rattle.board.specs.Step.{enterWipe}
+use Rattle.board.specs.Queue.{requestOn}
 use Rattle.board.specs.Mount.{mountOn, formatOn}
 use Rattle.board.proofs.Outcomes.{format-begins}
 use Rattle.store.specs.Code.{busyWith}
@@ -36,6 +38,12 @@ both x q = (ap (λ (y : Outcome). y .answer) q, ap (λ (y : Outcome). y .board) 
 pub with-reply : {o : Outcome} {t : List ℕ} (x : Out) → o ≡ outcome x → t ≡ x .reply
     → (o .answer ≡ x .answer) × (o .board ≡ x .board) × (t ≡ x .reply)
 with-reply x q e = (ap (λ (y : Outcome). y .answer) q, ap (λ (y : Outcome). y .board) q, e)
+
+-- a refused request
+pub refused-all : (img : List ℕ) (r : Record) (h : Host) (m reply : List ℕ) (why : Refusal) (o : Outcome)
+    → requestOn img r reply h m ≡ refuse why img r reply → o ≡ refused why r
+    → let x : Out = requestOn img r reply h m in (o .answer ≡ x .answer) × (o .board ≡ x .board) × (reply ≡ x .reply)
+refused-all img r h m reply why o e q = with-reply (requestOn img r reply h m) (q ∙ sym (ap outcome e)) (sym (ap (λ (x : Out). x .reply) e))
 
 pub begun-is : (o : Outcome) (r : Record) → (o .answer ≡ answerOf (enterWipe r)) × (o .board ≡ enterWipe r) → o ≡ begun r
 begun-is o r h = ap₂ (λ (a : Answer) (b : Record). record { answer = a; board = b }) (h .0) (h .1)
@@ -64,8 +72,8 @@ mount-is img x y a b p q c ok by ex ey ea ep eb eq ec = rw (ec, ea, ep, eb, eq, 
 
 pub format-is : (img p f : List ℕ) → allowed (length img) ≡ true → p ≡ noPlaces → f ≡ noFrame
     → begun (busyWith (length img - 1) 1 16 p
-      (record { wipe = 0 ∷ 1 ∷ []; wipes = 2; moves = true; drops = false; target = 0; time = 1; since = noMarks; size = 0 })
-      256 16 f) ≡ outcome (formatOn img)
+    (record { wipe = 0 ∷ 1 ∷ []; wipes = 2; moves = true; drops = false; target = 0; time = 1; since = noMarks; size = 0 })
+    256 16 f) ≡ outcome (formatOn img)
 unfolding noFrame
 format-is img p f a ep ef = rw (ep, ef) (sym (ap outcome (format-begins img a)))
 
@@ -84,7 +92,7 @@ module _ (size : ℕ) (r : Record) (s : Survey) (places : List ℕ) (n : ℕ) (f
 -- a put's frame by its head
 pub put-is : (size : ℕ) (r : Record) (s : Survey) (places : List ℕ) (h : Host) (i : ObjectId) (v w : List ℕ) → v ≡ w → length w ≤ valueMax
     → changeIn size r s places h (headLen (head.Put h i (length v))) (bytesOf (frameOf (head.Put h i (length v)) (take valueMax v))) 14
-      ≡ changeIn size r s places h (frameLen (change h (put i w))) (bytesOf (change h (put i w))) 14
+    ≡ changeIn size r s places h (frameLen (change h (put i w))) (bytesOf (change h (put i w))) 14
 put-is size r s places h i v w e l =
     let n : headLen (head.Put h i (length w)) ≡ frameLen (change h (put i w)) = omega arith in
     rw (e, take-all valueMax w l) (ap (λ (k : ℕ). changeIn size r s places h k (bytesOf (change h (put i w))) 14) n)

@@ -18,10 +18,9 @@ use Rattle.journal.specs.Block.{headerLen, lastTime}
 use Rattle.journal.specs.Room.{one}
 use Rattle.journal.specs.Index.{valueAt}
 use Rattle.journal.specs.Survey.{foundOf}
-use Rattle.wire.specs.declared.Answer.the-variants.{Done, More, Refused}
+use Rattle.wire.specs.declared.Answer.the-variants.{Done, Refused}
 use Rattle.wire.specs.declared.Refusal.{Refusal}
 use Rattle.wire.specs.declared.Refusal.the-variants as refusal
-use Rattle.wire.specs.declared.Page.the-variants.{Summary}
 use Rattle.wire.specs.declared.Request.{Request}
 use Rattle.wire.specs.declared.Request.the-variants.{Put, Delete, Commit, Abort, Read, Log}
 use Rattle.wire.specs.declared.Parsed.{Parsed}

@@ -6,12 +6,11 @@ pub mod records;
 mod room;
 mod serving;
 
+use board::Record;
 pub use mounts::format;
 pub use mounts::mount;
 pub use queue::read;
 pub use queue::request;
-
-use board::Record;
 use wire::Answer;
 
 // What a call gives back: its answer and the board record.

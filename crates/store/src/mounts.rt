@@ -6,12 +6,12 @@ ghost use Rattle.journal.specs.Block.{lastTime};
 ghost use Rattle.journal.specs.Room.{one};
 ghost use Rattle.board.specs.Mount.{newTime, mountOn, formatOn};
 ghost use Rattle.store.specs.Calls.{refused, isValid, isForeignKind, isBlankKind, chooseValid, chooseOf, needsIn, wipeOther, mountIn, mountChosen};
-use board::Job;
-use board::Record;
 use crate::Outcome;
 use crate::image;
 use crate::records;
 use crate::room;
+use board::Job;
+use board::Record;
 use journal::BlockKind;
 use journal::Survey;
 use wire::Answer;
@@ -175,7 +175,14 @@ fn mount_at(last: u16, number: u8, s: Survey, places: [u16; 256], wipes: bool) -
     records::begin(records::busy(last, number, s.end, places, job, 0, s.end, frame))
 }
 
-fn mount_chosen(last: u16, choice: Choice, a: Survey, p: [u16; 256], b: Survey, q: [u16; 256]) -> Outcome
+fn mount_chosen(
+    last: u16,
+    choice: Choice,
+    a: Survey,
+    p: [u16; 256],
+    b: Survey,
+    q: [u16; 256],
+) -> Outcome
     ensures { λ r. ⌜ r ≡ mountChosen last choice a p b q ⌝ }
 {
     match choice {
@@ -223,5 +230,14 @@ pub fn format(image: &[u8]) -> Outcome
         size: 0,
     };
     let last = (image.len() - 1) as u16;
-    records::begin(records::busy(last, 1, 16, records::no_places(), job, 256, 16, records::no_frame()))
+    records::begin(records::busy(
+        last,
+        1,
+        16,
+        records::no_places(),
+        job,
+        256,
+        16,
+        records::no_frame(),
+    ))
 }

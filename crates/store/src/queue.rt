@@ -10,14 +10,14 @@ ghost use Rattle.journal.specs.Survey.{foundOf};
 ghost use Rattle.board.specs.Record.{allowed};
 ghost use Rattle.board.specs.Queue.{requestOn, readOn};
 ghost use Rattle.store.specs.Calls.{gateOf, gateIn, holdsIn, askOf, foundFor};
-use board::Phase;
-use board::Record;
 use crate::Outcome;
 use crate::image;
 use crate::mounts;
 use crate::records;
 use crate::room;
 use crate::serving;
+use board::Phase;
+use board::Record;
 use frame::Host;
 use journal::Found;
 use journal::Survey;
@@ -110,7 +110,16 @@ pub fn request(image: &[u8], board: Record, host: Host, message: &[u8], reply: &
             let s = journal::survey_block(image::block_of(image, board.block), &mut places);
             match hear(size, board.end, s, message) {
                 Ask::Refused(why) => return mounts::refused(why, board),
-                Ask::Serve(ask) => return serving::serve(size as u16, board, host, message, reply, s, places, ask),
+                Ask::Serve(ask) => return serving::serve(
+                    size as u16,
+                    board,
+                    host,
+                    message,
+                    reply,
+                    s,
+                    places,
+                    ask,
+                ),
             }
         }
     }

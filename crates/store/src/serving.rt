@@ -7,13 +7,13 @@ ghost use Rattle.frame.specs.Code.{frameOf, headLen};
 ghost use Rattle.wire.specs.declared.Parsed.the-variants.{Is};
 ghost use Rattle.wire.specs.Message.{parse};
 ghost use Rattle.store.specs.Calls.{done, bytesOf, appendIn, changeIn, endIn, readIn, logIn, serveIn, replyIn, replyLog};
-use board::Job;
-use board::Record;
 use crate::Outcome;
 use crate::image;
 use crate::mounts;
 use crate::records;
 use crate::room;
+use board::Job;
+use board::Record;
 use frame::Head;
 use frame::Host;
 use frame::ObjectId;
@@ -44,7 +44,14 @@ pub fn place_of(places: [u16; 256], id: ObjectId) -> u16
 }
 
 // A frame appended, after a transfer if it goes past the block's end.
-fn append(size: usize, board: Record, s: Survey, places: [u16; 256], head: Head, value: &[u8]) -> Outcome
+fn append(
+    size: usize,
+    board: Record,
+    s: Survey,
+    places: [u16; 256],
+    head: Head,
+    value: &[u8],
+) -> Outcome
     requires { ⌜ headLen head ≤ maxFrame ⌝ }
     ensures { λ r. ⌜ r ≡ appendIn size board s places (headLen head) (bytesOf (frameOf head (take valueMax (now (value .entry))))) ⌝ }
 {
@@ -65,11 +72,29 @@ fn append(size: usize, board: Record, s: Survey, places: [u16; 256], head: Head,
         size: n as u8,
     };
     let bytes = frame::encode_frame(head, value);
-    records::begin(records::busy(board.last, board.block, board.end, places, job, 0, 16, bytes))
+    records::begin(records::busy(
+        board.last,
+        board.block,
+        board.end,
+        places,
+        job,
+        0,
+        16,
+        bytes,
+    ))
 }
 
 // A put or delete, which leaves so much besides.
-fn serve_change(size: usize, board: Record, s: Survey, places: [u16; 256], host: Host, head: Head, value: &[u8], spare: u8) -> Outcome
+fn serve_change(
+    size: usize,
+    board: Record,
+    s: Survey,
+    places: [u16; 256],
+    host: Host,
+    head: Head,
+    value: &[u8],
+    spare: u8,
+) -> Outcome
     requires { ⌜ headLen head ≤ maxFrame ⌝ }
     ensures { λ r. ⌜ r ≡ changeIn size board s places host (headLen head) (bytesOf (frameOf head (take valueMax (now (value .entry))))) spare ⌝ }
 {
@@ -80,7 +105,15 @@ fn serve_change(size: usize, board: Record, s: Survey, places: [u16; 256], host:
 }
 
 // A commit or an abort: with nothing pending it is done at once.
-fn serve_end(size: usize, board: Record, s: Survey, places: [u16; 256], host: Host, head: Head, value: &[u8]) -> Outcome
+fn serve_end(
+    size: usize,
+    board: Record,
+    s: Survey,
+    places: [u16; 256],
+    host: Host,
+    head: Head,
+    value: &[u8],
+) -> Outcome
     requires { ⌜ headLen head ≤ maxFrame ⌝ }
     ensures { λ r. ⌜ r ≡ endIn size board s places host (headLen head) (bytesOf (frameOf head (take valueMax (now (value .entry))))) ⌝ }
 {
@@ -115,7 +148,16 @@ fn serve_log(size: u16, board: Record, s: Survey, page: Page, reply: &mut [u8]) 
 }
 
 // What a message asks for, done.
-pub fn serve(size: u16, board: Record, host: Host, message: &[u8], reply: &mut [u8], s: Survey, places: [u16; 256], ask: Request) -> Outcome
+pub fn serve(
+    size: u16,
+    board: Record,
+    host: Host,
+    message: &[u8],
+    reply: &mut [u8],
+    s: Survey,
+    places: [u16; 256],
+    ask: Request,
+) -> Outcome
     requires { ⌜ parse (now message) ≡ Is ask ⌝ }
     ensures { λ r. ⌜ (r ≡ serveIn size board (now (reply .entry)) host (now (message .entry)) s places ask) × (now (reply .exit) ≡ replyIn size s (now (reply .entry)) ask) ⌝ }
 {
@@ -123,12 +165,38 @@ pub fn serve(size: u16, board: Record, host: Host, message: &[u8], reply: &mut [
     let value = wire::value(message);
     match ask {
         Request::Put(id) => {
-            return serve_change(room, board, s, places, host, Head::Put(host, id, value.len() as u8), value, 14);
+            return serve_change(
+                room,
+                board,
+                s,
+                places,
+                host,
+                Head::Put(host, id, value.len() as u8),
+                value,
+                14,
+            );
         }
         Request::Delete(id) => {
-            return serve_change(room, board, s, places, host, Head::Delete(host, id), value, 0);
+            return serve_change(
+                room,
+                board,
+                s,
+                places,
+                host,
+                Head::Delete(host, id),
+                value,
+                0,
+            );
         }
-        Request::Commit => return serve_end(room, board, s, places, host, Head::Commit(host), value),
+        Request::Commit => return serve_end(
+            room,
+            board,
+            s,
+            places,
+            host,
+            Head::Commit(host),
+            value,
+        ),
         Request::Abort => return serve_end(room, board, s, places, host, Head::Abort(host), value),
         Request::Read(id) => return serve_read(board, places, id),
         Request::Log(page) => return serve_log(size, board, s, page, reply),
