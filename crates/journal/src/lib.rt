@@ -8,8 +8,6 @@ mod pass;
 pub use block::survey_block;
 use frame::Fault;
 use frame::Head;
-pub use header::created;
-pub use header::header_fault;
 pub use index::next_load;
 pub use index::value_at;
 
