@@ -22,7 +22,7 @@ use Rattle.board.specs.declared.Phase.{Phase}
 use Rattle.board.specs.declared.Phase.the-variants.{Unmounted, Idle, Busy}
 use Rattle.board.specs.declared.Record.{Record}
 use Rattle.board.specs.Record.{inStage, Out}
-use Rattle.board.specs.Step.{landed, enterAppend, enterDrop, enterCopy, enterOpen, action, nextByte, advance, stepOn}
+use Rattle.board.specs.Step.{landed, enterAppend, enterDrop, enterCopy, enterOpen, action, pastFrame, advance, stepOn}
 use Rattle.board.specs.Demand1.{Declared, Rests, EndsWithin, ForgedEnds}
 use Rattle.board.proofs.Outcomes.{nextFor, open-enters, open-skips, copy-loads, copy-ends, drop-enters, drop-skips, append-enters, append-skips, wipe-next, wipe-last, open-next, open-last, copy-next, copy-last, seal-next, seal-last, drop-last, append-next, append-last, step-outside, step-goes}
 
@@ -98,7 +98,7 @@ advance-less z Copy img r w =
     let t : r .cursor .at < z = ltb-true (r .cursor .at) z (and-right (ltb (r .job .target) blocks) (ltb (r .cursor .at) z) w) in
     on-test (ltb (suc (r .cursor .off)) (r .cursor .size))
     (λ e. rw (copy-next img r e) (omega arith))
-    (λ e. rw (copy-last img r e) (omega (arith, copy-left z img (inStage Copy (nextByte (r .cursor)) r))))
+    (λ e. rw (copy-last img r e) (omega (arith, copy-left z img (inStage Copy (pastFrame (r .cursor)) r))))
 advance-less z Seal img r w =
     on-test (ltb (suc (r .cursor .index)) markWrites)
     (λ e. rw (seal-next img r e) (omega (arith, ltb-true (suc (r .cursor .index)) markWrites e)))

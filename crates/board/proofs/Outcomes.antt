@@ -27,7 +27,7 @@ use Rattle.board.specs.declared.Phase.{Phase}
 use Rattle.board.specs.declared.Phase.the-variants.{Unmounted, Idle, Busy}
 use Rattle.board.specs.declared.Record.{Record}
 use Rattle.board.specs.Record.{allowed, unmounted, idle, inStage, out, refuse}
-use Rattle.board.specs.Step.{enter, enterAppend, landed, enterDrop, loaded, enterCopy, enterOpen, enterWipe, begin, action, nextIndex, nextByte, advance, stepped, stepBusy, stepIn, stepOn}
+use Rattle.board.specs.Step.{enter, enterAppend, landed, enterDrop, loaded, enterCopy, enterOpen, enterWipe, begin, action, nextIndex, nextByte, pastFrame, advance, stepped, stepBusy, stepIn, stepOn}
 use Rattle.board.specs.Mount.{allFound, anyForeign, Found, Store, stores, equalTimes, newest, wipeList, needsTransfer, mountJob, mountAt, mountStores, mountFound, mountOn, formatJob, formatOn}
 use Rattle.board.specs.Queue.{Held, held, needsRoom, appendJob, append, serveChange, serveEnd, placeOf, serveLog, serve, serveParsed, serveHeld, requestIn, requestOn}
 use Rattle.board.specs.Demand1.{Rests}
@@ -282,7 +282,7 @@ module _ (img : List ℕ) (r : Record) where
   copy-next e = rw e
 
   pub copy-last : ltb (suc (r .cursor .off)) (r .cursor .size) ≡ false
-      → advance Copy img r ≡ enterCopy img (inStage Copy (nextByte (r .cursor)) r)
+      → advance Copy img r ≡ enterCopy img (inStage Copy (pastFrame (r .cursor)) r)
   unfolding advance
   copy-last e = rw e
 

@@ -83,7 +83,7 @@ module _ (l s : ℕ) (half : suc l / blocks ≡ s) (k e : ℕ) (places : List �
       ∙ ap (λ (y : List ℕ). loadOr r (nextLoad y e places (j .since) d so)) h ∙ ap (loadOr r) n
 
   copies : (bs : List ℕ) (a d so n : ℕ) → length bs ≡ n → a + n ≤ s
-      → Runs l s Copy (λ o. at Copy 0 (a + o) d so n o (buffer bs)) (λ img. enterCopy img (at Copy 0 (a + n) d so n n (buffer bs)))
+      → Runs l s Copy (λ o. at Copy 0 (a + o) d so n o (buffer bs)) (λ img. enterCopy img (at Copy 0 (a + n) d so n 0 (buffer bs)))
       (onBlock (j .target) (writes a bs)) (program (j .target) 0 0)
   unfolding advance
   copies bs a d so n q room =
@@ -94,15 +94,16 @@ module _ (l s : ℕ) (half : suc l / blocks ≡ s) (k e : ℕ) (places : List �
         inside = step-inside s (j .target) a bs there (omega arith);
         goes = λ i img h.
             let c : Record = at Copy 0 (suc (a + i)) d so n (suc i) (buffer bs) in
+            let p : Record = at Copy 0 (suc (a + i)) d so n 0 (buffer bs) in
             let e′ : suc (a + i) ≡ a + suc i = omega arith in
-            ap (λ (b : Bool). cond b c (enterCopy img c)) (lt-ltb (suc i) n (omega (arith, length-steps (j .target) a bs)))
+            ap (λ (b : Bool). cond b c (enterCopy img p)) (lt-ltb (suc i) n (omega (arith, length-steps (j .target) a bs)))
             ∙ ap (λ (m : ℕ). at Copy 0 m d so n (suc i) (buffer bs)) e′;
         ends = λ i img h.
             let c : Record = at Copy 0 (suc (a + i)) d so n (suc i) (buffer bs) in
+            let p : Record = at Copy 0 (suc (a + i)) d so n 0 (buffer bs) in
             let e′ : suc (a + i) ≡ a + n = omega (arith, length-steps (j .target) a bs) in
-            let o′ : suc i ≡ n = omega (arith, length-steps (j .target) a bs) in
-            ap (λ (b : Bool). cond b c (enterCopy img c)) (le-ltb (suc i) n (omega (arith, length-steps (j .target) a bs)))
-            ∙ ap₂ (λ (m m′ : ℕ). enterCopy img (at Copy 0 m d so n m′ (buffer bs))) e′ o′;
+            ap (λ (b : Bool). cond b c (enterCopy img p)) (le-ltb (suc i) n (omega (arith, length-steps (j .target) a bs)))
+            ∙ ap (λ (m : ℕ). enterCopy img (at Copy 0 m d so n 0 (buffer bs))) e′;
       }
 
   -- the copying leaves the block that is copied
@@ -113,13 +114,13 @@ module _ (l s : ℕ) (half : suc l / blocks ≡ s) (k e : ℕ) (places : List �
 
   copy-one : (b bs : List ℕ) (a d so n : ℕ) (img : List ℕ) (tail : List Step) (z : Record) → length img ≡ suc l → block s k img ≡ b → length bs ≡ n → 0 < n
       → a + n ≤ s
-      → ((img′ : List ℕ) → length img′ ≡ suc l → block s k img′ ≡ b → Follows img′ (enterCopy img′ (at Copy 0 (a + n) d so n n (buffer bs))) tail z)
+      → ((img′ : List ℕ) → length img′ ≡ suc l → block s k img′ ≡ b → Follows img′ (enterCopy img′ (at Copy 0 (a + n) d so n 0 (buffer bs))) tail z)
       → Follows img (at Copy 0 a d so n 0 (buffer bs)) (onBlock (j .target) (writes a bs) ++ tail) z
   copy-one b bs a d so n img tail z q h w p room f =
       let xs : List Step = onBlock (j .target) (writes a bs) in
       let a′ : a + 0 ≡ a = omega arith in
       subst (λ (m : ℕ). Follows img (at Copy 0 m d so n 0 (buffer bs)) (xs ++ tail) z) a′
-      (follows-stage l s Copy (λ o. at Copy 0 (a + o) d so n o (buffer bs)) (λ img′. enterCopy img′ (at Copy 0 (a + n) d so n n (buffer bs))) xs
+      (follows-stage l s Copy (λ o. at Copy 0 (a + o) d so n o (buffer bs)) (λ img′. enterCopy img′ (at Copy 0 (a + n) d so n 0 (buffer bs))) xs
       (program (j .target) 0 0) half (copies bs a d so n w room) tail z (n - 1) img (omega (arith, length-steps (j .target) a bs)) q
       (f (applyAll s xs img) (length-all-steps s xs img ∙ q)
       (source-kept (writes a bs) (write 0 0) img (copies bs a d so n w room .inside) ∙ h)))
@@ -150,7 +151,7 @@ module _ (l s : ℕ) (half : suc l / blocks ≡ s) (k e : ℕ) (places : List �
       (subst (λ (x : Record). Follows img x (onBlock (j .target) (writes a (encode f)) ++ tail) done)
       (sym (next-frame b img st i a d so z o u (some (load f d′ so′)) q h n))
       (copy-one b (encode f) a d′ so′ m img tail done q h (length-encode f) (omega arith) (omega arith)
-      (λ img′ q′ h′. follows-copy b fs Copy 0 (a + m) d′ so′ m m (buffer (encode f)) img′ q′ h′ y (omega arith)))))
+      (λ img′ q′ h′. follows-copy b fs Copy 0 (a + m) d′ so′ m 0 (buffer (encode f)) img′ q′ h′ y (omega arith)))))
 
   -- ---- the block opened
 

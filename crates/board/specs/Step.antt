@@ -99,6 +99,10 @@ nextIndex c = cursor (suc (c .index)) (c .at) (c .id) (c .source) (c .size) (c .
 abbrev pub nextByte : Cursor → Cursor
 nextByte c = cursor (c .index) (suc (c .at)) (c .id) (c .source) (c .size) (suc (c .off))
 
+-- past a frame's last byte
+abbrev pub pastFrame : Cursor → Cursor
+pastFrame c = cursor (c .index) (suc (c .at)) (c .id) (c .source) (c .size) 0
+
 -- on to the stage's next step, or out of the stage after its last
 abbrev pub onward : Stage → ℕ → Record → Record → Record
 onward s count r after = cond (ltb (suc (r .cursor .index)) count) (inStage s (nextIndex (r .cursor)) r) after
@@ -108,8 +112,8 @@ unfoldable pub advance : Stage → List ℕ → Record → Record
 advance Wipe img r = onward Wipe (r .job .wipes) r (enterOpen r)
 advance Open img r = onward Open markWrites r (enterCopy img r)
 advance Copy img r =
-    let c : Record = inStage Copy (nextByte (r .cursor)) r in
-    cond (ltb (suc (r .cursor .off)) (r .cursor .size)) c (enterCopy img c)
+    cond (ltb (suc (r .cursor .off)) (r .cursor .size)) (inStage Copy (nextByte (r .cursor)) r)
+    (enterCopy img (inStage Copy (pastFrame (r .cursor)) r))
 advance Seal img r = onward Seal markWrites r (enterDrop r)
 advance Drop img r = enterAppend (landed r)
 advance Append img r = onward Append (r .job .size) r (idle (r .last) (r .block) (r .end + r .job .size))
