@@ -6,3 +6,4 @@ pub mod Asking
 pub mod Answering
 pub mod Outcomes
 pub mod Handing
+pub mod Acting
