@@ -7,3 +7,5 @@ pub mod Answering
 pub mod Outcomes
 pub mod Handing
 pub mod Acting
+pub mod Advancing
+pub mod Loading

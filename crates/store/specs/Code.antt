@@ -4,7 +4,12 @@ use mathlib.Core.List.{List}
 use mathlib.Core.Bool.{Bool, true, false, cond}
 use Prim.Native.Nat.{ℕ, _+_, _<_}
 use lib.Dec.{ltb}
+use lib.ListN.{take, drop}
 use Rattle.flash.specs.Flash.{Step, program, erase, apply, sizeOf, within}
+use Rattle.frame.specs.Code.{frameOf, valueLen}
+use Rattle.journal.specs.declared.Fetch.{Fetch}
+use Rattle.journal.specs.Block.{headerLen}
+use Rattle.journal.specs.Index.{Load, load}
 use Rattle.wire.specs.declared.Answer.{Answer}
 use Rattle.wire.specs.declared.Answer.the-variants.{Done, More}
 use Rattle.board.specs.declared.Stage.{Stage}
@@ -13,14 +18,13 @@ use Rattle.board.specs.declared.Phase.the-variants.{Idle, Busy}
 use Rattle.board.specs.declared.Job.{Job}
 use Rattle.board.specs.declared.Cursor.{Cursor}
 use Rattle.board.specs.declared.Record.{Record}
-use Rattle.board.specs.Record.{noPlaces, noFrame, noJob, cursor, answerOf}
+use Rattle.board.specs.Record.{noPlaces, noFrame, noJob, cursor, answerOf, Out}
 use Rattle.board.specs.Step.{first}
 use Rattle.store.specs.declared.Outcome.{Outcome}
 use Rattle.store.specs.declared.records.Numbers.{Numbers}
 use Rattle.store.specs.declared.records.Stepped.{Stepped}
 use Rattle.store.specs.declared.steps.Action.{Action}
 use Rattle.store.specs.declared.steps.Action.the-variants as action
-use Rattle.journal.specs.Block.{headerLen}
 
 -- a job not yet begun, its frame to append in a buffer
 abbrev pub busyWith : ℕ → ℕ → ℕ → List ℕ → Job → ℕ → ℕ → List ℕ → Record
@@ -75,6 +79,10 @@ over l k e =
       ended = true;
     }
 
+-- it stays as it is
+abbrev pub staying : Answer → Numbers → Stepped
+staying a n = record { answer = a; next = n; ended = false }
+
 -- a job that ended leaves no places and no frames
 abbrev pub leavesIf : Bool → Numbers → List ℕ → List ℕ → List ℕ → Record
 leavesIf true n places unit frame = assemble n noPlaces noFrame noFrame
@@ -110,6 +118,10 @@ goOpen n = cond (n .job .moves) (going Open (first (n .cursor)) n) (goAppend n)
 unfoldable pub goWipe : Numbers → Stepped
 goWipe n = cond (ltb 0 (n .job .wipes)) (going Wipe (first (n .cursor)) n) (goOpen n)
 
+-- the frame that was found in block b, and the cursor after it
+abbrev pub loadIn : List ℕ → Fetch → Load
+loadIn b x = load (frameOf (x .head) (take (valueLen (x .head)) (drop (x .value) b))) (x .id) (x .source)
+
 -- ---- a step
 
 abbrev pub flashStep : Action → Step
@@ -128,3 +140,9 @@ offsetFor Copy n = n .cursor .at
 offsetFor Seal n = 0
 offsetFor Drop n = 0
 offsetFor Append n = n .end + n .cursor .index
+
+-- what a step call gives back, with these arrays
+pub record Steps (off : ℕ) (places unit frame : List ℕ) (s : Stepped) (img : List ℕ) (o : Out) : Type 0 where
+  pub image : img ≡ o .image
+  pub answers : s .answer ≡ o .answer
+  pub gives : off < 255 → leaves s places unit frame ≡ o .board
