@@ -6,3 +6,6 @@ pub mod Asking
 pub mod Answering
 pub mod Outcomes
 pub mod Handing
+pub mod Acting
+pub mod Advancing
+pub mod Loading

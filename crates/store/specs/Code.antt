@@ -1,22 +1,30 @@
 -- What the code's parts do: a record's numbers by themselves, its arrays apart.
+use mathlib.Core.Path.{_≡_}
 use mathlib.Core.List.{List}
 use mathlib.Core.Bool.{Bool, true, false, cond}
-use Prim.Native.Nat.{ℕ}
+use Prim.Native.Nat.{ℕ, _+_, _<_}
 use lib.Dec.{ltb}
+use lib.ListN.{take, drop}
+use Rattle.flash.specs.Flash.{Step, program, erase, apply, sizeOf, within}
+use Rattle.frame.specs.Code.{frameOf, valueLen}
+use Rattle.journal.specs.declared.Fetch.{Fetch}
+use Rattle.journal.specs.Block.{headerLen}
+use Rattle.journal.specs.Index.{Load, load}
 use Rattle.wire.specs.declared.Answer.{Answer}
 use Rattle.wire.specs.declared.Answer.the-variants.{Done, More}
 use Rattle.board.specs.declared.Stage.{Stage}
-use Rattle.board.specs.declared.Stage.the-variants.{Wipe, Open, Drop, Append}
+use Rattle.board.specs.declared.Stage.the-variants.{Wipe, Open, Copy, Seal, Drop, Append}
 use Rattle.board.specs.declared.Phase.the-variants.{Idle, Busy}
 use Rattle.board.specs.declared.Job.{Job}
 use Rattle.board.specs.declared.Cursor.{Cursor}
 use Rattle.board.specs.declared.Record.{Record}
-use Rattle.board.specs.Record.{noPlaces, noFrame, noJob, cursor}
+use Rattle.board.specs.Record.{noPlaces, noFrame, noJob, cursor, answerOf, Out}
 use Rattle.board.specs.Step.{first}
 use Rattle.store.specs.declared.Outcome.{Outcome}
 use Rattle.store.specs.declared.records.Numbers.{Numbers}
 use Rattle.store.specs.declared.records.Stepped.{Stepped}
-use Rattle.journal.specs.Block.{headerLen}
+use Rattle.store.specs.declared.steps.Action.{Action}
+use Rattle.store.specs.declared.steps.Action.the-variants as action
 
 -- a job not yet begun, its frame to append in a buffer
 abbrev pub busyWith : ℕ → ℕ → ℕ → List ℕ → Job → ℕ → ℕ → List ℕ → Record
@@ -71,6 +79,10 @@ over l k e =
       ended = true;
     }
 
+-- it stays as it is
+abbrev pub staying : Answer → Numbers → Stepped
+staying a n = record { answer = a; next = n; ended = false }
+
 -- a job that ended leaves no places and no frames
 abbrev pub leavesIf : Bool → Numbers → List ℕ → List ℕ → List ℕ → Record
 leavesIf true n places unit frame = assemble n noPlaces noFrame noFrame
@@ -78,6 +90,11 @@ leavesIf false n places unit frame = assemble n places unit frame
 
 abbrev pub leaves : Stepped → List ℕ → List ℕ → List ℕ → Record
 leaves s places unit frame = leavesIf (s .ended) (s .next) places unit frame
+
+-- a call leaves a record, with these arrays. A job's cursor at byte 255 of a frame is forged; a byte more is no number that a record holds
+pub record Leaves (off : ℕ) (places unit frame : List ℕ) (s : Stepped) (r : Record) : Type 0 where
+  pub answers : s .answer ≡ answerOf r
+  pub gives : off < 255 → leaves s places unit frame ≡ r
 
 abbrev pub outcome : Answer → Record → Outcome
 outcome a b = record { answer = a; board = b }
@@ -100,3 +117,32 @@ goOpen n = cond (n .job .moves) (going Open (first (n .cursor)) n) (goAppend n)
 
 unfoldable pub goWipe : Numbers → Stepped
 goWipe n = cond (ltb 0 (n .job .wipes)) (going Wipe (first (n .cursor)) n) (goOpen n)
+
+-- the frame that was found in block b, and the cursor after it
+abbrev pub loadIn : List ℕ → Fetch → Load
+loadIn b x = load (frameOf (x .head) (take (valueLen (x .head)) (drop (x .value) b))) (x .id) (x .source)
+
+-- ---- a step
+
+abbrev pub flashStep : Action → Step
+flashStep (action.Program k o v) = program k o v
+flashStep (action.Erase k) = erase k
+
+-- a step done where its place lies in the image
+unfoldable pub did : Step → List ℕ → List ℕ
+did x img = cond (within (sizeOf img) x) (apply (sizeOf img) x img) img
+
+-- the offset of a stage's steps that is counted up
+abbrev pub offsetFor : Stage → Numbers → ℕ
+offsetFor Wipe n = 0
+offsetFor Open n = 0
+offsetFor Copy n = n .cursor .at
+offsetFor Seal n = 0
+offsetFor Drop n = 0
+offsetFor Append n = n .end + n .cursor .index
+
+-- what a step call gives back, with these arrays
+pub record Steps (off : ℕ) (places unit frame : List ℕ) (s : Stepped) (img : List ℕ) (o : Out) : Type 0 where
+  pub image : img ≡ o .image
+  pub answers : s .answer ≡ o .answer
+  pub gives : off < 255 → leaves s places unit frame ≡ o .board

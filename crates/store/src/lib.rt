@@ -5,6 +5,7 @@ mod queue;
 pub mod records;
 mod room;
 mod serving;
+pub mod steps;
 
 use board::Record;
 pub use mounts::format;

@@ -2,7 +2,7 @@
 ghost use mathlib.Core.Path.{_≡_};
 ghost use Rattle.board.specs.Record.{noPlaces, noFrame, noJob, cursor, resting, unmounted, idle, answerOf};
 ghost use Rattle.board.specs.Step.{first, enterWipe};
-ghost use Rattle.store.specs.Code.{busyWith, numbersOf, assemble, going, over, leaves, outcome, goAppend, landedOn, goDrop, goOpen, goWipe};
+ghost use Rattle.store.specs.Code.{busyWith, numbersOf, assemble, going, over, staying, leaves, outcome, goAppend, landedOn, goDrop, goOpen, goWipe};
 use crate::Outcome;
 use board::Cursor;
 use board::Job;
@@ -238,6 +238,17 @@ pub fn over(last: u16, block: u8, end: u16) -> Stepped
     }
 }
 
+// It stays as it is.
+pub fn staying(answer: Answer, n: Numbers) -> Stepped
+    ensures { λ r. ⌜ r ≡ staying answer n ⌝ }
+{
+    Stepped {
+        answer: answer,
+        next: n,
+        ended: false,
+    }
+}
+
 // ---- entering a stage: the first from there on that has a step
 
 // The cursor at a stage's first step.
@@ -254,7 +265,7 @@ fn first(c: Cursor) -> Cursor
     }
 }
 
-fn enter(stage: Stage, n: Numbers) -> Stepped
+pub fn enter(stage: Stage, n: Numbers) -> Stepped
     ensures { λ r. ⌜ r ≡ going stage (first (n .cursor)) n ⌝ }
 {
     let cursor = n.cursor;
@@ -272,7 +283,7 @@ pub fn enter_append(n: Numbers) -> Stepped
 }
 
 // The block that was made is the current one.
-fn landed(n: Numbers) -> Numbers
+pub fn landed(n: Numbers) -> Numbers
     ensures { λ r. ⌜ r ≡ landedOn n ⌝ }
 {
     let phase = n.phase;
