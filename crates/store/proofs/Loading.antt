@@ -72,9 +72,9 @@ frame-len (head.Settled i n) v e = omega arith
 
 pub load-leaves : (b : List ℕ) (x : Fetch) (n : Numbers) → x .value + valueLen (x .head) ≤ length b → valueLen (x .head) ≤ valueMax → (e z : ℕ) (bytes : List ℕ)
     → e ≡ x .value + valueLen (x .head) → bytes ≡ buffer (encode (frameOf (x .head) (take valueMax (take (e - x .value) (drop (x .value) b)))))
-    → z ≡ headLen (x .head) → (o : ℕ) (p u f : List ℕ)
-    → Leaves o p bytes f (going Copy (cursor 0 (n .cursor .at) (x .id) (x .source) z 0) n) (loaded (assemble n p u f) (loadIn b x))
-load-leaves b x n fits small e z bytes end made size o p u f =
+    → z ≡ headLen (x .head) → (p u f : List ℕ)
+    → Leaves p bytes f (going Copy (cursor 0 (n .cursor .at) (x .id) (x .source) z 0) n) (loaded (assemble n p u f) (loadIn b x))
+load-leaves b x n fits small e z bytes end made size p u f =
     let k : e - x .value ≡ valueLen (x .head) = omega arith in
     let v : List ℕ = take (valueLen (x .head)) (drop (x .value) b) in
     let l : length v ≡ valueLen (x .head) = simp (length-take, length-drop) (omega arith) in
@@ -83,7 +83,7 @@ load-leaves b x n fits small e z bytes end made size o p u f =
     ∙ ap (λ (y : List ℕ). buffer (encode (frameOf (x .head) y))) (take-all valueMax v (omega arith)) in
     record {
       answers = refl;
-      gives = λ h. ap₂ (λ (i : ℕ) (y : List ℕ). assemble (staged Copy (cursor 0 (n .cursor .at) (x .id) (x .source) i 0) n) p y f)
+      gives = ap₂ (λ (i : ℕ) (y : List ℕ). assemble (staged Copy (cursor 0 (n .cursor .at) (x .id) (x .source) i 0) n) p y f)
           (size ∙ frame-len (x .head) v l) w;
     }
 

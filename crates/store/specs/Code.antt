@@ -2,7 +2,7 @@
 use mathlib.Core.Path.{_≡_}
 use mathlib.Core.List.{List}
 use mathlib.Core.Bool.{Bool, true, false, cond}
-use Prim.Native.Nat.{ℕ, _+_, _<_}
+use Prim.Native.Nat.{ℕ, suc, _+_}
 use lib.Dec.{ltb}
 use lib.ListN.{take, drop}
 use Rattle.flash.specs.Flash.{Step, program, erase, apply, sizeOf, within}
@@ -91,10 +91,10 @@ leavesIf false n places unit frame = assemble n places unit frame
 abbrev pub leaves : Stepped → List ℕ → List ℕ → List ℕ → Record
 leaves s places unit frame = leavesIf (s .ended) (s .next) places unit frame
 
--- a call leaves a record, with these arrays. A job's cursor at byte 255 of a frame is forged; a byte more is no number that a record holds
-pub record Leaves (off : ℕ) (places unit frame : List ℕ) (s : Stepped) (r : Record) : Type 0 where
+-- a call leaves a record, with these arrays
+pub record Leaves (places unit frame : List ℕ) (s : Stepped) (r : Record) : Type 0 where
   pub answers : s .answer ≡ answerOf r
-  pub gives : off < 255 → leaves s places unit frame ≡ r
+  pub gives : leaves s places unit frame ≡ r
 
 abbrev pub outcome : Answer → Record → Outcome
 outcome a b = record { answer = a; board = b }
@@ -122,6 +122,11 @@ goWipe n = cond (ltb 0 (n .job .wipes)) (going Wipe (first (n .cursor)) n) (goOp
 abbrev pub loadIn : List ℕ → Fetch → Load
 loadIn b x = load (frameOf (x .head) (take (valueLen (x .head)) (drop (x .value) b))) (x .id) (x .source)
 
+-- past a byte that was copied: to the frame's next, or past the frame
+abbrev pub movedByte : Cursor → Cursor
+movedByte c =
+    cursor (c .index) (suc (c .at)) (c .id) (c .source) (c .size) (cond (ltb (suc (c .off)) (c .size)) (suc (c .off)) 0)
+
 -- ---- a step
 
 abbrev pub flashStep : Action → Step
@@ -142,7 +147,7 @@ offsetFor Drop n = 0
 offsetFor Append n = n .end + n .cursor .index
 
 -- what a step call gives back, with these arrays
-pub record Steps (off : ℕ) (places unit frame : List ℕ) (s : Stepped) (img : List ℕ) (o : Out) : Type 0 where
+pub record Steps (places unit frame : List ℕ) (s : Stepped) (img : List ℕ) (o : Out) : Type 0 where
   pub image : img ≡ o .image
   pub answers : s .answer ≡ o .answer
-  pub gives : off < 255 → leaves s places unit frame ≡ o .board
+  pub gives : leaves s places unit frame ≡ o .board

@@ -1,6 +1,7 @@
 // One step of a job.
 ghost use mathlib.Core.Path.{_≡_};
 ghost use mathlib.Core.List.{List};
+ghost use mathlib.Core.Bool.{cond};
 ghost use Prim.Native.Nat.{ℕ, suc, _+_, _<_, _≤_};
 ghost use lib.Dec.{ltb};
 ghost use lib.ListN.{length, getD};
@@ -9,8 +10,8 @@ ghost use Rattle.frame.specs.Frame.{valueMax};
 ghost use Rattle.frame.specs.Code.{valueLen};
 ghost use Rattle.journal.specs.Block.{openWrite, sealWrite};
 ghost use Rattle.board.specs.declared.Stage.the-variants as stages;
-ghost use Rattle.board.specs.Step.{loaded, enterCopy, action, nextIndex, nextByte, advance, stepBusy, stepOn};
-ghost use Rattle.store.specs.Code.{assemble, staged, going, Leaves, loadIn, flashStep, did, offsetFor, Steps};
+ghost use Rattle.board.specs.Step.{loaded, enterCopy, action, nextIndex, advance, stepBusy, stepOn};
+ghost use Rattle.store.specs.Code.{assemble, staged, going, Leaves, loadIn, movedByte, flashStep, did, offsetFor, Steps};
 use crate::Outcome;
 use crate::records;
 use crate::records::Numbers;
@@ -177,7 +178,7 @@ fn next_step(stage: Stage, n: Numbers) -> Stepped
 }
 
 fn after_wipe(n: Numbers) -> Stepped
-    ensures { λ r. ⌜ ((o : ℕ) (i p u f : List ℕ) → Leaves o p u f r (advance stages.Wipe i (assemble n p u f))) ⌝ }
+    ensures { λ r. ⌜ ((i p u f : List ℕ) → Leaves p u f r (advance stages.Wipe i (assemble n p u f))) ⌝ }
 {
     let job = n.job;
     let cursor = n.cursor;
@@ -212,7 +213,7 @@ fn any_block(image: &[u8], number: u8) -> &[u8]
 // A frame to copy is put into the buffer.
 fn load(source: &[u8], fetch: Fetch, n: Numbers, unit: &mut [u8; 72]) -> Stepped
     requires { ⌜ (fetch .value + valueLen (fetch .head) ≤ length (now source)) × (valueLen (fetch .head) ≤ valueMax) ⌝ }
-    ensures { λ r. ⌜ ((o : ℕ) (p f : List ℕ) → Leaves o p (now (unit .exit)) f r (loaded (assemble n p (now (unit .entry)) f) (loadIn (now (source .entry)) fetch))) ⌝ }
+    ensures { λ r. ⌜ ((p f : List ℕ) → Leaves p (now (unit .exit)) f r (loaded (assemble n p (now (unit .entry)) f) (loadIn (now (source .entry)) fetch))) ⌝ }
 {
     let head = fetch.head;
     let start = fetch.value;
@@ -233,7 +234,7 @@ fn load(source: &[u8], fetch: Fetch, n: Numbers, unit: &mut [u8; 72]) -> Stepped
 
 // The next frame to copy is put into the buffer, or the block is sealed.
 fn enter_copy(image: &[u8], n: Numbers, places: &[u16; 256], unit: &mut [u8; 72]) -> Stepped
-    ensures { λ r. ⌜ ((o : ℕ) (f : List ℕ) → Leaves o (now (places .entry)) (now (unit .exit)) f r (enterCopy (now (image .entry)) (assemble n (now (places .entry)) (now (unit .entry)) f))) ⌝ }
+    ensures { λ r. ⌜ ((f : List ℕ) → Leaves (now (places .entry)) (now (unit .exit)) f r (enterCopy (now (image .entry)) (assemble n (now (places .entry)) (now (unit .entry)) f))) ⌝ }
 {
     let job = n.job;
     let since = job.since;
@@ -246,7 +247,7 @@ fn enter_copy(image: &[u8], n: Numbers, places: &[u16; 256], unit: &mut [u8; 72]
 }
 
 fn after_open(image: &[u8], n: Numbers, places: &[u16; 256], unit: &mut [u8; 72]) -> Stepped
-    ensures { λ r. ⌜ ((o : ℕ) (f : List ℕ) → Leaves o (now (places .entry)) (now (unit .exit)) f r (advance stages.Open (now (image .entry)) (assemble n (now (places .entry)) (now (unit .entry)) f))) ⌝ }
+    ensures { λ r. ⌜ ((f : List ℕ) → Leaves (now (places .entry)) (now (unit .exit)) f r (advance stages.Open (now (image .entry)) (assemble n (now (places .entry)) (now (unit .entry)) f))) ⌝ }
 {
     let cursor = n.cursor;
     if has_next(cursor.index, 5) {
@@ -255,23 +256,24 @@ fn after_open(image: &[u8], n: Numbers, places: &[u16; 256], unit: &mut [u8; 72]
     enter_copy(image, n, places, unit)
 }
 
-fn past(off: u8) -> u8
-    ensures { λ r. ⌜ (off < 255 → r ≡ suc off) ⌝ }
+// The next byte of a frame of a size, or none past its last.
+fn past(off: u8, size: u8) -> u8
+    ensures { λ r. ⌜ r ≡ cond (ltb (suc off) size) (suc off) 0 ⌝ }
 {
-    if off < 255 {
+    if has_next(off, size) {
         return off + 1;
     }
-    off
+    0
 }
 
 // Past the byte that was copied.
 fn next_byte(n: Numbers) -> Numbers
     requires { ⌜ n .cursor .at < 32768 ⌝ }
-    ensures { λ r. ⌜ (n .cursor .off < 255 → r ≡ staged stages.Copy (nextByte (n .cursor)) n) ⌝ }
+    ensures { λ r. ⌜ r ≡ staged stages.Copy (movedByte (n .cursor)) n ⌝ }
 {
     let c = n.cursor;
     let job = n.job;
-    let off = past(c.off);
+    let off = past(c.off, c.size);
     let next = Cursor {
         index: c.index,
         at: c.at + 1,
@@ -292,7 +294,7 @@ fn next_byte(n: Numbers) -> Numbers
 
 fn after_copy(image: &[u8], n: Numbers, places: &[u16; 256], unit: &mut [u8; 72]) -> Stepped
     requires { ⌜ n .cursor .at < 32768 ⌝ }
-    ensures { λ r. ⌜ ((f : List ℕ) → Leaves (n .cursor .off) (now (places .entry)) (now (unit .exit)) f r (advance stages.Copy (now (image .entry)) (assemble n (now (places .entry)) (now (unit .entry)) f))) ⌝ }
+    ensures { λ r. ⌜ ((f : List ℕ) → Leaves (now (places .entry)) (now (unit .exit)) f r (advance stages.Copy (now (image .entry)) (assemble n (now (places .entry)) (now (unit .entry)) f))) ⌝ }
 {
     let c = n.cursor;
     let next = next_byte(n);
@@ -303,7 +305,7 @@ fn after_copy(image: &[u8], n: Numbers, places: &[u16; 256], unit: &mut [u8; 72]
 }
 
 fn after_seal(n: Numbers) -> Stepped
-    ensures { λ r. ⌜ ((o : ℕ) (i p u f : List ℕ) → Leaves o p u f r (advance stages.Seal i (assemble n p u f))) ⌝ }
+    ensures { λ r. ⌜ ((i p u f : List ℕ) → Leaves p u f r (advance stages.Seal i (assemble n p u f))) ⌝ }
 {
     let cursor = n.cursor;
     if has_next(cursor.index, 5) {
@@ -313,14 +315,14 @@ fn after_seal(n: Numbers) -> Stepped
 }
 
 fn after_drop(n: Numbers) -> Stepped
-    ensures { λ r. ⌜ ((o : ℕ) (i p u f : List ℕ) → Leaves o p u f r (advance stages.Drop i (assemble n p u f))) ⌝ }
+    ensures { λ r. ⌜ ((i p u f : List ℕ) → Leaves p u f r (advance stages.Drop i (assemble n p u f))) ⌝ }
 {
     records::enter_append(records::landed(n))
 }
 
 fn after_append(n: Numbers) -> Stepped
     requires { ⌜ n .end < 32768 ⌝ }
-    ensures { λ r. ⌜ ((o : ℕ) (i p u f : List ℕ) → Leaves o p u f r (advance stages.Append i (assemble n p u f))) ⌝ }
+    ensures { λ r. ⌜ ((i p u f : List ℕ) → Leaves p u f r (advance stages.Append i (assemble n p u f))) ⌝ }
 {
     let job = n.job;
     let cursor = n.cursor;
@@ -339,7 +341,7 @@ fn advance(
     unit: &mut [u8; 72],
 ) -> Stepped
     requires { ⌜ offsetFor stage n < 32768 ⌝ }
-    ensures { λ r. ⌜ ((f : List ℕ) → Leaves (n .cursor .off) (now (places .entry)) (now (unit .exit)) f r (advance stage (now (image .entry)) (assemble n (now (places .entry)) (now (unit .entry)) f))) ⌝ }
+    ensures { λ r. ⌜ ((f : List ℕ) → Leaves (now (places .entry)) (now (unit .exit)) f r (advance stage (now (image .entry)) (assemble n (now (places .entry)) (now (unit .entry)) f))) ⌝ }
 {
     match stage {
         Stage::Wipe => return after_wipe(n),
@@ -361,7 +363,7 @@ fn step_busy(
     unit: &mut [u8; 72],
     frame: &[u8; 72],
 ) -> Stepped
-    ensures { λ r. ⌜ Steps (n .cursor .off) (now (places .entry)) (now (unit .exit)) (now (frame .entry)) r (now (image .exit)) (stepBusy stage (now (image .entry)) (assemble n (now (places .entry)) (now (unit .entry)) (now (frame .entry)))) ⌝ }
+    ensures { λ r. ⌜ Steps (now (places .entry)) (now (unit .exit)) (now (frame .entry)) r (now (image .exit)) (stepBusy stage (now (image .entry)) (assemble n (now (places .entry)) (now (unit .entry)) (now (frame .entry)))) ⌝ }
 {
     if image.len() != n.last as usize + 1 {
         return records::staying(Answer::Refused(Refusal::Stale), n);
@@ -381,7 +383,7 @@ pub fn step_core(
     unit: &mut [u8; 72],
     frame: &[u8; 72],
 ) -> Stepped
-    ensures { λ r. ⌜ Steps (n .cursor .off) (now (places .entry)) (now (unit .exit)) (now (frame .entry)) r (now (image .exit)) (stepOn (now (image .entry)) (assemble n (now (places .entry)) (now (unit .entry)) (now (frame .entry)))) ⌝ }
+    ensures { λ r. ⌜ Steps (now (places .entry)) (now (unit .exit)) (now (frame .entry)) r (now (image .exit)) (stepOn (now (image .entry)) (assemble n (now (places .entry)) (now (unit .entry)) (now (frame .entry)))) ⌝ }
 {
     let phase = n.phase;
     match phase {
@@ -393,7 +395,7 @@ pub fn step_core(
 
 // A step call.
 pub fn step(image: &mut [u8], board: Record) -> Outcome
-    ensures { λ r. ⌜ (now (image .exit) ≡ stepOn (now (image .entry)) board .image) × (r .answer ≡ stepOn (now (image .entry)) board .answer) × (board .cursor .off < 255 → r .board ≡ stepOn (now (image .entry)) board .board) ⌝ }
+    ensures { λ r. ⌜ (now (image .exit) ≡ stepOn (now (image .entry)) board .image) × (r .answer ≡ stepOn (now (image .entry)) board .answer) × (r .board ≡ stepOn (now (image .entry)) board .board) ⌝ }
 {
     let places = board.places;
     let mut unit = board.unit;

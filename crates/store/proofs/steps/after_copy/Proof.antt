@@ -15,4 +15,4 @@ after-copy-spec =
     (λ c κs. search needs)
     (λ c. λ f. rw (c .staying .ensures) (copy-on (now (c .before .before .before .before .before .before .args .image)) (now (c .before .before .before .before .before .before .args .places)) (now (c .before .before .before .before .before .before .args .unit)) f (c .before .before .before .before .before .before .args .n) (c .before .before .before .next-byte .result) (c .before .before .before .next-byte .ensures) (sym (c .before .before .has-next .ensures) ∙ c .before .if1 .taken)))
     (λ c κs. search needs)
-    (λ c. λ f. copy-off (now (c .before .before .before .before .before .before .before .args .image)) (now (c .before .before .before .before .before .before .before .args .places)) (now (c .before .before .before .before .before .before .before .args .unit)) f (c .before .before .before .before .before .before .before .args .n) (c .before .before .before .before .next-byte .result) (c .before .before .before .before .next-byte .ensures) (sym (c .before .before .before .has-next .ensures) ∙ c .before .before .if1 .left) _ (c .enter-copy .result) (c .enter-copy .ensures 0 f)))
+    (λ c. λ f. copy-off (now (c .before .before .before .before .before .before .before .args .image)) (now (c .before .before .before .before .before .before .before .args .places)) (now (c .before .before .before .before .before .before .before .args .unit)) f (c .before .before .before .before .before .before .before .args .n) (c .before .before .before .before .next-byte .result) (c .before .before .before .before .next-byte .ensures) (sym (c .before .before .before .has-next .ensures) ∙ c .before .before .if1 .left) _ (c .enter-copy .result) (c .enter-copy .ensures f)))

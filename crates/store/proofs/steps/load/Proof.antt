@@ -21,4 +21,4 @@ load-spec =
     (λ c κs. search needs)
     (λ c. omega (arith, c .frame-len .ensures, head-short (c .before .before .before .before .before .before .args .fetch .head) (c .before .before .before .before .before .before .pre .1)))
     (λ c κs. search needs)
-    (λ c. λ o p f. rw (c .going .ensures) (load-leaves (now (c .before .before .before .before .before .before .before .args .source)) (c .before .before .before .before .before .before .before .args .fetch) (c .before .before .before .before .before .before .before .args .n) (c .before .before .before .before .before .before .before .pre .0) (c .before .before .before .before .before .before .before .pre .1) (c .before .before .before .before .before .before .before .args .fetch .value + c .before .before .before .before .before .value-len .result) (c .before .frame-len .result) (c .before .before .before .encode-frame .result) (ap (λ (k : ℕ). c .before .before .before .before .before .before .before .args .fetch .value + k) (c .before .before .before .before .before .value-len .ensures)) (c .before .before .before .encode-frame .ensures) (c .before .frame-len .ensures) o p (now (c .before .before .before .before .before .before .before .args .unit)) f)))
+    (λ c. λ p f. rw (c .going .ensures) (load-leaves (now (c .before .before .before .before .before .before .before .args .source)) (c .before .before .before .before .before .before .before .args .fetch) (c .before .before .before .before .before .before .before .args .n) (c .before .before .before .before .before .before .before .pre .0) (c .before .before .before .before .before .before .before .pre .1) (c .before .before .before .before .before .before .before .args .fetch .value + c .before .before .before .before .before .value-len .result) (c .before .frame-len .result) (c .before .before .before .encode-frame .result) (ap (λ (k : ℕ). c .before .before .before .before .before .before .before .args .fetch .value + k) (c .before .before .before .before .before .value-len .ensures)) (c .before .before .before .encode-frame .ensures) (c .before .frame-len .ensures) p (now (c .before .before .before .before .before .before .before .args .unit)) f)))

@@ -5,4 +5,4 @@ use Rattle.store.proofs.steps.next_byte.Statement.{statement}
 use Rattle.store.proofs.steps.next_byte.Tie as tie
 
 pub next-byte-spec : {M : Type 1} → statement M
-next-byte-spec = tie.close (tie.spec (λ c κs. search needs) (λ c. search needs) (λ c. λ h. rw (c .before .past .ensures h, add-one)))
+next-byte-spec = tie.close (tie.spec (λ c κs. search needs) (λ c. search needs) (λ c. rw (c .before .past .ensures, add-one)))
