@@ -5,13 +5,14 @@ mod queue;
 pub mod records;
 mod room;
 mod serving;
-pub mod steps;
+mod steps;
 
 use board::Record;
 pub use mounts::format;
 pub use mounts::mount;
 pub use queue::read;
 pub use queue::request;
+pub use steps::step;
 use wire::Answer;
 
 // What a call gives back: its answer and the board record.

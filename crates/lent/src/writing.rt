@@ -1,0 +1,172 @@
+// The record as bytes.
+use crate::CURSOR_AT;
+use crate::CURSOR_SIZE;
+use crate::FRAME_AT;
+use crate::JOB_AT;
+use crate::JOB_SIZE;
+use crate::PLACES_AT;
+use crate::RECORD_SIZE;
+use crate::UNIT_AT;
+use board::Cursor;
+use board::Job;
+use board::Phase;
+use board::Record;
+use board::Stage;
+ghost use mathlib.Core.Path.{_≡_};
+ghost use Prim.Native.Nat.{_+_, _*_, _/_, _%_, _≤_};
+ghost use lib.ListN.{length};
+ghost use Rattle.lent.specs.Layout.{stageByte, phaseByte, flagByte, headBytes, jobBytes, cursorBytes, wordBytes, recordInto};
+ghost use Rattle.lent.specs.Code.{laidAt};
+
+fn stage_byte(stage: Stage) -> u8
+    ensures { λ r. ⌜ r ≡ stageByte stage ⌝ }
+{
+    match stage {
+        Stage::Wipe => 2,
+        Stage::Open => 3,
+        Stage::Copy => 4,
+        Stage::Seal => 5,
+        Stage::Drop => 6,
+        Stage::Append => 7,
+    }
+}
+
+fn phase_byte(phase: Phase) -> u8
+    ensures { λ r. ⌜ r ≡ phaseByte phase ⌝ }
+{
+    match phase {
+        Phase::Unmounted => 0,
+        Phase::Idle => 1,
+        Phase::Busy(stage) => stage_byte(stage),
+    }
+}
+
+fn flag_byte(flag: bool) -> u8
+    ensures { λ r. ⌜ r ≡ flagByte flag ⌝ }
+{
+    if flag { 1 } else { 0 }
+}
+
+// A word's two bytes.
+fn low(word: u16) -> u8
+    ensures { λ r. ⌜ r ≡ word % 256 ⌝ }
+{
+    (word % 256) as u8
+}
+
+fn high(word: u16) -> u8
+    ensures { λ r. ⌜ r ≡ word / 256 ⌝ }
+{
+    (word / 256) as u8
+}
+
+fn head_bytes(board: Record) -> [u8; PLACES_AT]
+    ensures { λ r. ⌜ r ≡ headBytes board ⌝ }
+{
+    let phase = board.phase;
+    let last = board.last;
+    let end = board.end;
+    [
+        phase_byte(phase),
+        low(last),
+        high(last),
+        board.block,
+        low(end),
+        high(end),
+    ]
+}
+
+fn job_bytes(job: Job) -> [u8; JOB_SIZE]
+    ensures { λ r. ⌜ r ≡ jobBytes job ⌝ }
+{
+    let w = job.wipe;
+    let t = job.time;
+    let s = job.since;
+    [
+        w[0],
+        w[1],
+        job.wipes,
+        flag_byte(job.moves),
+        flag_byte(job.drops),
+        job.target,
+        (t % 256) as u8,
+        (t / 256 % 256) as u8,
+        (t / 65536 % 256) as u8,
+        (t / 16777216) as u8,
+        low(s[0]),
+        high(s[0]),
+        low(s[1]),
+        high(s[1]),
+        low(s[2]),
+        high(s[2]),
+        low(s[3]),
+        high(s[3]),
+        job.size,
+    ]
+}
+
+fn cursor_bytes(cursor: Cursor) -> [u8; CURSOR_SIZE]
+    ensures { λ r. ⌜ r ≡ cursorBytes cursor ⌝ }
+{
+    let a = cursor.at;
+    let i = cursor.id;
+    let s = cursor.source;
+    [
+        cursor.index,
+        low(a),
+        high(a),
+        low(i),
+        high(i),
+        low(s),
+        high(s),
+        cursor.size,
+        cursor.off,
+    ]
+}
+
+// Lays a source over the bytes from a place on, where there are as many.
+fn lay_at(bytes: &mut [u8], at: usize, source: &[u8])
+    ensures { λ r. ⌜ now (bytes .exit) ≡ laidAt at (now (source .entry)) (now (bytes .entry)) ⌝ }
+{
+    if bytes.len() < at {
+        return;
+    }
+    wire::lay(&mut bytes[at..], source);
+}
+
+// Lays words over the bytes from a place on.
+fn lay_words(bytes: &mut [u8], at: usize, words: &[u16])
+    requires { ⌜ at + 2 * length (now words) ≤ length (now bytes) ⌝ }
+    ensures { λ r. ⌜ now (bytes .exit) ≡ laidAt at (wordBytes (now (words .entry))) (now (bytes .entry)) ⌝ }
+{
+    let mut i = 0;
+    while i < words.len() {
+        let w = words[i];
+        let two = [low(w), high(w)];
+        lay_at(bytes, at + 2 * i, &two);
+        i += 1;
+    }
+}
+
+// Writes the record to a buffer of exactly its size; any other buffer stays.
+pub fn encode(board: Record, bytes: &mut [u8])
+    ensures { λ r. ⌜ now (bytes .exit) ≡ recordInto board (now (bytes .entry)) ⌝ }
+{
+    if bytes.len() != RECORD_SIZE {
+        return;
+    }
+    let head = head_bytes(board);
+    let places = board.places;
+    let j = board.job;
+    let job = job_bytes(j);
+    let c = board.cursor;
+    let cursor = cursor_bytes(c);
+    let unit = board.unit;
+    let frame = board.frame;
+    lay_at(bytes, 0, &head);
+    lay_words(bytes, PLACES_AT, &places);
+    lay_at(bytes, JOB_AT, &job);
+    lay_at(bytes, CURSOR_AT, &cursor);
+    lay_at(bytes, UNIT_AT, &unit);
+    lay_at(bytes, FRAME_AT, &frame);
+}
