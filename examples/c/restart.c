@@ -1,0 +1,150 @@
+/*
+ * The store on a simulated NOR array: format, put, commit, a power cut in the middle of a second commit, restart, read.
+ *
+ * The array is changed only by nor_program and nor_erase, and refuses to set bits. The store is lent a copy in RAM; what
+ * a step does to the copy is then done to the array. A power cut loses the copy and the board record.
+ */
+#include <stdio.h>
+#include <stdlib.h>
+#include <string.h>
+
+#include "grommetide.h"
+
+enum { LENGTH = 512, HALF = LENGTH / 2 };
+
+static uint8_t nor[LENGTH];
+
+static void stop(const char *why)
+{
+    fprintf(stderr, "restart: %s\n", why);
+    exit(1);
+}
+
+static void nor_program(size_t at, uint8_t byte)
+{
+    if ((byte & ~nor[at]) != 0)
+        stop("programming cannot set bits");
+    nor[at] &= byte;
+}
+
+static void nor_erase(size_t half)
+{
+    memset(nor + half * HALF, 0xFF, HALF);
+}
+
+struct board {
+    uint8_t copy[LENGTH];
+    uint8_t record[GROMMETIDE_RECORD_BYTES];
+};
+
+static void power_up(struct board *board)
+{
+    memcpy(board->copy, nor, LENGTH);
+    memset(board->record, 0, sizeof board->record);
+}
+
+/* Does to the array what a step did to the copy. */
+static void follow(const uint8_t *copy)
+{
+    size_t differ = 0, last = 0, at;
+    for (at = 0; at < LENGTH; at++) {
+        if (copy[at] != nor[at]) {
+            differ++;
+            last = at;
+        }
+    }
+    if (differ == 1 && (copy[last] & ~nor[last]) == 0)
+        nor_program(last, copy[last]);
+    else if (differ > 0)
+        nor_erase(last / HALF);
+    if (memcmp(nor, copy, LENGTH) != 0)
+        stop("a step did more than one thing");
+}
+
+/* Up to `most` steps of the job in hand; how many were made. */
+static unsigned steps(struct board *board, unsigned most)
+{
+    unsigned made = 0;
+    uint8_t answer = GROMMETIDE_MORE;
+    while (made < most && answer == GROMMETIDE_MORE) {
+        answer = grommetide_step(board->copy, LENGTH, board->record, sizeof board->record);
+        if (answer != GROMMETIDE_MORE && answer != GROMMETIDE_DONE)
+            stop("a step was refused");
+        follow(board->copy);
+        made++;
+    }
+    return made;
+}
+
+static unsigned begin(struct board *board, uint8_t answer, unsigned most)
+{
+    if (answer == GROMMETIDE_DONE)
+        return 0;
+    if (answer != GROMMETIDE_MORE)
+        stop("refused");
+    return steps(board, most);
+}
+
+static unsigned mount(struct board *board)
+{
+    return begin(board, grommetide_mount(board->copy, LENGTH, board->record, sizeof board->record), LENGTH);
+}
+
+static unsigned format(struct board *board)
+{
+    return begin(board, grommetide_format(board->copy, LENGTH, board->record, sizeof board->record), LENGTH);
+}
+
+static unsigned request(struct board *board, uint8_t host, const uint8_t *message, unsigned most)
+{
+    uint8_t reply[1];
+    uint8_t answer = grommetide_request(board->copy, LENGTH, board->record, sizeof board->record, host, message, message[0],
+                                        reply, sizeof reply);
+    return begin(board, answer, most);
+}
+
+static void show(const struct board *board, const char *when)
+{
+    static const uint8_t read_5[] = {6, 0, 0x05, 1, 5, 0};
+    size_t at, len;
+    uint8_t answer = grommetide_read(board->copy, LENGTH, board->record, sizeof board->record, 0, read_5, sizeof read_5,
+                                     &at, &len);
+    if (answer != GROMMETIDE_DONE)
+        stop("object 5 is gone");
+    printf("%s: object 5 is \"%.*s\", %u bytes at %u\n", when, (int)len, (const char *)board->copy + at, (unsigned)len,
+           (unsigned)at);
+}
+
+int main(void)
+{
+    static const uint8_t put_on[] = {8, 0, 0x01, 1, 5, 0, 'o', 'n'};
+    static const uint8_t put_off[] = {9, 0, 0x01, 1, 5, 0, 'o', 'f', 'f'};
+    static const uint8_t commit[] = {4, 0, 0x03, 1};
+    struct board board;
+
+    if (grommetide_record_size() != GROMMETIDE_RECORD_BYTES)
+        stop("header and library differ");
+    nor_erase(0);
+    nor_erase(1);
+    power_up(&board);
+    if (grommetide_mount(board.copy, LENGTH, board.record, sizeof board.record) != GROMMETIDE_NO_STORE)
+        stop("a store on blank flash");
+    printf("blank flash: no store; formatted in %u steps\n", format(&board));
+
+    printf("host 2 puts 5 = \"on\" in %u steps", request(&board, 2, put_on, LENGTH));
+    printf(" and commits in %u\n", request(&board, 2, commit, LENGTH));
+    show(&board, "committed");
+
+    printf("host 1 puts 5 = \"off\" in %u steps", request(&board, 1, put_off, LENGTH));
+    printf("; power is cut after %u steps of its commit\n", request(&board, 1, commit, 5));
+    power_up(&board);
+    printf("restart: mounted in %u steps\n", mount(&board));
+    show(&board, "after the cut");
+
+    request(&board, 1, put_off, LENGTH);
+    request(&board, 1, commit, LENGTH);
+    power_up(&board);
+    printf("again, and cut after the last step; restart: mounted in %u steps\n", mount(&board));
+    show(&board, "after that cut");
+    return 0;
+}

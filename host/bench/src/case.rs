@@ -1,0 +1,87 @@
+//! The images that are measured.
+
+use model::Model;
+use store::{Answer, Head, Idle, Store, message};
+
+/// A store at rest, and the same with one change of host 0 pending.
+pub struct Case {
+    pub length: usize,
+    pub fill: &'static str,
+    pub rest: Vec<u8>,
+    pub rest_idle: Idle,
+    pub pending: Vec<u8>,
+    pub pending_idle: Idle,
+}
+
+/// A board under the model, which builds the images.
+struct Builder {
+    image: Vec<u8>,
+    record: model::Record,
+}
+
+impl Builder {
+    fn formatted(length: usize) -> Builder {
+        let image = vec![0xFF; length];
+        let (answer, record) = Model.format(&image);
+        assert_eq!(answer, Answer::MORE);
+        let mut builder = Builder { image, record };
+        builder.finish();
+        builder
+    }
+
+    fn finish(&mut self) {
+        while Model.step(&mut self.image, &mut self.record) == Answer::MORE {}
+    }
+
+    fn serve(&mut self, message: &[u8]) {
+        assert_eq!(Model.request(&self.image, &mut self.record, 0, message, &mut []), Answer::MORE);
+        self.finish();
+    }
+
+    fn idle(&self) -> Idle {
+        match Model.head(&self.record) {
+            Head::Idle(idle) => idle,
+            other => panic!("{other:?}"),
+        }
+    }
+
+    /// Bytes after the last frame.
+    fn free(&self) -> usize {
+        self.image.len() / 2 - usize::from(self.idle().end)
+    }
+}
+
+/// Two short objects in an otherwise empty journal.
+pub fn sparse(length: usize) -> Case {
+    let mut builder = Builder::formatted(length);
+    for id in [0, 1] {
+        builder.serve(&message::put(id, &[id; 8]));
+    }
+    builder.serve(&message::commit());
+    case(builder, "sparse")
+}
+
+/// As many objects of 64 bytes as leave room for one more put, and a journal with at most 28 bytes left, so that such a
+/// put needs a transfer and a short change with its commit does not.
+pub fn full(length: usize) -> Case {
+    let mut builder = Builder::formatted(length);
+    let size = length / 2;
+    let objects = ((size - 16 - 92) / 71).min(256);
+    for id in 0..objects {
+        builder.serve(&message::put(id as u8, &[id as u8; 64]));
+        builder.serve(&message::commit());
+    }
+    while builder.free() >= 14 + 15 {
+        builder.serve(&message::put(0, &[]));
+        builder.serve(&message::abort());
+    }
+    case(builder, "full")
+}
+
+fn case(mut builder: Builder, fill: &'static str) -> Case {
+    let (rest, rest_idle) = (builder.image.clone(), builder.idle());
+    builder.serve(&message::put(0, &[1]));
+    let pending_idle = builder.idle();
+    assert_eq!(pending_idle.half, rest_idle.half, "no transfer");
+    Case { length: rest.len(), fill, rest, rest_idle, pending: builder.image, pending_idle }
+}

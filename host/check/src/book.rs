@@ -1,0 +1,135 @@
+//! Document 01's book for demand 3: fed each call and its answer, and nothing of image or record.
+
+use crate::twin::Call;
+use model::frame::{Body, Host, Id};
+use model::half::{self, Half, Replay};
+use std::collections::BTreeMap;
+use store::{Answer, message};
+
+pub type Objects = BTreeMap<u8, Vec<u8>>;
+pub type Lists = [Vec<Change>; 4];
+
+#[derive(Clone, PartialEq, Eq, Debug)]
+pub enum Change {
+    Put(u8, Vec<u8>),
+    Delete(u8),
+}
+
+impl Change {
+    pub fn apply(self, objects: &mut Objects) {
+        match self {
+            Change::Put(id, value) => objects.insert(id, value),
+            Change::Delete(id) => objects.remove(&id),
+        };
+    }
+
+    /// The length of its frame.
+    fn length(&self) -> usize {
+        match self {
+            Change::Put(_, value) => 8 + value.len(),
+            Change::Delete(_) => 8,
+        }
+    }
+}
+
+enum UnderWay {
+    Commit(usize),
+    Format,
+}
+
+#[derive(Default)]
+pub struct Book {
+    pub objects: Objects,
+    pub lists: Lists,
+    under_way: Option<UnderWay>,
+}
+
+impl Book {
+    pub fn feed(&mut self, call: &Call, answer: Answer) {
+        match call {
+            Call::Mount | Call::Format => {
+                self.lists = Lists::default();
+                self.under_way = (*call == Call::Format && !answer.refused()).then_some(UnderWay::Format);
+            }
+            Call::Request { host, message, .. } if !answer.refused() => {
+                self.accepted(usize::from(*host), message, answer);
+            }
+            Call::Step if answer == Answer::DONE => self.finished(),
+            _ => {}
+        }
+    }
+
+    fn accepted(&mut self, host: usize, message: &[u8], answer: Answer) {
+        match u16::from_le_bytes([message[2], message[3]]) {
+            message::PUT => self.lists[host].push(Change::Put(message[4], message[6..].to_vec())),
+            message::DELETE => self.lists[host].push(Change::Delete(message[4])),
+            message::ABORT => self.lists[host].clear(),
+            message::COMMIT if answer == Answer::MORE => self.under_way = Some(UnderWay::Commit(host)),
+            _ => {}
+        }
+    }
+
+    fn finished(&mut self) {
+        match self.under_way.take() {
+            Some(UnderWay::Commit(host)) => {
+                self.objects = self.committed(host);
+                self.lists[host].clear();
+            }
+            Some(UnderWay::Format) => self.objects.clear(),
+            None => {}
+        }
+    }
+
+    /// The objects once this host's list is applied.
+    pub fn committed(&self, host: usize) -> Objects {
+        let mut objects = self.objects.clone();
+        for change in self.lists[host].clone() {
+            change.apply(&mut objects);
+        }
+        objects
+    }
+
+    /// Document 01's U.
+    pub fn used(&self) -> usize {
+        16 + self.objects.values().map(|value| 7 + value.len()).sum::<usize>()
+    }
+
+    /// Document 01's C.
+    pub fn claimed(&self) -> usize {
+        self.used() + self.lists.iter().flatten().map(Change::length).sum::<usize>()
+    }
+
+    /// Hosts with something pending once `also` has.
+    pub fn open(&self, also: usize) -> usize {
+        (0..4).filter(|host| *host == also || !self.lists[*host].is_empty()).count()
+    }
+}
+
+/// What replay finds in a half: objects and each host's list.
+pub fn found(half: &[u8]) -> (Objects, Lists) {
+    let Half::Valid(journal) = half::read(half) else {
+        panic!("an idle record names a half that is not valid");
+    };
+    let replay = half::replay(&journal);
+    assert!(16 <= replay.used() && replay.used() <= replay.claimed(), "U is at least 16 and at most C");
+    assert!(
+        replay.claimed() <= journal.end && journal.end <= half.len(),
+        "C is at most the end, the end at most S"
+    );
+    let objects = replay.objects().map(|(Id(id), value)| (id, half[value].to_vec())).collect();
+    (objects, lists(half, &replay))
+}
+
+fn lists(half: &[u8], replay: &Replay) -> Lists {
+    let mut lists = Lists::default();
+    for frame in &replay.pending {
+        match &frame.body {
+            Body::Put(Host(host), Id(id), value) => {
+                lists[usize::from(*host)].push(Change::Put(*id, half[value.clone()].to_vec()));
+            }
+            Body::Delete(Host(host), Id(id)) => lists[usize::from(*host)].push(Change::Delete(*id)),
+            other => panic!("{other:?} is pending"),
+        }
+    }
+    lists
+}

@@ -1,0 +1,205 @@
+//! Images that a store left, that one might have left, and that none did; and idle records forged for them.
+
+use crate::generate::{self, Manner, Wish};
+use crate::rng::Rng;
+use crate::twin::{Call, Twin};
+use model::frame::{self, Host, Id};
+use model::half::{self, Half, Journal};
+use model::half_of;
+use store::{Answer, Idle};
+
+/// Tries one image: mounts it, then asks under forged records.
+pub fn try_image(twin: &mut Twin, rng: &mut Rng, image: &[u8]) {
+    twin.load(image);
+    if twin.whole(&Call::Mount) == (Answer::DONE, 0) {
+        assert_eq!(twin.image(), image, "no steps, yet the image changed");
+    }
+    ask(twin, rng);
+    for idle in forged(rng, image) {
+        twin.load(image);
+        twin.forge(idle);
+        ask(twin, rng);
+        ask(twin, rng);
+    }
+}
+
+/// Some request or read, with all its steps.
+fn ask(twin: &mut Twin, rng: &mut Rng) {
+    let manner = Manner::new(rng);
+    let host = generate::host(rng);
+    let wish = manner.wish(rng);
+    let message = if rng.once_in(10) { generate::odd_message(&manner, rng) } else { wish.message() };
+    if matches!(wish, Wish::Read(_)) {
+        twin.call(&Call::Read { host, message: message.clone() });
+    }
+    let reply = rng.pick(&[0, 13, 14, 17]);
+    let (answer, steps) = twin.whole(&Call::Request { host, message, reply });
+    if !answer.refused() {
+        let size = twin.image().len() / 2;
+        let most = if matches!(wish, Wish::Put(..)) { size - 25 } else { size - 5 };
+        assert!(steps <= most, "{steps} steps for {wish:?}");
+    }
+}
+
+/// Idle records for this image: the true ones, and some that are not.
+fn forged(rng: &mut Rng, image: &[u8]) -> Vec<Idle> {
+    let length = image.len();
+    let mut records = Vec::new();
+    for (half, number) in [(half_of(image, 0), 0), (half_of(image, 1), 1)] {
+        let end = match half::read(half) {
+            Half::Valid(journal) => journal.end,
+            _ => 16,
+        };
+        let near = rng.pick(&[end - 1, end + 1, end + 6, 0, 16, length / 2, length / 2 + 1, 65_535]);
+        records.push(Idle { length, half: number, end: end as u16 });
+        records.push(Idle { length, half: number, end: near.min(65_535) as u16 });
+        if rng.once_in(4) {
+            records.push(Idle {
+                length: rng.pick(&[length - 1, length / 2, 1, 65_536]),
+                half: number,
+                end: end as u16,
+            });
+            records.push(Idle { length, half: rng.pick(&[number + 2, 255]), end: end as u16 });
+        }
+    }
+    records
+}
+
+/// An image of this length: two halves, each of some kind, then some damage.
+pub fn image(rng: &mut Rng, length: usize) -> Vec<u8> {
+    let size = length / 2;
+    let mut halves = [some_half(rng, size), if rng.once_in(4) { some_half(rng, size) } else { vec![0xFF; size] }];
+    if rng.once_in(2) {
+        halves.swap(0, 1);
+    }
+    if rng.once_in(20) {
+        halves[0] = halves[1].clone();
+    }
+    let mut image = halves.concat();
+    for _ in 0..rng.pick(&[0, 0, 0, 0, 0, 1, 1, 2]) {
+        harm(rng, &mut image);
+    }
+    image
+}
+
+fn some_half(rng: &mut Rng, size: usize) -> Vec<u8> {
+    match rng.below(12) {
+        0 => vec![0xFF; size],
+        1 => rng.bytes(size),
+        2 => {
+            let mut half = if rng.once_in(2) { rng.bytes(size) } else { written_half(rng, size) };
+            half[half::STATE] = half::IN_PROGRESS;
+            half
+        }
+        _ => written_half(rng, size),
+    }
+}
+
+/// Header, settled frames, other frames, and a tail: blank, torn, or bytes of no kind.
+fn written_half(rng: &mut Rng, size: usize) -> Vec<u8> {
+    let time: u32 = rng.pick(&[1, 2, 3, 0x0102_0304, u32::MAX - 1, u32::MAX]);
+    let mut half = half::LABEL.to_vec();
+    half.extend((!time).to_le_bytes());
+    half.push(half::VALID);
+    half.resize(half::HEADER, 0xFF);
+    let limit = rng.pick(&[16, 60, size / 2, size, size]);
+    let settled_until = rng.below(limit.min(size - 80));
+    let mut id = 0;
+    while half.len() < settled_until && id < 256 {
+        half.extend(settled_frame(rng, id as u8));
+        id += 1 + rng.below(3);
+    }
+    while half.len() + 80 < limit {
+        half.extend(journal_frame(rng));
+    }
+    tail(rng, &mut half, size);
+    half.resize(size, 0xFF);
+    half
+}
+
+fn settled_frame(rng: &mut Rng, id: u8) -> Vec<u8> {
+    let length = rng.below(30);
+    frame::settled(Id(id), &generate::value(rng, length))
+}
+
+fn journal_frame(rng: &mut Rng) -> Vec<u8> {
+    let host = Host(rng.below(4) as u8);
+    let id = Id(rng.below(6) as u8);
+    match rng.below(20) {
+        0..=8 => {
+            let length = rng.pick(&[0, 1, 2, 10, 30, 63, 64]);
+            frame::put(host, id, &generate::value(rng, length))
+        }
+        9..=11 => frame::delete(host, id),
+        12..=16 => frame::commit(host),
+        17..=18 => frame::abort(host),
+        _ if rng.once_in(10) => settled_frame(rng, id.0),
+        _ => frame::delete(host, id),
+    }
+}
+
+fn tail(rng: &mut Rng, half: &mut Vec<u8>, size: usize) {
+    let last = journal_frame(rng);
+    match rng.below(10) {
+        0..=1 => half.extend(&last[..rng.below(last.len())]),
+        2 => {
+            let mut torn = last[..rng.below(last.len())].to_vec();
+            if let Some(byte) = torn.last_mut() {
+                *byte = rng.byte();
+            }
+            half.extend(torn);
+        }
+        3 => {
+            half.resize(size - rng.below(10).min(size - half.len()), 0xFF);
+            half.extend(&last);
+            half.truncate(size);
+        }
+        4 => fill_to(rng, half, size),
+        _ => {}
+    }
+}
+
+/// Frames up to the half's very end, or a frame that is one byte too long for it.
+fn fill_to(rng: &mut Rng, half: &mut Vec<u8>, size: usize) {
+    let host = Host(rng.below(4) as u8);
+    while size - half.len() > 80 {
+        half.extend(frame::put(host, Id(1), &[0xFF; 64]));
+        half.extend(frame::commit(host));
+    }
+    let rest = size - half.len();
+    if rest >= 8 {
+        let value = (rest - 8 + rng.below(2)).min(64);
+        half.extend(frame::put(host, Id(2), &vec![0xFE; value]));
+        half.truncate(size);
+    }
+}
+
+/// One act of damage, where it is likely to matter.
+fn harm(rng: &mut Rng, image: &mut [u8]) {
+    let size = image.len() / 2;
+    let base = rng.below(2) * size;
+    let at = base + place(rng, &image[base..base + size]);
+    match rng.below(8) {
+        0 => image[at] ^= 1 << rng.below(8),
+        1 => image[at] &= rng.byte(),
+        2 => image[at] |= rng.byte(),
+        3 => image[at] = image[at].wrapping_add(rng.pick(&[1, 255])),
+        4 => image[at] = rng.pick(&[0x00, 0x01, 0x04, 0x06, 0x07, 0x08, 0x47, 0x48, 0x49, 0xFC, 0xFE, 0xFF]),
+        5 => image[at..base + size].fill(0xFF),
+        6 => image[base + half::TIME..base + half::STATE]
+            .copy_from_slice(&(!rng.pick(&[0, u32::MAX])).to_le_bytes()),
+        _ => image[at] = rng.byte(),
+    }
+}
+
+/// A place in a half: of the header, of a frame's fields, or any.
+fn place(rng: &mut Rng, half: &[u8]) -> usize {
+    match half::read(half) {
+        _ if rng.once_in(4) => rng.below(16),
+        Half::Valid(Journal { frames, .. }) if !frames.is_empty() && !rng.once_in(5) => {
+            let place = frames[rng.below(frames.len())].place.clone();
+            if rng.once_in(3) { place.end - 1 } else { place.start + rng.below(7) }.min(half.len() - 1)
+        }
+        _ => rng.below(half.len()),
+    }
+}

@@ -1,0 +1,11 @@
+//! Comparing the library with the model, and both with document 01's book.
+
+pub mod book;
+pub mod cuts;
+pub mod damage;
+pub mod generate;
+pub mod nor;
+pub mod rng;
+pub mod rounds;
+pub mod runs;
+pub mod twin;

@@ -1,0 +1,54 @@
+//! A NOR array that refuses to set bits other than by an erase.
+
+use model::job::Step;
+
+pub struct Nor(Vec<u8>);
+
+impl Nor {
+    pub fn new(bytes: &[u8]) -> Nor {
+        Nor(bytes.to_vec())
+    }
+
+    pub fn bytes(&self) -> &[u8] {
+        &self.0
+    }
+
+    pub fn load(&mut self, bytes: &[u8]) {
+        self.0.clear();
+        self.0.extend_from_slice(bytes);
+    }
+
+    pub fn make(&mut self, step: Step) {
+        match step {
+            Step::Erase { half } => {
+                let size = self.0.len() / 2;
+                self.0[half * size..][..size].fill(0xFF);
+            }
+            Step::Program { at, byte } => {
+                let old = self.0[at];
+                assert!(byte & !old == 0, "programming {byte:#04x} over {old:#04x} at {at} would set bits");
+                self.0[at] = byte;
+            }
+        }
+    }
+}
+
+#[cfg(test)]
+mod tests {
+    use super::*;
+
+    #[test]
+    fn clears_bits_and_erases() {
+        let mut nor = Nor::new(&[0xFF, 0xFE, 0x00, 0x00]);
+        nor.make(Step::Program { at: 1, byte: 0xFC });
+        nor.make(Step::Erase { half: 1 });
+        assert_eq!(nor.bytes(), [0xFF, 0xFC, 0xFF, 0xFF]);
+    }
+
+    /// 004's marks, valid 0xEE and then invalid 0xDD: that change sets two bits.
+    #[test]
+    #[should_panic(expected = "would set bits")]
+    fn refuses_to_set_bits() {
+        Nor::new(&[0xEE, 0xFF]).make(Step::Program { at: 0, byte: 0xDD });
+    }
+}

@@ -1,0 +1,286 @@
+//! Random runs from a finished format, held to the book at every idle record.
+
+use crate::book::{Book, Lists, found};
+use crate::cuts::{Allowed, Cuts, Start, newest, stuck};
+use crate::generate::{self, Manner, Wish};
+use crate::rng::Rng;
+use crate::twin::{Call, Outcome, Tally, Twin, UNWRITTEN};
+use model::half_of;
+use store::{Answer, Head, Idle, message};
+
+/// What a run is to be like.
+#[derive(Clone, Copy)]
+pub struct Plan {
+    pub seed: u64,
+    pub length: usize,
+    pub calls: usize,
+    /// The creation time that the formatted half is given.
+    pub time: u32,
+    /// One job in so many is cut; 0 for none.
+    pub cut_jobs: usize,
+    /// The most recoveries after such a job.
+    pub most_cuts: usize,
+    /// Whether the journal is filled nearly to its end first.
+    pub filled: bool,
+}
+
+struct Run {
+    twin: Twin,
+    book: Book,
+    rng: Rng,
+    manner: Manner,
+    cuts: Cuts,
+    cut_jobs: usize,
+    /// A format was accepted and has neither finished nor been followed by an accepted mount.
+    format_open: bool,
+    /// Steps that the job in hand has still to make, where document 01 gives their number.
+    due: Option<usize>,
+}
+
+/// Makes the run; gives how often each call got each answer, and the cuts.
+pub fn run(plan: Plan) -> (Tally, u64) {
+    let mut rng = Rng::new(plan.seed);
+    let mut run = Run {
+        twin: formatted_at(plan.length, plan.time),
+        book: Book::default(),
+        manner: Manner::new(&mut rng),
+        cuts: Cuts::new(plan.length, plan.most_cuts),
+        cut_jobs: 0,
+        format_open: false,
+        due: None,
+        rng,
+    };
+    if plan.filled {
+        run.fill();
+    }
+    run.cut_jobs = plan.cut_jobs;
+    for _ in 0..plan.calls {
+        run.act();
+    }
+    let mut tally = run.twin.tally;
+    tally.add(&run.cuts.twin.tally);
+    (tally, run.cuts.cuts)
+}
+
+fn formatted_at(length: usize, time: u32) -> Twin {
+    let mut twin = Twin::formatted(length);
+    let mut image = twin.image().to_vec();
+    image[4..8].copy_from_slice(&(!time).to_le_bytes());
+    twin.swap_image(&image);
+    twin
+}
+
+impl Run {
+    /// Puts of host 0 with a commit after each, until less than 300 bytes are left.
+    fn fill(&mut self) {
+        while self.twin.idle().is_some_and(|idle| usize::from(idle.end) + 300 < self.size()) {
+            let (id, value) = (self.rng.byte(), generate::value(&mut self.rng, 40));
+            for wish in [Wish::Put(id, value), Wish::Commit] {
+                self.wish(0, &wish);
+                self.steps(usize::MAX);
+            }
+        }
+    }
+
+    fn act(&mut self) {
+        match (self.twin.head(), self.rng.below(100)) {
+            (Head::Job, 0..=79) => self.steps(usize::MAX),
+            (Head::Job, 80..=89) => self.some_steps(),
+            (Head::Job, 90..=94) => self.any_request(),
+            (Head::Idle(_), 0..=1) => self.steps(1),
+            (Head::Idle(idle), 2..=13) => self.put_at_the_limit(idle),
+            (Head::Idle(_), 14..=96) => self.any_request(),
+            (Head::Unmounted, 0..=19) => self.any_request(),
+            (Head::Unmounted, 20..=24) => self.steps(1),
+            _ => self.restart(),
+        }
+    }
+
+    fn size(&self) -> usize {
+        self.twin.image().len() / 2
+    }
+
+    fn steps(&mut self, most: usize) {
+        for _ in 0..most {
+            if self.call(Call::Step).answer != Answer::MORE {
+                break;
+            }
+        }
+    }
+
+    fn some_steps(&mut self) {
+        let most = 1 + self.rng.below(60);
+        self.steps(most);
+    }
+
+    /// A mount, now and then a format; if a job is in hand, its power is cut.
+    fn restart(&mut self) {
+        let call = if self.rng.once_in(8) { Call::Format } else { Call::Mount };
+        self.call(call);
+    }
+
+    fn any_request(&mut self) {
+        let host = generate::host(&mut self.rng);
+        if self.rng.once_in(8) {
+            let message = generate::odd_message(&self.manner, &mut self.rng);
+            self.call(Call::Request { host, message, reply: 20 });
+        } else {
+            let wish = self.manner.wish(&mut self.rng);
+            self.wish(host, &wish);
+        }
+    }
+
+    /// The longest put that the room rule takes, or the next longer one.
+    fn put_at_the_limit(&mut self, idle: Idle) {
+        let host = self.rng.below(4);
+        let taken = self.book.claimed() + 8 + 6 * self.book.open(host) + 14;
+        let free = (idle.length / 2).saturating_sub(taken) + self.rng.below(2);
+        let value = generate::value(&mut self.rng, free.min(64));
+        let id = self.manner.id(&mut self.rng);
+        self.wish(host as u8, &Wish::Put(id, value));
+    }
+
+    /// A well-formed request, whose answer and number of steps the book and document 01 tell beforehand.
+    fn wish(&mut self, host: u8, wish: &Wish) {
+        let reply = self.rng.pick(&[0, 13, 14, 20, 20, 20]);
+        let (expected, steps) = self.expected(host, wish, reply);
+        let outcome = self.call(Call::Request { host, message: wish.message(), reply });
+        assert_eq!(outcome.answer, expected, "host {host}, {wish:?}");
+        if expected == Answer::MORE {
+            self.due = Some(steps);
+        }
+        self.check_reply(wish, &outcome);
+    }
+
+    fn expected(&self, host: u8, wish: &Wish, reply: usize) -> (Answer, usize) {
+        match self.twin.head() {
+            _ if host > 3 => (Answer::HOST, 0),
+            Head::Job => (Answer::BUSY, 0),
+            Head::Unmounted => (Answer::NO_STORE, 0),
+            Head::Idle(idle) => self.expected_of_idle(idle, usize::from(host), wish, reply),
+        }
+    }
+
+    fn expected_of_idle(&self, idle: Idle, host: usize, wish: &Wish, reply: usize) -> (Answer, usize) {
+        let taken = self.book.claimed() + 6 * self.book.open(host);
+        let (frame, room) = match wish {
+            Wish::Read(id) if self.book.objects.contains_key(id) => return (Answer::DONE, 0),
+            Wish::Read(_) => return (Answer::NO_OBJECT, 0),
+            Wish::Log if reply < message::PAGE => return (Answer::SHORT_REPLY, 0),
+            Wish::Log => return (Answer::DONE, 0),
+            Wish::Commit | Wish::Abort if self.book.lists[host].is_empty() => return (Answer::DONE, 0),
+            Wish::Commit | Wish::Abort => (6, true),
+            Wish::Put(_, value) => (8 + value.len(), taken + 8 + value.len() + 14 <= self.size()),
+            Wish::Delete(_) => (8, taken + 8 <= self.size()),
+        };
+        let transfer = usize::from(idle.end) + frame > self.size();
+        if !room {
+            (Answer::ROOM, 0)
+        } else if transfer && newest(self.twin.image()) == Some(u32::MAX) {
+            (Answer::LAST_TIME, 0)
+        } else {
+            (Answer::MORE, frame + if transfer { self.book.claimed() - 5 } else { 0 })
+        }
+    }
+
+    /// The log page holds the book's count and U; nothing else writes to the reply.
+    fn check_reply(&self, wish: &Wish, outcome: &Outcome) {
+        let mut expected = vec![UNWRITTEN; outcome.reply.len()];
+        if *wish == Wish::Log && outcome.answer == Answer::DONE {
+            let time = newest(self.twin.image()).expect("a valid half");
+            let short = |number: usize| (number as u16).to_le_bytes();
+            let numbers = [short(self.book.objects.len()), short(self.book.used()), short(self.size())];
+            let page = [&[14, 0, 1, 2][..], &time.to_le_bytes(), &numbers.concat()].concat();
+            expected[..message::PAGE].copy_from_slice(&page);
+        }
+        assert_eq!(outcome.reply, expected);
+    }
+
+    /// Every call of the run goes through here.
+    fn call(&mut self, call: Call) -> Outcome {
+        let busy = self.twin.busy();
+        let idle = self.twin.idle();
+        let outcome = self.twin.call(&call);
+        self.check_available(&call, outcome.answer, busy);
+        if outcome.answer == Answer::MORE && call != Call::Step {
+            self.cut_job(idle, &call);
+        }
+        self.book.feed(&call, outcome.answer);
+        self.count_steps(&call, outcome.answer, busy);
+        if let Some(idle) = self.twin.idle() {
+            self.check_book(idle);
+        }
+        outcome
+    }
+
+    /// What holds of every run beyond the letter of demand 3: the store stays there.
+    fn check_available(&mut self, call: &Call, answer: Answer, busy: bool) {
+        match (call, answer) {
+            (Call::Format, _) => assert_eq!(answer, Answer::MORE),
+            (Call::Mount, Answer::NO_STORE) => assert!(self.format_open, "the store is gone"),
+            (Call::Mount, Answer::LAST_TIME) => assert!(stuck(self.twin.image())),
+            (Call::Mount, _) => assert!(!answer.refused(), "mount answered {answer}"),
+            _ => assert!(
+                ![Answer::LENGTH, Answer::FOREIGN, Answer::CHANGED].contains(&answer),
+                "{call} got {answer}"
+            ),
+        }
+        match call {
+            Call::Format => self.format_open = true,
+            Call::Mount if !answer.refused() => self.format_open = false,
+            Call::Step if busy && answer == Answer::DONE => self.format_open = false,
+            _ => {}
+        }
+    }
+
+    /// The job's steps are as many as document 01 says.
+    fn count_steps(&mut self, call: &Call, answer: Answer, busy: bool) {
+        match call {
+            Call::Format => self.due = Some(12),
+            Call::Mount => self.due = None,
+            Call::Request { .. } if answer == Answer::MORE => self.due = None,
+            Call::Step if busy => {
+                self.due = self.due.map(|due| due.checked_sub(1).expect("more steps than due"));
+                assert!(answer == Answer::MORE || self.due.is_none_or(|due| due == 0), "fewer steps than due");
+            }
+            _ => {}
+        }
+    }
+
+    fn check_book(&mut self, idle: Idle) {
+        let (objects, lists) = found(half_of(self.twin.image(), usize::from(idle.half)));
+        assert_eq!(objects, self.book.objects, "replay's objects are not the book's");
+        assert_eq!(lists, self.book.lists, "replay's lists are not the book's");
+        if lists == Lists::default() {
+            assert!(self.book.used() + 14 <= self.size(), "U + 14 exceeds S though nothing is pending");
+        }
+        if self.rng.once_in(100) {
+            (0..=255).for_each(|id| self.check_read(id));
+        } else {
+            let id = self.manner.id(&mut self.rng);
+            self.check_read(id);
+        }
+    }
+
+    fn check_read(&mut self, id: u8) {
+        assert_eq!(self.twin.value(id).as_ref(), self.book.objects.get(&id), "read of {id}");
+    }
+
+    fn cut_job(&mut self, idle: Option<Idle>, call: &Call) {
+        if self.cut_jobs == 0 || !self.rng.once_in(self.cut_jobs) {
+            return;
+        }
+        let objects = self.book.objects.clone();
+        let idle = if matches!(call, Call::Request { .. }) { idle } else { None };
+        let start = Start { image: self.twin.image(), idle, call };
+        match call {
+            // A format that follows a cut format may find the store gone already.
+            Call::Format => self.cuts.of_job(&start, Allowed::OrEmptyOrGone(&objects), &Default::default()),
+            Call::Request { host, message, .. } if message[..4] == message::commit() => {
+                let after = self.book.committed(usize::from(*host));
+                self.cuts.of_job(&start, Allowed::Exactly(&objects), &after);
+            }
+            _ => self.cuts.of_job(&start, Allowed::Exactly(&objects), &objects),
+        }
+    }
+}

@@ -1,0 +1,358 @@
+//! The model and, where it is linked, the library, given the same calls: whatever anyone can see of them must agree.
+
+use crate::nor::Nor;
+use library::Library;
+use model::{Model, Record};
+use std::collections::BTreeMap;
+use std::fmt;
+use store::{Answer, Head, Idle, Store, Stretch, hex, message};
+
+#[derive(Clone, PartialEq, Eq, Debug)]
+pub enum Call {
+    Mount,
+    Format,
+    Step,
+    Request { host: u8, message: Vec<u8>, reply: usize },
+    Read { host: u8, message: Vec<u8> },
+}
+
+impl Call {
+    fn name(&self) -> &'static str {
+        match self {
+            Call::Mount => "mount",
+            Call::Format => "format",
+            Call::Step => "step",
+            Call::Request { .. } => "request",
+            Call::Read { .. } => "read",
+        }
+    }
+}
+
+/// The call as a line for `desk replay`.
+impl fmt::Display for Call {
+    fn fmt(&self, f: &mut fmt::Formatter) -> fmt::Result {
+        let bytes = |message: &[u8]| if message.is_empty() { "-".to_string() } else { hex::show(message) };
+        match self {
+            Call::Request { host, message, reply } => write!(f, "req {host} {} {reply}", bytes(message)),
+            Call::Read { host, message } => write!(f, "read {host} {}", bytes(message)),
+            other => f.write_str(other.name()),
+        }
+    }
+}
+
+#[derive(Clone, PartialEq, Eq, Debug)]
+pub struct Outcome {
+    pub answer: Answer,
+    pub reply: Vec<u8>,
+    pub stretch: Stretch,
+}
+
+/// What a lent reply holds before the call.
+pub const UNWRITTEN: u8 = 0x5A;
+
+/// How often each call got each answer.
+#[derive(Default)]
+pub struct Tally(BTreeMap<(&'static str, u8), u64>);
+
+impl Tally {
+    pub fn add(&mut self, other: &Tally) {
+        for (key, count) in &other.0 {
+            *self.0.entry(*key).or_default() += count;
+        }
+    }
+
+    pub fn of(&self, call: &'static str, answer: Answer) -> u64 {
+        self.0.get(&(call, answer.0)).copied().unwrap_or(0)
+    }
+
+    pub fn calls(&self) -> u64 {
+        self.0.values().sum()
+    }
+}
+
+impl fmt::Display for Tally {
+    fn fmt(&self, f: &mut fmt::Formatter) -> fmt::Result {
+        for ((call, answer), count) in &self.0 {
+            writeln!(f, "  {call:8} {:>4}  {count}", Answer(*answer).to_string())?;
+        }
+        Ok(())
+    }
+}
+
+/// One store with its own copy of the image.
+struct Side<S: Store> {
+    store: S,
+    image: Vec<u8>,
+    record: S::Record,
+}
+
+impl<S: Store> Side<S> {
+    fn new(store: S, image: &[u8]) -> Side<S> {
+        Side { record: store.unmounted(), image: image.to_vec(), store }
+    }
+
+    fn load(&mut self, image: &[u8]) {
+        self.image.clear();
+        self.image.extend_from_slice(image);
+        self.record = self.store.unmounted();
+    }
+
+    fn head(&self) -> Head {
+        self.store.head(&self.record)
+    }
+
+    /// Makes the call. A refusal must leave the record as it is; mount and format take none.
+    fn call(&mut self, call: &Call) -> Outcome {
+        let mut outcome = Outcome { answer: Answer::DONE, reply: Vec::new(), stretch: Stretch::default() };
+        match call {
+            Call::Mount => (outcome.answer, self.record) = self.store.mount(&self.image),
+            Call::Format => (outcome.answer, self.record) = self.store.format(&self.image),
+            Call::Step => outcome.answer = self.store.step(&mut self.image, &mut self.record),
+            Call::Request { host, message, reply } => {
+                let before = self.record.clone();
+                outcome.reply = vec![UNWRITTEN; *reply];
+                outcome.answer =
+                    self.store.request(&self.image, &mut self.record, *host, message, &mut outcome.reply);
+                let kept = outcome.answer == Answer::MORE || self.record == before;
+                assert!(kept, "request answered {} and changed the record", outcome.answer);
+            }
+            Call::Read { host, message } => {
+                (outcome.answer, outcome.stretch) = self.store.read(&self.image, &self.record, *host, message);
+            }
+        }
+        outcome
+    }
+}
+
+pub struct Twin {
+    model: Side<Model>,
+    library: Option<Side<Library>>,
+    nor: Nor,
+    /// Where the job began: its image, the record before, the call; and the steps made since.
+    job: Option<(Vec<u8>, Head, Call)>,
+    steps: usize,
+    pub tally: Tally,
+}
+
+impl Twin {
+    /// An image with an unmounted record.
+    pub fn new(image: &[u8]) -> Twin {
+        Twin {
+            model: Side::new(Model, image),
+            library: library::linked().map(|library| Side::new(library, image)),
+            nor: Nor::new(image),
+            job: None,
+            steps: 0,
+            tally: Tally::default(),
+        }
+    }
+
+    pub fn blank(length: usize) -> Twin {
+        Twin::new(&vec![0xFF; length])
+    }
+
+    /// A blank image, formatted.
+    pub fn formatted(length: usize) -> Twin {
+        let mut twin = Twin::blank(length);
+        assert_eq!(twin.whole(&Call::Format), (Answer::DONE, 12));
+        twin
+    }
+
+    /// Another image with an unmounted record, as after a power cut.
+    pub fn load(&mut self, image: &[u8]) {
+        self.model.load(image);
+        if let Some(library) = &mut self.library {
+            library.load(image);
+        }
+        self.nor.load(image);
+        self.job = None;
+    }
+
+    pub fn forge(&mut self, idle: Idle) {
+        self.model.record = Record::Idle(idle);
+        if let Some(library) = &mut self.library {
+            library.record = library.store.idle(idle);
+        }
+    }
+
+    pub fn unmount(&mut self) {
+        self.model.record = Record::Unmounted;
+        if let Some(library) = &mut self.library {
+            library.record = library.store.unmounted();
+        }
+    }
+
+    /// Replaces the image under whatever record there is.
+    pub fn swap_image(&mut self, image: &[u8]) {
+        self.model.image = image.to_vec();
+        if let Some(library) = &mut self.library {
+            library.image = image.to_vec();
+        }
+        self.nor.load(image);
+    }
+
+    pub fn image(&self) -> &[u8] {
+        self.nor.bytes()
+    }
+
+    pub fn head(&self) -> Head {
+        self.model.head()
+    }
+
+    pub fn idle(&self) -> Option<Idle> {
+        match self.head() {
+            Head::Idle(idle) => Some(idle),
+            _ => None,
+        }
+    }
+
+    pub fn busy(&self) -> bool {
+        self.head() == Head::Job
+    }
+
+    /// How many steps the job in hand has left.
+    pub fn steps_left(&self) -> usize {
+        match &self.model.record {
+            Record::Job(job) => job.steps(),
+            _ => 0,
+        }
+    }
+
+    pub fn call(&mut self, call: &Call) -> Outcome {
+        let before = self.head();
+        if *call == Call::Step {
+            self.step_on_nor();
+        }
+        let outcome = self.model.call(call);
+        if self.nor.bytes() != self.model.image {
+            self.fail("the model's image is not what its steps make", before, call);
+        }
+        self.compare(call, &outcome, before);
+        *self.tally.0.entry((call.name(), outcome.answer.0)).or_default() += 1;
+        self.remember(call, before, outcome.answer);
+        outcome
+    }
+
+    fn step_on_nor(&mut self) {
+        match &self.model.record {
+            Record::Job(job) if job.length() == self.nor.bytes().len() => self.nor.make(job.next()),
+            _ => {}
+        }
+    }
+
+    fn compare(&mut self, call: &Call, expected: &Outcome, before: Head) {
+        let head = self.head();
+        let Some(library) = &mut self.library else {
+            return;
+        };
+        let outcome = library.call(call);
+        let found = library.head();
+        let difference = if outcome != *expected {
+            format!("the library gave {outcome:?}, the model {expected:?}")
+        } else if found != head {
+            format!("the library's record says {found:?}, the model's {head:?}")
+        } else if !tidy(library) {
+            "the library's record has bytes set that it does not use".to_string()
+        } else if library.image != self.nor.bytes() {
+            "the library's image differs from the model's".to_string()
+        } else {
+            return;
+        };
+        self.fail(&difference, before, call);
+    }
+
+    fn remember(&mut self, call: &Call, before: Head, answer: Answer) {
+        if *call == Call::Step {
+            self.steps += 1;
+        } else if answer == Answer::MORE {
+            self.job = Some((self.image().to_vec(), before, call.clone()));
+            self.steps = 0;
+        }
+    }
+
+    /// Panics with a script that shows the difference in `desk replay`.
+    fn fail(&self, what: &str, before: Head, call: &Call) -> ! {
+        let script = match (&self.job, before) {
+            (Some((image, head, begin)), Head::Job) => {
+                let steps = if self.steps > 0 { format!("step {}\n", self.steps) } else { String::new() };
+                format!("{}{begin}\n{steps}", setting(image, *head))
+            }
+            _ => setting(self.image(), before),
+        };
+        panic!("{what}\n{script}{call}\nrecord\ndump");
+    }
+
+    pub fn step(&mut self) -> Answer {
+        self.call(&Call::Step).answer
+    }
+
+    /// Steps until the answer is no longer "more".
+    pub fn finish(&mut self) -> (Answer, usize) {
+        let mut steps = 0;
+        while self.busy() {
+            let answer = self.step();
+            if answer.refused() {
+                return (answer, steps);
+            }
+            steps += 1;
+        }
+        (Answer::DONE, steps)
+    }
+
+    /// The call and all its steps: the last answer and their number.
+    pub fn whole(&mut self, call: &Call) -> (Answer, usize) {
+        match self.call(call).answer {
+            Answer::MORE => self.finish(),
+            answer => (answer, 0),
+        }
+    }
+
+    pub fn ask(&mut self, host: u8, message: &[u8]) -> Answer {
+        self.call(&Call::Request { host, message: message.to_vec(), reply: message::PAGE }).answer
+    }
+
+    /// A request and all its steps.
+    pub fn serve(&mut self, host: u8, message: &[u8]) -> (Answer, usize) {
+        self.whole(&Call::Request { host, message: message.to_vec(), reply: message::PAGE })
+    }
+
+    /// The settled value of an object, as host 0 reads it.
+    pub fn value(&mut self, id: u8) -> Option<Vec<u8>> {
+        let Outcome { answer, stretch, .. } = self.call(&Call::Read { host: 0, message: message::read(id) });
+        match answer {
+            Answer::DONE => Some(stretch.of(self.image()).to_vec()),
+            Answer::NO_OBJECT => None,
+            refusal => panic!("read of {id} answered {refusal}"),
+        }
+    }
+
+    /// The ids that read finds.
+    pub fn ids(&mut self) -> Vec<u8> {
+        (0..=255).filter(|id| self.value(*id).is_some()).collect()
+    }
+
+    /// Log page 1.
+    pub fn log(&mut self) -> Vec<u8> {
+        let call = Call::Request { host: 0, message: message::log(), reply: message::PAGE };
+        let outcome = self.call(&call);
+        assert_eq!(outcome.answer, Answer::DONE);
+        outcome.reply
+    }
+}
+
+/// Whether an unmounted or idle record of the library has zeros wherever it uses none.
+fn tidy(library: &Side<Library>) -> bool {
+    match library.head() {
+        Head::Unmounted => library.record == library.store.unmounted(),
+        Head::Idle(idle) => library.record == library.store.idle(idle),
+        Head::Job => true,
+    }
+}
+
+fn setting(image: &[u8], head: Head) -> String {
+    let record = match head {
+        Head::Idle(Idle { length, half, end }) => format!("idle {length} {half} {end}\n"),
+        _ => String::new(),
+    };
+    format!("image {}\n{record}", hex::show(image))
+}

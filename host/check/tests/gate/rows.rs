@@ -1,0 +1,238 @@
+//! Document 01's bench rows: S = 256, each value as the table has it.
+
+use check::twin::{Call, Outcome, Twin};
+use store::{Answer, Head, Idle, Stretch, hex, message};
+
+const S: usize = 256;
+
+fn bytes(text: &str) -> Vec<u8> {
+    hex::parse(text).expect("hex")
+}
+
+fn done(steps: usize) -> (Answer, usize) {
+    (Answer::DONE, steps)
+}
+
+fn after_a() -> Twin {
+    Twin::formatted(2 * S)
+}
+
+fn after_b() -> Twin {
+    let mut twin = after_a();
+    assert_eq!(twin.serve(2, &bytes("08 00 01 01 05 00 41 42")), done(10));
+    twin
+}
+
+fn after_c() -> Twin {
+    let mut twin = after_b();
+    assert_eq!(twin.serve(2, &bytes("04 00 03 01")), done(6));
+    twin
+}
+
+/// Row i, the value of id 3 with `last` bytes.
+fn after_puts(last: usize) -> Twin {
+    let mut twin = after_a();
+    for (id, size) in [(1, 64), (2, 64), (3, last)] {
+        assert_eq!(twin.serve(0, &message::put(id, &vec![id; size])), done(8 + size));
+    }
+    twin
+}
+
+fn after_i() -> Twin {
+    after_puts(64)
+}
+
+/// Row l up to its put.
+fn before_l() -> Twin {
+    let mut twin = after_i();
+    assert_eq!(twin.serve(0, &message::commit()), done(6));
+    assert_eq!(twin.serve(0, &message::delete(1)), done(8));
+    assert_eq!(twin.serve(0, &message::commit()), done(6));
+    twin
+}
+
+fn empty_put_to_4() -> Vec<u8> {
+    message::put(4, &[])
+}
+
+fn idle(half: u8, end: u16) -> Head {
+    Head::Idle(Idle { length: 2 * S, half, end })
+}
+
+/// A half that begins with these bytes and is 0xFF after them.
+fn half(start: &str) -> Vec<u8> {
+    let mut half = bytes(start);
+    half.resize(S, 0xFF);
+    half
+}
+
+/// Power cut and mount: answer and steps.
+fn cut_and_mount(twin: &mut Twin) -> (Answer, usize) {
+    let image = twin.image().to_vec();
+    twin.load(&image);
+    twin.whole(&Call::Mount)
+}
+
+const EMPTY: &str = "10 00 01 4A FE FF FF FF FC";
+const WITH_B: &str = "10 00 01 4A FE FF FF FF FC FF FF FF FF FF FF FF 0A 00 01 00 02 05 00 41 42 FE";
+const WITH_C: &str =
+    "10 00 01 4A FE FF FF FF FC FF FF FF FF FF FF FF 0A 00 01 00 02 05 00 41 42 FE 06 00 03 00 02 FE";
+
+#[test]
+fn a_format() {
+    let mut twin = Twin::blank(2 * S);
+    assert_eq!(twin.call(&Call::Format).answer, Answer::MORE);
+    for _ in 0..11 {
+        assert_eq!(twin.step(), Answer::MORE);
+    }
+    assert_eq!(twin.step(), Answer::DONE);
+    assert_eq!(twin.image(), [half(EMPTY), half("")].concat());
+    assert_eq!(twin.head(), idle(0, 16));
+}
+
+#[test]
+fn b_put() {
+    let twin = after_b();
+    assert_eq!(twin.image(), [half(WITH_B), half("")].concat());
+    assert_eq!(twin.head(), idle(0, 26));
+}
+
+#[test]
+fn c_commit() {
+    let twin = after_c();
+    assert_eq!(twin.image(), [half(WITH_C), half("")].concat());
+    assert_eq!(twin.head(), idle(0, 32));
+}
+
+#[test]
+fn d_read() {
+    let mut twin = after_c();
+    let message = bytes("06 00 05 01 05 00");
+    let Outcome { answer, stretch, .. } = twin.call(&Call::Read { host: 1, message: message.clone() });
+    assert_eq!((answer, stretch), (Answer::DONE, Stretch { at: 23, len: 2 }));
+    assert_eq!(twin.ask(1, &message), Answer::DONE);
+}
+
+#[test]
+fn e_log() {
+    let mut twin = after_c();
+    let call = Call::Request { host: 3, message: bytes("05 00 06 01 01"), reply: 14 };
+    let outcome = twin.call(&call);
+    assert_eq!(outcome.answer, Answer::DONE);
+    assert_eq!(outcome.reply, bytes("0E 00 01 02 01 00 00 00 01 00 19 00 00 01"));
+}
+
+#[test]
+fn f_cut_with_a_put_pending() {
+    let mut twin = after_b();
+    assert_eq!(cut_and_mount(&mut twin), done(11));
+    assert_eq!(twin.image(), [half(""), half("10 00 01 4A FD FF FF FF FC")].concat());
+    assert_eq!(twin.head(), idle(1, 16));
+    assert_eq!(twin.log()[4..10], [2, 0, 0, 0, 0, 0]);
+    assert_eq!(twin.ids(), []);
+}
+
+#[test]
+fn g_cut_before_the_finish_byte() {
+    let mut twin = after_b();
+    assert_eq!(twin.ask(2, &message::commit()), Answer::MORE);
+    for _ in 0..5 {
+        assert_eq!(twin.step(), Answer::MORE);
+    }
+    assert_eq!(cut_and_mount(&mut twin), done(11));
+    assert_eq!(twin.ids(), []);
+}
+
+#[test]
+fn h_cut_after_the_finish_byte() {
+    let mut twin = after_c();
+    assert_eq!(cut_and_mount(&mut twin), done(0));
+    assert_eq!(twin.ids(), [5]);
+    assert_eq!(twin.value(5), Some(b"AB".to_vec()));
+}
+
+/// All frames are pending, so C is where they end. A delete still fits at C = 232 and 240 (254), not at 248 (262).
+#[test]
+fn i_three_long_values() {
+    let mut twin = after_i();
+    assert_eq!(twin.head(), idle(0, 232));
+    assert_eq!(twin.serve(0, &message::delete(9)), done(8));
+    assert_eq!(twin.serve(0, &message::delete(9)), done(8));
+    assert_eq!(twin.ask(0, &message::delete(9)), Answer::ROOM);
+}
+
+#[test]
+fn j_no_room() {
+    assert_eq!(after_i().ask(0, &empty_put_to_4()), Answer::ROOM);
+}
+
+#[test]
+fn k_no_room_by_one_byte() {
+    let mut twin = after_i();
+    assert_eq!(twin.serve(0, &message::commit()), done(6));
+    assert_eq!(twin.ask(0, &empty_put_to_4()), Answer::ROOM);
+
+    let mut twin = after_puts(63);
+    assert_eq!(twin.serve(0, &message::commit()), done(6));
+    assert_eq!(twin.ask(0, &empty_put_to_4()), Answer::MORE);
+}
+
+#[test]
+fn l_put_with_a_transfer() {
+    let mut twin = before_l();
+    assert_eq!(twin.head(), idle(0, 252));
+    assert_eq!(twin.serve(0, &empty_put_to_4()), done(161));
+    assert_eq!(twin.head(), idle(1, 166));
+
+    let settled = |id: u8| [vec![0x47, 0, 5, 0, id, 0], vec![id; 64], vec![0xFE]].concat();
+    let header = bytes("10 00 01 4A FD FF FF FF FC FF FF FF FF FF FF FF");
+    let mut written = [header, settled(2), settled(3), bytes("08 00 01 00 00 04 00 FE")].concat();
+    written.resize(S, 0xFF);
+    assert_eq!(twin.image(), [half(""), written].concat());
+}
+
+#[test]
+fn m_cut_before_and_after_the_new_half_counts() {
+    for cut in [151, 152] {
+        let mut twin = before_l();
+        assert_eq!(twin.ask(0, &empty_put_to_4()), Answer::MORE);
+        for _ in 0..cut {
+            assert_eq!(twin.step(), Answer::MORE);
+        }
+        assert_eq!(cut_and_mount(&mut twin), done(1));
+        assert_eq!(twin.ids(), [2, 3]);
+    }
+}
+
+#[test]
+fn n_wrong_length() {
+    assert_eq!(after_a().ask(0, &bytes("05 00 03 01")), Answer::MALFORMED);
+}
+
+#[test]
+fn o_limits() {
+    let put =
+        |id: u16, size: usize| message::message(message::PUT, &[&id.to_le_bytes()[..], &vec![7; size]].concat());
+    let answer = |host: u8, message: &[u8]| after_a().ask(host, message);
+    assert_eq!(answer(0, &put(255, 2)), Answer::MORE);
+    assert_eq!(answer(0, &put(256, 2)), Answer::MALFORMED);
+    assert_eq!(answer(0, &put(1, 64)), Answer::MORE);
+    assert_eq!(answer(0, &put(1, 65)), Answer::MALFORMED);
+    assert_eq!(answer(3, &put(1, 2)), Answer::MORE);
+    assert_eq!(answer(4, &put(1, 2)), Answer::HOST);
+}
+
+#[test]
+fn p_image_lengths() {
+    for length in [512, 768, 65_536] {
+        assert_eq!(Twin::blank(length).call(&Call::Format).answer, Answer::MORE);
+        assert_eq!(Twin::blank(length).call(&Call::Mount).answer, Answer::NO_STORE);
+    }
+    for length in [0, 1, 256, 511, 513, 640, 65_535, 65_537, 65_792, 131_072] {
+        for call in [Call::Format, Call::Mount] {
+            let mut twin = Twin::blank(length);
+            assert_eq!(twin.call(&call).answer, Answer::LENGTH);
+            assert_eq!(twin.head(), Head::Unmounted);
+        }
+    }
+}

@@ -1,0 +1,239 @@
+//! The program itself, run on scripts.
+
+use std::io::Write;
+use std::process::{Command, Output, Stdio};
+
+const TICKETS: &str = concat!(env!("CARGO_MANIFEST_DIR"), "/../../examples/tickets");
+
+fn desk(arguments: &[&str], input: &[u8]) -> Output {
+    let mut child = Command::new(env!("CARGO_BIN_EXE_desk"))
+        .args(arguments)
+        .stdin(Stdio::piped())
+        .stdout(Stdio::piped())
+        .stderr(Stdio::piped())
+        .spawn()
+        .expect("desk starts");
+    child.stdin.take().expect("a pipe").write_all(input).expect("desk reads");
+    child.wait_with_output().expect("desk ends")
+}
+
+fn replay(script: &[u8]) -> String {
+    let output = desk(&["replay"], script);
+    assert!(output.status.success());
+    String::from_utf8(output.stdout).expect("text")
+}
+
+/// Lines with the answers that each must get.
+fn check(pairs: &[(&str, &str)]) {
+    let script: Vec<&str> = pairs.iter().map(|(line, _)| *line).collect();
+    let output = replay(script.join("\n").as_bytes());
+    let answers: Vec<&str> = output.lines().collect();
+    for ((line, expected), answer) in pairs.iter().zip(&answers) {
+        assert_eq!(answer, expected, "{line}");
+    }
+    assert_eq!(answers.len(), pairs.len());
+}
+
+fn put_of(id: u8, size: usize) -> String {
+    format!("req 0 {:02x}000101{id:02x}00{} 0", 6 + size, "aa".repeat(size))
+}
+
+#[test]
+fn rows_a_to_h() {
+    let half = |start: &str| format!("{start}{}", "ff".repeat(256 - start.len() / 2));
+    let image = |start: &str| format!("image={}{}", half(start), half(""));
+    let header = "1000014afefffffffc";
+    let put = "ffffffffffffff0a0001000205004142fe";
+    check(&[
+        ("new 512", "ok"),
+        ("format", "more"),
+        ("run", "0 steps=12"),
+        ("dump", &image(header)),
+        ("req 2 0800010105004142 0", "more"),
+        ("run", "0 steps=10"),
+        ("dump", &image(&format!("{header}{put}"))),
+        ("req 2 04000301 0", "more"),
+        ("run", "0 steps=6"),
+        ("dump", &image(&format!("{header}{put}0600030002fe"))),
+        ("record", "idle len=512 half=0 end=32"),
+        ("read 1 060005010500", "0 at=23 len=2"),
+        ("req 1 0500060101 14", "0 reply=0e00010201000000010019000001"),
+        ("mount", "0"),
+        ("run", "0 steps=0"),
+        ("read 1 060005010500", "0 at=23 len=2"),
+        (&image(&format!("{header}{put}")).replace('=', " "), "ok"),
+        ("mount", "more"),
+        ("run", "0 steps=11"),
+        ("read 1 060005010500", "8"),
+        ("record", "idle len=512 half=1 end=16"),
+        (&image(&format!("{header}{put}0600030002")).replace('=', " "), "ok"),
+        ("mount", "more"),
+        ("run", "0 steps=11"),
+        ("read 1 060005010500", "8"),
+    ]);
+}
+
+#[test]
+fn rows_i_to_m() {
+    let (first, second, third) = (put_of(1, 64), put_of(2, 64), put_of(3, 64));
+    let before_l = [
+        ("new 512", "ok"),
+        ("format", "more"),
+        ("run", "0 steps=12"),
+        (&first, "more"),
+        ("run", "0 steps=72"),
+        (&second, "more"),
+        ("run", "0 steps=72"),
+        (&third, "more"),
+        ("run", "0 steps=72"),
+        ("record", "idle len=512 half=0 end=232"),
+        ("req 0 060001010400 0", "7"),
+        ("req 0 04000301 0", "more"),
+        ("run", "0 steps=6"),
+        ("req 0 060001010400 0", "7"),
+        ("req 0 060002010100 0", "more"),
+        ("run", "0 steps=8"),
+        ("req 0 04000301 0", "more"),
+        ("run", "0 steps=6"),
+        ("record", "idle len=512 half=0 end=252"),
+        ("req 0 060001010400 0", "more"),
+    ];
+    check(&[&before_l[..], &[("run", "0 steps=161"), ("record", "idle len=512 half=1 end=166")]].concat());
+    let old = [
+        ("step 151", "more"),
+        ("record", "idle len=512 half=0 end=252"),
+        ("read 0 060005010200", "0 at=95 len=64"),
+    ];
+    let new = [
+        ("step 152", "more"),
+        ("record", "idle len=512 half=1 end=158"),
+        ("read 0 060005010200", "0 at=278 len=64"),
+    ];
+    for [cut, record, read] in [old, new] {
+        let mount = [cut, ("mount", "more"), ("run", "0 steps=1"), record, ("read 0 060005010100", "8"), read];
+        check(&[&before_l[..], &mount].concat());
+    }
+}
+
+#[test]
+fn rows_n_to_p() {
+    let (most, too_many) = (put_of(255, 64), put_of(255, 65));
+    check(&[
+        ("new 512", "ok"),
+        ("format", "more"),
+        ("run", "0 steps=12"),
+        ("req 0 05000301 0", "1"),
+        ("req 0 060001010001 0", "1"),
+        (&too_many, "1"),
+        ("req 4 060001010100 0", "10"),
+        ("req 3 060001010100 0", "more"),
+        (&most, "5"),
+        ("run", "0 steps=8"),
+        (&most, "more"),
+        ("new 768", "ok"),
+        ("format", "more"),
+        ("new 65536", "ok"),
+        ("format", "more"),
+        ("new 256", "ok"),
+        ("format", "4"),
+        ("new 511", "ok"),
+        ("mount", "4"),
+    ]);
+}
+
+#[test]
+fn lines_that_cannot_be_read() {
+    check(&[
+        ("mount", "4"),
+        ("dump", "image=-"),
+        ("nothing", "? line 3: no call is named nothing"),
+        ("mount now", "? line 4: mount stands alone"),
+        ("req 0 04000301", "? line 5: req goes with HOST HEX LEN"),
+        ("req 256 04000301 0", "? line 6: 256 is more than 255"),
+        ("req -1 04000301 0", "? line 7: -1 is no number"),
+        ("req 0 0400030 0", "? line 8: bytes are hex digits, two a byte, or - for none"),
+        ("req 0 0400030g 0", "? line 9: bytes are hex digits, two a byte, or - for none"),
+        ("step 0", "? line 10: 0 is less than 1"),
+        ("new 1048577", "? line 11: 1048577 is more than 1048576"),
+        ("new 99999999999999999999", "? line 12: 99999999999999999999 is too large"),
+        ("poke 0 00", "? line 13: the image has only 0 bytes"),
+        ("poke 18446744073709551615 00", "? line 14: the image has only 0 bytes"),
+        ("idle 0 0 0", "? line 15: 0 is less than 1"),
+        ("idle 65536 255 65535", "ok"),
+        ("record", "idle len=65536 half=255 end=65535"),
+        ("idle 65537 0 0", "? line 18: 65537 is more than 65536"),
+        ("record", "idle len=65536 half=255 end=65535"),
+        ("unmount", "ok"),
+        ("record", "unmounted"),
+    ]);
+}
+
+#[test]
+fn comments_blank_lines_and_line_ends() {
+    assert_eq!(replay(b"# a\n\n   \t\r\n  # b\r\nnew 2\r\n\tdump  \nrecord"), "ok\nimage=ffff\nunmounted\n");
+    assert_eq!(replay(b"\xFF\xFE\nnew 1\n"), "? line 1: not text\nok\n");
+    assert_eq!(replay(b""), "");
+}
+
+#[test]
+fn pokes_and_forged_records() {
+    check(&[
+        ("new 512", "ok"),
+        ("format", "more"),
+        ("step", "more"),
+        ("step 10", "more"),
+        ("record", "job"),
+        ("req 0 - 0", "5"),
+        ("step 5", "0"),
+        ("step 5", "0"),
+        ("req 0 - 0", "1"),
+        ("req 0 0500060101 13", "9"),
+        ("req 0 0500060101 16", "0 reply=0e000102010000000000100000010000"),
+        ("idle 512 0 17", "ok"),
+        ("req 0 - 0", "11"),
+        ("read 0 060005010100", "11"),
+        ("idle 512 0 16", "ok"),
+        ("read 0 060005010100", "8"),
+        ("poke 511 fe", "ok"),
+        ("req 0 04000301 0", "11"),
+        ("mount", "3"),
+        ("poke 504 fcffffffffffffff", "ok"),
+        ("poke 505 fcffffffffffffff", "? line 21: the image has only 512 bytes"),
+        ("poke 512 -", "ok"),
+        ("unmount", "ok"),
+        ("req 0 04000301 0", "2"),
+    ]);
+}
+
+#[test]
+fn tickets() {
+    for ticket in ["1-bad-log-length", "2-power-cuts"] {
+        let output = desk(&["replay", &format!("{TICKETS}/{ticket}.desk")], b"");
+        let expected = std::fs::read_to_string(format!("{TICKETS}/{ticket}.expected")).expect("expected answers");
+        assert_eq!(String::from_utf8(output.stdout).expect("text"), expected, "{ticket}");
+        assert!(output.status.success());
+    }
+}
+
+#[test]
+fn demo_says_what_it_checked() {
+    let output = desk(&["demo"], b"");
+    assert!(output.status.success());
+    let story = String::from_utf8(output.stdout).expect("text");
+    assert!(story.contains("TICKET 1") && story.contains("TICKET 2"));
+    let summary = "Checked: 65,535 bad lengths refused without a trace, 6 steps undisturbed, 140 power cuts and 7,116 \
+                   more in the recoveries, 29,030 reads; 0 half changes.";
+    assert_eq!(story.lines().last(), Some(summary));
+}
+
+#[test]
+fn wrong_commands() {
+    for arguments in [&[][..], &["play"], &["replay", "a", "b"]] {
+        let output = desk(arguments, b"");
+        assert_eq!(output.status.code(), Some(2));
+        assert!(output.stdout.is_empty() && !output.stderr.is_empty());
+    }
+    assert_eq!(desk(&["replay", "no such file"], b"").status.code(), Some(1));
+    let help = desk(&["help"], b"");
+    assert!(help.status.success() && help.stdout.starts_with(b"desk"));
+}

@@ -1,0 +1,73 @@
+//! The proved C library as a `Store`. Without the archive `Library` has no values and `linked` gives none.
+
+#[cfg(not(linked))]
+mod absent;
+#[cfg(linked)]
+mod linked;
+
+#[cfg(not(linked))]
+pub use absent::{Library, linked};
+#[cfg(linked)]
+pub use linked::{Library, linked};
+
+use store::{Answer, Head, Idle, Store, Stretch};
+
+pub const RECORD_SIZE: usize = 690;
+
+/// A board record as it crosses the edge to C.
+pub type Record = [u8; RECORD_SIZE];
+
+const UNMOUNTED: u8 = 0;
+const IDLE: u8 = 1;
+const JOB_STAGES: std::ops::RangeInclusive<u8> = 2..=7;
+
+/// What a new record buffer holds, so that a call which does not write all of it shows.
+const STALE: Record = [0xA5; RECORD_SIZE];
+
+impl Store for Library {
+    type Record = Record;
+
+    fn mount(&self, image: &[u8]) -> (Answer, Record) {
+        let mut record = STALE;
+        (self.mount_into(image, &mut record), record)
+    }
+
+    fn format(&self, image: &[u8]) -> (Answer, Record) {
+        let mut record = STALE;
+        (self.format_into(image, &mut record), record)
+    }
+
+    fn request(&self, image: &[u8], record: &mut Record, host: u8, message: &[u8], reply: &mut [u8]) -> Answer {
+        self.request_on(image, record, host, message, reply)
+    }
+
+    fn step(&self, image: &mut [u8], record: &mut Record) -> Answer {
+        self.step_on(image, record)
+    }
+
+    fn read(&self, image: &[u8], record: &Record, host: u8, message: &[u8]) -> (Answer, Stretch) {
+        self.read_on(image, record, host, message)
+    }
+
+    fn unmounted(&self) -> Record {
+        [UNMOUNTED; RECORD_SIZE]
+    }
+
+    fn idle(&self, idle: Idle) -> Record {
+        let mut record = self.unmounted();
+        record[0] = IDLE;
+        record[1..3].copy_from_slice(&((idle.length - 1) as u16).to_le_bytes());
+        record[3] = idle.half;
+        record[4..6].copy_from_slice(&idle.end.to_le_bytes());
+        record
+    }
+
+    fn head(&self, record: &Record) -> Head {
+        let short = |at: usize| u16::from_le_bytes([record[at], record[at + 1]]);
+        match record[0] {
+            IDLE => Head::Idle(Idle { length: usize::from(short(1)) + 1, half: record[3], end: short(4) }),
+            stage if JOB_STAGES.contains(&stage) => Head::Job,
+            _ => Head::Unmounted,
+        }
+    }
+}

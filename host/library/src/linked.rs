@@ -1,0 +1,96 @@
+//! include/grommetide.h from Rust. Each function is safe: the library gets every slice with its length.
+
+use crate::RECORD_SIZE;
+use store::{Answer, Stretch};
+
+unsafe extern "C" {
+    fn grommetide_record_size() -> usize;
+    fn grommetide_mount(image: *const u8, image_len: usize, record: *mut u8, record_len: usize) -> u8;
+    fn grommetide_format(image: *const u8, image_len: usize, record: *mut u8, record_len: usize) -> u8;
+    fn grommetide_request(
+        image: *const u8,
+        image_len: usize,
+        record: *mut u8,
+        record_len: usize,
+        host: u8,
+        message: *const u8,
+        message_len: usize,
+        reply: *mut u8,
+        reply_len: usize,
+    ) -> u8;
+    fn grommetide_step(image: *mut u8, image_len: usize, record: *mut u8, record_len: usize) -> u8;
+    fn grommetide_read(
+        image: *const u8,
+        image_len: usize,
+        record: *const u8,
+        record_len: usize,
+        host: u8,
+        message: *const u8,
+        message_len: usize,
+        at: *mut usize,
+        len: *mut usize,
+    ) -> u8;
+}
+
+pub struct Library(());
+
+pub fn linked() -> Option<Library> {
+    let size = unsafe { grommetide_record_size() };
+    assert_eq!(size, RECORD_SIZE, "the library's records have another size");
+    Some(Library(()))
+}
+
+impl Library {
+    pub fn mount_into(&self, image: &[u8], record: &mut [u8]) -> Answer {
+        Answer(unsafe { grommetide_mount(image.as_ptr(), image.len(), record.as_mut_ptr(), record.len()) })
+    }
+
+    pub fn format_into(&self, image: &[u8], record: &mut [u8]) -> Answer {
+        Answer(unsafe { grommetide_format(image.as_ptr(), image.len(), record.as_mut_ptr(), record.len()) })
+    }
+
+    pub fn request_on(
+        &self,
+        image: &[u8],
+        record: &mut [u8],
+        host: u8,
+        message: &[u8],
+        reply: &mut [u8],
+    ) -> Answer {
+        Answer(unsafe {
+            grommetide_request(
+                image.as_ptr(),
+                image.len(),
+                record.as_mut_ptr(),
+                record.len(),
+                host,
+                message.as_ptr(),
+                message.len(),
+                reply.as_mut_ptr(),
+                reply.len(),
+            )
+        })
+    }
+
+    pub fn step_on(&self, image: &mut [u8], record: &mut [u8]) -> Answer {
+        Answer(unsafe { grommetide_step(image.as_mut_ptr(), image.len(), record.as_mut_ptr(), record.len()) })
+    }
+
+    pub fn read_on(&self, image: &[u8], record: &[u8], host: u8, message: &[u8]) -> (Answer, Stretch) {
+        let mut stretch = Stretch { at: usize::MAX, len: usize::MAX };
+        let answer = unsafe {
+            grommetide_read(
+                image.as_ptr(),
+                image.len(),
+                record.as_ptr(),
+                record.len(),
+                host,
+                message.as_ptr(),
+                message.len(),
+                &mut stretch.at,
+                &mut stretch.len,
+            )
+        };
+        (Answer(answer), stretch)
+    }
+}

@@ -1,0 +1,127 @@
+//! Frames, the entries of a half's journal.
+
+use std::ops::Range;
+
+pub const FINISH: u8 = 0xFE;
+pub const VALUE_LIMIT: usize = 64;
+/// Length of a commit or abort frame.
+pub const MARK: usize = 6;
+/// Length of a delete frame, and of a put frame apart from its value.
+pub const CHANGE: usize = 8;
+/// Length of a settled frame apart from its value.
+pub const SETTLED: usize = 7;
+
+#[derive(Clone, Copy, PartialEq, Eq, Debug)]
+pub struct Host(pub u8);
+
+#[derive(Clone, Copy, PartialEq, Eq, Debug)]
+pub struct Id(pub u8);
+
+impl Host {
+    pub fn new(number: u8) -> Option<Host> {
+        (number <= 3).then_some(Host(number))
+    }
+}
+
+/// A frame's kind and body. Values are places in the bytes the frame was read from.
+#[derive(Clone, PartialEq, Eq, Debug)]
+pub enum Body {
+    Put(Host, Id, Range<usize>),
+    Delete(Host, Id),
+    Commit(Host),
+    Abort(Host),
+    Settled(Id, Range<usize>),
+}
+
+#[derive(Clone, PartialEq, Eq, Debug)]
+pub struct Frame {
+    pub place: Range<usize>,
+    pub body: Body,
+}
+
+pub fn put(host: Host, id: Id, value: &[u8]) -> Vec<u8> {
+    frame(1, &[&[host.0, id.0, 0], value].concat())
+}
+
+pub fn delete(host: Host, id: Id) -> Vec<u8> {
+    frame(2, &[host.0, id.0, 0])
+}
+
+pub fn commit(host: Host) -> Vec<u8> {
+    frame(3, &[host.0])
+}
+
+pub fn abort(host: Host) -> Vec<u8> {
+    frame(4, &[host.0])
+}
+
+pub fn settled(id: Id, value: &[u8]) -> Vec<u8> {
+    frame(5, &[&[id.0, 0], value].concat())
+}
+
+fn frame(kind: u16, body: &[u8]) -> Vec<u8> {
+    let length = (body.len() + 5) as u16;
+    [&length.to_le_bytes()[..], &kind.to_le_bytes(), body, &[FINISH]].concat()
+}
+
+/// The whole legal frame at `at`, if one stands there.
+pub fn whole(half: &[u8], at: usize) -> Option<Frame> {
+    let length = number(half, at)?;
+    let kind = number(half, at + 2)?;
+    let place = at..at + length;
+    if !fits(kind, length) || *half.get(place.end - 1)? != FINISH {
+        return None;
+    }
+    let host = || Host::new(half[at + 4]);
+    let body = match kind {
+        1 => Body::Put(host()?, id(half, at + 5)?, at + 7..place.end - 1),
+        2 => Body::Delete(host()?, id(half, at + 5)?),
+        3 => Body::Commit(host()?),
+        4 => Body::Abort(host()?),
+        _ => Body::Settled(id(half, at + 4)?, at + 6..place.end - 1),
+    };
+    Some(Frame { place, body })
+}
+
+fn fits(kind: usize, length: usize) -> bool {
+    match kind {
+        1 => (CHANGE..=CHANGE + VALUE_LIMIT).contains(&length),
+        2 => length == CHANGE,
+        3 | 4 => length == MARK,
+        5 => (SETTLED..=SETTLED + VALUE_LIMIT).contains(&length),
+        _ => false,
+    }
+}
+
+fn id(half: &[u8], at: usize) -> Option<Id> {
+    u8::try_from(number(half, at)?).ok().map(Id)
+}
+
+fn number(half: &[u8], at: usize) -> Option<usize> {
+    let bytes = half.get(at..at + 2)?;
+    Some(usize::from(u16::from_le_bytes([bytes[0], bytes[1]])))
+}
+
+/// Whether `tail` begins with a proper part of a legal frame of kinds 1 to 4 that would fit, followed by 0xFF only.
+pub fn torn(tail: &[u8]) -> bool {
+    let programmed = tail.iter().rposition(|byte| *byte != 0xFF).map_or(0, |last| last + 1);
+    programmed > 0 && samples().any(|sample| begins(&tail[..programmed], sample, tail.len()))
+}
+
+/// Whether `start` is a proper part of a legal frame of the sample's kind and length.
+fn begins(start: &[u8], mut sample: Vec<u8>, room: usize) -> bool {
+    if start.len() >= sample.len() || sample.len() > room {
+        return false;
+    }
+    sample[..start.len()].copy_from_slice(start);
+    match whole(&sample, 0) {
+        Some(Frame { place, body }) => place.end == sample.len() && !matches!(body, Body::Settled(..)),
+        None => false,
+    }
+}
+
+/// A legal frame of each kind from 1 to 4 and each of its lengths.
+fn samples() -> impl Iterator<Item = Vec<u8>> {
+    let puts = (0..=VALUE_LIMIT).map(|size| put(Host(0), Id(0), &vec![0; size]));
+    puts.chain([delete(Host(0), Id(0)), commit(Host(0)), abort(Host(0))])
+}

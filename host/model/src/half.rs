@@ -1,0 +1,145 @@
+//! A half: its header, its journal, and what replay makes of it.
+
+use crate::frame::{self, Body, Frame, Host, Id};
+use std::ops::Range;
+
+pub const HEADER: usize = 16;
+/// Header bytes 0 to 3: length and kind.
+pub const LABEL: [u8; 4] = [0x10, 0x00, 0x01, 0x4A];
+/// Where the header's inverted time stands.
+pub const TIME: usize = 4;
+/// Where the header's state byte stands.
+pub const STATE: usize = 8;
+pub const READY: u8 = 0xFF;
+pub const IN_PROGRESS: u8 = 0xFE;
+pub const VALID: u8 = 0xFC;
+
+#[derive(PartialEq, Eq, Debug)]
+pub enum Half {
+    Blank,
+    InProgress,
+    Valid(Journal),
+    Foreign,
+}
+
+#[derive(PartialEq, Eq, Debug)]
+pub struct Journal {
+    pub time: u32,
+    pub frames: Vec<Frame>,
+    /// Where the last whole frame ends.
+    pub end: usize,
+    pub torn: bool,
+}
+
+pub fn read(half: &[u8]) -> Half {
+    match half[STATE] {
+        READY if blank(half) => Half::Blank,
+        IN_PROGRESS => Half::InProgress,
+        VALID => journal(half).map_or(Half::Foreign, Half::Valid),
+        _ => Half::Foreign,
+    }
+}
+
+fn blank(bytes: &[u8]) -> bool {
+    bytes.iter().all(|byte| *byte == 0xFF)
+}
+
+fn journal(half: &[u8]) -> Option<Journal> {
+    let time = header_time(half)?;
+    let frames = frames(half)?;
+    let end = frames.last().map_or(HEADER, |frame| frame.place.end);
+    let tail = &half[end..];
+    let torn = !blank(tail);
+    (!torn || frame::torn(tail)).then_some(Journal { time, frames, end, torn })
+}
+
+fn header_time(half: &[u8]) -> Option<u32> {
+    let inverse = half[TIME..STATE].try_into().expect("four bytes");
+    let time = !u32::from_le_bytes(inverse);
+    (half[..TIME] == LABEL && time != 0 && blank(&half[STATE + 1..HEADER])).then_some(time)
+}
+
+/// The whole legal frames from the header on; none if settled ones are out of place.
+fn frames(half: &[u8]) -> Option<Vec<Frame>> {
+    let mut frames = Vec::new();
+    let mut at = HEADER;
+    // The lowest id a settled frame may have at this place; none once another frame has stood.
+    let mut lowest = Some(0);
+    while let Some(frame) = frame::whole(half, at) {
+        if let Body::Settled(Id(id), _) = frame.body {
+            let id = u16::from(id);
+            if lowest.is_none_or(|lowest| id < lowest) {
+                return None;
+            }
+            lowest = Some(id + 1);
+        } else {
+            lowest = None;
+        }
+        at = frame.place.end;
+        frames.push(frame);
+    }
+    Some(frames)
+}
+
+/// What replay of a journal gives.
+#[derive(Debug)]
+pub struct Replay {
+    /// By id, where its settled value stands in the half.
+    pub settled: Vec<Option<Range<usize>>>,
+    /// The pending puts and deletes of all hosts, as they stand in the journal.
+    pub pending: Vec<Frame>,
+}
+
+pub fn replay(journal: &Journal) -> Replay {
+    let mut replay = Replay { settled: vec![None; 256], pending: Vec::new() };
+    for frame in &journal.frames {
+        match &frame.body {
+            Body::Settled(Id(id), value) => replay.settled[usize::from(*id)] = Some(value.clone()),
+            Body::Put(..) | Body::Delete(..) => replay.pending.push(frame.clone()),
+            Body::Commit(host) => replay.commit(*host),
+            Body::Abort(host) => replay.pending.retain(|frame| !belongs(frame, *host)),
+        }
+    }
+    replay
+}
+
+impl Replay {
+    fn commit(&mut self, host: Host) {
+        for frame in self.pending.extract_if(.., |frame| belongs(frame, host)) {
+            match frame.body {
+                Body::Put(_, Id(id), value) => self.settled[usize::from(id)] = Some(value),
+                Body::Delete(_, Id(id)) => self.settled[usize::from(id)] = None,
+                _ => unreachable!("only puts and deletes are pending"),
+            }
+        }
+    }
+
+    pub fn objects(&self) -> impl Iterator<Item = (Id, Range<usize>)> {
+        let place = |(id, value): (usize, &Option<Range<usize>>)| Some((Id(id as u8), value.clone()?));
+        self.settled.iter().enumerate().filter_map(place)
+    }
+
+    pub fn has_pending(&self, host: Host) -> bool {
+        self.pending.iter().any(|frame| belongs(frame, host))
+    }
+
+    /// Document 01's U.
+    pub fn used(&self) -> usize {
+        HEADER + self.objects().map(|(_, value)| frame::SETTLED + value.len()).sum::<usize>()
+    }
+
+    /// Document 01's C.
+    pub fn claimed(&self) -> usize {
+        self.used() + self.pending.iter().map(|frame| frame.place.len()).sum::<usize>()
+    }
+
+    /// How many hosts have something pending once `also` has.
+    pub fn open(&self, also: Option<Host>) -> usize {
+        (0..=3).map(Host).filter(|host| Some(*host) == also || self.has_pending(*host)).count()
+    }
+}
+
+/// Whether `frame` is a change of this host.
+fn belongs(frame: &Frame, host: Host) -> bool {
+    matches!(frame.body, Body::Put(owner, ..) | Body::Delete(owner, _) if owner == host)
+}

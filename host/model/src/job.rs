@@ -1,0 +1,97 @@
+//! Jobs: flash steps still to be done, and the idle record after the last.
+
+use std::collections::VecDeque;
+use store::{Answer, Idle};
+
+#[derive(Clone, PartialEq, Eq, Debug)]
+pub enum Record {
+    Unmounted,
+    Idle(Idle),
+    Job(Job),
+}
+
+/// A stretch of a job: one step for an erase, one for each byte programmed.
+#[derive(Clone, PartialEq, Eq, Debug)]
+pub enum Work {
+    Erase { half: usize },
+    Program { at: usize, bytes: VecDeque<u8> },
+}
+
+#[derive(Clone, Copy, PartialEq, Eq, Debug)]
+pub enum Step {
+    Erase { half: usize },
+    Program { at: usize, byte: u8 },
+}
+
+/// Work is never empty, nor is any stretch of it.
+#[derive(Clone, PartialEq, Eq, Debug)]
+pub struct Job {
+    work: VecDeque<Work>,
+    idle: Idle,
+}
+
+impl Work {
+    pub fn program(at: usize, bytes: impl Into<VecDeque<u8>>) -> Work {
+        Work::Program { at, bytes: bytes.into() }
+    }
+}
+
+/// Takes up `work`: idle at once if there is none.
+pub fn begin(work: Vec<Work>, idle: Idle) -> Record {
+    let work: VecDeque<Work> =
+        work.into_iter().filter(|work| !matches!(work, Work::Program { bytes, .. } if bytes.is_empty())).collect();
+    if work.is_empty() { Record::Idle(idle) } else { Record::Job(Job { work, idle }) }
+}
+
+pub fn answer(record: &Record) -> Answer {
+    if matches!(record, Record::Job(_)) { Answer::MORE } else { Answer::DONE }
+}
+
+impl Job {
+    pub fn length(&self) -> usize {
+        self.idle.length
+    }
+
+    /// The step that comes next.
+    pub fn next(&self) -> Step {
+        match &self.work[0] {
+            Work::Erase { half } => Step::Erase { half: *half },
+            Work::Program { at, bytes } => Step::Program { at: *at, byte: bytes[0] },
+        }
+    }
+
+    /// How many steps are left.
+    pub fn steps(&self) -> usize {
+        let steps = |work: &Work| match work {
+            Work::Erase { .. } => 1,
+            Work::Program { bytes, .. } => bytes.len(),
+        };
+        self.work.iter().map(steps).sum()
+    }
+
+    /// Counts that step as made; gives the idle record if it was the last.
+    pub fn advance(&mut self) -> Option<Idle> {
+        match &mut self.work[0] {
+            Work::Program { at, bytes } if bytes.len() > 1 => {
+                *at += 1;
+                bytes.pop_front();
+            }
+            _ => {
+                self.work.pop_front();
+            }
+        }
+        self.work.is_empty().then_some(self.idle)
+    }
+}
+
+impl Step {
+    pub fn make(self, image: &mut [u8]) {
+        match self {
+            Step::Erase { half } => {
+                let size = image.len() / 2;
+                image[half * size..][..size].fill(0xFF);
+            }
+            Step::Program { at, byte } => image[at] &= byte,
+        }
+    }
+}

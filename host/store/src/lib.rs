@@ -1,0 +1,95 @@
+//! What a settings store offers (document 01), whoever implements it.
+
+pub mod hex;
+pub mod message;
+
+use std::fmt;
+
+/// The answer to a call: document 01's number, 255 for "more".
+#[derive(Clone, Copy, PartialEq, Eq, Hash, Debug)]
+pub struct Answer(pub u8);
+
+impl Answer {
+    pub const DONE: Answer = Answer(0);
+    pub const MALFORMED: Answer = Answer(1);
+    pub const NO_STORE: Answer = Answer(2);
+    pub const FOREIGN: Answer = Answer(3);
+    pub const LENGTH: Answer = Answer(4);
+    pub const BUSY: Answer = Answer(5);
+    pub const LAST_TIME: Answer = Answer(6);
+    pub const ROOM: Answer = Answer(7);
+    pub const NO_OBJECT: Answer = Answer(8);
+    pub const SHORT_REPLY: Answer = Answer(9);
+    pub const HOST: Answer = Answer(10);
+    pub const CHANGED: Answer = Answer(11);
+    pub const RECORD_SIZE: Answer = Answer(254);
+    pub const MORE: Answer = Answer(255);
+
+    pub fn refused(self) -> bool {
+        self != Answer::DONE && self != Answer::MORE
+    }
+}
+
+impl fmt::Display for Answer {
+    fn fmt(&self, f: &mut fmt::Formatter) -> fmt::Result {
+        match *self {
+            Answer::MORE => f.write_str("more"),
+            Answer(number) => write!(f, "{number}"),
+        }
+    }
+}
+
+/// What an idle record says.
+#[derive(Clone, Copy, PartialEq, Eq, Debug)]
+pub struct Idle {
+    /// Image length, 1 to 65,536.
+    pub length: usize,
+    /// Current half.
+    pub half: u8,
+    /// Where its whole frames end, counted from the half's start.
+    pub end: u16,
+}
+
+/// What anyone may know of a record; a job's inside is its store's own.
+#[derive(Clone, Copy, PartialEq, Eq, Debug)]
+pub enum Head {
+    Unmounted,
+    Idle(Idle),
+    Job,
+}
+
+/// Where a value stands, counted from the image's start.
+#[derive(Clone, Copy, PartialEq, Eq, Debug, Default)]
+pub struct Stretch {
+    pub at: usize,
+    pub len: usize,
+}
+
+impl Stretch {
+    pub fn of(self, image: &[u8]) -> &[u8] {
+        &image[self.at..self.at + self.len]
+    }
+}
+
+pub trait Store {
+    type Record: Clone + PartialEq + fmt::Debug;
+
+    fn mount(&self, image: &[u8]) -> (Answer, Self::Record);
+    fn format(&self, image: &[u8]) -> (Answer, Self::Record);
+    fn request(
+        &self,
+        image: &[u8],
+        record: &mut Self::Record,
+        host: u8,
+        message: &[u8],
+        reply: &mut [u8],
+    ) -> Answer;
+    fn step(&self, image: &mut [u8], record: &mut Self::Record) -> Answer;
+    /// A refused read has the stretch 0, 0.
+    fn read(&self, image: &[u8], record: &Self::Record, host: u8, message: &[u8]) -> (Answer, Stretch);
+
+    fn unmounted(&self) -> Self::Record;
+    /// An idle record, as forged as the caller likes.
+    fn idle(&self, idle: Idle) -> Self::Record;
+    fn head(&self, record: &Self::Record) -> Head;
+}

@@ -1,0 +1,124 @@
+/*
+ * Grommetide: a settings store in two halves of NOR flash, for firmware.
+ *
+ * The store keeps objects (an id from 0 to 255 and a value of 0 to 64 bytes) for four hosts and survives power cuts at
+ * any step. docs/FORMAT.md describes the flash. Link with target/staticlib/libgrommetide.a.
+ *
+ * How it is used
+ *
+ *   1. After power-up call grommetide_mount. If it answers GROMMETIDE_NO_STORE, call grommetide_format.
+ *   2. Pass each host's message to grommetide_request.
+ *   3. Whenever a call answers GROMMETIDE_MORE, call grommetide_step until it answers GROMMETIDE_DONE. Each call does one
+ *      step. Other work may be done between steps; until the last one every request gets GROMMETIDE_BUSY.
+ *   4. If power is lost, all that counts is in the flash: go to 1.
+ *
+ * The image
+ *
+ *   image_len is a multiple of 256 from 512 to 65,536; the image is two halves of image_len / 2 bytes. Only
+ *   grommetide_step writes to it, and each call does one thing at most: it programs one byte (new = old AND given, so
+ *   bits are only cleared) or erases one half (all its bytes become 0xFF).
+ *
+ *   mount, format, request and read only look at the image, so the memory-mapped flash itself will do. For step, lend a
+ *   copy in RAM, then do to the flash what step did to the copy: where one byte differs, program that byte; where a half
+ *   has become 0xFF, erase it. A step may change nothing (0xFF programmed over 0xFF). See examples/c.
+ *
+ * The record
+ *
+ *   GROMMETIDE_RECORD_BYTES bytes, in the caller's memory; it need not survive a power cut. mount and format write it,
+ *   whatever was in it; the other calls take it as the last call left it. Numbers are little-endian.
+ *
+ *     0      phase: 0 unmounted, 1 idle, 2 to 7 in a job; any other value reads as unmounted
+ *     1-2    image length less one
+ *     3      current half, 0 or 1
+ *     4-5    where the current half's frames end, counted from its start
+ *     6-689  the library's own: 6-517 places of values, 518-545 the job, 546-617 and 618-689 frames in hand
+ *
+ *   Bytes 1 to 5 mean this in an idle record. An unmounted or idle record that the library hands out has zeros in all
+ *   bytes it does not use. A record that does not belong to the image is noticed (GROMMETIDE_CHANGED), or, in a job, does
+ *   at most one step a call and ends, or is noticed, within 65,536 steps.
+ *
+ * Rules for all calls
+ *
+ *   No pointer may be NULL, also where its length is 0. Buffers that a call writes to overlap no others. A refusal, which
+ *   is any answer but GROMMETIDE_DONE and GROMMETIDE_MORE, leaves image, record and reply as they are; only a refused
+ *   mount or format makes the record an unmounted one. Nothing is kept between calls, so calls on different buffers may
+ *   run at the same time in different threads; calls that share a buffer which one of them writes to may not.
+ */
+#ifndef GROMMETIDE_H
+#define GROMMETIDE_H
+
+#include <stddef.h>
+#include <stdint.h>
+
+#ifdef __cplusplus
+extern "C" {
+#endif
+
+#define GROMMETIDE_RECORD_BYTES 690
+
+/* Answers. If more than one refusal applies, the first in this order is given: 4, 10, 5, 2, 3, 11, 1, 8, 9, 7, 6. */
+enum {
+    GROMMETIDE_DONE = 0,
+    GROMMETIDE_MALFORMED = 1,     /* the message's length, kind, id, value length or page */
+    GROMMETIDE_NO_STORE = 2,      /* the record is unmounted; for mount, there is no store and nothing foreign */
+    GROMMETIDE_FOREIGN = 3,       /* mount: a half that no store wrote, or two that are equally new */
+    GROMMETIDE_LENGTH = 4,        /* image_len is not allowed */
+    GROMMETIDE_BUSY = 5,          /* a job has steps left */
+    GROMMETIDE_LAST_TIME = 6,     /* a transfer is needed, but the creation time cannot rise any more */
+    GROMMETIDE_NO_ROOM = 7,       /* put or delete: commits must always fit, and this would leave too little room */
+    GROMMETIDE_NO_OBJECT = 8,     /* read: there is no settled object of this id */
+    GROMMETIDE_SHORT_REPLY = 9,   /* log: the reply buffer has fewer than 14 bytes */
+    GROMMETIDE_NO_HOST = 10,      /* the host is above 3 */
+    GROMMETIDE_CHANGED = 11,      /* the image is not the one that the record belongs to */
+    GROMMETIDE_WRONG_RECORD = 254, /* record_len is not GROMMETIDE_RECORD_BYTES; nothing was done */
+    GROMMETIDE_MORE = 255         /* accepted, or a step was made; steps are left */
+};
+
+/* GROMMETIDE_RECORD_BYTES, as the library was built. */
+size_t grommetide_record_size(void);
+
+/*
+ * Finds the store in an image and begins to tidy up after a power cut. Pending changes are dropped.
+ * DONE: the store is mounted. MORE: steps are left. Refused: LENGTH, NO_STORE, FOREIGN, LAST_TIME.
+ */
+uint8_t grommetide_mount(const uint8_t *image, size_t image_len, uint8_t *record, size_t record_len);
+
+/* Begins to make an empty store, in 12 steps, whatever the image holds. Always MORE, unless refused: LENGTH. */
+uint8_t grommetide_format(const uint8_t *image, size_t image_len, uint8_t *record, size_t record_len);
+
+/*
+ * A host's message. The host number comes from the port, 0 to 3. A message is its length (2 bytes), its kind (2) and:
+ *
+ *   0x0101 put     id (2), value (0 to 64)   the change is pending until the host commits
+ *   0x0102 delete  id (2)                    likewise
+ *   0x0103 commit                            the host's pending changes become settled, all or none
+ *   0x0104 abort                             the host's pending changes are dropped
+ *   0x0105 read    id (2)                    only answers whether the object is there; see grommetide_read
+ *   0x0106 log     page (1), which is 1      writes 14 bytes to the reply: length 14 (2), kind 0x0201 (2), creation
+ *                                            time (4), settled objects (2), bytes they need (2), bytes of a half (2)
+ *
+ * Numbers are little-endian. Only log writes to the reply, and only if it answers DONE; bytes after the 14 stay.
+ * DONE: finished, without a step. MORE: accepted, steps are left. Refused: any but FOREIGN.
+ */
+uint8_t grommetide_request(const uint8_t *image, size_t image_len, uint8_t *record, size_t record_len, uint8_t host,
+                           const uint8_t *message, size_t message_len, uint8_t *reply, size_t reply_len);
+
+/*
+ * Does the next step of the job in the record. DONE: it was the last, or the record has no job and nothing was done.
+ * MORE: steps are left. Refused: CHANGED, if image_len is not the record's or the job's next place lies outside the image.
+ */
+uint8_t grommetide_step(uint8_t *image, size_t image_len, uint8_t *record, size_t record_len);
+
+/*
+ * Where a settled value stands: *len bytes from image[*at] on, counted from the image's start. The message is a read
+ * (0x0105). DONE: found; *len is 0 for an empty value. Refused: LENGTH, NO_HOST, BUSY, NO_STORE, CHANGED, MALFORMED (also
+ * for a message that is no read), NO_OBJECT; *at and *len are then set to 0.
+ */
+uint8_t grommetide_read(const uint8_t *image, size_t image_len, const uint8_t *record, size_t record_len, uint8_t host,
+                        const uint8_t *message, size_t message_len, size_t *at, size_t *len);
+
+#ifdef __cplusplus
+}
+#endif
+
+#endif
