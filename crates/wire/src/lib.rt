@@ -63,8 +63,8 @@ fn byte_at(m: &[u8], i: usize) -> u16
     if i < m.len() { m[i] as u16 } else { 0 }
 }
 
-// The number that two bytes of a message are.
-fn word_at(m: &[u8], i: u8) -> u16
+// The number that two bytes are.
+pub fn word_at(m: &[u8], i: u8) -> u16
     ensures { λ r. ⌜ r ≡ wordAt (now (m .entry)) i ⌝ }
 {
     let at = i as usize;
@@ -193,7 +193,7 @@ pub fn value(message: &[u8]) -> &[u8]
 }
 
 // Lays a source over the first bytes of a slice that is no shorter.
-fn lay(bytes: &mut [u8], source: &[u8])
+pub fn lay(bytes: &mut [u8], source: &[u8])
     ensures { λ r. ⌜ now (bytes .exit) ≡ overlay (now (source .entry)) (now (bytes .entry)) ⌝ }
 {
     if bytes.len() < source.len() {
