@@ -1,0 +1,438 @@
+// Document 01's bench rows, run on the code. The file stdout has what they must print.
+ghost use Prim.Native.Nat.{_+_, _≤_};
+use board::Record;
+use frame::Host;
+use store::Outcome;
+
+// What a call and the steps after it came to: the last answer, 255 for more, and how many steps there were.
+struct Ran {
+    board: Record,
+    answer: u8,
+    steps: usize,
+}
+
+// An image of two halves of 256 bytes, its record, and what the last call came to.
+struct Bench {
+    image: [u8; 512],
+    board: Record,
+    answer: u8,
+    steps: usize,
+    reply: [u8; 16],
+}
+
+// ---- printing
+
+fn say(text: &[u8]) {
+    io::write_all(1, text);
+}
+
+fn number(n: usize) {
+    io::print_decimal(1, n as u64);
+}
+
+fn byte(b: u8) {
+    say(b" ");
+    io::print_hex(1, b as u64, 2);
+}
+
+fn hex(bytes: &[u8]) {
+    let mut i = 0;
+    while i < bytes.len() {
+        byte(bytes[i]);
+        i += 1;
+    }
+}
+
+fn result(answer: u8, steps: usize) {
+    say(b": answer ");
+    if answer == 255 {
+        say(b"more");
+    } else {
+        number(answer as usize);
+    }
+    say(b", ");
+    number(steps);
+    say(b" steps");
+}
+
+// What the last call came to, and where a record in no job stands.
+fn tell(what: &[u8], d: Bench) {
+    say(what);
+    result(d.answer, d.steps);
+    if d.answer != 255 {
+        let board = d.board;
+        say(b"; half ");
+        number(board.block as usize);
+        say(b", end ");
+        number(board.end as usize);
+    }
+    say(b"\n");
+}
+
+fn blank(part: &[u8]) {
+    if flash::is_blank(part) {
+        say(b"ff only\n");
+    } else {
+        say(b"other bytes\n");
+    }
+}
+
+// Bytes of the image, and whether all later ones are 0xFF.
+fn show(image: &[u8], from: usize, to: usize) {
+    if image.len() < to {
+        return;
+    }
+    if to < from {
+        return;
+    }
+    say(b"   at ");
+    number(from);
+    say(b":");
+    hex(&image[from..to]);
+    say(b", then ");
+    blank(&image[to..]);
+}
+
+fn first_half(image: &[u8]) {
+    let size = image.len() / 2;
+    blank(&image[0..size]);
+}
+
+fn bytes(d: Bench, from: usize, to: usize) {
+    let image = d.image;
+    show(&image, from, to);
+}
+
+// ---- calls
+
+// Does a job's steps, at most so many.
+fn run(image: &mut [u8], begun: Outcome, most: usize) -> Ran {
+    let first = begun.answer;
+    let mut board = begun.board;
+    let mut answer = wire::number(first);
+    let mut steps: usize = 0;
+    while steps < most {
+        if answer != 255 {
+            break;
+        }
+        let next = store::step(image, board);
+        let now = next.answer;
+        board = next.board;
+        answer = wire::number(now);
+        steps += 1;
+    }
+    Ran {
+        board: board,
+        answer: answer,
+        steps: steps,
+    }
+}
+
+// A call on an image, and its steps.
+fn went(start: [u8; 512], begun: Outcome, reply: [u8; 16], most: usize) -> Bench {
+    let mut image = start;
+    let r = run(&mut image, begun, most);
+    let board = r.board;
+    Bench {
+        image: image,
+        board: board,
+        answer: r.answer,
+        steps: r.steps,
+        reply: reply,
+    }
+}
+
+// Asks, and does so many steps at most: the cut is then what follows.
+fn ask_some(d: Bench, host: u8, message: &[u8], most: usize) -> Bench {
+    let image = d.image;
+    let board = d.board;
+    let mut reply = [0xEE; 16];
+    let begun = store::request(&image, board, Host(host), message, &mut reply);
+    went(image, begun, reply, most)
+}
+
+fn ask(d: Bench, host: u8, message: &[u8]) -> Bench {
+    ask_some(d, host, message, 65536)
+}
+
+// Asks by the first bytes of a buffer.
+fn ask_by(d: Bench, host: u8, buffer: &[u8], size: usize) -> Bench {
+    if buffer.len() < size {
+        return d;
+    }
+    ask(d, host, &buffer[0..size])
+}
+
+fn put(d: Bench, host: u8, id: u16, value: u8, count: u8) -> Bench
+    requires { ⌜ count ≤ 65 ⌝ }
+{
+    let mut message = [value; 71];
+    message[0] = 6 + count;
+    message[1] = 0;
+    message[2] = 1;
+    message[3] = 1;
+    message[4] = (id % 256) as u8;
+    message[5] = (id / 256) as u8;
+    ask_by(d, host, &message, 6 + count as usize)
+}
+
+fn commit(d: Bench, host: u8) -> Bench {
+    ask(d, host, &[4, 0, 3, 1])
+}
+
+fn mount(d: Bench) -> Bench {
+    let image = d.image;
+    went(image, store::mount(&image), [0; 16], 65536)
+}
+
+// ---- what a bench holds
+
+fn word(low: u8, high: u8) -> usize
+    ensures { λ r. ⌜ r ≤ 65535 ⌝ }
+{
+    low as usize + 256 * high as usize
+}
+
+// Log page 1, by its numbers.
+fn log(d: Bench) {
+    let asked = ask(d, 0, &[5, 0, 6, 1, 1]);
+    let page = asked.reply;
+    say(b"   log: time ");
+    number(word(page[4], page[5]) + 65536 * word(page[6], page[7]));
+    say(b", count ");
+    number(word(page[8], page[9]));
+    say(b", U ");
+    number(word(page[10], page[11]));
+    say(b", S ");
+    number(word(page[12], page[13]));
+    say(b"\n");
+}
+
+// An object, if it is held; 1 if so.
+fn object(d: Bench, id: u8) -> usize
+    ensures { λ r. ⌜ r ≤ 1 ⌝ }
+{
+    let message = [6, 0, 5, 1, id, 0];
+    let image = d.image;
+    let board = d.board;
+    let asked = ask(d, 0, &message);
+    if asked.answer != 0 {
+        return 0;
+    }
+    say(b" ");
+    number(id as usize);
+    say(b" of ");
+    number(store::read(&image, board, Host(0), &message).len());
+    say(b" bytes");
+    1
+}
+
+// The ids that the rows use.
+fn list(d: Bench) -> usize {
+    let mut count: usize = 0;
+    let mut id: u8 = 0;
+    while id < 8 {
+        count += object(d, id);
+        id += 1;
+    }
+    count
+}
+
+// Log page 1 counts all objects.
+fn objects(d: Bench) {
+    log(d);
+    say(b"   holds");
+    if list(d) == 0 {
+        say(b" nothing");
+    }
+    say(b"\n");
+}
+
+// ---- the rows
+
+// A format erases whatever was there.
+fn row_a() -> Bench {
+    let zeros = [0u8; 512];
+    let a = went(zeros, store::format(&zeros), [0; 16], 65536);
+    tell(b"a  format", a);
+    bytes(a, 0, 9);
+    a
+}
+
+fn row_b(a: Bench) -> Bench {
+    let b = ask(a, 2, &[8, 0, 1, 1, 5, 0, 0x41, 0x42]);
+    tell(b"b  host 2 puts 41 42 to 5", b);
+    bytes(b, 16, 26);
+    b
+}
+
+fn row_c(b: Bench) -> Bench {
+    let c = commit(b, 2);
+    tell(b"c  host 2 commits", c);
+    bytes(c, 26, 32);
+    c
+}
+
+fn read_five(what: &[u8], image: [u8; 512], board: Record) {
+    say(what);
+    hex(store::read(&image, board, Host(0), &[6, 0, 5, 1, 5, 0]));
+    say(b"\n");
+}
+
+// That the stretch is the image's own bytes 23 and 24 shows when these two change.
+fn row_d(c: Bench) {
+    let mut image = c.image;
+    let board = c.board;
+    tell(b"d  read 5", ask(c, 0, &[6, 0, 5, 1, 5, 0]));
+    read_five(b"   stretch:", image, board);
+    image[23] = 1;
+    image[24] = 2;
+    read_five(b"   once bytes 23 and 24 are 01 02:", image, board);
+}
+
+// The reply was 16 bytes of 0xEE; the last two stay.
+fn row_e(c: Bench) {
+    let e = ask(c, 1, &[5, 0, 6, 1, 1]);
+    let reply = e.reply;
+    tell(b"e  log", e);
+    say(b"   reply:");
+    hex(&reply);
+    say(b"\n");
+}
+
+fn row_f(b: Bench) {
+    let f = mount(b);
+    let image = f.image;
+    tell(b"f  after b, cut, mount", f);
+    say(b"   half 0: ");
+    first_half(&image);
+    bytes(f, 256, 265);
+    objects(f);
+}
+
+fn rows_g_h(b: Bench) {
+    let five = ask_some(b, 2, &[4, 0, 3, 1], 5);
+    tell(b"g  in c, cut", five);
+    let g = mount(five);
+    tell(b"   mount", g);
+    objects(g);
+    let six = ask_some(b, 2, &[4, 0, 3, 1], 6);
+    tell(b"h  in c, cut", six);
+    let h = mount(six);
+    tell(b"   mount", h);
+    objects(h);
+}
+
+// Nothing is settled, so C is the end: 16 and three frames of 72.
+fn row_i(a: Bench) -> Bench {
+    let one = put(a, 0, 1, 11, 64);
+    let two = put(one, 0, 2, 22, 64);
+    let i = put(two, 0, 3, 33, 64);
+    tell(b"i  host 0 puts 64 bytes to 1", one);
+    tell(b"   to 2", two);
+    tell(b"   to 3", i);
+    log(i);
+    i
+}
+
+// U is 16 + 3 * 71 = 229, and 229 + 8 + 6 + 14 = 257; with 63 bytes in 3 it is 256.
+fn rows_j_k(a: Bench, i: Bench) {
+    tell(b"j  put of an empty value to 4", put(i, 0, 4, 0, 0));
+    let k = commit(i, 0);
+    tell(b"k  commit", k);
+    log(k);
+    tell(b"   put of an empty value to 4", put(k, 0, 4, 0, 0));
+    let three = put(put(put(a, 0, 1, 11, 64), 0, 2, 22, 64), 0, 3, 33, 63);
+    tell(b"   with 63 bytes in 3", three);
+    let settled = commit(three, 0);
+    tell(b"   commit", settled);
+    log(settled);
+    tell(b"   put of an empty value to 4", put(settled, 0, 4, 0, 0));
+}
+
+// U is 16 + 2 * 71 = 158: the transfer has 153 steps, the put's frame 8 and stands at 256 + 158.
+fn row_l(i: Bench) -> Bench {
+    let k = commit(i, 0);
+    let gone = ask(k, 0, &[6, 0, 2, 1, 1, 0]);
+    let before = commit(gone, 0);
+    tell(b"l  commit", k);
+    tell(b"   delete 1", gone);
+    tell(b"   commit", before);
+    let l = put(before, 0, 4, 0, 0);
+    tell(b"   put of an empty value to 4", l);
+    bytes(l, 414, 422);
+    objects(l);
+    before
+}
+
+// Step 152 makes the new half valid, step 153 erases the old one.
+fn row_m(before: Bench, most: usize) {
+    let cut = ask_some(before, 0, &[6, 0, 1, 1, 4, 0], most);
+    tell(b"m  in that put, cut", cut);
+    let m = mount(cut);
+    tell(b"   mount", m);
+    objects(m);
+}
+
+fn row_n(a: Bench) {
+    tell(b"n  05 00 03 01", ask(a, 0, &[5, 0, 3, 1]));
+}
+
+fn row_o(a: Bench) {
+    tell(b"o  put of 2 bytes to 255", put(a, 0, 255, 7, 2));
+    tell(b"   to 256", put(a, 0, 256, 7, 2));
+    tell(b"   of 64 bytes", put(a, 0, 9, 7, 64));
+    tell(b"   of 65 bytes", put(a, 0, 9, 7, 65));
+    tell(b"   by host 3", put(a, 3, 9, 7, 2));
+    tell(b"   by host 4", put(a, 4, 9, 7, 2));
+}
+
+fn finish(image: &mut [u8], what: &[u8], begun: Outcome) -> Record {
+    let r = run(image, begun, 65536);
+    say(what);
+    result(r.answer, r.steps);
+    r.board
+}
+
+// Format, mount and a put of one byte on an image of a length.
+fn row_p(image: &mut [u8]) {
+    say(b"p  length ");
+    number(image.len());
+    finish(image, b"; format", store::format(image));
+    let board = finish(image, b"; mount", store::mount(image));
+    let mut reply = [0u8; 14];
+    let asked = store::request(image, board, Host(0), &[7, 0, 1, 1, 0, 0, 9], &mut reply);
+    finish(image, b"; put", asked);
+    say(b"\n");
+}
+
+fn lengths() {
+    let mut least = [0u8; 512];
+    row_p(&mut least);
+    let mut more = [0u8; 768];
+    row_p(&mut more);
+    let mut most = [0u8; 65536];
+    row_p(&mut most);
+    let mut short = [0u8; 256];
+    row_p(&mut short);
+    let mut odd = [0u8; 511];
+    row_p(&mut odd);
+}
+
+fn main() {
+    let a = row_a();
+    let b = row_b(a);
+    let c = row_c(b);
+    row_d(c);
+    row_e(c);
+    row_f(b);
+    rows_g_h(b);
+    let i = row_i(a);
+    rows_j_k(a, i);
+    let before = row_l(i);
+    row_m(before, 151);
+    row_m(before, 152);
+    row_n(a);
+    row_o(a);
+    lengths();
+}
