@@ -1,5 +1,6 @@
 // Messages, answers and the log page: what hosts send, and what they get.
 use frame::ObjectId;
+use frame::VALUE_MAX;
 ghost use mathlib.Core.Path.{_≡_};
 ghost use Prim.Native.Nat.{_+_, _<_};
 ghost use denote.Ref.{ptr};
@@ -51,10 +52,8 @@ pub enum Answer {
     Refused(Refusal),
 }
 
-// The greatest id, and the longest value.
+// The greatest id.
 const ID_MAX: u16 = 255;
-
-const VALUE_MAX: usize = 64;
 
 // A byte of a message, 0 past its end.
 fn byte_at(m: &[u8], i: usize) -> u16

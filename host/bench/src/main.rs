@@ -3,6 +3,7 @@
 mod case;
 
 use case::Case;
+use library::Library;
 use model::Model;
 use std::hint::black_box;
 use std::time::{Duration, Instant};
@@ -36,10 +37,7 @@ fn main() {
         eprintln!("bench: build with --release");
         std::process::exit(2);
     }
-    let library = library::linked();
-    if library.is_none() {
-        println!("The library is not linked; these are the model's times alone.\n");
-    }
+    let library = Library::linked();
     println!("| Image | Fill | Operation | Library | Model | Library / model |");
     println!("|---|---|---|---|---|---|");
     for length in [512, 4_096, 65_536] {
@@ -49,7 +47,7 @@ fn main() {
                     "| {} | {} | {name} | {} |",
                     case.length,
                     case.fill,
-                    measure(library.as_ref(), operation, &case)
+                    measure(&library, operation, &case)
                 );
             }
         }
@@ -60,28 +58,20 @@ fn main() {
 }
 
 /// The last three columns of a row.
-fn measure<S: Store>(library: Option<&S>, operation: Operation, case: &Case) -> String {
-    let mut columns = [Vec::new(), Vec::new(), Vec::new()];
+fn measure(proved: &Library, operation: Operation, case: &Case) -> String {
+    let [mut library, mut model, mut ratio] = [Vec::new(), Vec::new(), Vec::new()];
     for _ in 0..REPEATS {
-        let model = nanoseconds(&Model, operation, case);
-        columns[1].push(model);
-        if let Some(library) = library {
-            let library = nanoseconds(library, operation, case);
-            columns[0].push(library);
-            columns[2].push(library / model);
-        }
+        model.push(nanoseconds(&Model, operation, case));
+        library.push(nanoseconds(proved, operation, case));
+        ratio.push(library[library.len() - 1] / model[model.len() - 1]);
     }
-    let [library, model, ratio] = columns;
     [spread(library, time), spread(model, time), spread(ratio, |ratio| format!("{ratio:.2}"))].join(" | ")
 }
 
 fn spread(mut values: Vec<f64>, show: impl Fn(f64) -> String) -> String {
     values.sort_by(f64::total_cmp);
-    match values[..] {
-        [] => "-".to_string(),
-        [first, .., last] => format!("{} ({} to {})", show(values[values.len() / 2]), show(first), show(last)),
-        [only] => show(only),
-    }
+    let [median, first, last] = [values.len() / 2, 0, values.len() - 1].map(|at| show(values[at]));
+    format!("{median} ({first} to {last})")
 }
 
 fn time(nanoseconds: f64) -> String {

@@ -14,9 +14,6 @@ fn main() {
             std::process::exit(2);
         }
     };
-    if library::linked().is_none() {
-        println!("The library is not linked: the model alone is held to the book.");
-    }
     compare(Duration::from_secs(seconds), first);
 }
 

@@ -1,4 +1,4 @@
-//! The model and, where it is linked, the library, given the same calls: whatever anyone can see of them must agree.
+//! The model and the library, given the same calls: whatever anyone can see of them must agree.
 
 use crate::nor::Nor;
 use library::Library;
@@ -126,7 +126,7 @@ impl<S: Store> Side<S> {
 
 pub struct Twin {
     model: Side<Model>,
-    library: Option<Side<Library>>,
+    library: Side<Library>,
     nor: Nor,
     /// Where the job began: its image, the record before, the call; and the steps made since.
     job: Option<(Vec<u8>, Head, Call)>,
@@ -139,7 +139,7 @@ impl Twin {
     pub fn new(image: &[u8]) -> Twin {
         Twin {
             model: Side::new(Model, image),
-            library: library::linked().map(|library| Side::new(library, image)),
+            library: Side::new(Library::linked(), image),
             nor: Nor::new(image),
             job: None,
             steps: 0,
@@ -161,33 +161,25 @@ impl Twin {
     /// Another image with an unmounted record, as after a power cut.
     pub fn load(&mut self, image: &[u8]) {
         self.model.load(image);
-        if let Some(library) = &mut self.library {
-            library.load(image);
-        }
+        self.library.load(image);
         self.nor.load(image);
         self.job = None;
     }
 
     pub fn forge(&mut self, idle: Idle) {
         self.model.record = Record::Idle(idle);
-        if let Some(library) = &mut self.library {
-            library.record = library.store.idle(idle);
-        }
+        self.library.record = self.library.store.idle(idle);
     }
 
     pub fn unmount(&mut self) {
         self.model.record = Record::Unmounted;
-        if let Some(library) = &mut self.library {
-            library.record = library.store.unmounted();
-        }
+        self.library.record = self.library.store.unmounted();
     }
 
     /// Replaces the image under whatever record there is.
     pub fn swap_image(&mut self, image: &[u8]) {
         self.model.image = image.to_vec();
-        if let Some(library) = &mut self.library {
-            library.image = image.to_vec();
-        }
+        self.library.image = image.to_vec();
         self.nor.load(image);
     }
 
@@ -242,9 +234,7 @@ impl Twin {
 
     fn compare(&mut self, call: &Call, expected: &Outcome, before: Head) {
         let head = self.head();
-        let Some(library) = &mut self.library else {
-            return;
-        };
+        let library = &mut self.library;
         let outcome = library.call(call);
         let found = library.head();
         let difference = if outcome != *expected {

@@ -17,9 +17,9 @@ struct Checked {
     reads: u64,
 }
 
-pub fn demo<S: Store>(store: &S, name: &str, out: &mut impl Write) -> io::Result<()> {
+pub fn demo<S: Store>(store: &S, out: &mut impl Write) -> io::Result<()> {
     let mut checked = Checked::default();
-    writeln!(out, "The settings store ({name}) on a board of {LENGTH} bytes of flash, two halves of 256.")?;
+    writeln!(out, "The proved settings store on a board of {LENGTH} bytes of flash, two halves of 256.")?;
     writeln!(out, "In the pictures each letter is a byte:\n\n{LEGEND}\n")?;
     bad_log_request(store, &mut checked, out)?;
     power_cuts(store, &mut checked, out)?;

@@ -5,31 +5,24 @@ mod demo;
 mod picture;
 mod script;
 
-use model::Model;
+use library::Library;
 use std::fs::File;
 use std::io::{self, BufReader, ErrorKind};
 use std::process::ExitCode;
-use store::Store;
 
 const HELP: &str = include_str!("help.txt");
 
 fn main() -> ExitCode {
-    match library::linked() {
-        Some(library) => desk(&library, "the proved library"),
-        None => desk(&Model, "the model, as the proved library is not linked"),
-    }
-}
-
-fn desk<S: Store>(store: &S, name: &str) -> ExitCode {
+    let store = Library::linked();
     let arguments: Vec<String> = std::env::args().skip(1).collect();
     let words: Vec<&str> = arguments.iter().map(String::as_str).collect();
     match words[..] {
-        ["replay"] | ["replay", "-"] => ended(script::replay(store, io::stdin().lock(), io::stdout().lock())),
+        ["replay"] | ["replay", "-"] => ended(script::replay(&store, io::stdin().lock(), io::stdout().lock())),
         ["replay", file] => match File::open(file) {
-            Ok(script) => ended(script::replay(store, BufReader::new(script), io::stdout().lock())),
+            Ok(script) => ended(script::replay(&store, BufReader::new(script), io::stdout().lock())),
             Err(error) => failed(&format!("{file}: {error}")),
         },
-        ["demo"] => ended(demo::demo(store, name, &mut io::stdout().lock())),
+        ["demo"] => ended(demo::demo(&store, &mut io::stdout().lock())),
         ["help" | "--help" | "-h"] => {
             print!("{HELP}");
             ExitCode::SUCCESS

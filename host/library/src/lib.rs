@@ -1,14 +1,8 @@
-//! The proved C library as a `Store`. Without the archive `Library` has no values and `linked` gives none.
+//! The proved C library as a `Store`.
 
-#[cfg(not(linked))]
-mod absent;
-#[cfg(linked)]
-mod linked;
+mod calls;
 
-#[cfg(not(linked))]
-pub use absent::{Library, linked};
-#[cfg(linked)]
-pub use linked::{Library, linked};
+pub use calls::Library;
 
 use store::{Answer, Head, Idle, Store, Stretch};
 

@@ -1,5 +1,4 @@
-//! The edge to C: buffers of wrong sizes, forged records of every kind, nothing kept between calls. Without the
-//! library there is nothing to try, and the gate asks for it (GROMMETIDE_LIBRARY=required).
+//! The edge to C: buffers of wrong sizes, forged records of every kind, nothing kept between calls.
 
 use check::rng::Rng;
 use check::twin::Twin;
@@ -24,7 +23,7 @@ fn finish(library: &Library, image: &mut [u8], record: &mut Record) {
 
 #[test]
 fn record_buffers_of_another_size() {
-    let Some(library) = library::linked() else { return };
+    let library = Library::linked();
     let (mut image, _) = formatted(&library);
     let before = image.clone();
     for size in [0, 1, 6, RECORD_SIZE - 1, RECORD_SIZE + 1, 4096] {
@@ -45,7 +44,7 @@ fn record_buffers_of_another_size() {
 /// Any first byte from 8 on reads as unmounted, and whatever else the record holds then stays as it is.
 #[test]
 fn records_of_no_phase() {
-    let Some(library) = library::linked() else { return };
+    let library = Library::linked();
     let (mut image, _) = formatted(&library);
     let mut rng = Rng::new(1);
     for phase in (8..=255).chain([0]) {
@@ -62,7 +61,7 @@ fn records_of_no_phase() {
 /// An idle record's first six bytes decide, whatever the others are.
 #[test]
 fn idle_records_with_other_bytes_set() {
-    let Some(library) = library::linked() else { return };
+    let library = Library::linked();
     let (mut image, tidy) = formatted(&library);
     let mut rng = Rng::new(2);
     for _ in 0..100 {
@@ -130,7 +129,7 @@ fn run_forged(library: &Library, image: &mut [u8], record: &mut Record) -> Answe
 
 #[test]
 fn forged_jobs() {
-    let Some(library) = library::linked() else { return };
+    let library = Library::linked();
     let mut rng = Rng::new(3);
     let mut twin = Twin::formatted(LENGTH);
     for id in 0..4 {
@@ -153,7 +152,7 @@ fn forged_jobs() {
 
 #[test]
 fn forged_jobs_on_the_largest_image_end_in_time() {
-    let Some(library) = library::linked() else { return };
+    let library = Library::linked();
     let mut rng = Rng::new(5);
     let mut image = vec![0xFF; 65_536];
     let real = library.format(&image).1;
@@ -167,7 +166,7 @@ fn forged_jobs_on_the_largest_image_end_in_time() {
 /// A job under another image of its length: the same bounds hold.
 #[test]
 fn a_job_under_another_image() {
-    let Some(library) = library::linked() else { return };
+    let library = Library::linked();
     let mut rng = Rng::new(4);
     for _ in 0..300 {
         let (image, mut record) = formatted(&library);
@@ -179,7 +178,7 @@ fn a_job_under_another_image() {
 /// Two boards served in turns do as each does alone.
 #[test]
 fn nothing_is_kept_between_calls() {
-    let Some(library) = library::linked() else { return };
+    let library = Library::linked();
     let message = |board: usize, id: u8| message::put(id, &[board as u8; 30]);
     let serve = |boards: &mut [(Vec<u8>, Record)], number: usize, id: u8| {
         let (image, record) = &mut boards[number];

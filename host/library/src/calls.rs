@@ -34,13 +34,14 @@ unsafe extern "C" {
 
 pub struct Library(());
 
-pub fn linked() -> Option<Library> {
-    let size = unsafe { grommetide_record_size() };
-    assert_eq!(size, RECORD_SIZE, "the library's records have another size");
-    Some(Library(()))
-}
-
 impl Library {
+    /// The linked library, whose records must have the size that this wrapper knows.
+    pub fn linked() -> Library {
+        let size = unsafe { grommetide_record_size() };
+        assert_eq!(size, RECORD_SIZE, "the library's records have another size");
+        Library(())
+    }
+
     pub fn mount_into(&self, image: &[u8], record: &mut [u8]) -> Answer {
         Answer(unsafe { grommetide_mount(image.as_ptr(), image.len(), record.as_mut_ptr(), record.len()) })
     }
