@@ -1,0 +1,24 @@
+-- A mount: the record it gives back is written.
+use denote.Ref.{now}
+use borrow.Author.Needs.{needs}
+use borrow.Author.Tests.{eq-eqb, ne-eqb}
+use Rattle.board.specs.Mount.{mountOn}
+use Rattle.grommetide.specs.Edge.{edgeMount}
+use Rattle.grommetide.proofs.Buffers.{handed}
+use Rattle.grommetide.proofs.grommetide_mount.Statement.{statement}
+use Rattle.grommetide.proofs.grommetide_mount.Tie as tie
+
+pub grommetide-mount-spec : {M : Type 1} → statement M
+unfolding edgeMount
+grommetide-mount-spec =
+    tie.close
+    (tie.spec
+    (λ c. let t = ne-eqb _ _ (c .if1 .taken) in (rw t, rw t))
+    (λ c κs. search needs)
+    (λ c κs. search needs)
+    (λ c. search needs)
+    (λ c.
+    let c4 = c .before .before .before .before in
+    let l = c4 .before .if1 .left in
+    let m = c4 .mount .ensures in
+    rw (eq-eqb _ _ l) (handed _ _ _ _ (mountOn (now (c4 .before .before .before .before .args .image))) l (record { answers = m .0; leaves = m .1 }) (c .before .before .hand-over .ensures))))

@@ -1,0 +1,66 @@
+-- What each exported function does to the buffers that it is lent: the board's definitions, with the record as bytes.
+use mathlib.Core.List.{List, []}
+use mathlib.Core.Bool.{Bool, true, false, cond}
+use Prim.Native.Nat.{ℕ}
+use lib.Dec.{eqb}
+use lib.ListN.{length}
+use Rattle.wire.specs.declared.Answer.{Answer}
+use Rattle.wire.specs.declared.Answer.the-variants.{Done, More, Refused}
+use Rattle.wire.specs.Answer.{edgeNumber}
+use Rattle.board.specs.declared.Phase.{Phase}
+use Rattle.board.specs.declared.Phase.the-variants.{Unmounted, Idle, Busy}
+use Rattle.board.specs.Record.{Out}
+use Rattle.board.specs.Step.{stepOn}
+use Rattle.board.specs.Mount.{mountOn, formatOn}
+use Rattle.board.specs.Queue.{requestOn}
+use Rattle.lent.specs.Layout.{recordSize, recordIn, bytesOf}
+
+-- an answer's number, and the buffers after the call
+pub record Edge : Type 0 where
+  pub answer : ℕ
+  pub image : List ℕ
+  pub board : List ℕ
+  pub reply : List ℕ
+
+abbrev pub edge : ℕ → List ℕ → List ℕ → List ℕ → Edge
+edge n img b reply = record { answer = n; image = img; board = b; reply = reply }
+
+abbrev pub holdsRecord : List ℕ → Bool
+holdsRecord b = eqb (length b) recordSize
+
+-- what a call came to; with a record buffer of any other size it is 254, and nothing is done
+abbrev pub guarded : List ℕ → List ℕ → List ℕ → Out → List ℕ → Edge
+guarded img b reply o after =
+    cond (holdsRecord b) (edge (edgeNumber (o .answer)) (o .image) after (o .reply)) (edge 254 img b reply)
+
+-- ---- mount and format write the record, whatever stood there
+
+unfoldable pub edgeMount : List ℕ → List ℕ → Edge
+edgeMount img b = guarded img b [] (mountOn img) (bytesOf (mountOn img .board))
+
+unfoldable pub edgeFormat : List ℕ → List ℕ → Edge
+edgeFormat img b = guarded img b [] (formatOn img) (bytesOf (formatOn img .board))
+
+-- ---- requests and steps write it only where a job began, went on or ended
+
+abbrev pub inJob : Phase → Bool
+inJob Unmounted = false
+inJob Idle = false
+inJob (Busy s) = true
+
+-- by the phase before the call
+abbrev pub writes : Phase → Answer → Bool
+writes p Done = inJob p
+writes p More = true
+writes p (Refused n) = false
+
+abbrev pub written : List ℕ → Out → List ℕ
+written b o = cond (writes (recordIn b .phase) (o .answer)) (bytesOf (o .board)) b
+
+unfoldable pub edgeRequest : List ℕ → List ℕ → ℕ → List ℕ → List ℕ → Edge
+edgeRequest img b h m reply =
+    let o : Out = requestOn img (recordIn b) reply (record { 0 = h }) m in
+    guarded img b reply o (written b o)
+
+unfoldable pub edgeStep : List ℕ → List ℕ → Edge
+edgeStep img b = let o : Out = stepOn img (recordIn b) in guarded img b [] o (written b o)

@@ -1,0 +1,122 @@
+// The library for C: include/grommetide.h. The record crosses as bytes.
+ghost use mathlib.Core.Path.{_≡_};
+ghost use mathlib.Core.Bool.{cond};
+ghost use Rattle.wire.specs.Answer.{edgeNumber};
+ghost use Rattle.lent.specs.Layout.{recordSize, recordInto};
+ghost use Rattle.grommetide.specs.Edge.{inJob, writes, edgeMount, edgeFormat, edgeRequest, edgeStep};
+use board::Phase;
+use frame::Host;
+use lent::RECORD_SIZE;
+use store::Outcome;
+use wire::Answer;
+
+// The answer to a record buffer of another size.
+const WRONG_RECORD: u8 = 254;
+
+#[no_mangle]
+pub extern "C" fn grommetide_record_size() -> usize
+    ensures { λ r. ⌜ r ≡ recordSize ⌝ }
+{
+    RECORD_SIZE
+}
+
+// The record written, and the answer.
+fn hand_over(out: Outcome, board: &mut [u8]) -> u8
+    ensures { λ r. ⌜ (r ≡ edgeNumber (out .answer)) × (now (board .exit) ≡ recordInto (out .board) (now (board .entry))) ⌝ }
+{
+    let b = out.board;
+    lent::encode(b, board);
+    let answer = out.answer;
+    wire::number(answer)
+}
+
+#[no_mangle]
+pub extern "C" fn grommetide_mount(image: &[u8], board: &mut [u8]) -> u8
+    ensures { λ r. ⌜ (r ≡ edgeMount (now (image .entry)) (now (board .entry)) .answer)
+        × (now (board .exit) ≡ edgeMount (now (image .entry)) (now (board .entry)) .board) ⌝ }
+{
+    if board.len() != RECORD_SIZE {
+        return WRONG_RECORD;
+    }
+    hand_over(store::mount(image), board)
+}
+
+#[no_mangle]
+pub extern "C" fn grommetide_format(image: &[u8], board: &mut [u8]) -> u8
+    ensures { λ r. ⌜ (r ≡ edgeFormat (now (image .entry)) (now (board .entry)) .answer)
+        × (now (board .exit) ≡ edgeFormat (now (image .entry)) (now (board .entry)) .board) ⌝ }
+{
+    if board.len() != RECORD_SIZE {
+        return WRONG_RECORD;
+    }
+    hand_over(store::format(image), board)
+}
+
+fn in_job(phase: Phase) -> bool
+    ensures { λ r. ⌜ r ≡ inJob phase ⌝ }
+{
+    match phase {
+        Phase::Unmounted => false,
+        Phase::Idle => false,
+        Phase::Busy(_) => true,
+    }
+}
+
+// A job began, went on or ended.
+fn writes(phase: Phase, answer: Answer) -> bool
+    ensures { λ r. ⌜ r ≡ writes phase answer ⌝ }
+{
+    match answer {
+        Answer::Done => in_job(phase),
+        Answer::More => true,
+        Answer::Refused(_) => false,
+    }
+}
+
+// The record written where it changed, by the phase before the call; and the answer.
+fn finish(phase: Phase, out: Outcome, board: &mut [u8]) -> u8
+    ensures { λ r. ⌜ (r ≡ edgeNumber (out .answer))
+        × (now (board .exit) ≡ cond (writes phase (out .answer)) (recordInto (out .board) (now (board .entry))) (now (board .entry))) ⌝ }
+{
+    let answer = out.answer;
+    if writes(phase, answer) {
+        return hand_over(out, board);
+    }
+    wire::number(answer)
+}
+
+#[no_mangle]
+pub extern "C" fn grommetide_request(
+    image: &[u8],
+    board: &mut [u8],
+    host: u8,
+    message: &[u8],
+    reply: &mut [u8],
+) -> u8
+    ensures { λ r. ⌜ (r ≡ edgeRequest (now (image .entry)) (now (board .entry)) host (now (message .entry)) (now (reply .entry)) .answer)
+        × (now (board .exit) ≡ edgeRequest (now (image .entry)) (now (board .entry)) host (now (message .entry)) (now (reply .entry)) .board)
+        × (now (reply .exit) ≡ edgeRequest (now (image .entry)) (now (board .entry)) host (now (message .entry)) (now (reply .entry)) .reply) ⌝ }
+{
+    if board.len() != RECORD_SIZE {
+        return WRONG_RECORD;
+    }
+    let b = lent::decode(board);
+    let out = store::request(image, b, Host(host), message, reply);
+    let phase = b.phase;
+    finish(phase, out, board)
+}
+
+#[no_mangle]
+pub extern "C" fn grommetide_step(image: &mut [u8], board: &mut [u8]) -> u8
+    ensures { λ r. ⌜ (r ≡ edgeStep (now (image .entry)) (now (board .entry)) .answer)
+        × (now (image .exit) ≡ edgeStep (now (image .entry)) (now (board .entry)) .image)
+        × (now (board .exit) ≡ edgeStep (now (image .entry)) (now (board .entry)) .board) ⌝ }
+{
+    if board.len() != RECORD_SIZE {
+        return WRONG_RECORD;
+    }
+    let b = lent::decode(board);
+    let out = store::step(image, b);
+    let phase = b.phase;
+    finish(phase, out, board)
+}
