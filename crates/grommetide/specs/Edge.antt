@@ -1,7 +1,8 @@
 -- What each exported function does to the buffers that it is lent: the board's definitions, with the record as bytes.
+use mathlib.Core.Path.{_≡_}
 use mathlib.Core.List.{List, []}
 use mathlib.Core.Bool.{Bool, true, false, cond}
-use Prim.Native.Nat.{ℕ}
+use Prim.Native.Nat.{ℕ, _<_}
 use lib.Dec.{eqb}
 use lib.ListN.{length}
 use Rattle.wire.specs.declared.Answer.{Answer}
@@ -9,6 +10,7 @@ use Rattle.wire.specs.declared.Answer.the-variants.{Done, More, Refused}
 use Rattle.wire.specs.Answer.{edgeNumber}
 use Rattle.board.specs.declared.Phase.{Phase}
 use Rattle.board.specs.declared.Phase.the-variants.{Unmounted, Idle, Busy}
+use Rattle.board.specs.declared.Record.{Record}
 use Rattle.board.specs.Record.{Out}
 use Rattle.board.specs.Step.{stepOn}
 use Rattle.board.specs.Mount.{mountOn, formatOn}
@@ -64,3 +66,21 @@ edgeRequest img b h m reply =
 
 unfoldable pub edgeStep : List ℕ → List ℕ → Edge
 edgeStep img b = let o : Out = stepOn img (recordIn b) in guarded img b [] o (written b o)
+
+-- ---- what callers rely on
+
+-- any answer but 0 and 255
+abbrev pub Refuses : ℕ → Type 0
+Refuses n = (0 < n) × (n < 255)
+
+abbrev pub Stays : List ℕ → List ℕ → List ℕ → Edge → Type 0
+Stays img b reply e = Refuses (e .answer) → e ≡ edge (e .answer) img b reply
+
+-- "Every refusal .. changes no byte of image, reply or record"; nor does 254
+pub record RefusedStays : Type 0 where
+  pub request : (img b : List ℕ) (h : ℕ) (m reply : List ℕ) → Stays img b reply (edgeRequest img b h m reply)
+  pub step : (img b : List ℕ) → Stays img b [] (edgeStep img b)
+
+-- the buffer after a call reads as the record that the board's definition gives back
+abbrev pub ReadsBack : List ℕ → List ℕ → Record → Type 0
+ReadsBack b after r = length b ≡ recordSize → recordIn after ≡ r

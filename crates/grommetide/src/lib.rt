@@ -2,8 +2,11 @@
 ghost use mathlib.Core.Path.{_≡_};
 ghost use mathlib.Core.Bool.{cond};
 ghost use Rattle.wire.specs.Answer.{edgeNumber};
-ghost use Rattle.lent.specs.Layout.{recordSize, recordInto};
-ghost use Rattle.grommetide.specs.Edge.{inJob, writes, edgeMount, edgeFormat, edgeRequest, edgeStep};
+ghost use Rattle.board.specs.Step.{stepOn};
+ghost use Rattle.board.specs.Mount.{mountOn, formatOn};
+ghost use Rattle.board.specs.Queue.{requestOn};
+ghost use Rattle.lent.specs.Layout.{recordSize, recordIn, recordInto};
+ghost use Rattle.grommetide.specs.Edge.{inJob, writes, edgeMount, edgeFormat, edgeRequest, edgeStep, ReadsBack};
 use board::Phase;
 use frame::Host;
 use lent::RECORD_SIZE;
@@ -34,6 +37,7 @@ fn hand_over(out: Outcome, board: &mut [u8]) -> u8
 pub extern "C" fn grommetide_mount(image: &[u8], board: &mut [u8]) -> u8
     ensures { λ r. ⌜ (r ≡ edgeMount (now (image .entry)) (now (board .entry)) .answer)
         × (now (board .exit) ≡ edgeMount (now (image .entry)) (now (board .entry)) .board) ⌝ }
+    ensures back { λ r. ⌜ ReadsBack (now (board .entry)) (now (board .exit)) (mountOn (now (image .entry)) .board) ⌝ }
 {
     if board.len() != RECORD_SIZE {
         return WRONG_RECORD;
@@ -45,6 +49,7 @@ pub extern "C" fn grommetide_mount(image: &[u8], board: &mut [u8]) -> u8
 pub extern "C" fn grommetide_format(image: &[u8], board: &mut [u8]) -> u8
     ensures { λ r. ⌜ (r ≡ edgeFormat (now (image .entry)) (now (board .entry)) .answer)
         × (now (board .exit) ≡ edgeFormat (now (image .entry)) (now (board .entry)) .board) ⌝ }
+    ensures back { λ r. ⌜ ReadsBack (now (board .entry)) (now (board .exit)) (formatOn (now (image .entry)) .board) ⌝ }
 {
     if board.len() != RECORD_SIZE {
         return WRONG_RECORD;
@@ -96,6 +101,8 @@ pub extern "C" fn grommetide_request(
     ensures { λ r. ⌜ (r ≡ edgeRequest (now (image .entry)) (now (board .entry)) host (now (message .entry)) (now (reply .entry)) .answer)
         × (now (board .exit) ≡ edgeRequest (now (image .entry)) (now (board .entry)) host (now (message .entry)) (now (reply .entry)) .board)
         × (now (reply .exit) ≡ edgeRequest (now (image .entry)) (now (board .entry)) host (now (message .entry)) (now (reply .entry)) .reply) ⌝ }
+    ensures back { λ r. ⌜ ReadsBack (now (board .entry)) (now (board .exit))
+        (requestOn (now (image .entry)) (recordIn (now (board .entry))) (now (reply .entry)) (record { 0 = host }) (now (message .entry)) .board) ⌝ }
 {
     if board.len() != RECORD_SIZE {
         return WRONG_RECORD;
@@ -111,6 +118,7 @@ pub extern "C" fn grommetide_step(image: &mut [u8], board: &mut [u8]) -> u8
     ensures { λ r. ⌜ (r ≡ edgeStep (now (image .entry)) (now (board .entry)) .answer)
         × (now (image .exit) ≡ edgeStep (now (image .entry)) (now (board .entry)) .image)
         × (now (board .exit) ≡ edgeStep (now (image .entry)) (now (board .entry)) .board) ⌝ }
+    ensures back { λ r. ⌜ ReadsBack (now (board .entry)) (now (board .exit)) (stepOn (now (image .entry)) (recordIn (now (board .entry))) .board) ⌝ }
 {
     if board.len() != RECORD_SIZE {
         return WRONG_RECORD;

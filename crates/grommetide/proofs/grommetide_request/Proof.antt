@@ -3,7 +3,10 @@ use denote.Ref.{now}
 use borrow.Author.Needs.{needs}
 use borrow.Author.Tests.{eq-eqb, ne-eqb}
 use Rattle.board.specs.Queue.{requestOn}
+use Rattle.lent.specs.Layout.{recordIn}
 use Rattle.grommetide.specs.Edge.{edgeRequest}
+use Rattle.grommetide.proofs.Kept.{request-keeps}
+use Rattle.grommetide.proofs.Typed.{outcome-fits}
 use Rattle.grommetide.proofs.Buffers.{finished}
 use Rattle.grommetide.proofs.grommetide_request.Statement.{statement}
 use Rattle.grommetide.proofs.grommetide_request.Tie as tie
@@ -13,7 +16,7 @@ unfolding edgeRequest
 grommetide-request-spec =
     tie.close
     (tie.spec
-    (λ c. let t = ne-eqb _ _ (c .if1 .taken) in (rw t, rw t, rw t))
+    (λ c. let t = ne-eqb _ _ (c .if1 .taken) in ((rw t, rw t, rw t), λ l. absurd (c .if1 .taken l)))
     (λ c κs. search needs)
     (λ c κs. search needs)
     (λ c κs. search needs)
@@ -25,9 +28,10 @@ grommetide-request-spec =
     let c10 = c8 .before .before in
     let a = c10 .before .before .before .before .before .args in
     let l = c10 .if1 .left in
+    let r = c6 .request .result in
+    let b = now (a .board) in
+    let o = requestOn (now (a .image)) (recordIn b) (now (a .reply)) (record { 0 = a .host }) (now (a .message)) in
     let s = rw (c8 .decode .ensures) at (c6 .request .ensures) in
     let h = rw (c8 .decode .ensures) at (c .before .before .finish .ensures) in
-    let z =
-    finished (now (a .board)) _ _ _ (requestOn (now (a .image)) _ (now (a .reply)) _ (now (a .message))) l
-    (record { answers = s .0; leaves = s .1 }) h in
-    rw (eq-eqb _ _ l) (z .0, z .1, s .2)))
+    let z = finished b _ _ r o l (outcome-fits r _ (c6 .request .ok)) (s .0) (s .1) (request-keeps _ _ _ _ _) h in
+    (rw (eq-eqb _ _ l) (z .0 .0, z .0 .1, s .2), λ _. z .1)))

@@ -3,7 +3,10 @@ use denote.Ref.{now}
 use borrow.Author.Needs.{needs}
 use borrow.Author.Tests.{eq-eqb, ne-eqb}
 use Rattle.board.specs.Step.{stepOn}
+use Rattle.lent.specs.Layout.{recordIn}
 use Rattle.grommetide.specs.Edge.{edgeStep}
+use Rattle.grommetide.proofs.Kept.{step-keeps}
+use Rattle.grommetide.proofs.Typed.{outcome-fits}
 use Rattle.grommetide.proofs.Buffers.{finished}
 use Rattle.grommetide.proofs.grommetide_step.Statement.{statement}
 use Rattle.grommetide.proofs.grommetide_step.Tie as tie
@@ -13,7 +16,7 @@ unfolding edgeStep
 grommetide-step-spec =
     tie.close
     (tie.spec
-    (λ c. let t = ne-eqb _ _ (c .if1 .taken) in (rw t, rw t, rw t))
+    (λ c. let t = ne-eqb _ _ (c .if1 .taken) in ((rw t, rw t, rw t), λ l. absurd (c .if1 .taken l)))
     (λ c κs. search needs)
     (λ c κs. search needs)
     (λ c κs. search needs)
@@ -25,7 +28,10 @@ grommetide-step-spec =
     let c10 = c8 .before .before in
     let c13 = c10 .before .before .before in
     let l = c10 .if1 .left in
+    let r = c6 .step .result in
+    let b = now (c13 .args .board) in
+    let o = stepOn (now (c13 .args .image)) (recordIn b) in
     let s = rw (c8 .decode .ensures) at (c6 .step .ensures) in
     let h = rw (c8 .decode .ensures) at (c .before .before .finish .ensures) in
-    let z = finished (now (c13 .args .board)) _ _ _ (stepOn (now (c13 .args .image)) _) l (record { answers = s .1; leaves = s .2 }) h in
-    rw (eq-eqb _ _ l) (z .0, s .0, z .1)))
+    let z = finished b _ _ r o l (outcome-fits r _ (c6 .step .ok)) (s .1) (s .2) (step-keeps _ _) h in
+    (rw (eq-eqb _ _ l) (z .0 .0, s .0, z .0 .1), λ _. z .1)))
