@@ -2,7 +2,7 @@
 ghost use Prim.Native.Nat.{_+_, _≤_};
 use board::Record;
 use frame::Host;
-use store::Outcome;
+use job::Outcome;
 
 // What a call and the steps after it came to: the last answer, 255 for more, and how many steps there were.
 struct Ran {
@@ -115,7 +115,7 @@ fn run(image: &mut [u8], begun: Outcome, most: usize) -> Ran {
         if answer != 255 {
             break;
         }
-        let next = store::step(image, board);
+        let next = job::step(image, board);
         let now = next.answer;
         board = next.board;
         answer = wire::number(now);

@@ -45,6 +45,13 @@ drop-cut a i l h =
     (λ e q. drop-of-length-le l {i = a} (omega arith) ∙ sym (drop-of-length-le l {i = i} (omega arith)))
     (λ e q. drop-of-length-le l {i = a} (omega arith) ∙ sym (drop-of-length-le l {i = i} (omega arith)))
 
+-- a block as far as it is there
+pub block-part : (s k a e : ℕ) (img : List ℕ) → a ≡ min (length img) (k * s) → e ≡ a + min s (length img - a)
+    → take (e - a) (drop a img) ≡ block s k img
+block-part s k a e img p q =
+    let n : e - a ≡ min (length (drop a img)) s = simp length-drop (omega arith) in
+    take-cut (e - a) s (drop a img) n ∙ ap (take s) (drop-cut a (k * s) img p)
+
 -- a block erased as far as it is there
 pub erase-part : (s k a e : ℕ) (img : List ℕ) → a ≡ min (length img) (k * s) → e ≡ a + min s (length img - a)
     → take a img ++ (replicate (e - a) 255 ++ drop e img) ≡ eraseBlock s k img

@@ -3,7 +3,7 @@ ghost use mathlib.Core.Path.{_≡_};
 ghost use Prim.Native.Nat.{_+_, _*_, _-_, _≤_, min};
 ghost use lib.ListN.{length, replicate};
 ghost use Rattle.flash.specs.Bytes.{allFF};
-ghost use Rattle.flash.specs.Flash.{programAt, eraseBlock};
+ghost use Rattle.flash.specs.Flash.{sizeOf, block, programAt, eraseBlock};
 
 // Every byte is 0xFF.
 pub fn is_blank(s: &[u8]) -> bool
@@ -62,6 +62,16 @@ fn reach(size: usize, start: usize, end: usize) -> usize
         return end;
     }
     start + size
+}
+
+// A block of the image by its number, as much of it as there is.
+pub fn block_of(image: &[u8], number: u8) -> &[u8]
+    ensures { λ r. ⌜ now r ≡ block (sizeOf (now (image .entry))) number (now (image .entry)) ⌝ }
+{
+    let size = image.len() / 2;
+    let from = start_of(size, number as usize, image.len());
+    let to = reach(size, from, image.len());
+    &image[from..to]
 }
 
 // Erases one block, as much of it as there is.

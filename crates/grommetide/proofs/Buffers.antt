@@ -11,7 +11,7 @@ use Rattle.board.specs.declared.Record.{Record}
 use Rattle.board.specs.Record.{Out}
 use Rattle.lent.specs.Layout.{recordSize, recordIn, bytesOf, recordInto, RecordFits, BytesBack}
 use Rattle.lent.proofs.Inverse.{bytes-back}
-use Rattle.store.specs.declared.Outcome.{Outcome}
+use Rattle.job.specs.declared.Outcome.{Outcome}
 use Rattle.grommetide.specs.Edge.{writes, written}
 use Rattle.grommetide.proofs.Kept.{Keeps}
 

@@ -15,8 +15,8 @@ use Rattle.board.specs.declared.Record.{Record}
 use Rattle.board.proofs.Job as job
 use Rattle.board.proofs.Cursor as cursor
 use Rattle.board.proofs.Record as board
-use Rattle.store.specs.declared.Outcome.{Outcome}
-use Rattle.store.proofs.Outcome as outcome
+use Rattle.job.specs.declared.Outcome.{Outcome}
+use Rattle.job.proofs.Outcome as outcome
 use Rattle.lent.specs.Layout.{Words, SomeBytes, SomeWords, JobFits, CursorFits, RecordFits}
 
 -- the elements of an array, one by one

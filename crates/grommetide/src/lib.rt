@@ -9,8 +9,8 @@ ghost use Rattle.lent.specs.Layout.{recordSize, recordIn, recordInto};
 ghost use Rattle.grommetide.specs.Edge.{inJob, writes, edgeMount, edgeFormat, edgeRequest, edgeStep, ReadsBack};
 use board::Phase;
 use frame::Host;
+use job::Outcome;
 use lent::RECORD_SIZE;
-use store::Outcome;
 use wire::Answer;
 
 // The answer to a record buffer of another size.
@@ -124,7 +124,7 @@ pub extern "C" fn grommetide_step(image: &mut [u8], board: &mut [u8]) -> u8
         return WRONG_RECORD;
     }
     let b = lent::decode(board);
-    let out = store::step(image, b);
+    let out = job::step(image, b);
     let phase = b.phase;
     finish(phase, out, board)
 }

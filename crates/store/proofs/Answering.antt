@@ -34,7 +34,7 @@ use Rattle.wire.proofs.Parsing.{InRange}
 use Rattle.board.specs.declared.Record.{Record}
 use Rattle.board.specs.Record.{Out}
 use Rattle.board.specs.Queue.{Held, needsRoom, append, serveChange, serveEnd, serveRead, serveLog, serve}
-use Rattle.store.specs.declared.Outcome.{Outcome}
+use Rattle.job.specs.declared.Outcome.{Outcome}
 use Rattle.store.specs.Calls.{outcome, refused, done, bytesOf, appendIn, changeIn, endIn, readIn, logIn, serveIn, replyIn}
 use Rattle.store.proofs.Rooms.{no-room-is}
 use Rattle.store.proofs.Choosing.{outcome-cond}

@@ -101,9 +101,6 @@ module _ (img : List ℕ) (r : Record) (h : Host) where
 
 -- ---- the block itself
 
-heldOf : ℕ → List Frame → Held
-heldOf t fs = record { time = t; frames = fs }
-
 -- by its state: what the survey's test says
 data Holding (size end : ℕ) (s : BlockState) : Type 0 where
   holds-not : holdsIn size end (surveyOf s) ≡ false → heldIn size end s ≡ none → Holding size end s
@@ -145,9 +142,6 @@ pub record Served (img : List ℕ) (r : Record) (h : Host) (m : List ℕ) (q : R
   pub says : parse m ≡ Is q
 
 module _ (img : List ℕ) (r : Record) (h : Host) (m : List ℕ) (y : Bytes img) (p : Passed img r h) where
-  abbrev here : List ℕ
-  here = block (sizeOf img) (r .block) img
-
   there : r .block < blocks
   there = same-inside img (r .last) (r .block) (p .same)
 

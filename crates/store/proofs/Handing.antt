@@ -33,7 +33,7 @@ use Rattle.wire.specs.declared.Request.the-variants.{Put, Delete, Commit, Abort
 use Rattle.wire.specs.Message.{parse, valueIn, pageLen}
 use Rattle.wire.proofs.Parsing.{InRange, in-range}
 use Rattle.board.specs.declared.Record.{Record}
-use Rattle.board.specs.Record.{allowed, noStretch, Out, refuse}
+use Rattle.board.specs.Record.{allowed, Stretch, noStretch, Out, refuse}
 use Rattle.board.proofs.Images.{Sized, sized-of, sized-block}
 use Rattle.board.specs.Queue.{Held, needsRoom, append, serveChange, serveEnd, serveRead, serveLog, serve, stretchOf, requestOn, readOn}
 use Rattle.store.specs.declared.queue.Ask.{Ask}
@@ -182,3 +182,8 @@ module _ {img : List ℕ} {r : Record} {h : Host} {m : List ℕ} {s : Survey} {a
             found-inside img r [] h (served .held) (served .contents) m q at n range
             (ap (λ (b : List ℕ). foundFor (block (sizeOf img) (r .block) img) b q) (sym places-now) ∙ sym found-here ∙ eg) in
             omega (arith, i, block-length img (r .block) ok there, sized-block (r .block) z there, z .two, z .high)
+
+-- a stretch by its numbers
+pub located : {o : Stretch} (s : Stretch) (n : ℕ) → o ≡ s → (a k : ℕ) → a ≡ s .at → k ≡ s .size → s .at + s .size ≤ n
+    → (a ≡ o .at) × (k ≡ o .size) × (a + k ≤ n)
+located s n e a k p q h = (p ∙ sym (ap (λ (x : Stretch). x .at) e), q ∙ sym (ap (λ (x : Stretch). x .size) e), omega arith)

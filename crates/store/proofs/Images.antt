@@ -2,11 +2,10 @@
 use mathlib.Core.Path.{_≡_, refl, ap}
 use mathlib.Core.List.{List, [], _∷_}
 use mathlib.Core.Bool.{Bool, true, false, _&&_}
-use Prim.Native.Nat.{ℕ, zero, suc, _-_, _≤_, _<_}
+use Prim.Native.Nat.{ℕ, zero, suc, _≤_, _<_}
 use native.Mathlib.Omega.{arith}
-use native.Mathlib.Nat.{zero-mul, one-mul}
 use lib.Dec.{eqb, ltb}
-use lib.ListN.{length, getD, take, drop}
+use lib.ListN.{length, getD}
 use borrow.Author.Tests.{ltb-true}
 use Rattle.flash.specs.Bytes.{Bytes, allFF}
 use Rattle.flash.specs.Flash.{blocks, blockNumbers, block, sizeOf}
@@ -23,17 +22,7 @@ pub all-bytes : (l : List ℕ) → ((i : ℕ) → getD l i 0 < 256) → Bytes l
 all-bytes [] f = tt
 all-bytes (b ∷ l) f = (f 0, all-bytes l (λ i. f (suc i)))
 
--- ---- the two blocks as parts of the image
-
-pub first-block : (s : ℕ) (img : List ℕ) → take s img ≡ block s 0 img
-first-block s img = rw (zero-mul s)
-
-pub second-block : (img : List ℕ) → allowed (length img) ≡ true
-    → take (length img - sizeOf img) (drop (sizeOf img) img) ≡ block (sizeOf img) 1 img
-second-block img a =
-    let z : Sized (sizeOf img) img = sized-of img a in
-    let e : length img - sizeOf img ≡ sizeOf img = omega (arith, z .two) in
-    rw (one-mul (sizeOf img), e)
+-- ---- a block's length
 
 pub block-length : (img : List ℕ) (k : ℕ) → allowed (length img) ≡ true → k < blocks → length (block (sizeOf img) k img) ≡ sizeOf img
 block-length img k a h = length-block (sizeOf img) k img (sized-block k (sized-of img a) h)

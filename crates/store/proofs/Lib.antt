@@ -1,4 +1,3 @@
-pub mod Entering
 pub mod Images
 pub mod Rooms
 pub mod Choosing
@@ -6,6 +5,3 @@ pub mod Asking
 pub mod Answering
 pub mod Outcomes
 pub mod Handing
-pub mod Acting
-pub mod Advancing
-pub mod Loading

@@ -26,8 +26,8 @@ use Rattle.board.specs.Step.{enterWipe}
 use Rattle.board.specs.Queue.{requestOn}
 use Rattle.board.specs.Mount.{mountOn, formatOn}
 use Rattle.board.proofs.Outcomes.{format-begins}
-use Rattle.store.specs.Code.{busyWith}
-use Rattle.store.specs.declared.Outcome.{Outcome}
+use Rattle.job.specs.Code.{busyWith}
+use Rattle.job.specs.declared.Outcome.{Outcome}
 use Rattle.store.specs.declared.mounts.Choice.{Choice}
 use Rattle.store.specs.Calls.{outcome, refused, begun, needsIn, mountRecord, mountIn, chooseOf, mountChosen, appendRecord, bytesOf, appendIn, changeIn}
 use Rattle.store.proofs.Choosing.{mounts}

@@ -33,8 +33,8 @@ use Rattle.board.specs.declared.Record.{Record}
 use Rattle.board.specs.Record.{allowed, noMarks, noFrame, unmounted, Stretch, noStretch, Out, answerOf}
 use Rattle.board.specs.Step.{enterWipe}
 use Rattle.board.specs.Mount.{nextBlock, newTime}
-use Rattle.store.specs.Code.{busyWith}
-use Rattle.store.specs.declared.Outcome.{Outcome}
+use Rattle.job.specs.Code.{busyWith}
+use Rattle.job.specs.declared.Outcome.{Outcome}
 use Rattle.store.specs.declared.mounts.Choice.{Choice}
 use Rattle.store.specs.declared.mounts.Choice.the-variants as choice
 use Rattle.store.specs.declared.queue.Gate.{Gate}

@@ -1,9 +1,5 @@
 // The image: which lengths are allowed, and its blocks.
 ghost use mathlib.Core.Path.{_≡_};
-ghost use mathlib.Core.Bool.{true};
-ghost use Prim.Native.Nat.{_<_};
-ghost use lib.ListN.{length};
-ghost use Rattle.flash.specs.Flash.{blocks, block, sizeOf};
 ghost use Rattle.board.specs.Record.{allowed};
 ghost use Rattle.board.specs.Mount.{nextBlock};
 ghost use Rattle.store.specs.Calls.{sameAs};
@@ -27,21 +23,8 @@ pub fn next_block(number: u8) -> u8
     if number == 0 { 1 } else { 0 }
 }
 
-// A block of the image.
-pub fn block_of(image: &[u8], number: u8) -> &[u8]
-    requires { ⌜ (allowed (length (now image)) ≡ true) × (number < blocks) ⌝ }
-    ensures { λ r. ⌜ now r ≡ block (sizeOf (now (image .entry))) number (now (image .entry)) ⌝ }
-{
-    let size = image.len() / 2;
-    if number == 0 {
-        return &image[..size];
-    }
-    &image[size..]
-}
-
 // The image has the recorded length, the recorded block is there, and the other is blank.
 pub fn same_image(image: &[u8], last: u16, number: u8) -> bool
-    requires { ⌜ allowed (length (now image)) ≡ true ⌝ }
     ensures { λ r. ⌜ r ≡ sameAs (now (image .entry)) last number ⌝ }
 {
     if image.len() != last as usize + 1 {
@@ -50,5 +33,5 @@ pub fn same_image(image: &[u8], last: u16, number: u8) -> bool
     if 2 <= number {
         return false;
     }
-    flash::is_blank(block_of(image, next_block(number)))
+    flash::is_blank(flash::block_of(image, next_block(number)))
 }

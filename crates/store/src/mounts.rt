@@ -6,12 +6,12 @@ ghost use Rattle.journal.specs.Block.{lastTime};
 ghost use Rattle.journal.specs.Room.{one};
 ghost use Rattle.board.specs.Mount.{newTime, mountOn, formatOn};
 ghost use Rattle.store.specs.Calls.{refused, isValid, isForeignKind, isBlankKind, chooseValid, chooseOf, needsIn, wipeOther, mountIn, mountChosen};
-use crate::Outcome;
 use crate::image;
-use crate::records;
 use crate::room;
 use board::Job;
 use board::Record;
+use job::Outcome;
+use job::records;
 use journal::BlockKind;
 use journal::Survey;
 use wire::Answer;
@@ -206,8 +206,8 @@ pub fn mount(image: &[u8]) -> Outcome
     }
     let mut p = records::no_places();
     let mut q = records::no_places();
-    let a = journal::survey_block(image::block_of(image, 0), &mut p);
-    let b = journal::survey_block(image::block_of(image, 1), &mut q);
+    let a = journal::survey_block(flash::block_of(image, 0), &mut p);
+    let b = journal::survey_block(flash::block_of(image, 1), &mut q);
     mount_chosen((image.len() - 1) as u16, choose(a, b), a, p, b, q)
 }
 

@@ -44,7 +44,7 @@ request-spec =
     (λ c. refused-all _ _ _ _ _ _ _ (shut _ _ _ _ _ _ (sym (c .before .before .before .before .check .ensures) ∙ c .before .before .why .given .1)) (c .refused .ensures))
     (λ c. search needs)
     (λ c κs. search needs)
-    (λ c κs. ((opened (c .before)) .ok, same-inside _ _ _ ((opened (c .before)) .same)))
+    (λ c κs. search needs)
     (λ c κs. rw (c .before .block-of .ensures) (looks _ _ _ (now (c .before .before .before .before .before .before .before .before .before .args .message)) (bytes (c .before)) (opened (c .before .before .before))))
     (λ c κs. search needs)
     (λ c. search needs)

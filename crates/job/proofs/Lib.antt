@@ -1,0 +1,4 @@
+pub mod Entering
+pub mod Acting
+pub mod Advancing
+pub mod Loading

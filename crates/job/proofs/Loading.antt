@@ -1,0 +1,70 @@
+-- The next frame to copy: where it lies, its bytes in the buffer, and the record that has it.
+use mathlib.Core.Path.{_≡_, refl, sym, ap, ap₂, _∙_}
+use mathlib.Core.List.{List}
+use Prim.Native.Nat.{ℕ, _+_, _-_, _≤_, _<_}
+use native.Mathlib.Omega.{arith}
+use lib.ListN.{length, take, drop, length-take, length-drop}
+use lib.Seq.{take-all}
+use Rattle.flash.specs.Flash.{block, sizeOf}
+use Rattle.frame.specs.declared.Head.{Head}
+use Rattle.frame.specs.declared.Head.the-variants as head
+use Rattle.frame.specs.Frame.{valueMax, frameLen, encode, buffer}
+use Rattle.frame.specs.Code.{frameOf, headLen, valueLen}
+use Rattle.journal.specs.declared.Fetch.{Fetch}
+use Rattle.journal.specs.declared.Fetched.{Fetched}
+use Rattle.journal.specs.declared.Fetched.the-variants as fetched
+use Rattle.journal.specs.Index.{nextLoad}
+use Rattle.journal.specs.Survey.{loadOf}
+use Rattle.board.specs.declared.Stage.the-variants.{Copy, Seal}
+use Rattle.board.specs.declared.Record.{Record}
+use Rattle.board.specs.Record.{cursor}
+use Rattle.board.specs.Step.{enter, loaded, enterCopy}
+use Rattle.board.proofs.Outcomes.{nextFor, copy-loads, copy-ends}
+use Rattle.job.specs.declared.records.Numbers.{Numbers}
+use Rattle.job.specs.Code.{assemble, staged, going, Leaves, loadIn}
+
+-- ---- a frame by its head
+
+pub head-short : (h : Head) → valueLen h ≤ valueMax → headLen h < 256
+head-short (head.Put g i n) v = omega arith
+head-short (head.Delete g i) v = omega arith
+head-short (head.Commit g) v = omega arith
+head-short (head.Abort g) v = omega arith
+head-short (head.Settled i n) v = omega arith
+
+frame-len : (h : Head) (v : List ℕ) → length v ≡ valueLen h → headLen h ≡ frameLen (frameOf h v)
+frame-len (head.Put g i n) v e = omega arith
+frame-len (head.Delete g i) v e = refl
+frame-len (head.Commit g) v e = refl
+frame-len (head.Abort g) v e = refl
+frame-len (head.Settled i n) v e = omega arith
+
+pub load-leaves : (b : List ℕ) (x : Fetch) (n : Numbers) → x .value + valueLen (x .head) ≤ length b → valueLen (x .head) ≤ valueMax → (e z : ℕ) (bytes : List ℕ)
+    → e ≡ x .value + valueLen (x .head) → bytes ≡ buffer (encode (frameOf (x .head) (take valueMax (take (e - x .value) (drop (x .value) b)))))
+    → z ≡ headLen (x .head) → (p u f : List ℕ)
+    → Leaves p bytes f (going Copy (cursor 0 (n .cursor .at) (x .id) (x .source) z 0) n) (loaded (assemble n p u f) (loadIn b x))
+load-leaves b x n fits small e z bytes end made size p u f =
+    let k : e - x .value ≡ valueLen (x .head) = omega arith in
+    let v : List ℕ = take (valueLen (x .head)) (drop (x .value) b) in
+    let l : length v ≡ valueLen (x .head) = simp (length-take, length-drop) (omega arith) in
+    let w : bytes ≡ buffer (encode (frameOf (x .head) v)) =
+    made ∙ ap (λ (i : ℕ). buffer (encode (frameOf (x .head) (take valueMax (take i (drop (x .value) b)))))) k
+    ∙ ap (λ (y : List ℕ). buffer (encode (frameOf (x .head) y))) (take-all valueMax v (omega arith)) in
+    record {
+      answers = refl;
+      gives = ap₂ (λ (i : ℕ) (y : List ℕ). assemble (staged Copy (cursor 0 (n .cursor .at) (x .id) (x .source) i 0) n) p y f)
+          (size ∙ frame-len (x .head) v l) w;
+    }
+
+-- ---- what was found is what the record has next
+
+module _ (img : List ℕ) (r : Record) (b : List ℕ) (same : b ≡ block (sizeOf img) (r .block) img) (x : Fetched)
+    (found : loadOf b x ≡ nextLoad b (r .end) (r .places) (r .job .since) (r .cursor .id) (r .cursor .source)) where
+  next-is : nextFor img r ≡ loadOf b x
+  next-is = ap (λ (y : List ℕ). nextLoad y (r .end) (r .places) (r .job .since) (r .cursor .id) (r .cursor .source)) (sym same) ∙ sym found
+
+  pub frame-found : (y : Fetch) → x ≡ fetched.Frame y → loaded r (loadIn b y) ≡ enterCopy img r
+  frame-found y e = sym (copy-loads img r (loadIn b y) (next-is ∙ ap (loadOf b) e))
+
+  pub none-found : x ≡ fetched.Nothing → enter Seal r ≡ enterCopy img r
+  none-found e = sym (copy-ends img r (next-is ∙ ap (loadOf b) e))

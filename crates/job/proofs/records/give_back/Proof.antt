@@ -1,0 +1,16 @@
+-- A record made whole again.
+use borrow.Author.Needs.{needs}
+use Rattle.job.proofs.records.give_back.Statement.{statement}
+use Rattle.job.proofs.records.give_back.Tie as tie
+
+pub give-back-spec : {M : Type 1} → statement M
+give-back-spec =
+    tie.close
+    (tie.spec
+    (λ c κs. search needs)
+    (λ c κs. search needs)
+    (λ c κs. search needs)
+    (λ c κs. search needs)
+    (λ c. rw (c .before .before .before .before .if1 .taken, c .assemble .ensures, c .before .before .before .no-places .ensures, c .before .before .no-frame .ensures, c .before .no-frame2 .ensures))
+    (λ c κs. search needs)
+    (λ c. rw (c .before .if1 .left, c .assemble2 .ensures)))

@@ -1,0 +1,15 @@
+-- A record in no job.
+use borrow.Author.Needs.{needs}
+use Rattle.job.proofs.records.resting.Statement.{statement}
+use Rattle.job.proofs.records.resting.Tie as tie
+
+pub resting-spec : {M : Type 1} → statement M
+resting-spec =
+    tie.close
+    (tie.spec
+    (λ c κs. search needs)
+    (λ c κs. search needs)
+    (λ c κs. search needs)
+    (λ c κs. search needs)
+    (λ c κs. search needs)
+    (λ c. rw (c .before .before .before .before .no-places .ensures, c .before .before .before .no-job .ensures, c .before .before .no-cursor .ensures, c .before .no-frame .ensures, c .no-frame2 .ensures)))

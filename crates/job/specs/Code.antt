@@ -1,0 +1,153 @@
+-- What the code's parts do: a record's numbers by themselves, its arrays apart.
+use mathlib.Core.Path.{_≡_}
+use mathlib.Core.List.{List}
+use mathlib.Core.Bool.{Bool, true, false, cond}
+use Prim.Native.Nat.{ℕ, suc, _+_}
+use lib.Dec.{ltb}
+use lib.ListN.{take, drop}
+use Rattle.flash.specs.Flash.{Step, program, erase, apply, sizeOf, within}
+use Rattle.frame.specs.Code.{frameOf, valueLen}
+use Rattle.journal.specs.declared.Fetch.{Fetch}
+use Rattle.journal.specs.Block.{headerLen}
+use Rattle.journal.specs.Index.{Load, load}
+use Rattle.wire.specs.declared.Answer.{Answer}
+use Rattle.wire.specs.declared.Answer.the-variants.{Done, More}
+use Rattle.board.specs.declared.Stage.{Stage}
+use Rattle.board.specs.declared.Stage.the-variants.{Wipe, Open, Copy, Seal, Drop, Append}
+use Rattle.board.specs.declared.Phase.the-variants.{Idle, Busy}
+use Rattle.board.specs.declared.Job.{Job}
+use Rattle.board.specs.declared.Cursor.{Cursor}
+use Rattle.board.specs.declared.Record.{Record}
+use Rattle.board.specs.Record.{noPlaces, noFrame, noJob, cursor, answerOf, Out}
+use Rattle.board.specs.Step.{first}
+use Rattle.job.specs.declared.Outcome.{Outcome}
+use Rattle.job.specs.declared.records.Numbers.{Numbers}
+use Rattle.job.specs.declared.records.Stepped.{Stepped}
+use Rattle.job.specs.declared.steps.Action.{Action}
+use Rattle.job.specs.declared.steps.Action.the-variants as action
+
+-- a job not yet begun, its frame to append in a buffer
+abbrev pub busyWith : ℕ → ℕ → ℕ → List ℕ → Job → ℕ → ℕ → List ℕ → Record
+busyWith l k e places j id source frame =
+    record {
+      phase = Busy Wipe;
+      last = l;
+      block = k;
+      end = e;
+      places = places;
+      job = j;
+      cursor = cursor 0 headerLen id source 0 0;
+      unit = noFrame;
+      frame = frame;
+    }
+
+-- ---- a record apart
+
+abbrev pub numbersOf : Record → Numbers
+numbersOf r = record { phase = r .phase; last = r .last; block = r .block; end = r .end; job = r .job; cursor = r .cursor }
+
+abbrev pub assemble : Numbers → List ℕ → List ℕ → List ℕ → Record
+assemble n places unit frame =
+    record {
+      phase = n .phase;
+      last = n .last;
+      block = n .block;
+      end = n .end;
+      places = places;
+      job = n .job;
+      cursor = n .cursor;
+      unit = unit;
+      frame = frame;
+    }
+
+-- the same job in a stage, at a cursor
+abbrev pub staged : Stage → Cursor → Numbers → Numbers
+staged s c n = record { phase = Busy s; last = n .last; block = n .block; end = n .end; job = n .job; cursor = c }
+
+-- ---- where a call leaves a job
+
+-- it goes on
+abbrev pub going : Stage → Cursor → Numbers → Stepped
+going s c n = record { answer = More; next = staged s c n; ended = false }
+
+-- it ended
+abbrev pub over : ℕ → ℕ → ℕ → Stepped
+over l k e =
+    record {
+      answer = Done;
+      next = record { phase = Idle; last = l; block = k; end = e; job = noJob; cursor = cursor 0 0 0 0 0 0 };
+      ended = true;
+    }
+
+-- it stays as it is
+abbrev pub staying : Answer → Numbers → Stepped
+staying a n = record { answer = a; next = n; ended = false }
+
+-- a job that ended leaves no places and no frames
+abbrev pub leavesIf : Bool → Numbers → List ℕ → List ℕ → List ℕ → Record
+leavesIf true n places unit frame = assemble n noPlaces noFrame noFrame
+leavesIf false n places unit frame = assemble n places unit frame
+
+abbrev pub leaves : Stepped → List ℕ → List ℕ → List ℕ → Record
+leaves s places unit frame = leavesIf (s .ended) (s .next) places unit frame
+
+-- a call leaves a record, with these arrays
+pub record Leaves (places unit frame : List ℕ) (s : Stepped) (r : Record) : Type 0 where
+  pub answers : s .answer ≡ answerOf r
+  pub gives : leaves s places unit frame ≡ r
+
+abbrev pub outcome : Answer → Record → Outcome
+outcome a b = record { answer = a; board = b }
+
+-- ---- entering a stage
+
+unfoldable pub goAppend : Numbers → Stepped
+goAppend n = cond (ltb 0 (n .job .size)) (going Append (first (n .cursor)) n) (over (n .last) (n .block) (n .end))
+
+-- the block that was made is the current one
+abbrev pub landedOn : Numbers → Numbers
+landedOn n =
+    record { phase = n .phase; last = n .last; block = n .job .target; end = n .cursor .at; job = n .job; cursor = n .cursor }
+
+unfoldable pub goDrop : Numbers → Stepped
+goDrop n = cond (n .job .drops) (going Drop (first (n .cursor)) n) (goAppend (landedOn n))
+
+unfoldable pub goOpen : Numbers → Stepped
+goOpen n = cond (n .job .moves) (going Open (first (n .cursor)) n) (goAppend n)
+
+unfoldable pub goWipe : Numbers → Stepped
+goWipe n = cond (ltb 0 (n .job .wipes)) (going Wipe (first (n .cursor)) n) (goOpen n)
+
+-- the frame that was found in block b, and the cursor after it
+abbrev pub loadIn : List ℕ → Fetch → Load
+loadIn b x = load (frameOf (x .head) (take (valueLen (x .head)) (drop (x .value) b))) (x .id) (x .source)
+
+-- past a byte that was copied: to the frame's next, or past the frame
+abbrev pub movedByte : Cursor → Cursor
+movedByte c =
+    cursor (c .index) (suc (c .at)) (c .id) (c .source) (c .size) (cond (ltb (suc (c .off)) (c .size)) (suc (c .off)) 0)
+
+-- ---- a step
+
+abbrev pub flashStep : Action → Step
+flashStep (action.Program k o v) = program k o v
+flashStep (action.Erase k) = erase k
+
+-- a step done where its place lies in the image
+unfoldable pub did : Step → List ℕ → List ℕ
+did x img = cond (within (sizeOf img) x) (apply (sizeOf img) x img) img
+
+-- the offset of a stage's steps that is counted up
+abbrev pub offsetFor : Stage → Numbers → ℕ
+offsetFor Wipe n = 0
+offsetFor Open n = 0
+offsetFor Copy n = n .cursor .at
+offsetFor Seal n = 0
+offsetFor Drop n = 0
+offsetFor Append n = n .end + n .cursor .index
+
+-- what a step call gives back, with these arrays
+pub record Steps (places unit frame : List ℕ) (s : Stepped) (img : List ℕ) (o : Out) : Type 0 where
+  pub image : img ≡ o .image
+  pub answers : s .answer ≡ o .answer
+  pub gives : leaves s places unit frame ≡ o .board

@@ -1,0 +1,14 @@
+// A job of the board: the records that it goes through, and its steps.
+pub mod records;
+mod steps;
+
+use board::Record;
+pub use steps::step;
+pub use steps::step_core;
+use wire::Answer;
+
+// What a call gives back: its answer and the board record.
+pub struct Outcome {
+    pub answer: Answer,
+    pub board: Record,
+}
