@@ -7,7 +7,11 @@ use lib.Dec.{eqb}
 use lib.ListN.{length}
 use Rattle.wire.specs.declared.Answer.{Answer}
 use Rattle.wire.specs.declared.Answer.the-variants.{Done, More, Refused}
+use Rattle.wire.specs.declared.Request.the-variants.{Put, Delete, Commit, Abort, Read, Log}
+use Rattle.wire.specs.declared.Parsed.{Parsed}
+use Rattle.wire.specs.declared.Parsed.the-variants.{Is, Malformed}
 use Rattle.wire.specs.Answer.{edgeNumber}
+use Rattle.wire.specs.Message.{parse}
 use Rattle.board.specs.declared.Phase.{Phase}
 use Rattle.board.specs.declared.Phase.the-variants.{Unmounted, Idle, Busy}
 use Rattle.board.specs.declared.Record.{Record}
@@ -66,6 +70,36 @@ edgeRequest img b h m reply =
 
 unfoldable pub edgeStep : List ℕ → List ℕ → Edge
 edgeStep img b = let o : Out = stepOn img (recordIn b) in guarded img b [] o (written b o)
+
+-- ---- a read hands out numbers
+
+-- an answer's number, and where the value stands in the image
+pub record Place : Type 0 where
+  pub answer : ℕ
+  pub at : ℕ
+  pub size : ℕ
+
+abbrev pub place : ℕ → ℕ → ℕ → Place
+place n at size = record { answer = n; at = at; size = size }
+
+abbrev pub isRead : Parsed → Bool
+isRead Malformed = false
+isRead (Is (Put i)) = false
+isRead (Is (Delete i)) = false
+isRead (Is Commit) = false
+isRead (Is Abort) = false
+isRead (Is (Read i)) = true
+isRead (Is (Log p)) = false
+
+-- a message that is no well-formed read counts as the empty one, which is malformed
+abbrev pub asRead : List ℕ → List ℕ
+asRead m = cond (isRead (parse m)) m []
+
+-- with a record buffer of any other size the numbers stay as they were
+unfoldable pub edgeRead : List ℕ → List ℕ → ℕ → List ℕ → ℕ → ℕ → Place
+edgeRead img b h m at size =
+    let o : Out = requestOn img (recordIn b) [] (record { 0 = h }) (asRead m) in
+    cond (holdsRecord b) (place (edgeNumber (o .answer)) (o .stretch .at) (o .stretch .size)) (place 254 at size)
 
 -- ---- what callers rely on
 

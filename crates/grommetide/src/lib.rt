@@ -6,12 +6,14 @@ ghost use Rattle.board.specs.Step.{stepOn};
 ghost use Rattle.board.specs.Mount.{mountOn, formatOn};
 ghost use Rattle.board.specs.Queue.{requestOn};
 ghost use Rattle.lent.specs.Layout.{recordSize, recordIn, recordInto};
-ghost use Rattle.grommetide.specs.Edge.{inJob, writes, edgeMount, edgeFormat, edgeRequest, edgeStep, ReadsBack};
+ghost use Rattle.grommetide.specs.Edge.{inJob, writes, edgeMount, edgeFormat, edgeRequest, edgeStep, isRead, asRead, edgeRead, ReadsBack};
 use board::Phase;
 use frame::Host;
 use job::Outcome;
 use lent::RECORD_SIZE;
 use wire::Answer;
+use wire::Parsed;
+use wire::Request;
 
 // The answer to a record buffer of another size.
 const WRONG_RECORD: u8 = 254;
@@ -127,4 +129,57 @@ pub extern "C" fn grommetide_step(image: &mut [u8], board: &mut [u8]) -> u8
     let out = job::step(image, b);
     let phase = b.phase;
     finish(phase, out, board)
+}
+
+fn is_read(parsed: Parsed) -> bool
+    ensures { λ r. ⌜ r ≡ isRead parsed ⌝ }
+{
+    match parsed {
+        Parsed::Malformed => false,
+        Parsed::Is(ask) => match ask {
+            Request::Put(_) => false,
+            Request::Delete(_) => false,
+            Request::Commit => false,
+            Request::Abort => false,
+            Request::Read(_) => true,
+            Request::Log(_) => false,
+        },
+    }
+}
+
+// A message that is no well-formed read counts as an empty one.
+fn as_read(message: &[u8]) -> &[u8]
+    ensures { λ r. ⌜ now r ≡ asRead (now (message .entry)) ⌝ }
+{
+    if is_read(wire::parse(message)) {
+        return message;
+    }
+    &message[..0]
+}
+
+#[no_mangle]
+pub extern "C" fn grommetide_read(
+    image: &[u8],
+    board: &[u8],
+    host: u8,
+    message: &[u8],
+    at: &mut usize,
+    len: &mut usize,
+) -> u8
+    ensures { λ r. ⌜ (r ≡ edgeRead (now (image .entry)) (now (board .entry)) host (now (message .entry)) (now (at .entry)) (now (len .entry)) .answer)
+        × (now (at .exit) ≡ edgeRead (now (image .entry)) (now (board .entry)) host (now (message .entry)) (now (at .entry)) (now (len .entry)) .at)
+        × (now (len .exit) ≡ edgeRead (now (image .entry)) (now (board .entry)) host (now (message .entry)) (now (at .entry)) (now (len .entry)) .size) ⌝ }
+{
+    if board.len() != RECORD_SIZE {
+        return WRONG_RECORD;
+    }
+    let b = lent::decode(board);
+    let ask = as_read(message);
+    let place = store::locate(image, b, Host(host), ask);
+    *at = place.at;
+    *len = place.size;
+    let mut none: [u8; 0] = [];
+    let out = store::request(image, b, Host(host), ask, &mut none);
+    let answer = out.answer;
+    wire::number(answer)
 }
