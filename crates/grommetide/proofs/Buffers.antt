@@ -1,0 +1,46 @@
+-- The record buffer after a call, where it could hold a record.
+use mathlib.Core.Path.{_≡_, sym, ap, subst, _∙_}
+use mathlib.Core.List.{List}
+use mathlib.Core.Bool.{cond}
+use Prim.Native.Nat.{ℕ}
+use lib.ListN.{length}
+use borrow.Author.Tests.{eq-eqb}
+use Rattle.flash.proofs.Cases.{on-test}
+use Rattle.wire.specs.Answer.{edgeNumber}
+use Rattle.board.specs.declared.Record.{Record}
+use Rattle.board.specs.Record.{Out}
+use Rattle.lent.specs.Layout.{recordSize, recordIn, bytesOf, recordInto, RecordFits, BytesBack}
+use Rattle.lent.proofs.Inverse.{bytes-back}
+use Rattle.job.specs.declared.Outcome.{Outcome}
+use Rattle.grommetide.specs.Edge.{writes, written}
+use Rattle.grommetide.proofs.Kept.{Keeps}
+
+filled : (r : Record) (b : List ℕ) → length b ≡ recordSize → recordInto r b ≡ bytesOf r
+unfolding recordInto
+filled r b e = rw (eq-eqb (length b) recordSize e)
+
+-- the record that was written reads as itself
+read-back : (r r′ : Record) → RecordFits r → r ≡ r′ → recordIn (bytesOf r′) ≡ r′
+unfolding BytesBack
+read-back r r′ f e = subst (λ (x : Record). recordIn (bytesOf x) ≡ x) e (bytes-back r f)
+
+-- what the code came to: n its answer, after its buffer
+module _ (b after : List ℕ) (n : ℕ) (x : Outcome) (o : Out) (l : length b ≡ recordSize) (f : RecordFits (x .board))
+    (answers : x .answer ≡ o .answer) (leaves : x .board ≡ o .board) where
+  -- mount and format
+  pub handed : (n ≡ edgeNumber (x .answer)) × (after ≡ recordInto (x .board) b)
+      → ((n ≡ edgeNumber (o .answer)) × (after ≡ bytesOf (o .board))) × (recordIn after ≡ o .board)
+  handed h =
+      let e : after ≡ bytesOf (o .board) = h .1 ∙ filled (x .board) b l ∙ ap bytesOf leaves in
+      ((h .0 ∙ ap edgeNumber answers, e), ap recordIn e ∙ read-back (x .board) (o .board) f leaves)
+
+  -- requests and steps
+  pub finished : Keeps (recordIn b) o
+      → (n ≡ edgeNumber (x .answer)) × (after ≡ cond (writes (recordIn b .phase) (x .answer)) (recordInto (x .board) b) b)
+      → ((n ≡ edgeNumber (o .answer)) × (after ≡ written b o)) × (recordIn after ≡ o .board)
+  finished k h =
+      let e : after ≡ written b o = h .1 ∙ rw (filled (x .board) b l, answers, leaves) in (
+        (h .0 ∙ ap edgeNumber answers, e),
+        ap recordIn e
+            ∙ on-test (writes (recordIn b .phase) (o .answer)) (λ t. rw t (read-back (x .board) (o .board) f leaves)) (λ t. rw t (sym (k t))),
+      )

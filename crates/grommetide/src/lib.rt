@@ -1,0 +1,185 @@
+// The library for C: include/grommetide.h. The record crosses as bytes.
+ghost use mathlib.Core.Path.{_≡_};
+ghost use mathlib.Core.Bool.{cond};
+ghost use Rattle.wire.specs.Answer.{edgeNumber};
+ghost use Rattle.board.specs.Step.{stepOn};
+ghost use Rattle.board.specs.Mount.{mountOn, formatOn};
+ghost use Rattle.board.specs.Queue.{requestOn};
+ghost use Rattle.lent.specs.Layout.{recordSize, recordIn, recordInto};
+ghost use Rattle.grommetide.specs.Edge.{inJob, writes, edgeMount, edgeFormat, edgeRequest, edgeStep, isRead, asRead, edgeRead, ReadsBack};
+use board::Phase;
+use frame::Host;
+use job::Outcome;
+use lent::RECORD_SIZE;
+use wire::Answer;
+use wire::Parsed;
+use wire::Request;
+
+// The answer to a record buffer of another size.
+const WRONG_RECORD: u8 = 254;
+
+#[no_mangle]
+pub extern "C" fn grommetide_record_size() -> usize
+    ensures { λ r. ⌜ r ≡ recordSize ⌝ }
+{
+    RECORD_SIZE
+}
+
+// The record written, and the answer.
+fn hand_over(out: Outcome, board: &mut [u8]) -> u8
+    ensures { λ r. ⌜ (r ≡ edgeNumber (out .answer)) × (now (board .exit) ≡ recordInto (out .board) (now (board .entry))) ⌝ }
+{
+    let b = out.board;
+    lent::encode(b, board);
+    let answer = out.answer;
+    wire::number(answer)
+}
+
+#[no_mangle]
+pub extern "C" fn grommetide_mount(image: &[u8], board: &mut [u8]) -> u8
+    ensures { λ r. ⌜ (r ≡ edgeMount (now (image .entry)) (now (board .entry)) .answer)
+        × (now (board .exit) ≡ edgeMount (now (image .entry)) (now (board .entry)) .board) ⌝ }
+    ensures back { λ r. ⌜ ReadsBack (now (board .entry)) (now (board .exit)) (mountOn (now (image .entry)) .board) ⌝ }
+{
+    if board.len() != RECORD_SIZE {
+        return WRONG_RECORD;
+    }
+    hand_over(store::mount(image), board)
+}
+
+#[no_mangle]
+pub extern "C" fn grommetide_format(image: &[u8], board: &mut [u8]) -> u8
+    ensures { λ r. ⌜ (r ≡ edgeFormat (now (image .entry)) (now (board .entry)) .answer)
+        × (now (board .exit) ≡ edgeFormat (now (image .entry)) (now (board .entry)) .board) ⌝ }
+    ensures back { λ r. ⌜ ReadsBack (now (board .entry)) (now (board .exit)) (formatOn (now (image .entry)) .board) ⌝ }
+{
+    if board.len() != RECORD_SIZE {
+        return WRONG_RECORD;
+    }
+    hand_over(store::format(image), board)
+}
+
+fn in_job(phase: Phase) -> bool
+    ensures { λ r. ⌜ r ≡ inJob phase ⌝ }
+{
+    match phase {
+        Phase::Unmounted => false,
+        Phase::Idle => false,
+        Phase::Busy(_) => true,
+    }
+}
+
+// A job began, went on or ended.
+fn writes(phase: Phase, answer: Answer) -> bool
+    ensures { λ r. ⌜ r ≡ writes phase answer ⌝ }
+{
+    match answer {
+        Answer::Done => in_job(phase),
+        Answer::More => true,
+        Answer::Refused(_) => false,
+    }
+}
+
+// The record written where it changed, by the phase before the call; and the answer.
+fn finish(phase: Phase, out: Outcome, board: &mut [u8]) -> u8
+    ensures { λ r. ⌜ (r ≡ edgeNumber (out .answer))
+        × (now (board .exit) ≡ cond (writes phase (out .answer)) (recordInto (out .board) (now (board .entry))) (now (board .entry))) ⌝ }
+{
+    let answer = out.answer;
+    if writes(phase, answer) {
+        return hand_over(out, board);
+    }
+    wire::number(answer)
+}
+
+#[no_mangle]
+pub extern "C" fn grommetide_request(
+    image: &[u8],
+    board: &mut [u8],
+    host: u8,
+    message: &[u8],
+    reply: &mut [u8],
+) -> u8
+    ensures { λ r. ⌜ (r ≡ edgeRequest (now (image .entry)) (now (board .entry)) host (now (message .entry)) (now (reply .entry)) .answer)
+        × (now (board .exit) ≡ edgeRequest (now (image .entry)) (now (board .entry)) host (now (message .entry)) (now (reply .entry)) .board)
+        × (now (reply .exit) ≡ edgeRequest (now (image .entry)) (now (board .entry)) host (now (message .entry)) (now (reply .entry)) .reply) ⌝ }
+    ensures back { λ r. ⌜ ReadsBack (now (board .entry)) (now (board .exit))
+        (requestOn (now (image .entry)) (recordIn (now (board .entry))) (now (reply .entry)) (record { 0 = host }) (now (message .entry)) .board) ⌝ }
+{
+    if board.len() != RECORD_SIZE {
+        return WRONG_RECORD;
+    }
+    let b = lent::decode(board);
+    let out = store::request(image, b, Host(host), message, reply);
+    let phase = b.phase;
+    finish(phase, out, board)
+}
+
+#[no_mangle]
+pub extern "C" fn grommetide_step(image: &mut [u8], board: &mut [u8]) -> u8
+    ensures { λ r. ⌜ (r ≡ edgeStep (now (image .entry)) (now (board .entry)) .answer)
+        × (now (image .exit) ≡ edgeStep (now (image .entry)) (now (board .entry)) .image)
+        × (now (board .exit) ≡ edgeStep (now (image .entry)) (now (board .entry)) .board) ⌝ }
+    ensures back { λ r. ⌜ ReadsBack (now (board .entry)) (now (board .exit)) (stepOn (now (image .entry)) (recordIn (now (board .entry))) .board) ⌝ }
+{
+    if board.len() != RECORD_SIZE {
+        return WRONG_RECORD;
+    }
+    let b = lent::decode(board);
+    let out = job::step(image, b);
+    let phase = b.phase;
+    finish(phase, out, board)
+}
+
+fn is_read(parsed: Parsed) -> bool
+    ensures { λ r. ⌜ r ≡ isRead parsed ⌝ }
+{
+    match parsed {
+        Parsed::Malformed => false,
+        Parsed::Is(ask) => match ask {
+            Request::Put(_) => false,
+            Request::Delete(_) => false,
+            Request::Commit => false,
+            Request::Abort => false,
+            Request::Read(_) => true,
+            Request::Log(_) => false,
+        },
+    }
+}
+
+// A message that is no well-formed read counts as an empty one.
+fn as_read(message: &[u8]) -> &[u8]
+    ensures { λ r. ⌜ now r ≡ asRead (now (message .entry)) ⌝ }
+{
+    if is_read(wire::parse(message)) {
+        return message;
+    }
+    &message[..0]
+}
+
+#[no_mangle]
+pub extern "C" fn grommetide_read(
+    image: &[u8],
+    board: &[u8],
+    host: u8,
+    message: &[u8],
+    at: &mut usize,
+    len: &mut usize,
+) -> u8
+    ensures { λ r. ⌜ (r ≡ edgeRead (now (image .entry)) (now (board .entry)) host (now (message .entry)) (now (at .entry)) (now (len .entry)) .answer)
+        × (now (at .exit) ≡ edgeRead (now (image .entry)) (now (board .entry)) host (now (message .entry)) (now (at .entry)) (now (len .entry)) .at)
+        × (now (len .exit) ≡ edgeRead (now (image .entry)) (now (board .entry)) host (now (message .entry)) (now (at .entry)) (now (len .entry)) .size) ⌝ }
+{
+    if board.len() != RECORD_SIZE {
+        return WRONG_RECORD;
+    }
+    let b = lent::decode(board);
+    let ask = as_read(message);
+    let place = store::locate(image, b, Host(host), ask);
+    *at = place.at;
+    *len = place.size;
+    let mut none: [u8; 0] = [];
+    let out = store::request(image, b, Host(host), ask, &mut none);
+    let answer = out.answer;
+    wire::number(answer)
+}
