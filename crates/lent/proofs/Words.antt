@@ -3,9 +3,10 @@ use mathlib.Core.Path.{_≡_, refl, ap, ap₂, _∙_}
 use mathlib.Core.List.{List, [], _∷_, _++_}
 use Prim.Native.Nat.{ℕ, zero, suc, _+_, _*_, _/_, _%_, _≤_, _<_}
 use native.Mathlib.Omega.{arith}
+use native.Mathlib.Nat.{add-zero}
 use native.Mathlib.Numerals.{add-one}
 use lib.ListN.{length, getD, take, drop, set, length-append}
-use lib.Seq.{take-suc-set, take-all, drop-drop}
+use lib.Seq.{take-suc-set, take-all, drop-drop, getD-drop}
 use Rattle.flash.specs.Bytes.{u16le, u32le}
 use Rattle.wire.specs.Message.{wordAt}
 use Rattle.board.specs.declared.Job.{Job}
@@ -19,7 +20,11 @@ next-word (suc n) l =
     let e : 2 + 2 * n ≡ 2 * suc n = omega arith in
     ap (λ (t : List ℕ). wordAt l 0 ∷ t) (next-word n (drop 2 l)) ∙ rw (drop-drop (2 * n) 2 l, e)
 
--- the array with its first i words read; f is the next one
+-- a word by its two bytes
+pub word-there : (l : List ℕ) (i : ℕ) → getD l (2 * i) 0 + 256 * getD l (2 * i + 1) 0 ≡ wordAt (drop (2 * i) l) 0
+word-there l i = rw (getD-drop (2 * i) l 0 0, getD-drop (2 * i) l 1 0, add-zero) (omega arith)
+
+-- the array with its first i words read; w is the next one
 pub read-more : (l a : List ℕ) (i w : ℕ) → take i a ≡ wordsIn i l → i < length a → w ≡ wordAt (drop (2 * i) l) 0
     → take (i + 1) (set a i w) ≡ wordsIn (i + 1) l
 read-more l a i w e h v = rw (add-one, take-suc-set a i w h, e, v, next-word)

@@ -62,13 +62,30 @@ fn phase_in(number: u8) -> Phase
     }
 }
 
-fn places_in(bytes: &[u8]) -> [u16; 256]
+// The places where the bytes may end among them.
+fn places_short(bytes: &[u8]) -> [u16; 256]
     ensures { λ r. ⌜ r ≡ wordsIn 256 (now (bytes .entry)) ⌝ }
 {
     let mut words = [0u16; 256];
     let mut i = 0;
     while i < 256 {
         words[i] = word_at(tail(bytes, 2 * i), 0);
+        i += 1;
+    }
+    words
+}
+
+// A step of C's decodes a record, so this loop tests nothing but its end.
+fn places_in(bytes: &[u8]) -> [u16; 256]
+    ensures { λ r. ⌜ r ≡ wordsIn 256 (now (bytes .entry)) ⌝ }
+{
+    if bytes.len() < 512 {
+        return places_short(bytes);
+    }
+    let mut words = [0u16; 256];
+    let mut i = 0;
+    while i < 256 {
+        words[i] = bytes[2 * i] as u16 + 256 * bytes[2 * i + 1] as u16;
         i += 1;
     }
     words

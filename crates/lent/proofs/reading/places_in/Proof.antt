@@ -1,12 +1,12 @@
 -- The places: after i turns the first i words are read.
 use mathlib.Core.Path.{_≡_, refl}
-use Prim.Native.Nat.{_-_, _≤_, _<_}
+use Prim.Native.Nat.{_-_, _+_, _*_, _≤_, _<_}
 use native.Mathlib.Omega.{arith}
 use lib.ListN.{length, take, length-set}
 use denote.Ref.{now}
 use borrow.Author.Needs.{needs}
 use Rattle.lent.specs.Layout.{wordsIn}
-use Rattle.lent.proofs.Words.{read-more, read-all}
+use Rattle.lent.proofs.Words.{word-there, read-more, read-all}
 use Rattle.lent.proofs.reading.places_in.Statement.{statement}
 use Rattle.lent.proofs.reading.places_in.Tie as tie
 
@@ -23,21 +23,28 @@ places-in-spec =
     (tie.spec
     Inv-loop
     μ-loop
+    (λ c κs. search needs)
+    (λ c. search needs)
     (λ c. (refl, omega arith, refl))
     (λ c. search needs)
-    (λ c κs. search needs)
-    (λ c κs. search needs)
+    (λ c. search needs)
+    (λ c. let i = c .before .before .loop .i in search (needs, c .shared-slice-known2 .given (2 * i)))
+    (λ c. search needs)
+    (λ c. search needs)
+    (λ c. search needs)
+    (λ c. let i = c .before .before .before .loop .i in search (needs, c .shared-slice-known3 .given (2 * i + 1)))
+    (λ c. let i = c .before .before .before .loop .i in omega (arith, c .shared-slice-known3 .given (2 * i + 1) .fits))
+    (λ c. let i = c .before .before .before .loop .i in omega (arith, c .before .shared-slice-known2 .given (2 * i) .fits, c .shared-slice-known3 .given (2 * i + 1) .fits))
     (λ c. search needs)
     (λ c. search needs)
     (λ c. search needs)
     (λ c. search needs)
     (λ c.
     let c3 = c .before .before .before in
-    let c5 = c3 .before .before in (
-      read-more (now (c5 .args .bytes)) (c3 .loop .words) (c3 .loop .i) (c .word-at .result) (c3 .loop .inv .0) (omega arith) (rw
-          (c .before .tail .ensures) at (c .word-at .ensures)),
+    let l = now (c3 .before .before .before .args .bytes) in (
+      read-more l (c3 .loop .words) (c3 .loop .i) _ (c3 .loop .inv .0) (omega arith) (word-there l (c3 .loop .i)),
       omega arith,
       simp length-set (omega arith),
     ))
-    (λ c. read-all (now (c .before .before .before .args .bytes)) (c .before .loop .words) (c .before .loop .i) (c .before .loop .inv .0)
+    (λ c. read-all (now (c .before .before .before .before .args .bytes)) (c .before .loop .words) (c .before .loop .i) (c .before .loop .inv .0)
     (omega arith) (c .before .loop .inv .2)))
