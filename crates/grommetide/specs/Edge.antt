@@ -115,6 +115,12 @@ pub record RefusedStays : Type 0 where
   pub request : (img b : List ℕ) (h : ℕ) (m reply : List ℕ) → Stays img b reply (edgeRequest img b h m reply)
   pub step : (img b : List ℕ) → Stays img b [] (edgeStep img b)
 
+-- "a refused read hands back an empty stretch"
+unfoldable pub RefusedReadEmpty : Type 0
+RefusedReadEmpty =
+    (img b : List ℕ) (h : ℕ) (m : List ℕ) (at size : ℕ) → length b ≡ recordSize → Refuses (edgeRead img b h m at size .answer)
+    → edgeRead img b h m at size ≡ place (edgeRead img b h m at size .answer) 0 0
+
 -- the buffer after a call reads as the record that the board's definition gives back
 abbrev pub ReadsBack : List ℕ → List ℕ → Record → Type 0
 ReadsBack b after r = length b ≡ recordSize → recordIn after ≡ r

@@ -15,6 +15,8 @@ use wire::Answer;
 use wire::Parsed;
 use wire::Request;
 
+const DONE: u8 = 0;
+
 // The answer to a record buffer of another size.
 const WRONG_RECORD: u8 = 254;
 
@@ -178,6 +180,10 @@ pub extern "C" fn grommetide_read(
     let place = store::locate(image, b, Host(host), ask);
     *at = place.at;
     *len = place.size;
+    // a place was found, so that the request would be done
+    if place.at != 0 {
+        return DONE;
+    }
     let mut none: [u8; 0] = [];
     let out = store::request(image, b, Host(host), ask, &mut none);
     let answer = out.answer;
