@@ -39,14 +39,6 @@ abbrev pub guarded : List ℕ → List ℕ → List ℕ → Out → List ℕ →
 guarded img b reply o after =
     cond (holdsRecord b) (edge (edgeNumber (o .answer)) (o .image) after (o .reply)) (edge 254 img b reply)
 
--- ---- mount and format write the record, whatever stood there
-
-unfoldable pub edgeMount : List ℕ → List ℕ → Edge
-edgeMount img b = guarded img b [] (mountOn img) (bytesOf (mountOn img .board))
-
-unfoldable pub edgeFormat : List ℕ → List ℕ → Edge
-edgeFormat img b = guarded img b [] (formatOn img) (bytesOf (formatOn img .board))
-
 -- ---- requests and steps write it only where a job began, went on or ended
 
 abbrev pub inJob : Phase → Bool
@@ -70,6 +62,14 @@ edgeRequest img b h m reply =
 
 unfoldable pub edgeStep : List ℕ → List ℕ → Edge
 edgeStep img b = let o : Out = stepOn img (recordIn b) in guarded img b [] o (written b o)
+
+-- ---- mount and format write the record, whatever stood there
+
+unfoldable pub edgeMount : List ℕ → List ℕ → Edge
+edgeMount img b = guarded img b [] (mountOn img) (bytesOf (mountOn img .board))
+
+unfoldable pub edgeFormat : List ℕ → List ℕ → Edge
+edgeFormat img b = guarded img b [] (formatOn img) (bytesOf (formatOn img .board))
 
 -- ---- a read hands out numbers
 

@@ -36,4 +36,5 @@ grommetide-read-spec =
     let m = c6 .before .as-read .ensures in
     let p = rw (d, m) at (c6 .locate .ensures) in
     let q = rw (d, m) at (c .before .before .request .ensures) in
-    rw (eq-eqb _ _ (c8 .before .if1 .left)) (c .number .ensures ∙ ap edgeNumber (q .0), p .0, p .1)))
+    let n = rw (q .0) at (c .number .ensures) in
+    rw (eq-eqb _ _ (c8 .before .if1 .left)) (n, p .0, p .1)))
