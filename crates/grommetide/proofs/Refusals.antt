@@ -30,7 +30,8 @@ is-refused (Refused n) h = (n, refl)
 abbrev Untouched : List ℕ → Record → List ℕ → Out → Type 0
 Untouched img r reply o = (n : Refusal) → o .answer ≡ Refused n → o ≡ refuse n img r reply
 
-stays : (img b reply : List ℕ) (o : Out) → Untouched img (recordIn b) reply o → Stays img b reply (guarded img b reply o (written b o))
+stays : (img b reply : List ℕ) (o : Out) → Untouched img (recordIn b) reply o
+    → Stays img b reply (guarded img b reply o (written b o))
 stays img b reply o u =
     on-test (holdsRecord b)
     (λ t. rw t (λ h. let x = is-refused (o .answer) h in rw (u (x .0) (x .1))))
@@ -55,8 +56,8 @@ refused-read-empty img b h m at size l =
     rw (refusals-untouched img (recordIn b) (request (record { 0 = h }) (asRead m) []) (x .0) (x .1)))
 
 -- a value never stands at the image's start, so a place past it was found
-pub found : (img : List ℕ) (r : Record) (reply : List ℕ) (h : Host) (m : List ℕ) → (requestOn img r reply h m .stretch .at ≡ 0 → ⊥)
-    → requestOn img r reply h m .answer ≡ Done
+pub found : (img : List ℕ) (r : Record) (reply : List ℕ) (h : Host) (m : List ℕ)
+    → (requestOn img r reply h m .stretch .at ≡ 0 → ⊥) → requestOn img r reply h m .answer ≡ Done
 found img r reply h m z = by (request-met img r reply h m)
   where
     by : Met img r reply h m (requestOn img r reply h m) → requestOn img r reply h m .answer ≡ Done
