@@ -42,5 +42,7 @@ module _ (b after : List ℕ) (n : ℕ) (x : Outcome) (o : Out) (l : length b �
       let e : after ≡ written b o = h .1 ∙ rw (filled (x .board) b l, answers, leaves) in (
         (h .0 ∙ ap edgeNumber answers, e),
         ap recordIn e
-            ∙ on-test (writes (recordIn b .phase) (o .answer)) (λ t. rw t (read-back (x .board) (o .board) f leaves)) (λ t. rw t (sym (k t))),
+            ∙ on-test (writes (recordIn b .phase) (o .answer))
+            (λ t. rw t (read-back (x .board) (o .board) f leaves))
+            (λ t. rw t (sym (k t))),
       )

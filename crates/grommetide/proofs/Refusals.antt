@@ -1,29 +1,41 @@
 -- A refusal changes no buffer.
-use mathlib.Core.Path.{_≡_, refl, subst}
-use mathlib.Core.List.{List}
-use Prim.Native.Nat.{ℕ, _<_}
+use mathlib.Core.Path.{_≡_, refl, ap}
+use mathlib.Core.List.{List, []}
+use Prim.Native.Nat.{ℕ}
 use native.Mathlib.Omega.{arith}
+use lib.ListN.{length}
+use borrow.Author.Tests.{eq-eqb}
 use Rattle.flash.proofs.Cases.{on-test}
+use Rattle.frame.specs.declared.Host.{Host}
 use Rattle.wire.specs.declared.Answer.{Answer}
 use Rattle.wire.specs.declared.Answer.the-variants.{Done, More, Refused}
 use Rattle.wire.specs.declared.Refusal.{Refusal}
 use Rattle.wire.specs.Answer.{edgeNumber}
+use Rattle.board.specs.declared.Record.{Record}
 use Rattle.board.specs.Record.{Out, refuse}
+use Rattle.board.specs.Queue.{requestOn}
 use Rattle.board.specs.Exec.{request, step}
 use Rattle.board.specs.Demand1.{RefusalsUntouched}
 use Rattle.board.proofs.Refusals.{refusals-untouched}
-use Rattle.lent.specs.Layout.{recordIn}
-use Rattle.grommetide.specs.Edge.{edge, holdsRecord, guarded, written, edgeRequest, edgeStep, Refuses, Stays, RefusedStays}
+use Rattle.board.proofs.Planning.{Met, refused, done, begun, request-met}
+use Rattle.lent.specs.Layout.{recordSize, recordIn}
+use Rattle.grommetide.specs.Edge.{holdsRecord, guarded, written, edgeRequest, edgeStep, asRead, edgeRead, Refuses, Stays, RefusedStays, RefusedReadEmpty}
 
-stays : (img b reply : List ℕ) (o : Out) → ((n : Refusal) → o .answer ≡ Refused n → o ≡ refuse n img (recordIn b) reply)
+-- an answer that refuses is a refusal's
+is-refused : (a : Answer) → Refuses (edgeNumber a) → (n : Refusal) × (a ≡ Refused n)
+is-refused Done h = absurd (omega (arith, h .0))
+is-refused More h = absurd (omega (arith, h .1))
+is-refused (Refused n) h = (n, refl)
+
+abbrev Untouched : List ℕ → Record → List ℕ → Out → Type 0
+Untouched img r reply o = (n : Refusal) → o .answer ≡ Refused n → o ≡ refuse n img r reply
+
+stays : (img b reply : List ℕ) (o : Out) → Untouched img (recordIn b) reply o
     → Stays img b reply (guarded img b reply o (written b o))
-stays img b reply o u = on-test (holdsRecord b) (λ t. rw t (by (o .answer) refl)) (λ t. rw t (λ _. refl))
-  where
-    by : (a : Answer) → o .answer ≡ a → Refuses (edgeNumber (o .answer))
-        → edge (edgeNumber (o .answer)) (o .image) (written b o) (o .reply) ≡ edge (edgeNumber (o .answer)) img b reply
-    by Done e h = let l : 0 < 0 = rw e at (h .0) in absurd (omega arith)
-    by More e h = let l : 255 < 255 = rw e at (h .1) in absurd (omega arith)
-    by (Refused n) e h = rw (u n e)
+stays img b reply o u =
+    on-test (holdsRecord b)
+    (λ t. rw t (λ h. let x = is-refused (o .answer) h in rw (u (x .0) (x .1))))
+    (λ t. rw t (λ _. refl))
 
 pub refused-stays : RefusedStays
 unfolding RefusalsUntouched edgeRequest edgeStep
@@ -32,3 +44,23 @@ refused-stays =
       request = λ img b h m reply. stays img b reply _ (λ n. refusals-untouched img (recordIn b) (request (record { 0 = h }) m reply) n);
       step = λ img b. stays img b _ _ (λ n. refusals-untouched img (recordIn b) step n);
     }
+
+-- ---- reads
+
+pub refused-read-empty : RefusedReadEmpty
+unfolding RefusedReadEmpty RefusalsUntouched edgeRead
+refused-read-empty img b h m at size l =
+    rw (eq-eqb (length b) recordSize l)
+    (λ f.
+    let x = is-refused (requestOn img (recordIn b) [] (record { 0 = h }) (asRead m) .answer) f in
+    rw (refusals-untouched img (recordIn b) (request (record { 0 = h }) (asRead m) []) (x .0) (x .1)))
+
+-- a value never stands at the image's start, so a place past it was found
+pub found : (img : List ℕ) (r : Record) (reply : List ℕ) (h : Host) (m : List ℕ)
+    → (requestOn img r reply h m .stretch .at ≡ 0 → ⊥) → requestOn img r reply h m .answer ≡ Done
+found img r reply h m z = by (request-met img r reply h m)
+  where
+    by : Met img r reply h m (requestOn img r reply h m) → requestOn img r reply h m .answer ≡ Done
+    by (refused n e) = absurd (z (ap (λ (o : Out). o .stretch .at) e))
+    by (done d i b) = d
+    by (begun y e) = absurd (z (ap (λ (o : Out). o .stretch .at) e))

@@ -20,13 +20,15 @@ use Rattle.job.proofs.Outcome as outcome
 use Rattle.lent.specs.Layout.{Words, SomeBytes, SomeWords, JobFits, CursorFits, RecordFits}
 
 -- the elements of an array, one by one
-module _ (w : Width) (Q : List ℕ → Type 0) (nil : Q []) (cons : (x : ℕ) (l : List ℕ) → x < 2 ^ bits w → Q l → Q (x ∷ l)) where
+module _ (w : Width) (Q : List ℕ → Type 0) (nil : Q [])
+    (cons : (x : ℕ) (l : List ℕ) → x < 2 ^ bits w → Q l → Q (x ∷ l)) where
   elements : (l : List ℕ) (us : List Val) → shadow (each ℕ (uint-field w .row .own) l us) → Q l
   elements [] us h = nil
   elements (x ∷ l) [] h = absurd h
   elements (x ∷ l) (u ∷ us) h = cons x l (h .0 .1) (elements l us (h .1))
 
-  array : (n : ℕ) (l : List ℕ) (vs : List Val) → shadow (array-field (uint-field w) n .row .own (map (λ v. v) l) vs) → (length l ≡ n) × Q l
+  array : (n : ℕ) (l : List ℕ) (vs : List Val) → shadow (array-field (uint-field w) n .row .own (map (λ v. v) l) vs)
+      → (length l ≡ n) × Q l
   array n l vs h =
       let g = subst (λ (x : List ℕ). shadow (array-field (uint-field w) n .row .own x vs)) (map-id l) h in
       (g .1 .0 .1, elements l (g .0) (g .1 .1))
@@ -75,5 +77,6 @@ record-fits r vs h =
       frame = some-bytes 72 (r .frame) _ (f .1 .1 .1 .1 .1 .1 .1 .1 .0);
     }
 
-pub outcome-fits : (x : Outcome) (vs : List Val) → shadow (outcome.the-field .row .own (outcome.the-type .to x) vs) → RecordFits (x .board)
+pub outcome-fits : (x : Outcome) (vs : List Val) → shadow (outcome.the-field .row .own (outcome.the-type .to x) vs)
+    → RecordFits (x .board)
 outcome-fits x vs h = record-fits (x .board) _ (h .1 .1 .1 .0)

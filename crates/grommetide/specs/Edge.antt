@@ -39,14 +39,6 @@ abbrev pub guarded : List ℕ → List ℕ → List ℕ → Out → List ℕ →
 guarded img b reply o after =
     cond (holdsRecord b) (edge (edgeNumber (o .answer)) (o .image) after (o .reply)) (edge 254 img b reply)
 
--- ---- mount and format write the record, whatever stood there
-
-unfoldable pub edgeMount : List ℕ → List ℕ → Edge
-edgeMount img b = guarded img b [] (mountOn img) (bytesOf (mountOn img .board))
-
-unfoldable pub edgeFormat : List ℕ → List ℕ → Edge
-edgeFormat img b = guarded img b [] (formatOn img) (bytesOf (formatOn img .board))
-
 -- ---- requests and steps write it only where a job began, went on or ended
 
 abbrev pub inJob : Phase → Bool
@@ -70,6 +62,14 @@ edgeRequest img b h m reply =
 
 unfoldable pub edgeStep : List ℕ → List ℕ → Edge
 edgeStep img b = let o : Out = stepOn img (recordIn b) in guarded img b [] o (written b o)
+
+-- ---- mount and format write the record, whatever stood there
+
+unfoldable pub edgeMount : List ℕ → List ℕ → Edge
+edgeMount img b = guarded img b [] (mountOn img) (bytesOf (mountOn img .board))
+
+unfoldable pub edgeFormat : List ℕ → List ℕ → Edge
+edgeFormat img b = guarded img b [] (formatOn img) (bytesOf (formatOn img .board))
 
 -- ---- a read hands out numbers
 
@@ -114,6 +114,12 @@ Stays img b reply e = Refuses (e .answer) → e ≡ edge (e .answer) img b reply
 pub record RefusedStays : Type 0 where
   pub request : (img b : List ℕ) (h : ℕ) (m reply : List ℕ) → Stays img b reply (edgeRequest img b h m reply)
   pub step : (img b : List ℕ) → Stays img b [] (edgeStep img b)
+
+-- "a refused read hands back an empty stretch"
+unfoldable pub RefusedReadEmpty : Type 0
+RefusedReadEmpty =
+    (img b : List ℕ) (h : ℕ) (m : List ℕ) (at size : ℕ) → length b ≡ recordSize → Refuses (edgeRead img b h m at size .answer)
+    → edgeRead img b h m at size ≡ place (edgeRead img b h m at size .answer) 0 0
 
 -- the buffer after a call reads as the record that the board's definition gives back
 abbrev pub ReadsBack : List ℕ → List ℕ → Record → Type 0

@@ -6,7 +6,8 @@ ghost use Rattle.board.specs.Step.{stepOn};
 ghost use Rattle.board.specs.Mount.{mountOn, formatOn};
 ghost use Rattle.board.specs.Queue.{requestOn};
 ghost use Rattle.lent.specs.Layout.{recordSize, recordIn, recordInto};
-ghost use Rattle.grommetide.specs.Edge.{inJob, writes, edgeMount, edgeFormat, edgeRequest, edgeStep, isRead, asRead, edgeRead, ReadsBack};
+ghost use Rattle.grommetide.specs.Edge.{inJob, writes, edgeMount, edgeFormat, edgeRequest, edgeStep, ReadsBack};
+ghost use Rattle.grommetide.specs.Edge.{place, isRead, asRead, edgeRead};
 use board::Phase;
 use frame::Host;
 use job::Outcome;
@@ -14,6 +15,8 @@ use lent::RECORD_SIZE;
 use wire::Answer;
 use wire::Parsed;
 use wire::Request;
+
+const DONE: u8 = 0;
 
 // The answer to a record buffer of another size.
 const WRONG_RECORD: u8 = 254;
@@ -83,7 +86,8 @@ fn writes(phase: Phase, answer: Answer) -> bool
 // The record written where it changed, by the phase before the call; and the answer.
 fn finish(phase: Phase, out: Outcome, board: &mut [u8]) -> u8
     ensures { λ r. ⌜ (r ≡ edgeNumber (out .answer))
-        × (now (board .exit) ≡ cond (writes phase (out .answer)) (recordInto (out .board) (now (board .entry))) (now (board .entry))) ⌝ }
+        × (now (board .exit) ≡ cond (writes phase (out .answer))
+        (recordInto (out .board) (now (board .entry))) (now (board .entry))) ⌝ }
 {
     let answer = out.answer;
     if writes(phase, answer) {
@@ -100,11 +104,15 @@ pub extern "C" fn grommetide_request(
     message: &[u8],
     reply: &mut [u8],
 ) -> u8
-    ensures { λ r. ⌜ (r ≡ edgeRequest (now (image .entry)) (now (board .entry)) host (now (message .entry)) (now (reply .entry)) .answer)
-        × (now (board .exit) ≡ edgeRequest (now (image .entry)) (now (board .entry)) host (now (message .entry)) (now (reply .entry)) .board)
-        × (now (reply .exit) ≡ edgeRequest (now (image .entry)) (now (board .entry)) host (now (message .entry)) (now (reply .entry)) .reply) ⌝ }
+    ensures { λ r. ⌜ (r
+        ≡ edgeRequest (now (image .entry)) (now (board .entry)) host (now (message .entry)) (now (reply .entry)) .answer)
+        × (now (board .exit)
+        ≡ edgeRequest (now (image .entry)) (now (board .entry)) host (now (message .entry)) (now (reply .entry)) .board)
+        × (now (reply .exit)
+        ≡ edgeRequest (now (image .entry)) (now (board .entry)) host (now (message .entry)) (now (reply .entry)) .reply) ⌝ }
     ensures back { λ r. ⌜ ReadsBack (now (board .entry)) (now (board .exit))
-        (requestOn (now (image .entry)) (recordIn (now (board .entry))) (now (reply .entry)) (record { 0 = host }) (now (message .entry)) .board) ⌝ }
+        (requestOn (now (image .entry)) (recordIn (now (board .entry))) (now (reply .entry))
+        (record { 0 = host }) (now (message .entry)) .board) ⌝ }
 {
     if board.len() != RECORD_SIZE {
         return WRONG_RECORD;
@@ -120,7 +128,8 @@ pub extern "C" fn grommetide_step(image: &mut [u8], board: &mut [u8]) -> u8
     ensures { λ r. ⌜ (r ≡ edgeStep (now (image .entry)) (now (board .entry)) .answer)
         × (now (image .exit) ≡ edgeStep (now (image .entry)) (now (board .entry)) .image)
         × (now (board .exit) ≡ edgeStep (now (image .entry)) (now (board .entry)) .board) ⌝ }
-    ensures back { λ r. ⌜ ReadsBack (now (board .entry)) (now (board .exit)) (stepOn (now (image .entry)) (recordIn (now (board .entry))) .board) ⌝ }
+    ensures back { λ r. ⌜ ReadsBack (now (board .entry)) (now (board .exit))
+        (stepOn (now (image .entry)) (recordIn (now (board .entry))) .board) ⌝ }
 {
     if board.len() != RECORD_SIZE {
         return WRONG_RECORD;
@@ -166,9 +175,8 @@ pub extern "C" fn grommetide_read(
     at: &mut usize,
     len: &mut usize,
 ) -> u8
-    ensures { λ r. ⌜ (r ≡ edgeRead (now (image .entry)) (now (board .entry)) host (now (message .entry)) (now (at .entry)) (now (len .entry)) .answer)
-        × (now (at .exit) ≡ edgeRead (now (image .entry)) (now (board .entry)) host (now (message .entry)) (now (at .entry)) (now (len .entry)) .at)
-        × (now (len .exit) ≡ edgeRead (now (image .entry)) (now (board .entry)) host (now (message .entry)) (now (at .entry)) (now (len .entry)) .size) ⌝ }
+    ensures { λ r. ⌜ place r (now (at .exit)) (now (len .exit))
+        ≡ edgeRead (now (image .entry)) (now (board .entry)) host (now (message .entry)) (now (at .entry)) (now (len .entry)) ⌝ }
 {
     if board.len() != RECORD_SIZE {
         return WRONG_RECORD;
@@ -178,6 +186,10 @@ pub extern "C" fn grommetide_read(
     let place = store::locate(image, b, Host(host), ask);
     *at = place.at;
     *len = place.size;
+    // a place was found, so that the request would be done
+    if place.at != 0 {
+        return DONE;
+    }
     let mut none: [u8; 0] = [];
     let out = store::request(image, b, Host(host), ask, &mut none);
     let answer = out.answer;

@@ -23,5 +23,6 @@ grommetide-mount-spec =
     let l = c4 .before .if1 .left in
     let m = c4 .mount in
     let o = mountOn (now (c4 .before .before .before .before .args .image)) in
-    let z = handed _ _ _ (m .result) o l (outcome-fits (m .result) _ (m .ok)) (m .ensures .0) (m .ensures .1) (c .before .before .hand-over .ensures) in
+    let f = outcome-fits (m .result) _ (m .ok) in
+    let z = handed _ _ _ (m .result) o l f (m .ensures .0) (m .ensures .1) (c .before .before .hand-over .ensures) in
     (rw (eq-eqb _ _ l) (z .0), λ _. z .1)))
