@@ -39,19 +39,20 @@ abbrev pub guarded : List ℕ → List ℕ → List ℕ → Out → List ℕ →
 guarded img b reply o after =
     cond (holdsRecord b) (edge (edgeNumber (o .answer)) (o .image) after (o .reply)) (edge 254 img b reply)
 
--- ---- requests and steps write it only where a job began, went on or ended
+-- ---- requests and steps write the record only where a job began, went on or ended
 
 abbrev pub inJob : Phase → Bool
 inJob Unmounted = false
 inJob Idle = false
 inJob (Busy s) = true
 
--- by the phase before the call
+-- by the phase before the call and its answer
 abbrev pub writes : Phase → Answer → Bool
 writes p Done = inJob p
 writes p More = true
 writes p (Refused n) = false
 
+-- the record buffer after the call
 abbrev pub written : List ℕ → Out → List ℕ
 written b o = cond (writes (recordIn b .phase) (o .answer)) (bytesOf (o .board)) b
 
