@@ -1,7 +1,10 @@
 // The store's calls over a board record that is lent and changed in place.
 ghost use mathlib.Core.Path.{_≡_};
 ghost use Rattle.board.specs.Step.{stepOn};
+ghost use Rattle.board.specs.Queue.{requestOn};
+ghost use Rattle.board.specs.Mount.{mountOn, formatOn};
 use board::Record;
+use frame::Host;
 use store::Outcome;
 use wire::Answer;
 
@@ -12,6 +15,41 @@ pub fn step_in_place(image: &mut [u8], board: &mut Record) -> Answer
         × (now (board .exit) ≡ stepOn (now (image .entry)) (now (board .entry)) .board) ⌝ }
 {
     let out = store::step(image, *board);
+    *board = out.board;
+    out.answer
+}
+
+// A queue request.
+pub fn request_in_place(
+    image: &[u8],
+    board: &mut Record,
+    host: Host,
+    message: &[u8],
+    reply: &mut [u8],
+) -> Answer
+    ensures { λ r. ⌜ (r ≡ requestOn (now (image .entry)) (now (board .entry)) (now (reply .entry)) host (now (message .entry)) .answer)
+        × (now (board .exit) ≡ requestOn (now (image .entry)) (now (board .entry)) (now (reply .entry)) host (now (message .entry)) .board)
+        × (now (reply .exit) ≡ requestOn (now (image .entry)) (now (board .entry)) (now (reply .entry)) host (now (message .entry)) .reply) ⌝ }
+{
+    let out = store::request(image, *board, host, message, reply);
+    *board = out.board;
+    out.answer
+}
+
+// A mount: what stood in the record is lost, also where the mount is refused.
+pub fn mount_in_place(image: &[u8], board: &mut Record) -> Answer
+    ensures { λ r. ⌜ (r ≡ mountOn (now (image .entry)) .answer) × (now (board .exit) ≡ mountOn (now (image .entry)) .board) ⌝ }
+{
+    let out = store::mount(image);
+    *board = out.board;
+    out.answer
+}
+
+// A format, likewise.
+pub fn format_in_place(image: &[u8], board: &mut Record) -> Answer
+    ensures { λ r. ⌜ (r ≡ formatOn (now (image .entry)) .answer) × (now (board .exit) ≡ formatOn (now (image .entry)) .board) ⌝ }
+{
+    let out = store::format(image);
     *board = out.board;
     out.answer
 }
