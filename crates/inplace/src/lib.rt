@@ -66,3 +66,22 @@ pub fn step_lent(image: &mut [u8], board: Record) -> Outcome
         board: held,
     }
 }
+
+pub fn request_lent(
+    image: &[u8],
+    board: Record,
+    host: Host,
+    message: &[u8],
+    reply: &mut [u8],
+) -> Outcome
+    ensures { λ r. ⌜ (r .answer ≡ requestOn (now (image .entry)) board (now (reply .entry)) host (now (message .entry)) .answer)
+        × (r .board ≡ requestOn (now (image .entry)) board (now (reply .entry)) host (now (message .entry)) .board)
+        × (now (reply .exit) ≡ requestOn (now (image .entry)) board (now (reply .entry)) host (now (message .entry)) .reply) ⌝ }
+{
+    let mut held = board;
+    let answer = request_in_place(image, &mut held, host, message, reply);
+    Outcome {
+        answer: answer,
+        board: held,
+    }
+}
