@@ -57,7 +57,8 @@ pub fn format_in_place(image: &[u8], board: &mut Record) -> Answer
 // ---- for callers that hold the record by value: the record stands in a local, which is lent
 
 pub fn step_lent(image: &mut [u8], board: Record) -> Outcome
-    ensures { λ r. ⌜ (now (image .exit) ≡ stepOn (now (image .entry)) board .image) × (r .answer ≡ stepOn (now (image .entry)) board .answer) × (r .board ≡ stepOn (now (image .entry)) board .board) ⌝ }
+    ensures { λ r. ⌜ (now (image .exit) ≡ stepOn (now (image .entry)) board .image)
+        × (r .answer ≡ stepOn (now (image .entry)) board .answer) × (r .board ≡ stepOn (now (image .entry)) board .board) ⌝ }
 {
     let mut held = board;
     let answer = step_in_place(image, &mut held);
@@ -78,10 +79,10 @@ pub fn request_lent(
         × (r .board ≡ requestOn (now (image .entry)) board (now (reply .entry)) host (now (message .entry)) .board)
         × (now (reply .exit) ≡ requestOn (now (image .entry)) board (now (reply .entry)) host (now (message .entry)) .reply) ⌝ }
 {
-    let mut held = board;
-    let answer = request_in_place(image, &mut held, host, message, reply);
+    let mut kept = board;
+    let answer = request_in_place(image, &mut kept, host, message, reply);
     Outcome {
         answer: answer,
-        board: held,
+        board: kept,
     }
 }
