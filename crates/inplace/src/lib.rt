@@ -1,0 +1,88 @@
+// The store's calls over a board record that is lent and changed in place.
+ghost use mathlib.Core.Path.{_≡_};
+ghost use Rattle.board.specs.Step.{stepOn};
+ghost use Rattle.board.specs.Queue.{requestOn};
+ghost use Rattle.board.specs.Mount.{mountOn, formatOn};
+use board::Record;
+use frame::Host;
+use job::Outcome;
+use wire::Answer;
+
+// A step call.
+pub fn step_in_place(image: &mut [u8], board: &mut Record) -> Answer
+    ensures { λ r. ⌜ (now (image .exit) ≡ stepOn (now (image .entry)) (now (board .entry)) .image)
+        × (r ≡ stepOn (now (image .entry)) (now (board .entry)) .answer)
+        × (now (board .exit) ≡ stepOn (now (image .entry)) (now (board .entry)) .board) ⌝ }
+{
+    let out = job::step(image, *board);
+    *board = out.board;
+    out.answer
+}
+
+// A queue request.
+pub fn request_in_place(
+    image: &[u8],
+    board: &mut Record,
+    host: Host,
+    message: &[u8],
+    reply: &mut [u8],
+) -> Answer
+    ensures { λ r. ⌜ (r ≡ requestOn (now (image .entry)) (now (board .entry)) (now (reply .entry)) host (now (message .entry)) .answer)
+        × (now (board .exit) ≡ requestOn (now (image .entry)) (now (board .entry)) (now (reply .entry)) host (now (message .entry)) .board)
+        × (now (reply .exit) ≡ requestOn (now (image .entry)) (now (board .entry)) (now (reply .entry)) host (now (message .entry)) .reply) ⌝ }
+{
+    let out = store::request(image, *board, host, message, reply);
+    *board = out.board;
+    out.answer
+}
+
+// A mount: what stood in the record is lost, also where the mount is refused.
+pub fn mount_in_place(image: &[u8], board: &mut Record) -> Answer
+    ensures { λ r. ⌜ (r ≡ mountOn (now (image .entry)) .answer) × (now (board .exit) ≡ mountOn (now (image .entry)) .board) ⌝ }
+{
+    let out = store::mount(image);
+    *board = out.board;
+    out.answer
+}
+
+// A format, likewise.
+pub fn format_in_place(image: &[u8], board: &mut Record) -> Answer
+    ensures { λ r. ⌜ (r ≡ formatOn (now (image .entry)) .answer) × (now (board .exit) ≡ formatOn (now (image .entry)) .board) ⌝ }
+{
+    let out = store::format(image);
+    *board = out.board;
+    out.answer
+}
+
+// ---- for callers that hold the record by value: the record stands in a local, which is lent
+
+pub fn step_lent(image: &mut [u8], board: Record) -> Outcome
+    ensures { λ r. ⌜ (now (image .exit) ≡ stepOn (now (image .entry)) board .image)
+        × (r .answer ≡ stepOn (now (image .entry)) board .answer) × (r .board ≡ stepOn (now (image .entry)) board .board) ⌝ }
+{
+    let mut held = board;
+    let answer = step_in_place(image, &mut held);
+    Outcome {
+        answer: answer,
+        board: held,
+    }
+}
+
+pub fn request_lent(
+    image: &[u8],
+    board: Record,
+    host: Host,
+    message: &[u8],
+    reply: &mut [u8],
+) -> Outcome
+    ensures { λ r. ⌜ (r .answer ≡ requestOn (now (image .entry)) board (now (reply .entry)) host (now (message .entry)) .answer)
+        × (r .board ≡ requestOn (now (image .entry)) board (now (reply .entry)) host (now (message .entry)) .board)
+        × (now (reply .exit) ≡ requestOn (now (image .entry)) board (now (reply .entry)) host (now (message .entry)) .reply) ⌝ }
+{
+    let mut kept = board;
+    let answer = request_in_place(image, &mut kept, host, message, reply);
+    Outcome {
+        answer: answer,
+        board: kept,
+    }
+}
