@@ -29,7 +29,8 @@ Unchanged img r mount n = out (Refused n) img unmounted []
 Unchanged img r format n = out (Refused n) img unmounted []
 
 unfoldable pub RefusalsUntouched : Type 0
-RefusalsUntouched = (img : List ℕ) (r : Record) (c : Call) (n : Refusal) → exec img r c .answer ≡ Refused n → exec img r c ≡ Unchanged img r c n
+RefusalsUntouched =
+    (img : List ℕ) (r : Record) (c : Call) (n : Refusal) → exec img r c .answer ≡ Refused n → exec img r c ≡ Unchanged img r c n
 
 -- "Accepting takes no step": only a step call changes the image, and it does at most one flash step
 abbrev pub OneStep : List ℕ → List ℕ → Type 0

@@ -56,7 +56,8 @@ pub record Mounts (img : List ℕ) (o : Out) : Type 0 where
   pub short : length (mountPlan (allFound img) store) ≤ sizeOf img
   pub time : ℕ
   pub frames : List Frame
-  pub leaves : blockState (block (sizeOf img) (last .block) (applyAll (sizeOf img) (mountPlan (allFound img) store) img)) ≡ valid time frames clean
+  pub leaves :
+      blockState (block (sizeOf img) (last .block) (applyAll (sizeOf img) (mountPlan (allFound img) store) img)) ≡ valid time frames clean
   pub holds : replay frames ≡ settledOnly (replay (store .frames))
 
 -- the refusals of a mount, and their exact conditions, are the table's (`RefusedByTable`)
@@ -147,9 +148,10 @@ pub record RoomExact : Type 0 where
   pub of-put : (img : List ℕ) (r : Record) (reply : List ℕ) (h : Host) (m : List ℕ) (x : Held) (i : ObjectId) → Asks img r h m x (Put i)
       → (requestOn img r reply h m .answer ≡ Refused refusal.NoRoom)
       ↔ (sizeOf img
-      < claimed (replay (x .frames)) + putLen (length (valueIn m)) + 6 * openHosts (replay (x .frames) .pending ++ (entry h (put i (valueIn m)) ∷ [])) + 14)
-  pub of-delete : (img : List ℕ) (r : Record) (reply : List ℕ) (h : Host) (m : List ℕ) (x : Held) (i : ObjectId) → Asks img r h m x (Delete i)
-      → (requestOn img r reply h m .answer ≡ Refused refusal.NoRoom)
+      < claimed (replay (x .frames)) + putLen (length (valueIn m))
+      + 6 * openHosts (replay (x .frames) .pending ++ (entry h (put i (valueIn m)) ∷ [])) + 14)
+  pub of-delete : (img : List ℕ) (r : Record) (reply : List ℕ) (h : Host) (m : List ℕ) (x : Held) (i : ObjectId)
+      → Asks img r h m x (Delete i) → (requestOn img r reply h m .answer ≡ Refused refusal.NoRoom)
       ↔ (sizeOf img < claimed (replay (x .frames)) + 8 + 6 * openHosts (replay (x .frames) .pending ++ (entry h (delete i) ∷ [])))
 
 -- past the room rule too, 6 exactly if the frame needs a transfer at the last time

@@ -36,7 +36,8 @@ abbrev pub Follows : List ℕ → Record → List Step → Record → Type 0
 Follows img r [] z = r ≡ z
 Follows img r (x ∷ xs) z =
     (answerOf r ≡ More)
-    × ((next : Record) × (stepOn img r ≡ out (answerOf next) (apply (sizeOf img) x img) next []) × Follows (apply (sizeOf img) x img) next xs z)
+    × ((next : Record) × (stepOn img r ≡ out (answerOf next) (apply (sizeOf img) x img) next [])
+    × Follows (apply (sizeOf img) x img) next xs z)
 
 -- ---- the plan of each accepted call
 

@@ -125,7 +125,8 @@ stepped img r = out (answerOf r) img r []
 unfoldable pub stepBusy : Stage → List ℕ → Record → Out
 stepBusy s img r =
     let after : List ℕ = apply (sizeOf img) (action s r) img in
-    cond (eqb (length img) (suc (r .last)) && within (sizeOf img) (action s r)) (stepped after (advance s after r)) (refuse refusal.Stale img r [])
+    cond (eqb (length img) (suc (r .last)) && within (sizeOf img) (action s r)) (stepped after (advance s after r))
+    (refuse refusal.Stale img r [])
 
 -- "on an unmounted or idle record it answers 0 and changes nothing"
 abbrev pub stepIn : Phase → List ℕ → Record → Out

@@ -142,7 +142,8 @@ abbrev pub mountChecks : List ℕ → List Check
 mountChecks img =
     check refusal.ImageLength (not (allowed (length img)))
     ∷ check refusal.NoStore (noStore (stores (allFound img)) && not (anyForeign (allFound img)))
-    ∷ check refusal.Foreign (anyForeign (allFound img) || equalTimes (stores (allFound img))) ∷ check refusal.Worn (wornStore (stores (allFound img))) ∷ []
+    ∷ check refusal.Foreign (anyForeign (allFound img) || equalTimes (stores (allFound img)))
+    ∷ check refusal.Worn (wornStore (stores (allFound img))) ∷ []
 
 abbrev pub checks : List ℕ → Record → Call → List Check
 checks img r (request h m reply) = requestChecks img r h m reply

@@ -158,7 +158,8 @@ gateIn Idle img r = openIf (sameAs img (r .last) (r .block))
 -- 4, 10, 5, 2, and of 11 all but the block itself
 unfoldable pub gateOf : List ℕ → Record → Host → Gate
 gateOf img r h =
-    cond (allowed (length img)) (cond (leb (h .0) hostMax) (gateIn (r .phase) img r) (gate.Shut refusal.HostRange)) (gate.Shut refusal.ImageLength)
+    cond (allowed (length img)) (cond (leb (h .0) hostMax) (gateIn (r .phase) img r) (gate.Shut refusal.HostRange))
+    (gate.Shut refusal.ImageLength)
 
 -- the block is as an idle record has it
 unfoldable pub holdsIn : ℕ → ℕ → Survey → Bool
