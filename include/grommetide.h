@@ -8,9 +8,13 @@
  *
  *   1. After power-up call grommetide_mount. If it answers GROMMETIDE_NO_STORE, call grommetide_format.
  *   2. Pass each host's message to grommetide_request.
- *   3. Whenever a call answers GROMMETIDE_MORE, call grommetide_step until it answers GROMMETIDE_DONE. Each call does one
- *      step. Other work may be done between steps; until the last one every request gets GROMMETIDE_BUSY.
+ *   3. Whenever a call answers GROMMETIDE_MORE, call grommetide_step for as long as it answers GROMMETIDE_MORE. Each call
+ *      does one step. Other work may be done between steps; until the last one every request gets GROMMETIDE_BUSY. Then
+ *      it answers GROMMETIDE_DONE; any other answer means that record or image are not those of the last call.
  *   4. If power is lost, all that counts is in the flash: go to 1.
+ *
+ *   A mount that answers GROMMETIDE_FOREIGN or GROMMETIDE_WORN changes nothing and will answer the same again. Only a
+ *   format helps, and it loses all objects; before that the image can be read out (docs/FORMAT.md).
  *
  * The image
  *
@@ -19,8 +23,9 @@
  *   bits are only cleared) or erases one half (all its bytes become 0xFF).
  *
  *   mount, format, request and read only look at the image, so the memory-mapped flash itself will do. For step, lend a
- *   copy in RAM, then do to the flash what step did to the copy: where one byte differs, program that byte; where a half
- *   has become 0xFF, erase it. A step may change nothing (0xFF programmed over 0xFF). See examples/c.
+ *   copy in RAM, then do to the flash what step did to the copy: if any byte has gained bits, erase the half that it is
+ *   in; else, if a byte differs (it is one), program it. A step may change nothing (0xFF programmed over 0xFF). See
+ *   examples/c.
  *
  * The record
  *
@@ -34,15 +39,21 @@
  *     6-689  the library's own: 6-517 places of values, 518-545 the job, 546-617 and 618-689 frames in hand
  *
  *   Bytes 1 to 5 mean this in an idle record. An unmounted or idle record that the library hands out has zeros in all
- *   bytes it does not use. A record that does not belong to the image is noticed (GROMMETIDE_CHANGED), or, in a job, does
+ *   bytes it does not use. A record that does not belong to the image is noticed (GROMMETIDE_STALE), or, in a job, does
  *   at most one step a call and ends, or is noticed, within 65,536 steps.
  *
  * Rules for all calls
  *
  *   No pointer may be NULL, also where its length is 0. Buffers that a call writes to overlap no others. A refusal, which
- *   is any answer but GROMMETIDE_DONE and GROMMETIDE_MORE, leaves image, record and reply as they are; only a refused
- *   mount or format makes the record an unmounted one. Nothing is kept between calls, so calls on different buffers may
- *   run at the same time in different threads; calls that share a buffer which one of them writes to may not.
+ *   is any answer but GROMMETIDE_DONE and GROMMETIDE_MORE, leaves image, record and reply as they are; only a mount or
+ *   format refused with 2, 3, 4 or 6 makes the record an unmounted one. Nothing is kept between calls, so calls on
+ *   different buffers may run at the same time in different threads; calls that share a buffer which one of them writes
+ *   to may not.
+ *
+ * What it needs
+ *
+ *   No heap, no input or output, no static data that is written to; of the C library only memcpy and memset. The kit
+ *   compiles for x86-64 only.
  */
 #ifndef GROMMETIDE_H
 #define GROMMETIDE_H
@@ -62,14 +73,14 @@ enum {
     GROMMETIDE_MALFORMED = 1,     /* the message's length, kind, id, value length or page */
     GROMMETIDE_NO_STORE = 2,      /* the record is unmounted; for mount, there is no store and nothing foreign */
     GROMMETIDE_FOREIGN = 3,       /* mount: a half that no store wrote, or two that are equally new */
-    GROMMETIDE_LENGTH = 4,        /* image_len is not allowed */
+    GROMMETIDE_IMAGE_LENGTH = 4,        /* image_len is not allowed */
     GROMMETIDE_BUSY = 5,          /* a job has steps left */
-    GROMMETIDE_LAST_TIME = 6,     /* a transfer is needed, but the creation time cannot rise any more */
+    GROMMETIDE_WORN = 6,     /* a transfer is needed, but the creation time cannot rise any more */
     GROMMETIDE_NO_ROOM = 7,       /* put or delete: commits must always fit, and this would leave too little room */
     GROMMETIDE_NO_OBJECT = 8,     /* read: there is no settled object of this id */
     GROMMETIDE_SHORT_REPLY = 9,   /* log: the reply buffer has fewer than 14 bytes */
-    GROMMETIDE_NO_HOST = 10,      /* the host is above 3 */
-    GROMMETIDE_CHANGED = 11,      /* the image is not the one that the record belongs to */
+    GROMMETIDE_HOST_RANGE = 10,      /* the host is above 3 */
+    GROMMETIDE_STALE = 11,      /* the image is not the one that the record belongs to */
     GROMMETIDE_WRONG_RECORD = 254, /* record_len is not GROMMETIDE_RECORD_BYTES; nothing was done */
     GROMMETIDE_MORE = 255         /* accepted, or a step was made; steps are left */
 };
@@ -79,11 +90,11 @@ size_t grommetide_record_size(void);
 
 /*
  * Finds the store in an image and begins to tidy up after a power cut. Pending changes are dropped.
- * DONE: the store is mounted. MORE: steps are left. Refused: LENGTH, NO_STORE, FOREIGN, LAST_TIME.
+ * DONE: the store is mounted. MORE: steps are left. Refused: IMAGE_LENGTH, NO_STORE, FOREIGN, WORN.
  */
 uint8_t grommetide_mount(const uint8_t *image, size_t image_len, uint8_t *record, size_t record_len);
 
-/* Begins to make an empty store, in 12 steps, whatever the image holds. Always MORE, unless refused: LENGTH. */
+/* Begins to make an empty store, in 12 steps, whatever the image holds. Always MORE, unless refused: IMAGE_LENGTH. */
 uint8_t grommetide_format(const uint8_t *image, size_t image_len, uint8_t *record, size_t record_len);
 
 /*
@@ -105,14 +116,14 @@ uint8_t grommetide_request(const uint8_t *image, size_t image_len, uint8_t *reco
 
 /*
  * Does the next step of the job in the record. DONE: it was the last, or the record has no job and nothing was done.
- * MORE: steps are left. Refused: CHANGED, if image_len is not the record's or the job's next place lies outside the image.
+ * MORE: steps are left. Refused: STALE, if image_len is not the record's or the job's next place lies outside the image.
  */
 uint8_t grommetide_step(uint8_t *image, size_t image_len, uint8_t *record, size_t record_len);
 
 /*
  * Where a settled value stands: *len bytes from image[*at] on, counted from the image's start. The message is a read
- * (0x0105). DONE: found; *len is 0 for an empty value. Refused: LENGTH, NO_HOST, BUSY, NO_STORE, CHANGED, MALFORMED (also
- * for a message that is no read), NO_OBJECT; *at and *len are then set to 0.
+ * (0x0105). DONE: found; *len is 0 for an empty value. Refused: IMAGE_LENGTH, HOST_RANGE, BUSY, NO_STORE, STALE, MALFORMED
+ * (also for a message that is no read), NO_OBJECT; *at and *len are then set to 0. With WRONG_RECORD they stay.
  */
 uint8_t grommetide_read(const uint8_t *image, size_t image_len, const uint8_t *record, size_t record_len, uint8_t host,
                         const uint8_t *message, size_t message_len, size_t *at, size_t *len);

@@ -1,5 +1,6 @@
 /*
- * The store on a simulated NOR array: format, put, commit, a power cut in the middle of a second commit, restart, read.
+ * The store on a simulated NOR array: format, put, commit, power cuts in the middle of a second commit and of the restart
+ * after it, restart, read.
  *
  * The array is changed only by nor_program and nor_erase, and refuses to set bits. The store is lent a copy in RAM; what
  * a step does to the copy is then done to the array. A power cut loses the copy and the board record.
@@ -43,21 +44,21 @@ static void power_up(struct board *board)
     memset(board->record, 0, sizeof board->record);
 }
 
-/* Does to the array what a step did to the copy. */
+/* Does to the array what a step did to the copy. Only an erase gains bits, and it may gain just one. */
 static void follow(const uint8_t *copy)
 {
-    size_t differ = 0, last = 0, at;
+    unsigned done = 0;
+    size_t at;
     for (at = 0; at < LENGTH; at++) {
-        if (copy[at] != nor[at]) {
-            differ++;
-            last = at;
+        if ((copy[at] & ~nor[at]) != 0) {
+            nor_erase(at / HALF);
+            done++;
+        } else if (copy[at] != nor[at]) {
+            nor_program(at, copy[at]);
+            done++;
         }
     }
-    if (differ == 1 && (copy[last] & ~nor[last]) == 0)
-        nor_program(last, copy[last]);
-    else if (differ > 0)
-        nor_erase(last / HALF);
-    if (memcmp(nor, copy, LENGTH) != 0)
+    if (done > 1 || memcmp(nor, copy, LENGTH) != 0)
         stop("a step did more than one thing");
 }
 
@@ -85,9 +86,9 @@ static unsigned begin(struct board *board, uint8_t answer, unsigned most)
     return steps(board, most);
 }
 
-static unsigned mount(struct board *board)
+static unsigned mount(struct board *board, unsigned most)
 {
-    return begin(board, grommetide_mount(board->copy, LENGTH, board->record, sizeof board->record), LENGTH);
+    return begin(board, grommetide_mount(board->copy, LENGTH, board->record, sizeof board->record), most);
 }
 
 static unsigned format(struct board *board)
@@ -138,13 +139,15 @@ int main(void)
     printf("host 1 puts 5 = \"off\" in %u steps", request(&board, 1, put_off, LENGTH));
     printf("; power is cut after %u steps of its commit\n", request(&board, 1, commit, 5));
     power_up(&board);
-    printf("restart: mounted in %u steps\n", mount(&board));
-    show(&board, "after the cut");
+    printf("restart, cut again after %u step of the mount\n", mount(&board, 1));
+    power_up(&board);
+    printf("restart: mounted in %u steps\n", mount(&board, LENGTH));
+    show(&board, "after the cuts");
 
     request(&board, 1, put_off, LENGTH);
     request(&board, 1, commit, LENGTH);
     power_up(&board);
-    printf("again, and cut after the last step; restart: mounted in %u steps\n", mount(&board));
+    printf("again, and cut after the last step; restart: mounted in %u steps\n", mount(&board, LENGTH));
     show(&board, "after that cut");
     return 0;
 }

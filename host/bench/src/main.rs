@@ -43,12 +43,7 @@ fn main() {
     for length in [512, 4_096, 65_536] {
         for case in [case::sparse(length), case::full(length)] {
             for (operation, name) in OPERATIONS {
-                println!(
-                    "| {} | {} | {name} | {} |",
-                    case.length,
-                    case.fill,
-                    measure(&library, operation, &case)
-                );
+                println!("| {} | {} | {name} | {} |", case.length, case.fill, measure(&library, operation, &case));
             }
         }
     }

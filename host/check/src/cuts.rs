@@ -18,8 +18,8 @@ pub struct Start<'a> {
 #[derive(Clone, Copy)]
 pub enum Allowed<'a> {
     Exactly(&'a Objects),
-    /// A cut format: these objects, none, or no store.
-    OrEmptyOrGone(&'a Objects),
+    /// A cut format: these objects, or no store.
+    OrGone(&'a Objects),
 }
 
 pub struct Cuts {
@@ -102,15 +102,14 @@ impl Cuts {
         let (objects, lists) = found(half_of(self.twin.image(), usize::from(idle.half)));
         assert_eq!(lists, Lists::default(), "something is pending after a mount");
         match allowed {
-            Allowed::Exactly(expected) => assert_eq!(objects, *expected),
-            Allowed::OrEmptyOrGone(old) => assert!(objects.is_empty() || objects == *old),
+            Allowed::Exactly(expected) | Allowed::OrGone(expected) => assert_eq!(objects, *expected),
         }
     }
 
     fn judge_refusal(&self, answer: Answer, image: &[u8], allowed: Allowed) {
         match answer {
-            Answer::NO_STORE => assert!(matches!(allowed, Allowed::OrEmptyOrGone(_)), "the store is gone"),
-            Answer::LAST_TIME => assert!(stuck(image), "6 though the time may rise or nothing is to be done"),
+            Answer::NO_STORE => assert!(matches!(allowed, Allowed::OrGone(_)), "the store is gone"),
+            Answer::WORN => assert!(stuck(image), "6 though the time may rise or nothing is to be done"),
             refusal => panic!("mount after a cut answered {refusal}"),
         }
     }

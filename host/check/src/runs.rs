@@ -154,7 +154,7 @@ impl Run {
 
     fn expected(&self, host: u8, wish: &Wish, reply: usize) -> (Answer, usize) {
         match self.twin.head() {
-            _ if host > 3 => (Answer::HOST, 0),
+            _ if host > 3 => (Answer::HOST_RANGE, 0),
             Head::Job => (Answer::BUSY, 0),
             Head::Unmounted => (Answer::NO_STORE, 0),
             Head::Idle(idle) => self.expected_of_idle(idle, usize::from(host), wish, reply),
@@ -175,9 +175,9 @@ impl Run {
         };
         let transfer = usize::from(idle.end) + frame > self.size();
         if !room {
-            (Answer::ROOM, 0)
+            (Answer::NO_ROOM, 0)
         } else if transfer && newest(self.twin.image()) == Some(u32::MAX) {
-            (Answer::LAST_TIME, 0)
+            (Answer::WORN, 0)
         } else {
             (Answer::MORE, frame + if transfer { self.book.claimed() - 5 } else { 0 })
         }
@@ -218,10 +218,11 @@ impl Run {
         match (call, answer) {
             (Call::Format, _) => assert_eq!(answer, Answer::MORE),
             (Call::Mount, Answer::NO_STORE) => assert!(self.format_open, "the store is gone"),
-            (Call::Mount, Answer::LAST_TIME) => assert!(stuck(self.twin.image())),
+            (Call::Mount, Answer::WORN) => assert!(stuck(self.twin.image())),
             (Call::Mount, _) => assert!(!answer.refused(), "mount answered {answer}"),
+            (Call::Step, _) => assert!(!answer.refused(), "a step got {answer}"),
             _ => assert!(
-                ![Answer::LENGTH, Answer::FOREIGN, Answer::CHANGED].contains(&answer),
+                ![Answer::IMAGE_LENGTH, Answer::FOREIGN, Answer::STALE].contains(&answer),
                 "{call} got {answer}"
             ),
         }
@@ -275,7 +276,7 @@ impl Run {
         let start = Start { image: self.twin.image(), idle, call };
         match call {
             // A format that follows a cut format may find the store gone already.
-            Call::Format => self.cuts.of_job(&start, Allowed::OrEmptyOrGone(&objects), &Default::default()),
+            Call::Format => self.cuts.of_job(&start, Allowed::OrGone(&objects), &Default::default()),
             Call::Request { host, message, .. } if message[..4] == message::commit() => {
                 let after = self.book.committed(usize::from(*host));
                 self.cuts.of_job(&start, Allowed::Exactly(&objects), &after);

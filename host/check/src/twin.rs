@@ -101,13 +101,18 @@ impl<S: Store> Side<S> {
         self.store.head(&self.record)
     }
 
-    /// Makes the call. A refusal must leave the record as it is; mount and format take none.
+    /// Makes the call. A refused step or request must leave the record as it is; mount and format take none.
     fn call(&mut self, call: &Call) -> Outcome {
         let mut outcome = Outcome { answer: Answer::DONE, reply: Vec::new(), stretch: Stretch::default() };
         match call {
             Call::Mount => (outcome.answer, self.record) = self.store.mount(&self.image),
             Call::Format => (outcome.answer, self.record) = self.store.format(&self.image),
-            Call::Step => outcome.answer = self.store.step(&mut self.image, &mut self.record),
+            Call::Step => {
+                let before = self.record.clone();
+                outcome.answer = self.store.step(&mut self.image, &mut self.record);
+                let kept = !outcome.answer.refused() || self.record == before;
+                assert!(kept, "step answered {} and changed the record", outcome.answer);
+            }
             Call::Request { host, message, reply } => {
                 let before = self.record.clone();
                 outcome.reply = vec![UNWRITTEN; *reply];

@@ -42,16 +42,16 @@ impl<'s, S: Store> Board<'s, S> {
         self.store.step(&mut self.image, &mut self.record)
     }
 
-    /// Steps until the answer is no longer "more"; the last answer, and the steps made.
+    /// Steps until the answer is no longer "more"; the last answer, and the flash steps made.
     pub fn run(&mut self) -> (Answer, usize) {
         let mut steps = 0;
-        while self.head() == Head::Job {
+        loop {
+            let busy = self.head() == Head::Job;
             let answer = self.step();
-            if answer.refused() {
+            steps += usize::from(busy && !answer.refused());
+            if answer != Answer::MORE {
                 return (answer, steps);
             }
-            steps += 1;
         }
-        (Answer::DONE, steps)
     }
 }

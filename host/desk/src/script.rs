@@ -7,6 +7,9 @@ use store::{Answer, Head, Idle, Store, hex};
 /// The most bytes that `new` and `req` make.
 const LARGEST: usize = 1 << 20;
 
+/// What some editors put in front of a text.
+const BYTE_ORDER_MARK: &[u8] = b"\xEF\xBB\xBF";
+
 const CALLS: [(&str, &str); 13] = [
     ("new", "LEN"),
     ("image", "HEX"),
@@ -31,13 +34,14 @@ pub fn replay<S: Store>(store: &S, mut script: impl BufRead, mut out: impl Write
         if script.read_until(b'\n', &mut bytes)? == 0 {
             break;
         }
-        match std::str::from_utf8(&bytes).map(str::trim) {
-            Ok(line) if line.is_empty() || line.starts_with('#') => continue,
-            Ok(line) => match call(&mut board, line) {
-                Ok(answer) => writeln!(out, "{answer}")?,
-                Err(why) => writeln!(out, "? line {number}: {why}")?,
-            },
-            Err(_) => writeln!(out, "? line {number}: not text")?,
+        let line = bytes.strip_prefix(BYTE_ORDER_MARK).unwrap_or(&bytes).trim_ascii();
+        if line.is_empty() || line.starts_with(b"#") {
+            continue;
+        }
+        let text = std::str::from_utf8(line).map_err(|_| "not text".to_string());
+        match text.and_then(|line| call(&mut board, line)) {
+            Ok(answer) => writeln!(out, "{answer}")?,
+            Err(why) => writeln!(out, "? line {number}: {why}")?,
         }
     }
     out.flush()

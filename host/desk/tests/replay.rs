@@ -172,6 +172,7 @@ fn lines_that_cannot_be_read() {
 fn comments_blank_lines_and_line_ends() {
     assert_eq!(replay(b"# a\n\n   \t\r\n  # b\r\nnew 2\r\n\tdump  \nrecord"), "ok\nimage=ffff\nunmounted\n");
     assert_eq!(replay(b"\xFF\xFE\nnew 1\n"), "? line 1: not text\nok\n");
+    assert_eq!(replay(b"\xEF\xBB\xBFnew 1\n # \xFF\ndump\n"), "ok\nimage=ff\n");
     assert_eq!(replay(b""), "");
 }
 

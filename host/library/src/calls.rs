@@ -1,4 +1,7 @@
-//! include/grommetide.h from Rust. Each function is safe: the library gets every slice with its length.
+//! include/grommetide.h from Rust.
+//!
+//! SAFETY, of each call here: the library gets a slice's own pointer and length, which are never null, and the borrow
+//! checker sees to it that a slice which it writes to overlaps no other. It keeps nothing after a call.
 
 use crate::RECORD_SIZE;
 use store::{Answer, Stretch};

@@ -43,7 +43,7 @@ impl Store for Model {
             return Answer::DONE;
         };
         if image.len() != job.length() {
-            return Answer::CHANGED;
+            return Answer::STALE;
         }
         job.next().make(image);
         if let Some(idle) = job.advance() {
@@ -85,7 +85,7 @@ fn accepted_or_unmounted(result: Result<Record, Answer>) -> (Answer, Record) {
 
 fn allowed_length(image: &[u8]) -> Result<(), Answer> {
     let allowed = image.len().is_multiple_of(256) && (512..=65_536).contains(&image.len());
-    if allowed { Ok(()) } else { Err(Answer::LENGTH) }
+    if allowed { Ok(()) } else { Err(Answer::IMAGE_LENGTH) }
 }
 
 /// The bytes of half 0 or 1.
@@ -139,11 +139,11 @@ fn write_half(base: usize, time: u32, frames: Vec<u8>) -> [Work; 5] {
 /// The refusals that come before a look at the message.
 fn board<'a>(image: &'a [u8], record: &Record, host: u8) -> Result<(Board<'a>, Host), Answer> {
     allowed_length(image)?;
-    let host = Host::new(host).ok_or(Answer::HOST)?;
+    let host = Host::new(host).ok_or(Answer::HOST_RANGE)?;
     match record {
         Record::Job(_) => Err(Answer::BUSY),
         Record::Unmounted => Err(Answer::NO_STORE),
-        Record::Idle(idle) => Ok((Board::found(image, *idle).ok_or(Answer::CHANGED)?, host)),
+        Record::Idle(idle) => Ok((Board::found(image, *idle).ok_or(Answer::STALE)?, host)),
     }
 }
 
@@ -228,7 +228,7 @@ impl<'a> Board<'a> {
     fn change(&self, host: Host, frame: Vec<u8>, spare: usize) -> Result<Record, Answer> {
         let marks = frame::MARK * self.replay.open(Some(host));
         if self.replay.claimed() + frame.len() + marks + spare > self.size() {
-            return Err(Answer::ROOM);
+            return Err(Answer::NO_ROOM);
         }
         self.append(frame)
     }
@@ -247,7 +247,7 @@ impl<'a> Board<'a> {
     /// Settled and pending frames into the other half, then the erase of this one.
     fn transfer(&self) -> Result<Vec<Work>, Answer> {
         if self.journal.time == LAST_TIME {
-            return Err(Answer::LAST_TIME);
+            return Err(Answer::WORN);
         }
         let other = 1 - self.half;
         let mut work = Vec::from(write_half(other * self.size(), self.journal.time + 1, self.frames()));

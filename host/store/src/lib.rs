@@ -14,15 +14,15 @@ impl Answer {
     pub const MALFORMED: Answer = Answer(1);
     pub const NO_STORE: Answer = Answer(2);
     pub const FOREIGN: Answer = Answer(3);
-    pub const LENGTH: Answer = Answer(4);
+    pub const IMAGE_LENGTH: Answer = Answer(4);
     pub const BUSY: Answer = Answer(5);
-    pub const LAST_TIME: Answer = Answer(6);
-    pub const ROOM: Answer = Answer(7);
+    pub const WORN: Answer = Answer(6);
+    pub const NO_ROOM: Answer = Answer(7);
     pub const NO_OBJECT: Answer = Answer(8);
     pub const SHORT_REPLY: Answer = Answer(9);
-    pub const HOST: Answer = Answer(10);
-    pub const CHANGED: Answer = Answer(11);
-    pub const RECORD_SIZE: Answer = Answer(254);
+    pub const HOST_RANGE: Answer = Answer(10);
+    pub const STALE: Answer = Answer(11);
+    pub const WRONG_RECORD: Answer = Answer(254);
     pub const MORE: Answer = Answer(255);
 
     pub fn refused(self) -> bool {

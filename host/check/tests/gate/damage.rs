@@ -48,8 +48,8 @@ fn every_single_byte_change() {
             twin.ask(0, &message::log());
         }
     }
-    let refused = twin.tally.of("request", Answer::CHANGED);
-    assert_eq!(twin.tally.of("read", Answer::CHANGED), refused);
+    let refused = twin.tally.of("request", Answer::STALE);
+    assert_eq!(twin.tally.of("read", Answer::STALE), refused);
     assert!(refused > 110_000, "only {refused} changes were noticed");
     assert!(twin.tally.of("request", Answer::DONE) > LENGTH as u64);
 }

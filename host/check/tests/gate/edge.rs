@@ -36,7 +36,7 @@ fn record_buffers_of_another_size() {
             library.step_on(&mut image, &mut record),
             library.read_on(&image, &record, 0, &message::read(1)).0,
         ];
-        assert_eq!(answers, [Answer::RECORD_SIZE; 5]);
+        assert_eq!(answers, [Answer::WRONG_RECORD; 5]);
         assert_eq!((record, reply, &image), (vec![1; size], [7; 14], &before));
     }
 }
@@ -117,7 +117,7 @@ fn run_forged(library: &Library, image: &mut [u8], record: &mut Record) -> Answe
                 assert_ne!(library.head(record), Head::Job);
                 return answer;
             }
-            Answer::CHANGED => {
+            Answer::STALE => {
                 assert!(before == image && kept == *record, "11 changed something");
                 return answer;
             }
@@ -145,7 +145,7 @@ fn forged_jobs() {
         let mut record = forged_job(&mut rng, &record);
         assert_eq!(library.request(&copy, &mut record, 0, &message::log(), &mut [0; 14]), Answer::BUSY);
         let end = run_forged(&library, &mut copy, &mut record);
-        ends[usize::from(end == Answer::CHANGED)] += 1;
+        ends[usize::from(end == Answer::STALE)] += 1;
     }
     assert!(ends[0] > 0 && ends[1] > 0, "done and 11: {ends:?}");
 }

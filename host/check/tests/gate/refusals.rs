@@ -52,16 +52,16 @@ fn read(twin: &mut Twin, host: u8, message: &[u8]) -> (Answer, Stretch) {
 fn image_length_goes_before_all_else() {
     let mut twin = in_a_job();
     twin.swap_image(&[0xFF; 511]);
-    assert_eq!(refusal(&mut twin, 4, &MALFORMED, 0), Answer::LENGTH);
-    assert_eq!(read(&mut twin, 4, &MALFORMED), (Answer::LENGTH, Stretch::default()));
+    assert_eq!(refusal(&mut twin, 4, &MALFORMED, 0), Answer::IMAGE_LENGTH);
+    assert_eq!(read(&mut twin, 4, &MALFORMED), (Answer::IMAGE_LENGTH, Stretch::default()));
 }
 
 #[test]
 fn host_goes_before_job_and_record() {
     for host in [4, 5, 127, 128, 255] {
         for mut twin in [in_a_job(), Twin::blank(LENGTH), misplaced(), formatted()] {
-            assert_eq!(refusal(&mut twin, host, &MALFORMED, 0), Answer::HOST);
-            assert_eq!(read(&mut twin, host, &message::read(1)), (Answer::HOST, Stretch::default()));
+            assert_eq!(refusal(&mut twin, host, &MALFORMED, 0), Answer::HOST_RANGE);
+            assert_eq!(read(&mut twin, host, &message::read(1)), (Answer::HOST_RANGE, Stretch::default()));
         }
     }
 }
@@ -110,8 +110,8 @@ fn a_record_that_is_not_the_images_goes_before_the_message() {
         for message in &messages {
             let mut twin = formatted();
             twin.forge(idle);
-            assert_eq!(refusal(&mut twin, 1, message, 0), Answer::CHANGED);
-            assert_eq!(read(&mut twin, 1, message), (Answer::CHANGED, Stretch::default()));
+            assert_eq!(refusal(&mut twin, 1, message, 0), Answer::STALE);
+            assert_eq!(read(&mut twin, 1, message), (Answer::STALE, Stretch::default()));
         }
     }
 }
@@ -129,22 +129,22 @@ fn changed(changes: &[(usize, u8)]) -> Answer {
 
 #[test]
 fn an_image_that_is_not_the_records() {
-    assert_eq!(changed(&[(256 + 255, 0xFE)]), Answer::CHANGED);
-    assert_eq!(changed(&[(256 + 8, 0xFE)]), Answer::CHANGED);
-    assert_eq!(changed(&[(16, 0x06)]), Answer::CHANGED);
-    assert_eq!(changed(&[(200, 0x00)]), Answer::CHANGED);
-    assert_eq!(changed(&[(9, 0x7F)]), Answer::CHANGED);
-    assert_eq!(changed(&[(8, 0xFE)]), Answer::CHANGED);
-    assert_eq!(changed(&[(4, 0xFF)]), Answer::CHANGED);
+    assert_eq!(changed(&[(256 + 255, 0xFE)]), Answer::STALE);
+    assert_eq!(changed(&[(256 + 8, 0xFE)]), Answer::STALE);
+    assert_eq!(changed(&[(16, 0x06)]), Answer::STALE);
+    assert_eq!(changed(&[(200, 0x00)]), Answer::STALE);
+    assert_eq!(changed(&[(9, 0x7F)]), Answer::STALE);
+    assert_eq!(changed(&[(8, 0xFE)]), Answer::STALE);
+    assert_eq!(changed(&[(4, 0xFF)]), Answer::STALE);
     let commit: Vec<(usize, u8)> = (16..).zip([6, 0, 3, 0, 0, 0xFE]).collect();
-    assert_eq!(changed(&commit), Answer::CHANGED);
+    assert_eq!(changed(&commit), Answer::STALE);
 }
 
 /// No store leaves more pending than commits have room for: C + 6·open is 253 with one host's changes in the
 /// first image, 259 with two hosts' in the second.
 #[test]
 fn an_image_without_room_for_the_commits() {
-    for (second_host, expected) in [(0, Answer::MORE), (1, Answer::CHANGED)] {
+    for (second_host, expected) in [(0, Answer::MORE), (1, Answer::STALE)] {
         let mut image = formatted().image().to_vec();
         let put = |host: u8, size: usize| {
             [vec![8 + size as u8, 0, 1, 0, host, 1, 0], vec![0; size], vec![0xFE]].concat()
@@ -239,14 +239,14 @@ fn nearly_full(twin: &mut Twin) {
 fn a_transfer_at_the_last_time() {
     let mut twin = formatted_at(u32::MAX);
     nearly_full(&mut twin);
-    assert_eq!(refusal(&mut twin, 0, &message::put(1, &[7; 64]), 0), Answer::LAST_TIME);
+    assert_eq!(refusal(&mut twin, 0, &message::put(1, &[7; 64]), 0), Answer::WORN);
     for id in [1, 2] {
         assert_eq!(twin.serve(0, &message::put(id, &[])), (Answer::DONE, 8));
     }
     assert_eq!(twin.head(), Head::Idle(Idle { length: LENGTH, half: 0, end: 248 }));
     assert_eq!(twin.serve(0, &message::commit()), (Answer::DONE, 6));
-    assert_eq!(refusal(&mut twin, 0, &message::delete(1), 0), Answer::LAST_TIME);
-    assert_eq!(refusal(&mut twin, 0, &message::put(1, &[7; 64]), 0), Answer::LAST_TIME);
+    assert_eq!(refusal(&mut twin, 0, &message::delete(1), 0), Answer::WORN);
+    assert_eq!(refusal(&mut twin, 0, &message::put(1, &[7; 64]), 0), Answer::WORN);
     assert_eq!(twin.ask(0, &message::commit()), Answer::DONE);
 }
 
@@ -256,7 +256,7 @@ fn room_goes_before_the_last_time() {
     for id in 1..=3 {
         assert_eq!(twin.serve(0, &message::put(id, &[id; 64])), (Answer::DONE, 72));
     }
-    assert_eq!(refusal(&mut twin, 0, &message::put(4, &[7; 64]), 0), Answer::ROOM);
+    assert_eq!(refusal(&mut twin, 0, &message::put(4, &[7; 64]), 0), Answer::NO_ROOM);
 }
 
 #[test]
@@ -274,7 +274,7 @@ fn mount_at_the_last_time() {
     assert_eq!(twin.whole(&Call::Mount), (Answer::DONE, 0));
     assert_eq!(twin.serve(0, &message::put(1, b"x")), (Answer::DONE, 9));
     let image = twin.image().to_vec();
-    assert_eq!(twin.call(&Call::Mount).answer, Answer::LAST_TIME);
+    assert_eq!(twin.call(&Call::Mount).answer, Answer::WORN);
     assert_eq!((twin.image(), twin.head()), (&image[..], Head::Unmounted));
     assert_eq!(twin.whole(&Call::Format), (Answer::DONE, 12));
 }
@@ -286,7 +286,7 @@ fn mount_at_the_last_time_erases_nothing() {
     image[16] = 6;
     image[256 + 8] = 0xFE;
     let mut twin = Twin::new(&image);
-    assert_eq!(twin.call(&Call::Mount).answer, Answer::LAST_TIME);
+    assert_eq!(twin.call(&Call::Mount).answer, Answer::WORN);
     assert_eq!((twin.image(), twin.head()), (&image[..], Head::Unmounted));
 }
 
@@ -326,7 +326,7 @@ fn steps_check_only_the_length() {
     let image = twin.image().to_vec();
     for other in [0, 1, 256, 511, 513, 768, 65_536] {
         twin.swap_image(&vec![0xFF; other]);
-        assert_eq!(twin.step(), Answer::CHANGED);
+        assert_eq!(twin.step(), Answer::STALE);
         assert!(twin.busy());
         assert_eq!(twin.image(), vec![0xFF; other]);
     }

@@ -158,19 +158,19 @@ fn i_three_long_values() {
     assert_eq!(twin.head(), idle(0, 232));
     assert_eq!(twin.serve(0, &message::delete(9)), done(8));
     assert_eq!(twin.serve(0, &message::delete(9)), done(8));
-    assert_eq!(twin.ask(0, &message::delete(9)), Answer::ROOM);
+    assert_eq!(twin.ask(0, &message::delete(9)), Answer::NO_ROOM);
 }
 
 #[test]
 fn j_no_room() {
-    assert_eq!(after_i().ask(0, &empty_put_to_4()), Answer::ROOM);
+    assert_eq!(after_i().ask(0, &empty_put_to_4()), Answer::NO_ROOM);
 }
 
 #[test]
 fn k_no_room_by_one_byte() {
     let mut twin = after_i();
     assert_eq!(twin.serve(0, &message::commit()), done(6));
-    assert_eq!(twin.ask(0, &empty_put_to_4()), Answer::ROOM);
+    assert_eq!(twin.ask(0, &empty_put_to_4()), Answer::NO_ROOM);
 
     let mut twin = after_puts(63);
     assert_eq!(twin.serve(0, &message::commit()), done(6));
@@ -219,7 +219,7 @@ fn o_limits() {
     assert_eq!(answer(0, &put(1, 64)), Answer::MORE);
     assert_eq!(answer(0, &put(1, 65)), Answer::MALFORMED);
     assert_eq!(answer(3, &put(1, 2)), Answer::MORE);
-    assert_eq!(answer(4, &put(1, 2)), Answer::HOST);
+    assert_eq!(answer(4, &put(1, 2)), Answer::HOST_RANGE);
 }
 
 #[test]
@@ -231,7 +231,7 @@ fn p_image_lengths() {
     for length in [0, 1, 256, 511, 513, 640, 65_535, 65_537, 65_792, 131_072] {
         for call in [Call::Format, Call::Mount] {
             let mut twin = Twin::blank(length);
-            assert_eq!(twin.call(&call).answer, Answer::LENGTH);
+            assert_eq!(twin.call(&call).answer, Answer::IMAGE_LENGTH);
             assert_eq!(twin.head(), Head::Unmounted);
         }
     }

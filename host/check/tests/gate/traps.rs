@@ -203,8 +203,8 @@ fn a_refused_delete() {
         put(&mut twin, 0, id, &[id; 64]);
     }
     assert_eq!(twin.serve(1, &message::delete(1)), done(8));
-    assert_eq!(twin.ask(1, &message::delete(1)), Answer::ROOM);
-    assert_eq!(twin.ask(2, &message::delete(1)), Answer::ROOM);
+    assert_eq!(twin.ask(1, &message::delete(1)), Answer::NO_ROOM);
+    assert_eq!(twin.ask(2, &message::delete(1)), Answer::NO_ROOM);
     assert_eq!(twin.serve(1, &message::commit()), done(6));
     assert_eq!(twin.serve(0, &message::commit()), done(6));
     assert_eq!(twin.ids(), [1, 2, 3]);
@@ -213,7 +213,7 @@ fn a_refused_delete() {
 /// Exactly: with C = 242 a delete makes 242 + 8 + 6 = 256, with 243 one more.
 #[test]
 fn a_delete_at_the_limit() {
-    for (size, expected) in [(58, Answer::MORE), (59, Answer::ROOM)] {
+    for (size, expected) in [(58, Answer::MORE), (59, Answer::NO_ROOM)] {
         let mut twin = Twin::formatted(LENGTH);
         for (id, size) in [(1, 64), (2, 64), (3, size), (4, 0)] {
             put(&mut twin, 0, id, &vec![id; size]);
@@ -247,7 +247,7 @@ fn a_format_cut_anywhere() {
         let image = twin.image().to_vec();
         let start = Start { image: &image, idle: None, call: &Call::Format };
         let mut cuts = Cuts::everywhere(LENGTH);
-        cuts.of_job(&start, Allowed::OrEmptyOrGone(&objects), &Default::default());
+        cuts.of_job(&start, Allowed::OrGone(&objects), &Default::default());
         assert_eq!(cuts.twin.tally.of("mount", Answer::NO_STORE), 7);
         assert_eq!(twin.serve(0, &message::put(1, &[2; 64])).0, Answer::DONE);
     }
