@@ -217,10 +217,16 @@ logIn r reply = cond (ltb (length reply) pageLen) (refused refusal.ShortReply r)
 abbrev pub bytesOf : Frame → List ℕ
 bytesOf f = buffer (encode f)
 
+abbrev pub putIn : ℕ → Record → Survey → List ℕ → Host → ObjectId → List ℕ → Outcome
+putIn size r s places h i v =
+    let f : Frame = change h (put i v) in changeIn size r s places h (frameLen f) (bytesOf f) (deleteLen + endLen)
+
+abbrev pub deleteIn : ℕ → Record → Survey → List ℕ → Host → ObjectId → Outcome
+deleteIn size r s places h i = let f : Frame = change h (delete i) in changeIn size r s places h (frameLen f) (bytesOf f) 0
+
 abbrev pub serveIn : ℕ → Record → List ℕ → Host → List ℕ → Survey → List ℕ → Request → Outcome
-serveIn size r reply h m s places (Put i) =
-    let f : Frame = change h (put i (valueIn m)) in changeIn size r s places h (frameLen f) (bytesOf f) (deleteLen + endLen)
-serveIn size r reply h m s places (Delete i) = let f : Frame = change h (delete i) in changeIn size r s places h (frameLen f) (bytesOf f) 0
+serveIn size r reply h m s places (Put i) = putIn size r s places h i (valueIn m)
+serveIn size r reply h m s places (Delete i) = deleteIn size r s places h i
 serveIn size r reply h m s places Commit = let f : Frame = commit h in endIn size r s places h (frameLen f) (bytesOf f)
 serveIn size r reply h m s places Abort = let f : Frame = abort h in endIn size r s places h (frameLen f) (bytesOf f)
 serveIn size r reply h m s places (Read i) = readIn r places i

@@ -1,12 +1,13 @@
 // The requests, once nothing earlier refuses them.
 ghost use mathlib.Core.Path.{_≡_};
 ghost use Prim.Native.Nat.{_≤_};
-ghost use lib.ListN.{getD, take};
+ghost use mathlib.Core.List.{[]};
+ghost use lib.ListN.{length, getD, take};
 ghost use Rattle.frame.specs.Frame.{valueMax, maxFrame};
 ghost use Rattle.frame.specs.Code.{frameOf, headLen};
 ghost use Rattle.wire.specs.declared.Parsed.the-variants.{Is};
 ghost use Rattle.wire.specs.Message.{parse};
-ghost use Rattle.store.specs.Calls.{done, bytesOf, appendIn, changeIn, endIn, readIn, logIn, serveIn, replyIn, replyLog};
+ghost use Rattle.store.specs.Calls.{done, bytesOf, appendIn, changeIn, putIn, deleteIn, endIn, readIn, logIn, serveIn, replyIn, replyLog};
 use crate::image;
 use crate::mounts;
 use crate::room;
@@ -104,6 +105,45 @@ fn serve_change(
     append(size, board, s, places, head, value)
 }
 
+fn serve_put(
+    size: usize,
+    board: Record,
+    s: Survey,
+    places: [u16; 256],
+    host: Host,
+    id: ObjectId,
+    value: &[u8],
+) -> Outcome
+    requires { ⌜ length (now value) ≤ valueMax ⌝ }
+    ensures { λ r. ⌜ r ≡ putIn size board s places host id (now (value .entry)) ⌝ }
+{
+    let head = Head::Put(host, id, value.len() as u8);
+    serve_change(size, board, s, places, host, head, value, 14)
+}
+
+fn serve_delete(
+    size: usize,
+    board: Record,
+    s: Survey,
+    places: [u16; 256],
+    host: Host,
+    id: ObjectId,
+) -> Outcome
+    ensures { λ r. ⌜ r ≡ deleteIn size board s places host id ⌝ }
+{
+    let none: [u8; 0] = [];
+    serve_change(
+        size,
+        board,
+        s,
+        places,
+        host,
+        Head::Delete(host, id),
+        &none,
+        0,
+    )
+}
+
 // A commit or an abort: with nothing pending it is done at once.
 fn serve_end(
     size: usize,
@@ -112,16 +152,16 @@ fn serve_end(
     places: [u16; 256],
     host: Host,
     head: Head,
-    value: &[u8],
 ) -> Outcome
     requires { ⌜ headLen head ≤ maxFrame ⌝ }
-    ensures { λ r. ⌜ r ≡ endIn size board s places host (headLen head) (bytesOf (frameOf head (take valueMax (now (value .entry))))) ⌝ }
+    ensures { λ r. ⌜ r ≡ endIn size board s places host (headLen head) (bytesOf (frameOf head [])) ⌝ }
 {
     let p = s.pending;
     if room::pending_of(p, host) == 0 {
         return done(board);
     }
-    append(size, board, s, places, head, value)
+    let none: [u8; 0] = [];
+    append(size, board, s, places, head, &none)
 }
 
 fn serve_read(board: Record, places: [u16; 256], id: ObjectId) -> Outcome
@@ -162,42 +202,13 @@ pub fn serve(
     ensures { λ r. ⌜ (r ≡ serveIn size board (now (reply .entry)) host (now (message .entry)) s places ask) × (now (reply .exit) ≡ replyIn size s (now (reply .entry)) ask) ⌝ }
 {
     let room = size as usize;
-    let value = wire::value(message);
     match ask {
         Request::Put(id) => {
-            return serve_change(
-                room,
-                board,
-                s,
-                places,
-                host,
-                Head::Put(host, id, value.len() as u8),
-                value,
-                14,
-            );
+            return serve_put(room, board, s, places, host, id, wire::value(message));
         }
-        Request::Delete(id) => {
-            return serve_change(
-                room,
-                board,
-                s,
-                places,
-                host,
-                Head::Delete(host, id),
-                value,
-                0,
-            );
-        }
-        Request::Commit => return serve_end(
-            room,
-            board,
-            s,
-            places,
-            host,
-            Head::Commit(host),
-            value,
-        ),
-        Request::Abort => return serve_end(room, board, s, places, host, Head::Abort(host), value),
+        Request::Delete(id) => return serve_delete(room, board, s, places, host, id),
+        Request::Commit => return serve_end(room, board, s, places, host, Head::Commit(host)),
+        Request::Abort => return serve_end(room, board, s, places, host, Head::Abort(host)),
         Request::Read(id) => return serve_read(board, places, id),
         Request::Log(page) => return serve_log(size, board, s, page, reply),
     }

@@ -13,4 +13,15 @@ use Rattle.store.proofs.serving.serve_end.Tie as tie
 pub serve-end-spec : {M : Type 1} → statement M
 unfolding endIn
 serve-end-spec =
-    tie.close (tie.spec (λ c κs. search needs) (λ c κs. search needs) (λ c. let t : ltb 0 (getD (c .before .before .before .before .before .args .s .pending) (c .before .before .before .before .before .args .host .0) 0) ≡ false = le-ltb 0 (getD (c .before .before .before .before .before .args .s .pending) (c .before .before .before .before .before .args .host .0) 0) (omega (arith, c .before .before .pending-of .ensures, c .before .if1 .taken)) in c .done .ensures ∙ sym (rw (t, endIn))) (λ c κs. search needs) (λ c. let t : ltb 0 (getD (c .before .before .before .before .before .args .s .pending) (c .before .before .before .before .before .args .host .0) 0) ≡ true = lt-ltb 0 (getD (c .before .before .before .before .before .args .s .pending) (c .before .before .before .before .before .args .host .0) 0) (omega (arith, c .before .before .pending-of .ensures, c .before .if1 .left)) in c .append .ensures ∙ sym (rw (t, endIn))))
+    tie.close
+    (tie.spec
+    (λ c κs. search needs)
+    (λ c κs. search needs)
+    (λ c. let a = c .before .before .before .before .args in
+    let t : ltb 0 (getD (a .s .pending) (a .host .0) 0) ≡ false = le-ltb 0 (getD (a .s .pending) (a .host .0) 0) (omega (arith, c .before .before .pending-of .ensures, c .before .if1 .taken)) in
+    c .done .ensures ∙ sym (rw (t, endIn)))
+    (λ c. search needs)
+    (λ c κs. search needs)
+    (λ c. let a = c .before .before .before .before .before .args in
+    let t : ltb 0 (getD (a .s .pending) (a .host .0) 0) ≡ true = lt-ltb 0 (getD (a .s .pending) (a .host .0) 0) (omega (arith, c .before .before .before .pending-of .ensures, c .before .before .if1 .left)) in
+    c .append .ensures ∙ sym (rw (t, endIn))))
