@@ -1,11 +1,11 @@
--- `bench::run` is safe and ends. The measure is how many steps it may still do.
+-- `scene::run` is safe and ends. The measure is how many steps it may still do.
 use mathlib.Core.Path.{_≡_, refl, _∙_}
 use Prim.Native.Nat.{_≤_, _-_}
 use native.Mathlib.Omega.{arith}
 use borrow.Author.Needs.{needs}
 use lib.ListN.{length}
-use Rattle.bench.proofs.run.Statement.{statement}
-use Rattle.bench.proofs.run.Tie as tie
+use Rattle.scene.proofs.run.Statement.{statement}
+use Rattle.scene.proofs.run.Tie as tie
 
 abbrev Inv-loop : tie.InvT-loop
 Inv-loop image₀ most board₀ answer₀ steps₀ image board answer steps = (length image ≡ length image₀) × (steps ≤ most)
