@@ -2,24 +2,23 @@
 use crate::shown::answered;
 use crate::shown::asked;
 use crate::shown::bench_of;
-use crate::shown::refused_mount;
+use crate::shown::commits;
+use crate::shown::deletes_1;
+use crate::shown::mounts;
+use crate::shown::puts;
 use crate::shown::same_record;
 use crate::shown::same_reply;
 use crate::shown::state;
 use crate::shown::stepped;
-use crate::shown::told;
 use crate::shown::verdict;
 use crate::shown::with_byte;
 use board::Record;
 use check::same;
 use frame::Host;
 use scene::Bench;
-use scene::ask;
 use scene::ask_some;
-use scene::commit;
 use scene::number;
 use scene::objects;
-use scene::put;
 use scene::say;
 use scene::tell;
 use store::Outcome;
@@ -38,16 +37,16 @@ fn twice(start: [u8; 512]) -> [u8; 512] {
 pub fn foreign(c: Bench) {
     let image = c.image;
     say(b"Refusal 3: a foreign half, or two valid halves of equal time\n");
-    refused_mount(
+    mounts(
         b"   byte 0 is 00, all others ff",
         with_byte([0xFF; 512], 0, 0),
     );
-    refused_mount(b"   half 1 has a byte 00", with_byte(image, 300, 0));
-    refused_mount(b"   byte 8 is fd", with_byte(image, 8, 0xFD));
-    refused_mount(b"   the time is 0", with_byte(image, 4, 0xFF));
-    refused_mount(b"   byte 15 is 00", with_byte(image, 15, 0));
-    refused_mount(b"   a frame of kind 6", with_byte(image, 18, 6));
-    refused_mount(b"   half 1 has the bytes of half 0", twice(image));
+    mounts(b"   half 1 has a byte 00", with_byte(image, 300, 0));
+    mounts(b"   byte 8 is fd", with_byte(image, 8, 0xFD));
+    mounts(b"   the time is 0", with_byte(image, 4, 0xFF));
+    mounts(b"   byte 15 is 00", with_byte(image, 15, 0));
+    mounts(b"   a frame of kind 6", with_byte(image, 18, 6));
+    mounts(b"   half 1 has the bytes of half 0", twice(image));
 }
 
 // ---- 4
@@ -65,9 +64,7 @@ fn call(what: &[u8], image: &[u8], old: &[u8], after: Outcome) -> Record {
 // 4 stands before 10, 10 before 11, and 11 before 1.
 fn length(image: &[u8], old: &[u8], board: Record) {
     state(call(b" bytes, format", image, old, store::format(image)));
-    say(b"\n");
     state(call(b" bytes, mount", image, old, store::mount(image)));
-    say(b"\n");
     let mut reply = [0xEE; 16];
     let asked = store::request(image, board, Host(4), &[4, 0, 3], &mut reply);
     let after = call(
@@ -92,38 +89,26 @@ pub fn lengths(c: Bench) {
 
 // ---- 7
 
-// C is 16 + 2 * 72 = 160. Host 1 would be the second with something pending: 160 + 71 + 12 + 14 = 257, and 256 with one byte less.
+// C is 16 + 2 * 72 = 160. Host 1 would be the second with something pending: 160 + 71 + 12 + 14 = 257, and 256 with a byte less.
+// Host 0's: 160 + 72 + 6 + 14 = 252.
 pub fn no_room(a: Bench) -> Bench {
     say(b"Refusal 7: no room\n");
-    let one = put(a, 0, 1, 11, 64);
-    let two = put(one, 0, 2, 22, 64);
-    tell(b"   host 0 puts 64 bytes to 1", one);
-    tell(b"   host 0 puts 64 bytes to 2", two);
-    told(b"   host 1 puts 63 bytes to 3", two, put(two, 1, 3, 33, 63));
-    tell(b"   host 1 puts 62 bytes to 3", put(two, 1, 3, 33, 62));
-    let three = put(two, 0, 3, 33, 64);
-    tell(b"   instead, host 0 puts 64 bytes to 3", three);
-    three
+    let two = puts(puts(a, 0, 1, 11, 64), 0, 2, 22, 64);
+    puts(two, 1, 3, 33, 63);
+    puts(two, 1, 3, 33, 62);
+    say(b"   or else\n");
+    puts(two, 0, 3, 33, 64)
 }
 
 // C is 232: 232 + 8 + 6 + 14 = 260 for a put, 232 + 8 + 6 = 246 for a delete. Then C is 240: 240 + 8 + 12 = 260 for host 1's delete,
 // 240 + 8 + 6 = 254 for host 0's. Then C is 248: 248 + 8 + 6 = 262. The commit ends at 248 + 6 = 254.
 pub fn no_room_for_deletes(three: Bench) {
-    let delete = [6, 0, 2, 1, 1, 0];
-    told(
-        b"   host 0 puts an empty value to 4",
-        three,
-        put(three, 0, 4, 0, 0),
-    );
-    let one = ask(three, 0, &delete);
-    tell(b"   host 0 deletes 1", one);
-    asked(b"   host 1 deletes 1", one, 1, &delete);
-    let two = ask(one, 0, &delete);
-    tell(b"   host 0 deletes 1", two);
-    asked(b"   host 0 deletes 1", two, 0, &delete);
-    let settled = commit(two, 0);
-    tell(b"   host 0 commits", settled);
-    objects(settled);
+    puts(three, 0, 4, 0, 0);
+    let one = deletes_1(three, 0);
+    deletes_1(one, 1);
+    let two = deletes_1(one, 0);
+    deletes_1(two, 0);
+    objects(commits(two, 0));
 }
 
 // ---- 11
@@ -193,15 +178,18 @@ fn crowded(three: Bench, size: u8) -> Bench {
 
 // 232 + 19 + 6 = 257; with a byte less it is 256, and a commit then fills the half.
 pub fn crowds(three: Bench) {
+    let commit = [4, 0, 3, 1];
     asked(
         b"   C + 6 is 257, host 0 commits",
         crowded(three, 19),
         0,
-        &[4, 0, 3, 1],
+        &commit,
     );
-    tell(
+    asked(
         b"   C + 6 is 256, host 0 commits",
-        commit(crowded(three, 18), 0),
+        crowded(three, 18),
+        0,
+        &commit,
     );
 }
 
@@ -227,7 +215,7 @@ pub fn steps(c: Bench) {
     let mut board = busy.board;
     board.block = 2;
     let outside = bench_of(image, board);
-    tell(b"   host 2 puts 07 to 6", busy);
+    tell(b"   host 2 puts 1 x 07 to 6", busy);
     step_elsewhere(busy);
     stepped(b"   the put's next step in half 2", outside);
     asked(

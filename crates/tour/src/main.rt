@@ -1,11 +1,12 @@
 // A tour of what document 01's rows leave out: every refusal, aborts, hosts, transfers, cuts and the last times. The file stdout has what it must
 // print, worked out from document 01; the comments have the sums.
 use scene::Bench;
-use scene::commit;
 use scene::format;
-use scene::put;
 use scene::say;
 use scene::tell;
+use shown::asked;
+use shown::commits;
+use shown::puts;
 
 mod hosts;
 mod images;
@@ -14,15 +15,12 @@ mod queue;
 mod shown;
 mod transfers;
 
-// Object 5 of two bytes: a frame of 10 bytes at 16 and one of 6, so the end is 32.
+// Object 5 of two bytes: a frame of 10 bytes at 16 and one of 6, so the end is 32. A log changes the reply, and the comparison tells.
 fn store_of_one(a: Bench) -> Bench {
-    let b = put(a, 2, 5, 0x41, 2);
-    let c = commit(b, 2);
     say(b"The store of most refusals\n");
     tell(b"   format", a);
-    tell(b"   host 2 puts 41 41 to 5", b);
-    tell(b"   host 2 commits", c);
-    queue::changes(c);
+    let c = commits(puts(a, 2, 5, 0x41, 2), 2);
+    asked(b"   log", c, 0, &[5, 0, 6, 1, 1]);
     c
 }
 
@@ -37,9 +35,8 @@ fn refusals_1_to_5(c: Bench) {
 
 fn refusal_6() {
     let last = last::to_the_last();
-    last::mounts(last);
-    let full = last::full(last);
-    last::no_transfer(full);
+    last::at_the_last(last);
+    last::no_transfer(last);
 }
 
 fn refusals_7_to_11(a: Bench, c: Bench) {
@@ -56,18 +53,17 @@ fn refusals_7_to_11(a: Bench, c: Bench) {
 
 fn journals(a: Bench) {
     hosts::two_hosts(a);
-    hosts::aborts(a);
+    hosts::nothing_pending(a);
     let odd = hosts::odd_values(a);
     hosts::cut_puts(odd);
-    let full = transfers::carried(a);
-    transfers::over(full);
+    let full = transfers::full(a);
+    transfers::carried(full);
     transfers::first_steps(a);
     transfers::cuts_with_pending(full);
 }
 
 fn main() {
-    let blank = [0xFF; 512];
-    let a = format(blank);
+    let a = format([0xFF; 512]);
     let c = store_of_one(a);
     refusals_1_to_5(c);
     refusal_6();

@@ -1,4 +1,4 @@
-// Lines that say what a call came to, and whether image, record and reply are as they were before it.
+// Calls, each with a line that says what it came to and whether image, record and reply are as they were before it.
 use board::Phase;
 use board::Record;
 use check::same;
@@ -8,8 +8,10 @@ use scene::Bench;
 use scene::ask;
 use scene::hex;
 use scene::number;
+use scene::put;
 use scene::result;
 use scene::say;
+use scene::tell;
 use scene::went;
 use store::Outcome;
 use wire::Answer;
@@ -25,6 +27,11 @@ pub fn same_record(a: Record, b: Record) -> bool {
     same(&one, &two)
 }
 
+// Every reply is lent as bytes 0xEE.
+pub fn same_reply(reply: [u8; 16]) -> bool {
+    same(&reply, &[0xEE; 16])
+}
+
 pub fn verdict(what: &[u8], kept: bool) {
     say(what);
     if kept {
@@ -34,30 +41,24 @@ pub fn verdict(what: &[u8], kept: bool) {
     }
 }
 
-// Every reply is lent as bytes 0xEE.
-pub fn same_reply(reply: [u8; 16]) -> bool {
-    same(&reply, &[0xEE; 16])
-}
-
 fn compare(before: Bench, after: Bench) {
     let old = before.image;
     let new = after.image;
-    verdict(b"; image", same(&old, &new));
     let from = before.board;
     let to = after.board;
-    verdict(b", record", same_record(from, to));
     let reply = after.reply;
+    verdict(b"; image", same(&old, &new));
+    verdict(b", record", same_record(from, to));
     verdict(b", reply", same_reply(reply));
 }
 
-// ---- lines
-
-// A call that may not change anything.
-pub fn told(what: &[u8], before: Bench, after: Bench) {
-    say(what);
-    result(after.answer, after.steps);
-    compare(before, after);
-    say(b"\n");
+pub fn state(board: Record) {
+    let phase = board.phase;
+    match phase {
+        Phase::Unmounted => say(b", record unmounted\n"),
+        Phase::Idle => say(b", record idle\n"),
+        Phase::Busy(_) => say(b", record in a job\n"),
+    }
 }
 
 pub fn answered(answer: u8) {
@@ -65,21 +66,69 @@ pub fn answered(answer: u8) {
     number(answer as usize);
 }
 
-// One step call that may not change anything.
-pub fn stepped(what: &[u8], d: Bench) {
-    let after = step_on(d, 1);
-    say(what);
-    answered(after.answer);
-    compare(d, after);
+// What a call came to: a refusal, or another call that is done without a step, is compared with what was before.
+pub fn came(before: Bench, after: Bench) {
+    if after.answer == 255 {
+        return tell(b"", after);
+    }
+    if 0 < after.steps {
+        return tell(b"", after);
+    }
+    result(after.answer, after.steps);
+    compare(before, after);
     say(b"\n");
 }
 
-pub fn asked(what: &[u8], d: Bench, host: u8, message: &[u8]) {
-    told(what, d, ask(d, host, message));
+// ---- calls
+
+pub fn asked(what: &[u8], d: Bench, host: u8, message: &[u8]) -> Bench {
+    let after = ask(d, host, message);
+    say(what);
+    came(d, after);
+    after
+}
+
+fn host_line(d: Bench, host: u8, what: &[u8], message: &[u8]) -> Bench {
+    say(b"   host ");
+    number(host as usize);
+    asked(what, d, host, message)
+}
+
+pub fn commits(d: Bench, host: u8) -> Bench {
+    host_line(d, host, b" commits", &[4, 0, 3, 1])
+}
+
+pub fn aborts(d: Bench, host: u8) -> Bench {
+    host_line(d, host, b" aborts", &[4, 0, 4, 1])
+}
+
+pub fn deletes_1(d: Bench, host: u8) -> Bench {
+    host_line(d, host, b" deletes 1", &[6, 0, 2, 1, 1, 0])
+}
+
+fn value_text(value: u8, count: u8) {
+    if count == 0 {
+        return say(b"an empty value");
+    }
+    number(count as usize);
+    say(b" x");
+    hex(&[value]);
+}
+
+pub fn puts(d: Bench, host: u8, id: u16, value: u8, count: u8) -> Bench {
+    let after = put(d, host, id, value, count);
+    say(b"   host ");
+    number(host as usize);
+    say(b" puts ");
+    value_text(value, count);
+    say(b" to ");
+    number(id as usize);
+    came(d, after);
+    after
 }
 
 // A read by host 0: its answer and its stretch.
-pub fn read(d: Bench, id: u8) {
+pub fn reads(d: Bench, id: u8) {
     let message = [6, 0, 5, 1, id, 0];
     let image = d.image;
     let board = d.board;
@@ -89,45 +138,25 @@ pub fn read(d: Bench, id: u8) {
     result(after.answer, after.steps);
     compare(d, after);
     let stretch = store::read(&image, board, Host(0), &message);
-    say(b"; stretch of ");
-    number(stretch.len());
-    say(b" bytes");
+    say(b"; stretch [");
     hex(stretch);
+    say(b" ] of length ");
+    number(stretch.len());
     say(b"\n");
 }
 
-pub fn state(board: Record) {
-    let phase = board.phase;
-    match phase {
-        Phase::Unmounted => say(b", record unmounted"),
-        Phase::Idle => say(b", record idle"),
-        Phase::Busy(_) => say(b", record in a job"),
-    }
-}
-
-// A mount that is refused: it takes no record and hands one back.
-pub fn refused_mount(what: &[u8], image: [u8; 512]) {
+// A refused mount hands back an unmounted record.
+pub fn mounts(what: &[u8], image: [u8; 512]) {
     let after = went(image, store::mount(&image), [0xEE; 16], 65536);
     let new = after.image;
     let board = after.board;
+    if after.answer == 0 {
+        return tell(what, after);
+    }
     say(what);
     result(after.answer, after.steps);
     verdict(b"; image", same(&image, &new));
     state(board);
-    say(b"\n");
-}
-
-// ---- benches
-
-// An image and a record made by hand.
-pub fn bench_of(image: [u8; 512], board: Record) -> Bench {
-    Bench {
-        image: image,
-        board: board,
-        answer: 0,
-        steps: 0,
-        reply: [0xEE; 16],
-    }
 }
 
 // Step calls, at most so many.
@@ -141,7 +170,27 @@ pub fn step_on(d: Bench, most: usize) -> Bench {
     went(image, more, [0xEE; 16], most)
 }
 
-// An image with one byte changed by hand.
+// One step call that may not change anything.
+pub fn stepped(what: &[u8], d: Bench) {
+    let after = step_on(d, 1);
+    say(what);
+    answered(after.answer);
+    compare(d, after);
+    say(b"\n");
+}
+
+// ---- by hand
+
+pub fn bench_of(image: [u8; 512], board: Record) -> Bench {
+    Bench {
+        image: image,
+        board: board,
+        answer: 0,
+        steps: 0,
+        reply: [0xEE; 16],
+    }
+}
+
 pub fn with_byte(start: [u8; 512], at: u16, value: u8) -> [u8; 512] {
     let i = at as usize;
     if 512 <= i {
