@@ -146,15 +146,19 @@ fn changed(what: &[u8], c: Bench, at: u16, value: u8) {
     );
 }
 
-// Byte 31 is the commit's finish byte, and 06 at 32 begins a frame of 6 bytes. 11 stands before 1 and before 8.
+// Byte 31 is the commit's finish byte, and 06 at 32 begins a frame of 6 bytes.
 pub fn other_image(c: Bench) {
-    let image = c.image;
     changed(b"   half 0 in progress", c, 8, 0xFE);
     changed(b"   byte 31 is ff, the commit is torn", c, 31, 0xFF);
     changed(b"   byte 32 is 06, a torn frame at the end", c, 32, 6);
     changed(b"   byte 40 is 00", c, 40, 0);
     changed(b"   half 1 in progress", c, 264, 0xFE);
     changed(b"   half 1 has a byte 00", c, 511, 0);
+}
+
+// 11 stands before 1 and before 8.
+pub fn other_end(c: Bench) {
+    let image = c.image;
     let other = bench_of(image, records::idle(511, 0, 26));
     asked(b"   recorded end 26, no bytes", other, 0, &[0; 0]);
     asked(b"   recorded end 26, read 7", other, 0, &[6, 0, 5, 1, 7, 0]);

@@ -26,8 +26,10 @@ fn store_of_one(a: Bench) -> Bench {
 
 fn refusals_1_to_5(c: Bench) {
     queue::malformed(c);
-    queue::malformed_ids(c);
-    queue::no_store(c);
+    queue::unknown_kinds(c);
+    queue::unknown_ids(c);
+    queue::unmounted(c);
+    queue::no_store();
     images::foreign(c);
     images::lengths(c);
     queue::unfinished(c);
@@ -47,6 +49,7 @@ fn refusals_7_to_11(a: Bench, c: Bench) {
     queue::no_host(c);
     images::other_record(c);
     images::other_image(c);
+    images::other_end(c);
     images::crowds(three);
     images::steps(c);
 }

@@ -29,6 +29,9 @@ pub fn malformed(c: Bench) {
     asked(b"   a commit's first 3 bytes", c, 0, &[4, 0, 3]);
     asked(b"   a commit whose length says 5", c, 0, &[5, 0, 3, 1]);
     asked(b"   a commit of 5 bytes", c, 0, &[5, 0, 3, 1, 0]);
+}
+
+pub fn unknown_kinds(c: Bench) {
     asked(b"   kind 0x0107", c, 0, &[4, 0, 7, 1]);
     asked(b"   kind 0x0003, a frame's", c, 0, &[4, 0, 3, 0]);
     asked(b"   a log with no page", c, 0, &[4, 0, 6, 1]);
@@ -36,7 +39,7 @@ pub fn malformed(c: Bench) {
     asked(b"   a log of page 2", c, 0, &[5, 0, 6, 1, 2]);
 }
 
-pub fn malformed_ids(c: Bench) {
+pub fn unknown_ids(c: Bench) {
     asked(b"   a put with half an id", c, 0, &[5, 0, 1, 1, 5]);
     puts(c, 0, 256, 7, 1);
     puts(c, 0, 6, 7, 65);
@@ -48,10 +51,9 @@ pub fn malformed_ids(c: Bench) {
 // ---- 2
 
 // 10 stands before 2 in the table, 2 before 1.
-pub fn no_store(c: Bench) {
+pub fn unmounted(c: Bench) {
     let image = c.image;
     let none = bench_of(image, records::unmounted());
-    let blank = [0xFF; 512];
     say(b"Refusal 2: no store\n");
     asked(b"   unmounted, read 5", none, 0, &READ_5);
     asked(b"   unmounted, log", none, 0, &[5, 0, 6, 1, 1]);
@@ -59,6 +61,10 @@ pub fn no_store(c: Bench) {
     asked(b"   unmounted, no bytes", none, 0, &[0; 0]);
     asked(b"   unmounted, host 4 reads 5", none, 4, &READ_5);
     stepped(b"   unmounted, a step call", none);
+}
+
+pub fn no_store() {
+    let blank = [0xFF; 512];
     mounts(b"   mount of a blank image", blank);
     mounts(
         b"   mount with half 0 in progress",
@@ -68,16 +74,21 @@ pub fn no_store(c: Bench) {
 
 // ---- 5
 
-// The put's frame has 9 bytes: 3 are programmed, 6 are left, and 32 + 9 = 41. 10 stands before 5, 5 before 1.
-pub fn unfinished(c: Bench) {
-    let busy = ask_some(c, 2, &[7, 0, 1, 1, 6, 0, 7], 3);
-    say(b"Refusal 5: a job is unfinished\n");
-    tell(b"   host 2 puts 1 x 07 to 6", busy);
+// 10 stands before 5, 5 before 1.
+fn refused_in_job(busy: Bench) {
     asked(b"   read 5", busy, 0, &READ_5);
     asked(b"   log", busy, 0, &[5, 0, 6, 1, 1]);
     commits(busy, 2);
     asked(b"   no bytes", busy, 0, &[0; 0]);
     asked(b"   host 4 reads 5", busy, 4, &READ_5);
+}
+
+// The put's frame has 9 bytes: 3 are programmed, 6 are left, and 32 + 9 = 41.
+pub fn unfinished(c: Bench) {
+    let busy = ask_some(c, 2, &[7, 0, 1, 1, 6, 0, 7], 3);
+    say(b"Refusal 5: a job is unfinished\n");
+    tell(b"   host 2 puts 1 x 07 to 6", busy);
+    refused_in_job(busy);
     let done = step_on(busy, 65536);
     tell(b"   the put goes on", done);
     stepped(b"   a step call after it", done);
