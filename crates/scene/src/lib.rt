@@ -1,5 +1,10 @@
 // What the programs that run the store share: a call with its steps, and a line that says what it came to.
+ghost use mathlib.Core.Path.{_≡_};
+ghost use mathlib.Core.List.{_∷_, []};
 ghost use Prim.Native.Nat.{_≤_};
+ghost use Rattle.scene.specs.Runs.{runOn, benchOf, callOn, fresh, askOn, putMessage};
+ghost use lib.ListN.{length, take};
+ghost use Rattle.board.specs.Mount.{mountOn, formatOn};
 use board::Record;
 use frame::Host;
 use store::Outcome;
@@ -101,7 +106,10 @@ pub fn bytes(d: Bench, from: usize, to: usize) {
 // ---- calls
 
 // Does a job's steps, at most so many.
-pub fn run(image: &mut [u8], begun: Outcome, most: usize) -> Ran {
+pub fn run(image: &mut [u8], begun: Outcome, most: usize) -> Ran
+    ensures { λ r. ⌜ (now (image .exit) ≡ runOn most (now (image .entry)) begun .image) × (r .board ≡ runOn most (now (image .entry)) begun .board)
+        × (r .answer ≡ runOn most (now (image .entry)) begun .answer) × (r .steps ≡ runOn most (now (image .entry)) begun .steps) ⌝ }
+{
     let first = begun.answer;
     let mut board = begun.board;
     let mut answer = wire::number(first);
@@ -124,7 +132,9 @@ pub fn run(image: &mut [u8], begun: Outcome, most: usize) -> Ran {
 }
 
 // A call on an image, and its steps.
-pub fn went(start: [u8; 512], begun: Outcome, reply: [u8; 16], most: usize) -> Bench {
+pub fn went(start: [u8; 512], begun: Outcome, reply: [u8; 16], most: usize) -> Bench
+    ensures { λ r. ⌜ r ≡ benchOf (runOn most start begun) reply ⌝ }
+{
     let mut image = start;
     let r = run(&mut image, begun, most);
     let board = r.board;
@@ -138,7 +148,9 @@ pub fn went(start: [u8; 512], begun: Outcome, reply: [u8; 16], most: usize) -> B
 }
 
 // Asks, and does so many steps at most: the cut is then what follows.
-pub fn ask_some(d: Bench, host: u8, message: &[u8], most: usize) -> Bench {
+pub fn ask_some(d: Bench, host: u8, message: &[u8], most: usize) -> Bench
+    ensures { λ r. ⌜ r ≡ askOn d host (now (message .entry)) most ⌝ }
+{
     let image = d.image;
     let board = d.board;
     let mut reply = [0xEE; 16];
@@ -146,41 +158,54 @@ pub fn ask_some(d: Bench, host: u8, message: &[u8], most: usize) -> Bench {
     went(image, begun, reply, most)
 }
 
-pub fn ask(d: Bench, host: u8, message: &[u8]) -> Bench {
+pub fn ask(d: Bench, host: u8, message: &[u8]) -> Bench
+    ensures { λ r. ⌜ r ≡ askOn d host (now (message .entry)) 65536 ⌝ }
+{
     ask_some(d, host, message, 65536)
 }
 
 // Asks by the first bytes of a buffer.
-fn ask_by(d: Bench, host: u8, buffer: &[u8], size: usize) -> Bench {
-    if buffer.len() < size {
-        return d;
-    }
-    ask(d, host, &buffer[0..size])
+fn ask_by(d: Bench, host: u8, buffer: &[u8], size: usize) -> Bench
+    requires { ⌜ size ≤ length (now buffer) ⌝ }
+    ensures { λ r. ⌜ r ≡ askOn d host (take size (now (buffer .entry))) 65536 ⌝ }
+{
+    ask(d, host, &buffer[..size])
 }
 
 // Puts so many bytes of one value.
-pub fn put(d: Bench, host: u8, id: u16, value: u8, count: u8) -> Bench {
+pub fn put(d: Bench, host: u8, id: u16, value: u8, count: u8) -> Bench
+    ensures { λ r. ⌜ r ≡ askOn d host (putMessage id value count) 65536 ⌝ }
+{
     let size = 6 + count as usize;
+    let head = [
+        (size % 256) as u8,
+        (size / 256) as u8,
+        1,
+        1,
+        (id % 256) as u8,
+        (id / 256) as u8,
+    ];
     let mut message = [value; 261];
-    message[0] = (size % 256) as u8;
-    message[1] = (size / 256) as u8;
-    message[2] = 1;
-    message[3] = 1;
-    message[4] = (id % 256) as u8;
-    message[5] = (id / 256) as u8;
+    wire::lay(&mut message, &head);
     ask_by(d, host, &message, size)
 }
 
-pub fn commit(d: Bench, host: u8) -> Bench {
+pub fn commit(d: Bench, host: u8) -> Bench
+    ensures { λ r. ⌜ r ≡ askOn d host (4 ∷ 0 ∷ 3 ∷ 1 ∷ []) 65536 ⌝ }
+{
     ask(d, host, &[4, 0, 3, 1])
 }
 
-pub fn mount(d: Bench) -> Bench {
+pub fn mount(d: Bench) -> Bench
+    ensures { λ r. ⌜ r ≡ callOn 65536 (d .image) (mountOn (d .image)) fresh ⌝ }
+{
     let image = d.image;
     went(image, store::mount(&image), [0xEE; 16], 65536)
 }
 
-pub fn format(start: [u8; 512]) -> Bench {
+pub fn format(start: [u8; 512]) -> Bench
+    ensures { λ r. ⌜ r ≡ callOn 65536 start (formatOn start) fresh ⌝ }
+{
     went(start, store::format(&start), [0xEE; 16], 65536)
 }
 

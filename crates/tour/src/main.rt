@@ -1,5 +1,5 @@
-// A tour of what document 01's rows leave out: every refusal, aborts, hosts, transfers, cuts and the last times. The file stdout has what it must
-// print, worked out from document 01; the comments have the sums.
+// A tour of what document 01's rows leave out: every refusal, aborts, hosts, transfers, cuts and the last times. The file
+// stdout has what it must print, worked out from document 01; the comments have the sums.
 use scene::Bench;
 use scene::format;
 use scene::say;
