@@ -6,6 +6,7 @@ use scene::say;
 use scene::tell;
 use shown::asked;
 use shown::commits;
+use shown::compare;
 use shown::puts;
 
 mod hosts;
@@ -15,11 +16,15 @@ mod queue;
 mod shown;
 mod transfers;
 
-// Object 5 of two bytes: a frame of 10 bytes at 16 and one of 6, so the end is 32. A log changes the reply, and the comparison tells.
+// Object 5 of two bytes: a frame of 10 bytes at 16 and one of 6, so the end is 32. Put and commit change image and record,
+// a log changes the reply, and the comparisons tell.
 fn store_of_one(a: Bench) -> Bench {
     say(b"The store of most refusals\n");
     tell(b"   format", a);
     let c = commits(puts(a, 2, 5, 0x41, 2), 2);
+    say(b"   from the format to this commit");
+    compare(a, c);
+    say(b"\n");
     asked(b"   log", c, 0, &[5, 0, 6, 1, 1]);
     c
 }

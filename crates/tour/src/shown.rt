@@ -41,7 +41,7 @@ pub fn verdict(what: &[u8], kept: bool) {
     }
 }
 
-fn compare(before: Bench, after: Bench) {
+pub fn compare(before: Bench, after: Bench) {
     let old = before.image;
     let new = after.image;
     let from = before.board;
