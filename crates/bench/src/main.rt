@@ -1,259 +1,29 @@
 // Document 01's bench rows, run on the code. The file stdout has what they must print.
-ghost use Prim.Native.Nat.{_+_, _≤_};
 use board::Record;
 use frame::Host;
 use job::Outcome;
-
-// What a call and the steps after it came to: the last answer, 255 for more, and how many steps there were.
-struct Ran {
-    board: Record,
-    answer: u8,
-    steps: usize,
-}
-
-// An image of two halves of 256 bytes, its record, and what the last call came to.
-struct Bench {
-    image: [u8; 512],
-    board: Record,
-    answer: u8,
-    steps: usize,
-    reply: [u8; 16],
-}
-
-// ---- printing
-
-fn say(text: &[u8]) {
-    io::write_all(1, text);
-}
-
-fn number(n: usize) {
-    io::print_decimal(1, n as u64);
-}
-
-fn byte(b: u8) {
-    say(b" ");
-    io::print_hex(1, b as u64, 2);
-}
-
-fn hex(bytes: &[u8]) {
-    let mut i = 0;
-    while i < bytes.len() {
-        byte(bytes[i]);
-        i += 1;
-    }
-}
-
-fn result(answer: u8, steps: usize) {
-    say(b": answer ");
-    if answer == 255 {
-        say(b"more");
-    } else {
-        number(answer as usize);
-    }
-    say(b", ");
-    number(steps);
-    say(b" steps");
-}
-
-// What the last call came to, and where a record in no job stands.
-fn tell(what: &[u8], d: Bench) {
-    say(what);
-    result(d.answer, d.steps);
-    if d.answer != 255 {
-        let board = d.board;
-        say(b"; half ");
-        number(board.block as usize);
-        say(b", end ");
-        number(board.end as usize);
-    }
-    say(b"\n");
-}
-
-fn blank(part: &[u8]) {
-    if flash::is_blank(part) {
-        say(b"ff only\n");
-    } else {
-        say(b"other bytes\n");
-    }
-}
-
-// Bytes of the image, and whether all later ones are 0xFF.
-fn show(image: &[u8], from: usize, to: usize) {
-    if image.len() < to {
-        return;
-    }
-    if to < from {
-        return;
-    }
-    say(b"   at ");
-    number(from);
-    say(b":");
-    hex(&image[from..to]);
-    say(b", then ");
-    blank(&image[to..]);
-}
-
-fn first_half(image: &[u8]) {
-    let size = image.len() / 2;
-    blank(&image[0..size]);
-}
-
-fn bytes(d: Bench, from: usize, to: usize) {
-    let image = d.image;
-    show(&image, from, to);
-}
-
-// ---- calls
-
-// Does a job's steps, at most so many.
-fn run(image: &mut [u8], begun: Outcome, most: usize) -> Ran {
-    let first = begun.answer;
-    let mut board = begun.board;
-    let mut answer = wire::number(first);
-    let mut steps: usize = 0;
-    while steps < most {
-        if answer != 255 {
-            break;
-        }
-        let next = job::step(image, board);
-        let now = next.answer;
-        board = next.board;
-        answer = wire::number(now);
-        steps += 1;
-    }
-    Ran {
-        board: board,
-        answer: answer,
-        steps: steps,
-    }
-}
-
-// A call on an image, and its steps.
-fn went(start: [u8; 512], begun: Outcome, reply: [u8; 16], most: usize) -> Bench {
-    let mut image = start;
-    let r = run(&mut image, begun, most);
-    let board = r.board;
-    Bench {
-        image: image,
-        board: board,
-        answer: r.answer,
-        steps: r.steps,
-        reply: reply,
-    }
-}
-
-// Asks, and does so many steps at most: the cut is then what follows.
-fn ask_some(d: Bench, host: u8, message: &[u8], most: usize) -> Bench {
-    let image = d.image;
-    let board = d.board;
-    let mut reply = [0xEE; 16];
-    let begun = store::request(&image, board, Host(host), message, &mut reply);
-    went(image, begun, reply, most)
-}
-
-fn ask(d: Bench, host: u8, message: &[u8]) -> Bench {
-    ask_some(d, host, message, 65536)
-}
-
-// Asks by the first bytes of a buffer.
-fn ask_by(d: Bench, host: u8, buffer: &[u8], size: usize) -> Bench {
-    if buffer.len() < size {
-        return d;
-    }
-    ask(d, host, &buffer[0..size])
-}
-
-fn put(d: Bench, host: u8, id: u16, value: u8, count: u8) -> Bench
-    requires { ⌜ count ≤ 65 ⌝ }
-{
-    let mut message = [value; 71];
-    message[0] = 6 + count;
-    message[1] = 0;
-    message[2] = 1;
-    message[3] = 1;
-    message[4] = (id % 256) as u8;
-    message[5] = (id / 256) as u8;
-    ask_by(d, host, &message, 6 + count as usize)
-}
-
-fn commit(d: Bench, host: u8) -> Bench {
-    ask(d, host, &[4, 0, 3, 1])
-}
-
-fn mount(d: Bench) -> Bench {
-    let image = d.image;
-    went(image, store::mount(&image), [0; 16], 65536)
-}
-
-// ---- what a bench holds
-
-fn word(low: u8, high: u8) -> usize
-    ensures { λ r. ⌜ r ≤ 65535 ⌝ }
-{
-    low as usize + 256 * high as usize
-}
-
-// Log page 1, by its numbers.
-fn log(d: Bench) {
-    let asked = ask(d, 0, &[5, 0, 6, 1, 1]);
-    let page = asked.reply;
-    say(b"   log: time ");
-    number(word(page[4], page[5]) + 65536 * word(page[6], page[7]));
-    say(b", count ");
-    number(word(page[8], page[9]));
-    say(b", U ");
-    number(word(page[10], page[11]));
-    say(b", S ");
-    number(word(page[12], page[13]));
-    say(b"\n");
-}
-
-// An object, if it is held; 1 if so.
-fn object(d: Bench, id: u8) -> usize
-    ensures { λ r. ⌜ r ≤ 1 ⌝ }
-{
-    let message = [6, 0, 5, 1, id, 0];
-    let image = d.image;
-    let board = d.board;
-    let asked = ask(d, 0, &message);
-    if asked.answer != 0 {
-        return 0;
-    }
-    say(b" ");
-    number(id as usize);
-    say(b" of ");
-    number(store::read(&image, board, Host(0), &message).len());
-    say(b" bytes");
-    1
-}
-
-// The ids that the rows use.
-fn list(d: Bench) -> usize {
-    let mut count: usize = 0;
-    let mut id: u8 = 0;
-    while id < 8 {
-        count += object(d, id);
-        id += 1;
-    }
-    count
-}
-
-// Log page 1 counts all objects.
-fn objects(d: Bench) {
-    log(d);
-    say(b"   holds");
-    if list(d) == 0 {
-        say(b" nothing");
-    }
-    say(b"\n");
-}
-
-// ---- the rows
+use scene::Bench;
+use scene::ask;
+use scene::ask_some;
+use scene::blank;
+use scene::bytes;
+use scene::commit;
+use scene::format;
+use scene::hex;
+use scene::log;
+use scene::mount;
+use scene::number;
+use scene::objects;
+use scene::put;
+use scene::result;
+use scene::run;
+use scene::say;
+use scene::tell;
 
 // A format erases whatever was there.
 fn row_a() -> Bench {
     let zeros = [0u8; 512];
-    let a = went(zeros, store::format(&zeros), [0; 16], 65536);
+    let a = format(zeros);
     tell(b"a  format", a);
     bytes(a, 0, 9);
     a
@@ -298,6 +68,11 @@ fn row_e(c: Bench) {
     say(b"   reply:");
     hex(&reply);
     say(b"\n");
+}
+
+fn first_half(image: &[u8]) {
+    let size = image.len() / 2;
+    blank(&image[0..size]);
 }
 
 fn row_f(b: Bench) {

@@ -1,9 +1,9 @@
--- `bench::list` is safe and ends. The measure is how many ids are left.
+-- `scene::list` is safe and ends. The measure is how many ids are left.
 use Prim.Native.Nat.{_≤_, _-_}
 use native.Mathlib.Omega.{arith}
 use borrow.Author.Needs.{needs}
-use Rattle.bench.proofs.list.Statement.{statement}
-use Rattle.bench.proofs.list.Tie as tie
+use Rattle.scene.proofs.list.Statement.{statement}
+use Rattle.scene.proofs.list.Tie as tie
 
 abbrev Inv-loop : tie.InvT-loop
 Inv-loop d count₀ id₀ count id = (count ≤ id) × (id ≤ 8)

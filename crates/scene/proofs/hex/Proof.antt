@@ -1,10 +1,10 @@
--- `bench::hex` is safe and ends. The measure is what is left of the bytes.
+-- `scene::hex` is safe and ends. The measure is what is left of the bytes.
 use Prim.Native.Nat.{_≤_, _-_}
 use native.Mathlib.Omega.{arith}
 use borrow.Author.Needs.{needs}
 use lib.ListN.{length}
-use Rattle.bench.proofs.hex.Statement.{statement}
-use Rattle.bench.proofs.hex.Tie as tie
+use Rattle.scene.proofs.hex.Statement.{statement}
+use Rattle.scene.proofs.hex.Tie as tie
 
 abbrev Inv-loop : tie.InvT-loop
 Inv-loop bytes i₀ i = i ≤ length bytes
