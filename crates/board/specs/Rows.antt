@@ -40,6 +40,7 @@ drive (suc n) c o =
 unfoldable pub returned : List ℕ
 returned = replicate 512 0x5A
 
+-- a request of host h, with a reply of 16 bytes; and with its steps made
 unfoldable pub ask : Ran → ℕ → List ℕ → Out
 ask r h m = exec (r .image) (r .board) (request (hostOf h) m (replicate 16 0xEE))
 
@@ -58,9 +59,11 @@ mounted img = drive 300 0 (exec img unmounted mount)
 unfoldable pub holds : ℕ → Ran → State
 holds k r = replay (framesIn (blockState (block 256 k (r .image))))
 
+-- a block's creation time
 unfoldable pub timed : ℕ → Ran → ℕ
 timed k r = timeIn (blockState (block 256 k (r .image)))
 
+-- n bytes from a place on
 unfoldable pub part : ℕ → ℕ → List ℕ → List ℕ
 part at n l = take n (drop at l)
 
