@@ -81,6 +81,7 @@ commitMessage = 0x04 ∷ 0x00 ∷ 0x03 ∷ 0x01 ∷ []
 unfoldable pub rowC : Ran
 rowC = asked rowB 2 commitMessage
 
+-- rows d and e are asked by a host that put nothing
 unfoldable pub rowD : Out
 rowD = ask rowC 0 (0x06 ∷ 0x00 ∷ 0x05 ∷ 0x01 ∷ 0x05 ∷ 0x00 ∷ [])
 
@@ -152,4 +153,5 @@ pub record Rows : Type 0 where
   pub p-65536 : formatAnswer 65536 ≡ More
   pub p-256 : formatAnswer 256 ≡ Refused refusal.ImageLength
   pub p-511 : formatAnswer 511 ≡ Refused refusal.ImageLength
+  -- beyond row p: the first multiple of 256 past the longest
   pub p-over : formatAnswer 65792 ≡ Refused refusal.ImageLength
