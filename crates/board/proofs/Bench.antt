@@ -1,4 +1,4 @@
--- The starred bench rows, computed over the definitions.
+-- The starred bench rows and row p, computed over the definitions.
 use mathlib.Core.Path.{refl}
 use Rattle.flash.specs.Bytes.{allFF, sameBytes}
 use Rattle.flash.specs.Flash.{writes}
@@ -13,10 +13,10 @@ use Rattle.board.specs.Record.{noPlaces, noFrame}
 use Rattle.board.specs.Step.{enterAppend, enterDrop, enterCopy, enterOpen, enterWipe, advance, stepBusy, stepOn}
 use Rattle.board.specs.Mount.{mountAt, mountFound, mountOn, formatOn}
 use Rattle.board.specs.Queue.{held, append, serveChange, serveEnd, serveLog, serve, requestOn}
-use Rattle.board.specs.Rows.{drive, returned, ask, asked, cutIn, mounted, holds, timed, part, rowA, rowB, rowC, rowD, rowE, rowF, rowG, rowH, rowI, rowK, commitMessage, putMessage, Rows}
+use Rattle.board.specs.Rows.{drive, returned, ask, asked, cutIn, mounted, holds, timed, part, rowA, rowB, rowC, rowD, rowE, rowF, rowG, rowH, rowI, rowK, commitMessage, putMessage, formatAnswer, Rows}
 
 pub rows : Rows
-unfolding drive returned ask asked cutIn mounted holds timed part rowA rowB rowC rowD rowE rowF rowG rowH rowI rowK commitMessage putMessage allFF sameBytes writes encodeAll total match readFrame scan insert remove lookup changeAll listOf without isOpen replayFrom headerFault blockState noRoom sited placesFrom sinceFrom valueAt nextSettled nextPending nextLoad parse noPlaces noFrame enterAppend enterDrop enterCopy enterOpen enterWipe advance stepBusy stepOn mountAt mountFound mountOn formatOn held append serveChange serveEnd serveLog serve requestOn
+unfolding drive returned ask asked cutIn mounted holds timed part rowA rowB rowC rowD rowE rowF rowG rowH rowI rowK commitMessage putMessage formatAnswer allFF sameBytes writes encodeAll total match readFrame scan insert remove lookup changeAll listOf without isOpen replayFrom headerFault blockState noRoom sited placesFrom sinceFrom valueAt nextSettled nextPending nextLoad parse noPlaces noFrame enterAppend enterDrop enterCopy enterOpen enterWipe advance stepBusy stepOn mountAt mountFound mountOn formatOn held append serveChange serveEnd serveLog serve requestOn
 rows =
     record {
       a-steps = refl;
@@ -39,8 +39,10 @@ rows =
       f-time = refl;
       f-holds = refl;
       g-steps = refl;
+      g-done = refl;
       g-holds = refl;
       h-steps = refl;
+      h-done = refl;
       h-holds = refl;
       i-accepted = refl;
       i-done = refl;
@@ -49,4 +51,10 @@ rows =
       k-refused = refl;
       k-accepted = refl;
       n = refl;
+      p-512 = refl;
+      p-768 = refl;
+      p-65536 = refl;
+      p-256 = refl;
+      p-511 = refl;
+      p-over = refl;
     }

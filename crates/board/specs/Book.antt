@@ -45,7 +45,7 @@ withList l h cs g = elim (eqb (h .0) (g .0)) [ true ↦ cs | false ↦ l g ]
 abbrev pub join : Book → Host → Change → Book
 join b h c = book (b .objects) (withList (b .lists) h (b .lists h ++ (c ∷ []))) (b .under)
 
--- "Accepted abort: its host's list is emptied. Accepted commit that has steps to do: it is under way. Anything else: no change."
+-- "Accepted abort: its host's list is emptied." "Accepted commit that has steps to do: it is under way."
 abbrev pub accept : Book → Host → List ℕ → Request → Answer → Book
 accept b h m (Put i) a = join b h (put i (valueIn m))
 accept b h m (Delete i) a = join b h (delete i)
@@ -56,6 +56,7 @@ accept b h m Abort a = book (b .objects) (withList (b .lists) h []) (b .under)
 accept b h m (Read i) a = b
 accept b h m (Log p) a = b
 
+-- "Anything else, every other refusal too: no change."
 abbrev pub enterParsed : Book → Host → List ℕ → Parsed → Answer → Book
 enterParsed b h m Malformed a = b
 enterParsed b h m (Is q) a = accept b h m q a
@@ -84,6 +85,7 @@ enterFormat b Done = book (b .objects) noLists formatting
 enterFormat b More = book (b .objects) noLists formatting
 enterFormat b (Refused n) = book (b .objects) noLists nothing
 
+-- "The book is fed each call's arguments other than image and record, and each call's answer."
 abbrev pub enterCall : Book → Call → Answer → Book
 enterCall b (request h m reply) a = enterRequest b h m a
 enterCall b step a = enterStep b a

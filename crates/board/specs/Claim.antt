@@ -53,6 +53,7 @@ pub record Finishes (img : List ℕ) (r : Record) : Type 0 where
   pub rests : last .phase ≡ Idle
   pub short : length plan ≤ sizeOf img
 
+-- "after each call in it that gives back an idle record"; beyond the letter, a job under way can be finished
 abbrev pub AgreesIn : Phase → List ℕ → Record → Book → Type 0
 AgreesIn Unmounted img r b = Unit {0}
 AgreesIn Idle img r b = IdleAgrees img r b
@@ -63,6 +64,7 @@ Agrees img r b = AgreesIn (r .phase) img r b
 
 -- ---- what a call says of the book's objects
 
+-- by what the book holds under the id that is read
 abbrev pub ReadSays : Out → Option (List ℕ) → Type 0
 ReadSays o none = o .answer ≡ Refused refusal.NoObject
 ReadSays o (some v) = (o .answer ≡ Done) × (take (o .stretch .size) (drop (o .stretch .at) (o .image)) ≡ v)
@@ -85,6 +87,7 @@ RequestSays (Is (Log p)) reply o b = LogSays o reply (b .objects)
 
 -- ---- availability
 
+-- the call is not refused with this
 abbrev pub Never : Refusal → Out → Type 0
 Never n o = o .answer ≡ Refused n → ⊥
 
@@ -104,6 +107,7 @@ pub record MountSays (img : List ℕ) (unfinished : Bool) (o : Out) : Type 0 whe
   pub no-store : o .answer ≡ Refused refusal.NoStore → unfinished ≡ true
   pub worn : o .answer ≡ Refused refusal.Worn → WornOut img
 
+-- what each call answers: 4 and 11 go to no request, no step and no format is refused
 abbrev pub Says : List ℕ → Record → Book → Bool → Call → Out → Type 0
 Says img r b u (request h m reply) o =
     Never refusal.ImageLength o × Never refusal.Stale o × (r .phase ≡ Idle → h .0 ≤ hostMax → RequestSays (parse m) reply o b)
@@ -111,6 +115,7 @@ Says img r b u step o = (n : Refusal) → Never n o
 Says img r b u mount o = MountSays img u o
 Says img r b u format o = o .answer ≡ More
 
+-- `unfinished` after a call: set by an accepted format, cleared by the last step of one and by an accepted mount
 abbrev pub trackStep : Bool → UnderWay → Answer → Bool
 trackStep u formatting Done = false
 trackStep u formatting More = u
@@ -143,12 +148,12 @@ Run img r b u (c ∷ cs) =
     let o : Out = exec img r c in
     Agrees img r b × Says img r b u c o × Run (o .image) (o .board) (enterCall b c (o .answer)) (track u b c (o .answer)) cs
 
--- step calls, each on what the call before gave back
+-- "whose steps too each got what the call before gave back"
 abbrev pub stepsOn : ℕ → Out → Out
 stepsOn zero o = o
 stepsOn (suc n) o = stepsOn n (stepOn (o .image) (o .board))
 
--- what a format and its twelve steps give back
+-- "the image and idle record that a finished format gave back"
 abbrev pub formatted : List ℕ → Out
 formatted img = stepsOn 12 (formatOn img)
 

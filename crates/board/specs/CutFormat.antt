@@ -19,6 +19,7 @@ use Rattle.board.specs.Claim.{stepsOn, formatted, ByteCalls}
 
 -- ---- what calls leave
 
+-- image, record and book at the end of a run
 pub record Left : Type 0 where
   pub image : List ℕ
   pub board : Record
@@ -74,6 +75,7 @@ pub data Leaves (os : List Object) (j : ℕ) (img : List ℕ) : Type 0 where
   no-store : j < 12 → NoStore img → Leaves os j img
   empty-store : j ≡ 12 → EmptyStore img → Leaves os j img
 
+-- for every run and every cut, before the first step and after the last too
 unfoldable pub CutFormat : Type 0
 CutFormat =
     (img : List ℕ) (cs : List Call) (j : ℕ) → Bytes img → allowed (length img) ≡ true → ByteCalls cs → j ≤ 12

@@ -36,6 +36,7 @@ RefusalsUntouched =
 abbrev pub OneStep : List ℕ → List ℕ → Type 0
 OneStep img after = (after ≡ img) ⊎ ((x : Step) × (after ≡ apply (sizeOf img) x img))
 
+-- "A step does one thing"; a request, a mount and a format do none
 abbrev pub ImageAfter : List ℕ → Record → Call → Type 0
 ImageAfter img r (request h m reply) = exec img r (request h m reply) .image ≡ img
 ImageAfter img r step = OneStep img (exec img r step .image)
@@ -54,6 +55,7 @@ pub record Declared (r : Record) : Type 0 where
   pub append : r .job .size < 256
   pub copy : r .cursor .size < 256
 
+-- a record in no job
 abbrev pub Rests : Phase → Type 0
 Rests Unmounted = Unit {0}
 Rests Idle = Unit {0}

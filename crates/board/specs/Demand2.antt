@@ -34,6 +34,7 @@ use Rattle.board.specs.Exec.{Call, request, step, mount, format, exec}
 use Rattle.board.specs.Plan.{Follows, formatPlan, mountPlan, mountedAt, framePlan, framedAt}
 use Rattle.board.specs.Table.{frameFor}
 
+-- any answer that is no refusal
 abbrev pub Accepted : Answer → Type 0
 Accepted Done = Unit {0}
 Accepted More = Unit {0}
@@ -66,7 +67,7 @@ OneStore = (img : List ℕ) → Bytes img → allowed (length img) ≡ true → 
 
 -- ---- every programmed byte is the plan's and lands as given
 
--- "the place was 0xFF, or byte 8 was 0xFF or 0xFE", and afterwards it holds the byte
+-- the place was 0xFF, or is byte 8 and was 0xFE; afterwards it holds the byte given
 abbrev pub LandsAt : ℕ → Step → List ℕ → Type 0
 LandsAt s (program k o v) img =
     ((getD img (k * s + o) 0 ≡ 255) ⊎ ((o ≡ stateAt) × (getD img (k * s + o) 0 ≡ inTransfer)))
@@ -100,6 +101,7 @@ pub record Formats (img : List ℕ) (o : Out) : Type 0 where
   pub follows : Follows img (o .board) formatPlan (idle (length img - 1) 0 headerLen)
   pub twelve : length formatPlan ≡ 12
 
+-- a request follows its plan or was done at once and leaves the record; a step lands; mount and format follow theirs
 abbrev pub Planned : List ℕ → Record → Call → Out → Type 0
 Planned img r (request h m reply) o = (o .answer ≡ More → Appends img r h m o) × (o .answer ≡ Done → o .board ≡ r)
 Planned img r step o = StepLands img o
@@ -112,6 +114,7 @@ AllPlanned img r [] = Unit {0}
 AllPlanned img r (c ∷ cs) =
     let o : Out = exec img r c in Planned img r c o × AllPlanned (o .image) (o .board) cs
 
+-- every message is bytes
 abbrev pub ByteMessages : List Call → Type 0
 ByteMessages [] = Unit {0}
 ByteMessages (request h m reply ∷ cs) = Bytes m × ByteMessages cs

@@ -15,6 +15,7 @@ pub data Call : Type 0 where
   mount : Call
   format : Call
 
+-- "Mount and format take no record."
 abbrev pub exec : List ℕ → Record → Call → Out
 exec img r (request h m reply) = requestOn img r reply h m
 exec img r step = stepOn img r

@@ -26,6 +26,7 @@ abbrev pub newTime : Bool → ℕ → ℕ
 newTime true t = suc t
 newTime false t = 0
 
+-- the offset at which the whole frames end
 abbrev pub endOf : List Frame → ℕ
 endOf fs = headerLen + total fs
 
@@ -39,9 +40,11 @@ pub record Found : Type 0 where
 abbrev pub found : List ℕ → ℕ → Found
 found img k = record { number = k; state = blockState (block (sizeOf img) k img) }
 
+-- every block of an image and its state
 abbrev pub allFound : List ℕ → List Found
 allFound img = map (found img) blockNumbers
 
+-- what refusal 3 and the erase of a mount ask about a block
 abbrev pub isForeign : BlockState → Bool
 isForeign blank = false
 isForeign inProgress = false
@@ -65,6 +68,7 @@ pub record Store : Type 0 where
   pub frames : List Frame
   pub tail : Tail
 
+-- the valid blocks, in the order of their numbers
 abbrev pub storeIn : ℕ → BlockState → List Store → List Store
 storeIn k blank xs = xs
 storeIn k inProgress xs = xs
@@ -75,6 +79,7 @@ abbrev pub stores : List Found → List Store
 stores [] = []
 stores (x ∷ xs) = storeIn (x .number) (x .state) (stores xs)
 
+-- 3: "two valid halves of equal time"
 abbrev pub sameTime : ℕ → List Store → Bool
 sameTime t [] = false
 sameTime t (x ∷ xs) = eqb t (x .time) || sameTime t xs
@@ -140,6 +145,7 @@ mountStores img xs (y ∷ ys) = cond (equalTimes (y ∷ ys)) (refuse refusal.For
 unfoldable pub mountFound : List ℕ → List Found → Out
 mountFound img xs = cond (anyForeign xs) (refuse refusal.Foreign img unmounted []) (mountStores img xs (stores xs))
 
+-- 4: "image length not allowed"
 unfoldable pub mountOn : List ℕ → Out
 mountOn img = cond (allowed (length img)) (mountFound img (allFound img)) (refuse refusal.ImageLength img unmounted [])
 
@@ -161,5 +167,6 @@ formatJob img =
     })
     256 headerLen []
 
+-- 4 is its only refusal
 unfoldable pub formatOn : List ℕ → Out
 formatOn img = cond (allowed (length img)) (begin img [] (formatJob img)) (refuse refusal.ImageLength img unmounted [])

@@ -15,6 +15,7 @@ use Rattle.board.specs.Step.{stepOn}
 use Rattle.board.specs.Mount.{nextBlock, endOf, Found, Store, wipeList, needsTransfer}
 use Rattle.board.specs.Queue.{Held}
 
+-- writes to block k, a step each
 abbrev pub onBlock : ℕ → List Write → List Step
 onBlock k ws = map (writeStep k) ws
 
@@ -63,6 +64,7 @@ framePlan true k end x f =
     transferPlan k (x .time) (replay (x .frames)) ++ appendPlan (nextBlock k) (claimed (replay (x .frames))) f
 framePlan false k end x f = appendPlan k end f
 
+-- the record after it
 abbrev pub framedAt : Bool → ℕ → ℕ → ℕ → Held → Frame → Record
 framedAt true l k end x f = idle l (nextBlock k) (claimed (replay (x .frames)) + frameLen f)
 framedAt false l k end x f = idle l k (end + frameLen f)

@@ -46,6 +46,7 @@ heldIf false t fs = none
 abbrev pub fitsRecord : ℕ → ℕ → List Frame → Bool
 fitsRecord size end fs = eqb (endOf fs) end && leb (claimed (replay fs) + endLen * openHosts (replay fs .pending)) size
 
+-- "recorded half valid", and its tail all 0xFF
 abbrev pub heldIn : ℕ → ℕ → BlockState → Option Held
 heldIn size end blank = none
 heldIn size end inProgress = none
@@ -67,6 +68,7 @@ abbrev pub heldBy : Bool → List ℕ → Record → Option Held
 heldBy true img r = heldIn (sizeOf img) (r .end) (blockState (block (sizeOf img) (r .block) img))
 heldBy false img r = none
 
+-- what the recorded block holds; none where 11 is given
 unfoldable pub held : List ℕ → Record → Option Held
 held img r = heldBy (sameImage img r) img r
 
@@ -75,6 +77,7 @@ held img r = heldBy (sameImage img r) img r
 abbrev pub needsRoom : List ℕ → Record → Frame → Bool
 needsRoom img r f = ltb (sizeOf img) (r .end + frameLen f)
 
+-- a transfer copies from the first id and from the header on
 abbrev pub appendJob : List ℕ → Record → Held → Frame → Record
 appendJob img r x f =
     busy (r .last) (r .block) (r .end) (placesOf (x .frames))
@@ -106,6 +109,7 @@ serveChange img r reply h x c =
 unfoldable pub serveEnd : List ℕ → Record → List ℕ → Host → Held → Frame → Out
 serveEnd img r reply h x f = cond (isOpen h (replay (x .frames) .pending)) (append img r reply x f) (out Done img r reply)
 
+-- counted from the image's first byte
 abbrev pub stretchOf : ℕ → Option Value → Stretch
 stretchOf start none = noStretch
 stretchOf start (some x) = record { at = start + x .at; size = length (x .bytes) }
@@ -128,6 +132,7 @@ serveLog img r reply x Summary =
     cond (ltb (length reply) pageLen) (refuse refusal.ShortReply img r reply)
     (out Done img r (withPage (logPage (x .time) (length (st .objects)) (used st) (sizeOf img)) reply))
 
+-- "A request is one of six kinds"
 unfoldable pub serve : List ℕ → Record → List ℕ → Host → List ℕ → Held → Request → Out
 serve img r reply h m x (Put i) = serveChange img r reply h x (put i (valueIn m))
 serve img r reply h m x (Delete i) = serveChange img r reply h x (delete i)
@@ -141,6 +146,7 @@ abbrev pub serveParsed : List ℕ → Record → List ℕ → Host → List ℕ 
 serveParsed img r reply h m x Malformed = refuse refusal.Malformed img r reply
 serveParsed img r reply h m x (Is q) = serve img r reply h m x q
 
+-- 11
 abbrev pub serveHeld : List ℕ → Record → List ℕ → Host → List ℕ → Option Held → Out
 serveHeld img r reply h m none = refuse refusal.Stale img r reply
 serveHeld img r reply h m (some x) = serveParsed img r reply h m x (parse m)
@@ -158,6 +164,6 @@ requestOn img r reply h m =
     (cond (leb (h .0) hostMax) (requestIn (r .phase) img r reply h m) (refuse refusal.HostRange img r reply))
     (refuse refusal.ImageLength img r reply)
 
--- the stretch of a read alone; "a refused read hands back an empty stretch", and so does a message that is no read
+-- the stretch of a read alone; "A refused read hands back an empty stretch", and so does a message that is no read
 abbrev pub readOn : List ℕ → Record → Host → List ℕ → Stretch
 readOn img r h m = requestOn img r [] h m .stretch

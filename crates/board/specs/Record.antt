@@ -24,6 +24,7 @@ allowed n = leb 512 n && leb n 65536 && eqb (n % 256) 0
 
 -- ---- records
 
+-- what the fields of a job hold in a record that is in none: zeros
 unfoldable pub noPlaces : List ℕ
 noPlaces = replicate 256 0
 
@@ -36,17 +37,19 @@ noMarks = 0 ∷ 0 ∷ 0 ∷ 0 ∷ []
 abbrev pub noJob : Job
 noJob = record { wipe = 0 ∷ 0 ∷ []; wipes = 0; moves = false; drops = false; target = 0; time = 0; since = noMarks; size = 0 }
 
+-- step of the stage; next offset of the block made; next id and next journal offset to copy; copied frame's length and next byte
 abbrev pub cursor : ℕ → ℕ → ℕ → ℕ → ℕ → ℕ → Cursor
 cursor i a d s z o = record { index = i; at = a; id = d; source = s; size = z; off = o }
 
+-- a record in no job: phase, image length less one, current block, end of its whole frames
 abbrev pub resting : Phase → ℕ → ℕ → ℕ → Record
 resting p l k e =
     record { phase = p; last = l; block = k; end = e; places = noPlaces; job = noJob; cursor = cursor 0 0 0 0 0 0; unit = noFrame; frame = noFrame }
 
+-- "unmounted, idle, or in a job"
 abbrev pub unmounted : Record
 unmounted = resting Unmounted 0 0 0
 
--- image length less one, current block, end of its whole frames
 abbrev pub idle : ℕ → ℕ → ℕ → Record
 idle l k e = resting Idle l k e
 
@@ -88,9 +91,11 @@ pub record Stretch : Type 0 where
   pub at : ℕ
   pub size : ℕ
 
+-- "an empty stretch"
 abbrev pub noStretch : Stretch
 noStretch = record { at = 0; size = 0 }
 
+-- "For each input the promise settles answer, record, image and reply": all of a call's result, with the stretch of a read
 pub record Out : Type 0 where
   pub answer : Answer
   pub image : List ℕ
@@ -98,9 +103,11 @@ pub record Out : Type 0 where
   pub reply : List ℕ
   pub stretch : Stretch
 
+-- any result but that of a read that finds its object
 abbrev pub out : Answer → List ℕ → Record → List ℕ → Out
 out a i b r = record { answer = a; image = i; board = b; reply = r; stretch = noStretch }
 
+-- given what came in: "Every refusal takes no step and changes no byte of image, reply or record"
 abbrev pub refuse : Refusal → List ℕ → Record → List ℕ → Out
 refuse n i b r = out (Refused n) i b r
 

@@ -1,4 +1,4 @@
--- Document 01's starred bench rows, S = 256: one table over the machine.
+-- Document 01's starred bench rows, S = 256, and row p: one table over the machine.
 use mathlib.Core.List.{List, [], _∷_, _++_}
 use mathlib.Core.Path.{_≡_}
 use Prim.Native.Nat.{ℕ, zero, suc, _+_}
@@ -40,6 +40,7 @@ drive (suc n) c o =
 unfoldable pub returned : List ℕ
 returned = replicate 512 0x5A
 
+-- a request of host h, with a reply of 16 bytes; and with its steps made
 unfoldable pub ask : Ran → ℕ → List ℕ → Out
 ask r h m = exec (r .image) (r .board) (request (hostOf h) m (replicate 16 0xEE))
 
@@ -58,9 +59,11 @@ mounted img = drive 300 0 (exec img unmounted mount)
 unfoldable pub holds : ℕ → Ran → State
 holds k r = replay (framesIn (blockState (block 256 k (r .image))))
 
+-- a block's creation time
 unfoldable pub timed : ℕ → Ran → ℕ
 timed k r = timeIn (blockState (block 256 k (r .image)))
 
+-- n bytes from a place on
 unfoldable pub part : ℕ → ℕ → List ℕ → List ℕ
 part at n l = take n (drop at l)
 
@@ -78,6 +81,7 @@ commitMessage = 0x04 ∷ 0x00 ∷ 0x03 ∷ 0x01 ∷ []
 unfoldable pub rowC : Ran
 rowC = asked rowB 2 commitMessage
 
+-- rows d and e are asked by a host that put nothing
 unfoldable pub rowD : Out
 rowD = ask rowC 0 (0x06 ∷ 0x00 ∷ 0x05 ∷ 0x01 ∷ 0x05 ∷ 0x00 ∷ [])
 
@@ -102,6 +106,10 @@ rowI last = asked (asked (asked rowA 0 (putMessage 1 64)) 0 (putMessage 2 64)) 0
 
 unfoldable pub rowK : ℕ → Ran
 rowK last = asked (rowI last) 0 commitMessage
+
+-- a format's answer on an image of n bytes
+unfoldable pub formatAnswer : ℕ → Answer
+formatAnswer n = exec (replicate n 0x5A) unmounted format .answer
 
 -- ---- the table
 
@@ -128,8 +136,10 @@ pub record Rows : Type 0 where
   pub f-time : timed 1 rowF ≡ 2
   pub f-holds : holds 1 rowF ≡ state [] []
   pub g-steps : rowG .steps ≡ 11
+  pub g-done : rowG .board ≡ idle 511 1 16
   pub g-holds : holds 1 rowG ≡ state [] []
   pub h-steps : rowH .steps ≡ 0
+  pub h-done : rowH .board ≡ idle 511 0 32
   pub h-holds : holds 0 rowH ≡ state (object (idOf 5) (0x41 ∷ 0x42 ∷ []) ∷ []) []
   pub i-accepted : ask rowA 0 (putMessage 1 64) .answer ≡ More
   pub i-done : rowI 64 .board ≡ idle 511 0 232
@@ -138,3 +148,10 @@ pub record Rows : Type 0 where
   pub k-refused : ask (rowK 64) 0 (putMessage 4 0) .answer ≡ Refused refusal.NoRoom
   pub k-accepted : ask (rowK 63) 0 (putMessage 4 0) .answer ≡ More
   pub n : ask rowA 0 (0x05 ∷ 0x00 ∷ 0x03 ∷ 0x01 ∷ []) .answer ≡ Refused refusal.Malformed
+  pub p-512 : formatAnswer 512 ≡ More
+  pub p-768 : formatAnswer 768 ≡ More
+  pub p-65536 : formatAnswer 65536 ≡ More
+  pub p-256 : formatAnswer 256 ≡ Refused refusal.ImageLength
+  pub p-511 : formatAnswer 511 ≡ Refused refusal.ImageLength
+  -- beyond row p: the first multiple of 256 past the longest
+  pub p-over : formatAnswer 65792 ≡ Refused refusal.ImageLength

@@ -25,9 +25,11 @@ use Rattle.board.specs.Record.{idle, cursor, inStage, buffer, Out, out, 
 abbrev pub first : Cursor → Cursor
 first c = cursor 0 (c .at) (c .id) (c .source) (c .size) (c .off)
 
+-- the job in a stage at its first step
 abbrev pub enter : Stage → Record → Record
 enter s r = inStage s (first (r .cursor)) r
 
+-- the frame to append, if there is one; else the job is over
 unfoldable pub enterAppend : Record → Record
 enterAppend r = cond (ltb 0 (r .job .size)) (enter Append r) (idle (r .last) (r .block) (r .end))
 
@@ -46,6 +48,7 @@ landed r =
       frame = r .frame;
     }
 
+-- "erase of the old half": a format has none to erase
 unfoldable pub enterDrop : Record → Record
 enterDrop r = cond (r .job .drops) (enter Drop r) (enterAppend (landed r))
 
@@ -68,13 +71,16 @@ abbrev pub loadOr : Record → Option Load → Record
 loadOr r (some u) = loaded r u
 loadOr r none = enter Seal r
 
+-- "settled frames by rising id, pending frames in their order": the next one, read from the current block
 unfoldable pub enterCopy : List ℕ → Record → Record
 enterCopy img r =
     loadOr r (nextLoad (block (sizeOf img) (r .block) img) (r .end) (r .places) (r .job .since) (r .cursor .id) (r .cursor .source))
 
+-- a job that makes no block goes on to its frame
 unfoldable pub enterOpen : Record → Record
 enterOpen r = cond (r .job .moves) (enter Open r) (enterAppend r)
 
+-- the blocks to erase, if there are any
 unfoldable pub enterWipe : Record → Record
 enterWipe r = cond (ltb 0 (r .job .wipes)) (enter Wipe r) (enterOpen r)
 
@@ -93,6 +99,7 @@ action Seal r = writeStep (r .job .target) (sealWrite (r .job .time) (r .cursor 
 action Drop r = erase (r .block)
 action Append r = program (r .block) (r .end + r .cursor .index) (getD (r .frame) (r .cursor .index) 0)
 
+-- the cursor past a step, and past a byte that is copied
 abbrev pub nextIndex : Cursor → Cursor
 nextIndex c = cursor (suc (c .index)) (c .at) (c .id) (c .source) (c .size) (c .off)
 
@@ -118,6 +125,7 @@ advance Seal img r = onward Seal markWrites r (enterDrop r)
 advance Drop img r = enterAppend (landed r)
 advance Append img r = onward Append (r .job .size) r (idle (r .last) (r .block) (r .end + r .job .size))
 
+-- "the last one answers 0 with the record idle", any other more
 abbrev pub stepped : List ℕ → Record → Out
 stepped img r = out (answerOf r) img r []
 
@@ -134,5 +142,6 @@ stepIn Unmounted img r = out Done img r []
 stepIn Idle img r = out Done img r []
 stepIn (Busy s) img r = stepBusy s img r
 
+-- a step call
 unfoldable pub stepOn : List ℕ → Record → Out
 stepOn img r = stepIn (r .phase) img r

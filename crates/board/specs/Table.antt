@@ -42,6 +42,7 @@ unfoldable pub firstOf : List Check → Option Refusal
 firstOf [] = none
 firstOf (c ∷ cs) = elim (c .holds) [ true ↦ some (c .refusal) | false ↦ firstOf cs ]
 
+-- 5: "a job is unfinished"; 2: "unmounted record"
 abbrev pub isBusy : Phase → Bool
 isBusy Unmounted = false
 isBusy Idle = false
@@ -52,17 +53,19 @@ isUnmounted Unmounted = true
 isUnmounted Idle = false
 isUnmounted (Busy s) = false
 
+-- 11 where `held` gives none, 8 where `lookup` does
 abbrev pub isNone : {A : Type 0} → Option A → Bool
 isNone none = true
 isNone (some x) = false
 
+-- 1: "message malformed: length, kind, id, value length or page"
 abbrev pub isMalformed : Parsed → Bool
 isMalformed Malformed = true
 isMalformed (Is q) = false
 
 -- ---- requests
 
--- 8, 9, 7 and 6 of a request on what the recorded block holds
+-- 8: "read: no such settled object"; 9: "log: reply under 14 bytes"
 abbrev pub noObject : Held → Request → Bool
 noObject x (Put i) = false
 noObject x (Delete i) = false
@@ -79,7 +82,7 @@ shortReply reply Abort = false
 shortReply reply (Read i) = false
 shortReply reply (Log p) = ltb (length reply) pageLen
 
--- "Commit and abort are never refused for room."
+-- 7: "the room rule". "Commit and abort are never refused for room."
 abbrev pub roomRule : ℕ → Host → List ℕ → Held → Request → Bool
 roomRule size h m x (Put i) = noRoom size (replay (x .frames)) h (put i (valueIn m))
 roomRule size h m x (Delete i) = noRoom size (replay (x .frames)) h (delete i)
@@ -101,15 +104,18 @@ frameFor h m x Abort = frameIf (isOpen h (replay (x .frames) .pending)) (abort h
 frameFor h m x (Read i) = none
 frameFor h m x (Log p) = none
 
+-- 6: "a transfer is needed .. at time 4,294,967,295"
 abbrev pub worn : List ℕ → Record → Held → Option Frame → Bool
 worn img r x none = false
 worn img r x (some f) = needsRoom img r f && eqb (x .time) lastTime
 
+-- 8, 9, 7, 6
 abbrev pub heldChecks : List ℕ → Record → Host → List ℕ → List ℕ → Held → Request → List Check
 heldChecks img r h m reply x q =
     check refusal.NoObject (noObject x q) ∷ check refusal.ShortReply (shortReply reply q)
     ∷ check refusal.NoRoom (roomRule (sizeOf img) h m x q) ∷ check refusal.Worn (worn img r x (frameFor h m x q)) ∷ []
 
+-- where 11 or 1 holds no later line can be the first
 abbrev pub laterChecks : List ℕ → Record → Host → List ℕ → List ℕ → Option Held → Parsed → List Check
 laterChecks img r h m reply none p = []
 laterChecks img r h m reply (some x) Malformed = []
@@ -124,15 +130,18 @@ requestChecks img r h m reply =
 
 -- ---- steps, mounts and formats
 
+-- "in a job, 11 is given exactly if the image length isn't the record's or the job's next place lies outside it"
 abbrev pub outside : Phase → List ℕ → Record → Bool
 outside Unmounted img r = false
 outside Idle img r = false
 outside (Busy s) img r = not (eqb (length img) (suc (r .last)) && within (sizeOf img) (action s r))
 
+-- "no valid half"
 abbrev pub noStore : List Store → Bool
 noStore [] = true
 noStore (x ∷ xs) = false
 
+-- 6, "by a mount too": of the valid halves the newest is current
 abbrev pub wornStore : List Store → Bool
 wornStore [] = false
 wornStore (x ∷ xs) = let y : Store = newest x xs in needsTransfer (y .frames) (y .tail) && eqb (y .time) lastTime
@@ -145,6 +154,7 @@ mountChecks img =
     ∷ check refusal.Foreign (anyForeign (allFound img) || equalTimes (stores (allFound img)))
     ∷ check refusal.Worn (wornStore (stores (allFound img))) ∷ []
 
+-- the lines that concern each call: 11 alone concerns a step, 4 alone a format
 abbrev pub checks : List ℕ → Record → Call → List Check
 checks img r (request h m reply) = requestChecks img r h m reply
 checks img r step = check refusal.Stale (outside (r .phase) img r) ∷ []

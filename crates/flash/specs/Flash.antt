@@ -13,6 +13,7 @@ blocks = 2
 abbrev pub blockNumbers : List ℕ
 blockNumbers = 0 ∷ 1 ∷ []
 
+-- S; of an odd length the last byte belongs to no block
 abbrev pub sizeOf : List ℕ → ℕ
 sizeOf img = length img / blocks
 
@@ -26,13 +27,15 @@ pub data Step : Type 0 where
   program : ℕ → ℕ → ℕ → Step  -- block, offset, byte
   erase : ℕ → Step  -- block
 
+-- "new value = old AND given"; a place past the end changes nothing
 abbrev pub programAt : List ℕ → ℕ → ℕ → List ℕ
 programAt l i v = set l i (bitAnd (getD l i 0) v)
 
--- as many bytes as there are: an image keeps its length whatever the block's number
+-- "all bytes 0xFF": as many as are there, so that an image keeps its length whatever the block's number
 abbrev pub eraseBlock : ℕ → ℕ → List ℕ → List ℕ
 eraseBlock s k img = take (k * s) img ++ (replicate (length (block s k img)) 255 ++ drop (k * s + s) img)
 
+-- an image of blocks of s bytes after one step, and after some in order
 abbrev pub apply : ℕ → Step → List ℕ → List ℕ
 apply s (program k o v) img = programAt img (k * s + o) v
 apply s (erase k) img = eraseBlock s k img
@@ -41,7 +44,7 @@ unfoldable pub applyAll : ℕ → List Step → List ℕ → List ℕ
 applyAll s [] img = img
 applyAll s (x ∷ xs) img = applyAll s xs (apply s x img)
 
--- the step's place lies in the image: its block is there and its offset is below the block's size
+-- a step's place; an erase has offset 0
 abbrev pub blockOf : Step → ℕ
 blockOf (program k o v) = k
 blockOf (erase k) = k
@@ -50,6 +53,7 @@ abbrev pub offsetOf : Step → ℕ
 offsetOf (program k o v) = o
 offsetOf (erase k) = 0
 
+-- the place lies in the image: its block is there and its offset is below the block's size
 abbrev pub within : ℕ → Step → Bool
 within s x = ltb (blockOf x) blocks && ltb (offsetOf x) s
 
@@ -63,6 +67,7 @@ pub record Write : Type 0 where
 abbrev pub write : ℕ → ℕ → Write
 write o b = record { at = o; byte = b }
 
+-- the flash step that a write to block k is
 abbrev pub writeStep : ℕ → Write → Step
 writeStep k w = program k (w .at) (w .byte)
 
@@ -71,6 +76,7 @@ unfoldable pub writes : ℕ → List ℕ → List Write
 writes o [] = []
 writes o (b ∷ bs) = write o b ∷ writes (suc o) bs
 
+-- a block's bytes after writes in order
 unfoldable pub writeAll : List ℕ → List Write → List ℕ
 writeAll l [] = l
 writeAll l (w ∷ ws) = writeAll (programAt l (w .at) (w .byte)) ws

@@ -7,7 +7,7 @@ use Rattle.flash.specs.Bytes.{Bytes, u16le}
 use Rattle.frame.specs.declared.Host.{Host}
 use Rattle.frame.specs.declared.ObjectId.{ObjectId}
 
--- "Hosts 0 to 3. Object ids 0 to 255." "Values of 0 to 64 bytes. An empty value is an object."
+-- "Hosts 0 to 3. Object ids 0 to 255; neither number may ever stand in for the other."
 abbrev pub hostMax : ℕ
 hostMax = 3
 
@@ -20,6 +20,7 @@ hostOf n = record { 0 = n }
 abbrev pub idOf : ℕ → ObjectId
 idOf n = record { 0 = n }
 
+-- "Values of 0 to 64 bytes. An empty value is an object."
 abbrev pub valueMax : ℕ
 valueMax = 64
 
@@ -28,12 +29,14 @@ pub data ChangeOf (A : Type 0) : Type 0 where
   put : ObjectId → A → ChangeOf A
   delete : ObjectId → ChangeOf A
 
+-- the five kinds of frame; a put and a delete are the changes
 pub data FrameOf (A : Type 0) : Type 0 where
   change : Host → ChangeOf A → FrameOf A
   commit : Host → FrameOf A
   abort : Host → FrameOf A
   settled : ObjectId → A → FrameOf A
 
+-- with the bytes for the value
 abbrev pub Change : Type 0
 Change = ChangeOf (List ℕ)
 
@@ -53,6 +56,7 @@ mapFrame f (settled i v) = settled i (f v)
 
 -- ---- the table of kinds
 
+-- the table's columns Kind and Body
 abbrev pub kindOf : Frame → ℕ
 kindOf (change h (put i v)) = 1
 kindOf (change h (delete i)) = 2
@@ -67,6 +71,7 @@ body (commit h) = h .0 ∷ []
 body (abort h) = h .0 ∷ []
 body (settled i v) = u16le (i .0) ++ v
 
+-- "finish byte 0xFE"
 abbrev pub finish : ℕ
 finish = 0xFE
 
@@ -93,6 +98,7 @@ endLen = overhead + 1
 abbrev pub settledLen : ℕ → ℕ
 settledLen v = overhead + 2 + v
 
+-- a put of the longest value: 72
 abbrev pub maxFrame : ℕ
 maxFrame = putLen valueMax
 
@@ -102,6 +108,7 @@ buffer bs = bs ++ replicate (maxFrame - length bs) 0
 
 -- ---- legal frames
 
+-- "v at most 64", and each a byte
 abbrev pub LegalValue : List ℕ → Type 0
 LegalValue v = (length v ≤ valueMax) × Bytes v
 
@@ -131,6 +138,7 @@ OfHost (settled i v) = ⊥
 
 -- ---- frames one after the other
 
+-- their bytes, and how many those are
 unfoldable pub encodeAll : List Frame → List ℕ
 encodeAll [] = []
 encodeAll (f ∷ fs) = encode f ++ encodeAll fs
@@ -139,6 +147,7 @@ unfoldable pub total : List Frame → ℕ
 total [] = 0
 total (f ∷ fs) = frameLen f + total fs
 
+-- each is legal where it stands, the settled ones placed as said
 abbrev pub AllMayStand : ℕ → List Frame → Type 0
 AllMayStand next [] = Unit {0}
 AllMayStand next (f ∷ fs) = MayStand next f × AllMayStand (nextAfter f) fs

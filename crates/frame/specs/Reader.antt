@@ -12,6 +12,7 @@ use Rattle.frame.specs.declared.Field.{Field}
 use Rattle.frame.specs.declared.Field.the-variants as field
 use Rattle.frame.specs.Frame.{Frame, change, commit, abort, settled, put, delete, hostMax, idMax, valueMax, finish, frameLen, putLen, deleteLen, endLen, settledLen, nextAfter}
 
+-- a bad field and its offset in the block
 abbrev pub fault : Field → ℕ → Fault
 fault f p = record { field = f; place = p }
 
@@ -34,6 +35,7 @@ pub record Slot : Type 0 where
 abbrev pub slot : Field → ℕ → ℕ → ℕ → Slot
 slot f o a b = record { lo = a; hi = b; field = f; start = o }
 
+-- the byte may stand there
 abbrev pub fits : Slot → ℕ → Bool
 fits p b = leb (p .lo) b && leb b (p .hi)
 
@@ -72,6 +74,7 @@ noSlots = slot field.Length 0 1 0 ∷ []
 abbrev pub onlySettled : ℕ → ℕ → ℕ → Bool
 onlySettled next n k = leb next idMax && (leb (settledLen 0) n && leb n (settledLen valueMax)) && (eqb k 5 || eqb n (settledLen 0))
 
+-- kinds 1 to 4: the length tells commit and abort from put and delete
 abbrev pub hostSlots : ℕ → List Slot
 hostSlots n =
     elim (eqb n endLen) [
@@ -87,18 +90,20 @@ pub data Match : Type 0 where
   part : Slot → Match
   misfit : Slot → Match
 
+-- bytes held against a layout
 unfoldable pub match : List Slot → List ℕ → Match
 match [] t = all
 match (p ∷ ps) [] = misfit p
 match (p ∷ ps) (b ∷ t) = elim (fits p b) [ true ↦ match ps t | false ↦ elim (allFF (b ∷ t)) [ true ↦ part p | false ↦ misfit p ] ]
 
+-- host and id at an offset of a frame
 abbrev pub hostAt : List ℕ → ℕ → Host
 hostAt t i = record { 0 = getD t i 0 }
 
 abbrev pub idAt : List ℕ → ℕ → ObjectId
 idAt t i = record { 0 = le16 (getD t i 0) (getD t (suc i) 0) }
 
--- the frame of a low kind byte and a length that bytes are which fit its layout
+-- the frame that bytes are, by their low kind byte and their length; used only where they fit its layout, so kind 0 never is
 abbrev pub decode : ℕ → ℕ → List ℕ → Frame
 decode zero n t = commit (hostAt t 4)
 decode (suc zero) n t = change (hostAt t 4) (put (idAt t 5) (take (n - putLen 0) (drop 7 t)))
@@ -107,6 +112,7 @@ decode (suc (suc (suc zero))) n t = commit (hostAt t 4)
 decode (suc (suc (suc (suc zero)))) n t = abort (hostAt t 4)
 decode (suc (suc (suc (suc (suc k))))) n t = settled (idAt t 4) (take (n - settledLen 0) (drop 6 t))
 
+-- a bad slot of a frame that starts at an offset of the block
 abbrev pub faultAt : ℕ → Slot → Fault
 faultAt at p = fault (p .field) (at + p .start)
 
@@ -116,6 +122,7 @@ ofHostMatch at n f all = whole f
 ofHostMatch at n f (part p) = torn n
 ofHostMatch at n f (misfit p) = wrong (faultAt at p)
 
+-- only "kinds 1 to 4" are torn: a settled frame that is cut off is wrong
 abbrev pub ofSettledMatch : ℕ → Frame → Match → Read
 ofSettledMatch at f all = whole f
 ofSettledMatch at f (part p) = wrong (faultAt at p)
@@ -129,7 +136,8 @@ readLaid next at n k t =
       | false ↦ ofHostMatch at n (decode k n t) (match (hostSlots n) t)
     ]
 
--- the frame at the front of t, which runs to the block's end and starts at offset `at` of it; settled ids from `next` on
+-- the frame at the front of t, which runs to the block's end and starts at offset `at` of it; settled ids from `next` on.
+-- A frame longer than t would not fit: it is neither whole nor torn.
 unfoldable pub readFrame : ℕ → ℕ → List ℕ → Read
 readFrame next at t =
     elim (allFF t) [
@@ -148,6 +156,7 @@ pub data Tail : Type 0 where
   cut : ℕ → Tail
   bad : Fault → Tail
 
+-- the whole frames and what follows them
 pub record Scan : Type 0 where
   pub frames : List Frame
   pub tail : Tail
@@ -158,7 +167,7 @@ push f s = record { frames = f ∷ s .frames; tail = s .tail }
 abbrev pub ends : Tail → Scan
 ends t = record { frames = []; tail = t }
 
--- the first k bytes are left of a frame that was read already
+-- "whole legal frames .. run to a tail"; the first k bytes belong to a frame that was read already
 unfoldable pub scan : ℕ → ℕ → ℕ → List ℕ → Scan
 scan next at k [] = ends clean
 scan next at zero (b ∷ t) =

@@ -31,6 +31,7 @@ pub record Edge : Type 0 where
 abbrev pub edge : ℕ → List ℕ → List ℕ → List ℕ → Edge
 edge n img b reply = record { answer = n; image = img; board = b; reply = reply }
 
+-- the buffer has exactly a record's size
 abbrev pub holdsRecord : List ℕ → Bool
 holdsRecord b = eqb (length b) recordSize
 
@@ -41,6 +42,7 @@ guarded img b reply o after =
 
 -- ---- requests and steps write the record only where a job began, went on or ended
 
+-- the phase is one of a job
 abbrev pub inJob : Phase → Bool
 inJob Unmounted = false
 inJob Idle = false
@@ -56,6 +58,7 @@ writes p (Refused n) = false
 abbrev pub written : List ℕ → Out → List ℕ
 written b o = cond (writes (recordIn b .phase) (o .answer)) (bytesOf (o .board)) b
 
+-- a request, and a step, which is lent no reply
 unfoldable pub edgeRequest : List ℕ → List ℕ → ℕ → List ℕ → List ℕ → Edge
 edgeRequest img b h m reply =
     let o : Out = requestOn img (recordIn b) reply (record { 0 = h }) m in
@@ -83,6 +86,7 @@ pub record Place : Type 0 where
 abbrev pub place : ℕ → ℕ → ℕ → Place
 place n at size = record { answer = n; at = at; size = size }
 
+-- a well-formed read
 abbrev pub isRead : Parsed → Bool
 isRead Malformed = false
 isRead (Is (Put i)) = false
@@ -108,6 +112,7 @@ edgeRead img b h m at size =
 abbrev pub Refuses : ℕ → Type 0
 Refuses n = (0 < n) × (n < 255)
 
+-- a call that refuses leaves every buffer as it was
 abbrev pub Stays : List ℕ → List ℕ → List ℕ → Edge → Type 0
 Stays img b reply e = Refuses (e .answer) → e ≡ edge (e .answer) img b reply
 
@@ -116,7 +121,7 @@ pub record RefusedStays : Type 0 where
   pub request : (img b : List ℕ) (h : ℕ) (m reply : List ℕ) → Stays img b reply (edgeRequest img b h m reply)
   pub step : (img b : List ℕ) → Stays img b [] (edgeStep img b)
 
--- "a refused read hands back an empty stretch"
+-- "A refused read hands back an empty stretch"
 unfoldable pub RefusedReadEmpty : Type 0
 RefusedReadEmpty =
     (img b : List ℕ) (h : ℕ) (m : List ℕ) (at size : ℕ) → length b ≡ recordSize → Refuses (edgeRead img b h m at size .answer)

@@ -12,6 +12,7 @@ use Rattle.frame.specs.declared.Field.the-variants as field
 use Rattle.frame.specs.Frame.{Frame, encodeAll}
 use Rattle.frame.specs.Reader.{fault, Tail, clean, cut, bad, Scan, scan}
 
+-- header bytes 0-1 and 2-3: "length, 16", "kind, 0x4A01"
 abbrev pub headerLen : ℕ
 headerLen = 16
 
@@ -32,11 +33,12 @@ inTransfer = 0xFE
 abbrev pub validData : ℕ
 validData = 0xFC
 
--- the sixteen bytes for a creation time and a state: "bitwise inverse of the creation time", "9-15: 0xFF"
+-- the sixteen bytes for a creation time and a state: "bitwise inverse of the creation time" in bytes 4-7, 0xFF in bytes 9-15
 abbrev pub header : ℕ → ℕ → List ℕ
 header time mark =
     u16le headerLen ++ (u16le headerKind ++ (u32le (lastTime - time) ++ (mark ∷ 255 ∷ 255 ∷ 255 ∷ 255 ∷ 255 ∷ 255 ∷ 255 ∷ [])))
 
+-- the creation time that bytes 4-7 are the inverse of
 abbrev pub createdAt : List ℕ → ℕ
 createdAt b = lastTime - le32 (getD b 4 0) (getD b 5 0) (getD b 6 0) (getD b 7 0)
 
@@ -58,22 +60,25 @@ headerFault b =
     ]
 
 -- "A half is blank if every byte is 0xFF; in progress if byte 8 is 0xFE; valid if byte 8 is 0xFC, the header is as above, and
--- whole legal frames, the settled ones placed as said above, run to a tail that is all 0xFF or torn. Any other half is foreign."
+-- whole legal frames, the settled ones placed as said above, run to a tail that is all 0xFF or torn. .. Any other half is foreign."
 pub data BlockState : Type 0 where
   blank : BlockState
   inProgress : BlockState
   valid : ℕ → List Frame → Tail → BlockState  -- creation time, frames, tail
   foreign : Fault → BlockState
 
+-- "a tail that is all 0xFF or torn": with any other the half is foreign
 abbrev pub ofTail : ℕ → List Frame → Tail → BlockState
 ofTail time fs clean = valid time fs clean
 ofTail time fs (cut n) = valid time fs (cut n)
 ofTail time fs (bad e) = foreign e
 
+-- "the header is as above", and the frames run from its end
 abbrev pub ofHeader : List ℕ → Option Fault → BlockState
 ofHeader b (some e) = foreign e
 ofHeader b none = let s : Scan = scan 0 headerLen 0 (drop headerLen b) in ofTail (createdAt b) (s .frames) (s .tail)
 
+-- every block has exactly one state; byte 8 alone says in progress, whatever else stands there
 unfoldable pub blockState : List ℕ → BlockState
 blockState b =
     elim (allFF b) [
@@ -81,7 +86,7 @@ blockState b =
       | false ↦ elim (eqb (getD b stateAt 0) inTransfer) [ true ↦ inProgress | false ↦ ofHeader b (headerFault b) ]
     ]
 
--- the frames and the creation time of a valid block
+-- the frames and the creation time of a valid block; no frames and 0 of any other
 abbrev pub framesIn : BlockState → List Frame
 framesIn blank = []
 framesIn inProgress = []

@@ -17,6 +17,7 @@ unfoldable pub sited : ℕ → List Frame → List (FrameOf ℕ)
 sited o [] = []
 sited o (f ∷ fs) = mapFrame (λ v. o) f ∷ sited (o + frameLen f) fs
 
+-- 0, in the header, is no frame's place
 abbrev pub orZero : Option ℕ → ℕ
 orZero none = 0
 orZero (some p) = p
@@ -72,6 +73,7 @@ valueIn i p (commit h) = none
 valueIn i p (abort h) = none
 valueIn i p (settled j v) = onlyIf (eqb (i .0) (j .0)) (record { at = p + 6; bytes = v })
 
+-- only a whole frame holds a value
 abbrev pub valueRead : ObjectId → ℕ → Read → Option Value
 valueRead i p blank = none
 valueRead i p (whole f) = valueIn i p f
@@ -124,6 +126,7 @@ nextPending marks at zero (b ∷ t) =
     ]
 nextPending marks at (suc k) (b ∷ t) = nextPending marks (suc at) k t
 
+-- settled frames go before pending ones
 abbrev pub orElse : Option Load → Option Load → Option Load
 orElse (some u) o = some u
 orElse none o = o

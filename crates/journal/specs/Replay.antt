@@ -32,6 +32,7 @@ pub record StateOf (A : Type 0) : Type 0 where
 abbrev pub state : {A : Type 0} → List (ObjectOf A) → List (EntryOf A) → StateOf A
 state os ps = record { objects = os; pending = ps }
 
+-- with the bytes for the value
 abbrev pub Object : Type 0
 Object = ObjectOf (List ℕ)
 
@@ -43,6 +44,7 @@ State = StateOf (List ℕ)
 
 -- ---- changes applied to objects
 
+-- objects stay by rising id, and a value put replaces the old one; a delete of an id that isn't there does nothing
 unfoldable pub insert : {A : Type 0} → ObjectId → A → List (ObjectOf A) → List (ObjectOf A)
 insert i v [] = object i v ∷ []
 insert i v (o ∷ os) =
@@ -96,6 +98,7 @@ next s (commit h) = state (changeAll (listOf h (s .pending)) (s .objects)) (with
 next s (abort h) = state (s .objects) (without h (s .pending))
 next s (settled i v) = state (s .objects ++ (object i v ∷ [])) (s .pending)
 
+-- frame after frame, at first with no objects and nothing pending
 unfoldable pub replayFrom : {A : Type 0} → StateOf A → List (FrameOf A) → StateOf A
 replayFrom s [] = s
 replayFrom s (f ∷ fs) = replayFrom (next s f) fs
@@ -105,6 +108,7 @@ replay fs = replayFrom (state [] []) fs
 
 -- ---- the frames that a state is written as
 
+-- an object as a settled frame, a pending change as its host's put or delete
 abbrev pub settledFrame : {A : Type 0} → ObjectOf A → FrameOf A
 settledFrame o = settled (o .id) (o .value)
 

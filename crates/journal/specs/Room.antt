@@ -19,6 +19,7 @@ used s = usedBy (s .objects)
 abbrev pub claimed : State → ℕ
 claimed s = used s + total (map pendingFrame (s .pending))
 
+-- a host counts once, however much it has pending
 abbrev pub one : Bool → ℕ
 one true = 1
 one false = 0

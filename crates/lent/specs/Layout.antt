@@ -19,6 +19,7 @@ use Rattle.board.specs.Record.{cursor}
 
 -- ---- places
 
+-- where each part starts. Before the places: phase 1, last 2, block 1, end 2. A place takes 2, the job 19, the cursor 9.
 abbrev pub placesAt : ℕ
 placesAt = 6
 
@@ -46,6 +47,7 @@ phases = Unmounted ∷ Idle ∷ Busy Wipe ∷ Busy Open ∷ Busy Copy ∷ Busy S
 abbrev pub phaseIn : ℕ → Phase
 phaseIn b = getD phases b Unmounted
 
+-- n numbers of two bytes; a flag is set unless its byte is 0
 unfoldable pub wordsIn : ℕ → List ℕ → List ℕ
 wordsIn zero l = []
 wordsIn (suc n) l = wordAt l 0 ∷ wordsIn n (drop 2 l)
@@ -57,6 +59,7 @@ flagIn b = not (eqb b 0)
 abbrev pub frameIn : List ℕ → List ℕ
 frameIn l = buffer (take maxFrame l)
 
+-- job, cursor and record: each field at its offset, in the order in which they are declared
 abbrev pub jobIn : List ℕ → Job
 jobIn l =
     record {
@@ -89,6 +92,7 @@ recordIn l =
 
 -- ---- to bytes
 
+-- a phase's place in `phases`
 abbrev pub stageByte : Stage → ℕ
 stageByte Wipe = 2
 stageByte Open = 3
@@ -102,6 +106,7 @@ phaseByte Unmounted = 0
 phaseByte Idle = 1
 phaseByte (Busy s) = stageByte s
 
+-- numbers as two bytes each; a flag as 1 or 0
 unfoldable pub wordBytes : List ℕ → List ℕ
 wordBytes [] = []
 wordBytes (w ∷ ws) = u16le w ++ wordBytes ws
@@ -109,6 +114,7 @@ wordBytes (w ∷ ws) = u16le w ++ wordBytes ws
 abbrev pub flagByte : Bool → ℕ
 flagByte b = cond b 1 0
 
+-- the bytes before the places, of the job, of the cursor, and of the whole record: each field where it is read
 abbrev pub headBytes : Record → List ℕ
 headBytes r = phaseByte (r .phase) ∷ (u16le (r .last) ++ (r .block ∷ u16le (r .end)))
 
@@ -129,6 +135,7 @@ recordInto r l = cond (eqb (length l) recordSize) (bytesOf r) l
 
 -- ---- the numbers of a record are those its fields can hold, and its arrays have their lengths
 
+-- arrays: of u16, of n u8, of n u16
 abbrev pub Words : List ℕ → Type 0
 Words [] = Unit {0}
 Words (w ∷ ws) = (w < 65536) × Words ws
@@ -139,6 +146,7 @@ SomeBytes n l = (length l ≡ n) × Bytes l
 abbrev pub SomeWords : ℕ → List ℕ → Type 0
 SomeWords n l = (length l ≡ n) × Words l
 
+-- each number is one that its field can hold, each array has its length
 pub record JobFits (j : Job) : Type 0 where
   pub wipe : SomeBytes 2 (j .wipe)
   pub wipes : j .wipes < 256

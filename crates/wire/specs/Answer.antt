@@ -6,6 +6,7 @@ use Rattle.wire.specs.declared.Refusal.the-variants as refusal
 use Rattle.wire.specs.declared.Answer.{Answer}
 use Rattle.wire.specs.declared.Answer.the-variants.{Done, More, Refused}
 
+-- the table's numbers, each with what it is given for
 abbrev pub refusalNumber : Refusal → ℕ
 refusalNumber refusal.Malformed = 1  -- message malformed: length, kind, id, value length or page
 refusalNumber refusal.NoStore = 2  -- unmounted record; for mount, no valid half and none foreign

@@ -18,12 +18,14 @@ use Rattle.wire.specs.declared.Parsed.the-variants.{Is, Malformed}
 abbrev pub wordAt : List ℕ → ℕ → ℕ
 wordAt m i = le16 (getD m i 0) (getD m (i + 1) 0)
 
+-- a body's id, and a put's value: all that follows the id
 abbrev pub idIn : List ℕ → ObjectId
 idIn m = record { 0 = wordAt m 4 }
 
 abbrev pub valueIn : List ℕ → List ℕ
 valueIn m = drop 6 m
 
+-- a request if its body is as its kind asks, else malformed
 abbrev pub isIf : Bool → Request → Parsed
 isIf true q = Is q
 isIf false q = Malformed
@@ -32,6 +34,7 @@ isIf false q = Malformed
 abbrev pub onlyId : List ℕ → Bool
 onlyId m = eqb (length m) 6 && leb (wordAt m 4) idMax
 
+-- a commit and an abort are length and kind alone
 abbrev pub noBody : List ℕ → Bool
 noBody m = eqb (length m) 4
 
@@ -69,6 +72,7 @@ parse m = elim (leb 4 (length m) && eqb (wordAt m 0) (length m)) [ true ↦ ofKi
 
 -- ---- the log page
 
+-- "Log page 1 writes 14 bytes to the lent reply"
 abbrev pub pageLen : ℕ
 pageLen = 14
 
