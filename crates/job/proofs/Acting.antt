@@ -1,13 +1,13 @@
 -- A flash step by its block and offset; the writes that open and seal a block, by number.
 use mathlib.Core.Path.{_≡_, refl, sym, ap, _∙_}
 use mathlib.Core.List.{List}
-use mathlib.Core.Bool.{Bool, true, false, cond, _&&_}
+use mathlib.Core.Bool.{Bool, true, false, cond}
 use Prim.Native.Nat.{ℕ, zero, suc, _+_, _*_, _≤_, _<_}
 use native.Mathlib.Omega.{arith}
 use native.Mathlib.Nat.{zero-mul, one-mul}
 use lib.Dec.{ltb}
 use borrow.Author.Tests.{lt-ltb, le-ltb}
-use Rattle.flash.specs.Flash.{Step, apply, sizeOf, within, blockOf, offsetOf, blocks, Write, write, writes}
+use Rattle.flash.specs.Flash.{Step, apply, sizeOf, within, blockOf, offsetOf, blocks, write, writes}
 use Rattle.flash.proofs.Cases.{and-both, and-no-left, and-no-right}
 use Rattle.journal.specs.Block.{openWrite, sealWrite, stateAt, inTransfer, validData}
 use Rattle.job.specs.Code.{did}

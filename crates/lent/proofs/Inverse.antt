@@ -2,11 +2,11 @@
 use mathlib.Core.Path.{_≡_, refl, sym, ap, _∙_}
 use mathlib.Core.List.{List, [], _∷_, _++_, append-assoc, append-nil}
 use mathlib.Core.Bool.{Bool, true, false}
-use Prim.Native.Nat.{ℕ, zero, suc, _+_, _-_, _*_, _/_, _%_, _<_}
+use Prim.Native.Nat.{ℕ, zero, suc, _+_, _-_, _/_, _%_, _<_}
 use native.Mathlib.Omega.{arith}
-use lib.ListN.{length, getD, take, drop, length-append}
+use lib.ListN.{length, getD, drop, length-append}
 use lib.Seq.{take-at, getD-at, drop-append-add}
-use Rattle.flash.specs.Bytes.{Bytes, u16le, u32le, le16, le32}
+use Rattle.flash.specs.Bytes.{Bytes, u32le, le16, le32}
 use Rattle.flash.proofs.Blank.{bytes-append}
 use Rattle.frame.specs.Frame.{maxFrame}
 use Rattle.wire.specs.Message.{wordAt}

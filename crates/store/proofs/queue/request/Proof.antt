@@ -1,5 +1,5 @@
 -- A request: refused at the gate, refused by the block or the message, or served.
-use mathlib.Core.Path.{_≡_, refl, sym, ap, _∙_}
+use mathlib.Core.Path.{sym, ap, _∙_}
 use mathlib.Core.List.{List}
 use Prim.Native.Nat.{ℕ}
 use native.Mathlib.Omega.{arith}
@@ -10,7 +10,7 @@ use Rattle.journal.specs.Block.{blockState}
 use Rattle.journal.specs.Survey.{surveyOf, placesIn}
 use Rattle.board.specs.Queue.{requestOn}
 use Rattle.board.proofs.Images.{sized-of}
-use Rattle.store.proofs.Images.{all-bytes, same-inside}
+use Rattle.store.proofs.Images.{all-bytes}
 use Rattle.store.proofs.Asking.{Passed, passed, looks, shut}
 use Rattle.store.proofs.Outcomes.{with-reply, refused-all}
 use Rattle.store.proofs.Handing.{Looked, not-served, served-says, served-outcome, served-reply}
