@@ -33,6 +33,7 @@ use Rattle.board.specs.Queue.{Held, held, needsRoom, requestOn}
 use Rattle.board.specs.Exec.{Call, request, step, mount, format, exec}
 use Rattle.board.specs.Plan.{Follows, formatPlan, mountPlan, mountedAt, framePlan, framedAt}
 use Rattle.board.specs.Table.{frameFor}
+use Rattle.board.specs.Claim.{ByteCalls}
 
 abbrev pub Accepted : Answer → Type 0
 Accepted Done = Unit {0}
@@ -112,18 +113,11 @@ AllPlanned img r [] = Unit {0}
 AllPlanned img r (c ∷ cs) =
     let o : Out = exec img r c in Planned img r c o × AllPlanned (o .image) (o .board) cs
 
-abbrev pub ByteMessages : List Call → Type 0
-ByteMessages [] = Unit {0}
-ByteMessages (request h m reply ∷ cs) = Bytes m × ByteMessages cs
-ByteMessages (step ∷ cs) = ByteMessages cs
-ByteMessages (mount ∷ cs) = ByteMessages cs
-ByteMessages (format ∷ cs) = ByteMessages cs
-
 -- from a mount or a format on, accepted or not, of any image of an allowed length
 pub record PlannedFrom : Type 0 where
-  pub from-mount : (img : List ℕ) (cs : List Call) → Bytes img → allowed (length img) ≡ true → ByteMessages cs
+  pub from-mount : (img : List ℕ) (cs : List Call) → Bytes img → allowed (length img) ≡ true → ByteCalls cs
       → AllPlanned img (mountOn img .board) cs
-  pub from-format : (img : List ℕ) (cs : List Call) → Bytes img → allowed (length img) ≡ true → ByteMessages cs
+  pub from-format : (img : List ℕ) (cs : List Call) → Bytes img → allowed (length img) ≡ true → ByteCalls cs
       → AllPlanned img (formatOn img .board) cs
 
 -- ---- programming only clears bits, on every record and image

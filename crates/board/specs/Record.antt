@@ -50,10 +50,9 @@ unmounted = resting Unmounted 0 0 0
 abbrev pub idle : ℕ → ℕ → ℕ → Record
 idle l k e = resting Idle l k e
 
--- a job not yet begun, on block k whose whole frames run to e: the first id to copy, the first offset to look at for pending
--- frames, and the bytes of the frame to append
-abbrev pub busy : ℕ → ℕ → ℕ → List ℕ → Job → ℕ → ℕ → List ℕ → Record
-busy l k e places j id source bytes =
+-- a job not yet begun, its frame to append in a buffer
+abbrev pub busyWith : ℕ → ℕ → ℕ → List ℕ → Job → ℕ → ℕ → List ℕ → Record
+busyWith l k e places j id source frame =
     record {
       phase = Busy Wipe;
       last = l;
@@ -63,8 +62,13 @@ busy l k e places j id source bytes =
       job = j;
       cursor = cursor 0 headerLen id source 0 0;
       unit = noFrame;
-      frame = buffer bytes;
+      frame = frame;
     }
+
+-- a job not yet begun, on block k whose whole frames run to e: the first id to copy, the first offset to look at for pending
+-- frames, and the bytes of the frame to append
+abbrev pub busy : ℕ → ℕ → ℕ → List ℕ → Job → ℕ → ℕ → List ℕ → Record
+busy l k e places j id source bytes = busyWith l k e places j id source (buffer bytes)
 
 -- the same job in a stage, at a cursor
 abbrev pub inStage : Stage → Cursor → Record → Record

@@ -1,8 +1,8 @@
 // Board records: each kind is built in one place. A record's numbers go by themselves, its arrays apart.
 ghost use mathlib.Core.Path.{_≡_};
-ghost use Rattle.board.specs.Record.{noPlaces, noFrame, noJob, cursor, resting, unmounted, idle, answerOf};
+ghost use Rattle.board.specs.Record.{noPlaces, noFrame, noJob, cursor, resting, unmounted, busyWith, answerOf};
 ghost use Rattle.board.specs.Step.{first, enterWipe};
-ghost use Rattle.job.specs.Code.{busyWith, numbersOf, assemble, going, over, staying, leaves, outcome, goAppend, landedOn, goDrop, goOpen, goWipe};
+ghost use Rattle.job.specs.Code.{numbersOf, assemble, going, over, staying, leaves, outcome, goAppend, landedOn, goDrop, goOpen, goWipe};
 use crate::Outcome;
 use board::Cursor;
 use board::Job;
@@ -96,13 +96,6 @@ pub fn unmounted() -> Record
     ensures { λ r. ⌜ r ≡ unmounted ⌝ }
 {
     resting(Phase::Unmounted, 0, 0, 0)
-}
-
-// The image's length less one, the current block and the end of its whole frames.
-pub fn idle(last: u16, block: u8, end: u16) -> Record
-    ensures { λ r. ⌜ r ≡ idle last block end ⌝ }
-{
-    resting(Phase::Idle, last, block, end)
 }
 
 // A job not yet begun: the first id to copy, the first offset to look at for pending frames, and the frame to append.

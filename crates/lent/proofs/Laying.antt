@@ -12,7 +12,7 @@ use Rattle.wire.specs.Code.{overlay}
 use Rattle.wire.proofs.Laying.{to-end}
 use Rattle.frame.specs.Frame.{maxFrame}
 use Rattle.board.specs.declared.Record.{Record}
-use Rattle.lent.specs.Layout.{placesAt, jobAt, cursorAt, unitAt, frameAt, recordSize, wordBytes, headBytes, jobBytes, cursorBytes, bytesOf}
+use Rattle.lent.specs.Layout.{placesAt, jobAt, cursorAt, unitAt, frameAt, recordSize, wordBytes, headBytes, jobBytes, cursorBytes, recordBytes}
 use Rattle.lent.specs.Code.{laidAt}
 use Rattle.lent.proofs.Words.{length-word-bytes, next-word-bytes}
 
@@ -116,8 +116,8 @@ module _ (r : Record) (l x₁ x₂ x₃ x₄ x₅ x₆ h j c : List ℕ) (eh : h
     (e₁ : x₁ ≡ laidAt 0 h l) (e₂ : x₂ ≡ laidAt placesAt (wordBytes (r .places)) x₁) (e₃ : x₃ ≡ laidAt jobAt j x₂) (e₄ : x₄ ≡ laidAt cursorAt c x₃)
     (e₅ : x₅ ≡ laidAt unitAt (r .unit) x₄) (e₆ : x₆ ≡ laidAt frameAt (r .frame) x₅) where
   pub encoded : length (r .places) ≡ 256 → length (r .unit) ≡ maxFrame → length (r .frame) ≡ maxFrame → length j ≡ 19
-      → length l ≡ recordSize → x₆ ≡ bytesOf r
-  unfolding bytesOf
+      → length l ≡ recordSize → x₆ ≡ recordBytes r
+  unfolding recordBytes
   encoded np nu nf nj nl =
       let b : length (wordBytes (r .places)) ≡ 512 = length-word-bytes (r .places) ∙ rw np in
       e₆ ∙ rw (e₅, e₄, e₃, e₂, e₁, eh, ej, ec)

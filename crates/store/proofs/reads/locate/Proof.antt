@@ -11,7 +11,7 @@ use lib.ListN.{length}
 use Rattle.flash.specs.Flash.{sizeOf}
 use Rattle.journal.specs.Survey.{surveyOf, placesIn}
 use Rattle.board.specs.Record.{noStretch}
-use Rattle.store.proofs.Images.{all-bytes}
+use Rattle.frame.proofs.Misfits.{bytes-of}
 use Rattle.store.proofs.Asking.{Passed, passed, looks, shut}
 use Rattle.store.proofs.Handing.{Looked, none-read, not-served, read-stretch, read-inside, located}
 use Rattle.store.proofs.reads.locate.Statement.{statement}
@@ -23,7 +23,7 @@ opened c = passed (now (c .before .before .before .before .before .args .image))
 
 -- the current block, which is to be surveyed
 bytes : (c : tie.After-block-of) → Bytes (now (c .before .before .before .before .before .before .before .args .image))
-bytes c = all-bytes (now (c .before .before .before .before .before .before .before .args .image)) (λ i. c .before .before .before .before .before .before .shared-slice-known .given i .fits)
+bytes c = bytes-of (now (c .before .before .before .before .before .before .before .args .image)) (λ i. c .before .before .before .before .before .before .shared-slice-known .given i .fits)
 
 looked : (c : tie.After-hear) → Looked (now (c .before .before .before .before .before .before .before .before .before .before .args .image)) (c .before .before .before .before .before .before .before .before .before .before .args .board) (c .before .before .before .before .before .before .before .before .before .before .args .host) (now (c .before .before .before .before .before .before .before .before .before .before .args .message)) (c .before .survey-block .result) (c .hear .result)
 looked c =
