@@ -1,18 +1,18 @@
 -- The book beside replay: what an accepted request's frame does to both.
 use mathlib.Core.Path.{_≡_, refl, sym, ap, subst, _∙_}
 use mathlib.Core.List.{List, [], _∷_, _++_}
-use mathlib.Core.Bool.{Bool, true, false}
+use mathlib.Core.Bool.{true, false}
 use Prim.Native.Nat.{ℕ, _+_, _*_, _≤_}
 use native.Mathlib.Omega.{arith}
-use lib.Dec.{eqb, ltb}
-use borrow.Author.Tests.{eqb-true, eqb-false, ltb-false}
+use lib.Dec.{eqb}
+use borrow.Author.Tests.{eqb-false, ltb-false}
 use Rattle.flash.proofs.Cases.{on-test}
 use Rattle.frame.specs.declared.Host.{Host}
 use Rattle.frame.specs.Frame.{hostMax, Change, put, delete, Frame, change, commit, abort, frameLen, deleteLen, endLen}
 use Rattle.journal.specs.Replay.{Entry, entry, State, next, listOf, without, isOpen, changeAll}
 use Rattle.journal.specs.Room.{claimed, openHosts, noRoom, spare}
 use Rattle.journal.proofs.Lists.{list-own, list-other, list-snoc, list-snoc-other, not-open}
-use Rattle.journal.proofs.Room.{kept, commit-room, abort-room, change-room, kept-change, kept-commit, kept-abort, kept-claimed, fewer-without, open-pos}
+use Rattle.journal.proofs.Room.{host-is, kept, commit-room, abort-room, change-room, kept-change, kept-commit, kept-abort, kept-claimed, fewer-without, open-pos}
 use Rattle.board.specs.declared.Record.{Record}
 use Rattle.board.specs.Book.{Book, book, UnderWay, nothing, committing, withList, join, finishing}
 use Rattle.board.proofs.Invariant.{Lists, IdleBook}
@@ -26,16 +26,12 @@ with-own l h g cs t = rw (t, withList)
 with-other : (l : Host → List Change) (h g : Host) (cs : List Change) → eqb (h .0) (g .0) ≡ false → withList l h cs g ≡ l g
 with-other l h g cs t = rw (t, withList)
 
--- one host by its number
-same-host : (h g : Host) → eqb (h .0) (g .0) ≡ true → h ≡ g
-same-host h g t = ap (λ (n : ℕ). record { 0 = n }) (eqb-true (h .0) (g .0) t)
-
 -- lists that are the book's but for one host's are those of the book with that list
 lists-with : (ps qs : List Entry) (b : Book) (h : Host) (cs : List Change) (w : UnderWay) → Lists ps b → listOf h qs ≡ cs
     → ((g : Host) → (h .0 ≡ g .0 → ⊥) → listOf g qs ≡ listOf g ps) → Lists qs (book (b .objects) (withList (b .lists) h cs) w)
 lists-with ps qs b h cs w l own other g k =
     on-test (eqb (h .0) (g .0))
-    (λ t. subst (λ (i : Host). listOf i qs ≡ cs) (same-host h g t) own ∙ sym (with-own (b .lists) h g cs t))
+    (λ t. subst (λ (i : Host). listOf i qs ≡ cs) (host-is h g t) own ∙ sym (with-own (b .lists) h g cs t))
     (λ t. other g (eqb-false (h .0) (g .0) t) ∙ l g k ∙ sym (with-other (b .lists) h g cs t))
 
 pub lists-join : (ps : List Entry) (b : Book) (h : Host) (c : Change) → h .0 ≤ hostMax → Lists ps b → Lists (ps ++ (entry h c ∷ [])) (join b h c)

@@ -57,10 +57,10 @@ pub data Decided (s : ℕ) (img : List ℕ) : Type 0 where
   none-valid : NoStore s img → mountOn img ≡ refuse refusal.NoStore img unmounted [] → Decided s img
   at-store : (x : Store) → Taken s img x → Decided s img
 
-abbrev foundIn : BlockState → BlockState → List Found
+abbrev pub foundIn : BlockState → BlockState → List Found
 foundIn a b = record { number = 0; state = a } ∷ record { number = 1; state = b } ∷ []
 
-abbrev store : ℕ → ℕ → List Frame → Tail → Store
+abbrev pub store : ℕ → ℕ → List Frame → Tail → Store
 store k t fs c = record { number = k; time = t; frames = fs; tail = c }
 
 found-is : {s : ℕ} {img : List ℕ} → Sized s img → allFound img ≡ foundIn (blockState (block s 0 img)) (blockState (block s 1 img))

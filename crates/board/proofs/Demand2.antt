@@ -31,7 +31,8 @@ use Rattle.board.specs.Queue.{requestOn}
 use Rattle.board.specs.Exec.{Call, request, step, mount, format}
 use Rattle.board.specs.Plan.{Follows, formatPlan, mountPlan, mountedAt}
 use Rattle.board.specs.Demand1.{Rests, RefusalsUntouched, AtMostOneStep}
-use Rattle.board.specs.Demand2.{Accepted, Mounts, OneStore, LandsAt, RequestsPlanned, StepLands as OneLands, Formats, AllPlanned, ByteMessages, PlannedFrom, ClearsOnly}
+use Rattle.board.specs.Claim.{ByteCalls}
+use Rattle.board.specs.Demand2.{Accepted, Mounts, OneStore, LandsAt, RequestsPlanned, StepLands as OneLands, Formats, AllPlanned, PlannedFrom, ClearsOnly}
 use Rattle.board.proofs.Images.{Sized, size-of, sized-of, sized-as}
 use Rattle.board.proofs.Invariant.{StepLands, Ready, InJob, Sound}
 use Rattle.board.proofs.Outcomes.{format-begins, step-resting}
@@ -232,15 +233,15 @@ formats img ok =
 same-image : {s : ℕ} {img : List ℕ} (o : Out) → o .image ≡ img → Steady s img (o .board) → Kept s o
 same-image {s} o e v = subst (λ (l : List ℕ). Steady s l (o .board)) (sym e) v
 
-all-planned : {s : ℕ} {img : List ℕ} {r : Record} → Steady s img r → (cs : List Call) → ByteMessages cs → AllPlanned img r cs
+all-planned : {s : ℕ} {img : List ℕ} {r : Record} → Steady s img r → (cs : List Call) → ByteCalls cs → AllPlanned img r cs
 unfolding AtMostOneStep RequestsPlanned OneStore
 all-planned v [] by = tt
 all-planned {s} {img} {r} v (request h m reply ∷ cs) (bm, by) =
     ((requests-planned img r reply h m (v .bytes) bm, request-done v h m reply bm), all-planned (request-kept v h m reply bm) cs by)
-all-planned v (step ∷ cs) by = let y = step-done v in (y .0, all-planned (y .1) cs by)
-all-planned {s} {img} {r} v (mount ∷ cs) by =
+all-planned v (step ∷ cs) (_, by) = let y = step-done v in (y .0, all-planned (y .1) cs by)
+all-planned {s} {img} {r} v (mount ∷ cs) (_, by) =
     (one-store img (v .bytes) (v .sized .ok), all-planned (same-image (mountOn img) (at-most-one-step img r mount) (mount-kept (v .sized) (v .bytes))) cs by)
-all-planned {s} {img} {r} v (format ∷ cs) by =
+all-planned {s} {img} {r} v (format ∷ cs) (_, by) =
     (formats img (v .sized .ok), all-planned (same-image (formatOn img) (at-most-one-step img r format) (format-kept (v .sized) (v .bytes))) cs by)
 
 pub planned-from : PlannedFrom

@@ -1,9 +1,9 @@
 -- An image that passes refusal 11 is as an idle record of a run has it, whoever made the record.
 use mathlib.Core.Path.{_≡_, refl, sym, ap, subst, _∙_}
-use mathlib.Core.List.{List, [], _∷_, _++_}
-use mathlib.Core.Option.{Option, none, some}
+use mathlib.Core.List.{List}
+use mathlib.Core.Option.{some}
 use mathlib.Core.Bool.{Bool, true, false, _&&_, _||_}
-use Prim.Native.Nat.{ℕ, zero, suc, _+_, _*_, _≤_, _<_}
+use Prim.Native.Nat.{ℕ, zero, suc, _+_, _*_, _<_}
 use native.Mathlib.Omega.{arith}
 use lib.Dec.{eqb, ltb, leb}
 use lib.ListN.{length, replicate}
@@ -14,7 +14,7 @@ use Rattle.flash.proofs.Cases.{on-test, and-left, and-right}
 use Rattle.flash.proofs.Blank.{all-ff}
 use Rattle.flash.proofs.Image.{length-block, bytes-block}
 use Rattle.frame.specs.Frame.{Frame, endLen}
-use Rattle.frame.specs.Reader.{Tail, clean, cut, bad}
+use Rattle.frame.specs.Reader.{clean, cut, bad}
 use Rattle.journal.specs.Replay.{replay}
 use Rattle.journal.specs.Block.{BlockState, blank, inProgress, valid, foreign, blockState}
 use Rattle.journal.specs.Room.{claimed, openHosts}

@@ -1,16 +1,16 @@
 -- Images of an allowed length, and what a list of steps does to each block.
-use mathlib.Core.Path.{_≡_, refl, sym, ap, subst, _∙_}
-use mathlib.Core.List.{List, [], _∷_, _++_, map}
+use mathlib.Core.Path.{_≡_, refl, ap, _∙_}
+use mathlib.Core.List.{List, [], _∷_, _++_}
 use mathlib.Core.Bool.{true, _&&_}
-use Prim.Native.Nat.{ℕ, zero, suc, _+_, _*_, _/_, _%_, _≤_, _<_}
+use Prim.Native.Nat.{ℕ, _+_, _*_, _%_, _≤_, _<_}
 use native.Mathlib.Omega.{arith}
 use lib.Dec.{eqb, leb}
-use lib.ListN.{length, take, drop, replicate}
+use lib.ListN.{length}
 use borrow.Author.Tests.{eqb-true, leb-true}
 use Rattle.flash.specs.Bytes.{Bytes}
-use Rattle.flash.specs.Flash.{Step, program, erase, apply, applyAll, block, blocks, sizeOf, programAt, Write, writeStep, writeAll}
+use Rattle.flash.specs.Flash.{Step, apply, applyAll, block, blocks, sizeOf, programAt, Write, writeAll}
 use Rattle.flash.proofs.Cases.{and-left, and-right}
-use Rattle.flash.proofs.Image.{in-image, length-apply, bytes-apply, length-block, block-program, other-program, block-erase, other-erase}
+use Rattle.flash.proofs.Image.{in-image, length-apply, bytes-apply, block-program, other-program}
 use Rattle.flash.proofs.Offsets.{Below}
 use Rattle.board.specs.Record.{allowed}
 use Rattle.board.specs.Plan.{onBlock}

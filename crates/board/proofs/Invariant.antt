@@ -1,6 +1,6 @@
 -- What holds of image, record and book between the calls of a run.
 use mathlib.Core.Path.{_≡_}
-use mathlib.Core.List.{List, []}
+use mathlib.Core.List.{List}
 use mathlib.Core.Bool.{Bool, true}
 use Prim.Native.Nat.{ℕ, suc, _+_, _*_, _≤_, _<_}
 use lib.ListN.{length, getD, take, drop, replicate}
@@ -9,7 +9,7 @@ use Rattle.flash.specs.Flash.{Step, program, erase, applyAll, block, blocks, wr
 use Rattle.frame.specs.declared.Host.{Host}
 use Rattle.frame.specs.Frame.{Frame, hostMax, deleteLen, endLen}
 use Rattle.frame.specs.Reader.{Tail, clean}
-use Rattle.journal.specs.Replay.{Object, Entry, State, replay, listOf}
+use Rattle.journal.specs.Replay.{Object, Entry, replay, listOf}
 use Rattle.journal.specs.Block.{BlockState, blank, inProgress, valid, foreign, blockState}
 use Rattle.journal.specs.Room.{claimed, openHosts}
 use Rattle.journal.proofs.States.{Contents}
@@ -21,7 +21,7 @@ use Rattle.board.specs.declared.Record.{Record}
 use Rattle.board.specs.Record.{idle}
 use Rattle.board.specs.Mount.{endOf}
 use Rattle.board.specs.Plan.{Follows}
-use Rattle.board.specs.Book.{Book, UnderWay, nothing, finishing}
+use Rattle.board.specs.Book.{Book, nothing, finishing}
 use Rattle.board.proofs.Images.{Sized}
 
 -- ---- blocks

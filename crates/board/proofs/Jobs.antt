@@ -1,9 +1,8 @@
 -- A job is begun, does the next step of its plan at each call, and ends.
 use mathlib.Core.Path.{_≡_, refl, sym, ap, subst, _∙_}
-use mathlib.Core.List.{List, [], _∷_, _++_}
+use mathlib.Core.List.{List, [], _∷_}
 use mathlib.Core.Logic.{_⊎_, inl, inr}
-use mathlib.Core.Bool.{Bool, true, false}
-use Prim.Native.Nat.{ℕ, zero, suc, _+_, _≤_, _<_}
+use Prim.Native.Nat.{ℕ, suc, _≤_, _<_}
 use native.Mathlib.Omega.{arith}
 use lib.Dec.{ltb}
 use lib.ListN.{length, getD, take, drop, drop-of-length-le}
@@ -13,10 +12,10 @@ use Rattle.flash.specs.Flash.{Step, erase, apply, applyAll, sizeOf}
 use Rattle.flash.proofs.Cases.{on-test}
 use Rattle.wire.specs.declared.Answer.the-variants.{Done, More}
 use Rattle.board.specs.declared.Phase.{Phase}
-use Rattle.board.specs.declared.Phase.the-variants.{Unmounted, Idle, Busy}
+use Rattle.board.specs.declared.Phase.the-variants.{Idle}
 use Rattle.board.specs.declared.Record.{Record}
-use Rattle.board.specs.Record.{Out, out, answerOf, answerIn}
-use Rattle.board.specs.Step.{stepOn, enterWipe, begin}
+use Rattle.board.specs.Record.{out, answerOf, answerIn}
+use Rattle.board.specs.Step.{stepOn}
 use Rattle.board.specs.Plan.{Follows}
 use Rattle.board.proofs.Images.{Sized, size-of, apply-append}
 use Rattle.board.proofs.Invariant.{InJob}

@@ -1,20 +1,17 @@
 -- The invariant of runs: how it is had in each phase, that it keeps the objects safe, and that a step call keeps it.
-use mathlib.Core.Path.{_≡_, refl, sym, ap, subst, _∙_}
-use mathlib.Core.List.{List, [], _∷_, _++_}
+use mathlib.Core.Path.{_≡_, refl, sym, ap, subst}
+use mathlib.Core.List.{List, []}
 use mathlib.Core.Logic.{_⊎_, inl, inr}
-use mathlib.Core.Bool.{Bool, true, false}
-use Prim.Native.Nat.{ℕ, zero, suc, _+_, _≤_, _<_}
+use mathlib.Core.Bool.{Bool, true}
+use Prim.Native.Nat.{ℕ}
 use native.Mathlib.Omega.{arith}
-use lib.ListN.{length, replicate}
 use Rattle.flash.specs.Bytes.{Bytes}
-use Rattle.flash.specs.Flash.{Step, apply, applyAll, block, blocks}
+use Rattle.flash.specs.Flash.{apply, block}
 use Rattle.flash.proofs.Image.{length-apply, bytes-apply}
-use Rattle.frame.specs.Frame.{deleteLen, endLen}
 use Rattle.frame.specs.Reader.{clean}
-use Rattle.journal.specs.Replay.{Object, replay}
-use Rattle.journal.specs.Block.{BlockState, blank, blockState}
+use Rattle.journal.specs.Replay.{Object}
 use Rattle.wire.specs.declared.Answer.{Answer}
-use Rattle.wire.specs.declared.Answer.the-variants.{Done, More, Refused}
+use Rattle.wire.specs.declared.Answer.the-variants.{Done, More}
 use Rattle.wire.specs.declared.Refusal.{Refusal}
 use Rattle.board.specs.declared.Stage.{Stage}
 use Rattle.board.specs.declared.Phase.{Phase}
@@ -26,10 +23,10 @@ use Rattle.board.specs.Demand1.{Rests}
 use Rattle.board.specs.Book.{Book, UnderWay, nothing, committing, formatting, finishing, enterStep}
 use Rattle.board.specs.Claim.{trackStep, Never}
 use Rattle.board.proofs.Images.{Sized, sized-as}
-use Rattle.board.proofs.Invariant.{Valid, Quiet, Others, Safe, no-valid, one-valid, two-valid, Ready, IdleBook, InJob, InPhase, Inv}
+use Rattle.board.proofs.Invariant.{Valid, Safe, no-valid, one-valid, two-valid, Ready, IdleBook, InJob, InPhase, Inv}
 use Rattle.board.proofs.Current.{blank-quiet}
 use Rattle.board.proofs.Outcomes.{step-resting}
-use Rattle.board.proofs.Jobs.{Stepped, job-step, Begun}
+use Rattle.board.proofs.Jobs.{Stepped, job-step}
 
 -- ---- the phase that an answer shows
 

@@ -7,23 +7,16 @@ use native.Mathlib.Omega.{arith}
 use lib.ListN.{length, length-append, length-map}
 use Rattle.flash.specs.Flash.{Step, erase, Write, writeStep, writes}
 use Rattle.flash.proofs.Programming.{length-writes}
-use Rattle.frame.specs.Frame.{Frame, encode, encodeAll, frameLen, total}
-use Rattle.frame.proofs.Encode.{length-encode, length-all}
+use Rattle.frame.specs.Frame.{Frame, encode, encodeAll, frameLen}
+use Rattle.frame.proofs.Encode.{length-encode}
 use Rattle.journal.specs.Replay.{State, framesOf, settledOnly, replay}
-use Rattle.journal.specs.Block.{build, sealWrites, headerLen}
+use Rattle.journal.specs.Block.{build}
 use Rattle.journal.specs.Room.{used, claimed}
 use Rattle.journal.proofs.Room.{frames-total, claimed-settled}
+use Rattle.journal.proofs.Building.{length-build}
 use Rattle.board.specs.Mount.{nextBlock, Found, Store, wipeList, needsTransfer}
 use Rattle.board.specs.Queue.{Held}
 use Rattle.board.specs.Plan.{onBlock, transferPlan, formatPlan, appendPlan, transferIf, mountPlan, framePlan}
-
--- ten writes for the header, one for each byte of a frame
-length-build : (time : ℕ) (fs : List Frame) → length (build time fs) ≡ 10 + total fs
-unfolding writes
-length-build time fs =
-    let e : length (writes headerLen (encodeAll fs) ++ sealWrites time) ≡ total fs + 5 =
-    length-append (writes headerLen (encodeAll fs)) (sealWrites time) ∙ ap (λ (n : ℕ). n + 5) (length-writes headerLen (encodeAll fs) ∙ length-all fs) in
-    omega arith
 
 -- "C - 5 steps"
 pub length-transfer : (k time : ℕ) (st : State) → length (transferPlan k time st) + 5 ≡ claimed st

@@ -1,14 +1,14 @@
 -- What an idle record of a run is found to hold, and what reads and the log say of it.
 use mathlib.Core.Path.{_≡_, refl, sym, ap, subst, _∙_}
-use mathlib.Core.List.{List, [], _∷_, _++_}
+use mathlib.Core.List.{List, _++_}
 use mathlib.Core.Option.{Option, none, some}
-use mathlib.Core.Bool.{Bool, true, false, _&&_, _||_}
-use Prim.Native.Nat.{ℕ, zero, suc, _+_, _*_, _≤_, _<_}
+use mathlib.Core.Bool.{Bool, true, _&&_, _||_}
+use Prim.Native.Nat.{ℕ, suc, _+_, _*_, _≤_, _<_}
 use native.Mathlib.Omega.{arith}
 use lib.Dec.{eqb, ltb, leb}
 use lib.ListN.{length, getD, take, drop, replicate}
 use lib.Seq.{drop-drop}
-use borrow.Author.Tests.{eq-eqb, le-leb, lt-ltb, eqb-false, ltb-true, ltb-false}
+use borrow.Author.Tests.{eq-eqb, le-leb, lt-ltb, eqb-false, ltb-true}
 use Rattle.flash.specs.Bytes.{allFF, u16le}
 use Rattle.flash.specs.Flash.{blocks, blockNumbers, block, sizeOf}
 use Rattle.flash.proofs.Cases.{on-test, and-both, or-left, or-right}
@@ -20,24 +20,23 @@ use Rattle.frame.specs.Frame.{Frame, idMax, endLen}
 use Rattle.frame.specs.Reader.{Tail}
 use Rattle.journal.specs.Replay.{Object, replay, lookup}
 use Rattle.journal.specs.Block.{blockState, header, validData}
-use Rattle.journal.specs.Room.{claimed, openHosts, used, usedBy}
+use Rattle.journal.specs.Room.{claimed, openHosts, usedBy}
 use Rattle.journal.specs.Index.{placesOf, valueAt}
 use Rattle.journal.proofs.States.{Contents, contents-valid}
 use Rattle.journal.proofs.Places.{Journal, Holds, place-law}
-use Rattle.wire.specs.declared.Answer.the-variants.{Done, Refused}
-use Rattle.wire.specs.declared.Refusal.the-variants as refusal
+use Rattle.wire.specs.declared.Answer.the-variants.{Done}
 use Rattle.wire.specs.declared.Page.the-variants.{Summary}
 use Rattle.wire.specs.declared.Request.{Request}
-use Rattle.wire.specs.declared.Request.the-variants.{Put, Delete, Commit, Abort, Read, Log}
+use Rattle.wire.specs.declared.Request.the-variants.{Read, Log}
 use Rattle.wire.specs.Message.{pageLen}
 use Rattle.board.specs.declared.Record.{Record}
-use Rattle.board.specs.Record.{Out, out, idle, refuse, Stretch}
+use Rattle.board.specs.Record.{Out, idle, Stretch}
 use Rattle.board.specs.Mount.{endOf}
 use Rattle.board.specs.Queue.{Held, held, heldBy, heldIn, heldIf, fitsRecord, sameImage, othersBlank, stretchOf, placeOf, serve}
 use Rattle.board.specs.Claim.{ReadSays, LogSays}
 use Rattle.board.proofs.Images.{Sized, size-of, sized-block}
 use Rattle.board.proofs.Invariant.{Others, Ready}
-use Rattle.board.proofs.Outcomes.{read-none, read-some, serve-log, log-short, log-done}
+use Rattle.board.proofs.Outcomes.{read-none, read-some, serve-log, log-done}
 
 -- ---- the image fits the record
 

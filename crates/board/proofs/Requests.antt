@@ -1,8 +1,7 @@
 -- A request call in a run: it keeps the invariant, is never refused with 4 or 11, and says what the book holds.
 use mathlib.Core.Path.{_≡_, refl, sym, ap, subst, _∙_}
-use mathlib.Core.List.{List, [], _∷_, _++_}
-use mathlib.Core.Option.{Option}
-use mathlib.Core.Bool.{Bool, true, false}
+use mathlib.Core.List.{List}
+use mathlib.Core.Bool.{Bool, true}
 use Prim.Native.Nat.{ℕ, _≤_}
 use native.Mathlib.Omega.{arith}
 use lib.Dec.{leb}
@@ -32,7 +31,7 @@ use Rattle.board.specs.Book.{Book, enterRequest, enterParsed}
 use Rattle.board.specs.Claim.{Never, RequestSays, ReadSays}
 use Rattle.board.proofs.Invariant.{IdleBook, Inv}
 use Rattle.board.proofs.Outcomes.{request-host, request-busy, request-unmounted, request-malformed, request-served}
-use Rattle.board.proofs.Keeping.{IsBusy, on-phase}
+use Rattle.board.proofs.Keeping.{on-phase}
 use Rattle.board.proofs.Replies.{heldOf, held-ready, read-says, log-says}
 use Rattle.board.proofs.Serving.{entered, Served, Legal, served}
 

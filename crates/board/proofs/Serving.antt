@@ -1,18 +1,17 @@
 -- A request keeps the invariant: its frame is begun, or nothing changes.
 use mathlib.Core.Path.{_≡_, refl, sym, ap, subst, _∙_}
-use mathlib.Core.List.{List, [], _∷_, _++_}
+use mathlib.Core.List.{List, []}
 use mathlib.Core.Option.{Option, none, some}
 use mathlib.Core.Bool.{Bool, true, false, _&&_}
-use Prim.Native.Nat.{ℕ, zero, suc, _+_, _≤_, _<_}
+use Prim.Native.Nat.{ℕ, _+_, _≤_, _<_}
 use native.Mathlib.Omega.{arith}
-use lib.Dec.{eqb, ltb, leb}
+use lib.Dec.{eqb, ltb}
 use lib.ListN.{length}
-use borrow.Author.Tests.{eqb-false, leb-true}
+use borrow.Author.Tests.{eqb-false}
 use Rattle.flash.specs.Bytes.{Bytes}
 use Rattle.flash.specs.Flash.{Step, applyAll, block, sizeOf}
 use Rattle.flash.proofs.Cases.{on-test}
 use Rattle.frame.specs.declared.Host.{Host}
-use Rattle.frame.specs.declared.ObjectId.{ObjectId}
 use Rattle.frame.specs.Frame.{hostMax, Change, put, delete, Frame, change, commit, abort, frameLen, OfHost, MayStand}
 use Rattle.journal.specs.Replay.{State, replay, lookup, next, isOpen}
 use Rattle.journal.specs.Block.{lastTime}
@@ -32,13 +31,13 @@ use Rattle.board.specs.Record.{Out, out, refuse, answerOf}
 use Rattle.board.specs.Step.{enterWipe, begin}
 use Rattle.board.specs.Queue.{Held, placeOf, needsRoom, appendJob, append, serve, serveEnd, serveChange}
 use Rattle.board.specs.Plan.{framePlan, framedAt}
-use Rattle.board.specs.Book.{Book, book, committing, withList, join, finishing, accept}
+use Rattle.board.specs.Book.{Book, book, withList, join, accept}
 use Rattle.board.specs.Claim.{Never}
 use Rattle.board.proofs.Images.{Sized, size-of}
-use Rattle.board.proofs.Invariant.{Safe, Ready, IdleBook, InJob, Inv}
+use Rattle.board.proofs.Invariant.{IdleBook, InJob, Inv}
 use Rattle.board.proofs.Outcomes.{append-worn, append-begins, change-refused, change-goes, end-goes, end-idle, log-short, log-done, serve-put, serve-delete, serve-commit, serve-abort, serve-log, read-none, read-some}
 use Rattle.board.proofs.Prefixes.{Each}
-use Rattle.board.proofs.Current.{Alone, After, Keeps}
+use Rattle.board.proofs.Current.{After, Keeps}
 use Rattle.board.proofs.Jobs.{job-starts}
 use Rattle.board.proofs.Keeping.{Working, inv-idle, inv-busy, ready-idle}
 use Rattle.board.proofs.Replies.{heldOf, journal-of}

@@ -12,7 +12,6 @@ use Rattle.flash.specs.Flash.{block, blocks, sizeOf}
 use Rattle.flash.proofs.Cases.{on-test}
 use Rattle.journal.specs.Block.{BlockState, blank, inProgress, valid, foreign, blockState}
 use Rattle.journal.proofs.States.{blank-is}
-use Rattle.wire.specs.declared.Refusal.the-variants as refusal
 use Rattle.board.specs.Mount.{Found, allFound, isBlank, wipeList}
 use Rattle.board.proofs.Images.{Sized, size-of}
 use Rattle.board.proofs.Invariant.{Others}

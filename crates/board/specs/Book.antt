@@ -1,6 +1,6 @@
 -- The book, document 01, "The book for demand 3": it is fed each call's arguments other than image and record, and its answer.
 use mathlib.Core.List.{List, [], _∷_, _++_}
-use mathlib.Core.Bool.{Bool, true, false}
+use mathlib.Core.Bool.{true, false}
 use Prim.Native.Nat.{ℕ}
 use lib.Dec.{eqb}
 use Rattle.frame.specs.declared.Host.{Host}

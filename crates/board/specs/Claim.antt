@@ -18,7 +18,6 @@ use Rattle.wire.specs.declared.Answer.{Answer}
 use Rattle.wire.specs.declared.Answer.the-variants.{Done, More, Refused}
 use Rattle.wire.specs.declared.Refusal.{Refusal}
 use Rattle.wire.specs.declared.Refusal.the-variants as refusal
-use Rattle.wire.specs.declared.Request.{Request}
 use Rattle.wire.specs.declared.Request.the-variants.{Put, Delete, Commit, Abort, Read, Log}
 use Rattle.wire.specs.declared.Parsed.{Parsed}
 use Rattle.wire.specs.declared.Parsed.the-variants.{Is, Malformed}

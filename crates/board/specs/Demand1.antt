@@ -3,16 +3,15 @@
 use mathlib.Core.List.{List, []}
 use mathlib.Core.Logic.{_⊎_}
 use mathlib.Core.Path.{_≡_}
-use Prim.Native.Nat.{ℕ, zero, suc, _+_, _≤_, _<_}
-use lib.ListN.{length}
+use Prim.Native.Nat.{ℕ, zero, suc, _<_}
 use Rattle.flash.specs.Flash.{Step, apply, sizeOf}
-use Rattle.wire.specs.declared.Answer.the-variants.{More, Refused}
+use Rattle.wire.specs.declared.Answer.the-variants.{Refused}
 use Rattle.wire.specs.declared.Refusal.{Refusal}
 use Rattle.wire.specs.declared.Refusal.the-variants as refusal
 use Rattle.board.specs.declared.Phase.{Phase}
 use Rattle.board.specs.declared.Phase.the-variants.{Unmounted, Idle, Busy}
 use Rattle.board.specs.declared.Record.{Record}
-use Rattle.board.specs.Record.{unmounted, noStretch, Out, out, answerOf}
+use Rattle.board.specs.Record.{unmounted, Out, out}
 use Rattle.board.specs.Step.{stepOn}
 use Rattle.board.specs.Exec.{Call, request, step, mount, format, exec}
 use Rattle.board.specs.Table.{firstOf, checks, refusalIn}

@@ -2,8 +2,8 @@
 -- only clears bits; refusals for room and wear are exact.
 use mathlib.Core.List.{List, [], _∷_, _++_}
 use mathlib.Core.Logic.{_⊎_, _↔_}
-use mathlib.Core.Option.{Option, none, some}
-use mathlib.Core.Bool.{Bool, true, false}
+use mathlib.Core.Option.{some}
+use mathlib.Core.Bool.{true}
 use mathlib.Core.Path.{_≡_}
 use Prim.Native.Nat.{ℕ, _+_, _-_, _*_, _≤_, _<_}
 use lib.Bits.{bitAnd}
@@ -13,7 +13,7 @@ use Rattle.flash.specs.Flash.{Step, program, erase, apply, applyAll, blocks, bl
 use Rattle.frame.specs.declared.Fault.{Fault}
 use Rattle.frame.specs.declared.Host.{Host}
 use Rattle.frame.specs.declared.ObjectId.{ObjectId}
-use Rattle.frame.specs.Frame.{Frame, put, delete, hostMax, putLen, deleteLen, endLen}
+use Rattle.frame.specs.Frame.{Frame, put, delete, hostMax, putLen}
 use Rattle.frame.specs.Reader.{Tail, clean}
 use Rattle.journal.specs.Replay.{replay, entry, settledOnly}
 use Rattle.journal.specs.Block.{valid, foreign, blockState, headerLen, stateAt, inTransfer, lastTime}
@@ -28,11 +28,12 @@ use Rattle.wire.specs.Message.{parse, valueIn}
 use Rattle.board.specs.declared.Phase.the-variants.{Idle}
 use Rattle.board.specs.declared.Record.{Record}
 use Rattle.board.specs.Record.{Out, allowed, idle}
-use Rattle.board.specs.Mount.{Found, allFound, Store, needsTransfer, mountOn, formatOn}
+use Rattle.board.specs.Mount.{allFound, Store, needsTransfer, mountOn, formatOn}
 use Rattle.board.specs.Queue.{Held, held, needsRoom, requestOn}
 use Rattle.board.specs.Exec.{Call, request, step, mount, format, exec}
 use Rattle.board.specs.Plan.{Follows, formatPlan, mountPlan, mountedAt, framePlan, framedAt}
 use Rattle.board.specs.Table.{frameFor}
+use Rattle.board.specs.Claim.{ByteCalls}
 
 -- any answer that is no refusal
 abbrev pub Accepted : Answer → Type 0
@@ -114,19 +115,11 @@ AllPlanned img r [] = Unit {0}
 AllPlanned img r (c ∷ cs) =
     let o : Out = exec img r c in Planned img r c o × AllPlanned (o .image) (o .board) cs
 
--- every message is bytes
-abbrev pub ByteMessages : List Call → Type 0
-ByteMessages [] = Unit {0}
-ByteMessages (request h m reply ∷ cs) = Bytes m × ByteMessages cs
-ByteMessages (step ∷ cs) = ByteMessages cs
-ByteMessages (mount ∷ cs) = ByteMessages cs
-ByteMessages (format ∷ cs) = ByteMessages cs
-
 -- from a mount or a format on, accepted or not, of any image of an allowed length
 pub record PlannedFrom : Type 0 where
-  pub from-mount : (img : List ℕ) (cs : List Call) → Bytes img → allowed (length img) ≡ true → ByteMessages cs
+  pub from-mount : (img : List ℕ) (cs : List Call) → Bytes img → allowed (length img) ≡ true → ByteCalls cs
       → AllPlanned img (mountOn img .board) cs
-  pub from-format : (img : List ℕ) (cs : List Call) → Bytes img → allowed (length img) ≡ true → ByteMessages cs
+  pub from-format : (img : List ℕ) (cs : List Call) → Bytes img → allowed (length img) ≡ true → ByteCalls cs
       → AllPlanned img (formatOn img .board) cs
 
 -- ---- programming only clears bits, on every record and image

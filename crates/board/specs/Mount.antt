@@ -1,6 +1,5 @@
 -- Mount and format, document 01, "Jobs". Both take no record.
 use mathlib.Core.List.{List, [], _∷_, _++_, map}
-use mathlib.Core.Option.{Option, none, some}
 use mathlib.Core.Bool.{Bool, true, false, _&&_, _||_, cond}
 use Prim.Native.Nat.{ℕ, suc, _+_, _-_}
 use lib.Dec.{eqb, ltb}
@@ -8,11 +7,10 @@ use lib.ListN.{length, replicate}
 use Rattle.flash.specs.Flash.{blocks, blockNumbers, block, sizeOf}
 use Rattle.frame.specs.Frame.{Frame, total}
 use Rattle.frame.specs.Reader.{Tail, clean, cut, bad}
-use Rattle.journal.specs.Replay.{EntryOf, Entry, replay}
+use Rattle.journal.specs.Replay.{Entry, replay}
 use Rattle.journal.specs.Block.{BlockState, blank, inProgress, valid, foreign, blockState, headerLen, lastTime}
 use Rattle.journal.specs.Index.{placesOf}
 use Rattle.wire.specs.declared.Refusal.the-variants as refusal
-use Rattle.board.specs.declared.Job.{Job}
 use Rattle.board.specs.declared.Record.{Record}
 use Rattle.board.specs.Record.{allowed, noPlaces, noMarks, unmounted, busy, Out, refuse}
 use Rattle.board.specs.Step.{begin}

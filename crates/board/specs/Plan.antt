@@ -3,7 +3,7 @@ use mathlib.Core.List.{List, [], _∷_, _++_, map}
 use mathlib.Core.Bool.{Bool, true, false}
 use mathlib.Core.Path.{_≡_}
 use Prim.Native.Nat.{ℕ, suc, _+_}
-use Rattle.flash.specs.Flash.{Step, program, erase, blockNumbers, apply, sizeOf, Write, writeStep, writes}
+use Rattle.flash.specs.Flash.{Step, erase, blockNumbers, apply, sizeOf, Write, writeStep, writes}
 use Rattle.frame.specs.Frame.{Frame, encode, frameLen}
 use Rattle.journal.specs.Replay.{State, framesOf, replay, settledOnly}
 use Rattle.journal.specs.Block.{build}

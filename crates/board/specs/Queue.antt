@@ -2,7 +2,7 @@
 use mathlib.Core.List.{List, [], _∷_}
 use mathlib.Core.Option.{Option, none, some}
 use mathlib.Core.Bool.{Bool, true, false, _&&_, _||_, cond}
-use Prim.Native.Nat.{ℕ, suc, _+_, _-_, _*_}
+use Prim.Native.Nat.{ℕ, suc, _+_, _*_}
 use lib.Dec.{eqb, ltb, leb}
 use lib.ListN.{length, getD}
 use Rattle.flash.specs.Bytes.{allFF}
@@ -10,12 +10,12 @@ use Rattle.flash.specs.Flash.{blocks, blockNumbers, block, sizeOf}
 use Rattle.frame.specs.declared.Host.{Host}
 use Rattle.frame.specs.declared.ObjectId.{ObjectId}
 use Rattle.frame.specs.Frame.{hostMax, Change, put, delete, Frame, change, commit, abort, frameLen, encode, endLen}
-use Rattle.frame.specs.Reader.{Tail, clean, cut, bad}
+use Rattle.frame.specs.Reader.{clean, cut, bad}
 use Rattle.journal.specs.Replay.{State, replay, lookup, isOpen}
 use Rattle.journal.specs.Block.{BlockState, blank, inProgress, valid, foreign, blockState, headerLen, lastTime}
 use Rattle.journal.specs.Room.{used, claimed, openHosts, noRoom}
 use Rattle.journal.specs.Index.{placesOf, sinceOf, Value, valueAt}
-use Rattle.wire.specs.declared.Answer.the-variants.{Done, More, Refused}
+use Rattle.wire.specs.declared.Answer.the-variants.{Done}
 use Rattle.wire.specs.declared.Refusal.the-variants as refusal
 use Rattle.wire.specs.declared.Page.{Page}
 use Rattle.wire.specs.declared.Page.the-variants.{Summary}

@@ -1,9 +1,9 @@
 -- The board record: unmounted, idle, or in a job; and what a call gives back.
-use mathlib.Core.List.{List, [], _∷_, _++_}
-use mathlib.Core.Bool.{Bool, true, false, _&&_}
-use Prim.Native.Nat.{ℕ, _+_, _-_, _%_}
+use mathlib.Core.List.{List, [], _∷_}
+use mathlib.Core.Bool.{Bool, false, _&&_}
+use Prim.Native.Nat.{ℕ, _%_}
 use lib.Dec.{eqb, leb}
-use lib.ListN.{length, replicate}
+use lib.ListN.{replicate}
 pub use Rattle.frame.specs.Frame.{buffer}
 use Rattle.frame.specs.Frame.{maxFrame}
 use Rattle.journal.specs.Block.{headerLen}
@@ -11,7 +11,7 @@ use Rattle.wire.specs.declared.Answer.{Answer}
 use Rattle.wire.specs.declared.Answer.the-variants.{Done, More, Refused}
 use Rattle.wire.specs.declared.Refusal.{Refusal}
 use Rattle.board.specs.declared.Stage.{Stage}
-use Rattle.board.specs.declared.Stage.the-variants.{Wipe, Open, Copy, Seal, Drop, Append}
+use Rattle.board.specs.declared.Stage.the-variants.{Wipe}
 use Rattle.board.specs.declared.Phase.{Phase}
 use Rattle.board.specs.declared.Phase.the-variants.{Unmounted, Idle, Busy}
 use Rattle.board.specs.declared.Job.{Job}
@@ -53,10 +53,9 @@ unmounted = resting Unmounted 0 0 0
 abbrev pub idle : ℕ → ℕ → ℕ → Record
 idle l k e = resting Idle l k e
 
--- a job not yet begun, on block k whose whole frames run to e: the first id to copy, the first offset to look at for pending
--- frames, and the bytes of the frame to append
-abbrev pub busy : ℕ → ℕ → ℕ → List ℕ → Job → ℕ → ℕ → List ℕ → Record
-busy l k e places j id source bytes =
+-- a job not yet begun, its frame to append in a buffer
+abbrev pub busyWith : ℕ → ℕ → ℕ → List ℕ → Job → ℕ → ℕ → List ℕ → Record
+busyWith l k e places j id source frame =
     record {
       phase = Busy Wipe;
       last = l;
@@ -66,8 +65,13 @@ busy l k e places j id source bytes =
       job = j;
       cursor = cursor 0 headerLen id source 0 0;
       unit = noFrame;
-      frame = buffer bytes;
+      frame = frame;
     }
+
+-- a job not yet begun, on block k whose whole frames run to e: the first id to copy, the first offset to look at for pending
+-- frames, and the bytes of the frame to append
+abbrev pub busy : ℕ → ℕ → ℕ → List ℕ → Job → ℕ → ℕ → List ℕ → Record
+busy l k e places j id source bytes = busyWith l k e places j id source (buffer bytes)
 
 -- the same job in a stage, at a cursor
 abbrev pub inStage : Stage → Cursor → Record → Record

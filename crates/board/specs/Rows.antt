@@ -1,10 +1,9 @@
 -- Document 01's starred bench rows, S = 256, and row p: one table over the machine.
-use mathlib.Core.List.{List, [], _∷_, _++_}
+use mathlib.Core.List.{List, [], _∷_}
 use mathlib.Core.Path.{_≡_}
 use Prim.Native.Nat.{ℕ, zero, suc, _+_}
 use lib.ListN.{take, drop, replicate}
 use Rattle.flash.specs.Flash.{block}
-use Rattle.frame.specs.declared.Host.{Host}
 use Rattle.frame.specs.Frame.{hostOf, idOf}
 use Rattle.journal.specs.Replay.{State, state, object, replay}
 use Rattle.journal.specs.Block.{blockState, framesIn, timeIn}
@@ -13,8 +12,8 @@ use Rattle.wire.specs.declared.Answer.{Answer}
 use Rattle.wire.specs.declared.Answer.the-variants.{Done, More, Refused}
 use Rattle.wire.specs.declared.Refusal.the-variants as refusal
 use Rattle.board.specs.declared.Record.{Record}
-use Rattle.board.specs.Record.{unmounted, idle, Stretch, Out}
-use Rattle.board.specs.Exec.{Call, request, step, mount, format, exec}
+use Rattle.board.specs.Record.{unmounted, idle, Out}
+use Rattle.board.specs.Exec.{request, step, mount, format, exec}
 
 -- what a call and its steps give, and how many step calls it took
 pub record Ran : Type 0 where

@@ -7,8 +7,8 @@ use lib.Dec.{eqb, ltb}
 use lib.ListN.{length}
 use Rattle.flash.specs.Flash.{sizeOf, within}
 use Rattle.frame.specs.declared.Host.{Host}
-use Rattle.frame.specs.Frame.{hostMax, Change, put, delete, Frame, change, commit, abort}
-use Rattle.journal.specs.Replay.{State, replay, lookup, isOpen}
+use Rattle.frame.specs.Frame.{hostMax, put, delete, Frame, change, commit, abort}
+use Rattle.journal.specs.Replay.{replay, lookup, isOpen}
 use Rattle.journal.specs.Block.{lastTime}
 use Rattle.journal.specs.Room.{noRoom}
 use Rattle.wire.specs.declared.Answer.{Answer}

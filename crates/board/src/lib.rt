@@ -1,3 +1,6 @@
+// The board's types: what a record holds.
+use frame::MAX_FRAME;
+
 // The stages of a job, in their order. A stage with nothing to do is passed over.
 pub enum Stage {
     Wipe,
@@ -57,6 +60,6 @@ pub struct Record {
     pub job: Job,
     pub cursor: Cursor,
     // the frame that is copied, and the frame to append
-    pub unit: [u8; 72],
-    pub frame: [u8; 72],
+    pub unit: [u8; MAX_FRAME],
+    pub frame: [u8; MAX_FRAME],
 }

@@ -144,6 +144,7 @@ host-none n t a b =
 pub host-end : (n : ℕ) (t : List ℕ) → n ≡ endLen → misfitFrom 0 (hostSlots n) t ≡ misfitFrom 0 endSlots t
 host-end n t e = ap (λ (m : ℕ). misfitFrom 0 (hostSlots m) t) e
 
+-- a slice's elements are bytes
 pub bytes-of : (t : List ℕ) → ((i : ℕ) → getD t i 0 < 256) → Bytes t
 bytes-of [] h = tt
 bytes-of (b ∷ t) h = (h 0, bytes-of t (λ i. h (suc i)))

@@ -9,9 +9,8 @@ use borrow.Author.Tests.{leb-true}
 use Rattle.flash.specs.Bytes.{allFF}
 use Rattle.flash.proofs.Cases.{on-test}
 use Rattle.frame.specs.Frame.{Frame, total, nextOf, putLen, settledLen}
-use Rattle.frame.specs.Reader.{Read, blank, whole, torn, wrong, fault, Slot, fits, valueSlots, changeSlots, settledSlots, hostSlots, onlySettled, Match, all, part, misfit, match, decode, ofHostMatch, ofSettledMatch, readLaid, readFrame, bad, Scan, ends, scan}
+use Rattle.frame.specs.Reader.{Read, blank, whole, torn, wrong, Slot, fits, valueSlots, changeSlots, settledSlots, hostSlots, onlySettled, Match, all, part, misfit, match, decode, ofHostMatch, ofSettledMatch, readLaid, readFrame, bad, Scan, ends, scan}
 use Rattle.frame.specs.declared.Fault.{Fault}
-use Rattle.frame.specs.declared.Field.the-variants as field
 use Rattle.frame.proofs.Fit.{match-go, match-part, match-misfit}
 use Rattle.frame.proofs.Reading.{read-blank, read-step, laid-host, laid-settled}
 use Rattle.frame.proofs.Exact.{only-size}

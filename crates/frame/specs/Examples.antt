@@ -1,8 +1,7 @@
 -- The frames of document 01's bench rows b and c, byte for byte.
-use mathlib.Core.List.{List, [], _∷_}
+use mathlib.Core.List.{[], _∷_}
 use mathlib.Core.Path.{_≡_}
-use Prim.Native.Nat.{ℕ}
-use Rattle.frame.specs.Frame.{hostOf, idOf, Frame, change, commit, put, encode, maxFrame}
+use Rattle.frame.specs.Frame.{hostOf, idOf, change, commit, put, encode, maxFrame}
 
 pub record Examples : Type 0 where
   pub row-b : encode (change (hostOf 2) (put (idOf 5) (0x41 ∷ 0x42 ∷ [])))

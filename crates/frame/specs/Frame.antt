@@ -1,6 +1,5 @@
 -- Frames, document 01, "Frames": what they say and their bytes.
 use mathlib.Core.List.{List, [], _∷_, _++_}
-use mathlib.Core.Bool.{Bool, true, false}
 use Prim.Native.Nat.{ℕ, suc, _+_, _-_, _≤_}
 use lib.ListN.{length, replicate}
 use Rattle.flash.specs.Bytes.{Bytes, u16le}

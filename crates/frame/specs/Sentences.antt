@@ -1,13 +1,11 @@
 -- Document 01's sentences about one frame's bytes, and the statement that the reader says exactly these.
-use mathlib.Core.List.{List, [], _∷_, _++_}
-use mathlib.Core.Bool.{Bool, true, false}
+use mathlib.Core.List.{List, _++_}
 use mathlib.Core.Logic.{_↔_}
 use mathlib.Core.Path.{_≡_}
 use Prim.Native.Nat.{ℕ, _+_, _≤_, _<_}
 use lib.ListN.{length, take, replicate}
-use Rattle.flash.specs.Bytes.{Bytes}
 use Rattle.frame.specs.Frame.{Frame, encode, frameLen, MayStand, OfHost}
-use Rattle.frame.specs.Reader.{Read, blank, whole, torn, wrong, readFrame}
+use Rattle.frame.specs.Reader.{blank, whole, torn, wrong, readFrame}
 use Rattle.frame.specs.declared.Fault.{Fault}
 
 -- a legal frame that may stand there stands there, whatever follows

@@ -9,29 +9,29 @@ use Rattle.flash.proofs.Cases.{on-test}
 use Rattle.wire.specs.Answer.{edgeNumber}
 use Rattle.board.specs.declared.Record.{Record}
 use Rattle.board.specs.Record.{Out}
-use Rattle.lent.specs.Layout.{recordSize, recordIn, bytesOf, recordInto, RecordFits, BytesBack}
+use Rattle.lent.specs.Layout.{recordSize, recordIn, recordBytes, recordInto, RecordFits, BytesBack}
 use Rattle.lent.proofs.Inverse.{bytes-back}
 use Rattle.job.specs.declared.Outcome.{Outcome}
 use Rattle.grommetide.specs.Edge.{writes, written}
 use Rattle.grommetide.proofs.Kept.{Keeps}
 
-filled : (r : Record) (b : List ℕ) → length b ≡ recordSize → recordInto r b ≡ bytesOf r
+filled : (r : Record) (b : List ℕ) → length b ≡ recordSize → recordInto r b ≡ recordBytes r
 unfolding recordInto
 filled r b e = rw (eq-eqb (length b) recordSize e)
 
 -- the record that was written reads as itself
-read-back : (r r′ : Record) → RecordFits r → r ≡ r′ → recordIn (bytesOf r′) ≡ r′
+read-back : (r r′ : Record) → RecordFits r → r ≡ r′ → recordIn (recordBytes r′) ≡ r′
 unfolding BytesBack
-read-back r r′ f e = subst (λ (x : Record). recordIn (bytesOf x) ≡ x) e (bytes-back r f)
+read-back r r′ f e = subst (λ (x : Record). recordIn (recordBytes x) ≡ x) e (bytes-back r f)
 
 -- what the code came to: n its answer, after its buffer
 module _ (b after : List ℕ) (n : ℕ) (x : Outcome) (o : Out) (l : length b ≡ recordSize) (f : RecordFits (x .board))
     (answers : x .answer ≡ o .answer) (leaves : x .board ≡ o .board) where
   -- mount and format
   pub handed : (n ≡ edgeNumber (x .answer)) × (after ≡ recordInto (x .board) b)
-      → ((n ≡ edgeNumber (o .answer)) × (after ≡ bytesOf (o .board))) × (recordIn after ≡ o .board)
+      → ((n ≡ edgeNumber (o .answer)) × (after ≡ recordBytes (o .board))) × (recordIn after ≡ o .board)
   handed h =
-      let e : after ≡ bytesOf (o .board) = h .1 ∙ filled (x .board) b l ∙ ap bytesOf leaves in
+      let e : after ≡ recordBytes (o .board) = h .1 ∙ filled (x .board) b l ∙ ap recordBytes leaves in
       ((h .0 ∙ ap edgeNumber answers, e), ap recordIn e ∙ read-back (x .board) (o .board) f leaves)
 
   -- requests and steps

@@ -13,13 +13,13 @@ use Rattle.wire.specs.declared.Parsed.the-variants.{Is, Malformed}
 use Rattle.wire.specs.Answer.{edgeNumber}
 use Rattle.wire.specs.Message.{parse}
 use Rattle.board.specs.declared.Phase.{Phase}
-use Rattle.board.specs.declared.Phase.the-variants.{Unmounted, Idle, Busy}
 use Rattle.board.specs.declared.Record.{Record}
 use Rattle.board.specs.Record.{Out}
 use Rattle.board.specs.Step.{stepOn}
 use Rattle.board.specs.Mount.{mountOn, formatOn}
 use Rattle.board.specs.Queue.{requestOn}
-use Rattle.lent.specs.Layout.{recordSize, recordIn, bytesOf}
+use Rattle.board.specs.Table.{isBusy}
+use Rattle.lent.specs.Layout.{recordSize, recordIn, recordBytes}
 
 -- an answer's number, and the buffers after the call
 pub record Edge : Type 0 where
@@ -42,21 +42,15 @@ guarded img b reply o after =
 
 -- ---- requests and steps write the record only where a job began, went on or ended
 
--- the phase is one of a job
-abbrev pub inJob : Phase → Bool
-inJob Unmounted = false
-inJob Idle = false
-inJob (Busy s) = true
-
 -- by the phase before the call and its answer
 abbrev pub writes : Phase → Answer → Bool
-writes p Done = inJob p
+writes p Done = isBusy p
 writes p More = true
 writes p (Refused n) = false
 
 -- the record buffer after the call
 abbrev pub written : List ℕ → Out → List ℕ
-written b o = cond (writes (recordIn b .phase) (o .answer)) (bytesOf (o .board)) b
+written b o = cond (writes (recordIn b .phase) (o .answer)) (recordBytes (o .board)) b
 
 -- a request, and a step, which is lent no reply
 unfoldable pub edgeRequest : List ℕ → List ℕ → ℕ → List ℕ → List ℕ → Edge
@@ -70,10 +64,10 @@ edgeStep img b = let o : Out = stepOn img (recordIn b) in guarded img b [] o (wr
 -- ---- mount and format write the record, whatever stood there
 
 unfoldable pub edgeMount : List ℕ → List ℕ → Edge
-edgeMount img b = guarded img b [] (mountOn img) (bytesOf (mountOn img .board))
+edgeMount img b = guarded img b [] (mountOn img) (recordBytes (mountOn img .board))
 
 unfoldable pub edgeFormat : List ℕ → List ℕ → Edge
-edgeFormat img b = guarded img b [] (formatOn img) (bytesOf (formatOn img .board))
+edgeFormat img b = guarded img b [] (formatOn img) (recordBytes (formatOn img .board))
 
 -- ---- a read hands out numbers
 

@@ -5,8 +5,9 @@ ghost use Rattle.wire.specs.Answer.{edgeNumber};
 ghost use Rattle.board.specs.Step.{stepOn};
 ghost use Rattle.board.specs.Mount.{mountOn, formatOn};
 ghost use Rattle.board.specs.Queue.{requestOn};
+ghost use Rattle.board.specs.Table.{isBusy};
 ghost use Rattle.lent.specs.Layout.{recordSize, recordIn, recordInto};
-ghost use Rattle.grommetide.specs.Edge.{inJob, writes, edgeMount, edgeFormat, edgeRequest, edgeStep, ReadsBack};
+ghost use Rattle.grommetide.specs.Edge.{writes, edgeMount, edgeFormat, edgeRequest, edgeStep, ReadsBack};
 ghost use Rattle.grommetide.specs.Edge.{place, isRead, asRead, edgeRead};
 use board::Phase;
 use frame::Host;
@@ -63,7 +64,7 @@ pub extern "C" fn grommetide_format(image: &[u8], board: &mut [u8]) -> u8
 }
 
 fn in_job(phase: Phase) -> bool
-    ensures { λ r. ⌜ r ≡ inJob phase ⌝ }
+    ensures { λ r. ⌜ r ≡ isBusy phase ⌝ }
 {
     match phase {
         Phase::Unmounted => false,

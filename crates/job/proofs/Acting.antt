@@ -1,14 +1,14 @@
 -- A flash step by its block and offset; the writes that open and seal a block, by number.
 use mathlib.Core.Path.{_≡_, refl, sym, ap, _∙_}
 use mathlib.Core.List.{List}
-use mathlib.Core.Bool.{Bool, true, false, cond, _&&_}
+use mathlib.Core.Bool.{Bool, true, false, cond}
 use Prim.Native.Nat.{ℕ, zero, suc, _+_, _*_, _≤_, _<_}
 use native.Mathlib.Omega.{arith}
 use native.Mathlib.Nat.{zero-mul, one-mul}
 use lib.Dec.{ltb}
-use borrow.Author.Tests.{lt-ltb, le-ltb}
-use Rattle.flash.specs.Flash.{Step, apply, sizeOf, within, blockOf, offsetOf, blocks, Write, write, writes}
-use Rattle.flash.proofs.Cases.{and-both, and-no-left, and-no-right}
+use borrow.Author.Tests.{le-ltb}
+use Rattle.flash.specs.Flash.{Step, apply, sizeOf, within, blockOf, offsetOf, blocks, write, writes}
+use Rattle.flash.proofs.Cases.{and-no-left, and-no-right}
 use Rattle.journal.specs.Block.{openWrite, sealWrite, stateAt, inTransfer, validData}
 use Rattle.job.specs.Code.{did}
 
@@ -19,9 +19,6 @@ no-block s x h = and-no-left (ltb (blockOf x) blocks) (ltb (offsetOf x) s) (le-l
 
 pub no-offset : (s : ℕ) (x : Step) → s ≤ offsetOf x → within s x ≡ false
 no-offset s x h = and-no-right (ltb (blockOf x) blocks) (ltb (offsetOf x) s) (le-ltb _ _ h)
-
-pub inside : (s : ℕ) (x : Step) → blockOf x < blocks → offsetOf x < s → within s x ≡ true
-inside s x h k = and-both (ltb (blockOf x) blocks) (ltb (offsetOf x) s) (lt-ltb _ _ h) (lt-ltb _ _ k)
 
 pub did-not : (x : Step) (img : List ℕ) → within (sizeOf img) x ≡ false → (false ≡ within (sizeOf img) x) × (img ≡ did x img)
 unfolding did

@@ -20,7 +20,7 @@ use Rattle.board.specs.Record.{cursor, inStage, refuse}
 use Rattle.board.specs.Step.{enterCopy, action, nextIndex, onward, advance, stepped, stepBusy, stepIn}
 use Rattle.job.specs.declared.records.Numbers.{Numbers}
 use Rattle.job.specs.declared.records.Stepped.{Stepped}
-use Rattle.job.specs.Code.{assemble, staged, going, staying, Leaves, movedByte, flashStep, did, offsetFor, Steps}
+use Rattle.job.specs.Code.{assemble, staged, going, staying, Leaves, movedByte, did, offsetFor, Steps}
 use Rattle.job.proofs.Entering.{when-true, when-false, going-leaves}
 
 -- ---- on in a stage, or out of it

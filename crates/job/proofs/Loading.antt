@@ -14,14 +14,14 @@ use Rattle.journal.specs.declared.Fetch.{Fetch}
 use Rattle.journal.specs.declared.Fetched.{Fetched}
 use Rattle.journal.specs.declared.Fetched.the-variants as fetched
 use Rattle.journal.specs.Index.{nextLoad}
-use Rattle.journal.specs.Survey.{loadOf}
+use Rattle.journal.specs.Survey.{loadIn, loadOf}
 use Rattle.board.specs.declared.Stage.the-variants.{Copy, Seal}
 use Rattle.board.specs.declared.Record.{Record}
 use Rattle.board.specs.Record.{cursor}
 use Rattle.board.specs.Step.{enter, loaded, enterCopy}
 use Rattle.board.proofs.Outcomes.{nextFor, copy-loads, copy-ends}
 use Rattle.job.specs.declared.records.Numbers.{Numbers}
-use Rattle.job.specs.Code.{assemble, staged, going, Leaves, loadIn}
+use Rattle.job.specs.Code.{assemble, staged, going, Leaves}
 
 -- ---- a frame by its head
 

@@ -4,18 +4,12 @@ use mathlib.Core.List.{List}
 use mathlib.Core.Bool.{Bool, true, false, cond}
 use Prim.Native.Nat.{ℕ, suc, _+_}
 use lib.Dec.{ltb}
-use lib.ListN.{take, drop}
 use Rattle.flash.specs.Flash.{Step, program, erase, apply, sizeOf, within}
-use Rattle.frame.specs.Code.{frameOf, valueLen}
-use Rattle.journal.specs.declared.Fetch.{Fetch}
-use Rattle.journal.specs.Block.{headerLen}
-use Rattle.journal.specs.Index.{Load, load}
 use Rattle.wire.specs.declared.Answer.{Answer}
 use Rattle.wire.specs.declared.Answer.the-variants.{Done, More}
 use Rattle.board.specs.declared.Stage.{Stage}
 use Rattle.board.specs.declared.Stage.the-variants.{Wipe, Open, Copy, Seal, Drop, Append}
 use Rattle.board.specs.declared.Phase.the-variants.{Idle, Busy}
-use Rattle.board.specs.declared.Job.{Job}
 use Rattle.board.specs.declared.Cursor.{Cursor}
 use Rattle.board.specs.declared.Record.{Record}
 use Rattle.board.specs.Record.{noPlaces, noFrame, noJob, cursor, answerOf, Out}
@@ -25,21 +19,6 @@ use Rattle.job.specs.declared.records.Numbers.{Numbers}
 use Rattle.job.specs.declared.records.Stepped.{Stepped}
 use Rattle.job.specs.declared.steps.Action.{Action}
 use Rattle.job.specs.declared.steps.Action.the-variants as action
-
--- a job not yet begun, its frame to append in a buffer
-abbrev pub busyWith : ℕ → ℕ → ℕ → List ℕ → Job → ℕ → ℕ → List ℕ → Record
-busyWith l k e places j id source frame =
-    record {
-      phase = Busy Wipe;
-      last = l;
-      block = k;
-      end = e;
-      places = places;
-      job = j;
-      cursor = cursor 0 headerLen id source 0 0;
-      unit = noFrame;
-      frame = frame;
-    }
 
 -- ---- a record apart
 
@@ -117,10 +96,6 @@ goOpen n = cond (n .job .moves) (going Open (first (n .cursor)) n) (goAppend n)
 
 unfoldable pub goWipe : Numbers → Stepped
 goWipe n = cond (ltb 0 (n .job .wipes)) (going Wipe (first (n .cursor)) n) (goOpen n)
-
--- the frame that was found in block b, and the cursor after it
-abbrev pub loadIn : List ℕ → Fetch → Load
-loadIn b x = load (frameOf (x .head) (take (valueLen (x .head)) (drop (x .value) b))) (x .id) (x .source)
 
 -- past a byte that was copied: to the frame's next, or past the frame
 abbrev pub movedByte : Cursor → Cursor

@@ -1,14 +1,15 @@
 // Board records: each kind is built in one place. A record's numbers go by themselves, its arrays apart.
 ghost use mathlib.Core.Path.{_≡_};
-ghost use Rattle.board.specs.Record.{noPlaces, noFrame, noJob, cursor, resting, unmounted, idle, answerOf};
+ghost use Rattle.board.specs.Record.{noPlaces, noFrame, noJob, cursor, resting, unmounted, idle, busyWith, answerOf};
 ghost use Rattle.board.specs.Step.{first, enterWipe};
-ghost use Rattle.job.specs.Code.{busyWith, numbersOf, assemble, going, over, staying, leaves, outcome, goAppend, landedOn, goDrop, goOpen, goWipe};
+ghost use Rattle.job.specs.Code.{numbersOf, assemble, going, over, staying, leaves, outcome, goAppend, landedOn, goDrop, goOpen, goWipe};
 use crate::Outcome;
 use board::Cursor;
 use board::Job;
 use board::Phase;
 use board::Record;
 use board::Stage;
+use frame::MAX_FRAME;
 use wire::Answer;
 
 // A record without its arrays.
@@ -36,10 +37,10 @@ pub fn no_places() -> [u16; 256]
     [0; 256]
 }
 
-pub fn no_frame() -> [u8; 72]
+pub fn no_frame() -> [u8; MAX_FRAME]
     ensures { λ r. ⌜ r ≡ noFrame ⌝ }
 {
-    [0; 72]
+    [0; MAX_FRAME]
 }
 
 pub fn no_job() -> Job
@@ -114,7 +115,7 @@ pub fn busy(
     job: Job,
     id: u16,
     source: u16,
-    frame: [u8; 72],
+    frame: [u8; MAX_FRAME],
 ) -> Record
     ensures { λ r. ⌜ r ≡ busyWith last block end places job id source frame ⌝ }
 {
@@ -158,7 +159,7 @@ pub fn numbers_of(board: Record) -> Numbers
     }
 }
 
-fn assemble(n: Numbers, places: [u16; 256], unit: [u8; 72], frame: [u8; 72]) -> Record
+fn assemble(n: Numbers, places: [u16; 256], unit: [u8; MAX_FRAME], frame: [u8; MAX_FRAME]) -> Record
     ensures { λ r. ⌜ r ≡ assemble n places unit frame ⌝ }
 {
     let phase = n.phase;
@@ -178,7 +179,12 @@ fn assemble(n: Numbers, places: [u16; 256], unit: [u8; 72], frame: [u8; 72]) -> 
 }
 
 // The record made whole again.
-pub fn give_back(s: Stepped, places: [u16; 256], unit: [u8; 72], frame: [u8; 72]) -> Outcome
+pub fn give_back(
+    s: Stepped,
+    places: [u16; 256],
+    unit: [u8; MAX_FRAME],
+    frame: [u8; MAX_FRAME],
+) -> Outcome
     ensures { λ r. ⌜ r ≡ outcome (s .answer) (leaves s places unit frame) ⌝ }
 {
     let answer = s.answer;

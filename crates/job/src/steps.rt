@@ -9,9 +9,10 @@ ghost use Rattle.flash.specs.Flash.{program, erase, sizeOf, within, writeStep};
 ghost use Rattle.frame.specs.Frame.{valueMax};
 ghost use Rattle.frame.specs.Code.{valueLen};
 ghost use Rattle.journal.specs.Block.{openWrite, sealWrite};
+ghost use Rattle.journal.specs.Survey.{loadIn};
 ghost use Rattle.board.specs.declared.Stage.the-variants as stages;
 ghost use Rattle.board.specs.Step.{loaded, enterCopy, action, nextIndex, advance, stepBusy, stepOn};
-ghost use Rattle.job.specs.Code.{assemble, staged, going, Leaves, loadIn, movedByte, flashStep, did, offsetFor, Steps};
+ghost use Rattle.job.specs.Code.{assemble, staged, going, Leaves, movedByte, flashStep, did, offsetFor, Steps};
 use crate::Outcome;
 use crate::records;
 use crate::records::Numbers;
@@ -20,6 +21,7 @@ use board::Cursor;
 use board::Phase;
 use board::Record;
 use board::Stage;
+use frame::MAX_FRAME;
 use journal::Fetch;
 use journal::Fetched;
 use wire::Answer;
@@ -82,7 +84,7 @@ fn seal_action(target: u8, time: u32, i: u8) -> Action
     }
 }
 
-fn next_action(stage: Stage, n: Numbers, unit: &[u8; 72], frame: &[u8; 72]) -> Action
+fn next_action(stage: Stage, n: Numbers, unit: &[u8; MAX_FRAME], frame: &[u8; MAX_FRAME]) -> Action
     ensures { λ r. ⌜ ((p : List ℕ) → flashStep r ≡ action stage (assemble n p (now (unit .entry)) (now (frame .entry)))) ⌝ }
 {
     let job = n.job;
@@ -189,7 +191,7 @@ fn after_wipe(n: Numbers) -> Stepped
 }
 
 // A frame to copy is put into the buffer.
-fn load(source: &[u8], fetch: Fetch, n: Numbers, unit: &mut [u8; 72]) -> Stepped
+fn load(source: &[u8], fetch: Fetch, n: Numbers, unit: &mut [u8; MAX_FRAME]) -> Stepped
     requires { ⌜ (fetch .value + valueLen (fetch .head) ≤ length (now source)) × (valueLen (fetch .head) ≤ valueMax) ⌝ }
     ensures { λ r. ⌜ ((p f : List ℕ) → Leaves p (now (unit .exit)) f r (loaded (assemble n p (now (unit .entry)) f) (loadIn (now (source .entry)) fetch))) ⌝ }
 {
@@ -211,7 +213,7 @@ fn load(source: &[u8], fetch: Fetch, n: Numbers, unit: &mut [u8; 72]) -> Stepped
 }
 
 // The next frame to copy is put into the buffer, or the block is sealed.
-fn enter_copy(image: &[u8], n: Numbers, places: &[u16; 256], unit: &mut [u8; 72]) -> Stepped
+fn enter_copy(image: &[u8], n: Numbers, places: &[u16; 256], unit: &mut [u8; MAX_FRAME]) -> Stepped
     ensures { λ r. ⌜ ((f : List ℕ) → Leaves (now (places .entry)) (now (unit .exit)) f r (enterCopy (now (image .entry)) (assemble n (now (places .entry)) (now (unit .entry)) f))) ⌝ }
 {
     let job = n.job;
@@ -224,7 +226,7 @@ fn enter_copy(image: &[u8], n: Numbers, places: &[u16; 256], unit: &mut [u8; 72]
     }
 }
 
-fn after_open(image: &[u8], n: Numbers, places: &[u16; 256], unit: &mut [u8; 72]) -> Stepped
+fn after_open(image: &[u8], n: Numbers, places: &[u16; 256], unit: &mut [u8; MAX_FRAME]) -> Stepped
     ensures { λ r. ⌜ ((f : List ℕ) → Leaves (now (places .entry)) (now (unit .exit)) f r (advance stages.Open (now (image .entry)) (assemble n (now (places .entry)) (now (unit .entry)) f))) ⌝ }
 {
     let cursor = n.cursor;
@@ -270,7 +272,7 @@ fn next_byte(n: Numbers) -> Numbers
     }
 }
 
-fn after_copy(image: &[u8], n: Numbers, places: &[u16; 256], unit: &mut [u8; 72]) -> Stepped
+fn after_copy(image: &[u8], n: Numbers, places: &[u16; 256], unit: &mut [u8; MAX_FRAME]) -> Stepped
     requires { ⌜ n .cursor .at < 32768 ⌝ }
     ensures { λ r. ⌜ ((f : List ℕ) → Leaves (now (places .entry)) (now (unit .exit)) f r (advance stages.Copy (now (image .entry)) (assemble n (now (places .entry)) (now (unit .entry)) f))) ⌝ }
 {
@@ -316,7 +318,7 @@ fn advance(
     image: &[u8],
     n: Numbers,
     places: &[u16; 256],
-    unit: &mut [u8; 72],
+    unit: &mut [u8; MAX_FRAME],
 ) -> Stepped
     requires { ⌜ offsetFor stage n < 32768 ⌝ }
     ensures { λ r. ⌜ ((f : List ℕ) → Leaves (now (places .entry)) (now (unit .exit)) f r (advance stage (now (image .entry)) (assemble n (now (places .entry)) (now (unit .entry)) f))) ⌝ }
@@ -338,8 +340,8 @@ fn step_busy(
     stage: Stage,
     n: Numbers,
     places: &[u16; 256],
-    unit: &mut [u8; 72],
-    frame: &[u8; 72],
+    unit: &mut [u8; MAX_FRAME],
+    frame: &[u8; MAX_FRAME],
 ) -> Stepped
     ensures { λ r. ⌜ Steps (now (places .entry)) (now (unit .exit)) (now (frame .entry)) r (now (image .exit)) (stepBusy stage (now (image .entry)) (assemble n (now (places .entry)) (now (unit .entry)) (now (frame .entry)))) ⌝ }
 {
@@ -358,8 +360,8 @@ pub fn step_core(
     image: &mut [u8],
     n: Numbers,
     places: &[u16; 256],
-    unit: &mut [u8; 72],
-    frame: &[u8; 72],
+    unit: &mut [u8; MAX_FRAME],
+    frame: &[u8; MAX_FRAME],
 ) -> Stepped
     ensures { λ r. ⌜ Steps (now (places .entry)) (now (unit .exit)) (now (frame .entry)) r (now (image .exit)) (stepOn (now (image .entry)) (assemble n (now (places .entry)) (now (unit .entry)) (now (frame .entry)))) ⌝ }
 {

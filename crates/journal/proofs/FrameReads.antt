@@ -39,12 +39,6 @@ torn-is (whole f) n e = let z : _≡_ {A = ℕ} 0 1 = cc in absurd (omega arith)
 torn-is (torn m) n e = cc
 torn-is (wrong x) n e = let z : _≡_ {A = ℕ} 0 1 = cc in absurd (omega arith)
 
-pub wrong-is : (r : Read) (x : Fault) → readOf r ≡ read.Wrong x → r ≡ wrong x
-wrong-is blank x e = let z : _≡_ {A = ℕ} 0 1 = cc in absurd (omega arith)
-wrong-is (whole f) x e = let z : _≡_ {A = ℕ} 0 1 = cc in absurd (omega arith)
-wrong-is (torn n) x e = let z : _≡_ {A = ℕ} 0 1 = cc in absurd (omega arith)
-wrong-is (wrong y) x e = cc
-
 -- ---- a whole frame
 
 module _ (next at : ℕ) (l : List ℕ) (f : Frame) (e : readFrame next at l ≡ whole f) where

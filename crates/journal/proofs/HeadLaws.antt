@@ -19,6 +19,7 @@ use Rattle.frame.specs.declared.FrameRead.the-variants as read
 use Rattle.frame.specs.Frame.{idOf, put, delete, Frame, change, commit, abort, settled, frameLen, total, nextAfter}
 use Rattle.frame.specs.Reader.{blank, whole, torn, wrong, readFrame, Tail, clean, cut, bad, Scan, ends, scan}
 use Rattle.frame.specs.Code.{headOf, frameOf, readOf, headLen, valueLen, valueStart}
+use Rattle.frame.proofs.Answers.{wrong-read}
 use Rattle.frame.proofs.Heads.{frame-of-head, head-len}
 use Rattle.frame.proofs.Scanning.{pushAll, push-ends}
 use Rattle.journal.specs.declared.Found.the-variants as found
@@ -30,7 +31,7 @@ use Rattle.journal.specs.Index.{placesOf, Value, valueAt, load, isPendin
 use Rattle.journal.specs.Survey.{foundOf, valueHead, pendingHead, loadOf, Inside, placeFrame, commitPlaces, placeHead, nextHead, grown, closed}
 use Rattle.journal.specs.Survey.{passed, tookFrame, tookPlaces, tailOf, walkOf, settledWith, settledAt, tallyOf}
 use Rattle.journal.proofs.PerHost.{pending-most}
-use Rattle.journal.proofs.FrameReads.{whole-is, blank-is, torn-is, wrong-is, scan-blank-at, scan-torn-at, scan-wrong-at, scan-whole-at}
+use Rattle.journal.proofs.FrameReads.{whole-is, blank-is, torn-is, scan-blank-at, scan-torn-at, scan-wrong-at, scan-whole-at}
 use Rattle.journal.proofs.FrameReads.{value-there, value-inside}
 use Rattle.journal.proofs.Fetching.{value-head, value-reads, Held, held, found-none, found-at, pending-head, pending-blank, pending-torn}
 use Rattle.journal.proofs.Fetching.{pending-wrong, pending-yes, pending-no}
@@ -51,7 +52,7 @@ module _ (b : List ℕ) (i : ObjectId) (p : ℕ) (l : p ≡ 0 → ⊥) where
   value-torn n e = ap foundOf (sym (value-reads b i p l (torn n) (torn-is (readFrame 0 p (drop p b)) n e)))
 
   pub value-wrong : (x : Fault) → readOf (readFrame 0 p (drop p b)) ≡ read.Wrong x → found.Nothing ≡ foundOf (valueAt b i p)
-  value-wrong x e = ap foundOf (sym (value-reads b i p l (wrong x) (wrong-is (readFrame 0 p (drop p b)) x e)))
+  value-wrong x e = ap foundOf (sym (value-reads b i p l (wrong x) (wrong-read (readFrame 0 p (drop p b)) x e)))
 
 -- ---- a frame to copy
 
@@ -84,7 +85,7 @@ module _ (marks : List ℕ) (at : ℕ) (l : List ℕ) where
   no-torn n e = pending-torn marks at here n (torn-is (readFrame 0 at here) n e)
 
   pub no-wrong : (x : Fault) → readOf (readFrame 0 at here) ≡ read.Wrong x → nextPending marks at 0 here ≡ none
-  no-wrong x e = pending-wrong marks at here x (wrong-is (readFrame 0 at here) x e)
+  no-wrong x e = pending-wrong marks at here x (wrong-read (readFrame 0 at here) x e)
 
   module _ (h : Head) (e : readOf (readFrame 0 at here) ≡ read.Whole h) where
     read-as : (f : Frame) × (readFrame 0 at here ≡ whole f) × (headOf f ≡ h)
@@ -149,7 +150,7 @@ module _ (h : Host) (d next at : ℕ) (t l : List ℕ) where
   commit-torn n e = ended (cut n) (scan-torn-at next at (drop at l) n (torn-is (readFrame next at (drop at l)) n e))
 
   pub commit-wrong : (x : Fault) → readOf (readFrame next at (drop at l)) ≡ read.Wrong x → left ≡ t
-  commit-wrong x e = ended (bad x) (scan-wrong-at next at (drop at l) x (wrong-is (readFrame next at (drop at l)) x e))
+  commit-wrong x e = ended (bad x) (scan-wrong-at next at (drop at l) x (wrong-read (readFrame next at (drop at l)) x e))
 
   pub commit-on : (k : Head) → d ≤ at → readOf (readFrame next at (drop at l)) ≡ read.Whole k
       → left ≡ commitPlaces h d (at + headLen k) (placeHead h at k t) (scan (nextHead k) (at + headLen k) 0 (drop (at + headLen k) l) .frames)
@@ -211,7 +212,7 @@ module _ {b t : List ℕ} {p : Progress} (y : Reached b t p) where
   ends-torn n e = ends-with (cut n) (scan-torn-at (p .next) (p .end) (drop (p .end) b) n (torn-is (readFrame (p .next) (p .end) (drop (p .end) b)) n e))
 
   pub ends-wrong : (x : Fault) → readOf (readFrame (p .next) (p .end) (drop (p .end) b)) ≡ read.Wrong x → Ends (bad x)
-  ends-wrong x e = ends-with (bad x) (scan-wrong-at (p .next) (p .end) (drop (p .end) b) x (wrong-is (readFrame (p .next) (p .end) (drop (p .end) b)) x e))
+  ends-wrong x e = ends-with (bad x) (scan-wrong-at (p .next) (p .end) (drop (p .end) b) x (wrong-read (readFrame (p .next) (p .end) (drop (p .end) b)) x e))
 
 -- ---- the tally
 

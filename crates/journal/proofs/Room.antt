@@ -172,7 +172,8 @@ open-most es =
 fewer : (es ds : List Entry) → ((h : Host) → one (isOpen h es) ≤ one (isOpen h ds)) → openHosts es ≤ openHosts ds
 fewer es ds k = omega (arith, k (hostOf 0), k (hostOf 1), k (hostOf 2), k (hostOf 3))
 
-host-is : (h g : Host) → eqb (h .0) (g .0) ≡ true → h ≡ g
+-- one host by its number
+pub host-is : (h g : Host) → eqb (h .0) (g .0) ≡ true → h ≡ g
 host-is h g t = ap hostOf (eqb-true (h .0) (g .0) t)
 
 one-without : (g h : Host) (es : List Entry) → one (isOpen g (without h es)) ≤ one (isOpen g es)

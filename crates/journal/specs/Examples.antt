@@ -1,11 +1,11 @@
 -- Parts of document 01's bench rows that need no board: row a's header, row k's room, and a commit beside another host's changes.
 use mathlib.Core.List.{List, [], _∷_}
-use mathlib.Core.Bool.{Bool, true, false}
+use mathlib.Core.Bool.{true, false}
 use mathlib.Core.Path.{_≡_}
 use Prim.Native.Nat.{ℕ}
 use lib.ListN.{replicate}
 use Rattle.flash.specs.Flash.{writeAll}
-use Rattle.frame.specs.Frame.{hostOf, idOf, Frame, change, commit, abort, put, delete}
+use Rattle.frame.specs.Frame.{hostOf, idOf, Frame, change, commit, put}
 use Rattle.journal.specs.Replay.{State, state, object, entry, replay, settledOnly}
 use Rattle.journal.specs.Block.{build}
 use Rattle.journal.specs.Room.{claimed, noRoom}

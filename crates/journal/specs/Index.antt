@@ -1,13 +1,13 @@
 -- Where a journal's frames stand: what a read and a transfer find without a replay.
 use mathlib.Core.List.{List, [], _∷_}
 use mathlib.Core.Option.{Option, none, some}
-use mathlib.Core.Bool.{Bool, true, false, _&&_}
+use mathlib.Core.Bool.{Bool, true, false}
 use Prim.Native.Nat.{ℕ, zero, suc, _+_, _-_}
 use lib.Dec.{eqb, leb}
 use lib.ListN.{getD, take, drop}
 use Rattle.frame.specs.declared.Host.{Host}
 use Rattle.frame.specs.declared.ObjectId.{ObjectId}
-use Rattle.frame.specs.Frame.{hostOf, idOf, ChangeOf, Change, put, delete, FrameOf, Frame, change, commit, abort, settled, mapFrame, frameLen}
+use Rattle.frame.specs.Frame.{hostOf, idOf, put, delete, FrameOf, Frame, change, commit, abort, settled, mapFrame, frameLen}
 use Rattle.frame.specs.Reader.{Read, blank, whole, torn, wrong, readFrame}
 use Rattle.journal.specs.Replay.{ObjectOf, lookup, replay}
 use Rattle.journal.specs.Block.{headerLen}

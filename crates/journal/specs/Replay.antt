@@ -2,7 +2,7 @@
 use mathlib.Core.List.{List, [], _∷_, _++_, map}
 use mathlib.Core.Option.{Option, none, some}
 use mathlib.Core.Bool.{Bool, true, false}
-use Prim.Native.Nat.{ℕ, compare, Ordering, Ordering·lt, Ordering·eq, Ordering·gt}
+use Prim.Native.Nat.{ℕ, compare, Ordering·lt, Ordering·eq, Ordering·gt}
 use lib.Dec.{eqb}
 use Rattle.frame.specs.declared.Host.{Host}
 use Rattle.frame.specs.declared.ObjectId.{ObjectId}

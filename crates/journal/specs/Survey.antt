@@ -20,6 +20,7 @@ use Rattle.journal.specs.declared.HeaderCheck.{HeaderCheck}
 use Rattle.journal.specs.declared.HeaderCheck.the-variants.{Sound, Bad}
 use Rattle.journal.specs.declared.Found.{Found}
 use Rattle.journal.specs.declared.Found.the-variants as found
+use Rattle.journal.specs.declared.Fetch.{Fetch}
 use Rattle.journal.specs.declared.Fetched.{Fetched}
 use Rattle.journal.specs.declared.Fetched.the-variants as fetched
 use Rattle.journal.specs.declared.Progress.{Progress}
@@ -112,10 +113,14 @@ pendingHead marks at (head.Commit h) = false
 pendingHead marks at (head.Abort h) = false
 pendingHead marks at (head.Settled i n) = false
 
+-- the frame that was found in block b, and the cursor after it
+abbrev pub loadIn : List ℕ → Fetch → Load
+loadIn b x = load (frameOf (x .head) (take (valueLen (x .head)) (drop (x .value) b))) (x .id) (x .source)
+
 -- what a fetch from block b stands for: the value's bytes are the block's
 abbrev pub loadOf : List ℕ → Fetched → Option Load
 loadOf b fetched.Nothing = none
-loadOf b (fetched.Frame f) = some (load (frameOf (f .head) (take (valueLen (f .head)) (drop (f .value) b))) (f .id) (f .source))
+loadOf b (fetched.Frame f) = some (loadIn b f)
 
 -- and they are all there
 abbrev pub Inside : List ℕ → Fetched → Type 0

@@ -1,6 +1,6 @@
 // Values by their places, and the frames that a transfer copies.
 ghost use mathlib.Core.Path.{_≡_};
-ghost use Prim.Native.Nat.{_-_, _≤_, _<_};
+ghost use Prim.Native.Nat.{_-_, _<_};
 ghost use lib.ListN.{length, drop};
 ghost use Rattle.journal.specs.Index.{valueAt, nextSettled, nextPending, nextLoad};
 ghost use Rattle.journal.specs.Survey.{foundOf, valueHead, pendingHead, Fetches};

@@ -2,12 +2,12 @@
 use mathlib.Core.Path.{_≡_, refl, sym, ap, _∙_}
 use mathlib.Core.List.{List, [], _∷_, _++_, append-assoc, append-nil}
 use mathlib.Core.Bool.{Bool, true, false}
-use Prim.Native.Nat.{ℕ, zero, suc, _+_, _-_, _*_, _/_, _%_, _<_}
+use Prim.Native.Nat.{ℕ, zero, suc, _+_, _-_, _<_}
 use native.Mathlib.Omega.{arith}
-use lib.ListN.{length, getD, take, drop, length-append}
+use lib.ListN.{length, getD, drop, length-append}
 use lib.Seq.{take-at, getD-at, drop-append-add}
-use Rattle.flash.specs.Bytes.{Bytes, u16le, u32le, le16, le32}
-use Rattle.flash.proofs.Blank.{bytes-append}
+use Rattle.flash.specs.Bytes.{Bytes, u32le}
+use Rattle.flash.proofs.Blank.{bytes-append, le16-u16, le32-u32}
 use Rattle.frame.specs.Frame.{maxFrame}
 use Rattle.wire.specs.Message.{wordAt}
 use Rattle.board.specs.declared.Stage.the-variants.{Wipe, Open, Copy, Seal, Drop, Append}
@@ -16,16 +16,10 @@ use Rattle.board.specs.declared.Phase.the-variants.{Unmounted, Idle, Busy}
 use Rattle.board.specs.declared.Job.{Job}
 use Rattle.board.specs.declared.Cursor.{Cursor}
 use Rattle.board.specs.declared.Record.{Record}
-use Rattle.lent.specs.Layout.{placesAt, jobAt, cursorAt, unitAt, frameAt, recordSize, phaseIn, wordsIn, flagIn, frameIn, jobIn, cursorIn, recordIn, phaseByte, wordBytes, flagByte, headBytes, jobBytes, cursorBytes, bytesOf, Words, JobFits, CursorFits, RecordFits, BytesBack}
+use Rattle.lent.specs.Layout.{placesAt, jobAt, cursorAt, unitAt, frameAt, recordSize, phaseIn, wordsIn, flagIn, frameIn, jobIn, cursorIn, recordIn, phaseByte, wordBytes, flagByte, headBytes, jobBytes, cursorBytes, recordBytes, Words, JobFits, CursorFits, RecordFits, BytesBack}
 use Rattle.lent.proofs.Words.{length-word-bytes, length-job, pair-then}
 
 -- ---- the parts, read back
-
-word-back : (w : ℕ) → le16 (w % 256) (w / 256) ≡ w
-word-back w = omega arith
-
-number-back : (n : ℕ) → le32 (n % 256) (n / 256 % 256) (n / 65536 % 256) (n / 16777216) ≡ n
-number-back n = omega arith
 
 phase-back : (p : Phase) → phaseIn (phaseByte p) ≡ p
 phase-back Unmounted = refl
@@ -46,7 +40,7 @@ unfolding wordBytes wordsIn
 words-back [] t zero e = refl
 words-back [] t (suc n) e = absurd (omega arith)
 words-back (w ∷ ws) t zero e = absurd (omega arith)
-words-back (w ∷ ws) t (suc n) e = rw (word-back w, words-back ws t n (omega arith))
+words-back (w ∷ ws) t (suc n) e = rw (le16-u16 w, words-back ws t n (omega arith))
 
 skip : (p q : List ℕ) (n m : ℕ) → length p ≡ n → drop (n + m) (p ++ q) ≡ drop m q
 skip p q n m e = rw (← e, drop-append-add)
@@ -55,7 +49,7 @@ frame-back : (f t : List ℕ) → length f ≡ maxFrame → frameIn (f ++ t) ≡
 frame-back f t e = let z : maxFrame - length f ≡ 0 = omega arith in rw (take-at f t maxFrame e, z, append-nil)
 
 cursor-back : (c : Cursor) (t : List ℕ) → cursorIn (cursorBytes c ++ t) ≡ c
-cursor-back c t = rw (word-back (c .at), word-back (c .id), word-back (c .source))
+cursor-back c t = rw (le16-u16 (c .at), le16-u16 (c .id), le16-u16 (c .source))
 
 job-back : (j : Job) (x : List ℕ) → length (j .wipe) ≡ 2 → length (j .since) ≡ 4 → jobIn (jobBytes j ++ x) ≡ j
 job-back j x p q =
@@ -71,7 +65,7 @@ job-back j x p q =
       getD-at s (j .size) x 0 8 n,
       flag-back (j .moves),
       flag-back (j .drops),
-      number-back (j .time),
+      le32-u32 (j .time),
       pair-then w [] p,
       append-nil,
     )
@@ -172,41 +166,41 @@ module _ (r : Record) (h : RecordFits r) where
   length-J : length J ≡ 19
   length-J = length-job (r .job) (h .job .wipe .0) (h .job .since .0)
 
-  from-job : drop jobAt (bytesOf r) ≡ JCX
-  unfolding bytesOf
+  from-job : drop jobAt (recordBytes r) ≡ JCX
+  unfolding recordBytes
   from-job = skip W JCX 512 0 length-W
 
-  from-cursor : drop cursorAt (bytesOf r) ≡ CX
-  unfolding bytesOf
+  from-cursor : drop cursorAt (recordBytes r) ≡ CX
+  unfolding recordBytes
   from-cursor = skip W JCX 512 19 length-W ∙ skip J CX 19 0 length-J
 
-  from-unit : drop unitAt (bytesOf r) ≡ X
-  unfolding bytesOf
+  from-unit : drop unitAt (recordBytes r) ≡ X
+  unfolding recordBytes
   from-unit = skip W JCX 512 28 length-W ∙ skip J CX 19 9 length-J
 
-  from-frame : drop frameAt (bytesOf r) ≡ r .frame ++ []
-  unfolding bytesOf
+  from-frame : drop frameAt (recordBytes r) ≡ r .frame ++ []
+  unfolding recordBytes
   from-frame =
       skip W JCX 512 100 length-W ∙ skip J CX 19 81 length-J
       ∙ skip (r .unit) (r .frame) 72 0 (h .unit .0) ∙ sym (append-nil (r .frame))
 
-  record-back : recordIn (bytesOf r) ≡ r
-  unfolding bytesOf
+  record-back : recordIn (recordBytes r) ≡ r
+  unfolding recordBytes
   record-back =
-      parts-back (bytesOf r) r (phase-back (r .phase)) (word-back (r .last)) refl (word-back (r .end)) (words-back (r .places) JCX 256 (h .places .0))
+      parts-back (recordBytes r) r (phase-back (r .phase)) (le16-u16 (r .last)) refl (le16-u16 (r .end)) (words-back (r .places) JCX 256 (h .places .0))
       (ap jobIn from-job ∙ job-back (r .job) CX (h .job .wipe .0) (h .job .since .0))
       (ap cursorIn from-cursor ∙ cursor-back (r .cursor) X)
       (ap frameIn from-unit ∙ frame-back (r .unit) (r .frame) (h .unit .0))
       (ap frameIn from-frame ∙ frame-back (r .frame) [] (h .frame .0))
 
-  pub length-bytes-of : length (bytesOf r) ≡ recordSize
-  unfolding bytesOf
+  pub length-bytes-of : length (recordBytes r) ≡ recordSize
+  unfolding recordBytes
   length-bytes-of =
       simp length-append
       (omega (arith, length-W, length-word-bytes (r .job .since), h .job .wipe .0, h .job .since .0, h .unit .0, h .frame .0))
 
-  pub bytes-of-bytes : Bytes (bytesOf r)
-  unfolding bytesOf
+  pub bytes-of-bytes : Bytes (recordBytes r)
+  unfolding recordBytes
   bytes-of-bytes =
       bytes-append (headBytes r) WJCX (head-bytes r h)
       (bytes-append W JCX (word-bytes (r .places) (h .places .1))

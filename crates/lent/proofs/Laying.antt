@@ -1,10 +1,10 @@
 -- A stretch of a buffer written: what stood before it, the stretch, what stood after it.
-use mathlib.Core.Path.{_≡_, refl, sym, ap, ap₂, _∙_}
+use mathlib.Core.Path.{_≡_, refl, sym, ap, _∙_}
 use mathlib.Core.List.{List, [], _∷_, _++_, append-assoc, append-nil}
-use Prim.Native.Nat.{ℕ, suc, _+_, _-_, _*_, _/_, _%_, _≤_, _<_}
+use Prim.Native.Nat.{ℕ, suc, _+_, _-_, _*_, _≤_, _<_}
 use native.Mathlib.Omega.{arith}
 use native.Mathlib.Numerals.{add-one}
-use lib.ListN.{length, getD, take, drop, length-append, length-drop, length-take, take-append-drop, drop-of-length-le}
+use lib.ListN.{length, getD, take, drop, length-append, length-drop, take-append-drop, drop-of-length-le}
 use lib.Seq.{take-at, drop-at, drop-drop, drop-length, take-suc, take-all, length-take-le}
 use borrow.Author.Tests.{lt-ltb, le-ltb}
 use Rattle.flash.specs.Bytes.{u16le}
@@ -12,7 +12,7 @@ use Rattle.wire.specs.Code.{overlay}
 use Rattle.wire.proofs.Laying.{to-end}
 use Rattle.frame.specs.Frame.{maxFrame}
 use Rattle.board.specs.declared.Record.{Record}
-use Rattle.lent.specs.Layout.{placesAt, jobAt, cursorAt, unitAt, frameAt, recordSize, wordBytes, headBytes, jobBytes, cursorBytes, bytesOf}
+use Rattle.lent.specs.Layout.{placesAt, jobAt, cursorAt, unitAt, frameAt, recordSize, wordBytes, headBytes, jobBytes, cursorBytes, recordBytes}
 use Rattle.lent.specs.Code.{laidAt}
 use Rattle.lent.proofs.Words.{length-word-bytes, next-word-bytes}
 
@@ -116,8 +116,8 @@ module _ (r : Record) (l x₁ x₂ x₃ x₄ x₅ x₆ h j c : List ℕ) (eh : h
     (e₁ : x₁ ≡ laidAt 0 h l) (e₂ : x₂ ≡ laidAt placesAt (wordBytes (r .places)) x₁) (e₃ : x₃ ≡ laidAt jobAt j x₂) (e₄ : x₄ ≡ laidAt cursorAt c x₃)
     (e₅ : x₅ ≡ laidAt unitAt (r .unit) x₄) (e₆ : x₆ ≡ laidAt frameAt (r .frame) x₅) where
   pub encoded : length (r .places) ≡ 256 → length (r .unit) ≡ maxFrame → length (r .frame) ≡ maxFrame → length j ≡ 19
-      → length l ≡ recordSize → x₆ ≡ bytesOf r
-  unfolding bytesOf
+      → length l ≡ recordSize → x₆ ≡ recordBytes r
+  unfolding recordBytes
   encoded np nu nf nj nl =
       let b : length (wordBytes (r .places)) ≡ 512 = length-word-bytes (r .places) ∙ rw np in
       e₆ ∙ rw (e₅, e₄, e₃, e₂, e₁, eh, ej, ec)

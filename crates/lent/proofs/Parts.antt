@@ -1,9 +1,9 @@
 -- Parts of a list: from a place on, a buffer laid over zeros, a phase past the last number.
-use mathlib.Core.Path.{_≡_, refl, sym, ap, _∙_}
-use mathlib.Core.List.{List, [], _∷_, _++_}
-use Prim.Native.Nat.{ℕ, suc, _+_, _-_, _≤_, _<_}
+use mathlib.Core.Path.{_≡_, sym, ap, _∙_}
+use mathlib.Core.List.{List}
+use Prim.Native.Nat.{ℕ, suc, _+_, _-_, _≤_}
 use native.Mathlib.Omega.{arith}
-use lib.ListN.{length, getD, take, drop, replicate, length-replicate, replicate-append-replicate, List·getD-eq-default}
+use lib.ListN.{length, drop, replicate, length-replicate, replicate-append-replicate, List·getD-eq-default}
 use lib.Seq.{drop-at}
 use borrow.Author.Tests.{le-ltb}
 use Rattle.frame.specs.Frame.{maxFrame, buffer}

@@ -1,7 +1,7 @@
 -- Words read from bytes one after the other, and words as bytes.
-use mathlib.Core.Path.{_≡_, refl, ap, ap₂, _∙_}
+use mathlib.Core.Path.{_≡_, refl, ap, _∙_}
 use mathlib.Core.List.{List, [], _∷_, _++_}
-use Prim.Native.Nat.{ℕ, zero, suc, _+_, _*_, _/_, _%_, _≤_, _<_}
+use Prim.Native.Nat.{ℕ, zero, suc, _+_, _*_, _/_, _%_, _<_}
 use native.Mathlib.Omega.{arith}
 use native.Mathlib.Nat.{add-zero}
 use native.Mathlib.Numerals.{add-one}
@@ -10,7 +10,7 @@ use lib.Seq.{take-suc-set, take-all, drop-drop, getD-drop}
 use Rattle.flash.specs.Bytes.{u16le, u32le}
 use Rattle.wire.specs.Message.{wordAt}
 use Rattle.board.specs.declared.Job.{Job}
-use Rattle.lent.specs.Layout.{wordsIn, wordBytes, flagByte, jobBytes, Words}
+use Rattle.lent.specs.Layout.{wordsIn, wordBytes, flagByte, jobBytes}
 
 -- one word more, at the end
 next-word : (n : ℕ) (l : List ℕ) → wordsIn (suc n) l ≡ wordsIn n l ++ (wordAt (drop (2 * n) l) 0 ∷ [])

@@ -1,7 +1,7 @@
 -- The board record as bytes, for the edge to C: one byte for each u8, numbers little-endian.
 use mathlib.Core.Path.{_≡_}
 use mathlib.Core.List.{List, [], _∷_, _++_}
-use mathlib.Core.Bool.{Bool, true, false, not, cond}
+use mathlib.Core.Bool.{Bool, not, cond}
 use Prim.Native.Nat.{ℕ, zero, suc, _+_, _*_, _<_}
 use lib.Dec.{eqb}
 use lib.ListN.{length, getD, take, drop}
@@ -126,12 +126,12 @@ jobBytes j =
 abbrev pub cursorBytes : Cursor → List ℕ
 cursorBytes c = c .index ∷ (u16le (c .at) ++ (u16le (c .id) ++ (u16le (c .source) ++ (c .size ∷ c .off ∷ []))))
 
-unfoldable pub bytesOf : Record → List ℕ
-bytesOf r = headBytes r ++ (wordBytes (r .places) ++ (jobBytes (r .job) ++ (cursorBytes (r .cursor) ++ (r .unit ++ r .frame))))
+unfoldable pub recordBytes : Record → List ℕ
+recordBytes r = headBytes r ++ (wordBytes (r .places) ++ (jobBytes (r .job) ++ (cursorBytes (r .cursor) ++ (r .unit ++ r .frame))))
 
 -- a record in a buffer of exactly its size; any other buffer stays
 unfoldable pub recordInto : Record → List ℕ → List ℕ
-recordInto r l = cond (eqb (length l) recordSize) (bytesOf r) l
+recordInto r l = cond (eqb (length l) recordSize) (recordBytes r) l
 
 -- ---- the numbers of a record are those its fields can hold, and its arrays have their lengths
 
@@ -175,4 +175,4 @@ pub record RecordFits (r : Record) : Type 0 where
 
 -- the bytes of a record are that record again
 unfoldable pub BytesBack : Type 0
-BytesBack = (r : Record) → RecordFits r → recordIn (bytesOf r) ≡ r
+BytesBack = (r : Record) → RecordFits r → recordIn (recordBytes r) ≡ r

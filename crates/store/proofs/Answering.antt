@@ -35,7 +35,7 @@ use Rattle.board.specs.declared.Record.{Record}
 use Rattle.board.specs.Record.{Out}
 use Rattle.board.specs.Queue.{Held, needsRoom, append, serveChange, serveEnd, serveRead, serveLog, serve}
 use Rattle.job.specs.declared.Outcome.{Outcome}
-use Rattle.store.specs.Calls.{outcome, refused, done, bytesOf, appendIn, changeIn, endIn, readIn, logIn, serveIn, replyIn}
+use Rattle.store.specs.Calls.{outcomeOf, refused, done, bytesOf, appendIn, changeIn, endIn, readIn, logIn, serveIn, replyIn}
 use Rattle.store.proofs.Rooms.{no-room-is}
 use Rattle.store.proofs.Choosing.{outcome-cond}
 
@@ -46,18 +46,18 @@ module _ (img : List ℕ) (r : Record) (reply : List ℕ) (h : Host) (x : Held) 
   abbrev places : List ℕ
   places = placesOf (x .frames)
 
-  append-is : (f : Frame) → outcome (append img r reply x f) ≡ appendIn (sizeOf img) r survey places (frameLen f) (bytesOf f)
+  append-is : (f : Frame) → outcomeOf (append img r reply x f) ≡ appendIn (sizeOf img) r survey places (frameLen f) (bytesOf f)
   unfolding append appendIn surveyOf
   append-is f = outcome-cond (needsRoom img r f && eqb (x .time) lastTime) _ _
 
-  change-is : (c : Change) → outcome (serveChange img r reply h x c)
+  change-is : (c : Change) → outcomeOf (serveChange img r reply h x c)
       ≡ changeIn (sizeOf img) r survey places h (frameLen (change h c)) (bytesOf (change h c)) (spare c)
   unfolding serveChange changeIn
   change-is c =
       outcome-cond (noRoom (sizeOf img) (replay (x .frames)) h c) _ _
       ∙ ap₂ (λ (t : Bool) (o : Outcome). cond t (refused refusal.NoRoom r) o) (no-room-is w (sizeOf img) h c) (append-is (change h c))
 
-  end-is : (f : Frame) → h .0 ≤ hostMax → outcome (serveEnd img r reply h x f) ≡ endIn (sizeOf img) r survey places h (frameLen f) (bytesOf f)
+  end-is : (f : Frame) → h .0 ≤ hostMax → outcomeOf (serveEnd img r reply h x f) ≡ endIn (sizeOf img) r survey places h (frameLen f) (bytesOf f)
   unfolding serveEnd endIn surveyOf
   end-is f l =
       outcome-cond (isOpen h (replay (x .frames) .pending)) _ _
@@ -75,7 +75,7 @@ module _ (img : List ℕ) (r : Record) (reply : List ℕ) (h : Host) (x : Held) 
       }
 
   read-is : (i : ObjectId) → i .0 ≤ idMax → (o : Option (List ℕ)) → lookup i (replay (x .frames) .objects) ≡ o
-      → outcome (serveRead img r reply x i o) ≡ readIn r places i
+      → outcomeOf (serveRead img r reply x i o) ≡ readIn r places i
   unfolding readIn
   read-is i l none e = sym (rw (no-place (x .frames) i l e))
   read-is i l (some v) e =
@@ -83,12 +83,12 @@ module _ (img : List ℕ) (r : Record) (reply : List ℕ) (h : Host) (x : Held) 
       place-law (block (sizeOf img) (r .block) img) (x .frames) i v journal l e in
       sym (rw (ne-eqb (getD (placesOf (x .frames)) (i .0) 0) 0 (λ q. omega (arith, z .past))))
 
-  log-is : (p : Page) → outcome (serveLog img r reply x p) ≡ logIn r reply
+  log-is : (p : Page) → outcomeOf (serveLog img r reply x p) ≡ logIn r reply
   unfolding serveLog logIn
   log-is Summary = outcome-cond (ltb (length reply) pageLen) _ _
 
   pub serve-is : (m : List ℕ) (q : Request) → InRange m q → h .0 ≤ hostMax
-      → outcome (serve img r reply h m x q) ≡ serveIn (sizeOf img) r reply h m survey places q
+      → outcomeOf (serve img r reply h m x q) ≡ serveIn (sizeOf img) r reply h m survey places q
   unfolding serve
   serve-is m (Put i) k l = change-is (put i (valueIn m))
   serve-is m (Delete i) k l = change-is (delete i)

@@ -1,6 +1,6 @@
 -- What a mount does with two surveys is what it does with the blocks.
 use mathlib.Core.Path.{_≡_, refl, sym, _∙_}
-use mathlib.Core.List.{List, [], _∷_}
+use mathlib.Core.List.{List}
 use mathlib.Core.Bool.{Bool, true, false, _&&_, cond}
 use Prim.Native.Nat.{ℕ, _-_, _<_}
 use native.Mathlib.Omega.{arith}
@@ -18,20 +18,15 @@ use Rattle.journal.specs.Index.{placesOf}
 use Rattle.journal.specs.Survey.{surveyOf, placesIn}
 use Rattle.journal.proofs.States.{valid-inv}
 use Rattle.board.specs.Record.{allowed, noFrame, Out}
-use Rattle.board.specs.Mount.{Found, Store, wipeList, wipeArray, needsTransfer, mountAt, mountFound, mountOn}
-use Rattle.store.specs.Calls.{outcome, needsIn, wipeOther, chooseValid, chooseOf, mountIn, mountChosen}
+use Rattle.board.specs.Mount.{Found, wipeList, wipeArray, needsTransfer, mountAt, mountFound, mountOn}
+use Rattle.board.proofs.Deciding.{foundIn, store}
+use Rattle.store.specs.Calls.{outcomeOf, needsIn, wipeOther, chooseValid, chooseOf, mountIn, mountChosen}
 use Rattle.store.proofs.Images.{block-fits}
 use Rattle.store.proofs.Rooms.{needs-is}
 
-pub outcome-cond : (t : Bool) (x y : Out) → outcome (cond t x y) ≡ cond t (outcome x) (outcome y)
+pub outcome-cond : (t : Bool) (x y : Out) → outcomeOf (cond t x y) ≡ cond t (outcomeOf x) (outcomeOf y)
 outcome-cond true x y = refl
 outcome-cond false x y = refl
-
-abbrev foundIn : BlockState → BlockState → List Found
-foundIn a b = record { number = 0; state = a } ∷ record { number = 1; state = b } ∷ []
-
-abbrev store : ℕ → ℕ → List Frame → Tail → Store
-store k t fs c = record { number = k; time = t; frames = fs; tail = c }
 
 -- the test of a transfer by the survey
 abbrev Told : BlockState → Type 0
@@ -43,14 +38,14 @@ Told (foreign e) = Unit {0}
 -- one block taken, and the other erased or not
 mount-with : (img : List ℕ) (xs : List Found) (k t : ℕ) (fs : List Frame) (c : Tail) (w : Bool)
     → wipeArray (wipeList k xs) ≡ wipeOther w k → length (wipeList k xs) ≡ one w → Told (valid t fs c)
-    → mountIn (length img - 1) k (surveyOf (valid t fs c)) (placesOf fs) w ≡ outcome (mountAt img xs (store k t fs c))
+    → mountIn (length img - 1) k (surveyOf (valid t fs c)) (placesOf fs) w ≡ outcomeOf (mountAt img xs (store k t fs c))
 unfolding mountIn mountAt surveyOf noFrame
 mount-with img xs k t fs c w p q e = rw (← e, ← p, ← q) (sym (outcome-cond (needsTransfer fs c && eqb t lastTime) _ _))
 
 abbrev Mounts : List ℕ → BlockState → BlockState → Type 0
 Mounts img a b =
     mountChosen (length img - 1) (chooseOf (surveyOf a) (surveyOf b)) (surveyOf a) (placesIn a) (surveyOf b) (placesIn b)
-    ≡ outcome (mountFound img (foundIn a b))
+    ≡ outcomeOf (mountFound img (foundIn a b))
 
 both-valid : (img : List ℕ) (t u : ℕ) (fs gs : List Frame) (c d : Tail) → Told (valid t fs c) → Told (valid u gs d) → Mounts img (valid t fs c) (valid u gs d)
 unfolding chooseOf chooseValid mountFound surveyOf
@@ -93,7 +88,7 @@ told img k a y h = go (blockState (block (sizeOf img) k img)) refl
 pub mounts : (img : List ℕ) → allowed (length img) ≡ true → Bytes img
     → let a : BlockState = blockState (block (sizeOf img) 0 img) in
     let b : BlockState = blockState (block (sizeOf img) 1 img) in
-    mountChosen (length img - 1) (chooseOf (surveyOf a) (surveyOf b)) (surveyOf a) (placesIn a) (surveyOf b) (placesIn b) ≡ outcome (mountOn img)
+    mountChosen (length img - 1) (chooseOf (surveyOf a) (surveyOf b)) (surveyOf a) (placesIn a) (surveyOf b) (placesIn b) ≡ outcomeOf (mountOn img)
 unfolding mountOn
 mounts img a y =
     mounts-two img (blockState (block (sizeOf img) 0 img)) (blockState (block (sizeOf img) 1 img)) (told img 0 a y (omega arith)) (told img 1 a y (omega arith))

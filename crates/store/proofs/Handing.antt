@@ -38,7 +38,7 @@ use Rattle.board.proofs.Images.{Sized, sized-of, sized-block}
 use Rattle.board.specs.Queue.{Held, needsRoom, append, serveChange, serveEnd, serveRead, serveLog, serve, stretchOf, requestOn, readOn}
 use Rattle.store.specs.declared.queue.Ask.{Ask}
 use Rattle.store.specs.declared.queue.Ask.the-variants as ask
-use Rattle.store.specs.Calls.{outcome, askOf, serveIn, replyIn, stretchAt, foundFor}
+use Rattle.store.specs.Calls.{outcomeOf, askOf, serveIn, replyIn, stretchAt, foundFor}
 use Rattle.store.proofs.Images.{block-length, same-inside}
 use Rattle.store.proofs.Asking.{Passed, Served, unheard, heard}
 use Rattle.store.proofs.Answering.{journal, serve-is, reply-is}
@@ -157,10 +157,10 @@ module _ {img : List ℕ} {r : Record} {h : Host} {m : List ℕ} {s : Survey} {a
       places-now : places ≡ placesOf (served .held .frames)
       places-now = ep ∙ ap placesIn (served .state)
 
-      pub served-outcome : (reply : List ℕ) → serveIn (sizeOf img) r reply h m s places q ≡ outcome (requestOn img r reply h m)
+      pub served-outcome : (reply : List ℕ) → serveIn (sizeOf img) r reply h m s places q ≡ outcomeOf (requestOn img r reply h m)
       served-outcome reply =
           ap₂ (λ (x : Survey) (b : List ℕ). serveIn (sizeOf img) r reply h m x b q) survey-now places-now
-          ∙ sym (serve-is img r reply h (served .held) (served .contents) m q range low) ∙ sym (ap outcome (served .serves reply))
+          ∙ sym (serve-is img r reply h (served .held) (served .contents) m q range low) ∙ sym (ap outcomeOf (served .serves reply))
 
       module _ (b : List ℕ) (eb : b ≡ block (sizeOf img) (r .block) img) (f : Found) (ef : f ≡ foundFor b places q) where
         found-here : f ≡ foundFor (block (sizeOf img) (r .block) img) places q

@@ -1,13 +1,13 @@
 -- The image's bytes and its blocks.
 use mathlib.Core.Path.{_≡_, refl, ap}
-use mathlib.Core.List.{List, [], _∷_}
+use mathlib.Core.List.{List}
 use mathlib.Core.Bool.{Bool, true, false, _&&_}
 use Prim.Native.Nat.{ℕ, zero, suc, _≤_, _<_}
 use native.Mathlib.Omega.{arith}
 use lib.Dec.{eqb, ltb}
-use lib.ListN.{length, getD}
+use lib.ListN.{length}
 use borrow.Author.Tests.{ltb-true}
-use Rattle.flash.specs.Bytes.{Bytes, allFF}
+use Rattle.flash.specs.Bytes.{allFF}
 use Rattle.flash.specs.Flash.{blocks, blockNumbers, block, sizeOf}
 use Rattle.flash.proofs.Image.{length-block}
 use Rattle.board.specs.declared.Record.{Record}
@@ -16,11 +16,6 @@ use Rattle.board.specs.Mount.{nextBlock}
 use Rattle.board.specs.Queue.{othersBlank, sameImage}
 use Rattle.board.proofs.Images.{Sized, sized-of, sized-block}
 use Rattle.store.specs.Calls.{sameAs}
-
--- a slice's elements are bytes
-pub all-bytes : (l : List ℕ) → ((i : ℕ) → getD l i 0 < 256) → Bytes l
-all-bytes [] f = tt
-all-bytes (b ∷ l) f = (f 0, all-bytes l (λ i. f (suc i)))
 
 -- ---- a block's length
 

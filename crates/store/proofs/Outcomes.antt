@@ -21,21 +21,20 @@ use Rattle.wire.specs.declared.Answer.{Answer}
 use Rattle.wire.specs.declared.Refusal.{Refusal}
 use Rattle.wire.specs.declared.Refusal.the-variants as refusal
 use Rattle.board.specs.declared.Record.{Record}
-use Rattle.board.specs.Record.{allowed, noPlaces, noMarks, noFrame, unmounted, answerOf, Out, refuse}
+use Rattle.board.specs.Record.{allowed, noPlaces, noMarks, noFrame, unmounted, busyWith, answerOf, Out, refuse}
 use Rattle.board.specs.Step.{enterWipe}
 use Rattle.board.specs.Queue.{requestOn}
 use Rattle.board.specs.Mount.{mountOn, formatOn}
 use Rattle.board.proofs.Outcomes.{format-begins}
-use Rattle.job.specs.Code.{busyWith}
 use Rattle.job.specs.declared.Outcome.{Outcome}
 use Rattle.store.specs.declared.mounts.Choice.{Choice}
-use Rattle.store.specs.Calls.{outcome, refused, begun, needsIn, mountRecord, mountIn, chooseOf, mountChosen, appendRecord, bytesOf, appendIn, changeIn}
+use Rattle.store.specs.Calls.{outcomeOf, refused, begun, needsIn, mountRecord, mountIn, chooseOf, mountChosen, appendRecord, bytesOf, appendIn, changeIn}
 use Rattle.store.proofs.Choosing.{mounts}
 
-pub both : {o : Outcome} (x : Out) → o ≡ outcome x → (o .answer ≡ x .answer) × (o .board ≡ x .board)
+pub both : {o : Outcome} (x : Out) → o ≡ outcomeOf x → (o .answer ≡ x .answer) × (o .board ≡ x .board)
 both x q = (ap (λ (y : Outcome). y .answer) q, ap (λ (y : Outcome). y .board) q)
 
-pub with-reply : {o : Outcome} {t : List ℕ} (x : Out) → o ≡ outcome x → t ≡ x .reply
+pub with-reply : {o : Outcome} {t : List ℕ} (x : Out) → o ≡ outcomeOf x → t ≡ x .reply
     → (o .answer ≡ x .answer) × (o .board ≡ x .board) × (t ≡ x .reply)
 with-reply x q e = (ap (λ (y : Outcome). y .answer) q, ap (λ (y : Outcome). y .board) q, e)
 
@@ -43,7 +42,7 @@ with-reply x q e = (ap (λ (y : Outcome). y .answer) q, ap (λ (y : Outcome). y 
 pub refused-all : (img : List ℕ) (r : Record) (h : Host) (m reply : List ℕ) (why : Refusal) (o : Outcome)
     → requestOn img r reply h m ≡ refuse why img r reply → o ≡ refused why r
     → let x : Out = requestOn img r reply h m in (o .answer ≡ x .answer) × (o .board ≡ x .board) × (reply ≡ x .reply)
-refused-all img r h m reply why o e q = with-reply (requestOn img r reply h m) (q ∙ sym (ap outcome e)) (sym (ap (λ (x : Out). x .reply) e))
+refused-all img r h m reply why o e q = with-reply (requestOn img r reply h m) (q ∙ sym (ap outcomeOf e)) (sym (ap (λ (x : Out). x .reply) e))
 
 pub begun-is : (o : Outcome) (r : Record) → (o .answer ≡ answerOf (enterWipe r)) × (o .board ≡ enterWipe r) → o ≡ begun r
 begun-is o r h = ap₂ (λ (a : Answer) (b : Record). record { answer = a; board = b }) (h .0) (h .1)
@@ -67,15 +66,15 @@ module _ (l k : ℕ) (s : Survey) (places : List ℕ) (wipes m w : Bool) (e : m 
 -- the whole of it
 pub mount-is : (img x y : List ℕ) (a b : Survey) (p q : List ℕ) (c : Choice) → allowed (length img) ≡ true → Bytes img
     → x ≡ block (sizeOf img) 0 img → y ≡ block (sizeOf img) 1 img → a ≡ surveyOf (blockState x) → p ≡ placesIn (blockState x)
-    → b ≡ surveyOf (blockState y) → q ≡ placesIn (blockState y) → c ≡ chooseOf a b → mountChosen (length img - 1) c a p b q ≡ outcome (mountOn img)
+    → b ≡ surveyOf (blockState y) → q ≡ placesIn (blockState y) → c ≡ chooseOf a b → mountChosen (length img - 1) c a p b q ≡ outcomeOf (mountOn img)
 mount-is img x y a b p q c ok by ex ey ea ep eb eq ec = rw (ec, ea, ep, eb, eq, ex, ey) (mounts img ok by)
 
 pub format-is : (img p f : List ℕ) → allowed (length img) ≡ true → p ≡ noPlaces → f ≡ noFrame
     → begun (busyWith (length img - 1) 1 16 p
     (record { wipe = 0 ∷ 1 ∷ []; wipes = 2; moves = true; drops = false; target = 0; time = 1; since = noMarks; size = 0 })
-    256 16 f) ≡ outcome (formatOn img)
+    256 16 f) ≡ outcomeOf (formatOn img)
 unfolding noFrame
-format-is img p f a ep ef = rw (ep, ef) (sym (ap outcome (format-begins img a)))
+format-is img p f a ep ef = rw (ep, ef) (sym (ap outcomeOf (format-begins img a)))
 
 -- ---- a frame appended: w is what the test for a transfer at the last time gave
 

@@ -30,10 +30,9 @@ use Rattle.wire.specs.Code.{pageInto}
 use Rattle.board.specs.declared.Phase.{Phase}
 use Rattle.board.specs.declared.Phase.the-variants.{Unmounted, Idle, Busy}
 use Rattle.board.specs.declared.Record.{Record}
-use Rattle.board.specs.Record.{allowed, noMarks, noFrame, unmounted, Stretch, noStretch, Out, answerOf}
+use Rattle.board.specs.Record.{allowed, noMarks, noFrame, unmounted, busyWith, Stretch, noStretch, Out, answerOf}
 use Rattle.board.specs.Step.{enterWipe}
 use Rattle.board.specs.Mount.{nextBlock, newTime}
-use Rattle.job.specs.Code.{busyWith}
 use Rattle.job.specs.declared.Outcome.{Outcome}
 use Rattle.store.specs.declared.mounts.Choice.{Choice}
 use Rattle.store.specs.declared.mounts.Choice.the-variants as choice
@@ -44,8 +43,8 @@ use Rattle.store.specs.declared.queue.Ask.the-variants as ask
 
 -- ---- outcomes
 
-abbrev pub outcome : Out → Outcome
-outcome o = record { answer = o .answer; board = o .board }
+abbrev pub outcomeOf : Out → Outcome
+outcomeOf o = record { answer = o .answer; board = o .board }
 
 abbrev pub refused : Refusal → Record → Outcome
 refused n r = record { answer = Refused n; board = r }

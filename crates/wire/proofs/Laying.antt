@@ -1,17 +1,9 @@
--- A copy to the front of a list, one byte a turn; a list from a place to its end.
+-- A list from a place to its end.
 use mathlib.Core.Path.{_≡_, sym, _∙_}
-use mathlib.Core.List.{List, _++_, append-assoc}
-use Prim.Native.Nat.{ℕ, _+_, _-_, _<_, _≤_}
-use native.Mathlib.Omega.{arith}
-use native.Mathlib.Numerals.{add-one}
-use lib.ListN.{length, getD, take, drop, set, length-drop, drop-of-length-le}
-use lib.Seq.{drop-cons, take-suc, set-at, length-take-le, take-length}
-
-pub copy-more : (s d : List ℕ) (i : ℕ) → i < length s → i < length d
-    → set (take i s ++ drop i d) i (getD s i 0) ≡ take (i + 1) s ++ drop (i + 1) d
-copy-more s d i l m =
-    rw (drop-cons d i 0 m, set-at {A = ℕ} _ _ _ (getD s i 0) i (length-take-le i s (omega arith)), add-one, take-suc s i 0 l)
-    (simp append-assoc)
+use mathlib.Core.List.{List}
+use Prim.Native.Nat.{ℕ, _-_, _≤_}
+use lib.ListN.{length, take, drop, length-drop, drop-of-length-le}
+use lib.Seq.{take-length}
 
 pub to-end : (k : ℕ) (l : List ℕ) → take (length l - k) (drop k l) ≡ drop k l
 to-end k l = rw (← length-drop k l, take-length)

@@ -1,5 +1,5 @@
 -- Messages and replies, document 01, "What hosts send".
-use mathlib.Core.List.{List, [], _∷_, _++_}
+use mathlib.Core.List.{List, _++_}
 use mathlib.Core.Bool.{Bool, true, false, _&&_}
 use Prim.Native.Nat.{ℕ, _+_}
 use lib.Dec.{eqb, leb}
@@ -7,7 +7,6 @@ use lib.ListN.{length, getD, drop}
 use Rattle.flash.specs.Bytes.{u16le, u32le, le16}
 use Rattle.frame.specs.declared.ObjectId.{ObjectId}
 use Rattle.frame.specs.Frame.{idMax, valueMax}
-use Rattle.wire.specs.declared.Page.{Page}
 use Rattle.wire.specs.declared.Page.the-variants.{Summary}
 use Rattle.wire.specs.declared.Request.{Request}
 use Rattle.wire.specs.declared.Request.the-variants.{Put, Delete, Commit, Abort, Read, Log}

@@ -9,7 +9,7 @@ use denote.Ref.{now}
 use borrow.Author.Tests.{lt-ltb, le-ltb}
 use borrow.Author.Needs.{needs}
 use Rattle.wire.specs.Code.{overlay}
-use Rattle.wire.proofs.Laying.{copy-more}
+use Rattle.frame.proofs.Stores.{copy-more}
 use Rattle.wire.proofs.lay.Statement.{statement}
 use Rattle.wire.proofs.lay.Tie as tie
 

@@ -1,7 +1,6 @@
 -- A job accepted.
 use Rattle.job.specs.Code.{numbersOf}
 use Rattle.job.proofs.Entering.{wipe-leaves}
-use native.Mathlib.Omega.{arith}
 use borrow.Author.Needs.{needs}
 use Rattle.job.proofs.records.begin.Statement.{statement}
 use Rattle.job.proofs.records.begin.Tie as tie

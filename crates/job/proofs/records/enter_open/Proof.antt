@@ -1,5 +1,5 @@
 -- Entering the stage that opens a new block.
-use mathlib.Core.Path.{_∙_, ap}
+use mathlib.Core.Path.{_∙_}
 use Rattle.job.proofs.Entering.{when-true, when-false}
 use Rattle.job.specs.Code.{goOpen}
 use borrow.Author.Needs.{needs}

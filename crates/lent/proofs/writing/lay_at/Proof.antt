@@ -1,5 +1,4 @@
 -- A stretch laid over the bytes from a place on; past the end nothing changes.
-use native.Mathlib.Omega.{arith}
 use denote.Ref.{now}
 use borrow.Author.Needs.{needs}
 use Rattle.lent.proofs.Laying.{put-back, too-far}

@@ -7,7 +7,7 @@ use Rattle.wire.specs.declared.Refusal.the-variants as refusal
 use Rattle.board.specs.Mount.{formatOn}
 use Rattle.board.proofs.Images.{sized-of}
 use Rattle.board.proofs.Outcomes.{format-length}
-use Rattle.store.specs.Calls.{outcome, refused, begun}
+use Rattle.store.specs.Calls.{outcomeOf, refused, begun}
 use Rattle.store.proofs.Outcomes.{both, begun-is, format-is}
 use borrow.Author.Needs.{needs}
 use Rattle.store.proofs.mounts.format.Statement.{statement}
@@ -20,7 +20,7 @@ format-spec =
     (λ c κs. search needs)
     (λ c κs. search needs)
     (λ c κs. search needs)
-    (λ c. both (formatOn (now (c .before .before .before .before .before .args .image))) (c .refused .ensures ∙ ap (refused refusal.ImageLength) (c .before .unmounted .ensures) ∙ sym (ap outcome (format-length (now (c .before .before .before .before .before .args .image)) (sym (c .before .before .before .is-allowed .ensures) ∙ not-true (c .before .before .before .is-allowed .result) (c .before .before .if1 .taken))))))
+    (λ c. both (formatOn (now (c .before .before .before .before .before .args .image))) (c .refused .ensures ∙ ap (refused refusal.ImageLength) (c .before .unmounted .ensures) ∙ sym (ap outcomeOf (format-length (now (c .before .before .before .before .before .args .image)) (sym (c .before .before .before .is-allowed .ensures) ∙ not-true (c .before .before .before .is-allowed .result) (c .before .before .if1 .taken))))))
     (λ c. let z = sized-of (now (c .before .before .before .args .image)) (sym (c .before .is-allowed .ensures) ∙ not-false (c .before .is-allowed .result) (c .if1 .left)) in omega (arith, z .two, z .low, z .high))
     (λ c. let z = sized-of (now (c .before .before .before .args .image)) (sym (c .before .is-allowed .ensures) ∙ not-false (c .before .is-allowed .result) (c .if1 .left)) in omega (arith, z .two, z .low, z .high))
     (λ c κs. search needs)

@@ -7,8 +7,9 @@ use Rattle.wire.specs.declared.Refusal.the-variants as refusal
 use Rattle.board.specs.Mount.{mountOn}
 use Rattle.board.proofs.Images.{sized-of}
 use Rattle.board.proofs.Outcomes.{mount-length}
-use Rattle.store.specs.Calls.{outcome, refused}
-use Rattle.store.proofs.Images.{all-bytes, block-fits}
+use Rattle.frame.proofs.Misfits.{bytes-of}
+use Rattle.store.specs.Calls.{outcomeOf, refused}
+use Rattle.store.proofs.Images.{block-fits}
 use Rattle.store.proofs.Outcomes.{both, mount-is}
 use borrow.Author.Needs.{needs}
 use Rattle.store.proofs.mounts.mount.Statement.{statement}
@@ -21,7 +22,7 @@ mount-spec =
     (λ c κs. search needs)
     (λ c κs. search needs)
     (λ c κs. search needs)
-    (λ c. both (mountOn (now (c .before .before .before .before .before .args .image))) (c .refused .ensures ∙ ap (refused refusal.ImageLength) (c .before .unmounted .ensures) ∙ sym (ap outcome (mount-length (now (c .before .before .before .before .before .args .image)) (sym (c .before .before .before .is-allowed .ensures) ∙ not-true (c .before .before .before .is-allowed .result) (c .before .before .if1 .taken))))))
+    (λ c. both (mountOn (now (c .before .before .before .before .before .args .image))) (c .refused .ensures ∙ ap (refused refusal.ImageLength) (c .before .unmounted .ensures) ∙ sym (ap outcomeOf (mount-length (now (c .before .before .before .before .before .args .image)) (sym (c .before .before .before .is-allowed .ensures) ∙ not-true (c .before .before .before .is-allowed .result) (c .before .before .if1 .taken))))))
     (λ c κs. search needs)
     (λ c κs. search needs)
     (λ c κs. search needs)
@@ -32,4 +33,4 @@ mount-spec =
     (λ c. let z = sized-of (now (c .before .before .before .before .before .before .before .before .before .before .before .args .image)) (sym (c .before .before .before .before .before .before .before .before .before .is-allowed .ensures) ∙ not-false (c .before .before .before .before .before .before .before .before .before .is-allowed .result) (c .before .before .before .before .before .before .before .before .if1 .left)) in omega (arith, z .two, z .low, z .high))
     (λ c κs. search needs)
     (λ c κs. search needs)
-    (λ c. both (mountOn (now (c .before .before .before .before .before .before .before .before .before .before .before .before .before .args .image))) (c .mount-chosen .ensures ∙ mount-is (now (c .before .before .before .before .before .before .before .before .before .before .before .before .before .args .image)) _ _ _ _ _ _ _ (sym (c .before .before .before .before .before .before .before .before .before .before .before .is-allowed .ensures) ∙ not-false (c .before .before .before .before .before .before .before .before .before .before .before .is-allowed .result) (c .before .before .before .before .before .before .before .before .before .before .if1 .left)) (all-bytes (now (c .before .before .before .before .before .before .before .before .before .before .before .before .before .args .image)) (λ i. c .before .before .before .before .before .before .before .before .before .before .before .before .shared-slice-known .given i .fits)) (c .before .before .before .before .before .before .before .block-of .ensures) (c .before .before .before .before .block-of2 .ensures) (c .before .before .before .before .before .survey-block .ensures .0) (c .before .before .before .before .before .survey-block .ensures .1) (c .before .before .survey-block2 .ensures .0) (c .before .before .survey-block2 .ensures .1) (c .before .choose .ensures))))
+    (λ c. both (mountOn (now (c .before .before .before .before .before .before .before .before .before .before .before .before .before .args .image))) (c .mount-chosen .ensures ∙ mount-is (now (c .before .before .before .before .before .before .before .before .before .before .before .before .before .args .image)) _ _ _ _ _ _ _ (sym (c .before .before .before .before .before .before .before .before .before .before .before .is-allowed .ensures) ∙ not-false (c .before .before .before .before .before .before .before .before .before .before .before .is-allowed .result) (c .before .before .before .before .before .before .before .before .before .before .if1 .left)) (bytes-of (now (c .before .before .before .before .before .before .before .before .before .before .before .before .before .args .image)) (λ i. c .before .before .before .before .before .before .before .before .before .before .before .before .shared-slice-known .given i .fits)) (c .before .before .before .before .before .before .before .block-of .ensures) (c .before .before .before .before .block-of2 .ensures) (c .before .before .before .before .before .survey-block .ensures .0) (c .before .before .before .before .before .survey-block .ensures .1) (c .before .before .survey-block2 .ensures .0) (c .before .before .survey-block2 .ensures .1) (c .before .choose .ensures))))

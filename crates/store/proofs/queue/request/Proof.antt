@@ -1,5 +1,5 @@
 -- A request: refused at the gate, refused by the block or the message, or served.
-use mathlib.Core.Path.{_≡_, refl, sym, ap, _∙_}
+use mathlib.Core.Path.{sym, ap, _∙_}
 use mathlib.Core.List.{List}
 use Prim.Native.Nat.{ℕ}
 use native.Mathlib.Omega.{arith}
@@ -10,7 +10,7 @@ use Rattle.journal.specs.Block.{blockState}
 use Rattle.journal.specs.Survey.{surveyOf, placesIn}
 use Rattle.board.specs.Queue.{requestOn}
 use Rattle.board.proofs.Images.{sized-of}
-use Rattle.store.proofs.Images.{all-bytes, same-inside}
+use Rattle.frame.proofs.Misfits.{bytes-of}
 use Rattle.store.proofs.Asking.{Passed, passed, looks, shut}
 use Rattle.store.proofs.Outcomes.{with-reply, refused-all}
 use Rattle.store.proofs.Handing.{Looked, not-served, served-says, served-outcome, served-reply}
@@ -23,7 +23,7 @@ opened c = passed (now (c .before .before .before .before .before .before .args 
 
 -- the current block, which is to be surveyed
 bytes : (c : tie.After-block-of) → Bytes (now (c .before .before .before .before .before .before .before .before .args .image))
-bytes c = all-bytes (now (c .before .before .before .before .before .before .before .before .args .image)) (λ i. c .before .before .before .before .before .before .before .shared-slice-known .given i .fits)
+bytes c = bytes-of (now (c .before .before .before .before .before .before .before .before .args .image)) (λ i. c .before .before .before .before .before .before .before .shared-slice-known .given i .fits)
 
 looked : (c : tie.After-hear) → Looked (now (c .before .before .before .before .before .before .before .before .before .before .before .args .image)) (c .before .before .before .before .before .before .before .before .before .before .before .args .board) (c .before .before .before .before .before .before .before .before .before .before .before .args .host) (now (c .before .before .before .before .before .before .before .before .before .before .before .args .message)) (c .before .survey-block .result) (c .hear .result)
 looked c =

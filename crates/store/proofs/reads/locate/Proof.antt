@@ -1,5 +1,5 @@
 -- A read: empty where it is refused or finds nothing, else the value where it stands.
-use mathlib.Core.Path.{_≡_, refl, sym, ap, _∙_}
+use mathlib.Core.Path.{refl, sym, ap, _∙_}
 use mathlib.Core.List.{List}
 use Prim.Native.Nat.{ℕ, _+_, _*_, _≤_}
 use native.Mathlib.Omega.{arith}
@@ -11,8 +11,7 @@ use lib.ListN.{length}
 use Rattle.flash.specs.Flash.{sizeOf}
 use Rattle.journal.specs.Survey.{surveyOf, placesIn}
 use Rattle.board.specs.Record.{noStretch}
-use Rattle.board.specs.Queue.{readOn}
-use Rattle.store.proofs.Images.{all-bytes, same-inside}
+use Rattle.frame.proofs.Misfits.{bytes-of}
 use Rattle.store.proofs.Asking.{Passed, passed, looks, shut}
 use Rattle.store.proofs.Handing.{Looked, none-read, not-served, read-stretch, read-inside, located}
 use Rattle.store.proofs.reads.locate.Statement.{statement}
@@ -24,7 +23,7 @@ opened c = passed (now (c .before .before .before .before .before .args .image))
 
 -- the current block, which is to be surveyed
 bytes : (c : tie.After-block-of) → Bytes (now (c .before .before .before .before .before .before .before .args .image))
-bytes c = all-bytes (now (c .before .before .before .before .before .before .before .args .image)) (λ i. c .before .before .before .before .before .before .shared-slice-known .given i .fits)
+bytes c = bytes-of (now (c .before .before .before .before .before .before .before .args .image)) (λ i. c .before .before .before .before .before .before .shared-slice-known .given i .fits)
 
 looked : (c : tie.After-hear) → Looked (now (c .before .before .before .before .before .before .before .before .before .before .args .image)) (c .before .before .before .before .before .before .before .before .before .before .args .board) (c .before .before .before .before .before .before .before .before .before .before .args .host) (now (c .before .before .before .before .before .before .before .before .before .before .args .message)) (c .before .survey-block .result) (c .hear .result)
 looked c =

@@ -1,6 +1,5 @@
 -- A read: the stretch that was located.
 use mathlib.Core.Path.{refl}
-use native.Mathlib.Omega.{arith}
 use native.Mathlib.Nat.{add-sub-cancel-left}
 use borrow.Author.Needs.{needs}
 use Rattle.store.proofs.reads.read.Statement.{statement}
