@@ -1,9 +1,16 @@
 // The flash: an image of bytes in blocks of one size. A step programs one byte or erases one block.
 ghost use mathlib.Core.Path.{_≡_};
 ghost use Prim.Native.Nat.{_+_, _*_, _-_, _≤_, min};
-ghost use lib.ListN.{length, replicate};
+ghost use lib.ListN.{length, getD, replicate};
 ghost use Rattle.flash.specs.Bytes.{allFF};
 ghost use Rattle.flash.specs.Flash.{sizeOf, block, programAt, eraseBlock};
+
+// The byte at a place, 0 past the end.
+pub fn byte_at(bytes: &[u8], i: usize) -> u8
+    ensures { λ r. ⌜ r ≡ getD (now (bytes .entry)) i 0 ⌝ }
+{
+    if i < bytes.len() { bytes[i] } else { 0 }
+}
 
 // Every byte is 0xFF.
 pub fn is_blank(s: &[u8]) -> bool

@@ -15,18 +15,12 @@ use crate::Host;
 use crate::MAX_FRAME;
 use crate::ObjectId;
 use crate::VALUE_MAX;
+use flash::byte_at;
 
 // The first byte of a frame that does not fit: its offset, its field, and where that starts.
 enum Misfit {
     None,
     At(usize, Field, usize),
-}
-
-// The byte at an offset, 0 past the end.
-fn byte_at(t: &[u8], i: usize) -> u8
-    ensures { λ r. ⌜ r ≡ getD (now (t .entry)) i 0 ⌝ }
-{
-    if i < t.len() { t[i] } else { 0 }
 }
 
 // The bytes from an offset on, none past the end.

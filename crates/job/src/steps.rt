@@ -35,17 +35,6 @@ pub enum Action {
 
 // ---- the step that a job does next
 
-// A byte of a frame buffer; 0 past its end.
-fn byte_of(buffer: &[u8], i: u8) -> u8
-    ensures { λ r. ⌜ r ≡ getD (now (buffer .entry)) i 0 ⌝ }
-{
-    let k = i as usize;
-    if k < buffer.len() {
-        return buffer[k];
-    }
-    0
-}
-
 // A block to erase; block 0 past the last of them.
 fn wiped(wipe: [u8; 2], i: u8) -> u8
     ensures { λ r. ⌜ r ≡ getD wipe i 0 ⌝ }
@@ -98,14 +87,14 @@ fn next_action(stage: Stage, n: Numbers, unit: &[u8; MAX_FRAME], frame: &[u8; MA
         Stage::Copy => return Action::Program(
             job.target,
             cursor.at as usize,
-            byte_of(unit, cursor.off),
+            flash::byte_at(unit, cursor.off as usize),
         ),
         Stage::Seal => return seal_action(job.target, job.time, cursor.index),
         Stage::Drop => return Action::Erase(n.block),
         Stage::Append => return Action::Program(
             n.block,
             n.end as usize + cursor.index as usize,
-            byte_of(frame, cursor.index),
+            flash::byte_at(frame, cursor.index as usize),
         ),
     }
 }

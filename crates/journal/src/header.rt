@@ -14,10 +14,7 @@ use frame::Field;
 pub fn byte_at(block: &[u8], i: usize) -> usize
     ensures { λ r. ⌜ (r ≡ getD (now (block .entry)) i 0) × (r < 256) ⌝ }
 {
-    if i < block.len() {
-        return block[i] as usize;
-    }
-    0
+    flash::byte_at(block, i) as usize
 }
 
 // When a block was made: the header holds the inverse.

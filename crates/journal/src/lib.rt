@@ -8,6 +8,7 @@ mod pass;
 pub use block::survey_block;
 use frame::Fault;
 use frame::Head;
+pub use hosts::of_host;
 pub use index::next_load;
 pub use index::value_at;
 

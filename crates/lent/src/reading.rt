@@ -9,6 +9,7 @@ use board::Job;
 use board::Phase;
 use board::Record;
 use board::Stage;
+use flash::byte_at;
 use frame::MAX_FRAME;
 use wire::word_at;
 ghost use mathlib.Core.Path.{_≡_};
@@ -16,14 +17,6 @@ ghost use lib.ListN.{getD, take, drop};
 ghost use Rattle.flash.specs.Bytes.{le32};
 ghost use Rattle.frame.specs.Frame.{maxFrame};
 ghost use Rattle.lent.specs.Layout.{phaseIn, wordsIn, flagIn, frameIn, jobIn, cursorIn, recordIn};
-
-// A byte, 0 past the end.
-fn byte_at(bytes: &[u8], i: u8) -> u8
-    ensures { λ r. ⌜ r ≡ getD (now (bytes .entry)) i 0 ⌝ }
-{
-    let at = i as usize;
-    if at < bytes.len() { bytes[at] } else { 0 }
-}
 
 // The bytes from a place on.
 fn tail(bytes: &[u8], at: usize) -> &[u8]

@@ -28,11 +28,7 @@ pub fn claimed(s: Survey) -> usize
 pub fn pending_of(p: [u16; 4], host: Host) -> u16
     ensures { λ r. ⌜ r ≡ getD p (host .0) 0 ⌝ }
 {
-    let i = host.0 as usize;
-    if i < 4 {
-        return p[i];
-    }
-    0
+    journal::of_host(p, host)
 }
 
 // 1 for a host with pending bytes.

@@ -59,7 +59,7 @@ const ID_MAX: u16 = 255;
 fn byte_at(m: &[u8], i: usize) -> u16
     ensures { λ r. ⌜ (r ≡ getD (now (m .entry)) i 0) × (r < 256) ⌝ }
 {
-    if i < m.len() { m[i] as u16 } else { 0 }
+    flash::byte_at(m, i) as u16
 }
 
 // The number that two bytes are.
