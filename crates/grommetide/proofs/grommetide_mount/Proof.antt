@@ -1,10 +1,10 @@
 -- A mount: the record it gives back is written.
 use denote.Ref.{now}
 use borrow.Author.Needs.{needs}
-use borrow.Author.Tests.{eq-eqb, ne-eqb}
+use borrow.Author.Tests.{ne-eqb}
 use Rattle.board.specs.Mount.{mountOn}
 use Rattle.grommetide.specs.Edge.{edgeMount}
-use Rattle.grommetide.proofs.Buffers.{handed}
+use Rattle.grommetide.proofs.Buffers.{replaced}
 use Rattle.grommetide.proofs.Typed.{outcome-fits}
 use Rattle.grommetide.proofs.grommetide_mount.Statement.{statement}
 use Rattle.grommetide.proofs.grommetide_mount.Tie as tie
@@ -20,9 +20,6 @@ grommetide-mount-spec =
     (λ c. search needs)
     (λ c.
     let c4 = c .before .before .before .before in
-    let l = c4 .before .if1 .left in
     let m = c4 .mount in
-    let o = mountOn (now (c4 .before .before .before .before .args .image)) in
-    let f = outcome-fits (m .result) _ (m .ok) in
-    let z = handed _ _ _ (m .result) o l f (m .ensures .0) (m .ensures .1) (c .before .before .hand-over .ensures) in
-    (rw (eq-eqb _ _ l) (z .0), λ _. z .1)))
+    replaced _ _ _ _ (m .result) (mountOn (now (c4 .before .before .before .before .args .image))) (c4 .before .if1 .left)
+    (outcome-fits (m .result) _ (m .ok)) (m .ensures .0) (m .ensures .1) (c .before .before .hand-over .ensures)))
