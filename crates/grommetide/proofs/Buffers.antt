@@ -4,7 +4,7 @@ use mathlib.Core.List.{List, []}
 use mathlib.Core.Bool.{cond}
 use Prim.Native.Nat.{ℕ}
 use lib.ListN.{length}
-use borrow.Author.Tests.{eq-eqb, ne-eqb}
+use borrow.Author.Tests.{eq-eqb}
 use Rattle.flash.proofs.Cases.{on-test}
 use Rattle.wire.specs.Answer.{edgeNumber}
 use Rattle.board.specs.declared.Record.{Record}
@@ -57,7 +57,3 @@ Replaces img b after n o =
 pub replaced : (img b after : List ℕ) (n : ℕ) (x : Outcome) (o : Out) → length b ≡ recordSize → RecordFits (x .board) → x .answer ≡ o .answer
     → x .board ≡ o .board → (n ≡ edgeNumber (x .answer)) × (after ≡ recordInto (x .board) b) → Replaces img b after n o
 replaced img b after n x o l f a q h = let z = handed b after n x o l f a q h in (rw (eq-eqb _ _ l) (z .0), λ _. z .1)
-
--- a buffer of another size
-pub not-replaced : (img b : List ℕ) (o : Out) → (length b ≡ recordSize → ⊥) → Replaces img b b 254 o
-not-replaced img b o n = let t = ne-eqb _ _ n in ((rw t, rw t), λ l. absurd (n l))

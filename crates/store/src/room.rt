@@ -3,7 +3,6 @@ ghost use mathlib.Core.Path.{_≡_};
 ghost use mathlib.Core.Bool.{_||_};
 ghost use Prim.Native.Nat.{_≤_};
 ghost use lib.Dec.{eqb, ltb};
-ghost use lib.ListN.{getD};
 ghost use Rattle.journal.specs.Room.{one};
 ghost use Rattle.store.specs.Calls.{sumOf, claimedIn, openIn, openWith, noRoomIn};
 use frame::Host;
@@ -22,13 +21,6 @@ pub fn claimed(s: Survey) -> usize
 {
     let p = s.pending;
     s.used as usize + sum(p)
-}
-
-// A host's pending bytes.
-pub fn pending_of(p: [u16; 4], host: Host) -> u16
-    ensures { λ r. ⌜ r ≡ getD p (host .0) 0 ⌝ }
-{
-    journal::of_host(p, host)
 }
 
 // 1 for a host with pending bytes.

@@ -157,7 +157,7 @@ fn serve_end(
     ensures { λ r. ⌜ r ≡ endIn size board s places host (headLen head) (bytesOf (frameOf head [])) ⌝ }
 {
     let p = s.pending;
-    if room::pending_of(p, host) == 0 {
+    if journal::of_host(p, host) == 0 {
         return done(board);
     }
     let none: [u8; 0] = [];

@@ -1,9 +1,10 @@
 -- A mount: the record it gives back is written.
 use denote.Ref.{now}
 use borrow.Author.Needs.{needs}
+use borrow.Author.Tests.{ne-eqb}
 use Rattle.board.specs.Mount.{mountOn}
 use Rattle.grommetide.specs.Edge.{edgeMount}
-use Rattle.grommetide.proofs.Buffers.{replaced, not-replaced}
+use Rattle.grommetide.proofs.Buffers.{replaced}
 use Rattle.grommetide.proofs.Typed.{outcome-fits}
 use Rattle.grommetide.proofs.grommetide_mount.Statement.{statement}
 use Rattle.grommetide.proofs.grommetide_mount.Tie as tie
@@ -13,7 +14,7 @@ unfolding edgeMount
 grommetide-mount-spec =
     tie.close
     (tie.spec
-    (λ c. not-replaced _ _ (mountOn (now (c .before .before .before .args .image))) (c .if1 .taken))
+    (λ c. let t = ne-eqb _ _ (c .if1 .taken) in ((rw t, rw t), λ l. absurd (c .if1 .taken l)))
     (λ c κs. search needs)
     (λ c κs. search needs)
     (λ c. search needs)

@@ -18,10 +18,10 @@ serve-end-spec =
     (λ c κs. search needs)
     (λ c κs. search needs)
     (λ c. let a = c .before .before .before .before .args in
-    let t : ltb 0 (getD (a .s .pending) (a .host .0) 0) ≡ false = le-ltb 0 (getD (a .s .pending) (a .host .0) 0) (omega (arith, c .before .before .pending-of .ensures, c .before .if1 .taken)) in
+    let t : ltb 0 (getD (a .s .pending) (a .host .0) 0) ≡ false = le-ltb 0 (getD (a .s .pending) (a .host .0) 0) (omega (arith, c .before .before .of-host .ensures, c .before .if1 .taken)) in
     c .done .ensures ∙ sym (rw (t, endIn)))
     (λ c. search needs)
     (λ c κs. search needs)
     (λ c. let a = c .before .before .before .before .before .args in
-    let t : ltb 0 (getD (a .s .pending) (a .host .0) 0) ≡ true = lt-ltb 0 (getD (a .s .pending) (a .host .0) 0) (omega (arith, c .before .before .before .pending-of .ensures, c .before .before .if1 .left)) in
+    let t : ltb 0 (getD (a .s .pending) (a .host .0) 0) ≡ true = lt-ltb 0 (getD (a .s .pending) (a .host .0) 0) (omega (arith, c .before .before .before .of-host .ensures, c .before .before .if1 .left)) in
     c .append .ensures ∙ sym (rw (t, endIn))))
