@@ -9,4 +9,4 @@ use Rattle.store.proofs.queue.check.Tie as tie
 pub check-spec : {M : Type 1} → statement M
 unfolding gateOf
 check-spec =
-    tie.close (tie.spec (λ c κs. search needs) (λ c. rw (sym (c .before .is-allowed .ensures) ∙ not-true (c .before .is-allowed .result) (c .if1 .taken), gateOf)) (λ c. rw ((sym (c .before .before .before .is-allowed .ensures) ∙ not-false (c .before .before .before .is-allowed .result) (c .before .before .if1 .left)), lt-leb _ _ (c .if2 .taken), gateOf)) (λ c κs. search needs) (λ c. rw ((sym (c .before .before .before .before .is-allowed .ensures) ∙ not-false (c .before .before .before .before .is-allowed .result) (c .before .before .before .if1 .left)), le-leb _ _ (c .before .if2 .left), gateOf) (c .check-phase .ensures)))
+    tie.close (tie.spec (λ c κs. search needs) (λ c. rw (sym (c .before .is-allowed .ensures) ∙ not-true (c .before .is-allowed .result) (c .if1 .taken), gateOf)) (λ c. rw ((sym (c .before .before .before .is-allowed .ensures) ∙ not-false (c .before .before .before .is-allowed .result) (c .before .before .if1 .left)), lt-leb (c .before .before .before .before .before .args .host .0) 3 (c .if2 .taken), gateOf)) (λ c κs. search needs) (λ c. rw ((sym (c .before .before .before .before .is-allowed .ensures) ∙ not-false (c .before .before .before .before .is-allowed .result) (c .before .before .before .if1 .left)), le-leb _ _ (c .before .if2 .left), gateOf) (c .check-phase .ensures)))
