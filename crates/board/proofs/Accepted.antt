@@ -19,7 +19,7 @@ use Rattle.journal.proofs.Room.{frames-total, used-claimed, claimed-settled, cl
 use Rattle.journal.proofs.Loading.{Yields, yields-none, yields-settled, yields-all}
 use Rattle.board.specs.declared.Job.{Job}
 use Rattle.board.specs.declared.Record.{Record}
-use Rattle.board.specs.Record.{allowed, noPlaces, noMarks, idle}
+use Rattle.board.specs.Record.{allowed, noPlaces, noMarks, rest, idle}
 use Rattle.board.specs.Step.{enterWipe}
 use Rattle.board.specs.Mount.{nextBlock, newTime, endOf, Store, needsTransfer, mountJob, formatJob}
 use Rattle.board.specs.Queue.{Held, needsRoom, appendJob}
@@ -39,7 +39,7 @@ journal-fits s k img fs g =
 
 -- ---- format
 
-pub follows-format : (img : List ℕ) → allowed (length img) ≡ true → Follows img (enterWipe (formatJob img)) formatPlan (idle (length img - 1) 0 headerLen)
+pub follows-format : (img : List ℕ) → allowed (length img) ≡ true → Follows img (enterWipe (formatJob img)) formatPlan (idle (rest (length img - 1) 0 headerLen))
 unfolding writes encodeAll total
 follows-format img h =
     let j : Job = formatJob img .job in
@@ -79,8 +79,8 @@ follows-mount img x ks h here others g =
     subst (λ (b : Bool). Follows img (enterWipe r) (map erase ks ++ transferIf b k (x .time) st) (mountedAt b l x)) (sym t)
     (subst (λ (n : ℕ). Follows img (enterWipe r) (map erase ks ++ (onBlock (nextBlock k) (build n (framesOf st)) ++ (erase k ∷ []))) (mountedAt true l x))
     (ap (λ (b : Bool). newTime b (x .time)) t)
-    (subst (λ (n : ℕ). Follows img (enterWipe r) (map erase ks ++ (onBlock (nextBlock k) (build (r .job .time) (framesOf st)) ++ (erase k ∷ []))) (idle l (nextBlock k) n)) end-is
-    (subst (λ (ys : List Step). Follows img (enterWipe r) ys (idle l (nextBlock k) (headerLen + total (framesOf st) + 0)))
+    (subst (λ (n : ℕ). Follows img (enterWipe r) (map erase ks ++ (onBlock (nextBlock k) (build (r .job .time) (framesOf st)) ++ (erase k ∷ []))) (idle (rest l (nextBlock k) n))) end-is
+    (subst (λ (ys : List Step). Follows img (enterWipe r) ys (idle (rest l (nextBlock k) (headerLen + total (framesOf st) + 0))))
     (no-append (nextBlock k) (headerLen + total (framesOf st)) (map erase ks) (onBlock (nextBlock k) (build (r .job .time) (framesOf st)) ++ (erase k ∷ [])))
     (follows-moving img l k e (placesOf (x .frames)) (r .job) 0 e [] ks (omega arith) (besides-blocks k ks others) has here (omega arith) (framesOf st) t
     (next-there k here) (next-other k here)
@@ -89,8 +89,8 @@ follows-mount img x ks h here others g =
     (λ t.
     let end-is : e + 0 ≡ e = omega arith in
     subst (λ (b : Bool). Follows img (enterWipe r) (map erase ks ++ transferIf b k (x .time) st) (mountedAt b l x)) (sym t)
-    (subst (λ (n : ℕ). Follows img (enterWipe r) (map erase ks ++ []) (idle l k n)) end-is
-    (subst (λ (ys : List Step). Follows img (enterWipe r) ys (idle l k (e + 0))) (no-append k e (map erase ks) [])
+    (subst (λ (n : ℕ). Follows img (enterWipe r) (map erase ks ++ []) (idle (rest l k n))) end-is
+    (subst (λ (ys : List Step). Follows img (enterWipe r) ys (idle (rest l k (e + 0)))) (no-append k e (map erase ks) [])
     (follows-staying img l k e (placesOf (x .frames)) (r .job) 0 e [] ks (omega arith) (besides-blocks k ks others) has here (omega arith) t (omega arith)))))
 
 -- ---- a queue request's frame
@@ -117,12 +117,12 @@ follows-frame img r x f long here g end room =
     (subst
     (λ (n : ℕ).
     Follows img (enterWipe a) ((onBlock (nextBlock k) (build n fs) ++ (erase k ∷ [])) ++ onBlock (nextBlock k) (writes (claimed st) (encode f)))
-    (idle l (nextBlock k) (claimed st + frameLen f)))
+    (idle (rest l (nextBlock k) (claimed st + frameLen f))))
     (ap (λ (b : Bool). newTime b (x .time)) t)
     (subst₂
     (λ (n m : ℕ).
     Follows img (enterWipe a) ((onBlock (nextBlock k) (build (a .job .time) fs) ++ (erase k ∷ [])) ++ onBlock (nextBlock k) (writes n (encode f)))
-    (idle l (nextBlock k) (n + m)))
+    (idle (rest l (nextBlock k) (n + m))))
     total-is (length-encode f)
     (follows-moving img l k e (placesOf (x .frames)) (a .job) 0 headerLen (encode f) [] long tt has here header fs t (next-there k here) (next-other k here)
     (omega (arith, length-encode f))
@@ -130,6 +130,6 @@ follows-frame img r x f long here g end room =
     (yields-all (block s k img) (x .frames) g))))))
     (λ t.
     subst (λ (b : Bool). Follows img (enterWipe a) (framePlan b k e x f) (framedAt b l k e x f)) (sym t)
-    (subst (λ (m : ℕ). Follows img (enterWipe a) (onBlock k (writes e (encode f))) (idle l k (e + m))) (length-encode f)
+    (subst (λ (m : ℕ). Follows img (enterWipe a) (onBlock k (writes e (encode f))) (idle (rest l k (e + m)))) (length-encode f)
     (follows-staying img l k e (placesOf (x .frames)) (a .job) 0 headerLen (encode f) [] long tt has here header t
     (omega (arith, length-encode f, ltb-false (sizeOf img) (r .end + frameLen f) t)))))

@@ -24,7 +24,7 @@ use Rattle.journal.proofs.Blocks.{layout-size}
 use Rattle.journal.proofs.Replaying.{replay-snoc}
 use Rattle.journal.proofs.States.{Contents}
 use Rattle.journal.proofs.Building.{Lands}
-use Rattle.board.specs.Record.{idle}
+use Rattle.board.specs.Record.{rest, idle}
 use Rattle.board.specs.Mount.{endOf}
 use Rattle.board.specs.Plan.{onBlock, appendPlan}
 use Rattle.board.proofs.Invariant.{StepLands, Safe}
@@ -180,8 +180,8 @@ module _ {s k t : ℕ} {img : List ℕ} {fs : List Frame} (a : Alone s img k t f
       alone-written (frameWrites fs f) a (below-writes s (endOf fs) (encode f) (omega (arith, length-encode f, x .short))) (whole-contents (a .contents) f fits)
 
   pub append-ends : (l : ℕ) → length img ≡ suc l → Roomy s (next (replay fs) f)
-      → After s (applyAll s (appendPlan k (endOf fs) f) img) (idle l k (endOf fs + frameLen f)) (next (replay fs) f)
+      → After s (applyAll s (appendPlan k (endOf fs) f) img) (idle (rest l k (endOf fs + frameLen f))) (next (replay fs) f)
   append-ends l e room =
       let end : endOf (fs ++ (f ∷ [])) ≡ endOf fs + frameLen f = omega (arith, total-snoc fs f) in
-      subst (λ (n : ℕ). After s (applyAll s (appendPlan k (endOf fs) f) img) (idle l k n) (next (replay fs) f)) end
+      subst (λ (n : ℕ). After s (applyAll s (appendPlan k (endOf fs) f) img) (idle (rest l k n)) (next (replay fs) f)) end
       (alone-after l (next (replay fs) f) append-alone (length-all-steps s (appendPlan k (endOf fs) f) img ∙ e) (replay-snoc fs f) room)

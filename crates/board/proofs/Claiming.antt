@@ -22,7 +22,7 @@ use Rattle.wire.specs.declared.Refusal.the-variants as refusal
 use Rattle.board.specs.declared.Phase.{Phase}
 use Rattle.board.specs.declared.Phase.the-variants.{Unmounted, Idle, Busy}
 use Rattle.board.specs.declared.Record.{Record}
-use Rattle.board.specs.Record.{Out, out, refuse, unmounted, idle, answerOf, allowed}
+use Rattle.board.specs.Record.{Out, out, refuse, unmounted, rest, idle, answerOf, allowed}
 use Rattle.board.specs.Step.{enterWipe, begin}
 use Rattle.board.specs.Mount.{Store, allFound, wipeList, needsTransfer, mountJob, mountOn, formatJob, formatOn}
 use Rattle.board.specs.Exec.{Call, request, step, mount, format, exec}
@@ -97,8 +97,8 @@ empty-book {s} {img} {r} h a =
 format-works : {s : ℕ} {img : List ℕ} (os : List Object) {u : Bool} → Sized s img → Safe s img os u
     → (answerOf (enterWipe (formatJob img)) ≡ More) × Working s img (enterWipe (formatJob img)) (book os noLists formatting) true
 format-works {s} {img} os z f =
-    let a : After s (applyAll s formatPlan img) (idle (length img - 1) 0 headerLen) (state [] []) = format-ends z in
-    job-starts img (enterWipe (formatJob img)) formatPlan (idle (length img - 1) 0 headerLen) (follows-format img (z .ok)) (omega (arith, length-format))
+    let a : After s (applyAll s formatPlan img) (idle (rest (length img - 1) 0 headerLen)) (state [] []) = format-ends z in
+    job-starts img (enterWipe (formatJob img)) formatPlan (idle (rest (length img - 1) 0 headerLen)) (follows-format img (z .ok)) (omega (arith, length-format))
     (omega (arith, length-format, z .low)) (format-safe z f) (empty-book (z .low) a) (ready-idle (a .ready))
 
 format-call : {s : ℕ} {img : List ℕ} {r : Record} {b : Book} {u : Bool} → Inv s img r b u → FormatKeeps s b u (formatOn img)
@@ -228,11 +228,11 @@ follows-steps (y ∷ y′ ∷ ys) x xs e s o last z (m, (n, g, f)) =
     ∙ follows-steps (y′ ∷ ys) y′ ys refl s (out (answerOf n) i n []) last (ap (λ (w : ℕ). w / blocks) (length-apply (sizeOf (o .image)) y (o .image)) ∙ z) f
     ∙ ap (λ (w : ℕ). out (answerOf last) (applyAll s (y′ ∷ ys) (apply w y (o .image))) last []) z
 
-format-done : {s : ℕ} {img : List ℕ} → Sized s img → formatted img ≡ out Done (applyAll s formatPlan img) (idle (length img - 1) 0 headerLen) []
+format-done : {s : ℕ} {img : List ℕ} → Sized s img → formatted img ≡ out Done (applyAll s formatPlan img) (idle (rest (length img - 1) 0 headerLen)) []
 format-done {s} {img} z =
     ap (stepsOn 12) (format-begins img (z .ok))
     ∙ ap (λ (n : ℕ). stepsOn n (begin img [] (formatJob img))) (sym length-format)
-    ∙ follows-steps formatPlan (erase 0) (drop 1 formatPlan) refl s (begin img [] (formatJob img)) (idle (length img - 1) 0 headerLen) (size-of z)
+    ∙ follows-steps formatPlan (erase 0) (drop 1 formatPlan) refl s (begin img [] (formatJob img)) (idle (rest (length img - 1) 0 headerLen)) (size-of z)
     (follows-format img (z .ok))
 
 -- the invariant after a finished format
@@ -242,11 +242,11 @@ formatted-inv img by ok =
     let z : Sized (sizeOf img) img = sized-of img ok in
     let i : List ℕ = applyAll (sizeOf img) formatPlan img in
     subst (λ (o : Out). Inv (sizeOf img) (o .image) (o .board) firstBook false) (sym (format-done z))
-    (inv-idle (idle (length img - 1) 0 headerLen) (sized-as i (length-all-steps (sizeOf img) formatPlan img) z)
+    (inv-idle (idle (rest (length img - 1) 0 headerLen)) (sized-as i (length-all-steps (sizeOf img) formatPlan img) z)
     (bytes-all-steps (sizeOf img) formatPlan img by) (empty-book (z .low) (format-ends z)))
 
 pub claim : Claim
 unfolding Claim
 claim img by ok =
-    let e : formatted img ≡ out Done (applyAll (sizeOf img) formatPlan img) (idle (length img - 1) 0 headerLen) [] = format-done (sized-of img ok) in
+    let e : formatted img ≡ out Done (applyAll (sizeOf img) formatPlan img) (idle (rest (length img - 1) 0 headerLen)) [] = format-done (sized-of img ok) in
     (ap (λ (o : Out). o .answer) e, ap (λ (o : Out). o .board .phase) e, λ cs bs. run-holds (formatted-inv img by ok) cs bs)

@@ -17,7 +17,7 @@ use Rattle.journal.proofs.Blocks.{blank-block}
 use Rattle.journal.proofs.States.{Contents}
 use Rattle.journal.proofs.Room.{kept, used-kept, kept-none}
 use Rattle.board.specs.declared.Record.{Record}
-use Rattle.board.specs.Record.{idle}
+use Rattle.board.specs.Record.{rest, idle}
 use Rattle.board.specs.Mount.{nextBlock, endOf}
 use Rattle.board.specs.Plan.{onBlock}
 use Rattle.board.proofs.Images.{Sized, sized-as, sized-block, length-all-steps, block-writes, other-writes}
@@ -45,7 +45,7 @@ abbrev pub Roomy : ℕ → State → Type 0
 Roomy s st = claimed st + endLen * openHosts (st .pending) ≤ s
 
 pub alone-after : {s k t : ℕ} {img : List ℕ} {fs : List Frame} (l : ℕ) (st : State) → Alone s img k t fs clean → length img ≡ suc l → replay fs ≡ st
-    → Roomy s st → After s img (idle l k (endOf fs)) st
+    → Roomy s st → After s img (idle (rest l k (endOf fs))) st
 alone-after {s} {k} {t} {img} {fs} l st x long e room =
     record {
       ready = record {

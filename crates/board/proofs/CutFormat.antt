@@ -17,7 +17,7 @@ use Rattle.journal.specs.Block.{headerLen, BlockState, blank, inProgress, valid
 use Rattle.journal.proofs.Blocks.{blank-block}
 use Rattle.journal.proofs.States.{contents-valid}
 use Rattle.board.specs.declared.Record.{Record}
-use Rattle.board.specs.Record.{Out, out, idle, answerOf}
+use Rattle.board.specs.Record.{Out, out, rest, idle, answerOf}
 use Rattle.board.specs.Step.{begin}
 use Rattle.board.specs.Mount.{formatJob, formatOn}
 use Rattle.board.specs.Exec.{Call}
@@ -62,7 +62,7 @@ follows-part s (suc j) (x ∷ xs) o last z h (m, (n, g, f)) =
 format-part : {s : ℕ} {img : List ℕ} (j : ℕ) → Sized s img → j ≤ 12 → stepsOn j (formatOn img) .image ≡ applyAll s (take j formatPlan) img
 format-part {s} {img} j z h =
     ap (λ (o : Out). stepsOn j o .image) (format-begins img (z .ok))
-    ∙ follows-part s j formatPlan (begin img [] (formatJob img)) (idle (length img - 1) 0 headerLen) (size-of z) (omega (arith, length-format))
+    ∙ follows-part s j formatPlan (begin img [] (formatJob img)) (idle (rest (length img - 1) 0 headerLen)) (size-of z) (omega (arith, length-format))
     (follows-format img (z .ok))
 
 -- ---- what is left

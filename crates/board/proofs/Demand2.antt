@@ -24,7 +24,7 @@ use Rattle.wire.specs.declared.Answer.the-variants.{Done, More, Refused}
 use Rattle.board.specs.declared.Phase.{Phase}
 use Rattle.board.specs.declared.Phase.the-variants.{Unmounted, Idle, Busy}
 use Rattle.board.specs.declared.Record.{Record}
-use Rattle.board.specs.Record.{Out, out, unmounted, idle, allowed, answerOf}
+use Rattle.board.specs.Record.{Out, out, unmounted, rest, idle, allowed, answerOf}
 use Rattle.board.specs.Step.{stepOn, enterWipe}
 use Rattle.board.specs.Mount.{Store, allFound, wipeList, needsTransfer, mountJob, mountOn, formatJob, formatOn}
 use Rattle.board.specs.Queue.{requestOn}
@@ -217,9 +217,9 @@ mount-kept {s} {img} z by = go (mountOn img .answer) refl
 
 format-kept : {s : ℕ} {img : List ℕ} → Sized s img → Bytes img → Steady s img (formatOn img .board)
 format-kept {s} {img} z by =
-    let a : After s (applyAll s formatPlan img) (idle (length img - 1) 0 headerLen) (state [] []) = format-ends z in
+    let a : After s (applyAll s formatPlan img) (idle (rest (length img - 1) 0 headerLen)) (state [] []) = format-ends z in
     let j : (answerOf (enterWipe (formatJob img)) ≡ More) × InJob s (StepLands s) (Ready s) img (enterWipe (formatJob img)) =
-    job-starts img (enterWipe (formatJob img)) formatPlan (idle (length img - 1) 0 headerLen) (follows-format img (z .ok)) (omega (arith, length-format))
+    job-starts img (enterWipe (formatJob img)) formatPlan (idle (rest (length img - 1) 0 headerLen)) (follows-format img (z .ok)) (omega (arith, length-format))
     (omega (arith, length-format, z .low)) (format-lands z) (a .ready) (ready-idle (a .ready)) in
     subst (λ (o : Out). Steady s img (o .board)) (sym (format-begins img (z .ok))) (steady-busy z by (enterWipe (formatJob img)) (j .0) (j .1))
 

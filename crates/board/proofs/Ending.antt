@@ -21,7 +21,7 @@ use Rattle.board.specs.declared.Stage.the-variants.{Wipe, Open, Copy, Se
 use Rattle.board.specs.declared.Phase.{Phase}
 use Rattle.board.specs.declared.Phase.the-variants.{Unmounted, Idle, Busy}
 use Rattle.board.specs.declared.Record.{Record}
-use Rattle.board.specs.Record.{inStage, Out}
+use Rattle.board.specs.Record.{inStage, Out, rest}
 use Rattle.board.specs.Step.{landed, enterAppend, enterDrop, enterCopy, enterOpen, action, pastFrame, advance, stepOn}
 use Rattle.board.specs.Demand1.{Declared, Rests, EndsWithin, ForgedEnds}
 use Rattle.board.proofs.Outcomes.{nextFor, open-enters, open-skips, copy-loads, copy-ends, drop-enters, drop-skips, append-enters, append-skips, wipe-next, wipe-last, open-next, open-last, copy-next, copy-last, seal-next, seal-last, drop-last, append-next, append-last, step-outside, step-goes}

@@ -20,7 +20,7 @@ use Rattle.journal.specs.Block.{headerLen, lastTime, blockState, build}
 use Rattle.journal.proofs.Blocks.{Layout}
 use Rattle.journal.proofs.States.{Contents}
 use Rattle.journal.proofs.Building.{Lands, below-build, made, making, lands}
-use Rattle.board.specs.Record.{idle}
+use Rattle.board.specs.Record.{rest, idle}
 use Rattle.board.specs.Plan.{onBlock, formatPlan}
 use Rattle.board.proofs.Images.{Sized, sized-as, apply-append, block-writes, other-writes, length-all-steps}
 use Rattle.board.proofs.Invariant.{Quiet, Safe, no-valid, StepLands}
@@ -137,7 +137,7 @@ module _ {s : ℕ} {img : List ℕ} (z : Sized s img) where
         others = λ j h n. other-writes s j 0 ws wiped n b ∙ wiped-blank j h;
       })
 
-  pub format-ends : After s (applyAll s formatPlan img) (idle (length img - 1) 0 headerLen) (state [] [])
+  pub format-ends : After s (applyAll s formatPlan img) (idle (rest (length img - 1) 0 headerLen)) (state [] [])
   unfolding total replayFrom isOpen
   format-ends =
       alone-after (length img - 1) (state [] []) format-alone (omega (arith, length-all-steps s formatPlan img, z .two, z .low)) refl (omega (arith, z .low))

@@ -18,7 +18,7 @@ use Rattle.journal.proofs.Building.{Lands}
 use Rattle.board.specs.declared.Phase.{Phase}
 use Rattle.board.specs.declared.Phase.the-variants.{Unmounted, Idle, Busy}
 use Rattle.board.specs.declared.Record.{Record}
-use Rattle.board.specs.Record.{idle}
+use Rattle.board.specs.Record.{rest, idle}
 use Rattle.board.specs.Mount.{endOf}
 use Rattle.board.specs.Plan.{Follows}
 use Rattle.board.specs.Book.{Book, nothing, finishing}
@@ -59,7 +59,7 @@ pub record Ready (s : ℕ) (img : List ℕ) (r : Record) : Type 0 where
   pub last : ℕ
   pub number : ℕ
   pub end : ℕ
-  pub is : r ≡ idle last number end
+  pub is : r ≡ idle (rest last number end)
   pub long : length img ≡ suc last
   pub there : number < blocks
   pub time : ℕ

@@ -15,7 +15,7 @@ use Rattle.journal.proofs.Loading.{Yields}
 use Rattle.board.specs.declared.Stage.the-variants.{Wipe, Open}
 use Rattle.board.specs.declared.Job.{Job}
 use Rattle.board.specs.declared.Record.{Record}
-use Rattle.board.specs.Record.{noFrame, buffer, cursor, idle, busy}
+use Rattle.board.specs.Record.{noFrame, buffer, cursor, rest, starting, idle, busy}
 use Rattle.board.specs.Step.{enter, enterAppend, enterOpen, enterWipe, advance}
 use Rattle.board.specs.Mount.{wipeArray}
 use Rattle.board.specs.Plan.{Follows, onBlock}
@@ -97,26 +97,26 @@ module _ (img : List ℕ) (l k e : ℕ) (places : List ℕ) (j : Job) (id source
   half = ap (λ (n : ℕ). n / blocks) (sym long)
 
   pub follows-staying : j .moves ≡ false → e + length bytes ≤ sizeOf img
-      → Follows img (enterWipe (busy l k e places j id source bytes)) (map erase ks ++ onBlock k (writes e bytes)) (idle l k (e + length bytes))
+      → Follows img (enterWipe (busy (rest l k e) places j (starting id source) bytes)) (map erase ks ++ onBlock k (writes e bytes)) (idle (rest l k (e + length bytes)))
   unfolding enterOpen
   follows-staying t room =
       follows-wipe l (sizeOf img) half ks there (omega arith) k e places j (buffer bytes) (has .wipe) (has .wipes) headerLen id source 0 0 noFrame img
-      (onBlock k (writes e bytes)) (idle l k (e + length bytes)) long
+      (onBlock k (writes e bytes)) (idle (rest l k (e + length bytes))) long
       (λ n img′ q′ p.
       let r : Record = jobAt l k e places j (buffer bytes) Wipe (cursor n headerLen id source 0 0) noFrame in
-      subst (λ (b : Bool). Follows img′ (cond b (enter Open r) (enterAppend r)) (onBlock k (writes e bytes)) (idle l k (e + length bytes))) (sym t)
+      subst (λ (b : Bool). Follows img′ (cond b (enter Open r) (enterAppend r)) (onBlock k (writes e bytes)) (idle (rest l k (e + length bytes)))) (sym t)
       (follows-append l (sizeOf img) half k e places j bytes (has .size) here room Wipe (cursor n headerLen id source 0 0) noFrame img′ q′))
 
   pub follows-moving : (fs : List Frame) → j .moves ≡ true → j .target < blocks → (j .target ≡ k → ⊥) → headerLen + total fs + length bytes ≤ sizeOf img
       → Yields (block (sizeOf img) k (applyAll (sizeOf img) (map erase ks) img)) e places (j .since) id source fs
-      → Follows img (enterWipe (busy l k e places j id source bytes))
+      → Follows img (enterWipe (busy (rest l k e) places j (starting id source) bytes))
       (map erase ks ++ ((onBlock (j .target) (build (j .time) fs) ++ dropped j k) ++ onBlock (j .target) (writes (headerLen + total fs) bytes)))
-      (idle l (j .target) (headerLen + total fs + length bytes))
+      (idle (rest l (j .target) (headerLen + total fs + length bytes)))
   unfolding enterOpen
   follows-moving fs t target apart room y =
       let s : ℕ = sizeOf img in
       let tail : List Step = (onBlock (j .target) (build (j .time) fs) ++ dropped j k) ++ onBlock (j .target) (writes (headerLen + total fs) bytes) in
-      let done : Record = idle l (j .target) (headerLen + total fs + length bytes) in
+      let done : Record = idle (rest l (j .target) (headerLen + total fs + length bytes)) in
       follows-wipe l s half ks there (omega arith) k e places j (buffer bytes) (has .wipe) (has .wipes) headerLen id source 0 0 noFrame img tail done long
       (λ n img′ q′ p.
       let r : Record = jobAt l k e places j (buffer bytes) Wipe (cursor n headerLen id source 0 0) noFrame in

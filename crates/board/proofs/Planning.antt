@@ -31,7 +31,7 @@ use Rattle.wire.specs.Message.{parse, valueIn, pageLen}
 use Rattle.board.specs.declared.Phase.{Phase}
 use Rattle.board.specs.declared.Phase.the-variants.{Unmounted, Idle, Busy}
 use Rattle.board.specs.declared.Record.{Record}
-use Rattle.board.specs.Record.{allowed, idle, Out, out, refuse, answerOf}
+use Rattle.board.specs.Record.{allowed, rest, idle, Out, out, refuse, answerOf}
 use Rattle.board.specs.Step.{enterWipe}
 use Rattle.board.specs.Queue.{Held, held, needsRoom, appendJob, append, serve, serveChange, serveEnd, serveParsed, serveHeld, requestIn, requestOn}
 use Rattle.board.specs.Plan.{framePlan, framedAt}
@@ -217,13 +217,13 @@ module _ {s : ℕ} {img : List ℕ} {r : Record} {h : Host} {m : List ℕ} (z : 
 
   holds : Holds s img r x
   holds =
-      let v : (w : Ready s img (idle (r .last) (r .block) (r .end))) × (w .time ≡ x .time) × (w .frames ≡ x .frames) = held-inv r z by (y .is-held) in
-      let w : Holds s img (idle (r .last) (r .block) (r .end)) x = ready-holds z (v .0) (v .1) (v .2) in
+      let v : (w : Ready s img (idle (rest (r .last) (r .block) (r .end)))) × (w .time ≡ x .time) × (w .frames ≡ x .frames) = held-inv r z by (y .is-held) in
+      let w : Holds s img (idle (rest (r .last) (r .block) (r .end))) x = ready-holds z (v .0) (v .1) (v .2) in
       record { alone = w .alone; ends = w .ends; long = w .long }
 
   roomy : Roomy s (replay (x .frames))
   roomy =
-      let v : (w : Ready s img (idle (r .last) (r .block) (r .end))) × (w .time ≡ x .time) × (w .frames ≡ x .frames) = held-inv r z by (y .is-held) in
+      let v : (w : Ready s img (idle (rest (r .last) (r .block) (r .end)))) × (w .time ≡ x .time) × (w .frames ≡ x .frames) = held-inv r z by (y .is-held) in
       subst (λ (fs : List Frame). Roomy s (replay fs)) (v .2) (v .0 .room)
 
   fitting : Fitting s (replay (x .frames)) f

@@ -19,7 +19,7 @@ use Rattle.journal.proofs.States.{Contents}
 use Rattle.journal.proofs.Building.{Lands, below-build, built, making, lands}
 use Rattle.journal.proofs.Replaying.{replay-framesOf, stands-settled}
 use Rattle.journal.proofs.Room.{frames-total, used-claimed, claimed-settled, claimed-replay}
-use Rattle.board.specs.Record.{idle}
+use Rattle.board.specs.Record.{rest, idle}
 use Rattle.board.specs.Mount.{nextBlock}
 use Rattle.board.specs.Plan.{onBlock, transferPlan}
 use Rattle.board.proofs.Numbers.{next-there, next-other, next-next, next-only}
@@ -154,7 +154,7 @@ module _ {s k t : ℕ} {img : List ℕ} {fs : List Frame} {c : Tail} (a : Alone 
             others = blank;
           }
 
-  pub transferred : (l : ℕ) → length img ≡ suc l → Roomy s st → After s (applyAll s (transferPlan k t st) img) (idle l (nextBlock k) (claimed st)) st
+  pub transferred : (l : ℕ) → length img ≡ suc l → Roomy s st → After s (applyAll s (transferPlan k t st) img) (idle (rest l (nextBlock k) (claimed st))) st
   transferred l e room =
-      subst (λ (n : ℕ). After s (applyAll s (transferPlan k t st) img) (idle l (nextBlock k) n) st) (frames-total st)
+      subst (λ (n : ℕ). After s (applyAll s (transferPlan k t st) img) (idle (rest l (nextBlock k) n)) st) (frames-total st)
       (alone-after l st transfer-alone (length-all-steps s (transferPlan k t st) img ∙ e) (replay-framesOf st) room)

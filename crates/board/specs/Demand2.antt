@@ -27,7 +27,7 @@ use Rattle.wire.specs.declared.Parsed.the-variants.{Is}
 use Rattle.wire.specs.Message.{parse, valueIn}
 use Rattle.board.specs.declared.Phase.the-variants.{Idle}
 use Rattle.board.specs.declared.Record.{Record}
-use Rattle.board.specs.Record.{Out, allowed, idle}
+use Rattle.board.specs.Record.{Out, allowed, rest, idle}
 use Rattle.board.specs.Mount.{allFound, Store, needsTransfer, mountOn, formatOn}
 use Rattle.board.specs.Queue.{Held, held, needsRoom, requestOn}
 use Rattle.board.specs.Exec.{Call, request, step, mount, format, exec}
@@ -99,7 +99,7 @@ RequestsPlanned =
 
 -- "Format: .. 12 steps."
 pub record Formats (img : List ℕ) (o : Out) : Type 0 where
-  pub follows : Follows img (o .board) formatPlan (idle (length img - 1) 0 headerLen)
+  pub follows : Follows img (o .board) formatPlan (idle (rest (length img - 1) 0 headerLen))
   pub twelve : length formatPlan ≡ 12
 
 -- a request follows its plan or was done at once and leaves the record; a step lands; mount and format follow theirs

@@ -10,7 +10,7 @@ use Rattle.journal.specs.Block.{build}
 use Rattle.journal.specs.Room.{used, claimed}
 use Rattle.wire.specs.declared.Answer.the-variants.{More}
 use Rattle.board.specs.declared.Record.{Record}
-use Rattle.board.specs.Record.{answerOf, out, idle}
+use Rattle.board.specs.Record.{answerOf, out, rest, idle}
 use Rattle.board.specs.Step.{stepOn}
 use Rattle.board.specs.Mount.{nextBlock, endOf, Found, Store, wipeList, needsTransfer}
 use Rattle.board.specs.Queue.{Held}
@@ -55,8 +55,8 @@ mountPlan xs x =
 
 -- the record after it
 abbrev pub mountedAt : Bool → ℕ → Store → Record
-mountedAt true l x = idle l (nextBlock (x .number)) (used (replay (x .frames)))
-mountedAt false l x = idle l (x .number) (endOf (x .frames))
+mountedAt true l x = idle (rest l (nextBlock (x .number)) (used (replay (x .frames))))
+mountedAt false l x = idle (rest l (x .number) (endOf (x .frames)))
 
 -- "one frame of n bytes, after a transfer if end + n exceeds S": on block k whose frames run to `end`
 abbrev pub framePlan : Bool → ℕ → ℕ → Held → Frame → List Step
@@ -66,5 +66,5 @@ framePlan false k end x f = appendPlan k end f
 
 -- the record after it
 abbrev pub framedAt : Bool → ℕ → ℕ → ℕ → Held → Frame → Record
-framedAt true l k end x f = idle l (nextBlock k) (claimed (replay (x .frames)) + frameLen f)
-framedAt false l k end x f = idle l k (end + frameLen f)
+framedAt true l k end x f = idle (rest l (nextBlock k) (claimed (replay (x .frames)) + frameLen f))
+framedAt false l k end x f = idle (rest l k (end + frameLen f))

@@ -12,7 +12,7 @@ use Rattle.wire.specs.declared.Answer.{Answer}
 use Rattle.wire.specs.declared.Answer.the-variants.{Done, More, Refused}
 use Rattle.wire.specs.declared.Refusal.the-variants as refusal
 use Rattle.board.specs.declared.Record.{Record}
-use Rattle.board.specs.Record.{unmounted, idle, Out}
+use Rattle.board.specs.Record.{unmounted, rest, idle, Out}
 use Rattle.board.specs.Exec.{request, step, mount, format, exec}
 
 -- what a call and its steps give, and how many step calls it took
@@ -114,16 +114,16 @@ formatAnswer n = exec (replicate n 0x5A) unmounted format .answer
 
 pub record Rows : Type 0 where
   pub a-steps : rowA .steps ≡ 12
-  pub a-done : rowA .board ≡ idle 511 0 16
+  pub a-done : rowA .board ≡ idle (rest 511 0 16)
   pub a-half : part 0 16 (rowA .image)
       ≡ 0x10 ∷ 0x00 ∷ 0x01 ∷ 0x4A ∷ 0xFE ∷ 0xFF ∷ 0xFF ∷ 0xFF ∷ 0xFC ∷ 0xFF ∷ 0xFF ∷ 0xFF ∷ 0xFF ∷ 0xFF ∷ 0xFF ∷ 0xFF ∷ []
   pub a-rest : drop 16 (rowA .image) ≡ replicate 496 0xFF
   pub b-steps : rowB .steps ≡ 10
-  pub b-done : rowB .board ≡ idle 511 0 26
+  pub b-done : rowB .board ≡ idle (rest 511 0 26)
   pub b-frame : part 16 10 (rowB .image) ≡ 0x0A ∷ 0x00 ∷ 0x01 ∷ 0x00 ∷ 0x02 ∷ 0x05 ∷ 0x00 ∷ 0x41 ∷ 0x42 ∷ 0xFE ∷ []
   pub c-steps : rowC .steps ≡ 6
   pub c-frame : part 26 6 (rowC .image) ≡ 0x06 ∷ 0x00 ∷ 0x03 ∷ 0x00 ∷ 0x02 ∷ 0xFE ∷ []
-  pub c-end : rowC .board ≡ idle 511 0 32
+  pub c-end : rowC .board ≡ idle (rest 511 0 32)
   pub c-rest : drop 32 (rowC .image) ≡ replicate 480 0xFF
   pub d-answer : rowD .answer ≡ Done
   pub d-place : rowD .stretch ≡ record { at = 23; size = 2 }
@@ -131,17 +131,17 @@ pub record Rows : Type 0 where
   pub e-reply : rowE .reply
       ≡ 0x0E ∷ 0x00 ∷ 0x01 ∷ 0x02 ∷ 0x01 ∷ 0x00 ∷ 0x00 ∷ 0x00 ∷ 0x01 ∷ 0x00 ∷ 0x19 ∷ 0x00 ∷ 0x00 ∷ 0x01 ∷ 0xEE ∷ 0xEE ∷ []
   pub f-steps : rowF .steps ≡ 11
-  pub f-done : rowF .board ≡ idle 511 1 16
+  pub f-done : rowF .board ≡ idle (rest 511 1 16)
   pub f-time : timed 1 rowF ≡ 2
   pub f-holds : holds 1 rowF ≡ state [] []
   pub g-steps : rowG .steps ≡ 11
-  pub g-done : rowG .board ≡ idle 511 1 16
+  pub g-done : rowG .board ≡ idle (rest 511 1 16)
   pub g-holds : holds 1 rowG ≡ state [] []
   pub h-steps : rowH .steps ≡ 0
-  pub h-done : rowH .board ≡ idle 511 0 32
+  pub h-done : rowH .board ≡ idle (rest 511 0 32)
   pub h-holds : holds 0 rowH ≡ state (object (idOf 5) (0x41 ∷ 0x42 ∷ []) ∷ []) []
   pub i-accepted : ask rowA 0 (putMessage 1 64) .answer ≡ More
-  pub i-done : rowI 64 .board ≡ idle 511 0 232
+  pub i-done : rowI 64 .board ≡ idle (rest 511 0 232)
   pub i-claimed : claimed (holds 0 (rowI 64)) ≡ 232
   pub j : ask (rowI 64) 0 (putMessage 4 0) .answer ≡ Refused refusal.NoRoom
   pub k-refused : ask (rowK 64) 0 (putMessage 4 0) .answer ≡ Refused refusal.NoRoom
