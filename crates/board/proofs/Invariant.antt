@@ -20,6 +20,7 @@ use Rattle.board.specs.declared.Phase.the-variants.{Unmounted, Idle, Bus
 use Rattle.board.specs.declared.Record.{Record}
 use Rattle.board.specs.Record.{rest, idle}
 use Rattle.board.specs.Mount.{endOf}
+use Rattle.board.specs.Exec.{exec}
 use Rattle.board.specs.Plan.{Follows}
 use Rattle.board.specs.Book.{Book, nothing, finishing}
 use Rattle.board.proofs.Images.{Sized}
@@ -87,7 +88,7 @@ pub record InJob (s : ℕ) (P : Step → List ℕ → Type 0) (Q : List ℕ → 
   pub last : Record
   pub count : ℕ
   pub now : img ≡ applyAll s (take count plan) start
-  pub follows : Follows img r (drop count plan) last
+  pub follows : Follows exec img r (drop count plan) last
   pub begun : count < length plan
   pub short : length plan ≤ s
   pub each : (j : ℕ) → j < length plan → P (getD plan j (erase 0)) (applyAll s (take j plan) start)

@@ -34,6 +34,7 @@ use Rattle.board.specs.declared.Record.{Record}
 use Rattle.board.specs.Record.{allowed, rest, idle, Out, out, refuse, answerOf}
 use Rattle.board.specs.Step.{enterWipe}
 use Rattle.board.specs.Queue.{Held, held, needsRoom, appendJob, append, serve, serveChange, serveEnd, serveParsed, serveHeld, requestIn, requestOn}
+use Rattle.board.specs.Exec.{exec}
 use Rattle.board.specs.Plan.{framePlan, framedAt}
 use Rattle.board.specs.Table.{frameFor, frameIf, roomRule}
 use Rattle.board.specs.Demand2.{Appends, RequestsPlanned}
@@ -243,7 +244,7 @@ module _ {s : ℕ} {img : List ℕ} {r : Record} {h : Host} {m : List ℕ} (z : 
             omega (arith, eqb-false (x .time) lastTime v, holds .alone .contents .layout .time-hi);
       }
 
-  pub frame-appends : (reply : List ℕ) → Appends img r h m (out (answerOf (jobOf y)) img (jobOf y) reply)
+  pub frame-appends : (reply : List ℕ) → Appends exec img r h m (out (answerOf (jobOf y)) img (jobOf y) reply)
   frame-appends reply =
       let j : Journal (block (sizeOf img) (r .block) img) (x .frames) =
       subst (λ (n : ℕ). Journal (block n (r .block) img) (x .frames)) (sym (size-of z)) (journal-of (holds .alone .contents)) in
@@ -267,11 +268,11 @@ module _ {s : ℕ} {img : List ℕ} {r : Record} {h : Host} {m : List ℕ} (z : 
 
 -- ---- on any record and image
 
-pub requests-planned : RequestsPlanned
+pub requests-planned : RequestsPlanned exec
 unfolding RequestsPlanned
-requests-planned img r reply h m by bm e = go (request-met img r reply h m)
+requests-planned img r h m reply by bm e = go (request-met img r reply h m)
   where
-    go : Met img r reply h m (requestOn img r reply h m) → Appends img r h m (requestOn img r reply h m)
+    go : Met img r reply h m (requestOn img r reply h m) → Appends exec img r h m (requestOn img r reply h m)
     go (refused n p) = let q : Refused n ≡ More = sym (ap (λ (o : Out). o .answer) p) ∙ e in let z : _≡_ {A = ℕ} 0 1 = cc in absurd (omega arith)
     go (done d i b) = let q : Done ≡ More = sym d ∙ e in let z : _≡_ {A = ℕ} 0 1 = cc in absurd (omega arith)
-    go (begun y p) = subst (Appends img r h m) (sym p) (frame-appends (sized-of img (y .length-ok)) by bm y reply)
+    go (begun y p) = subst (Appends exec img r h m) (sym p) (frame-appends (sized-of img (y .length-ok)) by bm y reply)

@@ -149,13 +149,17 @@ mountOn img = cond (allowed (length img)) (mountFound img (allFound img)) (refus
 
 -- ---- format
 
--- "erase half 0, erase half 1, then half 0's header at time 1 in the same order": no frame is copied, from no id and no offset on
+-- "erase half 0, erase half 1": the order in which a format erases the blocks of an image
+abbrev pub formatOrder : List ℕ → List ℕ
+formatOrder img = blockNumbers
+
+-- "then half 0's header at time 1 in the same order": no frame is copied, from no id and no offset on
 abbrev pub formatJob : List ℕ → Record
 formatJob img =
     busy (rest (length img - 1) (nextBlock 0) headerLen) noPlaces
     (record {
-      wipe = wipeArray blockNumbers;
-      wipes = length blockNumbers;
+      wipe = wipeArray (formatOrder img);
+      wipes = length (formatOrder img);
       moves = true;
       drops = false;
       target = 0;
