@@ -26,7 +26,7 @@ use Rattle.board.specs.Book.{Book}
 use Rattle.board.specs.Claim.{stepsOn, ByteCalls}
 use Rattle.board.specs.CutFormat.{Left, afterAll, leftBy, Beside, OldObjects, Empty, EmptyStore, Leaves, old-objects, no-store, empty-store, CutFormat}
 use Rattle.board.proofs.Images.{Sized, size-of, sized-as, length-all-steps}
-use Rattle.board.proofs.Invariant.{Valid, Quiet, Safe, no-valid, one-valid, two-valid, Inv}
+use Rattle.board.proofs.Invariant.{Valid, Quiet, Lesser, quiet, older, Safe, no-valid, some-valid, Inv}
 use Rattle.board.proofs.Current.{Alone}
 use Rattle.board.proofs.Outcomes.{format-begins}
 use Rattle.board.proofs.Keeping.{safe-of}
@@ -99,13 +99,11 @@ module _ {s : ℕ} {img : List ℕ} (z : Sized s img) where
 
   safe-old : {os : List Object} → Safe s img os false → OldObjects img os
   safe-old (no-valid e q) = absurd (false≢true e)
-  safe-old {os} (one-valid k h v q) = valid-old k h v (λ j l n. quiet-beside (v .time) os (blockState (block s j img)) (q j l n))
-  safe-old {os} (two-valid x y n) = valid-old 0 (omega arith) x other
+  safe-old {os} (some-valid k h v q) = valid-old k h v (λ j l n. other j (q j l n))
     where
-      other : (j : ℕ) → j < blocks → (j ≡ 0 → ⊥) → Beside (x .time) os (blockState (block s j img))
-      other zero l d = absurd (d refl)
-      other (suc zero) l d = subst (Beside (x .time) os) (sym (contents-valid (y .contents))) ((λ e. n (sym e)), y .same)
-      other (suc (suc j)) l d = absurd (omega arith)
+      other : (j : ℕ) → Lesser s img (v .time) os j → Beside (v .time) os (blockState (block s j img))
+      other j (quiet x) = quiet-beside (v .time) os (blockState (block s j img)) x
+      other j (older w l) = subst (Beside (v .time) os) (sym (contents-valid (w .contents))) ((λ e. omega arith), w .same)
 
   alone-empty : Alone s img 0 1 [] clean → EmptyStore img
   alone-empty y =
