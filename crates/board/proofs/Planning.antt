@@ -14,7 +14,7 @@ use Rattle.flash.proofs.Cases.{on-test}
 use Rattle.frame.specs.declared.Host.{Host}
 use Rattle.frame.specs.declared.ObjectId.{ObjectId}
 use Rattle.frame.specs.Frame.{hostMax, Change, put, delete, Frame, change, commit, abort, frameLen, endLen, OfHost, MayStand}
-use Rattle.journal.specs.Replay.{State, entry, replay, lookup, next, isOpen}
+use Rattle.journal.specs.Replay.{State, entry, replay, lookup, nextState, isOpen}
 use Rattle.journal.specs.Block.{lastTime}
 use Rattle.journal.specs.Room.{claimed, openHosts, noRoom, spare}
 use Rattle.journal.proofs.Places.{Journal}
@@ -159,7 +159,7 @@ record Fitting (s : ℕ) (st : State) (f : Frame) : Type 0 where
   host : OfHost f
   legal : MayStand 256 f
   fits : claimed st + frameLen f ≤ s
-  room : Roomy s (next st f)
+  room : Roomy s (nextState st f)
 
 change-fits : (s : ℕ) (st : State) (h : Host) (c : Change) → MayStand 256 (change h c) → noRoom s st h c ≡ false → Fitting s st (change h c)
 unfolding noRoom
@@ -263,7 +263,7 @@ module _ {s : ℕ} {img : List ℕ} {r : Record} {h : Host} {m : List ℕ} (z : 
   pub frame-begins : (answerOf (jobOf y) ≡ More) × InJob s (StepLands s) (Ready s) img (jobOf y)
   frame-begins =
       let a : After s (applyAll s (framePlan (needsRoom img r f) (r .block) (r .end) x f) img)
-      (framedAt (needsRoom img r f) (r .last) (r .block) (r .end) x f) (next (replay (x .frames)) f) = frame-ends holds appendable (fitting .room) in
+      (framedAt (needsRoom img r f) (r .last) (r .block) (r .end) x f) (nextState (replay (x .frames)) f) = frame-ends holds appendable (fitting .room) in
       frame-starts r x f z holds appendable (frame-lands holds appendable) (a .ready) (ready-idle (a .ready))
 
 -- ---- on any record and image

@@ -23,7 +23,7 @@ use Rattle.journal.specs.Block.{blockState, header, validData}
 use Rattle.journal.specs.Room.{claimed, openHosts, usedBy}
 use Rattle.journal.specs.Index.{placesOf, valueAt}
 use Rattle.journal.proofs.States.{Contents, contents-valid}
-use Rattle.journal.proofs.Places.{Journal, Holds, place-law}
+use Rattle.journal.proofs.Places.{Journal, ValueStands, place-law}
 use Rattle.wire.specs.declared.Answer.the-variants.{Done}
 use Rattle.wire.specs.declared.Page.the-variants.{Summary}
 use Rattle.wire.specs.declared.Request.{Request}
@@ -97,7 +97,7 @@ module _ {s : ℕ} {img : List ℕ} {r : Record} (z : Sized s img) (y : Ready s 
       go (some v) e =
           let k : ℕ = y .number in
           let b : List ℕ = block s k img in
-          let x : Holds b i (getD (placesOf (y .frames)) (i .0) 0) v = place-law b (y .frames) i v (journal-of (y .contents)) l e in
+          let x : ValueStands b i (getD (placesOf (y .frames)) (i .0) 0) v = place-law b (y .frames) i v (journal-of (y .contents)) l e in
           let n : length b ≡ s = length-block s k img (sized-block k z (y .there)) in
           let at : placeOf img r (heldOf y) i ≡ record { at = k * s + x .at; size = length v } =
           ap (λ (q : Record). placeOf img q (heldOf y) i) (y .is)
