@@ -272,7 +272,7 @@ mount-safe {s} {img} {os} {u} z f = go (mount-decides z)
         let y : _≡_ {A = ℕ} 0 1 = cc in omega arith
 
     -- a block of the newest's time is not beside it
-    clash : {k j t : ℕ} {fs gs : List Frame} {c d : Tail} (v : Valid s img k os) → Lesser s img (v .time) os j 
+    clash : {k j t : ℕ} {fs gs : List Frame} {c d : Tail} (v : Valid s img k os) → Lesser s img (v .time) os j
         → blockState (block s k img) ≡ valid t fs c → blockState (block s j img) ≡ valid t gs d → ⊥
     clash {k} {j} {t} {fs} {gs} {c} {d} v (quiet x) p q = quiet-not-valid (blockState (block s j img)) t gs d x q
     clash v (older w l) p q =
