@@ -9,6 +9,8 @@ use denote.Shadow.{shadow}
 use denote.Array.{each}
 use denote.Struct.Field.{uint-field, u8-field, u16-field, array-field}
 use Rattle.flash.specs.Bytes.{Bytes}
+use Rattle.flash.specs.Flash.{blocks}
+use Rattle.frame.specs.Frame.{maxFrame}
 use Rattle.board.specs.declared.Job.{Job}
 use Rattle.board.specs.declared.Cursor.{Cursor}
 use Rattle.board.specs.declared.Record.{Record}
@@ -55,7 +57,7 @@ job-fits : (j : Job) (vs : List Val) → shadow (job.the-field .row .own (job.th
 job-fits j vs h =
     let f = h .1 .1 in
     record {
-      wipe = some-bytes 2 (j .wipe) _ (f .0);
+      wipe = some-bytes blocks (j .wipe) _ (f .0);
       wipes = f .1 .0 .1;
       target = f .1 .1 .1 .1 .0 .1;
       time = f .1 .1 .1 .1 .1 .0 .1;
@@ -73,8 +75,8 @@ record-fits r vs h =
       places = some-words 256 (r .places) _ (f .1 .1 .1 .1 .0);
       job = job-fits (r .job) _ (f .1 .1 .1 .1 .1 .0);
       cursor = cursor-fits (r .cursor) _ (f .1 .1 .1 .1 .1 .1 .0);
-      unit = some-bytes 72 (r .unit) _ (f .1 .1 .1 .1 .1 .1 .1 .0);
-      frame = some-bytes 72 (r .frame) _ (f .1 .1 .1 .1 .1 .1 .1 .1 .0);
+      unit = some-bytes maxFrame (r .unit) _ (f .1 .1 .1 .1 .1 .1 .1 .0);
+      frame = some-bytes maxFrame (r .frame) _ (f .1 .1 .1 .1 .1 .1 .1 .1 .0);
     }
 
 pub outcome-fits : (x : Outcome) (vs : List Val) → shadow (outcome.the-field .row .own (outcome.the-type .to x) vs)

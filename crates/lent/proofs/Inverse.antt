@@ -5,9 +5,10 @@ use mathlib.Core.Bool.{Bool, true, false}
 use Prim.Native.Nat.{ℕ, zero, suc, _+_, _-_, _<_}
 use native.Mathlib.Omega.{arith}
 use lib.ListN.{length, getD, drop, length-append}
-use lib.Seq.{take-at, getD-at, drop-append-add}
+use lib.Seq.{take-at, getD-at, drop-at, drop-drop}
 use Rattle.flash.specs.Bytes.{Bytes, u32le}
 use Rattle.flash.proofs.Blank.{bytes-append, le16-u16, le32-u32}
+use Rattle.flash.specs.Flash.{blocks}
 use Rattle.frame.specs.Frame.{maxFrame}
 use Rattle.wire.specs.Message.{wordAt}
 use Rattle.board.specs.declared.Stage.the-variants.{Wipe, Open, Copy, Seal, Drop, Append}
@@ -16,8 +17,12 @@ use Rattle.board.specs.declared.Phase.the-variants.{Unmounted, Idle, Busy}
 use Rattle.board.specs.declared.Job.{Job}
 use Rattle.board.specs.declared.Cursor.{Cursor}
 use Rattle.board.specs.declared.Record.{Record}
-use Rattle.lent.specs.Layout.{placesAt, jobAt, cursorAt, unitAt, frameAt, recordSize, phaseIn, wordsIn, flagIn, frameIn, jobIn, cursorIn, recordIn, phaseByte, wordBytes, flagByte, headBytes, jobBytes, cursorBytes, recordBytes, Words, JobFits, CursorFits, RecordFits, BytesBack}
-use Rattle.lent.proofs.Words.{length-word-bytes, length-job, pair-then}
+use Rattle.lent.specs.Layout.{cursorSize, sinceSize, planSize, lastAt, blockAt, endAt, placesAt, placesSize, jobAt, planAt}
+use Rattle.lent.specs.Layout.{cursorAt, unitAt, frameAt, recordSize}
+use Rattle.lent.specs.Layout.{phaseIn, bytesIn, wordsIn, flagIn, planIn, jobIn, cursorIn, recordIn}
+use Rattle.lent.specs.Layout.{phaseByte, wordBytes, flagByte, headBytes, planBytes, cursorBytes, recordBytes}
+use Rattle.lent.specs.Layout.{Words, JobFits, CursorFits, RecordFits, BytesBack}
+use Rattle.lent.proofs.Words.{length-word-bytes, length-plan}
 
 -- ---- the parts, read back
 
@@ -42,37 +47,35 @@ words-back [] t (suc n) e = absurd (omega arith)
 words-back (w ∷ ws) t zero e = absurd (omega arith)
 words-back (w ∷ ws) t (suc n) e = rw (le16-u16 w, words-back ws t n (omega arith))
 
-skip : (p q : List ℕ) (n m : ℕ) → length p ≡ n → drop (n + m) (p ++ q) ≡ drop m q
-skip p q n m e = rw (← e, drop-append-add)
-
-frame-back : (f t : List ℕ) → length f ≡ maxFrame → frameIn (f ++ t) ≡ f
-frame-back f t e = let z : maxFrame - length f ≡ 0 = omega arith in rw (take-at f t maxFrame e, z, append-nil)
+array-back : (n : ℕ) (f t : List ℕ) → length f ≡ n → bytesIn n (f ++ t) ≡ f
+array-back n f t e = let z : n - length f ≡ 0 = omega arith in rw (take-at f t n e, z, append-nil)
 
 cursor-back : (c : Cursor) (t : List ℕ) → cursorIn (cursorBytes c ++ t) ≡ c
 cursor-back c t = rw (le16-u16 (c .at), le16-u16 (c .id), le16-u16 (c .source))
 
-job-back : (j : Job) (x : List ℕ) → length (j .wipe) ≡ 2 → length (j .since) ≡ 4 → jobIn (jobBytes j ++ x) ≡ j
-job-back j x p q =
-    let w = j .wipe in
+plan-back : (j : Job) (x : List ℕ) → length (j .since) ≡ 4 → planIn (j .wipe) (planBytes j ++ x) ≡ j
+plan-back j x q =
     let s = wordBytes (j .since) in
-    let n : length (wordBytes (j .since)) ≡ 8 = length-word-bytes (j .since) ∙ rw q in
-    let rest : List ℕ =
-    j .wipes ∷ flagByte (j .moves) ∷ flagByte (j .drops) ∷ j .target ∷ (u32le (j .time) ++ (s ++ (j .size ∷ []))) in
-    ap jobIn (append-assoc w rest x ∙ sym (pair-then w (rest ++ x) p))
-    ∙ rw (
+    let n : length (wordBytes (j .since)) ≡ sinceSize = length-word-bytes (j .since) ∙ rw q in
+    rw (
       append-assoc s (j .size ∷ []) x,
       words-back (j .since) (j .size ∷ x) 4 q,
-      getD-at s (j .size) x 0 8 n,
+      getD-at s (j .size) x 0 sinceSize n,
       flag-back (j .moves),
       flag-back (j .drops),
       le32-u32 (j .time),
-      pair-then w [] p,
-      append-nil,
     )
 
-parts-back : (l : List ℕ) (r : Record) → phaseIn (getD l 0 0) ≡ r .phase → wordAt l 1 ≡ r .last → getD l 3 0 ≡ r .block → wordAt l 4 ≡ r .end
-    → wordsIn 256 (drop placesAt l) ≡ r .places → jobIn (drop jobAt l) ≡ r .job → cursorIn (drop cursorAt l) ≡ r .cursor
-    → frameIn (drop unitAt l) ≡ r .unit → frameIn (drop frameAt l) ≡ r .frame → recordIn l ≡ r
+job-back : (j : Job) (x : List ℕ) → length (j .wipe) ≡ blocks → length (j .since) ≡ 4 → jobIn (j .wipe ++ (planBytes j ++ x)) ≡ j
+job-back j x p q =
+    let rest = planBytes j ++ x in
+    ap (λ (w : List ℕ). planIn w (drop blocks (j .wipe ++ rest))) (array-back blocks (j .wipe) rest p)
+    ∙ ap (planIn (j .wipe)) (drop-at (j .wipe) rest blocks p)
+    ∙ plan-back j x q
+
+parts-back : (l : List ℕ) (r : Record) → phaseIn (getD l 0 0) ≡ r .phase → wordAt l lastAt ≡ r .last → getD l blockAt 0 ≡ r .block
+    → wordAt l endAt ≡ r .end → wordsIn 256 (drop placesAt l) ≡ r .places → jobIn (drop jobAt l) ≡ r .job → cursorIn (drop cursorAt l) ≡ r .cursor
+    → bytesIn maxFrame (drop unitAt l) ≡ r .unit → bytesIn maxFrame (drop frameAt l) ≡ r .frame → recordIn l ≡ r
 unfolding recordIn
 parts-back l r p a b e w j c u f =
     λ i. record { phase = p i; last = a i; block = b i; end = e i; places = w i; job = j i; cursor = c i; unit = u i; frame = f i }
@@ -107,105 +110,91 @@ head-bytes r h =
 cursor-bytes : (c : Cursor) → CursorFits c → Bytes (cursorBytes c)
 cursor-bytes c h = (h .index, (omega arith, (omega arith, (omega arith, (omega arith, (omega arith, (omega arith, (h .size, (h .off, tt)))))))))
 
-job-bytes : (j : Job) → JobFits j → Bytes (jobBytes j)
-job-bytes j h =
-    bytes-append (j .wipe) _ (h .wipe .1) (
-      h .wipes,
-      (
-        flag-byte (j .moves),
-        (
-          flag-byte (j .drops),
-          (
-            h .target,
-            (
-              omega arith,
-              (
-                omega arith,
-                (
-                  omega arith,
-                  (
-                    omega arith,
-                    bytes-append (wordBytes (j .since)) (j .size ∷ []) (word-bytes (j .since) (h .since .1)) (h .size, tt),
-                  ),
-                ),
-              ),
-            ),
-          ),
-        ),
-      ),
-    )
+plan-bytes : (j : Job) → JobFits j → Bytes (planBytes j)
+plan-bytes j h =
+    let since = bytes-append (wordBytes (j .since)) (j .size ∷ []) (word-bytes (j .since) (h .since .1)) (h .size, tt) in
+    let t = h .time in
+    let time : Bytes (u32le (j .time) ++ (wordBytes (j .since) ++ (j .size ∷ []))) =
+    (omega (arith, t), (omega (arith, t), (omega (arith, t), (omega (arith, t), since)))) in
+    (h .wipes, (flag-byte (j .moves), (flag-byte (j .drops), (h .target, time))))
 
 -- ---- the whole
+
+-- past a part
+past : (at n : ℕ) (l p q : List ℕ) → drop at l ≡ p ++ q → length p ≡ n → drop (at + n) l ≡ q
+past at n l p q e h = sym (drop-drop n at l) ∙ ap (drop n) e ∙ drop-at p q n h
 
 module _ (r : Record) (h : RecordFits r) where
   abbrev W : List ℕ
   W = wordBytes (r .places)
 
-  abbrev J : List ℕ
-  J = jobBytes (r .job)
+  abbrev E : List ℕ
+  E = r .job .wipe
+
+  abbrev P : List ℕ
+  P = planBytes (r .job)
 
   abbrev C : List ℕ
   C = cursorBytes (r .cursor)
 
   -- what stands from each part on
-  abbrev X : List ℕ
-  X = r .unit ++ r .frame
+  abbrev UF : List ℕ
+  UF = r .unit ++ r .frame
 
-  abbrev CX : List ℕ
-  CX = C ++ X
+  abbrev CUF : List ℕ
+  CUF = C ++ UF
 
-  abbrev JCX : List ℕ
-  JCX = J ++ CX
+  abbrev PCUF : List ℕ
+  PCUF = P ++ CUF
 
-  abbrev WJCX : List ℕ
-  WJCX = W ++ JCX
+  abbrev EPCUF : List ℕ
+  EPCUF = E ++ PCUF
 
-  length-W : length W ≡ 512
+  length-W : length W ≡ placesSize
   length-W = length-word-bytes (r .places) ∙ rw (h .places .0)
 
-  length-J : length J ≡ 19
-  length-J = length-job (r .job) (h .job .wipe .0) (h .job .since .0)
+  length-P : length P ≡ planSize
+  length-P = length-plan (r .job) (h .job .since .0)
 
-  from-job : drop jobAt (recordBytes r) ≡ JCX
+  from-job : drop jobAt (recordBytes r) ≡ EPCUF
   unfolding recordBytes
-  from-job = skip W JCX 512 0 length-W
+  from-job = past placesAt placesSize (recordBytes r) W EPCUF refl length-W
 
-  from-cursor : drop cursorAt (recordBytes r) ≡ CX
-  unfolding recordBytes
-  from-cursor = skip W JCX 512 19 length-W ∙ skip J CX 19 0 length-J
+  from-plan : drop planAt (recordBytes r) ≡ PCUF
+  from-plan = past jobAt blocks (recordBytes r) E PCUF from-job (h .job .wipe .0)
 
-  from-unit : drop unitAt (recordBytes r) ≡ X
-  unfolding recordBytes
-  from-unit = skip W JCX 512 28 length-W ∙ skip J CX 19 9 length-J
+  from-cursor : drop cursorAt (recordBytes r) ≡ CUF
+  from-cursor = past planAt planSize (recordBytes r) P CUF from-plan length-P
+
+  from-unit : drop unitAt (recordBytes r) ≡ UF
+  from-unit = past cursorAt cursorSize (recordBytes r) C UF from-cursor refl
 
   from-frame : drop frameAt (recordBytes r) ≡ r .frame ++ []
-  unfolding recordBytes
-  from-frame =
-      skip W JCX 512 100 length-W ∙ skip J CX 19 81 length-J
-      ∙ skip (r .unit) (r .frame) 72 0 (h .unit .0) ∙ sym (append-nil (r .frame))
+  from-frame = past unitAt maxFrame (recordBytes r) (r .unit) (r .frame) from-unit (h .unit .0) ∙ sym (append-nil (r .frame))
 
   record-back : recordIn (recordBytes r) ≡ r
   unfolding recordBytes
   record-back =
-      parts-back (recordBytes r) r (phase-back (r .phase)) (le16-u16 (r .last)) refl (le16-u16 (r .end)) (words-back (r .places) JCX 256 (h .places .0))
-      (ap jobIn from-job ∙ job-back (r .job) CX (h .job .wipe .0) (h .job .since .0))
-      (ap cursorIn from-cursor ∙ cursor-back (r .cursor) X)
-      (ap frameIn from-unit ∙ frame-back (r .unit) (r .frame) (h .unit .0))
-      (ap frameIn from-frame ∙ frame-back (r .frame) [] (h .frame .0))
+      parts-back (recordBytes r) r (phase-back (r .phase)) (le16-u16 (r .last)) refl (le16-u16 (r .end))
+      (words-back (r .places) EPCUF 256 (h .places .0))
+      (ap jobIn from-job ∙ job-back (r .job) CUF (h .job .wipe .0) (h .job .since .0))
+      (ap cursorIn from-cursor ∙ cursor-back (r .cursor) UF)
+      (ap (bytesIn maxFrame) from-unit ∙ array-back maxFrame (r .unit) (r .frame) (h .unit .0))
+      (ap (bytesIn maxFrame) from-frame ∙ array-back maxFrame (r .frame) [] (h .frame .0))
 
   pub length-bytes-of : length (recordBytes r) ≡ recordSize
   unfolding recordBytes
   length-bytes-of =
-      simp length-append
-      (omega (arith, length-W, length-word-bytes (r .job .since), h .job .wipe .0, h .job .since .0, h .unit .0, h .frame .0))
+      simp length-append (omega (arith, length-W, length-word-bytes (r .job .since), h .job .wipe .0, h .job .since .0, h .unit .0, h .frame .0))
 
   pub bytes-of-bytes : Bytes (recordBytes r)
   unfolding recordBytes
   bytes-of-bytes =
-      bytes-append (headBytes r) WJCX (head-bytes r h)
-      (bytes-append W JCX (word-bytes (r .places) (h .places .1))
-      (bytes-append J CX (job-bytes (r .job) (h .job))
-      (bytes-append C X (cursor-bytes (r .cursor) (h .cursor)) (bytes-append (r .unit) (r .frame) (h .unit .1) (h .frame .1)))))
+      bytes-append (headBytes r) (W ++ EPCUF) (head-bytes r h)
+      (bytes-append W EPCUF (word-bytes (r .places) (h .places .1))
+      (bytes-append E PCUF (h .job .wipe .1)
+      (bytes-append P CUF (plan-bytes (r .job) (h .job))
+      (bytes-append C UF (cursor-bytes (r .cursor) (h .cursor)) (bytes-append (r .unit) (r .frame) (h .unit .1) (h .frame .1))))))
 
 pub bytes-back : BytesBack
 unfolding BytesBack

@@ -10,9 +10,11 @@ use borrow.Author.Tests.{lt-ltb, le-ltb}
 use Rattle.flash.specs.Bytes.{u16le}
 use Rattle.wire.specs.Code.{overlay}
 use Rattle.wire.proofs.Laying.{to-end}
+use Rattle.flash.specs.Flash.{blocks}
 use Rattle.frame.specs.Frame.{maxFrame}
 use Rattle.board.specs.declared.Record.{Record}
-use Rattle.lent.specs.Layout.{placesAt, jobAt, cursorAt, unitAt, frameAt, recordSize, wordBytes, headBytes, jobBytes, cursorBytes, recordBytes}
+use Rattle.lent.specs.Layout.{cursorSize, planSize, placesAt, placesSize, jobAt, planAt, cursorAt, unitAt, frameAt, recordSize}
+use Rattle.lent.specs.Layout.{wordBytes, headBytes, planBytes, cursorBytes, recordBytes}
 use Rattle.lent.specs.Code.{laidAt}
 use Rattle.lent.proofs.Words.{length-word-bytes, next-word-bytes}
 
@@ -67,59 +69,50 @@ word-more at ws l i h k =
     rw (length-append, length-word-bytes, length-take-le at l (omega arith), length-take-le i ws (omega arith)) in
     let e : at + 2 * i + 2 ≡ at + 2 * (i + 1) = omega arith in
     laid-next (at + 2 * i) (take at l ++ wordBytes (take i ws)) (u16le (getD ws i 0)) l n k
-    ∙ rw (e, add-one, take-suc ws i 0 h, next-word-bytes) (ap (λ (t : List ℕ). t ++ drop (at + 2 * suc i) l) (append-assoc (take at l) (wordBytes
-    (take i ws)) (u16le (getD ws i 0))))
+    ∙ rw (e, add-one, take-suc ws i 0 h, next-word-bytes) (ap (λ (t : List ℕ). t ++ drop (at + 2 * suc i) l)
+    (append-assoc (take at l) (wordBytes (take i ws)) (u16le (getD ws i 0))))
 
 pub words-all : (at : ℕ) (ws l : List ℕ) (i : ℕ) → i ≡ length ws → at + 2 * length ws ≤ length l → wordsTo at ws l i ≡ laidAt at (wordBytes ws) l
 words-all at ws l i h k =
     let n = length-word-bytes ws in
     rw (h, take-all (length ws) ws (omega arith), ← n) (sym (laid-here at (wordBytes ws) l (omega (arith, n))))
 
--- the parts of a record, one after the other, in a buffer of just their size: x is the buffer l with its first bytes written
-abbrev Upto : ℕ → List ℕ → List ℕ → List ℕ → Type 0
-Upto at p l x = (x ≡ p ++ drop at l) × (length p ≡ at)
-
-next : (at n : ℕ) (p s l x : List ℕ) → Upto at p l x → length s ≡ n → at + n ≤ length l → Upto (at + n) (p ++ s) l (laidAt at s x)
-next at n p s l x h e k =
-    (ap (laidAt at s) (h .0) ∙ laid-next at p s l (h .1) (omega arith) ∙ rw e, length-append p s ∙ rw (h .1, e))
-
-whole : (at : ℕ) (p l x : List ℕ) → Upto at p l x → length l ≡ at → x ≡ p
-whole at p l x h e = h .0 ∙ rw (drop-of-length-le l {i = at} (omega arith), append-nil)
-
-module _ (l a b c d e f : List ℕ) (la : length a ≡ 6) (lb : length b ≡ 512) (lc : length c ≡ 19) (ld : length d ≡ 9) (le : length e ≡ 72) (lf : length f ≡ 72)
-    (ll : length l ≡ 690) where
-  one : Upto 6 a l (laidAt 0 a l)
-  one = next 0 6 [] a l l (refl, refl) la (omega arith)
-
-  two : Upto 518 (a ++ b) l (laidAt 6 b (laidAt 0 a l))
-  two = next 6 512 a b l (laidAt 0 a l) one lb (omega arith)
-
-  three : Upto 537 ((a ++ b) ++ c) l (laidAt 518 c (laidAt 6 b (laidAt 0 a l)))
-  three = next 518 19 (a ++ b) c l (laidAt 6 b (laidAt 0 a l)) two lc (omega arith)
-
-  four : Upto 546 (((a ++ b) ++ c) ++ d) l (laidAt 537 d (laidAt 518 c (laidAt 6 b (laidAt 0 a l))))
-  four = next 537 9 ((a ++ b) ++ c) d l (laidAt 518 c (laidAt 6 b (laidAt 0 a l))) three ld (omega arith)
-
-  five : Upto 618 ((((a ++ b) ++ c) ++ d) ++ e) l (laidAt 546 e (laidAt 537 d (laidAt 518 c (laidAt 6 b (laidAt 0 a l)))))
-  five = next 546 72 (((a ++ b) ++ c) ++ d) e l (laidAt 537 d (laidAt 518 c (laidAt 6 b (laidAt 0 a l)))) four le (omega arith)
-
-  pub laid-all : laidAt 618 f (laidAt 546 e (laidAt 537 d (laidAt 518 c (laidAt 6 b (laidAt 0 a l))))) ≡ a ++ (b ++ (c ++ (d ++ (e ++ f))))
-  laid-all =
-      whole 690 (((((a ++ b) ++ c) ++ d) ++ e) ++ f) l (laidAt 618 f (laidAt 546 e (laidAt 537 d (laidAt 518 c (laidAt 6 b (laidAt 0 a l))))))
-      (next 618 72 ((((a ++ b) ++ c) ++ d) ++ e) f l (laidAt 546 e (laidAt 537 d (laidAt 518 c (laidAt 6 b (laidAt 0 a l))))) five lf (omega arith)) ll
-      ∙ simp append-assoc
-
 -- ---- a record's bytes
 
--- the six parts laid one after the other: the buffer after each
-module _ (r : Record) (l x₁ x₂ x₃ x₄ x₅ x₆ h j c : List ℕ) (eh : h ≡ headBytes r) (ej : j ≡ jobBytes (r .job)) (ec : c ≡ cursorBytes (r .cursor))
-    (e₁ : x₁ ≡ laidAt 0 h l) (e₂ : x₂ ≡ laidAt placesAt (wordBytes (r .places)) x₁) (e₃ : x₃ ≡ laidAt jobAt j x₂) (e₄ : x₄ ≡ laidAt cursorAt c x₃)
-    (e₅ : x₅ ≡ laidAt unitAt (r .unit) x₄) (e₆ : x₆ ≡ laidAt frameAt (r .frame) x₅) where
-  pub encoded : length (r .places) ≡ 256 → length (r .unit) ≡ maxFrame → length (r .frame) ≡ maxFrame → length j ≡ 19
-      → length l ≡ recordSize → x₆ ≡ recordBytes r
+-- x is the buffer l with its first bytes written, p
+record Upto (at : ℕ) (p l x : List ℕ) : Type 0 where
+  written : x ≡ p ++ drop at l
+  size : length p ≡ at
+
+next : (at n : ℕ) (s : List ℕ) {p l x y : List ℕ} → Upto at p l x → y ≡ laidAt at s x → length s ≡ n → at + n ≤ length l
+    → Upto (at + n) (p ++ s) l y
+next at n s {p} {l} {x} {y} u v e k =
+    record {
+      written = v ∙ ap (laidAt at s) (u .written) ∙ laid-next at p s l (u .size) (omega arith) ∙ rw e;
+      size = length-append p s ∙ rw (u .size, e);
+    }
+
+whole : (at : ℕ) {p l x : List ℕ} → Upto at p l x → length l ≡ at → x ≡ p
+whole at {p} {l} {x} u e = u .written ∙ rw (drop-of-length-le l {i = at} (omega arith), append-nil)
+
+flat : (a b c d e f g : List ℕ) → (((((a ++ b) ++ c) ++ d) ++ e) ++ f) ++ g ≡ a ++ (b ++ (c ++ (d ++ (e ++ (f ++ g)))))
+flat a b c d e f g = simp append-assoc
+
+-- the parts laid one after the other: the buffer after each
+module _ (r : Record) (l x₁ x₂ x₃ x₄ x₅ x₆ x₇ h p c : List ℕ) (eh : h ≡ headBytes r) (ep : p ≡ planBytes (r .job))
+    (ec : c ≡ cursorBytes (r .cursor)) (e₁ : x₁ ≡ laidAt 0 h l) (e₂ : x₂ ≡ laidAt placesAt (wordBytes (r .places)) x₁)
+    (e₃ : x₃ ≡ laidAt jobAt (r .job .wipe) x₂) (e₄ : x₄ ≡ laidAt planAt p x₃) (e₅ : x₅ ≡ laidAt cursorAt c x₄)
+    (e₆ : x₆ ≡ laidAt unitAt (r .unit) x₅) (e₇ : x₇ ≡ laidAt frameAt (r .frame) x₆) where
+  pub encoded : length (r .places) ≡ 256 → length (r .job .wipe) ≡ blocks → length p ≡ planSize → length (r .unit) ≡ maxFrame
+      → length (r .frame) ≡ maxFrame → length l ≡ recordSize → x₇ ≡ recordBytes r
   unfolding recordBytes
-  encoded np nu nf nj nl =
-      let b : length (wordBytes (r .places)) ≡ 512 = length-word-bytes (r .places) ∙ rw np in
-      e₆ ∙ rw (e₅, e₄, e₃, e₂, e₁, eh, ej, ec)
-      (laid-all l (headBytes r) (wordBytes (r .places)) (jobBytes (r .job)) (cursorBytes (r .cursor)) (r .unit) (r .frame) refl b
-      (rw (← ej) nj) refl nu nf nl)
+  encoded np nw nq nu nf nl =
+      let u₀ : Upto 0 [] l l = record { written = refl; size = refl } in
+      let u₁ = next 0 placesAt h u₀ e₁ (ap length eh) (omega (arith, nl)) in
+      let u₂ = next placesAt placesSize (wordBytes (r .places)) u₁ e₂ (length-word-bytes (r .places) ∙ rw np) (omega (arith, nl)) in
+      let u₃ = next jobAt blocks (r .job .wipe) u₂ e₃ nw (omega (arith, nl)) in
+      let u₄ = next planAt planSize p u₃ e₄ nq (omega (arith, nl)) in
+      let u₅ = next cursorAt cursorSize c u₄ e₅ (ap length ec) (omega (arith, nl)) in
+      let u₆ = next unitAt maxFrame (r .unit) u₅ e₆ nu (omega (arith, nl)) in
+      let u₇ = next frameAt maxFrame (r .frame) u₆ e₇ nf (omega (arith, nl)) in
+      whole recordSize u₇ nl ∙ flat h (wordBytes (r .places)) (r .job .wipe) p c (r .unit) (r .frame) ∙ rw (eh, ep, ec)

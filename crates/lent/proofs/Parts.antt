@@ -1,15 +1,14 @@
 -- Parts of a list: from a place on, a buffer laid over zeros, a phase past the last number.
 use mathlib.Core.Path.{_≡_, sym, ap, _∙_}
-use mathlib.Core.List.{List}
+use mathlib.Core.List.{List, _++_}
 use Prim.Native.Nat.{ℕ, suc, _+_, _-_, _≤_}
 use native.Mathlib.Omega.{arith}
-use lib.ListN.{length, drop, replicate, length-replicate, replicate-append-replicate, List·getD-eq-default}
+use lib.ListN.{length, take, drop, replicate, length-take, length-replicate, replicate-append-replicate, List·getD-eq-default}
 use lib.Seq.{drop-at}
 use borrow.Author.Tests.{le-ltb}
-use Rattle.frame.specs.Frame.{maxFrame, buffer}
 use Rattle.wire.specs.Code.{overlay}
 use Rattle.board.specs.declared.Phase.the-variants.{Unmounted}
-use Rattle.lent.specs.Layout.{phases, phaseIn}
+use Rattle.lent.specs.Layout.{phases, phaseIn, bytesIn}
 
 zeros-after : (n m : ℕ) → n ≤ m → drop n (replicate {A = ℕ} m 0) ≡ replicate (m - n) 0
 zeros-after n m h =
@@ -18,9 +17,12 @@ zeros-after n m h =
     ∙ ap (drop n) (sym (replicate-append-replicate {A = ℕ} n (m - n) 0))
     ∙ drop-at (replicate n 0) (replicate (m - n) 0) n (length-replicate n 0)
 
-pub laid-on-zeros : (s : List ℕ) → length s ≤ maxFrame → overlay s (replicate maxFrame 0) ≡ buffer s
+on-zeros : (n : ℕ) (s : List ℕ) → length s ≤ n → overlay s (replicate n 0) ≡ s ++ replicate (n - length s) 0
 unfolding overlay
-laid-on-zeros s h = rw (le-ltb maxFrame (length s) h, overlay, zeros-after (length s) maxFrame h)
+on-zeros n s h = rw (length-replicate {A = ℕ} n 0, le-ltb n (length s) h, overlay, zeros-after (length s) n h)
+
+pub laid-on-zeros : (n : ℕ) (l : List ℕ) → overlay (take n l) (replicate n 0) ≡ bytesIn n l
+laid-on-zeros n l = on-zeros n (take n l) (simp length-take (omega arith))
 
 -- a number that none of the phases has
 past : (k b : ℕ) → k ≤ b → (b ≡ k → ⊥) → suc k ≤ b

@@ -10,7 +10,7 @@ use lib.Seq.{take-suc-set, take-all, drop-drop, getD-drop}
 use Rattle.flash.specs.Bytes.{u16le, u32le}
 use Rattle.wire.specs.Message.{wordAt}
 use Rattle.board.specs.declared.Job.{Job}
-use Rattle.lent.specs.Layout.{wordsIn, wordBytes, flagByte, jobBytes}
+use Rattle.lent.specs.Layout.{planSize, wordsIn, wordBytes, flagByte, planBytes}
 
 -- one word more, at the end
 next-word : (n : ℕ) (l : List ℕ) → wordsIn (suc n) l ≡ wordsIn n l ++ (wordAt (drop (2 * n) l) 0 ∷ [])
@@ -42,13 +42,7 @@ unfolding wordBytes
 next-word-bytes [] w = refl
 next-word-bytes (v ∷ ws) w = ap (λ (t : List ℕ). u16le v ++ t) (next-word-bytes ws w)
 
--- short arrays by their elements
-pub pair-then : (w t : List ℕ) → length w ≡ 2 → getD w 0 0 ∷ getD w 1 0 ∷ t ≡ w ++ t
-pair-then [] t e = absurd (omega arith)
-pair-then (a ∷ []) t e = absurd (omega arith)
-pair-then (a ∷ b ∷ []) t e = refl
-pair-then (a ∷ b ∷ c ∷ w) t e = absurd (omega arith)
-
+-- four words by their bytes
 pub since-then : (s t : List ℕ) → length s ≡ 4
     → u16le (getD s 0 0) ++ (u16le (getD s 1 0) ++ (u16le (getD s 2 0) ++ (u16le (getD s 3 0) ++ t))) ≡ wordBytes s ++ t
 unfolding wordBytes
@@ -59,14 +53,13 @@ since-then (a ∷ b ∷ c ∷ []) t e = absurd (omega arith)
 since-then (a ∷ b ∷ c ∷ d ∷ []) t e = refl
 since-then (a ∷ b ∷ c ∷ d ∷ x ∷ s) t e = absurd (omega arith)
 
--- a job's bytes, one by one
-pub job-is : (j : Job) → length (j .wipe) ≡ 2 → length (j .since) ≡ 4 → (m d a₀ b₀ a₁ b₁ a₂ b₂ a₃ b₃ : ℕ) → m ≡ flagByte (j .moves) → d ≡ flagByte (j .drops)
+-- a plan's bytes, one by one
+pub plan-is : (j : Job) → length (j .since) ≡ 4 → (m d a₀ b₀ a₁ b₁ a₂ b₂ a₃ b₃ : ℕ) → m ≡ flagByte (j .moves) → d ≡ flagByte (j .drops)
     → a₀ ≡ getD (j .since) 0 0 % 256 → b₀ ≡ getD (j .since) 0 0 / 256 → a₁ ≡ getD (j .since) 1 0 % 256 → b₁ ≡ getD (j .since) 1 0 / 256
     → a₂ ≡ getD (j .since) 2 0 % 256 → b₂ ≡ getD (j .since) 2 0 / 256 → a₃ ≡ getD (j .since) 3 0 % 256 → b₃ ≡ getD (j .since) 3 0 / 256
-    → getD (j .wipe) 0 0 ∷ getD (j .wipe) 1 0 ∷ j .wipes ∷ m ∷ d ∷ j .target ∷ (u32le (j .time) ++
-    (a₀ ∷ b₀ ∷ a₁ ∷ b₁ ∷ a₂ ∷ b₂ ∷ a₃ ∷ b₃ ∷ j .size ∷ [])) ≡ jobBytes j
-job-is j p q m d a₀ b₀ a₁ b₁ a₂ b₂ a₃ b₃ em ed e₀ f₀ e₁ f₁ e₂ f₂ e₃ f₃ =
-    rw (em, ed, e₀, f₀, e₁, f₁, e₂, f₂, e₃, f₃, ← since-then (j .since) (j .size ∷ []) q) (pair-then (j .wipe) _ p)
+    → j .wipes ∷ m ∷ d ∷ j .target ∷ (u32le (j .time) ++ (a₀ ∷ b₀ ∷ a₁ ∷ b₁ ∷ a₂ ∷ b₂ ∷ a₃ ∷ b₃ ∷ j .size ∷ [])) ≡ planBytes j
+plan-is j q m d a₀ b₀ a₁ b₁ a₂ b₂ a₃ b₃ em ed e₀ f₀ e₁ f₁ e₂ f₂ e₃ f₃ =
+    rw (em, ed, e₀, f₀, e₁, f₁, e₂, f₂, e₃, f₃, ← since-then (j .since) (j .size ∷ []) q)
 
-pub length-job : (j : Job) → length (j .wipe) ≡ 2 → length (j .since) ≡ 4 → length (jobBytes j) ≡ 19
-length-job j p q = simp (length-append, length-word-bytes) (omega arith)
+pub length-plan : (j : Job) → length (j .since) ≡ 4 → length (planBytes j) ≡ planSize
+length-plan j q = simp (length-append, length-word-bytes) (omega arith)

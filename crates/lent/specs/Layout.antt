@@ -2,11 +2,12 @@
 use mathlib.Core.Path.{_≡_}
 use mathlib.Core.List.{List, [], _∷_, _++_}
 use mathlib.Core.Bool.{Bool, not, cond}
-use Prim.Native.Nat.{ℕ, zero, suc, _+_, _*_, _<_}
+use Prim.Native.Nat.{ℕ, zero, suc, _+_, _-_, _*_, _<_}
 use lib.Dec.{eqb}
-use lib.ListN.{length, getD, take, drop}
+use lib.ListN.{length, getD, take, drop, replicate}
 use Rattle.flash.specs.Bytes.{Bytes, u16le, u32le, le32}
-use Rattle.frame.specs.Frame.{maxFrame, buffer}
+use Rattle.flash.specs.Flash.{blocks}
+use Rattle.frame.specs.Frame.{maxFrame}
 use Rattle.wire.specs.Message.{wordAt}
 use Rattle.board.specs.declared.Stage.{Stage}
 use Rattle.board.specs.declared.Stage.the-variants.{Wipe, Open, Copy, Seal, Drop, Append}
@@ -17,20 +18,80 @@ use Rattle.board.specs.declared.Cursor.{Cursor}
 use Rattle.board.specs.declared.Record.{Record}
 use Rattle.board.specs.Record.{cursor}
 
--- ---- places
+-- ---- places: each field stands right after the one before it
 
--- where each part starts. Before the places: phase 1, last 2, block 1, end 2. A place takes 2, the job 19, the cursor 9.
+-- in the cursor: step 1, next offset of the block made 2, next id 2, next journal offset 2, copied frame's length 1, next byte 1
+abbrev pub madeAt : ℕ
+madeAt = 1
+
+abbrev pub idAt : ℕ
+idAt = madeAt + 2
+
+abbrev pub sourceAt : ℕ
+sourceAt = idAt + 2
+
+abbrev pub copyAt : ℕ
+copyAt = sourceAt + 2
+
+abbrev pub offAt : ℕ
+offAt = copyAt + 1
+
+abbrev pub cursorSize : ℕ
+cursorSize = offAt + 1
+
+-- in a job's plan, which is what follows its blocks to erase: how many of them 1, two flags 1 each, target 1, time 4, each host's mark 2,
+-- length of the frame to append 1
+abbrev pub movesAt : ℕ
+movesAt = 1
+
+abbrev pub dropsAt : ℕ
+dropsAt = movesAt + 1
+
+abbrev pub targetAt : ℕ
+targetAt = dropsAt + 1
+
+abbrev pub timeAt : ℕ
+timeAt = targetAt + 1
+
+abbrev pub sinceAt : ℕ
+sinceAt = timeAt + 4
+
+abbrev pub sinceSize : ℕ
+sinceSize = 2 * 4
+
+abbrev pub appendAt : ℕ
+appendAt = sinceAt + sinceSize
+
+abbrev pub planSize : ℕ
+planSize = appendAt + 1
+
+-- in the record: phase 1, last 2, block 1, end 2, each place 2, the job, the cursor, two frame buffers
+abbrev pub lastAt : ℕ
+lastAt = 1
+
+abbrev pub blockAt : ℕ
+blockAt = lastAt + 2
+
+abbrev pub endAt : ℕ
+endAt = blockAt + 1
+
 abbrev pub placesAt : ℕ
-placesAt = 6
+placesAt = endAt + 2
+
+abbrev pub placesSize : ℕ
+placesSize = 2 * 256
 
 abbrev pub jobAt : ℕ
-jobAt = placesAt + 2 * 256
+jobAt = placesAt + placesSize
+
+abbrev pub planAt : ℕ
+planAt = jobAt + blocks
 
 abbrev pub cursorAt : ℕ
-cursorAt = jobAt + 19
+cursorAt = planAt + planSize
 
 abbrev pub unitAt : ℕ
-unitAt = cursorAt + 9
+unitAt = cursorAt + cursorSize
 
 abbrev pub frameAt : ℕ
 frameAt = unitAt + maxFrame
@@ -47,47 +108,52 @@ phases = Unmounted ∷ Idle ∷ Busy Wipe ∷ Busy Open ∷ Busy Copy ∷ Busy S
 abbrev pub phaseIn : ℕ → Phase
 phaseIn b = getD phases b Unmounted
 
--- n numbers of two bytes; a flag is set unless its byte is 0
+-- n bytes; n numbers of two bytes; a number of four; a flag, set unless its byte is 0
+abbrev pub bytesIn : ℕ → List ℕ → List ℕ
+bytesIn n l = take n l ++ replicate (n - length (take n l)) 0
+
 unfoldable pub wordsIn : ℕ → List ℕ → List ℕ
 wordsIn zero l = []
 wordsIn (suc n) l = wordAt l 0 ∷ wordsIn n (drop 2 l)
 
+abbrev pub numberIn : List ℕ → ℕ
+numberIn l = le32 (getD l 0 0) (getD l 1 0) (getD l 2 0) (getD l 3 0)
+
 abbrev pub flagIn : ℕ → Bool
 flagIn b = not (eqb b 0)
 
--- a frame buffer
-abbrev pub frameIn : List ℕ → List ℕ
-frameIn l = buffer (take maxFrame l)
-
 -- job, cursor and record: each field at its offset, in the order in which they are declared
-abbrev pub jobIn : List ℕ → Job
-jobIn l =
+abbrev pub planIn : List ℕ → List ℕ → Job
+planIn wipe l =
     record {
-      wipe = getD l 0 0 ∷ getD l 1 0 ∷ [];
-      wipes = getD l 2 0;
-      moves = flagIn (getD l 3 0);
-      drops = flagIn (getD l 4 0);
-      target = getD l 5 0;
-      time = le32 (getD l 6 0) (getD l 7 0) (getD l 8 0) (getD l 9 0);
-      since = wordsIn 4 (drop 10 l);
-      size = getD l 18 0;
+      wipe = wipe;
+      wipes = getD l 0 0;
+      moves = flagIn (getD l movesAt 0);
+      drops = flagIn (getD l dropsAt 0);
+      target = getD l targetAt 0;
+      time = numberIn (drop timeAt l);
+      since = wordsIn 4 (drop sinceAt l);
+      size = getD l appendAt 0;
     }
 
+abbrev pub jobIn : List ℕ → Job
+jobIn l = planIn (bytesIn blocks l) (drop blocks l)
+
 abbrev pub cursorIn : List ℕ → Cursor
-cursorIn l = cursor (getD l 0 0) (wordAt l 1) (wordAt l 3) (wordAt l 5) (getD l 7 0) (getD l 8 0)
+cursorIn l = cursor (getD l 0 0) (wordAt l madeAt) (wordAt l idAt) (wordAt l sourceAt) (getD l copyAt 0) (getD l offAt 0)
 
 unfoldable pub recordIn : List ℕ → Record
 recordIn l =
     record {
       phase = phaseIn (getD l 0 0);
-      last = wordAt l 1;
-      block = getD l 3 0;
-      end = wordAt l 4;
+      last = wordAt l lastAt;
+      block = getD l blockAt 0;
+      end = wordAt l endAt;
       places = wordsIn 256 (drop placesAt l);
       job = jobIn (drop jobAt l);
       cursor = cursorIn (drop cursorAt l);
-      unit = frameIn (drop unitAt l);
-      frame = frameIn (drop frameAt l);
+      unit = bytesIn maxFrame (drop unitAt l);
+      frame = bytesIn maxFrame (drop frameAt l);
     }
 
 -- ---- to bytes
@@ -114,20 +180,20 @@ wordBytes (w ∷ ws) = u16le w ++ wordBytes ws
 abbrev pub flagByte : Bool → ℕ
 flagByte b = cond b 1 0
 
--- the bytes before the places, of the job, of the cursor, and of the whole record: each field where it is read
+-- the bytes before the places, of the plan, of the cursor, and of the whole record: each field where it is read
 abbrev pub headBytes : Record → List ℕ
 headBytes r = phaseByte (r .phase) ∷ (u16le (r .last) ++ (r .block ∷ u16le (r .end)))
 
-abbrev pub jobBytes : Job → List ℕ
-jobBytes j =
-    j .wipe
-    ++ (j .wipes ∷ flagByte (j .moves) ∷ flagByte (j .drops) ∷ j .target ∷ (u32le (j .time) ++ (wordBytes (j .since) ++ (j .size ∷ []))))
+abbrev pub planBytes : Job → List ℕ
+planBytes j =
+    j .wipes ∷ flagByte (j .moves) ∷ flagByte (j .drops) ∷ j .target ∷ (u32le (j .time) ++ (wordBytes (j .since) ++ (j .size ∷ [])))
 
 abbrev pub cursorBytes : Cursor → List ℕ
 cursorBytes c = c .index ∷ (u16le (c .at) ++ (u16le (c .id) ++ (u16le (c .source) ++ (c .size ∷ c .off ∷ []))))
 
 unfoldable pub recordBytes : Record → List ℕ
-recordBytes r = headBytes r ++ (wordBytes (r .places) ++ (jobBytes (r .job) ++ (cursorBytes (r .cursor) ++ (r .unit ++ r .frame))))
+recordBytes r =
+    headBytes r ++ (wordBytes (r .places) ++ (r .job .wipe ++ (planBytes (r .job) ++ (cursorBytes (r .cursor) ++ (r .unit ++ r .frame)))))
 
 -- a record in a buffer of exactly its size; any other buffer stays
 unfoldable pub recordInto : Record → List ℕ → List ℕ
@@ -148,7 +214,7 @@ SomeWords n l = (length l ≡ n) × Words l
 
 -- each number is one that its field can hold, each array has its length
 pub record JobFits (j : Job) : Type 0 where
-  pub wipe : SomeBytes 2 (j .wipe)
+  pub wipe : SomeBytes blocks (j .wipe)
   pub wipes : j .wipes < 256
   pub target : j .target < 256
   pub time : j .time < 4294967296

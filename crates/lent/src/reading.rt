@@ -1,9 +1,6 @@
 // The record from bytes: every content of every length is some record.
-use crate::CURSOR_AT;
-use crate::FRAME_AT;
-use crate::JOB_AT;
-use crate::PLACES_AT;
-use crate::UNIT_AT;
+use crate::layout;
+use board::BLOCKS;
 use board::Cursor;
 use board::Job;
 use board::Phase;
@@ -13,10 +10,11 @@ use flash::byte_at;
 use frame::MAX_FRAME;
 use wire::word_at;
 ghost use mathlib.Core.Path.{_≡_};
-ghost use lib.ListN.{getD, take, drop};
-ghost use Rattle.flash.specs.Bytes.{le32};
+ghost use lib.ListN.{take, drop};
+ghost use Rattle.flash.specs.Flash.{blocks};
 ghost use Rattle.frame.specs.Frame.{maxFrame};
-ghost use Rattle.lent.specs.Layout.{phaseIn, wordsIn, flagIn, frameIn, jobIn, cursorIn, recordIn};
+ghost use Rattle.wire.specs.Message.{wordAt};
+ghost use Rattle.lent.specs.Layout.{phaseIn, bytesIn, wordsIn, numberIn, flagIn, jobIn, cursorIn, recordIn};
 
 // The bytes from a place on.
 fn tail(bytes: &[u8], at: usize) -> &[u8]
@@ -29,14 +27,21 @@ fn tail(bytes: &[u8], at: usize) -> &[u8]
     &bytes[at..]
 }
 
-// The bytes of a frame buffer, as many as there are.
-fn front(bytes: &[u8]) -> &[u8]
-    ensures { λ r. ⌜ now r ≡ take maxFrame (now (bytes .entry)) ⌝ }
+// The first bytes, as many as there are of them.
+fn front(bytes: &[u8], count: usize) -> &[u8]
+    ensures { λ r. ⌜ now r ≡ take count (now (bytes .entry)) ⌝ }
 {
-    if bytes.len() <= MAX_FRAME {
+    if bytes.len() <= count {
         return bytes;
     }
-    &bytes[..MAX_FRAME]
+    &bytes[..count]
+}
+
+// The word at a place.
+fn word_in(bytes: &[u8], at: usize) -> u16
+    ensures { λ r. ⌜ r ≡ wordAt (now (bytes .entry)) at ⌝ }
+{
+    word_at(tail(bytes, at), 0)
 }
 
 fn phase_in(number: u8) -> Phase
@@ -72,7 +77,7 @@ fn places_short(bytes: &[u8]) -> [u16; 256]
 fn places_in(bytes: &[u8]) -> [u16; 256]
     ensures { λ r. ⌜ r ≡ wordsIn 256 (now (bytes .entry)) ⌝ }
 {
-    if bytes.len() < 512 {
+    if bytes.len() < layout::PLACES_SIZE {
         return places_short(bytes);
     }
     let mut words = [0u16; 256];
@@ -97,7 +102,7 @@ fn since_in(bytes: &[u8]) -> [u16; 4]
 
 // The number that four bytes are.
 fn number_in(bytes: &[u8]) -> u32
-    ensures { λ r. ⌜ r ≡ le32 (getD (now (bytes .entry)) 0 0) (getD (now (bytes .entry)) 1 0) (getD (now (bytes .entry)) 2 0) (getD (now (bytes .entry)) 3 0) ⌝ }
+    ensures { λ r. ⌜ r ≡ numberIn (now (bytes .entry)) ⌝ }
 {
     word_at(bytes, 0) as u32 + 65536 * word_at(bytes, 2) as u32
 }
@@ -108,20 +113,29 @@ fn flag_in(number: u8) -> bool
     number != 0
 }
 
+fn wipe_in(bytes: &[u8]) -> [u8; BLOCKS]
+    ensures { λ r. ⌜ r ≡ bytesIn blocks (now (bytes .entry)) ⌝ }
+{
+    let mut w = [0u8; BLOCKS];
+    wire::lay(&mut w[..], front(bytes, BLOCKS));
+    w
+}
+
 fn job_in(bytes: &[u8]) -> Job
     ensures { λ r. ⌜ r ≡ jobIn (now (bytes .entry)) ⌝ }
 {
-    let wipe = [byte_at(bytes, 0), byte_at(bytes, 1)];
-    let since = since_in(tail(bytes, 10));
+    let wipe = wipe_in(bytes);
+    let plan = tail(bytes, BLOCKS);
+    let since = since_in(tail(plan, layout::SINCE_AT));
     Job {
         wipe: wipe,
-        wipes: byte_at(bytes, 2),
-        moves: flag_in(byte_at(bytes, 3)),
-        drops: flag_in(byte_at(bytes, 4)),
-        target: byte_at(bytes, 5),
-        time: number_in(tail(bytes, 6)),
+        wipes: byte_at(plan, 0),
+        moves: flag_in(byte_at(plan, layout::MOVES_AT)),
+        drops: flag_in(byte_at(plan, layout::DROPS_AT)),
+        target: byte_at(plan, layout::TARGET_AT),
+        time: number_in(tail(plan, layout::TIME_AT)),
         since: since,
-        size: byte_at(bytes, 18),
+        size: byte_at(plan, layout::APPEND_AT),
     }
 }
 
@@ -130,19 +144,19 @@ fn cursor_in(bytes: &[u8]) -> Cursor
 {
     Cursor {
         index: byte_at(bytes, 0),
-        at: word_at(bytes, 1),
-        id: word_at(bytes, 3),
-        source: word_at(bytes, 5),
-        size: byte_at(bytes, 7),
-        off: byte_at(bytes, 8),
+        at: word_in(bytes, layout::MADE_AT),
+        id: word_in(bytes, layout::ID_AT),
+        source: word_in(bytes, layout::SOURCE_AT),
+        size: byte_at(bytes, layout::COPY_AT),
+        off: byte_at(bytes, layout::OFF_AT),
     }
 }
 
 fn frame_in(bytes: &[u8]) -> [u8; MAX_FRAME]
-    ensures { λ r. ⌜ r ≡ frameIn (now (bytes .entry)) ⌝ }
+    ensures { λ r. ⌜ r ≡ bytesIn maxFrame (now (bytes .entry)) ⌝ }
 {
     let mut f = [0u8; MAX_FRAME];
-    wire::lay(&mut f[..], front(bytes));
+    wire::lay(&mut f[..], front(bytes, MAX_FRAME));
     f
 }
 
@@ -150,16 +164,16 @@ fn frame_in(bytes: &[u8]) -> [u8; MAX_FRAME]
 pub fn decode(bytes: &[u8]) -> Record
     ensures { λ r. ⌜ r ≡ recordIn (now (bytes .entry)) ⌝ }
 {
-    let places = places_in(tail(bytes, PLACES_AT));
-    let job = job_in(tail(bytes, JOB_AT));
-    let cursor = cursor_in(tail(bytes, CURSOR_AT));
-    let unit = frame_in(tail(bytes, UNIT_AT));
-    let frame = frame_in(tail(bytes, FRAME_AT));
+    let places = places_in(tail(bytes, layout::PLACES_AT));
+    let job = job_in(tail(bytes, layout::JOB_AT));
+    let cursor = cursor_in(tail(bytes, layout::CURSOR_AT));
+    let unit = frame_in(tail(bytes, layout::UNIT_AT));
+    let frame = frame_in(tail(bytes, layout::FRAME_AT));
     Record {
         phase: phase_in(byte_at(bytes, 0)),
-        last: word_at(bytes, 1),
-        block: byte_at(bytes, 3),
-        end: word_at(bytes, 4),
+        last: word_in(bytes, layout::LAST_AT),
+        block: byte_at(bytes, layout::BLOCK_AT),
+        end: word_in(bytes, layout::END_AT),
         places: places,
         job: job,
         cursor: cursor,

@@ -1,12 +1,5 @@
 // The record as bytes.
-use crate::CURSOR_AT;
-use crate::CURSOR_SIZE;
-use crate::FRAME_AT;
-use crate::JOB_AT;
-use crate::JOB_SIZE;
-use crate::PLACES_AT;
-use crate::RECORD_SIZE;
-use crate::UNIT_AT;
+use crate::layout;
 use board::Cursor;
 use board::Job;
 use board::Phase;
@@ -15,7 +8,7 @@ use board::Stage;
 ghost use mathlib.Core.Path.{_≡_};
 ghost use Prim.Native.Nat.{_+_, _*_, _/_, _%_, _≤_};
 ghost use lib.ListN.{length};
-ghost use Rattle.lent.specs.Layout.{stageByte, phaseByte, flagByte, headBytes, jobBytes, cursorBytes, wordBytes, recordInto};
+ghost use Rattle.lent.specs.Layout.{stageByte, phaseByte, flagByte, headBytes, planBytes, cursorBytes, wordBytes, recordInto};
 ghost use Rattle.lent.specs.Code.{laidAt};
 
 fn stage_byte(stage: Stage) -> u8
@@ -60,7 +53,7 @@ fn high(word: u16) -> u8
     (word / 256) as u8
 }
 
-fn head_bytes(board: Record) -> [u8; PLACES_AT]
+fn head_bytes(board: Record) -> [u8; layout::PLACES_AT]
     ensures { λ r. ⌜ r ≡ headBytes board ⌝ }
 {
     let phase = board.phase;
@@ -76,15 +69,13 @@ fn head_bytes(board: Record) -> [u8; PLACES_AT]
     ]
 }
 
-fn job_bytes(job: Job) -> [u8; JOB_SIZE]
-    ensures { λ r. ⌜ r ≡ jobBytes job ⌝ }
+// A job but for the blocks to erase.
+fn plan_bytes(job: Job) -> [u8; layout::PLAN_SIZE]
+    ensures { λ r. ⌜ r ≡ planBytes job ⌝ }
 {
-    let w = job.wipe;
     let t = job.time;
     let s = job.since;
     [
-        w[0],
-        w[1],
         job.wipes,
         flag_byte(job.moves),
         flag_byte(job.drops),
@@ -105,7 +96,7 @@ fn job_bytes(job: Job) -> [u8; JOB_SIZE]
     ]
 }
 
-fn cursor_bytes(cursor: Cursor) -> [u8; CURSOR_SIZE]
+fn cursor_bytes(cursor: Cursor) -> [u8; layout::CURSOR_SIZE]
     ensures { λ r. ⌜ r ≡ cursorBytes cursor ⌝ }
 {
     let a = cursor.at;
@@ -152,21 +143,23 @@ fn lay_words(bytes: &mut [u8], at: usize, words: &[u16])
 pub fn encode(board: Record, bytes: &mut [u8])
     ensures { λ r. ⌜ now (bytes .exit) ≡ recordInto board (now (bytes .entry)) ⌝ }
 {
-    if bytes.len() != RECORD_SIZE {
+    if bytes.len() != layout::RECORD_SIZE {
         return;
     }
     let head = head_bytes(board);
     let places = board.places;
     let j = board.job;
-    let job = job_bytes(j);
+    let wipe = j.wipe;
+    let plan = plan_bytes(j);
     let c = board.cursor;
     let cursor = cursor_bytes(c);
     let unit = board.unit;
     let frame = board.frame;
     lay_at(bytes, 0, &head);
-    lay_words(bytes, PLACES_AT, &places);
-    lay_at(bytes, JOB_AT, &job);
-    lay_at(bytes, CURSOR_AT, &cursor);
-    lay_at(bytes, UNIT_AT, &unit);
-    lay_at(bytes, FRAME_AT, &frame);
+    lay_words(bytes, layout::PLACES_AT, &places);
+    lay_at(bytes, layout::JOB_AT, &wipe);
+    lay_at(bytes, layout::PLAN_AT, &plan);
+    lay_at(bytes, layout::CURSOR_AT, &cursor);
+    lay_at(bytes, layout::UNIT_AT, &unit);
+    lay_at(bytes, layout::FRAME_AT, &frame);
 }

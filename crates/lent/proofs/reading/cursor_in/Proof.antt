@@ -19,9 +19,9 @@ cursor-in-spec =
     let c5 = c4 .before in
     rw (
       c5 .byte-at .ensures,
-      c4 .word-at .ensures,
-      c3 .word-at2 .ensures,
-      c .before .before .word-at3 .ensures,
+      c4 .word-in .ensures,
+      c3 .word-in2 .ensures,
+      c .before .before .word-in3 .ensures,
       c .before .byte-at2 .ensures,
       c .byte-at3 .ensures,
     )))

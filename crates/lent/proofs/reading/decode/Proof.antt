@@ -40,9 +40,9 @@ decode-spec =
     rw (
       c3 .phase-in .ensures,
       c4 .byte-at .ensures,
-      c .before .before .word-at .ensures,
+      c .before .before .word-in .ensures,
       c .before .byte-at2 .ensures,
-      c .word-at2 .ensures,
+      c .word-in2 .ensures,
       c13 .places-in .ensures,
       c14 .tail .ensures,
       c11 .job-in .ensures,

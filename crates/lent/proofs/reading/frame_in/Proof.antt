@@ -1,7 +1,5 @@
 -- A frame buffer: what there is, and zeros after it.
 use mathlib.Core.Path.{_∙_}
-use native.Mathlib.Omega.{arith}
-use lib.ListN.{take, length-take}
 use denote.Ref.{now}
 use borrow.Author.Needs.{needs}
 use Rattle.frame.specs.Frame.{maxFrame}
@@ -10,6 +8,11 @@ use Rattle.lent.proofs.reading.frame_in.Statement.{statement}
 use Rattle.lent.proofs.reading.frame_in.Tie as tie
 
 pub frame-in-spec : {M : Type 1} → statement M
-frame-in-spec = tie.close (tie.spec (λ c. search needs) (λ c κs. search needs) (λ c κs. search needs) (λ c. c .before .lay .ensures ∙ rw
-    (c .before .before .front .ensures) (laid-on-zeros (take maxFrame (now (c .before .before .before .before .before .args .bytes)))
-    (simp length-take (omega arith)))))
+frame-in-spec =
+    tie.close
+    (tie.spec
+    (λ c. search needs)
+    (λ c κs. search needs)
+    (λ c κs. search needs)
+    (λ c. let args′ = c .before .before .before .before .before .args in
+    c .before .lay .ensures ∙ rw (c .before .before .front .ensures) (laid-on-zeros maxFrame (now (args′ .bytes)))))

@@ -1,5 +1,4 @@
--- A job, byte by byte.
-use lib.Seq.{getD-drop}
+-- A job, part by part.
 use borrow.Author.Needs.{needs}
 use Rattle.lent.proofs.reading.job_in.Statement.{statement}
 use Rattle.lent.proofs.reading.job_in.Tie as tie
@@ -33,17 +32,17 @@ job-in-spec =
     let c11 = c10 .before in
     let c12 = c11 .before in
     rw (
-      c12 .byte-at .ensures,
-      c11 .byte-at2 .ensures,
-      c8 .byte-at3 .ensures,
+      c12 .wipe-in .ensures,
+      c8 .byte-at .ensures,
       c6 .flag-in .ensures,
-      c7 .byte-at4 .ensures,
+      c7 .byte-at2 .ensures,
       c4 .flag-in2 .ensures,
-      c5 .byte-at5 .ensures,
-      c3 .byte-at6 .ensures,
+      c5 .byte-at3 .ensures,
+      c3 .byte-at4 .ensures,
       c .before .number-in .ensures,
-      c .before .before .tail2 .ensures,
+      c .before .before .tail3 .ensures,
       c9 .since-in .ensures,
-      c10 .tail .ensures,
-      c .byte-at7 .ensures,
-    ) (simp getD-drop)))
+      c10 .tail2 .ensures,
+      c .byte-at5 .ensures,
+      c11 .tail .ensures,
+    )))

@@ -5,6 +5,7 @@ use lib.ListN.{length}
 use denote.Ref.{now}
 use borrow.Author.Needs.{needs}
 use borrow.Author.Tests.{eq-eqb, ne-eqb}
+use Rattle.flash.specs.Flash.{blocks}
 use Rattle.frame.specs.Frame.{maxFrame}
 use Rattle.lent.specs.Layout.{recordInto}
 use Rattle.lent.proofs.Laying.{encoded}
@@ -25,22 +26,27 @@ encode-spec =
     (λ c. search needs)
     (λ c κs.
     let c4 = c .before .before .before .before in
-    let c15 = c4 .before .before .before .before .before .before .before .before .before .before .before in
-    let c17 = c15 .before .before in
-    let k : length (c17 .args .board .places) ≡ 256 = search (needs, c17 .good .0 .1 .1 .1 .1 .1 .1 .0) in omega (arith, c15 .if1 .left, c4 .lay-at .kept .0))
+    let c16 = c4 .before .before .before .before .before .before .before .before .before .before .before .before in
+    let c18 = c16 .before .before in
+    let k : length (c18 .args .board .places) ≡ 256 = search (needs, c18 .good .0 .1 .1 .1 .1 .1 .1 .0) in
+    omega (arith, c16 .if1 .left, c4 .lay-at .kept .0))
+    (λ c.
+    let c23 = c .before .before .before .before .before .before .before .before .before .before .before .before .before .before .before .before .before .before .before .before .before .before .before in
+    let k : length (c23 .args .board .job .wipe) ≡ blocks = search (needs, c23 .good .0 .1 .1 .1 .1 .1 .1 .1 .0 .1 .1 .0) in sym k)
+    (λ c κs. search needs)
     (λ c. search needs)
     (λ c κs. search needs)
     (λ c. search needs)
     (λ c κs. search needs)
     (λ c.
-    let c32s = c .before .before .before .before .before .before .before .before .before .before .before .before .before .before .before .before in
-    let c32 = c32s .before .before .before .before .before .before .before .before .before .before .before .before .before .before .before .before in
-    let k : length (c32 .args .board .unit) ≡ maxFrame = search (needs, c32 .good .0 .1 .1 .1 .1 .1 .1 .1 .1 .1 .0) in sym k)
+    let c19 = c .before .before .before .before .before .before .before .before .before .before .before .before .before .before .before .before .before .before .before in
+    let c38 = c19 .before .before .before .before .before .before .before .before .before .before .before .before .before .before .before .before .before .before .before in
+    let k : length (c38 .args .board .unit) ≡ maxFrame = search (needs, c38 .good .0 .1 .1 .1 .1 .1 .1 .1 .1 .1 .0) in sym k)
     (λ c κs. search needs)
     (λ c.
-    let c37s = c .before .before .before .before .before .before .before .before .before .before .before .before .before .before .before .before .before .before in
-    let c37 = c37s .before .before .before .before .before .before .before .before .before .before .before .before .before .before .before .before .before .before .before in
-    let k : length (c37 .args .board .frame) ≡ maxFrame = search (needs, c37 .good .0 .1 .1 .1 .1 .1 .1 .1 .1 .1 .1 .0) in sym k)
+    let c21 = c .before .before .before .before .before .before .before .before .before .before .before .before .before .before .before .before .before .before .before .before .before in
+    let c43 = c21 .before .before .before .before .before .before .before .before .before .before .before .before .before .before .before .before .before .before .before .before .before .before in
+    let k : length (c43 .args .board .frame) ≡ maxFrame = search (needs, c43 .good .0 .1 .1 .1 .1 .1 .1 .1 .1 .1 .1 .0) in sym k)
     (λ c κs. search needs)
     (λ c. search needs)
     (λ c.
@@ -50,15 +56,16 @@ encode-spec =
     let c22 = c17 .before .before .before .before .before in
     let c27 = c22 .before .before .before .before .before in
     let c32 = c27 .before .before .before .before .before in
-    let c34 = c32 .before .before in
-    let c37 = c34 .before .before .before in
-    let c38 = c37 .before in
-    let c40 = c38 .before .before in
-    rw (eq-eqb _ _ (c38 .if1 .left)) (encoded (c40 .args .board) (now (c40 .args .bytes)) (c27 .lay-at .last .0) (c22 .lay-words .last .0)
-    (c17 .lay-at2 .last .0) (c12 .lay-at3 .last .0) (c7 .lay-at4 .last .0) (c .before .before .lay-at5 .last .0) (c37 .head-bytes .result)
-    (c34 .job-bytes .result) (c32 .cursor-bytes .result) (c37 .head-bytes .ensures) (c34 .job-bytes .ensures) (c32 .cursor-bytes .ensures)
-    (c27 .lay-at .ensures) (c22 .lay-words .ensures) (c17 .lay-at2 .ensures) (c12 .lay-at3 .ensures) (c7 .lay-at4 .ensures)
-    (c .before .before .lay-at5 .ensures)
-    (search (needs, c40 .good .0 .1 .1 .1 .1 .1 .1 .0)) (search (needs, c40 .good .0 .1 .1 .1 .1 .1 .1 .1 .1 .1 .0))
-    (search (needs, c40 .good .0 .1 .1 .1 .1 .1 .1 .1 .1 .1 .1 .0)) (search (needs, c34 .job-bytes .ok))
-    (c38 .if1 .left))))
+    let c37 = c32 .before .before .before .before .before in
+    let c39 = c37 .before .before in
+    let c43 = c39 .before .before .before .before in
+    let c44 = c43 .before in
+    let c46 = c44 .before .before in
+    rw (eq-eqb _ _ (c44 .if1 .left)) (encoded (c46 .args .board) (now (c46 .args .bytes)) (c32 .lay-at .last .0) (c27 .lay-words .last .0)
+    (c22 .lay-at2 .last .0) (c17 .lay-at3 .last .0) (c12 .lay-at4 .last .0) (c7 .lay-at5 .last .0) (c .before .before .lay-at6 .last .0)
+    (c43 .head-bytes .result) (c39 .plan-bytes .result) (c37 .cursor-bytes .result) (c43 .head-bytes .ensures) (c39 .plan-bytes .ensures)
+    (c37 .cursor-bytes .ensures) (c32 .lay-at .ensures) (c27 .lay-words .ensures) (c22 .lay-at2 .ensures) (c17 .lay-at3 .ensures)
+    (c12 .lay-at4 .ensures) (c7 .lay-at5 .ensures) (c .before .before .lay-at6 .ensures)
+    (search (needs, c46 .good .0 .1 .1 .1 .1 .1 .1 .0)) (search (needs, c46 .good .0 .1 .1 .1 .1 .1 .1 .1 .0 .1 .1 .0))
+    (search (needs, c39 .plan-bytes .ok)) (search (needs, c46 .good .0 .1 .1 .1 .1 .1 .1 .1 .1 .1 .0))
+    (search (needs, c46 .good .0 .1 .1 .1 .1 .1 .1 .1 .1 .1 .1 .0)) (c44 .if1 .left))))

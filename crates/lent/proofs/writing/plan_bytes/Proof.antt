@@ -1,17 +1,15 @@
--- A job's bytes; its arrays have two and four elements.
+-- A plan's bytes; each host has its mark.
 use mathlib.Core.Path.{_≡_}
 use lib.ListN.{length}
 use borrow.Author.Needs.{needs}
-use Rattle.lent.proofs.Words.{job-is}
-use Rattle.lent.proofs.writing.job_bytes.Statement.{statement}
-use Rattle.lent.proofs.writing.job_bytes.Tie as tie
+use Rattle.lent.proofs.Words.{plan-is}
+use Rattle.lent.proofs.writing.plan_bytes.Statement.{statement}
+use Rattle.lent.proofs.writing.plan_bytes.Tie as tie
 
-pub job-bytes-spec : {M : Type 1} → statement M
-job-bytes-spec =
+pub plan-bytes-spec : {M : Type 1} → statement M
+plan-bytes-spec =
     tie.close
     (tie.spec
-    (λ c. search needs)
-    (λ c. search needs)
     (λ c κs. search needs)
     (λ c κs. search needs)
     (λ c. search needs)
@@ -35,9 +33,8 @@ job-bytes-spec =
     (λ c. search needs)
     (λ c κs. search needs)
     (λ c.
-    let c12 = c .before .before .before .before .before .before .before .before .before .before .before .before in
-    let p : length (c12 .args .job .wipe) ≡ 2 = search (needs, c12 .good) in
-    let q : length (c12 .args .job .since) ≡ 4 = search (needs, c12 .good) in
+    let c11 = c .before .before .before .before .before .before .before .before .before .before .before in
+    let q : length (c11 .args .job .since) ≡ 4 = search (needs, c11 .good) in
     let c3 = c .before .before .before in
     let c4 = c3 .before in
     let c5 = c4 .before in
@@ -45,8 +42,8 @@ job-bytes-spec =
     let c7 = c6 .before in
     let c8 = c7 .before in
     let c9 = c8 .before in
-    job-is
-    (c12 .args .job) p q (c9 .flag-byte .result) (c8 .flag-byte2 .result) (c7 .low .result) (c6 .high .result) (c5 .low2 .result) (c4 .high2 .result)
+    plan-is
+    (c11 .args .job) q (c9 .flag-byte .result) (c8 .flag-byte2 .result) (c7 .low .result) (c6 .high .result) (c5 .low2 .result) (c4 .high2 .result)
     (c3 .low3 .result) (c .before .before .high3 .result) (c .before .low4 .result) (c .high4 .result) (c9 .flag-byte .ensures)
     (c8 .flag-byte2 .ensures) (c7 .low .ensures) (c6 .high .ensures) (c5 .low2 .ensures) (c4 .high2 .ensures) (c3 .low3 .ensures)
     (c .before .before .high3 .ensures) (c .before .low4 .ensures) (c .high4 .ensures)))
