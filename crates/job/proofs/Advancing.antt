@@ -20,23 +20,24 @@ use Rattle.board.specs.Record.{cursor, inStage, refuse}
 use Rattle.board.specs.Step.{enterCopy, action, nextIndex, onward, advance, stepped, stepBusy, stepIn}
 use Rattle.job.specs.declared.records.Numbers.{Numbers}
 use Rattle.job.specs.declared.records.Stepped.{Stepped}
-use Rattle.job.specs.Code.{assemble, staged, going, staying, Leaves, movedByte, did, offsetFor, Steps}
+use Rattle.job.specs.Code.{assemble, staged, going, staying, LeadsTo, movedByte, did, offsetFor, Steps}
 use Rattle.job.proofs.Entering.{when-true, when-false, going-leaves}
 
 -- ---- on in a stage, or out of it
 
 module _ (p u f : List ℕ) where
   pub on-leaves : (st : Stage) (count : ℕ) (n : Numbers) (after : Record) → ltb (suc (n .cursor .index)) count ≡ true
-      → Leaves p u f (going st (nextIndex (n .cursor)) n) (onward st count (assemble n p u f) after)
+      → LeadsTo p u f (going st (nextIndex (n .cursor)) n) (onward st count (assemble n p u f) after)
   on-leaves st count n after e =
-      subst (Leaves p u f (going st (nextIndex (n .cursor)) n))
+      subst (LeadsTo p u f (going st (nextIndex (n .cursor)) n))
       (when-true (ltb (suc (n .cursor .index)) count) (inStage st (nextIndex (n .cursor)) (assemble n p u f)) after e)
       (going-leaves p u f st (nextIndex (n .cursor)) n)
 
-  pub off-leaves : (st : Stage) (count : ℕ) (r : Record) (s : Stepped) (after : Record) → ltb (suc (r .cursor .index)) count ≡ false → Leaves p u f s after
-      → Leaves p u f s (onward st count r after)
+  pub off-leaves : (st : Stage) (count : ℕ) (r : Record) (s : Stepped) (after : Record) → ltb (suc (r .cursor .index)) count ≡ false
+      → LeadsTo p u f s after
+      → LeadsTo p u f s (onward st count r after)
   off-leaves st count r s after e l =
-      subst (Leaves p u f s) (when-false (ltb (suc (r .cursor .index)) count) (inStage st (nextIndex (r .cursor)) r) after e) l
+      subst (LeadsTo p u f s) (when-false (ltb (suc (r .cursor .index)) count) (inStage st (nextIndex (r .cursor)) r) after e) l
 
 -- ---- a byte copied
 
@@ -47,7 +48,8 @@ module _ (img p u f : List ℕ) (n next : Numbers) (same : next ≡ staged Copy 
   -- the record by whether the frame has a byte more
   abbrev moved : Bool → Record
   moved b =
-      inStage Copy (cursor (n .cursor .index) (suc (n .cursor .at)) (n .cursor .id) (n .cursor .source) (n .cursor .size) (cond b (suc (n .cursor .off)) 0)) was
+      inStage Copy (cursor (n .cursor .index) (suc (n .cursor .at)) (n .cursor .id) (n .cursor .source) (n .cursor .size)
+      (cond b (suc (n .cursor .off)) 0)) was
 
   abbrev more : Bool
   more = ltb (suc (n .cursor .off)) (n .cursor .size)
@@ -55,23 +57,25 @@ module _ (img p u f : List ℕ) (n next : Numbers) (same : next ≡ staged Copy 
   is-moved : (b : Bool) → more ≡ b → assemble next p u f ≡ moved b
   is-moved b e = ap (λ (m : Numbers). assemble m p u f) same ∙ ap moved e
 
-  pub copy-on : more ≡ true → Leaves p u f (staying More next) (advance Copy img was)
+  pub copy-on : more ≡ true → LeadsTo p u f (staying More next) (advance Copy img was)
   unfolding advance
   copy-on e =
-      subst (Leaves p u f (staying More next)) (when-true more (moved true) (enterCopy img (moved false)) e)
+      subst (LeadsTo p u f (staying More next)) (when-true more (moved true) (enterCopy img (moved false)) e)
       (record { answers = refl; gives = is-moved true e })
 
-  pub copy-off : more ≡ false → (u′ : List ℕ) (s : Stepped) → Leaves p u′ f s (enterCopy img (assemble next p u f)) → Leaves p u′ f s (advance Copy img was)
+  pub copy-off : more ≡ false → (u′ : List ℕ) (s : Stepped) → LeadsTo p u′ f s (enterCopy img (assemble next p u f)) → LeadsTo p u′ f s
+      (advance Copy img was)
   unfolding advance
   copy-off e u′ s l =
-      subst (Leaves p u′ f s) (ap (enterCopy img) (is-moved false e) ∙ when-false more (moved true) (enterCopy img (moved false)) e) l
+      subst (LeadsTo p u′ f s) (ap (enterCopy img) (is-moved false e) ∙ when-false more (moved true) (enterCopy img (moved false)) e) l
 
 -- ---- a step's place, and the numbers that are counted up
 
 below : (x : Step) (s : ℕ) → within s x ≡ true → s ≤ 32768 → offsetOf x < 32768
 below x s w h = omega (arith, ltb-true (offsetOf x) s (and-right (ltb (blockOf x) blocks) (ltb (offsetOf x) s) w))
 
-pub offset-low : (st : Stage) (s : ℕ) (n : Numbers) (p u f : List ℕ) → within s (action st (assemble n p u f)) ≡ true → s ≤ 32768 → offsetFor st n < 32768
+pub offset-low : (st : Stage) (s : ℕ) (n : Numbers) (p u f : List ℕ) → within s (action st (assemble n p u f)) ≡ true → s ≤ 32768
+    → offsetFor st n < 32768
 offset-low Wipe s n p u f w h = omega arith
 offset-low Open s n p u f w h = omega arith
 offset-low Copy s n p u f w h = below (action Copy (assemble n p u f)) s w h
@@ -86,7 +90,7 @@ module _ (p u f : List ℕ) (st : Stage) (img : List ℕ) (n : Numbers) where
   before = assemble n p u f
 
   abbrev test : Bool
-  test = eqb (length img) (suc (n .last)) && within (sizeOf img) (action st before)
+  test = eqb (length img) (suc (n .rest .last)) && within (sizeOf img) (action st before)
 
   abbrev after : List ℕ
   after = apply (sizeOf img) (action st before) img
@@ -98,8 +102,8 @@ module _ (p u f : List ℕ) (st : Stage) (img : List ℕ) (n : Numbers) where
       (when-false test (stepped after (advance st after before)) (refuse refusal.Stale img before []) e)
       (record { image = refl; answers = refl; gives = refl })
 
-  pub other-length : (length img ≡ suc (n .last) → ⊥) → Steps p u f (staying (Refused refusal.Stale) n) img (stepBusy st img before)
-  other-length h = refused (and-no-left (eqb (length img) (suc (n .last))) (within (sizeOf img) (action st before)) (ne-eqb _ _ h))
+  pub other-length : (length img ≡ suc (n .rest .last) → ⊥) → Steps p u f (staying (Refused refusal.Stale) n) img (stepBusy st img before)
+  other-length h = refused (and-no-left (eqb (length img) (suc (n .rest .last))) (within (sizeOf img) (action st before)) (ne-eqb _ _ h))
 
   pub other-place : (x : Step) → x ≡ action st before → within (sizeOf img) x ≡ false → (img′ : List ℕ) → img′ ≡ did x img
       → Steps p u f (staying (Refused refusal.Stale) n) img′ (stepBusy st img before)
@@ -107,14 +111,18 @@ module _ (p u f : List ℕ) (st : Stage) (img : List ℕ) (n : Numbers) where
   other-place x e w img′ d =
       let k : img′ ≡ img = d ∙ sym (when-false (within (sizeOf img) x) (apply (sizeOf img) x img) img w) in
       subst (λ (i : List ℕ). Steps p u f (staying (Refused refusal.Stale) n) i (stepBusy st img before)) (sym k)
-      (refused (and-no-right (eqb (length img) (suc (n .last))) (within (sizeOf img) (action st before)) (sym (ap (within (sizeOf img)) e) ∙ w)))
+      (refused (and-no-right (eqb (length img) (suc (n .rest .last))) (within (sizeOf img) (action st before))
+      (sym (ap (within (sizeOf img)) e) ∙ w)))
 
-  pub step-done : (x : Step) → x ≡ action st before → length img ≡ suc (n .last) → within (sizeOf img) x ≡ true → (img′ : List ℕ) → img′ ≡ did x img
-      → (u′ : List ℕ) (s : Stepped) → Leaves p u′ f s (advance st img′ before) → Steps p u′ f s img′ (stepBusy st img before)
+  pub step-done : (x : Step) → x ≡ action st before → length img ≡ suc (n .rest .last) → within (sizeOf img) x ≡ true → (img′ : List ℕ)
+      → img′ ≡ did x img
+      → (u′ : List ℕ) (s : Stepped) → LeadsTo p u′ f s (advance st img′ before) → Steps p u′ f s img′ (stepBusy st img before)
   unfolding stepBusy did
   step-done x e q w img′ d u′ s l =
-      let k : img′ ≡ after = d ∙ sym (when-true (within (sizeOf img) x) (apply (sizeOf img) x img) img w) ∙ ap (λ (y : Step). apply (sizeOf img) y img) e in
-      let t : test ≡ true = and-both (eqb (length img) (suc (n .last))) (within (sizeOf img) (action st before)) (eq-eqb _ _ q) (sym (ap (within (sizeOf img)) e) ∙ w) in
+      let k : img′ ≡ after = d ∙ sym (when-true (within (sizeOf img) x) (apply (sizeOf img) x img) img w) ∙ ap
+      (λ (y : Step). apply (sizeOf img) y img) e in
+      let t : test ≡ true = and-both (eqb (length img) (suc (n .rest .last))) (within (sizeOf img) (action st before)) (eq-eqb _ _ q)
+      (sym (ap (within (sizeOf img)) e) ∙ w) in
       subst (Steps p u′ f s img′) (when-true test (stepped after (advance st after before)) (refuse refusal.Stale img before []) t)
       (subst (λ (i : List ℕ). Steps p u′ f s img′ (stepped i (advance st i before))) k
       (record { image = refl; answers = l .answers; gives = l .gives }))

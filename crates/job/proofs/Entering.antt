@@ -8,11 +8,12 @@ use Rattle.board.specs.declared.Stage.{Stage}
 use Rattle.board.specs.declared.Stage.the-variants.{Wipe, Open, Drop, Append}
 use Rattle.board.specs.declared.Cursor.{Cursor}
 use Rattle.board.specs.declared.Record.{Record}
-use Rattle.board.specs.Record.{rest, idle, inStage}
+use Rattle.board.specs.declared.Rest.{Rest}
+use Rattle.board.specs.Record.{idle, inStage}
 use Rattle.board.specs.Step.{first, enterAppend, enterDrop, enterOpen, enterWipe}
 use Rattle.job.specs.declared.records.Numbers.{Numbers}
 use Rattle.job.specs.declared.records.Stepped.{Stepped}
-use Rattle.job.specs.Code.{assemble, going, over, Leaves, goAppend, landedOn, goDrop, goOpen, goWipe}
+use Rattle.job.specs.Code.{assemble, going, over, LeadsTo, goAppend, landedOn, goDrop, goOpen, goWipe}
 
 -- a test as a variable of its own: a rewrite of a record's field would reach into the record
 pub when-true : {A : Type 0} (b : Bool) (x y : A) → b ≡ true → x ≡ cond b x y
@@ -22,28 +23,28 @@ pub when-false : {A : Type 0} (b : Bool) (x y : A) → b ≡ false → y ≡ con
 when-false b x y e = sym (ap (λ (t : Bool). cond t x y) e)
 
 module _ (p u f : List ℕ) where
-  pub going-leaves : (st : Stage) (c : Cursor) (n : Numbers) → Leaves p u f (going st c n) (inStage st c (assemble n p u f))
+  pub going-leaves : (st : Stage) (c : Cursor) (n : Numbers) → LeadsTo p u f (going st c n) (inStage st c (assemble n p u f))
   going-leaves st c n = record { answers = refl; gives = refl }
 
-  pub over-leaves : (l k e : ℕ) → Leaves p u f (over l k e) (idle (rest l k e))
-  over-leaves l k e = record { answers = refl; gives = refl }
+  pub over-leaves : (z : Rest) → LeadsTo p u f (over z) (idle z)
+  over-leaves z = record { answers = refl; gives = refl }
 
-  pub leaves-if : (b : Bool) {s t : Stepped} {r q : Record} → Leaves p u f s r → Leaves p u f t q → Leaves p u f (cond b s t) (cond b r q)
+  pub leaves-if : (b : Bool) {s t : Stepped} {r q : Record} → LeadsTo p u f s r → LeadsTo p u f t q → LeadsTo p u f (cond b s t) (cond b r q)
   leaves-if true x y = x
   leaves-if false x y = y
 
-  pub append-leaves : (n : Numbers) → Leaves p u f (goAppend n) (enterAppend (assemble n p u f))
+  pub append-leaves : (n : Numbers) → LeadsTo p u f (goAppend n) (enterAppend (assemble n p u f))
   unfolding goAppend enterAppend
-  append-leaves n = leaves-if (ltb 0 (n .job .size)) (going-leaves Append (first (n .cursor)) n) (over-leaves (n .last) (n .block) (n .end))
+  append-leaves n = leaves-if (ltb 0 (n .job .size)) (going-leaves Append (first (n .cursor)) n) (over-leaves (n .rest))
 
-  pub drop-leaves : (n : Numbers) → Leaves p u f (goDrop n) (enterDrop (assemble n p u f))
+  pub drop-leaves : (n : Numbers) → LeadsTo p u f (goDrop n) (enterDrop (assemble n p u f))
   unfolding goDrop enterDrop
   drop-leaves n = leaves-if (n .job .drops) (going-leaves Drop (first (n .cursor)) n) (append-leaves (landedOn n))
 
-  pub open-leaves : (n : Numbers) → Leaves p u f (goOpen n) (enterOpen (assemble n p u f))
+  pub open-leaves : (n : Numbers) → LeadsTo p u f (goOpen n) (enterOpen (assemble n p u f))
   unfolding goOpen enterOpen
   open-leaves n = leaves-if (n .job .moves) (going-leaves Open (first (n .cursor)) n) (append-leaves n)
 
-  pub wipe-leaves : (n : Numbers) → Leaves p u f (goWipe n) (enterWipe (assemble n p u f))
+  pub wipe-leaves : (n : Numbers) → LeadsTo p u f (goWipe n) (enterWipe (assemble n p u f))
   unfolding goWipe enterWipe
   wipe-leaves n = leaves-if (ltb 0 (n .job .wipes)) (going-leaves Wipe (first (n .cursor)) n) (open-leaves n)

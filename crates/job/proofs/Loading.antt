@@ -21,7 +21,7 @@ use Rattle.board.specs.Record.{cursor}
 use Rattle.board.specs.Step.{enter, loaded, enterCopy}
 use Rattle.board.proofs.Outcomes.{nextFor, copy-loads, copy-ends}
 use Rattle.job.specs.declared.records.Numbers.{Numbers}
-use Rattle.job.specs.Code.{assemble, staged, going, Leaves}
+use Rattle.job.specs.Code.{assemble, staged, going, LeadsTo}
 
 -- ---- a frame by its head
 
@@ -39,10 +39,11 @@ frame-len (head.Commit g) v e = refl
 frame-len (head.Abort g) v e = refl
 frame-len (head.Settled i n) v e = omega arith
 
-pub load-leaves : (b : List ℕ) (x : Fetch) (n : Numbers) → x .value + valueLen (x .head) ≤ length b → valueLen (x .head) ≤ valueMax → (e z : ℕ) (bytes : List ℕ)
+pub load-leaves : (b : List ℕ) (x : Fetch) (n : Numbers) → x .value + valueLen (x .head) ≤ length b → valueLen (x .head) ≤ valueMax →
+    (e z : ℕ) (bytes : List ℕ)
     → e ≡ x .value + valueLen (x .head) → bytes ≡ buffer (encode (frameOf (x .head) (take valueMax (take (e - x .value) (drop (x .value) b)))))
     → z ≡ headLen (x .head) → (p u f : List ℕ)
-    → Leaves p bytes f (going Copy (cursor 0 (n .cursor .at) (x .id) (x .source) z 0) n) (loaded (assemble n p u f) (loadIn b x))
+    → LeadsTo p bytes f (going Copy (cursor 0 (n .cursor .at) (x .id) (x .source) z 0) n) (loaded (assemble n p u f) (loadIn b x))
 load-leaves b x n fits small e z bytes end made size p u f =
     let k : e - x .value ≡ valueLen (x .head) = omega arith in
     let v : List ℕ = take (valueLen (x .head)) (drop (x .value) b) in

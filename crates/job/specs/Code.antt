@@ -12,7 +12,8 @@ use Rattle.board.specs.declared.Stage.the-variants.{Wipe, Open, Copy, Seal, Dro
 use Rattle.board.specs.declared.Phase.the-variants.{Idle, Busy}
 use Rattle.board.specs.declared.Cursor.{Cursor}
 use Rattle.board.specs.declared.Record.{Record}
-use Rattle.board.specs.Record.{noPlaces, noFrame, noJob, cursor, answerOf, Out}
+use Rattle.board.specs.declared.Rest.{Rest}
+use Rattle.board.specs.Record.{noPlaces, noFrame, noJob, cursor, rest, restOf, answerOf, Out}
 use Rattle.board.specs.Step.{first}
 use Rattle.job.specs.declared.Outcome.{Outcome}
 use Rattle.job.specs.declared.records.Numbers.{Numbers}
@@ -23,15 +24,15 @@ use Rattle.job.specs.declared.steps.Action.the-variants as action
 -- ---- a record apart
 
 abbrev pub numbersOf : Record → Numbers
-numbersOf r = record { phase = r .phase; last = r .last; block = r .block; end = r .end; job = r .job; cursor = r .cursor }
+numbersOf r = record { phase = r .phase; rest = restOf r; job = r .job; cursor = r .cursor }
 
 abbrev pub assemble : Numbers → List ℕ → List ℕ → List ℕ → Record
 assemble n places unit frame =
     record {
       phase = n .phase;
-      last = n .last;
-      block = n .block;
-      end = n .end;
+      last = n .rest .last;
+      block = n .rest .block;
+      end = n .rest .end;
       places = places;
       job = n .job;
       cursor = n .cursor;
@@ -41,7 +42,7 @@ assemble n places unit frame =
 
 -- the same job in a stage, at a cursor
 abbrev pub staged : Stage → Cursor → Numbers → Numbers
-staged s c n = record { phase = Busy s; last = n .last; block = n .block; end = n .end; job = n .job; cursor = c }
+staged s c n = record { phase = Busy s; rest = n .rest; job = n .job; cursor = c }
 
 -- ---- where a call leaves a job
 
@@ -50,13 +51,8 @@ abbrev pub going : Stage → Cursor → Numbers → Stepped
 going s c n = record { answer = More; next = staged s c n; ended = false }
 
 -- it ended
-abbrev pub over : ℕ → ℕ → ℕ → Stepped
-over l k e =
-    record {
-      answer = Done;
-      next = record { phase = Idle; last = l; block = k; end = e; job = noJob; cursor = cursor 0 0 0 0 0 0 };
-      ended = true;
-    }
+abbrev pub over : Rest → Stepped
+over z = record { answer = Done; next = record { phase = Idle; rest = z; job = noJob; cursor = cursor 0 0 0 0 0 0 }; ended = true }
 
 -- it stays as it is
 abbrev pub staying : Answer → Numbers → Stepped
@@ -70,8 +66,8 @@ leavesIf false n places unit frame = assemble n places unit frame
 abbrev pub leaves : Stepped → List ℕ → List ℕ → List ℕ → Record
 leaves s places unit frame = leavesIf (s .ended) (s .next) places unit frame
 
--- a call leaves a record, with these arrays
-pub record Leaves (places unit frame : List ℕ) (s : Stepped) (r : Record) : Type 0 where
+-- a call leads to a record, with these arrays
+pub record LeadsTo (places unit frame : List ℕ) (s : Stepped) (r : Record) : Type 0 where
   pub answers : s .answer ≡ answerOf r
   pub gives : leaves s places unit frame ≡ r
 
@@ -81,12 +77,12 @@ outcome a b = record { answer = a; board = b }
 -- ---- entering a stage
 
 unfoldable pub goAppend : Numbers → Stepped
-goAppend n = cond (ltb 0 (n .job .size)) (going Append (first (n .cursor)) n) (over (n .last) (n .block) (n .end))
+goAppend n = cond (ltb 0 (n .job .size)) (going Append (first (n .cursor)) n) (over (n .rest))
 
 -- the block that was made is the current one
 abbrev pub landedOn : Numbers → Numbers
 landedOn n =
-    record { phase = n .phase; last = n .last; block = n .job .target; end = n .cursor .at; job = n .job; cursor = n .cursor }
+    record { phase = n .phase; rest = rest (n .rest .last) (n .job .target) (n .cursor .at); job = n .job; cursor = n .cursor }
 
 unfoldable pub goDrop : Numbers → Stepped
 goDrop n = cond (n .job .drops) (going Drop (first (n .cursor)) n) (goAppend (landedOn n))
@@ -119,7 +115,7 @@ offsetFor Open n = 0
 offsetFor Copy n = n .cursor .at
 offsetFor Seal n = 0
 offsetFor Drop n = 0
-offsetFor Append n = n .end + n .cursor .index
+offsetFor Append n = n .rest .end + n .cursor .index
 
 -- what a step call gives back, with these arrays
 pub record Steps (places unit frame : List ℕ) (s : Stepped) (img : List ℕ) (o : Out) : Type 0 where

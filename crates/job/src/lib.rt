@@ -4,7 +4,6 @@ mod steps;
 
 use board::Record;
 pub use steps::step;
-pub use steps::step_core;
 use wire::Answer;
 
 // What a call gives back: its answer and the board record.

@@ -1,13 +1,15 @@
 // Board records: each kind is built in one place. A record's numbers go by themselves, its arrays apart.
 ghost use mathlib.Core.Path.{_≡_};
-ghost use Rattle.board.specs.Record.{noPlaces, noFrame, noJob, cursor, starting, rest, resting, unmounted, idle, busyWith, answerOf};
+ghost use Rattle.board.specs.Record.{noPlaces, noFrame, noJob, cursor, starting, restOf, resting, unmounted, idle, busyWith, answerOf};
 ghost use Rattle.board.specs.Step.{first, enterWipe};
 ghost use Rattle.job.specs.Code.{numbersOf, assemble, going, over, staying, leaves, outcome, goAppend, landedOn, goDrop, goOpen, goWipe};
 use crate::Outcome;
+use board::BLOCKS;
 use board::Cursor;
 use board::Job;
 use board::Phase;
 use board::Record;
+use board::Rest;
 use board::Stage;
 use frame::MAX_FRAME;
 use wire::Answer;
@@ -15,9 +17,7 @@ use wire::Answer;
 // A record without its arrays.
 pub struct Numbers {
     pub phase: Phase,
-    pub last: u16,
-    pub block: u8,
-    pub end: u16,
+    pub rest: Rest,
     pub job: Job,
     pub cursor: Cursor,
 }
@@ -47,13 +47,13 @@ pub fn no_job() -> Job
     ensures { λ r. ⌜ r ≡ noJob ⌝ }
 {
     Job {
-        wipe: [0, 0],
+        wipe: [0; BLOCKS],
         wipes: 0,
         moves: false,
         drops: false,
         target: 0,
         time: 0,
-        since: [0, 0, 0, 0],
+        since: [0; 4],
         size: 0,
     }
 }
@@ -71,74 +71,78 @@ fn no_cursor() -> Cursor
     }
 }
 
-// A record in no job.
-fn resting(phase: Phase, last: u16, block: u8, end: u16) -> Record
-    ensures { λ r. ⌜ r ≡ resting phase (rest last block end) ⌝ }
+// Where a record stands.
+pub fn rest_of(board: Record) -> Rest
+    ensures { λ r. ⌜ r ≡ restOf board ⌝ }
 {
-    let places = no_places();
-    let job = no_job();
-    let cursor = no_cursor();
-    let unit = no_frame();
-    let frame = no_frame();
-    Record {
-        phase: phase,
-        last: last,
-        block: block,
-        end: end,
-        places: places,
-        job: job,
-        cursor: cursor,
-        unit: unit,
-        frame: frame,
+    Rest {
+        last: board.last,
+        block: board.block,
+        end: board.end,
     }
+}
+
+// A record in no job.
+fn resting(phase: Phase, rest: Rest) -> Record
+    ensures { λ r. ⌜ r ≡ resting phase rest ⌝ }
+{
+    let n = Numbers {
+        phase: phase,
+        rest: rest,
+        job: no_job(),
+        cursor: no_cursor(),
+    };
+    assemble(n, no_places(), no_frame(), no_frame())
 }
 
 pub fn unmounted() -> Record
     ensures { λ r. ⌜ r ≡ unmounted ⌝ }
 {
-    resting(Phase::Unmounted, 0, 0, 0)
+    let rest = Rest {
+        last: 0,
+        block: 0,
+        end: 0,
+    };
+    resting(Phase::Unmounted, rest)
 }
 
-// The image's length less one, the current block and the end of its whole frames.
-pub fn idle(last: u16, block: u8, end: u16) -> Record
-    ensures { λ r. ⌜ r ≡ idle (rest last block end) ⌝ }
+pub fn idle(rest: Rest) -> Record
+    ensures { λ r. ⌜ r ≡ idle rest ⌝ }
 {
-    resting(Phase::Idle, last, block, end)
+    resting(Phase::Idle, rest)
 }
 
-// A job not yet begun: the first id to copy, the first offset to look at for pending frames, and the frame to append.
-pub fn busy(
-    last: u16,
-    block: u8,
-    end: u16,
-    places: [u16; 256],
-    job: Job,
-    id: u16,
-    source: u16,
-    frame: [u8; MAX_FRAME],
-) -> Record
-    ensures { λ r. ⌜ r ≡ busyWith (rest last block end) places job (starting id source) frame ⌝ }
+// The cursor of a job not yet begun: the first id to copy, and the first offset to look at for pending frames.
+pub fn starting(id: u16, source: u16) -> Cursor
+    ensures { λ r. ⌜ r ≡ starting id source ⌝ }
 {
-    let cursor = Cursor {
+    Cursor {
         index: 0,
         at: 16,
         id: id,
         source: source,
         size: 0,
         off: 0,
-    };
-    let unit = no_frame();
-    Record {
+    }
+}
+
+// A job not yet begun, with the frame to append.
+pub fn busy(
+    rest: Rest,
+    places: [u16; 256],
+    job: Job,
+    cursor: Cursor,
+    frame: [u8; MAX_FRAME],
+) -> Record
+    ensures { λ r. ⌜ r ≡ busyWith rest places job cursor frame ⌝ }
+{
+    let n = Numbers {
         phase: Phase::Busy(Stage::Wipe),
-        last: last,
-        block: block,
-        end: end,
-        places: places,
+        rest: rest,
         job: job,
         cursor: cursor,
-        unit: unit,
-        frame: frame,
-    }
+    };
+    assemble(n, places, no_frame(), frame)
 }
 
 // ---- a record apart
@@ -151,9 +155,7 @@ pub fn numbers_of(board: Record) -> Numbers
     let cursor = board.cursor;
     Numbers {
         phase: phase,
-        last: board.last,
-        block: board.block,
-        end: board.end,
+        rest: rest_of(board),
         job: job,
         cursor: cursor,
     }
@@ -163,13 +165,14 @@ fn assemble(n: Numbers, places: [u16; 256], unit: [u8; MAX_FRAME], frame: [u8; M
     ensures { λ r. ⌜ r ≡ assemble n places unit frame ⌝ }
 {
     let phase = n.phase;
+    let rest = n.rest;
     let job = n.job;
     let cursor = n.cursor;
     Record {
         phase: phase,
-        last: n.last,
-        block: n.block,
-        end: n.end,
+        last: rest.last,
+        block: rest.block,
+        end: rest.end,
         places: places,
         job: job,
         cursor: cursor,
@@ -207,12 +210,11 @@ pub fn give_back(
 pub fn going(stage: Stage, cursor: Cursor, n: Numbers) -> Stepped
     ensures { λ r. ⌜ r ≡ going stage cursor n ⌝ }
 {
+    let rest = n.rest;
     let job = n.job;
     let next = Numbers {
         phase: Phase::Busy(stage),
-        last: n.last,
-        block: n.block,
-        end: n.end,
+        rest: rest,
         job: job,
         cursor: cursor,
     };
@@ -224,18 +226,14 @@ pub fn going(stage: Stage, cursor: Cursor, n: Numbers) -> Stepped
 }
 
 // It ended.
-pub fn over(last: u16, block: u8, end: u16) -> Stepped
-    ensures { λ r. ⌜ r ≡ over last block end ⌝ }
+pub fn over(rest: Rest) -> Stepped
+    ensures { λ r. ⌜ r ≡ over rest ⌝ }
 {
-    let job = no_job();
-    let cursor = no_cursor();
     let next = Numbers {
         phase: Phase::Idle,
-        last: last,
-        block: block,
-        end: end,
-        job: job,
-        cursor: cursor,
+        rest: rest,
+        job: no_job(),
+        cursor: no_cursor(),
     };
     Stepped {
         answer: Answer::Done,
@@ -285,7 +283,8 @@ pub fn enter_append(n: Numbers) -> Stepped
     if 0 < job.size {
         return enter(Stage::Append, n);
     }
-    over(n.last, n.block, n.end)
+    let rest = n.rest;
+    over(rest)
 }
 
 // The block that was made is the current one.
@@ -295,11 +294,12 @@ pub fn landed(n: Numbers) -> Numbers
     let phase = n.phase;
     let job = n.job;
     let cursor = n.cursor;
+    let mut rest = n.rest;
+    rest.block = job.target;
+    rest.end = cursor.at;
     Numbers {
         phase: phase,
-        last: n.last,
-        block: job.target,
-        end: cursor.at,
+        rest: rest,
         job: job,
         cursor: cursor,
     }

@@ -12,11 +12,12 @@ ghost use Rattle.journal.specs.Block.{openWrite, sealWrite};
 ghost use Rattle.journal.specs.Survey.{loadIn};
 ghost use Rattle.board.specs.declared.Stage.the-variants as stages;
 ghost use Rattle.board.specs.Step.{loaded, enterCopy, action, nextIndex, advance, stepBusy, stepOn};
-ghost use Rattle.job.specs.Code.{assemble, staged, going, Leaves, movedByte, flashStep, did, offsetFor, Steps};
+ghost use Rattle.job.specs.Code.{assemble, staged, going, LeadsTo, movedByte, flashStep, did, offsetFor, Steps};
 use crate::Outcome;
 use crate::records;
 use crate::records::Numbers;
 use crate::records::Stepped;
+use board::BLOCKS;
 use board::Cursor;
 use board::Phase;
 use board::Record;
@@ -27,6 +28,8 @@ use journal::Fetched;
 use wire::Answer;
 use wire::Refusal;
 
+const BLOCK_COUNT: u8 = BLOCKS as u8;
+
 // A flash step: a byte programmed at an offset of a block, or a block erased.
 pub enum Action {
     Program(u8, usize, u8),
@@ -36,11 +39,11 @@ pub enum Action {
 // ---- the step that a job does next
 
 // A block to erase; block 0 past the last of them.
-fn wiped(wipe: [u8; 2], i: u8) -> u8
+fn wiped(wipe: [u8; BLOCKS], i: u8) -> u8
     ensures { λ r. ⌜ r ≡ getD wipe i 0 ⌝ }
 {
     let k = i as usize;
-    if k < 2 {
+    if k < BLOCKS {
         return wipe[k];
     }
     0
@@ -77,6 +80,7 @@ fn next_action(stage: Stage, n: Numbers, unit: &[u8; MAX_FRAME], frame: &[u8; MA
     ensures { λ r. ⌜ ((p : List ℕ) → flashStep r ≡ action stage (assemble n p (now (unit .entry)) (now (frame .entry)))) ⌝ }
 {
     let job = n.job;
+    let rest = n.rest;
     let cursor = n.cursor;
     match stage {
         Stage::Wipe => {
@@ -90,10 +94,10 @@ fn next_action(stage: Stage, n: Numbers, unit: &[u8; MAX_FRAME], frame: &[u8; MA
             flash::byte_at(unit, cursor.off as usize),
         ),
         Stage::Seal => return seal_action(job.target, job.time, cursor.index),
-        Stage::Drop => return Action::Erase(n.block),
+        Stage::Drop => return Action::Erase(rest.block),
         Stage::Append => return Action::Program(
-            n.block,
-            n.end as usize + cursor.index as usize,
+            rest.block,
+            rest.end as usize + cursor.index as usize,
             flash::byte_at(frame, cursor.index as usize),
         ),
     }
@@ -105,7 +109,7 @@ fn program_in(image: &mut [u8], block: u8, at: usize, byte: u8) -> bool
     ensures { λ r. ⌜ (r ≡ within (sizeOf (now (image .entry))) (program block at byte)) × (now (image .exit) ≡ did (program block at byte) (now (image .entry))) ⌝ }
 {
     let size = image.len() / 2;
-    if 2 <= block {
+    if BLOCK_COUNT <= block {
         return false;
     }
     if size <= at {
@@ -123,7 +127,7 @@ fn erase_in(image: &mut [u8], block: u8) -> bool
     ensures { λ r. ⌜ (r ≡ within (sizeOf (now (image .entry))) (erase block)) × (now (image .exit) ≡ did (erase block) (now (image .entry))) ⌝ }
 {
     let size = image.len() / 2;
-    if 2 <= block {
+    if BLOCK_COUNT <= block {
         return false;
     }
     if size == 0 {
@@ -169,7 +173,7 @@ fn next_step(stage: Stage, n: Numbers) -> Stepped
 }
 
 fn after_wipe(n: Numbers) -> Stepped
-    ensures { λ r. ⌜ ((i p u f : List ℕ) → Leaves p u f r (advance stages.Wipe i (assemble n p u f))) ⌝ }
+    ensures { λ r. ⌜ ((i p u f : List ℕ) → LeadsTo p u f r (advance stages.Wipe i (assemble n p u f))) ⌝ }
 {
     let job = n.job;
     let cursor = n.cursor;
@@ -182,7 +186,7 @@ fn after_wipe(n: Numbers) -> Stepped
 // A frame to copy is put into the buffer.
 fn load(source: &[u8], fetch: Fetch, n: Numbers, unit: &mut [u8; MAX_FRAME]) -> Stepped
     requires { ⌜ (fetch .value + valueLen (fetch .head) ≤ length (now source)) × (valueLen (fetch .head) ≤ valueMax) ⌝ }
-    ensures { λ r. ⌜ ((p f : List ℕ) → Leaves p (now (unit .exit)) f r (loaded (assemble n p (now (unit .entry)) f) (loadIn (now (source .entry)) fetch))) ⌝ }
+    ensures { λ r. ⌜ ((p f : List ℕ) → LeadsTo p (now (unit .exit)) f r (loaded (assemble n p (now (unit .entry)) f) (loadIn (now (source .entry)) fetch))) ⌝ }
 {
     let head = fetch.head;
     let start = fetch.value;
@@ -203,20 +207,21 @@ fn load(source: &[u8], fetch: Fetch, n: Numbers, unit: &mut [u8; MAX_FRAME]) -> 
 
 // The next frame to copy is put into the buffer, or the block is sealed.
 fn enter_copy(image: &[u8], n: Numbers, places: &[u16; 256], unit: &mut [u8; MAX_FRAME]) -> Stepped
-    ensures { λ r. ⌜ ((f : List ℕ) → Leaves (now (places .entry)) (now (unit .exit)) f r (enterCopy (now (image .entry)) (assemble n (now (places .entry)) (now (unit .entry)) f))) ⌝ }
+    ensures { λ r. ⌜ ((f : List ℕ) → LeadsTo (now (places .entry)) (now (unit .exit)) f r (enterCopy (now (image .entry)) (assemble n (now (places .entry)) (now (unit .entry)) f))) ⌝ }
 {
     let job = n.job;
     let since = job.since;
     let cursor = n.cursor;
-    let source = flash::block_of(image, n.block);
-    match journal::next_load(source, n.end, places, since, cursor.id, cursor.source) {
+    let rest = n.rest;
+    let source = flash::block_of(image, rest.block);
+    match journal::next_load(source, rest.end, places, since, cursor.id, cursor.source) {
         Fetched::Frame(fetch) => return load(source, fetch, n, unit),
         Fetched::Nothing => return records::enter(Stage::Seal, n),
     }
 }
 
 fn after_open(image: &[u8], n: Numbers, places: &[u16; 256], unit: &mut [u8; MAX_FRAME]) -> Stepped
-    ensures { λ r. ⌜ ((f : List ℕ) → Leaves (now (places .entry)) (now (unit .exit)) f r (advance stages.Open (now (image .entry)) (assemble n (now (places .entry)) (now (unit .entry)) f))) ⌝ }
+    ensures { λ r. ⌜ ((f : List ℕ) → LeadsTo (now (places .entry)) (now (unit .exit)) f r (advance stages.Open (now (image .entry)) (assemble n (now (places .entry)) (now (unit .entry)) f))) ⌝ }
 {
     let cursor = n.cursor;
     if has_next(cursor.index, 5) {
@@ -241,6 +246,7 @@ fn next_byte(n: Numbers) -> Numbers
     ensures { λ r. ⌜ r ≡ staged stages.Copy (movedByte (n .cursor)) n ⌝ }
 {
     let c = n.cursor;
+    let rest = n.rest;
     let job = n.job;
     let off = past(c.off, c.size);
     let next = Cursor {
@@ -253,9 +259,7 @@ fn next_byte(n: Numbers) -> Numbers
     };
     Numbers {
         phase: Phase::Busy(Stage::Copy),
-        last: n.last,
-        block: n.block,
-        end: n.end,
+        rest: rest,
         job: job,
         cursor: next,
     }
@@ -263,7 +267,7 @@ fn next_byte(n: Numbers) -> Numbers
 
 fn after_copy(image: &[u8], n: Numbers, places: &[u16; 256], unit: &mut [u8; MAX_FRAME]) -> Stepped
     requires { ⌜ n .cursor .at < 32768 ⌝ }
-    ensures { λ r. ⌜ ((f : List ℕ) → Leaves (now (places .entry)) (now (unit .exit)) f r (advance stages.Copy (now (image .entry)) (assemble n (now (places .entry)) (now (unit .entry)) f))) ⌝ }
+    ensures { λ r. ⌜ ((f : List ℕ) → LeadsTo (now (places .entry)) (now (unit .exit)) f r (advance stages.Copy (now (image .entry)) (assemble n (now (places .entry)) (now (unit .entry)) f))) ⌝ }
 {
     let c = n.cursor;
     let next = next_byte(n);
@@ -274,7 +278,7 @@ fn after_copy(image: &[u8], n: Numbers, places: &[u16; 256], unit: &mut [u8; MAX
 }
 
 fn after_seal(n: Numbers) -> Stepped
-    ensures { λ r. ⌜ ((i p u f : List ℕ) → Leaves p u f r (advance stages.Seal i (assemble n p u f))) ⌝ }
+    ensures { λ r. ⌜ ((i p u f : List ℕ) → LeadsTo p u f r (advance stages.Seal i (assemble n p u f))) ⌝ }
 {
     let cursor = n.cursor;
     if has_next(cursor.index, 5) {
@@ -284,21 +288,23 @@ fn after_seal(n: Numbers) -> Stepped
 }
 
 fn after_drop(n: Numbers) -> Stepped
-    ensures { λ r. ⌜ ((i p u f : List ℕ) → Leaves p u f r (advance stages.Drop i (assemble n p u f))) ⌝ }
+    ensures { λ r. ⌜ ((i p u f : List ℕ) → LeadsTo p u f r (advance stages.Drop i (assemble n p u f))) ⌝ }
 {
     records::enter_append(records::landed(n))
 }
 
 fn after_append(n: Numbers) -> Stepped
-    requires { ⌜ n .end < 32768 ⌝ }
-    ensures { λ r. ⌜ ((i p u f : List ℕ) → Leaves p u f r (advance stages.Append i (assemble n p u f))) ⌝ }
+    requires { ⌜ n .rest .end < 32768 ⌝ }
+    ensures { λ r. ⌜ ((i p u f : List ℕ) → LeadsTo p u f r (advance stages.Append i (assemble n p u f))) ⌝ }
 {
     let job = n.job;
     let cursor = n.cursor;
     if has_next(cursor.index, job.size) {
         return next_step(Stage::Append, n);
     }
-    records::over(n.last, n.block, n.end + job.size as u16)
+    let mut rest = n.rest;
+    rest.end = rest.end + job.size as u16;
+    records::over(rest)
 }
 
 // The record after the step that gave the image; its place was in the image.
@@ -310,7 +316,7 @@ fn advance(
     unit: &mut [u8; MAX_FRAME],
 ) -> Stepped
     requires { ⌜ offsetFor stage n < 32768 ⌝ }
-    ensures { λ r. ⌜ ((f : List ℕ) → Leaves (now (places .entry)) (now (unit .exit)) f r (advance stage (now (image .entry)) (assemble n (now (places .entry)) (now (unit .entry)) f))) ⌝ }
+    ensures { λ r. ⌜ ((f : List ℕ) → LeadsTo (now (places .entry)) (now (unit .exit)) f r (advance stage (now (image .entry)) (assemble n (now (places .entry)) (now (unit .entry)) f))) ⌝ }
 {
     match stage {
         Stage::Wipe => return after_wipe(n),
@@ -334,7 +340,8 @@ fn step_busy(
 ) -> Stepped
     ensures { λ r. ⌜ Steps (now (places .entry)) (now (unit .exit)) (now (frame .entry)) r (now (image .exit)) (stepBusy stage (now (image .entry)) (assemble n (now (places .entry)) (now (unit .entry)) (now (frame .entry)))) ⌝ }
 {
-    if image.len() != n.last as usize + 1 {
+    let rest = n.rest;
+    if image.len() != rest.last as usize + 1 {
         return records::staying(Answer::Refused(Refusal::Stale), n);
     }
     let next = next_action(stage, n, unit, frame);
@@ -345,7 +352,7 @@ fn step_busy(
 }
 
 // A step by a record's numbers, its arrays lent. Where the job ended the arrays are the caller's to clear.
-pub fn step_core(
+fn step_core(
     image: &mut [u8],
     n: Numbers,
     places: &[u16; 256],

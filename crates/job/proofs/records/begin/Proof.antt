@@ -7,4 +7,11 @@ use Rattle.job.proofs.records.begin.Tie as tie
 
 pub begin-spec : {M : Type 1} → statement M
 begin-spec =
-    tie.close (tie.spec (λ c κs. search needs) (λ c κs. search needs) (λ c κs. search needs) (λ c. let l = wipe-leaves (c .before .before .before .before .before .before .args .board .places) (c .before .before .before .before .before .before .args .board .unit) (c .before .before .before .before .before .before .args .board .frame) (numbersOf (c .before .before .before .before .before .before .args .board)) in rw (c .give-back .ensures, c .before .enter-wipe .ensures, c .before .before .numbers-of .ensures) (l .answers, l .gives)))
+    tie.close (tie.spec
+    (λ c κs. search needs)
+    (λ c κs. search needs)
+    (λ c κs. search needs)
+    (λ c.
+    let args′ = c .before .before .before .before .before .before .args in
+    let l = wipe-leaves (args′ .board .places) (args′ .board .unit) (args′ .board .frame) (numbersOf (args′ .board)) in rw
+    (c .give-back .ensures, c .before .enter-wipe .ensures, c .before .before .numbers-of .ensures) (l .answers, l .gives)))

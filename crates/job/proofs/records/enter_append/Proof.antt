@@ -7,4 +7,8 @@ use Rattle.job.proofs.records.enter_append.Tie as tie
 
 pub enter-append-spec : {M : Type 1} → statement M
 unfolding goAppend
-enter-append-spec = tie.close (tie.spec (λ c κs. search needs) (λ c. rw (lt-ltb _ _ (c .before .if1 .taken)) (c .enter .ensures)) (λ c κs. search needs) (λ c. rw (le-ltb _ _ (c .before .if1 .left)) (c .over .ensures)))
+enter-append-spec = tie.close (tie.spec
+    (λ c κs. search needs)
+    (λ c. rw (lt-ltb _ _ (c .before .if1 .taken)) (c .enter .ensures))
+    (λ c κs. search needs)
+    (λ c. rw (le-ltb _ _ (c .before .before .if1 .left)) (c .over .ensures)))

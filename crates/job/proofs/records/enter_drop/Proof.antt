@@ -10,4 +10,9 @@ use Rattle.job.proofs.records.enter_drop.Tie as tie
 pub enter-drop-spec : {M : Type 1} → statement M
 unfolding goDrop
 enter-drop-spec =
-    tie.close (tie.spec (λ c κs. search needs) (λ c. c .enter .ensures ∙ when-true _ _ _ (c .before .if1 .taken)) (λ c κs. search needs) (λ c κs. search needs) (λ c. c .enter-append .ensures ∙ ap goAppend (c .before .landed .ensures) ∙ when-false _ _ _ (c .before .before .if1 .left)))
+    tie.close (tie.spec
+    (λ c κs. search needs)
+    (λ c. c .enter .ensures ∙ when-true _ _ _ (c .before .if1 .taken))
+    (λ c κs. search needs)
+    (λ c κs. search needs)
+    (λ c. c .enter-append .ensures ∙ ap goAppend (c .before .landed .ensures) ∙ when-false _ _ _ (c .before .before .if1 .left)))

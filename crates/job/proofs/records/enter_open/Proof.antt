@@ -8,4 +8,8 @@ use Rattle.job.proofs.records.enter_open.Tie as tie
 
 pub enter-open-spec : {M : Type 1} → statement M
 unfolding goOpen
-enter-open-spec = tie.close (tie.spec (λ c κs. search needs) (λ c. c .enter .ensures ∙ when-true _ _ _ (c .before .if1 .taken)) (λ c κs. search needs) (λ c. c .enter-append .ensures ∙ when-false _ _ _ (c .before .if1 .left)))
+enter-open-spec = tie.close (tie.spec
+    (λ c κs. search needs)
+    (λ c. c .enter .ensures ∙ when-true _ _ _ (c .before .if1 .taken))
+    (λ c κs. search needs)
+    (λ c. c .enter-append .ensures ∙ when-false _ _ _ (c .before .if1 .left)))

@@ -11,6 +11,14 @@ give-back-spec =
     (λ c κs. search needs)
     (λ c κs. search needs)
     (λ c κs. search needs)
-    (λ c. rw (c .before .before .before .before .if1 .taken, c .assemble .ensures, c .before .before .before .no-places .ensures, c .before .before .no-frame .ensures, c .before .no-frame2 .ensures))
+    (λ c.
+    let if1′ = c .before .before .before .before .if1 in
+    rw (
+      if1′ .taken,
+      c .assemble .ensures,
+      c .before .before .before .no-places .ensures,
+      c .before .before .no-frame .ensures,
+      c .before .no-frame2 .ensures,
+    ))
     (λ c κs. search needs)
     (λ c. rw (c .before .if1 .left, c .assemble2 .ensures)))

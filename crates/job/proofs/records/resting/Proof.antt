@@ -12,4 +12,12 @@ resting-spec =
     (λ c κs. search needs)
     (λ c κs. search needs)
     (λ c κs. search needs)
-    (λ c. rw (c .before .before .before .before .no-places .ensures, c .before .before .before .no-job .ensures, c .before .before .no-cursor .ensures, c .before .no-frame .ensures, c .no-frame2 .ensures)))
+    (λ c κs. search needs)
+    (λ c. rw (
+      c .assemble .ensures,
+      c .before .before .before .no-places .ensures,
+      c .before .before .no-frame .ensures,
+      c .before .no-frame2 .ensures,
+      c .before .before .before .before .before .no-job .ensures,
+      c .before .before .before .before .no-cursor .ensures,
+    )))

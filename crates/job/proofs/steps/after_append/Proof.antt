@@ -19,9 +19,23 @@ after-append-spec =
     tie.close
     (tie.spec
     (λ c κs. search needs)
-    (λ c κs. omega (arith, ltb-true (suc (c .before .before .before .before .args .n .cursor .index)) (c .before .before .before .before .args .n .job .size) (sym (c .before .has-next .ensures) ∙ c .if1 .taken), c .before .before .before .before .good))
-    (λ c. λ i p u f. rw (c .next-step .ensures) (on-leaves p u f Append (c .before .before .before .before .before .args .n .job .size) (c .before .before .before .before .before .args .n) (idle (rest (c .before .before .before .before .before .args .n .last) (c .before .before .before .before .before .args .n .block) (c .before .before .before .before .before .args .n .end + c .before .before .before .before .before .args .n .job .size))) (sym (c .before .before .has-next .ensures) ∙ c .before .if1 .taken)))
+    (λ c κs.
+    let args′ = c .before .before .before .before .args in
+    let good′ = c .before .before .before .before .good in
+    omega (arith, ltb-true (suc (args′ .n .cursor .index)) (args′ .n .job .size) (sym (c .before .has-next .ensures) ∙ c .if1 .taken), good′))
+    (λ c.
+    let args′ = c .before .before .before .before .before .args in
+    let n = args′ .n in
+    λ i p u f. rw (c .next-step .ensures) (on-leaves p u f Append (n .job .size) n
+    (idle (rest (n .rest .last) (n .rest .block) (n .rest .end + n .job .size)))
+    (sym (c .before .before .has-next .ensures) ∙ c .before .if1 .taken)))
     (λ c. search needs)
     (λ c. search needs)
     (λ c κs. search needs)
-    (λ c. λ i p u f. rw (c .over .ensures) (off-leaves p u f Append (c .before .before .before .before .before .before .before .args .n .job .size) (assemble (c .before .before .before .before .before .before .before .args .n) p u f) (over (c .before .before .before .before .before .before .before .args .n .last) (c .before .before .before .before .before .before .before .args .n .block) (c .before .before .before .before .before .before .before .args .n .end + c .before .before .before .before .before .before .before .args .n .job .size)) (idle (rest (c .before .before .before .before .before .before .before .args .n .last) (c .before .before .before .before .before .before .before .args .n .block) (c .before .before .before .before .before .before .before .args .n .end + c .before .before .before .before .before .before .before .args .n .job .size))) (sym (c .before .before .before .before .has-next .ensures) ∙ c .before .before .before .if1 .left) (over-leaves p u f (c .before .before .before .before .before .before .before .args .n .last) (c .before .before .before .before .before .before .before .args .n .block) (c .before .before .before .before .before .before .before .args .n .end + c .before .before .before .before .before .before .before .args .n .job .size)))))
+    (λ c.
+    let has-next′ = c .before .before .before .before .before .has-next in
+    let args′ = c .before .before .before .before .before .before .before .before .args in
+    let n = args′ .n in
+    let z = rest (n .rest .last) (n .rest .block) (n .rest .end + n .job .size) in
+    λ i p u f. rw (c .over .ensures) (off-leaves p u f Append (n .job .size) (assemble n p u f) (over z) (idle z)
+    (sym (has-next′ .ensures) ∙ c .before .before .before .before .if1 .left) (over-leaves p u f z))))

@@ -13,6 +13,15 @@ after-copy-spec =
     (λ c κs. search needs)
     (λ c κs. search needs)
     (λ c κs. search needs)
-    (λ c. λ f. rw (c .staying .ensures) (copy-on (now (c .before .before .before .before .before .before .args .image)) (now (c .before .before .before .before .before .before .args .places)) (now (c .before .before .before .before .before .before .args .unit)) f (c .before .before .before .before .before .before .args .n) (c .before .before .before .next-byte .result) (c .before .before .before .next-byte .ensures) (sym (c .before .before .has-next .ensures) ∙ c .before .if1 .taken)))
+    (λ c.
+    let next-byte′ = c .before .before .before .next-byte in
+    let args′ = c .before .before .before .before .before .before .args in
+    λ f. rw (c .staying .ensures) (copy-on (now (args′ .image)) (now (args′ .places)) (now (args′ .unit)) f (args′ .n)
+    (next-byte′ .result) (next-byte′ .ensures) (sym (c .before .before .has-next .ensures) ∙ c .before .if1 .taken)))
     (λ c κs. search needs)
-    (λ c. λ f. copy-off (now (c .before .before .before .before .before .before .before .args .image)) (now (c .before .before .before .before .before .before .before .args .places)) (now (c .before .before .before .before .before .before .before .args .unit)) f (c .before .before .before .before .before .before .before .args .n) (c .before .before .before .before .next-byte .result) (c .before .before .before .before .next-byte .ensures) (sym (c .before .before .before .has-next .ensures) ∙ c .before .before .if1 .left) _ (c .enter-copy .result) (c .enter-copy .ensures f)))
+    (λ c.
+    let next-byte′ = c .before .before .before .before .next-byte in
+    let args′ = c .before .before .before .before .before .before .before .args in
+    λ f. copy-off (now (args′ .image)) (now (args′ .places)) (now (args′ .unit)) f (args′ .n) (next-byte′ .result) (next-byte′ .ensures)
+    (sym (c .before .before .before .has-next .ensures) ∙ c .before .before .if1 .left) _ (c .enter-copy .result)
+    (c .enter-copy .ensures f)))

@@ -8,4 +8,8 @@ use Rattle.job.proofs.steps.after_drop.Tie as tie
 
 pub after-drop-spec : {M : Type 1} → statement M
 unfolding advance
-after-drop-spec = tie.close (tie.spec (λ c κs. search needs) (λ c κs. search needs) (λ c. λ i p u f. rw (c .enter-append .ensures, c .before .landed .ensures) (append-leaves p u f (landedOn (c .before .before .args .n)))))
+after-drop-spec = tie.close (tie.spec
+    (λ c κs. search needs)
+    (λ c κs. search needs)
+    (λ c.
+    λ i p u f. rw (c .enter-append .ensures, c .before .landed .ensures) (append-leaves p u f (landedOn (c .before .before .args .n)))))

@@ -15,4 +15,21 @@ use Rattle.job.proofs.steps.after_seal.Tie as tie
 pub after-seal-spec : {M : Type 1} → statement M
 unfolding advance
 after-seal-spec =
-    tie.close (tie.spec (λ c κs. search needs) (λ c κs. omega (arith, ltb-true (suc (c .before .before .before .args .n .cursor .index)) 5 (sym (c .before .has-next .ensures) ∙ c .if1 .taken), c .before .before .before .good)) (λ c. λ i p u f. rw (c .next-step .ensures) (on-leaves p u f Seal 5 (c .before .before .before .before .args .n) (enterDrop (assemble (c .before .before .before .before .args .n) p u f)) (sym (c .before .before .has-next .ensures) ∙ c .before .if1 .taken))) (λ c κs. search needs) (λ c. λ i p u f. rw (c .enter-drop .ensures) (off-leaves p u f Seal 5 (assemble (c .before .before .before .before .args .n) p u f) (goDrop (c .before .before .before .before .args .n)) (enterDrop (assemble (c .before .before .before .before .args .n) p u f)) (sym (c .before .before .has-next .ensures) ∙ c .before .if1 .left) (drop-leaves p u f (c .before .before .before .before .args .n)))))
+    tie.close (tie.spec
+    (λ c κs. search needs)
+    (λ c κs.
+    omega (
+      arith,
+      ltb-true (suc (c .before .before .before .args .n .cursor .index)) 5
+          (sym (c .before .has-next .ensures) ∙ c .if1 .taken),
+      c .before .before .before .good,
+    ))
+    (λ c.
+    let args′ = c .before .before .before .before .args in
+    λ i p u f. rw (c .next-step .ensures) (on-leaves p u f Seal 5 (args′ .n) (enterDrop (assemble (args′ .n) p u f))
+    (sym (c .before .before .has-next .ensures) ∙ c .before .if1 .taken)))
+    (λ c κs. search needs)
+    (λ c.
+    let args′ = c .before .before .before .before .args in
+    λ i p u f. rw (c .enter-drop .ensures) (off-leaves p u f Seal 5 (assemble (args′ .n) p u f) (goDrop (args′ .n))
+    (enterDrop (assemble (args′ .n) p u f)) (sym (c .before .before .has-next .ensures) ∙ c .before .if1 .left) (drop-leaves p u f (args′ .n)))))

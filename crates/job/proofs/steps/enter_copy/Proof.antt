@@ -1,6 +1,6 @@
 -- The next frame to copy, or the block sealed.
 use Rattle.job.proofs.Entering.{going-leaves}
-use Rattle.job.specs.Code.{assemble, going, Leaves}
+use Rattle.job.specs.Code.{assemble, going, LeadsTo}
 use Rattle.board.specs.Step.{first}
 use Rattle.board.specs.declared.Stage.the-variants.{Seal}
 use Rattle.journal.specs.Survey.{Inside}
@@ -18,8 +18,27 @@ enter-copy-spec =
     (λ c κs. search needs)
     (λ c κs. search needs)
     (λ c. search needs)
-    (λ c κs. subst (Inside (now (c .before .before .before .before .before .block-of .result))) (c .before .before .fetch .given .1) (c .before .before .before .before .next-load .ensures .1))
-    (λ c. λ f. subst (Leaves (now (c .before .before .before .before .before .before .before .before .before .before .before .args .places)) _ f (c .load .result)) (frame-found (now (c .before .before .before .before .before .before .before .before .before .before .before .args .image)) (assemble (c .before .before .before .before .before .before .before .before .before .before .before .args .n) (now (c .before .before .before .before .before .before .before .before .before .before .before .args .places)) (now (c .before .before .before .before .before .before .before .before .before .before .before .args .unit)) f) (now (c .before .before .before .before .before .before .block-of .result)) (c .before .before .before .before .before .before .block-of .ensures) (c .before .before .before .before .before .next-load .result) (c .before .before .before .before .before .next-load .ensures .0) (c .before .before .before .fetch .given .0 .0) (c .before .before .before .fetch .given .1)) (c .load .ensures (now (c .before .before .before .before .before .before .before .before .before .before .before .args .places)) f))
+    (λ c κs.
+    let next-load′ = c .before .before .before .before .next-load in
+    let block-of′ = c .before .before .before .before .before .block-of in
+    subst (Inside (now (block-of′ .result))) (c .before .before .fetch .given .1) (next-load′ .ensures .1))
+    (λ c.
+    let fetch′ = c .before .before .before .fetch in
+    let next-load′ = c .before .before .before .before .before .next-load in
+    let block-of′ = c .before .before .before .before .before .before .block-of in
+    let args′ = c .before .before .before .before .before .before .before .before .before .before .before .before .args in
+    λ f. subst (LeadsTo (now (args′ .places)) _ f (c .load .result))
+    (frame-found (now (args′ .image)) (assemble (args′ .n) (now (args′ .places)) (now (args′ .unit)) f) (now (block-of′ .result))
+    (block-of′ .ensures) (next-load′ .result) (next-load′ .ensures .0) (fetch′ .given .0 .0) (fetch′ .given .1))
+    (c .load .ensures (now (args′ .places)) f))
     (λ c. search needs)
     (λ c κs. search needs)
-    (λ c. λ f. rw (c .enter .ensures) (subst (Leaves (now (c .before .before .before .before .before .before .before .before .before .args .places)) (now (c .before .before .before .before .before .before .before .before .before .args .unit)) f (going Seal (first (c .before .before .before .before .before .before .before .before .before .args .n .cursor)) (c .before .before .before .before .before .before .before .before .before .args .n))) (none-found (now (c .before .before .before .before .before .before .before .before .before .args .image)) (assemble (c .before .before .before .before .before .before .before .before .before .args .n) (now (c .before .before .before .before .before .before .before .before .before .args .places)) (now (c .before .before .before .before .before .before .before .before .before .args .unit)) f) (now (c .before .before .before .before .block-of .result)) (c .before .before .before .before .block-of .ensures) (c .before .before .before .next-load .result) (c .before .before .before .next-load .ensures .0) (c .before .enum-told .given .1)) (going-leaves (now (c .before .before .before .before .before .before .before .before .before .args .places)) (now (c .before .before .before .before .before .before .before .before .before .args .unit)) f Seal (first (c .before .before .before .before .before .before .before .before .before .args .n .cursor)) (c .before .before .before .before .before .before .before .before .before .args .n)))))
+    (λ c.
+    let next-load′ = c .before .before .before .next-load in
+    let block-of′ = c .before .before .before .before .block-of in
+    let args′ = c .before .before .before .before .before .before .before .before .before .before .args in
+    λ f. rw (c .enter .ensures) (subst (LeadsTo (now (args′ .places)) (now (args′ .unit)) f
+    (going Seal (first (args′ .n .cursor)) (args′ .n)))
+    (none-found (now (args′ .image)) (assemble (args′ .n) (now (args′ .places)) (now (args′ .unit)) f) (now (block-of′ .result))
+    (block-of′ .ensures) (next-load′ .result) (next-load′ .ensures .0) (c .before .enum-told .given .1))
+    (going-leaves (now (args′ .places)) (now (args′ .unit)) f Seal (first (args′ .n .cursor)) (args′ .n)))))

@@ -19,6 +19,17 @@ load-spec =
     (λ c. search needs)
     (λ c κs. search needs)
     (λ c κs. search needs)
-    (λ c. omega (arith, c .frame-len .ensures, head-short (c .before .before .before .before .before .before .args .fetch .head) (c .before .before .before .before .before .before .pre .1)))
+    (λ c.
+    let args′ = c .before .before .before .before .before .before .args in
+    let pre′ = c .before .before .before .before .before .before .pre in
+    omega (arith, c .frame-len .ensures, head-short (args′ .fetch .head) (pre′ .1)))
     (λ c κs. search needs)
-    (λ c. λ p f. rw (c .going .ensures) (load-leaves (now (c .before .before .before .before .before .before .before .args .source)) (c .before .before .before .before .before .before .before .args .fetch) (c .before .before .before .before .before .before .before .args .n) (c .before .before .before .before .before .before .before .pre .0) (c .before .before .before .before .before .before .before .pre .1) (c .before .before .before .before .before .before .before .args .fetch .value + c .before .before .before .before .before .value-len .result) (c .before .frame-len .result) (c .before .before .before .encode-frame .result) (ap (λ (k : ℕ). c .before .before .before .before .before .before .before .args .fetch .value + k) (c .before .before .before .before .before .value-len .ensures)) (c .before .before .before .encode-frame .ensures) (c .before .frame-len .ensures) p (now (c .before .before .before .before .before .before .before .args .unit)) f)))
+    (λ c.
+    let frame-len′ = c .before .frame-len in
+    let encode-frame′ = c .before .before .before .encode-frame in
+    let value-len′ = c .before .before .before .before .before .value-len in
+    let args′ = c .before .before .before .before .before .before .before .args in
+    let pre′ = c .before .before .before .before .before .before .before .pre in
+    λ p f. rw (c .going .ensures) (load-leaves (now (args′ .source)) (args′ .fetch) (args′ .n) (pre′ .0) (pre′ .1)
+    (args′ .fetch .value + value-len′ .result) (frame-len′ .result) (encode-frame′ .result)
+    (ap (λ (k : ℕ). args′ .fetch .value + k) (value-len′ .ensures)) (encode-frame′ .ensures) (frame-len′ .ensures) p (now (args′ .unit)) f)))

@@ -15,6 +15,6 @@ next-byte-spec =
     (tie.spec
     (λ c κs. search needs)
     (λ c. search needs)
-    (λ c. let n = c .before .before .before .before .args .n in
+    (λ c. let n = c .before .before .before .before .before .args .n in
     ap₂ (λ (m o : ℕ). staged Copy (cursor (n .cursor .index) m (n .cursor .id) (n .cursor .source) (n .cursor .size) o) n)
     (add-one (n .cursor .at)) (c .before .past .ensures)))

@@ -7,4 +7,11 @@ use Rattle.job.proofs.steps.open_action.Tie as tie
 
 pub open-action-spec : {M : Type 1} → statement M
 unfolding writes
-open-action-spec = tie.close (tie.spec (λ c. rw (c .match .keys1)) (λ c. rw (c .match .keys2)) (λ c. rw (c .match .keys3)) (λ c. rw (c .match .keys4)) (λ c. let n = c .match .rest in ap (writeStep (c .before .args .target)) (open-rest (c .before .args .i) (n .0 .0 .0 .1) (n .0 .0 .1) (n .0 .1) (n .1))))
+open-action-spec = tie.close (tie.spec
+    (λ c. rw (c .match .keys1))
+    (λ c. rw (c .match .keys2))
+    (λ c. rw (c .match .keys3))
+    (λ c. rw (c .match .keys4))
+    (λ c.
+    let args′ = c .before .args in
+    let n = c .match .rest in ap (writeStep (args′ .target)) (open-rest (args′ .i) (n .0 .0 .0 .1) (n .0 .0 .1) (n .0 .1) (n .1))))

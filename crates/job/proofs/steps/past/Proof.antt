@@ -12,7 +12,12 @@ has-next-requires : tie.Need-has-next-requires
 has-next-requires c κs = search needs
 
 add-result : tie.Need-add-result
-add-result c = omega (arith, ltb-true (suc (c .before .before .args .off)) (c .before .before .args .size) (sym (c .before .has-next .ensures) ∙ c .if1 .taken), c .before .before .good)
+add-result c = omega (
+  arith,
+  ltb-true (suc (c .before .before .args .off)) (c .before .before .args .size)
+      (sym (c .before .has-next .ensures) ∙ c .if1 .taken),
+  c .before .before .good,
+)
 
 returns : tie.Need-returns
 returns c = rw (sym (c .before .has-next .ensures) ∙ c .if1 .taken, add-one)

@@ -13,12 +13,38 @@ pub program-in-spec : {M : Type 1} → statement M
 program-in-spec =
     tie.close
     (tie.spec
-    (λ c. did-not (program (c .before .before .args .block) (c .before .before .args .at) (c .before .before .args .byte)) (now (c .before .before .args .image)) (no-block (sizeOf (now (c .before .before .args .image))) (program (c .before .before .args .block) (c .before .before .args .at) (c .before .before .args .byte)) (c .if1 .taken)))
-    (λ c. did-not (program (c .before .before .before .args .block) (c .before .before .before .args .at) (c .before .before .before .args .byte)) (now (c .before .before .before .args .image)) (no-offset (sizeOf (now (c .before .before .before .args .image))) (program (c .before .before .before .args .block) (c .before .before .before .args .at) (c .before .before .before .args .byte)) (c .if2 .taken)))
+    (λ c.
+    let args′ = c .before .before .args in
+    did-not (program (args′ .block) (args′ .at) (args′ .byte)) (now (args′ .image))
+    (no-block (sizeOf (now (args′ .image))) (program (args′ .block) (args′ .at) (args′ .byte)) (c .if1 .taken)))
+    (λ c.
+    let args′ = c .before .before .before .args in
+    did-not (program (args′ .block) (args′ .at) (args′ .byte)) (now (args′ .image))
+    (no-offset (sizeOf (now (args′ .image))) (program (args′ .block) (args′ .at) (args′ .byte)) (c .if2 .taken)))
     (λ c κs. search needs)
     (λ c. search needs)
-    (λ c. let img = now (c .before .before .before .before .before .before .before .before .args .image) in let d = did-it (program (c .before .before .before .before .before .before .before .before .args .block) (c .before .before .before .before .before .before .before .before .args .at) (c .before .before .before .before .before .before .before .before .args .byte)) img (inside-yes (sizeOf img) (program (c .before .before .before .before .before .before .before .before .args .block) (c .before .before .before .before .before .before .before .before .args .at) (c .before .before .before .before .before .before .before .before .args .byte)) (c .before .before .before .before .before .before .if1 .left) (c .before .before .before .before .before .if2 .left)) in (d .0, c .before .before .program .ensures ∙ ap (λ (i : ℕ). programAt img i (c .before .before .before .before .before .before .before .before .args .byte)) (in-first (c .before .before .before .before .before .before .before .before .args .block) (sizeOf img) (c .before .before .before .before .before .before .before .before .args .at) (c .before .before .before .before .if3 .taken)) ∙ d .1))
+    (λ c.
+    let if3′ = c .before .before .before .before .if3 in
+    let if2′ = c .before .before .before .before .before .if2 in
+    let if1′ = c .before .before .before .before .before .before .if1 in
+    let args′ = c .before .before .before .before .before .before .before .before .args in
+    let img = now (args′ .image) in let d = did-it (program (args′ .block) (args′ .at) (args′ .byte)) img
+    (inside-yes (sizeOf img) (program (args′ .block) (args′ .at) (args′ .byte)) (if1′ .left) (if2′ .left)) in (
+      d .0,
+      c .before .before .program .ensures ∙ ap (λ (i : ℕ). programAt img i (args′ .byte))
+          (in-first (args′ .block) (sizeOf img) (args′ .at) (if3′ .taken)) ∙ d .1,
+    ))
     (λ c. search needs)
     (λ c κs. search needs)
     (λ c. search needs)
-    (λ c. let img = now (c .before .before .before .before .before .before .before .before .args .image) in let d = did-it (program (c .before .before .before .before .before .before .before .before .args .block) (c .before .before .before .before .before .before .before .before .args .at) (c .before .before .before .before .before .before .before .before .args .byte)) img (inside-yes (sizeOf img) (program (c .before .before .before .before .before .before .before .before .args .block) (c .before .before .before .before .before .before .before .before .args .at) (c .before .before .before .before .before .before .before .before .args .byte)) (c .before .before .before .before .before .before .if1 .left) (c .before .before .before .before .before .if2 .left)) in (d .0, c .before .before .program2 .ensures ∙ ap (λ (i : ℕ). programAt img i (c .before .before .before .before .before .before .before .before .args .byte)) (in-second (c .before .before .before .before .before .before .before .before .args .block) (sizeOf img) (c .before .before .before .before .before .before .before .before .args .at) (c .before .before .before .before .before .before .if1 .left) (c .before .before .before .before .if3 .left)) ∙ d .1)))
+    (λ c.
+    let if3′ = c .before .before .before .before .if3 in
+    let if2′ = c .before .before .before .before .before .if2 in
+    let if1′ = c .before .before .before .before .before .before .if1 in
+    let args′ = c .before .before .before .before .before .before .before .before .args in
+    let img = now (args′ .image) in let d = did-it (program (args′ .block) (args′ .at) (args′ .byte)) img
+    (inside-yes (sizeOf img) (program (args′ .block) (args′ .at) (args′ .byte)) (if1′ .left) (if2′ .left)) in (
+      d .0,
+      c .before .before .program2 .ensures ∙ ap (λ (i : ℕ). programAt img i (args′ .byte))
+          (in-second (args′ .block) (sizeOf img) (args′ .at) (if1′ .left) (if3′ .left)) ∙ d .1,
+    )))

@@ -20,4 +20,7 @@ seal-action-spec =
     (λ c. rw (c .match .keys3))
     (λ c. search needs)
     (λ c. rw (c .match .keys4))
-    (λ c. let n = c .match .rest in ap (writeStep (c .before .args .target)) (seal-rest (c .before .args .time) (c .before .args .i) (n .0 .0 .0 .1) (n .0 .0 .1) (n .0 .1) (n .1))))
+    (λ c.
+    let args′ = c .before .args in
+    let n = c .match .rest in ap (writeStep (args′ .target))
+    (seal-rest (args′ .time) (args′ .i) (n .0 .0 .0 .1) (n .0 .0 .1) (n .0 .1) (n .1))))

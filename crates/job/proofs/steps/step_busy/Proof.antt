@@ -19,12 +19,35 @@ step-busy-spec =
     (λ c. search needs)
     (λ c. search needs)
     (λ c κs. search needs)
-    (λ c. rw (c .staying .ensures) (other-length (now (c .before .before .before .before .args .places)) (now (c .before .before .before .before .args .unit)) (now (c .before .before .before .before .args .frame)) (c .before .before .before .before .args .stage) (now (c .before .before .before .before .args .image)) (c .before .before .before .before .args .n) (λ e. c .before .if1 .taken (e ∙ sym (add-one (c .before .before .before .before .args .n .last))))))
+    (λ c.
+    let args′ = c .before .before .before .before .before .args in
+    rw (c .staying .ensures) (other-length (now (args′ .places)) (now (args′ .unit)) (now (args′ .frame)) (args′ .stage)
+    (now (args′ .image)) (args′ .n) (λ e. c .before .if1 .taken (e ∙ sym (add-one (args′ .n .rest .last))))))
     (λ c κs. search needs)
     (λ c κs. search needs)
     (λ c κs. search needs)
     (λ c. search needs)
-    (λ c. rw (c .staying2 .ensures) (other-place (now (c .before .before .before .before .before .before .before .before .before .before .before .args .places)) (now (c .before .before .before .before .before .before .before .before .before .before .before .args .unit)) (now (c .before .before .before .before .before .before .before .before .before .before .before .args .frame)) (c .before .before .before .before .before .before .before .before .before .before .before .args .stage) (now (c .before .before .before .before .before .before .before .before .before .before .before .args .image)) (c .before .before .before .before .before .before .before .before .before .before .before .args .n) (flashStep (c .before .before .before .before .before .before .next-action .result)) (c .before .before .before .before .before .before .next-action .ensures (now (c .before .before .before .before .before .before .before .before .before .before .before .args .places))) (sym (c .before .before .before .before .act .ensures .0) ∙ not-true (c .before .before .before .before .act .result) (c .before .if2 .taken)) _ (c .before .before .before .before .act .ensures .1)))
-    (λ c κs. (offset-low (c .before .before .before .before .before .before .before .before .before .before .before .before .args .stage) (sizeOf (now (c .before .before .before .before .before .before .before .before .before .before .before .before .args .image))) (c .before .before .before .before .before .before .before .before .before .before .before .before .args .n) (now (c .before .before .before .before .before .before .before .before .before .before .before .before .args .places)) (now (c .before .before .before .before .before .before .before .before .before .before .before .before .args .unit)) (now (c .before .before .before .before .before .before .before .before .before .before .before .before .args .frame)) (rw (c .before .before .before .before .before .before .before .next-action .ensures (now (c .before .before .before .before .before .before .before .before .before .before .before .before .args .places))) at (sym (c .before .before .before .before .before .act .ensures .0) ∙ not-false (c .before .before .before .before .before .act .result) (c .before .before .if2 .left))) (omega arith)))
+    (λ c.
+    let act′ = c .before .before .before .before .act in
+    let next-action′ = c .before .before .before .before .before .before .next-action in
+    let args′ = c .before .before .before .before .before .before .before .before .before .before .before .before .args in
+    rw (c .staying2 .ensures) (other-place (now (args′ .places)) (now (args′ .unit)) (now (args′ .frame)) (args′ .stage)
+    (now (args′ .image)) (args′ .n) (flashStep (next-action′ .result)) (next-action′ .ensures (now (args′ .places)))
+    (sym (act′ .ensures .0) ∙ not-true (act′ .result) (c .before .if2 .taken)) _ (act′ .ensures .1)))
+    (λ c κs.
+    let act′ = c .before .before .before .before .before .act in
+    let next-action′ = c .before .before .before .before .before .before .before .next-action in
+    let args′ = c .before .before .before .before .before .before .before .before .before .before .before .before .before .args in
+    (offset-low (args′ .stage) (sizeOf (now (args′ .image))) (args′ .n) (now (args′ .places)) (now (args′ .unit)) (now (args′ .frame))
+    (rw (next-action′ .ensures (now (args′ .places))) at
+    (sym (act′ .ensures .0) ∙ not-false (act′ .result) (c .before .before .if2 .left))) (omega arith)))
     (λ c. search needs)
-    (λ c. step-done (now (c .before .before .before .before .before .before .before .before .before .before .before .before .before .args .places)) (now (c .before .before .before .before .before .before .before .before .before .before .before .before .before .args .unit)) (now (c .before .before .before .before .before .before .before .before .before .before .before .before .before .args .frame)) (c .before .before .before .before .before .before .before .before .before .before .before .before .before .args .stage) (now (c .before .before .before .before .before .before .before .before .before .before .before .before .before .args .image)) (c .before .before .before .before .before .before .before .before .before .before .before .before .before .args .n) (flashStep (c .before .before .before .before .before .before .before .before .next-action .result)) (c .before .before .before .before .before .before .before .before .next-action .ensures (now (c .before .before .before .before .before .before .before .before .before .before .before .before .before .args .places))) (c .before .before .before .before .before .before .before .before .before .before .if1 .left ∙ add-one (c .before .before .before .before .before .before .before .before .before .before .before .before .before .args .n .last)) (sym (c .before .before .before .before .before .before .act .ensures .0) ∙ not-false (c .before .before .before .before .before .before .act .result) (c .before .before .before .if2 .left)) _ (c .before .before .before .before .before .before .act .ensures .1) _ (c .advance .result) (c .advance .ensures (now (c .before .before .before .before .before .before .before .before .before .before .before .before .before .args .frame)))))
+    (λ c.
+    let act′ = c .before .before .before .before .before .before .act in
+    let next-action′ = c .before .before .before .before .before .before .before .before .next-action in
+    let if1′ = c .before .before .before .before .before .before .before .before .before .before .if1 in
+    let args′ = c .before .before .before .before .before .before .before .before .before .before .before .before .before .before .args in
+    step-done (now (args′ .places)) (now (args′ .unit)) (now (args′ .frame)) (args′ .stage) (now (args′ .image)) (args′ .n)
+    (flashStep (next-action′ .result)) (next-action′ .ensures (now (args′ .places))) (if1′ .left ∙ add-one (args′ .n .rest .last))
+    (sym (act′ .ensures .0) ∙ not-false (act′ .result) (c .before .before .before .if2 .left)) _ (act′ .ensures .1) _ (c .advance .result)
+    (c .advance .ensures (now (args′ .frame)))))

@@ -13,11 +13,22 @@ step-core-spec =
     (tie.spec
     (λ c. search needs)
     (λ c κs. search needs)
-    (λ c. rw (c .staying .ensures) (unmounted-stays (now (c .before .before .before .before .args .places)) (now (c .before .before .before .before .args .unit)) (now (c .before .before .before .before .args .frame)) (now (c .before .before .before .before .args .image)) (c .before .before .before .before .args .n) (c .before .before .before .before .args .n .phase) (c .before .enum-told .given .1)))
+    (λ c.
+    let args′ = c .before .before .before .before .args in
+    rw (c .staying .ensures) (unmounted-stays (now (args′ .places)) (now (args′ .unit)) (now (args′ .frame)) (now (args′ .image))
+    (args′ .n) (args′ .n .phase) (c .before .enum-told .given .1)))
     (λ c. search needs)
     (λ c κs. search needs)
-    (λ c. rw (c .staying2 .ensures) (idle-stays (now (c .before .before .before .before .args .places)) (now (c .before .before .before .before .args .unit)) (now (c .before .before .before .before .args .frame)) (now (c .before .before .before .before .args .image)) (c .before .before .before .before .args .n) (c .before .before .before .before .args .n .phase) (c .before .enum-told2 .given .1)))
+    (λ c.
+    let args′ = c .before .before .before .before .args in
+    rw (c .staying2 .ensures) (idle-stays (now (args′ .places)) (now (args′ .unit)) (now (args′ .frame)) (now (args′ .image)) (args′ .n)
+    (args′ .n .phase) (c .before .enum-told2 .given .1)))
     (λ c. search needs)
     (λ c κs. search needs)
     (λ c. search needs)
-    (λ c. busy-steps (now (c .before .before .before .before .before .before .before .before .before .args .places)) (now (c .before .before .before .before .before .before .before .before .before .args .unit)) (now (c .before .before .before .before .before .before .before .before .before .args .frame)) (now (c .before .before .before .before .before .before .before .before .before .args .image)) (c .before .before .before .before .before .before .before .before .before .args .n) (c .before .before .before .before .before .before .before .before .before .args .n .phase) _ (c .before .before .before .before .before .before .phase .given .1) _ (c .before .before .step-busy .result) _ (c .before .before .step-busy .ensures)))
+    (λ c.
+    let step-busy′ = c .before .before .step-busy in
+    let phase′ = c .before .before .before .before .before .before .phase in
+    let args′ = c .before .before .before .before .before .before .before .before .before .args in
+    busy-steps (now (args′ .places)) (now (args′ .unit)) (now (args′ .frame)) (now (args′ .image)) (args′ .n) (args′ .n .phase) _
+    (phase′ .given .1) _ (step-busy′ .result) _ (step-busy′ .ensures)))

@@ -7,4 +7,7 @@ use Rattle.job.proofs.steps.wiped.Statement.{statement}
 use Rattle.job.proofs.steps.wiped.Tie as tie
 
 pub wiped-spec : {M : Type 1} → statement M
-wiped-spec = tie.close (tie.spec (λ c. search needs) (λ c. search needs) (λ c. let l : length (c .before .args .t1) ≡ 2 = search needs in sym (List·getD-eq-default (c .before .args .t1) 0 (omega arith))))
+wiped-spec = tie.close (tie.spec
+    (λ c. search needs)
+    (λ c. search needs)
+    (λ c. let l : length (c .before .args .t1) ≡ 2 = search needs in sym (List·getD-eq-default (c .before .args .t1) 0 (omega arith))))
