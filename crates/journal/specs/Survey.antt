@@ -12,7 +12,7 @@ use Rattle.frame.specs.declared.Fault.{Fault}
 use Rattle.frame.specs.declared.Head.{Head}
 use Rattle.frame.specs.declared.Head.the-variants as head
 use Rattle.frame.specs.Frame.{hostOf, idOf, valueMax, ChangeOf, put, delete, Frame, change, commit, abort, settled, mapChange}
-use Rattle.frame.specs.Frame.{frameLen, putLen, deleteLen, endLen, settledLen, total, nextOf}
+use Rattle.frame.specs.Frame.{frameLen, putValueAt, settledValueAt, putLen, deleteLen, endLen, settledLen, total, nextOf}
 use Rattle.frame.specs.Reader.{clean, cut, bad, Scan, scan}
 use Rattle.frame.specs.Reader.{Tail as ScanTail}
 use Rattle.frame.specs.Code.{frameOf, valueLen}
@@ -99,11 +99,11 @@ onlyAt false p n = found.Nothing
 
 -- the value of an id in a frame at offset p, by the frame's head
 unfoldable pub valueHead : ObjectId → ℕ → Head → Found
-valueHead i p (head.Put h j n) = onlyAt (eqb (i .0) (j .0)) (p + 7) n
+valueHead i p (head.Put h j n) = onlyAt (eqb (i .0) (j .0)) (p + putValueAt) n
 valueHead i p (head.Delete h j) = found.Nothing
 valueHead i p (head.Commit h) = found.Nothing
 valueHead i p (head.Abort h) = found.Nothing
-valueHead i p (head.Settled j n) = onlyAt (eqb (i .0) (j .0)) (p + 6) n
+valueHead i p (head.Settled j n) = onlyAt (eqb (i .0) (j .0)) (p + settledValueAt) n
 
 -- a put or delete at or past its host's `since`, by the head
 unfoldable pub pendingHead : List ℕ → ℕ → Head → Bool
@@ -230,7 +230,16 @@ tallyOf fs = record { count = length fs; used = headerLen + total fs }
 
 unfoldable pub emptySurvey : BlockKind → Survey
 emptySurvey k =
-    record { kind = k; time = 0; end = 16; torn = 0; since = 16 ∷ 16 ∷ 16 ∷ 16 ∷ []; pending = 0 ∷ 0 ∷ 0 ∷ 0 ∷ []; count = 0; used = 16 }
+    record {
+      kind = k;
+      time = 0;
+      end = headerLen;
+      torn = 0;
+      since = perHost (λ h. headerLen);
+      pending = perHost (λ h. 0);
+      count = 0;
+      used = headerLen;
+    }
 
 unfoldable pub foundSurvey : List ℕ → List ℕ → Progress → ℕ → Survey
 foundSurvey b places p n =

@@ -11,6 +11,8 @@ use crate::hosts;
 use frame::FrameRead;
 use frame::Head;
 use frame::ObjectId;
+use frame::PUT_VALUE_AT;
+use frame::SETTLED_VALUE_AT;
 
 // The value of an id in a frame.
 fn value_in(id: ObjectId, place: u16, head: Head) -> Found
@@ -19,7 +21,7 @@ fn value_in(id: ObjectId, place: u16, head: Head) -> Found
     match head {
         Head::Put(_, i, n) => {
             if id.0 == i.0 {
-                return Found::At(place as usize + 7, n);
+                return Found::At(place as usize + PUT_VALUE_AT, n);
             }
             return Found::Nothing;
         }
@@ -28,7 +30,7 @@ fn value_in(id: ObjectId, place: u16, head: Head) -> Found
         Head::Abort(_) => return Found::Nothing,
         Head::Settled(i, n) => {
             if id.0 == i.0 {
-                return Found::At(place as usize + 6, n);
+                return Found::At(place as usize + SETTLED_VALUE_AT, n);
             }
             return Found::Nothing;
         }
