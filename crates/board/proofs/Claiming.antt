@@ -34,6 +34,7 @@ use Rattle.board.proofs.Invariant.{Safe, IdleBook, InJob, InPhase, Inv}
 use Rattle.board.proofs.Outcomes.{format-begins}
 use Rattle.board.proofs.Current.{After, Keeps}
 use Rattle.board.proofs.Jobs.{Begun, job-starts, job-begins}
+use Rattle.board.proofs.Stepping.{follows-steps}
 use Rattle.board.proofs.Keeping.{Working, inv-unmounted, inv-idle, inv-busy, ready-idle, safe-of, step-keeps}
 use Rattle.board.proofs.Accepted.{follows-format, follows-mount}
 use Rattle.board.proofs.Blocks.{wiped-besides}
@@ -214,25 +215,11 @@ run-holds v (c ∷ cs) (by, bys) = let y = call-keeps v c by in (agrees v, y .0,
 
 -- ---- from a finished format on
 
--- all steps of a plan, made
-follows-steps : (plan : List Step) (x : Step) (xs : List Step) → plan ≡ x ∷ xs → (s : ℕ) (o : Out) (last : Record) → sizeOf (o .image) ≡ s
-    → Follows exec (o .image) (o .board) plan last → stepsOn exec (length plan) o ≡ out (answerOf last) (applyAll s plan (o .image)) last []
-unfolding applyAll
-follows-steps [] x xs e s o last z f = let w : _≡_ {A = ℕ} 0 1 = cc in absurd (omega arith)
-follows-steps (y ∷ []) x xs e s o last z (m, (n, g, f)) =
-    g ∙ ap (λ (q : Record). out (answerOf q) (apply (sizeOf (o .image)) y (o .image)) q []) f
-    ∙ ap (λ (w : ℕ). out (answerOf last) (apply w y (o .image)) last []) z
-follows-steps (y ∷ y′ ∷ ys) x xs e s o last z (m, (n, g, f)) =
-    let i : List ℕ = apply (sizeOf (o .image)) y (o .image) in
-    ap (λ (q : Out). stepsOn exec (length (y′ ∷ ys)) q) g
-    ∙ follows-steps (y′ ∷ ys) y′ ys refl s (out (answerOf n) i n []) last (ap (λ (w : ℕ). w / blocks) (length-apply (sizeOf (o .image)) y (o .image)) ∙ z) f
-    ∙ ap (λ (w : ℕ). out (answerOf last) (applyAll s (y′ ∷ ys) (apply w y (o .image))) last []) z
-
 format-done : {s : ℕ} {img : List ℕ} (r : Record) → Sized s img → formatted exec img r ≡ out Done (applyAll s (formatPlan img) img) (idle (rest (length img - 1) 0 headerLen)) []
 format-done {s} {img} r z =
     ap (stepsOn exec 12) (format-begins img (z .ok))
     ∙ ap (λ (n : ℕ). stepsOn exec n (begin img [] (formatJob img))) (sym (length-format img))
-    ∙ follows-steps (formatPlan img) (erase 0) (drop 1 (formatPlan img)) refl s (begin img [] (formatJob img)) (idle (rest (length img - 1) 0 headerLen)) (size-of z)
+    ∙ follows-steps exec (formatPlan img) (erase 0) (drop 1 (formatPlan img)) refl s (begin img [] (formatJob img)) (idle (rest (length img - 1) 0 headerLen)) (size-of z)
     (follows-format img (z .ok))
 
 -- the invariant after a finished format

@@ -29,6 +29,7 @@ use Rattle.board.proofs.Images.{Sized, size-of, sized-as, length-all-st
 use Rattle.board.proofs.Invariant.{Valid, Quiet, Lesser, quiet, older, Safe, no-valid, some-valid, Inv}
 use Rattle.board.proofs.Current.{Alone}
 use Rattle.board.proofs.Outcomes.{format-begins}
+use Rattle.board.proofs.Stepping.{follows-part}
 use Rattle.board.proofs.Keeping.{safe-of}
 use Rattle.board.proofs.Accepted.{follows-format}
 use Rattle.board.proofs.Lengths.{length-format}
@@ -48,21 +49,10 @@ run-ends v (c ∷ cs) (by, bys) = run-ends (call-keeps v c by .1) cs bys
 
 -- ---- some steps of a plan, made
 
-follows-part : (s j : ℕ) (plan : List Step) (o : Out) (last : Record) → sizeOf (o .image) ≡ s → j ≤ length plan → Follows exec (o .image) (o .board) plan last
-    → stepsOn exec j o .image ≡ applyAll s (take j plan) (o .image)
-unfolding applyAll
-follows-part s zero plan o last z h f = refl
-follows-part s (suc j) [] o last z h f = absurd (omega arith)
-follows-part s (suc j) (x ∷ xs) o last z h (m, (n, g, f)) =
-    let i : List ℕ = apply (sizeOf (o .image)) x (o .image) in
-    ap (λ (q : Out). stepsOn exec j q .image) g
-    ∙ follows-part s j xs (out (answerOf n) i n []) last (ap (λ (w : ℕ). w / blocks) (length-apply (sizeOf (o .image)) x (o .image)) ∙ z) (omega arith) f
-    ∙ ap (λ (w : ℕ). applyAll s (take j xs) (apply w x (o .image))) z
-
 format-part : {s : ℕ} {img : List ℕ} (j : ℕ) → Sized s img → j ≤ 12 → stepsOn exec j (formatOn img) .image ≡ applyAll s (take j (formatPlan img)) img
 format-part {s} {img} j z h =
     ap (λ (o : Out). stepsOn exec j o .image) (format-begins img (z .ok))
-    ∙ follows-part s j (formatPlan img) (begin img [] (formatJob img)) (idle (rest (length img - 1) 0 headerLen)) (size-of z) (omega (arith, length-format img))
+    ∙ follows-part exec s j (formatPlan img) (begin img [] (formatJob img)) (idle (rest (length img - 1) 0 headerLen)) (size-of z) (omega (arith, length-format img))
     (follows-format img (z .ok))
 
 -- ---- what is left

@@ -223,7 +223,7 @@ format-kept {s} {img} z by =
     (omega (arith, length-format img, z .low)) (format-lands z) (a .ready) (ready-idle (a .ready)) in
     subst (λ (o : Out). Steady s img (o .board)) (sym (format-begins img (z .ok))) (steady-busy z by (enterWipe (formatJob img)) (j .0) (j .1))
 
-formats : (img : List ℕ) → allowed (length img) ≡ true → Formats exec img (formatOn img)
+pub formats : (img : List ℕ) → allowed (length img) ≡ true → Formats exec img (formatOn img)
 formats img ok =
     subst (Formats exec img) (sym (format-begins img ok)) (record { follows = follows-format img ok; twelve = length-format img })
 

@@ -27,10 +27,10 @@ use Rattle.board.proofs.Images.{Sized, size-of, sized-block}
 use Rattle.board.proofs.Invariant.{Others, Ready}
 
 -- what a check that passed has seen
-record Passed (s : ℕ) (img : List ℕ) (r : Record) (x : Held) : Type 0 where
-  same : sameImage img r ≡ true
-  is-valid : blockState (block s (r .block) img) ≡ valid (x .time) (x .frames) clean
-  fits : fitsRecord s (r .end) (x .frames) ≡ true
+pub record Passed (s : ℕ) (img : List ℕ) (r : Record) (x : Held) : Type 0 where
+  pub same : sameImage img r ≡ true
+  pub is-valid : blockState (block s (r .block) img) ≡ valid (x .time) (x .frames) clean
+  pub fits : fitsRecord s (r .end) (x .frames) ≡ true
 
 held-if : (b : Bool) (t : ℕ) (fs : List Frame) (x : Held) → heldIf b t fs ≡ some x → (b ≡ true) × (record { time = t; frames = fs } ≡ x)
 held-if true t fs x e = (refl, cc)
@@ -58,7 +58,7 @@ held-by : (b : Bool) (img : List ℕ) (r : Record) (x : Held) → heldBy b img r
 held-by true img r x e = (refl, held-in (sizeOf img) (r .end) (blockState (block (sizeOf img) (r .block) img)) x e)
 held-by false img r x e = let z : _≡_ {A = ℕ} 0 1 = cc in absurd (omega arith)
 
-passed : {s : ℕ} {img : List ℕ} {r : Record} {x : Held} → Sized s img → held img r ≡ some x → Passed s img r x
+pub passed : {s : ℕ} {img : List ℕ} {r : Record} {x : Held} → Sized s img → held img r ≡ some x → Passed s img r x
 unfolding held
 passed {s} {img} {r} {x} z e =
     let y : (sameImage img r ≡ true) × Inside (sizeOf img) (r .end) (blockState (block (sizeOf img) (r .block) img)) x = held-by (sameImage img r) img r x e in

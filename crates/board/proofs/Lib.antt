@@ -18,6 +18,7 @@ pub mod PipelineCopy  -- Open, Copy
 pub mod PipelineJob  -- all stages
 pub mod Accepted  -- the job of each accepted call follows its plan
 pub mod Jobs  -- a job in a run
+pub mod Stepping  -- what n step calls of a job have done
 -- ---- mount and format
 pub mod Wiping  -- the blocks that a mount erases
 pub mod Deciding  -- what a mount decides
@@ -42,3 +43,14 @@ pub mod Limits  -- demand 2: room and wear
 pub mod Claiming  -- demand 3
 pub mod CutFormat  -- what a cut format leaves
 pub mod Bench  -- the starred rows
+-- ---- the promise
+pub mod Wording  -- refusal 11, messages and objects in document 01's words
+pub mod Tabling  -- requests, steps and formats are refused by the table's lines
+pub mod TablingMounts  -- mounts are
+pub mod Answering  -- answers: numbers, lines, what they tell
+pub mod Telling  -- the answer tells the record
+pub mod Promising  -- the machine keeps each clause
+pub mod Determining  -- the clauses settle all that a machine shows
+pub mod Clearing  -- programming only clears bits
+pub mod Following  -- the k-th step, demand 3 and a cut format, of any machine that keeps the clauses
+pub mod FollowingPlans  -- demand 2 of it, and the whole promise

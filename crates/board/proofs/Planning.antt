@@ -38,6 +38,9 @@ use Rattle.board.specs.Exec.{exec}
 use Rattle.board.specs.Plan.{framePlan, framedAt}
 use Rattle.board.specs.Table.{frameFor, frameIf, roomRule}
 use Rattle.board.specs.Demand2.{Appends, RequestsPlanned}
+use Rattle.board.specs.Paper.{MessagesExact}
+use Rattle.board.specs.Sentences.{FreshExact}
+use Rattle.board.proofs.Wording.{fresh-exact, messages-exact}
 use Rattle.board.proofs.Images.{Sized, size-of, sized-of}
 use Rattle.board.proofs.Invariant.{StepLands, Ready, InJob}
 use Rattle.board.proofs.Outcomes.{append-worn, append-begins, change-refused, change-goes, end-goes, end-idle, log-short, log-done, serve-put, serve-delete, serve-commit, serve-abort, serve-log, read-none, read-some, request-length, request-host, request-in}
@@ -245,6 +248,7 @@ module _ {s : ℕ} {img : List ℕ} {r : Record} {h : Host} {m : List ℕ} (z : 
       }
 
   pub frame-appends : (reply : List ℕ) → Appends exec img r h m (out (answerOf (jobOf y)) img (jobOf y) reply)
+  unfolding FreshExact MessagesExact
   frame-appends reply =
       let j : Journal (block (sizeOf img) (r .block) img) (x .frames) =
       subst (λ (n : ℕ). Journal (block n (r .block) img) (x .frames)) (sym (size-of z)) (journal-of (holds .alone .contents)) in
@@ -252,8 +256,8 @@ module _ {s : ℕ} {img : List ℕ} {r : Record} {h : Host} {m : List ℕ} (z : 
         holding = x;
         asked = y .asked;
         frame = f;
-        is-held = y .is-held;
-        is-asked = y .is-asked;
+        is-held = fresh-exact img r x by (z .ok) .0 (y .is-held);
+        is-asked = messages-exact m (y .asked) .0 (y .is-asked);
         is-frame = y .is-frame;
         follows = follows-frame img r x f (holds .long) (holds .alone .there) j (sym (holds .ends)) (omega (arith, fitting .fits, size-of z));
         short = frame-short (needsRoom img r f) (sizeOf img) (r .block) (r .end) x f (omega (arith, fitting .fits, size-of z));

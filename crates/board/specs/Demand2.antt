@@ -27,19 +27,16 @@ use Rattle.wire.specs.declared.Parsed.the-variants.{Is}
 use Rattle.wire.specs.Message.{parse, valueIn}
 use Rattle.board.specs.declared.Phase.the-variants.{Idle}
 use Rattle.board.specs.declared.Record.{Record}
+pub use Rattle.board.specs.Record.{Accepted}
 use Rattle.board.specs.Record.{Out, allowed, rest, idle}
 use Rattle.board.specs.Mount.{allFound, Store, needsTransfer}
 use Rattle.board.specs.Queue.{Held, held, needsRoom}
 use Rattle.board.specs.Exec.{Call, request, step, mount, format, Machine}
 use Rattle.board.specs.Plan.{Follows, formatPlan, mountPlan, mountedAt, framePlan, framedAt}
 use Rattle.board.specs.Table.{frameFor}
+use Rattle.board.specs.Paper.{Means}
+use Rattle.board.specs.Sentences.{Fresh}
 use Rattle.board.specs.Claim.{ByteCalls}
-
--- any answer that is no refusal
-abbrev pub Accepted : Answer → Type 0
-Accepted Done = Unit {0}
-Accepted More = Unit {0}
-Accepted (Refused n) = ⊥
 
 -- ---- every image reads as one store
 
@@ -85,8 +82,8 @@ pub record Appends (m : Machine) (img : List ℕ) (r : Record) (h : Host) (msg :
   pub holding : Held
   pub asked : Request
   pub frame : Frame
-  pub is-held : held img r ≡ some holding
-  pub is-asked : parse msg ≡ Is asked
+  pub is-held : Fresh img r holding
+  pub is-asked : Means msg asked
   pub is-frame : frameFor h msg holding asked ≡ some frame
   pub follows : Follows m img (o .board) (framePlan (needsRoom img r frame) (r .block) (r .end) holding frame)
       (framedAt (needsRoom img r frame) (r .last) (r .block) (r .end) holding frame)

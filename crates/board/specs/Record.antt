@@ -149,3 +149,9 @@ answerIn (Busy s) = More
 
 abbrev pub answerOf : Record → Answer
 answerOf r = answerIn (r .phase)
+
+-- any answer that is no refusal
+abbrev pub Accepted : Answer → Type 0
+Accepted Done = Unit {0}
+Accepted More = Unit {0}
+Accepted (Refused n) = ⊥

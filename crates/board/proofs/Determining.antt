@@ -1,0 +1,381 @@
+-- Two machines that keep the promise show the same on every run. Nothing here looks into a machine.
+use mathlib.Core.Path.{_≡_, refl, sym, ap, ap₂, subst, subst₂, _∙_}
+use mathlib.Core.List.{List, [], _∷_}
+use mathlib.Core.Logic.{_⊎_, inl, inr}
+use mathlib.Core.Option.{Option, none, some}
+use mathlib.Core.Bool.{Bool, true, false}
+use Prim.Native.Nat.{ℕ, zero, suc, _-_, _/_, _≤_, _<_}
+use native.Mathlib.Omega.{arith}
+use lib.Dec.{eqb}
+use lib.ListN.{length, getD, take}
+use borrow.Author.Tests.{eqb-true, eqb-false}
+use Rattle.flash.specs.Bytes.{Bytes}
+use Rattle.flash.specs.Flash.{Step, apply, applyAll, block, blocks, sizeOf}
+use Rattle.flash.proofs.Cases.{on-test, clash}
+use Rattle.flash.proofs.Image.{length-apply, bytes-apply}
+use Rattle.frame.specs.declared.Host.{Host}
+use Rattle.frame.specs.Frame.{Frame}
+use Rattle.frame.specs.Reader.{Tail}
+use Rattle.journal.specs.Block.{blockState, valid, headerLen}
+use Rattle.wire.specs.declared.Answer.{Answer}
+use Rattle.wire.specs.declared.Answer.the-variants.{Done, More, Refused}
+use Rattle.wire.specs.declared.Refusal.{Refusal}
+use Rattle.wire.specs.declared.Request.{Request}
+use Rattle.wire.specs.declared.Parsed.{Parsed}
+use Rattle.wire.specs.declared.Parsed.the-variants.{Is, Malformed}
+use Rattle.wire.specs.Answer.{numberOf}
+use Rattle.wire.specs.Message.{parse}
+use Rattle.board.specs.declared.Stage.{Stage}
+use Rattle.board.specs.declared.Phase.{Phase}
+use Rattle.board.specs.declared.Phase.the-variants.{Unmounted, Idle, Busy}
+use Rattle.board.specs.declared.Record.{Record}
+use Rattle.board.specs.Record.{allowed, unmounted, rest, idle, Stretch, noStretch, Out, out, answerIn, answerOf}
+use Rattle.board.specs.Mount.{allFound, Store, needsTransfer, mountOn}
+use Rattle.board.specs.Queue.{Held, held, needsRoom}
+use Rattle.board.specs.Exec.{Call, request, step, mount, format}
+use Rattle.board.specs.Plan.{Follows, formatPlan, mountPlan, mountedAt, framePlan, framedAt}
+use Rattle.board.specs.Table.{frameFor}
+use Rattle.board.specs.Demand1.{Unchanged, Rests}
+use Rattle.board.specs.Demand2.{Accepted}
+use Rattle.board.specs.Claim.{ByteCall, ByteCalls}
+use Rattle.board.specs.Paper.{Means, MessagesExact, MalformedExact}
+use Rattle.board.specs.Sentences.{Line, line, Exactly, Allowed, InJob, Fresh, FreshExact, requestLines, mountLines, linesOf}
+use Rattle.board.specs.Promise.{Machine, NoStep, Tells, replyFor, stretchFor, Answers, Serves, Current, Job, frame-job, mount-job, format-job, Calls, Promise, Shown, restingIn, shownRecord, shown, trace, Begins, PromiseDetermines, PromiseDeterminesFrom, PromiseDeterminesCall}
+use Rattle.board.proofs.Answering.{number-injective, number-accepted, Both, both-taken, both-refused, same-lines, told-answer, whole, whole-is, in-job}
+use Rattle.board.proofs.Tabling.{is-allowed, same-request, same-held}
+use Rattle.board.proofs.TablingMounts.{Mountable, mount-lines, accepted-takes}
+use Rattle.board.proofs.Wording.{fresh-exact, messages-exact, malformed-exact}
+
+-- ---- two machines between calls: the same record in no job, or the same steps to do and then the same idle record
+
+pub data Alike (m n : Machine) (img : List ℕ) (r q : Record) : Type 0 where
+  resting : Rests (q .phase) → r ≡ q → Alike m n img r q
+  working : (x : Step) (xs : List Step) (z : Record) → z .phase ≡ Idle → length (x ∷ xs) ≤ sizeOf img → Follows m img r (x ∷ xs) z
+      → Follows n img q (x ∷ xs) z → Alike m n img r q
+
+more-none : (p : Phase) (r : Record) → answerIn p ≡ More → restingIn p r ≡ none
+more-none Unmounted r e = let w : _≡_ {A = ℕ} 0 1 = cc in absurd (omega arith)
+more-none Idle r e = let w : _≡_ {A = ℕ} 0 1 = cc in absurd (omega arith)
+more-none (Busy s) r e = refl
+
+module _ {m n : Machine} {img : List ℕ} {r q : Record} where
+  alike-shown : Alike m n img r q → shownRecord r ≡ shownRecord q
+  alike-shown (resting h e) = ap shownRecord e
+  alike-shown (working x xs z h l f g) = more-none (r .phase) r (f .0) ∙ sym (more-none (q .phase) q (g .0))
+
+  alike-answer : Alike m n img r q → answerOf r ≡ answerOf q
+  alike-answer (resting h e) = ap answerOf e
+  alike-answer (working x xs z h l f g) = f .0 ∙ sym (g .0)
+
+-- a plan to follow, if it has steps; else the record after it
+alike-plan : {m n : Machine} {img : List ℕ} {r q : Record} (xs : List Step) (z : Record) → z .phase ≡ Idle → length xs ≤ sizeOf img
+    → Follows m img r xs z → Follows n img q xs z → Alike m n img r q
+alike-plan [] z h l f g = resting (subst (λ (y : Record). Rests (y .phase)) (sym g) (subst Rests (sym h) tt)) (f ∙ sym g)
+alike-plan (x ∷ xs) z h l f g = working x xs z h l f g
+
+-- ---- two outcomes
+
+pub record Agree (m n : Machine) (o p : Out) : Type 0 where
+  pub same : shown o ≡ shown p
+  pub image : o .image ≡ p .image
+  pub next : Alike m n (o .image) (o .board) (p .board)
+  pub bytes : Bytes (o .image)
+
+module _ {m n : Machine} where
+  agree-whole : (a b : Answer) (img : List ℕ) (r q : Record) (reply : List ℕ) (st : Stretch) → a ≡ b → Bytes img
+      → Alike m n img r q → Agree m n (whole a img r reply st) (whole b img q reply st)
+  agree-whole a b img r q reply st e by v =
+      record {
+        same = ap₂ (λ (w : Answer) (x : Option Record). record { answer = w; image = img; board = x; reply = reply; stretch = st }) e (alike-shown v);
+        image = refl;
+        next = v;
+        bytes = by;
+      }
+
+  agree-by : {o p o′ p′ : Out} → o ≡ o′ → p ≡ p′ → Agree m n o′ p′ → Agree m n o p
+  agree-by e f y = subst₂ (Agree m n) (sym e) (sym f) y
+
+-- ---- what a machine that keeps the promise gives back
+
+-- a plan's last record is idle
+framed-idle : (b : Bool) (l k end : ℕ) (x : Held) (f : Frame) → framedAt b l k end x f .phase ≡ Idle
+framed-idle true l k end x f = refl
+framed-idle false l k end x f = refl
+
+mounted-idle : (b : Bool) (l : ℕ) (x : Store) → mountedAt b l x .phase ≡ Idle
+mounted-idle true l x = refl
+mounted-idle false l x = refl
+
+-- past the first lines a request has an image and a message that can be told
+pub record Asked (img : List ℕ) (r : Record) (msg : List ℕ) : Type 0 where
+  pub length-ok : allowed (length img) ≡ true
+  pub holding : Held
+  pub asked : Request
+  pub is-held : Fresh img r holding
+  pub is-asked : Means msg asked
+
+allowed-not : (n : ℕ) → ((Allowed n → ⊥) → ⊥) → allowed n ≡ true
+allowed-not n f = on-test (allowed n) (λ t. t) (λ t. absurd (f (λ y. clash (allowed n) (is-allowed n y) t)))
+
+module _ {m : Machine} (p : Calls m) (img : List ℕ) (by : Bytes img) where
+  pub request-asks : (r : Record) (h : Host) (msg reply : List ℕ) → Accepted (m img r (request h msg reply) .answer) → Asked img r msg
+  unfolding FreshExact MessagesExact MalformedExact
+  request-asks r h msg reply a = go (p .table img r (request h msg reply) by)
+    where
+      ans : Answer
+      ans = m img r (request h msg reply) .answer
+
+      parsed : (ok : allowed (length img) ≡ true) (x : Held) → held img r ≡ some x → (((q : Request) → Means msg q → ⊥) → ⊥) → (w : Parsed)
+          → parse msg ≡ w → Asked img r msg
+      parsed ok x e g Malformed w = absurd (g (malformed-exact msg .0 w))
+      parsed ok x e g (Is q) w =
+          record { length-ok = ok; holding = x; asked = q; is-held = fresh-exact img r x by ok .0 e; is-asked = messages-exact msg q .0 w }
+
+      found : (ok : allowed (length img) ≡ true) → (((x : Held) → Fresh img r x → ⊥) → ⊥) → (((q : Request) → Means msg q → ⊥) → ⊥)
+          → (o : Option Held) → held img r ≡ o → Asked img r msg
+      found ok f g none e = absurd (f (λ x y. let w : some x ≡ none = sym (fresh-exact img r x by ok .1 y) ∙ e in let z : _≡_ {A = ℕ} 0 1 = cc in omega arith))
+      found ok f g (some x) e = parsed ok x e g (parse msg) refl
+
+      go : Exactly (requestLines img r h msg reply) ans → Asked img r msg
+      go (inl (_, e)) = absurd (number-accepted ans 3 e a)
+      go (inr (_, inl (_, e))) = absurd (number-accepted ans 9 e a)
+      go (inr (_, inr (_, inl (_, e)))) = absurd (number-accepted ans 4 e a)
+      go (inr (_, inr (_, inr (_, inl (_, e))))) = absurd (number-accepted ans 1 e a)
+      go (inr (_, inr (_, inr (_, inr (_, inl (_, e)))))) = absurd (number-accepted ans 10 e a)
+      go (inr (_, inr (_, inr (_, inr (_, inr (_, inl (_, e))))))) = absurd (number-accepted ans 0 e a)
+      go (inr (l, inr (_, inr (_, inr (_, inr (f, inr (g, _))))))) = found (allowed-not (length img) l) f g (held img r) refl
+
+  -- an accepted mount has a current half to take
+  pub mount-takes : (r : Record) → Accepted (m img r mount .answer) → Mountable img
+  mount-takes r a = go (same-lines (mountLines img) (m img r mount .answer) (mountOn img .answer) (p .table img r mount by) (mount-lines img by))
+    where
+      go : Both (m img r mount .answer) (mountOn img .answer) → Mountable img
+      go (both-refused w e f) = absurd (subst Accepted e a)
+      go (both-taken _ b) = accepted-takes img by b
+
+  pub mount-allowed : (r : Record) → Accepted (m img r mount .answer) → allowed (length img) ≡ true
+  mount-allowed r a = go (p .table img r mount by)
+    where
+      go : Exactly (mountLines img) (m img r mount .answer) → allowed (length img) ≡ true
+      go (inl (_, e)) = absurd (number-accepted (m img r mount .answer) 3 e a)
+      go (inr (f, _)) = allowed-not (length img) f
+
+  -- an accepted mount or format touches nothing
+  takes-mount : (r : Record) → Accepted (m img r mount .answer) → m img r mount ≡ out (answerOf (m img r mount .board)) img (m img r mount .board) []
+  takes-mount r a =
+      let s = p .silent img r mount in
+      whole-is (m img r mount) (told-answer (m img r mount) (p .told img r mount a (λ _. tt)) a) (p .one-step img r mount) refl (s .0) (s .1)
+
+  takes-format : (r : Record) → Accepted (m img r format .answer)
+      → m img r format ≡ out (answerOf (m img r format .board)) img (m img r format .board) []
+  takes-format r a =
+      let s = p .silent img r format in
+      whole-is (m img r format) (told-answer (m img r format) (p .told img r format a (λ _. tt)) a) (p .one-step img r format) refl (s .0) (s .1)
+
+-- ---- each call
+
+module _ {m n : Machine} (pm : Calls m) (pn : Calls n) (img : List ℕ) (by : Bytes img) where
+  -- ---- a request
+
+  does-agree : (r : Record) (h : Host) (msg reply : List ℕ) (x : Held) (q : Request) (f : Option Frame) (o p : Out) → Rests (r .phase)
+      → o .image ≡ img → p .image ≡ img → Answers f r o → Answers f r p → Serves img r h msg reply x q o → Serves img r h msg reply x q p
+      → ((g : Frame) → f ≡ some g → Alike m n img (o .board) (p .board)) → Agree m n o p
+  does-agree r h msg reply x q none o p k i j (a, b) (c, d) s t v =
+      agree-by (whole-is o (number-injective (o .answer) Done a) i b (s .writes) (s .hands-back))
+      (whole-is p (number-injective (p .answer) Done c) j d (t .writes) (t .hands-back))
+      (agree-whole Done Done img r r (replyFor img reply x q) (stretchFor img r x q) refl by (resting k refl))
+  does-agree r h msg reply x q (some f) o p k i j a b s t v =
+      agree-by (whole-is o a i refl (s .writes) (s .hands-back)) (whole-is p b j refl (t .writes) (t .hands-back))
+      (agree-whole More More img (o .board) (p .board) (replyFor img reply x q) (stretchFor img r x q) refl by (v f refl))
+
+  -- the same job
+  job-alike : (r q : Record) (c : Call) (plan : List Step) (z : Record) → ByteCall c → Job img r c plan z → Job img q c plan z → z .phase ≡ Idle
+      → Accepted (m img r c .answer) → Accepted (n img q c .answer) → Alike m n img (m img r c .board) (n img q c .board)
+  job-alike r q c plan z bc j k e a b =
+      let f = pm .jobs img r c plan z by bc j a in alike-plan plan z e (f .1) (f .0) (pn .jobs img q c plan z by bc k b .0)
+
+  request-agrees : (r : Record) (h : Host) (msg reply : List ℕ) → Bytes msg → Rests (r .phase)
+      → Agree m n (m img r (request h msg reply)) (n img r (request h msg reply))
+  request-agrees r h msg reply bm k =
+      go (same-lines (requestLines img r h msg reply) (o .answer) (p .answer) (pm .table img r c by) (pn .table img r c by))
+    where
+      c : Call
+      c = request h msg reply
+
+      o : Out
+      o = m img r c
+
+      p : Out
+      p = n img r c
+
+      go : Both (o .answer) (p .answer) → Agree m n o p
+      go (both-refused w e f) =
+          agree-by (pm .untouched img r c w e) (pn .untouched img r c w f)
+          (agree-whole (Refused w) (Refused w) img r r reply noStretch refl by (resting k refl))
+      go (both-taken a b) =
+          let y : Asked img r msg = request-asks pm img by r h msg reply a in
+          let x : Held = y .holding in
+          let q : Request = y .asked in
+          let s : Serves img r h msg reply x q o = pm .serves img r h msg reply x q by bm (y .is-held) (y .is-asked) a in
+          let t : Serves img r h msg reply x q p = pn .serves img r h msg reply x q by bm (y .is-held) (y .is-asked) b in
+          let job : (f : Frame) → frameFor h msg x q ≡ some f
+          → Job img r c (framePlan (needsRoom img r f) (r .block) (r .end) x f) (framedAt (needsRoom img r f) (r .last) (r .block) (r .end) x f) =
+          λ f e. frame-job h msg reply x q f (y .is-held) (y .is-asked) e in
+          does-agree r h msg reply x q (frameFor h msg x q) o p k (pm .one-step img r c) (pn .one-step img r c) (s .answers) (t .answers) s t
+          (λ f e. job-alike r r c (framePlan (needsRoom img r f) (r .block) (r .end) x f) (framedAt (needsRoom img r f) (r .last) (r .block) (r .end) x f) bm
+          (job f e) (job f e) (framed-idle (needsRoom img r f) (r .last) (r .block) (r .end) x f) a b)
+
+  -- 4, 10 or 5, whatever the record holds
+  abbrev busyLines : Host → List Line
+  busyLines h = line 4 (Allowed (length img) → ⊥) ∷ line 10 (3 < h .0) ∷ line 5 (Unit {0}) ∷ []
+
+  while-busy : (r : Record) (h : Host) (msg reply : List ℕ) (a : Answer) → InJob (r .phase) → Exactly (requestLines img r h msg reply) a
+      → Exactly (busyLines h) a
+  while-busy r h msg reply a j (inl x) = inl x
+  while-busy r h msg reply a j (inr (f, inl x)) = inr (f, inl x)
+  while-busy r h msg reply a j (inr (f, inr (g, inl (_, e)))) = inr (f, inr (g, inl (tt, e)))
+  while-busy r h msg reply a j (inr (f, inr (g, inr (w, _)))) = absurd (w j)
+
+  busy-refuses : (h : Host) (a : Answer) → Exactly (busyLines h) a → Accepted a → ⊥
+  busy-refuses h a (inl (_, e)) y = number-accepted a 3 e y
+  busy-refuses h a (inr (_, inl (_, e))) y = number-accepted a 9 e y
+  busy-refuses h a (inr (_, inr (_, inl (_, e)))) y = number-accepted a 4 e y
+  busy-refuses h a (inr (_, inr (_, inr (f, _)))) y = f tt
+
+  request-busy : (r q : Record) (h : Host) (msg reply : List ℕ) → answerOf r ≡ More → answerOf q ≡ More → Alike m n img r q
+      → Agree m n (m img r (request h msg reply)) (n img q (request h msg reply))
+  request-busy r q h msg reply a b v = go (same-lines (busyLines h) (m img r c .answer) (n img q c .answer) mine its)
+    where
+      c : Call
+      c = request h msg reply
+
+      mine : Exactly (busyLines h) (m img r c .answer)
+      mine = while-busy r h msg reply (m img r c .answer) (in-job (r .phase) a) (pm .table img r c by)
+
+      its : Exactly (busyLines h) (n img q c .answer)
+      its = while-busy q h msg reply (n img q c .answer) (in-job (q .phase) b) (pn .table img q c by)
+
+      go : Both (m img r c .answer) (n img q c .answer) → Agree m n (m img r c) (n img q c)
+      go (both-taken x y) = absurd (busy-refuses h (m img r c .answer) mine x)
+      go (both-refused w e f) =
+          agree-by (pm .untouched img r c w e) (pn .untouched img q c w f)
+          (agree-whole (Refused w) (Refused w) img r q reply noStretch refl by v)
+
+  -- ---- a step
+
+  step-agrees : (r q : Record) → Alike m n img r q → Agree m n (m img r step) (n img q step)
+  step-agrees r q (resting h e) =
+      agree-by (pm .rests img r (subst (λ (y : Record). Rests (y .phase)) (sym e) h)) (pn .rests img q h)
+      (agree-whole Done Done img r q [] noStretch refl by (resting h e))
+  step-agrees r q (working x xs z h l (a, (r′, e, f)) (b, (q′, d, g))) =
+      let after : List ℕ = apply (sizeOf img) x img in
+      let w : sizeOf after ≡ sizeOf img = ap (λ (k : ℕ). k / blocks) (length-apply (sizeOf img) x img) in
+      let v : Alike m n after r′ q′ = alike-plan xs z h (omega (arith, w)) f g in
+      agree-by e d
+      (agree-whole (answerOf r′) (answerOf q′) after r′ q′ [] noStretch (alike-answer v) (bytes-apply (sizeOf img) x img by) v)
+
+  -- ---- a mount
+
+  -- both took the call, and have the same to do
+  agree-takes : (o p : Out) → o ≡ out (answerOf (o .board)) img (o .board) [] → p ≡ out (answerOf (p .board)) img (p .board) []
+      → Alike m n img (o .board) (p .board) → Agree m n o p
+  agree-takes o p e f v =
+      agree-by e f (agree-whole (answerOf (o .board)) (answerOf (p .board)) img (o .board) (p .board) [] noStretch (alike-answer v) by v)
+
+  pub mount-agrees : (r q : Record) → Agree m n (m img r mount) (n img q mount)
+  mount-agrees r q = go (same-lines (mountLines img) (m img r mount .answer) (n img q mount .answer) (pm .table img r mount by) (pn .table img q mount by))
+    where
+      go : Both (m img r mount .answer) (n img q mount .answer) → Agree m n (m img r mount) (n img q mount)
+      go (both-refused w e f) =
+          agree-by (pm .untouched img r mount w e) (pn .untouched img q mount w f)
+          (agree-whole (Refused w) (Refused w) img unmounted unmounted [] noStretch refl by (resting tt refl))
+      go (both-taken a b) =
+          let y : Mountable img = mount-takes pm img by r a in
+          let x : Store = y .store in
+          agree-takes (m img r mount) (n img q mount) (takes-mount pm img by r a) (takes-mount pn img by q b)
+          (job-alike r q mount (mountPlan (allFound img) x) (mountedAt (needsTransfer (x .frames) (x .tail)) (length img - 1) x) tt (mount-job x (y .current))
+          (mount-job x (y .current)) (mounted-idle (needsTransfer (x .frames) (x .tail)) (length img - 1) x) a b)
+
+  -- ---- a format
+
+  pub format-agrees : (r q : Record) → Agree m n (m img r format) (n img q format)
+  format-agrees r q =
+      go (same-lines (linesOf img r format) (m img r format .answer) (n img q format .answer) (pm .table img r format by) (pn .table img q format by))
+    where
+      go : Both (m img r format .answer) (n img q format .answer) → Agree m n (m img r format) (n img q format)
+      go (both-refused w e f) =
+          agree-by (pm .untouched img r format w e) (pn .untouched img q format w f)
+          (agree-whole (Refused w) (Refused w) img unmounted unmounted [] noStretch refl by (resting tt refl))
+      go (both-taken a b) =
+          agree-takes (m img r format) (n img q format) (takes-format pm img by r a) (takes-format pn img by q b)
+          (job-alike r q format (formatPlan img) (idle (rest (length img - 1) 0 headerLen)) tt format-job format-job refl a b)
+
+  pub call-agrees : (r q : Record) → Alike m n img r q → (c : Call) → ByteCall c → Agree m n (m img r c) (n img q c)
+  call-agrees r q (resting h e) (request g msg reply) bm =
+      subst (λ (x : Record). Agree m n (m img x (request g msg reply)) (n img q (request g msg reply))) (sym e) (request-agrees q g msg reply bm h)
+  call-agrees r q (working x xs z h l f g) (request k msg reply) bm = request-busy r q k msg reply (f .0) (g .0) (working x xs z h l f g)
+  call-agrees r q v step bm = step-agrees r q v
+  call-agrees r q v mount bm = mount-agrees r q
+  call-agrees r q v format bm = format-agrees r q
+
+-- ---- every run
+
+module _ {m n : Machine} (pm : Calls m) (pn : Calls n) where
+  agree-run : (o p : Out) → Agree m n o p
+      → (cs : List Call) → trace m (o .image) (o .board) cs ≡ trace n (o .image) (p .board) cs
+      → shown o ∷ trace m (o .image) (o .board) cs ≡ shown p ∷ trace n (p .image) (p .board) cs
+  agree-run o p y cs e =
+      ap₂ (λ (x : Shown) (xs : List Shown). x ∷ xs) (y .same) (e ∙ ap (λ (i : List ℕ). trace n i (p .board) cs) (y .image))
+
+  run-agrees : (img : List ℕ) (r q : Record) → Bytes img → Alike m n img r q → (cs : List Call) → ByteCalls cs → trace m img r cs ≡ trace n img q cs
+  run-agrees img r q by v [] bs = refl
+  run-agrees img r q by v (c ∷ cs) (bc, bs) =
+      let y : Agree m n (m img r c) (n img q c) = call-agrees pm pn img by r q v c bc in
+      agree-run (m img r c) (n img q c) y cs (run-agrees (m img r c .image) (m img r c .board) (n img q c .board) (y .bytes) (y .next) cs bs)
+
+  pub begun-agrees : (img : List ℕ) (r q : Record) (c : Call) → Bytes img → Begins c → Agree m n (m img r c) (n img q c)
+  begun-agrees img r q (request h msg reply) by b = absurd b
+  begun-agrees img r q step by b = absurd b
+  begun-agrees img r q mount by b = mount-agrees pm pn img by r q
+  begun-agrees img r q format by b = format-agrees pm pn img by r q
+
+  -- on any record
+  lone-request : (img : List ℕ) (r : Record) (h : Host) (msg reply : List ℕ) → Bytes img → Bytes msg
+      → shown (m img r (request h msg reply)) ≡ shown (n img r (request h msg reply))
+  lone-request img r h msg reply by bm = go (r .phase) refl
+    where
+      rested : Rests (r .phase) → shown (m img r (request h msg reply)) ≡ shown (n img r (request h msg reply))
+      rested k = request-agrees pm pn img by r h msg reply bm k .same
+
+      busy : (s : Stage) → r .phase ≡ Busy s → Both (m img r (request h msg reply) .answer) (n img r (request h msg reply) .answer)
+          → shown (m img r (request h msg reply)) ≡ shown (n img r (request h msg reply))
+      busy s e (both-refused w a b) =
+          ap shown (pm .untouched img r (request h msg reply) w a) ∙ sym (ap shown (pn .untouched img r (request h msg reply) w b))
+      busy s e (both-taken a b) =
+          absurd (busy-refuses pm pn img by h (m img r (request h msg reply) .answer)
+          (while-busy pm pn img by r h msg reply (m img r (request h msg reply) .answer) (subst InJob (sym e) tt) (pm .table img r (request h msg reply) by)) a)
+
+      go : (p : Phase) → r .phase ≡ p → shown (m img r (request h msg reply)) ≡ shown (n img r (request h msg reply))
+      go Unmounted e = rested (subst Rests (sym e) tt)
+      go Idle e = rested (subst Rests (sym e) tt)
+      go (Busy s) e =
+          busy s e (same-lines (requestLines img r h msg reply) (m img r (request h msg reply) .answer) (n img r (request h msg reply) .answer)
+          (pm .table img r (request h msg reply) by) (pn .table img r (request h msg reply) by))
+
+pub promise-determines : PromiseDetermines
+unfolding PromiseDetermines
+promise-determines m n pm pn img r q c cs by b bs =
+    let y : Agree m n (m img r c) (n img q c) = begun-agrees (pm .calls) (pn .calls) img r q c by b in
+    agree-run (pm .calls) (pn .calls) (m img r c) (n img q c) y cs
+    (run-agrees (pm .calls) (pn .calls) (m img r c .image) (m img r c .board) (n img q c .board) (y .bytes) (y .next) cs bs)
+
+pub promise-determines-from : PromiseDeterminesFrom
+unfolding PromiseDeterminesFrom
+promise-determines-from m n pm pn img r cs by h bs = run-agrees (pm .calls) (pn .calls) img r r by (resting h refl) cs bs
+
+pub promise-determines-call : PromiseDeterminesCall
+unfolding PromiseDeterminesCall
+promise-determines-call m n pm pn img r (request h msg reply) by bc w = lone-request (pm .calls) (pn .calls) img r h msg reply by bc
+promise-determines-call m n pm pn img r step by bc w = absurd w
+promise-determines-call m n pm pn img r mount by bc w = mount-agrees (pm .calls) (pn .calls) img by r r .same
+promise-determines-call m n pm pn img r format by bc w = format-agrees (pm .calls) (pn .calls) img by r r .same

@@ -1,0 +1,248 @@
+-- What follows from the clauses on each call: a machine that keeps them shows what the machine of document 01 does, so that all that is
+-- proved of its runs holds of it too.
+use mathlib.Core.Path.{_≡_, refl, sym, ap, subst, subst₂, _∙_}
+use mathlib.Core.List.{List, [], _∷_}
+use mathlib.Core.Option.{Option, none, some}
+use mathlib.Core.Bool.{Bool, true, false}
+use Prim.Native.Nat.{ℕ, zero, suc, _-_, _≤_, _<_}
+use native.Mathlib.Omega.{arith}
+use lib.ListN.{length, take}
+use Rattle.flash.specs.Bytes.{Bytes}
+use Rattle.flash.specs.Flash.{Step, applyAll, sizeOf}
+use Rattle.flash.proofs.Cases.{on-test}
+use Rattle.frame.specs.declared.Host.{Host}
+use Rattle.frame.specs.Frame.{Frame}
+use Rattle.journal.specs.Replay.{lookup}
+use Rattle.journal.specs.Block.{headerLen}
+use Rattle.wire.specs.declared.Answer.{Answer}
+use Rattle.wire.specs.declared.Answer.the-variants.{Done, More, Refused}
+use Rattle.wire.specs.declared.Refusal.{Refusal}
+use Rattle.wire.specs.declared.Request.{Request}
+use Rattle.wire.specs.declared.Request.the-variants.{Put, Delete, Commit, Abort, Read, Log}
+use Rattle.wire.specs.declared.Parsed.{Parsed}
+use Rattle.wire.specs.declared.Parsed.the-variants.{Is, Malformed}
+use Rattle.wire.specs.Answer.{numberOf}
+use Rattle.wire.specs.Message.{parse}
+use Rattle.board.specs.declared.Phase.{Phase}
+use Rattle.board.specs.declared.Phase.the-variants.{Unmounted, Idle, Busy}
+use Rattle.board.specs.declared.Record.{Record}
+use Rattle.board.specs.Record.{allowed, rest, idle, Out, out, answerIn, answerOf}
+use Rattle.board.specs.Mount.{allFound, Store, needsTransfer, formatOn}
+use Rattle.board.specs.Queue.{Held, needsRoom}
+use Rattle.board.specs.Exec.{Machine, Call, request, step, mount, format, exec}
+use Rattle.board.specs.Plan.{Follows, formatPlan, mountPlan, mountedAt, framePlan, framedAt}
+use Rattle.board.specs.Table.{frameFor}
+use Rattle.board.specs.Demand1.{Rests}
+use Rattle.board.specs.Demand2.{Accepted, Mounts, StepLands, Appends, Formats, Planned, AllPlanned, PlannedFrom}
+use Rattle.board.specs.Book.{Book, firstBook, enterCall}
+use Rattle.board.specs.Claim.{Finishes, AgreesIn, Agrees, ReadSays, RequestSays, MountSays, Says, track, Run, stepsOn, formatted, ByteCall, ByteCalls, Claim}
+use Rattle.board.specs.CutFormat.{Left, afterAll, leftBy, Leaves, CutFormat}
+use Rattle.board.specs.Promise.{Answers, Serves, Current, Job, frame-job, mount-job, format-job, StepsOf, Calls, Promise, Shown, shown}
+use Rattle.board.proofs.Outcomes.{format-length, format-begins}
+use Rattle.board.proofs.Keeping.{more-busy}
+use Rattle.board.proofs.Claiming.{claim}
+use Rattle.board.proofs.CutFormat.{cut-format}
+use Rattle.board.proofs.Demand2.{planned-from}
+use Rattle.board.proofs.Stepping.{follows-steps, follows-part, follows-more}
+use Rattle.board.proofs.Answering.{number-injective, told-answer}
+use Rattle.board.proofs.TablingMounts.{mounts-current}
+use Rattle.board.proofs.Determining.{Alike, resting, working, Agree, Asked, request-asks, call-agrees, format-agrees}
+use Rattle.board.proofs.Promising.{calls}
+use Rattle.board.proofs.Clearing.{only-clears}
+
+-- ---- the k-th step call
+
+done-idle : (z : Record) → z .phase ≡ Idle → numberOf (answerOf z) ≡ some 0
+done-idle z e = ap (λ (p : Phase). numberOf (answerIn p)) e
+
+-- a plan's steps, made by the calls that follow an outcome that tells its record
+plan-steps : (m : Machine) (img : List ℕ) (o : Out) (plan : List Step) (z : Record) → o .image ≡ img → o .answer ≡ answerOf (o .board) → z .phase ≡ Idle
+    → Follows m img (o .board) plan z → StepsOf m img o plan z
+plan-steps m img o plan z i a e f =
+    let g : Follows m (o .image) (o .board) plan z = subst (λ (x : List ℕ). Follows m x (o .board) plan z) (sym i) f in
+    record {
+      images = λ n l. follows-part m (sizeOf img) n plan o z (ap sizeOf i) l g ∙ ap (applyAll (sizeOf img) (take n plan)) i;
+      more = λ n l. follows-more m n plan o z a l g;
+      done = ends plan g;
+      last = lasts plan g;
+    }
+  where
+    ends : (xs : List Step) → Follows m (o .image) (o .board) xs z → numberOf (stepsOn m (length xs) o .answer) ≡ some 0
+    ends [] g = ap numberOf (a ∙ ap answerOf g) ∙ done-idle z e
+    ends (x ∷ xs) g = ap (λ (q : Out). numberOf (q .answer)) (follows-steps m (x ∷ xs) x xs refl (sizeOf img) o z (ap sizeOf i) g) ∙ done-idle z e
+
+    lasts : (xs : List Step) → Follows m (o .image) (o .board) xs z → stepsOn m (length xs) o .board ≡ z
+    lasts [] g = g
+    lasts (x ∷ xs) g = ap (λ (q : Out). q .board) (follows-steps m (x ∷ xs) x xs refl (sizeOf img) o z (ap sizeOf i) g)
+
+framed-idle : (b : Bool) (l k end : ℕ) (x : Held) (f : Frame) → framedAt b l k end x f .phase ≡ Idle
+framed-idle true l k end x f = refl
+framed-idle false l k end x f = refl
+
+mounted-idle : (b : Bool) (l : ℕ) (x : Store) → mountedAt b l x .phase ≡ Idle
+mounted-idle true l x = refl
+mounted-idle false l x = refl
+
+job-idle : {img : List ℕ} {r : Record} {c : Call} {plan : List Step} {z : Record} → Job img r c plan z → z .phase ≡ Idle
+job-idle {img} {r} (frame-job h msg reply x q f v k g) = framed-idle (needsRoom img r f) (r .last) (r .block) (r .end) x f
+job-idle {img} (mount-job x v) = mounted-idle (needsTransfer (x .frames) (x .tail)) (length img - 1) x
+job-idle format-job = refl
+
+module _ {m : Machine} (p : Calls m) where
+  -- a job is no step's
+  job-image : {img : List ℕ} {r : Record} {c : Call} {plan : List Step} {z : Record} → Job img r c plan z → m img r c .image ≡ img
+  job-image {img} {r} (frame-job h msg reply x q f v k g) = p .one-step img r (request h msg reply)
+  job-image {img} {r} (mount-job x v) = p .one-step img r mount
+  job-image {img} {r} format-job = p .one-step img r format
+
+  job-tells : {img : List ℕ} {r : Record} {c : Call} {plan : List Step} {z : Record} → Job img r c plan z → Accepted (m img r c .answer)
+      → m img r c .answer ≡ answerOf (m img r c .board)
+  job-tells {img} {r} {c} (frame-job h msg reply x q f v k g) a = told-answer (m img r c) (p .told img r c a (λ _. tt)) a
+  job-tells {img} {r} {c} (mount-job x v) a = told-answer (m img r c) (p .told img r c a (λ _. tt)) a
+  job-tells {img} {r} {c} format-job a = told-answer (m img r c) (p .told img r c a (λ _. tt)) a
+
+  pub job-steps : (img : List ℕ) (r : Record) (c : Call) (plan : List Step) (z : Record) → Bytes img → ByteCall c → Job img r c plan z
+      → Accepted (m img r c .answer) → StepsOf m img (m img r c) plan z
+  job-steps img r c plan z by bc j a =
+      plan-steps m img (m img r c) plan z (job-image j) (job-tells j a) (job-idle j) (p .jobs img r c plan z by bc j a .0)
+
+-- ---- what a call says is what it shows
+
+abbrev outOf : Shown → Record → Out
+outOf s r = record { answer = s .answer; image = s .image; board = r; reply = s .reply; stretch = s .stretch }
+
+read-shown : (s : Shown) (r q : Record) (v : Option (List ℕ)) → ReadSays (outOf s r) v → ReadSays (outOf s q) v
+read-shown s r q none y = y
+read-shown s r q (some v) y = y
+
+request-shown : (w : Parsed) (reply : List ℕ) (s : Shown) (r q : Record) (b : Book) → RequestSays w reply (outOf s r) b → RequestSays w reply (outOf s q) b
+request-shown Malformed reply s r q b y = y
+request-shown (Is (Put i)) reply s r q b y = tt
+request-shown (Is (Delete i)) reply s r q b y = tt
+request-shown (Is Commit) reply s r q b y = tt
+request-shown (Is Abort) reply s r q b y = tt
+request-shown (Is (Read i)) reply s r q b y = read-shown s r q (lookup i (b .objects)) y
+request-shown (Is (Log g)) reply s r q b y = y
+
+-- a record that is idle here is idle there
+says-over : (img : List ℕ) (r q : Record) (b : Book) (u : Bool) (c : Call) (o p : Out) → shown o ≡ shown p → (r .phase ≡ Idle → q .phase ≡ Idle)
+    → Says img q b u c p → Says img r b u c o
+says-over img r q b u (request h msg reply) o p e f (x, y, z) =
+    let a : o .answer ≡ p .answer = ap (λ (s : Shown). s .answer) e in (
+      (λ g. x (sym a ∙ g)),
+      (λ g. y (sym a ∙ g)),
+      (λ i k. request-shown (parse msg) reply (shown o) (p .board) (o .board) b
+          (subst (λ (s : Shown). RequestSays (parse msg) reply (outOf s (p .board)) b) (sym e) (z (f i) k))),
+    )
+says-over img r q b u step o p e f y = λ n g. y n (sym (ap (λ (s : Shown). s .answer) e) ∙ g)
+says-over img r q b u mount o p e f y =
+    let a : o .answer ≡ p .answer = ap (λ (s : Shown). s .answer) e in
+    record {
+      never-foreign = λ g. y .never-foreign (sym a ∙ g);
+      never-length = λ g. y .never-length (sym a ∙ g);
+      no-store = λ g. y .no-store (sym a ∙ g);
+      worn = λ g. y .worn (sym a ∙ g);
+    }
+says-over img r q b u format o p e f y = ap (λ (s : Shown). s .answer) e ∙ y
+
+-- ---- runs
+
+module _ {m : Machine} (p : Calls m) where
+  abbrev Same : List ℕ → Record → Record → Type 0
+  Same img r q = Alike m exec img r q
+
+  abbrev Both : Out → Out → Type 0
+  Both o x = Agree m exec o x
+
+  same-idle : {img : List ℕ} {r q : Record} → Same img r q → r .phase ≡ Idle → q .phase ≡ Idle
+  same-idle (resting h e) i = sym (ap (λ (x : Record). x .phase) e) ∙ i
+  same-idle (working x xs z h l f g) i = let w : Done ≡ More = sym (ap answerIn i) ∙ f .0 in let v : _≡_ {A = ℕ} 0 1 = cc in absurd (omega arith)
+
+  idle-same : {img : List ℕ} {r q : Record} → Same img r q → q .phase ≡ Idle → r .phase ≡ Idle
+  idle-same (resting h e) i = ap (λ (x : Record). x .phase) e ∙ i
+  idle-same (working x xs z h l f g) i = let w : Done ≡ More = sym (ap answerIn i) ∙ g .0 in let v : _≡_ {A = ℕ} 0 1 = cc in absurd (omega arith)
+
+  at-rest : (s : Phase) (img : List ℕ) (q : Record) (b : Book) → Rests s → AgreesIn exec s img q b → AgreesIn m s img q b
+  at-rest Unmounted img q b h y = y
+  at-rest Idle img q b h y = y
+  at-rest (Busy s) img q b h y = absurd h
+
+  agrees-over : (img : List ℕ) (r q : Record) (b : Book) → Same img r q → Agrees exec img q b → Agrees m img r b
+  agrees-over img r q b (resting h e) y = subst (λ (x : Record). Agrees m img x b) (sym e) (at-rest (q .phase) img q b h y)
+  agrees-over img r q b (working x xs z h l f g) y =
+      subst (λ (s : Phase). AgreesIn m s img r b) (sym (more-busy (r .phase) (f .0) .is))
+      (record { plan = x ∷ xs; last = z; follows = f; rests = h; short = l })
+
+  answers-over : {o x : Out} → Both o x → o .answer ≡ x .answer
+  answers-over y = ap (λ (s : Shown). s .answer) (y .same)
+
+  run-over : (img : List ℕ) (r q : Record) (b : Book) (u : Bool) → Bytes img → Same img r q → (cs : List Call) → ByteCalls cs → Run exec img q b u cs
+      → Run m img r b u cs
+  run-over img r q b u by v [] bs y = agrees-over img r q b v y
+  run-over img r q b u by v (c ∷ cs) (bc, bs) (y, s, z) =
+      let o : Out = m img r c in
+      let x : Out = exec img q c in
+      let w : Both o x = call-agrees p calls img by r q v c bc in (
+        agrees-over img r q b v y,
+        says-over img r q b u c o x (w .same) (same-idle v) s,
+        run-over (o .image) (o .board) (x .board) (enterCall b c (o .answer)) (track u b c (o .answer)) (w .bytes) (w .next) cs bs
+            (subst₂ (λ (i : List ℕ) (a : Answer). Run exec i (x .board) (enterCall b c a) (track u b c a) cs) (sym (w .image)) (sym (answers-over w)) z),
+      )
+
+  steps-over : (n : ℕ) (o x : Out) → Both o x → Both (stepsOn m n o) (stepsOn exec n x)
+  steps-over zero o x w = w
+  steps-over (suc n) o x w =
+      steps-over n (m (o .image) (o .board) step) (exec (x .image) (x .board) step)
+      (subst (λ (i : List ℕ). Both (m (o .image) (o .board) step) (exec i (x .board) step)) (w .image)
+      (call-agrees p calls (o .image) (w .bytes) (o .board) (x .board) (w .next) step tt))
+
+  formatted-over : (img : List ℕ) (r : Record) → Bytes img → Both (formatted m img r) (formatted exec img r)
+  formatted-over img r by = steps-over 12 (m img r format) (exec img r format) (format-agrees p calls img by r r)
+
+  pub claim-of : Claim m
+  unfolding Claim
+  claim-of img r by ok =
+      let w : Both (formatted m img r) (formatted exec img r) = formatted-over img r by in
+      let y = claim img r by ok in (
+        answers-over w ∙ y .0,
+        idle-same (w .next) (y .1),
+        (λ cs bs. run-over (formatted m img r .image) (formatted m img r .board) (formatted exec img r .board) firstBook false (w .bytes) (w .next) cs bs
+            (subst (λ (i : List ℕ). Run exec i (formatted exec img r .board) firstBook false cs) (sym (w .image)) (y .2 cs bs))),
+      )
+
+  -- ---- what calls leave
+
+  record SameLeft (l k : Left) : Type 0 where
+    image : l .image ≡ k .image
+    book : l .book ≡ k .book
+    next : Same (l .image) (l .board) (k .board)
+    bytes : Bytes (l .image)
+
+  left-over : (img : List ℕ) (r q : Record) (b : Book) → Bytes img → Same img r q → (cs : List Call) → ByteCalls cs
+      → SameLeft (afterAll m img r b cs) (afterAll exec img q b cs)
+  left-over img r q b by v [] bs = record { image = refl; book = refl; next = v; bytes = by }
+  left-over img r q b by v (c ∷ cs) (bc, bs) =
+      let o : Out = m img r c in
+      let x : Out = exec img q c in
+      let w : Both o x = call-agrees p calls img by r q v c bc in
+      subst₂ (λ (i : List ℕ) (a : Answer). SameLeft (afterAll m (o .image) (o .board) (enterCall b c (o .answer)) cs)
+      (afterAll exec i (x .board) (enterCall b c a) cs)) (w .image) (answers-over w)
+      (left-over (o .image) (o .board) (x .board) (enterCall b c (o .answer)) (w .bytes) (w .next) cs bs)
+
+  left-by : (img : List ℕ) (r : Record) → Bytes img → (cs : List Call) → ByteCalls cs → SameLeft (leftBy m img r cs) (leftBy exec img r cs)
+  left-by img r by cs bs =
+      let w : Both (formatted m img r) (formatted exec img r) = formatted-over img r by in
+      subst (λ (i : List ℕ). SameLeft (leftBy m img r cs) (afterAll exec i (formatted exec img r .board) firstBook cs)) (w .image)
+      (left-over (formatted m img r .image) (formatted m img r .board) (formatted exec img r .board) firstBook (w .bytes) (w .next) cs bs)
+
+  pub cut-format-of : CutFormat m
+  unfolding CutFormat
+  cut-format-of img r cs j by ok bs h =
+      let l : Left = leftBy m img r cs in
+      let k : Left = leftBy exec img r cs in
+      let s : SameLeft l k = left-by img r by cs bs in
+      let w : Both (stepsOn m j (m (l .image) (l .board) format)) (stepsOn exec j (exec (l .image) (k .board) format)) =
+      steps-over j (m (l .image) (l .board) format) (exec (l .image) (k .board) format) (format-agrees p calls (l .image) (s .bytes) (l .board) (k .board)) in
+      let e : stepsOn exec j (exec (k .image) (k .board) format) .image ≡ stepsOn m j (m (l .image) (l .board) format) .image =
+      ap (λ (i : List ℕ). stepsOn exec j (exec i (k .board) format) .image) (sym (s .image)) ∙ sym (w .image) in
+      subst₂ (λ (b : Book) (i : List ℕ). Leaves (b .objects) j i) (sym (s .book)) e (cut-format img r cs j by ok bs h)

@@ -1,0 +1,248 @@
+-- The machine keeps each clause of the promise.
+use mathlib.Core.Path.{_≡_, refl, sym, ap, ap₂, subst, subst₂, _∙_}
+use mathlib.Core.List.{List, [], _∷_}
+use mathlib.Core.Option.{Option, none, some}
+use mathlib.Core.Bool.{Bool, true, false, _&&_}
+use Prim.Native.Nat.{ℕ, _-_, _≤_}
+use native.Mathlib.Omega.{arith}
+use lib.Dec.{eqb, ltb, leb}
+use lib.ListN.{length}
+use borrow.Author.Tests.{leb-true}
+use Rattle.flash.specs.Bytes.{Bytes}
+use Rattle.flash.specs.Flash.{Step, sizeOf}
+use Rattle.flash.proofs.Cases.{on-test}
+use Rattle.frame.specs.declared.Host.{Host}
+use Rattle.frame.specs.declared.ObjectId.{ObjectId}
+use Rattle.frame.specs.Frame.{hostMax, Change, put, delete, Frame, change, commit, abort}
+use Rattle.journal.specs.Replay.{replay, lookup, isOpen}
+use Rattle.journal.specs.Block.{lastTime, headerLen}
+use Rattle.journal.specs.Room.{noRoom}
+use Rattle.wire.specs.declared.Answer.the-variants.{Done, More, Refused}
+use Rattle.wire.specs.declared.Refusal.{Refusal}
+use Rattle.wire.specs.declared.Refusal.the-variants as refusal
+use Rattle.wire.specs.declared.Page.the-variants.{Summary}
+use Rattle.wire.specs.declared.Request.{Request}
+use Rattle.wire.specs.declared.Request.the-variants.{Put, Delete, Commit, Abort, Read, Log}
+use Rattle.wire.specs.declared.Parsed.the-variants.{Is}
+use Rattle.wire.specs.Answer.{numberOf}
+use Rattle.wire.specs.Message.{parse, valueIn, pageLen}
+use Rattle.board.specs.declared.Phase.{Phase}
+use Rattle.board.specs.declared.Phase.the-variants.{Unmounted, Idle, Busy}
+use Rattle.board.specs.declared.Record.{Record}
+use Rattle.board.specs.Record.{allowed, rest, idle, noStretch, Out, out, refuse, answerOf}
+use Rattle.board.specs.Mount.{allFound, Store, needsTransfer, mountOn, formatOn}
+use Rattle.board.specs.Queue.{Held, held, needsRoom, append, serve, serveChange, serveEnd, requestOn}
+use Rattle.board.specs.Exec.{Call, request, step, mount, format, exec}
+use Rattle.board.specs.Plan.{Follows, formatPlan, mountPlan, mountedAt, framePlan, framedAt}
+use Rattle.board.specs.Table.{frameFor, frameIf, roomRule}
+use Rattle.board.specs.Demand1.{RefusalsUntouched, AtMostOneStep, ForgedEnds}
+use Rattle.board.specs.Demand2.{Accepted, Appends, Mounts, OneStore, RequestsPlanned}
+use Rattle.board.specs.Claim.{ByteCall}
+use Rattle.board.specs.Paper.{Means, MessagesExact}
+use Rattle.board.specs.Sentences.{Fresh, FreshExact, Exactly, linesOf}
+use Rattle.board.specs.Promise.{Answers, replyFor, stretchFor, Serves, Current, Job, frame-job, mount-job, format-job, Calls}
+use Rattle.board.proofs.Images.{sized-of}
+use Rattle.board.proofs.Refusals.{refusals-untouched, at-most-one-step}
+use Rattle.board.proofs.Ending.{forged-ends}
+use Rattle.board.proofs.Demand2.{one-store, formats}
+use Rattle.board.proofs.Outcomes.{append-worn, append-begins, change-refused, change-goes, end-goes, end-idle, log-short, log-done, serve-put, serve-delete, serve-commit, serve-abort, serve-log, read-none, read-some, request-length, request-host, request-busy, request-unmounted, request-served, mount-length, format-length, step-resting}
+use Rattle.board.proofs.Planning.{Asked, jobOf, frame-begins, requests-planned, the-frame}
+use Rattle.board.proofs.Lengths.{length-format}
+use Rattle.board.proofs.Wording.{fresh-exact, messages-exact}
+use Rattle.board.proofs.Tabling.{request-lines, step-lines, format-lines, same-request, same-held}
+use Rattle.board.proofs.TablingMounts.{mount-lines, same-store, mounts-current}
+use Rattle.board.proofs.Answering.{whole}
+use Rattle.board.proofs.Telling.{told, silent}
+
+-- ---- accepted requests
+
+module _ (img : List ℕ) (r : Record) (h : Host) (m reply : List ℕ) (by : Bytes img) (bm : Bytes m) (x : Held) (e : held img r ≡ some x)
+    (q : Request) (p : parse m ≡ Is q) where
+  abbrev Meets : Out → Type 0
+  Meets o = Accepted (o .answer) → Serves img r h m reply x q o
+
+  over : {o o′ : Out} → o ≡ o′ → Meets o′ → Meets o
+  over d y = subst Meets (sym d) y
+
+  turned-down : {o : Out} (n : Refusal) → o ≡ refuse n img r reply → Meets o
+  turned-down n d a = absurd (subst Accepted (ap (λ (o : Out). o .answer) d) a)
+
+  at-once : (o : Out) → o ≡ whole Done img r (replyFor img reply x q) (stretchFor img r x q) → frameFor h m x q ≡ none → Meets o
+  at-once o d n a =
+      record {
+        answers = subst (λ (f : Option Frame). Answers f r o) (sym n) (ap (λ (y : Out). numberOf (y .answer)) d, ap (λ (y : Out). y .board) d);
+        writes = ap (λ (y : Out). y .reply) d;
+        hands-back = ap (λ (y : Out). y .stretch) d;
+      }
+
+  begun : (o : Out) (y : Asked img r h m) → o ≡ out (answerOf (jobOf y)) img (jobOf y) reply → (f : Frame) → frameFor h m x q ≡ some f
+      → reply ≡ replyFor img reply x q → noStretch ≡ stretchFor img r x q → Meets o
+  begun o y d f g u v a =
+      record {
+        answers = subst (λ (k : Option Frame). Answers k r o) (sym g)
+            (ap (λ (k : Out). k .answer) d ∙ frame-begins (sized-of img (y .length-ok)) by bm y .0);
+        writes = ap (λ (k : Out). k .reply) d ∙ u;
+        hands-back = ap (λ (k : Out). k .stretch) d ∙ v;
+      }
+
+  module _ (a : allowed (length img) ≡ true) (k : h .0 ≤ hostMax) where
+    append-met : (f : Frame) → frameFor h m x q ≡ some f → roomRule (sizeOf img) h m x q ≡ false → reply ≡ replyFor img reply x q
+        → noStretch ≡ stretchFor img r x q → Meets (append img r reply x f)
+    append-met f g n u v =
+        on-test (needsRoom img r f && eqb (x .time) lastTime)
+        (λ t. turned-down refusal.Worn (append-worn img r reply x f t))
+        (λ t. begun (append img r reply x f)
+        (record {
+          holding = x;
+          asked = q;
+          frame = f;
+          length-ok = a;
+          host-ok = k;
+          is-held = e;
+          is-asked = p;
+          is-frame = g;
+          has-room = n;
+          not-worn = t;
+        })
+        (append-begins img r reply x f t) f g u v)
+
+    change-met : (c : Change) → frameFor h m x q ≡ some (change h c) → roomRule (sizeOf img) h m x q ≡ noRoom (sizeOf img) (replay (x .frames)) h c
+        → reply ≡ replyFor img reply x q → noStretch ≡ stretchFor img r x q → Meets (serveChange img r reply h x c)
+    change-met c g n u v =
+        on-test (noRoom (sizeOf img) (replay (x .frames)) h c)
+        (λ t. turned-down refusal.NoRoom (change-refused img r reply h x c t))
+        (λ t. over (change-goes img r reply h x c t) (append-met (change h c) g (n ∙ t) u v))
+
+    end-met : (f : Frame) → frameFor h m x q ≡ frameIf (isOpen h (replay (x .frames) .pending)) f → roomRule (sizeOf img) h m x q ≡ false
+        → reply ≡ replyFor img reply x q → noStretch ≡ stretchFor img r x q → Meets (serveEnd img r reply h x f)
+    end-met f g n u v =
+        on-test (isOpen h (replay (x .frames) .pending))
+        (λ t. over (end-goes img r reply h x f t) (append-met f (g ∙ ap (λ (b : Bool). frameIf b f) t) n u v))
+        (λ t. at-once (serveEnd img r reply h x f) (end-idle img r reply h x f t ∙ ap₂ (whole Done img r) u v) (g ∙ ap (λ (b : Bool). frameIf b f) t))
+
+module _ (img : List ℕ) (r : Record) (h : Host) (m reply : List ℕ) (by : Bytes img) (bm : Bytes m) (x : Held) (e : held img r ≡ some x) where
+  abbrev Met : Request → Out → Type 0
+  Met q o = Accepted (o .answer) → Serves img r h m reply x q o
+
+  read-met : (i : ObjectId) → parse m ≡ Is (Read i) → (v : Option (List ℕ)) → lookup i (replay (x .frames) .objects) ≡ v
+      → Met (Read i) (serve img r reply h m x (Read i))
+  read-met i p none l = turned-down img r h m reply by bm x e (Read i) p refusal.NoObject (read-none img r reply h m x i l)
+  read-met i p (some v) l = at-once img r h m reply by bm x e (Read i) p (serve img r reply h m x (Read i)) (read-some img r reply h m x i v l) refl
+
+  log-met : parse m ≡ Is (Log Summary) → Met (Log Summary) (serve img r reply h m x (Log Summary))
+  log-met p =
+      over img r h m reply by bm x e (Log Summary) p (serve-log img r reply h m x)
+      (on-test (ltb (length reply) pageLen)
+      (λ t. turned-down img r h m reply by bm x e (Log Summary) p refusal.ShortReply (log-short img r reply x t))
+      (λ t. at-once img r h m reply by bm x e (Log Summary) p _ (log-done img r reply x t) refl))
+
+  serve-met : allowed (length img) ≡ true → h .0 ≤ hostMax → (q : Request) → parse m ≡ Is q → Met q (serve img r reply h m x q)
+  serve-met a k (Put i) p =
+      over img r h m reply by bm x e (Put i) p (serve-put img r reply h m x i)
+      (change-met img r h m reply by bm x e (Put i) p a k (put i (valueIn m)) refl refl refl refl)
+  serve-met a k (Delete i) p =
+      over img r h m reply by bm x e (Delete i) p (serve-delete img r reply h m x i)
+      (change-met img r h m reply by bm x e (Delete i) p a k (delete i) refl refl refl refl)
+  serve-met a k Commit p =
+      over img r h m reply by bm x e Commit p (serve-commit img r reply h m x) (end-met img r h m reply by bm x e Commit p a k (commit h) refl refl refl refl)
+  serve-met a k Abort p =
+      over img r h m reply by bm x e Abort p (serve-abort img r reply h m x) (end-met img r h m reply by bm x e Abort p a k (abort h) refl refl refl refl)
+  serve-met a k (Read i) p = read-met i p (lookup i (replay (x .frames) .objects)) refl
+  serve-met a k (Log Summary) p = log-met p
+
+  request-met : (q : Request) → parse m ≡ Is q → Met q (requestOn img r reply h m)
+  request-met q p =
+      on-test (allowed (length img))
+      (λ a. on-test (leb (h .0) hostMax) (λ k. phased a k (r .phase) refl) (λ k. turned refusal.HostRange (request-host img r reply h m a k)))
+      (λ a. turned refusal.ImageLength (request-length img r reply h m a))
+    where
+      turned : (n : Refusal) → requestOn img r reply h m ≡ refuse n img r reply → Met q (requestOn img r reply h m)
+      turned n d = turned-down img r h m reply by bm x e q p n d
+
+      phased : allowed (length img) ≡ true → leb (h .0) hostMax ≡ true → (s : Phase) → r .phase ≡ s → Met q (requestOn img r reply h m)
+      phased a k (Busy s) d = turned refusal.Busy (request-busy img r reply h m a k s d)
+      phased a k Unmounted d = turned refusal.NoStore (request-unmounted img r reply h m a k d)
+      phased a k Idle d =
+          over img r h m reply by bm x e q p (request-served img r reply h m a k x q d e p) (serve-met a (leb-true (h .0) hostMax k) q p)
+
+serves : (img : List ℕ) (r : Record) (h : Host) (m reply : List ℕ) (x : Held) (q : Request) → Bytes img → Bytes m → Fresh img r x → Means m q
+    → Accepted (exec img r (request h m reply) .answer) → Serves img r h m reply x q (exec img r (request h m reply))
+unfolding FreshExact MessagesExact
+serves img r h m reply x q by bm f k a =
+    on-test (allowed (length img))
+    (λ ok. request-met img r h m reply by bm x (fresh-exact img r x by ok .1 f) q (messages-exact m q .1 k) a)
+    (λ no. absurd (subst Accepted (ap (λ (o : Out). o .answer) (request-length img r reply h m no)) a))
+
+-- ---- jobs
+
+-- the steps of a job, and how many
+abbrev Does : List ℕ → Record → List Step → Record → Type 0
+Does img r plan z = Follows exec img r plan z × (length plan ≤ sizeOf img)
+
+-- the frame that a job appends is the one asked for
+abbrev Plans : List ℕ → Record → Out → Held → Frame → Type 0
+Plans img r o x f =
+    Does img (o .board) (framePlan (needsRoom img r f) (r .block) (r .end) x f) (framedAt (needsRoom img r f) (r .last) (r .block) (r .end) x f)
+
+module _ (img : List ℕ) (r : Record) (by : Bytes img) where
+  frame-does : (h : Host) (m reply : List ℕ) (x : Held) (q : Request) (f : Frame) → Bytes m → Fresh img r x → Means m q → frameFor h m x q ≡ some f
+      → Accepted (exec img r (request h m reply) .answer) → Plans img r (exec img r (request h m reply)) x f
+  unfolding RequestsPlanned
+  frame-does h m reply x q f bm v k g a =
+      let o : Out = exec img r (request h m reply) in
+      let t : o .answer ≡ More = subst (λ (n : Option Frame). Answers n r o) g (serves img r h m reply x q by bm v k a .answers) in
+      let w : Appends exec img r h m o = requests-planned img r h m reply by bm t in
+      let c : w .holding ≡ x =
+      on-test (allowed (length img))
+      (λ ok. same-held img r by ok (w .holding) x (w .is-held) v)
+      (λ no. absurd (subst Accepted (ap (λ (y : Out). y .answer) (request-length img r reply h m no)) a)) in
+      let d : w .asked ≡ q = same-request m (w .asked) q (w .is-asked) k in
+      let e : w .frame ≡ f = the-frame (sym (w .is-frame) ∙ ap₂ (frameFor h m) c d ∙ g) in
+      subst₂ (Plans img r o) c e (w .follows, w .short)
+
+  mount-does : (x : Store) → Current img x → Accepted (mountOn img .answer)
+      → Does img (mountOn img .board) (mountPlan (allFound img) x) (mountedAt (needsTransfer (x .frames) (x .tail)) (length img - 1) x)
+  unfolding OneStore
+  mount-does x v a =
+      on-test (allowed (length img))
+      (λ ok.
+      let y : Mounts exec img (mountOn img) = one-store img r by ok a in
+      let e : y .store ≡ x = same-store img by ok (y .store) x (mounts-current img by ok (mountOn img) y) v in
+      subst (λ (s : Store). Does img (mountOn img .board) (mountPlan (allFound img) s) (mountedAt (needsTransfer (s .frames) (s .tail)) (length img - 1) s)) e
+      (subst (Follows exec img (mountOn img .board) (mountPlan (allFound img) (y .store))) (y .is-last) (y .follows), y .short))
+      (λ no. absurd (subst (λ (o : Out). Accepted (o .answer)) (mount-length img no) a))
+
+  format-does : Accepted (formatOn img .answer) → Does img (formatOn img .board) (formatPlan img) (idle (rest (length img - 1) 0 headerLen))
+  format-does a =
+      on-test (allowed (length img))
+      (λ ok. (formats img ok .follows, omega (arith, length-format img, sized-of img ok .low)))
+      (λ no. absurd (subst (λ (o : Out). Accepted (o .answer)) (format-length img no) a))
+
+  job-does : (c : Call) (plan : List Step) (z : Record) → ByteCall c → Job img r c plan z → Accepted (exec img r c .answer)
+      → Does img (exec img r c .board) plan z
+  job-does c plan z bc (frame-job h m reply x q f v k g) a = frame-does h m reply x q f bc v k g a
+  job-does c plan z bc (mount-job x v) a = mount-does x v a
+  job-does c plan z bc format-job a = format-does a
+
+-- ---- every call
+
+by-lines : (img : List ℕ) (r : Record) (c : Call) → Bytes img → Exactly (linesOf img r c) (exec img r c .answer)
+by-lines img r (request h msg reply) by = request-lines img r h msg reply by
+by-lines img r step by = step-lines img r
+by-lines img r mount by = mount-lines img by
+by-lines img r format by = format-lines img r
+
+pub calls : Calls exec
+unfolding RefusalsUntouched AtMostOneStep ForgedEnds
+calls =
+    record {
+      table = by-lines;
+      untouched = refusals-untouched;
+      told = told;
+      rests = step-resting;
+      one-step = at-most-one-step;
+      silent = silent;
+      serves = serves;
+      jobs = λ img r c plan z by bc j a. job-does img r by c plan z bc j a;
+      ends = forged-ends;
+    }

@@ -1,0 +1,356 @@
+-- The machine refuses exactly as the table's lines say.
+use mathlib.Core.Path.{_≡_, refl, sym, ap, ap₂, subst, _∙_}
+use mathlib.Core.List.{List, [], _∷_, _++_}
+use mathlib.Core.Logic.{_⊎_, inl, inr}
+use mathlib.Core.Option.{Option, none, some}
+use mathlib.Core.Bool.{Bool, true, false, _&&_, not}
+use Prim.Native.Nat.{ℕ, suc, _+_, _*_, _%_, _≤_, _<_}
+use native.Mathlib.Omega.{arith}
+use lib.Dec.{eqb, ltb, leb}
+use lib.ListN.{length}
+use borrow.Author.Tests.{eqb-true, eqb-false, eq-eqb, leb-true, le-leb, ltb-true, ltb-false, lt-ltb, le-ltb}
+use Rattle.flash.specs.Bytes.{Bytes}
+use Rattle.flash.specs.Flash.{Step, blocks, block, sizeOf, blockOf, offsetOf, within}
+use Rattle.flash.proofs.Cases.{on-test, clash, and-both, and-left, and-right, and-no-left, and-no-right}
+use Rattle.flash.proofs.Image.{bytes-block}
+use Rattle.frame.specs.declared.Fault.{Fault}
+use Rattle.frame.specs.declared.Host.{Host}
+use Rattle.frame.specs.declared.ObjectId.{ObjectId}
+use Rattle.frame.specs.Frame.{Frame, change, put, delete, frameLen, hostMax, endLen}
+use Rattle.frame.specs.Reader.{Tail, clean, cut, bad}
+use Rattle.journal.specs.Replay.{Entry, replay, entry, lookup}
+use Rattle.journal.specs.Block.{BlockState, valid, foreign, blockState, lastTime, headerLen}
+use Rattle.journal.specs.Room.{claimed, openHosts, noRoom}
+use Rattle.journal.specs.Sentences.{ValidBlock, ForeignBlock}
+use Rattle.journal.proofs.Sentences.{states-exact}
+use Rattle.wire.specs.declared.Answer.{Answer}
+use Rattle.wire.specs.declared.Answer.the-variants.{Done, More, Refused}
+use Rattle.wire.specs.declared.Refusal.{Refusal}
+use Rattle.wire.specs.declared.Refusal.the-variants as refusal
+use Rattle.wire.specs.declared.Request.{Request}
+use Rattle.wire.specs.declared.Request.the-variants.{Put, Delete, Commit, Abort, Read, Log}
+use Rattle.wire.specs.declared.Parsed.{Parsed}
+use Rattle.wire.specs.declared.Parsed.the-variants.{Is, Malformed}
+use Rattle.wire.specs.Answer.{numberOf, refusalNumber}
+use Rattle.wire.specs.Message.{parse, valueIn, pageLen}
+use Rattle.board.specs.declared.Stage.{Stage}
+use Rattle.board.specs.declared.Phase.{Phase}
+use Rattle.board.specs.declared.Phase.the-variants.{Unmounted, Idle, Busy}
+use Rattle.board.specs.declared.Record.{Record}
+use Rattle.board.specs.Record.{allowed, unmounted, Out, refuse, answerIn}
+use Rattle.board.specs.Step.{action, enterWipe}
+use Rattle.board.specs.Mount.{Store, needsTransfer, anyPending, allFound, wipeList, mountJob, mountOn}
+use Rattle.board.specs.Queue.{Held, held, needsRoom}
+use Rattle.board.specs.Exec.{Call, request, step, mount, format, exec}
+use Rattle.board.specs.Table.{Check, check, firstOf, isBusy, isUnmounted, isNone, isMalformed, noObject, shortReply, roomRule, worn, frameFor, laterChecks, heldChecks, requestChecks, outside, refusalIn}
+use Rattle.board.specs.Demand1.{RefusedByTable}
+use Rattle.board.specs.Demand2.{Accepted}
+use Rattle.board.specs.Paper.{Means, MessagesExact, MalformedExact}
+use Rattle.board.specs.Sentences.{Line, line, Exactly, Allowed, InJob, Fresh, FreshExact, NoObject, ShortReply, NoRoom, for-put, for-delete, Worn, requestLines, ValidAt, ForeignAt, NothingThere, Unclear, foreign-half, equal-times, Unsettled, MountWorn, mountLines, Outside, Misplaced, linesOf}
+use Rattle.board.proofs.Images.{Sized, size-of, sized-of}
+use Rattle.board.proofs.Wording.{fresh-exact, messages-exact, malformed-exact}
+use Rattle.board.proofs.Outcomes.{mount-length}
+use Rattle.board.proofs.Erasing.{SameValid, same-valid}
+use Rattle.board.proofs.Refusals.{refused-by-table}
+use Rattle.board.proofs.Deciding as deciding
+use Rattle.board.proofs.Deciding.{Taken, Decided, Outcome, worn-out, begins, foreign-block, none-valid, at-store, mount-decides, mount-outcome, taken-holds, taken-newest, taken-none-foreign}
+
+-- ---- from tests to lines
+
+-- the first line that holds
+pub first-stop : (k : Refusal) (b : Bool) (cs : List Check) → b ≡ true → firstOf (check k b ∷ cs) ≡ some k
+unfolding firstOf
+first-stop k true cs e = refl
+first-stop k false cs e = let w : _≡_ {A = ℕ} 0 1 = cc in absurd (omega arith)
+
+pub first-skip : (k : Refusal) (b : Bool) (cs : List Check) → b ≡ false → firstOf (check k b ∷ cs) ≡ firstOf cs
+unfolding firstOf
+first-skip k true cs e = let w : _≡_ {A = ℕ} 0 1 = cc in absurd (omega arith)
+first-skip k false cs e = refl
+
+refusal-is : (a : Answer) (k : Refusal) → refusalIn a ≡ some k → a ≡ Refused k
+refusal-is Done k e = let w : _≡_ {A = ℕ} 0 1 = cc in absurd (omega arith)
+refusal-is More k e = let w : _≡_ {A = ℕ} 0 1 = cc in absurd (omega arith)
+refusal-is (Refused n) k e = cc
+
+none-refused : (a : Answer) → refusalIn a ≡ firstOf [] → Accepted a
+unfolding firstOf
+none-refused Done e = tt
+none-refused More e = tt
+none-refused (Refused n) e = let w : _≡_ {A = ℕ} 0 1 = cc in absurd (omega arith)
+
+-- a test says whether a line holds
+record Tests (b : Bool) (P : Type 0) : Type 0 where
+  yes : b ≡ true → P
+  no : P → b ≡ true
+
+-- the tests of a call, in order, and the lines that they are of; a test is asked where those before it failed
+data Rows : List Check → List Line → Type 1 where
+  end : Rows [] []
+  row : (n : Refusal) {b : Bool} {P : Type 0} {cs : List Check} {ls : List Line} → Tests b P → (b ≡ false → Rows cs ls)
+      → Rows (check n b ∷ cs) (line (refusalNumber n) P ∷ ls)
+
+exactly : {cs : List Check} {ls : List Line} → Rows cs ls → (a : Answer) → refusalIn a ≡ firstOf cs → Exactly ls a
+exactly end a e = none-refused a e
+exactly (row n {b} {P} {cs} {ls} t f) a e =
+    on-test b
+    (λ y. inl (t .yes y, ap numberOf (refusal-is a n (e ∙ first-stop n b cs y))))
+    (λ y. inr ((λ p. clash b (t .no p) y), exactly (f y) a (e ∙ first-skip n b cs y)))
+
+pub false-true {ℓ} : {P : Type ℓ} → false ≡ true → P
+false-true e = let w : _≡_ {A = ℕ} 0 1 = cc in absurd (omega arith)
+
+-- ---- 4, 10, 5, 2
+
+pub allowed-is : (n : ℕ) → allowed n ≡ true → Allowed n
+allowed-is n t =
+    let ab : (leb 512 n && leb n 65536) ≡ true = and-left (leb 512 n && leb n 65536) (eqb (n % 256) 0) t in (
+      leb-true 512 n (and-left (leb 512 n) (leb n 65536) ab),
+      leb-true n 65536 (and-right (leb 512 n) (leb n 65536) ab),
+      eqb-true (n % 256) 0 (and-right (leb 512 n && leb n 65536) (eqb (n % 256) 0) t),
+    )
+
+pub is-allowed : (n : ℕ) → Allowed n → allowed n ≡ true
+is-allowed n (a, b, c) =
+    and-both (leb 512 n && leb n 65536) (eqb (n % 256) 0) (and-both (leb 512 n) (leb n 65536) (le-leb 512 n a) (le-leb n 65536 b)) (eq-eqb (n % 256) 0 c)
+
+not-yes : (b : Bool) → not b ≡ true → b ≡ true → ⊥
+not-yes true e f = false-true e
+not-yes false e f = false-true f
+
+not-no : (b : Bool) → (b ≡ true → ⊥) → not b ≡ true
+not-no true f = absurd (f refl)
+not-no false f = refl
+
+pub not-not : (b : Bool) → not b ≡ false → b ≡ true
+not-not true e = refl
+not-not false e = false-true (sym e)
+
+length-test : (n : ℕ) → Tests (not (allowed n)) (Allowed n → ⊥)
+length-test n =
+    record { yes = λ t y. not-yes (allowed n) t (is-allowed n y); no = λ f. not-no (allowed n) (λ t. f (allowed-is n t)) }
+
+host-test : (h : Host) → Tests (ltb hostMax (h .0)) (3 < h .0)
+host-test h = record { yes = ltb-true hostMax (h .0); no = lt-ltb hostMax (h .0) }
+
+busy-test : (p : Phase) → Tests (isBusy p) (InJob p)
+busy-test Unmounted = record { yes = λ e. false-true e; no = λ y. absurd y }
+busy-test Idle = record { yes = λ e. false-true e; no = λ y. absurd y }
+busy-test (Busy s) = record { yes = λ e. tt; no = λ y. refl }
+
+unmounted-test : (p : Phase) → Tests (isUnmounted p) (p ≡ Unmounted)
+unmounted-test Unmounted = record { yes = λ e. refl; no = λ y. refl }
+unmounted-test Idle = record { yes = λ e. false-true e; no = λ y. let w : _≡_ {A = ℕ} 0 1 = cc in absurd (omega arith) }
+unmounted-test (Busy s) = record { yes = λ e. false-true e; no = λ y. let w : _≡_ {A = ℕ} 0 1 = cc in absurd (omega arith) }
+
+-- ---- requests
+
+none-some : {A : Type 0} {P : Type 0} {x : A} → none ≡ some x → P
+none-some e = let w : _≡_ {A = ℕ} 0 1 = cc in absurd (omega arith)
+
+some-held : {x y : Held} → some x ≡ some y → x ≡ y
+some-held e = cc
+
+is-request : {x y : Request} → Is x ≡ Is y → x ≡ y
+is-request e = cc
+
+-- a message means one request, and an image read afresh holds one thing
+pub same-request : (msg : List ℕ) (q s : Request) → Means msg q → Means msg s → q ≡ s
+unfolding MessagesExact
+same-request msg q s a b = is-request (sym (messages-exact msg q .1 a) ∙ messages-exact msg s .1 b)
+
+module _ (img : List ℕ) (r : Record) (by : Bytes img) (ok : allowed (length img) ≡ true) where
+  pub same-held : (x y : Held) → Fresh img r x → Fresh img r y → x ≡ y
+  unfolding FreshExact
+  same-held x y a b = some-held (sym (fresh-exact img r x by ok .1 a) ∙ fresh-exact img r y by ok .1 b)
+
+  stale-test : (o : Option Held) → held img r ≡ o → Tests (isNone o) ((x : Held) → Fresh img r x → ⊥)
+  unfolding FreshExact
+  stale-test none e = record { yes = λ t x y. none-some (sym e ∙ fresh-exact img r x by ok .1 y); no = λ f. refl }
+  stale-test (some x) e = record { yes = λ t. false-true t; no = λ f. absurd (f x (fresh-exact img r x by ok .0 e)) }
+
+  module _ (h : Host) (msg reply : List ℕ) where
+    malformed-test : (p : Parsed) → parse msg ≡ p → Tests (isMalformed p) ((q : Request) → Means msg q → ⊥)
+    unfolding MessagesExact MalformedExact
+    malformed-test Malformed e = record { yes = λ t. malformed-exact msg .0 e; no = λ f. refl }
+    malformed-test (Is q) e = record { yes = λ t. false-true t; no = λ f. absurd (f q (messages-exact msg q .0 e)) }
+
+    module _ (x : Held) (q : Request) (fresh : Fresh img r x) (means : Means msg q) where
+      object-test : Tests (noObject x q) (NoObject img r msg)
+      object-test =
+          record {
+            yes = λ t. there q means t;
+            no = λ y.
+                ap₂ noObject (same-held x (y .holding) fresh (y .is-held)) (same-request msg q (Read (y .id)) means (y .is-asked))
+                ∙ ap (λ (v : Option (List ℕ)). isNone v) (y .none-there);
+          }
+        where
+          lacks : (v : Option (List ℕ)) → isNone v ≡ true → v ≡ none
+          lacks none e = refl
+          lacks (some v) e = false-true e
+
+          there : (s : Request) → Means msg s → noObject x s ≡ true → NoObject img r msg
+          there (Put i) a t = false-true t
+          there (Delete i) a t = false-true t
+          there Commit a t = false-true t
+          there Abort a t = false-true t
+          there (Read i) a t =
+              record { holding = x; id = i; is-held = fresh; is-asked = a; none-there = lacks (lookup i (replay (x .frames) .objects)) t }
+          there (Log p) a t = false-true t
+
+      short-test : Tests (shortReply reply q) (ShortReply msg reply)
+      short-test =
+          record {
+            yes = λ t. there q means t;
+            no = λ y. ap (shortReply reply) (same-request msg q (Log (y .page)) means (y .is-asked)) ∙ lt-ltb (length reply) pageLen (y .short);
+          }
+        where
+          there : (s : Request) → Means msg s → shortReply reply s ≡ true → ShortReply msg reply
+          there (Put i) a t = false-true t
+          there (Delete i) a t = false-true t
+          there Commit a t = false-true t
+          there Abort a t = false-true t
+          there (Read i) a t = false-true t
+          there (Log p) a t = record { page = p; is-asked = a; short = ltb-true (length reply) pageLen t }
+
+      room-test : Tests (roomRule (sizeOf img) h msg x q) (NoRoom img r h msg)
+      unfolding noRoom
+      room-test = record { yes = λ t. full q means t; no = λ y. asks y }
+        where
+          full : (s : Request) → Means msg s → roomRule (sizeOf img) h msg x s ≡ true → NoRoom img r h msg
+          full (Put i) a t = for-put x i fresh a (omega (arith, ltb-true (sizeOf img) _ t))
+          full (Delete i) a t = for-delete x i fresh a (omega (arith, ltb-true (sizeOf img) _ t))
+          full Commit a t = false-true t
+          full Abort a t = false-true t
+          full (Read i) a t = false-true t
+          full (Log p) a t = false-true t
+
+          asks : NoRoom img r h msg → roomRule (sizeOf img) h msg x q ≡ true
+          asks (for-put y i f a l) =
+              ap₂ (roomRule (sizeOf img) h msg) (same-held x y fresh f) (same-request msg q (Put i) means a) ∙ lt-ltb (sizeOf img) _ (omega arith)
+          asks (for-delete y i f a l) =
+              ap₂ (roomRule (sizeOf img) h msg) (same-held x y fresh f) (same-request msg q (Delete i) means a) ∙ lt-ltb (sizeOf img) _ (omega arith)
+
+      worn-test : Tests (worn img r x (frameFor h msg x q)) (Worn img r h msg)
+      worn-test = record { yes = λ t. over (frameFor h msg x q) refl t; no = λ y. due y }
+        where
+          over : (f : Option Frame) → frameFor h msg x q ≡ f → worn img r x f ≡ true → Worn img r h msg
+          over none e t = false-true t
+          over (some f) e t =
+              record {
+                holding = x;
+                asked = q;
+                frame = f;
+                is-held = fresh;
+                is-asked = means;
+                is-frame = e;
+                exceeds = ltb-true (sizeOf img) (r .end + frameLen f) (and-left (needsRoom img r f) (eqb (x .time) lastTime) t);
+                last-time = eqb-true (x .time) lastTime (and-right (needsRoom img r f) (eqb (x .time) lastTime) t);
+              }
+
+          due : Worn img r h msg → worn img r x (frameFor h msg x q) ≡ true
+          due y =
+              ap₂ (λ (z : Held) (s : Request). worn img r z (frameFor h msg z s)) (same-held x (y .holding) fresh (y .is-held))
+              (same-request msg q (y .asked) means (y .is-asked))
+              ∙ ap (worn img r (y .holding)) (y .is-frame)
+              ∙ and-both (needsRoom img r (y .frame)) (eqb (y .holding .time) lastTime) (lt-ltb (sizeOf img) (r .end + frameLen (y .frame)) (y .exceeds))
+              (eq-eqb (y .holding .time) lastTime (y .last-time))
+
+      held-rows : Rows (heldChecks img r h msg reply x q)
+          (line 8 (NoObject img r msg) ∷ line 9 (ShortReply msg reply) ∷ line 7 (NoRoom img r h msg) ∷ line 6 (Worn img r h msg) ∷ [])
+      held-rows =
+          row refusal.NoObject object-test (λ _.
+          row refusal.ShortReply short-test (λ _.
+          row refusal.NoRoom room-test (λ _.
+          row refusal.Worn worn-test (λ _. end))))
+
+    abbrev lastLines : List Line
+    lastLines =
+        line 1 ((q : Request) → Means msg q → ⊥) ∷ line 8 (NoObject img r msg) ∷ line 9 (ShortReply msg reply) ∷ line 7 (NoRoom img r h msg)
+        ∷ line 6 (Worn img r h msg) ∷ []
+
+    parsed-rows : (x : Held) → Fresh img r x → (p : Parsed) → parse msg ≡ p
+        → Rows (check refusal.Malformed (isMalformed p) ∷ laterChecks img r h msg reply (some x) p) lastLines
+    unfolding MessagesExact
+    parsed-rows x f Malformed e = row refusal.Malformed (malformed-test Malformed e) (λ t. false-true (sym t))
+    parsed-rows x f (Is q) e = row refusal.Malformed (malformed-test (Is q) e) (λ _. held-rows x q f (messages-exact msg q .0 e))
+
+    stale-rows : (o : Option Held) → held img r ≡ o
+        → Rows (check refusal.Stale (isNone o) ∷ check refusal.Malformed (isMalformed (parse msg)) ∷ laterChecks img r h msg reply o (parse msg))
+        (line 11 ((x : Held) → Fresh img r x → ⊥) ∷ lastLines)
+    unfolding FreshExact
+    stale-rows none e = row refusal.Stale (stale-test none e) (λ t. false-true (sym t))
+    stale-rows (some x) e = row refusal.Stale (stale-test (some x) e) (λ _. parsed-rows x (fresh-exact img r x by ok .0 e) (parse msg) refl)
+
+request-rows : (img : List ℕ) (r : Record) (h : Host) (msg reply : List ℕ) → Bytes img
+    → Rows (requestChecks img r h msg reply) (requestLines img r h msg reply)
+request-rows img r h msg reply by =
+    row refusal.ImageLength (length-test (length img)) (λ n.
+    row refusal.HostRange (host-test h) (λ _.
+    row refusal.Busy (busy-test (r .phase)) (λ _.
+    row refusal.NoStore (unmounted-test (r .phase)) (λ _.
+    stale-rows img r by (not-not (allowed (length img)) n) h msg reply (held img r) refl))))
+
+-- ---- steps and formats
+
+step-test : (img : List ℕ) (r : Record) (p : Phase) → r .phase ≡ p → Tests (outside p img r) (Misplaced img r)
+step-test img r Unmounted e =
+    record { yes = λ t. false-true t; no = λ y. let w : Unmounted ≡ Busy (y .stage) = sym e ∙ y .is-busy in let z : _≡_ {A = ℕ} 0 1 = cc in absurd (omega arith) }
+step-test img r Idle e =
+    record { yes = λ t. false-true t; no = λ y. let w : Idle ≡ Busy (y .stage) = sym e ∙ y .is-busy in let z : _≡_ {A = ℕ} 0 1 = cc in absurd (omega arith) }
+step-test img r (Busy s) e = record { yes = λ t. record { stage = s; is-busy = e; misfits = misfit t }; no = λ y. not-no fits (λ t. hit (at-stage y) t) }
+  where
+    x : Step
+    x = action s r
+
+    long : Bool
+    long = eqb (length img) (suc (r .last))
+
+    fits : Bool
+    fits = long && within (sizeOf img) x
+
+    misfit : not fits ≡ true → (length img ≡ suc (r .last) → ⊥) ⊎ Outside img x
+    misfit t =
+        on-test long
+        (λ a. on-test (ltb (blockOf x) blocks)
+        (λ b. on-test (ltb (offsetOf x) (sizeOf img))
+        (λ c. absurd (not-yes fits t (and-both long (within (sizeOf img) x) a (and-both (ltb (blockOf x) blocks) (ltb (offsetOf x) (sizeOf img)) b c))))
+        (λ c. inr (inr (ltb-false (offsetOf x) (sizeOf img) c))))
+        (λ b. inr (inl (ltb-false (blockOf x) blocks b))))
+        (λ a. inl (eqb-false (length img) (suc (r .last)) a))
+
+    same-stage : {a b : Stage} → Busy a ≡ Busy b → a ≡ b
+    same-stage q = cc
+
+    at-stage : Misplaced img r → (length img ≡ suc (r .last) → ⊥) ⊎ Outside img x
+    at-stage y = subst (λ (g : Stage). (length img ≡ suc (r .last) → ⊥) ⊎ Outside img (action g r)) (same-stage (sym (y .is-busy) ∙ e)) (y .misfits)
+
+    hit : (length img ≡ suc (r .last) → ⊥) ⊎ Outside img x → fits ≡ true → ⊥
+    hit (inl f) t = f (eqb-true (length img) (suc (r .last)) (and-left long (within (sizeOf img) x) t))
+    hit (inr (inl l)) t =
+        omega (
+          arith,
+          ltb-true (blockOf x) blocks
+              (and-left (ltb (blockOf x) blocks) (ltb (offsetOf x) (sizeOf img)) (and-right long (within (sizeOf img) x) t)),
+        )
+    hit (inr (inr l)) t =
+        omega (
+          arith,
+          ltb-true (offsetOf x) (sizeOf img)
+              (and-right (ltb (blockOf x) blocks) (ltb (offsetOf x) (sizeOf img)) (and-right long (within (sizeOf img) x) t)),
+        )
+
+pub request-lines : (img : List ℕ) (r : Record) (h : Host) (msg reply : List ℕ) → Bytes img
+    → Exactly (requestLines img r h msg reply) (exec img r (request h msg reply) .answer)
+unfolding RefusedByTable
+request-lines img r h msg reply by =
+    exactly (request-rows img r h msg reply by) (exec img r (request h msg reply) .answer) (refused-by-table img r (request h msg reply))
+
+pub step-lines : (img : List ℕ) (r : Record) → Exactly (linesOf img r step) (exec img r step .answer)
+unfolding RefusedByTable
+step-lines img r = exactly (row refusal.Stale (step-test img r (r .phase) refl) (λ _. end)) (exec img r step .answer) (refused-by-table img r step)
+
+pub format-lines : (img : List ℕ) (r : Record) → Exactly (linesOf img r format) (exec img r format .answer)
+unfolding RefusedByTable
+format-lines img r =
+    exactly (row refusal.ImageLength (length-test (length img)) (λ _. end)) (exec img r format .answer) (refused-by-table img r format)

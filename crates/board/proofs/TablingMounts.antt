@@ -1,0 +1,210 @@
+-- A mount is refused exactly as the table's lines say; the states of halves in words.
+use mathlib.Core.Path.{_≡_, refl, sym, ap, ap₂, subst, _∙_}
+use mathlib.Core.List.{List, [], _∷_}
+use mathlib.Core.Logic.{_⊎_, inl, inr}
+use mathlib.Core.Option.{some}
+use mathlib.Core.Bool.{Bool, true, false}
+use Prim.Native.Nat.{ℕ, _≤_, _<_}
+use native.Mathlib.Omega.{arith}
+use lib.Dec.{eqb}
+use lib.ListN.{length}
+use borrow.Author.Tests.{eqb-true, eqb-false}
+use Rattle.flash.specs.Bytes.{Bytes}
+use Rattle.flash.specs.Flash.{blocks, block, sizeOf}
+use Rattle.flash.proofs.Cases.{on-test, clash}
+use Rattle.flash.proofs.Image.{bytes-block}
+use Rattle.frame.specs.declared.Fault.{Fault}
+use Rattle.frame.specs.Frame.{Frame}
+use Rattle.frame.specs.Reader.{Tail, clean, cut, bad}
+use Rattle.journal.specs.Replay.{Entry, replay}
+use Rattle.journal.specs.Block.{BlockState, valid, foreign, blockState, lastTime, headerLen}
+use Rattle.journal.specs.Sentences.{ValidBlock, ForeignBlock}
+use Rattle.journal.proofs.Sentences.{states-exact}
+use Rattle.wire.specs.declared.Refusal.{Refusal}
+use Rattle.wire.specs.Answer.{numberOf, refusalNumber}
+use Rattle.board.specs.declared.Phase.{Phase}
+use Rattle.board.specs.declared.Phase.the-variants.{Unmounted, Idle, Busy}
+use Rattle.board.specs.Record.{allowed, unmounted, Out, refuse, answerIn}
+use Rattle.board.specs.Step.{enterWipe}
+use Rattle.board.specs.Mount.{Store, needsTransfer, anyPending, allFound, wipeList, mountJob, mountOn}
+use Rattle.board.specs.Demand2.{Accepted, Mounts}
+use Rattle.board.specs.Sentences.{line, Exactly, ValidAt, ForeignAt, NothingThere, Unclear, foreign-half, equal-times, Unsettled, MountWorn, mountLines}
+use Rattle.board.specs.Promise.{Machine, Current}
+use Rattle.board.proofs.Images.{Sized, sized-of}
+use Rattle.board.proofs.Invariant.{Quiet}
+use Rattle.board.proofs.Current.{block-long}
+use Rattle.board.proofs.Outcomes.{mount-length}
+use Rattle.board.proofs.Erasing.{NoStore, SameValid, same-valid}
+use Rattle.board.proofs.Deciding as deciding
+use Rattle.board.proofs.Deciding.{Taken, Decided, Outcome, InTime, worn-out, begins, foreign-block, none-valid, at-store, mount-decides, mount-outcome, mount-accepted, taken-holds, taken-newest, taken-none-foreign}
+use Rattle.board.proofs.Tabling.{false-true, allowed-is, is-allowed}
+
+-- ---- a transfer is due
+
+pending-some : (fs : List Frame) → (replay fs .pending ≡ [] → ⊥) → anyPending (replay fs .pending) ≡ true
+pending-some fs n = go (replay fs .pending) n
+  where
+    go : (ps : List Entry) → (ps ≡ [] → ⊥) → anyPending ps ≡ true
+    go [] f = absurd (f refl)
+    go (p ∷ ps) f = refl
+
+some-pending : (ps : List Entry) → anyPending ps ≡ true → ps ≡ [] → ⊥
+some-pending ps t e = false-true (sym (ap anyPending e) ∙ t)
+
+-- "has a torn tail or anything pending"
+unsettled-due : (fs : List Frame) (c : Tail) → Unsettled fs c → needsTransfer fs c ≡ true
+unsettled-due fs clean (inl n) = absurd (n refl)
+unsettled-due fs clean (inr n) = pending-some fs n
+unsettled-due fs (cut k) u = refl
+unsettled-due fs (bad e) u = refl
+
+due-unsettled : (fs : List Frame) (c : Tail) → needsTransfer fs c ≡ true → Unsettled fs c
+due-unsettled fs clean t = inr (some-pending (replay fs .pending) t)
+due-unsettled fs (cut k) t = inl (λ e. let w : _≡_ {A = ℕ} 0 1 = cc in omega arith)
+due-unsettled fs (bad e) t = inl (λ e. let w : _≡_ {A = ℕ} 0 1 = cc in omega arith)
+
+module _ (img : List ℕ) (by : Bytes img) (ok : allowed (length img) ≡ true) where
+  abbrev s : ℕ
+  s = sizeOf img
+
+  z : Sized s img
+  z = sized-of img ok
+
+  long : (k : ℕ) → k < blocks → headerLen ≤ length (block s k img)
+  long k h = omega (arith, block-long k z h, z .low)
+
+  -- ---- a block's state in words, and back
+
+  valid-at : {k t : ℕ} {fs : List Frame} {c : Tail} → k < blocks → blockState (block s k img) ≡ valid t fs c → ValidAt img k t fs c
+  valid-at {k} {t} {fs} {c} h e = (h, states-exact .is-valid (block s k img) t fs c (bytes-block s k img by) (long k h) .0 e)
+
+  at-valid : {k t : ℕ} {fs : List Frame} {c : Tail} → ValidAt img k t fs c → blockState (block s k img) ≡ valid t fs c
+  at-valid {k} {t} {fs} {c} (h, v) = states-exact .is-valid (block s k img) t fs c (bytes-block s k img by) (long k h) .1 v
+
+  foreign-at : {k : ℕ} {e : Fault} → k < blocks → blockState (block s k img) ≡ foreign e → ForeignAt img k
+  foreign-at {k} {e} h p = (h, states-exact .is-foreign (block s k img) (bytes-block s k img by) (long k h) .0 (e, p))
+
+  at-foreign : {k : ℕ} → ForeignAt img k → (e : Fault) × (blockState (block s k img) ≡ foreign e)
+  at-foreign {k} (h, v) = states-exact .is-foreign (block s k img) (bytes-block s k img by) (long k h) .1 v
+
+  answer : {n : Refusal} → mountOn img ≡ refuse n img unmounted [] → numberOf (mountOn img .answer) ≡ some (refusalNumber n)
+  answer e = ap (λ (o : Out). numberOf (o .answer)) e
+
+  abbrev Left : Type 0
+  Left = Exactly (line 2 (NothingThere img) ∷ line 3 (Unclear img) ∷ line 6 (MountWorn img) ∷ []) (mountOn img .answer)
+
+  module _ (x : Store) (y : Taken s img x) where
+    at-number : {k t : ℕ} {fs : List Frame} {c : Tail} → ValidAt img k t fs c → k ≡ x .number → SameValid t fs c (x .time) (x .frames) (x .tail)
+    at-number a e = same-valid (sym (at-valid a) ∙ ap (λ (n : ℕ). blockState (block s n img)) e ∙ y .is-valid)
+
+    clear : Unclear img → ⊥
+    clear (foreign-half k f) = let p = at-foreign f in taken-none-foreign z y k (p .0) (f .0) (p .1)
+    clear (equal-times j k t fs gs c d n a b) =
+        on-test (eqb j (x .number))
+        (λ p. let e : j ≡ x .number = eqb-true j (x .number) p in
+        omega (arith, at-number a e .time, taken-newest z y k t gs d (b .0) (λ q. n (e ∙ sym q)) (at-valid b)))
+        (λ p. let l : t < x .time = taken-newest z y j t fs c (a .0) (eqb-false j (x .number) p) (at-valid a) in
+        on-test (eqb k (x .number))
+        (λ q. omega (arith, at-number b (eqb-true k (x .number) q) .time))
+        (λ q. omega (arith, n, a .0, b .0, y .there, eqb-false j (x .number) p, eqb-false k (x .number) q)))
+
+    not-worn : InTime x → MountWorn img → ⊥
+    not-worn t w =
+        on-test (eqb (w .number) (x .number))
+        (λ p.
+        let e : SameValid lastTime (w .frames) (w .tail) (x .time) (x .frames) (x .tail) = at-number (w .is-valid) (eqb-true (w .number) (x .number) p) in
+        let d : needsTransfer (x .frames) (x .tail) ≡ true =
+        ap₂ needsTransfer (sym (e .frames)) (sym (e .tail)) ∙ unsettled-due (w .frames) (w .tail) (w .unsettled) in
+        omega (arith, e .time, t d))
+        (λ p. omega (
+          arith,
+          taken-holds x z by y .layout .time-hi,
+          taken-newest z y (w .number) lastTime (w .frames) (w .tail) (w .is-valid .0)
+              (eqb-false (w .number) (x .number) p) (at-valid (w .is-valid)),
+        ))
+
+    taken-lines : Outcome img x → Left
+    taken-lines o = inr ((λ n. n .none-valid (x .number) (x .time) (x .frames) (x .tail) (valid-at (y .there) (y .is-valid))), inr (clear, last o))
+      where
+        goes : (p : Phase) → Accepted (answerIn p)
+        goes Unmounted = tt
+        goes Idle = tt
+        goes (Busy g) = tt
+
+        last : Outcome img x → Exactly (line 6 (MountWorn img) ∷ []) (mountOn img .answer)
+        last (worn-out w e) =
+            inl (
+              record { number = w .number; frames = w .frames; tail = w .tail; is-valid = valid-at (w .there) (w .is-valid); unsettled = due-unsettled (w .frames) (w .tail) (w .due) },
+              answer e,
+            )
+        last (begins t e) = inr (not-worn t, subst (λ (o : Out). Accepted (o .answer)) (sym e) (goes (enterWipe (mountJob img x (wipeList (x .number) (allFound img))) .phase)))
+
+  current-of : (x : Store) → Taken s img x → Current img x
+  current-of x y =
+      record { is-valid = valid-at (y .there) (y .is-valid); newest = λ k t fs c n v. taken-newest z y k t fs c (v .0) n (at-valid v) }
+
+  decided-lines : Decided s img → Left
+  decided-lines (foreign-block j h e p r) =
+      inr ((λ n. n .none-foreign j (foreign-at h p)), inl (foreign-half j (foreign-at h p), answer r))
+  decided-lines (deciding.equal-times t fs gs c d p q r) =
+      let a : ValidAt img 0 t fs c = valid-at (omega arith) p in
+      let b : ValidAt img 1 t gs d = valid-at (omega arith) q in
+      inr ((λ n. n .none-valid 0 t fs c a), inl (equal-times 0 1 t fs gs c d (λ e. omega arith) a b, answer r))
+  decided-lines (none-valid n r) =
+      inl (
+        record {
+          none-valid = λ k t fs c a. subst Quiet (at-valid a) (n k (a .0));
+          none-foreign = λ k f. let p = at-foreign f in subst Quiet (p .1) (n k (f .0));
+        },
+        answer r,
+      )
+  decided-lines (at-store x y) = taken-lines x y (mount-outcome x z y (taken-holds x z by y))
+
+-- ---- the current half
+
+pub record Mountable (img : List ℕ) : Type 0 where
+  pub store : Store
+  pub current : Current img store
+
+pub accepted-takes : (img : List ℕ) → Bytes img → Accepted (mountOn img .answer) → Mountable img
+accepted-takes img by a =
+    on-test (allowed (length img))
+    (λ ok. let y : deciding.Begins (sizeOf img) img = mount-accepted (sized-of img ok) by a in
+    record { store = y .store; current = current-of img by ok (y .store) (y .taken) })
+    (λ no. absurd (subst (λ (o : Out). Accepted (o .answer)) (mount-length img no) a))
+
+abbrev storeOf : ℕ → ℕ → List Frame → Tail → Store
+storeOf k t fs c = record { number = k; time = t; frames = fs; tail = c }
+
+pub mounts-current : {m : Machine} (img : List ℕ) → Bytes img → allowed (length img) ≡ true → (o : Out) → (y : Mounts m img o) → Current img (y .store)
+mounts-current img by ok o y =
+    record {
+      is-valid = valid-at img by ok (y .there) (y .is-valid);
+      newest = λ k t fs c n v. y .newest k t fs c (v .0) n (at-valid img by ok v);
+    }
+
+-- the image settles which half is current
+pub same-store : (img : List ℕ) → Bytes img → allowed (length img) ≡ true → (x y : Store) → Current img x → Current img y → x ≡ y
+same-store img by ok x y a b = on-test (eqb (x .number) (y .number)) (λ t. alike (eqb-true (x .number) (y .number) t)) apart
+  where
+    apart : eqb (x .number) (y .number) ≡ false → x ≡ y
+    apart t =
+        let d : x .number ≡ y .number → ⊥ = eqb-false (x .number) (y .number) t in
+        absurd (omega (
+          arith,
+          b .newest (x .number) (x .time) (x .frames) (x .tail) d (a .is-valid),
+          a .newest (y .number) (y .time) (y .frames) (y .tail) (λ e. d (sym e)) (b .is-valid),
+        ))
+
+    alike : x .number ≡ y .number → x ≡ y
+    alike e =
+        let s : SameValid (x .time) (x .frames) (x .tail) (y .time) (y .frames) (y .tail) =
+        same-valid (sym (at-valid img by ok (a .is-valid)) ∙ ap (λ (k : ℕ). blockState (block (sizeOf img) k img)) e ∙ at-valid img by ok (b .is-valid)) in
+        ap₂ (λ (k t : ℕ). storeOf k t (x .frames) (x .tail)) e (s .time)
+        ∙ ap₂ (λ (fs : List Frame) (c : Tail). storeOf (y .number) (y .time) fs c) (s .frames) (s .tail)
+
+pub mount-lines : (img : List ℕ) → Bytes img → Exactly (mountLines img) (mountOn img .answer)
+mount-lines img by =
+    on-test (allowed (length img))
+    (λ ok. inr ((λ n. n (allowed-is (length img) ok)), decided-lines img by ok (mount-decides (sized-of img ok))))
+    (λ no. inl ((λ y. clash (allowed (length img)) (is-allowed (length img) y) no), ap (λ (o : Out). numberOf (o .answer)) (mount-length img no)))

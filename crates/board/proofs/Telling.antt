@@ -1,0 +1,215 @@
+-- The machine's answers tell its record; steps, mounts and formats have no reply and no stretch.
+use mathlib.Core.Path.{_≡_, refl, sym, ap, subst, _∙_}
+use mathlib.Core.List.{List, [], _∷_}
+use mathlib.Core.Option.{Option, none, some}
+use mathlib.Core.Bool.{Bool, true, false, _&&_, cond}
+use Prim.Native.Nat.{ℕ, suc}
+use native.Mathlib.Omega.{arith}
+use lib.Dec.{eqb, ltb, leb}
+use lib.ListN.{length}
+use Rattle.flash.specs.Flash.{apply, block, sizeOf, within}
+use Rattle.flash.proofs.Cases.{on-test}
+use Rattle.frame.specs.declared.Host.{Host}
+use Rattle.frame.specs.Frame.{hostMax}
+use Rattle.journal.specs.Block.{lastTime, markWrites}
+use Rattle.journal.specs.Index.{Load, nextLoad}
+use Rattle.wire.specs.declared.Answer.{Answer}
+use Rattle.wire.specs.declared.Answer.the-variants.{Done, More, Refused}
+use Rattle.wire.specs.declared.Refusal.{Refusal}
+use Rattle.wire.specs.declared.Refusal.the-variants as refusal
+use Rattle.wire.specs.Answer.{numberOf}
+use Rattle.board.specs.declared.Stage.{Stage}
+use Rattle.board.specs.declared.Stage.the-variants.{Wipe, Open, Copy, Seal, Drop, Append}
+use Rattle.board.specs.declared.Phase.{Phase}
+use Rattle.board.specs.declared.Phase.the-variants.{Unmounted, Idle, Busy}
+use Rattle.board.specs.declared.Record.{Record}
+use Rattle.board.specs.Record.{allowed, restOf, idle, inStage, noStretch, Out, out, refuse, answerIn, answerOf}
+use Rattle.board.specs.Step.{enter, landed, loadOr, enterAppend, enterDrop, enterCopy, enterOpen, enterWipe, action, nextIndex, nextByte, pastFrame, advance, stepOn}
+use Rattle.board.specs.Mount.{allFound, anyForeign, Store, stores, equalTimes, newest, needsTransfer, wipeList, mountJob, mountAt, mountOn, formatJob, formatOn}
+use Rattle.board.specs.Queue.{requestOn}
+use Rattle.board.specs.Exec.{Call, request, step, mount, format, exec}
+use Rattle.board.specs.Demand1.{Rests}
+use Rattle.board.specs.Demand2.{Accepted}
+use Rattle.board.specs.Sentences.{InJob}
+use Rattle.board.specs.Promise.{NoStep, Tells, Silent}
+use Rattle.board.proofs.Outcomes.{request-length, request-host, request-busy, request-unmounted, mount-length, mount-foreign, mount-none, mount-equal, mount-at, mount-worn, mount-begins, format-length, format-begins, step-resting, step-outside, step-goes}
+use Rattle.board.proofs.Planning.{Met, refused, done, begun, request-met}
+
+-- ---- a job leads to a record that is mounted
+
+abbrev Mounted : Phase → Type 0
+Mounted Unmounted = ⊥
+Mounted Idle = Unit {0}
+Mounted (Busy s) = Unit {0}
+
+abbrev Up : Record → Type 0
+Up r = Mounted (r .phase)
+
+up-cond : (b : Bool) (x y : Record) → Up x → Up y → Up (cond b x y)
+up-cond true x y a c = a
+up-cond false x y a c = c
+
+up-append : (r : Record) → Up (enterAppend r)
+unfolding enterAppend
+up-append r = up-cond (ltb 0 (r .job .size)) (enter Append r) (idle (restOf r)) tt tt
+
+up-drop : (r : Record) → Up (enterDrop r)
+unfolding enterDrop
+up-drop r = up-cond (r .job .drops) (enter Drop r) (enterAppend (landed r)) tt (up-append (landed r))
+
+up-load : (r : Record) (u : Option Load) → Up (loadOr r u)
+up-load r none = tt
+up-load r (some u) = tt
+
+up-copy : (img : List ℕ) (r : Record) → Up (enterCopy img r)
+unfolding enterCopy
+up-copy img r = up-load r (nextLoad (block (sizeOf img) (r .block) img) (r .end) (r .places) (r .job .since) (r .cursor .id) (r .cursor .source))
+
+up-open : (r : Record) → Up (enterOpen r)
+unfolding enterOpen
+up-open r = up-cond (r .job .moves) (enter Open r) (enterAppend r) tt (up-append r)
+
+up-wipe : (r : Record) → Up (enterWipe r)
+unfolding enterWipe
+up-wipe r = up-cond (ltb 0 (r .job .wipes)) (enter Wipe r) (enterOpen r) tt (up-open r)
+
+up-advance : (s : Stage) (img : List ℕ) (r : Record) → Up (advance s img r)
+unfolding advance
+up-advance Wipe img r = up-cond (ltb (suc (r .cursor .index)) (r .job .wipes)) (inStage Wipe (nextIndex (r .cursor)) r) (enterOpen r) tt (up-open r)
+up-advance Open img r = up-cond (ltb (suc (r .cursor .index)) markWrites) (inStage Open (nextIndex (r .cursor)) r) (enterCopy img r) tt (up-copy img r)
+up-advance Copy img r =
+    up-cond (ltb (suc (r .cursor .off)) (r .cursor .size)) (inStage Copy (nextByte (r .cursor)) r)
+    (enterCopy img (inStage Copy (pastFrame (r .cursor)) r)) tt (up-copy img (inStage Copy (pastFrame (r .cursor)) r))
+up-advance Seal img r = up-cond (ltb (suc (r .cursor .index)) markWrites) (inStage Seal (nextIndex (r .cursor)) r) (enterDrop r) tt (up-drop r)
+up-advance Drop img r = up-append (landed r)
+up-advance Append img r = up-cond (ltb (suc (r .cursor .index)) (r .job .size)) (inStage Append (nextIndex (r .cursor)) r) _ tt tt
+
+-- ---- outcomes
+
+tells-of : (o : Out) (p : Phase) → o .board .phase ≡ p → o .answer ≡ answerIn p → Mounted p → Tells o
+tells-of o Unmounted e a u = absurd u
+tells-of o Idle e a u =
+    record {
+      done = ((λ _. e), (λ _. ap numberOf a));
+      more = ((λ f. let w : Done ≡ More = sym a ∙ f in let z : _≡_ {A = ℕ} 0 1 = cc in absurd (omega arith)), (λ j. absurd (subst InJob e j)));
+    }
+tells-of o (Busy s) e a u =
+    record {
+      done = (
+        (λ f. let w : _≡_ {A = Option ℕ} none (some 0) = sym (ap numberOf a) ∙ f in let z : _≡_ {A = ℕ} 0 1 = cc in absurd (omega arith)),
+        (λ f. let w : Busy s ≡ Idle = sym e ∙ f in let z : _≡_ {A = ℕ} 0 1 = cc in absurd (omega arith)),
+      );
+      more = ((λ _. subst InJob (sym e) tt), (λ _. a));
+    }
+
+tells-begun : {o : Out} (img reply : List ℕ) (g : Record) → Up g → o ≡ out (answerOf g) img g reply → Tells o
+tells-begun img reply g u e = subst Tells (sym e) (tells-of (out (answerOf g) img g reply) (g .phase) refl refl u)
+
+-- what an outcome without reply and stretch is
+data Plain (o : Out) : Type 0 where
+  refused-plain : (n : Refusal) (img : List ℕ) (r : Record) → o ≡ refuse n img r [] → Plain o
+  begun-plain : (img : List ℕ) (g : Record) → Up g → o ≡ out (answerOf g) img g [] → Plain o
+
+plain-tells : (o : Out) → Plain o → Accepted (o .answer) → Tells o
+plain-tells o (refused-plain n img r e) a = absurd (subst Accepted (ap (λ (x : Out). x .answer) e) a)
+plain-tells o (begun-plain img g u e) a = tells-begun img [] g u e
+
+plain-silent : {o : Out} → Plain o → (o .reply ≡ []) × (o .stretch ≡ noStretch)
+plain-silent (refused-plain n img r e) = (ap (λ (x : Out). x .reply) e, ap (λ (x : Out). x .stretch) e)
+plain-silent (begun-plain img g u e) = (ap (λ (x : Out). x .reply) e, ap (λ (x : Out). x .stretch) e)
+
+-- ---- mount and format
+
+at-plain : (img : List ℕ) (x : Store) → Plain (mountAt img (allFound img) x)
+at-plain img x =
+    on-test (needsTransfer (x .frames) (x .tail) && eqb (x .time) lastTime)
+    (λ t. refused-plain refusal.Worn img _ (mount-worn img (allFound img) x t))
+    (λ t. let j : Record = mountJob img x (wipeList (x .number) (allFound img)) in
+    begun-plain img (enterWipe j) (up-wipe j) (mount-begins img (allFound img) x t))
+
+mount-plain : (img : List ℕ) → Plain (mountOn img)
+mount-plain img =
+    on-test (allowed (length img))
+    (λ a. on-test (anyForeign (allFound img))
+    (λ t. refused-plain refusal.Foreign img _ (mount-foreign img a t))
+    (λ t. go a t (stores (allFound img)) refl))
+    (λ a. refused-plain refusal.ImageLength img _ (mount-length img a))
+  where
+    go : allowed (length img) ≡ true → anyForeign (allFound img) ≡ false → (xs : List Store) → stores (allFound img) ≡ xs → Plain (mountOn img)
+    go a t [] e = refused-plain refusal.NoStore img _ (mount-none img a t e)
+    go a t (y ∷ ys) e =
+        on-test (equalTimes (y ∷ ys))
+        (λ q. refused-plain refusal.Foreign img _ (mount-equal img a t y ys e q))
+        (λ q. subst Plain (sym (mount-at img a t y ys e q)) (at-plain img (newest y ys)))
+
+format-plain : (img : List ℕ) → Plain (formatOn img)
+format-plain img =
+    on-test (allowed (length img))
+    (λ a. begun-plain img (enterWipe (formatJob img)) (up-wipe (formatJob img)) (format-begins img a))
+    (λ a. refused-plain refusal.ImageLength img _ (format-length img a))
+
+-- ---- steps
+
+step-plain : (img : List ℕ) (r : Record) (s : Stage) → r .phase ≡ Busy s → Plain (stepOn img r)
+step-plain img r s e =
+    on-test (eqb (length img) (suc (r .last)) && within (sizeOf img) (action s r))
+    (λ t. let after : List ℕ = apply (sizeOf img) (action s r) img in
+    begun-plain after (advance s after r) (up-advance s after r) (step-goes img r s e t))
+    (λ t. refused-plain refusal.Stale img r (step-outside img r s e t))
+
+step-told : (img : List ℕ) (r : Record) → (r .phase ≡ Unmounted → ⊥) → Accepted (stepOn img r .answer) → Tells (stepOn img r)
+step-told img r n a = go (r .phase) refl
+  where
+    go : (p : Phase) → r .phase ≡ p → Tells (stepOn img r)
+    go Unmounted e = absurd (n e)
+    go Idle e = subst Tells (sym (step-resting img r (subst Rests (sym e) tt))) (tells-of (out Done img r []) Idle e refl tt)
+    go (Busy s) e = plain-tells (stepOn img r) (step-plain img r s e) a
+
+step-silent : (img : List ℕ) (r : Record) → (stepOn img r .reply ≡ []) × (stepOn img r .stretch ≡ noStretch)
+step-silent img r = go (r .phase) refl
+  where
+    rested : Rests (r .phase) → (stepOn img r .reply ≡ []) × (stepOn img r .stretch ≡ noStretch)
+    rested h = (ap (λ (x : Out). x .reply) (step-resting img r h), ap (λ (x : Out). x .stretch) (step-resting img r h))
+
+    go : (p : Phase) → r .phase ≡ p → (stepOn img r .reply ≡ []) × (stepOn img r .stretch ≡ noStretch)
+    go Unmounted e = rested (subst Rests (sym e) tt)
+    go Idle e = rested (subst Rests (sym e) tt)
+    go (Busy s) e = plain-silent (step-plain img r s e)
+
+-- ---- requests
+
+request-told : (img : List ℕ) (r : Record) (h : Host) (m reply : List ℕ) → Accepted (requestOn img r reply h m .answer) → Tells (requestOn img r reply h m)
+request-told img r h m reply a = go (request-met img r reply h m) (r .phase) refl
+  where
+    o : Out
+    o = requestOn img r reply h m
+
+    turned : (n : Refusal) → o ≡ refuse n img r reply → Tells o
+    turned n e = absurd (subst Accepted (ap (λ (x : Out). x .answer) e) a)
+
+    past : (allowed (length img) ≡ true → leb (h .0) hostMax ≡ true → Tells o) → Tells o
+    past f =
+        on-test (allowed (length img))
+        (λ b. on-test (leb (h .0) hostMax) (f b) (λ k. turned refusal.HostRange (request-host img r reply h m b k)))
+        (λ b. turned refusal.ImageLength (request-length img r reply h m b))
+
+    go : Met img r reply h m o → (p : Phase) → r .phase ≡ p → Tells o
+    go (refused n e) p q = turned n e
+    go (begun y e) p q = tells-begun img reply _ (up-wipe _) e
+    go (done d i b) (Busy s) q = past (λ c k. turned refusal.Busy (request-busy img r reply h m c k s q))
+    go (done d i b) Unmounted q = past (λ c k. turned refusal.NoStore (request-unmounted img r reply h m c k q))
+    go (done d i b) Idle q = tells-of o Idle (ap (λ (x : Record). x .phase) b ∙ q) d tt
+
+-- ---- every call
+
+pub told : (img : List ℕ) (r : Record) (c : Call) → Accepted (exec img r c .answer) → (r .phase ≡ Unmounted → NoStep c) → Tells (exec img r c)
+told img r (request h m reply) a n = request-told img r h m reply a
+told img r step a n = step-told img r n a
+told img r mount a n = plain-tells (mountOn img) (mount-plain img) a
+told img r format a n = plain-tells (formatOn img) (format-plain img) a
+
+pub silent : (img : List ℕ) (r : Record) (c : Call) → Silent c (exec img r c)
+silent img r (request h m reply) = tt
+silent img r step = step-silent img r
+silent img r mount = plain-silent (mount-plain img)
+silent img r format = plain-silent (format-plain img)

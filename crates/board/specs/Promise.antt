@@ -1,0 +1,218 @@
+-- The promise: what is said of a machine on each call, what follows from it for every list of calls, and that it settles all that a
+-- machine shows. The statements speak of any machine; `exec` is one that keeps them.
+use mathlib.Core.List.{List, [], _∷_, _++_}
+use mathlib.Core.Option.{Option, none, some}
+use mathlib.Core.Logic.{_⊎_, _↔_}
+use mathlib.Core.Path.{_≡_}
+use Prim.Native.Nat.{ℕ, _-_, _≤_, _<_}
+use lib.Bits.{bitAnd}
+use lib.ListN.{length, getD, take, drop}
+use Rattle.flash.specs.Bytes.{Bytes, u16le, u32le}
+use Rattle.flash.specs.Flash.{Step, applyAll, eraseBlock, sizeOf}
+use Rattle.frame.specs.declared.Host.{Host}
+use Rattle.frame.specs.Frame.{Frame}
+use Rattle.frame.specs.Reader.{Tail}
+use Rattle.journal.specs.Replay.{replay}
+use Rattle.journal.specs.Block.{headerLen}
+use Rattle.journal.specs.Room.{used}
+use Rattle.wire.specs.declared.Answer.{Answer}
+use Rattle.wire.specs.declared.Answer.the-variants.{Done, More, Refused}
+use Rattle.wire.specs.declared.Refusal.{Refusal}
+use Rattle.wire.specs.declared.Request.{Request}
+use Rattle.wire.specs.declared.Request.the-variants.{Put, Delete, Commit, Abort, Read, Log}
+use Rattle.wire.specs.Answer.{numberOf}
+use Rattle.board.specs.declared.Phase.{Phase}
+use Rattle.board.specs.declared.Phase.the-variants.{Unmounted, Idle, Busy}
+use Rattle.board.specs.declared.Record.{Record}
+use Rattle.board.specs.Record.{rest, idle, Stretch, noStretch, Out, out}
+use Rattle.board.specs.Mount.{allFound, Store, needsTransfer}
+use Rattle.board.specs.Queue.{Held, needsRoom, placeOf}
+pub use Rattle.board.specs.Exec.{Machine}
+use Rattle.board.specs.Exec.{Call, request, step, mount, format}
+use Rattle.board.specs.Plan.{Follows, formatPlan, mountPlan, mountedAt, framePlan, framedAt}
+use Rattle.board.specs.Table.{frameFor}
+use Rattle.board.specs.Demand1.{Unchanged, ImageAfter, Declared, Rests, EndsWithin}
+use Rattle.board.specs.Demand2.{Accepted, PlannedFrom}
+use Rattle.board.specs.Paper.{Means}
+use Rattle.board.specs.Sentences.{Exactly, InJob, Fresh, ValidAt, linesOf}
+use Rattle.board.specs.Claim.{stepsOn, ByteCall, ByteCalls, Claim}
+use Rattle.board.specs.CutFormat.{CutFormat}
+
+-- ---- what a call answers
+
+-- every call but a step
+abbrev pub NoStep : Call → Type 0
+NoStep (request h msg reply) = Unit {0}
+NoStep step = ⊥
+NoStep mount = Unit {0}
+NoStep format = Unit {0}
+
+-- "It answers 0 with an idle record .., else more with the job in the record"
+pub record Tells (o : Out) : Type 0 where
+  pub done : (numberOf (o .answer) ≡ some 0) ↔ (o .board .phase ≡ Idle)
+  pub more : (o .answer ≡ More) ↔ InJob (o .board .phase)
+
+-- steps, mounts and formats have no reply and no stretch
+abbrev pub Silent : Call → Out → Type 0
+Silent (request h msg reply) o = Unit {0}
+Silent step o = (o .reply ≡ []) × (o .stretch ≡ noStretch)
+Silent mount o = (o .reply ≡ []) × (o .stretch ≡ noStretch)
+Silent format o = (o .reply ≡ []) × (o .stretch ≡ noStretch)
+
+-- "program one byte (new value = old AND given), erase one half (all bytes 0xFF)": each byte keeps only bits that it had, or a half is erased
+abbrev pub OnlyClears : List ℕ → List ℕ → Type 0
+OnlyClears img after =
+    ((i : ℕ) → bitAnd (getD after i 0) (getD img i 0) ≡ getD after i 0) ⊎ ((k : ℕ) × (after ≡ eraseBlock (sizeOf img) k img))
+
+-- ---- accepted requests
+
+-- "else more with the job in the record": a frame to append is a job; any other request is done at once and leaves the record
+abbrev pub Answers : Option Frame → Record → Out → Type 0
+Answers none r o = (numberOf (o .answer) ≡ some 0) × (o .board ≡ r)
+Answers (some f) r o = o .answer ≡ More
+
+-- "Log page 1 writes 14 bytes to the lent reply: length 14 (2), kind 0x0201 (2), creation time (4), settled count (2), U (2), S (2);
+-- later reply bytes stay. Nothing else writes to the reply."
+abbrev pub replyFor : List ℕ → List ℕ → Held → Request → List ℕ
+replyFor img reply x (Put i) = reply
+replyFor img reply x (Delete i) = reply
+replyFor img reply x Commit = reply
+replyFor img reply x Abort = reply
+replyFor img reply x (Read i) = reply
+replyFor img reply x (Log p) =
+    (u16le 14 ++ (u16le 0x0201 ++ (u32le (x .time) ++ (u16le (length (replay (x .frames) .objects))
+    ++ (u16le (used (replay (x .frames))) ++ u16le (sizeOf img))))))
+    ++ drop 14 reply
+
+-- "A read that finds its object hands back that stretch"
+abbrev pub stretchFor : List ℕ → Record → Held → Request → Stretch
+stretchFor img r x (Put i) = noStretch
+stretchFor img r x (Delete i) = noStretch
+stretchFor img r x Commit = noStretch
+stretchFor img r x Abort = noStretch
+stretchFor img r x (Read i) = placeOf img r x i
+stretchFor img r x (Log p) = noStretch
+
+-- an accepted request q of host h, where the image read afresh holds x
+pub record Serves (img : List ℕ) (r : Record) (h : Host) (msg reply : List ℕ) (x : Held) (q : Request) (o : Out) : Type 0 where
+  pub answers : Answers (frameFor h msg x q) r o
+  pub writes : o .reply ≡ replyFor img reply x q
+  pub hands-back : o .stretch ≡ stretchFor img r x q
+
+-- ---- jobs
+
+-- "the valid half is current; of two, the one with the larger time"
+pub record Current (img : List ℕ) (x : Store) : Type 0 where
+  pub is-valid : ValidAt img (x .number) (x .time) (x .frames) (x .tail)
+  pub newest : (k t : ℕ) (fs : List Frame) (c : Tail) → (k ≡ x .number → ⊥) → ValidAt img k t fs c → t < x .time
+
+-- the steps that an accepted call has to do, and the idle record after the last
+pub data Job (img : List ℕ) (r : Record) : Call → List Step → Record → Type 0 where
+  -- "one frame of n bytes, after a transfer if end + n exceeds S"
+  frame-job : (h : Host) (msg reply : List ℕ) (x : Held) (q : Request) (f : Frame) → Fresh img r x → Means msg q → frameFor h msg x q ≡ some f
+      → Job img r (request h msg reply) (framePlan (needsRoom img r f) (r .block) (r .end) x f)
+      (framedAt (needsRoom img r f) (r .last) (r .block) (r .end) x f)
+  -- "The other is erased if it isn't blank. If the current one has a torn tail or anything pending, a transfer of the settled objects
+  -- alone follows."
+  mount-job : (x : Store) → Current img x
+      → Job img r mount (mountPlan (allFound img) x) (mountedAt (needsTransfer (x .frames) (x .tail)) (length img - 1) x)
+  -- "erase half 0, erase half 1, then half 0's header at time 1"
+  format-job : Job img r format (formatPlan img) (idle (rest (length img - 1) 0 headerLen))
+
+-- "each step call then does the next step, and the last one answers 0 with the record idle": of a call's outcome, all by the number of
+-- step calls after it
+pub record StepsOf (m : Machine) (img : List ℕ) (o : Out) (plan : List Step) (z : Record) : Type 0 where
+  pub images : (n : ℕ) → n ≤ length plan → stepsOn m n o .image ≡ applyAll (sizeOf img) (take n plan) img
+  pub more : (n : ℕ) → n < length plan → stepsOn m n o .answer ≡ More
+  pub done : numberOf (stepsOn m (length plan) o .answer) ≡ some 0
+  pub last : stepsOn m (length plan) o .board ≡ z
+
+-- ---- the promise
+
+-- what a machine does on each call
+pub record Calls (m : Machine) : Type 0 where
+  -- "When the queue says no"
+  pub table : (img : List ℕ) (r : Record) (c : Call) → Bytes img → Exactly (linesOf img r c) (m img r c .answer)
+  -- "Every refusal takes no step and changes no byte of image, reply or record; a refused mount or format hands back an unmounted record."
+  pub untouched : (img : List ℕ) (r : Record) (c : Call) (n : Refusal) → m img r c .answer ≡ Refused n → m img r c ≡ Unchanged img r c n
+  -- 0 exactly with an idle record, more exactly with a job in it; but for a step on an unmounted record
+  pub told : (img : List ℕ) (r : Record) (c : Call) → Accepted (m img r c .answer) → (r .phase ≡ Unmounted → NoStep c) → Tells (m img r c)
+  -- "on an unmounted or idle record it answers 0 and changes nothing"
+  pub rests : (img : List ℕ) (r : Record) → Rests (r .phase) → m img r step ≡ out Done img r []
+  pub one-step : (img : List ℕ) (r : Record) (c : Call) → ImageAfter m img r c
+  pub silent : (img : List ℕ) (r : Record) (c : Call) → Silent c (m img r c)
+  -- on any record, forged ones too
+  pub serves : (img : List ℕ) (r : Record) (h : Host) (msg reply : List ℕ) (x : Held) (q : Request) → Bytes img → Bytes msg → Fresh img r x
+      → Means msg q → Accepted (m img r (request h msg reply) .answer) → Serves img r h msg reply x q (m img r (request h msg reply))
+  -- the steps of an accepted call are its job's, in at most S step calls
+  pub jobs : (img : List ℕ) (r : Record) (c : Call) (plan : List Step) (z : Record) → Bytes img → ByteCall c → Job img r c plan z
+      → Accepted (m img r c .answer) → Follows m img (m img r c .board) plan z × (length plan ≤ sizeOf img)
+  -- "A record forged otherwise does at most one step a call .. and ends or gets 11 within 65,536 step calls."
+  pub ends : (img : List ℕ) (r : Record) → Declared r → EndsWithin m 65536 img r
+
+-- and what follows for every list of calls
+pub record Promise (m : Machine) : Type 0 where
+  pub calls : Calls m
+  -- the k-th step call of an accepted call's job does the k-th step of its plan
+  pub steps : (img : List ℕ) (r : Record) (c : Call) (plan : List Step) (z : Record) → Bytes img → ByteCall c → Job img r c plan z
+      → Accepted (m img r c .answer) → StepsOf m img (m img r c) plan z
+  -- programming only clears bits
+  pub clears : (img : List ℕ) (r : Record) (c : Call) → OnlyClears img (m img r c .image)
+  -- demand 2: every step of a run is its plan's and lands
+  pub planned : PlannedFrom m
+  -- demand 3
+  pub claim : Claim m
+  -- "On an image the store left, a cut format leaves the old settled objects, no store, or the empty store."
+  pub cut-format : CutFormat m
+
+-- ---- what a run shows
+
+-- all that a call gives back but what a record holds while a job runs
+pub record Shown : Type 0 where
+  pub answer : Answer
+  pub image : List ℕ
+  pub board : Option Record
+  pub reply : List ℕ
+  pub stretch : Stretch
+
+abbrev pub restingIn : Phase → Record → Option Record
+restingIn Unmounted r = some r
+restingIn Idle r = some r
+restingIn (Busy s) r = none
+
+abbrev pub shownRecord : Record → Option Record
+shownRecord r = restingIn (r .phase) r
+
+abbrev pub shown : Out → Shown
+shown o =
+    record { answer = o .answer; image = o .image; board = shownRecord (o .board); reply = o .reply; stretch = o .stretch }
+
+-- calls that each got what the last gave back
+abbrev pub trace : Machine → List ℕ → Record → List Call → List Shown
+trace m img r [] = []
+trace m img r (c ∷ cs) = let o : Out = m img r c in shown o ∷ trace m (o .image) (o .board) cs
+
+-- a run begins with a mount or a format: "Mount and format take no record."
+abbrev pub Begins : Call → Type 0
+Begins (request h msg reply) = ⊥
+Begins step = ⊥
+Begins mount = Unit {0}
+Begins format = Unit {0}
+
+-- two machines that meet the promise show the same on every run, on an image of any length, whatever records they were first given
+unfoldable pub PromiseDetermines : Type 0
+PromiseDetermines =
+    (m n : Machine) → Promise m → Promise n → (img : List ℕ) (r q : Record) (c : Call) (cs : List Call) → Bytes img → Begins c → ByteCalls cs
+    → trace m img r (c ∷ cs) ≡ trace n img q (c ∷ cs)
+
+-- the same from any record in no job, a forged one too
+unfoldable pub PromiseDeterminesFrom : Type 0
+PromiseDeterminesFrom =
+    (m n : Machine) → Promise m → Promise n → (img : List ℕ) (r : Record) (cs : List Call) → Bytes img → Rests (r .phase) → ByteCalls cs
+    → trace m img r cs ≡ trace n img r cs
+
+-- one call on any record: all is settled but a step of a job, and of a job that is begun the record
+unfoldable pub PromiseDeterminesCall : Type 0
+PromiseDeterminesCall =
+    (m n : Machine) → Promise m → Promise n → (img : List ℕ) (r : Record) (c : Call) → Bytes img → ByteCall c → NoStep c
+    → shown (m img r c) ≡ shown (n img r c)
