@@ -20,7 +20,7 @@ const MEANING: [(Answer, &str); 4] = [
         Answer::FOREIGN,
         "A half is foreign, or both are equally new.\nOnly a format helps, and it loses all objects.",
     ),
-    (Answer::IMAGE_LENGTH, "It must be a multiple of 256\nfrom 512 to 65,536."),
+    (Answer::IMAGE_LENGTH, "It must be a multiple of 256 from 512 to 65,536."),
     (
         Answer::WORN,
         "A transfer is needed, and the time cannot rise.\nOnly a format helps, and it loses all objects.",
@@ -103,15 +103,14 @@ impl<'a> Report<'a> {
         if let Some((_, meaning)) = MEANING.iter().find(|(answer, _)| *answer == self.answer) {
             return writeln!(out, "mount answers {}. {meaning}", say::named(self.answer).replacen(' ', ", ", 1));
         }
-        let half = self.current.map_or(String::new(), |half| format!("; half {half} is current"));
         match self.answer {
-            Answer::DONE => writeln!(out, "mount answers 0, done, without a step{half}."),
-            _ => writeln!(
-                out,
-                "mount answers more (255 in C), and 0, done, after {}{half}.",
-                count(self.steps, "step")
-            ),
+            Answer::DONE => writeln!(out, "mount answers 0, done, without a step.")?,
+            _ => {
+                let steps = count(self.steps, "step");
+                writeln!(out, "mount answers more (255 in C), and 0, done, after {steps}.")?;
+            }
         }
+        self.current.map_or(Ok(()), |half| writeln!(out, "Half {half} is then current."))
     }
 }
 

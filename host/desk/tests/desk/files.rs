@@ -94,6 +94,6 @@ fn a_returned_board_from_end_to_end() {
     assert_eq!(status, 0);
     assert!(shown.contains("  host 2  put 5 = \"AB\"\n"), "{shown}");
     // Row f.
-    let mount = "mount answers more (255 in C), and 0, done, after 11 steps; half 1 is current.\n";
+    let mount = "mount answers more (255 in C), and 0, done, after 11 steps.\nHalf 1 is then current.\n";
     assert!(shown.ends_with(mount), "{shown}");
 }

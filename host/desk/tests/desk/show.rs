@@ -56,7 +56,8 @@ Pending in half 0: 2 changes, which a mount drops
   host 1  put 6 = ff
   host 3  delete 5
 
-mount answers more (255 in C), and 0, done, after 20 steps; half 1 is current.
+mount answers more (255 in C), and 0, done, after 20 steps.
+Half 1 is then current.
 "
     );
     assert_eq!(run(&["show", &file], b""), (0, expected, String::new()));
@@ -85,7 +86,7 @@ Settled in half 1";
 #[test]
 fn nothing_to_tidy_up() {
     let nothing = ["Settled in half 0: no objects; 16 of 256 bytes used\n\n", "Pending in half 0: no changes\n\n"];
-    let mount = "mount answers 0, done, without a step; half 0 is current.\n";
+    let mount = "mount answers 0, done, without a step.\nHalf 0 is then current.\n";
     let state = "half 0, current: valid, time 1\n  no frames up to byte 16, the rest is blank\n";
     check([HEADER, ""], 0, &[state, nothing[0], nothing[1], mount]);
     let settled = format!("{HEADER}{PUT}{COMMIT}");
@@ -94,12 +95,12 @@ fn nothing_to_tidy_up() {
     let second = format!("{LAST}0900050005004142fe");
     let parts =
         ["half 1, current: valid, time 4294967295\n  1 frame up to byte 281,", "    5    278      2  \"AB\"\n"];
-    check(["", &second], 0, &[parts[0], parts[1], "without a step; half 1 is current.\n"]);
+    check(["", &second], 0, &[parts[0], parts[1], "without a step.\nHalf 1 is then current.\n"]);
 }
 
 #[test]
 fn halves_beside_the_current_one() {
-    let one_step = "mount answers more (255 in C), and 0, done, after 1 step; half 0 is current.\n";
+    let one_step = "mount answers more (255 in C), and 0, done, after 1 step.\nHalf 0 is then current.\n";
     let cut = "half 1: in progress: power was lost while it was being written\n    256  ........w.......";
     check([HEADER, "fffffffffffffffffe"], 0, &["half 0, current: valid", cut, one_step]);
     let old = format!("{HEADER}{PUT}{COMMIT}");
@@ -113,7 +114,7 @@ fn halves_beside_the_current_one() {
 #[test]
 fn torn_frames() {
     // Row g: cut after 5 of the commit's 6 steps.
-    let mount = "mount answers more (255 in C), and 0, done, after 11 steps; half 1 is current.\n";
+    let mount = "mount answers more (255 in C), and 0, done, after 11 steps.\nHalf 1 is then current.\n";
     for (torn, said, drawn) in [
         ("0600030002", "5 bytes of a torn commit of host 2", "PPPPPPPPPPTTTTT..."),
         ("060004", "3 bytes of a torn abort", "PPPPPPPPPPTTT..."),
@@ -204,7 +205,7 @@ Pending in half 0: 1 change, which a mount drops
 
 #[test]
 fn lengths() {
-    let refused = "\n\nmount answers 4, image length. It must be a multiple of 256\nfrom 512 to 65,536.\n";
+    let refused = "\n\nmount answers 4, image length. It must be a multiple of 256 from 512 to 65,536.\n";
     for (length, said) in [
         (0, "no bytes"),
         (1, "1 byte"),
