@@ -1,48 +1,132 @@
 //! The store from the command line; `help.txt` says how.
 
+mod arguments;
 mod board;
 mod demo;
+mod input;
 mod picture;
+mod say;
 mod script;
+mod show;
+mod survey;
 
+use arguments::{Asked, Command, Failure, WRONG};
+use input::{LARGEST, LONGEST};
 use library::Library;
-use std::fs::File;
-use std::io::{self, BufReader, ErrorKind};
+use script::{Manner, Trouble};
+use show::{Report, Wanted};
+use std::ffi::OsString;
+use std::io::{self, BufReader, BufWriter, ErrorKind, Write};
 use std::process::ExitCode;
 
 const HELP: &str = include_str!("help.txt");
 
+const COMMANDS: [Command; 4] = [
+    Command { name: "show", takes: "[--hex] [--journal] FILE", run: show },
+    Command { name: "replay", takes: "[--words] [--strict] [FILE]", run: replay },
+    Command { name: "demo", takes: "", run: demo },
+    Command { name: "help", takes: "", run: help },
+];
+
+/// For a file of hex that was read as an image.
+const HINT: &str = "FILE is all hex digits, though: try --hex.\n";
+
+/// The exit status of a replay or demo that could not go on.
+const FAILED: u8 = 1;
+
 fn main() -> ExitCode {
-    let store = Library::linked();
-    let arguments: Vec<String> = std::env::args().skip(1).collect();
-    let words: Vec<&str> = arguments.iter().map(String::as_str).collect();
-    match words[..] {
-        ["replay"] | ["replay", "-"] => ended(script::replay(&store, io::stdin().lock(), io::stdout().lock())),
-        ["replay", file] => match File::open(file) {
-            Ok(script) => ended(script::replay(&store, BufReader::new(script), io::stdout().lock())),
-            Err(error) => failed(&format!("{file}: {error}")),
-        },
-        ["demo"] => ended(demo::demo(&store, &mut io::stdout().lock())),
-        ["help" | "--help" | "-h"] => {
-            print!("{HELP}");
-            ExitCode::SUCCESS
-        }
-        _ => {
-            eprint!("{HELP}");
-            ExitCode::from(2)
+    let arguments: Vec<OsString> = std::env::args_os().skip(1).collect();
+    match run(&arguments) {
+        Ok(true) => ExitCode::SUCCESS,
+        Ok(false) => ExitCode::FAILURE,
+        Err(Failure { status, why }) => {
+            // Nobody is left to be told if this fails.
+            let _ = writeln!(io::stderr(), "desk: {why}");
+            ExitCode::from(status)
         }
     }
+}
+
+fn run(arguments: &[OsString]) -> Result<bool, Failure> {
+    let Some((first, rest)) = arguments.split_first() else {
+        return Err(Failure { status: WRONG, why: HELP.trim_start_matches("desk: ").trim_end().to_string() });
+    };
+    if arguments.iter().any(|word| word == "--help" || word == "-h") {
+        return print(HELP);
+    }
+    match COMMANDS.iter().find(|command| first == command.name) {
+        Some(command) => (command.run)(&command.read(rest)?),
+        None => {
+            let names = COMMANDS.map(|command| command.name).join(", ");
+            let why =
+                format!("no command is named {}\ncommands: {names}; `desk help` says more", say::name(first));
+            Err(Failure { status: WRONG, why })
+        }
+    }
+}
+
+fn show(asked: &Asked) -> Result<bool, Failure> {
+    let name = asked.name();
+    let failed = |why: String| Failure { status: WRONG, why: format!("{name}: {why}") };
+    let (hex, file) = (asked.has("--hex"), asked.open().map_err(failed)?);
+    let most = if hex { LONGEST } else { LARGEST };
+    let bytes = input::whole(file, most).map_err(|error| failed(input::why(&error)))?;
+    let image = if hex { &input::from_hex(&bytes).map_err(failed)? } else { &bytes };
+    let report = Report::new(&Library::linked(), image);
+    let mut out = BufWriter::new(io::stdout().lock());
+    let wanted = Wanted { journal: asked.has("--journal") };
+    let hint = if !hex && !report.store() && input::looks_like_hex(image) { HINT } else { "" };
+    let shown = report.write(&name, &length(image, hex), wanted, &mut out);
+    written(shown.and_then(|()| out.write_all(hint.as_bytes())).and_then(|()| out.flush()), WRONG)?;
+    Ok(report.store())
+}
+
+/// How long an image is; of a file that is too large not all was read.
+fn length(image: &[u8], hex: bool) -> String {
+    match image.len() {
+        length if length > LARGEST && !hex => format!("more than {}", say::count(LARGEST, "byte")),
+        length => say::count(length, "byte"),
+    }
+}
+
+fn replay(asked: &Asked) -> Result<bool, Failure> {
+    let failed = |why: String| Failure { status: FAILED, why: format!("{}: {why}", asked.name()) };
+    let script = BufReader::new(asked.open().map_err(failed)?);
+    let manner = Manner { words: asked.has("--words"), strict: asked.has("--strict") };
+    match script::replay(&Library::linked(), manner, script, io::stdout().lock()) {
+        Ok(readable) => Ok(readable),
+        Err(Trouble::Input(error)) => Err(failed(input::why(&error))),
+        Err(Trouble::Output(error)) => written(Err(error), FAILED).map(|()| true),
+    }
+}
+
+fn demo(_: &Asked) -> Result<bool, Failure> {
+    let mut out = BufWriter::new(io::stdout().lock());
+    let mut whole = true;
+    let told = demo::demo(&Library::linked(), &mut out).and_then(|found| {
+        whole = found;
+        out.flush()
+    });
+    written(told, FAILED)?;
+    Ok(whole)
+}
+
+fn help(_: &Asked) -> Result<bool, Failure> {
+    print(HELP)
+}
+
+fn print(text: &str) -> Result<bool, Failure> {
+    let mut out = io::stdout().lock();
+    written(out.write_all(text.as_bytes()).and_then(|()| out.flush()), FAILED)?;
+    Ok(true)
 }
 
 /// A reader that wants no more lines is no failure.
-fn ended(result: io::Result<()>) -> ExitCode {
+fn written(result: io::Result<()>, status: u8) -> Result<(), Failure> {
     match result {
-        Err(error) if error.kind() != ErrorKind::BrokenPipe => failed(&error.to_string()),
-        _ => ExitCode::SUCCESS,
+        Err(error) if error.kind() != ErrorKind::BrokenPipe => {
+            Err(Failure { status, why: format!("standard output: {}", input::why(&error)) })
+        }
+        _ => Ok(()),
     }
-}
-
-fn failed(why: &str) -> ExitCode {
-    eprintln!("desk: {why}");
-    ExitCode::FAILURE
 }

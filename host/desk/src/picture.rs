@@ -1,44 +1,61 @@
 //! A picture of both halves, a letter for each byte.
 
+use crate::say::count;
+use crate::survey::{Side, sides};
 use model::frame::{Body, Frame, Id};
-use model::half::{self, HEADER, Half, Replay};
-use model::half_of;
+use model::half::{HEADER, Half, Replay};
 
 pub const LEGEND: &str = concat!(
     "  H header     S settled value   P pending change   C commit or abort mark\n",
-    "  x used up    T torn frame      w being written    ? foreign   . blank"
+    "  x used up    T torn frame      w being written    ? foreign   . blank\n",
+    "  In front of each row: where it starts, counted from the image's start.\n",
 );
 
 const ROW: usize = 64;
+const BLANK: char = '.';
 
 pub fn picture(image: &[u8]) -> String {
-    let rows = |half: usize| {
-        let letters = letters(half_of(image, half));
-        let rows: Vec<String> = letters.chunks(ROW).map(|row| row.iter().collect()).collect();
-        format!("  half {half}  {}\n", rows.join("\n          "))
-    };
-    rows(0) + &rows(1)
+    sides(image).iter().map(|side| format!("half {}\n{}", side.number, rows(side))).collect()
 }
 
-fn letters(bytes: &[u8]) -> Vec<char> {
-    match half::read(bytes) {
-        Half::Blank => vec!['.'; bytes.len()],
-        Half::InProgress => programmed(bytes, 'w'),
-        Half::Foreign => programmed(bytes, '?'),
+/// A half in rows; blank rows that follow each other are told in one.
+pub fn rows(side: &Side) -> String {
+    let letters = letters(side);
+    let rows: Vec<&[char]> = letters.chunks(ROW).collect();
+    let mut at = side.base;
+    let mut picture = String::new();
+    for rows in rows.chunk_by(|row, next| blank(row) && blank(next)) {
+        let bytes = rows.iter().map(|row| row.len()).sum();
+        let row =
+            if blank(rows[0]) { format!("{} blank", count(bytes, "byte")) } else { rows[0].iter().collect() };
+        picture += &format!("  {at:>5}  {row}\n");
+        at += bytes;
+    }
+    picture
+}
+
+fn blank(row: &[char]) -> bool {
+    row.iter().all(|letter| *letter == BLANK)
+}
+
+fn letters(side: &Side) -> Vec<char> {
+    let programmed = |letter| -> Vec<char> {
+        side.bytes.iter().map(|byte| if *byte == 0xFF { BLANK } else { letter }).collect()
+    };
+    match &side.half {
+        Half::Blank => programmed(BLANK),
+        Half::InProgress => programmed('w'),
+        Half::Foreign => programmed('?'),
         Half::Valid(journal) => {
-            let mut letters = programmed(bytes, 'T');
+            let mut letters = programmed('T');
             letters[..HEADER].fill('H');
-            let replay = half::replay(&journal);
+            let replay = model::half::replay(journal);
             for frame in &journal.frames {
                 letters[frame.place.clone()].fill(letter(frame, &replay));
             }
             letters
         }
     }
-}
-
-fn programmed(bytes: &[u8], letter: char) -> Vec<char> {
-    bytes.iter().map(|byte| if *byte == 0xFF { '.' } else { letter }).collect()
 }
 
 fn letter(frame: &Frame, replay: &Replay) -> char {
@@ -58,12 +75,22 @@ fn letter(frame: &Frame, replay: &Replay) -> char {
 mod tests {
     use super::*;
     use model::frame::{Host, abort, commit, delete, put, settled};
+    use model::half;
 
-    fn valid(frames: &[Vec<u8>]) -> String {
-        let header = [0x10, 0, 1, 0x4A, 0xFE, 0xFF, 0xFF, 0xFF, 0xFC, 0xFF, 0xFF, 0xFF, 0xFF, 0xFF, 0xFF, 0xFF];
-        let mut half = [header.to_vec(), frames.concat()].concat();
-        half.resize(96, 0xFF);
-        letters(&half).into_iter().collect()
+    const HEAD: [u8; 16] = [16, 0, 1, 0x4A, 0xFE, 255, 255, 255, 0xFC, 255, 255, 255, 255, 255, 255, 255];
+
+    fn side(bytes: &[u8]) -> Side<'_> {
+        Side { number: 0, base: 0, bytes, half: half::read(bytes) }
+    }
+
+    fn text(bytes: &[u8]) -> String {
+        letters(&side(bytes)).into_iter().collect()
+    }
+
+    fn valid(frames: &[Vec<u8>], size: usize) -> Vec<u8> {
+        let mut half = [HEAD.to_vec(), frames.concat()].concat();
+        half.resize(size, 0xFF);
+        half
     }
 
     #[test]
@@ -80,17 +107,32 @@ mod tests {
             vec![9, 0, 1],
         ];
         let expected = "HHHHHHHHHHHHHHHH SSSSSSSS xxxxxxx SSSSSSSSS CCCCCC xxxxxxxx CCCCCC PPPPPPPP TTT";
-        assert_eq!(valid(&frames).trim_end_matches('.'), expected.replace(' ', ""));
+        assert_eq!(text(&valid(&frames, 96)).trim_end_matches('.'), expected.replace(' ', ""));
     }
 
     #[test]
     fn other_halves() {
-        let text = |bytes: &[u8]| letters(bytes).into_iter().collect::<String>();
         let mut half = [0xFF; 20];
         assert_eq!(text(&half), "....................");
         half[8] = 0xFE;
         assert_eq!(text(&half), "........w...........");
         half[8] = 0x00;
         assert_eq!(text(&half), "........?...........");
+    }
+
+    #[test]
+    fn only_blank_rows_are_folded() {
+        // A value of 0xFF bytes fills the third row: it is written, so it is drawn.
+        let frames = [settled(Id(1), &[0; 41]), settled(Id(2), &[0; 57]), settled(Id(3), &[255; 64])];
+        let half = valid(&frames, 448);
+        let full = |letters: &str| letters.repeat(64);
+        let drawn = [
+            format!("      0  {}{}\n", "H".repeat(16), "S".repeat(48)),
+            format!("     64  {}\n    128  {}\n", full("S"), full("S")),
+            format!("    192  {}{}\n    256  192 bytes blank\n", "S".repeat(7), ".".repeat(57)),
+        ];
+        assert_eq!(rows(&side(&half)), drawn.concat());
+        let blank = Side { number: 1, base: 256, bytes: &[0xFF; 256], half: Half::Blank };
+        assert_eq!(rows(&blank), "    256  256 bytes blank\n");
     }
 }

@@ -1,38 +1,8 @@
-//! The program itself, run on scripts.
+//! The calls byte for byte, on document 01's rows, forged records and lines that cannot be read.
 
-use std::io::Write;
-use std::process::{Command, Output, Stdio};
+use super::{check, command, desk, replay, run};
 
 const TICKETS: &str = concat!(env!("CARGO_MANIFEST_DIR"), "/../../examples/tickets");
-
-fn desk(arguments: &[&str], input: &[u8]) -> Output {
-    let mut child = Command::new(env!("CARGO_BIN_EXE_desk"))
-        .args(arguments)
-        .stdin(Stdio::piped())
-        .stdout(Stdio::piped())
-        .stderr(Stdio::piped())
-        .spawn()
-        .expect("desk starts");
-    child.stdin.take().expect("a pipe").write_all(input).expect("desk reads");
-    child.wait_with_output().expect("desk ends")
-}
-
-fn replay(script: &[u8]) -> String {
-    let output = desk(&["replay"], script);
-    assert!(output.status.success());
-    String::from_utf8(output.stdout).expect("text")
-}
-
-/// Lines with the answers that each must get.
-fn check(pairs: &[(&str, &str)]) {
-    let script: Vec<&str> = pairs.iter().map(|(line, _)| *line).collect();
-    let output = replay(script.join("\n").as_bytes());
-    let answers: Vec<&str> = output.lines().collect();
-    for ((line, expected), answer) in pairs.iter().zip(&answers) {
-        assert_eq!(answer, expected, "{line}");
-    }
-    assert_eq!(answers.len(), pairs.len());
-}
 
 fn put_of(id: u8, size: usize) -> String {
     format!("req 0 {:02x}000101{id:02x}00{} 0", 6 + size, "aa".repeat(size))
@@ -99,19 +69,12 @@ fn rows_i_to_m() {
         ("req 0 060001010400 0", "more"),
     ];
     check(&[&before_l[..], &[("run", "0 steps=161"), ("record", "idle len=512 half=1 end=166")]].concat());
-    let old = [
-        ("step 151", "more"),
-        ("record", "idle len=512 half=0 end=252"),
-        ("read 0 060005010200", "0 at=95 len=64"),
-    ];
-    let new = [
-        ("step 152", "more"),
-        ("record", "idle len=512 half=1 end=158"),
-        ("read 0 060005010200", "0 at=278 len=64"),
-    ];
-    for [cut, record, read] in [old, new] {
-        let mount = [cut, ("mount", "more"), ("run", "0 steps=1"), record, ("read 0 060005010100", "8"), read];
-        check(&[&before_l[..], &mount].concat());
+    let old = ("step 151", "idle len=512 half=0 end=252", "0 at=95 len=64");
+    let new = ("step 152", "idle len=512 half=1 end=158", "0 at=278 len=64");
+    for (cut, record, place) in [old, new] {
+        let mount = [(cut, "more"), ("mount", "more"), ("run", "0 steps=1"), ("record", record)];
+        let reads = [("read 0 060005010100", "8"), ("read 0 060005010200", place)];
+        check(&[&before_l[..], &mount, &reads].concat());
     }
 }
 
@@ -208,31 +171,23 @@ fn pokes_and_forged_records() {
 
 #[test]
 fn tickets() {
+    let expected = |name: &str| std::fs::read_to_string(format!("{TICKETS}/{name}.expected")).expect("answers");
     for ticket in ["1-bad-log-length", "2-power-cuts"] {
-        let output = desk(&["replay", &format!("{TICKETS}/{ticket}.desk")], b"");
-        let expected = std::fs::read_to_string(format!("{TICKETS}/{ticket}.expected")).expect("expected answers");
-        assert_eq!(String::from_utf8(output.stdout).expect("text"), expected, "{ticket}");
-        assert!(output.status.success());
+        let (status, out, errors) = run(&["replay", "--strict", &format!("{TICKETS}/{ticket}.desk")], b"");
+        assert_eq!((status, &out, &errors[..]), (0, &expected(ticket), ""), "{ticket}");
     }
-}
-
-#[test]
-fn demo_says_what_it_checked() {
-    let output = desk(&["demo"], b"");
+    let show = ["show", "--hex", "--journal", "returned-board.hex"];
+    let output = command(&show).current_dir(TICKETS).output().expect("desk ends");
+    assert_eq!(String::from_utf8(output.stdout).expect("text"), expected("returned-board"));
     assert!(output.status.success());
-    let story = String::from_utf8(output.stdout).expect("text");
-    assert!(story.contains("TICKET 1") && story.contains("TICKET 2"));
-    let summary = "Checked: 65,535 bad lengths refused without a trace, 6 steps undisturbed, 140 power cuts and 7,116 \
-                   more in the recoveries, 29,030 reads; 0 half changes.";
-    assert_eq!(story.lines().last(), Some(summary));
 }
 
 #[test]
 fn wrong_commands() {
     for arguments in [&[][..], &["play"], &["replay", "a", "b"]] {
-        let output = desk(arguments, b"");
-        assert_eq!(output.status.code(), Some(2));
-        assert!(output.stdout.is_empty() && !output.stderr.is_empty());
+        let (status, out, errors) = run(arguments, b"");
+        assert_eq!((status, &out[..]), (2, ""));
+        assert!(!errors.is_empty());
     }
     assert_eq!(desk(&["replay", "no such file"], b"").status.code(), Some(1));
     let help = desk(&["help"], b"");

@@ -1,0 +1,212 @@
+//! The calls that a script may make.
+
+use super::Back;
+use super::word::{Word, Words};
+use crate::board::Board;
+use crate::input::{self, LARGEST};
+use crate::say;
+use std::fs;
+use store::message::{self, ABORT, COMMIT, DELETE, LOG, PAGE, PUT, READ};
+use store::{Answer, Head, Idle, Store};
+
+type Made = Result<Back, String>;
+
+pub struct Call<S: Store> {
+    pub name: &'static str,
+    /// The words that go with it, in brackets what may be left out.
+    pub takes: &'static str,
+    make: fn(&mut Board<S>, &[Word]) -> Made,
+}
+
+impl<S: Store> Call<S> {
+    pub const ALL: [Call<S>; 21] = [
+        Call { name: "new", takes: "LEN", make: new },
+        Call { name: "image", takes: "HEX", make: image },
+        Call { name: "load", takes: "FILE", make: load },
+        Call { name: "save", takes: "FILE", make: save },
+        Call { name: "mount", takes: "", make: |board, _| answer(board.mount()) },
+        Call { name: "format", takes: "", make: |board, _| answer(board.format()) },
+        Call { name: "step", takes: "[N]", make: step },
+        Call { name: "run", takes: "", make: run },
+        Call { name: "req", takes: "HOST HEX LEN", make: request },
+        Call { name: "read", takes: "HOST HEX", make: read },
+        Call { name: "put", takes: "HOST ID VALUE", make: put },
+        Call { name: "delete", takes: "HOST ID", make: delete },
+        Call { name: "commit", takes: "HOST", make: |board, words| ask(board, &words[0], COMMIT, &[]) },
+        Call { name: "abort", takes: "HOST", make: |board, words| ask(board, &words[0], ABORT, &[]) },
+        Call { name: "get", takes: "HOST ID", make: get },
+        Call { name: "log", takes: "HOST", make: log },
+        Call { name: "dump", takes: "", make: dump },
+        Call { name: "record", takes: "", make: record },
+        Call { name: "idle", takes: "LEN HALF END", make: idle },
+        Call { name: "unmount", takes: "", make: unmount },
+        Call { name: "poke", takes: "OFFSET HEX", make: poke },
+    ];
+
+    /// Makes the call with the words that follow its name on the line.
+    pub fn make(&self, board: &mut Board<S>, words: Words) -> Made {
+        let takes = self.takes.split_whitespace();
+        let (least, most) = (takes.clone().filter(|word| !word.starts_with('[')).count(), takes.count());
+        let words: Vec<Word> = words.take(most + 1).collect::<Result<_, _>>()?;
+        if (least..=most).contains(&words.len()) {
+            return (self.make)(board, &words);
+        }
+        Err(match self.takes {
+            "" => format!("{} stands alone", self.name),
+            takes => format!("{} goes with {takes}", self.name),
+        })
+    }
+}
+
+fn answer(answer: Answer) -> Made {
+    Ok(Back::Answer(answer, String::new()))
+}
+
+fn new<S: Store>(board: &mut Board<S>, words: &[Word]) -> Made {
+    *board = Board::new(board.store, vec![0xFF; words[0].number(0, LARGEST)?]);
+    Ok(Back::Ok)
+}
+
+fn image<S: Store>(board: &mut Board<S>, words: &[Word]) -> Made {
+    *board = Board::new(board.store, words[0].bytes()?);
+    Ok(Back::Ok)
+}
+
+fn load<S: Store>(board: &mut Board<S>, words: &[Word]) -> Made {
+    let path = words[0].file()?;
+    let failed = |why: String| format!("{}: {why}", words[0].said());
+    let file = input::open(path).map_err(failed)?;
+    let image = input::whole(file, LARGEST).map_err(|error| failed(input::why(&error)))?;
+    if image.len() > LARGEST {
+        return Err(failed(format!("more than {LARGEST} bytes")));
+    }
+    *board = Board::new(board.store, image);
+    Ok(Back::Ok)
+}
+
+fn save<S: Store>(board: &mut Board<S>, words: &[Word]) -> Made {
+    let path = words[0].file()?;
+    fs::write(path, &board.image).map_err(|error| format!("{}: {}", words[0].said(), input::why(&error)))?;
+    Ok(Back::Ok)
+}
+
+fn step<S: Store>(board: &mut Board<S>, words: &[Word]) -> Made {
+    let most = words.first().map_or(Ok(1), |word| word.number(1, usize::MAX))?;
+    let mut last = board.step();
+    for _ in 1..most {
+        if last != Answer::MORE {
+            break;
+        }
+        last = board.step();
+    }
+    answer(last)
+}
+
+fn run<S: Store>(board: &mut Board<S>, _: &[Word]) -> Made {
+    let (answer, steps) = board.run();
+    Ok(Back::Answer(answer, format!("steps={steps}")))
+}
+
+fn request<S: Store>(board: &mut Board<S>, words: &[Word]) -> Made {
+    let (host, message) = (words[0].byte()?, words[1].bytes()?);
+    let mut reply = vec![0; words[2].number(0, LARGEST)?];
+    let answer = board.request(host, &message, &mut reply);
+    let written = reply.iter().any(|byte| *byte != 0);
+    let fields = if written { format!("reply={}", say::bytes(&reply)) } else { String::new() };
+    Ok(Back::Answer(answer, fields))
+}
+
+fn read<S: Store>(board: &mut Board<S>, words: &[Word]) -> Made {
+    match board.read(words[0].byte()?, &words[1].bytes()?) {
+        (Answer::DONE, stretch) => {
+            Ok(Back::Answer(Answer::DONE, format!("at={} len={}", stretch.at, stretch.len)))
+        }
+        (refusal, _) => answer(refusal),
+    }
+}
+
+/// A request in words, of which only the log writes a reply.
+fn ask<S: Store>(board: &mut Board<S>, host: &Word, kind: u16, body: &[u8]) -> Made {
+    answer(board.request(host.byte()?, &message::message(kind, body), &mut []))
+}
+
+/// An id as a message holds it, in two bytes; the store refuses those above 255.
+fn id(word: &Word) -> Result<[u8; 2], String> {
+    word.short().map(u16::to_le_bytes)
+}
+
+fn put<S: Store>(board: &mut Board<S>, words: &[Word]) -> Made {
+    let (id, value) = (id(&words[1])?, words[2].value()?);
+    let most = usize::from(u16::MAX) - message::message(PUT, &id).len();
+    if value.len() > most {
+        return Err(format!("a message has room for {most} bytes of value"));
+    }
+    ask(board, &words[0], PUT, &[&id[..], &value].concat())
+}
+
+fn delete<S: Store>(board: &mut Board<S>, words: &[Word]) -> Made {
+    ask(board, &words[0], DELETE, &id(&words[1])?)
+}
+
+fn get<S: Store>(board: &mut Board<S>, words: &[Word]) -> Made {
+    match board.read(words[0].byte()?, &message::message(READ, &id(&words[1])?)) {
+        (Answer::DONE, stretch) => Ok(Back::Value(stretch.of(&board.image).to_vec())),
+        (refusal, _) => answer(refusal),
+    }
+}
+
+fn log<S: Store>(board: &mut Board<S>, words: &[Word]) -> Made {
+    let mut page = [0; PAGE];
+    let answer = board.request(words[0].byte()?, &message::message(LOG, &[1]), &mut page);
+    let [_, _, _, _, t0, t1, t2, t3, n0, n1, u0, u1, s0, s1] = page;
+    let time = u32::from_le_bytes([t0, t1, t2, t3]);
+    let [objects, used, size] = [[n0, n1], [u0, u1], [s0, s1]].map(u16::from_le_bytes);
+    let fields = format!("time={time} objects={objects} used={used} size={size}");
+    Ok(Back::Answer(answer, if answer.refused() { String::new() } else { fields }))
+}
+
+fn dump<S: Store>(board: &mut Board<S>, _: &[Word]) -> Made {
+    Ok(Back::Plain(format!("image={}", say::bytes(&board.image))))
+}
+
+fn record<S: Store>(board: &mut Board<S>, _: &[Word]) -> Made {
+    Ok(Back::Plain(match board.head() {
+        Head::Unmounted => "unmounted".to_string(),
+        Head::Idle(Idle { length, half, end }) => format!("idle len={length} half={half} end={end}"),
+        Head::Job => "job".to_string(),
+    }))
+}
+
+fn idle<S: Store>(board: &mut Board<S>, words: &[Word]) -> Made {
+    let idle = Idle { length: words[0].number(1, 65_536)?, half: words[1].byte()?, end: words[2].short()? };
+    board.record = board.store.idle(idle);
+    Ok(Back::Ok)
+}
+
+fn unmount<S: Store>(board: &mut Board<S>, _: &[Word]) -> Made {
+    board.record = board.store.unmounted();
+    Ok(Back::Ok)
+}
+
+fn poke<S: Store>(board: &mut Board<S>, words: &[Word]) -> Made {
+    let (offset, bytes) = (words[0].number(0, usize::MAX)?, words[1].bytes()?);
+    let length = board.image.len();
+    let place = offset.checked_add(bytes.len()).and_then(|end| board.image.get_mut(offset..end));
+    place.ok_or_else(|| format!("the image has only {length} bytes"))?.copy_from_slice(&bytes);
+    Ok(Back::Ok)
+}
+
+#[cfg(test)]
+mod tests {
+    use super::*;
+    use model::Model;
+
+    #[test]
+    fn help_names_every_call() {
+        for call in Call::<Model>::ALL {
+            let line = format!("    {} {}", call.name, call.takes);
+            let found = crate::HELP.lines().any(|help| help.starts_with(line.trim_end()));
+            assert!(found, "{line}");
+        }
+    }
+}

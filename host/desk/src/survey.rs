@@ -1,0 +1,72 @@
+//! The halves of an image, and what state each is in.
+
+use crate::say::count;
+use model::frame::{Body, Frame, Host};
+use model::half::{self, Half, Journal};
+use model::half_of;
+
+/// Frames of kinds 1 to 4, which may be torn.
+const KINDS: [&str; 4] = ["put", "delete", "commit", "abort"];
+
+pub struct Side<'a> {
+    pub number: usize,
+    /// Where the half starts in the image.
+    pub base: usize,
+    pub bytes: &'a [u8],
+    pub half: Half,
+}
+
+/// Both halves of an image whose length is allowed.
+pub fn sides(image: &[u8]) -> Vec<Side<'_>> {
+    let side = |number| {
+        let bytes = half_of(image, number);
+        Side { number, base: number * bytes.len(), bytes, half: half::read(bytes) }
+    };
+    [0, 1].map(side).into()
+}
+
+impl Side<'_> {
+    /// The journal of a valid half.
+    pub fn journal(&self) -> Option<&Journal> {
+        match &self.half {
+            Half::Valid(journal) => Some(journal),
+            _ => None,
+        }
+    }
+
+    /// The creation time of a valid half.
+    pub fn time(&self) -> Option<u32> {
+        self.journal().map(|journal| journal.time)
+    }
+
+    pub fn state(&self) -> String {
+        match &self.half {
+            Half::Blank => "blank".to_string(),
+            Half::InProgress => "in progress: power was lost while it was being written".to_string(),
+            Half::Foreign => "foreign: no store leaves a half like this".to_string(),
+            Half::Valid(journal) => {
+                let tail = if journal.torn { self.torn(journal.end) } else { "the rest is blank".to_string() };
+                let (frames, end) = (count(journal.frames.len(), "frame"), self.base + journal.end);
+                format!("valid, time {}\n  {frames} up to byte {end}, {tail}", journal.time)
+            }
+        }
+    }
+
+    /// What stands at `end`, where a frame was cut while it was being written.
+    fn torn(&self, end: usize) -> String {
+        let tail = &self.bytes[end..];
+        let length = tail.iter().rposition(|byte| *byte != 0xFF).map_or(0, |last| last + 1);
+        let kind = tail[..length].get(2).and_then(|kind| KINDS.get(usize::from(*kind).checked_sub(1)?));
+        let host = tail[..length].get(4).map(|host| format!(" of host {host}"));
+        let (kind, host) = (kind.unwrap_or(&"frame"), host.unwrap_or_default());
+        format!("then {} of a torn {kind}{host}", count(length, "byte"))
+    }
+}
+
+/// The host that a frame is from.
+pub fn owner(frame: &Frame) -> Option<Host> {
+    match frame.body {
+        Body::Put(host, ..) | Body::Delete(host, _) | Body::Commit(host) | Body::Abort(host) => Some(host),
+        Body::Settled(..) => None,
+    }
+}
