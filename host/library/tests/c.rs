@@ -103,7 +103,7 @@ fn the_program_in_readme_with_the_installed_files() {
     try_readme("installed-readme", &flags);
 }
 
-/// DESTDIR is where the files go, not what they say.
+/// DESTDIR is where the files go, not what they say. The version is the header's, and that of the crates here.
 #[test]
 fn installed_to_a_staging_folder() {
     let stage = Path::new(SCRATCH).join("stage");
@@ -111,6 +111,7 @@ fn installed_to_a_staging_folder() {
     let installed = |path: &str| stage.join("opt/store").join(path);
     assert_eq!(text(installed("include/grommetide.h")), text(repository("include/grommetide.h")));
     assert!(installed("lib/libgrommetide.a").is_file());
-    let flags = flags_in(&text(installed("lib/pkgconfig/grommetide.pc")));
-    assert_eq!(flags, ["-I/opt/store/include", "-L/opt/store/lib", "-lgrommetide"]);
+    let file = text(installed("lib/pkgconfig/grommetide.pc"));
+    assert_eq!(flags_in(&file), ["-I/opt/store/include", "-L/opt/store/lib", "-lgrommetide"]);
+    assert!(file.contains(concat!("\nVersion: ", env!("CARGO_PKG_VERSION"), "\n")), "{file}");
 }
