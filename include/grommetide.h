@@ -2,7 +2,7 @@
  * Grommetide: a settings store in two halves of NOR flash, for firmware.
  *
  * The store keeps objects (an id from 0 to 255 and a value of 0 to 64 bytes) for four hosts and survives power cuts at
- * any step. docs/FORMAT.md describes the flash. Link with target/staticlib/libgrommetide.a.
+ * any step. docs/STORE.md has its rules, docs/FORMAT.md the bytes in flash. Link with libgrommetide.a, x86-64.
  *
  * How it is used
  *
@@ -26,6 +26,16 @@
  *   copy in RAM, then do to the flash what step did to the copy: if any byte has gained bits, erase the half that it is
  *   in; else, if a byte differs (it is one), program it. A step may change nothing (0xFF programmed over 0xFF). See
  *   examples/c.
+ *
+ * What the flash must do
+ *
+ *   - Erased bytes read 0xFF, and each half can be erased by itself: image_len / 2 is a whole number of sectors.
+ *   - Bytes can be programmed one at a time, at any address. The store asks for no alignment.
+ *   - A byte may be programmed again while bits are only cleared: byte 8 of a half's header goes from 0xFF to 0xFE and
+ *     later to 0xFC. So flash with ECC over words, and flash whose words can be written only once, will not do.
+ *   - A power cut falls between steps. Programming a byte happens whole or not at all, and so does the erase of a half.
+ *     The proofs assume this; a flash that a cut leaves half erased, or with a weakly programmed byte, is not covered.
+ *   - Flash reads back what was programmed. There is no checksum: damage that leaves legal frames goes unnoticed.
  *
  * The record
  *
@@ -52,8 +62,20 @@
  *
  * What it needs
  *
- *   No heap, no input or output, no static data that is written to; of the C library only memcpy and memset. The kit
- *   compiles for x86-64 only.
+ *   No heap, no input or output, no static data that is written to; of the C library only memcpy and memset.
+ *
+ *   It is compiled for x86-64 under the System V ABI. It moves data through the SSE registers (xmm, SSE2), so whoever
+ *   switches tasks or takes interrupts must save them; it computes with no floating-point numbers, uses neither AVX nor
+ *   x87 and leaves MXCSR alone. As the ABI says, the stack must be aligned to 16 bytes at a call, and whoever interrupts
+ *   must leave the red zone alone, 128 bytes below the stack pointer.
+ *
+ *   Bytes of stack that a call takes at most, its return address included (held by a test that paints the stack):
+ *
+ *     grommetide_mount        8,192
+ *     grommetide_format       4,096
+ *     grommetide_request     12,288
+ *     grommetide_step         5,120
+ *     grommetide_read         7,680
  */
 #ifndef GROMMETIDE_H
 #define GROMMETIDE_H
@@ -65,24 +87,36 @@
 extern "C" {
 #endif
 
+/* This header's version. A record is of use only to the version that wrote it; the flash may outlive versions. */
+#define GROMMETIDE_VERSION_MAJOR 0
+#define GROMMETIDE_VERSION_MINOR 1
+#define GROMMETIDE_VERSION_PATCH 0
+
+/*
+ * What tells formats of the flash apart: bytes 2 and 3 of a half's header. A half that says it is valid (byte 8 is 0xFC)
+ * and has another kind is foreign: mount answers GROMMETIDE_FOREIGN and changes nothing. In a half that is in progress
+ * (byte 8 is 0xFE) the kind is not looked at.
+ */
+#define GROMMETIDE_HALF_KIND 0x4A01
+
 #define GROMMETIDE_RECORD_BYTES 690
 
 /* Answers. If more than one refusal applies, the first in this order is given: 4, 10, 5, 2, 3, 11, 1, 8, 9, 7, 6. */
 enum {
-    GROMMETIDE_DONE = 0,
-    GROMMETIDE_MALFORMED = 1,     /* the message's length, kind, id, value length or page */
-    GROMMETIDE_NO_STORE = 2,      /* the record is unmounted; for mount, there is no store and nothing foreign */
-    GROMMETIDE_FOREIGN = 3,       /* mount: a half that no store wrote, or two that are equally new */
-    GROMMETIDE_IMAGE_LENGTH = 4,        /* image_len is not allowed */
-    GROMMETIDE_BUSY = 5,          /* a job has steps left */
-    GROMMETIDE_WORN = 6,     /* a transfer is needed, but the creation time cannot rise any more */
-    GROMMETIDE_NO_ROOM = 7,       /* put or delete: commits must always fit, and this would leave too little room */
-    GROMMETIDE_NO_OBJECT = 8,     /* read: there is no settled object of this id */
-    GROMMETIDE_SHORT_REPLY = 9,   /* log: the reply buffer has fewer than 14 bytes */
+    GROMMETIDE_DONE = 0,             /* finished, or nothing to do */
+    GROMMETIDE_MALFORMED = 1,        /* the message's length, kind, id, value length or page */
+    GROMMETIDE_NO_STORE = 2,         /* the record is unmounted; for mount, there is no store and nothing foreign */
+    GROMMETIDE_FOREIGN = 3,          /* mount: a half that no store wrote, or two that are equally new */
+    GROMMETIDE_IMAGE_LENGTH = 4,     /* image_len is not allowed */
+    GROMMETIDE_BUSY = 5,             /* a job has steps left */
+    GROMMETIDE_WORN = 6,             /* a transfer is needed, but the creation time cannot rise any more */
+    GROMMETIDE_NO_ROOM = 7,          /* put or delete: commits must always fit, and this would leave too little room */
+    GROMMETIDE_NO_OBJECT = 8,        /* read: there is no settled object of this id */
+    GROMMETIDE_SHORT_REPLY = 9,      /* log: the reply buffer has fewer than 14 bytes */
     GROMMETIDE_HOST_RANGE = 10,      /* the host is above 3 */
-    GROMMETIDE_STALE = 11,      /* the image is not the one that the record belongs to */
-    GROMMETIDE_WRONG_RECORD = 254, /* record_len is not GROMMETIDE_RECORD_BYTES; nothing was done */
-    GROMMETIDE_MORE = 255         /* accepted, or a step was made; steps are left */
+    GROMMETIDE_STALE = 11,           /* the image is not the one that the record belongs to */
+    GROMMETIDE_WRONG_RECORD = 254,   /* record_len is not GROMMETIDE_RECORD_BYTES; nothing was done */
+    GROMMETIDE_MORE = 255            /* accepted, or a step was made; steps are left */
 };
 
 /* GROMMETIDE_RECORD_BYTES, as the library was built. */

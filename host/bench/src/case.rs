@@ -5,7 +5,6 @@ use store::{Answer, Head, Idle, Store, message};
 
 /// A store at rest, and the same with one change of host 0 pending.
 pub struct Case {
-    pub length: usize,
     pub fill: &'static str,
     pub rest: Vec<u8>,
     pub rest_idle: Idle,
@@ -61,12 +60,12 @@ pub fn sparse(length: usize) -> Case {
     case(builder, "sparse")
 }
 
-/// As many objects of 64 bytes as leave room for one more put, and a journal with at most 28 bytes left, so that such a
-/// put needs a transfer and a short change with its commit does not.
+/// As many objects of 64 bytes as leave room for one more put, none of them 255, and a journal with at most 28 bytes
+/// left, so that such a put needs a transfer and a short change with its commit does not.
 pub fn full(length: usize) -> Case {
     let mut builder = Builder::formatted(length);
     let size = length / 2;
-    let objects = ((size - 16 - 92) / 71).min(256);
+    let objects = ((size - 16 - 92) / 71).min(255);
     for id in 0..objects {
         builder.serve(&message::put(id as u8, &[id as u8; 64]));
         builder.serve(&message::commit());
@@ -83,5 +82,5 @@ fn case(mut builder: Builder, fill: &'static str) -> Case {
     builder.serve(&message::put(0, &[1]));
     let pending_idle = builder.idle();
     assert_eq!(pending_idle.half, rest_idle.half, "no transfer");
-    Case { length: rest.len(), fill, rest, rest_idle, pending: builder.image, pending_idle }
+    Case { fill, rest, rest_idle, pending: builder.image, pending_idle }
 }

@@ -1,8 +1,9 @@
-//! The model and the library, given the same calls: whatever anyone can see of them must agree.
+//! The model, the library and the plain program, given the same calls: whatever anyone can see of them must agree.
 
 use crate::nor::Nor;
 use library::Library;
 use model::{Model, Record};
+use plain::Plain;
 use std::collections::BTreeMap;
 use std::fmt;
 use store::{Answer, Head, Idle, Store, Stretch, hex, message};
@@ -127,11 +128,26 @@ impl<S: Store> Side<S> {
         }
         outcome
     }
+
+    /// Makes the call and says how this side then differs from the model, if it does.
+    fn difference(&mut self, call: &Call, expected: &Outcome, head: Head, image: &[u8]) -> Option<String> {
+        let outcome = self.call(call);
+        if outcome != *expected {
+            Some(format!("gave {outcome:?}, the model {expected:?}"))
+        } else if self.head() != head {
+            Some(format!("has a record that says {:?}, the model's {head:?}", self.head()))
+        } else if self.image != image {
+            Some("has an image that differs from the model's".to_string())
+        } else {
+            None
+        }
+    }
 }
 
 pub struct Twin {
     model: Side<Model>,
     library: Side<Library>,
+    plain: Side<Plain>,
     nor: Nor,
     /// Where the job began: its image, the record before, the call; and the steps made since.
     job: Option<(Vec<u8>, Head, Call)>,
@@ -145,6 +161,7 @@ impl Twin {
         Twin {
             model: Side::new(Model, image),
             library: Side::new(Library::linked(), image),
+            plain: Side::new(Plain, image),
             nor: Nor::new(image),
             job: None,
             steps: 0,
@@ -167,6 +184,7 @@ impl Twin {
     pub fn load(&mut self, image: &[u8]) {
         self.model.load(image);
         self.library.load(image);
+        self.plain.load(image);
         self.nor.load(image);
         self.job = None;
     }
@@ -174,17 +192,20 @@ impl Twin {
     pub fn forge(&mut self, idle: Idle) {
         self.model.record = Record::Idle(idle);
         self.library.record = self.library.store.idle(idle);
+        self.plain.record = self.plain.store.idle(idle);
     }
 
     pub fn unmount(&mut self) {
         self.model.record = Record::Unmounted;
         self.library.record = self.library.store.unmounted();
+        self.plain.record = self.plain.store.unmounted();
     }
 
     /// Replaces the image under whatever record there is.
     pub fn swap_image(&mut self, image: &[u8]) {
         self.model.image = image.to_vec();
         self.library.image = image.to_vec();
+        self.plain.image = image.to_vec();
         self.nor.load(image);
     }
 
@@ -238,22 +259,16 @@ impl Twin {
     }
 
     fn compare(&mut self, call: &Call, expected: &Outcome, before: Head) {
-        let head = self.head();
-        let library = &mut self.library;
-        let outcome = library.call(call);
-        let found = library.head();
-        let difference = if outcome != *expected {
-            format!("the library gave {outcome:?}, the model {expected:?}")
-        } else if found != head {
-            format!("the library's record says {found:?}, the model's {head:?}")
-        } else if !tidy(library) {
-            "the library's record has bytes set that it does not use".to_string()
-        } else if library.image != self.nor.bytes() {
-            "the library's image differs from the model's".to_string()
-        } else {
-            return;
-        };
-        self.fail(&difference, before, call);
+        let (head, image) = (self.head(), self.nor.bytes());
+        let plain =
+            self.plain.difference(call, expected, head, image).map(|what| format!("the plain program {what}"));
+        let library =
+            self.library.difference(call, expected, head, image).map(|what| format!("the library {what}"));
+        let untidy =
+            (!tidy(&self.library)).then(|| "the library's record has bytes set that it does not use".to_string());
+        if let Some(difference) = library.or(untidy).or(plain) {
+            self.fail(&difference, before, call);
+        }
     }
 
     fn remember(&mut self, call: &Call, before: Head, answer: Answer) {

@@ -1,55 +1,117 @@
-//! The header and the library from C: the example, and the program on README's first screen.
+//! The header and the library from C: the example, the program on README's first screen, and that program again with
+//! the installed files.
 
 use std::fs;
 use std::path::{Path, PathBuf};
-use std::process::Command;
+use std::process::{Command, Output};
 
 const ROOT: &str = concat!(env!("CARGO_MANIFEST_DIR"), "/../..");
+const SCRATCH: &str = env!("CARGO_TARGET_TMPDIR");
 const FLAGS: [&str; 6] = ["-std=c99", "-O2", "-Wall", "-Wextra", "-Wpedantic", "-Werror"];
 
 fn repository(path: &str) -> PathBuf {
     Path::new(ROOT).join(path)
 }
 
-fn text(path: &str) -> String {
-    fs::read_to_string(repository(path)).expect(path)
+fn text(path: impl AsRef<Path>) -> String {
+    fs::read_to_string(&path).unwrap_or_else(|error| panic!("{}: {error}", path.as_ref().display()))
 }
 
-/// Compiles a program against the library, runs it and gives what it printed.
-fn printed(source: &Path, name: &str) -> String {
-    let program = Path::new(env!("CARGO_TARGET_TMPDIR")).join(name);
-    let compiled = Command::new("gcc")
-        .args(FLAGS)
-        .arg("-I")
-        .arg(repository("include"))
-        .arg(source)
-        .arg(repository("target/staticlib/libgrommetide.a"))
-        .arg("-o")
-        .arg(&program)
-        .output()
-        .expect("gcc runs");
-    assert!(compiled.status.success(), "{}", String::from_utf8_lossy(&compiled.stderr));
-    let output = Command::new(&program).output().expect("the program runs");
-    assert!(output.status.success(), "{}", String::from_utf8_lossy(&output.stderr));
-    String::from_utf8(output.stdout).expect("text")
+/// Runs a command, which must succeed, and gives what it printed.
+fn output(command: &mut Command) -> String {
+    let Output { status, stdout, stderr } = command.output().expect("the program runs");
+    assert!(status.success(), "{command:?}: {}", String::from_utf8_lossy(&stderr));
+    String::from_utf8(stdout).expect("text")
+}
+
+/// Compiles a program with these flags for the library, runs it and gives what it printed.
+fn printed(source: &Path, name: &str, library: &[String]) -> String {
+    let program = Path::new(SCRATCH).join(name);
+    output(Command::new("gcc").args(FLAGS).arg(source).args(library).arg("-o").arg(&program));
+    output(&mut Command::new(&program))
+}
+
+/// The flags for the library as it stands in the repository.
+fn in_place() -> Vec<String> {
+    let path = |path| repository(path).display().to_string();
+    vec!["-I".to_string(), path("include"), path("target/staticlib/libgrommetide.a")]
 }
 
 #[test]
 fn the_example_prints_what_it_should() {
-    let output = printed(&repository("examples/c/restart.c"), "restart");
-    assert_eq!(output, text("examples/c/restart.expected"));
+    let printed = printed(&repository("examples/c/restart.c"), "restart", &in_place());
+    assert_eq!(printed, text(repository("examples/c/restart.expected")));
 }
 
 /// The first block of a language in README, which must have one.
-fn block<'a>(readme: &'a str, language: &str) -> &'a str {
+fn block(language: &str) -> String {
+    let readme = text(repository("README.md"));
     let (_, rest) = readme.split_once(&format!("```{language}\n")).expect("a block begins");
-    rest.split_once("```").expect("it ends").0
+    rest.split_once("```").expect("it ends").0.to_string()
+}
+
+/// Compiles README's program, which must print what README says.
+fn try_readme(name: &str, library: &[String]) {
+    let source = Path::new(SCRATCH).join(format!("{name}.c"));
+    fs::write(&source, block("c")).expect("a file in target");
+    assert_eq!(printed(&source, name, library), block("text"));
 }
 
 #[test]
 fn the_program_in_readme_prints_what_readme_says() {
-    let readme = text("README.md");
-    let source = Path::new(env!("CARGO_TARGET_TMPDIR")).join("readme.c");
-    fs::write(&source, block(&readme, "c")).expect("a file in target");
-    assert_eq!(printed(&source, "readme"), block(&readme, "text"));
+    try_readme("readme", &in_place());
+}
+
+/// Installs to a new folder under these variables of the Makefile. Nothing is proved here, whatever is newer.
+fn install(folder: &Path, variables: &[String]) {
+    let _ = fs::remove_dir_all(folder);
+    let make = ["-s", "--assume-old=target/staticlib/libgrommetide.a", "install"];
+    output(Command::new("make").arg("-C").arg(ROOT).args(make).args(variables));
+}
+
+/// The flags that a pkg-config file names, its variables filled in.
+fn flags_in(file: &str) -> Vec<String> {
+    let mut variables: Vec<(String, String)> = Vec::new();
+    let mut flags = Vec::new();
+    for line in file.lines() {
+        let line = variables.iter().fold(line.to_string(), |line, (name, value)| line.replace(name, value));
+        if let Some((name, value)) = line.split_once('=') {
+            variables.push((format!("${{{name}}}"), value.to_string()));
+        } else if let Some(named) = line.strip_prefix("Cflags:").or(line.strip_prefix("Libs:")) {
+            flags.extend(named.split_whitespace().map(str::to_string));
+        }
+    }
+    flags
+}
+
+#[test]
+fn the_program_in_readme_with_the_installed_files() {
+    let prefix = Path::new(SCRATCH).join("installed");
+    install(&prefix, &[format!("PREFIX={}", prefix.display())]);
+    let folder = prefix.join("lib/pkgconfig");
+    let flags = flags_in(&text(folder.join("grommetide.pc")));
+    let asked = Command::new("pkg-config")
+        .args(["--cflags", "--libs", "grommetide"])
+        .env("PKG_CONFIG_PATH", &folder)
+        .output();
+    if let Ok(Output { status, stdout, stderr }) = asked {
+        assert!(status.success(), "{}", String::from_utf8_lossy(&stderr));
+        let told: Vec<_> =
+            String::from_utf8(stdout).expect("text").split_whitespace().map(str::to_string).collect();
+        assert_eq!(told, flags);
+    }
+    try_readme("installed-readme", &flags);
+}
+
+/// DESTDIR is where the files go, not what they say. The version is the header's, and that of the crates here.
+#[test]
+fn installed_to_a_staging_folder() {
+    let stage = Path::new(SCRATCH).join("stage");
+    install(&stage, &[format!("DESTDIR={}", stage.display()), "PREFIX=/opt/store".to_string()]);
+    let installed = |path: &str| stage.join("opt/store").join(path);
+    assert_eq!(text(installed("include/grommetide.h")), text(repository("include/grommetide.h")));
+    assert!(installed("lib/libgrommetide.a").is_file());
+    let file = text(installed("lib/pkgconfig/grommetide.pc"));
+    assert_eq!(flags_in(&file), ["-I/opt/store/include", "-L/opt/store/lib", "-lgrommetide"]);
+    assert!(file.contains(concat!("\nVersion: ", env!("CARGO_PKG_VERSION"), "\n")), "{file}");
 }

@@ -1,4 +1,4 @@
-//! The tests of the gate. Where the library is linked, each call here is made on it too and compared (`Twin`).
+//! The tests of the gate. Each call here is made on model, library and plain, and compared (`Twin`).
 
 mod damage;
 mod edge;

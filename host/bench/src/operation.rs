@@ -1,0 +1,123 @@
+//! What is measured.
+
+use crate::case::Case;
+use std::hint::black_box;
+use std::time::{Duration, Instant};
+use store::{Answer, Store, message};
+
+#[derive(Clone, Copy)]
+pub enum Operation {
+    Mount,
+    Read,
+    ReadNothing,
+    Log,
+    Accept,
+    Step,
+    Put,
+    Delete,
+    Commit,
+    Abort,
+    Format,
+    Transfer,
+}
+
+/// One call each.
+pub const SINGLE: [(Operation, &str); 6] = [
+    (Operation::Mount, "mount, nothing to do"),
+    (Operation::Read, "read"),
+    (Operation::ReadNothing, "read that finds nothing"),
+    (Operation::Log, "log"),
+    (Operation::Accept, "acceptance of a put of 64 bytes"),
+    (Operation::Step, "a step of that put"),
+];
+
+/// The request, mount or format and all its steps.
+pub const WHOLE: [(Operation, &str); 6] = [
+    (Operation::Put, "put of 64 bytes"),
+    (Operation::Delete, "delete"),
+    (Operation::Commit, "commit"),
+    (Operation::Abort, "abort"),
+    (Operation::Format, "format"),
+    (Operation::Transfer, "mount with a transfer"),
+];
+
+const VALUE: [u8; 64] = [7; 64];
+
+/// One go at it, and how many operations that was.
+pub fn once<S: Store>(store: &S, operation: Operation, case: &Case) -> (Duration, usize) {
+    match operation {
+        Operation::Mount => timed(|| assert_eq!(store.mount(black_box(&case.rest)).0, Answer::DONE)),
+        Operation::Read => read(store, case, message::read(1), Answer::DONE),
+        Operation::ReadNothing => read(store, case, message::read(255), Answer::NO_OBJECT),
+        Operation::Log => {
+            let (mut record, log, mut page) = (store.idle(case.rest_idle), message::log(), [0; message::PAGE]);
+            timed(|| {
+                let answer = store.request(black_box(&case.rest), &mut record, 0, &log, &mut page);
+                assert_eq!(answer, Answer::DONE);
+            })
+        }
+        Operation::Accept => {
+            let (mut record, put) = (store.idle(case.rest_idle), message::put(1, &VALUE));
+            timed(|| assert_eq!(ask(store, &case.rest, &mut record, &put), Answer::MORE))
+        }
+        Operation::Step => {
+            let (mut image, mut record) = (case.rest.clone(), store.idle(case.rest_idle));
+            assert_eq!(ask(store, &image, &mut record, &message::put(1, &VALUE)), Answer::MORE);
+            let start = Instant::now();
+            let steps = finish(store, &mut image, &mut record);
+            (start.elapsed(), steps)
+        }
+        Operation::Put => serve(store, &case.rest, store.idle(case.rest_idle), message::put(1, &VALUE)),
+        Operation::Delete => serve(store, &case.rest, store.idle(case.rest_idle), message::delete(1)),
+        Operation::Commit => serve(store, &case.pending, store.idle(case.pending_idle), message::commit()),
+        Operation::Abort => serve(store, &case.pending, store.idle(case.pending_idle), message::abort()),
+        Operation::Format => restart(store, &case.rest, S::format),
+        Operation::Transfer => restart(store, &case.pending, S::mount),
+    }
+}
+
+fn timed(operation: impl FnOnce()) -> (Duration, usize) {
+    let start = Instant::now();
+    operation();
+    (start.elapsed(), 1)
+}
+
+fn ask<S: Store>(store: &S, image: &[u8], record: &mut S::Record, message: &[u8]) -> Answer {
+    store.request(black_box(image), record, 0, message, &mut [])
+}
+
+/// All steps of the job in hand; how many they were.
+fn finish<S: Store>(store: &S, image: &mut [u8], record: &mut S::Record) -> usize {
+    let mut steps = 1;
+    while store.step(image, record) == Answer::MORE {
+        steps += 1;
+    }
+    steps
+}
+
+fn read<S: Store>(store: &S, case: &Case, message: Vec<u8>, expected: Answer) -> (Duration, usize) {
+    let record = store.idle(case.rest_idle);
+    timed(|| assert_eq!(store.read(black_box(&case.rest), &record, 0, &message).0, expected))
+}
+
+fn serve<S: Store>(store: &S, image: &[u8], mut record: S::Record, message: Vec<u8>) -> (Duration, usize) {
+    let mut image = image.to_vec();
+    timed(|| {
+        assert_eq!(ask(store, &image, &mut record, &message), Answer::MORE);
+        finish(store, &mut image, &mut record);
+    })
+}
+
+/// A mount or format and its steps.
+fn restart<S: Store>(
+    store: &S,
+    image: &[u8],
+    begin: impl Fn(&S, &[u8]) -> (Answer, S::Record),
+) -> (Duration, usize) {
+    let mut image = image.to_vec();
+    timed(|| {
+        let (answer, mut record) = begin(store, black_box(&image));
+        assert_eq!(answer, Answer::MORE);
+        finish(store, &mut image, &mut record);
+    })
+}

@@ -1,0 +1,161 @@
+//! How much stack each call takes: it runs on a painted one. The bounds are those that the header states.
+
+use library::{Library, Record};
+use std::arch::asm;
+use std::collections::BTreeMap;
+use std::fs;
+use store::{Answer, Store, message};
+
+const HEADER: &str = concat!(env!("CARGO_MANIFEST_DIR"), "/../../include/grommetide.h");
+const AREA: usize = 64 * 1024;
+const PAINT: u8 = 0xA5;
+
+#[repr(align(16))]
+struct Area([u8; AREA]);
+
+unsafe extern "C" fn run<F: FnMut()>(call: *mut F) {
+    // SAFETY: `used_by` passes a call that it holds.
+    unsafe { (*call)() }
+}
+
+impl Area {
+    /// Runs the call with this area as its stack; how many bytes of it were used.
+    fn used_by<F: FnMut()>(&mut self, mut call: F) -> usize {
+        self.0.fill(PAINT);
+        let top = self.0.as_mut_ptr_range().end;
+        // SAFETY: nothing else uses the area, and r12 keeps the old stack pointer over the call.
+        unsafe {
+            asm!(
+                "xchg rsp, r12",
+                "call {run}",
+                "mov rsp, r12",
+                run = in(reg) run::<F> as unsafe extern "C" fn(*mut F),
+                in("rdi") &raw mut call,
+                inout("r12") top => _,
+                clobber_abi("C"),
+            );
+        }
+        let unused = self.0.iter().take_while(|byte| **byte == PAINT).count();
+        assert!(unused > 0, "the area is too small");
+        AREA - unused
+    }
+}
+
+/// A board, and the most stack that each call on it has taken so far.
+struct Board {
+    library: Library,
+    image: Vec<u8>,
+    record: Record,
+    area: Box<Area>,
+    most: BTreeMap<&'static str, usize>,
+}
+
+impl Board {
+    fn new(length: usize) -> Board {
+        let library = Library::linked();
+        let record = library.unmounted();
+        Board {
+            library,
+            image: vec![0xFF; length],
+            record,
+            area: Box::new(Area([0; AREA])),
+            most: BTreeMap::new(),
+        }
+    }
+
+    fn measure(
+        &mut self,
+        name: &'static str,
+        call: impl Fn(&Library, &mut [u8], &mut Record) -> Answer,
+    ) -> Answer {
+        let mut answer = Answer::MORE;
+        let used = self.area.used_by(|| answer = call(&self.library, &mut self.image, &mut self.record));
+        let most = self.most.entry(name).or_default();
+        *most = used.max(*most);
+        answer
+    }
+
+    fn mount(&mut self) -> Answer {
+        let answer = self.measure("grommetide_mount", |library, image, record| library.mount_into(image, record));
+        self.finish(answer)
+    }
+
+    fn format(&mut self) -> Answer {
+        let answer =
+            self.measure("grommetide_format", |library, image, record| library.format_into(image, record));
+        self.finish(answer)
+    }
+
+    fn ask(&mut self, host: u8, message: &[u8]) -> Answer {
+        let answer = self.measure("grommetide_request", |library, image, record| {
+            library.request_on(image, record, host, message, &mut [0; message::PAGE])
+        });
+        self.finish(answer)
+    }
+
+    fn read(&mut self, message: &[u8]) -> Answer {
+        self.measure("grommetide_read", |library, image, record| library.read_on(image, record, 0, message).0)
+    }
+
+    /// All steps of the job in hand; the last answer.
+    fn finish(&mut self, mut answer: Answer) -> Answer {
+        while answer == Answer::MORE {
+            answer = self.measure("grommetide_step", |library, image, record| library.step_on(image, record));
+        }
+        answer
+    }
+
+    /// Every request, found and refused, in a journal that is filled until a put needs a transfer.
+    fn use_all(&mut self) {
+        assert_eq!(self.mount(), Answer::NO_STORE);
+        assert_eq!(self.format(), Answer::DONE);
+        let moved = |image: &[u8]| image[image.len() / 2] != 0xFF;
+        for id in (0..=255).cycle() {
+            self.ask(1, &message::put(2, &[id; 9]));
+            self.ask(1, if id % 2 == 0 { &[4, 0, 4, 1] } else { &[4, 0, 3, 1] });
+            let put = self.ask(0, &message::put(id % 64, &[id; 64]));
+            assert!(put == Answer::DONE || put == Answer::NO_ROOM);
+            assert_eq!(self.ask(0, &message::commit()), Answer::DONE);
+            if moved(&self.image) {
+                break;
+            }
+        }
+        for message in
+            [message::delete(0), message::commit(), message::log(), message::read(2), message::read(255)]
+        {
+            assert!([Answer::DONE, Answer::NO_OBJECT].contains(&self.ask(2, &message)));
+        }
+        assert_eq!(self.ask(4, &message::log()), Answer::HOST_RANGE);
+        assert_eq!(self.ask(0, &[]), Answer::MALFORMED);
+        assert_eq!(self.read(&message::read(2)), Answer::DONE);
+        assert_eq!(self.read(&message::read(255)), Answer::NO_OBJECT);
+        assert_eq!(self.read(&message::put(2, b"no read")), Answer::MALFORMED);
+        assert_eq!(self.ask(3, &message::put(9, b"pending")), Answer::DONE);
+        assert_eq!(self.mount(), Answer::DONE);
+        assert_eq!(self.mount(), Answer::DONE);
+    }
+}
+
+/// What the header says of a call: the number beside its name in the table of stack bytes.
+fn stated(header: &str, call: &str) -> usize {
+    let words = header.lines().map(|line| line.split_whitespace().collect::<Vec<_>>());
+    let bytes =
+        words.filter_map(|words| if let ["*", name, bytes] = words[..] { Some((name, bytes)) } else { None });
+    let (_, bytes) = bytes.into_iter().find(|(name, _)| *name == call).expect(call);
+    bytes.replace(',', "").parse().expect(bytes)
+}
+
+#[test]
+fn no_call_takes_more_stack_than_the_header_says() {
+    let header = fs::read_to_string(HEADER).expect("the header");
+    for length in [512, 65_536] {
+        let mut board = Board::new(length);
+        board.use_all();
+        assert_eq!(board.most.len(), 5);
+        for (call, used) in board.most {
+            println!("{call}, image of {length} bytes: {used} bytes of stack");
+            let bound = stated(&header, call);
+            assert!(used <= bound && bound < 2 * used, "{call}: {used} bytes, the header says {bound}");
+        }
+    }
+}

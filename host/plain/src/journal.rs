@@ -1,0 +1,190 @@
+//! Reading a half: one pass over its frames, into a table of fixed size.
+
+pub const HEADER: usize = 16;
+/// Header bytes 0 to 3: length 16, kind 0x4A01.
+pub const LABEL: [u8; 4] = [0x10, 0x00, 0x01, 0x4A];
+pub const TIME: usize = 4;
+pub const STATE: usize = 8;
+pub const IN_PROGRESS: u8 = 0xFE;
+pub const VALID: u8 = 0xFC;
+
+pub const PUT: u8 = 1;
+pub const DELETE: u8 = 2;
+pub const COMMIT: u8 = 3;
+pub const ABORT: u8 = 4;
+pub const SETTLED: u8 = 5;
+pub const FINISH: u8 = 0xFE;
+/// Length of a commit or abort frame.
+pub const MARK: usize = 6;
+pub const LONGEST: usize = 72;
+
+#[derive(PartialEq, Eq)]
+pub enum State {
+    Blank,
+    InProgress,
+    Valid,
+    Foreign,
+}
+
+/// What a valid half holds. A place is the offset of a frame in the half; 0 is none.
+#[derive(Clone)]
+pub struct Journal {
+    pub time: u32,
+    /// Where the last whole frame ends.
+    pub end: usize,
+    pub torn: bool,
+    /// By id, the frame that the settled value stands in.
+    pub places: [u16; 256],
+    pub objects: u16,
+    /// Document 01's U.
+    pub used: usize,
+    /// By host, its first pending frame and the bytes of all of them.
+    pub since: [u16; 4],
+    pub pending: [usize; 4],
+}
+
+impl Journal {
+    pub const EMPTY: Journal = Journal {
+        time: 0,
+        end: HEADER,
+        torn: false,
+        places: [0; 256],
+        objects: 0,
+        used: HEADER,
+        since: [0; 4],
+        pending: [0; 4],
+    };
+
+    /// Reads a half into an empty journal, which means something if the half is valid.
+    pub fn read(&mut self, half: &[u8]) -> State {
+        match half[STATE] {
+            0xFF if blank(half) => State::Blank,
+            IN_PROGRESS => State::InProgress,
+            VALID if self.header(half) && self.frames(half) => State::Valid,
+            _ => State::Foreign,
+        }
+    }
+
+    fn header(&mut self, half: &[u8]) -> bool {
+        self.time = !u32::from_le_bytes([half[4], half[5], half[6], half[7]]);
+        half[..TIME] == LABEL && self.time != 0 && blank(&half[STATE + 1..HEADER])
+    }
+
+    fn frames(&mut self, half: &[u8]) -> bool {
+        // the least id that a settled frame may still have
+        let mut least = 0;
+        while let Some((length, kind)) = frame_at(&half[self.end..]) {
+            let at = self.end;
+            let number = half[at + 4];
+            let host = usize::from(number & 3);
+            match kind {
+                SETTLED if u16::from(number) < least => return false,
+                SETTLED => self.set(half, number, at),
+                COMMIT => self.commit(half, host),
+                ABORT => self.pending[host] = 0,
+                _ => {
+                    if self.pending[host] == 0 {
+                        self.since[host] = at as u16;
+                    }
+                    self.pending[host] += length;
+                }
+            }
+            least = if kind == SETTLED { u16::from(number) + 1 } else { 256 };
+            self.end += length;
+        }
+        let tail = &half[self.end..];
+        self.torn = !blank(tail);
+        !self.torn || begins_frame(tail)
+    }
+
+    /// Goes over the host's pending frames again, in their order.
+    fn commit(&mut self, half: &[u8], host: usize) {
+        let mut at = if self.pending[host] == 0 { self.end } else { usize::from(self.since[host]) };
+        while at < self.end {
+            let (kind, owner, id) = (half[at + 2], half[at + 4], half[at + 5]);
+            if usize::from(owner) == host && kind == PUT {
+                self.set(half, id, at);
+            } else if usize::from(owner) == host && kind == DELETE {
+                self.remove(half, id);
+            }
+            at += usize::from(half[at]);
+        }
+        self.pending[host] = 0;
+    }
+
+    fn set(&mut self, half: &[u8], id: u8, at: usize) {
+        self.remove(half, id);
+        self.places[usize::from(id)] = at as u16;
+        self.objects += 1;
+        self.used += settled_length(half, at);
+    }
+
+    fn remove(&mut self, half: &[u8], id: u8) {
+        let place = &mut self.places[usize::from(id)];
+        if *place != 0 {
+            self.used -= settled_length(half, usize::from(*place));
+            self.objects -= 1;
+            *place = 0;
+        }
+    }
+
+    /// Document 01's C.
+    pub fn claimed(&self) -> usize {
+        self.used + self.pending.iter().sum::<usize>()
+    }
+
+    /// How many hosts have something pending once `also` has.
+    pub fn open(&self, also: Option<usize>) -> usize {
+        (0..4).filter(|host| self.pending[*host] > 0 || also == Some(*host)).count()
+    }
+}
+
+pub fn blank(bytes: &[u8]) -> bool {
+    bytes.iter().all(|byte| *byte == 0xFF)
+}
+
+/// Where the value of the put or settled frame at `at` stands, and its length.
+pub fn value_at(half: &[u8], at: usize) -> (usize, usize) {
+    let head = if half[at + 2] == PUT { 7 } else { 6 };
+    (at + head, usize::from(half[at]) - head - 1)
+}
+
+fn settled_length(half: &[u8], at: usize) -> usize {
+    7 + value_at(half, at).1
+}
+
+/// Length and kind of the whole legal frame that `bytes` begin with.
+fn frame_at(bytes: &[u8]) -> Option<(usize, u8)> {
+    let [length, 0, kind, 0, ..] = *bytes else { return None };
+    let frame = bytes.get(..usize::from(length))?;
+    let fields = match (kind, frame) {
+        (PUT, [_, _, _, _, 0..=3, _, 0, .., FINISH]) => (8..=LONGEST).contains(&frame.len()),
+        (DELETE, [_, _, _, _, 0..=3, _, 0, FINISH]) => true,
+        (COMMIT | ABORT, [_, _, _, _, 0..=3, FINISH]) => true,
+        (SETTLED, [_, _, _, _, _, 0, .., FINISH]) => (7..LONGEST).contains(&frame.len()),
+        _ => false,
+    };
+    fields.then_some((frame.len(), kind))
+}
+
+/// Whether a tail that is not blank is torn: it begins a put, delete, commit or abort that would fit.
+fn begins_frame(tail: &[u8]) -> bool {
+    let written = tail.iter().rposition(|byte| *byte != 0xFF).map_or(0, |last| last + 1);
+    let seen = |at: usize, fits: bool| at >= written || fits;
+    let byte = |at: usize| tail.get(at).copied().unwrap_or(0);
+    let length = usize::from(tail[0]);
+    let kind = match byte(2) {
+        PUT => (8..=LONGEST).contains(&length),
+        DELETE => length == 8,
+        COMMIT | ABORT => length == MARK,
+        _ => false,
+    };
+    (length == MARK || (8..=LONGEST).contains(&length))
+        && written < length
+        && length <= tail.len()
+        && seen(1, byte(1) == 0)
+        && seen(2, kind)
+        && seen(3, byte(3) == 0)
+        && seen(4, byte(4) <= 3)
+        && seen(6, byte(6) == 0)
+}
