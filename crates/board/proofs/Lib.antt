@@ -57,3 +57,4 @@ pub mod FollowingPlans  -- demand 2 of it, and the whole promise
 -- ---- wrong stores
 pub mod RefutingRuns  -- the runs that tell, computed
 pub mod Refuting  -- none of them keeps the promise
+pub mod RefutingRows  -- and yet all are right in every row

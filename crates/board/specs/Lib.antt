@@ -16,3 +16,4 @@ pub mod Paper
 pub mod Promise
 pub mod Wrong
 pub mod WrongRuns
+pub mod WrongRows

@@ -259,7 +259,7 @@ formatsAtOnce = formats (λ img o. accepted o (onImage (replicate (length img) 0
 
 -- ---- right on the bench, and yet none of them keeps the promise
 
--- on the bench's images, whatever is done off it
+-- on the bench's images, whatever is done off it; for the rows one by one see WrongRows
 unfoldable pub RightOnBench : Type 0
 RightOnBench = (w : Wrongly) (img : List ℕ) (r : Record) (c : Call) → length img ≤ 512 → offBench w img r c ≡ exec img r c
 
