@@ -14,3 +14,6 @@ pub mod CutFormat
 pub mod Sentences
 pub mod Paper
 pub mod Promise
+pub mod Wrong
+pub mod WrongRuns
+pub mod WrongRows
