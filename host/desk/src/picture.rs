@@ -132,6 +132,11 @@ mod tests {
             format!("    192  {}{}\n    256  192 bytes blank\n", "S".repeat(7), ".".repeat(57)),
         ];
         assert_eq!(rows(&side(&half)), drawn.concat());
+        let mut cut = [0xFF; 256];
+        (cut[8], cut[255]) = (0xFE, 0);
+        let [first, last] = [8, 63].map(|at| format!("{}w{}", ".".repeat(at), ".".repeat(63 - at)));
+        let drawn = format!("      0  {first}\n     64  128 bytes blank\n    192  {last}\n");
+        assert_eq!(rows(&side(&cut)), drawn);
         let blank = Side { number: 1, base: 256, bytes: &[0xFF; 256], half: Half::Blank };
         assert_eq!(rows(&blank), "    256  256 bytes blank\n");
     }

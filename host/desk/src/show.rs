@@ -82,21 +82,23 @@ impl<'a> Report<'a> {
 
     /// What a valid half is beside the other, where a mount can tell.
     fn role(&self, side: &Side) -> &'static str {
-        let newest = self.sides.iter().filter_map(Side::time).max();
         match side.time() {
             None => "",
             _ if self.answer == Answer::FOREIGN => "",
-            time if time == newest => ", current",
+            time if time == self.newest() => ", current",
             _ => ", older",
         }
     }
 
-    /// The halves whose objects are listed: the newest valid one, or all valid ones if a mount cannot choose.
+    /// The halves whose objects are listed: the newest valid one, or both if they are equally new.
     fn listed(&self) -> impl Iterator<Item = (&Side<'a>, &Journal)> {
-        let newest = self.sides.iter().filter_map(Side::time).max();
-        let all = self.answer == Answer::FOREIGN;
+        let newest = self.newest();
         let valid = self.sides.iter().filter_map(|side| Some((side, side.journal()?)));
-        valid.filter(move |(_, journal)| all || Some(journal.time) == newest)
+        valid.filter(move |(_, journal)| Some(journal.time) == newest)
+    }
+
+    fn newest(&self) -> Option<u32> {
+        self.sides.iter().filter_map(Side::time).max()
     }
 
     fn mount(&self, out: &mut impl Write) -> io::Result<()> {

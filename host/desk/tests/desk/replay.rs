@@ -170,6 +170,46 @@ fn pokes_and_forged_records() {
 }
 
 #[test]
+fn what_mount_says_of_a_poked_image() {
+    check(&[
+        ("new 512", "ok"),
+        ("mount", "2"),
+        ("poke 0 1000014afefffffffc", "ok"),
+        ("mount", "0"),
+        // A commit of host 4, then of host 1.
+        ("poke 16 0600030004fe", "ok"),
+        ("mount", "3"),
+        ("poke 20 01", "ok"),
+        ("mount", "0"),
+        ("poke 9 00", "ok"),
+        ("mount", "3"),
+        ("poke 9 ff", "ok"),
+        // A second half of the same time, then of a later one.
+        ("poke 256 1000014afefffffffc", "ok"),
+        ("mount", "3"),
+        ("poke 260 fd", "ok"),
+        ("mount", "more"),
+        ("run", "0 steps=1"),
+        ("record", "idle len=512 half=1 end=16"),
+    ]);
+}
+
+#[test]
+fn calls_and_fields_that_are_not_there_yet() {
+    check(&[
+        ("new 512 2", "? line 1: new goes with LEN"),
+        ("image ff 2", "? line 2: image goes with HEX"),
+        ("idle 512 0 16 blocks=2", "? line 3: idle goes with LEN HALF END"),
+        ("blocks 2", "? line 4: no call is named blocks"),
+        ("cut-erase ff", "? line 5: no call is named cut-erase"),
+        ("log-open", "? line 6: no call is named log-open"),
+        ("boot-read", "? line 7: no call is named boot-read"),
+        ("dump", "image=-"),
+        ("record", "unmounted"),
+    ]);
+}
+
+#[test]
 fn tickets() {
     let expected = |name: &str| std::fs::read_to_string(format!("{TICKETS}/{name}.expected")).expect("answers");
     for ticket in ["1-bad-log-length", "2-power-cuts"] {

@@ -174,7 +174,6 @@ fn words_that_cannot_be_read() {
         ("commit", "commit goes with HOST"),
         ("image \"00\"", "bytes are hex digits, two a byte, or - for none"),
         ("\"mount\"", "no call is named \"mount\""),
-        ("log-open", "no call is named log-open"),
         ("\u{a0}", "no call"),
     ];
     let mut lines: Vec<(String, String)> = FORMATTED.map(|(line, answer)| (line.into(), answer.into())).into();
