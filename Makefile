@@ -1,6 +1,7 @@
 # make                        target/staticlib/libgrommetide.a, proved; nothing is proved again while no source is newer
 # make demo                   the store on two tickets, from the command line
 # make install PREFIX=/usr    header, archive and pkg-config file; DESTDIR is put before each path
+# make figures                measures the library and puts the tables into docs/BENCHMARKS.md; nothing else should run
 # The archive is for x86-64. After a change of the kit: make -B
 
 PREFIX = /usr/local
@@ -22,7 +23,7 @@ all: $(LIBRARY)
 
 $(LIBRARY): $(SOURCES)
 	@mkdir -p target
-	@echo "Proving the library; from nothing this takes about five minutes of processor time ($(LOG))." >&2
+	@echo "Proving the library; from nothing this takes about six minutes of processor time ($(LOG))." >&2
 	@rt staticlib grommetide > $(LOG) 2>&1 || { tail -n 30 $(LOG) >&2; exit 1; }
 	@touch $@
 
@@ -35,4 +36,10 @@ install: $(LIBRARY)
 	$(INSTALL) -m 644 $(LIBRARY) $(DESTDIR)$(PREFIX)/lib/libgrommetide.a
 	sed -e 's|@PREFIX@|$(PREFIX)|' -e 's|@VERSION@|$(VERSION)|' grommetide.pc.in > $(DESTDIR)$(PREFIX)/lib/pkgconfig/grommetide.pc
 
-.PHONY: all demo install
+figures: $(LIBRARY)
+	cd host && cargo run --quiet --release --offline -p bench > ../target/figures.md
+	awk '/^<!-- figures end/ { skip = 0 } !skip { print } /^<!-- figures begin/ { skip = 1; while ((getline line < "target/figures.md") > 0) print line }' \
+	    docs/BENCHMARKS.md > target/BENCHMARKS.md
+	mv target/BENCHMARKS.md docs/BENCHMARKS.md
+
+.PHONY: all demo install figures
