@@ -12,8 +12,8 @@ const BAD: [u8; 5] = [6, 0, 6, 1, 1];
 
 pub fn tell<S: Store>(store: &S, checked: &mut Checked, out: &mut impl Write) -> io::Result<()> {
     writeln!(out, "TICKET 1: one host sends a log request with a bad length\n")?;
-    writeln!(out, "What used to happen: the bad request was everybody's trouble. The other hosts")?;
-    writeln!(out, "could not go on with what they had begun.\n")?;
+    writeln!(out, "What used to happen: the board sat on the bad request, and the other three")?;
+    writeln!(out, "hosts could not reach their drives.\n")?;
     let mut board = formatted(store);
     serve(&mut board, 0, &message::put(5, b"AB"));
     writeln!(out, "Host 0 has put object 5 = \"AB\" and not yet committed it:\n\n{}", picture(&board.image))?;

@@ -24,8 +24,8 @@ struct Cut {
 
 pub fn tell<S: Store>(store: &S, checked: &mut Checked, out: &mut impl Write) -> io::Result<()> {
     writeln!(out, "TICKET 2: power drops in the middle of two hosts' changes\n")?;
-    writeln!(out, "What used to happen: after the restart a change was there in part, a new low")?;
-    writeln!(out, "limit beside the old high one, say.\n")?;
+    writeln!(out, "What used to happen: the board came back with half of one host's change and")?;
+    writeln!(out, "half of another's: a new low limit beside the old high one.\n")?;
     let mut board = before_the_changes(store);
     let old = objects(&mut board, checked);
     assert_eq!(whole(&old), Some(0));
