@@ -1,6 +1,6 @@
 -- Messages, a put's value and the log page are as document 01 words them.
 use mathlib.Core.Path.{_≡_, refl, sym, ap, ap₂, subst, _∙_}
-use mathlib.Core.List.{List, [], _∷_, _++_}
+use mathlib.Core.List.{List, _∷_}
 use mathlib.Core.Bool.{Bool, true, false, _&&_}
 use Prim.Native.Nat.{ℕ, suc, _+_, _-_, _*_, _/_, _%_, _≤_, _<_}
 use native.Mathlib.Omega.{arith}
@@ -19,7 +19,7 @@ use Rattle.wire.specs.declared.Request.the-variants.{Put, Delete, Commit
 use Rattle.wire.specs.declared.Parsed.{Parsed}
 use Rattle.wire.specs.declared.Parsed.the-variants.{Is, Malformed}
 use Rattle.wire.specs.Message.{wordAt, idIn, isIf, onlyId, noBody, idAndValue, summaryPage, ofKind, parse, logPage, withPage}
-use Rattle.wire.specs.Sentences.{number2, number4, Headed, Means, MessagesExact, MalformedExact, ValueExact, PageIn, PageExact}
+use Rattle.wire.specs.Sentences.{number2, Headed, Means, MessagesExact, MalformedExact, ValueExact, PageIn, PageExact}
 
 -- ---- from what is read to what it means
 
