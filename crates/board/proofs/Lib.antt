@@ -54,3 +54,4 @@ pub mod Determining  -- the clauses settle all that a machine shows
 pub mod Clearing  -- programming only clears bits
 pub mod Following  -- the k-th step, demand 3 and a cut format, of any machine that keeps the clauses
 pub mod FollowingPlans  -- demand 2 of it, and the whole promise
+pub mod Tickets  -- the customer's two tickets, of any machine that keeps the promise

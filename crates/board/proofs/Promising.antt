@@ -1,6 +1,6 @@
 -- The machine keeps each clause of the promise.
 use mathlib.Core.Path.{_≡_, refl, sym, ap, ap₂, subst, subst₂, _∙_}
-use mathlib.Core.List.{List, [], _∷_}
+use mathlib.Core.List.{List}
 use mathlib.Core.Option.{Option, none, some}
 use mathlib.Core.Bool.{Bool, true, false, _&&_}
 use Prim.Native.Nat.{ℕ, _-_, _≤_}
@@ -17,7 +17,7 @@ use Rattle.frame.specs.Frame.{hostMax, Change, put, delete, Frame, change, comm
 use Rattle.journal.specs.Replay.{replay, lookup, isOpen}
 use Rattle.journal.specs.Block.{lastTime, headerLen}
 use Rattle.journal.specs.Room.{noRoom}
-use Rattle.wire.specs.declared.Answer.the-variants.{Done, More, Refused}
+use Rattle.wire.specs.declared.Answer.the-variants.{Done, More}
 use Rattle.wire.specs.declared.Refusal.{Refusal}
 use Rattle.wire.specs.declared.Refusal.the-variants as refusal
 use Rattle.wire.specs.declared.Page.the-variants.{Summary}

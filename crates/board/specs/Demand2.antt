@@ -18,7 +18,6 @@ use Rattle.frame.specs.Reader.{Tail, clean}
 use Rattle.journal.specs.Replay.{replay, entry, settledOnly}
 use Rattle.journal.specs.Block.{valid, foreign, blockState, headerLen, stateAt, inTransfer, lastTime}
 use Rattle.journal.specs.Room.{claimed, openHosts}
-use Rattle.wire.specs.declared.Answer.{Answer}
 use Rattle.wire.specs.declared.Answer.the-variants.{Done, More, Refused}
 use Rattle.wire.specs.declared.Refusal.the-variants as refusal
 use Rattle.wire.specs.declared.Request.the-variants.{Put, Delete}

@@ -14,3 +14,4 @@ pub mod CutFormat
 pub mod Sentences
 pub mod Paper
 pub mod Promise
+pub mod Tickets
