@@ -13,7 +13,7 @@ use borrow.Author.Tests.{ltb-true, ltb-false}
 use Rattle.flash.specs.Bytes.{Bytes}
 use Rattle.flash.specs.Flash.{Step, program, erase, apply, applyAll, block, sizeOf, programAt}
 use Rattle.flash.proofs.Cases.{on-test}
-use Rattle.flash.proofs.Image.{length-apply, bytes-apply, block-program, clears}
+use Rattle.flash.proofs.Image.{length-apply, bytes-apply, block-program}
 use Rattle.frame.specs.declared.Host.{Host}
 use Rattle.journal.specs.Replay.{state, replay, settledOnly}
 use Rattle.journal.specs.Block.{blockState, headerLen, stateAt, inTransfer}
@@ -32,7 +32,7 @@ use Rattle.board.specs.Exec.{Call, request, step, mount, format, exec}
 use Rattle.board.specs.Plan.{Follows, formatPlan, mountPlan, mountedAt}
 use Rattle.board.specs.Demand1.{Rests, RefusalsUntouched, AtMostOneStep}
 use Rattle.board.specs.Claim.{ByteCalls}
-use Rattle.board.specs.Demand2.{Accepted, Mounts, OneStore, LandsAt, RequestsPlanned, StepLands as OneLands, Formats, AllPlanned, PlannedFrom, ClearsOnly}
+use Rattle.board.specs.Demand2.{Accepted, Mounts, OneStore, LandsAt, RequestsPlanned, StepLands as OneLands, Formats, AllPlanned, PlannedFrom}
 use Rattle.board.proofs.Images.{Sized, size-of, sized-of, sized-as}
 use Rattle.board.proofs.Invariant.{StepLands, Ready, InJob, Sound}
 use Rattle.board.proofs.Outcomes.{format-begins, step-resting}
@@ -250,9 +250,3 @@ planned-from =
       from-mount = λ img r cs by ok bs. all-planned (mount-kept (sized-of img ok) by) cs bs;
       from-format = λ img r cs by ok bs. all-planned (format-kept (sized-of img ok) by) cs bs;
     }
-
--- ---- programming only clears bits
-
-pub clears-only : ClearsOnly
-unfolding ClearsOnly
-clears-only s k o v img i = clears img (k * s + o) v i

@@ -30,6 +30,7 @@ use Rattle.board.proofs.Determining.{Alike, Agree, Asked, request-asks,
 use Rattle.board.proofs.TablingMounts.{mounts-current}
 use Rattle.board.proofs.Promising.{calls}
 use Rattle.board.proofs.Clearing.{only-clears}
+use Rattle.board.proofs.Limits.{room-exact, wear-exact}
 use Rattle.board.proofs.Following.{job-steps, claim-of, cut-format-of}
 
 done-more : {P : Type 0} {a : Answer} → numberOf a ≡ some 0 → a ≡ More → P
@@ -183,6 +184,8 @@ from-calls p =
       steps = job-steps p;
       clears = only-clears p;
       one-store = one-store-of p;
+      room = room-exact p;
+      wear = wear-exact p;
       planned = planned-of p;
       claim = claim-of p;
       cut-format = cut-format-of p;
