@@ -35,6 +35,7 @@ pub mod Keeping  -- the invariant in each phase, and after a step
 pub mod Serving  -- the invariant after a request that is served
 pub mod Requests  -- the invariant after any request
 -- ---- the demands
+pub mod Checks  -- the table as the machine tests it
 pub mod Refusals  -- demand 1: refusals
 pub mod Ending  -- demand 1: forged records end
 pub mod Planning  -- demand 2: requests follow their plans

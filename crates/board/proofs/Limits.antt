@@ -112,8 +112,7 @@ module _ (img : List ℕ) (r : Record) (h : Host) (msg reply : List ℕ) (x : He
   worn-out : (f : Frame) → frameFor h msg x q ≡ some f → Worn img r h msg → (sizeOf img < r .end + frameLen f) × (x .time ≡ 4294967295)
   worn-out f e w =
       let g : w .frame ≡ f =
-      the-frame (sym (w .is-frame) ∙ ap₂ (frameFor h msg) (same (w .holding) (w .is-held)) (sym (asks-one (w .asked) (w .is-asked))) ∙ e) in
-      (
+      the-frame (sym (w .is-frame) ∙ ap₂ (frameFor h msg) (same (w .holding) (w .is-held)) (sym (asks-one (w .asked) (w .is-asked))) ∙ e) in (
         subst (λ (n : Frame). sizeOf img < r .end + frameLen n) g (w .exceeds),
         sym (ap (λ (v : Held). v .time) (same (w .holding) (w .is-held))) ∙ w .last-time,
       )
@@ -159,20 +158,19 @@ module _ {m : Machine} (p : Calls m) where
   pub wear-exact : WearExact m
   unfolding WearExact
   wear-exact img r h msg reply x q f y e n =
-      let w = wear-line (m img r (request h msg reply) .answer) (rest-lines img r h msg reply x q y (framed q e)) n in
-      (
+      let w = wear-line (m img r (request h msg reply) .answer) (rest-lines img r h msg reply x q y (framed q e)) n in (
         (λ g. worn-out img r h msg reply x q y f e (w .0 g)),
         (λ k. w .1
-        (record {
-          holding = x;
-          asked = q;
-          frame = f;
-          is-held = y .is-held;
-          is-asked = y .is-asked;
-          is-frame = e;
-          exceeds = k .0;
-          last-time = k .1;
-        })),
+            (record {
+              holding = x;
+              asked = q;
+              frame = f;
+              is-held = y .is-held;
+              is-asked = y .is-asked;
+              is-frame = e;
+              exceeds = k .0;
+              last-time = k .1;
+            })),
       )
     where
       framed : (s : Request) → frameFor h msg x s ≡ some f → Changes s

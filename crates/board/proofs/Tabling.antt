@@ -35,11 +35,11 @@ use Rattle.board.specs.Record.{allowed}
 use Rattle.board.specs.Step.{action}
 use Rattle.board.specs.Queue.{Held, held, needsRoom}
 use Rattle.board.specs.Exec.{request, step, format, exec}
-use Rattle.board.specs.Table.{Check, check, firstOf, isBusy, isUnmounted, isNone, isMalformed, noObject, shortReply, roomRule, worn, frameFor, laterChecks, heldChecks, requestChecks, outside, refusalIn}
-use Rattle.board.specs.Demand1.{RefusedByTable}
+use Rattle.board.specs.Table.{isBusy, isNone, frameFor}
 use Rattle.board.specs.Demand2.{Accepted}
 use Rattle.board.specs.Paper.{Means, MessagesExact, MalformedExact}
 use Rattle.board.specs.Sentences.{Line, line, Exactly, Allowed, InJob, Fresh, FreshExact, NoObject, ShortReply, NoRoom, for-put, for-delete, Worn, requestLines, Outside, Misplaced, linesOf}
+use Rattle.board.proofs.Checks.{Check, check, firstOf, isUnmounted, isMalformed, noObject, shortReply, roomRule, worn, laterChecks, heldChecks, requestChecks, outside, refusalIn}
 use Rattle.board.proofs.Wording.{fresh-exact, messages-exact, malformed-exact}
 use Rattle.board.proofs.Refusals.{refused-by-table}
 
@@ -330,15 +330,12 @@ step-test img r (Busy s) e = record { yes = λ t. record { stage = s; is-busy = 
 
 pub request-lines : (img : List ℕ) (r : Record) (h : Host) (msg reply : List ℕ) → Bytes img
     → Exactly (requestLines img r h msg reply) (exec img r (request h msg reply) .answer)
-unfolding RefusedByTable
 request-lines img r h msg reply by =
     exactly (request-rows img r h msg reply by) (exec img r (request h msg reply) .answer) (refused-by-table img r (request h msg reply))
 
 pub step-lines : (img : List ℕ) (r : Record) → Exactly (linesOf img r step) (exec img r step .answer)
-unfolding RefusedByTable
 step-lines img r = exactly (row refusal.Stale (step-test img r (r .phase) refl) (λ _. end)) (exec img r step .answer) (refused-by-table img r step)
 
 pub format-lines : (img : List ℕ) (r : Record) → Exactly (linesOf img r format) (exec img r format .answer)
-unfolding RefusedByTable
 format-lines img r =
     exactly (row refusal.ImageLength (length-test (length img)) (λ _. end)) (exec img r format .answer) (refused-by-table img r format)

@@ -56,7 +56,7 @@ pub record Mounts (m : Machine) (img : List ℕ) (o : Out) : Type 0 where
       blockState (block (sizeOf img) (last .block) (applyAll (sizeOf img) (mountPlan (allFound img) store) img)) ≡ valid time frames clean
   pub holds : replay frames ≡ settledOnly (replay (store .frames))
 
--- the refusals of a mount, and their exact conditions, are the table's (`RefusedByTable`)
+-- the refusals of a mount, and their exact conditions, are the table's lines
 unfoldable pub OneStore : Machine → Type 0
 OneStore m =
     (img : List ℕ) (r : Record) → Bytes img → allowed (length img) ≡ true → Accepted (m img r mount .answer) → Mounts m img (m img r mount)
@@ -85,12 +85,6 @@ pub record Appends (m : Machine) (img : List ℕ) (r : Record) (h : Host) (msg :
   pub follows : Follows m img (o .board) (framePlan (needsRoom img r frame) (r .block) (r .end) holding frame)
       (framedAt (needsRoom img r frame) (r .last) (r .block) (r .end) holding frame)
   pub short : length (framePlan (needsRoom img r frame) (r .block) (r .end) holding frame) ≤ sizeOf img
-
--- on any record and image at all, demand 1's bound with it
-unfoldable pub RequestsPlanned : Machine → Type 0
-RequestsPlanned m =
-    (img : List ℕ) (r : Record) (h : Host) (msg reply : List ℕ) → Bytes img → Bytes msg → m img r (request h msg reply) .answer ≡ More
-    → Appends m img r h msg (m img r (request h msg reply))
 
 -- "Format: .. 12 steps."
 pub record Formats (m : Machine) (img : List ℕ) (o : Out) : Type 0 where
