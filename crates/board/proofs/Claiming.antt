@@ -3,12 +3,11 @@ use mathlib.Core.Path.{_≡_, refl, sym, ap, subst, _∙_}
 use mathlib.Core.List.{List, [], _∷_}
 use mathlib.Core.Logic.{_⊎_, inl, inr}
 use mathlib.Core.Bool.{Bool, true, false}
-use Prim.Native.Nat.{ℕ, _+_, _-_, _/_, _≤_}
+use Prim.Native.Nat.{ℕ, _+_, _-_, _≤_}
 use native.Mathlib.Omega.{arith}
 use lib.ListN.{length, drop, length-drop}
 use Rattle.flash.specs.Bytes.{Bytes}
-use Rattle.flash.specs.Flash.{Step, erase, apply, applyAll, blocks, block, sizeOf}
-use Rattle.flash.proofs.Image.{length-apply}
+use Rattle.flash.specs.Flash.{Step, erase, applyAll, block, sizeOf}
 use Rattle.frame.specs.Frame.{deleteLen, endLen, total}
 use Rattle.journal.specs.Replay.{Object, State, state, replay, listOf, settledOnly}
 use Rattle.journal.specs.Block.{blockState, headerLen}
@@ -26,7 +25,7 @@ use Rattle.board.specs.Record.{Out, out, refuse, unmounted, rest, idle, 
 use Rattle.board.specs.Step.{enterWipe, begin}
 use Rattle.board.specs.Mount.{Store, allFound, wipeList, needsTransfer, mountJob, mountOn, formatJob, formatOn}
 use Rattle.board.specs.Exec.{Call, request, step, mount, format, exec}
-use Rattle.board.specs.Plan.{Follows, formatPlan, mountPlan, mountedAt}
+use Rattle.board.specs.Plan.{formatPlan, mountPlan, mountedAt}
 use Rattle.board.specs.Book.{Book, book, nothing, formatting, noLists, firstBook, enterCall, enterFormat}
 use Rattle.board.specs.Claim.{IdleAgrees, Finishes, AgreesIn, Agrees, WornOut, MountSays, Says, trackMount, trackFormat, track, Run, stepsOn, formatted, ByteCall, ByteCalls, Claim}
 use Rattle.board.proofs.Images.{Sized, size-of, sized-of, sized-as, length-all-steps, bytes-all-steps}

@@ -1,27 +1,26 @@
 -- A cut format, of every image that a run left.
-use mathlib.Core.Path.{_≡_, refl, sym, ap, subst, _∙_}
+use mathlib.Core.Path.{_≡_, sym, ap, subst, _∙_}
 use mathlib.Core.List.{List, [], _∷_}
 use mathlib.Core.Bool.{Bool, false, false≢true}
-use Prim.Native.Nat.{ℕ, zero, suc, _-_, _/_, _≤_, _<_}
+use Prim.Native.Nat.{ℕ, _-_, _≤_, _<_}
 use native.Mathlib.Omega.{arith}
 use lib.Dec.{ltb}
 use lib.ListN.{length, take}
 use lib.Seq.{take-all}
 use borrow.Author.Tests.{ltb-true, ltb-false}
-use Rattle.flash.specs.Flash.{Step, apply, applyAll, blocks, block, sizeOf}
+use Rattle.flash.specs.Flash.{Step, applyAll, blocks, block, sizeOf}
 use Rattle.flash.proofs.Cases.{on-test}
-use Rattle.flash.proofs.Image.{length-apply}
 use Rattle.frame.specs.Reader.{clean}
 use Rattle.journal.specs.Replay.{Object}
 use Rattle.journal.specs.Block.{headerLen, BlockState, blank, inProgress, valid, foreign, blockState}
 use Rattle.journal.proofs.Blocks.{blank-block}
 use Rattle.journal.proofs.States.{contents-valid}
 use Rattle.board.specs.declared.Record.{Record}
-use Rattle.board.specs.Record.{Out, out, rest, idle, answerOf}
+use Rattle.board.specs.Record.{Out, rest, idle}
 use Rattle.board.specs.Step.{begin}
 use Rattle.board.specs.Mount.{formatJob, formatOn}
 use Rattle.board.specs.Exec.{Call, exec}
-use Rattle.board.specs.Plan.{Follows, formatPlan}
+use Rattle.board.specs.Plan.{formatPlan}
 use Rattle.board.specs.Book.{Book}
 use Rattle.board.specs.Claim.{stepsOn, ByteCalls}
 use Rattle.board.specs.CutFormat.{Left, afterAll, leftBy, Beside, OldObjects, Empty, EmptyStore, Leaves, old-objects, no-store, empty-store, CutFormat}

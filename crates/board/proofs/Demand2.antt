@@ -13,7 +13,7 @@ use borrow.Author.Tests.{ltb-true, ltb-false}
 use Rattle.flash.specs.Bytes.{Bytes}
 use Rattle.flash.specs.Flash.{Step, program, erase, apply, applyAll, block, sizeOf, programAt}
 use Rattle.flash.proofs.Cases.{on-test}
-use Rattle.flash.proofs.Image.{length-apply, bytes-apply, block-program, clears}
+use Rattle.flash.proofs.Image.{length-apply, bytes-apply, block-program}
 use Rattle.frame.specs.declared.Host.{Host}
 use Rattle.journal.specs.Replay.{state, replay, settledOnly}
 use Rattle.journal.specs.Block.{blockState, headerLen, stateAt, inTransfer}
@@ -30,9 +30,9 @@ use Rattle.board.specs.Mount.{Store, allFound, wipeList, needsTransfer, 
 use Rattle.board.specs.Queue.{requestOn}
 use Rattle.board.specs.Exec.{Call, request, step, mount, format, exec}
 use Rattle.board.specs.Plan.{Follows, formatPlan, mountPlan, mountedAt}
-use Rattle.board.specs.Demand1.{Rests, RefusalsUntouched, AtMostOneStep}
+use Rattle.board.specs.Demand1.{Rests}
 use Rattle.board.specs.Claim.{ByteCalls}
-use Rattle.board.specs.Demand2.{Accepted, Mounts, OneStore, LandsAt, RequestsPlanned, StepLands as OneLands, Formats, AllPlanned, PlannedFrom, ClearsOnly}
+use Rattle.board.specs.Demand2.{Accepted, Mounts, OneStore, LandsAt, StepLands as OneLands, Formats, AllPlanned, PlannedFrom}
 use Rattle.board.proofs.Images.{Sized, size-of, sized-of, sized-as}
 use Rattle.board.proofs.Invariant.{StepLands, Ready, InJob, Sound}
 use Rattle.board.proofs.Outcomes.{format-begins, step-resting}
@@ -201,7 +201,6 @@ step-done {s} {img} {r} v = go (r .phase) refl (v .phase)
 -- ---- mount and format
 
 mount-kept : {s : ℕ} {img : List ℕ} → Sized s img → Bytes img → Steady s img (mountOn img .board)
-unfolding RefusalsUntouched
 mount-kept {s} {img} z by = go (mountOn img .answer) refl
   where
     goes : (a : Answer) → mountOn img .answer ≡ a → Accepted a → Steady s img (mountOn img .board)
@@ -234,7 +233,7 @@ same-image : {s : ℕ} {img : List ℕ} (o : Out) → o .image ≡ img → Stead
 same-image {s} o e v = subst (λ (l : List ℕ). Steady s l (o .board)) (sym e) v
 
 all-planned : {s : ℕ} {img : List ℕ} {r : Record} → Steady s img r → (cs : List Call) → ByteCalls cs → AllPlanned exec img r cs
-unfolding AtMostOneStep RequestsPlanned OneStore
+unfolding OneStore
 all-planned v [] by = tt
 all-planned {s} {img} {r} v (request h m reply ∷ cs) (bm, by) =
     ((requests-planned img r h m reply (v .bytes) bm, request-done v h m reply bm), all-planned (request-kept v h m reply bm) cs by)
@@ -250,9 +249,3 @@ planned-from =
       from-mount = λ img r cs by ok bs. all-planned (mount-kept (sized-of img ok) by) cs bs;
       from-format = λ img r cs by ok bs. all-planned (format-kept (sized-of img ok) by) cs bs;
     }
-
--- ---- programming only clears bits
-
-pub clears-only : ClearsOnly
-unfolding ClearsOnly
-clears-only s k o v img i = clears img (k * s + o) v i

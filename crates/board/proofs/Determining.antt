@@ -1,29 +1,24 @@
 -- Two machines that keep the promise show the same on every run. Nothing here looks into a machine.
 use mathlib.Core.Path.{_≡_, refl, sym, ap, ap₂, subst, subst₂, _∙_}
 use mathlib.Core.List.{List, [], _∷_}
-use mathlib.Core.Logic.{_⊎_, inl, inr}
+use mathlib.Core.Logic.{inl, inr}
 use mathlib.Core.Option.{Option, none, some}
 use mathlib.Core.Bool.{Bool, true, false}
-use Prim.Native.Nat.{ℕ, zero, suc, _-_, _/_, _≤_, _<_}
+use Prim.Native.Nat.{ℕ, _-_, _/_, _≤_, _<_}
 use native.Mathlib.Omega.{arith}
-use lib.Dec.{eqb}
-use lib.ListN.{length, getD, take}
-use borrow.Author.Tests.{eqb-true, eqb-false}
+use lib.ListN.{length}
 use Rattle.flash.specs.Bytes.{Bytes}
-use Rattle.flash.specs.Flash.{Step, apply, applyAll, block, blocks, sizeOf}
+use Rattle.flash.specs.Flash.{Step, apply, block, blocks, sizeOf}
 use Rattle.flash.proofs.Cases.{on-test, clash}
 use Rattle.flash.proofs.Image.{length-apply, bytes-apply}
 use Rattle.frame.specs.declared.Host.{Host}
 use Rattle.frame.specs.Frame.{Frame}
-use Rattle.frame.specs.Reader.{Tail}
-use Rattle.journal.specs.Block.{blockState, valid, headerLen}
+use Rattle.journal.specs.Block.{headerLen}
 use Rattle.wire.specs.declared.Answer.{Answer}
 use Rattle.wire.specs.declared.Answer.the-variants.{Done, More, Refused}
-use Rattle.wire.specs.declared.Refusal.{Refusal}
 use Rattle.wire.specs.declared.Request.{Request}
 use Rattle.wire.specs.declared.Parsed.{Parsed}
 use Rattle.wire.specs.declared.Parsed.the-variants.{Is, Malformed}
-use Rattle.wire.specs.Answer.{numberOf}
 use Rattle.wire.specs.Message.{parse}
 use Rattle.board.specs.declared.Stage.{Stage}
 use Rattle.board.specs.declared.Phase.{Phase}
@@ -35,14 +30,14 @@ use Rattle.board.specs.Queue.{Held, held, needsRoom}
 use Rattle.board.specs.Exec.{Call, request, step, mount, format}
 use Rattle.board.specs.Plan.{Follows, formatPlan, mountPlan, mountedAt, framePlan, framedAt}
 use Rattle.board.specs.Table.{frameFor}
-use Rattle.board.specs.Demand1.{Unchanged, Rests}
+use Rattle.board.specs.Demand1.{Rests}
 use Rattle.board.specs.Demand2.{Accepted}
 use Rattle.board.specs.Claim.{ByteCall, ByteCalls}
 use Rattle.board.specs.Paper.{Means, MessagesExact, MalformedExact}
 use Rattle.board.specs.Sentences.{Line, line, Exactly, Allowed, InJob, Fresh, FreshExact, requestLines, mountLines, linesOf}
-use Rattle.board.specs.Promise.{Machine, NoStep, Tells, replyFor, stretchFor, Answers, Serves, Current, Job, frame-job, mount-job, format-job, Calls, Promise, Shown, restingIn, shownRecord, shown, trace, Begins, PromiseDetermines, PromiseDeterminesFrom, PromiseDeterminesCall}
+use Rattle.board.specs.Promise.{Machine, replyFor, stretchFor, Answers, Serves, Job, frame-job, mount-job, format-job, Calls, Shown, restingIn, shownRecord, shown, trace, Begins, PromiseDetermines, PromiseDeterminesFrom, PromiseDeterminesCall}
 use Rattle.board.proofs.Answering.{number-injective, number-accepted, Both, both-taken, both-refused, same-lines, told-answer, whole, whole-is, in-job}
-use Rattle.board.proofs.Tabling.{is-allowed, same-request, same-held}
+use Rattle.board.proofs.Tabling.{is-allowed}
 use Rattle.board.proofs.TablingMounts.{Mountable, mount-lines, accepted-takes}
 use Rattle.board.proofs.Wording.{fresh-exact, messages-exact, malformed-exact}
 

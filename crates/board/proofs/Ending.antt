@@ -24,7 +24,7 @@ use Rattle.board.specs.declared.Record.{Record}
 use Rattle.board.specs.Record.{inStage, Out, rest}
 use Rattle.board.specs.Step.{landed, enterAppend, enterDrop, enterCopy, enterOpen, action, pastFrame, advance, stepOn}
 use Rattle.board.specs.Exec.{exec}
-use Rattle.board.specs.Demand1.{Declared, Rests, EndsWithin, ForgedEnds}
+use Rattle.board.specs.Demand1.{Declared, Rests, EndsWithin}
 use Rattle.board.proofs.Outcomes.{nextFor, open-enters, open-skips, copy-loads, copy-ends, drop-enters, drop-skips, append-enters, append-skips, wipe-next, wipe-last, open-next, open-last, copy-next, copy-last, seal-next, seal-last, drop-last, append-next, append-last, step-outside, step-goes}
 
 -- ---- a bound on the calls left, in blocks of z bytes: every stage's own, and those of the stages that may follow
@@ -175,8 +175,7 @@ few-left (Busy Seal) img r d e = omega arith
 few-left (Busy Drop) img r d e = omega arith
 few-left (Busy Append) img r d e = omega arith
 
-pub forged-ends : ForgedEnds exec
-unfolding ForgedEnds
+pub forged-ends : (img : List ℕ) (r : Record) → Declared r → EndsWithin exec 65536 img r
 forged-ends img r d =
     on-test (eqb (length img) (suc (r .last)))
     (λ e. ends 65536 img r (few-left (r .phase) img r d (eqb-true (length img) (suc (r .last)) e)))

@@ -4,20 +4,15 @@ use mathlib.Core.Path.{_≡_, refl, sym, ap, subst, subst₂, _∙_}
 use mathlib.Core.List.{List, [], _∷_}
 use mathlib.Core.Option.{Option, none, some}
 use mathlib.Core.Bool.{Bool, true, false}
-use Prim.Native.Nat.{ℕ, zero, suc, _-_, _≤_, _<_}
+use Prim.Native.Nat.{ℕ, zero, suc, _-_}
 use native.Mathlib.Omega.{arith}
 use lib.ListN.{length, take}
 use Rattle.flash.specs.Bytes.{Bytes}
 use Rattle.flash.specs.Flash.{Step, applyAll, sizeOf}
-use Rattle.flash.proofs.Cases.{on-test}
-use Rattle.frame.specs.declared.Host.{Host}
 use Rattle.frame.specs.Frame.{Frame}
 use Rattle.journal.specs.Replay.{lookup}
-use Rattle.journal.specs.Block.{headerLen}
 use Rattle.wire.specs.declared.Answer.{Answer}
-use Rattle.wire.specs.declared.Answer.the-variants.{Done, More, Refused}
-use Rattle.wire.specs.declared.Refusal.{Refusal}
-use Rattle.wire.specs.declared.Request.{Request}
+use Rattle.wire.specs.declared.Answer.the-variants.{Done, More}
 use Rattle.wire.specs.declared.Request.the-variants.{Put, Delete, Commit, Abort, Read, Log}
 use Rattle.wire.specs.declared.Parsed.{Parsed}
 use Rattle.wire.specs.declared.Parsed.the-variants.{Is, Malformed}
@@ -26,29 +21,24 @@ use Rattle.wire.specs.Message.{parse}
 use Rattle.board.specs.declared.Phase.{Phase}
 use Rattle.board.specs.declared.Phase.the-variants.{Unmounted, Idle, Busy}
 use Rattle.board.specs.declared.Record.{Record}
-use Rattle.board.specs.Record.{allowed, rest, idle, Out, out, answerIn, answerOf}
-use Rattle.board.specs.Mount.{allFound, Store, needsTransfer, formatOn}
+use Rattle.board.specs.Record.{Out, answerIn, answerOf}
+use Rattle.board.specs.Mount.{Store, needsTransfer}
 use Rattle.board.specs.Queue.{Held, needsRoom}
 use Rattle.board.specs.Exec.{Machine, Call, request, step, mount, format, exec}
-use Rattle.board.specs.Plan.{Follows, formatPlan, mountPlan, mountedAt, framePlan, framedAt}
-use Rattle.board.specs.Table.{frameFor}
+use Rattle.board.specs.Plan.{Follows, mountedAt, framedAt}
 use Rattle.board.specs.Demand1.{Rests}
-use Rattle.board.specs.Demand2.{Accepted, Mounts, StepLands, Appends, Formats, Planned, AllPlanned, PlannedFrom}
+use Rattle.board.specs.Demand2.{Accepted}
 use Rattle.board.specs.Book.{Book, firstBook, enterCall}
-use Rattle.board.specs.Claim.{Finishes, AgreesIn, Agrees, ReadSays, RequestSays, MountSays, Says, track, Run, stepsOn, formatted, ByteCall, ByteCalls, Claim}
+use Rattle.board.specs.Claim.{AgreesIn, Agrees, ReadSays, RequestSays, Says, track, Run, stepsOn, formatted, ByteCall, ByteCalls, Claim}
 use Rattle.board.specs.CutFormat.{Left, afterAll, leftBy, Leaves, CutFormat}
-use Rattle.board.specs.Promise.{Answers, Serves, Current, Job, frame-job, mount-job, format-job, StepsOf, Calls, Promise, Shown, shown}
-use Rattle.board.proofs.Outcomes.{format-length, format-begins}
+use Rattle.board.specs.Promise.{Job, frame-job, mount-job, format-job, StepsOf, Calls, Shown, shown}
 use Rattle.board.proofs.Keeping.{more-busy}
 use Rattle.board.proofs.Claiming.{claim}
 use Rattle.board.proofs.CutFormat.{cut-format}
-use Rattle.board.proofs.Demand2.{planned-from}
 use Rattle.board.proofs.Stepping.{follows-steps, follows-part, follows-more}
-use Rattle.board.proofs.Answering.{number-injective, told-answer}
-use Rattle.board.proofs.TablingMounts.{mounts-current}
-use Rattle.board.proofs.Determining.{Alike, resting, working, Agree, Asked, request-asks, call-agrees, format-agrees}
+use Rattle.board.proofs.Answering.{told-answer}
+use Rattle.board.proofs.Determining.{Alike, resting, working, Agree, call-agrees, format-agrees}
 use Rattle.board.proofs.Promising.{calls}
-use Rattle.board.proofs.Clearing.{only-clears}
 
 -- ---- the k-th step call
 
@@ -79,7 +69,7 @@ framed-idle : (b : Bool) (l k end : ℕ) (x : Held) (f : Frame) → framedAt b l
 framed-idle true l k end x f = refl
 framed-idle false l k end x f = refl
 
-mounted-idle : (b : Bool) (l : ℕ) (x : Store) → mountedAt b l x .phase ≡ Idle
+pub mounted-idle : (b : Bool) (l : ℕ) (x : Store) → mountedAt b l x .phase ≡ Idle
 mounted-idle true l x = refl
 mounted-idle false l x = refl
 
@@ -212,11 +202,11 @@ module _ {m : Machine} (p : Calls m) where
 
   -- ---- what calls leave
 
-  record SameLeft (l k : Left) : Type 0 where
-    image : l .image ≡ k .image
-    book : l .book ≡ k .book
-    next : Same (l .image) (l .board) (k .board)
-    bytes : Bytes (l .image)
+  pub record SameLeft (l k : Left) : Type 0 where
+    pub image : l .image ≡ k .image
+    pub book : l .book ≡ k .book
+    pub next : Same (l .image) (l .board) (k .board)
+    pub bytes : Bytes (l .image)
 
   left-over : (img : List ℕ) (r q : Record) (b : Book) → Bytes img → Same img r q → (cs : List Call) → ByteCalls cs
       → SameLeft (afterAll m img r b cs) (afterAll exec img q b cs)
@@ -229,7 +219,7 @@ module _ {m : Machine} (p : Calls m) where
       (afterAll exec i (x .board) (enterCall b c a) cs)) (w .image) (answers-over w)
       (left-over (o .image) (o .board) (x .board) (enterCall b c (o .answer)) (w .bytes) (w .next) cs bs)
 
-  left-by : (img : List ℕ) (r : Record) → Bytes img → (cs : List Call) → ByteCalls cs → SameLeft (leftBy m img r cs) (leftBy exec img r cs)
+  pub left-by : (img : List ℕ) (r : Record) → Bytes img → (cs : List Call) → ByteCalls cs → SameLeft (leftBy m img r cs) (leftBy exec img r cs)
   left-by img r by cs bs =
       let w : Both (formatted m img r) (formatted exec img r) = formatted-over img r by in
       subst (λ (i : List ℕ). SameLeft (leftBy m img r cs) (afterAll exec i (formatted exec img r .board) firstBook cs)) (w .image)

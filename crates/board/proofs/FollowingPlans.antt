@@ -1,21 +1,18 @@
 -- Demand 2 of every machine that keeps the clauses on each call, and the whole promise.
-use mathlib.Core.Path.{_≡_, refl, sym, ap, subst, subst₂, _∙_}
+use mathlib.Core.Path.{_≡_, refl, sym, ap, subst, _∙_}
 use mathlib.Core.List.{List, [], _∷_}
-use mathlib.Core.Logic.{_⊎_, inl, inr}
+use mathlib.Core.Logic.{inl, inr}
 use mathlib.Core.Option.{Option, none, some}
-use mathlib.Core.Bool.{Bool, true, false}
 use Prim.Native.Nat.{ℕ, _-_}
 use native.Mathlib.Omega.{arith}
 use lib.ListN.{length}
 use Rattle.flash.specs.Bytes.{Bytes}
-use Rattle.flash.specs.Flash.{Step, apply, sizeOf}
 use Rattle.flash.proofs.Cases.{on-test}
 use Rattle.frame.specs.declared.Host.{Host}
 use Rattle.frame.specs.Frame.{Frame}
 use Rattle.journal.specs.Block.{headerLen}
 use Rattle.wire.specs.declared.Answer.{Answer}
-use Rattle.wire.specs.declared.Answer.the-variants.{Done, More, Refused}
-use Rattle.wire.specs.declared.Request.{Request}
+use Rattle.wire.specs.declared.Answer.the-variants.{Done, More}
 use Rattle.wire.specs.Answer.{numberOf}
 use Rattle.board.specs.declared.Record.{Record}
 use Rattle.board.specs.Record.{allowed, rest, idle, Out, answerOf}
@@ -24,16 +21,16 @@ use Rattle.board.specs.Queue.{Held, needsRoom}
 use Rattle.board.specs.Exec.{Machine, Call, request, step, mount, format, exec}
 use Rattle.board.specs.Plan.{Follows, formatPlan, mountPlan, mountedAt, framePlan, framedAt}
 use Rattle.board.specs.Table.{frameFor}
-use Rattle.board.specs.Demand2.{Accepted, Mounts, LandsAt, StepLands, Appends, Formats, Planned, AllPlanned, PlannedFrom}
+use Rattle.board.specs.Demand2.{Accepted, Mounts, OneStore, StepLands, Appends, Formats, Planned, AllPlanned, PlannedFrom}
 use Rattle.board.specs.Claim.{ByteCall, ByteCalls}
-use Rattle.board.specs.Promise.{Answers, Serves, Job, frame-job, mount-job, format-job, Calls, Promise, Shown}
-use Rattle.board.proofs.Images.{sized-of}
+use Rattle.board.specs.Promise.{Answers, Serves, frame-job, mount-job, format-job, Calls, Promise, Shown}
 use Rattle.board.proofs.Outcomes.{format-length, format-begins}
-use Rattle.board.proofs.Demand2.{planned-from}
+use Rattle.board.proofs.Demand2.{one-store, planned-from}
 use Rattle.board.proofs.Determining.{Alike, Agree, Asked, request-asks, mount-allowed, call-agrees, mount-agrees, format-agrees}
 use Rattle.board.proofs.TablingMounts.{mounts-current}
 use Rattle.board.proofs.Promising.{calls}
 use Rattle.board.proofs.Clearing.{only-clears}
+use Rattle.board.proofs.Limits.{room-exact, wear-exact}
 use Rattle.board.proofs.Following.{job-steps, claim-of, cut-format-of}
 
 done-more : {P : Type 0} {a : Answer} → numberOf a ≡ some 0 → a ≡ More → P
@@ -119,6 +116,12 @@ module _ {m : Machine} (p : Calls m) where
         holds = y .holds;
       }
 
+  one-store-of : OneStore m
+  unfolding OneStore
+  one-store-of img r by ok a =
+      let e : m img r mount .answer ≡ exec img r mount .answer = ap (λ (s : Shown). s .answer) (mount-agrees p calls img by r r .same) in
+      mounts-over img r (exec img r mount) by a (one-store img r by ok (subst Accepted e a))
+
   formats-over : (img : List ℕ) (r : Record) → Bytes img → Accepted (m img r format .answer) → Formats exec img (formatOn img) → Formats m img (m img r format)
   formats-over img r by a y =
       record { follows = p .jobs img r format (formatPlan img) (idle (rest (length img - 1) 0 headerLen)) by tt format-job a .0; twelve = y .twelve }
@@ -180,6 +183,9 @@ from-calls p =
       calls = p;
       steps = job-steps p;
       clears = only-clears p;
+      one-store = one-store-of p;
+      room = room-exact p;
+      wear = wear-exact p;
       planned = planned-of p;
       claim = claim-of p;
       cut-format = cut-format-of p;

@@ -35,11 +35,11 @@ pub mod Keeping  -- the invariant in each phase, and after a step
 pub mod Serving  -- the invariant after a request that is served
 pub mod Requests  -- the invariant after any request
 -- ---- the demands
+pub mod Checks  -- the table as the machine tests it
 pub mod Refusals  -- demand 1: refusals
 pub mod Ending  -- demand 1: forged records end
 pub mod Planning  -- demand 2: requests follow their plans
 pub mod Demand2  -- demand 2: mounts, formats, runs
-pub mod Limits  -- demand 2: room and wear
 pub mod Claiming  -- demand 3
 pub mod CutFormat  -- what a cut format leaves
 pub mod Bench  -- the starred rows
@@ -51,9 +51,11 @@ pub mod Answering  -- answers: numbers, lines, what they tell
 pub mod Telling  -- the answer tells the record
 pub mod Promising  -- the machine keeps each clause
 pub mod Determining  -- the clauses settle all that a machine shows
+pub mod Limits  -- demand 2 of any machine that keeps the table: room and wear
 pub mod Clearing  -- programming only clears bits
 pub mod Following  -- the k-th step, demand 3 and a cut format, of any machine that keeps the clauses
 pub mod FollowingPlans  -- demand 2 of it, and the whole promise
+pub mod Tickets  -- the customer's two tickets, of any machine that keeps the promise
 -- ---- wrong stores
 pub mod RefutingRuns  -- the runs that tell, computed
 pub mod Refuting  -- none of them keeps the promise

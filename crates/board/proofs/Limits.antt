@@ -1,128 +1,182 @@
--- Demand 2, room and wear: past the earlier checks 7 is given exactly if the room rule says so, and then 6 exactly at the last time.
-use mathlib.Core.Path.{_≡_, sym, ap, subst, _∙_}
+-- Demand 2, room and wear: past the earlier lines 7 is given exactly if the room rule says so, and then 6 exactly at the last time.
+use mathlib.Core.Path.{_≡_, refl, sym, ap, ap₂, subst, subst₂, _∙_}
 use mathlib.Core.List.{List, [], _∷_, _++_}
-use mathlib.Core.Logic.{_↔_}
-use mathlib.Core.Option.{none, some}
-use mathlib.Core.Bool.{Bool, true, _&&_}
+use mathlib.Core.Logic.{_↔_, inl, inr}
+use mathlib.Core.Option.{some}
 use Prim.Native.Nat.{ℕ, _+_, _*_, _<_}
 use native.Mathlib.Omega.{arith}
-use lib.Dec.{eqb}
-use borrow.Author.Tests.{eqb-true, eq-eqb, ltb-true, lt-ltb, le-leb}
+use lib.ListN.{length}
 use Rattle.flash.specs.Flash.{sizeOf}
-use Rattle.flash.proofs.Cases.{on-test, and-both, and-left, and-right}
 use Rattle.frame.specs.declared.Host.{Host}
-use Rattle.frame.specs.Frame.{hostMax, Change, put, delete, Frame, change, commit, abort, frameLen, endLen}
-use Rattle.journal.specs.Replay.{entry, replay, isOpen}
-use Rattle.journal.specs.Block.{lastTime}
-use Rattle.journal.specs.Room.{claimed, openHosts, noRoom, spare}
-use Rattle.wire.specs.declared.Answer.the-variants.{Refused}
-use Rattle.wire.specs.declared.Refusal.{Refusal}
-use Rattle.wire.specs.declared.Refusal.the-variants as refusal
+use Rattle.frame.specs.declared.ObjectId.{ObjectId}
+use Rattle.frame.specs.Frame.{Frame, put, delete, frameLen}
+use Rattle.journal.specs.Replay.{replay, entry}
+use Rattle.journal.specs.Room.{claimed, openHosts}
+use Rattle.wire.specs.declared.Answer.{Answer}
 use Rattle.wire.specs.declared.Request.{Request}
 use Rattle.wire.specs.declared.Request.the-variants.{Put, Delete, Commit, Abort, Read, Log}
+use Rattle.wire.specs.Answer.{numberOf}
 use Rattle.wire.specs.Message.{valueIn}
+use Rattle.board.specs.declared.Phase.the-variants.{Unmounted, Idle}
 use Rattle.board.specs.declared.Record.{Record}
-use Rattle.board.specs.Record.{Out}
-use Rattle.board.specs.Step.{enterWipe}
-use Rattle.board.specs.Queue.{Held, needsRoom, appendJob, append, serve, serveChange, serveEnd, requestOn}
-use Rattle.board.specs.Exec.{exec}
-use Rattle.board.specs.Table.{frameFor, frameIf}
+use Rattle.board.specs.Queue.{Held}
+use Rattle.board.specs.Exec.{Machine, request}
+use Rattle.board.specs.Table.{frameFor}
 use Rattle.board.specs.Demand2.{Asks, RoomExact, WearExact}
-use Rattle.board.proofs.Outcomes.{append-worn, append-begins, change-refused, change-goes, end-goes, serve-put, serve-delete, serve-commit, serve-abort, request-served}
-use Rattle.board.proofs.Deciding.{not-refused}
+use Rattle.board.specs.Paper.{Means}
+use Rattle.board.specs.Sentences.{Line, line, Exactly, InJob, Fresh, NoObject, ShortReply, NoRoom, for-put, for-delete, Worn, requestLines}
+use Rattle.board.specs.Promise.{Calls}
+use Rattle.board.proofs.Answering.{number-accepted}
+use Rattle.board.proofs.Tabling.{is-allowed, same-request, same-held}
 use Rattle.board.proofs.Planning.{the-frame, no-frame}
 
-answer : {o o′ : Out} → o ≡ o′ → o .answer ≡ o′ .answer
-answer e = ap (λ (o : Out). o .answer) e
+-- two numbers of one answer
+other-number : {P : Type 0} (a : Answer) (i j : ℕ) → (i ≡ j → ⊥) → numberOf a ≡ some i → numberOf a ≡ some j → P
+other-number a i j n e f = let w : some i ≡ some j = sym e ∙ f in let v : i ≡ j = cc in absurd (n v)
 
-module _ (img : List ℕ) (r : Record) (reply : List ℕ) (h : Host) (m : List ℕ) (x : Held) where
-  serves : {q : Request} → Asks img r h m x q → requestOn img r reply h m ≡ serve img r reply h m x q
-  serves {q} y = request-served img r reply h m (y .length-ok) (le-leb (h .0) hostMax (y .host-ok)) x q (y .is-idle) (y .is-held) (y .is-asked)
+-- requests that may append a frame, and those of them that the room rule is about
+abbrev Changes : Request → Type 0
+Changes (Put i) = Unit {0}
+Changes (Delete i) = Unit {0}
+Changes Commit = Unit {0}
+Changes Abort = Unit {0}
+Changes (Read i) = ⊥
+Changes (Log k) = ⊥
 
-  -- ---- wear
+abbrev IsChange : Request → Type 0
+IsChange (Put i) = Unit {0}
+IsChange (Delete i) = Unit {0}
+IsChange Commit = ⊥
+IsChange Abort = ⊥
+IsChange (Read i) = ⊥
+IsChange (Log k) = ⊥
 
-  worn-exact : (f : Frame) → (append img r reply x f .answer ≡ Refused refusal.Worn) ↔ ((needsRoom img r f ≡ true) × (x .time ≡ lastTime))
-  worn-exact f = (
-    λ e. on-test worn
-        (λ t. (
-          and-left (needsRoom img r f) (eqb (x .time) lastTime) t,
-          eqb-true (x .time) lastTime (and-right (needsRoom img r f) (eqb (x .time) lastTime) t),
-        ))
-        (λ t. absurd (not-refused (enterWipe (appendJob img r x f) .phase) refusal.Worn (sym (answer (append-begins img r reply x f t)) ∙ e))),
-    λ y. answer (append-worn img r reply x f (and-both (needsRoom img r f) (eqb (x .time) lastTime) (y .0) (eq-eqb (x .time) lastTime (y .1)))),
-  )
+same-put : {i j : ObjectId} → Put i ≡ Put j → i ≡ j
+same-put e = cc
+
+same-delete : {i j : ObjectId} → Delete i ≡ Delete j → i ≡ j
+same-delete e = cc
+
+-- the sums of the room rule
+abbrev putNeeds : Host → List ℕ → Held → ObjectId → ℕ
+putNeeds h msg x i =
+    claimed (replay (x .frames)) + (8 + length (valueIn msg)) + 6 * openHosts (replay (x .frames) .pending ++ (entry h (put i (valueIn msg)) ∷ [])) + 14
+
+abbrev deleteNeeds : Host → Held → ObjectId → ℕ
+deleteNeeds h x i = claimed (replay (x .frames)) + 8 + 6 * openHosts (replay (x .frames) .pending ++ (entry h (delete i) ∷ []))
+
+module _ (img : List ℕ) (r : Record) (h : Host) (msg reply : List ℕ) (x : Held) (q : Request) (y : Asks img r h msg x q) where
+  abbrev afterMalformed : List Line
+  afterMalformed =
+      line 8 (NoObject img r msg) ∷ line 9 (ShortReply msg reply) ∷ line 7 (NoRoom img r h msg) ∷ line 6 (Worn img r h msg) ∷ []
+
+  same : (w : Held) → Fresh img r w → w ≡ x
+  same w f = same-held img r (y .bytes) (is-allowed (length img) (y .length-ok)) w x f (y .is-held)
+
+  past : (a : Answer) → Exactly (requestLines img r h msg reply) a → Exactly afterMalformed a
+  past a (inl (n, _)) = absurd (n (y .length-ok))
+  past a (inr (_, inl (l, _))) = absurd (omega (arith, l, y .host-ok))
+  past a (inr (_, inr (_, inl (j, _)))) = absurd (subst InJob (y .is-idle) j)
+  past a (inr (_, inr (_, inr (_, inl (e, _))))) =
+      let w : Unmounted ≡ Idle = sym e ∙ y .is-idle in let v : _≡_ {A = ℕ} 0 1 = cc in absurd (omega arith)
+  past a (inr (_, inr (_, inr (_, inr (_, inl (f, _)))))) = absurd (f x (y .is-held))
+  past a (inr (_, inr (_, inr (_, inr (_, inr (_, inl (f, _))))))) = absurd (f q (y .is-asked))
+  past a (inr (_, inr (_, inr (_, inr (_, inr (_, inr (_, z))))))) = z
+
+  asks-one : (s : Request) → Means msg s → q ≡ s
+  asks-one s k = same-request msg q s (y .is-asked) k
+
+  -- of a request that is no read and no log 7 and 6 alone are left
+  later : Changes q → (a : Answer) → Exactly afterMalformed a → Exactly (line 7 (NoRoom img r h msg) ∷ line 6 (Worn img r h msg) ∷ []) a
+  later k a (inl (n, _)) = absurd (subst Changes (asks-one (Read (n .id)) (n .is-asked)) k)
+  later k a (inr (_, inl (n, _))) = absurd (subst Changes (asks-one (Log (n .page)) (n .is-asked)) k)
+  later k a (inr (_, inr (_, z))) = z
+
+  -- what each line says of this request
+  full-put : (i : ObjectId) → q ≡ Put i → NoRoom img r h msg → sizeOf img < putNeeds h msg x i
+  full-put i e (for-put w j f k l) =
+      let g : Put i ≡ Put j = sym e ∙ asks-one (Put j) k in
+      subst₂ (λ (v : Held) (n : ObjectId). sizeOf img < putNeeds h msg v n) (same w f) (sym (same-put g)) l
+  full-put i e (for-delete w j f k l) = let g : Put i ≡ Delete j = sym e ∙ asks-one (Delete j) k in let v : _≡_ {A = ℕ} 0 1 = cc in absurd (omega arith)
+
+  full-delete : (i : ObjectId) → q ≡ Delete i → NoRoom img r h msg → sizeOf img < deleteNeeds h x i
+  full-delete i e (for-put w j f k l) = let g : Delete i ≡ Put j = sym e ∙ asks-one (Put j) k in let v : _≡_ {A = ℕ} 0 1 = cc in absurd (omega arith)
+  full-delete i e (for-delete w j f k l) =
+      let g : Delete i ≡ Delete j = sym e ∙ asks-one (Delete j) k in
+      subst₂ (λ (v : Held) (n : ObjectId). sizeOf img < deleteNeeds h v n) (same w f) (sym (same-delete g)) l
+
+  full-change : NoRoom img r h msg → IsChange q
+  full-change (for-put w j f k l) = subst IsChange (sym (asks-one (Put j) k)) tt
+  full-change (for-delete w j f k l) = subst IsChange (sym (asks-one (Delete j) k)) tt
+
+  worn-out : (f : Frame) → frameFor h msg x q ≡ some f → Worn img r h msg → (sizeOf img < r .end + frameLen f) × (x .time ≡ 4294967295)
+  worn-out f e w =
+      let g : w .frame ≡ f =
+      the-frame (sym (w .is-frame) ∙ ap₂ (frameFor h msg) (same (w .holding) (w .is-held)) (sym (asks-one (w .asked) (w .is-asked))) ∙ e) in (
+        subst (λ (n : Frame). sizeOf img < r .end + frameLen n) g (w .exceeds),
+        sym (ap (λ (v : Held). v .time) (same (w .holding) (w .is-held))) ∙ w .last-time,
+      )
+
+-- the first line that holds of the last two
+module _ {N W : Type 0} (a : Answer) where
+  room-line : Exactly (line 7 N ∷ line 6 W ∷ []) a → (numberOf a ≡ some 7) ↔ N
+  room-line (inl (n, f)) = ((λ e. n), (λ _. f))
+  room-line (inr (g, inl (w, f))) = ((λ e. other-number a 6 7 (λ v. omega arith) f e), (λ n. absurd (g n)))
+  room-line (inr (g, inr (k, z))) = ((λ e. absurd (number-accepted a 6 e z)), (λ n. absurd (g n)))
+
+  wear-line : Exactly (line 7 N ∷ line 6 W ∷ []) a → (numberOf a ≡ some 7 → ⊥) → (numberOf a ≡ some 6) ↔ W
+  wear-line (inl (n, f)) g = absurd (g f)
+  wear-line (inr (g, inl (w, f))) k = ((λ e. w), (λ _. f))
+  wear-line (inr (g, inr (k, z))) v = ((λ e. absurd (number-accepted a 5 e z)), (λ w. absurd (k w)))
+
+-- ---- every machine that keeps the table
+
+module _ {m : Machine} (p : Calls m) where
+  rest-lines : (img : List ℕ) (r : Record) (h : Host) (msg reply : List ℕ) (x : Held) (q : Request) → Asks img r h msg x q → Changes q
+      → Exactly (line 7 (NoRoom img r h msg) ∷ line 6 (Worn img r h msg) ∷ []) (m img r (request h msg reply) .answer)
+  rest-lines img r h msg reply x q y k =
+      let a : Answer = m img r (request h msg reply) .answer in
+      later img r h msg reply x q y k a (past img r h msg reply x q y a (p .table img r (request h msg reply) (y .bytes)))
+
+  room-exactly : (img : List ℕ) (r : Record) (h : Host) (msg reply : List ℕ) (x : Held) (q : Request) → Asks img r h msg x q → Changes q
+      → (numberOf (m img r (request h msg reply) .answer) ≡ some 7) ↔ NoRoom img r h msg
+  room-exactly img r h msg reply x q y k = room-line (m img r (request h msg reply) .answer) (rest-lines img r h msg reply x q y k)
+
+  pub room-exact : RoomExact m
+  room-exact =
+      record {
+        of-put = λ img r h msg reply x i y.
+            let e = room-exactly img r h msg reply x (Put i) y tt in
+            ((λ f. full-put img r h msg reply x (Put i) y i refl (e .0 f)), (λ l. e .1 (for-put x i (y .is-held) (y .is-asked) l)));
+        of-delete = λ img r h msg reply x i y.
+            let e = room-exactly img r h msg reply x (Delete i) y tt in
+            ((λ f. full-delete img r h msg reply x (Delete i) y i refl (e .0 f)), (λ l. e .1 (for-delete x i (y .is-held) (y .is-asked) l)));
+        of-commit = λ img r h msg reply x y f. full-change img r h msg reply x Commit y (room-exactly img r h msg reply x Commit y tt .0 f);
+        of-abort = λ img r h msg reply x y f. full-change img r h msg reply x Abort y (room-exactly img r h msg reply x Abort y tt .0 f);
+      }
+
+  pub wear-exact : WearExact m
+  unfolding WearExact
+  wear-exact img r h msg reply x q f y e n =
+      let w = wear-line (m img r (request h msg reply) .answer) (rest-lines img r h msg reply x q y (framed q e)) n in (
+        (λ g. worn-out img r h msg reply x q y f e (w .0 g)),
+        (λ k. w .1
+            (record {
+              holding = x;
+              asked = q;
+              frame = f;
+              is-held = y .is-held;
+              is-asked = y .is-asked;
+              is-frame = e;
+              exceeds = k .0;
+              last-time = k .1;
+            })),
+      )
     where
-      worn : Bool
-      worn = needsRoom img r f && eqb (x .time) lastTime
-
-  -- ---- room
-
-  append-roomy : (f : Frame) → append img r reply x f .answer ≡ Refused refusal.NoRoom → ⊥
-  append-roomy f e =
-      on-test (needsRoom img r f && eqb (x .time) lastTime)
-      (λ t. let q : Refused refusal.Worn ≡ Refused refusal.NoRoom = sym (answer (append-worn img r reply x f t)) ∙ e in
-      let w : _≡_ {A = ℕ} 0 1 = cc in omega arith)
-      (λ t. not-refused (enterWipe (appendJob img r x f) .phase) refusal.NoRoom (sym (answer (append-begins img r reply x f t)) ∙ e))
-
-  abbrev needed : Change → ℕ
-  needed c =
-      claimed (replay (x .frames)) + frameLen (change h c) + endLen * openHosts (replay (x .frames) .pending ++ (entry h c ∷ [])) + spare c
-
-  room-rule : (c : Change) → (serveChange img r reply h x c .answer ≡ Refused refusal.NoRoom) ↔ (sizeOf img < needed c)
-  unfolding noRoom
-  room-rule c = (
-    λ e. on-test (noRoom (sizeOf img) (replay (x .frames)) h c) (ltb-true (sizeOf img) (needed c))
-        (λ t. absurd (append-roomy (change h c) (sym (answer (change-goes img r reply h x c t)) ∙ e))),
-    λ l. answer (change-refused img r reply h x c (lt-ltb (sizeOf img) (needed c) l)),
-  )
-
-  -- ---- what is appended where there is room
-
-  abbrev Roomy : Out → Type 0
-  Roomy o = o .answer ≡ Refused refusal.NoRoom → ⊥
-
-  change-appends : (c : Change) → Roomy (serveChange img r reply h x c) → serveChange img r reply h x c ≡ append img r reply x (change h c)
-  change-appends c n =
-      on-test (noRoom (sizeOf img) (replay (x .frames)) h c)
-      (λ t. absurd (n (answer (change-refused img r reply h x c t)))) (change-goes img r reply h x c)
-
-  end-appends : {g : Frame} (f : Frame) → frameIf (isOpen h (replay (x .frames) .pending)) f ≡ some g
-      → serveEnd img r reply h x f ≡ append img r reply x g
-  end-appends {g} f e =
-      on-test (isOpen h (replay (x .frames) .pending))
-      (λ t. let q : some f ≡ some g = rw t at e in end-goes img r reply h x f t ∙ ap (append img r reply x) (the-frame q))
-      (λ t. let q : none ≡ some g = rw t at e in no-frame q)
-
-  serve-appends : (q : Request) (f : Frame) → frameFor h m x q ≡ some f → Roomy (serve img r reply h m x q)
-      → serve img r reply h m x q ≡ append img r reply x f
-  serve-appends (Put i) f e n =
-      serve-put img r reply h m x i ∙ change-appends (put i (valueIn m)) (subst Roomy (serve-put img r reply h m x i) n)
-      ∙ ap (append img r reply x) (the-frame e)
-  serve-appends (Delete i) f e n =
-      serve-delete img r reply h m x i ∙ change-appends (delete i) (subst Roomy (serve-delete img r reply h m x i) n)
-      ∙ ap (append img r reply x) (the-frame e)
-  serve-appends Commit f e n = serve-commit img r reply h m x ∙ end-appends (commit h) e
-  serve-appends Abort f e n = serve-abort img r reply h m x ∙ end-appends (abort h) e
-  serve-appends (Read i) f e n = no-frame e
-  serve-appends (Log p) f e n = no-frame e
-
--- an equivalence about what an equal outcome answers
-over : {o o′ : Out} {n : Refusal} {P : Type 0} → o ≡ o′ → (o′ .answer ≡ Refused n) ↔ P → (o .answer ≡ Refused n) ↔ P
-over {o} {o′} {n} {P} e y = subst (λ (w : Out). (w .answer ≡ Refused n) ↔ P) (sym e) y
-
-pub room-exact : RoomExact exec
-room-exact =
-    record {
-      of-put = λ img r h m reply x i y.
-          over (serves img r reply h m x y ∙ serve-put img r reply h m x i)
-          ((λ e. omega (arith, room-rule img r reply h m x (put i (valueIn m)) .0 e)), (λ l. room-rule img r reply h m x (put i (valueIn m)) .1 (omega arith)));
-      of-delete = λ img r h m reply x i y.
-          over (serves img r reply h m x y ∙ serve-delete img r reply h m x i)
-          ((λ e. omega (arith, room-rule img r reply h m x (delete i) .0 e)), (λ l. room-rule img r reply h m x (delete i) .1 (omega arith)));
-    }
-
-pub wear-exact : WearExact exec
-unfolding WearExact
-wear-exact img r h m reply x q f y e n =
-    let s : requestOn img r reply h m ≡ serve img r reply h m x q = serves img r reply h m x y in
-    over (s ∙ serve-appends img r reply h m x q f e (λ c. n (answer s ∙ c))) (worn-exact img r reply h m x f)
+      framed : (s : Request) → frameFor h msg x s ≡ some f → Changes s
+      framed (Put i) g = tt
+      framed (Delete i) g = tt
+      framed Commit g = tt
+      framed Abort g = tt
+      framed (Read i) g = no-frame g
+      framed (Log k) g = no-frame g

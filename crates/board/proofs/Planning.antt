@@ -34,12 +34,13 @@ use Rattle.board.specs.declared.Record.{Record}
 use Rattle.board.specs.Record.{allowed, rest, idle, Out, out, refuse, answerOf}
 use Rattle.board.specs.Step.{enterWipe}
 use Rattle.board.specs.Queue.{Held, held, needsRoom, appendJob, append, serve, serveChange, serveEnd, serveParsed, serveHeld, requestIn, requestOn}
-use Rattle.board.specs.Exec.{exec}
+use Rattle.board.specs.Exec.{request, exec}
 use Rattle.board.specs.Plan.{framePlan, framedAt}
-use Rattle.board.specs.Table.{frameFor, frameIf, roomRule}
-use Rattle.board.specs.Demand2.{Appends, RequestsPlanned}
+use Rattle.board.specs.Table.{frameFor, frameIf}
+use Rattle.board.specs.Demand2.{Appends}
 use Rattle.board.specs.Paper.{MessagesExact}
 use Rattle.board.specs.Sentences.{FreshExact}
+use Rattle.board.proofs.Checks.{roomRule}
 use Rattle.board.proofs.Wording.{fresh-exact, messages-exact}
 use Rattle.board.proofs.Images.{Sized, size-of, sized-of}
 use Rattle.board.proofs.Invariant.{StepLands, Ready, InJob}
@@ -272,8 +273,8 @@ module _ {s : ℕ} {img : List ℕ} {r : Record} {h : Host} {m : List ℕ} (z : 
 
 -- ---- on any record and image
 
-pub requests-planned : RequestsPlanned exec
-unfolding RequestsPlanned
+pub requests-planned : (img : List ℕ) (r : Record) (h : Host) (m reply : List ℕ) → Bytes img → Bytes m → exec img r (request h m reply) .answer ≡ More
+    → Appends exec img r h m (exec img r (request h m reply))
 requests-planned img r h m reply by bm e = go (request-met img r reply h m)
   where
     go : Met img r reply h m (requestOn img r reply h m) → Appends exec img r h m (requestOn img r reply h m)

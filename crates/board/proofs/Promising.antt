@@ -1,6 +1,6 @@
 -- The machine keeps each clause of the promise.
 use mathlib.Core.Path.{_≡_, refl, sym, ap, ap₂, subst, subst₂, _∙_}
-use mathlib.Core.List.{List, [], _∷_}
+use mathlib.Core.List.{List}
 use mathlib.Core.Option.{Option, none, some}
 use mathlib.Core.Bool.{Bool, true, false, _&&_}
 use Prim.Native.Nat.{ℕ, _-_, _≤_}
@@ -17,7 +17,7 @@ use Rattle.frame.specs.Frame.{hostMax, Change, put, delete, Frame, change, comm
 use Rattle.journal.specs.Replay.{replay, lookup, isOpen}
 use Rattle.journal.specs.Block.{lastTime, headerLen}
 use Rattle.journal.specs.Room.{noRoom}
-use Rattle.wire.specs.declared.Answer.the-variants.{Done, More, Refused}
+use Rattle.wire.specs.declared.Answer.the-variants.{Done, More}
 use Rattle.wire.specs.declared.Refusal.{Refusal}
 use Rattle.wire.specs.declared.Refusal.the-variants as refusal
 use Rattle.wire.specs.declared.Page.the-variants.{Summary}
@@ -34,13 +34,13 @@ use Rattle.board.specs.Mount.{allFound, Store, needsTransfer, mountOn, f
 use Rattle.board.specs.Queue.{Held, held, needsRoom, append, serve, serveChange, serveEnd, requestOn}
 use Rattle.board.specs.Exec.{Call, request, step, mount, format, exec}
 use Rattle.board.specs.Plan.{Follows, formatPlan, mountPlan, mountedAt, framePlan, framedAt}
-use Rattle.board.specs.Table.{frameFor, frameIf, roomRule}
-use Rattle.board.specs.Demand1.{RefusalsUntouched, AtMostOneStep, ForgedEnds}
-use Rattle.board.specs.Demand2.{Accepted, Appends, Mounts, OneStore, RequestsPlanned}
+use Rattle.board.specs.Table.{frameFor, frameIf}
+use Rattle.board.specs.Demand2.{Accepted, Appends, Mounts, OneStore}
 use Rattle.board.specs.Claim.{ByteCall}
 use Rattle.board.specs.Paper.{Means, MessagesExact}
 use Rattle.board.specs.Sentences.{Fresh, FreshExact, Exactly, linesOf}
 use Rattle.board.specs.Promise.{Answers, replyFor, stretchFor, Serves, Current, Job, frame-job, mount-job, format-job, Calls}
+use Rattle.board.proofs.Checks.{roomRule}
 use Rattle.board.proofs.Images.{sized-of}
 use Rattle.board.proofs.Refusals.{refusals-untouched, at-most-one-step}
 use Rattle.board.proofs.Ending.{forged-ends}
@@ -187,7 +187,6 @@ Plans img r o x f =
 module _ (img : List ℕ) (r : Record) (by : Bytes img) where
   frame-does : (h : Host) (m reply : List ℕ) (x : Held) (q : Request) (f : Frame) → Bytes m → Fresh img r x → Means m q → frameFor h m x q ≡ some f
       → Accepted (exec img r (request h m reply) .answer) → Plans img r (exec img r (request h m reply)) x f
-  unfolding RequestsPlanned
   frame-does h m reply x q f bm v k g a =
       let o : Out = exec img r (request h m reply) in
       let t : o .answer ≡ More = subst (λ (n : Option Frame). Answers n r o) g (serves img r h m reply x q by bm v k a .answers) in
@@ -233,7 +232,6 @@ by-lines img r mount by = mount-lines img by
 by-lines img r format by = format-lines img r
 
 pub calls : Calls exec
-unfolding RefusalsUntouched AtMostOneStep ForgedEnds
 calls =
     record {
       table = by-lines;

@@ -1,28 +1,22 @@
 -- The machine refuses exactly as the table's lines say.
 use mathlib.Core.Path.{_≡_, refl, sym, ap, ap₂, subst, _∙_}
-use mathlib.Core.List.{List, [], _∷_, _++_}
+use mathlib.Core.List.{List, [], _∷_}
 use mathlib.Core.Logic.{_⊎_, inl, inr}
 use mathlib.Core.Option.{Option, none, some}
 use mathlib.Core.Bool.{Bool, true, false, _&&_, not}
-use Prim.Native.Nat.{ℕ, suc, _+_, _*_, _%_, _≤_, _<_}
+use Prim.Native.Nat.{ℕ, suc, _+_, _%_, _<_}
 use native.Mathlib.Omega.{arith}
 use lib.Dec.{eqb, ltb, leb}
 use lib.ListN.{length}
-use borrow.Author.Tests.{eqb-true, eqb-false, eq-eqb, leb-true, le-leb, ltb-true, ltb-false, lt-ltb, le-ltb}
+use borrow.Author.Tests.{eqb-true, eqb-false, eq-eqb, leb-true, le-leb, ltb-true, ltb-false, lt-ltb}
 use Rattle.flash.specs.Bytes.{Bytes}
-use Rattle.flash.specs.Flash.{Step, blocks, block, sizeOf, blockOf, offsetOf, within}
-use Rattle.flash.proofs.Cases.{on-test, clash, and-both, and-left, and-right, and-no-left, and-no-right}
-use Rattle.flash.proofs.Image.{bytes-block}
-use Rattle.frame.specs.declared.Fault.{Fault}
+use Rattle.flash.specs.Flash.{Step, blocks, sizeOf, blockOf, offsetOf, within}
+use Rattle.flash.proofs.Cases.{on-test, clash, and-both, and-left, and-right}
 use Rattle.frame.specs.declared.Host.{Host}
-use Rattle.frame.specs.declared.ObjectId.{ObjectId}
-use Rattle.frame.specs.Frame.{Frame, change, put, delete, frameLen, hostMax, endLen}
-use Rattle.frame.specs.Reader.{Tail, clean, cut, bad}
-use Rattle.journal.specs.Replay.{Entry, replay, entry, lookup}
-use Rattle.journal.specs.Block.{BlockState, valid, foreign, blockState, lastTime, headerLen}
-use Rattle.journal.specs.Room.{claimed, openHosts, noRoom}
-use Rattle.journal.specs.Sentences.{ValidBlock, ForeignBlock}
-use Rattle.journal.proofs.Sentences.{states-exact}
+use Rattle.frame.specs.Frame.{Frame, frameLen, hostMax}
+use Rattle.journal.specs.Replay.{replay, lookup}
+use Rattle.journal.specs.Block.{lastTime}
+use Rattle.journal.specs.Room.{noRoom}
 use Rattle.wire.specs.declared.Answer.{Answer}
 use Rattle.wire.specs.declared.Answer.the-variants.{Done, More, Refused}
 use Rattle.wire.specs.declared.Refusal.{Refusal}
@@ -32,28 +26,22 @@ use Rattle.wire.specs.declared.Request.the-variants.{Put, Delete, Commit, Abort
 use Rattle.wire.specs.declared.Parsed.{Parsed}
 use Rattle.wire.specs.declared.Parsed.the-variants.{Is, Malformed}
 use Rattle.wire.specs.Answer.{numberOf, refusalNumber}
-use Rattle.wire.specs.Message.{parse, valueIn, pageLen}
+use Rattle.wire.specs.Message.{parse, pageLen}
 use Rattle.board.specs.declared.Stage.{Stage}
 use Rattle.board.specs.declared.Phase.{Phase}
 use Rattle.board.specs.declared.Phase.the-variants.{Unmounted, Idle, Busy}
 use Rattle.board.specs.declared.Record.{Record}
-use Rattle.board.specs.Record.{allowed, unmounted, Out, refuse, answerIn}
-use Rattle.board.specs.Step.{action, enterWipe}
-use Rattle.board.specs.Mount.{Store, needsTransfer, anyPending, allFound, wipeList, mountJob, mountOn}
+use Rattle.board.specs.Record.{allowed}
+use Rattle.board.specs.Step.{action}
 use Rattle.board.specs.Queue.{Held, held, needsRoom}
-use Rattle.board.specs.Exec.{Call, request, step, mount, format, exec}
-use Rattle.board.specs.Table.{Check, check, firstOf, isBusy, isUnmounted, isNone, isMalformed, noObject, shortReply, roomRule, worn, frameFor, laterChecks, heldChecks, requestChecks, outside, refusalIn}
-use Rattle.board.specs.Demand1.{RefusedByTable}
+use Rattle.board.specs.Exec.{request, step, format, exec}
+use Rattle.board.specs.Table.{isBusy, isNone, frameFor}
 use Rattle.board.specs.Demand2.{Accepted}
 use Rattle.board.specs.Paper.{Means, MessagesExact, MalformedExact}
-use Rattle.board.specs.Sentences.{Line, line, Exactly, Allowed, InJob, Fresh, FreshExact, NoObject, ShortReply, NoRoom, for-put, for-delete, Worn, requestLines, ValidAt, ForeignAt, NothingThere, Unclear, foreign-half, equal-times, Unsettled, MountWorn, mountLines, Outside, Misplaced, linesOf}
-use Rattle.board.proofs.Images.{Sized, size-of, sized-of}
+use Rattle.board.specs.Sentences.{Line, line, Exactly, Allowed, InJob, Fresh, FreshExact, NoObject, ShortReply, NoRoom, for-put, for-delete, Worn, requestLines, Outside, Misplaced, linesOf}
+use Rattle.board.proofs.Checks.{Check, check, firstOf, isUnmounted, isMalformed, noObject, shortReply, roomRule, worn, laterChecks, heldChecks, requestChecks, outside, refusalIn}
 use Rattle.board.proofs.Wording.{fresh-exact, messages-exact, malformed-exact}
-use Rattle.board.proofs.Outcomes.{mount-length}
-use Rattle.board.proofs.Erasing.{SameValid, same-valid}
 use Rattle.board.proofs.Refusals.{refused-by-table}
-use Rattle.board.proofs.Deciding as deciding
-use Rattle.board.proofs.Deciding.{Taken, Decided, Outcome, worn-out, begins, foreign-block, none-valid, at-store, mount-decides, mount-outcome, taken-holds, taken-newest, taken-none-foreign}
 
 -- ---- from tests to lines
 
@@ -342,15 +330,12 @@ step-test img r (Busy s) e = record { yes = λ t. record { stage = s; is-busy = 
 
 pub request-lines : (img : List ℕ) (r : Record) (h : Host) (msg reply : List ℕ) → Bytes img
     → Exactly (requestLines img r h msg reply) (exec img r (request h msg reply) .answer)
-unfolding RefusedByTable
 request-lines img r h msg reply by =
     exactly (request-rows img r h msg reply by) (exec img r (request h msg reply) .answer) (refused-by-table img r (request h msg reply))
 
 pub step-lines : (img : List ℕ) (r : Record) → Exactly (linesOf img r step) (exec img r step .answer)
-unfolding RefusedByTable
 step-lines img r = exactly (row refusal.Stale (step-test img r (r .phase) refl) (λ _. end)) (exec img r step .answer) (refused-by-table img r step)
 
 pub format-lines : (img : List ℕ) (r : Record) → Exactly (linesOf img r format) (exec img r format .answer)
-unfolding RefusedByTable
 format-lines img r =
     exactly (row refusal.ImageLength (length-test (length img)) (λ _. end)) (exec img r format .answer) (refused-by-table img r format)

@@ -1,9 +1,9 @@
 -- A mount is refused exactly as the table's lines say; the states of halves in words.
 use mathlib.Core.Path.{_≡_, refl, sym, ap, ap₂, subst, _∙_}
 use mathlib.Core.List.{List, [], _∷_}
-use mathlib.Core.Logic.{_⊎_, inl, inr}
+use mathlib.Core.Logic.{inl, inr}
 use mathlib.Core.Option.{some}
-use mathlib.Core.Bool.{Bool, true, false}
+use mathlib.Core.Bool.{true, false}
 use Prim.Native.Nat.{ℕ, _≤_, _<_}
 use native.Mathlib.Omega.{arith}
 use lib.Dec.{eqb}
@@ -17,8 +17,7 @@ use Rattle.frame.specs.declared.Fault.{Fault}
 use Rattle.frame.specs.Frame.{Frame}
 use Rattle.frame.specs.Reader.{Tail, clean, cut, bad}
 use Rattle.journal.specs.Replay.{Entry, replay}
-use Rattle.journal.specs.Block.{BlockState, valid, foreign, blockState, lastTime, headerLen}
-use Rattle.journal.specs.Sentences.{ValidBlock, ForeignBlock}
+use Rattle.journal.specs.Block.{valid, foreign, blockState, lastTime, headerLen}
 use Rattle.journal.proofs.Sentences.{states-exact}
 use Rattle.wire.specs.declared.Refusal.{Refusal}
 use Rattle.wire.specs.Answer.{numberOf, refusalNumber}
@@ -34,7 +33,7 @@ use Rattle.board.proofs.Images.{Sized, sized-of}
 use Rattle.board.proofs.Invariant.{Quiet}
 use Rattle.board.proofs.Current.{block-long}
 use Rattle.board.proofs.Outcomes.{mount-length}
-use Rattle.board.proofs.Erasing.{NoStore, SameValid, same-valid}
+use Rattle.board.proofs.Erasing.{SameValid, same-valid}
 use Rattle.board.proofs.Deciding as deciding
 use Rattle.board.proofs.Deciding.{Taken, Decided, Outcome, InTime, worn-out, begins, foreign-block, none-valid, at-store, mount-decides, mount-outcome, mount-accepted, taken-holds, taken-newest, taken-none-foreign}
 use Rattle.board.proofs.Tabling.{false-true, allowed-is, is-allowed}

@@ -13,8 +13,7 @@ use Rattle.frame.specs.declared.Host.{Host}
 use Rattle.frame.specs.Frame.{hostMax}
 use Rattle.journal.specs.Block.{lastTime, markWrites}
 use Rattle.journal.specs.Index.{Load, nextLoad}
-use Rattle.wire.specs.declared.Answer.{Answer}
-use Rattle.wire.specs.declared.Answer.the-variants.{Done, More, Refused}
+use Rattle.wire.specs.declared.Answer.the-variants.{Done, More}
 use Rattle.wire.specs.declared.Refusal.{Refusal}
 use Rattle.wire.specs.declared.Refusal.the-variants as refusal
 use Rattle.wire.specs.Answer.{numberOf}

@@ -1,10 +1,9 @@
 -- Refusal 11, messages and objects are as document 01 words them.
 use mathlib.Core.Path.{_≡_, refl, sym, ap, ap₂, subst, _∙_}
-use mathlib.Core.List.{List, [], _∷_}
-use mathlib.Core.Logic.{_↔_}
-use mathlib.Core.Option.{Option, none, some}
+use mathlib.Core.List.{List}
+use mathlib.Core.Option.{some}
 use mathlib.Core.Bool.{Bool, true, false, _&&_, _||_}
-use Prim.Native.Nat.{ℕ, zero, suc, _+_, _*_, _≤_, _<_}
+use Prim.Native.Nat.{ℕ, suc, _+_, _*_, _≤_, _<_}
 use native.Mathlib.Omega.{arith}
 use lib.Dec.{eqb, ltb, leb}
 use lib.ListN.{length, getD, replicate}
@@ -15,12 +14,12 @@ use Rattle.flash.proofs.Cases.{and-both, and-left, and-right, or-left, or-right
 use Rattle.flash.proofs.Blank.{is-ff}
 use Rattle.flash.proofs.Image.{length-block, bytes-block}
 use Rattle.frame.specs.declared.ObjectId.{ObjectId}
-use Rattle.frame.specs.Frame.{Frame, total, idMax, valueMax, endLen}
+use Rattle.frame.specs.Frame.{idMax, valueMax, endLen}
 use Rattle.frame.specs.Reader.{clean}
 use Rattle.frame.specs.Sentences.{Blank}
 use Rattle.journal.specs.Replay.{replay}
 use Rattle.journal.specs.Block.{BlockState, valid, blockState, headerLen}
-use Rattle.journal.specs.Sentences.{BlankBlock, ValidBlock, StatesExact}
+use Rattle.journal.specs.Sentences.{BlankBlock}
 use Rattle.journal.specs.Room.{claimed, openHosts}
 use Rattle.journal.proofs.Lookups.{lookup-insert, lookup-insert-other, lookup-remove, lookup-remove-other}
 use Rattle.journal.proofs.Sentences.{states-exact}
@@ -36,7 +35,7 @@ use Rattle.board.specs.Mount.{endOf}
 use Rattle.board.specs.Queue.{Held, held, heldIf, heldIn, heldBy, fitsRecord, othersBlank, sameImage}
 use Rattle.board.specs.Sentences.{Fresh, FreshExact}
 use Rattle.board.specs.Paper.{Headed, Means, MessagesExact, MalformedExact, ObjectLaws}
-use Rattle.board.proofs.Images.{Sized, size-of, sized-of, sized-block}
+use Rattle.board.proofs.Images.{Sized, sized-of, sized-block}
 use Rattle.board.proofs.Invariant.{Ready}
 use Rattle.board.proofs.Holding.{Passed, passed, held-inv}
 

@@ -1,5 +1,5 @@
--- Demand 1: any bytes from any host, any image, any record get an answer; a refusal has its number and changes nothing; an accepted
--- request takes at most S steps; a forged record ends. The machine is a function, so that every call is answered is its type.
+-- Demand 1, what the promise says it with: what a refusal hands back, what one call may do to the image, and when a forged record has
+-- ended. The machine is a function, so that every call is answered is its type.
 use mathlib.Core.List.{List, []}
 use mathlib.Core.Logic.{_⊎_}
 use mathlib.Core.Path.{_≡_}
@@ -13,11 +13,6 @@ use Rattle.board.specs.declared.Phase.the-variants.{Unmounted, Idle, Bus
 use Rattle.board.specs.declared.Record.{Record}
 use Rattle.board.specs.Record.{unmounted, Out, out}
 use Rattle.board.specs.Exec.{Call, request, step, mount, format, Machine}
-use Rattle.board.specs.Table.{firstOf, checks, refusalIn}
-
--- a call is refused exactly as the table says: by the first line whose condition holds
-unfoldable pub RefusedByTable : Machine → Type 0
-RefusedByTable m = (img : List ℕ) (r : Record) (c : Call) → refusalIn (m img r c .answer) ≡ firstOf (checks img r c)
 
 -- "Every refusal takes no step and changes no byte of image, reply or record; a refused mount or format hands back an unmounted record."
 abbrev pub Unchanged : List ℕ → Record → Call → Refusal → Out
@@ -25,10 +20,6 @@ Unchanged img r (request h m reply) n = out (Refused n) img r reply
 Unchanged img r step n = out (Refused n) img r []
 Unchanged img r mount n = out (Refused n) img unmounted []
 Unchanged img r format n = out (Refused n) img unmounted []
-
-unfoldable pub RefusalsUntouched : Machine → Type 0
-RefusalsUntouched m =
-    (img : List ℕ) (r : Record) (c : Call) (n : Refusal) → m img r c .answer ≡ Refused n → m img r c ≡ Unchanged img r c n
 
 -- "Accepting takes no step": only a step call changes the image, and it does at most one flash step
 abbrev pub OneStep : List ℕ → List ℕ → Type 0
@@ -40,9 +31,6 @@ ImageAfter m img r (request h msg reply) = m img r (request h msg reply) .image 
 ImageAfter m img r step = OneStep img (m img r step .image)
 ImageAfter m img r mount = m img r mount .image ≡ img
 ImageAfter m img r format = m img r format .image ≡ img
-
-unfoldable pub AtMostOneStep : Machine → Type 0
-AtMostOneStep m = (img : List ℕ) (r : Record) (c : Call) → ImageAfter m img r c
 
 -- ---- forged records
 
@@ -65,7 +53,3 @@ EndsWithin m zero img r = Rests (r .phase)
 EndsWithin m (suc n) img r =
     let o : Out = m img r step in
     Rests (r .phase) ⊎ ((o .answer ≡ Refused refusal.Stale) ⊎ EndsWithin m n (o .image) (o .board))
-
--- "A record forged otherwise does at most one step a call .. and ends or gets 11 within 65,536 step calls."
-unfoldable pub ForgedEnds : Machine → Type 0
-ForgedEnds m = (img : List ℕ) (r : Record) → Declared r → EndsWithin m 65536 img r

@@ -6,36 +6,33 @@ use mathlib.Core.Option.{some}
 use mathlib.Core.Bool.{true}
 use mathlib.Core.Path.{_≡_}
 use Prim.Native.Nat.{ℕ, _+_, _-_, _*_, _≤_, _<_}
-use lib.Bits.{bitAnd}
 use lib.ListN.{length, getD}
 use Rattle.flash.specs.Bytes.{Bytes}
 use Rattle.flash.specs.Flash.{Step, program, erase, apply, applyAll, blocks, block, sizeOf}
 use Rattle.frame.specs.declared.Fault.{Fault}
 use Rattle.frame.specs.declared.Host.{Host}
 use Rattle.frame.specs.declared.ObjectId.{ObjectId}
-use Rattle.frame.specs.Frame.{Frame, put, delete, hostMax, putLen}
+use Rattle.frame.specs.Frame.{Frame, frameLen, put, delete}
 use Rattle.frame.specs.Reader.{Tail, clean}
 use Rattle.journal.specs.Replay.{replay, entry, settledOnly}
-use Rattle.journal.specs.Block.{valid, foreign, blockState, headerLen, stateAt, inTransfer, lastTime}
+use Rattle.journal.specs.Block.{valid, foreign, blockState, headerLen, stateAt, inTransfer}
 use Rattle.journal.specs.Room.{claimed, openHosts}
-use Rattle.wire.specs.declared.Answer.{Answer}
-use Rattle.wire.specs.declared.Answer.the-variants.{Done, More, Refused}
-use Rattle.wire.specs.declared.Refusal.the-variants as refusal
-use Rattle.wire.specs.declared.Request.the-variants.{Put, Delete}
+use Rattle.wire.specs.declared.Answer.the-variants.{Done, More}
+use Rattle.wire.specs.declared.Request.the-variants.{Put, Delete, Commit, Abort}
 use Rattle.wire.specs.declared.Request.{Request}
-use Rattle.wire.specs.declared.Parsed.the-variants.{Is}
-use Rattle.wire.specs.Message.{parse, valueIn}
+use Rattle.wire.specs.Answer.{numberOf}
+use Rattle.wire.specs.Message.{valueIn}
 use Rattle.board.specs.declared.Phase.the-variants.{Idle}
 use Rattle.board.specs.declared.Record.{Record}
 pub use Rattle.board.specs.Record.{Accepted}
 use Rattle.board.specs.Record.{Out, allowed, rest, idle}
 use Rattle.board.specs.Mount.{allFound, Store, needsTransfer}
-use Rattle.board.specs.Queue.{Held, held, needsRoom}
+use Rattle.board.specs.Queue.{Held, needsRoom}
 use Rattle.board.specs.Exec.{Call, request, step, mount, format, Machine}
 use Rattle.board.specs.Plan.{Follows, formatPlan, mountPlan, mountedAt, framePlan, framedAt}
 use Rattle.board.specs.Table.{frameFor}
 use Rattle.board.specs.Paper.{Means}
-use Rattle.board.specs.Sentences.{Fresh}
+use Rattle.board.specs.Sentences.{Allowed, Fresh}
 use Rattle.board.specs.Claim.{ByteCalls}
 
 -- ---- every image reads as one store
@@ -59,7 +56,7 @@ pub record Mounts (m : Machine) (img : List ℕ) (o : Out) : Type 0 where
       blockState (block (sizeOf img) (last .block) (applyAll (sizeOf img) (mountPlan (allFound img) store) img)) ≡ valid time frames clean
   pub holds : replay frames ≡ settledOnly (replay (store .frames))
 
--- the refusals of a mount, and their exact conditions, are the table's (`RefusedByTable`)
+-- the refusals of a mount, and their exact conditions, are the table's lines
 unfoldable pub OneStore : Machine → Type 0
 OneStore m =
     (img : List ℕ) (r : Record) → Bytes img → allowed (length img) ≡ true → Accepted (m img r mount .answer) → Mounts m img (m img r mount)
@@ -89,12 +86,6 @@ pub record Appends (m : Machine) (img : List ℕ) (r : Record) (h : Host) (msg :
       (framedAt (needsRoom img r frame) (r .last) (r .block) (r .end) holding frame)
   pub short : length (framePlan (needsRoom img r frame) (r .block) (r .end) holding frame) ≤ sizeOf img
 
--- on any record and image at all, demand 1's bound with it
-unfoldable pub RequestsPlanned : Machine → Type 0
-RequestsPlanned m =
-    (img : List ℕ) (r : Record) (h : Host) (msg reply : List ℕ) → Bytes img → Bytes msg → m img r (request h msg reply) .answer ≡ More
-    → Appends m img r h msg (m img r (request h msg reply))
-
 -- "Format: .. 12 steps."
 pub record Formats (m : Machine) (img : List ℕ) (o : Out) : Type 0 where
   pub follows : Follows m img (o .board) (formatPlan img) (idle (rest (length img - 1) 0 headerLen))
@@ -120,37 +111,35 @@ pub record PlannedFrom (m : Machine) : Type 0 where
   pub from-format : (img : List ℕ) (r : Record) (cs : List Call) → Bytes img → allowed (length img) ≡ true → ByteCalls cs
       → AllPlanned m img (m img r format .board) cs
 
--- ---- programming only clears bits, on every record and image
-
-unfoldable pub ClearsOnly : Type 0
-ClearsOnly =
-    (s k o v : ℕ) (img : List ℕ) (i : ℕ)
-    → (getD (apply s (program k o v) img) i 0 ≡ getD img i 0) ⊎ (getD (apply s (program k o v) img) i 0 ≡ bitAnd (getD img i 0) v)
-
 -- ---- room and wear
 
--- past the earlier checks
+-- a request that no line of the table before 8 refuses, where the image read afresh holds x and the message means q
 pub record Asks (img : List ℕ) (r : Record) (h : Host) (msg : List ℕ) (x : Held) (q : Request) : Type 0 where
-  pub length-ok : allowed (length img) ≡ true
-  pub host-ok : h .0 ≤ hostMax
+  pub bytes : Bytes img
+  pub length-ok : Allowed (length img)
+  pub host-ok : h .0 ≤ 3
   pub is-idle : r .phase ≡ Idle
-  pub is-held : held img r ≡ some x
-  pub is-asked : parse msg ≡ Is q
+  pub is-held : Fresh img r x
+  pub is-asked : Means msg q
 
--- "a put is refused exactly if C + n + 6·open + 14 > S, a delete exactly if C + 8 + 6·open > S"
+-- "a put is refused exactly if C + n + 6·open + 14 > S, a delete exactly if C + 8 + 6·open > S. Commit and abort are never refused for room."
 pub record RoomExact (m : Machine) : Type 0 where
   pub of-put : (img : List ℕ) (r : Record) (h : Host) (msg reply : List ℕ) (x : Held) (i : ObjectId) → Asks img r h msg x (Put i)
-      → (m img r (request h msg reply) .answer ≡ Refused refusal.NoRoom)
+      → (numberOf (m img r (request h msg reply) .answer) ≡ some 7)
       ↔ (sizeOf img
-      < claimed (replay (x .frames)) + putLen (length (valueIn msg))
+      < claimed (replay (x .frames)) + (8 + length (valueIn msg))
       + 6 * openHosts (replay (x .frames) .pending ++ (entry h (put i (valueIn msg)) ∷ [])) + 14)
   pub of-delete : (img : List ℕ) (r : Record) (h : Host) (msg reply : List ℕ) (x : Held) (i : ObjectId)
-      → Asks img r h msg x (Delete i) → (m img r (request h msg reply) .answer ≡ Refused refusal.NoRoom)
+      → Asks img r h msg x (Delete i) → (numberOf (m img r (request h msg reply) .answer) ≡ some 7)
       ↔ (sizeOf img < claimed (replay (x .frames)) + 8 + 6 * openHosts (replay (x .frames) .pending ++ (entry h (delete i) ∷ [])))
+  pub of-commit : (img : List ℕ) (r : Record) (h : Host) (msg reply : List ℕ) (x : Held) → Asks img r h msg x Commit
+      → numberOf (m img r (request h msg reply) .answer) ≡ some 7 → ⊥
+  pub of-abort : (img : List ℕ) (r : Record) (h : Host) (msg reply : List ℕ) (x : Held) → Asks img r h msg x Abort
+      → numberOf (m img r (request h msg reply) .answer) ≡ some 7 → ⊥
 
 -- past the room rule too, 6 exactly if the frame needs a transfer at the last time
 unfoldable pub WearExact : Machine → Type 0
 WearExact m =
     (img : List ℕ) (r : Record) (h : Host) (msg reply : List ℕ) (x : Held) (q : Request) (f : Frame) → Asks img r h msg x q
-    → frameFor h msg x q ≡ some f → (m img r (request h msg reply) .answer ≡ Refused refusal.NoRoom → ⊥)
-    → (m img r (request h msg reply) .answer ≡ Refused refusal.Worn) ↔ ((needsRoom img r f ≡ true) × (x .time ≡ lastTime))
+    → frameFor h msg x q ≡ some f → (numberOf (m img r (request h msg reply) .answer) ≡ some 7 → ⊥)
+    → (numberOf (m img r (request h msg reply) .answer) ≡ some 6) ↔ ((sizeOf img < r .end + frameLen f) × (x .time ≡ 4294967295))

@@ -14,6 +14,7 @@ pub mod CutFormat
 pub mod Sentences
 pub mod Paper
 pub mod Promise
+pub mod Tickets
 pub mod Wrong
 pub mod WrongRuns
 pub mod WrongRows

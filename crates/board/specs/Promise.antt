@@ -32,7 +32,7 @@ use Rattle.board.specs.Exec.{Call, request, step, mount, format}
 use Rattle.board.specs.Plan.{Follows, formatPlan, mountPlan, mountedAt, framePlan, framedAt}
 use Rattle.board.specs.Table.{frameFor}
 use Rattle.board.specs.Demand1.{Unchanged, ImageAfter, Declared, Rests, EndsWithin}
-use Rattle.board.specs.Demand2.{Accepted, PlannedFrom}
+use Rattle.board.specs.Demand2.{Accepted, OneStore, PlannedFrom, RoomExact, WearExact}
 use Rattle.board.specs.Paper.{Means}
 use Rattle.board.specs.Sentences.{Exactly, InJob, Fresh, ValidAt, linesOf}
 use Rattle.board.specs.Claim.{stepsOn, ByteCall, ByteCalls, Claim}
@@ -158,6 +158,11 @@ pub record Promise (m : Machine) : Type 0 where
       → Accepted (m img r c .answer) → StepsOf m img (m img r c) plan z
   -- programming only clears bits
   pub clears : (img : List ℕ) (r : Record) (c : Call) → OnlyClears img (m img r c .image)
+  -- demand 2: every image reads as one store, which a mount takes and leaves with its settled objects and nothing pending
+  pub one-store : OneStore m
+  -- demand 2: "refusals for room and wear are exact"
+  pub room : RoomExact m
+  pub wear : WearExact m
   -- demand 2: every step of a run is its plan's and lands
   pub planned : PlannedFrom m
   -- demand 3

@@ -12,7 +12,7 @@ use Rattle.frame.specs.declared.Host.{Host}
 use Rattle.frame.specs.declared.ObjectId.{ObjectId}
 use Rattle.frame.specs.Frame.{Frame, put, delete, frameLen, total}
 use Rattle.frame.specs.Reader.{Tail, clean}
-use Rattle.journal.specs.Replay.{State, entry, replay, lookup}
+use Rattle.journal.specs.Replay.{entry, replay, lookup}
 use Rattle.journal.specs.Block.{headerLen}
 use Rattle.journal.specs.Sentences.{BlankBlock, ValidBlock, ForeignBlock}
 use Rattle.journal.specs.Room.{claimed, openHosts}

@@ -15,7 +15,6 @@ use Rattle.board.specs.declared.Record.{Record}
 use Rattle.board.specs.Record.{Out, refuse}
 use Rattle.board.specs.Queue.{requestOn}
 use Rattle.board.specs.Exec.{request, step}
-use Rattle.board.specs.Demand1.{RefusalsUntouched}
 use Rattle.board.proofs.Refusals.{refusals-untouched}
 use Rattle.board.proofs.Planning.{Met, refused, done, begun, request-met}
 use Rattle.lent.specs.Layout.{recordSize, recordIn}
@@ -38,7 +37,7 @@ stays img b reply o u =
     (λ t. rw t (λ _. refl))
 
 pub refused-stays : RefusedStays
-unfolding RefusalsUntouched edgeRequest edgeStep
+unfolding edgeRequest edgeStep
 refused-stays =
     record {
       request = λ img b h m reply. stays img b reply _ (λ n. refusals-untouched img (recordIn b) (request (record { 0 = h }) m reply) n);
@@ -48,7 +47,7 @@ refused-stays =
 -- ---- reads
 
 pub refused-read-empty : RefusedReadEmpty
-unfolding RefusedReadEmpty RefusalsUntouched edgeRead
+unfolding RefusedReadEmpty edgeRead
 refused-read-empty img b h m at size l =
     rw (eq-eqb (length b) recordSize l)
     (λ f.
