@@ -38,10 +38,11 @@ use Rattle.board.specs.Exec.{request, exec}
 use Rattle.board.specs.Plan.{framePlan, framedAt}
 use Rattle.board.specs.Table.{frameFor, frameIf}
 use Rattle.board.specs.Demand2.{Appends}
-use Rattle.board.specs.Paper.{MessagesExact}
+use Rattle.wire.specs.Sentences.{MessagesExact}
 use Rattle.board.specs.Sentences.{FreshExact}
 use Rattle.board.proofs.Checks.{roomRule}
-use Rattle.board.proofs.Wording.{fresh-exact, messages-exact}
+use Rattle.wire.proofs.Sentences.{messages-exact}
+use Rattle.board.proofs.Wording.{fresh-exact}
 use Rattle.board.proofs.Images.{Sized, size-of, sized-of}
 use Rattle.board.proofs.Invariant.{StepLands, Ready, InJob}
 use Rattle.board.proofs.Outcomes.{append-worn, append-begins, change-refused, change-goes, end-goes, end-idle, log-short, log-done, serve-put, serve-delete, serve-commit, serve-abort, serve-log, read-none, read-some, request-length, request-host, request-in}

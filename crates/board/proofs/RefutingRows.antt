@@ -17,7 +17,7 @@ use Rattle.wire.specs.declared.Answer.the-variants.{Done, More, Refused}
 use Rattle.board.specs.declared.Record.{Record}
 use Rattle.board.specs.Record.{unmounted, Out}
 use Rattle.board.specs.Exec.{Call, request, step, mount, format, exec}
-use Rattle.board.specs.Demand1.{AtMostOneStep, OneStep}
+use Rattle.board.specs.Demand1.{OneStep}
 use Rattle.board.specs.Rows.{Ran, ran, drive, returned, ask, asked, cutIn, mounted, holds, timed, part, rowA, rowB, rowC, rowD, rowE}
 use Rattle.board.specs.Rows.{rowF, rowG, rowH, rowI, rowK, commitMessage, putMessage, formatAnswer, Rows}
 use Rattle.board.specs.Wrong.{Wrongly, offBench, byAnswer, onImage, RightOnBench}
@@ -35,7 +35,6 @@ one-step-length img after (inl e) = ap length e
 one-step-length img after (inr (x, e)) = ap length e ∙ length-apply (sizeOf img) x img
 
 exec-length : (img : List ℕ) (r : Record) (c : Call) → length (exec img r c .image) ≡ length img
-unfolding AtMostOneStep
 exec-length img r (request h m reply) = ap length (at-most-one-step img r (request h m reply))
 exec-length img r step = one-step-length img (exec img r step .image) (at-most-one-step img r step)
 exec-length img r mount = ap length (at-most-one-step img r mount)

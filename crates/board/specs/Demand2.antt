@@ -31,7 +31,7 @@ use Rattle.board.specs.Queue.{Held, needsRoom}
 use Rattle.board.specs.Exec.{Call, request, step, mount, format, Machine}
 use Rattle.board.specs.Plan.{Follows, formatPlan, mountPlan, mountedAt, framePlan, framedAt}
 use Rattle.board.specs.Table.{frameFor}
-use Rattle.board.specs.Paper.{Means}
+use Rattle.wire.specs.Sentences.{Means}
 use Rattle.board.specs.Sentences.{Allowed, Fresh}
 use Rattle.board.specs.Claim.{ByteCalls}
 

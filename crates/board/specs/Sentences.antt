@@ -31,7 +31,7 @@ use Rattle.board.specs.Step.{action}
 use Rattle.board.specs.Queue.{Held, held}
 use Rattle.board.specs.Exec.{Call, request, step, mount, format}
 use Rattle.board.specs.Table.{frameFor}
-use Rattle.board.specs.Paper.{Means}
+use Rattle.wire.specs.Sentences.{Means}
 
 -- ---- lines
 
