@@ -1,13 +1,14 @@
 -- A request: refused at the gate, refused by the block or the message, or served.
-use mathlib.Core.Path.{sym, ap, _∙_}
-use mathlib.Core.List.{List}
+use mathlib.Core.Path.{_≡_, sym, ap, _∙_}
 use Prim.Native.Nat.{ℕ}
 use native.Mathlib.Omega.{arith}
 use denote.Ref.{now}
 use borrow.Author.Needs.{needs}
 use Rattle.flash.specs.Bytes.{Bytes}
+use Rattle.flash.specs.Flash.{sizeOf, block}
 use Rattle.journal.specs.Block.{blockState}
-use Rattle.journal.specs.Survey.{surveyOf, placesIn}
+use Rattle.journal.specs.Survey.{surveyOf, placesIn, stateOf}
+use Rattle.journal.proofs.Surveying.{half-fits}
 use Rattle.board.specs.Queue.{requestOn}
 use Rattle.board.proofs.Images.{sized-of}
 use Rattle.frame.proofs.Misfits.{bytes-of}
@@ -25,12 +26,18 @@ opened c = passed (now (c .before .before .before .before .before .before .args 
 bytes : (c : tie.After-block-of) → Bytes (now (c .before .before .before .before .before .before .before .before .args .image))
 bytes c = bytes-of (now (c .before .before .before .before .before .before .before .before .args .image)) (λ i. c .before .before .before .before .before .before .before .shared-slice-known .given i .fits)
 
+surveyed : (c : tie.After-block-of)
+    → stateOf (now (c .block-of .result)) ≡ blockState (block (sizeOf (now (c .before .before .before .before .before .before .before .before .args .image))) (c .before .before .before .before .before .before .before .before .args .board .block) (now (c .before .before .before .before .before .before .before .before .args .image)))
+surveyed c =
+    half-fits (now (c .block-of .result)) (rw (c .block-of .ensures) (looks _ _ _ (now (c .before .before .before .before .before .before .before .before .args .message)) (bytes c) (opened (c .before .before))))
+    ∙ ap blockState (c .block-of .ensures)
+
 looked : (c : tie.After-hear) → Looked (now (c .before .before .before .before .before .before .before .before .before .before .before .args .image)) (c .before .before .before .before .before .before .before .before .before .before .before .args .board) (c .before .before .before .before .before .before .before .before .before .before .before .args .host) (now (c .before .before .before .before .before .before .before .before .before .before .before .args .message)) (c .before .survey-block .result) (c .hear .result)
 looked c =
     record {
       bytes = bytes (c .before .before .before);
       passed = opened (c .before .before .before .before .before);
-      survey = c .before .survey-block .ensures .0 ∙ ap (λ (b : List ℕ). surveyOf (blockState b)) (c .before .before .before .block-of .ensures);
+      survey = c .before .survey-block .ensures .0 ∙ ap surveyOf (surveyed (c .before .before .before));
       asks = c .hear .ensures;
     }
 
@@ -45,7 +52,7 @@ request-spec =
     (λ c. search needs)
     (λ c κs. search needs)
     (λ c κs. search needs)
-    (λ c κs. rw (c .before .block-of .ensures) (looks _ _ _ (now (c .before .before .before .before .before .before .before .before .before .args .message)) (bytes (c .before)) (opened (c .before .before .before))))
+    (λ c κs. search needs)
     (λ c κs. search needs)
     (λ c. search needs)
     (λ c κs. search needs)
@@ -54,4 +61,4 @@ request-spec =
     (λ c. let z = sized-of (now (c .before .before .before .before .before .before .before .before .before .before .before .before .before .before .args .image)) ((opened (c .before .before .before .before .before .before .before .before)) .ok) in omega (arith, z .two, z .high))
     (λ c κs. served-says (looked (c .before .before .before .before)) _ (c .before .before .ask .given .1))
     (λ c. search needs)
-    (λ c. with-reply (requestOn (now (c .before .before .before .before .before .before .before .before .before .before .before .before .before .before .before .before .before .before .args .image)) (c .before .before .before .before .before .before .before .before .before .before .before .before .before .before .before .before .before .before .args .board) (now (c .before .before .before .before .before .before .before .before .before .before .before .before .before .before .before .before .before .before .args .reply)) (c .before .before .before .before .before .before .before .before .before .before .before .before .before .before .before .before .before .before .args .host) (now (c .before .before .before .before .before .before .before .before .before .before .before .before .before .before .before .before .before .before .args .message))) (c .before .before .serve .ensures .0 ∙ served-outcome (looked (c .before .before .before .before .before .before .before)) _ (c .before .before .before .before .before .ask .given .1) _ (c .before .before .before .before .before .before .before .before .survey-block .ensures .1 ∙ ap (λ (b : List ℕ). placesIn (blockState b)) (c .before .before .before .before .before .before .before .before .before .before .block-of .ensures)) _) (c .before .before .serve .ensures .1 ∙ served-reply (looked (c .before .before .before .before .before .before .before)) _ (c .before .before .before .before .before .ask .given .1) _)))
+    (λ c. with-reply (requestOn (now (c .before .before .before .before .before .before .before .before .before .before .before .before .before .before .before .before .before .before .args .image)) (c .before .before .before .before .before .before .before .before .before .before .before .before .before .before .before .before .before .before .args .board) (now (c .before .before .before .before .before .before .before .before .before .before .before .before .before .before .before .before .before .before .args .reply)) (c .before .before .before .before .before .before .before .before .before .before .before .before .before .before .before .before .before .before .args .host) (now (c .before .before .before .before .before .before .before .before .before .before .before .before .before .before .before .before .before .before .args .message))) (c .before .before .serve .ensures .0 ∙ served-outcome (looked (c .before .before .before .before .before .before .before)) _ (c .before .before .before .before .before .ask .given .1) _ (c .before .before .before .before .before .before .before .before .survey-block .ensures .1 ∙ ap placesIn (surveyed (c .before .before .before .before .before .before .before .before .before .before))) _) (c .before .before .serve .ensures .1 ∙ served-reply (looked (c .before .before .before .before .before .before .before)) _ (c .before .before .before .before .before .ask .given .1) _)))

@@ -1,6 +1,5 @@
 -- A read: empty where it is refused or finds nothing, else the value where it stands.
-use mathlib.Core.Path.{refl, sym, ap, _∙_}
-use mathlib.Core.List.{List}
+use mathlib.Core.Path.{_≡_, refl, sym, ap, _∙_}
 use Prim.Native.Nat.{ℕ, _+_, _*_, _≤_}
 use native.Mathlib.Omega.{arith}
 use denote.Ref.{now}
@@ -8,8 +7,9 @@ use borrow.Author.Needs.{needs}
 use Rattle.flash.specs.Bytes.{Bytes}
 use Rattle.journal.specs.Block.{blockState}
 use lib.ListN.{length}
-use Rattle.flash.specs.Flash.{sizeOf}
-use Rattle.journal.specs.Survey.{surveyOf, placesIn}
+use Rattle.flash.specs.Flash.{sizeOf, block}
+use Rattle.journal.specs.Survey.{surveyOf, placesIn, stateOf}
+use Rattle.journal.proofs.Surveying.{half-fits}
 use Rattle.board.specs.Record.{noStretch}
 use Rattle.frame.proofs.Misfits.{bytes-of}
 use Rattle.store.proofs.Asking.{Passed, passed, looks, shut}
@@ -25,12 +25,18 @@ opened c = passed (now (c .before .before .before .before .before .args .image))
 bytes : (c : tie.After-block-of) → Bytes (now (c .before .before .before .before .before .before .before .args .image))
 bytes c = bytes-of (now (c .before .before .before .before .before .before .before .args .image)) (λ i. c .before .before .before .before .before .before .shared-slice-known .given i .fits)
 
+surveyed : (c : tie.After-block-of)
+    → stateOf (now (c .block-of .result)) ≡ blockState (block (sizeOf (now (c .before .before .before .before .before .before .before .args .image))) (c .before .before .before .before .before .before .before .args .board .block) (now (c .before .before .before .before .before .before .before .args .image)))
+surveyed c =
+    half-fits (now (c .block-of .result)) (rw (c .block-of .ensures) (looks _ _ _ (now (c .before .before .before .before .before .before .before .args .message)) (bytes c) (opened (c .before .before))))
+    ∙ ap blockState (c .block-of .ensures)
+
 looked : (c : tie.After-hear) → Looked (now (c .before .before .before .before .before .before .before .before .before .before .args .image)) (c .before .before .before .before .before .before .before .before .before .before .args .board) (c .before .before .before .before .before .before .before .before .before .before .args .host) (now (c .before .before .before .before .before .before .before .before .before .before .args .message)) (c .before .survey-block .result) (c .hear .result)
 looked c =
     record {
       bytes = bytes (c .before .before .before);
       passed = opened (c .before .before .before .before .before);
-      survey = c .before .survey-block .ensures .0 ∙ ap (λ (b : List ℕ). surveyOf (blockState b)) (c .before .before .before .block-of .ensures);
+      survey = c .before .survey-block .ensures .0 ∙ ap surveyOf (surveyed (c .before .before .before));
       asks = c .hear .ensures;
     }
 
@@ -38,7 +44,7 @@ looked c =
 inside : (c : tie.After-known-told2)
     → ((c .before .before .before .before .before .before .before .before .before .before .before .before .before .before .before .before .before .args .board) .block * sizeOf (now (c .before .before .before .before .before .before .before .before .before .before .before .before .before .before .before .before .before .args .image)) + c .before .at .given .0 .0 + c .before .at .given .0 .1 .0 ≤ length (now (c .before .before .before .before .before .before .before .before .before .before .before .before .before .before .before .before .before .args .image))) × (length (now (c .before .before .before .before .before .before .before .before .before .before .before .before .before .before .before .before .before .args .image)) ≤ 65536)
 inside c =
-    read-inside (looked (c .before .before .before .before .before .before .before)) (c .before .before .before .before .before .ask .given .0 .0) (c .before .before .before .before .before .ask .given .1) _ (c .before .before .before .before .before .before .before .before .survey-block .ensures .1 ∙ ap (λ (b : List ℕ). placesIn (blockState b)) (c .before .before .before .before .before .before .before .before .before .before .block-of .ensures)) (now (c .before .before .before .before .before .before .before .before .before .before .block-of .result)) (c .before .before .before .before .before .before .before .before .before .before .block-of .ensures) (c .before .before .before .find .result) (c .before .before .before .find .ensures)
+    read-inside (looked (c .before .before .before .before .before .before .before)) (c .before .before .before .before .before .ask .given .0 .0) (c .before .before .before .before .before .ask .given .1) _ (c .before .before .before .before .before .before .before .before .survey-block .ensures .1 ∙ ap placesIn (surveyed (c .before .before .before .before .before .before .before .before .before .before))) (now (c .before .before .before .before .before .before .before .before .before .before .block-of .result)) (c .before .before .before .before .before .before .before .before .before .before .block-of .ensures) (c .before .before .before .find .result) (c .before .before .before .find .ensures)
     (c .before .at .given .0 .0) (c .before .at .given .0 .1 .0) (c .before .at .given .1)
 
 pub locate-spec : {M : Type 1} → statement M
@@ -52,7 +58,7 @@ locate-spec =
     (λ c. search needs)
     (λ c κs. search needs)
     (λ c κs. search needs)
-    (λ c κs. rw (c .before .block-of .ensures) (looks _ _ _ (now (c .before .before .before .before .before .before .before .before .args .message)) (bytes (c .before)) (opened (c .before .before .before))))
+    (λ c κs. search needs)
     (λ c κs. search needs)
     (λ c. search needs)
     (λ c κs. search needs)
@@ -61,10 +67,10 @@ locate-spec =
     (λ c κs. search needs)
     (λ c. search needs)
     (λ c κs. search needs)
-    (λ c. located noStretch _ (read-stretch (looked (c .before .before .before .before .before .before .before)) (c .before .before .before .before .before .ask .given .0 .0) (c .before .before .before .before .before .ask .given .1) _ (c .before .before .before .before .before .before .before .before .survey-block .ensures .1 ∙ ap (λ (b : List ℕ). placesIn (blockState b)) (c .before .before .before .before .before .before .before .before .before .before .block-of .ensures)) (now (c .before .before .before .before .before .before .before .before .before .before .block-of .result)) (c .before .before .before .before .before .before .before .before .before .before .block-of .ensures) (c .before .before .before .find .result) (c .before .before .before .find .ensures) _ (c .before .enum-told4 .given .1)) _ _ (c .no-stretch3 .ensures .0) (c .no-stretch3 .ensures .1) (omega arith))
+    (λ c. located noStretch _ (read-stretch (looked (c .before .before .before .before .before .before .before)) (c .before .before .before .before .before .ask .given .0 .0) (c .before .before .before .before .before .ask .given .1) _ (c .before .before .before .before .before .before .before .before .survey-block .ensures .1 ∙ ap placesIn (surveyed (c .before .before .before .before .before .before .before .before .before .before))) (now (c .before .before .before .before .before .before .before .before .before .before .block-of .result)) (c .before .before .before .before .before .before .before .before .before .before .block-of .ensures) (c .before .before .before .find .result) (c .before .before .before .find .ensures) _ (c .before .enum-told4 .given .1)) _ _ (c .no-stretch3 .ensures .0) (c .no-stretch3 .ensures .1) (omega arith))
     (λ c. search needs)
     (λ c. search needs)
     (λ c. let k = inside (c .before) in omega arith)
     (λ c. let k = inside (c .before) in omega arith)
     (λ c. search needs)
-    (λ c. located _ _ (read-stretch (looked (c .before .before .before .before .before .before .before .before)) (c .before .before .before .before .before .before .ask .given .0 .0) (c .before .before .before .before .before .before .ask .given .1) _ (c .before .before .before .before .before .before .before .before .before .survey-block .ensures .1 ∙ ap (λ (b : List ℕ). placesIn (blockState b)) (c .before .before .before .before .before .before .before .before .before .before .before .block-of .ensures)) (now (c .before .before .before .before .before .before .before .before .before .before .before .block-of .result)) (c .before .before .before .before .before .before .before .before .before .before .before .block-of .ensures) (c .before .before .before .before .find .result) (c .before .before .before .before .find .ensures) _ (c .before .before .at .given .1)) _ _ refl refl (inside (c .before) .0)))
+    (λ c. located _ _ (read-stretch (looked (c .before .before .before .before .before .before .before .before)) (c .before .before .before .before .before .before .ask .given .0 .0) (c .before .before .before .before .before .before .ask .given .1) _ (c .before .before .before .before .before .before .before .before .before .survey-block .ensures .1 ∙ ap placesIn (surveyed (c .before .before .before .before .before .before .before .before .before .before .before))) (now (c .before .before .before .before .before .before .before .before .before .before .before .block-of .result)) (c .before .before .before .before .before .before .before .before .before .before .before .block-of .ensures) (c .before .before .before .before .find .result) (c .before .before .before .before .find .ensures) _ (c .before .before .at .given .1)) _ _ refl refl (inside (c .before) .0)))
