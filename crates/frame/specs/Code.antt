@@ -10,7 +10,7 @@ use Rattle.frame.specs.declared.FrameRead.{FrameRead}
 use Rattle.frame.specs.declared.FrameRead.the-variants as read
 use Rattle.frame.specs.declared.reader.Misfit.{Misfit}
 use Rattle.frame.specs.declared.reader.Misfit.the-variants as misfit
-use Rattle.frame.specs.Frame.{Frame, change, commit, abort, settled, put, delete, putLen, deleteLen, endLen, settledLen}
+use Rattle.frame.specs.Frame.{Frame, change, commit, abort, settled, put, delete, kindAt, putValueAt, settledValueAt, putLen, deleteLen, endLen, settledLen}
 use Rattle.frame.specs.Reader.{Read, blank, whole, torn, wrong, Slot, slot, fits}
 
 -- a frame without its value's bytes
@@ -60,11 +60,11 @@ valueLen (head.Abort h) = 0
 valueLen (head.Settled i n) = n
 
 abbrev pub valueStart : Head → ℕ
-valueStart (head.Put h i n) = 7
+valueStart (head.Put h i n) = putValueAt
 valueStart (head.Delete h i) = 0
 valueStart (head.Commit h) = 0
 valueStart (head.Abort h) = 0
-valueStart (head.Settled i n) = 6
+valueStart (head.Settled i n) = settledValueAt
 
 -- ---- where bytes stop fitting a layout: the reader's tests
 
@@ -87,4 +87,4 @@ misfitFrom o (p ∷ ps) (b ∷ t) = firstMisfit (oneMisfit o p b) (misfitFrom (s
 abbrev pub frontMisfit : ℕ → ℕ → List ℕ → Misfit
 frontMisfit a b t =
     firstMisfit (oneMisfit 1 (slot field.Length 0 0 0) (getD t 1 0))
-    (firstMisfit (oneMisfit 2 (slot field.Kind 2 a b) (getD t 2 0)) (oneMisfit 3 (slot field.Kind 2 0 0) (getD t 3 0)))
+    (firstMisfit (oneMisfit kindAt (slot field.Kind kindAt a b) (getD t kindAt 0)) (oneMisfit 3 (slot field.Kind kindAt 0 0) (getD t 3 0)))

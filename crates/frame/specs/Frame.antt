@@ -84,6 +84,19 @@ frameLen f = overhead + length (body f)
 abbrev pub encode : Frame → List ℕ
 encode f = u16le (frameLen f) ++ (u16le (kindOf f) ++ (body f ++ (finish ∷ [])))
 
+-- the offsets in a frame: kind, body, and the value, a put's past its host and id, a settled frame's past its id
+abbrev pub kindAt : ℕ
+kindAt = 2
+
+abbrev pub bodyAt : ℕ
+bodyAt = 4
+
+abbrev pub putValueAt : ℕ
+putValueAt = bodyAt + 3
+
+abbrev pub settledValueAt : ℕ
+settledValueAt = bodyAt + 2
+
 -- the lengths by kind: 8+v, 8, 6, 6, 7+v
 abbrev pub putLen : ℕ → ℕ
 putLen v = overhead + 3 + v

@@ -10,7 +10,7 @@ use Rattle.frame.specs.declared.ObjectId.{ObjectId}
 use Rattle.frame.specs.declared.Fault.{Fault}
 use Rattle.frame.specs.declared.Field.{Field}
 use Rattle.frame.specs.declared.Field.the-variants as field
-use Rattle.frame.specs.Frame.{Frame, change, commit, abort, settled, put, delete, hostMax, idMax, valueMax, finish, frameLen, putLen, deleteLen, endLen, settledLen, nextAfter}
+use Rattle.frame.specs.Frame.{Frame, change, commit, abort, settled, put, delete, hostMax, idMax, valueMax, finish, kindAt, bodyAt, putValueAt, settledValueAt, frameLen, putLen, deleteLen, endLen, settledLen, nextAfter}
 
 -- a bad field and its offset in the block
 abbrev pub fault : Field → ℕ → Fault
@@ -46,7 +46,7 @@ valueSlots o (suc v) = slot field.Finish o 0 255 ∷ valueSlots (suc o) v
 
 -- length and kind; both have a high byte of 0
 abbrev pub frontSlots : ℕ → ℕ → ℕ → List Slot → List Slot
-frontSlots n a b rest = slot field.Length 0 n n ∷ slot field.Length 0 0 0 ∷ slot field.Kind 2 a b ∷ slot field.Kind 2 0 0 ∷ rest
+frontSlots n a b rest = slot field.Length 0 n n ∷ slot field.Length 0 0 0 ∷ slot field.Kind kindAt a b ∷ slot field.Kind kindAt 0 0 ∷ rest
 
 -- a put or a delete of n bytes: only one of a delete's length can be a delete
 abbrev pub lastKind : Bool → ℕ
@@ -56,15 +56,15 @@ lastKind false = 1
 abbrev pub changeSlots : ℕ → List Slot
 changeSlots n =
     frontSlots n 1 (lastKind (eqb n deleteLen))
-    (slot field.Host 4 0 hostMax ∷ slot field.Id 5 0 idMax ∷ slot field.Id 5 0 0 ∷ valueSlots 7 (n - putLen 0))
+    (slot field.Host bodyAt 0 hostMax ∷ slot field.Id (bodyAt + 1) 0 idMax ∷ slot field.Id (bodyAt + 1) 0 0 ∷ valueSlots putValueAt (n - putLen 0))
 
 -- a commit or an abort
 abbrev pub endSlots : List Slot
-endSlots = frontSlots endLen 3 4 (slot field.Host 4 0 hostMax ∷ slot field.Finish 5 finish finish ∷ [])
+endSlots = frontSlots endLen 3 4 (slot field.Host bodyAt 0 hostMax ∷ slot field.Finish (bodyAt + 1) finish finish ∷ [])
 
 -- a settled frame of n bytes whose id is at least next
 abbrev pub settledSlots : ℕ → ℕ → List Slot
-settledSlots next n = frontSlots n 5 5 (slot field.Id 4 next idMax ∷ slot field.Id 4 0 0 ∷ valueSlots 6 (n - settledLen 0))
+settledSlots next n = frontSlots n 5 5 (slot field.Id bodyAt next idMax ∷ slot field.Id bodyAt 0 0 ∷ valueSlots settledValueAt (n - settledLen 0))
 
 -- no frame is that long
 abbrev pub noSlots : List Slot
@@ -105,12 +105,12 @@ idAt t i = record { 0 = le16 (getD t i 0) (getD t (suc i) 0) }
 
 -- the frame that bytes are, by their low kind byte and their length; used only where they fit its layout, so kind 0 never is
 abbrev pub decode : ℕ → ℕ → List ℕ → Frame
-decode zero n t = commit (hostAt t 4)
-decode (suc zero) n t = change (hostAt t 4) (put (idAt t 5) (take (n - putLen 0) (drop 7 t)))
-decode (suc (suc zero)) n t = change (hostAt t 4) (delete (idAt t 5))
-decode (suc (suc (suc zero))) n t = commit (hostAt t 4)
-decode (suc (suc (suc (suc zero)))) n t = abort (hostAt t 4)
-decode (suc (suc (suc (suc (suc k))))) n t = settled (idAt t 4) (take (n - settledLen 0) (drop 6 t))
+decode zero n t = commit (hostAt t bodyAt)
+decode (suc zero) n t = change (hostAt t bodyAt) (put (idAt t (bodyAt + 1)) (take (n - putLen 0) (drop putValueAt t)))
+decode (suc (suc zero)) n t = change (hostAt t bodyAt) (delete (idAt t (bodyAt + 1)))
+decode (suc (suc (suc zero))) n t = commit (hostAt t bodyAt)
+decode (suc (suc (suc (suc zero)))) n t = abort (hostAt t bodyAt)
+decode (suc (suc (suc (suc (suc k))))) n t = settled (idAt t bodyAt) (take (n - settledLen 0) (drop settledValueAt t))
 
 -- a bad slot of a frame that starts at an offset of the block
 abbrev pub faultAt : ℕ → Slot → Fault
@@ -143,7 +143,7 @@ readFrame next at t =
     elim (allFF t) [
       | true ↦ blank
       | false ↦ elim (leb (getD t 0 0) (length t)) [
-        | true ↦ readLaid next at (getD t 0 0) (getD t 2 0) t
+        | true ↦ readLaid next at (getD t 0 0) (getD t kindAt 0) t
         | false ↦ wrong (fault field.Length at)
       ]
     ]

@@ -5,10 +5,15 @@ ghost use Prim.Native.Nat.{_+_, _≤_, _<_};
 ghost use lib.ListN.{length, take, drop};
 ghost use Rattle.frame.specs.Frame.{change, commit, abort, settled, put, delete, valueMax, maxFrame, finish, buffer, encode};
 ghost use Rattle.frame.specs.Code.{frameOf};
+use crate::DELETE_LEN;
+use crate::END_LEN;
+use crate::FINISH;
 use crate::Head;
 use crate::Host;
 use crate::MAX_FRAME;
 use crate::ObjectId;
+use crate::PUT_LEN;
+use crate::SETTLED_LEN;
 use crate::VALUE_MAX;
 
 // Copies src to the front of dst.
@@ -33,7 +38,7 @@ fn assemble(front: &[u8], value: &[u8]) -> [u8; MAX_FRAME]
     let mut f = [0u8; MAX_FRAME];
     copy_front(&mut f[..], front);
     copy_front(&mut f[a..], value);
-    f[a + n] = 254;
+    f[a + n] = FINISH;
     f
 }
 
@@ -53,7 +58,7 @@ fn put_bytes(h: Host, i: ObjectId, v: &[u8]) -> [u8; MAX_FRAME]
     ensures { λ r. ⌜ r ≡ buffer (encode (change h (put i (now (v .entry))))) ⌝ }
 {
     let front = [
-        (8 + v.len()) as u8,
+        PUT_LEN + v.len() as u8,
         0,
         1,
         0,
@@ -68,7 +73,15 @@ fn put_bytes(h: Host, i: ObjectId, v: &[u8]) -> [u8; MAX_FRAME]
 fn delete_bytes(h: Host, i: ObjectId, v: &[u8]) -> [u8; MAX_FRAME]
     ensures { λ r. ⌜ r ≡ buffer (encode (change h (delete i))) ⌝ }
 {
-    let front = [8, 0, 2, 0, h.0, (i.0 % 256) as u8, (i.0 / 256) as u8];
+    let front = [
+        DELETE_LEN,
+        0,
+        2,
+        0,
+        h.0,
+        (i.0 % 256) as u8,
+        (i.0 / 256) as u8,
+    ];
     assemble(&front, &v[..0])
 }
 
@@ -76,7 +89,7 @@ fn delete_bytes(h: Host, i: ObjectId, v: &[u8]) -> [u8; MAX_FRAME]
 fn commit_bytes(h: Host, v: &[u8]) -> [u8; MAX_FRAME]
     ensures { λ r. ⌜ r ≡ buffer (encode (commit h)) ⌝ }
 {
-    let front = [6, 0, 3, 0, h.0];
+    let front = [END_LEN, 0, 3, 0, h.0];
     assemble(&front, &v[..0])
 }
 
@@ -84,7 +97,7 @@ fn commit_bytes(h: Host, v: &[u8]) -> [u8; MAX_FRAME]
 fn abort_bytes(h: Host, v: &[u8]) -> [u8; MAX_FRAME]
     ensures { λ r. ⌜ r ≡ buffer (encode (abort h)) ⌝ }
 {
-    let front = [6, 0, 4, 0, h.0];
+    let front = [END_LEN, 0, 4, 0, h.0];
     assemble(&front, &v[..0])
 }
 
@@ -94,7 +107,7 @@ fn settled_bytes(i: ObjectId, v: &[u8]) -> [u8; MAX_FRAME]
     ensures { λ r. ⌜ r ≡ buffer (encode (settled i (now (v .entry)))) ⌝ }
 {
     let front = [
-        (7 + v.len()) as u8,
+        SETTLED_LEN + v.len() as u8,
         0,
         5,
         0,

@@ -32,10 +32,37 @@ pub struct Fault {
     pub place: usize,
 }
 
-// The most bytes that a value has, and a frame: a put's with the longest value.
+// The greatest host and the greatest id.
+pub const HOST_MAX: usize = 3;
+
+pub const ID_MAX: usize = 255;
+
+// The most bytes that a value has.
 pub const VALUE_MAX: usize = 64;
 
-pub const MAX_FRAME: usize = 8 + VALUE_MAX;
+// The offsets in a frame: kind, body, and the value, a put's past its host and id, a settled frame's past its id.
+pub const KIND_AT: usize = 2;
+
+pub const BODY_AT: usize = 4;
+
+pub const PUT_VALUE_AT: usize = BODY_AT + 3;
+
+pub const SETTLED_VALUE_AT: usize = BODY_AT + 2;
+
+// A frame's last byte.
+const FINISH: u8 = 254;
+
+// The lengths by kind, without the value; a commit and an abort are ends.
+pub const PUT_LEN: u8 = 8;
+
+pub const DELETE_LEN: u8 = 8;
+
+pub const END_LEN: u8 = 6;
+
+pub const SETTLED_LEN: u8 = 7;
+
+// The longest frame: a put of the longest value.
+pub const MAX_FRAME: usize = PUT_LEN as usize + VALUE_MAX;
 
 // A frame without its value's bytes: how many there are.
 pub enum Head {
@@ -59,11 +86,11 @@ pub fn frame_len(head: Head) -> usize
     ensures { λ r. ⌜ r ≡ headLen head ⌝ }
 {
     match head {
-        Head::Put(_, _, n) => 8 + n as usize,
-        Head::Delete(_, _) => 8,
-        Head::Commit(_) => 6,
-        Head::Abort(_) => 6,
-        Head::Settled(_, n) => 7 + n as usize,
+        Head::Put(_, _, n) => PUT_LEN as usize + n as usize,
+        Head::Delete(_, _) => DELETE_LEN as usize,
+        Head::Commit(_) => END_LEN as usize,
+        Head::Abort(_) => END_LEN as usize,
+        Head::Settled(_, n) => SETTLED_LEN as usize + n as usize,
     }
 }
 
@@ -85,10 +112,10 @@ pub fn value_offset(head: Head) -> usize
     ensures { λ r. ⌜ r ≡ valueStart head ⌝ }
 {
     match head {
-        Head::Put(_, _, _) => 7,
+        Head::Put(_, _, _) => PUT_VALUE_AT,
         Head::Delete(_, _) => 0,
         Head::Commit(_) => 0,
         Head::Abort(_) => 0,
-        Head::Settled(_, _) => 6,
+        Head::Settled(_, _) => SETTLED_VALUE_AT,
     }
 }

@@ -7,15 +7,42 @@ ghost use Rattle.flash.specs.Bytes.{le16};
 ghost use Rattle.frame.specs.Frame.{putLen, deleteLen, endLen, settledLen, idOf};
 ghost use Rattle.frame.specs.Reader.{slot, changeSlots, endSlots, settledSlots, hostSlots, lastKind, onlySettled, match, decode, ofHostMatch, ofSettledMatch, readFrame};
 ghost use Rattle.frame.specs.Code.{headOf, readOf, firstMisfit, oneMisfit, misfitFrom, frontMisfit};
+use crate::BODY_AT;
+use crate::DELETE_LEN;
+use crate::END_LEN;
+use crate::FINISH;
 use crate::Fault;
 use crate::Field;
 use crate::FrameRead;
+use crate::HOST_MAX;
 use crate::Head;
 use crate::Host;
+use crate::ID_MAX;
+use crate::KIND_AT;
 use crate::MAX_FRAME;
 use crate::ObjectId;
+use crate::PUT_LEN;
+use crate::SETTLED_LEN;
 use crate::VALUE_MAX;
 use flash::byte_at;
+
+// The other offsets in a frame: high bytes, the id of a put or a delete, a commit's or abort's finish byte.
+const LENGTH_HIGH: usize = 1;
+
+const KIND_HIGH: usize = KIND_AT + 1;
+
+const ID_AT: usize = BODY_AT + 1;
+
+const ID_HIGH: usize = ID_AT + 1;
+
+const SETTLED_HIGH: usize = BODY_AT + 1;
+
+const END_FINISH: usize = BODY_AT + 1;
+
+// The finish byte, and the longest settled frame.
+const LAST: usize = FINISH as usize;
+
+const MAX_SETTLED: usize = SETTLED_LEN as usize + VALUE_MAX;
 
 // The first byte of a frame that does not fit: its offset, its field, and where that starts.
 enum Misfit {
@@ -52,14 +79,21 @@ fn head_at(t: &[u8], k: u8, n: u8) -> Head
     requires { ⌜ n ≤ length (now t) ⌝ }
     ensures { λ r. ⌜ r ≡ headOf (decode k n (now (t .entry))) ⌝ }
 {
-    let host = Host(byte_at(t, 4));
+    let host = Host(byte_at(t, BODY_AT));
     match k {
         0 => Head::Commit(host),
-        1 => Head::Put(host, id_of(byte_at(t, 5), byte_at(t, 6)), less(n, 8)),
-        2 => Head::Delete(host, id_of(byte_at(t, 5), byte_at(t, 6))),
+        1 => Head::Put(
+            host,
+            id_of(byte_at(t, ID_AT), byte_at(t, ID_HIGH)),
+            less(n, PUT_LEN),
+        ),
+        2 => Head::Delete(host, id_of(byte_at(t, ID_AT), byte_at(t, ID_HIGH))),
         3 => Head::Commit(host),
         4 => Head::Abort(host),
-        _ => Head::Settled(id_of(byte_at(t, 4), byte_at(t, 5)), less(n, 7)),
+        _ => Head::Settled(
+            id_of(byte_at(t, BODY_AT), byte_at(t, SETTLED_HIGH)),
+            less(n, SETTLED_LEN),
+        ),
     }
 }
 
@@ -91,9 +125,9 @@ fn first(a: Misfit, b: Misfit) -> Misfit
 fn front_misfit(t: &[u8], lo: usize, hi: usize) -> Misfit
     ensures { λ r. ⌜ r ≡ frontMisfit lo hi (now (t .entry)) ⌝ }
 {
-    let length = test_byte(t, 1, 0, 0, Field::Length, 0);
-    let kind = test_byte(t, 2, lo, hi, Field::Kind, 2);
-    let high = test_byte(t, 3, 0, 0, Field::Kind, 2);
+    let length = test_byte(t, LENGTH_HIGH, 0, 0, Field::Length, 0);
+    let kind = test_byte(t, KIND_AT, lo, hi, Field::Kind, KIND_AT);
+    let high = test_byte(t, KIND_HIGH, 0, 0, Field::Kind, KIND_AT);
     first(length, first(kind, high))
 }
 
@@ -101,7 +135,7 @@ fn front_misfit(t: &[u8], lo: usize, hi: usize) -> Misfit
 fn last_kind(n: u8) -> usize
     ensures { λ r. ⌜ r ≡ lastKind (eqb n deleteLen) ⌝ }
 {
-    if n == 8 { 2 } else { 1 }
+    if n == DELETE_LEN { 2 } else { 1 }
 }
 
 // A put or a delete of n bytes.
@@ -111,9 +145,9 @@ fn change_misfit(t: &[u8], n: u8) -> Misfit
 {
     let last = n as usize - 1;
     let front = front_misfit(t, 1, last_kind(n));
-    let host = test_byte(t, 4, 0, 3, Field::Host, 4);
-    let id = test_byte(t, 6, 0, 0, Field::Id, 5);
-    let finish = test_byte(t, last, 254, 254, Field::Finish, last);
+    let host = test_byte(t, BODY_AT, 0, HOST_MAX, Field::Host, BODY_AT);
+    let id = test_byte(t, ID_HIGH, 0, 0, Field::Id, ID_AT);
+    let finish = test_byte(t, last, LAST, LAST, Field::Finish, last);
     first(front, first(host, first(id, finish)))
 }
 
@@ -123,8 +157,8 @@ fn end_misfit(t: &[u8]) -> Misfit
     ensures { λ r. ⌜ r ≡ misfitFrom 0 endSlots (now (t .entry)) ⌝ }
 {
     let front = front_misfit(t, 3, 4);
-    let host = test_byte(t, 4, 0, 3, Field::Host, 4);
-    let finish = test_byte(t, 5, 254, 254, Field::Finish, 5);
+    let host = test_byte(t, BODY_AT, 0, HOST_MAX, Field::Host, BODY_AT);
+    let finish = test_byte(t, END_FINISH, LAST, LAST, Field::Finish, END_FINISH);
     first(front, first(host, finish))
 }
 
@@ -135,9 +169,9 @@ fn settled_misfit(t: &[u8], next: usize, n: u8) -> Misfit
 {
     let last = n as usize - 1;
     let front = front_misfit(t, 5, 5);
-    let id = test_byte(t, 4, next, 255, Field::Id, 4);
-    let high = test_byte(t, 5, 0, 0, Field::Id, 4);
-    let finish = test_byte(t, last, 254, 254, Field::Finish, last);
+    let id = test_byte(t, BODY_AT, next, ID_MAX, Field::Id, BODY_AT);
+    let high = test_byte(t, SETTLED_HIGH, 0, 0, Field::Id, BODY_AT);
+    let finish = test_byte(t, last, LAST, LAST, Field::Finish, last);
     first(front, first(id, first(high, finish)))
 }
 
@@ -146,10 +180,10 @@ fn host_misfit(t: &[u8], n: u8) -> Misfit
     requires { ⌜ (n ≡ getD (now t) 0 0) × (n ≤ length (now t)) ⌝ }
     ensures { λ r. ⌜ r ≡ misfitFrom 0 (hostSlots n) (now (t .entry)) ⌝ }
 {
-    if n == 6 {
+    if n == END_LEN {
         return end_misfit(t);
     }
-    if n < 8 {
+    if n < PUT_LEN {
         return Misfit::At(0, Field::Length, 0);
     }
     if MAX_FRAME < n as usize {
@@ -162,19 +196,19 @@ fn host_misfit(t: &[u8], n: u8) -> Misfit
 fn only_settled(next: usize, n: u8, k: u8) -> bool
     ensures { λ r. ⌜ r ≡ onlySettled next n k ⌝ }
 {
-    if 255 < next {
+    if ID_MAX < next {
         return false;
     }
-    if n < 7 {
+    if n < SETTLED_LEN {
         return false;
     }
-    if 7 + VALUE_MAX < n as usize {
+    if MAX_SETTLED < n as usize {
         return false;
     }
     if k == 5 {
         return true;
     }
-    n == 7
+    n == SETTLED_LEN
 }
 
 // A settled frame is never torn.
@@ -218,7 +252,7 @@ fn read_front(t: &[u8], next: usize) -> FrameRead
             place: 0,
         });
     }
-    let k = byte_at(t, 2);
+    let k = byte_at(t, KIND_AT);
     if only_settled(next, n, k) {
         return read_settled(t, next, n);
     }

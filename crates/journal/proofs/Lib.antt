@@ -17,5 +17,6 @@ pub mod FrameReads
 pub mod PerHost
 pub mod Passing
 pub mod Fetching
+pub mod Copying
 pub mod HeadLaws
 pub mod Surveying

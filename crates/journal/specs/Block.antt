@@ -2,14 +2,14 @@
 use mathlib.Core.List.{List, [], _∷_, _++_}
 use mathlib.Core.Option.{Option, none, some}
 use mathlib.Core.Bool.{true, false}
-use Prim.Native.Nat.{ℕ, _-_}
+use Prim.Native.Nat.{ℕ, _+_, _-_}
 use lib.Dec.{eqb}
 use lib.ListN.{getD, take, drop}
 use Rattle.flash.specs.Bytes.{u16le, u32le, le32, allFF, sameBytes}
 use Rattle.flash.specs.Flash.{Write, write, writes}
 use Rattle.frame.specs.declared.Fault.{Fault}
 use Rattle.frame.specs.declared.Field.the-variants as field
-use Rattle.frame.specs.Frame.{Frame, encodeAll}
+use Rattle.frame.specs.Frame.{Frame, encodeAll, kindAt}
 use Rattle.frame.specs.Reader.{fault, Tail, clean, cut, bad, Scan, scan}
 
 -- header bytes 0-1 and 2-3: "length, 16", "kind, 0x4A01"
@@ -19,9 +19,17 @@ headerLen = 16
 abbrev pub headerKind : ℕ
 headerKind = 0x4A01
 
+-- a half is at most 32,768 bytes long
+abbrev pub blockMax : ℕ
+blockMax = 32768
+
 -- "1 to 4,294,967,295"
 abbrev pub lastTime : ℕ
 lastTime = 4294967295
+
+-- "bitwise inverse of the creation time" in bytes 4-7
+abbrev pub timeAt : ℕ
+timeAt = 4
 
 -- byte 8: "0xFF ready, 0xFE transfer in progress, 0xFC valid data"
 abbrev pub stateAt : ℕ
@@ -33,27 +41,31 @@ inTransfer = 0xFE
 abbrev pub validData : ℕ
 validData = 0xFC
 
+-- bytes 9-15: 0xFF
+abbrev pub spareAt : ℕ
+spareAt = 9
+
 -- the sixteen bytes for a creation time and a state: "bitwise inverse of the creation time" in bytes 4-7, 0xFF in bytes 9-15
 abbrev pub header : ℕ → ℕ → List ℕ
 header time mark =
     u16le headerLen ++ (u16le headerKind ++ (u32le (lastTime - time) ++ (mark ∷ 255 ∷ 255 ∷ 255 ∷ 255 ∷ 255 ∷ 255 ∷ 255 ∷ [])))
 
--- the creation time that bytes 4-7 are the inverse of
+-- the creation time that those bytes are the inverse of
 abbrev pub createdAt : List ℕ → ℕ
-createdAt b = lastTime - le32 (getD b 4 0) (getD b 5 0) (getD b 6 0) (getD b 7 0)
+createdAt b = lastTime - le32 (getD b timeAt 0) (getD b (timeAt + 1) 0) (getD b (timeAt + 2) 0) (getD b (timeAt + 3) 0)
 
 -- the first field of a header that isn't as above, in address order
 unfoldable pub headerFault : List ℕ → Option Fault
 headerFault b =
     elim (sameBytes (take 2 b) (u16le headerLen)) [
       | false ↦ some (fault field.Length 0)
-      | true ↦ elim (sameBytes (take 2 (drop 2 b)) (u16le headerKind)) [
-        | false ↦ some (fault field.Kind 2)
+      | true ↦ elim (sameBytes (take 2 (drop kindAt b)) (u16le headerKind)) [
+        | false ↦ some (fault field.Kind kindAt)
         | true ↦ elim (eqb (createdAt b) 0) [
-          | true ↦ some (fault field.Created 4)
+          | true ↦ some (fault field.Created timeAt)
           | false ↦ elim (eqb (getD b stateAt 0) validData) [
-            | false ↦ some (fault field.State 8)
-            | true ↦ elim (allFF (take 7 (drop 9 b))) [ false ↦ some (fault field.Spare 9) | true ↦ none ]
+            | false ↦ some (fault field.State stateAt)
+            | true ↦ elim (allFF (take (headerLen - spareAt) (drop spareAt b))) [ false ↦ some (fault field.Spare spareAt) | true ↦ none ]
           ]
         ]
       ]
@@ -105,7 +117,7 @@ abbrev pub openWrites : List Write
 openWrites = write stateAt inTransfer ∷ writes 0 (u16le headerLen ++ u16le headerKind)
 
 abbrev pub sealWrites : ℕ → List Write
-sealWrites time = writes 4 (u32le (lastTime - time)) ++ (write stateAt validData ∷ [])
+sealWrites time = writes timeAt (u32le (lastTime - time)) ++ (write stateAt validData ∷ [])
 
 -- each of them by its number, which only a forged record has too large
 abbrev pub openWrite : ℕ → Write

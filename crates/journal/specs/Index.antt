@@ -7,7 +7,7 @@ use lib.Dec.{eqb, leb}
 use lib.ListN.{getD, take, drop}
 use Rattle.frame.specs.declared.Host.{Host}
 use Rattle.frame.specs.declared.ObjectId.{ObjectId}
-use Rattle.frame.specs.Frame.{hostOf, idOf, put, delete, FrameOf, Frame, change, commit, abort, settled, mapFrame, frameLen}
+use Rattle.frame.specs.Frame.{hostOf, idOf, put, delete, FrameOf, Frame, change, commit, abort, settled, mapFrame, frameLen, putValueAt, settledValueAt}
 use Rattle.frame.specs.Reader.{Read, blank, whole, torn, wrong, readFrame}
 use Rattle.journal.specs.Replay.{ObjectOf, lookup, replay}
 use Rattle.journal.specs.Block.{headerLen}
@@ -67,11 +67,11 @@ onlyIf false x = none
 
 -- the value of an id that a frame at offset p holds: a put's or a settled frame's
 abbrev pub frameValue : ObjectId → ℕ → Frame → Option Value
-frameValue i p (change h (put j v)) = onlyIf (eqb (i .0) (j .0)) (record { at = p + 7; bytes = v })
+frameValue i p (change h (put j v)) = onlyIf (eqb (i .0) (j .0)) (record { at = p + putValueAt; bytes = v })
 frameValue i p (change h (delete j)) = none
 frameValue i p (commit h) = none
 frameValue i p (abort h) = none
-frameValue i p (settled j v) = onlyIf (eqb (i .0) (j .0)) (record { at = p + 6; bytes = v })
+frameValue i p (settled j v) = onlyIf (eqb (i .0) (j .0)) (record { at = p + settledValueAt; bytes = v })
 
 -- only a whole frame holds a value
 abbrev pub valueRead : ObjectId → ℕ → Read → Option Value

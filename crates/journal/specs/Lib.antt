@@ -3,5 +3,6 @@ pub mod Block
 pub mod Room
 pub mod Index
 pub mod Survey
+pub mod Pass
 pub mod Examples
 pub mod Sentences

@@ -4,13 +4,20 @@ ghost use mathlib.Core.List.{[]};
 ghost use mathlib.Core.Option.{none};
 ghost use Prim.Native.Nat.{_≤_, _<_};
 ghost use lib.ListN.{length, replicate};
-ghost use Rattle.journal.specs.Block.{headerLen, ofHeader, blockState};
+ghost use Rattle.frame.specs.Reader.{fault};
+ghost use Rattle.frame.specs.declared.Field.the-variants.{Length};
+ghost use Rattle.journal.specs.Block.{headerLen, blockMax, foreign, ofHeader, blockState};
 ghost use Rattle.journal.specs.Index.{placesOf};
-ghost use Rattle.journal.specs.Survey.{scanBlock, settledAt, tallyOf, progressOf, walkOf, emptySurvey, foundSurvey, surveyOf, placesIn};
+ghost use Rattle.journal.specs.Survey.{surveyOf, placesIn, stateOf};
+ghost use Rattle.journal.specs.Pass.{scanBlock, settledAt, tallyOf, progressOf, walkOf, emptySurvey, foundSurvey};
+use crate::BLOCK_MAX;
 use crate::BlockKind;
 use crate::Found;
+use crate::HEADER_LEN;
 use crate::HeaderCheck;
+use crate::IN_TRANSFER;
 use crate::Progress;
+use crate::STATE_AT;
 use crate::Survey;
 use crate::Tail;
 use crate::Tally;
@@ -18,8 +25,16 @@ use crate::Walk;
 use crate::header;
 use crate::index;
 use crate::pass;
+use frame::Fault;
+use frame::Field;
 use frame::FrameRead;
 use frame::ObjectId;
+use frame::SETTLED_LEN;
+
+// Where a block's frames start, and the length of a settled frame without its value, as offsets are counted.
+const START: u16 = HEADER_LEN as u16;
+
+const SETTLED: u16 = SETTLED_LEN as u16;
 
 // No place for any id.
 fn clear(places: &mut [u16])
@@ -37,16 +52,16 @@ fn begin() -> Progress
     ensures { λ r. ⌜ r ≡ progressOf [] ⌝ }
 {
     Progress {
-        end: 16,
+        end: START,
         next: 0,
-        since: [16, 16, 16, 16],
+        since: [START, START, START, START],
         pending: [0, 0, 0, 0],
     }
 }
 
 // The frames of a block up to its tail. Offsets fit a u16; no id has a place yet.
 fn walk(block: &[u8], places: &mut [u16; 256]) -> Walk
-    requires { ⌜ (length (now block) ≤ 32768) × (now places ≡ placesOf []) ⌝ }
+    requires { ⌜ (length (now block) ≤ blockMax) × (now places ≡ placesOf []) ⌝ }
     ensures { λ r. ⌜ (r ≡ walkOf (scanBlock (now (block .entry)))) × (now (places .exit) ≡ placesOf (scanBlock (now (block .entry)) .frames)) ⌝ }
 {
     let mut p = begin();
@@ -85,13 +100,13 @@ fn tally(block: &[u8], places: &[u16; 256]) -> Tally
 {
     let mut i: u16 = 0;
     let mut count: u16 = 0;
-    let mut used: u16 = 16;
+    let mut used: u16 = START;
     while i < 256 {
         match index::value_at(block, ObjectId(i), places[i as usize]) {
             Found::At(_, n) => {
                 i = i + 1;
                 count = count + 1;
-                used = used + 7 + n as u16;
+                used = used + SETTLED + n as u16;
             }
             Found::Nothing => {
                 i = i + 1;
@@ -111,12 +126,12 @@ fn empty(kind: BlockKind) -> Survey
     Survey {
         kind: kind,
         time: 0,
-        end: 16,
+        end: START,
         torn: 0,
-        since: [16, 16, 16, 16],
+        since: [START, START, START, START],
         pending: [0, 0, 0, 0],
         count: 0,
-        used: 16,
+        used: START,
     }
 }
 
@@ -141,7 +156,7 @@ fn found(block: &[u8], places: &[u16; 256], p: Progress, torn: u16) -> Survey
 
 // A block whose header is without fault. It has one, and its offsets fit a u16.
 fn survey_frames(block: &[u8], places: &mut [u16; 256]) -> Survey
-    requires { ⌜ (headerLen ≤ length (now block)) × (length (now block) ≤ 32768) × (now places ≡ placesOf []) ⌝ }
+    requires { ⌜ (headerLen ≤ length (now block)) × (length (now block) ≤ blockMax) × (now places ≡ placesOf []) ⌝ }
     ensures { λ r. ⌜ (r ≡ surveyOf (ofHeader (now (block .entry)) none)) × (now (places .exit) ≡ placesIn (ofHeader (now (block .entry)) none)) ⌝ }
 {
     let w = walk(block, places);
@@ -157,20 +172,44 @@ fn survey_frames(block: &[u8], places: &mut [u16; 256]) -> Survey
     }
 }
 
-// All that there is to know of a block, and the place of every id. The board looks only at blocks of 256 to 32,768 bytes.
-pub fn survey_block(block: &[u8], places: &mut [u16; 256]) -> Survey
-    requires { ⌜ (headerLen ≤ length (now block)) × (length (now block) ≤ 32768) ⌝ }
+// A block of a half's length.
+fn survey_half(block: &[u8], places: &mut [u16; 256]) -> Survey
+    requires { ⌜ (headerLen ≤ length (now block)) × (length (now block) ≤ blockMax) ⌝ }
     ensures { λ r. ⌜ (r ≡ surveyOf (blockState (now (block .entry)))) × (now (places .exit) ≡ placesIn (blockState (now (block .entry)))) ⌝ }
 {
     clear(places);
     if flash::is_blank(block) {
         return empty(BlockKind::Blank);
     }
-    if header::byte_at(block, 8) == 254 {
+    if flash::byte_at(block, STATE_AT) == IN_TRANSFER {
         return empty(BlockKind::InProgress);
     }
     match header::header_fault(block) {
         HeaderCheck::Bad(fault) => return empty(BlockKind::Foreign(fault)),
         HeaderCheck::Sound => return survey_frames(block, places),
     }
+}
+
+// A block of another length has no frames.
+fn no_half(places: &mut [u16; 256]) -> Survey
+    ensures { λ r. ⌜ (r ≡ surveyOf (foreign (fault Length 0))) × (now (places .exit) ≡ placesIn (foreign (fault Length 0))) ⌝ }
+{
+    clear(places);
+    empty(BlockKind::Foreign(Fault {
+        field: Field::Length,
+        place: 0,
+    }))
+}
+
+// All that there is to know of a block, and the place of every id.
+pub fn survey_block(block: &[u8], places: &mut [u16; 256]) -> Survey
+    ensures { λ r. ⌜ (r ≡ surveyOf (stateOf (now (block .entry)))) × (now (places .exit) ≡ placesIn (stateOf (now (block .entry)))) ⌝ }
+{
+    if block.len() < HEADER_LEN {
+        return no_half(places);
+    }
+    if BLOCK_MAX < block.len() {
+        return no_half(places);
+    }
+    survey_half(block, places)
 }

@@ -1,28 +1,42 @@
 // A block's header.
 ghost use mathlib.Core.Path.{_≡_};
 ghost use mathlib.Core.List.{[], _∷_};
-ghost use Prim.Native.Nat.{_<_};
+ghost use Prim.Native.Nat.{_-_, _<_};
 ghost use lib.ListN.{getD, take, drop};
 ghost use Rattle.flash.specs.Bytes.{allFF, sameBytes};
-ghost use Rattle.journal.specs.Block.{createdAt, headerFault};
-ghost use Rattle.journal.specs.Survey.{headerOf};
+ghost use Rattle.journal.specs.Block.{headerLen, spareAt, createdAt, headerFault};
+ghost use Rattle.journal.specs.Pass.{headerOf};
+use crate::HEADER_LEN;
 use crate::HeaderCheck;
+use crate::SPARE_AT;
+use crate::STATE_AT;
+use crate::TIME_AT;
+use crate::VALID_DATA;
+use flash::byte_at;
 use frame::Fault;
 use frame::Field;
+use frame::KIND_AT;
 
-// A byte of a block; 0 past its end.
-pub fn byte_at(block: &[u8], i: usize) -> usize
+// The low bytes of length and kind, and the kind's high byte.
+const LENGTH: u8 = HEADER_LEN as u8;
+
+const KIND_LOW: u8 = 0x01;
+
+const KIND_HIGH: u8 = 0x4A;
+
+// A byte of a block as a number; 0 past its end.
+fn number_at(block: &[u8], i: usize) -> usize
     ensures { λ r. ⌜ (r ≡ getD (now (block .entry)) i 0) × (r < 256) ⌝ }
 {
-    flash::byte_at(block, i) as usize
+    byte_at(block, i) as usize
 }
 
-// When a block was made: the header holds the inverse.
+// When a block was made: bytes 4 to 7 are the inverse.
 pub fn created(block: &[u8]) -> u32
     ensures { λ r. ⌜ r ≡ createdAt (now (block .entry)) ⌝ }
 {
-    let low = byte_at(block, 4) + byte_at(block, 5) * 256;
-    let high = byte_at(block, 6) * 65536 + byte_at(block, 7) * 16777216;
+    let low = number_at(block, 4) + number_at(block, 5) * 256;
+    let high = number_at(block, 6) * 65536 + number_at(block, 7) * 16777216;
     (4294967295 - (low + high)) as u32
 }
 
@@ -42,51 +56,51 @@ fn stands(block: &[u8], i: usize, a: u8, b: u8) -> bool
     block[i + 1] == b
 }
 
-// Header bytes 9 to 15 are 0xFF, as far as they are there.
+// The header's spare bytes are 0xFF, as far as they are there.
 fn spare_blank(block: &[u8]) -> bool
-    ensures { λ r. ⌜ r ≡ allFF (take 7 (drop 9 (now (block .entry)))) ⌝ }
+    ensures { λ r. ⌜ r ≡ allFF (take (headerLen - spareAt) (drop spareAt (now (block .entry)))) ⌝ }
 {
-    if block.len() <= 9 {
+    if block.len() <= SPARE_AT {
         return true;
     }
-    if block.len() < 16 {
-        return flash::is_blank(&block[9..]);
+    if block.len() < HEADER_LEN {
+        return flash::is_blank(&block[SPARE_AT..]);
     }
-    flash::is_blank(&block[9..16])
+    flash::is_blank(&block[SPARE_AT..HEADER_LEN])
 }
 
 // The first field of a header that is wrong.
 pub fn header_fault(block: &[u8]) -> HeaderCheck
     ensures { λ r. ⌜ r ≡ headerOf (headerFault (now (block .entry))) ⌝ }
 {
-    if !stands(block, 0, 16, 0) {
+    if !stands(block, 0, LENGTH, 0) {
         return HeaderCheck::Bad(Fault {
             field: Field::Length,
             place: 0,
         });
     }
-    if !stands(block, 2, 1, 74) {
+    if !stands(block, KIND_AT, KIND_LOW, KIND_HIGH) {
         return HeaderCheck::Bad(Fault {
             field: Field::Kind,
-            place: 2,
+            place: KIND_AT,
         });
     }
     if created(block) == 0 {
         return HeaderCheck::Bad(Fault {
             field: Field::Created,
-            place: 4,
+            place: TIME_AT,
         });
     }
-    if byte_at(block, 8) != 252 {
+    if byte_at(block, STATE_AT) != VALID_DATA {
         return HeaderCheck::Bad(Fault {
             field: Field::State,
-            place: 8,
+            place: STATE_AT,
         });
     }
     if !spare_blank(block) {
         return HeaderCheck::Bad(Fault {
             field: Field::Spare,
-            place: 9,
+            place: SPARE_AT,
         });
     }
     HeaderCheck::Sound

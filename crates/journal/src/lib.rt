@@ -12,6 +12,22 @@ pub use hosts::of_host;
 pub use index::next_load;
 pub use index::value_at;
 
+// A block's header: its length, the offsets of creation time, state byte and spare bytes, and two of the states.
+pub const HEADER_LEN: usize = 16;
+
+pub const TIME_AT: usize = 4;
+
+pub const STATE_AT: usize = 8;
+
+pub const SPARE_AT: usize = 9;
+
+pub const IN_TRANSFER: u8 = 254;
+
+pub const VALID_DATA: u8 = 252;
+
+// The longest block: its offsets fit a u16.
+pub const BLOCK_MAX: usize = 32768;
+
 // What is wrong with a header, if anything is.
 pub enum HeaderCheck {
     Sound,

@@ -2,14 +2,20 @@
 ghost use mathlib.Core.Path.{_≡_};
 ghost use Prim.Native.Nat.{ℕ, _+_, _≤_, _<_};
 ghost use lib.ListN.{length, getD, set};
+ghost use Rattle.frame.specs.Frame.{endLen};
 ghost use Rattle.frame.specs.Code.{headLen};
-ghost use Rattle.journal.specs.Survey.{placeHead, nextHead, recommit, grown, closed, passed, tookFrame, tookPlaces};
+ghost use Rattle.journal.specs.Block.{blockMax};
+ghost use Rattle.journal.specs.Pass.{placeHead, nextHead, recommit, grown, closed, passed, tookFrame, tookPlaces};
 use crate::Progress;
 use crate::hosts;
+use frame::END_LEN;
 use frame::FrameRead;
 use frame::Head;
 use frame::Host;
 use frame::ObjectId;
+
+// The length of a commit or an abort, as offsets are counted.
+const END: u16 = END_LEN as u16;
 
 // An id's place.
 fn store(places: &mut [u16], id: ObjectId, at: u16)
@@ -61,7 +67,7 @@ fn next_after(head: Head) -> usize
 
 // A commit of a host: its puts and deletes from its `since` on are read again. Offsets are at most a block's length, and fit a u16.
 fn commit_own(part: &[u8], host: Host, since: usize, places: &mut [u16; 256])
-    requires { ⌜ length (now part) ≤ 32768 ⌝ }
+    requires { ⌜ length (now part) ≤ blockMax ⌝ }
     ensures { λ _. ⌜ now (places .exit) ≡ recommit (now (part .entry)) host since (now (places .entry)) ⌝ }
 {
     let mut at = since;
@@ -88,7 +94,7 @@ fn commit_own(part: &[u8], host: Host, since: usize, places: &mut [u16; 256])
 
 // A host's change of n bytes.
 fn grow(p: Progress, host: Host, n: u16) -> Progress
-    requires { ⌜ (p .end + n ≤ 32768) × (getD (p .pending) (host .0) 0 ≤ p .end) ⌝ }
+    requires { ⌜ (p .end + n ≤ blockMax) × (getD (p .pending) (host .0) 0 ≤ p .end) ⌝ }
     ensures { λ r. ⌜ r ≡ grown p host n ⌝ }
 {
     let since = p.since;
@@ -104,10 +110,10 @@ fn grow(p: Progress, host: Host, n: u16) -> Progress
 
 // A host's commit or abort.
 fn close(p: Progress, host: Host) -> Progress
-    requires { ⌜ p .end + 6 ≤ 32768 ⌝ }
+    requires { ⌜ p .end + endLen ≤ blockMax ⌝ }
     ensures { λ r. ⌜ r ≡ closed p host ⌝ }
 {
-    let end = p.end + 6;
+    let end = p.end + END;
     let old = p.since;
     let was = p.pending;
     let since = hosts::with_host(old, host, end);
@@ -122,7 +128,7 @@ fn close(p: Progress, host: Host) -> Progress
 
 // A settled frame of n bytes.
 fn settle(p: Progress, id: ObjectId, n: u16) -> Progress
-    requires { ⌜ p .end + n ≤ 32768 ⌝ }
+    requires { ⌜ p .end + n ≤ blockMax ⌝ }
     ensures { λ r. ⌜ r ≡ passed p id n ⌝ }
 {
     let since = p.since;
@@ -137,7 +143,7 @@ fn settle(p: Progress, id: ObjectId, n: u16) -> Progress
 
 // One frame more. It lies in the block, whose offsets fit a u16; what is pending lies there too.
 pub fn take_frame(block: &[u8], p: Progress, head: Head, places: &mut [u16; 256]) -> Progress
-    requires { ⌜ (p .end + headLen head ≤ length (now block)) × (length (now block) ≤ 32768) × ((k : ℕ) → getD (p .pending) k 0 ≤ p .end) ⌝ }
+    requires { ⌜ (p .end + headLen head ≤ length (now block)) × (length (now block) ≤ blockMax) × ((k : ℕ) → getD (p .pending) k 0 ≤ p .end) ⌝ }
     ensures { λ r. ⌜ (r ≡ tookFrame p head) × (now (places .exit) ≡ tookPlaces (now (block .entry)) p head (now (places .entry))) ⌝ }
 {
     let end = p.end;

@@ -73,8 +73,10 @@ pub fn locate(image: &[u8], board: Record, host: Host, message: &[u8]) -> Stretc
 
 // The stretch of the image that a read hands back, empty where it is refused.
 pub fn read<'a>(image: &'a [u8], board: Record, host: Host, message: &[u8]) -> &'a [u8]
-    ensures value { λ r. ⌜ now r ≡ take (readOn (now (image .entry)) board host (now (message .entry)) .size) (drop (readOn (now (image .entry)) board host (now (message .entry)) .at) (now (image .entry))) ⌝ }
-    ensures place { λ r. ⌜ (ptr r .0 ≡ ptr (image .entry) .0) × (ptr r .1 ≡ readOn (now (image .entry)) board host (now (message .entry)) .at + ptr (image .entry) .1) ⌝ }
+    ensures value { λ r. ⌜ now r ≡ take (readOn (now (image .entry)) board host (now (message .entry)) .size)
+        (drop (readOn (now (image .entry)) board host (now (message .entry)) .at) (now (image .entry))) ⌝ }
+    ensures place { λ r. ⌜ (ptr r .0 ≡ ptr (image .entry) .0)
+        × (ptr r .1 ≡ readOn (now (image .entry)) board host (now (message .entry)) .at + ptr (image .entry) .1) ⌝ }
 {
     let s = locate(image, board, host, message);
     let start = s.at;

@@ -88,7 +88,7 @@ fn as_recorded(size: usize, end: u16, s: Survey) -> bool
         return false;
     }
     let p = s.pending;
-    room::claimed(s) + 6 * room::open_hosts(p) <= size
+    room::claimed(s) + room::END * room::open_hosts(p) <= size
 }
 
 pub fn hear(size: usize, end: u16, s: Survey, message: &[u8]) -> Ask

@@ -5,9 +5,12 @@ ghost use Prim.Native.Nat.{_≤_};
 ghost use lib.Dec.{eqb, ltb};
 ghost use Rattle.journal.specs.Room.{one};
 ghost use Rattle.queue.specs.Calls.{claimedIn, openIn, openWith, noRoomIn};
+use frame::END_LEN;
 use frame::Host;
 use journal::Survey;
 use store::surveys;
+
+pub const END: usize = END_LEN as usize;
 
 // C.
 pub fn claimed(s: Survey) -> usize
@@ -53,5 +56,5 @@ pub fn no_room(size: usize, s: Survey, host: Host, n: u8, spare: u8) -> bool
     ensures { λ r. ⌜ r ≡ noRoomIn size s host n spare ⌝ }
 {
     let p = s.pending;
-    size < claimed(s) + n as usize + 6 * open_with(host, p) + spare as usize
+    size < claimed(s) + n as usize + END * open_with(host, p) + spare as usize
 }

@@ -12,6 +12,8 @@ use crate::room;
 use board::BLOCKS;
 use board::Job;
 use board::Record;
+use frame::DELETE_LEN;
+use frame::END_LEN;
 use frame::Head;
 use frame::Host;
 use frame::ObjectId;
@@ -24,6 +26,9 @@ use wire::Answer;
 use wire::Page;
 use wire::Refusal;
 use wire::Request;
+
+// What a put leaves room for: a delete and a commit.
+const SPARE: u8 = DELETE_LEN + END_LEN;
 
 fn done(board: Record) -> Outcome
     ensures { λ r. ⌜ r ≡ done board ⌝ }
@@ -74,7 +79,7 @@ fn append(
         size: n as u8,
     };
     let bytes = frame::encode_frame(head, value);
-    let cursor = records::starting(0, 16);
+    let cursor = records::starting(0, records::START);
     records::begin(records::busy(records::rest_of(board), places, job, cursor, bytes))
 }
 
@@ -111,7 +116,7 @@ fn serve_put(
     ensures { λ r. ⌜ r ≡ putIn size board s places host id (now (value .entry)) ⌝ }
 {
     let head = Head::Put(host, id, value.len() as u8);
-    serve_change(size, board, s, places, host, head, value, 14)
+    serve_change(size, board, s, places, host, head, value, SPARE)
 }
 
 fn serve_delete(
@@ -192,7 +197,8 @@ pub fn serve(
     ask: Request,
 ) -> Outcome
     requires { ⌜ parse (now message) ≡ Is ask ⌝ }
-    ensures { λ r. ⌜ (r ≡ serveIn size board (now (reply .entry)) host (now (message .entry)) s places ask) × (now (reply .exit) ≡ replyIn size s (now (reply .entry)) ask) ⌝ }
+    ensures { λ r. ⌜ (r ≡ serveIn size board (now (reply .entry)) host (now (message .entry)) s places ask)
+        × (now (reply .exit) ≡ replyIn size s (now (reply .entry)) ask) ⌝ }
 {
     let room = size as usize;
     match ask {

@@ -9,12 +9,16 @@ use board::BLOCKS;
 use board::Job;
 use board::Record;
 use board::Rest;
+use frame::ID_MAX;
 use job::Outcome;
 use job::records;
 use journal::BlockKind;
 use journal::Survey;
 use wire::Answer;
 use wire::Refusal;
+
+// Past the last id: nothing is copied.
+const PAST_IDS: u16 = ID_MAX as u16 + 1;
 
 // The block that a mount takes, or why it takes none.
 pub enum Choice {
@@ -210,9 +214,9 @@ pub fn format(image: &[u8]) -> Outcome
     let rest = Rest {
         last: (image.len() - 1) as u16,
         block: 1,
-        end: 16,
+        end: records::START,
     };
-    let cursor = records::starting(256, 16);
+    let cursor = records::starting(PAST_IDS, records::START);
     let places = records::no_places();
     let frame = records::no_frame();
     records::begin(records::busy(rest, places, job, cursor, frame))

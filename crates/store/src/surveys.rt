@@ -6,6 +6,7 @@ ghost use lib.Dec.{eqb};
 ghost use Rattle.journal.specs.Block.{lastTime};
 ghost use Rattle.board.specs.Mount.{newTime};
 ghost use Rattle.store.specs.Calls.{isValid, sumOf};
+use job::records::LAST_TIME;
 use journal::BlockKind;
 
 pub fn is_valid(kind: BlockKind) -> bool
@@ -31,7 +32,7 @@ pub fn is_worn(moves: bool, time: u32) -> bool
     ensures { λ r. ⌜ r ≡ (moves && eqb time lastTime) ⌝ }
 {
     if moves {
-        return time == 4294967295;
+        return time == LAST_TIME;
     }
     false
 }

@@ -4,7 +4,7 @@ use mathlib.Core.Bool.{true, false}
 use Prim.Native.Nat.{ℕ, min}
 use lib.Dec.{ltb}
 use lib.ListN.{length, drop}
-use Rattle.wire.specs.Message.{pageLen, withPage}
+use Rattle.wire.specs.Message.{idEnd, pageLen, withPage}
 
 -- the source in place of the first bytes, where there are as many; else nothing changes
 unfoldable pub overlay : List ℕ → List ℕ → List ℕ
@@ -16,4 +16,4 @@ pageInto page reply = elim (ltb (length reply) pageLen) [ true ↦ reply | false
 
 -- where a put's value starts in its message
 abbrev pub valuePlace : List ℕ → ℕ
-valuePlace m = min 6 (length m)
+valuePlace m = min idEnd (length m)

@@ -6,23 +6,28 @@ use lib.Dec.{eqb, leb}
 use lib.ListN.{length, getD, drop}
 use Rattle.flash.specs.Bytes.{u16le, u32le, le16}
 use Rattle.frame.specs.declared.ObjectId.{ObjectId}
-use Rattle.frame.specs.Frame.{idMax, valueMax}
+use Rattle.frame.specs.Frame.{idMax, valueMax, kindAt, bodyAt}
 use Rattle.wire.specs.declared.Page.the-variants.{Summary}
 use Rattle.wire.specs.declared.Request.{Request}
 use Rattle.wire.specs.declared.Request.the-variants.{Put, Delete, Commit, Abort, Read, Log}
 use Rattle.wire.specs.declared.Parsed.{Parsed}
 use Rattle.wire.specs.declared.Parsed.the-variants.{Is, Malformed}
 
+-- "A message is length (2, equal to the bytes given), kind (2), body.", as a frame begins: its kind and its body stand where a frame's do
+
 -- the number of two bytes of a message
 abbrev pub wordAt : List ℕ → ℕ → ℕ
 wordAt m i = le16 (getD m i 0) (getD m (i + 1) 0)
 
--- a body's id, and a put's value: all that follows the id
+-- a body's id, and past it a put's value: all that follows the id
 abbrev pub idIn : List ℕ → ObjectId
-idIn m = record { 0 = wordAt m 4 }
+idIn m = record { 0 = wordAt m bodyAt }
+
+abbrev pub idEnd : ℕ
+idEnd = bodyAt + 2
 
 abbrev pub valueIn : List ℕ → List ℕ
-valueIn m = drop 6 m
+valueIn m = drop idEnd m
 
 -- a request if its body is as its kind asks, else malformed
 abbrev pub isIf : Bool → Request → Parsed
@@ -31,19 +36,19 @@ isIf false q = Malformed
 
 -- an id of at most 255 follows, and nothing else
 abbrev pub onlyId : List ℕ → Bool
-onlyId m = eqb (length m) 6 && leb (wordAt m 4) idMax
+onlyId m = eqb (length m) idEnd && leb (wordAt m bodyAt) idMax
 
 -- a commit and an abort are length and kind alone
 abbrev pub noBody : List ℕ → Bool
-noBody m = eqb (length m) 4
+noBody m = eqb (length m) bodyAt
 
 -- an id and a value of at most 64 bytes
 abbrev pub idAndValue : List ℕ → Bool
-idAndValue m = leb 6 (length m) && (leb (length m) (6 + valueMax) && leb (wordAt m 4) idMax)
+idAndValue m = leb idEnd (length m) && (leb (length m) (idEnd + valueMax) && leb (wordAt m bodyAt) idMax)
 
 -- "0x0106 log: page 1 byte, which must be 1"
 abbrev pub summaryPage : List ℕ → Bool
-summaryPage m = eqb (length m) 5 && eqb (getD m 4 0) 1
+summaryPage m = eqb (length m) (bodyAt + 1) && eqb (getD m bodyAt 0) 1
 
 -- "0x0101 put: id 2, value. 0x0102 delete: id 2. 0x0103 commit. 0x0104 abort. 0x0105 read: id 2. 0x0106 log"
 abbrev pub ofKind : ℕ → List ℕ → Parsed
@@ -65,9 +70,9 @@ ofKind k m =
       ]
     ]
 
--- "A message is length (2, equal to the bytes given), kind (2), body."
+-- the length is "equal to the bytes given"
 unfoldable pub parse : List ℕ → Parsed
-parse m = elim (leb 4 (length m) && eqb (wordAt m 0) (length m)) [ true ↦ ofKind (wordAt m 2) m | false ↦ Malformed ]
+parse m = elim (leb bodyAt (length m) && eqb (wordAt m 0) (length m)) [ true ↦ ofKind (wordAt m kindAt) m | false ↦ Malformed ]
 
 -- ---- the log page
 

@@ -1,4 +1,7 @@
 // Messages, answers and the log page: what hosts send, and what they get.
+use frame::BODY_AT;
+use frame::ID_MAX;
+use frame::KIND_AT;
 use frame::ObjectId;
 use frame::VALUE_MAX;
 ghost use mathlib.Core.Path.{_≡_};
@@ -14,7 +17,7 @@ pub enum Page {
     Summary,
 }
 
-// What a host asks for. A put's value is the message past its first six bytes.
+// What a host asks for. A put's value is the message past its id.
 pub enum Request {
     Put(ObjectId),
     Delete(ObjectId),
@@ -52,8 +55,23 @@ pub enum Answer {
     Refused(Refusal),
 }
 
-// The greatest id.
-const ID_MAX: u16 = 255;
+// Where a message's id ends, a put's value starts; and the longest put.
+const ID_END: usize = BODY_AT + 2;
+
+const PUT_MAX: usize = ID_END + VALUE_MAX;
+
+// The length of a log request.
+const LOG_LEN: usize = BODY_AT + 1;
+
+// The length of log page 1.
+const PAGE_LEN: u8 = 14;
+
+// Offsets and the greatest id, as words of a message are counted.
+const KIND: u8 = KIND_AT as u8;
+
+const BODY: u8 = BODY_AT as u8;
+
+const LAST_ID: u16 = ID_MAX as u16;
 
 // A byte of a message, 0 past its end.
 fn byte_at(m: &[u8], i: usize) -> u16
@@ -73,7 +91,7 @@ pub fn word_at(m: &[u8], i: u8) -> u16
 fn id_in(m: &[u8]) -> ObjectId
     ensures { λ r. ⌜ r ≡ idIn (now (m .entry)) ⌝ }
 {
-    ObjectId(word_at(m, 4))
+    ObjectId(word_at(m, BODY))
 }
 
 fn is_if(fits: bool, ask: Request) -> Parsed
@@ -89,37 +107,37 @@ fn is_if(fits: bool, ask: Request) -> Parsed
 fn only_id(m: &[u8]) -> bool
     ensures { λ r. ⌜ r ≡ onlyId (now (m .entry)) ⌝ }
 {
-    if m.len() != 6 {
+    if m.len() != ID_END {
         return false;
     }
-    word_at(m, 4) <= ID_MAX
+    word_at(m, BODY) <= LAST_ID
 }
 
 fn no_body(m: &[u8]) -> bool
     ensures { λ r. ⌜ r ≡ noBody (now (m .entry)) ⌝ }
 {
-    m.len() == 4
+    m.len() == BODY_AT
 }
 
 fn id_and_value(m: &[u8]) -> bool
     ensures { λ r. ⌜ r ≡ idAndValue (now (m .entry)) ⌝ }
 {
-    if m.len() < 6 {
+    if m.len() < ID_END {
         return false;
     }
-    if 6 + VALUE_MAX < m.len() {
+    if PUT_MAX < m.len() {
         return false;
     }
-    word_at(m, 4) <= ID_MAX
+    word_at(m, BODY) <= LAST_ID
 }
 
 fn summary_page(m: &[u8]) -> bool
     ensures { λ r. ⌜ r ≡ summaryPage (now (m .entry)) ⌝ }
 {
-    if m.len() != 5 {
+    if m.len() != LOG_LEN {
         return false;
     }
-    byte_at(m, 4) == 1
+    byte_at(m, BODY_AT) == 1
 }
 
 // The request that a message of a kind is.
@@ -141,13 +159,13 @@ fn of_kind(kind: u16, m: &[u8]) -> Parsed
 pub fn parse(message: &[u8]) -> Parsed
     ensures { λ r. ⌜ r ≡ parse (now (message .entry)) ⌝ }
 {
-    if message.len() < 4 {
+    if message.len() < BODY_AT {
         return Parsed::Malformed;
     }
     if word_at(message, 0) as usize != message.len() {
         return Parsed::Malformed;
     }
-    of_kind(word_at(message, 2), message)
+    of_kind(word_at(message, KIND), message)
 }
 
 fn refusal_number(why: Refusal) -> u8
@@ -185,10 +203,10 @@ pub fn value(message: &[u8]) -> &[u8]
     ensures place { λ r. ⌜ (ptr r .0 ≡ ptr (message .entry) .0) × (ptr r .1 ≡ valuePlace (now (message .entry)) + ptr (message .entry) .1) ⌝ }
 {
     let n = message.len();
-    if n < 6 {
+    if n < ID_END {
         return &message[n..];
     }
-    &message[6..]
+    &message[ID_END..]
 }
 
 // Lays a source over the first bytes of a slice that is no shorter.
@@ -210,7 +228,7 @@ pub fn write_page(reply: &mut [u8], time: u32, count: u16, used: u16, size: u16)
     ensures { λ r. ⌜ now (reply .exit) ≡ pageInto (logPage time count used size) (now (reply .entry)) ⌝ }
 {
     let page = [
-        14,
+        PAGE_LEN,
         0,
         0x01,
         0x02,

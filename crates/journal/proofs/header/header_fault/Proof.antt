@@ -3,7 +3,7 @@ use Prim.Native.Nat.{ℕ}
 use lib.Dec.{eqb}
 use mathlib.Core.Path.{sym, ap, _∙_}
 use borrow.Author.Tests.{eq-eqb, ne-eqb, not-true, not-false}
-use Rattle.journal.specs.Survey.{headerOf}
+use Rattle.journal.specs.Pass.{headerOf}
 use Rattle.journal.proofs.Headers.{fault-length, fault-kind, fault-created, fault-state, fault-spare, fault-none}
 use denote.Ref.{now}
 use borrow.Author.Needs.{needs}
@@ -21,7 +21,7 @@ header-fault-spec =
     (λ c κs. search needs)
     (λ c. sym (ap headerOf (fault-created (now (c .before .before .before .before .before .before .before .args .block)) (sym (c .before .before .before .before .before .stands .ensures) ∙ not-false (c .before .before .before .before .before .stands .result) (c .before .before .before .before .if1 .left)) (sym (c .before .before .before .stands2 .ensures) ∙ not-false (c .before .before .before .stands2 .result) (c .before .before .if2 .left)) (ap (λ (x : ℕ). eqb x 0) (sym (c .before .created .ensures)) ∙ eq-eqb _ _ (c .if3 .taken)))))
     (λ c κs. search needs)
-    (λ c. sym (ap headerOf (fault-state (now (c .before .before .before .before .before .before .before .before .before .args .block)) (sym (c .before .before .before .before .before .before .before .stands .ensures) ∙ not-false (c .before .before .before .before .before .before .before .stands .result) (c .before .before .before .before .before .before .if1 .left)) (sym (c .before .before .before .before .before .stands2 .ensures) ∙ not-false (c .before .before .before .before .before .stands2 .result) (c .before .before .before .before .if2 .left)) (ap (λ (x : ℕ). eqb x 0) (sym (c .before .before .before .created .ensures)) ∙ ne-eqb _ _ (c .before .before .if3 .left)) (ap (λ (x : ℕ). eqb x 252) (sym (c .before .byte-at .ensures .0)) ∙ ne-eqb _ _ (c .if4 .taken)))))
+    (λ c. sym (ap headerOf (fault-state (now (c .before .before .before .before .before .before .before .before .before .args .block)) (sym (c .before .before .before .before .before .before .before .stands .ensures) ∙ not-false (c .before .before .before .before .before .before .before .stands .result) (c .before .before .before .before .before .before .if1 .left)) (sym (c .before .before .before .before .before .stands2 .ensures) ∙ not-false (c .before .before .before .before .before .stands2 .result) (c .before .before .before .before .if2 .left)) (ap (λ (x : ℕ). eqb x 0) (sym (c .before .before .before .created .ensures)) ∙ ne-eqb _ _ (c .before .before .if3 .left)) (ap (λ (x : ℕ). eqb x 252) (sym (c .before .byte-at .ensures)) ∙ ne-eqb _ _ (c .if4 .taken)))))
     (λ c κs. search needs)
-    (λ c. sym (ap headerOf (fault-spare (now (c .before .before .before .before .before .before .before .before .before .before .before .args .block)) (sym (c .before .before .before .before .before .before .before .before .before .stands .ensures) ∙ not-false (c .before .before .before .before .before .before .before .before .before .stands .result) (c .before .before .before .before .before .before .before .before .if1 .left)) (sym (c .before .before .before .before .before .before .before .stands2 .ensures) ∙ not-false (c .before .before .before .before .before .before .before .stands2 .result) (c .before .before .before .before .before .before .if2 .left)) (ap (λ (x : ℕ). eqb x 0) (sym (c .before .before .before .before .before .created .ensures)) ∙ ne-eqb _ _ (c .before .before .before .before .if3 .left)) (ap (λ (x : ℕ). eqb x 252) (sym (c .before .before .before .byte-at .ensures .0)) ∙ eq-eqb _ _ (c .before .before .if4 .left)) (sym (c .before .spare-blank .ensures) ∙ not-true (c .before .spare-blank .result) (c .if5 .taken)))))
-    (λ c. sym (ap headerOf (fault-none (now (c .before .before .before .before .before .before .before .before .before .before .before .args .block)) (sym (c .before .before .before .before .before .before .before .before .before .stands .ensures) ∙ not-false (c .before .before .before .before .before .before .before .before .before .stands .result) (c .before .before .before .before .before .before .before .before .if1 .left)) (sym (c .before .before .before .before .before .before .before .stands2 .ensures) ∙ not-false (c .before .before .before .before .before .before .before .stands2 .result) (c .before .before .before .before .before .before .if2 .left)) (ap (λ (x : ℕ). eqb x 0) (sym (c .before .before .before .before .before .created .ensures)) ∙ ne-eqb _ _ (c .before .before .before .before .if3 .left)) (ap (λ (x : ℕ). eqb x 252) (sym (c .before .before .before .byte-at .ensures .0)) ∙ eq-eqb _ _ (c .before .before .if4 .left)) (sym (c .before .spare-blank .ensures) ∙ not-false (c .before .spare-blank .result) (c .if5 .left))))))
+    (λ c. sym (ap headerOf (fault-spare (now (c .before .before .before .before .before .before .before .before .before .before .before .args .block)) (sym (c .before .before .before .before .before .before .before .before .before .stands .ensures) ∙ not-false (c .before .before .before .before .before .before .before .before .before .stands .result) (c .before .before .before .before .before .before .before .before .if1 .left)) (sym (c .before .before .before .before .before .before .before .stands2 .ensures) ∙ not-false (c .before .before .before .before .before .before .before .stands2 .result) (c .before .before .before .before .before .before .if2 .left)) (ap (λ (x : ℕ). eqb x 0) (sym (c .before .before .before .before .before .created .ensures)) ∙ ne-eqb _ _ (c .before .before .before .before .if3 .left)) (ap (λ (x : ℕ). eqb x 252) (sym (c .before .before .before .byte-at .ensures)) ∙ eq-eqb _ _ (c .before .before .if4 .left)) (sym (c .before .spare-blank .ensures) ∙ not-true (c .before .spare-blank .result) (c .if5 .taken)))))
+    (λ c. sym (ap headerOf (fault-none (now (c .before .before .before .before .before .before .before .before .before .before .before .args .block)) (sym (c .before .before .before .before .before .before .before .before .before .stands .ensures) ∙ not-false (c .before .before .before .before .before .before .before .before .before .stands .result) (c .before .before .before .before .before .before .before .before .if1 .left)) (sym (c .before .before .before .before .before .before .before .stands2 .ensures) ∙ not-false (c .before .before .before .before .before .before .before .stands2 .result) (c .before .before .before .before .before .before .if2 .left)) (ap (λ (x : ℕ). eqb x 0) (sym (c .before .before .before .before .before .created .ensures)) ∙ ne-eqb _ _ (c .before .before .before .before .if3 .left)) (ap (λ (x : ℕ). eqb x 252) (sym (c .before .before .before .byte-at .ensures)) ∙ eq-eqb _ _ (c .before .before .if4 .left)) (sym (c .before .spare-blank .ensures) ∙ not-false (c .before .spare-blank .result) (c .if5 .left))))))

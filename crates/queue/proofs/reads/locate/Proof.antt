@@ -1,6 +1,5 @@
 -- A read: empty where it is refused or finds nothing, else the value where it stands.
-use mathlib.Core.Path.{refl, sym, ap, _∙_}
-use mathlib.Core.List.{List}
+use mathlib.Core.Path.{_≡_, refl, sym, ap, _∙_}
 use Prim.Native.Nat.{ℕ, _+_, _*_, _≤_}
 use native.Mathlib.Omega.{arith}
 use denote.Ref.{now}
@@ -8,8 +7,9 @@ use borrow.Author.Needs.{needs}
 use Rattle.flash.specs.Bytes.{Bytes}
 use Rattle.journal.specs.Block.{blockState}
 use lib.ListN.{length}
-use Rattle.flash.specs.Flash.{sizeOf}
-use Rattle.journal.specs.Survey.{surveyOf, placesIn}
+use Rattle.flash.specs.Flash.{sizeOf, block}
+use Rattle.journal.specs.Survey.{surveyOf, placesIn, stateOf}
+use Rattle.journal.proofs.Surveying.{half-fits}
 use Rattle.board.specs.Record.{noStretch}
 use Rattle.frame.proofs.Misfits.{bytes-of}
 use Rattle.queue.proofs.Asking.{Passed, passed, looks, shut}
@@ -28,6 +28,16 @@ bytes : (c : tie.After-block-of) → Bytes (now (c .before .before .before .befo
 bytes c = bytes-of (now (c .before .before .before .before .before .before .before .args .image))
     (λ i. c .before .before .before .before .before .before .shared-slice-known .given i .fits)
 
+surveyed : (c : tie.After-block-of)
+    → stateOf (now (c .block-of .result)) ≡ blockState
+    (block (sizeOf (now (c .before .before .before .before .before .before .before .args .image)))
+    (c .before .before .before .before .before .before .before .args .board .block)
+    (now (c .before .before .before .before .before .before .before .args .image)))
+surveyed c =
+    half-fits (now (c .block-of .result)) (rw (c .block-of .ensures)
+    (looks _ _ _ (now (c .before .before .before .before .before .before .before .args .message)) (bytes c) (opened (c .before .before))))
+    ∙ ap blockState (c .block-of .ensures)
+
 looked : (c : tie.After-hear) →
     let args′ = c .before .before .before .before .before .before .before .before .before .before .args in
     Looked (now (args′ .image)) (args′ .board) (args′ .host) (now (args′ .message)) (c .before .survey-block .result) (c .hear .result)
@@ -35,7 +45,7 @@ looked c =
     record {
       bytes = bytes (c .before .before .before);
       passed = opened (c .before .before .before .before .before);
-      survey = c .before .survey-block .ensures .0 ∙ ap (λ (b : List ℕ). surveyOf (blockState b)) (c .before .before .before .block-of .ensures);
+      survey = c .before .survey-block .ensures .0 ∙ ap surveyOf (surveyed (c .before .before .before));
       asks = c .hear .ensures;
     }
 
@@ -50,9 +60,10 @@ inside c =
     let find′ = c .before .before .before .find in
     let ask′ = c .before .before .before .before .before .ask in
     let survey-block′ = c .before .before .before .before .before .before .before .before .survey-block in
-    let block-of′ = c .before .before .before .before .before .before .before .before .before .before .block-of in
+    let c10 = c .before .before .before .before .before .before .before .before .before .before in
+    let block-of′ = c10 .block-of in
     read-inside (looked (c .before .before .before .before .before .before .before)) (ask′ .given .0 .0) (ask′ .given .1) _
-    (survey-block′ .ensures .1 ∙ ap (λ (b : List ℕ). placesIn (blockState b)) (block-of′ .ensures)) (now (block-of′ .result)) (block-of′ .ensures)
+    (survey-block′ .ensures .1 ∙ ap placesIn (surveyed c10)) (now (block-of′ .result)) (block-of′ .ensures)
     (find′ .result) (find′ .ensures) (at′ .given .0 .0) (at′ .given .0 .1 .0) (at′ .given .1)
 
 pub locate-spec : {M : Type 1} → statement M
@@ -69,9 +80,7 @@ locate-spec =
     (λ c. search needs)
     (λ c κs. search needs)
     (λ c κs. search needs)
-    (λ c κs.
-    let args′ = c .before .before .before .before .before .before .before .before .args in
-    rw (c .before .block-of .ensures) (looks _ _ _ (now (args′ .message)) (bytes (c .before)) (opened (c .before .before .before))))
+    (λ c κs. search needs)
     (λ c κs. search needs)
     (λ c. search needs)
     (λ c κs. search needs)
@@ -87,11 +96,11 @@ locate-spec =
     let ask′ = c .before .before .before .before .before .ask in
     let before′ = c .before .before .before .before .before .before .before in
     let survey-block′ = c .before .before .before .before .before .before .before .before .survey-block in
+    let before′2 = c .before .before .before .before .before .before .before .before .before .before in
     let block-of′ = c .before .before .before .before .before .before .before .before .before .before .block-of in
     located noStretch _ (read-stretch (looked (before′)) (ask′ .given .0 .0) (ask′ .given .1) _
-    (survey-block′ .ensures .1 ∙ ap (λ (b : List ℕ). placesIn (blockState b)) (block-of′ .ensures)) (now (block-of′ .result))
-    (block-of′ .ensures) (find′ .result) (find′ .ensures) _ (c .before .enum-told4 .given .1)) _ _ (c .no-stretch3 .ensures .0)
-    (c .no-stretch3 .ensures .1) (omega arith))
+    (survey-block′ .ensures .1 ∙ ap placesIn (surveyed (before′2))) (now (block-of′ .result)) (block-of′ .ensures) (find′ .result)
+    (find′ .ensures) _ (c .before .enum-told4 .given .1)) _ _ (c .no-stretch3 .ensures .0) (c .no-stretch3 .ensures .1) (omega arith))
     (λ c. search needs)
     (λ c. search needs)
     (λ c. let k = inside (c .before) in omega arith)
@@ -102,7 +111,8 @@ locate-spec =
     let ask′ = c .before .before .before .before .before .before .ask in
     let before′ = c .before .before .before .before .before .before .before .before in
     let survey-block′ = c .before .before .before .before .before .before .before .before .before .survey-block in
+    let before′2 = c .before .before .before .before .before .before .before .before .before .before .before in
     let block-of′ = c .before .before .before .before .before .before .before .before .before .before .before .block-of in
     located _ _ (read-stretch (looked (before′)) (ask′ .given .0 .0) (ask′ .given .1) _
-    (survey-block′ .ensures .1 ∙ ap (λ (b : List ℕ). placesIn (blockState b)) (block-of′ .ensures)) (now (block-of′ .result))
-    (block-of′ .ensures) (find′ .result) (find′ .ensures) _ (c .before .before .at .given .1)) _ _ refl refl (inside (c .before) .0)))
+    (survey-block′ .ensures .1 ∙ ap placesIn (surveyed (before′2))) (now (block-of′ .result)) (block-of′ .ensures) (find′ .result)
+    (find′ .ensures) _ (c .before .before .at .given .1)) _ _ refl refl (inside (c .before) .0)))

@@ -1,13 +1,14 @@
 -- A request: refused at the gate, refused by the block or the message, or served.
-use mathlib.Core.Path.{sym, ap, _∙_}
-use mathlib.Core.List.{List}
+use mathlib.Core.Path.{_≡_, sym, ap, _∙_}
 use Prim.Native.Nat.{ℕ}
 use native.Mathlib.Omega.{arith}
 use denote.Ref.{now}
 use borrow.Author.Needs.{needs}
 use Rattle.flash.specs.Bytes.{Bytes}
+use Rattle.flash.specs.Flash.{sizeOf, block}
 use Rattle.journal.specs.Block.{blockState}
-use Rattle.journal.specs.Survey.{surveyOf, placesIn}
+use Rattle.journal.specs.Survey.{surveyOf, placesIn, stateOf}
+use Rattle.journal.proofs.Surveying.{half-fits}
 use Rattle.board.specs.Queue.{requestOn}
 use Rattle.board.proofs.Images.{sized-of}
 use Rattle.frame.proofs.Misfits.{bytes-of}
@@ -29,6 +30,16 @@ bytes : (c : tie.After-block-of) → Bytes (now (c .before .before .before .befo
 bytes c = bytes-of (now (c .before .before .before .before .before .before .before .before .args .image))
     (λ i. c .before .before .before .before .before .before .before .shared-slice-known .given i .fits)
 
+surveyed : (c : tie.After-block-of)
+    → stateOf (now (c .block-of .result)) ≡ blockState
+    (block (sizeOf (now (c .before .before .before .before .before .before .before .before .args .image)))
+    (c .before .before .before .before .before .before .before .before .args .board .block)
+    (now (c .before .before .before .before .before .before .before .before .args .image)))
+surveyed c =
+    half-fits (now (c .block-of .result)) (rw (c .block-of .ensures)
+    (looks _ _ _ (now (c .before .before .before .before .before .before .before .before .args .message)) (bytes c) (opened (c .before .before))))
+    ∙ ap blockState (c .block-of .ensures)
+
 looked : (c : tie.After-hear) →
     let args′ = c .before .before .before .before .before .before .before .before .before .before .before .args in
     Looked (now (args′ .image)) (args′ .board) (args′ .host) (now (args′ .message)) (c .before .survey-block .result) (c .hear .result)
@@ -36,7 +47,7 @@ looked c =
     record {
       bytes = bytes (c .before .before .before);
       passed = opened (c .before .before .before .before .before);
-      survey = c .before .survey-block .ensures .0 ∙ ap (λ (b : List ℕ). surveyOf (blockState b)) (c .before .before .before .block-of .ensures);
+      survey = c .before .survey-block .ensures .0 ∙ ap surveyOf (surveyed (c .before .before .before));
       asks = c .hear .ensures;
     }
 
@@ -53,9 +64,7 @@ request-spec =
     (λ c. search needs)
     (λ c κs. search needs)
     (λ c κs. search needs)
-    (λ c κs.
-    let args′ = c .before .before .before .before .before .before .before .before .before .args in
-    rw (c .before .block-of .ensures) (looks _ _ _ (now (args′ .message)) (bytes (c .before)) (opened (c .before .before .before))))
+    (λ c κs. search needs)
     (λ c κs. search needs)
     (λ c. search needs)
     (λ c κs. search needs)
@@ -74,10 +83,9 @@ request-spec =
     let ask′ = c .before .before .before .before .before .ask in
     let before′ = c .before .before .before .before .before .before .before in
     let survey-block′ = c .before .before .before .before .before .before .before .before .survey-block in
-    let c10 = c .before .before .before .before .before .before .before .before .before .before in
-    let block-of′ = c10 .block-of in
-    let args′ = c10 .before .before .before .before .before .before .before .before .args in
+    let before′2 = c .before .before .before .before .before .before .before .before .before .before in
+    let args′ = before′2 .before .before .before .before .before .before .before .before .args in
     with-reply (requestOn (now (args′ .image)) (args′ .board) (now (args′ .reply)) (args′ .host) (now (args′ .message)))
     (serve′ .ensures .0 ∙ served-outcome (looked (before′)) _ (ask′ .given .1) _
-    (survey-block′ .ensures .1 ∙ ap (λ (b : List ℕ). placesIn (blockState b)) (block-of′ .ensures)) _)
+    (survey-block′ .ensures .1 ∙ ap placesIn (surveyed (before′2))) _)
     (serve′ .ensures .1 ∙ served-reply (looked (before′)) _ (ask′ .given .1) _)))

@@ -4,6 +4,8 @@ use native.Mathlib.Omega.{arith}
 use denote.Ref.{now}
 use borrow.Author.Tests.{not-true, not-false}
 use Rattle.wire.specs.declared.Refusal.the-variants as refusal
+use Rattle.journal.specs.Survey.{surveyOf, placesIn}
+use Rattle.journal.proofs.Surveying.{half-fits}
 use Rattle.board.specs.Mount.{mountOn}
 use Rattle.board.proofs.Images.{sized-of}
 use Rattle.board.proofs.Outcomes.{mount-length}
@@ -31,19 +33,9 @@ mount-spec =
     (λ c κs. search needs)
     (λ c κs. search needs)
     (λ c κs. search needs)
-    (λ c κs.
-    let if1′ = c .before .before .before .before .if1 in
-    let is-allowed′ = c .before .before .before .before .before .is-allowed in
-    let args′ = c .before .before .before .before .before .before .before .args in
-    rw (c .before .block-of .ensures) (block-fits (now (args′ .image)) 0
-    (sym (is-allowed′ .ensures) ∙ not-false (is-allowed′ .result) (if1′ .left)) (omega arith)))
     (λ c κs. search needs)
-    (λ c κs.
-    let if1′ = c .before .before .before .before .before .before .before .if1 in
-    let is-allowed′ = c .before .before .before .before .before .before .before .before .is-allowed in
-    let args′ = c .before .before .before .before .before .before .before .before .before .before .args in
-    rw (c .before .block-of2 .ensures) (block-fits (now (args′ .image)) 1
-    (sym (is-allowed′ .ensures) ∙ not-false (is-allowed′ .result) (if1′ .left)) (omega arith)))
+    (λ c κs. search needs)
+    (λ c κs. search needs)
     (λ c.
     let if1′ = c .before .before .before .before .before .before .before .before .if1 in
     let is-allowed′ = c .before .before .before .before .before .before .before .before .before .is-allowed in
@@ -67,8 +59,11 @@ mount-spec =
     let is-allowed′ = c .before .before .before .before .before .before .before .before .before .before .before .is-allowed in
     let shared-slice-known′ = c .before .before .before .before .before .before .before .before .before .before .before .before .shared-slice-known in
     let args′ = c .before .before .before .before .before .before .before .before .before .before .before .before .before .args in
-    both (mountOn (now (args′ .image))) (c .mount-chosen .ensures ∙ mount-is (now (args′ .image)) _ _ _ _ _ _ _
-    (sym (is-allowed′ .ensures) ∙ not-false (is-allowed′ .result) (if1′ .left))
-    (bytes-of (now (args′ .image)) (λ i. shared-slice-known′ .given i .fits)) (block-of′ .ensures) (block-of2′ .ensures)
-    (survey-block′ .ensures .0) (survey-block′ .ensures .1) (survey-block2′ .ensures .0) (survey-block2′ .ensures .1)
-    (c .before .choose .ensures))))
+    let img = now (args′ .image) in
+    let ok = sym (is-allowed′ .ensures) ∙ not-false (is-allowed′ .result) (if1′ .left) in
+    let a = half-fits (now (block-of′ .result)) (rw (block-of′ .ensures) (block-fits img 0 ok (omega arith))) in
+    let b = half-fits (now (block-of2′ .result)) (rw (block-of2′ .ensures) (block-fits img 1 ok (omega arith))) in
+    both (mountOn img)
+    (c .mount-chosen .ensures ∙ mount-is img _ _ _ _ _ _ _ ok (bytes-of img (λ i. shared-slice-known′ .given i .fits)) (block-of′ .ensures)
+    (block-of2′ .ensures) (survey-block′ .ensures .0 ∙ ap surveyOf a) (survey-block′ .ensures .1 ∙ ap placesIn a)
+    (survey-block2′ .ensures .0 ∙ ap surveyOf b) (survey-block2′ .ensures .1 ∙ ap placesIn b) (c .before .choose .ensures))))
