@@ -45,7 +45,7 @@ fn row_c(b: Bench) -> Bench {
 
 fn read_five(what: &[u8], image: [u8; 512], board: Record) {
     say(what);
-    hex(store::read(&image, board, Host(0), &[6, 0, 5, 1, 5, 0]));
+    hex(queue::read(&image, board, Host(0), &[6, 0, 5, 1, 5, 0]));
     say(b"\n");
 }
 
@@ -176,7 +176,7 @@ fn row_p(image: &mut [u8]) {
     finish(image, b"; format", store::format(image));
     let board = finish(image, b"; mount", store::mount(image));
     let mut reply = [0u8; 14];
-    let asked = store::request(image, board, Host(0), &[7, 0, 1, 1, 0, 0, 9], &mut reply);
+    let asked = queue::request(image, board, Host(0), &[7, 0, 1, 1, 0, 0, 9], &mut reply);
     finish(image, b"; put", asked);
     say(b"\n");
 }

@@ -119,7 +119,7 @@ pub extern "C" fn grommetide_request(
         return WRONG_RECORD;
     }
     let b = lent::decode(board);
-    let out = store::request(image, b, Host(host), message, reply);
+    let out = queue::request(image, b, Host(host), message, reply);
     let phase = b.phase;
     finish(phase, out, board)
 }
@@ -184,7 +184,7 @@ pub extern "C" fn grommetide_read(
     }
     let b = lent::decode(board);
     let ask = as_read(message);
-    let place = store::locate(image, b, Host(host), ask);
+    let place = queue::locate(image, b, Host(host), ask);
     *at = place.at;
     *len = place.size;
     // a place was found, so that the request would be done
@@ -192,7 +192,7 @@ pub extern "C" fn grommetide_read(
         return DONE;
     }
     let mut none: [u8; 0] = [];
-    let out = store::request(image, b, Host(host), ask, &mut none);
+    let out = queue::request(image, b, Host(host), ask, &mut none);
     let answer = out.answer;
     wire::number(answer)
 }

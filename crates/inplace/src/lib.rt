@@ -31,7 +31,7 @@ pub fn request_in_place(
         × (now (board .exit) ≡ requestOn (now (image .entry)) (now (board .entry)) (now (reply .entry)) host (now (message .entry)) .board)
         × (now (reply .exit) ≡ requestOn (now (image .entry)) (now (board .entry)) (now (reply .entry)) host (now (message .entry)) .reply) ⌝ }
 {
-    let out = store::request(image, *board, host, message, reply);
+    let out = queue::request(image, *board, host, message, reply);
     *board = out.board;
     out.answer
 }

@@ -12,7 +12,13 @@ use board::Record;
 use board::Rest;
 use board::Stage;
 use frame::MAX_FRAME;
+use journal::HEADER_LEN;
 use wire::Answer;
+
+// Where a block's frames start, and the last creation time.
+pub const START: u16 = HEADER_LEN as u16;
+
+pub const LAST_TIME: u32 = 4294967295;
 
 // A record without its arrays.
 pub struct Numbers {
@@ -118,7 +124,7 @@ pub fn starting(id: u16, source: u16) -> Cursor
 {
     Cursor {
         index: 0,
-        at: 16,
+        at: START,
         id: id,
         source: source,
         size: 0,

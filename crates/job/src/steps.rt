@@ -22,13 +22,34 @@ use board::Cursor;
 use board::Phase;
 use board::Record;
 use board::Stage;
+use frame::KIND_AT;
 use frame::MAX_FRAME;
 use journal::Fetch;
 use journal::Fetched;
+use journal::HEADER_LEN;
+use journal::IN_TRANSFER;
+use journal::STATE_AT;
+use journal::TIME_AT;
+use journal::VALID_DATA;
 use wire::Answer;
 use wire::Refusal;
 
 const BLOCK_COUNT: u8 = BLOCKS as u8;
+
+// How many writes open a block, and how many seal it.
+const OPENING: u8 = 5;
+
+const SEALING: u8 = 5;
+
+const LENGTH: u8 = HEADER_LEN as u8;
+
+const KIND_HIGH_AT: usize = KIND_AT + 1;
+
+const TIME_1_AT: usize = TIME_AT + 1;
+
+const TIME_2_AT: usize = TIME_AT + 2;
+
+const TIME_3_AT: usize = TIME_AT + 3;
 
 // A flash step: a byte programmed at an offset of a block, or a block erased.
 pub enum Action {
@@ -54,11 +75,11 @@ fn open_action(target: u8, i: u8) -> Action
     ensures { λ r. ⌜ flashStep r ≡ writeStep target (openWrite i) ⌝ }
 {
     match i {
-        1 => return Action::Program(target, 0, 0x10),
+        1 => return Action::Program(target, 0, LENGTH),
         2 => return Action::Program(target, 1, 0x00),
-        3 => return Action::Program(target, 2, 0x01),
-        4 => return Action::Program(target, 3, 0x4A),
-        _ => return Action::Program(target, 8, 0xFE),
+        3 => return Action::Program(target, KIND_AT, 0x01),
+        4 => return Action::Program(target, KIND_HIGH_AT, 0x4A),
+        _ => return Action::Program(target, STATE_AT, IN_TRANSFER),
     }
 }
 
@@ -66,13 +87,13 @@ fn open_action(target: u8, i: u8) -> Action
 fn seal_action(target: u8, time: u32, i: u8) -> Action
     ensures { λ r. ⌜ flashStep r ≡ writeStep target (sealWrite time i) ⌝ }
 {
-    let inverse = 4294967295 - time;
+    let inverse = records::LAST_TIME - time;
     match i {
-        0 => return Action::Program(target, 4, (inverse % 256) as u8),
-        1 => return Action::Program(target, 5, (inverse / 256 % 256) as u8),
-        2 => return Action::Program(target, 6, (inverse / 65536 % 256) as u8),
-        3 => return Action::Program(target, 7, (inverse / 16777216) as u8),
-        _ => return Action::Program(target, 8, 0xFC),
+        0 => return Action::Program(target, TIME_AT, (inverse % 256) as u8),
+        1 => return Action::Program(target, TIME_1_AT, (inverse / 256 % 256) as u8),
+        2 => return Action::Program(target, TIME_2_AT, (inverse / 65536 % 256) as u8),
+        3 => return Action::Program(target, TIME_3_AT, (inverse / 16777216) as u8),
+        _ => return Action::Program(target, STATE_AT, VALID_DATA),
     }
 }
 
@@ -106,7 +127,8 @@ fn next_action(stage: Stage, n: Numbers, unit: &[u8; MAX_FRAME], frame: &[u8; MA
 // ---- the step done, where its place lies in the image; else nothing changes
 
 fn program_in(image: &mut [u8], block: u8, at: usize, byte: u8) -> bool
-    ensures { λ r. ⌜ (r ≡ within (sizeOf (now (image .entry))) (program block at byte)) × (now (image .exit) ≡ did (program block at byte) (now (image .entry))) ⌝ }
+    ensures { λ r. ⌜ (r ≡ within (sizeOf (now (image .entry))) (program block at byte))
+        × (now (image .exit) ≡ did (program block at byte) (now (image .entry))) ⌝ }
 {
     let size = image.len() / 2;
     if BLOCK_COUNT <= block {
@@ -186,7 +208,8 @@ fn after_wipe(n: Numbers) -> Stepped
 // A frame to copy is put into the buffer.
 fn load(source: &[u8], fetch: Fetch, n: Numbers, unit: &mut [u8; MAX_FRAME]) -> Stepped
     requires { ⌜ (fetch .value + valueLen (fetch .head) ≤ length (now source)) × (valueLen (fetch .head) ≤ valueMax) ⌝ }
-    ensures { λ r. ⌜ ((p f : List ℕ) → LeadsTo p (now (unit .exit)) f r (loaded (assemble n p (now (unit .entry)) f) (loadIn (now (source .entry)) fetch))) ⌝ }
+    ensures { λ r. ⌜ ((p f : List ℕ) → LeadsTo p (now (unit .exit)) f r
+        (loaded (assemble n p (now (unit .entry)) f) (loadIn (now (source .entry)) fetch))) ⌝ }
 {
     let head = fetch.head;
     let start = fetch.value;
@@ -207,7 +230,8 @@ fn load(source: &[u8], fetch: Fetch, n: Numbers, unit: &mut [u8; MAX_FRAME]) -> 
 
 // The next frame to copy is put into the buffer, or the block is sealed.
 fn enter_copy(image: &[u8], n: Numbers, places: &[u16; 256], unit: &mut [u8; MAX_FRAME]) -> Stepped
-    ensures { λ r. ⌜ ((f : List ℕ) → LeadsTo (now (places .entry)) (now (unit .exit)) f r (enterCopy (now (image .entry)) (assemble n (now (places .entry)) (now (unit .entry)) f))) ⌝ }
+    ensures { λ r. ⌜ ((f : List ℕ) → LeadsTo (now (places .entry)) (now (unit .exit)) f r
+        (enterCopy (now (image .entry)) (assemble n (now (places .entry)) (now (unit .entry)) f))) ⌝ }
 {
     let job = n.job;
     let since = job.since;
@@ -221,10 +245,11 @@ fn enter_copy(image: &[u8], n: Numbers, places: &[u16; 256], unit: &mut [u8; MAX
 }
 
 fn after_open(image: &[u8], n: Numbers, places: &[u16; 256], unit: &mut [u8; MAX_FRAME]) -> Stepped
-    ensures { λ r. ⌜ ((f : List ℕ) → LeadsTo (now (places .entry)) (now (unit .exit)) f r (advance stages.Open (now (image .entry)) (assemble n (now (places .entry)) (now (unit .entry)) f))) ⌝ }
+    ensures { λ r. ⌜ ((f : List ℕ) → LeadsTo (now (places .entry)) (now (unit .exit)) f r
+        (advance stages.Open (now (image .entry)) (assemble n (now (places .entry)) (now (unit .entry)) f))) ⌝ }
 {
     let cursor = n.cursor;
-    if has_next(cursor.index, 5) {
+    if has_next(cursor.index, OPENING) {
         return next_step(Stage::Open, n);
     }
     enter_copy(image, n, places, unit)
@@ -267,7 +292,8 @@ fn next_byte(n: Numbers) -> Numbers
 
 fn after_copy(image: &[u8], n: Numbers, places: &[u16; 256], unit: &mut [u8; MAX_FRAME]) -> Stepped
     requires { ⌜ n .cursor .at < 32768 ⌝ }
-    ensures { λ r. ⌜ ((f : List ℕ) → LeadsTo (now (places .entry)) (now (unit .exit)) f r (advance stages.Copy (now (image .entry)) (assemble n (now (places .entry)) (now (unit .entry)) f))) ⌝ }
+    ensures { λ r. ⌜ ((f : List ℕ) → LeadsTo (now (places .entry)) (now (unit .exit)) f r
+        (advance stages.Copy (now (image .entry)) (assemble n (now (places .entry)) (now (unit .entry)) f))) ⌝ }
 {
     let c = n.cursor;
     let next = next_byte(n);
@@ -281,7 +307,7 @@ fn after_seal(n: Numbers) -> Stepped
     ensures { λ r. ⌜ ((i p u f : List ℕ) → LeadsTo p u f r (advance stages.Seal i (assemble n p u f))) ⌝ }
 {
     let cursor = n.cursor;
-    if has_next(cursor.index, 5) {
+    if has_next(cursor.index, SEALING) {
         return next_step(Stage::Seal, n);
     }
     records::enter_drop(n)
@@ -316,7 +342,8 @@ fn advance(
     unit: &mut [u8; MAX_FRAME],
 ) -> Stepped
     requires { ⌜ offsetFor stage n < 32768 ⌝ }
-    ensures { λ r. ⌜ ((f : List ℕ) → LeadsTo (now (places .entry)) (now (unit .exit)) f r (advance stage (now (image .entry)) (assemble n (now (places .entry)) (now (unit .entry)) f))) ⌝ }
+    ensures { λ r. ⌜ ((f : List ℕ) → LeadsTo (now (places .entry)) (now (unit .exit)) f r
+        (advance stage (now (image .entry)) (assemble n (now (places .entry)) (now (unit .entry)) f))) ⌝ }
 {
     match stage {
         Stage::Wipe => return after_wipe(n),
@@ -338,7 +365,8 @@ fn step_busy(
     unit: &mut [u8; MAX_FRAME],
     frame: &[u8; MAX_FRAME],
 ) -> Stepped
-    ensures { λ r. ⌜ Steps (now (places .entry)) (now (unit .exit)) (now (frame .entry)) r (now (image .exit)) (stepBusy stage (now (image .entry)) (assemble n (now (places .entry)) (now (unit .entry)) (now (frame .entry)))) ⌝ }
+    ensures { λ r. ⌜ Steps (now (places .entry)) (now (unit .exit)) (now (frame .entry)) r (now (image .exit))
+        (stepBusy stage (now (image .entry)) (assemble n (now (places .entry)) (now (unit .entry)) (now (frame .entry)))) ⌝ }
 {
     let rest = n.rest;
     if image.len() != rest.last as usize + 1 {
@@ -359,7 +387,8 @@ fn step_core(
     unit: &mut [u8; MAX_FRAME],
     frame: &[u8; MAX_FRAME],
 ) -> Stepped
-    ensures { λ r. ⌜ Steps (now (places .entry)) (now (unit .exit)) (now (frame .entry)) r (now (image .exit)) (stepOn (now (image .entry)) (assemble n (now (places .entry)) (now (unit .entry)) (now (frame .entry)))) ⌝ }
+    ensures { λ r. ⌜ Steps (now (places .entry)) (now (unit .exit)) (now (frame .entry)) r (now (image .exit))
+        (stepOn (now (image .entry)) (assemble n (now (places .entry)) (now (unit .entry)) (now (frame .entry)))) ⌝ }
 {
     let phase = n.phase;
     match phase {
@@ -371,7 +400,8 @@ fn step_core(
 
 // A step call.
 pub fn step(image: &mut [u8], board: Record) -> Outcome
-    ensures { λ r. ⌜ (now (image .exit) ≡ stepOn (now (image .entry)) board .image) × (r .answer ≡ stepOn (now (image .entry)) board .answer) × (r .board ≡ stepOn (now (image .entry)) board .board) ⌝ }
+    ensures { λ r. ⌜ (now (image .exit) ≡ stepOn (now (image .entry)) board .image)
+        × (r .answer ≡ stepOn (now (image .entry)) board .answer) × (r .board ≡ stepOn (now (image .entry)) board .board) ⌝ }
 {
     let places = board.places;
     let mut unit = board.unit;

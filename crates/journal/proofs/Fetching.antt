@@ -6,7 +6,7 @@ use mathlib.Core.Bool.{Bool, true, false}
 use Prim.Native.Nat.{ℕ, zero, suc, _+_, _-_, _≤_, _<_}
 use native.Mathlib.Omega.{arith}
 use lib.Dec.{eqb}
-use lib.ListN.{length, getD, take, drop, length-take}
+use lib.ListN.{length, getD, take, drop}
 use lib.Seq.{take-length, take-all}
 use borrow.Author.Tests.{ne-eqb, eqb-true, eqb-false}
 use Rattle.flash.proofs.Cases.{on-test}
@@ -18,15 +18,16 @@ use Rattle.frame.specs.Code.{headOf, valueOf, valueLen, valueStart}
 use Rattle.frame.proofs.Heads.{value-len}
 use Rattle.frame.proofs.Reading.{read-blank}
 use Rattle.journal.specs.declared.Found.the-variants as found
-use Rattle.journal.specs.declared.Fetched.{Fetched}
+use Rattle.journal.specs.declared.Fetch.{Fetch}
 use Rattle.journal.specs.declared.Fetched.the-variants as fetched
 use Rattle.journal.specs.Replay.{Object, lookup, settledFrame}
 use Rattle.journal.specs.Index.{Value, onlyIf, frameValue, valueRead, valueAt, Load, load, nextSettled, isPending, nextPending, orElse, nextLoad}
-use Rattle.journal.specs.Survey.{foundOf, valueHead, pendingHead, loadOf, Inside, settledAt}
+use Rattle.journal.specs.Survey.{foundOf, valueFrom, fetchedOf}
+use Rattle.journal.specs.Pass.{valueHead, pendingHead, settledAt}
 use Rattle.journal.proofs.Lookups.{lookup-yes, lookup-no}
 use Rattle.journal.proofs.Replaying.{Rising, below-none, rising-from}
 use Rattle.journal.proofs.Places.{bytesOf}
-use Rattle.journal.proofs.FrameReads.{part-same, value-there, value-inside}
+use Rattle.journal.proofs.FrameReads.{value-there, value-inside}
 
 -- ---- by heads
 
@@ -189,16 +190,14 @@ pending-no since at (x ∷ l) f e t =
     first ∙ pending-skip since (suc at) (frameLen f - 1) l ∙ ap (λ (n : ℕ). nextPending since n 0 (drop (frameLen f - 1) l)) p
     ∙ ap (λ (n : ℕ). nextPending since (at + frameLen f) 0 (drop n (x ∷ l))) (sym q)
 
--- ---- what is fetched from a part of a block is fetched from the block
-
-pub load-part : (b : List ℕ) (e : ℕ) (r : Fetched) → Inside (take e b) r → loadOf (take e b) r ≡ loadOf b r
-load-part b e fetched.Nothing h = refl
-load-part b e (fetched.Frame f) (h, k) =
-    rw (part-same (f .value) (valueLen (f .head)) e b (omega (arith, length-take e b)))
-
-pub inside-part : (b : List ℕ) (e : ℕ) (r : Fetched) → Inside (take e b) r → Inside b r
-inside-part b e fetched.Nothing h = tt
-inside-part b e (fetched.Frame f) (h, k) = (omega (arith, length-take e b), k)
+-- a pending frame's value stands in the frame itself
+pub value-pending : (b places since : List ℕ) (at : ℕ) (f : Frame) → isPending since at f ≡ true
+    → valueFrom b places (at + frameLen f) f ≡ at + valueStart (headOf f)
+value-pending b places since at (change h (put i v)) t = omega arith
+value-pending b places since at (change h (delete i)) t = omega arith
+value-pending b places since at (commit h) t = omega arith
+value-pending b places since at (abort h) t = omega arith
+value-pending b places since at (settled i v) t = let z : _≡_ {A = ℕ} 0 1 = cc in absurd (omega arith)
 
 -- ---- the settled frames by their places
 
@@ -252,13 +251,24 @@ module _ (b : List ℕ) (end : ℕ) (places since : List ℕ) (id source : ℕ) 
   abbrev all : Option Load
   all = nextLoad b end places since id source
 
-  pub load-first : (u : Load) → some u ≡ first → some u ≡ all
-  unfolding nextLoad
-  load-first u e = ap (λ (o : Option Load). orElse o (nextPending since source 0 (drop source (take end b)))) e
+  abbrev second : Option Load
+  second = nextPending since source 0 (drop source (take end b))
 
-  pub load-part-next : none ≡ first → nextPending since source 0 (drop source (take end b)) ≡ all
-  unfolding nextLoad
-  load-part-next e = ap (λ (o : Option Load). orElse o (nextPending since source 0 (drop source (take end b)))) e
+  pub load-first : (x : Fetch) → fetched.Frame x ≡ fetchedOf b places first → fetched.Frame x ≡ fetchedOf b places all
+  unfolding nextLoad fetchedOf
+  load-first x e = go first e
+    where
+      go : (o : Option Load) → fetched.Frame x ≡ fetchedOf b places o → fetched.Frame x ≡ fetchedOf b places (orElse o second)
+      go none q = let z : _≡_ {A = ℕ} 0 1 = cc in absurd (omega arith)
+      go (some u) q = q
 
-  pub load-next : none ≡ first → length b ≤ end → nextPending since source 0 (drop source b) ≡ all
+  pub load-part-next : fetched.Nothing ≡ fetchedOf b places first → second ≡ all
+  unfolding nextLoad fetchedOf
+  load-part-next e = go first e
+    where
+      go : (o : Option Load) → fetched.Nothing ≡ fetchedOf b places o → second ≡ orElse o second
+      go none q = refl
+      go (some u) q = let z : _≡_ {A = ℕ} 0 1 = cc in absurd (omega arith)
+
+  pub load-next : fetched.Nothing ≡ fetchedOf b places first → length b ≤ end → nextPending since source 0 (drop source b) ≡ all
   load-next e l = ap (λ (x : List ℕ). nextPending since source 0 (drop source x)) (sym (take-all end b l)) ∙ load-part-next e

@@ -18,9 +18,9 @@ use Rattle.frame.specs.declared.Head.the-variants as head
 use Rattle.frame.specs.declared.FrameRead.the-variants as read
 use Rattle.frame.specs.Frame.{idOf, put, delete, Frame, change, commit, abort, settled, frameLen, total, nextAfter}
 use Rattle.frame.specs.Reader.{blank, whole, torn, wrong, readFrame, Tail, clean, cut, bad, Scan, ends, scan}
-use Rattle.frame.specs.Code.{headOf, frameOf, readOf, headLen, valueLen, valueStart}
+use Rattle.frame.specs.Code.{headOf, readOf, headLen, valueStart}
 use Rattle.frame.proofs.Answers.{wrong-read}
-use Rattle.frame.proofs.Heads.{frame-of-head, head-len}
+use Rattle.frame.proofs.Heads.{head-len}
 use Rattle.frame.proofs.Scanning.{pushAll, push-ends}
 use Rattle.journal.specs.declared.Found.the-variants as found
 use Rattle.journal.specs.declared.Fetch.{Fetch}
@@ -28,12 +28,12 @@ use Rattle.journal.specs.declared.Fetched.the-variants as fetched
 use Rattle.journal.specs.declared.Progress.{Progress}
 use Rattle.journal.specs.Block.{headerLen}
 use Rattle.journal.specs.Index.{placesOf, Value, valueAt, load, isPending, nextPending}
-use Rattle.journal.specs.Survey.{foundOf, valueHead, pendingHead, loadOf, Inside, placeFrame, commitPlaces, placeHead, nextHead, grown, closed}
-use Rattle.journal.specs.Survey.{passed, tookFrame, tookPlaces, tailOf, walkOf, settledWith, settledAt, tallyOf}
+use Rattle.journal.specs.Survey.{foundOf, orStart, fetchedOf}
+use Rattle.journal.specs.Pass.{valueHead, pendingHead, placeFrame, commitPlaces, placeHead, nextHead, grown, closed}
+use Rattle.journal.specs.Pass.{passed, tookFrame, tookPlaces, tailOf, walkOf, settledWith, settledAt, tallyOf}
 use Rattle.journal.proofs.PerHost.{pending-most}
 use Rattle.journal.proofs.FrameReads.{whole-is, blank-is, torn-is, scan-blank-at, scan-torn-at, scan-wrong-at, scan-whole-at}
-use Rattle.journal.proofs.FrameReads.{value-there, value-inside}
-use Rattle.journal.proofs.Fetching.{value-head, value-reads, InBlock, in-block, found-none, found-at, pending-head, pending-blank, pending-torn}
+use Rattle.journal.proofs.Fetching.{value-head, value-reads, InBlock, in-block, found-none, found-at, pending-head, pending-blank, pending-torn, value-pending}
 use Rattle.journal.proofs.Fetching.{pending-wrong, pending-yes, pending-no}
 use Rattle.journal.proofs.Passing.{Reached, reached-on}
 
@@ -59,13 +59,11 @@ module _ (b : List ℕ) (i : ObjectId) (p : ℕ) (l : p ≡ 0 → ⊥) where
 abbrev fetch : Head → ℕ → ℕ → ℕ → Fetch
 fetch h v i s = record { head = h; value = v; id = i; source = s }
 
-pub fetch-settled : (b : List ℕ) (i p v n s : ℕ) (x : Value) → valueAt b (idOf i) p ≡ some x → x .at ≡ v → length (x .bytes) ≡ n
-    → (loadOf b (fetched.Frame (fetch (head.Settled (idOf i) n) v (i + 1) s)) ≡ some (load (settled (idOf i) (x .bytes)) (i + 1) s))
-    × Inside b (fetched.Frame (fetch (head.Settled (idOf i) n) v (i + 1) s))
-fetch-settled b i p v n s x e q r =
-    let y : InBlock b x = in-block b (idOf i) p x e in
-    let z : take n (drop v b) ≡ x .bytes = ap₂ (λ (m o : ℕ). take m (drop o b)) (sym r) (sym q) ∙ y .same in
-    (ap (λ (u : List ℕ). some (load (settled (idOf i) u) (i + 1) s)) z, (omega (arith, y .inside), omega (arith, y .small)))
+pub fetch-settled : (b places : List ℕ) (i v n s : ℕ) (x : Value) → valueAt b (idOf i) (getD places i 0) ≡ some x → x .at ≡ v → length (x .bytes) ≡ n
+    → fetched.Frame (fetch (head.Settled (idOf i) n) v (i + 1) s) ≡ fetchedOf b places (some (load (settled (idOf i) (x .bytes)) (i + 1) s))
+unfolding fetchedOf
+fetch-settled b places i v n s x e q r =
+    ap₂ (λ (m o : ℕ). fetched.Frame (fetch (head.Settled (idOf i) m) o (i + 1) s)) (sym r) (sym (ap orStart e ∙ q))
 
 pub start-inside : (h : Head) → valueStart h ≤ headLen h
 start-inside (head.Put h i n) = omega arith
@@ -99,24 +97,16 @@ module _ (since : List ℕ) (at : ℕ) (l : List ℕ) where
         ∙ ap (λ (x : List ℕ). nextPending since (at + frameLen f) 0 x) (drop-drop (frameLen f) at l)
         ∙ ap (λ (m : ℕ). nextPending since (at + m) 0 (drop (at + m) l)) n
 
-    fetched-frame : (f : Frame) → readFrame 0 at here ≡ whole f → frameOf (headOf f) (take (valueLen (headOf f)) (drop (at + valueStart (headOf f)) l)) ≡ f
-    fetched-frame f r =
-        let q : readFrame 0 at (drop at (take (length l) l)) ≡ whole f = ap (λ (x : List ℕ). readFrame 0 at (drop at x)) (take-length l) ∙ r in
-        ap (frameOf (headOf f)) (value-there 0 at at (length l) l f q) ∙ frame-of-head f
-
-    pub fetch-pending : pendingHead since at h ≡ true
-        → (loadOf l (fetched.Frame (fetch h (at + valueStart h) 256 (at + headLen h))) ≡ nextPending since at 0 here)
-        × Inside l (fetched.Frame (fetch h (at + valueStart h) 256 (at + headLen h)))
-    fetch-pending t =
+    pub fetch-pending : pendingHead since at h ≡ true → (b places : List ℕ)
+        → fetched.Frame (fetch h (at + valueStart h) 256 (at + headLen h)) ≡ fetchedOf b places (nextPending since at 0 here)
+    unfolding fetchedOf
+    fetch-pending t b places =
         let f : Frame = read-as .0 in
-        let r : readFrame 0 at here ≡ whole f = read-as .1 in
-        let q : readFrame 0 at (drop at (take (length l) l)) ≡ whole f = ap (λ (x : List ℕ). readFrame 0 at (drop at x)) (take-length l) ∙ r in
         let p : isPending since at f ≡ true = sym (pending-head since at f) ∙ ap (pendingHead since at) (read-as .2) ∙ t in
         let n : at + headLen (headOf f) ≡ at + frameLen f = omega (arith, head-len f) in
-        subst
-        (λ (k : Head). (loadOf l (fetched.Frame (fetch k (at + valueStart k) 256 (at + headLen k))) ≡ nextPending since at 0 here)
-        × Inside l (fetched.Frame (fetch k (at + valueStart k) 256 (at + headLen k)))) (read-as .2)
-        (ap₂ (λ (g : Frame) (m : ℕ). some (load g 256 m)) (fetched-frame f r) n ∙ sym (pending-yes since at here f r p), value-inside 0 at at (length l) l f q)
+        subst (λ (k : Head). fetched.Frame (fetch k (at + valueStart k) 256 (at + headLen k)) ≡ fetchedOf b places (nextPending since at 0 here)) (read-as .2)
+        (ap₂ (λ (v m : ℕ). fetched.Frame (fetch (headOf f) v 256 m)) (sym (value-pending b places since at f p)) n
+        ∙ ap (fetchedOf b places) (sym (pending-yes since at here f (read-as .1) p)))
 
 -- ---- a commit's pass
 

@@ -17,7 +17,7 @@ use Rattle.frame.proofs.Encode.{total-snoc}
 use Rattle.journal.specs.Block.{headerLen}
 use Rattle.journal.specs.Replay.{ObjectOf, object, EntryOf, StateOf, insert, remove, lookup, change1, changeAll, listOf, nextState, replay}
 use Rattle.journal.specs.Index.{sited, orZero, placesFrom, placesOf, isEnd, pick, sinceFrom, sinceHost}
-use Rattle.journal.specs.Survey.{placeChange, placeIf, placeFrame, commitPlaces}
+use Rattle.journal.specs.Pass.{placeChange, placeIf, placeFrame, commitPlaces}
 use Rattle.journal.proofs.Lookups.{lookup-yes, lookup-no, lookup-insert, lookup-insert-other, lookup-remove, lookup-remove-other}
 use Rattle.journal.proofs.Replaying.{replay-snoc, above-none, sound-replay}
 use Rattle.journal.proofs.Mapping.{located-sited, located-snoc}

@@ -17,6 +17,7 @@ pub mod FrameReads
 pub mod PerHost
 pub mod Passing
 pub mod Fetching
+pub mod Copying
 pub mod HeadLaws
 pub mod Surveying
 pub mod ObjectLaws

@@ -19,7 +19,8 @@ use Rattle.journal.specs.declared.Progress.{Progress}
 use Rattle.journal.specs.Block.{headerLen}
 use Rattle.journal.specs.Replay.{Entry, State, nextState, replay}
 use Rattle.journal.specs.Index.{placesOf, isEnd, pick, sinceHost, sinceOf}
-use Rattle.journal.specs.Survey.{pendingBytes, pendingOf, commitPlaces, recommit, progress, progressOf, grown, closed, passed, tookFrame, tookPlaces}
+use Rattle.journal.specs.Survey.{pendingBytes, pendingOf}
+use Rattle.journal.specs.Pass.{commitPlaces, recommit, progress, progressOf, grown, closed, passed, tookFrame, tookPlaces}
 use Rattle.journal.proofs.Replaying.{replay-snoc}
 use Rattle.journal.proofs.Places.{stands-zero}
 use Rattle.journal.proofs.Pending.{since-snoc, since-at}

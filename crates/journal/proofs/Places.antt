@@ -65,9 +65,9 @@ stands-zero n (abort h) g = g
 stands-zero n (settled i v) (a, b, c) = (omega arith, b, c)
 
 -- a frame whose value v stands n bytes in
-value-stands : (pre front v back rest : List ℕ) (i : ObjectId) (o n m : ℕ) (f : Frame) → length pre ≡ o → length front ≡ n → headerLen ≤ o → MayStand m f
+value-placed : (pre front v back rest : List ℕ) (i : ObjectId) (o n m : ℕ) (f : Frame) → length pre ≡ o → length front ≡ n → headerLen ≤ o → MayStand m f
     → encode f ++ rest ≡ front ++ (v ++ back) → 1 ≤ n → frameValue i o f ≡ some (record { at = o + n; bytes = v }) → ValueStands (pre ++ (encode f ++ rest)) i o v
-value-stands pre front v back rest i o n m f l k h g e s q =
+value-placed pre front v back rest i o n m f l k h g e s q =
     let b : List ℕ = pre ++ (encode f ++ rest) in
     let e′ : b ≡ pre ++ (front ++ (v ++ back)) = ap (λ (x : List ℕ). pre ++ x) e in
     let t : o + n + length v ≤ length b = subst (λ (x : List ℕ). o + n + length v ≤ length x) (sym e′) (slice-in pre front v back o n l k) in
@@ -86,12 +86,12 @@ SpotStands b i x = ValueStands b i (x .place) (x .bytes)
 spot-stands : (pre rest : List ℕ) (o m : ℕ) (f : Frame) → length pre ≡ o → headerLen ≤ o → MayStand m f
     → OfFrame (SpotStands (pre ++ (encode f ++ rest))) (mapFrame (spot o) f)
 spot-stands pre rest o m (change h (put i v)) l k g =
-    value-stands pre (take 7 (encode (change h (put i v)))) v (254 ∷ rest) rest i o 7 m (change h (put i v)) l refl k g (simp append-assoc) (omega arith) (own i _)
+    value-placed pre (take 7 (encode (change h (put i v)))) v (254 ∷ rest) rest i o 7 m (change h (put i v)) l refl k g (simp append-assoc) (omega arith) (own i _)
 spot-stands pre rest o m (change h (delete i)) l k g = tt
 spot-stands pre rest o m (commit h) l k g = tt
 spot-stands pre rest o m (abort h) l k g = tt
 spot-stands pre rest o m (settled i v) l k g =
-    value-stands pre (take 6 (encode (settled i v))) v (254 ∷ rest) rest i o 6 m (settled i v) l refl k g (simp append-assoc) (omega arith) (own i _)
+    value-placed pre (take 6 (encode (settled i v))) v (254 ∷ rest) rest i o 6 m (settled i v) l refl k g (simp append-assoc) (omega arith) (own i _)
 
 spots-hold : (b pre : List ℕ) (o m : ℕ) (fs : List Frame) (rest : List ℕ) → length pre ≡ o → headerLen ≤ o → AllMayStand m fs
     → b ≡ pre ++ (encodeAll fs ++ rest)

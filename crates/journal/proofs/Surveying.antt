@@ -3,15 +3,17 @@ use mathlib.Core.Path.{_≡_, refl, sym, ap, ap₂, subst, _∙_}
 use mathlib.Core.List.{List, [], _∷_, _++_, map}
 use mathlib.Core.Option.{Option, none, some}
 use mathlib.Core.Bool.{true, false}
-use Prim.Native.Nat.{ℕ, suc, _+_, _≤_}
+use Prim.Native.Nat.{ℕ, suc, _+_, _≤_, _<_}
 use native.Mathlib.Omega.{arith}
 use lib.Dec.{eqb}
 use lib.ListN.{length, getD, take, drop, replicate, length-drop, take-append-drop}
 use lib.Seq.{length-take-le}
+use borrow.Author.Tests.{le-leb, lt-leb}
 use Rattle.flash.specs.Bytes.{allFF}
 use Rattle.frame.specs.declared.Fault.{Fault}
+use Rattle.frame.specs.declared.Field.the-variants as field
 use Rattle.frame.specs.Frame.{Frame, total, nextOf}
-use Rattle.frame.specs.Reader.{Tail, clean, cut, bad, Scan, scan, ends}
+use Rattle.frame.specs.Reader.{fault, Tail, clean, cut, bad, Scan, scan, ends}
 use Rattle.frame.specs.Sentences.{Torn}
 use Rattle.frame.proofs.Scanned.{Scanned, scan-inv, scan-length, tail-cut}
 use Rattle.journal.specs.declared.HeaderCheck.the-variants as check
@@ -22,10 +24,11 @@ use Rattle.journal.specs.declared.BlockKind.{BlockKind}
 use Rattle.journal.specs.declared.BlockKind.the-variants as kind
 use Rattle.journal.specs.declared.Survey.{Survey}
 use Rattle.journal.specs.Replay.{Object, lookup, listOf, replay, replayFrom, settledFrame}
-use Rattle.journal.specs.Block.{headerLen, stateAt, inTransfer, createdAt, headerFault, BlockState, blank, inProgress, valid, foreign, ofTail}
+use Rattle.journal.specs.Block.{headerLen, blockMax, stateAt, inTransfer, createdAt, headerFault, BlockState, blank, inProgress, valid, foreign, ofTail}
 use Rattle.journal.specs.Block.{ofHeader, blockState}
 use Rattle.journal.specs.Index.{sited, placesFrom, placesOf, sinceFrom, sinceOf}
-use Rattle.journal.specs.Survey.{headerOf, pendingOf, tornLen, surveyOf, placesIn, progressOf, tailOf, walkOf, settledAt, emptySurvey, foundSurvey}
+use Rattle.journal.specs.Survey.{pendingOf, tornLen, surveyOf, placesIn, stateOf}
+use Rattle.journal.specs.Pass.{headerOf, progressOf, tailOf, walkOf, settledAt, emptySurvey, foundSurvey}
 use Rattle.journal.proofs.Replaying.{rising-to, Sound, sound-replay}
 use Rattle.journal.proofs.Places.{Journal, place-value}
 use Rattle.journal.proofs.Fetching.{collect}
@@ -63,6 +66,28 @@ Right s r t = (r ≡ surveyOf s) × (t ≡ placesIn s)
 empty-right : {s : BlockState} {k : BlockKind} {q : BlockState} {r : Survey} {t : List ℕ} → Empty s k → q ≡ s → r ≡ emptySurvey k → t ≡ placesOf [] → Right q r t
 empty-right {s} {k} {q} {r} {t} e p u v =
     subst (λ (x : BlockState). Right x r t) (sym p) (u ∙ e .survey, v ∙ e .places)
+
+pub right-empty : (x : Fault) (r : Survey) (t : List ℕ) → r ≡ emptySurvey (kind.Foreign x) → t ≡ placesOf [] → Right (foreign x) r t
+right-empty x r t u v = empty-right (empty-foreign x) refl u v
+
+-- ---- by the block's length
+
+module _ (b : List ℕ) where
+  pub half-short : length b < headerLen → stateOf b ≡ foreign (fault field.Length 0)
+  unfolding stateOf
+  half-short l = rw (lt-leb headerLen (length b) l, stateOf)
+
+  pub half-long : headerLen ≤ length b → blockMax < length b → stateOf b ≡ foreign (fault field.Length 0)
+  unfolding stateOf
+  half-long l m = rw (le-leb headerLen (length b) l, lt-leb (length b) blockMax m, stateOf)
+
+  -- callers' blocks are halves
+  pub half-fits : (headerLen ≤ length b) × (length b ≤ blockMax) → stateOf b ≡ blockState b
+  unfolding stateOf
+  half-fits (l, m) = rw (le-leb headerLen (length b) l, le-leb (length b) blockMax m, stateOf)
+
+  pub right-as : (s : BlockState) (r : Survey) (t : List ℕ) → stateOf b ≡ s → Right s r t → Right (stateOf b) r t
+  right-as s r t e y = subst (λ (x : BlockState). Right x r t) (sym e) y
 
 -- ---- which state
 

@@ -3,6 +3,7 @@ pub mod Block
 pub mod Room
 pub mod Index
 pub mod Survey
+pub mod Pass
 pub mod Examples
 pub mod Sentences
 pub mod Laws

@@ -1,44 +1,28 @@
--- What one pass over a block finds, and what the code's answers stand for.
+-- What a survey says of a block, and what the code's answers stand for.
 use mathlib.Core.List.{List, [], _∷_, map}
 use mathlib.Core.Option.{Option, none, some}
 use mathlib.Core.Bool.{Bool, true, false, _&&_}
 use mathlib.Core.Path.{_≡_}
-use Prim.Native.Nat.{ℕ, zero, suc, _+_, _≤_}
-use lib.Dec.{eqb, leb}
-use lib.ListN.{length, getD, take, drop, set}
+use Prim.Native.Nat.{ℕ, _+_, _-_, _≤_}
+use lib.Dec.{leb}
+use lib.ListN.{length, getD, take, drop}
 use Rattle.frame.specs.declared.Host.{Host}
-use Rattle.frame.specs.declared.ObjectId.{ObjectId}
-use Rattle.frame.specs.declared.Fault.{Fault}
-use Rattle.frame.specs.declared.Head.{Head}
-use Rattle.frame.specs.declared.Head.the-variants as head
-use Rattle.frame.specs.Frame.{hostOf, idOf, valueMax, ChangeOf, put, delete, Frame, change, commit, abort, settled, mapChange}
-use Rattle.frame.specs.Frame.{frameLen, putValueAt, settledValueAt, putLen, deleteLen, endLen, settledLen, total, nextOf}
-use Rattle.frame.specs.Reader.{clean, cut, bad, Scan, scan}
-use Rattle.frame.specs.Reader.{Tail as ScanTail}
-use Rattle.frame.specs.Code.{frameOf, valueLen}
-use Rattle.journal.specs.declared.HeaderCheck.{HeaderCheck}
-use Rattle.journal.specs.declared.HeaderCheck.the-variants.{Sound, Bad}
+use Rattle.frame.specs.declared.Field.the-variants as field
+use Rattle.frame.specs.Frame.{hostOf, valueMax, Frame, change, commit, abort, settled, frameLen, total}
+use Rattle.frame.specs.Reader.{fault, Tail, clean, cut, bad}
+use Rattle.frame.specs.Code.{headOf, frameOf, valueLen, valueStart}
 use Rattle.journal.specs.declared.Found.{Found}
 use Rattle.journal.specs.declared.Found.the-variants as found
 use Rattle.journal.specs.declared.Fetch.{Fetch}
 use Rattle.journal.specs.declared.Fetched.{Fetched}
 use Rattle.journal.specs.declared.Fetched.the-variants as fetched
-use Rattle.journal.specs.declared.Progress.{Progress}
-use Rattle.journal.specs.declared.Tail.{Tail}
-use Rattle.journal.specs.declared.Tail.the-variants as tail
-use Rattle.journal.specs.declared.Walk.{Walk}
 use Rattle.journal.specs.declared.BlockKind.{BlockKind}
 use Rattle.journal.specs.declared.BlockKind.the-variants as kind
-use Rattle.journal.specs.declared.Tally.{Tally}
 use Rattle.journal.specs.declared.Survey.{Survey}
 use Rattle.journal.specs.Replay.{Entry, listOf, replay}
-use Rattle.journal.specs.Block.{headerLen, createdAt, BlockState, blank, inProgress, valid, foreign, framesIn, timeIn}
+use Rattle.journal.specs.Block.{headerLen, blockMax, BlockState, blank, inProgress, valid, foreign, blockState, framesIn, timeIn}
 use Rattle.journal.specs.Room.{used}
 use Rattle.journal.specs.Index.{placesOf, sinceOf, Value, valueAt, Load, load}
-
-abbrev pub headerOf : Option Fault → HeaderCheck
-headerOf none = Sound
-headerOf (some e) = Bad e
 
 -- ---- a block
 
@@ -58,7 +42,7 @@ kindIn inProgress = kind.InProgress
 kindIn (valid t fs c) = kind.Valid
 kindIn (foreign e) = kind.Foreign e
 
-abbrev pub tornLen : ScanTail → ℕ
+abbrev pub tornLen : Tail → ℕ
 tornLen clean = 0
 tornLen (cut n) = n
 tornLen (bad e) = 0
@@ -87,31 +71,39 @@ surveyOf s =
 abbrev pub placesIn : BlockState → List ℕ
 placesIn s = placesOf (framesIn s)
 
+-- no half is shorter than its header, or so long that an offset might need more than sixteen bits
+abbrev pub halfLen : ℕ → Bool
+halfLen n = leb headerLen n && leb n blockMax
+
+-- the state that a survey tells of: a block of no half's length is foreign, whatever stands in it
+unfoldable pub stateOf : List ℕ → BlockState
+stateOf b = elim (halfLen (length b)) [ true ↦ blockState b | false ↦ foreign (fault field.Length 0) ]
+
 -- ---- a value, and a frame to copy
 
 abbrev pub foundOf : Option Value → Found
 foundOf none = found.Nothing
 foundOf (some x) = found.At (x .at) (length (x .bytes))
 
-abbrev pub onlyAt : Bool → ℕ → ℕ → Found
-onlyAt true p n = found.At p n
-onlyAt false p n = found.Nothing
+-- where a frame to copy has its value: a settled one where its id's place tells, any other in itself, which ends at the cursor's offset
+abbrev pub orStart : Option Value → ℕ
+orStart none = 0
+orStart (some x) = x .at
 
--- the value of an id in a frame at offset p, by the frame's head
-unfoldable pub valueHead : ObjectId → ℕ → Head → Found
-valueHead i p (head.Put h j n) = onlyAt (eqb (i .0) (j .0)) (p + putValueAt) n
-valueHead i p (head.Delete h j) = found.Nothing
-valueHead i p (head.Commit h) = found.Nothing
-valueHead i p (head.Abort h) = found.Nothing
-valueHead i p (head.Settled j n) = onlyAt (eqb (i .0) (j .0)) (p + settledValueAt) n
+abbrev pub valueFrom : List ℕ → List ℕ → ℕ → Frame → ℕ
+valueFrom b places s (change h c) = s - frameLen (change h c) + valueStart (headOf (change h c))
+valueFrom b places s (commit h) = s - frameLen (commit h) + valueStart (headOf (commit h))
+valueFrom b places s (abort h) = s - frameLen (abort h) + valueStart (headOf (abort h))
+valueFrom b places s (settled i v) = orStart (valueAt b i (getD places (i .0) 0))
 
--- a put or delete at or past its host's `since`, by the head
-unfoldable pub pendingHead : List ℕ → ℕ → Head → Bool
-pendingHead since at (head.Put h i n) = leb (getD since (h .0) 0) at
-pendingHead since at (head.Delete h i) = leb (getD since (h .0) 0) at
-pendingHead since at (head.Commit h) = false
-pendingHead since at (head.Abort h) = false
-pendingHead since at (head.Settled i n) = false
+abbrev pub fetchOf : List ℕ → List ℕ → Load → Fetch
+fetchOf b places l =
+    record { head = headOf (l .frame); value = valueFrom b places (l .source) (l .frame); id = l .id; source = l .source }
+
+-- the answer of a search for a frame to copy from block b
+unfoldable pub fetchedOf : List ℕ → List ℕ → Option Load → Fetched
+fetchedOf b places none = fetched.Nothing
+fetchedOf b places (some l) = fetched.Frame (fetchOf b places l)
 
 -- the frame that was found in block b, and the cursor after it
 abbrev pub loadIn : List ℕ → Fetch → Load
@@ -127,130 +119,6 @@ abbrev pub Inside : List ℕ → Fetched → Type 0
 Inside b fetched.Nothing = Unit {0}
 Inside b (fetched.Frame f) = (f .value + valueLen (f .head) ≤ length b) × (valueLen (f .head) ≤ valueMax)
 
--- the answer of a search for a frame to copy
+-- what such an answer is good for: proofs/Copying.antt shows it of `fetchedOf` and `nextLoad`
 abbrev pub Fetches : List ℕ → Fetched → Option Load → Type 0
 Fetches b r o = (loadOf b r ≡ o) × Inside b r
-
--- ---- the pass as the code makes it: proofs/Passing.antt and Surveying.antt tie it to the above
-
--- the frames of a block, and what follows them, past its header
-abbrev pub scanBlock : List ℕ → Scan
-scanBlock b = scan 0 headerLen 0 (drop headerLen b)
-
--- what a change of a frame at offset p does: a put's place is p, and a delete leaves none
-abbrev pub placeChange : ChangeOf ℕ → List ℕ → List ℕ
-placeChange (put i p) t = set t (i .0) p
-placeChange (delete i) t = set t (i .0) 0
-
-abbrev pub placeIf : Bool → ChangeOf ℕ → List ℕ → List ℕ
-placeIf true c t = placeChange c t
-placeIf false c t = t
-
--- what a frame at offset o does in a commit of host h, whose pending part starts at d
-abbrev pub placeFrame : Host → ℕ → ℕ → Frame → List ℕ → List ℕ
-placeFrame h d o (change g c) t = placeIf (eqb (h .0) (g .0) && leb d o) (mapChange (λ v. o) c) t
-placeFrame h d o (commit g) t = t
-placeFrame h d o (abort g) t = t
-placeFrame h d o (settled i v) t = t
-
-unfoldable pub commitPlaces : Host → ℕ → ℕ → List ℕ → List Frame → List ℕ
-commitPlaces h d o t [] = t
-commitPlaces h d o t (f ∷ fs) = commitPlaces h d (o + frameLen f) (placeFrame h d o f t) fs
-
--- the same by the frame's head, where d ≤ o
-unfoldable pub placeHead : Host → ℕ → Head → List ℕ → List ℕ
-placeHead h o (head.Put g i n) t = placeIf (eqb (h .0) (g .0)) (put i o) t
-placeHead h o (head.Delete g i) t = placeIf (eqb (h .0) (g .0)) (delete i) t
-placeHead h o (head.Commit g) t = t
-placeHead h o (head.Abort g) t = t
-placeHead h o (head.Settled i n) t = t
-
--- a commit of host h, whose `since` is d, at the end of some bytes: its puts and deletes from there on are read again
-unfoldable pub recommit : List ℕ → Host → ℕ → List ℕ → List ℕ
-recommit l h d t = commitPlaces h d d t (scan 0 d 0 (drop d l) .frames)
-
-abbrev pub nextHead : Head → ℕ
-nextHead (head.Put h i n) = 256
-nextHead (head.Delete h i) = 256
-nextHead (head.Commit h) = 256
-nextHead (head.Abort h) = 256
-nextHead (head.Settled i n) = suc (i .0)
-
-abbrev pub progress : ℕ → ℕ → List ℕ → List ℕ → Progress
-progress e n ms ps = record { end = e; next = n; since = ms; pending = ps }
-
-abbrev pub progressOf : List Frame → Progress
-progressOf fs = progress (headerLen + total fs) (nextOf 0 fs) (sinceOf fs) (pendingOf fs)
-
--- a host's change of n bytes
-unfoldable pub grown : Progress → Host → ℕ → Progress
-grown p h n = progress (p .end + n) 256 (p .since) (set (p .pending) (h .0) (getD (p .pending) (h .0) 0 + n))
-
--- a host's commit or abort
-unfoldable pub closed : Progress → Host → Progress
-closed p h = progress (p .end + endLen) 256 (set (p .since) (h .0) (p .end + endLen)) (set (p .pending) (h .0) 0)
-
--- a settled frame of n bytes
-unfoldable pub passed : Progress → ObjectId → ℕ → Progress
-passed p i n = progress (p .end + n) (suc (i .0)) (p .since) (p .pending)
-
-unfoldable pub tookFrame : Progress → Head → Progress
-tookFrame p (head.Put h i n) = grown p h (putLen n)
-tookFrame p (head.Delete h i) = grown p h deleteLen
-tookFrame p (head.Commit h) = closed p h
-tookFrame p (head.Abort h) = closed p h
-tookFrame p (head.Settled i n) = passed p i (settledLen n)
-
-unfoldable pub tookPlaces : List ℕ → Progress → Head → List ℕ → List ℕ
-tookPlaces b p (head.Put h i n) t = t
-tookPlaces b p (head.Delete h i) t = t
-tookPlaces b p (head.Commit h) t = recommit (take (p .end) b) h (getD (p .since) (h .0) 0) t
-tookPlaces b p (head.Abort h) t = t
-tookPlaces b p (head.Settled i n) t = set t (i .0) (p .end)
-
-abbrev pub tailOf : ScanTail → Tail
-tailOf clean = tail.Clean
-tailOf (cut n) = tail.Cut n
-tailOf (bad e) = tail.Bad e
-
-abbrev pub walkOf : Scan → Walk
-walkOf s = record { progress = progressOf (s .frames); tail = tailOf (s .tail) }
-
--- what each of n settled ids from i on is, as its place tells
-abbrev pub settledWith : ObjectId → Option Value → List Frame → List Frame
-settledWith i none fs = fs
-settledWith i (some x) fs = settled i (x .bytes) ∷ fs
-
-unfoldable pub settledAt : List ℕ → List ℕ → ℕ → ℕ → List Frame
-settledAt b places zero i = []
-settledAt b places (suc n) i = settledWith (idOf i) (valueAt b (idOf i) (getD places i 0)) (settledAt b places n (suc i))
-
-abbrev pub tallyOf : List Frame → Tally
-tallyOf fs = record { count = length fs; used = headerLen + total fs }
-
-unfoldable pub emptySurvey : BlockKind → Survey
-emptySurvey k =
-    record {
-      kind = k;
-      time = 0;
-      end = headerLen;
-      torn = 0;
-      since = perHost (λ h. headerLen);
-      pending = perHost (λ h. 0);
-      count = 0;
-      used = headerLen;
-    }
-
-unfoldable pub foundSurvey : List ℕ → List ℕ → Progress → ℕ → Survey
-foundSurvey b places p n =
-    let t : Tally = tallyOf (settledAt b places 256 0) in
-    record {
-      kind = kind.Valid;
-      time = createdAt b;
-      end = p .end;
-      torn = n;
-      since = p .since;
-      pending = p .pending;
-      count = t .count;
-      used = t .used;
-    }

@@ -4,9 +4,13 @@ ghost use mathlib.Core.List.{[]};
 ghost use mathlib.Core.Option.{none};
 ghost use Prim.Native.Nat.{_≤_, _<_};
 ghost use lib.ListN.{length, replicate};
-ghost use Rattle.journal.specs.Block.{headerLen, blockMax, ofHeader, blockState};
+ghost use Rattle.frame.specs.Reader.{fault};
+ghost use Rattle.frame.specs.declared.Field.the-variants.{Length};
+ghost use Rattle.journal.specs.Block.{headerLen, blockMax, foreign, ofHeader, blockState};
 ghost use Rattle.journal.specs.Index.{placesOf};
-ghost use Rattle.journal.specs.Survey.{scanBlock, settledAt, tallyOf, progressOf, walkOf, emptySurvey, foundSurvey, surveyOf, placesIn};
+ghost use Rattle.journal.specs.Survey.{surveyOf, placesIn, stateOf};
+ghost use Rattle.journal.specs.Pass.{scanBlock, settledAt, tallyOf, progressOf, walkOf, emptySurvey, foundSurvey};
+use crate::BLOCK_MAX;
 use crate::BlockKind;
 use crate::Found;
 use crate::HEADER_LEN;
@@ -21,6 +25,8 @@ use crate::Walk;
 use crate::header;
 use crate::index;
 use crate::pass;
+use frame::Fault;
+use frame::Field;
 use frame::FrameRead;
 use frame::ObjectId;
 use frame::SETTLED_LEN;
@@ -166,8 +172,8 @@ fn survey_frames(block: &[u8], places: &mut [u16; 256]) -> Survey
     }
 }
 
-// All that there is to know of a block, and the place of every id. The board looks only at blocks of 256 to 32,768 bytes.
-pub fn survey_block(block: &[u8], places: &mut [u16; 256]) -> Survey
+// A block of a half's length.
+fn survey_half(block: &[u8], places: &mut [u16; 256]) -> Survey
     requires { ⌜ (headerLen ≤ length (now block)) × (length (now block) ≤ blockMax) ⌝ }
     ensures { λ r. ⌜ (r ≡ surveyOf (blockState (now (block .entry)))) × (now (places .exit) ≡ placesIn (blockState (now (block .entry)))) ⌝ }
 {
@@ -182,4 +188,28 @@ pub fn survey_block(block: &[u8], places: &mut [u16; 256]) -> Survey
         HeaderCheck::Bad(fault) => return empty(BlockKind::Foreign(fault)),
         HeaderCheck::Sound => return survey_frames(block, places),
     }
+}
+
+// A block of another length has no frames.
+fn no_half(places: &mut [u16; 256]) -> Survey
+    ensures { λ r. ⌜ (r ≡ surveyOf (foreign (fault Length 0))) × (now (places .exit) ≡ placesIn (foreign (fault Length 0))) ⌝ }
+{
+    clear(places);
+    empty(BlockKind::Foreign(Fault {
+        field: Field::Length,
+        place: 0,
+    }))
+}
+
+// All that there is to know of a block, and the place of every id.
+pub fn survey_block(block: &[u8], places: &mut [u16; 256]) -> Survey
+    ensures { λ r. ⌜ (r ≡ surveyOf (stateOf (now (block .entry)))) × (now (places .exit) ≡ placesIn (stateOf (now (block .entry)))) ⌝ }
+{
+    if block.len() < HEADER_LEN {
+        return no_half(places);
+    }
+    if BLOCK_MAX < block.len() {
+        return no_half(places);
+    }
+    survey_half(block, places)
 }

@@ -5,7 +5,7 @@ ghost use Prim.Native.Nat.{_-_, _<_};
 ghost use lib.ListN.{getD, take, drop};
 ghost use Rattle.flash.specs.Bytes.{allFF, sameBytes};
 ghost use Rattle.journal.specs.Block.{headerLen, spareAt, createdAt, headerFault};
-ghost use Rattle.journal.specs.Survey.{headerOf};
+ghost use Rattle.journal.specs.Pass.{headerOf};
 use crate::HEADER_LEN;
 use crate::HeaderCheck;
 use crate::SPARE_AT;

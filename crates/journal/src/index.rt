@@ -1,9 +1,11 @@
 // Values by their places, and the frames that a transfer copies.
 ghost use mathlib.Core.Path.{_≡_};
-ghost use Prim.Native.Nat.{_-_, _<_};
+ghost use mathlib.Core.List.{List};
+ghost use Prim.Native.Nat.{ℕ, _-_, _<_};
 ghost use lib.ListN.{length, drop};
 ghost use Rattle.journal.specs.Index.{valueAt, nextSettled, nextPending, nextLoad};
-ghost use Rattle.journal.specs.Survey.{foundOf, valueHead, pendingHead, Fetches};
+ghost use Rattle.journal.specs.Survey.{foundOf, fetchedOf};
+ghost use Rattle.journal.specs.Pass.{valueHead, pendingHead};
 use crate::Fetch;
 use crate::Fetched;
 use crate::Found;
@@ -54,7 +56,7 @@ pub fn value_at(block: &[u8], id: ObjectId, place: u16) -> Found
 
 // The settled frame of the first id from `id` on whose place holds its value.
 fn next_settled(block: &[u8], places: &[u16; 256], id: u16, source: u16) -> Fetched
-    ensures { λ r. ⌜ Fetches (now (block .entry)) r (nextSettled (now (block .entry)) (now (places .entry)) source (256 - id) id) ⌝ }
+    ensures { λ r. ⌜ r ≡ fetchedOf (now (block .entry)) (now (places .entry)) (nextSettled (now (block .entry)) (now (places .entry)) source (256 - id) id) ⌝ }
 {
     let mut i = id;
     while i < 256 {
@@ -88,10 +90,10 @@ fn is_pending(since: [u16; 4], at: usize, head: Head) -> bool
     }
 }
 
-// The first pending frame of a journal that starts at `source`; an offset past it must fit a u16.
+// The first pending frame of a journal that starts at `source`, wherever its settled values stand; an offset past it must fit a u16.
 fn next_pending(part: &[u8], since: [u16; 4], source: u16) -> Fetched
     requires { ⌜ length (now part) < 65536 ⌝ }
-    ensures { λ r. ⌜ Fetches (now (part .entry)) r (nextPending since source 0 (drop source (now (part .entry)))) ⌝ }
+    ensures { λ r. ⌜ ((b places : List ℕ) → r ≡ fetchedOf b places (nextPending since source 0 (drop source (now (part .entry))))) ⌝ }
 {
     let mut at = source as usize;
     loop {
@@ -130,7 +132,7 @@ pub fn next_load(
     id: u16,
     source: u16,
 ) -> Fetched
-    ensures { λ r. ⌜ Fetches (now (block .entry)) r (nextLoad (now (block .entry)) end (now (places .entry)) since id source) ⌝ }
+    ensures { λ r. ⌜ r ≡ fetchedOf (now (block .entry)) (now (places .entry)) (nextLoad (now (block .entry)) end (now (places .entry)) since id source) ⌝ }
 {
     let e = end as usize;
     match next_settled(block, places, id, source) {

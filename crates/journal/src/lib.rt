@@ -25,6 +25,9 @@ pub const IN_TRANSFER: u8 = 254;
 
 pub const VALID_DATA: u8 = 252;
 
+// The longest block: its offsets fit a u16.
+pub const BLOCK_MAX: usize = 32768;
+
 // What is wrong with a header, if anything is.
 pub enum HeaderCheck {
     Sound,

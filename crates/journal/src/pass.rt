@@ -5,7 +5,7 @@ ghost use lib.ListN.{length, getD, set};
 ghost use Rattle.frame.specs.Frame.{endLen};
 ghost use Rattle.frame.specs.Code.{headLen};
 ghost use Rattle.journal.specs.Block.{blockMax};
-ghost use Rattle.journal.specs.Survey.{placeHead, nextHead, recommit, grown, closed, passed, tookFrame, tookPlaces};
+ghost use Rattle.journal.specs.Pass.{placeHead, nextHead, recommit, grown, closed, passed, tookFrame, tookPlaces};
 use crate::Progress;
 use crate::hosts;
 use frame::END_LEN;

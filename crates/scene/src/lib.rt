@@ -154,7 +154,7 @@ pub fn ask_some(d: Bench, host: u8, message: &[u8], most: usize) -> Bench
     let image = d.image;
     let board = d.board;
     let mut reply = [0xEE; 16];
-    let begun = store::request(&image, board, Host(host), message, &mut reply);
+    let begun = queue::request(&image, board, Host(host), message, &mut reply);
     went(image, begun, reply, most)
 }
 
@@ -246,7 +246,7 @@ fn object(d: Bench, id: u8) -> usize
     say(b" ");
     number(id as usize);
     say(b" of ");
-    number(store::read(&image, board, Host(0), &message).len());
+    number(queue::read(&image, board, Host(0), &message).len());
     say(b" bytes");
     1
 }

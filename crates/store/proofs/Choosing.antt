@@ -22,7 +22,7 @@ use Rattle.board.specs.Mount.{Found, wipeList, wipeArray, needsTransfer, mountA
 use Rattle.board.proofs.Deciding.{foundIn, store}
 use Rattle.store.specs.Calls.{outcomeOf, needsIn, wipeOther, chooseValid, chooseOf, mountIn, mountChosen}
 use Rattle.store.proofs.Images.{block-fits}
-use Rattle.store.proofs.Rooms.{needs-is}
+use Rattle.store.proofs.Transfers.{needs-is}
 
 pub outcome-cond : (t : Bool) (x y : Out) → outcomeOf (cond t x y) ≡ cond t (outcomeOf x) (outcomeOf y)
 outcome-cond true x y = refl
@@ -47,7 +47,8 @@ Mounts img a b =
     mountChosen (length img - 1) (chooseOf (surveyOf a) (surveyOf b)) (surveyOf a) (placesIn a) (surveyOf b) (placesIn b)
     ≡ outcomeOf (mountFound img (foundIn a b))
 
-both-valid : (img : List ℕ) (t u : ℕ) (fs gs : List Frame) (c d : Tail) → Told (valid t fs c) → Told (valid u gs d) → Mounts img (valid t fs c) (valid u gs d)
+both-valid : (img : List ℕ) (t u : ℕ) (fs gs : List Frame) (c d : Tail) → Told (valid t fs c) → Told (valid u gs d) → Mounts img
+    (valid t fs c) (valid u gs d)
 unfolding chooseOf chooseValid mountFound surveyOf
 both-valid img t u fs gs c d p q =
     let xs : List Found = foundIn (valid t fs c) (valid u gs d) in
@@ -91,5 +92,6 @@ pub mounts : (img : List ℕ) → allowed (length img) ≡ true → Bytes img
     mountChosen (length img - 1) (chooseOf (surveyOf a) (surveyOf b)) (surveyOf a) (placesIn a) (surveyOf b) (placesIn b) ≡ outcomeOf (mountOn img)
 unfolding mountOn
 mounts img a y =
-    mounts-two img (blockState (block (sizeOf img) 0 img)) (blockState (block (sizeOf img) 1 img)) (told img 0 a y (omega arith)) (told img 1 a y (omega arith))
+    mounts-two img (blockState (block (sizeOf img) 0 img)) (blockState (block (sizeOf img) 1 img)) (told img 0 a y (omega arith))
+    (told img 1 a y (omega arith))
     ∙ sym (rw (a, mountOn))

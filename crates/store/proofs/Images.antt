@@ -1,23 +1,14 @@
--- The image's bytes and its blocks.
-use mathlib.Core.Path.{_≡_, refl, ap}
+-- The image's blocks.
+use mathlib.Core.Path.{_≡_}
 use mathlib.Core.List.{List}
-use mathlib.Core.Bool.{Bool, true, false, _&&_}
-use Prim.Native.Nat.{ℕ, zero, suc, _≤_, _<_}
+use mathlib.Core.Bool.{true}
+use Prim.Native.Nat.{ℕ, _≤_, _<_}
 use native.Mathlib.Omega.{arith}
-use lib.Dec.{eqb, ltb}
 use lib.ListN.{length}
-use borrow.Author.Tests.{ltb-true}
-use Rattle.flash.specs.Bytes.{allFF}
-use Rattle.flash.specs.Flash.{blocks, blockNumbers, block, sizeOf}
+use Rattle.flash.specs.Flash.{blocks, block, sizeOf}
 use Rattle.flash.proofs.Image.{length-block}
-use Rattle.board.specs.declared.Record.{Record}
 use Rattle.board.specs.Record.{allowed}
-use Rattle.board.specs.Mount.{nextBlock}
-use Rattle.board.specs.Queue.{othersBlank, sameImage}
 use Rattle.board.proofs.Images.{Sized, sized-of, sized-block}
-use Rattle.store.specs.Calls.{sameAs}
-
--- ---- a block's length
 
 pub block-length : (img : List ℕ) (k : ℕ) → allowed (length img) ≡ true → k < blocks → length (block (sizeOf img) k img) ≡ sizeOf img
 block-length img k a h = length-block (sizeOf img) k img (sized-block k (sized-of img a) h)
@@ -26,32 +17,3 @@ block-length img k a h = length-block (sizeOf img) k img (sized-block k (sized-o
 pub block-fits : (img : List ℕ) (k : ℕ) → allowed (length img) ≡ true → k < blocks
     → (16 ≤ length (block (sizeOf img) k img)) × (length (block (sizeOf img) k img) ≤ 32768)
 block-fits img k a h = let z : Sized (sizeOf img) img = sized-of img a in omega (arith, z .low, z .high, block-length img k a h)
-
--- ---- the record's image
-
-and-true : (b : Bool) → (b && true) ≡ b
-and-true true = refl
-and-true false = refl
-
-others-blank : (k : ℕ) (img : List ℕ) → k < blocks → othersBlank k img blockNumbers ≡ allFF (block (sizeOf img) (nextBlock k) img)
-others-blank zero img h = and-true (allFF (block (sizeOf img) 1 img))
-others-blank (suc zero) img h = and-true (allFF (block (sizeOf img) 0 img))
-others-blank (suc (suc k)) img h = absurd (omega arith)
-
-same-there : (t : Bool) (k : ℕ) (img : List ℕ) → ltb k blocks ≡ t
-    → (t && othersBlank k img blockNumbers) ≡ (t && allFF (block (sizeOf img) (nextBlock k) img))
-same-there true k img e = others-blank k img (ltb-true k blocks e)
-same-there false k img e = refl
-
-pub same-as : (img : List ℕ) (r : Record) → sameImage img r ≡ sameAs img (r .last) (r .block)
-unfolding sameAs
-same-as img r = ap (λ (t : Bool). eqb (length img) (suc (r .last)) && t) (same-there (ltb (r .block) blocks) (r .block) img refl)
-
-pub same-inside : (img : List ℕ) (l k : ℕ) → sameAs img l k ≡ true → k < blocks
-unfolding sameAs
-same-inside img l k e = go (eqb (length img) (suc l)) (ltb k blocks) refl e
-  where
-    go : (a b : Bool) → ltb k blocks ≡ b → (a && (b && allFF (block (sizeOf img) (nextBlock k) img))) ≡ true → k < blocks
-    go true true q t = ltb-true k blocks q
-    go true false q t = let z : _≡_ {A = Bool} false true = t in let w : _≡_ {A = ℕ} 0 1 = cc in absurd (omega arith)
-    go false b q t = let z : _≡_ {A = Bool} false true = t in let w : _≡_ {A = ℕ} 0 1 = cc in absurd (omega arith)

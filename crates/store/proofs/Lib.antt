@@ -1,7 +1,4 @@
 pub mod Images
-pub mod Rooms
+pub mod Transfers
 pub mod Choosing
-pub mod Asking
-pub mod Answering
 pub mod Outcomes
-pub mod Handing

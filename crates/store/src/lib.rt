@@ -1,14 +1,8 @@
-// Mount, format and the queue in code: every call equal to its definition, on every input.
-mod image;
+// Mount and format in code: each equal to its definition, on every input. What the queue's requests share with them is public too.
+pub mod image;
 mod mounts;
-mod queue;
-mod reads;
-mod room;
-mod serving;
+pub mod surveys;
 
 pub use mounts::format;
 pub use mounts::mount;
-pub use queue::request;
-pub use reads::Stretch;
-pub use reads::locate;
-pub use reads::read;
+pub use mounts::refused;

@@ -1,21 +1,24 @@
 // Mount and format.
 ghost use mathlib.Core.Path.{_≡_};
-ghost use mathlib.Core.Bool.{false, _&&_};
-ghost use lib.Dec.{eqb};
-ghost use Rattle.journal.specs.Block.{lastTime};
 ghost use Rattle.journal.specs.Room.{one};
-ghost use Rattle.board.specs.Mount.{newTime, mountOn, formatOn};
-ghost use Rattle.store.specs.Calls.{refused, isValid, isForeignKind, isBlankKind, chooseValid, chooseOf, needsIn, wipeOther, mountIn, mountChosen};
+ghost use Rattle.board.specs.Mount.{mountOn, formatOn};
+ghost use Rattle.store.specs.Calls.{refused, isForeignKind, isBlankKind, chooseValid, chooseOf, needsIn, wipeOther, mountIn, mountChosen};
 use crate::image;
-use crate::room;
+use crate::surveys;
+use board::BLOCKS;
 use board::Job;
 use board::Record;
+use board::Rest;
+use frame::ID_MAX;
 use job::Outcome;
 use job::records;
 use journal::BlockKind;
 use journal::Survey;
 use wire::Answer;
 use wire::Refusal;
+
+// Past the last id: nothing is copied.
+const PAST_IDS: u16 = ID_MAX as u16 + 1;
 
 // The block that a mount takes, or why it takes none.
 pub enum Choice {
@@ -30,19 +33,6 @@ pub fn refused(why: Refusal, board: Record) -> Outcome
     Outcome {
         answer: Answer::Refused(why),
         board: board,
-    }
-}
-
-// ---- what a survey tells
-
-pub fn is_valid(kind: BlockKind) -> bool
-    ensures { λ r. ⌜ r ≡ isValid kind ⌝ }
-{
-    match kind {
-        BlockKind::Blank => false,
-        BlockKind::InProgress => false,
-        BlockKind::Valid => true,
-        BlockKind::Foreign(_) => false,
     }
 }
 
@@ -102,7 +92,12 @@ fn choose(a: Survey, b: Survey) -> Choice
     if is_foreign(second) {
         return Choice::Refused(Refusal::Foreign);
     }
-    choose_valid(is_valid(first), is_valid(second), a.time, b.time)
+    choose_valid(
+        surveys::is_valid(first),
+        surveys::is_valid(second),
+        a.time,
+        b.time,
+    )
 }
 
 // There is a torn frame, or something is pending.
@@ -113,37 +108,18 @@ fn needs_transfer(s: Survey) -> bool
         return true;
     }
     let p = s.pending;
-    0 < room::sum(p)
+    0 < surveys::sum(p)
 }
 
-// A transfer is needed, and there is no later time.
-pub fn is_worn(moves: bool, time: u32) -> bool
-    ensures { λ r. ⌜ r ≡ (moves && eqb time lastTime) ⌝ }
-{
-    if moves {
-        return time == 4294967295;
-    }
-    false
-}
-
-// The creation time of the block that is made, if one is.
-pub fn new_time(moves: bool, time: u32) -> u32
-    requires { ⌜ (moves && eqb time lastTime) ≡ false ⌝ }
-    ensures { λ r. ⌜ r ≡ newTime moves time ⌝ }
-{
-    if moves {
-        return time + 1;
-    }
-    0
-}
-
-fn wipe_other(wipes: bool, number: u8) -> [u8; 2]
+fn wipe_other(wipes: bool, number: u8) -> [u8; BLOCKS]
     ensures { λ r. ⌜ r ≡ wipeOther wipes number ⌝ }
 {
-    if wipes {
-        return [image::next_block(number), 0];
+    let mut wipe = [0; BLOCKS];
+    if !wipes {
+        return wipe;
     }
-    [0, 0]
+    wipe[0] = image::next_block(number);
+    wipe
 }
 
 fn how_many(wipes: bool) -> u8
@@ -157,7 +133,7 @@ fn mount_at(last: u16, number: u8, s: Survey, places: [u16; 256], wipes: bool) -
     ensures { λ r. ⌜ r ≡ mountIn last number s places wipes ⌝ }
 {
     let moves = needs_transfer(s);
-    if is_worn(moves, s.time) {
+    if surveys::is_worn(moves, s.time) {
         return refused(Refusal::Worn, records::unmounted());
     }
     let wipe = wipe_other(wipes, number);
@@ -167,12 +143,18 @@ fn mount_at(last: u16, number: u8, s: Survey, places: [u16; 256], wipes: bool) -
         moves: moves,
         drops: true,
         target: image::next_block(number),
-        time: new_time(moves, s.time),
-        since: [0, 0, 0, 0],
+        time: surveys::new_time(moves, s.time),
+        since: [0; 4],
         size: 0,
     };
+    let rest = Rest {
+        last: last,
+        block: number,
+        end: s.end,
+    };
+    let cursor = records::starting(0, s.end);
     let frame = records::no_frame();
-    records::begin(records::busy(last, number, s.end, places, job, 0, s.end, frame))
+    records::begin(records::busy(rest, places, job, cursor, frame))
 }
 
 fn mount_chosen(
@@ -226,18 +208,16 @@ pub fn format(image: &[u8]) -> Outcome
         drops: false,
         target: 0,
         time: 1,
-        since: [0, 0, 0, 0],
+        since: [0; 4],
         size: 0,
     };
-    let last = (image.len() - 1) as u16;
-    records::begin(records::busy(
-        last,
-        1,
-        16,
-        records::no_places(),
-        job,
-        256,
-        16,
-        records::no_frame(),
-    ))
+    let rest = Rest {
+        last: (image.len() - 1) as u16,
+        block: 1,
+        end: records::START,
+    };
+    let cursor = records::starting(PAST_IDS, records::START);
+    let places = records::no_places();
+    let frame = records::no_frame();
+    records::begin(records::busy(rest, places, job, cursor, frame))
 }

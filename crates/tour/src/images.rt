@@ -13,6 +13,7 @@ use crate::shown::stepped;
 use crate::shown::verdict;
 use crate::shown::with_byte;
 use board::Record;
+use board::Rest;
 use check::same;
 use frame::Host;
 use job::Outcome;
@@ -66,7 +67,7 @@ fn length(image: &[u8], old: &[u8], board: Record) {
     state(call(b" bytes, format", image, old, store::format(image)));
     state(call(b" bytes, mount", image, old, store::mount(image)));
     let mut reply = [0xEE; 16];
-    let asked = store::request(image, board, Host(4), &[4, 0, 3], &mut reply);
+    let asked = queue::request(image, board, Host(4), &[4, 0, 3], &mut reply);
     let after = call(
         b" bytes, host 4 sends 3 bytes of a commit",
         image,
@@ -113,11 +114,19 @@ pub fn no_room_for_deletes(three: Bench) {
 
 // ---- 11
 
+fn idle(last: u16, block: u8, end: u16) -> Record {
+    records::idle(Rest {
+        last: last,
+        block: block,
+        end: end,
+    })
+}
+
 fn recorded(what: &[u8], c: Bench, last: u16, block: u8, end: u16) {
     let image = c.image;
     asked(
         what,
-        bench_of(image, records::idle(last, block, end)),
+        bench_of(image, idle(last, block, end)),
         0,
         &[6, 0, 5, 1, 5, 0],
     );
@@ -159,7 +168,7 @@ pub fn other_image(c: Bench) {
 // 11 stands before 1 and before 8.
 pub fn other_end(c: Bench) {
     let image = c.image;
-    let other = bench_of(image, records::idle(511, 0, 26));
+    let other = bench_of(image, idle(511, 0, 26));
     asked(b"   recorded end 26, no bytes", other, 0, &[0; 0]);
     asked(b"   recorded end 26, read 7", other, 0, &[6, 0, 5, 1, 7, 0]);
     asked(b"   recorded end 26, commit", other, 2, &[4, 0, 3, 1]);
@@ -177,7 +186,7 @@ fn crowded(three: Bench, size: u8) -> Bench {
     image[237] = 9;
     image[238] = 0;
     image[last] = 0xFE;
-    bench_of(image, records::idle(511, 0, 232 + size as u16))
+    bench_of(image, idle(511, 0, 232 + size as u16))
 }
 
 // 232 + 19 + 6 = 257; with a byte less it is 256, and a commit then fills the half.

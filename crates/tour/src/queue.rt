@@ -120,7 +120,7 @@ fn with_reply(d: Bench, message: &[u8], room: usize) -> Bench {
     let image = d.image;
     let board = d.board;
     let mut reply = [0xEE; 16];
-    let begun = store::request(&image, board, Host(0), message, &mut reply[0..room]);
+    let begun = queue::request(&image, board, Host(0), message, &mut reply[0..room]);
     went(image, begun, reply, 65536)
 }
 

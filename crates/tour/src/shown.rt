@@ -137,7 +137,7 @@ pub fn reads(d: Bench, id: u8) {
     number(id as usize);
     result(after.answer, after.steps);
     compare(d, after);
-    let stretch = store::read(&image, board, Host(0), &message);
+    let stretch = queue::read(&image, board, Host(0), &message);
     say(b"; stretch [");
     hex(stretch);
     say(b" ] of length ");

@@ -24,5 +24,12 @@ row-p-spec =
     (λ c κs. search needs)
     (λ c. search needs)
     (λ c κs. search needs)
-    (λ c. c .before .before .before .before .finish3 .kept .0 ∙ c .before .before .before .before .before .before .before .before .before .before .before .before .before .before .finish2 .kept .0 ∙ c .before .before .before .before .before .before .before .before .before .before .before .before .before .before .before .before .before .before .before .before .before .finish .kept .0)
+    (λ c.
+    let finish3′ = c .before .before .before .before .finish3 in
+    let c14 = c .before .before .before .before .before .before .before .before .before .before .before .before .before .before in
+    let finish2′ = c14 .finish2 in
+    let finish′ = c14 .before .before .before .before .before .before .before .finish in
+    finish3′ .kept .0
+    ∙ finish2′ .kept .0
+    ∙ finish′ .kept .0)
     (λ c. search needs))

@@ -50,7 +50,7 @@ use Rattle.wire.proofs.Answer as N
 use Rattle.wire.proofs.Answer.Laws as N′
 use Rattle.board.proofs.Record as B
 use Rattle.board.proofs.Record.Laws as B′
-use Rattle.store.proofs.request as callee
+use Rattle.queue.proofs.request as callee
 use Rattle.inplace.proofs.Lending.{R, board, answer, IsAnswer, board-typed, taken, told, stored, in-local, frees-at, meets}
 use Rattle.inplace.proofs.request_in_place.Key.{name as #self}
 use Rattle.inplace.proofs.request_in_place as self

@@ -40,6 +40,9 @@ run-spec =
           (c .number2 .ensures) (c8 .loop .inv .2),
     ))
     (λ c. c .before .loop .inv .0)
-    (λ c. ended _ _ _ _ _ _ _ _ _ _ (all-done _ _ _ _ _ (c .loop-test .left)) (c .before .loop .inv .2) (c .before .before .number .ensures))
+    (λ c.
+    ended _ _ _ _ _ _ _ _ _ _ (all-done _ _ _ _ _ (c .loop-test .left)) (c .before .loop .inv .2) (c .before .before .number .ensures))
     (λ c. c .before .before .loop .inv .0)
-    (λ c. ended _ _ _ _ _ _ _ _ _ _ (no-more _ _ _ _ _ (ne-eqb _ _ (c .if1 .taken))) (c .before .before .loop .inv .2) (c .before .before .before .number .ensures)))
+    (λ c.
+    ended _ _ _ _ _ _ _ _ _ _ (no-more _ _ _ _ _ (ne-eqb _ _ (c .if1 .taken))) (c .before .before .loop .inv .2)
+    (c .before .before .before .number .ensures)))

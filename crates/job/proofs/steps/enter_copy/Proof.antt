@@ -4,6 +4,7 @@ use Rattle.job.specs.Code.{assemble, going, LeadsTo}
 use Rattle.board.specs.Step.{first}
 use Rattle.board.specs.declared.Stage.the-variants.{Seal}
 use Rattle.journal.specs.Survey.{Inside}
+use Rattle.journal.proofs.Copying.{fetches}
 use Rattle.job.proofs.Loading.{frame-found, none-found}
 use denote.Ref.{now}
 use mathlib.Core.Path.{subst}
@@ -21,7 +22,7 @@ enter-copy-spec =
     (λ c κs.
     let next-load′ = c .before .before .before .before .next-load in
     let block-of′ = c .before .before .before .before .before .block-of in
-    subst (Inside (now (block-of′ .result))) (c .before .before .fetch .given .1) (next-load′ .ensures .1))
+    subst (Inside (now (block-of′ .result))) (c .before .before .fetch .given .1) (fetches _ _ _ _ _ _ _ (next-load′ .ensures) .1))
     (λ c.
     let fetch′ = c .before .before .before .fetch in
     let next-load′ = c .before .before .before .before .before .next-load in
@@ -29,8 +30,8 @@ enter-copy-spec =
     let args′ = c .before .before .before .before .before .before .before .before .before .before .before .before .args in
     λ f. subst (LeadsTo (now (args′ .places)) _ f (c .load .result))
     (frame-found (now (args′ .image)) (assemble (args′ .n) (now (args′ .places)) (now (args′ .unit)) f) (now (block-of′ .result))
-    (block-of′ .ensures) (next-load′ .result) (next-load′ .ensures .0) (fetch′ .given .0 .0) (fetch′ .given .1))
-    (c .load .ensures (now (args′ .places)) f))
+    (block-of′ .ensures) (next-load′ .result) (fetches _ _ _ _ _ _ _ (next-load′ .ensures) .0) (fetch′ .given .0 .0)
+    (fetch′ .given .1)) (c .load .ensures (now (args′ .places)) f))
     (λ c. search needs)
     (λ c κs. search needs)
     (λ c.
@@ -40,5 +41,5 @@ enter-copy-spec =
     λ f. rw (c .enter .ensures) (subst (LeadsTo (now (args′ .places)) (now (args′ .unit)) f
     (going Seal (first (args′ .n .cursor)) (args′ .n)))
     (none-found (now (args′ .image)) (assemble (args′ .n) (now (args′ .places)) (now (args′ .unit)) f) (now (block-of′ .result))
-    (block-of′ .ensures) (next-load′ .result) (next-load′ .ensures .0) (c .before .enum-told .given .1))
+    (block-of′ .ensures) (next-load′ .result) (fetches _ _ _ _ _ _ _ (next-load′ .ensures) .0) (c .before .enum-told .given .1))
     (going-leaves (now (args′ .places)) (now (args′ .unit)) f Seal (first (args′ .n .cursor)) (args′ .n)))))

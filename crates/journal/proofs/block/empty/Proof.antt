@@ -1,6 +1,6 @@
 -- A survey of no frames.
 use mathlib.Core.Path.{refl}
-use Rattle.journal.specs.Survey.{emptySurvey}
+use Rattle.journal.specs.Pass.{emptySurvey}
 use Rattle.journal.proofs.block.empty.Statement.{statement}
 use Rattle.journal.proofs.block.empty.Tie as tie
 

@@ -1,6 +1,6 @@
 -- A valid block's survey, from the pass and the tally.
 use borrow.Author.Needs.{needs}
-use Rattle.journal.specs.Survey.{foundSurvey}
+use Rattle.journal.specs.Pass.{foundSurvey}
 use Rattle.journal.proofs.block.found.Statement.{statement}
 use Rattle.journal.proofs.block.found.Tie as tie
 

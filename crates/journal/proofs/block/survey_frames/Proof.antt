@@ -3,7 +3,7 @@ use mathlib.Core.Path.{_∙_}
 use native.Mathlib.Omega.{arith}
 use denote.Ref.{now}
 use Rattle.journal.specs.declared.BlockKind.the-variants as kind
-use Rattle.journal.specs.Survey.{emptySurvey}
+use Rattle.journal.specs.Pass.{emptySurvey}
 use Rattle.journal.proofs.Surveying.{right-clean, right-cut, right-bad, cut-fits, no-places-of}
 use borrow.Author.Needs.{needs}
 use Rattle.journal.proofs.block.survey_frames.Statement.{statement}

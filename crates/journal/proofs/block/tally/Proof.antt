@@ -10,7 +10,7 @@ use borrow.Author.Needs.{needs}
 use Rattle.journal.proofs.HeadLaws.{tally-no, tally-yes}
 use Prim.Native.Nat.{_*_}
 use Rattle.frame.specs.Frame.{total}
-use Rattle.journal.specs.Survey.{settledAt}
+use Rattle.journal.specs.Pass.{settledAt}
 use Rattle.journal.proofs.block.tally.Statement.{statement}
 use Rattle.journal.proofs.block.tally.Tie as tie
 

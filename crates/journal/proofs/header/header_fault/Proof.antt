@@ -3,7 +3,7 @@ use Prim.Native.Nat.{ℕ}
 use lib.Dec.{eqb}
 use mathlib.Core.Path.{sym, ap, _∙_}
 use borrow.Author.Tests.{eq-eqb, ne-eqb, not-true, not-false}
-use Rattle.journal.specs.Survey.{headerOf}
+use Rattle.journal.specs.Pass.{headerOf}
 use Rattle.journal.proofs.Headers.{fault-length, fault-kind, fault-created, fault-state, fault-spare, fault-none}
 use denote.Ref.{now}
 use borrow.Author.Needs.{needs}

@@ -1,5 +1,5 @@
 -- Pending or not, by the head.
-use Rattle.journal.specs.Survey.{pendingHead}
+use Rattle.journal.specs.Pass.{pendingHead}
 use borrow.Author.Needs.{needs}
 use Rattle.journal.proofs.index.is_pending.Statement.{statement}
 use Rattle.journal.proofs.index.is_pending.Tie as tie

@@ -1,11 +1,12 @@
 -- The next frame: a settled one if there is one, else a pending one.
-use mathlib.Core.Path.{sym, _∙_}
+use mathlib.Core.Path.{sym, ap, _∙_}
 use native.Mathlib.Omega.{arith}
 use denote.Ref.{now}
 use borrow.Author.Needs.{needs}
 use lib.ListN.{length-take}
 use lib.Seq.{length-take-le}
-use Rattle.journal.proofs.Fetching.{load-first, load-next, load-part-next, load-part, inside-part}
+use Rattle.journal.specs.Survey.{fetchedOf}
+use Rattle.journal.proofs.Fetching.{load-first, load-next, load-part-next}
 use Rattle.journal.proofs.index.next_load.Statement.{statement}
 use Rattle.journal.proofs.index.next_load.Tie as tie
 
@@ -15,10 +16,27 @@ next-load-spec =
     (tie.spec
     (λ c κs. search needs)
     (λ c. search needs)
-    (λ c. (load-first (now (c .before .before .before .before .before .args .block)) (c .before .before .before .before .before .args .end) (now (c .before .before .before .before .before .args .places)) (c .before .before .before .before .before .args .since) (c .before .before .before .before .before .args .id) (c .before .before .before .before .before .args .source) _ (rw (c .before .fetch .given .1) at (c .before .before .before .next-settled .ensures .0)), rw (c .before .fetch .given .1) at (c .before .before .before .next-settled .ensures .1)))
+    (λ c.
+    let args′ = c .before .before .before .before .before .args in
+    load-first (now (args′ .block)) (args′ .end) (now (args′ .places)) (args′ .since) (args′ .id) (args′ .source) _
+    (sym (c .before .fetch .given .1) ∙ c .before .before .before .next-settled .ensures))
     (λ c. search needs)
     (λ c κs. omega (arith, c .before .before .before .before .before .good))
-    (λ c. (c .next-pending .ensures .0 ∙ load-next (now (c .before .before .before .before .before .before .args .block)) (c .before .before .before .before .before .before .args .end) (now (c .before .before .before .before .before .before .args .places)) (c .before .before .before .before .before .before .args .since) (c .before .before .before .before .before .before .args .id) (c .before .before .before .before .before .before .args .source) (rw (c .before .before .enum-told .given .1) at (c .before .before .before .before .next-settled .ensures .0)) (c .before .if1 .taken), c .next-pending .ensures .1))
+    (λ c.
+    let args′ = c .before .before .before .before .before .before .args in
+    let b = now (args′ .block) in
+    let places = now (args′ .places) in
+    c .next-pending .ensures b places
+    ∙ ap (fetchedOf b places)
+    (load-next b (args′ .end) places (args′ .since) (args′ .id) (args′ .source)
+    (sym (c .before .before .enum-told .given .1) ∙ c .before .before .before .before .next-settled .ensures) (c .before .if1 .taken)))
     (λ c. sym (length-take-le (c .before .before .before .before .before .before .args .end) (now (c .before .before .before .before .before .before .args .block)) (omega arith)))
     (λ c κs. omega (arith, length-take (c .before .before .before .before .before .before .args .end) (now (c .before .before .before .before .before .before .args .block)), c .before .before .before .before .before .before .good))
-    (λ c. (sym (load-part (now (c .before .before .before .before .before .before .before .args .block)) (c .before .before .before .before .before .before .before .args .end) (c .next-pending2 .result) (c .next-pending2 .ensures .1)) ∙ c .next-pending2 .ensures .0 ∙ load-part-next (now (c .before .before .before .before .before .before .before .args .block)) (c .before .before .before .before .before .before .before .args .end) (now (c .before .before .before .before .before .before .before .args .places)) (c .before .before .before .before .before .before .before .args .since) (c .before .before .before .before .before .before .before .args .id) (c .before .before .before .before .before .before .before .args .source) (rw (c .before .before .before .enum-told .given .1) at (c .before .before .before .before .before .next-settled .ensures .0)), inside-part (now (c .before .before .before .before .before .before .before .args .block)) (c .before .before .before .before .before .before .before .args .end) (c .next-pending2 .result) (c .next-pending2 .ensures .1))))
+    (λ c.
+    let args′ = c .before .before .before .before .before .before .before .args in
+    let b = now (args′ .block) in
+    let places = now (args′ .places) in
+    c .next-pending2 .ensures b places
+    ∙ ap (fetchedOf b places)
+    (load-part-next b (args′ .end) places (args′ .since) (args′ .id) (args′ .source)
+    (sym (c .before .before .before .enum-told .given .1) ∙ c .before .before .before .before .before .next-settled .ensures))))

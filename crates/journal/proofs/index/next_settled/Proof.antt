@@ -1,10 +1,11 @@
 -- The next settled frame: from i on it is the same as from the first id on.
-use mathlib.Core.Path.{_≡_, refl, sym, _∙_}
+use mathlib.Core.Path.{_≡_, refl, sym, ap, _∙_}
 use Prim.Native.Nat.{_-_}
 use denote.Ref.{now}
 use borrow.Author.Needs.{needs}
 use Rattle.journal.proofs.HeadLaws.{fetch-settled}
 use Rattle.journal.specs.Index.{nextSettled}
+use Rattle.journal.specs.Survey.{fetchedOf}
 use Rattle.journal.proofs.Fetching.{found-none, found-at, settled-end, settled-no, settled-yes}
 use Rattle.journal.proofs.index.next_settled.Statement.{statement}
 use Rattle.journal.proofs.index.next_settled.Tie as tie
@@ -16,6 +17,7 @@ abbrev μ-loop : tie.MeasureT-loop
 μ-loop block places id source i₀ i = 256 - i
 
 pub next-settled-spec : {M : Type 1} → statement M
+unfolding fetchedOf
 next-settled-spec =
     tie.close
     (tie.spec
@@ -28,9 +30,21 @@ next-settled-spec =
     (λ c κs. search needs)
     (λ c. search needs)
     (λ c. search needs)
-    (λ c. let w = (found-at _ _ _ (sym (c .before .before .before .value-at .ensures) ∙ c .before .value .given .1)) in let z = fetch-settled (now (c .before .before .before .before .before .before .before .before .args .block)) (c .before .before .before .before .before .before .loop .i) _ _ _ (c .before .before .before .before .before .before .before .before .args .source) (w .0) (w .1) (w .2) (w .3) in (z .0 ∙ sym (settled-yes (now (c .before .before .before .before .before .before .before .before .args .block)) (now (c .before .before .before .before .before .before .before .before .args .places)) (c .before .before .before .before .before .before .before .before .args .source) (c .before .before .before .before .before .before .loop .i) (c .before .before .before .before .before .loop-test .taken) (w .0) (w .1)) ∙ c .before .before .before .before .before .before .loop .inv, z .1))
+    (λ c.
+    let args′ = c .before .before .before .before .before .before .before .before .args in
+    let b = now (args′ .block) in
+    let places = now (args′ .places) in
+    let i = c .before .before .before .before .before .before .loop .i in
+    let w = found-at _ _ _ (sym (c .before .before .before .value-at .ensures) ∙ c .before .value .given .1) in
+    fetch-settled b places i _ _ (args′ .source) (w .0) (w .1) (w .2) (w .3)
+    ∙ ap (fetchedOf b places)
+    (sym (settled-yes b places (args′ .source) i (c .before .before .before .before .before .loop-test .taken) (w .0) (w .1)) ∙ c .before .before .before .before .before .before .loop .inv))
     (λ c. search needs)
     (λ c. search needs)
     (λ c. search needs)
     (λ c. sym (settled-no (now (c .before .before .before .before .before .before .before .args .block)) (now (c .before .before .before .before .before .before .before .args .places)) (c .before .before .before .before .before .before .before .args .source) (c .before .before .before .before .before .loop .i) (c .before .before .before .before .loop-test .taken) (found-none _ (sym (c .before .before .value-at .ensures) ∙ c .enum-told .given .1))) ∙ c .before .before .before .before .before .loop .inv)
-    (λ c. (sym (settled-end (now (c .before .before .before .args .block)) (now (c .before .before .before .args .places)) (c .before .before .before .args .source) (c .before .loop .i) (c .loop-test .left)) ∙ c .before .loop .inv, tt)))
+    (λ c.
+    let args′ = c .before .before .before .args in
+    let b = now (args′ .block) in
+    let places = now (args′ .places) in
+    ap (fetchedOf b places) (sym (settled-end b places (args′ .source) (c .before .loop .i) (c .loop-test .left)) ∙ c .before .loop .inv)))

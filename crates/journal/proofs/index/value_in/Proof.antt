@@ -1,6 +1,6 @@
 -- The value in a frame, by its head.
 use borrow.Author.Tests.{eq-eqb, ne-eqb}
-use Rattle.journal.specs.Survey.{valueHead}
+use Rattle.journal.specs.Pass.{valueHead}
 use borrow.Author.Needs.{needs}
 use Rattle.journal.proofs.index.value_in.Statement.{statement}
 use Rattle.journal.proofs.index.value_in.Tie as tie

@@ -1,5 +1,5 @@
 -- A commit or an abort empties a host's list.
-use Rattle.journal.specs.Survey.{closed}
+use Rattle.journal.specs.Pass.{closed}
 use borrow.Author.Needs.{needs}
 use Rattle.journal.proofs.pass.close.Statement.{statement}
 use Rattle.journal.proofs.pass.close.Tie as tie

@@ -7,7 +7,7 @@ use lib.ListN.{length, drop}
 use borrow.Author.Needs.{needs}
 use Rattle.journal.proofs.HeadLaws.{commit-blank, commit-torn, commit-wrong, commit-on}
 use Rattle.frame.specs.Reader.{scan}
-use Rattle.journal.specs.Survey.{commitPlaces, recommit}
+use Rattle.journal.specs.Pass.{commitPlaces, recommit}
 use Rattle.journal.proofs.FrameReads.{read-inside}
 use Rattle.journal.proofs.pass.commit_own.Statement.{statement}
 use Rattle.journal.proofs.pass.commit_own.Tie as tie

@@ -1,5 +1,5 @@
 -- A change adds its bytes.
-use Rattle.journal.specs.Survey.{grown}
+use Rattle.journal.specs.Pass.{grown}
 use borrow.Author.Needs.{needs}
 use Rattle.journal.proofs.pass.grow.Statement.{statement}
 use Rattle.journal.proofs.pass.grow.Tie as tie

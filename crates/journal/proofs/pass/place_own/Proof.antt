@@ -1,6 +1,6 @@
 -- What a host's own frame does in its commit, by the head.
 use borrow.Author.Tests.{eq-eqb, ne-eqb}
-use Rattle.journal.specs.Survey.{placeHead}
+use Rattle.journal.specs.Pass.{placeHead}
 use borrow.Author.Needs.{needs}
 use Rattle.journal.proofs.pass.place_own.Statement.{statement}
 use Rattle.journal.proofs.pass.place_own.Tie as tie

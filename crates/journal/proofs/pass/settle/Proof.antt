@@ -1,6 +1,6 @@
 -- A settled frame moves the end and the least id.
 use native.Mathlib.Numerals.{add-one}
-use Rattle.journal.specs.Survey.{passed}
+use Rattle.journal.specs.Pass.{passed}
 use borrow.Author.Needs.{needs}
 use Rattle.journal.proofs.pass.settle.Statement.{statement}
 use Rattle.journal.proofs.pass.settle.Tie as tie

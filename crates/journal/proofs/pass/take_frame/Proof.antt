@@ -7,7 +7,7 @@ use lib.ListN.{take}
 use lib.ListN.{length-take}
 use lib.Seq.{length-take-le}
 use Rattle.frame.specs.Code.{headLen}
-use Rattle.journal.specs.Survey.{recommit, grown, passed, tookFrame, tookPlaces}
+use Rattle.journal.specs.Pass.{recommit, grown, passed, tookFrame, tookPlaces}
 use borrow.Author.Needs.{needs}
 use Rattle.journal.proofs.pass.take_frame.Statement.{statement}
 use Rattle.journal.proofs.pass.take_frame.Tie as tie

@@ -34,7 +34,9 @@ places-in-spec =
     (λ c. search needs)
     (λ c. let i = c .before .before .before .loop .i in search (needs, c .shared-slice-known3 .given (2 * i + 1)))
     (λ c. let i = c .before .before .before .loop .i in omega (arith, c .shared-slice-known3 .given (2 * i + 1) .fits))
-    (λ c. let i = c .before .before .before .loop .i in omega (arith, c .before .shared-slice-known2 .given (2 * i) .fits, c .shared-slice-known3 .given (2 * i + 1) .fits))
+    (λ c.
+    let i = c .before .before .before .loop .i in omega
+    (arith, c .before .shared-slice-known2 .given (2 * i) .fits, c .shared-slice-known3 .given (2 * i + 1) .fits))
     (λ c. search needs)
     (λ c. search needs)
     (λ c. search needs)
@@ -46,5 +48,7 @@ places-in-spec =
       omega arith,
       simp length-set (omega arith),
     ))
-    (λ c. read-all (now (c .before .before .before .before .args .bytes)) (c .before .loop .words) (c .before .loop .i) (c .before .loop .inv .0)
-    (omega arith) (c .before .loop .inv .2)))
+    (λ c.
+    let loop′ = c .before .loop in
+    let args′ = c .before .before .before .before .args in
+    read-all (now (args′ .bytes)) (loop′ .words) (loop′ .i) (loop′ .inv .0) (omega arith) (loop′ .inv .2)))

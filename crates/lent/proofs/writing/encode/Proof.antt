@@ -31,7 +31,8 @@ encode-spec =
     let k : length (c18 .args .board .places) ≡ 256 = search (needs, c18 .good .0 .1 .1 .1 .1 .1 .1 .0) in
     omega (arith, c16 .if1 .left, c4 .lay-at .kept .0))
     (λ c.
-    let c23 = c .before .before .before .before .before .before .before .before .before .before .before .before .before .before .before .before .before .before .before .before .before .before .before in
+    let c12 = c .before .before .before .before .before .before .before .before .before .before .before .before in
+    let c23 = c12 .before .before .before .before .before .before .before .before .before .before .before in
     let k : length (c23 .args .board .job .wipe) ≡ blocks = search (needs, c23 .good .0 .1 .1 .1 .1 .1 .1 .1 .0 .1 .1 .0) in sym k)
     (λ c κs. search needs)
     (λ c. search needs)
@@ -39,13 +40,15 @@ encode-spec =
     (λ c. search needs)
     (λ c κs. search needs)
     (λ c.
-    let c19 = c .before .before .before .before .before .before .before .before .before .before .before .before .before .before .before .before .before .before .before in
-    let c38 = c19 .before .before .before .before .before .before .before .before .before .before .before .before .before .before .before .before .before .before .before in
+    let c13 = c .before .before .before .before .before .before .before .before .before .before .before .before .before in
+    let c26 = c13 .before .before .before .before .before .before .before .before .before .before .before .before .before in
+    let c38 = c26 .before .before .before .before .before .before .before .before .before .before .before .before in
     let k : length (c38 .args .board .unit) ≡ maxFrame = search (needs, c38 .good .0 .1 .1 .1 .1 .1 .1 .1 .1 .1 .0) in sym k)
     (λ c κs. search needs)
     (λ c.
-    let c21 = c .before .before .before .before .before .before .before .before .before .before .before .before .before .before .before .before .before .before .before .before .before in
-    let c43 = c21 .before .before .before .before .before .before .before .before .before .before .before .before .before .before .before .before .before .before .before .before .before .before in
+    let c15 = c .before .before .before .before .before .before .before .before .before .before .before .before .before .before .before in
+    let c30 = c15 .before .before .before .before .before .before .before .before .before .before .before .before .before .before .before in
+    let c43 = c30 .before .before .before .before .before .before .before .before .before .before .before .before .before in
     let k : length (c43 .args .board .frame) ≡ maxFrame = search (needs, c43 .good .0 .1 .1 .1 .1 .1 .1 .1 .1 .1 .1 .0) in sym k)
     (λ c κs. search needs)
     (λ c. search needs)

@@ -21,7 +21,9 @@ lay-words-spec =
     (tie.spec
     Inv-loop
     μ-loop
-    (λ c. (no-words (c .before .before .args .at) (now (c .before .before .args .words)) (now (c .before .before .args .bytes)), search needs, search needs))
+    (λ c.
+    let args′ = c .before .before .args in
+    (no-words (args′ .at) (now (args′ .words)) (now (args′ .bytes)), search needs, search needs))
     (λ c. omega (arith, c .before .before .before .before .good))
     (λ c. search needs)
     (λ c κs. search needs)
@@ -48,5 +50,6 @@ lay-words-spec =
     ))
     (λ c. search needs)
     (λ c.
-    let c4 = c .before .before .before .before in
-    c .before .loop .inv .0 ∙ words-all (c4 .args .at) (now (c4 .args .words)) (now (c4 .args .bytes)) (c .before .loop .i) (omega arith) (omega (arith, c4 .pre))))
+    let loop′ = c .before .loop in
+    let c4 = c .before .before .before .before in loop′ .inv .0
+    ∙ words-all (c4 .args .at) (now (c4 .args .words)) (now (c4 .args .bytes)) (loop′ .i) (omega arith) (omega (arith, c4 .pre))))

@@ -20,11 +20,32 @@ format-spec =
     (λ c κs. search needs)
     (λ c κs. search needs)
     (λ c κs. search needs)
-    (λ c. both (formatOn (now (c .before .before .before .before .before .args .image))) (c .refused .ensures ∙ ap (refused refusal.ImageLength) (c .before .unmounted .ensures) ∙ sym (ap outcomeOf (format-length (now (c .before .before .before .before .before .args .image)) (sym (c .before .before .before .is-allowed .ensures) ∙ not-true (c .before .before .before .is-allowed .result) (c .before .before .if1 .taken))))))
-    (λ c. let z = sized-of (now (c .before .before .before .args .image)) (sym (c .before .is-allowed .ensures) ∙ not-false (c .before .is-allowed .result) (c .if1 .left)) in omega (arith, z .two, z .low, z .high))
-    (λ c. let z = sized-of (now (c .before .before .before .args .image)) (sym (c .before .is-allowed .ensures) ∙ not-false (c .before .is-allowed .result) (c .if1 .left)) in omega (arith, z .two, z .low, z .high))
+    (λ c.
+    let is-allowed′ = c .before .before .before .is-allowed in
+    let args′ = c .before .before .before .before .before .args in
+    both (formatOn (now (args′ .image))) (c .refused .ensures ∙ ap (refused refusal.ImageLength) (c .before .unmounted .ensures) ∙ sym
+    (ap outcomeOf (format-length (now (args′ .image))
+    (sym (is-allowed′ .ensures) ∙ not-true (is-allowed′ .result) (c .before .before .if1 .taken))))))
+    (λ c.
+    let is-allowed′ = c .before .is-allowed in
+    let z = sized-of (now (c .before .before .before .args .image))
+    (sym (is-allowed′ .ensures) ∙ not-false (is-allowed′ .result) (c .if1 .left)) in omega (arith, z .two, z .low, z .high))
+    (λ c.
+    let is-allowed′ = c .before .is-allowed in
+    let z = sized-of (now (c .before .before .before .args .image))
+    (sym (is-allowed′ .ensures) ∙ not-false (is-allowed′ .result) (c .if1 .left)) in omega (arith, z .two, z .low, z .high))
     (λ c κs. search needs)
     (λ c κs. search needs)
     (λ c κs. search needs)
     (λ c κs. search needs)
-    (λ c. both (formatOn (now (c .before .before .before .before .before .before .before .args .image))) (begun-is (c .begin .result) (c .before .busy .result) (c .begin .ensures) ∙ ap begun (c .before .busy .ensures) ∙ format-is (now (c .before .before .before .before .before .before .before .args .image)) (c .before .before .before .no-places .result) (c .before .before .no-frame .result) (sym (c .before .before .before .before .before .is-allowed .ensures) ∙ not-false (c .before .before .before .before .before .is-allowed .result) (c .before .before .before .before .if1 .left)) (c .before .before .before .no-places .ensures) (c .before .before .no-frame .ensures))))
+    (λ c κs. search needs)
+    (λ c.
+    let busy′ = c .before .busy in
+    let no-frame′ = c .before .before .no-frame in
+    let no-places′ = c .before .before .before .no-places in
+    let if1′ = c .before .before .before .before .before .if1 in
+    let is-allowed′ = c .before .before .before .before .before .before .is-allowed in
+    let args′ = c .before .before .before .before .before .before .before .before .args in
+    both (formatOn (now (args′ .image))) (begun-is (c .begin .result) (busy′ .result) (c .begin .ensures) ∙ ap begun (busy′ .ensures)
+    ∙ rw (c .before .before .before .before .starting .ensures) (format-is (now (args′ .image)) (no-places′ .result) (no-frame′ .result)
+    (sym (is-allowed′ .ensures) ∙ not-false (is-allowed′ .result) (if1′ .left)) (no-places′ .ensures) (no-frame′ .ensures)))))

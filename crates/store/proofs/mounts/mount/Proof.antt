@@ -4,6 +4,8 @@ use native.Mathlib.Omega.{arith}
 use denote.Ref.{now}
 use borrow.Author.Tests.{not-true, not-false}
 use Rattle.wire.specs.declared.Refusal.the-variants as refusal
+use Rattle.journal.specs.Survey.{surveyOf, placesIn}
+use Rattle.journal.proofs.Surveying.{half-fits}
 use Rattle.board.specs.Mount.{mountOn}
 use Rattle.board.proofs.Images.{sized-of}
 use Rattle.board.proofs.Outcomes.{mount-length}
@@ -22,15 +24,46 @@ mount-spec =
     (λ c κs. search needs)
     (λ c κs. search needs)
     (λ c κs. search needs)
-    (λ c. both (mountOn (now (c .before .before .before .before .before .args .image))) (c .refused .ensures ∙ ap (refused refusal.ImageLength) (c .before .unmounted .ensures) ∙ sym (ap outcomeOf (mount-length (now (c .before .before .before .before .before .args .image)) (sym (c .before .before .before .is-allowed .ensures) ∙ not-true (c .before .before .before .is-allowed .result) (c .before .before .if1 .taken))))))
+    (λ c.
+    let is-allowed′ = c .before .before .before .is-allowed in
+    let args′ = c .before .before .before .before .before .args in
+    both (mountOn (now (args′ .image))) (c .refused .ensures ∙ ap (refused refusal.ImageLength) (c .before .unmounted .ensures) ∙ sym
+    (ap outcomeOf (mount-length (now (args′ .image))
+    (sym (is-allowed′ .ensures) ∙ not-true (is-allowed′ .result) (c .before .before .if1 .taken))))))
     (λ c κs. search needs)
     (λ c κs. search needs)
     (λ c κs. search needs)
-    (λ c κs. rw (c .before .block-of .ensures) (block-fits (now (c .before .before .before .before .before .before .before .args .image)) 0 (sym (c .before .before .before .before .before .is-allowed .ensures) ∙ not-false (c .before .before .before .before .before .is-allowed .result) (c .before .before .before .before .if1 .left)) (omega arith)))
-    (λ c κs. search needs)
-    (λ c κs. rw (c .before .block-of2 .ensures) (block-fits (now (c .before .before .before .before .before .before .before .before .before .before .args .image)) 1 (sym (c .before .before .before .before .before .before .before .before .is-allowed .ensures) ∙ not-false (c .before .before .before .before .before .before .before .before .is-allowed .result) (c .before .before .before .before .before .before .before .if1 .left)) (omega arith)))
-    (λ c. let z = sized-of (now (c .before .before .before .before .before .before .before .before .before .before .before .args .image)) (sym (c .before .before .before .before .before .before .before .before .before .is-allowed .ensures) ∙ not-false (c .before .before .before .before .before .before .before .before .before .is-allowed .result) (c .before .before .before .before .before .before .before .before .if1 .left)) in omega (arith, z .two, z .low, z .high))
-    (λ c. let z = sized-of (now (c .before .before .before .before .before .before .before .before .before .before .before .args .image)) (sym (c .before .before .before .before .before .before .before .before .before .is-allowed .ensures) ∙ not-false (c .before .before .before .before .before .before .before .before .before .is-allowed .result) (c .before .before .before .before .before .before .before .before .if1 .left)) in omega (arith, z .two, z .low, z .high))
     (λ c κs. search needs)
     (λ c κs. search needs)
-    (λ c. both (mountOn (now (c .before .before .before .before .before .before .before .before .before .before .before .before .before .args .image))) (c .mount-chosen .ensures ∙ mount-is (now (c .before .before .before .before .before .before .before .before .before .before .before .before .before .args .image)) _ _ _ _ _ _ _ (sym (c .before .before .before .before .before .before .before .before .before .before .before .is-allowed .ensures) ∙ not-false (c .before .before .before .before .before .before .before .before .before .before .before .is-allowed .result) (c .before .before .before .before .before .before .before .before .before .before .if1 .left)) (bytes-of (now (c .before .before .before .before .before .before .before .before .before .before .before .before .before .args .image)) (λ i. c .before .before .before .before .before .before .before .before .before .before .before .before .shared-slice-known .given i .fits)) (c .before .before .before .before .before .before .before .block-of .ensures) (c .before .before .before .before .block-of2 .ensures) (c .before .before .before .before .before .survey-block .ensures .0) (c .before .before .before .before .before .survey-block .ensures .1) (c .before .before .survey-block2 .ensures .0) (c .before .before .survey-block2 .ensures .1) (c .before .choose .ensures))))
+    (λ c κs. search needs)
+    (λ c.
+    let if1′ = c .before .before .before .before .before .before .before .before .if1 in
+    let is-allowed′ = c .before .before .before .before .before .before .before .before .before .is-allowed in
+    let args′ = c .before .before .before .before .before .before .before .before .before .before .before .args in
+    let z = sized-of (now (args′ .image)) (sym (is-allowed′ .ensures) ∙ not-false (is-allowed′ .result) (if1′ .left)) in omega
+    (arith, z .two, z .low, z .high))
+    (λ c.
+    let if1′ = c .before .before .before .before .before .before .before .before .if1 in
+    let is-allowed′ = c .before .before .before .before .before .before .before .before .before .is-allowed in
+    let args′ = c .before .before .before .before .before .before .before .before .before .before .before .args in
+    let z = sized-of (now (args′ .image)) (sym (is-allowed′ .ensures) ∙ not-false (is-allowed′ .result) (if1′ .left)) in omega
+    (arith, z .two, z .low, z .high))
+    (λ c κs. search needs)
+    (λ c κs. search needs)
+    (λ c.
+    let survey-block2′ = c .before .before .survey-block2 in
+    let block-of2′ = c .before .before .before .before .block-of2 in
+    let survey-block′ = c .before .before .before .before .before .survey-block in
+    let block-of′ = c .before .before .before .before .before .before .before .block-of in
+    let if1′ = c .before .before .before .before .before .before .before .before .before .before .if1 in
+    let is-allowed′ = c .before .before .before .before .before .before .before .before .before .before .before .is-allowed in
+    let shared-slice-known′ = c .before .before .before .before .before .before .before .before .before .before .before .before .shared-slice-known in
+    let args′ = c .before .before .before .before .before .before .before .before .before .before .before .before .before .args in
+    let img = now (args′ .image) in
+    let ok = sym (is-allowed′ .ensures) ∙ not-false (is-allowed′ .result) (if1′ .left) in
+    let a = half-fits (now (block-of′ .result)) (rw (block-of′ .ensures) (block-fits img 0 ok (omega arith))) in
+    let b = half-fits (now (block-of2′ .result)) (rw (block-of2′ .ensures) (block-fits img 1 ok (omega arith))) in
+    both (mountOn img)
+    (c .mount-chosen .ensures ∙ mount-is img _ _ _ _ _ _ _ ok (bytes-of img (λ i. shared-slice-known′ .given i .fits)) (block-of′ .ensures)
+    (block-of2′ .ensures) (survey-block′ .ensures .0 ∙ ap surveyOf a) (survey-block′ .ensures .1 ∙ ap placesIn a)
+    (survey-block2′ .ensures .0 ∙ ap surveyOf b) (survey-block2′ .ensures .1 ∙ ap placesIn b) (c .before .choose .ensures))))

@@ -15,7 +15,14 @@ mount-at-spec =
     (λ c κs. search needs)
     (λ c κs. search needs)
     (λ c κs. search needs)
-    (λ c. c .refused .ensures ∙ ap (refused refusal.Worn) (c .before .unmounted .ensures) ∙ mount-worn (c .before .before .before .before .before .args .last) (c .before .before .before .before .before .args .number) (c .before .before .before .before .before .args .s) (c .before .before .before .before .before .args .places) (c .before .before .before .before .before .args .wipes) (c .before .before .before .before .needs-transfer .result) (c .before .before .before .is-worn .result) (c .before .before .before .before .needs-transfer .ensures) (c .before .before .before .is-worn .ensures) (c .before .before .if1 .taken))
+    (λ c.
+    let is-worn′ = c .before .before .before .is-worn in
+    let needs-transfer′ = c .before .before .before .before .needs-transfer in
+    let args′ = c .before .before .before .before .before .args in
+    c .refused .ensures
+    ∙ ap (refused refusal.Worn) (c .before .unmounted .ensures)
+    ∙ mount-worn (args′ .last) (args′ .number) (args′ .s) (args′ .places) (args′ .wipes) (needs-transfer′ .result) (is-worn′ .result)
+    (needs-transfer′ .ensures) (is-worn′ .ensures) (c .before .before .if1 .taken))
     (λ c κs. search needs)
     (λ c κs. search needs)
     (λ c κs. search needs)
@@ -23,4 +30,24 @@ mount-at-spec =
     (λ c κs. search needs)
     (λ c κs. search needs)
     (λ c κs. search needs)
-    (λ c. begun-is (c .begin .result) (c .before .busy .result) (c .begin .ensures) ∙ ap begun (c .before .busy .ensures) ∙ rw (c .before .before .before .before .before .before .wipe-other .ensures, c .before .before .before .before .before .how-many .ensures, c .before .before .before .before .next-block .ensures, c .before .before .before .new-time .ensures, c .before .before .no-frame .ensures) (mount-begun (c .before .before .before .before .before .before .before .before .before .before .args .last) (c .before .before .before .before .before .before .before .before .before .before .args .number) (c .before .before .before .before .before .before .before .before .before .before .args .s) (c .before .before .before .before .before .before .before .before .before .before .args .places) (c .before .before .before .before .before .before .before .before .before .before .args .wipes) (c .before .before .before .before .before .before .before .before .before .needs-transfer .result) (c .before .before .before .before .before .before .before .before .is-worn .result) (c .before .before .before .before .before .before .before .before .before .needs-transfer .ensures) (c .before .before .before .before .before .before .before .before .is-worn .ensures) (c .before .before .before .before .before .before .before .if1 .left))))
+    (λ c κs. search needs)
+    (λ c.
+    let busy′ = c .before .busy in
+    let next-block′ = c .before .before .before .before .before .next-block in
+    let how-many′ = c .before .before .before .before .before .before .how-many in
+    let wipe-other′ = c .before .before .before .before .before .before .before .wipe-other in
+    let if1′ = c .before .before .before .before .before .before .before .before .if1 in
+    let is-worn′ = c .before .before .before .before .before .before .before .before .before .is-worn in
+    let needs-transfer′ = c .before .before .before .before .before .before .before .before .before .before .needs-transfer in
+    let args′ = c .before .before .before .before .before .before .before .before .before .before .before .args in
+    begun-is (c .begin .result) (busy′ .result) (c .begin .ensures)
+    ∙ ap begun (busy′ .ensures)
+    ∙ rw (
+      wipe-other′ .ensures,
+      how-many′ .ensures,
+      next-block′ .ensures,
+      c .before .before .before .before .new-time .ensures,
+      c .before .before .before .starting .ensures,
+      c .before .before .no-frame .ensures,
+    ) (mount-begun (args′ .last) (args′ .number) (args′ .s) (args′ .places) (args′ .wipes)
+    (needs-transfer′ .result) (is-worn′ .result) (needs-transfer′ .ensures) (is-worn′ .ensures) (if1′ .left))))

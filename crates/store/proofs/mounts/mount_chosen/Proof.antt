@@ -13,12 +13,20 @@ mount-chosen-spec =
     (λ c. search needs)
     (λ c κs. search needs)
     (λ c κs. search needs)
-    (λ c. rw (c .before .before .enum-told .given .1) (c .mount-at .ensures ∙ ap (λ (t : Bool). mountIn (c .before .before .before .before .args .last) 0 (c .before .before .before .before .args .a) (c .before .before .before .before .args .p) (not t)) (c .before .is-blank .ensures)))
+    (λ c.
+    let args′ = c .before .before .before .before .args in
+    rw (c .before .before .enum-told .given .1) (c .mount-at .ensures ∙ ap
+    (λ (t : Bool). mountIn (args′ .last) 0 (args′ .a) (args′ .p) (not t)) (c .before .is-blank .ensures)))
     (λ c. search needs)
     (λ c κs. search needs)
     (λ c κs. search needs)
-    (λ c. rw (c .before .before .enum-told2 .given .1) (c .mount-at2 .ensures ∙ ap (λ (t : Bool). mountIn (c .before .before .before .before .args .last) 1 (c .before .before .before .before .args .b) (c .before .before .before .before .args .q) (not t)) (c .before .is-blank2 .ensures)))
+    (λ c.
+    let args′ = c .before .before .before .before .args in
+    rw (c .before .before .enum-told2 .given .1)
+    (c .mount-at2 .ensures ∙ ap (λ (t : Bool). mountIn (args′ .last) 1 (args′ .b) (args′ .q) (not t)) (c .before .is-blank2 .ensures)))
     (λ c. search needs)
     (λ c κs. search needs)
     (λ c κs. search needs)
-    (λ c. rw (c .before .before .before .choice .given .1) (c .refused .ensures ∙ ap (refused (c .before .before .before .choice .given .0 .0)) (c .before .unmounted .ensures))))
+    (λ c.
+    let choice′ = c .before .before .before .choice in
+    rw (choice′ .given .1) (c .refused .ensures ∙ ap (refused (choice′ .given .0 .0)) (c .before .unmounted .ensures))))

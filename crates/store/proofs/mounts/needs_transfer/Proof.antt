@@ -7,4 +7,7 @@ use Rattle.store.proofs.mounts.needs_transfer.Statement.{statement}
 use Rattle.store.proofs.mounts.needs_transfer.Tie as tie
 
 pub needs-transfer-spec : {M : Type 1} → statement M
-needs-transfer-spec = tie.close (tie.spec (λ c. rw (lt-ltb _ _ (c .if1 .taken))) (λ c κs. search needs) (λ c. rw (le-ltb _ _ (c .before .before .if1 .left)) (ap (ltb 0) (c .sum .ensures .0))))
+needs-transfer-spec = tie.close (tie.spec
+    (λ c. rw (lt-ltb _ _ (c .if1 .taken)))
+    (λ c κs. search needs)
+    (λ c. rw (le-ltb _ _ (c .before .before .if1 .left)) (ap (ltb 0) (c .sum .ensures .0))))

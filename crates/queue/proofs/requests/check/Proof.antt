@@ -1,0 +1,32 @@
+-- The length, the host, then the record.
+use mathlib.Core.Path.{sym, _∙_}
+use borrow.Author.Tests.{le-leb, lt-leb, not-true, not-false}
+use Rattle.queue.specs.Calls.{gateOf}
+use borrow.Author.Needs.{needs}
+use Rattle.queue.proofs.requests.check.Statement.{statement}
+use Rattle.queue.proofs.requests.check.Tie as tie
+
+pub check-spec : {M : Type 1} → statement M
+unfolding gateOf
+check-spec =
+    tie.close (tie.spec
+    (λ c κs. search needs)
+    (λ c. rw (sym (c .before .is-allowed .ensures) ∙ not-true (c .before .is-allowed .result) (c .if1 .taken), gateOf))
+    (λ c.
+    let is-allowed′ = c .before .before .before .is-allowed in
+    let args′ = c .before .before .before .before .before .args in
+    rw (
+      (sym (is-allowed′ .ensures) ∙ not-false (is-allowed′ .result) (c .before .before .if1 .left)),
+      lt-leb (args′ .host .0) 3
+          (c .if2 .taken),
+      gateOf,
+    ))
+    (λ c κs. search needs)
+    (λ c.
+    let is-allowed′ = c .before .before .before .before .is-allowed in
+    rw (
+      (sym (is-allowed′ .ensures) ∙ not-false (is-allowed′ .result) (c .before .before .before .if1 .left)),
+      le-leb _ _
+          (c .before .if2 .left),
+      gateOf,
+    ) (c .check-phase .ensures)))

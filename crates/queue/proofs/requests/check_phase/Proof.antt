@@ -1,0 +1,31 @@
+-- The phase, then the image.
+use mathlib.Core.Path.{sym, ap, _∙_}
+use denote.Ref.{now}
+use Rattle.board.specs.declared.Phase.{Phase}
+use Rattle.queue.specs.Calls.{openIf, gateIn}
+use borrow.Author.Needs.{needs}
+use Rattle.queue.proofs.requests.check_phase.Statement.{statement}
+use Rattle.queue.proofs.requests.check_phase.Tie as tie
+
+pub check-phase-spec : {M : Type 1} → statement M
+check-phase-spec =
+    tie.close
+    (tie.spec
+    (λ c. search needs)
+    (λ c.
+    let args′ = c .before .before .before .args in
+    ap (λ (p : Phase). gateIn p (now (args′ .image)) (args′ .board)) (sym (c .enum-told .given .1)))
+    (λ c. search needs)
+    (λ c.
+    let args′ = c .before .before .before .args in
+    ap (λ (p : Phase). gateIn p (now (args′ .image)) (args′ .board)) (sym (c .enum-told2 .given .1)))
+    (λ c. search needs)
+    (λ c κs. search needs)
+    (λ c.
+    let args′ = c .before .before .before .before .before .args in
+    ap openIf (sym (sym (c .before .same-image .ensures) ∙ c .if1 .taken))
+    ∙ ap (λ (p : Phase). gateIn p (now (args′ .image)) (args′ .board)) (sym (c .before .before .enum-told3 .given .1)))
+    (λ c.
+    let args′ = c .before .before .before .before .before .args in
+    ap openIf (sym (sym (c .before .same-image .ensures) ∙ c .if1 .left))
+    ∙ ap (λ (p : Phase). gateIn p (now (args′ .image)) (args′ .board)) (sym (c .before .before .enum-told3 .given .1))))

@@ -1,0 +1,132 @@
+// Queue requests: the refusals in document 01's order.
+ghost use mathlib.Core.Path.{_≡_};
+ghost use Rattle.board.specs.Queue.{requestOn};
+ghost use Rattle.queue.specs.Calls.{sameAs, gateOf, gateIn, asRecorded, askOf};
+use crate::room;
+use crate::serving;
+use board::BLOCKS;
+use board::Phase;
+use board::Record;
+use frame::Host;
+use job::Outcome;
+use job::records;
+use journal::Survey;
+use store::image;
+use store::surveys;
+use wire::Parsed;
+use wire::Refusal;
+use wire::Request;
+
+const BLOCK_COUNT: u8 = BLOCKS as u8;
+
+// Whether the current block is to be looked at, or why not.
+pub enum Gate {
+    Open,
+    Shut(Refusal),
+}
+
+// What is to be served, or why nothing is.
+pub enum Ask {
+    Serve(Request),
+    Refused(Refusal),
+}
+
+// The image has the recorded length, the recorded block is there, and the other is blank.
+fn same_image(image: &[u8], last: u16, number: u8) -> bool
+    ensures { λ r. ⌜ r ≡ sameAs (now (image .entry)) last number ⌝ }
+{
+    if image.len() != last as usize + 1 {
+        return false;
+    }
+    if BLOCK_COUNT <= number {
+        return false;
+    }
+    flash::is_blank(flash::block_of(image, image::next_block(number)))
+}
+
+// A record in no job, and the image that it is of.
+fn check_phase(image: &[u8], board: Record) -> Gate
+    ensures { λ r. ⌜ r ≡ gateIn (board .phase) (now (image .entry)) board ⌝ }
+{
+    let phase = board.phase;
+    match phase {
+        Phase::Busy(_) => return Gate::Shut(Refusal::Busy),
+        Phase::Unmounted => return Gate::Shut(Refusal::NoStore),
+        Phase::Idle => {
+            if same_image(image, board.last, board.block) {
+                return Gate::Open;
+            }
+            return Gate::Shut(Refusal::Stale);
+        }
+    }
+}
+
+pub fn check(image: &[u8], board: Record, host: Host) -> Gate
+    ensures { λ r. ⌜ r ≡ gateOf (now (image .entry)) board host ⌝ }
+{
+    if !image::is_allowed(image.len()) {
+        return Gate::Shut(Refusal::ImageLength);
+    }
+    if 3 < host.0 {
+        return Gate::Shut(Refusal::HostRange);
+    }
+    check_phase(image, board)
+}
+
+// The current block is as an idle record has it.
+fn as_recorded(size: usize, end: u16, s: Survey) -> bool
+    ensures { λ r. ⌜ r ≡ asRecorded size end s ⌝ }
+{
+    let kind = s.kind;
+    if !surveys::is_valid(kind) {
+        return false;
+    }
+    if s.torn != 0 {
+        return false;
+    }
+    if s.end != end {
+        return false;
+    }
+    let p = s.pending;
+    room::claimed(s) + room::END * room::open_hosts(p) <= size
+}
+
+pub fn hear(size: usize, end: u16, s: Survey, message: &[u8]) -> Ask
+    ensures { λ r. ⌜ r ≡ askOf size end s (now (message .entry)) ⌝ }
+{
+    if !as_recorded(size, end, s) {
+        return Ask::Refused(Refusal::Stale);
+    }
+    match wire::parse(message) {
+        Parsed::Is(ask) => return Ask::Serve(ask),
+        Parsed::Malformed => return Ask::Refused(Refusal::Malformed),
+    }
+}
+
+pub fn request(image: &[u8], board: Record, host: Host, message: &[u8], reply: &mut [u8]) -> Outcome
+    ensures { λ r. ⌜ (r .answer ≡ requestOn (now (image .entry)) board (now (reply .entry)) host (now (message .entry)) .answer)
+        × (r .board ≡ requestOn (now (image .entry)) board (now (reply .entry)) host (now (message .entry)) .board)
+        × (now (reply .exit) ≡ requestOn (now (image .entry)) board (now (reply .entry)) host (now (message .entry)) .reply) ⌝ }
+{
+    match check(image, board, host) {
+        Gate::Shut(why) => return store::refused(why, board),
+        Gate::Open => {
+            let size = image.len() / 2;
+            let mut places = records::no_places();
+            let s = journal::survey_block(flash::block_of(image, board.block), &mut places);
+            match hear(size, board.end, s, message) {
+                Ask::Refused(why) => return store::refused(why, board),
+                Ask::Serve(ask) => return serving::serve(
+                    size as u16,
+                    board,
+                    host,
+                    message,
+                    reply,
+                    s,
+                    places,
+                    ask,
+                ),
+            }
+        }
+    }
+}
