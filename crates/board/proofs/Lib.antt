@@ -34,3 +34,4 @@ pub mod Planning
 pub mod Demand2
 pub mod Limits
 pub mod CutFormat
+pub mod Sentences

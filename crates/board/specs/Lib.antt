@@ -11,3 +11,4 @@ pub mod Table
 pub mod Demand1
 pub mod Demand2
 pub mod CutFormat
+pub mod Sentences
