@@ -12,6 +12,7 @@ pub mod Demand1
 pub mod Demand2
 pub mod CutFormat
 pub mod Sentences
+pub mod Laws
 pub mod Promise
 pub mod Tickets
 pub mod Wrong
