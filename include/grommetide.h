@@ -71,11 +71,11 @@
  *
  *   Bytes of stack that a call takes at most, its return address included (held by a test that paints the stack):
  *
- *     grommetide_mount        8,192
- *     grommetide_format       4,096
- *     grommetide_request     12,288
+ *     grommetide_mount        9,216
+ *     grommetide_format       4,608
+ *     grommetide_request     14,336
  *     grommetide_step         5,120
- *     grommetide_read         7,680
+ *     grommetide_read         8,192
  */
 #ifndef GROMMETIDE_H
 #define GROMMETIDE_H
