@@ -29,12 +29,11 @@ use Rattle.board.specs.Mount.{allFound, Store, needsTransfer, mountOn}
 use Rattle.board.specs.Queue.{Held, held, needsRoom}
 use Rattle.board.specs.Exec.{Call, request, step, mount, format}
 use Rattle.board.specs.Plan.{Follows, formatPlan, mountPlan, mountedAt, framePlan, framedAt}
-use Rattle.board.specs.Table.{frameFor}
+use Rattle.board.specs.Table.{frameFor, Line, line, Exactly, Allowed, InJob, Fresh, FreshExact, requestLines, mountLines, linesOf}
 use Rattle.board.specs.Demand1.{Rests}
 use Rattle.board.specs.Demand2.{Accepted}
 use Rattle.board.specs.Claim.{ByteCall, ByteCalls}
 use Rattle.board.specs.Paper.{Means, MessagesExact, MalformedExact}
-use Rattle.board.specs.Sentences.{Line, line, Exactly, Allowed, InJob, Fresh, FreshExact, requestLines, mountLines, linesOf}
 use Rattle.board.specs.Promise.{Machine, replyFor, stretchFor, Answers, Serves, Job, frame-job, mount-job, format-job, Calls, Shown, restingIn, shownRecord, shown, trace, Begins, PromiseDetermines, PromiseDeterminesFrom, PromiseDeterminesCall}
 use Rattle.board.proofs.Answering.{number-injective, number-accepted, Both, both-taken, both-refused, same-lines, told-answer, whole, whole-is, in-job}
 use Rattle.board.proofs.Tabling.{is-allowed}

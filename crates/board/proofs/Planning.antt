@@ -36,10 +36,9 @@ use Rattle.board.specs.Step.{enterWipe}
 use Rattle.board.specs.Queue.{Held, held, needsRoom, appendJob, append, serve, serveChange, serveEnd, serveParsed, serveHeld, requestIn, requestOn}
 use Rattle.board.specs.Exec.{request, exec}
 use Rattle.board.specs.Plan.{framePlan, framedAt}
-use Rattle.board.specs.Table.{frameFor, frameIf}
+use Rattle.board.specs.Table.{frameFor, frameIf, FreshExact}
 use Rattle.board.specs.Demand2.{Appends}
 use Rattle.board.specs.Paper.{MessagesExact}
-use Rattle.board.specs.Sentences.{FreshExact}
 use Rattle.board.proofs.Checks.{roomRule}
 use Rattle.board.proofs.Wording.{fresh-exact, messages-exact}
 use Rattle.board.proofs.Images.{Sized, size-of, sized-of}

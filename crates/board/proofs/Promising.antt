@@ -34,11 +34,10 @@ use Rattle.board.specs.Mount.{allFound, Store, needsTransfer, mountOn, f
 use Rattle.board.specs.Queue.{Held, held, needsRoom, append, serve, serveChange, serveEnd, requestOn}
 use Rattle.board.specs.Exec.{Call, request, step, mount, format, exec}
 use Rattle.board.specs.Plan.{Follows, formatPlan, mountPlan, mountedAt, framePlan, framedAt}
-use Rattle.board.specs.Table.{frameFor, frameIf}
+use Rattle.board.specs.Table.{frameFor, frameIf, Fresh, FreshExact, Exactly, linesOf}
 use Rattle.board.specs.Demand2.{Accepted, Appends, Mounts, OneStore}
 use Rattle.board.specs.Claim.{ByteCall}
 use Rattle.board.specs.Paper.{Means, MessagesExact}
-use Rattle.board.specs.Sentences.{Fresh, FreshExact, Exactly, linesOf}
 use Rattle.board.specs.Promise.{Answers, replyFor, stretchFor, Serves, Current, Job, frame-job, mount-job, format-job, Calls}
 use Rattle.board.proofs.Checks.{roomRule}
 use Rattle.board.proofs.Images.{sized-of}

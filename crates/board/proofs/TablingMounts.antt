@@ -27,7 +27,7 @@ use Rattle.board.specs.Record.{allowed, unmounted, Out, refuse, answerIn
 use Rattle.board.specs.Step.{enterWipe}
 use Rattle.board.specs.Mount.{Store, needsTransfer, anyPending, allFound, wipeList, mountJob, mountOn}
 use Rattle.board.specs.Demand2.{Accepted, Mounts}
-use Rattle.board.specs.Sentences.{line, Exactly, ValidAt, ForeignAt, NothingThere, Unclear, foreign-half, equal-times, Unsettled, MountWorn, mountLines}
+use Rattle.board.specs.Table.{line, Exactly, ValidAt, ForeignAt, NothingThere, Unclear, foreign-half, equal-times, Unsettled, MountWorn, mountLines}
 use Rattle.board.specs.Promise.{Machine, Current}
 use Rattle.board.proofs.Images.{Sized, sized-of}
 use Rattle.board.proofs.Invariant.{Quiet}

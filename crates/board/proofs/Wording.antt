@@ -33,7 +33,7 @@ use Rattle.board.specs.declared.Record.{Record}
 use Rattle.board.specs.Record.{allowed, restOf, idle}
 use Rattle.board.specs.Mount.{endOf}
 use Rattle.board.specs.Queue.{Held, held, heldIf, heldIn, heldBy, fitsRecord, othersBlank, sameImage}
-use Rattle.board.specs.Sentences.{Fresh, FreshExact}
+use Rattle.board.specs.Table.{Fresh, FreshExact}
 use Rattle.board.specs.Paper.{Headed, Means, MessagesExact, MalformedExact, ObjectLaws}
 use Rattle.board.proofs.Images.{Sized, sized-of, sized-block}
 use Rattle.board.proofs.Invariant.{Ready}

@@ -30,9 +30,8 @@ use Rattle.board.specs.Mount.{allFound, Store, needsTransfer}
 use Rattle.board.specs.Queue.{Held, needsRoom}
 use Rattle.board.specs.Exec.{Call, request, step, mount, format, Machine}
 use Rattle.board.specs.Plan.{Follows, formatPlan, mountPlan, mountedAt, framePlan, framedAt}
-use Rattle.board.specs.Table.{frameFor}
+use Rattle.board.specs.Table.{frameFor, Allowed, Fresh}
 use Rattle.board.specs.Paper.{Means}
-use Rattle.board.specs.Sentences.{Allowed, Fresh}
 use Rattle.board.specs.Claim.{ByteCalls}
 
 -- ---- every image reads as one store

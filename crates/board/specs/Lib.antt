@@ -11,7 +11,6 @@ pub mod Table
 pub mod Demand1
 pub mod Demand2
 pub mod CutFormat
-pub mod Sentences
 pub mod Paper
 pub mod Promise
 pub mod Tickets

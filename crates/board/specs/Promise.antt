@@ -30,11 +30,10 @@ use Rattle.board.specs.Queue.{Held, needsRoom, placeOf}
 pub use Rattle.board.specs.Exec.{Machine}
 use Rattle.board.specs.Exec.{Call, request, step, mount, format}
 use Rattle.board.specs.Plan.{Follows, formatPlan, mountPlan, mountedAt, framePlan, framedAt}
-use Rattle.board.specs.Table.{frameFor}
+use Rattle.board.specs.Table.{frameFor, Exactly, InJob, Fresh, ValidAt, linesOf}
 use Rattle.board.specs.Demand1.{Unchanged, ImageAfter, Declared, Rests, EndsWithin}
 use Rattle.board.specs.Demand2.{Accepted, OneStore, PlannedFrom, RoomExact, WearExact}
 use Rattle.board.specs.Paper.{Means}
-use Rattle.board.specs.Sentences.{Exactly, InJob, Fresh, ValidAt, linesOf}
 use Rattle.board.specs.Claim.{stepsOn, ByteCall, ByteCalls, Claim}
 use Rattle.board.specs.CutFormat.{CutFormat}
 
