@@ -346,8 +346,9 @@ module _ {m n : Machine} (pm : Calls m) (pn : Calls n) where
       busy s e (both-refused w a b) =
           ap shown (pm .untouched img r (request h msg reply) w a) ∙ sym (ap shown (pn .untouched img r (request h msg reply) w b))
       busy s e (both-taken a b) =
-          absurd (busy-refuses pm pn img by h (m img r (request h msg reply) .answer)
-          (while-busy pm pn img by r h msg reply (m img r (request h msg reply) .answer) (subst InJob (sym e) tt) (pm .table img r (request h msg reply) by)) a)
+          let w : Answer = m img r (request h msg reply) .answer in
+          absurd (busy-refuses pm pn img by h w
+          (while-busy pm pn img by r h msg reply w (subst InJob (sym e) tt) (pm .table img r (request h msg reply) by)) a)
 
       go : (p : Phase) → r .phase ≡ p → shown (m img r (request h msg reply)) ≡ shown (n img r (request h msg reply))
       go Unmounted e = rested (subst Rests (sym e) tt)

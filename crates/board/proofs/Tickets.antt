@@ -13,7 +13,7 @@ use Rattle.frame.specs.declared.Host.{Host}
 use Rattle.frame.specs.Frame.{Frame, Change}
 use Rattle.frame.specs.Reader.{clean}
 use Rattle.journal.specs.Replay.{Object, State, replay, changeAll}
-use Rattle.journal.specs.Block.{blockState}
+use Rattle.journal.specs.Block.{BlockState, blockState}
 use Rattle.wire.specs.declared.Answer.{Answer}
 use Rattle.wire.specs.declared.Answer.the-variants.{Done, More, Refused}
 use Rattle.wire.specs.declared.Request.{Request}
@@ -188,8 +188,10 @@ module _ {m : Machine} (p : Promise m) (i : List ℕ) (bi : Bytes i) (w : Record
       let y : Mounts m i (m i q mount) = p .one-store i q bi ok a in
       let e : y .store ≡ store .store = same-store i bi ok (y .store) (store .store) (mounts-current i bi ok (m i q mount) y) (store .current) in
       let f : y .last ≡ z = y .is-last ∙ ap (λ (s : Store). mountedAt (needsTransfer (s .frames) (s .tail)) (length i - 1) s) e in
+      let left : Store → Record → BlockState =
+      λ s v. blockState (block (sizeOf i) (v .block) (applyAll (sizeOf i) (mountPlan (allFound i) s) i)) in
       let g : SameValid (y .time) (y .frames) clean (idle-agrees .time) (idle-agrees .frames) clean =
-      same-valid (sym (y .leaves) ∙ ap₂ (λ (s : Store) (v : Record). blockState (block (sizeOf i) (v .block) (applyAll (sizeOf i) (mountPlan (allFound i) s) i))) e f
+      same-valid (sym (y .leaves) ∙ ap₂ left e f
       ∙ sym (ap (λ (n : ℕ). blockState (block (n / blocks) (z .block) after)) (length-all-steps (sizeOf i) plan i)) ∙ idle-agrees .is-valid) in
       sym (ap (λ (fs : List Frame). replay fs .pending) (g .frames)) ∙ ap (λ (s : State). s .pending) (y .holds)
 
