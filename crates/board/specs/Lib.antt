@@ -14,3 +14,6 @@ pub mod CutFormat
 pub mod Paper
 pub mod Promise
 pub mod Tickets
+pub mod Wrong
+pub mod WrongRuns
+pub mod WrongRows

@@ -1,0 +1,135 @@
+-- The wrong stores are refuted: on a short run each shows something else than the machine does, and the promise leaves no room for that.
+use mathlib.Core.Path.{_≡_, refl, sym, ap, _∙_}
+use mathlib.Core.List.{List, [], _∷_}
+use mathlib.Core.Logic.{inl, inr}
+use mathlib.Core.Bool.{Bool, true, false, _&&_, cond}
+use Prim.Native.Nat.{ℕ, zero, suc, _<_}
+use native.Mathlib.Omega.{arith}
+use lib.Dec.{ltb}
+use lib.ListN.{length, replicate}
+use borrow.Author.Tests.{ltb-true, eqb-false}
+use Rattle.flash.specs.Bytes.{Bytes}
+use Rattle.flash.proofs.Cases.{on-test, and-left, and-right, clash}
+use Rattle.board.specs.declared.Stage.the-variants.{Wipe}
+use Rattle.board.specs.declared.Phase.the-variants.{Unmounted, Idle, Busy}
+use Rattle.board.specs.declared.Record.{Record}
+use Rattle.board.specs.Record.{unmounted, cursor, inStage}
+use Rattle.board.specs.Step.{enterWipe, stepBusy, stepOn}
+use Rattle.board.specs.Mount.{formatOn}
+use Rattle.board.specs.Demand1.{Declared, EndsWithin}
+use Rattle.board.specs.Exec.{Call, request, step, mount, format, Machine, exec}
+use Rattle.board.specs.Claim.{ByteCalls}
+use Rattle.board.specs.Promise.{Promise, Shown, trace, PromiseDetermines}
+use Rattle.board.specs.Wrong.{Wrongly, offBench, outsideIsDone, forgedWaits, RightOnBench, Refuted}
+use Rattle.board.specs.WrongRuns.{nothing, lastFrom, allBytes, bytesIn, begins, Differs}
+use Rattle.board.proofs.Determining.{promise-determines}
+use Rattle.board.proofs.FollowingPlans.{promise}
+use Rattle.board.proofs.RefutingRuns.{runs}
+
+bytes-all : (l : List ℕ) → allBytes l ≡ true → Bytes l
+bytes-all [] e = tt
+bytes-all (b ∷ bs) e = (ltb-true b 256 (and-left (ltb b 256) (allBytes bs) e), bytes-all bs (and-right (ltb b 256) (allBytes bs) e))
+
+bytes-in : (cs : List Call) → bytesIn cs ≡ true → ByteCalls cs
+bytes-in [] e = tt
+bytes-in (request h m reply ∷ cs) e =
+    (bytes-all m (and-left (allBytes m) (bytesIn cs) e), bytes-in cs (and-right (allBytes m) (bytesIn cs) e))
+bytes-in (step ∷ cs) e = (tt, bytes-in cs e)
+bytes-in (mount ∷ cs) e = (tt, bytes-in cs e)
+bytes-in (format ∷ cs) e = (tt, bytes-in cs e)
+
+-- a store that keeps the promise shows what the machine shows
+same-trace : (m : Machine) → Promise m → (img : List ℕ) → Bytes img → (cs : List Call) → begins cs ≡ true → ByteCalls cs
+    → trace m img unmounted cs ≡ trace exec img unmounted cs
+unfolding PromiseDetermines
+same-trace m p img b [] e c = refl
+same-trace m p img b (request h msg reply ∷ cs) e c = clash false e refl
+same-trace m p img b (step ∷ cs) e c = clash false e refl
+same-trace m p img b (mount ∷ cs) e c = promise-determines m exec p promise img unmounted unmounted mount cs b tt (c .1)
+same-trace m p img b (format ∷ cs) e c = promise-determines m exec p promise img unmounted unmounted format cs b tt (c .1)
+
+-- so one that shows something else doesn't keep it
+differs : {w : Wrongly} {img : List ℕ} {cs : List Call} {see : Shown → ℕ} {a b : ℕ}
+    → Differs w img cs see a b → Promise (offBench w) → ⊥
+differs {w} {img} {cs} {see} {a} {b} t p =
+    let bytes : Bytes img = bytes-all img (and-left (allBytes img) (begins cs && bytesIn cs) (t .is-run)) in
+    let calls : (begins cs && bytesIn cs) ≡ true = and-right (allBytes img) (begins cs && bytesIn cs) (t .is-run) in
+    let same : trace (offBench w) img unmounted cs ≡ trace exec img unmounted cs =
+    same-trace (offBench w) p img bytes cs (and-left (begins cs) (bytesIn cs) calls)
+    (bytes-in cs (and-right (begins cs) (bytesIn cs) calls)) in
+    eqb-false a b (t .apart) (sym (t .shows-wrong) ∙ ap (λ (xs : List Shown). see (lastFrom nothing xs)) same ∙ t .shows-right)
+
+pub right-on-bench : RightOnBench
+unfolding RightOnBench
+right-on-bench w img r c short =
+    on-test (ltb 512 (length img)) (λ e. absurd (let long : 512 < length img = ltb-true 512 (length img) e in omega arith))
+    (λ e. ap (λ (b : Bool). cond b (w img r c (exec img r c)) (exec img r c)) e)
+
+-- ---- records that no run gives back: by the clause itself
+
+-- an image and the record of its format
+abbrev long : List ℕ
+long = replicate 768 0xFF
+
+unfoldable formatting : Record
+formatting = exec long unmounted format .board
+
+not-idle : Busy Wipe ≡ Idle → ⊥
+not-idle e = let w : _≡_ {A = ℕ} 0 1 = cc in omega arith
+
+not-unmounted : Busy Wipe ≡ Unmounted → ⊥
+not-unmounted e = let w : _≡_ {A = ℕ} 0 1 = cc in omega arith
+
+-- with an image of another length
+outside-is-done : Promise (offBench outsideIsDone) → ⊥
+unfolding outsideIsDone stepBusy stepOn formatOn enterWipe formatting
+outside-is-done p = not-idle (p .calls .told (replicate 1024 0xFF) formatting step tt (λ e. absurd (not-unmounted e)) .done .0 refl)
+
+-- at a step that its job doesn't have
+unfoldable stuck : Record
+stuck = inStage Wipe (cursor 100 0 0 0 0 0) formatting
+
+never-ends : (n : ℕ) → EndsWithin (offBench forgedWaits) n long stuck → ⊥
+unfolding EndsWithin forgedWaits stuck
+never-ends zero e = e
+never-ends (suc n) (inl e) = e
+never-ends (suc n) (inr (inl e)) = let w : _≡_ {A = ℕ} 0 1 = cc in omega arith
+never-ends (suc n) (inr (inr e)) = never-ends n e
+
+stuck-declared : Declared stuck
+unfolding stuck formatting formatOn enterWipe
+stuck-declared = record { last = omega arith; wipes = omega arith; append = omega arith; copy = omega arith }
+
+forged-waits : Promise (offBench forgedWaits) → ⊥
+forged-waits p = never-ends 65536 (p .calls .ends long stuck stuck-declared)
+
+pub refuted : Refuted
+refuted =
+    record {
+      refuses-all = differs (runs .refuses-all);
+      refuses-puts = differs (runs .refuses-puts);
+      refuses-high-ids = differs (runs .refuses-high-ids);
+      own-formats-only = differs (runs .own-formats-only);
+      first-half-only = differs (runs .first-half-only);
+      host-first = differs (runs .host-first);
+      refusal-clears = differs (runs .refusal-clears);
+      refused-log-writes = differs (runs .refused-log-writes);
+      reads-alike = differs (runs .reads-alike);
+      invents-count = differs (runs .invents-count);
+      never-commits = differs (runs .never-commits);
+      aborts-nothing = differs (runs .aborts-nothing);
+      takes-others = differs (runs .takes-others);
+      keeps-old = differs (runs .keeps-old);
+      programs-nothing = differs (runs .programs-nothing);
+      whole-frame = differs (runs .whole-frame);
+      invents-step = differs (runs .invents-step);
+      erases-first = differs (runs .erases-first);
+      outside-is-done = outside-is-done;
+      forged-waits = forged-waits;
+      hurried-mount = differs (runs .hurried-mount);
+      loses-all = differs (runs .loses-all);
+      keeps-pending = differs (runs .keeps-pending);
+      refuses-alike = differs (runs .refuses-alike);
+      overlooks-foreign = differs (runs .overlooks-foreign);
+      formats-at-once = differs (runs .formats-at-once);
+    }

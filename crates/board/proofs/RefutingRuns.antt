@@ -1,0 +1,56 @@
+-- The runs that tell the wrong stores from the machine, computed over the definitions.
+use mathlib.Core.Path.{refl}
+use Rattle.flash.specs.Bytes.{allFF, sameBytes}
+use Rattle.flash.specs.Flash.{applyAll, writes}
+use Rattle.frame.specs.Frame.{encodeAll, total}
+use Rattle.frame.specs.Reader.{match, readFrame, scan}
+use Rattle.journal.specs.Replay.{insert, remove, lookup, changeAll, listOf, without, isOpen, replayFrom}
+use Rattle.journal.specs.Block.{headerFault, blockState}
+use Rattle.journal.specs.Room.{noRoom}
+use Rattle.journal.specs.Index.{sited, placesFrom, sinceFrom, valueAt, nextSettled, nextPending, nextLoad}
+use Rattle.wire.specs.Message.{parse}
+use Rattle.board.specs.Record.{noPlaces, noFrame}
+use Rattle.board.specs.Step.{enterAppend, enterDrop, enterCopy, enterOpen, enterWipe, advance, stepBusy, stepOn}
+use Rattle.board.specs.Mount.{mountAt, mountFound, mountOn, formatOn}
+use Rattle.board.specs.Queue.{held, append, serveChange, serveEnd, serveLog, serve, requestOn}
+use Rattle.board.specs.Wrong.{refusesAll, refusesPuts, refusesHighIds, ownFormatsOnly, firstHalfOnly, hostFirst, refusalClears}
+use Rattle.board.specs.Wrong.{refusedLogWrites, readsAlike, inventsCount, neverCommits, abortsNothing, takesOthers, keepsOld}
+use Rattle.board.specs.Wrong.{programsNothing, wholeFrame, inventsStep, erasesFirst, hurriedMount, losesAll, keepsPending}
+use Rattle.board.specs.Wrong.{refusesAlike, overlooksForeign, formatsAtOnce}
+use Rattle.board.specs.WrongRuns.{half, blankHalf, stored, pending, later, second, begun, strange, twice, Runs}
+
+pub runs : Runs
+unfolding refusesAll refusesPuts refusesHighIds ownFormatsOnly firstHalfOnly hostFirst refusalClears refusedLogWrites readsAlike
+    inventsCount neverCommits abortsNothing takesOthers keepsOld programsNothing wholeFrame inventsStep erasesFirst hurriedMount losesAll
+    keepsPending refusesAlike overlooksForeign formatsAtOnce allFF sameBytes applyAll writes encodeAll total match readFrame scan insert
+    remove lookup changeAll listOf without isOpen replayFrom headerFault blockState noRoom sited placesFrom sinceFrom valueAt nextSettled
+    nextPending nextLoad parse noPlaces noFrame enterAppend enterDrop enterCopy enterOpen enterWipe advance stepBusy stepOn mountAt
+    mountFound mountOn formatOn held append serveChange serveEnd serveLog serve requestOn half blankHalf stored pending later second begun
+    strange twice
+runs =
+    record {
+      refuses-all = record { is-run = refl; shows-wrong = refl; shows-right = refl; apart = refl };
+      refuses-puts = record { is-run = refl; shows-wrong = refl; shows-right = refl; apart = refl };
+      refuses-high-ids = record { is-run = refl; shows-wrong = refl; shows-right = refl; apart = refl };
+      own-formats-only = record { is-run = refl; shows-wrong = refl; shows-right = refl; apart = refl };
+      first-half-only = record { is-run = refl; shows-wrong = refl; shows-right = refl; apart = refl };
+      host-first = record { is-run = refl; shows-wrong = refl; shows-right = refl; apart = refl };
+      refusal-clears = record { is-run = refl; shows-wrong = refl; shows-right = refl; apart = refl };
+      refused-log-writes = record { is-run = refl; shows-wrong = refl; shows-right = refl; apart = refl };
+      reads-alike = record { is-run = refl; shows-wrong = refl; shows-right = refl; apart = refl };
+      invents-count = record { is-run = refl; shows-wrong = refl; shows-right = refl; apart = refl };
+      never-commits = record { is-run = refl; shows-wrong = refl; shows-right = refl; apart = refl };
+      aborts-nothing = record { is-run = refl; shows-wrong = refl; shows-right = refl; apart = refl };
+      takes-others = record { is-run = refl; shows-wrong = refl; shows-right = refl; apart = refl };
+      keeps-old = record { is-run = refl; shows-wrong = refl; shows-right = refl; apart = refl };
+      programs-nothing = record { is-run = refl; shows-wrong = refl; shows-right = refl; apart = refl };
+      whole-frame = record { is-run = refl; shows-wrong = refl; shows-right = refl; apart = refl };
+      invents-step = record { is-run = refl; shows-wrong = refl; shows-right = refl; apart = refl };
+      erases-first = record { is-run = refl; shows-wrong = refl; shows-right = refl; apart = refl };
+      hurried-mount = record { is-run = refl; shows-wrong = refl; shows-right = refl; apart = refl };
+      loses-all = record { is-run = refl; shows-wrong = refl; shows-right = refl; apart = refl };
+      keeps-pending = record { is-run = refl; shows-wrong = refl; shows-right = refl; apart = refl };
+      refuses-alike = record { is-run = refl; shows-wrong = refl; shows-right = refl; apart = refl };
+      overlooks-foreign = record { is-run = refl; shows-wrong = refl; shows-right = refl; apart = refl };
+      formats-at-once = record { is-run = refl; shows-wrong = refl; shows-right = refl; apart = refl };
+    }

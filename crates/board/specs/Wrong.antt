@@ -1,0 +1,292 @@
+-- Wrong stores. Each differs from the machine in one thing, and only on images longer than the bench's 512 bytes, so that no row
+-- sees it. None keeps the promise: `Refuted`. The runs that tell are in WrongRuns.
+use mathlib.Core.List.{List, [], _∷_, _++_}
+use mathlib.Core.Bool.{Bool, false, _&&_, cond}
+use mathlib.Core.Path.{_≡_}
+use Prim.Native.Nat.{ℕ, _+_, _-_, _≤_}
+use lib.Dec.{eqb, ltb}
+use lib.ListN.{length, take, drop, getD, set, replicate}
+use Rattle.flash.specs.Bytes.{sameBytes}
+use Rattle.flash.specs.Flash.{program, erase, apply, applyAll, block, sizeOf, writes}
+use Rattle.frame.specs.declared.Host.{Host}
+use Rattle.frame.specs.Frame.{hostMax, hostOf, encodeAll}
+use Rattle.journal.specs.Block.{stateAt, validData, createdAt, markWrites}
+use Rattle.wire.specs.declared.Answer.{Answer}
+use Rattle.wire.specs.declared.Answer.the-variants.{Done, More, Refused}
+use Rattle.wire.specs.declared.Refusal.the-variants as refusal
+use Rattle.wire.specs.Message.{wordAt}
+use Rattle.board.specs.declared.Stage.the-variants.{Wipe, Open, Copy, Seal, Drop, Append}
+use Rattle.board.specs.declared.Phase.{Phase}
+use Rattle.board.specs.declared.Phase.the-variants.{Unmounted, Idle, Busy}
+use Rattle.board.specs.declared.Record.{Record}
+use Rattle.board.specs.Record.{allowed, unmounted, Stretch, Out, out, refuse, answerOf}
+use Rattle.board.specs.Mount.{allFound, Store, stores, mountStores}
+use Rattle.board.specs.Queue.{held}
+use Rattle.board.specs.Table.{isNone}
+use Rattle.board.specs.Exec.{Call, request, step, mount, format, Machine, exec}
+use Rattle.board.specs.Plan.{onBlock, mountedAt}
+use Rattle.board.specs.Promise.{Promise}
+
+-- ---- how a store is made wrong
+
+-- what a wrong store gives back, by the call and by what the machine gives
+abbrev pub Wrongly : Type 0
+Wrongly = List ℕ → Record → Call → Out → Out
+
+-- on images longer than the bench's; on all others it is the machine
+abbrev pub offBench : Wrongly → Machine
+offBench w img r c = cond (ltb 512 (length img)) (w img r c (exec img r c)) (exec img r c)
+
+-- in requests alone; in those of one kind alone; in steps, in mounts, in formats alone
+abbrev pub InRequest : Type 0
+InRequest = List ℕ → Record → Host → List ℕ → List ℕ → Out → Out
+
+abbrev pub requests : InRequest → Wrongly
+requests w img r (request h m reply) o = w img r h m reply o
+requests w img r step o = o
+requests w img r mount o = o
+requests w img r format o = o
+
+abbrev pub requestsOf : ℕ → InRequest → Wrongly
+requestsOf k w = requests (λ img r h m reply o. cond (eqb (wordAt m 2) k) (w img r h m reply o) o)
+
+abbrev pub steps : (List ℕ → Record → Out → Out) → Wrongly
+steps w img r (request h m reply) o = o
+steps w img r step o = w img r o
+steps w img r mount o = o
+steps w img r format o = o
+
+abbrev pub mounts : (List ℕ → Out → Out) → Wrongly
+mounts w img r (request h m reply) o = o
+mounts w img r step o = o
+mounts w img r mount o = w img o
+mounts w img r format o = o
+
+abbrev pub formats : (List ℕ → Out → Out) → Wrongly
+formats w img r (request h m reply) o = o
+formats w img r step o = o
+formats w img r mount o = o
+formats w img r format o = w img o
+
+-- one of three, by what the machine answers: 0, more, or a refusal
+abbrev pub byAnswer : Answer → Out → Out → Out → Out
+byAnswer Done x y z = x
+byAnswer More x y z = y
+byAnswer (Refused n) x y z = z
+
+-- in place of what the machine doesn't refuse
+abbrev pub accepted : Out → Out → Out
+accepted o x = byAnswer (o .answer) x x o
+
+-- ---- refusals
+
+-- "a store that refuses everything": all but a format, which row p asks for at 768 bytes
+unfoldable pub refusesAll : Wrongly
+refusesAll img r (request h m reply) o = refuse refusal.NoStore img r reply
+refusesAll img r step o = refuse refusal.Stale img r []
+refusesAll img r mount o = refuse refusal.NoStore img unmounted []
+refusesAll img r format o = o
+
+-- 7: "the room rule": given to every put
+unfoldable pub refusesPuts : Wrongly
+refusesPuts = requestsOf 0x0101 (λ img r h m reply o. accepted o (refuse refusal.NoRoom img r reply))
+
+-- "Object ids 0 to 255": those above 127 get 1
+unfoldable pub refusesHighIds : Wrongly
+refusesHighIds =
+    requests (λ img r h m reply o. accepted o (cond (ltb 127 (getD m 4 0)) (refuse refusal.Malformed img r reply) o))
+
+-- 11: "its length differs, or the image read afresh isn't: ..": given for a half that no format made, since its time isn't 1
+unfoldable pub ownFormatsOnly : Wrongly
+ownFormatsOnly =
+    requests
+    (λ img r h m reply o. accepted o (cond (eqb (createdAt (block (sizeOf img) (r .block) img)) 1) o (refuse refusal.Stale img r reply)))
+
+-- 11: "recorded half valid": given for the second half too
+unfoldable pub firstHalfOnly : Wrongly
+firstHalfOnly = requests (λ img r h m reply o. accepted o (cond (eqb (r .block) 0) o (refuse refusal.Stale img r reply)))
+
+-- "Checked in this order": 10 before 4
+unfoldable pub hostFirst : Wrongly
+hostFirst = requests (λ img r h m reply o. cond (ltb hostMax (h .0)) (refuse refusal.HostRange img r reply) o)
+
+-- "Every refusal .. changes no byte of image, reply or record"
+unfoldable pub refusalClears : Wrongly
+refusalClears = requests (λ img r h m reply o. byAnswer (o .answer) o o (out (o .answer) img r []))
+
+-- "Nothing else writes to the reply": a refused log does
+unfoldable pub refusedLogWrites : Wrongly
+refusedLogWrites =
+    requestsOf 0x0106 (λ img r h m reply o. byAnswer (o .answer) o o (out (o .answer) img r (replicate (length reply) 0)))
+
+-- ---- reads and log pages
+
+-- "one that answers every read alike": 8
+unfoldable pub readsAlike : Wrongly
+readsAlike = requestsOf 0x0105 (λ img r h m reply o. accepted o (refuse refusal.NoObject img r reply))
+
+-- "one that reports an invented settled count": 7
+unfoldable pub inventsCount : Wrongly
+inventsCount = requestsOf 0x0106 (λ img r h m reply o. accepted o (out Done img r (set (o .reply) 8 7)))
+
+-- ---- changes
+
+-- done at once, with no frame
+abbrev pub atOnce : InRequest
+atOnce img r h m reply o = byAnswer (o .answer) o (out Done img r reply) o
+
+-- "Put, delete, commit, abort: one frame of n bytes": a commit has none
+unfoldable pub neverCommits : Wrongly
+neverCommits = requestsOf 0x0103 atOnce
+
+-- "abort empties it": the changes stay
+unfoldable pub abortsNothing : Wrongly
+abortsNothing = requestsOf 0x0104 atOnce
+
+-- "commit applies that list", its host's: where that is empty it applies host 2's
+unfoldable pub takesOthers : Wrongly
+takesOthers = requestsOf 0x0103 (λ img r h m reply o. byAnswer (o .answer) (exec img r (request (hostOf 2) m reply)) o o)
+
+-- what a read of a put's object finds
+abbrev pub oldValue : List ℕ → Record → Host → List ℕ → List ℕ
+oldValue img r h m =
+    let s : Stretch = exec img r (request h (0x06 ∷ 0x00 ∷ 0x05 ∷ 0x01 ∷ take 2 (drop 4 m)) []) .stretch in
+    take (s .size) (drop (s .at) img)
+
+-- a put with another value that is as long
+abbrev pub withValue : List ℕ → List ℕ → List ℕ
+withValue m v = cond (eqb (6 + length v) (length m)) (take 6 m ++ v) m
+
+-- "Accepted put or delete: it joins the end of its host's list": the object's old value does
+unfoldable pub keepsOld : Wrongly
+keepsOld = requestsOf 0x0101 (λ img r h m reply o. exec img r (request h (withValue m (oldValue img r h m)) reply))
+
+-- ---- steps
+
+-- one of four, by the stage that a job is in: Seal, Drop, Append, any other
+abbrev pub byStage : Phase → Out → Out → Out → Out → Out
+byStage Unmounted x y z o = o
+byStage Idle x y z o = o
+byStage (Busy Wipe) x y z o = o
+byStage (Busy Open) x y z o = o
+byStage (Busy Copy) x y z o = o
+byStage (Busy Seal) x y z o = x
+byStage (Busy Drop) x y z o = y
+byStage (Busy Append) x y z o = z
+
+-- the step's outcome, but for the image
+abbrev pub onImage : List ℕ → Out → Out
+onImage img o = out (o .answer) img (o .board) (o .reply)
+
+-- "one that programs nothing"
+unfoldable pub programsNothing : Wrongly
+programsNothing = steps (λ img r o. onImage img o)
+
+-- all of a job's frame programmed
+abbrev pub framed : List ℕ → Record → List ℕ
+framed img r = applyAll (sizeOf img) (onBlock (r .block) (writes (r .end) (take (r .job .size) (r .frame)))) img
+
+-- "one that programs a whole frame in the first step and idles after": to program a byte again changes nothing
+unfoldable pub wholeFrame : Wrongly
+wholeFrame = steps (λ img r o. byStage (r .phase) o o (onImage (framed img r) o) o)
+
+-- "one that reports an invented settled count or step count": the last step is answered more the first time it is made
+unfoldable pub inventsStep : Wrongly
+inventsStep = steps (λ img r o. byAnswer (o .answer) (cond (sameBytes img (o .image)) o (out More (o .image) r [])) o o)
+
+-- a transfer's last two steps: the new half says 0xFC, the old half is erased
+abbrev pub saysValid : List ℕ → Record → List ℕ
+saysValid img r = apply (sizeOf img) (program (r .job .target) stateAt validData) img
+
+abbrev pub erased : List ℕ → Record → List ℕ
+erased img r = apply (sizeOf img) (erase (r .block)) img
+
+abbrev pub atLast : Record → Bool
+atLast r = r .job .drops && eqb (r .cursor .index) (markWrites - 1)
+
+-- "Erasing the old half before the new one says 0xFC": the two change places
+unfoldable pub erasesFirst : Wrongly
+erasesFirst =
+    steps (λ img r o. byStage (r .phase) (cond (atLast r) (onImage (erased img r) o) o) (onImage (saysValid img r) o) o o)
+
+-- "in a job, 11 is given exactly if the image length isn't the record's or the job's next place lies outside it": 0 is given
+unfoldable pub outsideIsDone : Wrongly
+outsideIsDone = steps (λ img r o. byAnswer (o .answer) o o (out Done img r []))
+
+-- "A record forged otherwise .. ends or gets 11 within 65,536 step calls": one past the longest stage stays as it is
+unfoldable pub forgedWaits : Wrongly
+forgedWaits = steps (λ img r o. cond (ltb 99 (r .cursor .index)) (byAnswer (answerOf r) o (out More img r []) o) o)
+
+-- ---- mounts and formats
+
+-- "It answers 0 with an idle record if the job has no steps, else more": 0 while the job is unfinished
+unfoldable pub hurriedMount : Wrongly
+hurriedMount = mounts (λ img o. byAnswer (o .answer) o (out Done img (o .board) []) o)
+
+-- 2: "for mount, no valid half and none foreign": given after a cut that left a mount something to do, and ever after
+unfoldable pub losesAll : Wrongly
+losesAll = mounts (λ img o. byAnswer (o .answer) o (refuse refusal.NoStore img unmounted []) o)
+
+-- a half that could be served as it is, with what is pending
+abbrev pub asItIs : List ℕ → Out → List Store → Out
+asItIs img o [] = o
+asItIs img o (x ∷ []) =
+    let r : Record = mountedAt false (length img - 1) x in cond (isNone (held img r)) o (out Done img r [])
+asItIs img o (x ∷ y ∷ ys) = o
+
+-- "A mount drops all pending changes, as a cut does"
+unfoldable pub keepsPending : Wrongly
+keepsPending = mounts (λ img o. accepted o (asItIs img o (stores (allFound img))))
+
+-- two valid halves with the same frames
+abbrev pub lookAlike : List ℕ → Out → List Store → Out
+lookAlike img o [] = o
+lookAlike img o (x ∷ []) = o
+lookAlike img o (x ∷ y ∷ ys) =
+    cond (sameBytes (encodeAll (x .frames)) (encodeAll (y .frames))) (refuse refusal.Foreign img unmounted []) o
+
+-- 3: "two valid halves of equal time": given for equal content too
+unfoldable pub refusesAlike : Wrongly
+refusesAlike = mounts (λ img o. accepted o (lookAlike img o (stores (allFound img))))
+
+-- 3: "a foreign half": a mount that doesn't look
+unfoldable pub overlooksForeign : Wrongly
+overlooksForeign = mounts (λ img o. cond (allowed (length img)) (mountStores img (allFound img) (stores (allFound img))) o)
+
+-- "Accepting takes no step": a format erases at once
+unfoldable pub formatsAtOnce : Wrongly
+formatsAtOnce = formats (λ img o. accepted o (onImage (replicate (length img) 0xFF) o))
+
+-- ---- right on the bench, and yet none of them keeps the promise
+
+-- on the bench's images, whatever is done off it; for the rows one by one see WrongRows
+unfoldable pub RightOnBench : Type 0
+RightOnBench = (w : Wrongly) (img : List ℕ) (r : Record) (c : Call) → length img ≤ 512 → offBench w img r c ≡ exec img r c
+
+pub record Refuted : Type 0 where
+  pub refuses-all : Promise (offBench refusesAll) → ⊥
+  pub refuses-puts : Promise (offBench refusesPuts) → ⊥
+  pub refuses-high-ids : Promise (offBench refusesHighIds) → ⊥
+  pub own-formats-only : Promise (offBench ownFormatsOnly) → ⊥
+  pub first-half-only : Promise (offBench firstHalfOnly) → ⊥
+  pub host-first : Promise (offBench hostFirst) → ⊥
+  pub refusal-clears : Promise (offBench refusalClears) → ⊥
+  pub refused-log-writes : Promise (offBench refusedLogWrites) → ⊥
+  pub reads-alike : Promise (offBench readsAlike) → ⊥
+  pub invents-count : Promise (offBench inventsCount) → ⊥
+  pub never-commits : Promise (offBench neverCommits) → ⊥
+  pub aborts-nothing : Promise (offBench abortsNothing) → ⊥
+  pub takes-others : Promise (offBench takesOthers) → ⊥
+  pub keeps-old : Promise (offBench keepsOld) → ⊥
+  pub programs-nothing : Promise (offBench programsNothing) → ⊥
+  pub whole-frame : Promise (offBench wholeFrame) → ⊥
+  pub invents-step : Promise (offBench inventsStep) → ⊥
+  pub erases-first : Promise (offBench erasesFirst) → ⊥
+  pub outside-is-done : Promise (offBench outsideIsDone) → ⊥
+  pub forged-waits : Promise (offBench forgedWaits) → ⊥
+  pub hurried-mount : Promise (offBench hurriedMount) → ⊥
+  pub loses-all : Promise (offBench losesAll) → ⊥
+  pub keeps-pending : Promise (offBench keepsPending) → ⊥
+  pub refuses-alike : Promise (offBench refusesAlike) → ⊥
+  pub overlooks-foreign : Promise (offBench overlooksForeign) → ⊥
+  pub formats-at-once : Promise (offBench formatsAtOnce) → ⊥
