@@ -33,12 +33,13 @@ use Rattle.board.specs.Table.{frameFor, Line, line, Exactly, Allowed, In
 use Rattle.board.specs.Demand1.{Rests}
 use Rattle.board.specs.Demand2.{Accepted}
 use Rattle.board.specs.Claim.{ByteCall, ByteCalls}
-use Rattle.board.specs.Paper.{Means, MessagesExact, MalformedExact}
+use Rattle.wire.specs.Sentences.{Means, MessagesExact, MalformedExact}
 use Rattle.board.specs.Promise.{Machine, replyFor, stretchFor, Answers, Serves, Job, frame-job, mount-job, format-job, Calls, Shown, restingIn, shownRecord, shown, trace, Begins, PromiseDetermines, PromiseDeterminesFrom, PromiseDeterminesCall}
 use Rattle.board.proofs.Answering.{number-injective, number-accepted, Both, both-taken, both-refused, same-lines, told-answer, whole, whole-is, in-job}
 use Rattle.board.proofs.Tabling.{is-allowed}
 use Rattle.board.proofs.TablingMounts.{Mountable, mount-lines, accepted-takes}
-use Rattle.board.proofs.Wording.{fresh-exact, messages-exact, malformed-exact}
+use Rattle.wire.proofs.Sentences.{messages-exact, malformed-exact}
+use Rattle.board.proofs.Freshness.{fresh-exact}
 
 -- ---- two machines between calls: the same record in no job, or the same steps to do and then the same idle record
 

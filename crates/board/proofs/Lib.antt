@@ -44,7 +44,8 @@ pub mod Claiming  -- demand 3
 pub mod CutFormat  -- what a cut format leaves
 pub mod Bench  -- the starred rows
 -- ---- the promise
-pub mod Wording  -- refusal 11, messages and objects in document 01's words
+pub mod Sentences  -- frames, plans and places, which the promise uses, are as document 01 words them
+pub mod Freshness  -- and so is refusal 11
 pub mod Tabling  -- requests, steps and formats are refused by the table's lines
 pub mod TablingMounts  -- mounts are
 pub mod Answering  -- answers: numbers, lines, what they tell

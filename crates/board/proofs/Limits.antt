@@ -23,7 +23,7 @@ use Rattle.board.specs.Queue.{Held}
 use Rattle.board.specs.Exec.{Machine, request}
 use Rattle.board.specs.Table.{frameFor, Line, line, Exactly, InJob, Fresh, NoObject, ShortReply, NoRoom, for-put, for-delete, Worn, requestLines}
 use Rattle.board.specs.Demand2.{Asks, RoomExact, WearExact}
-use Rattle.board.specs.Paper.{Means}
+use Rattle.wire.specs.Sentences.{Means}
 use Rattle.board.specs.Promise.{Calls}
 use Rattle.board.proofs.Answering.{number-accepted}
 use Rattle.board.proofs.Tabling.{is-allowed, same-request, same-held}

@@ -37,9 +37,10 @@ use Rattle.board.specs.Queue.{Held, held, needsRoom, appendJob, append, 
 use Rattle.board.specs.Exec.{request, exec}
 use Rattle.board.specs.Plan.{Follows, framePlan, framedAt}
 use Rattle.board.specs.Table.{frameFor, frameIf, FreshExact, Fresh}
-use Rattle.board.specs.Paper.{Means, MessagesExact}
+use Rattle.wire.specs.Sentences.{Means, MessagesExact}
 use Rattle.board.proofs.Checks.{roomRule}
-use Rattle.board.proofs.Wording.{fresh-exact, messages-exact}
+use Rattle.wire.proofs.Sentences.{messages-exact}
+use Rattle.board.proofs.Freshness.{fresh-exact}
 use Rattle.board.proofs.Images.{Sized, size-of, sized-of}
 use Rattle.board.proofs.Invariant.{StepLands, Ready, InJob}
 use Rattle.board.proofs.Outcomes.{append-worn, append-begins, change-refused, change-goes, end-goes, end-idle, log-short, log-done, serve-put, serve-delete, serve-commit, serve-abort, serve-log, read-none, read-some, request-length, request-host, request-in}

@@ -37,7 +37,7 @@ use Rattle.board.specs.Plan.{Follows, formatPlan, mountPlan, mountedAt, 
 use Rattle.board.specs.Table.{frameFor, frameIf, Fresh, FreshExact, Exactly, linesOf}
 use Rattle.board.specs.Demand2.{Accepted, Mounts, OneStore}
 use Rattle.board.specs.Claim.{ByteCall}
-use Rattle.board.specs.Paper.{Means, MessagesExact}
+use Rattle.wire.specs.Sentences.{Means, MessagesExact}
 use Rattle.board.specs.Promise.{Answers, replyFor, stretchFor, Serves, Current, Job, frame-job, mount-job, format-job, Calls}
 use Rattle.board.proofs.Checks.{roomRule}
 use Rattle.board.proofs.Images.{sized-of}
@@ -48,7 +48,8 @@ use Rattle.board.proofs.Accepted.{follows-format}
 use Rattle.board.proofs.Outcomes.{append-worn, append-begins, change-refused, change-goes, end-goes, end-idle, log-short, log-done, serve-put, serve-delete, serve-commit, serve-abort, serve-log, read-none, read-some, request-length, request-host, request-busy, request-unmounted, request-served, mount-length, format-length, format-begins, step-resting}
 use Rattle.board.proofs.Planning.{Appends, Asked, jobOf, frame-begins, requests-planned, the-frame}
 use Rattle.board.proofs.Lengths.{length-format}
-use Rattle.board.proofs.Wording.{fresh-exact, messages-exact}
+use Rattle.wire.proofs.Sentences.{messages-exact}
+use Rattle.board.proofs.Freshness.{fresh-exact}
 use Rattle.board.proofs.Tabling.{request-lines, step-lines, format-lines, same-request, same-held}
 use Rattle.board.proofs.TablingMounts.{mount-lines, same-store, mounts-current}
 use Rattle.board.proofs.Answering.{whole}

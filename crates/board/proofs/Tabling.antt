@@ -37,9 +37,10 @@ use Rattle.board.specs.Queue.{Held, held, needsRoom}
 use Rattle.board.specs.Exec.{request, step, format, exec}
 use Rattle.board.specs.Table.{isBusy, isNone, frameFor, Line, line, Exactly, Allowed, InJob, Fresh, FreshExact, NoObject, ShortReply, NoRoom, for-put, for-delete, Worn, requestLines, Outside, Misplaced, linesOf}
 use Rattle.board.specs.Demand2.{Accepted}
-use Rattle.board.specs.Paper.{Means, MessagesExact, MalformedExact}
+use Rattle.wire.specs.Sentences.{Means, MessagesExact, MalformedExact}
 use Rattle.board.proofs.Checks.{Check, check, firstOf, isUnmounted, isMalformed, noObject, shortReply, roomRule, worn, laterChecks, heldChecks, requestChecks, outside, refusalIn}
-use Rattle.board.proofs.Wording.{fresh-exact, messages-exact, malformed-exact}
+use Rattle.wire.proofs.Sentences.{messages-exact, malformed-exact}
+use Rattle.board.proofs.Freshness.{fresh-exact}
 use Rattle.board.proofs.Refusals.{refused-by-table}
 
 -- ---- from tests to lines

@@ -31,10 +31,10 @@ use Rattle.board.specs.Book.{Book, book, nothing, noLists, firstBook, en
 use Rattle.board.specs.Book as books
 use Rattle.board.specs.Claim.{IdleAgrees, AgreesIn, Agrees, Run, stepsOn, formatted, ByteCalls, Claim}
 use Rattle.board.specs.CutFormat.{Left, afterAll, leftBy}
-use Rattle.board.specs.Paper.{Means, MessagesExact}
+use Rattle.wire.specs.Sentences.{Means, MessagesExact}
 use Rattle.board.specs.Promise.{Job, mount-job, StepsOf, Calls, Promise, Shown}
 use Rattle.board.specs.Tickets.{outcomes, strike, IsRefused, MarksRefused, Restores, committing, TicketsSettled}
-use Rattle.board.proofs.Wording.{messages-exact}
+use Rattle.wire.proofs.Sentences.{messages-exact}
 use Rattle.board.proofs.Erasing.{SameValid, same-valid}
 use Rattle.board.proofs.Images.{length-all-steps}
 use Rattle.board.proofs.Demand2.{one-store}

@@ -30,7 +30,7 @@ use Rattle.board.specs.Queue.{Held}
 use Rattle.board.specs.Exec.{Call, request, mount, format, Machine}
 use Rattle.board.specs.Plan.{Follows, mountPlan, mountedAt}
 use Rattle.board.specs.Table.{frameFor, Allowed, Fresh}
-use Rattle.board.specs.Paper.{Means}
+use Rattle.wire.specs.Sentences.{Means}
 use Rattle.board.specs.Claim.{ByteCalls}
 
 -- ---- every image reads as one store

@@ -33,7 +33,7 @@ use Rattle.board.specs.Plan.{Follows, formatPlan, mountPlan, mountedAt, 
 use Rattle.board.specs.Table.{frameFor, Exactly, InJob, Fresh, ValidAt, linesOf}
 use Rattle.board.specs.Demand1.{Unchanged, ImageAfter, Declared, Rests, EndsWithin}
 use Rattle.board.specs.Demand2.{Accepted, OneStore, LandsFrom, RoomExact, WearExact}
-use Rattle.board.specs.Paper.{Means}
+use Rattle.wire.specs.Sentences.{Means}
 use Rattle.board.specs.Claim.{stepsOn, ByteCall, ByteCalls, Claim}
 use Rattle.board.specs.CutFormat.{CutFormat}
 

@@ -22,7 +22,7 @@ use Rattle.wire.specs.Answer.{numberOf}
 use Rattle.board.specs.declared.Record.{Record}
 use Rattle.board.specs.Record.{allowed, Out, Accepted}
 use Rattle.board.specs.Exec.{Machine, Call, request, step, mount, format}
-use Rattle.board.specs.Paper.{Means}
+use Rattle.wire.specs.Sentences.{Means}
 use Rattle.board.specs.Claim.{stepsOn, ByteCalls}
 use Rattle.board.specs.CutFormat.{Left, leftBy}
 use Rattle.board.specs.Promise.{Promise}

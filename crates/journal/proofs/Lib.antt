@@ -19,3 +19,6 @@ pub mod Passing
 pub mod Fetching
 pub mod HeadLaws
 pub mod Surveying
+pub mod ObjectLaws
+pub mod ReplayLaws
+pub mod Sources

@@ -200,7 +200,7 @@ map-twice g f (commit h) = refl
 map-twice g f (abort h) = refl
 map-twice g f (settled i v) = refl
 
-map-plain : {A : Type 0} (x : FrameOf A) → mapFrame (λ v. v) x ≡ x
+pub map-plain : {A : Type 0} (x : FrameOf A) → mapFrame (λ v. v) x ≡ x
 map-plain (change h (put i v)) = refl
 map-plain (change h (delete i)) = refl
 map-plain (commit h) = refl

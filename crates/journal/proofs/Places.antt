@@ -20,14 +20,14 @@ use Rattle.journal.specs.Index.{sited, orZero, placesFrom, placesOf, Val
 use Rattle.journal.proofs.Mapping.{located, located-sited, located-plain, located-map, map-lookup, map-replay, OfFrame, AllFrames, all-replay, all-lookup}
 
 -- a value and the offset of its frame
-record Spot : Type 0 where
-  place : ℕ
-  bytes : List ℕ
+pub record Spot : Type 0 where
+  pub place : ℕ
+  pub bytes : List ℕ
 
-abbrev spot : ℕ → List ℕ → Spot
+abbrev pub spot : ℕ → List ℕ → Spot
 spot o v = record { place = o; bytes = v }
 
-abbrev spots : ℕ → List Frame → List (FrameOf Spot)
+abbrev pub spots : ℕ → List Frame → List (FrameOf Spot)
 spots o fs = located spot o fs
 
 -- ---- a value in the bytes of a block
@@ -122,20 +122,22 @@ length-from (suc n) k os = ap suc (length-from n (suc k) os)
 pub length-places : (fs : List Frame) → length (placesOf fs) ≡ 256
 length-places fs = length-from 256 0 (replay (sited headerLen fs) .objects)
 
--- what both replays find of an id
-sited-lookup : (fs : List Frame) (i : ObjectId)
+-- what replay finds of an id, with something made of place and bytes for the value
+pub spots-lookup : {B : Type 0} (g : Spot → B) (fs : List Frame) (i : ObjectId)
+    → lookup i (replay (located (λ p v. g (spot p v)) headerLen fs) .objects) ≡ Option·map g (lookup i (replay (spots headerLen fs) .objects))
+spots-lookup {B} g fs i =
+    ap (λ (x : List (FrameOf B)). lookup i (replay x .objects)) (located-map g spot headerLen fs)
+    ∙ ap (λ (x : StateOf B). lookup i (x .objects)) (map-replay g (spots headerLen fs)) ∙ map-lookup g i (replay (spots headerLen fs) .objects)
+
+pub sited-lookup : (fs : List Frame) (i : ObjectId)
     → lookup i (replay (sited headerLen fs) .objects) ≡ Option·map (λ (x : Spot). x .place) (lookup i (replay (spots headerLen fs) .objects))
 sited-lookup fs i =
-    ap (λ (x : List (FrameOf ℕ)). lookup i (replay x .objects)) (located-sited headerLen fs ∙ located-map (λ (x : Spot). x .place) spot headerLen fs)
-    ∙ ap (λ (x : StateOf ℕ). lookup i (x .objects)) (map-replay (λ (x : Spot). x .place) (spots headerLen fs))
-    ∙ map-lookup (λ (x : Spot). x .place) i (replay (spots headerLen fs) .objects)
+    ap (λ (x : List (FrameOf ℕ)). lookup i (replay x .objects)) (located-sited headerLen fs) ∙ spots-lookup (λ (x : Spot). x .place) fs i
 
-bytes-lookup : (fs : List Frame) (i : ObjectId)
+pub bytes-lookup : (fs : List Frame) (i : ObjectId)
     → lookup i (replay fs .objects) ≡ Option·map (λ (x : Spot). x .bytes) (lookup i (replay (spots headerLen fs) .objects))
 bytes-lookup fs i =
-    ap (λ (x : List Frame). lookup i (replay x .objects)) (located-plain headerLen fs ∙ located-map (λ (x : Spot). x .bytes) spot headerLen fs)
-    ∙ ap (λ (x : StateOf (List ℕ)). lookup i (x .objects)) (map-replay (λ (x : Spot). x .bytes) (spots headerLen fs))
-    ∙ map-lookup (λ (x : Spot). x .bytes) i (replay (spots headerLen fs) .objects)
+    ap (λ (x : List Frame). lookup i (replay x .objects)) (located-plain headerLen fs) ∙ spots-lookup (λ (x : Spot). x .bytes) fs i
 
 pub sited-none : (fs : List Frame) (i : ObjectId) → lookup i (replay fs .objects) ≡ none → lookup i (replay (sited headerLen fs) .objects) ≡ none
 sited-none fs i n = sited-lookup fs i ∙ go (lookup i (replay (spots headerLen fs) .objects)) (sym (bytes-lookup fs i) ∙ n)

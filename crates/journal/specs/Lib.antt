@@ -5,3 +5,4 @@ pub mod Index
 pub mod Survey
 pub mod Examples
 pub mod Sentences
+pub mod Laws

@@ -1,3 +1,4 @@
 pub mod Parsing
 pub mod Numbers
 pub mod Laying
+pub mod Sentences

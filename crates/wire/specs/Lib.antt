@@ -1,3 +1,4 @@
 pub mod Answer
 pub mod Message
 pub mod Code
+pub mod Sentences

@@ -1,0 +1,107 @@
+-- Refusal 11: `held` finds exactly what document 01 asks for.
+use mathlib.Core.Path.{_≡_, refl, sym, ap, _∙_}
+use mathlib.Core.List.{List}
+use mathlib.Core.Option.{some}
+use mathlib.Core.Bool.{Bool, true, _&&_, _||_}
+use Prim.Native.Nat.{ℕ, suc, _+_, _*_, _≤_, _<_}
+use native.Mathlib.Omega.{arith}
+use lib.Dec.{eqb, ltb, leb}
+use lib.ListN.{length, replicate}
+use borrow.Author.Tests.{eqb-true, eqb-false, eq-eqb, leb-true, le-leb, ltb-true, lt-ltb}
+use Rattle.flash.specs.Bytes.{Bytes, allFF}
+use Rattle.flash.specs.Flash.{blocks, blockNumbers, block, sizeOf}
+use Rattle.flash.proofs.Cases.{and-both, and-left, and-right, or-left, or-right, on-test}
+use Rattle.flash.proofs.Blank.{is-ff}
+use Rattle.flash.proofs.Image.{length-block, bytes-block}
+use Rattle.frame.specs.Frame.{endLen}
+use Rattle.frame.specs.Reader.{clean}
+use Rattle.frame.specs.Sentences.{Blank}
+use Rattle.journal.specs.Replay.{replay}
+use Rattle.journal.specs.Block.{BlockState, valid, blockState, headerLen}
+use Rattle.journal.specs.Sentences.{BlankBlock}
+use Rattle.journal.specs.Room.{claimed, openHosts}
+use Rattle.journal.proofs.Sentences.{states-exact}
+use Rattle.board.specs.declared.Record.{Record}
+use Rattle.board.specs.Record.{allowed, restOf, idle}
+use Rattle.board.specs.Mount.{endOf}
+use Rattle.board.specs.Queue.{Held, held, heldIf, heldIn, heldBy, fitsRecord, othersBlank, sameImage}
+use Rattle.board.specs.Table.{Fresh, FreshExact}
+use Rattle.board.proofs.Images.{Sized, sized-of, sized-block}
+use Rattle.board.proofs.Invariant.{Ready}
+use Rattle.board.proofs.Holding.{Passed, passed, held-inv}
+
+blank-means : (l : List ℕ) → Blank l → allFF l ≡ true
+blank-means l e = is-ff l e
+
+-- the other blocks one by one
+others-are : (k : ℕ) (img : List ℕ) → ((j : ℕ) → j < blocks → (j ≡ k → ⊥) → allFF (block (sizeOf img) j img) ≡ true) → othersBlank k img blockNumbers ≡ true
+others-are k img f = and-both (one 0) (one 1 && true) (each 0 (omega arith)) (and-both (one 1) true (each 1 (omega arith)) refl)
+  where
+    one : ℕ → Bool
+    one j = eqb k j || allFF (block (sizeOf img) j img)
+
+    each : (j : ℕ) → j < blocks → one j ≡ true
+    each j h =
+        on-test (eqb k j) (or-left (eqb k j) (allFF (block (sizeOf img) j img)))
+        (λ t. or-right (eqb k j) (allFF (block (sizeOf img) j img)) (f j h (λ e. eqb-false k j t (sym e))))
+
+held-here : (img : List ℕ) (r : Record) (x : Held) → sameImage img r ≡ true
+    → blockState (block (sizeOf img) (r .block) img) ≡ valid (x .time) (x .frames) clean → fitsRecord (sizeOf img) (r .end) (x .frames) ≡ true
+    → held img r ≡ some x
+unfolding held
+held-here img r x a v f =
+    ap (λ (b : Bool). heldBy b img r) a ∙ ap (λ (b : BlockState). heldIn (sizeOf img) (r .end) b) v
+    ∙ ap (λ (b : Bool). heldIf b (x .time) (x .frames)) f
+
+module _ (img : List ℕ) (r : Record) (x : Held) (by : Bytes img) (ok : allowed (length img) ≡ true) where
+  abbrev s : ℕ
+  s = sizeOf img
+
+  sized : Sized s img
+  sized = sized-of img ok
+
+  long-block : (k : ℕ) → k < blocks → headerLen ≤ length (block s k img)
+  long-block k h = let e : length (block s k img) ≡ s = length-block s k img (sized-block k sized h) in omega (arith, sized .low)
+
+  held-fresh : held img r ≡ some x → Fresh img r x
+  held-fresh e =
+      let v : (w : Ready s img (idle (restOf r))) × (w .time ≡ x .time) × (w .frames ≡ x .frames) = held-inv r sized by e in
+      let p : Passed s img r x = passed sized e in
+      let same : (eqb (length img) (suc (r .last)) && (ltb (r .block) blocks && othersBlank (r .block) img blockNumbers)) ≡ true = p .same in
+      let rest : (ltb (r .block) blocks && othersBlank (r .block) img blockNumbers) ≡ true =
+      and-right (eqb (length img) (suc (r .last))) (ltb (r .block) blocks && othersBlank (r .block) img blockNumbers) same in
+      let there : r .block < blocks = ltb-true (r .block) blocks (and-left (ltb (r .block) blocks) (othersBlank (r .block) img blockNumbers) rest) in
+      let c : Bool = leb (claimed (replay (x .frames)) + endLen * openHosts (replay (x .frames) .pending)) s in
+      record {
+        length-is = eqb-true (length img) (suc (r .last))
+            (and-left (eqb (length img) (suc (r .last))) (ltb (r .block) blocks && othersBlank (r .block) img blockNumbers) same);
+        there = there;
+        is-valid = states-exact .is-valid (block s (r .block) img) (x .time) (x .frames) clean (bytes-block s (r .block) img by) (long-block (r .block) there) .0
+            (p .is-valid);
+        ends = eqb-true (endOf (x .frames)) (r .end) (and-left (eqb (endOf (x .frames)) (r .end)) c (p .fits));
+        others-blank = λ j h n. blank-there j h n (othersOf (v .0) j h n);
+        room = leb-true (claimed (replay (x .frames)) + endLen * openHosts (replay (x .frames) .pending)) s
+            (and-right (eqb (endOf (x .frames)) (r .end)) c (p .fits));
+      }
+    where
+      blank-there : (j : ℕ) → j < blocks → (j ≡ r .block → ⊥) → block s j img ≡ replicate s 255 → BlankBlock (block s j img)
+      blank-there j h n e = e ∙ ap (λ (w : ℕ). replicate w 255) (sym (length-block s j img (sized-block j sized h)))
+
+      othersOf : (w : Ready s img (idle (restOf r))) (j : ℕ) → j < blocks → (j ≡ r .block → ⊥) → block s j img ≡ replicate s 255
+      othersOf w j h n = w .others j h (λ e. n (e ∙ sym (ap (λ (q : Record). q .block) (w .is))))
+
+  fresh-held : Fresh img r x → held img r ≡ some x
+  fresh-held y =
+      held-here img r x
+      (and-both (eqb (length img) (suc (r .last))) (ltb (r .block) blocks && othersBlank (r .block) img blockNumbers)
+      (eq-eqb (length img) (suc (r .last)) (y .length-is))
+      (and-both (ltb (r .block) blocks) (othersBlank (r .block) img blockNumbers) (lt-ltb (r .block) blocks (y .there))
+      (others-are (r .block) img (λ j h n. blank-means (block s j img) (y .others-blank j h n)))))
+      (states-exact .is-valid (block s (r .block) img) (x .time) (x .frames) clean (bytes-block s (r .block) img by) (long-block (r .block) (y .there)) .1 (y .is-valid))
+      (and-both (eqb (endOf (x .frames)) (r .end)) (leb (claimed (replay (x .frames)) + endLen * openHosts (replay (x .frames) .pending)) s)
+      (eq-eqb (endOf (x .frames)) (r .end) (y .ends))
+      (le-leb (claimed (replay (x .frames)) + endLen * openHosts (replay (x .frames) .pending)) s (y .room)))
+
+pub fresh-exact : FreshExact
+unfolding FreshExact
+fresh-exact img r x by ok = (held-fresh img r x by ok, fresh-held img r x by ok)

@@ -1,0 +1,114 @@
+-- Document 01's sentences on the frame that a request appends, on the steps of each job and on a read's stretch, "Frames", "Jobs" and
+-- "What hosts send", and the statements that the definitions say exactly these.
+use mathlib.Core.List.{List, [], _∷_, _++_}
+use mathlib.Core.Logic.{_↔_}
+use mathlib.Core.Option.{none, some, Option·map}
+use mathlib.Core.Bool.{true, false}
+use mathlib.Core.Path.{_≡_}
+use Prim.Native.Nat.{ℕ, suc, _+_, _-_, _*_, _/_, _%_, _≤_, _<_}
+use lib.ListN.{length, getD, drop}
+use Rattle.flash.specs.Bytes.{Bytes}
+use Rattle.flash.specs.Flash.{Step, program, erase, block, sizeOf}
+use Rattle.frame.specs.declared.Host.{Host}
+use Rattle.frame.specs.declared.ObjectId.{ObjectId}
+use Rattle.frame.specs.Frame.{Frame, encode, encodeAll}
+use Rattle.frame.specs.Reader.{Tail, clean, cut}
+use Rattle.journal.specs.Replay.{State, state, lookup, replay, framesOf}
+use Rattle.journal.specs.Block.{blank, blockState}
+use Rattle.journal.specs.Room.{claimed}
+use Rattle.journal.specs.Sentences.{ValidBlock}
+use Rattle.journal.specs.Laws.{objectsAfter, pendingAfter, TakenFrom}
+use Rattle.wire.specs.declared.Page.{Page}
+use Rattle.wire.specs.declared.Request.the-variants.{Put, Delete, Commit, Abort, Read, Log}
+use Rattle.wire.specs.Sentences.{Means}
+use Rattle.board.specs.declared.Record.{Record}
+use Rattle.board.specs.Mount.{Store, allFound}
+use Rattle.board.specs.Queue.{Held, needsRoom, placeOf}
+use Rattle.board.specs.Table.{frameFor}
+use Rattle.board.specs.Plan.{transferPlan, formatPlan, framePlan, mountPlan}
+
+-- ---- which requests append a frame, and its bytes
+
+-- "Length (2, whole frame), kind (2), body, finish byte 0xFE": "1 put: host 1, id 2, value v", "2 delete: host 1, id 2", "3 commit: host 1",
+-- "4 abort: host 1". "Commit or abort with nothing pending is done in 0 steps." A read and a log append none
+pub record FrameExact : Type 0 where
+  pub of-put : (h : Host) (m : List ℕ) (x : Held) (i : ObjectId) → h .0 ≤ 3 → Bytes m → Means m (Put i)
+      → Option·map encode (frameFor h m x (Put i))
+      ≡ some ((8 + length (drop 6 m)) ∷ 0 ∷ 1 ∷ 0 ∷ h .0 ∷ i .0 ∷ 0 ∷ (drop 6 m ++ (0xFE ∷ [])))
+  pub of-delete : (h : Host) (m : List ℕ) (x : Held) (i : ObjectId) → h .0 ≤ 3 → Means m (Delete i)
+      → Option·map encode (frameFor h m x (Delete i)) ≡ some (8 ∷ 0 ∷ 2 ∷ 0 ∷ h .0 ∷ i .0 ∷ 0 ∷ 0xFE ∷ [])
+  pub of-commit : (h : Host) (m : List ℕ) (x : Held) → (pendingAfter h (x .frames) ≡ [] → ⊥)
+      → Option·map encode (frameFor h m x Commit) ≡ some (6 ∷ 0 ∷ 3 ∷ 0 ∷ h .0 ∷ 0xFE ∷ [])
+  pub commit-nothing : (h : Host) (m : List ℕ) (x : Held) → pendingAfter h (x .frames) ≡ [] → frameFor h m x Commit ≡ none
+  pub of-abort : (h : Host) (m : List ℕ) (x : Held) → (pendingAfter h (x .frames) ≡ [] → ⊥)
+      → Option·map encode (frameFor h m x Abort) ≡ some (6 ∷ 0 ∷ 4 ∷ 0 ∷ h .0 ∷ 0xFE ∷ [])
+  pub abort-nothing : (h : Host) (m : List ℕ) (x : Held) → pendingAfter h (x .frames) ≡ [] → frameFor h m x Abort ≡ none
+  pub of-read : (h : Host) (m : List ℕ) (x : Held) (i : ObjectId) → frameFor h m x (Read i) ≡ none
+  pub of-log : (h : Host) (m : List ℕ) (x : Held) (p : Page) → frameFor h m x (Log p) ≡ none
+
+-- "after a transfer if end + n exceeds S"; "It is two halves of S bytes each."
+unfoldable pub NeedsExact : Type 0
+NeedsExact =
+    (img : List ℕ) (s : ℕ) (r : Record) (f : Frame) → length img ≡ s + s
+    → (needsRoom img r f ≡ true) ↔ (s < r .end + length (encode f))
+
+-- ---- the steps of each job
+
+-- "Bytes are programmed in address order, each one a step, 0xFF bytes too": these bytes from an offset of half k on
+pub record Programs (k at : ℕ) (bytes : List ℕ) (steps : List Step) : Type 0 where
+  pub each : length steps ≡ length bytes
+  pub in-order : (n : ℕ) (d : Step) → n < length bytes → getD steps n d ≡ program k (at + n) (getD bytes n 0)
+
+-- "Transfer, into the blank half: byte 8 to 0xFE, header bytes 0-3, settled frames by rising id, pending frames in their order, inverse of
+-- (time + 1), byte 8 to 0xFC, erase of the old half. C-5 steps." Of half k into half j; "length, 16", "kind, 0x4A01"
+pub record TransferSteps (k j time : ℕ) (st : State) : Type 0 where
+  pub copied : List Step
+  pub steps : transferPlan k time st
+      ≡ program j 8 0xFE ∷ program j 0 16 ∷ program j 1 0 ∷ program j 2 0x01 ∷ program j 3 0x4A
+      ∷ (copied
+      ++ (program j 4 (255 - suc time % 256) ∷ program j 5 (255 - suc time / 256 % 256) ∷ program j 6 (255 - suc time / 65536 % 256)
+      ∷ program j 7 (255 - suc time / 16777216) ∷ program j 8 0xFC ∷ erase k ∷ []))
+  pub frames : Programs j 16 (encodeAll (framesOf st)) copied
+  pub count : length (transferPlan k time st) + 5 ≡ claimed st
+
+unfoldable pub TransferExact : Type 0
+TransferExact = (k j time : ℕ) (st : State) → k + j ≡ 1 → suc time ≤ 4294967295 → TransferSteps k j time st
+
+-- "Format: erase half 0, erase half 1, then half 0's header at time 1 in the same order. 12 steps."
+unfoldable pub FormatExact : Type 0
+FormatExact =
+    (img : List ℕ) → formatPlan img
+    ≡ erase 0 ∷ erase 1 ∷ program 0 8 0xFE ∷ program 0 0 0x10 ∷ program 0 1 0x00 ∷ program 0 2 0x01 ∷ program 0 3 0x4A ∷ program 0 4 0xFE
+    ∷ program 0 5 0xFF ∷ program 0 6 0xFF ∷ program 0 7 0xFF ∷ program 0 8 0xFC ∷ []
+
+-- "one frame of n bytes, after a transfer if end + n exceeds S": at the recorded end, or in the other half past what was copied there
+pub record AppendExact : Type 0 where
+  pub stays : (k end : ℕ) (x : Held) (f : Frame) → Programs k end (encode f) (framePlan false k end x f)
+  pub moves : (k j end : ℕ) (x : Held) (f : Frame) → k + j ≡ 1
+      → (appended : List Step) × (framePlan true k end x f ≡ transferPlan k (x .time) (replay (x .frames)) ++ appended)
+      × Programs j (16 + length (encodeAll (framesOf (replay (x .frames))))) (encode f) appended
+
+-- "The other is erased if it isn't blank. If the current one has a torn tail or anything pending, a transfer of the settled objects alone
+-- follows." Of the current half x, j the other
+pub record MountSteps (img : List ℕ) (x : Store) (j : ℕ) : Type 0 where
+  pub erases : List Step
+  pub moves : List Step
+  pub steps : mountPlan (allFound img) x ≡ erases ++ moves
+  pub other-blank : blockState (block (sizeOf img) j img) ≡ blank → erases ≡ []
+  pub other-not : (blockState (block (sizeOf img) j img) ≡ blank → ⊥) → erases ≡ erase j ∷ []
+  pub torn : (n : ℕ) → x .tail ≡ cut n → moves ≡ transferPlan (x .number) (x .time) (state (objectsAfter (x .frames)) [])
+  pub pending : x .tail ≡ clean → (replay (x .frames) .pending ≡ [] → ⊥)
+      → moves ≡ transferPlan (x .number) (x .time) (state (objectsAfter (x .frames)) [])
+  pub at-rest : x .tail ≡ clean → replay (x .frames) .pending ≡ [] → moves ≡ []
+
+unfoldable pub MountExact : Type 0
+MountExact = (img : List ℕ) (x : Store) (j : ℕ) → x .number + j ≡ 1 → MountSteps img x j
+
+-- ---- a read's stretch
+
+-- "hands back that stretch of the caller's own flash image": where in the recorded half the value was put, counted from the image's start
+unfoldable pub StretchExact : Type 0
+StretchExact =
+    (img : List ℕ) (r : Record) (x : Held) (c : Tail) (i : ObjectId) (v : List ℕ)
+    → ValidBlock (block (sizeOf img) (r .block) img) (x .time) (x .frames) c → i .0 ≤ 255 → lookup i (objectsAfter (x .frames)) ≡ some v
+    → (at : ℕ) × (placeOf img r x i ≡ record { at = r .block * sizeOf img + at; size = length v }) × TakenFrom (x .frames) i v at

@@ -1,0 +1,169 @@
+-- A read's stretch is where its value was put: the frame that replay took it from.
+use mathlib.Core.Path.{_≡_, refl, sym, ap, ap₂, subst, _∙_}
+use mathlib.Core.List.{List, [], _∷_, _++_, append-assoc}
+use mathlib.Core.Option.{Option, none, some, Option·map}
+use mathlib.Core.Bool.{Bool, cond}
+use Prim.Native.Nat.{ℕ, _+_, _≤_, _<_}
+use native.Mathlib.Omega.{arith}
+use lib.Dec.{eqb}
+use lib.ListN.{length, getD, drop, length-append}
+use lib.Seq.{drop-at}
+use borrow.Author.Tests.{eq-eqb, ne-eqb}
+use Rattle.frame.specs.declared.ObjectId.{ObjectId}
+use Rattle.frame.specs.Frame.{put, delete, Frame, change, commit, abort, settled, mapFrame, encode, encodeAll, frameLen, total, MayStand, AllMayStand, nextAfter}
+use Rattle.frame.specs.Reader.{Tail, whole, readFrame}
+use Rattle.frame.proofs.Encode.{length-all, total-snoc, encode-append}
+use Rattle.frame.proofs.Reading.{read-back}
+use Rattle.journal.specs.Block.{headerLen, header, validData}
+use Rattle.journal.specs.Replay.{lookup, replay}
+use Rattle.journal.specs.Index.{orZero, placesOf, valueAt}
+use Rattle.journal.specs.Sentences.{ValidBlock}
+use Rattle.journal.specs.Laws.{Holder, putBy, settledAs, holding, front, objectsAfter, TakenFrom, PlaceExact}
+use Rattle.journal.proofs.Mapping.{map-plain, located, OfFrame, AllFrames, all-replay, all-lookup}
+use Rattle.journal.proofs.Places.{Spot, spot, spots, spots-lookup, sited-lookup, bytes-lookup, stands-zero, place-at, no-place, value-zero}
+
+-- ---- the frame at a place
+
+record Split (fs : List Frame) (i : ObjectId) (p : ℕ) (v : List ℕ) : Type 0 where
+  before : List Frame
+  holder : Holder
+  after : List Frame
+  stands : fs ≡ before ++ (holding holder i v ∷ after)
+  place : p ≡ headerLen + total before
+
+abbrev SplitAt : List Frame → ObjectId → Spot → Type 0
+SplitAt fs i x = Split fs i (x .place) (x .bytes)
+
+split-one : (fs xs ys : List Frame) (f : Frame) (o : ℕ) → fs ≡ xs ++ (f ∷ ys) → o ≡ headerLen + total xs
+    → OfFrame (SplitAt fs) (mapFrame (spot o) f)
+split-one fs xs ys (change h (put i v)) o e q = record { before = xs; holder = putBy h; after = ys; stands = e; place = q }
+split-one fs xs ys (change h (delete i)) o e q = tt
+split-one fs xs ys (commit h) o e q = tt
+split-one fs xs ys (abort h) o e q = tt
+split-one fs xs ys (settled i v) o e q = record { before = xs; holder = settledAs; after = ys; stands = e; place = q }
+
+split-all : (fs xs ys : List Frame) (o : ℕ) → fs ≡ xs ++ ys → o ≡ headerLen + total xs
+    → AllFrames (SplitAt fs) (spots o ys)
+unfolding located
+split-all fs xs [] o e q = tt
+split-all fs xs (f ∷ ys) o e q = (
+  split-one fs xs ys f o e q,
+  split-all fs (xs ++ (f ∷ [])) ys (o + frameLen f) (e ∙ sym (append-assoc xs (f ∷ []) ys)) (omega (arith, total-snoc xs f)),
+)
+
+no-frames : headerLen ≡ headerLen + total []
+unfolding total
+no-frames = refl
+
+-- ---- another value in that frame
+
+abbrev swap : ℕ → List ℕ → ℕ → List ℕ → List ℕ
+swap q w p v = cond (eqb p q) w v
+
+swap-other : (q : ℕ) (w : List ℕ) (o : ℕ) (f : Frame) → (o ≡ q → ⊥) → mapFrame (swap q w o) f ≡ f
+swap-other q w o f n = ap (λ (b : Bool). mapFrame (λ (v : List ℕ). cond b w v) f) (ne-eqb o q n) ∙ map-plain f
+
+swap-later : (q : ℕ) (w : List ℕ) (o : ℕ) (fs : List Frame) → q < o → located (swap q w) o fs ≡ fs
+unfolding located
+swap-later q w o [] l = refl
+swap-later q w o (f ∷ fs) l =
+    ap₂ (λ (x : Frame) (xs : List Frame). x ∷ xs) (swap-other q w o f (λ e. omega arith)) (swap-later q w (o + frameLen f) fs (omega arith))
+
+swap-own : (q : ℕ) (w : List ℕ) (k : Holder) (i : ObjectId) (v : List ℕ) → mapFrame (swap q w q) (holding k i v) ≡ holding k i w
+swap-own q w (putBy h) i v = rw (eq-eqb q q refl) refl
+swap-own q w settledAs i v = rw (eq-eqb q q refl) refl
+
+swapped : (q : ℕ) (w : List ℕ) (o : ℕ) (xs : List Frame) (k : Holder) (i : ObjectId) (v : List ℕ) (ys : List Frame) → q ≡ o + total xs
+    → located (swap q w) o (xs ++ (holding k i v ∷ ys)) ≡ xs ++ (holding k i w ∷ ys)
+unfolding located total
+swapped q w o [] k i v ys e =
+    let z : o ≡ q = omega arith in
+    ap₂ (λ (x : Frame) (l : List Frame). x ∷ l)
+    (subst (λ (p : ℕ). mapFrame (swap q w p) (holding k i v) ≡ holding k i w) (sym z) (swap-own q w k i v))
+    (swap-later q w (o + frameLen (holding k i v)) ys (omega arith))
+swapped q w o (f ∷ xs) k i v ys e =
+    ap₂ (λ (x : Frame) (l : List Frame). x ∷ l) (swap-other q w o f (λ z. omega arith)) (swapped q w (o + frameLen f) xs k i v ys (omega arith))
+
+-- ---- the value in the block's bytes
+
+stands-there : (n : ℕ) (xs ys : List Frame) (f : Frame) → AllMayStand n (xs ++ (f ∷ ys)) → MayStand 0 f
+stands-there n [] ys f (g, gs) = stands-zero n f g
+stands-there n (x ∷ xs) ys f (g, gs) = stands-there (nextAfter x) xs ys f gs
+
+value-there : (b : List ℕ) (k : Holder) (i : ObjectId) (v : List ℕ) (p : ℕ) → headerLen ≤ p
+    → readFrame 0 p (drop p b) ≡ whole (holding k i v) → valueAt b i p ≡ some (record { at = p + front k; bytes = v })
+unfolding valueAt
+value-there b (putBy h) i v p l e = rw (ne-eqb p 0 (omega arith), e, eq-eqb (i .0) (i .0) refl, valueAt) refl
+value-there b settledAs i v p l e = rw (ne-eqb p 0 (omega arith), e, eq-eqb (i .0) (i .0) refl, valueAt) refl
+
+module _ (b : List ℕ) (t : ℕ) (fs : List Frame) (c : Tail) (i : ObjectId) (v : List ℕ) (y : ValidBlock b t fs c) (h : i .0 ≤ 255)
+    (s : lookup i (objectsAfter fs) ≡ some v) where
+  abbrev Found : Type 0
+  Found = (at : ℕ) × (valueAt b i (getD (placesOf fs) (i .0) 0) ≡ some (record { at = at; bytes = v })) × TakenFrom fs i v at
+
+  module _ (x : Spot) (q : lookup i (replay (spots headerLen fs) .objects) ≡ some x) where
+    bytes-are : x .bytes ≡ v
+    bytes-are = let z : some (x .bytes) ≡ some v = sym (bytes-lookup fs i ∙ ap (Option·map (λ (u : Spot). u .bytes)) q) ∙ s in cc
+
+    place-is : getD (placesOf fs) (i .0) 0 ≡ x .place
+    place-is = place-at fs i h ∙ ap orZero (sited-lookup fs i ∙ ap (Option·map (λ (u : Spot). u .place)) q)
+
+    split : Split fs i (x .place) v
+    split =
+        let a : AllFrames (SplitAt fs) (spots headerLen fs) = split-all fs [] fs headerLen refl no-frames in
+        subst (Split fs i (x .place)) bytes-are
+        (all-lookup (SplitAt fs) i (replay (spots headerLen fs) .objects) x (all-replay (SplitAt fs) (spots headerLen fs) a .0) q)
+
+    taken : (z : Split fs i (x .place) v) (w : List ℕ) → lookup i (objectsAfter (z .before ++ (holding (z .holder) i w ∷ z .after))) ≡ some w
+    taken z w =
+        let g : Spot → List ℕ = λ u. swap (x .place) w (u .place) (u .bytes) in
+        let e : located (swap (x .place) w) headerLen fs ≡ z .before ++ (holding (z .holder) i w ∷ z .after) =
+        ap (located (swap (x .place) w) headerLen) (z .stands) ∙ swapped (x .place) w headerLen (z .before) (z .holder) i v (z .after) (z .place) in
+        ap (λ (l : List Frame). lookup i (replay l .objects)) (sym e) ∙ spots-lookup g fs i ∙ ap (Option·map g) q
+        ∙ ap (λ (d : Bool). some (cond d w (x .bytes))) (eq-eqb (x .place) (x .place) refl)
+
+    read : (z : Split fs i (x .place) v) → readFrame 0 (x .place) (drop (x .place) b) ≡ whole (holding (z .holder) i v)
+    unfolding encodeAll
+    read z =
+        let f : Frame = holding (z .holder) i v in
+        let pre : List ℕ = header t validData ++ encodeAll (z .before) in
+        let post : List ℕ = encodeAll (z .after) ++ y .rest in
+        let e : encodeAll fs ≡ encodeAll (z .before) ++ (encode f ++ encodeAll (z .after)) =
+        ap encodeAll (z .stands) ∙ encode-append (z .before) (f ∷ z .after) in
+        let e′ : b ≡ pre ++ (encode f ++ post) = y .bytes ∙ ap (λ (l : List ℕ). header t validData ++ (l ++ y .rest)) e ∙ simp append-assoc in
+        let l : length pre ≡ x .place =
+        length-append (header t validData) (encodeAll (z .before)) ∙ omega (arith, z .place, length-all (z .before)) in
+        ap (λ (d : List ℕ). readFrame 0 (x .place) (drop (x .place) d)) e′
+        ∙ ap (readFrame 0 (x .place)) (drop-at pre (encode f ++ post) (x .place) l)
+        ∙ read-back 0 (x .place) f post (stands-there 0 (z .before) (z .after) f (subst (AllMayStand 0) (z .stands) (y .frames)))
+
+    found : Split fs i (x .place) v → Found
+    found z = (
+      x .place + front (z .holder),
+      ap (valueAt b i) place-is ∙ value-there b (z .holder) i v (x .place) (omega (arith, z .place)) (read z),
+      record {
+        before = z .before;
+        holder = z .holder;
+        after = z .after;
+        stands = z .stands;
+        taken = taken z;
+        at-is = omega (arith, z .place, length-all (z .before));
+      },
+    )
+
+  found-some : Found
+  found-some = go (lookup i (replay (spots headerLen fs) .objects)) refl
+    where
+      go : (o : Option Spot) → lookup i (replay (spots headerLen fs) .objects) ≡ o → Found
+      go none q =
+          let z : none ≡ some v = sym (bytes-lookup fs i ∙ ap (Option·map (λ (u : Spot). u .bytes)) q) ∙ s in
+          let d : _≡_ {A = ℕ} 0 1 = cc in
+          absurd (omega arith)
+      go (some x) q = found x q (split x q)
+
+pub place-exact : PlaceExact
+place-exact =
+    record {
+      found = found-some;
+      absent = λ b fs i h n. ap (valueAt b i) (no-place fs i h n) ∙ value-zero b i;
+    }
