@@ -1,3 +1,4 @@
+pub mod Sentences
 pub mod Bench
 pub mod Images
 pub mod Outcomes
@@ -34,4 +35,3 @@ pub mod Planning
 pub mod Demand2
 pub mod Limits
 pub mod CutFormat
-pub mod Sentences
