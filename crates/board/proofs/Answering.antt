@@ -16,7 +16,7 @@ use Rattle.board.specs.declared.Phase.the-variants.{Unmounted, Idle, Bus
 use Rattle.board.specs.declared.Record.{Record}
 use Rattle.board.specs.Record.{Stretch, Out, answerIn, answerOf}
 use Rattle.board.specs.Demand2.{Accepted}
-use Rattle.board.specs.Sentences.{Line, Exactly, InJob}
+use Rattle.board.specs.Table.{Line, Exactly, InJob}
 use Rattle.board.specs.Promise.{Tells}
 
 -- ---- numbers

@@ -1,9 +1,7 @@
--- Demand 2: every image reads as one store, every step of a run is its plan's and lands, programming only clears bits, and the refusals
--- for room and wear are exact.
+-- Demand 2: every image reads as one store, and every programmed byte of a run lands.
 use mathlib.Core.Path.{_≡_, refl, sym, ap, subst, _∙_}
 use mathlib.Core.List.{List, [], _∷_}
 use mathlib.Core.Logic.{_⊎_, inl, inr}
-use mathlib.Core.Bool.{true}
 use Prim.Native.Nat.{ℕ, _+_, _-_, _*_, _≤_, _<_}
 use native.Mathlib.Omega.{arith}
 use lib.Dec.{ltb}
@@ -24,7 +22,7 @@ use Rattle.wire.specs.declared.Answer.the-variants.{Done, More, Refused}
 use Rattle.board.specs.declared.Phase.{Phase}
 use Rattle.board.specs.declared.Phase.the-variants.{Unmounted, Idle, Busy}
 use Rattle.board.specs.declared.Record.{Record}
-use Rattle.board.specs.Record.{Out, out, unmounted, rest, idle, allowed, answerOf}
+use Rattle.board.specs.Record.{Out, out, unmounted, rest, idle, answerOf}
 use Rattle.board.specs.Step.{stepOn, enterWipe}
 use Rattle.board.specs.Mount.{Store, allFound, wipeList, needsTransfer, mountJob, mountOn, formatJob, formatOn}
 use Rattle.board.specs.Queue.{requestOn}
@@ -32,7 +30,7 @@ use Rattle.board.specs.Exec.{Call, request, step, mount, format, exec}
 use Rattle.board.specs.Plan.{Follows, formatPlan, mountPlan, mountedAt}
 use Rattle.board.specs.Demand1.{Rests}
 use Rattle.board.specs.Claim.{ByteCalls}
-use Rattle.board.specs.Demand2.{Accepted, Mounts, OneStore, LandsAt, StepLands as OneLands, Formats, AllPlanned, PlannedFrom}
+use Rattle.board.specs.Demand2.{Accepted, Mounts, OneStore, LandsAt, StepLands as OneLands, AllLand, LandsFrom}
 use Rattle.board.proofs.Images.{Sized, size-of, sized-of, sized-as}
 use Rattle.board.proofs.Invariant.{StepLands, Ready, InJob, Sound}
 use Rattle.board.proofs.Outcomes.{format-begins, step-resting}
@@ -47,7 +45,7 @@ use Rattle.board.proofs.Refusals.{refusals-untouched, at-most-one-step}
 use Rattle.board.proofs.Formatting.{format-lands, format-ends}
 use Rattle.board.proofs.Deciding.{Begins, mount-accepted, taken-newest, taken-none-foreign}
 use Rattle.board.proofs.Mounting.{mount-lands, mount-ends, mount-short}
-use Rattle.board.proofs.Planning.{jobOf, Met, refused, done, begun, request-met, frame-begins, requests-planned}
+use Rattle.board.proofs.Planning.{jobOf, Met, refused, done, begun, request-met, frame-begins}
 
 -- ---- one store
 
@@ -164,17 +162,6 @@ request-kept {s} {img} {r} v h m reply bm = go (request-met img r reply h m)
         let j = frame-begins (v .sized) (v .bytes) bm y in
         subst (Kept s) (sym p) (steady-busy (v .sized) (v .bytes) (jobOf y) (j .0) (j .1))
 
-request-done : {s : ℕ} {img : List ℕ} {r : Record} → Steady s img r → (h : Host) (m reply : List ℕ) → Bytes m
-    → requestOn img r reply h m .answer ≡ Done → requestOn img r reply h m .board ≡ r
-request-done {s} {img} {r} v h m reply bm e = go (request-met img r reply h m)
-  where
-    go : Met img r reply h m (requestOn img r reply h m) → requestOn img r reply h m .board ≡ r
-    go (refused n p) = let q : Refused n ≡ Done = sym (ap (λ (o : Out). o .answer) p) ∙ e in let z : _≡_ {A = ℕ} 0 1 = cc in absurd (omega arith)
-    go (done d i b) = b
-    go (begun y p) =
-        let q : More ≡ Done = sym (frame-begins (v .sized) (v .bytes) bm y .0) ∙ sym (ap (λ (o : Out). o .answer) p) ∙ e in
-        let z : _≡_ {A = ℕ} 0 1 = cc in absurd (omega arith)
-
 -- ---- a step
 
 abbrev StepDone : ℕ → List ℕ → Out → Type 0
@@ -222,30 +209,27 @@ format-kept {s} {img} z by =
     (omega (arith, length-format img, z .low)) (format-lands z) (a .ready) (ready-idle (a .ready)) in
     subst (λ (o : Out). Steady s img (o .board)) (sym (format-begins img (z .ok))) (steady-busy z by (enterWipe (formatJob img)) (j .0) (j .1))
 
-pub formats : (img : List ℕ) → allowed (length img) ≡ true → Formats exec img (formatOn img)
-formats img ok =
-    subst (Formats exec img) (sym (format-begins img ok)) (record { follows = follows-format img ok; twelve = length-format img })
-
 -- ---- every call, and every run
 
 -- only a step changes the image
 same-image : {s : ℕ} {img : List ℕ} (o : Out) → o .image ≡ img → Steady s img (o .board) → Kept s o
 same-image {s} o e v = subst (λ (l : List ℕ). Steady s l (o .board)) (sym e) v
 
-all-planned : {s : ℕ} {img : List ℕ} {r : Record} → Steady s img r → (cs : List Call) → ByteCalls cs → AllPlanned exec img r cs
-unfolding OneStore
-all-planned v [] by = tt
-all-planned {s} {img} {r} v (request h m reply ∷ cs) (bm, by) =
-    ((requests-planned img r h m reply (v .bytes) bm, request-done v h m reply bm), all-planned (request-kept v h m reply bm) cs by)
-all-planned v (step ∷ cs) (_, by) = let y = step-done v in (y .0, all-planned (y .1) cs by)
-all-planned {s} {img} {r} v (mount ∷ cs) (_, by) =
-    (one-store img r (v .bytes) (v .sized .ok), all-planned (same-image (mountOn img) (at-most-one-step img r mount) (mount-kept (v .sized) (v .bytes))) cs by)
-all-planned {s} {img} {r} v (format ∷ cs) (_, by) =
-    (formats img (v .sized .ok), all-planned (same-image (formatOn img) (at-most-one-step img r format) (format-kept (v .sized) (v .bytes))) cs by)
+all-land : {s : ℕ} {img : List ℕ} {r : Record} → Steady s img r → (cs : List Call) → ByteCalls cs → AllLand exec img r cs
+all-land v [] by = tt
+all-land {s} {img} {r} v (request h m reply ∷ cs) (bm, by) =
+    (inl (at-most-one-step img r (request h m reply)), all-land (request-kept v h m reply bm) cs by)
+all-land v (step ∷ cs) (_, by) = let y = step-done v in (y .0, all-land (y .1) cs by)
+all-land {s} {img} {r} v (mount ∷ cs) (_, by) =
+    let e : mountOn img .image ≡ img = at-most-one-step img r mount in
+    (inl e, all-land (same-image (mountOn img) e (mount-kept (v .sized) (v .bytes))) cs by)
+all-land {s} {img} {r} v (format ∷ cs) (_, by) =
+    let e : formatOn img .image ≡ img = at-most-one-step img r format in
+    (inl e, all-land (same-image (formatOn img) e (format-kept (v .sized) (v .bytes))) cs by)
 
-pub planned-from : PlannedFrom exec
-planned-from =
+pub lands-from : LandsFrom exec
+lands-from =
     record {
-      from-mount = λ img r cs by ok bs. all-planned (mount-kept (sized-of img ok) by) cs bs;
-      from-format = λ img r cs by ok bs. all-planned (format-kept (sized-of img ok) by) cs bs;
+      from-mount = λ img r cs by ok bs. all-land (mount-kept (sized-of img ok) by) cs bs;
+      from-format = λ img r cs by ok bs. all-land (format-kept (sized-of img ok) by) cs bs;
     }

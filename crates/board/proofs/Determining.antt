@@ -29,18 +29,17 @@ use Rattle.board.specs.Mount.{allFound, Store, needsTransfer, mountOn}
 use Rattle.board.specs.Queue.{Held, held, needsRoom}
 use Rattle.board.specs.Exec.{Call, request, step, mount, format}
 use Rattle.board.specs.Plan.{Follows, formatPlan, mountPlan, mountedAt, framePlan, framedAt}
-use Rattle.board.specs.Table.{frameFor}
+use Rattle.board.specs.Table.{frameFor, Line, line, Exactly, Allowed, InJob, Fresh, FreshExact, requestLines, mountLines, linesOf}
 use Rattle.board.specs.Demand1.{Rests}
 use Rattle.board.specs.Demand2.{Accepted}
 use Rattle.board.specs.Claim.{ByteCall, ByteCalls}
 use Rattle.wire.specs.Sentences.{Means, MessagesExact, MalformedExact}
-use Rattle.board.specs.Sentences.{Line, line, Exactly, Allowed, InJob, Fresh, FreshExact, requestLines, mountLines, linesOf}
 use Rattle.board.specs.Promise.{Machine, replyFor, stretchFor, Answers, Serves, Job, frame-job, mount-job, format-job, Calls, Shown, restingIn, shownRecord, shown, trace, Begins, PromiseDetermines, PromiseDeterminesFrom, PromiseDeterminesCall}
 use Rattle.board.proofs.Answering.{number-injective, number-accepted, Both, both-taken, both-refused, same-lines, told-answer, whole, whole-is, in-job}
 use Rattle.board.proofs.Tabling.{is-allowed}
 use Rattle.board.proofs.TablingMounts.{Mountable, mount-lines, accepted-takes}
 use Rattle.wire.proofs.Sentences.{messages-exact, malformed-exact}
-use Rattle.board.proofs.Wording.{fresh-exact}
+use Rattle.board.proofs.Freshness.{fresh-exact}
 
 -- ---- two machines between calls: the same record in no job, or the same steps to do and then the same idle record
 
@@ -348,8 +347,9 @@ module _ {m n : Machine} (pm : Calls m) (pn : Calls n) where
       busy s e (both-refused w a b) =
           ap shown (pm .untouched img r (request h msg reply) w a) ∙ sym (ap shown (pn .untouched img r (request h msg reply) w b))
       busy s e (both-taken a b) =
-          absurd (busy-refuses pm pn img by h (m img r (request h msg reply) .answer)
-          (while-busy pm pn img by r h msg reply (m img r (request h msg reply) .answer) (subst InJob (sym e) tt) (pm .table img r (request h msg reply) by)) a)
+          let w : Answer = m img r (request h msg reply) .answer in
+          absurd (busy-refuses pm pn img by h w
+          (while-busy pm pn img by r h msg reply w (subst InJob (sym e) tt) (pm .table img r (request h msg reply) by)) a)
 
       go : (p : Phase) → r .phase ≡ p → shown (m img r (request h msg reply)) ≡ shown (n img r (request h msg reply))
       go Unmounted e = rested (subst Rests (sym e) tt)

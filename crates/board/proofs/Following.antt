@@ -73,7 +73,7 @@ pub mounted-idle : (b : Bool) (l : ℕ) (x : Store) → mountedAt b l x .phase �
 mounted-idle true l x = refl
 mounted-idle false l x = refl
 
-job-idle : {img : List ℕ} {r : Record} {c : Call} {plan : List Step} {z : Record} → Job img r c plan z → z .phase ≡ Idle
+pub job-idle : {img : List ℕ} {r : Record} {c : Call} {plan : List Step} {z : Record} → Job img r c plan z → z .phase ≡ Idle
 job-idle {img} {r} (frame-job h msg reply x q f v k g) = framed-idle (needsRoom img r f) (r .last) (r .block) (r .end) x f
 job-idle {img} (mount-job x v) = mounted-idle (needsTransfer (x .frames) (x .tail)) (length img - 1) x
 job-idle format-job = refl

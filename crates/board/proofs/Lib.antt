@@ -43,9 +43,9 @@ pub mod Demand2  -- demand 2: mounts, formats, runs
 pub mod Claiming  -- demand 3
 pub mod CutFormat  -- what a cut format leaves
 pub mod Bench  -- the starred rows
-pub mod Laws  -- the frames, plans and stretches that promise and machine share, in document 01's words
 -- ---- the promise
-pub mod Wording  -- refusal 11 in document 01's words
+pub mod Sentences  -- frames, plans and places, which the promise uses, are as document 01 words them
+pub mod Freshness  -- and so is refusal 11
 pub mod Tabling  -- requests, steps and formats are refused by the table's lines
 pub mod TablingMounts  -- mounts are
 pub mod Answering  -- answers: numbers, lines, what they tell

@@ -35,14 +35,12 @@ use Rattle.board.specs.Record.{allowed, rest, idle, Out, out, refuse, an
 use Rattle.board.specs.Step.{enterWipe}
 use Rattle.board.specs.Queue.{Held, held, needsRoom, appendJob, append, serve, serveChange, serveEnd, serveParsed, serveHeld, requestIn, requestOn}
 use Rattle.board.specs.Exec.{request, exec}
-use Rattle.board.specs.Plan.{framePlan, framedAt}
-use Rattle.board.specs.Table.{frameFor, frameIf}
-use Rattle.board.specs.Demand2.{Appends}
-use Rattle.wire.specs.Sentences.{MessagesExact}
-use Rattle.board.specs.Sentences.{FreshExact}
+use Rattle.board.specs.Plan.{Follows, framePlan, framedAt}
+use Rattle.board.specs.Table.{frameFor, frameIf, FreshExact, Fresh}
+use Rattle.wire.specs.Sentences.{Means, MessagesExact}
 use Rattle.board.proofs.Checks.{roomRule}
 use Rattle.wire.proofs.Sentences.{messages-exact}
-use Rattle.board.proofs.Wording.{fresh-exact}
+use Rattle.board.proofs.Freshness.{fresh-exact}
 use Rattle.board.proofs.Images.{Sized, size-of, sized-of}
 use Rattle.board.proofs.Invariant.{StepLands, Ready, InJob}
 use Rattle.board.proofs.Outcomes.{append-worn, append-begins, change-refused, change-goes, end-goes, end-idle, log-short, log-done, serve-put, serve-delete, serve-commit, serve-abort, serve-log, read-none, read-some, request-length, request-host, request-in}
@@ -214,6 +212,18 @@ frame-fits s h m x (Log p) f l k g t e = no-frame e
 
 -- ---- its plan
 
+-- an accepted request with steps to do appends document 01's frame, after a transfer if it must, in at most S steps
+pub record Appends (img : List ℕ) (r : Record) (h : Host) (msg : List ℕ) (o : Out) : Type 0 where
+  pub holding : Held
+  pub asked : Request
+  pub frame : Frame
+  pub is-held : Fresh img r holding
+  pub is-asked : Means msg asked
+  pub is-frame : frameFor h msg holding asked ≡ some frame
+  pub follows : Follows exec img (o .board) (framePlan (needsRoom img r frame) (r .block) (r .end) holding frame)
+      (framedAt (needsRoom img r frame) (r .last) (r .block) (r .end) holding frame)
+  pub short : length (framePlan (needsRoom img r frame) (r .block) (r .end) holding frame) ≤ sizeOf img
+
 module _ {s : ℕ} {img : List ℕ} {r : Record} {h : Host} {m : List ℕ} (z : Sized s img) (by : Bytes img) (bm : Bytes m) (y : Asked img r h m) where
   abbrev x : Held
   x = y .holding
@@ -249,7 +259,7 @@ module _ {s : ℕ} {img : List ℕ} {r : Record} {h : Host} {m : List ℕ} (z : 
             omega (arith, eqb-false (x .time) lastTime v, holds .alone .contents .layout .time-hi);
       }
 
-  pub frame-appends : (reply : List ℕ) → Appends exec img r h m (out (answerOf (jobOf y)) img (jobOf y) reply)
+  pub frame-appends : (reply : List ℕ) → Appends img r h m (out (answerOf (jobOf y)) img (jobOf y) reply)
   unfolding FreshExact MessagesExact
   frame-appends reply =
       let j : Journal (block (sizeOf img) (r .block) img) (x .frames) =
@@ -275,10 +285,10 @@ module _ {s : ℕ} {img : List ℕ} {r : Record} {h : Host} {m : List ℕ} (z : 
 -- ---- on any record and image
 
 pub requests-planned : (img : List ℕ) (r : Record) (h : Host) (m reply : List ℕ) → Bytes img → Bytes m → exec img r (request h m reply) .answer ≡ More
-    → Appends exec img r h m (exec img r (request h m reply))
+    → Appends img r h m (exec img r (request h m reply))
 requests-planned img r h m reply by bm e = go (request-met img r reply h m)
   where
-    go : Met img r reply h m (requestOn img r reply h m) → Appends exec img r h m (requestOn img r reply h m)
+    go : Met img r reply h m (requestOn img r reply h m) → Appends img r h m (requestOn img r reply h m)
     go (refused n p) = let q : Refused n ≡ More = sym (ap (λ (o : Out). o .answer) p) ∙ e in let z : _≡_ {A = ℕ} 0 1 = cc in absurd (omega arith)
     go (done d i b) = let q : Done ≡ More = sym d ∙ e in let z : _≡_ {A = ℕ} 0 1 = cc in absurd (omega arith)
-    go (begun y p) = subst (Appends exec img r h m) (sym p) (frame-appends (sized-of img (y .length-ok)) by bm y reply)
+    go (begun y p) = subst (Appends img r h m) (sym p) (frame-appends (sized-of img (y .length-ok)) by bm y reply)

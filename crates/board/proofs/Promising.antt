@@ -34,22 +34,22 @@ use Rattle.board.specs.Mount.{allFound, Store, needsTransfer, mountOn, f
 use Rattle.board.specs.Queue.{Held, held, needsRoom, append, serve, serveChange, serveEnd, requestOn}
 use Rattle.board.specs.Exec.{Call, request, step, mount, format, exec}
 use Rattle.board.specs.Plan.{Follows, formatPlan, mountPlan, mountedAt, framePlan, framedAt}
-use Rattle.board.specs.Table.{frameFor, frameIf}
-use Rattle.board.specs.Demand2.{Accepted, Appends, Mounts, OneStore}
+use Rattle.board.specs.Table.{frameFor, frameIf, Fresh, FreshExact, Exactly, linesOf}
+use Rattle.board.specs.Demand2.{Accepted, Mounts, OneStore}
 use Rattle.board.specs.Claim.{ByteCall}
 use Rattle.wire.specs.Sentences.{Means, MessagesExact}
-use Rattle.board.specs.Sentences.{Fresh, FreshExact, Exactly, linesOf}
 use Rattle.board.specs.Promise.{Answers, replyFor, stretchFor, Serves, Current, Job, frame-job, mount-job, format-job, Calls}
 use Rattle.board.proofs.Checks.{roomRule}
 use Rattle.board.proofs.Images.{sized-of}
 use Rattle.board.proofs.Refusals.{refusals-untouched, at-most-one-step}
 use Rattle.board.proofs.Ending.{forged-ends}
-use Rattle.board.proofs.Demand2.{one-store, formats}
-use Rattle.board.proofs.Outcomes.{append-worn, append-begins, change-refused, change-goes, end-goes, end-idle, log-short, log-done, serve-put, serve-delete, serve-commit, serve-abort, serve-log, read-none, read-some, request-length, request-host, request-busy, request-unmounted, request-served, mount-length, format-length, step-resting}
-use Rattle.board.proofs.Planning.{Asked, jobOf, frame-begins, requests-planned, the-frame}
+use Rattle.board.proofs.Demand2.{one-store}
+use Rattle.board.proofs.Accepted.{follows-format}
+use Rattle.board.proofs.Outcomes.{append-worn, append-begins, change-refused, change-goes, end-goes, end-idle, log-short, log-done, serve-put, serve-delete, serve-commit, serve-abort, serve-log, read-none, read-some, request-length, request-host, request-busy, request-unmounted, request-served, mount-length, format-length, format-begins, step-resting}
+use Rattle.board.proofs.Planning.{Appends, Asked, jobOf, frame-begins, requests-planned, the-frame}
 use Rattle.board.proofs.Lengths.{length-format}
 use Rattle.wire.proofs.Sentences.{messages-exact}
-use Rattle.board.proofs.Wording.{fresh-exact}
+use Rattle.board.proofs.Freshness.{fresh-exact}
 use Rattle.board.proofs.Tabling.{request-lines, step-lines, format-lines, same-request, same-held}
 use Rattle.board.proofs.TablingMounts.{mount-lines, same-store, mounts-current}
 use Rattle.board.proofs.Answering.{whole}
@@ -191,7 +191,7 @@ module _ (img : List ℕ) (r : Record) (by : Bytes img) where
   frame-does h m reply x q f bm v k g a =
       let o : Out = exec img r (request h m reply) in
       let t : o .answer ≡ More = subst (λ (n : Option Frame). Answers n r o) g (serves img r h m reply x q by bm v k a .answers) in
-      let w : Appends exec img r h m o = requests-planned img r h m reply by bm t in
+      let w : Appends img r h m o = requests-planned img r h m reply by bm t in
       let c : w .holding ≡ x =
       on-test (allowed (length img))
       (λ ok. same-held img r by ok (w .holding) x (w .is-held) v)
@@ -215,7 +215,11 @@ module _ (img : List ℕ) (r : Record) (by : Bytes img) where
   format-does : Accepted (formatOn img .answer) → Does img (formatOn img .board) (formatPlan img) (idle (rest (length img - 1) 0 headerLen))
   format-does a =
       on-test (allowed (length img))
-      (λ ok. (formats img ok .follows, omega (arith, length-format img, sized-of img ok .low)))
+      (λ ok. (
+        subst (λ (o : Out). Follows exec img (o .board) (formatPlan img) (idle (rest (length img - 1) 0 headerLen))) (sym (format-begins img ok))
+            (follows-format img ok),
+        omega (arith, length-format img, sized-of img ok .low),
+      ))
       (λ no. absurd (subst (λ (o : Out). Accepted (o .answer)) (format-length img no) a))
 
   job-does : (c : Call) (plan : List Step) (z : Record) → ByteCall c → Job img r c plan z → Accepted (exec img r c .answer)

@@ -23,11 +23,12 @@ use Rattle.wire.specs.declared.Refusal.{Refusal}
 use Rattle.wire.specs.Answer.{numberOf, refusalNumber}
 use Rattle.board.specs.declared.Phase.{Phase}
 use Rattle.board.specs.declared.Phase.the-variants.{Unmounted, Idle, Busy}
+use Rattle.board.specs.declared.Record.{Record}
 use Rattle.board.specs.Record.{allowed, unmounted, Out, refuse, answerIn}
 use Rattle.board.specs.Step.{enterWipe}
 use Rattle.board.specs.Mount.{Store, needsTransfer, anyPending, allFound, wipeList, mountJob, mountOn}
 use Rattle.board.specs.Demand2.{Accepted, Mounts}
-use Rattle.board.specs.Sentences.{line, Exactly, ValidAt, ForeignAt, NothingThere, Unclear, foreign-half, equal-times, Unsettled, MountWorn, mountLines}
+use Rattle.board.specs.Table.{line, Exactly, ValidAt, ForeignAt, NothingThere, Unclear, foreign-half, equal-times, Unsettled, MountWorn, mountLines}
 use Rattle.board.specs.Promise.{Machine, Current}
 use Rattle.board.proofs.Images.{Sized, sized-of}
 use Rattle.board.proofs.Invariant.{Quiet}
@@ -133,10 +134,18 @@ module _ (img : List ℕ) (by : Bytes img) (ok : allowed (length img) ≡ true) 
         last : Outcome img x → Exactly (line 6 (MountWorn img) ∷ []) (mountOn img .answer)
         last (worn-out w e) =
             inl (
-              record { number = w .number; frames = w .frames; tail = w .tail; is-valid = valid-at (w .there) (w .is-valid); unsettled = due-unsettled (w .frames) (w .tail) (w .due) },
+              record {
+                number = w .number;
+                frames = w .frames;
+                tail = w .tail;
+                is-valid = valid-at (w .there) (w .is-valid);
+                unsettled = due-unsettled (w .frames) (w .tail) (w .due);
+              },
               answer e,
             )
-        last (begins t e) = inr (not-worn t, subst (λ (o : Out). Accepted (o .answer)) (sym e) (goes (enterWipe (mountJob img x (wipeList (x .number) (allFound img))) .phase)))
+        last (begins t e) =
+            let g : Record = enterWipe (mountJob img x (wipeList (x .number) (allFound img))) in
+            inr (not-worn t, subst (λ (o : Out). Accepted (o .answer)) (sym e) (goes (g .phase)))
 
   current-of : (x : Store) → Taken s img x → Current img x
   current-of x y =

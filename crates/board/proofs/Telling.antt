@@ -29,7 +29,7 @@ use Rattle.board.specs.Queue.{requestOn}
 use Rattle.board.specs.Exec.{Call, request, step, mount, format, exec}
 use Rattle.board.specs.Demand1.{Rests}
 use Rattle.board.specs.Demand2.{Accepted}
-use Rattle.board.specs.Sentences.{InJob}
+use Rattle.board.specs.Table.{InJob}
 use Rattle.board.specs.Promise.{NoStep, Tells, Silent}
 use Rattle.board.proofs.Outcomes.{request-length, request-host, request-busy, request-unmounted, mount-length, mount-foreign, mount-none, mount-equal, mount-at, mount-worn, mount-begins, format-length, format-begins, step-resting, step-outside, step-goes}
 use Rattle.board.proofs.Planning.{Met, refused, done, begun, request-met}

@@ -3,44 +3,54 @@ use mathlib.Core.Path.{_≡_, refl, sym, ap, ap₂, subst, subst₂, _∙_}
 use mathlib.Core.List.{List, [], _∷_, _++_}
 use mathlib.Core.Bool.{Bool, true, false}
 use mathlib.Core.Logic.{_⊎_, inl, inr}
-use Prim.Native.Nat.{ℕ, zero, suc, _-_, _/_, _≤_}
+use mathlib.Core.Option.{Option, none, some}
+use Prim.Native.Nat.{ℕ, zero, suc, _-_, _/_, _≤_, _<_}
 use native.Mathlib.Nat.{le-refl}
+use native.Mathlib.Omega.{arith}
+use lib.Dec.{ltb}
 use lib.ListN.{length, replicate}
 use lib.Seq.{take-all}
+use borrow.Author.Tests.{ltb-true, ltb-false}
 use Rattle.flash.specs.Bytes.{Bytes}
 use Rattle.flash.specs.Flash.{Step, applyAll, blocks, block, sizeOf}
+use Rattle.flash.proofs.Cases.{on-test}
 use Rattle.frame.specs.declared.Host.{Host}
 use Rattle.frame.specs.Frame.{Frame, Change}
 use Rattle.frame.specs.Reader.{clean}
 use Rattle.journal.specs.Replay.{Object, State, replay, changeAll}
-use Rattle.journal.specs.Block.{blockState}
+use Rattle.journal.specs.Block.{BlockState, blockState}
 use Rattle.wire.specs.declared.Answer.{Answer}
 use Rattle.wire.specs.declared.Answer.the-variants.{Done, More, Refused}
 use Rattle.wire.specs.declared.Request.{Request}
 use Rattle.wire.specs.declared.Request.the-variants.{Commit}
 use Rattle.wire.specs.declared.Parsed.{Parsed}
+use Rattle.wire.specs.Answer.{numberOf}
 use Rattle.board.specs.declared.Phase.{Phase}
+use Rattle.board.specs.declared.Phase.the-variants.{Idle}
 use Rattle.board.specs.declared.Record.{Record}
-use Rattle.board.specs.Record.{allowed, Out, Accepted}
+use Rattle.board.specs.Record.{allowed, Out, out, Accepted}
 use Rattle.board.specs.Mount.{allFound, Store, needsTransfer}
+use Rattle.board.specs.Queue.{Held, needsRoom}
 use Rattle.board.specs.Exec.{Machine, Call, request, step, mount, format}
-use Rattle.board.specs.Plan.{mountPlan, mountedAt}
-use Rattle.board.specs.Demand1.{Unchanged}
+use Rattle.board.specs.Plan.{mountPlan, mountedAt, framePlan, framedAt}
+use Rattle.board.specs.Table.{frameFor}
+use Rattle.board.specs.Demand1.{Unchanged, Rests}
 use Rattle.board.specs.Demand2.{Mounts, OneStore}
-use Rattle.board.specs.Book.{Book, book, nothing, noLists, firstBook, enterCall, enterStep, enterRequest, enterParsed}
+use Rattle.board.specs.Book.{Book, book, nothing, noLists, withList, firstBook, enterCall, enterStep, enterRequest, enterParsed}
 use Rattle.board.specs.Book as books
 use Rattle.board.specs.Claim.{IdleAgrees, AgreesIn, Agrees, Run, stepsOn, formatted, ByteCalls, Claim}
 use Rattle.board.specs.CutFormat.{Left, afterAll, leftBy}
 use Rattle.wire.specs.Sentences.{Means, MessagesExact}
-use Rattle.board.specs.Promise.{Job, mount-job, StepsOf, Calls, Promise, Shown}
+use Rattle.board.specs.Promise.{Answers, Serves, Job, frame-job, mount-job, StepsOf, Calls, Promise, Shown}
 use Rattle.board.specs.Tickets.{outcomes, strike, IsRefused, MarksRefused, Restores, committing, TicketsSettled}
 use Rattle.wire.proofs.Sentences.{messages-exact}
 use Rattle.board.proofs.Erasing.{SameValid, same-valid}
 use Rattle.board.proofs.Images.{length-all-steps}
 use Rattle.board.proofs.Demand2.{one-store}
+use Rattle.board.proofs.Answering.{number-injective}
 use Rattle.board.proofs.TablingMounts.{Mountable, mounts-current, same-store}
 use Rattle.board.proofs.Determining.{Asked, request-asks, mount-takes, mount-allowed, mount-agrees}
-use Rattle.board.proofs.Following.{left-by, mounted-idle}
+use Rattle.board.proofs.Following.{left-by, job-idle, mounted-idle}
 
 -- ---- 1
 
@@ -76,6 +86,9 @@ module _ {m : Machine} (p : Calls m) where
       ∙ nobody-disturbed (m img r c .image) (m img r c .board) bs cs y
   nobody-disturbed img r (false ∷ bs) (c ∷ cs) y =
       ap (λ (os : List Out). m img r c ∷ os) (nobody-disturbed (m img r c .image) (m img r c .board) bs cs y)
+
+done-more : {P : Type 0} (a : Answer) → numberOf a ≡ some 0 → a ≡ More → P
+done-more a e f = let w : _≡_ {A = Option ℕ} (some 0) none = sym e ∙ ap numberOf f in let z : _≡_ {A = ℕ} 0 1 = cc in absurd (omega arith)
 
 -- ---- what a list of calls leaves, in two parts
 
@@ -114,32 +127,103 @@ quiet-steps m (suc n) o os l =
     let x : Out = m (o .image) (o .board) step in
     ap (λ (b : Book). afterAll m (x .image) (x .board) b (replicate n step)) (quiet-step os l (x .answer)) ∙ quiet-steps m n x os l
 
--- while a commit is under way they leave the book, or settle the host's list and then leave it
-data Committed (h : Host) (old b : Book) : Type 0 where
-  not-yet : b ≡ book (old .objects) (old .lists) (books.committing h) → Committed h old b
-  whole : (l : Host → List Change) → b ≡ book (changeAll (old .lists h) (old .objects)) l nothing → Committed h old b
+-- a step call that answers more leaves it too
+more-steps : (m : Machine) (n : ℕ) (o : Out) (b : Book) → ((j : ℕ) → j < n → stepsOn m (suc j) o .answer ≡ More)
+    → afterAll m (o .image) (o .board) b (replicate n step) .book ≡ b
+more-steps m zero o b f = refl
+more-steps m (suc n) o b f =
+    let x : Out = m (o .image) (o .board) step in
+    ap (λ (a : Answer). afterAll m (x .image) (x .board) (enterStep b a) (replicate n step) .book) (f zero (omega arith))
+    ∙ more-steps m n x b (λ j h. f (suc j) (omega arith))
 
-commit-steps : (m : Machine) (h : Host) (old : Book) (n : ℕ) (img : List ℕ) (r : Record) (b : Book) → Committed h old b
-    → Committed h old (afterAll m img r b (replicate n step) .book)
-commit-steps m h old zero img r b y = y
-commit-steps m h old (suc n) img r b y =
-    commit-steps m h old n (m img r step .image) (m img r step .board) (enterStep b (m img r step .answer)) (go y (m img r step .answer))
+-- the book once a commit under way is done
+abbrev settled : Book → Host → Book
+settled b h = book (changeAll (b .lists h) (b .objects)) (withList (b .lists) h []) nothing
+
+abbrev begun : Book → Host → Book
+begun b h = book (b .objects) (b .lists) (books.committing h)
+
+-- n steps that answer more, one that answers 0, and t of them in all
+done-steps : (m : Machine) (n t : ℕ) (o : Out) (b : Book) (h : Host) → n < t → ((j : ℕ) → j < n → stepsOn m (suc j) o .answer ≡ More)
+    → stepsOn m (suc n) o .answer ≡ Done → afterAll m (o .image) (o .board) (begun b h) (replicate t step) .book ≡ settled b h
+done-steps m n zero o b h l f e = absurd (omega arith)
+done-steps m zero (suc t) o b h l f e =
+    let x : Out = m (o .image) (o .board) step in
+    ap (λ (a : Answer). afterAll m (x .image) (x .board) (enterStep (begun b h) a) (replicate t step) .book) e
+    ∙ ap (λ (l : Left). l .book) (quiet-steps m t x (settled b h .objects) (settled b h .lists))
+done-steps m (suc n) (suc t) o b h l f e =
+    let x : Out = m (o .image) (o .board) step in
+    ap (λ (a : Answer). afterAll m (x .image) (x .board) (enterStep (begun b h) a) (replicate t step) .book) (f zero (omega arith))
+    ∙ done-steps m n t x b h (omega arith) (λ j l. f (suc j) (omega arith)) e
+
+-- steps of a record in no job
+rest-steps : {m : Machine} → Calls m → (d : ℕ) (o : Out) → Rests (o .board .phase) → o .answer ≡ Done → stepsOn m d o .answer ≡ Done
+rest-steps p zero o h e = e
+rest-steps {m} p (suc d) o h e =
+    let x : m (o .image) (o .board) step ≡ out Done (o .image) (o .board) [] = p .rests (o .image) (o .board) h in
+    rest-steps p d (m (o .image) (o .board) step) (subst (λ (w : Out). Rests (w .board .phase)) (sym x) h) (ap (λ (w : Out). w .answer) x)
+
+late-steps : {m : Machine} → Calls m → (n t : ℕ) (o : Out) → n ≤ t → Rests (stepsOn m n o .board .phase) → stepsOn m n o .answer ≡ Done
+    → stepsOn m t o .answer ≡ Done
+late-steps p zero t o h r e = rest-steps p t o r e
+late-steps p (suc n) zero o h r e = absurd (omega arith)
+late-steps {m} p (suc n) (suc t) o h r e = late-steps p n t (m (o .image) (o .board) step) (omega arith) r e
+
+-- ---- a request that answers more
+
+-- a commit under way, by k of its steps: 0 was answered and the book has settled the list, or not yet
+abbrev BookSteps : Machine → Out → Book → Host → ℕ → Type 0
+BookSteps m o b h k =
+    ((numberOf (stepsOn m k o .answer) ≡ some 0) × (afterAll m (o .image) (o .board) (begun b h) (replicate k step) .book ≡ settled b h))
+    ⊎ ((stepsOn m k o .answer ≡ More) × (afterAll m (o .image) (o .board) (begun b h) (replicate k step) .book ≡ begun b h))
+
+plan-book : {m : Machine} → Calls m → (i : List ℕ) (o : Out) (plan : List Step) (z : Record) → StepsOf m i o plan z → z .phase ≡ Idle → o .answer ≡ More
+    → (b : Book) (h : Host) (k : ℕ) → BookSteps m o b h k
+plan-book p i o [] z st e a b h k = done-more (o .answer) (st .done) a
+plan-book {m} p i o (x ∷ xs) z st e a b h k =
+    on-test (ltb k (suc n))
+    (λ t. let l : k < suc n = ltb-true k (suc n) t in inr (st .more k l, more-steps m k o (begun b h) (λ j v. st .more (suc j) (omega arith))))
+    (λ t. let l : suc n ≤ k = ltb-false k (suc n) t in
+    inl (
+      ap numberOf (late-steps p (suc n) k o l (subst (λ (w : Record). Rests (w .phase)) (sym (st .last)) (subst Rests (sym e) tt)) done),
+      done-steps m n k o b h (omega arith) (λ j v. st .more (suc j) (omega arith)) done,
+    ))
   where
-    over : {b′ : Book} → b ≡ b′ → (a : Answer) → Committed h old (enterStep b′ a) → Committed h old (enterStep b a)
-    over e a z = subst (λ (w : Book). Committed h old (enterStep w a)) (sym e) z
+    n : ℕ
+    n = length xs
 
-    under : (a : Answer) → Committed h old (enterStep (book (old .objects) (old .lists) (books.committing h)) a)
-    under Done = whole _ refl
-    under More = not-yet refl
-    under (Refused k) = not-yet refl
+    done : stepsOn m (suc n) o .answer ≡ Done
+    done = number-injective (stepsOn m (suc n) o .answer) Done (st .done)
 
-    go : Committed h old b → (a : Answer) → Committed h old (enterStep b a)
-    go (not-yet e) a = over e a (under a)
-    go (whole l e) a = over e a (whole l (quiet-step (changeAll (old .lists h) (old .objects)) l a))
+book-steps : {m : Machine} (p : Promise m) (i : List ℕ) → Bytes i → (w : Record) (h : Host) (msg reply : List ℕ) → Bytes msg
+    → m i w (request h msg reply) .answer ≡ More → (b : Book) (k : ℕ) → BookSteps m (m i w (request h msg reply)) b h k
+book-steps {m} p i bi w h msg reply bm e b k = go (frameFor h msg x q) refl (serves .answers)
+  where
+    o : Out
+    o = m i w (request h msg reply)
 
-committed-objects : (h : Host) (old b : Book) → Committed h old b → (b .objects ≡ old .objects) ⊎ (b .objects ≡ changeAll (old .lists h) (old .objects))
-committed-objects h old b (not-yet e) = inl (ap (λ (x : Book). x .objects) e)
-committed-objects h old b (whole l e) = inr (ap (λ (x : Book). x .objects) e)
+    taken : Accepted (o .answer)
+    taken = subst Accepted (sym e) tt
+
+    y : Asked i w msg
+    y = request-asks (p .calls) i bi w h msg reply taken
+
+    x : Held
+    x = y .holding
+
+    q : Request
+    q = y .asked
+
+    serves : Serves i w h msg reply x q o
+    serves = p .calls .serves i w h msg reply x q bi bm (y .is-held) (y .is-asked) taken
+
+    go : (f : Option Frame) → frameFor h msg x q ≡ f → Answers f w o → BookSteps m o b h k
+    go none g a = done-more (o .answer) (a .0) e
+    go (some f) g a =
+        let plan : List Step = framePlan (needsRoom i w f) (w .block) (w .end) x f in
+        let z : Record = framedAt (needsRoom i w f) (w .last) (w .block) (w .end) x f in
+        let job : Job i w (request h msg reply) plan z = frame-job h msg reply x q f (y .is-held) (y .is-asked) g in
+        plan-book (p .calls) i o plan z (p .steps i w (request h msg reply) plan z bi bm job taken) (job-idle job) e b h k
 
 -- ---- 2
 
@@ -188,8 +272,10 @@ module _ {m : Machine} (p : Promise m) (i : List ℕ) (bi : Bytes i) (w : Record
       let y : Mounts m i (m i q mount) = p .one-store i q bi ok a in
       let e : y .store ≡ store .store = same-store i bi ok (y .store) (store .store) (mounts-current i bi ok (m i q mount) y) (store .current) in
       let f : y .last ≡ z = y .is-last ∙ ap (λ (s : Store). mountedAt (needsTransfer (s .frames) (s .tail)) (length i - 1) s) e in
+      let left : Store → Record → BlockState =
+      λ s v. blockState (block (sizeOf i) (v .block) (applyAll (sizeOf i) (mountPlan (allFound i) s) i)) in
       let g : SameValid (y .time) (y .frames) clean (idle-agrees .time) (idle-agrees .frames) clean =
-      same-valid (sym (y .leaves) ∙ ap₂ (λ (s : Store) (v : Record). blockState (block (sizeOf i) (v .block) (applyAll (sizeOf i) (mountPlan (allFound i) s) i))) e f
+      same-valid (sym (y .leaves) ∙ ap₂ left e f
       ∙ sym (ap (λ (n : ℕ). blockState (block (n / blocks) (z .block) after)) (length-all-steps (sizeOf i) plan i)) ∙ idle-agrees .is-valid) in
       sym (ap (λ (fs : List Frame). replay fs .pending) (g .frames)) ∙ ap (λ (s : State). s .pending) (y .holds)
 
@@ -236,20 +322,23 @@ module _ {m : Machine} (p : Promise m) (img : List ℕ) (r : Record) (by : Bytes
       ap (enterRequest b h msg) e ∙ ap (λ (w : Parsed). enterParsed b h msg w More) (messages-exact msg Commit .1 k)
 
   commit-left : (cs : List Call) (h : Host) (msg reply : List ℕ) (k : ℕ) → Means msg Commit → let x : Left = leftBy m img r cs in
-      m (x .image) (x .board) (request h msg reply) .answer ≡ More → Committed h (x .book) (leftBy m img r (committing cs h msg reply k) .book)
+      let o : Out = m (x .image) (x .board) (request h msg reply) in o .answer ≡ More
+      → leftBy m img r (committing cs h msg reply k) .book ≡ afterAll m (o .image) (o .board) (begun (x .book) h) (replicate k step) .book
   commit-left cs h msg reply k y e =
       let x : Left = leftBy m img r cs in
       let o : Out = m (x .image) (x .board) (request h msg reply) in
-      subst (λ (l : Left). Committed h (x .book) (l .book))
-      (sym (after-append m (formatted m img r .image) (formatted m img r .board) firstBook cs (request h msg reply ∷ replicate k step)))
-      (commit-steps m h (x .book) k (o .image) (o .board) (enterRequest (x .book) h msg (o .answer)) (not-yet (entered (x .book) h msg (o .answer) e y)))
+      ap (λ (l : Left). l .book)
+      (after-append m (formatted m img r .image) (formatted m img r .board) firstBook cs (request h msg reply ∷ replicate k step))
+      ∙ ap (λ (b : Book). afterAll m (o .image) (o .board) b (replicate k step) .book) (entered (x .book) h msg (o .answer) e y)
 
   whole-or-not : (cs : List Call) (h : Host) (msg reply : List ℕ) (k : ℕ) (q : Record) → ByteCalls cs → Bytes msg → Means msg Commit
       → let x : Left = leftBy m img r cs in let y : Left = leftBy m img r (committing cs h msg reply k) in
-      m (x .image) (x .board) (request h msg reply) .answer ≡ More → Accepted (m (y .image) q mount .answer)
-      → Restores m (m (y .image) q mount) (x .book .objects)
-      ⊎ Restores m (m (y .image) q mount) (changeAll (x .book .lists h) (x .book .objects))
-  whole-or-not cs h msg reply k q bs bm n e a = go (committed-objects h (x .book) (y .book) (commit-left cs h msg reply k n e))
+      let o : Out = m (x .image) (x .board) (request h msg reply) in
+      o .answer ≡ More → Accepted (m (y .image) q mount .answer)
+      → ((numberOf (stepsOn m k o .answer) ≡ some 0) × Restores m (m (y .image) q mount) (changeAll (x .book .lists h) (x .book .objects)))
+      ⊎ ((stepsOn m k o .answer ≡ More) × Restores m (m (y .image) q mount) (x .book .objects))
+  whole-or-not cs h msg reply k q bs bm n e a =
+      go (book-steps p (x .image) (left-by (p .calls) img r by cs bs .bytes) (x .board) h msg reply bm e (x .book) k)
     where
       x : Left
       x = leftBy m img r cs
@@ -257,14 +346,20 @@ module _ {m : Machine} (p : Promise m) (img : List ℕ) (r : Record) (by : Bytes
       y : Left
       y = leftBy m img r (committing cs h msg reply k)
 
-      back : Restores m (m (y .image) q mount) (y .book .objects)
-      back = restores (committing cs h msg reply k) (byte-append cs (request h msg reply ∷ replicate k step) bs (bm, byte-steps k)) q a
+      o : Out
+      o = m (x .image) (x .board) (request h msg reply)
 
-      go : (y .book .objects ≡ x .book .objects) ⊎ (y .book .objects ≡ changeAll (x .book .lists h) (x .book .objects))
-          → Restores m (m (y .image) q mount) (x .book .objects)
-          ⊎ Restores m (m (y .image) q mount) (changeAll (x .book .lists h) (x .book .objects))
-      go (inl f) = inl (subst (Restores m (m (y .image) q mount)) f back)
-      go (inr f) = inr (subst (Restores m (m (y .image) q mount)) f back)
+      back : (b : Book) → afterAll m (o .image) (o .board) (begun (x .book) h) (replicate k step) .book ≡ b
+          → Restores m (m (y .image) q mount) (b .objects)
+      back b f =
+          subst (λ (w : Book). Restores m (m (y .image) q mount) (w .objects)) (commit-left cs h msg reply k n e ∙ f)
+          (restores (committing cs h msg reply k) (byte-append cs (request h msg reply ∷ replicate k step) bs (bm, byte-steps k)) q a)
+
+      go : BookSteps m o (x .book) h k
+          → ((numberOf (stepsOn m k o .answer) ≡ some 0) × Restores m (m (y .image) q mount) (changeAll (x .book .lists h) (x .book .objects)))
+          ⊎ ((stepsOn m k o .answer ≡ More) × Restores m (m (y .image) q mount) (x .book .objects))
+      go (inl (f, g)) = inl (f, back (settled (x .book) h) g)
+      go (inr (f, g)) = inr (f, back (begun (x .book) h) g)
 
 -- ---- both
 

@@ -15,9 +15,8 @@ use Rattle.frame.specs.declared.ObjectId.{ObjectId}
 use Rattle.frame.specs.Frame.{Frame, frameLen, put, delete}
 use Rattle.frame.specs.Reader.{Tail, clean}
 use Rattle.journal.specs.Replay.{replay, entry, settledOnly}
-use Rattle.journal.specs.Block.{valid, foreign, blockState, headerLen, stateAt, inTransfer}
+use Rattle.journal.specs.Block.{valid, foreign, blockState, stateAt, inTransfer}
 use Rattle.journal.specs.Room.{claimed, openHosts}
-use Rattle.wire.specs.declared.Answer.the-variants.{Done, More}
 use Rattle.wire.specs.declared.Request.the-variants.{Put, Delete, Commit, Abort}
 use Rattle.wire.specs.declared.Request.{Request}
 use Rattle.wire.specs.Answer.{numberOf}
@@ -25,14 +24,13 @@ use Rattle.wire.specs.Message.{valueIn}
 use Rattle.board.specs.declared.Phase.the-variants.{Idle}
 use Rattle.board.specs.declared.Record.{Record}
 pub use Rattle.board.specs.Record.{Accepted}
-use Rattle.board.specs.Record.{Out, allowed, rest, idle}
+use Rattle.board.specs.Record.{Out, allowed}
 use Rattle.board.specs.Mount.{allFound, Store, needsTransfer}
-use Rattle.board.specs.Queue.{Held, needsRoom}
-use Rattle.board.specs.Exec.{Call, request, step, mount, format, Machine}
-use Rattle.board.specs.Plan.{Follows, formatPlan, mountPlan, mountedAt, framePlan, framedAt}
-use Rattle.board.specs.Table.{frameFor}
+use Rattle.board.specs.Queue.{Held}
+use Rattle.board.specs.Exec.{Call, request, mount, format, Machine}
+use Rattle.board.specs.Plan.{Follows, mountPlan, mountedAt}
+use Rattle.board.specs.Table.{frameFor, Allowed, Fresh}
 use Rattle.wire.specs.Sentences.{Means}
-use Rattle.board.specs.Sentences.{Allowed, Fresh}
 use Rattle.board.specs.Claim.{ByteCalls}
 
 -- ---- every image reads as one store
@@ -61,7 +59,7 @@ unfoldable pub OneStore : Machine → Type 0
 OneStore m =
     (img : List ℕ) (r : Record) → Bytes img → allowed (length img) ≡ true → Accepted (m img r mount .answer) → Mounts m img (m img r mount)
 
--- ---- every programmed byte is the plan's and lands as given
+-- ---- every programmed byte lands as given
 
 -- the place was 0xFF, or is byte 8 and was 0xFE; afterwards it holds the byte given
 abbrev pub LandsAt : ℕ → Step → List ℕ → Type 0
@@ -70,46 +68,21 @@ LandsAt s (program k o v) img =
     × (getD (apply s (program k o v) img) (k * s + o) 0 ≡ v)
 LandsAt s (erase k) img = Unit {0}
 
--- a step call changes nothing, or does one step that lands
+-- a call changes nothing, or does one step that lands
 abbrev pub StepLands : List ℕ → Out → Type 0
 StepLands img o = (o .image ≡ img) ⊎ ((x : Step) × (o .image ≡ apply (sizeOf img) x img) × LandsAt (sizeOf img) x img)
 
--- an accepted request with steps to do appends document 01's frame, after a transfer if it must, in at most S steps
-pub record Appends (m : Machine) (img : List ℕ) (r : Record) (h : Host) (msg : List ℕ) (o : Out) : Type 0 where
-  pub holding : Held
-  pub asked : Request
-  pub frame : Frame
-  pub is-held : Fresh img r holding
-  pub is-asked : Means msg asked
-  pub is-frame : frameFor h msg holding asked ≡ some frame
-  pub follows : Follows m img (o .board) (framePlan (needsRoom img r frame) (r .block) (r .end) holding frame)
-      (framedAt (needsRoom img r frame) (r .last) (r .block) (r .end) holding frame)
-  pub short : length (framePlan (needsRoom img r frame) (r .block) (r .end) holding frame) ≤ sizeOf img
-
--- "Format: .. 12 steps."
-pub record Formats (m : Machine) (img : List ℕ) (o : Out) : Type 0 where
-  pub follows : Follows m img (o .board) (formatPlan img) (idle (rest (length img - 1) 0 headerLen))
-  pub twelve : length (formatPlan img) ≡ 12
-
--- a request follows its plan or was done at once and leaves the record; a step lands; mount and format follow theirs
-abbrev pub Planned : Machine → List ℕ → Record → Call → Out → Type 0
-Planned m img r (request h msg reply) o = (o .answer ≡ More → Appends m img r h msg o) × (o .answer ≡ Done → o .board ≡ r)
-Planned m img r step o = StepLands img o
-Planned m img r mount o = Accepted (o .answer) → Mounts m img o
-Planned m img r format o = Formats m img o
-
 -- calls that each got what the last gave back
-abbrev pub AllPlanned : Machine → List ℕ → Record → List Call → Type 0
-AllPlanned m img r [] = Unit {0}
-AllPlanned m img r (c ∷ cs) =
-    let o : Out = m img r c in Planned m img r c o × AllPlanned m (o .image) (o .board) cs
+abbrev pub AllLand : Machine → List ℕ → Record → List Call → Type 0
+AllLand m img r [] = Unit {0}
+AllLand m img r (c ∷ cs) = let o : Out = m img r c in StepLands img o × AllLand m (o .image) (o .board) cs
 
 -- from a mount or a format on, accepted or not, of any image of an allowed length
-pub record PlannedFrom (m : Machine) : Type 0 where
+pub record LandsFrom (m : Machine) : Type 0 where
   pub from-mount : (img : List ℕ) (r : Record) (cs : List Call) → Bytes img → allowed (length img) ≡ true → ByteCalls cs
-      → AllPlanned m img (m img r mount .board) cs
+      → AllLand m img (m img r mount .board) cs
   pub from-format : (img : List ℕ) (r : Record) (cs : List Call) → Bytes img → allowed (length img) ≡ true → ByteCalls cs
-      → AllPlanned m img (m img r format .board) cs
+      → AllLand m img (m img r format .board) cs
 
 -- ---- room and wear
 

@@ -11,10 +11,9 @@ pub mod Table
 pub mod Demand1
 pub mod Demand2
 pub mod CutFormat
-pub mod Sentences
-pub mod Laws
 pub mod Promise
 pub mod Tickets
 pub mod Wrong
 pub mod WrongRuns
 pub mod WrongRows
+pub mod Sentences

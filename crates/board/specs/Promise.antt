@@ -30,11 +30,10 @@ use Rattle.board.specs.Queue.{Held, needsRoom, placeOf}
 pub use Rattle.board.specs.Exec.{Machine}
 use Rattle.board.specs.Exec.{Call, request, step, mount, format}
 use Rattle.board.specs.Plan.{Follows, formatPlan, mountPlan, mountedAt, framePlan, framedAt}
-use Rattle.board.specs.Table.{frameFor}
+use Rattle.board.specs.Table.{frameFor, Exactly, InJob, Fresh, ValidAt, linesOf}
 use Rattle.board.specs.Demand1.{Unchanged, ImageAfter, Declared, Rests, EndsWithin}
-use Rattle.board.specs.Demand2.{Accepted, OneStore, PlannedFrom, RoomExact, WearExact}
+use Rattle.board.specs.Demand2.{Accepted, OneStore, LandsFrom, RoomExact, WearExact}
 use Rattle.wire.specs.Sentences.{Means}
-use Rattle.board.specs.Sentences.{Exactly, InJob, Fresh, ValidAt, linesOf}
 use Rattle.board.specs.Claim.{stepsOn, ByteCall, ByteCalls, Claim}
 use Rattle.board.specs.CutFormat.{CutFormat}
 
@@ -163,8 +162,8 @@ pub record Promise (m : Machine) : Type 0 where
   -- demand 2: "refusals for room and wear are exact"
   pub room : RoomExact m
   pub wear : WearExact m
-  -- demand 2: every step of a run is its plan's and lands
-  pub planned : PlannedFrom m
+  -- demand 2: in a run every programmed byte lands as given, where 0xFF was or byte 8 goes on
+  pub lands : LandsFrom m
   -- demand 3
   pub claim : Claim m
   -- "On an image the store left, a cut format leaves the old settled objects, no store, or the empty store."

@@ -1,184 +1,114 @@
--- Document 01's table "When the queue says no" in its own words: for each call its lines, by number and condition, in the table's order.
+-- Document 01's sentences on the frame that a request appends, on the steps of each job and on a read's stretch, "Frames", "Jobs" and
+-- "What hosts send", and the statements that the definitions say exactly these.
 use mathlib.Core.List.{List, [], _∷_, _++_}
-use mathlib.Core.Logic.{_⊎_, _↔_}
-use mathlib.Core.Option.{none, some}
-use mathlib.Core.Bool.{true}
+use mathlib.Core.Logic.{_↔_}
+use mathlib.Core.Option.{none, some, Option·map}
+use mathlib.Core.Bool.{true, false}
 use mathlib.Core.Path.{_≡_}
-use Prim.Native.Nat.{ℕ, suc, _+_, _*_, _%_, _≤_, _<_}
-use lib.ListN.{length}
+use Prim.Native.Nat.{ℕ, suc, _+_, _-_, _*_, _/_, _%_, _≤_, _<_}
+use lib.ListN.{length, getD, drop}
 use Rattle.flash.specs.Bytes.{Bytes}
-use Rattle.flash.specs.Flash.{Step, blocks, block, sizeOf, blockOf, offsetOf}
+use Rattle.flash.specs.Flash.{Step, program, erase, block, sizeOf}
 use Rattle.frame.specs.declared.Host.{Host}
 use Rattle.frame.specs.declared.ObjectId.{ObjectId}
-use Rattle.frame.specs.Frame.{Frame, put, delete, frameLen, total}
-use Rattle.frame.specs.Reader.{Tail, clean}
-use Rattle.journal.specs.Replay.{entry, replay, lookup}
-use Rattle.journal.specs.Block.{headerLen}
-use Rattle.journal.specs.Sentences.{BlankBlock, ValidBlock, ForeignBlock}
-use Rattle.journal.specs.Room.{claimed, openHosts}
-use Rattle.wire.specs.declared.Answer.{Answer}
+use Rattle.frame.specs.Frame.{Frame, encode, encodeAll}
+use Rattle.frame.specs.Reader.{Tail, clean, cut}
+use Rattle.journal.specs.Replay.{State, state, lookup, replay, framesOf}
+use Rattle.journal.specs.Block.{blank, blockState}
+use Rattle.journal.specs.Room.{claimed}
+use Rattle.journal.specs.Sentences.{ValidBlock}
+use Rattle.journal.specs.Laws.{objectsAfter, pendingAfter, TakenFrom}
 use Rattle.wire.specs.declared.Page.{Page}
-use Rattle.wire.specs.declared.Request.{Request}
-use Rattle.wire.specs.declared.Request.the-variants.{Put, Delete, Read, Log}
-use Rattle.wire.specs.Answer.{numberOf}
-use Rattle.wire.specs.Message.{valueIn}
-use Rattle.board.specs.declared.Stage.{Stage}
-use Rattle.board.specs.declared.Phase.{Phase}
-use Rattle.board.specs.declared.Phase.the-variants.{Unmounted, Idle, Busy}
-use Rattle.board.specs.declared.Record.{Record}
-use Rattle.board.specs.Record.{allowed, Accepted}
-use Rattle.board.specs.Step.{action}
-use Rattle.board.specs.Queue.{Held, held}
-use Rattle.board.specs.Exec.{Call, request, step, mount, format}
-use Rattle.board.specs.Table.{frameFor}
+use Rattle.wire.specs.declared.Request.the-variants.{Put, Delete, Commit, Abort, Read, Log}
 use Rattle.wire.specs.Sentences.{Means}
+use Rattle.board.specs.declared.Record.{Record}
+use Rattle.board.specs.Mount.{Store, allFound}
+use Rattle.board.specs.Queue.{Held, needsRoom, placeOf}
+use Rattle.board.specs.Table.{frameFor}
+use Rattle.board.specs.Plan.{transferPlan, formatPlan, framePlan, mountPlan}
 
--- ---- lines
+-- ---- which requests append a frame, and its bytes
 
-pub record Line : Type 1 where
-  pub number : ℕ
-  pub holds : Type 0
+-- "Length (2, whole frame), kind (2), body, finish byte 0xFE": "1 put: host 1, id 2, value v", "2 delete: host 1, id 2", "3 commit: host 1",
+-- "4 abort: host 1". "Commit or abort with nothing pending is done in 0 steps." A read and a log append none
+pub record FrameExact : Type 0 where
+  pub of-put : (h : Host) (m : List ℕ) (x : Held) (i : ObjectId) → h .0 ≤ 3 → Bytes m → Means m (Put i)
+      → Option·map encode (frameFor h m x (Put i))
+      ≡ some ((8 + length (drop 6 m)) ∷ 0 ∷ 1 ∷ 0 ∷ h .0 ∷ i .0 ∷ 0 ∷ (drop 6 m ++ (0xFE ∷ [])))
+  pub of-delete : (h : Host) (m : List ℕ) (x : Held) (i : ObjectId) → h .0 ≤ 3 → Means m (Delete i)
+      → Option·map encode (frameFor h m x (Delete i)) ≡ some (8 ∷ 0 ∷ 2 ∷ 0 ∷ h .0 ∷ i .0 ∷ 0 ∷ 0xFE ∷ [])
+  pub of-commit : (h : Host) (m : List ℕ) (x : Held) → (pendingAfter h (x .frames) ≡ [] → ⊥)
+      → Option·map encode (frameFor h m x Commit) ≡ some (6 ∷ 0 ∷ 3 ∷ 0 ∷ h .0 ∷ 0xFE ∷ [])
+  pub commit-nothing : (h : Host) (m : List ℕ) (x : Held) → pendingAfter h (x .frames) ≡ [] → frameFor h m x Commit ≡ none
+  pub of-abort : (h : Host) (m : List ℕ) (x : Held) → (pendingAfter h (x .frames) ≡ [] → ⊥)
+      → Option·map encode (frameFor h m x Abort) ≡ some (6 ∷ 0 ∷ 4 ∷ 0 ∷ h .0 ∷ 0xFE ∷ [])
+  pub abort-nothing : (h : Host) (m : List ℕ) (x : Held) → pendingAfter h (x .frames) ≡ [] → frameFor h m x Abort ≡ none
+  pub of-read : (h : Host) (m : List ℕ) (x : Held) (i : ObjectId) → frameFor h m x (Read i) ≡ none
+  pub of-log : (h : Host) (m : List ℕ) (x : Held) (p : Page) → frameFor h m x (Log p) ≡ none
 
-abbrev pub line : ℕ → Type 0 → Line
-line n P = record { number = n; holds = P }
+-- "after a transfer if end + n exceeds S"; "It is two halves of S bytes each."
+unfoldable pub NeedsExact : Type 0
+NeedsExact =
+    (img : List ℕ) (s : ℕ) (r : Record) (f : Frame) → length img ≡ s + s
+    → (needsRoom img r f ≡ true) ↔ (s < r .end + length (encode f))
 
--- "Checked in this order", "Exactly when": the first line that holds gives its number; where none does the answer is 0 or more
-abbrev pub Exactly : List Line → Answer → Type 0
-Exactly [] a = Accepted a
-Exactly (l ∷ ls) a = (l .holds × (numberOf a ≡ some (l .number))) ⊎ ((l .holds → ⊥) × Exactly ls a)
+-- ---- the steps of each job
 
--- 4: "Its length is a multiple of 256 from 512 to 65,536."
-abbrev pub Allowed : ℕ → Type 0
-Allowed n = (512 ≤ n) × (n ≤ 65536) × (n % 256 ≡ 0)
+-- "Bytes are programmed in address order, each one a step, 0xFF bytes too": these bytes from an offset of half k on
+pub record Programs (k at : ℕ) (bytes : List ℕ) (steps : List Step) : Type 0 where
+  pub each : length steps ≡ length bytes
+  pub in-order : (n : ℕ) (d : Step) → n < length bytes → getD steps n d ≡ program k (at + n) (getD bytes n 0)
 
--- 5: "a job is unfinished"
-abbrev pub InJob : Phase → Type 0
-InJob Unmounted = ⊥
-InJob Idle = ⊥
-InJob (Busy s) = Unit {0}
+-- "Transfer, into the blank half: byte 8 to 0xFE, header bytes 0-3, settled frames by rising id, pending frames in their order, inverse of
+-- (time + 1), byte 8 to 0xFC, erase of the old half. C-5 steps." Of half k into half j; "length, 16", "kind, 0x4A01"
+pub record TransferSteps (k j time : ℕ) (st : State) : Type 0 where
+  pub copied : List Step
+  pub steps : transferPlan k time st
+      ≡ program j 8 0xFE ∷ program j 0 16 ∷ program j 1 0 ∷ program j 2 0x01 ∷ program j 3 0x4A
+      ∷ (copied
+      ++ (program j 4 (255 - suc time % 256) ∷ program j 5 (255 - suc time / 256 % 256) ∷ program j 6 (255 - suc time / 65536 % 256)
+      ∷ program j 7 (255 - suc time / 16777216) ∷ program j 8 0xFC ∷ erase k ∷ []))
+  pub frames : Programs j 16 (encodeAll (framesOf st)) copied
+  pub count : length (transferPlan k time st) + 5 ≡ claimed st
 
--- ---- requests
+unfoldable pub TransferExact : Type 0
+TransferExact = (k j time : ℕ) (st : State) → k + j ≡ 1 → suc time ≤ 4294967295 → TransferSteps k j time st
 
--- 11: "idle record: its length differs, or the image read afresh isn't: recorded half valid, its last whole frame (or the header, if
--- none) ending exactly at the recorded end with only 0xFF after it, other half blank, C + 6·open at most S"
-pub record Fresh (img : List ℕ) (r : Record) (x : Held) : Type 0 where
-  pub length-is : length img ≡ suc (r .last)
-  pub there : r .block < blocks
-  pub is-valid : ValidBlock (block (sizeOf img) (r .block) img) (x .time) (x .frames) clean
-  pub ends : headerLen + total (x .frames) ≡ r .end
-  pub others-blank : (j : ℕ) → j < blocks → (j ≡ r .block → ⊥) → BlankBlock (block (sizeOf img) j img)
-  pub room : claimed (replay (x .frames)) + 6 * openHosts (replay (x .frames) .pending) ≤ sizeOf img
+-- "Format: erase half 0, erase half 1, then half 0's header at time 1 in the same order. 12 steps."
+unfoldable pub FormatExact : Type 0
+FormatExact =
+    (img : List ℕ) → formatPlan img
+    ≡ erase 0 ∷ erase 1 ∷ program 0 8 0xFE ∷ program 0 0 0x10 ∷ program 0 1 0x00 ∷ program 0 2 0x01 ∷ program 0 3 0x4A ∷ program 0 4 0xFE
+    ∷ program 0 5 0xFF ∷ program 0 6 0xFF ∷ program 0 7 0xFF ∷ program 0 8 0xFC ∷ []
 
--- `held` finds exactly this
-unfoldable pub FreshExact : Type 0
-FreshExact = (img : List ℕ) (r : Record) (x : Held) → Bytes img → allowed (length img) ≡ true → (held img r ≡ some x) ↔ Fresh img r x
+-- "one frame of n bytes, after a transfer if end + n exceeds S": at the recorded end, or in the other half past what was copied there
+pub record AppendExact : Type 0 where
+  pub stays : (k end : ℕ) (x : Held) (f : Frame) → Programs k end (encode f) (framePlan false k end x f)
+  pub moves : (k j end : ℕ) (x : Held) (f : Frame) → k + j ≡ 1
+      → (appended : List Step) × (framePlan true k end x f ≡ transferPlan k (x .time) (replay (x .frames)) ++ appended)
+      × Programs j (16 + length (encodeAll (framesOf (replay (x .frames))))) (encode f) appended
 
--- 8: "read: no such settled object"
-pub record NoObject (img : List ℕ) (r : Record) (msg : List ℕ) : Type 0 where
-  pub holding : Held
-  pub id : ObjectId
-  pub is-held : Fresh img r holding
-  pub is-asked : Means msg (Read id)
-  pub none-there : lookup id (replay (holding .frames) .objects) ≡ none
+-- "The other is erased if it isn't blank. If the current one has a torn tail or anything pending, a transfer of the settled objects alone
+-- follows." Of the current half x, j the other
+pub record MountSteps (img : List ℕ) (x : Store) (j : ℕ) : Type 0 where
+  pub erases : List Step
+  pub moves : List Step
+  pub steps : mountPlan (allFound img) x ≡ erases ++ moves
+  pub other-blank : blockState (block (sizeOf img) j img) ≡ blank → erases ≡ []
+  pub other-not : (blockState (block (sizeOf img) j img) ≡ blank → ⊥) → erases ≡ erase j ∷ []
+  pub torn : (n : ℕ) → x .tail ≡ cut n → moves ≡ transferPlan (x .number) (x .time) (state (objectsAfter (x .frames)) [])
+  pub pending : x .tail ≡ clean → (replay (x .frames) .pending ≡ [] → ⊥)
+      → moves ≡ transferPlan (x .number) (x .time) (state (objectsAfter (x .frames)) [])
+  pub at-rest : x .tail ≡ clean → replay (x .frames) .pending ≡ [] → moves ≡ []
 
--- 9: "log: reply under 14 bytes"
-pub record ShortReply (msg reply : List ℕ) : Type 0 where
-  pub page : Page
-  pub is-asked : Means msg (Log page)
-  pub short : length reply < 14
+unfoldable pub MountExact : Type 0
+MountExact = (img : List ℕ) (x : Store) (j : ℕ) → x .number + j ≡ 1 → MountSteps img x j
 
--- 7: "with `open` the hosts that would then have something pending, a put is refused exactly if C + n + 6·open + 14 > S, a delete
--- exactly if C + 8 + 6·open > S"
-pub data NoRoom (img : List ℕ) (r : Record) (h : Host) (msg : List ℕ) : Type 0 where
-  for-put : (x : Held) (i : ObjectId) → Fresh img r x → Means msg (Put i)
-      → sizeOf img
-      < claimed (replay (x .frames)) + (8 + length (valueIn msg))
-      + 6 * openHosts (replay (x .frames) .pending ++ (entry h (put i (valueIn msg)) ∷ [])) + 14
-      → NoRoom img r h msg
-  for-delete : (x : Held) (i : ObjectId) → Fresh img r x → Means msg (Delete i)
-      → sizeOf img < claimed (replay (x .frames)) + 8 + 6 * openHosts (replay (x .frames) .pending ++ (entry h (delete i) ∷ []))
-      → NoRoom img r h msg
+-- ---- a read's stretch
 
--- 6: "a transfer is needed, .. at time 4,294,967,295": "if end + n exceeds S"
-pub record Worn (img : List ℕ) (r : Record) (h : Host) (msg : List ℕ) : Type 0 where
-  pub holding : Held
-  pub asked : Request
-  pub frame : Frame
-  pub is-held : Fresh img r holding
-  pub is-asked : Means msg asked
-  pub is-frame : frameFor h msg holding asked ≡ some frame
-  pub exceeds : sizeOf img < r .end + frameLen frame
-  pub last-time : holding .time ≡ 4294967295
-
-abbrev pub requestLines : List ℕ → Record → Host → List ℕ → List ℕ → List Line
-requestLines img r h msg reply =
-    line 4 (Allowed (length img) → ⊥)
-    ∷ line 10 (3 < h .0)
-    ∷ line 5 (InJob (r .phase))
-    ∷ line 2 (r .phase ≡ Unmounted)
-    ∷ line 11 ((x : Held) → Fresh img r x → ⊥)
-    ∷ line 1 ((q : Request) → Means msg q → ⊥)
-    ∷ line 8 (NoObject img r msg)
-    ∷ line 9 (ShortReply msg reply)
-    ∷ line 7 (NoRoom img r h msg)
-    ∷ line 6 (Worn img r h msg)
-    ∷ []
-
--- ---- mounts
-
--- half k is valid; half k is foreign
-abbrev pub ValidAt : List ℕ → ℕ → ℕ → List Frame → Tail → Type 0
-ValidAt img k t fs c = (k < blocks) × ValidBlock (block (sizeOf img) k img) t fs c
-
-abbrev pub ForeignAt : List ℕ → ℕ → Type 0
-ForeignAt img k = (k < blocks) × ForeignBlock (block (sizeOf img) k img)
-
--- 2: "for mount, no valid half and none foreign"
-pub record NothingThere (img : List ℕ) : Type 0 where
-  pub none-valid : (k t : ℕ) (fs : List Frame) (c : Tail) → ValidAt img k t fs c → ⊥
-  pub none-foreign : (k : ℕ) → ForeignAt img k → ⊥
-
--- 3: "a foreign half, or two valid halves of equal time"
-pub data Unclear (img : List ℕ) : Type 0 where
-  foreign-half : (k : ℕ) → ForeignAt img k → Unclear img
-  equal-times : (j k t : ℕ) (fs gs : List Frame) (c d : Tail) → (j ≡ k → ⊥) → ValidAt img j t fs c → ValidAt img k t gs d → Unclear img
-
--- "has a torn tail or anything pending"
-abbrev pub Unsettled : List Frame → Tail → Type 0
-Unsettled fs c = (c ≡ clean → ⊥) ⊎ (replay fs .pending ≡ [] → ⊥)
-
--- 6: "a transfer is needed, by a mount too, at time 4,294,967,295": no time is larger, so that this half is the current one
-pub record MountWorn (img : List ℕ) : Type 0 where
-  pub number : ℕ
-  pub frames : List Frame
-  pub tail : Tail
-  pub is-valid : ValidAt img number 4294967295 frames tail
-  pub unsettled : Unsettled frames tail
-
-abbrev pub mountLines : List ℕ → List Line
-mountLines img =
-    line 4 (Allowed (length img) → ⊥)
-    ∷ line 2 (NothingThere img)
-    ∷ line 3 (Unclear img)
-    ∷ line 6 (MountWorn img)
-    ∷ []
-
--- ---- steps
-
--- "the job's next place lies outside it": its half isn't there, or its offset is past the half
-abbrev pub Outside : List ℕ → Step → Type 0
-Outside img x = (blocks ≤ blockOf x) ⊎ (sizeOf img ≤ offsetOf x)
-
--- "in a job, 11 is given exactly if the image length isn't the record's or the job's next place lies outside it"
-pub record Misplaced (img : List ℕ) (r : Record) : Type 0 where
-  pub stage : Stage
-  pub is-busy : r .phase ≡ Busy stage
-  pub misfits : (length img ≡ suc (r .last) → ⊥) ⊎ Outside img (action stage r)
-
--- ---- the table
-
-abbrev pub linesOf : List ℕ → Record → Call → List Line
-linesOf img r (request h msg reply) = requestLines img r h msg reply
-linesOf img r step = line 11 (Misplaced img r) ∷ []
-linesOf img r mount = mountLines img
-linesOf img r format = line 4 (Allowed (length img) → ⊥) ∷ []
+-- "hands back that stretch of the caller's own flash image": where in the recorded half the value was put, counted from the image's start
+unfoldable pub StretchExact : Type 0
+StretchExact =
+    (img : List ℕ) (r : Record) (x : Held) (c : Tail) (i : ObjectId) (v : List ℕ)
+    → ValidBlock (block (sizeOf img) (r .block) img) (x .time) (x .frames) c → i .0 ≤ 255 → lookup i (objectsAfter (x .frames)) ≡ some v
+    → (at : ℕ) × (placeOf img r x i ≡ record { at = r .block * sizeOf img + at; size = length v }) × TakenFrom (x .frames) i v at

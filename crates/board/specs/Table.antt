@@ -1,28 +1,38 @@
--- The frame that each request appends, and two tests that statements share.
-use mathlib.Core.List.{List}
-use mathlib.Core.Option.{Option, none, some}
-use mathlib.Core.Bool.{Bool, true, false}
-use Prim.Native.Nat.{ℕ}
+-- Document 01's table "When the queue says no" in its own words: for each call its lines, by number and condition, in the table's order.
+use mathlib.Core.List.{List, [], _∷_, _++_}
+use mathlib.Core.Logic.{_⊎_, _↔_}
+use mathlib.Core.Option.{none, some, Option}
+use mathlib.Core.Bool.{true, Bool, false}
+use mathlib.Core.Path.{_≡_}
+use Prim.Native.Nat.{ℕ, suc, _+_, _*_, _%_, _≤_, _<_}
+use lib.ListN.{length}
+use Rattle.flash.specs.Bytes.{Bytes}
+use Rattle.flash.specs.Flash.{Step, blocks, block, sizeOf, blockOf, offsetOf}
 use Rattle.frame.specs.declared.Host.{Host}
-use Rattle.frame.specs.Frame.{put, delete, Frame, change, commit, abort}
-use Rattle.journal.specs.Replay.{replay, isOpen}
+use Rattle.frame.specs.declared.ObjectId.{ObjectId}
+use Rattle.frame.specs.Frame.{Frame, put, delete, frameLen, total, change, commit, abort}
+use Rattle.frame.specs.Reader.{Tail, clean}
+use Rattle.journal.specs.Replay.{entry, replay, lookup, isOpen}
+use Rattle.journal.specs.Block.{headerLen}
+use Rattle.journal.specs.Sentences.{BlankBlock, ValidBlock, ForeignBlock}
+use Rattle.journal.specs.Room.{claimed, openHosts}
+use Rattle.wire.specs.declared.Answer.{Answer}
+use Rattle.wire.specs.declared.Page.{Page}
 use Rattle.wire.specs.declared.Request.{Request}
-use Rattle.wire.specs.declared.Request.the-variants.{Put, Delete, Commit, Abort, Read, Log}
+use Rattle.wire.specs.declared.Request.the-variants.{Put, Delete, Read, Log, Commit, Abort}
+use Rattle.wire.specs.Answer.{numberOf}
 use Rattle.wire.specs.Message.{valueIn}
+use Rattle.board.specs.declared.Stage.{Stage}
 use Rattle.board.specs.declared.Phase.{Phase}
 use Rattle.board.specs.declared.Phase.the-variants.{Unmounted, Idle, Busy}
-use Rattle.board.specs.Queue.{Held}
+use Rattle.board.specs.declared.Record.{Record}
+use Rattle.board.specs.Record.{allowed, Accepted}
+use Rattle.board.specs.Step.{action}
+use Rattle.board.specs.Queue.{Held, held}
+use Rattle.board.specs.Exec.{Call, request, step, mount, format}
+use Rattle.wire.specs.Sentences.{Means}
 
--- 5: "a job is unfinished"
-abbrev pub isBusy : Phase → Bool
-isBusy Unmounted = false
-isBusy Idle = false
-isBusy (Busy s) = true
-
--- nothing is found
-abbrev pub isNone : {A : Type 0} → Option A → Bool
-isNone none = true
-isNone (some x) = false
+-- ---- the frame that a request appends
 
 -- "Put, delete, commit, abort: one frame of n bytes"; "Commit or abort with nothing pending is done in 0 steps."
 abbrev pub frameIf : Bool → Frame → Option Frame
@@ -36,3 +46,166 @@ frameFor h m x Commit = frameIf (isOpen h (replay (x .frames) .pending)) (commit
 frameFor h m x Abort = frameIf (isOpen h (replay (x .frames) .pending)) (abort h)
 frameFor h m x (Read i) = none
 frameFor h m x (Log p) = none
+
+-- ---- lines
+
+pub record Line : Type 1 where
+  pub number : ℕ
+  pub holds : Type 0
+
+abbrev pub line : ℕ → Type 0 → Line
+line n P = record { number = n; holds = P }
+
+-- "Checked in this order", "Exactly when": the first line that holds gives its number; where none does the answer is 0 or more
+abbrev pub Exactly : List Line → Answer → Type 0
+Exactly [] a = Accepted a
+Exactly (l ∷ ls) a = (l .holds × (numberOf a ≡ some (l .number))) ⊎ ((l .holds → ⊥) × Exactly ls a)
+
+-- 4: "Its length is a multiple of 256 from 512 to 65,536."
+abbrev pub Allowed : ℕ → Type 0
+Allowed n = (512 ≤ n) × (n ≤ 65536) × (n % 256 ≡ 0)
+
+-- 5: "a job is unfinished"
+abbrev pub InJob : Phase → Type 0
+InJob Unmounted = ⊥
+InJob Idle = ⊥
+InJob (Busy s) = Unit {0}
+
+-- ---- requests
+
+-- 11: "idle record: its length differs, or the image read afresh isn't: recorded half valid, its last whole frame (or the header, if
+-- none) ending exactly at the recorded end with only 0xFF after it, other half blank, C + 6·open at most S"
+pub record Fresh (img : List ℕ) (r : Record) (x : Held) : Type 0 where
+  pub length-is : length img ≡ suc (r .last)
+  pub there : r .block < blocks
+  pub is-valid : ValidBlock (block (sizeOf img) (r .block) img) (x .time) (x .frames) clean
+  pub ends : headerLen + total (x .frames) ≡ r .end
+  pub others-blank : (j : ℕ) → j < blocks → (j ≡ r .block → ⊥) → BlankBlock (block (sizeOf img) j img)
+  pub room : claimed (replay (x .frames)) + 6 * openHosts (replay (x .frames) .pending) ≤ sizeOf img
+
+-- `held` finds exactly this
+unfoldable pub FreshExact : Type 0
+FreshExact = (img : List ℕ) (r : Record) (x : Held) → Bytes img → allowed (length img) ≡ true → (held img r ≡ some x) ↔ Fresh img r x
+
+-- 8: "read: no such settled object"
+pub record NoObject (img : List ℕ) (r : Record) (msg : List ℕ) : Type 0 where
+  pub holding : Held
+  pub id : ObjectId
+  pub is-held : Fresh img r holding
+  pub is-asked : Means msg (Read id)
+  pub none-there : lookup id (replay (holding .frames) .objects) ≡ none
+
+-- 9: "log: reply under 14 bytes"
+pub record ShortReply (msg reply : List ℕ) : Type 0 where
+  pub page : Page
+  pub is-asked : Means msg (Log page)
+  pub short : length reply < 14
+
+-- 7: "with `open` the hosts that would then have something pending, a put is refused exactly if C + n + 6·open + 14 > S, a delete
+-- exactly if C + 8 + 6·open > S"
+pub data NoRoom (img : List ℕ) (r : Record) (h : Host) (msg : List ℕ) : Type 0 where
+  for-put : (x : Held) (i : ObjectId) → Fresh img r x → Means msg (Put i)
+      → sizeOf img
+      < claimed (replay (x .frames)) + (8 + length (valueIn msg))
+      + 6 * openHosts (replay (x .frames) .pending ++ (entry h (put i (valueIn msg)) ∷ [])) + 14
+      → NoRoom img r h msg
+  for-delete : (x : Held) (i : ObjectId) → Fresh img r x → Means msg (Delete i)
+      → sizeOf img < claimed (replay (x .frames)) + 8 + 6 * openHosts (replay (x .frames) .pending ++ (entry h (delete i) ∷ []))
+      → NoRoom img r h msg
+
+-- 6: "a transfer is needed, .. at time 4,294,967,295": "if end + n exceeds S"
+pub record Worn (img : List ℕ) (r : Record) (h : Host) (msg : List ℕ) : Type 0 where
+  pub holding : Held
+  pub asked : Request
+  pub frame : Frame
+  pub is-held : Fresh img r holding
+  pub is-asked : Means msg asked
+  pub is-frame : frameFor h msg holding asked ≡ some frame
+  pub exceeds : sizeOf img < r .end + frameLen frame
+  pub last-time : holding .time ≡ 4294967295
+
+abbrev pub requestLines : List ℕ → Record → Host → List ℕ → List ℕ → List Line
+requestLines img r h msg reply =
+    line 4 (Allowed (length img) → ⊥)
+    ∷ line 10 (3 < h .0)
+    ∷ line 5 (InJob (r .phase))
+    ∷ line 2 (r .phase ≡ Unmounted)
+    ∷ line 11 ((x : Held) → Fresh img r x → ⊥)
+    ∷ line 1 ((q : Request) → Means msg q → ⊥)
+    ∷ line 8 (NoObject img r msg)
+    ∷ line 9 (ShortReply msg reply)
+    ∷ line 7 (NoRoom img r h msg)
+    ∷ line 6 (Worn img r h msg)
+    ∷ []
+
+-- ---- mounts
+
+-- half k is valid; half k is foreign
+abbrev pub ValidAt : List ℕ → ℕ → ℕ → List Frame → Tail → Type 0
+ValidAt img k t fs c = (k < blocks) × ValidBlock (block (sizeOf img) k img) t fs c
+
+abbrev pub ForeignAt : List ℕ → ℕ → Type 0
+ForeignAt img k = (k < blocks) × ForeignBlock (block (sizeOf img) k img)
+
+-- 2: "for mount, no valid half and none foreign"
+pub record NothingThere (img : List ℕ) : Type 0 where
+  pub none-valid : (k t : ℕ) (fs : List Frame) (c : Tail) → ValidAt img k t fs c → ⊥
+  pub none-foreign : (k : ℕ) → ForeignAt img k → ⊥
+
+-- 3: "a foreign half, or two valid halves of equal time"
+pub data Unclear (img : List ℕ) : Type 0 where
+  foreign-half : (k : ℕ) → ForeignAt img k → Unclear img
+  equal-times : (j k t : ℕ) (fs gs : List Frame) (c d : Tail) → (j ≡ k → ⊥) → ValidAt img j t fs c → ValidAt img k t gs d → Unclear img
+
+-- "has a torn tail or anything pending"
+abbrev pub Unsettled : List Frame → Tail → Type 0
+Unsettled fs c = (c ≡ clean → ⊥) ⊎ (replay fs .pending ≡ [] → ⊥)
+
+-- 6: "a transfer is needed, by a mount too, at time 4,294,967,295": no time is larger, so that this half is the current one
+pub record MountWorn (img : List ℕ) : Type 0 where
+  pub number : ℕ
+  pub frames : List Frame
+  pub tail : Tail
+  pub is-valid : ValidAt img number 4294967295 frames tail
+  pub unsettled : Unsettled frames tail
+
+abbrev pub mountLines : List ℕ → List Line
+mountLines img =
+    line 4 (Allowed (length img) → ⊥)
+    ∷ line 2 (NothingThere img)
+    ∷ line 3 (Unclear img)
+    ∷ line 6 (MountWorn img)
+    ∷ []
+
+-- ---- steps
+
+-- "the job's next place lies outside it": its half isn't there, or its offset is past the half
+abbrev pub Outside : List ℕ → Step → Type 0
+Outside img x = (blocks ≤ blockOf x) ⊎ (sizeOf img ≤ offsetOf x)
+
+-- "in a job, 11 is given exactly if the image length isn't the record's or the job's next place lies outside it"
+pub record Misplaced (img : List ℕ) (r : Record) : Type 0 where
+  pub stage : Stage
+  pub is-busy : r .phase ≡ Busy stage
+  pub misfits : (length img ≡ suc (r .last) → ⊥) ⊎ Outside img (action stage r)
+
+-- ---- the table
+
+abbrev pub linesOf : List ℕ → Record → Call → List Line
+linesOf img r (request h msg reply) = requestLines img r h msg reply
+linesOf img r step = line 11 (Misplaced img r) ∷ []
+linesOf img r mount = mountLines img
+linesOf img r format = line 4 (Allowed (length img) → ⊥) ∷ []
+
+-- ---- two tests that other definitions share
+
+-- 5: "a job is unfinished", as a test
+abbrev pub isBusy : Phase → Bool
+isBusy Unmounted = false
+isBusy Idle = false
+isBusy (Busy s) = true
+
+-- nothing is found
+abbrev pub isNone : {A : Type 0} → Option A → Bool
+isNone none = true
+isNone (some x) = false

@@ -86,13 +86,15 @@ pub record PowerCuts (m : Machine) : Type 0 where
   -- power drops anywhere in a run: a mount, whatever record it is given, restores the book's objects, and nobody's uncommitted change
   pub restores : (img : List ℕ) (r : Record) (cs : List Call) (q : Record) → Bytes img → allowed (length img) ≡ true → ByteCalls cs
       → let x : Left = leftBy m img r cs in Accepted (m (x .image) q mount .answer) → Restores m (m (x .image) q mount) (x .book .objects)
-  -- power drops after a host's commit has begun, at any of its steps: what the host had sent is there whole, or not at all
+  -- power drops after a host's commit has begun, k of its step calls made: what the host had sent is there whole, if one of them had
+  -- answered 0, or not at all
   pub whole-or-not : (img : List ℕ) (r : Record) (cs : List Call) (h : Host) (msg reply : List ℕ) (k : ℕ) (q : Record)
       → Bytes img → allowed (length img) ≡ true → ByteCalls cs → Bytes msg → Means msg Commit
       → let x : Left = leftBy m img r cs in let y : Left = leftBy m img r (committing cs h msg reply k) in
-      m (x .image) (x .board) (request h msg reply) .answer ≡ More → Accepted (m (y .image) q mount .answer)
-      → Restores m (m (y .image) q mount) (x .book .objects)
-      ⊎ Restores m (m (y .image) q mount) (changeAll (x .book .lists h) (x .book .objects))
+      let o : Out = m (x .image) (x .board) (request h msg reply) in
+      o .answer ≡ More → Accepted (m (y .image) q mount .answer)
+      → ((numberOf (stepsOn m k o .answer) ≡ some 0) × Restores m (m (y .image) q mount) (changeAll (x .book .lists h) (x .book .objects)))
+      ⊎ ((stepsOn m k o .answer ≡ More) × Restores m (m (y .image) q mount) (x .book .objects))
 
 -- every machine that keeps the promise settles both
 pub record TicketsSettled : Type 0 where

@@ -1,6 +1,6 @@
 -- The frame that a request appends, the steps of each job and a read's stretch are as document 01 words them.
 use mathlib.Core.Path.{_≡_, refl, ap, subst, _∙_}
-use mathlib.Core.List.{List, [], _∷_, _++_, map, append-assoc}
+use mathlib.Core.List.{List, [], _∷_, _++_, map, append-assoc, map-append}
 use mathlib.Core.Option.{some, Option·map}
 use mathlib.Core.Bool.{Bool, true, false, cond}
 use Prim.Native.Nat.{ℕ, zero, suc, _+_, _-_, _*_, _/_, _%_, _≤_, _<_}
@@ -24,9 +24,8 @@ use Rattle.board.specs.Mount.{nextBlock, allFound, isBlank, wipeList, an
 use Rattle.board.specs.Queue.{stretchOf}
 use Rattle.board.specs.Table.{frameIf}
 use Rattle.board.specs.Plan.{onBlock, transferPlan, appendPlan, transferIf}
-use Rattle.board.specs.Laws.{FrameExact, NeedsExact, Programs, TransferExact, FormatExact, AppendExact, MountExact, StretchExact}
+use Rattle.board.specs.Sentences.{FrameExact, NeedsExact, Programs, TransferExact, FormatExact, AppendExact, MountExact, StretchExact}
 use Rattle.board.proofs.Lengths.{length-transfer}
-use Rattle.board.proofs.PipelineCopy.{map-append}
 
 -- ---- frames
 

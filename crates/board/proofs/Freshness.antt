@@ -1,4 +1,4 @@
--- Refusal 11 is as document 01 words it.
+-- Refusal 11: `held` finds exactly what document 01 asks for.
 use mathlib.Core.Path.{_≡_, refl, sym, ap, _∙_}
 use mathlib.Core.List.{List}
 use mathlib.Core.Option.{some}
@@ -25,7 +25,7 @@ use Rattle.board.specs.declared.Record.{Record}
 use Rattle.board.specs.Record.{allowed, restOf, idle}
 use Rattle.board.specs.Mount.{endOf}
 use Rattle.board.specs.Queue.{Held, held, heldIf, heldIn, heldBy, fitsRecord, othersBlank, sameImage}
-use Rattle.board.specs.Sentences.{Fresh, FreshExact}
+use Rattle.board.specs.Table.{Fresh, FreshExact}
 use Rattle.board.proofs.Images.{Sized, sized-of, sized-block}
 use Rattle.board.proofs.Invariant.{Ready}
 use Rattle.board.proofs.Holding.{Passed, passed, held-inv}
@@ -105,5 +105,3 @@ module _ (img : List ℕ) (r : Record) (x : Held) (by : Bytes img) (ok : allowed
 pub fresh-exact : FreshExact
 unfolding FreshExact
 fresh-exact img r x by ok = (held-fresh img r x by ok, fresh-held img r x by ok)
-
--- ---- objects
