@@ -28,6 +28,16 @@ copy-front-spec =
     (λ c. search needs)
     (λ c. search needs)
     (λ c. search needs)
-    (λ c. let l : c .before .before .loop .i < length (now (c .before .before .before .args .dst)) = omega (arith, c .before .before .before .pre) in (rw (c .before .before .loop .inv .0) (copy-more (now (c .before .before .before .args .src)) (now (c .before .before .before .args .dst)) (c .before .before .loop .i) (c .before .loop-test .taken) l), omega arith, simp length-set (omega arith)))
+    (λ c.
+    let loop′ = c .before .before .loop in
+    let args′ = c .before .before .before .args in
+    let l : loop′ .i < length (now (args′ .dst)) = omega (arith, c .before .before .before .pre) in (
+      rw (loop′ .inv .0) (copy-more (now (args′ .src)) (now (args′ .dst)) (loop′ .i) (c .before .loop-test .taken) l),
+      omega arith,
+      simp
+          length-set (omega arith),
+    ))
     (λ c. search needs)
-    (λ c. let z : c .before .loop .i ≡ length (now (c .before .before .args .src)) = omega arith in rw (z, take-length) at (c .before .loop .inv .0)))
+    (λ c.
+    let loop′ = c .before .loop in
+    let z : loop′ .i ≡ length (now (c .before .before .args .src)) = omega arith in rw (z, take-length) at (loop′ .inv .0)))
