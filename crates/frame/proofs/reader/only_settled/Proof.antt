@@ -16,8 +16,7 @@ only-settled-spec = tie.close (tie.spec
     rw (
       (le-leb (args′ .next) idMax (c .before .before .if1 .left)),
       (le-leb (settledLen 0) (args′ .n) (c .before .if2 .left)),
-      lt-leb
-          (args′ .n) (settledLen valueMax) (c .if3 .taken),
+      lt-leb (args′ .n) (settledLen valueMax) (c .if3 .taken),
     ))
     (λ c.
     let args′ = c .before .before .before .before .args in
