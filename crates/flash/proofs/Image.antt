@@ -7,7 +7,8 @@ use native.Mathlib.Omega.{arith}
 use native.Mathlib.Nat.{mul-le-mul-right, suc-mul, suc-add, zero-add, le-trans, le-of-eq}
 use lib.Bits.{bitAnd, and-zero-l}
 use lib.ListN.{length, getD, take, drop, set, replicate, length-append, length-take, length-drop, length-set, length-replicate, List·getD-eq-default}
-use lib.Seq.{drop-set-add, take-set-lt, take-set-le, drop-set-lt, getD-take, getD-drop, getD-set-same, getD-set-other, take-take, drop-drop, take-nil, drop-nil}
+use lib.Seq.{drop-set-add, take-set-lt, take-set-le, drop-set-lt, getD-take, getD-drop, getD-set-same, getD-set-other, take-take, drop-drop}
+use lib.Seq.{take-nil, drop-nil}
 use Rattle.flash.specs.Bytes.{Bytes}
 use Rattle.flash.specs.Flash.{Step, program, erase, block, programAt, eraseBlock, apply}
 use Rattle.flash.proofs.Cases.{on-order}
@@ -74,7 +75,8 @@ block-program s k o v img h =
 pub other-program : (s j k o v : ℕ) (img : List ℕ) → (j ≡ k → ⊥) → o < s → block s j (programAt img (k * s + o) v) ≡ block s j img
 other-program s j k o v img n h =
     let b : ℕ = bitAnd (getD img (k * s + o) 0) v in
-    other-kept s j k img (set img (k * s + o) b) n (take-set-le (k * s) img (k * s + o) b (omega arith)) (drop-set-lt (k * s + s) img (k * s + o) b (omega arith))
+    other-kept s j k img (set img (k * s + o) b) n (take-set-le (k * s) img (k * s + o) b (omega arith))
+    (drop-set-lt (k * s + s) img (k * s + o) b (omega arith))
 
 -- the byte there is cleared where the given one has a 0; every other stays
 pub program-same : (img : List ℕ) (i v : ℕ) → getD (programAt img i v) i 0 ≡ bitAnd (getD img i 0) v

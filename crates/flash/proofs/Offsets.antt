@@ -101,8 +101,11 @@ fresh-at (w ∷ ws) (suc q) d (a, f) h = ((λ e. off-at (w .at) ws q d a (omega 
 pub fresh-writes : (o : ℕ) (bs : List ℕ) (ws : List Write) → Below o ws → Fresh ws → Fresh (writes o bs ++ ws)
 unfolding writes
 fresh-writes o [] ws b f = f
-fresh-writes o (x ∷ bs) ws b f =
-    (off-append o (writes (suc o) bs) ws (off-writes o (suc o) bs (omega arith)) (off-below o ws b), fresh-writes (suc o) bs ws (below-more o (suc o) ws (omega arith) b) f)
+fresh-writes o (x ∷ bs) ws b f = (
+  off-append o (writes (suc o) bs) ws (off-writes o (suc o) bs (omega arith)) (off-below o ws b),
+  fresh-writes (suc o) bs ws
+      (below-more o (suc o) ws (omega arith) b) f,
+)
 
 pub fresh-stretch : (o : ℕ) (bs : List ℕ) → Fresh (writes o bs)
 unfolding writes

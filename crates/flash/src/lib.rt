@@ -5,6 +5,9 @@ ghost use lib.ListN.{length, getD, replicate};
 ghost use Rattle.flash.specs.Bytes.{allFF};
 ghost use Rattle.flash.specs.Flash.{sizeOf, block, programAt, eraseBlock};
 
+// How many blocks an image has.
+pub const BLOCKS: usize = 2;
+
 // The byte at a place, 0 past the end.
 pub fn byte_at(bytes: &[u8], i: usize) -> u8
     ensures { λ r. ⌜ r ≡ getD (now (bytes .entry)) i 0 ⌝ }
@@ -75,7 +78,7 @@ fn reach(size: usize, start: usize, end: usize) -> usize
 pub fn block_of(image: &[u8], number: u8) -> &[u8]
     ensures { λ r. ⌜ now r ≡ block (sizeOf (now (image .entry))) number (now (image .entry)) ⌝ }
 {
-    let size = image.len() / 2;
+    let size = image.len() / BLOCKS;
     let from = start_of(size, number as usize, image.len());
     let to = reach(size, from, image.len());
     &image[from..to]

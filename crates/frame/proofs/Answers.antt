@@ -11,7 +11,8 @@ use borrow.Author.Tests.{le-leb}
 use Rattle.flash.specs.Bytes.{allFF}
 use Rattle.flash.proofs.Cases.{on-test, clash}
 use Rattle.frame.specs.Frame.{Frame, putLen, settledLen}
-use Rattle.frame.specs.Reader.{Read, blank, whole, torn, wrong, fault, faultAt, Slot, fits, valueSlots, settledSlots, hostSlots, onlySettled, Match, all, part, misfit, match, decode, ofHostMatch, ofSettledMatch, readLaid, readFrame}
+use Rattle.frame.specs.Reader.{Read, blank, whole, torn, wrong, fault, faultAt, Slot, fits, valueSlots, settledSlots, hostSlots}
+use Rattle.frame.specs.Reader.{onlySettled, Match, all, part, misfit, match, decode, ofHostMatch, ofSettledMatch, readLaid, readFrame}
 use Rattle.frame.specs.Code.{headOf, readOf, firstMisfit, misfitFrom}
 use Rattle.frame.specs.declared.Fault.{Fault}
 use Rattle.frame.specs.declared.Field.{Field}
@@ -81,7 +82,8 @@ settled-from f o [] u = refl
 settled-from f o (p ∷ ps) [] = at-front p
 settled-from f o (p ∷ ps) (b ∷ u) =
     on-test (fits p b)
-    (λ q. ap (λ (m : Match). readOf (ofSettledMatch 0 f m)) (match-go p ps b u q) ∙ settled-from f (suc o) ps u ∙ ap (settledRead f) (sym (found-go o p ps b u q)))
+    (λ q. ap (λ (m : Match). readOf (ofSettledMatch 0 f m)) (match-go p ps b u q) ∙ settled-from f (suc o) ps u
+    ∙ ap (settledRead f) (sym (found-go o p ps b u q)))
     (λ q.
     let r : settledRead f (misfitFrom o (p ∷ ps) (b ∷ u)) ≡ read.Wrong (fault (p .field) (p .start)) = ap (settledRead f) (found-stop o p ps b u q) in
     on-test (allFF (b ∷ u))

@@ -6,7 +6,8 @@ use native.Mathlib.Omega.{arith}
 use lib.ListN.{length, length-append}
 use Rattle.flash.specs.Bytes.{Bytes}
 use Rattle.flash.proofs.Blank.{bytes-append}
-use Rattle.frame.specs.Frame.{Frame, change, commit, abort, settled, put, delete, encode, frameLen, encodeAll, total, finish, maxFrame, putLen, deleteLen, endLen, settledLen}
+use Rattle.frame.specs.Frame.{Frame, change, commit, abort, settled, put, delete, encode, frameLen, encodeAll, total, finish}
+use Rattle.frame.specs.Frame.{maxFrame, putLen, deleteLen, endLen, settledLen}
 use Rattle.frame.specs.Frame.{MayStand, AllMayStand, OfHost, nextAfter, nextOf}
 
 -- ---- one frame

@@ -12,7 +12,9 @@ use Rattle.flash.specs.Bytes.{allFF}
 use Rattle.flash.proofs.Cases.{on-test, clash, and-left, and-right, between}
 use Rattle.flash.proofs.Blank.{allFF-all, all-ff, is-ff}
 use Rattle.frame.specs.Frame.{Frame, idMax, valueMax, putLen, deleteLen, settledLen, encode, frameLen}
-use Rattle.frame.specs.Reader.{Read, blank, whole, torn, wrong, fault, Slot, slot, fits, valueSlots, changeSlots, endSlots, settledSlots, noSlots, hostSlots, onlySettled, Match, all, part, misfit, match, decode, ofHostMatch, ofSettledMatch, readLaid, readFrame}
+use Rattle.frame.specs.Reader.{Read, blank, whole, torn, wrong, fault, Slot, slot, fits, valueSlots, changeSlots, endSlots}
+use Rattle.frame.specs.Reader.{settledSlots, noSlots, hostSlots, onlySettled, Match, all, part, misfit, match, decode, ofHostMatch}
+use Rattle.frame.specs.Reader.{ofSettledMatch, readLaid, readFrame}
 use Rattle.frame.specs.Sentences.{Whole, Torn, Blank, Wrong, ReaderExact}
 use Rattle.frame.specs.declared.Fault.{Fault}
 use Rattle.frame.specs.declared.Field.the-variants as field
@@ -112,7 +114,16 @@ wide-value o zero = (omega arith, tt)
 wide-value o (suc m) = (omega arith, wide-value (suc o) m)
 
 wide-change : (n : ℕ) → Wide (changeSlots n)
-wide-change n = (omega arith, (omega arith, (last-kind (eqb n deleteLen), (omega arith, (omega arith, (omega arith, (omega arith, wide-value 7 (n - putLen 0))))))))
+wide-change n = (
+  omega arith,
+  (
+    omega arith,
+    (
+      last-kind (eqb n deleteLen),
+      (omega arith, (omega arith, (omega arith, (omega arith, wide-value 7 (n - putLen 0))))),
+    ),
+  ),
+)
 
 fit-complete : (a b : List Slot) (bytes : List ℕ) → Fit a bytes → Wide b → Fit (a ++ b) (bytes ++ least b)
 unfolding least
@@ -137,7 +148,8 @@ none-part [] a e = let z : _≡_ {A = ℕ} 0 1 = cc in omega arith
 none-part (b ∷ t) a e =
     on-test (fits (slot field.Length 0 1 0) b)
     (λ q. omega (arith, between 1 b 0 q))
-    (λ q. let r : misfit (slot field.Length 0 1 0) ≡ part (e .at) = sym (match-misfit (slot field.Length 0 1 0) [] b t q a) ∙ e .is in let z : _≡_ {A = ℕ} 0 1 = cc in omega arith)
+    (λ q. let r : misfit (slot field.Length 0 1 0) ≡ part (e .at) = sym (match-misfit (slot field.Length 0 1 0) [] b t q a)
+    ∙ e .is in let z : _≡_ {A = ℕ} 0 1 = cc in omega arith)
 
 pub torn-reads : (next at : ℕ) (t : List ℕ) (n : ℕ) → Torn next t n → readFrame next at t ≡ torn n
 torn-reads next at t n y =
@@ -154,7 +166,8 @@ torn-of next at n t ps reads a l w inv e =
     let b : List Slot = y .next ∷ y .others in
     let w′ : Wide (y .first ++ b) = subst (λ (x : List Slot). Wide x) (y .is-slots) w in
     let xs : List ℕ = y .bytes ++ least b in
-    let fit : Fit ps xs = subst (λ (x : List Slot). Fit x xs) (sym (y .is-slots)) (fit-complete (y .first) b (y .bytes) (y .fit) (wide-right (y .first) b w′)) in
+    let fit : Fit ps xs =
+    subst (λ (x : List Slot). Fit x xs) (sym (y .is-slots)) (fit-complete (y .first) b (y .bytes) (y .fit) (wide-right (y .first) b w′)) in
     let g : IsOfHost next xs = inv xs fit in
     let f : Frame = g .0 .frame in
     let size : frameLen f ≡ length (y .bytes) + length (least b) = sym (length-encode f) ∙ ap length (g .0 .is-list) ∙ length-append (y .bytes) (least b) in
@@ -168,7 +181,9 @@ torn-of next at n t ps reads a l w inv e =
       some = nonempty (y .left) (y .bytes) (y .is-list);
       not-all = omega arith;
       would-fit = omega (arith, length-append (y .bytes) (least b), fit-length ps xs fit);
-      bytes = y .is-list ∙ ap (λ (x : List ℕ). x ++ replicate (y .left) 255) (sym (ap (take (length (y .bytes))) (g .0 .is-list) ∙ take-at (y .bytes) (least b) (length (y .bytes)) refl));
+      bytes =
+          y .is-list ∙ ap (λ (x : List ℕ). x ++ replicate (y .left) 255)
+          (sym (ap (take (length (y .bytes))) (g .0 .is-list) ∙ take-at (y .bytes) (least b) (length (y .bytes)) refl));
       long = refl;
     } in
     let same : torn (frameLen f) ≡ torn n = sym (torn-reads next at t (frameLen f) m) ∙ reads in
@@ -182,8 +197,10 @@ torn-of next at n t ps reads a l w inv e =
 host-torn : (next at n x : ℕ) (t : List ℕ) → readFrame next at t ≡ torn x → allFF t ≡ false → n ≤ length t → Partly (match (hostSlots n) t) → Torn next t x
 host-torn next at n x t reads a l m =
     on-host n
-    (λ e s. torn-of next at x t endSlots reads a (omega arith) (omega arith) (λ xs f. end-inv next xs f) (subst (λ (ps : List Slot). Partly (match ps t)) s m))
-    (λ lo hi s. torn-of next at x t (changeSlots n) reads a (omega (arith, length-value 7 (n - putLen 0))) (wide-change n) (λ xs f. change-inv next n xs lo hi f)
+    (λ e s. torn-of next at x t endSlots reads a (omega arith) (omega arith) (λ xs f. end-inv next xs f)
+    (subst (λ (ps : List Slot). Partly (match ps t)) s m))
+    (λ lo hi s. torn-of next at x t (changeSlots n) reads a (omega (arith, length-value 7 (n - putLen 0))) (wide-change n)
+    (λ xs f. change-inv next n xs lo hi f)
     (subst (λ (ps : List Slot). Partly (match ps t)) s m))
     (λ s. absurd (none-part t a (subst (λ (ps : List Slot). Partly (match ps t)) s m)))
 

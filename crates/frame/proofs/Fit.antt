@@ -10,7 +10,8 @@ use borrow.Author.Tests.{ne-eqb, lt-leb}
 use Rattle.flash.specs.Bytes.{Bytes, allFF}
 use Rattle.flash.proofs.Cases.{on-test, and-no-right, between-yes}
 use Rattle.flash.proofs.Blank.{allFF-all}
-use Rattle.frame.specs.Frame.{Frame, change, commit, abort, settled, put, delete, finish, valueMax, putLen, deleteLen, endLen, settledLen, MayStand, OfHost}
+use Rattle.frame.specs.Frame.{Frame, change, commit, abort, settled, put, delete, finish, valueMax, putLen, deleteLen, endLen}
+use Rattle.frame.specs.Frame.{settledLen, MayStand, OfHost}
 use Rattle.frame.specs.Reader.{Slot, slot, fits, valueSlots, lastKind, changeSlots, settledSlots, hostSlots, Match, all, part, misfit, match}
 use Rattle.frame.specs.declared.ObjectId.{ObjectId}
 use Rattle.frame.specs.declared.Field.the-variants as field
@@ -76,7 +77,8 @@ match-ff (p ∷ ps) zero c h = absurd (omega arith)
 match-ff (p ∷ []) (suc m) c h = match-no p [] m (and-no-right (leb (p .lo) 255) (leb 255 (p .hi)) (lt-leb 255 (p .hi) c))
 match-ff (p ∷ q ∷ ps) (suc m) c h =
     on-test (fits p 255)
-    (λ e. over (match (p ∷ q ∷ ps) (replicate (suc m) 255)) (match (q ∷ ps) (replicate m 255)) (match-go p (q ∷ ps) 255 (replicate m 255) e) (match-ff (q ∷ ps) m c (omega arith)))
+    (λ e. over (match (p ∷ q ∷ ps) (replicate (suc m) 255)) (match (q ∷ ps) (replicate m 255)) (match-go p (q ∷ ps) 255 (replicate m 255) e)
+    (match-ff (q ∷ ps) m c (omega arith)))
     (λ e. match-no p (q ∷ ps) m e)
 
 -- fewer than all of them, and 0xFF after
@@ -89,7 +91,8 @@ match-some (p ∷ []) (b ∷ []) (suc k) m r c h l = absurd (omega arith)
 match-some (p ∷ []) (b ∷ b′ ∷ t) (suc k) m r c h l = absurd (r .2)
 match-some (p ∷ q ∷ ps) (b ∷ t) (suc k) m r c h l =
     let s : List ℕ = take k t ++ replicate m 255 in
-    over (match (p ∷ q ∷ ps) (b ∷ s)) (match (q ∷ ps) s) (match-yes p (q ∷ ps) b s (r .0) (r .1)) (match-some (q ∷ ps) t k m (r .2) c (omega arith) (omega arith))
+    over (match (p ∷ q ∷ ps) (b ∷ s)) (match (q ∷ ps) s) (match-yes p (q ∷ ps) b s (r .0) (r .1))
+    (match-some (q ∷ ps) t k m (r .2) c (omega arith) (omega arith))
 
 -- ---- the layout of each kind
 
@@ -111,7 +114,23 @@ fit-host next (change h (put i v)) u (hh, hi, (hv, hb)) =
     rw (slots-change (putLen (length v)) (omega arith) (omega arith)) (
       omega arith,
       omega arith,
-      (omega arith, omega arith, (omega arith, last-kind (eqb (putLen (length v)) deleteLen), (omega arith, omega arith, (omega arith, omega arith, (omega arith, omega arith, (omega arith, omega arith, rw e (fit-value 7 v hb))))))),
+      (
+        omega arith,
+        omega arith,
+        (
+          omega arith,
+          last-kind (eqb (putLen (length v)) deleteLen),
+          (
+            omega arith,
+            omega arith,
+            (
+              omega arith,
+              omega arith,
+              (omega arith, omega arith, (omega arith, omega arith, rw e (fit-value 7 v hb))),
+            ),
+          ),
+        ),
+      ),
     )
 fit-host next (change h (delete i)) u (hh, hi) = omega arith
 fit-host next (commit h) u hh = omega arith
@@ -120,8 +139,15 @@ fit-host next (settled i v) u g = absurd u
 
 pub fit-settled : (next : ℕ) (i : ObjectId) (v : List ℕ) → MayStand next (settled i v) → Fit (settledSlots next (settledLen (length v))) (plain (settled i v))
 fit-settled next i v (hn, hi, (hv, hb)) =
-    let e : settledLen (length v) - settledLen 0 ≡ length v = omega arith in
-    (omega arith, omega arith, (omega arith, omega arith, (omega arith, omega arith, (omega arith, omega arith, (hn, hi, (omega arith, omega arith, rw e (fit-value 6 v hb)))))))
+    let e : settledLen (length v) - settledLen 0 ≡ length v = omega arith in (
+      omega arith,
+      omega arith,
+      (
+        omega arith,
+        omega arith,
+        (omega arith, omega arith, (omega arith, omega arith, (hn, hi, (omega arith, omega arith, rw e (fit-value 6 v hb))))),
+      ),
+    )
 
 -- ---- each ends in a slot for the finish byte
 
@@ -138,7 +164,8 @@ closed-change : (n : ℕ) → Closed (changeSlots n)
 closed-change n = closed-cons (slot field.Id 5 0 0) (valueSlots 7 (n - putLen 0)) (closed-value 7 (n - putLen 0))
 
 pub closed-host : (next : ℕ) (f : Frame) → OfHost f → MayStand next f → Closed (hostSlots (getD (plain f) 0 0))
-closed-host next (change h (put i v)) u (hh, hi, (hv, hb)) = rw (slots-change (putLen (length v)) (omega arith) (omega arith)) (closed-change (putLen (length v)))
+closed-host next (change h (put i v)) u (hh, hi, (hv, hb)) =
+    rw (slots-change (putLen (length v)) (omega arith) (omega arith)) (closed-change (putLen (length v)))
 closed-host next (change h (delete i)) u g = closed-change deleteLen
 closed-host next (commit h) u g = omega arith
 closed-host next (abort h) u g = omega arith

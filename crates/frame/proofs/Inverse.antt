@@ -10,7 +10,8 @@ use borrow.Author.Tests.{eqb-true, eqb-false}
 use Rattle.flash.specs.Bytes.{Bytes, allFF}
 use Rattle.flash.proofs.Cases.{on-test, between}
 use Rattle.flash.proofs.Blank.{all-ff}
-use Rattle.frame.specs.Frame.{Frame, change, commit, abort, settled, put, delete, finish, hostOf, idOf, valueMax, putLen, deleteLen, endLen, settledLen, encode, MayStand, OfHost}
+use Rattle.frame.specs.Frame.{Frame, change, commit, abort, settled, put, delete, finish, hostOf, idOf, valueMax, putLen, deleteLen}
+use Rattle.frame.specs.Frame.{endLen, settledLen, encode, MayStand, OfHost}
 use Rattle.frame.specs.Reader.{Slot, fits, valueSlots, lastKind, changeSlots, endSlots, settledSlots, noSlots, hostSlots, all, part, misfit, match}
 use Rattle.frame.proofs.Encode.{encode-plain}
 use Rattle.frame.proofs.Fit.{Fit, Partly, match-go, match-part, match-misfit}
@@ -125,7 +126,8 @@ change-inv next n (a ∷ b ∷ k ∷ c ∷ h ∷ i ∷ d ∷ xs) lo hi (a1, a2, 
         frame = f;
         stands = g;
         is-list = encode-plain next f g
-            ∙ six (putLen (length (y .value))) 0 1 0 h i a b k c h i (0 ∷ (y .value ++ (finish ∷ []))) (d ∷ xs) (omega (arith, y .size)) (omega arith) (sym (eqb-true k 1 e)) (omega arith) refl refl
+            ∙ six (putLen (length (y .value))) 0 1 0 h i a b k c h i (0 ∷ (y .value ++ (finish ∷ []))) (d ∷ xs) (omega (arith, y .size))
+            (omega arith) (sym (eqb-true k 1 e)) (omega arith) refl refl
             (cons 0 d (y .value ++ (finish ∷ [])) xs (omega arith) (sym (y .is-list)));
       },
       tt,
@@ -167,7 +169,9 @@ end-inv next (a ∷ b ∷ k ∷ c ∷ h ∷ d ∷ []) (a1, a2, (b1, b2, (k1, k2,
       record {
         frame = abort (hostOf h);
         stands = h2;
-        is-list = six endLen 0 4 0 h finish a b k c h d [] [] (omega arith) (omega arith) (omega (arith, eqb-false k 3 e)) (omega arith) refl (omega arith) refl;
+        is-list =
+            six endLen 0 4 0 h finish a b k c h d [] [] (omega arith) (omega arith) (omega (arith, eqb-false k 3 e)) (omega arith) refl
+            (omega arith) refl;
       },
       tt,
     ))
@@ -188,7 +192,8 @@ settled-inv next n (a ∷ b ∷ k ∷ c ∷ i ∷ d ∷ xs) lo hi (a1, a2, (b1, 
       frame = f;
       stands = g;
       is-list = encode-plain next f g
-          ∙ six (settledLen (length (y .value))) 0 5 0 i 0 a b k c i d (y .value ++ (finish ∷ [])) xs (omega (arith, y .size)) (omega arith) (omega arith) (omega arith) refl (omega arith) (sym (y .is-list));
+          ∙ six (settledLen (length (y .value))) 0 5 0 i 0 a b k c i d (y .value ++ (finish ∷ [])) xs (omega (arith, y .size)) (omega arith)
+          (omega arith) (omega arith) refl (omega arith) (sym (y .is-list));
     }
 settled-inv next n [] lo hi r = absurd r
 settled-inv next n (a ∷ []) lo hi r = absurd (r .2)

@@ -1,13 +1,19 @@
-pub mod Examples
-pub mod Encode
-pub mod Fit
-pub mod Reading
-pub mod Scanning
-pub mod Inverse
-pub mod Exact
-pub mod Scanned
-pub mod Places
-pub mod Heads
-pub mod Stores
-pub mod Misfits
-pub mod Answers
+-- The laws of frames, by subject. Each file's first line says what it proves; here who needs it.
+
+-- ---- bytes of frames
+pub mod Encode  -- lengths and bytes: for the files below, journal, board
+pub mod Stores  -- copies into a buffer: for src/bytes, wire
+pub mod Heads  -- a frame is its head and its value: for journal
+-- ---- the reader
+pub mod Fit  -- layouts that a legal frame fits: for Reading, Exact, Inverse
+pub mod Reading  -- what a legal frame's bytes read as: for Exact, Scanning, journal
+pub mod Inverse  -- from layouts back to frames: for Exact, Places
+pub mod Exact  -- document 01's sentences on a frame: for Scanned, journal, and to read
+pub mod Places  -- a fault lies in the bytes read: for src/reader
+pub mod Misfits  -- single-byte tests: for src/reader, store
+pub mod Answers  -- what is read by its misfit: for src/reader, journal
+-- ---- journals
+pub mod Scanning  -- frames written are read back: for journal, board
+pub mod Scanned  -- any bytes read as a journal: for journal, store
+-- ---- rows
+pub mod Examples  -- rows b and c

@@ -89,18 +89,21 @@ value-is o (suc v) t bs h =
 front-is : (n a b : ℕ) (rest : List Slot) (t : List ℕ) → n ≡ getD t 0 0 → 4 ≤ length t
     → misfitFrom 0 (frontSlots n a b rest) t ≡ firstMisfit (frontMisfit a b t) (misfitFrom 4 rest (drop 4 t))
 front-is n a b rest t e h =
-    past 0 (slot field.Length 0 n n) (slot field.Length 0 0 0 ∷ slot field.Kind 2 a b ∷ slot field.Kind 2 0 0 ∷ rest) t (omega arith) (omega arith) (omega arith)
+    past 0 (slot field.Length 0 n n) (slot field.Length 0 0 0 ∷ slot field.Kind 2 a b ∷ slot field.Kind 2 0 0 ∷ rest) t (omega arith)
+    (omega arith) (omega arith)
     ∙ then 1 (slot field.Length 0 0 0) (slot field.Kind 2 a b ∷ slot field.Kind 2 0 0 ∷ rest) t _ (omega arith)
     (then 2 (slot field.Kind 2 a b) (slot field.Kind 2 0 0 ∷ rest) t _ (omega arith)
     (then 3 (slot field.Kind 2 0 0) rest t _ (omega arith) refl))
-    ∙ regroup (oneMisfit 1 (slot field.Length 0 0 0) (getD t 1 0)) (oneMisfit 2 (slot field.Kind 2 a b) (getD t 2 0)) (oneMisfit 3 (slot field.Kind 2 0 0) (getD t 3 0)) (misfitFrom 4 rest (drop 4 t))
+    ∙ regroup (oneMisfit 1 (slot field.Length 0 0 0) (getD t 1 0)) (oneMisfit 2 (slot field.Kind 2 a b) (getD t 2 0))
+    (oneMisfit 3 (slot field.Kind 2 0 0) (getD t 3 0)) (misfitFrom 4 rest (drop 4 t))
 
 -- ---- the tests of each layout
 
 pub change-is : (n : ℕ) (t : List ℕ) → n ≡ getD t 0 0 → putLen 0 ≤ n → n ≤ length t → Bytes t
     → misfitFrom 0 (changeSlots n) t
     ≡ firstMisfit (frontMisfit 1 (lastKind (eqb n deleteLen)) t)
-    (firstMisfit (oneMisfit 4 (slot field.Host 4 0 hostMax) (getD t 4 0)) (firstMisfit (oneMisfit 6 (slot field.Id 5 0 0) (getD t 6 0)) (finishMisfit (n - 1) t)))
+    (firstMisfit (oneMisfit 4 (slot field.Host 4 0 hostMax) (getD t 4 0))
+    (firstMisfit (oneMisfit 6 (slot field.Id 5 0 0) (getD t 6 0)) (finishMisfit (n - 1) t)))
 change-is n t e lo hi bs =
     let v : List Slot = valueSlots 7 (n - putLen 0) in
     let l : 7 + (n - putLen 0) ≡ n - 1 = omega arith in
@@ -121,7 +124,8 @@ end-is t e hi bs =
 pub settled-is : (next n : ℕ) (t : List ℕ) → n ≡ getD t 0 0 → settledLen 0 ≤ n → n ≤ length t → Bytes t
     → misfitFrom 0 (settledSlots next n) t
     ≡ firstMisfit (frontMisfit 5 5 t)
-    (firstMisfit (oneMisfit 4 (slot field.Id 4 next 255) (getD t 4 0)) (firstMisfit (oneMisfit 5 (slot field.Id 4 0 0) (getD t 5 0)) (finishMisfit (n - 1) t)))
+    (firstMisfit (oneMisfit 4 (slot field.Id 4 next 255) (getD t 4 0))
+    (firstMisfit (oneMisfit 5 (slot field.Id 4 0 0) (getD t 5 0)) (finishMisfit (n - 1) t)))
 settled-is next n t e lo hi bs =
     let v : List Slot = valueSlots 6 (n - settledLen 0) in
     let l : 6 + (n - settledLen 0) ≡ n - 1 = omega arith in
@@ -133,8 +137,12 @@ settled-is next n t e lo hi bs =
 pub none-is : (t : List ℕ) → misfitFrom 0 noSlots t ≡ misfit.At 0 field.Length 0
 unfolding misfitFrom
 none-is [] = refl
-none-is (zero ∷ t) = ap (λ (x : Misfit). firstMisfit x misfit.None) (one-below 0 (slot field.Length 0 1 0) zero (omega arith)) ∙ first-at 0 field.Length 0 misfit.None
-none-is (suc b ∷ t) = ap (λ (x : Misfit). firstMisfit x misfit.None) (one-above 0 (slot field.Length 0 1 0) (suc b) (omega arith)) ∙ first-at 0 field.Length 0 misfit.None
+none-is (zero ∷ t) =
+    ap (λ (x : Misfit). firstMisfit x misfit.None) (one-below 0 (slot field.Length 0 1 0) zero (omega arith))
+    ∙ first-at 0 field.Length 0 misfit.None
+none-is (suc b ∷ t) =
+    ap (λ (x : Misfit). firstMisfit x misfit.None) (one-above 0 (slot field.Length 0 1 0) (suc b) (omega arith))
+    ∙ first-at 0 field.Length 0 misfit.None
 
 -- no frame of kinds 1 to 4 is that long
 pub host-none : (n : ℕ) (t : List ℕ) → (n ≡ endLen → ⊥) → (putLen 0 ≤ n → n ≤ putLen valueMax → ⊥) → misfitFrom 0 (hostSlots n) t ≡ misfit.At 0 field.Length 0

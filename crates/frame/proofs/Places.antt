@@ -9,7 +9,9 @@ use borrow.Author.Tests.{leb-true}
 use Rattle.flash.specs.Bytes.{allFF}
 use Rattle.flash.proofs.Cases.{on-test}
 use Rattle.frame.specs.Frame.{Frame, total, nextOf, putLen, settledLen}
-use Rattle.frame.specs.Reader.{Read, blank, whole, torn, wrong, Slot, fits, valueSlots, changeSlots, settledSlots, hostSlots, onlySettled, Match, all, part, misfit, match, decode, ofHostMatch, ofSettledMatch, readLaid, readFrame, bad, Scan, ends, scan}
+use Rattle.frame.specs.Reader.{Read, blank, whole, torn, wrong, Slot, fits, valueSlots, changeSlots, settledSlots, hostSlots}
+use Rattle.frame.specs.Reader.{onlySettled, Match, all, part, misfit, match, decode, ofHostMatch, ofSettledMatch, readLaid, readFrame}
+use Rattle.frame.specs.Reader.{bad, Scan, ends, scan}
 use Rattle.frame.specs.declared.Fault.{Fault}
 use Rattle.frame.proofs.Fit.{match-go, match-part, match-misfit}
 use Rattle.frame.proofs.Reading.{read-blank, read-step, laid-host, laid-settled}
@@ -27,10 +29,34 @@ starts-value m o zero h = (omega arith, tt)
 starts-value m o (suc v) h = (omega arith, starts-value m (suc o) v (omega arith))
 
 starts-change : (n m : ℕ) → putLen 0 ≤ n → n ≤ m → Starts m (changeSlots n)
-starts-change n m lo h = (omega arith, (omega arith, (omega arith, (omega arith, (omega arith, (omega arith, (omega arith, starts-value m 7 (n - putLen 0) (omega arith))))))))
+starts-change n m lo h = (
+  omega arith,
+  (
+    omega arith,
+    (
+      omega arith,
+      (
+        omega arith,
+        (omega arith, (omega arith, (omega arith, starts-value m 7 (n - putLen 0) (omega arith)))),
+      ),
+    ),
+  ),
+)
 
 starts-settled : (next n m : ℕ) → settledLen 0 ≤ n → n ≤ m → Starts m (settledSlots next n)
-starts-settled next n m lo h = (omega arith, (omega arith, (omega arith, (omega arith, (omega arith, (omega arith, starts-value m 6 (n - settledLen 0) (omega arith)))))))
+starts-settled next n m lo h = (
+  omega arith,
+  (
+    omega arith,
+    (
+      omega arith,
+      (
+        omega arith,
+        (omega arith, (omega arith, starts-value m 6 (n - settledLen 0) (omega arith))),
+      ),
+    ),
+  ),
+)
 
 starts-host : (n m : ℕ) → 1 ≤ m → n ≤ m → Starts m (hostSlots n)
 starts-host n m u h =

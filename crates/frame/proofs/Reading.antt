@@ -12,8 +12,10 @@ use borrow.Author.Tests.{ne-eqb, le-leb}
 use Rattle.flash.specs.Bytes.{allFF}
 use Rattle.flash.proofs.Cases.{and-both, and-no-right, or-neither, between-yes}
 use Rattle.flash.proofs.Blank.{allFF-no, allFF-all}
-use Rattle.frame.specs.Frame.{Frame, change, commit, abort, settled, put, delete, finish, idMax, valueMax, putLen, deleteLen, endLen, settledLen, encode, frameLen, MayStand, OfHost}
-use Rattle.frame.specs.Reader.{blank, whole, torn, Match, match, hostSlots, settledSlots, onlySettled, decode, ofHostMatch, ofSettledMatch, readLaid, readFrame}
+use Rattle.frame.specs.Frame.{Frame, change, commit, abort, settled, put, delete, finish, idMax, valueMax, putLen, deleteLen, endLen}
+use Rattle.frame.specs.Frame.{settledLen, encode, frameLen, MayStand, OfHost}
+use Rattle.frame.specs.Reader.{blank, whole, torn, Match, match, hostSlots, settledSlots, onlySettled, decode, ofHostMatch}
+use Rattle.frame.specs.Reader.{ofSettledMatch, readLaid, readFrame}
 use Rattle.frame.proofs.Encode.{plain, encode-plain, length-encode}
 use Rattle.frame.proofs.Fit.{Fit, match-all, Closed, Partly, match-some, fit-host, fit-settled, closed-host}
 
@@ -31,7 +33,8 @@ read-ff next at t p = rw (p, readFrame)
 pub read-blank : (next at m : ℕ) → readFrame next at (replicate m 255) ≡ blank
 read-blank next at m = read-ff next at (replicate m 255) (allFF-all m)
 
-pub laid-host : (next at n k : ℕ) (t : List ℕ) → onlySettled next n k ≡ false → readLaid next at n k t ≡ ofHostMatch at n (decode k n t) (match (hostSlots n) t)
+pub laid-host : (next at n k : ℕ) (t : List ℕ) → onlySettled next n k ≡ false
+    → readLaid next at n k t ≡ ofHostMatch at n (decode k n t) (match (hostSlots n) t)
 laid-host next at n k t e = rw (e, readLaid)
 
 pub laid-settled : (next at n k : ℕ) (t : List ℕ) → onlySettled next n k ≡ true
@@ -74,18 +77,23 @@ whole-settled next at n b t rest f h lo hi l fit d =
 read-plain : (next at : ℕ) (f : Frame) (rest : List ℕ) → MayStand next f → readFrame next at (plain f ++ rest) ≡ whole f
 read-plain next at (change h (put i v)) rest (hh, hi, (hv, hb)) =
     let f : Frame = change h (put i v) in
-    whole-host next at (putLen (length v)) 0 1 (0 ∷ h .0 ∷ i .0 ∷ 0 ∷ (v ++ (finish ∷ []))) rest f (omega arith) (simp length-append (omega arith)) (omega arith) (omega arith)
+    whole-host next at (putLen (length v)) 0 1 (0 ∷ h .0 ∷ i .0 ∷ 0 ∷ (v ++ (finish ∷ []))) rest f (omega arith)
+    (simp length-append (omega arith)) (omega arith) (omega arith)
     (fit-host next f tt (hh, hi, (hv, hb)))
     (simp (append-assoc, add-zero, take-at v (finish ∷ rest) (putLen (length v) - putLen 0) (omega arith)))
 read-plain next at (change h (delete i)) rest (hh, hi) =
     let f : Frame = change h (delete i) in
-    whole-host next at deleteLen 0 2 (0 ∷ h .0 ∷ i .0 ∷ 0 ∷ finish ∷ []) rest f (omega arith) (omega arith) (omega arith) (omega arith) (fit-host next f tt (hh, hi)) (simp add-zero)
+    whole-host next at deleteLen 0 2 (0 ∷ h .0 ∷ i .0 ∷ 0 ∷ finish ∷ []) rest f (omega arith) (omega arith) (omega arith) (omega arith)
+    (fit-host next f tt (hh, hi)) (simp add-zero)
 read-plain next at (commit h) rest hh =
-    whole-host next at endLen 0 3 (0 ∷ h .0 ∷ finish ∷ []) rest (commit h) (omega arith) (omega arith) (omega arith) (omega arith) (fit-host next (commit h) tt hh) refl
+    whole-host next at endLen 0 3 (0 ∷ h .0 ∷ finish ∷ []) rest (commit h) (omega arith) (omega arith) (omega arith) (omega arith)
+    (fit-host next (commit h) tt hh) refl
 read-plain next at (abort h) rest hh =
-    whole-host next at endLen 0 4 (0 ∷ h .0 ∷ finish ∷ []) rest (abort h) (omega arith) (omega arith) (omega arith) (omega arith) (fit-host next (abort h) tt hh) refl
+    whole-host next at endLen 0 4 (0 ∷ h .0 ∷ finish ∷ []) rest (abort h) (omega arith) (omega arith) (omega arith) (omega arith)
+    (fit-host next (abort h) tt hh) refl
 read-plain next at (settled i v) rest (hn, hi, (hv, hb)) =
-    whole-settled next at (settledLen (length v)) 0 (0 ∷ i .0 ∷ 0 ∷ (v ++ (finish ∷ []))) rest (settled i v) (omega arith) (omega arith) (omega arith) (simp length-append (omega arith))
+    whole-settled next at (settledLen (length v)) 0 (0 ∷ i .0 ∷ 0 ∷ (v ++ (finish ∷ []))) rest (settled i v) (omega arith) (omega arith)
+    (omega arith) (simp length-append (omega arith))
     (fit-settled next i v (hn, hi, (hv, hb)))
     (simp (append-assoc, add-zero, take-at v (finish ∷ rest) (settledLen (length v) - settledLen 0) (omega arith)))
 
@@ -124,11 +132,14 @@ torn-plain next at (change h (put i v)) j m u (hh, hi, (hv, hb)) lo up =
     (fit-host next f tt (hh, hi, (hv, hb))) (closed-host next f tt (hh, hi, (hv, hb))) (omega arith) (omega arith)
 torn-plain next at (change h (delete i)) j m u g lo up =
     let f : Frame = change h (delete i) in
-    torn-host next at deleteLen 0 2 (0 ∷ h .0 ∷ i .0 ∷ 0 ∷ finish ∷ []) j m (omega arith) refl (omega arith) (omega arith) (fit-host next f tt g) (closed-host next f tt g) lo up
+    torn-host next at deleteLen 0 2 (0 ∷ h .0 ∷ i .0 ∷ 0 ∷ finish ∷ []) j m (omega arith) refl (omega arith) (omega arith)
+    (fit-host next f tt g) (closed-host next f tt g) lo up
 torn-plain next at (commit h) j m u g lo up =
-    torn-host next at endLen 0 3 (0 ∷ h .0 ∷ finish ∷ []) j m (omega arith) refl (omega arith) (omega arith) (fit-host next (commit h) tt g) (closed-host next (commit h) tt g) lo up
+    torn-host next at endLen 0 3 (0 ∷ h .0 ∷ finish ∷ []) j m (omega arith) refl (omega arith) (omega arith) (fit-host next (commit h) tt g)
+    (closed-host next (commit h) tt g) lo up
 torn-plain next at (abort h) j m u g lo up =
-    torn-host next at endLen 0 4 (0 ∷ h .0 ∷ finish ∷ []) j m (omega arith) refl (omega arith) (omega arith) (fit-host next (abort h) tt g) (closed-host next (abort h) tt g) lo up
+    torn-host next at endLen 0 4 (0 ∷ h .0 ∷ finish ∷ []) j m (omega arith) refl (omega arith) (omega arith) (fit-host next (abort h) tt g)
+    (closed-host next (abort h) tt g) lo up
 torn-plain next at (settled i v) j m u g lo up = absurd u
 
 plain-first : (f : Frame) → getD (plain f) 0 0 ≡ frameLen f
@@ -145,4 +156,5 @@ read-torn next at f zero m u g p lo hi = absurd (omega arith)
 read-torn next at f (suc j) m u g p lo hi =
     let e : encode f ≡ plain f = encode-plain next f g in
     let l : frameLen f ≡ length (plain f) = sym (length-encode f) ∙ ap length e in
-    ap (λ (x : List ℕ). readFrame next at (take (suc j) x ++ replicate m 255)) e ∙ torn-plain next at f j m u g (omega arith) (omega arith) ∙ ap torn (plain-first f)
+    ap (λ (x : List ℕ). readFrame next at (take (suc j) x ++ replicate m 255)) e ∙ torn-plain next at f j m u g (omega arith) (omega arith)
+    ∙ ap torn (plain-first f)

@@ -32,7 +32,8 @@ ends-read next at (b ∷ t) c e = go (readFrame next at (b ∷ t)) refl
     go : (r : Read) → readFrame next at (b ∷ t) ≡ r → readFrame next at (b ∷ t) ≡ tailRead c
     go blank q = q ∙ same clean (scan-read-blank next at b t q)
     go (whole f) q =
-        let z : push f (scan (nextAfter f) (suc at) (frameLen f - 1) t) .frames ≡ [] = ap (λ (s : Scan). s .frames) (sym (scan-read-whole next at b t f q) ∙ e) in
+        let z : push f (scan (nextAfter f) (suc at) (frameLen f - 1) t) .frames ≡ [] =
+        ap (λ (s : Scan). s .frames) (sym (scan-read-whole next at b t f q) ∙ e) in
         let w : _≡_ {A = ℕ} 0 1 = cc in absurd (omega arith)
     go (torn n) q = q ∙ same (cut n) (scan-read-torn next at b t n q)
     go (wrong x) q = q ∙ same (bad x) (scan-read-wrong next at b t x q)
@@ -78,13 +79,15 @@ scanned-from (b ∷ t) next at (suc k) =
     let e : suc at + k ≡ at + suc k = omega arith in
     subst (λ (x : ℕ). Scanned next x (drop k t) (scan next (suc at) k t)) e (scanned-from t next (suc at) k)
 scanned-from (b ∷ t) next at zero =
-    subst (λ (x : ℕ). Scanned next x (b ∷ t) (scan next at 0 (b ∷ t))) (sym (add-zero at)) (go (readFrame next at (b ∷ t)) refl (λ f. scanned-from t (nextAfter f) (suc at) (frameLen f - 1)))
+    subst (λ (x : ℕ). Scanned next x (b ∷ t) (scan next at 0 (b ∷ t))) (sym (add-zero at))
+    (go (readFrame next at (b ∷ t)) refl (λ f. scanned-from t (nextAfter f) (suc at) (frameLen f - 1)))
   where
     over : (s : Scan) → scan next at 0 (b ∷ t) ≡ s → Scanned next at (b ∷ t) s → Scanned next at (b ∷ t) (scan next at 0 (b ∷ t))
     over s e y = subst (Scanned next at (b ∷ t)) (sym e) y
 
     go : (r : Read) → readFrame next at (b ∷ t) ≡ r
-        → ((f : Frame) → Scanned (nextAfter f) (suc at + (frameLen f - 1)) (drop (frameLen f - 1) t) (scan (nextAfter f) (suc at) (frameLen f - 1) t)) → Scanned next at (b ∷ t) (scan next at 0 (b ∷ t))
+        → ((f : Frame) → Scanned (nextAfter f) (suc at + (frameLen f - 1)) (drop (frameLen f - 1) t)
+        (scan (nextAfter f) (suc at) (frameLen f - 1) t)) → Scanned next at (b ∷ t) (scan next at 0 (b ∷ t))
     go blank q ih = let e = scan-read-blank next at b t q in over (ends clean) e (at-once next at (b ∷ t) clean e)
     go (torn n) q ih = let e = scan-read-torn next at b t n q in over (ends (cut n)) e (at-once next at (b ∷ t) (cut n) e)
     go (wrong x) q ih = let e = scan-read-wrong next at b t x q in over (ends (bad x)) e (at-once next at (b ∷ t) (bad x) e)
@@ -94,9 +97,11 @@ scanned-from (b ∷ t) next at zero =
         let p : List ℕ = drop 1 (encode f) in
         let l : length p ≡ frameLen f - 1 = omega (arith, length-encode f) in
         let e1 : suc at + (frameLen f - 1) ≡ at + frameLen f = omega arith in
-        let e2 : drop (frameLen f - 1) t ≡ w .rest = ap (λ (x : List ℕ). drop (frameLen f - 1) (drop 1 x)) (w .bytes) ∙ drop-at p (w .rest) (frameLen f - 1) l in
+        let e2 : drop (frameLen f - 1) t ≡ w .rest =
+        ap (λ (x : List ℕ). drop (frameLen f - 1) (drop 1 x)) (w .bytes) ∙ drop-at p (w .rest) (frameLen f - 1) l in
         over (push f s) (scan-read-whole next at b t f q)
-        (one-more next at (b ∷ t) f s w (subst (λ (x : List ℕ). Scanned (nextAfter f) (at + frameLen f) x s) e2 (subst (λ (x : ℕ). Scanned (nextAfter f) x (drop (frameLen f - 1) t) s) e1 (ih f))))
+        (one-more next at (b ∷ t) f s w (subst (λ (x : List ℕ). Scanned (nextAfter f) (at + frameLen f) x s) e2
+        (subst (λ (x : ℕ). Scanned (nextAfter f) x (drop (frameLen f - 1) t) s) e1 (ih f))))
 
 pub scan-inv : (next at : ℕ) (l : List ℕ) → Scanned next at l (scan next at 0 l)
 scan-inv next at l = subst (λ (x : ℕ). Scanned next x l (scan next at 0 l)) (add-zero at) (scanned-from l next at 0)
@@ -112,7 +117,8 @@ scan-unwritten next at l s y b =
     ap (λ (x : Scan). x .tail) (sym (y .tail) ∙ ap (scan n a 0) b ∙ scan-blank n a (length (y .rest)))
 
 pub scan-length : (next at : ℕ) (l : List ℕ) (s : Scan) (y : Scanned next at l s) → length l ≡ total (s .frames) + length (y .rest)
-scan-length next at l s y = ap length (y .is) ∙ length-append (encodeAll (s .frames)) (y .rest) ∙ ap (λ (x : ℕ). x + length (y .rest)) (length-all (s .frames))
+scan-length next at l s y =
+    ap length (y .is) ∙ length-append (encodeAll (s .frames)) (y .rest) ∙ ap (λ (x : ℕ). x + length (y .rest)) (length-all (s .frames))
 
 pub scan-total : (next at : ℕ) (l : List ℕ) → total (scan next at 0 l .frames) ≤ length l
 scan-total next at l = omega (arith, scan-length next at l (scan next at 0 l) (scan-inv next at l))

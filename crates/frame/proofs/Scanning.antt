@@ -54,7 +54,8 @@ scan-push next at f rest r =
     let l : length p ≡ frameLen f - 1 = omega (arith, length-encode f) in
     let e : suc at + (frameLen f - 1) ≡ at + frameLen f = omega arith in
     scan-read-whole next at (frameLen f % 256) (p ++ rest) f r
-    ∙ ap (push f) (scan-skip (nextAfter f) (suc at) (frameLen f - 1) (p ++ rest) ∙ ap₂ (λ (x : ℕ) (y : List ℕ). scan (nextAfter f) x 0 y) e (drop-at p rest (frameLen f - 1) l))
+    ∙ ap (push f) (scan-skip (nextAfter f) (suc at) (frameLen f - 1) (p ++ rest)
+    ∙ ap₂ (λ (x : ℕ) (y : List ℕ). scan (nextAfter f) x 0 y) e (drop-at p rest (frameLen f - 1) l))
 
 pub scan-frame : (next at : ℕ) (f : Frame) (rest : List ℕ) → MayStand next f
     → scan next at 0 (encode f ++ rest) ≡ push f (scan (nextAfter f) (at + frameLen f) 0 rest)

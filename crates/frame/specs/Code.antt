@@ -10,7 +10,8 @@ use Rattle.frame.specs.declared.FrameRead.{FrameRead}
 use Rattle.frame.specs.declared.FrameRead.the-variants as read
 use Rattle.frame.specs.declared.reader.Misfit.{Misfit}
 use Rattle.frame.specs.declared.reader.Misfit.the-variants as misfit
-use Rattle.frame.specs.Frame.{Frame, change, commit, abort, settled, put, delete, kindAt, putValueAt, settledValueAt, putLen, deleteLen, endLen, settledLen}
+use Rattle.frame.specs.Frame.{Frame, change, commit, abort, settled, put, delete, kindAt, putValueAt, settledValueAt, putLen}
+use Rattle.frame.specs.Frame.{deleteLen, endLen, settledLen}
 use Rattle.frame.specs.Reader.{Read, blank, whole, torn, wrong, Slot, slot, fits}
 
 -- a frame without its value's bytes

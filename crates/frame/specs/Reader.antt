@@ -10,7 +10,8 @@ use Rattle.frame.specs.declared.ObjectId.{ObjectId}
 use Rattle.frame.specs.declared.Fault.{Fault}
 use Rattle.frame.specs.declared.Field.{Field}
 use Rattle.frame.specs.declared.Field.the-variants as field
-use Rattle.frame.specs.Frame.{Frame, change, commit, abort, settled, put, delete, hostMax, idMax, valueMax, finish, kindAt, bodyAt, putValueAt, settledValueAt, frameLen, putLen, deleteLen, endLen, settledLen, nextAfter}
+use Rattle.frame.specs.Frame.{Frame, change, commit, abort, settled, put, delete, hostMax, idMax, valueMax, finish, kindAt, bodyAt}
+use Rattle.frame.specs.Frame.{putValueAt, settledValueAt, frameLen, putLen, deleteLen, endLen, settledLen, nextAfter}
 
 -- a bad field and its offset in the block
 abbrev pub fault : Field → ℕ → Fault

@@ -14,7 +14,8 @@ use Rattle.frame.specs.Frame.{Frame, encodeAll, total, AllMayStand, nextOf}
 use Rattle.frame.specs.Reader.{Tail, clean, cut, bad, Scan, scan, ends}
 use Rattle.frame.proofs.Encode.{length-all}
 use Rattle.frame.proofs.Scanning.{scan-with}
-use Rattle.journal.specs.Block.{headerLen, headerKind, lastTime, stateAt, inTransfer, validData, header, createdAt, headerFault, BlockState, blank, inProgress, valid, ofTail, blockState}
+use Rattle.journal.specs.Block.{headerLen, headerKind, lastTime, stateAt, inTransfer, validData, header, createdAt, headerFault}
+use Rattle.journal.specs.Block.{BlockState, blank, inProgress, valid, ofTail, blockState}
 
 -- a block of s bytes: header, frames, and what follows them
 pub record Layout (s : ℕ) (b : List ℕ) (t : ℕ) (fs : List Frame) (rest : List ℕ) : Type 0 where
@@ -82,7 +83,8 @@ pub valid-block : {s : ℕ} {b : List ℕ} {t : ℕ} {fs : List Frame} {rest : L
 valid-block {s} {b} {t} {fs} {rest} c y reads o =
     let r : List ℕ = encodeAll fs ++ rest in
     ap blockState (y .is)
-    ∙ valid-step (header t validData ++ r) (allFF-no headerLen _ (omega arith)) refl (header-none (header t validData ++ r) (header-is t r (y .time-lo) (y .time-hi)))
+    ∙ valid-step (header t validData ++ r) (allFF-no headerLen _ (omega arith)) refl
+    (header-none (header t validData ++ r) (header-is t r (y .time-lo) (y .time-hi)))
     ∙ ap₂ ofScan (time-back t validData r (y .time-hi)) (scan-with 0 headerLen fs rest c (y .stands) reads)
     ∙ okay-tail t fs c o
 

@@ -15,12 +15,14 @@ use Rattle.flash.proofs.Cases.{on-test}
 use Rattle.flash.proofs.Blank.{bytes-u32}
 use Rattle.flash.proofs.Programming.{and-ff, write-bytes, write-append, length-write, length-writes, writes-at}
 use Rattle.flash.proofs.Image.{program-same}
-use Rattle.flash.proofs.Offsets.{Below, off-below, below-append, below-writes, Given, given-append, given-writes, given-at, Off, off-append, off-take, off-writes, untouched, Fresh, fresh-writes, fresh-stretch, fresh-ff}
+use Rattle.flash.proofs.Offsets.{Below, off-below, below-append, below-writes, Given, given-append, given-writes, given-at, Off, off-append}
+use Rattle.flash.proofs.Offsets.{off-take, off-writes, untouched, Fresh, fresh-writes, fresh-stretch, fresh-ff}
 use Rattle.frame.specs.Frame.{Frame, encodeAll, total, AllMayStand, nextOf}
 use Rattle.frame.specs.Reader.{clean}
 use Rattle.frame.proofs.Encode.{bytes-all, length-all}
 use Rattle.frame.proofs.Scanning.{scan-blank}
-use Rattle.journal.specs.Block.{headerLen, headerKind, lastTime, stateAt, inTransfer, validData, header, inProgress, valid, blockState, openWrites, sealWrites, openWrite, sealWrite, markWrites, build}
+use Rattle.journal.specs.Block.{headerLen, headerKind, lastTime, stateAt, inTransfer, validData, header, inProgress, valid}
+use Rattle.journal.specs.Block.{blockState, openWrites, sealWrites, openWrite, sealWrite, markWrites, build}
 use Rattle.journal.proofs.Blocks.{Layout, valid-block, progress-block}
 
 -- ---- the writes
@@ -209,7 +211,8 @@ lands s t q fs d h g l =
         (record {
           before = inl was;
           after =
-              program-same (writeAll (replicate s 255) (take q ws)) (w .at) (w .byte) ∙ ap (λ (x : ℕ). bitAnd x (w .byte)) was ∙ and-ff (w .byte) (given-at ws q d (given-unsealed t fs g) k);
+              program-same (writeAll (replicate s 255) (take q ws)) (w .at) (w .byte) ∙ ap (λ (x : ℕ). bitAnd x (w .byte)) was
+              ∙ and-ff (w .byte) (given-at ws q d (given-unsealed t fs g) k);
         })
 
     last : q ≡ length (unsealed t fs) → Lands (writeAll (replicate s 255) (take q (build t fs))) (getD (build t fs) q d)

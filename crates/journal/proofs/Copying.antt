@@ -80,7 +80,8 @@ module _ (b places since l : List ℕ) where
       let q : drop (suc at) l ≡ t = ap (λ (n : ℕ). drop n l) o ∙ sym (drop-drop 1 at l) ∙ ap (drop 1) e in
       go (λ m. pending-good (suc at) m t q) k
     where
-      read-as : (r : Read) → readFrame 0 at (x ∷ t) ≡ r → ((m : ℕ) → GoodPending (nextPending since (suc at) m t)) → GoodPending (nextPending since at 0 (x ∷ t))
+      read-as : (r : Read) → readFrame 0 at (x ∷ t) ≡ r → ((m : ℕ) → GoodPending (nextPending since (suc at) m t))
+          → GoodPending (nextPending since at 0 (x ∷ t))
       read-as blank s y = subst GoodPending (sym (pending-blank since at (x ∷ t) s)) nothing-good
       read-as (whole f) s y =
           on-test (isPending since at f)

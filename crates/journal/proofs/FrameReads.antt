@@ -57,7 +57,8 @@ module _ (next at : ℕ) (l : List ℕ) (f : Frame) (e : readFrame next at l ≡
   whole-fits = rw whole-bytes (simp length-append (omega (arith, length-encode f)))
 
 -- by the head alone
-pub read-inside : (next at : ℕ) (l : List ℕ) (h : Head) → readOf (readFrame next at (drop at l)) ≡ read.Whole h → (at + headLen h ≤ length l) × (5 ≤ headLen h)
+pub read-inside : (next at : ℕ) (l : List ℕ) (h : Head) → readOf (readFrame next at (drop at l)) ≡ read.Whole h
+    → (at + headLen h ≤ length l) × (5 ≤ headLen h)
 read-inside next at l h e =
     let w : (f : Frame) × (readFrame next at (drop at l) ≡ whole f) × (headOf f ≡ h) = whole-is (readFrame next at (drop at l)) h e in
     let f : Frame = w .0 in

@@ -33,7 +33,8 @@ use Rattle.journal.specs.Pass.{valueHead, pendingHead, placeFrame, commi
 use Rattle.journal.specs.Pass.{passed, tookFrame, tookPlaces, tailOf, walkOf, settledWith, settledAt, tallyOf}
 use Rattle.journal.proofs.PerHost.{pending-most}
 use Rattle.journal.proofs.FrameReads.{whole-is, blank-is, torn-is, scan-blank-at, scan-torn-at, scan-wrong-at, scan-whole-at}
-use Rattle.journal.proofs.Fetching.{value-head, value-reads, InBlock, in-block, found-none, found-at, pending-head, pending-blank, pending-torn, value-pending}
+use Rattle.journal.proofs.Fetching.{value-head, value-reads, InBlock, in-block, found-none, found-at, pending-head, pending-blank}
+use Rattle.journal.proofs.Fetching.{pending-torn, value-pending}
 use Rattle.journal.proofs.Fetching.{pending-wrong, pending-yes, pending-no}
 use Rattle.journal.proofs.Passing.{Reached, reached-on}
 

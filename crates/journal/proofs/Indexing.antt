@@ -12,7 +12,8 @@ use borrow.Author.Tests.{eqb-true, eqb-false, eq-eqb, ne-eqb, lt-leb}
 use Rattle.flash.proofs.Cases.{on-test, and-no-right}
 use Rattle.frame.specs.declared.Host.{Host}
 use Rattle.frame.specs.declared.ObjectId.{ObjectId}
-use Rattle.frame.specs.Frame.{idOf, hostOf, ChangeOf, Change, put, delete, FrameOf, Frame, change, commit, abort, settled, mapChange, mapFrame, frameLen, total, MayStand, AllMayStand, nextOf}
+use Rattle.frame.specs.Frame.{idOf, hostOf, ChangeOf, Change, put, delete, FrameOf, Frame, change, commit, abort, settled, mapChange}
+use Rattle.frame.specs.Frame.{mapFrame, frameLen, total, MayStand, AllMayStand, nextOf}
 use Rattle.frame.proofs.Encode.{total-snoc}
 use Rattle.journal.specs.Block.{headerLen}
 use Rattle.journal.specs.Replay.{ObjectOf, object, EntryOf, StateOf, insert, remove, lookup, change1, changeAll, listOf, nextState, replay}
@@ -32,7 +33,8 @@ table os = placesFrom 256 0 os
 table-at : (os : List (ObjectOf ℕ)) (j : ℕ) → j < 256 → getD (table os) j 0 ≡ orZero (lookup (idOf j) os)
 table-at os j l = let e : 0 + j ≡ j = omega arith in places-at 256 0 j os l ∙ ap (λ (x : ℕ). orZero (lookup (idOf x) os)) e
 
-table-set : (os new : List (ObjectOf ℕ)) (i : ObjectId) (p : ℕ) → orZero (lookup i new) ≡ p → ((j : ObjectId) → (j .0 ≡ i .0 → ⊥) → lookup j new ≡ lookup j os)
+table-set : (os new : List (ObjectOf ℕ)) (i : ObjectId) (p : ℕ) → orZero (lookup i new) ≡ p
+    → ((j : ObjectId) → (j .0 ≡ i .0 → ⊥) → lookup j new ≡ lookup j os)
     → table new ≡ set (table os) (i .0) p
 table-set os new i p e k =
     ext-getD 0 (table new) (set (table os) (i .0) p) (length-from 256 0 new ∙ sym (length-set (table os) (i .0) p ∙ length-from 256 0 os))
@@ -90,7 +92,8 @@ commit-pass h since o t (settled i v ∷ fs) = commit-pass h since (o + frameLen
 
 -- ---- the table after one frame more
 
-sited-snoc : (fs : List Frame) (f : Frame) → replay (sited headerLen (fs ++ (f ∷ []))) ≡ nextState (replay (sited headerLen fs)) (mapFrame (λ v. headerLen + total fs) f)
+sited-snoc : (fs : List Frame) (f : Frame) → replay (sited headerLen (fs ++ (f ∷ []))) ≡ nextState (replay (sited headerLen fs))
+    (mapFrame (λ v. headerLen + total fs) f)
 sited-snoc fs f =
     let o : ℕ = headerLen + total fs in
     ap replay (located-sited headerLen (fs ++ (f ∷ [])) ∙ located-snoc offsetThere headerLen fs f
@@ -153,7 +156,9 @@ boundary-next h fs f y =
       before = fs ++ (f ∷ []);
       after = [];
       split = sym (append-nil (fs ++ (f ∷ [])));
-      lies = since-snoc h headerLen headerLen fs f ∙ ap (λ (x : Bool). pick x (headerLen + total fs + frameLen f) (sinceHost h fs)) t ∙ omega (arith, total-snoc fs f);
+      lies =
+          since-snoc h headerLen headerLen fs f ∙ ap (λ (x : Bool). pick x (headerLen + total fs + frameLen f) (sinceHost h fs)) t
+          ∙ omega (arith, total-snoc fs f);
     })
     (λ t.
     record {
@@ -179,7 +184,8 @@ place-early h d o (abort g) t l = refl
 place-early h d o (settled i v) t l = refl
 
 -- what stands before `since` does nothing
-pub commit-from : (h : Host) (d o : ℕ) (t : List ℕ) (fs gs : List Frame) → o + total fs ≤ d → commitPlaces h d o t (fs ++ gs) ≡ commitPlaces h d (o + total fs) t gs
+pub commit-from : (h : Host) (d o : ℕ) (t : List ℕ) (fs gs : List Frame) → o + total fs ≤ d
+    → commitPlaces h d o t (fs ++ gs) ≡ commitPlaces h d (o + total fs) t gs
 unfolding commitPlaces total
 commit-from h d o t [] gs l = let e : o ≡ o + 0 = omega arith in ap (λ (x : ℕ). commitPlaces h d x t gs) e
 commit-from h d o t (f ∷ fs) gs l =

@@ -11,7 +11,8 @@ use lib.Seq.{take-append-add, take-at, drop-at, drop-drop}
 use borrow.Author.Tests.{ne-eqb, eqb-true, eqb-false, leb-true, leb-false}
 use Rattle.flash.proofs.Cases.{on-test}
 use Rattle.frame.specs.declared.Host.{Host}
-use Rattle.frame.specs.Frame.{hostMax, idOf, Change, put, delete, Frame, change, commit, abort, settled, encode, encodeAll, frameLen, total, MayStand, AllMayStand, nextAfter, nextOf}
+use Rattle.frame.specs.Frame.{hostMax, idOf, Change, put, delete, Frame, change, commit, abort, settled, encode, encodeAll, frameLen, total}
+use Rattle.frame.specs.Frame.{MayStand, AllMayStand, nextAfter, nextOf}
 use Rattle.frame.proofs.Encode.{length-encode, length-all}
 use Rattle.frame.proofs.Reading.{read-back}
 use Rattle.journal.specs.Block.{headerLen}
@@ -81,7 +82,8 @@ module _ (b : List ℕ) (end : ℕ) (places since : List ℕ) where
       → drop (o + frameLen f) (take end b) ≡ rest → Yields b end places since 256 (o + frameLen f) xs → Yields b end places since 256 o xs
   pass o n f rest xs g t e e′ y =
       yields-same 256 o 256 (o + frameLen f) xs
-      (load-pending o ∙ ap (nextPending since o 0) e ∙ pending-no since o n f rest g t ∙ sym (load-pending (o + frameLen f) ∙ ap (nextPending since (o + frameLen f) 0) e′)) y
+      (load-pending o ∙ ap (nextPending since o 0) e ∙ pending-no since o n f rest g t
+      ∙ sym (load-pending (o + frameLen f) ∙ ap (nextPending since (o + frameLen f) 0) e′)) y
 
   module _ (m : Host → ℕ) (ms : (h : Host) → h .0 ≤ hostMax → getD since (h .0) 0 ≡ m h) where
     of-host : (n : ℕ) (h : Host) (c : Change) → MayStand n (change h c) → h .0 ≤ hostMax
@@ -95,9 +97,18 @@ module _ (b : List ℕ) (end : ℕ) (places since : List ℕ) where
         let f : Frame = change h c in
         let there : getD since (h .0) 0 ≡ m h = ms h (of-host n h c g) in
         on-test (leb (m h) o)
-        (λ t. subst (λ (x : List Entry). Yields b end places since 256 o (map pendingFrame (x ++ es))) (sym (change-yes bytesThere m o h c (leb-true (m h) o t) ∙ ap (λ (x : Change). entry h x ∷ []) (change-plain c)))
-        (256, o + frameLen f, load-pending o ∙ ap (nextPending since o 0) e ∙ pending-yes since o n f rest g (ap (λ (x : ℕ). leb x o) there ∙ t), omega arith, k, y))
-        (λ t. subst (λ (x : List Entry). Yields b end places since 256 o (map pendingFrame (x ++ es))) (sym (change-no bytesThere m o h c (leb-false (m h) o t)))
+        (λ t. subst (λ (x : List Entry). Yields b end places since 256 o (map pendingFrame (x ++ es)))
+        (sym (change-yes bytesThere m o h c (leb-true (m h) o t) ∙ ap (λ (x : Change). entry h x ∷ []) (change-plain c))) (
+          256,
+          o + frameLen f,
+          load-pending o ∙ ap (nextPending since o 0) e
+              ∙ pending-yes since o n f rest g (ap (λ (x : ℕ). leb x o) there ∙ t),
+          omega arith,
+          k,
+          y,
+        ))
+        (λ t. subst (λ (x : List Entry). Yields b end places since 256 o (map pendingFrame (x ++ es)))
+        (sym (change-no bytesThere m o h c (leb-false (m h) o t)))
         (pass o n f rest (map pendingFrame es) g (ap (λ (x : ℕ). leb x o) there ∙ t) e e′ y))
     one-frame o n (commit h) rest es g e e′ k y = pass o n (commit h) rest (map pendingFrame es) g refl e e′ y
     one-frame o n (abort h) rest es g e e′ k y = pass o n (abort h) rest (map pendingFrame es) g refl e e′ y
@@ -110,7 +121,8 @@ module _ (b : List ℕ) (end : ℕ) (places since : List ℕ) where
     yields-pending o n (f ∷ fs) (g, gs) e q =
         let e′ : drop (o + frameLen f) (take end b) ≡ encodeAll fs =
         sym (drop-drop (frameLen f) o (take end b)) ∙ ap (drop (frameLen f)) e ∙ drop-at (encode f) (encodeAll fs) (frameLen f) (length-encode f) in
-        one-frame o n f (encodeAll fs) (entriesOf bytesThere m (o + frameLen f) fs) g e e′ (omega arith) (yields-pending (o + frameLen f) (nextAfter f) fs gs e′ (omega arith))
+        one-frame o n f (encodeAll fs) (entriesOf bytesThere m (o + frameLen f) fs) g e e′ (omega arith)
+        (yields-pending (o + frameLen f) (nextAfter f) fs gs e′ (omega arith))
 
   -- ---- the settled part
 
@@ -180,7 +192,8 @@ journal-bytes b fs j =
     let hd : List ℕ = j .head in
     let q : headerLen + total fs ≡ length hd + total fs = omega (arith, j .long) in
     ap₂ (λ (n : ℕ) (x : List ℕ). drop headerLen (take n x)) q (j .split)
-    ∙ ap (drop headerLen) (take-append-add hd (encodeAll fs ++ j .rest) (total fs) ∙ ap (λ (x : List ℕ). hd ++ x) (take-at (encodeAll fs) (j .rest) (total fs) (length-all fs)))
+    ∙ ap (drop headerLen) (take-append-add hd (encodeAll fs ++ j .rest) (total fs)
+    ∙ ap (λ (x : List ℕ). hd ++ x) (take-at (encodeAll fs) (j .rest) (total fs) (length-all fs)))
     ∙ drop-at hd (encodeAll fs) headerLen (j .long)
 
 -- a transfer that keeps what is pending

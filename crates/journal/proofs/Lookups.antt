@@ -50,7 +50,8 @@ module _ {A : Type 0} where
   lookup-insert-other i j v (o ∷ os) n =
       on-order (j .0) (o .id .0)
       (λ e l. ap (lookup i) (insert-lt j v o os e) ∙ lookup-no i (object j v) (o ∷ os) (ne-eqb (i .0) (j .0) n))
-      (λ e l. ap (lookup i) (insert-eq j v o os e) ∙ lookup-no i (object j v) os (ne-eqb (i .0) (j .0) n) ∙ sym (lookup-no i o os (ne-eqb (i .0) (o .id .0) (λ q. n (q ∙ sym l)))))
+      (λ e l. ap (lookup i) (insert-eq j v o os e) ∙ lookup-no i (object j v) os (ne-eqb (i .0) (j .0) n)
+      ∙ sym (lookup-no i o os (ne-eqb (i .0) (o .id .0) (λ q. n (q ∙ sym l)))))
       (λ e l. ap (lookup i) (insert-gt j v o os e)
       ∙ on-test (eqb (i .0) (o .id .0))
       (λ t. lookup-yes i o (insert j v os) t ∙ sym (lookup-yes i o os t))
@@ -67,7 +68,8 @@ module _ {A : Type 0} where
   lookup-remove-other i j [] n = refl
   lookup-remove-other i j (o ∷ os) n =
       on-test (eqb (j .0) (o .id .0))
-      (λ t. rw (t, remove) (lookup-remove-other i j os n ∙ sym (lookup-no i o os (ne-eqb (i .0) (o .id .0) (λ q. n (q ∙ sym (eqb-true (j .0) (o .id .0) t)))))))
+      (λ t. rw (t, remove) (lookup-remove-other i j os n
+      ∙ sym (lookup-no i o os (ne-eqb (i .0) (o .id .0) (λ q. n (q ∙ sym (eqb-true (j .0) (o .id .0) t)))))))
       (λ t. rw (t, remove) (on-test (eqb (i .0) (o .id .0))
       (λ u. lookup-yes i o (remove j os) u ∙ sym (lookup-yes i o os u))
       (λ u. lookup-no i o (remove j os) u ∙ lookup-remove-other i j os n ∙ sym (lookup-no i o os u))))

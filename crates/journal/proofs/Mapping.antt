@@ -10,7 +10,8 @@ use Rattle.flash.proofs.Cases.{on-test, on-order}
 use Rattle.frame.specs.declared.Host.{Host}
 use Rattle.frame.specs.declared.ObjectId.{ObjectId}
 use Rattle.frame.specs.Frame.{idOf, ChangeOf, put, delete, FrameOf, Frame, change, commit, abort, settled, mapChange, mapFrame, frameLen, total}
-use Rattle.journal.specs.Replay.{ObjectOf, object, EntryOf, entry, StateOf, state, insert, remove, lookup, change1, changeAll, listOf, without, nextState, replayFrom, replay}
+use Rattle.journal.specs.Replay.{ObjectOf, object, EntryOf, entry, StateOf, state, insert, remove, lookup, change1, changeAll, listOf}
+use Rattle.journal.specs.Replay.{without, nextState, replayFrom, replay}
 use Rattle.journal.specs.Index.{sited}
 use Rattle.journal.proofs.Lookups.{insert-lt, insert-eq, insert-gt}
 
@@ -79,7 +80,8 @@ module _ {A B : Type 0} (f : A → B) where
   map-next : (s : StateOf A) (x : FrameOf A) → nextState (mapState s) (mapFrame f x) ≡ mapState (nextState s x)
   map-next s (change h c) = ap (state (map mapObject (s .objects))) (map-snoc mapEntry (s .pending) (entry h c))
   map-next s (commit h) =
-      ap₂ state (ap (λ (x : List (ChangeOf B)). changeAll x (map mapObject (s .objects))) (map-list h (s .pending)) ∙ map-changes (listOf h (s .pending)) (s .objects))
+      ap₂ state (ap (λ (x : List (ChangeOf B)). changeAll x (map mapObject (s .objects))) (map-list h (s .pending))
+      ∙ map-changes (listOf h (s .pending)) (s .objects))
       (map-without h (s .pending))
   map-next s (abort h) = ap (state (map mapObject (s .objects))) (map-without h (s .pending))
   map-next s (settled i v) = ap (λ (x : List (ObjectOf B)). state x (map mapEntry (s .pending))) (map-snoc mapObject (s .objects) (object i v))
@@ -234,4 +236,5 @@ unfolding located total
 located-snoc {A} val o [] f = let e : o ≡ o + 0 = omega arith in ap (λ (x : ℕ). mapFrame (val x) f ∷ []) e
 located-snoc {A} val o (g ∷ fs) f =
     let e : o + frameLen g + total fs ≡ o + (frameLen g + total fs) = omega arith in
-    ap (λ (x : List (FrameOf A)). mapFrame (val o) g ∷ x) (located-snoc val (o + frameLen g) fs f ∙ ap (λ (x : ℕ). located val (o + frameLen g) fs ++ (mapFrame (val x) f ∷ [])) e)
+    ap (λ (x : List (FrameOf A)). mapFrame (val o) g ∷ x)
+    (located-snoc val (o + frameLen g) fs f ∙ ap (λ (x : ℕ). located val (o + frameLen g) fs ++ (mapFrame (val x) f ∷ [])) e)

@@ -60,7 +60,8 @@ pending-ends fs f h l n =
     let es : List Entry = replay fs .pending in
     let e : (g : Host) → pendingBytes g (replay (fs ++ (f ∷ [])) .pending) ≡ pendingBytes g (nextState (replay fs) (abort h) .pending) =
     λ g. ap (λ (s : State). pendingBytes g (s .pending)) (replay-snoc fs f) ∙ ap (pendingBytes g) (n (replay fs)) in
-    per-set (λ g. pendingBytes g es) (λ g. pendingBytes g (replay (fs ++ (f ∷ [])) .pending)) h 0 l (e h ∙ bytes-ended h es) (λ g d. e g ∙ bytes-kept g h es d)
+    per-set (λ g. pendingBytes g es) (λ g. pendingBytes g (replay (fs ++ (f ∷ [])) .pending)) h 0 l (e h ∙ bytes-ended h es)
+    (λ g d. e g ∙ bytes-kept g h es d)
 
 same : {a a′ b b′ : ℕ} {s s′ p p′ : List ℕ} → a ≡ a′ → b ≡ b′ → s ≡ s′ → p ≡ p′ → progress a b s p ≡ progress a′ b′ s′ p′
 same {a} {a′} {b} {b′} {s} {s′} {p} {p′} e f g h =
@@ -120,7 +121,8 @@ frames-between b gs hs g s =
     sym (drop-drop (total gs) headerLen (take end b)) ∙ ap (drop (total gs)) (part ∙ encode-append gs hs)
     ∙ drop-at (encodeAll gs) (encodeAll hs) (total gs) (length-all gs) ∙ sym (append-nil (encodeAll hs)) in
     ap (λ (x : List ℕ). scan 0 d 0 x .frames) rest
-    ∙ ap (λ (x : Scan). x .frames) (scan-with 0 d hs [] clean (stands-from (nextOf 0 gs) hs (stands-after 0 gs hs g)) (scan-nil (nextOf 0 hs) (d + total hs) 0))
+    ∙ ap (λ (x : Scan). x .frames) (scan-with 0 d hs [] clean (stands-from (nextOf 0 gs) hs (stands-after 0 gs hs g))
+    (scan-nil (nextOf 0 hs) (d + total hs) 0))
 
 commit-again : (b : List ℕ) (fs : List Frame) (h : Host) → h .0 ≤ hostMax → AllMayStand 0 fs → Starts b fs
     → placesOf (fs ++ (commit h ∷ [])) ≡ recommit (take (headerLen + total fs) b) h (getD (sinceOf fs) (h .0) 0) (placesOf fs)

@@ -130,7 +130,8 @@ module _ {A : Type 0} (val : ℕ → List ℕ → A) where
 
   -- a frame that ends no list leaves `since`
   stays : (fs : List Frame) (f : Frame) → ((h : Host) → isEnd h f ≡ false)
-      → entriesOf val (sinceIn (fs ++ (f ∷ []))) headerLen (fs ++ (f ∷ [])) ≡ entriesOf val (sinceIn fs) headerLen fs ++ changeAt val (sinceIn fs) (headerLen + total fs) f
+      → entriesOf val (sinceIn (fs ++ (f ∷ []))) headerLen (fs ++ (f ∷ [])) ≡ entriesOf val (sinceIn fs) headerLen fs ++ changeAt val
+      (sinceIn fs) (headerLen + total fs) f
   stays fs f n =
       let e : sinceIn (fs ++ (f ∷ [])) ≡ sinceIn fs =
       fun-ext (λ h. since-snoc h headerLen headerLen fs f ∙ ap (λ (t : Bool). pick t (headerLen + total fs + frameLen f) (sinceHost h fs)) (n h)) in
@@ -152,7 +153,8 @@ module _ {A : Type 0} (val : ℕ → List ℕ → A) where
       headerLen fs (omega (arith, own))
 
   -- what is pending after one frame more
-  after : (fs : List Frame) (f : Frame) → replay (located val headerLen (fs ++ (f ∷ []))) ≡ nextState (replay (located val headerLen fs)) (mapFrame (val (headerLen + total fs)) f)
+  after : (fs : List Frame) (f : Frame) → replay (located val headerLen (fs ++ (f ∷ []))) ≡ nextState (replay (located val headerLen fs))
+      (mapFrame (val (headerLen + total fs)) f)
   after fs f = ap replay (located-snoc val headerLen fs f) ∙ replay-snoc (located val headerLen fs) (mapFrame (val (headerLen + total fs)) f)
 
   right-next : (fs : List Frame) (f : Frame) → Right fs → Right (fs ++ (f ∷ []))

@@ -89,7 +89,8 @@ pending-most fs k =
 
 -- ---- what the four numbers tell: who has something pending, how many hosts have, and C
 
-bytes-yes : (h : Host) (e : Entry) (es : List Entry) → eqb (h .0) (e .host .0) ≡ true → pendingBytes h (e ∷ es) ≡ frameLen (pendingFrame e) + pendingBytes h es
+bytes-yes : (h : Host) (e : Entry) (es : List Entry) → eqb (h .0) (e .host .0) ≡ true
+    → pendingBytes h (e ∷ es) ≡ frameLen (pendingFrame e) + pendingBytes h es
 unfolding listOf total
 bytes-yes h e es t = rw (t, listOf) (omega (arith, any-host h (e .host) (e .what)))
 
@@ -110,7 +111,8 @@ bytesOfAll es = pendingBytes (hostOf 0) es + pendingBytes (hostOf 1) es + pendin
 
 pub open-count : (es : List Entry)
     → openHosts es
-    ≡ one (ltb 0 (pendingBytes (hostOf 0) es)) + one (ltb 0 (pendingBytes (hostOf 1) es)) + one (ltb 0 (pendingBytes (hostOf 2) es)) + one (ltb 0 (pendingBytes (hostOf 3) es))
+    ≡ one (ltb 0 (pendingBytes (hostOf 0) es)) + one (ltb 0 (pendingBytes (hostOf 1) es)) + one (ltb 0 (pendingBytes (hostOf 2) es)) + one
+    (ltb 0 (pendingBytes (hostOf 3) es))
 open-count es = rw (open-bytes (hostOf 0) es, open-bytes (hostOf 1) es, open-bytes (hostOf 2) es, open-bytes (hostOf 3) es)
 
 host-most : (e : Entry) → MayStand 256 (pendingFrame e) → e .host .0 ≤ 3

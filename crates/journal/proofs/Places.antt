@@ -10,14 +10,16 @@ use lib.Seq.{drop-append-add, take-at, drop-at}
 use borrow.Author.Tests.{eq-eqb, ne-eqb, leb-true, leb-false}
 use Rattle.flash.proofs.Cases.{on-test}
 use Rattle.frame.specs.declared.ObjectId.{ObjectId}
-use Rattle.frame.specs.Frame.{idMax, idOf, put, delete, FrameOf, Frame, change, commit, abort, settled, mapFrame, encode, encodeAll, frameLen, MayStand, AllMayStand, nextAfter}
+use Rattle.frame.specs.Frame.{idMax, idOf, put, delete, FrameOf, Frame, change, commit, abort, settled, mapFrame, encode, encodeAll}
+use Rattle.frame.specs.Frame.{frameLen, MayStand, AllMayStand, nextAfter}
 use Rattle.frame.specs.Reader.{whole, readFrame}
 use Rattle.frame.proofs.Encode.{length-encode, stands-any}
 use Rattle.frame.proofs.Reading.{read-back}
 use Rattle.journal.specs.Block.{headerLen}
 use Rattle.journal.specs.Replay.{ObjectOf, StateOf, lookup, replay}
 use Rattle.journal.specs.Index.{sited, orZero, placesFrom, placesOf, Value, onlyIf, frameValue, valueAt}
-use Rattle.journal.proofs.Mapping.{located, located-sited, located-plain, located-map, map-lookup, map-replay, OfFrame, AllFrames, all-replay, all-lookup}
+use Rattle.journal.proofs.Mapping.{located, located-sited, located-plain, located-map, map-lookup, map-replay, OfFrame, AllFrames}
+use Rattle.journal.proofs.Mapping.{all-replay, all-lookup}
 
 -- a value and the offset of its frame
 pub record Spot : Type 0 where
@@ -66,7 +68,8 @@ stands-zero n (settled i v) (a, b, c) = (omega arith, b, c)
 
 -- a frame whose value v stands n bytes in
 value-placed : (pre front v back rest : List ℕ) (i : ObjectId) (o n m : ℕ) (f : Frame) → length pre ≡ o → length front ≡ n → headerLen ≤ o → MayStand m f
-    → encode f ++ rest ≡ front ++ (v ++ back) → 1 ≤ n → frameValue i o f ≡ some (record { at = o + n; bytes = v }) → ValueStands (pre ++ (encode f ++ rest)) i o v
+    → encode f ++ rest ≡ front ++ (v ++ back) → 1 ≤ n → frameValue i o f ≡ some (record { at = o + n; bytes = v })
+    → ValueStands (pre ++ (encode f ++ rest)) i o v
 value-placed pre front v back rest i o n m f l k h g e s q =
     let b : List ℕ = pre ++ (encode f ++ rest) in
     let e′ : b ≡ pre ++ (front ++ (v ++ back)) = ap (λ (x : List ℕ). pre ++ x) e in
@@ -86,7 +89,8 @@ SpotStands b i x = ValueStands b i (x .place) (x .bytes)
 spot-stands : (pre rest : List ℕ) (o m : ℕ) (f : Frame) → length pre ≡ o → headerLen ≤ o → MayStand m f
     → OfFrame (SpotStands (pre ++ (encode f ++ rest))) (mapFrame (spot o) f)
 spot-stands pre rest o m (change h (put i v)) l k g =
-    value-placed pre (take 7 (encode (change h (put i v)))) v (254 ∷ rest) rest i o 7 m (change h (put i v)) l refl k g (simp append-assoc) (omega arith) (own i _)
+    value-placed pre (take 7 (encode (change h (put i v)))) v (254 ∷ rest) rest i o 7 m (change h (put i v)) l refl k g (simp append-assoc)
+    (omega arith) (own i _)
 spot-stands pre rest o m (change h (delete i)) l k g = tt
 spot-stands pre rest o m (commit h) l k g = tt
 spot-stands pre rest o m (abort h) l k g = tt
@@ -170,7 +174,9 @@ pub record Journal (b : List ℕ) (fs : List Frame) : Type 0 where
 
 pub place-law : (b : List ℕ) (fs : List Frame) (i : ObjectId) (v : List ℕ) → Journal b fs → i .0 ≤ idMax → lookup i (replay fs .objects) ≡ some v
     → ValueStands b i (getD (placesOf fs) (i .0) 0) v
-place-law b fs i v j h s = subst (λ (p : ℕ). ValueStands b i p v) (sym (place-at fs i h ∙ ap orZero (sited-lookup fs i))) (go (lookup i (replay (spots headerLen fs) .objects)) refl)
+place-law b fs i v j h s =
+    subst (λ (p : ℕ). ValueStands b i p v) (sym (place-at fs i h ∙ ap orZero (sited-lookup fs i)))
+    (go (lookup i (replay (spots headerLen fs) .objects)) refl)
   where
     go : (x : Option Spot) → lookup i (replay (spots headerLen fs) .objects) ≡ x → ValueStands b i (orZero (Option·map (λ (y : Spot). y .place) x)) v
     go none q =
@@ -180,8 +186,10 @@ place-law b fs i v j h s = subst (λ (p : ℕ). ValueStands b i p v) (sym (place
     go (some x) q =
         let z : _≡_ {A = Option (List ℕ)} (some (x .bytes)) (some v) = sym (bytes-lookup fs i ∙ ap (Option·map (λ (y : Spot). y .bytes)) q) ∙ s in
         let y : x .bytes ≡ v = cc in
-        let a : AllFrames (SpotStands b) (spots headerLen fs) = spots-hold b (j .head) headerLen 0 fs (j .rest) (j .long) (omega arith) (j .stand) (j .split) in
-        subst (ValueStands b i (x .place)) y (all-lookup (SpotStands b) i (replay (spots headerLen fs) .objects) x (all-replay (SpotStands b) (spots headerLen fs) a .0) q)
+        let a : AllFrames (SpotStands b) (spots headerLen fs) =
+        spots-hold b (j .head) headerLen 0 fs (j .rest) (j .long) (omega arith) (j .stand) (j .split) in
+        subst (ValueStands b i (x .place)) y (all-lookup (SpotStands b) i (replay (spots headerLen fs) .objects) x
+        (all-replay (SpotStands b) (spots headerLen fs) a .0) q)
 
 abbrev pub bytesOf : Option Value → Option (List ℕ)
 bytesOf none = none

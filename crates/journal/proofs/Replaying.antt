@@ -11,7 +11,9 @@ use Rattle.frame.specs.declared.Host.{Host}
 use Rattle.frame.specs.declared.ObjectId.{ObjectId}
 use Rattle.frame.specs.Frame.{hostOf, Change, put, delete, FrameOf, Frame, change, commit, abort, settled, MayStand, AllMayStand, nextAfter, nextOf}
 use Rattle.frame.proofs.Encode.{stands-any, stands-append}
-use Rattle.journal.specs.Replay.{ObjectOf, object, EntryOf, entry, StateOf, state, Object, Entry, State, insert, remove, lookup, change1, changeAll, listOf, without, nextState, replayFrom, replay, settledFrame, pendingFrame, framesOf, settledOnly}
+use Rattle.journal.specs.Replay.{ObjectOf, object, EntryOf, entry, StateOf, state, Object, Entry, State, insert, remove, lookup}
+use Rattle.journal.specs.Replay.{change1, changeAll, listOf, without, nextState, replayFrom, replay, settledFrame, pendingFrame}
+use Rattle.journal.specs.Replay.{framesOf, settledOnly}
 use Rattle.journal.proofs.Lookups.{lookup-no, insert-lt, insert-eq, insert-gt}
 
 module _ {A : Type 0} where
@@ -146,10 +148,17 @@ pub record Sound (n : ℕ) (s : State) : Type 0 where
 
 sound-next : (n : ℕ) (s : State) (f : Frame) → MayStand n f → Sound n s → Sound (nextAfter f) (nextState s f)
 sound-next n s (change h c) g k =
-    record { rising = rising-to 0 (s .objects) n 256 (k .low) (k .rising); low = omega arith; entries = legal-snoc (s .pending) (entry h c) (stands-any n 256 (change h c) tt g) (k .entries) }
+    record {
+      rising = rising-to 0 (s .objects) n 256 (k .low) (k .rising);
+      low = omega arith;
+      entries = legal-snoc (s .pending) (entry h c)
+          (stands-any n 256 (change h c) tt g) (k .entries);
+    }
 sound-next n s (commit h) g k =
     record {
-      rising = rising-changes (listOf h (s .pending)) (s .objects) (legal-list h (s .pending) (k .entries)) (rising-to 0 (s .objects) n 256 (k .low) (k .rising));
+      rising =
+          rising-changes (listOf h (s .pending)) (s .objects) (legal-list h (s .pending) (k .entries))
+          (rising-to 0 (s .objects) n 256 (k .low) (k .rising));
       low = omega arith;
       entries = legal-without h (s .pending) (k .entries);
     }

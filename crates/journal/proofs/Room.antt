@@ -13,7 +13,8 @@ use Rattle.frame.specs.declared.ObjectId.{ObjectId}
 use Rattle.frame.specs.Frame.{hostOf, hostMax, Change, put, delete, Frame, change, commit, abort, settled, frameLen, putLen, total}
 use Rattle.frame.proofs.Encode.{total-append}
 use Rattle.journal.specs.Block.{headerLen}
-use Rattle.journal.specs.Replay.{Object, object, Entry, entry, State, state, insert, remove, change1, changeAll, listOf, without, isOpen, nextState, replayFrom, replay, settledFrame, pendingFrame, framesOf, settledOnly}
+use Rattle.journal.specs.Replay.{Object, object, Entry, entry, State, state, insert, remove, change1, changeAll, listOf, without}
+use Rattle.journal.specs.Replay.{isOpen, nextState, replayFrom, replay, settledFrame, pendingFrame, framesOf, settledOnly}
 use Rattle.journal.specs.Room.{used, claimed, one, openHosts}
 use Rattle.journal.proofs.Lookups.{insert-lt, insert-eq, insert-gt}
 use Rattle.journal.proofs.Lists.{open-own, open-other, open-snoc, open-snoc-other}

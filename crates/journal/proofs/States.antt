@@ -15,7 +15,8 @@ use Rattle.frame.specs.declared.Fault.{Fault}
 use Rattle.frame.specs.Frame.{Frame, total, nextOf}
 use Rattle.frame.specs.Reader.{Tail, clean, cut, bad, Scan, scan, ends}
 use Rattle.frame.proofs.Scanned.{Scanned, scan-inv, scan-clean}
-use Rattle.journal.specs.Block.{headerLen, headerKind, lastTime, stateAt, inTransfer, validData, header, createdAt, headerFault, BlockState, blank, inProgress, valid, foreign, ofTail, ofHeader, blockState}
+use Rattle.journal.specs.Block.{headerLen, headerKind, lastTime, stateAt, inTransfer, validData, header, createdAt, headerFault}
+use Rattle.journal.specs.Block.{BlockState, blank, inProgress, valid, foreign, ofTail, ofHeader, blockState}
 use Rattle.journal.proofs.Blocks.{Layout, Header, Okay, ofScan, valid-block}
 
 some-none : {A : Type 0} {a : A} → some a ≡ none → ⊥
@@ -68,7 +69,8 @@ four b h =
 time-bytes : (b : List ℕ) → Bytes b → 8 ≤ length b → take 4 (drop 4 b) ≡ u32le (lastTime - createdAt b)
 time-bytes b y h =
     let x : ℕ = le32 (getD b 4 0) (getD b 5 0) (getD b 6 0) (getD b 7 0) in
-    let small : x < 4294967296 = le32-small (getD b 4 0) (getD b 5 0) (getD b 6 0) (getD b 7 0) (byte-at b 4 y) (byte-at b 5 y) (byte-at b 6 y) (byte-at b 7 y) in
+    let small : x < 4294967296 =
+    le32-small (getD b 4 0) (getD b 5 0) (getD b 6 0) (getD b 7 0) (byte-at b 4 y) (byte-at b 5 y) (byte-at b 6 y) (byte-at b 7 y) in
     let e : x ≡ lastTime - (lastTime - x) = omega arith in
     four b h ∙ sym (u32-le32 (getD b 4 0) (getD b 5 0) (getD b 6 0) (getD b 7 0) (byte-at b 4 y) (byte-at b 5 y) (byte-at b 6 y) (byte-at b 7 y))
     ∙ ap u32le e

@@ -63,7 +63,8 @@ empty-foreign x = record { survey = refl; places = refl }
 abbrev pub Right : BlockState → Survey → List ℕ → Type 0
 Right s r t = (r ≡ surveyOf s) × (t ≡ placesIn s)
 
-empty-right : {s : BlockState} {k : BlockKind} {q : BlockState} {r : Survey} {t : List ℕ} → Empty s k → q ≡ s → r ≡ emptySurvey k → t ≡ placesOf [] → Right q r t
+empty-right : {s : BlockState} {k : BlockKind} {q : BlockState} {r : Survey} {t : List ℕ} → Empty s k → q ≡ s → r ≡ emptySurvey k
+    → t ≡ placesOf [] → Right q r t
 empty-right {s} {k} {q} {r} {t} e p u v =
     subst (λ (x : BlockState). Right x r t) (sym p) (u ∙ e .survey, v ∙ e .places)
 

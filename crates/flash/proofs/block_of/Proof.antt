@@ -15,6 +15,9 @@ block-of-spec =
     (λ c. search needs)
     (λ c. search needs)
     (λ c. search needs)
-    (λ c. let img = now (c .before .before .before .before .args .image) in
-    block-part (sizeOf img) (c .before .before .before .before .args .number) (c .before .before .start-of .result) (c .before .reach .result) img
-    (c .before .before .start-of .ensures) (c .before .reach .ensures)))
+    (λ c.
+    let reach′ = c .before .reach in
+    let start-of′ = c .before .before .start-of in
+    let args′ = c .before .before .before .before .args in
+    let img = now (args′ .image) in block-part (sizeOf img) (args′ .number) (start-of′ .result) (reach′ .result) img (start-of′ .ensures)
+    (reach′ .ensures)))

@@ -7,4 +7,7 @@ use Rattle.flash.proofs.byte_at.Statement.{statement}
 use Rattle.flash.proofs.byte_at.Tie as tie
 
 pub byte-at-spec : {M : Type 1} → statement M
-byte-at-spec = tie.close (tie.spec (λ c. search needs) (λ c. search needs) (λ c. sym (List·getD-eq-default (now (c .before .args .bytes)) 0 {n = c .before .args .i} (c .if1 .left))))
+byte-at-spec = tie.close (tie.spec
+    (λ c. search needs)
+    (λ c. search needs)
+    (λ c. sym (List·getD-eq-default (now (c .before .args .bytes)) 0 {n = c .before .args .i} (c .if1 .left))))

@@ -18,8 +18,13 @@ erase-block-spec =
     (λ c. search needs)
     (λ c κs. search needs)
     (λ c. search needs)
-    (λ c. let img = now (c .before .before .before .before .before .before .before .args .image) in
-    let a = c .before .before .before .before .before .start-of .result in
-    let e = c .before .before .before .before .reach .result in
-    rw (c .before .before .fill .ensures, mid-len a e img (omega (arith, c .before .before .before .before .before .start-of .ensures, c .before .before .before .before .reach .ensures)), post-is a e img (omega (arith, c .before .before .before .before .reach .ensures)))
-    (erase-part (c .before .before .before .before .before .before .before .args .size) (c .before .before .before .before .before .before .before .args .number) a e img (c .before .before .before .before .before .start-of .ensures) (c .before .before .before .before .reach .ensures))))
+    (λ c.
+    let reach′ = c .before .before .before .before .reach in
+    let start-of′ = c .before .before .before .before .before .start-of in
+    let args′ = c .before .before .before .before .before .before .before .args in
+    let img = now (args′ .image) in let a = start-of′ .result in let e = reach′ .result in rw (
+      c .before .before .fill .ensures,
+      mid-len a e img (omega (arith, start-of′ .ensures, reach′ .ensures)),
+      post-is a e img
+          (omega (arith, reach′ .ensures)),
+    ) (erase-part (args′ .size) (args′ .number) a e img (start-of′ .ensures) (reach′ .ensures))))

@@ -27,6 +27,12 @@ fill-spec =
     (λ c. search needs)
     (λ c. search needs)
     (λ c. search needs)
-    (λ c. (rw (c .before .loop .inv .0) (fill-more (c .before .loop .i) 255 (now (c .before .before .args .s)) (omega arith)), omega arith, simp length-set (omega arith)))
+    (λ c.
+    let loop′ = c .before .loop in
+    (rw (loop′ .inv .0) (fill-more (loop′ .i) 255 (now (c .before .before .args .s)) (omega arith)), omega arith, simp length-set (omega arith)))
     (λ c. search needs)
-    (λ c. let z : c .before .loop .i ≡ length (now (c .before .before .args .s)) = omega arith in c .before .loop .inv .0 ∙ fill-all (now (c .before .before .args .s)) (c .before .loop .i) z))
+    (λ c.
+    let loop′ = c .before .loop in
+    let args′ = c .before .before .args in
+    let z : loop′ .i ≡ length (now (args′ .s)) = omega arith in loop′ .inv .0
+    ∙ fill-all (now (args′ .s)) (loop′ .i) z))

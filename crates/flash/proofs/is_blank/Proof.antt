@@ -23,8 +23,16 @@ is-blank-spec =
     μ-loop
     (λ c. refl)
     (λ c. omega arith)
-    (λ c. sym (allFF-stop (now (c .before .before .before .before .args .s)) (c .before .before .before .loop .i) (c .before .before .loop-test .taken) (c .if1 .taken)) ∙ c .before .before .before .loop .inv)
+    (λ c.
+    let loop′ = c .before .before .before .loop in
+    let args′ = c .before .before .before .before .args in
+    sym (allFF-stop (now (args′ .s)) (loop′ .i) (c .before .before .loop-test .taken) (c .if1 .taken))
+    ∙ loop′ .inv)
     (λ c. omega arith)
     (λ c. omega arith)
-    (λ c. sym (allFF-on (now (c .before .before .before .before .args .s)) (c .before .before .before .loop .i) (c .before .before .loop-test .taken) (c .if1 .left)) ∙ c .before .before .before .loop .inv)
+    (λ c.
+    let loop′ = c .before .before .before .loop in
+    let args′ = c .before .before .before .before .args in
+    sym (allFF-on (now (args′ .s)) (loop′ .i) (c .before .before .loop-test .taken) (c .if1 .left))
+    ∙ loop′ .inv)
     (λ c. sym (allFF-end (now (c .before .before .args .s)) (c .before .loop .i) (c .loop-test .left)) ∙ c .before .loop .inv))

@@ -9,4 +9,9 @@ use Rattle.flash.proofs.program.Tie as tie
 
 pub program-spec : {M : Type 1} → statement M
 program-spec =
-    tie.close (tie.spec (λ c. sym (set-out (now (c .before .args .image)) (c .before .args .at) _ (omega arith))) (λ c. search needs) (λ c. search needs) (λ c. search needs) (λ c. search needs))
+    tie.close (tie.spec
+    (λ c. sym (set-out (now (c .before .args .image)) (c .before .args .at) _ (omega arith)))
+    (λ c. search needs)
+    (λ c. search needs)
+    (λ c. search needs)
+    (λ c. search needs))

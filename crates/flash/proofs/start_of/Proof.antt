@@ -9,4 +9,18 @@ use Rattle.flash.proofs.start_of.Statement.{statement}
 use Rattle.flash.proofs.start_of.Tie as tie
 
 pub start-of-spec : {M : Type 1} → statement M
-start-of-spec = tie.close (tie.spec (λ c. let z : c .before .args .number * c .before .args .size ≡ 0 = ap (λ (n : ℕ). c .before .args .number * n) (c .if1 .taken) ∙ mul-zero (c .before .args .number) in omega arith) (λ c. search needs) (λ c. past-end (c .before .before .args .size) (c .before .before .args .number) (c .before .before .args .end) (c .before .if1 .left) (c .if2 .taken)) (λ c. omega (arith, at-most-end (c .before .before .args .size) (c .before .before .args .number) (c .before .before .args .end) (c .before .if1 .left) (c .if2 .left))) (λ c. omega (arith, at-most-end (c .before .before .args .size) (c .before .before .args .number) (c .before .before .args .end) (c .before .if1 .left) (c .if2 .left))))
+start-of-spec = tie.close (tie.spec
+    (λ c.
+    let args′ = c .before .args in
+    let z : args′ .number * args′ .size ≡ 0 = ap (λ (n : ℕ). args′ .number * n) (c .if1 .taken)
+    ∙ mul-zero (args′ .number) in omega arith)
+    (λ c. search needs)
+    (λ c.
+    let args′ = c .before .before .args in
+    past-end (args′ .size) (args′ .number) (args′ .end) (c .before .if1 .left) (c .if2 .taken))
+    (λ c.
+    let args′ = c .before .before .args in
+    omega (arith, at-most-end (args′ .size) (args′ .number) (args′ .end) (c .before .if1 .left) (c .if2 .left)))
+    (λ c.
+    let args′ = c .before .before .args in
+    omega (arith, at-most-end (args′ .size) (args′ .number) (args′ .end) (c .before .if1 .left) (c .if2 .left))))

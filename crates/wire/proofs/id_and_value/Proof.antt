@@ -15,7 +15,9 @@ id-and-value-spec =
     tie.close
     (tie.spec
     (λ c. rw (lt-leb idEnd _ (c .if1 .taken)))
-    (λ c. rw (le-leb idEnd _ (c .before .if1 .left), lt-leb (length (now (c .before .before .before .args .m))) (idEnd + valueMax) (omega arith)))
+    (λ c.
+    rw (le-leb idEnd _ (c .before .if1 .left), lt-leb (length (now (c .before .before .before .args .m))) (idEnd + valueMax) (omega arith)))
     (λ c κs. search needs)
-    (λ c. rw
-    (le-leb idEnd _ (c .before .before .if1 .left), le-leb (length (now (c .before .before .before .before .args .m))) (idEnd + valueMax) (omega arith), c .word-at .ensures)))
+    (λ c.
+    let args′ = c .before .before .before .before .args in
+    rw (le-leb idEnd _ (c .before .before .if1 .left), le-leb (length (now (args′ .m))) (idEnd + valueMax) (omega arith), c .word-at .ensures)))

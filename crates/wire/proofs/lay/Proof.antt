@@ -33,11 +33,11 @@ lay-spec =
     (λ c. search needs)
     (λ c. search needs)
     (λ c.
-    let s = now (c .before .before .before .before .args .source) in
-    let b = now (c .before .before .before .before .args .bytes) in
-    let i = c .before .before .loop .i in
-    let l : c .before .before .loop .i < length (now (c .before .before .before .before .args .bytes)) = omega (arith, c .before .before .before .if1 .left) in
-    (rw (c .before .before .loop .inv .0) (copy-more s b i (c .before .loop-test .taken) l), omega arith, simp length-set (omega arith)))
+    let loop′ = c .before .before .loop in
+    let args′ = c .before .before .before .before .args in
+    let s = now (args′ .source) in let b = now (args′ .bytes) in let i = loop′ .i in let l : loop′ .i < length
+    (now (args′ .bytes)) = omega (arith, c .before .before .before .if1 .left) in
+    (rw (loop′ .inv .0) (copy-more s b i (c .before .loop-test .taken) l), omega arith, simp length-set (omega arith)))
     (λ c. search needs)
     (λ c.
     let z : c .before .loop .i ≡ length (now (c .before .before .before .args .source)) = omega arith in

@@ -24,12 +24,24 @@ of-kind-spec =
     (λ c κs. search needs)
     (λ c κs. search needs)
     (λ c κs. search needs)
-    (λ c. simp (c .is-if .ensures, c .before .before .id-and-value .ensures, c .before .id-in .ensures, c .before .before .before .match .keys1))
-    (λ c. simp (c .is-if2 .ensures, c .before .before .only-id .ensures, c .before .id-in2 .ensures, c .before .before .before .match .keys2))
+    (λ c.
+    simp (c .is-if .ensures, c .before .before .id-and-value .ensures, c .before .id-in .ensures, c .before .before .before .match .keys1))
+    (λ c.
+    simp (c .is-if2 .ensures, c .before .before .only-id .ensures, c .before .id-in2 .ensures, c .before .before .before .match .keys2))
     (λ c. simp (c .is-if3 .ensures, c .before .no-body .ensures, c .before .before .match .keys3))
     (λ c. simp (c .is-if4 .ensures, c .before .no-body2 .ensures, c .before .before .match .keys4))
-    (λ c. simp (c .is-if5 .ensures, c .before .before .only-id2 .ensures, c .before .id-in3 .ensures, c .before .before .before .match .keys5))
+    (λ c.
+    simp (c .is-if5 .ensures, c .before .before .only-id2 .ensures, c .before .id-in3 .ensures, c .before .before .before .match .keys5))
     (λ c. simp (c .is-if6 .ensures, c .before .summary-page .ensures, c .before .before .match .keys6))
     (λ c.
-    let n = c .match .rest in
-    rw (ne-eqb _ 257 (n .0 .0 .0 .0 .0 .1), ne-eqb _ 258 (n .0 .0 .0 .0 .1), ne-eqb _ 259 (n .0 .0 .0 .1), ne-eqb _ 260 (n .0 .0 .1), ne-eqb _ 261 (n .0 .1), ne-eqb _ 262 (n .1), ofKind)))
+    let n =
+    c .match .rest in rw (
+      ne-eqb _ 257 (n .0 .0 .0 .0 .0 .1),
+      ne-eqb _ 258 (n .0 .0 .0 .0 .1),
+      ne-eqb _ 259 (n .0 .0 .0 .1),
+      ne-eqb _ 260
+          (n .0 .0 .1),
+      ne-eqb _ 261 (n .0 .1),
+      ne-eqb _ 262 (n .1),
+      ofKind,
+    )))

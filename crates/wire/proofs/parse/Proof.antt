@@ -16,4 +16,13 @@ parse-spec =
     (λ c. rw (le-leb _ _ (c .before .before .if1 .left), ← c .before .word-at .ensures, ne-eqb _ _ (c .if2 .taken), parse))
     (λ c κs. search needs)
     (λ c κs. search needs)
-    (λ c. rw (le-leb _ _ (c .before .before .before .before .if1 .left), ← c .before .before .before .word-at .ensures, eq-eqb _ _ (c .before .before .if2 .left), parse, ← c .before .word-at2 .ensures) (c .of-kind .ensures)))
+    (λ c.
+    let if1′ = c .before .before .before .before .if1 in
+    rw (
+      le-leb _ _ (if1′ .left),
+      ← c .before .before .before .word-at .ensures,
+      eq-eqb _ _
+          (c .before .before .if2 .left),
+      parse,
+      ← c .before .word-at2 .ensures,
+    ) (c .of-kind .ensures)))

@@ -18,4 +18,10 @@ assemble-spec =
     (λ c κs. search needs)
     (λ c. search needs)
     (λ c. search needs)
-    (λ c. assembled (now (c .before .before .before .before .before .before .before .before .args .front)) (now (c .before .before .before .before .before .before .before .before .args .value)) (c .before .before .before .before .copy-front .last .0) (c .before .copy-front2 .last .0) maxFrame (c .before .before .before .before .before .before .before .before .pre) (c .before .before .before .before .copy-front .ensures) (c .before .copy-front2 .ensures) finish))
+    (λ c.
+    let copy-front2′ = c .before .copy-front2 in
+    let copy-front′ = c .before .before .before .before .copy-front in
+    let args′ = c .before .before .before .before .before .before .before .before .args in
+    let pre′ = c .before .before .before .before .before .before .before .before .pre in
+    assembled (now (args′ .front)) (now (args′ .value)) (copy-front′ .last .0) (copy-front2′ .last .0) maxFrame (pre′)
+    (copy-front′ .ensures) (copy-front2′ .ensures) finish))

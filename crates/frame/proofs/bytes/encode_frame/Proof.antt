@@ -26,8 +26,23 @@ encode-frame-spec =
     (λ c κs. search needs)
     (λ c. search needs)
     (λ c κs. rw (c .before .before .before .cut .ensures) (simp length-take (omega arith)))
-    (λ c. c .put-bytes .ensures ∙ ap₂ (λ (x : Head) (v : List ℕ). buffer (encode (frameOf x v))) (sym (c .before .before .head .given .1)) (c .before .before .before .before .cut .ensures))
-    (λ c. c .delete-bytes .ensures ∙ ap₂ (λ (x : Head) (v : List ℕ). buffer (encode (frameOf x v))) (sym (c .before .before .head2 .given .1)) (c .before .before .before .before .cut .ensures))
-    (λ c. c .commit-bytes .ensures ∙ ap₂ (λ (x : Head) (v : List ℕ). buffer (encode (frameOf x v))) (sym (c .before .before .head3 .given .1)) (c .before .before .before .before .cut .ensures))
-    (λ c. c .abort-bytes .ensures ∙ ap₂ (λ (x : Head) (v : List ℕ). buffer (encode (frameOf x v))) (sym (c .before .before .head4 .given .1)) (c .before .before .before .before .cut .ensures))
-    (λ c. c .settled-bytes .ensures ∙ ap₂ (λ (x : Head) (v : List ℕ). buffer (encode (frameOf x v))) (sym (c .before .before .head5 .given .1)) (c .before .before .before .before .cut .ensures)))
+    (λ c.
+    let cut′ = c .before .before .before .before .cut in
+    c .put-bytes .ensures
+    ∙ ap₂ (λ (x : Head) (v : List ℕ). buffer (encode (frameOf x v))) (sym (c .before .before .head .given .1)) (cut′ .ensures))
+    (λ c.
+    let cut′ = c .before .before .before .before .cut in
+    c .delete-bytes .ensures
+    ∙ ap₂ (λ (x : Head) (v : List ℕ). buffer (encode (frameOf x v))) (sym (c .before .before .head2 .given .1)) (cut′ .ensures))
+    (λ c.
+    let cut′ = c .before .before .before .before .cut in
+    c .commit-bytes .ensures
+    ∙ ap₂ (λ (x : Head) (v : List ℕ). buffer (encode (frameOf x v))) (sym (c .before .before .head3 .given .1)) (cut′ .ensures))
+    (λ c.
+    let cut′ = c .before .before .before .before .cut in
+    c .abort-bytes .ensures
+    ∙ ap₂ (λ (x : Head) (v : List ℕ). buffer (encode (frameOf x v))) (sym (c .before .before .head4 .given .1)) (cut′ .ensures))
+    (λ c.
+    let cut′ = c .before .before .before .before .cut in
+    c .settled-bytes .ensures
+    ∙ ap₂ (λ (x : Head) (v : List ℕ). buffer (encode (frameOf x v))) (sym (c .before .before .head5 .given .1)) (cut′ .ensures)))

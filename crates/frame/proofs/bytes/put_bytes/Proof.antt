@@ -10,4 +10,15 @@ use Rattle.frame.proofs.bytes.put_bytes.Tie as tie
 pub put-bytes-spec : {M : Type 1} → statement M
 put-bytes-spec =
     tie.close
-    (tie.spec (λ c. search needs) (λ c. search needs) (λ c. search needs) (λ c. search needs) (λ c. search needs) (λ c κs. search needs) (λ c. c .assemble .ensures ∙ ap buffer (put-front (c .before .before .before .before .before .args .h) (c .before .before .before .before .before .args .i) (now (c .before .before .before .before .before .args .v)) (c .before .before .before .before .before .pre))))
+    (tie.spec
+    (λ c. search needs)
+    (λ c. search needs)
+    (λ c. search needs)
+    (λ c. search needs)
+    (λ c. search needs)
+    (λ c κs. search needs)
+    (λ c.
+    let args′ = c .before .before .before .before .before .args in
+    let pre′ = c .before .before .before .before .before .pre in
+    c .assemble .ensures
+    ∙ ap buffer (put-front (args′ .h) (args′ .i) (now (args′ .v)) (pre′))))

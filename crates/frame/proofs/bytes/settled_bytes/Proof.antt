@@ -10,4 +10,15 @@ use Rattle.frame.proofs.bytes.settled_bytes.Tie as tie
 pub settled-bytes-spec : {M : Type 1} → statement M
 settled-bytes-spec =
     tie.close
-    (tie.spec (λ c. search needs) (λ c. search needs) (λ c. search needs) (λ c. search needs) (λ c. search needs) (λ c κs. search needs) (λ c. c .assemble .ensures ∙ ap buffer (settled-front (c .before .before .before .before .before .args .i) (now (c .before .before .before .before .before .args .v)) (c .before .before .before .before .before .pre))))
+    (tie.spec
+    (λ c. search needs)
+    (λ c. search needs)
+    (λ c. search needs)
+    (λ c. search needs)
+    (λ c. search needs)
+    (λ c κs. search needs)
+    (λ c.
+    let args′ = c .before .before .before .before .before .args in
+    let pre′ = c .before .before .before .before .before .pre in
+    c .assemble .ensures
+    ∙ ap buffer (settled-front (args′ .i) (now (args′ .v)) (pre′))))

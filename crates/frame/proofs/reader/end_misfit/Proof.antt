@@ -16,4 +16,16 @@ end-misfit-spec =
     (λ c κs. search needs)
     (λ c κs. search needs)
     (λ c κs. search needs)
-    (λ c. rw (c .first2 .ensures, c .before .first .ensures, c .before .before .before .before .front-misfit .ensures, c .before .before .before .test-byte .ensures, c .before .before .test-byte2 .ensures) (sym (end-is (now (c .before .before .before .before .before .before .args .t)) (c .before .before .before .before .before .before .pre .0) (c .before .before .before .before .before .before .pre .1) (bytes-of (now (c .before .before .before .before .before .before .args .t)) (λ i. omega (arith, c .before .before .before .before .before .shared-slice-known .given i)))))))
+    (λ c.
+    let front-misfit′ = c .before .before .before .before .front-misfit in
+    let shared-slice-known′ = c .before .before .before .before .before .shared-slice-known in
+    let args′ = c .before .before .before .before .before .before .args in
+    let pre′ = c .before .before .before .before .before .before .pre in
+    rw (
+      c .first2 .ensures,
+      c .before .first .ensures,
+      front-misfit′ .ensures,
+      c .before .before .before .test-byte .ensures,
+      c .before .before .test-byte2 .ensures,
+    ) (sym (end-is (now (args′ .t)) (pre′ .0) (pre′ .1)
+    (bytes-of (now (args′ .t)) (λ i. omega (arith, shared-slice-known′ .given i)))))))

@@ -8,4 +8,13 @@ use Rattle.frame.proofs.reader.first.Statement.{statement}
 use Rattle.frame.proofs.reader.first.Tie as tie
 
 pub first-spec : {M : Type 1} → statement M
-first-spec = tie.close (tie.spec (λ c. search needs) (λ c. search needs) (λ c. sym (ap (λ (x : Misfit). firstMisfit x (c .before .before .args .b)) (c .enum-told .given .1) ∙ first-none (c .before .before .args .b))) (λ c. sym (ap (λ (x : Misfit). firstMisfit x (c .before .before .before .args .b)) (c .before .a .given .1) ∙ first-at (c .before .a .given .0 .0) (c .before .a .given .0 .1 .0) (c .before .a .given .0 .1 .1 .0) (c .before .before .before .args .b))))
+first-spec = tie.close (tie.spec
+    (λ c. search needs)
+    (λ c. search needs)
+    (λ c.
+    let args′ = c .before .before .args in
+    sym (ap (λ (x : Misfit). firstMisfit x (args′ .b)) (c .enum-told .given .1) ∙ first-none (args′ .b)))
+    (λ c.
+    let a′ = c .before .a in
+    let args′ = c .before .before .before .args in
+    sym (ap (λ (x : Misfit). firstMisfit x (args′ .b)) (a′ .given .1) ∙ first-at (a′ .given .0 .0) (a′ .given .0 .1 .0) (a′ .given .0 .1 .1 .0) (args′ .b))))

@@ -12,4 +12,12 @@ front-misfit-spec =
     (λ c κs. search needs)
     (λ c κs. search needs)
     (λ c κs. search needs)
-    (λ c. rw (c .first2 .ensures, c .before .first .ensures, c .before .before .before .before .test-byte .ensures, c .before .before .before .test-byte2 .ensures, c .before .before .test-byte3 .ensures)))
+    (λ c.
+    let test-byte′ = c .before .before .before .before .test-byte in
+    rw (
+      c .first2 .ensures,
+      c .before .first .ensures,
+      test-byte′ .ensures,
+      c .before .before .before .test-byte2 .ensures,
+      c .before .before .test-byte3 .ensures,
+    )))

@@ -24,8 +24,35 @@ head-at-spec =
     (λ c κs. search needs)
     (λ c κs. search needs)
     (λ c. rw (c .match .keys1, c .before .byte-at .ensures))
-    (λ c. rw (c .before .before .before .before .match .keys2, c .less .ensures, c .before .id-of .ensures, c .before .before .before .before .before .byte-at .ensures, c .before .before .before .byte-at2 .ensures, c .before .before .byte-at3 .ensures, put-length (c .before .before .before .before .before .before .before .args .n) (now (c .before .before .before .before .before .before .before .args .t)) (c .before .before .before .before .before .before .before .pre)))
-    (λ c. rw (c .before .before .before .match .keys3, c .id-of2 .ensures, c .before .before .before .before .byte-at .ensures, c .before .before .byte-at4 .ensures, c .before .byte-at5 .ensures))
+    (λ c.
+    let match′ = c .before .before .before .before .match in
+    let byte-at′ = c .before .before .before .before .before .byte-at in
+    let args′ = c .before .before .before .before .before .before .before .args in
+    let pre′ = c .before .before .before .before .before .before .before .pre in
+    rw (
+      match′ .keys2,
+      c .less .ensures,
+      c .before .id-of .ensures,
+      byte-at′ .ensures,
+      c .before .before .before .byte-at2 .ensures,
+      c .before .before .byte-at3 .ensures,
+      put-length (args′ .n) (now (args′ .t)) (pre′),
+    ))
+    (λ c.
+    let byte-at′ = c .before .before .before .before .byte-at in
+    rw (c .before .before .before .match .keys3, c .id-of2 .ensures, byte-at′ .ensures, c .before .before .byte-at4 .ensures, c .before .byte-at5 .ensures))
     (λ c. rw (c .match .keys4, c .before .byte-at .ensures))
     (λ c. rw (c .match .keys5, c .before .byte-at .ensures))
-    (λ c. let h : 5 ≤ c .before .before .before .before .before .before .before .args .k = omega arith in rw (decode-high (c .before .before .before .before .before .before .before .args .k) (c .before .before .before .before .before .before .before .args .n) (now (c .before .before .before .before .before .before .before .args .t)) h, c .less2 .ensures, c .before .id-of3 .ensures, c .before .before .before .byte-at6 .ensures, c .before .before .byte-at7 .ensures, settled-length (c .before .before .before .before .before .before .before .args .n) (now (c .before .before .before .before .before .before .before .args .t)) (c .before .before .before .before .before .before .before .pre))))
+    (λ c.
+    let args′ = c .before .before .before .before .before .before .before .args in
+    let pre′ = c .before .before .before .before .before .before .before .pre in
+    let h : 5 ≤ args′ .k =
+    omega arith in rw (
+      decode-high (args′ .k) (args′ .n)
+          (now (args′ .t)) h,
+      c .less2 .ensures,
+      c .before .id-of3 .ensures,
+      c .before .before .before .byte-at6 .ensures,
+      c .before .before .byte-at7 .ensures,
+      settled-length (args′ .n) (now (args′ .t)) (pre′),
+    )))

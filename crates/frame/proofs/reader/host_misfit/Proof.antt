@@ -14,4 +14,20 @@ use Rattle.frame.proofs.reader.host_misfit.Tie as tie
 pub host-misfit-spec : {M : Type 1} → statement M
 host-misfit-spec =
     tie.close
-    (tie.spec (λ c κs. search needs) (λ c. c .end-misfit .ensures ∙ sym (host-end (c .before .before .before .args .n) (now (c .before .before .before .args .t)) (c .before .if1 .taken))) (λ c. sym (host-none (c .before .before .before .args .n) (now (c .before .before .before .args .t)) (c .before .if1 .left) (λ lo hi. omega (arith, c .if2 .taken)))) (λ c. sym (host-none (c .before .before .before .before .args .n) (now (c .before .before .before .before .args .t)) (c .before .before .if1 .left) (λ lo hi. omega (arith, c .if3 .taken)))) (λ c κs. search needs) (λ c. c .change-misfit .ensures ∙ sym (ap (λ (ps : List Slot). misfitFrom 0 ps (now (c .before .before .before .before .before .args .t))) (slots-change (c .before .before .before .before .before .args .n) (c .before .before .if2 .left) (c .before .if3 .left)))))
+    (tie.spec
+    (λ c κs. search needs)
+    (λ c.
+    let args′ = c .before .before .before .args in
+    c .end-misfit .ensures
+    ∙ sym (host-end (args′ .n) (now (args′ .t)) (c .before .if1 .taken)))
+    (λ c.
+    let args′ = c .before .before .before .args in
+    sym (host-none (args′ .n) (now (args′ .t)) (c .before .if1 .left) (λ lo hi. omega (arith, c .if2 .taken))))
+    (λ c.
+    let args′ = c .before .before .before .before .args in
+    sym (host-none (args′ .n) (now (args′ .t)) (c .before .before .if1 .left) (λ lo hi. omega (arith, c .if3 .taken))))
+    (λ c κs. search needs)
+    (λ c.
+    let args′ = c .before .before .before .before .before .args in
+    c .change-misfit .ensures
+    ∙ sym (ap (λ (ps : List Slot). misfitFrom 0 ps (now (args′ .t))) (slots-change (args′ .n) (c .before .before .if2 .left) (c .before .if3 .left)))))

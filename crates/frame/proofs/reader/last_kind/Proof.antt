@@ -5,4 +5,6 @@ use Rattle.frame.proofs.reader.last_kind.Statement.{statement}
 use Rattle.frame.proofs.reader.last_kind.Tie as tie
 
 pub last-kind-spec : {M : Type 1} → statement M
-last-kind-spec = tie.close (tie.spec (λ c. rw (eq-eqb (c .before .args .n) deleteLen (c .if1 .taken))) (λ c. rw (ne-eqb (c .before .args .n) deleteLen (c .if1 .left))))
+last-kind-spec = tie.close (tie.spec
+    (λ c. rw (eq-eqb (c .before .args .n) deleteLen (c .if1 .taken)))
+    (λ c. rw (ne-eqb (c .before .args .n) deleteLen (c .if1 .left))))

@@ -23,8 +23,38 @@ read-frame-spec =
     (λ c. search needs)
     (λ c. search needs)
     (λ c. search needs)
-    (λ c. let q : PlacedIn 0 (length (drop (c .before .before .before .before .before .before .before .args .at) (now (c .before .before .before .before .before .before .before .args .block)))) (c .before .before .e .given .0 .0) = fault-placed (c .before .before .before .before .before .before .before .args .next) 0 (drop (c .before .before .before .before .before .before .before .args .at) (now (c .before .before .before .before .before .before .before .args .block))) (c .before .before .e .given .0 .0) (wrong-read (readFrame (c .before .before .before .before .before .before .before .args .next) 0 (drop (c .before .before .before .before .before .before .before .args .at) (now (c .before .before .before .before .before .before .before .args .block)))) (c .before .before .e .given .0 .0) (ap (λ (x : List ℕ). readOf (readFrame (c .before .before .before .before .before .before .before .args .next) 0 x)) (sym (c .before .before .before .before .before .rest .ensures)) ∙ sym (c .before .before .before .before .read-front .ensures) ∙ c .before .before .e .given .1)) in omega (arith, q .1, length-drop (c .before .before .before .before .before .before .before .args .at) (now (c .before .before .before .before .before .before .before .args .block)), c .before .before .before .before .before .before .before .good))
-    (λ c. sym (shift-read (c .before .before .before .before .before .args .next) (c .before .before .before .before .before .args .at) (drop (c .before .before .before .before .before .args .at) (now (c .before .before .before .before .before .args .block))) ∙ ap (shiftRead (c .before .before .before .before .before .args .at)) (ap (λ (x : List ℕ). readOf (readFrame (c .before .before .before .before .before .args .next) 0 x)) (sym (c .before .before .before .rest .ensures)) ∙ sym (c .before .before .read-front .ensures) ∙ c .enum-told .given .1)))
-    (λ c. sym (shift-read (c .before .before .before .before .before .before .args .next) (c .before .before .before .before .before .before .args .at) (drop (c .before .before .before .before .before .before .args .at) (now (c .before .before .before .before .before .before .args .block))) ∙ ap (shiftRead (c .before .before .before .before .before .before .args .at)) (ap (λ (x : List ℕ). readOf (readFrame (c .before .before .before .before .before .before .args .next) 0 x)) (sym (c .before .before .before .before .rest .ensures)) ∙ sym (c .before .before .before .read-front .ensures) ∙ c .before .h .given .1)))
-    (λ c. sym (shift-read (c .before .before .before .before .before .before .args .next) (c .before .before .before .before .before .before .args .at) (drop (c .before .before .before .before .before .before .args .at) (now (c .before .before .before .before .before .before .args .block))) ∙ ap (shiftRead (c .before .before .before .before .before .before .args .at)) (ap (λ (x : List ℕ). readOf (readFrame (c .before .before .before .before .before .before .args .next) 0 x)) (sym (c .before .before .before .before .rest .ensures)) ∙ sym (c .before .before .before .read-front .ensures) ∙ c .before .n .given .1)))
-    (λ c. sym (shift-read (c .before .before .before .before .before .before .before .args .next) (c .before .before .before .before .before .before .before .args .at) (drop (c .before .before .before .before .before .before .before .args .at) (now (c .before .before .before .before .before .before .before .args .block))) ∙ ap (shiftRead (c .before .before .before .before .before .before .before .args .at)) (ap (λ (x : List ℕ). readOf (readFrame (c .before .before .before .before .before .before .before .args .next) 0 x)) (sym (c .before .before .before .before .before .rest .ensures)) ∙ sym (c .before .before .before .before .read-front .ensures) ∙ c .before .before .e .given .1))))
+    (λ c.
+    let e′ = c .before .before .e in
+    let read-front′ = c .before .before .before .before .read-front in
+    let rest′ = c .before .before .before .before .before .rest in
+    let args′ = c .before .before .before .before .before .before .before .args in
+    let good′ = c .before .before .before .before .before .before .before .good in
+    let q : PlacedIn 0 (length (drop (args′ .at) (now (args′ .block)))) (e′ .given .0 .0) = fault-placed (args′ .next) 0
+    (drop (args′ .at) (now (args′ .block))) (e′ .given .0 .0)
+    (wrong-read (readFrame (args′ .next) 0 (drop (args′ .at) (now (args′ .block)))) (e′ .given .0 .0)
+    (ap (λ (x : List ℕ). readOf (readFrame (args′ .next) 0 x)) (sym (rest′ .ensures)) ∙ sym (read-front′ .ensures) ∙ e′ .given .1)) in omega
+    (arith, q .1, length-drop (args′ .at) (now (args′ .block)), good′))
+    (λ c.
+    let args′ = c .before .before .before .before .before .args in
+    sym (shift-read (args′ .next) (args′ .at) (drop (args′ .at) (now (args′ .block)))
+    ∙ ap (shiftRead (args′ .at)) (ap (λ (x : List ℕ). readOf (readFrame (args′ .next) 0 x)) (sym (c .before .before .before .rest .ensures))
+    ∙ sym (c .before .before .read-front .ensures) ∙ c .enum-told .given .1)))
+    (λ c.
+    let rest′ = c .before .before .before .before .rest in
+    let args′ = c .before .before .before .before .before .before .args in
+    sym (shift-read (args′ .next) (args′ .at) (drop (args′ .at) (now (args′ .block)))
+    ∙ ap (shiftRead (args′ .at)) (ap (λ (x : List ℕ). readOf (readFrame (args′ .next) 0 x)) (sym (rest′ .ensures))
+    ∙ sym (c .before .before .before .read-front .ensures) ∙ c .before .h .given .1)))
+    (λ c.
+    let rest′ = c .before .before .before .before .rest in
+    let args′ = c .before .before .before .before .before .before .args in
+    sym (shift-read (args′ .next) (args′ .at) (drop (args′ .at) (now (args′ .block)))
+    ∙ ap (shiftRead (args′ .at)) (ap (λ (x : List ℕ). readOf (readFrame (args′ .next) 0 x)) (sym (rest′ .ensures))
+    ∙ sym (c .before .before .before .read-front .ensures) ∙ c .before .n .given .1)))
+    (λ c.
+    let read-front′ = c .before .before .before .before .read-front in
+    let rest′ = c .before .before .before .before .before .rest in
+    let args′ = c .before .before .before .before .before .before .before .args in
+    sym (shift-read (args′ .next) (args′ .at) (drop (args′ .at) (now (args′ .block)))
+    ∙ ap (shiftRead (args′ .at)) (ap (λ (x : List ℕ). readOf (readFrame (args′ .next) 0 x)) (sym (rest′ .ensures))
+    ∙ sym (read-front′ .ensures) ∙ c .before .before .e .given .1))))

@@ -17,13 +17,49 @@ read-front-spec =
     tie.close
     (tie.spec
     (λ c κs. search needs)
-    (λ c. sym (ap readOf (read-ff (c .before .before .before .args .next) 0 (now (c .before .before .before .args .t)) (sym (c .before .is-blank .ensures) ∙ c .if1 .taken))))
+    (λ c.
+    let args′ = c .before .before .before .args in
+    sym (ap readOf (read-ff (args′ .next) 0 (now (args′ .t)) (sym (c .before .is-blank .ensures) ∙ c .if1 .taken))))
     (λ c κs. search needs)
     (λ c. search needs)
-    (λ c. sym (ap readOf (read-short (c .before .before .before .before .before .args .next) 0 (now (c .before .before .before .before .before .args .t)) (sym (c .before .before .before .is-blank .ensures) ∙ c .before .before .if1 .left) (lt-leb (getD (now (c .before .before .before .before .before .args .t)) 0 0) (length (now (c .before .before .before .before .before .args .t))) (omega (arith, c .before .byte-at .ensures, c .if2 .taken))))))
+    (λ c.
+    let args′ = c .before .before .before .before .before .args in
+    sym (ap readOf (read-short (args′ .next) 0 (now (args′ .t))
+    (sym (c .before .before .before .is-blank .ensures) ∙ c .before .before .if1 .left)
+    (lt-leb (getD (now (args′ .t)) 0 0) (length (now (args′ .t))) (omega (arith, c .before .byte-at .ensures, c .if2 .taken))))))
     (λ c κs. search needs)
     (λ c κs. search needs)
-    (λ c κs. (c .before .before .before .before .byte-at .ensures, only-size (c .before .before .before .before .before .before .before .before .args .next) (c .before .before .before .before .byte-at .result) (c .before .before .byte-at2 .result) (sym (c .before .only-settled .ensures) ∙ c .if3 .taken) .0, c .before .before .before .if2 .left))
-    (λ c. c .read-settled .ensures ∙ sym (front-settled (c .before .before .before .before .before .before .before .before .before .args .next) (c .before .before .before .before .before .byte-at .result) (c .before .before .before .byte-at2 .result) (now (c .before .before .before .before .before .before .before .before .before .args .t)) (c .before .before .before .before .before .byte-at .ensures) (c .before .before .before .byte-at2 .ensures) (sym (c .before .before .before .before .before .before .before .is-blank .ensures) ∙ c .before .before .before .before .before .before .if1 .left) (c .before .before .before .before .if2 .left) (sym (c .before .before .only-settled .ensures) ∙ c .before .if3 .taken)))
-    (λ c κs. (c .before .before .before .before .byte-at .ensures, c .before .before .before .if2 .left, not-empty (now (c .before .before .before .before .before .before .before .before .args .t)) (sym (c .before .before .before .before .before .before .is-blank .ensures) ∙ c .before .before .before .before .before .if1 .left)))
-    (λ c. c .read-of-host .ensures ∙ sym (front-host (c .before .before .before .before .before .before .before .before .before .args .next) (c .before .before .before .before .before .byte-at .result) (c .before .before .before .byte-at2 .result) (now (c .before .before .before .before .before .before .before .before .before .args .t)) (c .before .before .before .before .before .byte-at .ensures) (c .before .before .before .byte-at2 .ensures) (sym (c .before .before .before .before .before .before .before .is-blank .ensures) ∙ c .before .before .before .before .before .before .if1 .left) (c .before .before .before .before .if2 .left) (sym (c .before .before .only-settled .ensures) ∙ c .before .if3 .left))))
+    (λ c κs.
+    let byte-at′ = c .before .before .before .before .byte-at in
+    let args′ = c .before .before .before .before .before .before .before .before .args in (
+      byte-at′ .ensures,
+      only-size (args′ .next) (byte-at′ .result) (c .before .before .byte-at2 .result)
+          (sym (c .before .only-settled .ensures) ∙ c .if3 .taken) .0,
+      c .before .before .before .if2 .left,
+    ))
+    (λ c.
+    let byte-at2′ = c .before .before .before .byte-at2 in
+    let if2′ = c .before .before .before .before .if2 in
+    let byte-at′ = c .before .before .before .before .before .byte-at in
+    let if1′ = c .before .before .before .before .before .before .if1 in
+    let is-blank′ = c .before .before .before .before .before .before .before .is-blank in
+    let args′ = c .before .before .before .before .before .before .before .before .before .args in
+    c .read-settled .ensures
+    ∙ sym (front-settled (args′ .next) (byte-at′ .result) (byte-at2′ .result) (now (args′ .t)) (byte-at′ .ensures) (byte-at2′ .ensures)
+    (sym (is-blank′ .ensures) ∙ if1′ .left) (if2′ .left) (sym (c .before .before .only-settled .ensures) ∙ c .before .if3 .taken)))
+    (λ c κs.
+    let byte-at′ = c .before .before .before .before .byte-at in
+    let if1′ = c .before .before .before .before .before .if1 in
+    let is-blank′ = c .before .before .before .before .before .before .is-blank in
+    let args′ = c .before .before .before .before .before .before .before .before .args in
+    (byte-at′ .ensures, c .before .before .before .if2 .left, not-empty (now (args′ .t)) (sym (is-blank′ .ensures) ∙ if1′ .left)))
+    (λ c.
+    let byte-at2′ = c .before .before .before .byte-at2 in
+    let if2′ = c .before .before .before .before .if2 in
+    let byte-at′ = c .before .before .before .before .before .byte-at in
+    let if1′ = c .before .before .before .before .before .before .if1 in
+    let is-blank′ = c .before .before .before .before .before .before .before .is-blank in
+    let args′ = c .before .before .before .before .before .before .before .before .before .args in
+    c .read-of-host .ensures
+    ∙ sym (front-host (args′ .next) (byte-at′ .result) (byte-at2′ .result) (now (args′ .t)) (byte-at′ .ensures) (byte-at2′ .ensures)
+    (sym (is-blank′ .ensures) ∙ if1′ .left) (if2′ .left) (sym (c .before .before .only-settled .ensures) ∙ c .before .if3 .left))))

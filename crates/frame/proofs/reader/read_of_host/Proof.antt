@@ -20,6 +20,27 @@ read-of-host-spec =
     (λ c. search needs)
     (λ c κs. search needs)
     (λ c κs. search needs)
-    (λ c. sym (host-read (c .before .before .before .before .before .before .before .before .args .n) (decode (c .before .before .before .before .before .before .before .before .args .k) (c .before .before .before .before .before .before .before .before .args .n) (now (c .before .before .before .before .before .before .before .before .args .t))) (now (c .before .before .before .before .before .before .before .before .args .t)) (c .before .before .before .before .before .before .before .before .pre .1) (c .before .before .before .before .before .before .before .before .pre .2) ∙ ap (hostRead (c .before .before .before .before .before .before .before .before .args .n) (decode (c .before .before .before .before .before .before .before .before .args .k) (c .before .before .before .before .before .before .before .before .args .n) (now (c .before .before .before .before .before .before .before .before .args .t))) (now (c .before .before .before .before .before .before .before .before .args .t))) (sym (c .before .before .before .before .before .before .host-misfit .ensures) ∙ c .before .before .before .before .o .given .1) ∙ ap (λ (x : Bool). cutOff x (c .before .before .before .before .before .before .before .before .args .n) (c .before .before .before .before .o .given .0 .1 .0) (c .before .before .before .before .o .given .0 .1 .1 .0)) (ap allFF (sym (c .before .before .rest .ensures)) ∙ sym (c .before .is-blank .ensures) ∙ c .if1 .taken)))
-    (λ c. sym (host-read (c .before .before .before .before .before .args .n) (decode (c .before .before .before .before .before .args .k) (c .before .before .before .before .before .args .n) (now (c .before .before .before .before .before .args .t))) (now (c .before .before .before .before .before .args .t)) (c .before .before .before .before .before .pre .1) (c .before .before .before .before .before .pre .2) ∙ ap (hostRead (c .before .before .before .before .before .args .n) (decode (c .before .before .before .before .before .args .k) (c .before .before .before .before .before .args .n) (now (c .before .before .before .before .before .args .t))) (now (c .before .before .before .before .before .args .t))) (sym (c .before .before .before .host-misfit .ensures) ∙ c .before .enum-told .given .1) ∙ ap read.Whole (sym (c .head-at .ensures))))
-    (λ c. sym (host-read (c .before .before .before .before .before .before .before .before .args .n) (decode (c .before .before .before .before .before .before .before .before .args .k) (c .before .before .before .before .before .before .before .before .args .n) (now (c .before .before .before .before .before .before .before .before .args .t))) (now (c .before .before .before .before .before .before .before .before .args .t)) (c .before .before .before .before .before .before .before .before .pre .1) (c .before .before .before .before .before .before .before .before .pre .2) ∙ ap (hostRead (c .before .before .before .before .before .before .before .before .args .n) (decode (c .before .before .before .before .before .before .before .before .args .k) (c .before .before .before .before .before .before .before .before .args .n) (now (c .before .before .before .before .before .before .before .before .args .t))) (now (c .before .before .before .before .before .before .before .before .args .t))) (sym (c .before .before .before .before .before .before .host-misfit .ensures) ∙ c .before .before .before .before .o .given .1) ∙ ap (λ (x : Bool). cutOff x (c .before .before .before .before .before .before .before .before .args .n) (c .before .before .before .before .o .given .0 .1 .0) (c .before .before .before .before .o .given .0 .1 .1 .0)) (ap allFF (sym (c .before .before .rest .ensures)) ∙ sym (c .before .is-blank .ensures) ∙ c .if1 .left))))
+    (λ c.
+    let o′ = c .before .before .before .before .o in
+    let host-misfit′ = c .before .before .before .before .before .before .host-misfit in
+    let args′ = c .before .before .before .before .before .before .before .before .args in
+    let pre′ = c .before .before .before .before .before .before .before .before .pre in
+    sym (host-read (args′ .n) (decode (args′ .k) (args′ .n) (now (args′ .t))) (now (args′ .t)) (pre′ .1) (pre′ .2)
+    ∙ ap (hostRead (args′ .n) (decode (args′ .k) (args′ .n) (now (args′ .t))) (now (args′ .t))) (sym (host-misfit′ .ensures) ∙ o′ .given .1)
+    ∙ ap (λ (x : Bool). cutOff x (args′ .n) (o′ .given .0 .1 .0) (o′ .given .0 .1 .1 .0))
+    (ap allFF (sym (c .before .before .rest .ensures)) ∙ sym (c .before .is-blank .ensures) ∙ c .if1 .taken)))
+    (λ c.
+    let args′ = c .before .before .before .before .before .args in
+    let pre′ = c .before .before .before .before .before .pre in
+    sym (host-read (args′ .n) (decode (args′ .k) (args′ .n) (now (args′ .t))) (now (args′ .t)) (pre′ .1) (pre′ .2)
+    ∙ ap (hostRead (args′ .n) (decode (args′ .k) (args′ .n) (now (args′ .t))) (now (args′ .t)))
+    (sym (c .before .before .before .host-misfit .ensures) ∙ c .before .enum-told .given .1) ∙ ap read.Whole (sym (c .head-at .ensures))))
+    (λ c.
+    let o′ = c .before .before .before .before .o in
+    let host-misfit′ = c .before .before .before .before .before .before .host-misfit in
+    let args′ = c .before .before .before .before .before .before .before .before .args in
+    let pre′ = c .before .before .before .before .before .before .before .before .pre in
+    sym (host-read (args′ .n) (decode (args′ .k) (args′ .n) (now (args′ .t))) (now (args′ .t)) (pre′ .1) (pre′ .2)
+    ∙ ap (hostRead (args′ .n) (decode (args′ .k) (args′ .n) (now (args′ .t))) (now (args′ .t))) (sym (host-misfit′ .ensures) ∙ o′ .given .1)
+    ∙ ap (λ (x : Bool). cutOff x (args′ .n) (o′ .given .0 .1 .0) (o′ .given .0 .1 .1 .0))
+    (ap allFF (sym (c .before .before .rest .ensures)) ∙ sym (c .before .is-blank .ensures) ∙ c .if1 .left))))

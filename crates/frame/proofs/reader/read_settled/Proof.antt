@@ -11,4 +11,19 @@ use Rattle.frame.proofs.reader.read_settled.Tie as tie
 pub read-settled-spec : {M : Type 1} → statement M
 read-settled-spec =
     tie.close
-    (tie.spec (λ c κs. search needs) (λ c. search needs) (λ c κs. search needs) (λ c. search needs) (λ c. sym (settled-read (decode 5 (c .before .before .before .before .before .args .n) (now (c .before .before .before .before .before .args .t))) (settledSlots (c .before .before .before .before .before .args .next) (c .before .before .before .before .before .args .n)) (now (c .before .before .before .before .before .args .t)) ∙ ap (settledRead (decode 5 (c .before .before .before .before .before .args .n) (now (c .before .before .before .before .before .args .t)))) (sym (c .before .before .before .settled-misfit .ensures) ∙ c .before .enum-told .given .1) ∙ ap read.Whole (sym (c .head-at .ensures)))) (λ c. sym (settled-read (decode 5 (c .before .before .before .before .before .args .n) (now (c .before .before .before .before .before .args .t))) (settledSlots (c .before .before .before .before .before .args .next) (c .before .before .before .before .before .args .n)) (now (c .before .before .before .before .before .args .t)) ∙ ap (settledRead (decode 5 (c .before .before .before .before .before .args .n) (now (c .before .before .before .before .before .args .t)))) (sym (c .before .before .before .settled-misfit .ensures) ∙ c .before .f .given .1))))
+    (tie.spec
+    (λ c κs. search needs)
+    (λ c. search needs)
+    (λ c κs. search needs)
+    (λ c. search needs)
+    (λ c.
+    let args′ = c .before .before .before .before .before .args in
+    sym (settled-read (decode 5 (args′ .n) (now (args′ .t))) (settledSlots (args′ .next) (args′ .n)) (now (args′ .t))
+    ∙ ap (settledRead (decode 5 (args′ .n) (now (args′ .t))))
+    (sym (c .before .before .before .settled-misfit .ensures) ∙ c .before .enum-told .given .1)
+    ∙ ap read.Whole (sym (c .head-at .ensures))))
+    (λ c.
+    let args′ = c .before .before .before .before .before .args in
+    sym (settled-read (decode 5 (args′ .n) (now (args′ .t))) (settledSlots (args′ .next) (args′ .n)) (now (args′ .t))
+    ∙ ap (settledRead (decode 5 (args′ .n) (now (args′ .t))))
+    (sym (c .before .before .before .settled-misfit .ensures) ∙ c .before .f .given .1))))

@@ -14,8 +14,13 @@ rest-spec =
     tie.close
     (tie.spec
     (λ c. search needs)
-    (λ c. sym (drop-of-length-le (now (c .before .before .args .t)) {i = c .before .before .args .o} (omega (arith, c .before .if1 .taken))))
+    (λ c.
+    let args′ = c .before .before .args in
+    sym (drop-of-length-le (now (args′ .t)) {i = args′ .o} (omega (arith, c .before .if1 .taken))))
     (λ c. search needs)
     (λ c. search needs)
     (λ c. search needs)
-    (λ c. take-all (length (now (c .before .before .args .t)) - c .before .before .args .o) (drop (c .before .before .args .o) (now (c .before .before .args .t))) (omega (arith, length-drop (c .before .before .args .o) (now (c .before .before .args .t))))))
+    (λ c.
+    let args′ = c .before .before .args in
+    take-all (length (now (args′ .t)) - args′ .o) (drop (args′ .o) (now (args′ .t)))
+    (omega (arith, length-drop (args′ .o) (now (args′ .t))))))

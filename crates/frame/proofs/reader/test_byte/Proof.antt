@@ -10,4 +10,19 @@ use Rattle.frame.proofs.reader.test_byte.Statement.{statement}
 use Rattle.frame.proofs.reader.test_byte.Tie as tie
 
 pub test-byte-spec : {M : Type 1} → statement M
-test-byte-spec = tie.close (tie.spec (λ c κs. search needs) (λ c. search needs) (λ c. sym (one-below (c .before .before .before .args .o) (slot (c .before .before .before .args .field) (c .before .before .before .args .start) (c .before .before .before .args .lo) (c .before .before .before .args .hi)) (getD (now (c .before .before .before .args .t)) (c .before .before .before .args .o) 0) (omega (arith, c .before .byte-at .ensures)))) (λ c. sym (one-above (c .before .before .before .before .args .o) (slot (c .before .before .before .before .args .field) (c .before .before .before .before .args .start) (c .before .before .before .before .args .lo) (c .before .before .before .before .args .hi)) (getD (now (c .before .before .before .before .args .t)) (c .before .before .before .before .args .o) 0) (omega (arith, c .before .before .byte-at .ensures)))) (λ c. sym (one-between (c .before .before .before .before .args .o) (slot (c .before .before .before .before .args .field) (c .before .before .before .before .args .start) (c .before .before .before .before .args .lo) (c .before .before .before .before .args .hi)) (getD (now (c .before .before .before .before .args .t)) (c .before .before .before .before .args .o) 0) (omega (arith, c .before .before .byte-at .ensures)) (omega (arith, c .before .before .byte-at .ensures)))))
+test-byte-spec = tie.close (tie.spec
+    (λ c κs. search needs)
+    (λ c. search needs)
+    (λ c.
+    let args′ = c .before .before .before .args in
+    sym (one-below (args′ .o) (slot (args′ .field) (args′ .start) (args′ .lo) (args′ .hi)) (getD (now (args′ .t)) (args′ .o) 0)
+    (omega (arith, c .before .byte-at .ensures))))
+    (λ c.
+    let args′ = c .before .before .before .before .args in
+    sym (one-above (args′ .o) (slot (args′ .field) (args′ .start) (args′ .lo) (args′ .hi)) (getD (now (args′ .t)) (args′ .o) 0)
+    (omega (arith, c .before .before .byte-at .ensures))))
+    (λ c.
+    let byte-at′ = c .before .before .byte-at in
+    let args′ = c .before .before .before .before .args in
+    sym (one-between (args′ .o) (slot (args′ .field) (args′ .start) (args′ .lo) (args′ .hi)) (getD (now (args′ .t)) (args′ .o) 0)
+    (omega (arith, byte-at′ .ensures)) (omega (arith, byte-at′ .ensures)))))

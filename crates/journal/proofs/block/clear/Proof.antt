@@ -28,6 +28,13 @@ clear-spec =
     (λ c. search needs)
     (λ c. search needs)
     (λ c. search needs)
-    (λ c. (rw (c .before .loop .inv .0) (fill-more (c .before .loop .i) 0 (now (c .before .before .args .places)) (omega arith)), omega arith, simp length-set (omega arith)))
+    (λ c.
+    let loop′ = c .before .loop in
+    (rw (loop′ .inv .0) (fill-more (loop′ .i) 0 (now (c .before .before .args .places)) (omega arith)), omega arith, simp length-set (omega arith)))
     (λ c. search needs)
-    (λ c. let z : c .before .loop .i ≡ length (now (c .before .before .args .places)) = omega arith in let y : length (now (c .before .before .args .places)) ≤ c .before .loop .i = omega arith in c .before .loop .inv .0 ∙ rw (drop-of-length-le (now (c .before .before .args .places)) y, z) (append-nil {A = ℕ} (replicate (length (now (c .before .before .args .places))) 0))))
+    (λ c.
+    let loop′ = c .before .loop in
+    let args′ = c .before .before .args in
+    let z : loop′ .i ≡ length (now (args′ .places)) = omega arith in let y : length
+    (now (args′ .places)) ≤ loop′ .i = omega arith in loop′ .inv .0
+    ∙ rw (drop-of-length-le (now (args′ .places)) y, z) (append-nil {A = ℕ} (replicate (length (now (args′ .places))) 0))))

@@ -6,4 +6,7 @@ use Rattle.journal.proofs.block.found.Tie as tie
 
 pub found-spec : {M : Type 1} → statement M
 unfolding foundSurvey
-found-spec = tie.close (tie.spec (λ c κs. search needs) (λ c κs. search needs) (λ c. rw (c .created .ensures, c .before .before .before .tally .ensures)))
+found-spec = tie.close (tie.spec
+    (λ c κs. search needs)
+    (λ c κs. search needs)
+    (λ c. rw (c .created .ensures, c .before .before .before .tally .ensures)))

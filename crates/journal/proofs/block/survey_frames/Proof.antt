@@ -16,12 +16,37 @@ survey-frames-spec =
     (λ c κs. search needs)
     (λ c. search needs)
     (λ c κs. search needs)
-    (λ c. right-clean (now (c .before .before .before .before .before .before .before .before .args .block)) (c .before .before .before .before .before .before .before .before .pre .0) (c .before .before .before .before .before .walk .result) _ _ (c .before .before .before .before .before .walk .ensures .0) (c .before .before .before .before .before .walk .ensures .1) (c .before .before .enum-told .given .1) (c .found .ensures))
+    (λ c.
+    let walk′ = c .before .before .before .before .before .walk in
+    let args′ = c .before .before .before .before .before .before .before .before .args in
+    let pre′ = c .before .before .before .before .before .before .before .before .pre in
+    right-clean (now (args′ .block)) (pre′ .0) (walk′ .result) _ _ (walk′ .ensures .0) (walk′ .ensures .1)
+    (c .before .before .enum-told .given .1) (c .found .ensures))
     (λ c. search needs)
-    (λ c. omega (arith, cut-fits (now (c .before .before .before .before .before .before .before .before .args .block)) (c .before .before .before .before .before .before .before .before .pre .0) (c .before .before .before .before .before .walk .result) _ (emptySurvey kind.Blank) (c .before .before .before .before .before .walk .ensures .0) (c .before .before .before .before .before .walk .ensures .1) _ (c .before .before .tail .given .1), c .before .before .before .before .before .before .before .before .pre))
+    (λ c.
+    let walk′ = c .before .before .before .before .before .walk in
+    let args′ = c .before .before .before .before .before .before .before .before .args in
+    let pre′ = c .before .before .before .before .before .before .before .before .pre in
+    omega (
+      arith,
+      cut-fits (now (args′ .block)) (pre′ .0) (walk′ .result) _ (emptySurvey kind.Blank) (walk′ .ensures .0)
+          (walk′ .ensures .1) _ (c .before .before .tail .given .1),
+      pre′,
+    ))
     (λ c κs. search needs)
-    (λ c. right-cut (now (c .before .before .before .before .before .before .before .before .before .args .block)) (c .before .before .before .before .before .before .before .before .before .pre .0) (c .before .before .before .before .before .before .walk .result) _ _ (c .before .before .before .before .before .before .walk .ensures .0) (c .before .before .before .before .before .before .walk .ensures .1) _ (c .before .before .before .tail .given .1) (c .found2 .ensures))
+    (λ c.
+    let walk′ = c .before .before .before .before .before .before .walk in
+    let args′ = c .before .before .before .before .before .before .before .before .before .args in
+    let pre′ = c .before .before .before .before .before .before .before .before .before .pre in
+    right-cut (now (args′ .block)) (pre′ .0) (walk′ .result) _ _ (walk′ .ensures .0) (walk′ .ensures .1) _
+    (c .before .before .before .tail .given .1) (c .found2 .ensures))
     (λ c. search needs)
     (λ c κs. search needs)
     (λ c κs. search needs)
-    (λ c. right-bad (now (c .before .before .before .before .before .before .before .before .before .before .args .block)) (c .before .before .before .before .before .before .before .before .before .before .pre .0) (c .before .before .before .before .before .before .before .walk .result) _ _ (c .before .before .before .before .before .before .before .walk .ensures .0) (c .before .before .before .before .before .before .before .walk .ensures .1) _ _ (c .before .before .before .before .tail2 .given .1) (c .empty .ensures) (c .before .clear .ensures ∙ no-places-of _ (c .before .before .clear-arg .given .0 .1))))
+    (λ c.
+    let tail2′ = c .before .before .before .before .tail2 in
+    let walk′ = c .before .before .before .before .before .before .before .walk in
+    let args′ = c .before .before .before .before .before .before .before .before .before .before .args in
+    let pre′ = c .before .before .before .before .before .before .before .before .before .before .pre in
+    right-bad (now (args′ .block)) (pre′ .0) (walk′ .result) _ _ (walk′ .ensures .0) (walk′ .ensures .1) _ _ (tail2′ .given .1)
+    (c .empty .ensures) (c .before .clear .ensures ∙ no-places-of _ (c .before .before .clear-arg .given .0 .1))))

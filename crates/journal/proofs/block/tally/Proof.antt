@@ -15,7 +15,10 @@ use Rattle.journal.proofs.block.tally.Statement.{statement}
 use Rattle.journal.proofs.block.tally.Tie as tie
 
 abbrev Inv-loop : tie.InvT-loop
-Inv-loop block places i₀ count₀ used₀ i count used = (count + length (settledAt block places (256 - i) i) ≡ length (settledAt block places 256 0)) × (used + total (settledAt block places (256 - i) i) ≡ 16 + total (settledAt block places 256 0)) × (i ≤ 256) × (count ≤ i) × (used ≤ 16 + 71 * i)
+Inv-loop block places i₀ count₀ used₀ i count used =
+    (count + length (settledAt block places (256 - i) i) ≡ length (settledAt block places 256 0))
+    × (used + total (settledAt block places (256 - i) i) ≡ 16 + total (settledAt block places 256 0)) × (i ≤ 256) × (count ≤ i)
+    × (used ≤ 16 + 71 * i)
 
 abbrev μ-loop : tie.MeasureT-loop
 μ-loop block places i₀ count₀ used₀ i count used = 256 - i
@@ -34,13 +37,54 @@ tally-spec =
     (λ c. search needs)
     (λ c. search needs)
     (λ c. search needs)
-    (λ c. omega (arith, tally-yes (now (c .before .before .before .before .before .before .before .before .args .block)) (now (c .before .before .before .before .before .before .before .before .args .places)) (c .before .before .before .before .before .before .loop .i) (c .before .before .before .before .before .loop-test .taken) _ _ (sym (c .before .before .before .value-at .ensures) ∙ c .before .n .given .1)))
-    (λ c. omega (arith, tally-yes (now (c .before .before .before .before .before .before .before .before .args .block)) (now (c .before .before .before .before .before .before .before .before .args .places)) (c .before .before .before .before .before .before .loop .i) (c .before .before .before .before .before .loop-test .taken) _ _ (sym (c .before .before .before .value-at .ensures) ∙ c .before .n .given .1)))
-    (λ c. omega (arith, tally-yes (now (c .before .before .before .before .before .before .before .before .args .block)) (now (c .before .before .before .before .before .before .before .before .args .places)) (c .before .before .before .before .before .before .loop .i) (c .before .before .before .before .before .loop-test .taken) _ _ (sym (c .before .before .before .value-at .ensures) ∙ c .before .n .given .1)))
+    (λ c.
+    let loop-test′ = c .before .before .before .before .before .loop-test in
+    let loop′ = c .before .before .before .before .before .before .loop in
+    let args′ = c .before .before .before .before .before .before .before .before .args in
+    omega (
+      arith,
+      tally-yes (now (args′ .block)) (now (args′ .places)) (loop′ .i) (loop-test′ .taken) _ _
+          (sym (c .before .before .before .value-at .ensures) ∙ c .before .n .given .1),
+    ))
+    (λ c.
+    let loop-test′ = c .before .before .before .before .before .loop-test in
+    let loop′ = c .before .before .before .before .before .before .loop in
+    let args′ = c .before .before .before .before .before .before .before .before .args in
+    omega (
+      arith,
+      tally-yes (now (args′ .block)) (now (args′ .places)) (loop′ .i) (loop-test′ .taken) _ _
+          (sym (c .before .before .before .value-at .ensures) ∙ c .before .n .given .1),
+    ))
+    (λ c.
+    let loop-test′ = c .before .before .before .before .before .loop-test in
+    let loop′ = c .before .before .before .before .before .before .loop in
+    let args′ = c .before .before .before .before .before .before .before .before .args in
+    omega (
+      arith,
+      tally-yes (now (args′ .block)) (now (args′ .places)) (loop′ .i) (loop-test′ .taken) _ _
+          (sym (c .before .before .before .value-at .ensures) ∙ c .before .n .given .1),
+    ))
     (λ c. search needs)
-    (λ c. let z = tally-yes (now (c .before .before .before .before .before .before .before .before .args .block)) (now (c .before .before .before .before .before .before .before .before .args .places)) (c .before .before .before .before .before .before .loop .i) (c .before .before .before .before .before .loop-test .taken) _ _ (sym (c .before .before .before .value-at .ensures) ∙ c .before .n .given .1) in (omega (arith, z .count), omega (arith, z .used), omega arith, omega arith, omega (arith, z .small)))
+    (λ c.
+    let loop-test′ = c .before .before .before .before .before .loop-test in
+    let loop′ = c .before .before .before .before .before .before .loop in
+    let args′ = c .before .before .before .before .before .before .before .before .args in
+    let z = tally-yes (now (args′ .block)) (now (args′ .places)) (loop′ .i) (loop-test′ .taken) _ _
+    (sym (c .before .before .before .value-at .ensures) ∙ c .before .n .given .1) in
+    (omega (arith, z .count), omega (arith, z .used), omega arith, omega arith, omega (arith, z .small)))
     (λ c. search needs)
     (λ c. search needs)
     (λ c. search needs)
-    (λ c. let z = tally-no (now (c .before .before .before .before .before .before .before .args .block)) (now (c .before .before .before .before .before .before .before .args .places)) (c .before .before .before .before .before .loop .i) (c .before .before .before .before .loop-test .taken) (sym (c .before .before .value-at .ensures) ∙ c .enum-told .given .1) in (omega (arith, ap length z), omega (arith, ap total z), omega arith, omega arith, omega arith))
-    (λ c. let z : (settledAt (now (c .before .before .before .args .block)) (now (c .before .before .before .args .places)) (256 - c .before .loop .i) (c .before .loop .i)) ≡ [] = settled-none (now (c .before .before .before .args .block)) (now (c .before .before .before .args .places)) (c .before .loop .i) (c .loop-test .left) in same-tally _ _ _ (omega (arith, ap length z)) (omega (arith, no-frames (settledAt (now (c .before .before .before .args .block)) (now (c .before .before .before .args .places)) (256 - c .before .loop .i) (c .before .loop .i)) z))))
+    (λ c.
+    let loop-test′ = c .before .before .before .before .loop-test in
+    let loop′ = c .before .before .before .before .before .loop in
+    let args′ = c .before .before .before .before .before .before .before .args in
+    let z = tally-no (now (args′ .block)) (now (args′ .places)) (loop′ .i) (loop-test′ .taken)
+    (sym (c .before .before .value-at .ensures) ∙ c .enum-told .given .1) in
+    (omega (arith, ap length z), omega (arith, ap total z), omega arith, omega arith, omega arith))
+    (λ c.
+    let loop′ = c .before .loop in
+    let args′ = c .before .before .before .args in
+    let z : (settledAt (now (args′ .block)) (now (args′ .places)) (256 - loop′ .i) (loop′ .i)) ≡ [] = settled-none (now (args′ .block))
+    (now (args′ .places)) (loop′ .i) (c .loop-test .left) in same-tally _ _ _ (omega (arith, ap length z))
+    (omega (arith, no-frames (settledAt (now (args′ .block)) (now (args′ .places)) (256 - loop′ .i) (loop′ .i)) z))))

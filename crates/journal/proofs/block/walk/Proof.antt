@@ -28,12 +28,38 @@ walk-spec =
     (λ c. search needs)
     (λ c κs. search needs)
     (λ c. search needs)
-    (λ c κs. (read-inside (c .before .before .before .before .before .before .loop .p .next) (c .before .before .before .before .before .before .loop .p .end) (now (c .before .before .before .before .before .before .before .before .before .args .block)) _ (sym (c .before .before .before .before .read-frame .ensures) ∙ c .before .before .head .given .1) .0, c .before .before .before .before .before .before .before .before .before .pre .0, reached-pending (c .before .before .before .before .before .before .loop .inv)))
-    (λ c. omega (arith, taken-end _ _ _ (c .take-frame .ensures .0), read-inside (c .before .before .before .before .before .before .before .loop .p .next) (c .before .before .before .before .before .before .before .loop .p .end) (now (c .before .before .before .before .before .before .before .before .before .before .args .block)) _ (sym (c .before .before .before .before .before .read-frame .ensures) ∙ c .before .before .before .head .given .1)))
-    (λ c. reached-more (c .before .before .before .before .before .before .before .loop .inv) _ _ _ (sym (c .before .before .before .before .before .read-frame .ensures) ∙ c .before .before .before .head .given .1) (c .take-frame .ensures .0) (c .take-frame .ensures .1))
+    (λ c κs.
+    let read-frame′ = c .before .before .before .before .read-frame in
+    let loop′ = c .before .before .before .before .before .before .loop in
+    let args′ = c .before .before .before .before .before .before .before .before .before .args in
+    let pre′ = c .before .before .before .before .before .before .before .before .before .pre in (
+      read-inside (loop′ .p .next) (loop′ .p .end) (now (args′ .block)) _
+          (sym (read-frame′ .ensures) ∙ c .before .before .head .given .1) .0,
+      pre′ .0,
+      reached-pending (loop′ .inv),
+    ))
+    (λ c.
+    let read-frame′ = c .before .before .before .before .before .read-frame in
+    let loop′ = c .before .before .before .before .before .before .before .loop in
+    let args′ = c .before .before .before .before .before .before .before .before .before .before .args in
+    omega (
+      arith,
+      taken-end _ _ _ (c .take-frame .ensures .0),
+      read-inside (loop′ .p .next) (loop′ .p .end) (now (args′ .block)) _
+          (sym (read-frame′ .ensures) ∙ c .before .before .before .head .given .1),
+    ))
+    (λ c.
+    let read-frame′ = c .before .before .before .before .before .read-frame in
+    let loop′ = c .before .before .before .before .before .before .before .loop in
+    reached-more (loop′ .inv) _ _ _ (sym (read-frame′ .ensures) ∙ c .before .before .before .head .given .1) (c .take-frame .ensures .0)
+    (c .take-frame .ensures .1))
     (λ c. search needs)
     (λ c. ends-blank (c .before .before .before .before .loop .inv) (sym (c .before .before .read-frame .ensures) ∙ c .enum-told .given .1))
     (λ c. search needs)
-    (λ c. ends-torn (c .before .before .before .before .before .loop .inv) _ (sym (c .before .before .before .read-frame .ensures) ∙ c .before .n .given .1))
+    (λ c.
+    let loop′ = c .before .before .before .before .before .loop in
+    ends-torn (loop′ .inv) _ (sym (c .before .before .before .read-frame .ensures) ∙ c .before .n .given .1))
     (λ c. search needs)
-    (λ c. ends-wrong (c .before .before .before .before .before .loop .inv) _ (sym (c .before .before .before .read-frame .ensures) ∙ c .before .fault .given .1)))
+    (λ c.
+    let loop′ = c .before .before .before .before .before .loop in
+    ends-wrong (loop′ .inv) _ (sym (c .before .before .before .read-frame .ensures) ∙ c .before .fault .given .1)))

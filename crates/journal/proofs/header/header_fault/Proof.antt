@@ -15,13 +15,62 @@ header-fault-spec =
     tie.close
     (tie.spec
     (λ c κs. search needs)
-    (λ c. sym (ap headerOf (fault-length (now (c .before .before .before .args .block)) (sym (c .before .stands .ensures) ∙ not-true (c .before .stands .result) (c .if1 .taken)))))
+    (λ c.
+    let stands′ = c .before .stands in
+    sym (ap headerOf (fault-length (now (c .before .before .before .args .block)) (sym (stands′ .ensures) ∙ not-true (stands′ .result) (c .if1 .taken)))))
     (λ c κs. search needs)
-    (λ c. sym (ap headerOf (fault-kind (now (c .before .before .before .before .before .args .block)) (sym (c .before .before .before .stands .ensures) ∙ not-false (c .before .before .before .stands .result) (c .before .before .if1 .left)) (sym (c .before .stands2 .ensures) ∙ not-true (c .before .stands2 .result) (c .if2 .taken)))))
+    (λ c.
+    let stands2′ = c .before .stands2 in
+    let stands′ = c .before .before .before .stands in
+    let args′ = c .before .before .before .before .before .args in
+    sym (ap headerOf (fault-kind (now (args′ .block)) (sym (stands′ .ensures) ∙ not-false (stands′ .result) (c .before .before .if1 .left))
+    (sym (stands2′ .ensures) ∙ not-true (stands2′ .result) (c .if2 .taken)))))
     (λ c κs. search needs)
-    (λ c. sym (ap headerOf (fault-created (now (c .before .before .before .before .before .before .before .args .block)) (sym (c .before .before .before .before .before .stands .ensures) ∙ not-false (c .before .before .before .before .before .stands .result) (c .before .before .before .before .if1 .left)) (sym (c .before .before .before .stands2 .ensures) ∙ not-false (c .before .before .before .stands2 .result) (c .before .before .if2 .left)) (ap (λ (x : ℕ). eqb x 0) (sym (c .before .created .ensures)) ∙ eq-eqb _ _ (c .if3 .taken)))))
+    (λ c.
+    let stands2′ = c .before .before .before .stands2 in
+    let if1′ = c .before .before .before .before .if1 in
+    let stands′ = c .before .before .before .before .before .stands in
+    let args′ = c .before .before .before .before .before .before .before .args in
+    sym (ap headerOf (fault-created (now (args′ .block)) (sym (stands′ .ensures) ∙ not-false (stands′ .result) (if1′ .left))
+    (sym (stands2′ .ensures) ∙ not-false (stands2′ .result) (c .before .before .if2 .left))
+    (ap (λ (x : ℕ). eqb x 0) (sym (c .before .created .ensures)) ∙ eq-eqb _ _ (c .if3 .taken)))))
     (λ c κs. search needs)
-    (λ c. sym (ap headerOf (fault-state (now (c .before .before .before .before .before .before .before .before .before .args .block)) (sym (c .before .before .before .before .before .before .before .stands .ensures) ∙ not-false (c .before .before .before .before .before .before .before .stands .result) (c .before .before .before .before .before .before .if1 .left)) (sym (c .before .before .before .before .before .stands2 .ensures) ∙ not-false (c .before .before .before .before .before .stands2 .result) (c .before .before .before .before .if2 .left)) (ap (λ (x : ℕ). eqb x 0) (sym (c .before .before .before .created .ensures)) ∙ ne-eqb _ _ (c .before .before .if3 .left)) (ap (λ (x : ℕ). eqb x 252) (sym (c .before .byte-at .ensures)) ∙ ne-eqb _ _ (c .if4 .taken)))))
+    (λ c.
+    let if2′ = c .before .before .before .before .if2 in
+    let stands2′ = c .before .before .before .before .before .stands2 in
+    let if1′ = c .before .before .before .before .before .before .if1 in
+    let stands′ = c .before .before .before .before .before .before .before .stands in
+    let args′ = c .before .before .before .before .before .before .before .before .before .args in
+    sym (ap headerOf (fault-state (now (args′ .block)) (sym (stands′ .ensures) ∙ not-false (stands′ .result) (if1′ .left))
+    (sym (stands2′ .ensures) ∙ not-false (stands2′ .result) (if2′ .left))
+    (ap (λ (x : ℕ). eqb x 0) (sym (c .before .before .before .created .ensures)) ∙ ne-eqb _ _ (c .before .before .if3 .left))
+    (ap (λ (x : ℕ). eqb x 252) (sym (c .before .byte-at .ensures)) ∙ ne-eqb _ _ (c .if4 .taken)))))
     (λ c κs. search needs)
-    (λ c. sym (ap headerOf (fault-spare (now (c .before .before .before .before .before .before .before .before .before .before .before .args .block)) (sym (c .before .before .before .before .before .before .before .before .before .stands .ensures) ∙ not-false (c .before .before .before .before .before .before .before .before .before .stands .result) (c .before .before .before .before .before .before .before .before .if1 .left)) (sym (c .before .before .before .before .before .before .before .stands2 .ensures) ∙ not-false (c .before .before .before .before .before .before .before .stands2 .result) (c .before .before .before .before .before .before .if2 .left)) (ap (λ (x : ℕ). eqb x 0) (sym (c .before .before .before .before .before .created .ensures)) ∙ ne-eqb _ _ (c .before .before .before .before .if3 .left)) (ap (λ (x : ℕ). eqb x 252) (sym (c .before .before .before .byte-at .ensures)) ∙ eq-eqb _ _ (c .before .before .if4 .left)) (sym (c .before .spare-blank .ensures) ∙ not-true (c .before .spare-blank .result) (c .if5 .taken)))))
-    (λ c. sym (ap headerOf (fault-none (now (c .before .before .before .before .before .before .before .before .before .before .before .args .block)) (sym (c .before .before .before .before .before .before .before .before .before .stands .ensures) ∙ not-false (c .before .before .before .before .before .before .before .before .before .stands .result) (c .before .before .before .before .before .before .before .before .if1 .left)) (sym (c .before .before .before .before .before .before .before .stands2 .ensures) ∙ not-false (c .before .before .before .before .before .before .before .stands2 .result) (c .before .before .before .before .before .before .if2 .left)) (ap (λ (x : ℕ). eqb x 0) (sym (c .before .before .before .before .before .created .ensures)) ∙ ne-eqb _ _ (c .before .before .before .before .if3 .left)) (ap (λ (x : ℕ). eqb x 252) (sym (c .before .before .before .byte-at .ensures)) ∙ eq-eqb _ _ (c .before .before .if4 .left)) (sym (c .before .spare-blank .ensures) ∙ not-false (c .before .spare-blank .result) (c .if5 .left))))))
+    (λ c.
+    let spare-blank′ = c .before .spare-blank in
+    let if3′ = c .before .before .before .before .if3 in
+    let created′ = c .before .before .before .before .before .created in
+    let if2′ = c .before .before .before .before .before .before .if2 in
+    let stands2′ = c .before .before .before .before .before .before .before .stands2 in
+    let if1′ = c .before .before .before .before .before .before .before .before .if1 in
+    let stands′ = c .before .before .before .before .before .before .before .before .before .stands in
+    let args′ = c .before .before .before .before .before .before .before .before .before .before .before .args in
+    sym (ap headerOf (fault-spare (now (args′ .block)) (sym (stands′ .ensures) ∙ not-false (stands′ .result) (if1′ .left))
+    (sym (stands2′ .ensures) ∙ not-false (stands2′ .result) (if2′ .left))
+    (ap (λ (x : ℕ). eqb x 0) (sym (created′ .ensures)) ∙ ne-eqb _ _ (if3′ .left))
+    (ap (λ (x : ℕ). eqb x 252) (sym (c .before .before .before .byte-at .ensures)) ∙ eq-eqb _ _ (c .before .before .if4 .left))
+    (sym (spare-blank′ .ensures) ∙ not-true (spare-blank′ .result) (c .if5 .taken)))))
+    (λ c.
+    let spare-blank′ = c .before .spare-blank in
+    let if3′ = c .before .before .before .before .if3 in
+    let created′ = c .before .before .before .before .before .created in
+    let if2′ = c .before .before .before .before .before .before .if2 in
+    let stands2′ = c .before .before .before .before .before .before .before .stands2 in
+    let if1′ = c .before .before .before .before .before .before .before .before .if1 in
+    let stands′ = c .before .before .before .before .before .before .before .before .before .stands in
+    let args′ = c .before .before .before .before .before .before .before .before .before .before .before .args in
+    sym (ap headerOf (fault-none (now (args′ .block)) (sym (stands′ .ensures) ∙ not-false (stands′ .result) (if1′ .left))
+    (sym (stands2′ .ensures) ∙ not-false (stands2′ .result) (if2′ .left))
+    (ap (λ (x : ℕ). eqb x 0) (sym (created′ .ensures)) ∙ ne-eqb _ _ (if3′ .left))
+    (ap (λ (x : ℕ). eqb x 252) (sym (c .before .before .before .byte-at .ensures)) ∙ eq-eqb _ _ (c .before .before .if4 .left))
+    (sym (spare-blank′ .ensures) ∙ not-false (spare-blank′ .result) (c .if5 .left))))))

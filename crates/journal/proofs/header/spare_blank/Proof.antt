@@ -18,7 +18,10 @@ spare-blank-spec =
     (λ c. search needs)
     (λ c. search needs)
     (λ c κs. search needs)
-    (λ c. c .is-blank .ensures ∙ ap allFF (spare-some (now (c .before .before .before .before .before .args .block)) (length (now (c .before .before .before .before .before .args .block)) - 9) (c .before .before .if2 .taken) refl))
+    (λ c.
+    let args′ = c .before .before .before .before .before .args in
+    c .is-blank .ensures
+    ∙ ap allFF (spare-some (now (args′ .block)) (length (now (args′ .block)) - 9) (c .before .before .if2 .taken) refl))
     (λ c. search needs)
     (λ c. search needs)
     (λ c. search needs)

@@ -13,9 +13,15 @@ stands-spec =
     (tie.spec
     (λ c. sym (two-short (now (c .before .args .block)) (c .before .args .i) (c .before .args .a) (c .before .args .b) (omega arith)))
     (λ c. search needs)
-    (λ c. sym (two-short (now (c .before .before .args .block)) (c .before .before .args .i) (c .before .before .args .a) (c .before .before .args .b) (omega arith)))
+    (λ c.
+    let args′ = c .before .before .args in
+    sym (two-short (now (args′ .block)) (args′ .i) (args′ .a) (args′ .b) (omega arith)))
     (λ c. search needs)
-    (λ c. sym (two-no (now (c .before .before .before .before .args .block)) (c .before .before .before .before .args .i) (c .before .before .before .before .args .a) (c .before .before .before .before .args .b) (omega arith) (c .if3 .taken)))
+    (λ c.
+    let args′ = c .before .before .before .before .args in
+    sym (two-no (now (args′ .block)) (args′ .i) (args′ .a) (args′ .b) (omega arith) (c .if3 .taken)))
     (λ c. search needs)
     (λ c. search needs)
-    (λ c. sym (two-is (now (c .before .before .before .before .before .args .block)) (c .before .before .before .before .before .args .i) (c .before .before .before .before .before .args .a) (c .before .before .before .before .before .args .b) (omega arith) (c .before .if3 .left))))
+    (λ c.
+    let args′ = c .before .before .before .before .before .args in
+    sym (two-is (now (args′ .block)) (args′ .i) (args′ .a) (args′ .b) (omega arith) (c .before .if3 .left))))

@@ -8,4 +8,12 @@ use Rattle.journal.proofs.hosts.of_host.Statement.{statement}
 use Rattle.journal.proofs.hosts.of_host.Tie as tie
 
 pub of-host-spec : {M : Type 1} → statement M
-of-host-spec = tie.close (tie.spec (λ c. search needs) (λ c. search needs) (λ c. search needs) (λ c. search needs) (λ c. let l : length (c .before .before .args .t1) ≡ 4 = search needs in let k : length (c .before .before .args .t1) ≤ c .before .before .args .host .0 = omega arith in sym (List·getD-eq-default (c .before .before .args .t1) 0 k)))
+of-host-spec = tie.close (tie.spec
+    (λ c. search needs)
+    (λ c. search needs)
+    (λ c. search needs)
+    (λ c. search needs)
+    (λ c.
+    let args′ = c .before .before .args in
+    let l : length (args′ .t1) ≡ 4 = search needs in let k : length (args′ .t1) ≤ args′ .host .0 = omega arith in sym
+    (List·getD-eq-default (args′ .t1) 0 k)))

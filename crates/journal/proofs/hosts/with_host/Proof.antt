@@ -9,4 +9,12 @@ use Rattle.journal.proofs.hosts.with_host.Statement.{statement}
 use Rattle.journal.proofs.hosts.with_host.Tie as tie
 
 pub with-host-spec : {M : Type 1} → statement M
-with-host-spec = tie.close (tie.spec (λ c. search needs) (λ c. search needs) (λ c. search needs) (λ c. search needs) (λ c. let l : length (c .before .before .args .numbers) ≡ 4 = search needs in let k : length (c .before .before .args .numbers) ≤ c .before .before .args .host .0 = omega arith in sym (set-out _ _ _ k)))
+with-host-spec = tie.close (tie.spec
+    (λ c. search needs)
+    (λ c. search needs)
+    (λ c. search needs)
+    (λ c. search needs)
+    (λ c.
+    let args′ = c .before .before .args in
+    let l : length (args′ .numbers) ≡ 4 = search needs in let k : length (args′ .numbers) ≤ args′ .host .0 = omega arith in sym
+    (set-out _ _ _ k)))

@@ -30,8 +30,13 @@ next-load-spec =
     ∙ ap (fetchedOf b places)
     (load-next b (args′ .end) places (args′ .since) (args′ .id) (args′ .source)
     (sym (c .before .before .enum-told .given .1) ∙ c .before .before .before .before .next-settled .ensures) (c .before .if1 .taken)))
-    (λ c. sym (length-take-le (c .before .before .before .before .before .before .args .end) (now (c .before .before .before .before .before .before .args .block)) (omega arith)))
-    (λ c κs. omega (arith, length-take (c .before .before .before .before .before .before .args .end) (now (c .before .before .before .before .before .before .args .block)), c .before .before .before .before .before .before .good))
+    (λ c.
+    let args′ = c .before .before .before .before .before .before .args in
+    sym (length-take-le (args′ .end) (now (args′ .block)) (omega arith)))
+    (λ c κs.
+    let args′ = c .before .before .before .before .before .before .args in
+    let good′ = c .before .before .before .before .before .before .good in
+    omega (arith, length-take (args′ .end) (now (args′ .block)), good′))
     (λ c.
     let args′ = c .before .before .before .before .before .before .before .args in
     let b = now (args′ .block) in

@@ -30,17 +30,83 @@ next-pending-spec =
     (λ c κs. search needs)
     (λ c. search needs)
     (λ c κs. search needs)
-    (λ c. omega (arith, read-inside 0 (c .before .before .before .before .before .loop .at) (now (c .before .before .before .before .before .before .before .args .part)) _ (sym (c .before .before .before .before .read-frame .ensures) ∙ c .before .before .head .given .1), c .frame-len .ensures, c .before .before .before .before .before .before .before .pre))
+    (λ c.
+    let read-frame′ = c .before .before .before .before .read-frame in
+    let loop′ = c .before .before .before .before .before .loop in
+    let args′ = c .before .before .before .before .before .before .before .args in
+    let pre′ = c .before .before .before .before .before .before .before .pre in
+    omega (
+      arith,
+      read-inside 0 (loop′ .at) (now (args′ .part)) _
+          (sym (read-frame′ .ensures) ∙ c .before .before .head .given .1),
+      c .frame-len .ensures,
+      pre′,
+    ))
     (λ c κs. search needs)
     (λ c κs. search needs)
-    (λ c. omega (arith, read-inside 0 (c .before .before .before .before .before .before .before .before .loop .at) (now (c .before .before .before .before .before .before .before .before .before .before .args .part)) _ (sym (c .before .before .before .before .before .before .before .read-frame .ensures) ∙ c .before .before .before .before .before .head .given .1), c .value-offset .ensures, start-inside (c .before .before .before .before .before .head .given .0 .0), c .before .before .before .before .before .before .before .before .before .before .pre))
-    (λ c. omega (arith, read-inside 0 (c .before .before .before .before .before .before .before .before .loop .at) (now (c .before .before .before .before .before .before .before .before .before .before .args .part)) _ (sym (c .before .before .before .before .before .before .before .read-frame .ensures) ∙ c .before .before .before .before .before .head .given .1), c .before .before .before .frame-len .ensures, c .before .before .before .before .before .before .before .before .before .before .pre))
-    (λ c. λ b places. rw (c .value-offset .ensures, c .before .before .before .frame-len .ensures) (fetch-pending (c .before .before .before .before .before .before .before .before .before .before .args .since) (c .before .before .before .before .before .before .before .before .loop .at) (now (c .before .before .before .before .before .before .before .before .before .before .args .part)) _ (sym (c .before .before .before .before .before .before .before .read-frame .ensures) ∙ c .before .before .before .before .before .head .given .1) (sym (c .before .before .is-pending .ensures) ∙ c .before .if1 .taken) b places ∙ ap (fetchedOf b places) (c .before .before .before .before .before .before .before .before .loop .inv)))
-    (λ c. omega (arith, read-inside 0 (c .before .before .before .before .before .before .before .loop .at) (now (c .before .before .before .before .before .before .before .before .before .args .part)) _ (sym (c .before .before .before .before .before .before .read-frame .ensures) ∙ c .before .before .before .before .head .given .1), c .before .before .frame-len .ensures))
-    (λ c. rw (c .before .before .frame-len .ensures) (sym (skip-pending (c .before .before .before .before .before .before .before .before .before .args .since) (c .before .before .before .before .before .before .before .loop .at) (now (c .before .before .before .before .before .before .before .before .before .args .part)) _ (sym (c .before .before .before .before .before .before .read-frame .ensures) ∙ c .before .before .before .before .head .given .1) (sym (c .before .is-pending .ensures) ∙ c .if1 .left)) ∙ c .before .before .before .before .before .before .before .loop .inv))
+    (λ c.
+    let head′ = c .before .before .before .before .before .head in
+    let read-frame′ = c .before .before .before .before .before .before .before .read-frame in
+    let loop′ = c .before .before .before .before .before .before .before .before .loop in
+    let args′ = c .before .before .before .before .before .before .before .before .before .before .args in
+    let pre′ = c .before .before .before .before .before .before .before .before .before .before .pre in
+    omega (
+      arith,
+      read-inside 0 (loop′ .at) (now (args′ .part)) _
+          (sym (read-frame′ .ensures) ∙ head′ .given .1),
+      c .value-offset .ensures,
+      start-inside (head′ .given .0 .0),
+      pre′,
+    ))
+    (λ c.
+    let head′ = c .before .before .before .before .before .head in
+    let read-frame′ = c .before .before .before .before .before .before .before .read-frame in
+    let loop′ = c .before .before .before .before .before .before .before .before .loop in
+    let args′ = c .before .before .before .before .before .before .before .before .before .before .args in
+    let pre′ = c .before .before .before .before .before .before .before .before .before .before .pre in
+    omega (
+      arith,
+      read-inside 0 (loop′ .at) (now (args′ .part)) _
+          (sym (read-frame′ .ensures) ∙ head′ .given .1),
+      c .before .before .before .frame-len .ensures,
+      pre′,
+    ))
+    (λ c.
+    let head′ = c .before .before .before .before .before .head in
+    let read-frame′ = c .before .before .before .before .before .before .before .read-frame in
+    let loop′ = c .before .before .before .before .before .before .before .before .loop in
+    let args′ = c .before .before .before .before .before .before .before .before .before .before .args in
+    λ b places. rw (c .value-offset .ensures, c .before .before .before .frame-len .ensures)
+    (fetch-pending (args′ .since) (loop′ .at) (now (args′ .part)) _ (sym (read-frame′ .ensures) ∙ head′ .given .1)
+    (sym (c .before .before .is-pending .ensures) ∙ c .before .if1 .taken) b places ∙ ap (fetchedOf b places) (loop′ .inv)))
+    (λ c.
+    let head′ = c .before .before .before .before .head in
+    let read-frame′ = c .before .before .before .before .before .before .read-frame in
+    let loop′ = c .before .before .before .before .before .before .before .loop in
+    let args′ = c .before .before .before .before .before .before .before .before .before .args in
+    omega (arith, read-inside 0 (loop′ .at) (now (args′ .part)) _ (sym (read-frame′ .ensures) ∙ head′ .given .1), c .before .before .frame-len .ensures))
+    (λ c.
+    let head′ = c .before .before .before .before .head in
+    let read-frame′ = c .before .before .before .before .before .before .read-frame in
+    let loop′ = c .before .before .before .before .before .before .before .loop in
+    let args′ = c .before .before .before .before .before .before .before .before .before .args in
+    rw (c .before .before .frame-len .ensures) (sym (skip-pending (args′ .since) (loop′ .at) (now (args′ .part)) _
+    (sym (read-frame′ .ensures) ∙ head′ .given .1) (sym (c .before .is-pending .ensures) ∙ c .if1 .left)) ∙ loop′ .inv))
     (λ c. search needs)
-    (λ c. λ b places. ap (fetchedOf b places) (sym (no-blank (c .before .before .before .before .before .args .since) (c .before .before .before .loop .at) (now (c .before .before .before .before .before .args .part)) (sym (c .before .before .read-frame .ensures) ∙ c .enum-told .given .1)) ∙ c .before .before .before .loop .inv))
+    (λ c.
+    let loop′ = c .before .before .before .loop in
+    let args′ = c .before .before .before .before .before .args in
+    λ b places. ap (fetchedOf b places) (sym (no-blank (args′ .since) (loop′ .at) (now (args′ .part))
+    (sym (c .before .before .read-frame .ensures) ∙ c .enum-told .given .1)) ∙ loop′ .inv))
     (λ c. search needs)
-    (λ c. λ b places. ap (fetchedOf b places) (sym (no-torn (c .before .before .before .before .before .args .since) (c .before .before .before .loop .at) (now (c .before .before .before .before .before .args .part)) _ (sym (c .before .before .read-frame .ensures) ∙ c .enum-told2 .given .1)) ∙ c .before .before .before .loop .inv))
+    (λ c.
+    let loop′ = c .before .before .before .loop in
+    let args′ = c .before .before .before .before .before .args in
+    λ b places. ap (fetchedOf b places) (sym (no-torn (args′ .since) (loop′ .at) (now (args′ .part)) _
+    (sym (c .before .before .read-frame .ensures) ∙ c .enum-told2 .given .1)) ∙ loop′ .inv))
     (λ c. search needs)
-    (λ c. λ b places. ap (fetchedOf b places) (sym (no-wrong (c .before .before .before .before .before .args .since) (c .before .before .before .loop .at) (now (c .before .before .before .before .before .args .part)) _ (sym (c .before .before .read-frame .ensures) ∙ c .enum-told3 .given .1)) ∙ c .before .before .before .loop .inv)))
+    (λ c.
+    let loop′ = c .before .before .before .loop in
+    let args′ = c .before .before .before .before .before .args in
+    λ b places. ap (fetchedOf b places) (sym (no-wrong (args′ .since) (loop′ .at) (now (args′ .part)) _
+    (sym (c .before .before .read-frame .ensures) ∙ c .enum-told3 .given .1)) ∙ loop′ .inv)))

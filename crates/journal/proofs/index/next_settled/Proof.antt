@@ -31,18 +31,23 @@ next-settled-spec =
     (λ c. search needs)
     (λ c. search needs)
     (λ c.
+    let loop-test′ = c .before .before .before .before .before .loop-test in
+    let loop′ = c .before .before .before .before .before .before .loop in
     let args′ = c .before .before .before .before .before .before .before .before .args in
-    let b = now (args′ .block) in
-    let places = now (args′ .places) in
-    let i = c .before .before .before .before .before .before .loop .i in
-    let w = found-at _ _ _ (sym (c .before .before .before .value-at .ensures) ∙ c .before .value .given .1) in
-    fetch-settled b places i _ _ (args′ .source) (w .0) (w .1) (w .2) (w .3)
-    ∙ ap (fetchedOf b places)
-    (sym (settled-yes b places (args′ .source) i (c .before .before .before .before .before .loop-test .taken) (w .0) (w .1)) ∙ c .before .before .before .before .before .before .loop .inv))
+    let args′ = args′ in let b = now (args′ .block) in let places = now (args′ .places) in let i = loop′ .i in let w = found-at _ _ _
+    (sym (c .before .before .before .value-at .ensures) ∙ c .before .value .given .1) in fetch-settled b places i _ _ (args′ .source)
+    (w .0) (w .1) (w .2) (w .3)
+    ∙ ap (fetchedOf b places) (sym (settled-yes b places (args′ .source) i (loop-test′ .taken) (w .0) (w .1)) ∙ loop′ .inv))
     (λ c. search needs)
     (λ c. search needs)
     (λ c. search needs)
-    (λ c. sym (settled-no (now (c .before .before .before .before .before .before .before .args .block)) (now (c .before .before .before .before .before .before .before .args .places)) (c .before .before .before .before .before .before .before .args .source) (c .before .before .before .before .before .loop .i) (c .before .before .before .before .loop-test .taken) (found-none _ (sym (c .before .before .value-at .ensures) ∙ c .enum-told .given .1))) ∙ c .before .before .before .before .before .loop .inv)
+    (λ c.
+    let loop-test′ = c .before .before .before .before .loop-test in
+    let loop′ = c .before .before .before .before .before .loop in
+    let args′ = c .before .before .before .before .before .before .before .args in
+    sym (settled-no (now (args′ .block)) (now (args′ .places)) (args′ .source) (loop′ .i) (loop-test′ .taken)
+    (found-none _ (sym (c .before .before .value-at .ensures) ∙ c .enum-told .given .1)))
+    ∙ loop′ .inv)
     (λ c.
     let args′ = c .before .before .before .args in
     let b = now (args′ .block) in

@@ -6,4 +6,8 @@ use Rattle.journal.proofs.pass.close.Tie as tie
 
 pub close-spec : {M : Type 1} → statement M
 unfolding closed
-close-spec = tie.close (tie.spec (λ c. search needs) (λ c κs. search needs) (λ c κs. search needs) (λ c. rw (c .before .with-host .ensures, c .with-host2 .ensures)))
+close-spec = tie.close (tie.spec
+    (λ c. search needs)
+    (λ c κs. search needs)
+    (λ c κs. search needs)
+    (λ c. rw (c .before .with-host .ensures, c .with-host2 .ensures)))

@@ -13,7 +13,8 @@ use Rattle.journal.proofs.pass.commit_own.Statement.{statement}
 use Rattle.journal.proofs.pass.commit_own.Tie as tie
 
 abbrev Inv-loop : tie.InvT-loop
-Inv-loop part host since places₀ at₀ next₀ places at next = (commitPlaces host since at places (scan next at 0 (drop at part) .frames) ≡ recommit part host since places₀) × (since ≤ at)
+Inv-loop part host since places₀ at₀ next₀ places at next =
+    (commitPlaces host since at places (scan next at 0 (drop at part) .frames) ≡ recommit part host since places₀) × (since ≤ at)
 
 abbrev μ-loop : tie.MeasureT-loop
 μ-loop part host since places₀ at₀ next₀ places at next = length part - at
@@ -28,16 +29,56 @@ commit-own-spec =
     (λ c. (refl, omega arith))
     (λ c κs. search needs)
     (λ c. search needs)
-    (λ c. omega (arith, read-inside (c .before .before .before .before .before .loop .next) (c .before .before .before .before .before .loop .at) (now (c .before .before .before .before .before .before .before .args .part)) _ (sym (c .before .before .before .before .read-frame .ensures) ∙ c .before .before .head .given .1), c .before .before .before .before .before .before .before .pre))
+    (λ c.
+    let read-frame′ = c .before .before .before .before .read-frame in
+    let loop′ = c .before .before .before .before .before .loop in
+    let args′ = c .before .before .before .before .before .before .before .args in
+    let pre′ = c .before .before .before .before .before .before .before .pre in
+    omega (arith, read-inside (loop′ .next) (loop′ .at) (now (args′ .part)) _ (sym (read-frame′ .ensures) ∙ c .before .before .head .given .1), pre′))
     (λ c κs. search needs)
     (λ c κs. search needs)
     (λ c κs. search needs)
-    (λ c. omega (arith, read-inside (c .before .before .before .before .before .before .before .before .loop .next) (c .before .before .before .before .before .before .before .before .loop .at) (now (c .before .before .before .before .before .before .before .before .before .before .args .part)) _ (sym (c .before .before .before .before .before .before .before .read-frame .ensures) ∙ c .before .before .before .before .before .head .given .1), c .frame-len .ensures, c .before .before .before .before .before .before .before .before .before .before .pre))
-    (λ c. omega (arith, read-inside (c .before .before .before .before .before .before .before .before .loop .next) (c .before .before .before .before .before .before .before .before .loop .at) (now (c .before .before .before .before .before .before .before .before .before .before .args .part)) _ (sym (c .before .before .before .before .before .before .before .read-frame .ensures) ∙ c .before .before .before .before .before .head .given .1), c .frame-len .ensures))
-    (λ c. (rw (c .before .before .place-own .ensures, c .before .next-after .ensures, c .frame-len .ensures) (sym (commit-on (c .before .before .before .before .before .before .before .before .before .before .args .host) (c .before .before .before .before .before .before .before .before .before .before .args .since) (c .before .before .before .before .before .before .before .before .loop .next) (c .before .before .before .before .before .before .before .before .loop .at) (c .before .before .before .before .before .before .before .before .loop .places) (now (c .before .before .before .before .before .before .before .before .before .before .args .part)) _ (c .before .before .before .before .before .before .before .before .loop .inv .1) (sym (c .before .before .before .before .before .before .before .read-frame .ensures) ∙ c .before .before .before .before .before .head .given .1)) ∙ c .before .before .before .before .before .before .before .before .loop .inv .0), omega arith))
+    (λ c.
+    let head′ = c .before .before .before .before .before .head in
+    let read-frame′ = c .before .before .before .before .before .before .before .read-frame in
+    let loop′ = c .before .before .before .before .before .before .before .before .loop in
+    let args′ = c .before .before .before .before .before .before .before .before .before .before .args in
+    let pre′ = c .before .before .before .before .before .before .before .before .before .before .pre in
+    omega (arith, read-inside (loop′ .next) (loop′ .at) (now (args′ .part)) _ (sym (read-frame′ .ensures) ∙ head′ .given .1), c .frame-len .ensures, pre′))
+    (λ c.
+    let head′ = c .before .before .before .before .before .head in
+    let read-frame′ = c .before .before .before .before .before .before .before .read-frame in
+    let loop′ = c .before .before .before .before .before .before .before .before .loop in
+    let args′ = c .before .before .before .before .before .before .before .before .before .before .args in
+    omega (arith, read-inside (loop′ .next) (loop′ .at) (now (args′ .part)) _ (sym (read-frame′ .ensures) ∙ head′ .given .1), c .frame-len .ensures))
+    (λ c.
+    let head′ = c .before .before .before .before .before .head in
+    let read-frame′ = c .before .before .before .before .before .before .before .read-frame in
+    let loop′ = c .before .before .before .before .before .before .before .before .loop in
+    let args′ = c .before .before .before .before .before .before .before .before .before .before .args in (
+      rw (c .before .before .place-own .ensures, c .before .next-after .ensures, c .frame-len .ensures)
+          (sym (commit-on (args′ .host) (args′ .since) (loop′ .next) (loop′ .at) (loop′ .places) (now (args′ .part)) _ (loop′ .inv .1)
+          (sym (read-frame′ .ensures) ∙ head′ .given .1)) ∙ loop′ .inv .0),
+      omega arith,
+    ))
     (λ c. search needs)
-    (λ c. sym (commit-blank (c .before .before .before .before .before .args .host) (c .before .before .before .before .before .args .since) (c .before .before .before .loop .next) (c .before .before .before .loop .at) (c .before .before .before .loop .places) (now (c .before .before .before .before .before .args .part)) (sym (c .before .before .read-frame .ensures) ∙ c .enum-told .given .1)) ∙ c .before .before .before .loop .inv .0)
+    (λ c.
+    let loop′ = c .before .before .before .loop in
+    let args′ = c .before .before .before .before .before .args in
+    sym (commit-blank (args′ .host) (args′ .since) (loop′ .next) (loop′ .at) (loop′ .places) (now (args′ .part))
+    (sym (c .before .before .read-frame .ensures) ∙ c .enum-told .given .1))
+    ∙ loop′ .inv .0)
     (λ c. search needs)
-    (λ c. sym (commit-torn (c .before .before .before .before .before .args .host) (c .before .before .before .before .before .args .since) (c .before .before .before .loop .next) (c .before .before .before .loop .at) (c .before .before .before .loop .places) (now (c .before .before .before .before .before .args .part)) _ (sym (c .before .before .read-frame .ensures) ∙ c .enum-told2 .given .1)) ∙ c .before .before .before .loop .inv .0)
+    (λ c.
+    let loop′ = c .before .before .before .loop in
+    let args′ = c .before .before .before .before .before .args in
+    sym (commit-torn (args′ .host) (args′ .since) (loop′ .next) (loop′ .at) (loop′ .places) (now (args′ .part)) _
+    (sym (c .before .before .read-frame .ensures) ∙ c .enum-told2 .given .1))
+    ∙ loop′ .inv .0)
     (λ c. search needs)
-    (λ c. sym (commit-wrong (c .before .before .before .before .before .args .host) (c .before .before .before .before .before .args .since) (c .before .before .before .loop .next) (c .before .before .before .loop .at) (c .before .before .before .loop .places) (now (c .before .before .before .before .before .args .part)) _ (sym (c .before .before .read-frame .ensures) ∙ c .enum-told3 .given .1)) ∙ c .before .before .before .loop .inv .0))
+    (λ c.
+    let loop′ = c .before .before .before .loop in
+    let args′ = c .before .before .before .before .before .args in
+    sym (commit-wrong (args′ .host) (args′ .since) (loop′ .next) (loop′ .at) (loop′ .places) (now (args′ .part)) _
+    (sym (c .before .before .read-frame .ensures) ∙ c .enum-told3 .given .1))
+    ∙ loop′ .inv .0))

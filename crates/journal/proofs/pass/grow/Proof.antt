@@ -6,4 +6,9 @@ use Rattle.journal.proofs.pass.grow.Tie as tie
 
 pub grow-spec : {M : Type 1} → statement M
 unfolding grown
-grow-spec = tie.close (tie.spec (λ c κs. search needs) (λ c. search needs) (λ c κs. search needs) (λ c. search needs) (λ c. rw (c .before .with-host .ensures, c .before .before .of-host .ensures)))
+grow-spec = tie.close (tie.spec
+    (λ c κs. search needs)
+    (λ c. search needs)
+    (λ c κs. search needs)
+    (λ c. search needs)
+    (λ c. rw (c .before .with-host .ensures, c .before .before .of-host .ensures)))

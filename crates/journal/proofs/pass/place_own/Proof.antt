@@ -12,11 +12,15 @@ place-own-spec =
     (tie.spec
     (λ c. search needs)
     (λ c κs. search needs)
-    (λ c. rw (c .before .before .before .before .before .before .head .given .1, eq-eqb _ _ (c .before .before .if1 .taken)) (c .store .ensures))
+    (λ c.
+    let head′ = c .before .before .before .before .before .before .head in
+    rw (head′ .given .1, eq-eqb _ _ (c .before .before .if1 .taken)) (c .store .ensures))
     (λ c. rw (c .before .before .before .before .head .given .1, ne-eqb _ _ (c .if1 .left)))
     (λ c. search needs)
     (λ c κs. search needs)
-    (λ c. rw (c .before .before .before .before .before .before .head2 .given .1, eq-eqb _ _ (c .before .before .if2 .taken)) (c .store2 .ensures))
+    (λ c.
+    let head2′ = c .before .before .before .before .before .before .head2 in
+    rw (head2′ .given .1, eq-eqb _ _ (c .before .before .if2 .taken)) (c .store2 .ensures))
     (λ c. rw (c .before .before .before .before .head2 .given .1, ne-eqb _ _ (c .if2 .left)))
     (λ c. search needs)
     (λ c. rw (c .enum-told .given .1))

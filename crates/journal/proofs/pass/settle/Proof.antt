@@ -7,4 +7,8 @@ use Rattle.journal.proofs.pass.settle.Tie as tie
 
 pub settle-spec : {M : Type 1} → statement M
 unfolding passed
-settle-spec = tie.close (tie.spec (λ c. search needs) (λ c. search needs) (λ c. search needs) (λ c. rw (add-one (c .before .before .before .before .args .id .0))))
+settle-spec = tie.close (tie.spec
+    (λ c. search needs)
+    (λ c. search needs)
+    (λ c. search needs)
+    (λ c. rw (add-one (c .before .before .before .before .args .id .0))))

@@ -7,4 +7,10 @@ use Rattle.journal.proofs.pass.store.Tie as tie
 
 pub store-spec : {M : Type 1} → statement M
 store-spec =
-    tie.close (tie.spec (λ c. search needs) (λ c. search needs) (λ c. search needs) (λ c. search needs) (λ c. search needs) (λ c. sym (set-out _ _ _ (c .if1 .left))))
+    tie.close (tie.spec
+    (λ c. search needs)
+    (λ c. search needs)
+    (λ c. search needs)
+    (λ c. search needs)
+    (λ c. search needs)
+    (λ c. sym (set-out _ _ _ (c .if1 .left))))

@@ -20,23 +20,58 @@ take-frame-spec =
     (λ c κs. search needs)
     (λ c. search needs)
     (λ c. search needs)
-    (λ c κs. (omega (arith, c .before .before .before .frame-len .ensures, c .before .before .before .before .before .pre), c .before .before .before .before .before .pre .2 _))
+    (λ c κs.
+    let pre′ = c .before .before .before .before .before .pre in
+    (omega (arith, c .before .before .before .frame-len .ensures, pre′), pre′ .2 _))
     (λ c. search needs)
-    (λ c κs. (omega (arith, c .before .before .before .frame-len .ensures, c .before .before .before .before .before .pre), c .before .before .before .before .before .pre .2 _))
+    (λ c κs.
+    let pre′ = c .before .before .before .before .before .pre in
+    (omega (arith, c .before .before .before .frame-len .ensures, pre′), pre′ .2 _))
     (λ c. search needs)
     (λ c κs. search needs)
     (λ c. search needs)
     (λ c. search needs)
-    (λ c. sym (length-take-le (c .before .before .before .before .before .before .before .before .args .p .end) (now (c .before .before .before .before .before .before .before .before .args .block)) (omega (arith, c .before .before .before .before .before .before .before .before .pre))))
-    (λ c κs. omega (arith, length-take (c .before .before .before .before .before .before .before .before .before .args .p .end) (now (c .before .before .before .before .before .before .before .before .before .args .block)), c .before .before .before .before .before .before .before .before .before .pre))
-    (λ c κs. omega (arith, c .before .before .before .before .before .before .before .before .before .before .pre, ap headLen (c .before .before .before .before .before .before .head3 .given .1)))
+    (λ c.
+    let args′ = c .before .before .before .before .before .before .before .before .args in
+    let pre′ = c .before .before .before .before .before .before .before .before .pre in
+    sym (length-take-le (args′ .p .end) (now (args′ .block)) (omega (arith, pre′))))
+    (λ c κs.
+    let args′ = c .before .before .before .before .before .before .before .before .before .args in
+    let pre′ = c .before .before .before .before .before .before .before .before .before .pre in
+    omega (arith, length-take (args′ .p .end) (now (args′ .block)), pre′))
+    (λ c κs.
+    let head3′ = c .before .before .before .before .before .before .head3 in
+    let pre′ = c .before .before .before .before .before .before .before .before .before .before .pre in
+    omega (arith, pre′, ap headLen (head3′ .given .1)))
     (λ c. search needs)
     (λ c κs. omega (arith, c .before .before .before .before .before .pre, ap headLen (c .before .head4 .given .1)))
     (λ c. search needs)
     (λ c κs. search needs)
     (λ c κs. search needs)
-    (λ c. (rw (c .before .before .head .given .1) (c .grow .ensures ∙ ap (grown (c .before .before .before .before .before .before .args .p) _) (c .before .before .before .before .frame-len .ensures ∙ ap headLen (c .before .before .head .given .1))), rw (c .before .before .head .given .1)))
-    (λ c. (rw (c .before .before .head2 .given .1) (c .grow2 .ensures ∙ ap (grown (c .before .before .before .before .before .before .args .p) _) (c .before .before .before .before .frame-len .ensures ∙ ap headLen (c .before .before .head2 .given .1))), rw (c .before .before .head2 .given .1)))
-    (λ c. (rw (c .before .before .before .before .before .before .before .head3 .given .1) (c .close .ensures), rw (c .before .before .before .before .before .before .before .head3 .given .1) (c .before .commit-own .ensures ∙ ap (λ (m : ℕ). recommit (take (c .before .before .before .before .before .before .before .before .before .before .before .args .p .end) (now (c .before .before .before .before .before .before .before .before .before .before .before .args .block))) (c .before .before .before .before .before .before .before .head3 .given .0 .0) m (now (c .before .before .before .before .before .before .before .before .before .before .before .args .places))) (c .before .before .before .before .of-host .ensures))))
+    (λ c.
+    let head′ = c .before .before .head in
+    let frame-len′ = c .before .before .before .before .frame-len in
+    let args′ = c .before .before .before .before .before .before .args in
+    (rw (head′ .given .1) (c .grow .ensures ∙ ap (grown (args′ .p) _) (frame-len′ .ensures ∙ ap headLen (head′ .given .1))), rw (head′ .given .1)))
+    (λ c.
+    let head2′ = c .before .before .head2 in
+    let frame-len′ = c .before .before .before .before .frame-len in
+    let args′ = c .before .before .before .before .before .before .args in
+    (rw (head2′ .given .1) (c .grow2 .ensures ∙ ap (grown (args′ .p) _) (frame-len′ .ensures ∙ ap headLen (head2′ .given .1))), rw (head2′ .given .1)))
+    (λ c.
+    let of-host′ = c .before .before .before .before .of-host in
+    let head3′ = c .before .before .before .before .before .before .before .head3 in
+    let args′ = c .before .before .before .before .before .before .before .before .before .before .before .args in (
+      rw (head3′ .given .1) (c .close .ensures),
+      rw (head3′ .given .1)
+          (c .before .commit-own .ensures ∙ ap (λ (m : ℕ). recommit (take (args′ .p .end) (now (args′ .block))) (head3′ .given .0 .0) m
+          (now (args′ .places))) (of-host′ .ensures)),
+    ))
     (λ c. (rw (c .before .before .head4 .given .1) (c .close2 .ensures), rw (c .before .before .head4 .given .1)))
-    (λ c. (rw (c .before .before .before .before .head5 .given .1) (c .settle .ensures ∙ ap (passed (c .before .before .before .before .before .before .before .before .args .p) _) (c .before .before .before .before .before .before .frame-len .ensures ∙ ap headLen (c .before .before .before .before .head5 .given .1))), rw (c .before .before .before .before .head5 .given .1) (c .before .store .ensures))))
+    (λ c.
+    let head5′ = c .before .before .before .before .head5 in
+    let frame-len′ = c .before .before .before .before .before .before .frame-len in
+    let args′ = c .before .before .before .before .before .before .before .before .args in (
+      rw (head5′ .given .1) (c .settle .ensures ∙ ap (passed (args′ .p) _) (frame-len′ .ensures ∙ ap headLen (head5′ .given .1))),
+      rw (head5′ .given .1) (c .before .store .ensures),
+    )))
