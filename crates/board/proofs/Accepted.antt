@@ -19,10 +19,11 @@ use Rattle.journal.proofs.Room.{frames-total, used-claimed, claimed-settled, cl
 use Rattle.journal.proofs.Loading.{Yields, yields-none, yields-settled, yields-all}
 use Rattle.board.specs.declared.Job.{Job}
 use Rattle.board.specs.declared.Record.{Record}
-use Rattle.board.specs.Record.{allowed, noPlaces, noMarks, idle}
+use Rattle.board.specs.Record.{allowed, noPlaces, noMarks, rest, idle}
 use Rattle.board.specs.Step.{enterWipe}
 use Rattle.board.specs.Mount.{nextBlock, newTime, endOf, Store, needsTransfer, mountJob, formatJob}
 use Rattle.board.specs.Queue.{Held, needsRoom, appendJob}
+use Rattle.board.specs.Exec.{exec}
 use Rattle.board.specs.Plan.{Follows, onBlock, formatPlan, transferIf, mountedAt, framePlan, framedAt}
 use Rattle.board.proofs.Numbers.{next-there, next-other}
 use Rattle.board.proofs.Images.{Sized, sized-of}
@@ -39,7 +40,7 @@ journal-fits s k img fs g =
 
 -- ---- format
 
-pub follows-format : (img : List ℕ) → allowed (length img) ≡ true → Follows img (enterWipe (formatJob img)) formatPlan (idle (length img - 1) 0 headerLen)
+pub follows-format : (img : List ℕ) → allowed (length img) ≡ true → Follows exec img (enterWipe (formatJob img)) (formatPlan img) (idle (rest (length img - 1) 0 headerLen))
 unfolding writes encodeAll total
 follows-format img h =
     let j : Job = formatJob img .job in
@@ -57,7 +58,7 @@ no-append k e xs ys = ap (λ (zs : List Step). xs ++ zs) (append-nil ys)
 
 pub follows-mount : (img : List ℕ) (x : Store) (ks : List ℕ) → allowed (length img) ≡ true → x .number < blocks → Besides (x .number) ks
     → Journal (block (sizeOf img) (x .number) img) (x .frames)
-    → Follows img (enterWipe (mountJob img x ks))
+    → Follows exec img (enterWipe (mountJob img x ks))
     (map erase ks ++ transferIf (needsTransfer (x .frames) (x .tail)) (x .number) (x .time) (settledOnly (replay (x .frames))))
     (mountedAt (needsTransfer (x .frames) (x .tail)) (length img - 1) x)
 follows-mount img x ks h here others g =
@@ -76,11 +77,11 @@ follows-mount img x ks h here others g =
     let same : block s k (applyAll s (map erase ks) img) ≡ block s k img = besides-kept s k ks img others in
     let total-is : headerLen + total (framesOf st) ≡ used (replay (x .frames)) = frames-total st ∙ claimed-settled (replay (x .frames)) in
     let end-is : headerLen + total (framesOf st) + 0 ≡ used (replay (x .frames)) = omega arith in
-    subst (λ (b : Bool). Follows img (enterWipe r) (map erase ks ++ transferIf b k (x .time) st) (mountedAt b l x)) (sym t)
-    (subst (λ (n : ℕ). Follows img (enterWipe r) (map erase ks ++ (onBlock (nextBlock k) (build n (framesOf st)) ++ (erase k ∷ []))) (mountedAt true l x))
+    subst (λ (b : Bool). Follows exec img (enterWipe r) (map erase ks ++ transferIf b k (x .time) st) (mountedAt b l x)) (sym t)
+    (subst (λ (n : ℕ). Follows exec img (enterWipe r) (map erase ks ++ (onBlock (nextBlock k) (build n (framesOf st)) ++ (erase k ∷ []))) (mountedAt true l x))
     (ap (λ (b : Bool). newTime b (x .time)) t)
-    (subst (λ (n : ℕ). Follows img (enterWipe r) (map erase ks ++ (onBlock (nextBlock k) (build (r .job .time) (framesOf st)) ++ (erase k ∷ []))) (idle l (nextBlock k) n)) end-is
-    (subst (λ (ys : List Step). Follows img (enterWipe r) ys (idle l (nextBlock k) (headerLen + total (framesOf st) + 0)))
+    (subst (λ (n : ℕ). Follows exec img (enterWipe r) (map erase ks ++ (onBlock (nextBlock k) (build (r .job .time) (framesOf st)) ++ (erase k ∷ []))) (idle (rest l (nextBlock k) n))) end-is
+    (subst (λ (ys : List Step). Follows exec img (enterWipe r) ys (idle (rest l (nextBlock k) (headerLen + total (framesOf st) + 0))))
     (no-append (nextBlock k) (headerLen + total (framesOf st)) (map erase ks) (onBlock (nextBlock k) (build (r .job .time) (framesOf st)) ++ (erase k ∷ [])))
     (follows-moving img l k e (placesOf (x .frames)) (r .job) 0 e [] ks (omega arith) (besides-blocks k ks others) has here (omega arith) (framesOf st) t
     (next-there k here) (next-other k here)
@@ -88,16 +89,16 @@ follows-mount img x ks h here others g =
     (subst (λ (b : List ℕ). Yields b e (placesOf (x .frames)) noMarks 0 e (framesOf st)) (sym same) (yields-settled (block s k img) (x .frames) noMarks g)))))))
     (λ t.
     let end-is : e + 0 ≡ e = omega arith in
-    subst (λ (b : Bool). Follows img (enterWipe r) (map erase ks ++ transferIf b k (x .time) st) (mountedAt b l x)) (sym t)
-    (subst (λ (n : ℕ). Follows img (enterWipe r) (map erase ks ++ []) (idle l k n)) end-is
-    (subst (λ (ys : List Step). Follows img (enterWipe r) ys (idle l k (e + 0))) (no-append k e (map erase ks) [])
+    subst (λ (b : Bool). Follows exec img (enterWipe r) (map erase ks ++ transferIf b k (x .time) st) (mountedAt b l x)) (sym t)
+    (subst (λ (n : ℕ). Follows exec img (enterWipe r) (map erase ks ++ []) (idle (rest l k n))) end-is
+    (subst (λ (ys : List Step). Follows exec img (enterWipe r) ys (idle (rest l k (e + 0)))) (no-append k e (map erase ks) [])
     (follows-staying img l k e (placesOf (x .frames)) (r .job) 0 e [] ks (omega arith) (besides-blocks k ks others) has here (omega arith) t (omega arith)))))
 
 -- ---- a queue request's frame
 
 pub follows-frame : (img : List ℕ) (r : Record) (x : Held) (f : Frame) → length img ≡ suc (r .last) → r .block < blocks
     → Journal (block (sizeOf img) (r .block) img) (x .frames) → r .end ≡ endOf (x .frames) → claimed (replay (x .frames)) + frameLen f ≤ sizeOf img
-    → Follows img (enterWipe (appendJob img r x f)) (framePlan (needsRoom img r f) (r .block) (r .end) x f)
+    → Follows exec img (enterWipe (appendJob img r x f)) (framePlan (needsRoom img r f) (r .block) (r .end) x f)
     (framedAt (needsRoom img r f) (r .last) (r .block) (r .end) x f)
 unfolding applyAll
 follows-frame img r x f long here g end room =
@@ -113,23 +114,23 @@ follows-frame img r x f long here g end room =
     on-test (needsRoom img r f)
     (λ t.
     let total-is : headerLen + total fs ≡ claimed st = frames-total st in
-    subst (λ (b : Bool). Follows img (enterWipe a) (framePlan b k e x f) (framedAt b l k e x f)) (sym t)
+    subst (λ (b : Bool). Follows exec img (enterWipe a) (framePlan b k e x f) (framedAt b l k e x f)) (sym t)
     (subst
     (λ (n : ℕ).
-    Follows img (enterWipe a) ((onBlock (nextBlock k) (build n fs) ++ (erase k ∷ [])) ++ onBlock (nextBlock k) (writes (claimed st) (encode f)))
-    (idle l (nextBlock k) (claimed st + frameLen f)))
+    Follows exec img (enterWipe a) ((onBlock (nextBlock k) (build n fs) ++ (erase k ∷ [])) ++ onBlock (nextBlock k) (writes (claimed st) (encode f)))
+    (idle (rest l (nextBlock k) (claimed st + frameLen f))))
     (ap (λ (b : Bool). newTime b (x .time)) t)
     (subst₂
     (λ (n m : ℕ).
-    Follows img (enterWipe a) ((onBlock (nextBlock k) (build (a .job .time) fs) ++ (erase k ∷ [])) ++ onBlock (nextBlock k) (writes n (encode f)))
-    (idle l (nextBlock k) (n + m)))
+    Follows exec img (enterWipe a) ((onBlock (nextBlock k) (build (a .job .time) fs) ++ (erase k ∷ [])) ++ onBlock (nextBlock k) (writes n (encode f)))
+    (idle (rest l (nextBlock k) (n + m))))
     total-is (length-encode f)
     (follows-moving img l k e (placesOf (x .frames)) (a .job) 0 headerLen (encode f) [] long tt has here header fs t (next-there k here) (next-other k here)
     (omega (arith, length-encode f))
     (subst (λ (n : ℕ). Yields (block s k img) n (placesOf (x .frames)) (sinceOf (x .frames)) 0 headerLen fs) (sym end)
     (yields-all (block s k img) (x .frames) g))))))
     (λ t.
-    subst (λ (b : Bool). Follows img (enterWipe a) (framePlan b k e x f) (framedAt b l k e x f)) (sym t)
-    (subst (λ (m : ℕ). Follows img (enterWipe a) (onBlock k (writes e (encode f))) (idle l k (e + m))) (length-encode f)
+    subst (λ (b : Bool). Follows exec img (enterWipe a) (framePlan b k e x f) (framedAt b l k e x f)) (sym t)
+    (subst (λ (m : ℕ). Follows exec img (enterWipe a) (onBlock k (writes e (encode f))) (idle (rest l k (e + m)))) (length-encode f)
     (follows-staying img l k e (placesOf (x .frames)) (a .job) 0 headerLen (encode f) [] long tt has here header t
     (omega (arith, length-encode f, ltb-false (sizeOf img) (r .end + frameLen f) t)))))

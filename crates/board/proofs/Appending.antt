@@ -19,12 +19,12 @@ use Rattle.frame.specs.Reader.{clean, cut}
 use Rattle.frame.proofs.Encode.{length-encode, length-all, bytes-encode, stands-any, stands-append, encode-snoc, total-snoc}
 use Rattle.frame.proofs.Scanning.{scan-blank, scan-cut}
 use Rattle.journal.specs.Block.{validData, header}
-use Rattle.journal.specs.Replay.{Object, next, replay}
+use Rattle.journal.specs.Replay.{Object, nextState, replay}
 use Rattle.journal.proofs.Blocks.{layout-size}
 use Rattle.journal.proofs.Replaying.{replay-snoc}
 use Rattle.journal.proofs.States.{Contents}
 use Rattle.journal.proofs.Building.{Lands}
-use Rattle.board.specs.Record.{idle}
+use Rattle.board.specs.Record.{rest, idle}
 use Rattle.board.specs.Mount.{endOf}
 use Rattle.board.specs.Plan.{onBlock, appendPlan}
 use Rattle.board.proofs.Invariant.{StepLands, Safe}
@@ -179,9 +179,9 @@ module _ {s k t : ℕ} {img : List ℕ} {fs : List Frame} (a : Alone s img k t f
   append-alone =
       alone-written (frameWrites fs f) a (below-writes s (endOf fs) (encode f) (omega (arith, length-encode f, x .short))) (whole-contents (a .contents) f fits)
 
-  pub append-ends : (l : ℕ) → length img ≡ suc l → Roomy s (next (replay fs) f)
-      → After s (applyAll s (appendPlan k (endOf fs) f) img) (idle l k (endOf fs + frameLen f)) (next (replay fs) f)
+  pub append-ends : (l : ℕ) → length img ≡ suc l → Roomy s (nextState (replay fs) f)
+      → After s (applyAll s (appendPlan k (endOf fs) f) img) (idle (rest l k (endOf fs + frameLen f))) (nextState (replay fs) f)
   append-ends l e room =
       let end : endOf (fs ++ (f ∷ [])) ≡ endOf fs + frameLen f = omega (arith, total-snoc fs f) in
-      subst (λ (n : ℕ). After s (applyAll s (appendPlan k (endOf fs) f) img) (idle l k n) (next (replay fs) f)) end
-      (alone-after l (next (replay fs) f) append-alone (length-all-steps s (appendPlan k (endOf fs) f) img ∙ e) (replay-snoc fs f) room)
+      subst (λ (n : ℕ). After s (applyAll s (appendPlan k (endOf fs) f) img) (idle (rest l k n)) (nextState (replay fs) f)) end
+      (alone-after l (nextState (replay fs) f) append-alone (length-all-steps s (appendPlan k (endOf fs) f) img ∙ e) (replay-snoc fs f) room)

@@ -9,7 +9,7 @@ use borrow.Author.Tests.{eqb-false, ltb-false}
 use Rattle.flash.proofs.Cases.{on-test}
 use Rattle.frame.specs.declared.Host.{Host}
 use Rattle.frame.specs.Frame.{hostMax, Change, put, delete, Frame, change, commit, abort, frameLen, deleteLen, endLen}
-use Rattle.journal.specs.Replay.{Entry, entry, State, next, listOf, without, isOpen, changeAll}
+use Rattle.journal.specs.Replay.{Entry, entry, State, nextState, listOf, without, isOpen, changeAll}
 use Rattle.journal.specs.Room.{claimed, openHosts, noRoom, spare}
 use Rattle.journal.proofs.Lists.{list-own, list-other, list-snoc, list-snoc-other, not-open}
 use Rattle.journal.proofs.Room.{host-is, kept, commit-room, abort-room, change-room, kept-change, kept-commit, kept-abort, kept-claimed, fewer-without, open-pos}
@@ -53,13 +53,13 @@ lists-none ps b h t l = lists-with ps ps b h [] (b .under) l (not-open h ps t) (
 -- once the frame f is in a journal of state st, replay agrees with what finishes the book
 pub record Entered (s : ℕ) (st : State) (f : Frame) (b : Book) : Type 0 where
   pub fits : claimed st + frameLen f ≤ s
-  pub room : claimed (next st f) + endLen * openHosts (next st f .pending) ≤ s
-  pub spare : kept (next st f) + (deleteLen + endLen) ≤ s
-  pub objects : next st f .objects ≡ finishing b (b .under) .objects
-  pub lists : Lists (next st f .pending) (finishing b (b .under))
+  pub room : claimed (nextState st f) + endLen * openHosts (nextState st f .pending) ≤ s
+  pub spare : kept (nextState st f) + (deleteLen + endLen) ≤ s
+  pub objects : nextState st f .objects ≡ finishing b (b .under) .objects
+  pub lists : Lists (nextState st f .pending) (finishing b (b .under))
   pub under : finishing b (b .under) .under ≡ nothing
 
-pub idle-book : {s : ℕ} {img : List ℕ} {r : Record} {st : State} {f : Frame} {b : Book} → Entered s st f b → After s img r (next st f)
+pub idle-book : {s : ℕ} {img : List ℕ} {r : Record} {st : State} {f : Frame} {b : Book} → Entered s st f b → After s img r (nextState st f)
     → IdleBook s img r (finishing b (b .under))
 idle-book {s} {img} {r} {st} {f} {b} e a =
     record {
@@ -84,7 +84,7 @@ under-none P b e x = subst (λ (w : UnderWay). P (finishing b w)) (sym e) x
 
 module _ {s : ℕ} {st : State} {b : Book} (y : Found s st b) (h : Host) (k : h .0 ≤ hostMax) where
   change-spare : (c : Change) → claimed st + frameLen (change h c) + endLen * openHosts (st .pending ++ (entry h c ∷ [])) + spare c ≤ s
-      → kept (next st (change h c)) + (deleteLen + endLen) ≤ s
+      → kept (nextState st (change h c)) + (deleteLen + endLen) ≤ s
   change-spare (put i v) l = omega (arith, kept-change st h (put i v), kept-claimed st)
   change-spare (delete i) l = omega (arith, kept-change st h (delete i), y .spare)
 

@@ -22,7 +22,7 @@ use Rattle.wire.specs.declared.Refusal.the-variants as refusal
 use Rattle.board.specs.declared.Phase.{Phase}
 use Rattle.board.specs.declared.Phase.the-variants.{Unmounted, Idle, Busy}
 use Rattle.board.specs.declared.Record.{Record}
-use Rattle.board.specs.Record.{Out, out, refuse, unmounted, idle, answerOf, allowed}
+use Rattle.board.specs.Record.{Out, out, refuse, unmounted, rest, idle, answerOf, allowed}
 use Rattle.board.specs.Step.{enterWipe, begin}
 use Rattle.board.specs.Mount.{Store, allFound, wipeList, needsTransfer, mountJob, mountOn, formatJob, formatOn}
 use Rattle.board.specs.Exec.{Call, request, step, mount, format, exec}
@@ -46,7 +46,7 @@ use Rattle.board.proofs.Requests.{Requested, request-keeps}
 
 -- ---- what the invariant gives between calls
 
-finishes : {s : ℕ} {P : Step → List ℕ → Type 0} {Q : List ℕ → Record → Type 0} {img : List ℕ} {r : Record} → Sized s img → InJob s P Q img r → Finishes img r
+finishes : {s : ℕ} {P : Step → List ℕ → Type 0} {Q : List ℕ → Record → Type 0} {img : List ℕ} {r : Record} → Sized s img → InJob s P Q img r → Finishes exec img r
 finishes z j =
     record {
       plan = drop (j .count) (j .plan);
@@ -68,10 +68,10 @@ idle-agrees {s} {img} {r} {b} z y =
       room = λ e. omega (arith, size-of z, y .spare, kept-none (replay (y .ready .frames)) e);
     }
 
-pub agrees : {s : ℕ} {img : List ℕ} {r : Record} {b : Book} {u : Bool} → Inv s img r b u → Agrees img r b
+pub agrees : {s : ℕ} {img : List ℕ} {r : Record} {b : Book} {u : Bool} → Inv s img r b u → Agrees exec img r b
 agrees {s} {img} {r} {b} {u} v = go (r .phase) (v .phase)
   where
-    go : (p : Phase) → InPhase p s img r b u → AgreesIn p img r b
+    go : (p : Phase) → InPhase p s img r b u → AgreesIn exec p img r b
     go Unmounted x = tt
     go Idle y = idle-agrees (v .sized) y
     go (Busy g) j = finishes (v .sized) j
@@ -97,9 +97,9 @@ empty-book {s} {img} {r} h a =
 format-works : {s : ℕ} {img : List ℕ} (os : List Object) {u : Bool} → Sized s img → Safe s img os u
     → (answerOf (enterWipe (formatJob img)) ≡ More) × Working s img (enterWipe (formatJob img)) (book os noLists formatting) true
 format-works {s} {img} os z f =
-    let a : After s (applyAll s formatPlan img) (idle (length img - 1) 0 headerLen) (state [] []) = format-ends z in
-    job-starts img (enterWipe (formatJob img)) formatPlan (idle (length img - 1) 0 headerLen) (follows-format img (z .ok)) (omega (arith, length-format))
-    (omega (arith, length-format, z .low)) (format-safe z f) (empty-book (z .low) a) (ready-idle (a .ready))
+    let a : After s (applyAll s (formatPlan img) img) (idle (rest (length img - 1) 0 headerLen)) (state [] []) = format-ends z in
+    job-starts img (enterWipe (formatJob img)) (formatPlan img) (idle (rest (length img - 1) 0 headerLen)) (follows-format img (z .ok)) (omega (arith, length-format img))
+    (omega (arith, length-format img, z .low)) (format-safe z f) (empty-book (z .low) a) (ready-idle (a .ready))
 
 format-call : {s : ℕ} {img : List ℕ} {r : Record} {b : Book} {u : Bool} → Inv s img r b u → FormatKeeps s b u (formatOn img)
 format-call {s} {img} {r} {b} {u} v =
@@ -208,7 +208,7 @@ call-keeps v step by = let y = step-keeps v in (y .1, y .0)
 call-keeps v mount by = let y = mount-call v in (y .1, y .0)
 call-keeps v format by = let y = format-call v in (y .1, y .0)
 
-pub run-holds : {s : ℕ} {img : List ℕ} {r : Record} {b : Book} {u : Bool} → Inv s img r b u → (cs : List Call) → ByteCalls cs → Run img r b u cs
+pub run-holds : {s : ℕ} {img : List ℕ} {r : Record} {b : Book} {u : Bool} → Inv s img r b u → (cs : List Call) → ByteCalls cs → Run exec img r b u cs
 run-holds v [] by = agrees v
 run-holds v (c ∷ cs) (by, bys) = let y = call-keeps v c by in (agrees v, y .0, run-holds (y .1) cs bys)
 
@@ -216,7 +216,7 @@ run-holds v (c ∷ cs) (by, bys) = let y = call-keeps v c by in (agrees v, y .0,
 
 -- all steps of a plan, made
 follows-steps : (plan : List Step) (x : Step) (xs : List Step) → plan ≡ x ∷ xs → (s : ℕ) (o : Out) (last : Record) → sizeOf (o .image) ≡ s
-    → Follows (o .image) (o .board) plan last → stepsOn (length plan) o ≡ out (answerOf last) (applyAll s plan (o .image)) last []
+    → Follows exec (o .image) (o .board) plan last → stepsOn exec (length plan) o ≡ out (answerOf last) (applyAll s plan (o .image)) last []
 unfolding applyAll
 follows-steps [] x xs e s o last z f = let w : _≡_ {A = ℕ} 0 1 = cc in absurd (omega arith)
 follows-steps (y ∷ []) x xs e s o last z (m, (n, g, f)) =
@@ -224,29 +224,29 @@ follows-steps (y ∷ []) x xs e s o last z (m, (n, g, f)) =
     ∙ ap (λ (w : ℕ). out (answerOf last) (apply w y (o .image)) last []) z
 follows-steps (y ∷ y′ ∷ ys) x xs e s o last z (m, (n, g, f)) =
     let i : List ℕ = apply (sizeOf (o .image)) y (o .image) in
-    ap (λ (q : Out). stepsOn (length (y′ ∷ ys)) q) g
+    ap (λ (q : Out). stepsOn exec (length (y′ ∷ ys)) q) g
     ∙ follows-steps (y′ ∷ ys) y′ ys refl s (out (answerOf n) i n []) last (ap (λ (w : ℕ). w / blocks) (length-apply (sizeOf (o .image)) y (o .image)) ∙ z) f
     ∙ ap (λ (w : ℕ). out (answerOf last) (applyAll s (y′ ∷ ys) (apply w y (o .image))) last []) z
 
-format-done : {s : ℕ} {img : List ℕ} → Sized s img → formatted img ≡ out Done (applyAll s formatPlan img) (idle (length img - 1) 0 headerLen) []
-format-done {s} {img} z =
-    ap (stepsOn 12) (format-begins img (z .ok))
-    ∙ ap (λ (n : ℕ). stepsOn n (begin img [] (formatJob img))) (sym length-format)
-    ∙ follows-steps formatPlan (erase 0) (drop 1 formatPlan) refl s (begin img [] (formatJob img)) (idle (length img - 1) 0 headerLen) (size-of z)
+format-done : {s : ℕ} {img : List ℕ} (r : Record) → Sized s img → formatted exec img r ≡ out Done (applyAll s (formatPlan img) img) (idle (rest (length img - 1) 0 headerLen)) []
+format-done {s} {img} r z =
+    ap (stepsOn exec 12) (format-begins img (z .ok))
+    ∙ ap (λ (n : ℕ). stepsOn exec n (begin img [] (formatJob img))) (sym (length-format img))
+    ∙ follows-steps (formatPlan img) (erase 0) (drop 1 (formatPlan img)) refl s (begin img [] (formatJob img)) (idle (rest (length img - 1) 0 headerLen)) (size-of z)
     (follows-format img (z .ok))
 
 -- the invariant after a finished format
-pub formatted-inv : (img : List ℕ) → Bytes img → allowed (length img) ≡ true
-    → Inv (sizeOf img) (formatted img .image) (formatted img .board) firstBook false
-formatted-inv img by ok =
+pub formatted-inv : (img : List ℕ) (r : Record) → Bytes img → allowed (length img) ≡ true
+    → Inv (sizeOf img) (formatted exec img r .image) (formatted exec img r .board) firstBook false
+formatted-inv img r by ok =
     let z : Sized (sizeOf img) img = sized-of img ok in
-    let i : List ℕ = applyAll (sizeOf img) formatPlan img in
-    subst (λ (o : Out). Inv (sizeOf img) (o .image) (o .board) firstBook false) (sym (format-done z))
-    (inv-idle (idle (length img - 1) 0 headerLen) (sized-as i (length-all-steps (sizeOf img) formatPlan img) z)
-    (bytes-all-steps (sizeOf img) formatPlan img by) (empty-book (z .low) (format-ends z)))
+    let i : List ℕ = applyAll (sizeOf img) (formatPlan img) img in
+    subst (λ (o : Out). Inv (sizeOf img) (o .image) (o .board) firstBook false) (sym (format-done r z))
+    (inv-idle (idle (rest (length img - 1) 0 headerLen)) (sized-as i (length-all-steps (sizeOf img) (formatPlan img) img) z)
+    (bytes-all-steps (sizeOf img) (formatPlan img) img by) (empty-book (z .low) (format-ends z)))
 
-pub claim : Claim
+pub claim : Claim exec
 unfolding Claim
-claim img by ok =
-    let e : formatted img ≡ out Done (applyAll (sizeOf img) formatPlan img) (idle (length img - 1) 0 headerLen) [] = format-done (sized-of img ok) in
-    (ap (λ (o : Out). o .answer) e, ap (λ (o : Out). o .board .phase) e, λ cs bs. run-holds (formatted-inv img by ok) cs bs)
+claim img r by ok =
+    let e : formatted exec img r ≡ out Done (applyAll (sizeOf img) (formatPlan img) img) (idle (rest (length img - 1) 0 headerLen)) [] = format-done r (sized-of img ok) in
+    (ap (λ (o : Out). o .answer) e, ap (λ (o : Out). o .board .phase) e, λ cs bs. run-holds (formatted-inv img r by ok) cs bs)

@@ -17,11 +17,12 @@ use Rattle.journal.proofs.Blocks.{blank-block}
 use Rattle.journal.proofs.States.{Contents}
 use Rattle.journal.proofs.Room.{kept, used-kept, kept-none}
 use Rattle.board.specs.declared.Record.{Record}
-use Rattle.board.specs.Record.{idle}
+use Rattle.board.specs.Record.{rest, idle}
 use Rattle.board.specs.Mount.{nextBlock, endOf}
 use Rattle.board.specs.Plan.{onBlock}
+use Rattle.board.proofs.Numbers.{next-there, next-only, next-next}
 use Rattle.board.proofs.Images.{Sized, sized-as, sized-block, length-all-steps, block-writes, other-writes}
-use Rattle.board.proofs.Invariant.{Valid, Quiet, Others, Safe, one-valid, two-valid, Ready}
+use Rattle.board.proofs.Invariant.{Valid, Quiet, Others, Lesser, quiet, older, Safe, some-valid, Ready}
 
 pub record Alone (s : ℕ) (img : List ℕ) (k t : ℕ) (fs : List Frame) (c : Tail) : Type 0 where
   pub sized : Sized s img
@@ -45,7 +46,7 @@ abbrev pub Roomy : ℕ → State → Type 0
 Roomy s st = claimed st + endLen * openHosts (st .pending) ≤ s
 
 pub alone-after : {s k t : ℕ} {img : List ℕ} {fs : List Frame} (l : ℕ) (st : State) → Alone s img k t fs clean → length img ≡ suc l → replay fs ≡ st
-    → Roomy s st → After s img (idle l k (endOf fs)) st
+    → Roomy s st → After s img (idle (rest l k (endOf fs))) st
 alone-after {s} {k} {t} {img} {fs} l st x long e room =
     record {
       ready = record {
@@ -84,14 +85,15 @@ blank-quiet s b e = subst Quiet (sym (ap blockState e ∙ blank-block s)) tt
 
 pub alone-safe : {s k t : ℕ} {img : List ℕ} {fs : List Frame} {c : Tail} {os : List Object} (u : Bool) → Alone s img k t fs c → Keeps s (replay fs) os
     → Safe s img os u
-alone-safe {s} {k} {t} {img} u x p = one-valid k (x .there) (valid-of (x .contents) p) (λ j h n. blank-quiet s (block s j img) (x .others j h n))
+alone-safe {s} {k} {t} {img} u x p = some-valid k (x .there) (valid-of (x .contents) p) (λ j h n. quiet (blank-quiet s (block s j img) (x .others j h n)))
 
--- two valid blocks
+-- a block and a newer one
 pub both-safe : {s : ℕ} {img : List ℕ} {os : List Object} (u : Bool) (k : ℕ) → k < blocks → (x : Valid s img k os) (y : Valid s img (nextBlock k) os)
-    → (x .time ≡ y .time → ⊥) → Safe s img os u
-both-safe u zero h x y n = two-valid x y n
-both-safe u (suc zero) h x y n = two-valid y x (λ e. n (sym e))
-both-safe u (suc (suc k)) h x y n = absurd (omega arith)
+    → x .time < y .time → Safe s img os u
+both-safe {s} {img} {os} u k h x y l =
+    some-valid (nextBlock k) (next-there k h) y
+    (λ j g n. let e : j ≡ k = next-only (nextBlock k) (next-there k h) j g n ∙ next-next k h in
+    subst (Lesser s img (y .time) os) (sym e) (older x l))
 
 -- ---- the block written to
 

@@ -17,16 +17,16 @@ use Rattle.journal.specs.Block.{headerLen, BlockState, blank, inProgress, valid
 use Rattle.journal.proofs.Blocks.{blank-block}
 use Rattle.journal.proofs.States.{contents-valid}
 use Rattle.board.specs.declared.Record.{Record}
-use Rattle.board.specs.Record.{Out, out, idle, answerOf}
+use Rattle.board.specs.Record.{Out, out, rest, idle, answerOf}
 use Rattle.board.specs.Step.{begin}
 use Rattle.board.specs.Mount.{formatJob, formatOn}
-use Rattle.board.specs.Exec.{Call}
+use Rattle.board.specs.Exec.{Call, exec}
 use Rattle.board.specs.Plan.{Follows, formatPlan}
 use Rattle.board.specs.Book.{Book}
 use Rattle.board.specs.Claim.{stepsOn, ByteCalls}
 use Rattle.board.specs.CutFormat.{Left, afterAll, leftBy, Beside, OldObjects, Empty, EmptyStore, Leaves, old-objects, no-store, empty-store, CutFormat}
 use Rattle.board.proofs.Images.{Sized, size-of, sized-as, length-all-steps}
-use Rattle.board.proofs.Invariant.{Valid, Quiet, Safe, no-valid, one-valid, two-valid, Inv}
+use Rattle.board.proofs.Invariant.{Valid, Quiet, Lesser, quiet, older, Safe, no-valid, some-valid, Inv}
 use Rattle.board.proofs.Current.{Alone}
 use Rattle.board.proofs.Outcomes.{format-begins}
 use Rattle.board.proofs.Keeping.{safe-of}
@@ -42,27 +42,27 @@ pub record Ended (s : ℕ) (l : Left) : Type 0 where
   pub unfinished : Bool
   pub inv : Inv s (l .image) (l .board) (l .book) unfinished
 
-pub run-ends : {s : ℕ} {img : List ℕ} {r : Record} {b : Book} {u : Bool} → Inv s img r b u → (cs : List Call) → ByteCalls cs → Ended s (afterAll img r b cs)
+pub run-ends : {s : ℕ} {img : List ℕ} {r : Record} {b : Book} {u : Bool} → Inv s img r b u → (cs : List Call) → ByteCalls cs → Ended s (afterAll exec img r b cs)
 run-ends {s} {img} {r} {b} {u} v [] by = record { unfinished = u; inv = v }
 run-ends v (c ∷ cs) (by, bys) = run-ends (call-keeps v c by .1) cs bys
 
 -- ---- some steps of a plan, made
 
-follows-part : (s j : ℕ) (plan : List Step) (o : Out) (last : Record) → sizeOf (o .image) ≡ s → j ≤ length plan → Follows (o .image) (o .board) plan last
-    → stepsOn j o .image ≡ applyAll s (take j plan) (o .image)
+follows-part : (s j : ℕ) (plan : List Step) (o : Out) (last : Record) → sizeOf (o .image) ≡ s → j ≤ length plan → Follows exec (o .image) (o .board) plan last
+    → stepsOn exec j o .image ≡ applyAll s (take j plan) (o .image)
 unfolding applyAll
 follows-part s zero plan o last z h f = refl
 follows-part s (suc j) [] o last z h f = absurd (omega arith)
 follows-part s (suc j) (x ∷ xs) o last z h (m, (n, g, f)) =
     let i : List ℕ = apply (sizeOf (o .image)) x (o .image) in
-    ap (λ (q : Out). stepsOn j q .image) g
+    ap (λ (q : Out). stepsOn exec j q .image) g
     ∙ follows-part s j xs (out (answerOf n) i n []) last (ap (λ (w : ℕ). w / blocks) (length-apply (sizeOf (o .image)) x (o .image)) ∙ z) (omega arith) f
     ∙ ap (λ (w : ℕ). applyAll s (take j xs) (apply w x (o .image))) z
 
-format-part : {s : ℕ} {img : List ℕ} (j : ℕ) → Sized s img → j ≤ 12 → stepsOn j (formatOn img) .image ≡ applyAll s (take j formatPlan) img
+format-part : {s : ℕ} {img : List ℕ} (j : ℕ) → Sized s img → j ≤ 12 → stepsOn exec j (formatOn img) .image ≡ applyAll s (take j (formatPlan img)) img
 format-part {s} {img} j z h =
-    ap (λ (o : Out). stepsOn j o .image) (format-begins img (z .ok))
-    ∙ follows-part s j formatPlan (begin img [] (formatJob img)) (idle (length img - 1) 0 headerLen) (size-of z) (omega (arith, length-format))
+    ap (λ (o : Out). stepsOn exec j o .image) (format-begins img (z .ok))
+    ∙ follows-part s j (formatPlan img) (begin img [] (formatJob img)) (idle (rest (length img - 1) 0 headerLen)) (size-of z) (omega (arith, length-format img))
     (follows-format img (z .ok))
 
 -- ---- what is left
@@ -99,13 +99,11 @@ module _ {s : ℕ} {img : List ℕ} (z : Sized s img) where
 
   safe-old : {os : List Object} → Safe s img os false → OldObjects img os
   safe-old (no-valid e q) = absurd (false≢true e)
-  safe-old {os} (one-valid k h v q) = valid-old k h v (λ j l n. quiet-beside (v .time) os (blockState (block s j img)) (q j l n))
-  safe-old {os} (two-valid x y n) = valid-old 0 (omega arith) x other
+  safe-old {os} (some-valid k h v q) = valid-old k h v (λ j l n. other j (q j l n))
     where
-      other : (j : ℕ) → j < blocks → (j ≡ 0 → ⊥) → Beside (x .time) os (blockState (block s j img))
-      other zero l d = absurd (d refl)
-      other (suc zero) l d = subst (Beside (x .time) os) (sym (contents-valid (y .contents))) ((λ e. n (sym e)), y .same)
-      other (suc (suc j)) l d = absurd (omega arith)
+      other : (j : ℕ) → Lesser s img (v .time) os j → Beside (v .time) os (blockState (block s j img))
+      other j (quiet x) = quiet-beside (v .time) os (blockState (block s j img)) x
+      other j (older w l) = subst (Beside (v .time) os) (sym (contents-valid (w .contents))) ((λ e. omega arith), w .same)
 
   alone-empty : Alone s img 0 1 [] clean → EmptyStore img
   alone-empty y =
@@ -117,23 +115,23 @@ module _ {s : ℕ} {img : List ℕ} (z : Sized s img) where
   cut-leaves : {os : List Object} (j : ℕ) → j < 12 → FormatCut s img os j → Leaves os j img
   cut-leaves j h (FormatCut.old-objects f) = old-objects h (safe-old f)
   cut-leaves j h (FormatCut.no-store q) = no-store h (λ i l. at-size Empty i (quiet-empty (blockState (block s i img)) (q i l)))
-  cut-leaves j h (FormatCut.empty-store e y) = absurd (omega (arith, length-format))
+  cut-leaves j h (FormatCut.empty-store e y) = absurd (omega arith)
 
 format-leaves : {s : ℕ} {img : List ℕ} {os : List Object} {u : Bool} (j : ℕ) → Sized s img → Safe s img os u → j ≤ 12
-    → Leaves os j (stepsOn j (formatOn img) .image)
+    → Leaves os j (stepsOn exec j (formatOn img) .image)
 format-leaves {s} {img} {os} {u} j z f h =
-    let i : List ℕ = applyAll s (take j formatPlan) img in
-    let after : Sized s i = sized-as i (length-all-steps s (take j formatPlan) img) z in
+    let i : List ℕ = applyAll s (take j (formatPlan img)) img in
+    let after : Sized s i = sized-as i (length-all-steps s (take j (formatPlan img)) img) z in
     subst (Leaves os j) (sym (format-part j z h))
     (on-test (ltb j 12)
-    (λ t. cut-leaves after j (ltb-true j 12 t) (format-cut z f j (omega (arith, length-format))))
+    (λ t. cut-leaves after j (ltb-true j 12 t) (format-cut z f j (omega (arith, length-format img))))
     (λ t. empty-store (omega (arith, ltb-false j 12 t))
     (alone-empty after
     (subst (λ (p : List Step). Alone s (applyAll s p img) 0 1 [] clean)
-    (sym (take-all j formatPlan (omega (arith, length-format, ltb-false j 12 t)))) (format-alone z)))))
+    (sym (take-all j (formatPlan img) (omega (arith, length-format img, ltb-false j 12 t)))) (format-alone z)))))
 
-pub cut-format : CutFormat
+pub cut-format : CutFormat exec
 unfolding CutFormat
-cut-format img cs j by ok bs h =
-    let y : Ended (sizeOf img) (leftBy img cs) = run-ends (formatted-inv img by ok) cs bs in
+cut-format img r cs j by ok bs h =
+    let y : Ended (sizeOf img) (leftBy exec img r cs) = run-ends (formatted-inv img r by ok) cs bs in
     format-leaves j (y .inv .sized) (safe-of (y .inv)) h

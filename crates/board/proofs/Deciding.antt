@@ -28,7 +28,7 @@ use Rattle.board.specs.Mount.{Found, allFound, anyForeign, Store, stores
 use Rattle.board.specs.Claim.{WornOut}
 use Rattle.board.specs.Demand2.{Accepted}
 use Rattle.board.proofs.Images.{Sized, size-of}
-use Rattle.board.proofs.Invariant.{Valid, Quiet, Others, Safe, no-valid, one-valid, two-valid}
+use Rattle.board.proofs.Invariant.{Valid, Quiet, Others, Lesser, quiet, older, Safe, no-valid, some-valid}
 use Rattle.board.proofs.Outcomes.{mount-foreign, mount-none, mount-equal, mount-at, mount-worn, mount-begins}
 use Rattle.board.proofs.Current.{Keeps, block-long}
 use Rattle.board.proofs.Erasing.{NoStore, safe-some, safe-or, safe-at, SameValid, same-valid, quiet-not-valid}
@@ -271,15 +271,22 @@ mount-safe {s} {img} {os} {u} z f = go (mount-decides z)
         let c : valid (v .time) (v .frames) (v .tail) ≡ foreign e = sym (contents-valid (v .contents)) ∙ p in
         let y : _≡_ {A = ℕ} 0 1 = cc in omega arith
 
+    -- a block of the newest's time is not beside it
+    clash : {k j t : ℕ} {fs gs : List Frame} {c d : Tail} (v : Valid s img k os) → Lesser s img (v .time) os j
+        → blockState (block s k img) ≡ valid t fs c → blockState (block s j img) ≡ valid t gs d → ⊥
+    clash {k} {j} {t} {fs} {gs} {c} {d} v (quiet x) p q = quiet-not-valid (blockState (block s j img)) t gs d x q
+    clash v (older w l) p q =
+        let e : v .time ≡ _ = same-valid (sym (contents-valid (v .contents)) ∙ p) .time in
+        let f : w .time ≡ _ = same-valid (sym (contents-valid (w .contents)) ∙ q) .time in omega arith
+
     not-equal : (t : ℕ) (fs gs : List Frame) (c d : Tail) → blockState (block s 0 img) ≡ valid t fs c → blockState (block s 1 img) ≡ valid t gs d
         → Safe s img os u → ⊥
     not-equal t fs gs c d p q (no-valid e n) = quiet-not-valid (blockState (block s 0 img)) t fs c (n 0 (omega arith)) p
-    not-equal t fs gs c d p q (one-valid k h v n) =
+    not-equal t fs gs c d p q (some-valid k h v n) =
         on-test (eqb k 0)
-        (λ a. let e : k ≡ 0 = eqb-true k 0 a in quiet-not-valid (blockState (block s 1 img)) t gs d (n 1 (omega arith) (λ b. omega arith)) q)
-        (λ a. quiet-not-valid (blockState (block s 0 img)) t fs c (n 0 (omega arith) (λ b. eqb-false k 0 a (sym b))) p)
-    not-equal t fs gs c d p q (two-valid x y n) =
-        n (same-valid (sym (contents-valid (x .contents)) ∙ p) .time ∙ sym (same-valid (sym (contents-valid (y .contents)) ∙ q) .time))
+        (λ a. let e : k ≡ 0 = eqb-true k 0 a in clash v (n 1 (omega arith) (λ b. omega arith)) (ap (λ (i : ℕ). blockState (block s i img)) e ∙ p) q)
+        (λ a. let e : k ≡ 1 = omega (arith, eqb-false k 0 a) in
+        clash v (n 0 (omega arith) (λ b. eqb-false k 0 a (sym b))) (ap (λ (i : ℕ). blockState (block s i img)) e ∙ q) p)
 
     none : NoStore s img → mountOn img ≡ refuse refusal.NoStore img unmounted [] → Safe s img os false ⊎ ((u ≡ true) × NoStore s img)
         → MountSafe s img os u

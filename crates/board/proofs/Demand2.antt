@@ -24,11 +24,11 @@ use Rattle.wire.specs.declared.Answer.the-variants.{Done, More, Refused}
 use Rattle.board.specs.declared.Phase.{Phase}
 use Rattle.board.specs.declared.Phase.the-variants.{Unmounted, Idle, Busy}
 use Rattle.board.specs.declared.Record.{Record}
-use Rattle.board.specs.Record.{Out, out, unmounted, idle, allowed, answerOf}
+use Rattle.board.specs.Record.{Out, out, unmounted, rest, idle, allowed, answerOf}
 use Rattle.board.specs.Step.{stepOn, enterWipe}
 use Rattle.board.specs.Mount.{Store, allFound, wipeList, needsTransfer, mountJob, mountOn, formatJob, formatOn}
 use Rattle.board.specs.Queue.{requestOn}
-use Rattle.board.specs.Exec.{Call, request, step, mount, format}
+use Rattle.board.specs.Exec.{Call, request, step, mount, format, exec}
 use Rattle.board.specs.Plan.{Follows, formatPlan, mountPlan, mountedAt}
 use Rattle.board.specs.Demand1.{Rests, RefusalsUntouched, AtMostOneStep}
 use Rattle.board.specs.Claim.{ByteCalls}
@@ -61,7 +61,7 @@ module _ {s : ℕ} {img : List ℕ} (z : Sized s img) (y : Begins s img) where
   abbrev job : Record
   job = enterWipe (mountJob img x (wipeList (x .number) (allFound img)))
 
-  mount-follows : Follows img job (mountPlan (allFound img) x) last
+  mount-follows : Follows exec img job (mountPlan (allFound img) x) last
   mount-follows =
       follows-mount img x (wipeList (x .number) (allFound img)) (z .ok) (y .taken .there) (wiped-besides (x .number) img)
       (subst (λ (n : ℕ). Journal (block n (x .number) img) (x .frames)) (sym (size-of z)) (journal-of (y .holds)))
@@ -75,15 +75,15 @@ module _ {s : ℕ} {img : List ℕ} (z : Sized s img) (y : Begins s img) where
       job-begins img job (mountPlan (allFound img) x) last mount-follows (mount-short x z (y .taken .there) (y .holds) (y .in-time))
       (mount-lands x z (y .taken .there) (y .holds) (y .in-time)) (after .ready) (ready-idle (after .ready))
 
-pub one-store : OneStore
+pub one-store : OneStore exec
 unfolding OneStore
-one-store img by ok a =
+one-store img r by ok a =
     let s : ℕ = sizeOf img in
     let z : Sized s img = sized-of img ok in
     let y : Begins s img = mount-accepted z by a in
     let x : Store = y .store in
     let e : After s (applyAll s (mountPlan (allFound img) x) img) (last z y) (settledOnly (replay (x .frames))) = after z y in
-    subst (Mounts img) (sym (y .begins))
+    subst (Mounts exec img) (sym (y .begins))
     (record {
       store = x;
       there = y .taken .there;
@@ -217,15 +217,15 @@ mount-kept {s} {img} z by = go (mountOn img .answer) refl
 
 format-kept : {s : ℕ} {img : List ℕ} → Sized s img → Bytes img → Steady s img (formatOn img .board)
 format-kept {s} {img} z by =
-    let a : After s (applyAll s formatPlan img) (idle (length img - 1) 0 headerLen) (state [] []) = format-ends z in
+    let a : After s (applyAll s (formatPlan img) img) (idle (rest (length img - 1) 0 headerLen)) (state [] []) = format-ends z in
     let j : (answerOf (enterWipe (formatJob img)) ≡ More) × InJob s (StepLands s) (Ready s) img (enterWipe (formatJob img)) =
-    job-starts img (enterWipe (formatJob img)) formatPlan (idle (length img - 1) 0 headerLen) (follows-format img (z .ok)) (omega (arith, length-format))
-    (omega (arith, length-format, z .low)) (format-lands z) (a .ready) (ready-idle (a .ready)) in
+    job-starts img (enterWipe (formatJob img)) (formatPlan img) (idle (rest (length img - 1) 0 headerLen)) (follows-format img (z .ok)) (omega (arith, length-format img))
+    (omega (arith, length-format img, z .low)) (format-lands z) (a .ready) (ready-idle (a .ready)) in
     subst (λ (o : Out). Steady s img (o .board)) (sym (format-begins img (z .ok))) (steady-busy z by (enterWipe (formatJob img)) (j .0) (j .1))
 
-formats : (img : List ℕ) → allowed (length img) ≡ true → Formats img (formatOn img)
+formats : (img : List ℕ) → allowed (length img) ≡ true → Formats exec img (formatOn img)
 formats img ok =
-    subst (Formats img) (sym (format-begins img ok)) (record { follows = follows-format img ok; twelve = length-format })
+    subst (Formats exec img) (sym (format-begins img ok)) (record { follows = follows-format img ok; twelve = length-format img })
 
 -- ---- every call, and every run
 
@@ -233,22 +233,22 @@ formats img ok =
 same-image : {s : ℕ} {img : List ℕ} (o : Out) → o .image ≡ img → Steady s img (o .board) → Kept s o
 same-image {s} o e v = subst (λ (l : List ℕ). Steady s l (o .board)) (sym e) v
 
-all-planned : {s : ℕ} {img : List ℕ} {r : Record} → Steady s img r → (cs : List Call) → ByteCalls cs → AllPlanned img r cs
+all-planned : {s : ℕ} {img : List ℕ} {r : Record} → Steady s img r → (cs : List Call) → ByteCalls cs → AllPlanned exec img r cs
 unfolding AtMostOneStep RequestsPlanned OneStore
 all-planned v [] by = tt
 all-planned {s} {img} {r} v (request h m reply ∷ cs) (bm, by) =
-    ((requests-planned img r reply h m (v .bytes) bm, request-done v h m reply bm), all-planned (request-kept v h m reply bm) cs by)
+    ((requests-planned img r h m reply (v .bytes) bm, request-done v h m reply bm), all-planned (request-kept v h m reply bm) cs by)
 all-planned v (step ∷ cs) (_, by) = let y = step-done v in (y .0, all-planned (y .1) cs by)
 all-planned {s} {img} {r} v (mount ∷ cs) (_, by) =
-    (one-store img (v .bytes) (v .sized .ok), all-planned (same-image (mountOn img) (at-most-one-step img r mount) (mount-kept (v .sized) (v .bytes))) cs by)
+    (one-store img r (v .bytes) (v .sized .ok), all-planned (same-image (mountOn img) (at-most-one-step img r mount) (mount-kept (v .sized) (v .bytes))) cs by)
 all-planned {s} {img} {r} v (format ∷ cs) (_, by) =
     (formats img (v .sized .ok), all-planned (same-image (formatOn img) (at-most-one-step img r format) (format-kept (v .sized) (v .bytes))) cs by)
 
-pub planned-from : PlannedFrom
+pub planned-from : PlannedFrom exec
 planned-from =
     record {
-      from-mount = λ img cs by ok bs. all-planned (mount-kept (sized-of img ok) by) cs bs;
-      from-format = λ img cs by ok bs. all-planned (format-kept (sized-of img ok) by) cs bs;
+      from-mount = λ img r cs by ok bs. all-planned (mount-kept (sized-of img ok) by) cs bs;
+      from-format = λ img r cs by ok bs. all-planned (format-kept (sized-of img ok) by) cs bs;
     }
 
 -- ---- programming only clears bits

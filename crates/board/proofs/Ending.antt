@@ -21,8 +21,9 @@ use Rattle.board.specs.declared.Stage.the-variants.{Wipe, Open, Copy, Se
 use Rattle.board.specs.declared.Phase.{Phase}
 use Rattle.board.specs.declared.Phase.the-variants.{Unmounted, Idle, Busy}
 use Rattle.board.specs.declared.Record.{Record}
-use Rattle.board.specs.Record.{inStage, Out}
+use Rattle.board.specs.Record.{inStage, Out, rest}
 use Rattle.board.specs.Step.{landed, enterAppend, enterDrop, enterCopy, enterOpen, action, pastFrame, advance, stepOn}
+use Rattle.board.specs.Exec.{exec}
 use Rattle.board.specs.Demand1.{Declared, Rests, EndsWithin, ForgedEnds}
 use Rattle.board.proofs.Outcomes.{nextFor, open-enters, open-skips, copy-loads, copy-ends, drop-enters, drop-skips, append-enters, append-skips, wipe-next, wipe-last, open-next, open-last, copy-next, copy-last, seal-next, seal-last, drop-last, append-next, append-last, step-outside, step-goes}
 
@@ -124,9 +125,9 @@ none-left (Busy Append) z r h = omega arith
 -- one call more
 module _ (n : ℕ) (img : List ℕ) (r : Record) where
   abbrev Goes : Type 0
-  Goes = (stepOn img r .answer ≡ Refused refusal.Stale) ⊎ EndsWithin n (stepOn img r .image) (stepOn img r .board)
+  Goes = (stepOn img r .answer ≡ Refused refusal.Stale) ⊎ EndsWithin exec n (stepOn img r .image) (stepOn img r .board)
 
-  one-more : ((s : Stage) → r .phase ≡ Busy s → Goes) → EndsWithin (suc n) img r
+  one-more : ((s : Stage) → r .phase ≡ Busy s → Goes) → EndsWithin exec (suc n) img r
   unfolding EndsWithin
   one-more f = go (r .phase) refl
     where
@@ -138,7 +139,7 @@ module _ (n : ℕ) (img : List ℕ) (r : Record) where
   gets-11 : (s : Stage) → r .phase ≡ Busy s → (eqb (length img) (suc (r .last)) && within (sizeOf img) (action s r)) ≡ false → Goes
   gets-11 s e t = inl (ap (λ (o : Out). o .answer) (step-outside img r s e t))
 
-  goes-on : left (sizeOf img) r ≤ suc n → ((i : List ℕ) (b : Record) → left (sizeOf i) b ≤ n → EndsWithin n i b) → (s : Stage) → r .phase ≡ Busy s
+  goes-on : left (sizeOf img) r ≤ suc n → ((i : List ℕ) (b : Record) → left (sizeOf i) b ≤ n → EndsWithin exec n i b) → (s : Stage) → r .phase ≡ Busy s
       → (eqb (length img) (suc (r .last)) && within (sizeOf img) (action s r)) ≡ true → Goes
   goes-on h rest s e t =
       let after : List ℕ = apply (sizeOf img) (action s r) img in
@@ -147,10 +148,10 @@ module _ (n : ℕ) (img : List ℕ) (r : Record) where
       let less : left (sizeOf img) (advance s after r) ≤ n =
       omega (arith, advance-less (sizeOf img) s after r (and-right (eqb (length img) (suc (r .last))) (within (sizeOf img) (action s r)) t)) in
       inr
-      (subst (λ (o : Out). EndsWithin n (o .image) (o .board)) (sym (step-goes img r s e t))
+      (subst (λ (o : Out). EndsWithin exec n (o .image) (o .board)) (sym (step-goes img r s e t))
       (rest after (advance s after r) (subst (λ (m : ℕ). left (m / blocks) (advance s after r) ≤ n) (sym l) less)))
 
-ends : (n : ℕ) (img : List ℕ) (r : Record) → left (sizeOf img) r ≤ n → EndsWithin n img r
+ends : (n : ℕ) (img : List ℕ) (r : Record) → left (sizeOf img) r ≤ n → EndsWithin exec n img r
 unfolding EndsWithin
 ends zero img r h = none-left (r .phase) (sizeOf img) r h
 ends (suc n) img r h =
@@ -159,7 +160,7 @@ ends (suc n) img r h =
     (gets-11 n img r s e))
 
 -- another image's length
-ends-at-once : (n : ℕ) (img : List ℕ) (r : Record) → 0 < n → eqb (length img) (suc (r .last)) ≡ false → EndsWithin n img r
+ends-at-once : (n : ℕ) (img : List ℕ) (r : Record) → 0 < n → eqb (length img) (suc (r .last)) ≡ false → EndsWithin exec n img r
 ends-at-once zero img r h e = absurd (omega arith)
 ends-at-once (suc n) img r h e =
     one-more n img r (λ s p. gets-11 n img r s p (and-no-left (eqb (length img) (suc (r .last))) (within (sizeOf img) (action s r)) e))
@@ -174,7 +175,7 @@ few-left (Busy Seal) img r d e = omega arith
 few-left (Busy Drop) img r d e = omega arith
 few-left (Busy Append) img r d e = omega arith
 
-pub forged-ends : ForgedEnds
+pub forged-ends : ForgedEnds exec
 unfolding ForgedEnds
 forged-ends img r d =
     on-test (eqb (length img) (suc (r .last)))

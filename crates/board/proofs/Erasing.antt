@@ -17,8 +17,10 @@ use Rattle.journal.specs.Replay.{Object}
 use Rattle.journal.specs.Block.{BlockState, valid, blockState}
 use Rattle.journal.proofs.States.{Contents, contents-valid}
 use Rattle.board.proofs.Blocks.{Blocks, Besides, besides-blocks, besides-kept}
+use Rattle.board.specs.Mount.{nextBlock}
+use Rattle.board.proofs.Numbers.{next-there, next-other, next-only}
 use Rattle.board.proofs.Images.{Sized, sized-as, sized-block, length-all-steps}
-use Rattle.board.proofs.Invariant.{Valid, Quiet, Others, Safe, no-valid, one-valid, two-valid, StepLands}
+use Rattle.board.proofs.Invariant.{Valid, Quiet, Others, Lesser, quiet, older, Safe, no-valid, some-valid, StepLands}
 use Rattle.board.proofs.Prefixes.{Each}
 use Rattle.board.proofs.Current.{Alone, blank-quiet}
 
@@ -51,32 +53,29 @@ NoStore s img = (j : ℕ) → j < blocks → Quiet (blockState (block s j img))
 -- the objects are there, or no store
 pub safe-or : {s : ℕ} {img : List ℕ} {os : List Object} {u : Bool} → Safe s img os u → Safe s img os false ⊎ ((u ≡ true) × NoStore s img)
 safe-or (no-valid e q) = inr (e, q)
-safe-or (one-valid k h v q) = inl (one-valid k h v q)
-safe-or (two-valid x y n) = inl (two-valid x y n)
+safe-or (some-valid k h v q) = inl (some-valid k h v q)
 
 pub safe-more : {s : ℕ} {img : List ℕ} {os : List Object} (u : Bool) → Safe s img os false → Safe s img os u
 safe-more u (no-valid e q) = absurd (false≢true e)
-safe-more u (one-valid k h v q) = one-valid k h v q
-safe-more u (two-valid x y n) = two-valid x y n
+safe-more u (some-valid k h v q) = some-valid k h v q
 
 pub safe-some : {s : ℕ} {img : List ℕ} {os : List Object} → Safe s img os false → NoStore s img → ⊥
 safe-some (no-valid e q) n = false≢true e
-safe-some {s} {img} (one-valid k h v q) n =
+safe-some {s} {img} (some-valid k h v q) n =
     quiet-not-valid (blockState (block s k img)) (v .time) (v .frames) (v .tail) (n k h) (contents-valid (v .contents))
-safe-some {s} {img} (two-valid x y d) n =
-    quiet-not-valid (blockState (block s 0 img)) (x .time) (x .frames) (x .tail) (n 0 (omega arith)) (contents-valid (x .contents))
 
 -- every block of it is quiet, or valid with the objects
 pub safe-at : {s : ℕ} {img : List ℕ} {os : List Object} {u : Bool} (j : ℕ) → j < blocks → Safe s img os u
     → Quiet (blockState (block s j img)) ⊎ Valid s img j os
 safe-at j h (no-valid e q) = inl (q j h)
-safe-at {s} {img} {os} j h (one-valid k l v q) =
+safe-at {s} {img} {os} j h (some-valid k l v q) =
     on-test (eqb j k)
     (λ t. inr (subst (λ (n : ℕ). Valid s img n os) (sym (eqb-true j k t)) v))
-    (λ t. inl (q j h (eqb-false j k t)))
-safe-at zero h (two-valid x y n) = inr x
-safe-at (suc zero) h (two-valid x y n) = inr y
-safe-at (suc (suc j)) h (two-valid x y n) = absurd (omega arith)
+    (λ t. go (q j h (eqb-false j k t)))
+  where
+    go : Lesser s img (v .time) os j → Quiet (blockState (block s j img)) ⊎ Valid s img j os
+    go (quiet x) = inl x
+    go (older w e) = inr w
 
 -- a valid state's parts
 pub record SameValid (t : ℕ) (fs : List Frame) (c : Tail) (t′ : ℕ) (fs′ : List Frame) (c′ : Tail) : Type 0 where
@@ -104,23 +103,35 @@ module _ {s : ℕ} {img : List ℕ} (z : Sized s img) (k : ℕ) (h : k < blocks)
       blank-quiet s (block s j (eraseBlock s k img)) e)
       (λ t. quiet-kept (block s j img) (block s j (eraseBlock s k img)) (other-erase s j k img (eqb-false j k t)) (q (eqb-false j k t)))
 
-  one-left : {os : List Object} (m : ℕ) → m < blocks → (m ≡ k → ⊥) → Valid s img m os
-      → ((j : ℕ) → j < blocks → (j ≡ k → ⊥) → (j ≡ m → ⊥) → Quiet (blockState (block s j img)))
-      → Safe s (eraseBlock s k img) os false
+  -- a block stays what it is beside another, or is blank
+  lesser-erase : {t : ℕ} {os : List Object} (j : ℕ) → ((j ≡ k → ⊥) → Lesser s img t os j) → Lesser s (eraseBlock s k img) t os j
+  lesser-erase {t} {os} j q =
+      on-test (eqb j k) (λ a. quiet (quiet-erase j (λ n. absurd (n (eqb-true j k a))))) (λ a. go (eqb-false j k a) (q (eqb-false j k a)))
+    where
+      go : (j ≡ k → ⊥) → Lesser s img t os j → Lesser s (eraseBlock s k img) t os j
+      go n (quiet x) = quiet (quiet-erase j (λ d. x))
+      go n (older w e) = older (valid-kept (eraseBlock s k img) (other-erase s j k img n) w) e
+
+  -- a valid block other than the one erased, with the rest beside it
+  one-left : {os : List Object} (m : ℕ) → m < blocks → (m ≡ k → ⊥) → (v : Valid s img m os)
+      → ((j : ℕ) → j < blocks → (j ≡ k → ⊥) → (j ≡ m → ⊥) → Lesser s img (v .time) os j) → Safe s (eraseBlock s k img) os false
   one-left m l n v q =
-      one-valid m l (valid-kept (eraseBlock s k img) (other-erase s m k img n) v) (λ j g d. quiet-erase j (λ e. q j g e d))
+      some-valid m l (valid-kept (eraseBlock s k img) (other-erase s m k img n) v) (λ j g d. lesser-erase j (λ e. q j g e d))
 
   -- the objects are still there, or no store
   pub erase-leaves : {os : List Object} {u : Bool} → Safe s img os u → Safe s (eraseBlock s k img) os false ⊎ NoStore s (eraseBlock s k img)
   erase-leaves (no-valid e q) = inr (λ j g. quiet-erase j (λ n. q j g))
-  erase-leaves (one-valid m l v q) =
-      on-test (eqb m k)
-      (λ t. inr (λ j g. quiet-erase j (λ n. q j g (λ e. n (e ∙ eqb-true m k t)))))
+  erase-leaves {os} (some-valid m l v q) =
+      on-test (eqb m k) (λ t. newest (eqb-true m k t) (q (nextBlock m) (next-there m l) (next-other m l)))
       (λ t. inl (one-left m l (eqb-false m k t) v (λ j g n d. q j g d)))
-  erase-leaves (two-valid x y n) =
-      on-test (eqb k 0)
-      (λ t. let e : k ≡ 0 = eqb-true k 0 t in inl (one-left 1 (omega arith) (λ d. omega arith) y (λ j g a b. absurd (omega arith))))
-      (λ t. let e : k ≡ 0 → ⊥ = eqb-false k 0 t in inl (one-left 0 (omega arith) (λ d. e (sym d)) x (λ j g a b. absurd (omega arith))))
+    where
+      -- the newest is erased: of two blocks the other alone can be valid
+      newest : m ≡ k → Lesser s img (v .time) os (nextBlock m) → Safe s (eraseBlock s k img) os false ⊎ NoStore s (eraseBlock s k img)
+      newest e (quiet x) =
+          inr (λ j g. quiet-erase j (λ n. subst (λ (i : ℕ). Quiet (blockState (block s i img))) (sym (next-only m l j g (λ d. n (d ∙ e)))) x))
+      newest e (older w _) =
+          inl (one-left (nextBlock m) (next-there m l) (λ d. next-other m l (d ∙ sym e)) w
+          (λ j g n d. absurd (d (next-only m l j g (λ c. n (c ∙ e))))))
 
 -- ---- erases of a list of blocks
 

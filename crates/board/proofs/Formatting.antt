@@ -20,9 +20,10 @@ use Rattle.journal.specs.Block.{headerLen, lastTime, blockState, build}
 use Rattle.journal.proofs.Blocks.{Layout}
 use Rattle.journal.proofs.States.{Contents}
 use Rattle.journal.proofs.Building.{Lands, below-build, made, making, lands}
-use Rattle.board.specs.Record.{idle}
+use Rattle.board.specs.Record.{rest, idle}
 use Rattle.board.specs.Plan.{onBlock, formatPlan}
 use Rattle.board.proofs.Images.{Sized, sized-as, apply-append, block-writes, other-writes, length-all-steps}
+use Rattle.board.proofs.Lengths.{length-format}
 use Rattle.board.proofs.Invariant.{Quiet, Safe, no-valid, StepLands}
 use Rattle.board.proofs.Prefixes.{Each, each-append, each-writes, below-take}
 use Rattle.board.proofs.Current.{Alone, After, alone-after, blank-quiet}
@@ -91,13 +92,13 @@ module _ {s : ℕ} {img : List ℕ} (z : Sized s img) where
   part-empty j h zero g = part-quiet s 0 wiped (wiped-blank 0 g) 1 [] (none-fit z) j h
   part-empty j h (suc i) g = blank-quiet s (block s (suc i) (part j)) (part-other (suc i) j g (λ e. omega arith))
 
-  pub format-lands : Each s (StepLands s) formatPlan img
+  pub format-lands : Each s (StepLands s) (formatPlan img) img
   format-lands =
       each-append s (StepLands s) (map erase blockNumbers) (onBlock 0 (build 1 [])) img (erases-land s blockNumbers img)
       (part-lands s 0 wiped (wiped-blank 0 (omega arith)) 1 [] (none-fit z) tt)
 
   -- before each step the objects are there, or no store
-  format-leaves : {os : List Object} {u : Bool} → Safe s img os u → Each s (λ y i. Safe s i os false ⊎ NoStore s i) formatPlan img
+  format-leaves : {os : List Object} {u : Bool} → Safe s img os u → Each s (λ y i. Safe s i os false ⊎ NoStore s i) (formatPlan img) img
   unfolding applyAll
   format-leaves {os} {u} f =
       each-append s (λ y i. Safe s i os false ⊎ NoStore s i) (map erase blockNumbers) (onBlock 0 (build 1 [])) img first
@@ -112,16 +113,16 @@ module _ {s : ℕ} {img : List ℕ} (z : Sized s img) where
       first (suc zero) h = erase-leaves z 0 (omega arith) f
       first (suc (suc j)) h = absurd (omega arith)
 
-  pub format-safe : {os : List Object} {u : Bool} → Safe s img os u → Each s (λ y i. Safe s i os true) formatPlan img
+  pub format-safe : {os : List Object} {u : Bool} → Safe s img os u → Each s (λ y i. Safe s i os true) (formatPlan img) img
   format-safe {os} f j h = go (format-leaves f j h)
     where
-      go : Safe s (applyAll s (take j formatPlan) img) os false ⊎ NoStore s (applyAll s (take j formatPlan) img)
-          → Safe s (applyAll s (take j formatPlan) img) os true
+      go : Safe s (applyAll s (take j (formatPlan img)) img) os false ⊎ NoStore s (applyAll s (take j (formatPlan img)) img)
+          → Safe s (applyAll s (take j (formatPlan img)) img) os true
       go (inl x) = safe-more true x
       go (inr q) = no-valid refl q
 
   -- the empty store: one block, of time 1 and no frames
-  pub format-alone : Alone s (applyAll s formatPlan img) 0 1 [] clean
+  pub format-alone : Alone s (applyAll s (formatPlan img) img) 0 1 [] clean
   format-alone =
       let ws : List Write = build 1 [] in
       let b : Below s ws = below-build s 1 [] (none-fit z) in
@@ -137,31 +138,31 @@ module _ {s : ℕ} {img : List ℕ} (z : Sized s img) where
         others = λ j h n. other-writes s j 0 ws wiped n b ∙ wiped-blank j h;
       })
 
-  pub format-ends : After s (applyAll s formatPlan img) (idle (length img - 1) 0 headerLen) (state [] [])
+  pub format-ends : After s (applyAll s (formatPlan img) img) (idle (rest (length img - 1) 0 headerLen)) (state [] [])
   unfolding total replayFrom isOpen
   format-ends =
-      alone-after (length img - 1) (state [] []) format-alone (omega (arith, length-all-steps s formatPlan img, z .two, z .low)) refl (omega (arith, z .low))
+      alone-after (length img - 1) (state [] []) format-alone (omega (arith, length-all-steps s (formatPlan img) img, z .two, z .low)) refl (omega (arith, z .low))
 
 -- "On an image the store left, a cut format leaves the old settled objects, no store, or the empty store": after j of the steps.
 -- A mount finds the objects where an image is safe and no format is unfinished.
 pub data FormatCut (s : ℕ) (img : List ℕ) (os : List Object) (j : ℕ) : Type 0 where
   old-objects : Safe s img os false → FormatCut s img os j
   no-store : NoStore s img → FormatCut s img os j
-  empty-store : j ≡ length formatPlan → Alone s img 0 1 [] clean → FormatCut s img os j
+  empty-store : j ≡ 12 → Alone s img 0 1 [] clean → FormatCut s img os j
 
-pub format-cut : {s : ℕ} {img : List ℕ} {os : List Object} {u : Bool} → Sized s img → Safe s img os u → (j : ℕ) → j ≤ length formatPlan
-    → FormatCut s (applyAll s (take j formatPlan) img) os j
+pub format-cut : {s : ℕ} {img : List ℕ} {os : List Object} {u : Bool} → Sized s img → Safe s img os u → (j : ℕ) → j ≤ length (formatPlan img)
+    → FormatCut s (applyAll s (take j (formatPlan img)) img) os j
 format-cut {s} {img} {os} z f j h =
-    on-test (ltb j (length formatPlan))
-    (λ t. early (format-leaves z f j (ltb-true j (length formatPlan) t)))
-    (λ t. last (omega (arith, ltb-false j (length formatPlan) t)))
+    on-test (ltb j (length (formatPlan img)))
+    (λ t. early (format-leaves z f j (ltb-true j (length (formatPlan img)) t)))
+    (λ t. last (omega (arith, ltb-false j (length (formatPlan img)) t)))
   where
-    early : Safe s (applyAll s (take j formatPlan) img) os false ⊎ NoStore s (applyAll s (take j formatPlan) img)
-        → FormatCut s (applyAll s (take j formatPlan) img) os j
+    early : Safe s (applyAll s (take j (formatPlan img)) img) os false ⊎ NoStore s (applyAll s (take j (formatPlan img)) img)
+        → FormatCut s (applyAll s (take j (formatPlan img)) img) os j
     early (inl x) = old-objects x
     early (inr q) = no-store q
 
-    last : j ≡ length formatPlan → FormatCut s (applyAll s (take j formatPlan) img) os j
+    last : j ≡ length (formatPlan img) → FormatCut s (applyAll s (take j (formatPlan img)) img) os j
     last e =
-        empty-store e
-        (subst (λ (p : List Step). Alone s (applyAll s p img) 0 1 [] clean) (sym (take-all j formatPlan (omega arith))) (format-alone z))
+        empty-store (e ∙ length-format img)
+        (subst (λ (p : List Step). Alone s (applyAll s p img) 0 1 [] clean) (sym (take-all j (formatPlan img) (omega arith))) (format-alone z))

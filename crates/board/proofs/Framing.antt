@@ -11,12 +11,12 @@ use Rattle.flash.specs.Flash.{Step, applyAll, sizeOf}
 use Rattle.frame.specs.Frame.{Frame, frameLen, MayStand, OfHost}
 use Rattle.frame.specs.Reader.{clean}
 use Rattle.journal.specs.Block.{lastTime}
-use Rattle.journal.specs.Replay.{Object, State, next, replay, framesOf}
+use Rattle.journal.specs.Replay.{Object, State, nextState, replay, framesOf}
 use Rattle.journal.specs.Room.{claimed}
 use Rattle.journal.proofs.Replaying.{replay-framesOf, stands-replay}
 use Rattle.journal.proofs.Room.{frames-total}
 use Rattle.board.specs.declared.Record.{Record}
-use Rattle.board.specs.Record.{idle}
+use Rattle.board.specs.Record.{rest, idle}
 use Rattle.board.specs.Mount.{nextBlock, endOf}
 use Rattle.board.specs.Queue.{Held, needsRoom}
 use Rattle.board.specs.Plan.{transferPlan, appendPlan, framePlan, framedAt}
@@ -97,20 +97,20 @@ module _ {s : ℕ} {img : List ℕ} {r : Record} {x : Held} {f : Frame} (h : Hol
       each (λ w i. Safe s i os u) (λ e. append-safe (h .alone) f (here e) u p) (λ e. transfer-safe (h .alone) st (moves e) u p p)
       (λ e. append-safe (new e) f after u (subst (λ (z : State). Keeps s z os) (sym (replay-framesOf st)) p))
 
-  pub frame-ends : Roomy s (next (replay (x .frames)) f)
+  pub frame-ends : Roomy s (nextState (replay (x .frames)) f)
       → After s (applyAll s (framePlan (needsRoom img r f) (r .block) (r .end) x f) img) (framedAt (needsRoom img r f) (r .last) (r .block) (r .end) x f)
-      (next (replay (x .frames)) f)
+      (nextState (replay (x .frames)) f)
   frame-ends room = go (needsRoom img r f) refl
     where
-      go : (b : Bool) → needsRoom img r f ≡ b → After s (applyAll s (planned b) img) (framedAt b (r .last) (r .block) (r .end) x f) (next st f)
+      go : (b : Bool) → needsRoom img r f ≡ b → After s (applyAll s (planned b) img) (framedAt b (r .last) (r .block) (r .end) x f) (nextState st f)
       go false e =
-          subst (λ (n : ℕ). After s (applyAll s (appendPlan (r .block) n f) img) (idle (r .last) (r .block) (n + frameLen f)) (next st f)) (h .ends)
+          subst (λ (n : ℕ). After s (applyAll s (appendPlan (r .block) n f) img) (idle (rest (r .last) (r .block) (n + frameLen f))) (nextState st f)) (h .ends)
           (append-ends (h .alone) f (here e) (r .last) (h .long) room)
       go true e =
           let k : ℕ = nextBlock (r .block) in
           let long : length moved ≡ suc (r .last) = length-all-steps s (transferPlan (r .block) (x .time) st) img ∙ h .long in
-          subst (λ (i : List ℕ). After s i (idle (r .last) k (claimed st + frameLen f)) (next st f))
+          subst (λ (i : List ℕ). After s i (idle (rest (r .last) k (claimed st + frameLen f))) (nextState st f))
           (sym (apply-append s (transferPlan (r .block) (x .time) st) (appendPlan k (claimed st) f) img))
-          (subst₂ (λ (n : ℕ) (z : State). After s (applyAll s (appendPlan k n f) moved) (idle (r .last) k (n + frameLen f)) (next z f)) (frames-total st)
+          (subst₂ (λ (n : ℕ) (z : State). After s (applyAll s (appendPlan k n f) moved) (idle (rest (r .last) k (n + frameLen f))) (nextState z f)) (frames-total st)
           (replay-framesOf st)
-          (append-ends (new e) f after (r .last) long (subst (λ (z : State). Roomy s (next z f)) (sym (replay-framesOf st)) room)))
+          (append-ends (new e) f after (r .last) long (subst (λ (z : State). Roomy s (nextState z f)) (sym (replay-framesOf st)) room)))

@@ -20,7 +20,7 @@ use Rattle.journal.specs.Block.{BlockState, blank, inProgress, valid, foreign, 
 use Rattle.journal.specs.Room.{claimed, openHosts}
 use Rattle.journal.proofs.States.{valid-inv}
 use Rattle.board.specs.declared.Record.{Record}
-use Rattle.board.specs.Record.{idle}
+use Rattle.board.specs.Record.{rest, idle}
 use Rattle.board.specs.Mount.{endOf}
 use Rattle.board.specs.Queue.{Held, held, heldBy, heldIn, heldIf, fitsRecord, sameImage, othersBlank}
 use Rattle.board.proofs.Images.{Sized, size-of, sized-block}
@@ -72,7 +72,7 @@ blank-other k j img n t =
     on-test (eqb k j) (λ e. absurd (n (sym (eqb-true k j e)))) (λ e. rw e at t)
 
 pub held-inv : {s : ℕ} {img : List ℕ} {x : Held} (r : Record) → Sized s img → Bytes img → held img r ≡ some x
-    → (y : Ready s img (idle (r .last) (r .block) (r .end))) × (y .time ≡ x .time) × (y .frames ≡ x .frames)
+    → (y : Ready s img (idle (rest (r .last) (r .block) (r .end)))) × (y .time ≡ x .time) × (y .frames ≡ x .frames)
 held-inv {s} {img} {x} r z b e =
     let p : Passed s img r x = passed z e in
     let k : ℕ = r .block in

@@ -18,8 +18,9 @@ use Rattle.journal.proofs.Building.{Lands}
 use Rattle.board.specs.declared.Phase.{Phase}
 use Rattle.board.specs.declared.Phase.the-variants.{Unmounted, Idle, Busy}
 use Rattle.board.specs.declared.Record.{Record}
-use Rattle.board.specs.Record.{idle}
+use Rattle.board.specs.Record.{rest, idle}
 use Rattle.board.specs.Mount.{endOf}
+use Rattle.board.specs.Exec.{exec}
 use Rattle.board.specs.Plan.{Follows}
 use Rattle.board.specs.Book.{Book, nothing, finishing}
 use Rattle.board.proofs.Images.{Sized}
@@ -46,11 +47,16 @@ Quiet (foreign e) = ⊥
 abbrev pub Others : (ℕ → Type 0) → ℕ → Type 0
 Others P k = (j : ℕ) → j < blocks → (j ≡ k → ⊥) → P j
 
--- a mount of the image finds the objects; nothing at all only while a format is unfinished
+-- beside a valid block of time t: nothing that a mount reads, or an older valid block with the same objects
+pub data Lesser (s : ℕ) (img : List ℕ) (t : ℕ) (os : List Object) (j : ℕ) : Type 0 where
+  quiet : Quiet (blockState (block s j img)) → Lesser s img t os j
+  older : (v : Valid s img j os) → v .time < t → Lesser s img t os j
+
+-- a mount of the image finds the objects: the newest valid block has them, and so has every other valid one; nothing at all only
+-- while a format is unfinished
 pub data Safe (s : ℕ) (img : List ℕ) (os : List Object) (unfinished : Bool) : Type 0 where
   no-valid : unfinished ≡ true → ((j : ℕ) → j < blocks → Quiet (blockState (block s j img))) → Safe s img os unfinished
-  one-valid : (k : ℕ) → k < blocks → Valid s img k os → Others (λ j. Quiet (blockState (block s j img))) k → Safe s img os unfinished
-  two-valid : (x : Valid s img 0 os) (y : Valid s img 1 os) → (x .time ≡ y .time → ⊥) → Safe s img os unfinished
+  some-valid : (k : ℕ) → k < blocks → (v : Valid s img k os) → Others (Lesser s img (v .time) os) k → Safe s img os unfinished
 
 -- ---- an idle record
 
@@ -59,7 +65,7 @@ pub record Ready (s : ℕ) (img : List ℕ) (r : Record) : Type 0 where
   pub last : ℕ
   pub number : ℕ
   pub end : ℕ
-  pub is : r ≡ idle last number end
+  pub is : r ≡ idle (rest last number end)
   pub long : length img ≡ suc last
   pub there : number < blocks
   pub time : ℕ
@@ -87,7 +93,7 @@ pub record InJob (s : ℕ) (P : Step → List ℕ → Type 0) (Q : List ℕ → 
   pub last : Record
   pub count : ℕ
   pub now : img ≡ applyAll s (take count plan) start
-  pub follows : Follows img r (drop count plan) last
+  pub follows : Follows exec img r (drop count plan) last
   pub begun : count < length plan
   pub short : length plan ≤ s
   pub each : (j : ℕ) → j < length plan → P (getD plan j (erase 0)) (applyAll s (take j plan) start)

@@ -16,6 +16,7 @@ use Rattle.board.specs.declared.Phase.the-variants.{Idle}
 use Rattle.board.specs.declared.Record.{Record}
 use Rattle.board.specs.Record.{out, answerOf, answerIn}
 use Rattle.board.specs.Step.{stepOn}
+use Rattle.board.specs.Exec.{exec}
 use Rattle.board.specs.Plan.{Follows}
 use Rattle.board.proofs.Images.{Sized, size-of, apply-append}
 use Rattle.board.proofs.Invariant.{InJob}
@@ -33,9 +34,9 @@ pub record Stepped (s : ℕ) (P : Step → List ℕ → Type 0) (Q : List ℕ �
   pub then : ((answerOf next ≡ More) × InJob s P Q (apply s does img) next) ⊎ ((answerOf next ≡ Done) × Q (apply s does img) next)
 
 abbrev Onward : ℕ → List ℕ → Record → Step → List Step → Record → Type 0
-Onward s img r x xs z = (n : Record) × (stepOn img r ≡ out (answerOf n) (apply s x img) n []) × Follows (apply s x img) n xs z
+Onward s img r x xs z = (n : Record) × (stepOn img r ≡ out (answerOf n) (apply s x img) n []) × Follows exec (apply s x img) n xs z
 
-onward : (s : ℕ) (img : List ℕ) (r : Record) (x : Step) (xs : List Step) (z : Record) → sizeOf img ≡ s → Follows img r (x ∷ xs) z → Onward s img r x xs z
+onward : (s : ℕ) (img : List ℕ) (r : Record) (x : Step) (xs : List Step) (z : Record) → sizeOf img ≡ s → Follows exec img r (x ∷ xs) z → Onward s img r x xs z
 onward s img r x xs z e (m, f) = subst (λ (n : ℕ). Onward n img r x xs z) e f
 
 one-more : (s : ℕ) (plan : List Step) (c : ℕ) (start : List ℕ) → c < length plan
@@ -44,7 +45,7 @@ unfolding applyAll
 one-more s plan c start h =
     sym (ap (λ (l : List Step). applyAll s l start) (take-suc plan c (erase 0) h) ∙ apply-append s (take c plan) (getD plan c (erase 0) ∷ []) start)
 
-in-more : (s : ℕ) (img : List ℕ) (r : Record) (x : Step) (xs : List Step) (z : Record) → Follows img r (x ∷ xs) z → answerOf r ≡ More
+in-more : (s : ℕ) (img : List ℕ) (r : Record) (x : Step) (xs : List Step) (z : Record) → Follows exec img r (x ∷ xs) z → answerOf r ≡ More
 in-more s img r x xs z (m, f) = m
 
 pub job-step : {s : ℕ} {P : Step → List ℕ → Type 0} {Q : List ℕ → Record → Type 0} {img : List ℕ} {r : Record} → Sized s img → InJob s P Q img r
@@ -53,7 +54,7 @@ job-step {s} {P} {Q} {img} {r} z y =
     let x : Step = getD (y .plan) (y .count) (erase 0) in
     let rest : List Step = drop (suc (y .count)) (y .plan) in
     let f : Onward s img r x rest (y .last) =
-    onward s img r x rest (y .last) (size-of z) (subst (λ (l : List Step). Follows img r l (y .last)) (drop-cons (y .plan) (y .count) (erase 0) (y .begun)) (y .follows)) in
+    onward s img r x rest (y .last) (size-of z) (subst (λ (l : List Step). Follows exec img r l (y .last)) (drop-cons (y .plan) (y .count) (erase 0) (y .begun)) (y .follows)) in
     let i : apply s x img ≡ applyAll s (take (suc (y .count)) (y .plan)) (y .start) =
     ap (apply s x) (y .now) ∙ one-more s (y .plan) (y .count) (y .start) (y .begun) in
     record {
@@ -66,7 +67,7 @@ job-step {s} {P} {Q} {img} {r} z y =
           let h : suc (y .count) < length (y .plan) = ltb-true (suc (y .count)) (length (y .plan)) t in
           inl (
             in-more s (apply s x img) (f .0) (getD (y .plan) (suc (y .count)) (erase 0)) (drop (suc (suc (y .count))) (y .plan)) (y .last)
-                (subst (λ (l : List Step). Follows (apply s x img) (f .0) l (y .last)) (drop-cons (y .plan) (suc (y .count)) (erase 0) h) (f .2)),
+                (subst (λ (l : List Step). Follows exec (apply s x img) (f .0) l (y .last)) (drop-cons (y .plan) (suc (y .count)) (erase 0) h) (f .2)),
             record {
               start = y .start;
               plan = y .plan;
@@ -83,7 +84,7 @@ job-step {s} {P} {Q} {img} {r} z y =
           ))
           (λ t.
           let h : length (y .plan) ≤ suc (y .count) = ltb-false (suc (y .count)) (length (y .plan)) t in
-          let e : f .0 ≡ y .last = subst (λ (l : List Step). Follows (apply s x img) (f .0) l (y .last)) (drop-of-length-le (y .plan) h) (f .2) in
+          let e : f .0 ≡ y .last = subst (λ (l : List Step). Follows exec (apply s x img) (f .0) l (y .last)) (drop-of-length-le (y .plan) h) (f .2) in
           let j : applyAll s (y .plan) (y .start) ≡ apply s x img = sym (i ∙ ap (λ (l : List Step). applyAll s l (y .start)) (take-all (suc (y .count)) (y .plan) h)) in
           inr (
             idle-done (f .0 .phase) (ap (λ (q : Record). q .phase) e ∙ y .rests),
@@ -97,7 +98,7 @@ Begun s P Q img r = ((answerOf r ≡ More) × InJob s P Q img r) ⊎ ((answerOf 
 
 -- a plan with steps is begun
 pub job-starts : {s : ℕ} {P : Step → List ℕ → Type 0} {Q : List ℕ → Record → Type 0} (img : List ℕ) (r : Record) (plan : List Step) (last : Record)
-    → Follows img r plan last → 0 < length plan → length plan ≤ s → Each s P plan img → Q (applyAll s plan img) last → last .phase ≡ Idle
+    → Follows exec img r plan last → 0 < length plan → length plan ≤ s → Each s P plan img → Q (applyAll s plan img) last → last .phase ≡ Idle
     → (answerOf r ≡ More) × InJob s P Q img r
 unfolding applyAll
 job-starts img r [] last f n h e q i = absurd (omega arith)
@@ -107,7 +108,7 @@ job-starts img r (x ∷ xs) last f n h e q i = (
 )
 
 pub job-begins : {s : ℕ} {P : Step → List ℕ → Type 0} {Q : List ℕ → Record → Type 0} (img : List ℕ) (r : Record) (plan : List Step) (last : Record)
-    → Follows img r plan last → length plan ≤ s → Each s P plan img → Q (applyAll s plan img) last → last .phase ≡ Idle → Begun s P Q img r
+    → Follows exec img r plan last → length plan ≤ s → Each s P plan img → Q (applyAll s plan img) last → last .phase ≡ Idle → Begun s P Q img r
 unfolding applyAll
 job-begins {s} {P} {Q} img r [] last f h e q i = inr (idle-done (r .phase) (ap (λ (x : Record). x .phase) f ∙ i), subst (Q img) (sym f) q)
 job-begins {s} {P} {Q} img r (x ∷ xs) last f h e q i = inl (job-starts img r (x ∷ xs) last f (omega arith) h e q i)

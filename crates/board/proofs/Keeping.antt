@@ -23,7 +23,7 @@ use Rattle.board.specs.Demand1.{Rests}
 use Rattle.board.specs.Book.{Book, UnderWay, nothing, committing, formatting, finishing, enterStep}
 use Rattle.board.specs.Claim.{trackStep, Never}
 use Rattle.board.proofs.Images.{Sized, sized-as}
-use Rattle.board.proofs.Invariant.{Valid, Safe, no-valid, one-valid, two-valid, Ready, IdleBook, InJob, InPhase, Inv}
+use Rattle.board.proofs.Invariant.{Valid, quiet, Safe, no-valid, some-valid, Ready, IdleBook, InJob, InPhase, Inv}
 use Rattle.board.proofs.Current.{blank-quiet}
 use Rattle.board.proofs.Outcomes.{step-resting}
 use Rattle.board.proofs.Jobs.{Stepped, job-step}
@@ -78,7 +78,7 @@ idle-valid y =
 
 pub safe-idle : {s : ℕ} {img : List ℕ} {r : Record} {b : Book} {u : Bool} → IdleBook s img r b → Safe s img (b .objects) u
 safe-idle {s} {img} y =
-    one-valid (y .ready .number) (y .ready .there) (idle-valid y) (λ j h n. blank-quiet s (block s j img) (y .ready .others j h n))
+    some-valid (y .ready .number) (y .ready .there) (idle-valid y) (λ j h n. quiet (blank-quiet s (block s j img) (y .ready .others j h n)))
 
 pub safe-of : {s : ℕ} {img : List ℕ} {r : Record} {b : Book} {u : Bool} → Inv s img r b u → Safe s img (b .objects) u
 safe-of {s} {img} {r} {b} {u} v =
@@ -86,8 +86,7 @@ safe-of {s} {img} {r} {b} {u} v =
 
 pub safe-true : {s : ℕ} {img : List ℕ} {os : List Object} {u : Bool} → Safe s img os u → Safe s img os true
 safe-true (no-valid e q) = no-valid refl q
-safe-true (one-valid k h v q) = one-valid k h v q
-safe-true (two-valid x y n) = two-valid x y n
+safe-true (some-valid k h v q) = some-valid k h v q
 
 -- ---- a step call
 

@@ -29,9 +29,9 @@ length-transfer k time st =
 pub length-plan-append : (k end : ℕ) (f : Frame) → length (appendPlan k end f) ≡ frameLen f
 length-plan-append k end f = length-map (writes end (encode f)) (writeStep k) ∙ length-writes end (encode f) ∙ length-encode f
 
-pub length-format : length formatPlan ≡ 12
+pub length-format : (img : List ℕ) → length (formatPlan img) ≡ 12
 unfolding writes encodeAll
-length-format = refl
+length-format img = refl
 
 pub length-frame-moved : (k end : ℕ) (x : Held) (f : Frame) → length (framePlan true k end x f) + 5 ≡ claimed (replay (x .frames)) + frameLen f
 length-frame-moved k end x f =

@@ -1,37 +1,45 @@
-pub mod Sentences
-pub mod Bench
-pub mod Images
+-- The laws and theorems of the board, by subject. Each file's first line says what it proves.
+
+-- ---- images and blocks: used by every group below
+pub mod Numbers  -- the number of the block that a transfer goes to
+pub mod Images  -- allowed lengths, and what steps do to each block
+pub mod Blocks  -- lists of block numbers
+pub mod Prefixes  -- what holds at every step of a list of steps
+pub mod Invariant  -- what holds of image, record and book between the calls of a run: stated for every group below
+pub mod Current  -- one valid block with every other blank
+pub mod Erasing  -- what erases make of an image
+-- ---- outcomes: the definitions of the calls, opened here and nowhere else
 pub mod Outcomes
-pub mod Invariant
-pub mod Jobs
-pub mod Keeping
-pub mod Replies
-pub mod Books
-pub mod Holding
-pub mod Refusals
-pub mod Ending
-pub mod Numbers
-pub mod Prefixes
-pub mod Current
-pub mod Blocks
-pub mod Pipeline
-pub mod PipelineEnd
-pub mod PipelineCopy
-pub mod PipelineJob
-pub mod Accepted
-pub mod Lengths
-pub mod Appending
-pub mod Transferring
-pub mod Framing
-pub mod Serving
-pub mod Requests
-pub mod Claiming
-pub mod Erasing
-pub mod Formatting
-pub mod Deciding
-pub mod Wiping
-pub mod Mounting
-pub mod Planning
-pub mod Demand2
-pub mod Limits
-pub mod CutFormat
+-- ---- jobs: step calls do the plan
+pub mod Lengths  -- of plans
+pub mod Pipeline  -- one stage
+pub mod PipelineEnd  -- Seal, Drop, Append
+pub mod PipelineCopy  -- Open, Copy
+pub mod PipelineJob  -- all stages
+pub mod Accepted  -- the job of each accepted call follows its plan
+pub mod Jobs  -- a job in a run
+-- ---- mount and format
+pub mod Wiping  -- the blocks that a mount erases
+pub mod Deciding  -- what a mount decides
+pub mod Mounting  -- what an accepted mount does
+pub mod Formatting  -- what a format does
+-- ---- the queue
+pub mod Appending  -- a frame appended
+pub mod Transferring  -- a transfer
+pub mod Framing  -- a frame appended, after a transfer or without
+pub mod Holding  -- an image that passes refusal 11
+pub mod Replies  -- what reads and the log say
+pub mod Books  -- the book beside replay
+pub mod Keeping  -- the invariant in each phase, and after a step
+pub mod Serving  -- the invariant after a request that is served
+pub mod Requests  -- the invariant after any request
+-- ---- the demands
+pub mod Refusals  -- demand 1: refusals
+pub mod Ending  -- demand 1: forged records end
+pub mod Planning  -- demand 2: requests follow their plans
+pub mod Demand2  -- demand 2: mounts, formats, runs
+pub mod Limits  -- demand 2: room and wear
+pub mod Claiming  -- demand 3
+pub mod CutFormat  -- what a cut format leaves
+pub mod Sentences  -- frames, plans and a read's stretch as document 01 words them
+pub mod Bench  -- the starred rows

@@ -25,6 +25,7 @@ use Rattle.board.specs.declared.Record.{Record}
 use Rattle.board.specs.Record.{Out}
 use Rattle.board.specs.Step.{enterWipe}
 use Rattle.board.specs.Queue.{Held, needsRoom, appendJob, append, serve, serveChange, serveEnd, requestOn}
+use Rattle.board.specs.Exec.{exec}
 use Rattle.board.specs.Table.{frameFor, frameIf}
 use Rattle.board.specs.Demand2.{Asks, RoomExact, WearExact}
 use Rattle.board.proofs.Outcomes.{append-worn, append-begins, change-refused, change-goes, end-goes, serve-put, serve-delete, serve-commit, serve-abort, request-served}
@@ -109,19 +110,19 @@ module _ (img : List ℕ) (r : Record) (reply : List ℕ) (h : Host) (m : List �
 over : {o o′ : Out} {n : Refusal} {P : Type 0} → o ≡ o′ → (o′ .answer ≡ Refused n) ↔ P → (o .answer ≡ Refused n) ↔ P
 over {o} {o′} {n} {P} e y = subst (λ (w : Out). (w .answer ≡ Refused n) ↔ P) (sym e) y
 
-pub room-exact : RoomExact
+pub room-exact : RoomExact exec
 room-exact =
     record {
-      of-put = λ img r reply h m x i y.
+      of-put = λ img r h m reply x i y.
           over (serves img r reply h m x y ∙ serve-put img r reply h m x i)
           ((λ e. omega (arith, room-rule img r reply h m x (put i (valueIn m)) .0 e)), (λ l. room-rule img r reply h m x (put i (valueIn m)) .1 (omega arith)));
-      of-delete = λ img r reply h m x i y.
+      of-delete = λ img r h m reply x i y.
           over (serves img r reply h m x y ∙ serve-delete img r reply h m x i)
           ((λ e. omega (arith, room-rule img r reply h m x (delete i) .0 e)), (λ l. room-rule img r reply h m x (delete i) .1 (omega arith)));
     }
 
-pub wear-exact : WearExact
+pub wear-exact : WearExact exec
 unfolding WearExact
-wear-exact img r reply h m x q f y e n =
+wear-exact img r h m reply x q f y e n =
     let s : requestOn img r reply h m ≡ serve img r reply h m x q = serves img r reply h m x y in
     over (s ∙ serve-appends img r reply h m x q f e (λ c. n (answer s ∙ c))) (worn-exact img r reply h m x f)

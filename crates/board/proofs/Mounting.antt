@@ -12,7 +12,7 @@ use Rattle.frame.specs.Reader.{Tail, clean, cut, bad}
 use Rattle.journal.specs.Replay.{Object, Entry, State, state, replay, settledOnly}
 use Rattle.journal.specs.Block.{lastTime}
 use Rattle.journal.proofs.Room.{claimed-settled}
-use Rattle.board.specs.Record.{idle}
+use Rattle.board.specs.Record.{rest, idle}
 use Rattle.board.specs.Mount.{Store, allFound, wipeList, nextBlock, anyPending, needsTransfer}
 use Rattle.board.specs.Plan.{transferIf, mountPlan, mountedAt}
 use Rattle.board.proofs.Blocks.{wiped-besides}
@@ -91,7 +91,7 @@ module _ {s : ℕ} {img : List ℕ} (x : Store) (z : Sized s img) (h : x .number
 
       go : (b : Bool) → needs ≡ b → After s (applyAll s (transferIf b (x .number) (x .time) st) wiped) (mountedAt b (length img - 1) x) st
       go true e =
-          subst (λ (n : ℕ). After s (applyAll s (transferIf true (x .number) (x .time) st) wiped) (idle (length img - 1) (nextBlock (x .number)) n) st)
+          subst (λ (n : ℕ). After s (applyAll s (transferIf true (x .number) (x .time) st) wiped) (idle (rest (length img - 1) (nextBlock (x .number)) n)) st)
           (claimed-settled (replay (x .frames)))
           (transferred alone st (moves-settled alone (t e)) (length img - 1) long (roomy-settled alone))
       go false e =

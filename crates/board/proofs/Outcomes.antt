@@ -26,7 +26,7 @@ use Rattle.board.specs.declared.Stage.the-variants.{Wipe, Open, Copy, Se
 use Rattle.board.specs.declared.Phase.{Phase}
 use Rattle.board.specs.declared.Phase.the-variants.{Unmounted, Idle, Busy}
 use Rattle.board.specs.declared.Record.{Record}
-use Rattle.board.specs.Record.{allowed, unmounted, idle, inStage, out, refuse}
+use Rattle.board.specs.Record.{allowed, unmounted, rest, idle, inStage, out, refuse}
 use Rattle.board.specs.Step.{enter, enterAppend, landed, enterDrop, loaded, enterCopy, enterOpen, enterWipe, begin, action, nextIndex, nextByte, pastFrame, advance, stepped, stepBusy, stepIn, stepOn}
 use Rattle.board.specs.Mount.{allFound, anyForeign, Found, Store, stores, equalTimes, newest, wipeList, needsTransfer, mountJob, mountAt, mountStores, mountFound, mountOn, formatJob, formatOn}
 use Rattle.board.specs.Queue.{Held, held, needsRoom, appendJob, append, serveChange, serveEnd, placeOf, serveLog, serve, serveParsed, serveHeld, requestIn, requestOn}
@@ -254,7 +254,7 @@ pub append-enters : (r : Record) → ltb 0 (r .job .size) ≡ true → enterAppe
 unfolding enterAppend
 append-enters r e = rw (e, enterAppend)
 
-pub append-skips : (r : Record) → ltb 0 (r .job .size) ≡ false → enterAppend r ≡ idle (r .last) (r .block) (r .end)
+pub append-skips : (r : Record) → ltb 0 (r .job .size) ≡ false → enterAppend r ≡ idle (rest (r .last) (r .block) (r .end))
 unfolding enterAppend
 append-skips r e = rw (e, enterAppend)
 
@@ -303,6 +303,6 @@ module _ (img : List ℕ) (r : Record) where
   append-next e = rw e
 
   pub append-last : ltb (suc (r .cursor .index)) (r .job .size) ≡ false
-      → advance Append img r ≡ idle (r .last) (r .block) (r .end + r .job .size)
+      → advance Append img r ≡ idle (rest (r .last) (r .block) (r .end + r .job .size))
   unfolding advance
   append-last e = rw e

@@ -18,6 +18,7 @@ use Rattle.board.specs.declared.Phase.the-variants.{Busy}
 use Rattle.board.specs.declared.Record.{Record}
 use Rattle.board.specs.Record.{Out, out, refuse, answerIn, answerOf}
 use Rattle.board.specs.Step.{action, advance, stepped, stepIn, stepBusy, stepOn}
+use Rattle.board.specs.Exec.{exec}
 use Rattle.board.specs.Plan.{Follows}
 
 -- ---- the step inside the image
@@ -46,14 +47,14 @@ step-taken s st img r x q p l a w =
     ∙ ap (λ (b : Bool). stepIf st img r b s x) (and-both same (within s x) (eq-eqb (length img) (suc (r .last)) l) w)
 
 pub follows-step : (s : ℕ) (st : Stage) (img : List ℕ) (r next : Record) (x : Step) (xs : List Step) (z : Record) → sizeOf img ≡ s → r .phase ≡ Busy st
-    → length img ≡ suc (r .last) → action st r ≡ x → within s x ≡ true → advance st (apply s x img) r ≡ next → Follows (apply s x img) next xs z
-    → Follows img r (x ∷ xs) z
+    → length img ≡ suc (r .last) → action st r ≡ x → within s x ≡ true → advance st (apply s x img) r ≡ next → Follows exec (apply s x img) next xs z
+    → Follows exec img r (x ∷ xs) z
 follows-step s st img r next x xs z q p l a w n f = (
   ap answerIn p,
   (
     next,
     step-taken s st img r x q p l a w ∙ ap (stepped (apply s x img)) n ∙ ap (λ (m : ℕ). out (answerOf next) (apply m x img) next []) (sym q),
-    subst (λ (m : ℕ). Follows (apply m x img) next xs z) (sym q) f,
+    subst (λ (m : ℕ). Follows exec (apply m x img) next xs z) (sym q) f,
   ),
 )
 
@@ -71,30 +72,30 @@ pub record Runs (l s : ℕ) (st : Stage) (at : ℕ → Record) (after : List ℕ
 module _ (l s : ℕ) (st : Stage) (at : ℕ → Record) (after : List ℕ → Record) (xs : List Step) (d : Step) (half : suc l / blocks ≡ s)
     (c : Runs l s st at after xs d) (tail : List Step) (z : Record) where
   one-step : (i : ℕ) (img : List ℕ) (next : Record) → i < length xs → length img ≡ suc l → advance st (apply s (getD xs i d) img) (at i) ≡ next
-      → Follows (apply s (getD xs i d) img) next (drop (suc i) xs ++ tail) z → Follows img (at i) (drop i xs ++ tail) z
+      → Follows exec (apply s (getD xs i d) img) next (drop (suc i) xs ++ tail) z → Follows exec img (at i) (drop i xs ++ tail) z
   one-step i img next h e n f =
-      subst (λ (ys : List Step). Follows img (at i) (ys ++ tail) z) (sym (drop-cons xs i d h))
+      subst (λ (ys : List Step). Follows exec img (at i) (ys ++ tail) z) (sym (drop-cons xs i d h))
       (follows-step s st img (at i) next (getD xs i d) (drop (suc i) xs ++ tail) z (ap (λ (m : ℕ). m / blocks) e ∙ half) (c .phase i)
       (e ∙ ap suc (sym (c .last i))) (c .acts i h) (c .inside i h) n f)
 
   run-from : (n i : ℕ) (img : List ℕ) → i + suc n ≡ length xs → length img ≡ suc l
-      → Follows (applyAll s (drop i xs) img) (after (applyAll s (drop i xs) img)) tail z → Follows img (at i) (drop i xs ++ tail) z
+      → Follows exec (applyAll s (drop i xs) img) (after (applyAll s (drop i xs) img)) tail z → Follows exec img (at i) (drop i xs ++ tail) z
   unfolding applyAll
   run-from zero i img q e f =
       let x : Step = getD xs i d in
       let none : drop (suc i) xs ≡ [] = drop-of-length-le xs {i = suc i} (omega arith) in
       let split : drop i xs ≡ x ∷ [] = drop-cons xs i d (omega arith) ∙ ap (λ (ys : List Step). x ∷ ys) none in
       one-step i img (after (apply s x img)) (omega arith) e (c .ends i (apply s x img) (omega arith))
-      (subst (λ (ys : List Step). Follows (apply s x img) (after (apply s x img)) (ys ++ tail) z) (sym none)
-      (subst (λ (ys : List Step). Follows (applyAll s ys img) (after (applyAll s ys img)) tail z) split f))
+      (subst (λ (ys : List Step). Follows exec (apply s x img) (after (apply s x img)) (ys ++ tail) z) (sym none)
+      (subst (λ (ys : List Step). Follows exec (applyAll s ys img) (after (applyAll s ys img)) tail z) split f))
   run-from (suc n) i img q e f =
       let x : Step = getD xs i d in
       one-step i img (at (suc i)) (omega arith) e (c .goes i (apply s x img) (omega arith))
       (run-from n (suc i) (apply s x img) (omega arith) (length-apply s x img ∙ e)
-      (subst (λ (ys : List Step). Follows (applyAll s ys img) (after (applyAll s ys img)) tail z) (drop-cons xs i d (omega arith)) f))
+      (subst (λ (ys : List Step). Follows exec (applyAll s ys img) (after (applyAll s ys img)) tail z) (drop-cons xs i d (omega arith)) f))
 
   pub follows-stage : (n : ℕ) (img : List ℕ) → suc n ≡ length xs → length img ≡ suc l
-      → Follows (applyAll s xs img) (after (applyAll s xs img)) tail z → Follows img (at 0) (xs ++ tail) z
+      → Follows exec (applyAll s xs img) (after (applyAll s xs img)) tail z → Follows exec img (at 0) (xs ++ tail) z
   follows-stage n img q e f = run-from n 0 img (omega arith) e f
 
 -- the stage's steps keep a block that none of them is on

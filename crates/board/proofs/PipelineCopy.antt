@@ -18,8 +18,9 @@ use Rattle.board.specs.declared.Stage.{Stage}
 use Rattle.board.specs.declared.Stage.the-variants.{Open, Copy}
 use Rattle.board.specs.declared.Job.{Job}
 use Rattle.board.specs.declared.Record.{Record}
-use Rattle.board.specs.Record.{buffer, cursor, idle}
+use Rattle.board.specs.Record.{buffer, cursor, rest, idle}
 use Rattle.board.specs.Step.{enter, loadOr, enterCopy, advance}
+use Rattle.board.specs.Exec.{exec}
 use Rattle.board.specs.Plan.{Follows, onBlock}
 use Rattle.board.proofs.Images.{length-all-steps}
 use Rattle.board.proofs.Pipeline.{Runs, follows-stage, kept-stage}
@@ -114,12 +115,12 @@ module _ (l s : ℕ) (half : suc l / blocks ≡ s) (k e : ℕ) (places : List �
 
   copy-one : (b bs : List ℕ) (a d so n : ℕ) (img : List ℕ) (tail : List Step) (z : Record) → length img ≡ suc l → block s k img ≡ b → length bs ≡ n → 0 < n
       → a + n ≤ s
-      → ((img′ : List ℕ) → length img′ ≡ suc l → block s k img′ ≡ b → Follows img′ (enterCopy img′ (at Copy 0 (a + n) d so n 0 (buffer bs))) tail z)
-      → Follows img (at Copy 0 a d so n 0 (buffer bs)) (onBlock (j .target) (writes a bs) ++ tail) z
+      → ((img′ : List ℕ) → length img′ ≡ suc l → block s k img′ ≡ b → Follows exec img′ (enterCopy img′ (at Copy 0 (a + n) d so n 0 (buffer bs))) tail z)
+      → Follows exec img (at Copy 0 a d so n 0 (buffer bs)) (onBlock (j .target) (writes a bs) ++ tail) z
   copy-one b bs a d so n img tail z q h w p room f =
       let xs : List Step = onBlock (j .target) (writes a bs) in
       let a′ : a + 0 ≡ a = omega arith in
-      subst (λ (m : ℕ). Follows img (at Copy 0 m d so n 0 (buffer bs)) (xs ++ tail) z) a′
+      subst (λ (m : ℕ). Follows exec img (at Copy 0 m d so n 0 (buffer bs)) (xs ++ tail) z) a′
       (follows-stage l s Copy (λ o. at Copy 0 (a + o) d so n o (buffer bs)) (λ img′. enterCopy img′ (at Copy 0 (a + n) d so n 0 (buffer bs))) xs
       (program (j .target) 0 0) half (copies bs a d so n w room) tail z (n - 1) img (omega (arith, length-steps (j .target) a bs)) q
       (f (applyAll s xs img) (length-all-steps s xs img ∙ q)
@@ -127,15 +128,15 @@ module _ (l s : ℕ) (half : suc l / blocks ≡ s) (k e : ℕ) (places : List �
 
   follows-copy : (b : List ℕ) (fs : List Frame) (st : Stage) (i a d so z o : ℕ) (u img : List ℕ) → length img ≡ suc l → block s k img ≡ b
       → Yields b e places (j .since) d so fs → a + total fs + length bytes ≤ s
-      → Follows img (enterCopy img (at st i a d so z o u)) (onBlock (j .target) (writes a (encodeAll fs)) ++ sealing j k bytes (a + total fs))
-      (idle l (j .target) (a + total fs + length bytes))
+      → Follows exec img (enterCopy img (at st i a d so z o u)) (onBlock (j .target) (writes a (encodeAll fs)) ++ sealing j k bytes (a + total fs))
+      (idle (rest l (j .target) (a + total fs + length bytes)))
   follows-copy b [] st i a d so z o u img q h y room =
       let t : a ≡ a + total [] = omega (arith, total-nil) in
       let r : Record = at st i a d so z o u in
-      subst (λ (xs : List Step). Follows img (enterCopy img r) xs (idle l (j .target) (a + total [] + length bytes)))
+      subst (λ (xs : List Step). Follows exec img (enterCopy img r) xs (idle (rest l (j .target) (a + total [] + length bytes))))
       (sym (copy-nil (j .target) a (sealing j k bytes (a + total []))))
-      (subst (λ (n : ℕ). Follows img (enterCopy img r) (sealing j k bytes n) (idle l (j .target) (n + length bytes))) t
-      (subst (λ (x : Record). Follows img x (sealing j k bytes a) (idle l (j .target) (a + length bytes)))
+      (subst (λ (n : ℕ). Follows exec img (enterCopy img r) (sealing j k bytes n) (idle (rest l (j .target) (n + length bytes)))) t
+      (subst (λ (x : Record). Follows exec img x (sealing j k bytes a) (idle (rest l (j .target) (a + length bytes))))
       (sym (next-frame b img st i a d so z o u none q h y))
       (follows-seal l s half k e places j bytes size here there st i a d so z o u img q header (omega arith))))
   follows-copy b (f ∷ fs) st i a d so z o u img q h (d′, so′, n, low, end, y) room =
@@ -143,12 +144,12 @@ module _ (l s : ℕ) (half : suc l / blocks ≡ s) (k e : ℕ) (places : List �
       let t : a + m + total fs ≡ a + total (f ∷ fs) = omega (arith, total-cons f fs) in
       let r : Record = at st i a d so z o u in
       let tail : List Step = onBlock (j .target) (writes (a + m) (encodeAll fs)) ++ sealing j k bytes (a + m + total fs) in
-      let done : Record = idle l (j .target) (a + m + total fs + length bytes) in
+      let done : Record = idle (rest l (j .target) (a + m + total fs + length bytes)) in
       subst
       (λ (x : ℕ).
-      Follows img (enterCopy img r) (onBlock (j .target) (writes a (encodeAll (f ∷ fs))) ++ sealing j k bytes x) (idle l (j .target) (x + length bytes))) t
-      (subst (λ (xs : List Step). Follows img (enterCopy img r) xs done) (sym (copy-cons (j .target) a f fs (sealing j k bytes (a + m + total fs))))
-      (subst (λ (x : Record). Follows img x (onBlock (j .target) (writes a (encode f)) ++ tail) done)
+      Follows exec img (enterCopy img r) (onBlock (j .target) (writes a (encodeAll (f ∷ fs))) ++ sealing j k bytes x) (idle (rest l (j .target) (x + length bytes)))) t
+      (subst (λ (xs : List Step). Follows exec img (enterCopy img r) xs done) (sym (copy-cons (j .target) a f fs (sealing j k bytes (a + m + total fs))))
+      (subst (λ (x : Record). Follows exec img x (onBlock (j .target) (writes a (encode f)) ++ tail) done)
       (sym (next-frame b img st i a d so z o u (some (load f d′ so′)) q h n))
       (copy-one b (encode f) a d′ so′ m img tail done q h (length-encode f) (omega arith) (omega arith)
       (λ img′ q′ h′. follows-copy b fs Copy 0 (a + m) d′ so′ m 0 (buffer (encode f)) img′ q′ h′ y (omega arith)))))
@@ -175,14 +176,14 @@ module _ (l s : ℕ) (half : suc l / blocks ≡ s) (k e : ℕ) (places : List �
 
   pub follows-open : (b : List ℕ) (fs : List Frame) (st : Stage) (i a d so z o : ℕ) (u img : List ℕ) → length img ≡ suc l → block s k img ≡ b
       → Yields b e places (j .since) d so fs → a + total fs + length bytes ≤ s
-      → Follows img (enter Open (at st i a d so z o u))
+      → Follows exec img (enter Open (at st i a d so z o u))
       (onBlock (j .target) openWrites ++ (onBlock (j .target) (writes a (encodeAll fs)) ++ sealing j k bytes (a + total fs)))
-      (idle l (j .target) (a + total fs + length bytes))
+      (idle (rest l (j .target) (a + total fs + length bytes)))
   follows-open b fs st i a d so z o u img q h y room =
       let xs : List Step = onBlock (j .target) openWrites in
       follows-stage l s Open (λ n. at Open n a d so z o u) (λ img′. enterCopy img′ (at Open 4 a d so z o u)) xs
       (writeStep (j .target) (write stateAt inTransfer)) half (opens a d so z o u)
-      (onBlock (j .target) (writes a (encodeAll fs)) ++ sealing j k bytes (a + total fs)) (idle l (j .target) (a + total fs + length bytes)) 4 img
+      (onBlock (j .target) (writes a (encodeAll fs)) ++ sealing j k bytes (a + total fs)) (idle (rest l (j .target) (a + total fs + length bytes))) 4 img
       (sym (length-open (j .target))) q
       (follows-copy b fs Open 4 a d so z o u (applyAll s xs img) (length-all-steps s xs img ∙ q)
       (source-kept openWrites (write stateAt inTransfer) img (opens a d so z o u .inside) ∙ h) y room)

@@ -19,8 +19,9 @@ use Rattle.board.specs.declared.Phase.the-variants.{Busy}
 use Rattle.board.specs.declared.Job.{Job}
 use Rattle.board.specs.declared.Cursor.{Cursor}
 use Rattle.board.specs.declared.Record.{Record}
-use Rattle.board.specs.Record.{buffer, cursor, idle, inStage}
+use Rattle.board.specs.Record.{buffer, cursor, rest, idle, inStage}
 use Rattle.board.specs.Step.{enter, enterAppend, enterDrop, landed, onward, nextIndex, advance}
+use Rattle.board.specs.Exec.{exec}
 use Rattle.board.specs.Plan.{Follows, onBlock}
 use Rattle.board.proofs.Images.{length-all-steps}
 use Rattle.board.proofs.Pipeline.{inside-yes, follows-step, Runs, follows-stage}
@@ -98,7 +99,7 @@ module _ (l s : ℕ) (half : suc l / blocks ≡ s) where
 
   module _ (k e : ℕ) (places : List ℕ) (j : Job) (bytes : List ℕ) (size : j .size ≡ length bytes) (here : k < blocks) (room : e + length bytes ≤ s) where
     appends : (a d so z o : ℕ) (u : List ℕ)
-        → Runs l s Append (λ i. jobAt l k e places j (buffer bytes) Append (cursor i a d so z o) u) (λ img. idle l k (e + length bytes))
+        → Runs l s Append (λ i. jobAt l k e places j (buffer bytes) Append (cursor i a d so z o) u) (λ img. idle (rest l k (e + length bytes)))
         (onBlock k (writes e bytes)) (program k 0 0)
     unfolding advance
     appends a d so z o u =
@@ -108,55 +109,55 @@ module _ (l s : ℕ) (half : suc l / blocks ≡ s) where
           acts = λ i h. buffered k e bytes i h;
           inside = step-inside s k e bytes here room;
           goes = λ i img h.
-              onward-on Append (j .size) (jobAt l k e places j (buffer bytes) Append (cursor i a d so z o) u) (idle l k (e + j .size))
+              onward-on Append (j .size) (jobAt l k e places j (buffer bytes) Append (cursor i a d so z o) u) (idle (rest l k (e + j .size)))
               (omega (arith, length-steps k e bytes));
           ends = λ i img h.
-              onward-off Append (j .size) (jobAt l k e places j (buffer bytes) Append (cursor i a d so z o) u) (idle l k (e + j .size))
-              (omega (arith, length-steps k e bytes)) ∙ ap (λ (n : ℕ). idle l k (e + n)) size;
+              onward-off Append (j .size) (jobAt l k e places j (buffer bytes) Append (cursor i a d so z o) u) (idle (rest l k (e + j .size)))
+              (omega (arith, length-steps k e bytes)) ∙ ap (λ (n : ℕ). idle (rest l k (e + n))) size;
         }
 
     pub follows-append : (st : Stage) (c : Cursor) (u img : List ℕ) → length img ≡ suc l
-        → Follows img (enterAppend (jobAt l k e places j (buffer bytes) st c u)) (onBlock k (writes e bytes)) (idle l k (e + length bytes))
+        → Follows exec img (enterAppend (jobAt l k e places j (buffer bytes) st c u)) (onBlock k (writes e bytes)) (idle (rest l k (e + length bytes)))
     unfolding enterAppend
     follows-append st c u img q =
         let r : Record = jobAt l k e places j (buffer bytes) st c u in
         let steps : List Step = onBlock k (writes e bytes) in
-        let done : Record = idle l k (e + length bytes) in
+        let done : Record = idle (rest l k (e + length bytes)) in
         on-test (ltb 0 (j .size))
         (λ t.
-        subst (λ (b : Bool). Follows img (cond b (enter Append r) (idle l k e)) steps done) (sym t)
-        (subst (λ (xs : List Step). Follows img (enter Append r) xs done) (append-nil steps)
+        subst (λ (b : Bool). Follows exec img (cond b (enter Append r) (idle (rest l k e))) steps done) (sym t)
+        (subst (λ (xs : List Step). Follows exec img (enter Append r) xs done) (append-nil steps)
         (follows-stage l s Append (λ i. jobAt l k e places j (buffer bytes) Append (cursor i (c .at) (c .id) (c .source) (c .size) (c .off)) u) (λ i. done) steps
         (program k 0 0) half (appends (c .at) (c .id) (c .source) (c .size) (c .off) u) [] done (length bytes - 1) img
         (omega (arith, length-steps k e bytes, ltb-true 0 (j .size) t)) q refl)))
         (λ t.
         let n : length bytes ≡ 0 = omega (arith, ltb-false 0 (j .size) t) in
         let z : e ≡ e + length bytes = omega arith in
-        subst (λ (b : Bool). Follows img (cond b (enter Append r) (idle l k e)) steps done) (sym t)
-        (subst (λ (xs : List Step). Follows img (idle l k e) xs done) (sym (no-steps k e bytes n)) (ap (idle l k) z)))
+        subst (λ (b : Bool). Follows exec img (cond b (enter Append r) (idle (rest l k e))) steps done) (sym t)
+        (subst (λ (xs : List Step). Follows exec img (idle (rest l k e)) xs done) (sym (no-steps k e bytes n)) (ap (λ (n : ℕ). idle (rest l k n)) z)))
 
   -- ---- the old block erased, the new one sealed
 
   module _ (k e : ℕ) (places : List ℕ) (j : Job) (bytes : List ℕ) (size : j .size ≡ length bytes) (here : k < blocks) (there : j .target < blocks) where
     follows-drop : (st : Stage) (i a d so z o : ℕ) (u img : List ℕ) → length img ≡ suc l → 0 < s → a + length bytes ≤ s
-        → Follows img (enterDrop (jobAt l k e places j (buffer bytes) st (cursor i a d so z o) u)) (dropped j k ++ onBlock (j .target) (writes a bytes))
-        (idle l (j .target) (a + length bytes))
+        → Follows exec img (enterDrop (jobAt l k e places j (buffer bytes) st (cursor i a d so z o) u)) (dropped j k ++ onBlock (j .target) (writes a bytes))
+        (idle (rest l (j .target) (a + length bytes)))
     unfolding enterDrop advance
     follows-drop st i a d so z o u img q p room =
         let r : Record = jobAt l k e places j (buffer bytes) st (cursor i a d so z o) u in
         let steps : List Step = onBlock (j .target) (writes a bytes) in
-        let done : Record = idle l (j .target) (a + length bytes) in
+        let done : Record = idle (rest l (j .target) (a + length bytes)) in
         let app : (s′ : Stage) (c′ : Cursor) (img′ : List ℕ) → length img′ ≡ suc l
-        → Follows img′ (enterAppend (jobAt l (j .target) a places j (buffer bytes) s′ c′ u)) steps done =
+        → Follows exec img′ (enterAppend (jobAt l (j .target) a places j (buffer bytes) s′ c′ u)) steps done =
         λ s′ c′ img′ q′. follows-append (j .target) a places j bytes size there room s′ c′ u img′ q′ in
         on-test (j .drops)
         (λ t.
-        subst (λ (b : Bool). Follows img (cond b (enter Drop r) (enterAppend (landed r))) (cond b (erase k ∷ []) [] ++ steps) done) (sym t)
+        subst (λ (b : Bool). Follows exec img (cond b (enter Drop r) (enterAppend (landed r))) (cond b (erase k ∷ []) [] ++ steps) done) (sym t)
         (follows-step s Drop img (enter Drop r) (enterAppend (jobAt l (j .target) a places j (buffer bytes) Drop (cursor 0 a d so z o) u)) (erase k) steps done
         (ap (λ (m : ℕ). m / blocks) q ∙ half) refl q refl (inside-yes s (erase k) here p) refl
         (app Drop (cursor 0 a d so z o) (apply s (erase k) img) (length-apply s (erase k) img ∙ q))))
         (λ t.
-        subst (λ (b : Bool). Follows img (cond b (enter Drop r) (enterAppend (landed r))) (cond b (erase k ∷ []) [] ++ steps) done) (sym t)
+        subst (λ (b : Bool). Follows exec img (cond b (enter Drop r) (enterAppend (landed r))) (cond b (erase k ∷ []) [] ++ steps) done) (sym t)
         (app st (cursor i a d so z o) img q))
 
     seals : (a d so z o : ℕ) (u : List ℕ) → headerLen ≤ s
@@ -179,11 +180,11 @@ module _ (l s : ℕ) (half : suc l / blocks ≡ s) where
         }
 
     pub follows-seal : (st : Stage) (i a d so z o : ℕ) (u img : List ℕ) → length img ≡ suc l → headerLen ≤ s → a + length bytes ≤ s
-        → Follows img (enter Seal (jobAt l k e places j (buffer bytes) st (cursor i a d so z o) u)) (sealing j k bytes a) (idle l (j .target) (a + length bytes))
+        → Follows exec img (enter Seal (jobAt l k e places j (buffer bytes) st (cursor i a d so z o) u)) (sealing j k bytes a) (idle (rest l (j .target) (a + length bytes)))
     follows-seal st i a d so z o u img q p room =
         let steps : List Step = onBlock (j .target) (sealWrites (j .time)) in
         follows-stage l s Seal (λ n. jobAt l k e places j (buffer bytes) Seal (cursor n a d so z o) u)
         (λ img′. enterDrop (jobAt l k e places j (buffer bytes) Seal (cursor 4 a d so z o) u)) steps (writeStep (j .target) (write stateAt validData)) half
-        (seals a d so z o u p) (dropped j k ++ onBlock (j .target) (writes a bytes)) (idle l (j .target) (a + length bytes)) 4 img
+        (seals a d so z o u p) (dropped j k ++ onBlock (j .target) (writes a bytes)) (idle (rest l (j .target) (a + length bytes))) 4 img
         (sym (length-seal (j .target) (j .time))) q
         (follows-drop Seal 4 a d so z o u (applyAll s steps img) (length-all-steps s steps img ∙ q) (omega arith) room)

@@ -15,9 +15,10 @@ use Rattle.journal.proofs.Loading.{Yields}
 use Rattle.board.specs.declared.Stage.the-variants.{Wipe, Open}
 use Rattle.board.specs.declared.Job.{Job}
 use Rattle.board.specs.declared.Record.{Record}
-use Rattle.board.specs.Record.{noFrame, buffer, cursor, idle, busy}
+use Rattle.board.specs.Record.{noFrame, buffer, cursor, rest, starting, idle, busy}
 use Rattle.board.specs.Step.{enter, enterAppend, enterOpen, enterWipe, advance}
 use Rattle.board.specs.Mount.{wipeArray}
+use Rattle.board.specs.Exec.{exec}
 use Rattle.board.specs.Plan.{Follows, onBlock}
 use Rattle.board.proofs.Blocks.{Blocks, a-block}
 use Rattle.board.proofs.Images.{length-all-steps}
@@ -57,22 +58,22 @@ module _ (l s : ℕ) (half : suc l / blocks ≡ s) (ks : List ℕ) (there : Bloc
       }
 
   pub follows-wipe : (a d so z o : ℕ) (u img : List ℕ) (tail : List Step) (done : Record) → length img ≡ suc l
-      → ((n : ℕ) (img′ : List ℕ) → length img′ ≡ suc l → img′ ≡ applyAll s (map erase ks) img → Follows img′ (enterOpen (wiping a d so z o n u)) tail done)
-      → Follows img (enterWipe (wiping a d so z o 0 u)) (map erase ks ++ tail) done
+      → ((n : ℕ) (img′ : List ℕ) → length img′ ≡ suc l → img′ ≡ applyAll s (map erase ks) img → Follows exec img′ (enterOpen (wiping a d so z o n u)) tail done)
+      → Follows exec img (enterWipe (wiping a d so z o 0 u)) (map erase ks ++ tail) done
   unfolding enterWipe applyAll
   follows-wipe a d so z o u img tail done q f =
       let r : Record = wiping a d so z o 0 u in
       let xs : List Step = map erase ks in
       on-test (ltb 0 (j .wipes))
       (λ t.
-      subst (λ (b : Bool). Follows img (cond b (enter Wipe r) (enterOpen r)) (xs ++ tail) done) (sym t)
+      subst (λ (b : Bool). Follows exec img (cond b (enter Wipe r) (enterOpen r)) (xs ++ tail) done) (sym t)
       (follows-stage l s Wipe (λ i. wiping a d so z o i u) (λ img. enterOpen (wiping a d so z o (length ks - 1) u)) xs (erase 0) half (wipes a d so z o u) tail done
       (length ks - 1) img (omega (arith, length-map ks erase, ltb-true 0 (j .wipes) t)) q
       (f (length ks - 1) (applyAll s xs img) (length-all-steps s xs img ∙ q) refl)))
       (λ t.
       let none : xs ≡ [] = no-wipes ks (omega (arith, ltb-false 0 (j .wipes) t)) in
-      subst (λ (b : Bool). Follows img (cond b (enter Wipe r) (enterOpen r)) (xs ++ tail) done) (sym t)
-      (subst (λ (ys : List Step). Follows img (enterOpen r) (ys ++ tail) done) (sym none) (f 0 img q (ap (λ (ys : List Step). applyAll s ys img) (sym none)))))
+      subst (λ (b : Bool). Follows exec img (cond b (enter Wipe r) (enterOpen r)) (xs ++ tail) done) (sym t)
+      (subst (λ (ys : List Step). Follows exec img (enterOpen r) (ys ++ tail) done) (sym none) (f 0 img q (ap (λ (ys : List Step). applyAll s ys img) (sym none)))))
 
 -- ---- the jobs
 
@@ -97,31 +98,31 @@ module _ (img : List ℕ) (l k e : ℕ) (places : List ℕ) (j : Job) (id source
   half = ap (λ (n : ℕ). n / blocks) (sym long)
 
   pub follows-staying : j .moves ≡ false → e + length bytes ≤ sizeOf img
-      → Follows img (enterWipe (busy l k e places j id source bytes)) (map erase ks ++ onBlock k (writes e bytes)) (idle l k (e + length bytes))
+      → Follows exec img (enterWipe (busy (rest l k e) places j (starting id source) bytes)) (map erase ks ++ onBlock k (writes e bytes)) (idle (rest l k (e + length bytes)))
   unfolding enterOpen
   follows-staying t room =
       follows-wipe l (sizeOf img) half ks there (omega arith) k e places j (buffer bytes) (has .wipe) (has .wipes) headerLen id source 0 0 noFrame img
-      (onBlock k (writes e bytes)) (idle l k (e + length bytes)) long
+      (onBlock k (writes e bytes)) (idle (rest l k (e + length bytes))) long
       (λ n img′ q′ p.
       let r : Record = jobAt l k e places j (buffer bytes) Wipe (cursor n headerLen id source 0 0) noFrame in
-      subst (λ (b : Bool). Follows img′ (cond b (enter Open r) (enterAppend r)) (onBlock k (writes e bytes)) (idle l k (e + length bytes))) (sym t)
+      subst (λ (b : Bool). Follows exec img′ (cond b (enter Open r) (enterAppend r)) (onBlock k (writes e bytes)) (idle (rest l k (e + length bytes)))) (sym t)
       (follows-append l (sizeOf img) half k e places j bytes (has .size) here room Wipe (cursor n headerLen id source 0 0) noFrame img′ q′))
 
   pub follows-moving : (fs : List Frame) → j .moves ≡ true → j .target < blocks → (j .target ≡ k → ⊥) → headerLen + total fs + length bytes ≤ sizeOf img
       → Yields (block (sizeOf img) k (applyAll (sizeOf img) (map erase ks) img)) e places (j .since) id source fs
-      → Follows img (enterWipe (busy l k e places j id source bytes))
+      → Follows exec img (enterWipe (busy (rest l k e) places j (starting id source) bytes))
       (map erase ks ++ ((onBlock (j .target) (build (j .time) fs) ++ dropped j k) ++ onBlock (j .target) (writes (headerLen + total fs) bytes)))
-      (idle l (j .target) (headerLen + total fs + length bytes))
+      (idle (rest l (j .target) (headerLen + total fs + length bytes)))
   unfolding enterOpen
   follows-moving fs t target apart room y =
       let s : ℕ = sizeOf img in
       let tail : List Step = (onBlock (j .target) (build (j .time) fs) ++ dropped j k) ++ onBlock (j .target) (writes (headerLen + total fs) bytes) in
-      let done : Record = idle l (j .target) (headerLen + total fs + length bytes) in
+      let done : Record = idle (rest l (j .target) (headerLen + total fs + length bytes)) in
       follows-wipe l s half ks there (omega arith) k e places j (buffer bytes) (has .wipe) (has .wipes) headerLen id source 0 0 noFrame img tail done long
       (λ n img′ q′ p.
       let r : Record = jobAt l k e places j (buffer bytes) Wipe (cursor n headerLen id source 0 0) noFrame in
-      subst (λ (b : Bool). Follows img′ (cond b (enter Open r) (enterAppend r)) tail done) (sym t)
-      (subst (λ (xs : List Step). Follows img′ (enter Open r) xs done)
+      subst (λ (b : Bool). Follows exec img′ (cond b (enter Open r) (enterAppend r)) tail done) (sym t)
+      (subst (λ (xs : List Step). Follows exec img′ (enter Open r) xs done)
       (sym (built (j .target) (j .time) fs (dropped j k) (onBlock (j .target) (writes (headerLen + total fs) bytes))))
       (follows-open l s half k e places j bytes (has .size) here target apart header (block s k (applyAll s (map erase ks) img)) fs Wipe n headerLen id source 0 0 noFrame
       img′ q′ (ap (block s k) p) y room)))

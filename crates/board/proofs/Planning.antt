@@ -14,7 +14,7 @@ use Rattle.flash.proofs.Cases.{on-test}
 use Rattle.frame.specs.declared.Host.{Host}
 use Rattle.frame.specs.declared.ObjectId.{ObjectId}
 use Rattle.frame.specs.Frame.{hostMax, Change, put, delete, Frame, change, commit, abort, frameLen, endLen, OfHost, MayStand}
-use Rattle.journal.specs.Replay.{State, entry, replay, lookup, next, isOpen}
+use Rattle.journal.specs.Replay.{State, entry, replay, lookup, nextState, isOpen}
 use Rattle.journal.specs.Block.{lastTime}
 use Rattle.journal.specs.Room.{claimed, openHosts, noRoom, spare}
 use Rattle.journal.proofs.Places.{Journal}
@@ -31,9 +31,10 @@ use Rattle.wire.specs.Message.{parse, valueIn, pageLen}
 use Rattle.board.specs.declared.Phase.{Phase}
 use Rattle.board.specs.declared.Phase.the-variants.{Unmounted, Idle, Busy}
 use Rattle.board.specs.declared.Record.{Record}
-use Rattle.board.specs.Record.{allowed, idle, Out, out, refuse, answerOf}
+use Rattle.board.specs.Record.{allowed, rest, idle, Out, out, refuse, answerOf}
 use Rattle.board.specs.Step.{enterWipe}
 use Rattle.board.specs.Queue.{Held, held, needsRoom, appendJob, append, serve, serveChange, serveEnd, serveParsed, serveHeld, requestIn, requestOn}
+use Rattle.board.specs.Exec.{exec}
 use Rattle.board.specs.Plan.{framePlan, framedAt}
 use Rattle.board.specs.Table.{frameFor, frameIf, roomRule}
 use Rattle.board.specs.Demand2.{Appends, RequestsPlanned}
@@ -158,7 +159,7 @@ record Fitting (s : ℕ) (st : State) (f : Frame) : Type 0 where
   host : OfHost f
   legal : MayStand 256 f
   fits : claimed st + frameLen f ≤ s
-  room : Roomy s (next st f)
+  room : Roomy s (nextState st f)
 
 change-fits : (s : ℕ) (st : State) (h : Host) (c : Change) → MayStand 256 (change h c) → noRoom s st h c ≡ false → Fitting s st (change h c)
 unfolding noRoom
@@ -217,13 +218,13 @@ module _ {s : ℕ} {img : List ℕ} {r : Record} {h : Host} {m : List ℕ} (z : 
 
   holds : Holds s img r x
   holds =
-      let v : (w : Ready s img (idle (r .last) (r .block) (r .end))) × (w .time ≡ x .time) × (w .frames ≡ x .frames) = held-inv r z by (y .is-held) in
-      let w : Holds s img (idle (r .last) (r .block) (r .end)) x = ready-holds z (v .0) (v .1) (v .2) in
+      let v : (w : Ready s img (idle (rest (r .last) (r .block) (r .end)))) × (w .time ≡ x .time) × (w .frames ≡ x .frames) = held-inv r z by (y .is-held) in
+      let w : Holds s img (idle (rest (r .last) (r .block) (r .end))) x = ready-holds z (v .0) (v .1) (v .2) in
       record { alone = w .alone; ends = w .ends; long = w .long }
 
   roomy : Roomy s (replay (x .frames))
   roomy =
-      let v : (w : Ready s img (idle (r .last) (r .block) (r .end))) × (w .time ≡ x .time) × (w .frames ≡ x .frames) = held-inv r z by (y .is-held) in
+      let v : (w : Ready s img (idle (rest (r .last) (r .block) (r .end)))) × (w .time ≡ x .time) × (w .frames ≡ x .frames) = held-inv r z by (y .is-held) in
       subst (λ (fs : List Frame). Roomy s (replay fs)) (v .2) (v .0 .room)
 
   fitting : Fitting s (replay (x .frames)) f
@@ -243,7 +244,7 @@ module _ {s : ℕ} {img : List ℕ} {r : Record} {h : Host} {m : List ℕ} (z : 
             omega (arith, eqb-false (x .time) lastTime v, holds .alone .contents .layout .time-hi);
       }
 
-  pub frame-appends : (reply : List ℕ) → Appends img r h m (out (answerOf (jobOf y)) img (jobOf y) reply)
+  pub frame-appends : (reply : List ℕ) → Appends exec img r h m (out (answerOf (jobOf y)) img (jobOf y) reply)
   frame-appends reply =
       let j : Journal (block (sizeOf img) (r .block) img) (x .frames) =
       subst (λ (n : ℕ). Journal (block n (r .block) img) (x .frames)) (sym (size-of z)) (journal-of (holds .alone .contents)) in
@@ -262,16 +263,16 @@ module _ {s : ℕ} {img : List ℕ} {r : Record} {h : Host} {m : List ℕ} (z : 
   pub frame-begins : (answerOf (jobOf y) ≡ More) × InJob s (StepLands s) (Ready s) img (jobOf y)
   frame-begins =
       let a : After s (applyAll s (framePlan (needsRoom img r f) (r .block) (r .end) x f) img)
-      (framedAt (needsRoom img r f) (r .last) (r .block) (r .end) x f) (next (replay (x .frames)) f) = frame-ends holds appendable (fitting .room) in
+      (framedAt (needsRoom img r f) (r .last) (r .block) (r .end) x f) (nextState (replay (x .frames)) f) = frame-ends holds appendable (fitting .room) in
       frame-starts r x f z holds appendable (frame-lands holds appendable) (a .ready) (ready-idle (a .ready))
 
 -- ---- on any record and image
 
-pub requests-planned : RequestsPlanned
+pub requests-planned : RequestsPlanned exec
 unfolding RequestsPlanned
-requests-planned img r reply h m by bm e = go (request-met img r reply h m)
+requests-planned img r h m reply by bm e = go (request-met img r reply h m)
   where
-    go : Met img r reply h m (requestOn img r reply h m) → Appends img r h m (requestOn img r reply h m)
+    go : Met img r reply h m (requestOn img r reply h m) → Appends exec img r h m (requestOn img r reply h m)
     go (refused n p) = let q : Refused n ≡ More = sym (ap (λ (o : Out). o .answer) p) ∙ e in let z : _≡_ {A = ℕ} 0 1 = cc in absurd (omega arith)
     go (done d i b) = let q : Done ≡ More = sym d ∙ e in let z : _≡_ {A = ℕ} 0 1 = cc in absurd (omega arith)
-    go (begun y p) = subst (Appends img r h m) (sym p) (frame-appends (sized-of img (y .length-ok)) by bm y reply)
+    go (begun y p) = subst (Appends exec img r h m) (sym p) (frame-appends (sized-of img (y .length-ok)) by bm y reply)

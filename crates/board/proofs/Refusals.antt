@@ -34,7 +34,7 @@ use Rattle.board.specs.Record.{allowed, unmounted, Out, refuse, answerIn
 use Rattle.board.specs.Step.{enterWipe, action, advance, stepOn}
 use Rattle.board.specs.Mount.{allFound, anyForeign, Found, Store, stores, equalTimes, newest, wipeList, needsTransfer, mountJob, mountAt, mountStores, mountOn, formatJob, formatOn}
 use Rattle.board.specs.Queue.{Held, held, needsRoom, appendJob, append, serveChange, serveEnd, serve, serveParsed, serveHeld, requestIn, requestOn}
-use Rattle.board.specs.Exec.{request, step, mount, format}
+use Rattle.board.specs.Exec.{request, step, mount, format, exec}
 use Rattle.board.specs.Table.{Check, check, firstOf, isBusy, isUnmounted, isNone, isMalformed, frameIf, worn, heldChecks, laterChecks, requestChecks, outside, noStore, wornStore, mountChecks, checks, refusalIn}
 use Rattle.board.specs.Demand1.{RefusedByTable, RefusalsUntouched, OneStep, AtMostOneStep, Rests}
 use Rattle.board.proofs.Outcomes.{append-worn, append-begins, change-refused, change-goes, end-goes, end-idle, log-short, log-done, serve-put, serve-delete, serve-commit, serve-abort, serve-log, read-none, read-some, request-length, request-host, request-in, mount-length, mount-foreign, mount-stores, mount-worn, mount-begins, format-length, format-begins, step-resting, step-outside, step-goes}
@@ -219,21 +219,21 @@ step-follows img r (Busy s) e =
 
 -- ---- demand 1
 
-pub refused-by-table : RefusedByTable
+pub refused-by-table : RefusedByTable exec
 unfolding RefusedByTable
 refused-by-table img r (request h m reply) = request-asked img r reply h m .table
 refused-by-table img r step = step-follows img r (r .phase) refl .table
 refused-by-table img r mount = mount-made img .table
 refused-by-table img r format = format-made img .table
 
-pub refusals-untouched : RefusalsUntouched
+pub refusals-untouched : RefusalsUntouched exec
 unfolding RefusalsUntouched
 refusals-untouched img r (request h m reply) n e = request-asked img r reply h m .untouched n e
 refusals-untouched img r step n e = step-follows img r (r .phase) refl .untouched n e
 refusals-untouched img r mount n e = mount-made img .untouched n e
 refusals-untouched img r format n e = format-made img .untouched n e
 
-pub at-most-one-step : AtMostOneStep
+pub at-most-one-step : AtMostOneStep exec
 unfolding AtMostOneStep
 at-most-one-step img r (request h m reply) = request-asked img r reply h m .kept
 at-most-one-step img r step = step-follows img r (r .phase) refl .kept

@@ -23,14 +23,14 @@ use Rattle.journal.specs.Block.{blockState, header, validData}
 use Rattle.journal.specs.Room.{claimed, openHosts, usedBy}
 use Rattle.journal.specs.Index.{placesOf, valueAt}
 use Rattle.journal.proofs.States.{Contents, contents-valid}
-use Rattle.journal.proofs.Places.{Journal, Holds, place-law}
+use Rattle.journal.proofs.Places.{Journal, ValueStands, place-law}
 use Rattle.wire.specs.declared.Answer.the-variants.{Done}
 use Rattle.wire.specs.declared.Page.the-variants.{Summary}
 use Rattle.wire.specs.declared.Request.{Request}
 use Rattle.wire.specs.declared.Request.the-variants.{Read, Log}
 use Rattle.wire.specs.Message.{pageLen}
 use Rattle.board.specs.declared.Record.{Record}
-use Rattle.board.specs.Record.{Out, idle, Stretch}
+use Rattle.board.specs.Record.{Out, rest, idle, Stretch}
 use Rattle.board.specs.Mount.{endOf}
 use Rattle.board.specs.Queue.{Held, held, heldBy, heldIn, heldIf, fitsRecord, sameImage, othersBlank, stretchOf, placeOf, serve}
 use Rattle.board.specs.Claim.{ReadSays, LogSays}
@@ -59,11 +59,11 @@ heldOf y = record { time = y .time; frames = y .frames }
 pub held-ready : {s : ℕ} {img : List ℕ} {r : Record} → Sized s img → (y : Ready s img r) → held img r ≡ some (heldOf y)
 unfolding held
 held-ready {s} {img} {r} z y =
-    ap (held img) (y .is) ∙ ap (λ (b : Bool). heldBy b img (idle (y .last) (y .number) (y .end))) same
+    ap (held img) (y .is) ∙ ap (λ (b : Bool). heldBy b img (idle (rest (y .last) (y .number) (y .end)))) same
     ∙ ap (λ (n : ℕ). heldIn n (y .end) (blockState (block n (y .number) img))) (size-of z)
     ∙ ap (heldIn s (y .end)) (contents-valid (y .contents)) ∙ ap (λ (b : Bool). heldIf b (y .time) (y .frames)) fit
   where
-    same : sameImage img (idle (y .last) (y .number) (y .end)) ≡ true
+    same : sameImage img (idle (rest (y .last) (y .number) (y .end))) ≡ true
     same =
         and-both (eqb (length img) (suc (y .last))) (ltb (y .number) blocks && othersBlank (y .number) img blockNumbers)
         (eq-eqb (length img) (suc (y .last)) (y .long))
@@ -97,7 +97,7 @@ module _ {s : ℕ} {img : List ℕ} {r : Record} (z : Sized s img) (y : Ready s 
       go (some v) e =
           let k : ℕ = y .number in
           let b : List ℕ = block s k img in
-          let x : Holds b i (getD (placesOf (y .frames)) (i .0) 0) v = place-law b (y .frames) i v (journal-of (y .contents)) l e in
+          let x : ValueStands b i (getD (placesOf (y .frames)) (i .0) 0) v = place-law b (y .frames) i v (journal-of (y .contents)) l e in
           let n : length b ≡ s = length-block s k img (sized-block k z (y .there)) in
           let at : placeOf img r (heldOf y) i ≡ record { at = k * s + x .at; size = length v } =
           ap (λ (q : Record). placeOf img q (heldOf y) i) (y .is)

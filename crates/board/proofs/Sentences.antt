@@ -109,7 +109,7 @@ transfer-exact k j time st e h =
 
 pub format-exact : FormatExact
 unfolding FormatExact writes encodeAll
-format-exact = refl
+format-exact img = refl
 
 pub append-exact : AppendExact
 append-exact =

@@ -13,7 +13,7 @@ use Rattle.flash.specs.Flash.{Step, applyAll, block, sizeOf}
 use Rattle.flash.proofs.Cases.{on-test}
 use Rattle.frame.specs.declared.Host.{Host}
 use Rattle.frame.specs.Frame.{hostMax, Change, put, delete, Frame, change, commit, abort, frameLen, OfHost, MayStand}
-use Rattle.journal.specs.Replay.{State, replay, lookup, next, isOpen}
+use Rattle.journal.specs.Replay.{State, replay, lookup, nextState, isOpen}
 use Rattle.journal.specs.Block.{lastTime}
 use Rattle.journal.specs.Room.{claimed, used, noRoom}
 use Rattle.journal.proofs.Places.{Journal}
@@ -120,7 +120,7 @@ module _ {s : ℕ} {img : List ℕ} {r : Record} {b : Book} (u : Bool) (z : Size
         young = λ n. let v : eqb (y .ready .time) lastTime ≡ false = rw n at t in omega (arith, eqb-false (y .ready .time) lastTime v, y .ready .contents .layout .time-hi);
       } in
       let after : After s (applyAll s (framePlan (needsRoom img r f) (r .block) (r .end) x f) img)
-      (framedAt (needsRoom img r f) (r .last) (r .block) (r .end) x f) (next st f) = frame-ends hold fit (e .room) in
+      (framedAt (needsRoom img r f) (r .last) (r .block) (r .end) x f) (nextState st f) = frame-ends hold fit (e .room) in
       let keeps : Keeps s st (b′ .objects) = record { room = y .spare; same = y .objects ∙ sym os } in
       let j : (answerOf (enterWipe (appendJob img r x f)) ≡ More) × Working s img (enterWipe (appendJob img r x f)) b′ u =
       frame-starts r x f z hold fit (frame-safe hold fit u keeps) (idle-book e after) (ready-idle (after .ready)) in (

@@ -19,12 +19,12 @@ use Rattle.journal.proofs.States.{Contents}
 use Rattle.journal.proofs.Building.{Lands, below-build, built, making, lands}
 use Rattle.journal.proofs.Replaying.{replay-framesOf, stands-settled}
 use Rattle.journal.proofs.Room.{frames-total, used-claimed, claimed-settled, claimed-replay}
-use Rattle.board.specs.Record.{idle}
+use Rattle.board.specs.Record.{rest, idle}
 use Rattle.board.specs.Mount.{nextBlock}
 use Rattle.board.specs.Plan.{onBlock, transferPlan}
 use Rattle.board.proofs.Numbers.{next-there, next-other, next-next, next-only}
 use Rattle.board.proofs.Images.{Sized, sized-as, sized-block, apply-append, length-all-steps, block-writes, other-writes}
-use Rattle.board.proofs.Invariant.{StepLands, Quiet, Others, Valid, Safe, one-valid}
+use Rattle.board.proofs.Invariant.{StepLands, Quiet, Others, Valid, Lesser, Safe, some-valid}
 use Rattle.board.proofs.Prefixes.{Each, each-append, each-one, each-writes, below-take}
 use Rattle.board.proofs.Current.{Alone, After, Roomy, Keeps, block-long, alone-after, valid-of, blank-quiet, both-safe}
 
@@ -123,12 +123,12 @@ module _ {s k t : ℕ} {img : List ℕ} {fs : List Frame} {c : Tail} (a : Alone 
       go : (j : ℕ) → j < length (copyWrites t st) → Safe s (during j) os u
       go j h =
           let b : Below s (take j (copyWrites t st)) = below-take s j (copyWrites t st) below in
-          one-valid k (a .there) (old (take j (copyWrites t st)) b) (others j h)
+          some-valid k (a .there) (old (take j (copyWrites t st)) b) (λ i l n. Lesser.quiet (others j h i l n))
 
       both : Safe s copy os u
       both =
           both-safe u k (a .there) (old (copyWrites t st) below) (valid-of new (subst (λ (z : State). Keeps s z os) (sym (replay-framesOf st)) q))
-          (λ e. let d : t ≡ suc t = e in omega arith)
+          (omega arith)
 
   pub transfer-alone : Alone s (applyAll s (transferPlan k t st) img) (nextBlock k) (suc t) (framesOf st) clean
   unfolding applyAll
@@ -154,7 +154,7 @@ module _ {s k t : ℕ} {img : List ℕ} {fs : List Frame} {c : Tail} (a : Alone 
             others = blank;
           }
 
-  pub transferred : (l : ℕ) → length img ≡ suc l → Roomy s st → After s (applyAll s (transferPlan k t st) img) (idle l (nextBlock k) (claimed st)) st
+  pub transferred : (l : ℕ) → length img ≡ suc l → Roomy s st → After s (applyAll s (transferPlan k t st) img) (idle (rest l (nextBlock k) (claimed st))) st
   transferred l e room =
-      subst (λ (n : ℕ). After s (applyAll s (transferPlan k t st) img) (idle l (nextBlock k) n) st) (frames-total st)
+      subst (λ (n : ℕ). After s (applyAll s (transferPlan k t st) img) (idle (rest l (nextBlock k) n)) st) (frames-total st)
       (alone-after l st transfer-alone (length-all-steps s (transferPlan k t st) img ∙ e) (replay-framesOf st) room)

@@ -26,9 +26,8 @@ use Rattle.board.specs.declared.Phase.{Phase}
 use Rattle.board.specs.declared.Phase.the-variants.{Unmounted, Idle, Busy}
 use Rattle.board.specs.declared.Record.{Record}
 use Rattle.board.specs.Record.{allowed, Out}
-use Rattle.board.specs.Step.{stepOn}
-use Rattle.board.specs.Mount.{needsTransfer, formatOn}
-use Rattle.board.specs.Exec.{Call, request, step, mount, format, exec}
+use Rattle.board.specs.Mount.{needsTransfer}
+use Rattle.board.specs.Exec.{Call, request, step, mount, format, Machine}
 use Rattle.board.specs.Plan.{Follows}
 use Rattle.board.specs.Book.{Book, UnderWay, nothing, committing, formatting, firstBook, enterCall}
 
@@ -45,21 +44,21 @@ pub record IdleAgrees (img : List ℕ) (r : Record) (b : Book) : Type 0 where
   pub room : replay frames .pending ≡ [] → used (replay frames) + (deleteLen + endLen) ≤ sizeOf img
 
 -- a job whose steps are all made ends idle, after at most S of them
-pub record Finishes (img : List ℕ) (r : Record) : Type 0 where
+pub record Finishes (m : Machine) (img : List ℕ) (r : Record) : Type 0 where
   pub plan : List Step
   pub last : Record
-  pub follows : Follows img r plan last
+  pub follows : Follows m img r plan last
   pub rests : last .phase ≡ Idle
   pub short : length plan ≤ sizeOf img
 
 -- "after each call in it that gives back an idle record"; beyond the letter, a job under way can be finished
-abbrev pub AgreesIn : Phase → List ℕ → Record → Book → Type 0
-AgreesIn Unmounted img r b = Unit {0}
-AgreesIn Idle img r b = IdleAgrees img r b
-AgreesIn (Busy s) img r b = Finishes img r
+abbrev pub AgreesIn : Machine → Phase → List ℕ → Record → Book → Type 0
+AgreesIn m Unmounted img r b = Unit {0}
+AgreesIn m Idle img r b = IdleAgrees img r b
+AgreesIn m (Busy s) img r b = Finishes m img r
 
-abbrev pub Agrees : List ℕ → Record → Book → Type 0
-Agrees img r b = AgreesIn (r .phase) img r b
+abbrev pub Agrees : Machine → List ℕ → Record → Book → Type 0
+Agrees m img r b = AgreesIn m (r .phase) img r b
 
 -- ---- what a call says of the book's objects
 
@@ -141,20 +140,20 @@ track u b format a = trackFormat u a
 -- ---- the run
 
 -- the claim from an image, a record, a book: at the start and after each call
-abbrev pub Run : List ℕ → Record → Book → Bool → List Call → Type 0
-Run img r b u [] = Agrees img r b
-Run img r b u (c ∷ cs) =
-    let o : Out = exec img r c in
-    Agrees img r b × Says img r b u c o × Run (o .image) (o .board) (enterCall b c (o .answer)) (track u b c (o .answer)) cs
+abbrev pub Run : Machine → List ℕ → Record → Book → Bool → List Call → Type 0
+Run m img r b u [] = Agrees m img r b
+Run m img r b u (c ∷ cs) =
+    let o : Out = m img r c in
+    Agrees m img r b × Says img r b u c o × Run m (o .image) (o .board) (enterCall b c (o .answer)) (track u b c (o .answer)) cs
 
 -- "whose steps too each got what the call before gave back"
-abbrev pub stepsOn : ℕ → Out → Out
-stepsOn zero o = o
-stepsOn (suc n) o = stepsOn n (stepOn (o .image) (o .board))
+abbrev pub stepsOn : Machine → ℕ → Out → Out
+stepsOn m zero o = o
+stepsOn m (suc n) o = stepsOn m n (m (o .image) (o .board) step)
 
--- "the image and idle record that a finished format gave back"
-abbrev pub formatted : List ℕ → Out
-formatted img = stepsOn 12 (formatOn img)
+-- "the image and idle record that a finished format gave back", whatever record there was before
+abbrev pub formatted : Machine → List ℕ → Record → Out
+formatted m img r = stepsOn m 12 (m img r format)
 
 -- messages are bytes
 abbrev pub ByteCall : Call → Type 0
@@ -168,8 +167,8 @@ ByteCalls [] = Unit {0}
 ByteCalls (c ∷ cs) = ByteCall c × ByteCalls cs
 
 -- "This is a single claim about the whole list": every image of an allowed length, every list of calls
-unfoldable pub Claim : Type 0
-Claim =
-    (img : List ℕ) → Bytes img → allowed (length img) ≡ true
-    → (formatted img .answer ≡ Done) × (formatted img .board .phase ≡ Idle)
-    × ((cs : List Call) → ByteCalls cs → Run (formatted img .image) (formatted img .board) firstBook false cs)
+unfoldable pub Claim : Machine → Type 0
+Claim m =
+    (img : List ℕ) (r : Record) → Bytes img → allowed (length img) ≡ true
+    → (formatted m img r .answer ≡ Done) × (formatted m img r .board .phase ≡ Idle)
+    × ((cs : List Call) → ByteCalls cs → Run m (formatted m img r .image) (formatted m img r .board) firstBook false cs)

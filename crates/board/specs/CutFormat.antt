@@ -12,8 +12,7 @@ use Rattle.journal.specs.Replay.{Object, replay}
 use Rattle.journal.specs.Block.{BlockState, blank, inProgress, valid, foreign, blockState}
 use Rattle.board.specs.declared.Record.{Record}
 use Rattle.board.specs.Record.{Out, allowed}
-use Rattle.board.specs.Mount.{formatOn}
-use Rattle.board.specs.Exec.{Call, exec}
+use Rattle.board.specs.Exec.{Call, format, Machine}
 use Rattle.board.specs.Book.{Book, firstBook, enterCall}
 use Rattle.board.specs.Claim.{stepsOn, formatted, ByteCalls}
 
@@ -26,13 +25,13 @@ pub record Left : Type 0 where
   pub book : Book
 
 -- calls that each got what the last gave back
-abbrev pub afterAll : List ℕ → Record → Book → List Call → Left
-afterAll img r b [] = record { image = img; board = r; book = b }
-afterAll img r b (c ∷ cs) = let o : Out = exec img r c in afterAll (o .image) (o .board) (enterCall b c (o .answer)) cs
+abbrev pub afterAll : Machine → List ℕ → Record → Book → List Call → Left
+afterAll m img r b [] = record { image = img; board = r; book = b }
+afterAll m img r b (c ∷ cs) = let o : Out = m img r c in afterAll m (o .image) (o .board) (enterCall b c (o .answer)) cs
 
 -- a run from a finished format on
-abbrev pub leftBy : List ℕ → List Call → Left
-leftBy img cs = afterAll (formatted img .image) (formatted img .board) firstBook cs
+abbrev pub leftBy : Machine → List ℕ → Record → List Call → Left
+leftBy m img r cs = afterAll m (formatted m img r .image) (formatted m img r .board) firstBook cs
 
 -- ---- what a cut leaves
 
@@ -76,7 +75,7 @@ pub data Leaves (os : List Object) (j : ℕ) (img : List ℕ) : Type 0 where
   empty-store : j ≡ 12 → EmptyStore img → Leaves os j img
 
 -- for every run and every cut, before the first step and after the last too
-unfoldable pub CutFormat : Type 0
-CutFormat =
-    (img : List ℕ) (cs : List Call) (j : ℕ) → Bytes img → allowed (length img) ≡ true → ByteCalls cs → j ≤ 12
-    → Leaves (leftBy img cs .book .objects) j (stepsOn j (formatOn (leftBy img cs .image)) .image)
+unfoldable pub CutFormat : Machine → Type 0
+CutFormat m =
+    (img : List ℕ) (r : Record) (cs : List Call) (j : ℕ) → Bytes img → allowed (length img) ≡ true → ByteCalls cs → j ≤ 12
+    → let x : Left = leftBy m img r cs in Leaves (x .book .objects) j (stepsOn m j (m (x .image) (x .board) format) .image)

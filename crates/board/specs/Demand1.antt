@@ -12,13 +12,12 @@ use Rattle.board.specs.declared.Phase.{Phase}
 use Rattle.board.specs.declared.Phase.the-variants.{Unmounted, Idle, Busy}
 use Rattle.board.specs.declared.Record.{Record}
 use Rattle.board.specs.Record.{unmounted, Out, out}
-use Rattle.board.specs.Step.{stepOn}
-use Rattle.board.specs.Exec.{Call, request, step, mount, format, exec}
+use Rattle.board.specs.Exec.{Call, request, step, mount, format, Machine}
 use Rattle.board.specs.Table.{firstOf, checks, refusalIn}
 
 -- a call is refused exactly as the table says: by the first line whose condition holds
-unfoldable pub RefusedByTable : Type 0
-RefusedByTable = (img : List ℕ) (r : Record) (c : Call) → refusalIn (exec img r c .answer) ≡ firstOf (checks img r c)
+unfoldable pub RefusedByTable : Machine → Type 0
+RefusedByTable m = (img : List ℕ) (r : Record) (c : Call) → refusalIn (m img r c .answer) ≡ firstOf (checks img r c)
 
 -- "Every refusal takes no step and changes no byte of image, reply or record; a refused mount or format hands back an unmounted record."
 abbrev pub Unchanged : List ℕ → Record → Call → Refusal → Out
@@ -27,23 +26,23 @@ Unchanged img r step n = out (Refused n) img r []
 Unchanged img r mount n = out (Refused n) img unmounted []
 Unchanged img r format n = out (Refused n) img unmounted []
 
-unfoldable pub RefusalsUntouched : Type 0
-RefusalsUntouched =
-    (img : List ℕ) (r : Record) (c : Call) (n : Refusal) → exec img r c .answer ≡ Refused n → exec img r c ≡ Unchanged img r c n
+unfoldable pub RefusalsUntouched : Machine → Type 0
+RefusalsUntouched m =
+    (img : List ℕ) (r : Record) (c : Call) (n : Refusal) → m img r c .answer ≡ Refused n → m img r c ≡ Unchanged img r c n
 
 -- "Accepting takes no step": only a step call changes the image, and it does at most one flash step
 abbrev pub OneStep : List ℕ → List ℕ → Type 0
 OneStep img after = (after ≡ img) ⊎ ((x : Step) × (after ≡ apply (sizeOf img) x img))
 
 -- "A step does one thing"; a request, a mount and a format do none
-abbrev pub ImageAfter : List ℕ → Record → Call → Type 0
-ImageAfter img r (request h m reply) = exec img r (request h m reply) .image ≡ img
-ImageAfter img r step = OneStep img (exec img r step .image)
-ImageAfter img r mount = exec img r mount .image ≡ img
-ImageAfter img r format = exec img r format .image ≡ img
+abbrev pub ImageAfter : Machine → List ℕ → Record → Call → Type 0
+ImageAfter m img r (request h msg reply) = m img r (request h msg reply) .image ≡ img
+ImageAfter m img r step = OneStep img (m img r step .image)
+ImageAfter m img r mount = m img r mount .image ≡ img
+ImageAfter m img r format = m img r format .image ≡ img
 
-unfoldable pub AtMostOneStep : Type 0
-AtMostOneStep = (img : List ℕ) (r : Record) (c : Call) → ImageAfter img r c
+unfoldable pub AtMostOneStep : Machine → Type 0
+AtMostOneStep m = (img : List ℕ) (r : Record) (c : Call) → ImageAfter m img r c
 
 -- ---- forged records
 
@@ -61,12 +60,12 @@ Rests Idle = Unit {0}
 Rests (Busy s) = ⊥
 
 -- within n step calls, each on what the last gave back, the record rests or a call is refused with 11
-unfoldable pub EndsWithin : ℕ → List ℕ → Record → Type 0
-EndsWithin zero img r = Rests (r .phase)
-EndsWithin (suc n) img r =
-    let o : Out = stepOn img r in
-    Rests (r .phase) ⊎ ((o .answer ≡ Refused refusal.Stale) ⊎ EndsWithin n (o .image) (o .board))
+unfoldable pub EndsWithin : Machine → ℕ → List ℕ → Record → Type 0
+EndsWithin m zero img r = Rests (r .phase)
+EndsWithin m (suc n) img r =
+    let o : Out = m img r step in
+    Rests (r .phase) ⊎ ((o .answer ≡ Refused refusal.Stale) ⊎ EndsWithin m n (o .image) (o .board))
 
 -- "A record forged otherwise does at most one step a call .. and ends or gets 11 within 65,536 step calls."
-unfoldable pub ForgedEnds : Type 0
-ForgedEnds = (img : List ℕ) (r : Record) → Declared r → EndsWithin 65536 img r
+unfoldable pub ForgedEnds : Machine → Type 0
+ForgedEnds m = (img : List ℕ) (r : Record) → Declared r → EndsWithin m 65536 img r

@@ -27,10 +27,10 @@ use Rattle.wire.specs.declared.Parsed.the-variants.{Is}
 use Rattle.wire.specs.Message.{parse, valueIn}
 use Rattle.board.specs.declared.Phase.the-variants.{Idle}
 use Rattle.board.specs.declared.Record.{Record}
-use Rattle.board.specs.Record.{Out, allowed, idle}
-use Rattle.board.specs.Mount.{allFound, Store, needsTransfer, mountOn, formatOn}
-use Rattle.board.specs.Queue.{Held, held, needsRoom, requestOn}
-use Rattle.board.specs.Exec.{Call, request, step, mount, format, exec}
+use Rattle.board.specs.Record.{Out, allowed, rest, idle}
+use Rattle.board.specs.Mount.{allFound, Store, needsTransfer}
+use Rattle.board.specs.Queue.{Held, held, needsRoom}
+use Rattle.board.specs.Exec.{Call, request, step, mount, format, Machine}
 use Rattle.board.specs.Plan.{Follows, formatPlan, mountPlan, mountedAt, framePlan, framedAt}
 use Rattle.board.specs.Table.{frameFor}
 use Rattle.board.specs.Claim.{ByteCalls}
@@ -45,7 +45,7 @@ Accepted (Refused n) = ⊥
 
 -- the store that an accepted mount takes: a valid block, newer than every other valid one, and none foreign; its plan is document
 -- 01's, and leaves a block that replays to its settled objects and nothing pending
-pub record Mounts (img : List ℕ) (o : Out) : Type 0 where
+pub record Mounts (m : Machine) (img : List ℕ) (o : Out) : Type 0 where
   pub store : Store
   pub there : store .number < blocks
   pub is-valid : blockState (block (sizeOf img) (store .number) img) ≡ valid (store .time) (store .frames) (store .tail)
@@ -54,7 +54,7 @@ pub record Mounts (img : List ℕ) (o : Out) : Type 0 where
   pub none-foreign : (k : ℕ) (e : Fault) → k < blocks → blockState (block (sizeOf img) k img) ≡ foreign e → ⊥
   pub last : Record
   pub is-last : last ≡ mountedAt (needsTransfer (store .frames) (store .tail)) (length img - 1) store
-  pub follows : Follows img (o .board) (mountPlan (allFound img) store) last
+  pub follows : Follows m img (o .board) (mountPlan (allFound img) store) last
   pub short : length (mountPlan (allFound img) store) ≤ sizeOf img
   pub time : ℕ
   pub frames : List Frame
@@ -63,8 +63,9 @@ pub record Mounts (img : List ℕ) (o : Out) : Type 0 where
   pub holds : replay frames ≡ settledOnly (replay (store .frames))
 
 -- the refusals of a mount, and their exact conditions, are the table's (`RefusedByTable`)
-unfoldable pub OneStore : Type 0
-OneStore = (img : List ℕ) → Bytes img → allowed (length img) ≡ true → Accepted (mountOn img .answer) → Mounts img (mountOn img)
+unfoldable pub OneStore : Machine → Type 0
+OneStore m =
+    (img : List ℕ) (r : Record) → Bytes img → allowed (length img) ≡ true → Accepted (m img r mount .answer) → Mounts m img (m img r mount)
 
 -- ---- every programmed byte is the plan's and lands as given
 
@@ -80,47 +81,47 @@ abbrev pub StepLands : List ℕ → Out → Type 0
 StepLands img o = (o .image ≡ img) ⊎ ((x : Step) × (o .image ≡ apply (sizeOf img) x img) × LandsAt (sizeOf img) x img)
 
 -- an accepted request with steps to do appends document 01's frame, after a transfer if it must, in at most S steps
-pub record Appends (img : List ℕ) (r : Record) (h : Host) (m : List ℕ) (o : Out) : Type 0 where
+pub record Appends (m : Machine) (img : List ℕ) (r : Record) (h : Host) (msg : List ℕ) (o : Out) : Type 0 where
   pub holding : Held
   pub asked : Request
   pub frame : Frame
   pub is-held : held img r ≡ some holding
-  pub is-asked : parse m ≡ Is asked
-  pub is-frame : frameFor h m holding asked ≡ some frame
-  pub follows : Follows img (o .board) (framePlan (needsRoom img r frame) (r .block) (r .end) holding frame)
+  pub is-asked : parse msg ≡ Is asked
+  pub is-frame : frameFor h msg holding asked ≡ some frame
+  pub follows : Follows m img (o .board) (framePlan (needsRoom img r frame) (r .block) (r .end) holding frame)
       (framedAt (needsRoom img r frame) (r .last) (r .block) (r .end) holding frame)
   pub short : length (framePlan (needsRoom img r frame) (r .block) (r .end) holding frame) ≤ sizeOf img
 
 -- on any record and image at all, demand 1's bound with it
-unfoldable pub RequestsPlanned : Type 0
-RequestsPlanned =
-    (img : List ℕ) (r : Record) (reply : List ℕ) (h : Host) (m : List ℕ) → Bytes img → Bytes m → requestOn img r reply h m .answer ≡ More
-    → Appends img r h m (requestOn img r reply h m)
+unfoldable pub RequestsPlanned : Machine → Type 0
+RequestsPlanned m =
+    (img : List ℕ) (r : Record) (h : Host) (msg reply : List ℕ) → Bytes img → Bytes msg → m img r (request h msg reply) .answer ≡ More
+    → Appends m img r h msg (m img r (request h msg reply))
 
 -- "Format: .. 12 steps."
-pub record Formats (img : List ℕ) (o : Out) : Type 0 where
-  pub follows : Follows img (o .board) formatPlan (idle (length img - 1) 0 headerLen)
-  pub twelve : length formatPlan ≡ 12
+pub record Formats (m : Machine) (img : List ℕ) (o : Out) : Type 0 where
+  pub follows : Follows m img (o .board) (formatPlan img) (idle (rest (length img - 1) 0 headerLen))
+  pub twelve : length (formatPlan img) ≡ 12
 
 -- a request follows its plan or was done at once and leaves the record; a step lands; mount and format follow theirs
-abbrev pub Planned : List ℕ → Record → Call → Out → Type 0
-Planned img r (request h m reply) o = (o .answer ≡ More → Appends img r h m o) × (o .answer ≡ Done → o .board ≡ r)
-Planned img r step o = StepLands img o
-Planned img r mount o = Accepted (o .answer) → Mounts img o
-Planned img r format o = Formats img o
+abbrev pub Planned : Machine → List ℕ → Record → Call → Out → Type 0
+Planned m img r (request h msg reply) o = (o .answer ≡ More → Appends m img r h msg o) × (o .answer ≡ Done → o .board ≡ r)
+Planned m img r step o = StepLands img o
+Planned m img r mount o = Accepted (o .answer) → Mounts m img o
+Planned m img r format o = Formats m img o
 
 -- calls that each got what the last gave back
-abbrev pub AllPlanned : List ℕ → Record → List Call → Type 0
-AllPlanned img r [] = Unit {0}
-AllPlanned img r (c ∷ cs) =
-    let o : Out = exec img r c in Planned img r c o × AllPlanned (o .image) (o .board) cs
+abbrev pub AllPlanned : Machine → List ℕ → Record → List Call → Type 0
+AllPlanned m img r [] = Unit {0}
+AllPlanned m img r (c ∷ cs) =
+    let o : Out = m img r c in Planned m img r c o × AllPlanned m (o .image) (o .board) cs
 
 -- from a mount or a format on, accepted or not, of any image of an allowed length
-pub record PlannedFrom : Type 0 where
-  pub from-mount : (img : List ℕ) (cs : List Call) → Bytes img → allowed (length img) ≡ true → ByteCalls cs
-      → AllPlanned img (mountOn img .board) cs
-  pub from-format : (img : List ℕ) (cs : List Call) → Bytes img → allowed (length img) ≡ true → ByteCalls cs
-      → AllPlanned img (formatOn img .board) cs
+pub record PlannedFrom (m : Machine) : Type 0 where
+  pub from-mount : (img : List ℕ) (r : Record) (cs : List Call) → Bytes img → allowed (length img) ≡ true → ByteCalls cs
+      → AllPlanned m img (m img r mount .board) cs
+  pub from-format : (img : List ℕ) (r : Record) (cs : List Call) → Bytes img → allowed (length img) ≡ true → ByteCalls cs
+      → AllPlanned m img (m img r format .board) cs
 
 -- ---- programming only clears bits, on every record and image
 
@@ -132,27 +133,27 @@ ClearsOnly =
 -- ---- room and wear
 
 -- past the earlier checks
-pub record Asks (img : List ℕ) (r : Record) (h : Host) (m : List ℕ) (x : Held) (q : Request) : Type 0 where
+pub record Asks (img : List ℕ) (r : Record) (h : Host) (msg : List ℕ) (x : Held) (q : Request) : Type 0 where
   pub length-ok : allowed (length img) ≡ true
   pub host-ok : h .0 ≤ hostMax
   pub is-idle : r .phase ≡ Idle
   pub is-held : held img r ≡ some x
-  pub is-asked : parse m ≡ Is q
+  pub is-asked : parse msg ≡ Is q
 
 -- "a put is refused exactly if C + n + 6·open + 14 > S, a delete exactly if C + 8 + 6·open > S"
-pub record RoomExact : Type 0 where
-  pub of-put : (img : List ℕ) (r : Record) (reply : List ℕ) (h : Host) (m : List ℕ) (x : Held) (i : ObjectId) → Asks img r h m x (Put i)
-      → (requestOn img r reply h m .answer ≡ Refused refusal.NoRoom)
+pub record RoomExact (m : Machine) : Type 0 where
+  pub of-put : (img : List ℕ) (r : Record) (h : Host) (msg reply : List ℕ) (x : Held) (i : ObjectId) → Asks img r h msg x (Put i)
+      → (m img r (request h msg reply) .answer ≡ Refused refusal.NoRoom)
       ↔ (sizeOf img
-      < claimed (replay (x .frames)) + putLen (length (valueIn m))
-      + 6 * openHosts (replay (x .frames) .pending ++ (entry h (put i (valueIn m)) ∷ [])) + 14)
-  pub of-delete : (img : List ℕ) (r : Record) (reply : List ℕ) (h : Host) (m : List ℕ) (x : Held) (i : ObjectId)
-      → Asks img r h m x (Delete i) → (requestOn img r reply h m .answer ≡ Refused refusal.NoRoom)
+      < claimed (replay (x .frames)) + putLen (length (valueIn msg))
+      + 6 * openHosts (replay (x .frames) .pending ++ (entry h (put i (valueIn msg)) ∷ [])) + 14)
+  pub of-delete : (img : List ℕ) (r : Record) (h : Host) (msg reply : List ℕ) (x : Held) (i : ObjectId)
+      → Asks img r h msg x (Delete i) → (m img r (request h msg reply) .answer ≡ Refused refusal.NoRoom)
       ↔ (sizeOf img < claimed (replay (x .frames)) + 8 + 6 * openHosts (replay (x .frames) .pending ++ (entry h (delete i) ∷ [])))
 
 -- past the room rule too, 6 exactly if the frame needs a transfer at the last time
-unfoldable pub WearExact : Type 0
-WearExact =
-    (img : List ℕ) (r : Record) (reply : List ℕ) (h : Host) (m : List ℕ) (x : Held) (q : Request) (f : Frame) → Asks img r h m x q
-    → frameFor h m x q ≡ some f → (requestOn img r reply h m .answer ≡ Refused refusal.NoRoom → ⊥)
-    → (requestOn img r reply h m .answer ≡ Refused refusal.Worn) ↔ ((needsRoom img r f ≡ true) × (x .time ≡ lastTime))
+unfoldable pub WearExact : Machine → Type 0
+WearExact m =
+    (img : List ℕ) (r : Record) (h : Host) (msg reply : List ℕ) (x : Held) (q : Request) (f : Frame) → Asks img r h msg x q
+    → frameFor h msg x q ≡ some f → (m img r (request h msg reply) .answer ≡ Refused refusal.NoRoom → ⊥)
+    → (m img r (request h msg reply) .answer ≡ Refused refusal.Worn) ↔ ((needsRoom img r f ≡ true) × (x .time ≡ lastTime))

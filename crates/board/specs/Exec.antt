@@ -1,4 +1,4 @@
--- The machine: one call on an image and a record.
+-- Machines: one call on an image and a record.
 use mathlib.Core.List.{List}
 use Prim.Native.Nat.{ℕ}
 use Rattle.frame.specs.declared.Host.{Host}
@@ -15,8 +15,12 @@ pub data Call : Type 0 where
   mount : Call
   format : Call
 
--- "Mount and format take no record."
-abbrev pub exec : List ℕ → Record → Call → Out
+-- anything that answers a call on an image and a record: what the statements are about
+abbrev pub Machine : Type 0
+Machine = List ℕ → Record → Call → Out
+
+-- document 01's. "Mount and format take no record."
+abbrev pub exec : Machine
 exec img r (request h m reply) = requestOn img r reply h m
 exec img r step = stepOn img r
 exec img r mount = mountOn img

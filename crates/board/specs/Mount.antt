@@ -12,7 +12,7 @@ use Rattle.journal.specs.Block.{BlockState, blank, inProgress, valid, foreign, 
 use Rattle.journal.specs.Index.{placesOf}
 use Rattle.wire.specs.declared.Refusal.the-variants as refusal
 use Rattle.board.specs.declared.Record.{Record}
-use Rattle.board.specs.Record.{allowed, noPlaces, noMarks, unmounted, busy, Out, refuse}
+use Rattle.board.specs.Record.{allowed, noPlaces, noMarks, rest, starting, unmounted, busy, Out, refuse}
 use Rattle.board.specs.Step.{begin}
 
 -- the block that a transfer goes to
@@ -115,7 +115,7 @@ needsTransfer fs (bad e) = true
 -- a transfer copies no pending frame: it starts to look for them at the end
 abbrev pub mountJob : List ℕ → Store → List ℕ → Record
 mountJob img x ks =
-    busy (length img - 1) (x .number) (endOf (x .frames)) (placesOf (x .frames))
+    busy (rest (length img - 1) (x .number) (endOf (x .frames))) (placesOf (x .frames))
     (record {
       wipe = wipeArray ks;
       wipes = length ks;
@@ -126,7 +126,7 @@ mountJob img x ks =
       since = noMarks;
       size = 0;
     })
-    0 (endOf (x .frames)) []
+    (starting 0 (endOf (x .frames))) []
 
 -- 6: "a transfer is needed, by a mount too, at time 4,294,967,295"
 unfoldable pub mountAt : List ℕ → List Found → Store → Out
@@ -149,13 +149,17 @@ mountOn img = cond (allowed (length img)) (mountFound img (allFound img)) (refus
 
 -- ---- format
 
--- "erase half 0, erase half 1, then half 0's header at time 1 in the same order": no frame is copied, from no id and no offset on
+-- "erase half 0, erase half 1": the order in which a format erases the blocks of an image
+abbrev pub formatOrder : List ℕ → List ℕ
+formatOrder img = blockNumbers
+
+-- "then half 0's header at time 1 in the same order": no frame is copied, from no id and no offset on
 abbrev pub formatJob : List ℕ → Record
 formatJob img =
-    busy (length img - 1) (nextBlock 0) headerLen noPlaces
+    busy (rest (length img - 1) (nextBlock 0) headerLen) noPlaces
     (record {
-      wipe = wipeArray blockNumbers;
-      wipes = length blockNumbers;
+      wipe = wipeArray (formatOrder img);
+      wipes = length (formatOrder img);
       moves = true;
       drops = false;
       target = 0;
@@ -163,7 +167,7 @@ formatJob img =
       since = noMarks;
       size = 0;
     })
-    256 headerLen []
+    (starting 256 headerLen) []
 
 -- 4 is its only refusal
 unfoldable pub formatOn : List ℕ → Out

@@ -3,17 +3,17 @@ use mathlib.Core.List.{List, [], _∷_, _++_, map}
 use mathlib.Core.Bool.{Bool, true, false}
 use mathlib.Core.Path.{_≡_}
 use Prim.Native.Nat.{ℕ, suc, _+_}
-use Rattle.flash.specs.Flash.{Step, erase, blockNumbers, apply, sizeOf, Write, writeStep, writes}
+use Rattle.flash.specs.Flash.{Step, erase, apply, sizeOf, Write, writeStep, writes}
 use Rattle.frame.specs.Frame.{Frame, encode, frameLen}
 use Rattle.journal.specs.Replay.{State, framesOf, replay, settledOnly}
 use Rattle.journal.specs.Block.{build}
 use Rattle.journal.specs.Room.{used, claimed}
 use Rattle.wire.specs.declared.Answer.the-variants.{More}
 use Rattle.board.specs.declared.Record.{Record}
-use Rattle.board.specs.Record.{answerOf, out, idle}
-use Rattle.board.specs.Step.{stepOn}
-use Rattle.board.specs.Mount.{nextBlock, endOf, Found, Store, wipeList, needsTransfer}
+use Rattle.board.specs.Record.{answerOf, out, rest, idle}
+use Rattle.board.specs.Mount.{nextBlock, endOf, formatOrder, Found, Store, wipeList, needsTransfer}
 use Rattle.board.specs.Queue.{Held}
+use Rattle.board.specs.Exec.{Machine, step}
 
 -- writes to block k, a step each
 abbrev pub onBlock : ℕ → List Write → List Step
@@ -25,20 +25,20 @@ abbrev pub transferPlan : ℕ → ℕ → State → List Step
 transferPlan k time st = onBlock (nextBlock k) (build (suc time) (framesOf st)) ++ (erase k ∷ [])
 
 -- "Format: erase half 0, erase half 1, then half 0's header at time 1 in the same order."
-abbrev pub formatPlan : List Step
-formatPlan = map erase blockNumbers ++ onBlock 0 (build 1 [])
+abbrev pub formatPlan : List ℕ → List Step
+formatPlan img = map erase (formatOrder img) ++ onBlock 0 (build 1 [])
 
 -- "Put, delete, commit, abort: one frame of n bytes": at an offset of block k
 abbrev pub appendPlan : ℕ → ℕ → Frame → List Step
 appendPlan k end f = onBlock k (writes end (encode f))
 
 -- the record's step calls do exactly these steps, one each; it is in a job until the last is done, and then this record
-abbrev pub Follows : List ℕ → Record → List Step → Record → Type 0
-Follows img r [] z = r ≡ z
-Follows img r (x ∷ xs) z =
+abbrev pub Follows : Machine → List ℕ → Record → List Step → Record → Type 0
+Follows m img r [] z = r ≡ z
+Follows m img r (x ∷ xs) z =
     (answerOf r ≡ More)
-    × ((next : Record) × (stepOn img r ≡ out (answerOf next) (apply (sizeOf img) x img) next [])
-    × Follows (apply (sizeOf img) x img) next xs z)
+    × ((next : Record) × (m img r step ≡ out (answerOf next) (apply (sizeOf img) x img) next [])
+    × Follows m (apply (sizeOf img) x img) next xs z)
 
 -- ---- the plan of each accepted call
 
@@ -55,8 +55,8 @@ mountPlan xs x =
 
 -- the record after it
 abbrev pub mountedAt : Bool → ℕ → Store → Record
-mountedAt true l x = idle l (nextBlock (x .number)) (used (replay (x .frames)))
-mountedAt false l x = idle l (x .number) (endOf (x .frames))
+mountedAt true l x = idle (rest l (nextBlock (x .number)) (used (replay (x .frames))))
+mountedAt false l x = idle (rest l (x .number) (endOf (x .frames)))
 
 -- "one frame of n bytes, after a transfer if end + n exceeds S": on block k whose frames run to `end`
 abbrev pub framePlan : Bool → ℕ → ℕ → Held → Frame → List Step
@@ -66,5 +66,5 @@ framePlan false k end x f = appendPlan k end f
 
 -- the record after it
 abbrev pub framedAt : Bool → ℕ → ℕ → ℕ → Held → Frame → Record
-framedAt true l k end x f = idle l (nextBlock k) (claimed (replay (x .frames)) + frameLen f)
-framedAt false l k end x f = idle l k (end + frameLen f)
+framedAt true l k end x f = idle (rest l (nextBlock k) (claimed (replay (x .frames)) + frameLen f))
+framedAt false l k end x f = idle (rest l k (end + frameLen f))

@@ -27,7 +27,7 @@ use Rattle.wire.specs.Message.{parse, valueIn, pageLen, logPage, withPage}
 use Rattle.board.specs.declared.Phase.{Phase}
 use Rattle.board.specs.declared.Phase.the-variants.{Unmounted, Idle, Busy}
 use Rattle.board.specs.declared.Record.{Record}
-use Rattle.board.specs.Record.{allowed, busy, Stretch, noStretch, Out, out, refuse}
+use Rattle.board.specs.Record.{allowed, noWipes, restOf, starting, busy, Stretch, noStretch, Out, out, refuse}
 use Rattle.board.specs.Step.{begin}
 use Rattle.board.specs.Mount.{nextBlock, newTime, endOf}
 
@@ -80,9 +80,9 @@ needsRoom img r f = ltb (sizeOf img) (r .end + frameLen f)
 -- a transfer copies from the first id and from the header on
 abbrev pub appendJob : List ℕ → Record → Held → Frame → Record
 appendJob img r x f =
-    busy (r .last) (r .block) (r .end) (placesOf (x .frames))
+    busy (restOf r) (placesOf (x .frames))
     (record {
-      wipe = 0 ∷ 0 ∷ [];
+      wipe = noWipes;
       wipes = 0;
       moves = needsRoom img r f;
       drops = true;
@@ -91,7 +91,7 @@ appendJob img r x f =
       since = sinceOf (x .frames);
       size = frameLen f;
     })
-    0 headerLen (encode f)
+    (starting 0 headerLen) (encode f)
 
 -- 6: "a transfer is needed .. at time 4,294,967,295"
 unfoldable pub append : List ℕ → Record → List ℕ → Held → Frame → Out

@@ -4,6 +4,7 @@ use mathlib.Core.Bool.{Bool, false, _&&_}
 use Prim.Native.Nat.{ℕ, _%_}
 use lib.Dec.{eqb, leb}
 use lib.ListN.{replicate}
+use Rattle.flash.specs.Flash.{blocks}
 pub use Rattle.frame.specs.Frame.{buffer}
 use Rattle.frame.specs.Frame.{maxFrame}
 use Rattle.journal.specs.Block.{headerLen}
@@ -16,6 +17,7 @@ use Rattle.board.specs.declared.Phase.{Phase}
 use Rattle.board.specs.declared.Phase.the-variants.{Unmounted, Idle, Busy}
 use Rattle.board.specs.declared.Job.{Job}
 use Rattle.board.specs.declared.Cursor.{Cursor}
+use Rattle.board.specs.declared.Rest.{Rest}
 use Rattle.board.specs.declared.Record.{Record}
 
 -- "Its length is a multiple of 256 from 512 to 65,536."
@@ -34,44 +36,68 @@ noFrame = replicate maxFrame 0
 abbrev pub noMarks : List ℕ
 noMarks = 0 ∷ 0 ∷ 0 ∷ 0 ∷ []
 
+abbrev pub noWipes : List ℕ
+noWipes = replicate blocks 0
+
 abbrev pub noJob : Job
-noJob = record { wipe = 0 ∷ 0 ∷ []; wipes = 0; moves = false; drops = false; target = 0; time = 0; since = noMarks; size = 0 }
+noJob = record { wipe = noWipes; wipes = 0; moves = false; drops = false; target = 0; time = 0; since = noMarks; size = 0 }
 
 -- step of the stage; next offset of the block made; next id and next journal offset to copy; copied frame's length and next byte
 abbrev pub cursor : ℕ → ℕ → ℕ → ℕ → ℕ → ℕ → Cursor
 cursor i a d s z o = record { index = i; at = a; id = d; source = s; size = z; off = o }
 
--- a record in no job: phase, image length less one, current block, end of its whole frames
-abbrev pub resting : Phase → ℕ → ℕ → ℕ → Record
-resting p l k e =
-    record { phase = p; last = l; block = k; end = e; places = noPlaces; job = noJob; cursor = cursor 0 0 0 0 0 0; unit = noFrame; frame = noFrame }
+-- the cursor of a job not yet begun: the first id to copy, the first offset to look at for pending frames
+abbrev pub starting : ℕ → ℕ → Cursor
+starting id source = cursor 0 headerLen id source 0 0
+
+-- image length less one, current block, end of its whole frames
+abbrev pub rest : ℕ → ℕ → ℕ → Rest
+rest l k e = record { last = l; block = k; end = e }
+
+-- where a record stands
+abbrev pub restOf : Record → Rest
+restOf r = rest (r .last) (r .block) (r .end)
+
+-- a record in no job
+abbrev pub resting : Phase → Rest → Record
+resting p z =
+    record {
+      phase = p;
+      last = z .last;
+      block = z .block;
+      end = z .end;
+      places = noPlaces;
+      job = noJob;
+      cursor = cursor 0 0 0 0 0 0;
+      unit = noFrame;
+      frame = noFrame;
+    }
 
 -- "unmounted, idle, or in a job"
 abbrev pub unmounted : Record
-unmounted = resting Unmounted 0 0 0
+unmounted = resting Unmounted (rest 0 0 0)
 
-abbrev pub idle : ℕ → ℕ → ℕ → Record
-idle l k e = resting Idle l k e
+abbrev pub idle : Rest → Record
+idle z = resting Idle z
 
 -- a job not yet begun, its frame to append in a buffer
-abbrev pub busyWith : ℕ → ℕ → ℕ → List ℕ → Job → ℕ → ℕ → List ℕ → Record
-busyWith l k e places j id source frame =
+abbrev pub busyWith : Rest → List ℕ → Job → Cursor → List ℕ → Record
+busyWith z places j c frame =
     record {
       phase = Busy Wipe;
-      last = l;
-      block = k;
-      end = e;
+      last = z .last;
+      block = z .block;
+      end = z .end;
       places = places;
       job = j;
-      cursor = cursor 0 headerLen id source 0 0;
+      cursor = c;
       unit = noFrame;
       frame = frame;
     }
 
--- a job not yet begun, on block k whose whole frames run to e: the first id to copy, the first offset to look at for pending
--- frames, and the bytes of the frame to append
-abbrev pub busy : ℕ → ℕ → ℕ → List ℕ → Job → ℕ → ℕ → List ℕ → Record
-busy l k e places j id source bytes = busyWith l k e places j id source (buffer bytes)
+-- the same by the frame's bytes
+abbrev pub busy : Rest → List ℕ → Job → Cursor → List ℕ → Record
+busy z places j c bytes = busyWith z places j c (buffer bytes)
 
 -- the same job in a stage, at a cursor
 abbrev pub inStage : Stage → Cursor → Record → Record

@@ -1,4 +1,4 @@
--- Document 01's starred bench rows, S = 256, and row p: one table over the machine.
+-- Document 01's starred bench rows, S = 256, and row p: one table over a machine.
 use mathlib.Core.List.{List, [], _∷_}
 use mathlib.Core.Path.{_≡_}
 use Prim.Native.Nat.{ℕ, zero, suc, _+_}
@@ -12,8 +12,8 @@ use Rattle.wire.specs.declared.Answer.{Answer}
 use Rattle.wire.specs.declared.Answer.the-variants.{Done, More, Refused}
 use Rattle.wire.specs.declared.Refusal.the-variants as refusal
 use Rattle.board.specs.declared.Record.{Record}
-use Rattle.board.specs.Record.{unmounted, idle, Out}
-use Rattle.board.specs.Exec.{request, step, mount, format, exec}
+use Rattle.board.specs.Record.{unmounted, rest, idle, Out}
+use Rattle.board.specs.Exec.{request, step, mount, format, Machine}
 
 -- what a call and its steps give, and how many step calls it took
 pub record Ran : Type 0 where
@@ -26,12 +26,12 @@ abbrev pub ran : ℕ → Out → Ran
 ran c o = record { steps = c; image = o .image; board = o .board; answer = o .answer }
 
 -- step calls while the answer is more, at most n
-unfoldable pub drive : ℕ → ℕ → Out → Ran
-drive zero c o = ran c o
-drive (suc n) c o =
+unfoldable pub drive : Machine → ℕ → ℕ → Out → Ran
+drive m zero c o = ran c o
+drive m (suc n) c o =
     elim (o .answer) [
       | Done ↦ ran c o
-      | More ↦ drive n (suc c) (exec (o .image) (o .board) step)
+      | More ↦ drive m n (suc c) (m (o .image) (o .board) step)
       | Refused r ↦ ran c o
     ]
 
@@ -40,19 +40,19 @@ unfoldable pub returned : List ℕ
 returned = replicate 512 0x5A
 
 -- a request of host h, with a reply of 16 bytes; and with its steps made
-unfoldable pub ask : Ran → ℕ → List ℕ → Out
-ask r h m = exec (r .image) (r .board) (request (hostOf h) m (replicate 16 0xEE))
+unfoldable pub ask : Machine → Ran → ℕ → List ℕ → Out
+ask m r h msg = m (r .image) (r .board) (request (hostOf h) msg (replicate 16 0xEE))
 
-unfoldable pub asked : Ran → ℕ → List ℕ → Ran
-asked r h m = drive 300 0 (ask r h m)
+unfoldable pub asked : Machine → Ran → ℕ → List ℕ → Ran
+asked m r h msg = drive m 300 0 (ask m r h msg)
 
 -- in a request, cut after n steps
-unfoldable pub cutIn : Ran → ℕ → List ℕ → ℕ → List ℕ
-cutIn r h m n = drive n 0 (ask r h m) .image
+unfoldable pub cutIn : Machine → Ran → ℕ → List ℕ → ℕ → List ℕ
+cutIn m r h msg n = drive m n 0 (ask m r h msg) .image
 
 -- a mount after a power cut
-unfoldable pub mounted : List ℕ → Ran
-mounted img = drive 300 0 (exec img unmounted mount)
+unfoldable pub mounted : Machine → List ℕ → Ran
+mounted m img = drive m 300 0 (m img unmounted mount)
 
 -- what a block of a run holds
 unfoldable pub holds : ℕ → Ran → State
@@ -68,89 +68,89 @@ part at n l = take n (drop at l)
 
 -- ---- the rows' givens
 
-unfoldable pub rowA : Ran
-rowA = drive 100 0 (exec returned unmounted format)
+unfoldable pub rowA : Machine → Ran
+rowA m = drive m 100 0 (m returned unmounted format)
 
-unfoldable pub rowB : Ran
-rowB = asked rowA 2 (0x08 ∷ 0x00 ∷ 0x01 ∷ 0x01 ∷ 0x05 ∷ 0x00 ∷ 0x41 ∷ 0x42 ∷ [])
+unfoldable pub rowB : Machine → Ran
+rowB m = asked m (rowA m) 2 (0x08 ∷ 0x00 ∷ 0x01 ∷ 0x01 ∷ 0x05 ∷ 0x00 ∷ 0x41 ∷ 0x42 ∷ [])
 
 unfoldable pub commitMessage : List ℕ
 commitMessage = 0x04 ∷ 0x00 ∷ 0x03 ∷ 0x01 ∷ []
 
-unfoldable pub rowC : Ran
-rowC = asked rowB 2 commitMessage
+unfoldable pub rowC : Machine → Ran
+rowC m = asked m (rowB m) 2 commitMessage
 
 -- rows d and e are asked by a host that put nothing
-unfoldable pub rowD : Out
-rowD = ask rowC 0 (0x06 ∷ 0x00 ∷ 0x05 ∷ 0x01 ∷ 0x05 ∷ 0x00 ∷ [])
+unfoldable pub rowD : Machine → Out
+rowD m = ask m (rowC m) 0 (0x06 ∷ 0x00 ∷ 0x05 ∷ 0x01 ∷ 0x05 ∷ 0x00 ∷ [])
 
-unfoldable pub rowE : Out
-rowE = ask rowC 0 (0x05 ∷ 0x00 ∷ 0x06 ∷ 0x01 ∷ 0x01 ∷ [])
+unfoldable pub rowE : Machine → Out
+rowE m = ask m (rowC m) 0 (0x05 ∷ 0x00 ∷ 0x06 ∷ 0x01 ∷ 0x01 ∷ [])
 
-unfoldable pub rowF : Ran
-rowF = mounted (rowB .image)
+unfoldable pub rowF : Machine → Ran
+rowF m = mounted m (rowB m .image)
 
-unfoldable pub rowG : Ran
-rowG = mounted (cutIn rowB 2 commitMessage 5)
+unfoldable pub rowG : Machine → Ran
+rowG m = mounted m (cutIn m (rowB m) 2 commitMessage 5)
 
-unfoldable pub rowH : Ran
-rowH = mounted (cutIn rowB 2 commitMessage 6)
+unfoldable pub rowH : Machine → Ran
+rowH m = mounted m (cutIn m (rowB m) 2 commitMessage 6)
 
 -- n bytes put to an id
 unfoldable pub putMessage : ℕ → ℕ → List ℕ
 putMessage i n = (6 + n) ∷ 0x00 ∷ 0x01 ∷ 0x01 ∷ i ∷ 0x00 ∷ replicate n 0x41
 
-unfoldable pub rowI : ℕ → Ran
-rowI last = asked (asked (asked rowA 0 (putMessage 1 64)) 0 (putMessage 2 64)) 0 (putMessage 3 last)
+unfoldable pub rowI : Machine → ℕ → Ran
+rowI m last = asked m (asked m (asked m (rowA m) 0 (putMessage 1 64)) 0 (putMessage 2 64)) 0 (putMessage 3 last)
 
-unfoldable pub rowK : ℕ → Ran
-rowK last = asked (rowI last) 0 commitMessage
+unfoldable pub rowK : Machine → ℕ → Ran
+rowK m last = asked m (rowI m last) 0 commitMessage
 
 -- a format's answer on an image of n bytes
-unfoldable pub formatAnswer : ℕ → Answer
-formatAnswer n = exec (replicate n 0x5A) unmounted format .answer
+unfoldable pub formatAnswer : Machine → ℕ → Answer
+formatAnswer m n = m (replicate n 0x5A) unmounted format .answer
 
 -- ---- the table
 
-pub record Rows : Type 0 where
-  pub a-steps : rowA .steps ≡ 12
-  pub a-done : rowA .board ≡ idle 511 0 16
-  pub a-half : part 0 16 (rowA .image)
+pub record Rows (m : Machine) : Type 0 where
+  pub a-steps : rowA m .steps ≡ 12
+  pub a-done : rowA m .board ≡ idle (rest 511 0 16)
+  pub a-half : part 0 16 (rowA m .image)
       ≡ 0x10 ∷ 0x00 ∷ 0x01 ∷ 0x4A ∷ 0xFE ∷ 0xFF ∷ 0xFF ∷ 0xFF ∷ 0xFC ∷ 0xFF ∷ 0xFF ∷ 0xFF ∷ 0xFF ∷ 0xFF ∷ 0xFF ∷ 0xFF ∷ []
-  pub a-rest : drop 16 (rowA .image) ≡ replicate 496 0xFF
-  pub b-steps : rowB .steps ≡ 10
-  pub b-done : rowB .board ≡ idle 511 0 26
-  pub b-frame : part 16 10 (rowB .image) ≡ 0x0A ∷ 0x00 ∷ 0x01 ∷ 0x00 ∷ 0x02 ∷ 0x05 ∷ 0x00 ∷ 0x41 ∷ 0x42 ∷ 0xFE ∷ []
-  pub c-steps : rowC .steps ≡ 6
-  pub c-frame : part 26 6 (rowC .image) ≡ 0x06 ∷ 0x00 ∷ 0x03 ∷ 0x00 ∷ 0x02 ∷ 0xFE ∷ []
-  pub c-end : rowC .board ≡ idle 511 0 32
-  pub c-rest : drop 32 (rowC .image) ≡ replicate 480 0xFF
-  pub d-answer : rowD .answer ≡ Done
-  pub d-place : rowD .stretch ≡ record { at = 23; size = 2 }
-  pub e-answer : rowE .answer ≡ Done
-  pub e-reply : rowE .reply
+  pub a-rest : drop 16 (rowA m .image) ≡ replicate 496 0xFF
+  pub b-steps : rowB m .steps ≡ 10
+  pub b-done : rowB m .board ≡ idle (rest 511 0 26)
+  pub b-frame : part 16 10 (rowB m .image) ≡ 0x0A ∷ 0x00 ∷ 0x01 ∷ 0x00 ∷ 0x02 ∷ 0x05 ∷ 0x00 ∷ 0x41 ∷ 0x42 ∷ 0xFE ∷ []
+  pub c-steps : rowC m .steps ≡ 6
+  pub c-frame : part 26 6 (rowC m .image) ≡ 0x06 ∷ 0x00 ∷ 0x03 ∷ 0x00 ∷ 0x02 ∷ 0xFE ∷ []
+  pub c-end : rowC m .board ≡ idle (rest 511 0 32)
+  pub c-rest : drop 32 (rowC m .image) ≡ replicate 480 0xFF
+  pub d-answer : rowD m .answer ≡ Done
+  pub d-place : rowD m .stretch ≡ record { at = 23; size = 2 }
+  pub e-answer : rowE m .answer ≡ Done
+  pub e-reply : rowE m .reply
       ≡ 0x0E ∷ 0x00 ∷ 0x01 ∷ 0x02 ∷ 0x01 ∷ 0x00 ∷ 0x00 ∷ 0x00 ∷ 0x01 ∷ 0x00 ∷ 0x19 ∷ 0x00 ∷ 0x00 ∷ 0x01 ∷ 0xEE ∷ 0xEE ∷ []
-  pub f-steps : rowF .steps ≡ 11
-  pub f-done : rowF .board ≡ idle 511 1 16
-  pub f-time : timed 1 rowF ≡ 2
-  pub f-holds : holds 1 rowF ≡ state [] []
-  pub g-steps : rowG .steps ≡ 11
-  pub g-done : rowG .board ≡ idle 511 1 16
-  pub g-holds : holds 1 rowG ≡ state [] []
-  pub h-steps : rowH .steps ≡ 0
-  pub h-done : rowH .board ≡ idle 511 0 32
-  pub h-holds : holds 0 rowH ≡ state (object (idOf 5) (0x41 ∷ 0x42 ∷ []) ∷ []) []
-  pub i-accepted : ask rowA 0 (putMessage 1 64) .answer ≡ More
-  pub i-done : rowI 64 .board ≡ idle 511 0 232
-  pub i-claimed : claimed (holds 0 (rowI 64)) ≡ 232
-  pub j : ask (rowI 64) 0 (putMessage 4 0) .answer ≡ Refused refusal.NoRoom
-  pub k-refused : ask (rowK 64) 0 (putMessage 4 0) .answer ≡ Refused refusal.NoRoom
-  pub k-accepted : ask (rowK 63) 0 (putMessage 4 0) .answer ≡ More
-  pub n : ask rowA 0 (0x05 ∷ 0x00 ∷ 0x03 ∷ 0x01 ∷ []) .answer ≡ Refused refusal.Malformed
-  pub p-512 : formatAnswer 512 ≡ More
-  pub p-768 : formatAnswer 768 ≡ More
-  pub p-65536 : formatAnswer 65536 ≡ More
-  pub p-256 : formatAnswer 256 ≡ Refused refusal.ImageLength
-  pub p-511 : formatAnswer 511 ≡ Refused refusal.ImageLength
+  pub f-steps : rowF m .steps ≡ 11
+  pub f-done : rowF m .board ≡ idle (rest 511 1 16)
+  pub f-time : timed 1 (rowF m) ≡ 2
+  pub f-holds : holds 1 (rowF m) ≡ state [] []
+  pub g-steps : rowG m .steps ≡ 11
+  pub g-done : rowG m .board ≡ idle (rest 511 1 16)
+  pub g-holds : holds 1 (rowG m) ≡ state [] []
+  pub h-steps : rowH m .steps ≡ 0
+  pub h-done : rowH m .board ≡ idle (rest 511 0 32)
+  pub h-holds : holds 0 (rowH m) ≡ state (object (idOf 5) (0x41 ∷ 0x42 ∷ []) ∷ []) []
+  pub i-accepted : ask m (rowA m) 0 (putMessage 1 64) .answer ≡ More
+  pub i-done : rowI m 64 .board ≡ idle (rest 511 0 232)
+  pub i-claimed : claimed (holds 0 (rowI m 64)) ≡ 232
+  pub j : ask m (rowI m 64) 0 (putMessage 4 0) .answer ≡ Refused refusal.NoRoom
+  pub k-refused : ask m (rowK m 64) 0 (putMessage 4 0) .answer ≡ Refused refusal.NoRoom
+  pub k-accepted : ask m (rowK m 63) 0 (putMessage 4 0) .answer ≡ More
+  pub n : ask m (rowA m) 0 (0x05 ∷ 0x00 ∷ 0x03 ∷ 0x01 ∷ []) .answer ≡ Refused refusal.Malformed
+  pub p-512 : formatAnswer m 512 ≡ More
+  pub p-768 : formatAnswer m 768 ≡ More
+  pub p-65536 : formatAnswer m 65536 ≡ More
+  pub p-256 : formatAnswer m 256 ≡ Refused refusal.ImageLength
+  pub p-511 : formatAnswer m 511 ≡ Refused refusal.ImageLength
   -- beyond row p: the first multiple of 256 past the longest
-  pub p-over : formatAnswer 65792 ≡ Refused refusal.ImageLength
+  pub p-over : formatAnswer m 65792 ≡ Refused refusal.ImageLength

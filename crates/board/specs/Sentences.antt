@@ -77,7 +77,7 @@ TransferExact = (k j time : ℕ) (st : State) → k + j ≡ 1 → suc time ≤ 4
 -- "Format: erase half 0, erase half 1, then half 0's header at time 1 in the same order. 12 steps."
 unfoldable pub FormatExact : Type 0
 FormatExact =
-    formatPlan
+    (img : List ℕ) → formatPlan img
     ≡ erase 0 ∷ erase 1 ∷ program 0 8 0xFE ∷ program 0 0 0x10 ∷ program 0 1 0x00 ∷ program 0 2 0x01 ∷ program 0 3 0x4A ∷ program 0 4 0xFE
     ∷ program 0 5 0xFF ∷ program 0 6 0xFF ∷ program 0 7 0xFF ∷ program 0 8 0xFC ∷ []
 

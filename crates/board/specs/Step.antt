@@ -17,7 +17,7 @@ use Rattle.board.specs.declared.Phase.{Phase}
 use Rattle.board.specs.declared.Phase.the-variants.{Unmounted, Idle, Busy}
 use Rattle.board.specs.declared.Cursor.{Cursor}
 use Rattle.board.specs.declared.Record.{Record}
-use Rattle.board.specs.Record.{idle, cursor, inStage, buffer, Out, out, refuse, answerOf}
+use Rattle.board.specs.Record.{rest, restOf, idle, cursor, inStage, buffer, Out, out, refuse, answerOf}
 
 -- ---- entering a stage: the first from there on that has a step; the record idle where none has
 
@@ -31,7 +31,7 @@ enter s r = inStage s (first (r .cursor)) r
 
 -- the frame to append, if there is one; else the job is over
 unfoldable pub enterAppend : Record → Record
-enterAppend r = cond (ltb 0 (r .job .size)) (enter Append r) (idle (r .last) (r .block) (r .end))
+enterAppend r = cond (ltb 0 (r .job .size)) (enter Append r) (idle (restOf r))
 
 -- the block that was made is the current one
 abbrev pub landed : Record → Record
@@ -123,7 +123,7 @@ advance Copy img r =
     (enterCopy img (inStage Copy (pastFrame (r .cursor)) r))
 advance Seal img r = onward Seal markWrites r (enterDrop r)
 advance Drop img r = enterAppend (landed r)
-advance Append img r = onward Append (r .job .size) r (idle (r .last) (r .block) (r .end + r .job .size))
+advance Append img r = onward Append (r .job .size) r (idle (rest (r .last) (r .block) (r .end + r .job .size)))
 
 -- "the last one answers 0 with the record idle", any other more
 abbrev pub stepped : List ℕ → Record → Out

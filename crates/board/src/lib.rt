@@ -1,6 +1,9 @@
 // The board's types: what a record holds.
 use frame::MAX_FRAME;
 
+// The blocks of an image.
+pub const BLOCKS: usize = 2;
+
 // The stages of a job, in their order. A stage with nothing to do is passed over.
 pub enum Stage {
     Wipe,
@@ -20,7 +23,7 @@ pub enum Phase {
 // What a job is to do; it stays as it is while the job runs.
 pub struct Job {
     // blocks to erase first, and how many of them
-    pub wipe: [u8; 2],
+    pub wipe: [u8; BLOCKS],
     pub wipes: u8,
     // a block is made, and the one it is made from erased
     pub moves: bool,
@@ -45,6 +48,15 @@ pub struct Cursor {
     // the length of the frame that is copied, and its next byte
     pub size: u8,
     pub off: u8,
+}
+
+// Where a record in no job stands: a further field of such a record goes here.
+pub struct Rest {
+    // the image's length less one
+    pub last: u16,
+    // the current block, and where its whole frames end
+    pub block: u8,
+    pub end: u16,
 }
 
 // The board record.

@@ -12,7 +12,7 @@ use Rattle.flash.specs.Bytes.{allFF}
 use Rattle.flash.proofs.Cases.{on-test, clash}
 use Rattle.frame.specs.Frame.{Frame, putLen, settledLen}
 use Rattle.frame.specs.Reader.{Read, blank, whole, torn, wrong, fault, faultAt, Slot, fits, valueSlots, settledSlots, hostSlots, onlySettled, Match, all, part, misfit, match, decode, ofHostMatch, ofSettledMatch, readLaid, readFrame}
-use Rattle.frame.specs.Code.{headOf, readOf, firstOf, misfitFrom}
+use Rattle.frame.specs.Code.{headOf, readOf, firstMisfit, misfitFrom}
 use Rattle.frame.specs.declared.Fault.{Fault}
 use Rattle.frame.specs.declared.Field.{Field}
 use Rattle.frame.specs.declared.Field.the-variants as field
@@ -29,12 +29,12 @@ use Rattle.frame.proofs.Misfits.{first-none, first-at, one-fits, one-fa
 
 found-go : (o : ℕ) (p : Slot) (ps : List Slot) (b : ℕ) (t : List ℕ) → fits p b ≡ true → misfitFrom o (p ∷ ps) (b ∷ t) ≡ misfitFrom (suc o) ps t
 unfolding misfitFrom
-found-go o p ps b t e = ap (λ (x : Misfit). firstOf x (misfitFrom (suc o) ps t)) (one-fits o p b e) ∙ first-none (misfitFrom (suc o) ps t)
+found-go o p ps b t e = ap (λ (x : Misfit). firstMisfit x (misfitFrom (suc o) ps t)) (one-fits o p b e) ∙ first-none (misfitFrom (suc o) ps t)
 
 found-stop : (o : ℕ) (p : Slot) (ps : List Slot) (b : ℕ) (t : List ℕ) → fits p b ≡ false → misfitFrom o (p ∷ ps) (b ∷ t) ≡ found.At o (p .field) (p .start)
 unfolding misfitFrom
 found-stop o p ps b t e =
-    ap (λ (x : Misfit). firstOf x (misfitFrom (suc o) ps t)) (one-fails o p b e) ∙ first-at o (p .field) (p .start) (misfitFrom (suc o) ps t)
+    ap (λ (x : Misfit). firstMisfit x (misfitFrom (suc o) ps t)) (one-fails o p b e) ∙ first-at o (p .field) (p .start) (misfitFrom (suc o) ps t)
 
 abbrev pub cutOff : Bool → ℕ → Field → ℕ → FrameRead
 cutOff true n f s = read.Torn n

@@ -69,9 +69,9 @@ valueStart (head.Settled i n) = 6
 -- ---- where bytes stop fitting a layout: the reader's tests
 
 -- the first byte that does not fit, of tests in address order
-unfoldable pub firstOf : Misfit → Misfit → Misfit
-firstOf misfit.None y = y
-firstOf (misfit.At o f s) y = misfit.At o f s
+unfoldable pub firstMisfit : Misfit → Misfit → Misfit
+firstMisfit misfit.None y = y
+firstMisfit (misfit.At o f s) y = misfit.At o f s
 
 -- a byte at offset o against its slot
 unfoldable pub oneMisfit : ℕ → Slot → ℕ → Misfit
@@ -81,10 +81,10 @@ oneMisfit o p b = elim (fits p b) [ true ↦ misfit.None | false ↦ misfit.At o
 unfoldable pub misfitFrom : ℕ → List Slot → List ℕ → Misfit
 misfitFrom o [] t = misfit.None
 misfitFrom o (p ∷ ps) [] = misfit.At o (p .field) (p .start)
-misfitFrom o (p ∷ ps) (b ∷ t) = firstOf (oneMisfit o p b) (misfitFrom (suc o) ps t)
+misfitFrom o (p ∷ ps) (b ∷ t) = firstMisfit (oneMisfit o p b) (misfitFrom (suc o) ps t)
 
 -- a length's high byte, and a kind from a to b
 abbrev pub frontMisfit : ℕ → ℕ → List ℕ → Misfit
 frontMisfit a b t =
-    firstOf (oneMisfit 1 (slot field.Length 0 0 0) (getD t 1 0))
-    (firstOf (oneMisfit 2 (slot field.Kind 2 a b) (getD t 2 0)) (oneMisfit 3 (slot field.Kind 2 0 0) (getD t 3 0)))
+    firstMisfit (oneMisfit 1 (slot field.Length 0 0 0) (getD t 1 0))
+    (firstMisfit (oneMisfit 2 (slot field.Kind 2 a b) (getD t 2 0)) (oneMisfit 3 (slot field.Kind 2 0 0) (getD t 3 0)))

@@ -6,7 +6,7 @@ ghost use lib.ListN.{length, getD, drop};
 ghost use Rattle.flash.specs.Bytes.{le16};
 ghost use Rattle.frame.specs.Frame.{putLen, deleteLen, endLen, settledLen, idOf};
 ghost use Rattle.frame.specs.Reader.{slot, changeSlots, endSlots, settledSlots, hostSlots, lastKind, onlySettled, match, decode, ofHostMatch, ofSettledMatch, readFrame};
-ghost use Rattle.frame.specs.Code.{headOf, readOf, firstOf, oneMisfit, misfitFrom, frontMisfit};
+ghost use Rattle.frame.specs.Code.{headOf, readOf, firstMisfit, oneMisfit, misfitFrom, frontMisfit};
 use crate::Fault;
 use crate::Field;
 use crate::FrameRead;
@@ -79,7 +79,7 @@ fn test_byte(t: &[u8], o: usize, lo: usize, hi: usize, field: Field, start: usiz
 
 // The first misfit of tests in address order.
 fn first(a: Misfit, b: Misfit) -> Misfit
-    ensures { λ r. ⌜ r ≡ firstOf a b ⌝ }
+    ensures { λ r. ⌜ r ≡ firstMisfit a b ⌝ }
 {
     match a {
         Misfit::None => b,

@@ -8,7 +8,7 @@ use Rattle.board.specs.declared.Stage.{Stage}
 use Rattle.board.specs.declared.Stage.the-variants.{Wipe, Open, Drop, Append}
 use Rattle.board.specs.declared.Cursor.{Cursor}
 use Rattle.board.specs.declared.Record.{Record}
-use Rattle.board.specs.Record.{idle, inStage}
+use Rattle.board.specs.Record.{rest, idle, inStage}
 use Rattle.board.specs.Step.{first, enterAppend, enterDrop, enterOpen, enterWipe}
 use Rattle.job.specs.declared.records.Numbers.{Numbers}
 use Rattle.job.specs.declared.records.Stepped.{Stepped}
@@ -25,7 +25,7 @@ module _ (p u f : List ℕ) where
   pub going-leaves : (st : Stage) (c : Cursor) (n : Numbers) → Leaves p u f (going st c n) (inStage st c (assemble n p u f))
   going-leaves st c n = record { answers = refl; gives = refl }
 
-  pub over-leaves : (l k e : ℕ) → Leaves p u f (over l k e) (idle l k e)
+  pub over-leaves : (l k e : ℕ) → Leaves p u f (over l k e) (idle (rest l k e))
   over-leaves l k e = record { answers = refl; gives = refl }
 
   pub leaves-if : (b : Bool) {s t : Stepped} {r q : Record} → Leaves p u f s r → Leaves p u f t q → Leaves p u f (cond b s t) (cond b r q)

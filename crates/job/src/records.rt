@@ -1,6 +1,6 @@
 // Board records: each kind is built in one place. A record's numbers go by themselves, its arrays apart.
 ghost use mathlib.Core.Path.{_≡_};
-ghost use Rattle.board.specs.Record.{noPlaces, noFrame, noJob, cursor, resting, unmounted, idle, busyWith, answerOf};
+ghost use Rattle.board.specs.Record.{noPlaces, noFrame, noJob, cursor, starting, rest, resting, unmounted, idle, busyWith, answerOf};
 ghost use Rattle.board.specs.Step.{first, enterWipe};
 ghost use Rattle.job.specs.Code.{numbersOf, assemble, going, over, staying, leaves, outcome, goAppend, landedOn, goDrop, goOpen, goWipe};
 use crate::Outcome;
@@ -73,7 +73,7 @@ fn no_cursor() -> Cursor
 
 // A record in no job.
 fn resting(phase: Phase, last: u16, block: u8, end: u16) -> Record
-    ensures { λ r. ⌜ r ≡ resting phase last block end ⌝ }
+    ensures { λ r. ⌜ r ≡ resting phase (rest last block end) ⌝ }
 {
     let places = no_places();
     let job = no_job();
@@ -101,7 +101,7 @@ pub fn unmounted() -> Record
 
 // The image's length less one, the current block and the end of its whole frames.
 pub fn idle(last: u16, block: u8, end: u16) -> Record
-    ensures { λ r. ⌜ r ≡ idle last block end ⌝ }
+    ensures { λ r. ⌜ r ≡ idle (rest last block end) ⌝ }
 {
     resting(Phase::Idle, last, block, end)
 }
@@ -117,7 +117,7 @@ pub fn busy(
     source: u16,
     frame: [u8; MAX_FRAME],
 ) -> Record
-    ensures { λ r. ⌜ r ≡ busyWith last block end places job id source frame ⌝ }
+    ensures { λ r. ⌜ r ≡ busyWith (rest last block end) places job (starting id source) frame ⌝ }
 {
     let cursor = Cursor {
         index: 0,

@@ -21,7 +21,7 @@ use Rattle.journal.specs.declared.Found.the-variants as found
 use Rattle.journal.specs.declared.Fetched.{Fetched}
 use Rattle.journal.specs.declared.Fetched.the-variants as fetched
 use Rattle.journal.specs.Replay.{Object, lookup, settledFrame}
-use Rattle.journal.specs.Index.{Value, onlyIf, valueIn, valueRead, valueAt, Load, load, nextSettled, isPending, nextPending, orElse, nextLoad}
+use Rattle.journal.specs.Index.{Value, onlyIf, frameValue, valueRead, valueAt, Load, load, nextSettled, isPending, nextPending, orElse, nextLoad}
 use Rattle.journal.specs.Survey.{foundOf, valueHead, pendingHead, loadOf, Inside, settledAt}
 use Rattle.journal.proofs.Lookups.{lookup-yes, lookup-no}
 use Rattle.journal.proofs.Replaying.{Rising, below-none, rising-from}
@@ -30,7 +30,7 @@ use Rattle.journal.proofs.FrameReads.{part-same, value-there, value-ins
 
 -- ---- by heads
 
-pub value-head : (i : ObjectId) (p : ℕ) (f : Frame) → valueHead i p (headOf f) ≡ foundOf (valueIn i p f)
+pub value-head : (i : ObjectId) (p : ℕ) (f : Frame) → valueHead i p (headOf f) ≡ foundOf (frameValue i p f)
 unfolding valueHead
 value-head i p (change h (put j v)) = on-test (eqb (i .0) (j .0)) (λ t. rw t) (λ t. rw t)
 value-head i p (change h (delete j)) = refl
@@ -38,13 +38,13 @@ value-head i p (commit h) = refl
 value-head i p (abort h) = refl
 value-head i p (settled j v) = on-test (eqb (i .0) (j .0)) (λ t. rw t) (λ t. rw t)
 
-pub pending-head : (marks : List ℕ) (at : ℕ) (f : Frame) → pendingHead marks at (headOf f) ≡ isPending marks at f
+pub pending-head : (since : List ℕ) (at : ℕ) (f : Frame) → pendingHead since at (headOf f) ≡ isPending since at f
 unfolding pendingHead
-pending-head marks at (change h (put i v)) = refl
-pending-head marks at (change h (delete i)) = refl
-pending-head marks at (commit h) = refl
-pending-head marks at (abort h) = refl
-pending-head marks at (settled i v) = refl
+pending-head since at (change h (put i v)) = refl
+pending-head since at (change h (delete i)) = refl
+pending-head since at (commit h) = refl
+pending-head since at (abort h) = refl
+pending-head since at (settled i v) = refl
 
 -- ---- a value at a place
 
@@ -57,7 +57,7 @@ only-some : {A : Type 0} (t : Bool) (x y : A) → onlyIf t x ≡ some y → x �
 only-some true x y e = cc
 only-some false x y e = let z : _≡_ {A = ℕ} 0 1 = cc in absurd (omega arith)
 
-value-of : (i : ObjectId) (p : ℕ) (f : Frame) (x : Value) → valueIn i p f ≡ some x → (x .at ≡ p + valueStart (headOf f)) × (x .bytes ≡ valueOf f)
+value-of : (i : ObjectId) (p : ℕ) (f : Frame) (x : Value) → frameValue i p f ≡ some x → (x .at ≡ p + valueStart (headOf f)) × (x .bytes ≡ valueOf f)
 value-of i p (change h (put j v)) x e =
     let q : record { at = p + 7; bytes = v } ≡ x = only-some (eqb (i .0) (j .0)) _ x e in
     (sym (ap (λ (y : Value). y .at) q), sym (ap (λ (y : Value). y .bytes) q))
@@ -69,13 +69,13 @@ value-of i p (settled j v) x e =
     (sym (ap (λ (y : Value). y .at) q), sym (ap (λ (y : Value). y .bytes) q))
 
 -- the value that a place holds are bytes of the block
-pub record Held (b : List ℕ) (x : Value) : Type 0 where
+pub record InBlock (b : List ℕ) (x : Value) : Type 0 where
   pub same : take (length (x .bytes)) (drop (x .at) b) ≡ x .bytes
   pub inside : x .at + length (x .bytes) ≤ length b
   pub small : length (x .bytes) ≤ valueMax
 
-held-frame : (b : List ℕ) (i : ObjectId) (p : ℕ) (f : Frame) (x : Value) → readFrame 0 p (drop p b) ≡ whole f → valueIn i p f ≡ some x → Held b x
-held-frame b i p f x r e =
+frame-in-block : (b : List ℕ) (i : ObjectId) (p : ℕ) (f : Frame) (x : Value) → readFrame 0 p (drop p b) ≡ whole f → frameValue i p f ≡ some x → InBlock b x
+frame-in-block b i p f x r e =
     let q : readFrame 0 p (drop p (take (length b) b)) ≡ whole f = ap (λ (l : List ℕ). readFrame 0 p (drop p l)) (take-length b) ∙ r in
     let v : (x .at ≡ p + valueStart (headOf f)) × (x .bytes ≡ valueOf f) = value-of i p f x e in
     let n : length (x .bytes) ≡ valueLen (headOf f) = ap length (v .1) ∙ sym (value-len f) in
@@ -86,16 +86,16 @@ held-frame b i p f x r e =
       small = omega (arith, w .1, n);
     }
 
-pub held : (b : List ℕ) (i : ObjectId) (p : ℕ) (x : Value) → valueAt b i p ≡ some x → Held b x
+pub in-block : (b : List ℕ) (i : ObjectId) (p : ℕ) (x : Value) → valueAt b i p ≡ some x → InBlock b x
 unfolding valueAt
-held b i p x e =
+in-block b i p x e =
     on-test (eqb p 0)
     (λ t. let q : none ≡ some x = rw (t, valueAt) at e in let z : _≡_ {A = ℕ} 0 1 = cc in absurd (omega arith))
     (λ t. go (readFrame 0 p (drop p b)) refl (rw (t, valueAt) at e))
   where
-    go : (r : Read) → readFrame 0 p (drop p b) ≡ r → valueRead i p (readFrame 0 p (drop p b)) ≡ some x → Held b x
+    go : (r : Read) → readFrame 0 p (drop p b) ≡ r → valueRead i p (readFrame 0 p (drop p b)) ≡ some x → InBlock b x
     go blank q s = let z : none ≡ some x = rw q at s in let y : _≡_ {A = ℕ} 0 1 = cc in absurd (omega arith)
-    go (whole f) q s = held-frame b i p f x q (rw q at s)
+    go (whole f) q s = frame-in-block b i p f x q (rw q at s)
     go (torn n) q s = let z : none ≡ some x = rw q at s in let y : _≡_ {A = ℕ} 0 1 = cc in absurd (omega arith)
     go (wrong w) q s = let z : none ≡ some x = rw q at s in let y : _≡_ {A = ℕ} 0 1 = cc in absurd (omega arith)
 
@@ -137,57 +137,57 @@ module _ (b places : List ℕ) (source i : ℕ) where
 
 -- ---- the next pending frame
 
-pending-skip : (marks : List ℕ) (at k : ℕ) (l : List ℕ) → nextPending marks at k l ≡ nextPending marks (at + k) 0 (drop k l)
+pending-skip : (since : List ℕ) (at k : ℕ) (l : List ℕ) → nextPending since at k l ≡ nextPending since (at + k) 0 (drop k l)
 unfolding nextPending
-pending-skip marks at zero l = let e : at ≡ at + 0 = omega arith in ap (λ (n : ℕ). nextPending marks n 0 l) e
-pending-skip marks at (suc k) [] = refl
-pending-skip marks at (suc k) (x ∷ l) =
-    let e : suc at + k ≡ at + suc k = omega arith in pending-skip marks (suc at) k l ∙ ap (λ (n : ℕ). nextPending marks n 0 (drop k l)) e
+pending-skip since at zero l = let e : at ≡ at + 0 = omega arith in ap (λ (n : ℕ). nextPending since n 0 l) e
+pending-skip since at (suc k) [] = refl
+pending-skip since at (suc k) (x ∷ l) =
+    let e : suc at + k ≡ at + suc k = omega arith in pending-skip since (suc at) k l ∙ ap (λ (n : ℕ). nextPending since n 0 (drop k l)) e
 
-module _ (marks : List ℕ) (at : ℕ) (l : List ℕ) where
-  pub pending-blank : readFrame 0 at l ≡ blank → nextPending marks at 0 l ≡ none
+module _ (since : List ℕ) (at : ℕ) (l : List ℕ) where
+  pub pending-blank : readFrame 0 at l ≡ blank → nextPending since at 0 l ≡ none
   unfolding nextPending
   pending-blank e = go l e
     where
-      go : (l : List ℕ) → readFrame 0 at l ≡ blank → nextPending marks at 0 l ≡ none
+      go : (l : List ℕ) → readFrame 0 at l ≡ blank → nextPending since at 0 l ≡ none
       go [] e = refl
       go (x ∷ t) e = rw (e, nextPending)
 
-  pub pending-torn : (n : ℕ) → readFrame 0 at l ≡ torn n → nextPending marks at 0 l ≡ none
+  pub pending-torn : (n : ℕ) → readFrame 0 at l ≡ torn n → nextPending since at 0 l ≡ none
   unfolding nextPending
   pending-torn n e = go l e
     where
-      go : (l : List ℕ) → readFrame 0 at l ≡ torn n → nextPending marks at 0 l ≡ none
+      go : (l : List ℕ) → readFrame 0 at l ≡ torn n → nextPending since at 0 l ≡ none
       go [] e = refl
       go (x ∷ t) e = rw (e, nextPending)
 
-  pub pending-wrong : (w : Fault) → readFrame 0 at l ≡ wrong w → nextPending marks at 0 l ≡ none
+  pub pending-wrong : (w : Fault) → readFrame 0 at l ≡ wrong w → nextPending since at 0 l ≡ none
   unfolding nextPending
   pending-wrong w e = go l e
     where
-      go : (l : List ℕ) → readFrame 0 at l ≡ wrong w → nextPending marks at 0 l ≡ none
+      go : (l : List ℕ) → readFrame 0 at l ≡ wrong w → nextPending since at 0 l ≡ none
       go [] e = refl
       go (x ∷ t) e = rw (e, nextPending)
 
 no-frame : (at : ℕ) (f : Frame) → readFrame 0 at [] ≡ whole f → ⊥
 no-frame at f e = let q : blank ≡ whole f = sym (read-blank 0 at 0) ∙ e in let z : _≡_ {A = ℕ} 0 1 = cc in omega arith
 
-pub pending-yes : (marks : List ℕ) (at : ℕ) (l : List ℕ) (f : Frame) → readFrame 0 at l ≡ whole f → isPending marks at f ≡ true
-    → nextPending marks at 0 l ≡ some (load f 256 (at + frameLen f))
+pub pending-yes : (since : List ℕ) (at : ℕ) (l : List ℕ) (f : Frame) → readFrame 0 at l ≡ whole f → isPending since at f ≡ true
+    → nextPending since at 0 l ≡ some (load f 256 (at + frameLen f))
 unfolding nextPending
-pending-yes marks at [] f e t = absurd (no-frame at f e)
-pending-yes marks at (x ∷ l) f e t = rw (e, t, nextPending)
+pending-yes since at [] f e t = absurd (no-frame at f e)
+pending-yes since at (x ∷ l) f e t = rw (e, t, nextPending)
 
-pub pending-no : (marks : List ℕ) (at : ℕ) (l : List ℕ) (f : Frame) → readFrame 0 at l ≡ whole f → isPending marks at f ≡ false
-    → nextPending marks at 0 l ≡ nextPending marks (at + frameLen f) 0 (drop (frameLen f) l)
+pub pending-no : (since : List ℕ) (at : ℕ) (l : List ℕ) (f : Frame) → readFrame 0 at l ≡ whole f → isPending since at f ≡ false
+    → nextPending since at 0 l ≡ nextPending since (at + frameLen f) 0 (drop (frameLen f) l)
 unfolding nextPending
-pending-no marks at [] f e t = absurd (no-frame at f e)
-pending-no marks at (x ∷ l) f e t =
+pending-no since at [] f e t = absurd (no-frame at f e)
+pending-no since at (x ∷ l) f e t =
     let p : suc at + (frameLen f - 1) ≡ at + frameLen f = omega arith in
     let q : frameLen f ≡ suc (frameLen f - 1) = omega arith in
-    let first : nextPending marks at 0 (x ∷ l) ≡ nextPending marks (suc at) (frameLen f - 1) l = rw (e, t, nextPending) in
-    first ∙ pending-skip marks (suc at) (frameLen f - 1) l ∙ ap (λ (n : ℕ). nextPending marks n 0 (drop (frameLen f - 1) l)) p
-    ∙ ap (λ (n : ℕ). nextPending marks (at + frameLen f) 0 (drop n (x ∷ l))) (sym q)
+    let first : nextPending since at 0 (x ∷ l) ≡ nextPending since (suc at) (frameLen f - 1) l = rw (e, t, nextPending) in
+    first ∙ pending-skip since (suc at) (frameLen f - 1) l ∙ ap (λ (n : ℕ). nextPending since n 0 (drop (frameLen f - 1) l)) p
+    ∙ ap (λ (n : ℕ). nextPending since (at + frameLen f) 0 (drop n (x ∷ l))) (sym q)
 
 -- ---- what is fetched from a part of a block is fetched from the block
 
@@ -245,20 +245,20 @@ module _ (b places : List ℕ) where
 
 -- ---- the settled frames first, then the pending ones
 
-module _ (b : List ℕ) (end : ℕ) (places marks : List ℕ) (id source : ℕ) where
+module _ (b : List ℕ) (end : ℕ) (places since : List ℕ) (id source : ℕ) where
   abbrev first : Option Load
   first = nextSettled b places source (256 - id) id
 
   abbrev all : Option Load
-  all = nextLoad b end places marks id source
+  all = nextLoad b end places since id source
 
   pub load-first : (u : Load) → some u ≡ first → some u ≡ all
   unfolding nextLoad
-  load-first u e = ap (λ (o : Option Load). orElse o (nextPending marks source 0 (drop source (take end b)))) e
+  load-first u e = ap (λ (o : Option Load). orElse o (nextPending since source 0 (drop source (take end b)))) e
 
-  pub load-part-next : none ≡ first → nextPending marks source 0 (drop source (take end b)) ≡ all
+  pub load-part-next : none ≡ first → nextPending since source 0 (drop source (take end b)) ≡ all
   unfolding nextLoad
-  load-part-next e = ap (λ (o : Option Load). orElse o (nextPending marks source 0 (drop source (take end b)))) e
+  load-part-next e = ap (λ (o : Option Load). orElse o (nextPending since source 0 (drop source (take end b)))) e
 
-  pub load-next : none ≡ first → length b ≤ end → nextPending marks source 0 (drop source b) ≡ all
-  load-next e l = ap (λ (x : List ℕ). nextPending marks source 0 (drop source x)) (sym (take-all end b l)) ∙ load-part-next e
+  pub load-next : none ≡ first → length b ≤ end → nextPending since source 0 (drop source b) ≡ all
+  load-next e l = ap (λ (x : List ℕ). nextPending since source 0 (drop source x)) (sym (take-all end b l)) ∙ load-part-next e

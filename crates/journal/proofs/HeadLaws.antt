@@ -33,7 +33,7 @@ use Rattle.journal.specs.Survey.{passed, tookFrame, tookPlaces, tailOf, 
 use Rattle.journal.proofs.PerHost.{pending-most}
 use Rattle.journal.proofs.FrameReads.{whole-is, blank-is, torn-is, scan-blank-at, scan-torn-at, scan-wrong-at, scan-whole-at}
 use Rattle.journal.proofs.FrameReads.{value-there, value-inside}
-use Rattle.journal.proofs.Fetching.{value-head, value-reads, Held, held, found-none, found-at, pending-head, pending-blank, pending-torn}
+use Rattle.journal.proofs.Fetching.{value-head, value-reads, InBlock, in-block, found-none, found-at, pending-head, pending-blank, pending-torn}
 use Rattle.journal.proofs.Fetching.{pending-wrong, pending-yes, pending-no}
 use Rattle.journal.proofs.Passing.{Reached, reached-on}
 
@@ -63,7 +63,7 @@ pub fetch-settled : (b : List ℕ) (i p v n s : ℕ) (x : Value) → valueAt b (
     → (loadOf b (fetched.Frame (fetch (head.Settled (idOf i) n) v (i + 1) s)) ≡ some (load (settled (idOf i) (x .bytes)) (i + 1) s))
     × Inside b (fetched.Frame (fetch (head.Settled (idOf i) n) v (i + 1) s))
 fetch-settled b i p v n s x e q r =
-    let y : Held b x = held b (idOf i) p x e in
+    let y : InBlock b x = in-block b (idOf i) p x e in
     let z : take n (drop v b) ≡ x .bytes = ap₂ (λ (m o : ℕ). take m (drop o b)) (sym r) (sym q) ∙ y .same in
     (ap (λ (u : List ℕ). some (load (settled (idOf i) u) (i + 1) s)) z, (omega (arith, y .inside), omega (arith, y .small)))
 
@@ -74,49 +74,49 @@ start-inside (head.Commit h) = omega arith
 start-inside (head.Abort h) = omega arith
 start-inside (head.Settled i n) = omega arith
 
-module _ (marks : List ℕ) (at : ℕ) (l : List ℕ) where
+module _ (since : List ℕ) (at : ℕ) (l : List ℕ) where
   abbrev here : List ℕ
   here = drop at l
 
-  pub no-blank : readOf (readFrame 0 at here) ≡ read.Blank → nextPending marks at 0 here ≡ none
-  no-blank e = pending-blank marks at here (blank-is (readFrame 0 at here) e)
+  pub no-blank : readOf (readFrame 0 at here) ≡ read.Blank → nextPending since at 0 here ≡ none
+  no-blank e = pending-blank since at here (blank-is (readFrame 0 at here) e)
 
-  pub no-torn : (n : ℕ) → readOf (readFrame 0 at here) ≡ read.Torn n → nextPending marks at 0 here ≡ none
-  no-torn n e = pending-torn marks at here n (torn-is (readFrame 0 at here) n e)
+  pub no-torn : (n : ℕ) → readOf (readFrame 0 at here) ≡ read.Torn n → nextPending since at 0 here ≡ none
+  no-torn n e = pending-torn since at here n (torn-is (readFrame 0 at here) n e)
 
-  pub no-wrong : (x : Fault) → readOf (readFrame 0 at here) ≡ read.Wrong x → nextPending marks at 0 here ≡ none
-  no-wrong x e = pending-wrong marks at here x (wrong-read (readFrame 0 at here) x e)
+  pub no-wrong : (x : Fault) → readOf (readFrame 0 at here) ≡ read.Wrong x → nextPending since at 0 here ≡ none
+  no-wrong x e = pending-wrong since at here x (wrong-read (readFrame 0 at here) x e)
 
   module _ (h : Head) (e : readOf (readFrame 0 at here) ≡ read.Whole h) where
     read-as : (f : Frame) × (readFrame 0 at here ≡ whole f) × (headOf f ≡ h)
     read-as = whole-is (readFrame 0 at here) h e
 
-    pub skip-pending : pendingHead marks at h ≡ false → nextPending marks at 0 here ≡ nextPending marks (at + headLen h) 0 (drop (at + headLen h) l)
+    pub skip-pending : pendingHead since at h ≡ false → nextPending since at 0 here ≡ nextPending since (at + headLen h) 0 (drop (at + headLen h) l)
     skip-pending t =
         let f : Frame = read-as .0 in
         let n : frameLen f ≡ headLen h = sym (head-len f) ∙ ap headLen (read-as .2) in
-        pending-no marks at here f (read-as .1) (sym (pending-head marks at f) ∙ ap (pendingHead marks at) (read-as .2) ∙ t)
-        ∙ ap (λ (x : List ℕ). nextPending marks (at + frameLen f) 0 x) (drop-drop (frameLen f) at l)
-        ∙ ap (λ (m : ℕ). nextPending marks (at + m) 0 (drop (at + m) l)) n
+        pending-no since at here f (read-as .1) (sym (pending-head since at f) ∙ ap (pendingHead since at) (read-as .2) ∙ t)
+        ∙ ap (λ (x : List ℕ). nextPending since (at + frameLen f) 0 x) (drop-drop (frameLen f) at l)
+        ∙ ap (λ (m : ℕ). nextPending since (at + m) 0 (drop (at + m) l)) n
 
     fetched-frame : (f : Frame) → readFrame 0 at here ≡ whole f → frameOf (headOf f) (take (valueLen (headOf f)) (drop (at + valueStart (headOf f)) l)) ≡ f
     fetched-frame f r =
         let q : readFrame 0 at (drop at (take (length l) l)) ≡ whole f = ap (λ (x : List ℕ). readFrame 0 at (drop at x)) (take-length l) ∙ r in
         ap (frameOf (headOf f)) (value-there 0 at at (length l) l f q) ∙ frame-of-head f
 
-    pub fetch-pending : pendingHead marks at h ≡ true
-        → (loadOf l (fetched.Frame (fetch h (at + valueStart h) 256 (at + headLen h))) ≡ nextPending marks at 0 here)
+    pub fetch-pending : pendingHead since at h ≡ true
+        → (loadOf l (fetched.Frame (fetch h (at + valueStart h) 256 (at + headLen h))) ≡ nextPending since at 0 here)
         × Inside l (fetched.Frame (fetch h (at + valueStart h) 256 (at + headLen h)))
     fetch-pending t =
         let f : Frame = read-as .0 in
         let r : readFrame 0 at here ≡ whole f = read-as .1 in
         let q : readFrame 0 at (drop at (take (length l) l)) ≡ whole f = ap (λ (x : List ℕ). readFrame 0 at (drop at x)) (take-length l) ∙ r in
-        let p : isPending marks at f ≡ true = sym (pending-head marks at f) ∙ ap (pendingHead marks at) (read-as .2) ∙ t in
+        let p : isPending since at f ≡ true = sym (pending-head since at f) ∙ ap (pendingHead since at) (read-as .2) ∙ t in
         let n : at + headLen (headOf f) ≡ at + frameLen f = omega (arith, head-len f) in
         subst
-        (λ (k : Head). (loadOf l (fetched.Frame (fetch k (at + valueStart k) 256 (at + headLen k))) ≡ nextPending marks at 0 here)
+        (λ (k : Head). (loadOf l (fetched.Frame (fetch k (at + valueStart k) 256 (at + headLen k))) ≡ nextPending since at 0 here)
         × Inside l (fetched.Frame (fetch k (at + valueStart k) 256 (at + headLen k)))) (read-as .2)
-        (ap₂ (λ (g : Frame) (m : ℕ). some (load g 256 m)) (fetched-frame f r) n ∙ sym (pending-yes marks at here f r p), value-inside 0 at at (length l) l f q)
+        (ap₂ (λ (g : Frame) (m : ℕ). some (load g 256 m)) (fetched-frame f r) n ∙ sym (pending-yes since at here f r p), value-inside 0 at at (length l) l f q)
 
 -- ---- a commit's pass
 
@@ -246,7 +246,7 @@ module _ (b places : List ℕ) (i : ℕ) (l : i < 256) where
       let x : Value = w .0 in
       let q : settledAt b places (256 - i) i ≡ settled (idOf i) (x .bytes) ∷ later =
       settled-here ∙ ap (λ (o : Option Value). settledWith (idOf i) o later) (w .1) in
-      let h : Held b x = held b (idOf i) (getD places i 0) x (w .1) in
+      let h : InBlock b x = in-block b (idOf i) (getD places i 0) x (w .1) in
       record { count = ap length q ∙ omega arith; used = ap total q ∙ omega (arith, w .3); small = omega (arith, h .small, w .3) }
 
 pub settled-none : (b places : List ℕ) (i : ℕ) → 256 ≤ i → settledAt b places (256 - i) i ≡ []

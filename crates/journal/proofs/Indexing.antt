@@ -1,4 +1,4 @@
--- The index built frame after frame: what each frame does to the places and marks, as code that keeps no list of objects does it.
+-- The index built frame after frame: what each frame does to the places and to `since`, as code that keeps no list of objects does it.
 use mathlib.Core.Path.{_≡_, refl, sym, ap, subst, _∙_}
 use mathlib.Core.List.{List, [], _∷_, _++_, append-assoc, append-nil}
 use mathlib.Core.Option.{Option, none, some}
@@ -15,14 +15,14 @@ use Rattle.frame.specs.declared.ObjectId.{ObjectId}
 use Rattle.frame.specs.Frame.{idOf, hostOf, ChangeOf, Change, put, delete, FrameOf, Frame, change, commit, abort, settled, mapChange, mapFrame, frameLen, total, MayStand, AllMayStand, nextOf}
 use Rattle.frame.proofs.Encode.{total-snoc}
 use Rattle.journal.specs.Block.{headerLen}
-use Rattle.journal.specs.Replay.{ObjectOf, object, EntryOf, StateOf, insert, remove, lookup, change1, changeAll, listOf, next, replay}
-use Rattle.journal.specs.Index.{sited, orZero, placesFrom, placesOf, isEnd, pick, sinceFrom, since}
+use Rattle.journal.specs.Replay.{ObjectOf, object, EntryOf, StateOf, insert, remove, lookup, change1, changeAll, listOf, nextState, replay}
+use Rattle.journal.specs.Index.{sited, orZero, placesFrom, placesOf, isEnd, pick, sinceFrom, sinceHost}
 use Rattle.journal.specs.Survey.{placeChange, placeIf, placeFrame, commitPlaces}
 use Rattle.journal.proofs.Lookups.{lookup-yes, lookup-no, lookup-insert, lookup-insert-other, lookup-remove, lookup-remove-other}
 use Rattle.journal.proofs.Replaying.{replay-snoc, above-none, sound-replay}
 use Rattle.journal.proofs.Mapping.{located-sited, located-snoc}
 use Rattle.journal.proofs.Places.{places-at, length-from, sited-none}
-use Rattle.journal.proofs.Pending.{marksOf, changeAt, entriesOf, pending-located, since-snoc}
+use Rattle.journal.proofs.Pending.{sinceIn, changeAt, entriesOf, pending-located, since-snoc}
 
 -- ---- one place changed
 
@@ -65,32 +65,32 @@ table-changes (c ∷ cs) os = table-changes cs (change1 c os) ∙ ap (placeChang
 abbrev offsetThere : ℕ → List ℕ → ℕ
 offsetThere o v = o
 
-commit-change : (h g : Host) (marks : Host → ℕ) (o : ℕ) (c : Change) (es : List (EntryOf ℕ)) (t : List ℕ)
-    → placeChanges (listOf h (changeAt offsetThere marks o (change g c) ++ es)) t ≡ placeChanges (listOf h es) (placeFrame h (marks h) o (change g c) t)
+commit-change : (h g : Host) (since : Host → ℕ) (o : ℕ) (c : Change) (es : List (EntryOf ℕ)) (t : List ℕ)
+    → placeChanges (listOf h (changeAt offsetThere since o (change g c) ++ es)) t ≡ placeChanges (listOf h es) (placeFrame h (since h) o (change g c) t)
 unfolding listOf placeChanges
-commit-change h g marks o c es t =
+commit-change h g since o c es t =
     on-test (eqb (h .0) (g .0))
     (λ u.
-    let q : marks g ≡ marks h = ap (λ (n : ℕ). marks (hostOf n)) (sym (eqb-true (h .0) (g .0) u)) in
-    on-test (leb (marks h) o)
-    (λ v. let w : leb (marks g) o ≡ true = ap (λ (n : ℕ). leb n o) q ∙ v in rw (u, v, w, changeAt) (rw (u, listOf)))
-    (λ v. let w : leb (marks g) o ≡ false = ap (λ (n : ℕ). leb n o) q ∙ v in rw (u, v, w, changeAt)))
-    (λ u. on-test (leb (marks g) o) (λ w. rw (u, w, changeAt) (rw (u, listOf))) (λ w. rw (u, w, changeAt)))
+    let q : since g ≡ since h = ap (λ (n : ℕ). since (hostOf n)) (sym (eqb-true (h .0) (g .0) u)) in
+    on-test (leb (since h) o)
+    (λ v. let w : leb (since g) o ≡ true = ap (λ (n : ℕ). leb n o) q ∙ v in rw (u, v, w, changeAt) (rw (u, listOf)))
+    (λ v. let w : leb (since g) o ≡ false = ap (λ (n : ℕ). leb n o) q ∙ v in rw (u, v, w, changeAt)))
+    (λ u. on-test (leb (since g) o) (λ w. rw (u, w, changeAt) (rw (u, listOf))) (λ w. rw (u, w, changeAt)))
 
-commit-pass : (h : Host) (marks : Host → ℕ) (o : ℕ) (t : List ℕ) (fs : List Frame)
-    → placeChanges (listOf h (entriesOf offsetThere marks o fs)) t ≡ commitPlaces h (marks h) o t fs
+commit-pass : (h : Host) (since : Host → ℕ) (o : ℕ) (t : List ℕ) (fs : List Frame)
+    → placeChanges (listOf h (entriesOf offsetThere since o fs)) t ≡ commitPlaces h (since h) o t fs
 unfolding entriesOf listOf placeChanges commitPlaces
-commit-pass h marks o t [] = refl
-commit-pass h marks o t (change g c ∷ fs) =
+commit-pass h since o t [] = refl
+commit-pass h since o t (change g c ∷ fs) =
     let n : ℕ = o + frameLen (change g c) in
-    commit-change h g marks o c (entriesOf offsetThere marks n fs) t ∙ commit-pass h marks n (placeFrame h (marks h) o (change g c) t) fs
-commit-pass h marks o t (commit g ∷ fs) = commit-pass h marks (o + frameLen (commit g)) t fs
-commit-pass h marks o t (abort g ∷ fs) = commit-pass h marks (o + frameLen (abort g)) t fs
-commit-pass h marks o t (settled i v ∷ fs) = commit-pass h marks (o + frameLen (settled i v)) t fs
+    commit-change h g since o c (entriesOf offsetThere since n fs) t ∙ commit-pass h since n (placeFrame h (since h) o (change g c) t) fs
+commit-pass h since o t (commit g ∷ fs) = commit-pass h since (o + frameLen (commit g)) t fs
+commit-pass h since o t (abort g ∷ fs) = commit-pass h since (o + frameLen (abort g)) t fs
+commit-pass h since o t (settled i v ∷ fs) = commit-pass h since (o + frameLen (settled i v)) t fs
 
 -- ---- the table after one frame more
 
-sited-snoc : (fs : List Frame) (f : Frame) → replay (sited headerLen (fs ++ (f ∷ []))) ≡ next (replay (sited headerLen fs)) (mapFrame (λ v. headerLen + total fs) f)
+sited-snoc : (fs : List Frame) (f : Frame) → replay (sited headerLen (fs ++ (f ∷ []))) ≡ nextState (replay (sited headerLen fs)) (mapFrame (λ v. headerLen + total fs) f)
 sited-snoc fs f =
     let o : ℕ = headerLen + total fs in
     ap replay (located-sited headerLen (fs ++ (f ∷ [])) ∙ located-snoc offsetThere headerLen fs f
@@ -103,13 +103,13 @@ places-change fs h c = ap (λ (s : StateOf ℕ). table (s .objects)) (sited-snoc
 pub places-abort : (fs : List Frame) (h : Host) → placesOf (fs ++ (abort h ∷ [])) ≡ placesOf fs
 places-abort fs h = ap (λ (s : StateOf ℕ). table (s .objects)) (sited-snoc fs (abort h))
 
-pub places-commit : (fs : List Frame) (h : Host) → placesOf (fs ++ (commit h ∷ [])) ≡ commitPlaces h (since h fs) headerLen (placesOf fs) fs
+pub places-commit : (fs : List Frame) (h : Host) → placesOf (fs ++ (commit h ∷ [])) ≡ commitPlaces h (sinceHost h fs) headerLen (placesOf fs) fs
 places-commit fs h =
     let s : StateOf ℕ = replay (sited headerLen fs) in
     ap (λ (x : StateOf ℕ). table (x .objects)) (sited-snoc fs (commit h)) ∙ table-changes (listOf h (s .pending)) (s .objects)
     ∙ ap (λ (x : List (EntryOf ℕ)). placeChanges (listOf h x) (placesOf fs))
     (ap (λ (x : List (FrameOf ℕ)). replay x .pending) (located-sited headerLen fs) ∙ pending-located offsetThere fs)
-    ∙ commit-pass h (marksOf fs) headerLen (placesOf fs) fs
+    ∙ commit-pass h (sinceIn fs) headerLen (placesOf fs) fs
 
 lookup-snoc : {A : Type 0} (j i : ObjectId) (v : A) (os : List (ObjectOf A)) → (j .0 ≡ i .0 → ⊥) → lookup j (os ++ (object i v ∷ [])) ≡ lookup j os
 unfolding lookup
@@ -138,12 +138,12 @@ places-settled fs i v g (a, b, c) =
 
 -- ---- where a commit's pass may start
 
--- a mark stands between two frames
+-- `since` lies between two frames
 pub record Boundary (h : Host) (fs : List Frame) : Type 0 where
   pub before : List Frame
   pub after : List Frame
   pub split : fs ≡ before ++ after
-  pub mark : since h fs ≡ headerLen + total before
+  pub lies : sinceHost h fs ≡ headerLen + total before
 
 boundary-next : (h : Host) (fs : List Frame) (f : Frame) → Boundary h fs → Boundary h (fs ++ (f ∷ []))
 boundary-next h fs f y =
@@ -153,14 +153,14 @@ boundary-next h fs f y =
       before = fs ++ (f ∷ []);
       after = [];
       split = sym (append-nil (fs ++ (f ∷ [])));
-      mark = since-snoc h headerLen headerLen fs f ∙ ap (λ (x : Bool). pick x (headerLen + total fs + frameLen f) (since h fs)) t ∙ omega (arith, total-snoc fs f);
+      lies = since-snoc h headerLen headerLen fs f ∙ ap (λ (x : Bool). pick x (headerLen + total fs + frameLen f) (sinceHost h fs)) t ∙ omega (arith, total-snoc fs f);
     })
     (λ t.
     record {
       before = y .before;
       after = y .after ++ (f ∷ []);
       split = ap (λ (x : List Frame). x ++ (f ∷ [])) (y .split) ∙ append-assoc (y .before) (y .after) (f ∷ []);
-      mark = since-snoc h headerLen headerLen fs f ∙ ap (λ (x : Bool). pick x (headerLen + total fs + frameLen f) (since h fs)) t ∙ y .mark;
+      lies = since-snoc h headerLen headerLen fs f ∙ ap (λ (x : Bool). pick x (headerLen + total fs + frameLen f) (sinceHost h fs)) t ∙ y .lies;
     })
 
 boundary-all : (h : Host) (fs gs : List Frame) → Boundary h fs → Boundary h (fs ++ gs)
@@ -169,7 +169,7 @@ boundary-all h fs (g ∷ gs) y = subst (Boundary h) (append-assoc fs (g ∷ []) 
 
 pub boundary : (h : Host) (fs : List Frame) → Boundary h fs
 unfolding sinceFrom total
-boundary h fs = boundary-all h [] fs (record { before = []; after = []; split = refl; mark = refl })
+boundary h fs = boundary-all h [] fs (record { before = []; after = []; split = refl; lies = refl })
 
 place-early : (h : Host) (d o : ℕ) (f : Frame) (t : List ℕ) → o < d → placeFrame h d o f t ≡ t
 place-early h d o (change g c) t l =
@@ -178,7 +178,7 @@ place-early h d o (commit g) t l = refl
 place-early h d o (abort g) t l = refl
 place-early h d o (settled i v) t l = refl
 
--- what stands before the mark does nothing
+-- what stands before `since` does nothing
 pub commit-from : (h : Host) (d o : ℕ) (t : List ℕ) (fs gs : List Frame) → o + total fs ≤ d → commitPlaces h d o t (fs ++ gs) ≡ commitPlaces h d (o + total fs) t gs
 unfolding commitPlaces total
 commit-from h d o t [] gs l = let e : o ≡ o + 0 = omega arith in ap (λ (x : ℕ). commitPlaces h d x t gs) e

@@ -10,7 +10,7 @@ use Rattle.flash.proofs.Cases.{on-test, on-order}
 use Rattle.frame.specs.declared.Host.{Host}
 use Rattle.frame.specs.declared.ObjectId.{ObjectId}
 use Rattle.frame.specs.Frame.{idOf, ChangeOf, put, delete, FrameOf, Frame, change, commit, abort, settled, mapChange, mapFrame, frameLen, total}
-use Rattle.journal.specs.Replay.{ObjectOf, object, EntryOf, entry, StateOf, state, insert, remove, lookup, change1, changeAll, listOf, without, next, replayFrom, replay}
+use Rattle.journal.specs.Replay.{ObjectOf, object, EntryOf, entry, StateOf, state, insert, remove, lookup, change1, changeAll, listOf, without, nextState, replayFrom, replay}
 use Rattle.journal.specs.Index.{sited}
 use Rattle.journal.proofs.Lookups.{insert-lt, insert-eq, insert-gt}
 
@@ -76,7 +76,7 @@ module _ {A B : Type 0} (f : A → B) where
       (λ t. rw (t, without) (map-without h es))
       (λ t. rw (t, without) (ap (λ (x : List (EntryOf B)). mapEntry e ∷ x) (map-without h es)))
 
-  map-next : (s : StateOf A) (x : FrameOf A) → next (mapState s) (mapFrame f x) ≡ mapState (next s x)
+  map-next : (s : StateOf A) (x : FrameOf A) → nextState (mapState s) (mapFrame f x) ≡ mapState (nextState s x)
   map-next s (change h c) = ap (state (map mapObject (s .objects))) (map-snoc mapEntry (s .pending) (entry h c))
   map-next s (commit h) =
       ap₂ state (ap (λ (x : List (ChangeOf B)). changeAll x (map mapObject (s .objects))) (map-list h (s .pending)) ∙ map-changes (listOf h (s .pending)) (s .objects))
@@ -87,7 +87,7 @@ module _ {A B : Type 0} (f : A → B) where
   map-from : (s : StateOf A) (xs : List (FrameOf A)) → replayFrom (mapState s) (map (mapFrame f) xs) ≡ mapState (replayFrom s xs)
   unfolding replayFrom
   map-from s [] = refl
-  map-from s (x ∷ xs) = ap (λ (y : StateOf B). replayFrom y (map (mapFrame f) xs)) (map-next s x) ∙ map-from (next s x) xs
+  map-from s (x ∷ xs) = ap (λ (y : StateOf B). replayFrom y (map (mapFrame f) xs)) (map-next s x) ∙ map-from (nextState s x) xs
 
   pub map-replay : (xs : List (FrameOf A)) → replay (map (mapFrame f) xs) ≡ mapState (replay xs)
   map-replay xs = map-from (state [] []) xs
@@ -165,7 +165,7 @@ module _ {A : Type 0} (P : ObjectId → A → Type 0) where
   all-entries-snoc [] e p a = (p, tt)
   all-entries-snoc (x ∷ es) e p (q, a) = (q, all-entries-snoc es e p a)
 
-  all-next : (s : StateOf A) (x : FrameOf A) → OfFrame x → OfState s → OfState (next s x)
+  all-next : (s : StateOf A) (x : FrameOf A) → OfFrame x → OfState s → OfState (nextState s x)
   all-next s (change h c) p (a, e) = (a, all-entries-snoc (s .pending) (entry h c) p e)
   all-next s (commit h) p (a, e) = (all-changes (listOf h (s .pending)) (s .objects) (all-list h (s .pending) e) a, all-without h (s .pending) e)
   all-next s (abort h) p (a, e) = (a, all-without h (s .pending) e)
@@ -174,7 +174,7 @@ module _ {A : Type 0} (P : ObjectId → A → Type 0) where
   all-from : (s : StateOf A) (xs : List (FrameOf A)) → AllFrames xs → OfState s → OfState (replayFrom s xs)
   unfolding replayFrom
   all-from s [] a k = k
-  all-from s (x ∷ xs) (p, a) k = all-from (next s x) xs a (all-next s x p k)
+  all-from s (x ∷ xs) (p, a) k = all-from (nextState s x) xs a (all-next s x p k)
 
   pub all-replay : (xs : List (FrameOf A)) → AllFrames xs → OfState (replay xs)
   all-replay xs a = all-from (state [] []) xs a (tt, tt)

@@ -17,8 +17,8 @@ use Rattle.frame.proofs.Encode.{length-all, encode-append, encode-snoc, total-s
 use Rattle.frame.proofs.Scanning.{scan-nil, pushAll, scan-with}
 use Rattle.journal.specs.declared.Progress.{Progress}
 use Rattle.journal.specs.Block.{headerLen}
-use Rattle.journal.specs.Replay.{Entry, State, next, replay}
-use Rattle.journal.specs.Index.{placesOf, isEnd, pick, since, sinceOf}
+use Rattle.journal.specs.Replay.{Entry, State, nextState, replay}
+use Rattle.journal.specs.Index.{placesOf, isEnd, pick, sinceHost, sinceOf}
 use Rattle.journal.specs.Survey.{pendingBytes, pendingOf, commitPlaces, recommit, progress, progressOf, grown, closed, passed, tookFrame, tookPlaces}
 use Rattle.journal.proofs.Replaying.{replay-snoc}
 use Rattle.journal.proofs.Places.{stands-zero}
@@ -27,19 +27,19 @@ use Rattle.journal.proofs.Indexing.{places-change, places-abort, places
 use Rattle.journal.proofs.PerHost.{per-set, per-same, per-at, bytes-own, bytes-other, bytes-ended, bytes-kept}
 use Rattle.journal.proofs.FrameReads.{whole-stands, whole-bytes, scan-whole-at, drop-take}
 
--- ---- the marks and the pending bytes after one frame more
+-- ---- `since` and the pending bytes after one frame more
 
 since-stays : (fs : List Frame) (f : Frame) → ((h : Host) → isEnd h f ≡ false) → sinceOf (fs ++ (f ∷ [])) ≡ sinceOf fs
 since-stays fs f n =
-    per-same (λ h. since h fs) (λ h. since h (fs ++ (f ∷ [])))
-    (λ h. since-snoc h headerLen headerLen fs f ∙ ap (λ (t : Bool). pick t (headerLen + total fs + frameLen f) (since h fs)) (n h))
+    per-same (λ h. sinceHost h fs) (λ h. sinceHost h (fs ++ (f ∷ [])))
+    (λ h. since-snoc h headerLen headerLen fs f ∙ ap (λ (t : Bool). pick t (headerLen + total fs + frameLen f) (sinceHost h fs)) (n h))
 
 since-moves : (fs : List Frame) (f : Frame) (h : Host) → h .0 ≤ hostMax → ((g : Host) → isEnd g f ≡ eqb (g .0) (h .0))
     → sinceOf (fs ++ (f ∷ [])) ≡ set (sinceOf fs) (h .0) (headerLen + total fs + frameLen f)
 since-moves fs f h l n =
-    let at : (g : Host) (t : Bool) → isEnd g f ≡ t → since g (fs ++ (f ∷ [])) ≡ pick t (headerLen + total fs + frameLen f) (since g fs) =
-    λ g t q. since-snoc g headerLen headerLen fs f ∙ ap (λ (x : Bool). pick x (headerLen + total fs + frameLen f) (since g fs)) q in
-    per-set (λ g. since g fs) (λ g. since g (fs ++ (f ∷ []))) h (headerLen + total fs + frameLen f) l
+    let at : (g : Host) (t : Bool) → isEnd g f ≡ t → sinceHost g (fs ++ (f ∷ [])) ≡ pick t (headerLen + total fs + frameLen f) (sinceHost g fs) =
+    λ g t q. since-snoc g headerLen headerLen fs f ∙ ap (λ (x : Bool). pick x (headerLen + total fs + frameLen f) (sinceHost g fs)) q in
+    per-set (λ g. sinceHost g fs) (λ g. sinceHost g (fs ++ (f ∷ []))) h (headerLen + total fs + frameLen f) l
     (at h true (n h ∙ eq-eqb (h .0) (h .0) refl)) (λ g d. at g false (n g ∙ ne-eqb (g .0) (h .0) (λ q. d (sym q))))
 
 -- by what is pending before and after
@@ -47,17 +47,17 @@ pending-grows : (fs : List Frame) (h : Host) (c : Change) → h .0 ≤ hostMax
     → pendingOf (fs ++ (change h c ∷ [])) ≡ set (pendingOf fs) (h .0) (getD (pendingOf fs) (h .0) 0 + frameLen (change h c))
 pending-grows fs h c l =
     let es : List Entry = replay fs .pending in
-    let e : (g : Host) → pendingBytes g (replay (fs ++ (change h c ∷ [])) .pending) ≡ pendingBytes g (next (replay fs) (change h c) .pending) =
+    let e : (g : Host) → pendingBytes g (replay (fs ++ (change h c ∷ [])) .pending) ≡ pendingBytes g (nextState (replay fs) (change h c) .pending) =
     λ g. ap (λ (s : State). pendingBytes g (s .pending)) (replay-snoc fs (change h c)) in
     per-set (λ g. pendingBytes g es) (λ g. pendingBytes g (replay (fs ++ (change h c ∷ [])) .pending)) h _ l
     (e h ∙ bytes-own h es c ∙ ap (λ (x : ℕ). x + frameLen (change h c)) (sym (per-at (λ g. pendingBytes g es) h l)))
     (λ g d. e g ∙ bytes-other g h es c d)
 
-pending-ends : (fs : List Frame) (f : Frame) (h : Host) → h .0 ≤ hostMax → ((s : State) → next s f .pending ≡ next s (abort h) .pending)
+pending-ends : (fs : List Frame) (f : Frame) (h : Host) → h .0 ≤ hostMax → ((s : State) → nextState s f .pending ≡ nextState s (abort h) .pending)
     → pendingOf (fs ++ (f ∷ [])) ≡ set (pendingOf fs) (h .0) 0
 pending-ends fs f h l n =
     let es : List Entry = replay fs .pending in
-    let e : (g : Host) → pendingBytes g (replay (fs ++ (f ∷ [])) .pending) ≡ pendingBytes g (next (replay fs) (abort h) .pending) =
+    let e : (g : Host) → pendingBytes g (replay (fs ++ (f ∷ [])) .pending) ≡ pendingBytes g (nextState (replay fs) (abort h) .pending) =
     λ g. ap (λ (s : State). pendingBytes g (s .pending)) (replay-snoc fs f) ∙ ap (pendingBytes g) (n (replay fs)) in
     per-set (λ g. pendingBytes g es) (λ g. pendingBytes g (replay (fs ++ (f ∷ [])) .pending)) h 0 l (e h ∙ bytes-ended h es) (λ g d. e g ∙ bytes-kept g h es d)
 
@@ -129,13 +129,13 @@ commit-again b fs h l g s =
     let t : List ℕ = placesOf fs in
     let gs : List Frame = y .before in
     let hs : List Frame = y .after in
-    let d : ℕ = since h fs in
+    let d : ℕ = sinceHost h fs in
     let e : scan 0 d 0 (drop d (take (headerLen + total fs) b)) .frames ≡ hs =
-    ap₂ (λ (m : ℕ) (x : List Frame). scan 0 m 0 (drop m (take (headerLen + total x) b)) .frames) (y .mark) (y .split)
+    ap₂ (λ (m : ℕ) (x : List Frame). scan 0 m 0 (drop m (take (headerLen + total x) b)) .frames) (y .lies) (y .split)
     ∙ frames-between b gs hs (rw (← y .split) g) (rw (← y .split) s) in
     places-commit fs h
-    ∙ ap (commitPlaces h d headerLen t) (y .split) ∙ commit-from h d headerLen t gs hs (omega (arith, y .mark))
-    ∙ ap (λ (m : ℕ). commitPlaces h d m t hs) (sym (y .mark))
+    ∙ ap (commitPlaces h d headerLen t) (y .split) ∙ commit-from h d headerLen t gs hs (omega (arith, y .lies))
+    ∙ ap (λ (m : ℕ). commitPlaces h d m t hs) (sym (y .lies))
     ∙ ap (commitPlaces h d d t) (sym e)
     ∙ ap (λ (m : ℕ). recommit (take (headerLen + total fs) b) h m t) (sym (since-at fs h l))
 

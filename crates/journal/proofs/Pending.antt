@@ -11,12 +11,12 @@ use Rattle.flash.proofs.Cases.{on-test}
 use Rattle.frame.specs.declared.Host.{Host}
 use Rattle.frame.specs.Frame.{hostOf, hostMax, Change, put, delete, Frame, change, commit, abort, settled, mapChange, mapFrame, frameLen, total}
 use Rattle.journal.specs.Block.{headerLen}
-use Rattle.journal.specs.Replay.{EntryOf, entry, StateOf, without, next, replay, replayFrom}
-use Rattle.journal.specs.Index.{isEnd, pick, sinceFrom, since, sinceOf}
+use Rattle.journal.specs.Replay.{EntryOf, entry, StateOf, without, nextState, replay, replayFrom}
+use Rattle.journal.specs.Index.{isEnd, pick, sinceFrom, sinceHost, sinceOf}
 use Rattle.journal.proofs.Replaying.{replay-snoc}
 use Rattle.journal.proofs.Mapping.{located, located-plain, located-snoc}
 
--- ---- the marks
+-- ---- the offsets past each host's last commit or abort
 
 pub since-snoc : (h : Host) (o d : ℕ) (fs : List Frame) (f : Frame)
     → sinceFrom h o d (fs ++ (f ∷ [])) ≡ pick (isEnd h f) (o + total fs + frameLen f) (sinceFrom h o d fs)
@@ -38,36 +38,36 @@ since-most h o d (f ∷ fs) l =
     let p : ℕ = o + frameLen f in
     omega (arith, since-most h p (pick (isEnd h f) p d) fs (pick-most (isEnd h f) p d p (omega arith) (omega arith)))
 
-pub since-inside : (h : Host) (fs : List Frame) → since h fs ≤ headerLen + total fs
+pub since-inside : (h : Host) (fs : List Frame) → sinceHost h fs ≤ headerLen + total fs
 since-inside h fs = since-most h headerLen headerLen fs (omega arith)
 
--- the marks by host
-pub since-at : (fs : List Frame) (h : Host) → h .0 ≤ hostMax → getD (sinceOf fs) (h .0) 0 ≡ since h fs
+-- the offset by host
+pub since-at : (fs : List Frame) (h : Host) → h .0 ≤ hostMax → getD (sinceOf fs) (h .0) 0 ≡ sinceHost h fs
 since-at fs h l = go (h .0) l
   where
-    go : (n : ℕ) → n ≤ 3 → getD (sinceOf fs) n 0 ≡ since (hostOf n) fs
+    go : (n : ℕ) → n ≤ 3 → getD (sinceOf fs) n 0 ≡ sinceHost (hostOf n) fs
     go zero k = refl
     go (suc zero) k = refl
     go (suc (suc zero)) k = refl
     go (suc (suc (suc zero))) k = refl
     go (suc (suc (suc (suc n)))) k = absurd (omega arith)
 
-abbrev pub marksOf : List Frame → Host → ℕ
-marksOf fs h = since h fs
+abbrev pub sinceIn : List Frame → Host → ℕ
+sinceIn fs h = sinceHost h fs
 
--- ---- the changes past the marks
+-- ---- the changes past `since`
 
--- the change that a frame at an offset holds, if it stands at or past its host's mark; its value as in `located`
+-- the change that a frame at an offset holds, if it stands at or past its host's `since`; its value as in `located`
 abbrev pub changeAt : {A : Type 0} → (ℕ → List ℕ → A) → (Host → ℕ) → ℕ → Frame → List (EntryOf A)
-changeAt val marks o (change h c) = elim (leb (marks h) o) [ true ↦ entry h (mapChange (val o) c) ∷ [] | false ↦ [] ]
-changeAt val marks o (commit h) = []
-changeAt val marks o (abort h) = []
-changeAt val marks o (settled i v) = []
+changeAt val since o (change h c) = elim (leb (since h) o) [ true ↦ entry h (mapChange (val o) c) ∷ [] | false ↦ [] ]
+changeAt val since o (commit h) = []
+changeAt val since o (abort h) = []
+changeAt val since o (settled i v) = []
 
 -- those of frames that start at offset o
 unfoldable pub entriesOf : {A : Type 0} → (ℕ → List ℕ → A) → (Host → ℕ) → ℕ → List Frame → List (EntryOf A)
-entriesOf val marks o [] = []
-entriesOf val marks o (f ∷ fs) = changeAt val marks o f ++ entriesOf val marks (o + frameLen f) fs
+entriesOf val since o [] = []
+entriesOf val since o (f ∷ fs) = changeAt val since o f ++ entriesOf val since (o + frameLen f) fs
 
 without-append : {A : Type 0} (h : Host) (es ds : List (EntryOf A)) → without h (es ++ ds) ≡ without h es ++ without h ds
 unfolding without
@@ -78,24 +78,24 @@ without-append {A} h (e ∷ es) ds =
     (λ t. rw (t, without) (ap (λ (x : List (EntryOf A)). e ∷ x) (without-append h es ds)))
 
 module _ {A : Type 0} (val : ℕ → List ℕ → A) where
-  entries-snoc : (marks : Host → ℕ) (o : ℕ) (fs : List Frame) (f : Frame)
-      → entriesOf val marks o (fs ++ (f ∷ [])) ≡ entriesOf val marks o fs ++ changeAt val marks (o + total fs) f
+  entries-snoc : (since : Host → ℕ) (o : ℕ) (fs : List Frame) (f : Frame)
+      → entriesOf val since o (fs ++ (f ∷ [])) ≡ entriesOf val since o fs ++ changeAt val since (o + total fs) f
   unfolding entriesOf total
-  entries-snoc marks o [] f =
-      let e : o ≡ o + 0 = omega arith in append-nil (changeAt val marks o f) ∙ ap (λ (x : ℕ). changeAt val marks x f) e
-  entries-snoc marks o (g ∷ fs) f =
+  entries-snoc since o [] f =
+      let e : o ≡ o + 0 = omega arith in append-nil (changeAt val since o f) ∙ ap (λ (x : ℕ). changeAt val since x f) e
+  entries-snoc since o (g ∷ fs) f =
       let e : o + frameLen g + total fs ≡ o + (frameLen g + total fs) = omega arith in
-      ap (λ (x : List (EntryOf A)). changeAt val marks o g ++ x)
-      (entries-snoc marks (o + frameLen g) fs f ∙ ap (λ (x : ℕ). entriesOf val marks (o + frameLen g) fs ++ changeAt val marks x f) e)
-      ∙ sym (append-assoc (changeAt val marks o g) (entriesOf val marks (o + frameLen g) fs) (changeAt val marks (o + (frameLen g + total fs)) f))
+      ap (λ (x : List (EntryOf A)). changeAt val since o g ++ x)
+      (entries-snoc since (o + frameLen g) fs f ∙ ap (λ (x : ℕ). entriesOf val since (o + frameLen g) fs ++ changeAt val since x f) e)
+      ∙ sym (append-assoc (changeAt val since o g) (entriesOf val since (o + frameLen g) fs) (changeAt val since (o + (frameLen g + total fs)) f))
 
-  pub change-yes : (marks : Host → ℕ) (o : ℕ) (h : Host) (c : Change) → marks h ≤ o → changeAt val marks o (change h c) ≡ entry h (mapChange (val o) c) ∷ []
-  change-yes marks o h c l = rw (le-leb (marks h) o l, changeAt)
+  pub change-yes : (since : Host → ℕ) (o : ℕ) (h : Host) (c : Change) → since h ≤ o → changeAt val since o (change h c) ≡ entry h (mapChange (val o) c) ∷ []
+  change-yes since o h c l = rw (le-leb (since h) o l, changeAt)
 
-  pub change-no : (marks : Host → ℕ) (o : ℕ) (h : Host) (c : Change) → o < marks h → changeAt val marks o (change h c) ≡ []
-  change-no marks o h c l = rw (lt-leb (marks h) o l, changeAt)
+  pub change-no : (since : Host → ℕ) (o : ℕ) (h : Host) (c : Change) → o < since h → changeAt val since o (change h c) ≡ []
+  change-no since o h c l = rw (lt-leb (since h) o l, changeAt)
 
-  -- a host's mark moved past the frames: its entries go, the others' stay
+  -- a host's `since` moved past the frames: its entries go, the others' stay
   module _ (h : Host) (old new : Host → ℕ) (same : (g : Host) → (h .0 ≡ g .0 → ⊥) → new g ≡ old g) where
     moved-change : (o : ℕ) (g : Host) (c : Change) → o < new h → changeAt val new o (change g c) ≡ without h (changeAt val old o (change g c))
     unfolding without
@@ -126,63 +126,63 @@ module _ {A : Type 0} (val : ℕ → List ℕ → A) where
   -- ---- one frame more
 
   abbrev Right : List Frame → Type 0
-  Right fs = replay (located val headerLen fs) .pending ≡ entriesOf val (marksOf fs) headerLen fs
+  Right fs = replay (located val headerLen fs) .pending ≡ entriesOf val (sinceIn fs) headerLen fs
 
-  -- a frame that ends no list leaves the marks
+  -- a frame that ends no list leaves `since`
   stays : (fs : List Frame) (f : Frame) → ((h : Host) → isEnd h f ≡ false)
-      → entriesOf val (marksOf (fs ++ (f ∷ []))) headerLen (fs ++ (f ∷ [])) ≡ entriesOf val (marksOf fs) headerLen fs ++ changeAt val (marksOf fs) (headerLen + total fs) f
+      → entriesOf val (sinceIn (fs ++ (f ∷ []))) headerLen (fs ++ (f ∷ [])) ≡ entriesOf val (sinceIn fs) headerLen fs ++ changeAt val (sinceIn fs) (headerLen + total fs) f
   stays fs f n =
-      let e : marksOf (fs ++ (f ∷ [])) ≡ marksOf fs =
-      fun-ext (λ h. since-snoc h headerLen headerLen fs f ∙ ap (λ (t : Bool). pick t (headerLen + total fs + frameLen f) (since h fs)) (n h)) in
-      ap (λ (m : Host → ℕ). entriesOf val m headerLen (fs ++ (f ∷ []))) e ∙ entries-snoc (marksOf fs) headerLen fs f
+      let e : sinceIn (fs ++ (f ∷ [])) ≡ sinceIn fs =
+      fun-ext (λ h. since-snoc h headerLen headerLen fs f ∙ ap (λ (t : Bool). pick t (headerLen + total fs + frameLen f) (sinceHost h fs)) (n h)) in
+      ap (λ (m : Host → ℕ). entriesOf val m headerLen (fs ++ (f ∷ []))) e ∙ entries-snoc (sinceIn fs) headerLen fs f
 
-  -- a commit or an abort moves its host's mark past all frames
+  -- a commit or an abort moves its host's `since` past all frames
   ended : (fs : List Frame) (f : Frame) (h : Host) → ((g : Host) → isEnd g f ≡ eqb (g .0) (h .0)) → ((m : Host → ℕ) (o : ℕ) → changeAt val m o f ≡ [])
-      → entriesOf val (marksOf (fs ++ (f ∷ []))) headerLen (fs ++ (f ∷ [])) ≡ without h (entriesOf val (marksOf fs) headerLen fs)
+      → entriesOf val (sinceIn (fs ++ (f ∷ []))) headerLen (fs ++ (f ∷ [])) ≡ without h (entriesOf val (sinceIn fs) headerLen fs)
   ended fs f h n z =
-      let m : Host → ℕ = marksOf (fs ++ (f ∷ [])) in
+      let m : Host → ℕ = sinceIn (fs ++ (f ∷ [])) in
       let own : m h ≡ headerLen + total fs + frameLen f =
       since-snoc h headerLen headerLen fs f
-      ∙ ap (λ (t : Bool). pick t (headerLen + total fs + frameLen f) (since h fs)) (n h ∙ eq-eqb (h .0) (h .0) refl) in
+      ∙ ap (λ (t : Bool). pick t (headerLen + total fs + frameLen f) (sinceHost h fs)) (n h ∙ eq-eqb (h .0) (h .0) refl) in
       entries-snoc m headerLen fs f ∙ ap (λ (x : List (EntryOf A)). entriesOf val m headerLen fs ++ x) (z m (headerLen + total fs))
       ∙ append-nil (entriesOf val m headerLen fs)
-      ∙ moved h (marksOf fs) m
+      ∙ moved h (sinceIn fs) m
       (λ g d. since-snoc g headerLen headerLen fs f
-      ∙ ap (λ (t : Bool). pick t (headerLen + total fs + frameLen f) (since g fs)) (n g ∙ ne-eqb (g .0) (h .0) (λ q. d (sym q))))
+      ∙ ap (λ (t : Bool). pick t (headerLen + total fs + frameLen f) (sinceHost g fs)) (n g ∙ ne-eqb (g .0) (h .0) (λ q. d (sym q))))
       headerLen fs (omega (arith, own))
 
   -- what is pending after one frame more
-  after : (fs : List Frame) (f : Frame) → replay (located val headerLen (fs ++ (f ∷ []))) ≡ next (replay (located val headerLen fs)) (mapFrame (val (headerLen + total fs)) f)
+  after : (fs : List Frame) (f : Frame) → replay (located val headerLen (fs ++ (f ∷ []))) ≡ nextState (replay (located val headerLen fs)) (mapFrame (val (headerLen + total fs)) f)
   after fs f = ap replay (located-snoc val headerLen fs f) ∙ replay-snoc (located val headerLen fs) (mapFrame (val (headerLen + total fs)) f)
 
   right-next : (fs : List Frame) (f : Frame) → Right fs → Right (fs ++ (f ∷ []))
   right-next fs (change h c) r =
       let o : ℕ = headerLen + total fs in
       ap (λ (s : StateOf A). s .pending) (after fs (change h c)) ∙ ap (λ (x : List (EntryOf A)). x ++ (entry h (mapChange (val o) c) ∷ [])) r
-      ∙ ap (λ (x : List (EntryOf A)). entriesOf val (marksOf fs) headerLen fs ++ x) (sym (change-yes (marksOf fs) o h c (since-inside h fs)))
+      ∙ ap (λ (x : List (EntryOf A)). entriesOf val (sinceIn fs) headerLen fs ++ x) (sym (change-yes (sinceIn fs) o h c (since-inside h fs)))
       ∙ sym (stays fs (change h c) (λ g. refl))
   right-next fs (commit h) r =
       ap (λ (s : StateOf A). s .pending) (after fs (commit h)) ∙ ap (without h) r ∙ sym (ended fs (commit h) h (λ g. refl) (λ m o. refl))
   right-next fs (abort h) r =
       ap (λ (s : StateOf A). s .pending) (after fs (abort h)) ∙ ap (without h) r ∙ sym (ended fs (abort h) h (λ g. refl) (λ m o. refl))
   right-next fs (settled i v) r =
-      ap (λ (s : StateOf A). s .pending) (after fs (settled i v)) ∙ r ∙ sym (append-nil (entriesOf val (marksOf fs) headerLen fs))
+      ap (λ (s : StateOf A). s .pending) (after fs (settled i v)) ∙ r ∙ sym (append-nil (entriesOf val (sinceIn fs) headerLen fs))
       ∙ sym (stays fs (settled i v) (λ g. refl))
 
   right-all : (fs gs : List Frame) → Right fs → Right (fs ++ gs)
   right-all fs [] r = subst Right (sym (append-nil fs)) r
   right-all fs (g ∷ gs) r = subst Right (append-assoc fs (g ∷ []) gs) (right-all (fs ++ (g ∷ [])) gs (right-next fs g r))
 
-  -- pending is what stands past the marks
-  pub pending-located : (fs : List Frame) → replay (located val headerLen fs) .pending ≡ entriesOf val (marksOf fs) headerLen fs
+  -- pending is what stands past `since`
+  pub pending-located : (fs : List Frame) → replay (located val headerLen fs) .pending ≡ entriesOf val (sinceIn fs) headerLen fs
   unfolding replayFrom entriesOf located
   pending-located fs = right-all [] fs refl
 
 abbrev pub bytesThere : ℕ → List ℕ → List ℕ
 bytesThere o v = v
 
-pub pending-marks : (fs : List Frame) → replay fs .pending ≡ entriesOf bytesThere (marksOf fs) headerLen fs
-pending-marks fs = ap (λ (x : List Frame). replay x .pending) (located-plain headerLen fs) ∙ pending-located bytesThere fs
+pub pending-since : (fs : List Frame) → replay fs .pending ≡ entriesOf bytesThere (sinceIn fs) headerLen fs
+pending-since fs = ap (λ (x : List Frame). replay x .pending) (located-plain headerLen fs) ∙ pending-located bytesThere fs
 
 pub change-plain : (c : Change) → mapChange (λ v. v) c ≡ c
 change-plain (put i v) = refl

@@ -16,7 +16,7 @@ use Rattle.frame.proofs.Encode.{length-encode, stands-any}
 use Rattle.frame.proofs.Reading.{read-back}
 use Rattle.journal.specs.Block.{headerLen}
 use Rattle.journal.specs.Replay.{ObjectOf, StateOf, lookup, replay}
-use Rattle.journal.specs.Index.{sited, orZero, placesFrom, placesOf, Value, onlyIf, valueIn, valueAt}
+use Rattle.journal.specs.Index.{sited, orZero, placesFrom, placesOf, Value, onlyIf, frameValue, valueAt}
 use Rattle.journal.proofs.Mapping.{located, located-sited, located-plain, located-map, map-lookup, map-replay, OfFrame, AllFrames, all-replay, all-lookup}
 
 -- a value and the offset of its frame
@@ -33,7 +33,7 @@ spots o fs = located spot o fs
 -- ---- a value in the bytes of a block
 
 -- the frame at offset p of block b holds value v of id i
-pub record Holds (b : List ℕ) (i : ObjectId) (p : ℕ) (v : List ℕ) : Type 0 where
+pub record ValueStands (b : List ℕ) (i : ObjectId) (p : ℕ) (v : List ℕ) : Type 0 where
   pub at : ℕ
   pub found : valueAt b i p ≡ some (record { at = at; bytes = v })
   pub same : take (length v) (drop at b) ≡ v
@@ -41,7 +41,7 @@ pub record Holds (b : List ℕ) (i : ObjectId) (p : ℕ) (v : List ℕ) : Type 0
   pub past : headerLen ≤ p
   pub inside : p < length b
 
-at-found : (b : List ℕ) (i : ObjectId) (p : ℕ) (f : Frame) → headerLen ≤ p → readFrame 0 p (drop p b) ≡ whole f → valueAt b i p ≡ valueIn i p f
+at-found : (b : List ℕ) (i : ObjectId) (p : ℕ) (f : Frame) → headerLen ≤ p → readFrame 0 p (drop p b) ≡ whole f → valueAt b i p ≡ frameValue i p f
 unfolding valueAt
 at-found b i p f h e = rw (ne-eqb p 0 (omega arith), e, valueAt)
 
@@ -65,9 +65,9 @@ stands-zero n (abort h) g = g
 stands-zero n (settled i v) (a, b, c) = (omega arith, b, c)
 
 -- a frame whose value v stands n bytes in
-holds : (pre front v back rest : List ℕ) (i : ObjectId) (o n m : ℕ) (f : Frame) → length pre ≡ o → length front ≡ n → headerLen ≤ o → MayStand m f
-    → encode f ++ rest ≡ front ++ (v ++ back) → 1 ≤ n → valueIn i o f ≡ some (record { at = o + n; bytes = v }) → Holds (pre ++ (encode f ++ rest)) i o v
-holds pre front v back rest i o n m f l k h g e s q =
+value-stands : (pre front v back rest : List ℕ) (i : ObjectId) (o n m : ℕ) (f : Frame) → length pre ≡ o → length front ≡ n → headerLen ≤ o → MayStand m f
+    → encode f ++ rest ≡ front ++ (v ++ back) → 1 ≤ n → frameValue i o f ≡ some (record { at = o + n; bytes = v }) → ValueStands (pre ++ (encode f ++ rest)) i o v
+value-stands pre front v back rest i o n m f l k h g e s q =
     let b : List ℕ = pre ++ (encode f ++ rest) in
     let e′ : b ≡ pre ++ (front ++ (v ++ back)) = ap (λ (x : List ℕ). pre ++ x) e in
     let t : o + n + length v ≤ length b = subst (λ (x : List ℕ). o + n + length v ≤ length x) (sym e′) (slice-in pre front v back o n l k) in
@@ -80,27 +80,27 @@ holds pre front v back rest i o n m f l k h g e s q =
       inside = omega arith;
     }
 
-abbrev SpotHolds : List ℕ → ObjectId → Spot → Type 0
-SpotHolds b i x = Holds b i (x .place) (x .bytes)
+abbrev SpotStands : List ℕ → ObjectId → Spot → Type 0
+SpotStands b i x = ValueStands b i (x .place) (x .bytes)
 
-spot-holds : (pre rest : List ℕ) (o m : ℕ) (f : Frame) → length pre ≡ o → headerLen ≤ o → MayStand m f
-    → OfFrame (SpotHolds (pre ++ (encode f ++ rest))) (mapFrame (spot o) f)
-spot-holds pre rest o m (change h (put i v)) l k g =
-    holds pre (take 7 (encode (change h (put i v)))) v (254 ∷ rest) rest i o 7 m (change h (put i v)) l refl k g (simp append-assoc) (omega arith) (own i _)
-spot-holds pre rest o m (change h (delete i)) l k g = tt
-spot-holds pre rest o m (commit h) l k g = tt
-spot-holds pre rest o m (abort h) l k g = tt
-spot-holds pre rest o m (settled i v) l k g =
-    holds pre (take 6 (encode (settled i v))) v (254 ∷ rest) rest i o 6 m (settled i v) l refl k g (simp append-assoc) (omega arith) (own i _)
+spot-stands : (pre rest : List ℕ) (o m : ℕ) (f : Frame) → length pre ≡ o → headerLen ≤ o → MayStand m f
+    → OfFrame (SpotStands (pre ++ (encode f ++ rest))) (mapFrame (spot o) f)
+spot-stands pre rest o m (change h (put i v)) l k g =
+    value-stands pre (take 7 (encode (change h (put i v)))) v (254 ∷ rest) rest i o 7 m (change h (put i v)) l refl k g (simp append-assoc) (omega arith) (own i _)
+spot-stands pre rest o m (change h (delete i)) l k g = tt
+spot-stands pre rest o m (commit h) l k g = tt
+spot-stands pre rest o m (abort h) l k g = tt
+spot-stands pre rest o m (settled i v) l k g =
+    value-stands pre (take 6 (encode (settled i v))) v (254 ∷ rest) rest i o 6 m (settled i v) l refl k g (simp append-assoc) (omega arith) (own i _)
 
 spots-hold : (b pre : List ℕ) (o m : ℕ) (fs : List Frame) (rest : List ℕ) → length pre ≡ o → headerLen ≤ o → AllMayStand m fs
     → b ≡ pre ++ (encodeAll fs ++ rest)
-    → AllFrames (SpotHolds b) (spots o fs)
+    → AllFrames (SpotStands b) (spots o fs)
 unfolding located encodeAll
 spots-hold b pre o m [] rest l k g e = tt
 spots-hold b pre o m (f ∷ fs) rest l k (g, gs) e =
     let e′ : b ≡ pre ++ (encode f ++ (encodeAll fs ++ rest)) = e ∙ ap (λ (x : List ℕ). pre ++ x) (append-assoc (encode f) (encodeAll fs) rest) in (
-      subst (λ (x : List ℕ). OfFrame (SpotHolds x) (mapFrame (spot o) f)) (sym e′) (spot-holds pre (encodeAll fs ++ rest) o m f l k g),
+      subst (λ (x : List ℕ). OfFrame (SpotStands x) (mapFrame (spot o) f)) (sym e′) (spot-stands pre (encodeAll fs ++ rest) o m f l k g),
       spots-hold b (pre ++ encode f) (o + frameLen f) (nextAfter f) fs rest (length-append pre (encode f) ∙ omega (arith, length-encode f)) (omega arith) gs
           (e′ ∙ sym (append-assoc pre (encode f) (encodeAll fs ++ rest))),
     )
@@ -169,10 +169,10 @@ pub record Journal (b : List ℕ) (fs : List Frame) : Type 0 where
   pub stand : AllMayStand 0 fs
 
 pub place-law : (b : List ℕ) (fs : List Frame) (i : ObjectId) (v : List ℕ) → Journal b fs → i .0 ≤ idMax → lookup i (replay fs .objects) ≡ some v
-    → Holds b i (getD (placesOf fs) (i .0) 0) v
-place-law b fs i v j h s = subst (λ (p : ℕ). Holds b i p v) (sym (place-at fs i h ∙ ap orZero (sited-lookup fs i))) (go (lookup i (replay (spots headerLen fs) .objects)) refl)
+    → ValueStands b i (getD (placesOf fs) (i .0) 0) v
+place-law b fs i v j h s = subst (λ (p : ℕ). ValueStands b i p v) (sym (place-at fs i h ∙ ap orZero (sited-lookup fs i))) (go (lookup i (replay (spots headerLen fs) .objects)) refl)
   where
-    go : (x : Option Spot) → lookup i (replay (spots headerLen fs) .objects) ≡ x → Holds b i (orZero (Option·map (λ (y : Spot). y .place) x)) v
+    go : (x : Option Spot) → lookup i (replay (spots headerLen fs) .objects) ≡ x → ValueStands b i (orZero (Option·map (λ (y : Spot). y .place) x)) v
     go none q =
         let z : _≡_ {A = Option (List ℕ)} none (some v) = sym (bytes-lookup fs i ∙ ap (Option·map (λ (y : Spot). y .bytes)) q) ∙ s in
         let y : _≡_ {A = ℕ} 0 1 = cc in
@@ -180,8 +180,8 @@ place-law b fs i v j h s = subst (λ (p : ℕ). Holds b i p v) (sym (place-at fs
     go (some x) q =
         let z : _≡_ {A = Option (List ℕ)} (some (x .bytes)) (some v) = sym (bytes-lookup fs i ∙ ap (Option·map (λ (y : Spot). y .bytes)) q) ∙ s in
         let y : x .bytes ≡ v = cc in
-        let a : AllFrames (SpotHolds b) (spots headerLen fs) = spots-hold b (j .head) headerLen 0 fs (j .rest) (j .long) (omega arith) (j .stand) (j .split) in
-        subst (Holds b i (x .place)) y (all-lookup (SpotHolds b) i (replay (spots headerLen fs) .objects) x (all-replay (SpotHolds b) (spots headerLen fs) a .0) q)
+        let a : AllFrames (SpotStands b) (spots headerLen fs) = spots-hold b (j .head) headerLen 0 fs (j .rest) (j .long) (omega arith) (j .stand) (j .split) in
+        subst (ValueStands b i (x .place)) y (all-lookup (SpotStands b) i (replay (spots headerLen fs) .objects) x (all-replay (SpotStands b) (spots headerLen fs) a .0) q)
 
 abbrev pub bytesOf : Option Value → Option (List ℕ)
 bytesOf none = none

@@ -11,7 +11,7 @@ use Rattle.frame.specs.declared.Host.{Host}
 use Rattle.frame.specs.declared.ObjectId.{ObjectId}
 use Rattle.frame.specs.Frame.{hostOf, Change, put, delete, FrameOf, Frame, change, commit, abort, settled, MayStand, AllMayStand, nextAfter, nextOf}
 use Rattle.frame.proofs.Encode.{stands-any, stands-append}
-use Rattle.journal.specs.Replay.{ObjectOf, object, EntryOf, entry, StateOf, state, Object, Entry, State, insert, remove, lookup, change1, changeAll, listOf, without, next, replayFrom, replay, settledFrame, pendingFrame, framesOf, settledOnly}
+use Rattle.journal.specs.Replay.{ObjectOf, object, EntryOf, entry, StateOf, state, Object, Entry, State, insert, remove, lookup, change1, changeAll, listOf, without, nextState, replayFrom, replay, settledFrame, pendingFrame, framesOf, settledOnly}
 use Rattle.journal.proofs.Lookups.{lookup-no, insert-lt, insert-eq, insert-gt}
 
 module _ {A : Type 0} where
@@ -19,9 +19,9 @@ module _ {A : Type 0} where
   pub replay-append : (s : StateOf A) (fs gs : List (FrameOf A)) → replayFrom s (fs ++ gs) ≡ replayFrom (replayFrom s fs) gs
   unfolding replayFrom
   replay-append s [] gs = refl
-  replay-append s (f ∷ fs) gs = replay-append (next s f) fs gs
+  replay-append s (f ∷ fs) gs = replay-append (nextState s f) fs gs
 
-  pub replay-snoc : (fs : List (FrameOf A)) (f : FrameOf A) → replay (fs ++ (f ∷ [])) ≡ next (replay fs) f
+  pub replay-snoc : (fs : List (FrameOf A)) (f : FrameOf A) → replay (fs ++ (f ∷ [])) ≡ nextState (replay fs) f
   unfolding replayFrom
   replay-snoc fs f = replay-append (state [] []) fs (f ∷ [])
 
@@ -144,7 +144,7 @@ pub record Sound (n : ℕ) (s : State) : Type 0 where
   pub low : n ≤ 256
   pub entries : LegalEntries (s .pending)
 
-sound-next : (n : ℕ) (s : State) (f : Frame) → MayStand n f → Sound n s → Sound (nextAfter f) (next s f)
+sound-next : (n : ℕ) (s : State) (f : Frame) → MayStand n f → Sound n s → Sound (nextAfter f) (nextState s f)
 sound-next n s (change h c) g k =
     record { rising = rising-to 0 (s .objects) n 256 (k .low) (k .rising); low = omega arith; entries = legal-snoc (s .pending) (entry h c) (stands-any n 256 (change h c) tt g) (k .entries) }
 sound-next n s (commit h) g k =
@@ -160,7 +160,7 @@ sound-next n s (settled i v) g k = record { rising = rising-snoc 0 (s .objects) 
 sound-from : (n : ℕ) (s : State) (fs : List Frame) → AllMayStand n fs → Sound n s → Sound (nextOf n fs) (replayFrom s fs)
 unfolding replayFrom
 sound-from n s [] g k = k
-sound-from n s (f ∷ fs) (g, gs) k = sound-from (nextAfter f) (next s f) fs gs (sound-next n s f g k)
+sound-from n s (f ∷ fs) (g, gs) k = sound-from (nextAfter f) (nextState s f) fs gs (sound-next n s f g k)
 
 pub sound-replay : (fs : List Frame) → AllMayStand 0 fs → Sound (nextOf 0 fs) (replay fs)
 sound-replay fs g = sound-from 0 (state [] []) fs g (record { rising = omega arith; low = omega arith; entries = tt })

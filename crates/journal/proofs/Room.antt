@@ -13,7 +13,7 @@ use Rattle.frame.specs.declared.ObjectId.{ObjectId}
 use Rattle.frame.specs.Frame.{hostOf, hostMax, Change, put, delete, Frame, change, commit, abort, settled, frameLen, putLen, total}
 use Rattle.frame.proofs.Encode.{total-append}
 use Rattle.journal.specs.Block.{headerLen}
-use Rattle.journal.specs.Replay.{Object, object, Entry, entry, State, state, insert, remove, change1, changeAll, listOf, without, isOpen, next, replayFrom, replay, settledFrame, pendingFrame, framesOf, settledOnly}
+use Rattle.journal.specs.Replay.{Object, object, Entry, entry, State, state, insert, remove, change1, changeAll, listOf, without, isOpen, nextState, replayFrom, replay, settledFrame, pendingFrame, framesOf, settledOnly}
 use Rattle.journal.specs.Room.{used, claimed, one, openHosts}
 use Rattle.journal.proofs.Lookups.{insert-lt, insert-eq, insert-gt}
 use Rattle.journal.proofs.Lists.{open-own, open-other, open-snoc, open-snoc-other}
@@ -64,10 +64,10 @@ without-total h (e ∷ es) =
     (λ t. rw (t, listOf, without) (omega (arith, without-total h es)))
 
 -- a commit or an abort makes no state larger
-pub commit-room : (s : State) (h : Host) → claimed (next s (commit h)) ≤ claimed s
+pub commit-room : (s : State) (h : Host) → claimed (nextState s (commit h)) ≤ claimed s
 commit-room s h = omega (arith, changes-total (listOf h (s .pending)) (s .objects), without-total h (s .pending))
 
-pub abort-room : (s : State) (h : Host) → claimed (next s (abort h)) ≤ claimed s
+pub abort-room : (s : State) (h : Host) → claimed (nextState s (abort h)) ≤ claimed s
 abort-room s h = omega (arith, without-total h (s .pending))
 
 entries-snoc : (es : List Entry) (e : Entry) → total (map pendingFrame (es ++ (e ∷ []))) ≡ total (map pendingFrame es) + frameLen (pendingFrame e)
@@ -80,7 +80,7 @@ unfolding total
 objects-snoc [] o = omega arith
 objects-snoc (x ∷ os) o = omega (arith, objects-snoc os o)
 
-pub change-room : (s : State) (h : Host) (c : Change) → claimed (next s (change h c)) ≡ claimed s + frameLen (change h c)
+pub change-room : (s : State) (h : Host) (c : Change) → claimed (nextState s (change h c)) ≡ claimed s + frameLen (change h c)
 change-room s h c = omega (arith, entries-snoc (s .pending) (entry h c))
 
 -- the frames that a transfer writes are C bytes with the header
@@ -94,7 +94,7 @@ pub claimed-settled : (s : State) → claimed (settledOnly s) ≡ used s
 unfolding total
 claimed-settled s = omega arith
 
-room-next : (s : State) (f : Frame) → claimed (next s f) ≤ claimed s + frameLen f
+room-next : (s : State) (f : Frame) → claimed (nextState s f) ≤ claimed s + frameLen f
 room-next s (change h c) = omega (arith, change-room s h c)
 room-next s (commit h) = omega (arith, commit-room s h)
 room-next s (abort h) = omega (arith, abort-room s h)
@@ -103,7 +103,7 @@ room-next s (settled i v) = omega (arith, objects-snoc (s .objects) (object i v)
 room-from : (s : State) (fs : List Frame) → claimed (replayFrom s fs) ≤ claimed s + total fs
 unfolding replayFrom total
 room-from s [] = omega arith
-room-from s (f ∷ fs) = omega (arith, room-from (next s f) fs, room-next s f)
+room-from s (f ∷ fs) = omega (arith, room-from (nextState s f) fs, room-next s f)
 
 pub claimed-replay : (fs : List Frame) → claimed (replay fs) ≤ headerLen + total fs
 unfolding total
@@ -136,13 +136,13 @@ unfolding putsOf total
 puts-total [] = omega arith
 puts-total (e ∷ es) = omega (arith, puts-total es, put-part (e .host) (e .what))
 
-pub kept-change : (s : State) (h : Host) (c : Change) → kept (next s (change h c)) ≡ kept s + putPart c
+pub kept-change : (s : State) (h : Host) (c : Change) → kept (nextState s (change h c)) ≡ kept s + putPart c
 kept-change s h c = omega (arith, puts-snoc (s .pending) (entry h c))
 
-pub kept-commit : (s : State) (h : Host) → kept (next s (commit h)) ≤ kept s
+pub kept-commit : (s : State) (h : Host) → kept (nextState s (commit h)) ≤ kept s
 kept-commit s h = omega (arith, changes-total (listOf h (s .pending)) (s .objects), without-puts h (s .pending))
 
-pub kept-abort : (s : State) (h : Host) → kept (next s (abort h)) ≤ kept s
+pub kept-abort : (s : State) (h : Host) → kept (nextState s (abort h)) ≤ kept s
 kept-abort s h = omega (arith, without-puts h (s .pending))
 
 pub used-kept : (s : State) → used s ≤ kept s

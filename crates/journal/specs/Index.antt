@@ -47,12 +47,12 @@ unfoldable pub sinceFrom : Host → ℕ → ℕ → List Frame → ℕ
 sinceFrom h o d [] = d
 sinceFrom h o d (f ∷ fs) = sinceFrom h (o + frameLen f) (pick (isEnd h f) (o + frameLen f) d) fs
 
-abbrev pub since : Host → List Frame → ℕ
-since h fs = sinceFrom h headerLen headerLen fs
+abbrev pub sinceHost : Host → List Frame → ℕ
+sinceHost h fs = sinceFrom h headerLen headerLen fs
 
 -- one such offset for each host: what stands below it of that host's is no longer pending
 abbrev pub sinceOf : List Frame → List ℕ
-sinceOf fs = since (hostOf 0) fs ∷ since (hostOf 1) fs ∷ since (hostOf 2) fs ∷ since (hostOf 3) fs ∷ []
+sinceOf fs = sinceHost (hostOf 0) fs ∷ sinceHost (hostOf 1) fs ∷ sinceHost (hostOf 2) fs ∷ sinceHost (hostOf 3) fs ∷ []
 
 -- ---- a value by its place
 
@@ -66,17 +66,17 @@ onlyIf true x = some x
 onlyIf false x = none
 
 -- the value of an id that a frame at offset p holds: a put's or a settled frame's
-abbrev pub valueIn : ObjectId → ℕ → Frame → Option Value
-valueIn i p (change h (put j v)) = onlyIf (eqb (i .0) (j .0)) (record { at = p + 7; bytes = v })
-valueIn i p (change h (delete j)) = none
-valueIn i p (commit h) = none
-valueIn i p (abort h) = none
-valueIn i p (settled j v) = onlyIf (eqb (i .0) (j .0)) (record { at = p + 6; bytes = v })
+abbrev pub frameValue : ObjectId → ℕ → Frame → Option Value
+frameValue i p (change h (put j v)) = onlyIf (eqb (i .0) (j .0)) (record { at = p + 7; bytes = v })
+frameValue i p (change h (delete j)) = none
+frameValue i p (commit h) = none
+frameValue i p (abort h) = none
+frameValue i p (settled j v) = onlyIf (eqb (i .0) (j .0)) (record { at = p + 6; bytes = v })
 
 -- only a whole frame holds a value
 abbrev pub valueRead : ObjectId → ℕ → Read → Option Value
 valueRead i p blank = none
-valueRead i p (whole f) = valueIn i p f
+valueRead i p (whole f) = frameValue i p f
 valueRead i p (torn n) = none
 valueRead i p (wrong e) = none
 
@@ -104,27 +104,27 @@ nextSettled b places source (suc n) i =
       | none ↦ nextSettled b places source n (suc i)
     ]
 
--- a put or delete at or past its host's mark
+-- a put or delete at or past its host's `since`
 abbrev pub isPending : List ℕ → ℕ → Frame → Bool
-isPending marks at (change h c) = leb (getD marks (h .0) 0) at
-isPending marks at (commit h) = false
-isPending marks at (abort h) = false
-isPending marks at (settled i v) = false
+isPending since at (change h c) = leb (getD since (h .0) 0) at
+isPending since at (commit h) = false
+isPending since at (abort h) = false
+isPending since at (settled i v) = false
 
 -- the first pending frame of a journal's bytes, which start at offset `at` of the block; k as in `scan`; settled frames are passed over
 unfoldable pub nextPending : List ℕ → ℕ → ℕ → List ℕ → Option Load
-nextPending marks at k [] = none
-nextPending marks at zero (b ∷ t) =
+nextPending since at k [] = none
+nextPending since at zero (b ∷ t) =
     elim (readFrame 0 at (b ∷ t)) [
       | blank ↦ none
-      | whole f ↦ elim (isPending marks at f) [
+      | whole f ↦ elim (isPending since at f) [
         | true ↦ some (load f 256 (at + frameLen f))
-        | false ↦ nextPending marks (suc at) (frameLen f - 1) t
+        | false ↦ nextPending since (suc at) (frameLen f - 1) t
       ]
       | torn n ↦ none
       | wrong e ↦ none
     ]
-nextPending marks at (suc k) (b ∷ t) = nextPending marks (suc at) k t
+nextPending since at (suc k) (b ∷ t) = nextPending since (suc at) k t
 
 -- settled frames go before pending ones
 abbrev pub orElse : Option Load → Option Load → Option Load
@@ -133,5 +133,5 @@ orElse none o = o
 
 -- the next frame that a transfer of block b writes, whose whole frames run to `end`
 unfoldable pub nextLoad : List ℕ → ℕ → List ℕ → List ℕ → ℕ → ℕ → Option Load
-nextLoad b end places marks id source =
-    orElse (nextSettled b places source (256 - id) id) (nextPending marks source 0 (drop source (take end b)))
+nextLoad b end places since id source =
+    orElse (nextSettled b places source (256 - id) id) (nextPending since source 0 (drop source (take end b)))

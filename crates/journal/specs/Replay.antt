@@ -92,16 +92,16 @@ isOpen h (e ∷ es) = elim (eqb (h .0) (e .host .0)) [ true ↦ true | false ↦
 
 -- "settled frames give the settled objects. A put or delete joins its host's pending list; commit applies that list in order and
 -- empties it; abort empties it. A commit or abort with nothing pending is read and does nothing."
-abbrev pub next : {A : Type 0} → StateOf A → FrameOf A → StateOf A
-next s (change h c) = state (s .objects) (s .pending ++ (entry h c ∷ []))
-next s (commit h) = state (changeAll (listOf h (s .pending)) (s .objects)) (without h (s .pending))
-next s (abort h) = state (s .objects) (without h (s .pending))
-next s (settled i v) = state (s .objects ++ (object i v ∷ [])) (s .pending)
+abbrev pub nextState : {A : Type 0} → StateOf A → FrameOf A → StateOf A
+nextState s (change h c) = state (s .objects) (s .pending ++ (entry h c ∷ []))
+nextState s (commit h) = state (changeAll (listOf h (s .pending)) (s .objects)) (without h (s .pending))
+nextState s (abort h) = state (s .objects) (without h (s .pending))
+nextState s (settled i v) = state (s .objects ++ (object i v ∷ [])) (s .pending)
 
 -- frame after frame, at first with no objects and nothing pending
 unfoldable pub replayFrom : {A : Type 0} → StateOf A → List (FrameOf A) → StateOf A
 replayFrom s [] = s
-replayFrom s (f ∷ fs) = replayFrom (next s f) fs
+replayFrom s (f ∷ fs) = replayFrom (nextState s f) fs
 
 abbrev pub replay : {A : Type 0} → List (FrameOf A) → StateOf A
 replay fs = replayFrom (state [] []) fs

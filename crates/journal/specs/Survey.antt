@@ -105,13 +105,13 @@ valueHead i p (head.Commit h) = found.Nothing
 valueHead i p (head.Abort h) = found.Nothing
 valueHead i p (head.Settled j n) = onlyAt (eqb (i .0) (j .0)) (p + 6) n
 
--- a put or delete at or past its host's mark, by the head
+-- a put or delete at or past its host's `since`, by the head
 unfoldable pub pendingHead : List ℕ → ℕ → Head → Bool
-pendingHead marks at (head.Put h i n) = leb (getD marks (h .0) 0) at
-pendingHead marks at (head.Delete h i) = leb (getD marks (h .0) 0) at
-pendingHead marks at (head.Commit h) = false
-pendingHead marks at (head.Abort h) = false
-pendingHead marks at (head.Settled i n) = false
+pendingHead since at (head.Put h i n) = leb (getD since (h .0) 0) at
+pendingHead since at (head.Delete h i) = leb (getD since (h .0) 0) at
+pendingHead since at (head.Commit h) = false
+pendingHead since at (head.Abort h) = false
+pendingHead since at (head.Settled i n) = false
 
 -- the frame that was found in block b, and the cursor after it
 abbrev pub loadIn : List ℕ → Fetch → Load
@@ -165,7 +165,7 @@ placeHead h o (head.Commit g) t = t
 placeHead h o (head.Abort g) t = t
 placeHead h o (head.Settled i n) t = t
 
--- a commit of host h, whose mark is d, at the end of some bytes: its puts and deletes from the mark on are read again
+-- a commit of host h, whose `since` is d, at the end of some bytes: its puts and deletes from there on are read again
 unfoldable pub recommit : List ℕ → Host → ℕ → List ℕ → List ℕ
 recommit l h d t = commitPlaces h d d t (scan 0 d 0 (drop d l) .frames)
 

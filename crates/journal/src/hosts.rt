@@ -4,21 +4,21 @@ ghost use lib.ListN.{getD, set};
 use frame::Host;
 
 // A host's number; 0 for a host that isn't there.
-pub fn of_host(marks: [u16; 4], host: Host) -> u16
-    ensures { λ r. ⌜ r ≡ getD marks (host .0) 0 ⌝ }
+pub fn of_host(numbers: [u16; 4], host: Host) -> u16
+    ensures { λ r. ⌜ r ≡ getD numbers (host .0) 0 ⌝ }
 {
     let i = host.0 as usize;
     if i < 4 {
-        return marks[i];
+        return numbers[i];
     }
     0
 }
 
 // The numbers with another one for a host.
-pub fn with_host(marks: [u16; 4], host: Host, at: u16) -> [u16; 4]
-    ensures { λ r. ⌜ r ≡ set marks (host .0) at ⌝ }
+pub fn with_host(numbers: [u16; 4], host: Host, at: u16) -> [u16; 4]
+    ensures { λ r. ⌜ r ≡ set numbers (host .0) at ⌝ }
 {
-    let mut m = marks;
+    let mut m = numbers;
     let i = host.0 as usize;
     if i < 4 {
         m[i] = at;

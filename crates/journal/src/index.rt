@@ -73,7 +73,7 @@ fn next_settled(block: &[u8], places: &[u16; 256], id: u16, source: u16) -> Fetc
     Fetched::Nothing
 }
 
-// The frame is a put or delete past its host's mark.
+// The frame is a put or delete at or past its host's `since`.
 fn is_pending(since: [u16; 4], at: usize, head: Head) -> bool
     ensures { λ r. ⌜ r ≡ pendingHead since at head ⌝ }
 {

@@ -59,12 +59,12 @@ fn next_after(head: Head) -> usize
     }
 }
 
-// A commit of a host: its puts and deletes from its mark on are read again. Offsets are at most a block's length, and fit a u16.
-fn commit_own(part: &[u8], host: Host, mark: usize, places: &mut [u16; 256])
+// A commit of a host: its puts and deletes from its `since` on are read again. Offsets are at most a block's length, and fit a u16.
+fn commit_own(part: &[u8], host: Host, since: usize, places: &mut [u16; 256])
     requires { ⌜ length (now part) ≤ 32768 ⌝ }
-    ensures { λ _. ⌜ now (places .exit) ≡ recommit (now (part .entry)) host mark (now (places .entry)) ⌝ }
+    ensures { λ _. ⌜ now (places .exit) ≡ recommit (now (part .entry)) host since (now (places .entry)) ⌝ }
 {
-    let mut at = mark;
+    let mut at = since;
     let mut next: usize = 0;
     loop {
         match frame::read_frame(part, at, next) {
@@ -146,10 +146,10 @@ pub fn take_frame(block: &[u8], p: Progress, head: Head, places: &mut [u16; 256]
         Head::Put(host, _, _) => grow(p, host, size),
         Head::Delete(host, _) => grow(p, host, size),
         Head::Commit(host) => {
-            let since = p.since;
-            let mark = hosts::of_host(since, host) as usize;
+            let all = p.since;
+            let since = hosts::of_host(all, host) as usize;
             let e = end as usize;
-            commit_own(&block[..e], host, mark, places);
+            commit_own(&block[..e], host, since, places);
             close(p, host)
         }
         Head::Abort(host) => close(p, host),

@@ -49,15 +49,15 @@ pair-then (a ∷ []) t e = absurd (omega arith)
 pair-then (a ∷ b ∷ []) t e = refl
 pair-then (a ∷ b ∷ c ∷ w) t e = absurd (omega arith)
 
-pub marks-then : (s t : List ℕ) → length s ≡ 4
+pub since-then : (s t : List ℕ) → length s ≡ 4
     → u16le (getD s 0 0) ++ (u16le (getD s 1 0) ++ (u16le (getD s 2 0) ++ (u16le (getD s 3 0) ++ t))) ≡ wordBytes s ++ t
 unfolding wordBytes
-marks-then [] t e = absurd (omega arith)
-marks-then (a ∷ []) t e = absurd (omega arith)
-marks-then (a ∷ b ∷ []) t e = absurd (omega arith)
-marks-then (a ∷ b ∷ c ∷ []) t e = absurd (omega arith)
-marks-then (a ∷ b ∷ c ∷ d ∷ []) t e = refl
-marks-then (a ∷ b ∷ c ∷ d ∷ x ∷ s) t e = absurd (omega arith)
+since-then [] t e = absurd (omega arith)
+since-then (a ∷ []) t e = absurd (omega arith)
+since-then (a ∷ b ∷ []) t e = absurd (omega arith)
+since-then (a ∷ b ∷ c ∷ []) t e = absurd (omega arith)
+since-then (a ∷ b ∷ c ∷ d ∷ []) t e = refl
+since-then (a ∷ b ∷ c ∷ d ∷ x ∷ s) t e = absurd (omega arith)
 
 -- a job's bytes, one by one
 pub job-is : (j : Job) → length (j .wipe) ≡ 2 → length (j .since) ≡ 4 → (m d a₀ b₀ a₁ b₁ a₂ b₂ a₃ b₃ : ℕ) → m ≡ flagByte (j .moves) → d ≡ flagByte (j .drops)
@@ -66,7 +66,7 @@ pub job-is : (j : Job) → length (j .wipe) ≡ 2 → length (j .since) ≡ 4 �
     → getD (j .wipe) 0 0 ∷ getD (j .wipe) 1 0 ∷ j .wipes ∷ m ∷ d ∷ j .target ∷ (u32le (j .time) ++
     (a₀ ∷ b₀ ∷ a₁ ∷ b₁ ∷ a₂ ∷ b₂ ∷ a₃ ∷ b₃ ∷ j .size ∷ [])) ≡ jobBytes j
 job-is j p q m d a₀ b₀ a₁ b₁ a₂ b₂ a₃ b₃ em ed e₀ f₀ e₁ f₁ e₂ f₂ e₃ f₃ =
-    rw (em, ed, e₀, f₀, e₁, f₁, e₂, f₂, e₃, f₃, ← marks-then (j .since) (j .size ∷ []) q) (pair-then (j .wipe) _ p)
+    rw (em, ed, e₀, f₀, e₁, f₁, e₂, f₂, e₃, f₃, ← since-then (j .since) (j .size ∷ []) q) (pair-then (j .wipe) _ p)
 
 pub length-job : (j : Job) → length (j .wipe) ≡ 2 → length (j .since) ≡ 4 → length (jobBytes j) ≡ 19
 length-job j p q = simp (length-append, length-word-bytes) (omega arith)

@@ -84,7 +84,7 @@ fn places_in(bytes: &[u8]) -> [u16; 256]
     words
 }
 
-fn marks_in(bytes: &[u8]) -> [u16; 4]
+fn since_in(bytes: &[u8]) -> [u16; 4]
     ensures { λ r. ⌜ r ≡ wordsIn 4 (now (bytes .entry)) ⌝ }
 {
     [
@@ -112,7 +112,7 @@ fn job_in(bytes: &[u8]) -> Job
     ensures { λ r. ⌜ r ≡ jobIn (now (bytes .entry)) ⌝ }
 {
     let wipe = [byte_at(bytes, 0), byte_at(bytes, 1)];
-    let since = marks_in(tail(bytes, 10));
+    let since = since_in(tail(bytes, 10));
     Job {
         wipe: wipe,
         wipes: byte_at(bytes, 2),

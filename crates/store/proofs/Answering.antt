@@ -22,7 +22,7 @@ use Rattle.journal.specs.Index.{placesOf}
 use Rattle.journal.specs.Survey.{pendingBytes, surveyOf}
 use Rattle.journal.proofs.PerHost.{per-at, open-bytes}
 use Rattle.journal.proofs.States.{Contents}
-use Rattle.journal.proofs.Places.{Journal, Holds, place-law, no-place}
+use Rattle.journal.proofs.Places.{Journal, ValueStands, place-law, no-place}
 use Rattle.wire.specs.declared.Refusal.the-variants as refusal
 use Rattle.wire.specs.declared.Page.{Page}
 use Rattle.wire.specs.declared.Page.the-variants.{Summary}
@@ -79,7 +79,7 @@ module _ (img : List ℕ) (r : Record) (reply : List ℕ) (h : Host) (x : Held) 
   unfolding readIn
   read-is i l none e = sym (rw (no-place (x .frames) i l e))
   read-is i l (some v) e =
-      let z : Holds (block (sizeOf img) (r .block) img) i (getD (placesOf (x .frames)) (i .0) 0) v =
+      let z : ValueStands (block (sizeOf img) (r .block) img) i (getD (placesOf (x .frames)) (i .0) 0) v =
       place-law (block (sizeOf img) (r .block) img) (x .frames) i v journal l e in
       sym (rw (ne-eqb (getD (placesOf (x .frames)) (i .0) 0) 0 (λ q. omega (arith, z .past))))
 

@@ -23,7 +23,7 @@ use Rattle.journal.specs.Room.{noRoom}
 use Rattle.journal.specs.Index.{placesOf, Value, valueAt}
 use Rattle.journal.specs.Survey.{surveyOf, placesIn, foundOf}
 use Rattle.journal.proofs.States.{Contents}
-use Rattle.journal.proofs.Places.{Holds, place-law, no-place, value-zero}
+use Rattle.journal.proofs.Places.{ValueStands, place-law, no-place, value-zero}
 use Rattle.wire.specs.declared.Refusal.{Refusal}
 use Rattle.wire.specs.declared.Parsed.the-variants.{Is}
 use Rattle.wire.specs.declared.Page.{Page}
@@ -97,7 +97,7 @@ module _ (img : List ℕ) (r : Record) (reply : List ℕ) (h : Host) (x : Held) 
       let u : _≡_ {A = ℕ} 0 1 = cc in
       absurd (omega arith)
   found-in i l p n (some v) e q =
-      let z : Holds (block (sizeOf img) (r .block) img) i (getD (placesOf (x .frames)) (i .0) 0) v =
+      let z : ValueStands (block (sizeOf img) (r .block) img) i (getD (placesOf (x .frames)) (i .0) 0) v =
       place-law (block (sizeOf img) (r .block) img) (x .frames) i v (journal img r reply h x w) l e in
       let y : found.At (z .at) (length v) ≡ found.At p n = sym (ap foundOf (z .found)) ∙ q in
       let a : z .at ≡ p = cc in

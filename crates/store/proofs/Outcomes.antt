@@ -21,7 +21,7 @@ use Rattle.wire.specs.declared.Answer.{Answer}
 use Rattle.wire.specs.declared.Refusal.{Refusal}
 use Rattle.wire.specs.declared.Refusal.the-variants as refusal
 use Rattle.board.specs.declared.Record.{Record}
-use Rattle.board.specs.Record.{allowed, noPlaces, noMarks, noFrame, unmounted, busyWith, answerOf, Out, refuse}
+use Rattle.board.specs.Record.{allowed, noPlaces, noMarks, noFrame, unmounted, rest, starting, busyWith, answerOf, Out, refuse}
 use Rattle.board.specs.Step.{enterWipe}
 use Rattle.board.specs.Queue.{requestOn}
 use Rattle.board.specs.Mount.{mountOn, formatOn}
@@ -70,9 +70,9 @@ pub mount-is : (img x y : List ℕ) (a b : Survey) (p q : List ℕ) (c : Choice)
 mount-is img x y a b p q c ok by ex ey ea ep eb eq ec = rw (ec, ea, ep, eb, eq, ex, ey) (mounts img ok by)
 
 pub format-is : (img p f : List ℕ) → allowed (length img) ≡ true → p ≡ noPlaces → f ≡ noFrame
-    → begun (busyWith (length img - 1) 1 16 p
+    → begun (busyWith (rest (length img - 1) 1 16) p
     (record { wipe = 0 ∷ 1 ∷ []; wipes = 2; moves = true; drops = false; target = 0; time = 1; since = noMarks; size = 0 })
-    256 16 f) ≡ outcomeOf (formatOn img)
+    (starting 256 16) f) ≡ outcomeOf (formatOn img)
 unfolding noFrame
 format-is img p f a ep ef = rw (ep, ef) (sym (ap outcomeOf (format-begins img a)))
 

@@ -30,7 +30,7 @@ use Rattle.wire.specs.Code.{pageInto}
 use Rattle.board.specs.declared.Phase.{Phase}
 use Rattle.board.specs.declared.Phase.the-variants.{Unmounted, Idle, Busy}
 use Rattle.board.specs.declared.Record.{Record}
-use Rattle.board.specs.Record.{allowed, noMarks, noFrame, unmounted, busyWith, Stretch, noStretch, Out, answerOf}
+use Rattle.board.specs.Record.{allowed, noMarks, noFrame, unmounted, rest, starting, busyWith, Stretch, noStretch, Out, answerOf}
 use Rattle.board.specs.Step.{enterWipe}
 use Rattle.board.specs.Mount.{nextBlock, newTime}
 use Rattle.job.specs.declared.Outcome.{Outcome}
@@ -117,7 +117,7 @@ wipeOther false k = 0 ∷ 0 ∷ []
 
 abbrev pub mountRecord : ℕ → ℕ → Survey → List ℕ → Bool → Bool → Record
 mountRecord l k s places wipes moves =
-    busyWith l k (s .end) places
+    busyWith (rest l k (s .end)) places
     (record {
       wipe = wipeOther wipes k;
       wipes = one wipes;
@@ -128,7 +128,7 @@ mountRecord l k s places wipes moves =
       since = noMarks;
       size = 0;
     })
-    0 (s .end) noFrame
+    (starting 0 (s .end)) noFrame
 
 unfoldable pub mountIn : ℕ → ℕ → Survey → List ℕ → Bool → Outcome
 mountIn l k s places wipes =
@@ -181,7 +181,7 @@ noRoomIn size s h n spare = ltb size (claimedIn s + n + endLen * openWith h (s .
 
 abbrev pub appendRecord : Record → Survey → List ℕ → Bool → ℕ → List ℕ → Record
 appendRecord r s places moves n frame =
-    busyWith (r .last) (r .block) (r .end) places
+    busyWith (rest (r .last) (r .block) (r .end)) places
     (record {
       wipe = 0 ∷ 0 ∷ [];
       wipes = 0;
@@ -192,7 +192,7 @@ appendRecord r s places moves n frame =
       since = s .since;
       size = n;
     })
-    0 headerLen frame
+    (starting 0 headerLen) frame
 
 -- a frame of n bytes, which stand in the buffer
 unfoldable pub appendIn : ℕ → Record → Survey → List ℕ → ℕ → List ℕ → Outcome

@@ -9,4 +9,4 @@ use Rattle.journal.proofs.hosts.with_host.Statement.{statement}
 use Rattle.journal.proofs.hosts.with_host.Tie as tie
 
 pub with-host-spec : {M : Type 1} → statement M
-with-host-spec = tie.close (tie.spec (λ c. search needs) (λ c. search needs) (λ c. search needs) (λ c. search needs) (λ c. let l : length (c .before .before .args .marks) ≡ 4 = search needs in let k : length (c .before .before .args .marks) ≤ c .before .before .args .host .0 = omega arith in sym (set-out _ _ _ k)))
+with-host-spec = tie.close (tie.spec (λ c. search needs) (λ c. search needs) (λ c. search needs) (λ c. search needs) (λ c. let l : length (c .before .before .args .numbers) ≡ 4 = search needs in let k : length (c .before .before .args .numbers) ≤ c .before .before .args .host .0 = omega arith in sym (set-out _ _ _ k)))

@@ -43,7 +43,7 @@ job-in-spec =
       c3 .byte-at6 .ensures,
       c .before .number-in .ensures,
       c .before .before .tail2 .ensures,
-      c9 .marks-in .ensures,
+      c9 .since-in .ensures,
       c10 .tail .ensures,
       c .byte-at7 .ensures,
     ) (simp getD-drop)))

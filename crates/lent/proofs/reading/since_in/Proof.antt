@@ -2,12 +2,12 @@
 use lib.Seq.{getD-drop}
 use borrow.Author.Needs.{needs}
 use Rattle.lent.specs.Layout.{wordsIn}
-use Rattle.lent.proofs.reading.marks_in.Statement.{statement}
-use Rattle.lent.proofs.reading.marks_in.Tie as tie
+use Rattle.lent.proofs.reading.since_in.Statement.{statement}
+use Rattle.lent.proofs.reading.since_in.Tie as tie
 
-pub marks-in-spec : {M : Type 1} → statement M
+pub since-in-spec : {M : Type 1} → statement M
 unfolding wordsIn
-marks-in-spec =
+since-in-spec =
     tie.close
     (tie.spec (λ c κs. search needs) (λ c κs. search needs) (λ c κs. search needs) (λ c κs. search needs) (λ c. rw
     (c .before .before .before .word-at .ensures, c .before .before .word-at2 .ensures, c .before .word-at3 .ensures, c .word-at4 .ensures) (simp getD-drop)))
