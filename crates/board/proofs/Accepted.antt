@@ -40,7 +40,8 @@ journal-fits s k img fs g =
 
 -- ---- format
 
-pub follows-format : (img : List ℕ) → allowed (length img) ≡ true → Follows exec img (enterWipe (formatJob img)) (formatPlan img) (idle (rest (length img - 1) 0 headerLen))
+pub follows-format : (img : List ℕ) → allowed (length img) ≡ true
+    → Follows exec img (enterWipe (formatJob img)) (formatPlan img) (idle (rest (length img - 1) 0 headerLen))
 unfolding writes encodeAll total
 follows-format img h =
     let j : Job = formatJob img .job in
@@ -80,7 +81,8 @@ follows-mount img x ks h here others g =
     subst (λ (b : Bool). Follows exec img (enterWipe r) (map erase ks ++ transferIf b k (x .time) st) (mountedAt b l x)) (sym t)
     (subst (λ (n : ℕ). Follows exec img (enterWipe r) (map erase ks ++ (onBlock (nextBlock k) (build n (framesOf st)) ++ (erase k ∷ []))) (mountedAt true l x))
     (ap (λ (b : Bool). newTime b (x .time)) t)
-    (subst (λ (n : ℕ). Follows exec img (enterWipe r) (map erase ks ++ (onBlock (nextBlock k) (build (r .job .time) (framesOf st)) ++ (erase k ∷ []))) (idle (rest l (nextBlock k) n))) end-is
+    (subst (λ (n : ℕ). Follows exec img (enterWipe r) (map erase ks ++ (onBlock (nextBlock k) (build (r .job .time) (framesOf st)) ++ (erase k ∷ [])))
+    (idle (rest l (nextBlock k) n))) end-is
     (subst (λ (ys : List Step). Follows exec img (enterWipe r) ys (idle (rest l (nextBlock k) (headerLen + total (framesOf st) + 0))))
     (no-append (nextBlock k) (headerLen + total (framesOf st)) (map erase ks) (onBlock (nextBlock k) (build (r .job .time) (framesOf st)) ++ (erase k ∷ [])))
     (follows-moving img l k e (placesOf (x .frames)) (r .job) 0 e [] ks (omega arith) (besides-blocks k ks others) has here (omega arith) (framesOf st) t

@@ -14,10 +14,15 @@ use Rattle.board.specs.Step.{enterAppend, enterDrop, enterCopy, enterOpe
 use Rattle.board.specs.Mount.{mountAt, mountFound, mountOn, formatOn}
 use Rattle.board.specs.Queue.{held, append, serveChange, serveEnd, serveLog, serve, requestOn}
 use Rattle.board.specs.Exec.{exec}
-use Rattle.board.specs.Rows.{drive, returned, ask, asked, cutIn, mounted, holds, timed, part, rowA, rowB, rowC, rowD, rowE, rowF, rowG, rowH, rowI, rowK, commitMessage, putMessage, formatAnswer, Rows}
+use Rattle.board.specs.Rows.{drive, returned, ask, asked, cutIn, mounted, replayed, timed, part, rowA, rowB, rowC, rowD, rowE, rowF}
+use Rattle.board.specs.Rows.{rowG, rowH, rowI, rowK, commitMessage, putMessage, formatAnswer, Rows}
 
 pub rows : Rows exec
-unfolding drive returned ask asked cutIn mounted holds timed part rowA rowB rowC rowD rowE rowF rowG rowH rowI rowK commitMessage putMessage formatAnswer allFF sameBytes writes encodeAll total match readFrame scan insert remove lookup changeAll listOf without isOpen replayFrom headerFault blockState noRoom sited placesFrom sinceFrom valueAt nextSettled nextPending nextLoad parse noPlaces noFrame enterAppend enterDrop enterCopy enterOpen enterWipe advance stepBusy stepOn mountAt mountFound mountOn formatOn held append serveChange serveEnd serveLog serve requestOn
+unfolding drive returned ask asked cutIn mounted replayed timed part rowA rowB rowC rowD rowE rowF rowG rowH rowI rowK commitMessage
+    putMessage formatAnswer allFF sameBytes writes encodeAll total match readFrame scan insert remove lookup changeAll listOf
+    without isOpen replayFrom headerFault blockState noRoom sited placesFrom sinceFrom valueAt nextSettled nextPending nextLoad
+    parse noPlaces noFrame enterAppend enterDrop enterCopy enterOpen enterWipe advance stepBusy stepOn mountAt mountFound mountOn
+    formatOn held append serveChange serveEnd serveLog serve requestOn
 rows =
     record {
       a-steps = refl;

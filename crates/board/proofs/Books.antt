@@ -12,7 +12,8 @@ use Rattle.frame.specs.Frame.{hostMax, Change, put, delete, Frame, change, comm
 use Rattle.journal.specs.Replay.{Entry, entry, State, nextState, listOf, without, isOpen, changeAll}
 use Rattle.journal.specs.Room.{claimed, openHosts, noRoom, spare}
 use Rattle.journal.proofs.Lists.{list-own, list-other, list-snoc, list-snoc-other, not-open}
-use Rattle.journal.proofs.Room.{host-is, kept, commit-room, abort-room, change-room, kept-change, kept-commit, kept-abort, kept-claimed, fewer-without, open-pos}
+use Rattle.journal.proofs.Room.{host-is, kept, commit-room, abort-room, change-room, kept-change, kept-commit, kept-abort, kept-claimed}
+use Rattle.journal.proofs.Room.{fewer-without, open-pos}
 use Rattle.board.specs.declared.Record.{Record}
 use Rattle.board.specs.Book.{Book, book, UnderWay, nothing, committing, withList, join, finishing}
 use Rattle.board.proofs.Invariant.{Lists, IdleBook}
@@ -71,7 +72,7 @@ idle-book {s} {img} {r} {st} {f} {b} e a =
     }
 
 -- what a request of host h finds: the state's room, and the book's objects and lists
-pub record Found (s : ℕ) (st : State) (b : Book) : Type 0 where
+pub record BookFits (s : ℕ) (st : State) (b : Book) : Type 0 where
   pub room : claimed st + endLen * openHosts (st .pending) ≤ s
   pub spare : kept st + (deleteLen + endLen) ≤ s
   pub objects : st .objects ≡ b .objects
@@ -82,7 +83,7 @@ pub record Found (s : ℕ) (st : State) (b : Book) : Type 0 where
 under-none : (P : Book → Type 0) (b : Book) → b .under ≡ nothing → P b → P (finishing b (b .under))
 under-none P b e x = subst (λ (w : UnderWay). P (finishing b w)) (sym e) x
 
-module _ {s : ℕ} {st : State} {b : Book} (y : Found s st b) (h : Host) (k : h .0 ≤ hostMax) where
+module _ {s : ℕ} {st : State} {b : Book} (y : BookFits s st b) (h : Host) (k : h .0 ≤ hostMax) where
   change-spare : (c : Change) → claimed st + frameLen (change h c) + endLen * openHosts (st .pending ++ (entry h c ∷ [])) + spare c ≤ s
       → kept (nextState st (change h c)) + (deleteLen + endLen) ≤ s
   change-spare (put i v) l = omega (arith, kept-change st h (put i v), kept-claimed st)

@@ -27,7 +27,8 @@ use Rattle.board.specs.Mount.{Store, allFound, wipeList, needsTransfer, 
 use Rattle.board.specs.Exec.{Call, request, step, mount, format, exec}
 use Rattle.board.specs.Plan.{formatPlan, mountPlan, mountedAt}
 use Rattle.board.specs.Book.{Book, book, nothing, formatting, noLists, firstBook, enterCall, enterFormat}
-use Rattle.board.specs.Claim.{IdleAgrees, Finishes, AgreesIn, Agrees, WornOut, MountSays, Says, trackMount, trackFormat, track, Run, stepsOn, formatted, ByteCall, ByteCalls, Claim}
+use Rattle.board.specs.Claim.{IdleAgrees, Finishes, AgreesIn, Agrees, WornOut, MountSays, Says, trackMount, trackFormat, track, Run}
+use Rattle.board.specs.Claim.{stepsOn, formatted, ByteCall, ByteCalls, Claim}
 use Rattle.board.proofs.Images.{Sized, size-of, sized-of, sized-as, length-all-steps, bytes-all-steps}
 use Rattle.board.proofs.Invariant.{Safe, IdleBook, InJob, InPhase, Inv}
 use Rattle.board.proofs.Outcomes.{format-begins}
@@ -40,13 +41,14 @@ use Rattle.board.proofs.Blocks.{wiped-besides}
 use Rattle.board.proofs.Lengths.{length-format}
 use Rattle.board.proofs.Replies.{journal-of}
 use Rattle.board.proofs.Formatting.{format-safe, format-ends}
-use Rattle.board.proofs.Deciding.{Taken, Holds, InTime, Outcome, worn-out, begins, mount-outcome, MountSafe, nothing-there, store-there, mount-safe}
+use Rattle.board.proofs.Deciding.{Taken, StoreThere, InTime, Outcome, worn-out, begins, mount-outcome, MountSafe, nothing-there, store-there, mount-safe}
 use Rattle.board.proofs.Mounting.{mount-keeps, mount-ends, mount-short}
 use Rattle.board.proofs.Requests.{Requested, request-keeps}
 
 -- ---- what the invariant gives between calls
 
-finishes : {s : ℕ} {P : Step → List ℕ → Type 0} {Q : List ℕ → Record → Type 0} {img : List ℕ} {r : Record} → Sized s img → InJob s P Q img r → Finishes exec img r
+finishes : {s : ℕ} {P : Step → List ℕ → Type 0} {Q : List ℕ → Record → Type 0} {img : List ℕ} {r : Record} → Sized s img → InJob s P Q img r
+    → Finishes exec img r
 finishes z j =
     record {
       plan = drop (j .count) (j .plan);
@@ -98,7 +100,8 @@ format-works : {s : ℕ} {img : List ℕ} (os : List Object) {u : Bool} → Size
     → (answerOf (enterWipe (formatJob img)) ≡ More) × Working s img (enterWipe (formatJob img)) (book os noLists formatting) true
 format-works {s} {img} os z f =
     let a : After s (applyAll s (formatPlan img) img) (idle (rest (length img - 1) 0 headerLen)) (state [] []) = format-ends z in
-    job-starts img (enterWipe (formatJob img)) (formatPlan img) (idle (rest (length img - 1) 0 headerLen)) (follows-format img (z .ok)) (omega (arith, length-format img))
+    job-starts img (enterWipe (formatJob img)) (formatPlan img) (idle (rest (length img - 1) 0 headerLen)) (follows-format img (z .ok))
+    (omega (arith, length-format img))
     (omega (arith, length-format img, z .low)) (format-safe z f) (empty-book (z .low) a) (ready-idle (a .ready))
 
 format-call : {s : ℕ} {img : List ℕ} {r : Record} {b : Book} {u : Bool} → Inv s img r b u → FormatKeeps s b u (formatOn img)
@@ -155,7 +158,7 @@ accepted-says o (inr e) =
     }
 
 module _ {s : ℕ} {img : List ℕ} {r : Record} {b : Book} {u : Bool} (v : Inv s img r b u) where
-  mount-begun : (x : Store) → Taken s img x → Holds s img x → Keeps s (replay (x .frames)) (b .objects) → Safe s img (b .objects) false → InTime x
+  mount-begun : (x : Store) → Taken s img x → StoreThere s img x → Keeps s (replay (x .frames)) (b .objects) → Safe s img (b .objects) false → InTime x
       → MountKeeps s img b u (begin img [] (mountJob img x (wipeList (x .number) (allFound img))))
   mount-begun x y h k f t =
       let ks : List ℕ = wipeList (x .number) (allFound img) in
@@ -178,7 +181,7 @@ module _ {s : ℕ} {img : List ℕ} {r : Record} {b : Book} {u : Bool} (v : Inv 
         accepted-says (out (answerOf g) img g []) (inr d),
       )
 
-  mount-found : (x : Store) → Taken s img x → Holds s img x → Keeps s (replay (x .frames)) (b .objects) → Safe s img (b .objects) false → Outcome img x
+  mount-found : (x : Store) → Taken s img x → StoreThere s img x → Keeps s (replay (x .frames)) (b .objects) → Safe s img (b .objects) false → Outcome img x
       → MountKeeps s img b u (mountOn img)
   mount-found x y h k f (worn-out w e) =
       subst (MountKeeps s img b u) (sym e)
@@ -214,11 +217,13 @@ run-holds v (c ∷ cs) (by, bys) = let y = call-keeps v c by in (agrees v, y .0,
 
 -- ---- from a finished format on
 
-format-done : {s : ℕ} {img : List ℕ} (r : Record) → Sized s img → formatted exec img r ≡ out Done (applyAll s (formatPlan img) img) (idle (rest (length img - 1) 0 headerLen)) []
+format-done : {s : ℕ} {img : List ℕ} (r : Record) → Sized s img
+    → formatted exec img r ≡ out Done (applyAll s (formatPlan img) img) (idle (rest (length img - 1) 0 headerLen)) []
 format-done {s} {img} r z =
     ap (stepsOn exec 12) (format-begins img (z .ok))
     ∙ ap (λ (n : ℕ). stepsOn exec n (begin img [] (formatJob img))) (sym (length-format img))
-    ∙ follows-steps exec (formatPlan img) (erase 0) (drop 1 (formatPlan img)) refl s (begin img [] (formatJob img)) (idle (rest (length img - 1) 0 headerLen)) (size-of z)
+    ∙ follows-steps exec (formatPlan img) (erase 0) (drop 1 (formatPlan img)) refl s (begin img [] (formatJob img))
+    (idle (rest (length img - 1) 0 headerLen)) (size-of z)
     (follows-format img (z .ok))
 
 -- the invariant after a finished format
@@ -234,5 +239,6 @@ formatted-inv img r by ok =
 pub claim : Claim exec
 unfolding Claim
 claim img r by ok =
-    let e : formatted exec img r ≡ out Done (applyAll (sizeOf img) (formatPlan img) img) (idle (rest (length img - 1) 0 headerLen)) [] = format-done r (sized-of img ok) in
+    let e : formatted exec img r ≡ out Done (applyAll (sizeOf img) (formatPlan img) img) (idle (rest (length img - 1) 0 headerLen)) [] =
+    format-done r (sized-of img ok) in
     (ap (λ (o : Out). o .answer) e, ap (λ (o : Out). o .board .phase) e, λ cs bs. run-holds (formatted-inv img r by ok) cs bs)

@@ -42,7 +42,8 @@ pub record Ended (s : ℕ) (l : Left) : Type 0 where
   pub unfinished : Bool
   pub inv : Inv s (l .image) (l .board) (l .book) unfinished
 
-pub run-ends : {s : ℕ} {img : List ℕ} {r : Record} {b : Book} {u : Bool} → Inv s img r b u → (cs : List Call) → ByteCalls cs → Ended s (afterAll exec img r b cs)
+pub run-ends : {s : ℕ} {img : List ℕ} {r : Record} {b : Book} {u : Bool} → Inv s img r b u → (cs : List Call) → ByteCalls cs
+    → Ended s (afterAll exec img r b cs)
 run-ends {s} {img} {r} {b} {u} v [] by = record { unfinished = u; inv = v }
 run-ends v (c ∷ cs) (by, bys) = run-ends (call-keeps v c by .1) cs bys
 
@@ -51,7 +52,8 @@ run-ends v (c ∷ cs) (by, bys) = run-ends (call-keeps v c by .1) cs bys
 format-part : {s : ℕ} {img : List ℕ} (j : ℕ) → Sized s img → j ≤ 12 → stepsOn exec j (formatOn img) .image ≡ applyAll s (take j (formatPlan img)) img
 format-part {s} {img} j z h =
     ap (λ (o : Out). stepsOn exec j o .image) (format-begins img (z .ok))
-    ∙ follows-part exec s j (formatPlan img) (begin img [] (formatJob img)) (idle (rest (length img - 1) 0 headerLen)) (size-of z) (omega (arith, length-format img))
+    ∙ follows-part exec s j (formatPlan img) (begin img [] (formatJob img)) (idle (rest (length img - 1) 0 headerLen)) (size-of z)
+    (omega (arith, length-format img))
     (follows-format img (z .ok))
 
 -- ---- what is left

@@ -137,9 +137,11 @@ module _ {s : ℕ} {img : List ℕ} (z : Sized s img) where
   decide inProgress blank p q = neither (quiet-both p q tt tt) (ap anyForeign (all-is p q)) (ap stores (all-is p q))
   decide inProgress inProgress p q = neither (quiet-both p q tt tt) (ap anyForeign (all-is p q)) (ap stores (all-is p q))
   decide (valid t fs c) blank p q = only (store 0 t fs c) (omega arith) p (older-second t blank q tt) (ap anyForeign (all-is p q)) (ap stores (all-is p q))
-  decide (valid t fs c) inProgress p q = only (store 0 t fs c) (omega arith) p (older-second t inProgress q tt) (ap anyForeign (all-is p q)) (ap stores (all-is p q))
+  decide (valid t fs c) inProgress p q =
+      only (store 0 t fs c) (omega arith) p (older-second t inProgress q tt) (ap anyForeign (all-is p q)) (ap stores (all-is p q))
   decide blank (valid t fs c) p q = only (store 1 t fs c) (omega arith) q (older-first t blank p tt) (ap anyForeign (all-is p q)) (ap stores (all-is p q))
-  decide inProgress (valid t fs c) p q = only (store 1 t fs c) (omega arith) q (older-first t inProgress p tt) (ap anyForeign (all-is p q)) (ap stores (all-is p q))
+  decide inProgress (valid t fs c) p q =
+      only (store 1 t fs c) (omega arith) q (older-first t inProgress p tt) (ap anyForeign (all-is p q)) (ap stores (all-is p q))
   decide (valid t fs c) (valid t′ gs d) p q = both t t′ fs gs c d p q
 
   pub mount-decides : Decided s img
@@ -174,10 +176,10 @@ pub data Outcome (img : List ℕ) (x : Store) : Type 0 where
   begins : InTime x → mountOn img ≡ begin img [] (mountJob img x (wipeList (x .number) (allFound img)))
       → Outcome img x
 
-abbrev pub Holds : ℕ → List ℕ → Store → Type 0
-Holds s img x = Contents (block s (x .number) img) (x .time) (x .frames) (x .tail)
+abbrev pub StoreThere : ℕ → List ℕ → Store → Type 0
+StoreThere s img x = Contents (block s (x .number) img) (x .time) (x .frames) (x .tail)
 
-pub mount-outcome : {s : ℕ} {img : List ℕ} (x : Store) → Sized s img → Taken s img x → Holds s img x → Outcome img x
+pub mount-outcome : {s : ℕ} {img : List ℕ} (x : Store) → Sized s img → Taken s img x → StoreThere s img x → Outcome img x
 mount-outcome {s} {img} x z k y =
     let n : Bool = needsTransfer (x .frames) (x .tail) in
     let e : Bool = eqb (x .time) lastTime in
@@ -200,7 +202,7 @@ mount-outcome {s} {img} x z k y =
 
 -- ---- on any image
 
-pub taken-holds : {s : ℕ} {img : List ℕ} (x : Store) → Sized s img → Bytes img → Taken s img x → Holds s img x
+pub taken-holds : {s : ℕ} {img : List ℕ} (x : Store) → Sized s img → Bytes img → Taken s img x → StoreThere s img x
 taken-holds {s} {img} x z y k =
     valid-inv (block s (x .number) img) (x .time) (x .frames) (x .tail) (bytes-block s (x .number) img y)
     (omega (arith, block-long (x .number) z (k .there), z .low)) (k .is-valid)
@@ -209,7 +211,7 @@ taken-holds {s} {img} x z y k =
 pub record Begins (s : ℕ) (img : List ℕ) : Type 0 where
   pub store : Store
   pub taken : Taken s img store
-  pub holds : Holds s img store
+  pub holds : StoreThere s img store
   pub in-time : InTime store
   pub begins : mountOn img ≡ begin img [] (mountJob img store (wipeList (store .number) (allFound img)))
 
@@ -260,7 +262,7 @@ mount-worn-out {s} {img} z y e = go (mount-decides z)
 
 pub data MountSafe (s : ℕ) (img : List ℕ) (os : List Object) (u : Bool) : Type 0 where
   nothing-there : u ≡ true → mountOn img ≡ refuse refusal.NoStore img unmounted [] → MountSafe s img os u
-  store-there : (x : Store) → Taken s img x → Holds s img x → Keeps s (replay (x .frames)) os → Safe s img os false → MountSafe s img os u
+  store-there : (x : Store) → Taken s img x → StoreThere s img x → Keeps s (replay (x .frames)) os → Safe s img os false → MountSafe s img os u
 
 pub mount-safe : {s : ℕ} {img : List ℕ} {os : List Object} {u : Bool} → Sized s img → Safe s img os u → MountSafe s img os u
 mount-safe {s} {img} {os} {u} z f = go (mount-decides z)

@@ -205,7 +205,8 @@ format-kept : {s : ℕ} {img : List ℕ} → Sized s img → Bytes img → Stead
 format-kept {s} {img} z by =
     let a : After s (applyAll s (formatPlan img) img) (idle (rest (length img - 1) 0 headerLen)) (state [] []) = format-ends z in
     let j : (answerOf (enterWipe (formatJob img)) ≡ More) × InJob s (StepLands s) (Ready s) img (enterWipe (formatJob img)) =
-    job-starts img (enterWipe (formatJob img)) (formatPlan img) (idle (rest (length img - 1) 0 headerLen)) (follows-format img (z .ok)) (omega (arith, length-format img))
+    job-starts img (enterWipe (formatJob img)) (formatPlan img) (idle (rest (length img - 1) 0 headerLen)) (follows-format img (z .ok))
+    (omega (arith, length-format img))
     (omega (arith, length-format img, z .low)) (format-lands z) (a .ready) (ready-idle (a .ready)) in
     subst (λ (o : Out). Steady s img (o .board)) (sym (format-begins img (z .ok))) (steady-busy z by (enterWipe (formatJob img)) (j .0) (j .1))
 

@@ -34,7 +34,9 @@ use Rattle.board.specs.Demand1.{Rests}
 use Rattle.board.specs.Demand2.{Accepted}
 use Rattle.board.specs.Claim.{ByteCall, ByteCalls}
 use Rattle.wire.specs.Sentences.{Means, MessagesExact, MalformedExact}
-use Rattle.board.specs.Promise.{Machine, replyFor, stretchFor, Answers, Serves, Job, frame-job, mount-job, format-job, Calls, Shown, restingIn, shownRecord, shown, trace, Begins, PromiseDetermines, PromiseDeterminesFrom, PromiseDeterminesCall}
+use Rattle.board.specs.Promise.{Machine, replyFor, stretchFor, Answers, Serves, Job, frame-job, mount-job, format-job, Calls, Shown}
+use Rattle.board.specs.Promise.{restingIn, shownRecord, shown, trace, Begins, PromiseDetermines, PromiseDeterminesFrom}
+use Rattle.board.specs.Promise.{PromiseDeterminesCall}
 use Rattle.board.proofs.Answering.{number-injective, number-accepted, Both, both-taken, both-refused, same-lines, told-answer, whole, whole-is, in-job}
 use Rattle.board.proofs.Tabling.{is-allowed}
 use Rattle.board.proofs.TablingMounts.{Mountable, mount-lines, accepted-takes}

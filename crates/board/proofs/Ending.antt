@@ -25,7 +25,9 @@ use Rattle.board.specs.Record.{inStage, Out, rest}
 use Rattle.board.specs.Step.{landed, enterAppend, enterDrop, enterCopy, enterOpen, action, pastFrame, advance, stepOn}
 use Rattle.board.specs.Exec.{exec}
 use Rattle.board.specs.Demand1.{Declared, Rests, EndsWithin}
-use Rattle.board.proofs.Outcomes.{nextFor, open-enters, open-skips, copy-loads, copy-ends, drop-enters, drop-skips, append-enters, append-skips, wipe-next, wipe-last, open-next, open-last, copy-next, copy-last, seal-next, seal-last, drop-last, append-next, append-last, step-outside, step-goes}
+use Rattle.board.proofs.Outcomes.{nextFor, open-enters, open-skips, copy-loads, copy-ends, drop-enters, drop-skips, append-enters}
+use Rattle.board.proofs.Outcomes.{append-skips, wipe-next, wipe-last, open-next, open-last, copy-next, copy-last, seal-next}
+use Rattle.board.proofs.Outcomes.{seal-last, drop-last, append-next, append-last, step-outside, step-goes}
 
 -- ---- a bound on the calls left, in blocks of z bytes: every stage's own, and those of the stages that may follow
 

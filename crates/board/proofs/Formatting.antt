@@ -141,7 +141,8 @@ module _ {s : ℕ} {img : List ℕ} (z : Sized s img) where
   pub format-ends : After s (applyAll s (formatPlan img) img) (idle (rest (length img - 1) 0 headerLen)) (state [] [])
   unfolding total replayFrom isOpen
   format-ends =
-      alone-after (length img - 1) (state [] []) format-alone (omega (arith, length-all-steps s (formatPlan img) img, z .two, z .low)) refl (omega (arith, z .low))
+      alone-after (length img - 1) (state [] []) format-alone (omega (arith, length-all-steps s (formatPlan img) img, z .two, z .low)) refl
+      (omega (arith, z .low))
 
 -- "On an image the store left, a cut format leaves the old settled objects, no store, or the empty store": after j of the steps.
 -- A mount finds the objects where an image is safe and no format is unfinished.

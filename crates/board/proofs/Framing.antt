@@ -28,13 +28,13 @@ use Rattle.board.proofs.Appending.{Fits, append-lands, append-safe, app
 use Rattle.board.proofs.Transferring.{Moves, transfer-lands, transfer-safe, transfer-alone}
 
 -- the image is as an idle record says, and what its block holds is this
-pub record Holds (s : ℕ) (img : List ℕ) (r : Record) (x : Held) : Type 0 where
+pub record AsRecorded (s : ℕ) (img : List ℕ) (r : Record) (x : Held) : Type 0 where
   pub alone : Alone s img (r .block) (x .time) (x .frames) clean
   pub ends : endOf (x .frames) ≡ r .end
   pub long : length img ≡ suc (r .last)
 
 pub ready-holds : {s : ℕ} {img : List ℕ} {r : Record} {x : Held} → Sized s img → (y : Ready s img r) → y .time ≡ x .time → y .frames ≡ x .frames
-    → Holds s img r x
+    → AsRecorded s img r x
 ready-holds {s} {img} {r} {x} z y t e =
     record {
       alone = subst₃ (λ (k n : ℕ) (fs : List Frame). Alone s img k n fs clean) (sym (ap (λ (q : Record). q .block) (y .is))) t e (ready-alone z y);
@@ -49,7 +49,7 @@ pub record Appendable (s : ℕ) (img : List ℕ) (r : Record) (x : Held) (f : Fr
   pub fits : claimed (replay (x .frames)) + frameLen f ≤ s
   pub young : needsRoom img r f ≡ true → x .time < lastTime
 
-module _ {s : ℕ} {img : List ℕ} {r : Record} {x : Held} {f : Frame} (h : Holds s img r x) (y : Appendable s img r x f) where
+module _ {s : ℕ} {img : List ℕ} {r : Record} {x : Held} {f : Frame} (h : AsRecorded s img r x) (y : Appendable s img r x f) where
   abbrev st : State
   st = replay (x .frames)
 
@@ -111,6 +111,7 @@ module _ {s : ℕ} {img : List ℕ} {r : Record} {x : Held} {f : Frame} (h : Hol
           let long : length moved ≡ suc (r .last) = length-all-steps s (transferPlan (r .block) (x .time) st) img ∙ h .long in
           subst (λ (i : List ℕ). After s i (idle (rest (r .last) k (claimed st + frameLen f))) (nextState st f))
           (sym (apply-append s (transferPlan (r .block) (x .time) st) (appendPlan k (claimed st) f) img))
-          (subst₂ (λ (n : ℕ) (z : State). After s (applyAll s (appendPlan k n f) moved) (idle (rest (r .last) k (n + frameLen f))) (nextState z f)) (frames-total st)
+          (subst₂ (λ (n : ℕ) (z : State). After s (applyAll s (appendPlan k n f) moved) (idle (rest (r .last) k (n + frameLen f))) (nextState z f))
+          (frames-total st)
           (replay-framesOf st)
           (append-ends (new e) f after (r .last) long (subst (λ (z : State). Roomy s (nextState z f)) (sym (replay-framesOf st)) room)))

@@ -76,7 +76,8 @@ module _ (img : List ℕ) (r : Record) (x : Held) (by : Bytes img) (ok : allowed
         length-is = eqb-true (length img) (suc (r .last))
             (and-left (eqb (length img) (suc (r .last))) (ltb (r .block) blocks && othersBlank (r .block) img blockNumbers) same);
         there = there;
-        is-valid = states-exact .is-valid (block s (r .block) img) (x .time) (x .frames) clean (bytes-block s (r .block) img by) (long-block (r .block) there) .0
+        is-valid = states-exact .is-valid (block s (r .block) img) (x .time) (x .frames) clean (bytes-block s (r .block) img by)
+            (long-block (r .block) there) .0
             (p .is-valid);
         ends = eqb-true (endOf (x .frames)) (r .end) (and-left (eqb (endOf (x .frames)) (r .end)) c (p .fits));
         others-blank = λ j h n. blank-there j h n (othersOf (v .0) j h n);
@@ -97,7 +98,8 @@ module _ (img : List ℕ) (r : Record) (x : Held) (by : Bytes img) (ok : allowed
       (eq-eqb (length img) (suc (r .last)) (y .length-is))
       (and-both (ltb (r .block) blocks) (othersBlank (r .block) img blockNumbers) (lt-ltb (r .block) blocks (y .there))
       (others-are (r .block) img (λ j h n. blank-means (block s j img) (y .others-blank j h n)))))
-      (states-exact .is-valid (block s (r .block) img) (x .time) (x .frames) clean (bytes-block s (r .block) img by) (long-block (r .block) (y .there)) .1 (y .is-valid))
+      (states-exact .is-valid (block s (r .block) img) (x .time) (x .frames) clean (bytes-block s (r .block) img by) (long-block (r .block) (y .there)) .1
+      (y .is-valid))
       (and-both (eqb (endOf (x .frames)) (r .end)) (leb (claimed (replay (x .frames)) + endLen * openHosts (replay (x .frames) .pending)) s)
       (eq-eqb (endOf (x .frames)) (r .end) (y .ends))
       (le-leb (claimed (replay (x .frames)) + endLen * openHosts (replay (x .frames) .pending)) s (y .room)))

@@ -76,8 +76,10 @@ pub held-inv : {s : ℕ} {img : List ℕ} {x : Held} (r : Record) → Sized s im
 held-inv {s} {img} {x} r z b e =
     let p : Passed s img r x = passed z e in
     let k : ℕ = r .block in
-    let long : eqb (length img) (suc (r .last)) ≡ true = and-left (eqb (length img) (suc (r .last))) (ltb k blocks && othersBlank k img blockNumbers) (p .same) in
-    let rest : (ltb k blocks && othersBlank k img blockNumbers) ≡ true = and-right (eqb (length img) (suc (r .last))) (ltb k blocks && othersBlank k img blockNumbers) (p .same) in
+    let long : eqb (length img) (suc (r .last)) ≡ true =
+    and-left (eqb (length img) (suc (r .last))) (ltb k blocks && othersBlank k img blockNumbers) (p .same) in
+    let rest : (ltb k blocks && othersBlank k img blockNumbers) ≡ true =
+    and-right (eqb (length img) (suc (r .last))) (ltb k blocks && othersBlank k img blockNumbers) (p .same) in
     let there : k < blocks = ltb-true k blocks (and-left (ltb k blocks) (othersBlank k img blockNumbers) rest) in
     let others : othersBlank k img blockNumbers ≡ true = and-right (ltb k blocks) (othersBlank k img blockNumbers) rest in
     let n : length (block s k img) ≡ s = length-block s k img (sized-block k z there) in
@@ -93,7 +95,8 @@ held-inv {s} {img} {x} r z b e =
         time = x .time;
         frames = x .frames;
         contents = valid-inv (block s k img) (x .time) (x .frames) clean (bytes-block s k img b) (omega (arith, z .low)) (p .is-valid);
-        ends = sym (eqb-true (endOf (x .frames)) (r .end) (and-left (eqb (endOf (x .frames)) (r .end)) (leb (claimed (replay (x .frames)) + endLen * openHosts (replay (x .frames) .pending)) s) (p .fits)));
+        ends = sym (eqb-true (endOf (x .frames)) (r .end) (and-left (eqb (endOf (x .frames)) (r .end))
+            (leb (claimed (replay (x .frames)) + endLen * openHosts (replay (x .frames) .pending)) s) (p .fits)));
         room = leb-true (claimed (replay (x .frames)) + endLen * openHosts (replay (x .frames) .pending)) s room;
         others = blanks k others;
       },

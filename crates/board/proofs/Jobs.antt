@@ -54,7 +54,8 @@ job-step {s} {P} {Q} {img} {r} z y =
     let x : Step = getD (y .plan) (y .count) (erase 0) in
     let rest : List Step = drop (suc (y .count)) (y .plan) in
     let f : Onward s img r x rest (y .last) =
-    onward s img r x rest (y .last) (size-of z) (subst (λ (l : List Step). Follows exec img r l (y .last)) (drop-cons (y .plan) (y .count) (erase 0) (y .begun)) (y .follows)) in
+    onward s img r x rest (y .last) (size-of z) (subst (λ (l : List Step). Follows exec img r l (y .last))
+    (drop-cons (y .plan) (y .count) (erase 0) (y .begun)) (y .follows)) in
     let i : apply s x img ≡ applyAll s (take (suc (y .count)) (y .plan)) (y .start) =
     ap (apply s x) (y .now) ∙ one-more s (y .plan) (y .count) (y .start) (y .begun) in
     record {
@@ -85,7 +86,8 @@ job-step {s} {P} {Q} {img} {r} z y =
           (λ t.
           let h : length (y .plan) ≤ suc (y .count) = ltb-false (suc (y .count)) (length (y .plan)) t in
           let e : f .0 ≡ y .last = subst (λ (l : List Step). Follows exec (apply s x img) (f .0) l (y .last)) (drop-of-length-le (y .plan) h) (f .2) in
-          let j : applyAll s (y .plan) (y .start) ≡ apply s x img = sym (i ∙ ap (λ (l : List Step). applyAll s l (y .start)) (take-all (suc (y .count)) (y .plan) h)) in
+          let j : applyAll s (y .plan) (y .start) ≡ apply s x img =
+          sym (i ∙ ap (λ (l : List Step). applyAll s l (y .start)) (take-all (suc (y .count)) (y .plan) h)) in
           inr (
             idle-done (f .0 .phase) (ap (λ (q : Record). q .phase) e ∙ y .rests),
             subst (Q (apply s x img)) (sym e) (subst (λ (l : List ℕ). Q l (y .last)) j (y .ends)),

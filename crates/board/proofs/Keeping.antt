@@ -112,7 +112,8 @@ abbrev Then : ℕ → Book → Bool → List ℕ → Record → Type 0
 Then s b u img r =
     ((answerOf r ≡ More) × Working s img r b u) ⊎ ((answerOf r ≡ Done) × IdleBook s img r (finishing b (b .under)))
 
-then-keeps : (s : ℕ) (b : Book) (u : Bool) (img : List ℕ) (r : Record) → Sized s img → Bytes img → Then s b u img r → StepKeeps s b u (out (answerOf r) img r [])
+then-keeps : (s : ℕ) (b : Book) (u : Bool) (img : List ℕ) (r : Record) → Sized s img → Bytes img → Then s b u img r
+    → StepKeeps s b u (out (answerOf r) img r [])
 then-keeps s b u img r z y (inl (m, j)) = (
   subst (λ (a : Answer). Inv s img r (enterStep b a) (trackStep u (b .under) a)) (sym m)
       (subst (λ (w : Bool). Inv s img r b w) (sym (track-more u (b .under))) (inv-busy r z y m j)),

@@ -23,7 +23,7 @@ use Rattle.board.proofs.Prefixes.{Each, each-append}
 use Rattle.board.proofs.Current.{Alone, After, Keeps, alone-after, valid-of, keeps-settled}
 use Rattle.board.proofs.Erasing.{erases-land, erases-safe, erases-alone}
 use Rattle.board.proofs.Transferring.{transfer-lands, transfer-safe, transferred, moves-settled, roomy-settled}
-use Rattle.board.proofs.Deciding.{Holds, InTime}
+use Rattle.board.proofs.Deciding.{StoreThere, InTime}
 use Rattle.board.proofs.Wiping.{wipes-others, wipes-few}
 
 -- ---- where no transfer is due
@@ -44,7 +44,7 @@ needs-none fs (bad f) e = absurd (false≢true (sym e))
 
 -- ---- the plan
 
-module _ {s : ℕ} {img : List ℕ} (x : Store) (z : Sized s img) (h : x .number < blocks) (y : Holds s img x) (t : InTime x) where
+module _ {s : ℕ} {img : List ℕ} (x : Store) (z : Sized s img) (h : x .number < blocks) (y : StoreThere s img x) (t : InTime x) where
   abbrev ks : List ℕ
   ks = wipeList (x .number) (allFound img)
 

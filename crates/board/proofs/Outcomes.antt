@@ -27,9 +27,12 @@ use Rattle.board.specs.declared.Phase.{Phase}
 use Rattle.board.specs.declared.Phase.the-variants.{Unmounted, Idle, Busy}
 use Rattle.board.specs.declared.Record.{Record}
 use Rattle.board.specs.Record.{allowed, unmounted, rest, idle, inStage, out, refuse}
-use Rattle.board.specs.Step.{enter, enterAppend, landed, enterDrop, loaded, enterCopy, enterOpen, enterWipe, begin, action, nextIndex, nextByte, pastFrame, advance, stepped, stepBusy, stepIn, stepOn}
-use Rattle.board.specs.Mount.{allFound, anyForeign, Found, Store, stores, equalTimes, newest, wipeList, needsTransfer, mountJob, mountAt, mountStores, mountFound, mountOn, formatJob, formatOn}
-use Rattle.board.specs.Queue.{Held, held, needsRoom, appendJob, append, serveChange, serveEnd, placeOf, serveLog, serve, serveParsed, serveHeld, requestIn, requestOn}
+use Rattle.board.specs.Step.{enter, enterAppend, landed, enterDrop, loaded, enterCopy, enterOpen, enterWipe, begin, action}
+use Rattle.board.specs.Step.{nextIndex, nextByte, pastFrame, advance, stepped, stepBusy, stepIn, stepOn}
+use Rattle.board.specs.Mount.{allFound, anyForeign, Found, Store, stores, equalTimes, newest, wipeList, needsTransfer, mountJob}
+use Rattle.board.specs.Mount.{mountAt, mountStores, mountFound, mountOn, formatJob, formatOn}
+use Rattle.board.specs.Queue.{Held, held, needsRoom, appendJob, append, serveChange, serveEnd, placeOf, serveLog, serve}
+use Rattle.board.specs.Queue.{serveParsed, serveHeld, requestIn, requestOn}
 use Rattle.board.specs.Demand1.{Rests}
 
 -- ---- a frame appended

@@ -147,7 +147,8 @@ module _ (l s : ℕ) (half : suc l / blocks ≡ s) (k e : ℕ) (places : List �
       let done : Record = idle (rest l (j .target) (a + m + total fs + length bytes)) in
       subst
       (λ (x : ℕ).
-      Follows exec img (enterCopy img r) (onBlock (j .target) (writes a (encodeAll (f ∷ fs))) ++ sealing j k bytes x) (idle (rest l (j .target) (x + length bytes)))) t
+      Follows exec img (enterCopy img r) (onBlock (j .target) (writes a (encodeAll (f ∷ fs))) ++ sealing j k bytes x)
+      (idle (rest l (j .target) (x + length bytes)))) t
       (subst (λ (xs : List Step). Follows exec img (enterCopy img r) xs done) (sym (copy-cons (j .target) a f fs (sealing j k bytes (a + m + total fs))))
       (subst (λ (x : Record). Follows exec img x (onBlock (j .target) (writes a (encode f)) ++ tail) done)
       (sym (next-frame b img st i a d so z o u (some (load f d′ so′)) q h n))

@@ -127,7 +127,8 @@ module _ (l s : ℕ) (half : suc l / blocks ≡ s) where
         (λ t.
         subst (λ (b : Bool). Follows exec img (cond b (enter Append r) (idle (rest l k e))) steps done) (sym t)
         (subst (λ (xs : List Step). Follows exec img (enter Append r) xs done) (append-nil steps)
-        (follows-stage l s Append (λ i. jobAt l k e places j (buffer bytes) Append (cursor i (c .at) (c .id) (c .source) (c .size) (c .off)) u) (λ i. done) steps
+        (follows-stage l s Append (λ i. jobAt l k e places j (buffer bytes) Append (cursor i (c .at) (c .id) (c .source) (c .size) (c .off)) u)
+        (λ i. done) steps
         (program k 0 0) half (appends (c .at) (c .id) (c .source) (c .size) (c .off) u) [] done (length bytes - 1) img
         (omega (arith, length-steps k e bytes, ltb-true 0 (j .size) t)) q refl)))
         (λ t.
@@ -172,7 +173,11 @@ module _ (l s : ℕ) (half : suc l / blocks ≡ s) where
           last = λ i. refl;
           acts = λ i h. sym (List·getD-map (writeStep (j .target)) (sealWrites (j .time)) i (write stateAt validData));
           inside = marks-inside s (j .target) (sealWrites (j .time)) (write stateAt validData) there
-              (λ i h. omega (arith, seal-at (j .time) i (omega (arith, length-map (sealWrites (j .time)) (writeStep (j .target)), length-seal (j .target) (j .time)))));
+              (λ i h. omega (
+                arith,
+                seal-at (j .time) i (omega
+                    (arith, length-map (sealWrites (j .time)) (writeStep (j .target)), length-seal (j .target) (j .time))),
+              ));
           goes = λ i img h. onward-on Seal markWrites (r i) (enterDrop (r i)) (omega (arith, length-seal (j .target) (j .time)));
           ends = λ i img h.
               let n : i ≡ 4 = omega (arith, length-seal (j .target) (j .time)) in
@@ -180,7 +185,8 @@ module _ (l s : ℕ) (half : suc l / blocks ≡ s) where
         }
 
     pub follows-seal : (st : Stage) (i a d so z o : ℕ) (u img : List ℕ) → length img ≡ suc l → headerLen ≤ s → a + length bytes ≤ s
-        → Follows exec img (enter Seal (jobAt l k e places j (buffer bytes) st (cursor i a d so z o) u)) (sealing j k bytes a) (idle (rest l (j .target) (a + length bytes)))
+        → Follows exec img (enter Seal (jobAt l k e places j (buffer bytes) st (cursor i a d so z o) u)) (sealing j k bytes a)
+        (idle (rest l (j .target) (a + length bytes)))
     follows-seal st i a d so z o u img q p room =
         let steps : List Step = onBlock (j .target) (sealWrites (j .time)) in
         follows-stage l s Seal (λ n. jobAt l k e places j (buffer bytes) Seal (cursor n a d so z o) u)

@@ -67,13 +67,15 @@ module _ (l s : ℕ) (half : suc l / blocks ≡ s) (ks : List ℕ) (there : Bloc
       on-test (ltb 0 (j .wipes))
       (λ t.
       subst (λ (b : Bool). Follows exec img (cond b (enter Wipe r) (enterOpen r)) (xs ++ tail) done) (sym t)
-      (follows-stage l s Wipe (λ i. wiping a d so z o i u) (λ img. enterOpen (wiping a d so z o (length ks - 1) u)) xs (erase 0) half (wipes a d so z o u) tail done
+      (follows-stage l s Wipe (λ i. wiping a d so z o i u) (λ img. enterOpen (wiping a d so z o (length ks - 1) u)) xs (erase 0) half
+      (wipes a d so z o u) tail done
       (length ks - 1) img (omega (arith, length-map ks erase, ltb-true 0 (j .wipes) t)) q
       (f (length ks - 1) (applyAll s xs img) (length-all-steps s xs img ∙ q) refl)))
       (λ t.
       let none : xs ≡ [] = no-wipes ks (omega (arith, ltb-false 0 (j .wipes) t)) in
       subst (λ (b : Bool). Follows exec img (cond b (enter Wipe r) (enterOpen r)) (xs ++ tail) done) (sym t)
-      (subst (λ (ys : List Step). Follows exec img (enterOpen r) (ys ++ tail) done) (sym none) (f 0 img q (ap (λ (ys : List Step). applyAll s ys img) (sym none)))))
+      (subst (λ (ys : List Step). Follows exec img (enterOpen r) (ys ++ tail) done) (sym none)
+      (f 0 img q (ap (λ (ys : List Step). applyAll s ys img) (sym none)))))
 
 -- ---- the jobs
 
@@ -89,7 +91,8 @@ map-three : {A B : Type 0} (f : A → B) (ds bs cs : List A) (xs ys : List B)
 map-three f ds bs cs xs ys = simp (map-append, append-assoc)
 
 built : (k time : ℕ) (fs : List Frame) (xs ys : List Step)
-    → (onBlock k (build time fs) ++ xs) ++ ys ≡ onBlock k openWrites ++ (onBlock k (writes headerLen (encodeAll fs)) ++ (onBlock k (sealWrites time) ++ (xs ++ ys)))
+    → (onBlock k (build time fs) ++ xs) ++ ys ≡ onBlock k openWrites ++
+    (onBlock k (writes headerLen (encodeAll fs)) ++ (onBlock k (sealWrites time) ++ (xs ++ ys)))
 built k time fs xs ys = map-three (writeStep k) openWrites (writes headerLen (encodeAll fs)) (sealWrites time) xs ys
 
 module _ (img : List ℕ) (l k e : ℕ) (places : List ℕ) (j : Job) (id source : ℕ) (bytes ks : List ℕ) (long : length img ≡ suc l) (there : Blocks ks)
@@ -98,7 +101,8 @@ module _ (img : List ℕ) (l k e : ℕ) (places : List ℕ) (j : Job) (id source
   half = ap (λ (n : ℕ). n / blocks) (sym long)
 
   pub follows-staying : j .moves ≡ false → e + length bytes ≤ sizeOf img
-      → Follows exec img (enterWipe (busy (rest l k e) places j (starting id source) bytes)) (map erase ks ++ onBlock k (writes e bytes)) (idle (rest l k (e + length bytes)))
+      → Follows exec img (enterWipe (busy (rest l k e) places j (starting id source) bytes)) (map erase ks ++ onBlock k (writes e bytes))
+      (idle (rest l k (e + length bytes)))
   unfolding enterOpen
   follows-staying t room =
       follows-wipe l (sizeOf img) half ks there (omega arith) k e places j (buffer bytes) (has .wipe) (has .wipes) headerLen id source 0 0 noFrame img
@@ -124,5 +128,6 @@ module _ (img : List ℕ) (l k e : ℕ) (places : List ℕ) (j : Job) (id source
       subst (λ (b : Bool). Follows exec img′ (cond b (enter Open r) (enterAppend r)) tail done) (sym t)
       (subst (λ (xs : List Step). Follows exec img′ (enter Open r) xs done)
       (sym (built (j .target) (j .time) fs (dropped j k) (onBlock (j .target) (writes (headerLen + total fs) bytes))))
-      (follows-open l s half k e places j bytes (has .size) here target apart header (block s k (applyAll s (map erase ks) img)) fs Wipe n headerLen id source 0 0 noFrame
+      (follows-open l s half k e places j bytes (has .size) here target apart header
+      (block s k (applyAll s (map erase ks) img)) fs Wipe n headerLen id source 0 0 noFrame
       img′ q′ (ap (block s k) p) y room)))

@@ -43,13 +43,15 @@ use Rattle.wire.proofs.Sentences.{messages-exact}
 use Rattle.board.proofs.Freshness.{fresh-exact}
 use Rattle.board.proofs.Images.{Sized, size-of, sized-of}
 use Rattle.board.proofs.Invariant.{StepLands, Ready, InJob}
-use Rattle.board.proofs.Outcomes.{append-worn, append-begins, change-refused, change-goes, end-goes, end-idle, log-short, log-done, serve-put, serve-delete, serve-commit, serve-abort, serve-log, read-none, read-some, request-length, request-host, request-in}
+use Rattle.board.proofs.Outcomes.{append-worn, append-begins, change-refused, change-goes, end-goes, end-idle, log-short, log-done}
+use Rattle.board.proofs.Outcomes.{serve-put, serve-delete, serve-commit, serve-abort, serve-log, read-none, read-some}
+use Rattle.board.proofs.Outcomes.{request-length, request-host, request-in}
 use Rattle.board.proofs.Current.{Roomy, After}
 use Rattle.board.proofs.Keeping.{ready-idle}
 use Rattle.board.proofs.Replies.{journal-of}
 use Rattle.board.proofs.Holding.{held-inv}
 use Rattle.board.proofs.Accepted.{follows-frame}
-use Rattle.board.proofs.Framing.{Holds, ready-holds, Appendable, frame-lands, frame-ends}
+use Rattle.board.proofs.Framing.{AsRecorded, ready-holds, Appendable, frame-lands, frame-ends}
 use Rattle.board.proofs.Requests.{legal}
 use Rattle.board.proofs.Serving.{Legal, frame-short, frame-starts}
 
@@ -231,10 +233,10 @@ module _ {s : ℕ} {img : List ℕ} {r : Record} {h : Host} {m : List ℕ} (z : 
   abbrev f : Frame
   f = y .frame
 
-  holds : Holds s img r x
+  holds : AsRecorded s img r x
   holds =
       let v : (w : Ready s img (idle (rest (r .last) (r .block) (r .end)))) × (w .time ≡ x .time) × (w .frames ≡ x .frames) = held-inv r z by (y .is-held) in
-      let w : Holds s img (idle (rest (r .last) (r .block) (r .end))) x = ready-holds z (v .0) (v .1) (v .2) in
+      let w : AsRecorded s img (idle (rest (r .last) (r .block) (r .end))) x = ready-holds z (v .0) (v .1) (v .2) in
       record { alone = w .alone; ends = w .ends; long = w .long }
 
   roomy : Roomy s (replay (x .frames))

@@ -45,7 +45,10 @@ use Rattle.board.proofs.Refusals.{refusals-untouched, at-most-one-step}
 use Rattle.board.proofs.Ending.{forged-ends}
 use Rattle.board.proofs.Demand2.{one-store}
 use Rattle.board.proofs.Accepted.{follows-format}
-use Rattle.board.proofs.Outcomes.{append-worn, append-begins, change-refused, change-goes, end-goes, end-idle, log-short, log-done, serve-put, serve-delete, serve-commit, serve-abort, serve-log, read-none, read-some, request-length, request-host, request-busy, request-unmounted, request-served, mount-length, format-length, format-begins, step-resting}
+use Rattle.board.proofs.Outcomes.{append-worn, append-begins, change-refused, change-goes, end-goes, end-idle, log-short, log-done}
+use Rattle.board.proofs.Outcomes.{serve-put, serve-delete, serve-commit, serve-abort, serve-log, read-none, read-some}
+use Rattle.board.proofs.Outcomes.{request-length, request-host, request-busy, request-unmounted, request-served, mount-length}
+use Rattle.board.proofs.Outcomes.{format-length, format-begins, step-resting}
 use Rattle.board.proofs.Planning.{Appends, Asked, jobOf, frame-begins, requests-planned, the-frame}
 use Rattle.board.proofs.Lengths.{length-format}
 use Rattle.wire.proofs.Sentences.{messages-exact}

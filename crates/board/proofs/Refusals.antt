@@ -32,13 +32,18 @@ use Rattle.board.specs.declared.Phase.the-variants.{Unmounted, Idle, Bus
 use Rattle.board.specs.declared.Record.{Record}
 use Rattle.board.specs.Record.{allowed, unmounted, Out, refuse, answerIn}
 use Rattle.board.specs.Step.{enterWipe, action, advance, stepOn}
-use Rattle.board.specs.Mount.{allFound, anyForeign, Found, Store, stores, equalTimes, newest, wipeList, needsTransfer, mountJob, mountAt, mountStores, mountOn, formatJob, formatOn}
+use Rattle.board.specs.Mount.{allFound, anyForeign, Found, Store, stores, equalTimes, newest, wipeList, needsTransfer, mountJob}
+use Rattle.board.specs.Mount.{mountAt, mountStores, mountOn, formatJob, formatOn}
 use Rattle.board.specs.Queue.{Held, held, needsRoom, appendJob, append, serveChange, serveEnd, serve, serveParsed, serveHeld, requestIn, requestOn}
 use Rattle.board.specs.Exec.{Call, request, step, mount, format, exec}
 use Rattle.board.specs.Table.{isBusy, isNone, frameIf}
 use Rattle.board.specs.Demand1.{Unchanged, OneStep, ImageAfter, Rests}
-use Rattle.board.proofs.Checks.{Check, check, firstOf, isUnmounted, isMalformed, worn, heldChecks, laterChecks, requestChecks, outside, noStore, wornStore, mountChecks, checks, refusalIn}
-use Rattle.board.proofs.Outcomes.{append-worn, append-begins, change-refused, change-goes, end-goes, end-idle, log-short, log-done, serve-put, serve-delete, serve-commit, serve-abort, serve-log, read-none, read-some, request-length, request-host, request-in, mount-length, mount-foreign, mount-stores, mount-worn, mount-begins, format-length, format-begins, step-resting, step-outside, step-goes}
+use Rattle.board.proofs.Checks.{Check, check, firstOf, isUnmounted, isMalformed, worn, heldChecks, laterChecks, requestChecks}
+use Rattle.board.proofs.Checks.{outside, noStore, wornStore, mountChecks, checks, refusalIn}
+use Rattle.board.proofs.Outcomes.{append-worn, append-begins, change-refused, change-goes, end-goes, end-idle, log-short, log-done}
+use Rattle.board.proofs.Outcomes.{serve-put, serve-delete, serve-commit, serve-abort, serve-log, read-none, read-some}
+use Rattle.board.proofs.Outcomes.{request-length, request-host, request-in, mount-length, mount-foreign, mount-stores, mount-worn}
+use Rattle.board.proofs.Outcomes.{mount-begins, format-length, format-begins, step-resting, step-outside, step-goes}
 
 -- ---- what is claimed of a call's outcome, against the lines of the table that are left
 

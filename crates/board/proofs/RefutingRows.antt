@@ -18,7 +18,7 @@ use Rattle.board.specs.declared.Record.{Record}
 use Rattle.board.specs.Record.{unmounted, Out}
 use Rattle.board.specs.Exec.{Call, request, step, mount, format, exec}
 use Rattle.board.specs.Demand1.{OneStep}
-use Rattle.board.specs.Rows.{Ran, ran, drive, returned, ask, asked, cutIn, mounted, holds, timed, part, rowA, rowB, rowC, rowD, rowE}
+use Rattle.board.specs.Rows.{Ran, ran, drive, returned, ask, asked, cutIn, mounted, replayed, timed, part, rowA, rowB, rowC, rowD, rowE}
 use Rattle.board.specs.Rows.{rowF, rowG, rowH, rowI, rowK, commitMessage, putMessage, formatAnswer, Rows}
 use Rattle.board.specs.Wrong.{Wrongly, offBench, byAnswer, onImage, RightOnBench}
 use Rattle.board.specs.Wrong.{refusesAll, refusesPuts, refusesHighIds, ownFormatsOnly, firstHalfOnly, hostFirst, refusalClears}
@@ -180,16 +180,16 @@ rows-kept w f =
       f-steps = ap (λ (x : Ran). x .steps) (same-f w) ∙ rows .f-steps;
       f-done = ap (λ (x : Ran). x .board) (same-f w) ∙ rows .f-done;
       f-time = ap (λ (x : Ran). timed 1 x) (same-f w) ∙ rows .f-time;
-      f-holds = ap (λ (x : Ran). holds 1 x) (same-f w) ∙ rows .f-holds;
+      f-holds = ap (λ (x : Ran). replayed 1 x) (same-f w) ∙ rows .f-holds;
       g-steps = ap (λ (x : Ran). x .steps) (same-g w) ∙ rows .g-steps;
       g-done = ap (λ (x : Ran). x .board) (same-g w) ∙ rows .g-done;
-      g-holds = ap (λ (x : Ran). holds 1 x) (same-g w) ∙ rows .g-holds;
+      g-holds = ap (λ (x : Ran). replayed 1 x) (same-g w) ∙ rows .g-holds;
       h-steps = ap (λ (x : Ran). x .steps) (same-h w) ∙ rows .h-steps;
       h-done = ap (λ (x : Ran). x .board) (same-h w) ∙ rows .h-done;
-      h-holds = ap (λ (x : Ran). holds 0 x) (same-h w) ∙ rows .h-holds;
+      h-holds = ap (λ (x : Ran). replayed 0 x) (same-h w) ∙ rows .h-holds;
       i-accepted = ap (λ (x : Out). x .answer) (same-ask w (same-a w) 0 (putMessage 1 64)) ∙ rows .i-accepted;
       i-done = ap (λ (x : Ran). x .board) (same-i w 64 .same) ∙ rows .i-done;
-      i-claimed = ap (λ (x : Ran). claimed (holds 0 x)) (same-i w 64 .same) ∙ rows .i-claimed;
+      i-claimed = ap (λ (x : Ran). claimed (replayed 0 x)) (same-i w 64 .same) ∙ rows .i-claimed;
       j = ap (λ (x : Out). x .answer) (same-ask w (same-i w 64) 0 (putMessage 4 0)) ∙ rows .j;
       k-refused = ap (λ (x : Out). x .answer) (same-ask w (same-k w 64) 0 (putMessage 4 0)) ∙ rows .k-refused;
       k-accepted = ap (λ (x : Out). x .answer) (same-ask w (same-k w 63) 0 (putMessage 4 0)) ∙ rows .k-accepted;

@@ -113,8 +113,10 @@ module _ {s : ℕ} {img : List ℕ} {r : Record} (z : Sized s img) (y : Ready s 
 
   pub log-says : (os : List Object) → replay (y .frames) .objects ≡ os → LogSays (served (Log Summary)) reply os
   log-says os e l =
-      subst (λ (x : List Object). (served (Log Summary) .answer ≡ Done) × (take 4 (drop 8 (served (Log Summary) .reply)) ≡ u16le (length x) ++ u16le (usedBy x))) e
+      subst (λ (x : List Object). (served (Log Summary) .answer ≡ Done) ×
+      (take 4 (drop 8 (served (Log Summary) .reply)) ≡ u16le (length x) ++ u16le (usedBy x))) e
       (on-test (ltb (length reply) pageLen)
       (λ t. absurd (omega (arith, ltb-true (length reply) pageLen t)))
-      (λ t. subst (λ (o : Out). (o .answer ≡ Done) × (take 4 (drop 8 (o .reply)) ≡ u16le (length (replay (y .frames) .objects)) ++ u16le (usedBy (replay (y .frames) .objects))))
+      (λ t. subst (λ (o : Out). (o .answer ≡ Done) × (take 4 (drop 8 (o .reply)) ≡ u16le (length (replay (y .frames) .objects)) ++ u16le
+      (usedBy (replay (y .frames) .objects))))
       (sym (serve-log img r reply h m (heldOf y) ∙ log-done img r reply (heldOf y) t)) (refl, refl)))

@@ -93,7 +93,8 @@ module _ {s : ℕ} {img : List ℕ} {r : Record} {b : Book} {u : Bool} (v : Inv 
           )
       go (Is a) q =
           let o : Out = serve img r reply h m (heldOf (y .ready)) a in
-          let w : Served s b u h m a o = served u (v .sized) (v .bytes) y reply h (leb-true (h .0) hostMax t) m a (legal h m a (leb-true (h .0) hostMax t) by q) in
+          let w : Served s b u h m a o = served u (v .sized) (v .bytes) y reply h (leb-true (h .0) hostMax t) m a
+          (legal h m a (leb-true (h .0) hostMax t) by q) in
           subst Is-had (sym (request-served img r reply h m (v .sized .ok) t (heldOf (y .ready)) a e (held-ready (v .sized) (y .ready)) q)) (
             (subst (λ (c : Book). Inv s (o .image) (o .board) c u) (entered-is b h m a (o .answer) q) (w .0), w .1, w .2),
             λ i j. subst (λ (p : Parsed). RequestSays p reply o b) (sym q) (idle-says y a q),

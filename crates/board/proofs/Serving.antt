@@ -35,16 +35,17 @@ use Rattle.board.specs.Book.{Book, book, withList, join, accept}
 use Rattle.board.specs.Claim.{Never}
 use Rattle.board.proofs.Images.{Sized, size-of}
 use Rattle.board.proofs.Invariant.{IdleBook, InJob, Inv}
-use Rattle.board.proofs.Outcomes.{append-worn, append-begins, change-refused, change-goes, end-goes, end-idle, log-short, log-done, serve-put, serve-delete, serve-commit, serve-abort, serve-log, read-none, read-some}
+use Rattle.board.proofs.Outcomes.{append-worn, append-begins, change-refused, change-goes, end-goes, end-idle, log-short, log-done}
+use Rattle.board.proofs.Outcomes.{serve-put, serve-delete, serve-commit, serve-abort, serve-log, read-none, read-some}
 use Rattle.board.proofs.Prefixes.{Each}
 use Rattle.board.proofs.Current.{After, Keeps}
 use Rattle.board.proofs.Jobs.{job-starts}
 use Rattle.board.proofs.Keeping.{Working, inv-idle, inv-busy, ready-idle}
 use Rattle.board.proofs.Replies.{heldOf, journal-of}
-use Rattle.board.proofs.Books.{Entered, idle-book, Found, entered-change, entered-commit, entered-abort, lists-none}
+use Rattle.board.proofs.Books.{Entered, idle-book, BookFits, entered-change, entered-commit, entered-abort, lists-none}
 use Rattle.board.proofs.Accepted.{follows-frame}
 use Rattle.board.proofs.Lengths.{length-frame-moved, length-frame-stayed}
-use Rattle.board.proofs.Framing.{Holds, ready-holds, Appendable, frame-safe, frame-ends}
+use Rattle.board.proofs.Framing.{AsRecorded, ready-holds, Appendable, frame-safe, frame-ends}
 
 -- ---- a frame job is begun
 
@@ -58,7 +59,7 @@ frame-some false k e x f = omega (arith, length-frame-stayed k e x f)
 
 -- whatever holds of each step and of the end: the job of a frame is begun
 pub frame-starts : {s : ℕ} {P : Step → List ℕ → Type 0} {Q : List ℕ → Record → Type 0} {img : List ℕ} (r : Record) (x : Held) (f : Frame)
-    → Sized s img → Holds s img r x → Appendable s img r x f → Each s P (framePlan (needsRoom img r f) (r .block) (r .end) x f) img
+    → Sized s img → AsRecorded s img r x → Appendable s img r x f → Each s P (framePlan (needsRoom img r f) (r .block) (r .end) x f) img
     → Q (applyAll s (framePlan (needsRoom img r f) (r .block) (r .end) x f) img) (framedAt (needsRoom img r f) (r .last) (r .block) (r .end) x f)
     → framedAt (needsRoom img r f) (r .last) (r .block) (r .end) x f .phase ≡ Idle
     → (answerOf (enterWipe (appendJob img r x f)) ≡ More) × InJob s P Q img (enterWipe (appendJob img r x f))
@@ -93,7 +94,7 @@ Legal h m (Read i) = Unit {0}
 Legal h m (Log p) = Unit {0}
 
 -- what is known of an idle record
-pub found : {s : ℕ} {img : List ℕ} {r : Record} {b : Book} (y : IdleBook s img r b) → Found s (replay (y .ready .frames)) b
+pub found : {s : ℕ} {img : List ℕ} {r : Record} {b : Book} (y : IdleBook s img r b) → BookFits s (replay (y .ready .frames)) b
 found y = record { room = y .ready .room; spare = y .spare; objects = y .objects; lists = y .lists; under = y .under }
 
 module _ {s : ℕ} {img : List ℕ} {r : Record} {b : Book} (u : Bool) (z : Sized s img) (by : Bytes img) (y : IdleBook s img r b) (reply : List ℕ) (h : Host)
@@ -111,13 +112,14 @@ module _ {s : ℕ} {img : List ℕ} {r : Record} {b : Book} (u : Bool) (z : Size
       → (needsRoom img r f && eqb (y .ready .time) lastTime) ≡ false → Served s b u h m q (begin img reply (appendJob img r x f))
   begun q f o g e os t =
       let b′ : Book = accept b h m q More in
-      let hold : Holds s img r x = ready-holds z (y .ready) refl refl in
+      let hold : AsRecorded s img r x = ready-holds z (y .ready) refl refl in
       let fit : Appendable s img r x f =
       record {
         host = o;
         legal = g;
         fits = e .fits;
-        young = λ n. let v : eqb (y .ready .time) lastTime ≡ false = rw n at t in omega (arith, eqb-false (y .ready .time) lastTime v, y .ready .contents .layout .time-hi);
+        young = λ n. let v : eqb (y .ready .time) lastTime ≡ false = rw n at t in omega
+            (arith, eqb-false (y .ready .time) lastTime v, y .ready .contents .layout .time-hi);
       } in
       let after : After s (applyAll s (framePlan (needsRoom img r f) (r .block) (r .end) x f) img)
       (framedAt (needsRoom img r f) (r .last) (r .block) (r .end) x f) (nextState st f) = frame-ends hold fit (e .room) in
@@ -200,4 +202,5 @@ module _ {s : ℕ} {img : List ℕ} {r : Record} {b : Book} (u : Bool) (z : Size
       on-test (ltb (length reply) pageLen)
       (λ t. subst (Served s b u h m (Log Summary)) (sym (serve-log img r reply h m x ∙ log-short img r reply x t))
       (refused (Log Summary) refusal.ShortReply (λ c. let w : _≡_ {A = ℕ} 0 1 = cc in omega arith) (λ c. let w : _≡_ {A = ℕ} 0 1 = cc in omega arith)))
-      (λ t. subst (Served s b u h m (Log Summary)) (sym (serve-log img r reply h m x ∙ log-done img r reply x t)) (done (Log Summary) (out Done img r (withPage (logPage (y .ready .time) (length (st .objects)) (used st) (sizeOf img)) reply)) refl refl refl y))
+      (λ t. subst (Served s b u h m (Log Summary)) (sym (serve-log img r reply h m x ∙ log-done img r reply x t))
+      (done (Log Summary) (out Done img r (withPage (logPage (y .ready .time) (length (st .objects)) (used st) (sizeOf img)) reply)) refl refl refl y))

@@ -35,10 +35,12 @@ use Rattle.board.specs.Record.{allowed}
 use Rattle.board.specs.Step.{action}
 use Rattle.board.specs.Queue.{Held, held, needsRoom}
 use Rattle.board.specs.Exec.{request, step, format, exec}
-use Rattle.board.specs.Table.{isBusy, isNone, frameFor, Line, line, Exactly, Allowed, InJob, Fresh, FreshExact, NoObject, ShortReply, NoRoom, for-put, for-delete, Worn, requestLines, Outside, Misplaced, linesOf}
+use Rattle.board.specs.Table.{isBusy, isNone, frameFor, Line, line, Exactly, Allowed, InJob, Fresh, FreshExact, NoObject}
+use Rattle.board.specs.Table.{ShortReply, NoRoom, for-put, for-delete, Worn, requestLines, Outside, Misplaced, linesOf}
 use Rattle.board.specs.Demand2.{Accepted}
 use Rattle.wire.specs.Sentences.{Means, MessagesExact, MalformedExact}
-use Rattle.board.proofs.Checks.{Check, check, firstOf, isUnmounted, isMalformed, noObject, shortReply, roomRule, worn, laterChecks, heldChecks, requestChecks, outside, refusalIn}
+use Rattle.board.proofs.Checks.{Check, check, firstOf, isUnmounted, isMalformed, noObject, shortReply, roomRule, worn, laterChecks}
+use Rattle.board.proofs.Checks.{heldChecks, requestChecks, outside, refusalIn}
 use Rattle.wire.proofs.Sentences.{messages-exact, malformed-exact}
 use Rattle.board.proofs.Freshness.{fresh-exact}
 use Rattle.board.proofs.Refusals.{refused-by-table}

@@ -36,7 +36,8 @@ use Rattle.board.proofs.Current.{block-long}
 use Rattle.board.proofs.Outcomes.{mount-length}
 use Rattle.board.proofs.Erasing.{SameValid, same-valid}
 use Rattle.board.proofs.Deciding as deciding
-use Rattle.board.proofs.Deciding.{Taken, Decided, Outcome, InTime, worn-out, begins, foreign-block, none-valid, at-store, mount-decides, mount-outcome, mount-accepted, taken-holds, taken-newest, taken-none-foreign}
+use Rattle.board.proofs.Deciding.{Taken, Decided, Outcome, InTime, worn-out, begins, foreign-block, none-valid, at-store}
+use Rattle.board.proofs.Deciding.{mount-decides, mount-outcome, mount-accepted, taken-holds, taken-newest, taken-none-foreign}
 use Rattle.board.proofs.Tabling.{false-true, allowed-is, is-allowed}
 
 -- ---- a transfer is due

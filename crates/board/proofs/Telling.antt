@@ -23,15 +23,19 @@ use Rattle.board.specs.declared.Phase.{Phase}
 use Rattle.board.specs.declared.Phase.the-variants.{Unmounted, Idle, Busy}
 use Rattle.board.specs.declared.Record.{Record}
 use Rattle.board.specs.Record.{allowed, restOf, idle, inStage, noStretch, Out, out, refuse, answerIn, answerOf}
-use Rattle.board.specs.Step.{enter, landed, loadOr, enterAppend, enterDrop, enterCopy, enterOpen, enterWipe, action, nextIndex, nextByte, pastFrame, advance, stepOn}
-use Rattle.board.specs.Mount.{allFound, anyForeign, Store, stores, equalTimes, newest, needsTransfer, wipeList, mountJob, mountAt, mountOn, formatJob, formatOn}
+use Rattle.board.specs.Step.{enter, landed, loadOr, enterAppend, enterDrop, enterCopy, enterOpen, enterWipe, action, nextIndex}
+use Rattle.board.specs.Step.{nextByte, pastFrame, advance, stepOn}
+use Rattle.board.specs.Mount.{allFound, anyForeign, Store, stores, equalTimes, newest, needsTransfer, wipeList, mountJob, mountAt}
+use Rattle.board.specs.Mount.{mountOn, formatJob, formatOn}
 use Rattle.board.specs.Queue.{requestOn}
 use Rattle.board.specs.Exec.{Call, request, step, mount, format, exec}
 use Rattle.board.specs.Demand1.{Rests}
 use Rattle.board.specs.Demand2.{Accepted}
 use Rattle.board.specs.Table.{InJob}
 use Rattle.board.specs.Promise.{NoStep, Tells, Silent}
-use Rattle.board.proofs.Outcomes.{request-length, request-host, request-busy, request-unmounted, mount-length, mount-foreign, mount-none, mount-equal, mount-at, mount-worn, mount-begins, format-length, format-begins, step-resting, step-outside, step-goes}
+use Rattle.board.proofs.Outcomes.{request-length, request-host, request-busy, request-unmounted, mount-length, mount-foreign}
+use Rattle.board.proofs.Outcomes.{mount-none, mount-equal, mount-at, mount-worn, mount-begins, format-length, format-begins}
+use Rattle.board.proofs.Outcomes.{step-resting, step-outside, step-goes}
 use Rattle.board.proofs.Planning.{Met, refused, done, begun, request-met}
 
 -- ---- a job leads to a record that is mounted

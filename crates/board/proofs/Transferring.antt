@@ -99,7 +99,8 @@ module _ {s k t : ℕ} {img : List ℕ} {fs : List Frame} {c : Tail} (a : Alone 
     where
       go : (j : ℕ) → j < length (copyWrites t st) → Lands (block s (nextBlock k) (during j)) (getD (copyWrites t st) j (write 0 0))
       go j h =
-          subst (λ (b : List ℕ). Lands b (getD (copyWrites t st) j (write 0 0))) (sym (made-part (take j (copyWrites t st)) (below-take s j (copyWrites t st) below)))
+          subst (λ (b : List ℕ). Lands b (getD (copyWrites t st) j (write 0 0)))
+          (sym (made-part (take j (copyWrites t st)) (below-take s j (copyWrites t st) below)))
           (lands s (suc t) j (framesOf st) (write 0 0) fits (x .stands) h)
 
   pub transfer-safe : {os : List Object} (u : Bool) → Keeps s (replay fs) os → Keeps s st os → Each s (λ y i. Safe s i os u) (transferPlan k t st) img

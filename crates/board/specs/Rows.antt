@@ -54,9 +54,9 @@ cutIn m r h msg n = drive m n 0 (ask m r h msg) .image
 unfoldable pub mounted : Machine → List ℕ → Ran
 mounted m img = drive m 300 0 (m img unmounted mount)
 
--- what a block of a run holds
-unfoldable pub holds : ℕ → Ran → State
-holds k r = replay (framesIn (blockState (block 256 k (r .image))))
+-- what a block of a run replays to
+unfoldable pub replayed : ℕ → Ran → State
+replayed k r = replay (framesIn (blockState (block 256 k (r .image))))
 
 -- a block's creation time
 unfoldable pub timed : ℕ → Ran → ℕ
@@ -133,16 +133,16 @@ pub record Rows (m : Machine) : Type 0 where
   pub f-steps : rowF m .steps ≡ 11
   pub f-done : rowF m .board ≡ idle (rest 511 1 16)
   pub f-time : timed 1 (rowF m) ≡ 2
-  pub f-holds : holds 1 (rowF m) ≡ state [] []
+  pub f-holds : replayed 1 (rowF m) ≡ state [] []
   pub g-steps : rowG m .steps ≡ 11
   pub g-done : rowG m .board ≡ idle (rest 511 1 16)
-  pub g-holds : holds 1 (rowG m) ≡ state [] []
+  pub g-holds : replayed 1 (rowG m) ≡ state [] []
   pub h-steps : rowH m .steps ≡ 0
   pub h-done : rowH m .board ≡ idle (rest 511 0 32)
-  pub h-holds : holds 0 (rowH m) ≡ state (object (idOf 5) (0x41 ∷ 0x42 ∷ []) ∷ []) []
+  pub h-holds : replayed 0 (rowH m) ≡ state (object (idOf 5) (0x41 ∷ 0x42 ∷ []) ∷ []) []
   pub i-accepted : ask m (rowA m) 0 (putMessage 1 64) .answer ≡ More
   pub i-done : rowI m 64 .board ≡ idle (rest 511 0 232)
-  pub i-claimed : claimed (holds 0 (rowI m 64)) ≡ 232
+  pub i-claimed : claimed (replayed 0 (rowI m 64)) ≡ 232
   pub j : ask m (rowI m 64) 0 (putMessage 4 0) .answer ≡ Refused refusal.NoRoom
   pub k-refused : ask m (rowK m 64) 0 (putMessage 4 0) .answer ≡ Refused refusal.NoRoom
   pub k-accepted : ask m (rowK m 63) 0 (putMessage 4 0) .answer ≡ More

@@ -11,7 +11,8 @@ use Rattle.frame.specs.declared.ObjectId.{ObjectId}
 use Rattle.frame.specs.Frame.{idOf, Change, put, delete}
 use Rattle.journal.specs.Replay.{Object, object, insert, remove, lookup, change1, changeAll}
 use Rattle.journal.specs.Laws.{RisesFrom, ObjectLaws, Spares, Applied, ChangesExact}
-use Rattle.journal.proofs.Lookups.{insert-lt, insert-eq, insert-gt, lookup-yes, lookup-no, lookup-insert, lookup-insert-other, lookup-remove, lookup-remove-other}
+use Rattle.journal.proofs.Lookups.{insert-lt, insert-eq, insert-gt, lookup-yes, lookup-no, lookup-insert, lookup-insert-other}
+use Rattle.journal.proofs.Lookups.{lookup-remove, lookup-remove-other}
 
 -- ---- rising ids
 

@@ -13,7 +13,8 @@ use Rattle.flash.proofs.Cases.{on-test, clash}
 use Rattle.frame.specs.declared.Host.{Host}
 use Rattle.frame.specs.declared.ObjectId.{ObjectId}
 use Rattle.frame.specs.Frame.{hostOf, Change, put, delete, Frame, change, commit, abort, settled, MayStand, AllMayStand, nextAfter, nextOf, total}
-use Rattle.journal.specs.Replay.{Object, object, Entry, entry, State, state, lookup, changeAll, listOf, without, isOpen, replayFrom, replay, settledFrame, pendingFrame, framesOf}
+use Rattle.journal.specs.Replay.{Object, object, Entry, entry, State, state, lookup, changeAll, listOf, without, isOpen, replayFrom}
+use Rattle.journal.specs.Replay.{replay, settledFrame, pendingFrame, framesOf}
 use Rattle.journal.specs.Room.{one, openHosts}
 use Rattle.journal.specs.Laws.{RisesFrom, Applied, then, ReplayLaws, OrderLaws, settledBytes, changeBytes, pendingBytes, UsedExact, FramesExact}
 use Rattle.journal.proofs.Lookups.{lookup-yes, lookup-no}

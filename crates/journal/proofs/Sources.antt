@@ -11,7 +11,8 @@ use lib.Seq.{drop-at}
 use borrow.Author.Tests.{eq-eqb, ne-eqb, eqb-true}
 use Rattle.flash.proofs.Cases.{on-test}
 use Rattle.frame.specs.declared.ObjectId.{ObjectId}
-use Rattle.frame.specs.Frame.{put, delete, Frame, change, commit, abort, settled, mapFrame, encode, encodeAll, frameLen, total, MayStand, AllMayStand, nextAfter}
+use Rattle.frame.specs.Frame.{put, delete, Frame, change, commit, abort, settled, mapFrame, encode, encodeAll, frameLen, total, MayStand}
+use Rattle.frame.specs.Frame.{AllMayStand, nextAfter}
 use Rattle.frame.specs.Reader.{Tail, whole, readFrame}
 use Rattle.frame.proofs.Encode.{length-all, total-snoc, encode-append}
 use Rattle.frame.proofs.Reading.{read-back}
