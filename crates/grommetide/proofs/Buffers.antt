@@ -12,7 +12,7 @@ use Rattle.board.specs.Record.{Out}
 use Rattle.lent.specs.Layout.{recordSize, recordIn, recordBytes, recordInto, RecordFits, BytesBack}
 use Rattle.lent.proofs.Inverse.{bytes-back}
 use Rattle.job.specs.declared.Outcome.{Outcome}
-use Rattle.grommetide.specs.Edge.{Edge, guarded, writes, written, ReadsBack}
+use Rattle.grommetide.specs.Edge.{Edge, guarded, changes, written, ReadsBack}
 use Rattle.grommetide.proofs.Kept.{Keeps}
 
 filled : (r : Record) (b : List ℕ) → length b ≡ recordSize → recordInto r b ≡ recordBytes r
@@ -36,13 +36,13 @@ module _ (b after : List ℕ) (n : ℕ) (x : Outcome) (o : Out) (l : length b �
 
   -- requests and steps
   pub finished : Keeps (recordIn b) o
-      → (n ≡ edgeNumber (x .answer)) × (after ≡ cond (writes (recordIn b .phase) (x .answer)) (recordInto (x .board) b) b)
+      → (n ≡ edgeNumber (x .answer)) × (after ≡ cond (changes (recordIn b .phase) (x .answer)) (recordInto (x .board) b) b)
       → ((n ≡ edgeNumber (o .answer)) × (after ≡ written b o)) × (recordIn after ≡ o .board)
   finished k h =
       let e : after ≡ written b o = h .1 ∙ rw (filled (x .board) b l, answers, leaves) in (
         (h .0 ∙ ap edgeNumber answers, e),
         ap recordIn e
-            ∙ on-test (writes (recordIn b .phase) (o .answer))
+            ∙ on-test (changes (recordIn b .phase) (o .answer))
             (λ t. rw t (read-back (x .board) (o .board) f leaves))
             (λ t. rw t (sym (k t))),
       )

@@ -23,21 +23,21 @@ use Rattle.board.specs.Queue.{Held, needsRoom, appendJob, requestOn}
 use Rattle.board.specs.Demand1.{Rests}
 use Rattle.board.proofs.Outcomes.{wipe-skips, open-enters, open-skips, append-enters, step-resting, step-outside, step-goes}
 use Rattle.board.proofs.Planning.{Met, refused, done, begun, request-met}
-use Rattle.grommetide.specs.Edge.{writes}
+use Rattle.grommetide.specs.Edge.{changes}
 
--- a call that left the record, or that writes it
+-- a call that left the record, or that changes it
 abbrev pub Keeps : Record → Out → Type 0
-Keeps r o = writes (r .phase) (o .answer) ≡ false → o .board ≡ r
+Keeps r o = changes (r .phase) (o .answer) ≡ false → o .board ≡ r
 
 kept : (r : Record) (o o′ : Out) → o ≡ o′ → o′ .board ≡ r → Keeps r o
 kept r o o′ e b w = ap (λ (x : Out). x .board) e ∙ b
 
-wrote : (r : Record) (o : Out) (p : Phase) (a : Answer) → r .phase ≡ p → o .answer ≡ a → writes p a ≡ true → Keeps r o
-wrote r o p a e d t w = absurd (true≢false (sym t ∙ sym (ap (λ (x : Phase). writes x a) e) ∙ sym (ap (writes (r .phase)) d) ∙ w))
+wrote : (r : Record) (o : Out) (p : Phase) (a : Answer) → r .phase ≡ p → o .answer ≡ a → changes p a ≡ true → Keeps r o
+wrote r o p a e d t w = absurd (true≢false (sym t ∙ sym (ap (λ (x : Phase). changes x a) e) ∙ sym (ap (changes (r .phase)) d) ∙ w))
 
 -- ---- a step
 
-in-job : (s : Stage) (p : Phase) → writes (Busy s) (answerIn p) ≡ true
+in-job : (s : Stage) (p : Phase) → changes (Busy s) (answerIn p) ≡ true
 in-job s Unmounted = refl
 in-job s Idle = refl
 in-job s (Busy n) = refl

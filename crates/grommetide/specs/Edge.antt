@@ -42,15 +42,15 @@ guarded img b reply o after =
 
 -- ---- requests and steps write the record only where a job began, went on or ended
 
--- by the phase before the call and its answer
-abbrev pub writes : Phase → Answer → Bool
-writes p Done = isBusy p
-writes p More = true
-writes p (Refused n) = false
+-- whether the record changed, by the phase before the call and its answer
+abbrev pub changes : Phase → Answer → Bool
+changes p Done = isBusy p
+changes p More = true
+changes p (Refused n) = false
 
 -- the record buffer after the call
 abbrev pub written : List ℕ → Out → List ℕ
-written b o = cond (writes (recordIn b .phase) (o .answer)) (recordBytes (o .board)) b
+written b o = cond (changes (recordIn b .phase) (o .answer)) (recordBytes (o .board)) b
 
 -- a request, and a step, which is lent no reply
 unfoldable pub edgeRequest : List ℕ → List ℕ → ℕ → List ℕ → List ℕ → Edge

@@ -7,7 +7,7 @@ ghost use Rattle.board.specs.Mount.{mountOn, formatOn};
 ghost use Rattle.board.specs.Queue.{requestOn};
 ghost use Rattle.board.specs.Table.{isBusy};
 ghost use Rattle.lent.specs.Layout.{recordSize, recordIn, recordInto};
-ghost use Rattle.grommetide.specs.Edge.{writes, edgeMount, edgeFormat, edgeRequest, edgeStep, ReadsBack};
+ghost use Rattle.grommetide.specs.Edge.{changes, edgeMount, edgeFormat, edgeRequest, edgeStep, ReadsBack};
 ghost use Rattle.grommetide.specs.Edge.{place, isRead, asRead, edgeRead};
 use board::Phase;
 use frame::Host;
@@ -74,8 +74,8 @@ fn in_job(phase: Phase) -> bool
 }
 
 // A job began, went on or ended.
-fn writes(phase: Phase, answer: Answer) -> bool
-    ensures { λ r. ⌜ r ≡ writes phase answer ⌝ }
+fn changes(phase: Phase, answer: Answer) -> bool
+    ensures { λ r. ⌜ r ≡ changes phase answer ⌝ }
 {
     match answer {
         Answer::Done => in_job(phase),
@@ -87,11 +87,11 @@ fn writes(phase: Phase, answer: Answer) -> bool
 // The record written where it changed, by the phase before the call; and the answer.
 fn finish(phase: Phase, out: Outcome, board: &mut [u8]) -> u8
     ensures { λ r. ⌜ (r ≡ edgeNumber (out .answer))
-        × (now (board .exit) ≡ cond (writes phase (out .answer))
+        × (now (board .exit) ≡ cond (changes phase (out .answer))
         (recordInto (out .board) (now (board .entry))) (now (board .entry))) ⌝ }
 {
     let answer = out.answer;
-    if writes(phase, answer) {
+    if changes(phase, answer) {
         return hand_over(out, board);
     }
     wire::number(answer)

@@ -14,6 +14,6 @@ finish-spec =
     (λ c.
     let c4 = c .before .before .before .before in
     let h = c .before .before .hand-over .ensures in
-    let t = sym (c4 .before .writes .ensures) ∙ c4 .if1 .taken in (h .0, rw t (h .1)))
+    let t = sym (c4 .before .changes .ensures) ∙ c4 .if1 .taken in (h .0, rw t (h .1)))
     (λ c κs. search needs)
-    (λ c. let t = sym (c .before .before .writes .ensures) ∙ c .before .if1 .left in (c .number .ensures, rw t)))
+    (λ c. let t = sym (c .before .before .changes .ensures) ∙ c .before .if1 .left in (c .number .ensures, rw t)))

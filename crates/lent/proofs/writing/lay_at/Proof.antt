@@ -8,14 +8,17 @@ use Rattle.lent.proofs.writing.lay_at.Tie as tie
 pub lay-at-spec : {M : Type 1} → statement M
 lay-at-spec =
     tie.close
-    (tie.spec (λ c. too-far (c .before .before .before .args .at) (now (c .before .before .before .args .source)) (now
-    (c .before .before .before .args .bytes)) (c .if1 .taken))
+    (tie.spec
+    (λ c.
+    let args′ = c .before .before .before .args in
+    too-far (args′ .at) (now (args′ .source)) (now (args′ .bytes)) (c .if1 .taken))
     (λ c. search needs)
     (λ c. search needs)
     (λ c. search needs)
     (λ c κs. search needs)
+    (λ c. search needs)
     (λ c.
     let lay′ = c .before .before .lay in
     let if1′ = c .before .before .before .before .if1 in
     let args′ = c .before .before .before .before .before .before .before .args in
-    search needs) (λ c. put-back (args′ .at) (now (args′ .bytes)) (lay′ .last .0) (now (args′ .source)) (if1′ .left) (lay′ .ensures)))
+    put-back (args′ .at) (now (args′ .bytes)) (lay′ .last .0) (now (args′ .source)) (if1′ .left) (lay′ .ensures)))

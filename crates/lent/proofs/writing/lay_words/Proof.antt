@@ -43,13 +43,13 @@ lay-words-spec =
     let c6 = c5 .before in
     let c9 = c6 .before .before .before in
     let c12 = c9 .before .before .before in (
-      c .before .before .lay-at .ensures ∙ rw (c6 .low .ensures, c5 .high .ensures, c9 .loop .inv .0) (word-more (c12 .args .at) (now
-          (c12 .args .words)) (now (c12 .args .bytes)) (c9 .loop .i) (omega arith) (omega (arith, c12 .pre))),
+      c .before .before .lay-at .ensures ∙ rw (c6 .low .ensures, c5 .high .ensures, c9 .loop .inv .0) (word-more (c12 .args .at)
+          (now (c12 .args .words)) (now (c12 .args .bytes)) (c9 .loop .i) (omega arith) (omega (arith, c12 .pre))),
       omega arith,
       c .before .before .lay-at .kept .0 ∙ c9 .loop .inv .2,
     ))
     (λ c. search needs)
     (λ c.
     let loop′ = c .before .loop in
-    let c4 = c .before .before .before .before in loop′ .inv .0
-    ∙ words-all (c4 .args .at) (now (c4 .args .words)) (now (c4 .args .bytes)) (loop′ .i) (omega arith) (omega (arith, c4 .pre))))
+    let c4 = c .before .before .before .before in
+    loop′ .inv .0 ∙ words-all (c4 .args .at) (now (c4 .args .words)) (now (c4 .args .bytes)) (loop′ .i) (omega arith) (omega (arith, c4 .pre))))
