@@ -71,6 +71,10 @@ chooseOf a b =
 abbrev pub needsIn : Survey → Bool
 needsIn s = ltb 0 (s .torn) || ltb 0 (sumOf (s .pending))
 
+-- the creation time of the block that is made; 0 for none, also where there is no later time
+abbrev pub timeFor : Bool → ℕ → ℕ
+timeFor moves time = cond (moves && eqb time lastTime) 0 (newTime moves time)
+
 -- the other block to erase, if it isn't blank
 abbrev pub wipeOther : Bool → ℕ → List ℕ
 wipeOther true k = set noWipes 0 (nextBlock k)

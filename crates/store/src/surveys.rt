@@ -1,11 +1,10 @@
 // What a survey tells.
 ghost use mathlib.Core.Path.{_≡_};
-ghost use mathlib.Core.Bool.{false, _&&_};
+ghost use mathlib.Core.Bool.{_&&_};
 ghost use Prim.Native.Nat.{_≤_};
 ghost use lib.Dec.{eqb};
 ghost use Rattle.journal.specs.Block.{lastTime};
-ghost use Rattle.board.specs.Mount.{newTime};
-ghost use Rattle.store.specs.Calls.{isValid, sumOf};
+ghost use Rattle.store.specs.Calls.{isValid, sumOf, timeFor};
 use job::records::LAST_TIME;
 use journal::BlockKind;
 
@@ -37,11 +36,13 @@ pub fn is_worn(moves: bool, time: u32) -> bool
     false
 }
 
-// The creation time of the block that is made, if one is.
+// The creation time of the block that is made; 0 for none, also where there is no later time.
 pub fn new_time(moves: bool, time: u32) -> u32
-    requires { ⌜ (moves && eqb time lastTime) ≡ false ⌝ }
-    ensures { λ r. ⌜ r ≡ newTime moves time ⌝ }
+    ensures { λ r. ⌜ r ≡ timeFor moves time ⌝ }
 {
+    if is_worn(moves, time) {
+        return 0;
+    }
     if moves {
         return time + 1;
     }

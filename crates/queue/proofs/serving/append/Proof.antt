@@ -32,7 +32,7 @@ append-spec =
     ∙ ap (λ (n : ℕ). appendIn (args′ .size) (args′ .board) (args′ .s) (args′ .places) n
     (bytesOf (frameOf (args′ .head) (take valueMax (now (args′ .value)))))) (frame-len′ .ensures))
     (λ c κs. search needs)
-    (λ c κs. sym (c .before .before .before .is-worn .ensures) ∙ c .before .before .if1 .left)
+    (λ c κs. search needs)
     (λ c. search needs)
     (λ c κs. search needs)
     (λ c κs. search needs)
@@ -52,6 +52,7 @@ append-spec =
       c .before .before .rest-of .ensures,
       next-block′ .ensures,
       c .before .before .before .before .before .new-time .ensures,
+      sym (is-worn′ .ensures) ∙ if1′ .left,
       c .before .before .before .starting .ensures,
       c .before .before .before .before .encode-frame .ensures,
     ) (append-begun (args′ .size) (args′ .board) (args′ .s) (args′ .places) (frame-len′ .result)

@@ -26,7 +26,7 @@ mount-at-spec =
     (λ c κs. search needs)
     (λ c κs. search needs)
     (λ c κs. search needs)
-    (λ c κs. sym (c .before .before .before .before .is-worn .ensures) ∙ c .before .before .before .if1 .left)
+    (λ c κs. search needs)
     (λ c κs. search needs)
     (λ c κs. search needs)
     (λ c κs. search needs)
@@ -47,6 +47,7 @@ mount-at-spec =
       how-many′ .ensures,
       next-block′ .ensures,
       c .before .before .before .before .new-time .ensures,
+      sym (is-worn′ .ensures) ∙ if1′ .left,
       c .before .before .before .starting .ensures,
       c .before .before .no-frame .ensures,
     ) (mount-begun (args′ .last) (args′ .number) (args′ .s) (args′ .places) (args′ .wipes)
