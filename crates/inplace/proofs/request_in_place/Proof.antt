@@ -237,5 +237,5 @@ request-in-place-spec 𝓤 H 𝓜 𝓖 𝓡 =
     )
     (self.clauses 𝓤 H (𝓖 .A) (𝓜 .mem) (𝓡 .run))
     code.env #self code.function (code.unfolded 𝓤 H 𝓜 𝓡)
-    (Callee 𝓤 H (𝓖 .A) W (𝓜 .mem) (𝓡 .run)) callee.Symbol.name callee.Symbol.routine code.calls-store·request (callee.Met.met 𝓤 H 𝓜 𝓖 𝓡)
+    (Callee 𝓤 H (𝓖 .A) W (𝓜 .mem) (𝓡 .run)) callee.Symbol.name callee.Symbol.routine code.calls-queue·request (callee.Met.met 𝓤 H 𝓜 𝓖 𝓡)
     (walks 𝓤 H (𝓖 .A) W (𝓜 .mem) (𝓡 .run))
