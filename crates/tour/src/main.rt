@@ -12,7 +12,7 @@ use shown::puts;
 mod hosts;
 mod images;
 mod last;
-mod queue;
+mod refusals;
 mod shown;
 mod transfers;
 
@@ -30,14 +30,14 @@ fn store_of_one(a: Bench) -> Bench {
 }
 
 fn refusals_1_to_5(c: Bench) {
-    queue::malformed(c);
-    queue::unknown_kinds(c);
-    queue::unknown_ids(c);
-    queue::unmounted(c);
-    queue::no_store();
+    refusals::malformed(c);
+    refusals::unknown_kinds(c);
+    refusals::unknown_ids(c);
+    refusals::unmounted(c);
+    refusals::no_store();
     images::foreign(c);
     images::lengths(c);
-    queue::unfinished(c);
+    refusals::unfinished(c);
 }
 
 fn refusal_6() {
@@ -49,9 +49,9 @@ fn refusal_6() {
 fn refusals_7_to_11(a: Bench, c: Bench) {
     let three = images::no_room(a);
     images::no_room_for_deletes(three);
-    queue::no_object(c);
-    queue::short_reply(c);
-    queue::no_host(c);
+    refusals::no_object(c);
+    refusals::short_reply(c);
+    refusals::no_host(c);
     images::other_record(c);
     images::other_image(c);
     images::other_end(c);
