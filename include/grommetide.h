@@ -71,9 +71,9 @@
  *
  *   Bytes of stack that a call takes at most, its return address included (held by a test that paints the stack):
  *
- *     grommetide_mount        9,216
- *     grommetide_format       4,608
- *     grommetide_request     14,336
+ *     grommetide_mount        4,608
+ *     grommetide_format         192
+ *     grommetide_request     12,288
  *     grommetide_step         5,120
  *     grommetide_read         8,192
  */

@@ -152,8 +152,10 @@ fn no_call_takes_more_stack_than_the_header_says() {
         let mut board = Board::new(length);
         board.use_all();
         assert_eq!(board.most.len(), 5);
-        for (call, used) in board.most {
+        for (call, used) in &board.most {
             println!("{call}, image of {length} bytes: {used} bytes of stack");
+        }
+        for (call, used) in board.most {
             let bound = stated(&header, call);
             assert!(used <= bound && bound < 2 * used, "{call}: {used} bytes, the header says {bound}");
         }
