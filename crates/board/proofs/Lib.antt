@@ -42,9 +42,9 @@ pub mod Planning  -- demand 2: requests follow their plans
 pub mod Demand2  -- demand 2: mounts, formats, runs
 pub mod Claiming  -- demand 3
 pub mod CutFormat  -- what a cut format leaves
+pub mod Sentences  -- frames, plans and a read's stretch as document 01 words them
 pub mod Bench  -- the starred rows
 -- ---- the promise
-pub mod Sentences  -- frames, plans and places, which the promise uses, are as document 01 words them
 pub mod Freshness  -- and so is refusal 11
 pub mod Tabling  -- requests, steps and formats are refused by the table's lines
 pub mod TablingMounts  -- mounts are

@@ -8,7 +8,8 @@ use native.Mathlib.Omega.{arith}
 use lib.Dec.{eqb}
 use lib.ListN.{length, getD, drop, length-append}
 use lib.Seq.{drop-at}
-use borrow.Author.Tests.{eq-eqb, ne-eqb}
+use borrow.Author.Tests.{eq-eqb, ne-eqb, eqb-true}
+use Rattle.flash.proofs.Cases.{on-test}
 use Rattle.frame.specs.declared.ObjectId.{ObjectId}
 use Rattle.frame.specs.Frame.{put, delete, Frame, change, commit, abort, settled, mapFrame, encode, encodeAll, frameLen, total, MayStand, AllMayStand, nextAfter}
 use Rattle.frame.specs.Reader.{Tail, whole, readFrame}
@@ -96,22 +97,31 @@ unfolding valueAt
 value-there b (putBy h) i v p l e = rw (ne-eqb p 0 (omega arith), e, eq-eqb (i .0) (i .0) refl, valueAt) refl
 value-there b settledAs i v p l e = rw (ne-eqb p 0 (omega arith), e, eq-eqb (i .0) (i .0) refl, valueAt) refl
 
+-- ---- what replay of the spots finds
+
+module _ (fs : List Frame) (i : ObjectId) (v : List ℕ) (s : lookup i (objectsAfter fs) ≡ some v) where
+  no-spot : {P : Type 0} → lookup i (replay (spots headerLen fs) .objects) ≡ none → P
+  no-spot q =
+      let z : none ≡ some v = sym (bytes-lookup fs i ∙ ap (Option·map (λ (u : Spot). u .bytes)) q) ∙ s in
+      let d : _≡_ {A = ℕ} 0 1 = cc in
+      absurd (omega arith)
+
+  bytes-are : (x : Spot) → lookup i (replay (spots headerLen fs) .objects) ≡ some x → x .bytes ≡ v
+  bytes-are x q = let z : some (x .bytes) ≡ some v = sym (bytes-lookup fs i ∙ ap (Option·map (λ (u : Spot). u .bytes)) q) ∙ s in cc
+
 module _ (b : List ℕ) (t : ℕ) (fs : List Frame) (c : Tail) (i : ObjectId) (v : List ℕ) (y : ValidBlock b t fs c) (h : i .0 ≤ 255)
     (s : lookup i (objectsAfter fs) ≡ some v) where
   abbrev Found : Type 0
   Found = (at : ℕ) × (valueAt b i (getD (placesOf fs) (i .0) 0) ≡ some (record { at = at; bytes = v })) × TakenFrom fs i v at
 
   module _ (x : Spot) (q : lookup i (replay (spots headerLen fs) .objects) ≡ some x) where
-    bytes-are : x .bytes ≡ v
-    bytes-are = let z : some (x .bytes) ≡ some v = sym (bytes-lookup fs i ∙ ap (Option·map (λ (u : Spot). u .bytes)) q) ∙ s in cc
-
     place-is : getD (placesOf fs) (i .0) 0 ≡ x .place
     place-is = place-at fs i h ∙ ap orZero (sited-lookup fs i ∙ ap (Option·map (λ (u : Spot). u .place)) q)
 
     split : Split fs i (x .place) v
     split =
         let a : AllFrames (SplitAt fs) (spots headerLen fs) = split-all fs [] fs headerLen refl no-frames in
-        subst (Split fs i (x .place)) bytes-are
+        subst (Split fs i (x .place)) (bytes-are fs i v s x q)
         (all-lookup (SplitAt fs) i (replay (spots headerLen fs) .objects) x (all-replay (SplitAt fs) (spots headerLen fs) a .0) q)
 
     taken : (z : Split fs i (x .place) v) (w : List ℕ) → lookup i (objectsAfter (z .before ++ (holding (z .holder) i w ∷ z .after))) ≡ some w
@@ -155,15 +165,67 @@ module _ (b : List ℕ) (t : ℕ) (fs : List Frame) (c : Tail) (i : ObjectId) (v
   found-some = go (lookup i (replay (spots headerLen fs) .objects)) refl
     where
       go : (o : Option Spot) → lookup i (replay (spots headerLen fs) .objects) ≡ o → Found
-      go none q =
-          let z : none ≡ some v = sym (bytes-lookup fs i ∙ ap (Option·map (λ (u : Spot). u .bytes)) q) ∙ s in
-          let d : _≡_ {A = ℕ} 0 1 = cc in
-          absurd (omega arith)
+      go none q = no-spot fs i v s q
       go (some x) q = found x q (split x q)
+
+-- ---- the words settle the place
+
+same-frame : (xs ys : List Frame) (f g : Frame) (us ws : List Frame) → total xs ≡ total ys → xs ++ (f ∷ us) ≡ ys ++ (g ∷ ws) → f ≡ g
+unfolding total
+same-frame [] [] f g us ws n e = cc
+same-frame [] (y ∷ ys) f g us ws n e = absurd (omega arith)
+same-frame (x ∷ xs) [] f g us ws n e = absurd (omega arith)
+same-frame (x ∷ xs) (y ∷ ys) f g us ws n e =
+    let h : x ≡ y = cc in
+    let t : xs ++ (f ∷ us) ≡ ys ++ (g ∷ ws) = cc in
+    let l : frameLen x ≡ frameLen y = ap frameLen h in
+    same-frame xs ys f g us ws (omega arith) t
+
+same-front : (k j : Holder) (i : ObjectId) (v : List ℕ) → holding k i v ≡ holding j i v → front k ≡ front j
+same-front (putBy h) (putBy g) i v e = refl
+same-front (putBy h) settledAs i v e = let z : _≡_ {A = ℕ} 0 1 = cc in absurd (omega arith)
+same-front settledAs (putBy g) i v e = let z : _≡_ {A = ℕ} 0 1 = cc in absurd (omega arith)
+same-front settledAs settledAs i v e = refl
+
+module _ (fs : List Frame) (i : ObjectId) (v : List ℕ) where
+  has : (at : ℕ) → TakenFrom fs i v at → lookup i (objectsAfter fs) ≡ some v
+  has at z = ap (λ (l : List Frame). lookup i (objectsAfter l)) (z .stands) ∙ z .taken v
+
+  -- a longer value in the frame is found, so the frame is the one that replay took the value from
+  at-frame : (at : ℕ) (z : TakenFrom fs i v at) (x : Spot) → lookup i (replay (spots headerLen fs) .objects) ≡ some x
+      → x .place ≡ headerLen + total (z .before)
+  at-frame at z x q =
+      let p : ℕ = headerLen + total (z .before) in
+      let w : List ℕ = 0 ∷ v in
+      let g : Spot → List ℕ = λ u. swap p w (u .place) (u .bytes) in
+      let e : located (swap p w) headerLen fs ≡ z .before ++ (holding (z .holder) i w ∷ z .after) =
+      ap (located (swap p w) headerLen) (z .stands) ∙ swapped p w headerLen (z .before) (z .holder) i v (z .after) refl in
+      let a : some (g x) ≡ some w =
+      sym (ap (Option·map g) q) ∙ sym (spots-lookup g fs i) ∙ ap (λ (l : List Frame). lookup i (replay l .objects)) e ∙ z .taken w in
+      let b : g x ≡ w = cc in
+      on-test (eqb (x .place) p) (λ t. eqb-true (x .place) p t)
+      (λ t.
+      let c : x .bytes ≡ w = sym (ap (λ (d : Bool). cond d w (x .bytes)) t) ∙ b in
+      let l : length v ≡ length w = ap length (sym (bytes-are fs i v (has at z) x q) ∙ c) in
+      absurd (omega arith))
+
+  once : (at at′ : ℕ) → TakenFrom fs i v at → TakenFrom fs i v at′ → at ≡ at′
+  once at at′ z z′ = go (lookup i (replay (spots headerLen fs) .objects)) refl
+    where
+      go : (o : Option Spot) → lookup i (replay (spots headerLen fs) .objects) ≡ o → at ≡ at′
+      go none q = no-spot fs i v (has at z) q
+      go (some x) q =
+          let n : total (z .before) ≡ total (z′ .before) = omega (arith, at-frame at z x q, at-frame at′ z′ x q) in
+          let f : front (z .holder) ≡ front (z′ .holder) =
+          same-front (z .holder) (z′ .holder) i v
+          (same-frame (z .before) (z′ .before) (holding (z .holder) i v) (holding (z′ .holder) i v) (z .after) (z′ .after) n
+          (sym (z .stands) ∙ z′ .stands)) in
+          omega (arith, z .at-is, z′ .at-is, length-all (z .before), length-all (z′ .before))
 
 pub place-exact : PlaceExact
 place-exact =
     record {
       found = found-some;
       absent = λ b fs i h n. ap (valueAt b i) (no-place fs i h n) ∙ value-zero b i;
+      once = once;
     }

@@ -174,3 +174,5 @@ pub record PlaceExact : Type 0 where
       → (at : ℕ) × (valueAt b i (getD (placesOf fs) (i .0) 0) ≡ some (record { at = at; bytes = v })) × TakenFrom fs i v at
   pub absent : (b : List ℕ) (fs : List Frame) (i : ObjectId) → i .0 ≤ 255 → lookup i (objectsAfter fs) ≡ none
       → valueAt b i (getD (placesOf fs) (i .0) 0) ≡ none
+  -- the words settle the place
+  pub once : (fs : List Frame) (i : ObjectId) (v : List ℕ) (at at′ : ℕ) → TakenFrom fs i v at → TakenFrom fs i v at′ → at ≡ at′
