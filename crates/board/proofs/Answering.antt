@@ -3,21 +3,30 @@ use mathlib.Core.Path.{_≡_, refl, sym, ap, ap₂, subst, _∙_}
 use mathlib.Core.List.{List, [], _∷_}
 use mathlib.Core.Logic.{inl, inr}
 use mathlib.Core.Option.{Option, none, some}
-use Prim.Native.Nat.{ℕ, suc}
+use Prim.Native.Nat.{ℕ, suc, _+_, _*_}
 use native.Mathlib.Omega.{arith}
-use lib.ListN.{getD}
+use lib.ListN.{length, getD}
+use Rattle.flash.specs.Flash.{sizeOf}
+use Rattle.frame.specs.declared.ObjectId.{ObjectId}
+use Rattle.frame.specs.Frame.{Frame}
+use Rattle.journal.specs.Replay.{lookup, replay}
+use Rattle.journal.specs.Laws.{TakenFrom}
+use Rattle.journal.proofs.Sources.{place-exact}
 use Rattle.wire.specs.declared.Answer.{Answer}
 use Rattle.wire.specs.declared.Answer.the-variants.{Done, More, Refused}
 use Rattle.wire.specs.declared.Refusal.{Refusal}
 use Rattle.wire.specs.declared.Refusal.the-variants as refusal
+use Rattle.wire.specs.declared.Request.{Request}
+use Rattle.wire.specs.declared.Request.the-variants.{Put, Delete, Commit, Abort, Read, Log}
 use Rattle.wire.specs.Answer.{numberOf, refusalNumber}
 use Rattle.board.specs.declared.Phase.{Phase}
 use Rattle.board.specs.declared.Phase.the-variants.{Unmounted, Idle, Busy}
 use Rattle.board.specs.declared.Record.{Record}
 use Rattle.board.specs.Record.{Stretch, Out, answerIn, answerOf}
 use Rattle.board.specs.Demand2.{Accepted}
+use Rattle.board.specs.Queue.{Held}
 use Rattle.board.specs.Table.{Line, Exactly, InJob}
-use Rattle.board.specs.Promise.{Tells}
+use Rattle.board.specs.Promise.{Tells, Stands, HandsBack}
 
 -- ---- numbers
 
@@ -107,3 +116,30 @@ pub whole-is : (o : Out) {a : Answer} {img : List ℕ} {r : Record} {reply : Lis
 whole-is o {a} {img} {r} {reply} {st} e i b p s =
     ap₂ (λ (x : Answer) (y : List ℕ). whole x y (o .board) (o .reply) (o .stretch)) e i
     ∙ ap₂ (λ (x : Record) (y : List ℕ). whole a img x y (o .stretch)) b p ∙ ap (whole a img r reply) s
+
+-- ---- a read's stretch
+
+-- the frames settle where a value stands
+some-value : {v w : List ℕ} → some v ≡ some w → v ≡ w
+some-value e = cc
+
+taken-value : {fs : List Frame} {i : ObjectId} {v : List ℕ} {at : ℕ} → TakenFrom fs i v at → lookup i (replay fs .objects) ≡ some v
+taken-value {fs} {i} {v} y = ap (λ (gs : List Frame). lookup i (replay gs .objects)) (y .stands) ∙ y .taken v
+
+same-stands : (img : List ℕ) (r : Record) (x : Held) (i : ObjectId) (st su : Stretch) → Stands img r x i st → Stands img r x i su → st ≡ su
+same-stands img r x i st su y z =
+    let e : y .value ≡ z .value = some-value (sym (taken-value (y .from)) ∙ taken-value (z .from)) in
+    let g : TakenFrom (x .frames) i (z .value) (y .at) = subst (λ (v : List ℕ). TakenFrom (x .frames) i v (y .at)) e (y .from) in
+    let f : y .at ≡ z .at = place-exact .once (x .frames) i (z .value) (y .at) (z .at) g (z .from) in
+    y .is ∙ ap₂ (λ (a : ℕ) (v : List ℕ). stretchAt (r .block * sizeOf img + a) (length v)) f e ∙ sym (z .is)
+  where
+    stretchAt : ℕ → ℕ → Stretch
+    stretchAt a n = record { at = a; size = n }
+
+pub same-stretch : (img : List ℕ) (r : Record) (x : Held) (q : Request) (st su : Stretch) → HandsBack img r x q st → HandsBack img r x q su → st ≡ su
+same-stretch img r x (Put i) st su e f = e ∙ sym f
+same-stretch img r x (Delete i) st su e f = e ∙ sym f
+same-stretch img r x Commit st su e f = e ∙ sym f
+same-stretch img r x Abort st su e f = e ∙ sym f
+same-stretch img r x (Read i) st su e f = same-stands img r x i st su e f
+same-stretch img r x (Log p) st su e f = e ∙ sym f

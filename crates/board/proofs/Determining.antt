@@ -34,10 +34,10 @@ use Rattle.board.specs.Demand1.{Rests}
 use Rattle.board.specs.Demand2.{Accepted}
 use Rattle.board.specs.Claim.{ByteCall, ByteCalls}
 use Rattle.wire.specs.Sentences.{Means, MessagesExact, MalformedExact}
-use Rattle.board.specs.Promise.{Machine, replyFor, stretchFor, Answers, Serves, Job, frame-job, mount-job, format-job, Calls, Shown}
-use Rattle.board.specs.Promise.{restingIn, shownRecord, shown, trace, Begins, PromiseDetermines, PromiseDeterminesFrom}
-use Rattle.board.specs.Promise.{PromiseDeterminesCall}
-use Rattle.board.proofs.Answering.{number-injective, number-accepted, Both, both-taken, both-refused, same-lines, told-answer, whole, whole-is, in-job}
+use Rattle.board.specs.Promise.{Machine, replyFor, Answers, Serves, Job, frame-job, mount-job, format-job, Calls, Shown, restingIn}
+use Rattle.board.specs.Promise.{shownRecord, shown, trace, Begins, PromiseDetermines, PromiseDeterminesFrom, PromiseDeterminesCall}
+use Rattle.board.proofs.Answering.{number-injective, number-accepted, Both, both-taken, both-refused, same-lines, told-answer}
+use Rattle.board.proofs.Answering.{whole, whole-is, in-job, same-stretch}
 use Rattle.board.proofs.Tabling.{is-allowed}
 use Rattle.board.proofs.TablingMounts.{Mountable, mount-lines, accepted-takes}
 use Rattle.wire.proofs.Sentences.{messages-exact, malformed-exact}
@@ -178,12 +178,13 @@ module _ {m n : Machine} (pm : Calls m) (pn : Calls n) (img : List ℕ) (by : By
       → o .image ≡ img → p .image ≡ img → Answers f r o → Answers f r p → Serves img r h msg reply x q o → Serves img r h msg reply x q p
       → ((g : Frame) → f ≡ some g → Alike m n img (o .board) (p .board)) → Agree m n o p
   does-agree r h msg reply x q none o p k i j (a, b) (c, d) s t v =
-      agree-by (whole-is o (number-injective (o .answer) Done a) i b (s .writes) (s .hands-back))
-      (whole-is p (number-injective (p .answer) Done c) j d (t .writes) (t .hands-back))
-      (agree-whole Done Done img r r (replyFor img reply x q) (stretchFor img r x q) refl by (resting k refl))
+      agree-by (whole-is o (number-injective (o .answer) Done a) i b (s .writes) refl)
+      (whole-is p (number-injective (p .answer) Done c) j d (t .writes) (same-stretch img r x q (p .stretch) (o .stretch) (t .hands-back) (s .hands-back)))
+      (agree-whole Done Done img r r (replyFor img reply x q) (o .stretch) refl by (resting k refl))
   does-agree r h msg reply x q (some f) o p k i j a b s t v =
-      agree-by (whole-is o a i refl (s .writes) (s .hands-back)) (whole-is p b j refl (t .writes) (t .hands-back))
-      (agree-whole More More img (o .board) (p .board) (replyFor img reply x q) (stretchFor img r x q) refl by (v f refl))
+      agree-by (whole-is o a i refl (s .writes) refl)
+      (whole-is p b j refl (t .writes) (same-stretch img r x q (p .stretch) (o .stretch) (t .hands-back) (s .hands-back)))
+      (agree-whole More More img (o .board) (p .board) (replyFor img reply x q) (o .stretch) refl by (v f refl))
 
   -- the same job
   job-alike : (r q : Record) (c : Call) (plan : List Step) (z : Record) → ByteCall c → Job img r c plan z → Job img q c plan z → z .phase ≡ Idle

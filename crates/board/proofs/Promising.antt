@@ -14,6 +14,7 @@ use Rattle.flash.proofs.Cases.{on-test}
 use Rattle.frame.specs.declared.Host.{Host}
 use Rattle.frame.specs.declared.ObjectId.{ObjectId}
 use Rattle.frame.specs.Frame.{hostMax, Change, put, delete, Frame, change, commit, abort}
+use Rattle.frame.specs.Reader.{clean}
 use Rattle.journal.specs.Replay.{replay, lookup, isOpen}
 use Rattle.journal.specs.Block.{lastTime, headerLen}
 use Rattle.journal.specs.Room.{noRoom}
@@ -29,16 +30,17 @@ use Rattle.wire.specs.Message.{parse, valueIn, pageLen}
 use Rattle.board.specs.declared.Phase.{Phase}
 use Rattle.board.specs.declared.Phase.the-variants.{Unmounted, Idle, Busy}
 use Rattle.board.specs.declared.Record.{Record}
-use Rattle.board.specs.Record.{allowed, rest, idle, noStretch, Out, out, refuse, answerOf}
+use Rattle.board.specs.Record.{allowed, rest, idle, Stretch, noStretch, Out, out, refuse, answerOf}
 use Rattle.board.specs.Mount.{allFound, Store, needsTransfer, mountOn, formatOn}
-use Rattle.board.specs.Queue.{Held, held, needsRoom, append, serve, serveChange, serveEnd, requestOn}
+use Rattle.board.specs.Queue.{Held, held, needsRoom, placeOf, append, serve, serveChange, serveEnd, requestOn}
 use Rattle.board.specs.Exec.{Call, request, step, mount, format, exec}
 use Rattle.board.specs.Plan.{Follows, formatPlan, mountPlan, mountedAt, framePlan, framedAt}
 use Rattle.board.specs.Table.{frameFor, frameIf, Fresh, FreshExact, Exactly, linesOf}
 use Rattle.board.specs.Demand2.{Accepted, Mounts, OneStore}
 use Rattle.board.specs.Claim.{ByteCall}
 use Rattle.wire.specs.Sentences.{Means, MessagesExact}
-use Rattle.board.specs.Promise.{Answers, replyFor, stretchFor, Serves, Current, Job, frame-job, mount-job, format-job, Calls}
+use Rattle.board.specs.Sentences.{StretchExact}
+use Rattle.board.specs.Promise.{Answers, replyFor, Stands, HandsBack, Serves, Current, Job, frame-job, mount-job, format-job, Calls}
 use Rattle.board.proofs.Checks.{roomRule}
 use Rattle.board.proofs.Images.{sized-of}
 use Rattle.board.proofs.Refusals.{refusals-untouched, at-most-one-step}
@@ -53,6 +55,7 @@ use Rattle.board.proofs.Planning.{Appends, Asked, jobOf, frame-begins, 
 use Rattle.board.proofs.Lengths.{length-format}
 use Rattle.wire.proofs.Sentences.{messages-exact}
 use Rattle.board.proofs.Freshness.{fresh-exact}
+use Rattle.board.proofs.Sentences.{stretch-exact}
 use Rattle.board.proofs.Tabling.{request-lines, step-lines, format-lines, same-request, same-held}
 use Rattle.board.proofs.TablingMounts.{mount-lines, same-store, mounts-current}
 use Rattle.board.proofs.Answering.{whole}
@@ -71,27 +74,27 @@ module _ (img : List ℕ) (r : Record) (h : Host) (m reply : List ℕ) (by : Byt
   turned-down : {o : Out} (n : Refusal) → o ≡ refuse n img r reply → Meets o
   turned-down n d a = absurd (subst Accepted (ap (λ (o : Out). o .answer) d) a)
 
-  at-once : (o : Out) → o ≡ whole Done img r (replyFor img reply x q) (stretchFor img r x q) → frameFor h m x q ≡ none → Meets o
-  at-once o d n a =
+  at-once : (o : Out) (st : Stretch) → o ≡ whole Done img r (replyFor img reply x q) st → HandsBack img r x q st → frameFor h m x q ≡ none → Meets o
+  at-once o st d v n a =
       record {
         answers = subst (λ (f : Option Frame). Answers f r o) (sym n) (ap (λ (y : Out). numberOf (y .answer)) d, ap (λ (y : Out). y .board) d);
         writes = ap (λ (y : Out). y .reply) d;
-        hands-back = ap (λ (y : Out). y .stretch) d;
+        hands-back = subst (λ (y : Out). HandsBack img r x q (y .stretch)) (sym d) v;
       }
 
   begun : (o : Out) (y : Asked img r h m) → o ≡ out (answerOf (jobOf y)) img (jobOf y) reply → (f : Frame) → frameFor h m x q ≡ some f
-      → reply ≡ replyFor img reply x q → noStretch ≡ stretchFor img r x q → Meets o
+      → reply ≡ replyFor img reply x q → HandsBack img r x q noStretch → Meets o
   begun o y d f g u v a =
       record {
         answers = subst (λ (k : Option Frame). Answers k r o) (sym g)
             (ap (λ (k : Out). k .answer) d ∙ frame-begins (sized-of img (y .length-ok)) by bm y .0);
         writes = ap (λ (k : Out). k .reply) d ∙ u;
-        hands-back = ap (λ (k : Out). k .stretch) d ∙ v;
+        hands-back = subst (λ (k : Out). HandsBack img r x q (k .stretch)) (sym d) v;
       }
 
   module _ (a : allowed (length img) ≡ true) (k : h .0 ≤ hostMax) where
     append-met : (f : Frame) → frameFor h m x q ≡ some f → roomRule (sizeOf img) h m x q ≡ false → reply ≡ replyFor img reply x q
-        → noStretch ≡ stretchFor img r x q → Meets (append img r reply x f)
+        → HandsBack img r x q noStretch → Meets (append img r reply x f)
     append-met f g n u v =
         on-test (needsRoom img r f && eqb (x .time) lastTime)
         (λ t. turned-down refusal.Worn (append-worn img r reply x f t))
@@ -111,34 +114,45 @@ module _ (img : List ℕ) (r : Record) (h : Host) (m reply : List ℕ) (by : Byt
         (append-begins img r reply x f t) f g u v)
 
     change-met : (c : Change) → frameFor h m x q ≡ some (change h c) → roomRule (sizeOf img) h m x q ≡ noRoom (sizeOf img) (replay (x .frames)) h c
-        → reply ≡ replyFor img reply x q → noStretch ≡ stretchFor img r x q → Meets (serveChange img r reply h x c)
+        → reply ≡ replyFor img reply x q → HandsBack img r x q noStretch → Meets (serveChange img r reply h x c)
     change-met c g n u v =
         on-test (noRoom (sizeOf img) (replay (x .frames)) h c)
         (λ t. turned-down refusal.NoRoom (change-refused img r reply h x c t))
         (λ t. over (change-goes img r reply h x c t) (append-met (change h c) g (n ∙ t) u v))
 
     end-met : (f : Frame) → frameFor h m x q ≡ frameIf (isOpen h (replay (x .frames) .pending)) f → roomRule (sizeOf img) h m x q ≡ false
-        → reply ≡ replyFor img reply x q → noStretch ≡ stretchFor img r x q → Meets (serveEnd img r reply h x f)
+        → reply ≡ replyFor img reply x q → HandsBack img r x q noStretch → Meets (serveEnd img r reply h x f)
     end-met f g n u v =
         on-test (isOpen h (replay (x .frames) .pending))
         (λ t. over (end-goes img r reply h x f t) (append-met f (g ∙ ap (λ (b : Bool). frameIf b f) t) n u v))
-        (λ t. at-once (serveEnd img r reply h x f) (end-idle img r reply h x f t ∙ ap₂ (whole Done img r) u v) (g ∙ ap (λ (b : Bool). frameIf b f) t))
+        (λ t. at-once (serveEnd img r reply h x f) noStretch (end-idle img r reply h x f t ∙ ap (λ (y : List ℕ). whole Done img r y noStretch) u) v
+        (g ∙ ap (λ (b : Bool). frameIf b f) t))
 
 module _ (img : List ℕ) (r : Record) (h : Host) (m reply : List ℕ) (by : Bytes img) (bm : Bytes m) (x : Held) (e : held img r ≡ some x) where
   abbrev Met : Request → Out → Type 0
   Met q o = Accepted (o .answer) → Serves img r h m reply x q o
 
-  read-met : (i : ObjectId) → parse m ≡ Is (Read i) → (v : Option (List ℕ)) → lookup i (replay (x .frames) .objects) ≡ v
+  -- where the value stands
+  stands : allowed (length img) ≡ true → (i : ObjectId) → parse m ≡ Is (Read i) → (v : List ℕ) → lookup i (replay (x .frames) .objects) ≡ some v
+      → Stands img r x i (placeOf img r x i)
+  unfolding FreshExact MessagesExact StretchExact
+  stands ok i p v l =
+      let y = stretch-exact img r x clean i v (fresh-exact img r x by ok .0 e .is-valid) (messages-exact m (Read i) .0 p .3) l in
+      record { value = v; at = y .0; from = y .2; is = y .1 }
+
+  read-met : allowed (length img) ≡ true → (i : ObjectId) → parse m ≡ Is (Read i) → (v : Option (List ℕ)) → lookup i (replay (x .frames) .objects) ≡ v
       → Met (Read i) (serve img r reply h m x (Read i))
-  read-met i p none l = turned-down img r h m reply by bm x e (Read i) p refusal.NoObject (read-none img r reply h m x i l)
-  read-met i p (some v) l = at-once img r h m reply by bm x e (Read i) p (serve img r reply h m x (Read i)) (read-some img r reply h m x i v l) refl
+  read-met ok i p none l = turned-down img r h m reply by bm x e (Read i) p refusal.NoObject (read-none img r reply h m x i l)
+  read-met ok i p (some v) l =
+      at-once img r h m reply by bm x e (Read i) p (serve img r reply h m x (Read i)) (placeOf img r x i) (read-some img r reply h m x i v l)
+      (stands ok i p v l) refl
 
   log-met : parse m ≡ Is (Log Summary) → Met (Log Summary) (serve img r reply h m x (Log Summary))
   log-met p =
       over img r h m reply by bm x e (Log Summary) p (serve-log img r reply h m x)
       (on-test (ltb (length reply) pageLen)
       (λ t. turned-down img r h m reply by bm x e (Log Summary) p refusal.ShortReply (log-short img r reply x t))
-      (λ t. at-once img r h m reply by bm x e (Log Summary) p _ (log-done img r reply x t) refl))
+      (λ t. at-once img r h m reply by bm x e (Log Summary) p _ noStretch (log-done img r reply x t) refl refl))
 
   serve-met : allowed (length img) ≡ true → h .0 ≤ hostMax → (q : Request) → parse m ≡ Is q → Met q (serve img r reply h m x q)
   serve-met a k (Put i) p =
@@ -151,7 +165,7 @@ module _ (img : List ℕ) (r : Record) (h : Host) (m reply : List ℕ) (by : Byt
       over img r h m reply by bm x e Commit p (serve-commit img r reply h m x) (end-met img r h m reply by bm x e Commit p a k (commit h) refl refl refl refl)
   serve-met a k Abort p =
       over img r h m reply by bm x e Abort p (serve-abort img r reply h m x) (end-met img r h m reply by bm x e Abort p a k (abort h) refl refl refl refl)
-  serve-met a k (Read i) p = read-met i p (lookup i (replay (x .frames) .objects)) refl
+  serve-met a k (Read i) p = read-met a i p (lookup i (replay (x .frames) .objects)) refl
   serve-met a k (Log Summary) p = log-met p
 
   request-met : (q : Request) → parse m ≡ Is q → Met q (requestOn img r reply h m)

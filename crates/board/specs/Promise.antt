@@ -4,17 +4,19 @@ use mathlib.Core.List.{List, [], _∷_, _++_}
 use mathlib.Core.Option.{Option, none, some}
 use mathlib.Core.Logic.{_⊎_, _↔_}
 use mathlib.Core.Path.{_≡_}
-use Prim.Native.Nat.{ℕ, _-_, _≤_, _<_}
+use Prim.Native.Nat.{ℕ, _+_, _-_, _*_, _≤_, _<_}
 use lib.Bits.{bitAnd}
 use lib.ListN.{length, getD, take, drop}
 use Rattle.flash.specs.Bytes.{Bytes, u16le, u32le}
 use Rattle.flash.specs.Flash.{Step, applyAll, eraseBlock, sizeOf}
 use Rattle.frame.specs.declared.Host.{Host}
+use Rattle.frame.specs.declared.ObjectId.{ObjectId}
 use Rattle.frame.specs.Frame.{Frame}
 use Rattle.frame.specs.Reader.{Tail}
 use Rattle.journal.specs.Replay.{replay}
 use Rattle.journal.specs.Block.{headerLen}
 use Rattle.journal.specs.Room.{used}
+use Rattle.journal.specs.Laws.{TakenFrom}
 use Rattle.wire.specs.declared.Answer.{Answer}
 use Rattle.wire.specs.declared.Answer.the-variants.{Done, More, Refused}
 use Rattle.wire.specs.declared.Refusal.{Refusal}
@@ -26,7 +28,7 @@ use Rattle.board.specs.declared.Phase.the-variants.{Unmounted, Idle, Bus
 use Rattle.board.specs.declared.Record.{Record}
 use Rattle.board.specs.Record.{rest, idle, Stretch, noStretch, Out, out}
 use Rattle.board.specs.Mount.{allFound, Store, needsTransfer}
-use Rattle.board.specs.Queue.{Held, needsRoom, placeOf}
+use Rattle.board.specs.Queue.{Held, needsRoom}
 pub use Rattle.board.specs.Exec.{Machine}
 use Rattle.board.specs.Exec.{Call, request, step, mount, format}
 use Rattle.board.specs.Plan.{Follows, formatPlan, mountPlan, mountedAt, framePlan, framedAt}
@@ -83,20 +85,27 @@ replyFor img reply x (Log p) =
     ++ (u16le (used (replay (x .frames))) ++ u16le (sizeOf img))))))
     ++ drop 14 reply
 
--- "A read that finds its object hands back that stretch"
-abbrev pub stretchFor : List ℕ → Record → Held → Request → Stretch
-stretchFor img r x (Put i) = noStretch
-stretchFor img r x (Delete i) = noStretch
-stretchFor img r x Commit = noStretch
-stretchFor img r x Abort = noStretch
-stretchFor img r x (Read i) = placeOf img r x i
-stretchFor img r x (Log p) = noStretch
+-- "A read that finds its object hands back that stretch of the caller's own flash image": where the recorded half's replay took the
+-- value from
+pub record Stands (img : List ℕ) (r : Record) (x : Held) (i : ObjectId) (st : Stretch) : Type 0 where
+  pub value : List ℕ
+  pub at : ℕ
+  pub from : TakenFrom (x .frames) i value at
+  pub is : st ≡ record { at = r .block * sizeOf img + at; size = length value }
+
+abbrev pub HandsBack : List ℕ → Record → Held → Request → Stretch → Type 0
+HandsBack img r x (Put i) st = st ≡ noStretch
+HandsBack img r x (Delete i) st = st ≡ noStretch
+HandsBack img r x Commit st = st ≡ noStretch
+HandsBack img r x Abort st = st ≡ noStretch
+HandsBack img r x (Read i) st = Stands img r x i st
+HandsBack img r x (Log p) st = st ≡ noStretch
 
 -- an accepted request q of host h, where the image read afresh holds x
 pub record Serves (img : List ℕ) (r : Record) (h : Host) (msg reply : List ℕ) (x : Held) (q : Request) (o : Out) : Type 0 where
   pub answers : Answers (frameFor h msg x q) r o
   pub writes : o .reply ≡ replyFor img reply x q
-  pub hands-back : o .stretch ≡ stretchFor img r x q
+  pub hands-back : HandsBack img r x q (o .stretch)
 
 -- ---- jobs
 
