@@ -2,7 +2,7 @@
 use mathlib.Core.Path.{_≡_, refl, sym, ap, subst, _∙_}
 use mathlib.Core.List.{List, [], _∷_}
 use mathlib.Core.Option.{Option, none, some}
-use mathlib.Core.Bool.{true, false}
+use mathlib.Core.Bool.{true}
 use Prim.Native.Nat.{ℕ, zero, suc, _+_, _-_, _≤_}
 use native.Mathlib.Omega.{arith}
 use lib.ListN.{length, getD, take, drop, length-take}
@@ -15,7 +15,7 @@ use Rattle.frame.proofs.Heads.{frame-of-head}
 use Rattle.journal.specs.declared.Fetched.{Fetched}
 use Rattle.journal.specs.declared.Fetched.the-variants as fetched
 use Rattle.journal.specs.Index.{Value, valueAt, Load, load, nextSettled, isPending, nextPending, orElse, nextLoad}
-use Rattle.journal.specs.Survey.{orStart, fetchedOf, loadOf, Inside, Fetches}
+use Rattle.journal.specs.Survey.{orStart, fetchedOf, Fetches}
 use Rattle.journal.proofs.FrameReads.{part-same, value-there, value-inside}
 use Rattle.journal.proofs.Fetching.{InBlock, in-block, pending-blank, pending-torn, pending-wrong, pending-yes, value-pending}
 

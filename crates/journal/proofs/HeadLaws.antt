@@ -6,8 +6,8 @@ use mathlib.Core.Bool.{true, false}
 use Prim.Native.Nat.{ℕ, suc, _+_, _-_, _≤_, _<_}
 use native.Mathlib.Omega.{arith}
 use lib.Dec.{eqb}
-use lib.ListN.{length, getD, take, drop}
-use lib.Seq.{drop-drop, take-length}
+use lib.ListN.{length, getD, drop}
+use lib.Seq.{drop-drop}
 use borrow.Author.Tests.{le-leb}
 use Rattle.flash.proofs.Cases.{on-test}
 use Rattle.frame.specs.declared.Host.{Host}
@@ -16,7 +16,7 @@ use Rattle.frame.specs.declared.Fault.{Fault}
 use Rattle.frame.specs.declared.Head.{Head}
 use Rattle.frame.specs.declared.Head.the-variants as head
 use Rattle.frame.specs.declared.FrameRead.the-variants as read
-use Rattle.frame.specs.Frame.{idOf, put, delete, Frame, change, commit, abort, settled, frameLen, total, nextAfter}
+use Rattle.frame.specs.Frame.{valueMax, idOf, put, delete, Frame, change, commit, abort, settled, frameLen, total, nextAfter}
 use Rattle.frame.specs.Reader.{blank, whole, torn, wrong, readFrame, Tail, clean, cut, bad, Scan, ends, scan}
 use Rattle.frame.specs.Code.{headOf, readOf, headLen, valueStart}
 use Rattle.frame.proofs.Answers.{wrong-read}
@@ -211,7 +211,7 @@ module _ {b t : List ℕ} {p : Progress} (y : Reached b t p) where
 pub record Counted (b places : List ℕ) (i n : ℕ) : Type 0 where
   pub count : length (settledAt b places (256 - i) i) ≡ length (settledAt b places (256 - (i + 1)) (i + 1)) + 1
   pub used : total (settledAt b places (256 - i) i) ≡ total (settledAt b places (256 - (i + 1)) (i + 1)) + 7 + n
-  pub small : n ≤ 64
+  pub small : n ≤ valueMax
 
 module _ (b places : List ℕ) (i : ℕ) (l : i < 256) where
   abbrev here-at : Option Value

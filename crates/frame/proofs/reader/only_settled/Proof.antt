@@ -1,7 +1,6 @@
 -- The tests in the order of the definition.
 use borrow.Author.Tests.{lt-leb, le-leb, eq-eqb, ne-eqb}
 use Rattle.frame.specs.Frame.{idMax, valueMax, settledLen}
-use borrow.Author.Needs.{needs}
 use Rattle.frame.proofs.reader.only_settled.Statement.{statement}
 use Rattle.frame.proofs.reader.only_settled.Tie as tie
 
