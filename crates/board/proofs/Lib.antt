@@ -57,6 +57,7 @@ pub mod Clearing  -- programming only clears bits
 pub mod Following  -- the k-th step, demand 3 and a cut format, of any machine that keeps the clauses
 pub mod FollowingPlans  -- demand 2 of it, and the whole promise
 pub mod Tickets  -- the customer's two tickets, of any machine that keeps the promise
+pub mod Driving  -- what is next, done to the flash by the caller, then made, is a step call
 -- ---- wrong stores
 pub mod RefutingRuns  -- the runs that tell, computed
 pub mod Refuting  -- none of them keeps the promise

@@ -13,6 +13,7 @@ pub mod Demand2
 pub mod CutFormat
 pub mod Promise
 pub mod Tickets
+pub mod Drive
 pub mod Wrong
 pub mod WrongRuns
 pub mod WrongRows

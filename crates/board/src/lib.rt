@@ -1,8 +1,7 @@
 // The board's types: what a record holds.
+use flash::BLOCKS;
 use frame::MAX_FRAME;
-
-// The blocks of an image.
-pub const BLOCKS: usize = 2;
+use wire::Refusal;
 
 // The stages of a job, in their order. A stage with nothing to do is passed over.
 pub enum Stage {
@@ -74,4 +73,13 @@ pub struct Record {
     // the frame that is copied, and the frame to append
     pub unit: [u8; MAX_FRAME],
     pub frame: [u8; MAX_FRAME],
+}
+
+// What a job's next flash step is: a byte to program at an offset of the image, or from an offset on so many bytes to erase; none;
+// or the refusal that a step call would get.
+pub enum Next {
+    Program(usize, u8),
+    Erase(usize, usize),
+    Nothing,
+    Refused(Refusal),
 }

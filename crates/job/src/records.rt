@@ -4,13 +4,13 @@ ghost use Rattle.board.specs.Record.{noPlaces, noFrame, noJob, cursor, starting
 ghost use Rattle.board.specs.Step.{first, enterWipe};
 ghost use Rattle.job.specs.Code.{numbersOf, assemble, going, over, staying, leaves, outcome, goAppend, landedOn, goDrop, goOpen, goWipe};
 use crate::Outcome;
-use board::BLOCKS;
 use board::Cursor;
 use board::Job;
 use board::Phase;
 use board::Record;
 use board::Rest;
 use board::Stage;
+use flash::BLOCKS;
 use frame::MAX_FRAME;
 use journal::HEADER_LEN;
 use wire::Answer;

@@ -1,5 +1,5 @@
 // Where each field stands in the record's bytes: right after the one before it.
-use board::BLOCKS;
+use flash::BLOCKS;
 use frame::MAX_FRAME;
 
 // ---- the record

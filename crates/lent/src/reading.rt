@@ -1,11 +1,11 @@
 // The record from bytes: every content of every length is some record.
 use crate::layout;
-use board::BLOCKS;
 use board::Cursor;
 use board::Job;
 use board::Phase;
 use board::Record;
 use board::Stage;
+use flash::BLOCKS;
 use flash::byte_at;
 use frame::MAX_FRAME;
 use wire::word_at;
