@@ -1,4 +1,5 @@
 // A job of the board: the records that it goes through, and its steps.
+mod header;
 pub mod records;
 mod steps;
 

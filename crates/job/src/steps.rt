@@ -14,6 +14,7 @@ ghost use Rattle.board.specs.declared.Stage.the-variants as stages;
 ghost use Rattle.board.specs.Step.{loaded, enterCopy, action, nextIndex, advance, stepBusy, stepOn};
 ghost use Rattle.job.specs.Code.{assemble, staged, going, LeadsTo, movedByte, flashStep, did, offsetFor, Steps};
 use crate::Outcome;
+use crate::header;
 use crate::records;
 use crate::records::Numbers;
 use crate::records::Stepped;
@@ -26,30 +27,12 @@ use frame::KIND_AT;
 use frame::MAX_FRAME;
 use journal::Fetch;
 use journal::Fetched;
-use journal::HEADER_LEN;
 use journal::IN_TRANSFER;
 use journal::STATE_AT;
 use journal::TIME_AT;
 use journal::VALID_DATA;
 use wire::Answer;
 use wire::Refusal;
-
-const BLOCK_COUNT: u8 = BLOCKS as u8;
-
-// How many writes open a block, and how many seal it.
-const OPENING: u8 = 5;
-
-const SEALING: u8 = 5;
-
-const LENGTH: u8 = HEADER_LEN as u8;
-
-const KIND_HIGH_AT: usize = KIND_AT + 1;
-
-const TIME_1_AT: usize = TIME_AT + 1;
-
-const TIME_2_AT: usize = TIME_AT + 2;
-
-const TIME_3_AT: usize = TIME_AT + 3;
 
 // A flash step: a byte programmed at an offset of a block, or a block erased.
 pub enum Action {
@@ -75,10 +58,10 @@ fn open_action(target: u8, i: u8) -> Action
     ensures { λ r. ⌜ flashStep r ≡ writeStep target (openWrite i) ⌝ }
 {
     match i {
-        1 => return Action::Program(target, 0, LENGTH),
+        1 => return Action::Program(target, 0, header::LENGTH),
         2 => return Action::Program(target, 1, 0x00),
         3 => return Action::Program(target, KIND_AT, 0x01),
-        4 => return Action::Program(target, KIND_HIGH_AT, 0x4A),
+        4 => return Action::Program(target, header::KIND_HIGH_AT, 0x4A),
         _ => return Action::Program(target, STATE_AT, IN_TRANSFER),
     }
 }
@@ -90,9 +73,9 @@ fn seal_action(target: u8, time: u32, i: u8) -> Action
     let inverse = records::LAST_TIME - time;
     match i {
         0 => return Action::Program(target, TIME_AT, (inverse % 256) as u8),
-        1 => return Action::Program(target, TIME_1_AT, (inverse / 256 % 256) as u8),
-        2 => return Action::Program(target, TIME_2_AT, (inverse / 65536 % 256) as u8),
-        3 => return Action::Program(target, TIME_3_AT, (inverse / 16777216) as u8),
+        1 => return Action::Program(target, header::TIME_1_AT, (inverse / 256 % 256) as u8),
+        2 => return Action::Program(target, header::TIME_2_AT, (inverse / 65536 % 256) as u8),
+        3 => return Action::Program(target, header::TIME_3_AT, (inverse / 16777216) as u8),
         _ => return Action::Program(target, STATE_AT, VALID_DATA),
     }
 }
@@ -131,7 +114,7 @@ fn program_in(image: &mut [u8], block: u8, at: usize, byte: u8) -> bool
         × (now (image .exit) ≡ did (program block at byte) (now (image .entry))) ⌝ }
 {
     let size = image.len() / 2;
-    if BLOCK_COUNT <= block {
+    if header::BLOCK_COUNT <= block {
         return false;
     }
     if size <= at {
@@ -149,7 +132,7 @@ fn erase_in(image: &mut [u8], block: u8) -> bool
     ensures { λ r. ⌜ (r ≡ within (sizeOf (now (image .entry))) (erase block)) × (now (image .exit) ≡ did (erase block) (now (image .entry))) ⌝ }
 {
     let size = image.len() / 2;
-    if BLOCK_COUNT <= block {
+    if header::BLOCK_COUNT <= block {
         return false;
     }
     if size == 0 {
@@ -249,7 +232,7 @@ fn after_open(image: &[u8], n: Numbers, places: &[u16; 256], unit: &mut [u8; MAX
         (advance stages.Open (now (image .entry)) (assemble n (now (places .entry)) (now (unit .entry)) f))) ⌝ }
 {
     let cursor = n.cursor;
-    if has_next(cursor.index, OPENING) {
+    if has_next(cursor.index, header::OPENING) {
         return next_step(Stage::Open, n);
     }
     enter_copy(image, n, places, unit)
@@ -307,7 +290,7 @@ fn after_seal(n: Numbers) -> Stepped
     ensures { λ r. ⌜ ((i p u f : List ℕ) → LeadsTo p u f r (advance stages.Seal i (assemble n p u f))) ⌝ }
 {
     let cursor = n.cursor;
-    if has_next(cursor.index, SEALING) {
+    if has_next(cursor.index, header::SEALING) {
         return next_step(Stage::Seal, n);
     }
     records::enter_drop(n)
