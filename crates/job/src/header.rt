@@ -1,5 +1,5 @@
 // Numbers of the steps: how many blocks, how many writes open and seal one, and where in its header they go.
-use board::BLOCKS;
+use flash::BLOCKS;
 use frame::KIND_AT;
 use journal::HEADER_LEN;
 use journal::TIME_AT;

@@ -23,7 +23,6 @@ use board::Phase;
 use board::Record;
 use board::Stage;
 use flash::BLOCKS;
-use frame::KIND_AT;
 use frame::MAX_FRAME;
 use journal::Fetch;
 use journal::Fetched;
@@ -60,7 +59,7 @@ fn open_action(target: u8, i: u8) -> Action
     match i {
         1 => return Action::Program(target, 0, header::LENGTH),
         2 => return Action::Program(target, 1, 0x00),
-        3 => return Action::Program(target, KIND_AT, 0x01),
+        3 => return Action::Program(target, frame::KIND_AT, 0x01),
         4 => return Action::Program(target, header::KIND_HIGH_AT, 0x4A),
         _ => return Action::Program(target, STATE_AT, IN_TRANSFER),
     }
