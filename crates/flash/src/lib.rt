@@ -1,7 +1,7 @@
 // The flash: an image of bytes in blocks of one size. A step programs one byte or erases one block.
 ghost use mathlib.Core.Path.{_≡_};
 ghost use Prim.Native.Nat.{_+_, _*_, _-_, _≤_, min};
-ghost use lib.ListN.{length, getD, replicate};
+ghost use lib.ListN.{length, getD, take, drop, replicate};
 ghost use Rattle.flash.specs.Bytes.{allFF};
 ghost use Rattle.flash.specs.Flash.{sizeOf, block, programAt, eraseBlock};
 
@@ -15,11 +15,27 @@ pub fn byte_at(bytes: &[u8], i: usize) -> u8
     if i < bytes.len() { bytes[i] } else { 0 }
 }
 
-// Every byte is 0xFF.
-pub fn is_blank(s: &[u8]) -> bool
-    ensures { λ r. ⌜ r ≡ allFF (now (s .entry)) ⌝ }
+// Eight bytes from a place on are 0xFF: one test of what they have in common.
+fn eight_blank(s: &[u8], i: usize) -> bool
+    requires { ⌜ i + 8 ≤ length (now s) ⌝ }
+    ensures { λ r. ⌜ r ≡ allFF (take 8 (drop i (now (s .entry)))) ⌝ }
 {
-    let mut i = 0;
+    let a = s[i];
+    let b = s[i + 1];
+    let c = s[i + 2];
+    let d = s[i + 3];
+    let e = s[i + 4];
+    let f = s[i + 5];
+    let g = s[i + 6];
+    let h = s[i + 7];
+    a & (b & (c & (d & (e & (f & (g & h)))))) == 255
+}
+
+// From a place on every byte is 0xFF: one by one.
+fn rest_blank(s: &[u8], from: usize) -> bool
+    ensures { λ r. ⌜ r ≡ allFF (drop from (now (s .entry))) ⌝ }
+{
+    let mut i = from;
     while i < s.len() {
         if s[i] != 255 {
             return false;
@@ -27,6 +43,21 @@ pub fn is_blank(s: &[u8]) -> bool
         i += 1;
     }
     true
+}
+
+// Every byte is 0xFF: eight at a time, the last ones one by one.
+pub fn is_blank(s: &[u8]) -> bool
+    ensures { λ r. ⌜ r ≡ allFF (now (s .entry)) ⌝ }
+{
+    let n = s.len();
+    let mut i = 0;
+    while 8 <= n - i {
+        if !eight_blank(s, i) {
+            return false;
+        }
+        i += 8;
+    }
+    rest_blank(s, i)
 }
 
 // Programs one byte, where there is one: bits only clear.

@@ -1,5 +1,6 @@
 //! The tests of the gate. Each call here is made on model, library and plain, and compared (`Twin`).
 
+mod blank;
 mod damage;
 mod edge;
 mod random;

@@ -1,0 +1,34 @@
+-- The blank test byte by byte: what is left from i on is blank exactly if all from the start on is.
+use mathlib.Core.Path.{_≡_, refl, sym, _∙_}
+use Prim.Native.Nat.{_-_}
+use native.Mathlib.Omega.{arith}
+use lib.ListN.{length, drop}
+use denote.Ref.{now}
+use Rattle.flash.specs.Bytes.{allFF}
+use Rattle.flash.proofs.Stretches.{allFF-on, allFF-stop, allFF-end}
+use Rattle.flash.proofs.rest_blank.Statement.{statement}
+use Rattle.flash.proofs.rest_blank.Tie as tie
+
+abbrev Inv-loop : tie.InvT-loop
+Inv-loop s from i₀ i = allFF (drop i s) ≡ allFF (drop from s)
+
+abbrev μ-loop : tie.MeasureT-loop
+μ-loop s from i₀ i = length s - i
+
+pub rest-blank-spec : {M : Type 1} → statement M
+rest-blank-spec =
+    tie.close
+    (tie.spec
+    Inv-loop
+    μ-loop
+    (λ c. refl)
+    (λ c. omega arith)
+    (λ c.
+    let loop′ = c .before .before .before .loop in
+    sym (allFF-stop (now (c .before .before .before .before .args .s)) (loop′ .i) (c .before .before .loop-test .taken) (c .if1 .taken)) ∙ loop′ .inv)
+    (λ c. omega arith)
+    (λ c. omega arith)
+    (λ c.
+    let loop′ = c .before .before .before .loop in
+    sym (allFF-on (now (c .before .before .before .before .args .s)) (loop′ .i) (c .before .before .loop-test .taken) (c .if1 .left)) ∙ loop′ .inv)
+    (λ c. sym (allFF-end (now (c .before .before .args .s)) (c .before .loop .i) (c .loop-test .left)) ∙ c .before .loop .inv))
