@@ -116,3 +116,8 @@ le16-small a b h k = omega arith
 
 pub le32-small : (a b c d : ℕ) → a < 256 → b < 256 → c < 256 → d < 256 → le32 a b c d < 4294967296
 le32-small a b c d h k l m = omega arith
+
+-- a slice's elements are bytes
+pub bytes-of : (t : List ℕ) → ((i : ℕ) → getD t i 0 < 256) → Bytes t
+bytes-of [] h = tt
+bytes-of (b ∷ t) h = (h 0, bytes-of t (λ i. h (suc i)))

@@ -10,8 +10,6 @@ pub mod Reading  -- what a legal frame's bytes read as: for Exact, Scanning, jou
 pub mod Inverse  -- from layouts back to frames: for Exact, Places
 pub mod Exact  -- document 01's sentences on a frame: for Scanned, journal, and to read
 pub mod Places  -- a fault lies in the bytes read: for src/reader
-pub mod Misfits  -- single-byte tests: for src/reader, store
-pub mod Answers  -- what is read by its misfit: for src/reader, journal
 -- ---- journals
 pub mod Scanning  -- frames written are read back: for journal, board
 pub mod Scanned  -- any bytes read as a journal: for journal, store

@@ -1,18 +1,14 @@
 -- Frames and reads as the code has them: without the value's bytes.
-use mathlib.Core.List.{List, [], _∷_}
-use mathlib.Core.Bool.{true, false}
-use Prim.Native.Nat.{ℕ, suc}
-use lib.ListN.{length, getD}
-use Rattle.frame.specs.declared.Field.the-variants as field
+use mathlib.Core.List.{List, []}
+use Prim.Native.Nat.{ℕ}
+use lib.ListN.{length}
 use Rattle.frame.specs.declared.Head.{Head}
 use Rattle.frame.specs.declared.Head.the-variants as head
 use Rattle.frame.specs.declared.FrameRead.{FrameRead}
 use Rattle.frame.specs.declared.FrameRead.the-variants as read
-use Rattle.frame.specs.declared.reader.Misfit.{Misfit}
-use Rattle.frame.specs.declared.reader.Misfit.the-variants as misfit
-use Rattle.frame.specs.Frame.{Frame, change, commit, abort, settled, put, delete, kindAt, putValueAt, settledValueAt, putLen}
+use Rattle.frame.specs.Frame.{Frame, change, commit, abort, settled, put, delete, putValueAt, settledValueAt, putLen}
 use Rattle.frame.specs.Frame.{deleteLen, endLen, settledLen}
-use Rattle.frame.specs.Reader.{Read, blank, whole, torn, wrong, Slot, slot, fits}
+use Rattle.frame.specs.Reader.{Read, blank, whole, torn, wrong}
 
 -- a frame without its value's bytes
 abbrev pub headOf : Frame → Head
@@ -66,26 +62,3 @@ valueStart (head.Delete h i) = 0
 valueStart (head.Commit h) = 0
 valueStart (head.Abort h) = 0
 valueStart (head.Settled i n) = settledValueAt
-
--- ---- where bytes stop fitting a layout: the reader's tests
-
--- the first byte that does not fit, of tests in address order
-unfoldable pub firstMisfit : Misfit → Misfit → Misfit
-firstMisfit misfit.None y = y
-firstMisfit (misfit.At o f s) y = misfit.At o f s
-
--- a byte at offset o against its slot
-unfoldable pub oneMisfit : ℕ → Slot → ℕ → Misfit
-oneMisfit o p b = elim (fits p b) [ true ↦ misfit.None | false ↦ misfit.At o (p .field) (p .start) ]
-
--- bytes from offset o on against a layout
-unfoldable pub misfitFrom : ℕ → List Slot → List ℕ → Misfit
-misfitFrom o [] t = misfit.None
-misfitFrom o (p ∷ ps) [] = misfit.At o (p .field) (p .start)
-misfitFrom o (p ∷ ps) (b ∷ t) = firstMisfit (oneMisfit o p b) (misfitFrom (suc o) ps t)
-
--- a length's high byte, and a kind from a to b
-abbrev pub frontMisfit : ℕ → ℕ → List ℕ → Misfit
-frontMisfit a b t =
-    firstMisfit (oneMisfit 1 (slot field.Length 0 0 0) (getD t 1 0))
-    (firstMisfit (oneMisfit kindAt (slot field.Kind kindAt a b) (getD t kindAt 0)) (oneMisfit 3 (slot field.Kind kindAt 0 0) (getD t 3 0)))

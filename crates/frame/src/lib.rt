@@ -3,10 +3,8 @@ ghost use mathlib.Core.Path.{_≡_};
 ghost use Rattle.frame.specs.Code.{headLen, valueLen, valueStart};
 
 mod bytes;
-mod reader;
 
 pub use bytes::encode_frame;
-pub use reader::read_frame;
 
 // A host's number: the port that a message came in by.
 pub struct Host(pub u8);
@@ -50,7 +48,7 @@ pub const PUT_VALUE_AT: usize = BODY_AT + 3;
 pub const SETTLED_VALUE_AT: usize = BODY_AT + 2;
 
 // A frame's last byte.
-const FINISH: u8 = 254;
+pub const FINISH: u8 = 254;
 
 // The lengths by kind, without the value; a commit and an abort are ends.
 pub const PUT_LEN: u8 = 8;

@@ -2,8 +2,6 @@ pub mod Replay
 pub mod Block
 pub mod Room
 pub mod Index
-pub mod Survey
-pub mod Pass
 pub mod Examples
 pub mod Sentences
 pub mod Laws

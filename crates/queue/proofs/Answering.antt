@@ -14,13 +14,13 @@ use Rattle.frame.specs.declared.Host.{Host}
 use Rattle.frame.specs.declared.ObjectId.{ObjectId}
 use Rattle.frame.specs.Frame.{hostMax, idMax, Change, put, delete, Frame, change, commit, abort, frameLen}
 use Rattle.frame.specs.Reader.{clean}
-use Rattle.journal.specs.declared.Survey.{Survey}
+use Rattle.survey.specs.declared.Survey.{Survey}
 use Rattle.journal.specs.Block.{valid, lastTime, header, validData}
 use Rattle.journal.specs.Replay.{replay, lookup, isOpen}
 use Rattle.journal.specs.Room.{noRoom, spare}
 use Rattle.journal.specs.Index.{placesOf}
-use Rattle.journal.specs.Survey.{pendingBytes, surveyOf}
-use Rattle.journal.proofs.PerHost.{per-at, open-bytes}
+use Rattle.survey.specs.Survey.{pendingBytes, surveyOf}
+use Rattle.survey.proofs.PerHost.{per-at, open-bytes}
 use Rattle.journal.proofs.States.{Contents}
 use Rattle.journal.proofs.Places.{Journal, ValueStands, place-law, no-place}
 use Rattle.wire.specs.declared.Refusal.the-variants as refusal

@@ -16,7 +16,7 @@ use Rattle.frame.specs.declared.Host.{Host}
 use Rattle.frame.specs.Frame.{Frame, hostMax, endLen}
 use Rattle.frame.specs.Reader.{clean, cut, bad}
 use Rattle.journal.specs.Block.{headerLen, BlockState, blank, inProgress, valid, foreign, blockState}
-use Rattle.journal.specs.Survey.{surveyOf}
+use Rattle.survey.specs.Survey.{surveyOf}
 use Rattle.journal.proofs.States.{Contents, valid-inv}
 use Rattle.wire.specs.declared.Refusal.{Refusal}
 use Rattle.wire.specs.declared.Refusal.the-variants as refusal

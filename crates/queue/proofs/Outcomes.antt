@@ -12,7 +12,7 @@ use Rattle.frame.specs.declared.ObjectId.{ObjectId}
 use Rattle.frame.specs.declared.Head.the-variants as head
 use Rattle.frame.specs.Frame.{valueMax, put, change, frameLen}
 use Rattle.frame.specs.Code.{frameOf, headLen}
-use Rattle.journal.specs.declared.Survey.{Survey}
+use Rattle.survey.specs.declared.Survey.{Survey}
 use Rattle.journal.specs.Block.{lastTime}
 use Rattle.wire.specs.declared.Refusal.{Refusal}
 use Rattle.wire.specs.declared.Refusal.the-variants as refusal

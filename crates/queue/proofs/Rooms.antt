@@ -12,8 +12,8 @@ use Rattle.frame.specs.Reader.{Tail}
 use Rattle.journal.specs.Replay.{Entry, entry, replay, isOpen}
 use Rattle.journal.specs.Block.{valid}
 use Rattle.journal.specs.Room.{claimed, openHosts, spare, noRoom}
-use Rattle.journal.specs.Survey.{pendingBytes, perHost, surveyOf}
-use Rattle.journal.proofs.PerHost.{open-bytes, open-count, claimed-bytes}
+use Rattle.survey.specs.Survey.{pendingBytes, perHost, surveyOf}
+use Rattle.survey.proofs.PerHost.{open-bytes, open-count, claimed-bytes}
 use Rattle.journal.proofs.Lists.{open-snoc, open-snoc-other}
 use Rattle.journal.proofs.States.{Contents}
 use Rattle.queue.specs.Calls.{openIn, openWith, claimedIn, noRoomIn}

@@ -9,13 +9,13 @@ use Rattle.flash.specs.Flash.{blocks, block, sizeOf}
 use Rattle.frame.specs.declared.Host.{Host}
 use Rattle.frame.specs.declared.ObjectId.{ObjectId}
 use Rattle.frame.specs.Frame.{hostMax, put, delete, Frame, change, commit, abort, frameLen, deleteLen, endLen, encode, buffer}
-use Rattle.journal.specs.declared.Survey.{Survey}
-use Rattle.journal.specs.declared.Found.{Found}
-use Rattle.journal.specs.declared.Found.the-variants as found
+use Rattle.survey.specs.declared.Survey.{Survey}
+use Rattle.survey.specs.declared.Found.{Found}
+use Rattle.survey.specs.declared.Found.the-variants as found
 use Rattle.journal.specs.Block.{headerLen, lastTime}
 use Rattle.journal.specs.Room.{one}
 use Rattle.journal.specs.Index.{valueAt}
-use Rattle.journal.specs.Survey.{foundOf}
+use Rattle.survey.specs.Survey.{foundOf}
 use Rattle.wire.specs.declared.Answer.the-variants.{Done}
 use Rattle.wire.specs.declared.Refusal.the-variants as refusal
 use Rattle.wire.specs.declared.Request.{Request}

@@ -12,7 +12,7 @@ use crate::serving;
 use board::Record;
 use frame::Host;
 use job::records;
-use journal::Found;
+use survey::Found;
 use wire::Request;
 
 // A stretch of the image.
@@ -33,7 +33,7 @@ fn find(block: &[u8], places: [u16; 256], ask: Request) -> Found
     ensures { λ r. ⌜ r ≡ foundFor (now (block .entry)) places ask ⌝ }
 {
     match ask {
-        Request::Read(id) => return journal::value_at(block, id, serving::place_of(places, id)),
+        Request::Read(id) => return survey::value_at(block, id, serving::place_of(places, id)),
         Request::Put(_) => return Found::Nothing,
         Request::Delete(_) => return Found::Nothing,
         Request::Commit => return Found::Nothing,
@@ -54,7 +54,7 @@ pub fn locate(image: &[u8], board: Record, host: Host, message: &[u8]) -> Stretc
             let size = image.len() / 2;
             let mut places = records::no_places();
             let block = flash::block_of(image, board.block);
-            let s = journal::survey_block(block, &mut places);
+            let s = survey::survey_block(block, &mut places);
             match requests::hear(size, board.end, s, message) {
                 Ask::Refused(_) => return no_stretch(),
                 Ask::Serve(ask) => match find(block, places, ask) {

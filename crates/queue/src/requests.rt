@@ -10,9 +10,9 @@ use flash::BLOCKS;
 use frame::Host;
 use job::Outcome;
 use job::records;
-use journal::Survey;
 use store::image;
 use store::surveys;
+use survey::Survey;
 use wire::Parsed;
 use wire::Refusal;
 use wire::Request;
@@ -113,7 +113,7 @@ pub fn request(image: &[u8], board: Record, host: Host, message: &[u8], reply: &
         Gate::Open => {
             let size = image.len() / 2;
             let mut places = records::no_places();
-            let s = journal::survey_block(flash::block_of(image, board.block), &mut places);
+            let s = survey::survey_block(flash::block_of(image, board.block), &mut places);
             match hear(size, board.end, s, message) {
                 Ask::Refused(why) => return store::refused(why, board),
                 Ask::Serve(ask) => return serving::serve(

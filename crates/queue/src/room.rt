@@ -7,8 +7,8 @@ ghost use Rattle.journal.specs.Room.{one};
 ghost use Rattle.queue.specs.Calls.{claimedIn, openIn, openWith, noRoomIn};
 use frame::END_LEN;
 use frame::Host;
-use journal::Survey;
 use store::surveys;
+use survey::Survey;
 
 pub const END: usize = END_LEN as usize;
 

@@ -19,9 +19,9 @@ use frame::Host;
 use frame::ObjectId;
 use job::Outcome;
 use job::records;
-use journal::Survey;
 use store::image;
 use store::surveys;
+use survey::Survey;
 use wire::Answer;
 use wire::Page;
 use wire::Refusal;
@@ -155,7 +155,7 @@ fn serve_end(
     ensures { λ r. ⌜ r ≡ endIn size board s places host (headLen head) (bytesOf (frameOf head [])) ⌝ }
 {
     let p = s.pending;
-    if journal::of_host(p, host) == 0 {
+    if survey::of_host(p, host) == 0 {
         return done(board);
     }
     let none: [u8; 0] = [];

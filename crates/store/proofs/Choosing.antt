@@ -15,7 +15,7 @@ use Rattle.frame.specs.Reader.{Tail}
 use Rattle.journal.specs.Block.{BlockState, blank, inProgress, valid, foreign, blockState, lastTime}
 use Rattle.journal.specs.Room.{one}
 use Rattle.journal.specs.Index.{placesOf}
-use Rattle.journal.specs.Survey.{surveyOf, placesIn}
+use Rattle.survey.specs.Survey.{surveyOf, placesIn}
 use Rattle.journal.proofs.States.{valid-inv}
 use Rattle.board.specs.Record.{allowed, noFrame, Out}
 use Rattle.board.specs.Mount.{Found, wipeList, wipeArray, needsTransfer, mountAt, mountFound, mountOn}

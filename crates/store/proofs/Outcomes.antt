@@ -7,9 +7,9 @@ use lib.Dec.{eqb}
 use lib.ListN.{length}
 use Rattle.flash.specs.Bytes.{Bytes}
 use Rattle.flash.specs.Flash.{block, sizeOf}
-use Rattle.journal.specs.declared.Survey.{Survey}
+use Rattle.survey.specs.declared.Survey.{Survey}
 use Rattle.journal.specs.Block.{blockState, lastTime}
-use Rattle.journal.specs.Survey.{surveyOf, placesIn}
+use Rattle.survey.specs.Survey.{surveyOf, placesIn}
 use Rattle.wire.specs.declared.Answer.{Answer}
 use Rattle.wire.specs.declared.Refusal.the-variants as refusal
 use Rattle.board.specs.declared.Record.{Record}

@@ -12,8 +12,8 @@ use Rattle.frame.specs.Sentences.{Torn}
 use Rattle.frame.proofs.Scanned.{tail-cut}
 use Rattle.journal.specs.Replay.{Entry, replay, pendingFrame}
 use Rattle.journal.specs.Block.{headerLen, valid}
-use Rattle.journal.specs.Survey.{pendingOf, surveyOf}
-use Rattle.journal.proofs.PerHost.{bytes-total}
+use Rattle.survey.specs.Survey.{pendingOf, surveyOf}
+use Rattle.survey.proofs.PerHost.{bytes-total}
 use Rattle.journal.proofs.Replaying.{LegalEntries, sound-replay}
 use Rattle.journal.proofs.States.{Contents}
 use Rattle.board.specs.Mount.{anyPending, needsTransfer}

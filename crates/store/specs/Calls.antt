@@ -4,9 +4,9 @@ use mathlib.Core.Bool.{Bool, true, false, _&&_, _||_, cond, not}
 use Prim.Native.Nat.{ℕ, _+_}
 use lib.Dec.{eqb, ltb}
 use lib.ListN.{getD, set}
-use Rattle.journal.specs.declared.BlockKind.{BlockKind}
-use Rattle.journal.specs.declared.BlockKind.the-variants as kind
-use Rattle.journal.specs.declared.Survey.{Survey}
+use Rattle.survey.specs.declared.BlockKind.{BlockKind}
+use Rattle.survey.specs.declared.BlockKind.the-variants as kind
+use Rattle.survey.specs.declared.Survey.{Survey}
 use Rattle.journal.specs.Block.{lastTime}
 use Rattle.journal.specs.Room.{one}
 use Rattle.wire.specs.declared.Answer.the-variants.{Refused}

@@ -12,8 +12,8 @@ use flash::BLOCKS;
 use frame::ID_MAX;
 use job::Outcome;
 use job::records;
-use journal::BlockKind;
-use journal::Survey;
+use survey::BlockKind;
+use survey::Survey;
 use wire::Answer;
 use wire::Refusal;
 
@@ -188,8 +188,8 @@ pub fn mount(image: &[u8]) -> Outcome
     }
     let mut p = records::no_places();
     let mut q = records::no_places();
-    let a = journal::survey_block(flash::block_of(image, 0), &mut p);
-    let b = journal::survey_block(flash::block_of(image, 1), &mut q);
+    let a = survey::survey_block(flash::block_of(image, 0), &mut p);
+    let b = survey::survey_block(flash::block_of(image, 1), &mut q);
     mount_chosen((image.len() - 1) as u16, choose(a, b), a, p, b, q)
 }
 

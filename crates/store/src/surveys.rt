@@ -6,7 +6,7 @@ ghost use lib.Dec.{eqb};
 ghost use Rattle.journal.specs.Block.{lastTime};
 ghost use Rattle.store.specs.Calls.{isValid, sumOf, timeFor};
 use job::records::LAST_TIME;
-use journal::BlockKind;
+use survey::BlockKind;
 
 pub fn is_valid(kind: BlockKind) -> bool
     ensures { λ r. ⌜ r ≡ isValid kind ⌝ }

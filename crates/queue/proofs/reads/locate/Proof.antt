@@ -8,10 +8,10 @@ use Rattle.flash.specs.Bytes.{Bytes}
 use Rattle.journal.specs.Block.{blockState}
 use lib.ListN.{length}
 use Rattle.flash.specs.Flash.{sizeOf, block}
-use Rattle.journal.specs.Survey.{surveyOf, placesIn, stateOf}
-use Rattle.journal.proofs.Surveying.{half-fits}
+use Rattle.survey.specs.Survey.{surveyOf, placesIn, stateOf}
+use Rattle.survey.proofs.Surveying.{half-fits}
 use Rattle.board.specs.Record.{noStretch}
-use Rattle.frame.proofs.Misfits.{bytes-of}
+use Rattle.flash.proofs.Blank.{bytes-of}
 use Rattle.queue.proofs.Asking.{Passed, passed, looks, shut}
 use Rattle.queue.proofs.Handing.{Looked, none-read, not-served, read-stretch, read-inside, located}
 use Rattle.queue.proofs.reads.locate.Statement.{statement}

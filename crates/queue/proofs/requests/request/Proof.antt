@@ -6,11 +6,11 @@ use borrow.Author.Needs.{needs}
 use Rattle.flash.specs.Bytes.{Bytes}
 use Rattle.flash.specs.Flash.{sizeOf, block}
 use Rattle.journal.specs.Block.{blockState}
-use Rattle.journal.specs.Survey.{surveyOf, placesIn, stateOf}
-use Rattle.journal.proofs.Surveying.{half-fits}
+use Rattle.survey.specs.Survey.{surveyOf, placesIn, stateOf}
+use Rattle.survey.proofs.Surveying.{half-fits}
 use Rattle.board.specs.Queue.{requestOn}
 use Rattle.board.proofs.Images.{sized-of}
-use Rattle.frame.proofs.Misfits.{bytes-of}
+use Rattle.flash.proofs.Blank.{bytes-of}
 use Rattle.queue.proofs.Asking.{Passed, passed, looks, shut}
 use Rattle.queue.proofs.Outcomes.{with-reply, refused-all}
 use Rattle.queue.proofs.Handing.{Looked, not-served, served-says, served-outcome, served-reply}

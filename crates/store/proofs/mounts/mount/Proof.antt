@@ -4,12 +4,12 @@ use native.Mathlib.Omega.{arith}
 use denote.Ref.{now}
 use borrow.Author.Tests.{not-true, not-false}
 use Rattle.wire.specs.declared.Refusal.the-variants as refusal
-use Rattle.journal.specs.Survey.{surveyOf, placesIn}
-use Rattle.journal.proofs.Surveying.{half-fits}
+use Rattle.survey.specs.Survey.{surveyOf, placesIn}
+use Rattle.survey.proofs.Surveying.{half-fits}
 use Rattle.board.specs.Mount.{mountOn}
 use Rattle.board.proofs.Images.{sized-of}
 use Rattle.board.proofs.Outcomes.{mount-length}
-use Rattle.frame.proofs.Misfits.{bytes-of}
+use Rattle.flash.proofs.Blank.{bytes-of}
 use Rattle.store.specs.Calls.{outcomeOf, refused}
 use Rattle.store.proofs.Images.{block-fits}
 use Rattle.store.proofs.Outcomes.{both, mount-is}

@@ -1,0 +1,195 @@
+-- The index built frame after frame: what each frame does to the places and to `since`, as code that keeps no list of objects does it.
+use mathlib.Core.Path.{_≡_, refl, sym, ap, subst, _∙_}
+use mathlib.Core.List.{List, [], _∷_, _++_, append-assoc, append-nil}
+use mathlib.Core.Option.{Option, none, some}
+use mathlib.Core.Bool.{Bool, true, false}
+use Prim.Native.Nat.{ℕ, _+_, _≤_, _<_}
+use native.Mathlib.Omega.{arith}
+use lib.Dec.{eqb, leb}
+use lib.ListN.{getD, set, length-set}
+use lib.Seq.{ext-getD, getD-set-same, getD-set-other}
+use borrow.Author.Tests.{eqb-true, eqb-false, eq-eqb, ne-eqb, lt-leb}
+use Rattle.flash.proofs.Cases.{on-test, and-no-right}
+use Rattle.frame.specs.declared.Host.{Host}
+use Rattle.frame.specs.declared.ObjectId.{ObjectId}
+use Rattle.frame.specs.Frame.{idOf, hostOf, ChangeOf, Change, put, delete, FrameOf, Frame, change, commit, abort, settled, mapChange}
+use Rattle.frame.specs.Frame.{mapFrame, frameLen, total, MayStand, AllMayStand, nextOf}
+use Rattle.frame.proofs.Encode.{total-snoc}
+use Rattle.journal.specs.Block.{headerLen}
+use Rattle.journal.specs.Replay.{ObjectOf, object, EntryOf, StateOf, insert, remove, lookup, change1, changeAll, listOf, nextState, replay}
+use Rattle.journal.specs.Index.{sited, orZero, placesFrom, placesOf, isEnd, pick, sinceFrom, sinceHost}
+use Rattle.survey.specs.Pass.{placeChange, placeIf, placeFrame, commitPlaces}
+use Rattle.journal.proofs.Lookups.{lookup-yes, lookup-no, lookup-insert, lookup-insert-other, lookup-remove, lookup-remove-other}
+use Rattle.journal.proofs.Replaying.{replay-snoc, above-none, sound-replay}
+use Rattle.journal.proofs.Mapping.{located-sited, located-snoc}
+use Rattle.journal.proofs.Places.{places-at, length-from, sited-none}
+use Rattle.journal.proofs.Pending.{sinceIn, changeAt, entriesOf, pending-located, since-snoc}
+
+-- ---- one place changed
+
+abbrev table : List (ObjectOf ℕ) → List ℕ
+table os = placesFrom 256 0 os
+
+table-at : (os : List (ObjectOf ℕ)) (j : ℕ) → j < 256 → getD (table os) j 0 ≡ orZero (lookup (idOf j) os)
+table-at os j l = let e : 0 + j ≡ j = omega arith in places-at 256 0 j os l ∙ ap (λ (x : ℕ). orZero (lookup (idOf x) os)) e
+
+table-set : (os new : List (ObjectOf ℕ)) (i : ObjectId) (p : ℕ) → orZero (lookup i new) ≡ p
+    → ((j : ObjectId) → (j .0 ≡ i .0 → ⊥) → lookup j new ≡ lookup j os)
+    → table new ≡ set (table os) (i .0) p
+table-set os new i p e k =
+    ext-getD 0 (table new) (set (table os) (i .0) p) (length-from 256 0 new ∙ sym (length-set (table os) (i .0) p ∙ length-from 256 0 os))
+    (λ j l.
+    let l′ : j < 256 = omega (arith, length-from 256 0 new) in
+    on-test (eqb j (i .0))
+    (λ t.
+    let q : j ≡ i .0 = eqb-true j (i .0) t in
+    table-at new j l′ ∙ ap (λ (x : ℕ). orZero (lookup (idOf x) new)) q ∙ e
+    ∙ sym (ap (λ (x : ℕ). getD (set (table os) (i .0) p) x 0) q ∙ getD-set-same (table os) (i .0) p 0 (omega (arith, length-from 256 0 os))))
+    (λ t.
+    let q : j ≡ i .0 → ⊥ = eqb-false j (i .0) t in
+    table-at new j l′ ∙ ap orZero (k (idOf j) q) ∙ sym (getD-set-other (table os) (i .0) j p 0 q ∙ table-at os j l′)))
+
+table-change : (c : ChangeOf ℕ) (os : List (ObjectOf ℕ)) → table (change1 c os) ≡ placeChange c (table os)
+table-change (put i p) os = table-set os (insert i p os) i p (ap orZero (lookup-insert i p os)) (λ j n. lookup-insert-other j i p os n)
+table-change (delete i) os = table-set os (remove i os) i 0 (ap orZero (lookup-remove i os)) (λ j n. lookup-remove-other j i os n)
+
+placeChanges : List (ChangeOf ℕ) → List ℕ → List ℕ
+placeChanges [] t = t
+placeChanges (c ∷ cs) t = placeChanges cs (placeChange c t)
+
+table-changes : (cs : List (ChangeOf ℕ)) (os : List (ObjectOf ℕ)) → table (changeAll cs os) ≡ placeChanges cs (table os)
+unfolding changeAll placeChanges
+table-changes [] os = refl
+table-changes (c ∷ cs) os = table-changes cs (change1 c os) ∙ ap (placeChanges cs) (table-change c os)
+
+-- ---- a commit: one pass over the frames
+
+abbrev offsetThere : ℕ → List ℕ → ℕ
+offsetThere o v = o
+
+commit-change : (h g : Host) (since : Host → ℕ) (o : ℕ) (c : Change) (es : List (EntryOf ℕ)) (t : List ℕ)
+    → placeChanges (listOf h (changeAt offsetThere since o (change g c) ++ es)) t ≡ placeChanges (listOf h es) (placeFrame h (since h) o (change g c) t)
+unfolding listOf placeChanges
+commit-change h g since o c es t =
+    on-test (eqb (h .0) (g .0))
+    (λ u.
+    let q : since g ≡ since h = ap (λ (n : ℕ). since (hostOf n)) (sym (eqb-true (h .0) (g .0) u)) in
+    on-test (leb (since h) o)
+    (λ v. let w : leb (since g) o ≡ true = ap (λ (n : ℕ). leb n o) q ∙ v in rw (u, v, w, changeAt) (rw (u, listOf)))
+    (λ v. let w : leb (since g) o ≡ false = ap (λ (n : ℕ). leb n o) q ∙ v in rw (u, v, w, changeAt)))
+    (λ u. on-test (leb (since g) o) (λ w. rw (u, w, changeAt) (rw (u, listOf))) (λ w. rw (u, w, changeAt)))
+
+commit-pass : (h : Host) (since : Host → ℕ) (o : ℕ) (t : List ℕ) (fs : List Frame)
+    → placeChanges (listOf h (entriesOf offsetThere since o fs)) t ≡ commitPlaces h (since h) o t fs
+unfolding entriesOf listOf placeChanges commitPlaces
+commit-pass h since o t [] = refl
+commit-pass h since o t (change g c ∷ fs) =
+    let n : ℕ = o + frameLen (change g c) in
+    commit-change h g since o c (entriesOf offsetThere since n fs) t ∙ commit-pass h since n (placeFrame h (since h) o (change g c) t) fs
+commit-pass h since o t (commit g ∷ fs) = commit-pass h since (o + frameLen (commit g)) t fs
+commit-pass h since o t (abort g ∷ fs) = commit-pass h since (o + frameLen (abort g)) t fs
+commit-pass h since o t (settled i v ∷ fs) = commit-pass h since (o + frameLen (settled i v)) t fs
+
+-- ---- the table after one frame more
+
+sited-snoc : (fs : List Frame) (f : Frame) → replay (sited headerLen (fs ++ (f ∷ []))) ≡ nextState (replay (sited headerLen fs))
+    (mapFrame (λ v. headerLen + total fs) f)
+sited-snoc fs f =
+    let o : ℕ = headerLen + total fs in
+    ap replay (located-sited headerLen (fs ++ (f ∷ [])) ∙ located-snoc offsetThere headerLen fs f
+    ∙ ap (λ (x : List (FrameOf ℕ)). x ++ (mapFrame (λ v. o) f ∷ [])) (sym (located-sited headerLen fs)))
+    ∙ replay-snoc (sited headerLen fs) (mapFrame (λ v. o) f)
+
+pub places-change : (fs : List Frame) (h : Host) (c : Change) → placesOf (fs ++ (change h c ∷ [])) ≡ placesOf fs
+places-change fs h c = ap (λ (s : StateOf ℕ). table (s .objects)) (sited-snoc fs (change h c))
+
+pub places-abort : (fs : List Frame) (h : Host) → placesOf (fs ++ (abort h ∷ [])) ≡ placesOf fs
+places-abort fs h = ap (λ (s : StateOf ℕ). table (s .objects)) (sited-snoc fs (abort h))
+
+pub places-commit : (fs : List Frame) (h : Host) → placesOf (fs ++ (commit h ∷ [])) ≡ commitPlaces h (sinceHost h fs) headerLen (placesOf fs) fs
+places-commit fs h =
+    let s : StateOf ℕ = replay (sited headerLen fs) in
+    ap (λ (x : StateOf ℕ). table (x .objects)) (sited-snoc fs (commit h)) ∙ table-changes (listOf h (s .pending)) (s .objects)
+    ∙ ap (λ (x : List (EntryOf ℕ)). placeChanges (listOf h x) (placesOf fs))
+    (ap (λ (x : List (FrameOf ℕ)). replay x .pending) (located-sited headerLen fs) ∙ pending-located offsetThere fs)
+    ∙ commit-pass h (sinceIn fs) headerLen (placesOf fs) fs
+
+lookup-snoc : {A : Type 0} (j i : ObjectId) (v : A) (os : List (ObjectOf A)) → (j .0 ≡ i .0 → ⊥) → lookup j (os ++ (object i v ∷ [])) ≡ lookup j os
+unfolding lookup
+lookup-snoc j i v [] n = lookup-no j (object i v) [] (ne-eqb (j .0) (i .0) n)
+lookup-snoc j i v (o ∷ os) n =
+    on-test (eqb (j .0) (o .id .0))
+    (λ t. lookup-yes j o (os ++ (object i v ∷ [])) t ∙ sym (lookup-yes j o os t))
+    (λ t. lookup-no j o (os ++ (object i v ∷ [])) t ∙ lookup-snoc j i v os n ∙ sym (lookup-no j o os t))
+
+lookup-last : {A : Type 0} (i : ObjectId) (v : A) (os : List (ObjectOf A)) → lookup i os ≡ none → lookup i (os ++ (object i v ∷ [])) ≡ some v
+unfolding lookup
+lookup-last i v [] n = lookup-yes i (object i v) [] (eq-eqb (i .0) (i .0) refl)
+lookup-last {A} i v (o ∷ os) n =
+    on-test (eqb (i .0) (o .id .0))
+    (λ t. let z : _≡_ {A = Option A} (some (o .value)) none = sym (lookup-yes i o os t) ∙ n in let y : _≡_ {A = ℕ} 0 1 = cc in absurd (omega arith))
+    (λ t. lookup-no i o (os ++ (object i v ∷ [])) t ∙ lookup-last i v os (sym (lookup-no i o os t) ∙ n))
+
+pub places-settled : (fs : List Frame) (i : ObjectId) (v : List ℕ) → AllMayStand 0 fs → MayStand (nextOf 0 fs) (settled i v)
+    → placesOf (fs ++ (settled i v ∷ [])) ≡ set (placesOf fs) (i .0) (headerLen + total fs)
+places-settled fs i v g (a, b, c) =
+    let o : ℕ = headerLen + total fs in
+    let os : List (ObjectOf ℕ) = replay (sited headerLen fs) .objects in
+    let n : lookup i os ≡ none = sited-none fs i (above-none i 0 (replay fs .objects) (nextOf 0 fs) a (sound-replay fs g .rising)) in
+    ap (λ (s : StateOf ℕ). table (s .objects)) (sited-snoc fs (settled i v))
+    ∙ table-set os (os ++ (object i o ∷ [])) i o (ap orZero (lookup-last i o os n)) (λ j d. lookup-snoc j i o os d)
+
+-- ---- where a commit's pass may start
+
+-- `since` lies between two frames
+pub record Boundary (h : Host) (fs : List Frame) : Type 0 where
+  pub before : List Frame
+  pub after : List Frame
+  pub split : fs ≡ before ++ after
+  pub lies : sinceHost h fs ≡ headerLen + total before
+
+boundary-next : (h : Host) (fs : List Frame) (f : Frame) → Boundary h fs → Boundary h (fs ++ (f ∷ []))
+boundary-next h fs f y =
+    on-test (isEnd h f)
+    (λ t.
+    record {
+      before = fs ++ (f ∷ []);
+      after = [];
+      split = sym (append-nil (fs ++ (f ∷ [])));
+      lies =
+          since-snoc h headerLen headerLen fs f ∙ ap (λ (x : Bool). pick x (headerLen + total fs + frameLen f) (sinceHost h fs)) t
+          ∙ omega (arith, total-snoc fs f);
+    })
+    (λ t.
+    record {
+      before = y .before;
+      after = y .after ++ (f ∷ []);
+      split = ap (λ (x : List Frame). x ++ (f ∷ [])) (y .split) ∙ append-assoc (y .before) (y .after) (f ∷ []);
+      lies = since-snoc h headerLen headerLen fs f ∙ ap (λ (x : Bool). pick x (headerLen + total fs + frameLen f) (sinceHost h fs)) t ∙ y .lies;
+    })
+
+boundary-all : (h : Host) (fs gs : List Frame) → Boundary h fs → Boundary h (fs ++ gs)
+boundary-all h fs [] y = subst (Boundary h) (sym (append-nil fs)) y
+boundary-all h fs (g ∷ gs) y = subst (Boundary h) (append-assoc fs (g ∷ []) gs) (boundary-all h (fs ++ (g ∷ [])) gs (boundary-next h fs g y))
+
+pub boundary : (h : Host) (fs : List Frame) → Boundary h fs
+unfolding sinceFrom total
+boundary h fs = boundary-all h [] fs (record { before = []; after = []; split = refl; lies = refl })
+
+place-early : (h : Host) (d o : ℕ) (f : Frame) (t : List ℕ) → o < d → placeFrame h d o f t ≡ t
+place-early h d o (change g c) t l =
+    ap (λ (x : Bool). placeIf x (mapChange (λ v. o) c) t) (and-no-right (eqb (h .0) (g .0)) (leb d o) (lt-leb d o l))
+place-early h d o (commit g) t l = refl
+place-early h d o (abort g) t l = refl
+place-early h d o (settled i v) t l = refl
+
+-- what stands before `since` does nothing
+pub commit-from : (h : Host) (d o : ℕ) (t : List ℕ) (fs gs : List Frame) → o + total fs ≤ d
+    → commitPlaces h d o t (fs ++ gs) ≡ commitPlaces h d (o + total fs) t gs
+unfolding commitPlaces total
+commit-from h d o t [] gs l = let e : o ≡ o + 0 = omega arith in ap (λ (x : ℕ). commitPlaces h d x t gs) e
+commit-from h d o t (f ∷ fs) gs l =
+    let n : ℕ = o + frameLen f in
+    let e : n + total fs ≡ o + (frameLen f + total fs) = omega arith in
+    ap (λ (x : List ℕ). commitPlaces h d n x (fs ++ gs)) (place-early h d o f t (omega arith)) ∙ commit-from h d n t fs gs (omega arith)
+    ∙ ap (λ (x : ℕ). commitPlaces h d x t gs) e

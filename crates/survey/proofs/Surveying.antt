@@ -1,0 +1,212 @@
+-- A block's survey, by the way the code goes: which state it is in, and what a walk of its frames and a tally come to.
+use mathlib.Core.Path.{_≡_, refl, sym, ap, ap₂, subst, _∙_}
+use mathlib.Core.List.{List, [], _∷_, _++_, map}
+use mathlib.Core.Option.{Option, none, some}
+use mathlib.Core.Bool.{true, false}
+use Prim.Native.Nat.{ℕ, suc, _+_, _≤_, _<_}
+use native.Mathlib.Omega.{arith}
+use lib.Dec.{eqb}
+use lib.ListN.{length, getD, take, drop, replicate, length-drop, take-append-drop}
+use lib.Seq.{length-take-le}
+use borrow.Author.Tests.{le-leb, lt-leb}
+use Rattle.flash.specs.Bytes.{allFF}
+use Rattle.frame.specs.declared.Fault.{Fault}
+use Rattle.frame.specs.declared.Field.the-variants as field
+use Rattle.frame.specs.Frame.{Frame, total, nextOf}
+use Rattle.frame.specs.Reader.{fault, Tail, clean, cut, bad, Scan, scan, ends}
+use Rattle.frame.specs.Sentences.{Torn}
+use Rattle.frame.proofs.Scanned.{Scanned, scan-inv, scan-length, tail-cut}
+use Rattle.survey.specs.declared.HeaderCheck.the-variants as check
+use Rattle.survey.specs.declared.Progress.{Progress}
+use Rattle.survey.specs.declared.Tail.the-variants as tail
+use Rattle.survey.specs.declared.Walk.{Walk}
+use Rattle.survey.specs.declared.BlockKind.{BlockKind}
+use Rattle.survey.specs.declared.BlockKind.the-variants as kind
+use Rattle.survey.specs.declared.Survey.{Survey}
+use Rattle.journal.specs.Replay.{Object, lookup, listOf, replay, replayFrom, settledFrame}
+use Rattle.journal.specs.Block.{headerLen, blockMax, stateAt, inTransfer, createdAt, headerFault, BlockState, blank, inProgress, valid, foreign, ofTail}
+use Rattle.journal.specs.Block.{ofHeader, blockState}
+use Rattle.journal.specs.Index.{sited, placesFrom, placesOf, sinceFrom, sinceOf}
+use Rattle.survey.specs.Survey.{pendingOf, tornLen, surveyOf, placesIn, stateOf}
+use Rattle.survey.specs.Pass.{headerOf, progressOf, tailOf, walkOf, settledAt, emptySurvey, foundSurvey}
+use Rattle.journal.proofs.Replaying.{rising-to, Sound, sound-replay}
+use Rattle.journal.proofs.Places.{Journal, place-value}
+use Rattle.survey.proofs.Fetching.{collect}
+
+-- ---- no frames
+
+pub no-places : placesOf [] ≡ replicate 256 0
+unfolding placesFrom sited replayFrom lookup
+no-places = refl
+
+pub no-places-of : (n : ℕ) → n ≡ 256 → replicate n 0 ≡ placesOf []
+no-places-of n e = ap (λ (m : ℕ). replicate m 0) e ∙ sym no-places
+
+-- a block that isn't valid, and a table of no places
+record Empty (s : BlockState) (k : BlockKind) : Type 0 where
+  survey : emptySurvey k ≡ surveyOf s
+  places : placesOf [] ≡ placesIn s
+
+empty-blank : Empty blank kind.Blank
+unfolding emptySurvey surveyOf total sinceFrom replayFrom listOf
+empty-blank = record { survey = refl; places = refl }
+
+empty-progress : Empty inProgress kind.InProgress
+unfolding emptySurvey surveyOf total sinceFrom replayFrom listOf
+empty-progress = record { survey = refl; places = refl }
+
+empty-foreign : (x : Fault) → Empty (foreign x) (kind.Foreign x)
+unfolding emptySurvey surveyOf total sinceFrom replayFrom listOf
+empty-foreign x = record { survey = refl; places = refl }
+
+-- what the code gives back for a block in a state
+abbrev pub Right : BlockState → Survey → List ℕ → Type 0
+Right s r t = (r ≡ surveyOf s) × (t ≡ placesIn s)
+
+empty-right : {s : BlockState} {k : BlockKind} {q : BlockState} {r : Survey} {t : List ℕ} → Empty s k → q ≡ s → r ≡ emptySurvey k
+    → t ≡ placesOf [] → Right q r t
+empty-right {s} {k} {q} {r} {t} e p u v =
+    subst (λ (x : BlockState). Right x r t) (sym p) (u ∙ e .survey, v ∙ e .places)
+
+pub right-empty : (x : Fault) (r : Survey) (t : List ℕ) → r ≡ emptySurvey (kind.Foreign x) → t ≡ placesOf [] → Right (foreign x) r t
+right-empty x r t u v = empty-right (empty-foreign x) refl u v
+
+-- ---- by the block's length
+
+module _ (b : List ℕ) where
+  pub half-short : length b < headerLen → stateOf b ≡ foreign (fault field.Length 0)
+  unfolding stateOf
+  half-short l = rw (lt-leb headerLen (length b) l, stateOf)
+
+  pub half-long : headerLen ≤ length b → blockMax < length b → stateOf b ≡ foreign (fault field.Length 0)
+  unfolding stateOf
+  half-long l m = rw (le-leb headerLen (length b) l, lt-leb (length b) blockMax m, stateOf)
+
+  -- callers' blocks are halves
+  pub half-fits : (headerLen ≤ length b) × (length b ≤ blockMax) → stateOf b ≡ blockState b
+  unfolding stateOf
+  half-fits (l, m) = rw (le-leb headerLen (length b) l, le-leb (length b) blockMax m, stateOf)
+
+  pub right-as : (s : BlockState) (r : Survey) (t : List ℕ) → stateOf b ≡ s → Right s r t → Right (stateOf b) r t
+  right-as s r t e y = subst (λ (x : BlockState). Right x r t) (sym e) y
+
+-- ---- which state
+
+module _ (b : List ℕ) (r : Survey) (t : List ℕ) where
+  pub right-blank : allFF b ≡ true → r ≡ emptySurvey kind.Blank → t ≡ placesOf [] → Right (blockState b) r t
+  unfolding blockState
+  right-blank a u v = empty-right empty-blank (rw (a, blockState)) u v
+
+  module _ (a : allFF b ≡ false) where
+    pub right-progress : eqb (getD b stateAt 0) inTransfer ≡ true → r ≡ emptySurvey kind.InProgress → t ≡ placesOf [] → Right (blockState b) r t
+    unfolding blockState
+    right-progress p u v = empty-right empty-progress (rw (a, p, blockState)) u v
+
+    module _ (p : eqb (getD b stateAt 0) inTransfer ≡ false) where
+      state-is : blockState b ≡ ofHeader b (headerFault b)
+      unfolding blockState
+      state-is = rw (a, p, blockState)
+
+      pub right-foreign : (x : Fault) → headerOf (headerFault b) ≡ check.Bad x → r ≡ emptySurvey (kind.Foreign x) → t ≡ placesOf [] → Right (blockState b) r t
+      right-foreign x e u v = empty-right (empty-foreign x) (state-is ∙ ap (ofHeader b) (go (headerFault b) e)) u v
+        where
+          go : (o : Option Fault) → headerOf o ≡ check.Bad x → o ≡ some x
+          go none q = let z : _≡_ {A = ℕ} 0 1 = cc in absurd (omega arith)
+          go (some y) q = cc
+
+      pub right-sound : headerOf (headerFault b) ≡ check.Sound → Right (ofHeader b none) r t → Right (blockState b) r t
+      right-sound e y = subst (λ (s : BlockState). Right s r t) (sym (state-is ∙ ap (ofHeader b) (go (headerFault b) e))) y
+        where
+          go : (o : Option Fault) → headerOf o ≡ check.Sound → o ≡ none
+          go none q = refl
+          go (some y) q = let z : _≡_ {A = ℕ} 0 1 = cc in absurd (omega arith)
+
+-- ---- a valid block
+
+length-settled : (os : List Object) → length (map settledFrame os) ≡ length os
+length-settled [] = refl
+length-settled (o ∷ os) = ap suc (length-settled os)
+
+module _ (b : List ℕ) (h : headerLen ≤ length b) where
+  abbrev frames-scan : Scan
+  frames-scan = scan 0 headerLen 0 (drop headerLen b)
+
+  abbrev fs : List Frame
+  fs = frames-scan .frames
+
+  scanned : Scanned 0 headerLen (drop headerLen b) frames-scan
+  scanned = scan-inv 0 headerLen (drop headerLen b)
+
+  journal : Journal b fs
+  journal =
+      record {
+        head = take headerLen b;
+        rest = scanned .rest;
+        split = sym (take-append-drop headerLen b) ∙ ap (λ (x : List ℕ). take headerLen b ++ x) (scanned .is);
+        long = length-take-le headerLen b h;
+        stand = scanned .stands;
+      }
+
+  settled-all : settledAt b (placesOf fs) 256 0 ≡ map settledFrame (replay fs .objects)
+  settled-all =
+      let k : Sound (nextOf 0 fs) (replay fs) = sound-replay fs (scanned .stands) in
+      collect b (placesOf fs) 256 0 (replay fs .objects) (omega arith) (rising-to 0 (replay fs .objects) (nextOf 0 fs) 256 (k .low) (k .rising))
+      (λ j u w. place-value b fs (record { 0 = j }) journal w)
+
+  survey-found : (c : Tail) → foundSurvey b (placesOf fs) (progressOf fs) (tornLen c) ≡ surveyOf (valid (createdAt b) fs c)
+  unfolding foundSurvey surveyOf
+  survey-found c =
+      ap₂
+      (λ (n u : ℕ). record {
+        kind = kind.Valid;
+        time = createdAt b;
+        end = headerLen + total fs;
+        torn = tornLen c;
+        since = sinceOf fs;
+        pending = pendingOf fs;
+        count = n;
+        used = u;
+      })
+      (ap length settled-all ∙ length-settled (replay fs .objects)) (ap (λ (x : List Frame). headerLen + total x) settled-all)
+
+  module _ (w : Walk) (t : List ℕ) (r : Survey) (e : w ≡ walkOf frames-scan) (p : t ≡ placesOf fs) where
+    tail-is : tailOf (frames-scan .tail) ≡ w .tail
+    tail-is = ap (λ (x : Walk). x .tail) (sym e)
+
+    right-valid : (c : Tail) → frames-scan .tail ≡ c → ofTail (createdAt b) fs c ≡ valid (createdAt b) fs c → r ≡ foundSurvey b t (w .progress) (tornLen c)
+        → Right (ofHeader b none) r t
+    right-valid c q o u =
+        subst (λ (s : BlockState). Right s r t) (sym (ap (ofTail (createdAt b) fs) q ∙ o))
+        (u ∙ ap₂ (λ (x : List ℕ) (y : Progress). foundSurvey b x y (tornLen c)) p (ap (λ (x : Walk). x .progress) e) ∙ survey-found c, p)
+
+    pub right-clean : w .tail ≡ tail.Clean → r ≡ foundSurvey b t (w .progress) 0 → Right (ofHeader b none) r t
+    right-clean q u = right-valid clean (go (frames-scan .tail) (tail-is ∙ q)) refl u
+      where
+        go : (c : Tail) → tailOf c ≡ tail.Clean → c ≡ clean
+        go clean z = refl
+        go (cut n) z = let y : _≡_ {A = ℕ} 0 1 = cc in absurd (omega arith)
+        go (bad x) z = let y : _≡_ {A = ℕ} 0 1 = cc in absurd (omega arith)
+
+    cut-is : (n : ℕ) (c : Tail) → tailOf c ≡ tail.Cut n → c ≡ cut n
+    cut-is n clean z = let y : _≡_ {A = ℕ} 0 1 = cc in absurd (omega arith)
+    cut-is n (cut m) z = cc
+    cut-is n (bad x) z = let y : _≡_ {A = ℕ} 0 1 = cc in absurd (omega arith)
+
+    pub right-cut : (n : ℕ) → w .tail ≡ tail.Cut n → r ≡ foundSurvey b t (w .progress) n → Right (ofHeader b none) r t
+    right-cut n q u = right-valid (cut n) (cut-is n (frames-scan .tail) (tail-is ∙ q)) refl u
+
+    -- a torn frame would fit
+    pub cut-fits : (n : ℕ) → w .tail ≡ tail.Cut n → n ≤ length b
+    cut-fits n q =
+        let y : Torn (nextOf 0 fs) (scanned .rest) n =
+        tail-cut (nextOf 0 fs) (headerLen + total fs) (scanned .rest) n (scanned .tail ∙ ap ends (cut-is n (frames-scan .tail) (tail-is ∙ q))) in
+        omega (arith, y .would-fit, y .long, scan-length 0 headerLen (drop headerLen b) frames-scan scanned, length-drop headerLen b)
+
+    -- the table is cleared again
+    pub right-bad : (x : Fault) (u : List ℕ) → w .tail ≡ tail.Bad x → r ≡ emptySurvey (kind.Foreign x) → u ≡ placesOf [] → Right (ofHeader b none) r u
+    right-bad x u q v z = empty-right (empty-foreign x) (ap (ofTail (createdAt b) fs) (go (frames-scan .tail) (tail-is ∙ q))) v z
+      where
+        go : (c : Tail) → tailOf c ≡ tail.Bad x → c ≡ bad x
+        go clean z = let y : _≡_ {A = ℕ} 0 1 = cc in absurd (omega arith)
+        go (cut m) z = let y : _≡_ {A = ℕ} 0 1 = cc in absurd (omega arith)
+        go (bad y) z = cc

@@ -1,0 +1,84 @@
+-- A commit: the frames from here on do what the frames from `since` on did.
+use mathlib.Core.Path.{_≡_, refl, sym, _∙_}
+use native.Mathlib.Omega.{arith}
+use Prim.Native.Nat.{_-_, _≤_}
+use denote.Ref.{now}
+use lib.ListN.{length, drop}
+use borrow.Author.Needs.{needs}
+use Rattle.survey.proofs.HeadLaws.{commit-blank, commit-torn, commit-wrong, commit-on}
+use Rattle.frame.specs.Reader.{scan}
+use Rattle.survey.specs.Pass.{commitPlaces, recommit}
+use Rattle.survey.proofs.FrameReads.{read-inside}
+use Rattle.survey.proofs.pass.commit_own.Statement.{statement}
+use Rattle.survey.proofs.pass.commit_own.Tie as tie
+
+abbrev Inv-loop : tie.InvT-loop
+Inv-loop part host since places₀ at₀ next₀ places at next =
+    (commitPlaces host since at places (scan next at 0 (drop at part) .frames) ≡ recommit part host since places₀) × (since ≤ at)
+
+abbrev μ-loop : tie.MeasureT-loop
+μ-loop part host since places₀ at₀ next₀ places at next = length part - at
+
+pub commit-own-spec : {M : Type 1} → statement M
+unfolding recommit
+commit-own-spec =
+    tie.close
+    (tie.spec
+    Inv-loop
+    μ-loop
+    (λ c. (refl, omega arith))
+    (λ c κs. search needs)
+    (λ c. search needs)
+    (λ c.
+    let read-frame′ = c .before .before .before .before .read-frame in
+    let loop′ = c .before .before .before .before .before .loop in
+    let args′ = c .before .before .before .before .before .before .before .args in
+    let pre′ = c .before .before .before .before .before .before .before .pre in
+    omega (arith, read-inside (loop′ .next) (loop′ .at) (now (args′ .part)) _ (sym (read-frame′ .ensures) ∙ c .before .before .head .given .1), pre′))
+    (λ c κs. search needs)
+    (λ c κs. search needs)
+    (λ c κs. search needs)
+    (λ c.
+    let head′ = c .before .before .before .before .before .head in
+    let read-frame′ = c .before .before .before .before .before .before .before .read-frame in
+    let loop′ = c .before .before .before .before .before .before .before .before .loop in
+    let args′ = c .before .before .before .before .before .before .before .before .before .before .args in
+    let pre′ = c .before .before .before .before .before .before .before .before .before .before .pre in
+    omega (arith, read-inside (loop′ .next) (loop′ .at) (now (args′ .part)) _ (sym (read-frame′ .ensures) ∙ head′ .given .1), c .frame-len .ensures, pre′))
+    (λ c.
+    let head′ = c .before .before .before .before .before .head in
+    let read-frame′ = c .before .before .before .before .before .before .before .read-frame in
+    let loop′ = c .before .before .before .before .before .before .before .before .loop in
+    let args′ = c .before .before .before .before .before .before .before .before .before .before .args in
+    omega (arith, read-inside (loop′ .next) (loop′ .at) (now (args′ .part)) _ (sym (read-frame′ .ensures) ∙ head′ .given .1), c .frame-len .ensures))
+    (λ c.
+    let head′ = c .before .before .before .before .before .head in
+    let read-frame′ = c .before .before .before .before .before .before .before .read-frame in
+    let loop′ = c .before .before .before .before .before .before .before .before .loop in
+    let args′ = c .before .before .before .before .before .before .before .before .before .before .args in (
+      rw (c .before .before .place-own .ensures, c .before .next-after .ensures, c .frame-len .ensures)
+          (sym (commit-on (args′ .host) (args′ .since) (loop′ .next) (loop′ .at) (loop′ .places) (now (args′ .part)) _ (loop′ .inv .1)
+          (sym (read-frame′ .ensures) ∙ head′ .given .1)) ∙ loop′ .inv .0),
+      omega arith,
+    ))
+    (λ c. search needs)
+    (λ c.
+    let loop′ = c .before .before .before .loop in
+    let args′ = c .before .before .before .before .before .args in
+    sym (commit-blank (args′ .host) (args′ .since) (loop′ .next) (loop′ .at) (loop′ .places) (now (args′ .part))
+    (sym (c .before .before .read-frame .ensures) ∙ c .enum-told .given .1))
+    ∙ loop′ .inv .0)
+    (λ c. search needs)
+    (λ c.
+    let loop′ = c .before .before .before .loop in
+    let args′ = c .before .before .before .before .before .args in
+    sym (commit-torn (args′ .host) (args′ .since) (loop′ .next) (loop′ .at) (loop′ .places) (now (args′ .part)) _
+    (sym (c .before .before .read-frame .ensures) ∙ c .enum-told2 .given .1))
+    ∙ loop′ .inv .0)
+    (λ c. search needs)
+    (λ c.
+    let loop′ = c .before .before .before .loop in
+    let args′ = c .before .before .before .before .before .args in
+    sym (commit-wrong (args′ .host) (args′ .since) (loop′ .next) (loop′ .at) (loop′ .places) (now (args′ .part)) _
+    (sym (c .before .before .read-frame .ensures) ∙ c .enum-told3 .given .1))
+    ∙ loop′ .inv .0))

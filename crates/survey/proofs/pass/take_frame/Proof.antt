@@ -1,0 +1,77 @@
+-- One frame more, by its head.
+use mathlib.Core.Path.{sym, ap, _∙_}
+use native.Mathlib.Omega.{arith}
+use Prim.Native.Nat.{ℕ}
+use denote.Ref.{now}
+use lib.ListN.{take}
+use lib.ListN.{length-take}
+use lib.Seq.{length-take-le}
+use Rattle.frame.specs.Code.{headLen}
+use Rattle.survey.specs.Pass.{recommit, grown, passed, tookFrame, tookPlaces}
+use borrow.Author.Needs.{needs}
+use Rattle.survey.proofs.pass.take_frame.Statement.{statement}
+use Rattle.survey.proofs.pass.take_frame.Tie as tie
+
+pub take-frame-spec : {M : Type 1} → statement M
+unfolding tookFrame tookPlaces
+take-frame-spec =
+    tie.close
+    (tie.spec
+    (λ c κs. search needs)
+    (λ c. search needs)
+    (λ c. search needs)
+    (λ c κs.
+    let pre′ = c .before .before .before .before .before .pre in
+    (omega (arith, c .before .before .before .frame-len .ensures, pre′), pre′ .2 _))
+    (λ c. search needs)
+    (λ c κs.
+    let pre′ = c .before .before .before .before .before .pre in
+    (omega (arith, c .before .before .before .frame-len .ensures, pre′), pre′ .2 _))
+    (λ c. search needs)
+    (λ c κs. search needs)
+    (λ c. search needs)
+    (λ c. search needs)
+    (λ c.
+    let args′ = c .before .before .before .before .before .before .before .before .args in
+    let pre′ = c .before .before .before .before .before .before .before .before .pre in
+    sym (length-take-le (args′ .p .end) (now (args′ .block)) (omega (arith, pre′))))
+    (λ c κs.
+    let args′ = c .before .before .before .before .before .before .before .before .before .args in
+    let pre′ = c .before .before .before .before .before .before .before .before .before .pre in
+    omega (arith, length-take (args′ .p .end) (now (args′ .block)), pre′))
+    (λ c κs.
+    let head3′ = c .before .before .before .before .before .before .head3 in
+    let pre′ = c .before .before .before .before .before .before .before .before .before .before .pre in
+    omega (arith, pre′, ap headLen (head3′ .given .1)))
+    (λ c. search needs)
+    (λ c κs. omega (arith, c .before .before .before .before .before .pre, ap headLen (c .before .head4 .given .1)))
+    (λ c. search needs)
+    (λ c κs. search needs)
+    (λ c κs. search needs)
+    (λ c.
+    let head′ = c .before .before .head in
+    let frame-len′ = c .before .before .before .before .frame-len in
+    let args′ = c .before .before .before .before .before .before .args in
+    (rw (head′ .given .1) (c .grow .ensures ∙ ap (grown (args′ .p) _) (frame-len′ .ensures ∙ ap headLen (head′ .given .1))), rw (head′ .given .1)))
+    (λ c.
+    let head2′ = c .before .before .head2 in
+    let frame-len′ = c .before .before .before .before .frame-len in
+    let args′ = c .before .before .before .before .before .before .args in
+    (rw (head2′ .given .1) (c .grow2 .ensures ∙ ap (grown (args′ .p) _) (frame-len′ .ensures ∙ ap headLen (head2′ .given .1))), rw (head2′ .given .1)))
+    (λ c.
+    let of-host′ = c .before .before .before .before .of-host in
+    let head3′ = c .before .before .before .before .before .before .before .head3 in
+    let args′ = c .before .before .before .before .before .before .before .before .before .before .before .args in (
+      rw (head3′ .given .1) (c .close .ensures),
+      rw (head3′ .given .1)
+          (c .before .commit-own .ensures ∙ ap (λ (m : ℕ). recommit (take (args′ .p .end) (now (args′ .block))) (head3′ .given .0 .0) m
+          (now (args′ .places))) (of-host′ .ensures)),
+    ))
+    (λ c. (rw (c .before .before .head4 .given .1) (c .close2 .ensures), rw (c .before .before .head4 .given .1)))
+    (λ c.
+    let head5′ = c .before .before .before .before .head5 in
+    let frame-len′ = c .before .before .before .before .before .before .frame-len in
+    let args′ = c .before .before .before .before .before .before .before .before .args in (
+      rw (head5′ .given .1) (c .settle .ensures ∙ ap (passed (args′ .p) _) (frame-len′ .ensures ∙ ap headLen (head5′ .given .1))),
+      rw (head5′ .given .1) (c .before .store .ensures),
+    )))

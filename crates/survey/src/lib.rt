@@ -1,0 +1,88 @@
+// Reading a block: its header, its frames, and what replaying them gives.
+mod block;
+mod header;
+mod hosts;
+mod index;
+mod pass;
+
+pub use block::survey_block;
+use frame::Fault;
+use frame::Head;
+pub use hosts::of_host;
+pub use index::next_load;
+pub use index::value_at;
+
+// What is wrong with a header, if anything is.
+pub enum HeaderCheck {
+    Sound,
+    Bad(Fault),
+}
+
+// Where in a block a value starts, and how many bytes it has.
+pub enum Found {
+    At(usize, u8),
+    Nothing,
+}
+
+// A frame to copy: its head, where its value starts in the block, and the cursor after it.
+pub struct Fetch {
+    pub head: Head,
+    pub value: usize,
+    pub id: u16,
+    pub source: u16,
+}
+
+pub enum Fetched {
+    Frame(Fetch),
+    Nothing,
+}
+
+// What the frames of a block come to, as far as they were read.
+pub struct Progress {
+    // where the next frame stands, and the least id that it may have if it is settled
+    pub end: u16,
+    pub next: usize,
+    // for each host the offset past its last commit or abort, and its pending frames' bytes
+    pub since: [u16; 4],
+    pub pending: [u16; 4],
+}
+
+// What follows the whole frames of a block: nothing, a torn frame of a length, or something else.
+pub enum Tail {
+    Clean,
+    Cut(usize),
+    Bad(Fault),
+}
+
+pub struct Walk {
+    pub progress: Progress,
+    pub tail: Tail,
+}
+
+pub enum BlockKind {
+    Blank,
+    InProgress,
+    Valid,
+    Foreign(Fault),
+}
+
+// The settled objects of a block: how many, and U.
+pub struct Tally {
+    pub count: u16,
+    pub used: u16,
+}
+
+// All that there is to know of a block; of one that isn't valid, its kind.
+pub struct Survey {
+    pub kind: BlockKind,
+    pub time: u32,
+    // where its whole frames end, and the length of a torn one after them, 0 for none
+    pub end: u16,
+    pub torn: u16,
+    // for each host the offset past its last commit or abort, and its pending frames' bytes
+    pub since: [u16; 4],
+    pub pending: [u16; 4],
+    // settled objects, and U
+    pub count: u16,
+    pub used: u16,
+}
