@@ -12,7 +12,8 @@ use Rattle.board.specs.Record.{Out}
 use Rattle.lent.specs.Layout.{recordSize, recordIn, recordBytes, recordInto, RecordFits, BytesBack}
 use Rattle.lent.proofs.Inverse.{bytes-back}
 use Rattle.job.specs.declared.Outcome.{Outcome}
-use Rattle.grommetide.specs.Edge.{Edge, guarded, changes, written, ReadsBack}
+use Rattle.grommetide.specs.Edge.{Edge, guarded, written, ReadsBack}
+use Rattle.pack.specs.Code.{changes}
 use Rattle.grommetide.proofs.Kept.{Keeps}
 
 filled : (r : Record) (b : List ℕ) → length b ≡ recordSize → recordInto r b ≡ recordBytes r

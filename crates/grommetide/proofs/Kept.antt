@@ -23,7 +23,7 @@ use Rattle.board.specs.Queue.{Held, needsRoom, appendJob, requestOn}
 use Rattle.board.specs.Demand1.{Rests}
 use Rattle.board.proofs.Outcomes.{wipe-skips, open-enters, open-skips, append-enters, step-resting, step-outside, step-goes}
 use Rattle.board.proofs.Planning.{Met, refused, done, begun, request-met}
-use Rattle.grommetide.specs.Edge.{changes}
+use Rattle.pack.specs.Code.{changes}
 
 -- a call that left the record, or that changes it
 abbrev pub Keeps : Record → Out → Type 0

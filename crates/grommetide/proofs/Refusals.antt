@@ -18,19 +18,7 @@ use Rattle.board.specs.Exec.{request, step}
 use Rattle.board.proofs.Refusals.{refusals-untouched}
 use Rattle.board.proofs.Planning.{Met, refused, done, begun, request-met}
 use Rattle.lent.specs.Layout.{recordSize, recordIn}
-use Rattle.grommetide.specs.Edge.{
-  holdsRecord,
-  guarded,
-  written,
-  edgeRequest,
-  edgeStep,
-  asRead,
-  edgeRead,
-  Refuses,
-  Stays,
-  RefusedStays,
-  RefusedReadEmpty,
-}
+use Rattle.grommetide.specs.Edge.{holdsRecord, guarded, written, edgeRequest, edgeStep, asRead, edgeRead, Refuses, Stays, RefusedStays, RefusedReadEmpty}
 
 -- an answer that refuses is a refusal's
 is-refused : (a : Answer) → Refuses (edgeNumber a) → (n : Refusal) × (a ≡ Refused n)

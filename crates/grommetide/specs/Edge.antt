@@ -5,20 +5,16 @@ use mathlib.Core.Bool.{Bool, true, false, cond}
 use Prim.Native.Nat.{ℕ, _<_}
 use lib.Dec.{eqb}
 use lib.ListN.{length}
-use Rattle.wire.specs.declared.Answer.{Answer}
-use Rattle.wire.specs.declared.Answer.the-variants.{Done, More, Refused}
 use Rattle.wire.specs.declared.Request.the-variants.{Put, Delete, Commit, Abort, Read, Log}
 use Rattle.wire.specs.declared.Parsed.{Parsed}
 use Rattle.wire.specs.declared.Parsed.the-variants.{Is, Malformed}
 use Rattle.wire.specs.Answer.{edgeNumber}
 use Rattle.wire.specs.Message.{parse}
-use Rattle.board.specs.declared.Phase.{Phase}
 use Rattle.board.specs.declared.Record.{Record}
 use Rattle.board.specs.Record.{Out}
 use Rattle.board.specs.Step.{stepOn}
 use Rattle.board.specs.Mount.{mountOn, formatOn}
 use Rattle.board.specs.Queue.{requestOn}
-use Rattle.board.specs.Table.{isBusy}
 use Rattle.lent.specs.Layout.{recordSize, recordIn, recordBytes}
 
 -- an answer's number, and the buffers after the call
@@ -41,12 +37,6 @@ guarded img b reply o after =
     cond (holdsRecord b) (edge (edgeNumber (o .answer)) (o .image) after (o .reply)) (edge 254 img b reply)
 
 -- ---- requests and steps write the record only where a job began, went on or ended
-
--- whether the record changed, by the phase before the call and its answer
-abbrev pub changes : Phase → Answer → Bool
-changes p Done = isBusy p
-changes p More = true
-changes p (Refused n) = false
 
 -- the record buffer after the call
 abbrev pub written : List ℕ → Out → List ℕ

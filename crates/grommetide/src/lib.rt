@@ -1,19 +1,13 @@
 // The library for C: include/grommetide.h. The record crosses as bytes.
 ghost use mathlib.Core.Path.{_≡_};
-ghost use mathlib.Core.Bool.{cond};
-ghost use Rattle.wire.specs.Answer.{edgeNumber};
 ghost use Rattle.board.specs.Step.{stepOn};
 ghost use Rattle.board.specs.Mount.{mountOn, formatOn};
 ghost use Rattle.board.specs.Queue.{requestOn};
-ghost use Rattle.board.specs.Table.{isBusy};
-ghost use Rattle.lent.specs.Layout.{recordSize, recordIn, recordInto};
-ghost use Rattle.grommetide.specs.Edge.{changes, edgeMount, edgeFormat, edgeRequest, edgeStep, ReadsBack};
+ghost use Rattle.lent.specs.Layout.{recordSize, recordIn};
+ghost use Rattle.grommetide.specs.Edge.{edgeMount, edgeFormat, edgeRequest, edgeStep, ReadsBack};
 ghost use Rattle.grommetide.specs.Edge.{place, isRead, asRead, edgeRead};
-use board::Phase;
 use frame::Host;
-use job::Outcome;
 use lent::RECORD_SIZE;
-use wire::Answer;
 use wire::Parsed;
 use wire::Request;
 
@@ -29,16 +23,6 @@ pub extern "C" fn grommetide_record_size() -> usize
     RECORD_SIZE
 }
 
-// The record written, and the answer.
-fn hand_over(out: Outcome, board: &mut [u8]) -> u8
-    ensures { λ r. ⌜ (r ≡ edgeNumber (out .answer)) × (now (board .exit) ≡ recordInto (out .board) (now (board .entry))) ⌝ }
-{
-    let b = out.board;
-    lent::encode(b, board);
-    let answer = out.answer;
-    wire::number(answer)
-}
-
 #[no_mangle]
 pub extern "C" fn grommetide_mount(image: &[u8], board: &mut [u8]) -> u8
     ensures { λ r. ⌜ (r ≡ edgeMount (now (image .entry)) (now (board .entry)) .answer)
@@ -48,7 +32,7 @@ pub extern "C" fn grommetide_mount(image: &[u8], board: &mut [u8]) -> u8
     if board.len() != RECORD_SIZE {
         return WRONG_RECORD;
     }
-    hand_over(store::mount(image), board)
+    pack::hand_over(store::mount(image), board)
 }
 
 #[no_mangle]
@@ -60,41 +44,7 @@ pub extern "C" fn grommetide_format(image: &[u8], board: &mut [u8]) -> u8
     if board.len() != RECORD_SIZE {
         return WRONG_RECORD;
     }
-    hand_over(store::format(image), board)
-}
-
-fn in_job(phase: Phase) -> bool
-    ensures { λ r. ⌜ r ≡ isBusy phase ⌝ }
-{
-    match phase {
-        Phase::Unmounted => false,
-        Phase::Idle => false,
-        Phase::Busy(_) => true,
-    }
-}
-
-// A job began, went on or ended.
-fn changes(phase: Phase, answer: Answer) -> bool
-    ensures { λ r. ⌜ r ≡ changes phase answer ⌝ }
-{
-    match answer {
-        Answer::Done => in_job(phase),
-        Answer::More => true,
-        Answer::Refused(_) => false,
-    }
-}
-
-// The record written where it changed, by the phase before the call; and the answer.
-fn finish(phase: Phase, out: Outcome, board: &mut [u8]) -> u8
-    ensures { λ r. ⌜ (r ≡ edgeNumber (out .answer))
-        × (now (board .exit) ≡ cond (changes phase (out .answer))
-        (recordInto (out .board) (now (board .entry))) (now (board .entry))) ⌝ }
-{
-    let answer = out.answer;
-    if changes(phase, answer) {
-        return hand_over(out, board);
-    }
-    wire::number(answer)
+    pack::hand_over(store::format(image), board)
 }
 
 #[no_mangle]
@@ -118,10 +68,10 @@ pub extern "C" fn grommetide_request(
     if board.len() != RECORD_SIZE {
         return WRONG_RECORD;
     }
-    let b = lent::decode(board);
+    let b = unpack::decode(board);
     let out = queue::request(image, b, Host(host), message, reply);
     let phase = b.phase;
-    finish(phase, out, board)
+    pack::finish(phase, out, board)
 }
 
 #[no_mangle]
@@ -135,10 +85,10 @@ pub extern "C" fn grommetide_step(image: &mut [u8], board: &mut [u8]) -> u8
     if board.len() != RECORD_SIZE {
         return WRONG_RECORD;
     }
-    let b = lent::decode(board);
+    let b = unpack::decode(board);
     let out = job::step(image, b);
     let phase = b.phase;
-    finish(phase, out, board)
+    pack::finish(phase, out, board)
 }
 
 fn is_read(parsed: Parsed) -> bool
@@ -182,7 +132,7 @@ pub extern "C" fn grommetide_read(
     if board.len() != RECORD_SIZE {
         return WRONG_RECORD;
     }
-    let b = lent::decode(board);
+    let b = unpack::decode(board);
     let ask = as_read(message);
     let place = queue::locate(image, b, Host(host), ask);
     *at = place.at;

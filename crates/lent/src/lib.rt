@@ -1,8 +1,57 @@
-// The board record lent: as bytes for the edge to C.
-mod layout;
-mod reading;
-mod writing;
+// The board record lent as bytes, for the edge to C. Here is where each field stands: right after the one before it.
+use flash::BLOCKS;
+use frame::MAX_FRAME;
 
-pub use layout::RECORD_SIZE;
-pub use reading::decode;
-pub use writing::encode;
+// ---- the record
+
+pub const LAST_AT: usize = 1;
+
+pub const BLOCK_AT: usize = LAST_AT + 2;
+
+pub const END_AT: usize = BLOCK_AT + 1;
+
+pub const PLACES_AT: usize = END_AT + 2;
+
+pub const PLACES_SIZE: usize = 2 * 256;
+
+pub const JOB_AT: usize = PLACES_AT + PLACES_SIZE;
+
+pub const PLAN_AT: usize = JOB_AT + BLOCKS;
+
+pub const CURSOR_AT: usize = PLAN_AT + PLAN_SIZE;
+
+pub const UNIT_AT: usize = CURSOR_AT + CURSOR_SIZE;
+
+pub const FRAME_AT: usize = UNIT_AT + MAX_FRAME;
+
+pub const RECORD_SIZE: usize = FRAME_AT + MAX_FRAME;
+
+// ---- the job's plan, which is what follows its blocks to erase
+
+pub const MOVES_AT: usize = 1;
+
+pub const DROPS_AT: usize = MOVES_AT + 1;
+
+pub const TARGET_AT: usize = DROPS_AT + 1;
+
+pub const TIME_AT: usize = TARGET_AT + 1;
+
+pub const SINCE_AT: usize = TIME_AT + 4;
+
+pub const APPEND_AT: usize = SINCE_AT + 2 * 4;
+
+pub const PLAN_SIZE: usize = APPEND_AT + 1;
+
+// ---- the cursor
+
+pub const MADE_AT: usize = 1;
+
+pub const ID_AT: usize = MADE_AT + 2;
+
+pub const SOURCE_AT: usize = ID_AT + 2;
+
+pub const COPY_AT: usize = SOURCE_AT + 2;
+
+pub const OFF_AT: usize = COPY_AT + 1;
+
+pub const CURSOR_SIZE: usize = OFF_AT + 1;

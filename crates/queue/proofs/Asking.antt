@@ -38,7 +38,7 @@ use Rattle.queue.specs.Calls.{sameAs, openIf, gateIn, gateOf, asRecorded
 use Rattle.store.proofs.Images.{block-fits}
 use Rattle.queue.proofs.Images.{same-as, same-inside}
 use Rattle.store.proofs.Transfers.{cut-not}
-use Rattle.queue.proofs.Rooms.{claimed-is, open-is}
+use Rattle.serving.proofs.Rooms.{claimed-is, open-is}
 
 -- ---- the gate
 

@@ -39,11 +39,12 @@ use Rattle.board.specs.Queue.{Held, needsRoom, append, serveChange, serveEnd, s
 use Rattle.queue.specs.declared.requests.Ask.{Ask}
 use Rattle.queue.specs.declared.requests.Ask.the-variants as ask
 use Rattle.store.specs.Calls.{outcomeOf}
-use Rattle.queue.specs.Calls.{askOf, serveIn, replyIn, stretchAt, foundFor}
+use Rattle.queue.specs.Calls.{askOf, stretchAt, foundFor}
+use Rattle.serving.specs.Calls.{serveIn, replyIn}
 use Rattle.store.proofs.Images.{block-length}
 use Rattle.queue.proofs.Images.{same-inside}
 use Rattle.queue.proofs.Asking.{Passed, Served, unheard, heard}
-use Rattle.queue.proofs.Answering.{journal, serve-is, reply-is}
+use Rattle.serving.proofs.Answering.{journal, serve-is, reply-is}
 
 stretch-of : (start : ℕ) (o : Option Value) → stretchOf start o ≡ stretchAt start (foundOf o)
 stretch-of start none = refl

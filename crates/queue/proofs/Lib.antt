@@ -1,6 +1,3 @@
 pub mod Images
-pub mod Rooms
 pub mod Asking
-pub mod Answering
-pub mod Outcomes
 pub mod Handing

@@ -1,62 +1,34 @@
 -- What the requests do, by a survey of the current block and in the code's order of tests. proofs/ ties it to board's definitions.
 use mathlib.Core.List.{List}
-use mathlib.Core.Bool.{Bool, true, false, _&&_, _||_, cond}
+use mathlib.Core.Bool.{Bool, true, false, _&&_, cond}
 use Prim.Native.Nat.{ℕ, suc, _+_, _*_}
 use lib.Dec.{eqb, ltb, leb}
 use lib.ListN.{length, getD}
 use Rattle.flash.specs.Bytes.{allFF}
 use Rattle.flash.specs.Flash.{blocks, block, sizeOf}
 use Rattle.frame.specs.declared.Host.{Host}
-use Rattle.frame.specs.declared.ObjectId.{ObjectId}
-use Rattle.frame.specs.Frame.{hostMax, put, delete, Frame, change, commit, abort, frameLen, deleteLen, endLen, encode, buffer}
+use Rattle.frame.specs.Frame.{hostMax, endLen}
 use Rattle.survey.specs.declared.Survey.{Survey}
 use Rattle.survey.specs.declared.Found.{Found}
 use Rattle.survey.specs.declared.Found.the-variants as found
-use Rattle.journal.specs.Block.{headerLen, lastTime}
-use Rattle.journal.specs.Room.{one}
 use Rattle.journal.specs.Index.{valueAt}
 use Rattle.survey.specs.Survey.{foundOf}
-use Rattle.wire.specs.declared.Answer.the-variants.{Done}
 use Rattle.wire.specs.declared.Refusal.the-variants as refusal
 use Rattle.wire.specs.declared.Request.{Request}
 use Rattle.wire.specs.declared.Request.the-variants.{Put, Delete, Commit, Abort, Read, Log}
 use Rattle.wire.specs.declared.Parsed.{Parsed}
 use Rattle.wire.specs.declared.Parsed.the-variants.{Is, Malformed}
-use Rattle.wire.specs.Message.{parse, valueIn, pageLen, logPage}
-use Rattle.wire.specs.Code.{pageInto}
+use Rattle.wire.specs.Message.{parse}
 use Rattle.board.specs.declared.Phase.{Phase}
 use Rattle.board.specs.declared.Phase.the-variants.{Unmounted, Idle, Busy}
 use Rattle.board.specs.declared.Record.{Record}
-use Rattle.board.specs.Record.{allowed, noWipes, restOf, starting, busyWith, Stretch, noStretch}
-use Rattle.board.specs.Mount.{nextBlock, newTime}
-use Rattle.job.specs.declared.Outcome.{Outcome}
+use Rattle.board.specs.Record.{allowed, Stretch, noStretch}
+use Rattle.board.specs.Mount.{nextBlock}
 use Rattle.queue.specs.declared.requests.Gate.{Gate}
 use Rattle.queue.specs.declared.requests.Gate.the-variants as gate
 use Rattle.queue.specs.declared.requests.Ask.{Ask}
 use Rattle.queue.specs.declared.requests.Ask.the-variants as ask
-use Rattle.store.specs.Calls.{refused, begun, isValid, sumOf}
-
--- ---- outcomes
-
-abbrev pub done : Record → Outcome
-done r = record { answer = Done; board = r }
-
--- ---- what a survey tells of the room in its block
-
--- how many hosts have some
-unfoldable pub openIn : List ℕ → ℕ
-openIn p = one (ltb 0 (getD p 0 0)) + one (ltb 0 (getD p 1 0)) + one (ltb 0 (getD p 2 0)) + one (ltb 0 (getD p 3 0))
-
--- the same with one host's change more
-abbrev pub openFor : ℕ → ℕ → List ℕ → ℕ
-openFor h j p = one (eqb h j || ltb 0 (getD p j 0))
-
-unfoldable pub openWith : Host → List ℕ → ℕ
-openWith h p = openFor (h .0) 0 p + openFor (h .0) 1 p + openFor (h .0) 2 p + openFor (h .0) 3 p
-
--- C
-abbrev pub claimedIn : Survey → ℕ
-claimedIn s = s .used + sumOf (s .pending)
+use Rattle.store.specs.Calls.{isValid}
 
 -- ---- before a request is served
 
@@ -91,75 +63,6 @@ askIf Malformed = ask.Refused refusal.Malformed
 -- 11, then 1
 unfoldable pub askOf : ℕ → ℕ → Survey → List ℕ → Ask
 askOf size end s m = cond (asRecorded size end s) (askIf (parse m)) (ask.Refused refusal.Stale)
-
--- ---- the requests
-
--- C + n + 6·open + spare > S
-unfoldable pub noRoomIn : ℕ → Survey → Host → ℕ → ℕ → Bool
-noRoomIn size s h n spare = ltb size (claimedIn s + n + endLen * openWith h (s .pending) + spare)
-
-abbrev pub appendRecord : Record → Survey → List ℕ → Bool → ℕ → List ℕ → Record
-appendRecord r s places moves n frame =
-    busyWith (restOf r) places
-    (record {
-      wipe = noWipes;
-      wipes = 0;
-      moves = moves;
-      drops = true;
-      target = nextBlock (r .block);
-      time = newTime moves (s .time);
-      since = s .since;
-      size = n;
-    })
-    (starting 0 headerLen) frame
-
--- a frame of n bytes, which stand in the buffer
-unfoldable pub appendIn : ℕ → Record → Survey → List ℕ → ℕ → List ℕ → Outcome
-appendIn size r s places n frame =
-    let moves : Bool = ltb size (r .end + n) in
-    cond (moves && eqb (s .time) lastTime) (refused refusal.Worn r) (begun (appendRecord r s places moves n frame))
-
-unfoldable pub changeIn : ℕ → Record → Survey → List ℕ → Host → ℕ → List ℕ → ℕ → Outcome
-changeIn size r s places h n frame spare = cond (noRoomIn size s h n spare) (refused refusal.NoRoom r) (appendIn size r s places n frame)
-
-unfoldable pub endIn : ℕ → Record → Survey → List ℕ → Host → ℕ → List ℕ → Outcome
-endIn size r s places h n frame = cond (ltb 0 (getD (s .pending) (h .0) 0)) (appendIn size r s places n frame) (done r)
-
-unfoldable pub readIn : Record → List ℕ → ObjectId → Outcome
-readIn r places i = cond (eqb (getD places (i .0) 0) 0) (refused refusal.NoObject r) (done r)
-
-unfoldable pub logIn : Record → List ℕ → Outcome
-logIn r reply = cond (ltb (length reply) pageLen) (refused refusal.ShortReply r) (done r)
-
--- the bytes of a frame
-abbrev pub bytesOf : Frame → List ℕ
-bytesOf f = buffer (encode f)
-
-abbrev pub putIn : ℕ → Record → Survey → List ℕ → Host → ObjectId → List ℕ → Outcome
-putIn size r s places h i v =
-    let f : Frame = change h (put i v) in changeIn size r s places h (frameLen f) (bytesOf f) (deleteLen + endLen)
-
-abbrev pub deleteIn : ℕ → Record → Survey → List ℕ → Host → ObjectId → Outcome
-deleteIn size r s places h i = let f : Frame = change h (delete i) in changeIn size r s places h (frameLen f) (bytesOf f) 0
-
-abbrev pub serveIn : ℕ → Record → List ℕ → Host → List ℕ → Survey → List ℕ → Request → Outcome
-serveIn size r reply h m s places (Put i) = putIn size r s places h i (valueIn m)
-serveIn size r reply h m s places (Delete i) = deleteIn size r s places h i
-serveIn size r reply h m s places Commit = let f : Frame = commit h in endIn size r s places h (frameLen f) (bytesOf f)
-serveIn size r reply h m s places Abort = let f : Frame = abort h in endIn size r s places h (frameLen f) (bytesOf f)
-serveIn size r reply h m s places (Read i) = readIn r places i
-serveIn size r reply h m s places (Log p) = logIn r reply
-
-abbrev pub replyLog : ℕ → Survey → List ℕ → List ℕ
-replyLog size s reply = pageInto (logPage (s .time) (s .count) (s .used) size) reply
-
-abbrev pub replyIn : ℕ → Survey → List ℕ → Request → List ℕ
-replyIn size s reply (Put i) = reply
-replyIn size s reply (Delete i) = reply
-replyIn size s reply Commit = reply
-replyIn size s reply Abort = reply
-replyIn size s reply (Read i) = reply
-replyIn size s reply (Log p) = replyLog size s reply
 
 -- ---- a read's stretch
 

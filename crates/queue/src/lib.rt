@@ -1,8 +1,6 @@
 // The queue in code: requests and reads, each equal to its definition, on every input.
 mod reads;
 mod requests;
-mod room;
-mod serving;
 
 pub use reads::Stretch;
 pub use reads::locate;

@@ -8,7 +8,6 @@ ghost use Rattle.queue.specs.Calls.{foundFor};
 use crate::requests;
 use crate::requests::Ask;
 use crate::requests::Gate;
-use crate::serving;
 use board::Record;
 use frame::Host;
 use job::records;

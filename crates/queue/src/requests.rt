@@ -2,14 +2,13 @@
 ghost use mathlib.Core.Path.{_≡_};
 ghost use Rattle.board.specs.Queue.{requestOn};
 ghost use Rattle.queue.specs.Calls.{sameAs, gateOf, gateIn, asRecorded, askOf};
-use crate::room;
-use crate::serving;
 use board::Phase;
 use board::Record;
 use flash::BLOCKS;
 use frame::Host;
 use job::Outcome;
 use job::records;
+use serving::room;
 use store::image;
 use store::surveys;
 use survey::Survey;

@@ -22,8 +22,8 @@ use wire::Answer;
 pub fn same_record(a: Record, b: Record) -> bool {
     let mut one = [0u8; RECORD_SIZE];
     let mut two = [0u8; RECORD_SIZE];
-    lent::encode(a, &mut one);
-    lent::encode(b, &mut two);
+    pack::encode(a, &mut one);
+    pack::encode(b, &mut two);
     same(&one, &two)
 }
 

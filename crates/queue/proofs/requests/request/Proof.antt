@@ -12,7 +12,7 @@ use Rattle.board.specs.Queue.{requestOn}
 use Rattle.board.proofs.Images.{sized-of}
 use Rattle.flash.proofs.Blank.{bytes-of}
 use Rattle.queue.proofs.Asking.{Passed, passed, looks, shut}
-use Rattle.queue.proofs.Outcomes.{with-reply, refused-all}
+use Rattle.serving.proofs.Outcomes.{with-reply, refused-all}
 use Rattle.queue.proofs.Handing.{Looked, not-served, served-says, served-outcome, served-reply}
 use Rattle.queue.proofs.requests.request.Statement.{statement}
 use Rattle.queue.proofs.requests.request.Tie as tie

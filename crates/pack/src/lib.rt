@@ -1,0 +1,215 @@
+// The record written to its buffer: whole, or where a call changed it.
+use board::Cursor;
+use board::Job;
+use board::Phase;
+use board::Record;
+use board::Stage;
+use job::Outcome;
+use wire::Answer;
+ghost use mathlib.Core.Path.{_≡_};
+ghost use mathlib.Core.Bool.{cond};
+ghost use Prim.Native.Nat.{_+_, _*_, _/_, _%_, _≤_};
+ghost use lib.ListN.{length};
+ghost use Rattle.lent.specs.Layout.{stageByte, phaseByte, flagByte, headBytes, planBytes, cursorBytes, wordBytes, recordInto};
+ghost use Rattle.wire.specs.Answer.{edgeNumber};
+ghost use Rattle.board.specs.Table.{isBusy};
+ghost use Rattle.pack.specs.Code.{laidAt, changes};
+
+fn stage_byte(stage: Stage) -> u8
+    ensures { λ r. ⌜ r ≡ stageByte stage ⌝ }
+{
+    match stage {
+        Stage::Wipe => 2,
+        Stage::Open => 3,
+        Stage::Copy => 4,
+        Stage::Seal => 5,
+        Stage::Drop => 6,
+        Stage::Append => 7,
+    }
+}
+
+fn phase_byte(phase: Phase) -> u8
+    ensures { λ r. ⌜ r ≡ phaseByte phase ⌝ }
+{
+    match phase {
+        Phase::Unmounted => 0,
+        Phase::Idle => 1,
+        Phase::Busy(stage) => stage_byte(stage),
+    }
+}
+
+fn flag_byte(flag: bool) -> u8
+    ensures { λ r. ⌜ r ≡ flagByte flag ⌝ }
+{
+    if flag { 1 } else { 0 }
+}
+
+// A word's two bytes.
+fn low(word: u16) -> u8
+    ensures { λ r. ⌜ r ≡ word % 256 ⌝ }
+{
+    (word % 256) as u8
+}
+
+fn high(word: u16) -> u8
+    ensures { λ r. ⌜ r ≡ word / 256 ⌝ }
+{
+    (word / 256) as u8
+}
+
+fn head_bytes(board: Record) -> [u8; lent::PLACES_AT]
+    ensures { λ r. ⌜ r ≡ headBytes board ⌝ }
+{
+    let phase = board.phase;
+    let last = board.last;
+    let end = board.end;
+    [
+        phase_byte(phase),
+        low(last),
+        high(last),
+        board.block,
+        low(end),
+        high(end),
+    ]
+}
+
+// A job but for the blocks to erase.
+fn plan_bytes(job: Job) -> [u8; lent::PLAN_SIZE]
+    ensures { λ r. ⌜ r ≡ planBytes job ⌝ }
+{
+    let t = job.time;
+    let s = job.since;
+    [
+        job.wipes,
+        flag_byte(job.moves),
+        flag_byte(job.drops),
+        job.target,
+        (t % 256) as u8,
+        (t / 256 % 256) as u8,
+        (t / 65536 % 256) as u8,
+        (t / 16777216) as u8,
+        low(s[0]),
+        high(s[0]),
+        low(s[1]),
+        high(s[1]),
+        low(s[2]),
+        high(s[2]),
+        low(s[3]),
+        high(s[3]),
+        job.size,
+    ]
+}
+
+fn cursor_bytes(cursor: Cursor) -> [u8; lent::CURSOR_SIZE]
+    ensures { λ r. ⌜ r ≡ cursorBytes cursor ⌝ }
+{
+    let a = cursor.at;
+    let i = cursor.id;
+    let s = cursor.source;
+    [
+        cursor.index,
+        low(a),
+        high(a),
+        low(i),
+        high(i),
+        low(s),
+        high(s),
+        cursor.size,
+        cursor.off,
+    ]
+}
+
+// Lays a source over the bytes from a place on, where there are as many.
+fn lay_at(bytes: &mut [u8], at: usize, source: &[u8])
+    ensures { λ r. ⌜ now (bytes .exit) ≡ laidAt at (now (source .entry)) (now (bytes .entry)) ⌝ }
+{
+    if bytes.len() < at {
+        return;
+    }
+    wire::lay(&mut bytes[at..], source);
+}
+
+// Lays words over the bytes from a place on.
+fn lay_words(bytes: &mut [u8], at: usize, words: &[u16])
+    requires { ⌜ at + 2 * length (now words) ≤ length (now bytes) ⌝ }
+    ensures { λ r. ⌜ now (bytes .exit) ≡ laidAt at (wordBytes (now (words .entry))) (now (bytes .entry)) ⌝ }
+{
+    let mut i = 0;
+    while i < words.len() {
+        let w = words[i];
+        let two = [low(w), high(w)];
+        lay_at(bytes, at + 2 * i, &two);
+        i += 1;
+    }
+}
+
+// Writes the record to a buffer of exactly its size; any other buffer stays.
+pub fn encode(board: Record, bytes: &mut [u8])
+    ensures { λ r. ⌜ now (bytes .exit) ≡ recordInto board (now (bytes .entry)) ⌝ }
+{
+    if bytes.len() != lent::RECORD_SIZE {
+        return;
+    }
+    let head = head_bytes(board);
+    let places = board.places;
+    let j = board.job;
+    let wipe = j.wipe;
+    let plan = plan_bytes(j);
+    let c = board.cursor;
+    let cursor = cursor_bytes(c);
+    let unit = board.unit;
+    let frame = board.frame;
+    lay_at(bytes, 0, &head);
+    lay_words(bytes, lent::PLACES_AT, &places);
+    lay_at(bytes, lent::JOB_AT, &wipe);
+    lay_at(bytes, lent::PLAN_AT, &plan);
+    lay_at(bytes, lent::CURSOR_AT, &cursor);
+    lay_at(bytes, lent::UNIT_AT, &unit);
+    lay_at(bytes, lent::FRAME_AT, &frame);
+}
+
+// ---- the record after a call
+
+// The record written, and the answer.
+pub fn hand_over(out: Outcome, board: &mut [u8]) -> u8
+    ensures { λ r. ⌜ (r ≡ edgeNumber (out .answer)) × (now (board .exit) ≡ recordInto (out .board) (now (board .entry))) ⌝ }
+{
+    let b = out.board;
+    encode(b, board);
+    let answer = out.answer;
+    wire::number(answer)
+}
+
+fn in_job(phase: Phase) -> bool
+    ensures { λ r. ⌜ r ≡ isBusy phase ⌝ }
+{
+    match phase {
+        Phase::Unmounted => false,
+        Phase::Idle => false,
+        Phase::Busy(_) => true,
+    }
+}
+
+// A job began, went on or ended.
+fn changes(phase: Phase, answer: Answer) -> bool
+    ensures { λ r. ⌜ r ≡ changes phase answer ⌝ }
+{
+    match answer {
+        Answer::Done => in_job(phase),
+        Answer::More => true,
+        Answer::Refused(_) => false,
+    }
+}
+
+// The record written where it changed, by the phase before the call; and the answer.
+pub fn finish(phase: Phase, out: Outcome, board: &mut [u8]) -> u8
+    ensures { λ r. ⌜ (r ≡ edgeNumber (out .answer))
+        × (now (board .exit) ≡ cond (changes phase (out .answer))
+        (recordInto (out .board) (now (board .entry))) (now (board .entry))) ⌝ }
+{
+    let answer = out.answer;
+    if changes(phase, answer) {
+        return hand_over(out, board);
+    }
+    wire::number(answer)
+}

@@ -1,0 +1,56 @@
+-- A survey's numbers say what the definitions say of the room in a block.
+use mathlib.Core.Path.{_≡_, sym, ap, ap₂, _∙_}
+use mathlib.Core.List.{List, [], _∷_, _++_}
+use mathlib.Core.Bool.{_||_}
+use Prim.Native.Nat.{ℕ, _+_, _*_}
+use lib.Dec.{eqb, ltb}
+use borrow.Author.Tests.{eqb-true, eqb-false}
+use Rattle.flash.proofs.Cases.{on-test}
+use Rattle.frame.specs.declared.Host.{Host}
+use Rattle.frame.specs.Frame.{hostOf, Change, Frame, change, frameLen, endLen}
+use Rattle.frame.specs.Reader.{Tail}
+use Rattle.journal.specs.Replay.{Entry, entry, replay, isOpen}
+use Rattle.journal.specs.Block.{valid}
+use Rattle.journal.specs.Room.{claimed, openHosts, spare, noRoom}
+use Rattle.survey.specs.Survey.{pendingBytes, perHost, surveyOf}
+use Rattle.survey.proofs.PerHost.{open-bytes, open-count, claimed-bytes}
+use Rattle.journal.proofs.Lists.{open-snoc, open-snoc-other}
+use Rattle.journal.proofs.States.{Contents}
+use Rattle.serving.specs.Calls.{openIn, openWith, claimedIn, noRoomIn}
+
+-- the four hosts' pending bytes
+abbrev bytesIn : List Entry → List ℕ
+bytesIn es = perHost (λ h. pendingBytes h es)
+
+-- ---- all hosts
+
+pub open-hosts : (es : List Entry) → openHosts es ≡ openIn (bytesIn es)
+unfolding openIn
+open-hosts es = open-count es
+
+open-more : (h g : Host) (es : List Entry) (c : Change) → isOpen g (es ++ (entry h c ∷ [])) ≡ (eqb (h .0) (g .0) || ltb 0 (pendingBytes g es))
+open-more h g es c =
+    on-test (eqb (h .0) (g .0))
+    (λ t. ap (λ (n : ℕ). isOpen (hostOf n) (es ++ (entry h c ∷ []))) (sym (eqb-true (h .0) (g .0) t)) ∙ open-snoc h es c ∙ rw t)
+    (λ t. open-snoc-other g h es c (eqb-false (h .0) (g .0) t) ∙ open-bytes g es ∙ rw t)
+
+pub open-with : (h : Host) (es : List Entry) (c : Change) → openHosts (es ++ (entry h c ∷ [])) ≡ openWith h (bytesIn es)
+unfolding openWith
+open-with h es c = cc (open-more h (hostOf 0) es c, open-more h (hostOf 1) es c, open-more h (hostOf 2) es c, open-more h (hostOf 3) es c)
+
+-- ---- a valid block
+
+module _ {b : List ℕ} {t : ℕ} {fs : List Frame} {c : Tail} (x : Contents b t fs c) where
+  pub claimed-is : claimed (replay fs) ≡ claimedIn (surveyOf (valid t fs c))
+  unfolding surveyOf
+  claimed-is = claimed-bytes fs (x .layout .stands)
+
+  pub open-is : openHosts (replay fs .pending) ≡ openIn (surveyOf (valid t fs c) .pending)
+  unfolding surveyOf
+  open-is = open-hosts (replay fs .pending)
+
+  pub no-room-is : (size : ℕ) (h : Host) (d : Change)
+      → noRoom size (replay fs) h d ≡ noRoomIn size (surveyOf (valid t fs c)) h (frameLen (change h d)) (spare d)
+  unfolding noRoom noRoomIn surveyOf
+  no-room-is size h d =
+      ap₂ (λ (n o : ℕ). ltb size (n + frameLen (change h d) + endLen * o + spare d)) claimed-is (open-with h (replay fs .pending) d)

@@ -1,0 +1,31 @@
+-- Nothing pending is done at once, else the frame.
+use mathlib.Core.Path.{_≡_, sym, _∙_}
+use mathlib.Core.Bool.{true, false}
+use native.Mathlib.Omega.{arith}
+use lib.Dec.{ltb}
+use borrow.Author.Tests.{lt-ltb, le-ltb}
+use lib.ListN.{getD}
+use Rattle.serving.specs.Calls.{endIn}
+use borrow.Author.Needs.{needs}
+use Rattle.serving.proofs.serve_end.Statement.{statement}
+use Rattle.serving.proofs.serve_end.Tie as tie
+
+pub serve-end-spec : {M : Type 1} → statement M
+unfolding endIn
+serve-end-spec =
+    tie.close
+    (tie.spec
+    (λ c κs. search needs)
+    (λ c κs. search needs)
+    (λ c.
+    let args′ = c .before .before .before .before .args in
+    let a = args′ in let t : ltb 0 (getD (a .s .pending) (a .host .0) 0) ≡ false = le-ltb 0 (getD (a .s .pending) (a .host .0) 0)
+    (omega (arith, c .before .before .of-host .ensures, c .before .if1 .taken)) in c .done .ensures
+    ∙ sym (rw (t, endIn)))
+    (λ c. search needs)
+    (λ c κs. search needs)
+    (λ c.
+    let args′ = c .before .before .before .before .before .args in
+    let a = args′ in let t : ltb 0 (getD (a .s .pending) (a .host .0) 0) ≡ true = lt-ltb 0 (getD (a .s .pending) (a .host .0) 0)
+    (omega (arith, c .before .before .before .of-host .ensures, c .before .before .if1 .left)) in c .append .ensures
+    ∙ sym (rw (t, endIn))))

@@ -1,0 +1,54 @@
+-- The places: after i turns the first i words are read.
+use mathlib.Core.Path.{_≡_, refl}
+use Prim.Native.Nat.{_-_, _+_, _*_, _≤_}
+use native.Mathlib.Omega.{arith}
+use lib.ListN.{length, take, length-set}
+use denote.Ref.{now}
+use borrow.Author.Needs.{needs}
+use Rattle.lent.specs.Layout.{wordsIn}
+use Rattle.lent.proofs.Words.{word-there, read-more, read-all}
+use Rattle.unpack.proofs.places_in.Statement.{statement}
+use Rattle.unpack.proofs.places_in.Tie as tie
+
+abbrev Inv-loop : tie.InvT-loop
+Inv-loop bytes words₀ i₀ words i = (take i words ≡ wordsIn i bytes) × (i ≤ 256) × (length words ≡ 256)
+
+abbrev μ-loop : tie.MeasureT-loop
+μ-loop bytes words₀ i₀ words i = 256 - i
+
+pub places-in-spec : {M : Type 1} → statement M
+unfolding wordsIn
+places-in-spec =
+    tie.close
+    (tie.spec
+    Inv-loop
+    μ-loop
+    (λ c κs. search needs)
+    (λ c. search needs)
+    (λ c. (refl, omega arith, refl))
+    (λ c. search needs)
+    (λ c. search needs)
+    (λ c. let i = c .before .before .loop .i in search (needs, c .shared-slice-known2 .given (2 * i)))
+    (λ c. search needs)
+    (λ c. search needs)
+    (λ c. search needs)
+    (λ c. let i = c .before .before .before .loop .i in search (needs, c .shared-slice-known3 .given (2 * i + 1)))
+    (λ c. let i = c .before .before .before .loop .i in omega (arith, c .shared-slice-known3 .given (2 * i + 1) .fits))
+    (λ c.
+    let i = c .before .before .before .loop .i in omega
+    (arith, c .before .shared-slice-known2 .given (2 * i) .fits, c .shared-slice-known3 .given (2 * i + 1) .fits))
+    (λ c. search needs)
+    (λ c. search needs)
+    (λ c. search needs)
+    (λ c. search needs)
+    (λ c.
+    let c3 = c .before .before .before in
+    let l = now (c3 .before .before .before .args .bytes) in (
+      read-more l (c3 .loop .words) (c3 .loop .i) _ (c3 .loop .inv .0) (omega arith) (word-there l (c3 .loop .i)),
+      omega arith,
+      simp length-set (omega arith),
+    ))
+    (λ c.
+    let loop′ = c .before .loop in
+    let args′ = c .before .before .before .before .args in
+    read-all (now (args′ .bytes)) (loop′ .words) (loop′ .i) (loop′ .inv .0) (omega arith) (loop′ .inv .2)))

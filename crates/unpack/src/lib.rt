@@ -1,0 +1,182 @@
+// The record from bytes: every content of every length is some record.
+use board::Cursor;
+use board::Job;
+use board::Phase;
+use board::Record;
+use board::Stage;
+use flash::BLOCKS;
+use flash::byte_at;
+use frame::MAX_FRAME;
+use wire::word_at;
+ghost use mathlib.Core.Path.{_≡_};
+ghost use lib.ListN.{take, drop};
+ghost use Rattle.flash.specs.Flash.{blocks};
+ghost use Rattle.frame.specs.Frame.{maxFrame};
+ghost use Rattle.wire.specs.Message.{wordAt};
+ghost use Rattle.lent.specs.Layout.{phaseIn, bytesIn, wordsIn, numberIn, flagIn, jobIn, cursorIn, recordIn};
+
+// The bytes from a place on.
+fn tail(bytes: &[u8], at: usize) -> &[u8]
+    ensures { λ r. ⌜ now r ≡ drop at (now (bytes .entry)) ⌝ }
+{
+    let n = bytes.len();
+    if n < at {
+        return &bytes[n..];
+    }
+    &bytes[at..]
+}
+
+// The first bytes, as many as there are of them.
+fn front(bytes: &[u8], count: usize) -> &[u8]
+    ensures { λ r. ⌜ now r ≡ take count (now (bytes .entry)) ⌝ }
+{
+    if bytes.len() <= count {
+        return bytes;
+    }
+    &bytes[..count]
+}
+
+// The word at a place.
+fn word_in(bytes: &[u8], at: usize) -> u16
+    ensures { λ r. ⌜ r ≡ wordAt (now (bytes .entry)) at ⌝ }
+{
+    word_at(tail(bytes, at), 0)
+}
+
+fn phase_in(number: u8) -> Phase
+    ensures { λ r. ⌜ r ≡ phaseIn number ⌝ }
+{
+    match number {
+        0 => Phase::Unmounted,
+        1 => Phase::Idle,
+        2 => Phase::Busy(Stage::Wipe),
+        3 => Phase::Busy(Stage::Open),
+        4 => Phase::Busy(Stage::Copy),
+        5 => Phase::Busy(Stage::Seal),
+        6 => Phase::Busy(Stage::Drop),
+        7 => Phase::Busy(Stage::Append),
+        _ => Phase::Unmounted,
+    }
+}
+
+// The places where the bytes may end among them.
+fn places_short(bytes: &[u8]) -> [u16; 256]
+    ensures { λ r. ⌜ r ≡ wordsIn 256 (now (bytes .entry)) ⌝ }
+{
+    let mut words = [0u16; 256];
+    let mut i = 0;
+    while i < 256 {
+        words[i] = word_at(tail(bytes, 2 * i), 0);
+        i += 1;
+    }
+    words
+}
+
+// A step of C's decodes a record, so this loop tests nothing but its end.
+fn places_in(bytes: &[u8]) -> [u16; 256]
+    ensures { λ r. ⌜ r ≡ wordsIn 256 (now (bytes .entry)) ⌝ }
+{
+    if bytes.len() < lent::PLACES_SIZE {
+        return places_short(bytes);
+    }
+    let mut words = [0u16; 256];
+    let mut i = 0;
+    while i < 256 {
+        words[i] = bytes[2 * i] as u16 + 256 * bytes[2 * i + 1] as u16;
+        i += 1;
+    }
+    words
+}
+
+fn since_in(bytes: &[u8]) -> [u16; 4]
+    ensures { λ r. ⌜ r ≡ wordsIn 4 (now (bytes .entry)) ⌝ }
+{
+    [
+        word_at(bytes, 0),
+        word_at(bytes, 2),
+        word_at(bytes, 4),
+        word_at(bytes, 6),
+    ]
+}
+
+// The number that four bytes are.
+fn number_in(bytes: &[u8]) -> u32
+    ensures { λ r. ⌜ r ≡ numberIn (now (bytes .entry)) ⌝ }
+{
+    word_at(bytes, 0) as u32 + 65536 * word_at(bytes, 2) as u32
+}
+
+fn flag_in(number: u8) -> bool
+    ensures { λ r. ⌜ r ≡ flagIn number ⌝ }
+{
+    number != 0
+}
+
+fn wipe_in(bytes: &[u8]) -> [u8; BLOCKS]
+    ensures { λ r. ⌜ r ≡ bytesIn blocks (now (bytes .entry)) ⌝ }
+{
+    let mut w = [0u8; BLOCKS];
+    wire::lay(&mut w[..], front(bytes, BLOCKS));
+    w
+}
+
+fn job_in(bytes: &[u8]) -> Job
+    ensures { λ r. ⌜ r ≡ jobIn (now (bytes .entry)) ⌝ }
+{
+    let wipe = wipe_in(bytes);
+    let plan = tail(bytes, BLOCKS);
+    let since = since_in(tail(plan, lent::SINCE_AT));
+    Job {
+        wipe: wipe,
+        wipes: byte_at(plan, 0),
+        moves: flag_in(byte_at(plan, lent::MOVES_AT)),
+        drops: flag_in(byte_at(plan, lent::DROPS_AT)),
+        target: byte_at(plan, lent::TARGET_AT),
+        time: number_in(tail(plan, lent::TIME_AT)),
+        since: since,
+        size: byte_at(plan, lent::APPEND_AT),
+    }
+}
+
+fn cursor_in(bytes: &[u8]) -> Cursor
+    ensures { λ r. ⌜ r ≡ cursorIn (now (bytes .entry)) ⌝ }
+{
+    Cursor {
+        index: byte_at(bytes, 0),
+        at: word_in(bytes, lent::MADE_AT),
+        id: word_in(bytes, lent::ID_AT),
+        source: word_in(bytes, lent::SOURCE_AT),
+        size: byte_at(bytes, lent::COPY_AT),
+        off: byte_at(bytes, lent::OFF_AT),
+    }
+}
+
+fn frame_in(bytes: &[u8]) -> [u8; MAX_FRAME]
+    ensures { λ r. ⌜ r ≡ bytesIn maxFrame (now (bytes .entry)) ⌝ }
+{
+    let mut f = [0u8; MAX_FRAME];
+    wire::lay(&mut f[..], front(bytes, MAX_FRAME));
+    f
+}
+
+// The record that the bytes hold.
+pub fn decode(bytes: &[u8]) -> Record
+    ensures { λ r. ⌜ r ≡ recordIn (now (bytes .entry)) ⌝ }
+{
+    let places = places_in(tail(bytes, lent::PLACES_AT));
+    let job = job_in(tail(bytes, lent::JOB_AT));
+    let cursor = cursor_in(tail(bytes, lent::CURSOR_AT));
+    let unit = frame_in(tail(bytes, lent::UNIT_AT));
+    let frame = frame_in(tail(bytes, lent::FRAME_AT));
+    Record {
+        phase: phase_in(byte_at(bytes, 0)),
+        last: word_in(bytes, lent::LAST_AT),
+        block: byte_at(bytes, lent::BLOCK_AT),
+        end: word_in(bytes, lent::END_AT),
+        places: places,
+        job: job,
+        cursor: cursor,
+        unit: unit,
+        frame: frame,
+    }
+}
