@@ -16,6 +16,7 @@ use Rattle.board.specs.Step.{stepOn}
 use Rattle.board.specs.Mount.{mountOn, formatOn}
 use Rattle.board.specs.Queue.{requestOn}
 use Rattle.lent.specs.Layout.{recordSize, recordIn, recordBytes}
+use Rattle.pack.specs.Code.{changes}
 
 -- an answer's number, and the buffers after the call
 pub record Edge : Type 0 where
