@@ -21,7 +21,7 @@ idOf n = record { 0 = n }
 
 -- "Values of 0 to 64 bytes. An empty value is an object."
 abbrev pub valueMax : ℕ
-valueMax = 64
+valueMax = 240
 
 -- a change to the objects; A stands for the value, by itself its bytes
 pub data ChangeOf (A : Type 0) : Type 0 where
@@ -110,7 +110,7 @@ endLen = overhead + 1
 abbrev pub settledLen : ℕ → ℕ
 settledLen v = overhead + 2 + v
 
--- a put of the longest value: 72
+-- a put of the longest value: 248
 abbrev pub maxFrame : ℕ
 maxFrame = putLen valueMax
 
