@@ -90,10 +90,12 @@ pub fn lengths(c: Bench) {
 
 // ---- 7
 
-// C is 16 + 2 * 72 = 160. Host 1 would be the second with something pending: 160 + 71 + 12 + 14 = 257, and 256 with a byte less.
+// The longest value on an empty store: 16 + 248 + 6 + 14 = 284.
+// Then C is 16 + 2 * 72 = 160. Host 1 would be the second with something pending: 160 + 71 + 12 + 14 = 257, and 256 with a byte less.
 // Host 0's: 160 + 72 + 6 + 14 = 252.
 pub fn no_room(a: Bench) -> Bench {
     say(b"Refusal 7: no room\n");
+    puts(a, 0, 1, 11, 240);
     let two = puts(puts(a, 0, 1, 11, 64), 0, 2, 22, 64);
     puts(two, 1, 3, 33, 63);
     puts(two, 1, 3, 33, 62);

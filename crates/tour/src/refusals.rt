@@ -42,7 +42,7 @@ pub fn unknown_kinds(c: Bench) {
 pub fn unknown_ids(c: Bench) {
     asked(b"   a put with half an id", c, 0, &[5, 0, 1, 1, 5]);
     puts(c, 0, 256, 7, 1);
-    puts(c, 0, 6, 7, 65);
+    puts(c, 0, 6, 7, 241);
     asked(b"   a delete of 256", c, 0, &[6, 0, 2, 1, 0, 1]);
     asked(b"   a delete with a value", c, 0, &[7, 0, 2, 1, 5, 0, 7]);
     asked(b"   a read of 256", c, 0, &[6, 0, 5, 1, 0, 1]);
