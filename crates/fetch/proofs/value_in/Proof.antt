@@ -1,9 +1,9 @@
 -- The value in a frame, by its head.
 use borrow.Author.Tests.{eq-eqb, ne-eqb}
-use Rattle.survey.specs.Pass.{valueHead}
+use Rattle.fetch.specs.Fetch.{valueHead}
 use borrow.Author.Needs.{needs}
-use Rattle.survey.proofs.index.value_in.Statement.{statement}
-use Rattle.survey.proofs.index.value_in.Tie as tie
+use Rattle.fetch.proofs.value_in.Statement.{statement}
+use Rattle.fetch.proofs.value_in.Tie as tie
 
 pub value-in-spec : {M : Type 1} → statement M
 unfolding valueHead

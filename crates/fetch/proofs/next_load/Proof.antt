@@ -5,10 +5,10 @@ use denote.Ref.{now}
 use borrow.Author.Needs.{needs}
 use lib.ListN.{length-take}
 use lib.Seq.{length-take-le}
-use Rattle.survey.specs.Survey.{fetchedOf}
-use Rattle.survey.proofs.Fetching.{load-first, load-next, load-part-next}
-use Rattle.survey.proofs.index.next_load.Statement.{statement}
-use Rattle.survey.proofs.index.next_load.Tie as tie
+use Rattle.fetch.specs.Fetch.{fetchedOf}
+use Rattle.fetch.proofs.Fetching.{load-first, load-next, load-part-next}
+use Rattle.fetch.proofs.next_load.Statement.{statement}
+use Rattle.fetch.proofs.next_load.Tie as tie
 
 pub next-load-spec : {M : Type 1} → statement M
 next-load-spec =

@@ -3,12 +3,12 @@ use mathlib.Core.Path.{_≡_, refl, sym, ap, _∙_}
 use Prim.Native.Nat.{_-_}
 use denote.Ref.{now}
 use borrow.Author.Needs.{needs}
-use Rattle.survey.proofs.HeadLaws.{fetch-settled}
+use Rattle.fetch.proofs.HeadLaws.{fetch-settled}
 use Rattle.journal.specs.Index.{nextSettled}
-use Rattle.survey.specs.Survey.{fetchedOf}
-use Rattle.survey.proofs.Fetching.{found-none, found-at, settled-end, settled-no, settled-yes}
-use Rattle.survey.proofs.index.next_settled.Statement.{statement}
-use Rattle.survey.proofs.index.next_settled.Tie as tie
+use Rattle.fetch.specs.Fetch.{fetchedOf}
+use Rattle.fetch.proofs.Fetching.{found-none, found-at, settled-end, settled-no, settled-yes}
+use Rattle.fetch.proofs.next_settled.Statement.{statement}
+use Rattle.fetch.proofs.next_settled.Tie as tie
 
 abbrev Inv-loop : tie.InvT-loop
 Inv-loop block places id source i₀ i = nextSettled block places source (256 - i) i ≡ nextSettled block places source (256 - id) id

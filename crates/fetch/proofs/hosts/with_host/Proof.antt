@@ -5,8 +5,8 @@ use Prim.Native.Nat.{_≤_}
 use lib.ListN.{length}
 use lib.Seq.{set-out}
 use borrow.Author.Needs.{needs}
-use Rattle.survey.proofs.hosts.with_host.Statement.{statement}
-use Rattle.survey.proofs.hosts.with_host.Tie as tie
+use Rattle.fetch.proofs.hosts.with_host.Statement.{statement}
+use Rattle.fetch.proofs.hosts.with_host.Tie as tie
 
 pub with-host-spec : {M : Type 1} → statement M
 with-host-spec = tie.close (tie.spec

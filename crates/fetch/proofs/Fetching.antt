@@ -1,6 +1,6 @@
 -- The next frame that a transfer copies, found step by step; and the settled frames that the places tell of.
 use mathlib.Core.Path.{_≡_, refl, sym, ap, ap₂, _∙_}
-use mathlib.Core.List.{List, [], _∷_, map}
+use mathlib.Core.List.{List, [], _∷_}
 use mathlib.Core.Option.{Option, none, some}
 use mathlib.Core.Bool.{Bool, true, false}
 use Prim.Native.Nat.{ℕ, zero, suc, _+_, _-_, _≤_, _<_}
@@ -8,7 +8,7 @@ use native.Mathlib.Omega.{arith}
 use lib.Dec.{eqb}
 use lib.ListN.{length, getD, take, drop}
 use lib.Seq.{take-length, take-all}
-use borrow.Author.Tests.{ne-eqb, eqb-true, eqb-false}
+use borrow.Author.Tests.{ne-eqb}
 use Rattle.flash.proofs.Cases.{on-test}
 use Rattle.frame.specs.declared.ObjectId.{ObjectId}
 use Rattle.frame.specs.declared.Fault.{Fault}
@@ -17,17 +17,13 @@ use Rattle.frame.specs.Reader.{Read, blank, whole, torn, wrong, readFrame}
 use Rattle.frame.specs.Code.{headOf, valueOf, valueLen, valueStart}
 use Rattle.frame.proofs.Heads.{value-len}
 use Rattle.frame.proofs.Reading.{read-blank}
-use Rattle.survey.specs.declared.Found.the-variants as found
-use Rattle.survey.specs.declared.Fetch.{Fetch}
-use Rattle.survey.specs.declared.Fetched.the-variants as fetched
-use Rattle.journal.specs.Replay.{Object, lookup, settledFrame}
+use Rattle.fetch.specs.declared.Found.the-variants as found
+use Rattle.fetch.specs.declared.Fetch.{Fetch}
+use Rattle.fetch.specs.declared.Fetched.the-variants as fetched
 use Rattle.journal.specs.Index.{Value, onlyIf, frameValue, valueRead, valueAt, Load, load, nextSettled, isPending, nextPending, orElse, nextLoad}
-use Rattle.survey.specs.Survey.{foundOf, valueFrom, fetchedOf}
-use Rattle.survey.specs.Pass.{valueHead, pendingHead, settledAt}
-use Rattle.journal.proofs.Lookups.{lookup-yes, lookup-no}
-use Rattle.journal.proofs.Replaying.{Rising, below-none, rising-from}
-use Rattle.journal.proofs.Places.{bytesOf}
-use Rattle.survey.proofs.FrameReads.{value-there, value-inside}
+use Rattle.fetch.specs.Fetch.{foundOf, valueFrom, fetchedOf}
+use Rattle.fetch.specs.Fetch.{valueHead, pendingHead}
+use Rattle.fetch.proofs.FrameReads.{value-there, value-inside}
 
 -- ---- by heads
 
@@ -198,49 +194,6 @@ value-pending b places since at (change h (delete i)) t = omega arith
 value-pending b places since at (commit h) t = omega arith
 value-pending b places since at (abort h) t = omega arith
 value-pending b places since at (settled i v) t = let z : _≡_ {A = ℕ} 0 1 = cc in absurd (omega arith)
-
--- ---- the settled frames by their places
-
-module _ (b places : List ℕ) where
-  collect-no : (n i : ℕ) → bytesOf (valueAt b (idOf i) (getD places i 0)) ≡ none → settledAt b places (suc n) i ≡ settledAt b places n (suc i)
-  unfolding settledAt
-  collect-no n i e = go (valueAt b (idOf i) (getD places i 0)) refl e
-    where
-      go : (o : Option Value) → valueAt b (idOf i) (getD places i 0) ≡ o → bytesOf o ≡ none → settledAt b places (suc n) i ≡ settledAt b places n (suc i)
-      go none q z = rw (q, settledAt)
-      go (some x) q z = let y : _≡_ {A = ℕ} 0 1 = cc in absurd (omega arith)
-
-  collect-yes : (n i : ℕ) (v : List ℕ) → bytesOf (valueAt b (idOf i) (getD places i 0)) ≡ some v
-      → settledAt b places (suc n) i ≡ settled (idOf i) v ∷ settledAt b places n (suc i)
-  unfolding settledAt
-  collect-yes n i v e = go (valueAt b (idOf i) (getD places i 0)) refl e
-    where
-      go : (o : Option Value) → valueAt b (idOf i) (getD places i 0) ≡ o → bytesOf o ≡ some v
-          → settledAt b places (suc n) i ≡ settled (idOf i) v ∷ settledAt b places n (suc i)
-      go none q z = let y : _≡_ {A = ℕ} 0 1 = cc in absurd (omega arith)
-      go (some x) q z = let y : x .bytes ≡ v = cc in rw (q, settledAt) (ap (λ (w : List ℕ). settled (idOf i) w ∷ settledAt b places n (suc i)) y)
-
-  pub collect : (n i : ℕ) (os : List Object) → i + n ≡ 256 → Rising i os 256
-      → ((j : ℕ) → i ≤ j → j ≤ 255 → bytesOf (valueAt b (idOf j) (getD places j 0)) ≡ lookup (idOf j) os)
-      → settledAt b places n i ≡ map settledFrame os
-  unfolding settledAt lookup
-  collect zero i [] q r k = refl
-  collect zero i (o ∷ os) q ((a, c, d), r) k = absurd (omega arith)
-  collect (suc n) i [] q r k =
-      collect-no n i (k i (omega arith) (omega arith)) ∙ collect n (suc i) [] (omega arith) (omega arith) (λ j u w. k j (omega arith) w)
-  collect (suc n) i (o ∷ os) q ((a, c, d), r) k =
-      on-test (eqb i (o .id .0))
-      (λ t.
-      let z : i ≡ o .id .0 = eqb-true i (o .id .0) t in
-      collect-yes n i (o .value) (k i (omega arith) (omega arith) ∙ lookup-yes (idOf i) o os t)
-      ∙ ap₂ (λ (j : ℕ) (fs : List Frame). settled (idOf j) (o .value) ∷ fs) z
-      (collect n (suc i) os (omega arith) (rising-from (suc (o .id .0)) (suc i) os 256 (omega arith) r)
-      (λ j u w. k j (omega arith) w ∙ lookup-no (idOf j) o os (ne-eqb j (o .id .0) (omega arith)))))
-      (λ t.
-      let z : i ≡ o .id .0 → ⊥ = eqb-false i (o .id .0) t in
-      let r′ : Rising (suc i) (o ∷ os) 256 = ((omega arith, c, d), r) in
-      collect-no n i (k i (omega arith) (omega arith) ∙ below-none (idOf i) (suc i) (o ∷ os) 256 (omega arith) r′)
-      ∙ collect n (suc i) (o ∷ os) (omega arith) r′ (λ j u w. k j (omega arith) w))
 
 -- ---- the settled frames first, then the pending ones
 

@@ -2,13 +2,13 @@
 use mathlib.Core.Path.{sym, ap, _∙_}
 use Prim.Native.Nat.{ℕ}
 use denote.Ref.{now}
-use Rattle.survey.proofs.HeadLaws.{value-whole, value-blank, value-torn, value-wrong}
-use Rattle.survey.specs.Survey.{foundOf}
+use Rattle.fetch.proofs.HeadLaws.{value-whole, value-blank, value-torn, value-wrong}
+use Rattle.fetch.specs.Fetch.{foundOf}
 use Rattle.journal.specs.Index.{valueAt}
 use Rattle.journal.proofs.Places.{value-zero}
 use borrow.Author.Needs.{needs}
-use Rattle.survey.proofs.index.value_at.Statement.{statement}
-use Rattle.survey.proofs.index.value_at.Tie as tie
+use Rattle.fetch.proofs.value_at.Statement.{statement}
+use Rattle.fetch.proofs.value_at.Tie as tie
 
 pub value-at-spec : {M : Type 1} → statement M
 value-at-spec =

@@ -1,17 +1,17 @@
 -- The next pending frame: from where the loop stands it is the same as from the source on.
-use Rattle.survey.proofs.HeadLaws.{start-inside}
+use Rattle.fetch.proofs.HeadLaws.{start-inside}
 use mathlib.Core.Path.{_≡_, refl, sym, ap, _∙_}
 use native.Mathlib.Omega.{arith}
 use Prim.Native.Nat.{_-_}
 use denote.Ref.{now}
 use lib.ListN.{length, drop}
 use borrow.Author.Needs.{needs}
-use Rattle.survey.proofs.HeadLaws.{no-blank, no-torn, no-wrong, skip-pending, fetch-pending}
+use Rattle.fetch.proofs.HeadLaws.{no-blank, no-torn, no-wrong, skip-pending, fetch-pending}
 use Rattle.journal.specs.Index.{nextPending}
-use Rattle.survey.specs.Survey.{fetchedOf}
-use Rattle.survey.proofs.FrameReads.{read-inside}
-use Rattle.survey.proofs.index.next_pending.Statement.{statement}
-use Rattle.survey.proofs.index.next_pending.Tie as tie
+use Rattle.fetch.specs.Fetch.{fetchedOf}
+use Rattle.fetch.proofs.FrameReads.{read-inside}
+use Rattle.fetch.proofs.next_pending.Statement.{statement}
+use Rattle.fetch.proofs.next_pending.Tie as tie
 
 abbrev Inv-loop : tie.InvT-loop
 Inv-loop part since source at₀ at = nextPending since at 0 (drop at part) ≡ nextPending since source 0 (drop source part)

@@ -1,8 +1,8 @@
 -- Pending or not, by the head.
-use Rattle.survey.specs.Pass.{pendingHead}
+use Rattle.fetch.specs.Fetch.{pendingHead}
 use borrow.Author.Needs.{needs}
-use Rattle.survey.proofs.index.is_pending.Statement.{statement}
-use Rattle.survey.proofs.index.is_pending.Tie as tie
+use Rattle.fetch.proofs.is_pending.Statement.{statement}
+use Rattle.fetch.proofs.is_pending.Tie as tie
 
 pub is-pending-spec : {M : Type 1} → statement M
 unfolding pendingHead

@@ -12,12 +12,12 @@ use Rattle.frame.specs.Frame.{idOf, valueMax, Frame, settled, frameLen}
 use Rattle.frame.specs.Reader.{Read, blank, whole, torn, wrong, readFrame}
 use Rattle.frame.specs.Code.{headOf, frameOf, valueLen, valueStart}
 use Rattle.frame.proofs.Heads.{frame-of-head}
-use Rattle.survey.specs.declared.Fetched.{Fetched}
-use Rattle.survey.specs.declared.Fetched.the-variants as fetched
+use Rattle.fetch.specs.declared.Fetched.{Fetched}
+use Rattle.fetch.specs.declared.Fetched.the-variants as fetched
 use Rattle.journal.specs.Index.{Value, valueAt, Load, load, nextSettled, isPending, nextPending, orElse, nextLoad}
-use Rattle.survey.specs.Survey.{orStart, fetchedOf, Fetches}
-use Rattle.survey.proofs.FrameReads.{part-same, value-there, value-inside}
-use Rattle.survey.proofs.Fetching.{InBlock, in-block, pending-blank, pending-torn, pending-wrong, pending-yes, value-pending}
+use Rattle.fetch.specs.Fetch.{orStart, fetchedOf, Fetches}
+use Rattle.fetch.proofs.FrameReads.{part-same, value-there, value-inside}
+use Rattle.fetch.proofs.Fetching.{InBlock, in-block, pending-blank, pending-torn, pending-wrong, pending-yes, value-pending}
 
 -- ---- a settled frame
 

@@ -4,8 +4,8 @@ use native.Mathlib.Omega.{arith}
 use Prim.Native.Nat.{_≤_}
 use lib.ListN.{length, List·getD-eq-default}
 use borrow.Author.Needs.{needs}
-use Rattle.survey.proofs.hosts.of_host.Statement.{statement}
-use Rattle.survey.proofs.hosts.of_host.Tie as tie
+use Rattle.fetch.proofs.hosts.of_host.Statement.{statement}
+use Rattle.fetch.proofs.hosts.of_host.Tie as tie
 
 pub of-host-spec : {M : Type 1} → statement M
 of-host-spec = tie.close (tie.spec

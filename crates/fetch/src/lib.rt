@@ -4,17 +4,37 @@ ghost use mathlib.Core.List.{List};
 ghost use Prim.Native.Nat.{ℕ, _-_, _<_};
 ghost use lib.ListN.{length, drop};
 ghost use Rattle.journal.specs.Index.{valueAt, nextSettled, nextPending, nextLoad};
-ghost use Rattle.survey.specs.Survey.{foundOf, fetchedOf};
-ghost use Rattle.survey.specs.Pass.{valueHead, pendingHead};
-use crate::Fetch;
-use crate::Fetched;
-use crate::Found;
-use crate::hosts;
+ghost use Rattle.fetch.specs.Fetch.{foundOf, fetchedOf};
+ghost use Rattle.fetch.specs.Fetch.{valueHead, pendingHead};
+
+mod hosts;
+
 use frame::FrameRead;
 use frame::Head;
 use frame::ObjectId;
 use frame::PUT_VALUE_AT;
 use frame::SETTLED_VALUE_AT;
+pub use hosts::of_host;
+pub use hosts::with_host;
+
+// Where in a block a value starts, and how many bytes it has.
+pub enum Found {
+    At(usize, u8),
+    Nothing,
+}
+
+// A frame to copy: its head, where its value starts in the block, and the cursor after it.
+pub struct Fetch {
+    pub head: Head,
+    pub value: usize,
+    pub id: u16,
+    pub source: u16,
+}
+
+pub enum Fetched {
+    Frame(Fetch),
+    Nothing,
+}
 
 // The value of an id in a frame.
 fn value_in(id: ObjectId, place: u16, head: Head) -> Found
