@@ -10,11 +10,11 @@ use Rattle.frame.specs.declared.Head.{Head}
 use Rattle.frame.specs.declared.Head.the-variants as head
 use Rattle.frame.specs.Frame.{valueMax, frameLen, encode, buffer}
 use Rattle.frame.specs.Code.{frameOf, headLen, valueLen}
-use Rattle.survey.specs.declared.Fetch.{Fetch}
-use Rattle.survey.specs.declared.Fetched.{Fetched}
-use Rattle.survey.specs.declared.Fetched.the-variants as fetched
+use Rattle.fetch.specs.declared.Fetch.{Fetch}
+use Rattle.fetch.specs.declared.Fetched.{Fetched}
+use Rattle.fetch.specs.declared.Fetched.the-variants as fetched
 use Rattle.journal.specs.Index.{nextLoad}
-use Rattle.survey.specs.Survey.{loadIn, loadOf}
+use Rattle.fetch.specs.Fetch.{loadIn, loadOf}
 use Rattle.board.specs.declared.Stage.the-variants.{Copy, Seal}
 use Rattle.board.specs.declared.Record.{Record}
 use Rattle.board.specs.Record.{cursor}

@@ -9,7 +9,7 @@ ghost use Rattle.flash.specs.Flash.{program, erase, sizeOf, within, writeStep};
 ghost use Rattle.frame.specs.Frame.{valueMax};
 ghost use Rattle.frame.specs.Code.{valueLen};
 ghost use Rattle.journal.specs.Block.{openWrite, sealWrite};
-ghost use Rattle.survey.specs.Survey.{loadIn};
+ghost use Rattle.fetch.specs.Fetch.{loadIn};
 ghost use Rattle.board.specs.declared.Stage.the-variants as stages;
 ghost use Rattle.board.specs.Step.{loaded, enterCopy, action, nextIndex, advance, stepBusy, stepOn};
 ghost use Rattle.job.specs.Code.{assemble, staged, going, LeadsTo, movedByte, flashStep, did, offsetFor, Steps};
@@ -22,14 +22,14 @@ use board::Cursor;
 use board::Phase;
 use board::Record;
 use board::Stage;
+use fetch::Fetch;
+use fetch::Fetched;
 use flash::BLOCKS;
 use frame::MAX_FRAME;
 use journal::IN_TRANSFER;
 use journal::STATE_AT;
 use journal::TIME_AT;
 use journal::VALID_DATA;
-use survey::Fetch;
-use survey::Fetched;
 use wire::Answer;
 use wire::Refusal;
 
@@ -220,7 +220,7 @@ fn enter_copy(image: &[u8], n: Numbers, places: &[u16; 256], unit: &mut [u8; MAX
     let cursor = n.cursor;
     let rest = n.rest;
     let source = flash::block_of(image, rest.block);
-    match survey::next_load(source, rest.end, places, since, cursor.id, cursor.source) {
+    match fetch::next_load(source, rest.end, places, since, cursor.id, cursor.source) {
         Fetched::Frame(fetch) => return load(source, fetch, n, unit),
         Fetched::Nothing => return records::enter(Stage::Seal, n),
     }

@@ -15,13 +15,14 @@ use Rattle.frame.specs.declared.ObjectId.{ObjectId}
 use Rattle.frame.specs.Frame.{hostMax, idMax, Change, put, delete, Frame, change, commit, abort}
 use Rattle.frame.specs.Reader.{clean}
 use Rattle.survey.specs.declared.Survey.{Survey}
-use Rattle.survey.specs.declared.Found.{Found}
-use Rattle.survey.specs.declared.Found.the-variants as found
+use Rattle.fetch.specs.declared.Found.{Found}
+use Rattle.fetch.specs.declared.Found.the-variants as found
 use Rattle.journal.specs.Block.{valid, blockState, lastTime}
 use Rattle.journal.specs.Replay.{replay, lookup, isOpen}
 use Rattle.journal.specs.Room.{noRoom}
 use Rattle.journal.specs.Index.{placesOf, Value, valueAt}
-use Rattle.survey.specs.Survey.{surveyOf, placesIn, foundOf}
+use Rattle.survey.specs.Survey.{surveyOf, placesIn}
+use Rattle.fetch.specs.Fetch.{foundOf}
 use Rattle.journal.proofs.States.{Contents}
 use Rattle.journal.proofs.Places.{ValueStands, place-law, no-place, value-zero}
 use Rattle.wire.specs.declared.Refusal.{Refusal}

@@ -9,10 +9,10 @@ use Rattle.flash.specs.Flash.{blocks, block, sizeOf}
 use Rattle.frame.specs.declared.Host.{Host}
 use Rattle.frame.specs.Frame.{hostMax, endLen}
 use Rattle.survey.specs.declared.Survey.{Survey}
-use Rattle.survey.specs.declared.Found.{Found}
-use Rattle.survey.specs.declared.Found.the-variants as found
+use Rattle.fetch.specs.declared.Found.{Found}
+use Rattle.fetch.specs.declared.Found.the-variants as found
 use Rattle.journal.specs.Index.{valueAt}
-use Rattle.survey.specs.Survey.{foundOf}
+use Rattle.fetch.specs.Fetch.{foundOf}
 use Rattle.wire.specs.declared.Refusal.the-variants as refusal
 use Rattle.wire.specs.declared.Request.{Request}
 use Rattle.wire.specs.declared.Request.the-variants.{Put, Delete, Commit, Abort, Read, Log}

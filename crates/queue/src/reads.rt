@@ -9,9 +9,9 @@ use crate::requests;
 use crate::requests::Ask;
 use crate::requests::Gate;
 use board::Record;
+use fetch::Found;
 use frame::Host;
 use job::records;
-use survey::Found;
 use wire::Request;
 
 // A stretch of the image.
@@ -32,7 +32,7 @@ fn find(block: &[u8], places: [u16; 256], ask: Request) -> Found
     ensures { λ r. ⌜ r ≡ foundFor (now (block .entry)) places ask ⌝ }
 {
     match ask {
-        Request::Read(id) => return survey::value_at(block, id, serving::place_of(places, id)),
+        Request::Read(id) => return fetch::value_at(block, id, serving::place_of(places, id)),
         Request::Put(_) => return Found::Nothing,
         Request::Delete(_) => return Found::Nothing,
         Request::Commit => return Found::Nothing,

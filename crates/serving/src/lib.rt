@@ -157,7 +157,7 @@ fn serve_end(
     ensures { λ r. ⌜ r ≡ endIn size board s places host (headLen head) (bytesOf (frameOf head [])) ⌝ }
 {
     let p = s.pending;
-    if survey::of_host(p, host) == 0 {
+    if fetch::of_host(p, host) == 0 {
         return done(board);
     }
     let none: [u8; 0] = [];

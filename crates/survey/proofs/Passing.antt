@@ -26,7 +26,7 @@ use Rattle.journal.proofs.Places.{stands-zero}
 use Rattle.journal.proofs.Pending.{since-snoc, since-at}
 use Rattle.survey.proofs.Indexing.{places-change, places-abort, places-commit, places-settled, Boundary, boundary, commit-from}
 use Rattle.survey.proofs.PerHost.{per-set, per-same, per-at, bytes-own, bytes-other, bytes-ended, bytes-kept}
-use Rattle.survey.proofs.FrameReads.{whole-stands, whole-bytes, scan-whole-at, drop-take}
+use Rattle.fetch.proofs.FrameReads.{whole-stands, whole-bytes, scan-whole-at, drop-take}
 
 -- ---- `since` and the pending bytes after one frame more
 

@@ -31,7 +31,7 @@ use Rattle.survey.specs.Survey.{pendingOf, tornLen, surveyOf, placesIn, 
 use Rattle.survey.specs.Pass.{headerOf, progressOf, tailOf, walkOf, settledAt, emptySurvey, foundSurvey}
 use Rattle.journal.proofs.Replaying.{rising-to, Sound, sound-replay}
 use Rattle.journal.proofs.Places.{Journal, place-value}
-use Rattle.survey.proofs.Fetching.{collect}
+use Rattle.survey.proofs.Collecting.{collect}
 
 -- ---- no frames
 

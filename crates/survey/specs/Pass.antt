@@ -10,14 +10,12 @@ use Rattle.frame.specs.declared.ObjectId.{ObjectId}
 use Rattle.frame.specs.declared.Fault.{Fault}
 use Rattle.frame.specs.declared.Head.{Head}
 use Rattle.frame.specs.declared.Head.the-variants as head
-use Rattle.frame.specs.Frame.{idOf, ChangeOf, put, delete, Frame, change, commit, abort, settled, mapChange, frameLen, putValueAt, settledValueAt}
+use Rattle.frame.specs.Frame.{idOf, ChangeOf, put, delete, Frame, change, commit, abort, settled, mapChange, frameLen}
 use Rattle.frame.specs.Frame.{putLen, deleteLen, endLen, settledLen, total, nextOf}
 use Rattle.frame.specs.Reader.{clean, cut, bad, Scan, scan}
 use Rattle.frame.specs.Reader.{Tail as ScanTail}
 use Rattle.survey.specs.declared.HeaderCheck.{HeaderCheck}
 use Rattle.survey.specs.declared.HeaderCheck.the-variants.{Sound, Bad}
-use Rattle.survey.specs.declared.Found.{Found}
-use Rattle.survey.specs.declared.Found.the-variants as found
 use Rattle.survey.specs.declared.Progress.{Progress}
 use Rattle.survey.specs.declared.Tail.{Tail}
 use Rattle.survey.specs.declared.Tail.the-variants as tail
@@ -34,28 +32,6 @@ use Rattle.survey.specs.Survey.{perHost, pendingOf}
 abbrev pub headerOf : Option Fault → HeaderCheck
 headerOf none = Sound
 headerOf (some e) = Bad e
-
--- ---- by the frame's head
-
-abbrev pub onlyAt : Bool → ℕ → ℕ → Found
-onlyAt true p n = found.At p n
-onlyAt false p n = found.Nothing
-
--- the value of an id in a frame at offset p, by the frame's head
-unfoldable pub valueHead : ObjectId → ℕ → Head → Found
-valueHead i p (head.Put h j n) = onlyAt (eqb (i .0) (j .0)) (p + putValueAt) n
-valueHead i p (head.Delete h j) = found.Nothing
-valueHead i p (head.Commit h) = found.Nothing
-valueHead i p (head.Abort h) = found.Nothing
-valueHead i p (head.Settled j n) = onlyAt (eqb (i .0) (j .0)) (p + settledValueAt) n
-
--- a put or delete at or past its host's `since`, by the head
-unfoldable pub pendingHead : List ℕ → ℕ → Head → Bool
-pendingHead since at (head.Put h i n) = leb (getD since (h .0) 0) at
-pendingHead since at (head.Delete h i) = leb (getD since (h .0) 0) at
-pendingHead since at (head.Commit h) = false
-pendingHead since at (head.Abort h) = false
-pendingHead since at (head.Settled i n) = false
 
 -- ---- the pass
 

@@ -11,7 +11,6 @@ ghost use Rattle.journal.specs.Index.{placesOf};
 ghost use Rattle.survey.specs.Survey.{surveyOf, placesIn, stateOf};
 ghost use Rattle.survey.specs.Pass.{scanBlock, settledAt, tallyOf, progressOf, walkOf, emptySurvey, foundSurvey};
 use crate::BlockKind;
-use crate::Found;
 use crate::HeaderCheck;
 use crate::Progress;
 use crate::Survey;
@@ -19,8 +18,8 @@ use crate::Tail;
 use crate::Tally;
 use crate::Walk;
 use crate::header;
-use crate::index;
 use crate::pass;
+use fetch::Found;
 use frame::Fault;
 use frame::Field;
 use frame::FrameRead;
@@ -102,7 +101,7 @@ fn tally(block: &[u8], places: &[u16; 256]) -> Tally
     let mut count: u16 = 0;
     let mut used: u16 = START;
     while i < 256 {
-        match index::value_at(block, ObjectId(i), places[i as usize]) {
+        match fetch::value_at(block, ObjectId(i), places[i as usize]) {
             Found::At(_, n) => {
                 i = i + 1;
                 count = count + 1;

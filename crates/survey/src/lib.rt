@@ -1,40 +1,15 @@
 // Reading a block: its header, its frames, and what replaying them gives.
 mod block;
 mod header;
-mod hosts;
-mod index;
 mod pass;
 
 pub use block::survey_block;
 use frame::Fault;
-use frame::Head;
-pub use hosts::of_host;
-pub use index::next_load;
-pub use index::value_at;
 
 // What is wrong with a header, if anything is.
 pub enum HeaderCheck {
     Sound,
     Bad(Fault),
-}
-
-// Where in a block a value starts, and how many bytes it has.
-pub enum Found {
-    At(usize, u8),
-    Nothing,
-}
-
-// A frame to copy: its head, where its value starts in the block, and the cursor after it.
-pub struct Fetch {
-    pub head: Head,
-    pub value: usize,
-    pub id: u16,
-    pub source: u16,
-}
-
-pub enum Fetched {
-    Frame(Fetch),
-    Nothing,
 }
 
 // What the frames of a block come to, as far as they were read.

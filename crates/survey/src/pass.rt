@@ -7,7 +7,6 @@ ghost use Rattle.frame.specs.Code.{headLen};
 ghost use Rattle.journal.specs.Block.{blockMax};
 ghost use Rattle.survey.specs.Pass.{placeHead, nextHead, recommit, grown, closed, passed, tookFrame, tookPlaces};
 use crate::Progress;
-use crate::hosts;
 use frame::END_LEN;
 use frame::FrameRead;
 use frame::Head;
@@ -99,7 +98,7 @@ fn grow(p: Progress, host: Host, n: u16) -> Progress
 {
     let since = p.since;
     let old = p.pending;
-    let pending = hosts::with_host(old, host, hosts::of_host(old, host) + n);
+    let pending = fetch::with_host(old, host, fetch::of_host(old, host) + n);
     Progress {
         end: p.end + n,
         next: 256,
@@ -116,8 +115,8 @@ fn close(p: Progress, host: Host) -> Progress
     let end = p.end + END;
     let old = p.since;
     let was = p.pending;
-    let since = hosts::with_host(old, host, end);
-    let pending = hosts::with_host(was, host, 0);
+    let since = fetch::with_host(old, host, end);
+    let pending = fetch::with_host(was, host, 0);
     Progress {
         end: end,
         next: 256,
@@ -153,7 +152,7 @@ pub fn take_frame(block: &[u8], p: Progress, head: Head, places: &mut [u16; 256]
         Head::Delete(host, _) => grow(p, host, size),
         Head::Commit(host) => {
             let all = p.since;
-            let since = hosts::of_host(all, host) as usize;
+            let since = fetch::of_host(all, host) as usize;
             let e = end as usize;
             commit_own(&block[..e], host, since, places);
             close(p, host)

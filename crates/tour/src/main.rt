@@ -1,80 +1,172 @@
-// A tour of what document 01's rows leave out: every refusal, aborts, hosts, transfers, cuts and the last times. The file
-// stdout has what it must print, worked out from document 01; the comments have the sums.
+// A tour of what document 01's rows leave out: every refusal, aborts, hosts, transfers, cuts and the last times. The file stdin
+// is its script: the calls, a line each, and the sums as comments. The file stdout has what it must print, worked out from
+// document 01.
+ghost use Prim.Native.Nat.{_<_};
+use lines::Args;
+use lines::after;
+use lines::expected;
+use lines::find;
+use lines::front;
+use lines::message;
+use lines::numbers;
 use scene::Bench;
-use scene::format;
+use scene::number;
 use scene::say;
-use scene::tell;
-use shown::asked;
-use shown::commits;
-use shown::compare;
-use shown::puts;
 
-mod hosts;
-mod images;
-mod last;
-mod refusals;
+mod calls;
+mod hand;
+mod lines;
 mod shown;
-mod transfers;
 
-// Object 5 of two bytes: a frame of 10 bytes at 16 and one of 6, so the end is 32. Put and commit change image and record,
-// a log changes the reply, and the comparisons tell.
-fn store_of_one(a: Bench) -> Bench {
-    say(b"The store of most refusals\n");
-    tell(b"   format", a);
-    let c = commits(puts(a, 2, 5, 0x41, 2), 2);
-    say(b"   from the format to this commit");
-    compare(a, c);
+// The store as it stands, and those that the script goes back to.
+struct Tour {
+    now: Bench,
+    kept: [Bench; 4],
+}
+
+// A line that changes the store, by a call or by hand.
+fn next(d: Bench, word: u8, n: Args, message: &[u8], text: &[u8]) -> Bench {
+    match word {
+        b'a' => calls::asked(d, n.d, message, 65536, text),
+        b'c' => calls::asked(d, n.c, message, n.d, text),
+        b'p' => calls::puts(d, n, flash::byte_at(message, 0), text),
+        b'w' => calls::with_reply(d, message, n.d, text),
+        b'f' => calls::formats(d, text),
+        b'm' => calls::mounts(d, text),
+        b'g' => calls::stepped(d, 65536, text),
+        b't' => calls::stepped(d, 1, text),
+        b'n' => hand::new(),
+        b'd' => hand::double(d),
+        b'i' => hand::image(d, n.d, message),
+        b'b' => hand::board(d, n.d, message),
+        _ => d,
+    }
+}
+
+// A line that shows something.
+fn show(d: Bench, word: u8, n: Args, message: &[u8], text: &[u8]) {
+    match word {
+        b's' => shown::title(text),
+        b'v' => scene::bytes(d, n.c, n.d),
+        b'l' => scene::log(d),
+        b'o' => scene::objects(d),
+        b'h' => shown::reply_shown(d),
+        b'r' => calls::reads(d, message, text),
+        b'z' => hand::zeros(d, n.c, n.d, text),
+        b'e' => hand::elsewhere(d, text),
+        _ => (),
+    }
+}
+
+fn act(t: Tour, word: u8, n: Args, message: &[u8], text: &[u8]) -> Tour {
+    let mut u = t;
+    show(t.now, word, n, message, text);
+    let now = next(t.now, word, n, message, text);
+    u.now = now;
+    u
+}
+
+// ---- slots
+
+// A slot's number; a larger one shows.
+fn slot(n: usize) -> usize
+    ensures { λ r. ⌜ r < 4 ⌝ }
+{
+    if 3 < n {
+        say(b"? no slot ");
+        return 0;
+    }
+    n
+}
+
+fn keep(t: Tour, n: usize) -> Tour {
+    let mut u = t;
+    let at = slot(n);
+    let now = t.now;
+    u.kept[at] = now;
+    u
+}
+
+fn back(t: Tour, n: usize) -> Tour {
+    let mut u = t;
+    let at = slot(n);
+    let old = t.kept[at];
+    u.now = old;
+    u
+}
+
+fn compared(t: Tour, n: usize, text: &[u8]) -> Tour {
+    let at = slot(n);
+    let old = t.kept[at];
+    say(text);
+    shown::judged(old, t.now);
+    t
+}
+
+fn done(t: Tour, word: u8, n: Args, message: &[u8], text: &[u8]) -> Tour {
+    match word {
+        b'k' => keep(t, n.d),
+        b'u' => back(t, n.d),
+        b'j' => compared(t, n.d, text),
+        _ => act(t, word, n, message, text),
+    }
+}
+
+// ---- lines
+
+fn unread(t: Tour, count: usize) -> Tour {
+    say(b"? line ");
+    number(count);
     say(b"\n");
-    asked(b"   log", c, 0, &[5, 0, 6, 1, 1]);
-    c
+    t
 }
 
-fn refusals_1_to_5(c: Bench) {
-    refusals::malformed(c);
-    refusals::unknown_kinds(c);
-    refusals::unknown_ids(c);
-    refusals::unmounted(c);
-    refusals::no_store();
-    images::foreign(c);
-    images::lengths(c);
-    refusals::unfinished(c);
+// A line: a word, numbers, a message in hex after `x`, and after `|` a text. Its number counts from 1.
+fn read(t: Tour, word: u8, count: usize, head: &[u8], text: &[u8]) -> Tour {
+    let x = find(head, 0, b'x');
+    let n = numbers(&head[0..x]);
+    let m = message(after(head, x));
+    let bytes = m.bytes;
+    let size = m.digits / 2;
+    if n.count != expected(word) {
+        return unread(t, count);
+    }
+    if m.digits % 2 == 1 {
+        return unread(t, count);
+    }
+    done(t, word, n, front(&bytes, size), text)
 }
 
-fn refusal_6() {
-    let last = last::to_the_last();
-    last::at_the_last(last);
-    last::no_transfer(last);
+fn line(t: Tour, s: &[u8], count: usize) -> Tour {
+    let word = flash::byte_at(s, 0);
+    if word == 0 {
+        return t;
+    }
+    if word == b'#' {
+        return t;
+    }
+    let bar = find(s, 0, b'|');
+    read(t, word, count, &s[0..bar], after(s, bar))
 }
 
-fn refusals_7_to_11(a: Bench, c: Bench) {
-    let three = images::no_room(a);
-    images::no_room_for_deletes(three);
-    refusals::no_object(c);
-    refusals::short_reply(c);
-    refusals::no_host(c);
-    images::other_record(c);
-    images::other_image(c);
-    images::other_end(c);
-    images::crowds(three);
-    images::steps(c);
-}
-
-fn journals(a: Bench) {
-    hosts::two_hosts(a);
-    hosts::nothing_pending(a);
-    let odd = hosts::odd_values(a);
-    hosts::cut_puts(odd);
-    let full = transfers::full(a);
-    transfers::carried(full);
-    transfers::first_steps(a);
-    transfers::cuts_with_pending(full);
+fn script(s: &[u8]) {
+    let start = hand::new();
+    let mut t = Tour {
+        now: start,
+        kept: [start; 4],
+    };
+    let mut at = 0;
+    let mut count = 1;
+    while at < s.len() {
+        let end = find(s, at, b'\n');
+        t = line(t, &s[at..end], count);
+        at = end + 1;
+        count += 1;
+    }
 }
 
 fn main() {
-    let a = format([0xFF; 512]);
-    let c = store_of_one(a);
-    refusals_1_to_5(c);
-    refusal_6();
-    refusals_7_to_11(a, c);
-    journals(a);
+    let mut buffer = io::large_buffer();
+    let n = io::read_full(0, &mut buffer);
+    script(&buffer[..n]);
 }

@@ -3,8 +3,8 @@ use Rattle.job.proofs.Entering.{going-leaves}
 use Rattle.job.specs.Code.{assemble, going, LeadsTo}
 use Rattle.board.specs.Step.{first}
 use Rattle.board.specs.declared.Stage.the-variants.{Seal}
-use Rattle.survey.specs.Survey.{Inside}
-use Rattle.survey.proofs.Copying.{fetches}
+use Rattle.fetch.specs.Fetch.{Inside}
+use Rattle.fetch.proofs.Copying.{fetches}
 use Rattle.job.proofs.Loading.{frame-found, none-found}
 use denote.Ref.{now}
 use mathlib.Core.Path.{subst}

@@ -3,7 +3,7 @@ use mathlib.Core.Path.{ap, _∙_}
 use Prim.Native.Nat.{ℕ}
 use denote.Ref.{now}
 use Rattle.journal.specs.Index.{valueAt}
-use Rattle.survey.specs.Survey.{foundOf}
+use Rattle.fetch.specs.Fetch.{foundOf}
 use borrow.Author.Needs.{needs}
 use Rattle.queue.proofs.reads.find.Statement.{statement}
 use Rattle.queue.proofs.reads.find.Tie as tie

@@ -6,7 +6,7 @@ use denote.Ref.{now}
 use lib.ListN.{length}
 use borrow.Author.Needs.{needs}
 use Rattle.survey.proofs.HeadLaws.{taken-end, reached-pending, reached-more, ends-blank, ends-torn, ends-wrong}
-use Rattle.survey.proofs.FrameReads.{read-inside}
+use Rattle.fetch.proofs.FrameReads.{read-inside}
 use Rattle.survey.proofs.Passing.{Reached, reached-none}
 use Rattle.survey.proofs.block.walk.Statement.{statement}
 use Rattle.survey.proofs.block.walk.Tie as tie

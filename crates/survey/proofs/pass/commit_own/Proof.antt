@@ -8,7 +8,7 @@ use borrow.Author.Needs.{needs}
 use Rattle.survey.proofs.HeadLaws.{commit-blank, commit-torn, commit-wrong, commit-on}
 use Rattle.frame.specs.Reader.{scan}
 use Rattle.survey.specs.Pass.{commitPlaces, recommit}
-use Rattle.survey.proofs.FrameReads.{read-inside}
+use Rattle.fetch.proofs.FrameReads.{read-inside}
 use Rattle.survey.proofs.pass.commit_own.Statement.{statement}
 use Rattle.survey.proofs.pass.commit_own.Tie as tie
 

@@ -1,0 +1,47 @@
+-- The next frame: a settled one if there is one, else a pending one.
+use mathlib.Core.Path.{sym, ap, _∙_}
+use native.Mathlib.Omega.{arith}
+use denote.Ref.{now}
+use borrow.Author.Needs.{needs}
+use lib.ListN.{length-take}
+use lib.Seq.{length-take-le}
+use Rattle.fetch.specs.Fetch.{fetchedOf}
+use Rattle.fetch.proofs.Fetching.{load-first, load-next, load-part-next}
+use Rattle.fetch.proofs.next_load.Statement.{statement}
+use Rattle.fetch.proofs.next_load.Tie as tie
+
+pub next-load-spec : {M : Type 1} → statement M
+next-load-spec =
+    tie.close
+    (tie.spec
+    (λ c κs. search needs)
+    (λ c. search needs)
+    (λ c.
+    let args′ = c .before .before .before .before .before .args in
+    load-first (now (args′ .block)) (args′ .end) (now (args′ .places)) (args′ .since) (args′ .id) (args′ .source) _
+    (sym (c .before .fetch .given .1) ∙ c .before .before .before .next-settled .ensures))
+    (λ c. search needs)
+    (λ c κs. omega (arith, c .before .before .before .before .before .good))
+    (λ c.
+    let args′ = c .before .before .before .before .before .before .args in
+    let b = now (args′ .block) in
+    let places = now (args′ .places) in
+    c .next-pending .ensures b places
+    ∙ ap (fetchedOf b places)
+    (load-next b (args′ .end) places (args′ .since) (args′ .id) (args′ .source)
+    (sym (c .before .before .enum-told .given .1) ∙ c .before .before .before .before .next-settled .ensures) (c .before .if1 .taken)))
+    (λ c.
+    let args′ = c .before .before .before .before .before .before .args in
+    sym (length-take-le (args′ .end) (now (args′ .block)) (omega arith)))
+    (λ c κs.
+    let args′ = c .before .before .before .before .before .before .args in
+    let good′ = c .before .before .before .before .before .before .good in
+    omega (arith, length-take (args′ .end) (now (args′ .block)), good′))
+    (λ c.
+    let args′ = c .before .before .before .before .before .before .before .args in
+    let b = now (args′ .block) in
+    let places = now (args′ .places) in
+    c .next-pending2 .ensures b places
+    ∙ ap (fetchedOf b places)
+    (load-part-next b (args′ .end) places (args′ .since) (args′ .id) (args′ .source)
+    (sym (c .before .before .before .enum-told .given .1) ∙ c .before .before .before .before .before .next-settled .ensures))))
