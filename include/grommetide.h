@@ -1,7 +1,7 @@
 /*
  * Grommetide: a settings store in two halves of NOR flash, for firmware.
  *
- * The store keeps objects (an id from 0 to 255 and a value of 0 to 64 bytes) for four hosts and survives power cuts at
+ * The store keeps objects (an id from 0 to 255 and a value of 0 to 240 bytes) for four hosts and survives power cuts at
  * any step. docs/STORE.md has its rules, docs/FORMAT.md the bytes in flash. Link with libgrommetide.a, x86-64.
  *
  * How it is used
@@ -20,7 +20,8 @@
  *
  *   image_len is a multiple of 256 from 512 to 65,536; the image is two halves of image_len / 2 bytes. Only
  *   grommetide_step writes to it, and each call does one thing at most: it programs one byte (new = old AND given, so
- *   bits are only cleared) or erases one half (all its bytes become 0xFF).
+ *   bits are only cleared) or erases one half (all its bytes become 0xFF). With 512 bytes there is room for values of up to
+ *   212 bytes, from 768 on for all (docs/STORE.md, Room).
  *
  *   mount, format, request and read only look at the image, so the memory-mapped flash itself will do. For step, lend a
  *   copy in RAM, then do to the flash what step did to the copy: if any byte has gained bits, erase the half that it is
@@ -46,7 +47,7 @@
  *     1-2    image length less one
  *     3      current half, 0 or 1
  *     4-5    where the current half's frames end, counted from its start
- *     6-689  the library's own: 6-517 places of values, 518-545 the job, 546-617 and 618-689 frames in hand
+ *     6-1041 the library's own: 6-517 places of values, 518-545 the job, 546-793 and 794-1041 frames in hand
  *
  *   Bytes 1 to 5 mean this in an idle record. An unmounted or idle record that the library hands out has zeros in all
  *   bytes it does not use. A record that does not belong to the image is noticed (GROMMETIDE_STALE), or, in a job, does
@@ -73,9 +74,9 @@
  *
  *     grommetide_mount        4,608
  *     grommetide_format         192
- *     grommetide_request     12,288
- *     grommetide_step         5,120
- *     grommetide_read         8,192
+ *     grommetide_request     14,848
+ *     grommetide_step         6,656
+ *     grommetide_read        10,240
  */
 #ifndef GROMMETIDE_H
 #define GROMMETIDE_H
@@ -87,9 +88,14 @@
 extern "C" {
 #endif
 
-/* This header's version. A record is of use only to the version that wrote it; the flash may outlive versions. */
+/*
+ * This header's version. A record is of use only to the version that wrote it; the flash may outlive versions.
+ *
+ *   0.2  values of up to 240 bytes, and so a record of 1,042 bytes. It takes the flash of 0.1 as it is.
+ *   0.1  values of up to 64 bytes, a record of 690 bytes. It finds flash in which a longer value stands foreign.
+ */
 #define GROMMETIDE_VERSION_MAJOR 0
-#define GROMMETIDE_VERSION_MINOR 1
+#define GROMMETIDE_VERSION_MINOR 2
 #define GROMMETIDE_VERSION_PATCH 0
 
 /*
@@ -99,7 +105,10 @@ extern "C" {
  */
 #define GROMMETIDE_HALF_KIND 0x4A01
 
-#define GROMMETIDE_RECORD_BYTES 690
+#define GROMMETIDE_RECORD_BYTES 1042
+
+/* The most bytes of a value. The message that puts it has six more. */
+#define GROMMETIDE_VALUE_MAX 240
 
 /* Answers. If more than one refusal applies, the first in this order is given: 4, 10, 5, 2, 3, 11, 1, 8, 9, 7, 6. */
 enum {
@@ -134,7 +143,7 @@ uint8_t grommetide_format(const uint8_t *image, size_t image_len, uint8_t *recor
 /*
  * A host's message. The host number comes from the port, 0 to 3. A message is its length (2 bytes), its kind (2) and:
  *
- *   0x0101 put     id (2), value (0 to 64)   the change is pending until the host commits
+ *   0x0101 put     id (2), value (0 to 240)  the change is pending until the host commits
  *   0x0102 delete  id (2)                    likewise
  *   0x0103 commit                            the host's pending changes become settled, all or none
  *   0x0104 abort                             the host's pending changes are dropped

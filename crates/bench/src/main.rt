@@ -19,6 +19,7 @@ use scene::result;
 use scene::run;
 use scene::say;
 use scene::tell;
+use scene::tell_run;
 
 // A format erases whatever was there.
 fn row_a() -> Bench {
@@ -153,11 +154,31 @@ fn row_n(a: Bench) {
     tell(b"n  05 00 03 01", ask(a, 0, &[5, 0, 3, 1]));
 }
 
+// Host 0's put, on an image of 1,024 bytes that was just formatted.
+fn put_on_1024(what: &[u8], message: &[u8]) {
+    let mut image = [0u8; 1024];
+    let begun = store::format(&image);
+    let a = run(&mut image, begun, 65536);
+    let board = a.board;
+    let mut reply = [0u8; 14];
+    let asked = queue::request(&image, board, Host(0), message, &mut reply);
+    tell_run(what, run(&mut image, asked, 65536));
+}
+
+// A frame of 248 bytes has no room where S is 256. Where S is 512: 16 + 248 + 6 + 14 = 284, and it ends at 16 + 248 = 264.
+fn long_values() {
+    let mut longest = [7u8; 246];
+    wire::lay(&mut longest, &[246, 0, 1, 1, 9, 0]);
+    put_on_1024(b"   of 240 bytes, S = 512", &longest);
+    let mut longer = [7u8; 247];
+    wire::lay(&mut longer, &[247, 0, 1, 1, 9, 0]);
+    put_on_1024(b"   of 241 bytes, S = 512", &longer);
+}
+
 fn row_o(a: Bench) {
     tell(b"o  put of 2 bytes to 255", put(a, 0, 255, 7, 2));
     tell(b"   to 256", put(a, 0, 256, 7, 2));
-    tell(b"   of 64 bytes", put(a, 0, 9, 7, 64));
-    tell(b"   of 65 bytes", put(a, 0, 9, 7, 65));
+    long_values();
     tell(b"   by host 3", put(a, 3, 9, 7, 2));
     tell(b"   by host 4", put(a, 4, 9, 7, 2));
 }

@@ -1,4 +1,4 @@
--- The starred bench rows and row p, computed over the definitions.
+-- The starred bench rows, row p and row o's values, computed over the definitions.
 use mathlib.Core.Path.{refl}
 use Rattle.flash.specs.Bytes.{allFF, sameBytes}
 use Rattle.flash.specs.Flash.{writes}
@@ -15,10 +15,10 @@ use Rattle.board.specs.Mount.{mountAt, mountFound, mountOn, formatOn}
 use Rattle.board.specs.Queue.{held, append, serveChange, serveEnd, serveLog, serve, requestOn}
 use Rattle.board.specs.Exec.{exec}
 use Rattle.board.specs.Rows.{drive, returned, ask, asked, cutIn, mounted, replayed, timed, part, rowA, rowB, rowC, rowD, rowE, rowF}
-use Rattle.board.specs.Rows.{rowG, rowH, rowI, rowK, commitMessage, putMessage, formatAnswer, Rows}
+use Rattle.board.specs.Rows.{rowG, rowH, rowI, rowK, rowALong, rowO, commitMessage, putMessage, formatAnswer, Rows}
 
 pub rows : Rows exec
-unfolding drive returned ask asked cutIn mounted replayed timed part rowA rowB rowC rowD rowE rowF rowG rowH rowI rowK commitMessage
+unfolding drive returned ask asked cutIn mounted replayed timed part rowA rowB rowC rowD rowE rowF rowG rowH rowI rowK rowALong rowO commitMessage
     putMessage formatAnswer allFF sameBytes writes encodeAll total match readFrame scan insert remove lookup changeAll listOf
     without isOpen replayFrom headerFault blockState noRoom sited placesFrom sinceFrom valueAt nextSettled nextPending nextLoad
     parse noPlaces noFrame enterAppend enterDrop enterCopy enterOpen enterWipe advance stepBusy stepOn mountAt mountFound mountOn
@@ -57,6 +57,10 @@ rows =
       k-refused = refl;
       k-accepted = refl;
       n = refl;
+      o-240-steps = refl;
+      o-240-done = refl;
+      o-241 = refl;
+      o-240-short = refl;
       p-512 = refl;
       p-768 = refl;
       p-65536 = refl;

@@ -3,13 +3,13 @@ use mathlib.Core.Path.{_≡_, refl, sym, ap, _∙_}
 use mathlib.Core.List.{List, [], _∷_}
 use mathlib.Core.Logic.{inl, inr}
 use mathlib.Core.Bool.{Bool, true, false, _&&_, cond}
-use Prim.Native.Nat.{ℕ, zero, suc, _<_}
+use Prim.Native.Nat.{ℕ, zero, suc}
 use native.Mathlib.Omega.{arith}
 use lib.Dec.{ltb}
 use lib.ListN.{length, replicate}
-use borrow.Author.Tests.{ltb-true, eqb-false}
+use borrow.Author.Tests.{ltb-true, le-leb, eqb-false}
 use Rattle.flash.specs.Bytes.{Bytes}
-use Rattle.flash.proofs.Cases.{on-test, and-left, and-right, clash}
+use Rattle.flash.proofs.Cases.{and-left, and-right, clash}
 use Rattle.board.specs.declared.Stage.the-variants.{Wipe}
 use Rattle.board.specs.declared.Phase.the-variants.{Unmounted, Idle, Busy}
 use Rattle.board.specs.declared.Record.{Record}
@@ -20,7 +20,7 @@ use Rattle.board.specs.Demand1.{Declared, EndsWithin}
 use Rattle.board.specs.Exec.{Call, request, step, mount, format, Machine, exec}
 use Rattle.board.specs.Claim.{ByteCalls}
 use Rattle.board.specs.Promise.{Promise, Shown, trace, PromiseDetermines}
-use Rattle.board.specs.Wrong.{Wrongly, offBench, outsideIsDone, forgedWaits, RightOnBench, Refuted}
+use Rattle.board.specs.Wrong.{Wrongly, onBench, offBench, outsideIsDone, forgedWaits, RightOnBench, Refuted}
 use Rattle.board.specs.WrongRuns.{nothing, lastFrom, allBytes, bytesIn, begins, Differs}
 use Rattle.board.proofs.Determining.{promise-determines}
 use Rattle.board.proofs.FollowingPlans.{promise}
@@ -59,11 +59,13 @@ differs {w} {img} {cs} {see} {a} {b} t p =
     (bytes-in cs (and-right (begins cs) (bytesIn cs) calls)) in
     eqb-false a b (t .apart) (sym (t .shows-wrong) ∙ ap (λ (xs : List Shown). see (lastFrom nothing xs)) same ∙ t .shows-right)
 
+pub same-on-bench : (w : Wrongly) (img : List ℕ) (r : Record) (c : Call) → onBench (length img) ≡ true → offBench w img r c ≡ exec img r c
+same-on-bench w img r c e = ap (λ (b : Bool). cond b (exec img r c) (w img r c (exec img r c))) e
+
 pub right-on-bench : RightOnBench
 unfolding RightOnBench
-right-on-bench w img r c short =
-    on-test (ltb 512 (length img)) (λ e. absurd (let long : 512 < length img = ltb-true 512 (length img) e in omega arith))
-    (λ e. ap (λ (b : Bool). cond b (w img r c (exec img r c)) (exec img r c)) e)
+right-on-bench w img r c (inl short) = same-on-bench w img r c (rw (le-leb (length img) 512 short))
+right-on-bench w img r c (inr e) = same-on-bench w img r c (ap onBench e)
 
 -- ---- records that no run gives back: by the clause itself
 
@@ -83,7 +85,7 @@ not-unmounted e = let w : _≡_ {A = ℕ} 0 1 = cc in omega arith
 -- with an image of another length
 outside-is-done : Promise (offBench outsideIsDone) → ⊥
 unfolding outsideIsDone stepBusy stepOn formatOn enterWipe formatting
-outside-is-done p = not-idle (p .calls .told (replicate 1024 0xFF) formatting step tt (λ e. absurd (not-unmounted e)) .done .0 refl)
+outside-is-done p = not-idle (p .calls .told (replicate 1280 0xFF) formatting step tt (λ e. absurd (not-unmounted e)) .done .0 refl)
 
 -- at a step that its job doesn't have
 unfoldable stuck : Record

@@ -2,10 +2,8 @@
 use mathlib.Core.Path.{_≡_, refl, ap, ap₂, _∙_}
 use mathlib.Core.List.{List, [], _∷_}
 use mathlib.Core.Logic.{inl, inr}
-use mathlib.Core.Bool.{Bool, cond}
+use mathlib.Core.Bool.{Bool, true, cond}
 use Prim.Native.Nat.{ℕ, zero, suc}
-use native.Mathlib.Omega.{arith}
-use lib.Dec.{ltb}
 use lib.ListN.{length, replicate, drop, length-replicate}
 use Rattle.flash.specs.Flash.{sizeOf}
 use Rattle.flash.proofs.Cases.{on-test}
@@ -19,8 +17,8 @@ use Rattle.board.specs.Record.{unmounted, Out}
 use Rattle.board.specs.Exec.{Call, request, step, mount, format, exec}
 use Rattle.board.specs.Demand1.{OneStep}
 use Rattle.board.specs.Rows.{Ran, ran, drive, returned, ask, asked, cutIn, mounted, replayed, timed, part, rowA, rowB, rowC, rowD, rowE}
-use Rattle.board.specs.Rows.{rowF, rowG, rowH, rowI, rowK, commitMessage, putMessage, formatAnswer, Rows}
-use Rattle.board.specs.Wrong.{Wrongly, offBench, byAnswer, onImage, RightOnBench}
+use Rattle.board.specs.Rows.{rowF, rowG, rowH, rowI, rowK, rowALong, rowO, commitMessage, putMessage, formatAnswer, Rows}
+use Rattle.board.specs.Wrong.{Wrongly, onBench, offBench, byAnswer, onImage}
 use Rattle.board.specs.Wrong.{refusesAll, refusesPuts, refusesHighIds, ownFormatsOnly, firstHalfOnly, hostFirst, refusalClears}
 use Rattle.board.specs.Wrong.{refusedLogWrites, readsAlike, inventsCount, neverCommits, abortsNothing, takesOthers, keepsOld}
 use Rattle.board.specs.Wrong.{programsNothing, wholeFrame, inventsStep, erasesFirst, outsideIsDone, forgedWaits, hurriedMount}
@@ -28,7 +26,7 @@ use Rattle.board.specs.Wrong.{losesAll, keepsPending, refusesAlike, over
 use Rattle.board.specs.WrongRows.{RightInRows}
 use Rattle.board.proofs.Refusals.{at-most-one-step}
 use Rattle.board.proofs.Bench.{rows}
-use Rattle.board.proofs.Refuting.{right-on-bench}
+use Rattle.board.proofs.Refuting.{same-on-bench}
 
 one-step-length : (img after : List ℕ) → OneStep img after → length after ≡ length img
 one-step-length img after (inl e) = ap length e
@@ -41,39 +39,38 @@ exec-length img r mount = ap length (at-most-one-step img r mount)
 exec-length img r format = ap length (at-most-one-step img r format)
 
 -- a call, and then steps, on an image of the bench
-same-call : (w : Wrongly) (img : List ℕ) (r : Record) (c : Call) → length img ≡ 512 → offBench w img r c ≡ exec img r c
-unfolding RightOnBench
-same-call w img r c e = right-on-bench w img r c (omega (arith, e))
+bench-next : (img : List ℕ) (r : Record) (c : Call) → onBench (length img) ≡ true → onBench (length (exec img r c .image)) ≡ true
+bench-next img r c e = ap onBench (exec-length img r c) ∙ e
 
 record Same (x y : Ran) : Type 0 where
   same : x ≡ y
-  long : length (y .image) ≡ 512
+  long : onBench (length (y .image)) ≡ true
 
-same-case : (c : ℕ) (o : Out) (x y : Ran) → Same x y → length (o .image) ≡ 512 → (a : Answer)
+same-case : (c : ℕ) (o : Out) (x y : Ran) → Same x y → onBench (length (o .image)) ≡ true → (a : Answer)
     → Same (elim a [ Done ↦ ran c o | More ↦ x | Refused r ↦ ran c o ]) (elim a [ Done ↦ ran c o | More ↦ y | Refused r ↦ ran c o ])
 same-case c o x y z e Done = record { same = refl; long = e }
 same-case c o x y z e More = z
 same-case c o x y z e (Refused r) = record { same = refl; long = e }
 
-same-drive : (w : Wrongly) (n c : ℕ) (o : Out) → length (o .image) ≡ 512 → Same (drive (offBench w) n c o) (drive exec n c o)
+same-drive : (w : Wrongly) (n c : ℕ) (o : Out) → onBench (length (o .image)) ≡ true → Same (drive (offBench w) n c o) (drive exec n c o)
 unfolding drive
 same-drive w zero c o e = record { same = refl; long = e }
 same-drive w (suc n) c o e =
     let next : Out = exec (o .image) (o .board) step in
     let later : Same (drive (offBench w) n (suc c) next) (drive exec n (suc c) next) =
-    same-drive w n (suc c) next (exec-length (o .image) (o .board) step ∙ e) in
-    let first : offBench w (o .image) (o .board) step ≡ next = same-call w (o .image) (o .board) step e in
+    same-drive w n (suc c) next (bench-next (o .image) (o .board) step e) in
+    let first : offBench w (o .image) (o .board) step ≡ next = same-on-bench w (o .image) (o .board) step e in
     same-case c o (drive (offBench w) n (suc c) (offBench w (o .image) (o .board) step)) (drive exec n (suc c) next)
     (record { same = ap (drive (offBench w) n (suc c)) first ∙ later .same; long = later .long }) e (o .answer)
 
-same-begun : (w : Wrongly) (n : ℕ) (i j : List ℕ) (r q : Record) (c : Call) → i ≡ j → r ≡ q → length j ≡ 512
+same-begun : (w : Wrongly) (n : ℕ) (i j : List ℕ) (r q : Record) (c : Call) → i ≡ j → r ≡ q → onBench (length j) ≡ true
     → Same (drive (offBench w) n 0 (offBench w i r c)) (drive exec n 0 (exec j q c))
 same-begun w n i j r q c d f e =
     let z : Same (drive (offBench w) n 0 (exec j q c)) (drive exec n 0 (exec j q c)) =
-    same-drive w n 0 (exec j q c) (exec-length j q c ∙ e) in
+    same-drive w n 0 (exec j q c) (bench-next j q c e) in
     record {
       same = ap₂ (λ (x : List ℕ) (y : Record). drive (offBench w) n 0 (offBench w x y c)) d f
-          ∙ ap (drive (offBench w) n 0) (same-call w j q c e) ∙ z .same;
+          ∙ ap (drive (offBench w) n 0) (same-on-bench w j q c e) ∙ z .same;
       long = z .long;
     }
 
@@ -83,7 +80,7 @@ same-ask : {x y : Ran} (w : Wrongly) → Same x y → (h : ℕ) (m : List ℕ) �
 unfolding ask
 same-ask {x} {y} w z h m =
     ap (λ (q : Ran). offBench w (q .image) (q .board) (request (hostOf h) m (replicate 16 0xEE))) (z .same)
-    ∙ same-call w (y .image) (y .board) (request (hostOf h) m (replicate 16 0xEE)) (z .long)
+    ∙ same-on-bench w (y .image) (y .board) (request (hostOf h) m (replicate 16 0xEE)) (z .long)
 
 same-asked : {x y : Ran} (w : Wrongly) → Same x y → (h : ℕ) (m : List ℕ) → Same (asked (offBench w) x h m) (asked exec y h m)
 unfolding asked ask
@@ -91,7 +88,7 @@ same-asked {x} {y} w z h m =
     same-begun w 300 (x .image) (y .image) (x .board) (y .board) (request (hostOf h) m (replicate 16 0xEE))
     (ap (λ (q : Ran). q .image) (z .same)) (ap (λ (q : Ran). q .board) (z .same)) (z .long)
 
-same-mounted : (w : Wrongly) (i j : List ℕ) → i ≡ j → length j ≡ 512 → Same (mounted (offBench w) i) (mounted exec j)
+same-mounted : (w : Wrongly) (i j : List ℕ) → i ≡ j → onBench (length j) ≡ true → Same (mounted (offBench w) i) (mounted exec j)
 unfolding mounted
 same-mounted w i j d e = same-begun w 300 i j unmounted unmounted mount d refl e
 
@@ -107,7 +104,7 @@ same-cut {x} {y} w z h m n =
 
 same-a : (w : Wrongly) → Same (rowA (offBench w)) (rowA exec)
 unfolding rowA returned
-same-a w = same-begun w 100 returned returned unmounted unmounted format refl refl (length-replicate {A = ℕ} 512 0x5A)
+same-a w = same-begun w 100 returned returned unmounted unmounted format refl refl (ap onBench (length-replicate {A = ℕ} 512 0x5A))
 
 same-b : (w : Wrongly) → Same (rowB (offBench w)) (rowB exec)
 unfolding rowB
@@ -146,6 +143,16 @@ same-k : (w : Wrongly) (n : ℕ) → Same (rowK (offBench w) n) (rowK exec n)
 unfolding rowK
 same-k w n = same-asked w (same-i w n) 0 commitMessage
 
+same-a-long : (w : Wrongly) → Same (rowALong (offBench w)) (rowALong exec)
+unfolding rowALong
+same-a-long w =
+    same-begun w 100 (replicate 1024 0x5A) (replicate 1024 0x5A) unmounted unmounted format refl refl
+    (ap onBench (length-replicate {A = ℕ} 1024 0x5A))
+
+same-o : (w : Wrongly) (n : ℕ) → rowO (offBench w) n ≡ rowO exec n
+unfolding rowO
+same-o w n = same-asked w (same-a-long w) 0 (putMessage 9 n) .same
+
 -- row p: on longer images too
 abbrev FormatsAnswered : Wrongly → Type 0
 FormatsAnswered w = (img : List ℕ) (r : Record) (o : Out) → w img r format o .answer ≡ o .answer
@@ -155,9 +162,9 @@ unfolding formatAnswer
 same-format w f n =
     let img : List ℕ = replicate n 0x5A in
     let o : Out = exec img unmounted format in
-    on-test (ltb 512 (length img))
-    (λ e. ap (λ (b : Bool). cond b (w img unmounted format o) o .answer) e ∙ f img unmounted o)
-    (λ e. ap (λ (b : Bool). cond b (w img unmounted format o) o .answer) e)
+    on-test (onBench (length img))
+    (λ e. ap (λ (b : Bool). cond b o (w img unmounted format o) .answer) e)
+    (λ e. ap (λ (b : Bool). cond b o (w img unmounted format o) .answer) e ∙ f img unmounted o)
 
 rows-kept : (w : Wrongly) → FormatsAnswered w → Rows (offBench w)
 rows-kept w f =
@@ -194,6 +201,10 @@ rows-kept w f =
       k-refused = ap (λ (x : Out). x .answer) (same-ask w (same-k w 64) 0 (putMessage 4 0)) ∙ rows .k-refused;
       k-accepted = ap (λ (x : Out). x .answer) (same-ask w (same-k w 63) 0 (putMessage 4 0)) ∙ rows .k-accepted;
       n = ap (λ (x : Out). x .answer) (same-ask w (same-a w) 0 (0x05 ∷ 0x00 ∷ 0x03 ∷ 0x01 ∷ [])) ∙ rows .n;
+      o-240-steps = ap (λ (x : Ran). x .steps) (same-o w 240) ∙ rows .o-240-steps;
+      o-240-done = ap (λ (x : Ran). x .board) (same-o w 240) ∙ rows .o-240-done;
+      o-241 = ap (λ (x : Ran). x .answer) (same-o w 241) ∙ rows .o-241;
+      o-240-short = ap (λ (x : Out). x .answer) (same-ask w (same-a w) 0 (putMessage 9 240)) ∙ rows .o-240-short;
       p-512 = same-format w f 512 ∙ rows .p-512;
       p-768 = same-format w f 768 ∙ rows .p-768;
       p-65536 = same-format w f 65536 ∙ rows .p-65536;

@@ -1,4 +1,4 @@
--- Document 01's starred bench rows, S = 256, and row p: one table over a machine.
+-- Document 01's starred bench rows, S = 256, row p, and row o's values as document 02, K2 has them: one table over a machine.
 use mathlib.Core.List.{List, [], _∷_}
 use mathlib.Core.Path.{_≡_}
 use Prim.Native.Nat.{ℕ, zero, suc, _+_}
@@ -106,6 +106,13 @@ rowI m last = asked m (asked m (asked m (rowA m) 0 (putMessage 1 64)) 0 (putMess
 unfoldable pub rowK : Machine → ℕ → Ran
 rowK m last = asked m (rowI m last) 0 commitMessage
 
+-- "Row o's value cases become 240 and 241 on a 1,024-byte image": row a there, and a put of n bytes
+unfoldable pub rowALong : Machine → Ran
+rowALong m = drive m 100 0 (m (replicate 1024 0x5A) unmounted format)
+
+unfoldable pub rowO : Machine → ℕ → Ran
+rowO m n = asked m (rowALong m) 0 (putMessage 9 n)
+
 -- a format's answer on an image of n bytes
 unfoldable pub formatAnswer : Machine → ℕ → Answer
 formatAnswer m n = m (replicate n 0x5A) unmounted format .answer
@@ -147,6 +154,11 @@ pub record Rows (m : Machine) : Type 0 where
   pub k-refused : ask m (rowK m 64) 0 (putMessage 4 0) .answer ≡ Refused refusal.NoRoom
   pub k-accepted : ask m (rowK m 63) 0 (putMessage 4 0) .answer ≡ More
   pub n : ask m (rowA m) 0 (0x05 ∷ 0x00 ∷ 0x03 ∷ 0x01 ∷ []) .answer ≡ Refused refusal.Malformed
+  pub o-240-steps : rowO m 240 .steps ≡ 248
+  pub o-240-done : rowO m 240 .board ≡ idle (rest 1023 0 264)
+  pub o-241 : rowO m 241 .answer ≡ Refused refusal.Malformed
+  -- beyond row o: where S is 256 there is no room for the longest value
+  pub o-240-short : ask m (rowA m) 0 (putMessage 9 240) .answer ≡ Refused refusal.NoRoom
   pub p-512 : formatAnswer m 512 ≡ More
   pub p-768 : formatAnswer m 768 ≡ More
   pub p-65536 : formatAnswer m 65536 ≡ More

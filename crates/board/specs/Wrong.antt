@@ -1,10 +1,11 @@
--- Wrong stores. Each differs from the machine in one thing, and only on images longer than the bench's 512 bytes, so that no row
+-- Wrong stores. Each differs from the machine in one thing, and only on images that the bench doesn't have, so that no row
 -- sees it. None keeps the promise: `Refuted`. The runs that tell are in WrongRuns.
 use mathlib.Core.List.{List, [], _∷_, _++_}
-use mathlib.Core.Bool.{Bool, false, _&&_, cond}
+use mathlib.Core.Bool.{Bool, false, _&&_, _||_, cond}
 use mathlib.Core.Path.{_≡_}
+use mathlib.Core.Logic.{_⊎_}
 use Prim.Native.Nat.{ℕ, _+_, _-_, _≤_}
-use lib.Dec.{eqb, ltb}
+use lib.Dec.{eqb, ltb, leb}
 use lib.ListN.{length, take, drop, getD, set, replicate}
 use Rattle.flash.specs.Bytes.{sameBytes}
 use Rattle.flash.specs.Flash.{program, erase, apply, applyAll, block, sizeOf, writes}
@@ -33,9 +34,13 @@ use Rattle.board.specs.Promise.{Promise}
 abbrev pub Wrongly : Type 0
 Wrongly = List ℕ → Record → Call → Out → Out
 
--- on images longer than the bench's; on all others it is the machine
+-- the bench's images have 512 bytes or fewer, or row o's 1,024
+abbrev pub onBench : ℕ → Bool
+onBench n = leb n 512 || eqb n 1024
+
+-- on other images; on the bench's it is the machine
 abbrev pub offBench : Wrongly → Machine
-offBench w img r c = cond (ltb 512 (length img)) (w img r c (exec img r c)) (exec img r c)
+offBench w img r c = cond (onBench (length img)) (exec img r c) (w img r c (exec img r c))
 
 -- in requests alone; in those of one kind alone; in steps, in mounts, in formats alone
 abbrev pub InRequest : Type 0
@@ -261,7 +266,8 @@ formatsAtOnce = formats (λ img o. accepted o (onImage (replicate (length img) 0
 
 -- on the bench's images, whatever is done off it; for the rows one by one see WrongRows
 unfoldable pub RightOnBench : Type 0
-RightOnBench = (w : Wrongly) (img : List ℕ) (r : Record) (c : Call) → length img ≤ 512 → offBench w img r c ≡ exec img r c
+RightOnBench = (w : Wrongly) (img : List ℕ) (r : Record) (c : Call) → (length img ≤ 512) ⊎ (length img ≡ 1024)
+    → offBench w img r c ≡ exec img r c
 
 pub record Refuted : Type 0 where
   pub refuses-all : Promise (offBench refusesAll) → ⊥

@@ -3,12 +3,22 @@ use mathlib.Core.Path.{_≡_, refl, sym, ap, subst, _∙_}
 use mathlib.Core.List.{List, [], _∷_, _++_, append-assoc, append-nil}
 use Prim.Native.Nat.{ℕ, _+_, _/_, _%_, _≤_, _<_}
 use native.Mathlib.Omega.{arith}
+use native.Mathlib.Nat.{lt-of-le-of-lt}
 use lib.ListN.{length, length-append}
 use Rattle.flash.specs.Bytes.{Bytes}
 use Rattle.flash.proofs.Blank.{bytes-append}
 use Rattle.frame.specs.Frame.{Frame, change, commit, abort, settled, put, delete, encode, frameLen, encodeAll, total, finish}
 use Rattle.frame.specs.Frame.{maxFrame, putLen, deleteLen, endLen, settledLen}
 use Rattle.frame.specs.Frame.{MayStand, AllMayStand, OfHost, nextAfter, nextOf}
+use Rattle.frame.specs.Sentences.{LengthShows}
+
+-- ---- a frame's length is one byte, and not 0xFF
+
+pub length-shows : LengthShows
+length-shows = omega arith
+
+pub length-byte : (n : ℕ) → n ≤ maxFrame → n < 255
+length-byte n h = lt-of-le-of-lt h length-shows
 
 -- ---- one frame
 
@@ -22,6 +32,7 @@ plain (settled i v) = settledLen (length v) ∷ 0 ∷ 5 ∷ 0 ∷ i .0 ∷ 0 ∷
 
 pub encode-plain : (next : ℕ) (f : Frame) → MayStand next f → encode f ≡ plain f
 encode-plain next (change h (put i v)) (hh, hi, (hv, hb)) =
+    let n : putLen (length v) < 255 = length-byte (putLen (length v)) (omega arith) in
     let e1 : frameLen (change h (put i v)) % 256 ≡ putLen (length v) = omega arith in
     let e2 : frameLen (change h (put i v)) / 256 ≡ 0 = omega arith in
     let e3 : i .0 % 256 ≡ i .0 = omega arith in
@@ -34,6 +45,7 @@ encode-plain next (change h (delete i)) (hh, hi) =
 encode-plain next (commit h) g = refl
 encode-plain next (abort h) g = refl
 encode-plain next (settled i v) (hn, hi, (hv, hb)) =
+    let n : settledLen (length v) < 255 = length-byte (settledLen (length v)) (omega arith) in
     let e1 : frameLen (settled i v) % 256 ≡ settledLen (length v) = omega arith in
     let e2 : frameLen (settled i v) / 256 ≡ 0 = omega arith in
     let e3 : i .0 % 256 ≡ i .0 = omega arith in
@@ -50,17 +62,15 @@ frame-short next (commit h) g = omega arith
 frame-short next (abort h) g = omega arith
 frame-short next (settled i v) (hn, hi, (hv, hb)) = omega arith
 
--- no legal frame starts with 0xFF
-pub max-frame : maxFrame < 255
-max-frame = omega arith
-
 bytes-plain : (next : ℕ) (f : Frame) → MayStand next f → Bytes (plain f)
 bytes-plain next (change h (put i v)) (hh, hi, (hv, hb)) =
+    let n : putLen (length v) < 255 = length-byte (putLen (length v)) (omega arith) in
     (omega arith, (omega arith, (omega arith, (omega arith, (omega arith, (omega arith, (omega arith, bytes-append v (finish ∷ []) hb (omega arith, tt))))))))
 bytes-plain next (change h (delete i)) (hh, hi) = omega arith
 bytes-plain next (commit h) hh = omega arith
 bytes-plain next (abort h) hh = omega arith
 bytes-plain next (settled i v) (hn, hi, (hv, hb)) =
+    let n : settledLen (length v) < 255 = length-byte (settledLen (length v)) (omega arith) in
     (omega arith, (omega arith, (omega arith, (omega arith, (omega arith, (omega arith, bytes-append v (finish ∷ []) hb (omega arith, tt)))))))
 
 pub bytes-encode : (next : ℕ) (f : Frame) → MayStand next f → Bytes (encode f)

@@ -13,10 +13,10 @@ use Rattle.flash.specs.Bytes.{allFF}
 use Rattle.flash.proofs.Cases.{and-both, and-no-right, or-neither, between-yes}
 use Rattle.flash.proofs.Blank.{allFF-no, allFF-all}
 use Rattle.frame.specs.Frame.{Frame, change, commit, abort, settled, put, delete, finish, idMax, valueMax, putLen, deleteLen, endLen}
-use Rattle.frame.specs.Frame.{settledLen, encode, frameLen, MayStand, OfHost}
+use Rattle.frame.specs.Frame.{settledLen, maxFrame, encode, frameLen, MayStand, OfHost}
 use Rattle.frame.specs.Reader.{blank, whole, torn, Match, match, hostSlots, settledSlots, onlySettled, decode, ofHostMatch}
 use Rattle.frame.specs.Reader.{ofSettledMatch, readLaid, readFrame}
-use Rattle.frame.proofs.Encode.{plain, encode-plain, length-encode}
+use Rattle.frame.proofs.Encode.{length-byte, plain, encode-plain, length-encode}
 use Rattle.frame.proofs.Fit.{Fit, match-all, Closed, Partly, match-some, fit-host, fit-settled, closed-host}
 
 -- ---- the steps of the reader
@@ -52,13 +52,13 @@ only-yes next n h lo hi =
     and-both (leb next idMax && size) (eqb 5 5 || eqb n (settledLen 0))
     (and-both (leb next idMax) size (le-leb next idMax h) (between-yes (settledLen 0) n (settledLen valueMax) lo hi)) refl
 
--- bytes that start with a legal length and are long enough
-read-long : (next at n : ℕ) (t : List ℕ) → n < 255 → n ≤ suc (length t) → readFrame next at (n ∷ t) ≡ readLaid next at n (getD (n ∷ t) 2 0) (n ∷ t)
-read-long next at n t h l = read-step next at (n ∷ t) (allFF-no n t (omega arith)) (le-leb n (suc (length t)) l)
+-- bytes that start with a legal length and are long enough: they are no blank tail, by the law on lengths
+read-long : (next at n : ℕ) (t : List ℕ) → n ≤ maxFrame → n ≤ suc (length t) → readFrame next at (n ∷ t) ≡ readLaid next at n (getD (n ∷ t) 2 0) (n ∷ t)
+read-long next at n t h l = read-step next at (n ∷ t) (allFF-no n t (omega (arith, length-byte n h))) (le-leb n (suc (length t)) l)
 
 -- ---- whole frames
 
-whole-host : (next at n b k : ℕ) (t rest : List ℕ) (f : Frame) → n < 255 → n ≤ length t + 3 → (n ≡ settledLen 0 → ⊥) → (k ≡ 5 → ⊥)
+whole-host : (next at n b k : ℕ) (t rest : List ℕ) (f : Frame) → n ≤ maxFrame → n ≤ length t + 3 → (n ≡ settledLen 0 → ⊥) → (k ≡ 5 → ⊥)
     → Fit (hostSlots n) (n ∷ b ∷ k ∷ t) → decode k n (n ∷ b ∷ k ∷ (t ++ rest)) ≡ f → readFrame next at (n ∷ b ∷ k ∷ (t ++ rest)) ≡ whole f
 whole-host next at n b k t rest f h l n7 k5 fit d =
     let u : List ℕ = n ∷ b ∷ k ∷ (t ++ rest) in
@@ -111,7 +111,7 @@ third b k t (suc zero) zero h l e = omega arith
 third b k t (suc zero) (suc m) h l e = omega arith
 third b k t (suc (suc j)) m h l e = h e
 
-torn-host : (next at n b k : ℕ) (t : List ℕ) (j m : ℕ) → n < 255 → n ≡ length t + 3 → (n ≡ settledLen 0 → ⊥) → (k ≡ 5 → ⊥)
+torn-host : (next at n b k : ℕ) (t : List ℕ) (j m : ℕ) → n ≤ maxFrame → n ≡ length t + 3 → (n ≡ settledLen 0 → ⊥) → (k ≡ 5 → ⊥)
     → Fit (hostSlots n) (n ∷ b ∷ k ∷ t) → Closed (hostSlots n)
     → suc j < n → n ≤ suc j + m → readFrame next at (n ∷ (take j (b ∷ k ∷ t) ++ replicate m 255)) ≡ torn n
 torn-host next at n b k t j m h l n7 k5 fit closed lo hi =

@@ -19,9 +19,9 @@ hostOf n = record { 0 = n }
 abbrev pub idOf : ℕ → ObjectId
 idOf n = record { 0 = n }
 
--- "Values of 0 to 64 bytes. An empty value is an object."
+-- "Raise the value limit from 64 to 240" (document 02, K2). "An empty value is an object."
 abbrev pub valueMax : ℕ
-valueMax = 64
+valueMax = 240
 
 -- a change to the objects; A stands for the value, by itself its bytes
 pub data ChangeOf (A : Type 0) : Type 0 where
@@ -110,7 +110,7 @@ endLen = overhead + 1
 abbrev pub settledLen : ℕ → ℕ
 settledLen v = overhead + 2 + v
 
--- a put of the longest value: 72
+-- a put of the longest value: 248
 abbrev pub maxFrame : ℕ
 maxFrame = putLen valueMax
 
@@ -120,11 +120,11 @@ buffer bs = bs ++ replicate (maxFrame - length bs) 0
 
 -- ---- legal frames
 
--- "v at most 64", and each a byte
+-- "v at most 64", by K2 240, and each a byte
 abbrev pub LegalValue : List ℕ → Type 0
 LegalValue v = (length v ≤ valueMax) × Bytes v
 
--- "A frame is legal if its length fits its kind, its host is at most 3, its id at most 255, v at most 64 and its last byte 0xFE."
+-- "A frame is legal if its length fits its kind, its host is at most 3, its id at most 255, v at most 64 and its last byte 0xFE." (K2: 240.)
 -- Length and last byte are `encode`'s. "Settled frames stand first, ids strictly rising": a settled frame may stand where
 -- its id is at least `next`, which is 256 where none may stand.
 abbrev pub MayStand : ℕ → Frame → Type 0

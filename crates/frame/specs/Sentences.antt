@@ -4,7 +4,7 @@ use mathlib.Core.Logic.{_↔_}
 use mathlib.Core.Path.{_≡_}
 use Prim.Native.Nat.{ℕ, _+_, _≤_, _<_}
 use lib.ListN.{length, take, replicate}
-use Rattle.frame.specs.Frame.{Frame, encode, frameLen, MayStand, OfHost}
+use Rattle.frame.specs.Frame.{Frame, encode, frameLen, maxFrame, MayStand, OfHost}
 use Rattle.frame.specs.Reader.{blank, whole, torn, wrong, readFrame}
 use Rattle.frame.specs.declared.Fault.{Fault}
 
@@ -30,6 +30,12 @@ pub record Torn (next : ℕ) (t : List ℕ) (n : ℕ) : Type 0 where
 -- "all 0xFF"
 abbrev pub Blank : List ℕ → Type 0
 Blank t = t ≡ replicate (length t) 255
+
+-- "a low length byte is still never 0xFF" (document 02, K2). A frame starts with its length's low byte. In a frame of 255 bytes that is 0xFF,
+-- as in blank flash: programming it leaves no trace, so a tail of 0xFF only would be blank and, with this one byte programmed, torn too.
+-- A limit on values that is raised too far breaks this law.
+abbrev pub LengthShows : Type 0
+LengthShows = maxFrame < 255
 
 -- none of the three
 pub record Wrong (next : ℕ) (t : List ℕ) : Type 0 where

@@ -36,7 +36,7 @@ pub const HOST_MAX: usize = 3;
 pub const ID_MAX: usize = 255;
 
 // The most bytes that a value has.
-pub const VALUE_MAX: usize = 64;
+pub const VALUE_MAX: usize = 240;
 
 // The offsets in a frame: kind, body, and the value, a put's past its host and id, a settled frame's past its id.
 pub const KIND_AT: usize = 2;

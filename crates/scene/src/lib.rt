@@ -60,18 +60,31 @@ pub fn result(answer: u8, steps: usize) {
     say(b" steps");
 }
 
-// What the last call came to, and where a record in no job stands.
-pub fn tell(what: &[u8], d: Bench) {
+// What a call and its steps came to, and where a record in no job stands.
+pub fn tell_run(what: &[u8], r: Ran) {
     say(what);
-    result(d.answer, d.steps);
-    if d.answer != 255 {
-        let board = d.board;
+    result(r.answer, r.steps);
+    if r.answer != 255 {
+        let board = r.board;
         say(b"; half ");
         number(board.block as usize);
         say(b", end ");
         number(board.end as usize);
     }
     say(b"\n");
+}
+
+// The same of the last call.
+pub fn tell(what: &[u8], d: Bench) {
+    let board = d.board;
+    tell_run(
+        what,
+        Ran {
+            board: board,
+            answer: d.answer,
+            steps: d.steps,
+        },
+    );
 }
 
 pub fn blank(part: &[u8]) {

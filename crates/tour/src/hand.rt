@@ -82,15 +82,16 @@ fn left(old: Record, new: Record, which: usize, reply: [u8; 16]) {
     say(b"\n");
 }
 
-// A call on an image of so many bytes 0, lent to be read only.
+// A call on an image of so many bytes 0.
 pub fn zeros(d: Bench, size: usize, which: usize, text: &[u8]) {
     let image = [0u8; 66048];
+    let old = [0u8; 66048];
     let mut reply = [0xEE; 16];
     let after = called(front(&image, size), d.board, which, &mut reply);
     let answer = after.answer;
     say(text);
     answered(wire::number(answer));
-    say(b"; image same");
+    judge(b"; image", front(&old, size), front(&image, size));
     left(d.board, after.board, which, reply);
 }
 

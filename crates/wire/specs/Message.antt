@@ -42,7 +42,7 @@ onlyId m = eqb (length m) idEnd && leb (wordAt m bodyAt) idMax
 abbrev pub noBody : List ℕ → Bool
 noBody m = eqb (length m) bodyAt
 
--- an id and a value of at most 64 bytes
+-- an id and a value that is not too long
 abbrev pub idAndValue : List ℕ → Bool
 idAndValue m = leb idEnd (length m) && (leb (length m) (idEnd + valueMax) && leb (wordAt m bodyAt) idMax)
 

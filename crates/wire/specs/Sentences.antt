@@ -27,7 +27,7 @@ pub record Headed (m : List ℕ) (kind : ℕ) : Type 0 where
   pub kind-is : number2 m 2 ≡ kind
 
 -- "0x0101 put: id 2, value. 0x0102 delete: id 2. 0x0103 commit. 0x0104 abort. 0x0105 read: id 2. 0x0106 log: page 1 byte, which must
--- be 1." "Object ids 0 to 255"; "Values of 0 to 64 bytes"
+-- be 1." "Object ids 0 to 255"; "Raise the value limit from 64 to 240, refusal 1 starting at 241" (document 02, K2)
 abbrev pub Means : List ℕ → Request → Type 0
 Means m (Put i) = Headed m 0x0101 × (6 ≤ length m) × (length m ≤ 6 + valueMax) × (number2 m 4 ≡ i .0) × (i .0 ≤ 255)
 Means m (Delete i) = Headed m 0x0102 × (length m ≡ 6) × (number2 m 4 ≡ i .0) × (i .0 ≤ 255)

@@ -60,14 +60,19 @@ pub fn sparse(length: usize) -> Case {
     case(builder, "sparse")
 }
 
-/// As many objects of 64 bytes as leave room for one more put, none of them 255, and a journal with at most 28 bytes
-/// left, so that such a put needs a transfer and a short change with its commit does not.
+/// Bytes of the values that are put and of the objects of a full store. It is less than the store's limit: the figures
+/// stay comparable with those from before the limit was raised, and the smallest image has room for such values.
+pub const OBJECT: usize = 64;
+
+/// As many such objects as leave room for one more put, none of them 255, and a journal with at most 28 bytes left, so
+/// that such a put needs a transfer and a short change with its commit does not.
 pub fn full(length: usize) -> Case {
     let mut builder = Builder::formatted(length);
     let size = length / 2;
-    let objects = ((size - 16 - 92) / 71).min(255);
+    let (put, settled) = (8 + OBJECT, 7 + OBJECT);
+    let objects = ((size - 16 - (put + 6 + 14)) / settled).min(255);
     for id in 0..objects {
-        builder.serve(&message::put(id as u8, &[id as u8; 64]));
+        builder.serve(&message::put(id as u8, &[id as u8; OBJECT]));
         builder.serve(&message::commit());
     }
     while builder.free() >= 14 + 15 {

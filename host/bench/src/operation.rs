@@ -1,6 +1,6 @@
 //! What is measured.
 
-use crate::case::Case;
+use crate::case::{Case, OBJECT};
 use std::hint::black_box;
 use std::time::{Duration, Instant};
 use store::{Answer, Store, message};
@@ -41,7 +41,7 @@ pub const WHOLE: [(Operation, &str); 6] = [
     (Operation::Transfer, "mount with a transfer"),
 ];
 
-const VALUE: [u8; 64] = [7; 64];
+const VALUE: [u8; OBJECT] = [7; OBJECT];
 
 /// One go at it, and how many operations that was.
 pub fn once<S: Store>(store: &S, operation: Operation, case: &Case) -> (Duration, usize) {

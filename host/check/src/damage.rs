@@ -3,16 +3,19 @@
 use crate::generate::{self, Manner, Wish};
 use crate::rng::Rng;
 use crate::twin::{Call, Twin};
-use model::frame::{self, Host, Id};
+use model::frame::{self, Host, Id, LONGEST, VALUE_LIMIT};
 use model::half::{self, Half, Journal};
 use model::half_of;
-use store::{Answer, Idle};
+use store::{Answer, Idle, message};
 
 /// Tries one image: mounts it, then asks under forged records.
 pub fn try_image(twin: &mut Twin, rng: &mut Rng, image: &[u8]) {
     twin.load(image);
     if twin.whole(&Call::Mount) == (Answer::DONE, 0) {
         assert_eq!(twin.image(), image, "no steps, yet the image changed");
+    }
+    for id in 0..IDS as u8 {
+        twin.call(&Call::Read { host: 0, message: message::read(id) });
     }
     ask(twin, rng);
     for idle in forged(rng, image) {
@@ -25,7 +28,7 @@ pub fn try_image(twin: &mut Twin, rng: &mut Rng, image: &[u8]) {
 
 /// Some request or read, with all its steps.
 fn ask(twin: &mut Twin, rng: &mut Rng) {
-    let manner = Manner::new(rng);
+    let manner = Manner::new(rng, twin.image().len());
     let host = generate::host(rng);
     let wish = manner.wish(rng);
     let odd = rng.once_in(10);
@@ -97,6 +100,11 @@ fn some_half(rng: &mut Rng, size: usize) -> Vec<u8> {
     }
 }
 
+/// What is left free of a half before its last frames.
+const SPARE: usize = 80;
+/// The ids that are put and deleted: those below this.
+const IDS: usize = 6;
+
 /// Header, settled frames, other frames, and a tail: blank, torn, or bytes of no kind.
 fn written_half(rng: &mut Rng, size: usize) -> Vec<u8> {
     let time: u32 = rng.pick(&[1, 2, 3, 0x0102_0304, u32::MAX - 1, u32::MAX]);
@@ -105,43 +113,53 @@ fn written_half(rng: &mut Rng, size: usize) -> Vec<u8> {
     half.push(half::VALID);
     half.resize(half::HEADER, 0xFF);
     let limit = rng.pick(&[16, 60, size / 2, size, size]);
-    let settled_until = rng.below(limit.min(size - 80));
+    // In a small half one of the longest values leaves no room for anything else.
+    let longest = rng.pick(&[30, 64, if size < 512 { 64 } else { VALUE_LIMIT }, VALUE_LIMIT]);
+    let settled_until = rng.below(limit.min(size - SPARE));
     let mut id = 0;
     while half.len() < settled_until && id < 256 {
-        half.extend(settled_frame(rng, id as u8));
+        let most = longest.min(size - frame::SETTLED - half.len());
+        half.extend(settled_frame(rng, id as u8, most));
         id += 1 + rng.below(3);
     }
-    while half.len() + 80 < limit {
-        half.extend(journal_frame(rng));
+    while half.len() + SPARE < limit {
+        let most = longest.min(limit - frame::CHANGE - half.len());
+        half.extend(journal_frame(rng, most));
     }
-    tail(rng, &mut half, size);
+    let most =
+        if rng.once_in(4) { longest } else { longest.min((size - half.len()).saturating_sub(frame::CHANGE)) };
+    tail(rng, &mut half, size, most);
     half.resize(size, 0xFF);
     half
 }
 
-fn settled_frame(rng: &mut Rng, id: u8) -> Vec<u8> {
-    let length = rng.below(30);
-    frame::settled(Id(id), &generate::value(rng, length))
+/// A value of at most so many bytes.
+fn value(rng: &mut Rng, most: usize) -> Vec<u8> {
+    let some = rng.pick(&[0, 1, 2, 10, 30, most.saturating_sub(1), most]);
+    let length = if rng.once_in(2) { rng.below(most + 1) } else { some.min(most) };
+    generate::value(rng, length)
 }
 
-fn journal_frame(rng: &mut Rng) -> Vec<u8> {
+fn settled_frame(rng: &mut Rng, id: u8, most: usize) -> Vec<u8> {
+    frame::settled(Id(id), &value(rng, most))
+}
+
+fn journal_frame(rng: &mut Rng, most: usize) -> Vec<u8> {
     let host = Host(rng.below(4) as u8);
-    let id = Id(rng.below(6) as u8);
+    let id = Id(rng.below(IDS) as u8);
     match rng.below(20) {
-        0..=8 => {
-            let length = rng.pick(&[0, 1, 2, 10, 30, 63, 64]);
-            frame::put(host, id, &generate::value(rng, length))
-        }
+        0..=8 => frame::put(host, id, &value(rng, most)),
         9..=11 => frame::delete(host, id),
         12..=16 => frame::commit(host),
         17..=18 => frame::abort(host),
-        _ if rng.once_in(10) => settled_frame(rng, id.0),
+        _ if rng.once_in(10) => settled_frame(rng, id.0, most),
         _ => frame::delete(host, id),
     }
 }
 
-fn tail(rng: &mut Rng, half: &mut Vec<u8>, size: usize) {
-    let last = journal_frame(rng);
+/// The last frame, in part or whole, has a value of at most so many bytes.
+fn tail(rng: &mut Rng, half: &mut Vec<u8>, size: usize, most: usize) {
+    let last = journal_frame(rng, most);
     match rng.below(10) {
         0..=1 => half.extend(&last[..rng.below(last.len())]),
         2 => {
@@ -164,13 +182,13 @@ fn tail(rng: &mut Rng, half: &mut Vec<u8>, size: usize) {
 /// Frames up to the half's very end, or a frame that is one byte too long for it.
 fn fill_to(rng: &mut Rng, half: &mut Vec<u8>, size: usize) {
     let host = Host(rng.below(4) as u8);
-    while size - half.len() > 80 {
-        half.extend(frame::put(host, Id(1), &[0xFF; 64]));
+    while size - half.len() > LONGEST + frame::CHANGE {
+        half.extend(frame::put(host, Id(1), &[0xFF; VALUE_LIMIT]));
         half.extend(frame::commit(host));
     }
     let rest = size - half.len();
     if rest >= 8 {
-        let value = (rest - 8 + rng.below(2)).min(64);
+        let value = (rest - 8 + rng.below(2)).min(VALUE_LIMIT);
         half.extend(frame::put(host, Id(2), &vec![0xFE; value]));
         half.truncate(size);
     }
@@ -186,7 +204,7 @@ fn harm(rng: &mut Rng, image: &mut [u8]) {
         1 => image[at] &= rng.byte(),
         2 => image[at] |= rng.byte(),
         3 => image[at] = image[at].wrapping_add(rng.pick(&[1, 255])),
-        4 => image[at] = rng.pick(&[0x00, 0x01, 0x04, 0x06, 0x07, 0x08, 0x47, 0x48, 0x49, 0xFC, 0xFE, 0xFF]),
+        4 => image[at] = rng.pick(&[0x00, 0x01, 0x04, 0x06, 0x07, 0x08, 0xF7, 0xF8, 0xF9, 0xFC, 0xFE, 0xFF]),
         5 => image[at..base + size].fill(0xFF),
         6 => image[base + half::TIME..base + half::STATE]
             .copy_from_slice(&(!rng.pick(&[0, u32::MAX])).to_le_bytes()),

@@ -1,6 +1,7 @@
 //! What hosts send: requests that make sense, and messages that do not quite.
 
 use crate::rng::Rng;
+use model::frame::VALUE_LIMIT;
 use store::message;
 
 #[derive(Clone, PartialEq, Eq, Debug)]
@@ -35,10 +36,12 @@ pub struct Manner {
 }
 
 impl Manner {
-    pub fn new(rng: &mut Rng) -> Manner {
+    /// Hosts of an image of this length. Below 1,024 bytes the longest values leave no room for others.
+    pub fn new(rng: &mut Rng, length: usize) -> Manner {
+        let long = if length < 1_024 { 64 } else { VALUE_LIMIT };
         Manner {
             ids: rng.pick(&[1, 3, 12, 256]),
-            longest: rng.pick(&[4, 24, 64, 64]),
+            longest: rng.pick(&[4, 24, 64, long, long]),
             commits: rng.pick(&[3, 6, 20]),
         }
     }
@@ -60,8 +63,14 @@ impl Manner {
         if rng.once_in(12) { rng.pick(&[0, 1, 254, 255]) } else { rng.below(self.ids) as u8 }
     }
 
+    /// Now and then of any length around the limit, whatever these hosts are like.
     fn value(&self, rng: &mut Rng) -> Vec<u8> {
-        let size = if rng.once_in(4) { rng.pick(&[0, 1, self.longest]) } else { rng.below(self.longest + 1) };
+        let size = match rng.below(40) {
+            0 => rng.below(VALUE_LIMIT + 2),
+            1 => VALUE_LIMIT + rng.below(2),
+            2..=10 => rng.pick(&[0, 1, self.longest]),
+            _ => rng.below(self.longest + 1),
+        };
         value(rng, size)
     }
 }
@@ -95,7 +104,7 @@ pub fn odd_message(manner: &Manner, rng: &mut Rng) -> Vec<u8> {
         4 => bytes.truncate(rng.below(bytes.len() + 1)),
         5 => bytes.push(rng.byte()),
         6 => return bodies(rng),
-        7 => return (0..rng.below(80)).map(|_| rng.byte()).collect(),
+        7 => return (0..rng.below(VALUE_LIMIT + 16)).map(|_| rng.byte()).collect(),
         _ => bytes.resize(bytes.len() + 256, 0),
     }
     bytes
@@ -104,7 +113,7 @@ pub fn odd_message(manner: &Manner, rng: &mut Rng) -> Vec<u8> {
 /// The right length, any kind near the six, a body of any size.
 fn bodies(rng: &mut Rng) -> Vec<u8> {
     let kind = 0x0100 + rng.below(9) as u16;
-    let size = rng.pick(&[0, 1, 2, 3, 66, 67, 300]);
+    let size = rng.pick(&[0, 1, 2, 3, 66, 67, 2 + VALUE_LIMIT, 3 + VALUE_LIMIT, 300]);
     let mut body = rng.bytes(size);
     if body.len() > 1 && !rng.once_in(4) {
         body[1] = 0;

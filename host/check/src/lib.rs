@@ -8,4 +8,5 @@ pub mod nor;
 pub mod rng;
 pub mod rounds;
 pub mod runs;
+pub mod tally;
 pub mod twin;

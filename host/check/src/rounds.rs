@@ -3,7 +3,8 @@
 use crate::damage;
 use crate::rng::Rng;
 use crate::runs::{self, Plan};
-use crate::twin::{Tally, Twin};
+use crate::tally::Tally;
+use crate::twin::Twin;
 
 #[derive(Default)]
 pub struct Sum {
@@ -16,7 +17,7 @@ pub struct Sum {
 const EVERYWHERE: usize = usize::MAX;
 
 /// Length, calls, one job in so many cut, the most recoveries after it, whether the journal is filled first.
-const RUNS: [(usize, usize, usize, usize, bool); 9] = [
+const RUNS: [(usize, usize, usize, usize, bool); 11] = [
     (512, 800, 15, EVERYWHERE, false),
     (512, 3_000, 0, 0, false),
     (768, 500, 40, EVERYWHERE, false),
@@ -26,10 +27,13 @@ const RUNS: [(usize, usize, usize, usize, bool); 9] = [
     (33_024, 150, 0, 0, false),
     (33_024, 30, 10, 10, true),
     (65_536, 15, 6, 8, true),
+    (2_048, 3_000, 0, 0, false),
+    (4_096, 3_000, 0, 0, false),
 ];
 
 /// Length and number of damaged images.
-const IMAGES: [(usize, usize); 5] = [(512, 4_000), (768, 1_500), (1_280, 800), (8_192, 100), (65_536, 10)];
+const IMAGES: [(usize, usize); 6] =
+    [(512, 4_000), (768, 1_500), (1_024, 1_000), (1_280, 800), (8_192, 100), (65_536, 10)];
 
 /// The runs of a round: each kind once, then short ones near the last time.
 pub fn random_runs(round: u64, sum: &mut Sum) {

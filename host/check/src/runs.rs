@@ -4,7 +4,9 @@ use crate::book::{Book, Lists, found};
 use crate::cuts::{Allowed, Cuts, Start, newest, stuck};
 use crate::generate::{self, Manner, Wish};
 use crate::rng::Rng;
-use crate::twin::{Call, Outcome, Tally, Twin, UNWRITTEN};
+use crate::tally::Tally;
+use crate::twin::{Call, Outcome, Twin, UNWRITTEN};
+use model::frame::VALUE_LIMIT;
 use model::half_of;
 use store::{Answer, Head, Idle, message};
 
@@ -43,7 +45,7 @@ pub fn run(plan: Plan) -> (Tally, u64) {
     let mut run = Run {
         twin: formatted_at(plan.length, plan.time),
         book: Book::default(),
-        manner: Manner::new(&mut rng),
+        manner: Manner::new(&mut rng, plan.length),
         cuts: Cuts::new(plan.length, plan.most_cuts),
         cut_jobs: 0,
         format_open: false,
@@ -130,12 +132,12 @@ impl Run {
         }
     }
 
-    /// The longest put that the room rule takes, or the next longer one.
+    /// The longest put that the room rule and the limit take, or the next longer one.
     fn put_at_the_limit(&mut self, idle: Idle) {
         let host = self.rng.below(4);
         let taken = self.book.claimed() + 8 + 6 * self.book.open(host) + 14;
-        let free = (idle.length / 2).saturating_sub(taken) + self.rng.below(2);
-        let value = generate::value(&mut self.rng, free.min(64));
+        let free = (idle.length / 2).saturating_sub(taken).min(VALUE_LIMIT) + self.rng.below(2);
+        let value = generate::value(&mut self.rng, free);
         let id = self.manner.id(&mut self.rng);
         self.wish(host as u8, &Wish::Put(id, value));
     }
@@ -170,6 +172,7 @@ impl Run {
             Wish::Log => return (Answer::DONE, 0),
             Wish::Commit | Wish::Abort if self.book.lists[host].is_empty() => return (Answer::DONE, 0),
             Wish::Commit | Wish::Abort => (6, true),
+            Wish::Put(_, value) if value.len() > VALUE_LIMIT => return (Answer::MALFORMED, 0),
             Wish::Put(_, value) => (8 + value.len(), taken + 8 + value.len() + 14 <= self.size()),
             Wish::Delete(_) => (8, taken + 8 <= self.size()),
         };

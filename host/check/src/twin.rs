@@ -1,10 +1,10 @@
 //! The model, the library and the plain program, given the same calls: whatever anyone can see of them must agree.
 
 use crate::nor::Nor;
+use crate::tally::Tally;
 use library::Library;
 use model::{Model, Record};
 use plain::Plain;
-use std::collections::BTreeMap;
 use std::fmt;
 use store::{Answer, Head, Idle, Store, Stretch, hex, message};
 
@@ -18,7 +18,7 @@ pub enum Call {
 }
 
 impl Call {
-    fn name(&self) -> &'static str {
+    pub fn name(&self) -> &'static str {
         match self {
             Call::Mount => "mount",
             Call::Format => "format",
@@ -50,35 +50,6 @@ pub struct Outcome {
 
 /// What a lent reply holds before the call.
 pub const UNWRITTEN: u8 = 0x5A;
-
-/// How often each call got each answer.
-#[derive(Default)]
-pub struct Tally(BTreeMap<(&'static str, u8), u64>);
-
-impl Tally {
-    pub fn add(&mut self, other: &Tally) {
-        for (key, count) in &other.0 {
-            *self.0.entry(*key).or_default() += count;
-        }
-    }
-
-    pub fn of(&self, call: &'static str, answer: Answer) -> u64 {
-        self.0.get(&(call, answer.0)).copied().unwrap_or(0)
-    }
-
-    pub fn calls(&self) -> u64 {
-        self.0.values().sum()
-    }
-}
-
-impl fmt::Display for Tally {
-    fn fmt(&self, f: &mut fmt::Formatter) -> fmt::Result {
-        for ((call, answer), count) in &self.0 {
-            writeln!(f, "  {call:8} {:>4}  {count}", Answer(*answer).to_string())?;
-        }
-        Ok(())
-    }
-}
 
 /// One store with its own copy of the image.
 struct Side<S: Store> {
@@ -246,7 +217,7 @@ impl Twin {
             self.fail("the model's image is not what its steps make", before, call);
         }
         self.compare(call, &outcome, before);
-        *self.tally.0.entry((call.name(), outcome.answer.0)).or_default() += 1;
+        self.tally.count(call, &outcome);
         self.remember(call, before, outcome.answer);
         outcome
     }

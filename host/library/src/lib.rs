@@ -4,9 +4,18 @@ mod calls;
 
 pub use calls::Library;
 
+use std::ops::Range;
 use store::{Answer, Head, Idle, Store, Stretch};
 
-pub const RECORD_SIZE: usize = 690;
+/// The most bytes of a value.
+pub const VALUE_LIMIT: usize = 240;
+/// Length of the longest frame, a put of the longest value.
+const LONGEST: usize = 8 + VALUE_LIMIT;
+
+/// Where the job stands in a record: after the six bytes that anyone may know and the places of 256 values.
+pub const JOB: Range<usize> = 518..546;
+/// After the job there are two frames in hand.
+pub const RECORD_SIZE: usize = JOB.end + 2 * LONGEST;
 
 /// A board record as it crosses the edge to C.
 pub type Record = [u8; RECORD_SIZE];

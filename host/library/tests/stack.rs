@@ -1,6 +1,6 @@
 //! How much stack each call takes: it runs on a painted one. The bounds are those that the header states.
 
-use library::{Library, Record};
+use library::{Library, Record, VALUE_LIMIT};
 use std::arch::asm;
 use std::collections::BTreeMap;
 use std::fs;
@@ -110,10 +110,11 @@ impl Board {
         assert_eq!(self.mount(), Answer::NO_STORE);
         assert_eq!(self.format(), Answer::DONE);
         let moved = |image: &[u8]| image[image.len() / 2] != 0xFF;
+        let size = VALUE_LIMIT.min(self.image.len() / 8);
         for id in (0..=255).cycle() {
             self.ask(1, &message::put(2, &[id; 9]));
             self.ask(1, if id % 2 == 0 { &[4, 0, 4, 1] } else { &[4, 0, 3, 1] });
-            let put = self.ask(0, &message::put(id % 64, &[id; 64]));
+            let put = self.ask(0, &message::put(id % 64, &vec![id; size]));
             assert!(put == Answer::DONE || put == Answer::NO_ROOM);
             assert_eq!(self.ask(0, &message::commit()), Answer::DONE);
             if moved(&self.image) {

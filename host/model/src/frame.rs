@@ -3,13 +3,16 @@
 use std::ops::Range;
 
 pub const FINISH: u8 = 0xFE;
-pub const VALUE_LIMIT: usize = 64;
+/// The most bytes of a value (K2).
+pub const VALUE_LIMIT: usize = 240;
 /// Length of a commit or abort frame.
 pub const MARK: usize = 6;
 /// Length of a delete frame, and of a put frame apart from its value.
 pub const CHANGE: usize = 8;
 /// Length of a settled frame apart from its value.
 pub const SETTLED: usize = 7;
+/// Length of the longest frame, a put of the longest value.
+pub const LONGEST: usize = CHANGE + VALUE_LIMIT;
 
 #[derive(Clone, Copy, PartialEq, Eq, Debug)]
 pub struct Host(pub u8);
@@ -85,7 +88,7 @@ pub fn whole(half: &[u8], at: usize) -> Option<Frame> {
 
 fn fits(kind: usize, length: usize) -> bool {
     match kind {
-        1 => (CHANGE..=CHANGE + VALUE_LIMIT).contains(&length),
+        1 => (CHANGE..=LONGEST).contains(&length),
         2 => length == CHANGE,
         3 | 4 => length == MARK,
         5 => (SETTLED..=SETTLED + VALUE_LIMIT).contains(&length),

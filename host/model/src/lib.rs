@@ -1,4 +1,5 @@
-//! Document 01, implemented straightforwardly and on its own: nothing here is shared with the proved library.
+//! Document 01 with K2 of document 02, implemented straightforwardly and on its own: nothing here is shared with the
+//! proved library.
 
 pub mod frame;
 pub mod half;

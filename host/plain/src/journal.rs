@@ -16,7 +16,11 @@ pub const SETTLED: u8 = 5;
 pub const FINISH: u8 = 0xFE;
 /// Length of a commit or abort frame.
 pub const MARK: usize = 6;
-pub const LONGEST: usize = 72;
+/// The most bytes of a value.
+pub const VALUE_LIMIT: usize = 240;
+/// Length of the longest frame, a put of the longest value. No frame begins with 0xFF, as erased flash does.
+pub const LONGEST: usize = 8 + VALUE_LIMIT;
+const _: () = assert!(LONGEST < 0xFF);
 
 #[derive(PartialEq, Eq)]
 pub enum State {

@@ -8,6 +8,7 @@ mod journal;
 
 use job::Phase;
 pub use job::Record;
+pub use journal::VALUE_LIMIT;
 use journal::{ABORT, COMMIT, DELETE, HEADER, Journal, MARK, PUT, State, blank, value_at};
 use store::{Answer, Head, Idle, Store, Stretch};
 
@@ -70,7 +71,7 @@ fn serve(image: &[u8], record: &mut Record, host: u8, message: &[u8], reply: &mu
     let (kind, body) = kind_of(message)?;
     let quiet = journal.pending[usize::from(host)] == 0;
     match (kind, body) {
-        (1, [id, 0, value @ ..]) if value.len() <= 64 => {
+        (1, [id, 0, value @ ..]) if value.len() <= VALUE_LIMIT => {
             let length = 8 + value.len();
             room(image, &journal, host, length + MARK + 8)?;
             append(image, record, &journal, &[length as u8, 0, PUT, 0, host, *id, 0], value)

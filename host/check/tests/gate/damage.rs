@@ -1,11 +1,16 @@
 //! Damage tried systematically.
 
 use check::twin::{Call, Twin};
-use model::frame::{self, Host, Id};
+use model::frame::{self, Host, Id, LONGEST, VALUE_LIMIT};
+use model::half::HEADER;
 use store::{Answer, Idle, Stretch, message};
 
 const LENGTH: usize = 512;
-const S: usize = LENGTH / 2;
+/// An image with room for the longest frames, and its half.
+const LONG: usize = 1_024;
+const S: usize = LONG / 2;
+/// Room for any frame.
+const AMPLE: usize = 300;
 
 /// A half with settled frames, changes of two hosts of which some are committed and some aborted, and pending ones.
 fn rich() -> Twin {
@@ -54,23 +59,33 @@ fn every_single_byte_change() {
     assert!(twin.tally.of("request", Answer::DONE) > LENGTH as u64);
 }
 
+/// The header of a half just formatted: time 1.
+const FORMATTED: [u8; HEADER] = *b"\x10\0\x01\x4A\xFE\xFF\xFF\xFF\xFC\xFF\xFF\xFF\xFF\xFF\xFF\xFF";
+
+/// A half of S bytes that begins with these, beside a blank one.
+fn image_of(start: &[u8]) -> Vec<u8> {
+    let mut image = start.to_vec();
+    assert!(image.len() <= S);
+    image.resize(LONG, 0xFF);
+    image
+}
+
 /// A formatted half with one settled object, then `tail` placed so that `room` bytes are left for it.
 fn with_tail(tail: &[u8], room: usize) -> Twin {
-    let mut half = Twin::formatted(LENGTH).image()[..16].to_vec();
+    let mut half = FORMATTED.to_vec();
     half.extend(frame::settled(Id(1), b"kept"));
     while half.len() < S - room {
         let left = S - room - half.len();
-        let length = if left > 72 { (left - 8).min(72) } else { left };
+        let length = if left > LONGEST { (left - 8).min(LONGEST) } else { left };
         half.extend(frame::put(Host(0), Id(2), &vec![0; length - 8]));
     }
     half.extend(tail);
-    half.resize(S, 0xFF);
-    Twin::new(&[half, vec![0xFF; S]].concat())
+    Twin::new(&image_of(&half))
 }
 
 fn samples() -> Vec<Vec<u8>> {
-    let value = [0xFF; 64];
-    let puts = (0..=64).map(|size| frame::put(Host(3), Id(255), &value[..size]));
+    let value = [0xFF; VALUE_LIMIT];
+    let puts = (0..=VALUE_LIMIT).map(|size| frame::put(Host(3), Id(255), &value[..size]));
     puts.chain([frame::delete(Host(1), Id(0)), frame::commit(Host(2)), frame::abort(Host(0))]).collect()
 }
 
@@ -94,7 +109,7 @@ fn frames_torn_after_every_byte() {
         for programmed in 1..frame.len() {
             let part = &frame[..programmed];
             assert!(found_torn(with_tail(part, frame.len())), "{part:?} with just enough room");
-            assert!(found_torn(with_tail(part, 100)), "{part:?}");
+            assert!(found_torn(with_tail(part, AMPLE)), "{part:?}");
             assert!(!found_torn(with_tail(part, frame.len() - 1)), "{part:?} without room");
         }
     }
@@ -103,10 +118,10 @@ fn frames_torn_after_every_byte() {
 /// Of a settled frame only the length may be seen, and only a length that another kind has.
 #[test]
 fn settled_frames_torn_after_every_byte() {
-    for size in 0..=64 {
-        let frame = frame::settled(Id(9), &[0; 64][..size]);
+    for size in 0..=VALUE_LIMIT {
+        let frame = frame::settled(Id(9), &[0; VALUE_LIMIT][..size]);
         for programmed in 1..frame.len() {
-            let torn = found_torn(with_tail(&frame[..programmed], 100));
+            let torn = found_torn(with_tail(&frame[..programmed], AMPLE));
             assert_eq!(torn, programmed <= 2 && size > 0, "{programmed} bytes of {frame:?}");
         }
     }
@@ -116,10 +131,36 @@ fn settled_frames_torn_after_every_byte() {
 #[test]
 fn torn_frames_with_a_wrong_field() {
     let frame = frame::put(Host(3), Id(255), &[7; 10]);
-    for (at, byte) in [(0, 5), (0, 7), (0, 73), (1, 1), (2, 0), (2, 2), (2, 3), (2, 6), (3, 1), (4, 4), (6, 1)] {
+    for (at, byte) in [(0, 5), (0, 7), (0, 249), (1, 1), (2, 0), (2, 2), (2, 3), (2, 6), (3, 1), (4, 4), (6, 1)] {
         let mut part = frame[..12].to_vec();
         part[at] = byte;
-        assert!(!found_torn(with_tail(&part, 100)), "byte {at} is {byte}");
+        assert!(!found_torn(with_tail(&part, AMPLE)), "byte {at} is {byte}");
+    }
+}
+
+/// A frame's first byte tells it from erased flash: it is 6 or 8 to 248, and never 0xFF.
+#[test]
+fn every_first_byte_of_a_tail() {
+    let kept = frame::settled(Id(1), b"kept");
+    for byte in 0..=255 {
+        let mut twin = Twin::new(&image_of(&[&FORMATTED[..], &kept, &[byte]].concat()));
+        let expected = match byte {
+            6 | 8..=248 => (Answer::DONE, 22),
+            0xFF => (Answer::DONE, 0),
+            _ => (Answer::FOREIGN, 0),
+        };
+        assert_eq!(twin.whole(&Call::Mount), expected, "{byte}");
+    }
+}
+
+/// Whole frames of the longest value, and of one byte more.
+#[test]
+fn frames_of_the_longest_value() {
+    let value = [0xFE; VALUE_LIMIT + 1];
+    for (size, expected) in [(VALUE_LIMIT, Answer::DONE), (VALUE_LIMIT + 1, Answer::FOREIGN)] {
+        let put = frame::put(Host(0), Id(1), &value[..size]);
+        assert_eq!(mount_of_frames(&[put, frame::commit(Host(0))]), expected);
+        assert_eq!(mount_of_frames(&[frame::settled(Id(1), &value[..size])]), expected);
     }
 }
 
@@ -128,17 +169,15 @@ fn torn_frames_with_a_wrong_field() {
 fn frames_to_the_very_end() {
     let commit = frame::commit(Host(0));
     let mut twin = with_tail(&commit, commit.len());
-    twin.forge(Idle { length: LENGTH, half: 0, end: S as u16 });
+    twin.forge(Idle { length: LONG, half: 0, end: S as u16 });
     assert_eq!(twin.ask(1, &message::commit()), Answer::DONE);
     assert_eq!(twin.whole(&Call::Mount), (Answer::DONE, 0));
     assert_eq!(twin.ids(), [1, 2]);
 }
 
 fn mount_of_frames(frames: &[Vec<u8>]) -> Answer {
-    let mut half = Twin::formatted(LENGTH).image()[..16].to_vec();
-    half.extend(frames.concat());
-    half.resize(S, 0xFF);
-    Twin::new(&[half, vec![0xFF; S]].concat()).call(&Call::Mount).answer
+    let half = [&FORMATTED[..], &frames.concat()].concat();
+    Twin::new(&image_of(&half)).call(&Call::Mount).answer
 }
 
 #[test]
@@ -157,10 +196,10 @@ fn settled_frames_stand_first_with_rising_ids() {
 /// Of two valid halves the newer is current, even if its tail is torn; the older is erased first.
 #[test]
 fn two_valid_halves() {
-    let torn = with_tail(&[6], 100);
+    let torn = with_tail(&[6], AMPLE);
     let mut newer = torn.image()[..S].to_vec();
     newer[4] = 0xFD;
-    let mut twin = Twin::new(&[&newer, &Twin::formatted(LENGTH).image()[..S]].concat());
+    let mut twin = Twin::new(&[&newer, &Twin::formatted(LONG).image()[..S]].concat());
     assert_eq!(twin.call(&Call::Mount).answer, Answer::MORE);
     assert_eq!(twin.step(), Answer::MORE);
     assert_eq!(twin.image()[S..], [0xFF; S]);

@@ -2,7 +2,7 @@
 
 use check::rng::Rng;
 use check::twin::Twin;
-use library::{Library, RECORD_SIZE, Record};
+use library::{JOB, Library, RECORD_SIZE, Record};
 use store::{Answer, Head, Store, Stretch, message};
 
 const LENGTH: usize = 512;
@@ -48,7 +48,7 @@ fn records_of_no_phase() {
     let (mut image, _) = formatted(&library);
     let mut rng = Rng::new(1);
     for phase in (8..=255).chain([0]) {
-        let mut record: Record = rng.bytes(RECORD_SIZE).try_into().expect("690 bytes");
+        let mut record: Record = rng.bytes(RECORD_SIZE).try_into().expect("a record's bytes");
         record[0] = phase;
         let (kept, before) = (record, image.clone());
         assert_eq!(library.request(&image, &mut record, 0, &message::log(), &mut [0; 14]), Answer::NO_STORE);
@@ -65,7 +65,7 @@ fn idle_records_with_other_bytes_set() {
     let (mut image, tidy) = formatted(&library);
     let mut rng = Rng::new(2);
     for _ in 0..100 {
-        let mut record: Record = rng.bytes(RECORD_SIZE).try_into().expect("690 bytes");
+        let mut record: Record = rng.bytes(RECORD_SIZE).try_into().expect("a record's bytes");
         record[..6].copy_from_slice(&tidy[..6]);
         let kept = record;
         assert_eq!(library.step(&mut image, &mut record), Answer::DONE);
@@ -95,11 +95,11 @@ fn at_most_one_step(before: &[u8], after: &[u8]) -> bool {
 fn forged_job(rng: &mut Rng, real: &Record) -> Record {
     let mut record = *real;
     if rng.once_in(3) {
-        record = rng.bytes(RECORD_SIZE).try_into().expect("690 bytes");
+        record = rng.bytes(RECORD_SIZE).try_into().expect("a record's bytes");
         record[1..3].copy_from_slice(&real[1..3]);
     }
     for _ in 0..rng.below(6) {
-        let at = if rng.once_in(2) { rng.below(RECORD_SIZE) } else { 518 + rng.below(28) };
+        let at = if rng.once_in(2) { rng.below(RECORD_SIZE) } else { JOB.start + rng.below(JOB.len()) };
         record[at] = rng.byte();
     }
     record[0] = 2 + rng.below(6) as u8;

@@ -3,6 +3,7 @@
 mod blank;
 mod damage;
 mod edge;
+mod long;
 mod random;
 mod refusals;
 mod rows;

@@ -9,11 +9,30 @@ fn seen(sum: &Sum, call: &'static str, answers: &[Answer]) {
     }
 }
 
+/// Values of 0 to 240 bytes were put and read, the longest too and of every eight lengths some; 241 were too many.
+fn seen_values(sum: &Sum) {
+    for (call, answer) in [("request", Answer::MORE), ("read", Answer::DONE)] {
+        let count = |length: usize| sum.tally.with_value(call, answer, length);
+        for first in (0..240).step_by(8) {
+            assert!(
+                (first..first + 8).any(|length| count(length) > 0),
+                "{call}: none of {first} bytes or a few more"
+            );
+        }
+        assert!(count(240) > 0 && count(241) == 0, "{call}: {} of 240 bytes, {} of 241", count(240), count(241));
+    }
+    for length in 0..=240 {
+        assert_eq!(sum.tally.with_value("request", Answer::MALFORMED, length), 0, "{length} bytes were too many");
+    }
+    assert!(sum.tally.with_value("request", Answer::MALFORMED, 241) > 0, "no put of 241 bytes was tried");
+}
+
 fn runs_of(rounds: std::ops::Range<u64>) {
     let mut sum = Sum::default();
     rounds.for_each(|round| random_runs(round, &mut sum));
     seen(&sum, "mount", &[0, 2, 6, 255].map(Answer));
     seen(&sum, "request", &[0, 1, 2, 5, 6, 7, 8, 9, 10, 255].map(Answer));
+    seen_values(&sum);
 }
 
 #[test]
@@ -33,4 +52,5 @@ fn images_of_first_rounds() {
     seen(&sum, "mount", &[0, 2, 3, 6, 255].map(Answer));
     seen(&sum, "request", &[0, 1, 2, 6, 7, 8, 9, 10, 11, 255].map(Answer));
     seen(&sum, "read", &[0, 1, 2, 8, 10, 11].map(Answer));
+    seen_values(&sum);
 }

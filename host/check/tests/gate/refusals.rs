@@ -157,11 +157,11 @@ fn an_image_without_room_for_the_commits() {
     }
 }
 
-#[test]
-fn malformed() {
-    let with = |kind: u16, body: &[u8]| message::message(kind, body);
-    let long = |extra: usize| with(message::COMMIT, &vec![0; extra]);
-    let mut wrong = vec![
+/// Too short for length and kind, or of another length than they say.
+fn wrong_lengths() -> Vec<Vec<u8>> {
+    let mut wrapped = message::message(message::COMMIT, &[0; 65_536]);
+    wrapped[0..2].copy_from_slice(&[4, 0]);
+    vec![
         vec![],
         vec![4],
         vec![4, 0],
@@ -170,17 +170,28 @@ fn malformed() {
         vec![3, 0, 3, 1],
         vec![4, 1, 3, 1],
         vec![4, 0, 3, 2],
+        wrapped,
+    ]
+}
+
+/// Of no kind that there is, or with a body that does not fit the kind.
+fn wrong_bodies() -> Vec<Vec<u8>> {
+    let with = |kind: u16, body: &[u8]| message::message(kind, body);
+    let put = |size: usize| message::put(1, &vec![0; size]);
+    vec![
         with(0x0100, &[]),
         with(0x0107, &[]),
         with(0x0301, &[]),
         with(message::PUT, &[]),
         with(message::PUT, &[1]),
         with(message::PUT, &[0, 1]),
-        with(message::PUT, &[1, 0].repeat(34)),
+        put(241),
+        put(242),
         with(message::DELETE, &[1]),
         with(message::DELETE, &[0, 1]),
         with(message::DELETE, &[1, 0, 0]),
         with(message::COMMIT, &[0]),
+        with(message::COMMIT, &[0; 256]),
         with(message::ABORT, &[0]),
         with(message::READ, &[1]),
         with(message::READ, &[1, 1]),
@@ -189,12 +200,12 @@ fn malformed() {
         with(message::LOG, &[0]),
         with(message::LOG, &[2]),
         with(message::LOG, &[1, 0]),
-        long(256),
-    ];
-    let mut wrapped = long(65_536);
-    wrapped[0..2].copy_from_slice(&[4, 0]);
-    wrong.push(wrapped);
-    for message in wrong {
+    ]
+}
+
+#[test]
+fn malformed() {
+    for message in [wrong_lengths(), wrong_bodies()].concat() {
         assert_eq!(refusal(&mut formatted(), 0, &message, 0), Answer::MALFORMED, "{message:?}");
         assert_eq!(read(&mut formatted(), 0, &message), (Answer::MALFORMED, Stretch::default()));
     }

@@ -1,6 +1,6 @@
 //! Document 01's bench rows: S = 256, each value as the table has it.
 
-use check::twin::{Call, Outcome, Twin};
+use check::twin::{Call, Outcome, Twin, UNWRITTEN};
 use store::{Answer, Head, Idle, Stretch, hex, message};
 
 const S: usize = 256;
@@ -216,10 +216,28 @@ fn o_limits() {
     let answer = |host: u8, message: &[u8]| after_a().ask(host, message);
     assert_eq!(answer(0, &put(255, 2)), Answer::MORE);
     assert_eq!(answer(0, &put(256, 2)), Answer::MALFORMED);
-    assert_eq!(answer(0, &put(1, 64)), Answer::MORE);
-    assert_eq!(answer(0, &put(1, 65)), Answer::MALFORMED);
     assert_eq!(answer(3, &put(1, 2)), Answer::MORE);
     assert_eq!(answer(4, &put(1, 2)), Answer::HOST_RANGE);
+}
+
+/// The row's value cases as K2 has them, on 1,024 bytes: a frame of 248 bytes from 16 on.
+#[test]
+fn o_value_limits() {
+    let value: Vec<u8> = (0..240).collect();
+    let mut twin = Twin::formatted(1_024);
+    assert_eq!(twin.ask(0, &message::put(9, &value)), Answer::MORE);
+    assert_eq!(twin.finish(), done(248));
+    assert_eq!(twin.head(), Head::Idle(Idle { length: 1_024, half: 0, end: 264 }));
+    let frame = [&bytes("F8 00 01 00 00 09 00")[..], &value, &[0xFE]].concat();
+    assert_eq!(twin.image()[16..264], frame);
+
+    let (image, head) = (twin.image().to_vec(), twin.head());
+    let message = message::put(9, &[7; 241]);
+    assert_eq!(message[..2], [0xF7, 0]);
+    let outcome = twin.call(&Call::Request { host: 0, message, reply: 14 });
+    assert_eq!(outcome.answer, Answer::MALFORMED);
+    assert_eq!(outcome.reply, [UNWRITTEN; 14]);
+    assert_eq!((twin.image(), twin.head()), (&image[..], head));
 }
 
 #[test]

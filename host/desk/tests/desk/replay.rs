@@ -1,6 +1,6 @@
 //! The calls byte for byte, on document 01's rows, forged records and lines that cannot be read.
 
-use super::{check, command, desk, replay, run};
+use super::{check, check_with, command, desk, replay, run};
 
 const TICKETS: &str = concat!(env!("CARGO_MANIFEST_DIR"), "/../../examples/tickets");
 
@@ -80,19 +80,17 @@ fn rows_i_to_m() {
 
 #[test]
 fn rows_n_to_p() {
-    let (most, too_many) = (put_of(255, 64), put_of(255, 65));
     check(&[
         ("new 512", "ok"),
         ("format", "more"),
         ("run", "0 steps=12"),
         ("req 0 05000301 0", "1"),
         ("req 0 060001010001 0", "1"),
-        (&too_many, "1"),
         ("req 4 060001010100 0", "10"),
         ("req 3 060001010100 0", "more"),
-        (&most, "5"),
+        ("req 3 06000101ff00 0", "5"),
         ("run", "0 steps=8"),
-        (&most, "more"),
+        ("req 3 06000101ff00 0", "more"),
         ("new 768", "ok"),
         ("format", "more"),
         ("new 65536", "ok"),
@@ -102,6 +100,50 @@ fn rows_n_to_p() {
         ("new 511", "ok"),
         ("mount", "4"),
     ]);
+}
+
+/// Row o's value cases as K2 has them: 240 and 241 bytes, 00, 01, 02 and so on, at 1,024 bytes.
+#[test]
+fn row_o_at_1024_bytes() {
+    let value = |size: u8| (0..size).map(|byte| format!("{byte:02x}")).collect::<String>();
+    let most = format!("req 0 f60001010900{} 0", value(240));
+    let too_many = format!("req 0 f70001010900{} 0", value(241));
+    check(&[
+        ("new 1024", "ok"),
+        ("format", "more"),
+        ("run", "0 steps=12"),
+        (&most, "more"),
+        ("run", "0 steps=248"),
+        (&too_many, "1"),
+    ]);
+}
+
+/// The same in words: at 512 bytes the longest value finds no room, at 1,024 it comes back as it was put.
+#[test]
+fn the_longest_values_in_words() {
+    let (value, too_many) = ("7e".repeat(240), format!("put 1 9 {}", "7e".repeat(241)));
+    let put = format!("put 1 9 {value}");
+    let got = format!("0 value={value} \"{}\"", "~".repeat(240));
+    check_with(
+        &["--words"],
+        &[
+            ("new 512", "ok"),
+            ("format", "more"),
+            ("run", "0 steps=12"),
+            (&put, "7 no room"),
+            (&too_many, "1 malformed"),
+            ("new 1024", "ok"),
+            ("format", "more"),
+            ("run", "0 steps=12"),
+            (&too_many, "1 malformed"),
+            (&put, "more"),
+            ("run", "0 steps=248"),
+            ("commit 1", "more"),
+            ("run", "0 steps=6"),
+            ("get 0 9", &got),
+            ("log 0", "0 time=1 objects=1 used=263 size=512"),
+        ],
+    );
 }
 
 #[test]

@@ -203,6 +203,22 @@ Pending in half 0: 1 change, which a mount drops
     assert!(report.contains(&expected), "{expected}\n{report}");
 }
 
+/// 240 letters in quotes are five lines of 48 and one of 2; as a settled object, U is 16 + 247.
+#[test]
+fn the_longest_value() {
+    let value = format!("\"{}\"", "x".repeat(240));
+    let script = format!("new 1024\nformat\nrun\nput 1 9 {value}\nrun\ncommit 1\nrun\ndump\n");
+    let answers = replay(script.as_bytes());
+    let (_, dump) = answers.split_once("image=").expect("a dump");
+    let (status, report) = show(&unhex(dump.trim_end()));
+    assert_eq!(status, 0);
+    let line = |text: String| format!("                     {text}\n");
+    let (first, full) = (format!("    9     23    240  \"{}\n", "x".repeat(47)), line("x".repeat(48)));
+    let settled = "Settled in half 0: 1 object; 263 of 512 bytes used\n   id     at  bytes  value\n";
+    let expected = format!("{settled}{first}{}{}", full.repeat(4), line("x\"".to_string()));
+    assert!(report.contains(&expected), "{expected}\n{report}");
+}
+
 #[test]
 fn lengths() {
     let refused = "\n\nmount answers 4, image length. It must be a multiple of 256 from 512 to 65,536.\n";

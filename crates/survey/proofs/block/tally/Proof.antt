@@ -9,7 +9,7 @@ use lib.ListN.{length}
 use borrow.Author.Needs.{needs}
 use Rattle.survey.proofs.HeadLaws.{tally-no, tally-yes}
 use Prim.Native.Nat.{_*_}
-use Rattle.frame.specs.Frame.{total}
+use Rattle.frame.specs.Frame.{valueMax, settledLen, total}
 use Rattle.survey.specs.Pass.{settledAt}
 use Rattle.survey.proofs.block.tally.Statement.{statement}
 use Rattle.survey.proofs.block.tally.Tie as tie
@@ -18,7 +18,7 @@ abbrev Inv-loop : tie.InvT-loop
 Inv-loop block places i₀ count₀ used₀ i count used =
     (count + length (settledAt block places (256 - i) i) ≡ length (settledAt block places 256 0))
     × (used + total (settledAt block places (256 - i) i) ≡ 16 + total (settledAt block places 256 0)) × (i ≤ 256) × (count ≤ i)
-    × (used ≤ 16 + 71 * i)
+    × (used ≤ 16 + settledLen valueMax * i)
 
 abbrev μ-loop : tie.MeasureT-loop
 μ-loop block places i₀ count₀ used₀ i count used = 256 - i

@@ -1,0 +1,66 @@
+//! What the compared calls were and what they were answered.
+
+use crate::twin::{Call, Outcome};
+use std::collections::BTreeMap;
+use std::fmt;
+use store::{Answer, message};
+
+/// How often each call got each answer, and how often with a value of each length: the one put, or the one found.
+#[derive(Default)]
+pub struct Tally {
+    answers: BTreeMap<(&'static str, u8), u64>,
+    values: BTreeMap<(&'static str, u8, usize), u64>,
+}
+
+impl Tally {
+    pub fn count(&mut self, call: &Call, outcome: &Outcome) {
+        let (name, answer) = (call.name(), outcome.answer.0);
+        *self.answers.entry((name, answer)).or_default() += 1;
+        if let Some(length) = value_length(call, outcome) {
+            *self.values.entry((name, answer, length)).or_default() += 1;
+        }
+    }
+
+    pub fn add(&mut self, other: &Tally) {
+        for (key, count) in &other.answers {
+            *self.answers.entry(*key).or_default() += count;
+        }
+        for (key, count) in &other.values {
+            *self.values.entry(*key).or_default() += count;
+        }
+    }
+
+    pub fn of(&self, call: &'static str, answer: Answer) -> u64 {
+        self.answers.get(&(call, answer.0)).copied().unwrap_or(0)
+    }
+
+    /// How often this call got this answer with a value of this length.
+    pub fn with_value(&self, call: &'static str, answer: Answer, length: usize) -> u64 {
+        self.values.get(&(call, answer.0, length)).copied().unwrap_or(0)
+    }
+
+    pub fn calls(&self) -> u64 {
+        self.answers.values().sum()
+    }
+}
+
+/// The length of the value in a put, all but for that length well formed, or of the value that a read found.
+fn value_length(call: &Call, outcome: &Outcome) -> Option<usize> {
+    match call {
+        Call::Request { message, .. } => match &message[..] {
+            [_, _, 1, 1, id, 0, value @ ..] if *message == message::put(*id, value) => Some(value.len()),
+            _ => None,
+        },
+        Call::Read { .. } if outcome.answer == Answer::DONE => Some(outcome.stretch.len),
+        _ => None,
+    }
+}
+
+impl fmt::Display for Tally {
+    fn fmt(&self, f: &mut fmt::Formatter) -> fmt::Result {
+        for ((call, answer), count) in &self.answers {
+            writeln!(f, "  {call:8} {:>4}  {count}", Answer(*answer).to_string())?;
+        }
+        Ok(())
+    }
+}

@@ -1,0 +1,74 @@
+//! The longest value and the record's size: what the library does, what the header says and what this wrapper knows are one.
+
+use library::{JOB, Library, RECORD_SIZE, Record, VALUE_LIMIT};
+use std::fs;
+use store::{Answer, Store, message};
+
+const HEADER: &str = concat!(env!("CARGO_MANIFEST_DIR"), "/../../include/grommetide.h");
+
+fn header() -> String {
+    fs::read_to_string(HEADER).expect("the header")
+}
+
+/// The number that the header defines this name as.
+fn defined(name: &str) -> usize {
+    let header = header();
+    let words = header.lines().map(|line| line.split_whitespace().collect::<Vec<_>>());
+    let mut numbers = words.filter_map(|words| match words[..] {
+        ["#define", defined, number, ..] if defined == name => Some(number.parse().expect("a number")),
+        _ => None,
+    });
+    numbers.next().expect(name)
+}
+
+/// An image of 1,024 bytes, formatted, and its record.
+fn formatted(library: &Library) -> (Vec<u8>, Record) {
+    let mut image = vec![0xFF; 1_024];
+    let (answer, mut record) = library.format(&image);
+    assert_eq!(answer, Answer::MORE);
+    while library.step(&mut image, &mut record) == Answer::MORE {}
+    (image, record)
+}
+
+/// What the library answers to a put of a value of this size, and the record after it.
+fn put(size: usize) -> (Answer, Record) {
+    let library = Library::linked();
+    let (image, mut record) = formatted(&library);
+    let answer = library.request(&image, &mut record, 2, &message::put(5, &vec![0xA7; size]), &mut []);
+    (answer, record)
+}
+
+/// `Library::linked` holds `RECORD_SIZE` to what the library itself says.
+#[test]
+fn the_header_and_the_wrapper_say_the_same() {
+    Library::linked();
+    assert_eq!(defined("GROMMETIDE_RECORD_BYTES"), RECORD_SIZE);
+    assert_eq!(defined("GROMMETIDE_VALUE_MAX"), VALUE_LIMIT);
+}
+
+#[test]
+fn the_library_takes_values_up_to_the_limit() {
+    for size in 0..=VALUE_LIMIT {
+        assert_eq!(put(size).0, Answer::MORE, "{size} bytes");
+    }
+    for size in VALUE_LIMIT + 1..=VALUE_LIMIT + 100 {
+        assert_eq!(put(size).0, Answer::MALFORMED, "{size} bytes");
+    }
+}
+
+/// The layout in the header: two frames of the longest value end the record, and a put that is accepted is the second.
+#[test]
+fn frames_in_hand_are_where_the_header_says() {
+    let frame = [&[8 + VALUE_LIMIT as u8, 0, 1, 0, 2, 5, 0][..], &[0xA7; VALUE_LIMIT], &[0xFE]].concat();
+    let second = JOB.end + frame.len();
+    assert_eq!(RECORD_SIZE, second + frame.len());
+    assert_eq!(put(VALUE_LIMIT).1[second..], frame);
+    let own = format!("6-{} ", RECORD_SIZE - 1);
+    let job = format!("{}-{} the job", JOB.start, JOB.end - 1);
+    let frames = format!("{}-{} and {second}-{} frames in hand", JOB.end, second - 1, RECORD_SIZE - 1);
+    let header = header();
+    let line = header.lines().find(|line| line.contains("frames in hand")).expect("the layout");
+    for text in [own, job, frames] {
+        assert!(line.contains(&text), "{text} is not in {line}");
+    }
+}
