@@ -57,11 +57,11 @@ module _ (p u f : List ℕ) where
 
 module _ (i p u f : List ℕ) where
   pub still-moves : (s : Stepped) (r : Record) → LeadsTo p u f s r → Moves i p u f (still s) r
-  still-moves s r l = record { answers = l .answers; gives = l .gives }
+  still-moves s r l = record { answers = l .answers; gives = l .gives; goes = l .goes }
 
   -- the next frame is due
   due-moves : (n : Numbers) → Moves i p u f (due n) (enterCopy i (assemble n p u f))
-  due-moves n = record { answers = copy-more i (assemble n p u f); gives = refl }
+  due-moves n = record { answers = copy-more i (assemble n p u f); gives = refl; goes = λ e. refl }
 
   pub open-on : (n : Numbers) → ltb (suc (n .cursor .index)) markWrites ≡ true
       → Moves i p u f (still (going Open (nextIndex (n .cursor)) n)) (advance Open i (assemble n p u f))
@@ -92,7 +92,7 @@ module _ (i p u f : List ℕ) (n : Numbers) where
 
   byte-moves : (b : Bool) → Moves i p u f (record { stepped = staying More (past b); loads = not b })
       (cond b (inStage Copy (nextByte (n .cursor)) was) (enterCopy i (inStage Copy (pastFrame (n .cursor)) was)))
-  byte-moves true = record { answers = refl; gives = refl }
+  byte-moves true = record { answers = refl; gives = refl; goes = λ e. refl }
   byte-moves false = due-moves i p u f (past false)
 
   pub copy-moves : Moves i p u f (record {
@@ -136,68 +136,69 @@ module _ (p u f : List ℕ) (st : Stage) (img : List ℕ) (n : Numbers) where
   abbrev after : List ℕ
   after = apply (sizeOf img) (action st before) img
 
-  refused : test ≡ false → Steps (Refused refusal.Stale) before img (stepBusy st img before)
+  refused : test ≡ false → Steps (Refused refusal.Stale) false before img (stepBusy st img before)
   unfolding stepBusy
   refused e =
-      subst (Steps (Refused refusal.Stale) before img)
+      subst (Steps (Refused refusal.Stale) false before img)
       (when-false test (stepped after (advance st after before)) (refuse refusal.Stale img before []) e)
-      (record { image = refl; answers = refl; gives = refl })
+      (record { image = refl; answers = refl; gives = refl; goes = λ e. refl })
 
-  pub other-length : (length img ≡ suc (n .rest .last) → ⊥) → Steps (Refused refusal.Stale) before img (stepBusy st img before)
+  pub other-length : (length img ≡ suc (n .rest .last) → ⊥) → Steps (Refused refusal.Stale) false before img (stepBusy st img before)
   other-length h = refused (and-no-left (eqb (length img) (suc (n .rest .last))) (within (sizeOf img) (action st before)) (ne-eqb _ _ h))
 
   pub other-place : (x : Step) → x ≡ action st before → within (sizeOf img) x ≡ false → (img′ : List ℕ) → img′ ≡ did x img
-      → Steps (Refused refusal.Stale) before img′ (stepBusy st img before)
+      → Steps (Refused refusal.Stale) false before img′ (stepBusy st img before)
   unfolding did
   other-place x e w img′ d =
       let k : img′ ≡ img = d ∙ sym (when-false (within (sizeOf img) x) (apply (sizeOf img) x img) img w) in
-      subst (λ (i : List ℕ). Steps (Refused refusal.Stale) before i (stepBusy st img before)) (sym k)
+      subst (λ (i : List ℕ). Steps (Refused refusal.Stale) false before i (stepBusy st img before)) (sym k)
       (refused (and-no-right (eqb (length img) (suc (n .rest .last))) (within (sizeOf img) (action st before))
       (sym (ap (within (sizeOf img)) e) ∙ w)))
 
   pub step-done : (x : Step) → x ≡ action st before → length img ≡ suc (n .rest .last) → within (sizeOf img) x ≡ true → (img′ : List ℕ)
       → img′ ≡ did x img
       → (m : Moved) → Moves img′ p u f m (advance st img′ before)
-      → Steps (answered m) (reached m img′ p u f) img′ (stepBusy st img before)
+      → Steps (answered m) (m .stepped .ended) (reached m img′ p u f) img′ (stepBusy st img before)
   unfolding stepBusy did
   step-done x e q w img′ d m l =
       let k : img′ ≡ after = d ∙ sym (when-true (within (sizeOf img) x) (apply (sizeOf img) x img) img w) ∙ ap
       (λ (y : Step). apply (sizeOf img) y img) e in
       let t : test ≡ true = and-both (eqb (length img) (suc (n .rest .last))) (within (sizeOf img) (action st before)) (eq-eqb _ _ q)
       (sym (ap (within (sizeOf img)) e) ∙ w) in
-      subst (Steps (answered m) (reached m img′ p u f) img′)
+      subst (Steps (answered m) (m .stepped .ended) (reached m img′ p u f) img′)
       (when-true test (stepped after (advance st after before)) (refuse refusal.Stale img before []) t)
-      (subst (λ (i : List ℕ). Steps (answered m) (reached m img′ p u f) img′ (stepped i (advance st i before))) k
-      (record { image = refl; answers = l .answers; gives = l .gives }))
+      (subst (λ (i : List ℕ). Steps (answered m) (m .stepped .ended) (reached m img′ p u f) img′ (stepped i (advance st i before))) k
+      (record { image = refl; answers = l .answers; gives = l .gives; goes = l .goes }))
 
 -- ---- a step call on any record: the phase as a variable of its own
 
 module _ (img : List ℕ) (r : Record) (ph : Phase) where
-  pub unmounted-stays : ph ≡ Unmounted → Steps Done r img (stepIn ph img r)
-  unmounted-stays e = subst (λ (x : Phase). Steps Done r img (stepIn x img r)) (sym e) (record { image = refl; answers = refl; gives = refl })
+  pub unmounted-stays : ph ≡ Unmounted → Steps Done false r img (stepIn ph img r)
+  unmounted-stays e = subst (λ (x : Phase). Steps Done false r img (stepIn x img r)) (sym e) (record { image = refl; answers = refl; gives = refl; goes = λ e. refl })
 
-  pub idle-stays : ph ≡ Idle → Steps Done r img (stepIn ph img r)
-  idle-stays e = subst (λ (x : Phase). Steps Done r img (stepIn x img r)) (sym e) (record { image = refl; answers = refl; gives = refl })
+  pub idle-stays : ph ≡ Idle → Steps Done false r img (stepIn ph img r)
+  idle-stays e = subst (λ (x : Phase). Steps Done false r img (stepIn x img r)) (sym e) (record { image = refl; answers = refl; gives = refl; goes = λ e. refl })
 
-  pub busy-steps : (st : Stage) → ph ≡ Busy st → (a : Answer) (q : Record) (img′ : List ℕ) → Steps a q img′ (stepBusy st img r)
-      → Steps a q img′ (stepIn ph img r)
-  busy-steps st e a q img′ x = subst (λ (y : Phase). Steps a q img′ (stepIn y img r)) (sym e) x
+  pub busy-steps : (st : Stage) → ph ≡ Busy st → (a : Answer) (b : Bool) (q : Record) (img′ : List ℕ) → Steps a b q img′ (stepBusy st img r)
+      → Steps a b q img′ (stepIn ph img r)
+  busy-steps st e a b q img′ x = subst (λ (y : Phase). Steps a b q img′ (stepIn y img r)) (sym e) x
 
 pub busy-hand : (n : Numbers) (ph : Phase) (st : Stage) (u f : List ℕ) → ph ≡ Busy st → {b : ℕ} → b ≡ inHandIn ph n u f → b ≡ inHandAt st n u f
 busy-hand n ph st u f e h = h ∙ ap (λ (x : Phase). inHandIn x n u f) e
 
 -- ---- the frame that is due is loaded
 
-module _ (p u f img : List ℕ) (o : Out) (m : Moved) (x : Steps (answered m) (reached m img p u f) img o) where
-  pub none-due : m .loads ≡ false → Steps (m .stepped .answer) (leaves (m .stepped) p u f) img o
-  none-due e = subst (λ (b : Bool). Steps (answeredIf b (m .stepped)) (reachedIf b img (m .stepped) p u f) img o) e x
+module _ (p u f img : List ℕ) (o : Out) (m : Moved) (x : Steps (answered m) (m .stepped .ended) (reached m img p u f) img o) where
+  pub none-due : m .loads ≡ false → Steps (m .stepped .answer) (m .stepped .ended) (leaves (m .stepped) p u f) img o
+  none-due e = subst (λ (b : Bool). Steps (answeredIf b (m .stepped)) (m .stepped .ended) (reachedIf b img (m .stepped) p u f) img o) e x
 
   pub one-due : m .loads ≡ true → (u′ : List ℕ) (s : Stepped) → LeadsTo p u′ f s (enterCopy img (assemble (m .stepped .next) p u f))
-      → Steps (s .answer) (leaves s p u′ f) img o
+      → Steps (s .answer) (s .ended) (leaves s p u′ f) img o
   one-due e u′ s l =
-      let y = subst (λ (b : Bool). Steps (answeredIf b (m .stepped)) (reachedIf b img (m .stepped) p u f) img o) e x in
+      let y = subst (λ (b : Bool). Steps (answeredIf b (m .stepped)) (m .stepped .ended) (reachedIf b img (m .stepped) p u f) img o) e x in
       record {
         image = y .image;
         answers = l .answers ∙ sym (copy-more img (assemble (m .stepped .next) p u f)) ∙ y .answers;
         gives = l .gives ∙ y .gives;
+        goes = l .goes;
       }

@@ -70,10 +70,15 @@ leavesIf false n places unit frame = assemble n places unit frame
 abbrev pub leaves : Stepped → List ℕ → List ℕ → List ℕ → Record
 leaves s places unit frame = leavesIf (s .ended) (s .next) places unit frame
 
+-- a job that goes on has not ended
+abbrev pub GoesOn : Answer → Bool → Type 0
+GoesOn a ended = a ≡ More → ended ≡ false
+
 -- a call leads to a record, with these arrays
 pub record LeadsTo (places unit frame : List ℕ) (s : Stepped) (r : Record) : Type 0 where
   pub answers : s .answer ≡ answerOf r
   pub gives : leaves s places unit frame ≡ r
+  pub goes : GoesOn (s .answer) (s .ended)
 
 abbrev pub outcome : Answer → Record → Outcome
 outcome a b = record { answer = a; board = b }
@@ -175,9 +180,11 @@ answered m = answeredIf (m .loads) (m .stepped)
 pub record Moves (img places unit frame : List ℕ) (m : Moved) (r : Record) : Type 0 where
   pub answers : answered m ≡ answerOf r
   pub gives : reached m img places unit frame ≡ r
+  pub goes : GoesOn (answered m) (m .stepped .ended)
 
 -- an answer, a record and an image are what a step call gives back
-pub record Steps (a : Answer) (r : Record) (img : List ℕ) (o : Out) : Type 0 where
+pub record Steps (a : Answer) (ended : Bool) (r : Record) (img : List ℕ) (o : Out) : Type 0 where
   pub image : img ≡ o .image
   pub answers : a ≡ o .answer
   pub gives : r ≡ o .board
+  pub goes : GoesOn a ended

@@ -88,7 +88,7 @@ pub fn rests(n: Numbers) -> Moved
 }
 
 fn try_busy(image: &mut [u8], stage: Stage, n: Numbers, byte: u8) -> Moved
-    ensures { λ r. ⌜ ((p u f : List ℕ) → byte ≡ inHandAt stage n u f → Steps (answered r) (reached r (now (image .exit)) p u f)
+    ensures { λ r. ⌜ ((p u f : List ℕ) → byte ≡ inHandAt stage n u f → Steps (answered r) (r .stepped .ended) (reached r (now (image .exit)) p u f)
         (now (image .exit)) (stepBusy stage (now (image .entry)) (assemble n p u f))) ⌝ }
 {
     let rest = n.rest;
@@ -104,7 +104,7 @@ fn try_busy(image: &mut [u8], stage: Stage, n: Numbers, byte: u8) -> Moved
 
 // A step that reads no array of the record: the byte in hand is given, and the next frame is still to be loaded where one is due.
 pub fn try_step(image: &mut [u8], n: Numbers, byte: u8) -> Moved
-    ensures { λ r. ⌜ ((p u f : List ℕ) → byte ≡ inHand n u f → Steps (answered r) (reached r (now (image .exit)) p u f)
+    ensures { λ r. ⌜ ((p u f : List ℕ) → byte ≡ inHand n u f → Steps (answered r) (r .stepped .ended) (reached r (now (image .exit)) p u f)
         (now (image .exit)) (stepOn (now (image .entry)) (assemble n p u f))) ⌝ }
 {
     let phase = n.phase;
@@ -143,7 +143,7 @@ pub fn step_core(
     unit: &mut [u8; MAX_FRAME],
     frame: &[u8; MAX_FRAME],
 ) -> Stepped
-    ensures { λ r. ⌜ Steps (r .answer) (leaves r (now (places .entry)) (now (unit .exit)) (now (frame .entry))) (now (image .exit))
+    ensures { λ r. ⌜ Steps (r .answer) (r .ended) (leaves r (now (places .entry)) (now (unit .exit)) (now (frame .entry))) (now (image .exit))
         (stepOn (now (image .entry)) (assemble n (now (places .entry)) (now (unit .entry)) (now (frame .entry)))) ⌝ }
 {
     let byte = in_hand(n, unit, frame);

@@ -30,5 +30,5 @@ try-step-spec =
     (λ c.
     let phase′ = c .before .before .before .before .before .phase in
     let args′ = c .before .before .before .before .before .before .before .before .args in
-    λ p u f e. busy-steps (now (args′ .image)) (assemble (args′ .n) p u f) (args′ .n .phase) _ (phase′ .given .1) _ _ _
+    λ p u f e. busy-steps (now (args′ .image)) (assemble (args′ .n) p u f) (args′ .n .phase) _ (phase′ .given .1) _ _ _ _
     (c .before .before .try-busy .ensures p u f (busy-hand (args′ .n) (args′ .n .phase) _ u f (phase′ .given .1) e))))
