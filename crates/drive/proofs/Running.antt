@@ -6,8 +6,8 @@ use Prim.Native.Nat.{ℕ, zero, suc, _+_, _-_, _*_, _/_, _≤_, _<_}
 use native.Mathlib.Omega.{arith}
 use native.Mathlib.Nat.{zero-add}
 use lib.Dec.{eqb, ltb}
-use lib.ListN.{length, getD, take, drop, length-set}
-use lib.Seq.{drop-cons}
+use lib.ListN.{length, getD, take, drop, length-set, length-drop}
+use lib.Seq.{getD-drop}
 use borrow.Author.Tests.{eq-eqb, lt-ltb}
 use Rattle.flash.specs.Flash.{Step, apply, programAt, blocks, sizeOf, within, writes, writeAll}
 use Rattle.flash.proofs.Cases.{and-both}
@@ -15,20 +15,22 @@ use Rattle.wire.specs.declared.Answer.{Answer}
 use Rattle.wire.specs.declared.Answer.the-variants.{Done, More, Refused}
 use Rattle.wire.specs.declared.Refusal.{Refusal}
 use Rattle.wire.specs.declared.Refusal.the-variants as refusal
-use Rattle.board.specs.declared.Stage.the-variants.{Copy}
+use Rattle.board.specs.declared.Stage.{Stage}
+use Rattle.board.specs.declared.Stage.the-variants.{Copy, Append}
 use Rattle.board.specs.declared.Phase.{Phase}
 use Rattle.board.specs.declared.Phase.the-variants.{Unmounted, Idle, Busy}
 use Rattle.board.specs.declared.Cursor.{Cursor}
 use Rattle.board.specs.declared.Record.{Record}
 use Rattle.board.specs.Record.{Out, out, inStage, refuse, answerIn, answerOf, cursor}
-use Rattle.board.specs.Step.{action, advance, nextByte, stepped, stepBusy, stepIn, stepOn}
+use Rattle.board.specs.Step.{action, advance, nextIndex, nextByte, stepped, stepBusy, stepIn, stepOn}
 use Rattle.board.specs.Drive.{Drove, drove, runFrom, runOn}
 use Rattle.board.proofs.Pipeline.{inside-yes}
-use Rattle.board.proofs.Outcomes.{step-goes, copy-next}
+use Rattle.board.proofs.Outcomes.{step-goes, copy-next, append-next}
 use Rattle.job.specs.declared.records.Numbers.{Numbers}
 use Rattle.job.specs.declared.records.Stepped.{Stepped}
 use Rattle.job.specs.Code.{assemble, staged, staying, leavesIf, leaves, Steps}
-use Rattle.drive.specs.Code.{onBy, Short, Bursts, Runs}
+use Rattle.drive.specs.Code.{onBy, stepsBy, copyLane, appendLane, Short, laid, Bursts, Runs}
+use Rattle.drive.specs.declared.bursts.Lane.{Lane}
 
 -- ---- a run by the answer it is at
 
@@ -81,87 +83,157 @@ pub more-steps : (img : List ℕ) (r : Record) (b : Bool) (q : Record) (img′ :
 unfolding stepOn
 more-steps img r b q img′ x = goes-in (r .phase) img r (sym (x .answers)) ∙ ap₂ stepped (sym (x .image)) (sym (x .gives))
 
--- ---- bytes of a frame that is copied
-
-module _ (q : Record) (target : q .job .target < blocks) where
-  abbrev size : ℕ
-  size = suc (q .last) / blocks
-
-  at-byte : (img : List ℕ) (c : Cursor) → length img ≡ suc (q .last) → c .at < size → suc (c .off) < c .size
-      → stepOn img (inStage Copy c q)
-      ≡ stepped (programAt img (q .job .target * size + c .at) (getD (q .unit) (c .off) 0)) (inStage Copy (nextByte c) q)
-  at-byte img c l a o =
-      let s : sizeOf img ≡ size = ap (λ (k : ℕ). k / blocks) l in
-      let byte : ℕ = getD (q .unit) (c .off) 0 in
-      let in-place : within (sizeOf img) (action Copy (inStage Copy c q)) ≡ true =
-      inside-yes (sizeOf img) (action Copy (inStage Copy c q)) target (subst (λ (k : ℕ). c .at < k) (sym s) a) in
-      step-goes img (inStage Copy c q) Copy refl
-      (and-both (eqb (length img) (suc (q .last))) (within (sizeOf img) (action Copy (inStage Copy c q))) (eq-eqb _ _ l) in-place)
-      ∙ ap (stepped (programAt img (q .job .target * sizeOf img + c .at) byte))
-      (copy-next (programAt img (q .job .target * sizeOf img + c .at) byte) (inStage Copy c q) (lt-ltb _ _ o))
-      ∙ ap (λ (k : ℕ). stepped (programAt img (q .job .target * k + c .at) byte) (inStage Copy (nextByte c) q)) s
-
-  -- k of them, none the frame's last
-  pub glide : (k : ℕ) (img : List ℕ) (c : Cursor) → length img ≡ suc (q .last) → k + c .at ≤ size → k + c .off < c .size
-      → k + c .off ≤ length (q .unit) → (m d : ℕ)
-      → runFrom (k + m) d (stepped img (inStage Copy c q))
-      ≡ runFrom m (k + d)
-      (stepped (writeAll img (writes (q .job .target * size + c .at) (take k (drop (c .off) (q .unit))))) (inStage Copy (onBy k c) q))
-  unfolding writes writeAll
-  glide zero img c l a o h m d =
-      let e : 0 + m ≡ m = omega arith in
-      let f : 0 + d ≡ d = omega arith in
-      let x : 0 + c .at ≡ c .at = omega arith in
-      let y : 0 + c .off ≡ c .off = omega arith in
-      ap₂ (λ (i j : ℕ). runFrom i j (stepped img (inStage Copy c q))) e (sym f)
-      ∙ ap₂ (λ (i j : ℕ). runFrom m (0 + d) (stepped img (inStage Copy (cursor (c .index) i (c .id) (c .source) (c .size) j) q)))
-      (sym x) (sym y)
-  glide (suc k) img c l a o h m d =
-      let b : ℕ = q .job .target * size in
-      let byte : ℕ = getD (q .unit) (c .off) 0 in
-      let img₁ : List ℕ = programAt img (b + c .at) byte in
-      let bs : List ℕ = take k (drop (suc (c .off)) (q .unit)) in
-      let e : suc k + m ≡ suc (k + m) = omega arith in
-      let f : k + suc d ≡ suc k + d = omega arith in
-      let x : k + suc (c .at) ≡ suc k + c .at = omega arith in
-      let y : k + suc (c .off) ≡ suc k + c .off = omega arith in
-      let next : (j : ℕ) → j + suc (c .at) ≡ suc (j + c .at) = λ j. omega arith in
-      let cons : take (suc k) (drop (c .off) (q .unit)) ≡ byte ∷ bs = ap (take (suc k)) (drop-cons (q .unit) (c .off) 0 (omega arith)) in
-      ap (λ (i : ℕ). runFrom i d (stepped img (inStage Copy c q))) e
-      ∙ run-on (k + m) d (stepped img (inStage Copy c q)) refl
-      ∙ ap (runFrom (k + m) (suc d)) (at-byte img c l (omega arith) (omega arith))
-      ∙ glide k img₁ (nextByte c) (length-set img (b + c .at) _ ∙ l) (omega arith) (omega arith) (omega arith) m (suc d)
-      ∙ ap₂ (λ (i j : ℕ). runFrom m i (stepped (writeAll img₁ (writes j bs)) (inStage Copy (onBy k (nextByte c)) q))) f (next b)
-      ∙ ap₂ (λ (i j : ℕ). runFrom m (suc k + d) (stepped (writeAll img (writes (b + c .at) (byte ∷ bs)))
-      (inStage Copy (cursor (c .index) i (c .id) (c .source) (c .size) j) q))) x y
-      ∙ ap (λ (v : List ℕ). runFrom m (suc k + d) (stepped (writeAll img (writes (b + c .at) v)) (inStage Copy (onBy (suc k) c) q))) (sym cons)
+-- ---- bytes of a frame, one after the other
 
 pub no-burst : (img : List ℕ) (r : Record) → Bursts 0 img r img r
 no-burst img r = record { answers = refl; runs = λ m d. ap₂ (λ (i j : ℕ). runFrom i j (stepped img r)) (zero-add m) (sym (zero-add d)) }
 
-module _ (p u f img : List ℕ) (n : Numbers) (copies : n .phase ≡ Busy Copy) (k : ℕ) (short : Short (length img) n k)
-    (held : k + n .cursor .off ≤ length u) where
+-- a step programs a byte and leads to the record after it
+abbrev Programs : (ℕ → Record) → ℕ → List ℕ → ℕ → ℕ → Type 0
+Programs r a bs len i =
+    (img : List ℕ) → length img ≡ len
+    → (answerOf (r i) ≡ More) × (stepOn img (r i) ≡ stepped (programAt img (i + a) (getD bs i 0)) (r (suc i)))
+
+pub glide : (k : ℕ) (r : ℕ → Record) (a : ℕ) (bs : List ℕ) (len : ℕ) → k ≤ length bs → ((i : ℕ) → i < k → Programs r a bs len i)
+    → (img : List ℕ) → length img ≡ len → (m d : ℕ)
+    → runFrom (k + m) d (stepped img (r 0)) ≡ runFrom m (k + d) (stepped (writeAll img (writes a (take k bs))) (r k))
+unfolding writes writeAll
+glide zero r a bs len h each img l m d = no-burst img (r 0) .runs m d
+glide (suc k) r a [] len h each img l m d = absurd (omega arith)
+glide (suc k) r a (x ∷ bs) len h each img l m d =
+    let e : suc k + m ≡ suc (k + m) = omega arith in
+    let f : k + suc d ≡ suc k + d = omega arith in
+    let z : 0 + a ≡ a = omega arith in
+    let s = each 0 (omega arith) img l in
+    let on : (i : ℕ) → suc i + a ≡ i + suc a = λ i. omega arith in
+    let img₁ : List ℕ = programAt img a x in
+    ap (λ (i : ℕ). runFrom i d (stepped img (r 0))) e
+    ∙ run-on (k + m) d (stepped img (r 0)) (s .0)
+    ∙ ap (runFrom (k + m) (suc d)) (s .1 ∙ ap (λ (i : ℕ). stepped (programAt img i x) (r 1)) z)
+    ∙ glide k (λ i. r (suc i)) (suc a) bs len (omega arith)
+    (λ i g im y. (
+      each (suc i) (omega arith) im y .0,
+      each (suc i) (omega arith) im y .1 ∙ ap (λ (j : ℕ). stepped (programAt im j (getD bs i 0)) (r (suc (suc i)))) (on i),
+    ))
+    img₁ (length-set img a _ ∙ l) m (suc d)
+    ∙ ap (λ (i : ℕ). runFrom m i (stepped (writeAll img₁ (writes (suc a) (take k bs))) (r (suc k)))) f
+
+module _ (img : List ℕ) (q : Record) (c : Cursor) (same : length img ≡ suc (q .last)) where
+  abbrev size : ℕ
+  size = suc (q .last) / blocks
+
+  half : sizeOf img ≡ size
+  half = ap (λ (k : ℕ). k / blocks) same
+
+  -- a byte of the frame that is copied, but its last
+  copy-byte : q .job .target < blocks → c .at < size → suc (c .off) < c .size
+      → stepOn img (inStage Copy c q)
+      ≡ stepped (programAt img (q .job .target * size + c .at) (getD (q .unit) (c .off) 0)) (inStage Copy (nextByte c) q)
+  copy-byte t a o =
+      let byte : ℕ = getD (q .unit) (c .off) 0 in
+      let place : ℕ → ℕ = λ k. q .job .target * k + c .at in
+      let x : Step = action Copy (inStage Copy c q) in
+      step-goes img (inStage Copy c q) Copy refl
+      (and-both (eqb (length img) (suc (q .last))) (within (sizeOf img) x) (eq-eqb _ _ same)
+      (inside-yes (sizeOf img) x t (subst (λ (k : ℕ). c .at < k) (sym half) a)))
+      ∙ ap (stepped (programAt img (place (sizeOf img)) byte))
+      (copy-next (programAt img (place (sizeOf img)) byte) (inStage Copy c q) (lt-ltb _ _ o))
+      ∙ ap (λ (k : ℕ). stepped (programAt img (place k) byte) (inStage Copy (nextByte c) q)) half
+
+  -- a byte of the frame to append, but its last
+  append-byte : q .block < blocks → q .end + c .index < size → suc (c .index) < q .job .size
+      → stepOn img (inStage Append c q)
+      ≡ stepped (programAt img (q .block * size + (q .end + c .index)) (getD (q .frame) (c .index) 0)) (inStage Append (nextIndex c) q)
+  append-byte t a o =
+      let byte : ℕ = getD (q .frame) (c .index) 0 in
+      let place : ℕ → ℕ = λ k. q .block * k + (q .end + c .index) in
+      let x : Step = action Append (inStage Append c q) in
+      step-goes img (inStage Append c q) Append refl
+      (and-both (eqb (length img) (suc (q .last))) (within (sizeOf img) x) (eq-eqb _ _ same)
+      (inside-yes (sizeOf img) x t (subst (λ (k : ℕ). q .end + c .index < k) (sym half) a)))
+      ∙ ap (stepped (programAt img (place (sizeOf img)) byte))
+      (append-next (programAt img (place (sizeOf img)) byte) (inStage Append c q) (lt-ltb _ _ o))
+      ∙ ap (λ (k : ℕ). stepped (programAt img (place k) byte) (inStage Append (nextIndex c) q)) half
+
+-- the i-th byte from a cursor on
+ith : (bs : List ℕ) (o i : ℕ) → getD bs (i + o) 0 ≡ getD (drop o bs) i 0
+ith bs o i = let e : i + o ≡ o + i = omega arith in ap (λ (j : ℕ). getD bs j 0) e ∙ sym (getD-drop o bs i 0)
+
+-- ---- some bytes of a frame at once
+
+module _ (p u f img : List ℕ) (n : Numbers) (k : ℕ) where
   abbrev was : Record
   was = assemble n p u f
 
-  same-stage : inStage Copy (n .cursor) was ≡ was
-  same-stage = ap (λ (x : Phase). assemble (record { phase = x; rest = n .rest; job = n .job; cursor = n .cursor }) p u f) (sym copies)
+  abbrev c : Cursor
+  c = n .cursor
 
-  pub bursting : (b j : ℕ) (img′ : List ℕ) (n′ : Numbers) → b ≡ n .job .target * (length img / blocks) → j ≡ k
-      → img′ ≡ writeAll img (writes (b + n .cursor .at) (take j (drop (n .cursor .off) u)))
-      → n′ ≡ staged Copy (onBy k (n .cursor)) n → Bursts k img was img′ (assemble n′ p u f)
-  bursting b j img′ n′ base same wrote moved =
-      let s : length img / blocks ≡ suc (n .rest .last) / blocks = ap (λ (l : ℕ). l / blocks) (short .same) in
-      let made : img′ ≡ writeAll img (writes (n .job .target * (suc (n .rest .last) / blocks) + n .cursor .at) (take k (drop (n .cursor .off) u))) =
-      wrote ∙ ap₂ (λ (x y : ℕ). writeAll img (writes (x + n .cursor .at) (take y (drop (n .cursor .off) u))))
-      (base ∙ ap (λ (x : ℕ). n .job .target * x) s) same in
+  -- the job in its own stage, at its own cursor
+  own : (st : Stage) → n .phase ≡ Busy st → (x : Cursor) → x ≡ c → inStage st x was ≡ was
+  own st e x g =
+      ap₂ (λ (y : Phase) (z : Cursor). assemble (record { phase = y; rest = n .rest; job = n .job; cursor = z }) p u f) (sym e) g
+
+  spread : (st : Stage) → n .phase ≡ Busy st → (at : ℕ → Cursor) → at 0 ≡ c → (lane : Lane) (bs : List ℕ)
+      → Short (length img) (n .rest .last) lane k → k + lane .done ≤ length bs
+      → ((i : ℕ) → i < k → Programs (λ j. inStage st (at j) was) (lane .block * (length img / blocks) + lane .at) (drop (lane .done) bs)
+      (length img) i)
+      → (img′ : List ℕ) (n′ : Numbers) → img′ ≡ laid lane bs k img → n′ ≡ staged st (at k) n
+      → Bursts k img was img′ (assemble n′ p u f)
+  spread st e at start lane bs short full each img′ n′ wrote moved =
+      let h : k ≤ length (drop (lane .done) bs) = simp length-drop (omega arith) in
       record {
-        answers = ap (λ (x : Numbers). answerIn (x .phase)) moved ∙ sym (ap answerIn copies);
-        runs = λ m d. ap (λ (x : Record). runFrom (k + m) d (stepped img x)) (sym same-stage)
-            ∙ glide was (short .target) k img (n .cursor) (short .same) (subst (λ (x : ℕ). k + n .cursor .at ≤ x) s (short .room))
-            (short .inside) held m d
-            ∙ ap₂ (λ (i : List ℕ) (x : Numbers). runFrom m (k + d) (stepped i (assemble x p u f))) (sym made) (sym moved);
+        answers = ap (λ (x : Numbers). answerIn (x .phase)) moved ∙ sym (ap answerIn e);
+        runs = λ m d. ap (λ (x : Record). runFrom (k + m) d (stepped img x)) (sym (own st e (at 0) start))
+            ∙ glide k (λ j. inStage st (at j) was) (lane .block * (length img / blocks) + lane .at) (drop (lane .done) bs) (length img) h each img
+            refl m d
+            ∙ ap₂ (λ (i : List ℕ) (x : Numbers). runFrom m (k + d) (stepped i (assemble x p u f))) (sym wrote) (sym moved);
       }
+
+  zero-on : (onBy 0 c ≡ c) × (stepsBy 0 c ≡ c)
+  zero-on = (
+    ap₂ (λ (x y : ℕ). cursor (c .index) x (c .id) (c .source) (c .size) y) (zero-add (c .at)) (zero-add (c .off)),
+    ap (λ (x : ℕ). cursor x (c .at) (c .id) (c .source) (c .size) (c .off)) (zero-add (c .index)),
+  )
+
+  pub copies-some : n .phase ≡ Busy Copy → Short (length img) (n .rest .last) (copyLane n) k → k + c .off ≤ length u
+      → (img′ : List ℕ) (n′ : Numbers) → img′ ≡ laid (copyLane n) u k img → n′ ≡ staged Copy (onBy k c) n
+      → Bursts k img was img′ (assemble n′ p u f)
+  copies-some e short full =
+      spread Copy e (λ i. onBy i c) (zero-on .0) (copyLane n) u short full (λ i g im l.
+      let b : ℕ = n .job .target * (length img / blocks) in
+      let s : suc (n .rest .last) / blocks ≡ length img / blocks = ap (λ (x : ℕ). x / blocks) (sym (short .same)) in
+      let room = short .room in
+      let inside = short .inside in
+      let x : suc (i + c .at) ≡ suc i + c .at = omega arith in
+      let y : suc (i + c .off) ≡ suc i + c .off = omega arith in
+      let shift : (o : ℕ) → o + (i + c .at) ≡ i + (o + c .at) = λ o. omega arith in (
+        refl,
+        copy-byte im was (onBy i c) (l ∙ short .same) (short .there) (subst (λ (z : ℕ). i + c .at < z) (sym s) (omega arith)) (omega arith)
+            ∙ ap₂ (λ (z w : ℕ). stepped (programAt im z w) (inStage Copy (nextByte (onBy i c)) was))
+            (ap (λ (z : ℕ). n .job .target * z + (i + c .at)) s ∙ shift b) (ith u (c .off) i)
+            ∙ ap₂ (λ (z w : ℕ). stepped (programAt im (i + (b + c .at)) (getD (drop (c .off) u) i 0))
+            (inStage Copy (cursor (c .index) z (c .id) (c .source) (c .size) w) was)) x y,
+      ))
+
+  pub appends-some : n .phase ≡ Busy Append → Short (length img) (n .rest .last) (appendLane n) k → k + c .index ≤ length f
+      → (img′ : List ℕ) (n′ : Numbers) → img′ ≡ laid (appendLane n) f k img → n′ ≡ staged Append (stepsBy k c) n
+      → Bursts k img was img′ (assemble n′ p u f)
+  appends-some e short full =
+      spread Append e (λ i. stepsBy i c) (zero-on .1) (appendLane n) f short full (λ i g im l.
+      let b : ℕ = n .rest .block * (length img / blocks) in
+      let s : suc (n .rest .last) / blocks ≡ length img / blocks = ap (λ (x : ℕ). x / blocks) (sym (short .same)) in
+      let room = short .room in
+      let inside = short .inside in
+      let x : suc (i + c .index) ≡ suc i + c .index = omega arith in
+      let shift : (o : ℕ) → o + (n .rest .end + (i + c .index)) ≡ i + (o + (n .rest .end + c .index)) = λ o. omega arith in (
+        refl,
+        append-byte im was (stepsBy i c) (l ∙ short .same) (short .there)
+            (subst (λ (z : ℕ). n .rest .end + (i + c .index) < z) (sym s) (omega arith)) (omega arith)
+            ∙ ap₂ (λ (z w : ℕ). stepped (programAt im z w) (inStage Append (nextIndex (stepsBy i c)) was))
+            (ap (λ (z : ℕ). n .rest .block * z + (n .rest .end + (i + c .index))) s ∙ shift b) (ith f (c .index) i)
+            ∙ ap (λ (z : ℕ). stepped (programAt im (i + (b + (n .rest .end + c .index))) (getD (drop (c .index) f) i 0))
+            (inStage Append (cursor z (c .at) (c .id) (c .source) (c .size) (c .off)) was)) x,
+      ))
 
 -- ---- a run from here
 

@@ -36,7 +36,7 @@ fn run_busy(
     let mut m = n;
     let mut steps: usize = 0;
     while steps < most {
-        let b = bursts::burst(image, m, unit, most - steps - 1);
+        let b = bursts::burst(image, m, unit, frame, most - steps - 1);
         let s = job::step_core(image, b.next, places, unit, frame);
         let answer = s.answer;
         match answer {

@@ -15,10 +15,22 @@ burst-spec =
     (λ c. search needs)
     (λ c κs. search needs)
     (λ c. search needs)
+    (λ c.
+    let burst-copy′ = c .before .before .burst-copy in
+    let args′ = c .before .before .before .before .before .before .before .before .before .before .args in
+    (burst-copy′ .ensures .0, λ p. burst-copy′ .ensures .1 p (now (args′ .frame))))
+    (λ c. search needs)
+    (λ c κs. search needs)
     (λ c. search needs)
     (λ c.
-    let args′ = c .before .before .before .before .before .args in
-    (omega arith, λ p f. no-burst (now (args′ .image)) (assemble (args′ .n) p (now (args′ .unit)) f)))
+    let burst-append′ = c .before .before .burst-append in
+    let args′ = c .before .before .before .before .before .before .before .before .before .before .args in
+    (burst-append′ .ensures .0, λ p. burst-append′ .ensures .1 p (now (args′ .unit))))
+    (λ c κs. search needs)
     (λ c.
-    let args′ = c .before .before .args in
-    (omega arith, λ p f. no-burst (now (args′ .image)) (assemble (args′ .n) p (now (args′ .unit)) f))))
+    let args′ = c .before .before .before .before .before .before .args in
+    rw (c .no-burst .ensures) (omega arith, λ p. no-burst (now (args′ .image)) (assemble (args′ .n) p (now (args′ .unit)) (now (args′ .frame)))))
+    (λ c κs. search needs)
+    (λ c.
+    let args′ = c .before .before .before .args in
+    rw (c .no-burst2 .ensures) (omega arith, λ p. no-burst (now (args′ .image)) (assemble (args′ .n) p (now (args′ .unit)) (now (args′ .frame))))))

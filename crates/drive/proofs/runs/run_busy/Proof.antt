@@ -37,13 +37,15 @@ run-busy-spec =
     (λ c. search needs)
     (λ c.
     let burst′ = c .before .before .before .before .before .before .before .before .before .before .before .burst in
-    let loop-test′ = c .before .before .before .before .before .before .before .before .before .before .before .before .before .before .loop-test in
+    let loop-test′ =
+    c .before .before .before .before .before .before .before .before .before .before .before .before .before .before .loop-test in
     let good′ =
     c .before .before .before .before .before .before .before .before .before .before .before .before .before .before .before .before .before .good in
     let a = burst′ .ensures .0 in let t = loop-test′ .taken in let g = good′ in search needs)
     (λ c.
     let burst′ = c .before .before .before .before .before .before .before .before .before .before .before .burst in
-    let loop-test′ = c .before .before .before .before .before .before .before .before .before .before .before .before .before .before .loop-test in
+    let loop-test′ =
+    c .before .before .before .before .before .before .before .before .before .before .before .before .before .before .loop-test in
     let good′ =
     c .before .before .before .before .before .before .before .before .before .before .before .before .before .before .before .before .before .good in
     let a = burst′ .ensures .0 in let t = loop-test′ .taken in let g = good′ in search needs)
@@ -51,16 +53,18 @@ run-busy-spec =
     (λ c.
     let step-core′ = c .before .before .before .before .before .before .step-core in
     let burst′ = c .before .before .before .before .before .before .before .before .before .before .before .burst in
-    let loop-test′ = c .before .before .before .before .before .before .before .before .before .before .before .before .before .before .loop-test in
+    let loop-test′ =
+    c .before .before .before .before .before .before .before .before .before .before .before .before .before .before .loop-test in
     let loop′ = c .before .before .before .before .before .before .before .before .before .before .before .before .before .before .before .loop in
     let args′ =
     c .before .before .before .before .before .before .before .before .before .before .before .before .before .before .before .before .before .args in
     let x = run-again (runOn (args′ .most) (now (args′ .image)) (assemble (args′ .n) (now (args′ .places)) (now (args′ .unit)) (now
     (args′ .frame)))) (args′ .most) (loop′ .steps) (burst′ .result .steps) (loop′ .image) (assemble (loop′ .m) (now (args′ .places))
     (loop′ .unit) (now (args′ .frame))) _ _ (loop-test′ .taken) (burst′ .ensures .0) (loop′ .inv .0) (loop′ .inv .1) (burst′ .ensures .1 (now
-    (args′ .places)) (now (args′ .frame))) (step-core′ .result) (now (args′ .places)) _ (now (args′ .frame)) _ (step-core′ .ensures)
-    (c .before .before .enum-told .given .1) in let a = burst′ .ensures .0 in let t = loop-test′ .taken in
-    (x .0, x .1, omega arith, step-core′ .kept .0 ∙ burst′ .kept .0 ∙ loop′ .inv .3))
+    (args′ .places))) (step-core′ .result) (now (args′ .places)) _ (now (args′ .frame)) _ (step-core′ .ensures)
+    (c .before .before .enum-told .given .1) in
+    let a = burst′ .ensures .0 in
+    let t = loop-test′ .taken in (x .0, x .1, omega arith, step-core′ .kept .0 ∙ burst′ .kept .0 ∙ loop′ .inv .3))
     (λ c. search needs)
     (λ c.
     let burst′ = c .before .before .before .before .before .before .before .before .before .before .burst in
@@ -90,8 +94,8 @@ run-busy-spec =
     c .before .before .before .before .before .before .before .before .before .before .before .before .before .before .before .before .args in
     run-ends (runOn (args′ .most) (now (args′ .image)) (assemble (args′ .n) (now (args′ .places)) (now (args′ .unit)) (now (args′ .frame))))
     (args′ .most) (loop′ .steps) (burst′ .result .steps) (loop′ .image) (assemble (loop′ .m) (now (args′ .places)) (loop′ .unit) (now
-    (args′ .frame))) _ _ (loop-test′ .taken) (burst′ .ensures .0) (loop′ .inv .0) (loop′ .inv .1) (burst′ .ensures .1 (now (args′ .places))
-    (now (args′ .frame))) (step-core′ .result) (now (args′ .places)) _ (now (args′ .frame)) _ (step-core′ .ensures) (c .before .enum-told2 .given .1))
+    (args′ .frame))) _ _ (loop-test′ .taken) (burst′ .ensures .0) (loop′ .inv .0) (loop′ .inv .1) (burst′ .ensures .1 (now (args′ .places)))
+    (step-core′ .result) (now (args′ .places)) _ (now (args′ .frame)) _ (step-core′ .ensures) (c .before .enum-told2 .given .1))
     (λ c. search needs)
     (λ c.
     let burst′ = c .before .before .before .before .before .before .before .before .before .before .burst in
@@ -115,9 +119,8 @@ run-busy-spec =
     c .before .before .before .before .before .before .before .before .before .before .before .before .before .before .before .before .args in
     run-stops (runOn (args′ .most) (now (args′ .image)) (assemble (args′ .n) (now (args′ .places)) (now (args′ .unit)) (now (args′ .frame))))
     (args′ .most) (loop′ .steps) (burst′ .result .steps) (loop′ .image) (assemble (loop′ .m) (now (args′ .places)) (loop′ .unit) (now
-    (args′ .frame))) _ _ (loop-test′ .taken) (burst′ .ensures .0) (loop′ .inv .0) (loop′ .inv .1) (burst′ .ensures .1 (now (args′ .places))
-    (now (args′ .frame))) (step-core′ .result) (now (args′ .places)) _ (now (args′ .frame)) _ (step-core′ .ensures) _
-    (c .before .enum-told3 .given .1))
+    (args′ .frame))) _ _ (loop-test′ .taken) (burst′ .ensures .0) (loop′ .inv .0) (loop′ .inv .1) (burst′ .ensures .1 (now (args′ .places)))
+    (step-core′ .result) (now (args′ .places)) _ (now (args′ .frame)) _ (step-core′ .ensures) _ (c .before .enum-told3 .given .1))
     (λ c κs. search needs)
     (λ c. search needs)
     (λ c.

@@ -1,4 +1,4 @@
--- The cursor some bytes on.
+-- A copy some bytes on.
 use mathlib.Core.Path.{_≡_, ap₂}
 use Prim.Native.Nat.{ℕ, _+_}
 use native.Mathlib.Omega.{arith}
@@ -6,11 +6,11 @@ use Rattle.board.specs.declared.Stage.the-variants.{Copy}
 use Rattle.board.specs.Record.{cursor}
 use Rattle.job.specs.Code.{staged}
 use borrow.Author.Needs.{needs}
-use Rattle.drive.proofs.bursts.past_bytes.Statement.{statement}
-use Rattle.drive.proofs.bursts.past_bytes.Tie as tie
+use Rattle.drive.proofs.bursts.copied.Statement.{statement}
+use Rattle.drive.proofs.bursts.copied.Tie as tie
 
-pub past-bytes-spec : {M : Type 1} → statement M
-past-bytes-spec = tie.close (tie.spec
+pub copied-spec : {M : Type 1} → statement M
+copied-spec = tie.close (tie.spec
     (λ c. search needs)
     (λ c. search needs)
     (λ c. search needs)
