@@ -44,18 +44,14 @@ fn run_busy(
                 m = s.next;
                 steps = steps + b.steps + 1;
             }
-            Answer::Done => {
-                return Ran {
-                    steps: steps + b.steps + 1,
-                    stepped: s,
-                };
-            }
-            Answer::Refused(_) => {
-                return Ran {
-                    steps: steps + b.steps,
-                    stepped: s,
-                };
-            }
+            Answer::Done => return Ran {
+                steps: steps + b.steps + 1,
+                stepped: s,
+            },
+            Answer::Refused(_) => return Ran {
+                steps: steps + b.steps,
+                stepped: s,
+            },
         }
     }
     Ran {
