@@ -1,6 +1,6 @@
 -- What is next, by the step's place; bytes programmed one by one.
-use mathlib.Core.Path.{_≡_, refl, sym, ap, ap₂, _∙_}
-use mathlib.Core.List.{List, []}
+use mathlib.Core.Path.{_≡_, sym, ap, ap₂, _∙_}
+use mathlib.Core.List.{List}
 use mathlib.Core.Bool.{Bool, true, _&&_, cond}
 use Prim.Native.Nat.{ℕ, suc, _+_, _/_, _<_}
 use native.Mathlib.Omega.{arith}
@@ -14,7 +14,6 @@ use Rattle.wire.specs.declared.Refusal.the-variants as refusal
 use Rattle.board.specs.declared.Stage.{Stage}
 use Rattle.board.specs.declared.Phase.the-variants.{Busy}
 use Rattle.board.specs.declared.Record.{Record}
-use Rattle.board.specs.declared.Next.{Next}
 use Rattle.board.specs.declared.Next.the-variants as next
 use Rattle.board.specs.Step.{action}
 use Rattle.board.specs.Drive.{placed, nextIn}

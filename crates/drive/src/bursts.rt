@@ -1,10 +1,9 @@
 // The bytes of a frame that is copied or appended, programmed one after the other.
 ghost use mathlib.Core.Path.{_≡_};
 ghost use mathlib.Core.List.{List};
-ghost use Prim.Native.Nat.{ℕ, suc, _+_, _-_, _<_, _≤_, min};
+ghost use Prim.Native.Nat.{ℕ, _+_, _-_, _<_, _≤_};
 ghost use lib.ListN.{length};
-ghost use Rattle.flash.specs.Flash.{blocks, writes, writeAll};
-ghost use Rattle.frame.specs.Frame.{maxFrame};
+ghost use Rattle.flash.specs.Flash.{writes, writeAll};
 ghost use Rattle.board.specs.declared.Stage.the-variants.{Copy, Append};
 ghost use Rattle.board.specs.declared.Phase.the-variants.{Busy};
 ghost use Rattle.job.specs.Code.{assemble, staged};
