@@ -1,9 +1,17 @@
 // The record from bytes: every content of every length is some record.
+mod drive;
+
 use board::Cursor;
 use board::Job;
 use board::Phase;
 use board::Record;
 use board::Stage;
+pub use drive::append;
+pub use drive::append_byte;
+pub use drive::numbers;
+pub use drive::places;
+pub use drive::unit;
+pub use drive::unit_byte;
 use flash::BLOCKS;
 use flash::byte_at;
 use frame::MAX_FRAME;
