@@ -1,3 +1,4 @@
+-- The record's numbers, part by part.
 use Rattle.lent.specs.Layout.{recordIn}
 use borrow.Author.Needs.{needs}
 use Rattle.unpack.proofs.drive.numbers.Statement.{statement}
