@@ -196,7 +196,7 @@ fn in_job(phase: Phase) -> bool
 }
 
 // A job began, went on or ended.
-fn changes(phase: Phase, answer: Answer) -> bool
+pub fn changes(phase: Phase, answer: Answer) -> bool
     ensures { λ r. ⌜ r ≡ changes phase answer ⌝ }
 {
     match answer {

@@ -2,7 +2,7 @@
 ghost use mathlib.Core.Path.{_≡_};
 ghost use lib.ListN.{drop, getD};
 ghost use Rattle.frame.specs.Frame.{maxFrame};
-ghost use Rattle.job.specs.Code.{numbersOf};
+ghost use Rattle.job.specs.Code.{numbersOf, inHand};
 ghost use Rattle.lent.specs.Layout.{bytesIn, recordIn};
 use crate::cursor_in;
 use crate::frame_in;
@@ -11,7 +11,9 @@ use crate::phase_in;
 use crate::places_in;
 use crate::tail;
 use crate::word_in;
+use board::Phase;
 use board::Rest;
+use board::Stage;
 use flash::byte_at;
 use frame::MAX_FRAME;
 use job::records::Numbers;
@@ -63,14 +65,34 @@ fn frame_byte(bytes: &[u8], at: usize, i: u8) -> u8
     0
 }
 
-pub fn unit_byte(bytes: &[u8], i: u8) -> u8
+fn unit_byte(bytes: &[u8], i: u8) -> u8
     ensures { λ r. ⌜ r ≡ getD (recordIn (now (bytes .entry)) .unit) i 0 ⌝ }
 {
     frame_byte(bytes, lent::UNIT_AT, i)
 }
 
-pub fn append_byte(bytes: &[u8], i: u8) -> u8
+fn append_byte(bytes: &[u8], i: u8) -> u8
     ensures { λ r. ⌜ r ≡ getD (recordIn (now (bytes .entry)) .frame) i 0 ⌝ }
 {
     frame_byte(bytes, lent::FRAME_AT, i)
+}
+
+// The byte that the next step programs.
+pub fn in_hand(n: Numbers, bytes: &[u8]) -> u8
+    ensures { λ r. ⌜ r ≡ inHand n (recordIn (now (bytes .entry)) .unit) (recordIn (now (bytes .entry)) .frame) ⌝ }
+{
+    let phase = n.phase;
+    let cursor = n.cursor;
+    match phase {
+        Phase::Unmounted => return 0,
+        Phase::Idle => return 0,
+        Phase::Busy(stage) => match stage {
+            Stage::Wipe => return 0,
+            Stage::Open => return 0,
+            Stage::Copy => return unit_byte(bytes, cursor.off),
+            Stage::Seal => return 0,
+            Stage::Drop => return 0,
+            Stage::Append => return append_byte(bytes, cursor.index),
+        },
+    }
 }
