@@ -21,7 +21,7 @@ length-bytes-in n l = rw (length-append, length-replicate {A = ℕ}) (simp lengt
 
 -- ---- a part that is all there
 
-words-own : (n : ℕ) (l : List ℕ) → ((i : ℕ) → getD l i 0 < 256) → 2 * n ≤ length l → wordBytes (wordsIn n l) ≡ take (2 * n) l
+pub words-own : (n : ℕ) (l : List ℕ) → ((i : ℕ) → getD l i 0 < 256) → 2 * n ≤ length l → wordBytes (wordsIn n l) ≡ take (2 * n) l
 unfolding wordsIn wordBytes
 words-own zero l b h = refl
 words-own (suc n) [] b h = absurd (omega arith)
@@ -32,7 +32,7 @@ words-own (suc n) (x ∷ y ∷ l) b h =
     let e : 2 * suc n ≡ suc (suc (2 * n)) = omega arith in
     rw (low, high, words-own n l (λ i. b (suc (suc i))) (omega arith)) (ap (λ (k : ℕ). take k (x ∷ y ∷ l)) (sym e))
 
-bytes-own : (n : ℕ) (l : List ℕ) → n ≤ length l → bytesIn n l ≡ take n l
+pub bytes-own : (n : ℕ) (l : List ℕ) → n ≤ length l → bytesIn n l ≡ take n l
 bytes-own n l h = let z : n - length (take n l) ≡ 0 = simp length-take (omega arith) in rw (z, append-nil)
 
 -- only the bytes that are there count
