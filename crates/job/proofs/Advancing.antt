@@ -3,7 +3,7 @@ use mathlib.Core.Path.{_≡_, refl, sym, ap, subst, _∙_}
 use mathlib.Core.List.{List, []}
 use mathlib.Core.Option.{Option, none, some}
 use mathlib.Core.Bool.{Bool, true, false, not, cond, _&&_}
-use Prim.Native.Nat.{ℕ, suc, _≤_, _<_}
+use Prim.Native.Nat.{ℕ, suc, _/_, _≤_, _<_}
 use native.Mathlib.Omega.{arith}
 use lib.Dec.{eqb, ltb}
 use lib.ListN.{length}
@@ -18,10 +18,11 @@ use Rattle.wire.specs.declared.Refusal.the-variants as refusal
 use Rattle.board.specs.declared.Stage.{Stage}
 use Rattle.board.specs.declared.Stage.the-variants.{Wipe, Open, Copy, Seal, Drop, Append}
 use Rattle.board.specs.declared.Phase.{Phase}
-use Rattle.board.specs.declared.Phase.the-variants.{Unmounted, Idle, Busy}
+use Rattle.board.specs.declared.Phase.the-variants.{Busy}
 use Rattle.board.specs.declared.Record.{Record}
-use Rattle.board.specs.Record.{cursor, inStage, Out, refuse, answerOf}
-use Rattle.board.specs.Step.{loadOr, enterCopy, action, nextIndex, nextByte, pastFrame, onward, advance, stepped, stepBusy, stepIn}
+use Rattle.board.specs.Record.{cursor, inStage, Out, out, refuse, answerOf}
+use Rattle.board.specs.Step.{loadOr, enterCopy, action, nextIndex, nextByte, pastFrame, onward, advance, stepped, stepBusy}
+use Rattle.board.specs.Drive.{madeIn}
 use Rattle.board.proofs.Outcomes.{nextFor}
 use Rattle.job.specs.declared.records.Numbers.{Numbers}
 use Rattle.job.specs.declared.records.Stepped.{Stepped}
@@ -170,18 +171,53 @@ module _ (p u f : List ℕ) (st : Stage) (img : List ℕ) (n : Numbers) where
       (subst (λ (i : List ℕ). Steps (answered m) (m .stepped .ended) (reached m img′ p u f) img′ (stepped i (advance st i before))) k
       (record { image = refl; answers = l .answers; gives = l .gives; goes = l .goes }))
 
--- ---- a step call on any record: the phase as a variable of its own
+-- ---- a step made by the caller
 
-module _ (img : List ℕ) (r : Record) (ph : Phase) where
-  pub unmounted-stays : ph ≡ Unmounted → Steps Done false r img (stepIn ph img r)
-  unmounted-stays e = subst (λ (x : Phase). Steps Done false r img (stepIn x img r)) (sym e) (record { image = refl; answers = refl; gives = refl; goes = λ e. refl })
+-- the place does not go by the byte
+pub same-place : (st : Stage) (s : ℕ) (n : Numbers) (b : ℕ) (p u f : List ℕ)
+    → within s (actionBy st n b) ≡ within s (action st (assemble n p u f))
+same-place Wipe s n b p u f = refl
+same-place Open s n b p u f = refl
+same-place Copy s n b p u f = refl
+same-place Seal s n b p u f = refl
+same-place Drop s n b p u f = refl
+same-place Append s n b p u f = refl
 
-  pub idle-stays : ph ≡ Idle → Steps Done false r img (stepIn ph img r)
-  idle-stays e = subst (λ (x : Phase). Steps Done false r img (stepIn x img r)) (sym e) (record { image = refl; answers = refl; gives = refl; goes = λ e. refl })
+module _ (img p u f : List ℕ) (st : Stage) (n : Numbers) (len b : ℕ) (same : length img ≡ len) where
+  abbrev standing : Record
+  standing = assemble n p u f
 
-  pub busy-steps : (st : Stage) → ph ≡ Busy st → (a : Answer) (b : Bool) (q : Record) (img′ : List ℕ) → Steps a b q img′ (stepBusy st img r)
-      → Steps a b q img′ (stepIn ph img r)
-  busy-steps st e a b q img′ x = subst (λ (y : Phase). Steps a b q img′ (stepIn y img r)) (sym e) x
+  abbrev taken : Bool
+  taken = eqb (length img) (suc (n .rest .last)) && within (sizeOf img) (action st standing)
+
+  is-taken : (eqb len (suc (n .rest .last)) && within (len / blocks) (actionBy st n b)) ≡ taken
+  is-taken =
+      ap (λ (x : Bool). eqb len (suc (n .rest .last)) && x) (same-place st (len / blocks) n b p u f)
+      ∙ ap (λ (l : ℕ). eqb l (suc (n .rest .last)) && within (l / blocks) (action st standing)) (sym same)
+
+  pub made-done : (eqb len (suc (n .rest .last)) && within (len / blocks) (actionBy st n b)) ≡ true
+      → (m : Moved) → Moves img p u f m (advance st img standing)
+      → Steps (answered m) (m .stepped .ended) (reached m img p u f) img (madeIn (Busy st) img standing)
+  made-done e m l =
+      subst (Steps (answered m) (m .stepped .ended) (reached m img p u f) img)
+      (when-true taken (stepped img (advance st img standing)) (refuse refusal.Stale img standing []) (sym is-taken ∙ e))
+      (record { image = refl; answers = l .answers; gives = l .gives; goes = l .goes })
+
+  pub made-stale : (eqb len (suc (n .rest .last)) && within (len / blocks) (actionBy st n b)) ≡ false
+      → Steps (Refused refusal.Stale) false standing img (madeIn (Busy st) img standing)
+  made-stale e =
+      subst (Steps (Refused refusal.Stale) false standing img)
+      (when-false taken (stepped img (advance st img standing)) (refuse refusal.Stale img standing []) (sym is-taken ∙ e))
+      (record { image = refl; answers = refl; gives = refl; goes = λ x. refl })
+
+-- ---- a call on any record: the phase as a variable of its own
+
+module _ (call : Phase → Out) (ph x : Phase) (e : ph ≡ x) where
+  pub in-phase : (a : Answer) (b : Bool) (r : Record) (img : List ℕ) → Steps a b r img (call x) → Steps a b r img (call ph)
+  in-phase a b r img s = subst (λ (y : Phase). Steps a b r img (call y)) (sym e) s
+
+pub stays : (img : List ℕ) (r : Record) → Steps Done false r img (out Done img r [])
+stays img r = record { image = refl; answers = refl; gives = refl; goes = λ e. refl }
 
 pub busy-hand : (n : Numbers) (ph : Phase) (st : Stage) (u f : List ℕ) → ph ≡ Busy st → {b : ℕ} → b ≡ inHandIn ph n u f → b ≡ inHandAt st n u f
 busy-hand n ph st u f e h = h ∙ ap (λ (x : Phase). inHandIn x n u f) e

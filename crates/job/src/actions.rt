@@ -1,7 +1,10 @@
 // The flash step that a job does next, and doing it.
 ghost use mathlib.Core.Path.{_≡_};
+ghost use mathlib.Core.Bool.{_&&_};
+ghost use Prim.Native.Nat.{suc, _/_};
+ghost use lib.Dec.{eqb, ltb};
 ghost use lib.ListN.{getD};
-ghost use Rattle.flash.specs.Flash.{program, erase, sizeOf, within, writeStep};
+ghost use Rattle.flash.specs.Flash.{program, erase, blocks, sizeOf, within, writeStep};
 ghost use Rattle.journal.specs.Block.{openWrite, sealWrite};
 ghost use Rattle.job.specs.Code.{actionBy, flashStep, did};
 use crate::header;
@@ -123,5 +126,30 @@ pub fn act(image: &mut [u8], a: Action) -> bool
     match a {
         Action::Program(block, at, byte) => return program_in(image, block, at, byte),
         Action::Erase(block) => return erase_in(image, block),
+    }
+}
+
+// ---- the step's place, where the caller does it
+
+fn lies_in(size: usize, block: u8, at: usize) -> bool
+    ensures { λ r. ⌜ r ≡ (ltb block blocks && ltb at size) ⌝ }
+{
+    if block < header::BLOCK_COUNT {
+        return at < size;
+    }
+    false
+}
+
+// An image of a length is the record's, and the step's place lies in it.
+pub fn within_image(len: usize, last: u16, a: Action) -> bool
+    ensures { λ r. ⌜ r ≡ (eqb len (suc last) && within (len / blocks) (flashStep a)) ⌝ }
+{
+    let size = len / BLOCKS;
+    if len != last as usize + 1 {
+        return false;
+    }
+    match a {
+        Action::Program(block, at, _) => return lies_in(size, block, at),
+        Action::Erase(block) => return lies_in(size, block, 0),
     }
 }

@@ -8,6 +8,9 @@ ghost use Rattle.frame.specs.Code.{valueLen};
 ghost use Rattle.fetch.specs.Fetch.{loadIn};
 ghost use Rattle.wire.specs.declared.Answer.the-variants.{Done, Refused};
 ghost use Rattle.wire.specs.declared.Refusal.the-variants as refusal;
+ghost use Rattle.board.specs.declared.Phase.the-variants.{Busy};
+ghost use Rattle.board.specs.Drive.{madeIn, madeOn};
+ghost use Rattle.board.specs.Record.{Out};
 ghost use Rattle.board.specs.Step.{loaded, enterCopy, stepBusy, stepOn};
 ghost use Rattle.job.specs.Code.{assemble, LeadsTo, staying, still, inHandAt, inHand, leaves, reached, answered, Steps};
 use crate::Outcome;
@@ -115,6 +118,34 @@ pub fn try_step(image: &mut [u8], n: Numbers, byte: u8) -> Moved
     }
 }
 
+// ---- a step that the caller made
+
+fn made_busy(len: usize, stage: Stage, n: Numbers) -> Moved
+    ensures { λ r. ⌜ ((img p u f : List ℕ) → length img ≡ len → Steps (answered r) (r .stepped .ended) (reached r img p u f) img
+        (madeIn (Busy stage) img (assemble n p u f))) ⌝ }
+{
+    let rest = n.rest;
+    if actions::within_image(len, rest.last, actions::next_action(stage, n, 0)) {
+        return moves::advance(stage, n);
+    }
+    stale(n)
+}
+
+// The record moves on by a step made to an image of a length: no array of it is read, nor the image.
+pub fn made_of(len: usize, n: Numbers) -> Moved
+    ensures { λ r. ⌜ ((img p u f : List ℕ) → length img ≡ len → Steps (answered r) (r .stepped .ended) (reached r img p u f) img
+        (madeOn img (assemble n p u f))) ⌝ }
+{
+    let phase = n.phase;
+    match phase {
+        Phase::Unmounted => return rests(n),
+        Phase::Idle => return rests(n),
+        Phase::Busy(stage) => return made_busy(len, stage, n),
+    }
+}
+
+// ---- with the record's arrays
+
 // The byte that the next step programs, of the frame that is copied or appended.
 pub fn in_hand(n: Numbers, unit: &[u8; MAX_FRAME], frame: &[u8; MAX_FRAME]) -> u8
     ensures { λ r. ⌜ r ≡ inHand n (now (unit .entry)) (now (frame .entry)) ⌝ }
@@ -135,6 +166,21 @@ pub fn in_hand(n: Numbers, unit: &[u8; MAX_FRAME], frame: &[u8; MAX_FRAME]) -> u
     }
 }
 
+// The next frame is loaded where one is due.
+pub fn load_due(image: &[u8], m: Moved, places: &[u16; 256], unit: &mut [u8; MAX_FRAME]) -> Stepped
+    ensures { λ r. ⌜ ((f : List ℕ) (o : Out)
+        → Steps (answered m) (m .stepped .ended) (reached m (now (image .entry)) (now (places .entry)) (now (unit .entry)) f)
+        (now (image .entry)) o
+        → Steps (r .answer) (r .ended) (leaves r (now (places .entry)) (now (unit .exit)) f) (now (image .entry)) o) ⌝ }
+{
+    let s = m.stepped;
+    if m.loads {
+        let next = s.next;
+        return enter_copy(image, next, places, unit);
+    }
+    s
+}
+
 // A step by a record's numbers, its arrays lent. Where the job ended the arrays are the caller's to clear.
 pub fn step_core(
     image: &mut [u8],
@@ -148,12 +194,7 @@ pub fn step_core(
 {
     let byte = in_hand(n, unit, frame);
     let m = try_step(image, n, byte);
-    let s = m.stepped;
-    if m.loads {
-        let next = s.next;
-        return enter_copy(image, next, places, unit);
-    }
-    s
+    load_due(image, m, places, unit)
 }
 
 // A step call.

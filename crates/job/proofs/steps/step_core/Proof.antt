@@ -1,5 +1,4 @@
 -- A step call by a record's numbers, its arrays lent.
-use Rattle.job.proofs.Advancing.{none-due, one-due}
 use denote.Ref.{now}
 use borrow.Author.Needs.{needs}
 use Rattle.job.proofs.steps.step_core.Statement.{statement}
@@ -7,23 +6,13 @@ use Rattle.job.proofs.steps.step_core.Tie as tie
 
 pub step-core-spec : {M : Type 1} → statement M
 step-core-spec =
-    tie.close
-    (tie.spec
+    tie.close (tie.spec
     (λ c κs. search needs)
     (λ c κs. search needs)
     (λ c κs. search needs)
     (λ c. search needs)
     (λ c.
-    let if1′ = c .before .before .before .before .if1 in
-    let try-step′ = c .before .before .before .before .before .before .before .before .try-step in
-    let in-hand′ = c .before .before .before .before .before .before .before .before .before .before .in-hand in
-    let args′ = c .before .before .before .before .before .before .before .before .before .before .before .before .before .args in
-    one-due (now (args′ .places)) (now (args′ .unit)) (now (args′ .frame)) _ _ (try-step′ .result)
-    (try-step′ .ensures _ _ _ (in-hand′ .ensures)) (if1′ .taken) _ (c .enter-copy .result) (c .enter-copy .ensures (now (args′ .frame))))
-    (λ c. search needs)
-    (λ c.
-    let try-step′ = c .before .before .before .before .try-step in
-    let in-hand′ = c .before .before .before .before .before .before .in-hand in
-    let args′ = c .before .before .before .before .before .before .before .before .before .args in
-    none-due (now (args′ .places)) (now (args′ .unit)) (now (args′ .frame)) _ _ (try-step′ .result)
-    (try-step′ .ensures _ _ _ (in-hand′ .ensures)) (c .if1 .left)))
+    let try-step′ = c .before .before .before .before .before .try-step in
+    let in-hand′ = c .before .before .before .before .before .before .before .in-hand in
+    let args′ = c .before .before .before .before .before .before .before .before .before .before .args in
+    c .load-due .ensures (now (args′ .frame)) _ (try-step′ .ensures _ _ _ (in-hand′ .ensures))))
