@@ -4,6 +4,7 @@ use mathlib.Core.List.{List}
 use mathlib.Core.Bool.{Bool, true, false, true≢false, cond}
 use Prim.Native.Nat.{ℕ}
 use lib.ListN.{length}
+use borrow.Author.Tests.{eq-eqb}
 use Rattle.flash.proofs.Cases.{on-test}
 use Rattle.wire.specs.declared.Answer.{Answer}
 use Rattle.wire.specs.declared.Answer.the-variants.{More}
@@ -11,15 +12,16 @@ use Rattle.wire.specs.Answer.{edgeNumber}
 use Rattle.board.specs.declared.Phase.{Phase}
 use Rattle.board.specs.declared.Record.{Record}
 use Rattle.board.specs.Record.{Out}
-use Rattle.board.specs.Step.{enterCopy}
+use Rattle.board.specs.Step.{enterCopy, stepOn}
 use Rattle.job.specs.declared.records.Numbers.{Numbers}
 use Rattle.job.specs.declared.records.Stepped.{Stepped}
 use Rattle.job.specs.declared.moves.Moved.{Moved}
 use Rattle.job.specs.Code.{assemble, LeadsTo, reachedIf, answeredIf, answered, Steps}
 use Rattle.lent.specs.Layout.{recordSize, recordIn, recordBytes, recordInto}
 use Rattle.pack.specs.Code.{loadedIn, leftIn, Holds, changes}
-use Rattle.grommetide.specs.Edge.{written}
-use Rattle.grommetide.specs.Code.{over, reachedIn, Went}
+use Rattle.midframe.specs.Code.{Made}
+use Rattle.grommetide.specs.Edge.{edgeStep, written}
+use Rattle.grommetide.specs.Code.{over, reachedIn, Went, DoesStep}
 use Rattle.grommetide.proofs.Buffers.{filled}
 use Rattle.grommetide.proofs.Kept.{Keeps}
 
@@ -82,3 +84,17 @@ driven img b after n m o l s k w =
           (λ t. w .back (ap (changes p) (s .answers) ∙ t) l ∙ s .gives)
           (λ t. ap recordIn (e ∙ ap (λ (d : Bool). cond d (recordBytes (o .board)) b) t) ∙ sym (k t)),
     )
+
+-- a step in the middle of a frame
+pub middle : (img b img′ b′ : List ℕ) (n : ℕ) → n ≡ edgeNumber More → Made img b img′ b′ → DoesStep img b n img′ b′
+unfolding edgeStep
+middle img b img′ b′ n e m =
+    let o = stepOn img (recordIn b) in
+    record {
+      answer = rw (eq-eqb _ _ (m .size)) (e ∙ ap edgeNumber (sym (m .answers)));
+      image = rw (eq-eqb _ _ (m .size)) (m .image);
+      board =
+          rw (eq-eqb _ _ (m .size))
+          (m .bytes ∙ sym (ap (λ (a : Answer). cond (changes (recordIn b .phase) a) (recordBytes (o .board)) b) (m .answers)));
+      back = λ _. m .back;
+    }

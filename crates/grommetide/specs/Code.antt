@@ -7,11 +7,13 @@ use lib.ListN.{length}
 use Rattle.wire.specs.Answer.{edgeNumber}
 use Rattle.board.specs.declared.Phase.{Phase}
 use Rattle.board.specs.declared.Record.{Record}
+use Rattle.board.specs.Step.{stepOn}
 use Rattle.job.specs.declared.records.Numbers.{Numbers}
 use Rattle.job.specs.declared.moves.Moved.{Moved}
 use Rattle.job.specs.Code.{assemble, reached, answered}
 use Rattle.lent.specs.Layout.{recordSize, recordIn, recordInto}
 use Rattle.pack.specs.Code.{changes}
+use Rattle.grommetide.specs.Edge.{edgeStep, ReadsBack}
 
 -- numbers over a buffer's arrays
 abbrev pub over : Numbers → List ℕ → Record
@@ -26,3 +28,10 @@ pub record Went (img : List ℕ) (p : Phase) (m : Moved) (b : List ℕ) (n : ℕ
   pub answer : n ≡ edgeNumber (answered m)
   pub bytes : after ≡ cond (changes p (answered m)) (recordInto (reachedIn m img b) b) b
   pub back : changes p (answered m) ≡ true → length b ≡ recordSize → recordIn after ≡ reachedIn m img b
+
+-- a step call
+pub record DoesStep (img b : List ℕ) (n : ℕ) (img′ b′ : List ℕ) : Type 0 where
+  pub answer : n ≡ edgeStep img b .answer
+  pub image : img′ ≡ edgeStep img b .image
+  pub board : b′ ≡ edgeStep img b .board
+  pub back : ReadsBack b b′ (stepOn img (recordIn b) .board)

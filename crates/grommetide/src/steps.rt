@@ -1,10 +1,11 @@
 // Steps on the record's bytes: its numbers are read and written back, its arrays only where a frame is loaded.
 ghost use mathlib.Core.Path.{_≡_};
 ghost use Rattle.board.specs.Step.{enterCopy, stepOn};
-ghost use Rattle.lent.specs.Layout.{recordIn};
+ghost use lib.ListN.{length};
+ghost use Rattle.lent.specs.Layout.{recordSize, recordIn};
 ghost use Rattle.pack.specs.Code.{Holds};
 ghost use Rattle.grommetide.specs.Edge.{edgeStep, ReadsBack};
-ghost use Rattle.grommetide.specs.Code.{over, Went};
+ghost use Rattle.grommetide.specs.Code.{over, Went, DoesStep};
 use crate::WRONG_RECORD;
 use board::Phase;
 use job::Moved;
@@ -40,6 +41,17 @@ fn go_on(image: &[u8], phase: Phase, m: Moved, board: &mut [u8]) -> u8
     wire::number(answer)
 }
 
+// A step by the record's numbers.
+fn step_numbers(image: &mut [u8], board: &mut [u8]) -> u8
+    requires { ⌜ length (now board) ≡ recordSize ⌝ }
+    ensures { λ r. ⌜ DoesStep (now (image .entry)) (now (board .entry)) r (now (image .exit)) (now (board .exit)) ⌝ }
+{
+    let n = unpack::numbers(board);
+    let phase = n.phase;
+    let m = job::try_step(image, n, unpack::in_hand(n, board));
+    go_on(image, phase, m, board)
+}
+
 #[no_mangle]
 pub extern "C" fn grommetide_step(image: &mut [u8], board: &mut [u8]) -> u8
     ensures { λ r. ⌜ (r ≡ edgeStep (now (image .entry)) (now (board .entry)) .answer)
@@ -51,8 +63,8 @@ pub extern "C" fn grommetide_step(image: &mut [u8], board: &mut [u8]) -> u8
     if board.len() != RECORD_SIZE {
         return WRONG_RECORD;
     }
-    let n = unpack::numbers(board);
-    let phase = n.phase;
-    let m = job::try_step(image, n, unpack::in_hand(n, board));
-    go_on(image, phase, m, board)
+    if midframe::try_byte(image, board) {
+        return wire::number(Answer::More);
+    }
+    step_numbers(image, board)
 }

@@ -3,18 +3,24 @@ use mathlib.Core.Path.{_≡_, refl, sym, ap, _∙_}
 use mathlib.Core.List.{List, [], _∷_, _++_, append-assoc}
 use Prim.Native.Nat.{ℕ, zero, suc, _+_, _*_, _/_, _%_, _≤_, _<_}
 use native.Mathlib.Omega.{arith}
+use native.Mathlib.Nat.{zero-add}
 use native.Mathlib.Numerals.{add-one}
 use lib.ListN.{length, getD, take, drop, set, length-append, length-drop, take-append-drop}
-use lib.Seq.{drop-cons, drop-drop, getD-drop}
+use lib.Seq.{take-at, drop-cons, drop-drop, getD-drop, length-take-le}
 use Rattle.flash.specs.Bytes.{u16le, u32le, le16, le32}
 use Rattle.flash.specs.Flash.{blocks}
 use Rattle.wire.specs.Message.{wordAt}
-use Rattle.board.specs.declared.Record.{Record}
+use Rattle.board.specs.declared.Stage.{Stage}
+use Rattle.board.specs.declared.Phase.the-variants.{Busy}
+use Rattle.board.specs.declared.Cursor.{Cursor}
+use Rattle.board.specs.Record.{inStage}
+use Rattle.board.specs.Step.{nextIndex, nextByte}
 use Rattle.lent.specs.Layout.{madeAt, idAt, sourceAt, copyAt, offAt, movesAt, dropsAt, targetAt, timeAt, sinceAt, sinceSize, appendAt}
 use Rattle.lent.specs.Layout.{lastAt, blockAt, endAt, placesAt, placesSize, jobAt, planAt, cursorAt, unitAt, recordSize}
 use Rattle.lent.specs.Layout.{phaseIn, flagIn, wordsIn, numberIn, jobIn, cursorIn, recordIn}
-use Rattle.lent.specs.Layout.{phaseByte, flagByte, wordBytes, planBytes, cursorBytes, recordBytes}
-use Rattle.lent.proofs.Own.{words-own, bytes-own, places-own, frames-own}
+use Rattle.lent.specs.Layout.{phaseByte, flagByte, wordBytes, headBytes, planBytes, cursorBytes, recordBytes}
+use Rattle.lent.proofs.Words.{length-word-bytes}
+use Rattle.lent.proofs.Own.{own-sized, words-own, bytes-own, places-own, frames-own}
 
 phase-own : (n : ℕ) → n < 8 → phaseByte (phaseIn n) ≡ n
 phase-own zero h = refl
@@ -31,6 +37,13 @@ flag-own : (n : ℕ) → n < 2 → flagByte (flagIn n) ≡ n
 flag-own zero h = refl
 flag-own (suc zero) h = refl
 flag-own (suc (suc n)) h = absurd (omega arith)
+
+set-past : (p t : List ℕ) (n i v : ℕ) → length p ≡ n → set (p ++ t) (n + i) v ≡ p ++ set t i v
+set-past p t n i v e = rw (← e) (go p)
+  where
+    go : (p : List ℕ) → set (p ++ t) (length p + i) v ≡ p ++ set t i v
+    go [] = rw zero-add
+    go (x ∷ p) = let f : suc (length p) + i ≡ suc (length p + i) = omega arith in rw f (ap (λ (l : List ℕ). x ∷ l) (go p))
 
 -- parts that are a buffer's own, from the last one on
 module _ (b : List ℕ) (ok : (i : ℕ) → getD b i 0 < 256) where
@@ -112,3 +125,61 @@ module _ (b : List ℕ) (size : length b ≡ recordSize) (ok : (i : ℕ) → get
       (some b ok placesAt placesSize _ _ (places-own b size ok)
       (some b ok jobAt blocks _ _ (bytes-own blocks (drop jobAt b) (simp length-drop (omega arith)))
       (plan-own _ (cursor-own _ (frames-own b size))))))))
+
+  -- the bytes before the cursor and after it
+  abbrev around : List ℕ → List ℕ
+  around t = take cursorAt b ++ (t ++ drop unitAt b)
+
+  -- the record in its stage, at another cursor
+  pub at-cursor : (s : Stage) (c : Cursor) → recordIn b .phase ≡ Busy s → recordBytes (inStage s c (recordIn b)) ≡ around (cursorBytes c)
+  unfolding recordBytes
+  at-cursor s c e =
+      let r = recordIn b in
+      let z = own-sized b in
+      let w = wordBytes (r .places) in
+      let p = headBytes r ++ (w ++ (r .job .wipe ++ planBytes (r .job))) in
+      let parts : (t : List ℕ) → headBytes r ++ (w ++ (r .job .wipe ++ (planBytes (r .job) ++ t))) ≡ p ++ t = λ t. simp append-assoc in
+      let n : length p ≡ cursorAt =
+      simp length-append (omega (arith, length-word-bytes (r .places), length-word-bytes (r .job .since), z .places, z .wipe, z .since)) in
+      let uf = r .unit ++ r .frame in
+      let front : p ≡ take cursorAt b =
+      sym (take-at p (cursorBytes (r .cursor) ++ uf) cursorAt n) ∙ ap (take cursorAt) (sym (parts (cursorBytes (r .cursor) ++ uf)) ∙ own) in
+      (λ i. recordBytes (record {
+        phase = sym e i;
+        last = r .last;
+        block = r .block;
+        end = r .end;
+        places = r .places;
+        job = r .job;
+        cursor = c;
+        unit = r .unit;
+        frame = r .frame;
+      }))
+      ∙ parts (cursorBytes c ++ uf)
+      ∙ (λ i. front i ++ (cursorBytes c ++ frames-own b size i))
+
+  -- the buffer, by its own cursor
+  split : b ≡ around (cursorBytes (recordIn b .cursor))
+  unfolding recordIn
+  split = sym (take-append-drop cursorAt b) ∙ ap (λ (t : List ℕ). take cursorAt b ++ t) (sym (cursor-own (drop unitAt b) refl))
+
+  set-cursor : (i v : ℕ) (t : List ℕ) → set (take cursorAt b ++ t) (cursorAt + i) v ≡ take cursorAt b ++ set t i v
+  set-cursor i v t = set-past (take cursorAt b) t cursorAt i v (length-take-le cursorAt b (omega arith))
+
+  -- the next byte of the frame that is copied
+  pub byte-copied : (w : ℕ) (c : Cursor) → c ≡ recordIn b .cursor → w ≡ suc (c .at)
+      → set (set (set b (cursorAt + madeAt) (w % 256)) (cursorAt + (madeAt + 1)) (w / 256)) (cursorAt + offAt) (suc (c .off)) ≡ around (cursorBytes (nextByte c))
+  byte-copied w c e q =
+      let t = cursorBytes c ++ drop unitAt b in
+      ap (λ (l : List ℕ). set (set (set l (cursorAt + madeAt) (w % 256)) (cursorAt + (madeAt + 1)) (w / 256)) (cursorAt + offAt) (suc (c .off)))
+      (split ∙ ap (λ (x : Cursor). around (cursorBytes x)) (sym e))
+      ∙ ap (λ (l : List ℕ). set (set l (cursorAt + (madeAt + 1)) (w / 256)) (cursorAt + offAt) (suc (c .off))) (set-cursor madeAt (w % 256) t)
+      ∙ ap (λ (l : List ℕ). set l (cursorAt + offAt) (suc (c .off))) (set-cursor (madeAt + 1) (w / 256) (set t madeAt (w % 256)))
+      ∙ set-cursor offAt (suc (c .off)) (set (set t madeAt (w % 256)) (madeAt + 1) (w / 256))
+      ∙ rw q
+
+  -- the next byte of the frame to append
+  pub byte-appended : (c : Cursor) → c ≡ recordIn b .cursor → set b (cursorAt + 0) (suc (c .index)) ≡ around (cursorBytes (nextIndex c))
+  byte-appended c e =
+      ap (λ (l : List ℕ). set l (cursorAt + 0) (suc (c .index))) (split ∙ ap (λ (x : Cursor). around (cursorBytes x)) (sym e))
+      ∙ set-cursor 0 (suc (c .index)) (cursorBytes c ++ drop unitAt b)

@@ -5,9 +5,10 @@ use Prim.Native.Nat.{ℕ, zero, suc, _+_, _-_, _*_, _/_, _%_, _≤_, _<_}
 use native.Mathlib.Omega.{arith}
 use lib.ListN.{length, getD, take, drop, replicate, length-append, length-take, length-drop, length-replicate, take-append-drop}
 use lib.Seq.{take-all, drop-at, drop-drop, drop-append-le, getD-drop, length-take-le}
+use Rattle.flash.specs.Flash.{blocks}
 use Rattle.frame.specs.Frame.{maxFrame}
-use Rattle.lent.specs.Layout.{placesAt, placesSize, unitAt, frameAt, recordSize, bytesIn, wordsIn, recordIn, wordBytes}
-use Rattle.lent.proofs.Inverse.{array-back}
+use Rattle.lent.specs.Layout.{sinceAt, placesAt, placesSize, jobAt, unitAt, frameAt, recordSize, bytesIn, wordsIn, recordIn, wordBytes}
+use Rattle.lent.proofs.Inverse.{Sized, array-back}
 
 -- ---- lengths
 
@@ -18,6 +19,17 @@ length-words-in (suc n) l = ap suc (length-words-in n (drop 2 l))
 
 pub length-bytes-in : (n : ℕ) (l : List ℕ) → length (bytesIn n l) ≡ n
 length-bytes-in n l = rw (length-append, length-replicate {A = ℕ}) (simp length-take (omega arith))
+
+pub own-sized : (l : List ℕ) → Sized (recordIn l)
+unfolding recordIn
+own-sized l =
+    record {
+      places = length-words-in 256 (drop placesAt l);
+      wipe = length-bytes-in blocks (drop jobAt l);
+      since = length-words-in 4 (drop sinceAt (drop blocks (drop jobAt l)));
+      unit = length-bytes-in maxFrame (drop unitAt l);
+      frame = length-bytes-in maxFrame (drop frameAt l);
+    }
 
 -- ---- a part that is all there
 

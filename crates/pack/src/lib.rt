@@ -50,13 +50,13 @@ fn flag_byte(flag: bool) -> u8
 }
 
 // A word's two bytes.
-fn low(word: u16) -> u8
+pub fn low(word: u16) -> u8
     ensures { λ r. ⌜ r ≡ word % 256 ⌝ }
 {
     (word % 256) as u8
 }
 
-fn high(word: u16) -> u8
+pub fn high(word: u16) -> u8
     ensures { λ r. ⌜ r ≡ word / 256 ⌝ }
 {
     (word / 256) as u8

@@ -65,13 +65,13 @@ fn frame_byte(bytes: &[u8], at: usize, i: u8) -> u8
     0
 }
 
-fn unit_byte(bytes: &[u8], i: u8) -> u8
+pub fn unit_byte(bytes: &[u8], i: u8) -> u8
     ensures { λ r. ⌜ r ≡ getD (recordIn (now (bytes .entry)) .unit) i 0 ⌝ }
 {
     frame_byte(bytes, lent::UNIT_AT, i)
 }
 
-fn append_byte(bytes: &[u8], i: u8) -> u8
+pub fn append_byte(bytes: &[u8], i: u8) -> u8
     ensures { λ r. ⌜ r ≡ getD (recordIn (now (bytes .entry)) .frame) i 0 ⌝ }
 {
     frame_byte(bytes, lent::FRAME_AT, i)

@@ -1,11 +1,8 @@
--- A step: on the record that the buffer holds.
+-- A step: in the middle of a frame, or by the numbers.
 use denote.Ref.{now}
-use borrow.Author.Tests.{eq-eqb, ne-eqb}
-use Rattle.board.specs.Step.{stepOn}
-use Rattle.lent.specs.Layout.{recordIn}
+use borrow.Author.Tests.{ne-eqb}
 use Rattle.grommetide.specs.Edge.{edgeStep}
-use Rattle.grommetide.proofs.Kept.{step-keeps}
-use Rattle.grommetide.proofs.Driven.{driven}
+use Rattle.grommetide.proofs.Driven.{middle}
 use borrow.Author.Needs.{needs}
 use Rattle.grommetide.proofs.steps.grommetide_step.Statement.{statement}
 use Rattle.grommetide.proofs.steps.grommetide_step.Tie as tie
@@ -18,20 +15,21 @@ grommetide-step-spec =
     (λ c. let t = ne-eqb _ _ (c .if1 .taken) in ((rw t, rw t, rw t), λ l. absurd (c .if1 .taken l)))
     (λ c κs. search needs)
     (λ c κs. search needs)
-    (λ c κs. search needs)
+    (λ c. search needs)
+    (λ c. search needs)
+    (λ c.
+    let try-byte′ = c .before .before .before .before .before .before .try-byte in
+    let c12 = c .before .before .before .before .before .before .before .before .before .before .before .before in
+    let args′ = c12 .args in
+    let d = middle (now (args′ .image)) (now (args′ .board)) _ _ _ (c .number .ensures)
+    (try-byte′ .ensures .made (c .before .if2 .taken)) in ((d .answer, d .image, d .board), d .back))
     (λ c κs. search needs)
     (λ c. search needs)
     (λ c. search needs)
     (λ c.
-    let try-step′ = c .before .before .before .before .before .before .before .try-step in
-    let in-hand′ = c .before .before .before .before .before .before .before .before .in-hand in
-    let c11 = c .before .before .before .before .before .before .before .before .before .before .before in
-    let numbers′ = c11 .numbers in
-    let c13 = c11 .before .before in
-    let if1′ = c13 .if1 in
-    let c16 = c13 .before .before .before in
-    let args′ = c16 .args in
-    let b = now (args′ .board) in let r = recordIn b in let l = if1′ .left in let s = rw (numbers′ .ensures) at
-    (try-step′ .ensures (r .places) (r .unit) (r .frame) (in-hand′ .ensures)) in let w = rw (numbers′ .ensures) at
-    (c .before .before .go-on .ensures) in let z = driven _ b _ _ (try-step′ .result) (stepOn (now (args′ .image)) r) l s
-    (step-keeps _ _) w in (rw (eq-eqb _ _ l) (z .0 .0, s .image, z .0 .1), λ _. z .1)))
+    let step-numbers′ = c .before .before .before .before .step-numbers in
+    let if2′ = c .before .before .before .before .before .before .before .if2 in
+    let c12 = c .before .before .before .before .before .before .before .before .before .before .before .before in
+    let try-byte′ = c12 .try-byte in
+    let e = try-byte′ .ensures .left (if2′ .left) in let d = rw (e .0, e .1) at (step-numbers′ .ensures) in
+    ((d .answer, d .image, d .board), d .back)))
