@@ -9,6 +9,7 @@ ghost use Rattle.grommetide.specs.Edge.{edgeMount, edgeFormat, edgeReque
 ghost use Rattle.grommetide.specs.Edge.{place, isRead, asRead, edgeRead};
 use frame::Host;
 use lent::RECORD_SIZE;
+pub use steps::grommetide_made;
 pub use steps::grommetide_step;
 use wire::Parsed;
 use wire::Request;

@@ -2,9 +2,10 @@
 ghost use mathlib.Core.Path.{_≡_};
 ghost use Rattle.board.specs.Step.{enterCopy, stepOn};
 ghost use lib.ListN.{length};
+ghost use Rattle.board.specs.Drive.{madeOn};
 ghost use Rattle.lent.specs.Layout.{recordSize, recordIn};
 ghost use Rattle.pack.specs.Code.{Holds};
-ghost use Rattle.grommetide.specs.Edge.{edgeStep, ReadsBack};
+ghost use Rattle.grommetide.specs.Edge.{edgeStep, edgeMade, ReadsBack};
 ghost use Rattle.grommetide.specs.Code.{over, Went, DoesStep};
 use crate::WRONG_RECORD;
 use board::Phase;
@@ -67,4 +68,20 @@ pub extern "C" fn grommetide_step(image: &mut [u8], board: &mut [u8]) -> u8
         return wire::number(Answer::More);
     }
     step_numbers(image, board)
+}
+
+#[no_mangle]
+pub extern "C" fn grommetide_made(image: &[u8], board: &mut [u8]) -> u8
+    ensures { λ r. ⌜ (r ≡ edgeMade (now (image .entry)) (now (board .entry)) .answer)
+        × (now (board .exit) ≡ edgeMade (now (image .entry)) (now (board .entry)) .board) ⌝ }
+    ensures back { λ r. ⌜ ReadsBack (now (board .entry)) (now (board .exit))
+        (madeOn (now (image .entry)) (recordIn (now (board .entry))) .board) ⌝ }
+{
+    if board.len() != RECORD_SIZE {
+        return WRONG_RECORD;
+    }
+    let n = unpack::numbers(board);
+    let phase = n.phase;
+    let m = job::made_of(image.len(), n);
+    go_on(image, phase, m, board)
 }
