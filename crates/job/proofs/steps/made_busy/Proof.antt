@@ -24,7 +24,8 @@ made-busy-spec =
     let good′ = c .before .before .before .before .good in
     let t : (eqb (args′ .len) (suc (args′ .n .rest .last)) && within (args′ .len / blocks) (actionBy (args′ .stage) (args′ .n) 0)) ≡ true =
     (sym (ap (λ (x : Step). eqb (args′ .len) (suc (args′ .n .rest .last)) && within (args′ .len / blocks) x)
-    (c .before .before .next-action .ensures)) ∙ sym (c .before .within-image .ensures) ∙ c .if1 .taken) in let l = eqb-true (args′ .len) (suc
+    (c .before .before .next-action .ensures)) ∙ sym (c .before .within-image .ensures) ∙ c .if1 .taken) in
+    let l = eqb-true (args′ .len) (suc
     (args′ .n .rest .last)) (and-left (eqb (args′ .len) (suc (args′ .n .rest .last))) (within (args′ .len / blocks) (actionBy (args′ .stage)
     (args′ .n) 0)) t) in offset-low (args′ .stage) (args′ .len / blocks) (args′ .n) 0 (and-right (eqb (args′ .len) (suc
     (args′ .n .rest .last))) (within (args′ .len / blocks) (actionBy (args′ .stage) (args′ .n) 0)) t) (omega (arith, l, good′)))
