@@ -1,4 +1,5 @@
 // The library for C: include/grommetide.h. The record crosses as bytes.
+mod next;
 mod steps;
 
 ghost use mathlib.Core.Path.{_≡_};
@@ -9,7 +10,9 @@ ghost use Rattle.grommetide.specs.Edge.{edgeMount, edgeFormat, edgeReque
 ghost use Rattle.grommetide.specs.Edge.{place, isRead, asRead, edgeRead};
 use frame::Host;
 use lent::RECORD_SIZE;
+pub use next::grommetide_next;
 pub use steps::grommetide_made;
+pub use steps::grommetide_run;
 pub use steps::grommetide_step;
 use wire::Parsed;
 use wire::Request;

@@ -2,10 +2,10 @@
 ghost use mathlib.Core.Path.{_≡_};
 ghost use Rattle.board.specs.Step.{enterCopy, stepOn};
 ghost use lib.ListN.{length};
-ghost use Rattle.board.specs.Drive.{madeOn};
+ghost use Rattle.board.specs.Drive.{madeOn, runOn};
 ghost use Rattle.lent.specs.Layout.{recordSize, recordIn};
 ghost use Rattle.pack.specs.Code.{Holds};
-ghost use Rattle.grommetide.specs.Edge.{edgeStep, edgeMade, ReadsBack};
+ghost use Rattle.grommetide.specs.Edge.{edgeStep, edgeMade, run, edgeRun, ReadsBack};
 ghost use Rattle.grommetide.specs.Code.{over, Went, DoesStep};
 use crate::WRONG_RECORD;
 use board::Phase;
@@ -84,4 +84,34 @@ pub extern "C" fn grommetide_made(image: &[u8], board: &mut [u8]) -> u8
     let phase = n.phase;
     let m = job::made_of(image.len(), n);
     go_on(image, phase, m, board)
+}
+
+#[no_mangle]
+pub extern "C" fn grommetide_run(
+    image: &mut [u8],
+    board: &mut [u8],
+    most: usize,
+    steps: &mut usize,
+) -> u8
+    ensures { λ r. ⌜ run r (now (steps .exit)) (now (image .exit)) (now (board .exit))
+        ≡ edgeRun (now (image .entry)) (now (board .entry)) most (now (steps .entry)) ⌝ }
+    ensures back { λ r. ⌜ ReadsBack (now (board .entry)) (now (board .exit))
+        (runOn most (now (image .entry)) (recordIn (now (board .entry))) .out .board) ⌝ }
+{
+    if board.len() != RECORD_SIZE {
+        return WRONG_RECORD;
+    }
+    let places = unpack::places(board);
+    let mut unit = unpack::unit(board);
+    let frame = unpack::append(board);
+    let n = unpack::numbers(board);
+    let ran = drive::run_core(image, n, &places, &mut unit, &frame, most);
+    *steps = ran.steps;
+    let s = ran.stepped;
+    let answer = s.answer;
+    if ran.steps == 0 {
+        return wire::number(answer);
+    }
+    pack::write_loaded(s, &unit, board);
+    wire::number(answer)
 }

@@ -1,37 +1,32 @@
+-- A step that the caller made: the record that the buffer holds goes on.
+use mathlib.Core.Path.{refl}
+use denote.Ref.{now}
+use borrow.Author.Tests.{eq-eqb, ne-eqb}
+use Rattle.board.specs.Drive.{madeOn}
+use Rattle.lent.specs.Layout.{recordIn}
+use Rattle.grommetide.specs.Edge.{edgeMade}
+use Rattle.grommetide.proofs.Kept.{made-keeps}
+use Rattle.grommetide.proofs.Driven.{driven}
 use borrow.Author.Needs.{needs}
 use Rattle.grommetide.proofs.steps.grommetide_made.Statement.{statement}
 use Rattle.grommetide.proofs.steps.grommetide_made.Tie as tie
-use Rattle.grommetide.proofs.steps.grommetide_made.Reads as reads
-use Rattle.grommetide.proofs.steps.grommetide_made.Lts as lts
-use Rattle.grommetide.proofs.steps.go_on.Reads as go-on-reads
-use Rattle.job.proofs.made_of.Reads as made-of-reads
-use Rattle.unpack.proofs.numbers.Reads as numbers-reads
-
--- src/steps.rt:81:9
-returns : tie.Need-returns
-returns c = ?
-
--- src/steps.rt:83:9
-numbers-requires : tie.Need-numbers-requires
-numbers-requires c κs = search needs
-
--- src/steps.rt:85:9
-made-of-requires : tie.Need-made-of-requires
-made-of-requires c κs = search needs
-
--- src/steps.rt:86:5
-go-on-requires : tie.Need-go-on-requires
-go-on-requires c κs = search needs
-
--- src/steps.rt:73:1
-same-length : tie.Need-same-length
-same-length c = search needs
-
--- src/steps.rt:73:1
-returns-2 : tie.Need-returns-2
-returns-2 c = ?
 
 pub grommetide-made-spec : {M : Type 1} → statement M
+unfolding edgeMade
 grommetide-made-spec =
     tie.close
-    (tie.spec returns numbers-requires made-of-requires go-on-requires same-length returns-2)
+    (tie.spec
+    (λ c. let t = ne-eqb _ _ (c .if1 .taken) in ((rw t, rw t), λ l. absurd (c .if1 .taken l)))
+    (λ c κs. search needs)
+    (λ c κs. search needs)
+    (λ c κs. search needs)
+    (λ c. search needs)
+    (λ c.
+    let made-of′ = c .before .before .before .before .made-of in
+    let numbers′ = c .before .before .before .before .before .numbers in
+    let if1′ = c .before .before .before .before .before .before .before .if1 in
+    let args′ = c .before .before .before .before .before .before .before .before .before .before .args in
+    let b = now (args′ .board) in let img = now (args′ .image) in let r = recordIn b in let l = if1′ .left in let s = rw
+    (numbers′ .ensures) at (made-of′ .ensures img (r .places) (r .unit) (r .frame) refl) in let w = rw (numbers′ .ensures) at
+    (c .before .before .go-on .ensures) in let z = driven _ b _ _ (made-of′ .result) (madeOn img r) l s
+    (made-keeps _ _) w in let t = eq-eqb _ _ l in ((rw t (z .0 .0), rw t (z .0 .1)), λ _. z .1)))
