@@ -87,7 +87,7 @@ pub fn next_action(stage: Stage, n: Numbers, byte: u8) -> Action
 
 // ---- the step done, where its place lies in the image; else nothing changes
 
-fn program_in(image: &mut [u8], block: u8, at: usize, byte: u8) -> bool
+pub fn program_in(image: &mut [u8], block: u8, at: usize, byte: u8) -> bool
     ensures { λ r. ⌜ (r ≡ within (sizeOf (now (image .entry))) (program block at byte))
         × (now (image .exit) ≡ did (program block at byte) (now (image .entry))) ⌝ }
 {

@@ -8,6 +8,7 @@ mod steps;
 pub use actions::Action;
 pub use actions::act;
 pub use actions::next_action;
+pub use actions::program_in;
 pub use actions::within_image;
 use board::Record;
 pub use moves::Moved;
