@@ -124,7 +124,18 @@ plan-bytes j h =
 past : (at n : ℕ) (l p q : List ℕ) → drop at l ≡ p ++ q → length p ≡ n → drop (at + n) l ≡ q
 past at n l p q e h = sym (drop-drop n at l) ∙ ap (drop n) e ∙ drop-at p q n h
 
-module _ (r : Record) (h : RecordFits r) where
+-- the arrays have their lengths, which is all that reading back asks
+pub record Long (r : Record) : Type 0 where
+  pub places : length (r .places) ≡ 256
+  pub wipe : length (r .job .wipe) ≡ blocks
+  pub since : length (r .job .since) ≡ 4
+  pub unit : length (r .unit) ≡ maxFrame
+  pub frame : length (r .frame) ≡ maxFrame
+
+long : (r : Record) → RecordFits r → Long r
+long r h = record { places = h .places .0; wipe = h .job .wipe .0; since = h .job .since .0; unit = h .unit .0; frame = h .frame .0 }
+
+module _ (r : Record) (h : Long r) where
   abbrev W : List ℕ
   W = wordBytes (r .places)
 
@@ -151,17 +162,17 @@ module _ (r : Record) (h : RecordFits r) where
   EPCUF = E ++ PCUF
 
   length-W : length W ≡ placesSize
-  length-W = length-word-bytes (r .places) ∙ rw (h .places .0)
+  length-W = length-word-bytes (r .places) ∙ rw (h .places)
 
   length-P : length P ≡ planSize
-  length-P = length-plan (r .job) (h .job .since .0)
+  length-P = length-plan (r .job) (h .since)
 
   from-job : drop jobAt (recordBytes r) ≡ EPCUF
   unfolding recordBytes
   from-job = past placesAt placesSize (recordBytes r) W EPCUF refl length-W
 
   from-plan : drop planAt (recordBytes r) ≡ PCUF
-  from-plan = past jobAt blocks (recordBytes r) E PCUF from-job (h .job .wipe .0)
+  from-plan = past jobAt blocks (recordBytes r) E PCUF from-job (h .wipe)
 
   from-cursor : drop cursorAt (recordBytes r) ≡ CUF
   from-cursor = past planAt planSize (recordBytes r) P CUF from-plan length-P
@@ -170,32 +181,45 @@ module _ (r : Record) (h : RecordFits r) where
   from-unit = past cursorAt cursorSize (recordBytes r) C UF from-cursor refl
 
   from-frame : drop frameAt (recordBytes r) ≡ r .frame ++ []
-  from-frame = past unitAt maxFrame (recordBytes r) (r .unit) (r .frame) from-unit (h .unit .0) ∙ sym (append-nil (r .frame))
+  from-frame = past unitAt maxFrame (recordBytes r) (r .unit) (r .frame) from-unit (h .unit) ∙ sym (append-nil (r .frame))
 
-  record-back : recordIn (recordBytes r) ≡ r
+  pub record-back : recordIn (recordBytes r) ≡ r
   unfolding recordBytes
   record-back =
       parts-back (recordBytes r) r (phase-back (r .phase)) (le16-u16 (r .last)) refl (le16-u16 (r .end))
-      (words-back (r .places) EPCUF 256 (h .places .0))
-      (ap jobIn from-job ∙ job-back (r .job) CUF (h .job .wipe .0) (h .job .since .0))
+      (words-back (r .places) EPCUF 256 (h .places))
+      (ap jobIn from-job ∙ job-back (r .job) CUF (h .wipe) (h .since))
       (ap cursorIn from-cursor ∙ cursor-back (r .cursor) UF)
-      (ap (bytesIn maxFrame) from-unit ∙ array-back maxFrame (r .unit) (r .frame) (h .unit .0))
-      (ap (bytesIn maxFrame) from-frame ∙ array-back maxFrame (r .frame) [] (h .frame .0))
+      (ap (bytesIn maxFrame) from-unit ∙ array-back maxFrame (r .unit) (r .frame) (h .unit))
+      (ap (bytesIn maxFrame) from-frame ∙ array-back maxFrame (r .frame) [] (h .frame))
 
+module _ (r : Record) (h : RecordFits r) where
   pub length-bytes-of : length (recordBytes r) ≡ recordSize
   unfolding recordBytes
   length-bytes-of =
-      simp length-append (omega (arith, length-W, length-word-bytes (r .job .since), h .job .wipe .0, h .job .since .0, h .unit .0, h .frame .0))
+      simp length-append (omega (
+        arith,
+        length-W r (long r h),
+        length-word-bytes (r .job .since),
+        h .job .wipe .0,
+        h .job .since .0,
+        h .unit .0,
+        h .frame .0,
+      ))
 
   pub bytes-of-bytes : Bytes (recordBytes r)
   unfolding recordBytes
   bytes-of-bytes =
-      bytes-append (headBytes r) (W ++ EPCUF) (head-bytes r h)
-      (bytes-append W EPCUF (word-bytes (r .places) (h .places .1))
-      (bytes-append E PCUF (h .job .wipe .1)
-      (bytes-append P CUF (plan-bytes (r .job) (h .job))
-      (bytes-append C UF (cursor-bytes (r .cursor) (h .cursor)) (bytes-append (r .unit) (r .frame) (h .unit .1) (h .frame .1))))))
+      let w = wordBytes (r .places) in
+      let p = planBytes (r .job) in
+      let c = cursorBytes (r .cursor) in
+      let uf = r .unit ++ r .frame in
+      bytes-append (headBytes r) (w ++ (r .job .wipe ++ (p ++ (c ++ uf)))) (head-bytes r h)
+      (bytes-append w (r .job .wipe ++ (p ++ (c ++ uf))) (word-bytes (r .places) (h .places .1))
+      (bytes-append (r .job .wipe) (p ++ (c ++ uf)) (h .job .wipe .1)
+      (bytes-append p (c ++ uf) (plan-bytes (r .job) (h .job))
+      (bytes-append c uf (cursor-bytes (r .cursor) (h .cursor)) (bytes-append (r .unit) (r .frame) (h .unit .1) (h .frame .1))))))
 
 pub bytes-back : BytesBack
 unfolding BytesBack
-bytes-back r h = record-back r h
+bytes-back r h = record-back r (long r h)

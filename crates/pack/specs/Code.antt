@@ -1,13 +1,16 @@
 -- What the code's parts do.
+use mathlib.Core.Path.{_≡_}
 use mathlib.Core.List.{List, _++_}
 use mathlib.Core.Bool.{Bool, true, false}
 use Prim.Native.Nat.{ℕ}
-use lib.ListN.{take, drop}
+use lib.ListN.{length, take, drop}
 use Rattle.wire.specs.declared.Answer.{Answer}
 use Rattle.wire.specs.declared.Answer.the-variants.{Done, More, Refused}
 use Rattle.wire.specs.Code.{overlay}
 use Rattle.board.specs.declared.Phase.{Phase}
+use Rattle.board.specs.declared.Record.{Record}
 use Rattle.board.specs.Table.{isBusy}
+use Rattle.lent.specs.Layout.{recordSize, recordIn, recordInto}
 
 -- the source in place of the bytes from a place on, where there are as many; else nothing changes
 unfoldable pub laidAt : ℕ → List ℕ → List ℕ → List ℕ
@@ -18,3 +21,18 @@ abbrev pub changes : Phase → Answer → Bool
 changes p Done = isBusy p
 changes p More = true
 changes p (Refused n) = false
+
+-- a buffer of a record's size reads as this record after the call
+abbrev pub ReadsAs : List ℕ → List ℕ → Record → Type 0
+ReadsAs b after r = length b ≡ recordSize → recordIn after ≡ r
+
+-- the record is written where a job began
+abbrev pub intoIf : Answer → Record → List ℕ → List ℕ
+intoIf Done r b = b
+intoIf More r b = recordInto r b
+intoIf (Refused n) r b = b
+
+abbrev pub ReadsAsIf : Answer → List ℕ → List ℕ → Record → Type 0
+ReadsAsIf Done b after r = Unit {0}
+ReadsAsIf More b after r = ReadsAs b after r
+ReadsAsIf (Refused n) b after r = Unit {0}
