@@ -72,11 +72,11 @@
  *
  *   Bytes of stack that a call takes at most, its return address included (held by a test that paints the stack):
  *
- *     grommetide_mount        4,608
+ *     grommetide_mount        2,048
  *     grommetide_format         192
- *     grommetide_request     14,848
+ *     grommetide_request      2,304
  *     grommetide_step         6,656
- *     grommetide_read        10,240
+ *     grommetide_read         1,536
  */
 #ifndef GROMMETIDE_H
 #define GROMMETIDE_H

@@ -1,12 +1,11 @@
 -- A refusal changes no buffer.
-use mathlib.Core.Path.{_≡_, refl, ap}
+use mathlib.Core.Path.{_≡_, refl}
 use mathlib.Core.List.{List, []}
 use Prim.Native.Nat.{ℕ}
 use native.Mathlib.Omega.{arith}
 use lib.ListN.{length}
 use borrow.Author.Tests.{eq-eqb}
 use Rattle.flash.proofs.Cases.{on-test}
-use Rattle.frame.specs.declared.Host.{Host}
 use Rattle.wire.specs.declared.Answer.{Answer}
 use Rattle.wire.specs.declared.Answer.the-variants.{Done, More, Refused}
 use Rattle.wire.specs.declared.Refusal.{Refusal}
@@ -20,7 +19,6 @@ use Rattle.board.specs.Drive.{madeOn}
 use Rattle.board.specs.Queue.{requestOn}
 use Rattle.board.specs.Exec.{request, step}
 use Rattle.board.proofs.Refusals.{refusals-untouched}
-use Rattle.board.proofs.Planning.{Met, refused, done, begun, request-met}
 use Rattle.lent.specs.Layout.{recordSize, recordIn}
 use Rattle.grommetide.proofs.Kept.{made-cases}
 use Rattle.grommetide.specs.Edge.{holdsRecord, guarded, written, edgeRequest, edgeStep, edgeMade, asRead, edgeRead, Refuses, Stays, RefusedStays, RefusedReadEmpty}
@@ -71,13 +69,3 @@ refused-read-empty img b h m at size l =
     (λ f.
     let x = is-refused (requestOn img (recordIn b) [] (record { 0 = h }) (asRead m) .answer) f in
     rw (refusals-untouched img (recordIn b) (request (record { 0 = h }) (asRead m) []) (x .0) (x .1)))
-
--- a value never stands at the image's start, so a place past it was found
-pub found : (img : List ℕ) (r : Record) (reply : List ℕ) (h : Host) (m : List ℕ)
-    → (requestOn img r reply h m .stretch .at ≡ 0 → ⊥) → requestOn img r reply h m .answer ≡ Done
-found img r reply h m z = by (request-met img r reply h m)
-  where
-    by : Met img r reply h m (requestOn img r reply h m) → requestOn img r reply h m .answer ≡ Done
-    by (refused n e) = absurd (z (ap (λ (o : Out). o .stretch .at) e))
-    by (done d i b) = d
-    by (begun y e) = absurd (z (ap (λ (o : Out). o .stretch .at) e))

@@ -9,6 +9,7 @@ ghost use Rattle.lent.specs.Layout.{recordSize, recordIn};
 ghost use Rattle.grommetide.specs.Edge.{edgeMount, edgeFormat, edgeRequest, ReadsBack};
 ghost use Rattle.grommetide.specs.Edge.{place, isRead, asRead, edgeRead};
 use frame::Host;
+use job::records;
 use lent::RECORD_SIZE;
 pub use next::grommetide_next;
 pub use steps::grommetide_made;
@@ -16,8 +17,6 @@ pub use steps::grommetide_run;
 pub use steps::grommetide_step;
 use wire::Parsed;
 use wire::Request;
-
-const DONE: u8 = 0;
 
 // The answer to a record buffer of another size.
 const WRONG_RECORD: u8 = 254;
@@ -38,7 +37,10 @@ pub extern "C" fn grommetide_mount(image: &[u8], board: &mut [u8]) -> u8
     if board.len() != RECORD_SIZE {
         return WRONG_RECORD;
     }
-    pack::hand_over(store::mount(image), board)
+    let mut places = records::no_places();
+    let s = store::mount_core(image, &mut places);
+    let frame = records::no_frame();
+    pack::new_record(s, &places, &frame, board)
 }
 
 #[no_mangle]
@@ -50,7 +52,9 @@ pub extern "C" fn grommetide_format(image: &[u8], board: &mut [u8]) -> u8
     if board.len() != RECORD_SIZE {
         return WRONG_RECORD;
     }
-    pack::hand_over(store::format(image), board)
+    let places = records::no_places();
+    let frame = records::no_frame();
+    pack::new_record(store::format_core(image), &places, &frame, board)
 }
 
 #[no_mangle]
@@ -74,10 +78,21 @@ pub extern "C" fn grommetide_request(
     if board.len() != RECORD_SIZE {
         return WRONG_RECORD;
     }
-    let b = unpack::decode(board);
-    let out = queue::request(image, b, Host(host), message, reply);
-    let phase = b.phase;
-    pack::finish(phase, out, board)
+    let phase = unpack::phase_of(board);
+    let rest = unpack::rest_of(board);
+    let mut places = records::no_places();
+    let mut frame = records::no_frame();
+    let s = queue::request_core(
+        image,
+        phase,
+        rest,
+        Host(host),
+        message,
+        reply,
+        &mut places,
+        &mut frame,
+    );
+    pack::begun(s, &places, &frame, board)
 }
 
 fn is_read(parsed: Parsed) -> bool
@@ -121,17 +136,11 @@ pub extern "C" fn grommetide_read(
     if board.len() != RECORD_SIZE {
         return WRONG_RECORD;
     }
-    let b = unpack::decode(board);
-    let ask = as_read(message);
-    let place = queue::locate(image, b, Host(host), ask);
-    *at = place.at;
-    *len = place.size;
-    // a place was found, so that the request would be done
-    if place.at != 0 {
-        return DONE;
-    }
-    let mut none: [u8; 0] = [];
-    let out = queue::request(image, b, Host(host), ask, &mut none);
-    let answer = out.answer;
+    let phase = unpack::phase_of(board);
+    let rest = unpack::rest_of(board);
+    let found = queue::find(image, phase, rest, Host(host), as_read(message));
+    *at = found.at;
+    *len = found.size;
+    let answer = found.answer;
     wire::number(answer)
 }

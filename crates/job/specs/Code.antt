@@ -13,6 +13,7 @@ use Rattle.board.specs.declared.Stage.{Stage}
 use Rattle.board.specs.declared.Stage.the-variants.{Wipe, Open, Copy, Seal, Drop, Append}
 use Rattle.board.specs.declared.Phase.{Phase}
 use Rattle.board.specs.declared.Phase.the-variants.{Unmounted, Idle, Busy}
+use Rattle.board.specs.declared.Job.{Job}
 use Rattle.board.specs.declared.Cursor.{Cursor}
 use Rattle.board.specs.declared.Record.{Record}
 use Rattle.board.specs.declared.Rest.{Rest}
@@ -44,6 +45,21 @@ assemble n places unit frame =
       frame = frame;
     }
 
+-- a record that stands elsewhere
+abbrev pub placed : Phase → Rest → Record → Record
+placed p z r =
+    record {
+      phase = p;
+      last = z .last;
+      block = z .block;
+      end = z .end;
+      places = r .places;
+      job = r .job;
+      cursor = r .cursor;
+      unit = r .unit;
+      frame = r .frame;
+    }
+
 -- the same job in a stage, at a cursor
 abbrev pub staged : Stage → Cursor → Numbers → Numbers
 staged s c n = record { phase = Busy s; rest = n .rest; job = n .job; cursor = c }
@@ -54,9 +70,13 @@ staged s c n = record { phase = Busy s; rest = n .rest; job = n .job; cursor = c
 abbrev pub going : Stage → Cursor → Numbers → Stepped
 going s c n = record { answer = More; next = staged s c n; ended = false }
 
+-- none is left, or none began
+abbrev pub atRest : Answer → Phase → Rest → Stepped
+atRest a p z = record { answer = a; next = record { phase = p; rest = z; job = noJob; cursor = cursor 0 0 0 0 0 0 }; ended = true }
+
 -- it ended
 abbrev pub over : Rest → Stepped
-over z = record { answer = Done; next = record { phase = Idle; rest = z; job = noJob; cursor = cursor 0 0 0 0 0 0 }; ended = true }
+over z = atRest Done Idle z
 
 -- it stays as it is
 abbrev pub staying : Answer → Numbers → Stepped
@@ -101,6 +121,10 @@ goOpen n = cond (n .job .moves) (going Open (first (n .cursor)) n) (goAppend n)
 
 unfoldable pub goWipe : Numbers → Stepped
 goWipe n = cond (ltb 0 (n .job .wipes)) (going Wipe (first (n .cursor)) n) (goOpen n)
+
+-- a job accepted
+abbrev pub begins : Rest → Job → Cursor → Stepped
+begins z j c = goWipe (record { phase = Busy Wipe; rest = z; job = j; cursor = c })
 
 -- past a byte that was copied: to the frame's next, or past the frame
 abbrev pub movedByte : Cursor → Cursor

@@ -15,11 +15,11 @@ use Rattle.job.specs.declared.records.Numbers.{Numbers}
 use Rattle.job.specs.declared.records.Stepped.{Stepped}
 use Rattle.job.specs.Code.{assemble, leavesIf}
 use Rattle.lent.specs.Layout.{cursorSize, planSize, placesAt, placesSize, jobAt, planAt, cursorAt, unitAt, frameAt, recordSize}
-use Rattle.lent.specs.Layout.{recordIn, wordBytes, planBytes, cursorBytes, recordBytes, recordInto}
+use Rattle.lent.specs.Layout.{recordIn, wordBytes, headBytes, planBytes, cursorBytes, recordBytes, recordInto}
 use Rattle.lent.proofs.Words.{length-plan}
 use Rattle.lent.proofs.Inverse.{Sized, record-back}
 use Rattle.lent.proofs.Own.{length-words-in, length-bytes-in, places-own, frames-own, places-stay, unit-laid, frame-stays}
-use Rattle.pack.specs.Code.{laidAt, headFor, numbersInto, loadedIn, leftIn, Holds}
+use Rattle.pack.specs.Code.{laidAt, numbersInto, loadedIn, leftIn, Holds}
 use Rattle.pack.proofs.Laying.{Upto, next, laid-here}
 
 -- a stretch that stays
@@ -40,7 +40,7 @@ module _ (n : Numbers) (wipe : length (n .job .wipe) ≡ blocks) (since : length
       → numbersInto n l ≡ recordBytes (assemble n p u f)
   unfolding numbersInto recordBytes
   numbers-laid l p u f size ep ef =
-      let h = headFor (n .phase) (n .rest) in
+      let h = headBytes (assemble n [] [] []) in
       let q = planBytes (n .job) in
       let c = cursorBytes (n .cursor) in
       let u₀ : Upto 0 [] l l = record { written = refl; size = refl } in

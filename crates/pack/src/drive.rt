@@ -14,11 +14,9 @@ use job::records::Stepped;
 fn lay_numbers(n: Numbers, bytes: &mut [u8])
     ensures { λ r. ⌜ now (bytes .exit) ≡ numbersInto n (now (bytes .entry)) ⌝ }
 {
-    let phase = n.phase;
-    let rest = n.rest;
     let j = n.job;
     let c = n.cursor;
-    let head = head_bytes(phase, rest);
+    let head = head_bytes(n);
     let wipe = j.wipe;
     let plan = plan_bytes(j);
     let cursor = cursor_bytes(c);

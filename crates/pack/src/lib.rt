@@ -1,24 +1,31 @@
 // The record written to its buffer: whole, or where a call changed it.
 mod drive;
+mod jobs;
 
 use board::Cursor;
 use board::Job;
 use board::Phase;
 use board::Record;
-use board::Rest;
 use board::Stage;
 pub use drive::write_loaded;
 pub use drive::write_step;
+use frame::MAX_FRAME;
 use job::Outcome;
+use job::records;
+use job::records::Numbers;
+pub use jobs::begun;
+pub use jobs::new_record;
 use wire::Answer;
 ghost use mathlib.Core.Path.{_≡_};
 ghost use mathlib.Core.Bool.{cond};
+ghost use mathlib.Core.List.{[]};
 ghost use Prim.Native.Nat.{_+_, _*_, _/_, _%_, _≤_};
 ghost use lib.ListN.{length};
-ghost use Rattle.lent.specs.Layout.{stageByte, phaseByte, flagByte, planBytes, cursorBytes, wordBytes, recordInto};
+ghost use Rattle.lent.specs.Layout.{stageByte, phaseByte, flagByte, headBytes, planBytes, cursorBytes, wordBytes, recordInto};
 ghost use Rattle.wire.specs.Answer.{edgeNumber};
 ghost use Rattle.board.specs.Table.{isBusy};
-ghost use Rattle.pack.specs.Code.{laidAt, headFor, changes};
+ghost use Rattle.job.specs.Code.{assemble};
+ghost use Rattle.pack.specs.Code.{laidAt, ReadsAs, changes};
 
 fn stage_byte(stage: Stage) -> u8
     ensures { λ r. ⌜ r ≡ stageByte stage ⌝ }
@@ -62,9 +69,11 @@ pub fn high(word: u16) -> u8
     (word / 256) as u8
 }
 
-fn head_bytes(phase: Phase, rest: Rest) -> [u8; lent::PLACES_AT]
-    ensures { λ r. ⌜ r ≡ headFor phase rest ⌝ }
+fn head_bytes(n: Numbers) -> [u8; lent::PLACES_AT]
+    ensures { λ r. ⌜ r ≡ headBytes (assemble n [] [] []) ⌝ }
 {
+    let phase = n.phase;
+    let rest = n.rest;
     let last = rest.last;
     let end = rest.end;
     [
@@ -147,30 +156,45 @@ fn lay_words(bytes: &mut [u8], at: usize, words: &[u16])
     }
 }
 
-// Writes the record to a buffer of exactly its size; any other buffer stays.
-pub fn encode(board: Record, bytes: &mut [u8])
-    ensures { λ r. ⌜ now (bytes .exit) ≡ recordInto board (now (bytes .entry)) ⌝ }
+// Writes a record's numbers and arrays to a buffer of exactly its size; any other buffer stays.
+pub fn encode_parts(
+    n: Numbers,
+    places: &[u16; 256],
+    unit: &[u8; MAX_FRAME],
+    frame: &[u8; MAX_FRAME],
+    bytes: &mut [u8],
+)
+    ensures { λ r. ⌜ now (bytes .exit)
+        ≡ recordInto (assemble n (now (places .entry)) (now (unit .entry)) (now (frame .entry))) (now (bytes .entry)) ⌝ }
+    ensures back { λ r. ⌜ ReadsAs (now (bytes .entry)) (now (bytes .exit))
+        (assemble n (now (places .entry)) (now (unit .entry)) (now (frame .entry))) ⌝ }
 {
     if bytes.len() != lent::RECORD_SIZE {
         return;
     }
-    let phase = board.phase;
-    let head = head_bytes(phase, job::records::rest_of(board));
-    let places = board.places;
-    let j = board.job;
+    let head = head_bytes(n);
+    let j = n.job;
     let wipe = j.wipe;
     let plan = plan_bytes(j);
-    let c = board.cursor;
+    let c = n.cursor;
     let cursor = cursor_bytes(c);
-    let unit = board.unit;
-    let frame = board.frame;
     lay_at(bytes, 0, &head);
-    lay_words(bytes, lent::PLACES_AT, &places);
+    lay_words(bytes, lent::PLACES_AT, places);
     lay_at(bytes, lent::JOB_AT, &wipe);
     lay_at(bytes, lent::PLAN_AT, &plan);
     lay_at(bytes, lent::CURSOR_AT, &cursor);
-    lay_at(bytes, lent::UNIT_AT, &unit);
-    lay_at(bytes, lent::FRAME_AT, &frame);
+    lay_at(bytes, lent::UNIT_AT, unit);
+    lay_at(bytes, lent::FRAME_AT, frame);
+}
+
+// The same of a whole record.
+pub fn encode(board: Record, bytes: &mut [u8])
+    ensures { λ r. ⌜ now (bytes .exit) ≡ recordInto board (now (bytes .entry)) ⌝ }
+{
+    let places = board.places;
+    let unit = board.unit;
+    let frame = board.frame;
+    encode_parts(records::numbers_of(board), &places, &unit, &frame, bytes);
 }
 
 // ---- the record after a call

@@ -7,12 +7,11 @@ ghost use Rattle.lent.specs.Layout.{bytesIn, recordIn};
 use crate::cursor_in;
 use crate::frame_in;
 use crate::job_in;
-use crate::phase_in;
+use crate::phase_of;
 use crate::places_in;
+use crate::rest_of;
 use crate::tail;
-use crate::word_in;
 use board::Phase;
-use board::Rest;
 use board::Stage;
 use flash::byte_at;
 use frame::MAX_FRAME;
@@ -22,14 +21,9 @@ use job::records::Numbers;
 pub fn numbers(bytes: &[u8]) -> Numbers
     ensures { λ r. ⌜ r ≡ numbersOf (recordIn (now (bytes .entry))) ⌝ }
 {
-    let rest = Rest {
-        last: word_in(bytes, lent::LAST_AT),
-        block: byte_at(bytes, lent::BLOCK_AT),
-        end: word_in(bytes, lent::END_AT),
-    };
     Numbers {
-        phase: phase_in(byte_at(bytes, 0)),
-        rest: rest,
+        phase: phase_of(bytes),
+        rest: rest_of(bytes),
         job: job_in(tail(bytes, lent::JOB_AT)),
         cursor: cursor_in(tail(bytes, lent::CURSOR_AT)),
     }

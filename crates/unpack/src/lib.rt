@@ -1,5 +1,6 @@
 // The record from bytes: every content of every length is some record.
 mod drive;
+mod head;
 
 use board::Cursor;
 use board::Job;
@@ -16,6 +17,8 @@ pub use drive::unit_byte;
 use flash::BLOCKS;
 use flash::byte_at;
 use frame::MAX_FRAME;
+pub use head::phase_of;
+pub use head::rest_of;
 use wire::word_at;
 ghost use mathlib.Core.Path.{_≡_};
 ghost use lib.ListN.{take, drop};

@@ -15,13 +15,8 @@ numbers-spec =
     (λ c κs. search needs)
     (λ c κs. search needs)
     (λ c κs. search needs)
-    (λ c κs. search needs)
-    (λ c κs. search needs)
-    (λ c κs. search needs)
     (λ c.
-    let phase-in′ = c .before .before .before .before .phase-in in
-    let byte-at2′ = c .before .before .before .before .before .byte-at2 in
-    let word-in2′ = c .before .before .before .before .before .before .word-in2 in
-    let byte-at′ = c .before .before .before .before .before .before .before .byte-at in
-    let word-in′ = c .before .before .before .before .before .before .before .before .word-in in
-    rw (word-in′ .ensures, byte-at′ .ensures, word-in2′ .ensures, phase-in′ .ensures, byte-at2′ .ensures, c .before .before .job-in .ensures, c .before .before .before .tail .ensures, c .cursor-in .ensures, c .before .tail2 .ensures)))
+    let rest-of′ = c .before .before .before .before .rest-of in
+    let phase-of′ = c .before .before .before .before .before .phase-of in
+    rw (phase-of′ .ensures, rest-of′ .ensures, c .before .before .job-in .ensures, c .before .before .before .tail .ensures,
+    c .cursor-in .ensures, c .before .tail2 .ensures)))
