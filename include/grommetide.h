@@ -20,8 +20,8 @@
  * The image
  *
  *   image_len is a multiple of 256 from 512 to 65,536; the image is two halves of image_len / 2 bytes. A flash step programs
- *   one byte (new = old AND given, so bits are only cleared) or erases one half (all its bytes become 0xFF). It may change
- *   nothing (0xFF programmed over 0xFF). With 512 bytes there is room for values of up to 212 bytes, from 768 on for all
+ *   one byte (new = old AND given, so bits are only cleared) or erases one half (all its bytes become 0xFF). Programming 0xFF
+ *   is a step too, which changes nothing. With 512 bytes there is room for values of up to 212 bytes, from 768 on for all
  *   (docs/STORE.md, Room).
  *
  * How flash is connected
@@ -50,7 +50,7 @@
  *      is done to the chip and to the copy, then grommetide_made is called with the copy. examples/c/restart.c does this.
  *
  *   A power cut after the flash step and before grommetide_made is a cut after that step. grommetide_next changes nothing,
- *   so it may be asked again. Call grommetide_made only for a step that was made.
+ *   so it may be asked again. Call grommetide_made only for a step that was made; a driver need not send 0xFF to the chip.
  *
  * What the flash must do
  *
@@ -97,7 +97,7 @@
  *   Bytes of stack that a call takes at most, its return address included (held by a test that paints the stack):
  *
  *     grommetide_mount        4,096
- *     grommetide_format       4,096
+ *     grommetide_format         192
  *     grommetide_request      4,096
  *     grommetide_read         4,096
  *     grommetide_next         4,096
