@@ -25,36 +25,37 @@ impl<S: Store> Side<S> {
         self.store.head(&self.record)
     }
 
-    /// Makes the call. A refused step or request must leave the record as it is; mount and format take none.
+    /// Makes the call. Mount and format take no record; the other calls leave it as it is unless a job begins in it or a
+    /// step of its job is made.
     pub fn call(&mut self, call: &Call) -> Outcome {
         let mut outcome =
             Outcome { answer: Answer::DONE, steps: 0, reply: Vec::new(), stretch: Stretch::default() };
+        let (image, before) = (&mut self.image, self.record.clone());
+        let record = &mut self.record;
         match call {
-            Call::Mount => (outcome.answer, self.record) = self.store.mount(&self.image),
-            Call::Format => (outcome.answer, self.record) = self.store.format(&self.image),
+            Call::Mount => (outcome.answer, *record) = self.store.mount(image),
+            Call::Format => (outcome.answer, *record) = self.store.format(image),
             Call::Step => {
-                let before = self.record.clone();
-                let busy = self.head() == Head::Job;
-                outcome.answer = self.store.step(&mut self.image, &mut self.record);
+                let busy = self.store.head(record) == Head::Job;
+                outcome.answer = self.store.step(image, record);
                 outcome.steps = usize::from(busy && !outcome.answer.refused());
-                let kept = !outcome.answer.refused() || self.record == before;
-                assert!(kept, "step answered {} and changed the record", outcome.answer);
             }
-            Call::Run(most) => {
-                (outcome.answer, outcome.steps) = self.store.run(&mut self.image, &mut self.record, *most);
-            }
+            Call::Run(most) => (outcome.answer, outcome.steps) = self.store.run(image, record, *most),
             Call::Request { host, message, reply } => {
-                let before = self.record.clone();
                 outcome.reply = vec![UNWRITTEN; *reply];
-                outcome.answer =
-                    self.store.request(&self.image, &mut self.record, *host, message, &mut outcome.reply);
-                let kept = outcome.answer == Answer::MORE || self.record == before;
-                assert!(kept, "request answered {} and changed the record", outcome.answer);
+                outcome.answer = self.store.request(image, record, *host, message, &mut outcome.reply);
             }
             Call::Read { host, message } => {
-                (outcome.answer, outcome.stretch) = self.store.read(&self.image, &self.record, *host, message);
+                (outcome.answer, outcome.stretch) = self.store.read(image, record, *host, message);
             }
         }
+        let kept = match call {
+            Call::Mount | Call::Format => false,
+            Call::Step | Call::Run(_) => outcome.steps == 0,
+            Call::Request { .. } => outcome.answer != Answer::MORE,
+            Call::Read { .. } => true,
+        };
+        assert!(!kept || self.record == before, "{call} answered {} and changed the record", outcome.answer);
         outcome
     }
 
