@@ -1,6 +1,6 @@
 /*
  * The store on a simulated SPI NOR chip (chip.c) through a driver (spi_nor.c), with a power cut before every command of a
- * script and before every command of each recovery. The same calls are made on a plain image with grommetide_step; after
+ * script and before every command of each restart. The same calls are made on a plain image with grommetide_step; after
  * every step answers, bytes and records must be the same. After every restart the objects are those of the commits whose
  * last byte is in the flash.
  *
