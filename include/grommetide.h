@@ -96,14 +96,14 @@
  *
  *   Bytes of stack that a call takes at most, its return address included (held by a test that paints the stack):
  *
- *     grommetide_mount        4,096
+ *     grommetide_mount        2,304
  *     grommetide_format         192
- *     grommetide_request      4,096
- *     grommetide_read         4,096
- *     grommetide_next         4,096
- *     grommetide_made         4,096
- *     grommetide_step         4,096
- *     grommetide_run          4,096
+ *     grommetide_request      2,304
+ *     grommetide_read         1,792
+ *     grommetide_next           576
+ *     grommetide_made         2,816
+ *     grommetide_step         2,560
+ *     grommetide_run          3,072
  */
 #ifndef GROMMETIDE_H
 #define GROMMETIDE_H
