@@ -10,19 +10,16 @@ use board::Stage;
 pub use drive::write_loaded;
 pub use drive::write_step;
 use frame::MAX_FRAME;
-use job::Outcome;
 use job::records;
 use job::records::Numbers;
 pub use jobs::begun;
 pub use jobs::new_record;
 use wire::Answer;
 ghost use mathlib.Core.Path.{_≡_};
-ghost use mathlib.Core.Bool.{cond};
 ghost use mathlib.Core.List.{[]};
 ghost use Prim.Native.Nat.{_+_, _*_, _/_, _%_, _≤_};
 ghost use lib.ListN.{length};
 ghost use Rattle.lent.specs.Layout.{stageByte, phaseByte, flagByte, headBytes, planBytes, cursorBytes, wordBytes, recordInto};
-ghost use Rattle.wire.specs.Answer.{edgeNumber};
 ghost use Rattle.board.specs.Table.{isBusy};
 ghost use Rattle.job.specs.Code.{assemble};
 ghost use Rattle.pack.specs.Code.{laidAt, ReadsAs, changes};
@@ -197,17 +194,7 @@ pub fn encode(board: Record, bytes: &mut [u8])
     encode_parts(records::numbers_of(board), &places, &unit, &frame, bytes);
 }
 
-// ---- the record after a call
-
-// The record written, and the answer.
-pub fn hand_over(out: Outcome, board: &mut [u8]) -> u8
-    ensures { λ r. ⌜ (r ≡ edgeNumber (out .answer)) × (now (board .exit) ≡ recordInto (out .board) (now (board .entry))) ⌝ }
-{
-    let b = out.board;
-    encode(b, board);
-    let answer = out.answer;
-    wire::number(answer)
-}
+// ---- whether a step changed the record
 
 fn in_job(phase: Phase) -> bool
     ensures { λ r. ⌜ r ≡ isBusy phase ⌝ }
@@ -228,17 +215,4 @@ pub fn changes(phase: Phase, answer: Answer) -> bool
         Answer::More => true,
         Answer::Refused(_) => false,
     }
-}
-
-// The record written where it changed, by the phase before the call; and the answer.
-pub fn finish(phase: Phase, out: Outcome, board: &mut [u8]) -> u8
-    ensures { λ r. ⌜ (r ≡ edgeNumber (out .answer))
-        × (now (board .exit) ≡ cond (changes phase (out .answer))
-        (recordInto (out .board) (now (board .entry))) (now (board .entry))) ⌝ }
-{
-    let answer = out.answer;
-    if changes(phase, answer) {
-        return hand_over(out, board);
-    }
-    wire::number(answer)
 }

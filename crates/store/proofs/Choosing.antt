@@ -29,7 +29,7 @@ use Rattle.board.specs.Step.{begin}
 use Rattle.board.specs.Mount.{Found, wipeList, wipeArray, needsTransfer, mountAt, mountFound, mountOn}
 use Rattle.board.proofs.Deciding.{foundIn, store}
 use Rattle.job.specs.declared.records.Stepped.{Stepped}
-use Rattle.job.specs.Code.{assemble, leavesIf, begins, Steps}
+use Rattle.job.specs.Code.{assemble, leaves, leavesIf, begins}
 use Rattle.job.proofs.Entering.{wipe-leaves}
 use Rattle.store.specs.declared.mounts.Choice.{Choice}
 use Rattle.store.specs.Calls.{Gives, refused, needsIn, wipeOther, chooseValid, chooseOf, mountIn, mountChosen, placesFor}
@@ -37,8 +37,10 @@ use Rattle.store.proofs.Images.{block-fits}
 use Rattle.store.proofs.Transfers.{needs-is}
 
 -- what a mount came to, by the places of the chosen block
-abbrev Came : List ℕ → List ℕ → Stepped → Out → Type 0
-Came img p s o = Steps p noFrame noFrame s img o
+pub record Came (img p : List ℕ) (s : Stepped) (o : Out) : Type 0 where
+  pub image : img ≡ o .image
+  pub answers : s .answer ≡ o .answer
+  pub gives : leaves s p noFrame noFrame ≡ o .board
 
 came-if : (img p : List ℕ) (t : Bool) {s u : Stepped} {o x : Out} → Came img p s o → Came img p u x → Came img p (cond t s u) (cond t o x)
 came-if img p true a b = a

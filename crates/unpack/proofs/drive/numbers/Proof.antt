@@ -18,5 +18,11 @@ numbers-spec =
     (λ c.
     let rest-of′ = c .before .before .before .before .rest-of in
     let phase-of′ = c .before .before .before .before .before .phase-of in
-    rw (phase-of′ .ensures, rest-of′ .ensures, c .before .before .job-in .ensures, c .before .before .before .tail .ensures,
-    c .cursor-in .ensures, c .before .tail2 .ensures)))
+    rw (
+      phase-of′ .ensures,
+      rest-of′ .ensures,
+      c .before .before .job-in .ensures,
+      c .before .before .before .tail .ensures,
+      c .cursor-in .ensures,
+      c .before .tail2 .ensures,
+    )))
