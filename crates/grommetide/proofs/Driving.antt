@@ -1,12 +1,12 @@
 -- Flash that the caller drives, at the edge: next and made are a step; a run writes the record if it made a step.
 use mathlib.Core.Path.{_≡_, refl, sym, ap, _∙_}
-use mathlib.Core.List.{List, []}
+use mathlib.Core.List.{List}
 use mathlib.Core.Bool.{Bool, true, false, cond}
-use Prim.Native.Nat.{ℕ, zero, suc, _-_, _≤_, _<_}
+use Prim.Native.Nat.{ℕ, zero, suc, _<_}
 use native.Mathlib.Omega.{arith}
 use lib.Dec.{eqb}
 use lib.ListN.{length}
-use borrow.Author.Tests.{eq-eqb, ne-eqb}
+use borrow.Author.Tests.{ne-eqb}
 use Rattle.flash.proofs.Cases.{on-test}
 use Rattle.wire.specs.declared.Answer.{Answer}
 use Rattle.wire.specs.declared.Answer.the-variants.{Done, More, Refused}
@@ -28,7 +28,7 @@ use Rattle.drive.proofs.Running.{run-on, run-over, run-done, run-refused}
 use Rattle.lent.specs.Layout.{recordSize, recordIn, recordBytes}
 use Rattle.pack.specs.Code.{loadedIn, Holds}
 use Rattle.grommetide.specs.Edge.{Edge, edge, written, holdsRecord, edgeStep, edgeMade, tells, told, flashedBy, edgeNext}
-use Rattle.grommetide.specs.Edge.{Run, run, ran, edgeRun, NoStepStays, EdgeNextThenMade}
+use Rattle.grommetide.specs.Edge.{run, ran, edgeRun, NoStepStays, EdgeNextThenMade}
 use Rattle.grommetide.proofs.Buffers.{filled}
 
 -- ---- next, then made

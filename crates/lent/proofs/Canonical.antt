@@ -7,7 +7,7 @@ use native.Mathlib.Nat.{zero-add}
 use native.Mathlib.Numerals.{add-one}
 use lib.ListN.{length, getD, take, drop, set, length-append, length-drop, take-append-drop}
 use lib.Seq.{take-at, drop-cons, drop-drop, getD-drop, length-take-le}
-use Rattle.flash.specs.Bytes.{u16le, u32le, le16, le32}
+use Rattle.flash.specs.Bytes.{u16le, u32le, le32}
 use Rattle.flash.specs.Flash.{blocks}
 use Rattle.wire.specs.Message.{wordAt}
 use Rattle.board.specs.declared.Stage.{Stage}

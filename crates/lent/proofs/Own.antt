@@ -3,7 +3,7 @@ use mathlib.Core.Path.{_≡_, refl, sym, ap, _∙_}
 use mathlib.Core.List.{List, [], _∷_, _++_, append-assoc, append-nil}
 use Prim.Native.Nat.{ℕ, zero, suc, _+_, _-_, _*_, _/_, _%_, _≤_, _<_}
 use native.Mathlib.Omega.{arith}
-use lib.ListN.{length, getD, take, drop, replicate, length-append, length-take, length-drop, length-replicate, take-append-drop}
+use lib.ListN.{length, getD, take, drop, length-append, length-take, length-drop, length-replicate, take-append-drop}
 use lib.Seq.{take-all, drop-at, drop-drop, drop-append-le, getD-drop, length-take-le}
 use Rattle.flash.specs.Flash.{blocks}
 use Rattle.frame.specs.Frame.{maxFrame}

@@ -2,7 +2,7 @@
 use mathlib.Core.Path.{_≡_, refl, sym, ap, _∙_}
 use mathlib.Core.List.{List}
 use mathlib.Core.Bool.{Bool, true, false, false≢true, cond}
-use Prim.Native.Nat.{ℕ, suc, _+_, _/_, _%_, _≤_, _<_}
+use Prim.Native.Nat.{ℕ, suc, _+_, _/_, _%_, _<_}
 use native.Mathlib.Omega.{arith}
 use lib.ListN.{length, getD, set, drop}
 use lib.Seq.{drop-drop, getD-drop}
@@ -21,7 +21,7 @@ use Rattle.board.specs.Record.{Out, inStage}
 use Rattle.board.specs.Step.{action, nextIndex, nextByte, advance, stepped, stepOn}
 use Rattle.board.proofs.Outcomes.{step-goes}
 use Rattle.job.specs.Code.{did}
-use Rattle.lent.specs.Layout.{madeAt, copyAt, offAt, movesAt, dropsAt, targetAt, appendAt, lastAt, blockAt, endAt, jobAt, planAt, cursorAt, recordSize}
+use Rattle.lent.specs.Layout.{madeAt, copyAt, offAt, targetAt, appendAt, lastAt, blockAt, endAt, jobAt, planAt, cursorAt, recordSize}
 use Rattle.lent.specs.Layout.{phaseIn, recordIn, recordBytes}
 use Rattle.lent.proofs.Inverse.{Sized, record-back}
 use Rattle.lent.proofs.Own.{own-sized}
