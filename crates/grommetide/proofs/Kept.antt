@@ -1,28 +1,24 @@
 -- Where the buffer is not written, the record that comes back is the one that was given.
 use mathlib.Core.Path.{_≡_, refl, sym, ap, subst, _∙_}
-use mathlib.Core.List.{List}
+use mathlib.Core.List.{List, []}
 use mathlib.Core.Bool.{true, false, true≢false, _&&_}
 use Prim.Native.Nat.{ℕ, suc}
-use native.Mathlib.Omega.{arith}
 use lib.Dec.{eqb}
 use lib.ListN.{length}
-use borrow.Author.Tests.{lt-ltb}
 use Rattle.flash.specs.Flash.{apply, sizeOf, within}
 use Rattle.flash.proofs.Cases.{on-test}
-use Rattle.frame.specs.declared.Host.{Host}
-use Rattle.frame.specs.Frame.{Frame, frameLen}
 use Rattle.wire.specs.declared.Answer.{Answer}
-use Rattle.wire.specs.declared.Answer.the-variants.{More}
+use Rattle.wire.specs.declared.Answer.the-variants.{Done, More}
+use Rattle.wire.specs.declared.Refusal.the-variants as refusal
 use Rattle.board.specs.declared.Stage.{Stage}
 use Rattle.board.specs.declared.Phase.{Phase}
 use Rattle.board.specs.declared.Phase.the-variants.{Unmounted, Idle, Busy}
 use Rattle.board.specs.declared.Record.{Record}
-use Rattle.board.specs.Record.{Out, answerIn, answerOf}
-use Rattle.board.specs.Step.{enterWipe, action, advance, stepOn}
-use Rattle.board.specs.Queue.{Held, needsRoom, appendJob, requestOn}
+use Rattle.board.specs.Record.{Out, out, refuse, answerIn}
+use Rattle.board.specs.Step.{action, advance, stepped, stepOn}
+use Rattle.board.specs.Drive.{madeIn, madeOn}
 use Rattle.board.specs.Demand1.{Rests}
-use Rattle.board.proofs.Outcomes.{wipe-skips, open-enters, open-skips, append-enters, step-resting, step-outside, step-goes}
-use Rattle.board.proofs.Planning.{Met, refused, done, begun, request-met}
+use Rattle.board.proofs.Outcomes.{step-resting, step-outside, step-goes}
 use Rattle.pack.specs.Code.{changes}
 
 -- a call that left the record, or that changes it
@@ -34,8 +30,6 @@ kept r o o′ e b w = ap (λ (x : Out). x .board) e ∙ b
 
 wrote : (r : Record) (o : Out) (p : Phase) (a : Answer) → r .phase ≡ p → o .answer ≡ a → changes p a ≡ true → Keeps r o
 wrote r o p a e d t w = absurd (true≢false (sym t ∙ sym (ap (λ (x : Phase). changes x a) e) ∙ sym (ap (changes (r .phase)) d) ∙ w))
-
--- ---- a step
 
 in-job : (s : Stage) (p : Phase) → changes (Busy s) (answerIn p) ≡ true
 in-job s Unmounted = refl
@@ -54,23 +48,20 @@ step-keeps img r = by (r .phase) refl
         (in-job s (advance s (apply (sizeOf img) (action s r) img) r .phase)))
         (λ t. kept r _ _ (step-outside img r s e t) refl)
 
--- ---- a request
+-- ---- a step that the caller made
 
--- a frame has at least its length, kind and last byte, so that its job has a step
-job-begins : (img : List ℕ) (r : Record) (x : Held) (f : Frame) → answerOf (enterWipe (appendJob img r x f)) ≡ More
-job-begins img r x f =
-    on-test (needsRoom img r f)
-    (λ t. ap answerOf (wipe-skips a refl ∙ open-enters a t))
-    (λ t. ap answerOf (wipe-skips a refl ∙ open-skips a t ∙ append-enters a (lt-ltb 0 (frameLen f) (omega arith))))
+pub made-cases : (P : Out → Type 0) (img : List ℕ) (r : Record) → P (out Done img r [])
+    → ((s : Stage) → r .phase ≡ Busy s → P (stepped img (advance s img r))) → P (refuse refusal.Stale img r []) → P (madeOn img r)
+unfolding madeOn
+made-cases P img r rests goes stale = by (r .phase) refl
   where
-    a : Record
-    a = appendJob img r x f
+    by : (p : Phase) → r .phase ≡ p → P (madeIn p img r)
+    by Unmounted e = rests
+    by Idle e = rests
+    by (Busy s) e = on-test (eqb (length img) (suc (r .last)) && within (sizeOf img) (action s r)) (λ t. rw t (goes s e)) (λ t. rw t stale)
 
-pub request-keeps : (img : List ℕ) (r : Record) (reply : List ℕ) (h : Host) (m : List ℕ) → Keeps r (requestOn img r reply h m)
-request-keeps img r reply h m = by (request-met img r reply h m)
-  where
-    by : Met img r reply h m (requestOn img r reply h m) → Keeps r (requestOn img r reply h m)
-    by (refused n e) = kept r _ _ e refl
-    by (done d i b) = λ w. b
-    by (begun y e) =
-        wrote r (requestOn img r reply h m) _ More refl (ap (λ (o : Out). o .answer) e ∙ job-begins img r (y .holding) (y .frame)) refl
+pub made-keeps : (img : List ℕ) (r : Record) → Keeps r (madeOn img r)
+made-keeps img r =
+    made-cases (Keeps r) img r (λ _. refl)
+    (λ s e. wrote r (stepped img (advance s img r)) (Busy s) _ e refl (in-job s (advance s img r .phase)))
+    (λ _. refl)

@@ -1,13 +1,20 @@
 // The library for C: include/grommetide.h. The record crosses as bytes.
+mod next;
+mod steps;
+
 ghost use mathlib.Core.Path.{_≡_};
-ghost use Rattle.board.specs.Step.{stepOn};
 ghost use Rattle.board.specs.Mount.{mountOn, formatOn};
 ghost use Rattle.board.specs.Queue.{requestOn};
 ghost use Rattle.lent.specs.Layout.{recordSize, recordIn};
-ghost use Rattle.grommetide.specs.Edge.{edgeMount, edgeFormat, edgeRequest, edgeStep, ReadsBack};
+ghost use Rattle.grommetide.specs.Edge.{edgeMount, edgeFormat, edgeRequest, ReadsBack};
 ghost use Rattle.grommetide.specs.Edge.{place, isRead, asRead, edgeRead};
 use frame::Host;
+use job::records;
 use lent::RECORD_SIZE;
+pub use next::grommetide_next;
+pub use steps::grommetide_made;
+pub use steps::grommetide_run;
+pub use steps::grommetide_step;
 use wire::Parsed;
 use wire::Request;
 
@@ -32,7 +39,10 @@ pub extern "C" fn grommetide_mount(image: &[u8], board: &mut [u8]) -> u8
     if board.len() != RECORD_SIZE {
         return WRONG_RECORD;
     }
-    pack::hand_over(store::mount(image), board)
+    let mut places = records::no_places();
+    let s = store::mount_core(image, &mut places);
+    let frame = records::no_frame();
+    pack::new_record(s, &places, &frame, board)
 }
 
 #[no_mangle]
@@ -44,7 +54,9 @@ pub extern "C" fn grommetide_format(image: &[u8], board: &mut [u8]) -> u8
     if board.len() != RECORD_SIZE {
         return WRONG_RECORD;
     }
-    pack::hand_over(store::format(image), board)
+    let places = records::no_places();
+    let frame = records::no_frame();
+    pack::new_record(store::format_core(image), &places, &frame, board)
 }
 
 #[no_mangle]
@@ -68,27 +80,21 @@ pub extern "C" fn grommetide_request(
     if board.len() != RECORD_SIZE {
         return WRONG_RECORD;
     }
-    let b = unpack::decode(board);
-    let out = queue::request(image, b, Host(host), message, reply);
-    let phase = b.phase;
-    pack::finish(phase, out, board)
-}
-
-#[no_mangle]
-pub extern "C" fn grommetide_step(image: &mut [u8], board: &mut [u8]) -> u8
-    ensures { λ r. ⌜ (r ≡ edgeStep (now (image .entry)) (now (board .entry)) .answer)
-        × (now (image .exit) ≡ edgeStep (now (image .entry)) (now (board .entry)) .image)
-        × (now (board .exit) ≡ edgeStep (now (image .entry)) (now (board .entry)) .board) ⌝ }
-    ensures back { λ r. ⌜ ReadsBack (now (board .entry)) (now (board .exit))
-        (stepOn (now (image .entry)) (recordIn (now (board .entry))) .board) ⌝ }
-{
-    if board.len() != RECORD_SIZE {
-        return WRONG_RECORD;
-    }
-    let b = unpack::decode(board);
-    let out = job::step(image, b);
-    let phase = b.phase;
-    pack::finish(phase, out, board)
+    let phase = unpack::phase_of(board);
+    let rest = unpack::rest_of(board);
+    let mut places = records::no_places();
+    let mut frame = records::no_frame();
+    let s = queue::request_core(
+        image,
+        phase,
+        rest,
+        Host(host),
+        message,
+        reply,
+        &mut places,
+        &mut frame,
+    );
+    pack::begun(s, &places, &frame, board)
 }
 
 fn is_read(parsed: Parsed) -> bool
@@ -132,17 +138,11 @@ pub extern "C" fn grommetide_read(
     if board.len() != RECORD_SIZE {
         return WRONG_RECORD;
     }
-    let b = unpack::decode(board);
-    let ask = as_read(message);
-    let place = queue::locate(image, b, Host(host), ask);
-    *at = place.at;
-    *len = place.size;
-    // a place was found, so that the request would be done
-    if place.at != 0 {
-        return DONE;
-    }
-    let mut none: [u8; 0] = [];
-    let out = queue::request(image, b, Host(host), ask, &mut none);
-    let answer = out.answer;
+    let phase = unpack::phase_of(board);
+    let rest = unpack::rest_of(board);
+    let found = queue::find(image, phase, rest, Host(host), as_read(message));
+    *at = found.at;
+    *len = found.size;
+    let answer = found.answer;
     wire::number(answer)
 }

@@ -1,8 +1,8 @@
 // Board records: each kind is built in one place. A record's numbers go by themselves, its arrays apart.
 ghost use mathlib.Core.Path.{_≡_};
-ghost use Rattle.board.specs.Record.{noPlaces, noFrame, noJob, cursor, starting, restOf, resting, unmounted, idle, busyWith, answerOf};
-ghost use Rattle.board.specs.Step.{first, enterWipe};
-ghost use Rattle.job.specs.Code.{numbersOf, assemble, going, over, staying, leaves, outcome, goAppend, landedOn, goDrop, goOpen, goWipe};
+ghost use Rattle.board.specs.Record.{noPlaces, noFrame, noJob, cursor, starting, restOf, resting, unmounted, idle};
+ghost use Rattle.board.specs.Step.{first};
+ghost use Rattle.job.specs.Code.{numbersOf, assemble, going, atRest, over, staying, leaves, outcome, goAppend, landedOn, goDrop, goOpen, goWipe, begins};
 use crate::Outcome;
 use board::Cursor;
 use board::Job;
@@ -132,25 +132,6 @@ pub fn starting(id: u16, source: u16) -> Cursor
     }
 }
 
-// A job not yet begun, with the frame to append.
-pub fn busy(
-    rest: Rest,
-    places: [u16; 256],
-    job: Job,
-    cursor: Cursor,
-    frame: [u8; MAX_FRAME],
-) -> Record
-    ensures { λ r. ⌜ r ≡ busyWith rest places job cursor frame ⌝ }
-{
-    let n = Numbers {
-        phase: Phase::Busy(Stage::Wipe),
-        rest: rest,
-        job: job,
-        cursor: cursor,
-    };
-    assemble(n, places, no_frame(), frame)
-}
-
 // ---- a record apart
 
 pub fn numbers_of(board: Record) -> Numbers
@@ -167,7 +148,12 @@ pub fn numbers_of(board: Record) -> Numbers
     }
 }
 
-fn assemble(n: Numbers, places: [u16; 256], unit: [u8; MAX_FRAME], frame: [u8; MAX_FRAME]) -> Record
+pub fn assemble(
+    n: Numbers,
+    places: [u16; 256],
+    unit: [u8; MAX_FRAME],
+    frame: [u8; MAX_FRAME],
+) -> Record
     ensures { λ r. ⌜ r ≡ assemble n places unit frame ⌝ }
 {
     let phase = n.phase;
@@ -231,21 +217,28 @@ pub fn going(stage: Stage, cursor: Cursor, n: Numbers) -> Stepped
     }
 }
 
-// It ended.
-pub fn over(rest: Rest) -> Stepped
-    ensures { λ r. ⌜ r ≡ over rest ⌝ }
+// None is left, or none began.
+pub fn at_rest(answer: Answer, phase: Phase, rest: Rest) -> Stepped
+    ensures { λ r. ⌜ r ≡ atRest answer phase rest ⌝ }
 {
     let next = Numbers {
-        phase: Phase::Idle,
+        phase: phase,
         rest: rest,
         job: no_job(),
         cursor: no_cursor(),
     };
     Stepped {
-        answer: Answer::Done,
+        answer: answer,
         next: next,
         ended: true,
     }
+}
+
+// It ended.
+pub fn over(rest: Rest) -> Stepped
+    ensures { λ r. ⌜ r ≡ over rest ⌝ }
+{
+    at_rest(Answer::Done, Phase::Idle, rest)
 }
 
 // It stays as it is.
@@ -342,11 +335,14 @@ fn enter_wipe(n: Numbers) -> Stepped
 }
 
 // A job accepted: no step is taken yet.
-pub fn begin(board: Record) -> Outcome
-    ensures { λ r. ⌜ (r .answer ≡ answerOf (enterWipe board)) × (r .board ≡ enterWipe board) ⌝ }
+pub fn begin(rest: Rest, job: Job, cursor: Cursor) -> Stepped
+    ensures { λ r. ⌜ r ≡ begins rest job cursor ⌝ }
 {
-    let places = board.places;
-    let unit = board.unit;
-    let frame = board.frame;
-    give_back(enter_wipe(numbers_of(board)), places, unit, frame)
+    let n = Numbers {
+        phase: Phase::Busy(Stage::Wipe),
+        rest: rest,
+        job: job,
+        cursor: cursor,
+    };
+    enter_wipe(n)
 }

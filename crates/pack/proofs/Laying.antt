@@ -14,7 +14,8 @@ use Rattle.flash.specs.Flash.{blocks}
 use Rattle.frame.specs.Frame.{maxFrame}
 use Rattle.board.specs.declared.Record.{Record}
 use Rattle.lent.specs.Layout.{cursorSize, planSize, placesAt, placesSize, jobAt, planAt, cursorAt, unitAt, frameAt, recordSize}
-use Rattle.lent.specs.Layout.{wordBytes, headBytes, planBytes, cursorBytes, recordBytes}
+use Rattle.lent.specs.Layout.{wordBytes, headBytes, planBytes, cursorBytes, recordBytes, recordIn}
+use Rattle.lent.proofs.Inverse.{Sized, record-back}
 use Rattle.pack.specs.Code.{laidAt}
 use Rattle.lent.proofs.Words.{length-word-bytes, next-word-bytes}
 
@@ -80,11 +81,11 @@ words-all at ws l i h k =
 -- ---- a record's bytes
 
 -- x is the buffer l with its first bytes written, p
-record Upto (at : ℕ) (p l x : List ℕ) : Type 0 where
-  written : x ≡ p ++ drop at l
-  size : length p ≡ at
+pub record Upto (at : ℕ) (p l x : List ℕ) : Type 0 where
+  pub written : x ≡ p ++ drop at l
+  pub size : length p ≡ at
 
-next : (at n : ℕ) (s : List ℕ) {p l x y : List ℕ} → Upto at p l x → y ≡ laidAt at s x → length s ≡ n → at + n ≤ length l
+pub next : (at n : ℕ) (s : List ℕ) {p l x y : List ℕ} → Upto at p l x → y ≡ laidAt at s x → length s ≡ n → at + n ≤ length l
     → Upto (at + n) (p ++ s) l y
 next at n s {p} {l} {x} {y} u v e k =
     record {
@@ -103,16 +104,18 @@ module _ (r : Record) (l x₁ x₂ x₃ x₄ x₅ x₆ x₇ h p c : List ℕ) (e
     (ec : c ≡ cursorBytes (r .cursor)) (e₁ : x₁ ≡ laidAt 0 h l) (e₂ : x₂ ≡ laidAt placesAt (wordBytes (r .places)) x₁)
     (e₃ : x₃ ≡ laidAt jobAt (r .job .wipe) x₂) (e₄ : x₄ ≡ laidAt planAt p x₃) (e₅ : x₅ ≡ laidAt cursorAt c x₄)
     (e₆ : x₆ ≡ laidAt unitAt (r .unit) x₅) (e₇ : x₇ ≡ laidAt frameAt (r .frame) x₆) where
-  pub encoded : length (r .places) ≡ 256 → length (r .job .wipe) ≡ blocks → length p ≡ planSize → length (r .unit) ≡ maxFrame
-      → length (r .frame) ≡ maxFrame → length l ≡ recordSize → x₇ ≡ recordBytes r
+  laid-whole : Sized r → length p ≡ planSize → length l ≡ recordSize → x₇ ≡ recordBytes r
   unfolding recordBytes
-  encoded np nw nq nu nf nl =
+  laid-whole n nq nl =
       let u₀ : Upto 0 [] l l = record { written = refl; size = refl } in
       let u₁ = next 0 placesAt h u₀ e₁ (ap length eh) (omega (arith, nl)) in
-      let u₂ = next placesAt placesSize (wordBytes (r .places)) u₁ e₂ (length-word-bytes (r .places) ∙ rw np) (omega (arith, nl)) in
-      let u₃ = next jobAt blocks (r .job .wipe) u₂ e₃ nw (omega (arith, nl)) in
+      let u₂ = next placesAt placesSize (wordBytes (r .places)) u₁ e₂ (length-word-bytes (r .places) ∙ rw (n .places)) (omega (arith, nl)) in
+      let u₃ = next jobAt blocks (r .job .wipe) u₂ e₃ (n .wipe) (omega (arith, nl)) in
       let u₄ = next planAt planSize p u₃ e₄ nq (omega (arith, nl)) in
       let u₅ = next cursorAt cursorSize c u₄ e₅ (ap length ec) (omega (arith, nl)) in
-      let u₆ = next unitAt maxFrame (r .unit) u₅ e₆ nu (omega (arith, nl)) in
-      let u₇ = next frameAt maxFrame (r .frame) u₆ e₇ nf (omega (arith, nl)) in
+      let u₆ = next unitAt maxFrame (r .unit) u₅ e₆ (n .unit) (omega (arith, nl)) in
+      let u₇ = next frameAt maxFrame (r .frame) u₆ e₇ (n .frame) (omega (arith, nl)) in
       whole recordSize u₇ nl ∙ flat h (wordBytes (r .places)) (r .job .wipe) p c (r .unit) (r .frame) ∙ rw (eh, ep, ec)
+
+  pub encoded : Sized r → length p ≡ planSize → length l ≡ recordSize → (x₇ ≡ recordBytes r) × (recordIn x₇ ≡ r)
+  encoded n nq nl = let e = laid-whole n nq nl in (e, ap recordIn e ∙ record-back r n)

@@ -1,19 +1,28 @@
 // The record written to its buffer: whole, or where a call changed it.
+mod drive;
+mod jobs;
+
 use board::Cursor;
 use board::Job;
 use board::Phase;
 use board::Record;
 use board::Stage;
-use job::Outcome;
+pub use drive::write_loaded;
+pub use drive::write_step;
+use frame::MAX_FRAME;
+use job::records;
+use job::records::Numbers;
+pub use jobs::begun;
+pub use jobs::new_record;
 use wire::Answer;
 ghost use mathlib.Core.Path.{_≡_};
-ghost use mathlib.Core.Bool.{cond};
+ghost use mathlib.Core.List.{[]};
 ghost use Prim.Native.Nat.{_+_, _*_, _/_, _%_, _≤_};
 ghost use lib.ListN.{length};
 ghost use Rattle.lent.specs.Layout.{stageByte, phaseByte, flagByte, headBytes, planBytes, cursorBytes, wordBytes, recordInto};
-ghost use Rattle.wire.specs.Answer.{edgeNumber};
 ghost use Rattle.board.specs.Table.{isBusy};
-ghost use Rattle.pack.specs.Code.{laidAt, changes};
+ghost use Rattle.job.specs.Code.{assemble};
+ghost use Rattle.pack.specs.Code.{laidAt, ReadsAs, changes};
 
 fn stage_byte(stage: Stage) -> u8
     ensures { λ r. ⌜ r ≡ stageByte stage ⌝ }
@@ -45,29 +54,30 @@ fn flag_byte(flag: bool) -> u8
 }
 
 // A word's two bytes.
-fn low(word: u16) -> u8
+pub fn low(word: u16) -> u8
     ensures { λ r. ⌜ r ≡ word % 256 ⌝ }
 {
     (word % 256) as u8
 }
 
-fn high(word: u16) -> u8
+pub fn high(word: u16) -> u8
     ensures { λ r. ⌜ r ≡ word / 256 ⌝ }
 {
     (word / 256) as u8
 }
 
-fn head_bytes(board: Record) -> [u8; lent::PLACES_AT]
-    ensures { λ r. ⌜ r ≡ headBytes board ⌝ }
+fn head_bytes(n: Numbers) -> [u8; lent::PLACES_AT]
+    ensures { λ r. ⌜ r ≡ headBytes (assemble n [] [] []) ⌝ }
 {
-    let phase = board.phase;
-    let last = board.last;
-    let end = board.end;
+    let phase = n.phase;
+    let rest = n.rest;
+    let last = rest.last;
+    let end = rest.end;
     [
         phase_byte(phase),
         low(last),
         high(last),
-        board.block,
+        rest.block,
         low(end),
         high(end),
     ]
@@ -143,42 +153,48 @@ fn lay_words(bytes: &mut [u8], at: usize, words: &[u16])
     }
 }
 
-// Writes the record to a buffer of exactly its size; any other buffer stays.
-pub fn encode(board: Record, bytes: &mut [u8])
-    ensures { λ r. ⌜ now (bytes .exit) ≡ recordInto board (now (bytes .entry)) ⌝ }
+// Writes a record's numbers and arrays to a buffer of exactly its size; any other buffer stays.
+pub fn encode_parts(
+    n: Numbers,
+    places: &[u16; 256],
+    unit: &[u8; MAX_FRAME],
+    frame: &[u8; MAX_FRAME],
+    bytes: &mut [u8],
+)
+    ensures { λ r. ⌜ now (bytes .exit)
+        ≡ recordInto (assemble n (now (places .entry)) (now (unit .entry)) (now (frame .entry))) (now (bytes .entry)) ⌝ }
+    ensures back { λ r. ⌜ ReadsAs (now (bytes .entry)) (now (bytes .exit))
+        (assemble n (now (places .entry)) (now (unit .entry)) (now (frame .entry))) ⌝ }
 {
     if bytes.len() != lent::RECORD_SIZE {
         return;
     }
-    let head = head_bytes(board);
-    let places = board.places;
-    let j = board.job;
+    let head = head_bytes(n);
+    let j = n.job;
     let wipe = j.wipe;
     let plan = plan_bytes(j);
-    let c = board.cursor;
+    let c = n.cursor;
     let cursor = cursor_bytes(c);
-    let unit = board.unit;
-    let frame = board.frame;
     lay_at(bytes, 0, &head);
-    lay_words(bytes, lent::PLACES_AT, &places);
+    lay_words(bytes, lent::PLACES_AT, places);
     lay_at(bytes, lent::JOB_AT, &wipe);
     lay_at(bytes, lent::PLAN_AT, &plan);
     lay_at(bytes, lent::CURSOR_AT, &cursor);
-    lay_at(bytes, lent::UNIT_AT, &unit);
-    lay_at(bytes, lent::FRAME_AT, &frame);
+    lay_at(bytes, lent::UNIT_AT, unit);
+    lay_at(bytes, lent::FRAME_AT, frame);
 }
 
-// ---- the record after a call
-
-// The record written, and the answer.
-pub fn hand_over(out: Outcome, board: &mut [u8]) -> u8
-    ensures { λ r. ⌜ (r ≡ edgeNumber (out .answer)) × (now (board .exit) ≡ recordInto (out .board) (now (board .entry))) ⌝ }
+// The same of a whole record.
+pub fn encode(board: Record, bytes: &mut [u8])
+    ensures { λ r. ⌜ now (bytes .exit) ≡ recordInto board (now (bytes .entry)) ⌝ }
 {
-    let b = out.board;
-    encode(b, board);
-    let answer = out.answer;
-    wire::number(answer)
+    let places = board.places;
+    let unit = board.unit;
+    let frame = board.frame;
+    encode_parts(records::numbers_of(board), &places, &unit, &frame, bytes);
 }
+
+// ---- whether a step changed the record
 
 fn in_job(phase: Phase) -> bool
     ensures { λ r. ⌜ r ≡ isBusy phase ⌝ }
@@ -191,7 +207,7 @@ fn in_job(phase: Phase) -> bool
 }
 
 // A job began, went on or ended.
-fn changes(phase: Phase, answer: Answer) -> bool
+pub fn changes(phase: Phase, answer: Answer) -> bool
     ensures { λ r. ⌜ r ≡ changes phase answer ⌝ }
 {
     match answer {
@@ -199,17 +215,4 @@ fn changes(phase: Phase, answer: Answer) -> bool
         Answer::More => true,
         Answer::Refused(_) => false,
     }
-}
-
-// The record written where it changed, by the phase before the call; and the answer.
-pub fn finish(phase: Phase, out: Outcome, board: &mut [u8]) -> u8
-    ensures { λ r. ⌜ (r ≡ edgeNumber (out .answer))
-        × (now (board .exit) ≡ cond (changes phase (out .answer))
-        (recordInto (out .board) (now (board .entry))) (now (board .entry))) ⌝ }
-{
-    let answer = out.answer;
-    if changes(phase, answer) {
-        return hand_over(out, board);
-    }
-    wire::number(answer)
 }

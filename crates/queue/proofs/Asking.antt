@@ -27,7 +27,7 @@ use Rattle.wire.specs.Message.{parse}
 use Rattle.board.specs.declared.Phase.{Phase}
 use Rattle.board.specs.declared.Phase.the-variants.{Unmounted, Idle, Busy}
 use Rattle.board.specs.declared.Record.{Record}
-use Rattle.board.specs.Record.{allowed, refuse}
+use Rattle.board.specs.Record.{allowed, restOf, refuse}
 use Rattle.board.specs.Mount.{endOf}
 use Rattle.board.specs.Queue.{Held, held, heldBy, heldIn, heldIf, fitsRecord, serve, requestOn}
 use Rattle.board.proofs.Outcomes.{request-length, request-host, request-busy, request-unmounted, request-stale, request-malformed, request-served}
@@ -64,17 +64,17 @@ same-why : (a why : Refusal) → gate.Shut a ≡ gate.Shut why → a ≡ why
 same-why a why e = cc
 
 module _ (img : List ℕ) (r : Record) (h : Host) where
-  phase-open : (p : Phase) → gateIn p img r ≡ gate.Open → (p ≡ Idle) × (sameAs img (r .last) (r .block) ≡ true)
+  phase-open : (p : Phase) → gateIn p img (restOf r) ≡ gate.Open → (p ≡ Idle) × (sameAs img (r .last) (r .block) ≡ true)
   phase-open (Busy s) e = absurd (open-not refusal.Busy e)
   phase-open Unmounted e = absurd (open-not refusal.NoStore e)
   phase-open Idle e = (refl, open-if (sameAs img (r .last) (r .block)) e)
 
-  pub passed : gateOf img r h ≡ gate.Open → Passed img r h
+  pub passed : gateOf img (r .phase) (restOf r) h ≡ gate.Open → Passed img r h
   unfolding gateOf
   passed e =
       on-test (allowed (length img))
       (λ a. on-test (leb (h .0) hostMax)
-      (λ b. let q : gateIn (r .phase) img r ≡ gate.Open = rw (a, b, gateOf) at e in
+      (λ b. let q : gateIn (r .phase) img (restOf r) ≡ gate.Open = rw (a, b, gateOf) at e in
       let p = phase-open (r .phase) q in record { ok = a; host = b; idle = p .0; same = p .1 })
       (λ b. absurd (open-not refusal.HostRange (rw (a, b, gateOf) at e))))
       (λ a. absurd (open-not refusal.ImageLength (rw (a, gateOf) at e)))
@@ -83,7 +83,7 @@ module _ (img : List ℕ) (r : Record) (h : Host) where
     abbrev Refuses : Refusal → Type 0
     Refuses n = requestOn img r reply h m ≡ refuse n img r reply
 
-    phase-shut : (p : Phase) → r .phase ≡ p → allowed (length img) ≡ true → leb (h .0) hostMax ≡ true → gateIn p img r ≡ gate.Shut why
+    phase-shut : (p : Phase) → r .phase ≡ p → allowed (length img) ≡ true → leb (h .0) hostMax ≡ true → gateIn p img (restOf r) ≡ gate.Shut why
         → Refuses why
     unfolding held
     phase-shut (Busy s) i a b e = rw (← same-why refusal.Busy why e) (request-busy img r reply h m a b s i)
@@ -92,7 +92,7 @@ module _ (img : List ℕ) (r : Record) (h : Host) where
         let p : (sameAs img (r .last) (r .block) ≡ false) × (refusal.Stale ≡ why) = shut-if (sameAs img (r .last) (r .block)) why e in
         rw (← p .1) (request-stale img r reply h m a b i (ap (λ (t : Bool). heldBy t img r) (same-as img r ∙ p .0)))
 
-    pub shut : gateOf img r h ≡ gate.Shut why → Refuses why
+    pub shut : gateOf img (r .phase) (restOf r) h ≡ gate.Shut why → Refuses why
     unfolding gateOf
     shut e =
         on-test (allowed (length img))

@@ -1,5 +1,5 @@
 -- The stretch that a read hands back, and a served request as a whole.
-use mathlib.Core.Path.{_≡_, refl, sym, ap, ap₂, _∙_}
+use mathlib.Core.Path.{_≡_, refl, sym, ap, subst, _∙_}
 use mathlib.Core.List.{List, []}
 use mathlib.Core.Option.{Option, none, some}
 use mathlib.Core.Bool.{Bool, true, false, _&&_, cond}
@@ -25,7 +25,9 @@ use Rattle.survey.specs.Survey.{surveyOf, placesIn}
 use Rattle.fetch.specs.Fetch.{foundOf}
 use Rattle.journal.proofs.States.{Contents}
 use Rattle.journal.proofs.Places.{ValueStands, place-law, no-place, value-zero}
+use Rattle.wire.specs.declared.Answer.the-variants.{Done}
 use Rattle.wire.specs.declared.Refusal.{Refusal}
+use Rattle.wire.specs.declared.Refusal.the-variants as refusal
 use Rattle.wire.specs.declared.Parsed.the-variants.{Is}
 use Rattle.wire.specs.declared.Page.{Page}
 use Rattle.wire.specs.declared.Page.the-variants.{Summary}
@@ -34,14 +36,17 @@ use Rattle.wire.specs.declared.Request.the-variants.{Put, Delete, Commit, Abort
 use Rattle.wire.specs.Message.{parse, valueIn, pageLen}
 use Rattle.wire.proofs.Parsing.{InRange, in-range}
 use Rattle.board.specs.declared.Record.{Record}
-use Rattle.board.specs.Record.{allowed, Stretch, noStretch, Out, refuse}
+use Rattle.board.specs.Record.{allowed, restOf, Stretch, noStretch, Out, refuse}
 use Rattle.board.proofs.Images.{Sized, sized-of, sized-block}
 use Rattle.board.specs.Queue.{Held, needsRoom, append, serveChange, serveEnd, serveRead, serveLog, serve, stretchOf, requestOn, readOn}
 use Rattle.queue.specs.declared.requests.Ask.{Ask}
 use Rattle.queue.specs.declared.requests.Ask.the-variants as ask
-use Rattle.store.specs.Calls.{outcomeOf}
-use Rattle.queue.specs.Calls.{askOf, stretchAt, foundFor}
-use Rattle.serving.specs.Calls.{serveIn, replyIn}
+use Rattle.job.specs.declared.Outcome.{Outcome}
+use Rattle.job.specs.declared.records.Stepped.{Stepped}
+use Rattle.job.specs.Code.{outcome}
+use Rattle.queue.specs.declared.reads.Located.{Located}
+use Rattle.queue.specs.Calls.{askOf, stretchAt, foundFor, AsksRead, answerTo, nothing, Finds}
+use Rattle.serving.specs.Calls.{refused, keptOr, Asks, serveIn, replyIn, frameIn}
 use Rattle.store.proofs.Images.{block-length}
 use Rattle.queue.proofs.Images.{same-inside}
 use Rattle.queue.proofs.Asking.{Passed, Served, unheard, heard}
@@ -93,6 +98,28 @@ module _ (img : List ℕ) (r : Record) (reply : List ℕ) (h : Host) (x : Held)
   stretch-is m (Read i) k = read-found i k (lookup i (replay (x .frames) .objects)) refl
   stretch-is m (Log p) k = log-none p
 
+  -- what was found says how a read is answered
+  read-answers : (i : ObjectId) → i .0 ≤ idMax → (o : Option (List ℕ)) → lookup i (replay (x .frames) .objects) ≡ o → (g : Found)
+      → foundFor (block (sizeOf img) (r .block) img) (placesOf (x .frames)) (Read i) ≡ g → answerTo g ≡ serveRead img r reply x i o .answer
+  read-answers i l none e g q =
+      let z : valueAt (block (sizeOf img) (r .block) img) i (getD (placesOf (x .frames)) (i .0) 0) ≡ none =
+      ap (valueAt (block (sizeOf img) (r .block) img) i) (no-place (x .frames) i l e) ∙ value-zero (block (sizeOf img) (r .block) img) i in
+      ap answerTo (sym q ∙ ap foundOf z)
+  read-answers i l (some v) e g q =
+      let z : ValueStands (block (sizeOf img) (r .block) img) i (getD (placesOf (x .frames)) (i .0) 0) v =
+      place-law (block (sizeOf img) (r .block) img) (x .frames) i v (journal img r reply h x w) l e in
+      ap answerTo (sym q ∙ ap foundOf (z .found))
+
+  answers-is : (m : List ℕ) (q : Request) → InRange m q → AsksRead (Is q) → (g : Found)
+      → foundFor (block (sizeOf img) (r .block) img) (placesOf (x .frames)) q ≡ g → answerTo g ≡ serve img r reply h m x q .answer
+  unfolding serve
+  answers-is m (Put i) k a g e = absurd a
+  answers-is m (Delete i) k a g e = absurd a
+  answers-is m Commit k a g e = absurd a
+  answers-is m Abort k a g e = absurd a
+  answers-is m (Read i) k a g e = read-answers i k (lookup i (replay (x .frames) .objects)) refl g e
+  answers-is m (Log p) k a g e = absurd a
+
   -- what is found lies in the block
   found-in : (i : ObjectId) → i .0 ≤ idMax → (p n : ℕ) (o : Option (List ℕ)) → lookup i (replay (x .frames) .objects) ≡ o
       → foundFor (block (sizeOf img) (r .block) img) (placesOf (x .frames)) (Read i) ≡ found.At p n → p + n ≤ length
@@ -120,10 +147,27 @@ module _ (img : List ℕ) (r : Record) (reply : List ℕ) (h : Host) (x : Held)
   found-inside m (Read i) p n k e = found-in i k p n (lookup i (replay (x .frames) .objects)) refl e
   found-inside m (Log g) p n k e = let u : _≡_ {A = ℕ} 0 1 = cc in absurd (omega arith)
 
--- nothing is handed back by a refused read
-pub none-read : (img : List ℕ) (r : Record) (h : Host) (m : List ℕ) (why : Refusal) → requestOn img r [] h m ≡ refuse why img r []
-    → readOn img r h m ≡ noStretch
-none-read img r h m why e = ap (λ (o : Out). o .stretch) e
+-- a refused request, and a refused read
+pub refused-all : (img : List ℕ) (r : Record) (h : Host) (m reply p f : List ℕ) (why : Refusal) (s : Stepped)
+    → requestOn img r reply h m ≡ refuse why img r reply → s ≡ refused why (restOf r)
+    → let o : Out = requestOn img r reply h m in Asks r p f s o × (reply ≡ o .reply)
+refused-all img r h m reply p f why s e q = rw (e, q) (record { answers = refl; gives = refl }, refl)
+
+pub none-read : (img : List ℕ) (r : Record) (h : Host) (m : List ℕ) (why : Refusal) (l : Located) → requestOn img r [] h m ≡ refuse why img r []
+    → l ≡ nothing why → Finds img r h m l
+none-read img r h m why l e q =
+    rw q (record {
+      answers = λ a. sym (ap (λ (o : Out). o .answer) e);
+      at = sym (ap (λ (o : Out). o .stretch .at) e);
+      size = sym (ap (λ (o : Out). o .stretch .size) e);
+      inside = omega arith;
+    })
+
+-- a request by value
+pub by-value : {r : Record} {p f reply : List ℕ} {s : Stepped} (x : Outcome) (o : Out)
+    → x ≡ outcome (s .answer) (keptOr (s .answer) r (s .next) p f) → Asks r p f s o × (reply ≡ o .reply)
+    → (x .answer ≡ o .answer) × (x .board ≡ o .board) × (reply ≡ o .reply)
+by-value x o e q = (ap (λ (y : Outcome). y .answer) e ∙ q .0 .answers, ap (λ (y : Outcome). y .board) e ∙ q .0 .gives, q .1)
 
 -- ---- a request as far as its message was read
 
@@ -165,16 +209,17 @@ module _ {img : List ℕ} {r : Record} {h : Host} {m : List ℕ} {s : Survey} {a
       places-now : places ≡ placesOf (served .held .frames)
       places-now = ep ∙ ap placesIn (served .state)
 
-      pub served-outcome : (reply : List ℕ) → serveIn (sizeOf img) r reply h m s places q ≡ outcomeOf (requestOn img r reply h m)
-      served-outcome reply =
-          ap₂ (λ (x : Survey) (b : List ℕ). serveIn (sizeOf img) r reply h m x b q) survey-now places-now
-          ∙ sym (serve-is img r reply h (served .held) (served .contents) m q range low) ∙ sym (ap outcomeOf (served .serves reply))
+      pub served-asks : (reply g f : List ℕ) (y : Stepped) → y ≡ serveIn (sizeOf img) (restOf r) reply h m s places q → f ≡ frameIn h m q g
+          → Asks r places f y (requestOn img r reply h m)
+      served-asks reply g f y ey ef =
+          rw (ey, ef, survey-now, places-now, served .serves reply)
+          (serve-is img r reply h (served .held) (served .contents) m q g range low)
 
       module _ (b : List ℕ) (eb : b ≡ block (sizeOf img) (r .block) img) (f : Found) (ef : f ≡ foundFor b places q) where
         found-here : f ≡ foundFor (block (sizeOf img) (r .block) img) places q
         found-here = ef ∙ ap (λ (x : List ℕ). foundFor x places q) eb
 
-        pub read-stretch : (g : Found) → f ≡ g → readOn img r h m ≡ stretchAt (r .block * sizeOf img) g
+        read-stretch : (g : Found) → f ≡ g → readOn img r h m ≡ stretchAt (r .block * sizeOf img) g
         read-stretch g eg =
             ap (λ (o : Out). o .stretch) (served .serves []) ∙ stretch-is img r [] h (served .held) (served .contents) m q range
             ∙ ap (λ (b : List ℕ). stretchAt (r .block * sizeOf img) (foundFor (block (sizeOf img) (r .block) img) b q)) (sym places-now)
@@ -191,7 +236,30 @@ module _ {img : List ℕ} {r : Record} {h : Host} {m : List ℕ} {s : Survey} {a
             (ap (λ (b : List ℕ). foundFor (block (sizeOf img) (r .block) img) b q) (sym places-now) ∙ sym found-here ∙ eg) in
             omega (arith, i, block-length img (r .block) ok there, sized-block (r .block) z there, z .two, z .high)
 
--- a stretch by its numbers
-pub located : {o : Stretch} (s : Stretch) (n : ℕ) → o ≡ s → (a k : ℕ) → a ≡ s .at → k ≡ s .size → s .at + s .size ≤ n
-    → (a ≡ o .at) × (k ≡ o .size) × (a + k ≤ n)
-located s n e a k p q h = (p ∙ sym (ap (λ (x : Stretch). x .at) e), q ∙ sym (ap (λ (x : Stretch). x .size) e), omega arith)
+        -- its answer
+        read-answer : (g : Found) → f ≡ g → AsksRead (parse m) → answerTo g ≡ requestOn img r [] h m .answer
+        read-answer g eg a =
+            answers-is img r [] h (served .held) (served .contents) m q range (subst AsksRead (served .says) a) g
+            (ap (λ (b : List ℕ). foundFor (block (sizeOf img) (r .block) img) b q) (sym places-now) ∙ sym found-here ∙ eg)
+            ∙ sym (ap (λ (o : Out). o .answer) (served .serves []))
+
+        pub read-none : f ≡ found.Nothing → (x : Located) → x ≡ nothing refusal.NoObject → Finds img r h m x
+        read-none eg x ex =
+            let z = read-stretch found.Nothing eg in
+            rw ex (record {
+              answers = read-answer found.Nothing eg;
+              at = sym (ap (λ (s : Stretch). s .at) z);
+              size = sym (ap (λ (s : Stretch). s .size) z);
+              inside = omega arith;
+            })
+
+        pub read-found-at : (at n : ℕ) → f ≡ found.At at n
+            → Finds img r h m (record { answer = Done; at = r .block * sizeOf img + at; size = n })
+        read-found-at at n eg =
+            let z = read-stretch (found.At at n) eg in
+            record {
+              answers = read-answer (found.At at n) eg;
+              at = sym (ap (λ (s : Stretch). s .at) z);
+              size = sym (ap (λ (s : Stretch). s .size) z);
+              inside = read-inside at n eg .0;
+            }

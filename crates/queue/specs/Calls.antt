@@ -1,7 +1,8 @@
 -- What the requests do, by a survey of the current block and in the code's order of tests. proofs/ ties it to board's definitions.
-use mathlib.Core.List.{List}
+use mathlib.Core.Path.{_≡_}
+use mathlib.Core.List.{List, []}
 use mathlib.Core.Bool.{Bool, true, false, _&&_, cond}
-use Prim.Native.Nat.{ℕ, suc, _+_, _*_}
+use Prim.Native.Nat.{ℕ, suc, _+_, _*_, _≤_}
 use lib.Dec.{eqb, ltb, leb}
 use lib.ListN.{length, getD}
 use Rattle.flash.specs.Bytes.{allFF}
@@ -13,6 +14,9 @@ use Rattle.fetch.specs.declared.Found.{Found}
 use Rattle.fetch.specs.declared.Found.the-variants as found
 use Rattle.journal.specs.Index.{valueAt}
 use Rattle.fetch.specs.Fetch.{foundOf}
+use Rattle.wire.specs.declared.Answer.{Answer}
+use Rattle.wire.specs.declared.Answer.the-variants.{Done, Refused}
+use Rattle.wire.specs.declared.Refusal.{Refusal}
 use Rattle.wire.specs.declared.Refusal.the-variants as refusal
 use Rattle.wire.specs.declared.Request.{Request}
 use Rattle.wire.specs.declared.Request.the-variants.{Put, Delete, Commit, Abort, Read, Log}
@@ -21,15 +25,20 @@ use Rattle.wire.specs.declared.Parsed.the-variants.{Is, Malformed}
 use Rattle.wire.specs.Message.{parse}
 use Rattle.board.specs.declared.Phase.{Phase}
 use Rattle.board.specs.declared.Phase.the-variants.{Unmounted, Idle, Busy}
+use Rattle.board.specs.declared.Rest.{Rest}
 use Rattle.board.specs.declared.Record.{Record}
-use Rattle.board.specs.Record.{allowed, Stretch, noStretch}
+use Rattle.board.specs.Record.{allowed, Stretch, noStretch, Out}
 use Rattle.board.specs.Mount.{nextBlock}
+use Rattle.board.specs.Queue.{requestOn, readOn}
+use Rattle.job.specs.declared.records.Stepped.{Stepped}
+use Rattle.job.specs.Code.{placed}
+use Rattle.queue.specs.declared.reads.Located.{Located}
 use Rattle.queue.specs.declared.requests.Gate.{Gate}
 use Rattle.queue.specs.declared.requests.Gate.the-variants as gate
 use Rattle.queue.specs.declared.requests.Ask.{Ask}
 use Rattle.queue.specs.declared.requests.Ask.the-variants as ask
 use Rattle.store.specs.Calls.{isValid}
-use Rattle.serving.specs.Calls.{openIn, claimedIn}
+use Rattle.serving.specs.Calls.{openIn, claimedIn, Asks}
 
 -- ---- before a request is served
 
@@ -41,15 +50,15 @@ openIf false = gate.Shut refusal.Stale
 unfoldable pub sameAs : List ℕ → ℕ → ℕ → Bool
 sameAs img last k = eqb (length img) (suc last) && (ltb k blocks && allFF (block (sizeOf img) (nextBlock k) img))
 
-abbrev pub gateIn : Phase → List ℕ → Record → Gate
-gateIn (Busy s) img r = gate.Shut refusal.Busy
-gateIn Unmounted img r = gate.Shut refusal.NoStore
-gateIn Idle img r = openIf (sameAs img (r .last) (r .block))
+abbrev pub gateIn : Phase → List ℕ → Rest → Gate
+gateIn (Busy s) img z = gate.Shut refusal.Busy
+gateIn Unmounted img z = gate.Shut refusal.NoStore
+gateIn Idle img z = openIf (sameAs img (z .last) (z .block))
 
 -- 4, 10, 5, 2, and of 11 all but the block itself
-unfoldable pub gateOf : List ℕ → Record → Host → Gate
-gateOf img r h =
-    cond (allowed (length img)) (cond (leb (h .0) hostMax) (gateIn (r .phase) img r) (gate.Shut refusal.HostRange))
+unfoldable pub gateOf : List ℕ → Phase → Rest → Host → Gate
+gateOf img p z h =
+    cond (allowed (length img)) (cond (leb (h .0) hostMax) (gateIn p img z) (gate.Shut refusal.HostRange))
     (gate.Shut refusal.ImageLength)
 
 -- the block is as an idle record has it
@@ -65,7 +74,38 @@ askIf Malformed = ask.Refused refusal.Malformed
 unfoldable pub askOf : ℕ → ℕ → Survey → List ℕ → Ask
 askOf size end s m = cond (asRecorded size end s) (askIf (parse m)) (ask.Refused refusal.Stale)
 
--- ---- a read's stretch
+-- ---- a request
+
+-- what it came to, for every record that stands there; the job's arrays and the reply after it
+abbrev pub Requested : List ℕ → Phase → Rest → List ℕ → Host → List ℕ → Stepped → List ℕ → List ℕ → List ℕ → Type 0
+Requested img p z reply h m s places frame after =
+    (b : Record) → let o : Out = requestOn img (placed p z b) reply h m in Asks (placed p z b) places frame s o × (after ≡ o .reply)
+
+-- ---- a read
+
+-- a read, or a message that is no request
+abbrev pub AsksRead : Parsed → Type 0
+AsksRead Malformed = Unit {0}
+AsksRead (Is (Put i)) = ⊥
+AsksRead (Is (Delete i)) = ⊥
+AsksRead (Is Commit) = ⊥
+AsksRead (Is Abort) = ⊥
+AsksRead (Is (Read i)) = Unit {0}
+AsksRead (Is (Log p)) = ⊥
+
+-- the request's stretch, and its answer where it asks for nothing else
+pub record Finds (img : List ℕ) (r : Record) (h : Host) (m : List ℕ) (l : Located) : Type 0 where
+  pub answers : AsksRead (parse m) → l .answer ≡ requestOn img r [] h m .answer
+  pub at : l .at ≡ readOn img r h m .at
+  pub size : l .size ≡ readOn img r h m .size
+  pub inside : l .at + l .size ≤ length img
+
+abbrev pub nothing : Refusal → Located
+nothing why = record { answer = Refused why; at = 0; size = 0 }
+
+abbrev pub answerTo : Found → Answer
+answerTo found.Nothing = Refused refusal.NoObject
+answerTo (found.At p n) = Done
 
 -- what was found in a block that starts there
 abbrev pub stretchAt : ℕ → Found → Stretch

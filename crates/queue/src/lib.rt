@@ -2,7 +2,10 @@
 mod reads;
 mod requests;
 
+pub use reads::Located;
 pub use reads::Stretch;
+pub use reads::find;
 pub use reads::locate;
 pub use reads::read;
 pub use requests::request;
+pub use requests::request_core;

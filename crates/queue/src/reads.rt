@@ -4,14 +4,20 @@ ghost use Prim.Native.Nat.{_+_, _≤_};
 ghost use lib.ListN.{length, take, drop};
 ghost use denote.Ref.{ptr};
 ghost use Rattle.board.specs.Queue.{readOn};
-ghost use Rattle.queue.specs.Calls.{foundFor};
+ghost use Rattle.board.specs.declared.Record.{Record};
+ghost use Rattle.job.specs.Code.{placed};
+ghost use Rattle.queue.specs.Calls.{nothing, foundFor, Finds};
 use crate::requests;
 use crate::requests::Ask;
 use crate::requests::Gate;
+use board::Phase;
 use board::Record;
+use board::Rest;
 use fetch::Found;
 use frame::Host;
 use job::records;
+use wire::Answer;
+use wire::Refusal;
 use wire::Request;
 
 // A stretch of the image.
@@ -20,16 +26,26 @@ pub struct Stretch {
     pub size: usize,
 }
 
-// The stretch of a read that is refused.
-fn no_stretch() -> Stretch
-    ensures { λ r. ⌜ (r .at ≡ 0) × (r .size ≡ 0) ⌝ }
+// What a read is answered, and the stretch that it hands back.
+pub struct Located {
+    pub answer: Answer,
+    pub at: usize,
+    pub size: usize,
+}
+
+fn nothing(why: Refusal) -> Located
+    ensures { λ r. ⌜ r ≡ nothing why ⌝ }
 {
-    Stretch { at: 0, size: 0 }
+    Located {
+        answer: Answer::Refused(why),
+        at: 0,
+        size: 0,
+    }
 }
 
 // The value that a read asks for, by its place in a block.
-fn find(block: &[u8], places: [u16; 256], ask: Request) -> Found
-    ensures { λ r. ⌜ r ≡ foundFor (now (block .entry)) places ask ⌝ }
+fn value_for(block: &[u8], places: &[u16; 256], ask: Request) -> Found
+    ensures { λ r. ⌜ r ≡ foundFor (now (block .entry)) (now (places .entry)) ask ⌝ }
 {
     match ask {
         Request::Read(id) => return fetch::value_at(block, id, serving::place_of(places, id)),
@@ -41,32 +57,45 @@ fn find(block: &[u8], places: [u16; 256], ask: Request) -> Found
     }
 }
 
-// Where a read's value stands, and its size: both 0 where it is refused.
-pub fn locate(image: &[u8], board: Record, host: Host, message: &[u8]) -> Stretch
-    ensures { λ r. ⌜ (r .at ≡ readOn (now (image .entry)) board host (now (message .entry)) .at)
-        × (r .size ≡ readOn (now (image .entry)) board host (now (message .entry)) .size)
-        × (r .at + r .size ≤ length (now (image .entry))) ⌝ }
+// A read by where the record stands: its answer and its stretch in one look.
+pub fn find(image: &[u8], phase: Phase, rest: Rest, host: Host, message: &[u8]) -> Located
+    ensures { λ r. ⌜ ((b : Record) → Finds (now (image .entry)) (placed phase rest b) host (now (message .entry)) r) ⌝ }
 {
-    match requests::check(image, board, host) {
-        Gate::Shut(_) => return no_stretch(),
+    match requests::check(image, phase, rest, host) {
+        Gate::Shut(why) => return nothing(why),
         Gate::Open => {
             let size = image.len() / 2;
             let mut places = records::no_places();
-            let block = flash::block_of(image, board.block);
+            let block = flash::block_of(image, rest.block);
             let s = survey::survey_block(block, &mut places);
-            match requests::hear(size, board.end, s, message) {
-                Ask::Refused(_) => return no_stretch(),
-                Ask::Serve(ask) => match find(block, places, ask) {
-                    Found::Nothing => return no_stretch(),
+            match requests::hear(size, rest.end, s, message) {
+                Ask::Refused(why) => return nothing(why),
+                Ask::Serve(ask) => match value_for(block, &places, ask) {
+                    Found::Nothing => return nothing(Refusal::NoObject),
                     Found::At(at, n) => {
-                        return Stretch {
-                            at: board.block as usize * size + at,
+                        return Located {
+                            answer: Answer::Done,
+                            at: rest.block as usize * size + at,
                             size: n as usize,
                         };
                     }
                 },
             }
         }
+    }
+}
+
+// Where a read's value stands, and its size: both 0 where it is refused.
+pub fn locate(image: &[u8], board: Record, host: Host, message: &[u8]) -> Stretch
+    ensures { λ r. ⌜ (r .at ≡ readOn (now (image .entry)) board host (now (message .entry)) .at)
+        × (r .size ≡ readOn (now (image .entry)) board host (now (message .entry)) .size)
+        × (r .at + r .size ≤ length (now (image .entry))) ⌝ }
+{
+    let phase = board.phase;
+    let found = find(image, phase, records::rest_of(board), host, message);
+    Stretch {
+        at: found.at,
+        size: found.size,
     }
 }
 

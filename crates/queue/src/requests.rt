@@ -1,17 +1,23 @@
 // Queue requests: the refusals in document 01's order.
 ghost use mathlib.Core.Path.{_≡_};
 ghost use Rattle.board.specs.Queue.{requestOn};
-ghost use Rattle.queue.specs.Calls.{sameAs, gateOf, gateIn, asRecorded, askOf};
+ghost use Rattle.job.specs.Code.{outcome};
+ghost use Rattle.serving.specs.Calls.{keptOr};
+ghost use Rattle.queue.specs.Calls.{sameAs, gateOf, gateIn, asRecorded, askOf, Requested};
 use board::Phase;
 use board::Record;
+use board::Rest;
 use flash::BLOCKS;
 use frame::Host;
+use frame::MAX_FRAME;
 use job::Outcome;
 use job::records;
+use job::records::Stepped;
 use serving::room;
 use store::image;
 use store::surveys;
 use survey::Survey;
+use wire::Answer;
 use wire::Parsed;
 use wire::Refusal;
 use wire::Request;
@@ -44,15 +50,14 @@ fn same_image(image: &[u8], last: u16, number: u8) -> bool
 }
 
 // A record in no job, and the image that it is of.
-fn check_phase(image: &[u8], board: Record) -> Gate
-    ensures { λ r. ⌜ r ≡ gateIn (board .phase) (now (image .entry)) board ⌝ }
+fn check_phase(image: &[u8], phase: Phase, rest: Rest) -> Gate
+    ensures { λ r. ⌜ r ≡ gateIn phase (now (image .entry)) rest ⌝ }
 {
-    let phase = board.phase;
     match phase {
         Phase::Busy(_) => return Gate::Shut(Refusal::Busy),
         Phase::Unmounted => return Gate::Shut(Refusal::NoStore),
         Phase::Idle => {
-            if same_image(image, board.last, board.block) {
+            if same_image(image, rest.last, rest.block) {
                 return Gate::Open;
             }
             return Gate::Shut(Refusal::Stale);
@@ -60,8 +65,8 @@ fn check_phase(image: &[u8], board: Record) -> Gate
     }
 }
 
-pub fn check(image: &[u8], board: Record, host: Host) -> Gate
-    ensures { λ r. ⌜ r ≡ gateOf (now (image .entry)) board host ⌝ }
+pub fn check(image: &[u8], phase: Phase, rest: Rest, host: Host) -> Gate
+    ensures { λ r. ⌜ r ≡ gateOf (now (image .entry)) phase rest host ⌝ }
 {
     if !image::is_allowed(image.len()) {
         return Gate::Shut(Refusal::ImageLength);
@@ -69,7 +74,7 @@ pub fn check(image: &[u8], board: Record, host: Host) -> Gate
     if 3 < host.0 {
         return Gate::Shut(Refusal::HostRange);
     }
-    check_phase(image, board)
+    check_phase(image, phase, rest)
 }
 
 // The current block is as an idle record has it.
@@ -102,30 +107,83 @@ pub fn hear(size: usize, end: u16, s: Survey, message: &[u8]) -> Ask
     }
 }
 
-pub fn request(image: &[u8], board: Record, host: Host, message: &[u8], reply: &mut [u8]) -> Outcome
-    ensures { λ r. ⌜ (r .answer ≡ requestOn (now (image .entry)) board (now (reply .entry)) host (now (message .entry)) .answer)
-        × (r .board ≡ requestOn (now (image .entry)) board (now (reply .entry)) host (now (message .entry)) .board)
-        × (now (reply .exit) ≡ requestOn (now (image .entry)) board (now (reply .entry)) host (now (message .entry)) .reply) ⌝ }
+// The record after a request: as it was, unless a job began.
+fn kept_or(s: Stepped, board: Record, places: [u16; 256], frame: [u8; MAX_FRAME]) -> Outcome
+    ensures { λ r. ⌜ r ≡ outcome (s .answer) (keptOr (s .answer) board (s .next) places frame) ⌝ }
 {
-    match check(image, board, host) {
-        Gate::Shut(why) => return store::refused(why, board),
+    let answer = s.answer;
+    let next = s.next;
+    match answer {
+        Answer::Done => return Outcome {
+            answer: answer,
+            board: board,
+        },
+        Answer::More => return Outcome {
+            answer: answer,
+            board: records::assemble(next, places, records::no_frame(), frame),
+        },
+        Answer::Refused(_) => return Outcome {
+            answer: answer,
+            board: board,
+        },
+    }
+}
+
+// A request by where the record stands. A job that began has its places and frame in the arrays that are lent.
+pub fn request_core(
+    image: &[u8],
+    phase: Phase,
+    rest: Rest,
+    host: Host,
+    message: &[u8],
+    reply: &mut [u8],
+    places: &mut [u16; 256],
+    frame: &mut [u8; MAX_FRAME],
+) -> Stepped
+    ensures { λ r. ⌜ Requested (now (image .entry)) phase rest (now (reply .entry)) host (now (message .entry))
+        r (now (places .exit)) (now (frame .exit)) (now (reply .exit)) ⌝ }
+{
+    match check(image, phase, rest, host) {
+        Gate::Shut(why) => return serving::refused(why, rest),
         Gate::Open => {
             let size = image.len() / 2;
-            let mut places = records::no_places();
-            let s = survey::survey_block(flash::block_of(image, board.block), &mut places);
-            match hear(size, board.end, s, message) {
-                Ask::Refused(why) => return store::refused(why, board),
+            let s = survey::survey_block(flash::block_of(image, rest.block), places);
+            match hear(size, rest.end, s, message) {
+                Ask::Refused(why) => return serving::refused(why, rest),
                 Ask::Serve(ask) => return serving::serve(
                     size as u16,
-                    board,
+                    rest,
                     host,
                     message,
                     reply,
                     s,
                     places,
+                    frame,
                     ask,
                 ),
             }
         }
     }
+}
+
+pub fn request(image: &[u8], board: Record, host: Host, message: &[u8], reply: &mut [u8]) -> Outcome
+    ensures { λ r. ⌜ (r .answer ≡ requestOn (now (image .entry)) board (now (reply .entry)) host (now (message .entry)) .answer)
+        × (r .board ≡ requestOn (now (image .entry)) board (now (reply .entry)) host (now (message .entry)) .board)
+        × (now (reply .exit) ≡ requestOn (now (image .entry)) board (now (reply .entry)) host (now (message .entry)) .reply) ⌝ }
+{
+    let mut places = records::no_places();
+    let mut frame = records::no_frame();
+    let phase = board.phase;
+    let rest = records::rest_of(board);
+    let s = request_core(
+        image,
+        phase,
+        rest,
+        host,
+        message,
+        reply,
+        &mut places,
+        &mut frame,
+    );
+    kept_or(s, board, places, frame)
 }

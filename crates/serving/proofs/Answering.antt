@@ -1,21 +1,22 @@
 -- The requests by surveys and places are the definitions' requests.
-use mathlib.Core.Path.{_≡_, refl, sym, ap, ap₂, _∙_}
+use mathlib.Core.Path.{_≡_, refl, sym, ap, _∙_}
 use mathlib.Core.List.{List}
 use mathlib.Core.Option.{Option, none, some}
 use mathlib.Core.Bool.{Bool, true, false, _&&_, cond}
-use Prim.Native.Nat.{ℕ, _≤_}
+use Prim.Native.Nat.{ℕ, _≤_, _<_}
 use native.Mathlib.Omega.{arith}
 use lib.Dec.{eqb, ltb}
 use lib.ListN.{length, getD}
-use borrow.Author.Tests.{ne-eqb}
+use lib.Seq.{take-all}
+use borrow.Author.Tests.{lt-ltb, ne-eqb}
 use Rattle.flash.specs.Flash.{block, sizeOf}
 use Rattle.flash.proofs.Cases.{on-test}
 use Rattle.frame.specs.declared.Host.{Host}
 use Rattle.frame.specs.declared.ObjectId.{ObjectId}
-use Rattle.frame.specs.Frame.{hostMax, idMax, Change, put, delete, Frame, change, commit, abort, frameLen}
+use Rattle.frame.specs.Frame.{hostMax, idMax, valueMax, Change, put, delete, Frame, change, commit, abort, frameLen, endLen}
 use Rattle.frame.specs.Reader.{clean}
 use Rattle.survey.specs.declared.Survey.{Survey}
-use Rattle.journal.specs.Block.{valid, lastTime, header, validData}
+use Rattle.journal.specs.Block.{valid, headerLen, lastTime, header, validData}
 use Rattle.journal.specs.Replay.{replay, lookup, isOpen}
 use Rattle.journal.specs.Room.{noRoom, spare}
 use Rattle.journal.specs.Index.{placesOf}
@@ -23,6 +24,9 @@ use Rattle.survey.specs.Survey.{pendingBytes, surveyOf}
 use Rattle.survey.proofs.PerHost.{per-at, open-bytes}
 use Rattle.journal.proofs.States.{Contents}
 use Rattle.journal.proofs.Places.{Journal, ValueStands, place-law, no-place}
+use Rattle.wire.specs.declared.Answer.{Answer}
+use Rattle.wire.specs.declared.Answer.the-variants.{Done, More}
+use Rattle.wire.specs.declared.Refusal.{Refusal}
 use Rattle.wire.specs.declared.Refusal.the-variants as refusal
 use Rattle.wire.specs.declared.Page.{Page}
 use Rattle.wire.specs.declared.Page.the-variants.{Summary}
@@ -31,14 +35,47 @@ use Rattle.wire.specs.declared.Request.the-variants.{Put, Delete, Commit, Abort
 use Rattle.wire.specs.Message.{valueIn, pageLen}
 use Rattle.wire.specs.Code.{pageInto}
 use Rattle.wire.proofs.Parsing.{InRange}
+use Rattle.board.specs.declared.Stage.the-variants.{Wipe}
+use Rattle.board.specs.declared.Phase.the-variants.{Busy}
+use Rattle.board.specs.declared.Job.{Job}
+use Rattle.board.specs.declared.Cursor.{Cursor}
+use Rattle.board.specs.declared.Rest.{Rest}
 use Rattle.board.specs.declared.Record.{Record}
-use Rattle.board.specs.Record.{Out}
+use Rattle.board.specs.Record.{noFrame, restOf, starting, Out, out, refuse, answerOf}
 use Rattle.board.specs.Queue.{Held, needsRoom, append, serveChange, serveEnd, serveRead, serveLog, serve}
-use Rattle.job.specs.declared.Outcome.{Outcome}
-use Rattle.store.specs.Calls.{outcomeOf, refused}
-use Rattle.serving.specs.Calls.{done, bytesOf, appendIn, changeIn, endIn, readIn, logIn, serveIn, replyIn}
+use Rattle.job.specs.declared.records.Stepped.{Stepped}
+use Rattle.job.specs.Code.{leavesIf, LeadsTo, goAppend, goOpen, goWipe, begins}
+use Rattle.job.proofs.Entering.{wipe-leaves}
+use Rattle.serving.specs.Calls.{done, refused, keptOr, Asks, bytesOf, appendPlan, appendIn, changeIn, endIn, readIn, logIn, serveIn, frameIn, replyIn}
 use Rattle.serving.proofs.Rooms.{no-room-is}
-use Rattle.store.proofs.Choosing.{outcome-cond}
+
+-- ---- what a request came to, put together
+
+module _ (r : Record) (p f : List ℕ) where
+  asks-if : (t : Bool) {s u : Stepped} {o x : Out} → Asks r p f s o → Asks r p f u x → Asks r p f (cond t s u) (cond t o x)
+  asks-if true a b = a
+  asks-if false a b = b
+
+  refusing : (img reply : List ℕ) (why : Refusal) → Asks r p f (refused why (restOf r)) (refuse why img r reply)
+  refusing img reply why = record { answers = refl; gives = refl }
+
+  doing : (img reply : List ℕ) → Asks r p f (done (restOf r)) (out Done img r reply)
+  doing img reply = record { answers = refl; gives = refl }
+
+  begun : (img reply : List ℕ) (s : Stepped) (q : Record) → s .answer ≡ More → s .ended ≡ false → LeadsTo p noFrame f s q
+      → Asks r p f s (out (answerOf q) img q reply)
+  begun img reply s q a e l =
+      record {
+        answers = l .answers;
+        gives = ap (λ (x : Answer). keptOr x r (s .next) p f) a ∙ sym (ap (λ (t : Bool). leavesIf t (s .next) p noFrame f) e) ∙ l .gives;
+      }
+
+-- a job that appends a frame has a step
+goes : (z : Rest) (s : Survey) (m : Bool) (n : ℕ) (c : Cursor) → 0 < n
+    → let x : Stepped = begins z (appendPlan z s m n) c in (x .answer ≡ More) × (x .ended ≡ false)
+unfolding goWipe goOpen goAppend
+goes z s true n c l = (refl, refl)
+goes z s false n c l = rw (lt-ltb 0 n l) (refl, refl)
 
 module _ (img : List ℕ) (r : Record) (reply : List ℕ) (h : Host) (x : Held)
     (w : Contents (block (sizeOf img) (r .block) img) (x .time) (x .frames) clean) where
@@ -48,23 +85,33 @@ module _ (img : List ℕ) (r : Record) (reply : List ℕ) (h : Host) (x : Held)
   abbrev places : List ℕ
   places = placesOf (x .frames)
 
-  append-is : (f : Frame) → outcomeOf (append img r reply x f) ≡ appendIn (sizeOf img) r survey places (frameLen f) (bytesOf f)
+  append-is : (f : Frame) → Asks r places (bytesOf f) (appendIn (sizeOf img) (restOf r) survey (frameLen f)) (append img r reply x f)
   unfolding append appendIn surveyOf
-  append-is f = outcome-cond (needsRoom img r f && eqb (x .time) lastTime) _ _
+  append-is f =
+      let m : Bool = needsRoom img r f in
+      let z : Rest = restOf r in
+      let j : Job = appendPlan z survey m (frameLen f) in
+      let g = goes z survey m (frameLen f) (starting 0 headerLen) (omega arith) in
+      asks-if r places (bytesOf f) (m && eqb (x .time) lastTime) (refusing r _ _ img reply refusal.Worn)
+      (begun r _ _ img reply _ _ (g .0) (g .1)
+      (wipe-leaves places noFrame (bytesOf f) (record { phase = Busy Wipe; rest = z; job = j; cursor = starting 0 headerLen })))
 
-  change-is : (c : Change) → outcomeOf (serveChange img r reply h x c)
-      ≡ changeIn (sizeOf img) r survey places h (frameLen (change h c)) (bytesOf (change h c)) (spare c)
+  change-is : (c : Change) → Asks r places (bytesOf (change h c))
+      (changeIn (sizeOf img) (restOf r) survey h (frameLen (change h c)) (spare c)) (serveChange img r reply h x c)
   unfolding serveChange changeIn
   change-is c =
-      outcome-cond (noRoom (sizeOf img) (replay (x .frames)) h c) _ _
-      ∙ ap₂ (λ (t : Bool) (o : Outcome). cond t (refused refusal.NoRoom r) o) (no-room-is w (sizeOf img) h c) (append-is (change h c))
+      rw (← no-room-is w (sizeOf img) h c) (asks-if r _ _ (noRoom (sizeOf img) (replay (x .frames)) h c)
+      (refusing r _ _ img reply refusal.NoRoom) (append-is (change h c)))
 
-  end-is : (f : Frame) → h .0 ≤ hostMax → outcomeOf (serveEnd img r reply h x f) ≡ endIn (sizeOf img) r survey places h (frameLen f) (bytesOf f)
-  unfolding serveEnd endIn surveyOf
-  end-is f l =
-      outcome-cond (isOpen h (replay (x .frames) .pending)) _ _
-      ∙ ap₂ (λ (t : Bool) (o : Outcome). cond t o (done r))
-      (open-bytes h (replay (x .frames) .pending) ∙ ap (ltb 0) (sym (per-at (λ g. pendingBytes g (replay (x .frames) .pending)) h l))) (append-is f)
+  open-is : h .0 ≤ hostMax → isOpen h (replay (x .frames) .pending) ≡ ltb 0 (getD (survey .pending) (h .0) 0)
+  unfolding surveyOf
+  open-is l = open-bytes h (replay (x .frames) .pending) ∙ ap (ltb 0) (sym (per-at (λ g. pendingBytes g (replay (x .frames) .pending)) h l))
+
+  end-is : (f : Frame) → frameLen f ≡ endLen → h .0 ≤ hostMax
+      → Asks r places (bytesOf f) (endIn (sizeOf img) (restOf r) survey h) (serveEnd img r reply h x f)
+  unfolding serveEnd endIn
+  end-is f e l =
+      rw (← open-is l, ← e) (asks-if r _ _ (isOpen h (replay (x .frames) .pending)) (append-is f) (doing r _ _ img reply))
 
   pub journal : Journal (block (sizeOf img) (r .block) img) (x .frames)
   journal =
@@ -76,28 +123,29 @@ module _ (img : List ℕ) (r : Record) (reply : List ℕ) (h : Host) (x : Held)
         stand = w .layout .stands;
       }
 
-  read-is : (i : ObjectId) → i .0 ≤ idMax → (o : Option (List ℕ)) → lookup i (replay (x .frames) .objects) ≡ o
-      → outcomeOf (serveRead img r reply x i o) ≡ readIn r places i
+  read-is : (f : List ℕ) (i : ObjectId) → i .0 ≤ idMax → (o : Option (List ℕ)) → lookup i (replay (x .frames) .objects) ≡ o
+      → Asks r places f (readIn (restOf r) places i) (serveRead img r reply x i o)
   unfolding readIn
-  read-is i l none e = sym (rw (no-place (x .frames) i l e))
-  read-is i l (some v) e =
+  read-is f i l none e = rw (no-place (x .frames) i l e) (refusing r _ _ img reply refusal.NoObject)
+  read-is f i l (some v) e =
       let z : ValueStands (block (sizeOf img) (r .block) img) i (getD (placesOf (x .frames)) (i .0) 0) v =
       place-law (block (sizeOf img) (r .block) img) (x .frames) i v journal l e in
-      sym (rw (ne-eqb (getD (placesOf (x .frames)) (i .0) 0) 0 (λ q. omega (arith, z .past))))
+      rw (ne-eqb (getD (placesOf (x .frames)) (i .0) 0) 0 (λ q. omega (arith, z .past))) (record { answers = refl; gives = refl })
 
-  log-is : (p : Page) → outcomeOf (serveLog img r reply x p) ≡ logIn r reply
+  log-is : (f : List ℕ) (p : Page) → Asks r places f (logIn (restOf r) reply) (serveLog img r reply x p)
   unfolding serveLog logIn
-  log-is Summary = outcome-cond (ltb (length reply) pageLen) _ _
+  log-is f Summary =
+      asks-if r _ _ (ltb (length reply) pageLen) (refusing r _ _ img reply refusal.ShortReply) (record { answers = refl; gives = refl })
 
-  pub serve-is : (m : List ℕ) (q : Request) → InRange m q → h .0 ≤ hostMax
-      → outcomeOf (serve img r reply h m x q) ≡ serveIn (sizeOf img) r reply h m survey places q
+  pub serve-is : (m : List ℕ) (q : Request) (g : List ℕ) → InRange m q → h .0 ≤ hostMax
+      → Asks r places (frameIn h m q g) (serveIn (sizeOf img) (restOf r) reply h m survey places q) (serve img r reply h m x q)
   unfolding serve
-  serve-is m (Put i) k l = change-is (put i (valueIn m))
-  serve-is m (Delete i) k l = change-is (delete i)
-  serve-is m Commit k l = end-is (commit h) l
-  serve-is m Abort k l = end-is (abort h) l
-  serve-is m (Read i) k l = read-is i k (lookup i (replay (x .frames) .objects)) refl
-  serve-is m (Log p) k l = log-is p
+  serve-is m (Put i) g k l = rw (take-all valueMax (valueIn m) (k .1)) (change-is (put i (valueIn m)))
+  serve-is m (Delete i) g k l = change-is (delete i)
+  serve-is m Commit g k l = end-is (commit h) refl l
+  serve-is m Abort g k l = end-is (abort h) refl l
+  serve-is m (Read i) g k l = read-is g i k (lookup i (replay (x .frames) .objects)) refl
+  serve-is m (Log p) g k l = log-is g p
 
   -- ---- the reply
 

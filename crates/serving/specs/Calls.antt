@@ -1,31 +1,54 @@
 -- What the requests do, by a survey of the current block and in the code's order of tests. proofs/ ties it to board's definitions.
+use mathlib.Core.Path.{_≡_}
 use mathlib.Core.List.{List}
 use mathlib.Core.Bool.{Bool, true, _&&_, _||_, cond}
 use Prim.Native.Nat.{ℕ, _+_, _*_}
 use lib.Dec.{eqb, ltb}
-use lib.ListN.{length, getD}
+use lib.ListN.{length, getD, take}
 use Rattle.frame.specs.declared.Host.{Host}
 use Rattle.frame.specs.declared.ObjectId.{ObjectId}
-use Rattle.frame.specs.Frame.{put, delete, Frame, change, commit, abort, frameLen, deleteLen, endLen, encode, buffer}
+use Rattle.frame.specs.Frame.{valueMax, put, delete, Frame, change, commit, abort, frameLen, deleteLen, endLen, encode, buffer}
 use Rattle.survey.specs.declared.Survey.{Survey}
 use Rattle.journal.specs.Block.{headerLen, lastTime}
 use Rattle.journal.specs.Room.{one}
-use Rattle.wire.specs.declared.Answer.the-variants.{Done}
+use Rattle.wire.specs.declared.Answer.{Answer}
+use Rattle.wire.specs.declared.Answer.the-variants.{Done, More, Refused}
+use Rattle.wire.specs.declared.Refusal.{Refusal}
 use Rattle.wire.specs.declared.Refusal.the-variants as refusal
 use Rattle.wire.specs.declared.Request.{Request}
 use Rattle.wire.specs.declared.Request.the-variants.{Put, Delete, Commit, Abort, Read, Log}
 use Rattle.wire.specs.Message.{valueIn, pageLen, logPage}
 use Rattle.wire.specs.Code.{pageInto}
+use Rattle.board.specs.declared.Phase.the-variants.{Idle}
+use Rattle.board.specs.declared.Job.{Job}
+use Rattle.board.specs.declared.Rest.{Rest}
 use Rattle.board.specs.declared.Record.{Record}
-use Rattle.board.specs.Record.{noWipes, restOf, starting, busyWith}
+use Rattle.board.specs.Record.{noWipes, noFrame, starting, Out}
 use Rattle.board.specs.Mount.{nextBlock, newTime}
-use Rattle.job.specs.declared.Outcome.{Outcome}
-use Rattle.store.specs.Calls.{refused, begun, sumOf}
+use Rattle.job.specs.declared.records.Numbers.{Numbers}
+use Rattle.job.specs.declared.records.Stepped.{Stepped}
+use Rattle.job.specs.Code.{assemble, atRest, begins}
+use Rattle.store.specs.Calls.{sumOf}
 
--- ---- outcomes
+-- ---- what a request came to
 
-abbrev pub done : Record → Outcome
-done r = record { answer = Done; board = r }
+-- nothing began
+abbrev pub done : Rest → Stepped
+done z = atRest Done Idle z
+
+abbrev pub refused : Refusal → Rest → Stepped
+refused n z = atRest (Refused n) Idle z
+
+-- the record after it: as it was, unless a job began
+abbrev pub keptOr : Answer → Record → Numbers → List ℕ → List ℕ → Record
+keptOr Done r n places frame = r
+keptOr More r n places frame = assemble n places noFrame frame
+keptOr (Refused w) r n places frame = r
+
+-- it is what the definition gives back, with the job's places and frame
+pub record Asks (r : Record) (places frame : List ℕ) (s : Stepped) (o : Out) : Type 0 where
+  pub answers : s .answer ≡ o .answer
+  pub gives : keptOr (s .answer) r (s .next) places frame ≡ o .board
 
 -- ---- what a survey tells of the room in its block
 
@@ -50,57 +73,57 @@ claimedIn s = s .used + sumOf (s .pending)
 unfoldable pub noRoomIn : ℕ → Survey → Host → ℕ → ℕ → Bool
 noRoomIn size s h n spare = ltb size (claimedIn s + n + endLen * openWith h (s .pending) + spare)
 
-abbrev pub appendRecord : Record → Survey → List ℕ → Bool → ℕ → List ℕ → Record
-appendRecord r s places moves n frame =
-    busyWith (restOf r) places
-    (record {
+abbrev pub appendPlan : Rest → Survey → Bool → ℕ → Job
+appendPlan z s moves n =
+    record {
       wipe = noWipes;
       wipes = 0;
       moves = moves;
       drops = true;
-      target = nextBlock (r .block);
+      target = nextBlock (z .block);
       time = newTime moves (s .time);
       since = s .since;
       size = n;
-    })
-    (starting 0 headerLen) frame
+    }
 
--- a frame of n bytes, which stand in the buffer
-unfoldable pub appendIn : ℕ → Record → Survey → List ℕ → ℕ → List ℕ → Outcome
-appendIn size r s places n frame =
-    let moves : Bool = ltb size (r .end + n) in
-    cond (moves && eqb (s .time) lastTime) (refused refusal.Worn r) (begun (appendRecord r s places moves n frame))
+-- a frame of n bytes
+unfoldable pub appendIn : ℕ → Rest → Survey → ℕ → Stepped
+appendIn size z s n =
+    let moves : Bool = ltb size (z .end + n) in
+    cond (moves && eqb (s .time) lastTime) (refused refusal.Worn z) (begins z (appendPlan z s moves n) (starting 0 headerLen))
 
-unfoldable pub changeIn : ℕ → Record → Survey → List ℕ → Host → ℕ → List ℕ → ℕ → Outcome
-changeIn size r s places h n frame spare = cond (noRoomIn size s h n spare) (refused refusal.NoRoom r) (appendIn size r s places n frame)
+unfoldable pub changeIn : ℕ → Rest → Survey → Host → ℕ → ℕ → Stepped
+changeIn size z s h n spare = cond (noRoomIn size s h n spare) (refused refusal.NoRoom z) (appendIn size z s n)
 
-unfoldable pub endIn : ℕ → Record → Survey → List ℕ → Host → ℕ → List ℕ → Outcome
-endIn size r s places h n frame = cond (ltb 0 (getD (s .pending) (h .0) 0)) (appendIn size r s places n frame) (done r)
+unfoldable pub endIn : ℕ → Rest → Survey → Host → Stepped
+endIn size z s h = cond (ltb 0 (getD (s .pending) (h .0) 0)) (appendIn size z s endLen) (done z)
 
-unfoldable pub readIn : Record → List ℕ → ObjectId → Outcome
-readIn r places i = cond (eqb (getD places (i .0) 0) 0) (refused refusal.NoObject r) (done r)
+unfoldable pub readIn : Rest → List ℕ → ObjectId → Stepped
+readIn z places i = cond (eqb (getD places (i .0) 0) 0) (refused refusal.NoObject z) (done z)
 
-unfoldable pub logIn : Record → List ℕ → Outcome
-logIn r reply = cond (ltb (length reply) pageLen) (refused refusal.ShortReply r) (done r)
+unfoldable pub logIn : Rest → List ℕ → Stepped
+logIn z reply = cond (ltb (length reply) pageLen) (refused refusal.ShortReply z) (done z)
+
+abbrev pub serveIn : ℕ → Rest → List ℕ → Host → List ℕ → Survey → List ℕ → Request → Stepped
+serveIn size z reply h m s places (Put i) = changeIn size z s h (frameLen (change h (put i (valueIn m)))) (deleteLen + endLen)
+serveIn size z reply h m s places (Delete i) = changeIn size z s h deleteLen 0
+serveIn size z reply h m s places Commit = endIn size z s h
+serveIn size z reply h m s places Abort = endIn size z s h
+serveIn size z reply h m s places (Read i) = readIn z places i
+serveIn size z reply h m s places (Log p) = logIn z reply
 
 -- the bytes of a frame
 abbrev pub bytesOf : Frame → List ℕ
 bytesOf f = buffer (encode f)
 
-abbrev pub putIn : ℕ → Record → Survey → List ℕ → Host → ObjectId → List ℕ → Outcome
-putIn size r s places h i v =
-    let f : Frame = change h (put i v) in changeIn size r s places h (frameLen f) (bytesOf f) (deleteLen + endLen)
-
-abbrev pub deleteIn : ℕ → Record → Survey → List ℕ → Host → ObjectId → Outcome
-deleteIn size r s places h i = let f : Frame = change h (delete i) in changeIn size r s places h (frameLen f) (bytesOf f) 0
-
-abbrev pub serveIn : ℕ → Record → List ℕ → Host → List ℕ → Survey → List ℕ → Request → Outcome
-serveIn size r reply h m s places (Put i) = putIn size r s places h i (valueIn m)
-serveIn size r reply h m s places (Delete i) = deleteIn size r s places h i
-serveIn size r reply h m s places Commit = let f : Frame = commit h in endIn size r s places h (frameLen f) (bytesOf f)
-serveIn size r reply h m s places Abort = let f : Frame = abort h in endIn size r s places h (frameLen f) (bytesOf f)
-serveIn size r reply h m s places (Read i) = readIn r places i
-serveIn size r reply h m s places (Log p) = logIn r reply
+-- the frame to append, in a buffer that stays where there is none
+abbrev pub frameIn : Host → List ℕ → Request → List ℕ → List ℕ
+frameIn h m (Put i) g = bytesOf (change h (put i (take valueMax (valueIn m))))
+frameIn h m (Delete i) g = bytesOf (change h (delete i))
+frameIn h m Commit g = bytesOf (commit h)
+frameIn h m Abort g = bytesOf (abort h)
+frameIn h m (Read i) g = g
+frameIn h m (Log p) g = g
 
 abbrev pub replyLog : ℕ → Survey → List ℕ → List ℕ
 replyLog size s reply = pageInto (logPage (s .time) (s .count) (s .used) size) reply

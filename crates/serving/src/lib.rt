@@ -1,26 +1,25 @@
 // The requests, once nothing earlier refuses them.
 ghost use mathlib.Core.Path.{_≡_};
-ghost use Prim.Native.Nat.{_≤_};
-ghost use mathlib.Core.List.{[]};
-ghost use lib.ListN.{length, getD, take};
-ghost use Rattle.frame.specs.Frame.{valueMax, maxFrame};
-ghost use Rattle.frame.specs.Code.{frameOf, headLen};
+ghost use lib.ListN.{getD};
 ghost use Rattle.wire.specs.declared.Parsed.the-variants.{Is};
 ghost use Rattle.wire.specs.Message.{parse};
-ghost use Rattle.serving.specs.Calls.{done, bytesOf, appendIn, changeIn, putIn, deleteIn, endIn, readIn, logIn, serveIn, replyIn, replyLog};
+ghost use Rattle.serving.specs.Calls.{done, refused, appendIn, changeIn, endIn, readIn, logIn, serveIn, replyIn, replyLog, frameIn};
 
 pub mod room;
 
 use board::Job;
-use board::Record;
+use board::Phase;
+use board::Rest;
 use flash::BLOCKS;
 use frame::DELETE_LEN;
 use frame::END_LEN;
 use frame::Head;
 use frame::Host;
+use frame::MAX_FRAME;
 use frame::ObjectId;
-use job::Outcome;
+use frame::PUT_LEN;
 use job::records;
+use job::records::Stepped;
 use store::image;
 use store::surveys;
 use survey::Survey;
@@ -32,42 +31,37 @@ use wire::Request;
 // What a put leaves room for: a delete and a commit.
 const SPARE: u8 = DELETE_LEN + END_LEN;
 
-fn done(board: Record) -> Outcome
-    ensures { λ r. ⌜ r ≡ done board ⌝ }
+// Nothing began: what is to be answered.
+fn done(rest: Rest) -> Stepped
+    ensures { λ r. ⌜ r ≡ done rest ⌝ }
 {
-    Outcome {
-        answer: Answer::Done,
-        board: board,
-    }
+    records::at_rest(Answer::Done, Phase::Idle, rest)
+}
+
+pub fn refused(why: Refusal, rest: Rest) -> Stepped
+    ensures { λ r. ⌜ r ≡ refused why rest ⌝ }
+{
+    records::at_rest(Answer::Refused(why), Phase::Idle, rest)
 }
 
 // An id's place; 0 for an id that isn't there.
-pub fn place_of(places: [u16; 256], id: ObjectId) -> u16
-    ensures { λ r. ⌜ r ≡ getD places (id .0) 0 ⌝ }
+pub fn place_of(places: &[u16], id: ObjectId) -> u16
+    ensures { λ r. ⌜ r ≡ getD (now (places .entry)) (id .0) 0 ⌝ }
 {
     let i = id.0 as usize;
-    if i < 256 {
+    if i < places.len() {
         return places[i];
     }
     0
 }
 
-// A frame appended, after a transfer if it goes past the block's end.
-fn append(
-    size: usize,
-    board: Record,
-    s: Survey,
-    places: [u16; 256],
-    head: Head,
-    value: &[u8],
-) -> Outcome
-    requires { ⌜ headLen head ≤ maxFrame ⌝ }
-    ensures { λ r. ⌜ r ≡ appendIn size board s places (headLen head) (bytesOf (frameOf head (take valueMax (now (value .entry))))) ⌝ }
+// A frame of n bytes appended, after a transfer if it goes past the block's end.
+fn append(size: usize, rest: Rest, s: Survey, n: u8) -> Stepped
+    ensures { λ r. ⌜ r ≡ appendIn size rest s n ⌝ }
 {
-    let n = frame::frame_len(head);
-    let moves = size < board.end as usize + n;
+    let moves = size < rest.end as usize + n as usize;
     if surveys::is_worn(moves, s.time) {
-        return store::refused(Refusal::Worn, board);
+        return refused(Refusal::Worn, rest);
     }
     let since = s.since;
     let job = Job {
@@ -75,142 +69,101 @@ fn append(
         wipes: 0,
         moves: moves,
         drops: true,
-        target: image::next_block(board.block),
+        target: image::next_block(rest.block),
         time: surveys::new_time(moves, s.time),
         since: since,
-        size: n as u8,
+        size: n,
     };
-    let bytes = frame::encode_frame(head, value);
-    let cursor = records::starting(0, records::START);
-    records::begin(records::busy(records::rest_of(board), places, job, cursor, bytes))
+    records::begin(rest, job, records::starting(0, records::START))
 }
 
 // A put or delete, which leaves so much besides.
-fn serve_change(
-    size: usize,
-    board: Record,
-    s: Survey,
-    places: [u16; 256],
-    host: Host,
-    head: Head,
-    value: &[u8],
-    spare: u8,
-) -> Outcome
-    requires { ⌜ headLen head ≤ maxFrame ⌝ }
-    ensures { λ r. ⌜ r ≡ changeIn size board s places host (headLen head) (bytesOf (frameOf head (take valueMax (now (value .entry))))) spare ⌝ }
+fn serve_change(size: usize, rest: Rest, s: Survey, host: Host, n: u8, spare: u8) -> Stepped
+    ensures { λ r. ⌜ r ≡ changeIn size rest s host n spare ⌝ }
 {
-    if room::no_room(size, s, host, frame::frame_len(head) as u8, spare) {
-        return store::refused(Refusal::NoRoom, board);
+    if room::no_room(size, s, host, n, spare) {
+        return refused(Refusal::NoRoom, rest);
     }
-    append(size, board, s, places, head, value)
-}
-
-fn serve_put(
-    size: usize,
-    board: Record,
-    s: Survey,
-    places: [u16; 256],
-    host: Host,
-    id: ObjectId,
-    value: &[u8],
-) -> Outcome
-    requires { ⌜ length (now value) ≤ valueMax ⌝ }
-    ensures { λ r. ⌜ r ≡ putIn size board s places host id (now (value .entry)) ⌝ }
-{
-    let head = Head::Put(host, id, value.len() as u8);
-    serve_change(size, board, s, places, host, head, value, SPARE)
-}
-
-fn serve_delete(
-    size: usize,
-    board: Record,
-    s: Survey,
-    places: [u16; 256],
-    host: Host,
-    id: ObjectId,
-) -> Outcome
-    ensures { λ r. ⌜ r ≡ deleteIn size board s places host id ⌝ }
-{
-    let none: [u8; 0] = [];
-    serve_change(
-        size,
-        board,
-        s,
-        places,
-        host,
-        Head::Delete(host, id),
-        &none,
-        0,
-    )
+    append(size, rest, s, n)
 }
 
 // A commit or an abort: with nothing pending it is done at once.
-fn serve_end(
-    size: usize,
-    board: Record,
-    s: Survey,
-    places: [u16; 256],
-    host: Host,
-    head: Head,
-) -> Outcome
-    requires { ⌜ headLen head ≤ maxFrame ⌝ }
-    ensures { λ r. ⌜ r ≡ endIn size board s places host (headLen head) (bytesOf (frameOf head [])) ⌝ }
+fn serve_end(size: usize, rest: Rest, s: Survey, host: Host) -> Stepped
+    ensures { λ r. ⌜ r ≡ endIn size rest s host ⌝ }
 {
     let p = s.pending;
     if fetch::of_host(p, host) == 0 {
-        return done(board);
+        return done(rest);
     }
-    let none: [u8; 0] = [];
-    append(size, board, s, places, head, &none)
+    append(size, rest, s, END_LEN)
 }
 
-fn serve_read(board: Record, places: [u16; 256], id: ObjectId) -> Outcome
-    ensures { λ r. ⌜ r ≡ readIn board places id ⌝ }
+fn serve_read(rest: Rest, places: &[u16; 256], id: ObjectId) -> Stepped
+    ensures { λ r. ⌜ r ≡ readIn rest (now (places .entry)) id ⌝ }
 {
     if place_of(places, id) == 0 {
-        return store::refused(Refusal::NoObject, board);
+        return refused(Refusal::NoObject, rest);
     }
-    done(board)
+    done(rest)
 }
 
-fn serve_log(size: u16, board: Record, s: Survey, page: Page, reply: &mut [u8]) -> Outcome
-    ensures { λ r. ⌜ (r ≡ logIn board (now (reply .entry))) × (now (reply .exit) ≡ replyLog size s (now (reply .entry))) ⌝ }
+fn serve_log(size: u16, rest: Rest, s: Survey, page: Page, reply: &mut [u8]) -> Stepped
+    ensures { λ r. ⌜ (r ≡ logIn rest (now (reply .entry))) × (now (reply .exit) ≡ replyLog size s (now (reply .entry))) ⌝ }
 {
     match page {
         Page::Summary => {
             if reply.len() < 14 {
-                return store::refused(Refusal::ShortReply, board);
+                return refused(Refusal::ShortReply, rest);
             }
             wire::write_page(reply, s.time, s.count, s.used, size);
-            return done(board);
+            return done(rest);
         }
     }
 }
 
-// What a message asks for, done.
+// The frame that a message asks to append; none for a read or a log.
+fn lay_frame(host: Host, message: &[u8], ask: Request, frame: &mut [u8; MAX_FRAME])
+    ensures { λ r. ⌜ now (frame .exit) ≡ frameIn host (now (message .entry)) ask (now (frame .entry)) ⌝ }
+{
+    let value = wire::value(message);
+    match ask {
+        Request::Put(id) => *frame = frame::encode_frame(Head::Put(host, id, 0), value),
+        Request::Delete(id) => *frame = frame::encode_frame(Head::Delete(host, id), value),
+        Request::Commit => *frame = frame::encode_frame(Head::Commit(host), value),
+        Request::Abort => *frame = frame::encode_frame(Head::Abort(host), value),
+        Request::Read(_) => return,
+        Request::Log(_) => return,
+    }
+}
+
+// What a message asks for, done: the job's numbers, and its frame.
 pub fn serve(
     size: u16,
-    board: Record,
+    rest: Rest,
     host: Host,
     message: &[u8],
     reply: &mut [u8],
     s: Survey,
-    places: [u16; 256],
+    places: &[u16; 256],
+    frame: &mut [u8; MAX_FRAME],
     ask: Request,
-) -> Outcome
+) -> Stepped
     requires { ⌜ parse (now message) ≡ Is ask ⌝ }
-    ensures { λ r. ⌜ (r ≡ serveIn size board (now (reply .entry)) host (now (message .entry)) s places ask)
-        × (now (reply .exit) ≡ replyIn size s (now (reply .entry)) ask) ⌝ }
+    ensures { λ r. ⌜ (r ≡ serveIn size rest (now (reply .entry)) host (now (message .entry)) s (now (places .entry)) ask)
+        × (now (reply .exit) ≡ replyIn size s (now (reply .entry)) ask)
+        × (now (frame .exit) ≡ frameIn host (now (message .entry)) ask (now (frame .entry))) ⌝ }
 {
+    lay_frame(host, message, ask, frame);
     let room = size as usize;
     match ask {
-        Request::Put(id) => {
-            return serve_put(room, board, s, places, host, id, wire::value(message));
+        Request::Put(_) => {
+            let n = PUT_LEN + wire::value(message).len() as u8;
+            return serve_change(room, rest, s, host, n, SPARE);
         }
-        Request::Delete(id) => return serve_delete(room, board, s, places, host, id),
-        Request::Commit => return serve_end(room, board, s, places, host, Head::Commit(host)),
-        Request::Abort => return serve_end(room, board, s, places, host, Head::Abort(host)),
-        Request::Read(id) => return serve_read(board, places, id),
-        Request::Log(page) => return serve_log(size, board, s, page, reply),
+        Request::Delete(_) => return serve_change(room, rest, s, host, DELETE_LEN, 0),
+        Request::Commit => return serve_end(room, rest, s, host),
+        Request::Abort => return serve_end(room, rest, s, host),
+        Request::Read(id) => return serve_read(rest, places, id),
+        Request::Log(page) => return serve_log(size, rest, s, page, reply),
     }
 }

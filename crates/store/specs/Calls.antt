@@ -1,4 +1,5 @@
 -- What mount and format do, by surveys of blocks and in the code's order of tests. proofs/ ties it to board's definitions.
+use mathlib.Core.Path.{_≡_}
 use mathlib.Core.List.{List}
 use mathlib.Core.Bool.{Bool, true, false, _&&_, _||_, cond, not}
 use Prim.Native.Nat.{ℕ, _+_}
@@ -12,24 +13,30 @@ use Rattle.journal.specs.Room.{one}
 use Rattle.wire.specs.declared.Answer.the-variants.{Refused}
 use Rattle.wire.specs.declared.Refusal.{Refusal}
 use Rattle.wire.specs.declared.Refusal.the-variants as refusal
-use Rattle.board.specs.declared.Record.{Record}
-use Rattle.board.specs.Record.{noWipes, noMarks, noFrame, unmounted, rest, starting, busyWith, Out, answerOf}
-use Rattle.board.specs.Step.{enterWipe}
+use Rattle.board.specs.declared.Phase.the-variants.{Unmounted}
+use Rattle.board.specs.declared.Job.{Job}
+use Rattle.board.specs.Record.{noPlaces, noWipes, noMarks, noFrame, rest, starting, Out}
 use Rattle.board.specs.Mount.{nextBlock, newTime}
 use Rattle.job.specs.declared.Outcome.{Outcome}
+use Rattle.job.specs.declared.records.Stepped.{Stepped}
+use Rattle.job.specs.Code.{assemble, atRest, begins, outcome}
 use Rattle.store.specs.declared.mounts.Choice.{Choice}
 use Rattle.store.specs.declared.mounts.Choice.the-variants as choice
 
--- ---- outcomes
+-- ---- what a call came to
 
-abbrev pub outcomeOf : Out → Outcome
-outcomeOf o = record { answer = o .answer; board = o .board }
+-- as a record: no frame is copied or appended yet
+abbrev pub made : List ℕ → Stepped → Outcome
+made places s = outcome (s .answer) (assemble (s .next) places noFrame noFrame)
 
-abbrev pub refused : Refusal → Record → Outcome
-refused n r = record { answer = Refused n; board = r }
+-- it is what the definition gives back, with these places
+pub record Gives (places : List ℕ) (s : Stepped) (o : Out) : Type 0 where
+  pub answers : s .answer ≡ o .answer
+  pub gives : assemble (s .next) places noFrame noFrame ≡ o .board
 
-abbrev pub begun : Record → Outcome
-begun r = record { answer = answerOf (enterWipe r); board = enterWipe r }
+-- a refusal: the record is unmounted
+abbrev pub refused : Refusal → Stepped
+refused n = atRest (Refused n) Unmounted (rest 0 0 0)
 
 -- ---- what a survey tells
 
@@ -80,10 +87,9 @@ abbrev pub wipeOther : Bool → ℕ → List ℕ
 wipeOther true k = set noWipes 0 (nextBlock k)
 wipeOther false k = noWipes
 
-abbrev pub mountRecord : ℕ → ℕ → Survey → List ℕ → Bool → Bool → Record
-mountRecord l k s places wipes moves =
-    busyWith (rest l k (s .end)) places
-    (record {
+abbrev pub mountPlan : ℕ → Survey → Bool → Bool → Job
+mountPlan k s wipes moves =
+    record {
       wipe = wipeOther wipes k;
       wipes = one wipes;
       moves = moves;
@@ -92,14 +98,21 @@ mountRecord l k s places wipes moves =
       time = newTime moves (s .time);
       since = noMarks;
       size = 0;
-    })
-    (starting 0 (s .end)) noFrame
+    }
 
-unfoldable pub mountIn : ℕ → ℕ → Survey → List ℕ → Bool → Outcome
-mountIn l k s places wipes =
-    cond (needsIn s && eqb (s .time) lastTime) (refused refusal.Worn unmounted) (begun (mountRecord l k s places wipes (needsIn s)))
+unfoldable pub mountIn : ℕ → ℕ → Survey → Bool → Stepped
+mountIn l k s wipes =
+    cond (needsIn s && eqb (s .time) lastTime) (refused refusal.Worn)
+    (begins (rest l k (s .end)) (mountPlan k s wipes (needsIn s)) (starting 0 (s .end)))
 
-abbrev pub mountChosen : ℕ → Choice → Survey → List ℕ → Survey → List ℕ → Outcome
-mountChosen l (choice.Refused why) a p b q = refused why unmounted
-mountChosen l choice.First a p b q = mountIn l 0 a p (not (isBlankKind (b .kind)))
-mountChosen l choice.Second a p b q = mountIn l 1 b q (not (isBlankKind (a .kind)))
+abbrev pub mountChosen : ℕ → Choice → Survey → Survey → Stepped
+mountChosen l (choice.Refused why) a b = refused why
+mountChosen l choice.First a b = mountIn l 0 a (not (isBlankKind (b .kind)))
+mountChosen l choice.Second a b = mountIn l 1 b (not (isBlankKind (a .kind)))
+
+-- the places of the chosen block, which only a job needs
+abbrev pub placesFor : Bool → Choice → List ℕ → List ℕ → List ℕ
+placesFor true c p q = noPlaces
+placesFor false (choice.Refused why) p q = p
+placesFor false choice.First p q = p
+placesFor false choice.Second p q = q

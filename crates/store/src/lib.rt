@@ -4,5 +4,6 @@ mod mounts;
 pub mod surveys;
 
 pub use mounts::format;
+pub use mounts::format_core;
 pub use mounts::mount;
-pub use mounts::refused;
+pub use mounts::mount_core;

@@ -1,17 +1,20 @@
 // Mount and format.
 ghost use mathlib.Core.Path.{_≡_};
 ghost use Rattle.journal.specs.Room.{one};
+ghost use Rattle.board.specs.Record.{noPlaces};
 ghost use Rattle.board.specs.Mount.{mountOn, formatOn};
-ghost use Rattle.store.specs.Calls.{refused, isForeignKind, isBlankKind, chooseValid, chooseOf, needsIn, wipeOther, mountIn, mountChosen};
+ghost use Rattle.store.specs.Calls.{Gives, made, refused, isForeignKind, isBlankKind, chooseValid, chooseOf, needsIn, wipeOther};
+ghost use Rattle.store.specs.Calls.{mountIn, mountChosen, placesFor};
 use crate::image;
 use crate::surveys;
 use board::Job;
-use board::Record;
+use board::Phase;
 use board::Rest;
 use flash::BLOCKS;
 use frame::ID_MAX;
 use job::Outcome;
 use job::records;
+use job::records::Stepped;
 use survey::BlockKind;
 use survey::Survey;
 use wire::Answer;
@@ -27,13 +30,16 @@ pub enum Choice {
     Refused(Refusal),
 }
 
-pub fn refused(why: Refusal, board: Record) -> Outcome
-    ensures { λ r. ⌜ r ≡ refused why board ⌝ }
+// A refusal: the record is unmounted.
+fn refused(why: Refusal) -> Stepped
+    ensures { λ r. ⌜ r ≡ refused why ⌝ }
 {
-    Outcome {
-        answer: Answer::Refused(why),
-        board: board,
-    }
+    let rest = Rest {
+        last: 0,
+        block: 0,
+        end: 0,
+    };
+    records::at_rest(Answer::Refused(why), Phase::Unmounted, rest)
 }
 
 fn is_foreign(kind: BlockKind) -> bool
@@ -55,6 +61,18 @@ fn is_blank(kind: BlockKind) -> bool
         BlockKind::InProgress => false,
         BlockKind::Valid => false,
         BlockKind::Foreign(_) => false,
+    }
+}
+
+// What a mount or format came to, as a record: no frame is copied or appended yet.
+fn made(s: Stepped, places: [u16; 256]) -> Outcome
+    ensures { λ r. ⌜ r ≡ made places s ⌝ }
+{
+    let answer = s.answer;
+    let next = s.next;
+    Outcome {
+        answer: answer,
+        board: records::assemble(next, places, records::no_frame(), records::no_frame()),
     }
 }
 
@@ -129,12 +147,12 @@ fn how_many(wipes: bool) -> u8
 }
 
 // The chosen block, and whether the other is to be erased.
-fn mount_at(last: u16, number: u8, s: Survey, places: [u16; 256], wipes: bool) -> Outcome
-    ensures { λ r. ⌜ r ≡ mountIn last number s places wipes ⌝ }
+fn mount_at(last: u16, number: u8, s: Survey, wipes: bool) -> Stepped
+    ensures { λ r. ⌜ r ≡ mountIn last number s wipes ⌝ }
 {
     let moves = needs_transfer(s);
     if surveys::is_worn(moves, s.time) {
-        return refused(Refusal::Worn, records::unmounted());
+        return refused(Refusal::Worn);
     }
     let wipe = wipe_other(wipes, number);
     let job = Job {
@@ -152,54 +170,73 @@ fn mount_at(last: u16, number: u8, s: Survey, places: [u16; 256], wipes: bool) -
         block: number,
         end: s.end,
     };
-    let cursor = records::starting(0, s.end);
-    let frame = records::no_frame();
-    records::begin(records::busy(rest, places, job, cursor, frame))
+    records::begin(rest, job, records::starting(0, s.end))
 }
 
-fn mount_chosen(
-    last: u16,
-    choice: Choice,
-    a: Survey,
-    p: [u16; 256],
-    b: Survey,
-    q: [u16; 256],
-) -> Outcome
-    ensures { λ r. ⌜ r ≡ mountChosen last choice a p b q ⌝ }
+fn mount_chosen(last: u16, choice: Choice, a: Survey, b: Survey) -> Stepped
+    ensures { λ r. ⌜ r ≡ mountChosen last choice a b ⌝ }
 {
     match choice {
         Choice::First => {
             let kind = b.kind;
-            return mount_at(last, 0, a, p, !is_blank(kind));
+            return mount_at(last, 0, a, !is_blank(kind));
         }
         Choice::Second => {
             let kind = a.kind;
-            return mount_at(last, 1, b, q, !is_blank(kind));
+            return mount_at(last, 1, b, !is_blank(kind));
         }
-        Choice::Refused(why) => return refused(why, records::unmounted()),
+        Choice::Refused(why) => return refused(why),
     }
+}
+
+// The places of the chosen block, which only a job needs.
+fn keep_places(ended: bool, choice: Choice, places: &mut [u16; 256], second: &[u16; 256])
+    ensures { λ r. ⌜ now (places .exit) ≡ placesFor ended choice (now (places .entry)) (now (second .entry)) ⌝ }
+{
+    if ended {
+        *places = records::no_places();
+        return;
+    }
+    match choice {
+        Choice::First => return,
+        Choice::Second => *places = *second,
+        Choice::Refused(_) => return,
+    }
+}
+
+// A mount, with its places lent.
+pub fn mount_core(image: &[u8], places: &mut [u16; 256]) -> Stepped
+    ensures { λ r. ⌜ Gives (now (places .exit)) r (mountOn (now (image .entry))) ⌝ }
+{
+    if !image::is_allowed(image.len()) {
+        *places = records::no_places();
+        return refused(Refusal::ImageLength);
+    }
+    let mut second = records::no_places();
+    let a = survey::survey_block(flash::block_of(image, 0), places);
+    let b = survey::survey_block(flash::block_of(image, 1), &mut second);
+    let choice = choose(a, b);
+    let s = mount_chosen((image.len() - 1) as u16, choice, a, b);
+    keep_places(s.ended, choice, places, &second);
+    s
 }
 
 pub fn mount(image: &[u8]) -> Outcome
     ensures { λ r. ⌜ (r .answer ≡ mountOn (now (image .entry)) .answer) × (r .board ≡ mountOn (now (image .entry)) .board) ⌝ }
 {
-    if !image::is_allowed(image.len()) {
-        return refused(Refusal::ImageLength, records::unmounted());
-    }
-    let mut p = records::no_places();
-    let mut q = records::no_places();
-    let a = survey::survey_block(flash::block_of(image, 0), &mut p);
-    let b = survey::survey_block(flash::block_of(image, 1), &mut q);
-    mount_chosen((image.len() - 1) as u16, choose(a, b), a, p, b, q)
+    let mut places = records::no_places();
+    let s = mount_core(image, &mut places);
+    made(s, places)
 }
 
 // ---- format
 
-pub fn format(image: &[u8]) -> Outcome
-    ensures { λ r. ⌜ (r .answer ≡ formatOn (now (image .entry)) .answer) × (r .board ≡ formatOn (now (image .entry)) .board) ⌝ }
+// A format, which needs no places.
+pub fn format_core(image: &[u8]) -> Stepped
+    ensures { λ r. ⌜ Gives noPlaces r (formatOn (now (image .entry))) ⌝ }
 {
     if !image::is_allowed(image.len()) {
-        return refused(Refusal::ImageLength, records::unmounted());
+        return refused(Refusal::ImageLength);
     }
     let job = Job {
         wipe: [0, 1],
@@ -216,8 +253,11 @@ pub fn format(image: &[u8]) -> Outcome
         block: 1,
         end: records::START,
     };
-    let cursor = records::starting(PAST_IDS, records::START);
-    let places = records::no_places();
-    let frame = records::no_frame();
-    records::begin(records::busy(rest, places, job, cursor, frame))
+    records::begin(rest, job, records::starting(PAST_IDS, records::START))
+}
+
+pub fn format(image: &[u8]) -> Outcome
+    ensures { λ r. ⌜ (r .answer ≡ formatOn (now (image .entry)) .answer) × (r .board ≡ formatOn (now (image .entry)) .board) ⌝ }
+{
+    made(format_core(image), records::no_places())
 }

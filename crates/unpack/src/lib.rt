@@ -1,12 +1,24 @@
 // The record from bytes: every content of every length is some record.
+mod drive;
+mod head;
+
 use board::Cursor;
 use board::Job;
 use board::Phase;
 use board::Record;
 use board::Stage;
+pub use drive::append;
+pub use drive::append_byte;
+pub use drive::in_hand;
+pub use drive::numbers;
+pub use drive::places;
+pub use drive::unit;
+pub use drive::unit_byte;
 use flash::BLOCKS;
 use flash::byte_at;
 use frame::MAX_FRAME;
+pub use head::phase_of;
+pub use head::rest_of;
 use wire::word_at;
 ghost use mathlib.Core.Path.{_≡_};
 ghost use lib.ListN.{take, drop};
@@ -37,7 +49,7 @@ fn front(bytes: &[u8], count: usize) -> &[u8]
 }
 
 // The word at a place.
-fn word_in(bytes: &[u8], at: usize) -> u16
+pub fn word_in(bytes: &[u8], at: usize) -> u16
     ensures { λ r. ⌜ r ≡ wordAt (now (bytes .entry)) at ⌝ }
 {
     word_at(tail(bytes, at), 0)
@@ -112,12 +124,11 @@ fn flag_in(number: u8) -> bool
     number != 0
 }
 
+// A step of C's reads them, so they are read one by one and not copied as a stretch.
 fn wipe_in(bytes: &[u8]) -> [u8; BLOCKS]
     ensures { λ r. ⌜ r ≡ bytesIn blocks (now (bytes .entry)) ⌝ }
 {
-    let mut w = [0u8; BLOCKS];
-    wire::lay(&mut w[..], front(bytes, BLOCKS));
-    w
+    [byte_at(bytes, 0), byte_at(bytes, 1)]
 }
 
 fn job_in(bytes: &[u8]) -> Job

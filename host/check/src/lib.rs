@@ -8,5 +8,6 @@ pub mod nor;
 pub mod rng;
 pub mod rounds;
 pub mod runs;
+mod side;
 pub mod tally;
 pub mod twin;

@@ -1,4 +1,4 @@
-//! The header and the library from C: the example, the program on README's first screen, and that program again with
+//! The header and the library from C: the examples, the program on README's first screen, and that program again with
 //! the installed files.
 
 use std::fs;
@@ -25,9 +25,9 @@ fn output(command: &mut Command) -> String {
 }
 
 /// Compiles a program with these flags for the library, runs it and gives what it printed.
-fn printed(source: &Path, name: &str, library: &[String]) -> String {
+fn printed(sources: &[PathBuf], name: &str, library: &[String]) -> String {
     let program = Path::new(SCRATCH).join(name);
-    output(Command::new("gcc").args(FLAGS).arg(source).args(library).arg("-o").arg(&program));
+    output(Command::new("gcc").args(FLAGS).args(sources).args(library).arg("-o").arg(&program));
     output(&mut Command::new(&program))
 }
 
@@ -37,10 +37,21 @@ fn in_place() -> Vec<String> {
     vec!["-I".to_string(), path("include"), path("target/staticlib/libgrommetide.a")]
 }
 
+/// An example of these files, the first of which it is named after, prints what stands beside it.
+fn try_example(files: &[&str]) {
+    let sources: Vec<_> = files.iter().map(|file| repository(&format!("examples/c/{file}.c"))).collect();
+    let printed = printed(&sources, files[0], &in_place());
+    assert_eq!(printed, text(repository(&format!("examples/c/{}.expected", files[0]))));
+}
+
 #[test]
-fn the_example_prints_what_it_should() {
-    let printed = printed(&repository("examples/c/restart.c"), "restart", &in_place());
-    assert_eq!(printed, text(repository("examples/c/restart.expected")));
+fn the_restart_example() {
+    try_example(&["restart"]);
+}
+
+#[test]
+fn the_power_cuts_example() {
+    try_example(&["power_cuts", "spi_nor", "chip"]);
 }
 
 /// The first block of a language in README, which must have one.
@@ -54,7 +65,7 @@ fn block(language: &str) -> String {
 fn try_readme(name: &str, library: &[String]) {
     let source = Path::new(SCRATCH).join(format!("{name}.c"));
     fs::write(&source, block("c")).expect("a file in target");
-    assert_eq!(printed(&source, name, library), block("text"));
+    assert_eq!(printed(&[source], name, library), block("text"));
 }
 
 #[test]

@@ -1,11 +1,10 @@
 -- A format: the record it gives back is written.
 use denote.Ref.{now}
-use borrow.Author.Needs.{needs}
 use borrow.Author.Tests.{ne-eqb}
 use Rattle.board.specs.Mount.{formatOn}
 use Rattle.grommetide.specs.Edge.{edgeFormat}
-use Rattle.grommetide.proofs.Buffers.{replaced}
-use Rattle.grommetide.proofs.Typed.{outcome-fits}
+use Rattle.grommetide.proofs.Begun.{replaced}
+use borrow.Author.Needs.{needs}
 use Rattle.grommetide.proofs.grommetide_format.Statement.{statement}
 use Rattle.grommetide.proofs.grommetide_format.Tie as tie
 
@@ -17,9 +16,19 @@ grommetide-format-spec =
     (λ c. let t = ne-eqb _ _ (c .if1 .taken) in ((rw t, rw t), λ l. absurd (c .if1 .taken l)))
     (λ c κs. search needs)
     (λ c κs. search needs)
+    (λ c κs. search needs)
+    (λ c κs. search needs)
     (λ c. search needs)
     (λ c.
-    let c4 = c .before .before .before .before in
-    let m = c4 .format in
-    replaced _ _ _ _ (m .result) (formatOn (now (c4 .before .before .before .before .args .image))) (c4 .before .if1 .left)
-    (outcome-fits (m .result) _ (m .ok)) (m .ensures .0) (m .ensures .1) (c .before .before .hand-over .ensures)))
+    let c6 = c .before .before .before .before .before .before in
+    let c7 = c6 .before in
+    let c8 = c7 .before in
+    let c9 = c8 .before in
+    let c12 = c9 .before .before .before in
+    let format-core′ = c6 .format-core in
+    let no-frame′ = c7 .no-frame in
+    let no-places′ = c8 .no-places in
+    let if1′ = c9 .if1 in
+    let args′ = c12 .args in
+    replaced _ _ _ _ _ _ (format-core′ .result) (formatOn (now (args′ .image))) (if1′ .left) (format-core′ .ensures)
+    (no-frame′ .ensures) (rw (no-places′ .ensures) at (c .before .before .new-record .ensures))))

@@ -1,11 +1,10 @@
 -- A mount: the record it gives back is written.
 use denote.Ref.{now}
-use borrow.Author.Needs.{needs}
 use borrow.Author.Tests.{ne-eqb}
 use Rattle.board.specs.Mount.{mountOn}
 use Rattle.grommetide.specs.Edge.{edgeMount}
-use Rattle.grommetide.proofs.Buffers.{replaced}
-use Rattle.grommetide.proofs.Typed.{outcome-fits}
+use Rattle.grommetide.proofs.Begun.{replaced}
+use borrow.Author.Needs.{needs}
 use Rattle.grommetide.proofs.grommetide_mount.Statement.{statement}
 use Rattle.grommetide.proofs.grommetide_mount.Tie as tie
 
@@ -17,9 +16,17 @@ grommetide-mount-spec =
     (λ c. let t = ne-eqb _ _ (c .if1 .taken) in ((rw t, rw t), λ l. absurd (c .if1 .taken l)))
     (λ c κs. search needs)
     (λ c κs. search needs)
+    (λ c κs. search needs)
+    (λ c κs. search needs)
     (λ c. search needs)
     (λ c.
-    let c4 = c .before .before .before .before in
-    let m = c4 .mount in
-    replaced _ _ _ _ (m .result) (mountOn (now (c4 .before .before .before .before .args .image))) (c4 .before .if1 .left)
-    (outcome-fits (m .result) _ (m .ok)) (m .ensures .0) (m .ensures .1) (c .before .before .hand-over .ensures)))
+    let c6 = c .before .before .before .before .before .before in
+    let c7 = c6 .before in
+    let c10 = c7 .before .before .before in
+    let c13 = c10 .before .before .before in
+    let no-frame′ = c6 .no-frame in
+    let mount-core′ = c7 .mount-core in
+    let if1′ = c10 .if1 in
+    let args′ = c13 .args in
+    replaced _ _ _ _ _ _ (mount-core′ .result) (mountOn (now (args′ .image))) (if1′ .left) (mount-core′ .ensures)
+    (no-frame′ .ensures) (c .before .before .new-record .ensures)))

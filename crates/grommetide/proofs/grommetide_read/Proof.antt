@@ -1,12 +1,12 @@
--- A read: the answer is the request's, the numbers are the stretch's.
-use mathlib.Core.Path.{sym, ap, _∙_}
+-- A read: answer and place as they were found.
+use mathlib.Core.Path.{ap, _∙_}
 use denote.Ref.{now}
-use borrow.Author.Needs.{needs}
 use borrow.Author.Tests.{eq-eqb, ne-eqb}
 use Rattle.wire.specs.Answer.{edgeNumber}
 use Rattle.lent.specs.Layout.{recordIn}
-use Rattle.grommetide.specs.Edge.{place, asRead, edgeRead}
-use Rattle.grommetide.proofs.Refusals.{found}
+use Rattle.grommetide.specs.Edge.{place, edgeRead}
+use Rattle.grommetide.proofs.Begun.{asks-read}
+use borrow.Author.Needs.{needs}
 use Rattle.grommetide.proofs.grommetide_read.Statement.{statement}
 use Rattle.grommetide.proofs.grommetide_read.Tie as tie
 
@@ -19,22 +19,14 @@ grommetide-read-spec =
     (λ c κs. search needs)
     (λ c κs. search needs)
     (λ c κs. search needs)
-    (λ c.
-    let c2 = c .before .before in
-    let c4 = c2 .before .before in
-    let a = c4 .before .before .before .before .before .args in
-    let p = rw (c4 .decode .ensures, c2 .before .as-read .ensures) at (c2 .locate .ensures) in
-    let f = found (now (a .image)) (recordIn (now (a .board))) _ _ (asRead (now (a .message))) (λ e. c .if2 .taken (p .0 ∙ e)) in
-    rw (eq-eqb _ _ (c4 .before .if1 .left)) (λ i. place (ap edgeNumber (sym f) i) (p .0 i) (p .1 i)))
-    (λ c. search needs)
     (λ c κs. search needs)
     (λ c κs. search needs)
     (λ c.
-    let c6 = c .before .before .before .before .before .before in
-    let c8 = c6 .before .before in
-    let d = c8 .decode .ensures in
-    let m = c6 .before .as-read .ensures in
-    let p = rw (d, m) at (c6 .locate .ensures) in
-    let q = rw (d, m) at (c .before .before .request .ensures) in
-    let n = rw (q .0) at (c .number .ensures) in
-    rw (eq-eqb _ _ (c8 .before .if1 .left)) (λ i. place (n i) (p .0 i) (p .1 i))))
+    let c9 = c .before .before .before .before .before .before .before .before .before in
+    let phase-of′ = c .before .before .before .before .phase-of in
+    let if1′ = c .before .before .before .before .before .if1 in
+    let args′ = c9 .args in
+    let f = rw (phase-of′ .ensures, c .before .before .before .rest-of .ensures, c .before .before .as-read .ensures) at
+    (c .before .find .ensures (recordIn (now (args′ .board)))) in let n = c .number .ensures
+    ∙ ap edgeNumber (f .answers (asks-read (now (args′ .message)))) in rw (eq-eqb _ _ (if1′ .left))
+    (λ i. place (n i) (f .at i) (f .size i))))

@@ -1,13 +1,11 @@
--- A request: on the record that the buffer holds.
+-- A request: by where the record in the buffer stands.
 use denote.Ref.{now}
-use borrow.Author.Needs.{needs}
 use borrow.Author.Tests.{eq-eqb, ne-eqb}
 use Rattle.board.specs.Queue.{requestOn}
 use Rattle.lent.specs.Layout.{recordIn}
 use Rattle.grommetide.specs.Edge.{edgeRequest}
-use Rattle.grommetide.proofs.Kept.{request-keeps}
-use Rattle.grommetide.proofs.Typed.{outcome-fits}
-use Rattle.grommetide.proofs.Buffers.{finished}
+use Rattle.grommetide.proofs.Begun.{begun-is, done-rests}
+use borrow.Author.Needs.{needs}
 use Rattle.grommetide.proofs.grommetide_request.Statement.{statement}
 use Rattle.grommetide.proofs.grommetide_request.Tie as tie
 
@@ -20,18 +18,24 @@ grommetide-request-spec =
     (λ c κs. search needs)
     (λ c κs. search needs)
     (λ c κs. search needs)
+    (λ c κs. search needs)
+    (λ c κs. search needs)
+    (λ c κs. search needs)
     (λ c. search needs)
     (λ c. search needs)
     (λ c.
-    let c6 = c .before .before .before .before .before .before in
-    let c8 = c6 .before .before in
-    let c10 = c8 .before .before in
-    let a = c10 .before .before .before .before .before .args in
-    let l = c10 .if1 .left in
-    let r = c6 .request .result in
-    let b = now (a .board) in
-    let o = requestOn (now (a .image)) (recordIn b) (now (a .reply)) (record { 0 = a .host }) (now (a .message)) in
-    let s = rw (c8 .decode .ensures) at (c6 .request .ensures) in
-    let h = rw (c8 .decode .ensures) at (c .before .before .finish .ensures) in
-    let z = finished b _ _ r o l (outcome-fits r _ (c6 .request .ok)) (s .0) (s .1) (request-keeps _ _ _ _ _) h in
-    (rw (eq-eqb _ _ l) (z .0 .0, z .0 .1, s .2), λ _. z .1)))
+    let c8 = c .before .before .before .before .before .before .before .before in
+    let c14 = c8 .before .before .before .before .before .before in
+    let c16 = c14 .before .before in
+    let c18 = c16 .before .before in
+    let c23 = c18 .before .before .before .before .before in
+    let request-core′ = c8 .request-core in
+    let rest-of′ = c14 .rest-of in
+    let phase-of′ = c16 .phase-of in
+    let if1′ = c18 .if1 in
+    let args′ = c23 .args in
+    let b = now (args′ .board) in let o = requestOn (now (args′ .image)) (recordIn b) (now (args′ .reply))
+    (record { 0 = args′ .host }) (now (args′ .message)) in let q = rw (phase-of′ .ensures, rest-of′ .ensures) at
+    (request-core′ .ensures (recordIn b)) in let z = begun-is b _ _ _ _ (request-core′ .result) o (if1′ .left) (q .0)
+    (done-rests _ _ _ _ _) (c .before .before .begun .ensures) in
+    (rw (eq-eqb _ _ (if1′ .left)) (z .0 .0, z .0 .1, q .1), λ _. z .1)))

@@ -12,8 +12,10 @@ head-bytes-spec =
     (λ c κs. search needs)
     (λ c κs. search needs)
     (λ c κs. search needs)
-    (λ c. rw (
-      c .before .before .before .before .phase-byte .ensures,
+    (λ c.
+    let phase-byte′ = c .before .before .before .before .phase-byte in
+    rw (
+      phase-byte′ .ensures,
       c .before .before .before .low .ensures,
       c .before .before .high .ensures,
       c .before .low2 .ensures,

@@ -13,19 +13,17 @@ use Rattle.serving.proofs.serve_end.Tie as tie
 pub serve-end-spec : {M : Type 1} → statement M
 unfolding endIn
 serve-end-spec =
-    tie.close
-    (tie.spec
+    tie.close (tie.spec
     (λ c κs. search needs)
     (λ c κs. search needs)
     (λ c.
     let args′ = c .before .before .before .before .args in
-    let a = args′ in let t : ltb 0 (getD (a .s .pending) (a .host .0) 0) ≡ false = le-ltb 0 (getD (a .s .pending) (a .host .0) 0)
-    (omega (arith, c .before .before .of-host .ensures, c .before .if1 .taken)) in c .done .ensures
+    let a = args′ in let t : ltb 0 (getD (a .s .pending) (a .host .0) 0) ≡ false = le-ltb 0
+    (getD (a .s .pending) (a .host .0) 0) (omega (arith, c .before .before .of-host .ensures, c .before .if1 .taken)) in c .done .ensures
     ∙ sym (rw (t, endIn)))
-    (λ c. search needs)
     (λ c κs. search needs)
     (λ c.
-    let args′ = c .before .before .before .before .before .args in
+    let args′ = c .before .before .before .before .args in
     let a = args′ in let t : ltb 0 (getD (a .s .pending) (a .host .0) 0) ≡ true = lt-ltb 0 (getD (a .s .pending) (a .host .0) 0)
-    (omega (arith, c .before .before .before .of-host .ensures, c .before .before .if1 .left)) in c .append .ensures
+    (omega (arith, c .before .before .of-host .ensures, c .before .if1 .left)) in c .append .ensures
     ∙ sym (rw (t, endIn))))

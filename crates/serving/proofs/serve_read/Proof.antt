@@ -1,5 +1,6 @@
 -- A place, or none.
 use mathlib.Core.Path.{sym, _∙_}
+use denote.Ref.{now}
 use borrow.Author.Tests.{eq-eqb, ne-eqb}
 use lib.ListN.{getD}
 use Rattle.serving.specs.Calls.{readIn}
@@ -14,11 +15,18 @@ serve-read-spec =
     (λ c κs. search needs)
     (λ c κs. search needs)
     (λ c.
-    let args′ = c .before .before .before .args in
+    let args′ = c .before .before .before .before .args in
     c .refused .ensures
-    ∙ sym (rw (eq-eqb (getD (args′ .places) (args′ .id .0) 0) 0 (sym (c .before .before .place-of .ensures) ∙ c .before .if1 .taken), readIn)))
+    ∙ sym (rw (
+      eq-eqb (getD (now (args′ .places)) (args′ .id .0) 0) 0 (sym (c .before .before .place-of .ensures) ∙ c .before .if1 .taken),
+      readIn,
+    )))
     (λ c κs. search needs)
     (λ c.
-    let args′ = c .before .before .before .args in
+    let args′ = c .before .before .before .before .args in
     c .done .ensures
-    ∙ sym (rw (ne-eqb (getD (args′ .places) (args′ .id .0) 0) 0 (λ q. c .before .if1 .left (c .before .before .place-of .ensures ∙ q)), readIn))))
+    ∙ sym (rw (
+      ne-eqb (getD (now (args′ .places)) (args′ .id .0) 0) 0 (λ q. c .before .if1 .left (c .before .before .place-of .ensures
+          ∙ q)),
+      readIn,
+    ))))

@@ -1,32 +1,135 @@
--- Only a read looks for a value.
-use mathlib.Core.Path.{ap, _∙_}
-use Prim.Native.Nat.{ℕ}
+-- A read: empty where it is refused or finds nothing, else the value where it stands.
+use mathlib.Core.Path.{_≡_, sym, ap, _∙_}
+use native.Mathlib.Omega.{arith}
 use denote.Ref.{now}
-use Rattle.journal.specs.Index.{valueAt}
-use Rattle.fetch.specs.Fetch.{foundOf}
+use Rattle.flash.specs.Bytes.{Bytes}
+use Rattle.flash.specs.Flash.{sizeOf, block}
+use Rattle.flash.proofs.Blank.{bytes-of}
+use Rattle.journal.specs.Block.{blockState}
+use Rattle.survey.specs.Survey.{surveyOf, placesIn, stateOf}
+use Rattle.survey.proofs.Surveying.{half-fits}
+use Rattle.board.specs.declared.Record.{Record}
+use Rattle.job.specs.Code.{placed}
+use Rattle.queue.proofs.Asking.{Passed, passed, looks, shut}
+use Prim.Native.Nat.{_+_, _*_, _≤_}
+use lib.ListN.{length}
+use Rattle.board.specs.Record.{unmounted}
+use Rattle.queue.proofs.Handing.{Looked, none-read, not-served, read-none, read-inside, read-found-at}
 use borrow.Author.Needs.{needs}
 use Rattle.queue.proofs.reads.find.Statement.{statement}
 use Rattle.queue.proofs.reads.find.Tie as tie
+
+-- the gate was open
+opened : (c : tie.After-enum-told) (b : Record) →
+    let args′ = c .before .before .before .before .before .args in
+    Passed (now (args′ .image)) (placed (args′ .phase) (args′ .rest) b) (args′ .host)
+opened c b =
+    let args′ = c .before .before .before .before .before .args in
+    passed (now (args′ .image)) (placed (args′ .phase) (args′ .rest) b) (args′ .host)
+    (sym (c .before .before .check .ensures) ∙ c .enum-told .given .1)
+
+-- the current block, which is to be surveyed
+bytes : (c : tie.After-block-of) → Bytes (now (c .before .before .before .before .before .before .before .args .image))
+bytes c = bytes-of (now (c .before .before .before .before .before .before .before .args .image))
+    (λ i. c .before .before .before .before .before .before .shared-slice-known .given i .fits)
+
+surveyed : (c : tie.After-block-of) →
+    let args′ = c .before .before .before .before .before .before .before .args in
+    stateOf (now (c .block-of .result)) ≡ blockState (block (sizeOf (now (args′ .image))) (args′ .rest .block) (now (args′ .image)))
+surveyed c =
+    let args′ = c .before .before .before .before .before .before .before .args in
+    let r = placed (args′ .phase) (args′ .rest) unmounted in
+    half-fits (now (c .block-of .result))
+    (rw (c .block-of .ensures) (looks _ r (args′ .host) (now (args′ .message)) (bytes c) (opened (c .before .before) unmounted)))
+    ∙ ap blockState (c .block-of .ensures)
+
+looked : (c : tie.After-hear) (b : Record) →
+    let args′ = c .before .before .before .before .before .before .before .before .before .before .args in
+    Looked (now (args′ .image)) (placed (args′ .phase) (args′ .rest) b) (args′ .host) (now (args′ .message))
+    (c .before .survey-block .result) (c .hear .result)
+looked c b =
+    record {
+      bytes = bytes (c .before .before .before);
+      passed = opened (c .before .before .before .before .before) b;
+      survey = c .before .survey-block .ensures .0 ∙ ap surveyOf (surveyed (c .before .before .before));
+      asks = c .hear .ensures;
+    }
+
+-- what was found lies in the image
+inside : (c : tie.After-at) →
+    let c10 = c .before .before .before .before .before .before .before .before .before .before in
+    let args′ = c10 .before .before .before .before .before .before .before .args in
+    let at′ = c .at in
+    (args′ .rest .block * sizeOf (now (args′ .image)) + at′ .given .0 .0 + at′ .given .0 .1 .0 ≤ length (now (args′ .image)))
+    × (length (now (args′ .image)) ≤ 65536)
+inside c =
+    let at′ = c .at in
+    let find′ = c .before .before .value-for in
+    let ask′ = c .before .before .before .before .before .ask in
+    let block-of′ = c .before .before .before .before .before .before .before .before .before .before .block-of in
+    read-inside (looked (c .before .before .before .before .before .before .before) unmounted) (ask′ .given .0 .0) (ask′ .given .1) _
+    (c .before .before .before .before .before .before .before .before .survey-block .ensures .1 ∙ ap placesIn
+    (surveyed (c .before .before .before .before .before .before .before .before .before .before))) (now (block-of′ .result))
+    (block-of′ .ensures) (find′ .result) (find′ .ensures)
+    (at′ .given .0 .0) (at′ .given .0 .1 .0) (at′ .given .1)
 
 pub find-spec : {M : Type 1} → statement M
 find-spec =
     tie.close
     (tie.spec
-    (λ c. search needs)
     (λ c κs. search needs)
+    (λ c. search needs)
     (λ c κs. search needs)
     (λ c.
-    let ask′ = c .before .before .before .ask in
-    let args′ = c .before .before .before .before .before .before .args in
-    rw (ask′ .given .1) (c .value-at .ensures ∙ ap (λ (p : ℕ). foundOf (valueAt (now (args′ .block)) (ask′ .given .0 .0) p))
-    (c .before .place-of .ensures)))
+    let c7 = c .before .before .before .before .before .before .before in
+    let check′ = c .before .before .before .before .check in
+    let args′ = c7 .args in
+    λ b. none-read (now (args′ .image)) (placed (args′ .phase) (args′ .rest) b) _ _ _ _
+    (shut (now (args′ .image)) (placed (args′ .phase) (args′ .rest) b) _ _ _ _ (sym (check′ .ensures) ∙ c .before .before .why .given .1))
+    (c .nothing .ensures))
+    (λ c. search needs)
+    (λ c κs. search needs)
+    (λ c κs. search needs)
+    (λ c κs. search needs)
+    (λ c κs. search needs)
+    (λ c. search needs)
+    (λ c κs. search needs)
+    (λ c.
+    let c14 = c .before .before .before .before .before .before .before .before .before .before .before .before .before .before in
+    let args′ = c14 .args in
+    λ b. none-read (now (args′ .image)) (placed (args′ .phase) (args′ .rest) b) _ _ _ _
+    (not-served (looked (c .before .before .before .before) b) _ _ (c .before .before .why2 .given .1)) (c .nothing2 .ensures))
+    (λ c. search needs)
+    (λ c κs. search needs)
+    (λ c. search needs)
+    (λ c κs. search needs)
+    (λ c.
+    let c6 = c .before .before .before .before .before .before in
+    let c8 = c6 .before .before in
+    let c9 = c8 .before in
+    let c11 = c9 .before .before in
+    let value-for′ = c .before .before .before .value-for in
+    let ask′ = c6 .ask in
+    let survey-block′ = c9 .survey-block in
+    let block-of′ = c11 .block-of in
+    λ b. read-none (looked c8 b) (ask′ .given .0 .0) (ask′ .given .1) _
+    (survey-block′ .ensures .1 ∙ ap placesIn (surveyed c11)) (now (block-of′ .result)) (block-of′ .ensures)
+    (value-for′ .result) (value-for′ .ensures) (c .before .enum-told2 .given .1) _ (c .nothing3 .ensures))
     (λ c. search needs)
     (λ c. search needs)
+    (λ c. let k = inside (c .before .before) in omega arith)
+    (λ c. let k = inside (c .before .before) in omega arith)
     (λ c. search needs)
-    (λ c. search needs)
-    (λ c. search needs)
-    (λ c. search needs)
-    (λ c. search needs)
-    (λ c. search needs)
-    (λ c. search needs)
-    (λ c. search needs))
+    (λ c.
+    let c7 = c .before .before .before .before .before .before .before in
+    let c9 = c7 .before .before in
+    let c10 = c9 .before in
+    let c12 = c10 .before .before in
+    let at′ = c .before .before .at in
+    let value-for′ = c .before .before .before .before .value-for in
+    let ask′ = c7 .ask in
+    let survey-block′ = c10 .survey-block in
+    let block-of′ = c12 .block-of in
+    λ b. read-found-at (looked c9 b) (ask′ .given .0 .0) (ask′ .given .1) _
+    (survey-block′ .ensures .1 ∙ ap placesIn (surveyed c12)) (now (block-of′ .result)) (block-of′ .ensures)
+    (value-for′ .result) (value-for′ .ensures) (at′ .given .0 .0) (at′ .given .0 .1 .0) (at′ .given .1)))

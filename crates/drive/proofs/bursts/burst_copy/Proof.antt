@@ -1,0 +1,41 @@
+-- Bytes of the frame that is copied, but its last.
+use Prim.Native.Nat.{_<_}
+use native.Mathlib.Omega.{arith}
+use denote.Ref.{now}
+use Rattle.job.specs.Code.{assemble}
+use Rattle.drive.proofs.Running.{no-burst, copies-some}
+use borrow.Author.Needs.{needs}
+use Rattle.drive.proofs.bursts.burst_copy.Statement.{statement}
+use Rattle.drive.proofs.bursts.burst_copy.Tie as tie
+
+pub burst-copy-spec : {M : Type 1} → statement M
+burst-copy-spec =
+    tie.close
+    (tie.spec
+    (λ c. search needs)
+    (λ c κs. search needs)
+    (λ c κs. search needs)
+    (λ c. search needs)
+    (λ c.
+    let lay′ = c .before .before .before .before .lay in
+    let args′ = c .before .before .before .before .before .before .before .before .before .before .before .args in
+    rw (c .no-burst .ensures) (
+      omega arith,
+      λ p f. rw (lay′ .ensures .3 (c .before .if1 .taken)) (no-burst (now (args′ .image)) (assemble
+          (args′ .n) p (now (args′ .unit)) f)),
+    ))
+    (λ c κs.
+    let lay′ = c .before .before .before .lay in
+    let good′ = c .before .before .before .before .before .before .before .before .before .before .good in
+    let h : 0 < lay′ .result = omega (arith, c .if1 .left) in let s = lay′ .ensures .1 h in
+    (omega (arith, s .room, s .same, good′), omega (arith, s .held)))
+    (λ c. search needs)
+    (λ c.
+    let lay′ = c .before .before .before .before .lay in
+    let args′ = c .before .before .before .before .before .before .before .before .before .before .before .args in
+    let pre′ = c .before .before .before .before .before .before .before .before .before .before .before .pre in
+    let h : 0 < lay′ .result = omega (arith, c .before .if1 .left) in let s = lay′ .ensures .1 h in let w = lay′ .ensures .2 h in (
+      lay′ .ensures .0,
+      λ p f. copies-some p (now (args′ .unit)) f (now (args′ .image)) (args′ .n) (lay′ .result) (pre′) s (w .1) _
+          (c .copied .result) (w .0) (c .copied .ensures),
+    )))
