@@ -32,10 +32,10 @@ use Rattle.board.specs.Plan.{Follows, formatPlan, mountPlan, mountedAt, 
 use Rattle.board.specs.Table.{frameFor, Line, line, Exactly, Allowed, InJob, Fresh, FreshExact, requestLines, mountLines, linesOf}
 use Rattle.board.specs.Demand1.{Rests}
 use Rattle.board.specs.Demand2.{Accepted}
-use Rattle.board.specs.Claim.{ByteCall, ByteCalls}
+use Rattle.board.specs.Claim.{ByteCall, ByteCalls, Begins}
 use Rattle.wire.specs.Sentences.{Means, MessagesExact, MalformedExact}
 use Rattle.board.specs.Promise.{Machine, replyFor, Answers, Serves, Job, frame-job, mount-job, format-job, Calls, Shown, restingIn}
-use Rattle.board.specs.Promise.{shownRecord, shown, trace, Begins, PromiseDetermines, PromiseDeterminesFrom, PromiseDeterminesCall}
+use Rattle.board.specs.Promise.{shownRecord, shown, trace, PromiseDetermines, PromiseDeterminesFrom, PromiseDeterminesCall}
 use Rattle.board.proofs.Answering.{number-injective, number-accepted, Both, both-taken, both-refused, same-lines, told-answer}
 use Rattle.board.proofs.Answering.{whole, whole-is, in-job, same-stretch}
 use Rattle.board.proofs.Tabling.{is-allowed}

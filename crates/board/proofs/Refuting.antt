@@ -8,14 +8,15 @@ use native.Mathlib.Omega.{arith}
 use lib.Dec.{ltb}
 use lib.ListN.{length, replicate}
 use borrow.Author.Tests.{ltb-true, le-leb, eqb-false}
-use Rattle.flash.specs.Bytes.{Bytes}
+use Rattle.flash.specs.Bytes.{Bytes, allFF}
 use Rattle.flash.proofs.Cases.{and-left, and-right, clash}
+use Rattle.journal.specs.Block.{blockState}
 use Rattle.board.specs.declared.Stage.the-variants.{Wipe}
 use Rattle.board.specs.declared.Phase.the-variants.{Unmounted, Idle, Busy}
 use Rattle.board.specs.declared.Record.{Record}
 use Rattle.board.specs.Record.{unmounted, cursor, inStage}
 use Rattle.board.specs.Step.{enterWipe, stepBusy, stepOn}
-use Rattle.board.specs.Mount.{formatOn}
+use Rattle.board.specs.Mount.{formatOrder, formatOn}
 use Rattle.board.specs.Demand1.{Declared, EndsWithin}
 use Rattle.board.specs.Exec.{Call, request, step, mount, format, Machine, exec}
 use Rattle.board.specs.Claim.{ByteCalls}
@@ -84,7 +85,7 @@ not-unmounted e = let w : _≡_ {A = ℕ} 0 1 = cc in omega arith
 
 -- with an image of another length
 outside-is-done : Promise (offBench outsideIsDone) → ⊥
-unfolding outsideIsDone stepBusy stepOn formatOn enterWipe formatting
+unfolding outsideIsDone stepBusy stepOn allFF blockState formatOrder formatOn enterWipe formatting
 outside-is-done p = not-idle (p .calls .told (replicate 1280 0xFF) formatting step tt (λ e. absurd (not-unmounted e)) .done .0 refl)
 
 -- at a step that its job doesn't have
@@ -99,7 +100,7 @@ never-ends (suc n) (inr (inl e)) = let w : _≡_ {A = ℕ} 0 1 = cc in omega ari
 never-ends (suc n) (inr (inr e)) = never-ends n e
 
 stuck-declared : Declared stuck
-unfolding stuck formatting formatOn enterWipe
+unfolding stuck formatting allFF blockState formatOrder formatOn enterWipe
 stuck-declared = record { last = omega arith; wipes = omega arith; append = omega arith; copy = omega arith }
 
 forged-waits : Promise (offBench forgedWaits) → ⊥
@@ -133,5 +134,8 @@ refuted =
       keeps-pending = differs (runs .keeps-pending);
       refuses-alike = differs (runs .refuses-alike);
       overlooks-foreign = differs (runs .overlooks-foreign);
+      refuses-half-erased = differs (runs .refuses-half-erased);
+      takes-half-erased = differs (runs .takes-half-erased);
       formats-at-once = differs (runs .formats-at-once);
+      formats-blindly = differs (runs .formats-blindly);
     }

@@ -36,7 +36,7 @@ use Rattle.board.specs.Table.{frameFor, Exactly, InJob, Fresh, ValidAt, 
 use Rattle.board.specs.Demand1.{Unchanged, ImageAfter, Declared, Rests, EndsWithin}
 use Rattle.board.specs.Demand2.{Accepted, OneStore, LandsFrom, RoomExact, WearExact}
 use Rattle.wire.specs.Sentences.{Means}
-use Rattle.board.specs.Claim.{stepsOn, ByteCall, ByteCalls, Claim}
+use Rattle.board.specs.Claim.{stepsOn, ByteCall, ByteCalls, Begins, Claim}
 use Rattle.board.specs.CutFormat.{CutFormat}
 
 -- ---- what a call answers
@@ -124,7 +124,7 @@ pub data Job (img : List ℕ) (r : Record) : Call → List Step → Record → T
   -- alone follows."
   mount-job : (x : Store) → Current img x
       → Job img r mount (mountPlan (allFound img) x) (mountedAt (needsTransfer (x .frames) (x .tail)) (length img - 1) x)
-  -- "erase half 0, erase half 1, then half 0's header at time 1"
+  -- "erase half 0, erase half 1, then half 0's header at time 1"; K4: "Format now erases last the valid half"
   format-job : Job img r format (formatPlan img) (idle (rest (length img - 1) 0 headerLen))
 
 -- "each step call then does the next step, and the last one answers 0 with the record idle": of a call's outcome, all by the number of
@@ -205,14 +205,8 @@ abbrev pub trace : Machine → List ℕ → Record → List Call → List Shown
 trace m img r [] = []
 trace m img r (c ∷ cs) = let o : Out = m img r c in shown o ∷ trace m (o .image) (o .board) cs
 
--- a run begins with a mount or a format: "Mount and format take no record."
-abbrev pub Begins : Call → Type 0
-Begins (request h msg reply) = ⊥
-Begins step = ⊥
-Begins mount = Unit {0}
-Begins format = Unit {0}
-
--- two machines that meet the promise show the same on every run, on an image of any length, whatever records they were first given
+-- two machines that meet the promise show the same on every run that begins with a mount or a format, on an image of any length, whatever
+-- records they were first given; so from a cut inside an erase on too
 unfoldable pub PromiseDetermines : Type 0
 PromiseDetermines =
     (m n : Machine) → Promise m → Promise n → (img : List ℕ) (r q : Record) (c : Call) (cs : List Call) → Bytes img → Begins c → ByteCalls cs

@@ -7,8 +7,8 @@ use native.Mathlib.Omega.{arith}
 use native.Mathlib.Nat.{min-eq-right, le-trans, pow-succ', div-div-eq-div-mul}
 use lib.Arith.{bin-ind}
 use lib.Bits.{bitAnd, and-step, and-le-l, and-shr, and-mod, and-zero-r}
-use lib.ListN.{length, getD, take, drop, replicate, length-append, length-take, length-drop, length-replicate, getD-replicate, List·getD-eq-default}
-use lib.Seq.{ext-getD, take-at, drop-at, length-take-le, getD-take, getD-drop}
+use lib.ListN.{length, getD, take, drop, replicate, length-append, length-take, length-drop, length-replicate, getD-replicate, take-append-drop, List·getD-eq-default}
+use lib.Seq.{ext-getD, take-at, drop-at, drop-drop, length-take-le, getD-take, getD-drop}
 use Rattle.flash.specs.Bytes.{Bytes}
 use Rattle.flash.specs.Flash.{Step, program, erase, block, withBlock, eraseBlock, apply}
 use Rattle.flash.specs.Raised.{Raised, RaisedLaws}
@@ -127,10 +127,17 @@ module _ (s k : ℕ) (new img : List ℕ) (h : k * s + s ≤ length img) (l : le
       (ap (drop (k * s + s)) (sym (append-assoc (take (k * s) img) new (drop (k * s + s) img)))
       ∙ drop-at (take (k * s) img ++ new) (drop (k * s + s) img) (k * s + s) (length-append (take (k * s) img) new ∙ omega (arith, front)))
 
-  pub bytes-with : Bytes new → Bytes img → Bytes (withBlock s k new img)
-  bytes-with b y =
-      bytes-append (take (k * s) img) (new ++ drop (k * s + s) img) (bytes-take (k * s) img y)
-      (bytes-append new (drop (k * s + s) img) b (bytes-drop (k * s + s) img y))
+pub bytes-with : (s k : ℕ) (new img : List ℕ) → Bytes new → Bytes img → Bytes (withBlock s k new img)
+bytes-with s k new img b y =
+    bytes-append (take (k * s) img) (new ++ drop (k * s + s) img) (bytes-take (k * s) img y)
+    (bytes-append new (drop (k * s + s) img) b (bytes-drop (k * s + s) img y))
+
+-- with its own nothing changes
+pub with-same : (s k : ℕ) (img : List ℕ) → withBlock s k (block s k img) img ≡ img
+with-same s k img =
+    ap (λ (l : List ℕ). take (k * s) img ++ l)
+    (ap (λ (l : List ℕ). block s k img ++ l) (sym (drop-drop s (k * s) img)) ∙ take-append-drop s (drop (k * s) img))
+    ∙ take-append-drop (k * s) img
 
 -- ---- a step that does what an erase would do is that erase, or finds the block blank
 
