@@ -7,7 +7,7 @@ use Prim.Native.Nat.{ℕ, _+_, _-_, _≤_}
 use native.Mathlib.Omega.{arith}
 use lib.ListN.{length, drop, length-drop}
 use Rattle.flash.specs.Bytes.{Bytes}
-use Rattle.flash.specs.Flash.{Step, erase, applyAll, block, sizeOf}
+use Rattle.flash.specs.Flash.{Step, applyAll, block, sizeOf}
 use Rattle.frame.specs.Frame.{deleteLen, endLen, total}
 use Rattle.journal.specs.Replay.{Object, State, state, replay, listOf, settledOnly}
 use Rattle.journal.specs.Block.{blockState, headerLen}
@@ -168,7 +168,8 @@ module _ {s : ℕ} {img : List ℕ} (b : Book) {u : Bool} (v : Bare s img (b .ob
       finish g (job-begins img g (mountPlan (allFound img) x) last
       (follows-mount img x ks (v .sized .ok) (y .there) (wiped-besides (x .number) img)
       (subst (λ (n : ℕ). Journal (block n (x .number) img) (x .frames)) (sym (size-of (v .sized))) (journal-of h)))
-      (mount-short x (v .sized) (y .there) h t) (λ n l. let g = mount-keeps x (v .sized) (y .there) h t false k f n l in (g .0, λ d. g .1)) (settled-book k a) (ready-idle (a .ready)))
+      (mount-short x (v .sized) (y .there) h t)
+      (λ n l. let g = mount-keeps x (v .sized) (y .there) h t false k f n l in (g .0, λ d. g .1)) (settled-book k a) (ready-idle (a .ready)))
     where
       finish : (g : Record) → Begun s (GuardIn s (b .objects) false nothing) (λ i q. IdleBook s i q (book (b .objects) noLists nothing)) img g
           → MountKeeps s img b u (out (answerOf g) img g [])

@@ -8,7 +8,7 @@ use lib.Dec.{ltb}
 use lib.ListN.{length, take}
 use lib.Seq.{take-all}
 use borrow.Author.Tests.{ltb-true, ltb-false}
-use Rattle.flash.specs.Flash.{Step, applyAll, blocks, block, sizeOf}
+use Rattle.flash.specs.Flash.{Step, applyAll, block, sizeOf}
 use Rattle.flash.proofs.Cases.{on-test}
 use Rattle.frame.specs.Reader.{clean}
 use Rattle.journal.specs.Replay.{Object}

@@ -57,9 +57,11 @@ pub mod Limits  -- demand 2 of any machine that keeps the table: room and wear
 pub mod Clearing  -- programming only clears bits
 pub mod Following  -- the k-th step, demand 3 and a cut format, of any machine that keeps the clauses
 pub mod FollowingPlans  -- demand 2 of it, and the whole promise
+pub mod Runs  -- runs in two parts
 pub mod Tickets  -- the customer's two tickets, of any machine that keeps the promise
 pub mod Driving  -- what is next, done to the flash by the caller, then made, is a step call
 -- ---- wrong stores
 pub mod RefutingRuns  -- the runs that tell, computed
 pub mod Refuting  -- none of them keeps the promise
+pub mod RefutingCut  -- demand 3 sees one that is wrong on half-erased halves only
 pub mod RefutingRows  -- and yet all are right in every row

@@ -5,13 +5,13 @@ use mathlib.Core.Bool.{Bool, true, false, _||_, cond}
 use Prim.Native.Nat.{ℕ, zero, suc, _<_}
 use native.Mathlib.Omega.{arith}
 use lib.Dec.{eqb, ltb}
-use borrow.Author.Tests.{eqb-true, eqb-false, ltb-true, ltb-false, eq-eqb, ne-eqb, lt-ltb, le-ltb}
+use borrow.Author.Tests.{eq-eqb, ne-eqb, lt-ltb, le-ltb}
 use Rattle.flash.specs.Flash.{block, blocks, blockNumbers, sizeOf}
 use Rattle.flash.proofs.Cases.{on-order}
 use Rattle.frame.specs.Frame.{Frame}
 use Rattle.frame.specs.Reader.{Tail}
 use Rattle.journal.specs.Block.{BlockState, blank, inProgress, valid, foreign, blockState}
-use Rattle.board.specs.Mount.{nextBlock, Found, Store, stores, sameTime, numbersBut, tied, orderFor, formatOrder}
+use Rattle.board.specs.Mount.{nextBlock, Found, Store, stores, numbersBut, tied, orderFor, formatOrder}
 use Rattle.board.specs.CutFormat.{Beside}
 use Rattle.board.proofs.Blocks.{Blocks}
 

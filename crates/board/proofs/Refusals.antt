@@ -10,7 +10,7 @@ use lib.Dec.{eqb, ltb, leb}
 use lib.ListN.{length}
 use borrow.Author.Tests.{leb-true, leb-false, lt-ltb, le-ltb}
 use Rattle.flash.specs.Flash.{apply, sizeOf, within}
-use Rattle.flash.proofs.Cases.{on-test, and-no-right, or-left, or-right, or-neither}
+use Rattle.flash.proofs.Cases.{on-test, or-left}
 use Rattle.frame.specs.declared.Host.{Host}
 use Rattle.frame.specs.declared.ObjectId.{ObjectId}
 use Rattle.frame.specs.Frame.{hostMax, Change, put, delete, Frame, change, commit, abort}
@@ -42,7 +42,7 @@ use Rattle.board.proofs.Checks.{Check, check, firstOf, isUnmounted, isM
 use Rattle.board.proofs.Checks.{outside, noStore, wornStore, mountChecks, checks, refusalIn}
 use Rattle.board.proofs.Outcomes.{append-worn, append-begins, change-refused, change-goes, end-goes, end-idle, log-short, log-done}
 use Rattle.board.proofs.Outcomes.{serve-put, serve-delete, serve-commit, serve-abort, serve-log, read-none, read-some}
-use Rattle.board.proofs.Outcomes.{request-length, request-host, request-in, mount-length, mount-foreign, mount-stores, mount-worn}
+use Rattle.board.proofs.Outcomes.{request-length, request-host, request-in, mount-length, mount-stores, mount-worn}
 use Rattle.board.proofs.Outcomes.{mount-begins, format-length, format-begins, step-resting, step-outside, step-goes}
 
 -- ---- what is claimed of a call's outcome, against the lines of the table that are left

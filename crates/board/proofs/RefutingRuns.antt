@@ -22,7 +22,8 @@ use Rattle.board.specs.WrongRuns.{half, blankHalf, stored, pending, late
 pub runs : Runs
 unfolding refusesAll refusesPuts refusesHighIds ownFormatsOnly firstHalfOnly hostFirst refusalClears refusedLogWrites readsAlike
     inventsCount neverCommits abortsNothing takesOthers keepsOld programsNothing wholeFrame inventsStep erasesFirst hurriedMount losesAll
-    keepsPending refusesAlike overlooksForeign refusesHalfErased takesHalfErased formatsAtOnce formatsBlindly allFF sameBytes applyAll writes encodeAll total match readFrame scan insert
+    keepsPending refusesAlike overlooksForeign refusesHalfErased takesHalfErased formatsAtOnce formatsBlindly
+    allFF sameBytes applyAll writes encodeAll total match readFrame scan insert
     remove lookup changeAll listOf without isOpen replayFrom headerFault blockState noRoom sited placesFrom sinceFrom valueAt nextSettled
     nextPending nextLoad parse noPlaces noFrame enterAppend enterDrop enterCopy enterOpen enterWipe advance stepBusy stepOn mountAt
     mountFound mountOn formatOrder formatOn held append serveChange serveEnd serveLog serve requestOn half blankHalf stored pending later second begun

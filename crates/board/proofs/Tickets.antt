@@ -8,11 +8,11 @@ use Prim.Native.Nat.{ℕ, zero, suc, _-_, _/_, _≤_, _<_}
 use native.Mathlib.Nat.{le-refl}
 use native.Mathlib.Omega.{arith}
 use lib.Dec.{ltb}
-use lib.ListN.{length, replicate}
+use lib.ListN.{length}
 use lib.Seq.{take-all}
 use borrow.Author.Tests.{ltb-true, ltb-false}
 use Rattle.flash.specs.Bytes.{Bytes}
-use Rattle.flash.specs.Flash.{Step, applyAll, blocks, block, sizeOf, withBlock}
+use Rattle.flash.specs.Flash.{Step, applyAll, blocks, block, sizeOf}
 use Rattle.flash.proofs.Cases.{on-test}
 use Rattle.frame.specs.declared.Host.{Host}
 use Rattle.frame.specs.Frame.{Frame, Change}
@@ -36,10 +36,9 @@ use Rattle.board.specs.Plan.{mountPlan, mountedAt, framePlan, framedAt}
 use Rattle.board.specs.Table.{frameFor}
 use Rattle.board.specs.Demand1.{Unchanged, Rests}
 use Rattle.board.specs.Demand2.{Mounts, OneStore}
-use Rattle.board.specs.Book.{Book, book, nothing, noLists, withList, firstBook, enterCall, enterStep, enterRequest, enterParsed}
+use Rattle.board.specs.Book.{Book, book, nothing, noLists, withList, firstBook, enterStep, enterRequest, enterParsed}
 use Rattle.board.specs.Book as books
-use Rattle.board.specs.Claim.{IdleAgrees, AgreesIn, Agrees, track, Event, call, cutErase, Restarts, Happens, Run, stepsOn, formatted}
-use Rattle.board.specs.Claim.{HappensFrom, Claim}
+use Rattle.board.specs.Claim.{IdleAgrees, AgreesIn, Agrees, track, Event, call, stepsOn, formatted, HappensFrom, Claim}
 use Rattle.board.specs.CutFormat.{Left, afterAll, leftBy}
 use Rattle.wire.specs.Sentences.{Means, MessagesExact}
 use Rattle.board.specs.Promise.{Answers, Serves, Job, frame-job, mount-job, StepsOf, Calls, Promise, Shown}
@@ -52,6 +51,7 @@ use Rattle.board.proofs.Answering.{number-injective}
 use Rattle.board.proofs.TablingMounts.{Mountable, mounts-current, same-store}
 use Rattle.board.proofs.Determining.{Asked, request-asks, mount-takes, mount-allowed, mount-agrees}
 use Rattle.board.proofs.Following.{left-by, job-idle, mounted-idle}
+use Rattle.board.proofs.Runs.{stepping, after-append, HappensAfter, happens-append, happens-first, happens-rest, steps-happen, run-rest, steps-agree}
 
 -- ---- 1
 
@@ -91,70 +91,7 @@ module _ {m : Machine} (p : Calls m) where
 done-more : {P : Type 0} (a : Answer) → numberOf a ≡ some 0 → a ≡ More → P
 done-more a e f = let w : _≡_ {A = Option ℕ} (some 0) none = sym e ∙ ap numberOf f in let z : _≡_ {A = ℕ} 0 1 = cc in absurd (omega arith)
 
--- ---- a run in two parts
-
--- n step calls
-abbrev stepping : ℕ → List Event
-stepping n = replicate n (call step)
-
-after-append : (m : Machine) (img : List ℕ) (r : Record) (b : Book) (es ds : List Event)
-    → afterAll m img r b (es ++ ds) ≡ (let x : Left = afterAll m img r b es in afterAll m (x .image) (x .board) (x .book) ds)
-after-append m img r b [] ds = refl
-after-append m img r b (call c ∷ es) ds = after-append m (m img r c .image) (m img r c .board) (enterCall b c (m img r c .answer)) es ds
-after-append m img r b (cutErase k new q ∷ es) ds = after-append m (withBlock (sizeOf img) k new img) q b es ds
-
-restarts-append : (es ds : List Event) → Restarts es → Restarts ds → Restarts (es ++ ds)
-restarts-append [] ds x y = y
-restarts-append (call c ∷ es) ds x y = x
-restarts-append (cutErase k new q ∷ es) ds x y = absurd x
-
-restarts-first : (es ds : List Event) → Restarts (es ++ ds) → Restarts es
-restarts-first [] ds x = tt
-restarts-first (call c ∷ es) ds x = x
-restarts-first (cutErase k new q ∷ es) ds x = absurd x
-
-module _ (m : Machine) where
-  abbrev HappensAfter : Left → List Event → Type 0
-  HappensAfter x ds = Happens m (x .image) (x .board) (x .book) ds
-
-  happens-append : (img : List ℕ) (r : Record) (b : Book) (es ds : List Event) → Happens m img r b es → Restarts ds
-      → HappensAfter (afterAll m img r b es) ds → Happens m img r b (es ++ ds)
-  happens-append img r b [] ds x n y = y
-  happens-append img r b (call c ∷ es) ds (bc, x) n y =
-      (bc, happens-append (m img r c .image) (m img r c .board) (enterCall b c (m img r c .answer)) es ds x n y)
-  happens-append img r b (cutErase k new q ∷ es) ds (c, e, x) n y =
-      (c, restarts-append es ds e n, happens-append (withBlock (sizeOf img) k new img) q b es ds x n y)
-
-  happens-first : (img : List ℕ) (r : Record) (b : Book) (es ds : List Event) → Happens m img r b (es ++ ds) → Happens m img r b es
-  happens-first img r b [] ds x = tt
-  happens-first img r b (call c ∷ es) ds (bc, x) =
-      (bc, happens-first (m img r c .image) (m img r c .board) (enterCall b c (m img r c .answer)) es ds x)
-  happens-first img r b (cutErase k new q ∷ es) ds (c, e, x) =
-      (c, restarts-first es ds e, happens-first (withBlock (sizeOf img) k new img) q b es ds x)
-
-  happens-rest : (img : List ℕ) (r : Record) (b : Book) (es ds : List Event) → Happens m img r b (es ++ ds) → HappensAfter (afterAll m img r b es) ds
-  happens-rest img r b [] ds x = x
-  happens-rest img r b (call c ∷ es) ds (bc, x) = happens-rest (m img r c .image) (m img r c .board) (enterCall b c (m img r c .answer)) es ds x
-  happens-rest img r b (cutErase k new q ∷ es) ds (c, e, x) = happens-rest (withBlock (sizeOf img) k new img) q b es ds x
-
-  steps-happen : (n : ℕ) (img : List ℕ) (r : Record) (b : Book) → Happens m img r b (stepping n)
-  steps-happen zero img r b = tt
-  steps-happen (suc n) img r b = (tt, steps-happen n (m img r step .image) (m img r step .board) (enterStep b (m img r step .answer)))
-
-  run-rest : (img : List ℕ) (r : Record) (b : Book) (u : Bool) (es ds : List Event) → Run m img r b u (es ++ ds)
-      → (w : Bool) × (let x : Left = afterAll m img r b es in Run m (x .image) (x .board) (x .book) w ds)
-  run-rest img r b u [] ds y = (u, y)
-  run-rest img r b u (call c ∷ es) ds (s, a, y) =
-      run-rest (m img r c .image) (m img r c .board) (enterCall b c (m img r c .answer)) (track u b c (m img r c .answer)) es ds y
-  run-rest img r b u (cutErase k new q ∷ es) ds y = run-rest (withBlock (sizeOf img) k new img) q b u es ds y
-
-  -- after steps too the record agrees with the book
-  steps-agree : (n : ℕ) (img : List ℕ) (r : Record) (b : Book) (u : Bool) → Agrees m img r b → Run m img r b u (stepping n)
-      → let x : Left = afterAll m img r b (stepping n) in Agrees m (x .image) (x .board) (x .book)
-  steps-agree zero img r b u a y = a
-  steps-agree (suc n) img r b u a (s, e, y) =
-      let o : Out = m img r step in
-      steps-agree n (o .image) (o .board) (enterStep b (o .answer)) (track u b step (o .answer)) e y
+-- ---- step calls of a run
 
 -- with nothing under way step calls leave the book
 quiet-step : (os : List Object) (l : Host → List Change) (a : Answer) → enterStep (book os l nothing) a ≡ book os l nothing

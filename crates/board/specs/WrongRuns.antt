@@ -13,6 +13,7 @@ use Rattle.wire.specs.declared.Refusal.the-variants as refusal
 use Rattle.wire.specs.Answer.{edgeNumber}
 use Rattle.board.specs.Record.{unmounted, noStretch}
 use Rattle.board.specs.Exec.{Call, request, step, mount, format, Machine, exec}
+use Rattle.board.specs.Claim.{Event, call, cutErase, Claim}
 use Rattle.board.specs.Promise.{Shown, trace}
 use Rattle.board.specs.Wrong.{Wrongly, offBench}
 use Rattle.board.specs.Wrong.{refusesAll, refusesPuts, refusesHighIds, ownFormatsOnly, firstHalfOnly, hostFirst, refusalClears}
@@ -197,3 +198,19 @@ pub record Runs : Type 0 where
   pub takes-half-erased : Differs takesHalfErased seemsEmpty (mount ∷ step ∷ []) (byteAt 384) 0xFF 0x10
   pub formats-at-once : Differs formatsAtOnce stored (format ∷ []) (byteAt 0) 0xFF 0x10
   pub formats-blindly : Differs formatsBlindly stored (format ∷ step ∷ []) (byteAt 0) 0xFF 0x10
+
+-- ---- demand 3 alone sees a store that is wrong on half-erased halves only: its claim is for every raised half
+
+-- what the erase of a half leaves that holds one empty put: eight bytes of 0xFF
+unfoldable pub fading : List ℕ
+fading = replicate 8 0xFF ++ drop 8 (half 1 (change (hostOf 2) (put (idOf 7) []) ∷ []))
+
+-- after a format: the put; a mount, which makes a transfer since the put is pending, up to its last step; power lost inside that step, the
+-- erase of half 0; a mount
+abbrev pub cutRun : List Event
+cutRun =
+    call (putEmpty 7) ∷ (replicate 8 (call step)
+    ++ (call mount ∷ (replicate 10 (call step) ++ (cutErase 0 fading unmounted ∷ call mount ∷ []))))
+
+unfoldable pub ClaimSees : Type 0
+ClaimSees = Claim (offBench refusesHalfErased) → ⊥

@@ -1,14 +1,15 @@
 -- An erase that is cut: laws of raised bytes, and what becomes of each block of the image.
-use mathlib.Core.Path.{_≡_, refl, sym, ap, ap₂, subst, _∙_}
-use mathlib.Core.List.{List, [], _∷_, _++_, append-assoc}
-use mathlib.Core.Logic.{_⊎_, inl, inr, _↔_}
-use Prim.Native.Nat.{ℕ, zero, suc, _+_, _*_, _/_, _%_, _^_, _≤_, _<_, min}
+use mathlib.Core.Path.{_≡_, refl, sym, ap, ap₂, subst₂, _∙_}
+use mathlib.Core.List.{List, _++_, append-assoc}
+use mathlib.Core.Logic.{_⊎_, inl, inr}
+use Prim.Native.Nat.{ℕ, suc, _+_, _-_, _*_, _/_, _%_, _^_, _≤_, _<_}
 use native.Mathlib.Omega.{arith}
 use native.Mathlib.Nat.{min-eq-right, le-trans, pow-succ', div-div-eq-div-mul}
 use lib.Arith.{bin-ind}
-use lib.Bits.{bitAnd, and-step, and-le-l, and-shr, and-mod, and-zero-r}
-use lib.ListN.{length, getD, take, drop, replicate, length-append, length-take, length-drop, length-replicate, getD-replicate, take-append-drop, List·getD-eq-default}
-use lib.Seq.{ext-getD, take-at, drop-at, drop-drop, length-take-le, getD-take, getD-drop}
+use lib.Bits.{bitAnd, and-step, and-self, and-le-l, and-shr, and-mod, and-zero-r}
+use lib.ListN.{length, getD, take, drop, replicate, take-append-drop, getD-replicate, List·getD-eq-default, List·getD-append}
+use lib.ListN.{length-append, length-take, length-drop, length-replicate}
+use lib.Seq.{ext-getD, getD-append-add, take-at, drop-at, drop-drop, length-take-le, getD-take, getD-drop}
 use Rattle.flash.specs.Bytes.{Bytes}
 use Rattle.flash.specs.Flash.{Step, program, erase, block, withBlock, eraseBlock, apply}
 use Rattle.flash.specs.Raised.{Raised, RaisedLaws}
@@ -38,7 +39,7 @@ up-bits =
     bin-ind (λ (n : ℕ). (m : ℕ) → Up n m → bitAnd m n ≡ n) (λ m u. and-zero-r m)
     (λ n ih m u.
     let rest : bitAnd (m / 2) (n / 2) ≡ n / 2 =
-    ih (m / 2) (λ j. subst (λ (x : ℕ). x % 2 ≤ m / 2 / 2 ^ j % 2) (sym (half-bit n j)) (subst (λ (x : ℕ). n / 2 ^ suc j % 2 ≤ x % 2) (sym (half-bit m j)) (u (suc j)))) in
+    ih (m / 2) (λ j. subst₂ (λ (x y : ℕ). x % 2 ≤ y % 2) (sym (half-bit n j)) (sym (half-bit m j)) (u (suc j))) in
     let low : n % 2 ≤ m % 2 = omega (arith, u 0) in
     and-step m n ∙ ap₂ (λ (x y : ℕ). x * 2 + y) rest (min-eq-right low) ∙ omega arith)
 
@@ -94,6 +95,33 @@ raised-blank n b x =
     let e : getD ff i 0 ≡ 255 = getD-replicate n i 255 0 (omega (arith, x .long, length-replicate {A = ℕ} n 255)) in
     let top : getD b i 0 ≡ 255 = omega (arith, byte-up ff b i x, byte-at b i (x .bytes)) in
     top ∙ sym e)
+
+-- its first bytes are erased
+pub raised-front : (n : ℕ) (b : List ℕ) → Bytes b → n ≤ length b → Raised b (replicate n 255 ++ drop n b)
+raised-front n b y h =
+    record {
+      long = simp (length-append, length-replicate, length-drop) (omega arith);
+      bytes = bytes-append ones (drop n b) (bytes-replicate n) (bytes-drop n b y);
+      bits = λ i. on-order i n (λ _ l. low i l) (λ _ l. high i (omega arith)) (λ _ l. high i (omega arith));
+    }
+  where
+    ones : List ℕ
+    ones = replicate n 255
+
+    low : (i : ℕ) → i < n → bitAnd (getD (ones ++ drop n b) i 0) (getD b i 0) ≡ getD b i 0
+    low i l =
+        let h : i < length ones = omega (arith, length-replicate {A = ℕ} n 255) in
+        ap (λ (x : ℕ). bitAnd x (getD b i 0)) (List·getD-append ones (drop n b) 0 i h ∙ getD-replicate n i 255 0 l)
+        ∙ and-ff (getD b i 0) (byte-at b i y)
+
+    high : (i : ℕ) → n ≤ i → bitAnd (getD (ones ++ drop n b) i 0) (getD b i 0) ≡ getD b i 0
+    high i l =
+        let e : length ones + (i - n) ≡ i = omega (arith, length-replicate {A = ℕ} n 255) in
+        let f : n + (i - n) ≡ i = omega arith in
+        let g : getD (ones ++ drop n b) i 0 ≡ getD b i 0 =
+        ap (λ (j : ℕ). getD (ones ++ drop n b) j 0) (sym e) ∙ getD-append-add ones (drop n b) (i - n) 0 ∙ getD-drop n b (i - n) 0
+        ∙ ap (λ (j : ℕ). getD b j 0) f in
+        ap (λ (x : ℕ). bitAnd x (getD b i 0)) g ∙ and-self (getD b i 0)
 
 pub raised-laws : RaisedLaws
 raised-laws =
