@@ -97,7 +97,7 @@ pub record AppendExact : Type 0 where
       × Programs j (16 + length (encodeAll (framesOf (replay (x .frames))))) (encode f) appended
 
 -- "The other is erased if it isn't blank. If the current one has a torn tail or anything pending, a transfer of the settled objects alone
--- follows." Of the current half x, j the other
+-- follows." K4: "Where one half is valid, the other, if foreign, is erased on mount." Of the current half x, j the other
 pub record MountSteps (img : List ℕ) (x : Store) (j : ℕ) : Type 0 where
   pub erases : List Step
   pub moves : List Step

@@ -263,8 +263,8 @@ asEmpty img o (x ∷ xs) = o
 unfoldable pub overlooksForeign : Wrongly
 overlooksForeign = mounts (λ img o. cond (allowed (length img)) (asEmpty img o (stores (allFound img))) o)
 
--- K4: "Where one half is valid, the other, if foreign, is erased on mount": refused with 3, as before K4. Where every erase is done or not
--- begun no half is foreign, and this store is right
+-- K4: "Where one half is valid, the other, if foreign, is erased on mount": refused with 3, as before K4. In a run with no cut inside an erase
+-- no half is foreign, and no call shows the difference
 unfoldable pub refusesHalfErased : Wrongly
 refusesHalfErased = mounts (λ img o. accepted o (cond (anyForeign (allFound img)) (refuse refusal.Foreign img unmounted []) o))
 
@@ -274,8 +274,8 @@ nextInTime img o [] = o
 nextInTime img o (x ∷ []) = o
 nextInTime img o (x ∷ y ∷ ys) = mountAt img (allFound img) (cond (eqb (y .time) (x .time + 1)) y x)
 
--- K4: "its inverted time has only gained ones, so it never looks newer": a store that takes a half-erased half for the current one. Where
--- every erase is done or not begun two valid halves of a run follow each other in time, and this store is right
+-- K4: "its inverted time has only gained ones, so it never looks newer": a store that takes a half-erased half for the current one. In a
+-- run with no cut inside an erase two valid halves follow each other in time, and no call shows the difference
 unfoldable pub takesHalfErased : Wrongly
 takesHalfErased = mounts (λ img o. accepted o (nextInTime img o (stores (allFound img))))
 

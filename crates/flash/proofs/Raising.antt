@@ -96,6 +96,23 @@ raised-blank n b x =
     let top : getD b i 0 ≡ 255 = omega (arith, byte-up ff b i x, byte-at b i (x .bytes)) in
     top ∙ sym e)
 
+from-zeros : (b : List ℕ) → Bytes b → Raised (replicate (length b) 0) b
+from-zeros b y =
+    record {
+      long = sym (length-replicate (length b) 0);
+      bytes = y;
+      bits = λ i. ap (bitAnd (getD b i 0)) (none i) ∙ and-zero-r (getD b i 0) ∙ sym (none i);
+    }
+  where
+    zeros : List ℕ
+    zeros = replicate (length b) 0
+
+    past : (i : ℕ) → length b ≤ i → getD zeros i 0 ≡ 0
+    past i h = List·getD-eq-default zeros 0 (omega (arith, length-replicate {A = ℕ} (length b) 0))
+
+    none : (i : ℕ) → getD zeros i 0 ≡ 0
+    none i = on-order i (length b) (λ e h. getD-replicate (length b) i 0 0 h) (λ e h. past i (omega arith)) (λ e h. past i (omega arith))
+
 -- its first bytes are erased
 pub raised-front : (n : ℕ) (b : List ℕ) → Bytes b → n ≤ length b → Raised b (replicate n 255 ++ drop n b)
 raised-front n b y h =
@@ -133,6 +150,7 @@ raised-laws =
       untouched = untouched;
       erased = erased;
       again = raised-again;
+      from-zeros = from-zeros;
       stays-blank = raised-blank;
       not-smaller = λ a b i x. omega (arith, byte-up a b i x, byte-up a b (i + 1) x, byte-up a b (i + 2) x, byte-up a b (i + 3) x);
     }

@@ -26,6 +26,8 @@ pub record RaisedLaws : Type 0 where
   pub untouched : (b : List ℕ) → Bytes b → Raised b b
   pub erased : (b : List ℕ) → Bytes b → Raised b (replicate (length b) 255)
   pub again : (a b c : List ℕ) → Raised a b → Raised b c → Raised a c
+  -- of a block that is all 0, as no store leaves one, any bytes at all
+  pub from-zeros : (b : List ℕ) → Bytes b → Raised (replicate (length b) 0) b
   -- a blank block stays blank
   pub stays-blank : (n : ℕ) (b : List ℕ) → Raised (replicate n 255) b → b ≡ replicate n 255
   -- "has only gained ones": the number is not smaller
