@@ -27,7 +27,7 @@ use Rattle.board.proofs.Determining.{promise-determines}
 use Rattle.board.proofs.FollowingPlans.{promise}
 use Rattle.board.proofs.RefutingRuns.{runs}
 
-pub bytes-all : (l : List ℕ) → allBytes l ≡ true → Bytes l
+bytes-all : (l : List ℕ) → allBytes l ≡ true → Bytes l
 bytes-all [] e = tt
 bytes-all (b ∷ bs) e = (ltb-true b 256 (and-left (ltb b 256) (allBytes bs) e), bytes-all bs (and-right (ltb b 256) (allBytes bs) e))
 

@@ -4,13 +4,12 @@ use mathlib.Core.List.{List, [], _∷_, _++_}
 use mathlib.Core.Bool.{false}
 use Prim.Native.Nat.{ℕ}
 use native.Mathlib.Omega.{arith}
-use lib.ListN.{length, replicate}
-use borrow.Author.Tests.{leb-true}
+use lib.ListN.{replicate}
 use Rattle.flash.specs.Bytes.{allFF, sameBytes}
 use Rattle.flash.specs.Flash.{applyAll, writes, block, sizeOf, withBlock, eraseBlock}
 use Rattle.flash.specs.Raised.{Raised}
 use Rattle.flash.proofs.Blank.{bytes-replicate}
-use Rattle.flash.proofs.Raising.{raised-front}
+use Rattle.flash.proofs.Raising.{raises-raised}
 use Rattle.frame.specs.Frame.{hostOf, idOf, put, change, encodeAll, total}
 use Rattle.frame.specs.Reader.{match, readFrame, scan}
 use Rattle.journal.specs.Replay.{insert, remove, lookup, changeAll, listOf, without, isOpen, replayFrom}
@@ -32,7 +31,6 @@ use Rattle.board.specs.Claim.{Event, call, cutErase, CutsErase, Happens,
 use Rattle.board.specs.CutFormat.{Left, afterAll}
 use Rattle.board.specs.Wrong.{offBench, refusesHalfErased}
 use Rattle.board.specs.WrongRuns.{half, blankHalf, fading, putEmpty, cutRun, ClaimSees}
-use Rattle.board.proofs.Refuting.{bytes-all}
 use Rattle.board.proofs.Runs.{stepping, HappensAfter, steps-then, steps-image, run-rest}
 
 abbrev m : Machine
@@ -103,8 +101,7 @@ size-is = refl
 
 raised : Raised (block (sizeOf copied) 0 copied) fading
 unfolding half encodeAll fading
-raised =
-    let b : List ℕ = half 1 (change (hostOf 2) (put (idOf 7) []) ∷ []) in raised-front 8 b (bytes-all b refl) (leb-true 8 (length b) refl)
+raised = raises-raised (block (sizeOf copied) 0 copied) fading refl
 
 cut-at : (i : List ℕ) (r : Record) (b : Book) → i ≡ copied → InJob (r .phase) → b .under ≡ nothing → m i r step .image ≡ eraseBlock 384 0 copied
     → CutsErase m i r b 0 fading

@@ -190,7 +190,7 @@ Happens m img r b (cutErase k new q ∷ es) =
 
 -- ---- the run
 
--- the claim from an image, a record, a book: what each call says, and after it
+-- the claim from an image, a record, a book: what each call says, and that after it the record agrees with the book
 abbrev pub Run : Machine → List ℕ → Record → Book → Bool → List Event → Type 0
 Run m img r b u [] = Unit {0}
 Run m img r b u (call c ∷ es) =

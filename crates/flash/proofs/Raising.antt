@@ -1,19 +1,22 @@
 -- An erase that is cut: laws of raised bytes, and what becomes of each block of the image.
 use mathlib.Core.Path.{_≡_, refl, sym, ap, ap₂, subst₂, _∙_}
-use mathlib.Core.List.{List, _++_, append-assoc}
+use mathlib.Core.List.{List, [], _∷_, _++_, append-assoc}
+use mathlib.Core.Bool.{Bool, true, false, _&&_, false≢true}
 use mathlib.Core.Logic.{_⊎_, inl, inr}
-use Prim.Native.Nat.{ℕ, suc, _+_, _-_, _*_, _/_, _%_, _^_, _≤_, _<_}
+use Prim.Native.Nat.{ℕ, zero, suc, _+_, _*_, _/_, _%_, _^_, _≤_, _<_}
 use native.Mathlib.Omega.{arith}
 use native.Mathlib.Nat.{min-eq-right, le-trans, pow-succ', div-div-eq-div-mul}
 use lib.Arith.{bin-ind}
-use lib.Bits.{bitAnd, and-step, and-self, and-le-l, and-shr, and-mod, and-zero-r}
-use lib.ListN.{length, getD, take, drop, replicate, take-append-drop, getD-replicate, List·getD-eq-default, List·getD-append}
+use lib.Dec.{eqb, ltb}
+use borrow.Author.Tests.{eqb-true, ltb-true}
+use lib.Bits.{bitAnd, and-step, and-le-l, and-shr, and-mod, and-zero-r}
+use lib.ListN.{length, getD, take, drop, replicate, take-append-drop, getD-replicate, List·getD-eq-default}
 use lib.ListN.{length-append, length-take, length-drop, length-replicate}
-use lib.Seq.{ext-getD, getD-append-add, take-at, drop-at, drop-drop, length-take-le, getD-take, getD-drop}
+use lib.Seq.{ext-getD, take-at, drop-at, drop-drop, length-take-le, getD-take, getD-drop}
 use Rattle.flash.specs.Bytes.{Bytes}
 use Rattle.flash.specs.Flash.{Step, program, erase, block, withBlock, eraseBlock, apply}
 use Rattle.flash.specs.Raised.{Raised, RaisedLaws}
-use Rattle.flash.proofs.Cases.{on-order}
+use Rattle.flash.proofs.Cases.{on-order, and-left, and-right}
 use Rattle.flash.proofs.Blank.{bytes-append, bytes-take, bytes-drop, bytes-replicate, byte-at}
 use Rattle.flash.proofs.Programming.{and-ff, only-clears}
 use Rattle.flash.proofs.Image.{length-block, other-kept, clears, block-erase, other-erase}
@@ -113,32 +116,29 @@ from-zeros b y =
     none : (i : ℕ) → getD zeros i 0 ≡ 0
     none i = on-order i (length b) (λ e h. getD-replicate (length b) i 0 0 h) (λ e h. past i (omega arith)) (λ e h. past i (omega arith))
 
--- its first bytes are erased
-pub raised-front : (n : ℕ) (b : List ℕ) → Bytes b → n ≤ length b → Raised b (replicate n 255 ++ drop n b)
-raised-front n b y h =
+-- two lists of numbers, tested
+abbrev pub raises : List ℕ → List ℕ → Bool
+raises [] [] = true
+raises [] (y ∷ ys) = false
+raises (x ∷ xs) [] = false
+raises (x ∷ xs) (y ∷ ys) = ltb y 256 && (eqb (bitAnd y x) x && raises xs ys)
+
+pub raises-raised : (a b : List ℕ) → raises a b ≡ true → Raised a b
+raises-raised [] [] e = untouched [] tt
+raises-raised [] (y ∷ ys) e = absurd (false≢true e)
+raises-raised (x ∷ xs) [] e = absurd (false≢true e)
+raises-raised (x ∷ xs) (y ∷ ys) e =
+    let f : (eqb (bitAnd y x) x && raises xs ys) ≡ true = and-right (ltb y 256) (eqb (bitAnd y x) x && raises xs ys) e in
+    let r : Raised xs ys = raises-raised xs ys (and-right (eqb (bitAnd y x) x) (raises xs ys) f) in
     record {
-      long = simp (length-append, length-replicate, length-drop) (omega arith);
-      bytes = bytes-append ones (drop n b) (bytes-replicate n) (bytes-drop n b y);
-      bits = λ i. on-order i n (λ _ l. low i l) (λ _ l. high i (omega arith)) (λ _ l. high i (omega arith));
+      long = ap suc (r .long);
+      bytes = (ltb-true y 256 (and-left (ltb y 256) (eqb (bitAnd y x) x && raises xs ys) e), r .bytes);
+      bits = λ i. at i r (eqb-true (bitAnd y x) x (and-left (eqb (bitAnd y x) x) (raises xs ys) f));
     }
   where
-    ones : List ℕ
-    ones = replicate n 255
-
-    low : (i : ℕ) → i < n → bitAnd (getD (ones ++ drop n b) i 0) (getD b i 0) ≡ getD b i 0
-    low i l =
-        let h : i < length ones = omega (arith, length-replicate {A = ℕ} n 255) in
-        ap (λ (x : ℕ). bitAnd x (getD b i 0)) (List·getD-append ones (drop n b) 0 i h ∙ getD-replicate n i 255 0 l)
-        ∙ and-ff (getD b i 0) (byte-at b i y)
-
-    high : (i : ℕ) → n ≤ i → bitAnd (getD (ones ++ drop n b) i 0) (getD b i 0) ≡ getD b i 0
-    high i l =
-        let e : length ones + (i - n) ≡ i = omega (arith, length-replicate {A = ℕ} n 255) in
-        let f : n + (i - n) ≡ i = omega arith in
-        let g : getD (ones ++ drop n b) i 0 ≡ getD b i 0 =
-        ap (λ (j : ℕ). getD (ones ++ drop n b) j 0) (sym e) ∙ getD-append-add ones (drop n b) (i - n) 0 ∙ getD-drop n b (i - n) 0
-        ∙ ap (λ (j : ℕ). getD b j 0) f in
-        ap (λ (x : ℕ). bitAnd x (getD b i 0)) g ∙ and-self (getD b i 0)
+    at : (i : ℕ) → Raised xs ys → bitAnd y x ≡ x → bitAnd (getD (y ∷ ys) i 0) (getD (x ∷ xs) i 0) ≡ getD (x ∷ xs) i 0
+    at zero r g = g
+    at (suc i) r g = r .bits i
 
 pub raised-laws : RaisedLaws
 raised-laws =
