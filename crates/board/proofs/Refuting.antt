@@ -1,6 +1,6 @@
 -- The wrong stores are refuted: on a short run each shows something else than the machine does, and the promise leaves no room for that.
 use mathlib.Core.Path.{_≡_, refl, sym, ap, _∙_}
-use mathlib.Core.List.{List, [], _∷_}
+use mathlib.Core.List.{List, [], _∷_, map}
 use mathlib.Core.Logic.{inl, inr}
 use mathlib.Core.Bool.{Bool, true, false, _&&_, cond}
 use Prim.Native.Nat.{ℕ, zero, suc}
@@ -19,8 +19,8 @@ use Rattle.board.specs.Step.{enterWipe, stepBusy, stepOn}
 use Rattle.board.specs.Mount.{formatOrder, formatOn}
 use Rattle.board.specs.Demand1.{Declared, EndsWithin}
 use Rattle.board.specs.Exec.{Call, request, step, mount, format, Machine, exec}
-use Rattle.board.specs.Claim.{ByteCalls}
-use Rattle.board.specs.Promise.{Promise, Shown, trace, PromiseDetermines}
+use Rattle.board.specs.Claim.{call}
+use Rattle.board.specs.Promise.{Promise, Shown, trace, ByteEvents, PromiseDetermines}
 use Rattle.board.specs.Wrong.{Wrongly, onBench, offBench, outsideIsDone, forgedWaits, RightOnBench, Refuted}
 use Rattle.board.specs.WrongRuns.{nothing, lastFrom, allBytes, bytesIn, begins, Differs}
 use Rattle.board.proofs.Determining.{promise-determines}
@@ -31,7 +31,7 @@ bytes-all : (l : List ℕ) → allBytes l ≡ true → Bytes l
 bytes-all [] e = tt
 bytes-all (b ∷ bs) e = (ltb-true b 256 (and-left (ltb b 256) (allBytes bs) e), bytes-all bs (and-right (ltb b 256) (allBytes bs) e))
 
-bytes-in : (cs : List Call) → bytesIn cs ≡ true → ByteCalls cs
+bytes-in : (cs : List Call) → bytesIn cs ≡ true → ByteEvents (map call cs)
 bytes-in [] e = tt
 bytes-in (request h m reply ∷ cs) e =
     (bytes-all m (and-left (allBytes m) (bytesIn cs) e), bytes-in cs (and-right (allBytes m) (bytesIn cs) e))
@@ -40,14 +40,14 @@ bytes-in (mount ∷ cs) e = (tt, bytes-in cs e)
 bytes-in (format ∷ cs) e = (tt, bytes-in cs e)
 
 -- a store that keeps the promise shows what the machine shows
-same-trace : (m : Machine) → Promise m → (img : List ℕ) → Bytes img → (cs : List Call) → begins cs ≡ true → ByteCalls cs
-    → trace m img unmounted cs ≡ trace exec img unmounted cs
+same-trace : (m : Machine) → Promise m → (img : List ℕ) → Bytes img → (cs : List Call) → begins cs ≡ true → ByteEvents (map call cs)
+    → trace m img unmounted (map call cs) ≡ trace exec img unmounted (map call cs)
 unfolding PromiseDetermines
 same-trace m p img b [] e c = refl
 same-trace m p img b (request h msg reply ∷ cs) e c = clash false e refl
 same-trace m p img b (step ∷ cs) e c = clash false e refl
-same-trace m p img b (mount ∷ cs) e c = promise-determines m exec p promise img unmounted unmounted mount cs b tt (c .1)
-same-trace m p img b (format ∷ cs) e c = promise-determines m exec p promise img unmounted unmounted format cs b tt (c .1)
+same-trace m p img b (mount ∷ cs) e c = promise-determines m exec p promise img unmounted unmounted mount (map call cs) b tt (c .1)
+same-trace m p img b (format ∷ cs) e c = promise-determines m exec p promise img unmounted unmounted format (map call cs) b tt (c .1)
 
 -- so one that shows something else doesn't keep it
 differs : {w : Wrongly} {img : List ℕ} {cs : List Call} {see : Shown → ℕ} {a b : ℕ}
@@ -55,7 +55,7 @@ differs : {w : Wrongly} {img : List ℕ} {cs : List Call} {see : Shown → ℕ} 
 differs {w} {img} {cs} {see} {a} {b} t p =
     let bytes : Bytes img = bytes-all img (and-left (allBytes img) (begins cs && bytesIn cs) (t .is-run)) in
     let calls : (begins cs && bytesIn cs) ≡ true = and-right (allBytes img) (begins cs && bytesIn cs) (t .is-run) in
-    let same : trace (offBench w) img unmounted cs ≡ trace exec img unmounted cs =
+    let same : trace (offBench w) img unmounted (map call cs) ≡ trace exec img unmounted (map call cs) =
     same-trace (offBench w) p img bytes cs (and-left (begins cs) (bytesIn cs) calls)
     (bytes-in cs (and-right (begins cs) (bytesIn cs) calls)) in
     eqb-false a b (t .apart) (sym (t .shows-wrong) ∙ ap (λ (xs : List Shown). see (lastFrom nothing xs)) same ∙ t .shows-right)

@@ -1,5 +1,5 @@
 -- For each wrong store a short run that tells it from the machine, by what the last call shows. S = 384.
-use mathlib.Core.List.{List, [], _∷_, _++_}
+use mathlib.Core.List.{List, [], _∷_, _++_, map}
 use mathlib.Core.Option.{none}
 use mathlib.Core.Bool.{Bool, true, false, _&&_}
 use mathlib.Core.Path.{_≡_}
@@ -32,7 +32,7 @@ lastFrom x [] = x
 lastFrom x (y ∷ ys) = lastFrom y ys
 
 abbrev pub ended : Machine → List ℕ → List Call → Shown
-ended m img cs = lastFrom nothing (trace m img unmounted cs)
+ended m img cs = lastFrom nothing (trace m img unmounted (map call cs))
 
 -- image and messages are bytes, and the first call is a mount or a format
 abbrev pub allBytes : List ℕ → Bool
