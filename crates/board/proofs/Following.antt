@@ -185,7 +185,7 @@ module _ {m : Machine} (p : Calls m) where
       busy (resting h e) = subst (λ (x : Record). InJob (x .phase)) e (c .in-job)
       busy (working x xs z h l f g) = in-job (q .phase) (g .0)
 
-  cut-bytes : {img : List ℕ} {r : Record} {b : Book} {k : ℕ} {new : List ℕ} → Bytes img → CutsErase m img r b k new
+  pub cut-bytes : {img : List ℕ} {r : Record} {b : Book} {k : ℕ} {new : List ℕ} → Bytes img → CutsErase m img r b k new
       → Bytes (withBlock (sizeOf img) k new img)
   cut-bytes {img} {r} {b} {k} {new} by c = bytes-with (sizeOf img) k new img (c .raised .bytes) by
 
@@ -196,7 +196,7 @@ module _ {m : Machine} (p : Calls m) where
   carry-back : (P : List ℕ → Answer → Type 0) {o x : Out} → Both o x → P (x .image) (x .answer) → P (o .image) (o .answer)
   carry-back P w y = subst₂ P (sym (w .image)) (sym (answers-over w)) y
 
-  happens-over : (img : List ℕ) (r q : Record) (b : Book) → Bytes img → Same img r q → (es : List Event) → Happens m img r b es → Happens exec img q b es
+  pub happens-over : (img : List ℕ) (r q : Record) (b : Book) → Bytes img → Same img r q → (es : List Event) → Happens m img r b es → Happens exec img q b es
   happens-over img r q b by v [] h = tt
   happens-over img r q b by v (call c ∷ es) (bc, h) =
       let o : Out = m img r c in

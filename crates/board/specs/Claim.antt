@@ -148,10 +148,6 @@ ByteCall step = Unit {0}
 ByteCall mount = Unit {0}
 ByteCall format = Unit {0}
 
-abbrev pub ByteCalls : List Call → Type 0
-ByteCalls [] = Unit {0}
-ByteCalls (c ∷ cs) = ByteCall c × ByteCalls cs
-
 -- "Mount and format take no record."
 abbrev pub Begins : Call → Type 0
 Begins (request h msg reply) = ⊥
