@@ -3,8 +3,11 @@
 mod blank;
 mod damage;
 mod edge;
+mod erase;
+mod format;
 mod long;
 mod random;
 mod refusals;
 mod rows;
 mod traps;
+mod wrong;
