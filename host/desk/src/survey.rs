@@ -36,7 +36,7 @@ impl Side<'_> {
 
     /// The creation time of a valid half.
     pub fn time(&self) -> Option<u32> {
-        self.journal().map(|journal| journal.time)
+        self.half.time()
     }
 
     pub fn state(&self) -> String {

@@ -309,6 +309,23 @@ fn a_changed_value_in_a_half_erased_half() {
     scene.mount(&mut Twin::blank(LENGTH), &mask);
 }
 
+/// The half that stays has the last time. Clean, it is mounted; with a put pending a transfer would be needed: 6, and the old
+/// half stays as the cut left it.
+#[test]
+fn cuts_at_the_last_time() {
+    let (clean, dirty) = (mount_transfer(u32::MAX - 1), put_transfer(u32::MAX - 1));
+    let mut twin = Twin::blank(LENGTH);
+    for (at, bit) in zeros(clean.erased()) {
+        let mut mask = [0; S];
+        mask[at] = bit;
+        clean.mount(&mut twin, &mask);
+        let image = dirty.raised(&mask);
+        twin.load(&image);
+        assert_eq!(twin.call(&Call::Mount).answer, Answer::WORN);
+        assert_eq!((twin.image(), twin.head()), (&image[..], Head::Unmounted));
+    }
+}
+
 /// Outside a run: of a half that no store wrote, all zeros, a cut erase can leave anything, a newer valid half too.
 #[test]
 fn a_foreign_half_that_no_store_wrote() {
