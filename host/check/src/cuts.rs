@@ -62,6 +62,8 @@ impl Cuts {
         if images.last().is_some_and(|left| left.image == finished) {
             images.pop();
         }
+        // an image without a store, which a cut format may leave, must not be left by a mount
+        let seen = if matches!(before, Allowed::OrGone(_)) { HashSet::new() } else { seen };
         self.recover(images, seen, before);
         let last = Left { image: finished, inside: false };
         self.recover(vec![last], HashSet::new(), Allowed::Exactly(after));

@@ -33,15 +33,15 @@ pub fn try_image(twin: &mut Twin, rng: &mut Rng, image: &[u8]) {
 /// Loses power inside each erase of a mount and of a format, then mounts. In an image that no store left, and after a cut
 /// inside a format's erase, a mount may find anything.
 fn cut_erases(twin: &mut Twin, rng: &mut Rng, image: &[u8]) {
-    for (call, erases) in [(Call::Mount, 2), (Call::Format, 2)] {
-        for cut in 0..erases {
+    for call in [Call::Mount, Call::Format] {
+        for whole in 0..2 {
             twin.load(image);
             twin.call(&call);
-            for _ in 0..cut {
-                to_erase(twin);
-                twin.step();
-            }
             to_erase(twin);
+            for _ in 0..whole {
+                twin.step();
+                to_erase(twin);
+            }
             if let Some(half) = twin.erases_next() {
                 let mask = raise::mask(rng, half_of(twin.image(), half));
                 twin.cut_erase(&mask);
