@@ -1,5 +1,5 @@
 # make                        target/staticlib/libgrommetide.a, proved; nothing is proved again while no source is newer
-# make demo                   the store on two tickets, from the command line
+# make demo                   the store on three tickets, from the command line
 # make install PREFIX=/usr    header, archive and pkg-config file; DESTDIR is put before each path
 # make figures                measures the library and puts the tables into docs/BENCHMARKS.md; nothing else should run
 # The archive is for x86-64. After a change of the kit: make -B
