@@ -101,7 +101,7 @@
  *   Bytes of stack that a call takes at most, its return address included (held by a test that paints the stack):
  *
  *     grommetide_mount        2,304
- *     grommetide_format         192
+ *     grommetide_format       1,536
  *     grommetide_request      2,304
  *     grommetide_read         1,792
  *     grommetide_next           576
