@@ -18,6 +18,8 @@ pub use steps::grommetide_step;
 use wire::Parsed;
 use wire::Request;
 
+const DONE: u8 = 0;
+
 // The answer to a record buffer of another size.
 const WRONG_RECORD: u8 = 254;
 
