@@ -1,5 +1,5 @@
 # make                        target/staticlib/libgrommetide.a, proved; nothing is proved again while no source is newer
-# make demo                   the store on two tickets, from the command line
+# make demo                   the store on three tickets, from the command line
 # make install PREFIX=/usr    header, archive and pkg-config file; DESTDIR is put before each path
 # make figures                measures the library and puts the tables into docs/BENCHMARKS.md; nothing else should run
 # The archive is for x86-64. After a change of the kit: make -B
@@ -15,7 +15,7 @@ LOG = target/staticlib.log
 CRATES := $(shell sed -n 's/^grommetide: *//p' crates.txt) grommetide
 SOURCES := crates.txt $(shell find $(addprefix crates/,$(CRATES)) -name must-fail -prune -o -type f -print)
 
-# 0.3.0, from the header
+# 0.4.0, from the header
 number = $(shell sed -n 's/^\#define GROMMETIDE_VERSION_$(1) *//p' $(HEADER))
 VERSION = $(call number,MAJOR).$(call number,MINOR).$(call number,PATCH)
 

@@ -2,7 +2,8 @@
  * Grommetide: a settings store in two halves of NOR flash, for firmware.
  *
  * The store keeps objects (an id from 0 to 255 and a value of 0 to 240 bytes) for four hosts and survives power cuts at
- * any step. docs/STORE.md has its rules, docs/FORMAT.md the bytes in flash. Link with libgrommetide.a, x86-64.
+ * any step and inside erases. docs/STORE.md has its rules, docs/FORMAT.md the bytes in flash. Link with libgrommetide.a,
+ * x86-64.
  *
  * How it is used
  *
@@ -15,7 +16,8 @@
  *   4. If power is lost, all that counts is in the flash: go to 1.
  *
  *   A mount that answers GROMMETIDE_FOREIGN or GROMMETIDE_WORN changes nothing and will answer the same again. Only a
- *   format helps, and it loses all objects; before that the image can be read out (docs/FORMAT.md).
+ *   format helps, and it loses all objects; before that the image can be read out (docs/FORMAT.md). If a format did not
+ *   end, because power was lost, format again.
  *
  * The image
  *
@@ -58,8 +60,10 @@
  *   - Bytes can be programmed one at a time, at any address. The store asks for no alignment.
  *   - A byte may be programmed again while bits are only cleared: byte 8 of a half's header goes from 0xFF to 0xFE and
  *     later to 0xFC. So flash with ECC over words, and flash whose words can be written only once, will not do.
- *   - A power cut falls between steps. Programming a byte happens whole or not at all, and so does the erase of a half.
- *     The proofs assume this; a flash that a cut leaves half erased, or with a weakly programmed byte, is not covered.
+ *   - A power cut falls between steps or inside an erase. Inside an erase it leaves each bit of the half as it was or 1,
+ *     freely; so a half of several sectors may be erased sector by sector, in any order. Programming a byte happens whole
+ *     or not at all. The proofs assume this; a flash that a cut leaves with a weakly programmed byte, or with bits that
+ *     read now so and now so, is not covered. Nor is a cut inside one of a format's two erases: format again.
  *   - Flash reads back what was programmed. There is no checksum: damage that leaves legal frames goes unnoticed.
  *
  * The record
@@ -97,7 +101,7 @@
  *   Bytes of stack that a call takes at most, its return address included (held by a test that paints the stack):
  *
  *     grommetide_mount        2,304
- *     grommetide_format         192
+ *     grommetide_format       1,536
  *     grommetide_request      2,304
  *     grommetide_read         1,792
  *     grommetide_next           576
@@ -118,19 +122,21 @@ extern "C" {
 /*
  * This header's version. A record is of use only to the version that wrote it; the flash may outlive versions.
  *
+ *   0.4  power may be lost inside an erase. A mount erases a foreign half beside a valid one, where 0.3 answers
+ *        GROMMETIDE_FOREIGN; a format erases last the half that holds the store. Record and flash are those of 0.3.
  *   0.3  grommetide_next and grommetide_made for flash that the caller drives, grommetide_run for many steps in one call; no
  *        call takes more than 4,096 bytes of stack. Record and flash are those of 0.2.
  *   0.2  values of up to 240 bytes, and so a record of 1,042 bytes. It takes the flash of 0.1 as it is.
  *   0.1  values of up to 64 bytes, a record of 690 bytes. It finds flash in which a longer value stands foreign.
  */
 #define GROMMETIDE_VERSION_MAJOR 0
-#define GROMMETIDE_VERSION_MINOR 3
+#define GROMMETIDE_VERSION_MINOR 4
 #define GROMMETIDE_VERSION_PATCH 0
 
 /*
  * What tells formats of the flash apart: bytes 2 and 3 of a half's header. A half that says it is valid (byte 8 is 0xFC)
- * and has another kind is foreign: mount answers GROMMETIDE_FOREIGN and changes nothing. In a half that is in progress
- * (byte 8 is 0xFE) the kind is not looked at.
+ * and has another kind is foreign: if the other half is not valid, mount answers GROMMETIDE_FOREIGN and changes nothing;
+ * if it is, the foreign one is erased. In a half that is in progress (byte 8 is 0xFE) the kind is not looked at.
  */
 #define GROMMETIDE_HALF_KIND 0x4A01
 
@@ -144,7 +150,7 @@ enum {
     GROMMETIDE_DONE = 0,             /* finished, or nothing to do */
     GROMMETIDE_MALFORMED = 1,        /* the message's length, kind, id, value length or page */
     GROMMETIDE_NO_STORE = 2,         /* the record is unmounted; for mount, there is no store and nothing foreign */
-    GROMMETIDE_FOREIGN = 3,          /* mount: a half that no store wrote, or two that are equally new */
+    GROMMETIDE_FOREIGN = 3,          /* mount: no half is valid and one is foreign, or two are equally new */
     GROMMETIDE_IMAGE_LENGTH = 4,     /* image_len is not allowed */
     GROMMETIDE_BUSY = 5,             /* a job has steps left */
     GROMMETIDE_WORN = 6,             /* a transfer is needed, but the creation time cannot rise any more */
@@ -163,12 +169,16 @@ enum {
 size_t grommetide_record_size(void);
 
 /*
- * Finds the store in an image and begins to tidy up after a power cut. Pending changes are dropped.
+ * Finds the store in an image and begins to tidy up after a power cut. Pending changes are dropped. The half beside the
+ * store's is erased if it is not blank, one that no store wrote too: read the image out before, to look at it.
  * DONE: the store is mounted. MORE: steps are left. Refused: IMAGE_LENGTH, NO_STORE, FOREIGN, WORN.
  */
 uint8_t grommetide_mount(const uint8_t *image, size_t image_len, uint8_t *record, size_t record_len);
 
-/* Begins to make an empty store, in 12 steps, whatever the image holds. Always MORE, unless refused: IMAGE_LENGTH. */
+/*
+ * Begins to make an empty store, in 12 steps, whatever the image holds. The half that holds the store is erased last.
+ * Always MORE, unless refused: IMAGE_LENGTH.
+ */
 uint8_t grommetide_format(const uint8_t *image, size_t image_len, uint8_t *record, size_t record_len);
 
 /*

@@ -9,9 +9,10 @@ use lib.ListN.{length, getD, drop, length-take, List·getD-eq-default}
 use lib.Seq.{getD-take, getD-drop}
 use borrow.Author.Tests.{ltb-true, ltb-false}
 use Rattle.flash.specs.Bytes.{Bytes}
-use Rattle.flash.specs.Flash.{Step, program, erase, apply, applyAll, block, sizeOf, programAt}
+use Rattle.flash.specs.Flash.{Step, program, erase, apply, applyAll, block, sizeOf, withBlock, programAt}
 use Rattle.flash.proofs.Cases.{on-test}
 use Rattle.flash.proofs.Image.{length-apply, bytes-apply, block-program}
+use Rattle.flash.proofs.Raising.{length-with, bytes-with}
 use Rattle.frame.specs.declared.Host.{Host}
 use Rattle.journal.specs.Replay.{state, replay, settledOnly}
 use Rattle.journal.specs.Block.{blockState, headerLen, stateAt, inTransfer}
@@ -29,12 +30,13 @@ use Rattle.board.specs.Queue.{requestOn}
 use Rattle.board.specs.Exec.{Call, request, step, mount, format, exec}
 use Rattle.board.specs.Plan.{Follows, formatPlan, mountPlan, mountedAt}
 use Rattle.board.specs.Demand1.{Rests}
-use Rattle.board.specs.Claim.{ByteCalls}
+use Rattle.board.specs.Book.{Book, enterCall}
+use Rattle.board.specs.Claim.{Begins as Restarting, Event, call, cutErase, CutsErase, Happens}
 use Rattle.board.specs.Demand2.{Accepted, Mounts, OneStore, LandsAt, StepLands as OneLands, AllLand, LandsFrom}
-use Rattle.board.proofs.Images.{Sized, size-of, sized-of, sized-as}
+use Rattle.board.proofs.Images.{Sized, size-of, sized-of, sized-as, sized-block}
 use Rattle.board.proofs.Invariant.{StepLands, Ready, InJob, Sound}
 use Rattle.board.proofs.Outcomes.{format-begins, step-resting}
-use Rattle.board.proofs.Current.{After}
+use Rattle.board.proofs.Current.{After, block-long}
 use Rattle.board.proofs.Jobs.{Stepped, job-step, Begun, job-starts, job-begins}
 use Rattle.board.proofs.Keeping.{more-busy, ready-idle}
 use Rattle.board.proofs.Accepted.{follows-format, follows-mount}
@@ -43,7 +45,7 @@ use Rattle.board.proofs.Lengths.{length-format}
 use Rattle.board.proofs.Replies.{journal-of}
 use Rattle.board.proofs.Refusals.{refusals-untouched, at-most-one-step}
 use Rattle.board.proofs.Formatting.{format-lands, format-ends}
-use Rattle.board.proofs.Deciding.{Begins, mount-accepted, taken-newest, taken-none-foreign}
+use Rattle.board.proofs.Deciding.{Begins, mount-accepted, taken-newest}
 use Rattle.board.proofs.Mounting.{mount-lands, mount-ends, mount-short}
 use Rattle.board.proofs.Planning.{jobOf, Met, refused, done, begun, request-met, frame-begins}
 
@@ -87,7 +89,6 @@ one-store img r by ok a =
       there = y .taken .there;
       is-valid = y .taken .is-valid;
       newest = taken-newest z (y .taken);
-      none-foreign = taken-none-foreign z (y .taken);
       last = last z y;
       is-last = refl;
       follows = mount-follows z y;
@@ -216,21 +217,44 @@ format-kept {s} {img} z by =
 same-image : {s : ℕ} {img : List ℕ} (o : Out) → o .image ≡ img → Steady s img (o .board) → Kept s o
 same-image {s} o e v = subst (λ (l : List ℕ). Steady s l (o .board)) (sym e) v
 
-all-land : {s : ℕ} {img : List ℕ} {r : Record} → Steady s img r → (cs : List Call) → ByteCalls cs → AllLand exec img r cs
-all-land v [] by = tt
-all-land {s} {img} {r} v (request h m reply ∷ cs) (bm, by) =
-    (inl (at-most-one-step img r (request h m reply)), all-land (request-kept v h m reply bm) cs by)
-all-land v (step ∷ cs) (_, by) = let y = step-done v in (y .0, all-land (y .1) cs by)
-all-land {s} {img} {r} v (mount ∷ cs) (_, by) =
-    let e : mountOn img .image ≡ img = at-most-one-step img r mount in
-    (inl e, all-land (same-image (mountOn img) e (mount-kept (v .sized) (v .bytes))) cs by)
-all-land {s} {img} {r} v (format ∷ cs) (_, by) =
-    let e : formatOn img .image ≡ img = at-most-one-step img r format in
-    (inl e, all-land (same-image (formatOn img) e (format-kept (v .sized) (v .bytes))) cs by)
+-- a mount or a format
+begun-kept : {s : ℕ} {img : List ℕ} (r : Record) → Sized s img → Bytes img → (c : Call) → Restarting c → (exec img r c .image ≡ img) × Kept s (exec img r c)
+begun-kept r z by (request h m reply) n = absurd n
+begun-kept r z by step n = absurd n
+begun-kept {s} {img} r z by mount n =
+    let e : mountOn img .image ≡ img = at-most-one-step img r mount in (e, same-image (mountOn img) e (mount-kept z by))
+begun-kept {s} {img} r z by format n =
+    let e : formatOn img .image ≡ img = at-most-one-step img r format in (e, same-image (formatOn img) e (format-kept z by))
+
+-- power lost inside an erase
+cut-sized : {s : ℕ} {img : List ℕ} {r : Record} {b : Book} (k : ℕ) (new : List ℕ) → Steady s img r → CutsErase exec img r b k new
+    → Sized s (withBlock (sizeOf img) k new img)
+cut-sized {s} {img} k new v c =
+    let z : Sized s img = v .sized in
+    let long : length new ≡ s = c .raised .long ∙ ap (λ (n : ℕ). length (block n k img)) (size-of z) ∙ block-long k z (c .there) in
+    subst (λ (n : ℕ). Sized s (withBlock n k new img)) (sym (size-of z))
+    (sized-as (withBlock s k new img) (length-with s k new img (sized-block k z (c .there)) long) z)
+
+all-land : {s : ℕ} {img : List ℕ} {r : Record} (b : Book) → Steady s img r → (es : List Event) → Happens exec img r b es → AllLand exec img r es
+all-land b v [] h = tt
+all-land {s} {img} {r} b v (call (request g m reply) ∷ es) (bm, h) =
+    let c : Call = request g m reply in
+    (inl (at-most-one-step img r c), all-land (enterCall b c (exec img r c .answer)) (request-kept v g m reply bm) es h)
+all-land {s} {img} {r} b v (call step ∷ es) (_, h) = let y = step-done v in (y .0, all-land (enterCall b step (exec img r step .answer)) (y .1) es h)
+all-land {s} {img} {r} b v (call mount ∷ es) (_, h) =
+    let y = begun-kept r (v .sized) (v .bytes) mount tt in (inl (y .0), all-land (enterCall b mount (exec img r mount .answer)) (y .1) es h)
+all-land {s} {img} {r} b v (call format ∷ es) (_, h) =
+    let y = begun-kept r (v .sized) (v .bytes) format tt in (inl (y .0), all-land (enterCall b format (exec img r format .answer)) (y .1) es h)
+all-land b v (cutErase k new q ∷ []) h = tt
+all-land {s} {img} b v (cutErase k new q ∷ call c ∷ es) (x, n, (_, h)) =
+    let i : List ℕ = withBlock (sizeOf img) k new img in
+    let y = begun-kept q (cut-sized k new v x) (bytes-with (sizeOf img) k new img (x .raised .bytes) (v .bytes)) c n in
+    (inl (y .0), all-land (enterCall b c (exec i q c .answer)) (y .1) es h)
+all-land b v (cutErase k new q ∷ cutErase j more p ∷ es) (x, n, h) = absurd n
 
 pub lands-from : LandsFrom exec
 lands-from =
     record {
-      from-mount = λ img r cs by ok bs. all-land (mount-kept (sized-of img ok) by) cs bs;
-      from-format = λ img r cs by ok bs. all-land (format-kept (sized-of img ok) by) cs bs;
+      from-mount = λ img r b es by ok h. all-land b (mount-kept (sized-of img ok) by) es h;
+      from-format = λ img r b es by ok h. all-land b (format-kept (sized-of img ok) by) es h;
     }

@@ -5,21 +5,23 @@ use mathlib.Core.Logic.{inl, inr}
 use Prim.Native.Nat.{ℕ, _-_}
 use lib.ListN.{length}
 use Rattle.flash.specs.Bytes.{Bytes}
+use Rattle.flash.specs.Flash.{sizeOf, withBlock}
 use Rattle.board.specs.declared.Record.{Record}
 use Rattle.board.specs.Record.{Out}
 use Rattle.board.specs.Mount.{allFound, Store, needsTransfer}
-use Rattle.board.specs.Exec.{Machine, Call, mount, format, exec}
+use Rattle.board.specs.Exec.{Machine, mount, format, exec}
 use Rattle.board.specs.Plan.{Follows, mountPlan, mountedAt}
 use Rattle.board.specs.Demand2.{Accepted, Mounts, OneStore, StepLands, AllLand, LandsFrom}
-use Rattle.board.specs.Claim.{ByteCalls}
+use Rattle.board.specs.Book.{Book, enterCall}
+use Rattle.board.specs.Claim.{Event, call, cutErase, Happens}
 use Rattle.board.specs.Promise.{mount-job, Calls, Promise, Shown}
 use Rattle.board.proofs.Demand2.{one-store, lands-from}
-use Rattle.board.proofs.Determining.{Alike, Agree, mount-allowed, call-agrees, mount-agrees, format-agrees}
+use Rattle.board.proofs.Determining.{Alike, Agree, mount-allowed, call-agrees, mount-agrees, format-agrees, begun-agrees}
 use Rattle.board.proofs.TablingMounts.{mounts-current}
 use Rattle.board.proofs.Promising.{calls}
 use Rattle.board.proofs.Clearing.{only-clears}
 use Rattle.board.proofs.Limits.{room-exact, wear-exact}
-use Rattle.board.proofs.Following.{job-steps, claim-of, cut-format-of}
+use Rattle.board.proofs.Following.{job-steps, cut-bytes, happens-over, claim-of, cut-format-of}
 
 module _ {m : Machine} (p : Calls m) where
   lands-over : (img : List ℕ) (o x : Out) → o .image ≡ x .image → StepLands img x → StepLands img o
@@ -37,7 +39,6 @@ module _ {m : Machine} (p : Calls m) where
         there = y .there;
         is-valid = y .is-valid;
         newest = y .newest;
-        none-foreign = y .none-foreign;
         last = y .last;
         is-last = y .is-last;
         follows = subst (Follows m img (m img r mount .board) (mountPlan (allFound img) s)) (sym (y .is-last)) f;
@@ -56,32 +57,46 @@ module _ {m : Machine} (p : Calls m) where
 
   -- ---- every run
 
-  lands-run : (img : List ℕ) (r q : Record) → Bytes img → Alike m exec img r q → (cs : List Call) → ByteCalls cs → AllLand exec img q cs
-      → AllLand m img r cs
-  lands-run img r q by v [] bs y = tt
-  lands-run img r q by v (c ∷ cs) (bc, bs) (y, z) =
+  lands-run : (img : List ℕ) (r q : Record) (b : Book) → Bytes img → Alike m exec img r q → (es : List Event) → Happens m img r b es
+      → AllLand exec img q es → AllLand m img r es
+  lands-run img r q b by v [] h y = tt
+  lands-run img r q b by v (call c ∷ es) (bc, h) (y, z) =
       let o : Out = m img r c in
       let x : Out = exec img q c in
       let w : Agree m exec o x = call-agrees p calls img by r q v c bc in (
         lands-over img o x (w .image) y,
-        lands-run (o .image) (o .board) (x .board) (w .bytes) (w .next) cs bs (subst (λ (i : List ℕ). AllLand exec i (x .board) cs) (sym (w .image)) z),
+        lands-run (o .image) (o .board) (x .board) (enterCall b c (o .answer)) (w .bytes) (w .next) es h
+            (subst (λ (i : List ℕ). AllLand exec i (x .board) es) (sym (w .image)) z),
       )
+  lands-run img r q b by v (cutErase k new g ∷ []) h y = tt
+  lands-run img r q b by v (cutErase k new g ∷ call c ∷ es) (d, n, (bc, h)) (y, z) =
+      let i : List ℕ = withBlock (sizeOf img) k new img in
+      let o : Out = m i g c in
+      let x : Out = exec i g c in
+      let w : Agree m exec o x = begun-agrees p calls i g g c (cut-bytes p by d) n in (
+        lands-over i o x (w .image) y,
+        lands-run (o .image) (o .board) (x .board) (enterCall b c (o .answer)) (w .bytes) (w .next) es h
+            (subst (λ (l : List ℕ). AllLand exec l (x .board) es) (sym (w .image)) z),
+      )
+  lands-run img r q b by v (cutErase k new g ∷ cutErase j more f ∷ es) (d, n, h) y = absurd n
 
   -- from a first call's outcome on
-  lands-first : (img : List ℕ) (o x : Out) → o .image ≡ img → Agree m exec o x → (cs : List Call) → ByteCalls cs → AllLand exec img (x .board) cs
-      → AllLand m img (o .board) cs
-  lands-first img o x e w cs bs y =
-      lands-run img (o .board) (x .board) (subst Bytes e (w .bytes)) (subst (λ (i : List ℕ). Alike m exec i (o .board) (x .board)) e (w .next)) cs bs y
+  lands-first : (img : List ℕ) (o x : Out) (b : Book) → o .image ≡ img → Agree m exec o x → (es : List Event) → Happens m img (o .board) b es
+      → (Happens exec img (x .board) b es → AllLand exec img (x .board) es) → AllLand m img (o .board) es
+  lands-first img o x b e w es h f =
+      let by : Bytes img = subst Bytes e (w .bytes) in
+      let v : Alike m exec img (o .board) (x .board) = subst (λ (i : List ℕ). Alike m exec i (o .board) (x .board)) e (w .next) in
+      lands-run img (o .board) (x .board) b by v es h (f (happens-over p img (o .board) (x .board) b by v es h))
 
   lands-of : LandsFrom m
   lands-of =
       record {
-        from-mount = λ img r cs by ok bs.
-            lands-first img (m img r mount) (exec img r mount) (p .one-step img r mount) (mount-agrees p calls img by r r) cs bs
-            (lands-from .from-mount img r cs by ok bs);
-        from-format = λ img r cs by ok bs.
-            lands-first img (m img r format) (exec img r format) (p .one-step img r format) (format-agrees p calls img by r r) cs bs
-            (lands-from .from-format img r cs by ok bs);
+        from-mount = λ img r b es by ok h.
+            lands-first img (m img r mount) (exec img r mount) b (p .one-step img r mount) (mount-agrees p calls img by r r) es h
+            (lands-from .from-mount img r b es by ok);
+        from-format = λ img r b es by ok h.
+            lands-first img (m img r format) (exec img r format) b (p .one-step img r format) (format-agrees p calls img by r r) es h
+            (lands-from .from-format img r b es by ok);
       }
 
 -- ---- the promise

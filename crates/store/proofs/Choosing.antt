@@ -27,7 +27,8 @@ use Rattle.board.specs.declared.Rest.{Rest}
 use Rattle.board.specs.Record.{allowed, noFrame, unmounted, busyWith, Out, refuse}
 use Rattle.board.specs.Step.{begin}
 use Rattle.board.specs.Mount.{Found, wipeList, wipeArray, needsTransfer, mountAt, mountFound, mountOn}
-use Rattle.board.proofs.Deciding.{foundIn, store}
+use Rattle.board.proofs.Order.{foundIn}
+use Rattle.board.proofs.Deciding.{store}
 use Rattle.job.specs.declared.records.Stepped.{Stepped}
 use Rattle.job.specs.Code.{assemble, leaves, leavesIf, begins}
 use Rattle.job.proofs.Entering.{wipe-leaves}
@@ -87,18 +88,21 @@ both-valid img t u fs gs c d p q =
 
 pub mounts-two : (img : List ℕ) (a b : BlockState) → Told a → Told b → Mounts img a b
 unfolding chooseOf chooseValid mountFound surveyOf
-mounts-two img (foreign e) b p q = refusing img _ refusal.Foreign
-mounts-two img blank (foreign e) p q = refusing img _ refusal.Foreign
 mounts-two img blank blank p q = refusing img _ refusal.NoStore
 mounts-two img blank inProgress p q = refusing img _ refusal.NoStore
+mounts-two img blank (foreign e) p q = refusing img _ refusal.Foreign
 mounts-two img blank (valid u gs d) p q = mount-with img (foundIn blank (valid u gs d)) 1 u gs d false refl refl q
-mounts-two img inProgress (foreign e) p q = refusing img _ refusal.Foreign
 mounts-two img inProgress blank p q = refusing img _ refusal.NoStore
 mounts-two img inProgress inProgress p q = refusing img _ refusal.NoStore
+mounts-two img inProgress (foreign e) p q = refusing img _ refusal.Foreign
 mounts-two img inProgress (valid u gs d) p q = mount-with img (foundIn inProgress (valid u gs d)) 1 u gs d true refl refl q
-mounts-two img (valid t fs c) (foreign e) p q = refusing img _ refusal.Foreign
+mounts-two img (foreign e) blank p q = refusing img _ refusal.Foreign
+mounts-two img (foreign e) inProgress p q = refusing img _ refusal.Foreign
+mounts-two img (foreign e) (foreign f) p q = refusing img _ refusal.Foreign
+mounts-two img (foreign e) (valid u gs d) p q = mount-with img (foundIn (foreign e) (valid u gs d)) 1 u gs d true refl refl q
 mounts-two img (valid t fs c) blank p q = mount-with img (foundIn (valid t fs c) blank) 0 t fs c false refl refl p
 mounts-two img (valid t fs c) inProgress p q = mount-with img (foundIn (valid t fs c) inProgress) 0 t fs c true refl refl p
+mounts-two img (valid t fs c) (foreign e) p q = mount-with img (foundIn (valid t fs c) (foreign e)) 0 t fs c true refl refl p
 mounts-two img (valid t fs c) (valid u gs d) p q = both-valid img t u fs gs c d p q
 
 told : (img : List ℕ) (k : ℕ) → allowed (length img) ≡ true → Bytes img → k < blocks → Told (blockState (block (sizeOf img) k img))

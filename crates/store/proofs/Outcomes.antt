@@ -13,14 +13,16 @@ use Rattle.survey.specs.Survey.{surveyOf, placesIn}
 use Rattle.wire.specs.declared.Refusal.{Refusal}
 use Rattle.wire.specs.declared.Refusal.the-variants as refusal
 use Rattle.board.specs.Record.{allowed, noPlaces, noMarks, noFrame, unmounted, rest, starting, Out, refuse}
-use Rattle.board.specs.Mount.{mountOn, formatOn}
+use Rattle.board.specs.Mount.{mountOn, formatOrder, formatOn}
+use Rattle.board.proofs.Order.{Both, rising, falling, order-both}
 use Rattle.board.proofs.Outcomes.{format-begins}
 use Rattle.job.specs.declared.Outcome.{Outcome}
 use Rattle.job.specs.declared.records.Stepped.{Stepped}
 use Rattle.job.specs.Code.{goWipe, begins}
 use Rattle.store.specs.declared.mounts.Choice.{Choice}
-use Rattle.store.specs.Calls.{made, Gives, refused, needsIn, mountPlan, mountIn, chooseOf, mountChosen, placesFor}
+use Rattle.store.specs.Calls.{made, Gives, refused, needsIn, mountPlan, mountIn, chooseOf, mountChosen, placesFor, orderIn}
 use Rattle.store.proofs.Choosing.{beginning, mounts}
+use Rattle.store.proofs.Ordering.{order-is}
 
 -- the record put together
 pub made-is : {p : List ℕ} {s : Stepped} {o : Out} {x : Outcome} → x ≡ made p s → Gives p s o → (x .answer ≡ o .answer) × (x .board ≡ o .board)
@@ -55,9 +57,23 @@ pub mount-is : (img x y : List ℕ) (a b : Survey) (p q : List ℕ) (c : Choice)
     → let s : Stepped = mountChosen (length img - 1) c a b in Gives (placesFor (s .ended) c p q) s (mountOn img)
 mount-is img x y a b p q c ok by ex ey ea ep eb eq ec = rw (ec, ea, ep, eb, eq, ex, ey) (mounts img ok by)
 
-pub format-is : (img : List ℕ) → allowed (length img) ≡ true
-    → Gives noPlaces (begins (rest (length img - 1) 1 16)
-    (record { wipe = 0 ∷ 1 ∷ []; wipes = 2; moves = true; drops = false; target = 0; time = 1; since = noMarks; size = 0 })
-    (starting 256 16)) (formatOn img)
+-- ---- format
+
+abbrev formatFrom : List ℕ → List ℕ → Stepped
+formatFrom img ks =
+    begins (rest (length img - 1) 1 16)
+    (record { wipe = ks; wipes = 2; moves = true; drops = false; target = 0; time = 1; since = noMarks; size = 0 })
+    (starting 256 16)
+
+pub format-is : (img ks : List ℕ) → allowed (length img) ≡ true → ks ≡ orderIn img → Gives noPlaces (formatFrom img ks) (formatOn img)
 unfolding noFrame goWipe
-format-is img a = let s = beginning img noPlaces _ _ _ in rw (format-begins img a) (record { answers = s .answers; gives = s .gives })
+format-is img ks a d = go (order-both img)
+  where
+    like : {l : List ℕ} → formatOrder img ≡ l → ks ≡ l
+    like e = d ∙ sym (order-is img a) ∙ e
+
+    go : Both (formatOrder img) → Gives noPlaces (formatFrom img ks) (formatOn img)
+    go (rising e) =
+        let s = beginning img noPlaces _ _ _ in rw (format-begins img a, e, like e) (record { answers = s .answers; gives = s .gives })
+    go (falling e) =
+        let s = beginning img noPlaces _ _ _ in rw (format-begins img a, e, like e) (record { answers = s .answers; gives = s .gives })

@@ -1,13 +1,15 @@
 -- What mount and format do, by surveys of blocks and in the code's order of tests. proofs/ ties it to board's definitions.
 use mathlib.Core.Path.{_≡_}
-use mathlib.Core.List.{List}
+use mathlib.Core.List.{List, [], _∷_}
 use mathlib.Core.Bool.{Bool, true, false, _&&_, _||_, cond, not}
 use Prim.Native.Nat.{ℕ, _+_}
 use lib.Dec.{eqb, ltb}
 use lib.ListN.{getD, set}
+use Rattle.flash.specs.Flash.{block, sizeOf}
 use Rattle.survey.specs.declared.BlockKind.{BlockKind}
 use Rattle.survey.specs.declared.BlockKind.the-variants as kind
 use Rattle.survey.specs.declared.Survey.{Survey}
+use Rattle.survey.specs.Survey.{surveyOf, stateOf}
 use Rattle.journal.specs.Block.{lastTime}
 use Rattle.journal.specs.Room.{one}
 use Rattle.wire.specs.declared.Answer.the-variants.{Refused}
@@ -64,16 +66,18 @@ sumOf p = getD p 0 0 + getD p 1 0 + getD p 2 0 + getD p 3 0
 
 -- ---- mount
 
-unfoldable pub chooseValid : Bool → Bool → ℕ → ℕ → Choice
-chooseValid false false t u = choice.Refused refusal.NoStore
-chooseValid false true t u = choice.Second
-chooseValid true false t u = choice.First
-chooseValid true true t u = cond (eqb t u) (choice.Refused refusal.Foreign) (cond (ltb t u) choice.Second choice.First)
+-- why none is taken, where none is valid
+abbrev pub whyNone : BlockKind → BlockKind → Refusal
+whyNone a b = cond (isForeignKind a || isForeignKind b) refusal.Foreign refusal.NoStore
+
+unfoldable pub chooseValid : Bool → Bool → ℕ → ℕ → Refusal → Choice
+chooseValid false false t u why = choice.Refused why
+chooseValid false true t u why = choice.Second
+chooseValid true false t u why = choice.First
+chooseValid true true t u why = cond (eqb t u) (choice.Refused refusal.Foreign) (cond (ltb t u) choice.Second choice.First)
 
 unfoldable pub chooseOf : Survey → Survey → Choice
-chooseOf a b =
-    cond (isForeignKind (a .kind) || isForeignKind (b .kind)) (choice.Refused refusal.Foreign)
-    (chooseValid (isValid (a .kind)) (isValid (b .kind)) (a .time) (b .time))
+chooseOf a b = chooseValid (isValid (a .kind)) (isValid (b .kind)) (a .time) (b .time) (whyNone (a .kind) (b .kind))
 
 abbrev pub needsIn : Survey → Bool
 needsIn s = ltb 0 (s .torn) || ltb 0 (sumOf (s .pending))
@@ -116,3 +120,14 @@ placesFor true c p q = noPlaces
 placesFor false (choice.Refused why) p q = p
 placesFor false choice.First p q = p
 placesFor false choice.Second p q = q
+
+-- ---- format
+
+-- the block that a mount would take comes last
+abbrev pub eraseOrder : Choice → List ℕ
+eraseOrder choice.First = 1 ∷ 0 ∷ []
+eraseOrder choice.Second = 0 ∷ 1 ∷ []
+eraseOrder (choice.Refused why) = 0 ∷ 1 ∷ []
+
+unfoldable pub orderIn : List ℕ → List ℕ
+orderIn img = eraseOrder (chooseOf (surveyOf (stateOf (block (sizeOf img) 0 img))) (surveyOf (stateOf (block (sizeOf img) 1 img))))

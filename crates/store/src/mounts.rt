@@ -3,8 +3,8 @@ ghost use mathlib.Core.Path.{_≡_};
 ghost use Rattle.journal.specs.Room.{one};
 ghost use Rattle.board.specs.Record.{noPlaces};
 ghost use Rattle.board.specs.Mount.{mountOn, formatOn};
-ghost use Rattle.store.specs.Calls.{Gives, made, refused, isForeignKind, isBlankKind, chooseValid, chooseOf, needsIn, wipeOther};
-ghost use Rattle.store.specs.Calls.{mountIn, mountChosen, placesFor};
+ghost use Rattle.store.specs.Calls.{Gives, made, refused, isForeignKind, isBlankKind, whyNone, chooseValid, chooseOf, needsIn, wipeOther};
+ghost use Rattle.store.specs.Calls.{mountIn, mountChosen, placesFor, eraseOrder, orderIn};
 use crate::image;
 use crate::surveys;
 use board::Job;
@@ -78,14 +78,27 @@ fn made(s: Stepped, places: [u16; 256]) -> Outcome
 
 // ---- mount
 
-fn choose_valid(a: bool, b: bool, t: u32, u: u32) -> Choice
-    ensures { λ r. ⌜ r ≡ chooseValid a b t u ⌝ }
+// Why none is taken, where none is valid.
+fn why_none(first: BlockKind, second: BlockKind) -> Refusal
+    ensures { λ r. ⌜ r ≡ whyNone first second ⌝ }
+{
+    if is_foreign(first) {
+        return Refusal::Foreign;
+    }
+    if is_foreign(second) {
+        return Refusal::Foreign;
+    }
+    Refusal::NoStore
+}
+
+fn choose_valid(a: bool, b: bool, t: u32, u: u32, why: Refusal) -> Choice
+    ensures { λ r. ⌜ r ≡ chooseValid a b t u why ⌝ }
 {
     if !a {
         if b {
             return Choice::Second;
         }
-        return Choice::Refused(Refusal::NoStore);
+        return Choice::Refused(why);
     }
     if !b {
         return Choice::First;
@@ -104,17 +117,12 @@ fn choose(a: Survey, b: Survey) -> Choice
 {
     let first = a.kind;
     let second = b.kind;
-    if is_foreign(first) {
-        return Choice::Refused(Refusal::Foreign);
-    }
-    if is_foreign(second) {
-        return Choice::Refused(Refusal::Foreign);
-    }
     choose_valid(
         surveys::is_valid(first),
         surveys::is_valid(second),
         a.time,
         b.time,
+        why_none(first, second),
     )
 }
 
@@ -231,7 +239,28 @@ pub fn mount(image: &[u8]) -> Outcome
 
 // ---- format
 
-// A format, which needs no places.
+// The block that a mount would take comes last.
+fn erase_order(choice: Choice) -> [u8; BLOCKS]
+    ensures { λ r. ⌜ r ≡ eraseOrder choice ⌝ }
+{
+    match choice {
+        Choice::First => return [1, 0],
+        Choice::Second => return [0, 1],
+        Choice::Refused(_) => return [0, 1],
+    }
+}
+
+// The places of both surveys go into one array, which is not kept.
+fn format_order(image: &[u8]) -> [u8; BLOCKS]
+    ensures { λ r. ⌜ r ≡ orderIn (now (image .entry)) ⌝ }
+{
+    let mut places = records::no_places();
+    let a = survey::survey_block(flash::block_of(image, 0), &mut places);
+    let b = survey::survey_block(flash::block_of(image, 1), &mut places);
+    erase_order(choose(a, b))
+}
+
+// A format, which leaves no places.
 pub fn format_core(image: &[u8]) -> Stepped
     ensures { λ r. ⌜ Gives noPlaces r (formatOn (now (image .entry))) ⌝ }
 {
@@ -239,7 +268,7 @@ pub fn format_core(image: &[u8]) -> Stepped
         return refused(Refusal::ImageLength);
     }
     let job = Job {
-        wipe: [0, 1],
+        wipe: format_order(image),
         wipes: 2,
         moves: true,
         drops: false,

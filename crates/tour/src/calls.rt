@@ -69,9 +69,9 @@ pub fn reads(d: Bench, message: &[u8], text: &[u8]) {
 
 // ---- the board's calls
 
-pub fn formats(d: Bench, text: &[u8]) -> Bench {
+pub fn formats(d: Bench, most: usize, text: &[u8]) -> Bench {
     let image = d.image;
-    let after = scene::format(image);
+    let after = went(image, store::format(&image), [0xEE; 16], most);
     tell(text, after);
     after
 }

@@ -60,7 +60,7 @@ const EXPECTED: [usize; 26] = [
     2,
     0,
     0,
-    0,
+    1,
     0,
     0,
     1,

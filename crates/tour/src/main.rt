@@ -1,6 +1,6 @@
 // A tour of what document 01's rows leave out: every refusal, aborts, hosts, transfers, cuts and the last times. The file stdin
 // is its script: the calls, a line each, and the sums as comments. The file stdout has what it must print, worked out from
-// document 01.
+// documents 01 and 02.
 ghost use Prim.Native.Nat.{_<_};
 use lines::Args;
 use lines::after;
@@ -31,7 +31,7 @@ fn next(d: Bench, word: u8, n: Args, message: &[u8], text: &[u8]) -> Bench {
         b'c' => calls::asked(d, n.c, message, n.d, text),
         b'p' => calls::puts(d, n, flash::byte_at(message, 0), text),
         b'w' => calls::with_reply(d, message, n.d, text),
-        b'f' => calls::formats(d, text),
+        b'f' => calls::formats(d, n.d, text),
         b'm' => calls::mounts(d, text),
         b'g' => calls::stepped(d, 65536, text),
         b't' => calls::stepped(d, 1, text),

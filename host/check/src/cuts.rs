@@ -1,6 +1,9 @@
-//! Power cuts after every step of a job, in every recovery from them, in every recovery from those, and so on.
+//! Power cuts after every step of a job and inside its erases, in every recovery from them, in every recovery from those,
+//! and so on.
 
 use crate::book::{Lists, Objects, found};
+use crate::raise;
+use crate::rng::Rng;
 use crate::twin::{Call, Twin};
 use model::half::{self, Half, Journal};
 use model::half_of;
@@ -22,57 +25,83 @@ pub enum Allowed<'a> {
     OrGone(&'a Objects),
 }
 
+/// How many images are tried that a cut inside an erase of the job leaves. In a recovery it is one, or none.
+const RAISED: usize = 6;
+
+/// An image that a cut left, and whether it fell inside an erase.
+struct Left {
+    image: Vec<u8>,
+    inside: bool,
+}
+
 pub struct Cuts {
     pub twin: Twin,
+    rng: Rng,
     /// The most images to recover from after one job; if there may be more, cuts are made at only some steps.
     most: usize,
     pub cuts: u64,
+    /// How many of them fell inside an erase.
+    pub inside: u64,
 }
 
 impl Cuts {
-    pub fn new(length: usize, most: usize) -> Cuts {
-        Cuts { twin: Twin::blank(length), most, cuts: 0 }
+    pub fn new(length: usize, most: usize, seed: u64) -> Cuts {
+        Cuts { twin: Twin::blank(length), rng: Rng::new(seed), most, cuts: 0, inside: 0 }
     }
 
     pub fn everywhere(length: usize) -> Cuts {
-        Cuts::new(length, usize::MAX)
+        Cuts::new(length, usize::MAX, 0)
     }
 
     /// Cuts the job everywhere: up to its last step `before` must be found, after it `after`.
     pub fn of_job(&mut self, start: &Start, before: Allowed, after: &Objects) {
         let mut seen = HashSet::new();
-        let mut images = self.images(start, &mut seen).expect("an accepted call");
+        let mut images = self.images(start, RAISED, &mut seen).expect("an accepted call");
         let finished = self.twin.image().to_vec();
         // a job may end with an image seen before: the format of a store just formatted does
-        if images.last() == Some(&finished) {
+        if images.last().is_some_and(|left| left.image == finished) {
             images.pop();
         }
+        // an image without a store, which a cut format may leave, must not be left by a mount
+        let seen = if matches!(before, Allowed::OrGone(_)) { HashSet::new() } else { seen };
         self.recover(images, seen, before);
-        self.recover(vec![finished], HashSet::new(), Allowed::Exactly(after));
+        let last = Left { image: finished, inside: false };
+        self.recover(vec![last], HashSet::new(), Allowed::Exactly(after));
     }
 
-    /// The images not seen so far before the first step and after each, or after some; or the call's refusal.
-    fn images(&mut self, start: &Start, seen: &mut HashSet<u64>) -> Result<Vec<Vec<u8>>, Answer> {
+    /// The images not seen so far before the first step and after each, or after some, and so many that cuts inside each
+    /// erase leave; or the call's refusal. A cut inside a format's erase is no part of a run.
+    fn images(&mut self, start: &Start, raised: usize, seen: &mut HashSet<u64>) -> Result<Vec<Left>, Answer> {
         self.begin(start)?;
         let mut images = Vec::new();
-        self.keep(&mut images, seen);
+        keep(self.twin.image(), false, &mut images, seen);
         let stride = self.twin.steps_left() * 2 / self.most + 1;
         for step in 1.. {
             if !self.twin.busy() {
                 break;
             }
+            if *start.call != Call::Format {
+                self.raise(raised, &mut images, seen);
+            }
             assert!(!self.twin.step().refused());
             if step % stride == 0 || step < 3 || self.twin.steps_left() < 3 {
-                self.keep(&mut images, seen);
+                keep(self.twin.image(), false, &mut images, seen);
             }
         }
         Ok(images)
     }
 
-    /// Keeps the image unless it was seen.
-    fn keep(&self, images: &mut Vec<Vec<u8>>, seen: &mut HashSet<u64>) {
-        if seen.insert(digest(self.twin.image())) {
-            images.push(self.twin.image().to_vec());
+    /// If the next step is an erase, some images that a cut inside it leaves. In none does its half look newer.
+    fn raise(&mut self, raised: usize, images: &mut Vec<Left>, seen: &mut HashSet<u64>) {
+        let Some(half) = self.twin.erases_next() else { return };
+        let size = self.twin.image().len() / 2;
+        for _ in 0..raised {
+            let mut image = self.twin.image().to_vec();
+            let bytes = &mut image[half * size..][..size];
+            let mask = raise::mask(&mut self.rng, bytes);
+            bytes.iter_mut().zip(mask).for_each(|(byte, bits)| *byte |= bits);
+            assert_eq!(newest(&image), newest(self.twin.image()), "a half looks newer, half erased");
+            keep(&image, true, images, seen);
         }
     }
 
@@ -85,37 +114,47 @@ impl Cuts {
         if answer.refused() { Err(answer) } else { Ok(()) }
     }
 
-    /// Mounts each image, and each image that a cut of such a mount leaves.
-    fn recover(&mut self, images: Vec<Vec<u8>>, mut seen: HashSet<u64>, allowed: Allowed) {
-        let mut images = VecDeque::from(images);
+    /// Mounts each image, and each image that a cut of such a mount leaves. Once a mount was accepted the store is there.
+    fn recover(&mut self, images: Vec<Left>, mut seen: HashSet<u64>, allowed: Allowed) {
+        let mut images: VecDeque<(Left, Allowed)> = images.into_iter().map(|left| (left, allowed)).collect();
         for _ in 0..self.most {
-            let Some(image) = images.pop_front() else { break };
+            let Some((Left { image, inside }, allowed)) = images.pop_front() else { break };
             self.cuts += 1;
-            match self.images(&Start { image: &image, idle: None, call: &Call::Mount }, &mut seen) {
-                Err(refusal) => self.judge_refusal(refusal, &image, allowed),
+            self.inside += u64::from(inside);
+            let raised = usize::from(self.rng.once_in(2));
+            match self.images(&Start { image: &image, idle: None, call: &Call::Mount }, raised, &mut seen) {
+                Err(refusal) => judge_refusal(refusal, &image, allowed),
                 Ok(reached) => {
-                    self.judge(allowed);
-                    images.extend(reached);
+                    let objects = self.judge(allowed);
+                    images.extend(reached.into_iter().map(|left| (left, Allowed::Exactly(objects))));
                 }
             }
         }
     }
 
-    fn judge(&mut self, allowed: Allowed) {
+    /// The objects that were to be found, and are.
+    fn judge<'a>(&mut self, allowed: Allowed<'a>) -> &'a Objects {
         let idle = self.twin.idle().expect("a mount whose steps are all made ends idle");
         let (objects, lists) = found(half_of(self.twin.image(), usize::from(idle.half)));
         assert_eq!(lists, Lists::default(), "something is pending after a mount");
-        match allowed {
-            Allowed::Exactly(expected) | Allowed::OrGone(expected) => assert_eq!(objects, *expected),
-        }
+        let (Allowed::Exactly(expected) | Allowed::OrGone(expected)) = allowed;
+        assert_eq!(objects, *expected);
+        expected
     }
+}
 
-    fn judge_refusal(&self, answer: Answer, image: &[u8], allowed: Allowed) {
-        match answer {
-            Answer::NO_STORE => assert!(matches!(allowed, Allowed::OrGone(_)), "the store is gone"),
-            Answer::WORN => assert!(stuck(image), "6 though the time may rise or nothing is to be done"),
-            refusal => panic!("mount after a cut answered {refusal}"),
-        }
+fn judge_refusal(answer: Answer, image: &[u8], allowed: Allowed) {
+    match answer {
+        Answer::NO_STORE => assert!(matches!(allowed, Allowed::OrGone(_)), "the store is gone"),
+        Answer::WORN => assert!(stuck(image), "6 though the time may rise or nothing is to be done"),
+        refusal => panic!("mount after a cut answered {refusal}"),
+    }
+}
+
+/// Keeps the image unless it was seen.
+fn keep(image: &[u8], inside: bool, images: &mut Vec<Left>, seen: &mut HashSet<u64>) {
+    if seen.insert(digest(image)) {
+        images.push(Left { image: image.to_vec(), inside });
     }
 }
 

@@ -1,6 +1,7 @@
 //! Images that a store left, that one might have left, and that none did; and idle records forged for them.
 
 use crate::generate::{self, Manner, Wish};
+use crate::raise;
 use crate::rng::Rng;
 use crate::twin::{Call, Twin};
 use model::frame::{self, Host, Id, LONGEST, VALUE_LIMIT};
@@ -23,6 +24,37 @@ pub fn try_image(twin: &mut Twin, rng: &mut Rng, image: &[u8]) {
         twin.forge(idle);
         ask(twin, rng);
         ask(twin, rng);
+    }
+    if rng.once_in(3) {
+        cut_erases(twin, rng, image);
+    }
+}
+
+/// Loses power inside each erase of a mount and of a format, then mounts. In an image that no store left, and after a cut
+/// inside a format's erase, a mount may find anything.
+fn cut_erases(twin: &mut Twin, rng: &mut Rng, image: &[u8]) {
+    for call in [Call::Mount, Call::Format] {
+        for whole in 0..2 {
+            twin.load(image);
+            twin.call(&call);
+            to_erase(twin);
+            for _ in 0..whole {
+                twin.step();
+                to_erase(twin);
+            }
+            if let Some(half) = twin.erases_next() {
+                let mask = raise::mask(rng, half_of(twin.image(), half));
+                twin.cut_erase(&mask);
+                twin.whole(&Call::Mount);
+            }
+        }
+    }
+}
+
+/// Makes the steps before the job's next erase.
+fn to_erase(twin: &mut Twin) {
+    while twin.busy() && twin.erases_next().is_none() {
+        twin.step();
     }
 }
 

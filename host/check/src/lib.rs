@@ -5,6 +5,7 @@ pub mod cuts;
 pub mod damage;
 pub mod generate;
 pub mod nor;
+pub mod raise;
 pub mod rng;
 pub mod rounds;
 pub mod runs;

@@ -18,6 +18,15 @@ impl Nor {
         self.0.extend_from_slice(bytes);
     }
 
+    /// What a cut inside the erase of a half leaves: these bits are 1, the others as they were.
+    pub fn raise(&mut self, half: usize, mask: &[u8]) {
+        let size = self.0.len() / 2;
+        assert_eq!(mask.len(), size);
+        for (byte, raised) in self.0[half * size..][..size].iter_mut().zip(mask) {
+            *byte |= raised;
+        }
+    }
+
     pub fn make(&mut self, step: Step) {
         match step {
             Step::Erase { half } => {
@@ -43,6 +52,14 @@ mod tests {
         nor.make(Step::Program { at: 1, byte: 0xFC });
         nor.make(Step::Erase { half: 1 });
         assert_eq!(nor.bytes(), [0xFF, 0xFC, 0xFF, 0xFF]);
+    }
+
+    #[test]
+    fn raises_bits_of_one_half() {
+        let mut nor = Nor::new(&[0x10, 0x00, 0x01, 0x4A]);
+        nor.raise(1, &[0x06, 0xFF]);
+        nor.raise(0, &[0x00, 0x01]);
+        assert_eq!(nor.bytes(), [0x10, 0x01, 0x07, 0xFF]);
     }
 
     /// 004's marks, valid 0xEE and then invalid 0xDD: that change sets two bits.

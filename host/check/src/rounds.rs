@@ -11,6 +11,8 @@ pub struct Sum {
     pub tally: Tally,
     pub runs: u64,
     pub cuts: u64,
+    /// Those of the cuts that fell inside an erase.
+    pub inside: u64,
     pub images: u64,
 }
 
@@ -51,9 +53,10 @@ pub fn random_runs(round: u64, sum: &mut Sum) {
 }
 
 fn add_run(plan: Plan, sum: &mut Sum) {
-    let (tally, cuts) = runs::run(plan);
-    sum.tally.add(&tally);
-    sum.cuts += cuts;
+    let made = runs::run(plan);
+    sum.tally.add(&made.tally);
+    sum.cuts += made.cuts;
+    sum.inside += made.inside;
     sum.runs += 1;
 }
 

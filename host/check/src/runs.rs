@@ -3,6 +3,7 @@
 use crate::book::{Book, Lists, found};
 use crate::cuts::{Allowed, Cuts, Start, newest, stuck};
 use crate::generate::{self, Manner, Wish};
+use crate::raise;
 use crate::rng::Rng;
 use crate::tally::Tally;
 use crate::twin::{Call, Outcome, Twin, UNWRITTEN};
@@ -33,20 +34,29 @@ struct Run {
     manner: Manner,
     cuts: Cuts,
     cut_jobs: usize,
+    /// Cuts inside an erase, in the run itself.
+    inside: u64,
     /// A format was accepted and has neither finished nor been followed by an accepted mount.
     format_open: bool,
     /// Steps that the job in hand has still to make, where document 01 gives their number.
     due: Option<usize>,
 }
 
-/// Makes the run; gives how often each call got each answer, and the cuts.
-pub fn run(plan: Plan) -> (Tally, u64) {
+/// What a run came to: how often each call got each answer, the cuts, and how many of these fell inside an erase.
+pub struct Made {
+    pub tally: Tally,
+    pub cuts: u64,
+    pub inside: u64,
+}
+
+pub fn run(plan: Plan) -> Made {
     let mut rng = Rng::new(plan.seed);
     let mut run = Run {
         twin: formatted_at(plan.length, plan.time),
         book: Book::default(),
         manner: Manner::new(&mut rng, plan.length),
-        cuts: Cuts::new(plan.length, plan.most_cuts),
+        cuts: Cuts::new(plan.length, plan.most_cuts, plan.seed),
+        inside: 0,
         cut_jobs: 0,
         format_open: false,
         due: None,
@@ -61,7 +71,7 @@ pub fn run(plan: Plan) -> (Tally, u64) {
     }
     let mut tally = run.twin.tally;
     tally.add(&run.cuts.twin.tally);
-    (tally, run.cuts.cuts)
+    Made { tally, cuts: run.cuts.cuts + run.inside, inside: run.cuts.inside + run.inside }
 }
 
 fn formatted_at(length: usize, time: u32) -> Twin {
@@ -87,8 +97,9 @@ impl Run {
     fn act(&mut self) {
         match (self.twin.head(), self.rng.below(100)) {
             (Head::Job, 0..=79) => self.steps(usize::MAX),
-            (Head::Job, 80..=89) => self.some_steps(),
-            (Head::Job, 90..=94) => self.any_request(),
+            (Head::Job, 80..=84) => self.some_steps(),
+            (Head::Job, 85..=91) => self.cut_erase(),
+            (Head::Job, 92..=95) => self.any_request(),
             (Head::Idle(_), 0..=1) => self.steps(1),
             (Head::Idle(idle), 2..=13) => self.put_at_the_limit(idle),
             (Head::Idle(_), 14..=96) => self.any_request(),
@@ -124,6 +135,27 @@ impl Run {
     fn restart(&mut self) {
         let call = if self.rng.once_in(8) { Call::Format } else { Call::Mount };
         self.call(call);
+    }
+
+    /// Steps up to the job's next erase, if it has one. There the power is lost, and often so in the mount that follows. A
+    /// format's erase happens whole: a cut inside it ends a run.
+    fn cut_erase(&mut self) {
+        while !self.format_open && self.twin.busy() {
+            match self.twin.erases_next() {
+                None => self.steps(1),
+                Some(half) => {
+                    let before = newest(self.twin.image());
+                    let mask = raise::mask(&mut self.rng, half_of(self.twin.image(), half));
+                    self.twin.cut_erase(&mask);
+                    assert_eq!(newest(self.twin.image()), before, "a half looks newer, half erased");
+                    self.inside += 1;
+                    self.restart();
+                    if self.rng.once_in(2) {
+                        break;
+                    }
+                }
+            }
+        }
     }
 
     fn any_request(&mut self) {

@@ -170,6 +170,25 @@ impl Twin {
         }
     }
 
+    /// The half that the next step erases, if it does.
+    pub fn erases_next(&self) -> Option<usize> {
+        match &self.model.record {
+            Record::Job(job) => match job.next() {
+                Step::Erase { half } => Some(half),
+                Step::Program { .. } => None,
+            },
+            _ => None,
+        }
+    }
+
+    /// Power is lost inside the erase that comes next: these bits of the half are then 1, the others as they were.
+    pub fn cut_erase(&mut self, mask: &[u8]) {
+        let half = self.erases_next().expect("the next step is an erase");
+        self.nor.raise(half, mask);
+        let image = self.image().to_vec();
+        self.load(&image);
+    }
+
     pub fn call(&mut self, call: &Call) -> Outcome {
         let before = self.head();
         self.compare_told(call, before);

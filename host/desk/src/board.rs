@@ -1,5 +1,6 @@
 //! An image and its board record, under some store.
 
+use std::ops::Range;
 use store::{Answer, Head, Store, Stretch};
 
 pub struct Board<'s, S: Store> {
@@ -40,6 +41,25 @@ impl<'s, S: Store> Board<'s, S> {
 
     pub fn step(&mut self) -> Answer {
         self.store.step(&mut self.image, &mut self.record)
+    }
+
+    /// The half that the job's next step erases, if it does. It shows on an image of zeros: no other step sets bits.
+    pub fn erases_next(&self) -> Option<Range<usize>> {
+        let (mut zeros, mut record) = (vec![0; self.image.len()], self.record.clone());
+        self.store.step(&mut zeros, &mut record);
+        let first = zeros.iter().position(|byte| *byte != 0)?;
+        Some(first..first + zeros.len() / 2)
+    }
+
+    /// Power is lost inside the erase that comes next: each byte of the half becomes old OR mask, the mask being repeated.
+    /// Whether there is such an erase.
+    pub fn cut_erase(&mut self, mask: &[u8]) -> bool {
+        let Some(half) = self.erases_next() else { return false };
+        for (byte, bits) in self.image[half].iter_mut().zip(mask.iter().cycle()) {
+            *byte |= bits;
+        }
+        self.record = self.store.unmounted();
+        true
     }
 
     /// Steps until the answer is no longer "more"; the last answer, and the flash steps made.

@@ -5,7 +5,7 @@ use crate::picture::{LEGEND, rows};
 use crate::say::{self, count, grouped};
 use crate::survey::{Side, owner, sides};
 use model::frame::{Body, Frame, Host};
-use model::half::{Journal, Replay, replay};
+use model::half::{Half, Journal, Replay, replay};
 use std::io::{self, Write};
 use std::ops::Range;
 use store::{Answer, Head, Store};
@@ -18,7 +18,7 @@ const MEANING: [(Answer, &str); 4] = [
     (Answer::NO_STORE, "No half is valid. A format makes an empty store."),
     (
         Answer::FOREIGN,
-        "A half is foreign, or both are equally new.\nOnly a format helps, and it loses all objects.",
+        "No half is valid and one is foreign, or both are\nequally new. Only a format helps, and it loses all objects.",
     ),
     (Answer::IMAGE_LENGTH, "It must be a multiple of 256 from 512 to 65,536."),
     (
@@ -111,6 +111,9 @@ impl<'a> Report<'a> {
                 let steps = count(self.steps, "step");
                 writeln!(out, "mount answers more (255 in C), and 0, done, after {steps}.")?;
             }
+        }
+        if self.sides.iter().any(|side| side.half == Half::Foreign) {
+            writeln!(out, "Its first step erases the foreign half.")?;
         }
         self.current.map_or(Ok(()), |half| writeln!(out, "Half {half} is then current."))
     }

@@ -36,14 +36,14 @@ impl Side<'_> {
 
     /// The creation time of a valid half.
     pub fn time(&self) -> Option<u32> {
-        self.journal().map(|journal| journal.time)
+        self.half.time()
     }
 
     pub fn state(&self) -> String {
         match &self.half {
             Half::Blank => "blank".to_string(),
             Half::InProgress => "in progress: power was lost while it was being written".to_string(),
-            Half::Foreign => "foreign: no store leaves a half like this".to_string(),
+            Half::Foreign => "foreign: power was lost while it was being erased, or it is damaged".to_string(),
             Half::Valid(journal) => {
                 let tail = if journal.torn { self.torn(journal.end) } else { "the rest is blank".to_string() };
                 let (frames, end) = (count(journal.frames.len(), "frame"), self.base + journal.end);

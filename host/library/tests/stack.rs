@@ -156,6 +156,7 @@ impl Board {
         assert_eq!(self.ask(3, &message::put(9, b"pending")), Answer::DONE);
         assert_eq!(self.mount(), Answer::DONE);
         assert_eq!(self.mount(), Answer::DONE);
+        assert_eq!(self.format(), Answer::DONE);
     }
 }
 

@@ -31,6 +31,16 @@ pub struct Journal {
     pub torn: bool,
 }
 
+impl Half {
+    /// The creation time, if the half is valid.
+    pub fn time(&self) -> Option<u32> {
+        match self {
+            Half::Valid(journal) => Some(journal.time),
+            _ => None,
+        }
+    }
+}
+
 pub fn read(half: &[u8]) -> Half {
     match half[STATE] {
         READY if blank(half) => Half::Blank,

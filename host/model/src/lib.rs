@@ -1,5 +1,5 @@
-//! Document 01 with K2 of document 02, implemented straightforwardly and on its own: nothing here is shared with the
-//! proved library.
+//! Document 01 with K2 and K4 of document 02, implemented straightforwardly and on its own: nothing here is shared with
+//! the proved library.
 
 pub mod frame;
 pub mod half;
@@ -98,12 +98,12 @@ pub fn half_of(image: &[u8], half: usize) -> &[u8] {
 fn mount(image: &[u8]) -> Result<Record, Answer> {
     allowed_length(image)?;
     let (current, journal, other_blank) = match (half::read(half_of(image, 0)), half::read(half_of(image, 1))) {
-        (Half::Foreign, _) | (_, Half::Foreign) => return Err(Answer::FOREIGN),
         (Half::Valid(first), Half::Valid(second)) if first.time == second.time => return Err(Answer::FOREIGN),
         (Half::Valid(first), Half::Valid(second)) if first.time > second.time => (0, first, false),
         (Half::Valid(_), Half::Valid(second)) => (1, second, false),
         (Half::Valid(first), other) => (0, first, other == Half::Blank),
         (other, Half::Valid(second)) => (1, second, other == Half::Blank),
+        (Half::Foreign, _) | (_, Half::Foreign) => return Err(Answer::FOREIGN),
         _ => return Err(Answer::NO_STORE),
     };
     let mut board = Board { image, half: current, replay: half::replay(&journal), journal };
@@ -121,7 +121,13 @@ fn mount(image: &[u8]) -> Result<Record, Answer> {
 
 fn format(image: &[u8]) -> Result<Record, Answer> {
     allowed_length(image)?;
-    let mut work = vec![Work::Erase { half: 0 }, Work::Erase { half: 1 }];
+    let time = |half: usize| half::read(half_of(image, half)).time();
+    let last = match (time(0), time(1)) {
+        (Some(first), Some(second)) if first > second => 0,
+        (Some(_), None) => 0,
+        _ => 1,
+    };
+    let mut work = vec![Work::Erase { half: 1 - last }, Work::Erase { half: last }];
     work.extend(write_half(0, 1, Vec::new()));
     Ok(job::begin(work, Idle { length: image.len(), half: 0, end: half::HEADER as u16 }))
 }

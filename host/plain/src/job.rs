@@ -27,8 +27,9 @@ pub struct Record {
     pub length: u32,
     pub half: u8,
     pub end: u16,
-    /// Whether half 0 and half 1 are erased first.
-    wipe: [bool; 2],
+    /// How many halves are erased first, and which, the last one at 0.
+    wipes: u8,
+    wipe: [u8; 2],
     /// Whether a half is made, and whether the other one is erased after.
     makes: bool,
     drops: bool,
@@ -53,7 +54,8 @@ impl Record {
         length: 0,
         half: 0,
         end: 0,
-        wipe: [false; 2],
+        wipes: 0,
+        wipe: [0; 2],
         makes: false,
         drops: false,
         time: 0,
@@ -73,14 +75,16 @@ impl Record {
         self.length = length as u32;
         self.half = half as u8;
         self.end = end as u16;
-        self.wipe = [false; 2];
+        self.wipes = 0;
         self.makes = false;
         self.drops = false;
         self.frame[0] = 0;
     }
 
+    /// Erases this half after those asked for before.
     pub fn wipe(&mut self, half: usize) {
-        self.wipe[half] = true;
+        self.wipe = [half as u8, self.wipe[0]];
+        self.wipes += 1;
     }
 
     /// An empty half is made.
@@ -113,7 +117,7 @@ impl Record {
     /// Takes up what was asked for above.
     pub fn begin(&mut self, image: &[u8]) -> Answer {
         self.phase = Phase::Wipe;
-        if self.wipe == [false; 2] {
+        if self.wipes == 0 {
             self.next_phase(image);
         }
         self.answer()
@@ -161,10 +165,9 @@ impl Record {
         self.index += 1;
         match self.phase {
             Phase::Wipe => {
-                let half = if self.wipe[0] { 0 } else { 1 };
-                erase(image, half);
-                self.wipe[half] = false;
-                self.wipe == [false; 2]
+                self.wipes -= 1;
+                erase(image, usize::from(self.wipe[usize::from(self.wipes)]));
+                self.wipes == 0
             }
             Phase::Open => {
                 let (at, byte) = if index == 0 { (STATE, IN_PROGRESS) } else { (index - 1, LABEL[index - 1]) };

@@ -1,4 +1,5 @@
-//! Document 01 as one would write it by hand for a small board: no heap, a record of fixed size, changed in place.
+//! Document 01 and the landed requests of document 02, as one would write them by hand for a small board: no heap, a
+//! record of fixed size, changed in place.
 //! Nothing here is shared with the proved library or with the model.
 
 #![no_std]
@@ -25,11 +26,11 @@ fn begin_mount(image: &[u8], record: &mut Record) -> Result<Answer, Answer> {
     let mut journals = [Journal::EMPTY; 2];
     let states = [journals[0].read(half_of(image, 0)), journals[1].read(half_of(image, 1))];
     let half = match &states {
-        [State::Foreign, _] | [_, State::Foreign] => return Err(Answer::FOREIGN),
         [State::Valid, State::Valid] if journals[0].time == journals[1].time => return Err(Answer::FOREIGN),
         [State::Valid, State::Valid] => usize::from(journals[1].time > journals[0].time),
         [State::Valid, _] => 0,
         [_, State::Valid] => 1,
+        [State::Foreign, _] | [_, State::Foreign] => return Err(Answer::FOREIGN),
         _ => return Err(Answer::NO_STORE),
     };
     let journal = &journals[half];
@@ -47,17 +48,27 @@ fn begin_mount(image: &[u8], record: &mut Record) -> Result<Answer, Answer> {
     Ok(record.begin(image))
 }
 
-/// Begins to make an empty store.
+/// Begins to make an empty store. The half that holds the store, if there is one, is erased last.
 pub fn format(image: &[u8], record: &mut Record) -> Answer {
     *record = Record::UNMOUNTED;
     if let Err(refusal) = allowed(image) {
         return refusal;
     }
     record.rest(image.len(), 0, HEADER);
-    record.wipe(0);
-    record.wipe(1);
+    let newest = usize::from(time(image, 0) <= time(image, 1));
+    record.wipe(1 - newest);
+    record.wipe(newest);
     record.make(0, 1);
     record.begin(image)
+}
+
+/// The creation time of a valid half, 0 of any other.
+fn time(image: &[u8], half: usize) -> u32 {
+    let mut journal = Journal::EMPTY;
+    match journal.read(half_of(image, half)) {
+        State::Valid => journal.time,
+        _ => 0,
+    }
 }
 
 /// A host's message.

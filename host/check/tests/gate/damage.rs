@@ -209,3 +209,58 @@ fn two_valid_halves() {
     let outcome = twin.call(&Call::Read { host: 0, message: message::read(1) });
     assert_eq!(outcome.stretch, Stretch { at: S + 22, len: 4 });
 }
+
+/// A half that is foreign but for this byte 8: 0xFE makes it one in progress, 0xFF a blank one.
+fn with_state(state: u8) -> Vec<u8> {
+    let mut half = vec![0xFF; S];
+    half[8] = state;
+    half
+}
+
+/// K4: beside a valid half a foreign one is erased, as any that isn't blank; without one it is 3.
+#[test]
+fn a_half_of_every_state_beside_another() {
+    let valid = with_tail(&[], AMPLE).image()[..S].to_vec();
+    for state in 0..=255 {
+        let other = with_state(state);
+        let foreign = state < 0xFE;
+        for halves in [[&valid, &other], [&other, &valid]] {
+            let mut twin = Twin::new(&halves.map(|half| half.clone()).concat());
+            let erase = usize::from(state != 0xFF);
+            // U - 5 for a transfer of the settled object: a put of another is pending
+            assert_eq!(twin.whole(&Call::Mount), (Answer::DONE, erase + 22), "{state:#04x}");
+            assert_eq!(twin.ids(), [1]);
+        }
+        for (beside, none) in [(0xFF, Answer::NO_STORE), (0xFE, Answer::NO_STORE), (0xFC, Answer::FOREIGN)] {
+            let expected = if foreign { Answer::FOREIGN } else { none };
+            for states in [[state, beside], [beside, state]] {
+                let image = states.map(with_state).concat();
+                let mut twin = Twin::new(&image);
+                assert_eq!(twin.call(&Call::Mount).answer, expected, "{states:?}");
+                assert_eq!(twin.image(), image);
+            }
+        }
+    }
+}
+
+/// Foreign by each header field, by a frame and by its tail, beside a clean half: one step, and it is blank.
+#[test]
+fn a_foreign_half_is_erased_beside_a_valid_one() {
+    let clean = image_of(&[&FORMATTED[..], &frame::settled(Id(1), b"kept")].concat())[..S].to_vec();
+    for (at, byte) in
+        [(0, 0x11), (1, 1), (2, 3), (3, 0x4B), (8, 0xFD), (9, 0xFE), (15, 0), (16, 0), (17, 1), (S - 1, 0)]
+    {
+        let mut foreign = clean.clone();
+        foreign[at] = byte;
+        assert_eq!(Twin::new(&image_of(&foreign)).call(&Call::Mount).answer, Answer::FOREIGN, "byte {at}");
+        for half in [0, 1] {
+            let mut halves = [clean.clone(), foreign.clone()];
+            halves.rotate_left(half);
+            let mut twin = Twin::new(&halves.concat());
+            assert_eq!(twin.whole(&Call::Mount), (Answer::DONE, 1), "byte {at}");
+            assert_eq!(twin.idle(), Some(Idle { length: LONG, half: half as u8, end: 27 }));
+            assert_eq!(twin.image()[(1 - half) * S..][..S], [0xFF; S]);
+            assert_eq!(twin.value(1), Some(b"kept".to_vec()));
+        }
+    }
+}

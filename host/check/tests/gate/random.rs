@@ -30,6 +30,8 @@ fn seen_values(sum: &Sum) {
 fn runs_of(rounds: std::ops::Range<u64>) {
     let mut sum = Sum::default();
     rounds.for_each(|round| random_runs(round, &mut sum));
+    assert!(sum.inside > 1_000, "{} cuts inside an erase", sum.inside);
+    assert_eq!(sum.tally.of("mount", Answer::FOREIGN), 0);
     seen(&sum, "mount", &[0, 2, 6, 255].map(Answer));
     seen(&sum, "request", &[0, 1, 2, 5, 6, 7, 8, 9, 10, 255].map(Answer));
     seen(&sum, "run", &[0, 255].map(Answer));

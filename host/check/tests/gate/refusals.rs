@@ -301,6 +301,30 @@ fn mount_at_the_last_time_erases_nothing() {
     assert_eq!((twin.image(), twin.head()), (&image[..], Head::Unmounted));
 }
 
+/// A foreign half beside the valid one does not make it 3 (K4), so it is 6, and nothing is erased.
+#[test]
+fn mount_at_the_last_time_beside_a_foreign_half() {
+    let mut image = formatted_at(u32::MAX).image().to_vec();
+    image[256..].fill(0);
+    let mut twin = Twin::new(&image);
+    assert_eq!(twin.whole(&Call::Mount), (Answer::DONE, 1));
+    image[16] = 6;
+    twin.load(&image);
+    assert_eq!(twin.call(&Call::Mount).answer, Answer::WORN);
+    assert_eq!((twin.image(), twin.head()), (&image[..], Head::Unmounted));
+}
+
+/// Two valid halves of the last time, one torn: 3 goes before 6.
+#[test]
+fn equal_times_go_before_the_last_time() {
+    let half = formatted_at(u32::MAX).image()[..256].to_vec();
+    let mut torn = half.clone();
+    torn[16] = 6;
+    assert_eq!(mount_of(&half, &torn), Answer::FOREIGN);
+    assert_eq!(mount_of(&torn, &half), Answer::FOREIGN);
+    assert_eq!(mount_of(&torn, &torn), Answer::FOREIGN);
+}
+
 fn mount_of(first: &[u8], second: &[u8]) -> Answer {
     let mut twin = Twin::new(&[first, second].concat());
     let answer = twin.call(&Call::Mount).answer;
@@ -321,10 +345,12 @@ fn mount_without_a_store_and_with_a_foreign_half() {
         assert_eq!(mount_of(&first, &second), Answer::NO_STORE);
         assert_eq!(mount_of(&second, &first), Answer::NO_STORE);
     }
-    for other in [&blank[..], &in_progress, &foreign, &valid] {
-        assert_eq!(mount_of(&foreign, other), Answer::FOREIGN);
-        assert_eq!(mount_of(other, &foreign), Answer::FOREIGN);
+    for other in [blank, in_progress, foreign] {
+        assert_eq!(mount_of(&foreign, &other), Answer::FOREIGN);
+        assert_eq!(mount_of(&other, &foreign), Answer::FOREIGN);
     }
+    assert_eq!(mount_of(&valid, &foreign), Answer::MORE);
+    assert_eq!(mount_of(&foreign, &valid), Answer::MORE);
     assert_eq!(mount_of(&valid, &valid), Answer::FOREIGN);
     assert_eq!(mount_of(&valid, &blank), Answer::DONE);
     assert_eq!(mount_of(&valid, &in_progress), Answer::MORE);

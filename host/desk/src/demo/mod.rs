@@ -1,6 +1,7 @@
-//! Two tickets, played. Whatever the story says happened is checked as it is told.
+//! Three tickets, played. Whatever the story says happened is checked as it is told.
 
 mod bad_length;
+mod lost_erase;
 mod power_cuts;
 
 use crate::board::Board;
@@ -18,22 +19,25 @@ struct Checked {
     disturbed_steps: usize,
     cuts: usize,
     nested: usize,
+    lost_erases: usize,
     reads: usize,
     half_changes: usize,
 }
 
-/// Tells both tickets; whether no half change was found.
+/// Tells the tickets; whether no half change was found.
 pub fn demo<S: Store>(store: &S, out: &mut impl Write) -> io::Result<bool> {
     let mut checked = Checked::default();
     writeln!(out, "The proved settings store on a board of {LENGTH} bytes of flash, two halves of 256.")?;
     writeln!(out, "In the pictures each letter is a byte:\n\n{LEGEND}")?;
     bad_length::tell(store, &mut checked, out)?;
     power_cuts::tell(store, &mut checked, out)?;
+    lost_erase::tell(store, &mut checked, out)?;
     let rows = [
         (checked.bad_lengths, "bad lengths refused without a trace"),
         (checked.disturbed_steps, "steps of a commit, with a bad request before each"),
         (checked.cuts, "restarts after power cuts"),
         (checked.nested, "restarts after cuts in those restarts"),
+        (checked.lost_erases, "restarts after power was lost inside an erase"),
         (checked.reads, "reads"),
         (checked.half_changes, "half changes found"),
     ];
@@ -138,9 +142,10 @@ mod tests {
     fn half_changes_are_counted() {
         let (whole, story) = told(&Mixed { mounted: Cell::new(false) });
         assert!(!whole);
-        // Each of 140 + 7,116 restarts.
-        assert!(story.ends_with("   7,256  half changes found\n"), "{story}");
+        // Each of 140 + 7,116 + 4,924 restarts.
+        assert!(story.ends_with("  12,180  half changes found\n"), "{story}");
         assert!(story.contains("     140  half a change\n"), "{story}");
+        assert!(story.contains("   4,924  half a change\n"), "{story}");
         let (whole, story) = told(&Model);
         assert!(whole && story.ends_with("       0  half changes found\n"), "{story}");
     }

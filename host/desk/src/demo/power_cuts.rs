@@ -41,7 +41,7 @@ pub fn tell<S: Store>(store: &S, checked: &mut Checked, out: &mut impl Write) ->
 }
 
 /// Objects 1, 2 and 4 settled, and a journal so full that the third change needs a transfer.
-fn before_the_changes<S: Store>(store: &S) -> Board<'_, S> {
+pub fn before_the_changes<S: Store>(store: &S) -> Board<'_, S> {
     let mut board = formatted(store);
     for (id, text) in [(1, "low 20"), (2, "high 80"), (4, "solid")] {
         serve(&mut board, 0, &message::put(id, text.as_bytes()));
@@ -94,7 +94,16 @@ fn one_cut<S: Store>(store: &S, cuts: &[Cut], checked: &mut Checked, out: &mut i
     let (answer, steps) = after.run();
     assert_eq!(answer, Answer::DONE);
     writeln!(out, "A restart mounts what it finds, in {steps} steps:\n\n{}", picture(&after.image))?;
-    let found = objects(&mut after, checked);
+    tell_objects(&mut after, checked, out)
+}
+
+/// What host 0 reads, and which state that is.
+pub fn tell_objects<S: Store>(
+    board: &mut Board<S>,
+    checked: &mut Checked,
+    out: &mut impl Write,
+) -> io::Result<()> {
+    let found = objects(board, checked);
     let state = whole(&found).map_or("half a change", |state| STATES[state].0);
     writeln!(out, "Then host 0 reads {}:\n{state}.\n", listed(&found))
 }
@@ -132,20 +141,20 @@ fn recover<S: Store>(store: &S, cut: &Cut, checked: &mut Checked) -> Option<usiz
         let mut again = Board::new(store, board.image.clone());
         assert!(!again.mount().refused());
         assert_eq!(again.run().0, Answer::DONE);
-        judge(&mut again, cut, checked);
+        judge(&mut again, cut.state, checked);
         if answer == Answer::DONE {
-            return judge(&mut board, cut, checked);
+            return judge(&mut board, cut.state, checked);
         }
         assert_eq!(answer, Answer::MORE);
         answer = board.step();
     }
 }
 
-/// The state that a restart found: the cut's, or none if it is not whole, which is counted.
-fn judge<S: Store>(board: &mut Board<S>, cut: &Cut, checked: &mut Checked) -> Option<usize> {
+/// The state that a restart found: the expected one, or none if it is not whole, which is counted.
+pub fn judge<S: Store>(board: &mut Board<S>, expected: usize, checked: &mut Checked) -> Option<usize> {
     let state = whole(&objects(board, checked));
     match state {
-        Some(state) => assert_eq!(state, cut.state),
+        Some(state) => assert_eq!(state, expected),
         None => checked.half_changes += 1,
     }
     state

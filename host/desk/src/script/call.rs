@@ -19,7 +19,7 @@ pub struct Call<S: Store> {
 }
 
 impl<S: Store> Call<S> {
-    pub const ALL: [Call<S>; 21] = [
+    pub const ALL: [Call<S>; 22] = [
         Call { name: "new", takes: "LEN", make: new },
         Call { name: "image", takes: "HEX", make: image },
         Call { name: "load", takes: "FILE", make: load },
@@ -28,6 +28,7 @@ impl<S: Store> Call<S> {
         Call { name: "format", takes: "", make: |board, _| answer(board.format()) },
         Call { name: "step", takes: "[N]", make: step },
         Call { name: "run", takes: "", make: run },
+        Call { name: "cut-erase", takes: "MASKHEX", make: cut_erase },
         Call { name: "req", takes: "HOST HEX LEN", make: request },
         Call { name: "read", takes: "HOST HEX", make: read },
         Call { name: "put", takes: "HOST ID VALUE", make: put },
@@ -98,6 +99,11 @@ fn step<S: Store>(board: &mut Board<S>, words: &[Word]) -> Made {
 fn run<S: Store>(board: &mut Board<S>, _: &[Word]) -> Made {
     let (answer, steps) = board.run();
     Ok(Back::Answer(answer, format!("steps={steps}")))
+}
+
+fn cut_erase<S: Store>(board: &mut Board<S>, words: &[Word]) -> Made {
+    let mask = words[0].bytes()?;
+    if board.cut_erase(&mask) { Ok(Back::Ok) } else { Err("the next step is no erase".to_string()) }
 }
 
 fn request<S: Store>(board: &mut Board<S>, words: &[Word]) -> Made {

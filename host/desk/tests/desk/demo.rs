@@ -1,6 +1,6 @@
 //! The story, and what it counted.
 
-use super::run;
+use super::{HEADER, run, unhex};
 
 fn story() -> String {
     let (status, story, errors) = run(&["demo"], b"");
@@ -18,7 +18,11 @@ fn says_what_it_checked() {
     // step and after the last); U - 5 + 1 = 51 otherwise; 52 where the other half is to be erased first, which is
     // after steps 1 to 76 of the transfer. 2 + 62 * 51 + 76 * 52 = 7,116.
     //
-    // Reads: 2, then 4 before the changes, 4 after the cut that is shown, 4 after each of 140 + 7,116 restarts.
+    // Ticket 3: each bit of the old half that is 0, alone and all but it, and two restarts.
+    //
+    // Reads: 2, then 4 before the changes, 4 after each of the two cuts that are shown, 4 after each of 140 + 7,116 + 4,924
+    // restarts.
+    assert_eq!(4 * zeros_of_the_old_half(), 4_924);
     let counted = [
         "Checked, and counted on the way:",
         "",
@@ -26,11 +30,25 @@ fn says_what_it_checked() {
         "       6  steps of a commit, with a bad request before each",
         "     140  restarts after power cuts",
         "   7,116  restarts after cuts in those restarts",
-        "  29,034  reads",
+        "   4,924  restarts after power was lost inside an erase",
+        "  48,734  reads",
         "       0  half changes found",
         "",
     ];
     assert!(story().ends_with(&counted.join("\n")), "{}", story());
+}
+
+/// The half that ticket 3 erases, by document 01: header of time 1; host 0 puts 1, 2 and 4, and 4 eight times more, with
+/// a commit after each; host 1 puts 1.
+fn zeros_of_the_old_half() -> u32 {
+    let put =
+        |host: u8, id: u8, value: &[u8]| [&[8 + value.len() as u8, 0, 1, 0, host, id, 0], value, &[0xFE]].concat();
+    let commit = vec![6, 0, 3, 0, 0, 0xFE];
+    let again = [put(0, 4, b"solid"), commit.clone()].concat().repeat(8);
+    let puts = [put(0, 1, b"low 20"), put(0, 2, b"high 80"), put(0, 4, b"solid"), commit];
+    let half = [unhex(HEADER), puts.concat(), again, put(1, 1, b"low 35")].concat();
+    assert_eq!(half.len(), 230);
+    half.iter().map(|byte| byte.count_zeros()).sum()
 }
 
 #[test]
@@ -58,6 +76,20 @@ fn values_after_the_restart_and_what_used_to_happen() {
         "the old settings, whole.",
     ];
     assert!(restart.contains(&values.join("\n")), "{restart}");
+}
+
+#[test]
+fn power_lost_inside_an_erase() {
+    let story = story();
+    let (_, third) = story.split_once("TICKET 3: power is lost inside an erase\n").expect("three tickets");
+    assert!(third.contains("What used to happen: "));
+    let values = [
+        "Then host 0 reads 1 = \"low 20\", 2 = \"high 80\", 3 not there, 4 = \"solid\":",
+        "the old settings, whole.",
+    ];
+    assert!(third.contains(&values.join("\n")), "{third}");
+    assert!(third.contains("The erase sets 1,231 bits. "), "{third}");
+    assert!(third.contains("   4,924  the old settings, whole\n       0  half a change\n"), "{third}");
 }
 
 #[test]

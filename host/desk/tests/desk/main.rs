@@ -1,6 +1,7 @@
 //! The program itself, run as a user runs it.
 
 mod demo;
+mod erase;
 mod files;
 mod input;
 mod replay;

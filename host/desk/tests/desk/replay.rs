@@ -202,9 +202,12 @@ fn pokes_and_forged_records() {
         ("read 0 060005010100", "8"),
         ("poke 511 fe", "ok"),
         ("req 0 04000301 0", "11"),
+        ("poke 8 ff", "ok"),
         ("mount", "3"),
+        ("poke 8 fc", "ok"),
+        ("mount", "more"),
         ("poke 504 fcffffffffffffff", "ok"),
-        ("poke 505 fcffffffffffffff", "? line 21: the image has only 512 bytes"),
+        ("poke 505 fcffffffffffffff", "? line 24: the image has only 512 bytes"),
         ("poke 512 -", "ok"),
         ("unmount", "ok"),
         ("req 0 04000301 0", "2"),
@@ -243,9 +246,8 @@ fn calls_and_fields_that_are_not_there_yet() {
         ("image ff 2", "? line 2: image goes with HEX"),
         ("idle 512 0 16 blocks=2", "? line 3: idle goes with LEN HALF END"),
         ("blocks 2", "? line 4: no call is named blocks"),
-        ("cut-erase ff", "? line 5: no call is named cut-erase"),
-        ("log-open", "? line 6: no call is named log-open"),
-        ("boot-read", "? line 7: no call is named boot-read"),
+        ("log-open", "? line 5: no call is named log-open"),
+        ("boot-read", "? line 6: no call is named boot-read"),
         ("dump", "image=-"),
         ("record", "unmounted"),
     ]);
@@ -254,7 +256,7 @@ fn calls_and_fields_that_are_not_there_yet() {
 #[test]
 fn tickets() {
     let expected = |name: &str| std::fs::read_to_string(format!("{TICKETS}/{name}.expected")).expect("answers");
-    for ticket in ["1-bad-log-length", "2-power-cuts"] {
+    for ticket in ["1-bad-log-length", "2-power-cuts", "3-power-lost-in-erase"] {
         let (status, out, errors) = run(&["replay", "--strict", &format!("{TICKETS}/{ticket}.desk")], b"");
         assert_eq!((status, &out, &errors[..]), (0, &expected(ticket), ""), "{ticket}");
     }

@@ -141,16 +141,31 @@ fn no_store() {
 
 #[test]
 fn foreign_halves_and_equal_times() {
-    let refused = "mount answers 3, foreign. A half is foreign, or both are equally new.
-Only a format helps, and it loses all objects.\n";
-    let state = "half 1: foreign: no store leaves a half like this\n    256  ?...";
+    let refused = "mount answers 3, foreign. No half is valid and one is foreign, or both are
+equally new. Only a format helps, and it loses all objects.\n";
+    let state = "half 1: foreign: power was lost while it was being erased, or it is damaged\n    256  ?...";
     check(["", "00"], 1, &["half 0: blank\n", state, refused]);
-    // What the valid half holds is listed all the same.
+    let in_progress = "half 0: in progress: power was lost while it was being written\n";
+    check(["fffffffffffffffffe", "00"], 1, &[in_progress, state, refused]);
     let old = format!("{HEADER}{PUT}{COMMIT}");
-    check([&old, "00"], 1, &["half 0: valid, time 1\n", state, "    5     23      2  \"AB\"\n", refused]);
     let pending = format!("{HEADER}{PUT}");
     let parts = ["Settled in half 0: 1 object;", "Settled in half 1: no objects;", "  host 2  put 5 = \"AB\"\n"];
     check([&old, &pending], 1, &["half 1: valid, time 1\n", parts[0], parts[1], parts[2], refused]);
+}
+
+/// K4: what the valid half holds counts, and the foreign one is erased.
+#[test]
+fn a_foreign_half_beside_a_valid_one() {
+    let state = "half 1: foreign: power was lost while it was being erased, or it is damaged\n    256  ?...";
+    let old = format!("{HEADER}{PUT}{COMMIT}");
+    let mount = "mount answers more (255 in C), and 0, done, after 1 step.
+Its first step erases the foreign half.\nHalf 0 is then current.\n";
+    let object = "    5     23      2  \"AB\"\n";
+    check([&old, "00"], 0, &["half 0, current: valid, time 1\n", state, object, mount]);
+    // Row f with a foreign half 1: 1 + 11 steps.
+    let mount = "mount answers more (255 in C), and 0, done, after 12 steps.
+Its first step erases the foreign half.\nHalf 1 is then current.\n";
+    check([&format!("{HEADER}{PUT}"), "00"], 0, &["half 0, current: valid", state, mount]);
 }
 
 #[test]

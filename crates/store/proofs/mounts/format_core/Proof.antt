@@ -1,4 +1,4 @@
--- Format: the length, then one job.
+-- Format: the length, the order of its erases, then one job.
 use mathlib.Core.Path.{refl, sym, _∙_}
 use native.Mathlib.Omega.{arith}
 use denote.Ref.{now}
@@ -20,20 +20,25 @@ format-core-spec =
     (λ c.
     let is-allowed′ = c .before .before .is-allowed in
     let args′ = c .before .before .before .before .args in
-    refusal-given refusal.ImageLength (format-length (now (args′ .image)) (sym (is-allowed′ .ensures) ∙ not-true (is-allowed′ .result)
-    (c .before .if1 .taken))) (c .refused .ensures) refl)
+    refusal-given refusal.ImageLength (format-length (now (args′ .image))
+    (sym (is-allowed′ .ensures) ∙ not-true (is-allowed′ .result) (c .before .if1 .taken))) (c .refused .ensures) refl)
+    (λ c κs. search needs)
     (λ c.
-    let is-allowed′ = c .before .is-allowed in
-    let z = sized-of (now (c .before .before .before .args .image))
-    (sym (is-allowed′ .ensures) ∙ not-false (is-allowed′ .result) (c .if1 .left)) in omega (arith, z .two, z .low, z .high))
+    let is-allowed′ = c .before .before .is-allowed in
+    let args′ = c .before .before .before .before .args in
+    let z = sized-of (now (args′ .image)) (sym (is-allowed′ .ensures) ∙ not-false (is-allowed′ .result) (c .before .if1 .left)) in omega
+    (arith, z .two, z .low, z .high))
     (λ c.
-    let is-allowed′ = c .before .is-allowed in
-    let z = sized-of (now (c .before .before .before .args .image))
-    (sym (is-allowed′ .ensures) ∙ not-false (is-allowed′ .result) (c .if1 .left)) in omega (arith, z .two, z .low, z .high))
+    let is-allowed′ = c .before .before .is-allowed in
+    let args′ = c .before .before .before .before .args in
+    let z = sized-of (now (args′ .image)) (sym (is-allowed′ .ensures) ∙ not-false (is-allowed′ .result) (c .before .if1 .left)) in omega
+    (arith, z .two, z .low, z .high))
     (λ c κs. search needs)
     (λ c κs. search needs)
     (λ c.
-    let is-allowed′ = c .before .before .before .is-allowed in
-    let args′ = c .before .before .before .before .before .args in
+    let format-order′ = c .before .before .format-order in
+    let is-allowed′ = c .before .before .before .before .is-allowed in
+    let args′ = c .before .before .before .before .before .before .args in
     rw (c .begin .ensures, c .before .starting .ensures)
-    (format-is (now (args′ .image)) (sym (is-allowed′ .ensures) ∙ not-false (is-allowed′ .result) (c .before .before .if1 .left)))))
+    (format-is (now (args′ .image)) (format-order′ .result)
+    (sym (is-allowed′ .ensures) ∙ not-false (is-allowed′ .result) (c .before .before .before .if1 .left)) (format-order′ .ensures))))

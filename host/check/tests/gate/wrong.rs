@@ -1,0 +1,144 @@
+//! Wrong stores, each wrong in one thing that K4 says: the half-erased images of these tests must tell them from right ones.
+
+use super::erase::{Scene, mount_transfer};
+use super::format::{beside, olders, transferred};
+use library::Library;
+use model::half::{self, Half};
+use model::{Model, Record, half_of};
+use plain::Plain;
+use store::{Answer, Head, Idle, Store, Stretch, message};
+
+type Begun = (Answer, Record);
+
+/// The model with another mount or format.
+struct Altered {
+    mount: fn(&[u8]) -> Begun,
+    format: fn(&[u8]) -> Begun,
+}
+
+impl Store for Altered {
+    type Record = Record;
+
+    fn mount(&self, image: &[u8]) -> Begun {
+        (self.mount)(image)
+    }
+
+    fn format(&self, image: &[u8]) -> Begun {
+        (self.format)(image)
+    }
+
+    fn request(&self, image: &[u8], record: &mut Record, host: u8, message: &[u8], reply: &mut [u8]) -> Answer {
+        Model.request(image, record, host, message, reply)
+    }
+
+    fn step(&self, image: &mut [u8], record: &mut Record) -> Answer {
+        Model.step(image, record)
+    }
+
+    fn read(&self, image: &[u8], record: &Record, host: u8, message: &[u8]) -> (Answer, Stretch) {
+        Model.read(image, record, host, message)
+    }
+
+    fn unmounted(&self) -> Record {
+        Model.unmounted()
+    }
+
+    fn idle(&self, idle: Idle) -> Record {
+        Model.idle(idle)
+    }
+
+    fn head(&self, record: &Record) -> Head {
+        Model.head(record)
+    }
+}
+
+const RIGHT: Altered = Altered { mount: |image| Model.mount(image), format: |image| Model.format(image) };
+
+fn halves(image: &[u8]) -> [Half; 2] {
+    [0, 1].map(|half| half::read(half_of(image, half)))
+}
+
+/// As before K4: any foreign half is 3.
+fn mount_that_refuses(image: &[u8]) -> Begun {
+    if halves(image).contains(&Half::Foreign) { (Answer::FOREIGN, Record::Unmounted) } else { Model.mount(image) }
+}
+
+/// Of two valid halves the older is current, as if times were stored as they are.
+fn mount_of_the_older(image: &[u8]) -> Begun {
+    let mut seen = image.to_vec();
+    if let [Half::Valid(first), Half::Valid(second)] = halves(image) {
+        let newer = usize::from(second.time > first.time);
+        seen[newer * image.len() / 2 + half::STATE] = half::IN_PROGRESS;
+    }
+    Model.mount(&seen)
+}
+
+/// As before K4: half 0 first, whatever it holds.
+fn format_in_number_order(image: &[u8]) -> Begun {
+    Model.format(&vec![0xFF; image.len()])
+}
+
+/// The value of an object after a restart and all its steps, or the refusal.
+fn restart<S: Store>(store: &S, image: &mut [u8], id: u8) -> Result<Vec<u8>, Answer> {
+    let (mut answer, mut record) = store.mount(image);
+    while answer == Answer::MORE {
+        answer = store.step(image, &mut record);
+    }
+    match store.read(image, &record, 0, &message::read(id)) {
+        _ if answer.refused() => Err(answer),
+        (Answer::DONE, stretch) => Ok(stretch.of(image).to_vec()),
+        (refusal, _) => Err(refusal),
+    }
+}
+
+/// How many of some half-erased images a restart gets wrong: one bit is raised, or one value.
+fn wrong_restarts<S: Store>(store: &S) -> usize {
+    let scene: Scene = mount_transfer(1);
+    let images =
+        [(8, 0x01), (8, 0x02), (4, 0x01), (2, 0x80), (16, 0x40), (23, 0x08), (255, 0xFF)].map(|(at, bits)| {
+            let mut mask = [0; 256];
+            mask[at] = bits;
+            scene.raised(&mask)
+        });
+    images.into_iter().filter(|image| restart(store, &mut image.clone(), 7) != Ok(b"seven".to_vec())).count()
+}
+
+/// How many formats, cut after their first step beside a half-erased older half, leave other objects than the old ones.
+fn wrong_formats<S: Store>(store: &S) -> usize {
+    let mut wrong = 0;
+    for current in [0, 1] {
+        let image = transferred(current);
+        for older in olders(half_of(&image, 1 - current)) {
+            let mut image = beside(&image, current, &older);
+            let (answer, mut record) = store.format(&image);
+            assert_eq!((answer, store.step(&mut image, &mut record)), (Answer::MORE, Answer::MORE));
+            wrong += usize::from(restart(store, &mut image, 5) != Ok(b"AB".to_vec()));
+        }
+    }
+    wrong
+}
+
+#[test]
+fn right_stores_pass() {
+    assert_eq!([wrong_restarts(&Model), wrong_restarts(&Plain), wrong_restarts(&Library::linked())], [0; 3]);
+    assert_eq!([wrong_formats(&Model), wrong_formats(&Plain), wrong_formats(&Library::linked())], [0; 3]);
+    assert_eq!((wrong_restarts(&RIGHT), wrong_formats(&RIGHT)), (0, 0));
+}
+
+/// State byte 0xFD, time 0 and a wrong kind make the old half foreign.
+#[test]
+fn a_store_that_refuses_a_half_erased_half() {
+    assert_eq!(wrong_restarts(&Altered { mount: mount_that_refuses, ..RIGHT }), 3);
+}
+
+/// The old half is still valid with its first put's length or value raised: to 77, a torn tail and no object, or to "{even".
+#[test]
+fn a_store_that_takes_the_old_half_for_the_newer() {
+    assert_eq!(wrong_restarts(&Altered { mount: mount_of_the_older, ..RIGHT }), 2);
+}
+
+/// With half 0 current, no older half is left to find in its place, or one with another value.
+#[test]
+fn a_format_that_erases_the_valid_half_first() {
+    assert_eq!(wrong_formats(&Altered { format: format_in_number_order, ..RIGHT }), 8);
+}
