@@ -35,6 +35,16 @@ overlap lo (z ∷ l) x y (a, b, o) (inl e) (inr n) p q = absurd (omega (arith, a
 overlap lo (z ∷ l) x y (a, b, o) (inr m) (inl f) p q = absurd (omega (arith, ap (λ (s : Span). s .end) f, among-from (z .end) l x o m .0))
 overlap lo (z ∷ l) x y (a, b, o) (inr m) (inr n) p q = overlap (z .end) l x y o m n p q
 
+-- two first bad fields overlap: what P says up to the start of one it says up to the end of no other
+pub overlapping : (P : ℕ → Type 0) (x y : Span) → ((i j : ℕ) → i ≤ j → P j → P i) → x .start < x .end → y .start < y .end → (0 < x .start → P (x .start))
+    → (0 < y .start → P (y .start)) → (P (x .end) → ⊥) → (P (y .end) → ⊥) → (x .start < y .end) × (y .start < x .end)
+overlapping P x y less p q b c n m = (
+  on-test (leb (y .end) (x .start)) (λ h. let k = leb-true (y .end) (x .start) h in absurd (m (less (y .end) (x .start) k (b (omega arith)))))
+      (leb-false (y .end) (x .start)),
+  on-test (leb (x .end) (y .start)) (λ h. let k = leb-true (x .end) (y .start) h in absurd (n (less (x .end) (y .start) k (c (omega arith)))))
+      (leb-false (x .end) (y .start)),
+)
+
 ordered-fields : (f : Frame) → Ordered 0 (fieldsOf f)
 ordered-fields (change h (put i v)) = omega arith
 ordered-fields (change h (delete i)) = omega arith
@@ -122,12 +132,10 @@ common next t x y f g (inr (inr m)) (inr (inr n)) b c p q =
 
 pub first-one : (next : ℕ) (t : List ℕ) (x y : Span) → FirstBad next t x → FirstBad next t y → x ≡ y
 first-one next t x y a b =
-    on-test (leb (x .end) (y .start)) (λ h. absurd (late x y a b (leb-true (x .end) (y .start) h)))
-    (λ h. on-test (leb (y .end) (x .start)) (λ k. absurd (late y x b a (leb-true (y .end) (x .start) k)))
-    (λ k. common next t x y (a .frame) (b .frame) (a .has) (b .has) (a .before) (b .before)
-    (leb-false (y .end) (x .start) k) (leb-false (x .end) (y .start) h)))
+    let o : (x .start < y .end) × (y .start < x .end) =
+    overlapping (λ j. (f : Frame) × Begins next t j f) x y (λ i j h z. (z .0, begins-less next t i j (z .0) h (z .1))) (sized x a) (sized y b)
+    (λ h. (a .frame, a .before h)) (λ h. (b .frame, b .before h)) (λ z. a .none (z .0) (z .1)) (λ z. b .none (z .0) (z .1)) in
+    common next t x y (a .frame) (b .frame) (a .has) (b .has) (a .before) (b .before) (o .0) (o .1)
   where
-    late : (x y : Span) → FirstBad next t x → FirstBad next t y → x .end ≤ y .start → ⊥
-    late x y a b h =
-        a .none (b .frame) (begins-less next t (x .end) (y .start) (b .frame) h
-        (b .before (omega (arith, among-from 0 (fieldsOf (a .frame)) x (ordered-fields (a .frame)) (a .has) .1))))
+    sized : (x : Span) → FirstBad next t x → x .start < x .end
+    sized x a = among-from 0 (fieldsOf (a .frame)) x (ordered-fields (a .frame)) (a .has) .1
