@@ -13,7 +13,7 @@ use Rattle.flash.proofs.Cases.{on-test, clash, and-left, and-right, between}
 use Rattle.flash.proofs.Blank.{allFF-all, all-ff, is-ff}
 use Rattle.frame.specs.Frame.{Frame, idMax, valueMax, putLen, deleteLen, settledLen, encode, frameLen}
 use Rattle.frame.specs.Reader.{Read, blank, whole, torn, wrong, fault, Slot, slot, fits, valueSlots, changeSlots, endSlots}
-use Rattle.frame.specs.Reader.{settledSlots, noSlots, hostSlots, onlySettled, Match, all, part, misfit, match, decode, ofHostMatch}
+use Rattle.frame.specs.Reader.{settledSlots, noSlots, hostSlots, idLeft, onlySettled, Match, all, part, misfit, match, decode, ofHostMatch}
 use Rattle.frame.specs.Reader.{ofSettledMatch, readLaid, readFrame}
 use Rattle.frame.specs.Sentences.{Whole, Torn, Blank, Wrong}
 use Rattle.frame.specs.declared.Fault.{Fault}
@@ -59,12 +59,13 @@ settled-part at x g (misfit p) e = let z : _≡_ {A = ℕ} 0 1 = cc in omega ari
 pub only-size : (next n k : ℕ) → onlySettled next n k ≡ true → (settledLen 0 ≤ n) × (n ≤ settledLen valueMax)
 only-size next n k e =
     let size : Bool = leb (settledLen 0) n && leb n (settledLen valueMax) in
-    between (settledLen 0) n (settledLen valueMax) (and-right (leb next idMax) size (and-left (leb next idMax && size) (eqb k 5 || eqb n (settledLen 0)) e))
+    between (settledLen 0) n (settledLen valueMax) (and-right (idLeft next) size (and-left (idLeft next && size) (eqb k 5 || eqb n (settledLen 0)) e))
 
 pub only-next : (next n k : ℕ) → onlySettled next n k ≡ true → next ≤ idMax
 only-next next n k e =
     let size : Bool = leb (settledLen 0) n && leb n (settledLen valueMax) in
-    leb-true next idMax (and-left (leb next idMax) size (and-left (leb next idMax && size) (eqb k 5 || eqb n (settledLen 0)) e))
+    let left : idLeft next ≡ true = and-left (idLeft next) size (and-left (idLeft next && size) (eqb k 5 || eqb n (settledLen 0)) e) in
+    omega (arith, leb-true next _ left)
 
 -- ---- whole
 

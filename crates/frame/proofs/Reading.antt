@@ -14,7 +14,7 @@ use Rattle.flash.proofs.Cases.{and-both, and-no-right, or-neither, between-yes}
 use Rattle.flash.proofs.Blank.{allFF-no, allFF-all}
 use Rattle.frame.specs.Frame.{Frame, change, commit, abort, settled, put, delete, finish, idMax, valueMax, putLen, deleteLen, endLen}
 use Rattle.frame.specs.Frame.{settledLen, maxFrame, encode, frameLen, MayStand, OfHost}
-use Rattle.frame.specs.Reader.{blank, whole, torn, Match, match, hostSlots, settledSlots, onlySettled, decode, ofHostMatch}
+use Rattle.frame.specs.Reader.{blank, whole, torn, Match, match, hostSlots, settledSlots, idLeft, onlySettled, decode, ofHostMatch}
 use Rattle.frame.specs.Reader.{ofSettledMatch, readLaid, readFrame}
 use Rattle.frame.proofs.Encode.{length-byte, plain, encode-plain, length-encode}
 use Rattle.frame.proofs.Fit.{Fit, match-all, Closed, Partly, match-some, fit-host, fit-settled, closed-host}
@@ -43,15 +43,15 @@ laid-settled next at n k t e = rw (e, readLaid)
 
 pub only-no : (next n k : ℕ) → (k ≡ 5 → ⊥) → (n ≡ settledLen 0 → ⊥) → onlySettled next n k ≡ false
 only-no next n k h l =
-    and-no-right (leb next idMax && (leb (settledLen 0) n && leb n (settledLen valueMax))) (eqb k 5 || eqb n (settledLen 0))
+    and-no-right (idLeft next && (leb (settledLen 0) n && leb n (settledLen valueMax))) (eqb k 5 || eqb n (settledLen 0))
     (or-neither (eqb k 5) (eqb n (settledLen 0)) (ne-eqb k 5 h) (ne-eqb n (settledLen 0) l))
 
 pub only-yes : (next n k : ℕ) → next ≤ idMax → settledLen 0 ≤ n → n ≤ settledLen valueMax → (eqb k 5 || eqb n (settledLen 0)) ≡ true
     → onlySettled next n k ≡ true
 only-yes next n k h lo hi e =
     let size : Bool = leb (settledLen 0) n && leb n (settledLen valueMax) in
-    and-both (leb next idMax && size) (eqb k 5 || eqb n (settledLen 0))
-    (and-both (leb next idMax) size (le-leb next idMax h) (between-yes (settledLen 0) n (settledLen valueMax) lo hi)) e
+    and-both (idLeft next && size) (eqb k 5 || eqb n (settledLen 0))
+    (and-both (idLeft next) size (le-leb next _ (omega arith)) (between-yes (settledLen 0) n (settledLen valueMax) lo hi)) e
 
 -- bytes that start with a legal length and are long enough: they are no blank tail, by the law on lengths
 pub read-long : (next at n : ℕ) (t : List ℕ) → n ≤ maxFrame → n ≤ suc (length t) → readFrame next at (n ∷ t) ≡ readLaid next at n (getD (n ∷ t) 2 0) (n ∷ t)
