@@ -8,8 +8,8 @@ use Rattle.flash.specs.Bytes.{Bytes}
 use Rattle.frame.specs.declared.Fault.{Fault}
 use Rattle.frame.specs.Frame.{Frame, encodeAll, AllMayStand, nextOf}
 use Rattle.frame.specs.Reader.{Tail, clean, cut, bad}
-use Rattle.frame.specs.Sentences.{Blank, Torn}
 use Rattle.journal.specs.Faults.{FaultIn}
+use Rattle.frame.specs.Sentences.{Blank, Torn}
 use Rattle.journal.specs.Block.{headerLen, lastTime, stateAt, inTransfer, validData, header, blank, inProgress, valid, foreign, blockState}
 
 -- "A half is blank if every byte is 0xFF"
