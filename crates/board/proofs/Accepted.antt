@@ -6,7 +6,7 @@ use Prim.Native.Nat.{ℕ, suc, _+_, _-_, _*_, _≤_, _<_}
 use native.Mathlib.Omega.{arith}
 use lib.ListN.{length, drop, length-append, length-take}
 use borrow.Author.Tests.{ltb-false}
-use Rattle.flash.specs.Flash.{Step, erase, blocks, blockNumbers, block, sizeOf, applyAll, writes}
+use Rattle.flash.specs.Flash.{Step, erase, blocks, block, sizeOf, applyAll, writes}
 use Rattle.flash.proofs.Cases.{on-test}
 use Rattle.frame.specs.Frame.{Frame, encode, encodeAll, frameLen, total}
 use Rattle.frame.proofs.Encode.{length-encode, length-all}
@@ -21,13 +21,14 @@ use Rattle.board.specs.declared.Job.{Job}
 use Rattle.board.specs.declared.Record.{Record}
 use Rattle.board.specs.Record.{allowed, noPlaces, noMarks, rest, idle}
 use Rattle.board.specs.Step.{enterWipe}
-use Rattle.board.specs.Mount.{nextBlock, newTime, endOf, Store, needsTransfer, mountJob, formatJob}
+use Rattle.board.specs.Mount.{nextBlock, newTime, endOf, Store, needsTransfer, mountJob, formatOrder, formatJob}
 use Rattle.board.specs.Queue.{Held, needsRoom, appendJob}
 use Rattle.board.specs.Exec.{exec}
 use Rattle.board.specs.Plan.{Follows, onBlock, formatPlan, transferIf, mountedAt, framePlan, framedAt}
 use Rattle.board.proofs.Numbers.{next-there, next-other}
 use Rattle.board.proofs.Images.{Sized, sized-of}
 use Rattle.board.proofs.Blocks.{Besides, besides-blocks, besides-kept}
+use Rattle.board.proofs.Order.{order-both, both-blocks}
 use Rattle.board.proofs.PipelineJob.{Has, follows-staying, follows-moving}
 
 -- a journal in a block lies below the block's end
@@ -46,9 +47,9 @@ unfolding writes encodeAll total
 follows-format img h =
     let j : Job = formatJob img .job in
     let sized : Sized (sizeOf img) img = sized-of img h in
-    follows-moving img (length img - 1) (nextBlock 0) headerLen noPlaces j 256 headerLen [] blockNumbers (omega arith) (omega arith, (omega arith, tt))
+    follows-moving img (length img - 1) (nextBlock 0) headerLen noPlaces j 256 headerLen [] (formatOrder img) (omega arith) (both-blocks (order-both img))
     (record { wipe = refl; wipes = refl; size = refl }) (omega arith) (omega arith) [] refl (omega arith) (λ q. omega arith) (omega arith)
-    (yields-none (block (sizeOf img) (nextBlock 0) (applyAll (sizeOf img) (map erase blockNumbers) img)) headerLen noPlaces noMarks)
+    (yields-none (block (sizeOf img) (nextBlock 0) (applyAll (sizeOf img) (map erase (formatOrder img)) img)) headerLen noPlaces noMarks)
 
 -- ---- mount
 

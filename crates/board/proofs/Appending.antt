@@ -27,7 +27,7 @@ use Rattle.journal.proofs.Building.{Lands}
 use Rattle.board.specs.Record.{rest, idle}
 use Rattle.board.specs.Mount.{endOf}
 use Rattle.board.specs.Plan.{onBlock, appendPlan}
-use Rattle.board.proofs.Invariant.{StepLands, Safe}
+use Rattle.board.proofs.Invariant.{StepLands, Safe, Guard}
 use Rattle.board.proofs.Images.{length-all-steps, block-writes}
 use Rattle.board.proofs.Prefixes.{Each, each-writes}
 use Rattle.board.proofs.Current.{Alone, After, Roomy, Keeps, block-long, alone-after, alone-safe, alone-written}
@@ -164,9 +164,9 @@ module _ {s k t : ℕ} {img : List ℕ} {fs : List Frame} (a : Alone s img k t f
           (lands-fresh (block s k img) (frameWrites fs f) j (write 0 0) (fresh-stretch (endOf fs) (encode f))
           (given-writes (endOf fs) (encode f) (bytes-encode 256 f (x .legal))) h (ap (λ (n : ℕ). getD (block s k img) n 0) place ∙ was))
 
-  pub append-safe : {os : List Object} (u : Bool) → Keeps s (replay fs) os → Each s (λ y i. Safe s i os u) (appendPlan k (endOf fs) f) img
+  pub append-guard : {os : List Object} (u : Bool) → Keeps s (replay fs) os → Each s (Guard s os u) (appendPlan k (endOf fs) f) img
   unfolding applyAll
-  append-safe {os} u p = each-writes s k (λ y i. Safe s i os u) (frameWrites fs f) (write 0 0) img go
+  append-guard {os} u p = each-writes s k (Guard s os u) (frameWrites fs f) (write 0 0) img (λ j h. (go j h, tt))
     where
       go : (j : ℕ) → j < length (frameWrites fs f) → Safe s (applyAll s (onBlock k (take j (frameWrites fs f))) img) os u
       go zero h = alone-safe u a p

@@ -11,7 +11,7 @@ use Rattle.journal.specs.Index.{sited, placesFrom, sinceFrom, valueAt, nextSett
 use Rattle.wire.specs.Message.{parse}
 use Rattle.board.specs.Record.{noPlaces, noFrame}
 use Rattle.board.specs.Step.{enterAppend, enterDrop, enterCopy, enterOpen, enterWipe, advance, stepBusy, stepOn}
-use Rattle.board.specs.Mount.{mountAt, mountFound, mountOn, formatOn}
+use Rattle.board.specs.Mount.{mountAt, mountFound, mountOn, formatOrder, formatOn}
 use Rattle.board.specs.Queue.{held, append, serveChange, serveEnd, serveLog, serve, requestOn}
 use Rattle.board.specs.Exec.{exec}
 use Rattle.board.specs.Rows.{drive, returned, ask, asked, cutIn, mounted, replayed, timed, part, rowA, rowB, rowC, rowD, rowE, rowF}
@@ -22,7 +22,7 @@ unfolding drive returned ask asked cutIn mounted replayed timed part rowA rowB r
     putMessage formatAnswer allFF sameBytes writes encodeAll total match readFrame scan insert remove lookup changeAll listOf
     without isOpen replayFrom headerFault blockState noRoom sited placesFrom sinceFrom valueAt nextSettled nextPending nextLoad
     parse noPlaces noFrame enterAppend enterDrop enterCopy enterOpen enterWipe advance stepBusy stepOn mountAt mountFound mountOn
-    formatOn held append serveChange serveEnd serveLog serve requestOn
+    formatOrder formatOn held append serveChange serveEnd serveLog serve requestOn
 rows =
     record {
       a-steps = refl;

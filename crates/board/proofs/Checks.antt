@@ -129,7 +129,7 @@ abbrev pub mountChecks : List ℕ → List Check
 mountChecks img =
     check refusal.ImageLength (not (allowed (length img)))
     ∷ check refusal.NoStore (noStore (stores (allFound img)) && not (anyForeign (allFound img)))
-    ∷ check refusal.Foreign (anyForeign (allFound img) || equalTimes (stores (allFound img)))
+    ∷ check refusal.Foreign ((noStore (stores (allFound img)) && anyForeign (allFound img)) || equalTimes (stores (allFound img)))
     ∷ check refusal.Worn (wornStore (stores (allFound img))) ∷ []
 
 -- the lines that concern each call: 11 alone concerns a step, 4 alone a format

@@ -7,7 +7,7 @@ use Prim.Native.Nat.{ℕ, _+_, _-_, _≤_}
 use native.Mathlib.Omega.{arith}
 use lib.ListN.{length, drop, length-drop}
 use Rattle.flash.specs.Bytes.{Bytes}
-use Rattle.flash.specs.Flash.{Step, erase, applyAll, block, sizeOf}
+use Rattle.flash.specs.Flash.{Step, applyAll, block, sizeOf}
 use Rattle.frame.specs.Frame.{deleteLen, endLen, total}
 use Rattle.journal.specs.Replay.{Object, State, state, replay, listOf, settledOnly}
 use Rattle.journal.specs.Block.{blockState, headerLen}
@@ -28,17 +28,17 @@ use Rattle.board.specs.Exec.{Call, request, step, mount, format, exec}
 use Rattle.board.specs.Plan.{formatPlan, mountPlan, mountedAt}
 use Rattle.board.specs.Book.{Book, book, nothing, formatting, noLists, firstBook, enterCall, enterFormat}
 use Rattle.board.specs.Claim.{IdleAgrees, Finishes, AgreesIn, Agrees, WornOut, MountSays, Says, trackMount, trackFormat, track, Run}
-use Rattle.board.specs.Claim.{stepsOn, formatted, ByteCall, ByteCalls, Claim}
+use Rattle.board.specs.Claim.{stepsOn, formatted, ByteCall, Begins, Event, call, cutErase, Happens, Claim}
 use Rattle.board.proofs.Images.{Sized, size-of, sized-of, sized-as, length-all-steps, bytes-all-steps}
-use Rattle.board.proofs.Invariant.{Safe, IdleBook, InJob, InPhase, Inv}
+use Rattle.board.proofs.Invariant.{Others, Lesser, Safe, GuardIn, IdleBook, InJob, InPhase, Inv}
 use Rattle.board.proofs.Outcomes.{format-begins}
 use Rattle.board.proofs.Current.{After, Keeps}
 use Rattle.board.proofs.Jobs.{Begun, job-starts, job-begins}
 use Rattle.board.proofs.Stepping.{follows-steps}
-use Rattle.board.proofs.Keeping.{Working, inv-unmounted, inv-idle, inv-busy, ready-idle, safe-of, step-keeps}
+use Rattle.board.proofs.Keeping.{Working, inv-unmounted, inv-idle, inv-busy, ready-idle, step-keeps, Bare, bare-of, cut-bare}
 use Rattle.board.proofs.Accepted.{follows-format, follows-mount}
 use Rattle.board.proofs.Blocks.{wiped-besides}
-use Rattle.board.proofs.Lengths.{length-format}
+use Rattle.board.proofs.Lengths.{length-format, format-some}
 use Rattle.board.proofs.Replies.{journal-of}
 use Rattle.board.proofs.Formatting.{format-safe, format-ends}
 use Rattle.board.proofs.Deciding.{Taken, StoreThere, InTime, Outcome, worn-out, begins, mount-outcome, MountSafe, nothing-there, store-there, mount-safe}
@@ -102,12 +102,12 @@ format-works {s} {img} os z f =
     let a : After s (applyAll s (formatPlan img) img) (idle (rest (length img - 1) 0 headerLen)) (state [] []) = format-ends z in
     job-starts img (enterWipe (formatJob img)) (formatPlan img) (idle (rest (length img - 1) 0 headerLen)) (follows-format img (z .ok))
     (omega (arith, length-format img))
-    (omega (arith, length-format img, z .low)) (format-safe z f) (empty-book (z .low) a) (ready-idle (a .ready))
+    (omega (arith, length-format img, z .low)) (λ j h. (format-safe z f j h, λ n. absurd (n refl))) (empty-book (z .low) a) (ready-idle (a .ready))
 
-format-call : {s : ℕ} {img : List ℕ} {r : Record} {b : Book} {u : Bool} → Inv s img r b u → FormatKeeps s b u (formatOn img)
-format-call {s} {img} {r} {b} {u} v =
+format-call : {s : ℕ} {img : List ℕ} (b : Book) {u : Bool} → Bare s img (b .objects) u → FormatKeeps s b u (formatOn img)
+format-call {s} {img} b {u} v =
     let w : (answerOf (enterWipe (formatJob img)) ≡ More) × Working s img (enterWipe (formatJob img)) (book (b .objects) noLists formatting) true =
-    format-works (b .objects) (v .sized) (safe-of v) in
+    format-works (b .objects) (v .sized) (v .safe) in
     subst (FormatKeeps s b u) (sym (format-begins img (v .sized .ok))) (
       subst (λ (a : Answer). Inv s img (enterWipe (formatJob img)) (enterFormat b a) (trackFormat u a)) (sym (w .0))
           (inv-busy (enterWipe (formatJob img)) (v .sized) (v .bytes) (w .0) (w .1)),
@@ -120,11 +120,11 @@ abbrev MountKeeps : ℕ → List ℕ → Book → Bool → Out → Type 0
 MountKeeps s img b u o = Inv s (o .image) (o .board) (book (b .objects) noLists nothing) (trackMount u (o .answer)) × MountSays img u o
 
 -- a refused mount
-turned-down : {s : ℕ} {img : List ℕ} {r : Record} {b : Book} {u : Bool} (n : Refusal) → Inv s img r b u → (Refused n ≡ Refused refusal.Foreign → ⊥)
+turned-down : {s : ℕ} {img : List ℕ} (b : Book) {u : Bool} (n : Refusal) → Bare s img (b .objects) u → (Refused n ≡ Refused refusal.Foreign → ⊥)
     → (Refused n ≡ Refused refusal.ImageLength → ⊥) → (Refused n ≡ Refused refusal.NoStore → u ≡ true) → (Refused n ≡ Refused refusal.Worn → WornOut img)
     → MountKeeps s img b u (refuse n img unmounted [])
-turned-down n v a c d e = (
-  inv-unmounted unmounted (v .sized) (v .bytes) refl (safe-of v) refl,
+turned-down b n v a c d e = (
+  inv-unmounted unmounted (v .sized) (v .bytes) refl (v .safe) refl,
   record { never-foreign = a; never-length = c; no-store = d; worn = e },
 )
 
@@ -157,9 +157,9 @@ accepted-says o (inr e) =
       worn = λ c. (let w : _≡_ {A = ℕ} 0 1 = cc in absurd (omega arith));
     }
 
-module _ {s : ℕ} {img : List ℕ} {r : Record} {b : Book} {u : Bool} (v : Inv s img r b u) where
-  mount-begun : (x : Store) → Taken s img x → StoreThere s img x → Keeps s (replay (x .frames)) (b .objects) → Safe s img (b .objects) false → InTime x
-      → MountKeeps s img b u (begin img [] (mountJob img x (wipeList (x .number) (allFound img))))
+module _ {s : ℕ} {img : List ℕ} (b : Book) {u : Bool} (v : Bare s img (b .objects) u) where
+  mount-begun : (x : Store) → Taken s img x → StoreThere s img x → Keeps s (replay (x .frames)) (b .objects) → Others (Lesser s img (x .time)) (x .number)
+      → InTime x → MountKeeps s img b u (begin img [] (mountJob img x (wipeList (x .number) (allFound img))))
   mount-begun x y h k f t =
       let ks : List ℕ = wipeList (x .number) (allFound img) in
       let g : Record = enterWipe (mountJob img x ks) in
@@ -168,9 +168,10 @@ module _ {s : ℕ} {img : List ℕ} {r : Record} {b : Book} {u : Bool} (v : Inv 
       finish g (job-begins img g (mountPlan (allFound img) x) last
       (follows-mount img x ks (v .sized .ok) (y .there) (wiped-besides (x .number) img)
       (subst (λ (n : ℕ). Journal (block n (x .number) img) (x .frames)) (sym (size-of (v .sized))) (journal-of h)))
-      (mount-short x (v .sized) (y .there) h t) (mount-keeps x (v .sized) (y .there) h t k f) (settled-book k a) (ready-idle (a .ready)))
+      (mount-short x (v .sized) (y .there) h t)
+      (λ n l. let g = mount-keeps x (v .sized) (y .there) h t false k f n l in (g .0, λ d. g .1)) (settled-book k a) (ready-idle (a .ready)))
     where
-      finish : (g : Record) → Begun s (λ w i. Safe s i (b .objects) false) (λ i q. IdleBook s i q (book (b .objects) noLists nothing)) img g
+      finish : (g : Record) → Begun s (GuardIn s (b .objects) false nothing) (λ i q. IdleBook s i q (book (b .objects) noLists nothing)) img g
           → MountKeeps s img b u (out (answerOf g) img g [])
       finish g (inl (m, j)) = (
         subst (λ (w : Answer). Inv s img g (book (b .objects) noLists nothing) (trackMount u w)) (sym m) (inv-busy g (v .sized) (v .bytes) m j),
@@ -181,48 +182,65 @@ module _ {s : ℕ} {img : List ℕ} {r : Record} {b : Book} {u : Bool} (v : Inv 
         accepted-says (out (answerOf g) img g []) (inr d),
       )
 
-  mount-found : (x : Store) → Taken s img x → StoreThere s img x → Keeps s (replay (x .frames)) (b .objects) → Safe s img (b .objects) false → Outcome img x
-      → MountKeeps s img b u (mountOn img)
+  mount-found : (x : Store) → Taken s img x → StoreThere s img x → Keeps s (replay (x .frames)) (b .objects) → Others (Lesser s img (x .time)) (x .number)
+      → Outcome img x → MountKeeps s img b u (mountOn img)
   mount-found x y h k f (worn-out w e) =
       subst (MountKeeps s img b u) (sym e)
-      (turned-down refusal.Worn v (λ c. let w : _≡_ {A = ℕ} 0 1 = cc in omega arith) (λ c. let w : _≡_ {A = ℕ} 0 1 = cc in omega arith)
+      (turned-down b refusal.Worn v (λ c. let w : _≡_ {A = ℕ} 0 1 = cc in omega arith) (λ c. let w : _≡_ {A = ℕ} 0 1 = cc in omega arith)
       (λ c. let w : _≡_ {A = ℕ} 0 1 = cc in absurd (omega arith)) (λ c. w))
   mount-found x y h k f (begins t e) = subst (MountKeeps s img b u) (sym e) (mount-begun x y h k f t)
 
   mount-call : MountKeeps s img b u (mountOn img)
-  mount-call = go (mount-safe (v .sized) (safe-of v))
+  mount-call = go (mount-safe (v .sized) (v .safe))
     where
       go : MountSafe s img (b .objects) u → MountKeeps s img b u (mountOn img)
       go (nothing-there e q) =
           subst (MountKeeps s img b u) (sym q)
-          (turned-down refusal.NoStore v (λ c. let w : _≡_ {A = ℕ} 0 1 = cc in omega arith) (λ c. let w : _≡_ {A = ℕ} 0 1 = cc in omega arith) (λ c. e)
+          (turned-down b refusal.NoStore v (λ c. let w : _≡_ {A = ℕ} 0 1 = cc in omega arith) (λ c. let w : _≡_ {A = ℕ} 0 1 = cc in omega arith) (λ c. e)
           (λ c. let w : _≡_ {A = ℕ} 0 1 = cc in absurd (omega arith)))
       go (store-there x y h k f) = mount-found x y h k f (mount-outcome x (v .sized) y h)
 
 -- ---- every call, and every run
 
-pub call-keeps : {s : ℕ} {img : List ℕ} {r : Record} {b : Book} {u : Bool} → Inv s img r b u → (c : Call) → ByteCall c
-    → Says img r b u c (exec img r c)
+-- what a call says, and the invariant after it
+abbrev CallKeeps : ℕ → List ℕ → Record → Book → Bool → Call → Type 0
+CallKeeps s img r b u c =
+    Says img r b u c (exec img r c)
     × Inv s (exec img r c .image) (exec img r c .board) (enterCall b c (exec img r c .answer)) (track u b c (exec img r c .answer))
+
+-- a mount or a format, whatever the record
+pub begin-keeps : {s : ℕ} {img : List ℕ} (b : Book) {u : Bool} → Bare s img (b .objects) u → (r : Record) (c : Call) → Begins c → CallKeeps s img r b u c
+begin-keeps b v r (request h m reply) n = absurd n
+begin-keeps b v r step n = absurd n
+begin-keeps b v r mount n = let y = mount-call b v in (y .1, y .0)
+begin-keeps b v r format n = let y = format-call b v in (y .1, y .0)
+
+pub call-keeps : {s : ℕ} {img : List ℕ} {r : Record} {b : Book} {u : Bool} → Inv s img r b u → (c : Call) → ByteCall c → CallKeeps s img r b u c
 call-keeps {s} {img} {r} {b} {u} v (request h m reply) by =
     let y : Requested s img r b u h m reply (exec img r (request h m reply)) = request-keeps v h m reply by in
     ((y .0 .1, y .0 .2, y .1), y .0 .0)
 call-keeps v step by = let y = step-keeps v in (y .1, y .0)
-call-keeps v mount by = let y = mount-call v in (y .1, y .0)
-call-keeps v format by = let y = format-call v in (y .1, y .0)
+call-keeps {r = r} {b = b} v mount by = begin-keeps b (bare-of v) r mount tt
+call-keeps {r = r} {b = b} v format by = begin-keeps b (bare-of v) r format tt
 
-pub run-holds : {s : ℕ} {img : List ℕ} {r : Record} {b : Book} {u : Bool} → Inv s img r b u → (cs : List Call) → ByteCalls cs → Run exec img r b u cs
-run-holds v [] by = agrees v
-run-holds v (c ∷ cs) (by, bys) = let y = call-keeps v c by in (agrees v, y .0, run-holds (y .1) cs bys)
+pub run-holds : {s : ℕ} {img : List ℕ} {r : Record} {b : Book} {u : Bool} → Inv s img r b u → (es : List Event) → Happens exec img r b es
+    → Run exec img r b u es
+run-holds v [] h = tt
+run-holds v (call c ∷ es) (by, h) = let y = call-keeps v c by in (y .0, agrees (y .1), run-holds (y .1) es h)
+run-holds v (cutErase k new q ∷ []) (x, n, h) = tt
+run-holds {b = b} v (cutErase k new q ∷ call c ∷ es) (x, n, (by, h)) =
+    let y = begin-keeps b (cut-bare k new v x) q c n in (y .0, agrees (y .1), run-holds (y .1) es h)
+run-holds v (cutErase k new q ∷ cutErase j more p ∷ es) (x, n, h) = absurd n
 
 -- ---- from a finished format on
 
 format-done : {s : ℕ} {img : List ℕ} (r : Record) → Sized s img
     → formatted exec img r ≡ out Done (applyAll s (formatPlan img) img) (idle (rest (length img - 1) 0 headerLen)) []
 format-done {s} {img} r z =
+    let first = format-some img in
     ap (stepsOn exec 12) (format-begins img (z .ok))
     ∙ ap (λ (n : ℕ). stepsOn exec n (begin img [] (formatJob img))) (sym (length-format img))
-    ∙ follows-steps exec (formatPlan img) (erase 0) (drop 1 (formatPlan img)) refl s (begin img [] (formatJob img))
+    ∙ follows-steps exec (formatPlan img) (first .0) (first .1) (first .2) s (begin img [] (formatJob img))
     (idle (rest (length img - 1) 0 headerLen)) (size-of z)
     (follows-format img (z .ok))
 
@@ -241,4 +259,5 @@ unfolding Claim
 claim img r by ok =
     let e : formatted exec img r ≡ out Done (applyAll (sizeOf img) (formatPlan img) img) (idle (rest (length img - 1) 0 headerLen)) [] =
     format-done r (sized-of img ok) in
-    (ap (λ (o : Out). o .answer) e, ap (λ (o : Out). o .board .phase) e, λ cs bs. run-holds (formatted-inv img r by ok) cs bs)
+    let v : Inv (sizeOf img) (formatted exec img r .image) (formatted exec img r .board) firstBook false = formatted-inv img r by ok in
+    (ap (λ (o : Out). o .answer) e, ap (λ (o : Out). o .board .phase) e, agrees v, run-holds v)

@@ -15,14 +15,14 @@ use Rattle.journal.specs.Block.{blockState}
 use Rattle.journal.specs.Room.{claimed, openHosts}
 use Rattle.journal.proofs.Blocks.{blank-block}
 use Rattle.journal.proofs.States.{Contents}
+use Rattle.journal.proofs.Raising.{blank-harmless}
 use Rattle.journal.proofs.Room.{kept, used-kept, kept-none}
 use Rattle.board.specs.declared.Record.{Record}
 use Rattle.board.specs.Record.{rest, idle}
-use Rattle.board.specs.Mount.{nextBlock, endOf}
+use Rattle.board.specs.Mount.{endOf}
 use Rattle.board.specs.Plan.{onBlock}
-use Rattle.board.proofs.Numbers.{next-there, next-only, next-next}
 use Rattle.board.proofs.Images.{Sized, sized-as, sized-block, length-all-steps, block-writes, other-writes}
-use Rattle.board.proofs.Invariant.{Valid, Quiet, Others, Lesser, quiet, older, Safe, some-valid, Ready}
+use Rattle.board.proofs.Invariant.{Valid, Quiet, Others, Lesser, Safe, some-valid, Ready}
 
 pub record Alone (s : ℕ) (img : List ℕ) (k t : ℕ) (fs : List Frame) (c : Tail) : Type 0 where
   pub sized : Sized s img
@@ -83,17 +83,12 @@ valid-of {s} {k} {t} {img} {fs} {c} x p = record { time = t; frames = fs; tail =
 pub blank-quiet : (s : ℕ) (b : List ℕ) → b ≡ replicate s 255 → Quiet (blockState b)
 blank-quiet s b e = subst Quiet (sym (ap blockState e ∙ blank-block s)) tt
 
+pub blank-lesser : {s : ℕ} {img : List ℕ} → Sized s img → (t j : ℕ) → block s j img ≡ replicate s 255 → Lesser s img t j
+blank-lesser {s} {img} z t j e = blank-harmless s t (block s j img) (omega (arith, z .low)) e
+
 pub alone-safe : {s k t : ℕ} {img : List ℕ} {fs : List Frame} {c : Tail} {os : List Object} (u : Bool) → Alone s img k t fs c → Keeps s (replay fs) os
     → Safe s img os u
-alone-safe {s} {k} {t} {img} u x p = some-valid k (x .there) (valid-of (x .contents) p) (λ j h n. quiet (blank-quiet s (block s j img) (x .others j h n)))
-
--- a block and a newer one
-pub both-safe : {s : ℕ} {img : List ℕ} {os : List Object} (u : Bool) (k : ℕ) → k < blocks → (x : Valid s img k os) (y : Valid s img (nextBlock k) os)
-    → x .time < y .time → Safe s img os u
-both-safe {s} {img} {os} u k h x y l =
-    some-valid (nextBlock k) (next-there k h) y
-    (λ j g n. let e : j ≡ k = next-only (nextBlock k) (next-there k h) j g n ∙ next-next k h in
-    subst (Lesser s img (y .time) os) (sym e) (older x l))
+alone-safe {s} {k} {t} {img} u x p = some-valid k (x .there) (valid-of (x .contents) p) (λ j h n. blank-lesser (x .sized) t j (x .others j h n))
 
 -- ---- the block written to
 

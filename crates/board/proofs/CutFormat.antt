@@ -8,44 +8,49 @@ use lib.Dec.{ltb}
 use lib.ListN.{length, take}
 use lib.Seq.{take-all}
 use borrow.Author.Tests.{ltb-true, ltb-false}
-use Rattle.flash.specs.Flash.{Step, applyAll, blocks, block, sizeOf}
+use Rattle.flash.specs.Flash.{Step, applyAll, block, sizeOf}
 use Rattle.flash.proofs.Cases.{on-test}
 use Rattle.frame.specs.Reader.{clean}
 use Rattle.journal.specs.Replay.{Object}
 use Rattle.journal.specs.Block.{headerLen, BlockState, blank, inProgress, valid, foreign, blockState}
 use Rattle.journal.proofs.Blocks.{blank-block}
 use Rattle.journal.proofs.States.{contents-valid}
+use Rattle.journal.proofs.Raising.{harmless-older}
 use Rattle.board.specs.declared.Record.{Record}
 use Rattle.board.specs.Record.{Out, rest, idle}
 use Rattle.board.specs.Step.{begin}
 use Rattle.board.specs.Mount.{formatJob, formatOn}
-use Rattle.board.specs.Exec.{Call, exec}
+use Rattle.board.specs.Exec.{exec}
 use Rattle.board.specs.Plan.{formatPlan}
 use Rattle.board.specs.Book.{Book}
-use Rattle.board.specs.Claim.{stepsOn, ByteCalls}
+use Rattle.board.specs.Claim.{stepsOn, Event, call, cutErase, Happens}
 use Rattle.board.specs.CutFormat.{Left, afterAll, leftBy, Beside, OldObjects, Empty, EmptyStore, Leaves, old-objects, no-store, empty-store, CutFormat}
 use Rattle.board.proofs.Images.{Sized, size-of, sized-as, length-all-steps}
-use Rattle.board.proofs.Invariant.{Valid, Quiet, Lesser, quiet, older, Safe, no-valid, some-valid, Inv}
+use Rattle.board.proofs.Invariant.{Quiet, Safe, no-valid, some-valid, Inv}
+use Rattle.board.proofs.Order.{beside-of}
 use Rattle.board.proofs.Current.{Alone}
 use Rattle.board.proofs.Outcomes.{format-begins}
 use Rattle.board.proofs.Stepping.{follows-part}
-use Rattle.board.proofs.Keeping.{safe-of}
+use Rattle.board.proofs.Keeping.{Bare, bare-of, cut-bare}
 use Rattle.board.proofs.Accepted.{follows-format}
 use Rattle.board.proofs.Lengths.{length-format}
 use Rattle.board.proofs.Formatting.{FormatCut, format-cut, format-alone}
-use Rattle.board.proofs.Claiming.{call-keeps, formatted-inv}
+use Rattle.board.proofs.Claiming.{begin-keeps, call-keeps, formatted-inv}
 
--- ---- the invariant after all calls
+-- ---- what a mount finds after all
 
 -- at the end, whether a format is then unfinished
 pub record Ended (s : ℕ) (l : Left) : Type 0 where
   pub unfinished : Bool
-  pub inv : Inv s (l .image) (l .board) (l .book) unfinished
+  pub bare : Bare s (l .image) (l .book .objects) unfinished
 
-pub run-ends : {s : ℕ} {img : List ℕ} {r : Record} {b : Book} {u : Bool} → Inv s img r b u → (cs : List Call) → ByteCalls cs
-    → Ended s (afterAll exec img r b cs)
-run-ends {s} {img} {r} {b} {u} v [] by = record { unfinished = u; inv = v }
-run-ends v (c ∷ cs) (by, bys) = run-ends (call-keeps v c by .1) cs bys
+pub run-ends : {s : ℕ} {img : List ℕ} {r : Record} {b : Book} {u : Bool} → Inv s img r b u → (es : List Event) → Happens exec img r b es
+    → Ended s (afterAll exec img r b es)
+run-ends {s} {img} {r} {b} {u} v [] h = record { unfinished = u; bare = bare-of v }
+run-ends v (call c ∷ es) (by, h) = run-ends (call-keeps v c by .1) es h
+run-ends {u = u} v (cutErase k new q ∷ []) (x, n, h) = record { unfinished = u; bare = cut-bare k new v x }
+run-ends {b = b} v (cutErase k new q ∷ call c ∷ es) (x, n, (by, h)) = run-ends (begin-keeps b (cut-bare k new v x) q c n .1) es h
+run-ends v (cutErase k new q ∷ cutErase j more p ∷ es) (x, n, h) = absurd n
 
 -- ---- some steps of a plan, made
 
@@ -68,15 +73,9 @@ module _ {s : ℕ} {img : List ℕ} (z : Sized s img) where
   quiet-empty (valid t fs c) q = absurd q
   quiet-empty (foreign e) q = absurd q
 
-  quiet-beside : (t : ℕ) (os : List Object) (a : BlockState) → Quiet a → Beside t os a
-  quiet-beside t os blank q = tt
-  quiet-beside t os inProgress q = tt
-  quiet-beside t os (valid u fs c) q = absurd q
-  quiet-beside t os (foreign e) q = absurd q
-
-  valid-old : {os : List Object} (k : ℕ) → k < blocks → (v : Valid s img k os)
-      → ((j : ℕ) → j < blocks → (j ≡ k → ⊥) → Beside (v .time) os (blockState (block s j img))) → OldObjects img os
-  valid-old {os} k h v q =
+  safe-old : {os : List Object} → Safe s img os false → OldObjects img os
+  safe-old (no-valid e q) = absurd (false≢true e)
+  safe-old {os} (some-valid k h v q) =
       record {
         number = k;
         time = v .time;
@@ -85,16 +84,8 @@ module _ {s : ℕ} {img : List ℕ} (z : Sized s img) where
         there = h;
         is-valid = at-size (λ a. a ≡ valid (v .time) (v .frames) (v .tail)) k (contents-valid (v .contents));
         objects = v .same;
-        others = λ j l n. at-size (Beside (v .time) os) j (q j l n);
+        others = λ j l n. at-size (Beside (v .time)) j (beside-of (blockState (block s j img)) (λ t fs c. harmless-older (block s j img) (q j l n)));
       }
-
-  safe-old : {os : List Object} → Safe s img os false → OldObjects img os
-  safe-old (no-valid e q) = absurd (false≢true e)
-  safe-old {os} (some-valid k h v q) = valid-old k h v (λ j l n. other j (q j l n))
-    where
-      other : (j : ℕ) → Lesser s img (v .time) os j → Beside (v .time) os (blockState (block s j img))
-      other j (quiet x) = quiet-beside (v .time) os (blockState (block s j img)) x
-      other j (older w l) = subst (Beside (v .time) os) (sym (contents-valid (w .contents))) ((λ e. omega arith), w .same)
 
   alone-empty : Alone s img 0 1 [] clean → EmptyStore img
   alone-empty y =
@@ -123,6 +114,6 @@ format-leaves {s} {img} {os} {u} j z f h =
 
 pub cut-format : CutFormat exec
 unfolding CutFormat
-cut-format img r cs j by ok bs h =
-    let y : Ended (sizeOf img) (leftBy exec img r cs) = run-ends (formatted-inv img r by ok) cs bs in
-    format-leaves j (y .inv .sized) (safe-of (y .inv)) h
+cut-format img r es j by ok hs h =
+    let y : Ended (sizeOf img) (leftBy exec img r es) = run-ends (formatted-inv img r by ok) es hs in
+    format-leaves j (y .bare .sized) (y .bare .safe) h

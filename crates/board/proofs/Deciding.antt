@@ -1,7 +1,6 @@
 -- What a mount decides: which refusal, or which store it takes.
 use mathlib.Core.Path.{_≡_, refl, sym, ap, ap₂, subst, subst₃, _∙_}
 use mathlib.Core.List.{List, [], _∷_}
-use mathlib.Core.Logic.{_⊎_, inl, inr}
 use mathlib.Core.Bool.{Bool, true, false, _&&_, cond}
 use Prim.Native.Nat.{ℕ, zero, suc, _<_}
 use native.Mathlib.Omega.{arith}
@@ -17,6 +16,7 @@ use Rattle.frame.specs.Reader.{Tail}
 use Rattle.journal.specs.Replay.{Object, replay}
 use Rattle.journal.specs.Block.{BlockState, blank, inProgress, valid, foreign, blockState, lastTime}
 use Rattle.journal.proofs.States.{Contents, contents-valid, valid-inv}
+use Rattle.journal.proofs.Raising.{harmless-older}
 use Rattle.wire.specs.declared.Answer.the-variants.{Refused}
 use Rattle.wire.specs.declared.Refusal.{Refusal}
 use Rattle.wire.specs.declared.Refusal.the-variants as refusal
@@ -24,41 +24,33 @@ use Rattle.board.specs.declared.Phase.{Phase}
 use Rattle.board.specs.declared.Phase.the-variants.{Unmounted, Idle, Busy}
 use Rattle.board.specs.Record.{Out, unmounted, refuse, answerIn}
 use Rattle.board.specs.Step.{enterWipe, begin}
-use Rattle.board.specs.Mount.{Found, allFound, anyForeign, Store, stores, wipeList, needsTransfer, mountJob, mountAt, mountOn}
+use Rattle.board.specs.Mount.{allFound, anyForeign, Store, stores, wipeList, needsTransfer, mountJob, mountAt, mountOn}
 use Rattle.board.specs.Claim.{WornOut}
+use Rattle.board.specs.CutFormat.{Beside}
 use Rattle.board.specs.Demand2.{Accepted}
 use Rattle.board.proofs.Images.{Sized, size-of}
-use Rattle.board.proofs.Invariant.{Valid, Quiet, Others, Lesser, quiet, older, Safe, no-valid, some-valid}
+use Rattle.board.proofs.Invariant.{Quiet, Others, Lesser, Safe, no-valid, some-valid}
+use Rattle.board.proofs.Order.{Unread, foundIn}
 use Rattle.board.proofs.Outcomes.{mount-foreign, mount-none, mount-equal, mount-at, mount-worn, mount-begins}
 use Rattle.board.proofs.Current.{Keeps, block-long}
-use Rattle.board.proofs.Erasing.{NoStore, safe-some, safe-or, safe-at, SameValid, same-valid, quiet-not-valid}
+use Rattle.board.proofs.Erasing.{NoStore, SameValid, same-valid}
 
 -- ---- the decision
-
--- a block beside one of a time: not foreign, and if valid of a smaller time
-abbrev pub Older : ℕ → BlockState → Type 0
-Older t blank = Unit {0}
-Older t inProgress = Unit {0}
-Older t (valid u fs c) = u < t
-Older t (foreign e) = ⊥
 
 -- the store that a mount takes
 pub record Taken (s : ℕ) (img : List ℕ) (x : Store) : Type 0 where
   pub there : x .number < blocks
   pub is-valid : blockState (block s (x .number) img) ≡ valid (x .time) (x .frames) (x .tail)
-  pub others : Others (λ j. Older (x .time) (blockState (block s j img))) (x .number)
+  pub others : Others (λ j. Beside (x .time) (blockState (block s j img))) (x .number)
   pub decides : mountOn img ≡ mountAt img (allFound img) x
 
 pub data Decided (s : ℕ) (img : List ℕ) : Type 0 where
-  foreign-block : (j : ℕ) → j < blocks → (e : Fault) → blockState (block s j img) ≡ foreign e → mountOn img ≡ refuse refusal.Foreign img unmounted []
-      → Decided s img
+  foreign-block : (j : ℕ) → j < blocks → (e : Fault) → blockState (block s j img) ≡ foreign e
+      → ((k : ℕ) → k < blocks → Unread (blockState (block s k img))) → mountOn img ≡ refuse refusal.Foreign img unmounted [] → Decided s img
   equal-times : (t : ℕ) (fs gs : List Frame) (c d : Tail) → blockState (block s 0 img) ≡ valid t fs c → blockState (block s 1 img) ≡ valid t gs d
       → mountOn img ≡ refuse refusal.Foreign img unmounted [] → Decided s img
   none-valid : NoStore s img → mountOn img ≡ refuse refusal.NoStore img unmounted [] → Decided s img
   at-store : (x : Store) → Taken s img x → Decided s img
-
-abbrev pub foundIn : BlockState → BlockState → List Found
-foundIn a b = record { number = 0; state = a } ∷ record { number = 1; state = b } ∷ []
 
 abbrev pub store : ℕ → ℕ → List Frame → Tail → Store
 store k t fs c = record { number = k; time = t; frames = fs; tail = c }
@@ -82,35 +74,44 @@ module _ {s : ℕ} {img : List ℕ} (z : Sized s img) where
   quiet-both p q x y (suc (suc j)) h = absurd (omega arith)
 
   neither : NoStore s img → anyForeign (allFound img) ≡ false → stores (allFound img) ≡ [] → Decided s img
-  neither n f e = none-valid n (mount-none img (z .ok) f e)
+  neither n f e = none-valid n (mount-none img (z .ok) e f)
 
-  older-first : (t : ℕ) (a : BlockState) → State0 a → Older t a → Others (λ j. Older t (blockState (block s j img))) 1
-  older-first t a p o zero h n = subst (Older t) (sym p) o
+  unread-both : {a b : BlockState} → State0 a → State1 b → Unread a → Unread b → (k : ℕ) → k < blocks → Unread (blockState (block s k img))
+  unread-both p q x y zero h = subst Unread (sym p) x
+  unread-both p q x y (suc zero) h = subst Unread (sym q) y
+  unread-both p q x y (suc (suc k)) h = absurd (omega arith)
+
+  strange : {a b : BlockState} (j : ℕ) → j < blocks → (e : Fault) → blockState (block s j img) ≡ foreign e → State0 a → State1 b → Unread a → Unread b
+      → stores (foundIn a b) ≡ [] → anyForeign (foundIn a b) ≡ true → Decided s img
+  strange j h e f p q x y n t =
+      foreign-block j h e f (unread-both p q x y) (mount-foreign img (z .ok) (ap stores (all-is p q) ∙ n) (ap anyForeign (all-is p q) ∙ t))
+
+  older-first : (t : ℕ) (a : BlockState) → State0 a → Beside t a → Others (λ j. Beside t (blockState (block s j img))) 1
+  older-first t a p o zero h n = subst (Beside t) (sym p) o
   older-first t a p o (suc zero) h n = absurd (n refl)
   older-first t a p o (suc (suc j)) h n = absurd (omega arith)
 
-  older-second : (t : ℕ) (b : BlockState) → State1 b → Older t b → Others (λ j. Older t (blockState (block s j img))) 0
+  older-second : (t : ℕ) (b : BlockState) → State1 b → Beside t b → Others (λ j. Beside t (blockState (block s j img))) 0
   older-second t b q o zero h n = absurd (n refl)
-  older-second t b q o (suc zero) h n = subst (Older t) (sym q) o
+  older-second t b q o (suc zero) h n = subst (Beside t) (sym q) o
   older-second t b q o (suc (suc j)) h n = absurd (omega arith)
 
   only : (x : Store) → x .number < blocks → blockState (block s (x .number) img) ≡ valid (x .time) (x .frames) (x .tail)
-      → Others (λ j. Older (x .time) (blockState (block s j img))) (x .number)
-      → anyForeign (allFound img) ≡ false → stores (allFound img) ≡ x ∷ [] → Decided s img
-  only x h v o f e = at-store x (record { there = h; is-valid = v; others = o; decides = mount-at img (z .ok) f x [] e refl })
+      → Others (λ j. Beside (x .time) (blockState (block s j img))) (x .number)
+      → stores (allFound img) ≡ x ∷ [] → Decided s img
+  only x h v o e = at-store x (record { there = h; is-valid = v; others = o; decides = mount-at img (z .ok) x [] e refl })
 
   both : (t t′ : ℕ) (fs gs : List Frame) (c d : Tail) → State0 (valid t fs c) → State1 (valid t′ gs d) → Decided s img
   both t t′ fs gs c d p q =
       let x : Store = store 0 t fs c in
       let y : Store = store 1 t′ gs d in
       let all : allFound img ≡ foundIn (valid t fs c) (valid t′ gs d) = all-is p q in
-      let f : anyForeign (allFound img) ≡ false = ap anyForeign all in
       let e : stores (allFound img) ≡ x ∷ y ∷ [] = ap stores all in
       on-test (eqb t t′)
       (λ a. equal-times t fs gs c d p (subst (λ (n : ℕ). State1 (valid n gs d)) (sym (eqb-true t t′ a)) q)
-      (mount-equal img (z .ok) f x (y ∷ []) e (rw a)))
+      (mount-equal img (z .ok) x (y ∷ []) e (rw a)))
       (λ a.
-      let r : mountOn img ≡ mountAt img (allFound img) (cond (ltb t t′) y x) = mount-at img (z .ok) f x (y ∷ []) e (rw a) in
+      let r : mountOn img ≡ mountAt img (allFound img) (cond (ltb t t′) y x) = mount-at img (z .ok) x (y ∷ []) e (rw a) in
       on-test (ltb t t′)
       (λ l. at-store y
       (record {
@@ -128,42 +129,34 @@ module _ {s : ℕ} {img : List ℕ} (z : Sized s img) where
       })))
 
   decide : (a b : BlockState) → State0 a → State1 b → Decided s img
-  decide (foreign e) b p q = foreign-block 0 (omega arith) e p (mount-foreign img (z .ok) (ap anyForeign (all-is p q)))
-  decide blank (foreign e) p q = foreign-block 1 (omega arith) e q (mount-foreign img (z .ok) (ap anyForeign (all-is p q)))
-  decide inProgress (foreign e) p q = foreign-block 1 (omega arith) e q (mount-foreign img (z .ok) (ap anyForeign (all-is p q)))
-  decide (valid t fs c) (foreign e) p q = foreign-block 1 (omega arith) e q (mount-foreign img (z .ok) (ap anyForeign (all-is p q)))
   decide blank blank p q = neither (quiet-both p q tt tt) (ap anyForeign (all-is p q)) (ap stores (all-is p q))
   decide blank inProgress p q = neither (quiet-both p q tt tt) (ap anyForeign (all-is p q)) (ap stores (all-is p q))
   decide inProgress blank p q = neither (quiet-both p q tt tt) (ap anyForeign (all-is p q)) (ap stores (all-is p q))
   decide inProgress inProgress p q = neither (quiet-both p q tt tt) (ap anyForeign (all-is p q)) (ap stores (all-is p q))
-  decide (valid t fs c) blank p q = only (store 0 t fs c) (omega arith) p (older-second t blank q tt) (ap anyForeign (all-is p q)) (ap stores (all-is p q))
-  decide (valid t fs c) inProgress p q =
-      only (store 0 t fs c) (omega arith) p (older-second t inProgress q tt) (ap anyForeign (all-is p q)) (ap stores (all-is p q))
-  decide blank (valid t fs c) p q = only (store 1 t fs c) (omega arith) q (older-first t blank p tt) (ap anyForeign (all-is p q)) (ap stores (all-is p q))
-  decide inProgress (valid t fs c) p q =
-      only (store 1 t fs c) (omega arith) q (older-first t inProgress p tt) (ap anyForeign (all-is p q)) (ap stores (all-is p q))
+  decide (foreign e) blank p q = strange 0 (omega arith) e p p q tt tt refl refl
+  decide (foreign e) inProgress p q = strange 0 (omega arith) e p p q tt tt refl refl
+  decide (foreign e) (foreign f) p q = strange 0 (omega arith) e p p q tt tt refl refl
+  decide blank (foreign e) p q = strange 1 (omega arith) e q p q tt tt refl refl
+  decide inProgress (foreign e) p q = strange 1 (omega arith) e q p q tt tt refl refl
+  decide (valid t fs c) blank p q = only (store 0 t fs c) (omega arith) p (older-second t blank q tt) (ap stores (all-is p q))
+  decide (valid t fs c) inProgress p q = only (store 0 t fs c) (omega arith) p (older-second t inProgress q tt) (ap stores (all-is p q))
+  decide (valid t fs c) (foreign e) p q = only (store 0 t fs c) (omega arith) p (older-second t (foreign e) q tt) (ap stores (all-is p q))
+  decide blank (valid t fs c) p q = only (store 1 t fs c) (omega arith) q (older-first t blank p tt) (ap stores (all-is p q))
+  decide inProgress (valid t fs c) p q = only (store 1 t fs c) (omega arith) q (older-first t inProgress p tt) (ap stores (all-is p q))
+  decide (foreign e) (valid t fs c) p q = only (store 1 t fs c) (omega arith) q (older-first t (foreign e) p tt) (ap stores (all-is p q))
   decide (valid t fs c) (valid t′ gs d) p q = both t t′ fs gs c d p q
 
   pub mount-decides : Decided s img
   mount-decides = decide (blockState (block s 0 img)) (blockState (block s 1 img)) refl refl
 
--- of the store that is taken: it is newer than every other valid block, and no block is foreign
+-- of the store that is taken: it is newer than every other valid block
 module _ {s : ℕ} {img : List ℕ} {x : Store} (z : Sized s img) (y : Taken s img x) where
   at-size : (k : ℕ) (a : BlockState) → blockState (block (sizeOf img) k img) ≡ a → blockState (block s k img) ≡ a
   at-size k a e = subst (λ (n : ℕ). blockState (block n k img) ≡ a) (size-of z) e
 
   pub taken-newest : (k t : ℕ) (fs : List Frame) (c : Tail) → k < blocks → (k ≡ x .number → ⊥) → blockState (block (sizeOf img) k img) ≡ valid t fs c
       → t < x .time
-  taken-newest k t fs c h n e = subst (Older (x .time)) (at-size k (valid t fs c) e) (y .others k h n)
-
-  pub taken-none-foreign : (k : ℕ) (e : Fault) → k < blocks → blockState (block (sizeOf img) k img) ≡ foreign e → ⊥
-  taken-none-foreign k e h p =
-      on-test (eqb k (x .number))
-      (λ t.
-      let q : foreign e ≡ valid (x .time) (x .frames) (x .tail) =
-      sym (at-size k (foreign e) p) ∙ ap (λ (n : ℕ). blockState (block s n img)) (eqb-true k (x .number) t) ∙ y .is-valid in
-      let w : _≡_ {A = ℕ} 0 1 = cc in omega arith)
-      (λ t. subst (Older (x .time)) (at-size k (foreign e) p) (y .others k h (eqb-false k (x .number) t)))
+  taken-newest k t fs c h n e = subst (Beside (x .time)) (at-size k (valid t fs c) e) (y .others k h n)
 
 -- ---- the outcome
 
@@ -229,7 +222,7 @@ mount-accepted {s} {img} z y f = go (mount-decides z)
     at x k (begins t r) = record { store = x; taken = k; holds = taken-holds x z y k; in-time = t; begins = r }
 
     go : Decided s img → Begins s img
-    go (foreign-block j h e p r) = refused r
+    go (foreign-block j h e p o r) = refused r
     go (equal-times t fs gs c d p q r) = refused r
     go (none-valid n r) = refused r
     go (at-store x k) = at x k (mount-outcome x z k (taken-holds x z y k))
@@ -253,7 +246,7 @@ mount-worn-out {s} {img} z y e = go (mount-decides z)
     other r = sym (answer r) ∙ e
 
     go : Decided s img → WornOut img
-    go (foreign-block j h f p r) = let q = other r in let x : _≡_ {A = ℕ} 0 1 = cc in absurd (omega arith)
+    go (foreign-block j h f p o r) = let q = other r in let x : _≡_ {A = ℕ} 0 1 = cc in absurd (omega arith)
     go (equal-times t fs gs c d p q r) = let q = other r in let x : _≡_ {A = ℕ} 0 1 = cc in absurd (omega arith)
     go (none-valid n r) = let q = other r in let x : _≡_ {A = ℕ} 0 1 = cc in absurd (omega arith)
     go (at-store x k) = taken x (mount-outcome x z k (taken-holds x z y k))
@@ -262,52 +255,62 @@ mount-worn-out {s} {img} z y e = go (mount-decides z)
 
 pub data MountSafe (s : ℕ) (img : List ℕ) (os : List Object) (u : Bool) : Type 0 where
   nothing-there : u ≡ true → mountOn img ≡ refuse refusal.NoStore img unmounted [] → MountSafe s img os u
-  store-there : (x : Store) → Taken s img x → StoreThere s img x → Keeps s (replay (x .frames)) os → Safe s img os false → MountSafe s img os u
+  store-there : (x : Store) → Taken s img x → StoreThere s img x → Keeps s (replay (x .frames)) os → Others (Lesser s img (x .time)) (x .number)
+      → MountSafe s img os u
 
 pub mount-safe : {s : ℕ} {img : List ℕ} {os : List Object} {u : Bool} → Sized s img → Safe s img os u → MountSafe s img os u
-mount-safe {s} {img} {os} {u} z f = go (mount-decides z)
+mount-safe {s} {img} {os} {u} z (no-valid e n) = go (mount-decides z)
   where
-    not-foreign : (j : ℕ) (e : Fault) → blockState (block s j img) ≡ foreign e → Quiet (blockState (block s j img)) ⊎ Valid s img j os → ⊥
-    not-foreign j e p (inl q) = subst Quiet p q
-    not-foreign j e p (inr v) =
-        let c : valid (v .time) (v .frames) (v .tail) ≡ foreign e = sym (contents-valid (v .contents)) ∙ p in
-        let y : _≡_ {A = ℕ} 0 1 = cc in omega arith
+    go : Decided s img → MountSafe s img os u
+    go (foreign-block j h f p o r) = absurd (subst Quiet p (n j h))
+    go (equal-times t fs gs c d p q r) = absurd (subst Quiet p (n 0 (omega arith)))
+    go (none-valid _ r) = nothing-there e r
+    go (at-store x k) = absurd (subst Quiet (k .is-valid) (n (x .number) (k .there)))
+mount-safe {s} {img} {os} {u} z (some-valid k h v q) = go (mount-decides z)
+  where
+    here : blockState (block s k img) ≡ valid (v .time) (v .frames) (v .tail)
+    here = contents-valid (v .contents)
 
-    -- a block of the newest's time is not beside it
-    clash : {k j t : ℕ} {fs gs : List Frame} {c d : Tail} (v : Valid s img k os) → Lesser s img (v .time) os j
-        → blockState (block s k img) ≡ valid t fs c → blockState (block s j img) ≡ valid t gs d → ⊥
-    clash {k} {j} {t} {fs} {gs} {c} {d} v (quiet x) p q = quiet-not-valid (blockState (block s j img)) t gs d x q
-    clash v (older w l) p q =
-        let e : v .time ≡ _ = same-valid (sym (contents-valid (v .contents)) ∙ p) .time in
-        let f : w .time ≡ _ = same-valid (sym (contents-valid (w .contents)) ∙ q) .time in omega arith
-
-    not-equal : (t : ℕ) (fs gs : List Frame) (c d : Tail) → blockState (block s 0 img) ≡ valid t fs c → blockState (block s 1 img) ≡ valid t gs d
-        → Safe s img os u → ⊥
-    not-equal t fs gs c d p q (no-valid e n) = quiet-not-valid (blockState (block s 0 img)) t fs c (n 0 (omega arith)) p
-    not-equal t fs gs c d p q (some-valid k h v n) =
+    -- two of one time: one of them is beside the other
+    twice : (t : ℕ) (fs gs : List Frame) (c d : Tail) → blockState (block s 0 img) ≡ valid t fs c → blockState (block s 1 img) ≡ valid t gs d → ⊥
+    twice t fs gs c d a b =
         on-test (eqb k 0)
-        (λ a. let e : k ≡ 0 = eqb-true k 0 a in clash v (n 1 (omega arith) (λ b. omega arith)) (ap (λ (i : ℕ). blockState (block s i img)) e ∙ p) q)
-        (λ a. let e : k ≡ 1 = omega (arith, eqb-false k 0 a) in
-        clash v (n 0 (omega arith) (λ b. eqb-false k 0 a (sym b))) (ap (λ (i : ℕ). blockState (block s i img)) e ∙ q) p)
+        (λ e.
+        let f : k ≡ 0 = eqb-true k 0 e in
+        omega (
+          arith,
+          same-valid (sym here ∙ ap (λ (i : ℕ). blockState (block s i img)) f ∙ a) .time,
+          harmless-older (block s 1 img) (q 1 (omega arith) (λ g. omega arith)) b,
+        ))
+        (λ e.
+        let f : k ≡ 1 = omega (arith, eqb-false k 0 e) in
+        omega (
+          arith,
+          same-valid (sym here ∙ ap (λ (i : ℕ). blockState (block s i img)) f ∙ b) .time,
+          harmless-older (block s 0 img) (q 0 (omega arith) (λ g. omega arith)) a,
+        ))
 
-    none : NoStore s img → mountOn img ≡ refuse refusal.NoStore img unmounted [] → Safe s img os false ⊎ ((u ≡ true) × NoStore s img)
-        → MountSafe s img os u
-    none n r (inl g) = absurd (safe-some g n)
-    none n r (inr (e, q)) = nothing-there e r
+    -- the store that is taken is the one that is there
+    at : (x : Store) → Taken s img x → x .number ≡ k → MountSafe s img os u
+    at x y e =
+        let m : SameValid (v .time) (v .frames) (v .tail) (x .time) (x .frames) (x .tail) =
+        same-valid (sym here ∙ ap (λ (i : ℕ). blockState (block s i img)) (sym e) ∙ y .is-valid) in
+        store-there x y
+        (subst (λ (i : ℕ). Contents (block s i img) (x .time) (x .frames) (x .tail)) (sym e)
+        (subst₃ (Contents (block s k img)) (m .time) (m .frames) (m .tail) (v .contents)))
+        (subst (λ (fs : List Frame). Keeps s (replay fs) os) (m .frames) (record { room = v .room; same = v .same }))
+        (λ j l n. subst (λ (t : ℕ). Lesser s img t j) (m .time) (q j l (λ d. n (d ∙ sym e))))
 
-    safe-now : (x : Store) → Taken s img x → Safe s img os false ⊎ ((u ≡ true) × NoStore s img) → Safe s img os false
-    safe-now x k (inl g) = g
-    safe-now x k (inr (e, n)) = quiet-not-valid (blockState (block s (x .number) img)) (x .time) (x .frames) (x .tail) (n (x .number) (k .there)) (k .is-valid)
-
-    at : (x : Store) → Taken s img x → Quiet (blockState (block s (x .number) img)) ⊎ Valid s img (x .number) os → MountSafe s img os u
-    at x k (inl q) = quiet-not-valid (blockState (block s (x .number) img)) (x .time) (x .frames) (x .tail) q (k .is-valid)
-    at x k (inr v) =
-        let m : SameValid (v .time) (v .frames) (v .tail) (x .time) (x .frames) (x .tail) = same-valid (sym (contents-valid (v .contents)) ∙ k .is-valid) in
-        store-there x k (subst₃ (Contents (block s (x .number) img)) (m .time) (m .frames) (m .tail) (v .contents))
-        (subst (λ (fs : List Frame). Keeps s (replay fs) os) (m .frames) (record { room = v .room; same = v .same })) (safe-now x k (safe-or f))
+    other : (x : Store) → Taken s img x → (x .number ≡ k → ⊥) → MountSafe s img os u
+    other x y n =
+        absurd (omega (
+          arith,
+          harmless-older (block s (x .number) img) (q (x .number) (y .there) n) (y .is-valid),
+          subst (Beside (x .time)) here (y .others k h (λ e. n (sym e))),
+        ))
 
     go : Decided s img → MountSafe s img os u
-    go (foreign-block j h e p r) = absurd (not-foreign j e p (safe-at j h f))
-    go (equal-times t fs gs c d p q r) = absurd (not-equal t fs gs c d p q f)
-    go (none-valid n r) = none n r (safe-or f)
-    go (at-store x k) = at x k (safe-at (x .number) (k .there) f)
+    go (foreign-block j l f p o r) = absurd (subst Unread here (o k h))
+    go (equal-times t fs gs c d a b r) = absurd (twice t fs gs c d a b)
+    go (none-valid n r) = absurd (subst Quiet here (n k h))
+    go (at-store x y) = on-test (eqb (x .number) k) (λ e. at x y (eqb-true (x .number) k e)) (λ e. other x y (eqb-false (x .number) k e))

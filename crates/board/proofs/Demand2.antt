@@ -43,7 +43,7 @@ use Rattle.board.proofs.Lengths.{length-format}
 use Rattle.board.proofs.Replies.{journal-of}
 use Rattle.board.proofs.Refusals.{refusals-untouched, at-most-one-step}
 use Rattle.board.proofs.Formatting.{format-lands, format-ends}
-use Rattle.board.proofs.Deciding.{Begins, mount-accepted, taken-newest, taken-none-foreign}
+use Rattle.board.proofs.Deciding.{Begins, mount-accepted, taken-newest}
 use Rattle.board.proofs.Mounting.{mount-lands, mount-ends, mount-short}
 use Rattle.board.proofs.Planning.{jobOf, Met, refused, done, begun, request-met, frame-begins}
 
@@ -87,7 +87,6 @@ one-store img r by ok a =
       there = y .taken .there;
       is-valid = y .taken .is-valid;
       newest = taken-newest z (y .taken);
-      none-foreign = taken-none-foreign z (y .taken);
       last = last z y;
       is-last = refl;
       follows = mount-follows z y;

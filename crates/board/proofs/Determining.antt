@@ -8,9 +8,10 @@ use Prim.Native.Nat.{ℕ, _-_, _/_, _≤_, _<_}
 use native.Mathlib.Omega.{arith}
 use lib.ListN.{length}
 use Rattle.flash.specs.Bytes.{Bytes}
-use Rattle.flash.specs.Flash.{Step, apply, block, blocks, sizeOf}
+use Rattle.flash.specs.Flash.{Step, apply, block, blocks, sizeOf, withBlock}
 use Rattle.flash.proofs.Cases.{on-test, clash}
 use Rattle.flash.proofs.Image.{length-apply, bytes-apply}
+use Rattle.flash.proofs.Raising.{bytes-with}
 use Rattle.frame.specs.declared.Host.{Host}
 use Rattle.frame.specs.Frame.{Frame}
 use Rattle.journal.specs.Block.{headerLen}
@@ -32,10 +33,10 @@ use Rattle.board.specs.Plan.{Follows, formatPlan, mountPlan, mountedAt, 
 use Rattle.board.specs.Table.{frameFor, Line, line, Exactly, Allowed, InJob, Fresh, FreshExact, requestLines, mountLines, linesOf}
 use Rattle.board.specs.Demand1.{Rests}
 use Rattle.board.specs.Demand2.{Accepted}
-use Rattle.board.specs.Claim.{ByteCall, ByteCalls}
+use Rattle.board.specs.Claim.{ByteCall, Begins, Event, call, cutErase}
 use Rattle.wire.specs.Sentences.{Means, MessagesExact, MalformedExact}
 use Rattle.board.specs.Promise.{Machine, replyFor, Answers, Serves, Job, frame-job, mount-job, format-job, Calls, Shown, restingIn}
-use Rattle.board.specs.Promise.{shownRecord, shown, trace, Begins, PromiseDetermines, PromiseDeterminesFrom, PromiseDeterminesCall}
+use Rattle.board.specs.Promise.{shownRecord, shown, trace, ByteEvents, PromiseDetermines, PromiseDeterminesFrom, PromiseDeterminesCall}
 use Rattle.board.proofs.Answering.{number-injective, number-accepted, Both, both-taken, both-refused, same-lines, told-answer}
 use Rattle.board.proofs.Answering.{whole, whole-is, in-job, same-stretch}
 use Rattle.board.proofs.Tabling.{is-allowed}
@@ -320,22 +321,28 @@ module _ {m n : Machine} (pm : Calls m) (pn : Calls n) (img : List ℕ) (by : By
 
 module _ {m n : Machine} (pm : Calls m) (pn : Calls n) where
   agree-run : (o p : Out) → Agree m n o p
-      → (cs : List Call) → trace m (o .image) (o .board) cs ≡ trace n (o .image) (p .board) cs
-      → shown o ∷ trace m (o .image) (o .board) cs ≡ shown p ∷ trace n (p .image) (p .board) cs
-  agree-run o p y cs e =
-      ap₂ (λ (x : Shown) (xs : List Shown). x ∷ xs) (y .same) (e ∙ ap (λ (i : List ℕ). trace n i (p .board) cs) (y .image))
-
-  run-agrees : (img : List ℕ) (r q : Record) → Bytes img → Alike m n img r q → (cs : List Call) → ByteCalls cs → trace m img r cs ≡ trace n img q cs
-  run-agrees img r q by v [] bs = refl
-  run-agrees img r q by v (c ∷ cs) (bc, bs) =
-      let y : Agree m n (m img r c) (n img q c) = call-agrees pm pn img by r q v c bc in
-      agree-run (m img r c) (n img q c) y cs (run-agrees (m img r c .image) (m img r c .board) (n img q c .board) (y .bytes) (y .next) cs bs)
+      → (es : List Event) → trace m (o .image) (o .board) es ≡ trace n (o .image) (p .board) es
+      → shown o ∷ trace m (o .image) (o .board) es ≡ shown p ∷ trace n (p .image) (p .board) es
+  agree-run o p y es e =
+      ap₂ (λ (x : Shown) (xs : List Shown). x ∷ xs) (y .same) (e ∙ ap (λ (i : List ℕ). trace n i (p .board) es) (y .image))
 
   pub begun-agrees : (img : List ℕ) (r q : Record) (c : Call) → Bytes img → Begins c → Agree m n (m img r c) (n img q c)
   begun-agrees img r q (request h msg reply) by b = absurd b
   begun-agrees img r q step by b = absurd b
   begun-agrees img r q mount by b = mount-agrees pm pn img by r q
   begun-agrees img r q format by b = format-agrees pm pn img by r q
+
+  run-agrees : (img : List ℕ) (r q : Record) → Bytes img → Alike m n img r q → (es : List Event) → ByteEvents es → trace m img r es ≡ trace n img q es
+  run-agrees img r q by v [] bs = refl
+  run-agrees img r q by v (call c ∷ es) (bc, bs) =
+      let y : Agree m n (m img r c) (n img q c) = call-agrees pm pn img by r q v c bc in
+      agree-run (m img r c) (n img q c) y es (run-agrees (m img r c .image) (m img r c .board) (n img q c .board) (y .bytes) (y .next) es bs)
+  run-agrees img r q by v (cutErase k new g ∷ []) bs = refl
+  run-agrees img r q by v (cutErase k new g ∷ call c ∷ es) (bn, b, (bc, bs)) =
+      let i : List ℕ = withBlock (sizeOf img) k new img in
+      let y : Agree m n (m i g c) (n i g c) = begun-agrees i g g c (bytes-with (sizeOf img) k new img bn by) b in
+      agree-run (m i g c) (n i g c) y es (run-agrees (m i g c .image) (m i g c .board) (n i g c .board) (y .bytes) (y .next) es bs)
+  run-agrees img r q by v (cutErase k new g ∷ cutErase j more f ∷ es) (bn, b, bs) = absurd b
 
   -- on any record
   lone-request : (img : List ℕ) (r : Record) (h : Host) (msg reply : List ℕ) → Bytes img → Bytes msg
@@ -363,14 +370,14 @@ module _ {m n : Machine} (pm : Calls m) (pn : Calls n) where
 
 pub promise-determines : PromiseDetermines
 unfolding PromiseDetermines
-promise-determines m n pm pn img r q c cs by b bs =
+promise-determines m n pm pn img r q c es by b bs =
     let y : Agree m n (m img r c) (n img q c) = begun-agrees (pm .calls) (pn .calls) img r q c by b in
-    agree-run (pm .calls) (pn .calls) (m img r c) (n img q c) y cs
-    (run-agrees (pm .calls) (pn .calls) (m img r c .image) (m img r c .board) (n img q c .board) (y .bytes) (y .next) cs bs)
+    agree-run (pm .calls) (pn .calls) (m img r c) (n img q c) y es
+    (run-agrees (pm .calls) (pn .calls) (m img r c .image) (m img r c .board) (n img q c .board) (y .bytes) (y .next) es bs)
 
 pub promise-determines-from : PromiseDeterminesFrom
 unfolding PromiseDeterminesFrom
-promise-determines-from m n pm pn img r cs by h bs = run-agrees (pm .calls) (pn .calls) img r r by (resting h refl) cs bs
+promise-determines-from m n pm pn img r es by h bs = run-agrees (pm .calls) (pn .calls) img r r by (resting h refl) es bs
 
 pub promise-determines-call : PromiseDeterminesCall
 unfolding PromiseDeterminesCall

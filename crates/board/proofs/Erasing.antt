@@ -6,23 +6,23 @@ use mathlib.Core.Bool.{Bool, true, false, false≢true}
 use Prim.Native.Nat.{ℕ, zero, suc, _<_}
 use native.Mathlib.Omega.{arith}
 use lib.Dec.{eqb}
-use lib.ListN.{replicate}
+use lib.ListN.{length, replicate, length-replicate}
 use borrow.Author.Tests.{eqb-true, eqb-false}
-use Rattle.flash.specs.Flash.{erase, eraseBlock, applyAll, block, blocks}
+use Rattle.flash.specs.Flash.{erase, withBlock, eraseBlock, applyAll, block, blocks}
 use Rattle.flash.proofs.Cases.{on-test}
 use Rattle.flash.proofs.Image.{length-erase, block-erase, other-erase}
+use Rattle.flash.proofs.Raising.{block-with, other-with}
 use Rattle.frame.specs.Frame.{Frame}
 use Rattle.frame.specs.Reader.{Tail}
 use Rattle.journal.specs.Replay.{Object}
 use Rattle.journal.specs.Block.{BlockState, valid, blockState}
 use Rattle.journal.proofs.States.{Contents, contents-valid}
+use Rattle.journal.proofs.Raising.{Harmless, harmless-raised, blank-harmless}
 use Rattle.board.proofs.Blocks.{Blocks, Besides, besides-blocks, besides-kept}
-use Rattle.board.specs.Mount.{nextBlock}
-use Rattle.board.proofs.Numbers.{next-there, next-other, next-only}
 use Rattle.board.proofs.Images.{Sized, sized-as, sized-block, length-all-steps}
-use Rattle.board.proofs.Invariant.{Valid, Quiet, Others, Lesser, quiet, older, Safe, no-valid, some-valid, StepLands}
+use Rattle.board.proofs.Invariant.{Valid, Quiet, Others, Lesser, Safe, no-valid, some-valid, CutSafe, Guard, StepLands}
 use Rattle.board.proofs.Prefixes.{Each}
-use Rattle.board.proofs.Current.{Alone, blank-quiet}
+use Rattle.board.proofs.Current.{Alone, block-long, blank-quiet}
 
 -- ---- a block that stays
 
@@ -64,19 +64,6 @@ safe-some (no-valid e q) n = false≢true e
 safe-some {s} {img} (some-valid k h v q) n =
     quiet-not-valid (blockState (block s k img)) (v .time) (v .frames) (v .tail) (n k h) (contents-valid (v .contents))
 
--- every block of it is quiet, or valid with the objects
-pub safe-at : {s : ℕ} {img : List ℕ} {os : List Object} {u : Bool} (j : ℕ) → j < blocks → Safe s img os u
-    → Quiet (blockState (block s j img)) ⊎ Valid s img j os
-safe-at j h (no-valid e q) = inl (q j h)
-safe-at {s} {img} {os} j h (some-valid k l v q) =
-    on-test (eqb j k)
-    (λ t. inr (subst (λ (n : ℕ). Valid s img n os) (sym (eqb-true j k t)) v))
-    (λ t. go (q j h (eqb-false j k t)))
-  where
-    go : Lesser s img (v .time) os j → Quiet (blockState (block s j img)) ⊎ Valid s img j os
-    go (quiet x) = inl x
-    go (older w e) = inr w
-
 -- a valid state's parts
 pub record SameValid (t : ℕ) (fs : List Frame) (c : Tail) (t′ : ℕ) (fs′ : List Frame) (c′ : Tail) : Type 0 where
   pub time : t ≡ t′
@@ -103,35 +90,50 @@ module _ {s : ℕ} {img : List ℕ} (z : Sized s img) (k : ℕ) (h : k < blocks)
       blank-quiet s (block s j (eraseBlock s k img)) e)
       (λ t. quiet-kept (block s j img) (block s j (eraseBlock s k img)) (other-erase s j k img (eqb-false j k t)) (q (eqb-false j k t)))
 
-  -- a block stays what it is beside another, or is blank
-  lesser-erase : {t : ℕ} {os : List Object} (j : ℕ) → ((j ≡ k → ⊥) → Lesser s img t os j) → Lesser s (eraseBlock s k img) t os j
-  lesser-erase {t} {os} j q =
-      on-test (eqb j k) (λ a. quiet (quiet-erase j (λ n. absurd (n (eqb-true j k a))))) (λ a. go (eqb-false j k a) (q (eqb-false j k a)))
-    where
-      go : (j ≡ k → ⊥) → Lesser s img t os j → Lesser s (eraseBlock s k img) t os j
-      go n (quiet x) = quiet (quiet-erase j (λ d. x))
-      go n (older w e) = older (valid-kept (eraseBlock s k img) (other-erase s j k img n) w) e
+-- ---- a block beside the current one gets other bytes
 
-  -- a valid block other than the one erased, with the rest beside it
-  one-left : {os : List Object} (m : ℕ) → m < blocks → (m ≡ k → ⊥) → (v : Valid s img m os)
-      → ((j : ℕ) → j < blocks → (j ≡ k → ⊥) → (j ≡ m → ⊥) → Lesser s img (v .time) os j) → Safe s (eraseBlock s k img) os false
-  one-left m l n v q =
-      some-valid m l (valid-kept (eraseBlock s k img) (other-erase s m k img n) v) (λ j g d. lesser-erase j (λ e. q j g e d))
+-- m is the current block, and k is not
+module _ {s : ℕ} {img : List ℕ} {os : List Object} (z : Sized s img) (m k : ℕ) (l : m < blocks) (h : k < blocks) (d : m ≡ k → ⊥) (v : Valid s img m os)
+    (q : Others (Lesser s img (v .time)) m) (new : List ℕ) (long : length new ≡ s) (y : Harmless (v .time) new) where
+  abbrev pub still : Valid s (withBlock s k new img) m os
+  still = valid-kept (withBlock s k new img) (other-with s k new img (sized-block k z h) long m d) v
 
-  -- the objects are still there, or no store
-  pub erase-leaves : {os : List Object} {u : Bool} → Safe s img os u → Safe s (eraseBlock s k img) os false ⊎ NoStore s (eraseBlock s k img)
-  erase-leaves (no-valid e q) = inr (λ j g. quiet-erase j (λ n. q j g))
-  erase-leaves {os} (some-valid m l v q) =
-      on-test (eqb m k) (λ t. newest (eqb-true m k t) (q (nextBlock m) (next-there m l) (next-other m l)))
-      (λ t. inl (one-left m l (eqb-false m k t) v (λ j g n d. q j g d)))
-    where
-      -- the newest is erased: of two blocks the other alone can be valid
-      newest : m ≡ k → Lesser s img (v .time) os (nextBlock m) → Safe s (eraseBlock s k img) os false ⊎ NoStore s (eraseBlock s k img)
-      newest e (quiet x) =
-          inr (λ j g. quiet-erase j (λ n. subst (λ (i : ℕ). Quiet (blockState (block s i img))) (sym (next-only m l j g (λ d. n (d ∙ e)))) x))
-      newest e (older w _) =
-          inl (one-left (nextBlock m) (next-there m l) (λ d. next-other m l (d ∙ sym e)) w
-          (λ j g n d. absurd (d (next-only m l j g (λ c. n (c ∙ e))))))
+  pub still-lesser : Others (Lesser s (withBlock s k new img) (v .time)) m
+  still-lesser j g n =
+      on-test (eqb j k)
+      (λ t. subst (Harmless (v .time))
+      (sym (ap (λ (i : ℕ). block s i (withBlock s k new img)) (eqb-true j k t) ∙ block-with s k new img (sized-block k z h) long)) y)
+      (λ t. subst (Harmless (v .time)) (sym (other-with s k new img (sized-block k z h) long j (eqb-false j k t))) (q j g n))
+
+  pub still-safe : (u : Bool) → Safe s (withBlock s k new img) os u
+  still-safe u = some-valid m l still still-lesser
+
+module _ {s : ℕ} {img : List ℕ} {os : List Object} (z : Sized s img) (m k : ℕ) (l : m < blocks) (h : k < blocks) (d : m ≡ k → ⊥) (v : Valid s img m os)
+    (q : Others (Lesser s img (v .time)) m) where
+  -- its erase is cut
+  pub cut-safe : (u : Bool) → CutSafe s os u (erase k) img
+  cut-safe u new r =
+      still-safe z m k l h d v q new (r .long ∙ block-long k z h) (harmless-raised (v .time) (block s k img) new r (q k h (λ e. d (sym e)))) u
+
+  ones : List ℕ
+  ones = replicate (length (block s k img)) 255
+
+  ones-long : length ones ≡ s
+  unfolding ones
+  ones-long = length-replicate (length (block s k img)) 255 ∙ block-long k z h
+
+  ones-harmless : Harmless (v .time) ones
+  unfolding ones
+  ones-harmless = blank-harmless s (v .time) ones (omega (arith, z .low)) (ap (λ (n : ℕ). replicate n 255) (block-long k z h))
+
+  -- it is erased
+  pub erase-lesser : Others (Lesser s (eraseBlock s k img) (v .time)) m
+  unfolding ones
+  erase-lesser = still-lesser z m k l h d v q ones ones-long ones-harmless
+
+  pub erase-safe : (u : Bool) → Safe s (eraseBlock s k img) os u
+  unfolding ones
+  erase-safe u = still-safe z m k l h d v q ones ones-long ones-harmless u
 
 -- ---- erases of a list of blocks
 
@@ -160,25 +162,15 @@ erases-land s [] img j h = absurd (omega arith)
 erases-land s (k ∷ ks) img zero h = tt
 erases-land s (k ∷ ks) img (suc j) h = erases-land s ks (eraseBlock s k img) j (omega arith)
 
--- another block than a valid one
-pub safe-erase-other : {s : ℕ} {img : List ℕ} {os : List Object} {u : Bool} → Sized s img → (n k : ℕ) → n < blocks → k < blocks → (n ≡ k → ⊥)
-    → Valid s img n os → Safe s img os u → Safe s (eraseBlock s k img) os u
-safe-erase-other {s} {img} {os} {u} z n k l h d v f = go (erase-leaves z k h f)
-  where
-    go : Safe s (eraseBlock s k img) os false ⊎ NoStore s (eraseBlock s k img) → Safe s (eraseBlock s k img) os u
-    go (inl x) = safe-more u x
-    go (inr q) =
-        quiet-not-valid (blockState (block s n (eraseBlock s k img))) (v .time) (v .frames) (v .tail) (q n l)
-        (ap blockState (other-erase s n k img d) ∙ contents-valid (v .contents))
-
-pub erases-safe : {s : ℕ} {os : List Object} {u : Bool} (n : ℕ) (ks : List ℕ) (img : List ℕ) → Sized s img → n < blocks → Besides n ks
-    → Valid s img n os → Safe s img os u → Each s (λ y i. Safe s i os u) (map erase ks) img
+-- others than the current one: cut or not, each keeps what a mount finds
+pub erases-guard : {s : ℕ} {os : List Object} (u : Bool) (n : ℕ) (ks : List ℕ) (img : List ℕ) → Sized s img → n < blocks → Besides n ks
+    → (v : Valid s img n os) → Others (Lesser s img (v .time)) n → Each s (Guard s os u) (map erase ks) img
 unfolding applyAll
-erases-safe n [] img z l b v f j h = absurd (omega arith)
-erases-safe n (k ∷ ks) img z l (g, d, b) v f zero h = f
-erases-safe {s} n (k ∷ ks) img z l (g, d, b) v f (suc j) h =
-    erases-safe n ks (eraseBlock s k img) (sized-erase z k g) l b (valid-kept (eraseBlock s k img) (other-erase s n k img d) v)
-    (safe-erase-other z n k l g d v f) j (omega arith)
+erases-guard u n [] img z l b v q j h = absurd (omega arith)
+erases-guard u n (k ∷ ks) img z l (g, d, b) v q zero h = (some-valid n l v q, cut-safe z n k l g d v q u)
+erases-guard {s} u n (k ∷ ks) img z l (g, d, b) v q (suc j) h =
+    erases-guard u n ks (eraseBlock s k img) (sized-erase z k g) l b (valid-kept (eraseBlock s k img) (other-erase s n k img d) v)
+    (erase-lesser z n k l g d v q) j (omega arith)
 
 -- the valid block is then alone
 pub erases-alone : {s : ℕ} {n t : ℕ} {fs : List Frame} {c : Tail} (ks : List ℕ) (img : List ℕ) → Sized s img → n < blocks

@@ -8,7 +8,8 @@ use Prim.Native.Nat.{ℕ, zero, suc, _-_}
 use native.Mathlib.Omega.{arith}
 use lib.ListN.{length, take}
 use Rattle.flash.specs.Bytes.{Bytes}
-use Rattle.flash.specs.Flash.{Step, applyAll, sizeOf}
+use Rattle.flash.specs.Flash.{Step, applyAll, sizeOf, withBlock}
+use Rattle.flash.proofs.Raising.{bytes-with}
 use Rattle.frame.specs.Frame.{Frame}
 use Rattle.journal.specs.Replay.{lookup}
 use Rattle.wire.specs.declared.Answer.{Answer}
@@ -29,15 +30,17 @@ use Rattle.board.specs.Plan.{Follows, mountedAt, framedAt}
 use Rattle.board.specs.Demand1.{Rests}
 use Rattle.board.specs.Demand2.{Accepted}
 use Rattle.board.specs.Book.{Book, firstBook, enterCall}
-use Rattle.board.specs.Claim.{AgreesIn, Agrees, ReadSays, RequestSays, Says, track, Run, stepsOn, formatted, ByteCall, ByteCalls, Claim}
+use Rattle.board.specs.Table.{InJob}
+use Rattle.board.specs.Claim.{AgreesIn, Agrees, ReadSays, RequestSays, Says, track, ByteCall, Event, call, cutErase, CutsErase, Happens}
+use Rattle.board.specs.Claim.{Run, stepsOn, formatted, HappensFrom, Claim}
 use Rattle.board.specs.CutFormat.{Left, afterAll, leftBy, Leaves, CutFormat}
 use Rattle.board.specs.Promise.{Job, frame-job, mount-job, format-job, StepsOf, Calls, Shown, shown}
 use Rattle.board.proofs.Keeping.{more-busy}
 use Rattle.board.proofs.Claiming.{claim}
 use Rattle.board.proofs.CutFormat.{cut-format}
 use Rattle.board.proofs.Stepping.{follows-steps, follows-part, follows-more}
-use Rattle.board.proofs.Answering.{told-answer}
-use Rattle.board.proofs.Determining.{Alike, resting, working, Agree, call-agrees, format-agrees}
+use Rattle.board.proofs.Answering.{told-answer, in-job}
+use Rattle.board.proofs.Determining.{Alike, resting, working, Agree, call-agrees, format-agrees, begun-agrees}
 use Rattle.board.proofs.Promising.{calls}
 
 -- ---- the k-th step call
@@ -166,18 +169,86 @@ module _ {m : Machine} (p : Calls m) where
   answers-over : {o x : Out} → Both o x → o .answer ≡ x .answer
   answers-over y = ap (λ (s : Shown). s .answer) (y .same)
 
-  run-over : (img : List ℕ) (r q : Record) (b : Book) (u : Bool) → Bytes img → Same img r q → (cs : List Call) → ByteCalls cs → Run exec img q b u cs
-      → Run m img r b u cs
-  run-over img r q b u by v [] bs y = agrees-over img r q b v y
-  run-over img r q b u by v (c ∷ cs) (bc, bs) (y, s, z) =
+  -- a cut inside an erase: the other machine erases there too
+  cut-over : (img : List ℕ) (r q : Record) (b : Book) (k : ℕ) (new : List ℕ) → Bytes img → Same img r q → CutsErase m img r b k new
+      → CutsErase exec img q b k new
+  cut-over img r q b k new by v c =
+      record {
+        in-job = busy v;
+        no-format = c .no-format;
+        there = c .there;
+        erases = sym (call-agrees p calls img by r q v step tt .image) ∙ c .erases;
+        raised = c .raised;
+      }
+    where
+      busy : Same img r q → InJob (q .phase)
+      busy (resting h e) = subst (λ (x : Record). InJob (x .phase)) e (c .in-job)
+      busy (working x xs z h l f g) = in-job (q .phase) (g .0)
+
+  cut-bytes : {img : List ℕ} {r : Record} {b : Book} {k : ℕ} {new : List ℕ} → Bytes img → CutsErase m img r b k new
+      → Bytes (withBlock (sizeOf img) k new img)
+  cut-bytes {img} {r} {b} {k} {new} by c = bytes-with (sizeOf img) k new img (c .raised .bytes) by
+
+  -- what holds by the image and the answer that the one gives back holds by those of the other
+  carry : (P : List ℕ → Answer → Type 0) {o x : Out} → Both o x → P (o .image) (o .answer) → P (x .image) (x .answer)
+  carry P w y = subst₂ P (w .image) (answers-over w) y
+
+  carry-back : (P : List ℕ → Answer → Type 0) {o x : Out} → Both o x → P (x .image) (x .answer) → P (o .image) (o .answer)
+  carry-back P w y = subst₂ P (sym (w .image)) (sym (answers-over w)) y
+
+  happens-over : (img : List ℕ) (r q : Record) (b : Book) → Bytes img → Same img r q → (es : List Event) → Happens m img r b es → Happens exec img q b es
+  happens-over img r q b by v [] h = tt
+  happens-over img r q b by v (call c ∷ es) (bc, h) =
       let o : Out = m img r c in
       let x : Out = exec img q c in
       let w : Both o x = call-agrees p calls img by r q v c bc in (
-        agrees-over img r q b v y,
-        says-over img r q b u c o x (w .same) (same-idle v) s,
-        run-over (o .image) (o .board) (x .board) (enterCall b c (o .answer)) (track u b c (o .answer)) (w .bytes) (w .next) cs bs
-            (subst₂ (λ (i : List ℕ) (a : Answer). Run exec i (x .board) (enterCall b c a) (track u b c a) cs) (sym (w .image)) (sym (answers-over w)) z),
+        bc,
+        carry (λ i a. Happens exec i (x .board) (enterCall b c a) es) w
+            (happens-over (o .image) (o .board) (x .board) (enterCall b c (o .answer)) (w .bytes) (w .next) es h),
       )
+  happens-over img r q b by v (cutErase k new g ∷ []) (x, n, h) = (cut-over img r q b k new by v x, n, h)
+  happens-over img r q b by v (cutErase k new g ∷ call c ∷ es) (y, n, (bc, h)) =
+      let i : List ℕ = withBlock (sizeOf img) k new img in
+      let o : Out = m i g c in
+      let x : Out = exec i g c in
+      let w : Both o x = begun-agrees p calls i g g c (cut-bytes by y) n in (
+        cut-over img r q b k new by v y,
+        n,
+        (
+          bc,
+          carry (λ l a. Happens exec l (x .board) (enterCall b c a) es) w
+              (happens-over (o .image) (o .board) (x .board) (enterCall b c (o .answer)) (w .bytes) (w .next) es h),
+        ),
+      )
+  happens-over img r q b by v (cutErase k new g ∷ cutErase j more y ∷ es) (x, n, h) = absurd n
+
+  -- a call that both answer alike says of the one what it says of the other, and so on from there
+  run-over : (img : List ℕ) (r q : Record) (b : Book) (u : Bool) → Bytes img → Same img r q → (es : List Event) → Happens m img r b es
+      → Run exec img q b u es → Run m img r b u es
+  run-over img r q b u by v [] h y = tt
+  run-over img r q b u by v (call c ∷ es) (bc, h) (s, y, z) =
+      let o : Out = m img r c in
+      let x : Out = exec img q c in
+      let w : Both o x = call-agrees p calls img by r q v c bc in (
+        says-over img r q b u c o x (w .same) (same-idle v) s,
+        agrees-over (o .image) (o .board) (x .board) (enterCall b c (o .answer)) (w .next)
+            (carry-back (λ i a. Agrees exec i (x .board) (enterCall b c a)) w y),
+        run-over (o .image) (o .board) (x .board) (enterCall b c (o .answer)) (track u b c (o .answer)) (w .bytes) (w .next) es h
+            (carry-back (λ i a. Run exec i (x .board) (enterCall b c a) (track u b c a) es) w z),
+      )
+  run-over img r q b u by v (cutErase k new g ∷ []) (x, n, h) y = tt
+  run-over img r q b u by v (cutErase k new g ∷ call c ∷ es) (d, n, (bc, h)) (s, y, z) =
+      let i : List ℕ = withBlock (sizeOf img) k new img in
+      let o : Out = m i g c in
+      let x : Out = exec i g c in
+      let w : Both o x = begun-agrees p calls i g g c (cut-bytes by d) n in (
+        says-over i g g b u c o x (w .same) (λ e. e) s,
+        agrees-over (o .image) (o .board) (x .board) (enterCall b c (o .answer)) (w .next)
+            (carry-back (λ l a. Agrees exec l (x .board) (enterCall b c a)) w y),
+        run-over (o .image) (o .board) (x .board) (enterCall b c (o .answer)) (track u b c (o .answer)) (w .bytes) (w .next) es h
+            (carry-back (λ l a. Run exec l (x .board) (enterCall b c a) (track u b c a) es) w z),
+      )
+  run-over img r q b u by v (cutErase k new g ∷ cutErase j more f ∷ es) (x, n, h) y = absurd n
 
   steps-over : (n : ℕ) (o x : Out) → Both o x → Both (stepsOn m n o) (stepsOn exec n x)
   steps-over zero o x w = w
@@ -189,50 +260,66 @@ module _ {m : Machine} (p : Calls m) where
   formatted-over : (img : List ℕ) (r : Record) → Bytes img → Both (formatted m img r) (formatted exec img r)
   formatted-over img r by = steps-over 12 (m img r format) (exec img r format) (format-agrees p calls img by r r)
 
+  happens-from : (img : List ℕ) (r : Record) → Bytes img → (es : List Event) → HappensFrom m img r es → HappensFrom exec img r es
+  happens-from img r by es h =
+      let w : Both (formatted m img r) (formatted exec img r) = formatted-over img r by in
+      subst (λ (i : List ℕ). Happens exec i (formatted exec img r .board) firstBook es) (w .image)
+      (happens-over (formatted m img r .image) (formatted m img r .board) (formatted exec img r .board) firstBook (w .bytes) (w .next) es h)
+
   pub claim-of : Claim m
   unfolding Claim
   claim-of img r by ok =
-      let w : Both (formatted m img r) (formatted exec img r) = formatted-over img r by in
+      let o : Out = formatted m img r in
+      let x : Out = formatted exec img r in
+      let w : Both o x = formatted-over img r by in
       let y = claim img r by ok in (
         answers-over w ∙ y .0,
         idle-same (w .next) (y .1),
-        (λ cs bs. run-over (formatted m img r .image) (formatted m img r .board) (formatted exec img r .board) firstBook false (w .bytes) (w .next) cs bs
-            (subst (λ (i : List ℕ). Run exec i (formatted exec img r .board) firstBook false cs) (sym (w .image)) (y .2 cs bs))),
+        agrees-over (o .image) (o .board) (x .board) firstBook (w .next) (subst (λ (i : List ℕ). Agrees exec i (x .board) firstBook) (sym (w .image)) (y .2)),
+        (λ es h. run-over (o .image) (o .board) (x .board) firstBook false (w .bytes) (w .next) es h
+            (subst (λ (i : List ℕ). Run exec i (x .board) firstBook false es) (sym (w .image)) (y .3 es (happens-from img r by es h)))),
       )
 
-  -- ---- what calls leave
+  -- ---- what a run leaves
 
   pub record SameLeft (l k : Left) : Type 0 where
     pub image : l .image ≡ k .image
     pub book : l .book ≡ k .book
-    pub next : Same (l .image) (l .board) (k .board)
     pub bytes : Bytes (l .image)
 
-  left-over : (img : List ℕ) (r q : Record) (b : Book) → Bytes img → Same img r q → (cs : List Call) → ByteCalls cs
-      → SameLeft (afterAll m img r b cs) (afterAll exec img q b cs)
-  left-over img r q b by v [] bs = record { image = refl; book = refl; next = v; bytes = by }
-  left-over img r q b by v (c ∷ cs) (bc, bs) =
+  left-over : (img : List ℕ) (r q : Record) (b : Book) → Bytes img → Same img r q → (es : List Event) → Happens m img r b es
+      → SameLeft (afterAll m img r b es) (afterAll exec img q b es)
+  left-over img r q b by v [] h = record { image = refl; book = refl; bytes = by }
+  left-over img r q b by v (call c ∷ es) (bc, h) =
       let o : Out = m img r c in
       let x : Out = exec img q c in
       let w : Both o x = call-agrees p calls img by r q v c bc in
-      subst₂ (λ (i : List ℕ) (a : Answer). SameLeft (afterAll m (o .image) (o .board) (enterCall b c (o .answer)) cs)
-      (afterAll exec i (x .board) (enterCall b c a) cs)) (w .image) (answers-over w)
-      (left-over (o .image) (o .board) (x .board) (enterCall b c (o .answer)) (w .bytes) (w .next) cs bs)
+      carry (λ i a. SameLeft (afterAll m (o .image) (o .board) (enterCall b c (o .answer)) es) (afterAll exec i (x .board) (enterCall b c a) es)) w
+      (left-over (o .image) (o .board) (x .board) (enterCall b c (o .answer)) (w .bytes) (w .next) es h)
+  left-over img r q b by v (cutErase k new g ∷ []) (x, n, h) = record { image = refl; book = refl; bytes = cut-bytes by x }
+  left-over img r q b by v (cutErase k new g ∷ call c ∷ es) (d, n, (bc, h)) =
+      let i : List ℕ = withBlock (sizeOf img) k new img in
+      let o : Out = m i g c in
+      let x : Out = exec i g c in
+      let w : Both o x = begun-agrees p calls i g g c (cut-bytes by d) n in
+      carry (λ l a. SameLeft (afterAll m (o .image) (o .board) (enterCall b c (o .answer)) es) (afterAll exec l (x .board) (enterCall b c a) es)) w
+      (left-over (o .image) (o .board) (x .board) (enterCall b c (o .answer)) (w .bytes) (w .next) es h)
+  left-over img r q b by v (cutErase k new g ∷ cutErase j more f ∷ es) (x, n, h) = absurd n
 
-  pub left-by : (img : List ℕ) (r : Record) → Bytes img → (cs : List Call) → ByteCalls cs → SameLeft (leftBy m img r cs) (leftBy exec img r cs)
-  left-by img r by cs bs =
+  pub left-by : (img : List ℕ) (r : Record) → Bytes img → (es : List Event) → HappensFrom m img r es → SameLeft (leftBy m img r es) (leftBy exec img r es)
+  left-by img r by es h =
       let w : Both (formatted m img r) (formatted exec img r) = formatted-over img r by in
-      subst (λ (i : List ℕ). SameLeft (leftBy m img r cs) (afterAll exec i (formatted exec img r .board) firstBook cs)) (w .image)
-      (left-over (formatted m img r .image) (formatted m img r .board) (formatted exec img r .board) firstBook (w .bytes) (w .next) cs bs)
+      subst (λ (i : List ℕ). SameLeft (leftBy m img r es) (afterAll exec i (formatted exec img r .board) firstBook es)) (w .image)
+      (left-over (formatted m img r .image) (formatted m img r .board) (formatted exec img r .board) firstBook (w .bytes) (w .next) es h)
 
   pub cut-format-of : CutFormat m
   unfolding CutFormat
-  cut-format-of img r cs j by ok bs h =
-      let l : Left = leftBy m img r cs in
-      let k : Left = leftBy exec img r cs in
-      let s : SameLeft l k = left-by img r by cs bs in
+  cut-format-of img r es j by ok hs h =
+      let l : Left = leftBy m img r es in
+      let k : Left = leftBy exec img r es in
+      let s : SameLeft l k = left-by img r by es hs in
       let w : Both (stepsOn m j (m (l .image) (l .board) format)) (stepsOn exec j (exec (l .image) (k .board) format)) =
       steps-over j (m (l .image) (l .board) format) (exec (l .image) (k .board) format) (format-agrees p calls (l .image) (s .bytes) (l .board) (k .board)) in
       let e : stepsOn exec j (exec (k .image) (k .board) format) .image ≡ stepsOn m j (m (l .image) (l .board) format) .image =
       ap (λ (i : List ℕ). stepsOn exec j (exec i (k .board) format) .image) (sym (s .image)) ∙ sym (w .image) in
-      subst₂ (λ (b : Book) (i : List ℕ). Leaves (b .objects) j i) (sym (s .book)) e (cut-format img r cs j by ok bs h)
+      subst₂ (λ (b : Book) (i : List ℕ). Leaves (b .objects) j i) (sym (s .book)) e (cut-format img r es j by ok (happens-from img r by es hs) h)

@@ -37,7 +37,6 @@ module _ {m : Machine} (p : Calls m) where
         there = y .there;
         is-valid = y .is-valid;
         newest = y .newest;
-        none-foreign = y .none-foreign;
         last = y .last;
         is-last = y .is-last;
         follows = subst (Follows m img (m img r mount .board) (mountPlan (allFound img) s)) (sym (y .is-last)) f;

@@ -1,6 +1,6 @@
 -- What a format does: each step lands, a cut leaves the old objects, no store or the empty one, and it ends in the empty one.
 use mathlib.Core.Path.{_≡_, refl, sym, ap, subst, _∙_}
-use mathlib.Core.List.{List, [], map}
+use mathlib.Core.List.{List, [], _∷_, map}
 use mathlib.Core.Logic.{_⊎_, inl, inr}
 use mathlib.Core.Bool.{Bool, true, false}
 use Prim.Native.Nat.{ℕ, zero, suc, _+_, _-_, _≤_, _<_}
@@ -9,25 +9,29 @@ use lib.Dec.{ltb}
 use lib.ListN.{length, getD, take, replicate, length-replicate}
 use lib.Seq.{take-all}
 use borrow.Author.Tests.{ltb-true, ltb-false}
-use Rattle.flash.specs.Flash.{Step, erase, applyAll, block, blocks, blockNumbers, Write, write, writeAll}
+use Rattle.flash.specs.Flash.{Step, erase, eraseBlock, applyAll, block, blocks, sizeOf, Write, write, writeAll}
 use Rattle.flash.proofs.Cases.{on-test}
 use Rattle.flash.proofs.Offsets.{Below}
 use Rattle.frame.specs.Frame.{Frame, total, AllMayStand, nextOf}
 use Rattle.frame.specs.Reader.{clean}
 use Rattle.frame.proofs.Scanning.{scan-blank}
 use Rattle.journal.specs.Replay.{Object, state, replayFrom, isOpen}
-use Rattle.journal.specs.Block.{headerLen, lastTime, blockState, build}
+use Rattle.journal.specs.Block.{headerLen, lastTime, BlockState, blockState, build}
 use Rattle.journal.proofs.Blocks.{Layout}
-use Rattle.journal.proofs.States.{Contents}
+use Rattle.journal.proofs.States.{Contents, contents-valid}
+use Rattle.journal.proofs.Raising.{Harmless, harmless-older}
 use Rattle.journal.proofs.Building.{Lands, below-build, made, making, lands}
 use Rattle.board.specs.Record.{rest, idle}
+use Rattle.board.specs.Mount.{nextBlock, formatOrder}
 use Rattle.board.specs.Plan.{onBlock, formatPlan}
-use Rattle.board.proofs.Images.{Sized, sized-as, apply-append, block-writes, other-writes, length-all-steps}
+use Rattle.board.proofs.Images.{Sized, size-of, sized-as, apply-append, block-writes, other-writes, length-all-steps}
 use Rattle.board.proofs.Lengths.{length-format}
-use Rattle.board.proofs.Invariant.{Quiet, Safe, no-valid, StepLands}
+use Rattle.board.proofs.Invariant.{Quiet, Safe, no-valid, some-valid, StepLands}
+use Rattle.board.proofs.Numbers.{next-there, next-other}
+use Rattle.board.proofs.Order.{beside-of, order-last, Both, rising, falling, order-both, both-blocks}
 use Rattle.board.proofs.Prefixes.{Each, each-append, each-writes, below-take}
 use Rattle.board.proofs.Current.{Alone, After, alone-after, blank-quiet}
-use Rattle.board.proofs.Erasing.{In, NoStore, safe-or, safe-more, erase-leaves, erases-land, erases-blank}
+use Rattle.board.proofs.Erasing.{In, NoStore, safe-or, safe-more, quiet-erase, erase-safe, erases-land, erases-blank}
 
 -- ---- a block made of a blank one
 
@@ -66,19 +70,21 @@ none-fit : {s : ℕ} {img : List ℕ} → Sized s img → headerLen + total [] �
 unfolding total
 none-fit z = omega (arith, z .low)
 
-each-number : (j : ℕ) → j < blocks → In j blockNumbers
-each-number zero h = inl refl
-each-number (suc zero) h = inr (inl refl)
-each-number (suc (suc j)) h = absurd (omega arith)
+both-in : {l : List ℕ} → Both l → (j : ℕ) → j < blocks → In j l
+both-in (rising e) zero h = subst (In 0) (sym e) (inl refl)
+both-in (rising e) (suc zero) h = subst (In 1) (sym e) (inr (inl refl))
+both-in (falling e) zero h = subst (In 0) (sym e) (inr (inl refl))
+both-in (falling e) (suc zero) h = subst (In 1) (sym e) (inl refl)
+both-in x (suc (suc j)) h = absurd (omega arith)
 
 module _ {s : ℕ} {img : List ℕ} (z : Sized s img) where
   -- the image with every block erased
   abbrev wiped : List ℕ
-  wiped = applyAll s (map erase blockNumbers) img
+  wiped = applyAll s (map erase (formatOrder img)) img
 
   wiped-blank : (j : ℕ) → j < blocks → block s j wiped ≡ replicate s 255
   wiped-blank j h =
-      erases-blank j blockNumbers img z (omega arith, (omega arith, tt)) (inr (each-number j h))
+      erases-blank j (formatOrder img) img z (both-blocks (order-both img)) (inr (both-in (order-both img) j h))
 
   -- some of the header's writes are done
   abbrev part : ℕ → List ℕ
@@ -94,24 +100,47 @@ module _ {s : ℕ} {img : List ℕ} (z : Sized s img) where
 
   pub format-lands : Each s (StepLands s) (formatPlan img) img
   format-lands =
-      each-append s (StepLands s) (map erase blockNumbers) (onBlock 0 (build 1 [])) img (erases-land s blockNumbers img)
+      each-append s (StepLands s) (map erase (formatOrder img)) (onBlock 0 (build 1 [])) img (erases-land s (formatOrder img) img)
       (part-lands s 0 wiped (wiped-blank 0 (omega arith)) 1 [] (none-fit z) tt)
 
+  abbrev Left : List Object → List ℕ → Type 0
+  Left os i = Safe s i os false ⊎ NoStore s i
+
+  -- the first erase is of no current block
+  first-erase : {os : List Object} {u : Bool} → Safe s img os u → (a b : ℕ) → formatOrder img ≡ a ∷ b ∷ [] → a < blocks → Left os (eraseBlock s a img)
+  first-erase (no-valid e q) a b o h = inr (λ j g. quiet-erase z a h j (λ n. q j g))
+  first-erase {os} (some-valid k l v q) a b o h =
+      let n : ℕ = nextBlock k in
+      let r : formatOrder img ≡ n ∷ k ∷ [] =
+      order-last img k (v .time) (v .frames) (v .tail) l (at-size (contents-valid (v .contents)))
+      (beside-of (blockState (block (sizeOf img) n img)) (λ t fs c e.
+      harmless-older (block (sizeOf img) n img)
+      (subst (λ (m : ℕ). Harmless (v .time) (block m n img)) (sym (size-of z)) (q n (next-there k l) (next-other k l))) e)) in
+      let e : a ≡ n = cc in
+      subst (λ (i : ℕ). Left os (eraseBlock s i img)) (sym e) (inl (erase-safe z k n l (next-there k l) (λ d. next-other k l (sym d)) v q false))
+    where
+      at-size : {x : BlockState} → blockState (block s k img) ≡ x → blockState (block (sizeOf img) k img) ≡ x
+      at-size {x} e = subst (λ (m : ℕ). blockState (block m k img) ≡ x) (sym (size-of z)) e
+
   -- before each step the objects are there, or no store
-  format-leaves : {os : List Object} {u : Bool} → Safe s img os u → Each s (λ y i. Safe s i os false ⊎ NoStore s i) (formatPlan img) img
+  format-leaves : {os : List Object} {u : Bool} → Safe s img os u → Each s (λ y i. Left os i) (formatPlan img) img
   unfolding applyAll
   format-leaves {os} {u} f =
-      each-append s (λ y i. Safe s i os false ⊎ NoStore s i) (map erase blockNumbers) (onBlock 0 (build 1 [])) img first
-      (each-writes s 0 (λ y i. Safe s i os false ⊎ NoStore s i) (build 1 []) (write 0 0) wiped (λ j h. inr (part-empty j h)))
+      each-append s (λ y i. Left os i) (map erase (formatOrder img)) (onBlock 0 (build 1 [])) img (first (order-both img))
+      (each-writes s 0 (λ y i. Left os i) (build 1 []) (write 0 0) wiped (λ j h. inr (part-empty j h)))
     where
-      start : Safe s img os false ⊎ ((u ≡ true) × NoStore s img) → Safe s img os false ⊎ NoStore s img
+      start : Safe s img os false ⊎ ((u ≡ true) × NoStore s img) → Left os img
       start (inl x) = inl x
       start (inr (e, q)) = inr q
 
-      first : Each s (λ y i. Safe s i os false ⊎ NoStore s i) (map erase blockNumbers) img
-      first zero h = start (safe-or f)
-      first (suc zero) h = erase-leaves z 0 (omega arith) f
-      first (suc (suc j)) h = absurd (omega arith)
+      two : (a b : ℕ) → formatOrder img ≡ a ∷ b ∷ [] → a < blocks → Each s (λ y i. Left os i) (map erase (a ∷ b ∷ [])) img
+      two a b o l zero h = start (safe-or f)
+      two a b o l (suc zero) h = first-erase f a b o l
+      two a b o l (suc (suc j)) h = absurd (omega arith)
+
+      first : Both (formatOrder img) → Each s (λ y i. Left os i) (map erase (formatOrder img)) img
+      first (rising e) = subst (λ (l : List ℕ). Each s (λ y i. Left os i) (map erase l) img) (sym e) (two 0 1 e (omega arith))
+      first (falling e) = subst (λ (l : List ℕ). Each s (λ y i. Left os i) (map erase l) img) (sym e) (two 1 0 e (omega arith))
 
   pub format-safe : {os : List Object} {u : Bool} → Safe s img os u → Each s (λ y i. Safe s i os true) (formatPlan img) img
   format-safe {os} f j h = go (format-leaves f j h)
@@ -127,9 +156,9 @@ module _ {s : ℕ} {img : List ℕ} (z : Sized s img) where
       let ws : List Write = build 1 [] in
       let b : Below s ws = below-build s 1 [] (none-fit z) in
       let i : List ℕ = applyAll s (onBlock 0 ws) wiped in
-      subst (λ (l : List ℕ). Alone s l 0 1 [] clean) (sym (apply-append s (map erase blockNumbers) (onBlock 0 ws) img))
+      subst (λ (l : List ℕ). Alone s l 0 1 [] clean) (sym (apply-append s (map erase (formatOrder img)) (onBlock 0 ws) img))
       (record {
-        sized = sized-as i (length-all-steps s (onBlock 0 ws) wiped ∙ length-all-steps s (map erase blockNumbers) img) z;
+        sized = sized-as i (length-all-steps s (onBlock 0 ws) wiped ∙ length-all-steps s (map erase (formatOrder img)) img) z;
         there = omega arith;
         contents =
             subst (λ (l : List ℕ). Contents l 1 [] clean)

@@ -21,11 +21,11 @@ use Rattle.board.specs.Mount.{nextBlock, endOf}
 use Rattle.board.specs.Queue.{Held, needsRoom}
 use Rattle.board.specs.Plan.{transferPlan, appendPlan, framePlan, framedAt}
 use Rattle.board.proofs.Images.{Sized, size-of, apply-append, length-all-steps}
-use Rattle.board.proofs.Invariant.{StepLands, Safe, Ready}
+use Rattle.board.proofs.Invariant.{StepLands, Guard, Ready}
 use Rattle.board.proofs.Prefixes.{Each, each-append}
 use Rattle.board.proofs.Current.{Alone, After, Roomy, Keeps, ready-alone}
-use Rattle.board.proofs.Appending.{Fits, append-lands, append-safe, append-ends}
-use Rattle.board.proofs.Transferring.{Moves, transfer-lands, transfer-safe, transfer-alone}
+use Rattle.board.proofs.Appending.{Fits, append-lands, append-guard, append-ends}
+use Rattle.board.proofs.Transferring.{Moves, transfer-lands, transfer-guard, transfer-alone}
 
 -- the image is as an idle record says, and what its block holds is this
 pub record AsRecorded (s : ℕ) (img : List ℕ) (r : Record) (x : Held) : Type 0 where
@@ -91,11 +91,11 @@ module _ {s : ℕ} {img : List ℕ} {r : Record} {x : Held} {f : Frame} (h : AsR
   frame-lands =
       each (StepLands s) (λ e. append-lands (h .alone) f (here e)) (λ e. transfer-lands (h .alone) st (moves e)) (λ e. append-lands (new e) f after)
 
-  pub frame-safe : {os : List Object} (u : Bool) → Keeps s (replay (x .frames)) os
-      → Each s (λ w i. Safe s i os u) (framePlan (needsRoom img r f) (r .block) (r .end) x f) img
-  frame-safe {os} u p =
-      each (λ w i. Safe s i os u) (λ e. append-safe (h .alone) f (here e) u p) (λ e. transfer-safe (h .alone) st (moves e) u p p)
-      (λ e. append-safe (new e) f after u (subst (λ (z : State). Keeps s z os) (sym (replay-framesOf st)) p))
+  pub frame-guard : {os : List Object} (u : Bool) → Keeps s (replay (x .frames)) os
+      → Each s (Guard s os u) (framePlan (needsRoom img r f) (r .block) (r .end) x f) img
+  frame-guard {os} u p =
+      each (Guard s os u) (λ e. append-guard (h .alone) f (here e) u p) (λ e. transfer-guard (h .alone) st (moves e) u p p)
+      (λ e. append-guard (new e) f after u (subst (λ (z : State). Keeps s z os) (sym (replay-framesOf st)) p))
 
   pub frame-ends : Roomy s (nextState (replay (x .frames)) f)
       → After s (applyAll s (framePlan (needsRoom img r f) (r .block) (r .end) x f) img) (framedAt (needsRoom img r f) (r .last) (r .block) (r .end) x f)

@@ -5,7 +5,8 @@ use mathlib.Core.Bool.{Bool, true}
 use Prim.Native.Nat.{ℕ, suc, _+_, _*_, _≤_, _<_}
 use lib.ListN.{length, getD, take, drop, replicate}
 use Rattle.flash.specs.Bytes.{Bytes}
-use Rattle.flash.specs.Flash.{Step, program, erase, applyAll, block, blocks, write}
+use Rattle.flash.specs.Flash.{Step, program, erase, applyAll, block, blocks, withBlock, write}
+use Rattle.flash.specs.Raised.{Raised}
 use Rattle.frame.specs.declared.Host.{Host}
 use Rattle.frame.specs.Frame.{Frame, hostMax, deleteLen, endLen}
 use Rattle.frame.specs.Reader.{Tail, clean}
@@ -13,6 +14,7 @@ use Rattle.journal.specs.Replay.{Object, Entry, replay, listOf}
 use Rattle.journal.specs.Block.{BlockState, blank, inProgress, valid, foreign, blockState}
 use Rattle.journal.specs.Room.{claimed, openHosts}
 use Rattle.journal.proofs.States.{Contents}
+use Rattle.journal.proofs.Raising.{Harmless}
 use Rattle.journal.proofs.Room.{kept}
 use Rattle.journal.proofs.Building.{Lands}
 use Rattle.board.specs.declared.Phase.{Phase}
@@ -22,7 +24,7 @@ use Rattle.board.specs.Record.{rest, idle}
 use Rattle.board.specs.Mount.{endOf}
 use Rattle.board.specs.Exec.{exec}
 use Rattle.board.specs.Plan.{Follows}
-use Rattle.board.specs.Book.{Book, nothing, finishing}
+use Rattle.board.specs.Book.{Book, UnderWay, nothing, formatting, finishing}
 use Rattle.board.proofs.Images.{Sized}
 
 -- ---- blocks
@@ -47,16 +49,28 @@ Quiet (foreign e) = ⊥
 abbrev pub Others : (ℕ → Type 0) → ℕ → Type 0
 Others P k = (j : ℕ) → j < blocks → (j ≡ k → ⊥) → P j
 
--- beside a valid block of time t: nothing that a mount reads, or an older valid block with the same objects
-pub data Lesser (s : ℕ) (img : List ℕ) (t : ℕ) (os : List Object) (j : ℕ) : Type 0 where
-  quiet : Quiet (blockState (block s j img)) → Lesser s img t os j
-  older : (v : Valid s img j os) → v .time < t → Lesser s img t os j
+-- beside a valid block of time t: nothing that a mount takes, whatever bits a cut erase raises
+abbrev pub Lesser : ℕ → List ℕ → ℕ → ℕ → Type 0
+Lesser s img t j = Harmless t (block s j img)
 
--- a mount of the image finds the objects: the newest valid block has them, and so has every other valid one; nothing at all only
--- while a format is unfinished
+-- a mount of the image finds the objects: a valid block has them, and every other is harmless; nothing at all only while a format is
+-- unfinished
 pub data Safe (s : ℕ) (img : List ℕ) (os : List Object) (unfinished : Bool) : Type 0 where
   no-valid : unfinished ≡ true → ((j : ℕ) → j < blocks → Quiet (blockState (block s j img))) → Safe s img os unfinished
-  some-valid : (k : ℕ) → k < blocks → (v : Valid s img k os) → Others (Lesser s img (v .time) os) k → Safe s img os unfinished
+  some-valid : (k : ℕ) → k < blocks → (v : Valid s img k os) → Others (Lesser s img (v .time)) k → Safe s img os unfinished
+
+-- a mount finds them too where the step is an erase and is cut
+abbrev pub CutSafe : ℕ → List Object → Bool → Step → List ℕ → Type 0
+CutSafe s os u (program k o v) img = Unit {0}
+CutSafe s os u (erase k) img = (new : List ℕ) → Raised (block s k img) new → Safe s (withBlock s k new img) os u
+
+-- before a step, and inside it
+abbrev pub Guard : ℕ → List Object → Bool → Step → List ℕ → Type 0
+Guard s os u x img = Safe s img os u × CutSafe s os u x img
+
+-- the same where a format may be under way: a run ends with a cut inside its erases
+abbrev pub GuardIn : ℕ → List Object → Bool → UnderWay → Step → List ℕ → Type 0
+GuardIn s os u w x img = Safe s img os u × ((w ≡ formatting → ⊥) → CutSafe s os u x img)
 
 -- ---- an idle record
 
@@ -110,7 +124,7 @@ StepLands s (erase k) img = Unit {0}
 abbrev pub InPhase : Phase → ℕ → List ℕ → Record → Book → Bool → Type 0
 InPhase Unmounted s img r b u = Safe s img (b .objects) u × (b .under ≡ nothing)
 InPhase Idle s img r b u = IdleBook s img r b
-InPhase (Busy g) s img r b u = InJob s (λ x i. Safe s i (b .objects) u) (λ i z. IdleBook s i z (finishing b (b .under))) img r
+InPhase (Busy g) s img r b u = InJob s (GuardIn s (b .objects) u (b .under)) (λ i z. IdleBook s i z (finishing b (b .under))) img r
 
 pub record Inv (s : ℕ) (img : List ℕ) (r : Record) (b : Book) (u : Bool) : Type 0 where
   pub sized : Sized s img

@@ -1,13 +1,16 @@
 -- The invariant of runs: how it is had in each phase, that it keeps the objects safe, and that a step call keeps it.
-use mathlib.Core.Path.{_≡_, refl, sym, ap, subst}
+use mathlib.Core.Path.{_≡_, refl, sym, ap, subst, _∙_}
 use mathlib.Core.List.{List, []}
 use mathlib.Core.Logic.{_⊎_, inl, inr}
 use mathlib.Core.Bool.{Bool, true}
-use Prim.Native.Nat.{ℕ}
+use Prim.Native.Nat.{ℕ, _+_, _*_, _≤_}
 use native.Mathlib.Omega.{arith}
+use lib.ListN.{length, replicate}
 use Rattle.flash.specs.Bytes.{Bytes}
-use Rattle.flash.specs.Flash.{apply, block}
+use Rattle.flash.specs.Flash.{Step, erase, apply, block, sizeOf, withBlock, eraseBlock}
+use Rattle.flash.specs.Raised.{Raised}
 use Rattle.flash.proofs.Image.{length-apply, bytes-apply}
+use Rattle.flash.proofs.Raising.{raised-blank, length-with, bytes-with, with-same, as-erase}
 use Rattle.frame.specs.Reader.{clean}
 use Rattle.journal.specs.Replay.{Object}
 use Rattle.wire.specs.declared.Answer.{Answer}
@@ -21,10 +24,12 @@ use Rattle.board.specs.Record.{Out, out, answerOf, answerIn}
 use Rattle.board.specs.Step.{stepOn}
 use Rattle.board.specs.Demand1.{Rests}
 use Rattle.board.specs.Book.{Book, UnderWay, nothing, committing, formatting, finishing, enterStep}
-use Rattle.board.specs.Claim.{trackStep, Never}
-use Rattle.board.proofs.Images.{Sized, sized-as}
-use Rattle.board.proofs.Invariant.{Valid, quiet, Safe, no-valid, some-valid, Ready, IdleBook, InJob, InPhase, Inv}
-use Rattle.board.proofs.Current.{blank-quiet}
+use Rattle.board.specs.Table.{InJob as JobPhase}
+use Rattle.board.specs.Exec.{exec}
+use Rattle.board.specs.Claim.{trackStep, Never, CutsErase}
+use Rattle.board.proofs.Images.{Sized, size-of, sized-as, sized-block}
+use Rattle.board.proofs.Invariant.{Valid, Safe, no-valid, some-valid, CutSafe, GuardIn, Ready, IdleBook, InJob, InPhase, Inv}
+use Rattle.board.proofs.Current.{block-long, blank-lesser}
 use Rattle.board.proofs.Outcomes.{step-resting}
 use Rattle.board.proofs.Jobs.{Stepped, job-step}
 
@@ -43,7 +48,7 @@ more-busy (Busy g) e = record { stage = g; is = refl }
 
 -- a record in a job, with what the book has under way
 abbrev pub Working : ℕ → List ℕ → Record → Book → Bool → Type 0
-Working s img r b u = InJob s (λ x i. Safe s i (b .objects) u) (λ i z. IdleBook s i z (finishing b (b .under))) img r
+Working s img r b u = InJob s (GuardIn s (b .objects) u (b .under)) (λ i z. IdleBook s i z (finishing b (b .under))) img r
 
 pub inv-unmounted : {s : ℕ} {img : List ℕ} {b : Book} {u : Bool} (r : Record) → Sized s img → Bytes img → r .phase ≡ Unmounted → Safe s img (b .objects) u
     → b .under ≡ nothing → Inv s img r b u
@@ -72,17 +77,18 @@ on-phase {C} {s} {img} {r} {b} {u} v f g h = go (r .phase) refl (v .phase)
 
 -- ---- the objects are safe
 
-pub idle-valid : {s : ℕ} {img : List ℕ} {r : Record} {b : Book} (y : IdleBook s img r b) → Valid s img (y .ready .number) (b .objects)
+abbrev pub idle-valid : {s : ℕ} {img : List ℕ} {r : Record} {b : Book} (y : IdleBook s img r b) → Valid s img (y .ready .number) (b .objects)
 idle-valid y =
     record { time = y .ready .time; frames = y .ready .frames; tail = clean; contents = y .ready .contents; room = y .spare; same = y .objects }
 
-pub safe-idle : {s : ℕ} {img : List ℕ} {r : Record} {b : Book} {u : Bool} → IdleBook s img r b → Safe s img (b .objects) u
-safe-idle {s} {img} y =
-    some-valid (y .ready .number) (y .ready .there) (idle-valid y) (λ j h n. quiet (blank-quiet s (block s j img) (y .ready .others j h n)))
+pub safe-idle : {s : ℕ} {img : List ℕ} {r : Record} {b : Book} {u : Bool} → Sized s img → IdleBook s img r b → Safe s img (b .objects) u
+safe-idle z y =
+    some-valid (y .ready .number) (y .ready .there) (idle-valid y) (λ j h n. blank-lesser z (y .ready .time) j (y .ready .others j h n))
 
 pub safe-of : {s : ℕ} {img : List ℕ} {r : Record} {b : Book} {u : Bool} → Inv s img r b u → Safe s img (b .objects) u
 safe-of {s} {img} {r} {b} {u} v =
-    on-phase v (λ e f n. f) (λ e y. safe-idle y) (λ g j. subst (λ (i : List ℕ). Safe s i (b .objects) u) (sym (j .now)) (j .each (j .count) (j .begun)))
+    on-phase v (λ e f n. f) (λ e y. safe-idle (v .sized) y)
+    (λ g j. subst (λ (i : List ℕ). Safe s i (b .objects) u) (sym (j .now)) (j .each (j .count) (j .begun) .0))
 
 pub safe-true : {s : ℕ} {img : List ℕ} {os : List Object} {u : Bool} → Safe s img os u → Safe s img os true
 safe-true (no-valid e q) = no-valid refl q
@@ -130,7 +136,50 @@ step-keeps {s} {img} {r} {b} {u} v =
     (λ e f n. subst (StepKeeps s b u) (sym (step-resting img r (subst (λ (p : Phase). Rests p) (sym e) tt))) (resting-keeps v n))
     (λ e y. subst (StepKeeps s b u) (sym (step-resting img r (subst (λ (p : Phase). Rests p) (sym e) tt))) (resting-keeps v (y .under)))
     (λ g j.
-    let y : Stepped s (λ x i. Safe s i (b .objects) u) (λ i z. IdleBook s i z (finishing b (b .under))) img r = job-step (v .sized) j in
+    let y : Stepped s (GuardIn s (b .objects) u (b .under)) (λ i z. IdleBook s i z (finishing b (b .under))) img r = job-step (v .sized) j in
     subst (StepKeeps s b u) (sym (y .gives))
     (then-keeps s b u (apply s (y .does) img) (y .next) (sized-as (apply s (y .does) img) (length-apply s (y .does) img) (v .sized))
     (bytes-apply s (y .does) img (v .bytes)) (y .then)))
+
+-- ---- power is lost
+
+-- an image on which a mount or format may come next, whatever the record
+pub record Bare (s : ℕ) (img : List ℕ) (os : List Object) (u : Bool) : Type 0 where
+  pub sized : Sized s img
+  pub bytes : Bytes img
+  pub safe : Safe s img os u
+
+pub bare-of : {s : ℕ} {img : List ℕ} {r : Record} {b : Book} {u : Bool} → Inv s img r b u → Bare s img (b .objects) u
+bare-of v = record { sized = v .sized; bytes = v .bytes; safe = safe-of v }
+
+-- inside an erase
+pub cut-bare : {s : ℕ} {img : List ℕ} {r : Record} {b : Book} {u : Bool} (k : ℕ) (new : List ℕ) → Inv s img r b u → CutsErase exec img r b k new
+    → Bare s (withBlock (sizeOf img) k new img) (b .objects) u
+cut-bare {s} {img} {r} {b} {u} k new v c =
+    subst (λ (n : ℕ). Bare s (withBlock n k new img) (b .objects) u) (sym (size-of (v .sized)))
+    (record {
+      sized = sized-as (withBlock s k new img) (length-with s k new img room (raised .long ∙ block-long k (v .sized) (c .there))) (v .sized);
+      bytes = bytes-with s k new img (raised .bytes) (v .bytes);
+      safe = on-phase v (λ e f n. absurd (subst JobPhase e (c .in-job))) (λ e y. absurd (subst JobPhase e (c .in-job))) (λ g j. go (job-step (v .sized) j));
+    })
+  where
+    room : k * s + s ≤ length img
+    room = sized-block k (v .sized) (c .there)
+
+    raised : Raised (block s k img) new
+    raised = subst (λ (n : ℕ). Raised (block n k img) new) (size-of (v .sized)) (c .raised)
+
+    -- the step is this erase, or the block is blank and stays so
+    pick : (x : Step) → GuardIn s (b .objects) u (b .under) x img → (x ≡ erase k) ⊎ (block s k img ≡ replicate s 255)
+        → Safe s (withBlock s k new img) (b .objects) u
+    pick x h (inl p) = subst (λ (y : Step). CutSafe s (b .objects) u y img) p (h .1 (c .no-format)) new raised
+    pick x h (inr p) =
+        let e : new ≡ block s k img = raised-blank s new (subst (λ (l : List ℕ). Raised l new) p raised) ∙ sym p in
+        subst (λ (l : List ℕ). Safe s l (b .objects) u) (sym (ap (λ (l : List ℕ). withBlock s k l img) e ∙ with-same s k img)) (safe-of v)
+
+    go : Stepped s (GuardIn s (b .objects) u (b .under)) (λ i z. IdleBook s i z (finishing b (b .under))) img r
+        → Safe s (withBlock s k new img) (b .objects) u
+    go y =
+        let e : apply s (y .does) img ≡ eraseBlock s k img =
+        ap (λ (o : Out). o .image) (sym (y .gives)) ∙ c .erases ∙ ap (λ (n : ℕ). eraseBlock n k img) (size-of (v .sized)) in
+        pick (y .does) (y .holds) (as-erase s k img (v .bytes) room (y .does) e)

@@ -14,9 +14,10 @@ use Rattle.journal.specs.Block.{build}
 use Rattle.journal.specs.Room.{used, claimed}
 use Rattle.journal.proofs.Room.{frames-total, claimed-settled}
 use Rattle.journal.proofs.Building.{length-build}
-use Rattle.board.specs.Mount.{nextBlock, Found, Store, wipeList, needsTransfer}
+use Rattle.board.specs.Mount.{nextBlock, Found, Store, wipeList, needsTransfer, formatOrder}
 use Rattle.board.specs.Queue.{Held}
 use Rattle.board.specs.Plan.{onBlock, transferPlan, formatPlan, appendPlan, transferIf, mountPlan, framePlan}
+use Rattle.board.proofs.Order.{Both, rising, falling, order-both}
 
 -- "C - 5 steps"
 pub length-transfer : (k time : ℕ) (st : State) → length (transferPlan k time st) + 5 ≡ claimed st
@@ -31,7 +32,19 @@ length-plan-append k end f = length-map (writes end (encode f)) (writeStep k) �
 
 pub length-format : (img : List ℕ) → length (formatPlan img) ≡ 12
 unfolding writes encodeAll
-length-format img = refl
+length-format img = go (order-both img)
+  where
+    go : Both (formatOrder img) → length (formatPlan img) ≡ 12
+    go (rising e) = ap (λ (l : List ℕ). length (map erase l ++ onBlock 0 (build 1 []))) e
+    go (falling e) = ap (λ (l : List ℕ). length (map erase l ++ onBlock 0 (build 1 []))) e
+
+-- there is a first step
+pub format-some : (img : List ℕ) → (x : Step) × (xs : List Step) × (formatPlan img ≡ x ∷ xs)
+format-some img = go (formatPlan img) refl
+  where
+    go : (p : List Step) → formatPlan img ≡ p → (x : Step) × (xs : List Step) × (formatPlan img ≡ x ∷ xs)
+    go [] e = let z : length (formatPlan img) ≡ 0 = ap length e in absurd (omega (arith, length-format img))
+    go (x ∷ xs) e = (x, xs, e)
 
 pub length-frame-moved : (k end : ℕ) (x : Held) (f : Frame) → length (framePlan true k end x f) + 5 ≡ claimed (replay (x .frames)) + frameLen f
 length-frame-moved k end x f =

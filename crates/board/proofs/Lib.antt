@@ -4,6 +4,7 @@
 pub mod Numbers  -- the number of the block that a transfer goes to
 pub mod Images  -- allowed lengths, and what steps do to each block
 pub mod Blocks  -- lists of block numbers
+pub mod Order  -- the order in which a format erases the blocks
 pub mod Prefixes  -- what holds at every step of a list of steps
 pub mod Invariant  -- what holds of image, record and book between the calls of a run: stated for every group below
 pub mod Current  -- one valid block with every other blank
@@ -56,9 +57,11 @@ pub mod Limits  -- demand 2 of any machine that keeps the table: room and wear
 pub mod Clearing  -- programming only clears bits
 pub mod Following  -- the k-th step, demand 3 and a cut format, of any machine that keeps the clauses
 pub mod FollowingPlans  -- demand 2 of it, and the whole promise
+pub mod Runs  -- runs in two parts
 pub mod Tickets  -- the customer's two tickets, of any machine that keeps the promise
 pub mod Driving  -- what is next, done to the flash by the caller, then made, is a step call
 -- ---- wrong stores
 pub mod RefutingRuns  -- the runs that tell, computed
 pub mod Refuting  -- none of them keeps the promise
+pub mod RefutingCut  -- demand 3 sees one that is wrong on half-erased halves only
 pub mod RefutingRows  -- and yet all are right in every row

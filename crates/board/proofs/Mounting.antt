@@ -18,11 +18,11 @@ use Rattle.board.specs.Plan.{transferIf, mountPlan, mountedAt}
 use Rattle.board.proofs.Blocks.{wiped-besides}
 use Rattle.board.proofs.Images.{Sized, apply-append, length-all-steps}
 use Rattle.board.proofs.Lengths.{length-mount-moved, length-mount-stayed}
-use Rattle.board.proofs.Invariant.{Safe, StepLands}
+use Rattle.board.proofs.Invariant.{Others, Lesser, Guard, StepLands}
 use Rattle.board.proofs.Prefixes.{Each, each-append}
 use Rattle.board.proofs.Current.{Alone, After, Keeps, alone-after, valid-of, keeps-settled}
-use Rattle.board.proofs.Erasing.{erases-land, erases-safe, erases-alone}
-use Rattle.board.proofs.Transferring.{transfer-lands, transfer-safe, transferred, moves-settled, roomy-settled}
+use Rattle.board.proofs.Erasing.{erases-land, erases-guard, erases-alone}
+use Rattle.board.proofs.Transferring.{transfer-lands, transfer-guard, transferred, moves-settled, roomy-settled}
 use Rattle.board.proofs.Deciding.{StoreThere, InTime}
 use Rattle.board.proofs.Wiping.{wipes-others, wipes-few}
 
@@ -67,14 +67,14 @@ module _ {s : ℕ} {img : List ℕ} (x : Store) (z : Sized s img) (h : x .number
       go true l = transfer-lands alone st (moves-settled alone (l refl))
       go false l = λ j k. absurd (omega arith)
 
-  pub mount-keeps : {os : List Object} {u : Bool} → Keeps s (replay (x .frames)) os → Safe s img os u
-      → Each s (λ w i. Safe s i os u) (mountPlan (allFound img) x) img
-  mount-keeps {os} {u} p f =
-      each-append s (λ w i. Safe s i os u) (map erase ks) (transferIf (needsTransfer (x .frames) (x .tail)) (x .number) (x .time) st) img
-      (erases-safe (x .number) ks img z h (wiped-besides (x .number) img) (valid-of y p) f) (go (needsTransfer (x .frames) (x .tail)) t)
+  pub mount-keeps : {os : List Object} (u : Bool) → Keeps s (replay (x .frames)) os → Others (Lesser s img (x .time)) (x .number)
+      → Each s (Guard s os u) (mountPlan (allFound img) x) img
+  mount-keeps {os} u p q =
+      each-append s (Guard s os u) (map erase ks) (transferIf (needsTransfer (x .frames) (x .tail)) (x .number) (x .time) st) img
+      (erases-guard u (x .number) ks img z h (wiped-besides (x .number) img) (valid-of y p) q) (go (needsTransfer (x .frames) (x .tail)) t)
     where
-      go : (b : Bool) → (b ≡ true → x .time < lastTime) → Each s (λ w i. Safe s i os u) (transferIf b (x .number) (x .time) st) wiped
-      go true l = transfer-safe alone st (moves-settled alone (l refl)) u p (keeps-settled p)
+      go : (b : Bool) → (b ≡ true → x .time < lastTime) → Each s (Guard s os u) (transferIf b (x .number) (x .time) st) wiped
+      go true l = transfer-guard alone st (moves-settled alone (l refl)) u p (keeps-settled p)
       go false l = λ j k. absurd (omega arith)
 
   pub mount-ends : After s (applyAll s (mountPlan (allFound img) x) img) (mountedAt (needsTransfer (x .frames) (x .tail)) (length img - 1) x) st

@@ -153,18 +153,16 @@ pub mount-length : (img : List ℕ) → allowed (length img) ≡ false → mount
 unfolding mountOn
 mount-length img e = rw (e, mountOn)
 
-pub mount-foreign : (img : List ℕ) → allowed (length img) ≡ true → anyForeign (allFound img) ≡ true
-    → mountOn img ≡ refuse refusal.Foreign img unmounted []
-unfolding mountOn mountFound
-mount-foreign img a e = rw (a, mountOn) (rw (e, mountFound))
-
-module _ (img : List ℕ) (a : allowed (length img) ≡ true) (c : anyForeign (allFound img) ≡ false) where
+module _ (img : List ℕ) (a : allowed (length img) ≡ true) where
   pub mount-stores : mountOn img ≡ mountStores img (allFound img) (stores (allFound img))
   unfolding mountOn mountFound
-  mount-stores = rw (a, mountOn) (rw (c, mountFound))
+  mount-stores = rw (a, mountOn)
 
-  pub mount-none : stores (allFound img) ≡ [] → mountOn img ≡ refuse refusal.NoStore img unmounted []
-  mount-none e = mount-stores ∙ ap (mountStores img (allFound img)) e
+  pub mount-foreign : stores (allFound img) ≡ [] → anyForeign (allFound img) ≡ true → mountOn img ≡ refuse refusal.Foreign img unmounted []
+  mount-foreign e t = mount-stores ∙ ap (mountStores img (allFound img)) e ∙ rw t
+
+  pub mount-none : stores (allFound img) ≡ [] → anyForeign (allFound img) ≡ false → mountOn img ≡ refuse refusal.NoStore img unmounted []
+  mount-none e t = mount-stores ∙ ap (mountStores img (allFound img)) e ∙ rw t
 
   pub mount-equal : (y : Store) (ys : List Store) → stores (allFound img) ≡ y ∷ ys → equalTimes (y ∷ ys) ≡ true
       → mountOn img ≡ refuse refusal.Foreign img unmounted []

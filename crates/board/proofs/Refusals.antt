@@ -10,7 +10,7 @@ use lib.Dec.{eqb, ltb, leb}
 use lib.ListN.{length}
 use borrow.Author.Tests.{leb-true, leb-false, lt-ltb, le-ltb}
 use Rattle.flash.specs.Flash.{apply, sizeOf, within}
-use Rattle.flash.proofs.Cases.{on-test, and-no-right, or-left, or-right, or-neither}
+use Rattle.flash.proofs.Cases.{on-test, or-left}
 use Rattle.frame.specs.declared.Host.{Host}
 use Rattle.frame.specs.declared.ObjectId.{ObjectId}
 use Rattle.frame.specs.Frame.{hostMax, Change, put, delete, Frame, change, commit, abort}
@@ -42,7 +42,7 @@ use Rattle.board.proofs.Checks.{Check, check, firstOf, isUnmounted, isM
 use Rattle.board.proofs.Checks.{outside, noStore, wornStore, mountChecks, checks, refusalIn}
 use Rattle.board.proofs.Outcomes.{append-worn, append-begins, change-refused, change-goes, end-goes, end-idle, log-short, log-done}
 use Rattle.board.proofs.Outcomes.{serve-put, serve-delete, serve-commit, serve-abort, serve-log, read-none, read-some}
-use Rattle.board.proofs.Outcomes.{request-length, request-host, request-in, mount-length, mount-foreign, mount-stores, mount-worn}
+use Rattle.board.proofs.Outcomes.{request-length, request-host, request-in, mount-length, mount-stores, mount-worn}
 use Rattle.board.proofs.Outcomes.{mount-begins, format-length, format-begins, step-resting, step-outside, step-goes}
 
 -- ---- what is claimed of a call's outcome, against the lines of the table that are left
@@ -183,26 +183,23 @@ at-made img xs x =
     (λ e. stops refl e (mount-worn img xs x e))
     (λ e. over (mount-begins img xs x e) (passes e (accepted (begin-accepts (enterWipe (mountJob img x (wipeList (x .number) xs)) .phase)) refl)))
 
--- f: whether a block is foreign
-stores-made : (img : List ℕ) (xs : List Found) (f : Bool) → f ≡ false → (ys : List Store)
+stores-made : (img : List ℕ) (xs : List Found) (ys : List Store)
     → Made img
-    (check refusal.NoStore (noStore ys && not f) ∷ check refusal.Foreign (f || equalTimes ys) ∷ check refusal.Worn (wornStore ys) ∷ [])
+    (check refusal.NoStore (noStore ys && not (anyForeign xs)) ∷ check refusal.Foreign ((noStore ys && anyForeign xs) || equalTimes ys)
+    ∷ check refusal.Worn (wornStore ys) ∷ [])
     (mountStores img xs ys)
-stores-made img xs f n [] = stops refl (ap not n) refl
-stores-made img xs f n (y ∷ ys) =
+stores-made img xs [] =
+    on-test (anyForeign xs)
+    (λ e. passes (ap not e) (stops refl (or-left (anyForeign xs) false e) (rw e)))
+    (λ e. stops refl (ap not e) (rw e))
+stores-made img xs (y ∷ ys) =
     passes refl
-    (on-test (equalTimes (y ∷ ys))
-    (λ e. stops refl (or-right f (equalTimes (y ∷ ys)) e) (rw e))
-    (λ e. passes (or-neither f (equalTimes (y ∷ ys)) n e) (over (rw e) (at-made img xs (newest y ys)))))
+    (on-test (equalTimes (y ∷ ys)) (λ e. stops refl e (rw e)) (λ e. passes e (over (rw e) (at-made img xs (newest y ys)))))
 
 mount-made : (img : List ℕ) → Made img (mountChecks img) (mountOn img)
 mount-made img =
     on-test (allowed (length img))
-    (λ a. passes (ap not a)
-    (on-test (anyForeign (allFound img))
-    (λ e. passes (and-no-right (noStore (stores (allFound img))) (not (anyForeign (allFound img))) (ap not e))
-    (stops refl (or-left (anyForeign (allFound img)) (equalTimes (stores (allFound img))) e) (mount-foreign img a e)))
-    (λ e. over (mount-stores img a e) (stores-made img (allFound img) (anyForeign (allFound img)) e (stores (allFound img))))))
+    (λ a. passes (ap not a) (over (mount-stores img a) (stores-made img (allFound img) (stores (allFound img)))))
     (λ a. stops refl (ap not a) (mount-length img a))
 
 format-made : (img : List ℕ) → Made img (checks img unmounted format) (formatOn img)

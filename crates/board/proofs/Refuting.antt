@@ -1,6 +1,6 @@
 -- The wrong stores are refuted: on a short run each shows something else than the machine does, and the promise leaves no room for that.
 use mathlib.Core.Path.{_≡_, refl, sym, ap, _∙_}
-use mathlib.Core.List.{List, [], _∷_}
+use mathlib.Core.List.{List, [], _∷_, map}
 use mathlib.Core.Logic.{inl, inr}
 use mathlib.Core.Bool.{Bool, true, false, _&&_, cond}
 use Prim.Native.Nat.{ℕ, zero, suc}
@@ -8,18 +8,19 @@ use native.Mathlib.Omega.{arith}
 use lib.Dec.{ltb}
 use lib.ListN.{length, replicate}
 use borrow.Author.Tests.{ltb-true, le-leb, eqb-false}
-use Rattle.flash.specs.Bytes.{Bytes}
+use Rattle.flash.specs.Bytes.{Bytes, allFF}
 use Rattle.flash.proofs.Cases.{and-left, and-right, clash}
+use Rattle.journal.specs.Block.{blockState}
 use Rattle.board.specs.declared.Stage.the-variants.{Wipe}
 use Rattle.board.specs.declared.Phase.the-variants.{Unmounted, Idle, Busy}
 use Rattle.board.specs.declared.Record.{Record}
 use Rattle.board.specs.Record.{unmounted, cursor, inStage}
 use Rattle.board.specs.Step.{enterWipe, stepBusy, stepOn}
-use Rattle.board.specs.Mount.{formatOn}
+use Rattle.board.specs.Mount.{formatOrder, formatOn}
 use Rattle.board.specs.Demand1.{Declared, EndsWithin}
 use Rattle.board.specs.Exec.{Call, request, step, mount, format, Machine, exec}
-use Rattle.board.specs.Claim.{ByteCalls}
-use Rattle.board.specs.Promise.{Promise, Shown, trace, PromiseDetermines}
+use Rattle.board.specs.Claim.{call}
+use Rattle.board.specs.Promise.{Promise, Shown, trace, ByteEvents, PromiseDetermines}
 use Rattle.board.specs.Wrong.{Wrongly, onBench, offBench, outsideIsDone, forgedWaits, RightOnBench, Refuted}
 use Rattle.board.specs.WrongRuns.{nothing, lastFrom, allBytes, bytesIn, begins, Differs}
 use Rattle.board.proofs.Determining.{promise-determines}
@@ -30,7 +31,7 @@ bytes-all : (l : List ℕ) → allBytes l ≡ true → Bytes l
 bytes-all [] e = tt
 bytes-all (b ∷ bs) e = (ltb-true b 256 (and-left (ltb b 256) (allBytes bs) e), bytes-all bs (and-right (ltb b 256) (allBytes bs) e))
 
-bytes-in : (cs : List Call) → bytesIn cs ≡ true → ByteCalls cs
+bytes-in : (cs : List Call) → bytesIn cs ≡ true → ByteEvents (map call cs)
 bytes-in [] e = tt
 bytes-in (request h m reply ∷ cs) e =
     (bytes-all m (and-left (allBytes m) (bytesIn cs) e), bytes-in cs (and-right (allBytes m) (bytesIn cs) e))
@@ -39,14 +40,14 @@ bytes-in (mount ∷ cs) e = (tt, bytes-in cs e)
 bytes-in (format ∷ cs) e = (tt, bytes-in cs e)
 
 -- a store that keeps the promise shows what the machine shows
-same-trace : (m : Machine) → Promise m → (img : List ℕ) → Bytes img → (cs : List Call) → begins cs ≡ true → ByteCalls cs
-    → trace m img unmounted cs ≡ trace exec img unmounted cs
+same-trace : (m : Machine) → Promise m → (img : List ℕ) → Bytes img → (cs : List Call) → begins cs ≡ true → ByteEvents (map call cs)
+    → trace m img unmounted (map call cs) ≡ trace exec img unmounted (map call cs)
 unfolding PromiseDetermines
 same-trace m p img b [] e c = refl
 same-trace m p img b (request h msg reply ∷ cs) e c = clash false e refl
 same-trace m p img b (step ∷ cs) e c = clash false e refl
-same-trace m p img b (mount ∷ cs) e c = promise-determines m exec p promise img unmounted unmounted mount cs b tt (c .1)
-same-trace m p img b (format ∷ cs) e c = promise-determines m exec p promise img unmounted unmounted format cs b tt (c .1)
+same-trace m p img b (mount ∷ cs) e c = promise-determines m exec p promise img unmounted unmounted mount (map call cs) b tt (c .1)
+same-trace m p img b (format ∷ cs) e c = promise-determines m exec p promise img unmounted unmounted format (map call cs) b tt (c .1)
 
 -- so one that shows something else doesn't keep it
 differs : {w : Wrongly} {img : List ℕ} {cs : List Call} {see : Shown → ℕ} {a b : ℕ}
@@ -54,7 +55,7 @@ differs : {w : Wrongly} {img : List ℕ} {cs : List Call} {see : Shown → ℕ} 
 differs {w} {img} {cs} {see} {a} {b} t p =
     let bytes : Bytes img = bytes-all img (and-left (allBytes img) (begins cs && bytesIn cs) (t .is-run)) in
     let calls : (begins cs && bytesIn cs) ≡ true = and-right (allBytes img) (begins cs && bytesIn cs) (t .is-run) in
-    let same : trace (offBench w) img unmounted cs ≡ trace exec img unmounted cs =
+    let same : trace (offBench w) img unmounted (map call cs) ≡ trace exec img unmounted (map call cs) =
     same-trace (offBench w) p img bytes cs (and-left (begins cs) (bytesIn cs) calls)
     (bytes-in cs (and-right (begins cs) (bytesIn cs) calls)) in
     eqb-false a b (t .apart) (sym (t .shows-wrong) ∙ ap (λ (xs : List Shown). see (lastFrom nothing xs)) same ∙ t .shows-right)
@@ -84,7 +85,7 @@ not-unmounted e = let w : _≡_ {A = ℕ} 0 1 = cc in omega arith
 
 -- with an image of another length
 outside-is-done : Promise (offBench outsideIsDone) → ⊥
-unfolding outsideIsDone stepBusy stepOn formatOn enterWipe formatting
+unfolding outsideIsDone stepBusy stepOn allFF blockState formatOrder formatOn enterWipe formatting
 outside-is-done p = not-idle (p .calls .told (replicate 1280 0xFF) formatting step tt (λ e. absurd (not-unmounted e)) .done .0 refl)
 
 -- at a step that its job doesn't have
@@ -99,7 +100,7 @@ never-ends (suc n) (inr (inl e)) = let w : _≡_ {A = ℕ} 0 1 = cc in omega ari
 never-ends (suc n) (inr (inr e)) = never-ends n e
 
 stuck-declared : Declared stuck
-unfolding stuck formatting formatOn enterWipe
+unfolding stuck formatting allFF blockState formatOrder formatOn enterWipe
 stuck-declared = record { last = omega arith; wipes = omega arith; append = omega arith; copy = omega arith }
 
 forged-waits : Promise (offBench forgedWaits) → ⊥
@@ -133,5 +134,8 @@ refuted =
       keeps-pending = differs (runs .keeps-pending);
       refuses-alike = differs (runs .refuses-alike);
       overlooks-foreign = differs (runs .overlooks-foreign);
+      refuses-half-erased = differs (runs .refuses-half-erased);
+      takes-half-erased = differs (runs .takes-half-erased);
       formats-at-once = differs (runs .formats-at-once);
+      formats-blindly = differs (runs .formats-blindly);
     }

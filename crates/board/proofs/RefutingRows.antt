@@ -13,7 +13,7 @@ use Rattle.journal.specs.Room.{claimed}
 use Rattle.wire.specs.declared.Answer.{Answer}
 use Rattle.wire.specs.declared.Answer.the-variants.{Done, More, Refused}
 use Rattle.board.specs.declared.Record.{Record}
-use Rattle.board.specs.Record.{unmounted, Out}
+use Rattle.board.specs.Record.{unmounted, Out, out}
 use Rattle.board.specs.Exec.{Call, request, step, mount, format, exec}
 use Rattle.board.specs.Demand1.{OneStep}
 use Rattle.board.specs.Rows.{Ran, ran, drive, returned, ask, asked, cutIn, mounted, replayed, timed, part, rowA, rowB, rowC, rowD, rowE}
@@ -22,7 +22,8 @@ use Rattle.board.specs.Wrong.{Wrongly, onBench, offBench, byAnswer, onIm
 use Rattle.board.specs.Wrong.{refusesAll, refusesPuts, refusesHighIds, ownFormatsOnly, firstHalfOnly, hostFirst, refusalClears}
 use Rattle.board.specs.Wrong.{refusedLogWrites, readsAlike, inventsCount, neverCommits, abortsNothing, takesOthers, keepsOld}
 use Rattle.board.specs.Wrong.{programsNothing, wholeFrame, inventsStep, erasesFirst, outsideIsDone, forgedWaits, hurriedMount}
-use Rattle.board.specs.Wrong.{losesAll, keepsPending, refusesAlike, overlooksForeign, formatsAtOnce}
+use Rattle.board.specs.Wrong.{losesAll, keepsPending, refusesAlike, overlooksForeign, refusesHalfErased, takesHalfErased}
+use Rattle.board.specs.Wrong.{formatsAtOnce, formatsBlindly}
 use Rattle.board.specs.WrongRows.{RightInRows}
 use Rattle.board.proofs.Refusals.{at-most-one-step}
 use Rattle.board.proofs.Bench.{rows}
@@ -222,10 +223,15 @@ formats-at-once : FormatsAnswered formatsAtOnce
 unfolding formatsAtOnce
 formats-at-once img r o = accepted-answer (o .answer) o (onImage (replicate (length img) 0xFF) o) refl
 
+formats-blindly : FormatsAnswered formatsBlindly
+unfolding formatsBlindly
+formats-blindly img r o =
+    accepted-answer (o .answer) o (out (o .answer) img (exec (replicate (length img) 0xFF) unmounted format .board) []) refl
+
 pub right-in-rows : RightInRows
 unfolding refusesAll refusesPuts refusesHighIds ownFormatsOnly firstHalfOnly hostFirst refusalClears refusedLogWrites readsAlike
     inventsCount neverCommits abortsNothing takesOthers keepsOld programsNothing wholeFrame inventsStep erasesFirst outsideIsDone
-    forgedWaits hurriedMount losesAll keepsPending refusesAlike overlooksForeign
+    forgedWaits hurriedMount losesAll keepsPending refusesAlike overlooksForeign refusesHalfErased takesHalfErased
 right-in-rows =
     record {
       refuses-all = rows-kept refusesAll (λ img r o. refl);
@@ -253,5 +259,8 @@ right-in-rows =
       keeps-pending = rows-kept keepsPending (λ img r o. refl);
       refuses-alike = rows-kept refusesAlike (λ img r o. refl);
       overlooks-foreign = rows-kept overlooksForeign (λ img r o. refl);
+      refuses-half-erased = rows-kept refusesHalfErased (λ img r o. refl);
+      takes-half-erased = rows-kept takesHalfErased (λ img r o. refl);
       formats-at-once = rows-kept formatsAtOnce formats-at-once;
+      formats-blindly = rows-kept formatsBlindly formats-blindly;
     }

@@ -1,5 +1,5 @@
 -- The frame that a request appends, the steps of each job and a read's stretch are as document 01 words them.
-use mathlib.Core.Path.{_≡_, refl, ap, subst, _∙_}
+use mathlib.Core.Path.{_≡_, refl, sym, ap, subst, _∙_}
 use mathlib.Core.List.{List, [], _∷_, _++_, map, append-assoc, map-append}
 use mathlib.Core.Option.{some, Option·map}
 use mathlib.Core.Bool.{Bool, true, false, cond}
@@ -20,12 +20,17 @@ use Rattle.journal.proofs.Lists.{open-none}
 use Rattle.journal.proofs.Room.{frames-total}
 use Rattle.journal.proofs.ReplayLaws.{order-laws}
 use Rattle.journal.proofs.Sources.{place-exact}
-use Rattle.board.specs.Mount.{nextBlock, allFound, isBlank, wipeList, anyPending, needsTransfer}
+use Rattle.board.specs.Mount.{nextBlock, allFound, isBlank, wipeList, anyPending, needsTransfer, formatOrder}
+use Rattle.board.specs.Record.{allowed}
 use Rattle.board.specs.Queue.{stretchOf}
 use Rattle.board.specs.Table.{frameIf}
-use Rattle.board.specs.Plan.{onBlock, transferPlan, appendPlan, transferIf}
-use Rattle.board.specs.Sentences.{FrameExact, NeedsExact, Programs, TransferExact, FormatExact, AppendExact, MountExact, StretchExact}
+use Rattle.board.specs.Plan.{onBlock, transferPlan, formatPlan, appendPlan, transferIf}
+use Rattle.board.specs.CutFormat.{Beside}
+use Rattle.board.specs.Sentences.{FrameExact, NeedsExact, Programs, TransferExact, formatSteps, FormatExact, AppendExact, MountExact, StretchExact}
 use Rattle.board.proofs.Lengths.{length-transfer}
+use Rattle.board.proofs.Order.{beside-of, unread-of, order-last, order-unread, order-tie}
+use Rattle.board.proofs.Tabling.{is-allowed}
+use Rattle.board.proofs.TablingMounts.{valid-at, at-valid}
 
 -- ---- frames
 
@@ -107,9 +112,30 @@ transfer-exact k j time st e h =
       count = length-transfer k time st;
     }
 
+format-steps : (img : List ℕ) (j k : ℕ) → formatOrder img ≡ j ∷ k ∷ [] → formatPlan img ≡ formatSteps j k
+unfolding writes encodeAll
+format-steps img j k e = ap (λ (l : List ℕ). map erase l ++ onBlock 0 (build 1 [])) e
+
 pub format-exact : FormatExact
-unfolding FormatExact writes encodeAll
-format-exact img = refl
+format-exact =
+    record {
+      one-valid = λ img j k t fs c e by al v o.
+          let ok : allowed (length img) ≡ true = is-allowed (length img) al in
+          let n : nextBlock k ≡ j = other-half k j (omega arith) in
+          format-steps img j k
+          (order-last img k t fs c (v .0) (at-valid img by ok v)
+          (subst (λ (i : ℕ). Beside t (blockState (block (sizeOf img) i img))) (sym n)
+          (beside-of (blockState (block (sizeOf img) j img)) (λ u gs d q. o u gs d (valid-at img by ok (omega arith) q))))
+          ∙ ap (λ (i : ℕ). i ∷ k ∷ []) n);
+      none-valid = λ img by al o.
+          let ok : allowed (length img) ≡ true = is-allowed (length img) al in
+          format-steps img 0 1
+          (order-unread img (unread-of (blockState (block (sizeOf img) 0 img)) (λ t fs c q. o 0 t fs c (valid-at img by ok (omega arith) q)))
+          (unread-of (blockState (block (sizeOf img) 1 img)) (λ t fs c q. o 1 t fs c (valid-at img by ok (omega arith) q))));
+      equal-times = λ img t fs gs c d by al v w.
+          let ok : allowed (length img) ≡ true = is-allowed (length img) al in
+          format-steps img 0 1 (order-tie img t fs gs c d (at-valid img by ok v) (at-valid img by ok w));
+    }
 
 pub append-exact : AppendExact
 append-exact =

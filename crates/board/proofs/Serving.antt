@@ -45,7 +45,7 @@ use Rattle.board.proofs.Replies.{heldOf, journal-of}
 use Rattle.board.proofs.Books.{Entered, idle-book, BookFits, entered-change, entered-commit, entered-abort, lists-none}
 use Rattle.board.proofs.Accepted.{follows-frame}
 use Rattle.board.proofs.Lengths.{length-frame-moved, length-frame-stayed}
-use Rattle.board.proofs.Framing.{AsRecorded, ready-holds, Appendable, frame-safe, frame-ends}
+use Rattle.board.proofs.Framing.{AsRecorded, ready-holds, Appendable, frame-guard, frame-ends}
 
 -- ---- a frame job is begun
 
@@ -125,7 +125,7 @@ module _ {s : ℕ} {img : List ℕ} {r : Record} {b : Book} (u : Bool) (z : Size
       (framedAt (needsRoom img r f) (r .last) (r .block) (r .end) x f) (nextState st f) = frame-ends hold fit (e .room) in
       let keeps : Keeps s st (b′ .objects) = record { room = y .spare; same = y .objects ∙ sym os } in
       let j : (answerOf (enterWipe (appendJob img r x f)) ≡ More) × Working s img (enterWipe (appendJob img r x f)) b′ u =
-      frame-starts r x f z hold fit (frame-safe hold fit u keeps) (idle-book e after) (ready-idle (after .ready)) in (
+      frame-starts r x f z hold fit (λ n l. let g = frame-guard hold fit u keeps n l in (g .0, λ d. g .1)) (idle-book e after) (ready-idle (after .ready)) in (
         subst (λ (a : Answer). Inv s img (enterWipe (appendJob img r x f)) (entered b h m q a) u) (sym (j .0))
             (inv-busy (enterWipe (appendJob img r x f)) z by (j .0) (j .1)),
         no-refusal (j .0),

@@ -32,12 +32,13 @@ use Rattle.board.specs.Table.{line, Exactly, ValidAt, ForeignAt, Nothing
 use Rattle.board.specs.Promise.{Machine, Current}
 use Rattle.board.proofs.Images.{Sized, sized-of}
 use Rattle.board.proofs.Invariant.{Quiet}
+use Rattle.board.proofs.Order.{Unread}
 use Rattle.board.proofs.Current.{block-long}
 use Rattle.board.proofs.Outcomes.{mount-length}
 use Rattle.board.proofs.Erasing.{SameValid, same-valid}
 use Rattle.board.proofs.Deciding as deciding
 use Rattle.board.proofs.Deciding.{Taken, Decided, Outcome, InTime, worn-out, begins, foreign-block, none-valid, at-store}
-use Rattle.board.proofs.Deciding.{mount-decides, mount-outcome, mount-accepted, taken-holds, taken-newest, taken-none-foreign}
+use Rattle.board.proofs.Deciding.{mount-decides, mount-outcome, mount-accepted, taken-holds, taken-newest}
 use Rattle.board.proofs.Tabling.{false-true, allowed-is, is-allowed}
 
 -- ---- a transfer is due
@@ -76,10 +77,10 @@ module _ (img : List ℕ) (by : Bytes img) (ok : allowed (length img) ≡ true) 
 
   -- ---- a block's state in words, and back
 
-  valid-at : {k t : ℕ} {fs : List Frame} {c : Tail} → k < blocks → blockState (block s k img) ≡ valid t fs c → ValidAt img k t fs c
+  pub valid-at : {k t : ℕ} {fs : List Frame} {c : Tail} → k < blocks → blockState (block s k img) ≡ valid t fs c → ValidAt img k t fs c
   valid-at {k} {t} {fs} {c} h e = (h, states-exact .is-valid (block s k img) t fs c (bytes-block s k img by) (long k h) .0 e)
 
-  at-valid : {k t : ℕ} {fs : List Frame} {c : Tail} → ValidAt img k t fs c → blockState (block s k img) ≡ valid t fs c
+  pub at-valid : {k t : ℕ} {fs : List Frame} {c : Tail} → ValidAt img k t fs c → blockState (block s k img) ≡ valid t fs c
   at-valid {k} {t} {fs} {c} (h, v) = states-exact .is-valid (block s k img) t fs c (bytes-block s k img by) (long k h) .1 v
 
   foreign-at : {k : ℕ} {e : Fault} → k < blocks → blockState (block s k img) ≡ foreign e → ForeignAt img k
@@ -99,7 +100,7 @@ module _ (img : List ℕ) (by : Bytes img) (ok : allowed (length img) ≡ true) 
     at-number a e = same-valid (sym (at-valid a) ∙ ap (λ (n : ℕ). blockState (block s n img)) e ∙ y .is-valid)
 
     clear : Unclear img → ⊥
-    clear (foreign-half k f) = let p = at-foreign f in taken-none-foreign z y k (p .0) (f .0) (p .1)
+    clear (foreign-half k f n) = n (x .number) (x .time) (x .frames) (x .tail) (valid-at (y .there) (y .is-valid))
     clear (equal-times j k t fs gs c d n a b) =
         on-test (eqb j (x .number))
         (λ p. let e : j ≡ x .number = eqb-true j (x .number) p in
@@ -153,8 +154,11 @@ module _ (img : List ℕ) (by : Bytes img) (ok : allowed (length img) ≡ true) 
       record { is-valid = valid-at (y .there) (y .is-valid); newest = λ k t fs c n v. taken-newest z y k t fs c (v .0) n (at-valid v) }
 
   decided-lines : Decided s img → Left
-  decided-lines (foreign-block j h e p r) =
-      inr ((λ n. n .none-foreign j (foreign-at h p)), inl (foreign-half j (foreign-at h p), answer r))
+  decided-lines (foreign-block j h e p o r) =
+      inr (
+        (λ n. n .none-foreign j (foreign-at h p)),
+        inl (foreign-half j (foreign-at h p) (λ k t fs c a. subst Unread (at-valid a) (o k (a .0))), answer r),
+      )
   decided-lines (deciding.equal-times t fs gs c d p q r) =
       let a : ValidAt img 0 t fs c = valid-at (omega arith) p in
       let b : ValidAt img 1 t gs d = valid-at (omega arith) q in

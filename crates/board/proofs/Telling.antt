@@ -133,17 +133,18 @@ at-plain img x =
 mount-plain : (img : List ℕ) → Plain (mountOn img)
 mount-plain img =
     on-test (allowed (length img))
-    (λ a. on-test (anyForeign (allFound img))
-    (λ t. refused-plain refusal.Foreign img _ (mount-foreign img a t))
-    (λ t. go a t (stores (allFound img)) refl))
+    (λ a. go a (stores (allFound img)) refl)
     (λ a. refused-plain refusal.ImageLength img _ (mount-length img a))
   where
-    go : allowed (length img) ≡ true → anyForeign (allFound img) ≡ false → (xs : List Store) → stores (allFound img) ≡ xs → Plain (mountOn img)
-    go a t [] e = refused-plain refusal.NoStore img _ (mount-none img a t e)
-    go a t (y ∷ ys) e =
+    go : allowed (length img) ≡ true → (xs : List Store) → stores (allFound img) ≡ xs → Plain (mountOn img)
+    go a [] e =
+        on-test (anyForeign (allFound img))
+        (λ t. refused-plain refusal.Foreign img _ (mount-foreign img a e t))
+        (λ t. refused-plain refusal.NoStore img _ (mount-none img a e t))
+    go a (y ∷ ys) e =
         on-test (equalTimes (y ∷ ys))
-        (λ q. refused-plain refusal.Foreign img _ (mount-equal img a t y ys e q))
-        (λ q. subst Plain (sym (mount-at img a t y ys e q)) (at-plain img (newest y ys)))
+        (λ q. refused-plain refusal.Foreign img _ (mount-equal img a y ys e q))
+        (λ q. subst Plain (sym (mount-at img a y ys e q)) (at-plain img (newest y ys)))
 
 format-plain : (img : List ℕ) → Plain (formatOn img)
 format-plain img =

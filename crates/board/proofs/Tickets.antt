@@ -8,7 +8,7 @@ use Prim.Native.Nat.{ℕ, zero, suc, _-_, _/_, _≤_, _<_}
 use native.Mathlib.Nat.{le-refl}
 use native.Mathlib.Omega.{arith}
 use lib.Dec.{ltb}
-use lib.ListN.{length, replicate}
+use lib.ListN.{length}
 use lib.Seq.{take-all}
 use borrow.Author.Tests.{ltb-true, ltb-false}
 use Rattle.flash.specs.Bytes.{Bytes}
@@ -36,9 +36,9 @@ use Rattle.board.specs.Plan.{mountPlan, mountedAt, framePlan, framedAt}
 use Rattle.board.specs.Table.{frameFor}
 use Rattle.board.specs.Demand1.{Unchanged, Rests}
 use Rattle.board.specs.Demand2.{Mounts, OneStore}
-use Rattle.board.specs.Book.{Book, book, nothing, noLists, withList, firstBook, enterCall, enterStep, enterRequest, enterParsed}
+use Rattle.board.specs.Book.{Book, book, nothing, noLists, withList, firstBook, enterStep, enterRequest, enterParsed}
 use Rattle.board.specs.Book as books
-use Rattle.board.specs.Claim.{IdleAgrees, AgreesIn, Agrees, Run, stepsOn, formatted, ByteCalls, Claim}
+use Rattle.board.specs.Claim.{IdleAgrees, AgreesIn, Agrees, track, Event, call, stepsOn, formatted, HappensFrom, Claim}
 use Rattle.board.specs.CutFormat.{Left, afterAll, leftBy}
 use Rattle.wire.specs.Sentences.{Means, MessagesExact}
 use Rattle.board.specs.Promise.{Answers, Serves, Job, frame-job, mount-job, StepsOf, Calls, Promise, Shown}
@@ -51,6 +51,7 @@ use Rattle.board.proofs.Answering.{number-injective}
 use Rattle.board.proofs.TablingMounts.{Mountable, mounts-current, same-store}
 use Rattle.board.proofs.Determining.{Asked, request-asks, mount-takes, mount-allowed, mount-agrees}
 use Rattle.board.proofs.Following.{left-by, job-idle, mounted-idle}
+use Rattle.board.proofs.Runs.{stepping, after-append, HappensAfter, happens-append, happens-first, happens-rest, steps-happen, run-rest, steps-agree}
 
 -- ---- 1
 
@@ -90,26 +91,7 @@ module _ {m : Machine} (p : Calls m) where
 done-more : {P : Type 0} (a : Answer) → numberOf a ≡ some 0 → a ≡ More → P
 done-more a e f = let w : _≡_ {A = Option ℕ} (some 0) none = sym e ∙ ap numberOf f in let z : _≡_ {A = ℕ} 0 1 = cc in absurd (omega arith)
 
--- ---- what a list of calls leaves, in two parts
-
-after-append : (m : Machine) (img : List ℕ) (r : Record) (b : Book) (cs ds : List Call)
-    → afterAll m img r b (cs ++ ds) ≡ (let x : Left = afterAll m img r b cs in afterAll m (x .image) (x .board) (x .book) ds)
-after-append m img r b [] ds = refl
-after-append m img r b (c ∷ cs) ds = after-append m (m img r c .image) (m img r c .board) (enterCall b c (m img r c .answer)) cs ds
-
--- at the end of a run too the record agrees with the book
-run-end : (m : Machine) (img : List ℕ) (r : Record) (b : Book) (u : Bool) (cs : List Call) → Run m img r b u cs
-    → let x : Left = afterAll m img r b cs in Agrees m (x .image) (x .board) (x .book)
-run-end m img r b u [] y = y
-run-end m img r b u (c ∷ cs) (y, s, z) = run-end m (m img r c .image) (m img r c .board) (enterCall b c (m img r c .answer)) _ cs z
-
-byte-steps : (n : ℕ) → ByteCalls (replicate n step)
-byte-steps zero = tt
-byte-steps (suc n) = (tt, byte-steps n)
-
-byte-append : (cs ds : List Call) → ByteCalls cs → ByteCalls ds → ByteCalls (cs ++ ds)
-byte-append [] ds x y = y
-byte-append (c ∷ cs) ds (a, x) y = (a, byte-append cs ds x y)
+-- ---- step calls of a run
 
 -- with nothing under way step calls leave the book
 quiet-step : (os : List Object) (l : Host → List Change) (a : Answer) → enterStep (book os l nothing) a ≡ book os l nothing
@@ -121,19 +103,19 @@ abbrev leftAs : Out → Book → Left
 leftAs o b = record { image = o .image; board = o .board; book = b }
 
 quiet-steps : (m : Machine) (n : ℕ) (o : Out) (os : List Object) (l : Host → List Change)
-    → afterAll m (o .image) (o .board) (book os l nothing) (replicate n step) ≡ leftAs (stepsOn m n o) (book os l nothing)
+    → afterAll m (o .image) (o .board) (book os l nothing) (stepping n) ≡ leftAs (stepsOn m n o) (book os l nothing)
 quiet-steps m zero o os l = refl
 quiet-steps m (suc n) o os l =
     let x : Out = m (o .image) (o .board) step in
-    ap (λ (b : Book). afterAll m (x .image) (x .board) b (replicate n step)) (quiet-step os l (x .answer)) ∙ quiet-steps m n x os l
+    ap (λ (b : Book). afterAll m (x .image) (x .board) b (stepping n)) (quiet-step os l (x .answer)) ∙ quiet-steps m n x os l
 
 -- a step call that answers more leaves it too
 more-steps : (m : Machine) (n : ℕ) (o : Out) (b : Book) → ((j : ℕ) → j < n → stepsOn m (suc j) o .answer ≡ More)
-    → afterAll m (o .image) (o .board) b (replicate n step) .book ≡ b
+    → afterAll m (o .image) (o .board) b (stepping n) .book ≡ b
 more-steps m zero o b f = refl
 more-steps m (suc n) o b f =
     let x : Out = m (o .image) (o .board) step in
-    ap (λ (a : Answer). afterAll m (x .image) (x .board) (enterStep b a) (replicate n step) .book) (f zero (omega arith))
+    ap (λ (a : Answer). afterAll m (x .image) (x .board) (enterStep b a) (stepping n) .book) (f zero (omega arith))
     ∙ more-steps m n x b (λ j h. f (suc j) (omega arith))
 
 -- the book once a commit under way is done
@@ -145,15 +127,15 @@ begun b h = book (b .objects) (b .lists) (books.committing h)
 
 -- n steps that answer more, one that answers 0, and t of them in all
 done-steps : (m : Machine) (n t : ℕ) (o : Out) (b : Book) (h : Host) → n < t → ((j : ℕ) → j < n → stepsOn m (suc j) o .answer ≡ More)
-    → stepsOn m (suc n) o .answer ≡ Done → afterAll m (o .image) (o .board) (begun b h) (replicate t step) .book ≡ settled b h
+    → stepsOn m (suc n) o .answer ≡ Done → afterAll m (o .image) (o .board) (begun b h) (stepping t) .book ≡ settled b h
 done-steps m n zero o b h l f e = absurd (omega arith)
 done-steps m zero (suc t) o b h l f e =
     let x : Out = m (o .image) (o .board) step in
-    ap (λ (a : Answer). afterAll m (x .image) (x .board) (enterStep (begun b h) a) (replicate t step) .book) e
+    ap (λ (a : Answer). afterAll m (x .image) (x .board) (enterStep (begun b h) a) (stepping t) .book) e
     ∙ ap (λ (l : Left). l .book) (quiet-steps m t x (settled b h .objects) (settled b h .lists))
 done-steps m (suc n) (suc t) o b h l f e =
     let x : Out = m (o .image) (o .board) step in
-    ap (λ (a : Answer). afterAll m (x .image) (x .board) (enterStep (begun b h) a) (replicate t step) .book) (f zero (omega arith))
+    ap (λ (a : Answer). afterAll m (x .image) (x .board) (enterStep (begun b h) a) (stepping t) .book) (f zero (omega arith))
     ∙ done-steps m n t x b h (omega arith) (λ j l. f (suc j) (omega arith)) e
 
 -- steps of a record in no job
@@ -174,8 +156,8 @@ late-steps {m} p (suc n) (suc t) o h r e = late-steps p n t (m (o .image) (o .bo
 -- a commit under way, by k of its steps: 0 was answered and the book has settled the list, or not yet
 abbrev BookSteps : Machine → Out → Book → Host → ℕ → Type 0
 BookSteps m o b h k =
-    ((numberOf (stepsOn m k o .answer) ≡ some 0) × (afterAll m (o .image) (o .board) (begun b h) (replicate k step) .book ≡ settled b h))
-    ⊎ ((stepsOn m k o .answer ≡ More) × (afterAll m (o .image) (o .board) (begun b h) (replicate k step) .book ≡ begun b h))
+    ((numberOf (stepsOn m k o .answer) ≡ some 0) × (afterAll m (o .image) (o .board) (begun b h) (stepping k) .book ≡ settled b h))
+    ⊎ ((stepsOn m k o .answer ≡ More) × (afterAll m (o .image) (o .board) (begun b h) (stepping k) .book ≡ begun b h))
 
 plan-book : {m : Machine} → Calls m → (i : List ℕ) (o : Out) (plan : List Step) (z : Record) → StepsOf m i o plan z → z .phase ≡ Idle → o .answer ≡ More
     → (b : Book) (h : Host) (k : ℕ) → BookSteps m o b h k
@@ -295,24 +277,26 @@ module _ {m : Machine} (p : Promise m) (i : List ℕ) (bi : Bytes i) (w : Record
 
 module _ {m : Machine} (p : Promise m) (img : List ℕ) (r : Record) (by : Bytes img) (ok : allowed (length img) ≡ true) where
   -- a run that goes on with a mount and n of its steps
-  mounted-agrees : (cs : List Call) → ByteCalls cs → (n : ℕ)
-      → let x : Left = leftBy m img r cs in let o : Out = stepsOn m n (m (x .image) (x .board) mount) in
+  mounted-agrees : (es : List Event) → HappensFrom m img r es → (n : ℕ)
+      → let x : Left = leftBy m img r es in let o : Out = stepsOn m n (m (x .image) (x .board) mount) in
       Agrees m (o .image) (o .board) (book (x .book .objects) noLists nothing)
   unfolding Claim
-  mounted-agrees cs bs n =
-      let x : Left = leftBy m img r cs in
-      let ds : List Call = mount ∷ replicate n step in
-      subst (λ (l : Left). Agrees m (l .image) (l .board) (l .book))
-      (after-append m (formatted m img r .image) (formatted m img r .board) firstBook cs ds
-      ∙ quiet-steps m n (m (x .image) (x .board) mount) (x .book .objects) noLists)
-      (run-end m (formatted m img r .image) (formatted m img r .board) firstBook false (cs ++ ds)
-      (p .claim img r by ok .2 (cs ++ ds) (byte-append cs ds bs (tt, byte-steps n))))
+  mounted-agrees es hs n =
+      let x : Left = leftBy m img r es in
+      let o : Out = m (x .image) (x .board) mount in
+      let b : Book = book (x .book .objects) noLists nothing in
+      let ds : List Event = call mount ∷ stepping n in
+      let all : HappensFrom m img r (es ++ ds) =
+      happens-append m (formatted m img r .image) (formatted m img r .board) firstBook es ds hs tt (tt, steps-happen m n (o .image) (o .board) b) in
+      let y = run-rest m (formatted m img r .image) (formatted m img r .board) firstBook false es ds (p .claim img r by ok .3 (es ++ ds) all) in
+      subst (λ (l : Left). Agrees m (l .image) (l .board) (l .book)) (quiet-steps m n o (x .book .objects) noLists)
+      (steps-agree m n (o .image) (o .board) b (track (y .0) (x .book) mount (o .answer)) (y .1 .1) (y .1 .2))
 
-  restores : (cs : List Call) → ByteCalls cs → (q : Record) → let x : Left = leftBy m img r cs in
+  restores : (es : List Event) → HappensFrom m img r es → (q : Record) → let x : Left = leftBy m img r es in
       Accepted (m (x .image) q mount .answer) → Restores m (m (x .image) q mount) (x .book .objects)
-  restores cs bs q a =
-      let x : Left = leftBy m img r cs in
-      mount-restores p (x .image) (left-by (p .calls) img r by cs bs .bytes) (x .board) (x .book .objects) (mounted-agrees cs bs) q a
+  restores es hs q a =
+      let x : Left = leftBy m img r es in
+      mount-restores p (x .image) (left-by (p .calls) img r by es hs .bytes) (x .board) (x .book .objects) (mounted-agrees es hs) q a
 
   -- the book after a commit that has steps to do
   entered : (b : Book) (h : Host) (msg : List ℕ) (a : Answer) → a ≡ More → Means msg Commit
@@ -321,39 +305,48 @@ module _ {m : Machine} (p : Promise m) (img : List ℕ) (r : Record) (by : Bytes
   entered b h msg a e k =
       ap (enterRequest b h msg) e ∙ ap (λ (w : Parsed). enterParsed b h msg w More) (messages-exact msg Commit .1 k)
 
-  commit-left : (cs : List Call) (h : Host) (msg reply : List ℕ) (k : ℕ) → Means msg Commit → let x : Left = leftBy m img r cs in
+  commit-left : (es : List Event) (h : Host) (msg reply : List ℕ) (k : ℕ) → Means msg Commit → let x : Left = leftBy m img r es in
       let o : Out = m (x .image) (x .board) (request h msg reply) in o .answer ≡ More
-      → leftBy m img r (committing cs h msg reply k) .book ≡ afterAll m (o .image) (o .board) (begun (x .book) h) (replicate k step) .book
-  commit-left cs h msg reply k y e =
-      let x : Left = leftBy m img r cs in
+      → leftBy m img r (committing es h msg reply k) .book ≡ afterAll m (o .image) (o .board) (begun (x .book) h) (stepping k) .book
+  commit-left es h msg reply k y e =
+      let x : Left = leftBy m img r es in
       let o : Out = m (x .image) (x .board) (request h msg reply) in
       ap (λ (l : Left). l .book)
-      (after-append m (formatted m img r .image) (formatted m img r .board) firstBook cs (request h msg reply ∷ replicate k step))
-      ∙ ap (λ (b : Book). afterAll m (o .image) (o .board) b (replicate k step) .book) (entered (x .book) h msg (o .answer) e y)
+      (after-append m (formatted m img r .image) (formatted m img r .board) firstBook es (call (request h msg reply) ∷ stepping k))
+      ∙ ap (λ (b : Book). afterAll m (o .image) (o .board) b (stepping k) .book) (entered (x .book) h msg (o .answer) e y)
 
-  whole-or-not : (cs : List Call) (h : Host) (msg reply : List ℕ) (k : ℕ) (q : Record) → ByteCalls cs → Bytes msg → Means msg Commit
-      → let x : Left = leftBy m img r cs in let y : Left = leftBy m img r (committing cs h msg reply k) in
+  whole-or-not : (es : List Event) (h : Host) (msg reply : List ℕ) (k : ℕ) (q : Record) → HappensFrom m img r (committing es h msg reply k)
+      → Means msg Commit → let x : Left = leftBy m img r es in let y : Left = leftBy m img r (committing es h msg reply k) in
       let o : Out = m (x .image) (x .board) (request h msg reply) in
       o .answer ≡ More → Accepted (m (y .image) q mount .answer)
       → ((numberOf (stepsOn m k o .answer) ≡ some 0) × Restores m (m (y .image) q mount) (changeAll (x .book .lists h) (x .book .objects)))
       ⊎ ((stepsOn m k o .answer ≡ More) × Restores m (m (y .image) q mount) (x .book .objects))
-  whole-or-not cs h msg reply k q bs bm n e a =
-      go (book-steps p (x .image) (left-by (p .calls) img r by cs bs .bytes) (x .board) h msg reply bm e (x .book) k)
+  whole-or-not es h msg reply k q hs n e a =
+      go (book-steps p (x .image) (left-by (p .calls) img r by es first .bytes) (x .board) h msg reply (rest .0) e (x .book) k)
     where
       x : Left
-      x = leftBy m img r cs
+      x = leftBy m img r es
 
       y : Left
-      y = leftBy m img r (committing cs h msg reply k)
+      y = leftBy m img r (committing es h msg reply k)
+
+      ds : List Event
+      ds = call (request h msg reply) ∷ stepping k
+
+      first : HappensFrom m img r es
+      first = happens-first m (formatted m img r .image) (formatted m img r .board) firstBook es ds hs
+
+      rest : HappensAfter m (leftBy m img r es) ds
+      rest = happens-rest m (formatted m img r .image) (formatted m img r .board) firstBook es ds hs
 
       o : Out
       o = m (x .image) (x .board) (request h msg reply)
 
-      back : (b : Book) → afterAll m (o .image) (o .board) (begun (x .book) h) (replicate k step) .book ≡ b
+      back : (b : Book) → afterAll m (o .image) (o .board) (begun (x .book) h) (stepping k) .book ≡ b
           → Restores m (m (y .image) q mount) (b .objects)
       back b f =
-          subst (λ (w : Book). Restores m (m (y .image) q mount) (w .objects)) (commit-left cs h msg reply k n e ∙ f)
-          (restores (committing cs h msg reply k) (byte-append cs (request h msg reply ∷ replicate k step) bs (bm, byte-steps k)) q a)
+          subst (λ (w : Book). Restores m (m (y .image) q mount) (w .objects)) (commit-left es h msg reply k n e ∙ f)
+          (restores (committing es h msg reply k) hs q a)
 
       go : BookSteps m o (x .book) h k
           → ((numberOf (stepsOn m k o .answer) ≡ some 0) × Restores m (m (y .image) q mount) (changeAll (x .book .lists h) (x .book .objects)))
@@ -369,7 +362,7 @@ tickets-settled =
       bad-log-length = λ m p. record { refused = malformed-refused (p .calls); undisturbed = nobody-disturbed (p .calls) };
       power-cuts = λ m p.
           record {
-            restores = λ img r cs q by ok bs a. restores p img r by ok cs bs q a;
-            whole-or-not = λ img r cs h msg reply k q by ok bs bm n e a. whole-or-not p img r by ok cs h msg reply k q bs bm n e a;
+            restores = λ img r es q by ok hs a. restores p img r by ok es hs q a;
+            whole-or-not = λ img r es h msg reply k q by ok hs n e a. whole-or-not p img r by ok es h msg reply k q hs n e a;
           };
     }

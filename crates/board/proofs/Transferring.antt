@@ -15,7 +15,8 @@ use Rattle.journal.specs.Block.{headerLen, lastTime, blockState, build}
 use Rattle.journal.specs.Replay.{Object, State, isOpen, replay, framesOf, settledOnly}
 use Rattle.journal.specs.Room.{claimed}
 use Rattle.journal.proofs.Blocks.{layout-size}
-use Rattle.journal.proofs.States.{Contents}
+use Rattle.journal.proofs.States.{Contents, contents-valid}
+use Rattle.journal.proofs.Raising.{Harmless, blank-harmless, progress-harmless, valid-harmless}
 use Rattle.journal.proofs.Building.{Lands, below-build, built, making, lands}
 use Rattle.journal.proofs.Replaying.{replay-framesOf, stands-settled}
 use Rattle.journal.proofs.Room.{frames-total, used-claimed, claimed-settled, claimed-replay}
@@ -24,9 +25,10 @@ use Rattle.board.specs.Mount.{nextBlock}
 use Rattle.board.specs.Plan.{onBlock, transferPlan}
 use Rattle.board.proofs.Numbers.{next-there, next-other, next-next, next-only}
 use Rattle.board.proofs.Images.{Sized, sized-as, sized-block, apply-append, length-all-steps, block-writes, other-writes}
-use Rattle.board.proofs.Invariant.{StepLands, Quiet, Others, Valid, Lesser, Safe, some-valid}
+use Rattle.board.proofs.Invariant.{StepLands, Others, Valid, Lesser, Safe, some-valid, CutSafe, Guard}
 use Rattle.board.proofs.Prefixes.{Each, each-append, each-one, each-writes, below-take}
-use Rattle.board.proofs.Current.{Alone, After, Roomy, Keeps, block-long, alone-after, valid-of, blank-quiet, both-safe}
+use Rattle.board.proofs.Current.{Alone, After, Roomy, Keeps, block-long, alone-after, valid-of}
+use Rattle.board.proofs.Erasing.{cut-safe}
 
 -- a state that a block may be made of, after one of time t
 pub record Moves (s t : ℕ) (st : State) : Type 0 where
@@ -103,33 +105,44 @@ module _ {s k t : ℕ} {img : List ℕ} {fs : List Frame} {c : Tail} (a : Alone 
           (sym (made-part (take j (copyWrites t st)) (below-take s j (copyWrites t st) below)))
           (lands s (suc t) j (framesOf st) (write 0 0) fits (x .stands) h)
 
-  pub transfer-safe : {os : List Object} (u : Bool) → Keeps s (replay fs) os → Keeps s st os → Each s (λ y i. Safe s i os u) (transferPlan k t st) img
+  pub transfer-guard : {os : List Object} (u : Bool) → Keeps s (replay fs) os → Keeps s st os → Each s (Guard s os u) (transferPlan k t st) img
   unfolding writeAll
-  transfer-safe {os} u p q =
-      each-append s (λ y i. Safe s i os u) (onBlock (nextBlock k) (copyWrites t st)) (erase k ∷ []) img
-      (each-writes s (nextBlock k) (λ y i. Safe s i os u) (copyWrites t st) (write 0 0) img go) (each-one s (λ y i. Safe s i os u) (erase k) copy both)
+  transfer-guard {os} u p q =
+      each-append s (Guard s os u) (onBlock (nextBlock k) (copyWrites t st)) (erase k ∷ []) img
+      (each-writes s (nextBlock k) (Guard s os u) (copyWrites t st) (write 0 0) img (λ j h. (go j h, tt)))
+      (each-one s (Guard s os u) (erase k) copy (some-valid (nextBlock k) there made old, cut))
     where
-      old : (ws : List Write) → Below s ws → Valid s (applyAll s (onBlock (nextBlock k) ws) img) k os
-      old ws b = valid-of (subst (λ (l : List ℕ). Contents l t fs c) (sym (kept-part ws b)) (a .contents)) p
+      -- while the copy is made, the old block is the current one
+      part : ℕ → List ℕ
+      part j = writeAll (replicate s 255) (take j (copyWrites t st))
 
-      quiet : (j : ℕ) → j < length (copyWrites t st) → Quiet (blockState (writeAll (replicate s 255) (take j (copyWrites t st))))
-      quiet zero h = blank-quiet s (replicate s 255) refl
-      quiet (suc j) h = subst Quiet (sym (making s (suc t) (suc j) (framesOf st) fits (omega arith) h)) tt
-
-      others : (j : ℕ) → j < length (copyWrites t st) → Others (λ i. Quiet (blockState (block s i (during j)))) k
-      others j h i l n =
-          subst (λ (m : ℕ). Quiet (blockState (block s m (during j)))) (sym (next-only k (a .there) i l n))
-          (subst (λ (b : List ℕ). Quiet (blockState b)) (sym (made-part (take j (copyWrites t st)) (below-take s j (copyWrites t st) below))) (quiet j h))
+      half-made : (j : ℕ) → j < length (copyWrites t st) → Harmless t (part j)
+      half-made zero h = blank-harmless s t (replicate s 255) (omega (arith, a .sized .low)) refl
+      half-made (suc j) h = progress-harmless t (part (suc j)) (making s (suc t) (suc j) (framesOf st) fits (omega arith) h)
 
       go : (j : ℕ) → j < length (copyWrites t st) → Safe s (during j) os u
       go j h =
           let b : Below s (take j (copyWrites t st)) = below-take s j (copyWrites t st) below in
-          some-valid k (a .there) (old (take j (copyWrites t st)) b) (λ i l n. Lesser.quiet (others j h i l n))
+          some-valid k (a .there) (valid-of (subst (λ (l : List ℕ). Contents l t fs c) (sym (kept-part (take j (copyWrites t st)) b)) (a .contents)) p)
+          (λ i l n. subst (λ (m : ℕ). Lesser s (during j) t m) (sym (next-only k (a .there) i l n))
+          (subst (Harmless t) (sym (made-part (take j (copyWrites t st)) b)) (half-made j h)))
 
-      both : Safe s copy os u
-      both =
-          both-safe u k (a .there) (old (copyWrites t st) below) (valid-of new (subst (λ (z : State). Keeps s z os) (sym (replay-framesOf st)) q))
-          (omega arith)
+      -- then the new one is
+      there : nextBlock k < blocks
+      there = next-there k (a .there)
+
+      made : Valid s copy (nextBlock k) os
+      made = valid-of new (subst (λ (z : State). Keeps s z os) (sym (replay-framesOf st)) q)
+
+      old : Others (Lesser s copy (suc t)) (nextBlock k)
+      old i l n =
+          subst (λ (m : ℕ). Lesser s copy (suc t) m) (sym (next-only (nextBlock k) there i l n ∙ next-next k (a .there)))
+          (valid-harmless (block s k copy) (ap blockState (kept-part (copyWrites t st) below) ∙ contents-valid (a .contents)) (omega arith))
+
+      cut : CutSafe s os u (erase k) copy
+      cut =
+          cut-safe (sized-as copy (length-all-steps s (onBlock (nextBlock k) (copyWrites t st)) img) (a .sized)) (nextBlock k) k there (a .there)
+          (next-other k (a .there)) made old u
 
   pub transfer-alone : Alone s (applyAll s (transferPlan k t st) img) (nextBlock k) (suc t) (framesOf st) clean
   unfolding applyAll

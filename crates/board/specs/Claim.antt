@@ -1,5 +1,5 @@
--- Demand 3: the claim about every list of calls from a finished format on. Beyond document 01's letter it says that the store
--- stays available: a store that loses all at a cut and then refuses every mount would meet the letter.
+-- Demand 3: the claim about every list of calls, and of cuts inside erases (document 02, K4), from a finished format on. Beyond the
+-- papers' letter it says that the store stays available: a store that loses all at a cut and then refuses every mount would meet the letter.
 use mathlib.Core.List.{List, [], _∷_, _++_}
 use mathlib.Core.Option.{Option, none, some}
 use mathlib.Core.Bool.{Bool, true, false}
@@ -7,7 +7,8 @@ use mathlib.Core.Path.{_≡_}
 use Prim.Native.Nat.{ℕ, zero, suc, _+_, _≤_, _<_}
 use lib.ListN.{length, take, drop}
 use Rattle.flash.specs.Bytes.{Bytes, u16le}
-use Rattle.flash.specs.Flash.{Step, blocks, block, sizeOf}
+use Rattle.flash.specs.Flash.{Step, blocks, block, sizeOf, withBlock, eraseBlock}
+use Rattle.flash.specs.Raised.{Raised}
 use Rattle.frame.specs.declared.Host.{Host}
 use Rattle.frame.specs.Frame.{Frame, hostMax, deleteLen, endLen}
 use Rattle.frame.specs.Reader.{Tail, clean}
@@ -29,6 +30,7 @@ use Rattle.board.specs.Record.{allowed, Out}
 use Rattle.board.specs.Mount.{needsTransfer}
 use Rattle.board.specs.Exec.{Call, request, step, mount, format, Machine}
 use Rattle.board.specs.Plan.{Follows}
+use Rattle.board.specs.Table.{InJob}
 use Rattle.board.specs.Book.{Book, UnderWay, nothing, committing, formatting, firstBook, enterCall}
 
 -- ---- between calls
@@ -137,23 +139,7 @@ track u b step a = trackStep u (b .under) a
 track u b mount a = trackMount u a
 track u b format a = trackFormat u a
 
--- ---- the run
-
--- the claim from an image, a record, a book: at the start and after each call
-abbrev pub Run : Machine → List ℕ → Record → Book → Bool → List Call → Type 0
-Run m img r b u [] = Agrees m img r b
-Run m img r b u (c ∷ cs) =
-    let o : Out = m img r c in
-    Agrees m img r b × Says img r b u c o × Run m (o .image) (o .board) (enterCall b c (o .answer)) (track u b c (o .answer)) cs
-
--- "whose steps too each got what the call before gave back"
-abbrev pub stepsOn : Machine → ℕ → Out → Out
-stepsOn m zero o = o
-stepsOn m (suc n) o = stepsOn m n (m (o .image) (o .board) step)
-
--- "the image and idle record that a finished format gave back", whatever record there was before
-abbrev pub formatted : Machine → List ℕ → Record → Out
-formatted m img r = stepsOn m 12 (m img r format)
+-- ---- the list
 
 -- messages are bytes
 abbrev pub ByteCall : Call → Type 0
@@ -166,9 +152,70 @@ abbrev pub ByteCalls : List Call → Type 0
 ByteCalls [] = Unit {0}
 ByteCalls (c ∷ cs) = ByteCall c × ByteCalls cs
 
--- "This is a single claim about the whole list": every image of an allowed length, every list of calls
+-- "Mount and format take no record."
+abbrev pub Begins : Call → Type 0
+Begins (request h msg reply) = ⊥
+Begins step = ⊥
+Begins mount = Unit {0}
+Begins format = Unit {0}
+
+-- what stands in the list: a call; or, K4, "cuts inside erases of transfer and mount: such a cut stands in the list too", with the block, the
+-- bytes that it has then, and whatever record the next call is given
+pub data Event : Type 0 where
+  call : Call → Event
+  cutErase : ℕ → List ℕ → Record → Event
+
+-- such a cut can happen: a job's next step erases the block, and no format is under way. "A cut inside a format's erase ends its run".
+-- "power lost inside an erase leaves each bit as it was or 1, freely": any raised bytes
+pub record CutsErase (m : Machine) (img : List ℕ) (r : Record) (b : Book) (k : ℕ) (new : List ℕ) : Type 0 where
+  pub in-job : InJob (r .phase)
+  pub no-format : b .under ≡ formatting → ⊥
+  pub there : k < blocks
+  pub erases : m img r step .image ≡ eraseBlock (sizeOf img) k img
+  pub raised : Raised (block (sizeOf img) k img) new
+
+-- "and a mount or format comes next"
+abbrev pub Restarts : List Event → Type 0
+Restarts [] = Unit {0}
+Restarts (call c ∷ es) = Begins c
+Restarts (cutErase k new q ∷ es) = ⊥
+
+-- the list can happen from an image, a record, a book; of a cut "the book takes nothing from it"
+abbrev pub Happens : Machine → List ℕ → Record → Book → List Event → Type 0
+Happens m img r b [] = Unit {0}
+Happens m img r b (call c ∷ es) =
+    let o : Out = m img r c in ByteCall c × Happens m (o .image) (o .board) (enterCall b c (o .answer)) es
+Happens m img r b (cutErase k new q ∷ es) =
+    CutsErase m img r b k new × Restarts es × Happens m (withBlock (sizeOf img) k new img) q b es
+
+-- ---- the run
+
+-- the claim from an image, a record, a book: what each call says, and that after it the record agrees with the book
+abbrev pub Run : Machine → List ℕ → Record → Book → Bool → List Event → Type 0
+Run m img r b u [] = Unit {0}
+Run m img r b u (call c ∷ es) =
+    let o : Out = m img r c in
+    let b′ : Book = enterCall b c (o .answer) in
+    Says img r b u c o × Agrees m (o .image) (o .board) b′ × Run m (o .image) (o .board) b′ (track u b c (o .answer)) es
+Run m img r b u (cutErase k new q ∷ es) = Run m (withBlock (sizeOf img) k new img) q b u es
+
+-- "whose steps too each got what the call before gave back"
+abbrev pub stepsOn : Machine → ℕ → Out → Out
+stepsOn m zero o = o
+stepsOn m (suc n) o = stepsOn m n (m (o .image) (o .board) step)
+
+-- "the image and idle record that a finished format gave back", whatever record there was before
+abbrev pub formatted : Machine → List ℕ → Record → Out
+formatted m img r = stepsOn m 12 (m img r format)
+
+-- a list that can happen from there on
+abbrev pub HappensFrom : Machine → List ℕ → Record → List Event → Type 0
+HappensFrom m img r es = Happens m (formatted m img r .image) (formatted m img r .board) firstBook es
+
+-- "This is a single claim about the whole list": every image of an allowed length, every list that can happen
 unfoldable pub Claim : Machine → Type 0
 Claim m =
     (img : List ℕ) (r : Record) → Bytes img → allowed (length img) ≡ true
-    → (formatted m img r .answer ≡ Done) × (formatted m img r .board .phase ≡ Idle)
-    × ((cs : List Call) → ByteCalls cs → Run m (formatted m img r .image) (formatted m img r .board) firstBook false cs)
+    → let o : Out = formatted m img r in
+    (o .answer ≡ Done) × (o .board .phase ≡ Idle) × Agrees m (o .image) (o .board) firstBook
+    × ((es : List Event) → HappensFrom m img r es → Run m (o .image) (o .board) firstBook false es)

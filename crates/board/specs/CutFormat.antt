@@ -1,22 +1,23 @@
--- "On an image the store left, a cut format leaves the old settled objects, no store, or the empty store": of every image that a run left.
+-- "On an image the store left, a cut format leaves the old settled objects, no store, or the empty store": of every image that a run left,
+-- one that a cut inside an erase left too. K4: "K1, and document 01's word on what a cut format leaves, keep to cuts between steps."
 use mathlib.Core.List.{List, [], _∷_}
 use mathlib.Core.Bool.{true}
 use mathlib.Core.Path.{_≡_}
 use Prim.Native.Nat.{ℕ, _≤_, _<_}
 use lib.ListN.{length}
 use Rattle.flash.specs.Bytes.{Bytes}
-use Rattle.flash.specs.Flash.{blocks, block, sizeOf}
+use Rattle.flash.specs.Flash.{blocks, block, sizeOf, withBlock}
 use Rattle.frame.specs.Frame.{Frame}
 use Rattle.frame.specs.Reader.{Tail, clean}
 use Rattle.journal.specs.Replay.{Object, replay}
 use Rattle.journal.specs.Block.{BlockState, blank, inProgress, valid, foreign, blockState}
 use Rattle.board.specs.declared.Record.{Record}
 use Rattle.board.specs.Record.{Out, allowed}
-use Rattle.board.specs.Exec.{Call, format, Machine}
+use Rattle.board.specs.Exec.{format, Machine}
 use Rattle.board.specs.Book.{Book, firstBook, enterCall}
-use Rattle.board.specs.Claim.{stepsOn, formatted, ByteCalls}
+use Rattle.board.specs.Claim.{stepsOn, formatted, Event, call, cutErase, HappensFrom}
 
--- ---- what calls leave
+-- ---- what a run leaves
 
 -- image, record and book at the end of a run
 pub record Left : Type 0 where
@@ -24,25 +25,26 @@ pub record Left : Type 0 where
   pub board : Record
   pub book : Book
 
--- calls that each got what the last gave back
-abbrev pub afterAll : Machine → List ℕ → Record → Book → List Call → Left
+-- calls that each got what the last gave back, and cuts inside erases
+abbrev pub afterAll : Machine → List ℕ → Record → Book → List Event → Left
 afterAll m img r b [] = record { image = img; board = r; book = b }
-afterAll m img r b (c ∷ cs) = let o : Out = m img r c in afterAll m (o .image) (o .board) (enterCall b c (o .answer)) cs
+afterAll m img r b (call c ∷ es) = let o : Out = m img r c in afterAll m (o .image) (o .board) (enterCall b c (o .answer)) es
+afterAll m img r b (cutErase k new q ∷ es) = afterAll m (withBlock (sizeOf img) k new img) q b es
 
 -- a run from a finished format on
-abbrev pub leftBy : Machine → List ℕ → Record → List Call → Left
-leftBy m img r cs = afterAll m (formatted m img r .image) (formatted m img r .board) firstBook cs
+abbrev pub leftBy : Machine → List ℕ → Record → List Event → Left
+leftBy m img r es = afterAll m (formatted m img r .image) (formatted m img r .board) firstBook es
 
 -- ---- what a cut leaves
 
--- beside a valid block of a time and these objects: a mount takes either, and finds them
-abbrev pub Beside : ℕ → List Object → BlockState → Type 0
-Beside t os blank = Unit {0}
-Beside t os inProgress = Unit {0}
-Beside t os (valid u fs c) = (u ≡ t → ⊥) × (replay fs .objects ≡ os)
-Beside t os (foreign e) = ⊥
+-- beside a valid block of a time: a mount takes that one, and erases what isn't blank
+abbrev pub Beside : ℕ → BlockState → Type 0
+Beside t blank = Unit {0}
+Beside t inProgress = Unit {0}
+Beside t (valid u fs c) = u < t
+Beside t (foreign e) = Unit {0}
 
--- "the old settled objects"
+-- "the old settled objects": a mount finds them
 pub record OldObjects (img : List ℕ) (os : List Object) : Type 0 where
   pub number : ℕ
   pub time : ℕ
@@ -51,7 +53,7 @@ pub record OldObjects (img : List ℕ) (os : List Object) : Type 0 where
   pub there : number < blocks
   pub is-valid : blockState (block (sizeOf img) number img) ≡ valid time frames tail
   pub objects : replay frames .objects ≡ os
-  pub others : (j : ℕ) → j < blocks → (j ≡ number → ⊥) → Beside time os (blockState (block (sizeOf img) j img))
+  pub others : (j : ℕ) → j < blocks → (j ≡ number → ⊥) → Beside time (blockState (block (sizeOf img) j img))
 
 -- "no store": a mount answers 2
 abbrev pub Empty : BlockState → Type 0
@@ -77,5 +79,5 @@ pub data Leaves (os : List Object) (j : ℕ) (img : List ℕ) : Type 0 where
 -- for every run and every cut, before the first step and after the last too
 unfoldable pub CutFormat : Machine → Type 0
 CutFormat m =
-    (img : List ℕ) (r : Record) (cs : List Call) (j : ℕ) → Bytes img → allowed (length img) ≡ true → ByteCalls cs → j ≤ 12
-    → let x : Left = leftBy m img r cs in Leaves (x .book .objects) j (stepsOn m j (m (x .image) (x .board) format) .image)
+    (img : List ℕ) (r : Record) (es : List Event) (j : ℕ) → Bytes img → allowed (length img) ≡ true → HappensFrom m img r es → j ≤ 12
+    → let x : Left = leftBy m img r es in Leaves (x .book .objects) j (stepsOn m j (m (x .image) (x .board) format) .image)

@@ -9,13 +9,12 @@ use Prim.Native.Nat.{ℕ, _+_, _-_, _*_, _≤_, _<_}
 use lib.ListN.{length, getD}
 use Rattle.flash.specs.Bytes.{Bytes}
 use Rattle.flash.specs.Flash.{Step, program, erase, apply, applyAll, blocks, block, sizeOf}
-use Rattle.frame.specs.declared.Fault.{Fault}
 use Rattle.frame.specs.declared.Host.{Host}
 use Rattle.frame.specs.declared.ObjectId.{ObjectId}
 use Rattle.frame.specs.Frame.{Frame, frameLen, put, delete}
 use Rattle.frame.specs.Reader.{Tail, clean}
 use Rattle.journal.specs.Replay.{replay, entry, settledOnly}
-use Rattle.journal.specs.Block.{valid, foreign, blockState, stateAt, inTransfer}
+use Rattle.journal.specs.Block.{valid, blockState, stateAt, inTransfer}
 use Rattle.journal.specs.Room.{claimed, openHosts}
 use Rattle.wire.specs.declared.Request.the-variants.{Put, Delete, Commit, Abort}
 use Rattle.wire.specs.declared.Request.{Request}
@@ -35,15 +34,14 @@ use Rattle.board.specs.Claim.{ByteCalls}
 
 -- ---- every image reads as one store
 
--- the store that an accepted mount takes: a valid block, newer than every other valid one, and none foreign; its plan is document
--- 01's, and leaves a block that replays to its settled objects and nothing pending
+-- the store that an accepted mount takes: a valid block, newer than every other valid one; its plan is document 01's, and leaves a block
+-- that replays to its settled objects and nothing pending
 pub record Mounts (m : Machine) (img : List ℕ) (o : Out) : Type 0 where
   pub store : Store
   pub there : store .number < blocks
   pub is-valid : blockState (block (sizeOf img) (store .number) img) ≡ valid (store .time) (store .frames) (store .tail)
   pub newest : (k t : ℕ) (fs : List Frame) (c : Tail) → k < blocks → (k ≡ store .number → ⊥)
       → blockState (block (sizeOf img) k img) ≡ valid t fs c → t < store .time
-  pub none-foreign : (k : ℕ) (e : Fault) → k < blocks → blockState (block (sizeOf img) k img) ≡ foreign e → ⊥
   pub last : Record
   pub is-last : last ≡ mountedAt (needsTransfer (store .frames) (store .tail)) (length img - 1) store
   pub follows : Follows m img (o .board) (mountPlan (allFound img) store) last
@@ -77,7 +75,8 @@ abbrev pub AllLand : Machine → List ℕ → Record → List Call → Type 0
 AllLand m img r [] = Unit {0}
 AllLand m img r (c ∷ cs) = let o : Out = m img r c in StepLands img o × AllLand m (o .image) (o .board) cs
 
--- from a mount or a format on, accepted or not, of any image of an allowed length
+-- from a mount or a format on, accepted or not, of any image of an allowed length: so after a cut inside an erase too, where one of them
+-- comes next
 pub record LandsFrom (m : Machine) : Type 0 where
   pub from-mount : (img : List ℕ) (r : Record) (cs : List Call) → Bytes img → allowed (length img) ≡ true → ByteCalls cs
       → AllLand m img (m img r mount .board) cs

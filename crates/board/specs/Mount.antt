@@ -1,4 +1,4 @@
--- Mount and format, document 01, "Jobs". Both take no record.
+-- Mount and format, document 01, "Jobs", and document 02, K4. Both take no record.
 use mathlib.Core.List.{List, [], _∷_, _++_, map}
 use mathlib.Core.Bool.{Bool, true, false, _&&_, _||_, cond}
 use Prim.Native.Nat.{ℕ, suc, _+_, _-_}
@@ -91,7 +91,7 @@ abbrev pub newest : Store → List Store → Store
 newest x [] = x
 newest x (y ∷ ys) = cond (ltb (x .time) (y .time)) (newest y ys) (newest x ys)
 
--- "The other is erased if it isn't blank."
+-- "The other is erased if it isn't blank." K4: "Where one half is valid, the other, if foreign, is erased on mount."
 abbrev pub wipeList : ℕ → List Found → List ℕ
 wipeList k [] = []
 wipeList k (x ∷ xs) = cond (eqb k (x .number) || isBlank (x .state)) (wipeList k xs) (x .number ∷ wipeList k xs)
@@ -134,14 +134,14 @@ mountAt img xs x =
     cond (needsTransfer (x .frames) (x .tail) && eqb (x .time) lastTime) (refuse refusal.Worn img unmounted [])
     (begin img [] (mountJob img x (wipeList (x .number) xs)))
 
--- 2: "for mount, no valid half and none foreign"; 3: "two valid halves of equal time"
+-- 2: "for mount, no valid half and none foreign". K4: "Refusal 3 remains for two valid halves of equal time, and for no valid half with at
+-- least one foreign."
 abbrev pub mountStores : List ℕ → List Found → List Store → Out
-mountStores img xs [] = refuse refusal.NoStore img unmounted []
+mountStores img xs [] = cond (anyForeign xs) (refuse refusal.Foreign img unmounted []) (refuse refusal.NoStore img unmounted [])
 mountStores img xs (y ∷ ys) = cond (equalTimes (y ∷ ys)) (refuse refusal.Foreign img unmounted []) (mountAt img xs (newest y ys))
 
--- 3: "a foreign half"
 unfoldable pub mountFound : List ℕ → List Found → Out
-mountFound img xs = cond (anyForeign xs) (refuse refusal.Foreign img unmounted []) (mountStores img xs (stores xs))
+mountFound img xs = mountStores img xs (stores xs)
 
 -- 4: "image length not allowed"
 unfoldable pub mountOn : List ℕ → Out
@@ -149,9 +149,26 @@ mountOn img = cond (allowed (length img)) (mountFound img (allFound img)) (refus
 
 -- ---- format
 
--- "erase half 0, erase half 1": the order in which a format erases the blocks of an image
-abbrev pub formatOrder : List ℕ → List ℕ
-formatOrder img = blockNumbers
+-- block numbers but one
+abbrev pub numbersBut : ℕ → List ℕ → List ℕ
+numbersBut k [] = []
+numbersBut k (n ∷ ns) = cond (eqb k n) (numbersBut k ns) (n ∷ numbersBut k ns)
+
+-- two valid blocks have this time
+abbrev pub tied : ℕ → List Store → Bool
+tied t [] = false
+tied t (x ∷ xs) = cond (eqb t (x .time)) (sameTime t xs) (tied t xs)
+
+-- the order in which a format erases the blocks of an image. K4: "Format now erases last the valid half, of two the one with the larger time
+-- (half 1 if there is none or the times are equal)."
+abbrev pub orderFor : List Store → List ℕ
+orderFor [] = blockNumbers
+orderFor (y ∷ ys) =
+    let x : Store = newest y ys in
+    cond (tied (x .time) (y ∷ ys)) blockNumbers (numbersBut (x .number) blockNumbers ++ (x .number ∷ []))
+
+unfoldable pub formatOrder : List ℕ → List ℕ
+formatOrder img = orderFor (stores (allFound img))
 
 -- "then half 0's header at time 1 in the same order": no frame is copied, from no id and no offset on
 abbrev pub formatJob : List ℕ → Record

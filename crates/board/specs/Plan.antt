@@ -24,7 +24,7 @@ onBlock k ws = map (writeStep k) ws
 abbrev pub transferPlan : ℕ → ℕ → State → List Step
 transferPlan k time st = onBlock (nextBlock k) (build (suc time) (framesOf st)) ++ (erase k ∷ [])
 
--- "Format: erase half 0, erase half 1, then half 0's header at time 1 in the same order."
+-- "Format: erase half 0, erase half 1, then half 0's header at time 1 in the same order": the erases in K4's order
 abbrev pub formatPlan : List ℕ → List Step
 formatPlan img = map erase (formatOrder img) ++ onBlock 0 (build 1 [])
 

@@ -8,7 +8,7 @@ use Prim.Native.Nat.{ℕ, _+_, _-_, _*_, _≤_, _<_}
 use lib.Bits.{bitAnd}
 use lib.ListN.{length, getD, take, drop}
 use Rattle.flash.specs.Bytes.{Bytes, u16le, u32le}
-use Rattle.flash.specs.Flash.{Step, applyAll, eraseBlock, sizeOf}
+use Rattle.flash.specs.Flash.{Step, applyAll, withBlock, eraseBlock, sizeOf}
 use Rattle.frame.specs.declared.Host.{Host}
 use Rattle.frame.specs.declared.ObjectId.{ObjectId}
 use Rattle.frame.specs.Frame.{Frame}
@@ -36,7 +36,7 @@ use Rattle.board.specs.Table.{frameFor, Exactly, InJob, Fresh, ValidAt, 
 use Rattle.board.specs.Demand1.{Unchanged, ImageAfter, Declared, Rests, EndsWithin}
 use Rattle.board.specs.Demand2.{Accepted, OneStore, LandsFrom, RoomExact, WearExact}
 use Rattle.wire.specs.Sentences.{Means}
-use Rattle.board.specs.Claim.{stepsOn, ByteCall, ByteCalls, Claim}
+use Rattle.board.specs.Claim.{stepsOn, ByteCall, Begins, Event, call, cutErase, Restarts, Claim}
 use Rattle.board.specs.CutFormat.{CutFormat}
 
 -- ---- what a call answers
@@ -124,7 +124,7 @@ pub data Job (img : List ℕ) (r : Record) : Call → List Step → Record → T
   -- alone follows."
   mount-job : (x : Store) → Current img x
       → Job img r mount (mountPlan (allFound img) x) (mountedAt (needsTransfer (x .frames) (x .tail)) (length img - 1) x)
-  -- "erase half 0, erase half 1, then half 0's header at time 1"
+  -- "erase half 0, erase half 1, then half 0's header at time 1"; K4: "Format now erases last the valid half"
   format-job : Job img r format (formatPlan img) (idle (rest (length img - 1) 0 headerLen))
 
 -- "each step call then does the next step, and the last one answers 0 with the record idle": of a call's outcome, all by the number of
@@ -200,29 +200,30 @@ abbrev pub shown : Out → Shown
 shown o =
     record { answer = o .answer; image = o .image; board = shownRecord (o .board); reply = o .reply; stretch = o .stretch }
 
--- calls that each got what the last gave back
-abbrev pub trace : Machine → List ℕ → Record → List Call → List Shown
+-- calls that each got what the last gave back; a cut inside an erase shows nothing
+abbrev pub trace : Machine → List ℕ → Record → List Event → List Shown
 trace m img r [] = []
-trace m img r (c ∷ cs) = let o : Out = m img r c in shown o ∷ trace m (o .image) (o .board) cs
+trace m img r (call c ∷ es) = let o : Out = m img r c in shown o ∷ trace m (o .image) (o .board) es
+trace m img r (cutErase k new q ∷ es) = trace m (withBlock (sizeOf img) k new img) q es
 
--- a run begins with a mount or a format: "Mount and format take no record."
-abbrev pub Begins : Call → Type 0
-Begins (request h msg reply) = ⊥
-Begins step = ⊥
-Begins mount = Unit {0}
-Begins format = Unit {0}
+-- messages are bytes, and so is what a cut leaves; a mount or format comes next
+abbrev pub ByteEvents : List Event → Type 0
+ByteEvents [] = Unit {0}
+ByteEvents (call c ∷ es) = ByteCall c × ByteEvents es
+ByteEvents (cutErase k new q ∷ es) = Bytes new × Restarts es × ByteEvents es
 
--- two machines that meet the promise show the same on every run, on an image of any length, whatever records they were first given
+-- two machines that meet the promise show the same on every run that begins with a mount or a format, on an image of any length, whatever
+-- records they were first given
 unfoldable pub PromiseDetermines : Type 0
 PromiseDetermines =
-    (m n : Machine) → Promise m → Promise n → (img : List ℕ) (r q : Record) (c : Call) (cs : List Call) → Bytes img → Begins c → ByteCalls cs
-    → trace m img r (c ∷ cs) ≡ trace n img q (c ∷ cs)
+    (m n : Machine) → Promise m → Promise n → (img : List ℕ) (r q : Record) (c : Call) (es : List Event) → Bytes img → Begins c → ByteEvents es
+    → trace m img r (call c ∷ es) ≡ trace n img q (call c ∷ es)
 
 -- the same from any record in no job, a forged one too
 unfoldable pub PromiseDeterminesFrom : Type 0
 PromiseDeterminesFrom =
-    (m n : Machine) → Promise m → Promise n → (img : List ℕ) (r : Record) (cs : List Call) → Bytes img → Rests (r .phase) → ByteCalls cs
-    → trace m img r cs ≡ trace n img r cs
+    (m n : Machine) → Promise m → Promise n → (img : List ℕ) (r : Record) (es : List Event) → Bytes img → Rests (r .phase) → ByteEvents es
+    → trace m img r es ≡ trace n img r es
 
 -- one call on any record: all is settled but a step of a job, and of a job that is begun the record
 unfoldable pub PromiseDeterminesCall : Type 0

@@ -1,5 +1,5 @@
 -- Document 01's sentences on the frame that a request appends, on the steps of each job and on a read's stretch, "Frames", "Jobs" and
--- "What hosts send", and the statements that the definitions say exactly these.
+-- "What hosts send", document 02's on a format's order, K4, and the statements that the definitions say exactly these.
 use mathlib.Core.List.{List, [], _∷_, _++_}
 use mathlib.Core.Logic.{_↔_}
 use mathlib.Core.Option.{none, some, Option·map}
@@ -24,7 +24,7 @@ use Rattle.wire.specs.Sentences.{Means}
 use Rattle.board.specs.declared.Record.{Record}
 use Rattle.board.specs.Mount.{Store, allFound}
 use Rattle.board.specs.Queue.{Held, needsRoom, placeOf}
-use Rattle.board.specs.Table.{frameFor}
+use Rattle.board.specs.Table.{frameFor, Allowed, ValidAt}
 use Rattle.board.specs.Plan.{transferPlan, formatPlan, framePlan, mountPlan}
 
 -- ---- which requests append a frame, and its bytes
@@ -74,12 +74,20 @@ pub record TransferSteps (k j time : ℕ) (st : State) : Type 0 where
 unfoldable pub TransferExact : Type 0
 TransferExact = (k j time : ℕ) (st : State) → k + j ≡ 1 → suc time ≤ 4294967295 → TransferSteps k j time st
 
--- "Format: erase half 0, erase half 1, then half 0's header at time 1 in the same order. 12 steps."
-unfoldable pub FormatExact : Type 0
-FormatExact =
-    (img : List ℕ) → formatPlan img
-    ≡ erase 0 ∷ erase 1 ∷ program 0 8 0xFE ∷ program 0 0 0x10 ∷ program 0 1 0x00 ∷ program 0 2 0x01 ∷ program 0 3 0x4A ∷ program 0 4 0xFE
+-- "Format: erase half 0, erase half 1, then half 0's header at time 1 in the same order. 12 steps." Of half j first and half k last
+abbrev pub formatSteps : ℕ → ℕ → List Step
+formatSteps j k =
+    erase j ∷ erase k ∷ program 0 8 0xFE ∷ program 0 0 0x10 ∷ program 0 1 0x00 ∷ program 0 2 0x01 ∷ program 0 3 0x4A ∷ program 0 4 0xFE
     ∷ program 0 5 0xFF ∷ program 0 6 0xFF ∷ program 0 7 0xFF ∷ program 0 8 0xFC ∷ []
+
+-- K4: "Format now erases last the valid half, of two the one with the larger time (half 1 if there is none or the times are equal)."
+pub record FormatExact : Type 0 where
+  pub one-valid : (img : List ℕ) (j k t : ℕ) (fs : List Frame) (c : Tail) → j + k ≡ 1 → Bytes img → Allowed (length img) → ValidAt img k t fs c
+      → ((u : ℕ) (gs : List Frame) (d : Tail) → ValidAt img j u gs d → u < t) → formatPlan img ≡ formatSteps j k
+  pub none-valid : (img : List ℕ) → Bytes img → Allowed (length img) → ((k t : ℕ) (fs : List Frame) (c : Tail) → ValidAt img k t fs c → ⊥)
+      → formatPlan img ≡ formatSteps 0 1
+  pub equal-times : (img : List ℕ) (t : ℕ) (fs gs : List Frame) (c d : Tail) → Bytes img → Allowed (length img) → ValidAt img 0 t fs c
+      → ValidAt img 1 t gs d → formatPlan img ≡ formatSteps 0 1
 
 -- "one frame of n bytes, after a transfer if end + n exceeds S": at the recorded end, or in the other half past what was copied there
 pub record AppendExact : Type 0 where
@@ -89,7 +97,7 @@ pub record AppendExact : Type 0 where
       × Programs j (16 + length (encodeAll (framesOf (replay (x .frames))))) (encode f) appended
 
 -- "The other is erased if it isn't blank. If the current one has a torn tail or anything pending, a transfer of the settled objects alone
--- follows." Of the current half x, j the other
+-- follows." K4: "Where one half is valid, the other, if foreign, is erased on mount." Of the current half x, j the other
 pub record MountSteps (img : List ℕ) (x : Store) (j : ℕ) : Type 0 where
   pub erases : List Step
   pub moves : List Step

@@ -152,9 +152,9 @@ pub record NothingThere (img : List ℕ) : Type 0 where
   pub none-valid : (k t : ℕ) (fs : List Frame) (c : Tail) → ValidAt img k t fs c → ⊥
   pub none-foreign : (k : ℕ) → ForeignAt img k → ⊥
 
--- 3: "a foreign half, or two valid halves of equal time"
+-- 3: document 02, K4, "Refusal 3 remains for two valid halves of equal time, and for no valid half with at least one foreign."
 pub data Unclear (img : List ℕ) : Type 0 where
-  foreign-half : (k : ℕ) → ForeignAt img k → Unclear img
+  foreign-half : (k : ℕ) → ForeignAt img k → ((j t : ℕ) (fs : List Frame) (c : Tail) → ValidAt img j t fs c → ⊥) → Unclear img
   equal-times : (j k t : ℕ) (fs gs : List Frame) (c d : Tail) → (j ≡ k → ⊥) → ValidAt img j t fs c → ValidAt img k t gs d → Unclear img
 
 -- "has a torn tail or anything pending"

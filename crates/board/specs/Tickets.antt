@@ -23,7 +23,7 @@ use Rattle.board.specs.declared.Record.{Record}
 use Rattle.board.specs.Record.{allowed, Out, Accepted}
 use Rattle.board.specs.Exec.{Machine, Call, request, step, mount, format}
 use Rattle.wire.specs.Sentences.{Means}
-use Rattle.board.specs.Claim.{stepsOn, ByteCalls}
+use Rattle.board.specs.Claim.{stepsOn, Event, call, HappensFrom}
 use Rattle.board.specs.CutFormat.{Left, leftBy}
 use Rattle.board.specs.Promise.{Promise}
 
@@ -78,19 +78,20 @@ pub record Restores (m : Machine) (o : Out) (os : List Object) : Type 0 where
   pub objects : replay frames .objects ≡ os
   pub nothing-pending : replay frames .pending ≡ []
 
--- the calls of a run, then a host's commit and k of its steps
-abbrev pub committing : List Call → Host → List ℕ → List ℕ → ℕ → List Call
-committing cs h msg reply k = cs ++ (request h msg reply ∷ replicate k step)
+-- a run, then a host's commit and k of its steps
+abbrev pub committing : List Event → Host → List ℕ → List ℕ → ℕ → List Event
+committing es h msg reply k = es ++ (call (request h msg reply) ∷ replicate k (call step))
 
 pub record PowerCuts (m : Machine) : Type 0 where
-  -- power drops anywhere in a run: a mount, whatever record it is given, restores the book's objects, and nobody's uncommitted change
-  pub restores : (img : List ℕ) (r : Record) (cs : List Call) (q : Record) → Bytes img → allowed (length img) ≡ true → ByteCalls cs
-      → let x : Left = leftBy m img r cs in Accepted (m (x .image) q mount .answer) → Restores m (m (x .image) q mount) (x .book .objects)
+  -- power drops anywhere in a run, inside an erase too: a mount, whatever record it is given, restores the book's objects, and nobody's
+  -- uncommitted change
+  pub restores : (img : List ℕ) (r : Record) (es : List Event) (q : Record) → Bytes img → allowed (length img) ≡ true → HappensFrom m img r es
+      → let x : Left = leftBy m img r es in Accepted (m (x .image) q mount .answer) → Restores m (m (x .image) q mount) (x .book .objects)
   -- power drops after a host's commit has begun, k of its step calls made: what the host had sent is there whole, if one of them had
   -- answered 0, or not at all
-  pub whole-or-not : (img : List ℕ) (r : Record) (cs : List Call) (h : Host) (msg reply : List ℕ) (k : ℕ) (q : Record)
-      → Bytes img → allowed (length img) ≡ true → ByteCalls cs → Bytes msg → Means msg Commit
-      → let x : Left = leftBy m img r cs in let y : Left = leftBy m img r (committing cs h msg reply k) in
+  pub whole-or-not : (img : List ℕ) (r : Record) (es : List Event) (h : Host) (msg reply : List ℕ) (k : ℕ) (q : Record)
+      → Bytes img → allowed (length img) ≡ true → HappensFrom m img r (committing es h msg reply k) → Means msg Commit
+      → let x : Left = leftBy m img r es in let y : Left = leftBy m img r (committing es h msg reply k) in
       let o : Out = m (x .image) (x .board) (request h msg reply) in
       o .answer ≡ More → Accepted (m (y .image) q mount .answer)
       → ((numberOf (stepsOn m k o .answer) ≡ some 0) × Restores m (m (y .image) q mount) (changeAll (x .book .lists h) (x .book .objects)))

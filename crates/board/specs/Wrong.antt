@@ -21,7 +21,7 @@ use Rattle.board.specs.declared.Phase.{Phase}
 use Rattle.board.specs.declared.Phase.the-variants.{Unmounted, Idle, Busy}
 use Rattle.board.specs.declared.Record.{Record}
 use Rattle.board.specs.Record.{allowed, unmounted, Stretch, Out, out, refuse, answerOf}
-use Rattle.board.specs.Mount.{allFound, Store, stores, mountStores}
+use Rattle.board.specs.Mount.{allFound, anyForeign, Store, stores, mountAt}
 use Rattle.board.specs.Queue.{held}
 use Rattle.board.specs.Table.{isNone}
 use Rattle.board.specs.Exec.{Call, request, step, mount, format, Machine, exec}
@@ -254,13 +254,38 @@ lookAlike img o (x ∷ y ∷ ys) =
 unfoldable pub refusesAlike : Wrongly
 refusesAlike = mounts (λ img o. accepted o (lookAlike img o (stores (allFound img))))
 
--- 3: "a foreign half": a mount that doesn't look
+-- no valid half
+abbrev pub asEmpty : List ℕ → Out → List Store → Out
+asEmpty img o [] = refuse refusal.NoStore img unmounted []
+asEmpty img o (x ∷ xs) = o
+
+-- 3, K4: "for no valid half with at least one foreign": a mount that doesn't look answers 2
 unfoldable pub overlooksForeign : Wrongly
-overlooksForeign = mounts (λ img o. cond (allowed (length img)) (mountStores img (allFound img) (stores (allFound img))) o)
+overlooksForeign = mounts (λ img o. cond (allowed (length img)) (asEmpty img o (stores (allFound img))) o)
+
+-- K4: "Where one half is valid, the other, if foreign, is erased on mount": refused with 3, as before K4. In a run with no cut inside an erase
+-- no half is foreign, and no call shows the difference
+unfoldable pub refusesHalfErased : Wrongly
+refusesHalfErased = mounts (λ img o. accepted o (cond (anyForeign (allFound img)) (refuse refusal.Foreign img unmounted []) o))
+
+-- two valid halves: the second only if it is the next in time
+abbrev pub nextInTime : List ℕ → Out → List Store → Out
+nextInTime img o [] = o
+nextInTime img o (x ∷ []) = o
+nextInTime img o (x ∷ y ∷ ys) = mountAt img (allFound img) (cond (eqb (y .time) (x .time + 1)) y x)
+
+-- K4: "its inverted time has only gained ones, so it never looks newer": a store that takes a half-erased half for the current one. In a
+-- run with no cut inside an erase two valid halves follow each other in time, and no call shows the difference
+unfoldable pub takesHalfErased : Wrongly
+takesHalfErased = mounts (λ img o. accepted o (nextInTime img o (stores (allFound img))))
 
 -- "Accepting takes no step": a format erases at once
 unfoldable pub formatsAtOnce : Wrongly
 formatsAtOnce = formats (λ img o. accepted o (onImage (replicate (length img) 0xFF) o))
+
+-- K4: "Format now erases last the valid half": it goes by number, as on a blank image
+unfoldable pub formatsBlindly : Wrongly
+formatsBlindly = formats (λ img o. accepted o (out (o .answer) img (exec (replicate (length img) 0xFF) unmounted format .board) []))
 
 -- ---- right on the bench, and yet none of them keeps the promise
 
@@ -295,4 +320,7 @@ pub record Refuted : Type 0 where
   pub keeps-pending : Promise (offBench keepsPending) → ⊥
   pub refuses-alike : Promise (offBench refusesAlike) → ⊥
   pub overlooks-foreign : Promise (offBench overlooksForeign) → ⊥
+  pub refuses-half-erased : Promise (offBench refusesHalfErased) → ⊥
+  pub takes-half-erased : Promise (offBench takesHalfErased) → ⊥
   pub formats-at-once : Promise (offBench formatsAtOnce) → ⊥
+  pub formats-blindly : Promise (offBench formatsBlindly) → ⊥

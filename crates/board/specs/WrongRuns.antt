@@ -1,11 +1,11 @@
 -- For each wrong store a short run that tells it from the machine, by what the last call shows. S = 384.
-use mathlib.Core.List.{List, [], _∷_, _++_}
+use mathlib.Core.List.{List, [], _∷_, _++_, map}
 use mathlib.Core.Option.{none}
 use mathlib.Core.Bool.{Bool, true, false, _&&_}
 use mathlib.Core.Path.{_≡_}
 use Prim.Native.Nat.{ℕ, zero, suc, _-_}
 use lib.Dec.{eqb, ltb}
-use lib.ListN.{length, getD, replicate}
+use lib.ListN.{length, getD, drop, replicate}
 use Rattle.frame.specs.Frame.{hostOf, idOf, put, change, commit, Frame, encodeAll}
 use Rattle.journal.specs.Block.{header, inTransfer, validData}
 use Rattle.wire.specs.declared.Answer.the-variants.{Refused}
@@ -13,12 +13,13 @@ use Rattle.wire.specs.declared.Refusal.the-variants as refusal
 use Rattle.wire.specs.Answer.{edgeNumber}
 use Rattle.board.specs.Record.{unmounted, noStretch}
 use Rattle.board.specs.Exec.{Call, request, step, mount, format, Machine, exec}
+use Rattle.board.specs.Claim.{Event, call, cutErase, Claim}
 use Rattle.board.specs.Promise.{Shown, trace}
 use Rattle.board.specs.Wrong.{Wrongly, offBench}
 use Rattle.board.specs.Wrong.{refusesAll, refusesPuts, refusesHighIds, ownFormatsOnly, firstHalfOnly, hostFirst, refusalClears}
 use Rattle.board.specs.Wrong.{refusedLogWrites, readsAlike, inventsCount, neverCommits, abortsNothing, takesOthers, keepsOld}
 use Rattle.board.specs.Wrong.{programsNothing, wholeFrame, inventsStep, erasesFirst, hurriedMount, losesAll, keepsPending}
-use Rattle.board.specs.Wrong.{refusesAlike, overlooksForeign, formatsAtOnce}
+use Rattle.board.specs.Wrong.{refusesAlike, overlooksForeign, refusesHalfErased, takesHalfErased, formatsAtOnce, formatsBlindly}
 
 -- ---- runs
 
@@ -31,7 +32,7 @@ lastFrom x [] = x
 lastFrom x (y ∷ ys) = lastFrom y ys
 
 abbrev pub ended : Machine → List ℕ → List Call → Shown
-ended m img cs = lastFrom nothing (trace m img unmounted cs)
+ended m img cs = lastFrom nothing (trace m img unmounted (map call cs))
 
 -- image and messages are bytes, and the first call is a mount or a format
 abbrev pub allBytes : List ℕ → Bool
@@ -95,7 +96,7 @@ committed t = half t (putFrame ∷ commit (hostOf 2) ∷ [])
 unfoldable pub stored : List ℕ
 stored = committed 1 ++ blankHalf
 
--- the same at a later time; in the second half; beside a transfer that was cut; beside a foreign half; twice, at two times
+-- the same at a later time; in the second half; beside a transfer that was cut; twice, at two times; a foreign half beside a blank one
 unfoldable pub later : List ℕ
 later = committed 2 ++ blankHalf
 
@@ -105,11 +106,19 @@ second = blankHalf ++ committed 2
 unfoldable pub begun : List ℕ
 begun = committed 1 ++ (header 2 inTransfer ++ replicate 368 0xFF)
 
-unfoldable pub strange : List ℕ
-strange = committed 1 ++ replicate 384 0x00
-
 unfoldable pub twice : List ℕ
 twice = committed 1 ++ committed 2
+
+unfoldable pub strange : List ℕ
+strange = replicate 384 0x00 ++ blankHalf
+
+-- the half of time 3 while it is erased after a transfer: its first eight bytes are 0xFF; or its frames and one bit of its time, so that it
+-- reads as an empty store of time 2
+unfoldable pub halfErased : List ℕ
+halfErased = replicate 8 0xFF ++ (drop 8 (committed 3) ++ committed 4)
+
+unfoldable pub seemsEmpty : List ℕ
+seemsEmpty = half 2 [] ++ committed 4
 
 -- ---- calls
 
@@ -172,7 +181,7 @@ pub record Runs : Type 0 where
   pub takes-others : Differs takesOthers stored (afterPut (request (hostOf 1) commitMessage [] ∷ [])) answered 255 0
   -- the value's first byte, the frame's eighth
   pub keeps-old : Differs keepsOld stored (mount ∷ putCD ∷ stepping 8 []) (byteAt 39) 0x41 0x43
-  pub programs-nothing : Differs programsNothing stored (format ∷ step ∷ []) (byteAt 0) 0x10 0xFF
+  pub programs-nothing : Differs programsNothing stored (format ∷ stepping 2 []) (byteAt 0) 0x10 0xFF
   -- the frame's second byte
   pub whole-frame : Differs wholeFrame stored (mount ∷ putCD ∷ step ∷ []) (byteAt 33) 0x00 0xFF
   pub invents-step : Differs inventsStep begun (mount ∷ step ∷ []) answered 255 0
@@ -183,5 +192,25 @@ pub record Runs : Type 0 where
   -- a commit after the cut finds what was left pending before it
   pub keeps-pending : Differs keepsPending pending (mount ∷ stepping 11 (commits ∷ [])) answered 255 0
   pub refuses-alike : Differs refusesAlike twice (mount ∷ []) answered 3 255
-  pub overlooks-foreign : Differs overlooksForeign strange (mount ∷ []) answered 255 3
+  pub overlooks-foreign : Differs overlooksForeign strange (mount ∷ []) answered 2 3
+  pub refuses-half-erased : Differs refusesHalfErased halfErased (mount ∷ []) answered 3 255
+  -- the good half's first byte after the first step
+  pub takes-half-erased : Differs takesHalfErased seemsEmpty (mount ∷ step ∷ []) (byteAt 384) 0xFF 0x10
   pub formats-at-once : Differs formatsAtOnce stored (format ∷ []) (byteAt 0) 0xFF 0x10
+  pub formats-blindly : Differs formatsBlindly stored (format ∷ step ∷ []) (byteAt 0) 0xFF 0x10
+
+-- ---- demand 3 alone sees a store that is wrong on half-erased halves only: its claim is for every raised half
+
+-- what the erase of a half leaves that holds one empty put: eight bytes of 0xFF
+unfoldable pub fading : List ℕ
+fading = replicate 8 0xFF ++ drop 8 (half 1 (change (hostOf 2) (put (idOf 7) []) ∷ []))
+
+-- after a format: the put; a mount, which makes a transfer since the put is pending, up to its last step; power lost inside that step, the
+-- erase of half 0; a mount
+abbrev pub cutRun : List Event
+cutRun =
+    call (putEmpty 7) ∷ (replicate 8 (call step)
+    ++ (call mount ∷ (replicate 10 (call step) ++ (cutErase 0 fading unmounted ∷ call mount ∷ []))))
+
+unfoldable pub ClaimSees : Type 0
+ClaimSees = Claim (offBench refusesHalfErased) → ⊥

@@ -55,7 +55,7 @@ block-after s j k img h =
     ap (take s) (ap (λ (n : ℕ). drop n img) e ∙ sym (drop-drop (j * s - (k * s + s)) (k * s + s) img))
 
 -- a step that changes neither what stands before a block nor what stands after it keeps every other block
-other-kept : (s j k : ℕ) (img img′ : List ℕ) → (j ≡ k → ⊥) → take (k * s) img′ ≡ take (k * s) img
+pub other-kept : (s j k : ℕ) (img img′ : List ℕ) → (j ≡ k → ⊥) → take (k * s) img′ ≡ take (k * s) img
     → drop (k * s + s) img′ ≡ drop (k * s + s) img → block s j img′ ≡ block s j img
 other-kept s j k img img′ n front back =
     on-order j k

@@ -5,3 +5,4 @@ pub mod Stretches
 pub mod Programming
 pub mod Image
 pub mod Offsets
+pub mod Raising

@@ -31,9 +31,13 @@ pub data Step : Type 0 where
 abbrev pub programAt : List ℕ → ℕ → ℕ → List ℕ
 programAt l i v = set l i (bitAnd (getD l i 0) v)
 
+-- an image with other bytes in block k
+abbrev pub withBlock : ℕ → ℕ → List ℕ → List ℕ → List ℕ
+withBlock s k new img = take (k * s) img ++ (new ++ drop (k * s + s) img)
+
 -- "all bytes 0xFF": as many as are there, so that an image keeps its length whatever the block's number
 abbrev pub eraseBlock : ℕ → ℕ → List ℕ → List ℕ
-eraseBlock s k img = take (k * s) img ++ (replicate (length (block s k img)) 255 ++ drop (k * s + s) img)
+eraseBlock s k img = withBlock s k (replicate (length (block s k img)) 255) img
 
 -- an image of blocks of s bytes after one step, and after some in order
 abbrev pub apply : ℕ → Step → List ℕ → List ℕ

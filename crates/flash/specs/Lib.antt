@@ -1,2 +1,3 @@
 pub mod Bytes
 pub mod Flash
+pub mod Raised

@@ -1,12 +1,27 @@
--- Row a's header, row k's room and a commit beside another host's changes, computed.
+-- Row a's header, row k's room, a commit beside another host's changes and a half-erased valid half, computed.
 use mathlib.Core.Path.{refl}
+use Rattle.flash.specs.Bytes.{allFF, sameBytes}
 use Rattle.flash.specs.Flash.{writes, writeAll}
+use Rattle.flash.proofs.Raising.{raises-raised}
 use Rattle.frame.specs.Frame.{encodeAll, total}
+use Rattle.frame.specs.Reader.{match, readFrame, scan}
 use Rattle.journal.specs.Replay.{insert, remove, lookup, changeAll, listOf, without, isOpen, replayFrom}
+use Rattle.journal.specs.Block.{validData, header, headerFault, blockState}
 use Rattle.journal.specs.Room.{noRoom}
 use Rattle.journal.specs.Examples.{three, Examples}
 
 pub examples : Examples
 unfolding three writes writeAll encodeAll total insert remove lookup changeAll listOf without isOpen replayFrom noRoom
+    allFF sameBytes match readFrame scan headerFault blockState
 examples =
-    record { row-a = refl; row-k-claimed = refl; row-k-refused = refl; row-k-accepted = refl; one-commit = refl; mount-drops = refl }
+    record {
+      row-a = refl;
+      row-k-claimed = refl;
+      row-k-refused = refl;
+      row-k-accepted = refl;
+      one-commit = refl;
+      mount-drops = refl;
+      half-erased = raises-raised (header 3 validData) (header 2 validData) refl;
+      was-valid = refl;
+      reads-valid = refl;
+    }

@@ -26,7 +26,7 @@ use Rattle.journal.proofs.States.{Contents, valid-inv, Headed, header-h
 blank-state : (b : List ℕ) → BlankBlock b → blockState b ≡ blank
 blank-state b e = ap blockState e ∙ blank-block (length b)
 
-progress-is : (b : List ℕ) → blockState b ≡ inProgress → InProgressBlock b
+pub progress-is : (b : List ℕ) → blockState b ≡ inProgress → InProgressBlock b
 unfolding blockState
 progress-is b e =
     on-test (allFF b)

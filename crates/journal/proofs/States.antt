@@ -174,6 +174,30 @@ valid-inv b t fs c y h e =
         let x : Parts (createdAt b) (s .frames) (s .tail) t fs c = parts (createdAt b) t (s .frames) fs (s .tail) c r in
         subst₃ (Contents b) (x .time) (x .frames) (x .tail) (contents b y h (header-inv b g) (x .okay))
 
+-- what a valid block's header says, whatever else the block holds
+pub record Stamped (b : List ℕ) (t : ℕ) : Type 0 where
+  pub created : createdAt b ≡ t
+  pub state : getD b stateAt 0 ≡ validData
+
+pub valid-stamped : {b : List ℕ} {t : ℕ} {fs : List Frame} {c : Tail} → blockState b ≡ valid t fs c → Stamped b t
+unfolding blockState
+valid-stamped {b} {t} {fs} {c} e =
+    on-test (allFF b)
+    (λ a. let q : blank ≡ valid t fs c = rw (a, blockState) at e in let z : _≡_ {A = ℕ} 0 1 = cc in absurd (omega arith))
+    (λ a. on-test (eqb (getD b stateAt 0) inTransfer)
+    (λ p. let q : inProgress ≡ valid t fs c = rw (a, p, blockState) at e in let z : _≡_ {A = ℕ} 0 1 = cc in absurd (omega arith))
+    (λ p. go (headerFault b) refl (rw (a, p, blockState) at e)))
+  where
+    go : (o : Option Fault) → headerFault b ≡ o → ofHeader b (headerFault b) ≡ valid t fs c → Stamped b t
+    go (some f) g q = let r : foreign f ≡ valid t fs c = rw g at q in let z : _≡_ {A = ℕ} 0 1 = cc in absurd (omega arith)
+    go none g q =
+        let s : Scan = scan 0 headerLen 0 (drop headerLen b) in
+        let r : ofScan (createdAt b) s ≡ valid t fs c = rw g at q in
+        record {
+          created = parts (createdAt b) t (s .frames) fs (s .tail) c r .time;
+          state = eqb-true (getD b stateAt 0) validData (header-inv b g .state);
+        }
+
 -- and back
 pub contents-valid : {b : List ℕ} {t : ℕ} {fs : List Frame} {c : Tail} → Contents b t fs c → blockState b ≡ valid t fs c
 contents-valid {b} {t} {fs} {c} x = valid-block c (x .layout) (x .reads) (x .okay)

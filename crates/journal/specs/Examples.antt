@@ -1,13 +1,16 @@
--- Parts of document 01's bench rows that need no board: row a's header, row k's room, and a commit beside another host's changes.
+-- Parts of document 01's bench rows that need no board: row a's header, row k's room, and a commit beside another host's changes; document
+-- 02's half that is half-erased and valid, K4.
 use mathlib.Core.List.{List, [], _∷_}
 use mathlib.Core.Bool.{true, false}
 use mathlib.Core.Path.{_≡_}
 use Prim.Native.Nat.{ℕ}
 use lib.ListN.{replicate}
 use Rattle.flash.specs.Flash.{writeAll}
+use Rattle.flash.specs.Raised.{Raised}
 use Rattle.frame.specs.Frame.{hostOf, idOf, Frame, change, commit, put}
+use Rattle.frame.specs.Reader.{clean}
 use Rattle.journal.specs.Replay.{State, state, object, entry, replay, settledOnly}
-use Rattle.journal.specs.Block.{build}
+use Rattle.journal.specs.Block.{validData, header, build, valid, blockState}
 use Rattle.journal.specs.Room.{claimed, noRoom}
 
 -- ids 1 and 2 with 64 bytes and id 3 with n
@@ -31,3 +34,7 @@ pub record Examples : Type 0 where
       ≡ state (object (idOf 4) (0x10 ∷ []) ∷ object (idOf 9) (0x11 ∷ []) ∷ [])
       (entry (hostOf 1) (put (idOf 5) (0x20 ∷ [])) ∷ entry (hostOf 1) (put (idOf 9) (0x21 ∷ [])) ∷ [])
   pub mount-drops : settledOnly (replay both) ≡ state (object (idOf 4) (0x10 ∷ []) ∷ object (idOf 9) (0x11 ∷ []) ∷ []) []
+  -- K4: "A half-erased old half can still read as valid": one of time 3 as one of time 2
+  pub half-erased : Raised (header 3 validData) (header 2 validData)
+  pub was-valid : blockState (header 3 validData) ≡ valid 3 [] clean
+  pub reads-valid : blockState (header 2 validData) ≡ valid 2 [] clean

@@ -1,16 +1,19 @@
--- Document 01's sentence on the states of a half, and the statement that `blockState` says exactly this.
+-- Document 01's sentence on the states of a half, and the statement that `blockState` says exactly this; document 02's, K4, on a half whose
+-- erase was cut.
 use mathlib.Core.List.{List, _++_}
 use mathlib.Core.Logic.{_↔_}
 use mathlib.Core.Path.{_≡_}
-use Prim.Native.Nat.{ℕ, _≤_}
+use Prim.Native.Nat.{ℕ, _%_, _≤_, _<_}
 use lib.ListN.{length, getD}
 use Rattle.flash.specs.Bytes.{Bytes}
+use Rattle.flash.specs.Raised.{Raised}
 use Rattle.frame.specs.declared.Fault.{Fault}
 use Rattle.frame.specs.Frame.{Frame, encodeAll, AllMayStand, nextOf}
 use Rattle.frame.specs.Reader.{Tail, clean, cut, bad}
 use Rattle.journal.specs.Faults.{FaultIn}
 use Rattle.frame.specs.Sentences.{Blank, Torn}
-use Rattle.journal.specs.Block.{headerLen, lastTime, stateAt, inTransfer, validData, header, blank, inProgress, valid, foreign, blockState}
+use Rattle.journal.specs.Block.{headerLen, lastTime, stateAt, inTransfer, validData, header, createdAt}
+use Rattle.journal.specs.Block.{blank, inProgress, valid, foreign, blockState}
 
 -- "A half is blank if every byte is 0xFF"
 abbrev pub BlankBlock : List ℕ → Type 0
@@ -51,3 +54,13 @@ pub record StatesExact : Type 0 where
       → (blockState b ≡ valid t fs c) ↔ ValidBlock b t fs c
   pub is-foreign-at : (b : List ℕ) (e : Fault) → Bytes b → headerLen ≤ length b → (blockState b ≡ foreign e) ↔ (ForeignBlock b × FaultIn b e)
   pub is-foreign : (b : List ℕ) → Bytes b → headerLen ≤ length b → ((e : Fault) × (blockState b ≡ foreign e)) ↔ ForeignBlock b
+
+-- K4: "A half-erased old half can still read as valid, but its inverted time has only gained ones, so it never looks newer; show that."
+pub record NeverNewer : Type 0 where
+  pub of-valid : (old new : List ℕ) (t u : ℕ) (fs gs : List Frame) (c d : Tail) → Raised old new → blockState old ≡ valid t fs c
+      → blockState new ≡ valid u gs d → u ≤ t
+  -- by the bytes alone, whatever the half reads as
+  pub of-any : (old new : List ℕ) → Raised old new → createdAt new ≤ createdAt old
+  -- 0xFC has neither of its two low bits: with one of them in byte 8 a half isn't valid and never becomes so
+  pub stays-out : (old new : List ℕ) (u : ℕ) (gs : List Frame) (d : Tail) → Raised old new → 0 < getD old stateAt 0 % 4
+      → blockState new ≡ valid u gs d → ⊥
