@@ -10,7 +10,7 @@ use Rattle.wire.specs.declared.Answer.the-variants.{Done, More, Refused}
 abbrev pub refusalNumber : Refusal → ℕ
 refusalNumber refusal.Malformed = 1  -- message malformed: length, kind, id, value length or page
 refusalNumber refusal.NoStore = 2  -- unmounted record; for mount, no valid half and none foreign
-refusalNumber refusal.Foreign = 3  -- mount only: a foreign half, or two valid halves of equal time
+refusalNumber (refusal.Foreign k e) = 3  -- mount only: a foreign half, or two valid halves of equal time
 refusalNumber refusal.ImageLength = 4  -- image length not allowed
 refusalNumber refusal.Busy = 5  -- a job is unfinished
 refusalNumber refusal.Worn = 6  -- a transfer is needed, by a mount too, at time 4,294,967,295

@@ -1,5 +1,6 @@
 // Messages, answers and the log page: what hosts send, and what they get.
 use frame::BODY_AT;
+use frame::Fault;
 use frame::ID_MAX;
 use frame::KIND_AT;
 use frame::ObjectId;
@@ -33,11 +34,11 @@ pub enum Parsed {
     Malformed,
 }
 
-// Why a call is refused.
+// Why a call is refused. A mount names the half that it can't take, and in it the first bad field.
 pub enum Refusal {
     Malformed,
     NoStore,
-    Foreign,
+    Foreign(u8, Fault),
     ImageLength,
     Busy,
     Worn,
@@ -174,7 +175,7 @@ fn refusal_number(why: Refusal) -> u8
     match why {
         Refusal::Malformed => 1,
         Refusal::NoStore => 2,
-        Refusal::Foreign => 3,
+        Refusal::Foreign(_, _) => 3,
         Refusal::ImageLength => 4,
         Refusal::Busy => 5,
         Refusal::Worn => 6,
