@@ -134,6 +134,7 @@ refuted =
       keeps-pending = differs (runs .keeps-pending);
       refuses-alike = differs (runs .refuses-alike);
       overlooks-foreign = differs (runs .overlooks-foreign);
+      names-second = differs (runs .names-second);
       refuses-half-erased = differs (runs .refuses-half-erased);
       takes-half-erased = differs (runs .takes-half-erased);
       formats-at-once = differs (runs .formats-at-once);

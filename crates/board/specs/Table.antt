@@ -11,9 +11,12 @@ use Rattle.flash.specs.Flash.{Step, blocks, block, sizeOf, blockOf, offsetOf}
 use Rattle.frame.specs.declared.Host.{Host}
 use Rattle.frame.specs.declared.ObjectId.{ObjectId}
 use Rattle.frame.specs.Frame.{Frame, put, delete, frameLen, total, change, commit, abort}
-use Rattle.frame.specs.Reader.{Tail, clean}
+use Rattle.frame.specs.Reader.{fault, Tail, clean}
+use Rattle.frame.specs.declared.Fault.{Fault}
+use Rattle.frame.specs.declared.Field.the-variants as field
 use Rattle.journal.specs.Replay.{entry, replay, lookup, isOpen}
 use Rattle.journal.specs.Block.{headerLen}
+use Rattle.journal.specs.Faults.{FaultIn}
 use Rattle.journal.specs.Sentences.{BlankBlock, ValidBlock, ForeignBlock}
 use Rattle.journal.specs.Room.{claimed, openHosts}
 use Rattle.wire.specs.declared.Answer.{Answer}
@@ -156,6 +159,13 @@ pub record NothingThere (img : List ℕ) : Type 0 where
 pub data Unclear (img : List ℕ) : Type 0 where
   foreign-half : (k : ℕ) → ForeignAt img k → ((j t : ℕ) (fs : List Frame) (c : Tail) → ValidAt img j t fs c → ⊥) → Unclear img
   equal-times : (j k t : ℕ) (fs gs : List Frame) (c d : Tail) → (j ≡ k → ⊥) → ValidAt img j t fs c → ValidAt img k t gs d → Unclear img
+
+-- what 3 names, document 02, K5: "the foreign half (0 first) and, within it, the fault and its place. .. equal times name half 0, place 4."
+pub data Names (img : List ℕ) (k : ℕ) (e : Fault) : Type 0 where
+  names-foreign : ForeignAt img k → FaultIn (block (sizeOf img) k img) e → ((j : ℕ) → j < k → ForeignAt img j → ⊥)
+      → ((j t : ℕ) (fs : List Frame) (c : Tail) → ValidAt img j t fs c → ⊥) → Names img k e
+  names-equal : (t : ℕ) (fs gs : List Frame) (c d : Tail) → ValidAt img 0 t fs c → ValidAt img 1 t gs d → k ≡ 0 → e ≡ fault field.Created 4
+      → Names img k e
 
 -- "has a torn tail or anything pending"
 abbrev pub Unsettled : List Frame → Tail → Type 0
