@@ -19,7 +19,7 @@ use Rattle.wire.specs.declared.Refusal.{Refusal}
 use Rattle.wire.specs.declared.Refusal.the-variants as refusal
 use Rattle.wire.specs.declared.Request.{Request}
 use Rattle.wire.specs.declared.Request.the-variants.{Put, Delete, Commit, Abort, Read, Log}
-use Rattle.wire.specs.Answer.{numberOf, refusalNumber}
+use Rattle.wire.specs.Answer.{numberOf}
 use Rattle.board.specs.declared.Phase.{Phase}
 use Rattle.board.specs.declared.Phase.the-variants.{Unmounted, Idle, Busy}
 use Rattle.board.specs.declared.Record.{Record}
@@ -73,7 +73,8 @@ pub number-injective : (a b : Answer) → SameNamed a b → numberOf a ≡ numbe
 number-injective a b s e = go (kind a) (kind b)
   where
     go : Kind a → Kind b → a ≡ b
-    go (three k f p) (three j g q) = let w : (k ≡ j) × (f ≡ g) = s k j f g p q in p ∙ ap₂ (λ (x : ℕ) (y : Fault). Refused (refusal.Foreign x y)) (w .0) (w .1) ∙ sym q
+    go (three k f p) (three j g q) =
+        let w : (k ≡ j) × (f ≡ g) = s k j f g p q in p ∙ ap₂ (λ (x : ℕ) (y : Fault). Refused (refusal.Foreign x y)) (w .0) (w .1) ∙ sym q
     go (three k f p) (plain q n) = absurd (n (sym e ∙ ap numberOf p))
     go (plain p n) (three j g q) = absurd (n (e ∙ ap numberOf q))
     go (plain p n) (plain q m) = sym p ∙ ap numbered e ∙ q

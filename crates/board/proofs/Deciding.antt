@@ -1,7 +1,7 @@
 -- What a mount decides: which refusal, or which store it takes.
 use mathlib.Core.Path.{_≡_, refl, sym, ap, ap₂, subst, subst₃, _∙_}
 use mathlib.Core.List.{List, [], _∷_}
-use mathlib.Core.Bool.{Bool, true, false, _&&_, cond}
+use mathlib.Core.Bool.{Bool, true, _&&_, cond}
 use Prim.Native.Nat.{ℕ, zero, suc, _<_}
 use native.Mathlib.Omega.{arith}
 use lib.Dec.{eqb, ltb}
@@ -24,7 +24,7 @@ use Rattle.board.specs.declared.Phase.{Phase}
 use Rattle.board.specs.declared.Phase.the-variants.{Unmounted, Idle, Busy}
 use Rattle.board.specs.Record.{Out, unmounted, refuse, answerIn}
 use Rattle.board.specs.Step.{enterWipe, begin}
-use Rattle.board.specs.Mount.{allFound, anyForeign, Store, stores, wipeList, needsTransfer, mountJob, mountAt, mountOn, noneValid, tiedTimes}
+use Rattle.board.specs.Mount.{allFound, Store, stores, wipeList, needsTransfer, mountJob, mountAt, mountOn, noneValid, tiedTimes}
 use Rattle.board.specs.Claim.{WornOut}
 use Rattle.board.specs.CutFormat.{Beside}
 use Rattle.board.specs.Demand2.{Accepted}
@@ -49,7 +49,7 @@ pub data Decided (s : ℕ) (img : List ℕ) : Type 0 where
       → ((k : ℕ) → k < blocks → Unread (blockState (block s k img))) → ((k : ℕ) → k < j → Quiet (blockState (block s k img)))
       → mountOn img ≡ refuse (refusal.Foreign j e) img unmounted [] → Decided s img
   equal-times : (t : ℕ) (fs gs : List Frame) (c d : Tail) → blockState (block s 0 img) ≡ valid t fs c → blockState (block s 1 img) ≡ valid t gs d
-      → mountOn img ≡ refuse tiedTimes img unmounted [] → Decided s img
+      → mountOn img ≡ refuse (tiedTimes 0) img unmounted [] → Decided s img
   none-valid : NoStore s img → mountOn img ≡ refuse refusal.NoStore img unmounted [] → Decided s img
   at-store : (x : Store) → Taken s img x → Decided s img
 
@@ -118,7 +118,7 @@ module _ {s : ℕ} {img : List ℕ} (z : Sized s img) where
       let e : stores (allFound img) ≡ x ∷ y ∷ [] = ap stores all in
       on-test (eqb t t′)
       (λ a. equal-times t fs gs c d p (subst (λ (n : ℕ). State1 (valid n gs d)) (sym (eqb-true t t′ a)) q)
-      (mount-equal img (z .ok) x (y ∷ []) e (rw a)))
+      (mount-equal img (z .ok) x (y ∷ []) e (rw a) ∙ rw a))
       (λ a.
       let r : mountOn img ≡ mountAt img (allFound img) (cond (ltb t t′) y x) = mount-at img (z .ok) x (y ∷ []) e (rw a) in
       on-test (ltb t t′)

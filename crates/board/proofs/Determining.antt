@@ -9,7 +9,6 @@ use native.Mathlib.Omega.{arith}
 use lib.ListN.{length}
 use Rattle.flash.specs.Bytes.{Bytes}
 use Rattle.flash.specs.Flash.{Step, apply, block, blocks, sizeOf, withBlock}
-use Rattle.flash.proofs.Cases.{on-test, clash}
 use Rattle.flash.proofs.Image.{length-apply, bytes-apply}
 use Rattle.flash.proofs.Raising.{bytes-with}
 use Rattle.frame.specs.declared.Host.{Host}
@@ -37,10 +36,10 @@ use Rattle.board.specs.Claim.{ByteCall, Begins, Event, call, cutErase}
 use Rattle.wire.specs.Sentences.{Means, MessagesExact, MalformedExact}
 use Rattle.board.specs.Promise.{Machine, replyFor, Answers, Serves, Job, frame-job, mount-job, format-job, Calls, Shown, restingIn}
 use Rattle.board.specs.Promise.{shownRecord, shown, trace, ByteEvents, PromiseDetermines, PromiseDeterminesFrom, PromiseDeterminesCall}
-use Rattle.board.proofs.Answering.{number-done, number-accepted, Both, both-taken, both-refused, same-lines, same-numbered, told-answer}
+use Rattle.board.proofs.Answering.{number-done, number-accepted, Both, both-taken, both-refused, same-numbered, told-answer}
 use Rattle.board.proofs.Answering.{whole, whole-is, in-job, same-stretch}
-use Rattle.board.proofs.Tabling.{is-allowed, allowed-not}
-use Rattle.board.proofs.TablingMounts.{Mountable, mount-lines, mount-names, same-named, accepted-takes}
+use Rattle.board.proofs.Tabling.{allowed-not}
+use Rattle.board.proofs.TablingMounts.{Mountable, mount-told, same-mounts, accepted-takes}
 use Rattle.wire.proofs.Sentences.{messages-exact, malformed-exact}
 use Rattle.board.proofs.Freshness.{fresh-exact}
 
@@ -142,9 +141,8 @@ module _ {m : Machine} (p : Calls m) (img : List ℕ) (by : Bytes img) where
 
   -- an accepted mount has a current half to take
   pub mount-takes : (r : Record) → Accepted (m img r mount .answer) → Mountable img
-  mount-takes r a = go (same-lines (mountLines img) (m img r mount .answer) (mountOn img .answer)
-      (same-named img by (m img r mount .answer) (mountOn img .answer) (p .table img r mount by) (λ k e. p .names img r k e by) (λ k e. mount-names img by k e))
-      (p .table img r mount by) (mount-lines img by))
+  mount-takes r a =
+      go (same-mounts img by (m img r mount .answer) (mountOn img .answer) (p .table img r mount by, λ k e. p .names img r k e by) (mount-told img by))
     where
       go : Both (m img r mount .answer) (mountOn img .answer) → Mountable img
       go (both-refused w e f) = absurd (subst Accepted e a)
@@ -281,9 +279,9 @@ module _ {m n : Machine} (pm : Calls m) (pn : Calls n) (img : List ℕ) (by : By
       agree-by e f (agree-whole (answerOf (o .board)) (answerOf (p .board)) img (o .board) (p .board) [] noStretch (alike-answer v) by v)
 
   pub mount-agrees : (r q : Record) → Agree m n (m img r mount) (n img q mount)
-  mount-agrees r q = go (same-lines (mountLines img) (m img r mount .answer) (n img q mount .answer)
-      (same-named img by (m img r mount .answer) (n img q mount .answer) (pm .table img r mount by) (λ k e. pm .names img r k e by) (λ k e. pn .names img q k e by))
-      (pm .table img r mount by) (pn .table img q mount by))
+  mount-agrees r q =
+      go (same-mounts img by (m img r mount .answer) (n img q mount .answer) (pm .table img r mount by, λ k e. pm .names img r k e by)
+      (pn .table img q mount by, λ k e. pn .names img q k e by))
     where
       go : Both (m img r mount .answer) (n img q mount .answer) → Agree m n (m img r mount) (n img q mount)
       go (both-refused w e f) =
@@ -300,7 +298,8 @@ module _ {m n : Machine} (pm : Calls m) (pn : Calls n) (img : List ℕ) (by : By
 
   pub format-agrees : (r q : Record) → Agree m n (m img r format) (n img q format)
   format-agrees r q =
-      go (same-numbered (linesOf img r format) (m img r format .answer) (n img q format .answer) (omega arith) (pm .table img r format by) (pn .table img q format by))
+      go (same-numbered (linesOf img r format) (m img r format .answer) (n img q format .answer) (omega arith) (pm .table img r format by)
+      (pn .table img q format by))
     where
       go : Both (m img r format .answer) (n img q format .answer) → Agree m n (m img r format) (n img q format)
       go (both-refused w e f) =

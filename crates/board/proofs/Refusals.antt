@@ -32,8 +32,8 @@ use Rattle.board.specs.declared.Phase.the-variants.{Unmounted, Idle, Bus
 use Rattle.board.specs.declared.Record.{Record}
 use Rattle.board.specs.Record.{allowed, unmounted, Out, refuse, answerIn}
 use Rattle.board.specs.Step.{enterWipe, action, advance, stepOn}
-use Rattle.board.specs.Mount.{allFound, anyForeign, Found, Store, stores, equalTimes, newest, wipeList, needsTransfer, mountJob, noneValid, orForeign, isForeign}
-use Rattle.board.specs.Mount.{mountAt, mountStores, mountOn, formatJob, formatOn}
+use Rattle.board.specs.Mount.{allFound, anyForeign, Found, Store, stores, equalTimes, newest, wipeList, needsTransfer, mountJob}
+use Rattle.board.specs.Mount.{isForeign, orForeign, noneValid, mountAt, mountStores, mountOn, formatJob, formatOn}
 use Rattle.board.specs.Queue.{Held, held, needsRoom, appendJob, append, serveChange, serveEnd, serve, serveParsed, serveHeld, requestIn, requestOn}
 use Rattle.board.specs.Exec.{Call, request, step, mount, format, exec}
 use Rattle.board.specs.Table.{isBusy, isNone, frameIf}

@@ -135,6 +135,7 @@ refuted =
       refuses-alike = differs (runs .refuses-alike);
       overlooks-foreign = differs (runs .overlooks-foreign);
       names-second = differs (runs .names-second);
+      ties-at-start = differs (runs .ties-at-start);
       refuses-half-erased = differs (runs .refuses-half-erased);
       takes-half-erased = differs (runs .takes-half-erased);
       formats-at-once = differs (runs .formats-at-once);

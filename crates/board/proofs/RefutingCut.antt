@@ -76,7 +76,7 @@ record Computed : Type 0 where
   erased-is : afterAll m (holding .image) (holding .board) (holding .book) (call mount ∷ stepping 11) .image ≡ eraseBlock 384 0 copied
   in-drop : InJob (ready .board .phase)
   nothing-under : ready .book .under ≡ nothing
-  refused : m (withBlock (sizeOf copied) 0 fading copied) unmounted mount .answer ≡ Refused tiedTimes
+  refused : m (withBlock (sizeOf copied) 0 fading copied) unmounted mount .answer ≡ Refused (tiedTimes 0)
 
 computed : Computed
 unfolding refusesHalfErased allFF sameBytes applyAll writes encodeAll total match readFrame scan insert
@@ -142,4 +142,5 @@ claim-sees p =
     let y = run-rest m (empty .image) (empty .board) firstBook false putting (mounting ++ after) run in
     let z = run-rest m (holding .image) (holding .board) (holding .book) (y .0) mounting after
     (subst (λ (l : Left). Run m (l .image) (l .board) (l .book) (y .0) (mounting ++ after)) (computed .holding-is) (y .1)) in
-    z .1 .0 .never-foreign 0 (fault field.Created 4) (ap (λ (i : List ℕ). m (withBlock (sizeOf i) 0 fading i) unmounted mount .answer) (computed .copied-is) ∙ computed .refused)
+    z .1 .0 .never-foreign 0 (fault field.Created 4)
+    (ap (λ (i : List ℕ). m (withBlock (sizeOf i) 0 fading i) unmounted mount .answer) (computed .copied-is) ∙ computed .refused)

@@ -6,12 +6,12 @@ use mathlib.Core.Option.{some, Option}
 use mathlib.Core.Bool.{true, false}
 use Prim.Native.Nat.{ℕ, _≤_, _<_}
 use native.Mathlib.Omega.{arith}
-use lib.Dec.{eqb, ltb}
+use lib.Dec.{eqb}
 use lib.ListN.{length}
-use borrow.Author.Tests.{eqb-true, eqb-false, ltb-true, ltb-false}
+use borrow.Author.Tests.{eqb-true, eqb-false}
 use Rattle.flash.specs.Bytes.{Bytes}
 use Rattle.flash.specs.Flash.{blocks, block, sizeOf}
-use Rattle.flash.proofs.Cases.{on-test, clash}
+use Rattle.flash.proofs.Cases.{on-test, on-order, clash}
 use Rattle.flash.proofs.Image.{bytes-block}
 use Rattle.frame.specs.declared.Fault.{Fault}
 use Rattle.frame.specs.Frame.{Frame}
@@ -31,7 +31,8 @@ use Rattle.board.specs.Record.{allowed, unmounted, Out, refuse, answerIn
 use Rattle.board.specs.Step.{enterWipe}
 use Rattle.board.specs.Mount.{Store, needsTransfer, anyPending, allFound, wipeList, mountJob, mountOn}
 use Rattle.board.specs.Demand2.{Accepted, Mounts}
-use Rattle.board.specs.Table.{line, Exactly, ValidAt, ForeignAt, NothingThere, Unclear, foreign-half, equal-times, Unsettled, MountWorn, mountLines, Names, names-foreign, names-equal}
+use Rattle.board.specs.Table.{line, Exactly, ValidAt, ForeignAt, NothingThere, Unclear, foreign-half, equal-times, TiedAt, tied-with}
+use Rattle.board.specs.Table.{Unsettled, MountWorn, mountLines, Names, names-foreign, names-equal}
 use Rattle.board.specs.Promise.{Machine, Current}
 use Rattle.board.proofs.Images.{Sized, sized-of}
 use Rattle.board.proofs.Invariant.{Quiet}
@@ -45,7 +46,7 @@ use Rattle.board.proofs.Deciding.{mount-decides, mount-outcome, mount-a
 use Rattle.board.proofs.Tabling.{false-true, allowed-is, is-allowed, allowed-not}
 use Rattle.journal.specs.Faults.{FaultIn}
 use Rattle.wire.specs.declared.Answer.{Answer}
-use Rattle.board.proofs.Answering.{SameNamed}
+use Rattle.board.proofs.Answering.{SameNamed, Both, same-lines}
 
 begun : (p : Phase) → Accepted (answerIn p)
 begun Unmounted = tt
@@ -112,7 +113,7 @@ module _ (img : List ℕ) (by : Bytes img) (ok : allowed (length img) ≡ true) 
 
     clear : Unclear img → ⊥
     clear (foreign-half k f n) = n (x .number) (x .time) (x .frames) (x .tail) (valid-at (y .there) (y .is-valid))
-    clear (equal-times j k t fs gs c d n a b) =
+    clear (equal-times k (tied-with j t fs gs c d n a b)) =
         on-test (eqb j (x .number))
         (λ p. let e : j ≡ x .number = eqb-true j (x .number) p in
         omega (arith, at-number a e .time, taken-newest z y k t gs d (b .0) (λ q. n (e ∙ sym q)) (at-valid b)))
@@ -168,7 +169,7 @@ module _ (img : List ℕ) (by : Bytes img) (ok : allowed (length img) ≡ true) 
   decided-lines (deciding.equal-times t fs gs c d p q r) =
       let a : ValidAt img 0 t fs c = valid-at (omega arith) p in
       let b : ValidAt img 1 t gs d = valid-at (omega arith) q in
-      inr ((λ n. n .none-valid 0 t fs c a), inl (equal-times 0 1 t fs gs c d (λ e. omega arith) a b, answer r))
+      inr ((λ n. n .none-valid 0 t fs c a), inl (equal-times 1 (tied-with 0 t fs gs c d (λ e. omega arith) a b), answer r))
   decided-lines (none-valid n r) =
       inl (
         record {
@@ -252,13 +253,15 @@ mount-names img by k e q =
         let fe : f ≡ e = cc in
         let w = fault-at img by ok j f h p in
         subst₂ (Names img) jk fe
-        (names-foreign (w .0) (w .1) (λ i l y. let z = at-foreign img by ok y in subst Quiet (z .1) (b i l))
-        (λ i t fs c a. subst Unread (at-valid img by ok a) (o i (a .0))))
+        (names-foreign (λ i t fs c a. subst Unread (at-valid img by ok a) (o i (a .0))) (w .0) (w .1)
+        (λ i l y. let z = at-foreign img by ok y in subst Quiet (z .1) (b i l)))
     go ok (deciding.equal-times t fs gs c d p u r) =
         let w = told r in
         let zk : 0 ≡ k = cc in
         let fe : fault field.Created 4 ≡ e = cc in
-        names-equal t fs gs c d (valid-at img by ok (omega arith) p) (valid-at img by ok (omega arith) u) (sym zk) (sym fe)
+        subst₂ (Names img) zk fe
+        (names-equal (tied-with 1 t gs fs d c (λ n. omega arith) (valid-at img by ok (omega arith) u) (valid-at img by ok (omega arith) p)) refl
+        (λ j l y. absurd (omega arith)))
     go ok (none-valid n r) = let t = told r in let w : _≡_ {A = ℕ} 0 1 = cc in absurd (omega arith)
     go ok (at-store x y) = out (mount-outcome x (sized-of img ok) y (taken-holds x (sized-of img ok) by y))
       where
@@ -268,10 +271,13 @@ mount-names img by k e q =
             let g : Record = enterWipe (mountJob img x (wipeList (x .number) (allFound img))) in
             absurd (subst Accepted q (subst (λ (o : Out). Accepted (o .answer)) (sym r) (begun (g .phase))))
 
+lowest-one : {P : ℕ → Type 0} (k j : ℕ) → P k → P j → ((i : ℕ) → i < k → P i → ⊥) → ((i : ℕ) → i < j → P i → ⊥) → k ≡ j
+lowest-one k j a b m n =
+    on-order k j (λ _ l. absurd (n k l a)) (λ _ e. e) (λ _ l. absurd (m j l b))
+
 names-one : (img : List ℕ) → Bytes img → allowed (length img) ≡ true → (k j : ℕ) (e f : Fault) → Names img k e → Names img j f → (k ≡ j) × (e ≡ f)
-names-one img by ok k j e f (names-foreign a b c d) (names-foreign a′ b′ c′ d′) =
-    let same : k ≡ j =
-    on-test (ltb k j) (λ t. absurd (c′ k (ltb-true k j t) a)) (λ t. on-test (ltb j k) (λ u. absurd (c j (ltb-true j k u) a′)) (λ u. omega (arith, ltb-false k j t, ltb-false j k u))) in
+names-one img by ok k j e f (names-foreign n a b c) (names-foreign n′ a′ b′ c′) =
+    let same : k ≡ j = lowest-one {P = ForeignAt img} k j a a′ c c′ in
     let p = at-fault k e a b in
     let q = at-fault j f a′ b′ in
     let r : foreign e ≡ foreign f = sym p ∙ ap (λ (n : ℕ). blockState (block (sizeOf img) n img)) same ∙ q in
@@ -279,13 +285,21 @@ names-one img by ok k j e f (names-foreign a b c d) (names-foreign a′ b′ c�
   where
     at-fault : (n : ℕ) (g : Fault) → ForeignAt img n → FaultIn (block (sizeOf img) n img) g → blockState (block (sizeOf img) n img) ≡ foreign g
     at-fault n g (h, y) z = states-exact .is-foreign-at (block (sizeOf img) n img) g (bytes-block (sizeOf img) n img by) (long img by ok n h) .1 (y, z)
-names-one img by ok k j e f (names-foreign a b c d) (names-equal t fs gs u v x y p q) = absurd (d 0 t fs u x)
-names-one img by ok k j e f (names-equal t fs gs u v x y p q) (names-foreign a b c d) = absurd (d 0 t fs u x)
-names-one img by ok k j e f (names-equal t fs gs u v x y p q) (names-equal t′ fs′ gs′ u′ v′ x′ y′ p′ q′) = (p ∙ sym p′, q ∙ sym q′)
+names-one img by ok k j e f (names-foreign n a b c) (names-equal (tied-with i t fs gs u v d x y) q m) = absurd (n i t fs u x)
+names-one img by ok k j e f (names-equal (tied-with i t fs gs u v d x y) q m) (names-foreign n a b c) = absurd (n i t fs u x)
+names-one img by ok k j e f (names-equal x q m) (names-equal x′ q′ m′) = (lowest-one {P = TiedAt img} k j x x′ m m′, q ∙ sym q′)
 
-pub same-named : (img : List ℕ) → Bytes img → (a b : Answer) → Exactly (mountLines img) a
-    → ((k : ℕ) (e : Fault) → a ≡ Refused (refusal.Foreign k e) → Names img k e) → ((k : ℕ) (e : Fault) → b ≡ Refused (refusal.Foreign k e) → Names img k e)
-    → SameNamed a b
-same-named img by a b (inl (p, x)) n m k j e f s t =
+-- what a mount may answer: by the table, and naming what 3 names
+abbrev pub MountTold : List ℕ → Answer → Type 0
+MountTold img a = Exactly (mountLines img) a × ((k : ℕ) (e : Fault) → a ≡ Refused (refusal.Foreign k e) → Names img k e)
+
+pub mount-told : (img : List ℕ) → Bytes img → MountTold img (mountOn img .answer)
+mount-told img by = (mount-lines img by, mount-names img by)
+
+same-named : (img : List ℕ) → Bytes img → (a b : Answer) → MountTold img a → MountTold img b → SameNamed a b
+same-named img by a b (inl (p, x), n) (y, m) k j e f s t =
     let w : _≡_ {A = Option ℕ} (some 3) (some 4) = sym (ap numberOf s) ∙ x in let z : _≡_ {A = ℕ} 3 4 = cc in absurd (omega arith)
-same-named img by a b (inr (p, x)) n m k j e f s t = names-one img by (allowed-not (length img) p) k j e f (n k e s) (m j f t)
+same-named img by a b (inr (p, x), n) (y, m) k j e f s t = names-one img by (allowed-not (length img) p) k j e f (n k e s) (m j f t)
+
+pub same-mounts : (img : List ℕ) → Bytes img → (a b : Answer) → MountTold img a → MountTold img b → Both a b
+same-mounts img by a b x y = same-lines (mountLines img) a b (same-named img by a b x y) (x .0) (y .0)

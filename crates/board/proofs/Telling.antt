@@ -25,8 +25,8 @@ use Rattle.board.specs.declared.Record.{Record}
 use Rattle.board.specs.Record.{allowed, restOf, idle, inStage, noStretch, Out, out, refuse, answerIn, answerOf}
 use Rattle.board.specs.Step.{enter, landed, loadOr, enterAppend, enterDrop, enterCopy, enterOpen, enterWipe, action, nextIndex}
 use Rattle.board.specs.Step.{nextByte, pastFrame, advance, stepOn}
-use Rattle.board.specs.Mount.{allFound, anyForeign, Store, stores, equalTimes, newest, needsTransfer, wipeList, mountJob, mountAt, noneValid, tiedTimes}
-use Rattle.board.specs.Mount.{mountOn, formatJob, formatOn}
+use Rattle.board.specs.Mount.{allFound, Store, stores, equalTimes, newest, needsTransfer, wipeList, mountJob}
+use Rattle.board.specs.Mount.{noneValid, lowestTied, tiedTimes, mountAt, mountOn, formatJob, formatOn}
 use Rattle.board.specs.Queue.{requestOn}
 use Rattle.board.specs.Exec.{Call, request, step, mount, format, exec}
 use Rattle.board.specs.Demand1.{Rests}
@@ -140,7 +140,7 @@ mount-plain img =
     go a [] e = refused-plain (noneValid (allFound img)) img _ (mount-none img a e)
     go a (y ∷ ys) e =
         on-test (equalTimes (y ∷ ys))
-        (λ q. refused-plain tiedTimes img _ (mount-equal img a y ys e q))
+        (λ q. refused-plain (tiedTimes (lowestTied (y ∷ ys))) img _ (mount-equal img a y ys e q))
         (λ q. subst Plain (sym (mount-at img a y ys e q)) (at-plain img (newest y ys)))
 
 format-plain : (img : List ℕ) → Plain (formatOn img)

@@ -147,14 +147,20 @@ abbrev pub noneValid : List Found → Refusal
 noneValid [] = refusal.NoStore
 noneValid (x ∷ xs) = orForeign (x .number) (x .state) (noneValid xs)
 
--- "equal times name half 0, place 4"
-abbrev pub tiedTimes : Refusal
-tiedTimes = refusal.Foreign 0 (fault field.Created timeAt)
+-- the lowest of the blocks whose times are equal: the first whose time a later one has
+abbrev pub lowestTied : List Store → ℕ
+lowestTied [] = 0
+lowestTied (x ∷ xs) = cond (sameTime (x .time) xs) (x .number) (lowestTied xs)
+
+-- K5: "equal times name half 0, place 4"
+abbrev pub tiedTimes : ℕ → Refusal
+tiedTimes k = refusal.Foreign k (fault field.Created timeAt)
 
 -- K4: "Refusal 3 remains for two valid halves of equal time, and for no valid half with at least one foreign."
 abbrev pub mountStores : List ℕ → List Found → List Store → Out
 mountStores img xs [] = refuse (noneValid xs) img unmounted []
-mountStores img xs (y ∷ ys) = cond (equalTimes (y ∷ ys)) (refuse tiedTimes img unmounted []) (mountAt img xs (newest y ys))
+mountStores img xs (y ∷ ys) =
+    cond (equalTimes (y ∷ ys)) (refuse (tiedTimes (lowestTied (y ∷ ys))) img unmounted []) (mountAt img xs (newest y ys))
 
 unfoldable pub mountFound : List ℕ → List Found → Out
 mountFound img xs = mountStores img xs (stores xs)

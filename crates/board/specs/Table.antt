@@ -150,22 +150,28 @@ ValidAt img k t fs c = (k < blocks) × ValidBlock (block (sizeOf img) k img) t f
 abbrev pub ForeignAt : List ℕ → ℕ → Type 0
 ForeignAt img k = (k < blocks) × ForeignBlock (block (sizeOf img) k img)
 
+-- no half is valid; half k is valid and another has its time
+abbrev pub NoneValid : List ℕ → Type 0
+NoneValid img = (k t : ℕ) (fs : List Frame) (c : Tail) → ValidAt img k t fs c → ⊥
+
+pub data TiedAt (img : List ℕ) (k : ℕ) : Type 0 where
+  tied-with : (j t : ℕ) (fs gs : List Frame) (c d : Tail) → (j ≡ k → ⊥) → ValidAt img j t fs c → ValidAt img k t gs d → TiedAt img k
+
 -- 2: "for mount, no valid half and none foreign"
 pub record NothingThere (img : List ℕ) : Type 0 where
-  pub none-valid : (k t : ℕ) (fs : List Frame) (c : Tail) → ValidAt img k t fs c → ⊥
+  pub none-valid : NoneValid img
   pub none-foreign : (k : ℕ) → ForeignAt img k → ⊥
 
 -- 3: document 02, K4, "Refusal 3 remains for two valid halves of equal time, and for no valid half with at least one foreign."
 pub data Unclear (img : List ℕ) : Type 0 where
-  foreign-half : (k : ℕ) → ForeignAt img k → ((j t : ℕ) (fs : List Frame) (c : Tail) → ValidAt img j t fs c → ⊥) → Unclear img
-  equal-times : (j k t : ℕ) (fs gs : List Frame) (c d : Tail) → (j ≡ k → ⊥) → ValidAt img j t fs c → ValidAt img k t gs d → Unclear img
+  foreign-half : (k : ℕ) → ForeignAt img k → NoneValid img → Unclear img
+  equal-times : (k : ℕ) → TiedAt img k → Unclear img
 
 -- what 3 names, document 02, K5: "the foreign half (0 first) and, within it, the fault and its place. .. equal times name half 0, place 4."
+-- No lower half is such a one.
 pub data Names (img : List ℕ) (k : ℕ) (e : Fault) : Type 0 where
-  names-foreign : ForeignAt img k → FaultIn (block (sizeOf img) k img) e → ((j : ℕ) → j < k → ForeignAt img j → ⊥)
-      → ((j t : ℕ) (fs : List Frame) (c : Tail) → ValidAt img j t fs c → ⊥) → Names img k e
-  names-equal : (t : ℕ) (fs gs : List Frame) (c d : Tail) → ValidAt img 0 t fs c → ValidAt img 1 t gs d → k ≡ 0 → e ≡ fault field.Created 4
-      → Names img k e
+  names-foreign : NoneValid img → ForeignAt img k → FaultIn (block (sizeOf img) k img) e → ((j : ℕ) → j < k → ForeignAt img j → ⊥) → Names img k e
+  names-equal : TiedAt img k → e ≡ fault field.Created 4 → ((j : ℕ) → j < k → TiedAt img j → ⊥) → Names img k e
 
 -- "has a torn tail or anything pending"
 abbrev pub Unsettled : List Frame → Tail → Type 0
