@@ -122,8 +122,8 @@ MountKeeps s img b u o = Inv s (o .image) (o .board) (book (b .objects) noLists 
 
 -- a refused mount
 turned-down : {s : ℕ} {img : List ℕ} (b : Book) {u : Bool} (n : Refusal) → Bare s img (b .objects) u
-    → ((k : ℕ) (f : Fault) → Refused n ≡ Refused (refusal.Foreign k f) → ⊥) → (Refused n ≡ Refused refusal.ImageLength → ⊥) → (Refused n ≡ Refused refusal.NoStore → u ≡ true) → (Refused n ≡ Refused refusal.Worn → WornOut img)
-    → MountKeeps s img b u (refuse n img unmounted [])
+    → ((k : ℕ) (f : Fault) → Refused n ≡ Refused (refusal.Foreign k f) → ⊥) → (Refused n ≡ Refused refusal.ImageLength → ⊥)
+    → (Refused n ≡ Refused refusal.NoStore → u ≡ true) → (Refused n ≡ Refused refusal.Worn → WornOut img) → MountKeeps s img b u (refuse n img unmounted [])
 turned-down b n v a c d e = (
   inv-unmounted unmounted (v .sized) (v .bytes) refl (v .safe) refl,
   record { never-foreign = a; never-length = c; no-store = d; worn = e },
