@@ -168,7 +168,7 @@ pub data Unclear (img : List ℕ) : Type 0 where
   equal-times : (k : ℕ) → TiedAt img k → Unclear img
 
 -- what 3 names, document 02, K5: "the foreign half (0 first) and, within it, the fault and its place. .. equal times name half 0, place 4."
--- No lower half is such a one.
+-- No lower half is such a one, so that of two it is half 0.
 pub data Names (img : List ℕ) (k : ℕ) (e : Fault) : Type 0 where
   names-foreign : NoneValid img → ForeignAt img k → FaultIn (block (sizeOf img) k img) e → ((j : ℕ) → j < k → ForeignAt img j → ⊥) → Names img k e
   names-equal : TiedAt img k → e ≡ fault field.Created 4 → ((j : ℕ) → j < k → TiedAt img j → ⊥) → Names img k e

@@ -35,6 +35,12 @@ edgeNumber Done = 0
 edgeNumber More = 255
 edgeNumber (Refused r) = refusalNumber r
 
+-- 0 for an answer that refuses nothing
+abbrev pub refusedNumber : Answer → ℕ
+refusedNumber Done = 0
+refusedNumber More = 0
+refusedNumber (Refused r) = refusalNumber r
+
 -- ---- what 3 names, in numbers for C
 
 -- a number for each field; 0 is none

@@ -10,7 +10,7 @@ ghost use mathlib.Core.Path.{_≡_};
 ghost use Prim.Native.Nat.{_+_, _<_};
 ghost use denote.Ref.{ptr};
 ghost use lib.ListN.{getD};
-ghost use Rattle.wire.specs.Answer.{refusalNumber, edgeNumber, fieldNumber, spot, refusalSpot, spotOf};
+ghost use Rattle.wire.specs.Answer.{refusalNumber, edgeNumber, refusedNumber, fieldNumber, spot, refusalSpot, spotOf};
 ghost use Rattle.wire.specs.Message.{wordAt, idIn, valueIn, isIf, onlyId, noBody, idAndValue, summaryPage, ofKind, parse, logPage};
 ghost use Rattle.wire.specs.Code.{overlay, pageInto, valuePlace};
 
@@ -202,6 +202,17 @@ pub fn number(answer: Answer) -> u8
     match answer {
         Answer::Done => 0,
         Answer::More => 255,
+        Answer::Refused(why) => refusal_number(why),
+    }
+}
+
+// A refusal's number; 0 for any other answer.
+pub fn refused(answer: Answer) -> u8
+    ensures { λ r. ⌜ r ≡ refusedNumber answer ⌝ }
+{
+    match answer {
+        Answer::Done => 0,
+        Answer::More => 0,
         Answer::Refused(why) => refusal_number(why),
     }
 }
