@@ -1,5 +1,6 @@
 //! The model, the library and the plain program, given the same calls: whatever anyone can see of them must agree.
 
+use crate::fault;
 use crate::nor::Nor;
 use crate::tally::Tally;
 use library::Library;
@@ -7,7 +8,7 @@ use model::job::Step;
 use model::{Model, Record};
 use plain::Plain;
 use std::fmt;
-use store::{Answer, Head, Idle, Store, Stretch, hex, message};
+use store::{Answer, Fault, Head, Idle, Store, Stretch, hex, message};
 
 #[derive(Clone, PartialEq, Eq, Debug)]
 pub enum Call {
@@ -238,6 +239,9 @@ impl Twin {
         }
         self.compare(call, &outcome, before);
         self.tally.count(call, &outcome);
+        if *call == Call::Mount {
+            self.compare_fault(outcome.answer);
+        }
         self.remember(call, before, outcome.answer);
         outcome
     }
@@ -260,6 +264,19 @@ impl Twin {
         if let Some(difference) = library.or(untidy).or(plain) {
             self.fail(&difference, before, call);
         }
+    }
+
+    /// Whatever a mount answers, whoever asks where the image broke is told the same.
+    fn compare_fault(&mut self, mount: Answer) {
+        let (answer, _) = self.fault();
+        assert_eq!(answer, if mount.refused() { mount } else { Answer::DONE }, "mount answered {mount}");
+    }
+
+    /// Why a mount of the image as it is would be refused, and where it broke.
+    pub fn fault(&mut self) -> (Answer, Option<Fault>) {
+        let (answer, fault) = fault::agreed(self.image());
+        self.tally.count_fault(fault);
+        (answer, fault)
     }
 
     fn remember(&mut self, call: &Call, before: Head, answer: Answer) {

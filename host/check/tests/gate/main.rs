@@ -4,6 +4,7 @@ mod blank;
 mod damage;
 mod edge;
 mod erase;
+mod fault;
 mod format;
 mod long;
 mod random;
