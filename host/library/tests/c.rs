@@ -1,4 +1,4 @@
-//! The header and the library from C: the example, the program on README's first screen, and that program again with
+//! The header and the library from C: the examples, the program on README's first screen, and that program again with
 //! the installed files.
 
 use std::fs;
@@ -38,9 +38,11 @@ fn in_place() -> Vec<String> {
 }
 
 #[test]
-fn the_example_prints_what_it_should() {
-    let printed = printed(&repository("examples/c/restart.c"), "restart", &in_place());
-    assert_eq!(printed, text(repository("examples/c/restart.expected")));
+fn the_examples_print_what_they_should() {
+    for name in ["restart", "broken"] {
+        let printed = printed(&repository(&format!("examples/c/{name}.c")), name, &in_place());
+        assert_eq!(printed, text(repository(&format!("examples/c/{name}.expected"))));
+    }
 }
 
 /// The first block of a language in README, which must have one.
