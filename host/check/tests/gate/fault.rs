@@ -9,18 +9,18 @@ use store::{Answer, Fault, Field};
 
 const S: usize = 256;
 /// Length, kind, time 1, valid data, the rest.
-const HEADER: [u8; 16] = *b"\x10\0\x01\x4A\xFE\xFF\xFF\xFF\xFC\xFF\xFF\xFF\xFF\xFF\xFF\xFF";
+pub const HEADER: [u8; 16] = *b"\x10\0\x01\x4A\xFE\xFF\xFF\xFF\xFC\xFF\xFF\xFF\xFF\xFF\xFF\xFF";
 
-const PUT: [u8; 10] = [10, 0, 1, 0, 2, 5, 0, 0x41, 0x42, 0xFE];
+pub const PUT: [u8; 10] = [10, 0, 1, 0, 2, 5, 0, 0x41, 0x42, 0xFE];
 const DELETE: [u8; 8] = [8, 0, 2, 0, 1, 5, 0, 0xFE];
-const COMMIT: [u8; 6] = [6, 0, 3, 0, 2, 0xFE];
+pub const COMMIT: [u8; 6] = [6, 0, 3, 0, 2, 0xFE];
 const ABORT: [u8; 6] = [6, 0, 4, 0, 2, 0xFE];
-const SETTLED: [u8; 9] = [9, 0, 5, 0, 5, 0, 0x41, 0x42, 0xFE];
+pub const SETTLED: [u8; 9] = [9, 0, 5, 0, 5, 0, 0x41, 0x42, 0xFE];
 /// An empty value: the one length that no other kind has.
-const EMPTY: [u8; 7] = [7, 0, 5, 0, 6, 0, 0xFE];
+pub const EMPTY: [u8; 7] = [7, 0, 5, 0, 6, 0, 0xFE];
 
 /// A half that begins with these bytes.
-fn half(parts: &[&[u8]]) -> Vec<u8> {
+pub fn half(parts: &[&[u8]]) -> Vec<u8> {
     let mut half = parts.concat();
     assert!(half.len() <= S);
     half.resize(S, 0xFF);
@@ -50,7 +50,7 @@ fn behind(frames: &[&[u8]], bytes: &[u8]) -> Option<(Field, usize)> {
 }
 
 /// The frame with one byte changed.
-fn with(frame: &[u8], at: usize, byte: u8) -> Vec<u8> {
+pub fn with(frame: &[u8], at: usize, byte: u8) -> Vec<u8> {
     let mut frame = frame.to_vec();
     frame[at] = byte;
     frame

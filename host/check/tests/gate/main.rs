@@ -7,6 +7,7 @@ mod erase;
 mod fault;
 mod format;
 mod long;
+mod misled;
 mod random;
 mod refusals;
 mod rows;
