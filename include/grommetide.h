@@ -9,9 +9,10 @@
  *
  *   1. After power-up call grommetide_mount. If it answers GROMMETIDE_NO_STORE, call grommetide_format.
  *   2. Pass each host's message to grommetide_request.
- *   3. Whenever a call answers GROMMETIDE_MORE, call grommetide_step for as long as it answers GROMMETIDE_MORE. Each call
- *      does one step. Other work may be done between steps; until the last one every request gets GROMMETIDE_BUSY. Then
- *      it answers GROMMETIDE_DONE; any other answer means that record or image are not those of the last call.
+ *   3. Whenever a call answers GROMMETIDE_MORE, a job is in the record. Make its flash steps ("How flash is connected") for
+ *      as long as the answer is GROMMETIDE_MORE. Other work may be done between steps; until the last one every request
+ *      gets GROMMETIDE_BUSY. Then the answer is GROMMETIDE_DONE; any other answer means that record or image are not those
+ *      of the last call.
  *   4. If power is lost, all that counts is in the flash: go to 1.
  *
  *   A mount that answers GROMMETIDE_FOREIGN or GROMMETIDE_WORN changes nothing and will answer the same again. After
@@ -20,15 +21,38 @@
  *
  * The image
  *
- *   image_len is a multiple of 256 from 512 to 65,536; the image is two halves of image_len / 2 bytes. Only
- *   grommetide_step writes to it, and each call does one thing at most: it programs one byte (new = old AND given, so
- *   bits are only cleared) or erases one half (all its bytes become 0xFF). With 512 bytes there is room for values of up to
- *   212 bytes, from 768 on for all (docs/STORE.md, Room).
+ *   image_len is a multiple of 256 from 512 to 65,536; the image is two halves of image_len / 2 bytes. A flash step programs
+ *   one byte (new = old AND given, so bits are only cleared) or erases one half (all its bytes become 0xFF). Programming 0xFF
+ *   is a step too, which changes nothing. With 512 bytes there is room for values of up to 212 bytes, from 768 on for all
+ *   (docs/STORE.md, Room).
  *
- *   mount, format, request and read only look at the image, so the memory-mapped flash itself will do. For step, lend a
- *   copy in RAM, then do to the flash what step did to the copy: if any byte has gained bits, erase the half that it is
- *   in; else, if a byte differs (it is one), program it. A step may change nothing (0xFF programmed over 0xFF). See
- *   examples/c.
+ * How flash is connected
+ *
+ *   There are three ways. What they do is the same, byte for byte: it is proved that grommetide_next, its flash step and
+ *   grommetide_made together are grommetide_step, on any image and record.
+ *
+ *   1. Flash that is mapped into memory. The image is the mapped flash itself, and no copy is needed: no call here writes to
+ *      it. grommetide_next says what the next step is; the driver has the chip do it, waits until the flash can be read
+ *      again and drops what a cache holds of it; grommetide_made moves the record on. examples/c/spi_nor.c does this with
+ *      an SPI chip.
+ *
+ *          do {
+ *              told = grommetide_next(image_len, record, record_len, &at, &len, &byte);
+ *              if (told == GROMMETIDE_PROGRAM)
+ *                  program(at, byte);
+ *              else if (told == GROMMETIDE_ERASE)
+ *                  erase(at, len);
+ *              answer = grommetide_made(image, image_len, record, record_len);
+ *          } while (answer == GROMMETIDE_MORE);
+ *
+ *   2. Memory that plain writes can change: RAM in a simulator or a test, FRAM. grommetide_step makes the next step itself,
+ *      grommetide_run many in one call. No other call writes to the image.
+ *
+ *   3. Flash that can't be mapped. The image is a copy in RAM, read from the chip after power-up. What grommetide_next says
+ *      is done to the chip and to the copy, then grommetide_made is called with the copy. examples/c/restart.c does this.
+ *
+ *   A power cut after the flash step and before grommetide_made is a cut after that step. grommetide_next changes nothing,
+ *   so it may be asked again. Call grommetide_made only for a step that was made; a driver need not send 0xFF to the chip.
  *
  * What the flash must do
  *
@@ -55,15 +79,15 @@
  *
  *   Bytes 1 to 5 mean this in an idle record. An unmounted or idle record that the library hands out has zeros in all
  *   bytes it does not use. A record that does not belong to the image is noticed (GROMMETIDE_STALE), or, in a job, does
- *   at most one step a call and ends, or is noticed, within 65,536 steps.
+ *   one flash step at a time and ends, or is noticed, within 65,536 steps.
  *
  * Rules for all calls
  *
- *   No pointer may be NULL, also where its length is 0. Buffers that a call writes to overlap no others. A refusal, which
- *   is any answer but GROMMETIDE_DONE and GROMMETIDE_MORE, leaves image, record and reply as they are; only a mount or
- *   format refused with 2, 3, 4 or 6 makes the record an unmounted one. Nothing is kept between calls, so calls on
- *   different buffers may run at the same time in different threads; calls that share a buffer which one of them writes
- *   to may not.
+ *   No pointer may be NULL, also where its length is 0. Buffers and numbers that a call writes to overlap no others. A
+ *   refusal, which is any answer from 1 to 11 and 254, leaves image, record and reply as they are; only a mount or format
+ *   refused with 2, 3, 4 or 6 makes the record an unmounted one, and a run may make steps before it is refused. Nothing is
+ *   kept between calls, so calls on different buffers may run at the same time in different threads; calls that share a
+ *   buffer which one of them writes to may not.
  *
  * What it needs
  *
@@ -76,12 +100,15 @@
  *
  *   Bytes of stack that a call takes at most, its return address included (held by a test that paints the stack):
  *
- *     grommetide_mount        4,608
+ *     grommetide_mount        4,096
  *     grommetide_fault        4,096
  *     grommetide_format         192
- *     grommetide_request     14,848
- *     grommetide_step         6,656
- *     grommetide_read        10,240
+ *     grommetide_request      4,096
+ *     grommetide_read         4,096
+ *     grommetide_next         4,096
+ *     grommetide_made         4,096
+ *     grommetide_step         4,096
+ *     grommetide_run          4,096
  */
 #ifndef GROMMETIDE_H
 #define GROMMETIDE_H
@@ -96,11 +123,13 @@ extern "C" {
 /*
  * This header's version. A record is of use only to the version that wrote it; the flash may outlive versions.
  *
+ *   0.3  grommetide_next and grommetide_made for flash that the caller drives, grommetide_run for many steps in one call; no
+ *        call takes more than 4,096 bytes of stack. Record and flash are those of 0.2.
  *   0.2  values of up to 240 bytes, and so a record of 1,042 bytes. It takes the flash of 0.1 as it is.
  *   0.1  values of up to 64 bytes, a record of 690 bytes. It finds flash in which a longer value stands foreign.
  */
 #define GROMMETIDE_VERSION_MAJOR 0
-#define GROMMETIDE_VERSION_MINOR 2
+#define GROMMETIDE_VERSION_MINOR 3
 #define GROMMETIDE_VERSION_PATCH 0
 
 /*
@@ -129,6 +158,8 @@ enum {
     GROMMETIDE_SHORT_REPLY = 9,      /* log: the reply buffer has fewer than 14 bytes */
     GROMMETIDE_HOST_RANGE = 10,      /* the host is above 3 */
     GROMMETIDE_STALE = 11,           /* the image is not the one that the record belongs to */
+    GROMMETIDE_PROGRAM = 252,        /* next: a byte is to be programmed */
+    GROMMETIDE_ERASE = 253,          /* next: a half is to be erased */
     GROMMETIDE_WRONG_RECORD = 254,   /* record_len is not GROMMETIDE_RECORD_BYTES; nothing was done */
     GROMMETIDE_MORE = 255            /* accepted, or a step was made; steps are left */
 };
@@ -188,18 +219,43 @@ uint8_t grommetide_request(const uint8_t *image, size_t image_len, uint8_t *reco
                            const uint8_t *message, size_t message_len, uint8_t *reply, size_t reply_len);
 
 /*
- * Does the next step of the job in the record. DONE: it was the last, or the record has no job and nothing was done.
- * MORE: steps are left. Refused: STALE, if image_len is not the record's or the job's next place lies outside the image.
- */
-uint8_t grommetide_step(uint8_t *image, size_t image_len, uint8_t *record, size_t record_len);
-
-/*
  * Where a settled value stands: *len bytes from image[*at] on, counted from the image's start. The message is a read
  * (0x0105). DONE: found; *len is 0 for an empty value. Refused: IMAGE_LENGTH, HOST_RANGE, BUSY, NO_STORE, STALE, MALFORMED
  * (also for a message that is no read), NO_OBJECT; *at and *len are then set to 0. With WRONG_RECORD they stay.
  */
 uint8_t grommetide_read(const uint8_t *image, size_t image_len, const uint8_t *record, size_t record_len, uint8_t host,
                         const uint8_t *message, size_t message_len, size_t *at, size_t *len);
+
+/*
+ * What the next flash step of the job in the record is, by the record alone. PROGRAM: *byte is to be programmed at offset
+ * *at of the image; *len is 1. ERASE: the *len bytes from offset *at on are to be erased; *byte is 0xFF. DONE: the record
+ * has no job. Refused: STALE, as the step would be. With DONE and STALE *at, *len and *byte are set to 0; with WRONG_RECORD
+ * they stay.
+ */
+uint8_t grommetide_next(size_t image_len, const uint8_t *record, size_t record_len, size_t *at, size_t *len,
+                        uint8_t *byte);
+
+/*
+ * That flash step was made: the record moves on. The image is read as it is after the step and is not written to.
+ * DONE: it was the job's last step, or the record has no job and nothing was done. MORE: steps are left. Refused: STALE, as
+ * the step would be.
+ */
+uint8_t grommetide_made(const uint8_t *image, size_t image_len, uint8_t *record, size_t record_len);
+
+/*
+ * Does the next step of the job in the record. DONE: it was the last, or the record has no job and nothing was done.
+ * MORE: steps are left. Refused: STALE, if image_len is not the record's or the job's next place lies outside the image.
+ */
+uint8_t grommetide_step(uint8_t *image, size_t image_len, uint8_t *record, size_t record_len);
+
+/*
+ * At most `most` steps in one call: what so many calls of grommetide_step do, up to the first that does not answer MORE.
+ * *steps is how many flash steps were made. DONE: the job's last step was made, or the record has no job. MORE: steps are
+ * left; so answers a `most` of 0 where there is a job. Refused: STALE; image and record are then as those *steps steps left
+ * them. With WRONG_RECORD *steps stays.
+ */
+uint8_t grommetide_run(uint8_t *image, size_t image_len, uint8_t *record, size_t record_len, size_t most,
+                       size_t *steps);
 
 #ifdef __cplusplus
 }

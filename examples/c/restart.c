@@ -2,8 +2,8 @@
  * The store on a simulated NOR array: format, put, commit, power cuts in the middle of a second commit and of the restart
  * after it, restart, read.
  *
- * The array is changed only by nor_program and nor_erase, and refuses to set bits. The store is lent a copy in RAM; what
- * a step does to the copy is then done to the array. A power cut loses the copy and the board record.
+ * The array is not mapped into memory: it is changed only by nor_program and nor_erase, and refuses to set bits. The store
+ * is lent a copy in RAM; each step is done to the array and to the copy. A power cut loses the copy and the board record.
  */
 #include <stdio.h>
 #include <stdlib.h>
@@ -11,7 +11,7 @@
 
 #include "grommetide.h"
 
-enum { LENGTH = 512, HALF = LENGTH / 2 };
+enum { LENGTH = 512 };
 
 static uint8_t nor[LENGTH];
 
@@ -28,9 +28,9 @@ static void nor_program(size_t at, uint8_t byte)
     nor[at] &= byte;
 }
 
-static void nor_erase(size_t half)
+static void nor_erase(size_t at, size_t len)
 {
-    memset(nor + half * HALF, 0xFF, HALF);
+    memset(nor + at, 0xFF, len);
 }
 
 struct board {
@@ -44,22 +44,24 @@ static void power_up(struct board *board)
     memset(board->record, 0, sizeof board->record);
 }
 
-/* Does to the array what a step did to the copy. Only an erase gains bits, and it may gain just one. */
-static void follow(const uint8_t *copy)
+/* One step of the job in hand, told, done to the array and to the copy, made. */
+static uint8_t step(struct board *board)
 {
-    unsigned done = 0;
-    size_t at;
-    for (at = 0; at < LENGTH; at++) {
-        if ((copy[at] & ~nor[at]) != 0) {
-            nor_erase(at / HALF);
-            done++;
-        } else if (copy[at] != nor[at]) {
-            nor_program(at, copy[at]);
-            done++;
-        }
+    size_t at, len;
+    uint8_t byte;
+    switch (grommetide_next(LENGTH, board->record, sizeof board->record, &at, &len, &byte)) {
+    case GROMMETIDE_PROGRAM:
+        nor_program(at, byte);
+        board->copy[at] &= byte;
+        break;
+    case GROMMETIDE_ERASE:
+        nor_erase(at, len);
+        memset(board->copy + at, 0xFF, len);
+        break;
+    default:
+        stop("there is no step");
     }
-    if (done > 1 || memcmp(nor, copy, LENGTH) != 0)
-        stop("a step did more than one thing");
+    return grommetide_made(board->copy, LENGTH, board->record, sizeof board->record);
 }
 
 /* Up to `most` steps of the job in hand; how many were made. */
@@ -68,12 +70,11 @@ static unsigned steps(struct board *board, unsigned most)
     unsigned made = 0;
     uint8_t answer = GROMMETIDE_MORE;
     while (made < most && answer == GROMMETIDE_MORE) {
-        answer = grommetide_step(board->copy, LENGTH, board->record, sizeof board->record);
-        if (answer != GROMMETIDE_MORE && answer != GROMMETIDE_DONE)
-            stop("a step was refused");
-        follow(board->copy);
+        answer = step(board);
         made++;
     }
+    if (answer != GROMMETIDE_MORE && answer != GROMMETIDE_DONE)
+        stop("a step was refused");
     return made;
 }
 
@@ -125,8 +126,7 @@ int main(void)
 
     if (grommetide_record_size() != GROMMETIDE_RECORD_BYTES)
         stop("header and library differ");
-    nor_erase(0);
-    nor_erase(1);
+    nor_erase(0, LENGTH);
     power_up(&board);
     if (grommetide_mount(board.copy, LENGTH, board.record, sizeof board.record) != GROMMETIDE_NO_STORE)
         stop("a store on blank flash");

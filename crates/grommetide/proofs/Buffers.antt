@@ -16,7 +16,7 @@ use Rattle.grommetide.specs.Edge.{Edge, guarded, written, ReadsBack}
 use Rattle.pack.specs.Code.{changes}
 use Rattle.grommetide.proofs.Kept.{Keeps}
 
-filled : (r : Record) (b : List ℕ) → length b ≡ recordSize → recordInto r b ≡ recordBytes r
+pub filled : (r : Record) (b : List ℕ) → length b ≡ recordSize → recordInto r b ≡ recordBytes r
 unfolding recordInto
 filled r b e = rw (eq-eqb (length b) recordSize e)
 

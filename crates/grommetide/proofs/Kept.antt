@@ -1,6 +1,6 @@
 -- Where the buffer is not written, the record that comes back is the one that was given.
 use mathlib.Core.Path.{_≡_, refl, sym, ap, subst, _∙_}
-use mathlib.Core.List.{List}
+use mathlib.Core.List.{List, []}
 use mathlib.Core.Bool.{true, false, true≢false, _&&_}
 use Prim.Native.Nat.{ℕ, suc}
 use native.Mathlib.Omega.{arith}
@@ -12,13 +12,15 @@ use Rattle.flash.proofs.Cases.{on-test}
 use Rattle.frame.specs.declared.Host.{Host}
 use Rattle.frame.specs.Frame.{Frame, frameLen}
 use Rattle.wire.specs.declared.Answer.{Answer}
-use Rattle.wire.specs.declared.Answer.the-variants.{More}
+use Rattle.wire.specs.declared.Answer.the-variants.{Done, More}
+use Rattle.wire.specs.declared.Refusal.the-variants as refusal
 use Rattle.board.specs.declared.Stage.{Stage}
 use Rattle.board.specs.declared.Phase.{Phase}
 use Rattle.board.specs.declared.Phase.the-variants.{Unmounted, Idle, Busy}
 use Rattle.board.specs.declared.Record.{Record}
-use Rattle.board.specs.Record.{Out, answerIn, answerOf}
-use Rattle.board.specs.Step.{enterWipe, action, advance, stepOn}
+use Rattle.board.specs.Record.{Out, out, refuse, answerIn, answerOf}
+use Rattle.board.specs.Step.{enterWipe, action, advance, stepped, stepOn}
+use Rattle.board.specs.Drive.{madeIn, madeOn}
 use Rattle.board.specs.Queue.{Held, needsRoom, appendJob, requestOn}
 use Rattle.board.specs.Demand1.{Rests}
 use Rattle.board.proofs.Outcomes.{wipe-skips, open-enters, open-skips, append-enters, step-resting, step-outside, step-goes}
@@ -53,6 +55,24 @@ step-keeps img r = by (r .phase) refl
         (λ t. wrote r (stepOn img r) (Busy s) _ e (ap (λ (o : Out). o .answer) (step-goes img r s e t))
         (in-job s (advance s (apply (sizeOf img) (action s r) img) r .phase)))
         (λ t. kept r _ _ (step-outside img r s e t) refl)
+
+-- ---- a step that the caller made
+
+pub made-cases : (P : Out → Type 0) (img : List ℕ) (r : Record) → P (out Done img r [])
+    → ((s : Stage) → r .phase ≡ Busy s → P (stepped img (advance s img r))) → P (refuse refusal.Stale img r []) → P (madeOn img r)
+unfolding madeOn
+made-cases P img r rests goes stale = by (r .phase) refl
+  where
+    by : (p : Phase) → r .phase ≡ p → P (madeIn p img r)
+    by Unmounted e = rests
+    by Idle e = rests
+    by (Busy s) e = on-test (eqb (length img) (suc (r .last)) && within (sizeOf img) (action s r)) (λ t. rw t (goes s e)) (λ t. rw t stale)
+
+pub made-keeps : (img : List ℕ) (r : Record) → Keeps r (madeOn img r)
+made-keeps img r =
+    made-cases (Keeps r) img r (λ _. refl)
+    (λ s e. wrote r (stepped img (advance s img r)) (Busy s) _ e refl (in-job s (advance s img r .phase)))
+    (λ _. refl)
 
 -- ---- a request
 

@@ -12,13 +12,18 @@ use Rattle.wire.specs.declared.Answer.the-variants.{Done, More, Refused}
 use Rattle.wire.specs.declared.Refusal.{Refusal}
 use Rattle.wire.specs.Answer.{edgeNumber}
 use Rattle.board.specs.declared.Record.{Record}
-use Rattle.board.specs.Record.{Out, refuse}
+use Rattle.board.specs.declared.Phase.{Phase}
+use Rattle.board.specs.declared.Phase.the-variants.{Unmounted, Idle, Busy}
+use Rattle.board.specs.Record.{Out, out, refuse, answerIn}
+use Rattle.board.specs.Step.{advance}
+use Rattle.board.specs.Drive.{madeOn}
 use Rattle.board.specs.Queue.{requestOn}
 use Rattle.board.specs.Exec.{request, step}
 use Rattle.board.proofs.Refusals.{refusals-untouched}
 use Rattle.board.proofs.Planning.{Met, refused, done, begun, request-met}
 use Rattle.lent.specs.Layout.{recordSize, recordIn}
-use Rattle.grommetide.specs.Edge.{holdsRecord, guarded, written, edgeRequest, edgeStep, asRead, edgeRead, Refuses, Stays, RefusedStays, RefusedReadEmpty}
+use Rattle.grommetide.proofs.Kept.{made-cases}
+use Rattle.grommetide.specs.Edge.{holdsRecord, guarded, written, edgeRequest, edgeStep, edgeMade, asRead, edgeRead, Refuses, Stays, RefusedStays, RefusedReadEmpty}
 
 -- an answer that refuses is a refusal's
 is-refused : (a : Answer) → Refuses (edgeNumber a) → (n : Refusal) × (a ≡ Refused n)
@@ -36,12 +41,25 @@ stays img b reply o u =
     (λ t. rw t (λ h. let x = is-refused (o .answer) h in rw (u (x .0) (x .1))))
     (λ t. rw t (λ _. refl))
 
+-- no answer of a record is a refusal
+never-refused : (p : Phase) (n : Refusal) → answerIn p ≡ Refused n → ⊥
+never-refused Unmounted n e = let z : _≡_ {A = ℕ} 0 1 = cc in omega arith
+never-refused Idle n e = let z : _≡_ {A = ℕ} 0 1 = cc in omega arith
+never-refused (Busy s) n e = let z : _≡_ {A = ℕ} 0 1 = cc in omega arith
+
+made-untouched : (img : List ℕ) (r : Record) → Untouched img r [] (madeOn img r)
+made-untouched img r =
+    made-cases (Untouched img r []) img r (λ n e. absurd (never-refused Idle n e))
+    (λ s e n q. absurd (never-refused (advance s img r .phase) n q))
+    (λ n e. ap (λ (a : Answer). out a img r []) e)
+
 pub refused-stays : RefusedStays
-unfolding edgeRequest edgeStep
+unfolding edgeRequest edgeStep edgeMade
 refused-stays =
     record {
       request = λ img b h m reply. stays img b reply _ (λ n. refusals-untouched img (recordIn b) (request (record { 0 = h }) m reply) n);
       step = λ img b. stays img b _ _ (λ n. refusals-untouched img (recordIn b) step n);
+      made = λ img b. stays img b _ _ (made-untouched img (recordIn b));
     }
 
 -- ---- reads

@@ -8,11 +8,14 @@ use lib.ListN.{length}
 use Rattle.wire.specs.declared.Request.the-variants.{Put, Delete, Commit, Abort, Read, Log}
 use Rattle.wire.specs.declared.Parsed.{Parsed}
 use Rattle.wire.specs.declared.Parsed.the-variants.{Is, Malformed}
-use Rattle.wire.specs.Answer.{edgeNumber}
+use Rattle.wire.specs.Answer.{refusalNumber, edgeNumber}
 use Rattle.wire.specs.Message.{parse}
+use Rattle.board.specs.declared.Next.{Next}
+use Rattle.board.specs.declared.Next.the-variants as next
 use Rattle.board.specs.declared.Record.{Record}
 use Rattle.board.specs.Record.{Out}
 use Rattle.board.specs.Step.{stepOn}
+use Rattle.board.specs.Drive.{Drove, nextOn, flashed, madeOn, runOn}
 use Rattle.board.specs.Mount.{mountOn, formatOn}
 use Rattle.board.specs.Queue.{requestOn}
 use Rattle.lent.specs.Layout.{recordSize, recordIn, recordBytes}
@@ -51,6 +54,10 @@ edgeRequest img b h m reply =
 
 unfoldable pub edgeStep : List ℕ → List ℕ → Edge
 edgeStep img b = let o : Out = stepOn img (recordIn b) in guarded img b [] o (written b o)
+
+-- a step that the caller made to the flash
+unfoldable pub edgeMade : List ℕ → List ℕ → Edge
+edgeMade img b = let o : Out = madeOn img (recordIn b) in guarded img b [] o (written b o)
 
 -- ---- mount and format write the record, whatever stood there
 
@@ -91,6 +98,52 @@ edgeRead img b h m at size =
     let o : Out = requestOn img (recordIn b) [] (record { 0 = h }) (asRead m) in
     cond (holdsRecord b) (place (edgeNumber (o .answer)) (o .stretch .at) (o .stretch .size)) (place 254 at size)
 
+-- ---- the next flash step, told in numbers
+
+-- 252: a byte to program at an offset. 253: from an offset on so many bytes to erase. Any other number is an answer: nothing is to be done
+pub record Told : Type 0 where
+  pub answer : ℕ
+  pub at : ℕ
+  pub size : ℕ
+  pub byte : ℕ
+
+abbrev pub told : ℕ → ℕ → ℕ → ℕ → Told
+told n at size byte = record { answer = n; at = at; size = size; byte = byte }
+
+abbrev pub tells : Next → Told
+tells (next.Program at v) = told 252 at 1 v
+tells (next.Erase at n) = told 253 at n 255
+tells next.Nothing = told 0 0 0 0
+tells (next.Refused why) = told (refusalNumber why) 0 0 0
+
+-- on an image of n bytes; with a record buffer of any other size the numbers stay as they were
+unfoldable pub edgeNext : ℕ → List ℕ → ℕ → ℕ → ℕ → Told
+edgeNext n b at size byte = cond (holdsRecord b) (tells (nextOn n (recordIn b))) (told 254 at size byte)
+
+-- the flash after what was told is done to it
+abbrev pub flashedBy : Told → List ℕ → List ℕ
+flashedBy t img =
+    cond (eqb (t .answer) 252) (flashed (next.Program (t .at) (t .byte)) img)
+    (cond (eqb (t .answer) 253) (flashed (next.Erase (t .at) (t .size)) img) img)
+
+-- ---- many steps in one call: the record is written if a step was made
+
+pub record Run : Type 0 where
+  pub answer : ℕ
+  pub steps : ℕ
+  pub image : List ℕ
+  pub board : List ℕ
+
+abbrev pub run : ℕ → ℕ → List ℕ → List ℕ → Run
+run n steps img b = record { answer = n; steps = steps; image = img; board = b }
+
+abbrev pub ran : List ℕ → Drove → Run
+ran b d = run (edgeNumber (d .out .answer)) (d .steps) (d .out .image) (cond (eqb (d .steps) 0) b (recordBytes (d .out .board)))
+
+-- at most n of them; with a record buffer of any other size the count of steps stays as it was
+unfoldable pub edgeRun : List ℕ → List ℕ → ℕ → ℕ → Run
+edgeRun img b n steps = cond (holdsRecord b) (ran b (runOn n img (recordIn b))) (run 254 steps img b)
+
 -- ---- what callers rely on
 
 -- any answer but 0 and 255
@@ -105,6 +158,15 @@ Stays img b reply e = Refuses (e .answer) → e ≡ edge (e .answer) img b reply
 pub record RefusedStays : Type 0 where
   pub request : (img b : List ℕ) (h : ℕ) (m reply : List ℕ) → Stays img b reply (edgeRequest img b h m reply)
   pub step : (img b : List ℕ) → Stays img b [] (edgeStep img b)
+  pub made : (img b : List ℕ) → Stays img b [] (edgeMade img b)
+
+-- a run that made no step leaves image and record as they were
+unfoldable pub NoStepStays : Type 0
+NoStepStays = (img b : List ℕ) (n : ℕ) → edgeRun img b n 0 .steps ≡ 0 → edgeRun img b n 0 ≡ run (edgeRun img b n 0 .answer) 0 img b
+
+-- what next tells, done to the flash, then made, is a step: of the answer, the flash and the record's bytes
+unfoldable pub EdgeNextThenMade : Type 0
+EdgeNextThenMade = (img b : List ℕ) (at size byte : ℕ) → edgeMade (flashedBy (edgeNext (length img) b at size byte) img) b ≡ edgeStep img b
 
 -- "A refused read hands back an empty stretch"
 unfoldable pub RefusedReadEmpty : Type 0

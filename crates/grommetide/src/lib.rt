@@ -1,13 +1,19 @@
 // The library for C: include/grommetide.h. The record crosses as bytes.
+mod next;
+mod steps;
+
 ghost use mathlib.Core.Path.{_≡_};
-ghost use Rattle.board.specs.Step.{stepOn};
 ghost use Rattle.board.specs.Mount.{mountOn, formatOn};
 ghost use Rattle.board.specs.Queue.{requestOn};
 ghost use Rattle.lent.specs.Layout.{recordSize, recordIn};
-ghost use Rattle.grommetide.specs.Edge.{edgeMount, edgeFormat, edgeRequest, edgeStep, ReadsBack};
+ghost use Rattle.grommetide.specs.Edge.{edgeMount, edgeFormat, edgeRequest, ReadsBack};
 ghost use Rattle.grommetide.specs.Edge.{place, isRead, asRead, edgeRead};
 use frame::Host;
 use lent::RECORD_SIZE;
+pub use next::grommetide_next;
+pub use steps::grommetide_made;
+pub use steps::grommetide_run;
+pub use steps::grommetide_step;
 use wire::Parsed;
 use wire::Request;
 
@@ -70,23 +76,6 @@ pub extern "C" fn grommetide_request(
     }
     let b = unpack::decode(board);
     let out = queue::request(image, b, Host(host), message, reply);
-    let phase = b.phase;
-    pack::finish(phase, out, board)
-}
-
-#[no_mangle]
-pub extern "C" fn grommetide_step(image: &mut [u8], board: &mut [u8]) -> u8
-    ensures { λ r. ⌜ (r ≡ edgeStep (now (image .entry)) (now (board .entry)) .answer)
-        × (now (image .exit) ≡ edgeStep (now (image .entry)) (now (board .entry)) .image)
-        × (now (board .exit) ≡ edgeStep (now (image .entry)) (now (board .entry)) .board) ⌝ }
-    ensures back { λ r. ⌜ ReadsBack (now (board .entry)) (now (board .exit))
-        (stepOn (now (image .entry)) (recordIn (now (board .entry))) .board) ⌝ }
-{
-    if board.len() != RECORD_SIZE {
-        return WRONG_RECORD;
-    }
-    let b = unpack::decode(board);
-    let out = job::step(image, b);
     let phase = b.phase;
     pack::finish(phase, out, board)
 }

@@ -3,7 +3,9 @@ use mathlib.Core.Path.{_≡_, refl, sym, ap}
 use mathlib.Core.List.{List}
 use mathlib.Core.Bool.{Bool, true, false, cond}
 use Prim.Native.Nat.{ℕ}
+use native.Mathlib.Omega.{arith}
 use lib.Dec.{ltb}
+use Rattle.wire.specs.declared.Answer.the-variants.{Done, More}
 use Rattle.board.specs.declared.Stage.{Stage}
 use Rattle.board.specs.declared.Stage.the-variants.{Wipe, Open, Drop, Append}
 use Rattle.board.specs.declared.Cursor.{Cursor}
@@ -22,12 +24,15 @@ when-true b x y e = sym (ap (λ (t : Bool). cond t x y) e)
 pub when-false : {A : Type 0} (b : Bool) (x y : A) → b ≡ false → y ≡ cond b x y
 when-false b x y e = sym (ap (λ (t : Bool). cond t x y) e)
 
+done-ends : Done ≡ More → ⊥
+done-ends e = let z : _≡_ {A = ℕ} 0 1 = cc in omega arith
+
 module _ (p u f : List ℕ) where
   pub going-leaves : (st : Stage) (c : Cursor) (n : Numbers) → LeadsTo p u f (going st c n) (inStage st c (assemble n p u f))
-  going-leaves st c n = record { answers = refl; gives = refl }
+  going-leaves st c n = record { answers = refl; gives = refl; goes = λ e. refl }
 
   pub over-leaves : (z : Rest) → LeadsTo p u f (over z) (idle z)
-  over-leaves z = record { answers = refl; gives = refl }
+  over-leaves z = record { answers = refl; gives = refl; goes = λ e. absurd (done-ends e) }
 
   pub leaves-if : (b : Bool) {s t : Stepped} {r q : Record} → LeadsTo p u f s r → LeadsTo p u f t q → LeadsTo p u f (cond b s t) (cond b r q)
   leaves-if true x y = x

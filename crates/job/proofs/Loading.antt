@@ -53,6 +53,7 @@ load-leaves b x n fits small e z bytes end made size p u f =
     ∙ ap (λ (y : List ℕ). buffer (encode (frameOf (x .head) y))) (take-all valueMax v (omega arith)) in
     record {
       answers = refl;
+      goes = λ e. refl;
       gives = ap₂ (λ (i : ℕ) (y : List ℕ). assemble (staged Copy (cursor 0 (n .cursor .at) (x .id) (x .source) i 0) n) p y f)
           (size ∙ frame-len (x .head) v l) w;
     }

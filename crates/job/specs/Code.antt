@@ -4,22 +4,26 @@ use mathlib.Core.List.{List}
 use mathlib.Core.Bool.{Bool, true, false, cond}
 use Prim.Native.Nat.{ℕ, suc, _+_}
 use lib.Dec.{ltb}
-use Rattle.flash.specs.Flash.{Step, program, erase, apply, sizeOf, within}
+use lib.ListN.{getD}
+use Rattle.flash.specs.Flash.{Step, program, erase, apply, sizeOf, within, writeStep}
+use Rattle.journal.specs.Block.{openWrite, sealWrite}
 use Rattle.wire.specs.declared.Answer.{Answer}
 use Rattle.wire.specs.declared.Answer.the-variants.{Done, More}
 use Rattle.board.specs.declared.Stage.{Stage}
 use Rattle.board.specs.declared.Stage.the-variants.{Wipe, Open, Copy, Seal, Drop, Append}
-use Rattle.board.specs.declared.Phase.the-variants.{Idle, Busy}
+use Rattle.board.specs.declared.Phase.{Phase}
+use Rattle.board.specs.declared.Phase.the-variants.{Unmounted, Idle, Busy}
 use Rattle.board.specs.declared.Cursor.{Cursor}
 use Rattle.board.specs.declared.Record.{Record}
 use Rattle.board.specs.declared.Rest.{Rest}
 use Rattle.board.specs.Record.{noPlaces, noFrame, noJob, cursor, rest, restOf, answerOf, Out}
-use Rattle.board.specs.Step.{first}
+use Rattle.board.specs.Step.{first, enterCopy}
 use Rattle.job.specs.declared.Outcome.{Outcome}
 use Rattle.job.specs.declared.records.Numbers.{Numbers}
 use Rattle.job.specs.declared.records.Stepped.{Stepped}
-use Rattle.job.specs.declared.steps.Action.{Action}
-use Rattle.job.specs.declared.steps.Action.the-variants as action
+use Rattle.job.specs.declared.moves.Moved.{Moved}
+use Rattle.job.specs.declared.actions.Action.{Action}
+use Rattle.job.specs.declared.actions.Action.the-variants as action
 
 -- ---- a record apart
 
@@ -66,10 +70,15 @@ leavesIf false n places unit frame = assemble n places unit frame
 abbrev pub leaves : Stepped → List ℕ → List ℕ → List ℕ → Record
 leaves s places unit frame = leavesIf (s .ended) (s .next) places unit frame
 
+-- a job that goes on has not ended
+abbrev pub GoesOn : Answer → Bool → Type 0
+GoesOn a ended = a ≡ More → ended ≡ false
+
 -- a call leads to a record, with these arrays
 pub record LeadsTo (places unit frame : List ℕ) (s : Stepped) (r : Record) : Type 0 where
   pub answers : s .answer ≡ answerOf r
   pub gives : leaves s places unit frame ≡ r
+  pub goes : GoesOn (s .answer) (s .ended)
 
 abbrev pub outcome : Answer → Record → Outcome
 outcome a b = record { answer = a; board = b }
@@ -104,6 +113,15 @@ abbrev pub flashStep : Action → Step
 flashStep (action.Program k o v) = program k o v
 flashStep (action.Erase k) = erase k
 
+-- the flash step that a job does next, by the byte in hand
+abbrev pub actionBy : Stage → Numbers → ℕ → Step
+actionBy Wipe n b = erase (getD (n .job .wipe) (n .cursor .index) 0)
+actionBy Open n b = writeStep (n .job .target) (openWrite (n .cursor .index))
+actionBy Copy n b = program (n .job .target) (n .cursor .at) b
+actionBy Seal n b = writeStep (n .job .target) (sealWrite (n .job .time) (n .cursor .index))
+actionBy Drop n b = erase (n .rest .block)
+actionBy Append n b = program (n .rest .block) (n .rest .end + n .cursor .index) b
+
 -- a step done where its place lies in the image
 unfoldable pub did : Step → List ℕ → List ℕ
 did x img = cond (within (sizeOf img) x) (apply (sizeOf img) x img) img
@@ -117,8 +135,56 @@ offsetFor Seal n = 0
 offsetFor Drop n = 0
 offsetFor Append n = n .rest .end + n .cursor .index
 
--- what a step call gives back, with these arrays
-pub record Steps (places unit frame : List ℕ) (s : Stepped) (img : List ℕ) (o : Out) : Type 0 where
+-- the byte that the next step programs, of the frame that is copied or appended
+abbrev pub inHandAt : Stage → Numbers → List ℕ → List ℕ → ℕ
+inHandAt Wipe n unit frame = 0
+inHandAt Open n unit frame = 0
+inHandAt Copy n unit frame = getD unit (n .cursor .off) 0
+inHandAt Seal n unit frame = 0
+inHandAt Drop n unit frame = 0
+inHandAt Append n unit frame = getD frame (n .cursor .index) 0
+
+abbrev pub inHandIn : Phase → Numbers → List ℕ → List ℕ → ℕ
+inHandIn Unmounted n unit frame = 0
+inHandIn Idle n unit frame = 0
+inHandIn (Busy s) n unit frame = inHandAt s n unit frame
+
+abbrev pub inHand : Numbers → List ℕ → List ℕ → ℕ
+inHand n unit frame = inHandIn (n .phase) n unit frame
+
+-- ---- a step that loads no frame yet
+
+abbrev pub still : Stepped → Moved
+still s = record { stepped = s; loads = false }
+
+-- the next frame is due
+abbrev pub due : Numbers → Moved
+due n = record { stepped = staying More n; loads = true }
+
+-- the record that it reaches once the frame that is due is loaded, read from the image
+abbrev pub reachedIf : Bool → List ℕ → Stepped → List ℕ → List ℕ → List ℕ → Record
+reachedIf true img s places unit frame = enterCopy img (assemble (s .next) places unit frame)
+reachedIf false img s places unit frame = leaves s places unit frame
+
+abbrev pub reached : Moved → List ℕ → List ℕ → List ℕ → List ℕ → Record
+reached m img places unit frame = reachedIf (m .loads) img (m .stepped) places unit frame
+
+-- with a frame loaded, or none left to load, the job goes on
+abbrev pub answeredIf : Bool → Stepped → Answer
+answeredIf true s = More
+answeredIf false s = s .answer
+
+abbrev pub answered : Moved → Answer
+answered m = answeredIf (m .loads) (m .stepped)
+
+pub record Moves (img places unit frame : List ℕ) (m : Moved) (r : Record) : Type 0 where
+  pub answers : answered m ≡ answerOf r
+  pub gives : reached m img places unit frame ≡ r
+  pub goes : GoesOn (answered m) (m .stepped .ended)
+
+-- an answer, a record and an image are what a step call gives back
+pub record Steps (a : Answer) (ended : Bool) (r : Record) (img : List ℕ) (o : Out) : Type 0 where
   pub image : img ≡ o .image
-  pub answers : s .answer ≡ o .answer
-  pub gives : leaves s places unit frame ≡ o .board
+  pub answers : a ≡ o .answer
+  pub gives : r ≡ o .board
+  pub goes : GoesOn a ended

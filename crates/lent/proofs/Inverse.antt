@@ -47,7 +47,7 @@ words-back [] t (suc n) e = absurd (omega arith)
 words-back (w ∷ ws) t zero e = absurd (omega arith)
 words-back (w ∷ ws) t (suc n) e = rw (le16-u16 w, words-back ws t n (omega arith))
 
-array-back : (n : ℕ) (f t : List ℕ) → length f ≡ n → bytesIn n (f ++ t) ≡ f
+pub array-back : (n : ℕ) (f t : List ℕ) → length f ≡ n → bytesIn n (f ++ t) ≡ f
 array-back n f t e = let z : n - length f ≡ 0 = omega arith in rw (take-at f t n e, z, append-nil)
 
 cursor-back : (c : Cursor) (t : List ℕ) → cursorIn (cursorBytes c ++ t) ≡ c
@@ -124,7 +124,15 @@ plan-bytes j h =
 past : (at n : ℕ) (l p q : List ℕ) → drop at l ≡ p ++ q → length p ≡ n → drop (at + n) l ≡ q
 past at n l p q e h = sym (drop-drop n at l) ∙ ap (drop n) e ∙ drop-at p q n h
 
-module _ (r : Record) (h : RecordFits r) where
+-- each array has its length
+pub record Sized (r : Record) : Type 0 where
+  pub places : length (r .places) ≡ 256
+  pub wipe : length (r .job .wipe) ≡ blocks
+  pub since : length (r .job .since) ≡ 4
+  pub unit : length (r .unit) ≡ maxFrame
+  pub frame : length (r .frame) ≡ maxFrame
+
+module _ (r : Record) where
   abbrev W : List ℕ
   W = wordBytes (r .places)
 
@@ -150,52 +158,63 @@ module _ (r : Record) (h : RecordFits r) where
   abbrev EPCUF : List ℕ
   EPCUF = E ++ PCUF
 
-  length-W : length W ≡ placesSize
-  length-W = length-word-bytes (r .places) ∙ rw (h .places .0)
+module _ (r : Record) (h : Sized r) where
+  length-W : length (W r) ≡ placesSize
+  length-W = length-word-bytes (r .places) ∙ rw (h .places)
 
-  length-P : length P ≡ planSize
-  length-P = length-plan (r .job) (h .job .since .0)
+  length-P : length (P r) ≡ planSize
+  length-P = length-plan (r .job) (h .since)
 
-  from-job : drop jobAt (recordBytes r) ≡ EPCUF
+  from-job : drop jobAt (recordBytes r) ≡ EPCUF r
   unfolding recordBytes
-  from-job = past placesAt placesSize (recordBytes r) W EPCUF refl length-W
+  from-job = past placesAt placesSize (recordBytes r) (W r) (EPCUF r) refl length-W
 
-  from-plan : drop planAt (recordBytes r) ≡ PCUF
-  from-plan = past jobAt blocks (recordBytes r) E PCUF from-job (h .job .wipe .0)
+  from-plan : drop planAt (recordBytes r) ≡ PCUF r
+  from-plan = past jobAt blocks (recordBytes r) (E r) (PCUF r) from-job (h .wipe)
 
-  from-cursor : drop cursorAt (recordBytes r) ≡ CUF
-  from-cursor = past planAt planSize (recordBytes r) P CUF from-plan length-P
+  from-cursor : drop cursorAt (recordBytes r) ≡ CUF r
+  from-cursor = past planAt planSize (recordBytes r) (P r) (CUF r) from-plan length-P
 
-  from-unit : drop unitAt (recordBytes r) ≡ UF
-  from-unit = past cursorAt cursorSize (recordBytes r) C UF from-cursor refl
+  from-unit : drop unitAt (recordBytes r) ≡ UF r
+  from-unit = past cursorAt cursorSize (recordBytes r) (C r) (UF r) from-cursor refl
 
   from-frame : drop frameAt (recordBytes r) ≡ r .frame ++ []
-  from-frame = past unitAt maxFrame (recordBytes r) (r .unit) (r .frame) from-unit (h .unit .0) ∙ sym (append-nil (r .frame))
+  from-frame = past unitAt maxFrame (recordBytes r) (r .unit) (r .frame) from-unit (h .unit) ∙ sym (append-nil (r .frame))
 
-  record-back : recordIn (recordBytes r) ≡ r
+  pub record-back : recordIn (recordBytes r) ≡ r
   unfolding recordBytes
   record-back =
       parts-back (recordBytes r) r (phase-back (r .phase)) (le16-u16 (r .last)) refl (le16-u16 (r .end))
-      (words-back (r .places) EPCUF 256 (h .places .0))
-      (ap jobIn from-job ∙ job-back (r .job) CUF (h .job .wipe .0) (h .job .since .0))
-      (ap cursorIn from-cursor ∙ cursor-back (r .cursor) UF)
-      (ap (bytesIn maxFrame) from-unit ∙ array-back maxFrame (r .unit) (r .frame) (h .unit .0))
-      (ap (bytesIn maxFrame) from-frame ∙ array-back maxFrame (r .frame) [] (h .frame .0))
+      (words-back (r .places) (EPCUF r) 256 (h .places))
+      (ap jobIn from-job ∙ job-back (r .job) (CUF r) (h .wipe) (h .since))
+      (ap cursorIn from-cursor ∙ cursor-back (r .cursor) (UF r))
+      (ap (bytesIn maxFrame) from-unit ∙ array-back maxFrame (r .unit) (r .frame) (h .unit))
+      (ap (bytesIn maxFrame) from-frame ∙ array-back maxFrame (r .frame) [] (h .frame))
 
   pub length-bytes-of : length (recordBytes r) ≡ recordSize
   unfolding recordBytes
   length-bytes-of =
-      simp length-append (omega (arith, length-W, length-word-bytes (r .job .since), h .job .wipe .0, h .job .since .0, h .unit .0, h .frame .0))
+      simp length-append (omega (arith, length-W, length-word-bytes (r .job .since), h .wipe, h .since, h .unit, h .frame))
 
-  pub bytes-of-bytes : Bytes (recordBytes r)
-  unfolding recordBytes
-  bytes-of-bytes =
-      bytes-append (headBytes r) (W ++ EPCUF) (head-bytes r h)
-      (bytes-append W EPCUF (word-bytes (r .places) (h .places .1))
-      (bytes-append E PCUF (h .job .wipe .1)
-      (bytes-append P CUF (plan-bytes (r .job) (h .job))
-      (bytes-append C UF (cursor-bytes (r .cursor) (h .cursor)) (bytes-append (r .unit) (r .frame) (h .unit .1) (h .frame .1))))))
+pub sized : (r : Record) → RecordFits r → Sized r
+sized r h =
+    record {
+      places = h .places .0;
+      wipe = h .job .wipe .0;
+      since = h .job .since .0;
+      unit = h .unit .0;
+      frame = h .frame .0;
+    }
+
+pub bytes-of-bytes : (r : Record) → RecordFits r → Bytes (recordBytes r)
+unfolding recordBytes
+bytes-of-bytes r h =
+    bytes-append (headBytes r) (W r ++ EPCUF r) (head-bytes r h)
+    (bytes-append (W r) (EPCUF r) (word-bytes (r .places) (h .places .1))
+    (bytes-append (E r) (PCUF r) (h .job .wipe .1)
+    (bytes-append (P r) (CUF r) (plan-bytes (r .job) (h .job))
+    (bytes-append (C r) (UF r) (cursor-bytes (r .cursor) (h .cursor)) (bytes-append (r .unit) (r .frame) (h .unit .1) (h .frame .1))))))
 
 pub bytes-back : BytesBack
 unfolding BytesBack
-bytes-back r h = record-back r h
+bytes-back r h = record-back r (sized r h)

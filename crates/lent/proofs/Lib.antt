@@ -1,2 +1,4 @@
 pub mod Words
 pub mod Inverse
+pub mod Own
+pub mod Canonical

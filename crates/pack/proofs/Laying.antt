@@ -80,11 +80,11 @@ words-all at ws l i h k =
 -- ---- a record's bytes
 
 -- x is the buffer l with its first bytes written, p
-record Upto (at : ℕ) (p l x : List ℕ) : Type 0 where
-  written : x ≡ p ++ drop at l
-  size : length p ≡ at
+pub record Upto (at : ℕ) (p l x : List ℕ) : Type 0 where
+  pub written : x ≡ p ++ drop at l
+  pub size : length p ≡ at
 
-next : (at n : ℕ) (s : List ℕ) {p l x y : List ℕ} → Upto at p l x → y ≡ laidAt at s x → length s ≡ n → at + n ≤ length l
+pub next : (at n : ℕ) (s : List ℕ) {p l x y : List ℕ} → Upto at p l x → y ≡ laidAt at s x → length s ≡ n → at + n ≤ length l
     → Upto (at + n) (p ++ s) l y
 next at n s {p} {l} {x} {y} u v e k =
     record {

@@ -1,19 +1,24 @@
 // The record written to its buffer: whole, or where a call changed it.
+mod drive;
+
 use board::Cursor;
 use board::Job;
 use board::Phase;
 use board::Record;
+use board::Rest;
 use board::Stage;
+pub use drive::write_loaded;
+pub use drive::write_step;
 use job::Outcome;
 use wire::Answer;
 ghost use mathlib.Core.Path.{_≡_};
 ghost use mathlib.Core.Bool.{cond};
 ghost use Prim.Native.Nat.{_+_, _*_, _/_, _%_, _≤_};
 ghost use lib.ListN.{length};
-ghost use Rattle.lent.specs.Layout.{stageByte, phaseByte, flagByte, headBytes, planBytes, cursorBytes, wordBytes, recordInto};
+ghost use Rattle.lent.specs.Layout.{stageByte, phaseByte, flagByte, planBytes, cursorBytes, wordBytes, recordInto};
 ghost use Rattle.wire.specs.Answer.{edgeNumber};
 ghost use Rattle.board.specs.Table.{isBusy};
-ghost use Rattle.pack.specs.Code.{laidAt, changes};
+ghost use Rattle.pack.specs.Code.{laidAt, headFor, changes};
 
 fn stage_byte(stage: Stage) -> u8
     ensures { λ r. ⌜ r ≡ stageByte stage ⌝ }
@@ -45,29 +50,28 @@ fn flag_byte(flag: bool) -> u8
 }
 
 // A word's two bytes.
-fn low(word: u16) -> u8
+pub fn low(word: u16) -> u8
     ensures { λ r. ⌜ r ≡ word % 256 ⌝ }
 {
     (word % 256) as u8
 }
 
-fn high(word: u16) -> u8
+pub fn high(word: u16) -> u8
     ensures { λ r. ⌜ r ≡ word / 256 ⌝ }
 {
     (word / 256) as u8
 }
 
-fn head_bytes(board: Record) -> [u8; lent::PLACES_AT]
-    ensures { λ r. ⌜ r ≡ headBytes board ⌝ }
+fn head_bytes(phase: Phase, rest: Rest) -> [u8; lent::PLACES_AT]
+    ensures { λ r. ⌜ r ≡ headFor phase rest ⌝ }
 {
-    let phase = board.phase;
-    let last = board.last;
-    let end = board.end;
+    let last = rest.last;
+    let end = rest.end;
     [
         phase_byte(phase),
         low(last),
         high(last),
-        board.block,
+        rest.block,
         low(end),
         high(end),
     ]
@@ -150,7 +154,8 @@ pub fn encode(board: Record, bytes: &mut [u8])
     if bytes.len() != lent::RECORD_SIZE {
         return;
     }
-    let head = head_bytes(board);
+    let phase = board.phase;
+    let head = head_bytes(phase, job::records::rest_of(board));
     let places = board.places;
     let j = board.job;
     let wipe = j.wipe;
@@ -191,7 +196,7 @@ fn in_job(phase: Phase) -> bool
 }
 
 // A job began, went on or ended.
-fn changes(phase: Phase, answer: Answer) -> bool
+pub fn changes(phase: Phase, answer: Answer) -> bool
     ensures { λ r. ⌜ r ≡ changes phase answer ⌝ }
 {
     match answer {

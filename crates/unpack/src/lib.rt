@@ -1,9 +1,18 @@
 // The record from bytes: every content of every length is some record.
+mod drive;
+
 use board::Cursor;
 use board::Job;
 use board::Phase;
 use board::Record;
 use board::Stage;
+pub use drive::append;
+pub use drive::append_byte;
+pub use drive::in_hand;
+pub use drive::numbers;
+pub use drive::places;
+pub use drive::unit;
+pub use drive::unit_byte;
 use flash::BLOCKS;
 use flash::byte_at;
 use frame::MAX_FRAME;
@@ -37,7 +46,7 @@ fn front(bytes: &[u8], count: usize) -> &[u8]
 }
 
 // The word at a place.
-fn word_in(bytes: &[u8], at: usize) -> u16
+pub fn word_in(bytes: &[u8], at: usize) -> u16
     ensures { λ r. ⌜ r ≡ wordAt (now (bytes .entry)) at ⌝ }
 {
     word_at(tail(bytes, at), 0)

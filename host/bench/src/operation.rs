@@ -3,7 +3,7 @@
 use crate::case::{Case, OBJECT};
 use std::hint::black_box;
 use std::time::{Duration, Instant};
-use store::{Answer, Store, message};
+use store::{Answer, Idle, Store, message};
 
 #[derive(Clone, Copy)]
 pub enum Operation {
@@ -13,32 +13,40 @@ pub enum Operation {
     Log,
     Accept,
     Step,
+    DrivenStep,
+    Run,
     Put,
+    PutByRun,
     Delete,
     Commit,
     Abort,
     Format,
     Transfer,
+    TransferByRun,
 }
 
 /// One call each.
-pub const SINGLE: [(Operation, &str); 6] = [
+pub const SINGLE: [(Operation, &str); 8] = [
     (Operation::Mount, "mount, nothing to do"),
     (Operation::Read, "read"),
     (Operation::ReadNothing, "read that finds nothing"),
     (Operation::Log, "log"),
     (Operation::Accept, "acceptance of a put of 64 bytes"),
     (Operation::Step, "a step of that put"),
+    (Operation::DrivenStep, "the same by next and made"),
+    (Operation::Run, "a run of all steps of a transfer"),
 ];
 
 /// The request, mount or format and all its steps.
-pub const WHOLE: [(Operation, &str); 6] = [
+pub const WHOLE: [(Operation, &str); 8] = [
     (Operation::Put, "put of 64 bytes"),
+    (Operation::PutByRun, "put of 64 bytes, by run"),
     (Operation::Delete, "delete"),
     (Operation::Commit, "commit"),
     (Operation::Abort, "abort"),
     (Operation::Format, "format"),
     (Operation::Transfer, "mount with a transfer"),
+    (Operation::TransferByRun, "mount with a transfer, by run"),
 ];
 
 const VALUE: [u8; OBJECT] = [7; OBJECT];
@@ -60,19 +68,16 @@ pub fn once<S: Store>(store: &S, operation: Operation, case: &Case) -> (Duration
             let (mut record, put) = (store.idle(case.rest_idle), message::put(1, &VALUE));
             timed(|| assert_eq!(ask(store, &case.rest, &mut record, &put), Answer::MORE))
         }
-        Operation::Step => {
-            let (mut image, mut record) = (case.rest.clone(), store.idle(case.rest_idle));
-            assert_eq!(ask(store, &image, &mut record, &message::put(1, &VALUE)), Answer::MORE);
-            let start = Instant::now();
-            let steps = finish(store, &mut image, &mut record);
-            (start.elapsed(), steps)
-        }
-        Operation::Put => serve(store, &case.rest, store.idle(case.rest_idle), message::put(1, &VALUE)),
-        Operation::Delete => serve(store, &case.rest, store.idle(case.rest_idle), message::delete(1)),
-        Operation::Commit => serve(store, &case.pending, store.idle(case.pending_idle), message::commit()),
-        Operation::Abort => serve(store, &case.pending, store.idle(case.pending_idle), message::abort()),
-        Operation::Format => restart(store, &case.rest, S::format),
-        Operation::Transfer => restart(store, &case.pending, S::mount),
+        Operation::Step | Operation::DrivenStep => steps_of_put(store, case),
+        Operation::Run => run_of_transfer(store, case),
+        Operation::Put => serve(store, &case.rest, case.rest_idle, message::put(1, &VALUE), finish),
+        Operation::PutByRun => serve(store, &case.rest, case.rest_idle, message::put(1, &VALUE), run),
+        Operation::Delete => serve(store, &case.rest, case.rest_idle, message::delete(1), finish),
+        Operation::Commit => serve(store, &case.pending, case.pending_idle, message::commit(), finish),
+        Operation::Abort => serve(store, &case.pending, case.pending_idle, message::abort(), finish),
+        Operation::Format => restart(store, &case.rest, S::format, finish),
+        Operation::Transfer => restart(store, &case.pending, S::mount, finish),
+        Operation::TransferByRun => restart(store, &case.pending, S::mount, run),
     }
 }
 
@@ -86,6 +91,22 @@ fn ask<S: Store>(store: &S, image: &[u8], record: &mut S::Record, message: &[u8]
     store.request(black_box(image), record, 0, message, &mut [])
 }
 
+fn steps_of_put<S: Store>(store: &S, case: &Case) -> (Duration, usize) {
+    let (mut image, mut record) = (case.rest.clone(), store.idle(case.rest_idle));
+    assert_eq!(ask(store, &image, &mut record, &message::put(1, &VALUE)), Answer::MORE);
+    let start = Instant::now();
+    let steps = finish(store, &mut image, &mut record);
+    (start.elapsed(), steps)
+}
+
+/// The mount before it does not count.
+fn run_of_transfer<S: Store>(store: &S, case: &Case) -> (Duration, usize) {
+    let mut image = case.pending.clone();
+    let (answer, mut record) = store.mount(&image);
+    assert_eq!(answer, Answer::MORE);
+    timed(|| assert!(run(store, &mut image, &mut record) > 0))
+}
+
 /// All steps of the job in hand; how many they were.
 fn finish<S: Store>(store: &S, image: &mut [u8], record: &mut S::Record) -> usize {
     let mut steps = 1;
@@ -95,16 +116,29 @@ fn finish<S: Store>(store: &S, image: &mut [u8], record: &mut S::Record) -> usiz
     steps
 }
 
+/// The same in one call; a store that has none makes the steps one by one.
+fn run<S: Store>(store: &S, image: &mut [u8], record: &mut S::Record) -> usize {
+    let (answer, steps) = store.run(image, record, usize::MAX);
+    assert_eq!(answer, Answer::DONE);
+    steps
+}
+
 fn read<S: Store>(store: &S, case: &Case, message: Vec<u8>, expected: Answer) -> (Duration, usize) {
     let record = store.idle(case.rest_idle);
     timed(|| assert_eq!(store.read(black_box(&case.rest), &record, 0, &message).0, expected))
 }
 
-fn serve<S: Store>(store: &S, image: &[u8], mut record: S::Record, message: Vec<u8>) -> (Duration, usize) {
-    let mut image = image.to_vec();
+fn serve<S: Store>(
+    store: &S,
+    image: &[u8],
+    idle: Idle,
+    message: Vec<u8>,
+    steps: impl Fn(&S, &mut [u8], &mut S::Record) -> usize,
+) -> (Duration, usize) {
+    let (mut image, mut record) = (image.to_vec(), store.idle(idle));
     timed(|| {
         assert_eq!(ask(store, &image, &mut record, &message), Answer::MORE);
-        finish(store, &mut image, &mut record);
+        steps(store, &mut image, &mut record);
     })
 }
 
@@ -113,11 +147,12 @@ fn restart<S: Store>(
     store: &S,
     image: &[u8],
     begin: impl Fn(&S, &[u8]) -> (Answer, S::Record),
+    steps: impl Fn(&S, &mut [u8], &mut S::Record) -> usize,
 ) -> (Duration, usize) {
     let mut image = image.to_vec();
     timed(|| {
         let (answer, mut record) = begin(store, black_box(&image));
         assert_eq!(answer, Answer::MORE);
-        finish(store, &mut image, &mut record);
+        steps(store, &mut image, &mut record);
     })
 }

@@ -2,7 +2,7 @@
 
 use crate::case::{self, Case};
 use crate::operation::{Operation, SINGLE, WHOLE, once};
-use library::Library;
+use library::{Driven, Library};
 use model::Model;
 use plain::Plain;
 use std::time::Duration;
@@ -30,10 +30,13 @@ pub fn rows() -> Vec<Row> {
     let cases: Vec<Case> =
         [512, 4_096, 65_536].into_iter().flat_map(|length| [case::sparse(length), case::full(length)]).collect();
     let mut rows = Vec::new();
-    for operations in [SINGLE, WHOLE] {
+    for operations in [&SINGLE[..], &WHOLE] {
         for case in &cases {
-            for (operation, name) in operations {
-                let figures = measure(&library, operation, case);
+            for &(operation, name) in operations {
+                let figures = match operation {
+                    Operation::DrivenStep => measure(&Driven(Library::linked()), operation, case),
+                    _ => measure(&library, operation, case),
+                };
                 rows.push(Row { length: case.rest.len(), fill: case.fill, name, figures });
             }
         }
@@ -42,7 +45,7 @@ pub fn rows() -> Vec<Row> {
 }
 
 /// Medians over the repeats; a ratio is taken in each repeat.
-fn measure(library: &Library, operation: Operation, case: &Case) -> Figures {
+fn measure(library: &impl Store, operation: Operation, case: &Case) -> Figures {
     let mut repeats: [Vec<f64>; 5] = Default::default();
     for _ in 0..REPEATS {
         let plain = nanoseconds(&Plain, operation, case);

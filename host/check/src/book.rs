@@ -54,7 +54,7 @@ impl Book {
             Call::Request { host, message, .. } if !answer.refused() => {
                 self.accepted(usize::from(*host), message, answer);
             }
-            Call::Step if answer == Answer::DONE => self.finished(),
+            Call::Step | Call::Run(_) if answer == Answer::DONE => self.finished(),
             _ => {}
         }
     }

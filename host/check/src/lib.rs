@@ -10,5 +10,6 @@ pub mod raise;
 pub mod rng;
 pub mod rounds;
 pub mod runs;
+mod side;
 pub mod tally;
 pub mod twin;

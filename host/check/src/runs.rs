@@ -115,7 +115,12 @@ impl Run {
         self.twin.image().len() / 2
     }
 
+    /// So many steps while there are any, each by itself or in one run.
     fn steps(&mut self, most: usize) {
+        if self.rng.once_in(3) {
+            self.call(Call::Run(most));
+            return;
+        }
         for _ in 0..most {
             if self.call(Call::Step).answer != Answer::MORE {
                 break;
@@ -239,11 +244,11 @@ impl Run {
         let idle = self.twin.idle();
         let outcome = self.twin.call(&call);
         self.check_available(&call, outcome.answer, busy);
-        if outcome.answer == Answer::MORE && call != Call::Step {
+        if outcome.answer == Answer::MORE && !call.goes_on() {
             self.cut_job(idle, &call);
         }
         self.book.feed(&call, outcome.answer);
-        self.count_steps(&call, outcome.answer, busy);
+        self.count_steps(&call, &outcome, busy);
         if let Some(idle) = self.twin.idle() {
             self.check_book(idle);
         }
@@ -257,7 +262,7 @@ impl Run {
             (Call::Mount, Answer::NO_STORE) => assert!(self.format_open, "the store is gone"),
             (Call::Mount, Answer::WORN) => assert!(stuck(self.twin.image())),
             (Call::Mount, _) => assert!(!answer.refused(), "mount answered {answer}"),
-            (Call::Step, _) => assert!(!answer.refused(), "a step got {answer}"),
+            (Call::Step | Call::Run(_), _) => assert!(!answer.refused(), "a step got {answer}"),
             _ => assert!(
                 ![Answer::IMAGE_LENGTH, Answer::FOREIGN, Answer::STALE].contains(&answer),
                 "{call} got {answer}"
@@ -266,20 +271,21 @@ impl Run {
         match call {
             Call::Format => self.format_open = true,
             Call::Mount if !answer.refused() => self.format_open = false,
-            Call::Step if busy && answer == Answer::DONE => self.format_open = false,
+            Call::Step | Call::Run(_) if busy && answer == Answer::DONE => self.format_open = false,
             _ => {}
         }
     }
 
     /// The job's steps are as many as document 01 says.
-    fn count_steps(&mut self, call: &Call, answer: Answer, busy: bool) {
+    fn count_steps(&mut self, call: &Call, outcome: &Outcome, busy: bool) {
         match call {
             Call::Format => self.due = Some(12),
             Call::Mount => self.due = None,
-            Call::Request { .. } if answer == Answer::MORE => self.due = None,
-            Call::Step if busy => {
-                self.due = self.due.map(|due| due.checked_sub(1).expect("more steps than due"));
-                assert!(answer == Answer::MORE || self.due.is_none_or(|due| due == 0), "fewer steps than due");
+            Call::Request { .. } if outcome.answer == Answer::MORE => self.due = None,
+            Call::Step | Call::Run(_) if busy => {
+                self.due = self.due.map(|due| due.checked_sub(outcome.steps).expect("more steps than due"));
+                let last = outcome.answer != Answer::MORE;
+                assert!(!last || self.due.is_none_or(|due| due == 0), "fewer steps than due");
             }
             _ => {}
         }

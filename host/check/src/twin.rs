@@ -1,9 +1,11 @@
-//! The model, the library and the plain program, given the same calls: whatever anyone can see of them must agree.
+//! The model, the library and the plain program, given the same calls: whatever anyone can see of them must agree. The
+//! library is there twice: by `step` and `run`, and by `next`, a flash step that is done here, and `made`.
 
 use crate::fault;
 use crate::nor::Nor;
+use crate::side::Side;
 use crate::tally::Tally;
-use library::Library;
+use library::{Driven, Library, Told};
 use model::job::Step;
 use model::{Model, Record};
 use plain::Plain;
@@ -15,8 +17,17 @@ pub enum Call {
     Mount,
     Format,
     Step,
-    Request { host: u8, message: Vec<u8>, reply: usize },
-    Read { host: u8, message: Vec<u8> },
+    /// At most so many steps.
+    Run(usize),
+    Request {
+        host: u8,
+        message: Vec<u8>,
+        reply: usize,
+    },
+    Read {
+        host: u8,
+        message: Vec<u8>,
+    },
 }
 
 impl Call {
@@ -25,9 +36,15 @@ impl Call {
             Call::Mount => "mount",
             Call::Format => "format",
             Call::Step => "step",
+            Call::Run(_) => "run",
             Call::Request { .. } => "request",
             Call::Read { .. } => "read",
         }
+    }
+
+    /// Whether it goes on with the job in hand.
+    pub fn goes_on(&self) -> bool {
+        matches!(self, Call::Step | Call::Run(_))
     }
 }
 
@@ -38,6 +55,7 @@ impl fmt::Display for Call {
         match self {
             Call::Request { host, message, reply } => write!(f, "req {host} {} {reply}", bytes(message)),
             Call::Read { host, message } => write!(f, "read {host} {}", bytes(message)),
+            Call::Run(most) => write!(f, "step {most}"),
             other => f.write_str(other.name()),
         }
     }
@@ -46,6 +64,8 @@ impl fmt::Display for Call {
 #[derive(Clone, PartialEq, Eq, Debug)]
 pub struct Outcome {
     pub answer: Answer,
+    /// Flash steps made.
+    pub steps: usize,
     pub reply: Vec<u8>,
     pub stretch: Stretch,
 }
@@ -53,73 +73,10 @@ pub struct Outcome {
 /// What a lent reply holds before the call.
 pub const UNWRITTEN: u8 = 0x5A;
 
-/// One store with its own copy of the image.
-struct Side<S: Store> {
-    store: S,
-    image: Vec<u8>,
-    record: S::Record,
-}
-
-impl<S: Store> Side<S> {
-    fn new(store: S, image: &[u8]) -> Side<S> {
-        Side { record: store.unmounted(), image: image.to_vec(), store }
-    }
-
-    fn load(&mut self, image: &[u8]) {
-        self.image.clear();
-        self.image.extend_from_slice(image);
-        self.record = self.store.unmounted();
-    }
-
-    fn head(&self) -> Head {
-        self.store.head(&self.record)
-    }
-
-    /// Makes the call. A refused step or request must leave the record as it is; mount and format take none.
-    fn call(&mut self, call: &Call) -> Outcome {
-        let mut outcome = Outcome { answer: Answer::DONE, reply: Vec::new(), stretch: Stretch::default() };
-        match call {
-            Call::Mount => (outcome.answer, self.record) = self.store.mount(&self.image),
-            Call::Format => (outcome.answer, self.record) = self.store.format(&self.image),
-            Call::Step => {
-                let before = self.record.clone();
-                outcome.answer = self.store.step(&mut self.image, &mut self.record);
-                let kept = !outcome.answer.refused() || self.record == before;
-                assert!(kept, "step answered {} and changed the record", outcome.answer);
-            }
-            Call::Request { host, message, reply } => {
-                let before = self.record.clone();
-                outcome.reply = vec![UNWRITTEN; *reply];
-                outcome.answer =
-                    self.store.request(&self.image, &mut self.record, *host, message, &mut outcome.reply);
-                let kept = outcome.answer == Answer::MORE || self.record == before;
-                assert!(kept, "request answered {} and changed the record", outcome.answer);
-            }
-            Call::Read { host, message } => {
-                (outcome.answer, outcome.stretch) = self.store.read(&self.image, &self.record, *host, message);
-            }
-        }
-        outcome
-    }
-
-    /// Makes the call and says how this side then differs from the model, if it does.
-    fn difference(&mut self, call: &Call, expected: &Outcome, head: Head, image: &[u8]) -> Option<String> {
-        let outcome = self.call(call);
-        if outcome != *expected {
-            Some(format!("gave {outcome:?}, the model {expected:?}"))
-        } else if self.head() != head {
-            Some(format!("has a record that says {:?}, the model's {head:?}", self.head()))
-        } else if self.image != image {
-            Some("has an image that differs from the model's".to_string())
-        } else {
-            None
-        }
-    }
-}
-
 pub struct Twin {
     model: Side<Model>,
     library: Side<Library>,
+    driven: Side<Driven>,
     plain: Side<Plain>,
     nor: Nor,
     /// Where the job began: its image, the record before, the call; and the steps made since.
@@ -134,6 +91,7 @@ impl Twin {
         Twin {
             model: Side::new(Model, image),
             library: Side::new(Library::linked(), image),
+            driven: Side::new(Driven(Library::linked()), image),
             plain: Side::new(Plain, image),
             nor: Nor::new(image),
             job: None,
@@ -157,6 +115,7 @@ impl Twin {
     pub fn load(&mut self, image: &[u8]) {
         self.model.load(image);
         self.library.load(image);
+        self.driven.load(image);
         self.plain.load(image);
         self.nor.load(image);
         self.job = None;
@@ -165,12 +124,14 @@ impl Twin {
     pub fn forge(&mut self, idle: Idle) {
         self.model.record = Record::Idle(idle);
         self.library.record = self.library.store.idle(idle);
+        self.driven.record = self.library.record;
         self.plain.record = self.plain.store.idle(idle);
     }
 
     pub fn unmount(&mut self) {
         self.model.record = Record::Unmounted;
         self.library.record = self.library.store.unmounted();
+        self.driven.record = self.library.record;
         self.plain.record = self.plain.store.unmounted();
     }
 
@@ -178,6 +139,7 @@ impl Twin {
     pub fn swap_image(&mut self, image: &[u8]) {
         self.model.image = image.to_vec();
         self.library.image = image.to_vec();
+        self.driven.image = image.to_vec();
         self.plain.image = image.to_vec();
         self.nor.load(image);
     }
@@ -230,8 +192,11 @@ impl Twin {
 
     pub fn call(&mut self, call: &Call) -> Outcome {
         let before = self.head();
-        if *call == Call::Step {
-            self.step_on_nor();
+        self.compare_told(call, before);
+        match call {
+            Call::Step => self.step_on_nor(),
+            Call::Run(most) => self.run_on_nor(*most),
+            _ => {}
         }
         let outcome = self.model.call(call);
         if self.nor.bytes() != self.model.image {
@@ -242,8 +207,28 @@ impl Twin {
         if *call == Call::Mount {
             self.compare_fault(outcome.answer);
         }
-        self.remember(call, before, outcome.answer);
+        self.remember(call, before, &outcome);
         outcome
+    }
+
+    /// What is next, by the model's job.
+    fn next(&self) -> (Answer, Told) {
+        let (length, size) = (self.nor.bytes().len(), self.nor.bytes().len() / 2);
+        match &self.model.record {
+            Record::Job(job) if job.length() != length => (Answer::STALE, Told::default()),
+            Record::Job(job) => match job.next() {
+                Step::Program { at, byte } => (Answer::PROGRAM, Told { at, len: 1, byte }),
+                Step::Erase { half } => (Answer::ERASE, Told { at: half * size, len: size, byte: 0xFF }),
+            },
+            _ => (Answer::DONE, Told::default()),
+        }
+    }
+
+    fn compare_told(&self, call: &Call, before: Head) {
+        let told = self.library.store.next_of(self.nor.bytes().len(), &self.library.record);
+        if told != self.next() {
+            self.fail(&format!("the library tells {told:?}, the model {:?}", self.next()), before, call);
+        }
     }
 
     fn step_on_nor(&mut self) {
@@ -253,15 +238,32 @@ impl Twin {
         }
     }
 
+    fn run_on_nor(&mut self, most: usize) {
+        let Record::Job(job) = &self.model.record else { return };
+        if job.length() == self.nor.bytes().len() {
+            let mut job = job.clone();
+            for _ in 0..most {
+                self.nor.make(job.next());
+                if job.advance().is_some() {
+                    break;
+                }
+            }
+        }
+    }
+
     fn compare(&mut self, call: &Call, expected: &Outcome, before: Head) {
         let (head, image) = (self.head(), self.nor.bytes());
         let plain =
             self.plain.difference(call, expected, head, image).map(|what| format!("the plain program {what}"));
         let library =
             self.library.difference(call, expected, head, image).map(|what| format!("the library {what}"));
+        let driven =
+            self.driven.difference(call, expected, head, image).map(|what| format!("the library driven {what}"));
+        let parted = (self.driven.record != self.library.record)
+            .then(|| "the library driven has another record than by steps".to_string());
         let untidy =
             (!tidy(&self.library)).then(|| "the library's record has bytes set that it does not use".to_string());
-        if let Some(difference) = library.or(untidy).or(plain) {
+        if let Some(difference) = library.or(untidy).or(driven).or(parted).or(plain) {
             self.fail(&difference, before, call);
         }
     }
@@ -279,10 +281,10 @@ impl Twin {
         (answer, fault)
     }
 
-    fn remember(&mut self, call: &Call, before: Head, answer: Answer) {
-        if *call == Call::Step {
-            self.steps += 1;
-        } else if answer == Answer::MORE {
+    fn remember(&mut self, call: &Call, before: Head, outcome: &Outcome) {
+        if call.goes_on() {
+            self.steps += outcome.steps;
+        } else if outcome.answer == Answer::MORE {
             self.job = Some((self.image().to_vec(), before, call.clone()));
             self.steps = 0;
         }

@@ -69,14 +69,6 @@ impl<'s, S: Store> Board<'s, S> {
 
     /// Steps until the answer is no longer "more"; the last answer, and the flash steps made.
     pub fn run(&mut self) -> (Answer, usize) {
-        let mut steps = 0;
-        loop {
-            let busy = self.head() == Head::Job;
-            let answer = self.step();
-            steps += usize::from(busy && !answer.refused());
-            if answer != Answer::MORE {
-                return (answer, steps);
-            }
-        }
+        self.store.run(&mut self.image, &mut self.record, usize::MAX)
     }
 }

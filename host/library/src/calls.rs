@@ -28,7 +28,6 @@ unsafe extern "C" {
         reply: *mut u8,
         reply_len: usize,
     ) -> u8;
-    fn grommetide_step(image: *mut u8, image_len: usize, record: *mut u8, record_len: usize) -> u8;
     fn grommetide_read(
         image: *const u8,
         image_len: usize,
@@ -40,7 +39,41 @@ unsafe extern "C" {
         at: *mut usize,
         len: *mut usize,
     ) -> u8;
+    fn grommetide_next(
+        image_len: usize,
+        record: *const u8,
+        record_len: usize,
+        at: *mut usize,
+        len: *mut usize,
+        byte: *mut u8,
+    ) -> u8;
+    fn grommetide_made(image: *const u8, image_len: usize, record: *mut u8, record_len: usize) -> u8;
+    fn grommetide_step(image: *mut u8, image_len: usize, record: *mut u8, record_len: usize) -> u8;
+    fn grommetide_run(
+        image: *mut u8,
+        image_len: usize,
+        record: *mut u8,
+        record_len: usize,
+        most: usize,
+        steps: *mut usize,
+    ) -> u8;
 }
+
+/// What `next` tells beside its answer: where the flash step is, and the byte that it programs.
+#[derive(Clone, Copy, PartialEq, Eq, Debug, Default)]
+pub struct Told {
+    pub at: usize,
+    pub len: usize,
+    pub byte: u8,
+}
+
+impl Told {
+    /// What stands there before the call, so that a call which does not write it shows.
+    pub const NOTHING: Told = Told { at: usize::MAX, len: usize::MAX, byte: 0xA5 };
+}
+
+/// What stands in the number of steps before a run.
+pub const UNCOUNTED: usize = usize::MAX;
 
 pub struct Library(());
 
@@ -90,10 +123,6 @@ impl Library {
         })
     }
 
-    pub fn step_on(&self, image: &mut [u8], record: &mut [u8]) -> Answer {
-        Answer(unsafe { grommetide_step(image.as_mut_ptr(), image.len(), record.as_mut_ptr(), record.len()) })
-    }
-
     pub fn read_on(&self, image: &[u8], record: &[u8], host: u8, message: &[u8]) -> (Answer, Stretch) {
         let mut stretch = Stretch { at: usize::MAX, len: usize::MAX };
         let answer = unsafe {
@@ -110,5 +139,30 @@ impl Library {
             )
         };
         (Answer(answer), stretch)
+    }
+
+    /// The image's length is told, not the image: by the record alone.
+    pub fn next_of(&self, image_len: usize, record: &[u8]) -> (Answer, Told) {
+        let mut told = Told::NOTHING;
+        let answer = unsafe {
+            grommetide_next(image_len, record.as_ptr(), record.len(), &mut told.at, &mut told.len, &mut told.byte)
+        };
+        (Answer(answer), told)
+    }
+
+    pub fn made_on(&self, image: &[u8], record: &mut [u8]) -> Answer {
+        Answer(unsafe { grommetide_made(image.as_ptr(), image.len(), record.as_mut_ptr(), record.len()) })
+    }
+
+    pub fn step_on(&self, image: &mut [u8], record: &mut [u8]) -> Answer {
+        Answer(unsafe { grommetide_step(image.as_mut_ptr(), image.len(), record.as_mut_ptr(), record.len()) })
+    }
+
+    pub fn run_on(&self, image: &mut [u8], record: &mut [u8], most: usize) -> (Answer, usize) {
+        let mut steps = UNCOUNTED;
+        let answer = unsafe {
+            grommetide_run(image.as_mut_ptr(), image.len(), record.as_mut_ptr(), record.len(), most, &mut steps)
+        };
+        (Answer(answer), steps)
     }
 }

@@ -1,8 +1,10 @@
 //! The proved C library as a `Store`.
 
 mod calls;
+mod driven;
 
-pub use calls::Library;
+pub use calls::{Library, Told, UNCOUNTED};
+pub use driven::{Driven, flash};
 
 use std::ops::Range;
 use store::{Answer, Fault, Field, Head, Idle, Store, Stretch};
@@ -56,6 +58,10 @@ impl Store for Library {
 
     fn step(&self, image: &mut [u8], record: &mut Record) -> Answer {
         self.step_on(image, record)
+    }
+
+    fn run(&self, image: &mut [u8], record: &mut Record, most: usize) -> (Answer, usize) {
+        self.run_on(image, record, most)
     }
 
     fn read(&self, image: &[u8], record: &Record, host: u8, message: &[u8]) -> (Answer, Stretch) {

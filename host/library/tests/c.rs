@@ -25,9 +25,9 @@ fn output(command: &mut Command) -> String {
 }
 
 /// Compiles a program with these flags for the library, runs it and gives what it printed.
-fn printed(source: &Path, name: &str, library: &[String]) -> String {
+fn printed(sources: &[PathBuf], name: &str, library: &[String]) -> String {
     let program = Path::new(SCRATCH).join(name);
-    output(Command::new("gcc").args(FLAGS).arg(source).args(library).arg("-o").arg(&program));
+    output(Command::new("gcc").args(FLAGS).args(sources).args(library).arg("-o").arg(&program));
     output(&mut Command::new(&program))
 }
 
@@ -37,12 +37,26 @@ fn in_place() -> Vec<String> {
     vec!["-I".to_string(), path("include"), path("target/staticlib/libgrommetide.a")]
 }
 
+/// An example of these files, the first of which it is named after, prints what stands beside it.
+fn try_example(files: &[&str]) {
+    let sources: Vec<_> = files.iter().map(|file| repository(&format!("examples/c/{file}.c"))).collect();
+    let printed = printed(&sources, files[0], &in_place());
+    assert_eq!(printed, text(repository(&format!("examples/c/{}.expected", files[0]))));
+}
+
 #[test]
-fn the_examples_print_what_they_should() {
-    for name in ["restart", "broken"] {
-        let printed = printed(&repository(&format!("examples/c/{name}.c")), name, &in_place());
-        assert_eq!(printed, text(repository(&format!("examples/c/{name}.expected"))));
-    }
+fn the_restart_example() {
+    try_example(&["restart"]);
+}
+
+#[test]
+fn the_power_cuts_example() {
+    try_example(&["power_cuts", "spi_nor", "chip"]);
+}
+
+#[test]
+fn the_broken_example() {
+    try_example(&["broken"]);
 }
 
 /// The first block of a language in README, which must have one.
@@ -56,7 +70,7 @@ fn block(language: &str) -> String {
 fn try_readme(name: &str, library: &[String]) {
     let source = Path::new(SCRATCH).join(format!("{name}.c"));
     fs::write(&source, block("c")).expect("a file in target");
-    assert_eq!(printed(&source, name, library), block("text"));
+    assert_eq!(printed(&[source], name, library), block("text"));
 }
 
 #[test]

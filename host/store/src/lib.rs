@@ -7,7 +7,7 @@ pub mod message;
 pub use fault::{Fault, Field};
 use std::fmt;
 
-/// The answer to a call: document 01's number, 255 for "more".
+/// The answer to a call: document 01's number, 255 for "more"; 252 to 254 are the library's own.
 #[derive(Clone, Copy, PartialEq, Eq, Hash, Debug)]
 pub struct Answer(pub u8);
 
@@ -24,11 +24,13 @@ impl Answer {
     pub const SHORT_REPLY: Answer = Answer(9);
     pub const HOST_RANGE: Answer = Answer(10);
     pub const STALE: Answer = Answer(11);
+    pub const PROGRAM: Answer = Answer(252);
+    pub const ERASE: Answer = Answer(253);
     pub const WRONG_RECORD: Answer = Answer(254);
     pub const MORE: Answer = Answer(255);
 
     pub fn refused(self) -> bool {
-        self != Answer::DONE && self != Answer::MORE
+        ![Answer::DONE, Answer::MORE, Answer::PROGRAM, Answer::ERASE].contains(&self)
     }
 }
 
@@ -89,6 +91,22 @@ pub trait Store {
         reply: &mut [u8],
     ) -> Answer;
     fn step(&self, image: &mut [u8], record: &mut Self::Record) -> Answer;
+
+    /// Up to so many steps, ending with the first that does not answer "more": the answer, and the flash steps made.
+    fn run(&self, image: &mut [u8], record: &mut Self::Record, most: usize) -> (Answer, usize) {
+        if self.head(record) != Head::Job {
+            return (Answer::DONE, 0);
+        }
+        for made in 0..most {
+            match self.step(image, record) {
+                Answer::MORE => {}
+                Answer::DONE => return (Answer::DONE, made + 1),
+                refusal => return (refusal, made),
+            }
+        }
+        (Answer::MORE, most)
+    }
+
     /// A refused read has the stretch 0, 0.
     fn read(&self, image: &[u8], record: &Self::Record, host: u8, message: &[u8]) -> (Answer, Stretch);
 

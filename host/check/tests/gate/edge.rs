@@ -2,7 +2,7 @@
 
 use check::rng::Rng;
 use check::twin::Twin;
-use library::{JOB, Library, RECORD_SIZE, Record};
+use library::{JOB, Library, RECORD_SIZE, Record, Told, UNCOUNTED};
 use store::{Answer, Head, Store, Stretch, message};
 
 const LENGTH: usize = 512;
@@ -37,7 +37,20 @@ fn record_buffers_of_another_size() {
             library.read_on(&image, &record, 0, &message::read(1)).0,
         ];
         assert_eq!(answers, [Answer::WRONG_RECORD; 5]);
+        assert_eq!(library.next_of(LENGTH, &record), (Answer::WRONG_RECORD, Told::NOTHING));
+        assert_eq!(library.made_on(&image, &mut record), Answer::WRONG_RECORD);
+        assert_eq!(library.run_on(&mut image, &mut record, 9), (Answer::WRONG_RECORD, UNCOUNTED));
         assert_eq!((record, reply, &image), (vec![1; size], [7; 14], &before));
+    }
+}
+
+/// The calls that go on with a job, on a record that has none.
+fn no_steps(library: &Library, image: &mut [u8], record: &mut Record) {
+    assert_eq!(library.next_of(image.len(), record), (Answer::DONE, Told::default()));
+    assert_eq!(library.made_on(image, record), Answer::DONE);
+    assert_eq!(library.step(image, record), Answer::DONE);
+    for most in [0, 9] {
+        assert_eq!(library.run(image, record, most), (Answer::DONE, 0));
     }
 }
 
@@ -53,7 +66,7 @@ fn records_of_no_phase() {
         let (kept, before) = (record, image.clone());
         assert_eq!(library.request(&image, &mut record, 0, &message::log(), &mut [0; 14]), Answer::NO_STORE);
         assert_eq!(library.read(&image, &record, 0, &message::read(1)), (Answer::NO_STORE, Stretch::default()));
-        assert_eq!(library.step(&mut image, &mut record), Answer::DONE);
+        no_steps(&library, &mut image, &mut record);
         assert!(record == kept && image == before, "phase {phase}");
     }
 }
@@ -68,7 +81,7 @@ fn idle_records_with_other_bytes_set() {
         let mut record: Record = rng.bytes(RECORD_SIZE).try_into().expect("a record's bytes");
         record[..6].copy_from_slice(&tidy[..6]);
         let kept = record;
-        assert_eq!(library.step(&mut image, &mut record), Answer::DONE);
+        no_steps(&library, &mut image, &mut record);
         assert_eq!(library.request(&image, &mut record, 0, &message::read(1), &mut []), Answer::NO_OBJECT);
         assert!(record == kept);
         assert_eq!(library.request(&image, &mut record, 2, &message::put(5, b"AB"), &mut []), Answer::MORE);

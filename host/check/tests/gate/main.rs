@@ -1,7 +1,8 @@
-//! The tests of the gate. Each call here is made on model, library and plain, and compared (`Twin`).
+//! The tests of the gate. Most calls here are made on model, library and plain, and compared (`Twin`).
 
 mod blank;
 mod damage;
+mod drive;
 mod edge;
 mod erase;
 mod fault;

@@ -41,6 +41,7 @@ fn runs_of(rounds: std::ops::Range<u64>) {
     assert_eq!(sum.tally.of("mount", Answer::FOREIGN), 0);
     seen(&sum, "mount", &[0, 2, 6, 255].map(Answer));
     seen(&sum, "request", &[0, 1, 2, 5, 6, 7, 8, 9, 10, 255].map(Answer));
+    seen(&sum, "run", &[0, 255].map(Answer));
     seen_values(&sum);
     seen_faults(&sum);
 }

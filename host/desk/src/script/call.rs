@@ -100,14 +100,7 @@ fn mount<S: Store>(board: &mut Board<S>, _: &[Word]) -> Made {
 
 fn step<S: Store>(board: &mut Board<S>, words: &[Word]) -> Made {
     let most = words.first().map_or(Ok(1), |word| word.number(1, usize::MAX))?;
-    let mut last = board.step();
-    for _ in 1..most {
-        if last != Answer::MORE {
-            break;
-        }
-        last = board.step();
-    }
-    answer(last)
+    answer(board.store.run(&mut board.image, &mut board.record, most).0)
 }
 
 fn run<S: Store>(board: &mut Board<S>, _: &[Word]) -> Made {

@@ -1,0 +1,14 @@
+-- A next call.
+use borrow.Author.Needs.{needs}
+use Rattle.drive.proofs.calls.next.Statement.{statement}
+use Rattle.drive.proofs.calls.next.Tie as tie
+
+pub next-spec : {M : Type 1} → statement M
+next-spec = tie.close (tie.spec
+    (λ c κs. search needs)
+    (λ c κs. search needs)
+    (λ c κs. search needs)
+    (λ c.
+    let numbers-of′ = c .before .before .before .before .numbers-of in
+    let args′ = c .before .before .before .before .before .before .before .args in
+    let s = c .next-of .ensures (args′ .board .places) _ _ (c .before .in-hand .ensures) in rw (numbers-of′ .ensures) at s))

@@ -1,0 +1,29 @@
+-- A run call by a record's numbers, its arrays lent.
+use mathlib.Core.Path.{ap}
+use denote.Ref.{now}
+use Rattle.board.specs.Record.{answerIn}
+use Rattle.drive.proofs.Running.{run-rests}
+use borrow.Author.Needs.{needs}
+use Rattle.drive.proofs.runs.run_core.Statement.{statement}
+use Rattle.drive.proofs.runs.run_core.Tie as tie
+
+pub run-core-spec : {M : Type 1} → statement M
+run-core-spec =
+    tie.close
+    (tie.spec
+    (λ c. search needs)
+    (λ c κs. search needs)
+    (λ c.
+    let args′ = c .before .before .before .before .args in
+    rw (c .staying .ensures) (run-rests (args′ .most) (now (args′ .places)) (now (args′ .unit)) (now (args′ .frame)) (now (args′ .image))
+    (args′ .n) (ap answerIn (c .before .enum-told .given .1))))
+    (λ c. search needs)
+    (λ c κs. search needs)
+    (λ c.
+    let args′ = c .before .before .before .before .args in
+    rw (c .staying2 .ensures) (run-rests (args′ .most) (now (args′ .places)) (now (args′ .unit)) (now (args′ .frame)) (now (args′ .image))
+    (args′ .n) (ap answerIn (c .before .enum-told2 .given .1))))
+    (λ c. search needs)
+    (λ c κs. ap answerIn (c .before .before .enum-told3 .given .1))
+    (λ c. search needs)
+    (λ c. c .before .before .run-busy .ensures))

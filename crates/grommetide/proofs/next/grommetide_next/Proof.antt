@@ -1,0 +1,26 @@
+-- What is next, by the record that the buffer holds.
+use mathlib.Core.Path.{ap, _∙_}
+use denote.Ref.{now}
+use borrow.Author.Tests.{eq-eqb, ne-eqb}
+use Rattle.lent.specs.Layout.{recordIn}
+use Rattle.grommetide.specs.Edge.{tells, edgeNext}
+use borrow.Author.Needs.{needs}
+use Rattle.grommetide.proofs.next.grommetide_next.Statement.{statement}
+use Rattle.grommetide.proofs.next.grommetide_next.Tie as tie
+
+pub grommetide-next-spec : {M : Type 1} → statement M
+unfolding edgeNext
+grommetide-next-spec =
+    tie.close
+    (tie.spec
+    (λ c. rw (ne-eqb _ _ (c .if1 .taken)))
+    (λ c κs. search needs)
+    (λ c κs. search needs)
+    (λ c κs. search needs)
+    (λ c κs. search needs)
+    (λ c.
+    let if1′ = c .before .before .before .before .if1 in
+    let args′ = c .before .before .before .before .before .before .args in
+    let r = recordIn (now (args′ .board)) in let e = rw (c .before .before .before .numbers .ensures) at
+    (c .before .next-of .ensures (r .places) (r .unit) (r .frame) (c .before .before .in-hand .ensures)) in rw (eq-eqb _ _ (if1′ .left))
+    (c .tell .ensures ∙ ap tells e)))

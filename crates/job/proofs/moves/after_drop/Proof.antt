@@ -1,0 +1,15 @@
+-- After the old block erased.
+use Rattle.job.specs.Code.{landedOn}
+use Rattle.board.specs.Step.{advance, landed}
+use Rattle.job.proofs.Entering.{append-leaves}
+use borrow.Author.Needs.{needs}
+use Rattle.job.proofs.moves.after_drop.Statement.{statement}
+use Rattle.job.proofs.moves.after_drop.Tie as tie
+
+pub after-drop-spec : {M : Type 1} → statement M
+unfolding advance
+after-drop-spec = tie.close (tie.spec
+    (λ c κs. search needs)
+    (λ c κs. search needs)
+    (λ c.
+    λ i p u f. rw (c .enter-append .ensures, c .before .landed .ensures) (append-leaves p u f (landedOn (c .before .before .args .n)))))

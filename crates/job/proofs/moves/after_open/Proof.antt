@@ -1,0 +1,26 @@
+-- After a write that opens a block.
+use Prim.Native.Nat.{suc}
+use Rattle.job.proofs.Advancing.{open-on, open-off}
+use borrow.Author.Tests.{ltb-true}
+use native.Mathlib.Omega.{arith}
+use mathlib.Core.Path.{sym, _∙_}
+use borrow.Author.Needs.{needs}
+use Rattle.job.proofs.moves.after_open.Statement.{statement}
+use Rattle.job.proofs.moves.after_open.Tie as tie
+
+pub after-open-spec : {M : Type 1} → statement M
+after-open-spec =
+    tie.close
+    (tie.spec
+    (λ c κs. search needs)
+    (λ c κs.
+    omega (arith, ltb-true (suc (c .before .before .before .args .n .cursor .index)) 5 (sym (c .before .has-next .ensures) ∙ c .if1 .taken)))
+    (λ c κs. search needs)
+    (λ c.
+    let args′ = c .before .before .before .before .before .args in
+    λ i p u f. rw (c .still .ensures, c .before .next-step .ensures)
+    (open-on i p u f (args′ .n) (sym (c .before .before .before .has-next .ensures) ∙ c .before .before .if1 .taken)))
+    (λ c κs. search needs)
+    (λ c.
+    let args′ = c .before .before .before .before .args in
+    λ i p u f. rw (c .due .ensures) (open-off i p u f (args′ .n) (sym (c .before .before .has-next .ensures) ∙ c .before .if1 .left))))

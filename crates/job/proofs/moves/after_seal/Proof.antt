@@ -1,0 +1,35 @@
+-- After a write that seals a block.
+use Prim.Native.Nat.{suc}
+use Rattle.job.specs.Code.{assemble, goDrop}
+use Rattle.board.specs.Step.{enterDrop, advance}
+use Rattle.board.specs.declared.Stage.the-variants.{Seal}
+use Rattle.job.proofs.Advancing.{on-leaves, off-leaves}
+use Rattle.job.proofs.Entering.{drop-leaves}
+use borrow.Author.Tests.{ltb-true}
+use native.Mathlib.Omega.{arith}
+use mathlib.Core.Path.{sym, _∙_}
+use borrow.Author.Needs.{needs}
+use Rattle.job.proofs.moves.after_seal.Statement.{statement}
+use Rattle.job.proofs.moves.after_seal.Tie as tie
+
+pub after-seal-spec : {M : Type 1} → statement M
+unfolding advance
+after-seal-spec =
+    tie.close (tie.spec
+    (λ c κs. search needs)
+    (λ c κs.
+    omega (
+      arith,
+      ltb-true (suc (c .before .before .before .args .n .cursor .index)) 5
+          (sym (c .before .has-next .ensures) ∙ c .if1 .taken),
+      c .before .before .before .good,
+    ))
+    (λ c.
+    let args′ = c .before .before .before .before .args in
+    λ i p u f. rw (c .next-step .ensures) (on-leaves p u f Seal 5 (args′ .n) (enterDrop (assemble (args′ .n) p u f))
+    (sym (c .before .before .has-next .ensures) ∙ c .before .if1 .taken)))
+    (λ c κs. search needs)
+    (λ c.
+    let args′ = c .before .before .before .before .args in
+    λ i p u f. rw (c .enter-drop .ensures) (off-leaves p u f Seal 5 (assemble (args′ .n) p u f) (goDrop (args′ .n))
+    (enterDrop (assemble (args′ .n) p u f)) (sym (c .before .before .has-next .ensures) ∙ c .before .if1 .left) (drop-leaves p u f (args′ .n)))))

@@ -1,0 +1,32 @@
+-- After a block erased first.
+use Prim.Native.Nat.{suc}
+use Rattle.job.specs.Code.{assemble, goOpen}
+use Rattle.board.specs.Step.{enterOpen, advance}
+use Rattle.board.specs.declared.Stage.the-variants.{Wipe}
+use Rattle.job.proofs.Advancing.{on-leaves, off-leaves}
+use Rattle.job.proofs.Entering.{open-leaves}
+use borrow.Author.Tests.{ltb-true}
+use native.Mathlib.Omega.{arith}
+use mathlib.Core.Path.{sym, _∙_}
+use borrow.Author.Needs.{needs}
+use Rattle.job.proofs.moves.after_wipe.Statement.{statement}
+use Rattle.job.proofs.moves.after_wipe.Tie as tie
+
+pub after-wipe-spec : {M : Type 1} → statement M
+unfolding advance
+after-wipe-spec =
+    tie.close (tie.spec
+    (λ c κs. search needs)
+    (λ c κs.
+    let args′ = c .before .before .before .before .args in
+    let good′ = c .before .before .before .before .good in
+    omega (arith, ltb-true (suc (args′ .n .cursor .index)) (args′ .n .job .wipes) (sym (c .before .has-next .ensures) ∙ c .if1 .taken), good′))
+    (λ c.
+    let args′ = c .before .before .before .before .before .args in
+    λ i p u f. rw (c .next-step .ensures) (on-leaves p u f Wipe (args′ .n .job .wipes) (args′ .n) (enterOpen (assemble (args′ .n) p u f))
+    (sym (c .before .before .has-next .ensures) ∙ c .before .if1 .taken)))
+    (λ c κs. search needs)
+    (λ c.
+    let args′ = c .before .before .before .before .before .args in
+    λ i p u f. rw (c .enter-open .ensures) (off-leaves p u f Wipe (args′ .n .job .wipes) (assemble (args′ .n) p u f) (goOpen (args′ .n))
+    (enterOpen (assemble (args′ .n) p u f)) (sym (c .before .before .has-next .ensures) ∙ c .before .if1 .left) (open-leaves p u f (args′ .n)))))

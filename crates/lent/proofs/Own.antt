@@ -1,0 +1,106 @@
+-- What a record read from a buffer of its size has of the buffer: places and frames come back as the bytes that they were.
+use mathlib.Core.Path.{_≡_, refl, sym, ap, _∙_}
+use mathlib.Core.List.{List, [], _∷_, _++_, append-assoc, append-nil}
+use Prim.Native.Nat.{ℕ, zero, suc, _+_, _-_, _*_, _/_, _%_, _≤_, _<_}
+use native.Mathlib.Omega.{arith}
+use lib.ListN.{length, getD, take, drop, replicate, length-append, length-take, length-drop, length-replicate, take-append-drop}
+use lib.Seq.{take-all, drop-at, drop-drop, drop-append-le, getD-drop, length-take-le}
+use Rattle.flash.specs.Flash.{blocks}
+use Rattle.frame.specs.Frame.{maxFrame}
+use Rattle.lent.specs.Layout.{sinceAt, placesAt, placesSize, jobAt, unitAt, frameAt, recordSize, bytesIn, wordsIn, recordIn, wordBytes}
+use Rattle.lent.proofs.Inverse.{Sized, array-back}
+
+-- ---- lengths
+
+pub length-words-in : (n : ℕ) (l : List ℕ) → length (wordsIn n l) ≡ n
+unfolding wordsIn
+length-words-in zero l = refl
+length-words-in (suc n) l = ap suc (length-words-in n (drop 2 l))
+
+pub length-bytes-in : (n : ℕ) (l : List ℕ) → length (bytesIn n l) ≡ n
+length-bytes-in n l = rw (length-append, length-replicate {A = ℕ}) (simp length-take (omega arith))
+
+pub own-sized : (l : List ℕ) → Sized (recordIn l)
+unfolding recordIn
+own-sized l =
+    record {
+      places = length-words-in 256 (drop placesAt l);
+      wipe = length-bytes-in blocks (drop jobAt l);
+      since = length-words-in 4 (drop sinceAt (drop blocks (drop jobAt l)));
+      unit = length-bytes-in maxFrame (drop unitAt l);
+      frame = length-bytes-in maxFrame (drop frameAt l);
+    }
+
+-- ---- a part that is all there
+
+pub words-own : (n : ℕ) (l : List ℕ) → ((i : ℕ) → getD l i 0 < 256) → 2 * n ≤ length l → wordBytes (wordsIn n l) ≡ take (2 * n) l
+unfolding wordsIn wordBytes
+words-own zero l b h = refl
+words-own (suc n) [] b h = absurd (omega arith)
+words-own (suc n) (x ∷ []) b h = absurd (omega arith)
+words-own (suc n) (x ∷ y ∷ l) b h =
+    let low : (x + y * 256) % 256 ≡ x = omega (arith, b 0) in
+    let high : (x + y * 256) / 256 ≡ y = omega (arith, b 0) in
+    let e : 2 * suc n ≡ suc (suc (2 * n)) = omega arith in
+    rw (low, high, words-own n l (λ i. b (suc (suc i))) (omega arith)) (ap (λ (k : ℕ). take k (x ∷ y ∷ l)) (sym e))
+
+pub bytes-own : (n : ℕ) (l : List ℕ) → n ≤ length l → bytesIn n l ≡ take n l
+bytes-own n l h = let z : n - length (take n l) ≡ 0 = simp length-take (omega arith) in rw (z, append-nil)
+
+-- only the bytes that are there count
+words-front : (n : ℕ) (l t : List ℕ) → 2 * n ≤ length l → wordsIn n (l ++ t) ≡ wordsIn n l
+unfolding wordsIn
+words-front zero l t h = refl
+words-front (suc n) [] t h = absurd (omega arith)
+words-front (suc n) (x ∷ []) t h = absurd (omega arith)
+words-front (suc n) (x ∷ y ∷ l) t h = rw (words-front n l t (omega arith))
+
+module _ (l : List ℕ) (size : length l ≡ recordSize) where
+  -- the places
+  pub places-own : ((i : ℕ) → getD l i 0 < 256) → wordBytes (recordIn l .places) ≡ take placesSize (drop placesAt l)
+  unfolding recordIn
+  places-own b = words-own 256 (drop placesAt l) (λ i. rw getD-drop (b (placesAt + i))) (simp length-drop (omega arith))
+
+  -- the frame that is copied, and the frame to append
+  pub frames-own : recordIn l .unit ++ recordIn l .frame ≡ drop unitAt l
+  unfolding recordIn
+  frames-own =
+      let u : maxFrame ≤ length (drop unitAt l) = simp length-drop (omega arith) in
+      let f : length (drop frameAt l) ≡ maxFrame = simp length-drop (omega arith) in
+      rw (bytes-own maxFrame (drop unitAt l) u, bytes-own maxFrame (drop frameAt l) (omega arith), take-all maxFrame (drop frameAt l) (omega arith))
+      (ap (λ (t : List ℕ). take maxFrame (drop unitAt l) ++ t) (sym (drop-drop maxFrame unitAt l)) ∙ take-append-drop maxFrame (drop unitAt l))
+
+  -- another frame in the place of the one that is copied: x is the buffer then
+  module _ (u x : List ℕ) (n : length u ≡ maxFrame) (e : x ≡ (take unitAt l ++ u) ++ drop frameAt l) where
+    front : length (take unitAt l) ≡ unitAt
+    front = length-take-le unitAt l (omega arith)
+
+    -- the places stand before it
+    seen : (t : List ℕ) → wordsIn 256 (drop placesAt (take unitAt l ++ t)) ≡ wordsIn 256 (drop placesAt (take unitAt l))
+    seen t =
+        ap (wordsIn 256) (drop-append-le placesAt (take unitAt l) t (omega (arith, front)))
+        ∙ words-front 256 (drop placesAt (take unitAt l)) t (simp length-drop (omega (arith, front)))
+
+    apart : x ≡ take unitAt l ++ (u ++ drop frameAt l)
+    apart = e ∙ append-assoc (take unitAt l) u (drop frameAt l)
+
+    pub places-stay : recordIn x .places ≡ recordIn l .places
+    unfolding recordIn
+    places-stay =
+        ap (λ (t : List ℕ). wordsIn 256 (drop placesAt t)) apart
+        ∙ seen (u ++ drop frameAt l)
+        ∙ sym (seen (drop unitAt l))
+        ∙ ap (λ (t : List ℕ). wordsIn 256 (drop placesAt t)) (take-append-drop unitAt l)
+
+    pub unit-laid : recordIn x .unit ≡ u
+    unfolding recordIn
+    unit-laid =
+        ap (λ (t : List ℕ). bytesIn maxFrame (drop unitAt t)) apart
+        ∙ ap (bytesIn maxFrame) (drop-at (take unitAt l) (u ++ drop frameAt l) unitAt front)
+        ∙ array-back maxFrame u (drop frameAt l) n
+
+    pub frame-stays : recordIn x .frame ≡ recordIn l .frame
+    unfolding recordIn
+    frame-stays =
+        ap (λ (t : List ℕ). bytesIn maxFrame (drop frameAt t)) e
+        ∙ ap (bytesIn maxFrame) (drop-at (take unitAt l ++ u) (drop frameAt l) frameAt (length-append (take unitAt l) u ∙ rw (front, n)))

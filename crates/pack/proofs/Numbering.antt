@@ -1,0 +1,113 @@
+-- A record's numbers laid over its bytes are the bytes of the record with those numbers and the buffer's arrays.
+use mathlib.Core.Path.{_≡_, refl, sym, ap, subst, _∙_}
+use mathlib.Core.List.{List, [], _++_, append-assoc}
+use mathlib.Core.Bool.{Bool, true, false}
+use Prim.Native.Nat.{ℕ, _+_, _≤_, _<_}
+use native.Mathlib.Omega.{arith}
+use lib.ListN.{length, getD, take, drop, replicate, length-append, length-take, length-drop, take-append-drop}
+use lib.Seq.{drop-drop, length-take-le}
+use borrow.Author.Tests.{eq-eqb, ne-eqb}
+use Rattle.flash.specs.Flash.{blocks}
+use Rattle.frame.specs.Frame.{maxFrame}
+use Rattle.board.specs.declared.Record.{Record}
+use Rattle.board.specs.Record.{noPlaces, noFrame}
+use Rattle.job.specs.declared.records.Numbers.{Numbers}
+use Rattle.job.specs.declared.records.Stepped.{Stepped}
+use Rattle.job.specs.Code.{assemble, leavesIf}
+use Rattle.lent.specs.Layout.{cursorSize, planSize, placesAt, placesSize, jobAt, planAt, cursorAt, unitAt, frameAt, recordSize}
+use Rattle.lent.specs.Layout.{recordIn, wordBytes, planBytes, cursorBytes, recordBytes, recordInto}
+use Rattle.lent.proofs.Words.{length-plan}
+use Rattle.lent.proofs.Inverse.{Sized, record-back}
+use Rattle.lent.proofs.Own.{length-words-in, length-bytes-in, places-own, frames-own, places-stay, unit-laid, frame-stays}
+use Rattle.pack.specs.Code.{laidAt, headFor, numbersInto, loadedIn, leftIn, Holds}
+use Rattle.pack.proofs.Laying.{Upto, next, laid-here}
+
+-- a stretch that stays
+keep : (at n : ℕ) {p l x : List ℕ} → Upto at p l x → at + n ≤ length l → Upto (at + n) (p ++ take n (drop at l)) l x
+keep at n {p} {l} {x} u k =
+    record {
+      written =
+          u .written ∙ ap (λ (t : List ℕ). p ++ t) (sym (take-append-drop n (drop at l)))
+          ∙ rw drop-drop (sym (append-assoc p (take n (drop at l)) (drop (at + n) l)));
+      size = length-append p (take n (drop at l)) ∙ rw (u .size, length-take-le n (drop at l) (simp length-drop (omega arith)));
+    }
+
+flat : (a b c d e f : List ℕ) → ((((a ++ b) ++ c) ++ d) ++ e) ++ f ≡ a ++ (b ++ (c ++ (d ++ (e ++ f))))
+flat a b c d e f = simp append-assoc
+
+module _ (n : Numbers) (wipe : length (n .job .wipe) ≡ blocks) (since : length (n .job .since) ≡ 4) where
+  numbers-laid : (l p u f : List ℕ) → length l ≡ recordSize → wordBytes p ≡ take placesSize (drop placesAt l) → u ++ f ≡ drop unitAt l
+      → numbersInto n l ≡ recordBytes (assemble n p u f)
+  unfolding numbersInto recordBytes
+  numbers-laid l p u f size ep ef =
+      let h = headFor (n .phase) (n .rest) in
+      let q = planBytes (n .job) in
+      let c = cursorBytes (n .cursor) in
+      let u₀ : Upto 0 [] l l = record { written = refl; size = refl } in
+      let u₁ = next 0 placesAt h u₀ refl refl (omega (arith, size)) in
+      let u₂ = keep placesAt placesSize u₁ (omega (arith, size)) in
+      let u₃ = next jobAt blocks (n .job .wipe) u₂ refl wipe (omega (arith, size)) in
+      let u₄ = next planAt planSize q u₃ refl (length-plan (n .job) since) (omega (arith, size)) in
+      let u₅ = next cursorAt cursorSize c u₄ refl refl (omega (arith, size)) in
+      u₅ .written ∙ flat h (take placesSize (drop placesAt l)) (n .job .wipe) q c (drop unitAt l) ∙ rw (← ep, ← ef)
+
+  own-sizes : (b : List ℕ) → Sized (assemble n (recordIn b .places) (recordIn b .unit) (recordIn b .frame))
+  unfolding recordIn
+  own-sizes b =
+      record {
+        places = length-words-in 256 (drop placesAt b);
+        wipe = wipe;
+        since = since;
+        unit = length-bytes-in maxFrame (drop unitAt b);
+        frame = length-bytes-in maxFrame (drop frameAt b);
+      }
+
+  no-sizes : Sized (assemble n noPlaces noFrame noFrame)
+  unfolding noPlaces noFrame
+  no-sizes = record { places = refl; wipe = wipe; since = since; unit = refl; frame = refl }
+
+  -- over zeros: a job that ended
+  ended-laid : numbersInto n (replicate recordSize 0) ≡ recordBytes (assemble n noPlaces noFrame noFrame)
+  unfolding noPlaces noFrame wordBytes
+  ended-laid = numbers-laid (replicate recordSize 0) noPlaces noFrame noFrame refl refl refl
+
+-- ---- a buffer after the call
+
+-- of another size
+pub other-size : (r : Record) (b : List ℕ) → (length b ≡ recordSize → ⊥) → Holds r b b
+unfolding recordInto
+other-size r b h = record { bytes = rw (ne-eqb _ _ h); back = λ e. absurd (h e) }
+
+held : (r : Record) (b after : List ℕ) → length b ≡ recordSize → Sized r → after ≡ recordBytes r → Holds r b after
+unfolding recordInto
+held r b after l z e = record { bytes = rw (eq-eqb _ _ l) e; back = λ _. ap recordIn e ∙ record-back r z }
+
+module _ (s : Stepped) (b after : List ℕ) (l : length b ≡ recordSize) (wipe : length (s .next .job .wipe) ≡ blocks)
+    (since : length (s .next .job .since) ≡ 4) where
+  -- the job went on
+  pub went-on : ((i : ℕ) → getD b i 0 < 256) → s .ended ≡ false → after ≡ numbersInto (s .next) b → Holds (leftIn s b) b after
+  went-on ok t e =
+      let r = recordIn b in
+      subst (λ (x : Record). Holds x b after) (sym (ap (λ (d : Bool). leavesIf d (s .next) (r .places) (r .unit) (r .frame)) t))
+      (held (assemble (s .next) (r .places) (r .unit) (r .frame)) b after l (own-sizes (s .next) wipe since b)
+      (e ∙ numbers-laid (s .next) wipe since b (r .places) (r .unit) (r .frame) l (places-own b l ok) (frames-own b l)))
+
+  -- it ended: the buffer was cleared
+  pub ended : (z : List ℕ) → z ≡ replicate (length b) 0 → s .ended ≡ true → after ≡ numbersInto (s .next) z → Holds (leftIn s b) b after
+  ended z c t e =
+      let r = recordIn b in
+      subst (λ (x : Record). Holds x b after) (sym (ap (λ (d : Bool). leavesIf d (s .next) (r .places) (r .unit) (r .frame)) t))
+      (held (assemble (s .next) noPlaces noFrame noFrame) b after l (no-sizes (s .next) wipe since) (e ∙ rw (c, l) (ended-laid (s .next) wipe since)))
+
+-- another frame that is copied was laid first: x is the buffer then
+pub loaded : (s : Stepped) (u b x after : List ℕ) → length b ≡ recordSize → length u ≡ maxFrame → x ≡ laidAt unitAt u b
+    → Holds (leftIn s x) x after → Holds (loadedIn s u b) b after
+unfolding recordInto
+loaded s u b x after l n e h =
+    let d : unitAt + length u ≡ frameAt = omega arith in
+    let y : x ≡ (take unitAt b ++ u) ++ drop frameAt b = e ∙ laid-here unitAt u b (omega arith) ∙ rw d in
+    let m : length x ≡ recordSize = ap length y ∙ simp (length-append, length-take, length-drop) (omega arith) in
+    let same : leftIn s x ≡ loadedIn s u b =
+    λ i. leavesIf (s .ended) (s .next) (places-stay b l u x n y i) (unit-laid b l u x n y i) (frame-stays b l u x n y i) in
+    let g = subst (λ (r : Record). Holds r x after) same h in
+    record { bytes = g .bytes ∙ rw (eq-eqb _ _ m, eq-eqb _ _ l); back = λ _. g .back m }

@@ -1,0 +1,22 @@
+-- The frame first, then the numbers.
+use denote.Ref.{now}
+use Rattle.pack.proofs.Numbering.{other-size, loaded}
+use borrow.Author.Needs.{needs}
+use Rattle.pack.proofs.drive.write_loaded.Statement.{statement}
+use Rattle.pack.proofs.drive.write_loaded.Tie as tie
+
+pub write-loaded-spec : {M : Type 1} → statement M
+write-loaded-spec =
+    tie.close (tie.spec
+    (λ c. other-size _ _ (c .if1 .taken))
+    (λ c κs. search needs)
+    (λ c κs. search needs)
+    (λ c. search needs)
+    (λ c.
+    let lay-at′ = c .before .before .before .before .before .before .lay-at in
+    let if1′ = c .before .before .before .before .before .before .before .before .before .if1 in
+    let c11 = c .before .before .before .before .before .before .before .before .before .before .before in
+    let args′ = c11 .args in
+    let good′ = c11 .good in
+    loaded (args′ .s) (now (args′ .unit)) (now (args′ .bytes)) _ _ (if1′ .left) (search (needs, good′)) (lay-at′ .ensures)
+    (c .before .before .write-step .ensures)))

@@ -1,0 +1,36 @@
+-- The numbers over what stands there, or over zeros.
+use denote.Ref.{now}
+use Rattle.pack.proofs.Numbering.{other-size, went-on, ended}
+use borrow.Author.Needs.{needs}
+use Rattle.pack.proofs.drive.write_step.Statement.{statement}
+use Rattle.pack.proofs.drive.write_step.Tie as tie
+
+pub write-step-spec : {M : Type 1} → statement M
+write-step-spec =
+    tie.close
+    (tie.spec
+    (λ c. other-size _ _ (c .if1 .taken))
+    (λ c κs. search needs)
+    (λ c κs. search needs)
+    (λ c. search needs)
+    (λ c.
+    let clear′ = c .before .before .before .before .before .before .clear in
+    let if2′ = c .before .before .before .before .before .before .before .before .if2 in
+    let if1′ = c .before .before .before .before .before .before .before .before .before .before .if1 in
+    let c12 = c .before .before .before .before .before .before .before .before .before .before .before .before in
+    let args′ = c12 .args in
+    let good′ = c12 .good in
+    ended (args′ .s) (now (args′ .bytes)) _ (if1′ .left) (search (needs, good′ .0 .1 .1 .1 .0 .1 .1 .1 .1 .0 .1 .1 .0))
+    (search (needs, good′ .0 .1 .1 .1 .0 .1 .1 .1 .1 .0 .1 .1 .1 .1 .1 .1 .1 .1 .0)) _ (clear′ .ensures) (if2′ .taken)
+    (c .before .before .lay-numbers .ensures))
+    (λ c κs. search needs)
+    (λ c. search needs)
+    (λ c.
+    let if2′ = c .before .before .before .before .if2 in
+    let if1′ = c .before .before .before .before .before .before .if1 in
+    let slice-known′ = c .before .before .before .before .before .before .before .slice-known in
+    let args′ = c .before .before .before .before .before .before .before .before .args in
+    let good′ = c .before .before .before .before .before .before .before .before .good in
+    went-on (args′ .s) (now (args′ .bytes)) _ (if1′ .left) (search (needs, good′ .0 .1 .1 .1 .0 .1 .1 .1 .1 .0 .1 .1 .0))
+    (search (needs, good′ .0 .1 .1 .1 .0 .1 .1 .1 .1 .0 .1 .1 .1 .1 .1 .1 .1 .1 .0)) (λ i. slice-known′ .given i .fits) (if2′ .left)
+    (c .before .before .lay-numbers2 .ensures)))

@@ -1,0 +1,22 @@
+-- A byte of a buffer of its own length, whatever the bytes' length is.
+use mathlib.Core.Path.{sym, _∙_}
+use native.Mathlib.Omega.{arith}
+use lib.ListN.{drop}
+use denote.Ref.{now}
+use borrow.Author.Needs.{needs}
+use Rattle.frame.specs.Frame.{maxFrame}
+use Rattle.unpack.proofs.Parts.{byte-in, byte-past}
+use Rattle.unpack.proofs.drive.frame_byte.Statement.{statement}
+use Rattle.unpack.proofs.drive.frame_byte.Tie as tie
+
+pub frame-byte-spec : {M : Type 1} → statement M
+frame-byte-spec = tie.close (tie.spec
+    (λ c κs. search needs)
+    (λ c κs. search needs)
+    (λ c.
+    let args′ = c .before .before .before .before .args in
+    c .byte-at .ensures
+    ∙ rw (c .before .tail .ensures) (sym (byte-in maxFrame (args′ .i) (drop (args′ .at) (now (args′ .bytes))) (omega arith))))
+    (λ c.
+    let args′ = c .before .before .args in
+    sym (byte-past maxFrame (args′ .i) (drop (args′ .at) (now (args′ .bytes))) (omega arith))))

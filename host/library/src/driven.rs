@@ -1,0 +1,57 @@
+//! The library with the flash in the caller's hands: a step is told, done here, and made.
+
+use crate::{Library, Record, Told};
+use store::{Answer, Fault, Head, Idle, Store, Stretch};
+
+pub struct Driven(pub Library);
+
+/// The flash step that `next` told; a program step clears bits and sets none.
+pub fn flash(image: &mut [u8], answer: Answer, Told { at, len, byte }: Told) {
+    match answer {
+        Answer::PROGRAM => image[at] &= byte,
+        Answer::ERASE => image[at..at + len].fill(0xFF),
+        _ => {}
+    }
+}
+
+impl Store for Driven {
+    type Record = Record;
+
+    fn mount(&self, image: &[u8]) -> (Answer, Record) {
+        self.0.mount(image)
+    }
+
+    fn fault(&self, image: &[u8]) -> (Answer, Option<Fault>) {
+        self.0.fault(image)
+    }
+
+    fn format(&self, image: &[u8]) -> (Answer, Record) {
+        self.0.format(image)
+    }
+
+    fn request(&self, image: &[u8], record: &mut Record, host: u8, message: &[u8], reply: &mut [u8]) -> Answer {
+        self.0.request(image, record, host, message, reply)
+    }
+
+    fn step(&self, image: &mut [u8], record: &mut Record) -> Answer {
+        let (answer, told) = self.0.next_of(image.len(), record);
+        flash(image, answer, told);
+        self.0.made_on(image, record)
+    }
+
+    fn read(&self, image: &[u8], record: &Record, host: u8, message: &[u8]) -> (Answer, Stretch) {
+        self.0.read(image, record, host, message)
+    }
+
+    fn unmounted(&self) -> Record {
+        self.0.unmounted()
+    }
+
+    fn idle(&self, idle: Idle) -> Record {
+        self.0.idle(idle)
+    }
+
+    fn head(&self, record: &Record) -> Head {
+        self.0.head(record)
+    }
+}

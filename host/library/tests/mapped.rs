@@ -1,0 +1,147 @@
+//! Flash as it is mapped on a board: to be read only. The store runs on it by `next` and `made`; a write to it by any other
+//! than the driver here ends the test, also a write that changes nothing, and so does a look past its end. The record is
+//! held in the same way against the calls that only read it.
+
+use library::{Library, RECORD_SIZE, Record, flash};
+use std::ffi::c_void;
+use std::{ptr, slice};
+use store::{Answer, Head, Store, message};
+
+unsafe extern "C" {
+    fn mmap(at: *mut c_void, len: usize, protection: i32, flags: i32, file: i32, offset: i64) -> *mut c_void;
+    fn mprotect(at: *mut c_void, len: usize, protection: i32) -> i32;
+    fn munmap(at: *mut c_void, len: usize) -> i32;
+}
+
+const NONE: i32 = 0;
+const READ: i32 = 1;
+const WRITE: i32 = 2;
+const PRIVATE_ANONYMOUS: i32 = 0x22;
+const PAGE: usize = 4_096;
+
+/// Bytes that end where a page ends, with a page after them that nobody may touch.
+struct Mapped {
+    start: *mut u8,
+    pages: usize,
+    len: usize,
+}
+
+impl Mapped {
+    fn new(bytes: &[u8]) -> Mapped {
+        let pages = bytes.len().next_multiple_of(PAGE);
+        // SAFETY: a new mapping, which nothing else knows of.
+        let start = unsafe { mmap(ptr::null_mut(), pages + PAGE, READ, PRIVATE_ANONYMOUS, -1, 0) };
+        assert_ne!(start as isize, -1);
+        let mut mapped = Mapped { start: start.cast(), pages, len: bytes.len() };
+        mapped.protect(pages, PAGE, NONE);
+        mapped.write(|old| old.copy_from_slice(bytes));
+        mapped
+    }
+
+    fn protect(&self, at: usize, len: usize, protection: i32) {
+        // SAFETY: pages of this mapping; nothing is lent out while it may be written to, but to the one who writes.
+        let done = unsafe { mprotect(self.start.add(at).cast(), len, protection) };
+        assert_eq!(done, 0);
+    }
+
+    fn bytes(&self) -> &[u8] {
+        // SAFETY: bytes of this mapping, which may be read.
+        unsafe { slice::from_raw_parts(self.start.add(self.pages - self.len), self.len) }
+    }
+
+    /// Lends the bytes to be changed.
+    fn write<T>(&mut self, change: impl FnOnce(&mut [u8]) -> T) -> T {
+        self.protect(0, self.pages, READ | WRITE);
+        // SAFETY: bytes of this mapping, which may be written to now and are lent to no one else.
+        let bytes = unsafe { slice::from_raw_parts_mut(self.start.add(self.pages - self.len), self.len) };
+        let given = change(bytes);
+        self.protect(0, self.pages, READ);
+        given
+    }
+}
+
+impl Drop for Mapped {
+    fn drop(&mut self) {
+        // SAFETY: nothing that was lent is left.
+        unsafe { munmap(self.start.cast(), self.pages + PAGE) };
+    }
+}
+
+struct Board {
+    library: Library,
+    image: Mapped,
+    record: Mapped,
+}
+
+impl Board {
+    fn blank(length: usize) -> Board {
+        let (library, record) = (Library::linked(), [0; RECORD_SIZE]);
+        Board { library, image: Mapped::new(&vec![0xFF; length]), record: Mapped::new(&record) }
+    }
+
+    /// Makes a call that writes the record, and all steps after it.
+    fn whole(&mut self, call: impl FnOnce(&Library, &[u8], &mut [u8]) -> Answer) -> Answer {
+        let mut answer = self.record.write(|record| call(&self.library, self.image.bytes(), record));
+        while answer == Answer::MORE {
+            let (next, told) = self.library.next_of(self.image.len, self.record.bytes());
+            self.image.write(|image| flash(image, next, told));
+            answer = self.record.write(|record| self.library.made_on(self.image.bytes(), record));
+        }
+        answer
+    }
+
+    fn mount(&mut self) -> Answer {
+        self.whole(Library::mount_into)
+    }
+
+    fn ask(&mut self, host: u8, message: &[u8]) -> Answer {
+        let message = Mapped::new(message);
+        self.whole(|library, image, record| {
+            library.request_on(image, record, host, message.bytes(), &mut [0; message::PAGE])
+        })
+    }
+
+    fn value(&self, id: u8) -> Option<&[u8]> {
+        let message = Mapped::new(&message::read(id));
+        match self.library.read_on(self.image.bytes(), self.record.bytes(), 0, message.bytes()) {
+            (Answer::DONE, stretch) => Some(stretch.of(self.image.bytes())),
+            (answer, _) => {
+                assert_eq!(answer, Answer::NO_OBJECT);
+                None
+            }
+        }
+    }
+
+    /// The current half.
+    fn half(&self) -> u8 {
+        let record: &Record = self.record.bytes().try_into().expect("a record's bytes");
+        match self.library.head(record) {
+            Head::Idle(idle) => idle.half,
+            other => panic!("{other:?}"),
+        }
+    }
+}
+
+/// A format, puts up to a transfer and on, a restart with a change pending, and reads.
+#[test]
+fn flash_that_is_mapped_to_be_read_only() {
+    for length in [512, 768, 65_536] {
+        let mut board = Board::blank(length);
+        assert_eq!(board.mount(), Answer::NO_STORE);
+        assert_eq!(board.whole(Library::format_into), Answer::DONE);
+        let value = |number: u8| vec![number; (length / 8).min(240)];
+        let mut last = 0;
+        while board.half() == 0 {
+            last += 1;
+            assert_eq!(board.ask(1, &message::put(1, &value(last))), Answer::DONE);
+            assert_eq!(board.ask(2, &message::delete(2)), Answer::DONE);
+            assert_eq!(board.ask(1, &message::commit()), Answer::DONE);
+            assert_eq!(board.ask(2, &message::abort()), Answer::DONE);
+        }
+        assert_eq!(board.ask(3, &message::put(2, b"pending")), Answer::DONE);
+        assert_eq!(board.ask(0, &message::log()), Answer::DONE);
+        assert_eq!(board.ask(0, &message::commit()[..3]), Answer::MALFORMED);
+        assert_eq!(board.mount(), Answer::DONE);
+        assert_eq!((board.half(), board.value(1), board.value(2)), (0, Some(&value(last)[..]), None));
+    }
+}
