@@ -117,47 +117,49 @@ fn nothing_after_the_bad_field_matters() {
     }
 }
 
+/// A frame, one byte of it changed, and the first field that is then bad, with its place in the frame.
+const BAD: [(&[u8], usize, u8, Field, usize); 36] = [
+    (&PUT, 0, 0, Field::Length, 0),
+    (&PUT, 0, 5, Field::Length, 0),
+    (&PUT, 0, 249, Field::Length, 0),
+    (&PUT, 1, 1, Field::Length, 0),
+    (&PUT, 0, 6, Field::Kind, 2),
+    (&PUT, 2, 0, Field::Kind, 2),
+    (&PUT, 2, 2, Field::Kind, 2),
+    (&PUT, 2, 3, Field::Kind, 2),
+    (&PUT, 2, 6, Field::Kind, 2),
+    (&PUT, 3, 1, Field::Kind, 2),
+    (&PUT, 4, 4, Field::Host, 4),
+    (&PUT, 4, 0xFF, Field::Host, 4),
+    (&PUT, 6, 1, Field::Id, 5),
+    (&PUT, 6, 0xFF, Field::Id, 5),
+    (&PUT, 9, 0xFC, Field::Finish, 9),
+    (&PUT, 0, 9, Field::Finish, 8),
+    (&DELETE, 0, 9, Field::Kind, 2),
+    (&DELETE, 2, 5, Field::Id, 4),
+    (&DELETE, 4, 0x80, Field::Host, 4),
+    (&DELETE, 6, 2, Field::Id, 5),
+    (&DELETE, 7, 0, Field::Finish, 7),
+    (&COMMIT, 0, 8, Field::Kind, 2),
+    (&COMMIT, 2, 1, Field::Kind, 2),
+    (&COMMIT, 2, 5, Field::Kind, 2),
+    (&COMMIT, 4, 4, Field::Host, 4),
+    (&COMMIT, 5, 0xEE, Field::Finish, 5),
+    (&ABORT, 3, 0x80, Field::Kind, 2),
+    (&ABORT, 4, 7, Field::Host, 4),
+    (&ABORT, 5, 0x7E, Field::Finish, 5),
+    (&SETTLED, 2, 4, Field::Kind, 2),
+    (&SETTLED, 2, 7, Field::Kind, 2),
+    (&SETTLED, 5, 1, Field::Id, 4),
+    (&SETTLED, 8, 0xFF, Field::Finish, 8),
+    (&EMPTY, 2, 1, Field::Kind, 2),
+    (&EMPTY, 5, 1, Field::Id, 4),
+    (&EMPTY, 6, 0xFA, Field::Finish, 6),
+];
+
 #[test]
 fn each_field_of_each_frame() {
-    let bad: [(&[u8], usize, u8, Field, usize); 36] = [
-        (&PUT, 0, 0, Field::Length, 0),
-        (&PUT, 0, 5, Field::Length, 0),
-        (&PUT, 0, 249, Field::Length, 0),
-        (&PUT, 1, 1, Field::Length, 0),
-        (&PUT, 0, 6, Field::Kind, 2),
-        (&PUT, 2, 0, Field::Kind, 2),
-        (&PUT, 2, 2, Field::Kind, 2),
-        (&PUT, 2, 3, Field::Kind, 2),
-        (&PUT, 2, 6, Field::Kind, 2),
-        (&PUT, 3, 1, Field::Kind, 2),
-        (&PUT, 4, 4, Field::Host, 4),
-        (&PUT, 4, 0xFF, Field::Host, 4),
-        (&PUT, 6, 1, Field::Id, 5),
-        (&PUT, 6, 0xFF, Field::Id, 5),
-        (&PUT, 9, 0xFC, Field::Finish, 9),
-        (&PUT, 0, 9, Field::Finish, 8),
-        (&DELETE, 0, 9, Field::Kind, 2),
-        (&DELETE, 2, 5, Field::Id, 4),
-        (&DELETE, 4, 0x80, Field::Host, 4),
-        (&DELETE, 6, 2, Field::Id, 5),
-        (&DELETE, 7, 0, Field::Finish, 7),
-        (&COMMIT, 0, 8, Field::Kind, 2),
-        (&COMMIT, 2, 1, Field::Kind, 2),
-        (&COMMIT, 2, 5, Field::Kind, 2),
-        (&COMMIT, 4, 4, Field::Host, 4),
-        (&COMMIT, 5, 0xEE, Field::Finish, 5),
-        (&ABORT, 3, 0x80, Field::Kind, 2),
-        (&ABORT, 4, 7, Field::Host, 4),
-        (&ABORT, 5, 0x7E, Field::Finish, 5),
-        (&SETTLED, 2, 4, Field::Kind, 2),
-        (&SETTLED, 2, 7, Field::Kind, 2),
-        (&SETTLED, 5, 1, Field::Id, 4),
-        (&SETTLED, 8, 0xFF, Field::Finish, 8),
-        (&EMPTY, 2, 1, Field::Kind, 2),
-        (&EMPTY, 5, 1, Field::Id, 4),
-        (&EMPTY, 6, 0xFA, Field::Finish, 6),
-    ];
-    for (frame, at, byte, field, place) in bad {
+    for (frame, at, byte, field, place) in BAD {
         let bytes = with(frame, at, byte);
         assert_eq!(behind(&[], &[&bytes[..], &[0]].concat()), Some((field, place)), "{bytes:?}");
     }
