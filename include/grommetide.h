@@ -123,6 +123,7 @@ extern "C" {
 /*
  * This header's version. A record is of use only to the version that wrote it; the flash may outlive versions.
  *
+ *   0.5  grommetide_fault says where a mount that is refused with GROMMETIDE_FOREIGN broke. Record and flash are those of 0.4.
  *   0.4  power may be lost inside an erase. A mount erases a foreign half beside a valid one, where 0.3 answers
  *        GROMMETIDE_FOREIGN; a format erases last the half that holds the store. Record and flash are those of 0.3.
  *   0.3  grommetide_next and grommetide_made for flash that the caller drives, grommetide_run for many steps in one call; no
@@ -131,7 +132,7 @@ extern "C" {
  *   0.1  values of up to 64 bytes, a record of 690 bytes. It finds flash in which a longer value stands foreign.
  */
 #define GROMMETIDE_VERSION_MAJOR 0
-#define GROMMETIDE_VERSION_MINOR 4
+#define GROMMETIDE_VERSION_MINOR 5
 #define GROMMETIDE_VERSION_PATCH 0
 
 /*
