@@ -1,6 +1,5 @@
 pub mod Replay
 pub mod Block
-pub mod Faults
 pub mod Room
 pub mod Index
 pub mod Examples

@@ -2,7 +2,6 @@
 
 mod demo;
 mod erase;
-mod fault;
 mod files;
 mod input;
 mod replay;
