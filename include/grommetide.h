@@ -15,9 +15,9 @@
  *      of the last call.
  *   4. If power is lost, all that counts is in the flash: go to 1.
  *
- *   A mount that answers GROMMETIDE_FOREIGN or GROMMETIDE_WORN changes nothing and will answer the same again. Only a
- *   format helps, and it loses all objects; before that the image can be read out (docs/FORMAT.md). If a format did not
- *   end, because power was lost, format again.
+ *   A mount that answers GROMMETIDE_FOREIGN or GROMMETIDE_WORN changes nothing and will answer the same again. After
+ *   GROMMETIDE_FOREIGN, grommetide_fault says where the image broke. Only a format helps, and it loses all objects; before
+ *   that the image can be read out (docs/FORMAT.md). If a format did not end, because power was lost, format again.
  *
  * The image
  *
@@ -101,6 +101,7 @@
  *   Bytes of stack that a call takes at most, its return address included (held by a test that paints the stack):
  *
  *     grommetide_mount        2,304
+ *     grommetide_fault        2,304
  *     grommetide_format       1,536
  *     grommetide_request      2,304
  *     grommetide_read         1,792
@@ -122,6 +123,7 @@ extern "C" {
 /*
  * This header's version. A record is of use only to the version that wrote it; the flash may outlive versions.
  *
+ *   0.5  grommetide_fault says where a mount that is refused with GROMMETIDE_FOREIGN broke. Record and flash are those of 0.4.
  *   0.4  power may be lost inside an erase. A mount erases a foreign half beside a valid one, where 0.3 answers
  *        GROMMETIDE_FOREIGN; a format erases last the half that holds the store. Record and flash are those of 0.3.
  *   0.3  grommetide_next and grommetide_made for flash that the caller drives, grommetide_run for many steps in one call; no
@@ -130,7 +132,7 @@ extern "C" {
  *   0.1  values of up to 64 bytes, a record of 690 bytes. It finds flash in which a longer value stands foreign.
  */
 #define GROMMETIDE_VERSION_MAJOR 0
-#define GROMMETIDE_VERSION_MINOR 4
+#define GROMMETIDE_VERSION_MINOR 5
 #define GROMMETIDE_VERSION_PATCH 0
 
 /*
@@ -165,6 +167,18 @@ enum {
     GROMMETIDE_MORE = 255            /* accepted, or a step was made; steps are left */
 };
 
+/* Fields of a half's header and of a frame, as grommetide_fault names them. docs/FORMAT.md says where each stands. */
+enum {
+    GROMMETIDE_FIELD_LENGTH = 1,     /* of the header (place 0) or of a frame */
+    GROMMETIDE_FIELD_KIND = 2,       /* of the header (place 2) or of a frame */
+    GROMMETIDE_FIELD_HOST = 3,
+    GROMMETIDE_FIELD_ID = 4,
+    GROMMETIDE_FIELD_FINISH = 5,     /* a frame's last byte, which is 0xFE */
+    GROMMETIDE_FIELD_TIME = 6,       /* of the header (place 4): never programmed, or both halves have the same */
+    GROMMETIDE_FIELD_STATE = 7,      /* of the header (place 8) */
+    GROMMETIDE_FIELD_REST = 8        /* of the header (place 9): bytes 9 to 15, which are 0xFF */
+};
+
 /* GROMMETIDE_RECORD_BYTES, as the library was built. */
 size_t grommetide_record_size(void);
 
@@ -174,6 +188,15 @@ size_t grommetide_record_size(void);
  * DONE: the store is mounted. MORE: steps are left. Refused: IMAGE_LENGTH, NO_STORE, FOREIGN, WORN.
  */
 uint8_t grommetide_mount(const uint8_t *image, size_t image_len, uint8_t *record, size_t record_len);
+
+/*
+ * Why a mount of this image is refused, and where the image broke. It takes no record and can be asked of any image.
+ * FOREIGN, exactly where grommetide_mount answers it: in half *half (0 or 1) the field *field is bad, which starts at offset
+ * *place of that half. Half 0 is named before half 1, and of a half's bad fields the first. If both halves are valid and
+ * equally new, it is the time of half 0. IMAGE_LENGTH, NO_STORE, WORN: so does a mount answer. DONE: a mount is accepted. With
+ * these *half, *field and *place are set to 0.
+ */
+uint8_t grommetide_fault(const uint8_t *image, size_t image_len, size_t *half, uint8_t *field, size_t *place);
 
 /*
  * Begins to make an empty store, in 12 steps, whatever the image holds. The half that holds the store is erased last.

@@ -7,6 +7,7 @@ use Prim.Native.Nat.{ℕ, suc, _+_, _*_}
 use native.Mathlib.Omega.{arith}
 use lib.ListN.{length, getD}
 use Rattle.flash.specs.Flash.{sizeOf}
+use Rattle.frame.specs.declared.Fault.{Fault}
 use Rattle.frame.specs.declared.ObjectId.{ObjectId}
 use Rattle.frame.specs.Frame.{Frame}
 use Rattle.journal.specs.Replay.{lookup, replay}
@@ -18,7 +19,7 @@ use Rattle.wire.specs.declared.Refusal.{Refusal}
 use Rattle.wire.specs.declared.Refusal.the-variants as refusal
 use Rattle.wire.specs.declared.Request.{Request}
 use Rattle.wire.specs.declared.Request.the-variants.{Put, Delete, Commit, Abort, Read, Log}
-use Rattle.wire.specs.Answer.{numberOf, refusalNumber}
+use Rattle.wire.specs.Answer.{numberOf}
 use Rattle.board.specs.declared.Phase.{Phase}
 use Rattle.board.specs.declared.Phase.the-variants.{Unmounted, Idle, Busy}
 use Rattle.board.specs.declared.Record.{Record}
@@ -30,37 +31,56 @@ use Rattle.board.specs.Promise.{Tells, Stands, HandsBack}
 
 -- ---- numbers
 
--- the answer of a number
+-- the answer of a number; 3 has many
 abbrev numbered : Option ℕ → Answer
 numbered none = More
 numbered (some n) =
     getD
-    (Done ∷ Refused refusal.Malformed ∷ Refused refusal.NoStore ∷ Refused refusal.Foreign ∷ Refused refusal.ImageLength ∷ Refused refusal.Busy
+    (Done ∷ Refused refusal.Malformed ∷ Refused refusal.NoStore ∷ Done ∷ Refused refusal.ImageLength ∷ Refused refusal.Busy
     ∷ Refused refusal.Worn ∷ Refused refusal.NoRoom ∷ Refused refusal.NoObject ∷ Refused refusal.ShortReply ∷ Refused refusal.HostRange
     ∷ Refused refusal.Stale ∷ [])
     n Done
 
-refusal-numbered : (n : Refusal) → numbered (some (refusalNumber n)) ≡ Refused n
-refusal-numbered refusal.Malformed = refl
-refusal-numbered refusal.NoStore = refl
-refusal-numbered refusal.Foreign = refl
-refusal-numbered refusal.ImageLength = refl
-refusal-numbered refusal.Busy = refl
-refusal-numbered refusal.Worn = refl
-refusal-numbered refusal.NoRoom = refl
-refusal-numbered refusal.NoObject = refl
-refusal-numbered refusal.ShortReply = refl
-refusal-numbered refusal.HostRange = refl
-refusal-numbered refusal.Stale = refl
+-- an answer is 3 with what it names, or its number's
+data Kind (a : Answer) : Type 0 where
+  three : (k : ℕ) (e : Fault) → a ≡ Refused (refusal.Foreign k e) → Kind a
+  plain : numbered (numberOf a) ≡ a → (numberOf a ≡ some 3 → ⊥) → Kind a
 
-number-back : (a : Answer) → numbered (numberOf a) ≡ a
-number-back Done = refl
-number-back More = refl
-number-back (Refused n) = refusal-numbered n
+not-three : (n : ℕ) → (n ≡ 3 → ⊥) → _≡_ {A = Option ℕ} (some n) (some 3) → ⊥
+not-three n h e = let w : n ≡ 3 = cc in h w
 
--- document 01's numbers tell the answers apart
-pub number-injective : (a b : Answer) → numberOf a ≡ numberOf b → a ≡ b
-number-injective a b e = sym (number-back a) ∙ ap numbered e ∙ number-back b
+kind : (a : Answer) → Kind a
+kind Done = plain refl (not-three 0 (omega arith))
+kind More = plain refl (λ e. let w : _≡_ {A = ℕ} 0 1 = cc in omega arith)
+kind (Refused refusal.Malformed) = plain refl (not-three 1 (omega arith))
+kind (Refused refusal.NoStore) = plain refl (not-three 2 (omega arith))
+kind (Refused (refusal.Foreign k e)) = three k e refl
+kind (Refused refusal.ImageLength) = plain refl (not-three 4 (omega arith))
+kind (Refused refusal.Busy) = plain refl (not-three 5 (omega arith))
+kind (Refused refusal.Worn) = plain refl (not-three 6 (omega arith))
+kind (Refused refusal.NoRoom) = plain refl (not-three 7 (omega arith))
+kind (Refused refusal.NoObject) = plain refl (not-three 8 (omega arith))
+kind (Refused refusal.ShortReply) = plain refl (not-three 9 (omega arith))
+kind (Refused refusal.HostRange) = plain refl (not-three 10 (omega arith))
+kind (Refused refusal.Stale) = plain refl (not-three 11 (omega arith))
+
+-- what both name where both are 3
+abbrev pub SameNamed : Answer → Answer → Type 0
+SameNamed a b = (k j : ℕ) (e f : Fault) → a ≡ Refused (refusal.Foreign k e) → b ≡ Refused (refusal.Foreign j f) → (k ≡ j) × (e ≡ f)
+
+-- document 01's numbers, and what 3 names, tell the answers apart
+pub number-injective : (a b : Answer) → SameNamed a b → numberOf a ≡ numberOf b → a ≡ b
+number-injective a b s e = go (kind a) (kind b)
+  where
+    go : Kind a → Kind b → a ≡ b
+    go (three k f p) (three j g q) =
+        let w : (k ≡ j) × (f ≡ g) = s k j f g p q in p ∙ ap₂ (λ (x : ℕ) (y : Fault). Refused (refusal.Foreign x y)) (w .0) (w .1) ∙ sym q
+    go (three k f p) (plain q n) = absurd (n (sym e ∙ ap numberOf p))
+    go (plain p n) (three j g q) = absurd (n (e ∙ ap numberOf q))
+    go (plain p n) (plain q m) = sym p ∙ ap numbered e ∙ q
+
+pub number-done : (a : Answer) → numberOf a ≡ some 0 → a ≡ Done
+number-done a e = number-injective a Done (λ k j f g p q. let w : _≡_ {A = ℕ} 0 1 = cc in absurd (omega arith)) e
 
 -- a number above 0 is a refusal's
 pub number-accepted : (a : Answer) (k : ℕ) → numberOf a ≡ some (suc k) → Accepted a → ⊥
@@ -79,12 +99,25 @@ same-answer Done b e = both-taken tt (subst Accepted e tt)
 same-answer More b e = both-taken tt (subst Accepted e tt)
 same-answer (Refused n) b e = both-refused n refl (sym e)
 
-pub same-lines : (ls : List Line) (a b : Answer) → Exactly ls a → Exactly ls b → Both a b
-same-lines [] a b x y = both-taken x y
-same-lines (l ∷ ls) a b (inl (p, x)) (inl (q, y)) = same-answer a b (number-injective a b (x ∙ sym y))
-same-lines (l ∷ ls) a b (inl (p, x)) (inr (q, y)) = absurd (q p)
-same-lines (l ∷ ls) a b (inr (p, x)) (inl (q, y)) = absurd (p q)
-same-lines (l ∷ ls) a b (inr (p, x)) (inr (q, y)) = same-lines ls a b x y
+pub same-lines : (ls : List Line) (a b : Answer) → SameNamed a b → Exactly ls a → Exactly ls b → Both a b
+same-lines [] a b s x y = both-taken x y
+same-lines (l ∷ ls) a b s (inl (p, x)) (inl (q, y)) = same-answer a b (number-injective a b s (x ∙ sym y))
+same-lines (l ∷ ls) a b s (inl (p, x)) (inr (q, y)) = absurd (q p)
+same-lines (l ∷ ls) a b s (inr (p, x)) (inl (q, y)) = absurd (p q)
+same-lines (l ∷ ls) a b s (inr (p, x)) (inr (q, y)) = same-lines ls a b s x y
+
+-- no line is 3
+abbrev pub NoThree : List Line → Type 0
+NoThree [] = Unit {0}
+NoThree (l ∷ ls) = (l .number ≡ 3 → ⊥) × NoThree ls
+
+never-three : (ls : List Line) (a : Answer) → NoThree ls → Exactly ls a → (k : ℕ) (e : Fault) → a ≡ Refused (refusal.Foreign k e) → ⊥
+never-three [] a n x k e q = subst Accepted q x
+never-three (l ∷ ls) a (h, n) (inl (p, x)) k e q = not-three (l .number) h (sym x ∙ ap numberOf q)
+never-three (l ∷ ls) a (h, n) (inr (p, x)) k e q = never-three ls a n x k e q
+
+pub same-numbered : (ls : List Line) (a b : Answer) → NoThree ls → Exactly ls a → Exactly ls b → Both a b
+same-numbered ls a b n x y = same-lines ls a b (λ k j e f p q. absurd (never-three ls a n x k e p)) x y
 
 -- ---- the record
 

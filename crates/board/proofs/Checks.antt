@@ -25,7 +25,7 @@ use Rattle.board.specs.declared.Phase.the-variants.{Unmounted, Idle, Bus
 use Rattle.board.specs.declared.Record.{Record}
 use Rattle.board.specs.Record.{allowed}
 use Rattle.board.specs.Step.{action}
-use Rattle.board.specs.Mount.{allFound, anyForeign, stores, Store, equalTimes, newest, needsTransfer}
+use Rattle.board.specs.Mount.{allFound, anyForeign, stores, Store, equalTimes, newest, needsTransfer, Found, noneValid, lowestTied, tiedTimes}
 use Rattle.board.specs.Queue.{Held, held, needsRoom}
 use Rattle.board.specs.Exec.{Call, request, step, mount, format}
 use Rattle.board.specs.Table.{isNone, isBusy, frameFor}
@@ -119,6 +119,11 @@ abbrev pub noStore : List Store → Bool
 noStore [] = true
 noStore (x ∷ xs) = false
 
+-- 3 with what it names
+abbrev pub unclear : List Found → List Store → Refusal
+unclear xs [] = noneValid xs
+unclear xs (y ∷ ys) = tiedTimes (lowestTied (y ∷ ys))
+
 -- 6, "by a mount too": of the valid halves the newest is current
 abbrev pub wornStore : List Store → Bool
 wornStore [] = false
@@ -129,7 +134,8 @@ abbrev pub mountChecks : List ℕ → List Check
 mountChecks img =
     check refusal.ImageLength (not (allowed (length img)))
     ∷ check refusal.NoStore (noStore (stores (allFound img)) && not (anyForeign (allFound img)))
-    ∷ check refusal.Foreign ((noStore (stores (allFound img)) && anyForeign (allFound img)) || equalTimes (stores (allFound img)))
+    ∷ check (unclear (allFound img) (stores (allFound img)))
+    ((noStore (stores (allFound img)) && anyForeign (allFound img)) || equalTimes (stores (allFound img)))
     ∷ check refusal.Worn (wornStore (stores (allFound img))) ∷ []
 
 -- the lines that concern each call: 11 alone concerns a step, 4 alone a format

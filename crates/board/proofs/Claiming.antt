@@ -44,6 +44,7 @@ use Rattle.board.proofs.Formatting.{format-safe, format-ends}
 use Rattle.board.proofs.Deciding.{Taken, StoreThere, InTime, Outcome, worn-out, begins, mount-outcome, MountSafe, nothing-there, store-there, mount-safe}
 use Rattle.board.proofs.Mounting.{mount-keeps, mount-ends, mount-short}
 use Rattle.board.proofs.Requests.{Requested, request-keeps}
+use Rattle.frame.specs.declared.Fault.{Fault}
 
 -- ---- what the invariant gives between calls
 
@@ -120,9 +121,9 @@ abbrev MountKeeps : ℕ → List ℕ → Book → Bool → Out → Type 0
 MountKeeps s img b u o = Inv s (o .image) (o .board) (book (b .objects) noLists nothing) (trackMount u (o .answer)) × MountSays img u o
 
 -- a refused mount
-turned-down : {s : ℕ} {img : List ℕ} (b : Book) {u : Bool} (n : Refusal) → Bare s img (b .objects) u → (Refused n ≡ Refused refusal.Foreign → ⊥)
-    → (Refused n ≡ Refused refusal.ImageLength → ⊥) → (Refused n ≡ Refused refusal.NoStore → u ≡ true) → (Refused n ≡ Refused refusal.Worn → WornOut img)
-    → MountKeeps s img b u (refuse n img unmounted [])
+turned-down : {s : ℕ} {img : List ℕ} (b : Book) {u : Bool} (n : Refusal) → Bare s img (b .objects) u
+    → ((k : ℕ) (f : Fault) → Refused n ≡ Refused (refusal.Foreign k f) → ⊥) → (Refused n ≡ Refused refusal.ImageLength → ⊥)
+    → (Refused n ≡ Refused refusal.NoStore → u ≡ true) → (Refused n ≡ Refused refusal.Worn → WornOut img) → MountKeeps s img b u (refuse n img unmounted [])
 turned-down b n v a c d e = (
   inv-unmounted unmounted (v .sized) (v .bytes) refl (v .safe) refl,
   record { never-foreign = a; never-length = c; no-store = d; worn = e },
@@ -144,14 +145,14 @@ settled-book {s} {img} {r} {st} {os} k a =
 accepted-says : {img : List ℕ} {u : Bool} (o : Out) → (o .answer ≡ More) ⊎ (o .answer ≡ Done) → MountSays img u o
 accepted-says o (inl e) =
     record {
-      never-foreign = λ c. (let w : _≡_ {A = ℕ} 0 1 = cc in omega arith);
+      never-foreign = λ k f c. (let w : _≡_ {A = ℕ} 0 1 = cc in omega arith);
       never-length = λ c. (let w : _≡_ {A = ℕ} 0 1 = cc in omega arith);
       no-store = λ c. (let w : _≡_ {A = ℕ} 0 1 = cc in absurd (omega arith));
       worn = λ c. (let w : _≡_ {A = ℕ} 0 1 = cc in absurd (omega arith));
     }
 accepted-says o (inr e) =
     record {
-      never-foreign = λ c. (let w : _≡_ {A = ℕ} 0 1 = cc in omega arith);
+      never-foreign = λ k f c. (let w : _≡_ {A = ℕ} 0 1 = cc in omega arith);
       never-length = λ c. (let w : _≡_ {A = ℕ} 0 1 = cc in omega arith);
       no-store = λ c. (let w : _≡_ {A = ℕ} 0 1 = cc in absurd (omega arith));
       worn = λ c. (let w : _≡_ {A = ℕ} 0 1 = cc in absurd (omega arith));
@@ -186,7 +187,7 @@ module _ {s : ℕ} {img : List ℕ} (b : Book) {u : Bool} (v : Bare s img (b .ob
       → Outcome img x → MountKeeps s img b u (mountOn img)
   mount-found x y h k f (worn-out w e) =
       subst (MountKeeps s img b u) (sym e)
-      (turned-down b refusal.Worn v (λ c. let w : _≡_ {A = ℕ} 0 1 = cc in omega arith) (λ c. let w : _≡_ {A = ℕ} 0 1 = cc in omega arith)
+      (turned-down b refusal.Worn v (λ k f c. let w : _≡_ {A = ℕ} 0 1 = cc in omega arith) (λ c. let w : _≡_ {A = ℕ} 0 1 = cc in omega arith)
       (λ c. let w : _≡_ {A = ℕ} 0 1 = cc in absurd (omega arith)) (λ c. w))
   mount-found x y h k f (begins t e) = subst (MountKeeps s img b u) (sym e) (mount-begun x y h k f t)
 
@@ -196,7 +197,7 @@ module _ {s : ℕ} {img : List ℕ} (b : Book) {u : Bool} (v : Bare s img (b .ob
       go : MountSafe s img (b .objects) u → MountKeeps s img b u (mountOn img)
       go (nothing-there e q) =
           subst (MountKeeps s img b u) (sym q)
-          (turned-down b refusal.NoStore v (λ c. let w : _≡_ {A = ℕ} 0 1 = cc in omega arith) (λ c. let w : _≡_ {A = ℕ} 0 1 = cc in omega arith) (λ c. e)
+          (turned-down b refusal.NoStore v (λ k f c. let w : _≡_ {A = ℕ} 0 1 = cc in omega arith) (λ c. let w : _≡_ {A = ℕ} 0 1 = cc in omega arith) (λ c. e)
           (λ c. let w : _≡_ {A = ℕ} 0 1 = cc in absurd (omega arith)))
       go (store-there x y h k f) = mount-found x y h k f (mount-outcome x (v .sized) y h)
 

@@ -1,7 +1,7 @@
 -- What a mount decides: which refusal, or which store it takes.
 use mathlib.Core.Path.{_≡_, refl, sym, ap, ap₂, subst, subst₃, _∙_}
 use mathlib.Core.List.{List, [], _∷_}
-use mathlib.Core.Bool.{Bool, true, false, _&&_, cond}
+use mathlib.Core.Bool.{Bool, true, _&&_, cond}
 use Prim.Native.Nat.{ℕ, zero, suc, _<_}
 use native.Mathlib.Omega.{arith}
 use lib.Dec.{eqb, ltb}
@@ -24,14 +24,14 @@ use Rattle.board.specs.declared.Phase.{Phase}
 use Rattle.board.specs.declared.Phase.the-variants.{Unmounted, Idle, Busy}
 use Rattle.board.specs.Record.{Out, unmounted, refuse, answerIn}
 use Rattle.board.specs.Step.{enterWipe, begin}
-use Rattle.board.specs.Mount.{allFound, anyForeign, Store, stores, wipeList, needsTransfer, mountJob, mountAt, mountOn}
+use Rattle.board.specs.Mount.{allFound, Store, stores, wipeList, needsTransfer, mountJob, mountAt, mountOn, noneValid, tiedTimes}
 use Rattle.board.specs.Claim.{WornOut}
 use Rattle.board.specs.CutFormat.{Beside}
 use Rattle.board.specs.Demand2.{Accepted}
 use Rattle.board.proofs.Images.{Sized, size-of}
 use Rattle.board.proofs.Invariant.{Quiet, Others, Lesser, Safe, no-valid, some-valid}
 use Rattle.board.proofs.Order.{Unread, foundIn}
-use Rattle.board.proofs.Outcomes.{mount-foreign, mount-none, mount-equal, mount-at, mount-worn, mount-begins}
+use Rattle.board.proofs.Outcomes.{mount-none, mount-equal, mount-at, mount-worn, mount-begins}
 use Rattle.board.proofs.Current.{Keeps, block-long}
 use Rattle.board.proofs.Erasing.{NoStore, SameValid, same-valid}
 
@@ -46,9 +46,10 @@ pub record Taken (s : ℕ) (img : List ℕ) (x : Store) : Type 0 where
 
 pub data Decided (s : ℕ) (img : List ℕ) : Type 0 where
   foreign-block : (j : ℕ) → j < blocks → (e : Fault) → blockState (block s j img) ≡ foreign e
-      → ((k : ℕ) → k < blocks → Unread (blockState (block s k img))) → mountOn img ≡ refuse refusal.Foreign img unmounted [] → Decided s img
+      → ((k : ℕ) → k < blocks → Unread (blockState (block s k img))) → ((k : ℕ) → k < j → Quiet (blockState (block s k img)))
+      → mountOn img ≡ refuse (refusal.Foreign j e) img unmounted [] → Decided s img
   equal-times : (t : ℕ) (fs gs : List Frame) (c d : Tail) → blockState (block s 0 img) ≡ valid t fs c → blockState (block s 1 img) ≡ valid t gs d
-      → mountOn img ≡ refuse refusal.Foreign img unmounted [] → Decided s img
+      → mountOn img ≡ refuse (tiedTimes 0) img unmounted [] → Decided s img
   none-valid : NoStore s img → mountOn img ≡ refuse refusal.NoStore img unmounted [] → Decided s img
   at-store : (x : Store) → Taken s img x → Decided s img
 
@@ -73,8 +74,8 @@ module _ {s : ℕ} {img : List ℕ} (z : Sized s img) where
   quiet-both p q x y (suc zero) h = subst Quiet (sym q) y
   quiet-both p q x y (suc (suc j)) h = absurd (omega arith)
 
-  neither : NoStore s img → anyForeign (allFound img) ≡ false → stores (allFound img) ≡ [] → Decided s img
-  neither n f e = none-valid n (mount-none img (z .ok) e f)
+  neither : NoStore s img → noneValid (allFound img) ≡ refusal.NoStore → stores (allFound img) ≡ [] → Decided s img
+  neither n f e = none-valid n (mount-none img (z .ok) e ∙ ap (λ (w : Refusal). refuse w img unmounted []) f)
 
   unread-both : {a b : BlockState} → State0 a → State1 b → Unread a → Unread b → (k : ℕ) → k < blocks → Unread (blockState (block s k img))
   unread-both p q x y zero h = subst Unread (sym p) x
@@ -82,9 +83,17 @@ module _ {s : ℕ} {img : List ℕ} (z : Sized s img) where
   unread-both p q x y (suc (suc k)) h = absurd (omega arith)
 
   strange : {a b : BlockState} (j : ℕ) → j < blocks → (e : Fault) → blockState (block s j img) ≡ foreign e → State0 a → State1 b → Unread a → Unread b
-      → stores (foundIn a b) ≡ [] → anyForeign (foundIn a b) ≡ true → Decided s img
-  strange j h e f p q x y n t =
-      foreign-block j h e f (unread-both p q x y) (mount-foreign img (z .ok) (ap stores (all-is p q) ∙ n) (ap anyForeign (all-is p q) ∙ t))
+      → ((k : ℕ) → k < j → Quiet (blockState (block s k img))) → stores (foundIn a b) ≡ [] → noneValid (foundIn a b) ≡ refusal.Foreign j e → Decided s img
+  strange j h e f p q x y o n t =
+      foreign-block j h e f (unread-both p q x y) o
+      (mount-none img (z .ok) (ap stores (all-is p q) ∙ n) ∙ ap (λ (w : Refusal). refuse w img unmounted []) (ap noneValid (all-is p q) ∙ t))
+
+  none-below : (k : ℕ) → k < 0 → Quiet (blockState (block s k img))
+  none-below k h = absurd (omega arith)
+
+  one-below : {a : BlockState} → State0 a → Quiet a → (k : ℕ) → k < 1 → Quiet (blockState (block s k img))
+  one-below p x zero h = subst Quiet (sym p) x
+  one-below p x (suc k) h = absurd (omega arith)
 
   older-first : (t : ℕ) (a : BlockState) → State0 a → Beside t a → Others (λ j. Beside t (blockState (block s j img))) 1
   older-first t a p o zero h n = subst (Beside t) (sym p) o
@@ -109,7 +118,7 @@ module _ {s : ℕ} {img : List ℕ} (z : Sized s img) where
       let e : stores (allFound img) ≡ x ∷ y ∷ [] = ap stores all in
       on-test (eqb t t′)
       (λ a. equal-times t fs gs c d p (subst (λ (n : ℕ). State1 (valid n gs d)) (sym (eqb-true t t′ a)) q)
-      (mount-equal img (z .ok) x (y ∷ []) e (rw a)))
+      (mount-equal img (z .ok) x (y ∷ []) e (rw a) ∙ rw a))
       (λ a.
       let r : mountOn img ≡ mountAt img (allFound img) (cond (ltb t t′) y x) = mount-at img (z .ok) x (y ∷ []) e (rw a) in
       on-test (ltb t t′)
@@ -129,15 +138,15 @@ module _ {s : ℕ} {img : List ℕ} (z : Sized s img) where
       })))
 
   decide : (a b : BlockState) → State0 a → State1 b → Decided s img
-  decide blank blank p q = neither (quiet-both p q tt tt) (ap anyForeign (all-is p q)) (ap stores (all-is p q))
-  decide blank inProgress p q = neither (quiet-both p q tt tt) (ap anyForeign (all-is p q)) (ap stores (all-is p q))
-  decide inProgress blank p q = neither (quiet-both p q tt tt) (ap anyForeign (all-is p q)) (ap stores (all-is p q))
-  decide inProgress inProgress p q = neither (quiet-both p q tt tt) (ap anyForeign (all-is p q)) (ap stores (all-is p q))
-  decide (foreign e) blank p q = strange 0 (omega arith) e p p q tt tt refl refl
-  decide (foreign e) inProgress p q = strange 0 (omega arith) e p p q tt tt refl refl
-  decide (foreign e) (foreign f) p q = strange 0 (omega arith) e p p q tt tt refl refl
-  decide blank (foreign e) p q = strange 1 (omega arith) e q p q tt tt refl refl
-  decide inProgress (foreign e) p q = strange 1 (omega arith) e q p q tt tt refl refl
+  decide blank blank p q = neither (quiet-both p q tt tt) (ap noneValid (all-is p q)) (ap stores (all-is p q))
+  decide blank inProgress p q = neither (quiet-both p q tt tt) (ap noneValid (all-is p q)) (ap stores (all-is p q))
+  decide inProgress blank p q = neither (quiet-both p q tt tt) (ap noneValid (all-is p q)) (ap stores (all-is p q))
+  decide inProgress inProgress p q = neither (quiet-both p q tt tt) (ap noneValid (all-is p q)) (ap stores (all-is p q))
+  decide (foreign e) blank p q = strange 0 (omega arith) e p p q tt tt none-below refl refl
+  decide (foreign e) inProgress p q = strange 0 (omega arith) e p p q tt tt none-below refl refl
+  decide (foreign e) (foreign f) p q = strange 0 (omega arith) e p p q tt tt none-below refl refl
+  decide blank (foreign e) p q = strange 1 (omega arith) e q p q tt tt (one-below p tt) refl refl
+  decide inProgress (foreign e) p q = strange 1 (omega arith) e q p q tt tt (one-below p tt) refl refl
   decide (valid t fs c) blank p q = only (store 0 t fs c) (omega arith) p (older-second t blank q tt) (ap stores (all-is p q))
   decide (valid t fs c) inProgress p q = only (store 0 t fs c) (omega arith) p (older-second t inProgress q tt) (ap stores (all-is p q))
   decide (valid t fs c) (foreign e) p q = only (store 0 t fs c) (omega arith) p (older-second t (foreign e) q tt) (ap stores (all-is p q))
@@ -222,7 +231,7 @@ mount-accepted {s} {img} z y f = go (mount-decides z)
     at x k (begins t r) = record { store = x; taken = k; holds = taken-holds x z y k; in-time = t; begins = r }
 
     go : Decided s img → Begins s img
-    go (foreign-block j h e p o r) = refused r
+    go (foreign-block j h e p o b r) = refused r
     go (equal-times t fs gs c d p q r) = refused r
     go (none-valid n r) = refused r
     go (at-store x k) = at x k (mount-outcome x z k (taken-holds x z y k))
@@ -246,7 +255,7 @@ mount-worn-out {s} {img} z y e = go (mount-decides z)
     other r = sym (answer r) ∙ e
 
     go : Decided s img → WornOut img
-    go (foreign-block j h f p o r) = let q = other r in let x : _≡_ {A = ℕ} 0 1 = cc in absurd (omega arith)
+    go (foreign-block j h f p o b r) = let q = other r in let x : _≡_ {A = ℕ} 0 1 = cc in absurd (omega arith)
     go (equal-times t fs gs c d p q r) = let q = other r in let x : _≡_ {A = ℕ} 0 1 = cc in absurd (omega arith)
     go (none-valid n r) = let q = other r in let x : _≡_ {A = ℕ} 0 1 = cc in absurd (omega arith)
     go (at-store x k) = taken x (mount-outcome x z k (taken-holds x z y k))
@@ -262,7 +271,7 @@ pub mount-safe : {s : ℕ} {img : List ℕ} {os : List Object} {u : Bool} → Si
 mount-safe {s} {img} {os} {u} z (no-valid e n) = go (mount-decides z)
   where
     go : Decided s img → MountSafe s img os u
-    go (foreign-block j h f p o r) = absurd (subst Quiet p (n j h))
+    go (foreign-block j h f p o b r) = absurd (subst Quiet p (n j h))
     go (equal-times t fs gs c d p q r) = absurd (subst Quiet p (n 0 (omega arith)))
     go (none-valid _ r) = nothing-there e r
     go (at-store x k) = absurd (subst Quiet (k .is-valid) (n (x .number) (k .there)))
@@ -310,7 +319,7 @@ mount-safe {s} {img} {os} {u} z (some-valid k h v q) = go (mount-decides z)
         ))
 
     go : Decided s img → MountSafe s img os u
-    go (foreign-block j l f p o r) = absurd (subst Unread here (o k h))
+    go (foreign-block j l f p o b r) = absurd (subst Unread here (o k h))
     go (equal-times t fs gs c d a b r) = absurd (twice t fs gs c d a b)
     go (none-valid n r) = absurd (subst Quiet here (n k h))
     go (at-store x y) = on-test (eqb (x .number) k) (λ e. at x y (eqb-true (x .number) k e)) (λ e. other x y (eqb-false (x .number) k e))

@@ -9,7 +9,6 @@ use native.Mathlib.Omega.{arith}
 use lib.ListN.{length}
 use Rattle.flash.specs.Bytes.{Bytes}
 use Rattle.flash.specs.Flash.{Step, apply, block, blocks, sizeOf, withBlock}
-use Rattle.flash.proofs.Cases.{on-test, clash}
 use Rattle.flash.proofs.Image.{length-apply, bytes-apply}
 use Rattle.flash.proofs.Raising.{bytes-with}
 use Rattle.frame.specs.declared.Host.{Host}
@@ -37,10 +36,10 @@ use Rattle.board.specs.Claim.{ByteCall, Begins, Event, call, cutErase}
 use Rattle.wire.specs.Sentences.{Means, MessagesExact, MalformedExact}
 use Rattle.board.specs.Promise.{Machine, replyFor, Answers, Serves, Job, frame-job, mount-job, format-job, Calls, Shown, restingIn}
 use Rattle.board.specs.Promise.{shownRecord, shown, trace, ByteEvents, PromiseDetermines, PromiseDeterminesFrom, PromiseDeterminesCall}
-use Rattle.board.proofs.Answering.{number-injective, number-accepted, Both, both-taken, both-refused, same-lines, told-answer}
+use Rattle.board.proofs.Answering.{number-done, number-accepted, Both, both-taken, both-refused, same-numbered, told-answer}
 use Rattle.board.proofs.Answering.{whole, whole-is, in-job, same-stretch}
-use Rattle.board.proofs.Tabling.{is-allowed}
-use Rattle.board.proofs.TablingMounts.{Mountable, mount-lines, accepted-takes}
+use Rattle.board.proofs.Tabling.{allowed-not}
+use Rattle.board.proofs.TablingMounts.{Mountable, mount-told, same-mounts, accepted-takes}
 use Rattle.wire.proofs.Sentences.{messages-exact, malformed-exact}
 use Rattle.board.proofs.Freshness.{fresh-exact}
 
@@ -112,9 +111,6 @@ pub record Asked (img : List ℕ) (r : Record) (msg : List ℕ) : Type 0 where
   pub is-held : Fresh img r holding
   pub is-asked : Means msg asked
 
-allowed-not : (n : ℕ) → ((Allowed n → ⊥) → ⊥) → allowed n ≡ true
-allowed-not n f = on-test (allowed n) (λ t. t) (λ t. absurd (f (λ y. clash (allowed n) (is-allowed n y) t)))
-
 module _ {m : Machine} (p : Calls m) (img : List ℕ) (by : Bytes img) where
   pub request-asks : (r : Record) (h : Host) (msg reply : List ℕ) → Accepted (m img r (request h msg reply) .answer) → Asked img r msg
   unfolding FreshExact MessagesExact MalformedExact
@@ -145,7 +141,8 @@ module _ {m : Machine} (p : Calls m) (img : List ℕ) (by : Bytes img) where
 
   -- an accepted mount has a current half to take
   pub mount-takes : (r : Record) → Accepted (m img r mount .answer) → Mountable img
-  mount-takes r a = go (same-lines (mountLines img) (m img r mount .answer) (mountOn img .answer) (p .table img r mount by) (mount-lines img by))
+  mount-takes r a =
+      go (same-mounts img by (m img r mount .answer) (mountOn img .answer) (p .table img r mount by, λ k e. p .names img r k e by) (mount-told img by))
     where
       go : Both (m img r mount .answer) (mountOn img .answer) → Mountable img
       go (both-refused w e f) = absurd (subst Accepted e a)
@@ -179,8 +176,8 @@ module _ {m n : Machine} (pm : Calls m) (pn : Calls n) (img : List ℕ) (by : By
       → o .image ≡ img → p .image ≡ img → Answers f r o → Answers f r p → Serves img r h msg reply x q o → Serves img r h msg reply x q p
       → ((g : Frame) → f ≡ some g → Alike m n img (o .board) (p .board)) → Agree m n o p
   does-agree r h msg reply x q none o p k i j (a, b) (c, d) s t v =
-      agree-by (whole-is o (number-injective (o .answer) Done a) i b (s .writes) refl)
-      (whole-is p (number-injective (p .answer) Done c) j d (t .writes) (same-stretch img r x q (p .stretch) (o .stretch) (t .hands-back) (s .hands-back)))
+      agree-by (whole-is o (number-done (o .answer) a) i b (s .writes) refl)
+      (whole-is p (number-done (p .answer) c) j d (t .writes) (same-stretch img r x q (p .stretch) (o .stretch) (t .hands-back) (s .hands-back)))
       (agree-whole Done Done img r r (replyFor img reply x q) (o .stretch) refl by (resting k refl))
   does-agree r h msg reply x q (some f) o p k i j a b s t v =
       agree-by (whole-is o a i refl (s .writes) refl)
@@ -196,7 +193,7 @@ module _ {m n : Machine} (pm : Calls m) (pn : Calls n) (img : List ℕ) (by : By
   request-agrees : (r : Record) (h : Host) (msg reply : List ℕ) → Bytes msg → Rests (r .phase)
       → Agree m n (m img r (request h msg reply)) (n img r (request h msg reply))
   request-agrees r h msg reply bm k =
-      go (same-lines (requestLines img r h msg reply) (o .answer) (p .answer) (pm .table img r c by) (pn .table img r c by))
+      go (same-numbered (requestLines img r h msg reply) (o .answer) (p .answer) (omega arith) (pm .table img r c by) (pn .table img r c by))
     where
       c : Call
       c = request h msg reply
@@ -243,7 +240,7 @@ module _ {m n : Machine} (pm : Calls m) (pn : Calls n) (img : List ℕ) (by : By
 
   request-busy : (r q : Record) (h : Host) (msg reply : List ℕ) → answerOf r ≡ More → answerOf q ≡ More → Alike m n img r q
       → Agree m n (m img r (request h msg reply)) (n img q (request h msg reply))
-  request-busy r q h msg reply a b v = go (same-lines (busyLines h) (m img r c .answer) (n img q c .answer) mine its)
+  request-busy r q h msg reply a b v = go (same-numbered (busyLines h) (m img r c .answer) (n img q c .answer) (omega arith) mine its)
     where
       c : Call
       c = request h msg reply
@@ -282,7 +279,9 @@ module _ {m n : Machine} (pm : Calls m) (pn : Calls n) (img : List ℕ) (by : By
       agree-by e f (agree-whole (answerOf (o .board)) (answerOf (p .board)) img (o .board) (p .board) [] noStretch (alike-answer v) by v)
 
   pub mount-agrees : (r q : Record) → Agree m n (m img r mount) (n img q mount)
-  mount-agrees r q = go (same-lines (mountLines img) (m img r mount .answer) (n img q mount .answer) (pm .table img r mount by) (pn .table img q mount by))
+  mount-agrees r q =
+      go (same-mounts img by (m img r mount .answer) (n img q mount .answer) (pm .table img r mount by, λ k e. pm .names img r k e by)
+      (pn .table img q mount by, λ k e. pn .names img q k e by))
     where
       go : Both (m img r mount .answer) (n img q mount .answer) → Agree m n (m img r mount) (n img q mount)
       go (both-refused w e f) =
@@ -299,7 +298,8 @@ module _ {m n : Machine} (pm : Calls m) (pn : Calls n) (img : List ℕ) (by : By
 
   pub format-agrees : (r q : Record) → Agree m n (m img r format) (n img q format)
   format-agrees r q =
-      go (same-lines (linesOf img r format) (m img r format .answer) (n img q format .answer) (pm .table img r format by) (pn .table img q format by))
+      go (same-numbered (linesOf img r format) (m img r format .answer) (n img q format .answer) (omega arith) (pm .table img r format by)
+      (pn .table img q format by))
     where
       go : Both (m img r format .answer) (n img q format .answer) → Agree m n (m img r format) (n img q format)
       go (both-refused w e f) =
@@ -365,7 +365,7 @@ module _ {m n : Machine} (pm : Calls m) (pn : Calls n) where
       go Unmounted e = rested (subst Rests (sym e) tt)
       go Idle e = rested (subst Rests (sym e) tt)
       go (Busy s) e =
-          busy s e (same-lines (requestLines img r h msg reply) (m img r (request h msg reply) .answer) (n img r (request h msg reply) .answer)
+          busy s e (same-numbered (requestLines img r h msg reply) (m img r (request h msg reply) .answer) (n img r (request h msg reply) .answer) (omega arith)
           (pm .table img r (request h msg reply) by) (pn .table img r (request h msg reply) by))
 
 pub promise-determines : PromiseDetermines

@@ -131,7 +131,7 @@ says-over img r q b u step o p e f y = λ n g. y n (sym (ap (λ (s : Shown). s .
 says-over img r q b u mount o p e f y =
     let a : o .answer ≡ p .answer = ap (λ (s : Shown). s .answer) e in
     record {
-      never-foreign = λ g. y .never-foreign (sym a ∙ g);
+      never-foreign = λ k f g. y .never-foreign k f (sym a ∙ g);
       never-length = λ g. y .never-length (sym a ∙ g);
       no-store = λ g. y .no-store (sym a ∙ g);
       worn = λ g. y .worn (sym a ∙ g);

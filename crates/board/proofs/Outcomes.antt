@@ -29,8 +29,8 @@ use Rattle.board.specs.declared.Record.{Record}
 use Rattle.board.specs.Record.{allowed, unmounted, rest, idle, inStage, out, refuse}
 use Rattle.board.specs.Step.{enter, enterAppend, landed, enterDrop, loaded, enterCopy, enterOpen, enterWipe, begin, action}
 use Rattle.board.specs.Step.{nextIndex, nextByte, pastFrame, advance, stepped, stepBusy, stepIn, stepOn}
-use Rattle.board.specs.Mount.{allFound, anyForeign, Found, Store, stores, equalTimes, newest, wipeList, needsTransfer, mountJob}
-use Rattle.board.specs.Mount.{mountAt, mountStores, mountFound, mountOn, formatJob, formatOn}
+use Rattle.board.specs.Mount.{allFound, Found, Store, stores, equalTimes, newest, wipeList, needsTransfer, mountJob}
+use Rattle.board.specs.Mount.{noneValid, lowestTied, tiedTimes, mountAt, mountStores, mountFound, mountOn, formatJob, formatOn}
 use Rattle.board.specs.Queue.{Held, held, needsRoom, appendJob, append, serveChange, serveEnd, placeOf, serveLog, serve}
 use Rattle.board.specs.Queue.{serveParsed, serveHeld, requestIn, requestOn}
 use Rattle.board.specs.Demand1.{Rests}
@@ -158,14 +158,11 @@ module _ (img : List ℕ) (a : allowed (length img) ≡ true) where
   unfolding mountOn mountFound
   mount-stores = rw (a, mountOn)
 
-  pub mount-foreign : stores (allFound img) ≡ [] → anyForeign (allFound img) ≡ true → mountOn img ≡ refuse refusal.Foreign img unmounted []
-  mount-foreign e t = mount-stores ∙ ap (mountStores img (allFound img)) e ∙ rw t
-
-  pub mount-none : stores (allFound img) ≡ [] → anyForeign (allFound img) ≡ false → mountOn img ≡ refuse refusal.NoStore img unmounted []
-  mount-none e t = mount-stores ∙ ap (mountStores img (allFound img)) e ∙ rw t
+  pub mount-none : stores (allFound img) ≡ [] → mountOn img ≡ refuse (noneValid (allFound img)) img unmounted []
+  mount-none e = mount-stores ∙ ap (mountStores img (allFound img)) e
 
   pub mount-equal : (y : Store) (ys : List Store) → stores (allFound img) ≡ y ∷ ys → equalTimes (y ∷ ys) ≡ true
-      → mountOn img ≡ refuse refusal.Foreign img unmounted []
+      → mountOn img ≡ refuse (tiedTimes (lowestTied (y ∷ ys))) img unmounted []
   mount-equal y ys e t = mount-stores ∙ ap (mountStores img (allFound img)) e ∙ rw t
 
   pub mount-at : (y : Store) (ys : List Store) → stores (allFound img) ≡ y ∷ ys → equalTimes (y ∷ ys) ≡ false

@@ -57,7 +57,7 @@ use Rattle.wire.proofs.Sentences.{messages-exact}
 use Rattle.board.proofs.Freshness.{fresh-exact}
 use Rattle.board.proofs.Sentences.{stretch-exact}
 use Rattle.board.proofs.Tabling.{request-lines, step-lines, format-lines, same-request, same-held}
-use Rattle.board.proofs.TablingMounts.{mount-lines, same-store, mounts-current}
+use Rattle.board.proofs.TablingMounts.{mount-lines, same-store, mounts-current, mount-names}
 use Rattle.board.proofs.Answering.{whole}
 use Rattle.board.proofs.Telling.{told, silent}
 
@@ -257,6 +257,7 @@ pub calls : Calls exec
 calls =
     record {
       table = by-lines;
+      names = λ img r k e by. mount-names img by k e;
       untouched = refusals-untouched;
       told = told;
       rests = step-resting;

@@ -10,12 +10,12 @@ use lib.Dec.{eqb, ltb, leb}
 use lib.ListN.{length}
 use borrow.Author.Tests.{leb-true, leb-false, lt-ltb, le-ltb}
 use Rattle.flash.specs.Flash.{apply, sizeOf, within}
-use Rattle.flash.proofs.Cases.{on-test, or-left}
+use Rattle.flash.proofs.Cases.{on-test, or-left, or-no-left, or-no-right}
 use Rattle.frame.specs.declared.Host.{Host}
 use Rattle.frame.specs.declared.ObjectId.{ObjectId}
 use Rattle.frame.specs.Frame.{hostMax, Change, put, delete, Frame, change, commit, abort}
 use Rattle.journal.specs.Replay.{replay, lookup, isOpen}
-use Rattle.journal.specs.Block.{lastTime}
+use Rattle.journal.specs.Block.{lastTime, BlockState, blank, inProgress, valid, foreign}
 use Rattle.journal.specs.Room.{noRoom}
 use Rattle.wire.specs.declared.Answer.{Answer}
 use Rattle.wire.specs.declared.Answer.the-variants.{Refused}
@@ -33,12 +33,12 @@ use Rattle.board.specs.declared.Record.{Record}
 use Rattle.board.specs.Record.{allowed, unmounted, Out, refuse, answerIn}
 use Rattle.board.specs.Step.{enterWipe, action, advance, stepOn}
 use Rattle.board.specs.Mount.{allFound, anyForeign, Found, Store, stores, equalTimes, newest, wipeList, needsTransfer, mountJob}
-use Rattle.board.specs.Mount.{mountAt, mountStores, mountOn, formatJob, formatOn}
+use Rattle.board.specs.Mount.{isForeign, orForeign, noneValid, mountAt, mountStores, mountOn, formatJob, formatOn}
 use Rattle.board.specs.Queue.{Held, held, needsRoom, appendJob, append, serveChange, serveEnd, serve, serveParsed, serveHeld, requestIn, requestOn}
 use Rattle.board.specs.Exec.{Call, request, step, mount, format, exec}
 use Rattle.board.specs.Table.{isBusy, isNone, frameIf}
 use Rattle.board.specs.Demand1.{Unchanged, OneStep, ImageAfter, Rests}
-use Rattle.board.proofs.Checks.{Check, check, firstOf, isUnmounted, isMalformed, worn, heldChecks, laterChecks, requestChecks}
+use Rattle.board.proofs.Checks.{Check, check, firstOf, isUnmounted, isMalformed, worn, heldChecks, laterChecks, requestChecks, unclear}
 use Rattle.board.proofs.Checks.{outside, noStore, wornStore, mountChecks, checks, refusalIn}
 use Rattle.board.proofs.Outcomes.{append-worn, append-begins, change-refused, change-goes, end-goes, end-idle, log-short, log-done}
 use Rattle.board.proofs.Outcomes.{serve-put, serve-delete, serve-commit, serve-abort, serve-log, read-none, read-some}
@@ -183,15 +183,26 @@ at-made img xs x =
     (λ e. stops refl e (mount-worn img xs x e))
     (λ e. over (mount-begins img xs x e) (passes e (accepted (begin-accepts (enterWipe (mountJob img x (wipeList (x .number) xs)) .phase)) refl)))
 
+none-foreign : (xs : List Found) → anyForeign xs ≡ false → noneValid xs ≡ refusal.NoStore
+none-foreign [] e = refl
+none-foreign (x ∷ xs) e =
+    go (x .state) (or-no-left (isForeign (x .state)) (anyForeign xs) e) (none-foreign xs (or-no-right (isForeign (x .state)) (anyForeign xs) e))
+  where
+    go : (a : BlockState) → isForeign a ≡ false → noneValid xs ≡ refusal.NoStore → orForeign (x .number) a (noneValid xs) ≡ refusal.NoStore
+    go blank f y = y
+    go inProgress f y = y
+    go (valid t fs c) f y = y
+    go (foreign w) f y = let z : _≡_ {A = ℕ} 0 1 = cc in absurd (omega arith)
+
 stores-made : (img : List ℕ) (xs : List Found) (ys : List Store)
     → Made img
-    (check refusal.NoStore (noStore ys && not (anyForeign xs)) ∷ check refusal.Foreign ((noStore ys && anyForeign xs) || equalTimes ys)
+    (check refusal.NoStore (noStore ys && not (anyForeign xs)) ∷ check (unclear xs ys) ((noStore ys && anyForeign xs) || equalTimes ys)
     ∷ check refusal.Worn (wornStore ys) ∷ [])
     (mountStores img xs ys)
 stores-made img xs [] =
     on-test (anyForeign xs)
-    (λ e. passes (ap not e) (stops refl (or-left (anyForeign xs) false e) (rw e)))
-    (λ e. stops refl (ap not e) (rw e))
+    (λ e. passes (ap not e) (stops refl (or-left (anyForeign xs) false e) refl))
+    (λ e. stops refl (ap not e) (ap (λ (w : Refusal). refuse w img unmounted []) (none-foreign xs e)))
 stores-made img xs (y ∷ ys) =
     passes refl
     (on-test (equalTimes (y ∷ ys)) (λ e. stops refl e (rw e)) (λ e. passes e (over (rw e) (at-made img xs (newest y ys)))))

@@ -11,7 +11,8 @@ use Rattle.flash.specs.Raised.{Raised}
 use Rattle.flash.proofs.Blank.{bytes-replicate}
 use Rattle.flash.proofs.Raising.{raises-raised}
 use Rattle.frame.specs.Frame.{hostOf, idOf, put, change, encodeAll, total}
-use Rattle.frame.specs.Reader.{match, readFrame, scan}
+use Rattle.frame.specs.declared.Field.the-variants as field
+use Rattle.frame.specs.Reader.{match, readFrame, scan, fault}
 use Rattle.journal.specs.Replay.{insert, remove, lookup, changeAll, listOf, without, isOpen, replayFrom}
 use Rattle.journal.specs.Block.{headerFault, blockState}
 use Rattle.journal.specs.Room.{noRoom}
@@ -22,7 +23,7 @@ use Rattle.wire.specs.Message.{parse}
 use Rattle.board.specs.declared.Record.{Record}
 use Rattle.board.specs.Record.{unmounted, Out, out, rest, idle, noPlaces, noFrame}
 use Rattle.board.specs.Step.{enterAppend, enterDrop, enterCopy, enterOpen, enterWipe, advance, stepBusy, stepOn}
-use Rattle.board.specs.Mount.{mountAt, mountFound, mountOn, formatOrder, formatOn}
+use Rattle.board.specs.Mount.{mountAt, mountFound, mountOn, formatOrder, formatOn, tiedTimes}
 use Rattle.board.specs.Queue.{held, append, serveChange, serveEnd, serveLog, serve, requestOn}
 use Rattle.board.specs.Exec.{step, mount, Machine}
 use Rattle.board.specs.Book.{Book, nothing, firstBook, join, enterCall}
@@ -75,7 +76,7 @@ record Computed : Type 0 where
   erased-is : afterAll m (holding .image) (holding .board) (holding .book) (call mount ∷ stepping 11) .image ≡ eraseBlock 384 0 copied
   in-drop : InJob (ready .board .phase)
   nothing-under : ready .book .under ≡ nothing
-  refused : m (withBlock (sizeOf copied) 0 fading copied) unmounted mount .answer ≡ Refused refusal.Foreign
+  refused : m (withBlock (sizeOf copied) 0 fading copied) unmounted mount .answer ≡ Refused (tiedTimes 0)
 
 computed : Computed
 unfolding refusesHalfErased allFF sameBytes applyAll writes encodeAll total match readFrame scan insert
@@ -141,4 +142,5 @@ claim-sees p =
     let y = run-rest m (empty .image) (empty .board) firstBook false putting (mounting ++ after) run in
     let z = run-rest m (holding .image) (holding .board) (holding .book) (y .0) mounting after
     (subst (λ (l : Left). Run m (l .image) (l .board) (l .book) (y .0) (mounting ++ after)) (computed .holding-is) (y .1)) in
-    z .1 .0 .never-foreign (ap (λ (i : List ℕ). m (withBlock (sizeOf i) 0 fading i) unmounted mount .answer) (computed .copied-is) ∙ computed .refused)
+    z .1 .0 .never-foreign 0 (fault field.Created 4)
+    (ap (λ (i : List ℕ). m (withBlock (sizeOf i) 0 fading i) unmounted mount .answer) (computed .copied-is) ∙ computed .refused)

@@ -22,8 +22,8 @@ use Rattle.board.specs.Wrong.{Wrongly, onBench, offBench, byAnswer, onIm
 use Rattle.board.specs.Wrong.{refusesAll, refusesPuts, refusesHighIds, ownFormatsOnly, firstHalfOnly, hostFirst, refusalClears}
 use Rattle.board.specs.Wrong.{refusedLogWrites, readsAlike, inventsCount, neverCommits, abortsNothing, takesOthers, keepsOld}
 use Rattle.board.specs.Wrong.{programsNothing, wholeFrame, inventsStep, erasesFirst, outsideIsDone, forgedWaits, hurriedMount}
-use Rattle.board.specs.Wrong.{losesAll, keepsPending, refusesAlike, overlooksForeign, refusesHalfErased, takesHalfErased}
-use Rattle.board.specs.Wrong.{formatsAtOnce, formatsBlindly}
+use Rattle.board.specs.Wrong.{losesAll, keepsPending, refusesAlike, overlooksForeign, namesSecond, tiesAtStart, refusesHalfErased}
+use Rattle.board.specs.Wrong.{takesHalfErased, formatsAtOnce, formatsBlindly}
 use Rattle.board.specs.WrongRows.{RightInRows}
 use Rattle.board.proofs.Refusals.{at-most-one-step}
 use Rattle.board.proofs.Bench.{rows}
@@ -231,7 +231,7 @@ formats-blindly img r o =
 pub right-in-rows : RightInRows
 unfolding refusesAll refusesPuts refusesHighIds ownFormatsOnly firstHalfOnly hostFirst refusalClears refusedLogWrites readsAlike
     inventsCount neverCommits abortsNothing takesOthers keepsOld programsNothing wholeFrame inventsStep erasesFirst outsideIsDone
-    forgedWaits hurriedMount losesAll keepsPending refusesAlike overlooksForeign refusesHalfErased takesHalfErased
+    forgedWaits hurriedMount losesAll keepsPending refusesAlike overlooksForeign namesSecond tiesAtStart refusesHalfErased takesHalfErased
 right-in-rows =
     record {
       refuses-all = rows-kept refusesAll (λ img r o. refl);
@@ -259,6 +259,8 @@ right-in-rows =
       keeps-pending = rows-kept keepsPending (λ img r o. refl);
       refuses-alike = rows-kept refusesAlike (λ img r o. refl);
       overlooks-foreign = rows-kept overlooksForeign (λ img r o. refl);
+      names-second = rows-kept namesSecond (λ img r o. refl);
+      ties-at-start = rows-kept tiesAtStart (λ img r o. refl);
       refuses-half-erased = rows-kept refusesHalfErased (λ img r o. refl);
       takes-half-erased = rows-kept takesHalfErased (λ img r o. refl);
       formats-at-once = rows-kept formatsAtOnce formats-at-once;

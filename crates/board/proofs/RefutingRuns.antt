@@ -16,18 +16,20 @@ use Rattle.board.specs.Queue.{held, append, serveChange, serveEnd, serve
 use Rattle.board.specs.Wrong.{refusesAll, refusesPuts, refusesHighIds, ownFormatsOnly, firstHalfOnly, hostFirst, refusalClears}
 use Rattle.board.specs.Wrong.{refusedLogWrites, readsAlike, inventsCount, neverCommits, abortsNothing, takesOthers, keepsOld}
 use Rattle.board.specs.Wrong.{programsNothing, wholeFrame, inventsStep, erasesFirst, hurriedMount, losesAll, keepsPending}
-use Rattle.board.specs.Wrong.{refusesAlike, overlooksForeign, refusesHalfErased, takesHalfErased, formatsAtOnce, formatsBlindly}
-use Rattle.board.specs.WrongRuns.{half, blankHalf, stored, pending, later, second, begun, twice, strange, halfErased, seemsEmpty, Runs}
+use Rattle.board.specs.Wrong.{refusesAlike, overlooksForeign, namesSecond, tiesAtStart, refusesHalfErased, takesHalfErased, formatsAtOnce}
+use Rattle.board.specs.Wrong.{formatsBlindly}
+use Rattle.board.specs.WrongRuns.{half, blankHalf, stored, pending, later, second, begun, twice, tiedHalves, bothStrange, strange}
+use Rattle.board.specs.WrongRuns.{halfErased, seemsEmpty, Runs}
 
 pub runs : Runs
 unfolding refusesAll refusesPuts refusesHighIds ownFormatsOnly firstHalfOnly hostFirst refusalClears refusedLogWrites readsAlike
     inventsCount neverCommits abortsNothing takesOthers keepsOld programsNothing wholeFrame inventsStep erasesFirst hurriedMount losesAll
-    keepsPending refusesAlike overlooksForeign refusesHalfErased takesHalfErased formatsAtOnce formatsBlindly
+    keepsPending refusesAlike overlooksForeign namesSecond tiesAtStart refusesHalfErased takesHalfErased formatsAtOnce formatsBlindly
     allFF sameBytes applyAll writes encodeAll total match readFrame scan insert
     remove lookup changeAll listOf without isOpen replayFrom headerFault blockState noRoom sited placesFrom sinceFrom valueAt nextSettled
     nextPending nextLoad parse noPlaces noFrame enterAppend enterDrop enterCopy enterOpen enterWipe advance stepBusy stepOn mountAt
     mountFound mountOn formatOrder formatOn held append serveChange serveEnd serveLog serve requestOn half blankHalf stored pending later second begun
-    twice strange halfErased seemsEmpty
+    twice tiedHalves bothStrange strange halfErased seemsEmpty
 runs =
     record {
       refuses-all = record { is-run = refl; shows-wrong = refl; shows-right = refl; apart = refl };
@@ -53,6 +55,8 @@ runs =
       keeps-pending = record { is-run = refl; shows-wrong = refl; shows-right = refl; apart = refl };
       refuses-alike = record { is-run = refl; shows-wrong = refl; shows-right = refl; apart = refl };
       overlooks-foreign = record { is-run = refl; shows-wrong = refl; shows-right = refl; apart = refl };
+      names-second = record { is-run = refl; shows-wrong = refl; shows-right = refl; apart = refl };
+      ties-at-start = record { is-run = refl; shows-wrong = refl; shows-right = refl; apart = refl };
       refuses-half-erased = record { is-run = refl; shows-wrong = refl; shows-right = refl; apart = refl };
       takes-half-erased = record { is-run = refl; shows-wrong = refl; shows-right = refl; apart = refl };
       formats-at-once = record { is-run = refl; shows-wrong = refl; shows-right = refl; apart = refl };

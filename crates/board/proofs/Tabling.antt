@@ -104,6 +104,9 @@ pub is-allowed : (n : ℕ) → Allowed n → allowed n ≡ true
 is-allowed n (a, b, c) =
     and-both (leb 512 n && leb n 65536) (eqb (n % 256) 0) (and-both (leb 512 n) (leb n 65536) (le-leb 512 n a) (le-leb n 65536 b)) (eq-eqb (n % 256) 0 c)
 
+pub allowed-not : (n : ℕ) → ((Allowed n → ⊥) → ⊥) → allowed n ≡ true
+allowed-not n f = on-test (allowed n) (λ t. t) (λ t. absurd (f (λ y. clash (allowed n) (is-allowed n y) t)))
+
 not-yes : (b : Bool) → not b ≡ true → b ≡ true → ⊥
 not-yes true e f = false-true e
 not-yes false e f = false-true f

@@ -1,8 +1,8 @@
 -- A mount is refused exactly as the table's lines say; the states of halves in words.
-use mathlib.Core.Path.{_≡_, refl, sym, ap, ap₂, subst, _∙_}
+use mathlib.Core.Path.{_≡_, refl, sym, ap, ap₂, subst, _∙_, subst₂}
 use mathlib.Core.List.{List, [], _∷_}
 use mathlib.Core.Logic.{inl, inr}
-use mathlib.Core.Option.{some}
+use mathlib.Core.Option.{some, Option}
 use mathlib.Core.Bool.{true, false}
 use Prim.Native.Nat.{ℕ, _≤_, _<_}
 use native.Mathlib.Omega.{arith}
@@ -11,15 +11,18 @@ use lib.ListN.{length}
 use borrow.Author.Tests.{eqb-true, eqb-false}
 use Rattle.flash.specs.Bytes.{Bytes}
 use Rattle.flash.specs.Flash.{blocks, block, sizeOf}
-use Rattle.flash.proofs.Cases.{on-test, clash}
+use Rattle.flash.proofs.Cases.{on-test, on-order, clash}
 use Rattle.flash.proofs.Image.{bytes-block}
 use Rattle.frame.specs.declared.Fault.{Fault}
 use Rattle.frame.specs.Frame.{Frame}
-use Rattle.frame.specs.Reader.{Tail, clean, cut, bad}
+use Rattle.frame.specs.Reader.{Tail, clean, cut, bad, fault}
 use Rattle.journal.specs.Replay.{Entry, replay}
 use Rattle.journal.specs.Block.{valid, foreign, blockState, lastTime, headerLen}
 use Rattle.journal.proofs.Sentences.{states-exact}
 use Rattle.wire.specs.declared.Refusal.{Refusal}
+use Rattle.wire.specs.declared.Refusal.the-variants as refusal
+use Rattle.wire.specs.declared.Answer.the-variants.{Refused}
+use Rattle.frame.specs.declared.Field.the-variants as field
 use Rattle.wire.specs.Answer.{numberOf, refusalNumber}
 use Rattle.board.specs.declared.Phase.{Phase}
 use Rattle.board.specs.declared.Phase.the-variants.{Unmounted, Idle, Busy}
@@ -28,7 +31,8 @@ use Rattle.board.specs.Record.{allowed, unmounted, Out, refuse, answerIn
 use Rattle.board.specs.Step.{enterWipe}
 use Rattle.board.specs.Mount.{Store, needsTransfer, anyPending, allFound, wipeList, mountJob, mountOn}
 use Rattle.board.specs.Demand2.{Accepted, Mounts}
-use Rattle.board.specs.Table.{line, Exactly, ValidAt, ForeignAt, NothingThere, Unclear, foreign-half, equal-times, Unsettled, MountWorn, mountLines}
+use Rattle.board.specs.Table.{line, Exactly, ValidAt, ForeignAt, NothingThere, Unclear, foreign-half, equal-times, TiedAt, tied-with}
+use Rattle.board.specs.Table.{Unsettled, MountWorn, mountLines, Names, names-foreign, names-equal}
 use Rattle.board.specs.Promise.{Machine, Current}
 use Rattle.board.proofs.Images.{Sized, sized-of}
 use Rattle.board.proofs.Invariant.{Quiet}
@@ -39,7 +43,15 @@ use Rattle.board.proofs.Erasing.{SameValid, same-valid}
 use Rattle.board.proofs.Deciding as deciding
 use Rattle.board.proofs.Deciding.{Taken, Decided, Outcome, InTime, worn-out, begins, foreign-block, none-valid, at-store}
 use Rattle.board.proofs.Deciding.{mount-decides, mount-outcome, mount-accepted, taken-holds, taken-newest}
-use Rattle.board.proofs.Tabling.{false-true, allowed-is, is-allowed}
+use Rattle.board.proofs.Tabling.{false-true, allowed-is, is-allowed, allowed-not}
+use Rattle.journal.specs.Faults.{FaultIn}
+use Rattle.wire.specs.declared.Answer.{Answer}
+use Rattle.board.proofs.Answering.{SameNamed, Both, same-lines}
+
+begun : (p : Phase) → Accepted (answerIn p)
+begun Unmounted = tt
+begun Idle = tt
+begun (Busy g) = tt
 
 -- ---- a transfer is due
 
@@ -101,7 +113,7 @@ module _ (img : List ℕ) (by : Bytes img) (ok : allowed (length img) ≡ true) 
 
     clear : Unclear img → ⊥
     clear (foreign-half k f n) = n (x .number) (x .time) (x .frames) (x .tail) (valid-at (y .there) (y .is-valid))
-    clear (equal-times j k t fs gs c d n a b) =
+    clear (equal-times k (tied-with j t fs gs c d n a b)) =
         on-test (eqb j (x .number))
         (λ p. let e : j ≡ x .number = eqb-true j (x .number) p in
         omega (arith, at-number a e .time, taken-newest z y k t gs d (b .0) (λ q. n (e ∙ sym q)) (at-valid b)))
@@ -128,11 +140,6 @@ module _ (img : List ℕ) (by : Bytes img) (ok : allowed (length img) ≡ true) 
     taken-lines : Outcome img x → Left
     taken-lines o = inr ((λ n. n .none-valid (x .number) (x .time) (x .frames) (x .tail) (valid-at (y .there) (y .is-valid))), inr (clear, last o))
       where
-        goes : (p : Phase) → Accepted (answerIn p)
-        goes Unmounted = tt
-        goes Idle = tt
-        goes (Busy g) = tt
-
         last : Outcome img x → Exactly (line 6 (MountWorn img) ∷ []) (mountOn img .answer)
         last (worn-out w e) =
             inl (
@@ -147,14 +154,14 @@ module _ (img : List ℕ) (by : Bytes img) (ok : allowed (length img) ≡ true) 
             )
         last (begins t e) =
             let g : Record = enterWipe (mountJob img x (wipeList (x .number) (allFound img))) in
-            inr (not-worn t, subst (λ (o : Out). Accepted (o .answer)) (sym e) (goes (g .phase)))
+            inr (not-worn t, subst (λ (o : Out). Accepted (o .answer)) (sym e) (begun (g .phase)))
 
   current-of : (x : Store) → Taken s img x → Current img x
   current-of x y =
       record { is-valid = valid-at (y .there) (y .is-valid); newest = λ k t fs c n v. taken-newest z y k t fs c (v .0) n (at-valid v) }
 
   decided-lines : Decided s img → Left
-  decided-lines (foreign-block j h e p o r) =
+  decided-lines (foreign-block j h e p o b r) =
       inr (
         (λ n. n .none-foreign j (foreign-at h p)),
         inl (foreign-half j (foreign-at h p) (λ k t fs c a. subst Unread (at-valid a) (o k (a .0))), answer r),
@@ -162,7 +169,7 @@ module _ (img : List ℕ) (by : Bytes img) (ok : allowed (length img) ≡ true) 
   decided-lines (deciding.equal-times t fs gs c d p q r) =
       let a : ValidAt img 0 t fs c = valid-at (omega arith) p in
       let b : ValidAt img 1 t gs d = valid-at (omega arith) q in
-      inr ((λ n. n .none-valid 0 t fs c a), inl (equal-times 0 1 t fs gs c d (λ e. omega arith) a b, answer r))
+      inr ((λ n. n .none-valid 0 t fs c a), inl (equal-times 1 (tied-with 0 t fs gs c d (λ e. omega arith) a b), answer r))
   decided-lines (none-valid n r) =
       inl (
         record {
@@ -221,3 +228,78 @@ mount-lines img by =
     on-test (allowed (length img))
     (λ ok. inr ((λ n. n (allowed-is (length img) ok)), decided-lines img by ok (mount-decides (sized-of img ok))))
     (λ no. inl ((λ y. clash (allowed (length img)) (is-allowed (length img) y) no), ap (λ (o : Out). numberOf (o .answer)) (mount-length img no)))
+
+-- ---- what 3 names
+
+fault-at : (img : List ℕ) → Bytes img → allowed (length img) ≡ true → (k : ℕ) (e : Fault) → k < blocks → blockState (block (sizeOf img) k img) ≡ foreign e
+    → ForeignAt img k × FaultIn (block (sizeOf img) k img) e
+fault-at img by ok k e h p =
+    let w = states-exact .is-foreign-at (block (sizeOf img) k img) e (bytes-block (sizeOf img) k img by) (long img by ok k h) .0 p in ((h, w .0), w .1)
+
+pub mount-names : (img : List ℕ) → Bytes img → (k : ℕ) (e : Fault) → mountOn img .answer ≡ Refused (refusal.Foreign k e) → Names img k e
+mount-names img by k e q =
+    on-test (allowed (length img))
+    (λ ok. go ok (mount-decides (sized-of img ok)))
+    (λ no. let r : Refused refusal.ImageLength ≡ Refused (refusal.Foreign k e) = sym (ap (λ (o : Out). o .answer) (mount-length img no)) ∙ q in
+    let w : _≡_ {A = ℕ} 0 1 = cc in absurd (omega arith))
+  where
+    told : {n : Refusal} → mountOn img ≡ refuse n img unmounted [] → Refused n ≡ Refused (refusal.Foreign k e)
+    told r = sym (ap (λ (o : Out). o .answer) r) ∙ q
+
+    go : allowed (length img) ≡ true → Decided (sizeOf img) img → Names img k e
+    go ok (foreign-block j h f p o b r) =
+        let t = told r in
+        let jk : j ≡ k = cc in
+        let fe : f ≡ e = cc in
+        let w = fault-at img by ok j f h p in
+        subst₂ (Names img) jk fe
+        (names-foreign (λ i t fs c a. subst Unread (at-valid img by ok a) (o i (a .0))) (w .0) (w .1)
+        (λ i l y. let z = at-foreign img by ok y in subst Quiet (z .1) (b i l)))
+    go ok (deciding.equal-times t fs gs c d p u r) =
+        let w = told r in
+        let zk : 0 ≡ k = cc in
+        let fe : fault field.Created 4 ≡ e = cc in
+        subst₂ (Names img) zk fe
+        (names-equal (tied-with 1 t gs fs d c (λ n. omega arith) (valid-at img by ok (omega arith) u) (valid-at img by ok (omega arith) p)) refl
+        (λ j l y. absurd (omega arith)))
+    go ok (none-valid n r) = let t = told r in let w : _≡_ {A = ℕ} 0 1 = cc in absurd (omega arith)
+    go ok (at-store x y) = out (mount-outcome x (sized-of img ok) y (taken-holds x (sized-of img ok) by y))
+      where
+        out : Outcome img x → Names img k e
+        out (worn-out w r) = let t = told r in let w : _≡_ {A = ℕ} 0 1 = cc in absurd (omega arith)
+        out (begins t r) =
+            let g : Record = enterWipe (mountJob img x (wipeList (x .number) (allFound img))) in
+            absurd (subst Accepted q (subst (λ (o : Out). Accepted (o .answer)) (sym r) (begun (g .phase))))
+
+lowest-one : {P : ℕ → Type 0} (k j : ℕ) → P k → P j → ((i : ℕ) → i < k → P i → ⊥) → ((i : ℕ) → i < j → P i → ⊥) → k ≡ j
+lowest-one k j a b m n =
+    on-order k j (λ _ l. absurd (n k l a)) (λ _ e. e) (λ _ l. absurd (m j l b))
+
+names-one : (img : List ℕ) → Bytes img → allowed (length img) ≡ true → (k j : ℕ) (e f : Fault) → Names img k e → Names img j f → (k ≡ j) × (e ≡ f)
+names-one img by ok k j e f (names-foreign n a b c) (names-foreign n′ a′ b′ c′) =
+    let same : k ≡ j = lowest-one {P = ForeignAt img} k j a a′ c c′ in
+    let p = at-fault k e a b in
+    let q = at-fault j f a′ b′ in
+    let r : foreign e ≡ foreign f = sym p ∙ ap (λ (n : ℕ). blockState (block (sizeOf img) n img)) same ∙ q in
+    (same, cc)
+  where
+    at-fault : (n : ℕ) (g : Fault) → ForeignAt img n → FaultIn (block (sizeOf img) n img) g → blockState (block (sizeOf img) n img) ≡ foreign g
+    at-fault n g (h, y) z = states-exact .is-foreign-at (block (sizeOf img) n img) g (bytes-block (sizeOf img) n img by) (long img by ok n h) .1 (y, z)
+names-one img by ok k j e f (names-foreign n a b c) (names-equal (tied-with i t fs gs u v d x y) q m) = absurd (n i t fs u x)
+names-one img by ok k j e f (names-equal (tied-with i t fs gs u v d x y) q m) (names-foreign n a b c) = absurd (n i t fs u x)
+names-one img by ok k j e f (names-equal x q m) (names-equal x′ q′ m′) = (lowest-one {P = TiedAt img} k j x x′ m m′, q ∙ sym q′)
+
+-- what a mount may answer: by the table, and naming what 3 names
+abbrev pub MountTold : List ℕ → Answer → Type 0
+MountTold img a = Exactly (mountLines img) a × ((k : ℕ) (e : Fault) → a ≡ Refused (refusal.Foreign k e) → Names img k e)
+
+pub mount-told : (img : List ℕ) → Bytes img → MountTold img (mountOn img .answer)
+mount-told img by = (mount-lines img by, mount-names img by)
+
+same-named : (img : List ℕ) → Bytes img → (a b : Answer) → MountTold img a → MountTold img b → SameNamed a b
+same-named img by a b (inl (p, x), n) (y, m) k j e f s t =
+    let w : _≡_ {A = Option ℕ} (some 3) (some 4) = sym (ap numberOf s) ∙ x in let z : _≡_ {A = ℕ} 3 4 = cc in absurd (omega arith)
+same-named img by a b (inr (p, x), n) (y, m) k j e f s t = names-one img by (allowed-not (length img) p) k j e f (n k e s) (m j f t)
+
+pub same-mounts : (img : List ℕ) → Bytes img → (a b : Answer) → MountTold img a → MountTold img b → Both a b
+same-mounts img by a b x y = same-lines (mountLines img) a b (same-named img by a b x y) (x .0) (y .0)

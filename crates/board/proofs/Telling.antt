@@ -25,15 +25,15 @@ use Rattle.board.specs.declared.Record.{Record}
 use Rattle.board.specs.Record.{allowed, restOf, idle, inStage, noStretch, Out, out, refuse, answerIn, answerOf}
 use Rattle.board.specs.Step.{enter, landed, loadOr, enterAppend, enterDrop, enterCopy, enterOpen, enterWipe, action, nextIndex}
 use Rattle.board.specs.Step.{nextByte, pastFrame, advance, stepOn}
-use Rattle.board.specs.Mount.{allFound, anyForeign, Store, stores, equalTimes, newest, needsTransfer, wipeList, mountJob, mountAt}
-use Rattle.board.specs.Mount.{mountOn, formatJob, formatOn}
+use Rattle.board.specs.Mount.{allFound, Store, stores, equalTimes, newest, needsTransfer, wipeList, mountJob}
+use Rattle.board.specs.Mount.{noneValid, lowestTied, tiedTimes, mountAt, mountOn, formatJob, formatOn}
 use Rattle.board.specs.Queue.{requestOn}
 use Rattle.board.specs.Exec.{Call, request, step, mount, format, exec}
 use Rattle.board.specs.Demand1.{Rests}
 use Rattle.board.specs.Demand2.{Accepted}
 use Rattle.board.specs.Table.{InJob}
 use Rattle.board.specs.Promise.{NoStep, Tells, Silent}
-use Rattle.board.proofs.Outcomes.{request-length, request-host, request-busy, request-unmounted, mount-length, mount-foreign}
+use Rattle.board.proofs.Outcomes.{request-length, request-host, request-busy, request-unmounted, mount-length}
 use Rattle.board.proofs.Outcomes.{mount-none, mount-equal, mount-at, mount-worn, mount-begins, format-length, format-begins}
 use Rattle.board.proofs.Outcomes.{step-resting, step-outside, step-goes}
 use Rattle.board.proofs.Planning.{Met, refused, done, begun, request-met}
@@ -137,13 +137,10 @@ mount-plain img =
     (λ a. refused-plain refusal.ImageLength img _ (mount-length img a))
   where
     go : allowed (length img) ≡ true → (xs : List Store) → stores (allFound img) ≡ xs → Plain (mountOn img)
-    go a [] e =
-        on-test (anyForeign (allFound img))
-        (λ t. refused-plain refusal.Foreign img _ (mount-foreign img a e t))
-        (λ t. refused-plain refusal.NoStore img _ (mount-none img a e t))
+    go a [] e = refused-plain (noneValid (allFound img)) img _ (mount-none img a e)
     go a (y ∷ ys) e =
         on-test (equalTimes (y ∷ ys))
-        (λ q. refused-plain refusal.Foreign img _ (mount-equal img a y ys e q))
+        (λ q. refused-plain (tiedTimes (lowestTied (y ∷ ys))) img _ (mount-equal img a y ys e q))
         (λ q. subst Plain (sym (mount-at img a y ys e q)) (at-plain img (newest y ys)))
 
 format-plain : (img : List ℕ) → Plain (formatOn img)

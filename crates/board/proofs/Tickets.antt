@@ -47,7 +47,7 @@ use Rattle.wire.proofs.Sentences.{messages-exact}
 use Rattle.board.proofs.Erasing.{SameValid, same-valid}
 use Rattle.board.proofs.Images.{length-all-steps}
 use Rattle.board.proofs.Demand2.{one-store}
-use Rattle.board.proofs.Answering.{number-injective}
+use Rattle.board.proofs.Answering.{number-done}
 use Rattle.board.proofs.TablingMounts.{Mountable, mounts-current, same-store}
 use Rattle.board.proofs.Determining.{Asked, request-asks, mount-takes, mount-allowed, mount-agrees}
 use Rattle.board.proofs.Following.{left-by, job-idle, mounted-idle}
@@ -175,7 +175,7 @@ plan-book {m} p i o (x ∷ xs) z st e a b h k =
     n = length xs
 
     done : stepsOn m (suc n) o .answer ≡ Done
-    done = number-injective (stepsOn m (suc n) o .answer) Done (st .done)
+    done = number-done (stepsOn m (suc n) o .answer) (st .done)
 
 book-steps : {m : Machine} (p : Promise m) (i : List ℕ) → Bytes i → (w : Record) (h : Host) (msg reply : List ℕ) → Bytes msg
     → m i w (request h msg reply) .answer ≡ More → (b : Book) (k : ℕ) → BookSteps m (m i w (request h msg reply)) b h k

@@ -17,6 +17,7 @@ use Rattle.journal.specs.Block.{valid, blockState, lastTime}
 use Rattle.journal.specs.Room.{used, usedBy}
 use Rattle.wire.specs.declared.Answer.{Answer}
 use Rattle.wire.specs.declared.Answer.the-variants.{Done, More, Refused}
+use Rattle.frame.specs.declared.Fault.{Fault}
 use Rattle.wire.specs.declared.Refusal.{Refusal}
 use Rattle.wire.specs.declared.Refusal.the-variants as refusal
 use Rattle.wire.specs.declared.Request.the-variants.{Put, Delete, Commit, Abort, Read, Log}
@@ -102,7 +103,7 @@ pub record WornOut (img : List ℕ) : Type 0 where
 
 -- `unfinished`: a format was accepted and has since neither finished nor been followed by an accepted mount
 pub record MountSays (img : List ℕ) (unfinished : Bool) (o : Out) : Type 0 where
-  pub never-foreign : Never refusal.Foreign o
+  pub never-foreign : (k : ℕ) (e : Fault) → Never (refusal.Foreign k e) o
   pub never-length : Never refusal.ImageLength o
   pub no-store : o .answer ≡ Refused refusal.NoStore → unfinished ≡ true
   pub worn : o .answer ≡ Refused refusal.Worn → WornOut img

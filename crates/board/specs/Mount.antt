@@ -6,10 +6,12 @@ use lib.Dec.{eqb, ltb}
 use lib.ListN.{length, replicate}
 use Rattle.flash.specs.Flash.{blocks, blockNumbers, block, sizeOf}
 use Rattle.frame.specs.Frame.{Frame, total}
-use Rattle.frame.specs.Reader.{Tail, clean, cut, bad}
+use Rattle.frame.specs.Reader.{fault, Tail, clean, cut, bad}
+use Rattle.frame.specs.declared.Field.the-variants as field
 use Rattle.journal.specs.Replay.{Entry, replay}
-use Rattle.journal.specs.Block.{BlockState, blank, inProgress, valid, foreign, blockState, headerLen, lastTime}
+use Rattle.journal.specs.Block.{BlockState, blank, inProgress, valid, foreign, blockState, headerLen, timeAt, lastTime}
 use Rattle.journal.specs.Index.{placesOf}
+use Rattle.wire.specs.declared.Refusal.{Refusal}
 use Rattle.wire.specs.declared.Refusal.the-variants as refusal
 use Rattle.board.specs.declared.Record.{Record}
 use Rattle.board.specs.Record.{allowed, noPlaces, noMarks, rest, starting, unmounted, busy, Out, refuse}
@@ -134,11 +136,31 @@ mountAt img xs x =
     cond (needsTransfer (x .frames) (x .tail) && eqb (x .time) lastTime) (refuse refusal.Worn img unmounted [])
     (begin img [] (mountJob img x (wipeList (x .number) xs)))
 
--- 2: "for mount, no valid half and none foreign". K4: "Refusal 3 remains for two valid halves of equal time, and for no valid half with at
--- least one foreign."
+-- with no valid block, 3 "names the foreign half (0 first) and, within it, the fault and its place" (K5); 2: "no valid half and none foreign"
+abbrev pub orForeign : ℕ → BlockState → Refusal → Refusal
+orForeign k blank n = n
+orForeign k inProgress n = n
+orForeign k (valid t fs c) n = n
+orForeign k (foreign e) n = refusal.Foreign k e
+
+abbrev pub noneValid : List Found → Refusal
+noneValid [] = refusal.NoStore
+noneValid (x ∷ xs) = orForeign (x .number) (x .state) (noneValid xs)
+
+-- the lowest of the blocks whose times are equal: the first whose time a later one has
+abbrev pub lowestTied : List Store → ℕ
+lowestTied [] = 0
+lowestTied (x ∷ xs) = cond (sameTime (x .time) xs) (x .number) (lowestTied xs)
+
+-- K5: "equal times name half 0, place 4"
+abbrev pub tiedTimes : ℕ → Refusal
+tiedTimes k = refusal.Foreign k (fault field.Created timeAt)
+
+-- K4: "Refusal 3 remains for two valid halves of equal time, and for no valid half with at least one foreign."
 abbrev pub mountStores : List ℕ → List Found → List Store → Out
-mountStores img xs [] = cond (anyForeign xs) (refuse refusal.Foreign img unmounted []) (refuse refusal.NoStore img unmounted [])
-mountStores img xs (y ∷ ys) = cond (equalTimes (y ∷ ys)) (refuse refusal.Foreign img unmounted []) (mountAt img xs (newest y ys))
+mountStores img xs [] = refuse (noneValid xs) img unmounted []
+mountStores img xs (y ∷ ys) =
+    cond (equalTimes (y ∷ ys)) (refuse (tiedTimes (lowestTied (y ∷ ys))) img unmounted []) (mountAt img xs (newest y ys))
 
 unfoldable pub mountFound : List ℕ → List Found → Out
 mountFound img xs = mountStores img xs (stores xs)

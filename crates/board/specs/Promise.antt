@@ -20,6 +20,8 @@ use Rattle.journal.specs.Laws.{TakenFrom}
 use Rattle.wire.specs.declared.Answer.{Answer}
 use Rattle.wire.specs.declared.Answer.the-variants.{Done, More, Refused}
 use Rattle.wire.specs.declared.Refusal.{Refusal}
+use Rattle.wire.specs.declared.Refusal.the-variants as refusal
+use Rattle.frame.specs.declared.Fault.{Fault}
 use Rattle.wire.specs.declared.Request.{Request}
 use Rattle.wire.specs.declared.Request.the-variants.{Put, Delete, Commit, Abort, Read, Log}
 use Rattle.wire.specs.Answer.{numberOf}
@@ -32,7 +34,7 @@ use Rattle.board.specs.Queue.{Held, needsRoom}
 pub use Rattle.board.specs.Exec.{Machine}
 use Rattle.board.specs.Exec.{Call, request, step, mount, format}
 use Rattle.board.specs.Plan.{Follows, formatPlan, mountPlan, mountedAt, framePlan, framedAt}
-use Rattle.board.specs.Table.{frameFor, Exactly, InJob, Fresh, ValidAt, linesOf}
+use Rattle.board.specs.Table.{frameFor, Exactly, InJob, Fresh, ValidAt, Names, linesOf}
 use Rattle.board.specs.Demand1.{Unchanged, ImageAfter, Declared, Rests, EndsWithin}
 use Rattle.board.specs.Demand2.{Accepted, OneStore, LandsFrom, RoomExact, WearExact}
 use Rattle.wire.specs.Sentences.{Means}
@@ -141,6 +143,8 @@ pub record StepsOf (m : Machine) (img : List ℕ) (o : Out) (plan : List Step) (
 pub record Calls (m : Machine) : Type 0 where
   -- "When the queue says no"
   pub table : (img : List ℕ) (r : Record) (c : Call) → Bytes img → Exactly (linesOf img r c) (m img r c .answer)
+  -- K5: "Mount's 3 passes it on as an answer that names the foreign half"
+  pub names : (img : List ℕ) (r : Record) (k : ℕ) (e : Fault) → Bytes img → m img r mount .answer ≡ Refused (refusal.Foreign k e) → Names img k e
   -- "Every refusal takes no step and changes no byte of image, reply or record; a refused mount or format hands back an unmounted record."
   pub untouched : (img : List ℕ) (r : Record) (c : Call) (n : Refusal) → m img r c .answer ≡ Refused n → m img r c ≡ Unchanged img r c n
   -- 0 exactly with an idle record, more exactly with a job in it; but for a step on an unmounted record

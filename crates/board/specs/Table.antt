@@ -11,9 +11,12 @@ use Rattle.flash.specs.Flash.{Step, blocks, block, sizeOf, blockOf, offsetOf}
 use Rattle.frame.specs.declared.Host.{Host}
 use Rattle.frame.specs.declared.ObjectId.{ObjectId}
 use Rattle.frame.specs.Frame.{Frame, put, delete, frameLen, total, change, commit, abort}
-use Rattle.frame.specs.Reader.{Tail, clean}
+use Rattle.frame.specs.Reader.{fault, Tail, clean}
+use Rattle.frame.specs.declared.Fault.{Fault}
+use Rattle.frame.specs.declared.Field.the-variants as field
 use Rattle.journal.specs.Replay.{entry, replay, lookup, isOpen}
 use Rattle.journal.specs.Block.{headerLen}
+use Rattle.journal.specs.Faults.{FaultIn}
 use Rattle.journal.specs.Sentences.{BlankBlock, ValidBlock, ForeignBlock}
 use Rattle.journal.specs.Room.{claimed, openHosts}
 use Rattle.wire.specs.declared.Answer.{Answer}
@@ -147,15 +150,28 @@ ValidAt img k t fs c = (k < blocks) × ValidBlock (block (sizeOf img) k img) t f
 abbrev pub ForeignAt : List ℕ → ℕ → Type 0
 ForeignAt img k = (k < blocks) × ForeignBlock (block (sizeOf img) k img)
 
+-- no half is valid; half k is valid and another has its time
+abbrev pub NoneValid : List ℕ → Type 0
+NoneValid img = (k t : ℕ) (fs : List Frame) (c : Tail) → ValidAt img k t fs c → ⊥
+
+pub data TiedAt (img : List ℕ) (k : ℕ) : Type 0 where
+  tied-with : (j t : ℕ) (fs gs : List Frame) (c d : Tail) → (j ≡ k → ⊥) → ValidAt img j t fs c → ValidAt img k t gs d → TiedAt img k
+
 -- 2: "for mount, no valid half and none foreign"
 pub record NothingThere (img : List ℕ) : Type 0 where
-  pub none-valid : (k t : ℕ) (fs : List Frame) (c : Tail) → ValidAt img k t fs c → ⊥
+  pub none-valid : NoneValid img
   pub none-foreign : (k : ℕ) → ForeignAt img k → ⊥
 
 -- 3: document 02, K4, "Refusal 3 remains for two valid halves of equal time, and for no valid half with at least one foreign."
 pub data Unclear (img : List ℕ) : Type 0 where
-  foreign-half : (k : ℕ) → ForeignAt img k → ((j t : ℕ) (fs : List Frame) (c : Tail) → ValidAt img j t fs c → ⊥) → Unclear img
-  equal-times : (j k t : ℕ) (fs gs : List Frame) (c d : Tail) → (j ≡ k → ⊥) → ValidAt img j t fs c → ValidAt img k t gs d → Unclear img
+  foreign-half : (k : ℕ) → ForeignAt img k → NoneValid img → Unclear img
+  equal-times : (k : ℕ) → TiedAt img k → Unclear img
+
+-- what 3 names, document 02, K5: "the foreign half (0 first) and, within it, the fault and its place. .. equal times name half 0, place 4."
+-- No lower half is such a one, so that of two it is half 0.
+pub data Names (img : List ℕ) (k : ℕ) (e : Fault) : Type 0 where
+  names-foreign : NoneValid img → ForeignAt img k → FaultIn (block (sizeOf img) k img) e → ((j : ℕ) → j < k → ForeignAt img j → ⊥) → Names img k e
+  names-equal : TiedAt img k → e ≡ fault field.Created 4 → ((j : ℕ) → j < k → TiedAt img j → ⊥) → Names img k e
 
 -- "has a torn tail or anything pending"
 abbrev pub Unsettled : List Frame → Tail → Type 0

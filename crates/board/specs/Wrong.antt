@@ -10,7 +10,9 @@ use lib.ListN.{length, take, drop, getD, set, replicate}
 use Rattle.flash.specs.Bytes.{sameBytes}
 use Rattle.flash.specs.Flash.{program, erase, apply, applyAll, block, sizeOf, writes}
 use Rattle.frame.specs.declared.Host.{Host}
+use Rattle.frame.specs.declared.Field.the-variants as field
 use Rattle.frame.specs.Frame.{hostMax, hostOf, encodeAll}
+use Rattle.frame.specs.Reader.{fault}
 use Rattle.journal.specs.Block.{stateAt, validData, createdAt, markWrites}
 use Rattle.wire.specs.declared.Answer.{Answer}
 use Rattle.wire.specs.declared.Answer.the-variants.{Done, More, Refused}
@@ -21,7 +23,7 @@ use Rattle.board.specs.declared.Phase.{Phase}
 use Rattle.board.specs.declared.Phase.the-variants.{Unmounted, Idle, Busy}
 use Rattle.board.specs.declared.Record.{Record}
 use Rattle.board.specs.Record.{allowed, unmounted, Stretch, Out, out, refuse, answerOf}
-use Rattle.board.specs.Mount.{allFound, anyForeign, Store, stores, mountAt}
+use Rattle.board.specs.Mount.{allFound, anyForeign, Store, stores, equalTimes, noneValid, tiedTimes, mountAt, found}
 use Rattle.board.specs.Queue.{held}
 use Rattle.board.specs.Table.{isNone}
 use Rattle.board.specs.Exec.{Call, request, step, mount, format, Machine, exec}
@@ -248,7 +250,7 @@ abbrev pub lookAlike : List ℕ → Out → List Store → Out
 lookAlike img o [] = o
 lookAlike img o (x ∷ []) = o
 lookAlike img o (x ∷ y ∷ ys) =
-    cond (sameBytes (encodeAll (x .frames)) (encodeAll (y .frames))) (refuse refusal.Foreign img unmounted []) o
+    cond (sameBytes (encodeAll (x .frames)) (encodeAll (y .frames))) (refuse (tiedTimes 0) img unmounted []) o
 
 -- 3: "two valid halves of equal time": given for equal content too
 unfoldable pub refusesAlike : Wrongly
@@ -263,10 +265,26 @@ asEmpty img o (x ∷ xs) = o
 unfoldable pub overlooksForeign : Wrongly
 overlooksForeign = mounts (λ img o. cond (allowed (length img)) (asEmpty img o (stores (allFound img))) o)
 
+-- the foreign half with the highest number
+abbrev pub fromSecond : List ℕ → Out → List Store → Out
+fromSecond img o [] = refuse (noneValid (found img 1 ∷ found img 0 ∷ [])) img unmounted []
+fromSecond img o (x ∷ xs) = o
+
+-- 3, K5: "names the foreign half (0 first)": half 1 first
+unfoldable pub namesSecond : Wrongly
+namesSecond = mounts (λ img o. cond (allowed (length img)) (fromSecond img o (stores (allFound img))) o)
+
+-- 3, K5: "equal times name half 0, place 4": the half's first byte
+unfoldable pub tiesAtStart : Wrongly
+tiesAtStart =
+    mounts
+    (λ img o.
+    cond (allowed (length img) && equalTimes (stores (allFound img))) (refuse (refusal.Foreign 0 (fault field.Length 0)) img unmounted []) o)
+
 -- K4: "Where one half is valid, the other, if foreign, is erased on mount": refused with 3, as before K4. In a run with no cut inside an erase
 -- no half is foreign, and no call shows the difference
 unfoldable pub refusesHalfErased : Wrongly
-refusesHalfErased = mounts (λ img o. accepted o (cond (anyForeign (allFound img)) (refuse refusal.Foreign img unmounted []) o))
+refusesHalfErased = mounts (λ img o. accepted o (cond (anyForeign (allFound img)) (refuse (tiedTimes 0) img unmounted []) o))
 
 -- two valid halves: the second only if it is the next in time
 abbrev pub nextInTime : List ℕ → Out → List Store → Out
@@ -320,6 +338,8 @@ pub record Refuted : Type 0 where
   pub keeps-pending : Promise (offBench keepsPending) → ⊥
   pub refuses-alike : Promise (offBench refusesAlike) → ⊥
   pub overlooks-foreign : Promise (offBench overlooksForeign) → ⊥
+  pub names-second : Promise (offBench namesSecond) → ⊥
+  pub ties-at-start : Promise (offBench tiesAtStart) → ⊥
   pub refuses-half-erased : Promise (offBench refusesHalfErased) → ⊥
   pub takes-half-erased : Promise (offBench takesHalfErased) → ⊥
   pub formats-at-once : Promise (offBench formatsAtOnce) → ⊥

@@ -3,7 +3,7 @@ use Rattle.board.specs.Rows.{Rows}
 use Rattle.board.specs.Wrong.{offBench, refusesAll, refusesPuts, refusesHighIds, ownFormatsOnly, firstHalfOnly, hostFirst}
 use Rattle.board.specs.Wrong.{refusalClears, refusedLogWrites, readsAlike, inventsCount, neverCommits, abortsNothing, takesOthers}
 use Rattle.board.specs.Wrong.{keepsOld, programsNothing, wholeFrame, inventsStep, erasesFirst, outsideIsDone, forgedWaits}
-use Rattle.board.specs.Wrong.{hurriedMount, losesAll, keepsPending, refusesAlike, overlooksForeign, refusesHalfErased}
+use Rattle.board.specs.Wrong.{hurriedMount, losesAll, keepsPending, refusesAlike, overlooksForeign, namesSecond, tiesAtStart, refusesHalfErased}
 use Rattle.board.specs.Wrong.{takesHalfErased, formatsAtOnce, formatsBlindly}
 
 pub record RightInRows : Type 0 where
@@ -32,6 +32,8 @@ pub record RightInRows : Type 0 where
   pub keeps-pending : Rows (offBench keepsPending)
   pub refuses-alike : Rows (offBench refusesAlike)
   pub overlooks-foreign : Rows (offBench overlooksForeign)
+  pub names-second : Rows (offBench namesSecond)
+  pub ties-at-start : Rows (offBench tiesAtStart)
   pub refuses-half-erased : Rows (offBench refusesHalfErased)
   pub takes-half-erased : Rows (offBench takesHalfErased)
   pub formats-at-once : Rows (offBench formatsAtOnce)

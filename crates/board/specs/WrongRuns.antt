@@ -10,7 +10,7 @@ use Rattle.frame.specs.Frame.{hostOf, idOf, put, change, commit, Frame, encodeA
 use Rattle.journal.specs.Block.{header, inTransfer, validData}
 use Rattle.wire.specs.declared.Answer.the-variants.{Refused}
 use Rattle.wire.specs.declared.Refusal.the-variants as refusal
-use Rattle.wire.specs.Answer.{edgeNumber}
+use Rattle.wire.specs.Answer.{edgeNumber, spotOf}
 use Rattle.board.specs.Record.{unmounted, noStretch}
 use Rattle.board.specs.Exec.{Call, request, step, mount, format, Machine, exec}
 use Rattle.board.specs.Claim.{Event, call, cutErase, Claim}
@@ -19,7 +19,8 @@ use Rattle.board.specs.Wrong.{Wrongly, offBench}
 use Rattle.board.specs.Wrong.{refusesAll, refusesPuts, refusesHighIds, ownFormatsOnly, firstHalfOnly, hostFirst, refusalClears}
 use Rattle.board.specs.Wrong.{refusedLogWrites, readsAlike, inventsCount, neverCommits, abortsNothing, takesOthers, keepsOld}
 use Rattle.board.specs.Wrong.{programsNothing, wholeFrame, inventsStep, erasesFirst, hurriedMount, losesAll, keepsPending}
-use Rattle.board.specs.Wrong.{refusesAlike, overlooksForeign, refusesHalfErased, takesHalfErased, formatsAtOnce, formatsBlindly}
+use Rattle.board.specs.Wrong.{refusesAlike, overlooksForeign, namesSecond, tiesAtStart, refusesHalfErased, takesHalfErased, formatsAtOnce}
+use Rattle.board.specs.Wrong.{formatsBlindly}
 
 -- ---- runs
 
@@ -64,6 +65,13 @@ pub record Differs (w : Wrongly) (img : List ℕ) (cs : List Call) (see : Shown 
 abbrev pub answered : Shown → ℕ
 answered x = edgeNumber (x .answer)
 
+-- the half that 3 names; the place
+abbrev pub halfNamed : Shown → ℕ
+halfNamed x = spotOf (x .answer) .half
+
+abbrev pub placeNamed : Shown → ℕ
+placeNamed x = spotOf (x .answer) .place
+
 abbrev pub byteAt : ℕ → Shown → ℕ
 byteAt i x = getD (x .image) i 0
 
@@ -96,7 +104,8 @@ committed t = half t (putFrame ∷ commit (hostOf 2) ∷ [])
 unfoldable pub stored : List ℕ
 stored = committed 1 ++ blankHalf
 
--- the same at a later time; in the second half; beside a transfer that was cut; twice, at two times; a foreign half beside a blank one
+-- the same at a later time; in the second half; beside a transfer that was cut; twice, at two times and at one; two foreign halves; one
+-- beside a blank one
 unfoldable pub later : List ℕ
 later = committed 2 ++ blankHalf
 
@@ -108,6 +117,12 @@ begun = committed 1 ++ (header 2 inTransfer ++ replicate 368 0xFF)
 
 unfoldable pub twice : List ℕ
 twice = committed 1 ++ committed 2
+
+unfoldable pub tiedHalves : List ℕ
+tiedHalves = committed 1 ++ committed 1
+
+unfoldable pub bothStrange : List ℕ
+bothStrange = replicate 768 0x00
 
 unfoldable pub strange : List ℕ
 strange = replicate 384 0x00 ++ blankHalf
@@ -193,6 +208,8 @@ pub record Runs : Type 0 where
   pub keeps-pending : Differs keepsPending pending (mount ∷ stepping 11 (commits ∷ [])) answered 255 0
   pub refuses-alike : Differs refusesAlike twice (mount ∷ []) answered 3 255
   pub overlooks-foreign : Differs overlooksForeign strange (mount ∷ []) answered 2 3
+  pub names-second : Differs namesSecond bothStrange (mount ∷ []) halfNamed 1 0
+  pub ties-at-start : Differs tiesAtStart tiedHalves (mount ∷ []) placeNamed 0 4
   pub refuses-half-erased : Differs refusesHalfErased halfErased (mount ∷ []) answered 3 255
   -- the good half's first byte after the first step
   pub takes-half-erased : Differs takesHalfErased seemsEmpty (mount ∷ step ∷ []) (byteAt 384) 0xFF 0x10

@@ -1,4 +1,4 @@
--- The reader is the document's: it says blank, whole, torn or wrong exactly where the sentences do.
+-- The reader says blank, whole, torn or wrong exactly where document 01's sentences do.
 use mathlib.Core.Path.{_≡_, refl, sym, ap, subst, _∙_}
 use mathlib.Core.List.{List, [], _∷_, _++_}
 use mathlib.Core.Bool.{Bool, true, false, _&&_, _||_}
@@ -13,9 +13,9 @@ use Rattle.flash.proofs.Cases.{on-test, clash, and-left, and-right, between}
 use Rattle.flash.proofs.Blank.{allFF-all, all-ff, is-ff}
 use Rattle.frame.specs.Frame.{Frame, idMax, valueMax, putLen, deleteLen, settledLen, encode, frameLen}
 use Rattle.frame.specs.Reader.{Read, blank, whole, torn, wrong, fault, Slot, slot, fits, valueSlots, changeSlots, endSlots}
-use Rattle.frame.specs.Reader.{settledSlots, noSlots, hostSlots, onlySettled, Match, all, part, misfit, match, decode, ofHostMatch}
+use Rattle.frame.specs.Reader.{settledSlots, noSlots, hostSlots, idLeft, onlySettled, Match, all, part, misfit, match, decode, ofHostMatch}
 use Rattle.frame.specs.Reader.{ofSettledMatch, readLaid, readFrame}
-use Rattle.frame.specs.Sentences.{Whole, Torn, Blank, Wrong, ReaderExact}
+use Rattle.frame.specs.Sentences.{Whole, Torn, Blank, Wrong}
 use Rattle.frame.specs.declared.Fault.{Fault}
 use Rattle.frame.specs.declared.Field.the-variants as field
 use Rattle.frame.proofs.Encode.{length-encode}
@@ -59,15 +59,21 @@ settled-part at x g (misfit p) e = let z : _≡_ {A = ℕ} 0 1 = cc in omega ari
 pub only-size : (next n k : ℕ) → onlySettled next n k ≡ true → (settledLen 0 ≤ n) × (n ≤ settledLen valueMax)
 only-size next n k e =
     let size : Bool = leb (settledLen 0) n && leb n (settledLen valueMax) in
-    between (settledLen 0) n (settledLen valueMax) (and-right (leb next idMax) size (and-left (leb next idMax && size) (eqb k 5 || eqb n (settledLen 0)) e))
+    between (settledLen 0) n (settledLen valueMax) (and-right (idLeft next) size (and-left (idLeft next && size) (eqb k 5 || eqb n (settledLen 0)) e))
+
+pub only-next : (next n k : ℕ) → onlySettled next n k ≡ true → next ≤ idMax
+only-next next n k e =
+    let size : Bool = leb (settledLen 0) n && leb n (settledLen valueMax) in
+    let left : idLeft next ≡ true = and-left (idLeft next) size (and-left (idLeft next && size) (eqb k 5 || eqb n (settledLen 0)) e) in
+    omega (arith, leb-true next _ left)
 
 -- ---- whole
 
-host-inv : (next n : ℕ) (xs : List ℕ) → Fit (hostSlots n) xs → IsFrame next xs
+pub host-inv : (next n : ℕ) (xs : List ℕ) → Fit (hostSlots n) xs → IsOfHost next xs
 host-inv next n xs r =
     on-host n
-    (λ e s. end-inv next xs (subst (λ (ps : List Slot). Fit ps xs) s r) .0)
-    (λ lo hi s. change-inv next n xs lo hi (subst (λ (ps : List Slot). Fit ps xs) s r) .0)
+    (λ e s. end-inv next xs (subst (λ (ps : List Slot). Fit ps xs) s r))
+    (λ lo hi s. change-inv next n xs lo hi (subst (λ (ps : List Slot). Fit ps xs) s r))
     (λ s. absurd (none-inv xs (subst (λ (ps : List Slot). Fit ps xs) s r)))
 
 whole-of : (next at : ℕ) (t : List ℕ) (f : Frame) (ps : List Slot) → readFrame next at t ≡ whole f → match ps t ≡ all
@@ -89,31 +95,31 @@ whole-sound next at t f e =
     (λ s.
     let size : (settledLen 0 ≤ n) × (n ≤ settledLen valueMax) = only-size next n k s in
     let m : match (settledSlots next n) t ≡ all = settled-all at (decode 5 n t) f (match (settledSlots next n) t) (sym (laid-settled next at n k t s) ∙ w) in
-    whole-of next at t f (settledSlots next n) e m (λ xs r. settled-inv next n xs (size .0) (size .1) r))
+    whole-of next at t f (settledSlots next n) e m (λ xs r. settled-inv next n xs (size .0) (size .1) r .0))
     (λ s.
     let m : match (hostSlots n) t ≡ all = host-all at n (decode k n t) f (match (hostSlots n) t) (sym (laid-host next at n k t s) ∙ w) in
-    whole-of next at t f (hostSlots n) e m (λ xs r. host-inv next n xs r)))
+    whole-of next at t f (hostSlots n) e m (λ xs r. host-inv next n xs r .0)))
 
 -- ---- torn
 
 -- every slot takes its least value
-abbrev Wide : List Slot → Type 0
+abbrev pub Wide : List Slot → Type 0
 Wide [] = Unit {0}
 Wide (p ∷ ps) = (p .lo ≤ p .hi) × Wide ps
 
-least : List Slot → List ℕ
+pub least : List Slot → List ℕ
 least [] = []
 least (p ∷ ps) = p .lo ∷ least ps
 
-wide-right : (a b : List Slot) → Wide (a ++ b) → Wide b
+pub wide-right : (a b : List Slot) → Wide (a ++ b) → Wide b
 wide-right [] b w = w
 wide-right (p ∷ a) b (h, w) = wide-right a b w
 
-wide-value : (o m : ℕ) → Wide (valueSlots o m)
+pub wide-value : (o m : ℕ) → Wide (valueSlots o m)
 wide-value o zero = (omega arith, tt)
 wide-value o (suc m) = (omega arith, wide-value (suc o) m)
 
-wide-change : (n : ℕ) → Wide (changeSlots n)
+pub wide-change : (n : ℕ) → Wide (changeSlots n)
 wide-change n = (
   omega arith,
   (
@@ -125,7 +131,7 @@ wide-change n = (
   ),
 )
 
-fit-complete : (a b : List Slot) (bytes : List ℕ) → Fit a bytes → Wide b → Fit (a ++ b) (bytes ++ least b)
+pub fit-complete : (a b : List Slot) (bytes : List ℕ) → Fit a bytes → Wide b → Fit (a ++ b) (bytes ++ least b)
 unfolding least
 fit-complete [] [] [] f w = tt
 fit-complete [] (p ∷ b) [] f (h, w) = (omega arith, h, fit-complete [] b [] tt w)
@@ -133,7 +139,7 @@ fit-complete [] b (x ∷ xs) f w = absurd f
 fit-complete (p ∷ a) b [] f w = absurd f
 fit-complete (p ∷ a) b (x ∷ xs) (l, h, f) w = (l, h, fit-complete a b xs f w)
 
-length-value : (o m : ℕ) → length (valueSlots o m) ≡ m + 1
+pub length-value : (o m : ℕ) → length (valueSlots o m) ≡ m + 1
 length-value o zero = refl
 length-value o (suc m) = omega (arith, length-value (suc o) m)
 
@@ -245,14 +251,14 @@ blank-reads next at t b = read-ff next at t (is-ff t b)
 pub whole-reads : (next at : ℕ) (t : List ℕ) (f : Frame) → Whole next t f → readFrame next at t ≡ whole f
 whole-reads next at t f w = ap (readFrame next at) (w .bytes) ∙ read-back next at f (w .rest) (w .stands)
 
-wrong-sound : (next at : ℕ) (t : List ℕ) (e : Fault) → readFrame next at t ≡ wrong e → Wrong next t
+pub wrong-sound : (next at : ℕ) (t : List ℕ) (e : Fault) → readFrame next at t ≡ wrong e → Wrong next t
 wrong-sound next at t e q = record {
   not-blank = λ b. let p : blank ≡ wrong e = sym (blank-reads next at t b) ∙ q in let z : _≡_ {A = ℕ} 0 1 = cc in omega arith;
   not-whole = λ f w. let p : whole f ≡ wrong e = sym (whole-reads next at t f w) ∙ q in let z : _≡_ {A = ℕ} 0 1 = cc in omega arith;
   not-torn = λ n y. let p : torn n ≡ wrong e = sym (torn-reads next at t n y) ∙ q in let z : _≡_ {A = ℕ} 0 1 = cc in omega arith;
 }
 
-wrong-reads : (next at : ℕ) (t : List ℕ) → Wrong next t → (e : Fault) × (readFrame next at t ≡ wrong e)
+pub wrong-reads : (next at : ℕ) (t : List ℕ) → Wrong next t → (e : Fault) × (readFrame next at t ≡ wrong e)
 wrong-reads next at t w = go (readFrame next at t) refl
   where
     go : (r : Read) → readFrame next at t ≡ r → (e : Fault) × (readFrame next at t ≡ wrong e)
@@ -260,11 +266,3 @@ wrong-reads next at t w = go (readFrame next at t) refl
     go (whole f) q = absurd (w .not-whole f (whole-sound next at t f q))
     go (torn n) q = absurd (w .not-torn n (torn-sound next at t n q))
     go (wrong e) q = (e, q)
-
-pub reader-exact : ReaderExact
-reader-exact = record {
-  is-blank = λ next at t. (blank-sound next at t, blank-reads next at t);
-  is-whole = λ next at t f. (whole-sound next at t f, whole-reads next at t f);
-  is-torn = λ next at t n. (torn-sound next at t n, torn-reads next at t n);
-  is-wrong = λ next at t. ((λ p. wrong-sound next at t (p .0) (p .1)), wrong-reads next at t);
-}

@@ -151,12 +151,12 @@ fit-settled next i v (hn, hi, (hv, hb)) =
 
 -- ---- each ends in a slot for the finish byte
 
-closed-value : (o v : ℕ) → Closed (valueSlots o v)
+pub closed-value : (o v : ℕ) → Closed (valueSlots o v)
 closed-value o zero = omega arith
 closed-value o (suc zero) = omega arith
 closed-value o (suc (suc v)) = closed-value (suc o) (suc v)
 
-closed-cons : (p : Slot) (ps : List Slot) → Closed ps → Closed (p ∷ ps)
+pub closed-cons : (p : Slot) (ps : List Slot) → Closed ps → Closed (p ∷ ps)
 closed-cons p [] c = absurd c
 closed-cons p (q ∷ ps) c = c
 

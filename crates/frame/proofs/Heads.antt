@@ -9,7 +9,7 @@ use Rattle.frame.specs.Frame.{Frame, change, commit, abort, settled, put
 use Rattle.frame.specs.Reader.{whole, readFrame}
 use Rattle.frame.specs.Sentences.{Whole}
 use Rattle.frame.specs.Code.{headOf, valueOf, frameOf, headLen, valueLen, valueStart}
-use Rattle.frame.proofs.Exact.{reader-exact}
+use Rattle.frame.proofs.Exact.{whole-sound}
 
 pub frame-of-head : (f : Frame) → frameOf (headOf f) (valueOf f) ≡ f
 frame-of-head (change h (put i v)) = refl
@@ -43,5 +43,5 @@ value-in (settled i v) rest = ap (take (length v)) (append-assoc v (finish ∷ [
 pub value-stands : (next at : ℕ) (t : List ℕ) (f : Frame) → readFrame next at t ≡ whole f
     → take (valueLen (headOf f)) (drop (valueStart (headOf f)) t) ≡ valueOf f
 value-stands next at t f e =
-    let w : Whole next t f = reader-exact .is-whole next at t f .0 e in
+    let w : Whole next t f = whole-sound next at t f e in
     rw (value-len f, w .bytes) (value-in f (w .rest))

@@ -97,6 +97,9 @@ pub record IsFrame (next : ℕ) (xs : List ℕ) : Type 0 where
 abbrev pub IsOfHost : ℕ → List ℕ → Type 0
 IsOfHost next xs = (f : IsFrame next xs) × OfHost (f .frame)
 
+abbrev pub IsSettled : ℕ → List ℕ → Type 0
+IsSettled next xs = (f : IsFrame next xs) × (OfHost (f .frame) → ⊥)
+
 six : (a b k c h i a′ b′ k′ c′ h′ i′ : ℕ) (x y : List ℕ) → a ≡ a′ → b ≡ b′ → k ≡ k′ → c ≡ c′ → h ≡ h′ → i ≡ i′ → x ≡ y
     → _≡_ {A = List ℕ} (a ∷ b ∷ k ∷ c ∷ h ∷ i ∷ x) (a′ ∷ b′ ∷ k′ ∷ c′ ∷ h′ ∷ i′ ∷ y)
 six a b k c h i a′ b′ k′ c′ h′ i′ x y p q r s t u v = cc
@@ -183,18 +186,20 @@ end-inv next (a ∷ b ∷ k ∷ c ∷ []) r = absurd (r .2 .2 .2 .2)
 end-inv next (a ∷ b ∷ k ∷ c ∷ h ∷ []) r = absurd (r .2 .2 .2 .2 .2)
 end-inv next (a ∷ b ∷ k ∷ c ∷ h ∷ d ∷ x ∷ xs) r = absurd (r .2 .2 .2 .2 .2 .2)
 
-pub settled-inv : (next n : ℕ) (xs : List ℕ) → settledLen 0 ≤ n → n ≤ settledLen valueMax → Fit (settledSlots next n) xs → IsFrame next xs
+pub settled-inv : (next n : ℕ) (xs : List ℕ) → settledLen 0 ≤ n → n ≤ settledLen valueMax → Fit (settledSlots next n) xs → IsSettled next xs
 settled-inv next n (a ∷ b ∷ k ∷ c ∷ i ∷ d ∷ xs) lo hi (a1, a2, (b1, b2, (k1, k2, (c1, c2, (i1, i2, (d1, d2, r)))))) =
     let y : IsValue (n - settledLen 0) xs = value-inv 6 (n - settledLen 0) xs r in
     let f : Frame = settled (idOf i) (y .value) in
-    let g : MayStand next f = (i1, i2, (omega (arith, y .size), y .bytes)) in
-    record {
-      frame = f;
-      stands = g;
-      is-list = encode-plain next f g
-          ∙ six (settledLen (length (y .value))) 0 5 0 i 0 a b k c i d (y .value ++ (finish ∷ [])) xs (omega (arith, y .size)) (omega arith)
-          (omega arith) (omega arith) refl (omega arith) (sym (y .is-list));
-    }
+    let g : MayStand next f = (i1, i2, (omega (arith, y .size), y .bytes)) in (
+      record {
+        frame = f;
+        stands = g;
+        is-list = encode-plain next f g
+            ∙ six (settledLen (length (y .value))) 0 5 0 i 0 a b k c i d (y .value ++ (finish ∷ [])) xs (omega (arith, y .size)) (omega arith)
+            (omega arith) (omega arith) refl (omega arith) (sym (y .is-list));
+      },
+      λ u. u,
+    )
 settled-inv next n [] lo hi r = absurd r
 settled-inv next n (a ∷ []) lo hi r = absurd (r .2)
 settled-inv next n (a ∷ b ∷ []) lo hi r = absurd (r .2 .2)

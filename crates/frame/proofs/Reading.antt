@@ -14,7 +14,7 @@ use Rattle.flash.proofs.Cases.{and-both, and-no-right, or-neither, between-yes}
 use Rattle.flash.proofs.Blank.{allFF-no, allFF-all}
 use Rattle.frame.specs.Frame.{Frame, change, commit, abort, settled, put, delete, finish, idMax, valueMax, putLen, deleteLen, endLen}
 use Rattle.frame.specs.Frame.{settledLen, maxFrame, encode, frameLen, MayStand, OfHost}
-use Rattle.frame.specs.Reader.{blank, whole, torn, Match, match, hostSlots, settledSlots, onlySettled, decode, ofHostMatch}
+use Rattle.frame.specs.Reader.{blank, whole, torn, Match, match, hostSlots, settledSlots, idLeft, onlySettled, decode, ofHostMatch}
 use Rattle.frame.specs.Reader.{ofSettledMatch, readLaid, readFrame}
 use Rattle.frame.proofs.Encode.{length-byte, plain, encode-plain, length-encode}
 use Rattle.frame.proofs.Fit.{Fit, match-all, Closed, Partly, match-some, fit-host, fit-settled, closed-host}
@@ -41,19 +41,20 @@ pub laid-settled : (next at n k : ℕ) (t : List ℕ) → onlySettled next n k �
     → readLaid next at n k t ≡ ofSettledMatch at (decode 5 n t) (match (settledSlots next n) t)
 laid-settled next at n k t e = rw (e, readLaid)
 
-only-no : (next n k : ℕ) → (k ≡ 5 → ⊥) → (n ≡ settledLen 0 → ⊥) → onlySettled next n k ≡ false
+pub only-no : (next n k : ℕ) → (k ≡ 5 → ⊥) → (n ≡ settledLen 0 → ⊥) → onlySettled next n k ≡ false
 only-no next n k h l =
-    and-no-right (leb next idMax && (leb (settledLen 0) n && leb n (settledLen valueMax))) (eqb k 5 || eqb n (settledLen 0))
+    and-no-right (idLeft next && (leb (settledLen 0) n && leb n (settledLen valueMax))) (eqb k 5 || eqb n (settledLen 0))
     (or-neither (eqb k 5) (eqb n (settledLen 0)) (ne-eqb k 5 h) (ne-eqb n (settledLen 0) l))
 
-only-yes : (next n : ℕ) → next ≤ idMax → settledLen 0 ≤ n → n ≤ settledLen valueMax → onlySettled next n 5 ≡ true
-only-yes next n h lo hi =
+pub only-yes : (next n k : ℕ) → next ≤ idMax → settledLen 0 ≤ n → n ≤ settledLen valueMax → (eqb k 5 || eqb n (settledLen 0)) ≡ true
+    → onlySettled next n k ≡ true
+only-yes next n k h lo hi e =
     let size : Bool = leb (settledLen 0) n && leb n (settledLen valueMax) in
-    and-both (leb next idMax && size) (eqb 5 5 || eqb n (settledLen 0))
-    (and-both (leb next idMax) size (le-leb next idMax h) (between-yes (settledLen 0) n (settledLen valueMax) lo hi)) refl
+    and-both (idLeft next && size) (eqb k 5 || eqb n (settledLen 0))
+    (and-both (idLeft next) size (le-leb next _ (omega arith)) (between-yes (settledLen 0) n (settledLen valueMax) lo hi)) e
 
 -- bytes that start with a legal length and are long enough: they are no blank tail, by the law on lengths
-read-long : (next at n : ℕ) (t : List ℕ) → n ≤ maxFrame → n ≤ suc (length t) → readFrame next at (n ∷ t) ≡ readLaid next at n (getD (n ∷ t) 2 0) (n ∷ t)
+pub read-long : (next at n : ℕ) (t : List ℕ) → n ≤ maxFrame → n ≤ suc (length t) → readFrame next at (n ∷ t) ≡ readLaid next at n (getD (n ∷ t) 2 0) (n ∷ t)
 read-long next at n t h l = read-step next at (n ∷ t) (allFF-no n t (omega (arith, length-byte n h))) (le-leb n (suc (length t)) l)
 
 -- ---- whole frames
@@ -71,7 +72,7 @@ whole-settled : (next at n b : ℕ) (t rest : List ℕ) (f : Frame) → next ≤
 whole-settled next at n b t rest f h lo hi l fit d =
     let u : List ℕ = n ∷ b ∷ 5 ∷ (t ++ rest) in
     read-long next at n (b ∷ 5 ∷ (t ++ rest)) (omega arith) (simp length-append (omega arith))
-    ∙ laid-settled next at n 5 u (only-yes next n h lo hi)
+    ∙ laid-settled next at n 5 u (only-yes next n 5 h lo hi refl)
     ∙ ap₂ (λ (g : Frame) (m : Match). ofSettledMatch at g m) d (match-all (settledSlots next n) (n ∷ b ∷ 5 ∷ t) rest fit)
 
 read-plain : (next at : ℕ) (f : Frame) (rest : List ℕ) → MayStand next f → readFrame next at (plain f ++ rest) ≡ whole f
@@ -142,7 +143,7 @@ torn-plain next at (abort h) j m u g lo up =
     (closed-host next (abort h) tt g) lo up
 torn-plain next at (settled i v) j m u g lo up = absurd u
 
-plain-first : (f : Frame) → getD (plain f) 0 0 ≡ frameLen f
+pub plain-first : (f : Frame) → getD (plain f) 0 0 ≡ frameLen f
 plain-first (change h (put i v)) = omega arith
 plain-first (change h (delete i)) = refl
 plain-first (commit h) = refl

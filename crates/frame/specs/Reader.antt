@@ -71,9 +71,13 @@ settledSlots next n = frontSlots n 5 5 (slot field.Id bodyAt next idMax ∷ slot
 abbrev pub noSlots : List Slot
 noSlots = slot field.Length 0 1 0 ∷ []
 
+-- a settled frame may stand: after id 255 none may
+abbrev pub idLeft : ℕ → Bool
+idLeft next = leb next idMax
+
 -- the bytes can only be a settled frame's: by their kind, or by a length that no other kind has
 abbrev pub onlySettled : ℕ → ℕ → ℕ → Bool
-onlySettled next n k = leb next idMax && (leb (settledLen 0) n && leb n (settledLen valueMax)) && (eqb k 5 || eqb n (settledLen 0))
+onlySettled next n k = idLeft next && (leb (settledLen 0) n && leb n (settledLen valueMax)) && (eqb k 5 || eqb n (settledLen 0))
 
 -- kinds 1 to 4: the length tells commit and abort from put and delete
 abbrev pub hostSlots : ℕ → List Slot

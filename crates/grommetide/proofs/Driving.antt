@@ -37,7 +37,7 @@ use Rattle.grommetide.proofs.Buffers.{filled}
 told-nothing : (why : Refusal) (img : List ℕ) → flashedBy (told (refusalNumber why) 0 0 0) img ≡ img
 told-nothing refusal.Malformed img = refl
 told-nothing refusal.NoStore img = refl
-told-nothing refusal.Foreign img = refl
+told-nothing (refusal.Foreign k e) img = refl
 told-nothing refusal.ImageLength img = refl
 told-nothing refusal.Busy img = refl
 told-nothing refusal.Worn img = refl

@@ -8,7 +8,9 @@ use lib.ListN.{length}
 use Rattle.wire.specs.declared.Request.the-variants.{Put, Delete, Commit, Abort, Read, Log}
 use Rattle.wire.specs.declared.Parsed.{Parsed}
 use Rattle.wire.specs.declared.Parsed.the-variants.{Is, Malformed}
-use Rattle.wire.specs.Answer.{refusalNumber, edgeNumber}
+use Rattle.wire.specs.declared.Answer.{Answer}
+use Rattle.wire.specs.declared.Spot.{Spot}
+use Rattle.wire.specs.Answer.{refusalNumber, edgeNumber, refusedNumber, spotOf}
 use Rattle.wire.specs.Message.{parse}
 use Rattle.board.specs.declared.Next.{Next}
 use Rattle.board.specs.declared.Next.the-variants as next
@@ -143,6 +145,26 @@ ran b d = run (edgeNumber (d .out .answer)) (d .steps) (d .out .image) (cond (eq
 -- at most n of them; with a record buffer of any other size the count of steps stays as it was
 unfoldable pub edgeRun : List ℕ → List ℕ → ℕ → ℕ → Run
 edgeRun img b n steps = cond (holdsRecord b) (ran b (runOn n img (recordIn b))) (run 254 steps img b)
+
+-- ---- where a refused mount broke
+
+-- a mount's refusal, and what it names
+pub record Broken : Type 0 where
+  pub answer : ℕ
+  pub half : ℕ
+  pub field : ℕ
+  pub place : ℕ
+
+abbrev pub broken : ℕ → ℕ → ℕ → ℕ → Broken
+broken n half field place = record { answer = n; half = half; field = field; place = place }
+
+-- document 02, K5: "Mount's 3 passes it on as an answer that names the foreign half (0 first) and, within it, the fault and its place": the
+-- number with which a mount of the image is refused, or 0; half, field and place with 3, else 0
+unfoldable pub edgeFault : List ℕ → Broken
+edgeFault img =
+    let a : Answer = mountOn img .answer in
+    let s : Spot = spotOf a in
+    broken (refusedNumber a) (s .half) (s .field) (s .place)
 
 -- ---- what callers rely on
 

@@ -7,7 +7,7 @@ ghost use Rattle.board.specs.Mount.{mountOn, formatOn};
 ghost use Rattle.board.specs.Queue.{requestOn};
 ghost use Rattle.lent.specs.Layout.{recordSize, recordIn};
 ghost use Rattle.grommetide.specs.Edge.{edgeMount, edgeFormat, edgeRequest, ReadsBack};
-ghost use Rattle.grommetide.specs.Edge.{place, isRead, asRead, edgeRead};
+ghost use Rattle.grommetide.specs.Edge.{place, isRead, asRead, edgeRead, broken, edgeFault};
 use frame::Host;
 use job::records;
 use lent::RECORD_SIZE;
@@ -43,6 +43,25 @@ pub extern "C" fn grommetide_mount(image: &[u8], board: &mut [u8]) -> u8
     let s = store::mount_core(image, &mut places);
     let frame = records::no_frame();
     pack::new_record(s, &places, &frame, board)
+}
+
+#[no_mangle]
+pub extern "C" fn grommetide_fault(
+    image: &[u8],
+    half: &mut usize,
+    field: &mut u8,
+    place: &mut usize,
+) -> u8
+    ensures { λ r. ⌜ broken r (now (half .exit)) (now (field .exit)) (now (place .exit)) ≡ edgeFault (now (image .entry)) ⌝ }
+{
+    let mut places = records::no_places();
+    let s = store::mount_core(image, &mut places);
+    let answer = s.answer;
+    let spot = wire::spot_of(answer);
+    *half = spot.half as usize;
+    *field = spot.field;
+    *place = spot.place;
+    wire::refused(answer)
 }
 
 #[no_mangle]

@@ -78,15 +78,19 @@ valid-step : (b : List ℕ) → allFF b ≡ false → eqb (getD b stateAt 0) inT
 unfolding blockState
 valid-step b p q e = rw (p, q, e, blockState)
 
-pub valid-block : {s : ℕ} {b : List ℕ} {t : ℕ} {fs : List Frame} {rest : List ℕ} (c : Tail) → Layout s b t fs rest
-    → scan (nextOf 0 fs) (headerLen + total fs) 0 rest ≡ ends c → Okay c → blockState b ≡ valid t fs c
-valid-block {s} {b} {t} {fs} {rest} c y reads o =
+-- a right header and frames, whatever follows them
+pub headed-block : {s : ℕ} {b : List ℕ} {t : ℕ} {fs : List Frame} {rest : List ℕ} (c : Tail) → Layout s b t fs rest
+    → scan (nextOf 0 fs) (headerLen + total fs) 0 rest ≡ ends c → blockState b ≡ ofTail t fs c
+headed-block {s} {b} {t} {fs} {rest} c y reads =
     let r : List ℕ = encodeAll fs ++ rest in
     ap blockState (y .is)
     ∙ valid-step (header t validData ++ r) (allFF-no headerLen _ (omega arith)) refl
     (header-none (header t validData ++ r) (header-is t r (y .time-lo) (y .time-hi)))
     ∙ ap₂ ofScan (time-back t validData r (y .time-hi)) (scan-with 0 headerLen fs rest c (y .stands) reads)
-    ∙ okay-tail t fs c o
+
+pub valid-block : {s : ℕ} {b : List ℕ} {t : ℕ} {fs : List Frame} {rest : List ℕ} (c : Tail) → Layout s b t fs rest
+    → scan (nextOf 0 fs) (headerLen + total fs) 0 rest ≡ ends c → Okay c → blockState b ≡ valid t fs c
+valid-block {s} {b} {t} {fs} {rest} c y reads o = headed-block c y reads ∙ okay-tail t fs c o
 
 -- ---- blank and in progress
 

@@ -8,6 +8,7 @@ pub mod Mapping  -- replay of frames with something else for the values: for Pla
 pub mod Room  -- what a state takes of a block: for board
 -- ---- blocks: header, state, making
 pub mod Blocks  -- what shapes of a block read as: for States, Building, board
+pub mod Faults  -- where a foreign block is wrong: for Sentences
 pub mod States  -- what a block's state says of its bytes: for board, store
 pub mod Sentences  -- document 01's sentence on the states of a half, a theorem to read: for Raising
 pub mod Raising  -- document 02's sentence on a half whose erase was cut, and what stays harmless: for board

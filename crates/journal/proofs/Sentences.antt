@@ -18,6 +18,7 @@ use Rattle.frame.proofs.Scanned.{tail-clean, tail-cut}
 use Rattle.journal.specs.Block.{headerLen, stateAt, inTransfer, headerFault, BlockState, blank, inProgress, valid, foreign, ofHeader, blockState}
 use Rattle.journal.specs.Sentences.{BlankBlock, InProgressBlock, TailIs, ValidBlock, ForeignBlock, StatesExact}
 use Rattle.journal.proofs.Blocks.{Okay, valid-block, blank-block, progress-block}
+use Rattle.journal.proofs.Faults.{fault-in, fault-state}
 use Rattle.journal.proofs.States.{Contents, valid-inv, Headed, header-headed, blank-is}
 
 -- ---- blank and in progress
@@ -95,5 +96,9 @@ states-exact =
       is-blank = λ b y h. (blank-is b, blank-state b);
       is-in-progress = λ b y h. (progress-is b, progress-block b (omega arith));
       is-valid = λ b t fs c y h. ((λ q. valid-is b t fs c (valid-inv b t fs c y h q)), valid-state b t fs c);
+      is-foreign-at = λ b e y h. (
+        (λ q. (foreign-is b e h q, fault-in b e y h q)),
+        (λ p. let z = foreign-state b y h (p .0) in fault-state b (z .0) e y h (z .1) (p .1)),
+      );
       is-foreign = λ b y h. ((λ p. foreign-is b (p .0) h (p .1)), foreign-state b y h);
     }

@@ -66,7 +66,7 @@ four b h =
     ∙ ap (λ (l : List ℕ). getD b 5 0 ∷ l)
     (drop-cons b 6 0 (omega arith) ∙ ap (λ (l : List ℕ). getD b 6 0 ∷ l) (drop-cons b 7 0 (omega arith)))))
 
-time-bytes : (b : List ℕ) → Bytes b → 8 ≤ length b → take 4 (drop 4 b) ≡ u32le (lastTime - createdAt b)
+pub time-bytes : (b : List ℕ) → Bytes b → 8 ≤ length b → take 4 (drop 4 b) ≡ u32le (lastTime - createdAt b)
 time-bytes b y h =
     let x : ℕ = le32 (getD b 4 0) (getD b 5 0) (getD b 6 0) (getD b 7 0) in
     let small : x < 4294967296 =

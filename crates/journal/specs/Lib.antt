@@ -1,5 +1,6 @@
 pub mod Replay
 pub mod Block
+pub mod Faults
 pub mod Room
 pub mod Index
 pub mod Examples

@@ -10,6 +10,7 @@ use Rattle.flash.specs.Raised.{Raised}
 use Rattle.frame.specs.declared.Fault.{Fault}
 use Rattle.frame.specs.Frame.{Frame, encodeAll, AllMayStand, nextOf}
 use Rattle.frame.specs.Reader.{Tail, clean, cut, bad}
+use Rattle.journal.specs.Faults.{FaultIn}
 use Rattle.frame.specs.Sentences.{Blank, Torn}
 use Rattle.journal.specs.Block.{headerLen, lastTime, stateAt, inTransfer, validData, header, createdAt}
 use Rattle.journal.specs.Block.{blank, inProgress, valid, foreign, blockState}
@@ -45,12 +46,13 @@ pub record ForeignBlock (b : List ℕ) : Type 0 where
   pub not-valid : (t : ℕ) (fs : List Frame) (c : Tail) → ValidBlock b t fs c → ⊥
 
 -- every block of bytes that has a header is blank, in progress, valid or foreign exactly as the sentence says; its state being one,
--- they exclude each other
+-- they exclude each other; a foreign one has the fault that document 02, K5, names
 pub record StatesExact : Type 0 where
   pub is-blank : (b : List ℕ) → Bytes b → headerLen ≤ length b → (blockState b ≡ blank) ↔ BlankBlock b
   pub is-in-progress : (b : List ℕ) → Bytes b → headerLen ≤ length b → (blockState b ≡ inProgress) ↔ InProgressBlock b
   pub is-valid : (b : List ℕ) (t : ℕ) (fs : List Frame) (c : Tail) → Bytes b → headerLen ≤ length b
       → (blockState b ≡ valid t fs c) ↔ ValidBlock b t fs c
+  pub is-foreign-at : (b : List ℕ) (e : Fault) → Bytes b → headerLen ≤ length b → (blockState b ≡ foreign e) ↔ (ForeignBlock b × FaultIn b e)
   pub is-foreign : (b : List ℕ) → Bytes b → headerLen ≤ length b → ((e : Fault) × (blockState b ≡ foreign e)) ↔ ForeignBlock b
 
 -- K4: "A half-erased old half can still read as valid, but its inverted time has only gained ones, so it never looks newer; show that."

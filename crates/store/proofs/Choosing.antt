@@ -26,7 +26,7 @@ use Rattle.board.specs.declared.Cursor.{Cursor}
 use Rattle.board.specs.declared.Rest.{Rest}
 use Rattle.board.specs.Record.{allowed, noFrame, unmounted, busyWith, Out, refuse}
 use Rattle.board.specs.Step.{begin}
-use Rattle.board.specs.Mount.{Found, wipeList, wipeArray, needsTransfer, mountAt, mountFound, mountOn}
+use Rattle.board.specs.Mount.{Found, wipeList, wipeArray, needsTransfer, tiedTimes, mountAt, mountFound, mountOn}
 use Rattle.board.proofs.Order.{foundIn}
 use Rattle.board.proofs.Deciding.{store}
 use Rattle.job.specs.declared.records.Stepped.{Stepped}
@@ -81,7 +81,7 @@ unfolding chooseOf chooseValid mountFound surveyOf
 both-valid img t u fs gs c d p q =
     let xs : List Found = foundIn (valid t fs c) (valid u gs d) in
     on-test (eqb t u)
-    (λ e. rw e (refusing img _ refusal.Foreign))
+    (λ e. rw e (refusing img _ (tiedTimes 0)))
     (λ e. on-test (ltb t u)
     (λ l. rw (e, l) (mount-with img xs 1 u gs d true refl refl q))
     (λ l. rw (e, l) (mount-with img xs 0 t fs c true refl refl p)))
@@ -90,15 +90,15 @@ pub mounts-two : (img : List ℕ) (a b : BlockState) → Told a → Told b → M
 unfolding chooseOf chooseValid mountFound surveyOf
 mounts-two img blank blank p q = refusing img _ refusal.NoStore
 mounts-two img blank inProgress p q = refusing img _ refusal.NoStore
-mounts-two img blank (foreign e) p q = refusing img _ refusal.Foreign
+mounts-two img blank (foreign e) p q = refusing img _ (refusal.Foreign 1 e)
 mounts-two img blank (valid u gs d) p q = mount-with img (foundIn blank (valid u gs d)) 1 u gs d false refl refl q
 mounts-two img inProgress blank p q = refusing img _ refusal.NoStore
 mounts-two img inProgress inProgress p q = refusing img _ refusal.NoStore
-mounts-two img inProgress (foreign e) p q = refusing img _ refusal.Foreign
+mounts-two img inProgress (foreign e) p q = refusing img _ (refusal.Foreign 1 e)
 mounts-two img inProgress (valid u gs d) p q = mount-with img (foundIn inProgress (valid u gs d)) 1 u gs d true refl refl q
-mounts-two img (foreign e) blank p q = refusing img _ refusal.Foreign
-mounts-two img (foreign e) inProgress p q = refusing img _ refusal.Foreign
-mounts-two img (foreign e) (foreign f) p q = refusing img _ refusal.Foreign
+mounts-two img (foreign e) blank p q = refusing img _ (refusal.Foreign 0 e)
+mounts-two img (foreign e) inProgress p q = refusing img _ (refusal.Foreign 0 e)
+mounts-two img (foreign e) (foreign f) p q = refusing img _ (refusal.Foreign 0 e)
 mounts-two img (foreign e) (valid u gs d) p q = mount-with img (foundIn (foreign e) (valid u gs d)) 1 u gs d true refl refl q
 mounts-two img (valid t fs c) blank p q = mount-with img (foundIn (valid t fs c) blank) 0 t fs c false refl refl p
 mounts-two img (valid t fs c) inProgress p q = mount-with img (foundIn (valid t fs c) inProgress) 0 t fs c true refl refl p

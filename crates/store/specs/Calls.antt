@@ -18,7 +18,7 @@ use Rattle.wire.specs.declared.Refusal.the-variants as refusal
 use Rattle.board.specs.declared.Phase.the-variants.{Unmounted}
 use Rattle.board.specs.declared.Job.{Job}
 use Rattle.board.specs.Record.{noPlaces, noWipes, noMarks, noFrame, rest, starting, Out}
-use Rattle.board.specs.Mount.{nextBlock, newTime}
+use Rattle.board.specs.Mount.{nextBlock, newTime, tiedTimes}
 use Rattle.job.specs.declared.Outcome.{Outcome}
 use Rattle.job.specs.declared.records.Stepped.{Stepped}
 use Rattle.job.specs.Code.{assemble, atRest, begins, outcome}
@@ -48,12 +48,6 @@ isValid kind.InProgress = false
 isValid kind.Valid = true
 isValid (kind.Foreign e) = false
 
-abbrev pub isForeignKind : BlockKind → Bool
-isForeignKind kind.Blank = false
-isForeignKind kind.InProgress = false
-isForeignKind kind.Valid = false
-isForeignKind (kind.Foreign e) = true
-
 abbrev pub isBlankKind : BlockKind → Bool
 isBlankKind kind.Blank = true
 isBlankKind kind.InProgress = false
@@ -66,15 +60,22 @@ sumOf p = getD p 0 0 + getD p 1 0 + getD p 2 0 + getD p 3 0
 
 -- ---- mount
 
+-- a foreign block is named, with its fault
+abbrev pub orForeignKind : ℕ → BlockKind → Refusal → Refusal
+orForeignKind k kind.Blank why = why
+orForeignKind k kind.InProgress why = why
+orForeignKind k kind.Valid why = why
+orForeignKind k (kind.Foreign e) why = refusal.Foreign k e
+
 -- why none is taken, where none is valid
 abbrev pub whyNone : BlockKind → BlockKind → Refusal
-whyNone a b = cond (isForeignKind a || isForeignKind b) refusal.Foreign refusal.NoStore
+whyNone a b = orForeignKind 0 a (orForeignKind 1 b refusal.NoStore)
 
 unfoldable pub chooseValid : Bool → Bool → ℕ → ℕ → Refusal → Choice
 chooseValid false false t u why = choice.Refused why
 chooseValid false true t u why = choice.Second
 chooseValid true false t u why = choice.First
-chooseValid true true t u why = cond (eqb t u) (choice.Refused refusal.Foreign) (cond (ltb t u) choice.Second choice.First)
+chooseValid true true t u why = cond (eqb t u) (choice.Refused (tiedTimes 0)) (cond (ltb t u) choice.Second choice.First)
 
 unfoldable pub chooseOf : Survey → Survey → Choice
 chooseOf a b = chooseValid (isValid (a .kind)) (isValid (b .kind)) (a .time) (b .time) (whyNone (a .kind) (b .kind))

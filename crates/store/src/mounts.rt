@@ -2,8 +2,8 @@
 ghost use mathlib.Core.Path.{_≡_};
 ghost use Rattle.journal.specs.Room.{one};
 ghost use Rattle.board.specs.Record.{noPlaces};
-ghost use Rattle.board.specs.Mount.{mountOn, formatOn};
-ghost use Rattle.store.specs.Calls.{Gives, made, refused, isForeignKind, isBlankKind, whyNone, chooseValid, chooseOf, needsIn, wipeOther};
+ghost use Rattle.board.specs.Mount.{tiedTimes, mountOn, formatOn};
+ghost use Rattle.store.specs.Calls.{Gives, made, refused, isBlankKind, orForeignKind, whyNone, chooseValid, chooseOf, needsIn, wipeOther};
 ghost use Rattle.store.specs.Calls.{mountIn, mountChosen, placesFor, eraseOrder, orderIn};
 use crate::image;
 use crate::surveys;
@@ -11,10 +11,13 @@ use board::Job;
 use board::Phase;
 use board::Rest;
 use flash::BLOCKS;
+use frame::Fault;
+use frame::Field;
 use frame::ID_MAX;
 use job::Outcome;
 use job::records;
 use job::records::Stepped;
+use journal::TIME_AT;
 use survey::BlockKind;
 use survey::Survey;
 use wire::Answer;
@@ -42,17 +45,6 @@ fn refused(why: Refusal) -> Stepped
     records::at_rest(Answer::Refused(why), Phase::Unmounted, rest)
 }
 
-fn is_foreign(kind: BlockKind) -> bool
-    ensures { λ r. ⌜ r ≡ isForeignKind kind ⌝ }
-{
-    match kind {
-        BlockKind::Blank => false,
-        BlockKind::InProgress => false,
-        BlockKind::Valid => false,
-        BlockKind::Foreign(_) => true,
-    }
-}
-
 fn is_blank(kind: BlockKind) -> bool
     ensures { λ r. ⌜ r ≡ isBlankKind kind ⌝ }
 {
@@ -78,17 +70,36 @@ fn made(s: Stepped, places: [u16; 256]) -> Outcome
 
 // ---- mount
 
+// A foreign block is named, with its fault.
+fn or_foreign(number: u8, kind: BlockKind, why: Refusal) -> Refusal
+    ensures { λ r. ⌜ r ≡ orForeignKind number kind why ⌝ }
+{
+    match kind {
+        BlockKind::Blank => why,
+        BlockKind::InProgress => why,
+        BlockKind::Valid => why,
+        BlockKind::Foreign(fault) => Refusal::Foreign(number, fault),
+    }
+}
+
 // Why none is taken, where none is valid.
 fn why_none(first: BlockKind, second: BlockKind) -> Refusal
     ensures { λ r. ⌜ r ≡ whyNone first second ⌝ }
 {
-    if is_foreign(first) {
-        return Refusal::Foreign;
-    }
-    if is_foreign(second) {
-        return Refusal::Foreign;
-    }
-    Refusal::NoStore
+    or_foreign(0, first, or_foreign(1, second, Refusal::NoStore))
+}
+
+// Equal times: the lowest such block is named, at its time.
+fn tied_times(number: u8) -> Refusal
+    ensures { λ r. ⌜ r ≡ tiedTimes number ⌝ }
+{
+    Refusal::Foreign(
+        number,
+        Fault {
+            field: Field::Created,
+            place: TIME_AT,
+        },
+    )
 }
 
 fn choose_valid(a: bool, b: bool, t: u32, u: u32, why: Refusal) -> Choice
@@ -104,7 +115,7 @@ fn choose_valid(a: bool, b: bool, t: u32, u: u32, why: Refusal) -> Choice
         return Choice::First;
     }
     if t == u {
-        return Choice::Refused(Refusal::Foreign);
+        return Choice::Refused(tied_times(0));
     }
     if t < u {
         return Choice::Second;

@@ -1,5 +1,7 @@
 // Messages, answers and the log page: what hosts send, and what they get.
 use frame::BODY_AT;
+use frame::Fault;
+use frame::Field;
 use frame::ID_MAX;
 use frame::KIND_AT;
 use frame::ObjectId;
@@ -8,7 +10,7 @@ ghost use mathlib.Core.Path.{_≡_};
 ghost use Prim.Native.Nat.{_+_, _<_};
 ghost use denote.Ref.{ptr};
 ghost use lib.ListN.{getD};
-ghost use Rattle.wire.specs.Answer.{refusalNumber, edgeNumber};
+ghost use Rattle.wire.specs.Answer.{refusalNumber, edgeNumber, refusedNumber, fieldNumber, spot, refusalSpot, spotOf};
 ghost use Rattle.wire.specs.Message.{wordAt, idIn, valueIn, isIf, onlyId, noBody, idAndValue, summaryPage, ofKind, parse, logPage};
 ghost use Rattle.wire.specs.Code.{overlay, pageInto, valuePlace};
 
@@ -33,11 +35,11 @@ pub enum Parsed {
     Malformed,
 }
 
-// Why a call is refused.
+// Why a call is refused. A mount names the half that it can't take, and in it the first bad field.
 pub enum Refusal {
     Malformed,
     NoStore,
-    Foreign,
+    Foreign(u8, Fault),
     ImageLength,
     Busy,
     Worn,
@@ -53,6 +55,13 @@ pub enum Answer {
     Done,
     More,
     Refused(Refusal),
+}
+
+// What a refused mount names: a half, the number of a field (0 for none) and its offset in the half.
+pub struct Spot {
+    pub half: u8,
+    pub field: u8,
+    pub place: usize,
 }
 
 // Where a message's id ends, a put's value starts; and the longest put.
@@ -174,7 +183,7 @@ fn refusal_number(why: Refusal) -> u8
     match why {
         Refusal::Malformed => 1,
         Refusal::NoStore => 2,
-        Refusal::Foreign => 3,
+        Refusal::Foreign(_, _) => 3,
         Refusal::ImageLength => 4,
         Refusal::Busy => 5,
         Refusal::Worn => 6,
@@ -194,6 +203,83 @@ pub fn number(answer: Answer) -> u8
         Answer::Done => 0,
         Answer::More => 255,
         Answer::Refused(why) => refusal_number(why),
+    }
+}
+
+// A refusal's number; 0 for any other answer.
+pub fn refused(answer: Answer) -> u8
+    ensures { λ r. ⌜ r ≡ refusedNumber answer ⌝ }
+{
+    match answer {
+        Answer::Done => 0,
+        Answer::More => 0,
+        Answer::Refused(why) => refusal_number(why),
+    }
+}
+
+fn field_number(field: Field) -> u8
+    ensures { λ r. ⌜ r ≡ fieldNumber field ⌝ }
+{
+    match field {
+        Field::Length => 1,
+        Field::Kind => 2,
+        Field::Host => 3,
+        Field::Id => 4,
+        Field::Finish => 5,
+        Field::Created => 6,
+        Field::State => 7,
+        Field::Spare => 8,
+    }
+}
+
+fn nowhere() -> Spot
+    ensures { λ r. ⌜ r ≡ spot 0 0 0 ⌝ }
+{
+    Spot {
+        half: 0,
+        field: 0,
+        place: 0,
+    }
+}
+
+fn named(half: u8, fault: Fault) -> Spot
+    ensures { λ r. ⌜ r ≡ spot half (fieldNumber (fault .field)) (fault .place) ⌝ }
+{
+    let field = fault.field;
+    Spot {
+        half: half,
+        field: field_number(field),
+        place: fault.place,
+    }
+}
+
+fn refusal_spot(why: Refusal) -> Spot
+    ensures { λ r. ⌜ r ≡ refusalSpot why ⌝ }
+{
+    let none = nowhere();
+    match why {
+        Refusal::Malformed => none,
+        Refusal::NoStore => none,
+        Refusal::Foreign(half, fault) => named(half, fault),
+        Refusal::ImageLength => none,
+        Refusal::Busy => none,
+        Refusal::Worn => none,
+        Refusal::NoRoom => none,
+        Refusal::NoObject => none,
+        Refusal::ShortReply => none,
+        Refusal::HostRange => none,
+        Refusal::Stale => none,
+    }
+}
+
+// What an answer names: only a mount's 3 names something.
+pub fn spot_of(answer: Answer) -> Spot
+    ensures { λ r. ⌜ r ≡ spotOf answer ⌝ }
+{
+    match answer {
+        Answer::Done => nowhere(),
+        Answer::More => nowhere(),
+        Answer::Refused(why) => refusal_spot(why),
     }
 }
 

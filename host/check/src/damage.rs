@@ -227,7 +227,7 @@ fn fill_to(rng: &mut Rng, half: &mut Vec<u8>, size: usize) {
 }
 
 /// One act of damage, where it is likely to matter.
-fn harm(rng: &mut Rng, image: &mut [u8]) {
+pub fn harm(rng: &mut Rng, image: &mut [u8]) {
     let size = image.len() / 2;
     let base = rng.below(2) * size;
     let at = base + place(rng, &image[base..base + size]);

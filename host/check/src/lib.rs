@@ -3,6 +3,7 @@
 pub mod book;
 pub mod cuts;
 pub mod damage;
+pub mod fault;
 pub mod generate;
 pub mod nor;
 pub mod raise;

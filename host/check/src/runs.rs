@@ -2,6 +2,8 @@
 
 use crate::book::{Book, Lists, found};
 use crate::cuts::{Allowed, Cuts, Start, newest, stuck};
+use crate::damage;
+use crate::fault;
 use crate::generate::{self, Manner, Wish};
 use crate::raise;
 use crate::rng::Rng;
@@ -296,12 +298,24 @@ impl Run {
         if lists == Lists::default() {
             assert!(self.book.used() + 14 <= self.size(), "U + 14 exceeds S though nothing is pending");
         }
+        if self.rng.once_in(10) {
+            self.harm_a_copy();
+        }
         if self.rng.once_in(100) {
             (0..=255).for_each(|id| self.check_read(id));
         } else {
             let id = self.manner.id(&mut self.rng);
             self.check_read(id);
         }
+    }
+
+    /// A mount of the image with up to three bytes harmed is refused for the same fault by all; the run goes on with the image.
+    fn harm_a_copy(&mut self) {
+        let mut image = self.twin.image().to_vec();
+        for _ in 0..=self.rng.below(3) {
+            damage::harm(&mut self.rng, &mut image);
+        }
+        self.twin.tally.count_fault(fault::agreed(&image).1);
     }
 
     fn check_read(&mut self, id: u8) {

@@ -3,13 +3,15 @@
 use crate::twin::{Call, Outcome};
 use std::collections::BTreeMap;
 use std::fmt;
-use store::{Answer, message};
+use store::{Answer, Fault, Field, message};
 
-/// How often each call got each answer, and how often with a value of each length: the one put, or the one found.
+/// How often each call got each answer, how often with a value of each length (the one put, or the one found), and how often
+/// each half was said to have broken in each field.
 #[derive(Default)]
 pub struct Tally {
     answers: BTreeMap<(&'static str, u8), u64>,
     values: BTreeMap<(&'static str, u8, usize), u64>,
+    faults: BTreeMap<(usize, Field), u64>,
 }
 
 impl Tally {
@@ -21,12 +23,21 @@ impl Tally {
         }
     }
 
+    pub fn count_fault(&mut self, fault: Option<Fault>) {
+        if let Some(Fault { half, field, .. }) = fault {
+            *self.faults.entry((half, field)).or_default() += 1;
+        }
+    }
+
     pub fn add(&mut self, other: &Tally) {
         for (key, count) in &other.answers {
             *self.answers.entry(*key).or_default() += count;
         }
         for (key, count) in &other.values {
             *self.values.entry(*key).or_default() += count;
+        }
+        for (key, count) in &other.faults {
+            *self.faults.entry(*key).or_default() += count;
         }
     }
 
@@ -37,6 +48,11 @@ impl Tally {
     /// How often this call got this answer with a value of this length.
     pub fn with_value(&self, call: &'static str, answer: Answer, length: usize) -> u64 {
         self.values.get(&(call, answer.0, length)).copied().unwrap_or(0)
+    }
+
+    /// How often this half was said to have broken in this field.
+    pub fn faults(&self, half: usize, field: Field) -> u64 {
+        self.faults.get(&(half, field)).copied().unwrap_or(0)
     }
 
     pub fn calls(&self) -> u64 {
@@ -60,6 +76,9 @@ impl fmt::Display for Tally {
     fn fmt(&self, f: &mut fmt::Formatter) -> fmt::Result {
         for ((call, answer), count) in &self.answers {
             writeln!(f, "  {call:8} {:>4}  {count}", Answer(*answer).to_string())?;
+        }
+        for ((half, field), count) in &self.faults {
+            writeln!(f, "  half {half}: {field:6}  {count}")?;
         }
         Ok(())
     }

@@ -1,6 +1,7 @@
 //! The model, the library and the plain program, given the same calls: whatever anyone can see of them must agree. The
 //! library is there twice: by `step` and `run`, and by `next`, a flash step that is done here, and `made`.
 
+use crate::fault;
 use crate::nor::Nor;
 use crate::side::Side;
 use crate::tally::Tally;
@@ -9,7 +10,7 @@ use model::job::Step;
 use model::{Model, Record};
 use plain::Plain;
 use std::fmt;
-use store::{Answer, Head, Idle, Store, Stretch, hex, message};
+use store::{Answer, Fault, Head, Idle, Store, Stretch, hex, message};
 
 #[derive(Clone, PartialEq, Eq, Debug)]
 pub enum Call {
@@ -203,6 +204,9 @@ impl Twin {
         }
         self.compare(call, &outcome, before);
         self.tally.count(call, &outcome);
+        if *call == Call::Mount {
+            self.compare_fault(outcome.answer);
+        }
         self.remember(call, before, &outcome);
         outcome
     }
@@ -262,6 +266,19 @@ impl Twin {
         if let Some(difference) = library.or(untidy).or(driven).or(parted).or(plain) {
             self.fail(&difference, before, call);
         }
+    }
+
+    /// Whatever a mount answers, whoever asks where the image broke is told the same.
+    fn compare_fault(&mut self, mount: Answer) {
+        let (answer, _) = self.fault();
+        assert_eq!(answer, if mount.refused() { mount } else { Answer::DONE }, "mount answered {mount}");
+    }
+
+    /// Why a mount of the image as it is would be refused, and where it broke.
+    pub fn fault(&mut self) -> (Answer, Option<Fault>) {
+        let (answer, fault) = fault::agreed(self.image());
+        self.tally.count_fault(fault);
+        (answer, fault)
     }
 
     fn remember(&mut self, call: &Call, before: Head, outcome: &Outcome) {

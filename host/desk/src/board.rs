@@ -1,7 +1,7 @@
 //! An image and its board record, under some store.
 
 use std::ops::Range;
-use store::{Answer, Head, Store, Stretch};
+use store::{Answer, Fault, Head, Store, Stretch};
 
 pub struct Board<'s, S: Store> {
     pub store: &'s S,
@@ -23,6 +23,11 @@ impl<'s, S: Store> Board<'s, S> {
         let (answer, record) = self.store.mount(&self.image);
         self.record = record;
         answer
+    }
+
+    /// Where the image broke, if a mount is refused with 3.
+    pub fn fault(&self) -> Option<Fault> {
+        self.store.fault(&self.image).1
     }
 
     pub fn format(&mut self) -> Answer {

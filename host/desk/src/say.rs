@@ -2,7 +2,7 @@
 
 use std::ffi::OsStr;
 use std::fmt::Write;
-use store::{Answer, hex};
+use store::{Answer, Field, hex};
 
 /// The most characters of a word that are repeated in an answer.
 const REPEATED: usize = 100;
@@ -29,6 +29,23 @@ pub fn named(answer: Answer) -> String {
         Some((_, name)) => format!("{answer} {name}"),
         None => answer.to_string(),
     }
+}
+
+/// What is wrong with a field that starts here in its half.
+pub fn fault(field: Field, place: usize, at: &str) -> String {
+    let (name, wrong) = match (field, place) {
+        (Field::Length, 0) => ("header's length", "is not 16"),
+        (Field::Kind, 2) => ("header's kind", "is not 0x4A01"),
+        (Field::Time, _) => ("time", "was never programmed"),
+        (Field::State, _) => ("state", "is not 0xFC, valid data"),
+        (Field::Rest, _) => ("rest of the header", "is not all 0xFF"),
+        (Field::Host, _) => ("host", "is not 0 to 3"),
+        (Field::Finish, _) => ("finish byte", "is not 0xFE"),
+        (Field::Length, _) => ("length", "is not one that may stand there"),
+        (Field::Kind, _) => ("kind", "is not one that may stand there"),
+        (Field::Id, _) => ("id", "is not one that may stand there"),
+    };
+    format!("the {name} at byte {at} {wrong}")
 }
 
 /// Bytes as the desk's lines have them.

@@ -8,18 +8,14 @@ use model::frame::{Body, Frame, Host};
 use model::half::{Half, Journal, Replay, replay};
 use std::io::{self, Write};
 use std::ops::Range;
-use store::{Answer, Head, Store};
+use store::{Answer, Fault, Head, Store};
 
 /// Columns that a value may take before it goes on in the next line.
 const WIDTH: usize = 48;
 
 /// What a refused mount means for a board, and what helps.
-const MEANING: [(Answer, &str); 4] = [
+const MEANING: [(Answer, &str); 3] = [
     (Answer::NO_STORE, "No half is valid. A format makes an empty store."),
-    (
-        Answer::FOREIGN,
-        "No half is valid and one is foreign, or both are\nequally new. Only a format helps, and it loses all objects.",
-    ),
     (Answer::IMAGE_LENGTH, "It must be a multiple of 256 from 512 to 65,536."),
     (
         Answer::WORN,
@@ -40,19 +36,21 @@ pub struct Report<'a> {
     answer: Answer,
     steps: usize,
     current: Option<u8>,
+    /// Where the image broke, if mount answers 3.
+    fault: Option<Fault>,
 }
 
 impl<'a> Report<'a> {
     pub fn new<S: Store>(store: &S, image: &'a [u8]) -> Report<'a> {
         let mut board = Board::new(store, image.to_vec());
-        let answer = board.mount();
+        let (answer, fault) = (board.mount(), board.fault());
         let (_, steps) = board.run();
         let current = match board.head() {
             Head::Idle(idle) => Some(idle.half),
             _ => None,
         };
         let sides = if answer == Answer::IMAGE_LENGTH { Vec::new() } else { sides(image) };
-        Report { image, sides, answer, steps, current }
+        Report { image, sides, answer, steps, current, fault }
     }
 
     /// Whether there is a store: mount does not refuse.
@@ -97,11 +95,23 @@ impl<'a> Report<'a> {
         valid.filter(move |(_, journal)| Some(journal.time) == newest)
     }
 
+    /// What a mount refused with 3 says, in words.
+    fn broken(&self, Fault { half, field, place }: Fault) -> String {
+        if self.newest().is_some() {
+            return format!("half {half}: the time at byte {place} is the other half's too");
+        }
+        format!("half {half}: {}", say::fault(field, place, &place.to_string()))
+    }
+
     fn newest(&self) -> Option<u32> {
         self.sides.iter().filter_map(Side::time).max()
     }
 
     fn mount(&self, out: &mut impl Write) -> io::Result<()> {
+        if let Some(fault) = self.fault {
+            writeln!(out, "mount answers 3, foreign.\n{}.", self.broken(fault))?;
+            return writeln!(out, "Only a format helps, and it loses all objects.");
+        }
         if let Some((_, meaning)) = MEANING.iter().find(|(answer, _)| *answer == self.answer) {
             return writeln!(out, "mount answers {}. {meaning}", say::named(self.answer).replacen(' ', ", ", 1));
         }

@@ -1,6 +1,7 @@
 //! The halves of an image, and what state each is in.
 
-use crate::say::count;
+use crate::say::{self, count};
+use model::fault;
 use model::frame::{Body, Frame, Host};
 use model::half::{self, Half, Journal};
 use model::half_of;
@@ -43,13 +44,25 @@ impl Side<'_> {
         match &self.half {
             Half::Blank => "blank".to_string(),
             Half::InProgress => "in progress: power was lost while it was being written".to_string(),
-            Half::Foreign => "foreign: power was lost while it was being erased, or it is damaged".to_string(),
+            Half::Foreign => {
+                format!("foreign: power was lost while it was being erased, or it is damaged\n  {}", self.broken())
+            }
             Half::Valid(journal) => {
                 let tail = if journal.torn { self.torn(journal.end) } else { "the rest is blank".to_string() };
                 let (frames, end) = (count(journal.frames.len(), "frame"), self.base + journal.end);
                 format!("valid, time {}\n  {frames} up to byte {end}, {tail}", journal.time)
             }
         }
+    }
+
+    /// Where a foreign half broke, counted from its start and, if that is another place, from the image's.
+    fn broken(&self) -> String {
+        let (field, place) = fault::of_half(self.bytes);
+        let at = match self.base {
+            0 => place.to_string(),
+            base => format!("{place} ({} of the image)", base + place),
+        };
+        say::fault(field, place, &at)
     }
 
     /// What stands at `end`, where a frame was cut while it was being written.

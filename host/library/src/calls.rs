@@ -9,6 +9,13 @@ use store::{Answer, Stretch};
 unsafe extern "C" {
     fn grommetide_record_size() -> usize;
     fn grommetide_mount(image: *const u8, image_len: usize, record: *mut u8, record_len: usize) -> u8;
+    fn grommetide_fault(
+        image: *const u8,
+        image_len: usize,
+        half: *mut usize,
+        field: *mut u8,
+        place: *mut usize,
+    ) -> u8;
     fn grommetide_format(image: *const u8, image_len: usize, record: *mut u8, record_len: usize) -> u8;
     fn grommetide_request(
         image: *const u8,
@@ -80,6 +87,13 @@ impl Library {
 
     pub fn mount_into(&self, image: &[u8], record: &mut [u8]) -> Answer {
         Answer(unsafe { grommetide_mount(image.as_ptr(), image.len(), record.as_mut_ptr(), record.len()) })
+    }
+
+    /// The answer, and what half, field and place are set to.
+    pub fn fault_of(&self, image: &[u8]) -> (Answer, (usize, u8, usize)) {
+        let (mut half, mut field, mut place) = (usize::MAX, u8::MAX, usize::MAX);
+        let answer = unsafe { grommetide_fault(image.as_ptr(), image.len(), &mut half, &mut field, &mut place) };
+        (Answer(answer), (half, field, place))
     }
 
     pub fn format_into(&self, image: &[u8], record: &mut [u8]) -> Answer {

@@ -1,7 +1,7 @@
 //! The library with the flash in the caller's hands: a step is told, done here, and made.
 
 use crate::{Library, Record, Told};
-use store::{Answer, Head, Idle, Store, Stretch};
+use store::{Answer, Fault, Head, Idle, Store, Stretch};
 
 pub struct Driven(pub Library);
 
@@ -19,6 +19,10 @@ impl Store for Driven {
 
     fn mount(&self, image: &[u8]) -> (Answer, Record) {
         self.0.mount(image)
+    }
+
+    fn fault(&self, image: &[u8]) -> (Answer, Option<Fault>) {
+        self.0.fault(image)
     }
 
     fn format(&self, image: &[u8]) -> (Answer, Record) {

@@ -7,7 +7,7 @@ pub use calls::{Library, Told, UNCOUNTED};
 pub use driven::{Driven, flash};
 
 use std::ops::Range;
-use store::{Answer, Head, Idle, Store, Stretch};
+use store::{Answer, Fault, Field, Head, Idle, Store, Stretch};
 
 /// The most bytes of a value.
 pub const VALUE_LIMIT: usize = 240;
@@ -35,6 +35,16 @@ impl Store for Library {
     fn mount(&self, image: &[u8]) -> (Answer, Record) {
         let mut record = STALE;
         (self.mount_into(image, &mut record), record)
+    }
+
+    fn fault(&self, image: &[u8]) -> (Answer, Option<Fault>) {
+        let (answer, (half, number, place)) = self.fault_of(image);
+        let fault = Field::numbered(number).map(|field| Fault { half, field, place });
+        assert!(
+            fault.is_some() || (half, number, place) == (0, 0, 0),
+            "{answer}: half {half}, field {number}, place {place}"
+        );
+        (answer, fault)
     }
 
     fn format(&self, image: &[u8]) -> (Answer, Record) {

@@ -54,6 +54,11 @@ fn the_power_cuts_example() {
     try_example(&["power_cuts", "spi_nor", "chip"]);
 }
 
+#[test]
+fn the_broken_example() {
+    try_example(&["broken"]);
+}
+
 /// The first block of a language in README, which must have one.
 fn block(language: &str) -> String {
     let readme = text(repository("README.md"));

@@ -1,8 +1,9 @@
-//! The longest value and the record's size: what the library does, what the header says and what this wrapper knows are one.
+//! The longest value, the record's size and the fields' numbers: what the library does, what the header says and what this
+//! wrapper knows are one.
 
 use library::{JOB, Library, RECORD_SIZE, Record, VALUE_LIMIT};
 use std::fs;
-use store::{Answer, Store, message};
+use store::{Answer, Field, Store, message};
 
 const HEADER: &str = concat!(env!("CARGO_MANIFEST_DIR"), "/../../include/grommetide.h");
 
@@ -44,6 +45,21 @@ fn the_header_and_the_wrapper_say_the_same() {
     Library::linked();
     assert_eq!(defined("GROMMETIDE_RECORD_BYTES"), RECORD_SIZE);
     assert_eq!(defined("GROMMETIDE_VALUE_MAX"), VALUE_LIMIT);
+}
+
+/// The header's enumeration has the fields that the wrapper knows, by the same numbers, and no others.
+#[test]
+fn the_fields_have_the_headers_numbers() {
+    let header = header();
+    let words = header.lines().map(|line| line.split_whitespace().collect::<Vec<_>>());
+    let found = words.filter_map(|words| match words[..] {
+        [name, "=", number, ..] => Some((name.strip_prefix("GROMMETIDE_FIELD_")?.to_lowercase(), number)),
+        _ => None,
+    });
+    let stated: Vec<_> = found.map(|(name, number)| (name, number.trim_end_matches(',').parse())).collect();
+    assert_eq!(stated, Field::ALL.map(|field| (field.to_string(), Ok(field as u8))));
+    assert_eq!(Field::ALL.map(|field| Field::numbered(field as u8)), Field::ALL.map(Some));
+    assert_eq!([0, 9, 255].map(Field::numbered), [None; 3]);
 }
 
 #[test]

@@ -83,6 +83,10 @@ impl Board {
         self.finish(answer)
     }
 
+    fn fault(&mut self) -> Answer {
+        self.measure("grommetide_fault", |library, image, _| library.fault_of(image).0)
+    }
+
     fn format(&mut self) -> Answer {
         let answer =
             self.measure("grommetide_format", |library, image, record| library.format_into(image, record));
@@ -156,7 +160,20 @@ impl Board {
         assert_eq!(self.ask(3, &message::put(9, b"pending")), Answer::DONE);
         assert_eq!(self.mount(), Answer::DONE);
         assert_eq!(self.mount(), Answer::DONE);
+        let used = self.image.clone();
         assert_eq!(self.format(), Answer::DONE);
+        self.image = used;
+        self.break_it();
+    }
+
+    /// A sound image, one whose last frame is wrong, and one whose header is.
+    fn break_it(&mut self) {
+        assert_eq!(self.fault(), Answer::DONE);
+        let last = self.image.iter().rposition(|byte| *byte == 0xFE).expect("a finish byte");
+        for at in [last, 0, self.image.len() / 2] {
+            self.image[at] = 0;
+            assert_eq!(self.fault(), Answer::FOREIGN);
+        }
     }
 }
 
@@ -175,7 +192,7 @@ fn no_call_takes_more_stack_than_the_header_says() {
     for length in [512, 65_536] {
         let mut board = Board::new(length);
         board.use_all();
-        assert_eq!(board.most.len(), 8);
+        assert_eq!(board.most.len(), 9);
         for (call, used) in &board.most {
             println!("{call}, image of {length} bytes: {used} bytes of stack");
         }

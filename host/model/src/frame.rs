@@ -1,6 +1,7 @@
 //! Frames, the entries of a half's journal.
 
 use std::ops::Range;
+use std::sync::LazyLock;
 
 pub const FINISH: u8 = 0xFE;
 /// The most bytes of a value (K2).
@@ -40,6 +41,13 @@ pub enum Body {
 pub struct Frame {
     pub place: Range<usize>,
     pub body: Body,
+}
+
+impl Frame {
+    /// Whether it may stand where the lowest id of a settled frame is this.
+    pub fn may_stand(&self, lowest: u16) -> bool {
+        !matches!(self.body, Body::Settled(Id(id), _) if u16::from(id) < lowest)
+    }
 }
 
 pub fn put(host: Host, id: Id, value: &[u8]) -> Vec<u8> {
@@ -108,23 +116,27 @@ fn number(half: &[u8], at: usize) -> Option<usize> {
 /// Whether `tail` begins with a proper part of a legal frame of kinds 1 to 4 that would fit, followed by 0xFF only.
 pub fn torn(tail: &[u8]) -> bool {
     let programmed = tail.iter().rposition(|byte| *byte != 0xFF).map_or(0, |last| last + 1);
-    programmed > 0 && samples().any(|sample| begins(&tail[..programmed], sample, tail.len()))
+    programmed > 0 && SAMPLES.iter().any(|sample| begins(&tail[..programmed], sample, tail.len()))
 }
 
 /// Whether `start` is a proper part of a legal frame of the sample's kind and length.
-fn begins(start: &[u8], mut sample: Vec<u8>, room: usize) -> bool {
+fn begins(start: &[u8], sample: &[u8], room: usize) -> bool {
     if start.len() >= sample.len() || sample.len() > room {
         return false;
     }
-    sample[..start.len()].copy_from_slice(start);
-    match whole(&sample, 0) {
+    let begun = [start, &sample[start.len()..]].concat();
+    match whole(&begun, 0) {
         Some(Frame { place, body }) => place.end == sample.len() && !matches!(body, Body::Settled(..)),
         None => false,
     }
 }
 
 /// A legal frame of each kind from 1 to 4 and each of its lengths.
-fn samples() -> impl Iterator<Item = Vec<u8>> {
+pub static SAMPLES: LazyLock<Vec<Vec<u8>>> = LazyLock::new(|| {
     let puts = (0..=VALUE_LIMIT).map(|size| put(Host(0), Id(0), &vec![0; size]));
-    puts.chain([delete(Host(0), Id(0)), commit(Host(0)), abort(Host(0))])
-}
+    puts.chain([delete(Host(0), Id(0)), commit(Host(0)), abort(Host(0))]).collect()
+});
+
+/// A settled frame of each length, with the id that may stand wherever any may.
+pub static SETTLED_SAMPLES: LazyLock<Vec<Vec<u8>>> =
+    LazyLock::new(|| (0..=VALUE_LIMIT).map(|size| settled(Id(255), &vec![0; size])).collect());

@@ -50,13 +50,13 @@ pub fn read(half: &[u8]) -> Half {
     }
 }
 
-fn blank(bytes: &[u8]) -> bool {
+pub fn blank(bytes: &[u8]) -> bool {
     bytes.iter().all(|byte| *byte == 0xFF)
 }
 
 fn journal(half: &[u8]) -> Option<Journal> {
     let time = header_time(half)?;
-    let frames = frames(half)?;
+    let (frames, _) = frames(half);
     let end = frames.last().map_or(HEADER, |frame| frame.place.end);
     let tail = &half[end..];
     let torn = !blank(tail);
@@ -69,26 +69,20 @@ fn header_time(half: &[u8]) -> Option<u32> {
     (half[..TIME] == LABEL && time != 0 && blank(&half[STATE + 1..HEADER])).then_some(time)
 }
 
-/// The whole legal frames from the header on; none if settled ones are out of place.
-fn frames(half: &[u8]) -> Option<Vec<Frame>> {
+/// The whole legal frames from the header on, each where it may stand, and the lowest id that a settled frame may have
+/// after them: 256, which is none, once another frame has stood.
+pub fn frames(half: &[u8]) -> (Vec<Frame>, u16) {
     let mut frames = Vec::new();
-    let mut at = HEADER;
-    // The lowest id a settled frame may have at this place; none once another frame has stood.
-    let mut lowest = Some(0);
-    while let Some(frame) = frame::whole(half, at) {
-        if let Body::Settled(Id(id), _) = frame.body {
-            let id = u16::from(id);
-            if lowest.is_none_or(|lowest| id < lowest) {
-                return None;
-            }
-            lowest = Some(id + 1);
-        } else {
-            lowest = None;
-        }
+    let (mut at, mut lowest) = (HEADER, 0);
+    while let Some(frame) = frame::whole(half, at).filter(|frame| frame.may_stand(lowest)) {
+        lowest = match frame.body {
+            Body::Settled(Id(id), _) => u16::from(id) + 1,
+            _ => 256,
+        };
         at = frame.place.end;
         frames.push(frame);
     }
-    Some(frames)
+    (frames, lowest)
 }
 
 /// What replay of a journal gives.

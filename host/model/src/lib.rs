@@ -1,6 +1,7 @@
-//! Document 01 with K2 and K4 of document 02, implemented straightforwardly and on its own: nothing here is shared with
+//! Document 01 with K2, K4 and K5 of document 02, implemented straightforwardly and on its own: nothing here is shared with
 //! the proved library.
 
+pub mod fault;
 pub mod frame;
 pub mod half;
 pub mod job;
@@ -12,7 +13,7 @@ pub use job::Record;
 use job::Work;
 use request::{Page, Request};
 use store::message::PAGE;
-use store::{Answer, Head, Idle, Store, Stretch};
+use store::{Answer, Fault, Head, Idle, Store, Stretch};
 
 const LAST_TIME: u32 = u32::MAX;
 
@@ -23,6 +24,14 @@ impl Store for Model {
 
     fn mount(&self, image: &[u8]) -> (Answer, Record) {
         accepted_or_unmounted(mount(image))
+    }
+
+    fn fault(&self, image: &[u8]) -> (Answer, Option<Fault>) {
+        match mount(image) {
+            Ok(_) => (Answer::DONE, None),
+            Err(Answer::FOREIGN) => (Answer::FOREIGN, Some(fault::of_image(image))),
+            Err(refusal) => (refusal, None),
+        }
     }
 
     fn format(&self, image: &[u8]) -> (Answer, Record) {

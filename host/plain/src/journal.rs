@@ -1,5 +1,7 @@
 //! Reading a half: one pass over its frames, into a table of fixed size.
 
+use store::Field;
+
 pub const HEADER: usize = 16;
 /// Header bytes 0 to 3: length 16, kind 0x4A01.
 pub const LABEL: [u8; 4] = [0x10, 0x00, 0x01, 0x4A];
@@ -27,8 +29,11 @@ pub enum State {
     Blank,
     InProgress,
     Valid,
-    Foreign,
+    Foreign(Wrong),
 }
+
+/// The first field that is wrong, and where it starts.
+pub type Wrong = (Field, usize);
 
 /// What a valid half holds. A place is the offset of a frame in the half; 0 is none.
 #[derive(Clone)]
@@ -61,20 +66,36 @@ impl Journal {
 
     /// Reads a half into an empty journal, which means something if the half is valid.
     pub fn read(&mut self, half: &[u8]) -> State {
-        match half[STATE] {
-            0xFF if blank(half) => State::Blank,
-            IN_PROGRESS => State::InProgress,
-            VALID if self.header(half) && self.frames(half) => State::Valid,
-            _ => State::Foreign,
+        if half[STATE] == IN_PROGRESS {
+            return State::InProgress;
+        }
+        if half[STATE] == 0xFF && blank(half) {
+            return State::Blank;
+        }
+        match self.header(half).and_then(|()| self.frames(half)) {
+            Ok(()) => State::Valid,
+            Err(wrong) => State::Foreign(wrong),
         }
     }
 
-    fn header(&mut self, half: &[u8]) -> bool {
+    fn header(&mut self, half: &[u8]) -> Result<(), Wrong> {
         self.time = !u32::from_le_bytes([half[4], half[5], half[6], half[7]]);
-        half[..TIME] == LABEL && self.time != 0 && blank(&half[STATE + 1..HEADER])
+        if half[..2] != LABEL[..2] {
+            Err((Field::Length, 0))
+        } else if half[2..TIME] != LABEL[2..] {
+            Err((Field::Kind, 2))
+        } else if self.time == 0 {
+            Err((Field::Time, TIME))
+        } else if half[STATE] != VALID {
+            Err((Field::State, STATE))
+        } else if !blank(&half[STATE + 1..HEADER]) {
+            Err((Field::Rest, STATE + 1))
+        } else {
+            Ok(())
+        }
     }
 
-    fn frames(&mut self, half: &[u8]) -> bool {
+    fn frames(&mut self, half: &[u8]) -> Result<(), Wrong> {
         // the least id that a settled frame may still have
         let mut least = 0;
         while let Some((length, kind)) = frame_at(&half[self.end..]) {
@@ -82,7 +103,7 @@ impl Journal {
             let number = half[at + 4];
             let host = usize::from(number & 3);
             match kind {
-                SETTLED if u16::from(number) < least => return false,
+                SETTLED if u16::from(number) < least => break,
                 SETTLED => self.set(half, number, at),
                 COMMIT => self.commit(half, host),
                 ABORT => self.pending[host] = 0,
@@ -98,7 +119,11 @@ impl Journal {
         }
         let tail = &half[self.end..];
         self.torn = !blank(tail);
-        !self.torn || begins_frame(tail)
+        if !self.torn || begins_frame(tail) {
+            return Ok(());
+        }
+        let (field, place) = wrong_field(tail, least);
+        Err((field, self.end + place))
     }
 
     /// Goes over the host's pending frames again, in their order.
@@ -191,4 +216,36 @@ fn begins_frame(tail: &[u8]) -> bool {
         && seen(3, byte(3) == 0)
         && seen(4, byte(4) <= 3)
         && seen(6, byte(6) == 0)
+}
+
+/// The first wrong field of a tail in which no frame that may stand there is whole, torn or missing.
+fn wrong_field(tail: &[u8], least: u16) -> Wrong {
+    let number = |at: usize| tail.get(at..at + 2).map_or(0, |bytes| u16::from_le_bytes([bytes[0], bytes[1]]));
+    let (length, kind) = (usize::from(number(0)), number(2));
+    let settled = least < 256;
+    let some_kind = match length {
+        MARK | 8..=LONGEST => true,
+        7 => settled,
+        _ => false,
+    };
+    let this_kind = match kind {
+        1 => length >= 8,
+        2 => length == 8,
+        3 | 4 => length == MARK,
+        5 => settled && (7..LONGEST).contains(&length),
+        _ => false,
+    };
+    if !some_kind || length > tail.len() {
+        (Field::Length, 0)
+    } else if !this_kind {
+        (Field::Kind, 2)
+    } else if kind < 5 && tail[4] > 3 {
+        (Field::Host, 4)
+    } else if kind < 3 && number(5) > 255 {
+        (Field::Id, 5)
+    } else if kind == 5 && !(least..256).contains(&number(4)) {
+        (Field::Id, 4)
+    } else {
+        (Field::Finish, length - 1)
+    }
 }

@@ -10,8 +10,8 @@ mod journal;
 use job::Phase;
 pub use job::Record;
 pub use journal::VALUE_LIMIT;
-use journal::{ABORT, COMMIT, DELETE, HEADER, Journal, MARK, PUT, State, blank, value_at};
-use store::{Answer, Head, Idle, Store, Stretch};
+use journal::{ABORT, COMMIT, DELETE, HEADER, Journal, MARK, PUT, State, TIME, blank, value_at};
+use store::{Answer, Fault, Field, Head, Idle, Store, Stretch};
 
 pub struct Plain;
 
@@ -30,7 +30,7 @@ fn begin_mount(image: &[u8], record: &mut Record) -> Result<Answer, Answer> {
         [State::Valid, State::Valid] => usize::from(journals[1].time > journals[0].time),
         [State::Valid, _] => 0,
         [_, State::Valid] => 1,
-        [State::Foreign, _] | [_, State::Foreign] => return Err(Answer::FOREIGN),
+        [State::Foreign(_), _] | [_, State::Foreign(_)] => return Err(Answer::FOREIGN),
         _ => return Err(Answer::NO_STORE),
     };
     let journal = &journals[half];
@@ -46,6 +46,25 @@ fn begin_mount(image: &[u8], record: &mut Record) -> Result<Answer, Answer> {
         record.transfer(journal, false);
     }
     Ok(record.begin(image))
+}
+
+/// Why a mount would be refused, and with 3 where the image broke; 0 if it would be accepted.
+pub fn fault(image: &[u8]) -> (Answer, Option<Fault>) {
+    match mount(image, &mut Record::UNMOUNTED.clone()) {
+        Answer::FOREIGN => (Answer::FOREIGN, Some(broken(image))),
+        answer if answer.refused() => (answer, None),
+        _ => (Answer::DONE, None),
+    }
+}
+
+/// The first half that is foreign; if none is, both are valid with equal times.
+fn broken(image: &[u8]) -> Fault {
+    for half in [0, 1] {
+        if let State::Foreign((field, place)) = Journal::EMPTY.clone().read(half_of(image, half)) {
+            return Fault { half, field, place };
+        }
+    }
+    Fault { half: 0, field: Field::Time, place: TIME }
 }
 
 /// Begins to make an empty store. The half that holds the store, if there is one, is erased last.
@@ -203,6 +222,10 @@ impl Store for Plain {
     fn mount(&self, image: &[u8]) -> (Answer, Record) {
         let mut record = Record::UNMOUNTED;
         (mount(image, &mut record), record)
+    }
+
+    fn fault(&self, image: &[u8]) -> (Answer, Option<Fault>) {
+        fault(image)
     }
 
     fn format(&self, image: &[u8]) -> (Answer, Record) {

@@ -1,8 +1,10 @@
 //! What a settings store offers (document 01), whoever implements it.
 
+mod fault;
 pub mod hex;
 pub mod message;
 
+pub use fault::{Fault, Field};
 use std::fmt;
 
 /// The answer to a call: document 01's number, 255 for "more"; 252 to 254 are the library's own.
@@ -77,6 +79,8 @@ pub trait Store {
     type Record: Clone + PartialEq + fmt::Debug;
 
     fn mount(&self, image: &[u8]) -> (Answer, Self::Record);
+    /// Why a mount would be refused: its number, and with 3 where the image broke; 0 if it would be accepted.
+    fn fault(&self, image: &[u8]) -> (Answer, Option<Fault>);
     fn format(&self, image: &[u8]) -> (Answer, Self::Record);
     fn request(
         &self,

@@ -1,7 +1,7 @@
 //! Random runs and damaged images, fixed seeds. `cargo run --release -p check` makes more rounds of the same.
 
 use check::rounds::{Sum, damaged_images, random_runs};
-use store::Answer;
+use store::{Answer, Field};
 
 fn seen(sum: &Sum, call: &'static str, answers: &[Answer]) {
     for answer in answers {
@@ -27,6 +27,13 @@ fn seen_values(sum: &Sum) {
     assert!(sum.tally.with_value("request", Answer::MALFORMED, 241) > 0, "no put of 241 bytes was tried");
 }
 
+/// Each half was found broken in each field.
+fn seen_faults(sum: &Sum) {
+    for (half, field) in [0, 1].into_iter().flat_map(|half| Field::ALL.map(|field| (half, field))) {
+        assert!(sum.tally.faults(half, field) > 0, "half {half} never had a bad {field}");
+    }
+}
+
 fn runs_of(rounds: std::ops::Range<u64>) {
     let mut sum = Sum::default();
     rounds.for_each(|round| random_runs(round, &mut sum));
@@ -36,6 +43,7 @@ fn runs_of(rounds: std::ops::Range<u64>) {
     seen(&sum, "request", &[0, 1, 2, 5, 6, 7, 8, 9, 10, 255].map(Answer));
     seen(&sum, "run", &[0, 255].map(Answer));
     seen_values(&sum);
+    seen_faults(&sum);
 }
 
 #[test]
@@ -56,4 +64,5 @@ fn images_of_first_rounds() {
     seen(&sum, "request", &[0, 1, 2, 6, 7, 8, 9, 10, 11, 255].map(Answer));
     seen(&sum, "read", &[0, 1, 2, 8, 10, 11].map(Answer));
     seen_values(&sum);
+    seen_faults(&sum);
 }

@@ -6,7 +6,7 @@ use library::Library;
 use model::half::{self, Half};
 use model::{Model, Record, half_of};
 use plain::Plain;
-use store::{Answer, Head, Idle, Store, Stretch, message};
+use store::{Answer, Fault, Head, Idle, Store, Stretch, message};
 
 type Begun = (Answer, Record);
 
@@ -21,6 +21,10 @@ impl Store for Altered {
 
     fn mount(&self, image: &[u8]) -> Begun {
         (self.mount)(image)
+    }
+
+    fn fault(&self, image: &[u8]) -> (Answer, Option<Fault>) {
+        Model.fault(image)
     }
 
     fn format(&self, image: &[u8]) -> Begun {

@@ -87,7 +87,7 @@ mod tests {
     use super::*;
     use model::{Model, Record};
     use std::cell::Cell;
-    use store::{Head, Idle, Stretch};
+    use store::{Fault, Head, Idle, Stretch};
 
     /// After a mount it hands out object 1's value for object 2's: a new low limit, and no high one.
     struct Mixed {
@@ -100,6 +100,10 @@ mod tests {
         fn mount(&self, image: &[u8]) -> (Answer, Record) {
             self.mounted.set(true);
             Model.mount(image)
+        }
+
+        fn fault(&self, image: &[u8]) -> (Answer, Option<Fault>) {
+            Model.fault(image)
         }
 
         fn format(&self, image: &[u8]) -> (Answer, Record) {

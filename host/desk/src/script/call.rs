@@ -24,7 +24,7 @@ impl<S: Store> Call<S> {
         Call { name: "image", takes: "HEX", make: image },
         Call { name: "load", takes: "FILE", make: load },
         Call { name: "save", takes: "FILE", make: save },
-        Call { name: "mount", takes: "", make: |board, _| answer(board.mount()) },
+        Call { name: "mount", takes: "", make: mount },
         Call { name: "format", takes: "", make: |board, _| answer(board.format()) },
         Call { name: "step", takes: "[N]", make: step },
         Call { name: "run", takes: "", make: run },
@@ -89,6 +89,13 @@ fn save<S: Store>(board: &mut Board<S>, words: &[Word]) -> Made {
     let path = words[0].file()?;
     fs::write(path, &board.image).map_err(|error| format!("{}: {}", words[0].said(), input::why(&error)))?;
     Ok(Back::Ok)
+}
+
+/// Refused with 3 it says where the image broke.
+fn mount<S: Store>(board: &mut Board<S>, _: &[Word]) -> Made {
+    let answer = board.mount();
+    let fault = if answer == Answer::FOREIGN { board.fault() } else { None };
+    Ok(Back::Answer(answer, fault.map_or(String::new(), |fault| fault.to_string())))
 }
 
 fn step<S: Store>(board: &mut Board<S>, words: &[Word]) -> Made {

@@ -2,6 +2,7 @@
 
 mod demo;
 mod erase;
+mod fault;
 mod files;
 mod input;
 mod replay;

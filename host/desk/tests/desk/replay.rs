@@ -203,7 +203,7 @@ fn pokes_and_forged_records() {
         ("poke 511 fe", "ok"),
         ("req 0 04000301 0", "11"),
         ("poke 8 ff", "ok"),
-        ("mount", "3"),
+        ("mount", "3 half=0 fault=state place=8"),
         ("poke 8 fc", "ok"),
         ("mount", "more"),
         ("poke 504 fcffffffffffffff", "ok"),
@@ -211,31 +211,6 @@ fn pokes_and_forged_records() {
         ("poke 512 -", "ok"),
         ("unmount", "ok"),
         ("req 0 04000301 0", "2"),
-    ]);
-}
-
-#[test]
-fn what_mount_says_of_a_poked_image() {
-    check(&[
-        ("new 512", "ok"),
-        ("mount", "2"),
-        ("poke 0 1000014afefffffffc", "ok"),
-        ("mount", "0"),
-        // A commit of host 4, then of host 1.
-        ("poke 16 0600030004fe", "ok"),
-        ("mount", "3"),
-        ("poke 20 01", "ok"),
-        ("mount", "0"),
-        ("poke 9 00", "ok"),
-        ("mount", "3"),
-        ("poke 9 ff", "ok"),
-        // A second half of the same time, then of a later one.
-        ("poke 256 1000014afefffffffc", "ok"),
-        ("mount", "3"),
-        ("poke 260 fd", "ok"),
-        ("mount", "more"),
-        ("run", "0 steps=1"),
-        ("record", "idle len=512 half=1 end=16"),
     ]);
 }
 
@@ -260,10 +235,12 @@ fn tickets() {
         let (status, out, errors) = run(&["replay", "--strict", &format!("{TICKETS}/{ticket}.desk")], b"");
         assert_eq!((status, &out, &errors[..]), (0, &expected(ticket), ""), "{ticket}");
     }
-    let show = ["show", "--hex", "--journal", "returned-board.hex"];
-    let output = command(&show).current_dir(TICKETS).output().expect("desk ends");
-    assert_eq!(String::from_utf8(output.stdout).expect("text"), expected("returned-board"));
-    assert!(output.status.success());
+    for (board, status) in [("returned-board", 0), ("damaged-board", 1)] {
+        let show = ["show", "--hex", "--journal", &format!("{board}.hex")];
+        let output = command(&show).current_dir(TICKETS).output().expect("desk ends");
+        assert_eq!(String::from_utf8(output.stdout).expect("text"), expected(board));
+        assert_eq!(output.status.code(), Some(status));
+    }
 }
 
 #[test]

@@ -141,22 +141,27 @@ fn no_store() {
 
 #[test]
 fn foreign_halves_and_equal_times() {
-    let refused = "mount answers 3, foreign. No half is valid and one is foreign, or both are
-equally new. Only a format helps, and it loses all objects.\n";
-    let state = "half 1: foreign: power was lost while it was being erased, or it is damaged\n    256  ?...";
-    check(["", "00"], 1, &["half 0: blank\n", state, refused]);
+    let refused = |sentence: &str| {
+        format!("mount answers 3, foreign.\n{sentence}.\nOnly a format helps, and it loses all objects.\n")
+    };
+    let state = "half 1: foreign: power was lost while it was being erased, or it is damaged
+  the header's length at byte 0 (256 of the image) is not 16\n    256  ?...";
+    let length = refused("half 1: the header's length at byte 0 is not 16");
+    check(["", "00"], 1, &["half 0: blank\n", state, &length]);
     let in_progress = "half 0: in progress: power was lost while it was being written\n";
-    check(["fffffffffffffffffe", "00"], 1, &[in_progress, state, refused]);
+    check(["fffffffffffffffffe", "00"], 1, &[in_progress, state, &length]);
     let old = format!("{HEADER}{PUT}{COMMIT}");
     let pending = format!("{HEADER}{PUT}");
     let parts = ["Settled in half 0: 1 object;", "Settled in half 1: no objects;", "  host 2  put 5 = \"AB\"\n"];
-    check([&old, &pending], 1, &["half 1: valid, time 1\n", parts[0], parts[1], parts[2], refused]);
+    let time = refused("half 0: the time at byte 4 is the other half's too");
+    check([&old, &pending], 1, &["half 1: valid, time 1\n", parts[0], parts[1], parts[2], &time]);
 }
 
 /// K4: what the valid half holds counts, and the foreign one is erased.
 #[test]
 fn a_foreign_half_beside_a_valid_one() {
-    let state = "half 1: foreign: power was lost while it was being erased, or it is damaged\n    256  ?...";
+    let state = "half 1: foreign: power was lost while it was being erased, or it is damaged
+  the header's length at byte 0 (256 of the image) is not 16\n    256  ?...";
     let old = format!("{HEADER}{PUT}{COMMIT}");
     let mount = "mount answers more (255 in C), and 0, done, after 1 step.
 Its first step erases the foreign half.\nHalf 0 is then current.\n";

@@ -98,7 +98,7 @@ const REFUSED: [(&str, &str, &str); 16] = [
     ("mount", "2", "2 no store"),
     ("commit 0", "2", "2 no store"),
     ("poke 8 00", "ok", "ok"),
-    ("mount", "3", "3 foreign"),
+    ("mount", "3 half=0 fault=length place=0", "3 foreign half=0 fault=length place=0"),
     ("format", "more", "more"),
     ("commit 0", "5", "5 busy"),
     ("run", "0 steps=12", "0 steps=12"),

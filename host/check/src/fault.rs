@@ -1,0 +1,23 @@
+//! What model, library and plain say of an image that a mount refuses (K5).
+
+use library::Library;
+use model::Model;
+use plain::Plain;
+use store::{Answer, Fault, Store, hex};
+
+/// Mount's refusal, 0 if it would be accepted, and where the image broke: all three say the same.
+pub fn agreed(image: &[u8]) -> (Answer, Option<Fault>) {
+    let expected = Model.fault(image);
+    for (name, said) in
+        [("the library", Library::linked().fault(image)), ("the plain program", Plain.fault(image))]
+    {
+        assert!(
+            said == expected,
+            "{name} says {said:?}, the model {expected:?}\nimage {}\nmount",
+            hex::show(image)
+        );
+    }
+    let (answer, fault) = expected;
+    assert_eq!(fault.is_some(), answer == Answer::FOREIGN, "{answer}, yet {fault:?}");
+    expected
+}
