@@ -17,12 +17,12 @@ use Rattle.board.specs.Exec.{exec}
 use Rattle.board.specs.Rows.{drive, returned, ask, asked, cutIn, mounted, replayed, timed, part, rowA, rowB, rowC, rowD, rowE, rowF}
 use Rattle.board.specs.Rows.{rowG, rowH, rowI, rowK, rowALong, rowO, commitMessage, putMessage, formatAnswer, Rows}
 
-pub rows : Rows exec
+pub rows : {N : ℕ} → Rows (exec N)
 unfolding drive returned ask asked cutIn mounted replayed timed part rowA rowB rowC rowD rowE rowF rowG rowH rowI rowK rowALong rowO commitMessage
     putMessage formatAnswer allFF sameBytes writes encodeAll total match readFrame scan insert remove lookup changeAll listOf
     without isOpen replayFrom headerFault blockState noRoom sited placesFrom sinceFrom valueAt nextSettled nextPending nextLoad
-    parse noPlaces noFrame enterAppend enterDrop enterCopy enterOpen enterWipe advance stepBusy stepOn mountAt mountFound mountOn
-    formatOrder formatOn held append serveChange serveEnd serveLog serve requestOn
+    parse noPlaces noFrame enterAppend enterDrop (enterCopy N) enterOpen enterWipe (advance N) (stepBusy N) (stepOn N) (mountAt N) (mountFound N) (mountOn N)
+    formatOrder N (formatOn N) (held N) (append N) (serveChange N) (serveEnd N) (serveLog N) (serve N) (requestOn N)
 rows =
     record {
       a-steps = refl;

@@ -8,7 +8,7 @@ use native.Mathlib.Omega.{arith}
 use lib.Dec.{eqb}
 use lib.ListN.{length, replicate, length-replicate}
 use borrow.Author.Tests.{eqb-true, eqb-false}
-use Rattle.flash.specs.Flash.{erase, withBlock, eraseBlock, applyAll, block, blocks}
+use Rattle.flash.specs.Flash.{erase, withBlock, eraseBlock, applyAll, block}
 use Rattle.flash.proofs.Cases.{on-test}
 use Rattle.flash.proofs.Image.{length-erase, block-erase, other-erase}
 use Rattle.flash.proofs.Raising.{block-with, other-with}
@@ -47,21 +47,21 @@ quiet-not-valid x t fs c q e = absurd (subst Quiet e q)
 -- ---- what a safe image holds
 
 -- no block is valid, none is foreign
-abbrev pub NoStore : ℕ → List ℕ → Type 0
-NoStore s img = (j : ℕ) → j < blocks → Quiet (blockState (block s j img))
+abbrev pub NoStore : ℕ → ℕ → List ℕ → Type 0
+NoStore N s img = (j : ℕ) → j < N → Quiet (blockState (block s j img))
 
 -- the objects are there, or no store
-pub safe-or : {s : ℕ} {img : List ℕ} {os : List Object} {u : Bool} → Safe s img os u → Safe s img os false ⊎ ((u ≡ true) × NoStore s img)
+pub safe-or : {N : ℕ} {s : ℕ} {img : List ℕ} {os : List Object} {u : Bool} → Safe N s img os u → Safe N s img os false ⊎ ((u ≡ true) × NoStore N s img)
 safe-or (no-valid e q) = inr (e, q)
 safe-or (some-valid k h v q) = inl (some-valid k h v q)
 
-pub safe-more : {s : ℕ} {img : List ℕ} {os : List Object} (u : Bool) → Safe s img os false → Safe s img os u
+pub safe-more : {N : ℕ} {s : ℕ} {img : List ℕ} {os : List Object} (u : Bool) → Safe N s img os false → Safe N s img os u
 safe-more u (no-valid e q) = absurd (false≢true e)
 safe-more u (some-valid k h v q) = some-valid k h v q
 
-pub safe-some : {s : ℕ} {img : List ℕ} {os : List Object} → Safe s img os false → NoStore s img → ⊥
+pub safe-some : {N : ℕ} {s : ℕ} {img : List ℕ} {os : List Object} → Safe N s img os false → NoStore N s img → ⊥
 safe-some (no-valid e q) n = false≢true e
-safe-some {s} {img} (some-valid k h v q) n =
+safe-some {N} {s} {img} (some-valid k h v q) n =
     quiet-not-valid (blockState (block s k img)) (v .time) (v .frames) (v .tail) (n k h) (contents-valid (v .contents))
 
 -- a valid state's parts
@@ -75,8 +75,8 @@ same-valid e = record { time = cc; frames = cc; tail = cc }
 
 -- ---- one erase
 
-module _ {s : ℕ} {img : List ℕ} (z : Sized s img) (k : ℕ) (h : k < blocks) where
-  pub sized-erase : Sized s (eraseBlock s k img)
+module _ {N : ℕ} {s : ℕ} {img : List ℕ} (z : Sized N s img) (k : ℕ) (h : k < N) where
+  pub sized-erase : Sized N s (eraseBlock s k img)
   sized-erase = sized-as (eraseBlock s k img) (length-erase s k img) z
 
   pub erased : block s k (eraseBlock s k img) ≡ replicate s 255
@@ -93,25 +93,25 @@ module _ {s : ℕ} {img : List ℕ} (z : Sized s img) (k : ℕ) (h : k < blocks)
 -- ---- a block beside the current one gets other bytes
 
 -- m is the current block, and k is not
-module _ {s : ℕ} {img : List ℕ} {os : List Object} (z : Sized s img) (m k : ℕ) (l : m < blocks) (h : k < blocks) (d : m ≡ k → ⊥) (v : Valid s img m os)
-    (q : Others (Lesser s img (v .time)) m) (new : List ℕ) (long : length new ≡ s) (y : Harmless (v .time) new) where
+module _ {N : ℕ} {s : ℕ} {img : List ℕ} {os : List Object} (z : Sized N s img) (m k : ℕ) (l : m < N) (h : k < N) (d : m ≡ k → ⊥) (v : Valid s img m os)
+    (q : Others N (Lesser s img (v .time)) m) (new : List ℕ) (long : length new ≡ s) (y : Harmless (v .time) new) where
   abbrev pub still : Valid s (withBlock s k new img) m os
   still = valid-kept (withBlock s k new img) (other-with s k new img (sized-block k z h) long m d) v
 
-  pub still-lesser : Others (Lesser s (withBlock s k new img) (v .time)) m
+  pub still-lesser : Others N (Lesser s (withBlock s k new img) (v .time)) m
   still-lesser j g n =
       on-test (eqb j k)
       (λ t. subst (Harmless (v .time))
       (sym (ap (λ (i : ℕ). block s i (withBlock s k new img)) (eqb-true j k t) ∙ block-with s k new img (sized-block k z h) long)) y)
       (λ t. subst (Harmless (v .time)) (sym (other-with s k new img (sized-block k z h) long j (eqb-false j k t))) (q j g n))
 
-  pub still-safe : (u : Bool) → Safe s (withBlock s k new img) os u
+  pub still-safe : (u : Bool) → Safe N s (withBlock s k new img) os u
   still-safe u = some-valid m l still still-lesser
 
-module _ {s : ℕ} {img : List ℕ} {os : List Object} (z : Sized s img) (m k : ℕ) (l : m < blocks) (h : k < blocks) (d : m ≡ k → ⊥) (v : Valid s img m os)
-    (q : Others (Lesser s img (v .time)) m) where
+module _ {N : ℕ} {s : ℕ} {img : List ℕ} {os : List Object} (z : Sized N s img) (m k : ℕ) (l : m < N) (h : k < N) (d : m ≡ k → ⊥) (v : Valid s img m os)
+    (q : Others N (Lesser s img (v .time)) m) where
   -- its erase is cut
-  pub cut-safe : (u : Bool) → CutSafe s os u (erase k) img
+  pub cut-safe : (u : Bool) → CutSafe N s os u (erase k) img
   cut-safe u new r =
       still-safe z m k l h d v q new (r .long ∙ block-long k z h) (harmless-raised (v .time) (block s k img) new r (q k h (λ e. d (sym e)))) u
 
@@ -127,11 +127,11 @@ module _ {s : ℕ} {img : List ℕ} {os : List Object} (z : Sized s img) (m k : 
   ones-harmless = blank-harmless s (v .time) ones (omega (arith, z .low)) (ap (λ (n : ℕ). replicate n 255) (block-long k z h))
 
   -- it is erased
-  pub erase-lesser : Others (Lesser s (eraseBlock s k img) (v .time)) m
+  pub erase-lesser : Others N (Lesser s (eraseBlock s k img) (v .time)) m
   unfolding ones
   erase-lesser = still-lesser z m k l h d v q ones ones-long ones-harmless
 
-  pub erase-safe : (u : Bool) → Safe s (eraseBlock s k img) os u
+  pub erase-safe : (u : Bool) → Safe N s (eraseBlock s k img) os u
   unfolding ones
   erase-safe u = still-safe z m k l h d v q ones ones-long ones-harmless u
 
@@ -141,12 +141,12 @@ abbrev pub In : ℕ → List ℕ → Type 0
 In j [] = ⊥
 In j (k ∷ ks) = (j ≡ k) ⊎ In j ks
 
-pub erases-blank : {s : ℕ} (j : ℕ) (ks : List ℕ) (img : List ℕ) → Sized s img → Blocks ks → (block s j img ≡ replicate s 255) ⊎ In j ks
+pub erases-blank : {N : ℕ} {s : ℕ} (j : ℕ) (ks : List ℕ) (img : List ℕ) → Sized N s img → Blocks N ks → (block s j img ≡ replicate s 255) ⊎ In j ks
     → block s j (applyAll s (map erase ks) img) ≡ replicate s 255
 unfolding applyAll
 erases-blank j [] img z b (inl e) = e
 erases-blank j [] img z b (inr i) = absurd i
-erases-blank {s} j (k ∷ ks) img z (h, b) c = erases-blank j ks (eraseBlock s k img) (sized-erase z k h) b (go c)
+erases-blank {N} {s} j (k ∷ ks) img z (h, b) c = erases-blank j ks (eraseBlock s k img) (sized-erase z k h) b (go c)
   where
     go : (block s j img ≡ replicate s 255) ⊎ ((j ≡ k) ⊎ In j ks) → (block s j (eraseBlock s k img) ≡ replicate s 255) ⊎ In j ks
     go (inl e) =
@@ -163,23 +163,23 @@ erases-land s (k ∷ ks) img zero h = tt
 erases-land s (k ∷ ks) img (suc j) h = erases-land s ks (eraseBlock s k img) j (omega arith)
 
 -- others than the current one: cut or not, each keeps what a mount finds
-pub erases-guard : {s : ℕ} {os : List Object} (u : Bool) (n : ℕ) (ks : List ℕ) (img : List ℕ) → Sized s img → n < blocks → Besides n ks
-    → (v : Valid s img n os) → Others (Lesser s img (v .time)) n → Each s (Guard s os u) (map erase ks) img
+pub erases-guard : {N : ℕ} {s : ℕ} {os : List Object} (u : Bool) (n : ℕ) (ks : List ℕ) (img : List ℕ) → Sized N s img → n < N → Besides N n ks
+    → (v : Valid s img n os) → Others N (Lesser s img (v .time)) n → Each s (Guard N s os u) (map erase ks) img
 unfolding applyAll
 erases-guard u n [] img z l b v q j h = absurd (omega arith)
 erases-guard u n (k ∷ ks) img z l (g, d, b) v q zero h = (some-valid n l v q, cut-safe z n k l g d v q u)
-erases-guard {s} u n (k ∷ ks) img z l (g, d, b) v q (suc j) h =
+erases-guard {N} {s} u n (k ∷ ks) img z l (g, d, b) v q (suc j) h =
     erases-guard u n ks (eraseBlock s k img) (sized-erase z k g) l b (valid-kept (eraseBlock s k img) (other-erase s n k img d) v)
     (erase-lesser z n k l g d v q) j (omega arith)
 
 -- the valid block is then alone
-pub erases-alone : {s : ℕ} {n t : ℕ} {fs : List Frame} {c : Tail} (ks : List ℕ) (img : List ℕ) → Sized s img → n < blocks
-    → Contents (block s n img) t fs c → Besides n ks
-    → Others (λ j. (block s j img ≡ replicate s 255) ⊎ In j ks) n → Alone s (applyAll s (map erase ks) img) n t fs c
-erases-alone {s} {n} {t} {fs} {c} ks img z l x b o =
+pub erases-alone : {N : ℕ} {s : ℕ} {n t : ℕ} {fs : List Frame} {c : Tail} (ks : List ℕ) (img : List ℕ) → Sized N s img → n < N
+    → Contents (block s n img) t fs c → Besides N n ks
+    → Others N (λ j. (block s j img ≡ replicate s 255) ⊎ In j ks) n → Alone N s (applyAll s (map erase ks) img) n t fs c
+erases-alone {N} {s} {n} {t} {fs} {c} ks img z l x b o =
     record {
       sized = sized-as (applyAll s (map erase ks) img) (length-all-steps s (map erase ks) img) z;
       there = l;
-      contents = subst (λ (y : List ℕ). Contents y t fs c) (sym (besides-kept s n ks img b)) x;
-      others = λ j h d. erases-blank j ks img z (besides-blocks n ks b) (o j h d);
+      contents = subst (λ (y : List ℕ). Contents y t fs c) (sym (besides-kept N s n ks img b)) x;
+      others = λ j h d. erases-blank j ks img z (besides-blocks N n ks b) (o j h d);
     }

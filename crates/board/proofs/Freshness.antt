@@ -9,7 +9,7 @@ use lib.Dec.{eqb, ltb, leb}
 use lib.ListN.{length, replicate}
 use borrow.Author.Tests.{eqb-true, eqb-false, eq-eqb, leb-true, le-leb, ltb-true, lt-ltb}
 use Rattle.flash.specs.Bytes.{Bytes, allFF}
-use Rattle.flash.specs.Flash.{blocks, blockNumbers, block, sizeOf}
+use Rattle.flash.specs.Flash.{blockNumbers, block, sizeOf}
 use Rattle.flash.proofs.Cases.{and-both, and-left, and-right, or-left, or-right, on-test}
 use Rattle.flash.proofs.Blank.{is-ff}
 use Rattle.flash.proofs.Image.{length-block, bytes-block}
@@ -34,47 +34,47 @@ blank-means : (l : List ℕ) → Blank l → allFF l ≡ true
 blank-means l e = is-ff l e
 
 -- the other blocks one by one
-others-are : (k : ℕ) (img : List ℕ) → ((j : ℕ) → j < blocks → (j ≡ k → ⊥) → allFF (block (sizeOf img) j img) ≡ true) → othersBlank k img blockNumbers ≡ true
-others-are k img f = and-both (one 0) (one 1 && true) (each 0 (omega arith)) (and-both (one 1) true (each 1 (omega arith)) refl)
+others-are : {N : ℕ} (k : ℕ) (img : List ℕ) → ((j : ℕ) → j < N → (j ≡ k → ⊥) → allFF (block (sizeOf N img) j img) ≡ true) → othersBlank N k img (blockNumbers N) ≡ true
+others-are {N} k img f = and-both (one 0) (one 1 && true) (each 0 (omega arith)) (and-both (one 1) true (each 1 (omega arith)) refl)
   where
     one : ℕ → Bool
-    one j = eqb k j || allFF (block (sizeOf img) j img)
+    one j = eqb k j || allFF (block (sizeOf N img) j img)
 
-    each : (j : ℕ) → j < blocks → one j ≡ true
+    each : (j : ℕ) → j < N → one j ≡ true
     each j h =
-        on-test (eqb k j) (or-left (eqb k j) (allFF (block (sizeOf img) j img)))
-        (λ t. or-right (eqb k j) (allFF (block (sizeOf img) j img)) (f j h (λ e. eqb-false k j t (sym e))))
+        on-test (eqb k j) (or-left (eqb k j) (allFF (block (sizeOf N img) j img)))
+        (λ t. or-right (eqb k j) (allFF (block (sizeOf N img) j img)) (f j h (λ e. eqb-false k j t (sym e))))
 
-held-here : (img : List ℕ) (r : Record) (x : Held) → sameImage img r ≡ true
-    → blockState (block (sizeOf img) (r .block) img) ≡ valid (x .time) (x .frames) clean → fitsRecord (sizeOf img) (r .end) (x .frames) ≡ true
-    → held img r ≡ some x
+held-here : {N : ℕ} (img : List ℕ) (r : Record) (x : Held) → sameImage N img r ≡ true
+    → blockState (block (sizeOf N img) (r .block) img) ≡ valid (x .time) (x .frames) clean → fitsRecord (sizeOf N img) (r .end) (x .frames) ≡ true
+    → held N img r ≡ some x
 unfolding held
-held-here img r x a v f =
-    ap (λ (b : Bool). heldBy b img r) a ∙ ap (λ (b : BlockState). heldIn (sizeOf img) (r .end) b) v
+held-here {N} img r x a v f =
+    ap (λ (b : Bool). heldBy N b img r) a ∙ ap (λ (b : BlockState). heldIn (sizeOf N img) (r .end) b) v
     ∙ ap (λ (b : Bool). heldIf b (x .time) (x .frames)) f
 
-module _ (img : List ℕ) (r : Record) (x : Held) (by : Bytes img) (ok : allowed (length img) ≡ true) where
+module _ {N : ℕ} (img : List ℕ) (r : Record) (x : Held) (by : Bytes img) (ok : allowed N (length img) ≡ true) where
   abbrev s : ℕ
-  s = sizeOf img
+  s = sizeOf N img
 
-  sized : Sized s img
+  sized : Sized N s img
   sized = sized-of img ok
 
-  long-block : (k : ℕ) → k < blocks → headerLen ≤ length (block s k img)
+  long-block : (k : ℕ) → k < N → headerLen ≤ length (block s k img)
   long-block k h = let e : length (block s k img) ≡ s = length-block s k img (sized-block k sized h) in omega (arith, sized .low)
 
-  held-fresh : held img r ≡ some x → Fresh img r x
+  held-fresh : held N img r ≡ some x → Fresh N img r x
   held-fresh e =
-      let v : (w : Ready s img (idle (restOf r))) × (w .time ≡ x .time) × (w .frames ≡ x .frames) = held-inv r sized by e in
-      let p : Passed s img r x = passed sized e in
-      let same : (eqb (length img) (suc (r .last)) && (ltb (r .block) blocks && othersBlank (r .block) img blockNumbers)) ≡ true = p .same in
-      let rest : (ltb (r .block) blocks && othersBlank (r .block) img blockNumbers) ≡ true =
-      and-right (eqb (length img) (suc (r .last))) (ltb (r .block) blocks && othersBlank (r .block) img blockNumbers) same in
-      let there : r .block < blocks = ltb-true (r .block) blocks (and-left (ltb (r .block) blocks) (othersBlank (r .block) img blockNumbers) rest) in
+      let v : (w : Ready N s img (idle (restOf r))) × (w .time ≡ x .time) × (w .frames ≡ x .frames) = held-inv r sized by e in
+      let p : Passed N s img r x = passed sized e in
+      let same : (eqb (length img) (suc (r .last)) && (ltb (r .block) N && othersBlank N (r .block) img (blockNumbers N))) ≡ true = p .same in
+      let rest : (ltb (r .block) N && othersBlank N (r .block) img (blockNumbers N)) ≡ true =
+      and-right (eqb (length img) (suc (r .last))) (ltb (r .block) N && othersBlank N (r .block) img (blockNumbers N)) same in
+      let there : r .block < N = ltb-true (r .block) N (and-left (ltb (r .block) N) (othersBlank N (r .block) img (blockNumbers N)) rest) in
       let c : Bool = leb (claimed (replay (x .frames)) + endLen * openHosts (replay (x .frames) .pending)) s in
       record {
         length-is = eqb-true (length img) (suc (r .last))
-            (and-left (eqb (length img) (suc (r .last))) (ltb (r .block) blocks && othersBlank (r .block) img blockNumbers) same);
+            (and-left (eqb (length img) (suc (r .last))) (ltb (r .block) N && othersBlank N (r .block) img (blockNumbers N)) same);
         there = there;
         is-valid = states-exact .is-valid (block s (r .block) img) (x .time) (x .frames) clean (bytes-block s (r .block) img by)
             (long-block (r .block) there) .0
@@ -85,18 +85,18 @@ module _ (img : List ℕ) (r : Record) (x : Held) (by : Bytes img) (ok : allowed
             (and-right (eqb (endOf (x .frames)) (r .end)) c (p .fits));
       }
     where
-      blank-there : (j : ℕ) → j < blocks → (j ≡ r .block → ⊥) → block s j img ≡ replicate s 255 → BlankBlock (block s j img)
+      blank-there : (j : ℕ) → j < N → (j ≡ r .block → ⊥) → block s j img ≡ replicate s 255 → BlankBlock (block s j img)
       blank-there j h n e = e ∙ ap (λ (w : ℕ). replicate w 255) (sym (length-block s j img (sized-block j sized h)))
 
-      othersOf : (w : Ready s img (idle (restOf r))) (j : ℕ) → j < blocks → (j ≡ r .block → ⊥) → block s j img ≡ replicate s 255
+      othersOf : (w : Ready N s img (idle (restOf r))) (j : ℕ) → j < N → (j ≡ r .block → ⊥) → block s j img ≡ replicate s 255
       othersOf w j h n = w .others j h (λ e. n (e ∙ sym (ap (λ (q : Record). q .block) (w .is))))
 
-  fresh-held : Fresh img r x → held img r ≡ some x
+  fresh-held : Fresh N img r x → held N img r ≡ some x
   fresh-held y =
       held-here img r x
-      (and-both (eqb (length img) (suc (r .last))) (ltb (r .block) blocks && othersBlank (r .block) img blockNumbers)
+      (and-both (eqb (length img) (suc (r .last))) (ltb (r .block) N && othersBlank N (r .block) img (blockNumbers N))
       (eq-eqb (length img) (suc (r .last)) (y .length-is))
-      (and-both (ltb (r .block) blocks) (othersBlank (r .block) img blockNumbers) (lt-ltb (r .block) blocks (y .there))
+      (and-both (ltb (r .block) N) (othersBlank N (r .block) img (blockNumbers N)) (lt-ltb (r .block) N (y .there))
       (others-are (r .block) img (λ j h n. blank-means (block s j img) (y .others-blank j h n)))))
       (states-exact .is-valid (block s (r .block) img) (x .time) (x .frames) clean (bytes-block s (r .block) img by) (long-block (r .block) (y .there)) .1
       (y .is-valid))
@@ -104,6 +104,6 @@ module _ (img : List ℕ) (r : Record) (x : Held) (by : Bytes img) (ok : allowed
       (eq-eqb (endOf (x .frames)) (r .end) (y .ends))
       (le-leb (claimed (replay (x .frames)) + endLen * openHosts (replay (x .frames) .pending)) s (y .room)))
 
-pub fresh-exact : FreshExact
+pub fresh-exact : {N : ℕ} → FreshExact N
 unfolding FreshExact
 fresh-exact img r x by ok = (held-fresh img r x by ok, fresh-held img r x by ok)

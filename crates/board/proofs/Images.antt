@@ -8,7 +8,7 @@ use lib.Dec.{eqb, leb}
 use lib.ListN.{length}
 use borrow.Author.Tests.{eqb-true, leb-true}
 use Rattle.flash.specs.Bytes.{Bytes}
-use Rattle.flash.specs.Flash.{Step, apply, applyAll, block, blocks, sizeOf, programAt, Write, writeAll}
+use Rattle.flash.specs.Flash.{Step, apply, applyAll, block, sizeOf, programAt, Write, writeAll}
 use Rattle.flash.proofs.Cases.{and-left, and-right}
 use Rattle.flash.proofs.Image.{in-image, length-apply, bytes-apply, block-program, other-program}
 use Rattle.flash.proofs.Offsets.{Below}
@@ -16,16 +16,16 @@ use Rattle.board.specs.Record.{allowed}
 use Rattle.board.specs.Plan.{onBlock}
 
 -- two blocks of s bytes
-pub record Sized (s : ℕ) (img : List ℕ) : Type 0 where
-  pub two : length img ≡ blocks * s
+pub record Sized (N : ℕ) (s : ℕ) (img : List ℕ) : Type 0 where
+  pub two : length img ≡ N * s
   pub low : 256 ≤ s
   pub high : s ≤ 32768
-  pub ok : allowed (length img) ≡ true
+  pub ok : allowed N (length img) ≡ true
 
-pub size-of : {s : ℕ} {img : List ℕ} → Sized s img → sizeOf img ≡ s
+pub size-of : {N : ℕ} {s : ℕ} {img : List ℕ} → Sized N s img → sizeOf N img ≡ s
 size-of z = omega (arith, z .two)
 
-pub sized-of : (img : List ℕ) → allowed (length img) ≡ true → Sized (sizeOf img) img
+pub sized-of : {N : ℕ} (img : List ℕ) → allowed N (length img) ≡ true → Sized N (sizeOf N img) img
 sized-of img t =
     let n : ℕ = length img in
     let ab : (leb 512 n) ≡ true = and-left (leb 512 n) (leb n 65536) (and-left (leb 512 n && leb n 65536) (eqb (n % 256) 0) t) in
@@ -34,11 +34,11 @@ sized-of img t =
     let m : n % 256 ≡ 0 = eqb-true (n % 256) 0 (and-right (leb 512 n && leb n 65536) (eqb (n % 256) 0) t) in
     record { two = omega arith; low = omega arith; high = omega arith; ok = t }
 
-pub sized-as : {s : ℕ} {img : List ℕ} (after : List ℕ) → length after ≡ length img → Sized s img → Sized s after
-sized-as after e z = record { two = e ∙ z .two; low = z .low; high = z .high; ok = ap allowed e ∙ z .ok }
+pub sized-as : {N : ℕ} {s : ℕ} {img : List ℕ} (after : List ℕ) → length after ≡ length img → Sized N s img → Sized N s after
+sized-as {N} after e z = record { two = e ∙ z .two; low = z .low; high = z .high; ok = ap (allowed N) e ∙ z .ok }
 
-pub sized-block : {s : ℕ} {img : List ℕ} (k : ℕ) → Sized s img → k < blocks → k * s + s ≤ length img
-sized-block {s} {img} k z h = in-image s blocks k img (z .two) h
+pub sized-block : {N : ℕ} {s : ℕ} {img : List ℕ} (k : ℕ) → Sized N s img → k < N → k * s + s ≤ length img
+sized-block {N} {s} {img} k z h = in-image s N k img (z .two) h
 
 -- ---- lists of steps
 

@@ -2,26 +2,25 @@
 use mathlib.Core.Path.{_≡_, refl}
 use Prim.Native.Nat.{ℕ, zero, suc, _<_}
 use native.Mathlib.Omega.{arith}
-use Rattle.flash.specs.Flash.{blocks}
 use Rattle.board.specs.Mount.{nextBlock}
 
-pub next-there : (k : ℕ) → k < blocks → nextBlock k < blocks
+pub next-there : {N : ℕ} (k : ℕ) → k < N → nextBlock N k < N
 next-there zero h = omega arith
 next-there (suc zero) h = omega arith
 next-there (suc (suc k)) h = absurd (omega arith)
 
-pub next-other : (k : ℕ) → k < blocks → nextBlock k ≡ k → ⊥
+pub next-other : {N : ℕ} (k : ℕ) → k < N → nextBlock N k ≡ k → ⊥
 next-other zero h = λ e. omega arith
 next-other (suc zero) h = λ e. omega arith
 next-other (suc (suc k)) h = absurd (omega arith)
 
-pub next-next : (k : ℕ) → k < blocks → nextBlock (nextBlock k) ≡ k
+pub next-next : {N : ℕ} (k : ℕ) → k < N → nextBlock N (nextBlock N k) ≡ k
 next-next zero h = refl
 next-next (suc zero) h = refl
 next-next (suc (suc k)) h = absurd (omega arith)
 
 -- no third block
-pub next-only : (k : ℕ) → k < blocks → (j : ℕ) → j < blocks → (j ≡ k → ⊥) → j ≡ nextBlock k
+pub next-only : {N : ℕ} (k : ℕ) → k < N → (j : ℕ) → j < N → (j ≡ k → ⊥) → j ≡ nextBlock N k
 next-only zero h j l n = omega arith
 next-only (suc zero) h j l n = omega arith
 next-only (suc (suc k)) h j l n = absurd (omega arith)

@@ -40,28 +40,28 @@ bytes-in (mount ∷ cs) e = (tt, bytes-in cs e)
 bytes-in (format ∷ cs) e = (tt, bytes-in cs e)
 
 -- a store that keeps the promise shows what the machine shows
-same-trace : (m : Machine) → Promise m → (img : List ℕ) → Bytes img → (cs : List Call) → begins cs ≡ true → ByteEvents (map call cs)
-    → trace m img unmounted (map call cs) ≡ trace exec img unmounted (map call cs)
+same-trace : {N : ℕ} (m : Machine) → Promise N m → (img : List ℕ) → Bytes img → (cs : List Call) → begins cs ≡ true → ByteEvents (map call cs)
+    → trace N m img unmounted (map call cs) ≡ trace N (exec N) img unmounted (map call cs)
 unfolding PromiseDetermines
 same-trace m p img b [] e c = refl
 same-trace m p img b (request h msg reply ∷ cs) e c = clash false e refl
 same-trace m p img b (step ∷ cs) e c = clash false e refl
-same-trace m p img b (mount ∷ cs) e c = promise-determines m exec p promise img unmounted unmounted mount (map call cs) b tt (c .1)
-same-trace m p img b (format ∷ cs) e c = promise-determines m exec p promise img unmounted unmounted format (map call cs) b tt (c .1)
+same-trace {N} m p img b (mount ∷ cs) e c = promise-determines m (exec N) p promise img unmounted unmounted mount (map call cs) b tt (c .1)
+same-trace {N} m p img b (format ∷ cs) e c = promise-determines m (exec N) p promise img unmounted unmounted format (map call cs) b tt (c .1)
 
 -- so one that shows something else doesn't keep it
-differs : {w : Wrongly} {img : List ℕ} {cs : List Call} {see : Shown → ℕ} {a b : ℕ}
-    → Differs w img cs see a b → Promise (offBench w) → ⊥
-differs {w} {img} {cs} {see} {a} {b} t p =
+differs : {N : ℕ} {w : Wrongly} {img : List ℕ} {cs : List Call} {see : Shown → ℕ} {a b : ℕ}
+    → Differs w img cs see a b → Promise N (offBench w) → ⊥
+differs {N} {w} {img} {cs} {see} {a} {b} t p =
     let bytes : Bytes img = bytes-all img (and-left (allBytes img) (begins cs && bytesIn cs) (t .is-run)) in
     let calls : (begins cs && bytesIn cs) ≡ true = and-right (allBytes img) (begins cs && bytesIn cs) (t .is-run) in
-    let same : trace (offBench w) img unmounted (map call cs) ≡ trace exec img unmounted (map call cs) =
+    let same : trace N (offBench w) img unmounted (map call cs) ≡ trace N (exec N) img unmounted (map call cs) =
     same-trace (offBench w) p img bytes cs (and-left (begins cs) (bytesIn cs) calls)
     (bytes-in cs (and-right (begins cs) (bytesIn cs) calls)) in
     eqb-false a b (t .apart) (sym (t .shows-wrong) ∙ ap (λ (xs : List Shown). see (lastFrom nothing xs)) same ∙ t .shows-right)
 
-pub same-on-bench : (w : Wrongly) (img : List ℕ) (r : Record) (c : Call) → onBench (length img) ≡ true → offBench w img r c ≡ exec img r c
-same-on-bench w img r c e = ap (λ (b : Bool). cond b (exec img r c) (w img r c (exec img r c))) e
+pub same-on-bench : {N : ℕ} (w : Wrongly) (img : List ℕ) (r : Record) (c : Call) → onBench (length img) ≡ true → offBench w img r c ≡ exec N img r c
+same-on-bench {N} w img r c e = ap (λ (b : Bool). cond b (exec N img r c) (w img r c (exec N img r c))) e
 
 pub right-on-bench : RightOnBench
 unfolding RightOnBench
@@ -74,8 +74,8 @@ right-on-bench w img r c (inr e) = same-on-bench w img r c (ap onBench e)
 abbrev long : List ℕ
 long = replicate 768 0xFF
 
-unfoldable formatting : Record
-formatting = exec long unmounted format .board
+unfoldable formatting : ℕ → Record
+formatting = exec N long unmounted format .board
 
 not-idle : Busy Wipe ≡ Idle → ⊥
 not-idle e = let w : _≡_ {A = ℕ} 0 1 = cc in omega arith
@@ -84,27 +84,27 @@ not-unmounted : Busy Wipe ≡ Unmounted → ⊥
 not-unmounted e = let w : _≡_ {A = ℕ} 0 1 = cc in omega arith
 
 -- with an image of another length
-outside-is-done : Promise (offBench outsideIsDone) → ⊥
+outside-is-done : {N : ℕ} → Promise N (offBench outsideIsDone) → ⊥
 unfolding outsideIsDone stepBusy stepOn allFF blockState formatOrder formatOn enterWipe formatting
-outside-is-done p = not-idle (p .calls .told (replicate 1280 0xFF) formatting step tt (λ e. absurd (not-unmounted e)) .done .0 refl)
+outside-is-done {N} p = not-idle (p .calls .told (replicate 1280 0xFF) (formatting N) step tt (λ e. absurd (not-unmounted e)) .done .0 refl)
 
 -- at a step that its job doesn't have
-unfoldable stuck : Record
-stuck = inStage Wipe (cursor 100 0 0 0 0 0) formatting
+unfoldable stuck : ℕ → Record
+stuck = inStage Wipe (cursor 100 0 0 0 0 0) (formatting N)
 
-never-ends : (n : ℕ) → EndsWithin (offBench forgedWaits) n long stuck → ⊥
+never-ends : {N : ℕ} (n : ℕ) → EndsWithin (offBench forgedWaits) n long (stuck N) → ⊥
 unfolding EndsWithin forgedWaits stuck
 never-ends zero e = e
 never-ends (suc n) (inl e) = e
 never-ends (suc n) (inr (inl e)) = let w : _≡_ {A = ℕ} 0 1 = cc in omega arith
 never-ends (suc n) (inr (inr e)) = never-ends n e
 
-stuck-declared : Declared stuck
+stuck-declared : {N : ℕ} → Declared (stuck N)
 unfolding stuck formatting allFF blockState formatOrder formatOn enterWipe
 stuck-declared = record { last = omega arith; wipes = omega arith; append = omega arith; copy = omega arith }
 
-forged-waits : Promise (offBench forgedWaits) → ⊥
-forged-waits p = never-ends 65536 (p .calls .ends long stuck stuck-declared)
+forged-waits : {N : ℕ} → Promise N (offBench forgedWaits) → ⊥
+forged-waits {N} p = never-ends 65536 (p .calls .ends long (stuck N) stuck-declared)
 
 pub refuted : Refuted
 refuted =

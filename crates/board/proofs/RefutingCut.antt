@@ -43,18 +43,18 @@ img = replicate 768 0xFF
 -- ---- the run in three parts, each computed from where the last ended
 
 -- a finished format
-abbrev empty : Out
-empty = out Done (half 1 [] ++ blankHalf) (idle (rest 767 0 16)) []
+abbrev empty : ℕ → Out
+empty = out Done (half 1 [] ++ blankHalf) (idle (rest N 767 0 16)) []
 
 -- the put
 abbrev putting : List Event
 putting = call (putEmpty 7) ∷ stepping 8
 
-abbrev holding : Left
-holding =
+abbrev holding : ℕ → Left
+holding N =
     record {
       image = half 1 (change (hostOf 2) (put (idOf 7) []) ∷ []) ++ blankHalf;
-      board = idle (rest 767 0 24);
+      board = idle (rest N 767 0 24);
       book = join firstBook (hostOf 2) (put (idOf 7) []);
     }
 
@@ -62,27 +62,27 @@ holding =
 abbrev mounting : List Event
 mounting = call mount ∷ stepping 10
 
-abbrev ready : Left
-ready = afterAll m (holding .image) (holding .board) (holding .book) mounting
+abbrev ready : ℕ → Left
+ready = afterAll N m (holding N .image) (holding N .board) (holding N .book) mounting
 
 abbrev copied : List ℕ
 copied = half 1 (change (hostOf 2) (put (idOf 7) []) ∷ []) ++ half 2 []
 
 -- all of it computed; the mount after the cut is refused
-record Computed : Type 0 where
-  formatted-is : formatted m img unmounted ≡ empty
-  holding-is : afterAll m (empty .image) (empty .board) firstBook putting ≡ holding
-  copied-is : afterAll m (holding .image) (holding .board) (holding .book) (call mount ∷ stepping 10) .image ≡ copied
-  erased-is : afterAll m (holding .image) (holding .board) (holding .book) (call mount ∷ stepping 11) .image ≡ eraseBlock 384 0 copied
-  in-drop : InJob (ready .board .phase)
-  nothing-under : ready .book .under ≡ nothing
-  refused : m (withBlock (sizeOf copied) 0 fading copied) unmounted mount .answer ≡ Refused (tiedTimes 0)
+record Computed (N : ℕ) : Type 0 where
+  formatted-is : formatted N m img unmounted ≡ empty N
+  holding-is : afterAll N m (empty N .image) (empty N .board) firstBook putting ≡ holding N
+  copied-is : afterAll N m (holding N .image) (holding N .board) (holding N .book) (call mount ∷ stepping 10) .image ≡ copied
+  erased-is : afterAll N m (holding N .image) (holding N .board) (holding N .book) (call mount ∷ stepping 11) .image ≡ eraseBlock 384 0 copied
+  in-drop : InJob (ready N .board .phase)
+  nothing-under : ready N .book .under ≡ nothing
+  refused : m (withBlock (sizeOf N copied) 0 fading copied) unmounted mount .answer ≡ Refused (tiedTimes 0)
 
-computed : Computed
+computed : {N : ℕ} → Computed N
 unfolding refusesHalfErased allFF sameBytes applyAll writes encodeAll total match readFrame scan insert
     remove lookup changeAll listOf without isOpen replayFrom headerFault blockState noRoom sited placesFrom sinceFrom valueAt nextSettled
-    nextPending nextLoad parse noPlaces noFrame enterAppend enterDrop enterCopy enterOpen enterWipe advance stepBusy stepOn mountAt
-    mountFound mountOn formatOrder formatOn held append serveChange serveEnd serveLog serve requestOn half blankHalf fading
+    nextPending nextLoad parse noPlaces noFrame enterAppend enterDrop (enterCopy N) enterOpen enterWipe (advance N) (stepBusy N) (stepOn N) (mountAt N)
+    mountFound N (mountOn N) (formatOrder N) (formatOn N) (held N) (append N) (serveChange N) (serveEnd N) (serveLog N) (serve N) (requestOn N) half blankHalf fading
 computed =
     record {
       formatted-is = refl;
@@ -96,51 +96,51 @@ computed =
 
 -- ---- the cut
 
-size-is : sizeOf copied ≡ 384
+size-is : {N : ℕ} → sizeOf N copied ≡ 384
 unfolding half encodeAll
 size-is = refl
 
-raised : Raised (block (sizeOf copied) 0 copied) fading
+raised : {N : ℕ} → Raised (block (sizeOf N copied) 0 copied) fading
 unfolding half encodeAll fading
-raised = raises-raised (block (sizeOf copied) 0 copied) fading refl
+raised {N} = raises-raised (block (sizeOf N copied) 0 copied) fading refl
 
-cut-at : (i : List ℕ) (r : Record) (b : Book) → i ≡ copied → InJob (r .phase) → b .under ≡ nothing → m i r step .image ≡ eraseBlock 384 0 copied
-    → CutsErase m i r b 0 fading
-cut-at i r b e j n s =
+cut-at : {N : ℕ} (i : List ℕ) (r : Record) (b : Book) → i ≡ copied → InJob (r .phase) → b .under ≡ nothing → m i r step .image ≡ eraseBlock 384 0 copied
+    → CutsErase N m i r b 0 fading
+cut-at {N} i r b e j n s =
     record {
       in-job = j;
       no-format = λ f. (let w : _≡_ {A = ℕ} 0 1 = cc in omega arith);
       there = omega arith;
-      erases = s ∙ sym (ap (λ (l : List ℕ). eraseBlock (sizeOf l) 0 l) e ∙ ap (λ (k : ℕ). eraseBlock k 0 copied) size-is);
-      raised = subst (λ (l : List ℕ). Raised (block (sizeOf l) 0 l) fading) (sym e) raised;
+      erases = s ∙ sym (ap (λ (l : List ℕ). eraseBlock (sizeOf N l) 0 l) e ∙ ap (λ (k : ℕ). eraseBlock k 0 copied) size-is);
+      raised = subst (λ (l : List ℕ). Raised (block (sizeOf N l) 0 l) fading) (sym e) raised;
     }
 
 abbrev after : List Event
 after = cutErase 0 fading unmounted ∷ call mount ∷ []
 
-happens : Happens m (empty .image) (empty .board) firstBook cutRun
-happens =
-    let o : Out = m (empty .image) (empty .board) (putEmpty 7) in
-    let x : Out = m (holding .image) (holding .board) mount in
-    let b : Book = enterCall (holding .book) mount (x .answer) in
-    let cut : CutsErase m (ready .image) (ready .board) (ready .book) 0 fading =
-    cut-at (ready .image) (ready .board) (ready .book) (computed .copied-is) (computed .in-drop) (computed .nothing-under)
-    (steps-image m 10 (x .image) (x .board) b ∙ computed .erased-is) in (
+happens : {N : ℕ} → Happens N m (empty N .image) (empty N .board) firstBook cutRun
+happens {N} =
+    let o : Out = m (empty N .image) (empty N .board) (putEmpty 7) in
+    let x : Out = m (holding N .image) (holding N .board) mount in
+    let b : Book = enterCall (holding N .book) mount (x .answer) in
+    let cut : CutsErase N m (ready N .image) (ready N .board) (ready N .book) 0 fading =
+    cut-at (ready N .image) (ready N .board) (ready N .book) (computed .copied-is) (computed .in-drop) (computed .nothing-under)
+    (steps-image N m 10 (x .image) (x .board) b ∙ computed .erased-is) in (
       (omega arith, (omega arith, (omega arith, (omega arith, (omega arith, (omega arith, tt)))))),
-      steps-then m 8 (o .image) (o .board) (enterCall firstBook (putEmpty 7) (o .answer)) (mounting ++ after)
-          (subst (λ (l : Left). HappensAfter m l (mounting ++ after)) (sym (computed .holding-is))
-          (tt, steps-then m 10 (x .image) (x .board) b after (cut, tt, (tt, tt)))),
+      steps-then N m 8 (o .image) (o .board) (enterCall firstBook (putEmpty 7) (o .answer)) (mounting ++ after)
+          (subst (λ (l : Left). HappensAfter N m l (mounting ++ after)) (sym (computed .holding-is))
+          (tt, steps-then N m 10 (x .image) (x .board) b after (cut, tt, (tt, tt)))),
     )
 
 pub claim-sees : ClaimSees
 unfolding ClaimSees Claim
 claim-sees p =
-    let run : Run m (empty .image) (empty .board) firstBook false cutRun =
-    subst (λ (o : Out). (es : List Event) → Happens m (o .image) (o .board) firstBook es → Run m (o .image) (o .board) firstBook false es)
+    let run : Run N m (empty N .image) (empty N .board) firstBook false cutRun =
+    subst (λ (o : Out). (es : List Event) → Happens N m (o .image) (o .board) firstBook es → Run N m (o .image) (o .board) firstBook false es)
     (computed .formatted-is)
     (p img unmounted (bytes-replicate 768) refl .3) cutRun happens in
-    let y = run-rest m (empty .image) (empty .board) firstBook false putting (mounting ++ after) run in
-    let z = run-rest m (holding .image) (holding .board) (holding .book) (y .0) mounting after
-    (subst (λ (l : Left). Run m (l .image) (l .board) (l .book) (y .0) (mounting ++ after)) (computed .holding-is) (y .1)) in
+    let y = run-rest N m (empty N .image) (empty N .board) firstBook false putting (mounting ++ after) run in
+    let z = run-rest N m (holding N .image) (holding N .board) (holding N .book) (y .0) mounting after
+    (subst (λ (l : Left). Run N m (l .image) (l .board) (l .book) (y .0) (mounting ++ after)) (computed .holding-is) (y .1)) in
     z .1 .0 .never-foreign 0 (fault field.Created 4)
-    (ap (λ (i : List ℕ). m (withBlock (sizeOf i) 0 fading i) unmounted mount .answer) (computed .copied-is) ∙ computed .refused)
+    (ap (λ (i : List ℕ). m (withBlock (sizeOf N i) 0 fading i) unmounted mount .answer) (computed .copied-is) ∙ computed .refused)

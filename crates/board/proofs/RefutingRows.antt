@@ -29,18 +29,18 @@ use Rattle.board.proofs.Refusals.{at-most-one-step}
 use Rattle.board.proofs.Bench.{rows}
 use Rattle.board.proofs.Refuting.{same-on-bench}
 
-one-step-length : (img after : List ℕ) → OneStep img after → length after ≡ length img
+one-step-length : {N : ℕ} (img after : List ℕ) → OneStep N img after → length after ≡ length img
 one-step-length img after (inl e) = ap length e
-one-step-length img after (inr (x, e)) = ap length e ∙ length-apply (sizeOf img) x img
+one-step-length {N} img after (inr (x, e)) = ap length e ∙ length-apply (sizeOf N img) x img
 
-exec-length : (img : List ℕ) (r : Record) (c : Call) → length (exec img r c .image) ≡ length img
-exec-length img r (request h m reply) = ap length (at-most-one-step img r (request h m reply))
-exec-length img r step = one-step-length img (exec img r step .image) (at-most-one-step img r step)
-exec-length img r mount = ap length (at-most-one-step img r mount)
-exec-length img r format = ap length (at-most-one-step img r format)
+exec-length : {N : ℕ} (img : List ℕ) (r : Record) (c : Call) → length (exec N img r c .image) ≡ length img
+exec-length {N} img r (request h m reply) = ap length (at-most-one-step N img r (request h m reply))
+exec-length {N} img r step = one-step-length img (exec N img r step .image) (at-most-one-step N img r step)
+exec-length {N} img r mount = ap length (at-most-one-step N img r mount)
+exec-length {N} img r format = ap length (at-most-one-step N img r format)
 
 -- a call, and then steps, on an image of the bench
-bench-next : (img : List ℕ) (r : Record) (c : Call) → onBench (length img) ≡ true → onBench (length (exec img r c .image)) ≡ true
+bench-next : {N : ℕ} (img : List ℕ) (r : Record) (c : Call) → onBench (length img) ≡ true → onBench (length (exec N img r c .image)) ≡ true
 bench-next img r c e = ap onBench (exec-length img r c) ∙ e
 
 record Same (x y : Ran) : Type 0 where
@@ -53,22 +53,22 @@ same-case c o x y z e Done = record { same = refl; long = e }
 same-case c o x y z e More = z
 same-case c o x y z e (Refused r) = record { same = refl; long = e }
 
-same-drive : (w : Wrongly) (n c : ℕ) (o : Out) → onBench (length (o .image)) ≡ true → Same (drive (offBench w) n c o) (drive exec n c o)
+same-drive : {N : ℕ} (w : Wrongly) (n c : ℕ) (o : Out) → onBench (length (o .image)) ≡ true → Same (drive (offBench w) n c o) (drive (exec N) n c o)
 unfolding drive
 same-drive w zero c o e = record { same = refl; long = e }
-same-drive w (suc n) c o e =
-    let next : Out = exec (o .image) (o .board) step in
-    let later : Same (drive (offBench w) n (suc c) next) (drive exec n (suc c) next) =
+same-drive {N} w (suc n) c o e =
+    let next : Out = exec N (o .image) (o .board) step in
+    let later : Same (drive (offBench w) n (suc c) next) (drive (exec N) n (suc c) next) =
     same-drive w n (suc c) next (bench-next (o .image) (o .board) step e) in
     let first : offBench w (o .image) (o .board) step ≡ next = same-on-bench w (o .image) (o .board) step e in
-    same-case c o (drive (offBench w) n (suc c) (offBench w (o .image) (o .board) step)) (drive exec n (suc c) next)
+    same-case c o (drive (offBench w) n (suc c) (offBench w (o .image) (o .board) step)) (drive (exec N) n (suc c) next)
     (record { same = ap (drive (offBench w) n (suc c)) first ∙ later .same; long = later .long }) e (o .answer)
 
-same-begun : (w : Wrongly) (n : ℕ) (i j : List ℕ) (r q : Record) (c : Call) → i ≡ j → r ≡ q → onBench (length j) ≡ true
-    → Same (drive (offBench w) n 0 (offBench w i r c)) (drive exec n 0 (exec j q c))
-same-begun w n i j r q c d f e =
-    let z : Same (drive (offBench w) n 0 (exec j q c)) (drive exec n 0 (exec j q c)) =
-    same-drive w n 0 (exec j q c) (bench-next j q c e) in
+same-begun : {N : ℕ} (w : Wrongly) (n : ℕ) (i j : List ℕ) (r q : Record) (c : Call) → i ≡ j → r ≡ q → onBench (length j) ≡ true
+    → Same (drive (offBench w) n 0 (offBench w i r c)) (drive (exec N) n 0 (exec N j q c))
+same-begun {N} w n i j r q c d f e =
+    let z : Same (drive (offBench w) n 0 (exec N j q c)) (drive (exec N) n 0 (exec N j q c)) =
+    same-drive w n 0 (exec N j q c) (bench-next j q c e) in
     record {
       same = ap₂ (λ (x : List ℕ) (y : Record). drive (offBench w) n 0 (offBench w x y c)) d f
           ∙ ap (drive (offBench w) n 0) (same-on-bench w j q c e) ∙ z .same;
@@ -77,80 +77,80 @@ same-begun w n i j r q c d f e =
 
 -- ---- the rows' givens
 
-same-ask : {x y : Ran} (w : Wrongly) → Same x y → (h : ℕ) (m : List ℕ) → ask (offBench w) x h m ≡ ask exec y h m
+same-ask : {N : ℕ} {x y : Ran} (w : Wrongly) → Same x y → (h : ℕ) (m : List ℕ) → ask (offBench w) x h m ≡ ask (exec N) y h m
 unfolding ask
-same-ask {x} {y} w z h m =
+same-ask {N} {x} {y} w z h m =
     ap (λ (q : Ran). offBench w (q .image) (q .board) (request (hostOf h) m (replicate 16 0xEE))) (z .same)
     ∙ same-on-bench w (y .image) (y .board) (request (hostOf h) m (replicate 16 0xEE)) (z .long)
 
-same-asked : {x y : Ran} (w : Wrongly) → Same x y → (h : ℕ) (m : List ℕ) → Same (asked (offBench w) x h m) (asked exec y h m)
+same-asked : {N : ℕ} {x y : Ran} (w : Wrongly) → Same x y → (h : ℕ) (m : List ℕ) → Same (asked (offBench w) x h m) (asked (exec N) y h m)
 unfolding asked ask
-same-asked {x} {y} w z h m =
+same-asked {N} {x} {y} w z h m =
     same-begun w 300 (x .image) (y .image) (x .board) (y .board) (request (hostOf h) m (replicate 16 0xEE))
     (ap (λ (q : Ran). q .image) (z .same)) (ap (λ (q : Ran). q .board) (z .same)) (z .long)
 
-same-mounted : (w : Wrongly) (i j : List ℕ) → i ≡ j → onBench (length j) ≡ true → Same (mounted (offBench w) i) (mounted exec j)
+same-mounted : {N : ℕ} (w : Wrongly) (i j : List ℕ) → i ≡ j → onBench (length j) ≡ true → Same (mounted (offBench w) i) (mounted (exec N) j)
 unfolding mounted
 same-mounted w i j d e = same-begun w 300 i j unmounted unmounted mount d refl e
 
-same-cut : {x y : Ran} (w : Wrongly) → Same x y → (h : ℕ) (m : List ℕ) (n : ℕ)
-    → Same (mounted (offBench w) (cutIn (offBench w) x h m n)) (mounted exec (cutIn exec y h m n))
+same-cut : {N : ℕ} {x y : Ran} (w : Wrongly) → Same x y → (h : ℕ) (m : List ℕ) (n : ℕ)
+    → Same (mounted (offBench w) (cutIn (offBench w) x h m n)) (mounted (exec N) (cutIn (exec N) y h m n))
 unfolding cutIn ask
-same-cut {x} {y} w z h m n =
+same-cut {N} {x} {y} w z h m n =
     let c : Call = request (hostOf h) m (replicate 16 0xEE) in
-    let t : Same (drive (offBench w) n 0 (offBench w (x .image) (x .board) c)) (drive exec n 0 (exec (y .image) (y .board) c)) =
+    let t : Same (drive (offBench w) n 0 (offBench w (x .image) (x .board) c)) (drive (exec N) n 0 (exec N (y .image) (y .board) c)) =
     same-begun w n (x .image) (y .image) (x .board) (y .board) c (ap (λ (q : Ran). q .image) (z .same))
     (ap (λ (q : Ran). q .board) (z .same)) (z .long) in
-    same-mounted w (cutIn (offBench w) x h m n) (cutIn exec y h m n) (ap (λ (q : Ran). q .image) (t .same)) (t .long)
+    same-mounted w (cutIn (offBench w) x h m n) (cutIn (exec N) y h m n) (ap (λ (q : Ran). q .image) (t .same)) (t .long)
 
-same-a : (w : Wrongly) → Same (rowA (offBench w)) (rowA exec)
+same-a : {N : ℕ} (w : Wrongly) → Same (rowA (offBench w)) (rowA (exec N))
 unfolding rowA returned
 same-a w = same-begun w 100 returned returned unmounted unmounted format refl refl (ap onBench (length-replicate {A = ℕ} 512 0x5A))
 
-same-b : (w : Wrongly) → Same (rowB (offBench w)) (rowB exec)
+same-b : {N : ℕ} (w : Wrongly) → Same (rowB (offBench w)) (rowB (exec N))
 unfolding rowB
 same-b w = same-asked w (same-a w) 2 (0x08 ∷ 0x00 ∷ 0x01 ∷ 0x01 ∷ 0x05 ∷ 0x00 ∷ 0x41 ∷ 0x42 ∷ [])
 
-same-c : (w : Wrongly) → Same (rowC (offBench w)) (rowC exec)
+same-c : {N : ℕ} (w : Wrongly) → Same (rowC (offBench w)) (rowC (exec N))
 unfolding rowC
 same-c w = same-asked w (same-b w) 2 commitMessage
 
-same-d : (w : Wrongly) → rowD (offBench w) ≡ rowD exec
+same-d : {N : ℕ} (w : Wrongly) → rowD (offBench w) ≡ rowD (exec N)
 unfolding rowD
 same-d w = same-ask w (same-c w) 0 (0x06 ∷ 0x00 ∷ 0x05 ∷ 0x01 ∷ 0x05 ∷ 0x00 ∷ [])
 
-same-e : (w : Wrongly) → rowE (offBench w) ≡ rowE exec
+same-e : {N : ℕ} (w : Wrongly) → rowE (offBench w) ≡ rowE (exec N)
 unfolding rowE
 same-e w = same-ask w (same-c w) 0 (0x05 ∷ 0x00 ∷ 0x06 ∷ 0x01 ∷ 0x01 ∷ [])
 
-same-f : (w : Wrongly) → rowF (offBench w) ≡ rowF exec
+same-f : {N : ℕ} (w : Wrongly) → rowF (offBench w) ≡ rowF (exec N)
 unfolding rowF
-same-f w =
-    same-mounted w (rowB (offBench w) .image) (rowB exec .image) (ap (λ (x : Ran). x .image) (same-b w .same)) (same-b w .long) .same
+same-f {N} w =
+    same-mounted w (rowB (offBench w) .image) (rowB (exec N) .image) (ap (λ (x : Ran). x .image) (same-b w .same)) (same-b w .long) .same
 
-same-g : (w : Wrongly) → rowG (offBench w) ≡ rowG exec
+same-g : {N : ℕ} (w : Wrongly) → rowG (offBench w) ≡ rowG (exec N)
 unfolding rowG
 same-g w = same-cut w (same-b w) 2 commitMessage 5 .same
 
-same-h : (w : Wrongly) → rowH (offBench w) ≡ rowH exec
+same-h : {N : ℕ} (w : Wrongly) → rowH (offBench w) ≡ rowH (exec N)
 unfolding rowH
 same-h w = same-cut w (same-b w) 2 commitMessage 6 .same
 
-same-i : (w : Wrongly) (n : ℕ) → Same (rowI (offBench w) n) (rowI exec n)
+same-i : {N : ℕ} (w : Wrongly) (n : ℕ) → Same (rowI (offBench w) n) (rowI (exec N) n)
 unfolding rowI
 same-i w n = same-asked w (same-asked w (same-asked w (same-a w) 0 (putMessage 1 64)) 0 (putMessage 2 64)) 0 (putMessage 3 n)
 
-same-k : (w : Wrongly) (n : ℕ) → Same (rowK (offBench w) n) (rowK exec n)
+same-k : {N : ℕ} (w : Wrongly) (n : ℕ) → Same (rowK (offBench w) n) (rowK (exec N) n)
 unfolding rowK
 same-k w n = same-asked w (same-i w n) 0 commitMessage
 
-same-a-long : (w : Wrongly) → Same (rowALong (offBench w)) (rowALong exec)
+same-a-long : {N : ℕ} (w : Wrongly) → Same (rowALong (offBench w)) (rowALong (exec N))
 unfolding rowALong
 same-a-long w =
     same-begun w 100 (replicate 1024 0x5A) (replicate 1024 0x5A) unmounted unmounted format refl refl
     (ap onBench (length-replicate {A = ℕ} 1024 0x5A))
 
-same-o : (w : Wrongly) (n : ℕ) → rowO (offBench w) n ≡ rowO exec n
+same-o : {N : ℕ} (w : Wrongly) (n : ℕ) → rowO (offBench w) n ≡ rowO (exec N) n
 unfolding rowO
 same-o w n = same-asked w (same-a-long w) 0 (putMessage 9 n) .same
 
@@ -158,11 +158,11 @@ same-o w n = same-asked w (same-a-long w) 0 (putMessage 9 n) .same
 abbrev FormatsAnswered : Wrongly → Type 0
 FormatsAnswered w = (img : List ℕ) (r : Record) (o : Out) → w img r format o .answer ≡ o .answer
 
-same-format : (w : Wrongly) → FormatsAnswered w → (n : ℕ) → formatAnswer (offBench w) n ≡ formatAnswer exec n
+same-format : {N : ℕ} (w : Wrongly) → FormatsAnswered w → (n : ℕ) → formatAnswer (offBench w) n ≡ formatAnswer (exec N) n
 unfolding formatAnswer
-same-format w f n =
+same-format {N} w f n =
     let img : List ℕ = replicate n 0x5A in
-    let o : Out = exec img unmounted format in
+    let o : Out = exec N img unmounted format in
     on-test (onBench (length img))
     (λ e. ap (λ (b : Bool). cond b o (w img unmounted format o) .answer) e)
     (λ e. ap (λ (b : Bool). cond b o (w img unmounted format o) .answer) e ∙ f img unmounted o)
@@ -226,7 +226,7 @@ formats-at-once img r o = accepted-answer (o .answer) o (onImage (replicate (len
 formats-blindly : FormatsAnswered formatsBlindly
 unfolding formatsBlindly
 formats-blindly img r o =
-    accepted-answer (o .answer) o (out (o .answer) img (exec (replicate (length img) 0xFF) unmounted format .board) []) refl
+    accepted-answer (o .answer) o (out (o .answer) img (exec N (replicate (length img) 0xFF) unmounted format .board) []) refl
 
 pub right-in-rows : RightInRows
 unfolding refusesAll refusesPuts refusesHighIds ownFormatsOnly firstHalfOnly hostFirst refusalClears refusedLogWrites readsAlike

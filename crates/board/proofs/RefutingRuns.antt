@@ -27,8 +27,8 @@ unfolding refusesAll refusesPuts refusesHighIds ownFormatsOnly firstHalfOnly hos
     keepsPending refusesAlike overlooksForeign namesSecond tiesAtStart refusesHalfErased takesHalfErased formatsAtOnce formatsBlindly
     allFF sameBytes applyAll writes encodeAll total match readFrame scan insert
     remove lookup changeAll listOf without isOpen replayFrom headerFault blockState noRoom sited placesFrom sinceFrom valueAt nextSettled
-    nextPending nextLoad parse noPlaces noFrame enterAppend enterDrop enterCopy enterOpen enterWipe advance stepBusy stepOn mountAt
-    mountFound mountOn formatOrder formatOn held append serveChange serveEnd serveLog serve requestOn half blankHalf stored pending later second begun
+    nextPending nextLoad parse noPlaces noFrame enterAppend enterDrop (enterCopy N) enterOpen enterWipe (advance N) (stepBusy N) (stepOn N) (mountAt N)
+    mountFound N (mountOn N) (formatOrder N) (formatOn N) (held N) (append N) (serveChange N) (serveEnd N) (serveLog N) (serve N) (requestOn N) half blankHalf stored pending later second begun
     twice tiedHalves bothStrange strange halfErased seemsEmpty
 runs =
     record {

@@ -55,9 +55,9 @@ pub needs-exact : NeedsExact
 unfolding NeedsExact
 needs-exact img s r f e =
     let l : length (encode f) ≡ frameLen f = length-encode f in
-    let z : sizeOf img ≡ s = omega arith in (
-      λ t. omega (arith, ltb-true (sizeOf img) (r .end + frameLen f) t),
-      λ h. lt-ltb (sizeOf img) (r .end + frameLen f) (omega arith),
+    let z : sizeOf N img ≡ s = omega arith in (
+      λ t. omega (arith, ltb-true (sizeOf N img) (r .end + frameLen f) t),
+      λ h. lt-ltb (sizeOf N img) (r .end + frameLen f) (omega arith),
     )
 
 -- ---- steps
@@ -75,7 +75,7 @@ programs k at bs =
           mapped-at k (writes at bs) n d (write 0 0) (omega (arith, length-writes at bs)) ∙ ap (writeStep k) (writes-at at bs n (write 0 0) h);
     }
 
-other-half : (k j : ℕ) → k + j ≡ 1 → nextBlock k ≡ j
+other-half : {N : ℕ} (k j : ℕ) → k + j ≡ 1 → nextBlock N k ≡ j
 other-half zero j e = let z : 1 ≡ j = omega arith in z
 other-half (suc zero) j e = let z : 0 ≡ j = omega arith in z
 other-half (suc (suc k)) j e = absurd (omega arith)
@@ -90,8 +90,8 @@ inverse t h = (omega arith, omega arith, omega arith, omega arith)
 abbrev opened : ℕ → List Step → List Step
 opened j xs = program j 8 0xFE ∷ program j 0 16 ∷ program j 1 0 ∷ program j 2 0x01 ∷ program j 3 0x4A ∷ xs
 
-transfer-is : (k j time : ℕ) (st : State) → nextBlock k ≡ j
-    → transferPlan k time st
+transfer-is : {N : ℕ} (k j time : ℕ) (st : State) → nextBlock N k ≡ j
+    → transferPlan N k time st
     ≡ opened j (onBlock j (writes headerLen (encodeAll (framesOf st))) ++ (onBlock j (sealWrites (suc time)) ++ (erase k ∷ [])))
 unfolding writes
 transfer-is k j time st e =
@@ -109,10 +109,10 @@ transfer-exact k j time st e h =
       copied = onBlock j (writes headerLen bs);
       steps = transfer-is k j time st (other-half k j e) ∙ rw (v .0, v .1, v .2, v .3) refl;
       frames = programs j headerLen bs;
-      count = length-transfer k time st;
+      count = length-transfer N k time st;
     }
 
-format-steps : (img : List ℕ) (j k : ℕ) → formatOrder img ≡ j ∷ k ∷ [] → formatPlan img ≡ formatSteps j k
+format-steps : {N : ℕ} (img : List ℕ) (j k : ℕ) → formatOrder N img ≡ j ∷ k ∷ [] → formatPlan N img ≡ formatSteps j k
 unfolding writes encodeAll
 format-steps img j k e = ap (λ (l : List ℕ). map erase l ++ onBlock 0 (build 1 [])) e
 
@@ -120,21 +120,21 @@ pub format-exact : FormatExact
 format-exact =
     record {
       one-valid = λ img j k t fs c e by al v o.
-          let ok : allowed (length img) ≡ true = is-allowed (length img) al in
-          let n : nextBlock k ≡ j = other-half k j (omega arith) in
+          let ok : allowed N (length img) ≡ true = is-allowed (length img) al in
+          let n : nextBlock N k ≡ j = other-half k j (omega arith) in
           format-steps img j k
-          (order-last img k t fs c (v .0) (at-valid img by ok v)
-          (subst (λ (i : ℕ). Beside t (blockState (block (sizeOf img) i img))) (sym n)
-          (beside-of (blockState (block (sizeOf img) j img)) (λ u gs d q. o u gs d (valid-at img by ok (omega arith) q))))
+          (order-last N img k t fs c (v .0) (at-valid img by ok v)
+          (subst (λ (i : ℕ). Beside t (blockState (block (sizeOf N img) i img))) (sym n)
+          (beside-of (blockState (block (sizeOf N img) j img)) (λ u gs d q. o u gs d (valid-at img by ok (omega arith) q))))
           ∙ ap (λ (i : ℕ). i ∷ k ∷ []) n);
       none-valid = λ img by al o.
-          let ok : allowed (length img) ≡ true = is-allowed (length img) al in
+          let ok : allowed N (length img) ≡ true = is-allowed (length img) al in
           format-steps img 0 1
-          (order-unread img (unread-of (blockState (block (sizeOf img) 0 img)) (λ t fs c q. o 0 t fs c (valid-at img by ok (omega arith) q)))
-          (unread-of (blockState (block (sizeOf img) 1 img)) (λ t fs c q. o 1 t fs c (valid-at img by ok (omega arith) q))));
+          (order-unread N img (unread-of (blockState (block (sizeOf N img) 0 img)) (λ t fs c q. o 0 t fs c (valid-at img by ok (omega arith) q)))
+          (unread-of (blockState (block (sizeOf N img) 1 img)) (λ t fs c q. o 1 t fs c (valid-at img by ok (omega arith) q))));
       equal-times = λ img t fs gs c d by al v w.
-          let ok : allowed (length img) ≡ true = is-allowed (length img) al in
-          format-steps img 0 1 (order-tie img t fs gs c d (at-valid img by ok v) (at-valid img by ok w));
+          let ok : allowed N (length img) ≡ true = is-allowed (length img) al in
+          format-steps img 0 1 (order-tie N img t fs gs c d (at-valid img by ok v) (at-valid img by ok w));
     }
 
 pub append-exact : AppendExact
@@ -144,22 +144,22 @@ append-exact =
       moves = λ k j end x f e.
           let st : State = replay (x .frames) in
           let o : ℕ = 16 + length (encodeAll (framesOf st)) in
-          let xs : List Step = appendPlan (nextBlock k) (claimed st) f in
+          let xs : List Step = appendPlan (nextBlock N k) (claimed st) f in
           let c : claimed st ≡ o = omega (arith, frames-total st, length-all (framesOf st)) in
-          let p : Programs (nextBlock k) o (encode f) xs =
-          subst (λ (n : ℕ). Programs (nextBlock k) n (encode f) xs) c (programs (nextBlock k) (claimed st) (encode f)) in
+          let p : Programs (nextBlock N k) o (encode f) xs =
+          subst (λ (n : ℕ). Programs (nextBlock N k) n (encode f) xs) c (programs (nextBlock N k) (claimed st) (encode f)) in
           (xs, refl, subst (λ (n : ℕ). Programs n o (encode f) xs) (other-half k j e) p);
     }
 
 -- ---- mount
 
-wipes : (img : List ℕ) (k j : ℕ) → k + j ≡ 1 → wipeList k (allFound img) ≡ cond (isBlank (blockState (block (sizeOf img) j img))) [] (j ∷ [])
-wipes img zero j e =
+wipes : {N : ℕ} (img : List ℕ) (k j : ℕ) → k + j ≡ 1 → wipeList k (allFound N img) ≡ cond (isBlank (blockState (block (sizeOf N img) j img))) [] (j ∷ [])
+wipes {N} img zero j e =
     let z : 1 ≡ j = omega arith in
-    subst (λ (n : ℕ). wipeList 0 (allFound img) ≡ cond (isBlank (blockState (block (sizeOf img) n img))) [] (n ∷ [])) z refl
-wipes img (suc zero) j e =
+    subst (λ (n : ℕ). wipeList 0 (allFound N img) ≡ cond (isBlank (blockState (block (sizeOf N img) n img))) [] (n ∷ [])) z refl
+wipes {N} img (suc zero) j e =
     let z : 0 ≡ j = omega arith in
-    subst (λ (n : ℕ). wipeList 1 (allFound img) ≡ cond (isBlank (blockState (block (sizeOf img) n img))) [] (n ∷ [])) z refl
+    subst (λ (n : ℕ). wipeList 1 (allFound N img) ≡ cond (isBlank (blockState (block (sizeOf N img) n img))) [] (n ∷ [])) z refl
 wipes img (suc (suc k)) j e = absurd (omega arith)
 
 not-blank : (b : BlockState) → (b ≡ blank → ⊥) → isBlank b ≡ false
@@ -178,18 +178,18 @@ mount-exact img x j e =
     let st : State = settledOnly (replay (x .frames)) in
     let w = wipes img (x .number) j e in
     record {
-      erases = map erase (wipeList (x .number) (allFound img));
-      moves = transferIf (needsTransfer (x .frames) (x .tail)) (x .number) (x .time) st;
+      erases = map erase (wipeList (x .number) (allFound N img));
+      moves = transferIf N (needsTransfer (x .frames) (x .tail)) (x .number) (x .time) st;
       steps = refl;
       other-blank = λ q. ap (map erase) (w ∙ ap (λ (b : BlockState). cond (isBlank b) [] (j ∷ [])) q);
-      other-not = λ n. ap (map erase) (w ∙ ap (λ (b : Bool). cond b [] (j ∷ [])) (not-blank (blockState (block (sizeOf img) j img)) n));
-      torn = λ n q. ap (λ (t : Tail). transferIf (needsTransfer (x .frames) t) (x .number) (x .time) st) q;
+      other-not = λ n. ap (map erase) (w ∙ ap (λ (b : Bool). cond b [] (j ∷ [])) (not-blank (blockState (block (sizeOf N img) j img)) n));
+      torn = λ n q. ap (λ (t : Tail). transferIf N (needsTransfer (x .frames) t) (x .number) (x .time) st) q;
       pending = λ q n.
-          ap (λ (t : Tail). transferIf (needsTransfer (x .frames) t) (x .number) (x .time) st) q
-          ∙ ap (λ (b : Bool). transferIf b (x .number) (x .time) st) (some-pending (replay (x .frames) .pending) n);
+          ap (λ (t : Tail). transferIf N (needsTransfer (x .frames) t) (x .number) (x .time) st) q
+          ∙ ap (λ (b : Bool). transferIf N b (x .number) (x .time) st) (some-pending (replay (x .frames) .pending) n);
       at-rest = λ q n.
-          ap (λ (t : Tail). transferIf (needsTransfer (x .frames) t) (x .number) (x .time) st) q
-          ∙ ap (λ (es : List Entry). transferIf (anyPending es) (x .number) (x .time) st) n;
+          ap (λ (t : Tail). transferIf N (needsTransfer (x .frames) t) (x .number) (x .time) st) q
+          ∙ ap (λ (es : List Entry). transferIf N (anyPending es) (x .number) (x .time) st) n;
     }
 
 -- ---- a read's stretch
@@ -197,5 +197,5 @@ mount-exact img x j e =
 pub stretch-exact : StretchExact
 unfolding StretchExact
 stretch-exact img r x c i v y h s =
-    let p = place-exact .found (block (sizeOf img) (r .block) img) (x .time) (x .frames) c i v y h s in
-    (p .0, ap (stretchOf (r .block * sizeOf img)) (p .1), p .2)
+    let p = place-exact .found (block (sizeOf N img) (r .block) img) (x .time) (x .frames) c i v y h s in
+    (p .0, ap (stretchOf (r .block * sizeOf N img)) (p .1), p .2)

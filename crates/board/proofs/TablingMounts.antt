@@ -10,7 +10,7 @@ use lib.Dec.{eqb}
 use lib.ListN.{length}
 use borrow.Author.Tests.{eqb-true, eqb-false}
 use Rattle.flash.specs.Bytes.{Bytes}
-use Rattle.flash.specs.Flash.{blocks, block, sizeOf}
+use Rattle.flash.specs.Flash.{block, sizeOf}
 use Rattle.flash.proofs.Cases.{on-test, on-order, clash}
 use Rattle.flash.proofs.Image.{bytes-block}
 use Rattle.frame.specs.declared.Fault.{Fault}
@@ -77,41 +77,41 @@ due-unsettled fs clean t = inr (some-pending (replay fs .pending) t)
 due-unsettled fs (cut k) t = inl (λ e. let w : _≡_ {A = ℕ} 0 1 = cc in omega arith)
 due-unsettled fs (bad e) t = inl (λ e. let w : _≡_ {A = ℕ} 0 1 = cc in omega arith)
 
-module _ (img : List ℕ) (by : Bytes img) (ok : allowed (length img) ≡ true) where
+module _ {N : ℕ} (img : List ℕ) (by : Bytes img) (ok : allowed N (length img) ≡ true) where
   abbrev s : ℕ
-  s = sizeOf img
+  s = sizeOf N img
 
-  z : Sized s img
+  z : Sized N s img
   z = sized-of img ok
 
-  long : (k : ℕ) → k < blocks → headerLen ≤ length (block s k img)
+  long : (k : ℕ) → k < N → headerLen ≤ length (block s k img)
   long k h = omega (arith, block-long k z h, z .low)
 
   -- ---- a block's state in words, and back
 
-  pub valid-at : {k t : ℕ} {fs : List Frame} {c : Tail} → k < blocks → blockState (block s k img) ≡ valid t fs c → ValidAt img k t fs c
+  pub valid-at : {k t : ℕ} {fs : List Frame} {c : Tail} → k < N → blockState (block s k img) ≡ valid t fs c → ValidAt N img k t fs c
   valid-at {k} {t} {fs} {c} h e = (h, states-exact .is-valid (block s k img) t fs c (bytes-block s k img by) (long k h) .0 e)
 
-  pub at-valid : {k t : ℕ} {fs : List Frame} {c : Tail} → ValidAt img k t fs c → blockState (block s k img) ≡ valid t fs c
+  pub at-valid : {k t : ℕ} {fs : List Frame} {c : Tail} → ValidAt N img k t fs c → blockState (block s k img) ≡ valid t fs c
   at-valid {k} {t} {fs} {c} (h, v) = states-exact .is-valid (block s k img) t fs c (bytes-block s k img by) (long k h) .1 v
 
-  foreign-at : {k : ℕ} {e : Fault} → k < blocks → blockState (block s k img) ≡ foreign e → ForeignAt img k
+  foreign-at : {k : ℕ} {e : Fault} → k < N → blockState (block s k img) ≡ foreign e → ForeignAt N img k
   foreign-at {k} {e} h p = (h, states-exact .is-foreign (block s k img) (bytes-block s k img by) (long k h) .0 (e, p))
 
-  at-foreign : {k : ℕ} → ForeignAt img k → (e : Fault) × (blockState (block s k img) ≡ foreign e)
+  at-foreign : {k : ℕ} → ForeignAt N img k → (e : Fault) × (blockState (block s k img) ≡ foreign e)
   at-foreign {k} (h, v) = states-exact .is-foreign (block s k img) (bytes-block s k img by) (long k h) .1 v
 
-  answer : {n : Refusal} → mountOn img ≡ refuse n img unmounted [] → numberOf (mountOn img .answer) ≡ some (refusalNumber n)
+  answer : {n : Refusal} → mountOn N img ≡ refuse n img unmounted [] → numberOf (mountOn N img .answer) ≡ some (refusalNumber n)
   answer e = ap (λ (o : Out). numberOf (o .answer)) e
 
   abbrev Left : Type 0
-  Left = Exactly (line 2 (NothingThere img) ∷ line 3 (Unclear img) ∷ line 6 (MountWorn img) ∷ []) (mountOn img .answer)
+  Left = Exactly (line 2 (NothingThere N img) ∷ line 3 (Unclear N img) ∷ line 6 (MountWorn N img) ∷ []) (mountOn N img .answer)
 
-  module _ (x : Store) (y : Taken s img x) where
-    at-number : {k t : ℕ} {fs : List Frame} {c : Tail} → ValidAt img k t fs c → k ≡ x .number → SameValid t fs c (x .time) (x .frames) (x .tail)
+  module _ (x : Store) (y : Taken N s img x) where
+    at-number : {k t : ℕ} {fs : List Frame} {c : Tail} → ValidAt N img k t fs c → k ≡ x .number → SameValid t fs c (x .time) (x .frames) (x .tail)
     at-number a e = same-valid (sym (at-valid a) ∙ ap (λ (n : ℕ). blockState (block s n img)) e ∙ y .is-valid)
 
-    clear : Unclear img → ⊥
+    clear : Unclear N img → ⊥
     clear (foreign-half k f n) = n (x .number) (x .time) (x .frames) (x .tail) (valid-at (y .there) (y .is-valid))
     clear (equal-times k (tied-with j t fs gs c d n a b)) =
         on-test (eqb j (x .number))
@@ -122,7 +122,7 @@ module _ (img : List ℕ) (by : Bytes img) (ok : allowed (length img) ≡ true) 
         (λ q. omega (arith, at-number b (eqb-true k (x .number) q) .time))
         (λ q. omega (arith, n, a .0, b .0, y .there, eqb-false j (x .number) p, eqb-false k (x .number) q)))
 
-    not-worn : InTime x → MountWorn img → ⊥
+    not-worn : InTime x → MountWorn N img → ⊥
     not-worn t w =
         on-test (eqb (w .number) (x .number))
         (λ p.
@@ -137,10 +137,10 @@ module _ (img : List ℕ) (by : Bytes img) (ok : allowed (length img) ≡ true) 
               (eqb-false (w .number) (x .number) p) (at-valid (w .is-valid)),
         ))
 
-    taken-lines : Outcome img x → Left
+    taken-lines : Outcome N img x → Left
     taken-lines o = inr ((λ n. n .none-valid (x .number) (x .time) (x .frames) (x .tail) (valid-at (y .there) (y .is-valid))), inr (clear, last o))
       where
-        last : Outcome img x → Exactly (line 6 (MountWorn img) ∷ []) (mountOn img .answer)
+        last : Outcome N img x → Exactly (line 6 (MountWorn N img) ∷ []) (mountOn N img .answer)
         last (worn-out w e) =
             inl (
               record {
@@ -153,22 +153,22 @@ module _ (img : List ℕ) (by : Bytes img) (ok : allowed (length img) ≡ true) 
               answer e,
             )
         last (begins t e) =
-            let g : Record = enterWipe (mountJob img x (wipeList (x .number) (allFound img))) in
+            let g : Record = enterWipe (mountJob N img x (wipeList (x .number) (allFound N img))) in
             inr (not-worn t, subst (λ (o : Out). Accepted (o .answer)) (sym e) (begun (g .phase)))
 
-  current-of : (x : Store) → Taken s img x → Current img x
+  current-of : (x : Store) → Taken N s img x → Current N img x
   current-of x y =
       record { is-valid = valid-at (y .there) (y .is-valid); newest = λ k t fs c n v. taken-newest z y k t fs c (v .0) n (at-valid v) }
 
-  decided-lines : Decided s img → Left
+  decided-lines : Decided N s img → Left
   decided-lines (foreign-block j h e p o b r) =
       inr (
         (λ n. n .none-foreign j (foreign-at h p)),
         inl (foreign-half j (foreign-at h p) (λ k t fs c a. subst Unread (at-valid a) (o k (a .0))), answer r),
       )
   decided-lines (deciding.equal-times t fs gs c d p q r) =
-      let a : ValidAt img 0 t fs c = valid-at (omega arith) p in
-      let b : ValidAt img 1 t gs d = valid-at (omega arith) q in
+      let a : ValidAt N img 0 t fs c = valid-at (omega arith) p in
+      let b : ValidAt N img 1 t gs d = valid-at (omega arith) q in
       inr ((λ n. n .none-valid 0 t fs c a), inl (equal-times 1 (tied-with 0 t fs gs c d (λ e. omega arith) a b), answer r))
   decided-lines (none-valid n r) =
       inl (
@@ -182,21 +182,21 @@ module _ (img : List ℕ) (by : Bytes img) (ok : allowed (length img) ≡ true) 
 
 -- ---- the current half
 
-pub record Mountable (img : List ℕ) : Type 0 where
+pub record Mountable (N : ℕ) (img : List ℕ) : Type 0 where
   pub store : Store
-  pub current : Current img store
+  pub current : Current N img store
 
-pub accepted-takes : (img : List ℕ) → Bytes img → Accepted (mountOn img .answer) → Mountable img
-accepted-takes img by a =
-    on-test (allowed (length img))
-    (λ ok. let y : deciding.Begins (sizeOf img) img = mount-accepted (sized-of img ok) by a in
+pub accepted-takes : {N : ℕ} (img : List ℕ) → Bytes img → Accepted (mountOn N img .answer) → Mountable N img
+accepted-takes {N} img by a =
+    on-test (allowed N (length img))
+    (λ ok. let y : deciding.Begins (sizeOf N img) img = mount-accepted (sized-of img ok) by a in
     record { store = y .store; current = current-of img by ok (y .store) (y .taken) })
-    (λ no. absurd (subst (λ (o : Out). Accepted (o .answer)) (mount-length img no) a))
+    (λ no. absurd (subst (λ (o : Out). Accepted (o .answer)) (mount-length N img no) a))
 
 abbrev storeOf : ℕ → ℕ → List Frame → Tail → Store
 storeOf k t fs c = record { number = k; time = t; frames = fs; tail = c }
 
-pub mounts-current : {m : Machine} (img : List ℕ) → Bytes img → allowed (length img) ≡ true → (o : Out) → (y : Mounts m img o) → Current img (y .store)
+pub mounts-current : {N : ℕ} {m : Machine} (img : List ℕ) → Bytes img → allowed N (length img) ≡ true → (o : Out) → (y : Mounts N m img o) → Current N img (y .store)
 mounts-current img by ok o y =
     record {
       is-valid = valid-at img by ok (y .there) (y .is-valid);
@@ -204,8 +204,8 @@ mounts-current img by ok o y =
     }
 
 -- the image settles which half is current
-pub same-store : (img : List ℕ) → Bytes img → allowed (length img) ≡ true → (x y : Store) → Current img x → Current img y → x ≡ y
-same-store img by ok x y a b = on-test (eqb (x .number) (y .number)) (λ t. alike (eqb-true (x .number) (y .number) t)) apart
+pub same-store : {N : ℕ} (img : List ℕ) → Bytes img → allowed N (length img) ≡ true → (x y : Store) → Current N img x → Current N img y → x ≡ y
+same-store {N} img by ok x y a b = on-test (eqb (x .number) (y .number)) (λ t. alike (eqb-true (x .number) (y .number) t)) apart
   where
     apart : eqb (x .number) (y .number) ≡ false → x ≡ y
     apart t =
@@ -219,87 +219,87 @@ same-store img by ok x y a b = on-test (eqb (x .number) (y .number)) (λ t. alik
     alike : x .number ≡ y .number → x ≡ y
     alike e =
         let s : SameValid (x .time) (x .frames) (x .tail) (y .time) (y .frames) (y .tail) =
-        same-valid (sym (at-valid img by ok (a .is-valid)) ∙ ap (λ (k : ℕ). blockState (block (sizeOf img) k img)) e ∙ at-valid img by ok (b .is-valid)) in
+        same-valid (sym (at-valid img by ok (a .is-valid)) ∙ ap (λ (k : ℕ). blockState (block (sizeOf N img) k img)) e ∙ at-valid img by ok (b .is-valid)) in
         ap₂ (λ (k t : ℕ). storeOf k t (x .frames) (x .tail)) e (s .time)
         ∙ ap₂ (λ (fs : List Frame) (c : Tail). storeOf (y .number) (y .time) fs c) (s .frames) (s .tail)
 
-pub mount-lines : (img : List ℕ) → Bytes img → Exactly (mountLines img) (mountOn img .answer)
-mount-lines img by =
-    on-test (allowed (length img))
+pub mount-lines : {N : ℕ} (img : List ℕ) → Bytes img → Exactly (mountLines N img) (mountOn N img .answer)
+mount-lines {N} img by =
+    on-test (allowed N (length img))
     (λ ok. inr ((λ n. n (allowed-is (length img) ok)), decided-lines img by ok (mount-decides (sized-of img ok))))
-    (λ no. inl ((λ y. clash (allowed (length img)) (is-allowed (length img) y) no), ap (λ (o : Out). numberOf (o .answer)) (mount-length img no)))
+    (λ no. inl ((λ y. clash (allowed N (length img)) (is-allowed (length img) y) no), ap (λ (o : Out). numberOf (o .answer)) (mount-length N img no)))
 
 -- ---- what 3 names
 
-fault-at : (img : List ℕ) → Bytes img → allowed (length img) ≡ true → (k : ℕ) (e : Fault) → k < blocks → blockState (block (sizeOf img) k img) ≡ foreign e
-    → ForeignAt img k × FaultIn (block (sizeOf img) k img) e
-fault-at img by ok k e h p =
-    let w = states-exact .is-foreign-at (block (sizeOf img) k img) e (bytes-block (sizeOf img) k img by) (long img by ok k h) .0 p in ((h, w .0), w .1)
+fault-at : {N : ℕ} (img : List ℕ) → Bytes img → allowed N (length img) ≡ true → (k : ℕ) (e : Fault) → k < N → blockState (block (sizeOf N img) k img) ≡ foreign e
+    → ForeignAt N img k × FaultIn (block (sizeOf N img) k img) e
+fault-at {N} img by ok k e h p =
+    let w = states-exact .is-foreign-at (block (sizeOf N img) k img) e (bytes-block (sizeOf N img) k img by) (long img by ok k h) .0 p in ((h, w .0), w .1)
 
-pub mount-names : (img : List ℕ) → Bytes img → (k : ℕ) (e : Fault) → mountOn img .answer ≡ Refused (refusal.Foreign k e) → Names img k e
-mount-names img by k e q =
-    on-test (allowed (length img))
+pub mount-names : {N : ℕ} (img : List ℕ) → Bytes img → (k : ℕ) (e : Fault) → mountOn N img .answer ≡ Refused (refusal.Foreign k e) → Names N img k e
+mount-names {N} img by k e q =
+    on-test (allowed N (length img))
     (λ ok. go ok (mount-decides (sized-of img ok)))
-    (λ no. let r : Refused refusal.ImageLength ≡ Refused (refusal.Foreign k e) = sym (ap (λ (o : Out). o .answer) (mount-length img no)) ∙ q in
+    (λ no. let r : Refused refusal.ImageLength ≡ Refused (refusal.Foreign k e) = sym (ap (λ (o : Out). o .answer) (mount-length N img no)) ∙ q in
     let w : _≡_ {A = ℕ} 0 1 = cc in absurd (omega arith))
   where
-    told : {n : Refusal} → mountOn img ≡ refuse n img unmounted [] → Refused n ≡ Refused (refusal.Foreign k e)
+    told : {n : Refusal} → mountOn N img ≡ refuse n img unmounted [] → Refused n ≡ Refused (refusal.Foreign k e)
     told r = sym (ap (λ (o : Out). o .answer) r) ∙ q
 
-    go : allowed (length img) ≡ true → Decided (sizeOf img) img → Names img k e
+    go : allowed N (length img) ≡ true → Decided N (sizeOf N img) img → Names N img k e
     go ok (foreign-block j h f p o b r) =
         let t = told r in
         let jk : j ≡ k = cc in
         let fe : f ≡ e = cc in
         let w = fault-at img by ok j f h p in
-        subst₂ (Names img) jk fe
+        subst₂ (Names N img) jk fe
         (names-foreign (λ i t fs c a. subst Unread (at-valid img by ok a) (o i (a .0))) (w .0) (w .1)
         (λ i l y. let z = at-foreign img by ok y in subst Quiet (z .1) (b i l)))
     go ok (deciding.equal-times t fs gs c d p u r) =
         let w = told r in
         let zk : 0 ≡ k = cc in
         let fe : fault field.Created 4 ≡ e = cc in
-        subst₂ (Names img) zk fe
+        subst₂ (Names N img) zk fe
         (names-equal (tied-with 1 t gs fs d c (λ n. omega arith) (valid-at img by ok (omega arith) u) (valid-at img by ok (omega arith) p)) refl
         (λ j l y. absurd (omega arith)))
     go ok (none-valid n r) = let t = told r in let w : _≡_ {A = ℕ} 0 1 = cc in absurd (omega arith)
     go ok (at-store x y) = out (mount-outcome x (sized-of img ok) y (taken-holds x (sized-of img ok) by y))
       where
-        out : Outcome img x → Names img k e
+        out : Outcome N img x → Names N img k e
         out (worn-out w r) = let t = told r in let w : _≡_ {A = ℕ} 0 1 = cc in absurd (omega arith)
         out (begins t r) =
-            let g : Record = enterWipe (mountJob img x (wipeList (x .number) (allFound img))) in
+            let g : Record = enterWipe (mountJob N img x (wipeList (x .number) (allFound N img))) in
             absurd (subst Accepted q (subst (λ (o : Out). Accepted (o .answer)) (sym r) (begun (g .phase))))
 
 lowest-one : {P : ℕ → Type 0} (k j : ℕ) → P k → P j → ((i : ℕ) → i < k → P i → ⊥) → ((i : ℕ) → i < j → P i → ⊥) → k ≡ j
 lowest-one k j a b m n =
     on-order k j (λ _ l. absurd (n k l a)) (λ _ e. e) (λ _ l. absurd (m j l b))
 
-names-one : (img : List ℕ) → Bytes img → allowed (length img) ≡ true → (k j : ℕ) (e f : Fault) → Names img k e → Names img j f → (k ≡ j) × (e ≡ f)
-names-one img by ok k j e f (names-foreign n a b c) (names-foreign n′ a′ b′ c′) =
-    let same : k ≡ j = lowest-one {P = ForeignAt img} k j a a′ c c′ in
+names-one : {N : ℕ} (img : List ℕ) → Bytes img → allowed N (length img) ≡ true → (k j : ℕ) (e f : Fault) → Names N img k e → Names N img j f → (k ≡ j) × (e ≡ f)
+names-one {N} img by ok k j e f (names-foreign n a b c) (names-foreign n′ a′ b′ c′) =
+    let same : k ≡ j = lowest-one {P = ForeignAt N img} k j a a′ c c′ in
     let p = at-fault k e a b in
     let q = at-fault j f a′ b′ in
-    let r : foreign e ≡ foreign f = sym p ∙ ap (λ (n : ℕ). blockState (block (sizeOf img) n img)) same ∙ q in
+    let r : foreign e ≡ foreign f = sym p ∙ ap (λ (n : ℕ). blockState (block (sizeOf N img) n img)) same ∙ q in
     (same, cc)
   where
-    at-fault : (n : ℕ) (g : Fault) → ForeignAt img n → FaultIn (block (sizeOf img) n img) g → blockState (block (sizeOf img) n img) ≡ foreign g
-    at-fault n g (h, y) z = states-exact .is-foreign-at (block (sizeOf img) n img) g (bytes-block (sizeOf img) n img by) (long img by ok n h) .1 (y, z)
+    at-fault : (n : ℕ) (g : Fault) → ForeignAt N img n → FaultIn (block (sizeOf N img) n img) g → blockState (block (sizeOf N img) n img) ≡ foreign g
+    at-fault n g (h, y) z = states-exact .is-foreign-at (block (sizeOf N img) n img) g (bytes-block (sizeOf N img) n img by) (long img by ok n h) .1 (y, z)
 names-one img by ok k j e f (names-foreign n a b c) (names-equal (tied-with i t fs gs u v d x y) q m) = absurd (n i t fs u x)
 names-one img by ok k j e f (names-equal (tied-with i t fs gs u v d x y) q m) (names-foreign n a b c) = absurd (n i t fs u x)
-names-one img by ok k j e f (names-equal x q m) (names-equal x′ q′ m′) = (lowest-one {P = TiedAt img} k j x x′ m m′, q ∙ sym q′)
+names-one {N} img by ok k j e f (names-equal x q m) (names-equal x′ q′ m′) = (lowest-one {P = TiedAt N img} k j x x′ m m′, q ∙ sym q′)
 
 -- what a mount may answer: by the table, and naming what 3 names
-abbrev pub MountTold : List ℕ → Answer → Type 0
-MountTold img a = Exactly (mountLines img) a × ((k : ℕ) (e : Fault) → a ≡ Refused (refusal.Foreign k e) → Names img k e)
+abbrev pub MountTold : ℕ → List ℕ → Answer → Type 0
+MountTold N img a = Exactly (mountLines N img) a × ((k : ℕ) (e : Fault) → a ≡ Refused (refusal.Foreign k e) → Names N img k e)
 
-pub mount-told : (img : List ℕ) → Bytes img → MountTold img (mountOn img .answer)
+pub mount-told : {N : ℕ} (img : List ℕ) → Bytes img → MountTold N img (mountOn N img .answer)
 mount-told img by = (mount-lines img by, mount-names img by)
 
-same-named : (img : List ℕ) → Bytes img → (a b : Answer) → MountTold img a → MountTold img b → SameNamed a b
+same-named : {N : ℕ} (img : List ℕ) → Bytes img → (a b : Answer) → MountTold N img a → MountTold N img b → SameNamed a b
 same-named img by a b (inl (p, x), n) (y, m) k j e f s t =
     let w : _≡_ {A = Option ℕ} (some 3) (some 4) = sym (ap numberOf s) ∙ x in let z : _≡_ {A = ℕ} 3 4 = cc in absurd (omega arith)
 same-named img by a b (inr (p, x), n) (y, m) k j e f s t = names-one img by (allowed-not (length img) p) k j e f (n k e s) (m j f t)
 
-pub same-mounts : (img : List ℕ) → Bytes img → (a b : Answer) → MountTold img a → MountTold img b → Both a b
-same-mounts img by a b x y = same-lines (mountLines img) a b (same-named img by a b x y) (x .0) (y .0)
+pub same-mounts : {N : ℕ} (img : List ℕ) → Bytes img → (a b : Answer) → MountTold N img a → MountTold N img b → Both a b
+same-mounts {N} img by a b x y = same-lines (mountLines N img) a b (same-named img by a b x y) (x .0) (y .0)

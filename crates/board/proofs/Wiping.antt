@@ -8,7 +8,7 @@ use native.Mathlib.Omega.{arith}
 use lib.Dec.{eqb}
 use lib.ListN.{length, replicate}
 use borrow.Author.Tests.{eqb-true}
-use Rattle.flash.specs.Flash.{block, blocks, sizeOf}
+use Rattle.flash.specs.Flash.{block, sizeOf}
 use Rattle.flash.proofs.Cases.{on-test}
 use Rattle.journal.specs.Block.{BlockState, blank, inProgress, valid, foreign, blockState}
 use Rattle.journal.proofs.States.{blank-is}
@@ -51,29 +51,29 @@ blank-state inProgress e = absurd (false≢true e)
 blank-state (valid t fs c) e = absurd (false≢true e)
 blank-state (foreign f) e = absurd (false≢true e)
 
-module _ {s : ℕ} {img : List ℕ} (z : Sized s img) (n : ℕ) where
-  blank-of : (j : ℕ) → j < blocks → isBlank (blockState (block (sizeOf img) j img)) ≡ true → block s j img ≡ replicate s 255
+module _ {N : ℕ} {s : ℕ} {img : List ℕ} (z : Sized N s img) (n : ℕ) where
+  blank-of : (j : ℕ) → j < N → isBlank (blockState (block (sizeOf N img) j img)) ≡ true → block s j img ≡ replicate s 255
   blank-of j h e =
       let q : blockState (block s j img) ≡ blank =
       blank-state (blockState (block s j img)) (subst (λ (m : ℕ). isBlank (blockState (block m j img)) ≡ true) (size-of z) e) in
       blank-is (block s j img) q ∙ ap (λ (m : ℕ). replicate m 255) (block-long j z h)
 
-  pub wipes-others : Others (λ j. (block s j img ≡ replicate s 255) ⊎ In j (wipeList n (allFound img))) n
-  wipes-others j h d = go (covered n (allFound img)) j h d
+  pub wipes-others : Others N (λ j. (block s j img ≡ replicate s 255) ⊎ In j (wipeList n (allFound N img))) n
+  wipes-others j h d = go (covered n (allFound N img)) j h d
     where
       ks : List ℕ
-      ks = wipeList n (allFound img)
+      ks = wipeList n (allFound N img)
 
-      each : (i : ℕ) → i < blocks → (isBlank (blockState (block (sizeOf img) i img)) ≡ true) ⊎ In i ks → (block s i img ≡ replicate s 255) ⊎ In i ks
+      each : (i : ℕ) → i < N → (isBlank (blockState (block (sizeOf N img) i img)) ≡ true) ⊎ In i ks → (block s i img ≡ replicate s 255) ⊎ In i ks
       each i l (inl e) = inl (blank-of i l e)
       each i l (inr x) = inr x
 
-      go : Covered n ks (allFound img) → (i : ℕ) → i < blocks → (i ≡ n → ⊥) → (block s i img ≡ replicate s 255) ⊎ In i ks
+      go : Covered n ks (allFound N img) → (i : ℕ) → i < N → (i ≡ n → ⊥) → (block s i img ≡ replicate s 255) ⊎ In i ks
       go (f, (g, r)) zero l d = each 0 l (f d)
       go (f, (g, r)) (suc zero) l d = each 1 l (g d)
       go (f, (g, r)) (suc (suc i)) l d = absurd (omega arith)
 
-few : (n : ℕ) (a b : Bool) → n < blocks
+few : {N : ℕ} (n : ℕ) (a b : Bool) → n < N
     → length {A = ℕ} (cond (eqb n 0 || a) (cond (eqb n 1 || b) [] (1 ∷ [])) (0 ∷ cond (eqb n 1 || b) [] (1 ∷ []))) ≤ 1
 few zero a true h = omega arith
 few zero a false h = omega arith
@@ -81,5 +81,5 @@ few (suc zero) true b h = omega arith
 few (suc zero) false b h = omega arith
 few (suc (suc n)) a b h = absurd (omega arith)
 
-pub wipes-few : (img : List ℕ) (n : ℕ) → n < blocks → length (wipeList n (allFound img)) ≤ 1
-wipes-few img n h = few n (isBlank (blockState (block (sizeOf img) 0 img))) (isBlank (blockState (block (sizeOf img) 1 img))) h
+pub wipes-few : {N : ℕ} (img : List ℕ) (n : ℕ) → n < N → length (wipeList n (allFound N img)) ≤ 1
+wipes-few {N} img n h = few n (isBlank (blockState (block (sizeOf N img) 0 img))) (isBlank (blockState (block (sizeOf N img) 1 img))) h

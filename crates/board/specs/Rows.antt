@@ -1,4 +1,5 @@
--- Document 01's starred bench rows, S = 256, row p, and row o's values as document 02, K2 has them: one table over a machine.
+-- Document 01's starred bench rows, S = 256, row p, and row o's values as document 02, K2 has them: one table over a machine of
+-- two blocks.
 use mathlib.Core.List.{List, [], _∷_}
 use mathlib.Core.Path.{_≡_}
 use Prim.Native.Nat.{ℕ, zero, suc, _+_}
@@ -121,16 +122,16 @@ formatAnswer m n = m (replicate n 0x5A) unmounted format .answer
 
 pub record Rows (m : Machine) : Type 0 where
   pub a-steps : rowA m .steps ≡ 12
-  pub a-done : rowA m .board ≡ idle (rest 511 0 16)
+  pub a-done : rowA m .board ≡ idle (rest 2 511 0 16)
   pub a-half : part 0 16 (rowA m .image)
       ≡ 0x10 ∷ 0x00 ∷ 0x01 ∷ 0x4A ∷ 0xFE ∷ 0xFF ∷ 0xFF ∷ 0xFF ∷ 0xFC ∷ 0xFF ∷ 0xFF ∷ 0xFF ∷ 0xFF ∷ 0xFF ∷ 0xFF ∷ 0xFF ∷ []
   pub a-rest : drop 16 (rowA m .image) ≡ replicate 496 0xFF
   pub b-steps : rowB m .steps ≡ 10
-  pub b-done : rowB m .board ≡ idle (rest 511 0 26)
+  pub b-done : rowB m .board ≡ idle (rest 2 511 0 26)
   pub b-frame : part 16 10 (rowB m .image) ≡ 0x0A ∷ 0x00 ∷ 0x01 ∷ 0x00 ∷ 0x02 ∷ 0x05 ∷ 0x00 ∷ 0x41 ∷ 0x42 ∷ 0xFE ∷ []
   pub c-steps : rowC m .steps ≡ 6
   pub c-frame : part 26 6 (rowC m .image) ≡ 0x06 ∷ 0x00 ∷ 0x03 ∷ 0x00 ∷ 0x02 ∷ 0xFE ∷ []
-  pub c-end : rowC m .board ≡ idle (rest 511 0 32)
+  pub c-end : rowC m .board ≡ idle (rest 2 511 0 32)
   pub c-rest : drop 32 (rowC m .image) ≡ replicate 480 0xFF
   pub d-answer : rowD m .answer ≡ Done
   pub d-place : rowD m .stretch ≡ record { at = 23; size = 2 }
@@ -138,24 +139,24 @@ pub record Rows (m : Machine) : Type 0 where
   pub e-reply : rowE m .reply
       ≡ 0x0E ∷ 0x00 ∷ 0x01 ∷ 0x02 ∷ 0x01 ∷ 0x00 ∷ 0x00 ∷ 0x00 ∷ 0x01 ∷ 0x00 ∷ 0x19 ∷ 0x00 ∷ 0x00 ∷ 0x01 ∷ 0xEE ∷ 0xEE ∷ []
   pub f-steps : rowF m .steps ≡ 11
-  pub f-done : rowF m .board ≡ idle (rest 511 1 16)
+  pub f-done : rowF m .board ≡ idle (rest 2 511 1 16)
   pub f-time : timed 1 (rowF m) ≡ 2
   pub f-holds : replayed 1 (rowF m) ≡ state [] []
   pub g-steps : rowG m .steps ≡ 11
-  pub g-done : rowG m .board ≡ idle (rest 511 1 16)
+  pub g-done : rowG m .board ≡ idle (rest 2 511 1 16)
   pub g-holds : replayed 1 (rowG m) ≡ state [] []
   pub h-steps : rowH m .steps ≡ 0
-  pub h-done : rowH m .board ≡ idle (rest 511 0 32)
+  pub h-done : rowH m .board ≡ idle (rest 2 511 0 32)
   pub h-holds : replayed 0 (rowH m) ≡ state (object (idOf 5) (0x41 ∷ 0x42 ∷ []) ∷ []) []
   pub i-accepted : ask m (rowA m) 0 (putMessage 1 64) .answer ≡ More
-  pub i-done : rowI m 64 .board ≡ idle (rest 511 0 232)
+  pub i-done : rowI m 64 .board ≡ idle (rest 2 511 0 232)
   pub i-claimed : claimed (replayed 0 (rowI m 64)) ≡ 232
   pub j : ask m (rowI m 64) 0 (putMessage 4 0) .answer ≡ Refused refusal.NoRoom
   pub k-refused : ask m (rowK m 64) 0 (putMessage 4 0) .answer ≡ Refused refusal.NoRoom
   pub k-accepted : ask m (rowK m 63) 0 (putMessage 4 0) .answer ≡ More
   pub n : ask m (rowA m) 0 (0x05 ∷ 0x00 ∷ 0x03 ∷ 0x01 ∷ []) .answer ≡ Refused refusal.Malformed
   pub o-240-steps : rowO m 240 .steps ≡ 248
-  pub o-240-done : rowO m 240 .board ≡ idle (rest 1023 0 264)
+  pub o-240-done : rowO m 240 .board ≡ idle (rest 2 1023 0 264)
   pub o-241 : rowO m 241 .answer ≡ Refused refusal.Malformed
   -- beyond row o: where S is 256 there is no room for the longest value
   pub o-240-short : ask m (rowA m) 0 (putMessage 9 240) .answer ≡ Refused refusal.NoRoom

@@ -32,8 +32,8 @@ abbrev pub lastFrom : Shown → List Shown → Shown
 lastFrom x [] = x
 lastFrom x (y ∷ ys) = lastFrom y ys
 
-abbrev pub ended : Machine → List ℕ → List Call → Shown
-ended m img cs = lastFrom nothing (trace m img unmounted (map call cs))
+abbrev pub ended : ℕ → Machine → List ℕ → List Call → Shown
+ended N m img cs = lastFrom nothing (trace N m img unmounted (map call cs))
 
 -- image and messages are bytes, and the first call is a mount or a format
 abbrev pub allBytes : List ℕ → Bool
@@ -55,10 +55,10 @@ begins (mount ∷ cs) = true
 begins (format ∷ cs) = true
 
 -- at the run's end the wrong store shows one number and the machine another
-pub record Differs (w : Wrongly) (img : List ℕ) (cs : List Call) (see : Shown → ℕ) (wrong right : ℕ) : Type 0 where
+pub record Differs (N : ℕ) (w : Wrongly) (img : List ℕ) (cs : List Call) (see : Shown → ℕ) (wrong right : ℕ) : Type 0 where
   pub is-run : (allBytes img && (begins cs && bytesIn cs)) ≡ true
-  pub shows-wrong : see (ended (offBench w) img cs) ≡ wrong
-  pub shows-right : see (ended exec img cs) ≡ right
+  pub shows-wrong : see (ended N (offBench w N) img cs) ≡ wrong
+  pub shows-right : see (ended N (exec N) img cs) ≡ right
   pub apart : eqb wrong right ≡ false
 
 -- what is looked at: the answer's number, 255 for more; a byte of the image or of the reply; how long the reply is
@@ -181,40 +181,40 @@ afterPut cs = mount ∷ putEmpty 7 ∷ stepping 8 cs
 -- ---- the runs: store, image, calls, what is looked at, what the store shows, what the machine shows
 
 pub record Runs : Type 0 where
-  pub refuses-all : Differs refusesAll stored (mount ∷ []) answered 2 0
-  pub refuses-puts : Differs refusesPuts stored (mount ∷ putCD ∷ []) answered 7 255
-  pub refuses-high-ids : Differs refusesHighIds stored (mount ∷ putEmpty 128 ∷ []) answered 1 255
-  pub own-formats-only : Differs ownFormatsOnly later (mount ∷ reads ∷ []) answered 11 0
-  pub first-half-only : Differs firstHalfOnly second (mount ∷ reads ∷ []) answered 11 0
-  pub host-first : Differs hostFirst (replicate 513 0xFF) (mount ∷ request (hostOf 4) commitMessage [] ∷ []) answered 10 4
-  pub refusal-clears : Differs refusalClears stored (mount ∷ logsShort ∷ []) replyLength 0 1
-  pub refused-log-writes : Differs refusedLogWrites stored (mount ∷ logsShort ∷ []) (replied 0) 0 0xEE
-  pub reads-alike : Differs readsAlike stored (mount ∷ reads ∷ []) answered 8 0
-  pub invents-count : Differs inventsCount stored (mount ∷ logs ∷ []) (replied 8) 7 1
-  pub never-commits : Differs neverCommits stored (afterPut (commits ∷ [])) answered 0 255
-  pub aborts-nothing : Differs abortsNothing stored (afterPut (aborts ∷ [])) answered 0 255
-  pub takes-others : Differs takesOthers stored (afterPut (request (hostOf 1) commitMessage [] ∷ [])) answered 255 0
+  pub refuses-all : Differs 2 refusesAll stored (mount ∷ []) answered 2 0
+  pub refuses-puts : Differs 2 refusesPuts stored (mount ∷ putCD ∷ []) answered 7 255
+  pub refuses-high-ids : Differs 2 refusesHighIds stored (mount ∷ putEmpty 128 ∷ []) answered 1 255
+  pub own-formats-only : Differs 2 ownFormatsOnly later (mount ∷ reads ∷ []) answered 11 0
+  pub first-half-only : Differs 2 firstHalfOnly second (mount ∷ reads ∷ []) answered 11 0
+  pub host-first : Differs 2 hostFirst (replicate 513 0xFF) (mount ∷ request (hostOf 4) commitMessage [] ∷ []) answered 10 4
+  pub refusal-clears : Differs 2 refusalClears stored (mount ∷ logsShort ∷ []) replyLength 0 1
+  pub refused-log-writes : Differs 2 refusedLogWrites stored (mount ∷ logsShort ∷ []) (replied 0) 0 0xEE
+  pub reads-alike : Differs 2 readsAlike stored (mount ∷ reads ∷ []) answered 8 0
+  pub invents-count : Differs 2 inventsCount stored (mount ∷ logs ∷ []) (replied 8) 7 1
+  pub never-commits : Differs 2 neverCommits stored (afterPut (commits ∷ [])) answered 0 255
+  pub aborts-nothing : Differs 2 abortsNothing stored (afterPut (aborts ∷ [])) answered 0 255
+  pub takes-others : Differs 2 takesOthers stored (afterPut (request (hostOf 1) commitMessage [] ∷ [])) answered 255 0
   -- the value's first byte, the frame's eighth
-  pub keeps-old : Differs keepsOld stored (mount ∷ putCD ∷ stepping 8 []) (byteAt 39) 0x41 0x43
-  pub programs-nothing : Differs programsNothing stored (format ∷ stepping 2 []) (byteAt 0) 0x10 0xFF
+  pub keeps-old : Differs 2 keepsOld stored (mount ∷ putCD ∷ stepping 8 []) (byteAt 39) 0x41 0x43
+  pub programs-nothing : Differs 2 programsNothing stored (format ∷ stepping 2 []) (byteAt 0) 0x10 0xFF
   -- the frame's second byte
-  pub whole-frame : Differs wholeFrame stored (mount ∷ putCD ∷ step ∷ []) (byteAt 33) 0x00 0xFF
-  pub invents-step : Differs inventsStep begun (mount ∷ step ∷ []) answered 255 0
+  pub whole-frame : Differs 2 wholeFrame stored (mount ∷ putCD ∷ step ∷ []) (byteAt 33) 0x00 0xFF
+  pub invents-step : Differs 2 inventsStep begun (mount ∷ step ∷ []) answered 255 0
   -- the old half's first byte, after ten of the transfer's eleven steps
-  pub erases-first : Differs erasesFirst pending (mount ∷ stepping 10 []) (byteAt 0) 0xFF 0x10
-  pub hurried-mount : Differs hurriedMount pending (mount ∷ []) answered 0 255
-  pub loses-all : Differs losesAll pending (mount ∷ []) answered 2 255
+  pub erases-first : Differs 2 erasesFirst pending (mount ∷ stepping 10 []) (byteAt 0) 0xFF 0x10
+  pub hurried-mount : Differs 2 hurriedMount pending (mount ∷ []) answered 0 255
+  pub loses-all : Differs 2 losesAll pending (mount ∷ []) answered 2 255
   -- a commit after the cut finds what was left pending before it
-  pub keeps-pending : Differs keepsPending pending (mount ∷ stepping 11 (commits ∷ [])) answered 255 0
-  pub refuses-alike : Differs refusesAlike twice (mount ∷ []) answered 3 255
-  pub overlooks-foreign : Differs overlooksForeign strange (mount ∷ []) answered 2 3
-  pub names-second : Differs namesSecond bothStrange (mount ∷ []) halfNamed 1 0
-  pub ties-at-start : Differs tiesAtStart tiedHalves (mount ∷ []) placeNamed 0 4
-  pub refuses-half-erased : Differs refusesHalfErased halfErased (mount ∷ []) answered 3 255
+  pub keeps-pending : Differs 2 keepsPending pending (mount ∷ stepping 11 (commits ∷ [])) answered 255 0
+  pub refuses-alike : Differs 2 refusesAlike twice (mount ∷ []) answered 3 255
+  pub overlooks-foreign : Differs 2 overlooksForeign strange (mount ∷ []) answered 2 3
+  pub names-second : Differs 2 namesSecond bothStrange (mount ∷ []) halfNamed 1 0
+  pub ties-at-start : Differs 2 tiesAtStart tiedHalves (mount ∷ []) placeNamed 0 4
+  pub refuses-half-erased : Differs 2 refusesHalfErased halfErased (mount ∷ []) answered 3 255
   -- the good half's first byte after the first step
-  pub takes-half-erased : Differs takesHalfErased seemsEmpty (mount ∷ step ∷ []) (byteAt 384) 0xFF 0x10
-  pub formats-at-once : Differs formatsAtOnce stored (format ∷ []) (byteAt 0) 0xFF 0x10
-  pub formats-blindly : Differs formatsBlindly stored (format ∷ step ∷ []) (byteAt 0) 0xFF 0x10
+  pub takes-half-erased : Differs 2 takesHalfErased seemsEmpty (mount ∷ step ∷ []) (byteAt 384) 0xFF 0x10
+  pub formats-at-once : Differs 2 formatsAtOnce stored (format ∷ []) (byteAt 0) 0xFF 0x10
+  pub formats-blindly : Differs 2 formatsBlindly stored (format ∷ step ∷ []) (byteAt 0) 0xFF 0x10
 
 -- ---- demand 3 alone sees a store that is wrong on half-erased halves only: its claim is for every raised half
 
@@ -230,4 +230,4 @@ cutRun =
     ++ (call mount ∷ (replicate 10 (call step) ++ (cutErase 0 fading unmounted ∷ call mount ∷ []))))
 
 unfoldable pub ClaimSees : Type 0
-ClaimSees = Claim (offBench refusesHalfErased) → ⊥
+ClaimSees = Claim 2 (offBench refusesHalfErased 2) → ⊥

@@ -1,0 +1,22 @@
+-- The size of a block, by how many there are.
+use mathlib.Core.Path.{_≡_, refl, sym, ap, _∙_}
+use mathlib.Core.Bool.{Bool, true, false, cond}
+use Prim.Native.Nat.{ℕ, zero, suc, _+_, _*_, _/_, _≤_}
+use native.Mathlib.Omega.{arith}
+use native.Mathlib.Nat.{mul-div-cancel-left}
+use lib.Dec.{eqb}
+use borrow.Author.Tests.{eqb-true}
+use Rattle.flash.specs.Flash.{sizeIn}
+use Rattle.flash.proofs.Cases.{on-test}
+
+pub size-none : (N n : ℕ) → N ≡ 0 → 0 ≡ sizeIn N n
+unfolding sizeIn
+size-none N n e = let t : eqb N 0 ≡ true = ap (λ (k : ℕ). eqb k 0) e in rw t
+
+pub size-some : (N n : ℕ) → (N ≡ 0 → ⊥) → n / N ≡ sizeIn N n
+unfolding sizeIn
+size-some N n h = on-test (eqb N 0) (λ t. absurd (h (eqb-true N 0 t))) (λ t. rw t)
+
+-- S, where the image is N blocks of that size
+pub size-is : (N s : ℕ) → 1 ≤ N → sizeIn N (N * s) ≡ s
+size-is N s h = sym (size-some N (N * s) (λ e. omega arith)) ∙ mul-div-cancel-left s h
