@@ -2,15 +2,15 @@
 use mathlib.Core.Path.{_≡_, refl, sym, subst, _∙_}
 use mathlib.Core.List.{List, [], _∷_, map}
 use mathlib.Core.Bool.{Bool, _||_, cond}
-use Prim.Native.Nat.{ℕ, zero, suc, _<_}
+use Prim.Native.Nat.{ℕ, zero, suc, _+_, _≤_, _<_}
 use native.Mathlib.Omega.{arith}
 use lib.Dec.{eqb}
 use lib.ListN.{length, getD}
 use borrow.Author.Tests.{eqb-false}
-use Rattle.flash.specs.Flash.{block, erase, apply, applyAll}
+use Rattle.flash.specs.Flash.{numbersFrom, block, erase, apply, applyAll}
 use Rattle.flash.proofs.Cases.{on-test, or-no-left}
 use Rattle.flash.proofs.Image.{other-erase}
-use Rattle.board.specs.Mount.{Found, allFound, isBlank, wipeList}
+use Rattle.board.specs.Mount.{Found, found, allFound, isBlank, wipeList}
 
 -- the numbers are blocks
 abbrev pub Blocks : ℕ → List ℕ → Type 0
@@ -52,5 +52,10 @@ besides-found N k (x ∷ xs) (a, h) =
     subst (λ (b : Bool). Besides N k (cond b (wipeList k xs) (x .number ∷ wipeList k xs))) (sym t)
     (a, eqb-false k (x .number) (or-no-left (eqb k (x .number)) (isBlank (x .state)) t), rest))
 
+numbered-from : (N k n : ℕ) (img : List ℕ) → k + n ≤ N → Numbered N (map (found N img) (numbersFrom k n))
+unfolding numbersFrom
+numbered-from N k zero img h = tt
+numbered-from N k (suc n) img h = (omega arith, numbered-from N (suc k) n img (omega arith))
+
 pub wiped-besides : (N : ℕ) (k : ℕ) (img : List ℕ) → Besides N k (wipeList k (allFound N img))
-wiped-besides N k img = besides-found N k (allFound N img) (omega arith, (omega arith, tt))
+wiped-besides N k img = besides-found N k (allFound N img) (numbered-from N 0 N img (omega arith))

@@ -24,7 +24,7 @@ use Rattle.board.specs.declared.Phase.{Phase}
 use Rattle.board.specs.declared.Phase.the-variants.{Unmounted, Idle, Busy}
 use Rattle.board.specs.declared.Record.{Record}
 use Rattle.board.specs.Record.{allowed}
-use Rattle.board.specs.Step.{action}
+use Rattle.board.specs.Step.{sameShape, action}
 use Rattle.board.specs.Mount.{allFound, anyForeign, stores, Store, equalTimes, newest, needsTransfer, Found, noneValid, lowestTied, tiedTimes}
 use Rattle.board.specs.Queue.{Held, held, needsRoom}
 use Rattle.board.specs.Exec.{Call, request, step, mount, format}
@@ -112,7 +112,7 @@ requestChecks N img r h m reply =
 abbrev pub outside : ℕ → Phase → List ℕ → Record → Bool
 outside N Unmounted img r = false
 outside N Idle img r = false
-outside N (Busy s) img r = not (eqb (length img) (suc (r .last)) && within N (sizeOf N img) (action s r))
+outside N (Busy s) img r = not (sameShape N (length img) r && within N (sizeOf N img) (action s r))
 
 -- "no valid half"
 abbrev pub noStore : List Store → Bool

@@ -4,14 +4,16 @@ use mathlib.Core.List.{List}
 use mathlib.Core.Logic.{_⊎_, inl, inr}
 use mathlib.Core.Option.{Option, none, some}
 use mathlib.Core.Bool.{true, false, _&&_}
-use Prim.Native.Nat.{ℕ, zero, suc, _+_, _-_, _/_, _≤_, _<_}
+use Prim.Native.Nat.{ℕ, zero, suc, _+_, _-_, _*_, _≤_, _<_}
 use native.Mathlib.Omega.{arith}
-use lib.Dec.{eqb, ltb}
+use native.Mathlib.Nat.{mul-le-mul-right}
+use lib.Dec.{eqb, ltb, leb}
 use lib.ListN.{length}
-use borrow.Author.Tests.{ltb-true, eqb-true}
-use Rattle.flash.specs.Flash.{apply, sizeOf, within}
-use Rattle.flash.proofs.Cases.{on-test, and-right, and-no-left}
+use borrow.Author.Tests.{ltb-true, leb-true, eqb-true}
+use Rattle.flash.specs.Flash.{maxBlocks, sizeIn, isCount, Step, blockOf, offsetOf, apply, sizeOf, within}
+use Rattle.flash.proofs.Cases.{on-test, and-left, and-right, and-no-left, and-no-right}
 use Rattle.flash.proofs.Image.{length-apply}
+use Rattle.flash.proofs.Sizes.{size-within}
 use Rattle.journal.specs.Block.{markWrites}
 use Rattle.journal.specs.Index.{Load}
 use Rattle.wire.specs.declared.Answer.the-variants.{Refused}
@@ -22,7 +24,7 @@ use Rattle.board.specs.declared.Phase.{Phase}
 use Rattle.board.specs.declared.Phase.the-variants.{Unmounted, Idle, Busy}
 use Rattle.board.specs.declared.Record.{Record}
 use Rattle.board.specs.Record.{inStage, Out, rest}
-use Rattle.board.specs.Step.{landed, enterAppend, enterDrop, enterCopy, enterOpen, action, pastFrame, advance, stepOn}
+use Rattle.board.specs.Step.{sameShape, landed, enterAppend, enterDrop, enterCopy, enterOpen, action, pastFrame, advance, stepOn}
 use Rattle.board.specs.Exec.{exec}
 use Rattle.board.specs.Demand1.{Declared, Rests, EndsWithin}
 use Rattle.board.proofs.Outcomes.{nextFor, open-enters, open-skips, copy-loads, copy-ends, drop-enters, drop-skips, append-enters}
@@ -98,7 +100,9 @@ advance-less N z Open img r w =
     (λ e. rw (open-next N img r e) (omega (arith, ltb-true (suc (r .cursor .index)) markWrites e)))
     (λ e. rw (open-last N img r e) (omega (arith, copy-left N z img r)))
 advance-less N z Copy img r w =
-    let t : r .cursor .at < z = ltb-true (r .cursor .at) z (and-right (ltb (r .job .target) N) (ltb (r .cursor .at) z) w) in
+    let t : r .cursor .at < z =
+    ltb-true (r .cursor .at) z
+    (and-right (ltb (r .job .target) N) (ltb (r .cursor .at) z) (and-right (isCount N) (ltb (r .job .target) N && ltb (r .cursor .at) z) w)) in
     on-test (ltb (suc (r .cursor .off)) (r .cursor .size))
     (λ e. rw (copy-next N img r e) (omega arith))
     (λ e. rw (copy-last N img r e) (omega (arith, copy-left N z img (inStage Copy (pastFrame (r .cursor)) r))))
@@ -138,36 +142,36 @@ module _ (N : ℕ) (n : ℕ) (img : List ℕ) (r : Record) where
       go Idle e = inl (subst Rests (sym e) tt)
       go (Busy s) e = inr (f s e)
 
-  gets-11 : (s : Stage) → r .phase ≡ Busy s → (eqb (length img) (suc (r .last)) && within N (sizeOf N img) (action s r)) ≡ false → Goes
+  gets-11 : (s : Stage) → r .phase ≡ Busy s → (sameShape N (length img) r && within N (sizeOf N img) (action s r)) ≡ false → Goes
   gets-11 s e t = inl (ap (λ (o : Out). o .answer) (step-outside N img r s e t))
 
   goes-on : left (sizeOf N img) r ≤ suc n → ((i : List ℕ) (b : Record) → left (sizeOf N i) b ≤ n → EndsWithin (exec N) n i b) → (s : Stage) → r .phase ≡ Busy s
-      → (eqb (length img) (suc (r .last)) && within N (sizeOf N img) (action s r)) ≡ true → Goes
-  goes-on h (rest N) s e t =
+      → (sameShape N (length img) r && within N (sizeOf N img) (action s r)) ≡ true → Goes
+  goes-on h further s e t =
       let after : List ℕ = apply (sizeOf N img) (action s r) img in
       let l : length after ≡ length img = length-apply (sizeOf N img) (action s r) img in
       let b : leftIn (Busy s) (sizeOf N img) r ≤ suc n = subst (λ (p : Phase). leftIn p (sizeOf N img) r ≤ suc n) e h in
       let less : left (sizeOf N img) (advance N s after r) ≤ n =
-      omega (arith, advance-less N (sizeOf N img) s after r (and-right (eqb (length img) (suc (r .last))) (within N (sizeOf N img) (action s r)) t)) in
+      omega (arith, advance-less N (sizeOf N img) s after r (and-right (sameShape N (length img) r) (within N (sizeOf N img) (action s r)) t)) in
       inr
       (subst (λ (o : Out). EndsWithin (exec N) n (o .image) (o .board)) (sym (step-goes N img r s e t))
-      (rest N after (advance N s after r) (subst (λ (m : ℕ). left (m / N) (advance N s after r) ≤ n) (sym l) less)))
+      (further after (advance N s after r) (subst (λ (m : ℕ). left (sizeIn N m) (advance N s after r) ≤ n) (sym l) less)))
 
 ends : (N : ℕ) (n : ℕ) (img : List ℕ) (r : Record) → left (sizeOf N img) r ≤ n → EndsWithin (exec N) n img r
 unfolding EndsWithin
 ends N zero img r h = none-left (r .phase) (sizeOf N img) r h
 ends N (suc n) img r h =
     one-more N n img r
-    (λ s e. on-test (eqb (length img) (suc (r .last)) && within N (sizeOf N img) (action s r)) (goes-on N n img r h (λ i b l. ends N n i b l) s e)
+    (λ s e. on-test (sameShape N (length img) r && within N (sizeOf N img) (action s r)) (goes-on N n img r h (λ i b l. ends N n i b l) s e)
     (gets-11 N n img r s e))
 
--- another image's length
-ends-at-once : (N : ℕ) (n : ℕ) (img : List ℕ) (r : Record) → 0 < n → eqb (length img) (suc (r .last)) ≡ false → EndsWithin (exec N) n img r
+-- an image of another shape, or a number of blocks that none has
+ends-at-once : (N : ℕ) (n : ℕ) (img : List ℕ) (r : Record) → 0 < n
+    → ((s : Stage) → (sameShape N (length img) r && within N (sizeOf N img) (action s r)) ≡ false) → EndsWithin (exec N) n img r
 ends-at-once N zero img r h e = absurd (omega arith)
-ends-at-once N (suc n) img r h e =
-    one-more N n img r (λ s p. gets-11 N n img r s p (and-no-left (eqb (length img) (suc (r .last))) (within N (sizeOf N img) (action s r)) e))
+ends-at-once N (suc n) img r h e = one-more N n img r (λ s p. gets-11 N n img r s p (e s))
 
-few-left : (N : ℕ) (p : Phase) (img : List ℕ) (r : Record) → Declared r → length img ≡ suc (r .last) → leftIn p (sizeOf N img) r ≤ 65536
+few-left : (N : ℕ) (p : Phase) (img : List ℕ) (r : Record) → Declared r → sizeOf N img ≤ 32768 → leftIn p (sizeOf N img) r ≤ 65536
 few-left N Unmounted img r d e = omega arith
 few-left N Idle img r d e = omega arith
 few-left N (Busy Wipe) img r d e = omega arith
@@ -177,8 +181,25 @@ few-left N (Busy Seal) img r d e = omega arith
 few-left N (Busy Drop) img r d e = omega arith
 few-left N (Busy Append) img r d e = omega arith
 
+-- at least two blocks in at most 65,536 bytes
+few-bytes : (N n : ℕ) → isCount N ≡ true → n ≤ 65536 → sizeIn N n ≤ 32768
+few-bytes N n c h =
+    let two : 2 ≤ N = leb-true 2 N (and-left (leb 2 N) (leb N maxBlocks) c) in
+    let whole : N * sizeIn N n ≤ n = size-within N n in
+    omega (arith, mul-le-mul-right {m = 2} {n = N} (sizeIn N n) two)
+
 pub forged-ends : (N : ℕ) (img : List ℕ) (r : Record) → Declared r → EndsWithin (exec N) 65536 img r
 forged-ends N img r d =
-    on-test (eqb (length img) (suc (r .last)))
-    (λ e. ends N 65536 img r (few-left N (r .phase) img r d (eqb-true (length img) (suc (r .last)) e)))
-    (λ e. ends-at-once N 65536 img r (omega arith) e)
+    on-test (isCount N)
+    (λ c.
+    on-test (sameShape N (length img) r)
+    (λ e.
+    let l : length img ≡ suc (r .last) = eqb-true (length img) (suc (r .last)) (and-left (eqb (length img) (suc (r .last))) (eqb N (r .blocks)) e) in
+    ends N 65536 img r (few-left N (r .phase) img r d (few-bytes N (length img) c (omega (arith, d .last)))))
+    (λ e.
+    ends-at-once N 65536 img r (omega arith) (λ s. and-no-left (sameShape N (length img) r) (within N (sizeOf N img) (action s r)) e)))
+    (λ c. ends-at-once N 65536 img r (omega arith)
+    (λ s.
+    let x : Step = action s r in
+    and-no-right (sameShape N (length img) r) (within N (sizeOf N img) x)
+    (and-no-left (isCount N) (ltb (blockOf x) N && ltb (offsetOf x) (sizeOf N img)) c)))

@@ -1,26 +1,42 @@
--- Numbers of blocks: the one that a transfer goes to.
-use mathlib.Core.Path.{_≡_, refl}
-use Prim.Native.Nat.{ℕ, zero, suc, _<_}
+-- Numbers of blocks: the one that a transfer goes to, and all of them.
+use mathlib.Core.Path.{_≡_, refl, sym, ap, _∙_}
+use mathlib.Core.List.{List, [], _∷_}
+use mathlib.Core.Bool.{Bool, true, false, cond}
+use Prim.Native.Nat.{ℕ, zero, suc, _+_, _≤_, _<_}
 use native.Mathlib.Omega.{arith}
+use lib.Dec.{ltb}
+use lib.ListN.{length, getD}
+use borrow.Author.Tests.{ltb-true, ltb-false}
+use Rattle.flash.specs.Flash.{numbersFrom, blockNumbers}
+use Rattle.flash.proofs.Cases.{on-test}
 use Rattle.board.specs.Mount.{nextBlock}
 
+-- the next in number, or 0 after the last
+pub next-up : (N k : ℕ) → suc k < N → nextBlock N k ≡ suc k
+next-up N k h = on-test (ltb (suc k) N) (λ t. rw t) (λ t. absurd (omega (arith, ltb-false (suc k) N t)))
+
+pub next-round : (N k : ℕ) → N ≤ suc k → nextBlock N k ≡ 0
+next-round N k h = on-test (ltb (suc k) N) (λ t. absurd (omega (arith, ltb-true (suc k) N t))) (λ t. rw t)
+
 pub next-there : {N : ℕ} (k : ℕ) → k < N → nextBlock N k < N
-next-there zero h = omega arith
-next-there (suc zero) h = omega arith
-next-there (suc (suc k)) h = absurd (omega arith)
+next-there {N} k h =
+    on-test (ltb (suc k) N) (λ t. omega (arith, next-up N k (ltb-true (suc k) N t), ltb-true (suc k) N t))
+    (λ t. omega (arith, next-round N k (ltb-false (suc k) N t)))
 
-pub next-other : {N : ℕ} (k : ℕ) → k < N → nextBlock N k ≡ k → ⊥
-next-other zero h = λ e. omega arith
-next-other (suc zero) h = λ e. omega arith
-next-other (suc (suc k)) h = absurd (omega arith)
+pub next-other : {N : ℕ} (k : ℕ) → 2 ≤ N → k < N → nextBlock N k ≡ k → ⊥
+next-other {N} k l h e =
+    on-test (ltb (suc k) N) (λ t. omega (arith, next-up N k (ltb-true (suc k) N t)))
+    (λ t. omega (arith, next-round N k (ltb-false (suc k) N t), ltb-false (suc k) N t))
 
-pub next-next : {N : ℕ} (k : ℕ) → k < N → nextBlock N (nextBlock N k) ≡ k
-next-next zero h = refl
-next-next (suc zero) h = refl
-next-next (suc (suc k)) h = absurd (omega arith)
+-- ---- all of them
 
--- no third block
-pub next-only : {N : ℕ} (k : ℕ) → k < N → (j : ℕ) → j < N → (j ≡ k → ⊥) → j ≡ nextBlock N k
-next-only zero h j l n = omega arith
-next-only (suc zero) h j l n = omega arith
-next-only (suc (suc k)) h j l n = absurd (omega arith)
+pub length-numbers : (k n : ℕ) → length (numbersFrom k n) ≡ n
+unfolding numbersFrom
+length-numbers k zero = refl
+length-numbers k (suc n) = ap suc (length-numbers (suc k) n)
+
+pub number-at : (k n i : ℕ) → i < n → getD (numbersFrom k n) i 0 ≡ k + i
+unfolding numbersFrom
+number-at k zero i h = absurd (omega arith)
+number-at k (suc n) zero h = omega arith
+number-at k (suc n) (suc i) h = number-at (suc k) n i (omega arith) ∙ omega arith

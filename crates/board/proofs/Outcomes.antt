@@ -26,9 +26,9 @@ use Rattle.board.specs.declared.Stage.the-variants.{Wipe, Open, Copy, Se
 use Rattle.board.specs.declared.Phase.{Phase}
 use Rattle.board.specs.declared.Phase.the-variants.{Unmounted, Idle, Busy}
 use Rattle.board.specs.declared.Record.{Record}
-use Rattle.board.specs.Record.{allowed, unmounted, rest, idle, inStage, out, refuse}
+use Rattle.board.specs.Record.{allowed, unmounted, rest, restOf, idle, inStage, out, refuse}
 use Rattle.board.specs.Step.{enter, enterAppend, landed, enterDrop, loaded, enterCopy, enterOpen, enterWipe, begin, action}
-use Rattle.board.specs.Step.{nextIndex, nextByte, pastFrame, advance, stepped, stepBusy, stepIn, stepOn}
+use Rattle.board.specs.Step.{nextIndex, nextByte, pastFrame, advance, sameShape, stepped, stepBusy, stepIn, stepOn}
 use Rattle.board.specs.Mount.{allFound, Found, Store, stores, equalTimes, newest, wipeList, needsTransfer, mountJob}
 use Rattle.board.specs.Mount.{noneValid, lowestTied, tiedTimes, mountAt, mountStores, mountFound, mountOn, formatJob, formatOn}
 use Rattle.board.specs.Queue.{Held, held, needsRoom, appendJob, append, serveChange, serveEnd, placeOf, serveLog, serve}
@@ -201,12 +201,12 @@ unfolding stepOn
 step-resting N img r h = resting-in N (r .phase) img r h
 
 pub step-outside : (N : ℕ) (img : List ℕ) (r : Record) (s : Stage) → r .phase ≡ Busy s
-    → (eqb (length img) (suc (r .last)) && within N (sizeOf N img) (action s r)) ≡ false → stepOn N img r ≡ refuse refusal.Stale img r []
+    → (sameShape N (length img) r && within N (sizeOf N img) (action s r)) ≡ false → stepOn N img r ≡ refuse refusal.Stale img r []
 unfolding stepOn stepBusy
 step-outside N img r s p e = ap (λ (x : Phase). stepIn N x img r) p ∙ rw (e, stepBusy)
 
 pub step-goes : (N : ℕ) (img : List ℕ) (r : Record) (s : Stage) → r .phase ≡ Busy s
-    → (eqb (length img) (suc (r .last)) && within N (sizeOf N img) (action s r)) ≡ true
+    → (sameShape N (length img) r && within N (sizeOf N img) (action s r)) ≡ true
     → stepOn N img r ≡ stepped (apply (sizeOf N img) (action s r) img) (advance N s (apply (sizeOf N img) (action s r) img) r)
 unfolding stepOn stepBusy
 step-goes N img r s p e = ap (λ (x : Phase). stepIn N x img r) p ∙ rw (e, stepBusy)
@@ -252,7 +252,7 @@ pub append-enters : (r : Record) → ltb 0 (r .job .size) ≡ true → enterAppe
 unfolding enterAppend
 append-enters r e = rw (e, enterAppend)
 
-pub append-skips : {N : ℕ} (r : Record) → ltb 0 (r .job .size) ≡ false → enterAppend r ≡ idle (rest N (r .last) (r .block) (r .end))
+pub append-skips : (r : Record) → ltb 0 (r .job .size) ≡ false → enterAppend r ≡ idle (restOf r)
 unfolding enterAppend
 append-skips r e = rw (e, enterAppend)
 
@@ -301,6 +301,6 @@ module _ (N : ℕ) (img : List ℕ) (r : Record) where
   append-next e = rw e
 
   pub append-last : ltb (suc (r .cursor .index)) (r .job .size) ≡ false
-      → advance N Append img r ≡ idle (rest N (r .last) (r .block) (r .end + r .job .size))
+      → advance N Append img r ≡ idle (rest (r .blocks) (r .last) (r .block) (r .end + r .job .size))
   unfolding advance
   append-last e = rw e

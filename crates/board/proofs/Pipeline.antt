@@ -8,7 +8,7 @@ use lib.Dec.{eqb, ltb}
 use lib.ListN.{length, getD, drop, drop-of-length-le}
 use lib.Seq.{drop-cons}
 use borrow.Author.Tests.{eq-eqb, lt-ltb, ltb-true}
-use Rattle.flash.specs.Flash.{Step, program, erase, block, sizeOf, blockOf, offsetOf, within, apply, applyAll}
+use Rattle.flash.specs.Flash.{sizeIn, isCount, Step, program, erase, block, sizeOf, blockOf, offsetOf, within, apply, applyAll}
 use Rattle.flash.proofs.Cases.{and-both, and-right}
 use Rattle.flash.proofs.Image.{length-apply, other-program, other-erase}
 use Rattle.wire.specs.declared.Refusal.the-variants as refusal
@@ -17,37 +17,47 @@ use Rattle.board.specs.declared.Phase.{Phase}
 use Rattle.board.specs.declared.Phase.the-variants.{Busy}
 use Rattle.board.specs.declared.Record.{Record}
 use Rattle.board.specs.Record.{Out, out, refuse, answerIn, answerOf}
-use Rattle.board.specs.Step.{action, advance, stepped, stepIn, stepBusy, stepOn}
+use Rattle.board.specs.Step.{action, advance, sameShape, stepped, stepIn, stepBusy, stepOn}
 use Rattle.board.specs.Exec.{exec}
 use Rattle.board.specs.Plan.{Follows}
 
 -- ---- the step inside the image
 
-pub inside-yes : {N : ℕ} (s : ℕ) (x : Step) → blockOf x < N → offsetOf x < s → within N s x ≡ true
-inside-yes {N} s x h k = and-both (ltb (blockOf x) N) (ltb (offsetOf x) s) (lt-ltb (blockOf x) N h) (lt-ltb (offsetOf x) s k)
+pub inside-yes : {N : ℕ} (s : ℕ) (x : Step) → isCount N ≡ true → blockOf x < N → offsetOf x < s → within N s x ≡ true
+inside-yes {N} s x c h k =
+    and-both (isCount N) (ltb (blockOf x) N && ltb (offsetOf x) s) c
+    (and-both (ltb (blockOf x) N) (ltb (offsetOf x) s) (lt-ltb (blockOf x) N h) (lt-ltb (offsetOf x) s k))
 
 -- a step inside its block keeps every other block
 pub other-block : (N : ℕ) (s k : ℕ) (x : Step) (img : List ℕ) → (k ≡ blockOf x → ⊥) → within N s x ≡ true → block s k (apply s x img) ≡ block s k img
-other-block N s k (program j o v) img n w = other-program s k j o v img n (ltb-true o s (and-right (ltb j N) (ltb o s) w))
+other-block N s k (program j o v) img n w = other-program s k j o v img n (ltb-true o s (and-right (ltb j N) (ltb o s) (and-right (isCount N) (ltb j N && ltb o s) w)))
 other-block N s k (erase j) img n w = other-erase s k j img n
 
 -- ---- one step
+
+-- an image of N blocks of s bytes, by its length less one
+pub record Shape (N l s : ℕ) : Type 0 where
+  pub count : isCount N ≡ true
+  pub size : sizeIn N (suc l) ≡ s
+
+pub same-shape : {N : ℕ} (n : ℕ) (r : Record) → n ≡ suc (r .last) → N ≡ r .blocks → sameShape N n r ≡ true
+same-shape {N} n r l b = and-both (eqb n (suc (r .last))) (eqb N (r .blocks)) (eq-eqb n (suc (r .last)) l) (eq-eqb N (r .blocks) b)
 
 -- what a step call in a job does, by its test
 abbrev stepIf : ℕ → Stage → List ℕ → Record → Bool → ℕ → Step → Out
 stepIf N st img r b s x = cond b (stepped (apply s x img) (advance N st (apply s x img) r)) (refuse refusal.Stale img r [])
 
-step-taken : (N : ℕ) (s : ℕ) (st : Stage) (img : List ℕ) (r : Record) (x : Step) → sizeOf N img ≡ s → r .phase ≡ Busy st → length img ≡ suc (r .last)
+step-taken : (N : ℕ) (s : ℕ) (st : Stage) (img : List ℕ) (r : Record) (x : Step) → sizeOf N img ≡ s → r .phase ≡ Busy st → sameShape N (length img) r ≡ true
     → action st r ≡ x → within N s x ≡ true → stepOn N img r ≡ stepped (apply s x img) (advance N st (apply s x img) r)
 unfolding stepOn stepBusy
 step-taken N s st img r x q p l a w =
-    let same : Bool = eqb (length img) (suc (r .last)) in
+    let same : Bool = sameShape N (length img) r in
     ap (λ (f : Phase). stepIn N f img r) p
     ∙ ap₂ (λ (n : ℕ) (y : Step). stepIf N st img r (same && within N n y) n y) q a
-    ∙ ap (λ (b : Bool). stepIf N st img r b s x) (and-both same (within N s x) (eq-eqb (length img) (suc (r .last)) l) w)
+    ∙ ap (λ (b : Bool). stepIf N st img r b s x) (and-both same (within N s x) l w)
 
 pub follows-step : (N : ℕ) (s : ℕ) (st : Stage) (img : List ℕ) (r next : Record) (x : Step) (xs : List Step) (z : Record) → sizeOf N img ≡ s → r .phase ≡ Busy st
-    → length img ≡ suc (r .last) → action st r ≡ x → within N s x ≡ true → advance N st (apply s x img) r ≡ next → Follows N (exec N) (apply s x img) next xs z
+    → sameShape N (length img) r ≡ true → action st r ≡ x → within N s x ≡ true → advance N st (apply s x img) r ≡ next → Follows N (exec N) (apply s x img) next xs z
     → Follows N (exec N) img r (x ∷ xs) z
 follows-step N s st img r next x xs z q p l a w n f = (
   ap answerIn p,
@@ -63,20 +73,21 @@ follows-step N s st img r next x xs z q p l a w n f = (
 -- record i of a stage is about to do step i of its list; after the last step comes another record
 pub record Runs (N : ℕ) (l s : ℕ) (st : Stage) (at : ℕ → Record) (after : List ℕ → Record) (xs : List Step) (d : Step) : Type 0 where
   pub phase : (i : ℕ) → at i .phase ≡ Busy st
+  pub blocks : (i : ℕ) → at i .blocks ≡ N
   pub last : (i : ℕ) → at i .last ≡ l
   pub acts : (i : ℕ) → i < length xs → action st (at i) ≡ getD xs i d
   pub inside : (i : ℕ) → i < length xs → within N s (getD xs i d) ≡ true
   pub goes : (i : ℕ) (img : List ℕ) → suc i < length xs → advance N st img (at i) ≡ at (suc i)
   pub ends : (i : ℕ) (img : List ℕ) → suc i ≡ length xs → advance N st img (at i) ≡ after img
 
-module _ {N : ℕ} (l s : ℕ) (st : Stage) (at : ℕ → Record) (after : List ℕ → Record) (xs : List Step) (d : Step) (half : suc l / N ≡ s)
+module _ {N : ℕ} (l s : ℕ) (st : Stage) (at : ℕ → Record) (after : List ℕ → Record) (xs : List Step) (d : Step) (shape : Shape N l s)
     (c : Runs N l s st at after xs d) (tail : List Step) (z : Record) where
   one-step : (i : ℕ) (img : List ℕ) (next : Record) → i < length xs → length img ≡ suc l → advance N st (apply s (getD xs i d) img) (at i) ≡ next
       → Follows N (exec N) (apply s (getD xs i d) img) next (drop (suc i) xs ++ tail) z → Follows N (exec N) img (at i) (drop i xs ++ tail) z
   one-step i img next h e n f =
       subst (λ (ys : List Step). Follows N (exec N) img (at i) (ys ++ tail) z) (sym (drop-cons xs i d h))
-      (follows-step N s st img (at i) next (getD xs i d) (drop (suc i) xs ++ tail) z (ap (λ (m : ℕ). m / N) e ∙ half) (c .phase i)
-      (e ∙ ap suc (sym (c .last i))) (c .acts i h) (c .inside i h) n f)
+      (follows-step N s st img (at i) next (getD xs i d) (drop (suc i) xs ++ tail) z (ap (sizeIn N) e ∙ shape .size) (c .phase i)
+      (same-shape (length img) (at i) (e ∙ ap suc (sym (c .last i))) (sym (c .blocks i))) (c .acts i h) (c .inside i h) n f)
 
   run-from : (n i : ℕ) (img : List ℕ) → i + suc n ≡ length xs → length img ≡ suc l
       → Follows N (exec N) (applyAll s (drop i xs) img) (after (applyAll s (drop i xs) img)) tail z → Follows N (exec N) img (at i) (drop i xs ++ tail) z

@@ -7,7 +7,7 @@ use Prim.Native.Nat.{ℕ, zero, suc, _+_, _-_, _/_, _≤_, _<_}
 use native.Mathlib.Omega.{arith}
 use lib.ListN.{length, getD, length-map, List·getD-map}
 use borrow.Author.Tests.{lt-ltb, le-ltb}
-use Rattle.flash.specs.Flash.{Step, program, block, within, applyAll, Write, write, writeStep, writes}
+use Rattle.flash.specs.Flash.{sizeIn, Step, program, block, within, applyAll, Write, write, writeStep, writes}
 use Rattle.flash.proofs.Programming.{writes-append}
 use Rattle.frame.specs.Frame.{Frame, encode, encodeAll, frameLen, total}
 use Rattle.frame.proofs.Encode.{length-encode}
@@ -23,7 +23,7 @@ use Rattle.board.specs.Step.{enter, loadOr, enterCopy, advance}
 use Rattle.board.specs.Exec.{exec}
 use Rattle.board.specs.Plan.{Follows, onBlock}
 use Rattle.board.proofs.Images.{length-all-steps}
-use Rattle.board.proofs.Pipeline.{Runs, follows-stage, kept-stage}
+use Rattle.board.proofs.Pipeline.{Shape, Runs, follows-stage, kept-stage}
 use Rattle.board.proofs.PipelineEnd.{jobAt, onward-on, onward-off, length-steps, step-inside, buffered, on-block, marks-inside, sealing, follows-seal}
 
 pub map-append : {A B : Type 0} (f : A → B) (xs ys : List A) → map f (xs ++ ys) ≡ map f xs ++ map f ys
@@ -68,10 +68,10 @@ total-cons : (f : Frame) (fs : List Frame) → total (f ∷ fs) ≡ frameLen f +
 unfolding total
 total-cons f fs = refl
 
-module _ {N : ℕ} (l s : ℕ) (half : suc l / N ≡ s) (k e : ℕ) (places : List ℕ) (j : Job) (bytes : List ℕ) (size : j .size ≡ length bytes) (here : k < N)
+module _ {N : ℕ} (l s : ℕ) (shape : Shape N l s) (k e : ℕ) (places : List ℕ) (j : Job) (bytes : List ℕ) (size : j .size ≡ length bytes) (here : k < N)
     (there : j .target < N) (apart : j .target ≡ k → ⊥) (header : headerLen ≤ s) where
   abbrev at : Stage → ℕ → ℕ → ℕ → ℕ → ℕ → ℕ → List ℕ → Record
-  at st i a d so z o u = jobAt l k e places j (buffer bytes) st (cursor i a d so z o) u
+  at st i a d so z o u = jobAt N l k e places j (buffer bytes) st (cursor i a d so z o) u
 
   -- the next frame to copy, as the record finds it
   next-frame : (b img : List ℕ) (st : Stage) (i a d so z o : ℕ) (u : List ℕ) (x : Option Load) → length img ≡ suc l → block s k img ≡ b
@@ -79,8 +79,8 @@ module _ {N : ℕ} (l s : ℕ) (half : suc l / N ≡ s) (k e : ℕ) (places : Li
   unfolding enterCopy
   next-frame b img st i a d so z o u x q h n =
       let r : Record = at st i a d so z o u in
-      ap (λ (m : ℕ). loadOr r (nextLoad (block (m / N) k img) e places (j .since) d so)) q
-      ∙ ap (λ (m : ℕ). loadOr r (nextLoad (block m k img) e places (j .since) d so)) half
+      ap (λ (m : ℕ). loadOr r (nextLoad (block (sizeIn N m) k img) e places (j .since) d so)) q
+      ∙ ap (λ (m : ℕ). loadOr r (nextLoad (block m k img) e places (j .since) d so)) (shape .size)
       ∙ ap (λ (y : List ℕ). loadOr r (nextLoad y e places (j .since) d so)) h ∙ ap (loadOr r) n
 
   copies : (bs : List ℕ) (a d so n : ℕ) → length bs ≡ n → a + n ≤ s
@@ -90,9 +90,10 @@ module _ {N : ℕ} (l s : ℕ) (half : suc l / N ≡ s) (k e : ℕ) (places : Li
   copies bs a d so n q room =
       record {
         phase = λ i. refl;
+        blocks = λ i. refl;
         last = λ i. refl;
         acts = λ i h. buffered (j .target) a bs i h;
-        inside = step-inside s (j .target) a bs there (omega arith);
+        inside = step-inside s (j .target) a bs (shape .count) there (omega arith);
         goes = λ i img h.
             let c : Record = at Copy 0 (suc (a + i)) d so n (suc i) (buffer bs) in
             let p : Record = at Copy 0 (suc (a + i)) d so n 0 (buffer bs) in
@@ -122,7 +123,7 @@ module _ {N : ℕ} (l s : ℕ) (half : suc l / N ≡ s) (k e : ℕ) (places : Li
       let a′ : a + 0 ≡ a = omega arith in
       subst (λ (m : ℕ). Follows N (exec N) img (at Copy 0 m d so n 0 (buffer bs)) (xs ++ tail) z) a′
       (follows-stage l s Copy (λ o. at Copy 0 (a + o) d so n o (buffer bs)) (λ img′. enterCopy N img′ (at Copy 0 (a + n) d so n 0 (buffer bs))) xs
-      (program (j .target) 0 0) half (copies bs a d so n w room) tail z (n - 1) img (omega (arith, length-steps (j .target) a bs)) q
+      (program (j .target) 0 0) shape (copies bs a d so n w room) tail z (n - 1) img (omega (arith, length-steps (j .target) a bs)) q
       (f (applyAll s xs img) (length-all-steps s xs img ∙ q)
       (source-kept (writes a bs) (write 0 0) img (copies bs a d so n w room .inside) ∙ h)))
 
@@ -138,7 +139,7 @@ module _ {N : ℕ} (l s : ℕ) (half : suc l / N ≡ s) (k e : ℕ) (places : Li
       (subst (λ (n : ℕ). Follows N (exec N) img (enterCopy N img r) (sealing j k bytes n) (idle (rest N l (j .target) (n + length bytes)))) t
       (subst (λ (x : Record). Follows N (exec N) img x (sealing j k bytes a) (idle (rest N l (j .target) (a + length bytes))))
       (sym (next-frame b img st i a d so z o u none q h y))
-      (follows-seal l s half k e places j bytes size here there st i a d so z o u img q header (omega arith))))
+      (follows-seal l s shape k e places j bytes size here there st i a d so z o u img q header (omega arith))))
   follows-copy b (f ∷ fs) st i a d so z o u img q h (d′, so′, n, low, end, y) room =
       let m : ℕ = frameLen f in
       let t : a + m + total fs ≡ a + total (f ∷ fs) = omega (arith, total-cons f fs) in
@@ -165,9 +166,10 @@ module _ {N : ℕ} (l s : ℕ) (half : suc l / N ≡ s) (k e : ℕ) (places : Li
       let r : ℕ → Record = λ i. at Open i a d so z o u in
       record {
         phase = λ i. refl;
+        blocks = λ i. refl;
         last = λ i. refl;
         acts = λ i h. sym (List·getD-map (writeStep (j .target)) openWrites i (write stateAt inTransfer));
-        inside = marks-inside s (j .target) openWrites (write stateAt inTransfer) there
+        inside = marks-inside s (j .target) openWrites (write stateAt inTransfer) (shape .count) there
             (λ i h. omega (arith, open-at i (omega (arith, length-map openWrites (writeStep (j .target)), length-open (j .target)))));
         goes = λ i img h. onward-on Open markWrites (r i) (enterCopy N img (r i)) (omega (arith, length-open (j .target)));
         ends = λ i img h.
@@ -183,7 +185,7 @@ module _ {N : ℕ} (l s : ℕ) (half : suc l / N ≡ s) (k e : ℕ) (places : Li
   follows-open b fs st i a d so z o u img q h y room =
       let xs : List Step = onBlock (j .target) openWrites in
       follows-stage l s Open (λ n. at Open n a d so z o u) (λ img′. enterCopy N img′ (at Open 4 a d so z o u)) xs
-      (writeStep (j .target) (write stateAt inTransfer)) half (opens a d so z o u)
+      (writeStep (j .target) (write stateAt inTransfer)) shape (opens a d so z o u)
       (onBlock (j .target) (writes a (encodeAll fs)) ++ sealing j k bytes (a + total fs)) (idle (rest N l (j .target) (a + total fs + length bytes))) 4 img
       (sym (length-open (j .target))) q
       (follows-copy b fs Open 4 a d so z o u (applyAll s xs img) (length-all-steps s xs img ∙ q)

@@ -31,7 +31,7 @@ use Rattle.board.specs.declared.Phase.{Phase}
 use Rattle.board.specs.declared.Phase.the-variants.{Unmounted, Idle, Busy}
 use Rattle.board.specs.declared.Record.{Record}
 use Rattle.board.specs.Record.{allowed, unmounted, Out, refuse, answerIn}
-use Rattle.board.specs.Step.{enterWipe, action, advance, stepOn}
+use Rattle.board.specs.Step.{sameShape, enterWipe, action, advance, stepOn}
 use Rattle.board.specs.Mount.{allFound, anyForeign, Found, Store, stores, equalTimes, newest, wipeList, needsTransfer, mountJob}
 use Rattle.board.specs.Mount.{isForeign, orForeign, noneValid, mountAt, mountStores, mountOn, formatJob, formatOn}
 use Rattle.board.specs.Queue.{Held, held, needsRoom, appendJob, append, serveChange, serveEnd, serve, serveParsed, serveHeld, requestIn, requestOn}
@@ -226,7 +226,7 @@ step-follows : (N : ℕ) (img : List ℕ) (r : Record) (p : Phase) → r .phase 
 step-follows N img r Unmounted e = over (step-resting N img r (subst Rests (sym e) tt)) (passes refl (accepted refl (inl refl)))
 step-follows N img r Idle e = over (step-resting N img r (subst Rests (sym e) tt)) (passes refl (accepted refl (inl refl)))
 step-follows N img r (Busy s) e =
-    on-test (eqb (length img) (suc (r .last)) && within N (sizeOf N img) (action s r))
+    on-test (sameShape N (length img) r && within N (sizeOf N img) (action s r))
     (λ t. over (step-goes N img r s e t)
     (passes (ap not t) (accepted (begin-accepts (advance N s (apply (sizeOf N img) (action s r) img) r .phase)) (inr (action s r, refl)))))
     (λ t. stops (inl refl) (ap not t) (step-outside N img r s e t))

@@ -4,7 +4,7 @@ use mathlib.Core.List.{List, [], _∷_}
 use Prim.Native.Nat.{ℕ, zero, suc, _/_, _≤_, _<_}
 use native.Mathlib.Omega.{arith}
 use lib.ListN.{length, take}
-use Rattle.flash.specs.Flash.{Step, apply, applyAll, sizeOf}
+use Rattle.flash.specs.Flash.{sizeIn, Step, apply, applyAll, sizeOf}
 use Rattle.flash.proofs.Image.{length-apply}
 use Rattle.wire.specs.declared.Answer.the-variants.{More}
 use Rattle.board.specs.declared.Record.{Record}
@@ -24,7 +24,7 @@ module _ (N : ℕ) (m : Machine) where
       ∙ ap (λ (w : ℕ). out (answerOf last) (apply w y (o .image)) last []) z
   follows-steps (y ∷ y′ ∷ ys) x xs e s o last z (a, (n, g, f)) =
       let i : List ℕ = apply (sizeOf N (o .image)) y (o .image) in
-      let w : sizeOf N i ≡ s = ap (λ (k : ℕ). k / N) (length-apply (sizeOf N (o .image)) y (o .image)) ∙ z in
+      let w : sizeOf N i ≡ s = ap (sizeIn N) (length-apply (sizeOf N (o .image)) y (o .image)) ∙ z in
       ap (λ (q : Out). stepsOn m (length (y′ ∷ ys)) q) g
       ∙ follows-steps (y′ ∷ ys) y′ ys refl s (out (answerOf n) i n []) last w f
       ∙ ap (λ (k : ℕ). out (answerOf last) (applyAll s (y′ ∷ ys) (apply k y (o .image))) last []) z
@@ -37,7 +37,7 @@ module _ (N : ℕ) (m : Machine) where
   follows-part s (suc j) [] o last z h f = absurd (omega arith)
   follows-part s (suc j) (x ∷ xs) o last z h (a, (n, g, f)) =
       let i : List ℕ = apply (sizeOf N (o .image)) x (o .image) in
-      let w : sizeOf N i ≡ s = ap (λ (k : ℕ). k / N) (length-apply (sizeOf N (o .image)) x (o .image)) ∙ z in
+      let w : sizeOf N i ≡ s = ap (sizeIn N) (length-apply (sizeOf N (o .image)) x (o .image)) ∙ z in
       ap (λ (q : Out). stepsOn m j q .image) g ∙ follows-part s j xs (out (answerOf n) i n []) last w (omega arith) f
       ∙ ap (λ (k : ℕ). applyAll s (take j xs) (apply k x (o .image))) z
 

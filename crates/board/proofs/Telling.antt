@@ -23,7 +23,7 @@ use Rattle.board.specs.declared.Phase.{Phase}
 use Rattle.board.specs.declared.Phase.the-variants.{Unmounted, Idle, Busy}
 use Rattle.board.specs.declared.Record.{Record}
 use Rattle.board.specs.Record.{allowed, restOf, idle, inStage, noStretch, Out, out, refuse, answerIn, answerOf}
-use Rattle.board.specs.Step.{enter, landed, loadOr, enterAppend, enterDrop, enterCopy, enterOpen, enterWipe, action, nextIndex}
+use Rattle.board.specs.Step.{sameShape, enter, landed, loadOr, enterAppend, enterDrop, enterCopy, enterOpen, enterWipe, action, nextIndex}
 use Rattle.board.specs.Step.{nextByte, pastFrame, advance, stepOn}
 use Rattle.board.specs.Mount.{allFound, Store, stores, equalTimes, newest, needsTransfer, wipeList, mountJob}
 use Rattle.board.specs.Mount.{noneValid, lowestTied, tiedTimes, mountAt, mountOn, formatJob, formatOn}
@@ -153,7 +153,7 @@ format-plain {N} img =
 
 step-plain : {N : ℕ} (img : List ℕ) (r : Record) (s : Stage) → r .phase ≡ Busy s → Plain (stepOn N img r)
 step-plain {N} img r s e =
-    on-test (eqb (length img) (suc (r .last)) && within N (sizeOf N img) (action s r))
+    on-test (sameShape N (length img) r && within N (sizeOf N img) (action s r))
     (λ t. let after : List ℕ = apply (sizeOf N img) (action s r) img in
     begun-plain after (advance N s after r) (up-advance s after r) (step-goes N img r s e t))
     (λ t. refused-plain refusal.Stale img r (step-outside N img r s e t))

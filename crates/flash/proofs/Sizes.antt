@@ -1,11 +1,11 @@
 -- The size of a block, by how many there are.
-use mathlib.Core.Path.{_≡_, refl, sym, ap, _∙_}
+use mathlib.Core.Path.{_≡_, sym, ap, subst, _∙_}
 use mathlib.Core.Bool.{Bool, true, false, cond}
 use Prim.Native.Nat.{ℕ, zero, suc, _+_, _*_, _/_, _≤_}
 use native.Mathlib.Omega.{arith}
-use native.Mathlib.Nat.{mul-div-cancel-left}
+use native.Mathlib.Nat.{mul-div-cancel-left, mul-div-le, zero-mul}
 use lib.Dec.{eqb}
-use borrow.Author.Tests.{eqb-true}
+use borrow.Author.Tests.{eqb-true, eqb-false}
 use Rattle.flash.specs.Flash.{sizeIn}
 use Rattle.flash.proofs.Cases.{on-test}
 
@@ -20,3 +20,9 @@ size-some N n h = on-test (eqb N 0) (λ t. absurd (h (eqb-true N 0 t))) (λ t. r
 -- S, where the image is N blocks of that size
 pub size-is : (N s : ℕ) → 1 ≤ N → sizeIn N (N * s) ≡ s
 size-is N s h = sym (size-some N (N * s) (λ e. omega arith)) ∙ mul-div-cancel-left s h
+
+pub size-within : (N n : ℕ) → N * sizeIn N n ≤ n
+size-within N n =
+    on-test (eqb N 0)
+    (λ t. let e : N * sizeIn N n ≡ 0 = ap (λ (k : ℕ). k * sizeIn N n) (eqb-true N 0 t) ∙ zero-mul (sizeIn N n) in omega arith)
+    (λ t. subst (λ (s : ℕ). N * s ≤ n) (size-some N n (eqb-false N 0 t)) (mul-div-le n N))
