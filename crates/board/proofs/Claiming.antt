@@ -30,7 +30,7 @@ use Rattle.board.specs.Book.{Book, book, nothing, formatting, noLists, f
 use Rattle.board.specs.Claim.{IdleAgrees, Finishes, AgreesIn, Agrees, WornOut, MountSays, Says, trackMount, trackFormat, track, Run}
 use Rattle.board.specs.Claim.{stepsOn, formatted, ByteCall, Begins, Event, call, cutErase, Happens, Claim}
 use Rattle.board.proofs.Images.{Sized, size-of, sized-of, sized-as, length-all-steps, bytes-all-steps}
-use Rattle.board.proofs.Invariant.{Others, Lesser, Safe, GuardIn, IdleBook, InJob, InPhase, Inv}
+use Rattle.board.proofs.Invariant.{Lessers, Safe, GuardIn, IdleBook, InJob, InPhase, Inv}
 use Rattle.board.proofs.Outcomes.{format-begins}
 use Rattle.board.proofs.Current.{After, Keeps}
 use Rattle.board.proofs.Jobs.{Begun, job-starts, job-begins}
@@ -159,7 +159,7 @@ accepted-says o (inr e) =
     }
 
 module _ {N : ℕ} {s : ℕ} {img : List ℕ} (b : Book) {u : Bool} (v : Bare N s img (b .objects) u) where
-  mount-begun : (x : Store) → Taken N s img x → StoreThere s img x → Keeps s (replay (x .frames)) (b .objects) → Others N (Lesser s img (x .time)) (x .number)
+  mount-begun : (x : Store) → Taken N s img x → StoreThere s img x → Keeps s (replay (x .frames)) (b .objects) → Lessers N s img (x .time) (x .number)
       → InTime x → MountKeeps N s img b u (begin img [] (mountJob N img x (wipeList (x .number) (allFound N img))))
   mount-begun x y h k f t =
       let ks : List ℕ = wipeList (x .number) (allFound N img) in
@@ -183,7 +183,7 @@ module _ {N : ℕ} {s : ℕ} {img : List ℕ} (b : Book) {u : Bool} (v : Bare N 
         accepted-says (out (answerOf g) img g []) (inr d),
       )
 
-  mount-found : (x : Store) → Taken N s img x → StoreThere s img x → Keeps s (replay (x .frames)) (b .objects) → Others N (Lesser s img (x .time)) (x .number)
+  mount-found : (x : Store) → Taken N s img x → StoreThere s img x → Keeps s (replay (x .frames)) (b .objects) → Lessers N s img (x .time) (x .number)
       → Outcome N img x → MountKeeps N s img b u (mountOn N img)
   mount-found x y h k f (worn-out w e) =
       subst (MountKeeps N s img b u) (sym e)

@@ -22,7 +22,7 @@ use Rattle.board.specs.Record.{rest, idle}
 use Rattle.board.specs.Mount.{endOf}
 use Rattle.board.specs.Plan.{onBlock}
 use Rattle.board.proofs.Images.{Sized, sized-as, sized-block, length-all-steps, block-writes, other-writes}
-use Rattle.board.proofs.Invariant.{Valid, Quiet, Others, Lesser, Safe, some-valid, Ready}
+use Rattle.board.proofs.Invariant.{Valid, Quiet, Others, Lesser, Lessers, Safe, some-valid, Ready}
 
 pub record Alone (N : ℕ) (s : ℕ) (img : List ℕ) (k t : ℕ) (fs : List Frame) (c : Tail) : Type 0 where
   pub sized : Sized N s img
@@ -86,9 +86,12 @@ blank-quiet s b e = subst Quiet (sym (ap blockState e ∙ blank-block s)) tt
 pub blank-lesser : {N : ℕ} {s : ℕ} {img : List ℕ} → Sized N s img → (t j : ℕ) → block s j img ≡ replicate s 255 → Lesser s img t j
 blank-lesser {N} {s} {img} z t j e = blank-harmless s t (block s j img) (omega (arith, z .low)) e
 
+pub blank-lessers : {N : ℕ} {s k : ℕ} {img : List ℕ} → Sized N s img → (t : ℕ) → Others N (λ j. block s j img ≡ replicate s 255) k → Lessers N s img t k
+blank-lessers {k = k} z t o = record { older = λ j h n. blank-lesser z t j (o j h n); one = k; blanks = λ j h n _. o j h n }
+
 pub alone-safe : {N : ℕ} {s k t : ℕ} {img : List ℕ} {fs : List Frame} {c : Tail} {os : List Object} (u : Bool) → Alone N s img k t fs c → Keeps s (replay fs) os
     → Safe N s img os u
-alone-safe {N} {s} {k} {t} {img} u x p = some-valid k (x .there) (valid-of (x .contents) p) (λ j h n. blank-lesser (x .sized) t j (x .others j h n))
+alone-safe {N} {s} {k} {t} {img} u x p = some-valid k (x .there) (valid-of (x .contents) p) (blank-lessers (x .sized) t (x .others))
 
 -- ---- the block written to
 

@@ -9,9 +9,10 @@ use lib.Dec.{eqb}
 use lib.ListN.{length, replicate, length-replicate}
 use borrow.Author.Tests.{eqb-true, eqb-false}
 use Rattle.flash.specs.Flash.{erase, withBlock, eraseBlock, applyAll, block}
+use Rattle.flash.specs.Raised.{Raised}
 use Rattle.flash.proofs.Cases.{on-test}
 use Rattle.flash.proofs.Image.{length-erase, block-erase, other-erase}
-use Rattle.flash.proofs.Raising.{block-with, other-with}
+use Rattle.flash.proofs.Raising.{block-with, other-with, raised-blank}
 use Rattle.frame.specs.Frame.{Frame}
 use Rattle.frame.specs.Reader.{Tail}
 use Rattle.journal.specs.Replay.{Object}
@@ -20,7 +21,7 @@ use Rattle.journal.proofs.States.{Contents, contents-valid}
 use Rattle.journal.proofs.Raising.{Harmless, harmless-raised, blank-harmless}
 use Rattle.board.proofs.Blocks.{Blocks, Besides, besides-blocks, besides-kept}
 use Rattle.board.proofs.Images.{Sized, sized-as, sized-block, length-all-steps}
-use Rattle.board.proofs.Invariant.{Valid, Quiet, Others, Lesser, Safe, no-valid, some-valid, CutSafe, Guard, StepLands}
+use Rattle.board.proofs.Invariant.{Valid, Quiet, Others, Lessers, Safe, no-valid, some-valid, CutSafe, Guard, StepLands}
 use Rattle.board.proofs.Prefixes.{Each}
 use Rattle.board.proofs.Current.{Alone, block-long, blank-quiet}
 
@@ -94,26 +95,38 @@ module _ {N : ℕ} {s : ℕ} {img : List ℕ} (z : Sized N s img) (k : ℕ) (h :
 
 -- m is the current block, and k is not
 module _ {N : ℕ} {s : ℕ} {img : List ℕ} {os : List Object} (z : Sized N s img) (m k : ℕ) (l : m < N) (h : k < N) (d : m ≡ k → ⊥) (v : Valid s img m os)
-    (q : Others N (Lesser s img (v .time)) m) (new : List ℕ) (long : length new ≡ s) (y : Harmless (v .time) new) where
+    (q : Lessers N s img (v .time) m) (new : List ℕ) (long : length new ≡ s) (y : Harmless (v .time) new)
+    (b : block s k img ≡ replicate s 255 → new ≡ replicate s 255) where
   abbrev pub still : Valid s (withBlock s k new img) m os
   still = valid-kept (withBlock s k new img) (other-with s k new img (sized-block k z h) long m d) v
 
-  pub still-lesser : Others N (Lesser s (withBlock s k new img) (v .time)) m
-  still-lesser j g n =
+  -- what holds of the new bytes where it held of the old ones
+  each-block : (P : List ℕ → Type 0) (j : ℕ) → (j ≡ k → P new) → P (block s j img) → P (block s j (withBlock s k new img))
+  each-block P j f p =
       on-test (eqb j k)
-      (λ t. subst (Harmless (v .time))
-      (sym (ap (λ (i : ℕ). block s i (withBlock s k new img)) (eqb-true j k t) ∙ block-with s k new img (sized-block k z h) long)) y)
-      (λ t. subst (Harmless (v .time)) (sym (other-with s k new img (sized-block k z h) long j (eqb-false j k t))) (q j g n))
+      (λ t. let e : j ≡ k = eqb-true j k t in
+      subst P (sym (ap (λ (i : ℕ). block s i (withBlock s k new img)) e ∙ block-with s k new img (sized-block k z h) long)) (f e))
+      (λ t. subst P (sym (other-with s k new img (sized-block k z h) long j (eqb-false j k t))) p)
+
+  pub still-lessers : Lessers N s (withBlock s k new img) (v .time) m
+  still-lessers =
+      record {
+        older = λ j g n. each-block (Harmless (v .time)) j (λ _. y) (q .older j g n);
+        one = q .one;
+        blanks = λ j g n o.
+            each-block (λ (l : List ℕ). l ≡ replicate s 255) j (λ e. b (ap (λ (i : ℕ). block s i img) (sym e) ∙ q .blanks j g n o)) (q .blanks j g n o);
+      }
 
   pub still-safe : (u : Bool) → Safe N s (withBlock s k new img) os u
-  still-safe u = some-valid m l still still-lesser
+  still-safe u = some-valid m l still still-lessers
 
 module _ {N : ℕ} {s : ℕ} {img : List ℕ} {os : List Object} (z : Sized N s img) (m k : ℕ) (l : m < N) (h : k < N) (d : m ≡ k → ⊥) (v : Valid s img m os)
-    (q : Others N (Lesser s img (v .time)) m) where
+    (q : Lessers N s img (v .time) m) where
   -- its erase is cut
   pub cut-safe : (u : Bool) → CutSafe N s os u (erase k) img
   cut-safe u new r =
-      still-safe z m k l h d v q new (r .long ∙ block-long k z h) (harmless-raised (v .time) (block s k img) new r (q k h (λ e. d (sym e)))) u
+      still-safe z m k l h d v q new (r .long ∙ block-long k z h) (harmless-raised (v .time) (block s k img) new r (q .older k h (λ e. d (sym e))))
+      (λ e. raised-blank s new (subst (λ (l : List ℕ). Raised l new) e r)) u
 
   ones : List ℕ
   ones = replicate (length (block s k img)) 255
@@ -122,18 +135,21 @@ module _ {N : ℕ} {s : ℕ} {img : List ℕ} {os : List Object} (z : Sized N s 
   unfolding ones
   ones-long = length-replicate (length (block s k img)) 255 ∙ block-long k z h
 
-  ones-harmless : Harmless (v .time) ones
+  ones-blank : ones ≡ replicate s 255
   unfolding ones
-  ones-harmless = blank-harmless s (v .time) ones (omega (arith, z .low)) (ap (λ (n : ℕ). replicate n 255) (block-long k z h))
+  ones-blank = ap (λ (n : ℕ). replicate n 255) (block-long k z h)
+
+  ones-harmless : Harmless (v .time) ones
+  ones-harmless = blank-harmless s (v .time) ones (omega (arith, z .low)) ones-blank
 
   -- it is erased
-  pub erase-lesser : Others N (Lesser s (eraseBlock s k img) (v .time)) m
+  pub erase-lessers : Lessers N s (eraseBlock s k img) (v .time) m
   unfolding ones
-  erase-lesser = still-lesser z m k l h d v q ones ones-long ones-harmless
+  erase-lessers = still-lessers z m k l h d v q ones ones-long ones-harmless (λ _. ones-blank)
 
   pub erase-safe : (u : Bool) → Safe N s (eraseBlock s k img) os u
   unfolding ones
-  erase-safe u = still-safe z m k l h d v q ones ones-long ones-harmless u
+  erase-safe u = still-safe z m k l h d v q ones ones-long ones-harmless (λ _. ones-blank) u
 
 -- ---- erases of a list of blocks
 
@@ -164,13 +180,13 @@ erases-land s (k ∷ ks) img (suc j) h = erases-land s ks (eraseBlock s k img) j
 
 -- others than the current one: cut or not, each keeps what a mount finds
 pub erases-guard : {N : ℕ} {s : ℕ} {os : List Object} (u : Bool) (n : ℕ) (ks : List ℕ) (img : List ℕ) → Sized N s img → n < N → Besides N n ks
-    → (v : Valid s img n os) → Others N (Lesser s img (v .time)) n → Each s (Guard N s os u) (map erase ks) img
+    → (v : Valid s img n os) → Lessers N s img (v .time) n → Each s (Guard N s os u) (map erase ks) img
 unfolding applyAll
 erases-guard u n [] img z l b v q j h = absurd (omega arith)
 erases-guard u n (k ∷ ks) img z l (g, d, b) v q zero h = (some-valid n l v q, cut-safe z n k l g d v q u)
 erases-guard {N} {s} u n (k ∷ ks) img z l (g, d, b) v q (suc j) h =
     erases-guard u n ks (eraseBlock s k img) (sized-erase z k g) l b (valid-kept (eraseBlock s k img) (other-erase s n k img d) v)
-    (erase-lesser z n k l g d v q) j (omega arith)
+    (erase-lessers z n k l g d v q) j (omega arith)
 
 -- the valid block is then alone
 pub erases-alone : {N : ℕ} {s : ℕ} {n t : ℕ} {fs : List Frame} {c : Tail} (ks : List ℕ) (img : List ℕ) → Sized N s img → n < N

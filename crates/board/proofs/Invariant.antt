@@ -53,11 +53,17 @@ Others N P k = (j : ℕ) → j < N → (j ≡ k → ⊥) → P j
 abbrev pub Lesser : ℕ → List ℕ → ℕ → ℕ → Type 0
 Lesser s img t j = Harmless t (block s j img)
 
+-- beside block k, all of them; and all but one are blank: two of one time, smaller too, would be refused
+pub record Lessers (N : ℕ) (s : ℕ) (img : List ℕ) (t k : ℕ) : Type 0 where
+  pub older : Others N (Lesser s img t) k
+  pub one : ℕ
+  pub blanks : Others N (λ j. (j ≡ one → ⊥) → block s j img ≡ replicate s 255) k
+
 -- a mount of the image finds the objects: a valid block has them, and every other is harmless; nothing at all only while a format is
 -- unfinished
 pub data Safe (N : ℕ) (s : ℕ) (img : List ℕ) (os : List Object) (unfinished : Bool) : Type 0 where
   no-valid : unfinished ≡ true → ((j : ℕ) → j < N → Quiet (blockState (block s j img))) → Safe N s img os unfinished
-  some-valid : (k : ℕ) → k < N → (v : Valid s img k os) → Others N (Lesser s img (v .time)) k → Safe N s img os unfinished
+  some-valid : (k : ℕ) → k < N → (v : Valid s img k os) → Lessers N s img (v .time) k → Safe N s img os unfinished
 
 -- a mount finds them too where the step is an erase and is cut
 abbrev pub CutSafe : ℕ → ℕ → List Object → Bool → Step → List ℕ → Type 0

@@ -29,7 +29,7 @@ use Rattle.board.specs.Exec.{exec}
 use Rattle.board.specs.Claim.{trackStep, Never, CutsErase}
 use Rattle.board.proofs.Images.{Sized, size-of, sized-as, sized-block}
 use Rattle.board.proofs.Invariant.{Valid, Safe, no-valid, some-valid, CutSafe, GuardIn, Ready, IdleBook, InJob, InPhase, Inv}
-use Rattle.board.proofs.Current.{block-long, blank-lesser}
+use Rattle.board.proofs.Current.{block-long, blank-lessers}
 use Rattle.board.proofs.Outcomes.{step-resting}
 use Rattle.board.proofs.Jobs.{Stepped, job-step}
 
@@ -83,7 +83,7 @@ idle-valid y =
 
 pub safe-idle : {N : ℕ} {s : ℕ} {img : List ℕ} {r : Record} {b : Book} {u : Bool} → Sized N s img → IdleBook N s img r b → Safe N s img (b .objects) u
 safe-idle {N} z y =
-    some-valid (y .ready .number) (y .ready .there) (idle-valid y) (λ j h n. blank-lesser z (y .ready .time) j (y .ready .others j h n))
+    some-valid (y .ready .number) (y .ready .there) (idle-valid y) (blank-lessers z (y .ready .time) (y .ready .others))
 
 pub safe-of : {N : ℕ} {s : ℕ} {img : List ℕ} {r : Record} {b : Book} {u : Bool} → Inv N s img r b u → Safe N s img (b .objects) u
 safe-of {N} {s} {img} {r} {b} {u} v =
