@@ -46,7 +46,7 @@ pub follows-format : (N : ℕ) (img : List ℕ) → allowed N (length img) ≡ t
 unfolding writes encodeAll total
 follows-format N img h =
     let j : Job = formatJob N img .job in
-    let sized : Sized N (sizeOf N img) img = sized-of img h in
+    let sized : Sized N (sizeOf N img) img = sized-of N img h in
     follows-moving img (length img - 1) (nextBlock N 0) headerLen noPlaces j 256 headerLen [] (formatOrder N img) (omega arith) (both-blocks N (order-both N img))
     (record { wipe = refl; wipes = refl; size = refl }) (omega arith) (omega arith) [] refl (omega arith) (λ q. omega arith) (omega arith)
     (yields-none (block (sizeOf N img) (nextBlock N 0) (applyAll (sizeOf N img) (map erase (formatOrder N img)) img)) headerLen noPlaces noMarks)
@@ -71,7 +71,7 @@ follows-mount {N} img x ks h here others g =
     let moves : Bool = needsTransfer (x .frames) (x .tail) in
     let st : State = settledOnly (replay (x .frames)) in
     let r : Record = mountJob N img x ks in
-    let sized : Sized N (sizeOf N img) img = sized-of img h in
+    let sized : Sized N (sizeOf N img) img = sized-of N img h in
     let fits : e ≤ s = journal-fits s k img (x .frames) g in
     let has : Has (r .job) ks [] = record { wipe = refl; wipes = refl; size = refl } in
     on-test moves

@@ -1,7 +1,7 @@
 -- The starred bench rows, row p and row o's values, computed over the definitions.
 use mathlib.Core.Path.{refl}
 use Rattle.flash.specs.Bytes.{allFF, sameBytes}
-use Rattle.flash.specs.Flash.{writes}
+use Rattle.flash.specs.Flash.{numbersFrom, sizeIn, writes}
 use Rattle.frame.specs.Frame.{encodeAll, total}
 use Rattle.frame.specs.Reader.{match, readFrame, scan}
 use Rattle.journal.specs.Replay.{insert, remove, lookup, changeAll, listOf, without, isOpen, replayFrom}
@@ -9,7 +9,7 @@ use Rattle.journal.specs.Block.{headerFault, blockState}
 use Rattle.journal.specs.Room.{noRoom}
 use Rattle.journal.specs.Index.{sited, placesFrom, sinceFrom, valueAt, nextSettled, nextPending, nextLoad}
 use Rattle.wire.specs.Message.{parse}
-use Rattle.board.specs.Record.{noPlaces, noFrame}
+use Rattle.board.specs.Record.{allowed, noPlaces, noFrame}
 use Rattle.board.specs.Step.{enterAppend, enterDrop, enterCopy, enterOpen, enterWipe, advance, stepBusy, stepOn}
 use Rattle.board.specs.Mount.{mountAt, mountFound, mountOn, formatOrder, formatOn}
 use Rattle.board.specs.Queue.{held, append, serveChange, serveEnd, serveLog, serve, requestOn}
@@ -17,12 +17,12 @@ use Rattle.board.specs.Exec.{exec}
 use Rattle.board.specs.Rows.{drive, returned, ask, asked, cutIn, mounted, replayed, timed, part, rowA, rowB, rowC, rowD, rowE, rowF}
 use Rattle.board.specs.Rows.{rowG, rowH, rowI, rowK, rowALong, rowO, commitMessage, putMessage, formatAnswer, Rows}
 
-pub rows : {N : ℕ} → Rows (exec N)
-unfolding drive returned ask asked cutIn mounted replayed timed part rowA rowB rowC rowD rowE rowF rowG rowH rowI rowK rowALong rowO commitMessage
+pub rows : Rows (exec 2)
+unfolding numbersFrom sizeIn allowed drive returned ask asked cutIn mounted replayed timed part rowA rowB rowC rowD rowE rowF rowG rowH rowI rowK rowALong rowO commitMessage
     putMessage formatAnswer allFF sameBytes writes encodeAll total match readFrame scan insert remove lookup changeAll listOf
     without isOpen replayFrom headerFault blockState noRoom sited placesFrom sinceFrom valueAt nextSettled nextPending nextLoad
-    parse noPlaces noFrame enterAppend enterDrop (enterCopy N) enterOpen enterWipe (advance N) (stepBusy N) (stepOn N) (mountAt N) (mountFound N) (mountOn N)
-    formatOrder N (formatOn N) (held N) (append N) (serveChange N) (serveEnd N) (serveLog N) (serve N) (requestOn N)
+    parse noPlaces noFrame enterAppend enterDrop enterCopy enterOpen enterWipe advance stepBusy stepOn mountAt mountFound mountOn
+    formatOrder formatOn held append serveChange serveEnd serveLog serve requestOn
 rows =
     record {
       a-steps = refl;

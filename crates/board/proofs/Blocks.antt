@@ -1,15 +1,17 @@
 -- Lists of block numbers: what a job wipes.
 use mathlib.Core.Path.{_≡_, refl, sym, subst, _∙_}
 use mathlib.Core.List.{List, [], _∷_, map}
-use mathlib.Core.Bool.{Bool, _||_, cond}
+use mathlib.Core.Bool.{Bool, true, _&&_, _||_, cond}
 use Prim.Native.Nat.{ℕ, zero, suc, _+_, _≤_, _<_}
 use native.Mathlib.Omega.{arith}
 use lib.Dec.{eqb}
 use lib.ListN.{length, getD}
-use borrow.Author.Tests.{eqb-false}
-use Rattle.flash.specs.Flash.{numbersFrom, block, erase, apply, applyAll}
-use Rattle.flash.proofs.Cases.{on-test, or-no-left}
+use borrow.Author.Tests.{eqb-true, eqb-false}
+use Rattle.flash.specs.Bytes.{allFF}
+use Rattle.flash.specs.Flash.{numbersFrom, blockNumbers, sizeOf, block, erase, apply, applyAll}
+use Rattle.flash.proofs.Cases.{on-test, and-left, and-right, and-both, or-left, or-right, or-no-left}
 use Rattle.flash.proofs.Image.{other-erase}
+use Rattle.board.specs.Queue.{othersBlank}
 use Rattle.board.specs.Mount.{Found, found, allFound, isBlank, wipeList}
 
 -- the numbers are blocks
@@ -59,3 +61,37 @@ numbered-from N k (suc n) img h = (omega arith, numbered-from N (suc k) n img (o
 
 pub wiped-besides : (N : ℕ) (k : ℕ) (img : List ℕ) → Besides N k (wipeList k (allFound N img))
 wiped-besides N k img = besides-found N k (allFound N img) (numbered-from N 0 N img (omega arith))
+
+-- ---- "other half blank", block by block
+
+module _ (N k : ℕ) (img : List ℕ) where
+  -- block j is k, or it is blank
+  abbrev Clear : ℕ → Type 0
+  Clear j = (eqb k j || allFF (block (sizeOf N img) j img)) ≡ true
+
+  others-from : (a n : ℕ) → ((j : ℕ) → a ≤ j → j < a + n → Clear j) → othersBlank N k img (numbersFrom a n) ≡ true
+  unfolding numbersFrom
+  others-from a zero f = refl
+  others-from a (suc n) f =
+      and-both (eqb k a || allFF (block (sizeOf N img) a img)) (othersBlank N k img (numbersFrom (suc a) n)) (f a (omega arith) (omega arith))
+      (others-from (suc a) n (λ j l h. f j (omega arith) (omega arith)))
+
+  others-each : (a n : ℕ) → othersBlank N k img (numbersFrom a n) ≡ true → (j : ℕ) → a ≤ j → j < a + n → Clear j
+  unfolding numbersFrom
+  others-each a zero t j l h = absurd (omega arith)
+  others-each a (suc n) t j l h =
+      on-test (eqb a j)
+      (λ e. subst Clear (eqb-true a j e) (and-left (eqb k a || allFF (block (sizeOf N img) a img)) (othersBlank N k img (numbersFrom (suc a) n)) t))
+      (λ e. others-each (suc a) n (and-right (eqb k a || allFF (block (sizeOf N img) a img)) (othersBlank N k img (numbersFrom (suc a) n)) t) j
+      (omega (arith, eqb-false a j e)) (omega arith))
+
+  pub others-are : ((j : ℕ) → j < N → (j ≡ k → ⊥) → allFF (block (sizeOf N img) j img) ≡ true) → othersBlank N k img (blockNumbers N) ≡ true
+  others-are f =
+      others-from 0 N
+      (λ j l h.
+      on-test (eqb k j) (or-left (eqb k j) (allFF (block (sizeOf N img) j img)))
+      (λ t. or-right (eqb k j) (allFF (block (sizeOf N img) j img)) (f j (omega arith) (λ e. eqb-false k j t (sym e)))))
+
+  pub others-blank : othersBlank N k img (blockNumbers N) ≡ true → (j : ℕ) → j < N → (j ≡ k → ⊥) → allFF (block (sizeOf N img) j img) ≡ true
+  others-blank t j h n =
+      let c : Clear j = others-each 0 N t j (omega arith) (omega arith) in on-test (eqb k j) (λ e. absurd (n (sym (eqb-true k j e)))) (λ e. rw e at c)

@@ -249,7 +249,7 @@ format-done {N} {s} {img} r z =
 pub formatted-inv : {N : ℕ} (img : List ℕ) (r : Record) → Bytes img → allowed N (length img) ≡ true
     → Inv N (sizeOf N img) (formatted N (exec N) img r .image) (formatted N (exec N) img r .board) firstBook false
 formatted-inv {N} img r by ok =
-    let z : Sized N (sizeOf N img) img = sized-of img ok in
+    let z : Sized N (sizeOf N img) img = sized-of N img ok in
     let i : List ℕ = applyAll (sizeOf N img) (formatPlan N img) img in
     subst (λ (o : Out). Inv N (sizeOf N img) (o .image) (o .board) firstBook false) (sym (format-done r z))
     (inv-idle (idle (rest N (length img - 1) 0 headerLen)) (sized-as i (length-all-steps (sizeOf N img) (formatPlan N img) img) z)
@@ -259,6 +259,6 @@ pub claim : (N : ℕ) → Claim N (exec N)
 unfolding Claim
 claim N img r by ok =
     let e : formatted N (exec N) img r ≡ out Done (applyAll (sizeOf N img) (formatPlan N img) img) (idle (rest N (length img - 1) 0 headerLen)) [] =
-    format-done r (sized-of img ok) in
+    format-done r (sized-of N img ok) in
     let v : Inv N (sizeOf N img) (formatted N (exec N) img r .image) (formatted N (exec N) img r .board) firstBook false = formatted-inv img r by ok in
     (ap (λ (o : Out). o .answer) e, ap (λ (o : Out). o .board .phase) e, agrees v, run-holds v)

@@ -79,7 +79,7 @@ pub one-store : {N : ℕ} → OneStore N (exec N)
 unfolding OneStore
 one-store {N} img r by ok a =
     let s : ℕ = sizeOf N img in
-    let z : Sized N s img = sized-of img ok in
+    let z : Sized N s img = sized-of N img ok in
     let y : Begins N s img = mount-accepted z by a in
     let x : Store = y .store in
     let e : After N s (applyAll s (mountPlan N (allFound N img) x) img) (last z y) (settledOnly (replay (x .frames))) = after z y in
@@ -255,6 +255,6 @@ all-land b v (cutErase k new q ∷ cutErase j more p ∷ es) (x, n, h) = absurd 
 pub lands-from : {N : ℕ} → LandsFrom N (exec N)
 lands-from =
     record {
-      from-mount = λ img r b es by ok h. all-land b (mount-kept (sized-of img ok) by) es h;
-      from-format = λ img r b es by ok h. all-land b (format-kept (sized-of img ok) by) es h;
+      from-mount = λ img r b es by ok h. all-land b (mount-kept (sized-of N img ok) by) es h;
+      from-format = λ img r b es by ok h. all-land b (format-kept (sized-of N img ok) by) es h;
     }

@@ -4,11 +4,11 @@ use mathlib.Core.List.{List, [], _∷_}
 use mathlib.Core.Logic.{inl, inr}
 use mathlib.Core.Option.{Option, none, some}
 use mathlib.Core.Bool.{Bool, true, false}
-use Prim.Native.Nat.{ℕ, _-_, _/_, _≤_, _<_}
+use Prim.Native.Nat.{ℕ, _+_, _-_, _≤_, _<_}
 use native.Mathlib.Omega.{arith}
 use lib.ListN.{length}
 use Rattle.flash.specs.Bytes.{Bytes}
-use Rattle.flash.specs.Flash.{Step, apply, block, sizeOf, withBlock}
+use Rattle.flash.specs.Flash.{sizeIn, Step, apply, block, sizeOf, withBlock}
 use Rattle.flash.proofs.Image.{length-apply, bytes-apply}
 use Rattle.flash.proofs.Raising.{bytes-with}
 use Rattle.frame.specs.declared.Host.{Host}
@@ -34,7 +34,7 @@ use Rattle.board.specs.Demand1.{Rests}
 use Rattle.board.specs.Demand2.{Accepted}
 use Rattle.board.specs.Claim.{ByteCall, Begins, Event, call, cutErase}
 use Rattle.wire.specs.Sentences.{Means, MessagesExact, MalformedExact}
-use Rattle.board.specs.Promise.{Machine, replyFor, Answers, Serves, Job, frame-job, mount-job, format-job, Calls, Shown, restingIn}
+use Rattle.board.specs.Promise.{Short, Machine, replyFor, Answers, Serves, Job, frame-job, mount-job, format-job, Calls, Shown, restingIn}
 use Rattle.board.specs.Promise.{shownRecord, shown, trace, ByteEvents, PromiseDetermines, PromiseDeterminesFrom, PromiseDeterminesCall}
 use Rattle.board.proofs.Answering.{number-done, number-accepted, Both, both-taken, both-refused, same-numbered, told-answer}
 use Rattle.board.proofs.Answering.{whole, whole-is, in-job, same-stretch}
@@ -47,7 +47,7 @@ use Rattle.board.proofs.Freshness.{fresh-exact}
 
 pub data Alike (N : ℕ) (m n : Machine) (img : List ℕ) (r q : Record) : Type 0 where
   resting : Rests (q .phase) → r ≡ q → Alike N m n img r q
-  working : (x : Step) (xs : List Step) (z : Record) → z .phase ≡ Idle → length (x ∷ xs) ≤ sizeOf N img → Follows N m img r (x ∷ xs) z
+  working : (x : Step) (xs : List Step) (z : Record) → z .phase ≡ Idle → length (x ∷ xs) ≤ sizeOf N img + N → Follows N m img r (x ∷ xs) z
       → Follows N n img q (x ∷ xs) z → Alike N m n img r q
 
 more-none : (p : Phase) (r : Record) → answerIn p ≡ More → restingIn p r ≡ none
@@ -64,8 +64,15 @@ module _ {N : ℕ} {m n : Machine} {img : List ℕ} {r q : Record} where
   alike-answer (resting h e) = ap answerOf e
   alike-answer (working x xs z h l f g) = f .0 ∙ sym (g .0)
 
+-- a job's steps, a mount's erases too
+pub short-most : (N s : ℕ) (plan : List Step) (c : Call) → Short N s plan c → length plan ≤ s + N
+short-most N s plan (request h msg reply) l = omega arith
+short-most N s plan step l = omega arith
+short-most N s plan mount (l, e) = omega arith
+short-most N s plan format l = omega arith
+
 -- a plan to follow, if it has steps; else the record after it
-alike-plan : {N : ℕ} {m n : Machine} {img : List ℕ} {r q : Record} (xs : List Step) (z : Record) → z .phase ≡ Idle → length xs ≤ sizeOf N img
+alike-plan : {N : ℕ} {m n : Machine} {img : List ℕ} {r q : Record} (xs : List Step) (z : Record) → z .phase ≡ Idle → length xs ≤ sizeOf N img + N
     → Follows N m img r xs z → Follows N n img q xs z → Alike N m n img r q
 alike-plan [] z h l f g = resting (subst (λ (y : Record). Rests (y .phase)) (sym g) (subst Rests (sym h) tt)) (f ∙ sym g)
 alike-plan (x ∷ xs) z h l f g = working x xs z h l f g
@@ -95,13 +102,13 @@ module _ {N : ℕ} {m n : Machine} where
 -- ---- what a machine that keeps the promise gives back
 
 -- a plan's last record is idle
-framed-idle : {N : ℕ} (b : Bool) (l k end : ℕ) (x : Held) (f : Frame) → framedAt N b l k end x f .phase ≡ Idle
-framed-idle true l k end x f = refl
-framed-idle false l k end x f = refl
+framed-idle : (N : ℕ) (b : Bool) (l k end : ℕ) (x : Held) (f : Frame) → framedAt N b l k end x f .phase ≡ Idle
+framed-idle N true l k end x f = refl
+framed-idle N false l k end x f = refl
 
-mounted-idle : {N : ℕ} (b : Bool) (l : ℕ) (x : Store) → mountedAt N b l x .phase ≡ Idle
-mounted-idle true l x = refl
-mounted-idle false l x = refl
+mounted-idle : (N : ℕ) (b : Bool) (l : ℕ) (x : Store) → mountedAt N b l x .phase ≡ Idle
+mounted-idle N true l x = refl
+mounted-idle N false l x = refl
 
 -- past the first lines a request has an image and a message that can be told
 pub record Asked (N : ℕ) (img : List ℕ) (r : Record) (msg : List ℕ) : Type 0 where
@@ -123,11 +130,11 @@ module _ {N : ℕ} {m : Machine} (p : Calls N m) (img : List ℕ) (by : Bytes im
           → parse msg ≡ w → Asked N img r msg
       parsed ok x e g Malformed w = absurd (g (malformed-exact msg .0 w))
       parsed ok x e g (Is q) w =
-          record { length-ok = ok; holding = x; asked = q; is-held = fresh-exact img r x by ok .0 e; is-asked = messages-exact msg q .0 w }
+          record { length-ok = ok; holding = x; asked = q; is-held = fresh-exact N img r x by ok .0 e; is-asked = messages-exact msg q .0 w }
 
       found : (ok : allowed N (length img) ≡ true) → (((x : Held) → Fresh N img r x → ⊥) → ⊥) → (((q : Request) → Means msg q → ⊥) → ⊥)
           → (o : Option Held) → held N img r ≡ o → Asked N img r msg
-      found ok f g none e = absurd (f (λ x y. let w : some x ≡ none = sym (fresh-exact img r x by ok .1 y) ∙ e in let z : _≡_ {A = ℕ} 0 1 = cc in omega arith))
+      found ok f g none e = absurd (f (λ x y. let w : some x ≡ none = sym (fresh-exact N img r x by ok .1 y) ∙ e in let z : _≡_ {A = ℕ} 0 1 = cc in omega arith))
       found ok f g (some x) e = parsed ok x e g (parse msg) refl
 
       go : Exactly (requestLines N img r h msg reply) ans → Asked N img r msg
@@ -137,7 +144,7 @@ module _ {N : ℕ} {m : Machine} (p : Calls N m) (img : List ℕ) (by : Bytes im
       go (inr (_, inr (_, inr (_, inl (_, e))))) = absurd (number-accepted ans 1 e a)
       go (inr (_, inr (_, inr (_, inr (_, inl (_, e)))))) = absurd (number-accepted ans 10 e a)
       go (inr (_, inr (_, inr (_, inr (_, inr (_, inl (_, e))))))) = absurd (number-accepted ans 0 e a)
-      go (inr (l, inr (_, inr (_, inr (_, inr (f, inr (g, _))))))) = found (allowed-not (length img) l) f g (held N img r) refl
+      go (inr (l, inr (_, inr (_, inr (_, inr (f, inr (g, _))))))) = found (allowed-not N (length img) l) f g (held N img r) refl
 
   -- an accepted mount has a current half to take
   pub mount-takes : (r : Record) → Accepted (m img r mount .answer) → Mountable N img
@@ -153,7 +160,7 @@ module _ {N : ℕ} {m : Machine} (p : Calls N m) (img : List ℕ) (by : Bytes im
     where
       go : Exactly (mountLines N img) (m img r mount .answer) → allowed N (length img) ≡ true
       go (inl (_, e)) = absurd (number-accepted (m img r mount .answer) 3 e a)
-      go (inr (f, _)) = allowed-not (length img) f
+      go (inr (f, _)) = allowed-not N (length img) f
 
   -- an accepted mount or format touches nothing
   takes-mount : (r : Record) → Accepted (m img r mount .answer) → m img r mount ≡ out (answerOf (m img r mount .board)) img (m img r mount .board) []
@@ -185,10 +192,10 @@ module _ {N : ℕ} {m n : Machine} (pm : Calls N m) (pn : Calls N n) (img : List
       (agree-whole More More img (o .board) (p .board) (replyFor N img reply x q) (o .stretch) refl by (v f refl))
 
   -- the same job
-  job-alike : (r q : Record) (c : Call) (plan : List Step) (z : Record) → ByteCall c → Job img r c plan z → Job img q c plan z → z .phase ≡ Idle
+  job-alike : (r q : Record) (c : Call) (plan : List Step) (z : Record) → ByteCall c → Job N img r c plan z → Job N img q c plan z → z .phase ≡ Idle
       → Accepted (m img r c .answer) → Accepted (n img q c .answer) → Alike N m n img (m img r c .board) (n img q c .board)
   job-alike r q c plan z bc j k e a b =
-      let f = pm .jobs img r c plan z by bc j a in alike-plan plan z e (f .1) (f .0) (pn .jobs img q c plan z by bc k b .0)
+      let f = pm .jobs img r c plan z by bc j a in alike-plan plan z e (short-most N (sizeOf N img) plan c (f .1)) (f .0) (pn .jobs img q c plan z by bc k b .0)
 
   request-agrees : (r : Record) (h : Host) (msg reply : List ℕ) → Bytes msg → Rests (r .phase)
       → Agree N m n (m img r (request h msg reply)) (n img r (request h msg reply))
@@ -215,11 +222,11 @@ module _ {N : ℕ} {m n : Machine} (pm : Calls N m) (pn : Calls N n) (img : List
           let s : Serves N img r h msg reply x q o = pm .serves img r h msg reply x q by bm (y .is-held) (y .is-asked) a in
           let t : Serves N img r h msg reply x q p = pn .serves img r h msg reply x q by bm (y .is-held) (y .is-asked) b in
           let job : (f : Frame) → frameFor h msg x q ≡ some f
-          → Job img r c (framePlan N (needsRoom N img r f) (r .block) (r .end) x f) (framedAt N (needsRoom N img r f) (r .last) (r .block) (r .end) x f) =
+          → Job N img r c (framePlan N (needsRoom N img r f) (r .block) (r .end) x f) (framedAt N (needsRoom N img r f) (r .last) (r .block) (r .end) x f) =
           λ f e. frame-job h msg reply x q f (y .is-held) (y .is-asked) e in
           does-agree r h msg reply x q (frameFor h msg x q) o p k (pm .one-step img r c) (pn .one-step img r c) (s .answers) (t .answers) s t
           (λ f e. job-alike r r c (framePlan N (needsRoom N img r f) (r .block) (r .end) x f) (framedAt N (needsRoom N img r f) (r .last) (r .block) (r .end) x f) bm
-          (job f e) (job f e) (framed-idle (needsRoom N img r f) (r .last) (r .block) (r .end) x f) a b)
+          (job f e) (job f e) (framed-idle N (needsRoom N img r f) (r .last) (r .block) (r .end) x f) a b)
 
   -- 4, 10 or 5, whatever the record holds
   abbrev busyLines : Host → List Line
@@ -265,7 +272,7 @@ module _ {N : ℕ} {m n : Machine} (pm : Calls N m) (pn : Calls N n) (img : List
       (agree-whole Done Done img r q [] noStretch refl by (resting h e))
   step-agrees r q (working x xs z h l (a, (r′, e, f)) (b, (q′, d, g))) =
       let after : List ℕ = apply (sizeOf N img) x img in
-      let w : sizeOf N after ≡ sizeOf N img = ap (λ (k : ℕ). k / N) (length-apply (sizeOf N img) x img) in
+      let w : sizeOf N after ≡ sizeOf N img = ap (sizeIn N) (length-apply (sizeOf N img) x img) in
       let v : Alike N m n after r′ q′ = alike-plan xs z h (omega (arith, w)) f g in
       agree-by e d
       (agree-whole (answerOf r′) (answerOf q′) after r′ q′ [] noStretch (alike-answer v) (bytes-apply (sizeOf N img) x img by) v)
@@ -292,7 +299,7 @@ module _ {N : ℕ} {m n : Machine} (pm : Calls N m) (pn : Calls N n) (img : List
           let x : Store = y .store in
           agree-takes (m img r mount) (n img q mount) (takes-mount pm img by r a) (takes-mount pn img by q b)
           (job-alike r q mount (mountPlan N (allFound N img) x) (mountedAt N (needsTransfer (x .frames) (x .tail)) (length img - 1) x) tt (mount-job x (y .current))
-          (mount-job x (y .current)) (mounted-idle (needsTransfer (x .frames) (x .tail)) (length img - 1) x) a b)
+          (mount-job x (y .current)) (mounted-idle N (needsTransfer (x .frames) (x .tail)) (length img - 1) x) a b)
 
   -- ---- a format
 
@@ -370,18 +377,18 @@ module _ {N : ℕ} {m n : Machine} (pm : Calls N m) (pn : Calls N n) where
 
 pub promise-determines : PromiseDetermines
 unfolding PromiseDetermines
-promise-determines m n pm pn img r q c es by b bs =
+promise-determines N m n pm pn img r q c es by b bs =
     let y : Agree N m n (m img r c) (n img q c) = begun-agrees (pm .calls) (pn .calls) img r q c by b in
     agree-run (pm .calls) (pn .calls) (m img r c) (n img q c) y es
     (run-agrees (pm .calls) (pn .calls) (m img r c .image) (m img r c .board) (n img q c .board) (y .bytes) (y .next) es bs)
 
 pub promise-determines-from : PromiseDeterminesFrom
 unfolding PromiseDeterminesFrom
-promise-determines-from m n pm pn img r es by h bs = run-agrees (pm .calls) (pn .calls) img r r by (resting h refl) es bs
+promise-determines-from N m n pm pn img r es by h bs = run-agrees (pm .calls) (pn .calls) img r r by (resting h refl) es bs
 
 pub promise-determines-call : PromiseDeterminesCall
 unfolding PromiseDeterminesCall
-promise-determines-call m n pm pn img r (request h msg reply) by bc w = lone-request (pm .calls) (pn .calls) img r h msg reply by bc
-promise-determines-call m n pm pn img r step by bc w = absurd w
-promise-determines-call m n pm pn img r mount by bc w = mount-agrees (pm .calls) (pn .calls) img by r r .same
-promise-determines-call m n pm pn img r format by bc w = format-agrees (pm .calls) (pn .calls) img by r r .same
+promise-determines-call N m n pm pn img r (request h msg reply) by bc w = lone-request (pm .calls) (pn .calls) img r h msg reply by bc
+promise-determines-call N m n pm pn img r step by bc w = absurd w
+promise-determines-call N m n pm pn img r mount by bc w = mount-agrees (pm .calls) (pn .calls) img by r r .same
+promise-determines-call N m n pm pn img r format by bc w = format-agrees (pm .calls) (pn .calls) img by r r .same

@@ -76,25 +76,25 @@ pub mounted-idle : {N : ℕ} (b : Bool) (l : ℕ) (x : Store) → mountedAt N b 
 mounted-idle true l x = refl
 mounted-idle false l x = refl
 
-pub job-idle : {img : List ℕ} {r : Record} {c : Call} {plan : List Step} {z : Record} → Job img r c plan z → z .phase ≡ Idle
+pub job-idle : {img : List ℕ} {r : Record} {c : Call} {plan : List Step} {z : Record} → Job N img r c plan z → z .phase ≡ Idle
 job-idle {img} {r} (frame-job h msg reply x q f v k g) = framed-idle (needsRoom N img r f) (r .last) (r .block) (r .end) x f
 job-idle {img} (mount-job x v) = mounted-idle (needsTransfer (x .frames) (x .tail)) (length img - 1) x
 job-idle format-job = refl
 
 module _ {N : ℕ} {m : Machine} (p : Calls N m) where
   -- a job is no step's
-  job-image : {img : List ℕ} {r : Record} {c : Call} {plan : List Step} {z : Record} → Job img r c plan z → m img r c .image ≡ img
+  job-image : {img : List ℕ} {r : Record} {c : Call} {plan : List Step} {z : Record} → Job N img r c plan z → m img r c .image ≡ img
   job-image {img} {r} (frame-job h msg reply x q f v k g) = p .one-step img r (request h msg reply)
   job-image {img} {r} (mount-job x v) = p .one-step img r mount
   job-image {img} {r} format-job = p .one-step img r format
 
-  job-tells : {img : List ℕ} {r : Record} {c : Call} {plan : List Step} {z : Record} → Job img r c plan z → Accepted (m img r c .answer)
+  job-tells : {img : List ℕ} {r : Record} {c : Call} {plan : List Step} {z : Record} → Job N img r c plan z → Accepted (m img r c .answer)
       → m img r c .answer ≡ answerOf (m img r c .board)
   job-tells {img} {r} {c} (frame-job h msg reply x q f v k g) a = told-answer (m img r c) (p .told img r c a (λ _. tt)) a
   job-tells {img} {r} {c} (mount-job x v) a = told-answer (m img r c) (p .told img r c a (λ _. tt)) a
   job-tells {img} {r} {c} format-job a = told-answer (m img r c) (p .told img r c a (λ _. tt)) a
 
-  pub job-steps : (img : List ℕ) (r : Record) (c : Call) (plan : List Step) (z : Record) → Bytes img → ByteCall c → Job img r c plan z
+  pub job-steps : (img : List ℕ) (r : Record) (c : Call) (plan : List Step) (z : Record) → Bytes img → ByteCall c → Job N img r c plan z
       → Accepted (m img r c .answer) → StepsOf N m img (m img r c) plan z
   job-steps img r c plan z by bc j a =
       plan-steps m img (m img r c) plan z (job-image j) (job-tells j a) (job-idle j) (p .jobs img r c plan z by bc j a .0)

@@ -7,12 +7,13 @@ use native.Mathlib.Omega.{arith}
 use native.Mathlib.Nat.{mul-le-mul-right}
 use lib.Dec.{eqb, leb}
 use lib.ListN.{length}
-use borrow.Author.Tests.{eqb-true, leb-true}
+use borrow.Author.Tests.{eqb-true, leb-true, le-leb, eq-eqb}
 use Rattle.flash.specs.Bytes.{Bytes}
 use Rattle.flash.specs.Flash.{maxBlocks, sizeIn, isCount, Step, apply, applyAll, block, sizeOf, programAt, Write, writeAll}
-use Rattle.flash.proofs.Cases.{and-left, and-right}
+use Rattle.flash.proofs.Cases.{and-left, and-right, and-both}
 use Rattle.flash.proofs.Image.{in-image, length-apply, bytes-apply, block-program, other-program}
 use Rattle.flash.proofs.Offsets.{Below}
+use Rattle.flash.proofs.Sizes.{size-is}
 use Rattle.board.specs.Record.{allowed}
 use Rattle.board.specs.Plan.{onBlock}
 
@@ -31,8 +32,8 @@ pub record Sized (N : ℕ) (s : ℕ) (img : List ℕ) : Type 0 where
 pub size-of : {N : ℕ} {s : ℕ} {img : List ℕ} → Sized N s img → sizeOf N img ≡ s
 size-of z = z .size
 
--- the tests that an allowed length passes
-pub record Tests (N n : ℕ) : Type 0 where
+-- what an allowed length is
+pub record AllowedAs (N n : ℕ) : Type 0 where
   pub count : isCount N ≡ true
   pub few : 2 ≤ N
   pub most : N ≤ maxBlocks
@@ -41,7 +42,7 @@ pub record Tests (N n : ℕ) : Type 0 where
   pub multiple : sizeIn N n % 128 ≡ 0
   pub low : 256 ≤ sizeIn N n
 
-pub allowed-tests : (N n : ℕ) → allowed N n ≡ true → Tests N n
+pub allowed-tests : (N n : ℕ) → allowed N n ≡ true → AllowedAs N n
 unfolding allowed
 allowed-tests N n t =
     let s : ℕ = sizeIn N n in
@@ -62,13 +63,24 @@ allowed-tests N n t =
       low = leb-true 256 s (and-right (eqb (s % 128) 0) (leb 256 s) te);
     }
 
+pub allowed-from : (N n s : ℕ) → 2 ≤ N → N ≤ maxBlocks → n ≤ 65536 → n ≡ N * s → s % 128 ≡ 0 → 256 ≤ s → allowed N n ≡ true
+unfolding allowed
+allowed-from N n s few most short whole multiple low =
+    let z : ℕ = sizeIn N n in
+    let q : z ≡ s = ap (sizeIn N) whole ∙ size-is N s (omega arith) in
+    let e : Bool = eqb (z % 128) 0 && leb 256 z in
+    and-both (isCount N) (leb n 65536 && (eqb (N * z) n && e)) (and-both (leb 2 N) (leb N maxBlocks) (le-leb 2 N few) (le-leb N maxBlocks most))
+    (and-both (leb n 65536) (eqb (N * z) n && e) (le-leb n 65536 short)
+    (and-both (eqb (N * z) n) e (eq-eqb (N * z) n (ap (λ (k : ℕ). N * k) q ∙ sym whole))
+    (and-both (eqb (z % 128) 0) (leb 256 z) (eq-eqb (z % 128) 0 (ap (λ (k : ℕ). k % 128) q ∙ multiple)) (le-leb 256 z (omega arith)))))
+
 -- at least two blocks of s bytes in an image
 half-most : (N s : ℕ) → 2 ≤ N → N * s ≤ 65536 → s ≤ 32768
 half-most N s h l = omega (arith, mul-le-mul-right {m = 2} {n = N} s h)
 
 pub sized-of : (N : ℕ) (img : List ℕ) → allowed N (length img) ≡ true → Sized N (sizeOf N img) img
 sized-of N img t =
-    let y : Tests N (length img) = allowed-tests N (length img) t in
+    let y : AllowedAs N (length img) = allowed-tests N (length img) t in
     record {
       count = y .count;
       few = y .few;

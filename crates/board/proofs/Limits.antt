@@ -70,7 +70,7 @@ module _ {N : ℕ} (img : List ℕ) (r : Record) (h : Host) (msg reply : List �
       line 8 (NoObject N img r msg) ∷ line 9 (ShortReply msg reply) ∷ line 7 (NoRoom N img r h msg) ∷ line 6 (Worn N img r h msg) ∷ []
 
   same : (w : Held) → Fresh N img r w → w ≡ x
-  same w f = same-held img r (y .bytes) (is-allowed (length img) (y .length-ok)) w x f (y .is-held)
+  same w f = same-held N img r (y .bytes) (is-allowed N (length img) (y .length-ok)) w x f (y .is-held)
 
   past : (a : Answer) → Exactly (requestLines N img r h msg reply) a → Exactly afterMalformed a
   past a (inl (n, _)) = absurd (n (y .length-ok))

@@ -1,15 +1,15 @@
 -- Numbers of blocks: the one that a transfer goes to, and all of them.
-use mathlib.Core.Path.{_≡_, refl, sym, ap, _∙_}
-use mathlib.Core.List.{List, [], _∷_}
+use mathlib.Core.Path.{_≡_, refl, sym, ap, ap₂, _∙_}
+use mathlib.Core.List.{List, [], _∷_, _++_}
 use mathlib.Core.Bool.{Bool, true, false, cond}
-use Prim.Native.Nat.{ℕ, zero, suc, _+_, _≤_, _<_}
+use Prim.Native.Nat.{ℕ, zero, suc, _+_, _-_, _≤_, _<_}
 use native.Mathlib.Omega.{arith}
-use lib.Dec.{ltb}
+use lib.Dec.{eqb, ltb}
 use lib.ListN.{length, getD}
-use borrow.Author.Tests.{ltb-true, ltb-false}
+use borrow.Author.Tests.{eqb-true, eqb-false, ltb-true, ltb-false, ne-eqb}
 use Rattle.flash.specs.Flash.{numbersFrom, blockNumbers}
 use Rattle.flash.proofs.Cases.{on-test}
-use Rattle.board.specs.Mount.{nextBlock}
+use Rattle.board.specs.Mount.{nextBlock, numbersBut}
 
 -- the next in number, or 0 after the last
 pub next-up : (N k : ℕ) → suc k < N → nextBlock N k ≡ suc k
@@ -40,3 +40,26 @@ unfolding numbersFrom
 number-at k zero i h = absurd (omega arith)
 number-at k (suc n) zero h = omega arith
 number-at k (suc n) (suc i) h = number-at (suc k) n i (omega arith) ∙ omega arith
+
+-- ---- all but one
+
+but-past : (k a n : ℕ) → k < a → numbersBut k (numbersFrom a n) ≡ numbersFrom a n
+unfolding numbersFrom
+but-past k a zero h = refl
+but-past k a (suc n) h = rw (ne-eqb k a (λ e. omega arith)) (ap (λ (l : List ℕ). a ∷ l) (but-past k (suc a) n (omega arith)))
+
+-- those below it, and those above
+pub but-is : (k a n : ℕ) → a ≤ k → k < a + n → numbersBut k (numbersFrom a n) ≡ numbersFrom a (k - a) ++ numbersFrom (suc k) (a + n - suc k)
+unfolding numbersFrom
+but-is k a zero l h = absurd (omega arith)
+but-is k a (suc n) l h =
+    let parts : ℕ → ℕ → List ℕ = λ i m. numbersFrom a i ++ numbersFrom (suc k) m in
+    on-test (eqb k a)
+    (λ t. let e : k ≡ a = eqb-true k a t in
+    let low : 0 ≡ k - a = omega arith in
+    let high : n ≡ a + suc n - suc k = omega arith in
+    rw t (but-past k (suc a) n (omega arith) ∙ ap (λ (i : ℕ). numbersFrom (suc i) n) (sym e) ∙ ap₂ parts low high))
+    (λ t. let d : k ≡ a → ⊥ = eqb-false k a t in
+    let low : suc (k - suc a) ≡ k - a = omega (arith, d) in
+    let high : suc a + n - suc k ≡ a + suc n - suc k = omega arith in
+    rw t (ap (λ (l : List ℕ). a ∷ l) (but-is k (suc a) n (omega (arith, d)) (omega arith)) ∙ ap₂ parts low high))

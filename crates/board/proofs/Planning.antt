@@ -270,7 +270,7 @@ module _ {N : ℕ} {s : ℕ} {img : List ℕ} {r : Record} {h : Host} {m : List 
         holding = x;
         asked = y .asked;
         frame = f;
-        is-held = fresh-exact img r x by (z .ok) .0 (y .is-held);
+        is-held = fresh-exact N img r x by (z .ok) .0 (y .is-held);
         is-asked = messages-exact m (y .asked) .0 (y .is-asked);
         is-frame = y .is-frame;
         follows = follows-frame img r x f (holds .long) (holds .alone .there) j (sym (holds .ends)) (omega (arith, fitting .fits, size-of z));
@@ -293,4 +293,4 @@ requests-planned {N} img r h m reply by bm e = go (request-met img r reply h m)
     go : Met N img r reply h m (requestOn N img r reply h m) → Appends N img r h m (requestOn N img r reply h m)
     go (refused n p) = let q : Refused n ≡ More = sym (ap (λ (o : Out). o .answer) p) ∙ e in let z : _≡_ {A = ℕ} 0 1 = cc in absurd (omega arith)
     go (done d i b) = let q : Done ≡ More = sym d ∙ e in let z : _≡_ {A = ℕ} 0 1 = cc in absurd (omega arith)
-    go (begun y p) = subst (Appends N img r h m) (sym p) (frame-appends (sized-of img (y .length-ok)) by bm y reply)
+    go (begun y p) = subst (Appends N img r h m) (sym p) (frame-appends (sized-of N img (y .length-ok)) by bm y reply)

@@ -87,7 +87,7 @@ module _ {N : ℕ} (img : List ℕ) (r : Record) (h : Host) (m reply : List ℕ)
   begun o y d f g u v a =
       record {
         answers = subst (λ (k : Option Frame). Answers k r o) (sym g)
-            (ap (λ (k : Out). k .answer) d ∙ frame-begins (sized-of img (y .length-ok)) by bm y .0);
+            (ap (λ (k : Out). k .answer) d ∙ frame-begins (sized-of N img (y .length-ok)) by bm y .0);
         writes = ap (λ (k : Out). k .reply) d ∙ u;
         hands-back = subst (λ (k : Out). HandsBack N img r x q (k .stretch)) (sym d) v;
       }
@@ -137,7 +137,7 @@ module _ {N : ℕ} (img : List ℕ) (r : Record) (h : Host) (m reply : List ℕ)
       → Stands N img r x i (placeOf N img r x i)
   unfolding FreshExact MessagesExact StretchExact
   stands ok i p v l =
-      let y = stretch-exact img r x clean i v (fresh-exact img r x by ok .0 e .is-valid) (messages-exact m (Read i) .0 p .3) l in
+      let y = stretch-exact img r x clean i v (fresh-exact N img r x by ok .0 e .is-valid) (messages-exact m (Read i) .0 p .3) l in
       record { value = v; at = y .0; from = y .2; is = y .1 }
 
   read-met : allowed N (length img) ≡ true → (i : ObjectId) → parse m ≡ Is (Read i) → (v : Option (List ℕ)) → lookup i (replay (x .frames) .objects) ≡ v
@@ -188,7 +188,7 @@ serves : {N : ℕ} (img : List ℕ) (r : Record) (h : Host) (m reply : List ℕ)
 unfolding FreshExact MessagesExact
 serves {N} img r h m reply x q by bm f k a =
     on-test (allowed N (length img))
-    (λ ok. request-met img r h m reply by bm x (fresh-exact img r x by ok .1 f) q (messages-exact m q .1 k) a)
+    (λ ok. request-met img r h m reply by bm x (fresh-exact N img r x by ok .1 f) q (messages-exact m q .1 k) a)
     (λ no. absurd (subst Accepted (ap (λ (o : Out). o .answer) (request-length N img r reply h m no)) a))
 
 -- ---- jobs
@@ -211,7 +211,7 @@ module _ {N : ℕ} (img : List ℕ) (r : Record) (by : Bytes img) where
       let w : Appends N img r h m o = requests-planned img r h m reply by bm t in
       let c : w .holding ≡ x =
       on-test (allowed N (length img))
-      (λ ok. same-held img r by ok (w .holding) x (w .is-held) v)
+      (λ ok. same-held N img r by ok (w .holding) x (w .is-held) v)
       (λ no. absurd (subst Accepted (ap (λ (y : Out). y .answer) (request-length N img r reply h m no)) a)) in
       let d : w .asked ≡ q = same-request m (w .asked) q (w .is-asked) k in
       let e : w .frame ≡ f = the-frame (sym (w .is-frame) ∙ ap₂ (frameFor h m) c d ∙ g) in
@@ -235,11 +235,11 @@ module _ {N : ℕ} (img : List ℕ) (r : Record) (by : Bytes img) where
       (λ ok. (
         subst (λ (o : Out). Follows N (exec N) img (o .board) (formatPlan N img) (idle (rest N (length img - 1) 0 headerLen))) (sym (format-begins N img ok))
             (follows-format N img ok),
-        omega (arith, length-format N img, sized-of img ok .low),
+        omega (arith, length-format N img, sized-of N img ok .low),
       ))
       (λ no. absurd (subst (λ (o : Out). Accepted (o .answer)) (format-length N img no) a))
 
-  job-does : (c : Call) (plan : List Step) (z : Record) → ByteCall c → Job img r c plan z → Accepted (exec N img r c .answer)
+  job-does : (c : Call) (plan : List Step) (z : Record) → ByteCall c → Job N img r c plan z → Accepted (exec N img r c .answer)
       → Does N img (exec N img r c .board) plan z
   job-does c plan z bc (frame-job h m reply x q f v k g) a = frame-does h m reply x q f bc v k g a
   job-does c plan z bc (mount-job x v) a = mount-does x v a

@@ -1,7 +1,7 @@
 -- The runs that tell the wrong stores from the machine, computed over the definitions.
 use mathlib.Core.Path.{refl}
 use Rattle.flash.specs.Bytes.{allFF, sameBytes}
-use Rattle.flash.specs.Flash.{applyAll, writes}
+use Rattle.flash.specs.Flash.{numbersFrom, sizeIn, applyAll, writes}
 use Rattle.frame.specs.Frame.{encodeAll, total}
 use Rattle.frame.specs.Reader.{match, readFrame, scan}
 use Rattle.journal.specs.Replay.{insert, remove, lookup, changeAll, listOf, without, isOpen, replayFrom}
@@ -9,7 +9,7 @@ use Rattle.journal.specs.Block.{headerFault, blockState}
 use Rattle.journal.specs.Room.{noRoom}
 use Rattle.journal.specs.Index.{sited, placesFrom, sinceFrom, valueAt, nextSettled, nextPending, nextLoad}
 use Rattle.wire.specs.Message.{parse}
-use Rattle.board.specs.Record.{noPlaces, noFrame}
+use Rattle.board.specs.Record.{allowed, noPlaces, noFrame}
 use Rattle.board.specs.Step.{enterAppend, enterDrop, enterCopy, enterOpen, enterWipe, advance, stepBusy, stepOn}
 use Rattle.board.specs.Mount.{mountAt, mountFound, mountOn, formatOrder, formatOn}
 use Rattle.board.specs.Queue.{held, append, serveChange, serveEnd, serveLog, serve, requestOn}
@@ -22,13 +22,13 @@ use Rattle.board.specs.WrongRuns.{half, blankHalf, stored, pending, late
 use Rattle.board.specs.WrongRuns.{halfErased, seemsEmpty, Runs}
 
 pub runs : Runs
-unfolding refusesAll refusesPuts refusesHighIds ownFormatsOnly firstHalfOnly hostFirst refusalClears refusedLogWrites readsAlike
+unfolding numbersFrom sizeIn allowed refusesAll refusesPuts refusesHighIds ownFormatsOnly firstHalfOnly hostFirst refusalClears refusedLogWrites readsAlike
     inventsCount neverCommits abortsNothing takesOthers keepsOld programsNothing wholeFrame inventsStep erasesFirst hurriedMount losesAll
     keepsPending refusesAlike overlooksForeign namesSecond tiesAtStart refusesHalfErased takesHalfErased formatsAtOnce formatsBlindly
     allFF sameBytes applyAll writes encodeAll total match readFrame scan insert
     remove lookup changeAll listOf without isOpen replayFrom headerFault blockState noRoom sited placesFrom sinceFrom valueAt nextSettled
-    nextPending nextLoad parse noPlaces noFrame enterAppend enterDrop (enterCopy N) enterOpen enterWipe (advance N) (stepBusy N) (stepOn N) (mountAt N)
-    mountFound N (mountOn N) (formatOrder N) (formatOn N) (held N) (append N) (serveChange N) (serveEnd N) (serveLog N) (serve N) (requestOn N) half blankHalf stored pending later second begun
+    nextPending nextLoad parse noPlaces noFrame enterAppend enterDrop enterCopy enterOpen enterWipe advance stepBusy stepOn mountAt
+    mountFound mountOn formatOrder formatOn held append serveChange serveEnd serveLog serve requestOn half blankHalf stored pending later second begun
     twice tiedHalves bothStrange strange halfErased seemsEmpty
 runs =
     record {

@@ -66,13 +66,13 @@ module _ {N : ℕ} {s : ℕ} {img : List ℕ} {r : Record} {b : Book} {u : Bool}
       → (r .phase ≡ Idle → h .0 ≤ hostMax → ⊥) → Is-had (refuse n img r reply)
   turned-away n a c f = ((v, a, c), λ e k. absurd (f e k))
 
-  idle-says : (y : IdleBook N s img r b) (q : Request) → parse m ≡ Is q → RequestSays (Is q) reply (serve N img r reply h m (heldOf N (y .ready)) q) b
+  idle-says : (y : IdleBook N s img r b) (q : Request) → parse m ≡ Is q → RequestSays (Is q) reply (serve N img r reply h m (heldOf (y .ready)) q) b
   idle-says y (Put i) e = tt
   idle-says y (Delete i) e = tt
   idle-says y Commit e = tt
   idle-says y Abort e = tt
   idle-says y (Read i) e =
-      subst (λ (os : List Object). ReadSays (serve N img r reply h m (heldOf N (y .ready)) (Read i)) (lookup i os)) (y .objects)
+      subst (λ (os : List Object). ReadSays (serve N img r reply h m (heldOf (y .ready)) (Read i)) (lookup i os)) (y .objects)
       (read-says (v .sized) (y .ready) reply h m i (read-parsed m i e))
   idle-says y (Log Summary) e = log-says (v .sized) (y .ready) reply h m (b .objects) (y .objects)
 
@@ -80,22 +80,22 @@ module _ {N : ℕ} {s : ℕ} {img : List ℕ} {r : Record} {b : Book} {u : Bool}
   on-idle t e y = go (parse m) refl
     where
       x : Held
-      x = heldOf N (y .ready)
+      x = heldOf (y .ready)
 
       k : h .0 ≤ hostMax
       k = leb-true (h .0) hostMax t
 
       go : (p : Parsed) → parse m ≡ p → Is-had (requestOn N img r reply h m)
       go Malformed q =
-          subst Is-had (sym (request-malformed N img r reply h m (v .sized .ok) t (heldOf N (y .ready)) e (held-ready (v .sized) (y .ready)) q)) (
+          subst Is-had (sym (request-malformed N img r reply h m (v .sized .ok) t (heldOf (y .ready)) e (held-ready (v .sized) (y .ready)) q)) (
             (v, λ c. (let w : _≡_ {A = ℕ} 0 1 = cc in omega arith), λ c. (let w : _≡_ {A = ℕ} 0 1 = cc in omega arith)),
             λ i j. subst (λ (p : Parsed). RequestSays p reply (refuse refusal.Malformed img r reply) b) (sym q) refl,
           )
       go (Is a) q =
-          let o : Out = serve N img r reply h m (heldOf N (y .ready)) a in
+          let o : Out = serve N img r reply h m (heldOf (y .ready)) a in
           let w : Served N s b u h m a o = served u (v .sized) (v .bytes) y reply h (leb-true (h .0) hostMax t) m a
           (legal h m a (leb-true (h .0) hostMax t) by q) in
-          subst Is-had (sym (request-served N img r reply h m (v .sized .ok) t (heldOf N (y .ready)) a e (held-ready (v .sized) (y .ready)) q)) (
+          subst Is-had (sym (request-served N img r reply h m (v .sized .ok) t (heldOf (y .ready)) a e (held-ready (v .sized) (y .ready)) q)) (
             (subst (λ (c : Book). Inv N s (o .image) (o .board) c u) (entered-is b h m a (o .answer) q) (w .0), w .1, w .2),
             λ i j. subst (λ (p : Parsed). RequestSays p reply o b) (sym q) (idle-says y a q),
           )

@@ -120,7 +120,7 @@ pub format-exact : FormatExact
 format-exact =
     record {
       one-valid = λ img j k t fs c e by al v o.
-          let ok : allowed N (length img) ≡ true = is-allowed (length img) al in
+          let ok : allowed N (length img) ≡ true = is-allowed N (length img) al in
           let n : nextBlock N k ≡ j = other-half k j (omega arith) in
           format-steps img j k
           (order-last N img k t fs c (v .0) (at-valid img by ok v)
@@ -128,12 +128,12 @@ format-exact =
           (beside-of (blockState (block (sizeOf N img) j img)) (λ u gs d q. o u gs d (valid-at img by ok (omega arith) q))))
           ∙ ap (λ (i : ℕ). i ∷ k ∷ []) n);
       none-valid = λ img by al o.
-          let ok : allowed N (length img) ≡ true = is-allowed (length img) al in
+          let ok : allowed N (length img) ≡ true = is-allowed N (length img) al in
           format-steps img 0 1
           (order-unread N img (unread-of (blockState (block (sizeOf N img) 0 img)) (λ t fs c q. o 0 t fs c (valid-at img by ok (omega arith) q)))
           (unread-of (blockState (block (sizeOf N img) 1 img)) (λ t fs c q. o 1 t fs c (valid-at img by ok (omega arith) q))));
       equal-times = λ img t fs gs c d by al v w.
-          let ok : allowed N (length img) ≡ true = is-allowed (length img) al in
+          let ok : allowed N (length img) ≡ true = is-allowed N (length img) al in
           format-steps img 0 1 (order-tie N img t fs gs c d (at-valid img by ok v) (at-valid img by ok w));
     }
 

@@ -100,7 +100,7 @@ found y = record { room = y .ready .room; spare = y .spare; objects = y .objects
 module _ {N : ℕ} {s : ℕ} {img : List ℕ} {r : Record} {b : Book} (u : Bool) (z : Sized N s img) (by : Bytes img) (y : IdleBook N s img r b) (reply : List ℕ) (h : Host)
     (k : h .0 ≤ hostMax) (m : List ℕ) where
   abbrev x : Held
-  x = heldOf N (y .ready)
+  x = heldOf (y .ready)
 
   abbrev st : State
   st = replay (y .ready .frames)

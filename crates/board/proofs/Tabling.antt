@@ -4,13 +4,13 @@ use mathlib.Core.List.{List, [], _∷_}
 use mathlib.Core.Logic.{_⊎_, inl, inr}
 use mathlib.Core.Option.{Option, none, some}
 use mathlib.Core.Bool.{Bool, true, false, _&&_, not}
-use Prim.Native.Nat.{ℕ, suc, _+_, _%_, _<_}
+use Prim.Native.Nat.{ℕ, suc, _+_, _≤_, _<_}
 use native.Mathlib.Omega.{arith}
 use lib.Dec.{eqb, ltb, leb}
 use lib.ListN.{length}
-use borrow.Author.Tests.{eqb-true, eqb-false, eq-eqb, leb-true, le-leb, ltb-true, ltb-false, lt-ltb}
+use borrow.Author.Tests.{eqb-true, eqb-false, eq-eqb, leb-true, leb-false, ltb-true, ltb-false, lt-ltb}
 use Rattle.flash.specs.Bytes.{Bytes}
-use Rattle.flash.specs.Flash.{Step, sizeOf, blockOf, offsetOf, within}
+use Rattle.flash.specs.Flash.{maxBlocks, sizeIn, isCount, Step, sizeOf, blockOf, offsetOf, within}
 use Rattle.flash.proofs.Cases.{on-test, clash, and-both, and-left, and-right}
 use Rattle.frame.specs.declared.Host.{Host}
 use Rattle.frame.specs.Frame.{Frame, frameLen, hostMax}
@@ -32,7 +32,7 @@ use Rattle.board.specs.declared.Phase.{Phase}
 use Rattle.board.specs.declared.Phase.the-variants.{Unmounted, Idle, Busy}
 use Rattle.board.specs.declared.Record.{Record}
 use Rattle.board.specs.Record.{allowed}
-use Rattle.board.specs.Step.{action}
+use Rattle.board.specs.Step.{sameShape, action}
 use Rattle.board.specs.Queue.{Held, held, needsRoom}
 use Rattle.board.specs.Exec.{request, step, format, exec}
 use Rattle.board.specs.Table.{isBusy, isNone, frameFor, Line, line, Exactly, Allowed, InJob, Fresh, FreshExact, NoObject}
@@ -42,6 +42,7 @@ use Rattle.wire.specs.Sentences.{Means, MessagesExact, MalformedExact}
 use Rattle.board.proofs.Checks.{Check, check, firstOf, isUnmounted, isMalformed, noObject, shortReply, roomRule, worn, laterChecks}
 use Rattle.board.proofs.Checks.{heldChecks, requestChecks, outside, refusalIn}
 use Rattle.wire.proofs.Sentences.{messages-exact, malformed-exact}
+use Rattle.board.proofs.Images.{AllowedAs, allowed-tests, allowed-from}
 use Rattle.board.proofs.Freshness.{fresh-exact}
 use Rattle.board.proofs.Refusals.{refused-by-table}
 
@@ -92,20 +93,24 @@ false-true e = let w : _≡_ {A = ℕ} 0 1 = cc in absurd (omega arith)
 
 -- ---- 4, 10, 5, 2
 
-pub allowed-is : {N : ℕ} (n : ℕ) → allowed N n ≡ true → Allowed N n
-allowed-is n t =
-    let ab : (leb 512 n && leb n 65536) ≡ true = and-left (leb 512 n && leb n 65536) (eqb (n % 256) 0) t in (
-      leb-true 512 n (and-left (leb 512 n) (leb n 65536) ab),
-      leb-true n 65536 (and-right (leb 512 n) (leb n 65536) ab),
-      eqb-true (n % 256) 0 (and-right (leb 512 n && leb n 65536) (eqb (n % 256) 0) t),
-    )
+pub allowed-is : (N n : ℕ) → allowed N n ≡ true → Allowed N n
+allowed-is N n t =
+    let y : AllowedAs N n = allowed-tests N n t in
+    record {
+      at-least = y .few;
+      at-most = y .most;
+      long = y .short;
+      size = sizeIn N n;
+      whole = sym (y .all);
+      multiple = y .multiple;
+      low = y .low;
+    }
 
-pub is-allowed : {N : ℕ} (n : ℕ) → Allowed N n → allowed N n ≡ true
-is-allowed n (a, b, c) =
-    and-both (leb 512 n && leb n 65536) (eqb (n % 256) 0) (and-both (leb 512 n) (leb n 65536) (le-leb 512 n a) (le-leb n 65536 b)) (eq-eqb (n % 256) 0 c)
+pub is-allowed : (N n : ℕ) → Allowed N n → allowed N n ≡ true
+is-allowed N n y = allowed-from N n (y .size) (y .at-least) (y .at-most) (y .long) (y .whole) (y .multiple) (y .low)
 
-pub allowed-not : {N : ℕ} (n : ℕ) → ((Allowed N n → ⊥) → ⊥) → allowed N n ≡ true
-allowed-not {N} n f = on-test (allowed N n) (λ t. t) (λ t. absurd (f (λ y. clash (allowed N n) (is-allowed n y) t)))
+pub allowed-not : (N n : ℕ) → ((Allowed N n → ⊥) → ⊥) → allowed N n ≡ true
+allowed-not N n f = on-test (allowed N n) (λ t. t) (λ t. absurd (f (λ y. clash (allowed N n) (is-allowed N n y) t)))
 
 not-yes : (b : Bool) → not b ≡ true → b ≡ true → ⊥
 not-yes true e f = false-true e
@@ -119,9 +124,9 @@ pub not-not : (b : Bool) → not b ≡ false → b ≡ true
 not-not true e = refl
 not-not false e = false-true (sym e)
 
-length-test : {N : ℕ} (n : ℕ) → Tests (not (allowed N n)) (Allowed N n → ⊥)
-length-test {N} n =
-    record { yes = λ t y. not-yes (allowed N n) t (is-allowed n y); no = λ f. not-no (allowed N n) (λ t. f (allowed-is n t)) }
+length-test : (N n : ℕ) → Tests (not (allowed N n)) (Allowed N n → ⊥)
+length-test N n =
+    record { yes = λ t y. not-yes (allowed N n) t (is-allowed N n y); no = λ f. not-no (allowed N n) (λ t. f (allowed-is N n t)) }
 
 host-test : (h : Host) → Tests (ltb hostMax (h .0)) (3 < h .0)
 host-test h = record { yes = ltb-true hostMax (h .0); no = lt-ltb hostMax (h .0) }
@@ -152,15 +157,15 @@ pub same-request : (msg : List ℕ) (q s : Request) → Means msg q → Means ms
 unfolding MessagesExact
 same-request msg q s a b = is-request (sym (messages-exact msg q .1 a) ∙ messages-exact msg s .1 b)
 
-module _ {N : ℕ} (img : List ℕ) (r : Record) (by : Bytes img) (ok : allowed N (length img) ≡ true) where
+module _ (N : ℕ) (img : List ℕ) (r : Record) (by : Bytes img) (ok : allowed N (length img) ≡ true) where
   pub same-held : (x y : Held) → Fresh N img r x → Fresh N img r y → x ≡ y
   unfolding FreshExact
-  same-held x y a b = some-held (sym (fresh-exact img r x by ok .1 a) ∙ fresh-exact img r y by ok .1 b)
+  same-held x y a b = some-held (sym (fresh-exact N img r x by ok .1 a) ∙ fresh-exact N img r y by ok .1 b)
 
   stale-test : (o : Option Held) → held N img r ≡ o → Tests (isNone o) ((x : Held) → Fresh N img r x → ⊥)
   unfolding FreshExact
-  stale-test none e = record { yes = λ t x y. none-some (sym e ∙ fresh-exact img r x by ok .1 y); no = λ f. refl }
-  stale-test (some x) e = record { yes = λ t. false-true t; no = λ f. absurd (f x (fresh-exact img r x by ok .0 e)) }
+  stale-test none e = record { yes = λ t x y. none-some (sym e ∙ fresh-exact N img r x by ok .1 y); no = λ f. refl }
+  stale-test (some x) e = record { yes = λ t. false-true t; no = λ f. absurd (f x (fresh-exact N img r x by ok .0 e)) }
 
   module _ (h : Host) (msg reply : List ℕ) where
     malformed-test : (p : Parsed) → parse msg ≡ p → Tests (isMalformed p) ((q : Request) → Means msg q → ⊥)
@@ -273,16 +278,16 @@ module _ {N : ℕ} (img : List ℕ) (r : Record) (by : Bytes img) (ok : allowed 
         (line 11 ((x : Held) → Fresh N img r x → ⊥) ∷ lastLines)
     unfolding FreshExact
     stale-rows none e = row refusal.Stale (stale-test none e) (λ t. false-true (sym t))
-    stale-rows (some x) e = row refusal.Stale (stale-test (some x) e) (λ _. parsed-rows x (fresh-exact img r x by ok .0 e) (parse msg) refl)
+    stale-rows (some x) e = row refusal.Stale (stale-test (some x) e) (λ _. parsed-rows x (fresh-exact N img r x by ok .0 e) (parse msg) refl)
 
 request-rows : {N : ℕ} (img : List ℕ) (r : Record) (h : Host) (msg reply : List ℕ) → Bytes img
     → Rows (requestChecks N img r h msg reply) (requestLines N img r h msg reply)
 request-rows {N} img r h msg reply by =
-    row refusal.ImageLength (length-test (length img)) (λ n.
+    row refusal.ImageLength (length-test N (length img)) (λ n.
     row refusal.HostRange (host-test h) (λ _.
     row refusal.Busy (busy-test (r .phase)) (λ _.
     row refusal.NoStore (unmounted-test (r .phase)) (λ _.
-    stale-rows img r by (not-not (allowed N (length img)) n) h msg reply (held N img r) refl))))
+    stale-rows N img r by (not-not (allowed N (length img)) n) h msg reply (held N img r) refl))))
 
 -- ---- steps and formats
 
@@ -296,42 +301,75 @@ step-test {N} img r (Busy s) e = record { yes = λ t. record { stage = s; is-bus
     x : Step
     x = action s r
 
+    shape : Bool
+    shape = sameShape N (length img) r
+
     long : Bool
     long = eqb (length img) (suc (r .last))
 
-    fits : Bool
-    fits = long && within N (sizeOf N img) x
+    same : Bool
+    same = eqb N (r .blocks)
 
-    misfit : not fits ≡ true → (length img ≡ suc (r .last) → ⊥) ⊎ Outside N img x
+    there : Bool
+    there = ltb (blockOf x) N
+
+    inside : Bool
+    inside = ltb (offsetOf x) (sizeOf N img)
+
+    fits : Bool
+    fits = shape && within N (sizeOf N img) x
+
+    Misfit : Stage → Type 0
+    Misfit g = (length img ≡ suc (r .last) → ⊥) ⊎ ((N ≡ r .blocks → ⊥) ⊎ Outside N img (action g r))
+
+    no-count : isCount N ≡ false → Outside N img x
+    no-count c =
+        on-test (leb 2 N)
+        (λ a. on-test (leb N maxBlocks) (λ b. clash (isCount N) (and-both (leb 2 N) (leb N maxBlocks) a b) c)
+        (λ b. inr (inl (leb-false N maxBlocks b))))
+        (λ a. inl (leb-false 2 N a))
+
+    misfit : not fits ≡ true → Misfit s
     misfit t =
         on-test long
-        (λ a. on-test (ltb (blockOf x) N)
-        (λ b. on-test (ltb (offsetOf x) (sizeOf N img))
-        (λ c. absurd (not-yes fits t (and-both long (within N (sizeOf N img) x) a (and-both (ltb (blockOf x) N) (ltb (offsetOf x) (sizeOf N img)) b c))))
-        (λ c. inr (inr (ltb-false (offsetOf x) (sizeOf N img) c))))
-        (λ b. inr (inl (ltb-false (blockOf x) N b))))
+        (λ a.
+        on-test same
+        (λ b.
+        on-test (isCount N)
+        (λ c.
+        on-test there
+        (λ d.
+        on-test inside
+        (λ e.
+        absurd (not-yes fits t (and-both shape (within N (sizeOf N img) x) (and-both long same a b)
+        (and-both (isCount N) (there && inside) c (and-both there inside d e)))))
+        (λ e. inr (inr (inr (inr (inr (ltb-false (offsetOf x) (sizeOf N img) e)))))))
+        (λ d. inr (inr (inr (inr (inl (ltb-false (blockOf x) N d)))))))
+        (λ c. inr (inr (no-count c))))
+        (λ b. inr (inl (eqb-false N (r .blocks) b))))
         (λ a. inl (eqb-false (length img) (suc (r .last)) a))
 
     same-stage : {a b : Stage} → Busy a ≡ Busy b → a ≡ b
     same-stage q = cc
 
-    at-stage : Misplaced N img r → (length img ≡ suc (r .last) → ⊥) ⊎ Outside N img x
-    at-stage y = subst (λ (g : Stage). (length img ≡ suc (r .last) → ⊥) ⊎ Outside N img (action g r)) (same-stage (sym (y .is-busy) ∙ e)) (y .misfits)
+    at-stage : Misplaced N img r → Misfit s
+    at-stage y = subst Misfit (same-stage (sym (y .is-busy) ∙ e)) (y .misfits)
 
-    hit : (length img ≡ suc (r .last) → ⊥) ⊎ Outside N img x → fits ≡ true → ⊥
-    hit (inl f) t = f (eqb-true (length img) (suc (r .last)) (and-left long (within N (sizeOf N img) x) t))
-    hit (inr (inl l)) t =
-        omega (
-          arith,
-          ltb-true (blockOf x) N
-              (and-left (ltb (blockOf x) N) (ltb (offsetOf x) (sizeOf N img)) (and-right long (within N (sizeOf N img) x) t)),
-        )
-    hit (inr (inr l)) t =
-        omega (
-          arith,
-          ltb-true (offsetOf x) (sizeOf N img)
-              (and-right (ltb (blockOf x) N) (ltb (offsetOf x) (sizeOf N img)) (and-right long (within N (sizeOf N img) x) t)),
-        )
+    hit : Misfit s → fits ≡ true → ⊥
+    hit (inl f) t = f (eqb-true (length img) (suc (r .last)) (and-left long same (and-left shape (within N (sizeOf N img) x) t)))
+    hit (inr (inl f)) t = f (eqb-true N (r .blocks) (and-right long same (and-left shape (within N (sizeOf N img) x) t)))
+    hit (inr (inr o)) t =
+        let w : within N (sizeOf N img) x ≡ true = and-right shape (within N (sizeOf N img) x) t in
+        let c : isCount N ≡ true = and-left (isCount N) (there && inside) w in
+        let d : (there && inside) ≡ true = and-right (isCount N) (there && inside) w in
+        out-hit o (leb-true 2 N (and-left (leb 2 N) (leb N maxBlocks) c)) (leb-true N maxBlocks (and-right (leb 2 N) (leb N maxBlocks) c))
+        (ltb-true (blockOf x) N (and-left there inside d)) (ltb-true (offsetOf x) (sizeOf N img) (and-right there inside d))
+      where
+        out-hit : Outside N img x → 2 ≤ N → N ≤ 16 → blockOf x < N → offsetOf x < sizeOf N img → ⊥
+        out-hit (inl l) a b c d = omega arith
+        out-hit (inr (inl l)) a b c d = omega arith
+        out-hit (inr (inr (inl l))) a b c d = omega arith
+        out-hit (inr (inr (inr l))) a b c d = omega arith
 
 pub request-lines : {N : ℕ} (img : List ℕ) (r : Record) (h : Host) (msg reply : List ℕ) → Bytes img
     → Exactly (requestLines N img r h msg reply) (exec N img r (request h msg reply) .answer)
@@ -343,4 +381,4 @@ step-lines {N} img r = exactly (row refusal.Stale (step-test img r (r .phase) re
 
 pub format-lines : {N : ℕ} (img : List ℕ) (r : Record) → Exactly (linesOf N img r format) (exec N img r format .answer)
 format-lines {N} img r =
-    exactly (row refusal.ImageLength (length-test (length img)) (λ _. end)) (exec N img r format .answer) (refused-by-table N img r format)
+    exactly (row refusal.ImageLength (length-test N (length img)) (λ _. end)) (exec N img r format .answer) (refused-by-table N img r format)

@@ -82,7 +82,7 @@ module _ {N : ℕ} (img : List ℕ) (by : Bytes img) (ok : allowed N (length img
   s = sizeOf N img
 
   z : Sized N s img
-  z = sized-of img ok
+  z = sized-of N img ok
 
   long : (k : ℕ) → k < N → headerLen ≤ length (block s k img)
   long k h = omega (arith, block-long k z h, z .low)
@@ -189,7 +189,7 @@ pub record Mountable (N : ℕ) (img : List ℕ) : Type 0 where
 pub accepted-takes : {N : ℕ} (img : List ℕ) → Bytes img → Accepted (mountOn N img .answer) → Mountable N img
 accepted-takes {N} img by a =
     on-test (allowed N (length img))
-    (λ ok. let y : deciding.Begins (sizeOf N img) img = mount-accepted (sized-of img ok) by a in
+    (λ ok. let y : deciding.Begins (sizeOf N img) img = mount-accepted (sized-of N img ok) by a in
     record { store = y .store; current = current-of img by ok (y .store) (y .taken) })
     (λ no. absurd (subst (λ (o : Out). Accepted (o .answer)) (mount-length N img no) a))
 
@@ -226,8 +226,8 @@ same-store {N} img by ok x y a b = on-test (eqb (x .number) (y .number)) (λ t. 
 pub mount-lines : {N : ℕ} (img : List ℕ) → Bytes img → Exactly (mountLines N img) (mountOn N img .answer)
 mount-lines {N} img by =
     on-test (allowed N (length img))
-    (λ ok. inr ((λ n. n (allowed-is (length img) ok)), decided-lines img by ok (mount-decides (sized-of img ok))))
-    (λ no. inl ((λ y. clash (allowed N (length img)) (is-allowed (length img) y) no), ap (λ (o : Out). numberOf (o .answer)) (mount-length N img no)))
+    (λ ok. inr ((λ n. n (allowed-is N (length img) ok)), decided-lines img by ok (mount-decides (sized-of N img ok))))
+    (λ no. inl ((λ y. clash (allowed N (length img)) (is-allowed N (length img) y) no), ap (λ (o : Out). numberOf (o .answer)) (mount-length N img no)))
 
 -- ---- what 3 names
 
@@ -239,7 +239,7 @@ fault-at {N} img by ok k e h p =
 pub mount-names : {N : ℕ} (img : List ℕ) → Bytes img → (k : ℕ) (e : Fault) → mountOn N img .answer ≡ Refused (refusal.Foreign k e) → Names N img k e
 mount-names {N} img by k e q =
     on-test (allowed N (length img))
-    (λ ok. go ok (mount-decides (sized-of img ok)))
+    (λ ok. go ok (mount-decides (sized-of N img ok)))
     (λ no. let r : Refused refusal.ImageLength ≡ Refused (refusal.Foreign k e) = sym (ap (λ (o : Out). o .answer) (mount-length N img no)) ∙ q in
     let w : _≡_ {A = ℕ} 0 1 = cc in absurd (omega arith))
   where
@@ -263,7 +263,7 @@ mount-names {N} img by k e q =
         (names-equal (tied-with 1 t gs fs d c (λ n. omega arith) (valid-at img by ok (omega arith) u) (valid-at img by ok (omega arith) p)) refl
         (λ j l y. absurd (omega arith)))
     go ok (none-valid n r) = let t = told r in let w : _≡_ {A = ℕ} 0 1 = cc in absurd (omega arith)
-    go ok (at-store x y) = out (mount-outcome x (sized-of img ok) y (taken-holds x (sized-of img ok) by y))
+    go ok (at-store x y) = out (mount-outcome x (sized-of N img ok) y (taken-holds x (sized-of N img ok) by y))
       where
         out : Outcome N img x → Names N img k e
         out (worn-out w r) = let t = told r in let w : _≡_ {A = ℕ} 0 1 = cc in absurd (omega arith)
@@ -299,7 +299,7 @@ mount-told img by = (mount-lines img by, mount-names img by)
 same-named : {N : ℕ} (img : List ℕ) → Bytes img → (a b : Answer) → MountTold N img a → MountTold N img b → SameNamed a b
 same-named img by a b (inl (p, x), n) (y, m) k j e f s t =
     let w : _≡_ {A = Option ℕ} (some 3) (some 4) = sym (ap numberOf s) ∙ x in let z : _≡_ {A = ℕ} 3 4 = cc in absurd (omega arith)
-same-named img by a b (inr (p, x), n) (y, m) k j e f s t = names-one img by (allowed-not (length img) p) k j e f (n k e s) (m j f t)
+same-named img by a b (inr (p, x), n) (y, m) k j e f s t = names-one img by (allowed-not N (length img) p) k j e f (n k e s) (m j f t)
 
 pub same-mounts : {N : ℕ} (img : List ℕ) → Bytes img → (a b : Answer) → MountTold N img a → MountTold N img b → Both a b
 same-mounts {N} img by a b x y = same-lines (mountLines N img) a b (same-named img by a b x y) (x .0) (y .0)

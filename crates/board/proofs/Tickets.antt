@@ -204,7 +204,7 @@ book-steps {N} {m} p i bi w h msg reply bm e b k = go (frameFor h msg x q) refl 
     go (some f) g a =
         let plan : List Step = framePlan N (needsRoom N i w f) (w .block) (w .end) x f in
         let z : Record = framedAt N (needsRoom N i w f) (w .last) (w .block) (w .end) x f in
-        let job : Job i w (request h msg reply) plan z = frame-job h msg reply x q f (y .is-held) (y .is-asked) g in
+        let job : Job N i w (request h msg reply) plan z = frame-job h msg reply x q f (y .is-held) (y .is-asked) g in
         plan-book (p .calls) i o plan z (p .steps i w (request h msg reply) plan z bi bm job taken) (job-idle job) e b h k
 
 -- ---- 2
@@ -225,7 +225,7 @@ module _ {N : ℕ} {m : Machine} (p : Promise N m) (i : List ℕ) (bi : Bytes i)
   abbrev after : List ℕ
   after = applyAll (sizeOf N i) plan i
 
-  job : (v : Record) → Job i v mount plan z
+  job : (v : Record) → Job N i v mount plan z
   job v = mount-job (store .store) (store .current)
 
   steps : (v : Record) → Accepted (m i v mount .answer) → StepsOf N m i (m i v mount) plan z

@@ -31,7 +31,7 @@ use Rattle.board.specs.declared.Record.{Record}
 use Rattle.board.specs.Record.{allowed, Out}
 use Rattle.board.specs.Mount.{needsTransfer}
 use Rattle.board.specs.Exec.{Call, request, step, mount, format, Machine}
-use Rattle.board.specs.Plan.{Follows, programs}
+use Rattle.board.specs.Plan.{Follows}
 use Rattle.board.specs.Table.{InJob}
 use Rattle.board.specs.Book.{Book, UnderWay, nothing, committing, formatting, firstBook, enterCall}
 
@@ -47,15 +47,13 @@ pub record IdleAgrees (N : ℕ) (img : List ℕ) (r : Record) (b : Book) : Type 
   -- when nothing is pending there is room for a delete and its commit
   pub room : replay frames .pending ≡ [] → used (replay frames) + (deleteLen + endLen) ≤ sizeOf N img
 
--- a job whose steps are all made ends idle, after at most S of them but for erases, of which there are at most N. K14: "Demand 1's bound leaves
--- a mount's erases aside."
+-- a job whose steps are all made ends idle, after at most S of them and, for a mount, N erases (K14: "Demand 1's bound leaves a mount's erases aside")
 pub record Finishes (N : ℕ) (m : Machine) (img : List ℕ) (r : Record) : Type 0 where
   pub plan : List Step
   pub last : Record
   pub follows : Follows N m img r plan last
   pub rests : last .phase ≡ Idle
-  pub short : length (programs plan) ≤ sizeOf N img
-  pub erases : length plan ≤ length (programs plan) + N
+  pub short : length plan ≤ sizeOf N img + N
 
 -- "after each call in it that gives back an idle record"; beyond the letter, a job under way can be finished
 abbrev pub AgreesIn : ℕ → Machine → Phase → List ℕ → Record → Book → Type 0
