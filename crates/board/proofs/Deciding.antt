@@ -33,7 +33,7 @@ use Rattle.board.proofs.Images.{Sized, size-of}
 use Rattle.board.proofs.Invariant.{Quiet, Others, Lessers, Safe, no-valid, some-valid}
 use Rattle.board.proofs.Found.{Among, Rising, newest-among, Pair, newest-strict, unequal-untied, LowestPair, lowest-pair, foundFrom, found-all, store}
 use Rattle.board.proofs.Found.{Holds, among-holds, holds-among, stores-rise, stores-none, Strangest, no-foreign, first-foreign, strangest}
-use Rattle.board.proofs.Order.{Unread, unread-of, beside-of}
+use Rattle.board.proofs.Order.{beside-of}
 use Rattle.board.proofs.Outcomes.{mount-none, mount-equal, mount-at, mount-worn, mount-begins}
 use Rattle.board.proofs.Current.{Keeps, block-long, blank-quiet}
 use Rattle.board.proofs.Erasing.{NoStore, SameValid, same-valid}
@@ -62,18 +62,19 @@ pub record SameTimes (N : ℕ) (s : ℕ) (img : List ℕ) (j k : ℕ) : Type 0 w
 
 pub data Decided (N : ℕ) (s : ℕ) (img : List ℕ) : Type 0 where
   foreign-block : (j : ℕ) → j < N → (e : Fault) → blockState (block s j img) ≡ foreign e
-      → ((k : ℕ) → k < N → Unread (blockState (block s k img))) → ((k : ℕ) → k < j → Quiet (blockState (block s k img)))
+      → ((k t : ℕ) (fs : List Frame) (c : Tail) → k < N → blockState (block s k img) ≡ valid t fs c → ⊥)
+      → ((k : ℕ) → k < j → Quiet (blockState (block s k img)))
       → mountOn N img ≡ refuse (refusal.Foreign j e) img unmounted [] → Decided N s img
   equal-times : (j k : ℕ) → SameTimes N s img j k → ((i m : ℕ) → i < j → SameTimes N s img i m → ⊥)
       → mountOn N img ≡ refuse (tiedTimes j) img unmounted [] → Decided N s img
   none-valid : NoStore N s img → mountOn N img ≡ refuse refusal.NoStore img unmounted [] → Decided N s img
   at-store : (x : Store) → Taken N s img x → Decided N s img
 
-quiet-of : (a : BlockState) → Unread a → isForeign a ≡ false → Quiet a
-quiet-of blank u e = tt
-quiet-of inProgress u e = tt
-quiet-of (valid t fs c) u e = u
-quiet-of (foreign w) u e = absurd (false≢true (sym e))
+quiet-of : (a : BlockState) → ((t : ℕ) (fs : List Frame) (c : Tail) → a ≡ valid t fs c → ⊥) → isForeign a ≡ false → Quiet a
+quiet-of blank f e = tt
+quiet-of inProgress f e = tt
+quiet-of (valid t fs c) f e = f t fs c refl
+quiet-of (foreign w) f e = absurd (false≢true (sym e))
 
 module _ {N : ℕ} {s : ℕ} {img : List ℕ} (z : Sized N s img) where
   abbrev State : ℕ → BlockState
@@ -86,16 +87,19 @@ module _ {N : ℕ} {s : ℕ} {img : List ℕ} (z : Sized N s img) where
   no-store : stores (allFound N img) ≡ [] → Decided N s img
   no-store e = go (strangest State 0 N)
     where
-      unread : (k : ℕ) → k < N → Unread (State k)
-      unread k h = unread-of (State k) (λ t fs c v. stores-none State 0 N (sym (ap stores all-is) ∙ e) k t fs c (omega arith) (omega arith) v)
+      none : (k t : ℕ) (fs : List Frame) (c : Tail) → k < N → State k ≡ valid t fs c → ⊥
+      none k t fs c h v = stores-none State 0 N (sym (ap stores all-is) ∙ e) k t fs c (omega arith) (omega arith) v
+
+      quiet : (k : ℕ) → k < N → isForeign (State k) ≡ false → Quiet (State k)
+      quiet k h f = quiet-of (State k) (λ t fs c v. none k t fs c h v) f
 
       refuses : {w : Refusal} → noneValid (foundFrom State 0 N) ≡ w → mountOn N img ≡ refuse w img unmounted []
       refuses q = mount-none N img (z .ok) e ∙ ap (λ (w : Refusal). refuse w img unmounted []) (ap noneValid all-is ∙ q)
 
       go : Strangest State 0 N → Decided N s img
-      go (no-foreign f q) = none-valid (λ j h. quiet-of (State j) (unread j h) (f j (omega arith) (omega arith))) (refuses q)
+      go (no-foreign f q) = none-valid (λ j h. quiet j h (f j (omega arith) (omega arith))) (refuses q)
       go (first-foreign j w l h v f q) =
-          foreign-block j (omega arith) w v unread (λ k b. quiet-of (State k) (unread k (omega arith)) (f k (omega arith) b)) (refuses q)
+          foreign-block j (omega arith) w v none (λ k b. quiet k (omega arith) (f k (omega arith) b)) (refuses q)
 
   -- some are
   module _ (y : Store) (ys : List Store) (e : stores (allFound N img) ≡ y ∷ ys) where
@@ -323,7 +327,7 @@ mount-safe {N} {s} {img} {os} {u} z (some-valid k h v q) = go (mount-decides z)
         ))
 
     go : Decided N s img → MountSafe N s img os u
-    go (foreign-block j l f p o b r) = absurd (subst Unread here (o k h))
+    go (foreign-block j l f p o b r) = absurd (o k (v .time) (v .frames) (v .tail) h here)
     go (equal-times i j p o r) = absurd (twice i j p)
     go (none-valid n r) = absurd (subst Quiet here (n k h))
     go (at-store x y) = on-test (eqb (x .number) k) (λ e. at x y (eqb-true (x .number) k e)) (λ e. other x y (eqb-false (x .number) k e))
