@@ -156,7 +156,7 @@ same-o w n = same-asked w (same-a-long w) 0 (putMessage 9 n) .same
 
 -- row p: on longer images too
 abbrev FormatsAnswered : Wrongly → Type 0
-FormatsAnswered w = (img : List ℕ) (r : Record) (o : Out) → w img r format o .answer ≡ o .answer
+FormatsAnswered w = (img : List ℕ) (r : Record) (o : Out) → w 2 img r format o .answer ≡ o .answer
 
 same-format : (w : Wrongly) → FormatsAnswered w → (n : ℕ) → formatAnswer (offBench w 2) n ≡ formatAnswer (exec 2) n
 unfolding formatAnswer
@@ -164,8 +164,8 @@ same-format w f n =
     let img : List ℕ = replicate n 0x5A in
     let o : Out = exec 2 img unmounted format in
     on-test (onBench (length img))
-    (λ e. ap (λ (b : Bool). cond b o (w img unmounted format o) .answer) e)
-    (λ e. ap (λ (b : Bool). cond b o (w img unmounted format o) .answer) e ∙ f img unmounted o)
+    (λ e. ap (λ (b : Bool). cond b o (w 2 img unmounted format o) .answer) e)
+    (λ e. ap (λ (b : Bool). cond b o (w 2 img unmounted format o) .answer) e ∙ f img unmounted o)
 
 rows-kept : (w : Wrongly) → FormatsAnswered w → Rows (offBench w 2)
 rows-kept w f =
@@ -232,6 +232,7 @@ pub right-in-rows : RightInRows
 unfolding refusesAll refusesPuts refusesHighIds ownFormatsOnly firstHalfOnly hostFirst refusalClears refusedLogWrites readsAlike
     inventsCount neverCommits abortsNothing takesOthers keepsOld programsNothing wholeFrame inventsStep erasesFirst outsideIsDone
     forgedWaits hurriedMount losesAll keepsPending refusesAlike overlooksForeign namesSecond tiesAtStart refusesHalfErased takesHalfErased
+    goesBack erasesOne ignoresCount evenOnly
 right-in-rows =
     record {
       refuses-all = rows-kept refusesAll (λ img r o. refl);
@@ -265,4 +266,8 @@ right-in-rows =
       takes-half-erased = rows-kept takesHalfErased (λ img r o. refl);
       formats-at-once = rows-kept formatsAtOnce formats-at-once;
       formats-blindly = rows-kept formatsBlindly formats-blindly;
+      goes-back = rows-kept goesBack (λ img r o. refl);
+      erases-one = rows-kept erasesOne (λ img r o. refl);
+      ignores-count = rows-kept ignoresCount (λ img r o. refl);
+      even-only = rows-kept evenOnly (λ img r o. refl);
     }

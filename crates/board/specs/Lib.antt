@@ -14,6 +14,7 @@ pub mod CutFormat
 pub mod Promise
 pub mod Wear
 pub mod Counts
+pub mod Two
 pub mod Tickets
 pub mod Drive
 pub mod Wrong
