@@ -31,21 +31,14 @@ use Rattle.board.specs.CutFormat.{Beside}
 use Rattle.board.specs.Demand2.{Accepted}
 use Rattle.board.proofs.Images.{Sized, size-of}
 use Rattle.board.proofs.Invariant.{Quiet, Others, Lessers, Safe, no-valid, some-valid}
-use Rattle.board.proofs.Found.{Among, Rising, newest-among, Pair, newest-strict, unequal-untied, LowestPair, lowest-pair, foundFrom, found-all, store}
-use Rattle.board.proofs.Found.{Holds, among-holds, holds-among, stores-rise, stores-none, Strangest, no-foreign, first-foreign, strangest}
+use Rattle.board.proofs.Found.{Among, Rising, same-number, newest-among, Pair, untied-one, newest-strict, unequal-untied, LowestPair, lowest-pair, foundFrom}
+use Rattle.board.proofs.Found.{found-all, store, Holds, among-holds, holds-among, stores-rise, stores-none, Strangest, no-foreign, first-foreign, strangest}
 use Rattle.board.proofs.Order.{beside-of}
 use Rattle.board.proofs.Outcomes.{mount-none, mount-equal, mount-at, mount-worn, mount-begins}
 use Rattle.board.proofs.Current.{Keeps, block-long, blank-quiet}
 use Rattle.board.proofs.Erasing.{NoStore, SameValid, same-valid}
 
 -- ---- the decision
-
--- the store that a mount takes
-pub record Taken (N : ℕ) (s : ℕ) (img : List ℕ) (x : Store) : Type 0 where
-  pub there : x .number < N
-  pub is-valid : blockState (block s (x .number) img) ≡ valid (x .time) (x .frames) (x .tail)
-  pub others : Others N (λ j. Beside (x .time) (blockState (block s j img))) (x .number)
-  pub decides : mountOn N img ≡ mountAt N img (allFound N img) x
 
 -- two valid blocks of one time
 pub record SameTimes (N : ℕ) (s : ℕ) (img : List ℕ) (j k : ℕ) : Type 0 where
@@ -59,6 +52,14 @@ pub record SameTimes (N : ℕ) (s : ℕ) (img : List ℕ) (j k : ℕ) : Type 0 w
   pub apart : j ≡ k → ⊥
   pub is-valid : blockState (block s j img) ≡ valid time frames tail
   pub is-valid′ : blockState (block s k img) ≡ valid time frames′ tail′
+
+-- the store that a mount takes
+pub record Taken (N : ℕ) (s : ℕ) (img : List ℕ) (x : Store) : Type 0 where
+  pub there : x .number < N
+  pub is-valid : blockState (block s (x .number) img) ≡ valid (x .time) (x .frames) (x .tail)
+  pub others : Others N (λ j. Beside (x .time) (blockState (block s j img))) (x .number)
+  pub untied : (j k : ℕ) → SameTimes N s img j k → ⊥
+  pub decides : mountOn N img ≡ mountAt N img (allFound N img) x
 
 pub data Decided (N : ℕ) (s : ℕ) (img : List ℕ) : Type 0 where
   foreign-block : (j : ℕ) → j < N → (e : Fault) → blockState (block s j img) ≡ foreign e
@@ -149,6 +150,10 @@ module _ {N : ℕ} {s : ℕ} {img : List ℕ} (z : Sized N s img) where
           is-valid = h .is-valid;
           others = λ j l n. beside-of (State j)
               (λ t fs c v. newest-strict y ys (unequal-untied (x .time) (y ∷ ys) q) (store j t fs c) (among j t fs c l v) n);
+          untied = λ j k p.
+              p .apart (same-number (untied-one (p .time) (y ∷ ys) (unequal-untied (p .time) (y ∷ ys) q) (store j (p .time) (p .frames) (p .tail))
+              (store k (p .time) (p .frames′) (p .tail′)) (among j (p .time) (p .frames) (p .tail) (p .there) (p .is-valid))
+              (among k (p .time) (p .frames′) (p .tail′) (p .there′) (p .is-valid′)) refl refl));
           decides = mount-at N img (z .ok) y ys e q;
         }
 
