@@ -32,6 +32,7 @@ pub record AsRecorded (N : ℕ) (s : ℕ) (img : List ℕ) (r : Record) (x : Hel
   pub alone : Alone N s img (r .block) (x .time) (x .frames) clean
   pub ends : endOf (x .frames) ≡ r .end
   pub long : length img ≡ suc (r .last)
+  pub blocks : r .blocks ≡ N
 
 pub ready-holds : {N : ℕ} {s : ℕ} {img : List ℕ} {r : Record} {x : Held} → Sized N s img → (y : Ready N s img r) → y .time ≡ x .time → y .frames ≡ x .frames
     → AsRecorded N s img r x
@@ -40,6 +41,7 @@ ready-holds {N} {s} {img} {r} {x} z y t e =
       alone = subst₃ (λ (k n : ℕ) (fs : List Frame). Alone N s img k n fs clean) (sym (ap (λ (q : Record). q .block) (y .is))) t e (ready-alone z y);
       ends = sym (ap (λ (q : Record). q .end) (y .is) ∙ y .ends ∙ ap endOf e);
       long = y .long ∙ ap suc (sym (ap (λ (q : Record). q .last) (y .is)));
+      blocks = ap (λ (q : Record). q .blocks) (y .is);
     }
 
 -- a frame that a request may append

@@ -2,7 +2,7 @@
 use mathlib.Core.Path.{_≡_, refl, sym, ap, subst, _∙_}
 use mathlib.Core.List.{List, [], _∷_, _++_}
 use mathlib.Core.Bool.{Bool, true, _&&_}
-use Prim.Native.Nat.{ℕ, _+_, _*_, _%_, _≤_, _<_}
+use Prim.Native.Nat.{ℕ, suc, _+_, _-_, _*_, _%_, _≤_, _<_}
 use native.Mathlib.Omega.{arith}
 use native.Mathlib.Nat.{mul-le-mul-right}
 use lib.Dec.{eqb, leb}
@@ -109,6 +109,10 @@ sized-as {N} {s} after e z =
 
 pub sized-block : {N : ℕ} {s : ℕ} {img : List ℕ} (k : ℕ) → Sized N s img → k < N → k * s + s ≤ length img
 sized-block {N} {s} {img} k z h = in-image s N k img (z .all) h
+
+-- some bytes
+pub sized-last : {N : ℕ} {s : ℕ} {img : List ℕ} → Sized N s img → length img ≡ suc (length img - 1)
+sized-last z = omega (arith, sized-block 0 z (omega (arith, z .few)), z .low)
 
 -- ---- lists of steps
 

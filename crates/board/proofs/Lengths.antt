@@ -2,10 +2,10 @@
 use mathlib.Core.Path.{_≡_, refl, ap, _∙_}
 use mathlib.Core.List.{List, [], _∷_, _++_, map}
 use mathlib.Core.Bool.{Bool, true, false}
-use Prim.Native.Nat.{ℕ, suc, _+_}
+use Prim.Native.Nat.{ℕ, zero, suc, _+_, _≤_}
 use native.Mathlib.Omega.{arith}
-use lib.ListN.{length, length-append, length-map}
-use Rattle.flash.specs.Flash.{Step, erase, Write, writeStep, writes}
+use lib.ListN.{length, drop, length-append, length-map}
+use Rattle.flash.specs.Flash.{Step, program, erase, Write, writeStep, writes}
 use Rattle.flash.proofs.Programming.{length-writes}
 use Rattle.frame.specs.Frame.{Frame, encode, encodeAll, frameLen}
 use Rattle.frame.proofs.Encode.{length-encode}
@@ -16,8 +16,8 @@ use Rattle.journal.proofs.Room.{frames-total, claimed-settled}
 use Rattle.journal.proofs.Building.{length-build}
 use Rattle.board.specs.Mount.{nextBlock, Found, Store, wipeList, needsTransfer, formatOrder}
 use Rattle.board.specs.Queue.{Held}
-use Rattle.board.specs.Plan.{onBlock, transferPlan, formatPlan, appendPlan, transferIf, mountPlan, framePlan}
-use Rattle.board.proofs.Order.{Both, rising, falling, order-both}
+use Rattle.board.specs.Plan.{onBlock, transferPlan, formatPlan, appendPlan, programs, transferIf, mountPlan, framePlan}
+use Rattle.board.proofs.Order.{length-order}
 
 -- "C - 5 steps"
 pub length-transfer : (N : ℕ) (k time : ℕ) (st : State) → length (transferPlan N k time st) + 5 ≡ claimed st
@@ -30,13 +30,14 @@ length-transfer N k time st =
 pub length-plan-append : (k end : ℕ) (f : Frame) → length (appendPlan k end f) ≡ frameLen f
 length-plan-append k end f = length-map (writes end (encode f)) (writeStep k) ∙ length-writes end (encode f) ∙ length-encode f
 
-pub length-format : (N : ℕ) (img : List ℕ) → length (formatPlan N img) ≡ 12
+-- wipes, and what follows them
+wipes-then : (ks : List ℕ) (xs : List Step) → length (map erase ks ++ xs) ≡ length ks + length xs
+wipes-then ks xs = length-append (map erase ks) xs ∙ ap (λ (n : ℕ). n + length xs) (length-map ks erase)
+
+-- a step for each block and ten for block 0's header
+pub length-format : (N : ℕ) (img : List ℕ) → length (formatPlan N img) ≡ N + 10
 unfolding writes encodeAll
-length-format N img = go (order-both N img)
-  where
-    go : Both (formatOrder N img) → length (formatPlan N img) ≡ 12
-    go (rising e) = ap (λ (l : List ℕ). length (map erase l ++ onBlock 0 (build 1 []))) e
-    go (falling e) = ap (λ (l : List ℕ). length (map erase l ++ onBlock 0 (build 1 []))) e
+length-format N img = wipes-then (formatOrder N img) (onBlock 0 (build 1 [])) ∙ ap (λ (n : ℕ). n + 10) (length-order N img)
 
 -- there is a first step
 pub format-some : (N : ℕ) (img : List ℕ) → (x : Step) × (xs : List Step) × (formatPlan N img ≡ x ∷ xs)
@@ -56,9 +57,6 @@ pub length-frame-stayed : (N : ℕ) (k end : ℕ) (x : Held) (f : Frame) → len
 length-frame-stayed N k end x f = length-plan-append k end f
 
 -- a mount's wipes, with a transfer of the settled objects or without
-wipes-then : (ks : List ℕ) (xs : List Step) → length (map erase ks ++ xs) ≡ length ks + length xs
-wipes-then ks xs = length-append (map erase ks) xs ∙ ap (λ (n : ℕ). n + length xs) (length-map ks erase)
-
 pub length-mount-moved : (N : ℕ) (xs : List Found) (x : Store) → needsTransfer (x .frames) (x .tail) ≡ true
     → length (mountPlan N xs x) + 5 ≡ length (wipeList (x .number) xs) + used (replay (x .frames))
 length-mount-moved N xs x t =
@@ -73,3 +71,43 @@ pub length-mount-stayed : (N : ℕ) (xs : List Found) (x : Store) → needsTrans
 length-mount-stayed N xs x t =
     let ks : List ℕ = wipeList (x .number) xs in
     ap (λ (b : Bool). length (map erase ks ++ transferIf N b (x .number) (x .time) (settledOnly (replay (x .frames))))) t ∙ wipes-then ks [] ∙ omega arith
+
+-- ---- without the erases
+
+pub programs-wipes : (ks : List ℕ) (xs : List Step) → programs (map erase ks ++ xs) ≡ programs xs
+unfolding programs
+programs-wipes [] xs = refl
+programs-wipes (k ∷ ks) xs = programs-wipes ks xs
+
+pub programs-writes : (k : ℕ) (ws : List Write) (xs : List Step) → programs (onBlock k ws ++ xs) ≡ onBlock k ws ++ programs xs
+unfolding programs
+programs-writes k [] xs = refl
+programs-writes k (w ∷ ws) xs = ap (λ (ys : List Step). writeStep k w ∷ ys) (programs-writes k ws xs)
+
+-- a transfer has one erase
+pub programs-transfer : (N : ℕ) (k time : ℕ) (st : State) → length (transferPlan N k time st) ≡ suc (length (programs (transferPlan N k time st)))
+unfolding programs
+programs-transfer N k time st =
+    let ws : List Step = onBlock (nextBlock N k) (build (suc time) (framesOf st)) in
+    omega (arith, length-append ws (erase k ∷ []), ap (λ (xs : List Step). length xs) (programs-writes (nextBlock N k) (build (suc time) (framesOf st)) (erase k ∷ [])), length-append ws [])
+
+-- no more of them are in a part of a plan
+pub programs-less : (xs : List Step) → length (programs xs) ≤ length xs
+unfolding programs
+programs-less [] = omega arith
+programs-less (program k o v ∷ xs) = omega (arith, programs-less xs)
+programs-less (erase k ∷ xs) = omega (arith, programs-less xs)
+
+pub programs-drop : (n : ℕ) (xs : List Step) → length (programs (drop n xs)) ≤ length (programs xs)
+unfolding programs
+programs-drop zero xs = omega arith
+programs-drop (suc n) [] = omega arith
+programs-drop (suc n) (program k o v ∷ xs) = omega (arith, programs-drop n xs)
+programs-drop (suc n) (erase k ∷ xs) = programs-drop n xs
+
+pub erases-drop : (n : ℕ) (xs : List Step) → length (drop n xs) + length (programs xs) ≤ length xs + length (programs (drop n xs))
+unfolding programs
+erases-drop zero xs = omega arith
+erases-drop (suc n) [] = omega arith
+erases-drop (suc n) (program k o v ∷ xs) = omega (arith, erases-drop n xs)
+erases-drop (suc n) (erase k ∷ xs) = omega (arith, erases-drop n xs)

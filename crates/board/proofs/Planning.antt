@@ -237,7 +237,7 @@ module _ {N : ℕ} {s : ℕ} {img : List ℕ} {r : Record} {h : Host} {m : List 
   holds =
       let v : (w : Ready N s img (idle (rest N (r .last) (r .block) (r .end)))) × (w .time ≡ x .time) × (w .frames ≡ x .frames) = held-inv r z by (y .is-held) in
       let w : AsRecorded N s img (idle (rest N (r .last) (r .block) (r .end))) x = ready-holds z (v .0) (v .1) (v .2) in
-      record { alone = w .alone; ends = w .ends; long = w .long }
+      record { alone = w .alone; ends = w .ends; long = w .long; blocks = sym (fresh-exact N img r x by (z .ok) .0 (y .is-held) .blocks-are) }
 
   roomy : Roomy s (replay (x .frames))
   roomy =
@@ -273,7 +273,8 @@ module _ {N : ℕ} {s : ℕ} {img : List ℕ} {r : Record} {h : Host} {m : List 
         is-held = fresh-exact N img r x by (z .ok) .0 (y .is-held);
         is-asked = messages-exact m (y .asked) .0 (y .is-asked);
         is-frame = y .is-frame;
-        follows = follows-frame img r x f (holds .long) (holds .alone .there) j (sym (holds .ends)) (omega (arith, fitting .fits, size-of z));
+        follows = follows-frame img r x f (z .count) (holds .long) (holds .blocks) (holds .alone .there) j (sym (holds .ends))
+            (omega (arith, fitting .fits, size-of z));
         short = frame-short N (needsRoom N img r f) (sizeOf N img) (r .block) (r .end) x f (omega (arith, fitting .fits, size-of z));
       }
 

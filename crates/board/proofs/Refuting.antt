@@ -17,11 +17,12 @@ use Rattle.board.specs.declared.Record.{Record}
 use Rattle.board.specs.Record.{unmounted, cursor, inStage}
 use Rattle.board.specs.Step.{enterWipe, stepBusy, stepOn}
 use Rattle.board.specs.Mount.{formatOrder, formatOn}
+use Rattle.board.specs.Table.{Exactly, linesOf}
 use Rattle.board.specs.Demand1.{Declared, EndsWithin}
 use Rattle.board.specs.Exec.{Call, request, step, mount, format, Machine, exec}
 use Rattle.board.specs.Claim.{call}
-use Rattle.board.specs.Promise.{Promise, Shown, trace, ByteEvents, PromiseDetermines}
-use Rattle.board.specs.Wrong.{Wrongly, onBench, offBench, outsideIsDone, forgedWaits, RightOnBench, Refuted}
+use Rattle.board.specs.Promise.{Promise, Kept, Shown, trace, ByteEvents, PromiseDetermines}
+use Rattle.board.specs.Wrong.{Wrongly, onBench, offBench, outsideIsDone, forgedWaits, ignoresCount, RightOnBench, Refuted}
 use Rattle.board.specs.WrongRuns.{nothing, lastFrom, allBytes, bytesIn, begins, Differs}
 use Rattle.board.proofs.Determining.{promise-determines}
 use Rattle.board.proofs.FollowingPlans.{promise}
@@ -46,27 +47,27 @@ unfolding PromiseDetermines
 same-trace m p img b [] e c = refl
 same-trace m p img b (request h msg reply ∷ cs) e c = clash false e refl
 same-trace m p img b (step ∷ cs) e c = clash false e refl
-same-trace {N} m p img b (mount ∷ cs) e c = promise-determines m (exec N) p promise img unmounted unmounted mount (map call cs) b tt (c .1)
-same-trace {N} m p img b (format ∷ cs) e c = promise-determines m (exec N) p promise img unmounted unmounted format (map call cs) b tt (c .1)
+same-trace {N} m p img b (mount ∷ cs) e c = promise-determines N m (exec N) p (promise N) img unmounted unmounted mount (map call cs) b tt (c .1)
+same-trace {N} m p img b (format ∷ cs) e c = promise-determines N m (exec N) p (promise N) img unmounted unmounted format (map call cs) b tt (c .1)
 
 -- so one that shows something else doesn't keep it
 differs : {N : ℕ} {w : Wrongly} {img : List ℕ} {cs : List Call} {see : Shown → ℕ} {a b : ℕ}
-    → Differs w img cs see a b → Promise N (offBench w) → ⊥
+    → Differs N w img cs see a b → Kept (offBench w) → ⊥
 differs {N} {w} {img} {cs} {see} {a} {b} t p =
     let bytes : Bytes img = bytes-all img (and-left (allBytes img) (begins cs && bytesIn cs) (t .is-run)) in
     let calls : (begins cs && bytesIn cs) ≡ true = and-right (allBytes img) (begins cs && bytesIn cs) (t .is-run) in
-    let same : trace N (offBench w) img unmounted (map call cs) ≡ trace N (exec N) img unmounted (map call cs) =
-    same-trace (offBench w) p img bytes cs (and-left (begins cs) (bytesIn cs) calls)
+    let same : trace N (offBench w N) img unmounted (map call cs) ≡ trace N (exec N) img unmounted (map call cs) =
+    same-trace (offBench w N) (p N) img bytes cs (and-left (begins cs) (bytesIn cs) calls)
     (bytes-in cs (and-right (begins cs) (bytesIn cs) calls)) in
     eqb-false a b (t .apart) (sym (t .shows-wrong) ∙ ap (λ (xs : List Shown). see (lastFrom nothing xs)) same ∙ t .shows-right)
 
-pub same-on-bench : {N : ℕ} (w : Wrongly) (img : List ℕ) (r : Record) (c : Call) → onBench (length img) ≡ true → offBench w img r c ≡ exec N img r c
-same-on-bench {N} w img r c e = ap (λ (b : Bool). cond b (exec N img r c) (w img r c (exec N img r c))) e
+pub same-on-bench : (w : Wrongly) (N : ℕ) (img : List ℕ) (r : Record) (c : Call) → onBench (length img) ≡ true → offBench w N img r c ≡ exec N img r c
+same-on-bench w N img r c e = ap (λ (b : Bool). cond b (exec N img r c) (w N img r c (exec N img r c))) e
 
 pub right-on-bench : RightOnBench
 unfolding RightOnBench
-right-on-bench w img r c (inl short) = same-on-bench w img r c (rw (le-leb (length img) 512 short))
-right-on-bench w img r c (inr e) = same-on-bench w img r c (ap onBench e)
+right-on-bench w N img r c (inl short) = same-on-bench w N img r c (rw (le-leb (length img) 512 short))
+right-on-bench w N img r c (inr e) = same-on-bench w N img r c (ap onBench e)
 
 -- ---- records that no run gives back: by the clause itself
 
@@ -74,8 +75,8 @@ right-on-bench w img r c (inr e) = same-on-bench w img r c (ap onBench e)
 abbrev long : List ℕ
 long = replicate 768 0xFF
 
-unfoldable formatting : ℕ → Record
-formatting = exec N long unmounted format .board
+unfoldable formatting : Record
+formatting = exec 2 long unmounted format .board
 
 not-idle : Busy Wipe ≡ Idle → ⊥
 not-idle e = let w : _≡_ {A = ℕ} 0 1 = cc in omega arith
@@ -84,27 +85,36 @@ not-unmounted : Busy Wipe ≡ Unmounted → ⊥
 not-unmounted e = let w : _≡_ {A = ℕ} 0 1 = cc in omega arith
 
 -- with an image of another length
-outside-is-done : {N : ℕ} → Promise N (offBench outsideIsDone) → ⊥
-unfolding outsideIsDone stepBusy stepOn allFF blockState formatOrder formatOn enterWipe formatting
-outside-is-done {N} p = not-idle (p .calls .told (replicate 1280 0xFF) (formatting N) step tt (λ e. absurd (not-unmounted e)) .done .0 refl)
+outside-is-done : Kept (offBench outsideIsDone) → ⊥
+unfolding outsideIsDone stepBusy stepOn allFF blockState numbersFrom sizeIn allowed formatOrder formatOn enterWipe formatting
+outside-is-done p = not-idle (p 2 .calls .told (replicate 1280 0xFF) formatting step tt (λ e. absurd (not-unmounted e)) .done .0 refl)
+
+-- given another number of blocks
+ignores-count : Kept (offBench ignoresCount) → ⊥
+unfolding ignoresCount stepBusy stepOn allFF blockState numbersFrom sizeIn allowed formatOrder formatOn enterWipe formatting
+ignores-count p = go (p 3 .calls .table long formatting step (bytes-replicate 768))
+  where
+    go : Exactly (linesOf 3 long formatting step) (offBench ignoresCount 3 long formatting step .answer) → ⊥
+    go (inl (y, e)) = let w : _≡_ {A = ℕ} 0 1 = cc in omega arith
+    go (inr (n, y)) = n (record { stage = Wipe; is-busy = refl; misfits = inr (inl (λ e. omega arith)) })
 
 -- at a step that its job doesn't have
-unfoldable stuck : ℕ → Record
-stuck = inStage Wipe (cursor 100 0 0 0 0 0) (formatting N)
+unfoldable stuck : Record
+stuck = inStage Wipe (cursor 100 0 0 0 0 0) formatting
 
-never-ends : {N : ℕ} (n : ℕ) → EndsWithin (offBench forgedWaits) n long (stuck N) → ⊥
+never-ends : (n : ℕ) → EndsWithin (offBench forgedWaits 2) n long stuck → ⊥
 unfolding EndsWithin forgedWaits stuck
 never-ends zero e = e
 never-ends (suc n) (inl e) = e
 never-ends (suc n) (inr (inl e)) = let w : _≡_ {A = ℕ} 0 1 = cc in omega arith
 never-ends (suc n) (inr (inr e)) = never-ends n e
 
-stuck-declared : {N : ℕ} → Declared (stuck N)
-unfolding stuck formatting allFF blockState formatOrder formatOn enterWipe
+stuck-declared : Declared stuck
+unfolding stuck formatting allFF blockState numbersFrom sizeIn allowed formatOrder formatOn enterWipe
 stuck-declared = record { last = omega arith; wipes = omega arith; append = omega arith; copy = omega arith }
 
-forged-waits : {N : ℕ} → Promise N (offBench forgedWaits) → ⊥
-forged-waits {N} p = never-ends 65536 (p .calls .ends long (stuck N) stuck-declared)
+forged-waits : Kept (offBench forgedWaits) → ⊥
+forged-waits p = never-ends 65536 (p 2 .calls .ends long stuck stuck-declared)
 
 pub refuted : Refuted
 refuted =
@@ -140,4 +150,8 @@ refuted =
       takes-half-erased = differs (runs .takes-half-erased);
       formats-at-once = differs (runs .formats-at-once);
       formats-blindly = differs (runs .formats-blindly);
+      goes-back = differs (runs .goes-back);
+      erases-one = differs (runs .erases-one);
+      ignores-count = ignores-count;
+      even-only = differs (runs .even-only);
     }

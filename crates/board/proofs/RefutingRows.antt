@@ -23,24 +23,24 @@ use Rattle.board.specs.Wrong.{refusesAll, refusesPuts, refusesHighIds, o
 use Rattle.board.specs.Wrong.{refusedLogWrites, readsAlike, inventsCount, neverCommits, abortsNothing, takesOthers, keepsOld}
 use Rattle.board.specs.Wrong.{programsNothing, wholeFrame, inventsStep, erasesFirst, outsideIsDone, forgedWaits, hurriedMount}
 use Rattle.board.specs.Wrong.{losesAll, keepsPending, refusesAlike, overlooksForeign, namesSecond, tiesAtStart, refusesHalfErased}
-use Rattle.board.specs.Wrong.{takesHalfErased, formatsAtOnce, formatsBlindly}
+use Rattle.board.specs.Wrong.{takesHalfErased, formatsAtOnce, formatsBlindly, goesBack, erasesOne, ignoresCount, evenOnly}
 use Rattle.board.specs.WrongRows.{RightInRows}
 use Rattle.board.proofs.Refusals.{at-most-one-step}
 use Rattle.board.proofs.Bench.{rows}
 use Rattle.board.proofs.Refuting.{same-on-bench}
 
-one-step-length : {N : ℕ} (img after : List ℕ) → OneStep N img after → length after ≡ length img
+one-step-length : (img after : List ℕ) → OneStep 2 img after → length after ≡ length img
 one-step-length img after (inl e) = ap length e
-one-step-length {N} img after (inr (x, e)) = ap length e ∙ length-apply (sizeOf N img) x img
+one-step-length img after (inr (x, e)) = ap length e ∙ length-apply (sizeOf 2 img) x img
 
-exec-length : {N : ℕ} (img : List ℕ) (r : Record) (c : Call) → length (exec N img r c .image) ≡ length img
-exec-length {N} img r (request h m reply) = ap length (at-most-one-step N img r (request h m reply))
-exec-length {N} img r step = one-step-length img (exec N img r step .image) (at-most-one-step N img r step)
-exec-length {N} img r mount = ap length (at-most-one-step N img r mount)
-exec-length {N} img r format = ap length (at-most-one-step N img r format)
+exec-length : (img : List ℕ) (r : Record) (c : Call) → length (exec 2 img r c .image) ≡ length img
+exec-length img r (request h m reply) = ap length (at-most-one-step 2 img r (request h m reply))
+exec-length img r step = one-step-length img (exec 2 img r step .image) (at-most-one-step 2 img r step)
+exec-length img r mount = ap length (at-most-one-step 2 img r mount)
+exec-length img r format = ap length (at-most-one-step 2 img r format)
 
 -- a call, and then steps, on an image of the bench
-bench-next : {N : ℕ} (img : List ℕ) (r : Record) (c : Call) → onBench (length img) ≡ true → onBench (length (exec N img r c .image)) ≡ true
+bench-next : (img : List ℕ) (r : Record) (c : Call) → onBench (length img) ≡ true → onBench (length (exec 2 img r c .image)) ≡ true
 bench-next img r c e = ap onBench (exec-length img r c) ∙ e
 
 record Same (x y : Ran) : Type 0 where
@@ -53,104 +53,104 @@ same-case c o x y z e Done = record { same = refl; long = e }
 same-case c o x y z e More = z
 same-case c o x y z e (Refused r) = record { same = refl; long = e }
 
-same-drive : {N : ℕ} (w : Wrongly) (n c : ℕ) (o : Out) → onBench (length (o .image)) ≡ true → Same (drive (offBench w) n c o) (drive (exec N) n c o)
+same-drive : (w : Wrongly) (n c : ℕ) (o : Out) → onBench (length (o .image)) ≡ true → Same (drive (offBench w 2) n c o) (drive (exec 2) n c o)
 unfolding drive
 same-drive w zero c o e = record { same = refl; long = e }
-same-drive {N} w (suc n) c o e =
-    let next : Out = exec N (o .image) (o .board) step in
-    let later : Same (drive (offBench w) n (suc c) next) (drive (exec N) n (suc c) next) =
+same-drive w (suc n) c o e =
+    let next : Out = exec 2 (o .image) (o .board) step in
+    let later : Same (drive (offBench w 2) n (suc c) next) (drive (exec 2) n (suc c) next) =
     same-drive w n (suc c) next (bench-next (o .image) (o .board) step e) in
-    let first : offBench w (o .image) (o .board) step ≡ next = same-on-bench w (o .image) (o .board) step e in
-    same-case c o (drive (offBench w) n (suc c) (offBench w (o .image) (o .board) step)) (drive (exec N) n (suc c) next)
-    (record { same = ap (drive (offBench w) n (suc c)) first ∙ later .same; long = later .long }) e (o .answer)
+    let first : offBench w 2 (o .image) (o .board) step ≡ next = same-on-bench w 2 (o .image) (o .board) step e in
+    same-case c o (drive (offBench w 2) n (suc c) (offBench w 2 (o .image) (o .board) step)) (drive (exec 2) n (suc c) next)
+    (record { same = ap (drive (offBench w 2) n (suc c)) first ∙ later .same; long = later .long }) e (o .answer)
 
-same-begun : {N : ℕ} (w : Wrongly) (n : ℕ) (i j : List ℕ) (r q : Record) (c : Call) → i ≡ j → r ≡ q → onBench (length j) ≡ true
-    → Same (drive (offBench w) n 0 (offBench w i r c)) (drive (exec N) n 0 (exec N j q c))
-same-begun {N} w n i j r q c d f e =
-    let z : Same (drive (offBench w) n 0 (exec N j q c)) (drive (exec N) n 0 (exec N j q c)) =
-    same-drive w n 0 (exec N j q c) (bench-next j q c e) in
+same-begun : (w : Wrongly) (n : ℕ) (i j : List ℕ) (r q : Record) (c : Call) → i ≡ j → r ≡ q → onBench (length j) ≡ true
+    → Same (drive (offBench w 2) n 0 (offBench w 2 i r c)) (drive (exec 2) n 0 (exec 2 j q c))
+same-begun w n i j r q c d f e =
+    let z : Same (drive (offBench w 2) n 0 (exec 2 j q c)) (drive (exec 2) n 0 (exec 2 j q c)) =
+    same-drive w n 0 (exec 2 j q c) (bench-next j q c e) in
     record {
-      same = ap₂ (λ (x : List ℕ) (y : Record). drive (offBench w) n 0 (offBench w x y c)) d f
-          ∙ ap (drive (offBench w) n 0) (same-on-bench w j q c e) ∙ z .same;
+      same = ap₂ (λ (x : List ℕ) (y : Record). drive (offBench w 2) n 0 (offBench w 2 x y c)) d f
+          ∙ ap (drive (offBench w 2) n 0) (same-on-bench w 2 j q c e) ∙ z .same;
       long = z .long;
     }
 
 -- ---- the rows' givens
 
-same-ask : {N : ℕ} {x y : Ran} (w : Wrongly) → Same x y → (h : ℕ) (m : List ℕ) → ask (offBench w) x h m ≡ ask (exec N) y h m
+same-ask : {x y : Ran} (w : Wrongly) → Same x y → (h : ℕ) (m : List ℕ) → ask (offBench w 2) x h m ≡ ask (exec 2) y h m
 unfolding ask
-same-ask {N} {x} {y} w z h m =
-    ap (λ (q : Ran). offBench w (q .image) (q .board) (request (hostOf h) m (replicate 16 0xEE))) (z .same)
-    ∙ same-on-bench w (y .image) (y .board) (request (hostOf h) m (replicate 16 0xEE)) (z .long)
+same-ask {x} {y} w z h m =
+    ap (λ (q : Ran). offBench w 2 (q .image) (q .board) (request (hostOf h) m (replicate 16 0xEE))) (z .same)
+    ∙ same-on-bench w 2 (y .image) (y .board) (request (hostOf h) m (replicate 16 0xEE)) (z .long)
 
-same-asked : {N : ℕ} {x y : Ran} (w : Wrongly) → Same x y → (h : ℕ) (m : List ℕ) → Same (asked (offBench w) x h m) (asked (exec N) y h m)
+same-asked : {x y : Ran} (w : Wrongly) → Same x y → (h : ℕ) (m : List ℕ) → Same (asked (offBench w 2) x h m) (asked (exec 2) y h m)
 unfolding asked ask
-same-asked {N} {x} {y} w z h m =
+same-asked {x} {y} w z h m =
     same-begun w 300 (x .image) (y .image) (x .board) (y .board) (request (hostOf h) m (replicate 16 0xEE))
     (ap (λ (q : Ran). q .image) (z .same)) (ap (λ (q : Ran). q .board) (z .same)) (z .long)
 
-same-mounted : {N : ℕ} (w : Wrongly) (i j : List ℕ) → i ≡ j → onBench (length j) ≡ true → Same (mounted (offBench w) i) (mounted (exec N) j)
+same-mounted : (w : Wrongly) (i j : List ℕ) → i ≡ j → onBench (length j) ≡ true → Same (mounted (offBench w 2) i) (mounted (exec 2) j)
 unfolding mounted
 same-mounted w i j d e = same-begun w 300 i j unmounted unmounted mount d refl e
 
-same-cut : {N : ℕ} {x y : Ran} (w : Wrongly) → Same x y → (h : ℕ) (m : List ℕ) (n : ℕ)
-    → Same (mounted (offBench w) (cutIn (offBench w) x h m n)) (mounted (exec N) (cutIn (exec N) y h m n))
+same-cut : {x y : Ran} (w : Wrongly) → Same x y → (h : ℕ) (m : List ℕ) (n : ℕ)
+    → Same (mounted (offBench w 2) (cutIn (offBench w 2) x h m n)) (mounted (exec 2) (cutIn (exec 2) y h m n))
 unfolding cutIn ask
-same-cut {N} {x} {y} w z h m n =
+same-cut {x} {y} w z h m n =
     let c : Call = request (hostOf h) m (replicate 16 0xEE) in
-    let t : Same (drive (offBench w) n 0 (offBench w (x .image) (x .board) c)) (drive (exec N) n 0 (exec N (y .image) (y .board) c)) =
+    let t : Same (drive (offBench w 2) n 0 (offBench w 2 (x .image) (x .board) c)) (drive (exec 2) n 0 (exec 2 (y .image) (y .board) c)) =
     same-begun w n (x .image) (y .image) (x .board) (y .board) c (ap (λ (q : Ran). q .image) (z .same))
     (ap (λ (q : Ran). q .board) (z .same)) (z .long) in
-    same-mounted w (cutIn (offBench w) x h m n) (cutIn (exec N) y h m n) (ap (λ (q : Ran). q .image) (t .same)) (t .long)
+    same-mounted w (cutIn (offBench w 2) x h m n) (cutIn (exec 2) y h m n) (ap (λ (q : Ran). q .image) (t .same)) (t .long)
 
-same-a : {N : ℕ} (w : Wrongly) → Same (rowA (offBench w)) (rowA (exec N))
+same-a : (w : Wrongly) → Same (rowA (offBench w 2)) (rowA (exec 2))
 unfolding rowA returned
 same-a w = same-begun w 100 returned returned unmounted unmounted format refl refl (ap onBench (length-replicate {A = ℕ} 512 0x5A))
 
-same-b : {N : ℕ} (w : Wrongly) → Same (rowB (offBench w)) (rowB (exec N))
+same-b : (w : Wrongly) → Same (rowB (offBench w 2)) (rowB (exec 2))
 unfolding rowB
 same-b w = same-asked w (same-a w) 2 (0x08 ∷ 0x00 ∷ 0x01 ∷ 0x01 ∷ 0x05 ∷ 0x00 ∷ 0x41 ∷ 0x42 ∷ [])
 
-same-c : {N : ℕ} (w : Wrongly) → Same (rowC (offBench w)) (rowC (exec N))
+same-c : (w : Wrongly) → Same (rowC (offBench w 2)) (rowC (exec 2))
 unfolding rowC
 same-c w = same-asked w (same-b w) 2 commitMessage
 
-same-d : {N : ℕ} (w : Wrongly) → rowD (offBench w) ≡ rowD (exec N)
+same-d : (w : Wrongly) → rowD (offBench w 2) ≡ rowD (exec 2)
 unfolding rowD
 same-d w = same-ask w (same-c w) 0 (0x06 ∷ 0x00 ∷ 0x05 ∷ 0x01 ∷ 0x05 ∷ 0x00 ∷ [])
 
-same-e : {N : ℕ} (w : Wrongly) → rowE (offBench w) ≡ rowE (exec N)
+same-e : (w : Wrongly) → rowE (offBench w 2) ≡ rowE (exec 2)
 unfolding rowE
 same-e w = same-ask w (same-c w) 0 (0x05 ∷ 0x00 ∷ 0x06 ∷ 0x01 ∷ 0x01 ∷ [])
 
-same-f : {N : ℕ} (w : Wrongly) → rowF (offBench w) ≡ rowF (exec N)
+same-f : (w : Wrongly) → rowF (offBench w 2) ≡ rowF (exec 2)
 unfolding rowF
-same-f {N} w =
-    same-mounted w (rowB (offBench w) .image) (rowB (exec N) .image) (ap (λ (x : Ran). x .image) (same-b w .same)) (same-b w .long) .same
+same-f w =
+    same-mounted w (rowB (offBench w 2) .image) (rowB (exec 2) .image) (ap (λ (x : Ran). x .image) (same-b w .same)) (same-b w .long) .same
 
-same-g : {N : ℕ} (w : Wrongly) → rowG (offBench w) ≡ rowG (exec N)
+same-g : (w : Wrongly) → rowG (offBench w 2) ≡ rowG (exec 2)
 unfolding rowG
 same-g w = same-cut w (same-b w) 2 commitMessage 5 .same
 
-same-h : {N : ℕ} (w : Wrongly) → rowH (offBench w) ≡ rowH (exec N)
+same-h : (w : Wrongly) → rowH (offBench w 2) ≡ rowH (exec 2)
 unfolding rowH
 same-h w = same-cut w (same-b w) 2 commitMessage 6 .same
 
-same-i : {N : ℕ} (w : Wrongly) (n : ℕ) → Same (rowI (offBench w) n) (rowI (exec N) n)
+same-i : (w : Wrongly) (n : ℕ) → Same (rowI (offBench w 2) n) (rowI (exec 2) n)
 unfolding rowI
 same-i w n = same-asked w (same-asked w (same-asked w (same-a w) 0 (putMessage 1 64)) 0 (putMessage 2 64)) 0 (putMessage 3 n)
 
-same-k : {N : ℕ} (w : Wrongly) (n : ℕ) → Same (rowK (offBench w) n) (rowK (exec N) n)
+same-k : (w : Wrongly) (n : ℕ) → Same (rowK (offBench w 2) n) (rowK (exec 2) n)
 unfolding rowK
 same-k w n = same-asked w (same-i w n) 0 commitMessage
 
-same-a-long : {N : ℕ} (w : Wrongly) → Same (rowALong (offBench w)) (rowALong (exec N))
+same-a-long : (w : Wrongly) → Same (rowALong (offBench w 2)) (rowALong (exec 2))
 unfolding rowALong
 same-a-long w =
     same-begun w 100 (replicate 1024 0x5A) (replicate 1024 0x5A) unmounted unmounted format refl refl
     (ap onBench (length-replicate {A = ℕ} 1024 0x5A))
 
-same-o : {N : ℕ} (w : Wrongly) (n : ℕ) → rowO (offBench w) n ≡ rowO (exec N) n
+same-o : (w : Wrongly) (n : ℕ) → rowO (offBench w 2) n ≡ rowO (exec 2) n
 unfolding rowO
 same-o w n = same-asked w (same-a-long w) 0 (putMessage 9 n) .same
 
@@ -158,16 +158,16 @@ same-o w n = same-asked w (same-a-long w) 0 (putMessage 9 n) .same
 abbrev FormatsAnswered : Wrongly → Type 0
 FormatsAnswered w = (img : List ℕ) (r : Record) (o : Out) → w img r format o .answer ≡ o .answer
 
-same-format : {N : ℕ} (w : Wrongly) → FormatsAnswered w → (n : ℕ) → formatAnswer (offBench w) n ≡ formatAnswer (exec N) n
+same-format : (w : Wrongly) → FormatsAnswered w → (n : ℕ) → formatAnswer (offBench w 2) n ≡ formatAnswer (exec 2) n
 unfolding formatAnswer
-same-format {N} w f n =
+same-format w f n =
     let img : List ℕ = replicate n 0x5A in
-    let o : Out = exec N img unmounted format in
+    let o : Out = exec 2 img unmounted format in
     on-test (onBench (length img))
     (λ e. ap (λ (b : Bool). cond b o (w img unmounted format o) .answer) e)
     (λ e. ap (λ (b : Bool). cond b o (w img unmounted format o) .answer) e ∙ f img unmounted o)
 
-rows-kept : (w : Wrongly) → FormatsAnswered w → Rows (offBench w)
+rows-kept : (w : Wrongly) → FormatsAnswered w → Rows (offBench w 2)
 rows-kept w f =
     record {
       a-steps = ap (λ (x : Ran). x .steps) (same-a w .same) ∙ rows .a-steps;
@@ -226,7 +226,7 @@ formats-at-once img r o = accepted-answer (o .answer) o (onImage (replicate (len
 formats-blindly : FormatsAnswered formatsBlindly
 unfolding formatsBlindly
 formats-blindly img r o =
-    accepted-answer (o .answer) o (out (o .answer) img (exec N (replicate (length img) 0xFF) unmounted format .board) []) refl
+    accepted-answer (o .answer) o (out (o .answer) img (exec 2 (replicate (length img) 0xFF) unmounted format .board) []) refl
 
 pub right-in-rows : RightInRows
 unfolding refusesAll refusesPuts refusesHighIds ownFormatsOnly firstHalfOnly hostFirst refusalClears refusedLogWrites readsAlike

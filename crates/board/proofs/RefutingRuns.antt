@@ -17,19 +17,19 @@ use Rattle.board.specs.Wrong.{refusesAll, refusesPuts, refusesHighIds, o
 use Rattle.board.specs.Wrong.{refusedLogWrites, readsAlike, inventsCount, neverCommits, abortsNothing, takesOthers, keepsOld}
 use Rattle.board.specs.Wrong.{programsNothing, wholeFrame, inventsStep, erasesFirst, hurriedMount, losesAll, keepsPending}
 use Rattle.board.specs.Wrong.{refusesAlike, overlooksForeign, namesSecond, tiesAtStart, refusesHalfErased, takesHalfErased, formatsAtOnce}
-use Rattle.board.specs.Wrong.{formatsBlindly}
+use Rattle.board.specs.Wrong.{formatsBlindly, goesBack, erasesOne, evenOnly}
 use Rattle.board.specs.WrongRuns.{half, blankHalf, stored, pending, later, second, begun, twice, tiedHalves, bothStrange, strange}
-use Rattle.board.specs.WrongRuns.{halfErased, seemsEmpty, Runs}
+use Rattle.board.specs.WrongRuns.{halfErased, seemsEmpty, inMiddle, begunTwice, storedFirst, Runs}
 
 pub runs : Runs
 unfolding numbersFrom sizeIn allowed refusesAll refusesPuts refusesHighIds ownFormatsOnly firstHalfOnly hostFirst refusalClears refusedLogWrites readsAlike
     inventsCount neverCommits abortsNothing takesOthers keepsOld programsNothing wholeFrame inventsStep erasesFirst hurriedMount losesAll
-    keepsPending refusesAlike overlooksForeign namesSecond tiesAtStart refusesHalfErased takesHalfErased formatsAtOnce formatsBlindly
+    keepsPending refusesAlike overlooksForeign namesSecond tiesAtStart refusesHalfErased takesHalfErased formatsAtOnce formatsBlindly goesBack erasesOne evenOnly
     allFF sameBytes applyAll writes encodeAll total match readFrame scan insert
     remove lookup changeAll listOf without isOpen replayFrom headerFault blockState noRoom sited placesFrom sinceFrom valueAt nextSettled
     nextPending nextLoad parse noPlaces noFrame enterAppend enterDrop enterCopy enterOpen enterWipe advance stepBusy stepOn mountAt
     mountFound mountOn formatOrder formatOn held append serveChange serveEnd serveLog serve requestOn half blankHalf stored pending later second begun
-    twice tiedHalves bothStrange strange halfErased seemsEmpty
+    twice tiedHalves bothStrange strange halfErased seemsEmpty inMiddle begunTwice storedFirst
 runs =
     record {
       refuses-all = record { is-run = refl; shows-wrong = refl; shows-right = refl; apart = refl };
@@ -61,4 +61,7 @@ runs =
       takes-half-erased = record { is-run = refl; shows-wrong = refl; shows-right = refl; apart = refl };
       formats-at-once = record { is-run = refl; shows-wrong = refl; shows-right = refl; apart = refl };
       formats-blindly = record { is-run = refl; shows-wrong = refl; shows-right = refl; apart = refl };
+      goes-back = record { is-run = refl; shows-wrong = refl; shows-right = refl; apart = refl };
+      erases-one = record { is-run = refl; shows-wrong = refl; shows-right = refl; apart = refl };
+      even-only = record { is-run = refl; shows-wrong = refl; shows-right = refl; apart = refl };
     }

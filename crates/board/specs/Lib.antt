@@ -12,6 +12,8 @@ pub mod Demand1
 pub mod Demand2
 pub mod CutFormat
 pub mod Promise
+pub mod Wear
+pub mod Counts
 pub mod Tickets
 pub mod Drive
 pub mod Wrong

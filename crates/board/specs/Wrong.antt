@@ -4,7 +4,7 @@ use mathlib.Core.List.{List, [], _∷_, _++_}
 use mathlib.Core.Bool.{Bool, false, _&&_, _||_, cond}
 use mathlib.Core.Path.{_≡_}
 use mathlib.Core.Logic.{_⊎_}
-use Prim.Native.Nat.{ℕ, _+_, _-_, _≤_}
+use Prim.Native.Nat.{ℕ, _+_, _-_, _*_, _/_, _≤_}
 use lib.Dec.{eqb, ltb, leb}
 use lib.ListN.{length, take, drop, getD, set, replicate}
 use Rattle.flash.specs.Bytes.{sameBytes}
@@ -21,6 +21,7 @@ use Rattle.wire.specs.Message.{wordAt}
 use Rattle.board.specs.declared.Stage.the-variants.{Wipe, Open, Copy, Seal, Drop, Append}
 use Rattle.board.specs.declared.Phase.{Phase}
 use Rattle.board.specs.declared.Phase.the-variants.{Unmounted, Idle, Busy}
+use Rattle.board.specs.declared.Job.{Job}
 use Rattle.board.specs.declared.Record.{Record}
 use Rattle.board.specs.Record.{allowed, unmounted, Stretch, Out, out, refuse, answerOf}
 use Rattle.board.specs.Mount.{allFound, anyForeign, Store, stores, equalTimes, noneValid, tiedTimes, mountAt, found}
@@ -305,6 +306,74 @@ formatsAtOnce = formats (λ N img o. accepted o (onImage (replicate (length img)
 unfoldable pub formatsBlindly : Wrongly
 formatsBlindly = formats (λ N img o. accepted o (out (o .answer) img (exec N (replicate (length img) 0xFF) unmounted format .board) []))
 
+-- ---- more than two blocks
+
+-- the same record with another job; the same outcome with the record changed
+abbrev pub withJob : Job → Record → Record
+withJob j r =
+    record {
+      phase = r .phase;
+      blocks = r .blocks;
+      last = r .last;
+      block = r .block;
+      end = r .end;
+      places = r .places;
+      job = j;
+      cursor = r .cursor;
+      unit = r .unit;
+      frame = r .frame;
+    }
+
+abbrev pub onJob : (Record → Job) → Out → Out
+onJob f o = byAnswer (o .answer) o (out More (o .image) (withJob (f (o .board)) (o .board)) (o .reply)) o
+
+-- K14: "A transfer goes to the next block in number, round to 0": back to block 0 each time
+abbrev pub backToFirst : Record → Job
+backToFirst r =
+    let j : Job = r .job in
+    record {
+      wipe = j .wipe;
+      wipes = j .wipes;
+      moves = j .moves;
+      drops = j .drops;
+      target = cond (eqb (r .block) 0) (j .target) 0;
+      time = j .time;
+      since = j .since;
+      size = j .size;
+    }
+
+unfoldable pub goesBack : Wrongly
+goesBack N img r (request h m reply) o = onJob backToFirst o
+goesBack N img r step o = o
+goesBack N img r mount o = onJob backToFirst o
+goesBack N img r format o = o
+
+-- K14: "mount erases every other that isn't blank": one of them
+abbrev pub oneWipe : Record → Job
+oneWipe r =
+    let j : Job = r .job in
+    record {
+      wipe = j .wipe;
+      wipes = cond (ltb 1 (j .wipes)) 1 (j .wipes);
+      moves = j .moves;
+      drops = j .drops;
+      target = j .target;
+      time = j .time;
+      since = j .since;
+      size = j .size;
+    }
+
+unfoldable pub erasesOne : Wrongly
+erasesOne = mounts (λ N img o. onJob oneWipe o)
+
+-- K14: "A record of another N gets 11, in a job's step too": a step goes by the record's
+unfoldable pub ignoresCount : Wrongly
+ignoresCount = steps (λ N img r o. exec (r .blocks) img r step)
+
+-- K14: "N isn't 2 to 16": blocks are counted in pairs, right for even N only
+unfoldable pub evenOnly : Wrongly
+evenOnly N img r c o = exec (N / 2 * 2) img r c
+
 -- ---- right on the bench, and yet none of them keeps the promise
 
 -- on the bench's images, whatever is done off it; for the rows one by one see WrongRows
@@ -344,3 +413,7 @@ pub record Refuted : Type 0 where
   pub takes-half-erased : Kept (offBench takesHalfErased) → ⊥
   pub formats-at-once : Kept (offBench formatsAtOnce) → ⊥
   pub formats-blindly : Kept (offBench formatsBlindly) → ⊥
+  pub goes-back : Kept (offBench goesBack) → ⊥
+  pub erases-one : Kept (offBench erasesOne) → ⊥
+  pub ignores-count : Kept (offBench ignoresCount) → ⊥
+  pub even-only : Kept (offBench evenOnly) → ⊥

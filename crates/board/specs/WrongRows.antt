@@ -4,7 +4,7 @@ use Rattle.board.specs.Wrong.{offBench, refusesAll, refusesPuts, refuses
 use Rattle.board.specs.Wrong.{refusalClears, refusedLogWrites, readsAlike, inventsCount, neverCommits, abortsNothing, takesOthers}
 use Rattle.board.specs.Wrong.{keepsOld, programsNothing, wholeFrame, inventsStep, erasesFirst, outsideIsDone, forgedWaits}
 use Rattle.board.specs.Wrong.{hurriedMount, losesAll, keepsPending, refusesAlike, overlooksForeign, namesSecond, tiesAtStart, refusesHalfErased}
-use Rattle.board.specs.Wrong.{takesHalfErased, formatsAtOnce, formatsBlindly}
+use Rattle.board.specs.Wrong.{takesHalfErased, formatsAtOnce, formatsBlindly, goesBack, erasesOne, ignoresCount, evenOnly}
 
 pub record RightInRows : Type 0 where
   pub refuses-all : Rows (offBench refusesAll 2)
@@ -38,3 +38,7 @@ pub record RightInRows : Type 0 where
   pub takes-half-erased : Rows (offBench takesHalfErased 2)
   pub formats-at-once : Rows (offBench formatsAtOnce 2)
   pub formats-blindly : Rows (offBench formatsBlindly 2)
+  pub goes-back : Rows (offBench goesBack 2)
+  pub erases-one : Rows (offBench erasesOne 2)
+  pub ignores-count : Rows (offBench ignoresCount 2)
+  pub even-only : Rows (offBench evenOnly 2)

@@ -1,4 +1,4 @@
--- For each wrong store a short run that tells it from the machine, by what the last call shows. S = 384.
+-- For each wrong store a short run that tells it from the machine, by what the last call shows. S = 384, two blocks or three.
 use mathlib.Core.List.{List, [], _∷_, _++_, map}
 use mathlib.Core.Option.{none}
 use mathlib.Core.Bool.{Bool, true, false, _&&_}
@@ -20,7 +20,7 @@ use Rattle.board.specs.Wrong.{refusesAll, refusesPuts, refusesHighIds, o
 use Rattle.board.specs.Wrong.{refusedLogWrites, readsAlike, inventsCount, neverCommits, abortsNothing, takesOthers, keepsOld}
 use Rattle.board.specs.Wrong.{programsNothing, wholeFrame, inventsStep, erasesFirst, hurriedMount, losesAll, keepsPending}
 use Rattle.board.specs.Wrong.{refusesAlike, overlooksForeign, namesSecond, tiesAtStart, refusesHalfErased, takesHalfErased, formatsAtOnce}
-use Rattle.board.specs.Wrong.{formatsBlindly}
+use Rattle.board.specs.Wrong.{formatsBlindly, goesBack, erasesOne, evenOnly}
 
 -- ---- runs
 
@@ -135,6 +135,18 @@ halfErased = replicate 8 0xFF ++ (drop 8 (committed 3) ++ committed 4)
 unfoldable pub seemsEmpty : List ℕ
 seemsEmpty = half 2 [] ++ committed 4
 
+-- ---- images of 1,152 bytes: three blocks
+
+-- the second block is current, and a transfer is due; the first is, beside two cut transfers; the first is, and nothing is due
+unfoldable pub inMiddle : List ℕ
+inMiddle = blankHalf ++ (half 1 (putFrame ∷ []) ++ blankHalf)
+
+unfoldable pub begunTwice : List ℕ
+begunTwice = begun ++ (header 2 inTransfer ++ replicate 368 0xFF)
+
+unfoldable pub storedFirst : List ℕ
+storedFirst = stored ++ blankHalf
+
 -- ---- calls
 
 -- n step calls, then others
@@ -215,6 +227,10 @@ pub record Runs : Type 0 where
   pub takes-half-erased : Differs 2 takesHalfErased seemsEmpty (mount ∷ step ∷ []) (byteAt 384) 0xFF 0x10
   pub formats-at-once : Differs 2 formatsAtOnce stored (format ∷ []) (byteAt 0) 0xFF 0x10
   pub formats-blindly : Differs 2 formatsBlindly stored (format ∷ step ∷ []) (byteAt 0) 0xFF 0x10
+  -- the third block's state byte after the first step of the transfer
+  pub goes-back : Differs 3 goesBack inMiddle (mount ∷ step ∷ []) (byteAt 776) 0xFF 0xFE
+  pub erases-one : Differs 3 erasesOne begunTwice (mount ∷ step ∷ []) answered 0 255
+  pub even-only : Differs 3 evenOnly storedFirst (mount ∷ []) answered 4 0
 
 -- ---- demand 3 alone sees a store that is wrong on half-erased halves only: its claim is for every raised half
 
