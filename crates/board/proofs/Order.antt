@@ -20,13 +20,6 @@ use Rattle.board.proofs.Blocks.{Blocks, Besides, besides-blocks}
 use Rattle.board.proofs.Erasing.{In}
 use Rattle.board.proofs.Found.{Among, Rising, newest-among, newest-most, newest-strict, Pair, tied-pair, store, Holds, among-holds, holds-among, stores-rise, stores-none}
 
--- a block that isn't valid
-abbrev pub Unread : BlockState → Type 0
-Unread blank = Unit {0}
-Unread inProgress = Unit {0}
-Unread (valid t fs c) = ⊥
-Unread (foreign e) = Unit {0}
-
 -- what is valid only with a smaller time
 pub beside-of : {t : ℕ} (a : BlockState) → ((u : ℕ) (fs : List Frame) (c : Tail) → a ≡ valid u fs c → u < t) → Beside t a
 beside-of blank f = tt

@@ -36,7 +36,6 @@ use Rattle.board.specs.Table.{Unsettled, MountWorn, mountLines, Names, n
 use Rattle.board.specs.Promise.{Machine, Current}
 use Rattle.board.proofs.Images.{Sized, sized-of}
 use Rattle.board.proofs.Invariant.{Quiet}
-use Rattle.board.proofs.Order.{Unread}
 use Rattle.board.proofs.Current.{block-long}
 use Rattle.board.proofs.Outcomes.{mount-length}
 use Rattle.board.proofs.Erasing.{SameValid, same-valid}
@@ -164,7 +163,7 @@ module _ {N : ℕ} (img : List ℕ) (by : Bytes img) (ok : allowed N (length img
   decided-lines (foreign-block j h e p o b r) =
       inr (
         (λ n. n .none-foreign j (foreign-at h p)),
-        inl (foreign-half j (foreign-at h p) (λ k t fs c a. subst Unread (at-valid a) (o k (a .0))), answer r),
+        inl (foreign-half j (foreign-at h p) (λ k t fs c a. o k t fs c (a .0) (at-valid a)), answer r),
       )
   decided-lines (deciding.equal-times t fs gs c d p q r) =
       let a : ValidAt N img 0 t fs c = valid-at (omega arith) p in
@@ -253,7 +252,7 @@ mount-names {N} img by k e q =
         let fe : f ≡ e = cc in
         let w = fault-at img by ok j f h p in
         subst₂ (Names N img) jk fe
-        (names-foreign (λ i t fs c a. subst Unread (at-valid img by ok a) (o i (a .0))) (w .0) (w .1)
+        (names-foreign (λ i t fs c a. o i t fs c (a .0) (at-valid img by ok a)) (w .0) (w .1)
         (λ i l y. let z = at-foreign img by ok y in subst Quiet (z .1) (b i l)))
     go ok (deciding.equal-times t fs gs c d p u r) =
         let w = told r in
