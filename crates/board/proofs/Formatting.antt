@@ -108,11 +108,11 @@ module _ {N : ℕ} {s : ℕ} {img : List ℕ} (z : Sized N s img) where
   abbrev Left : List Object → List ℕ → Type 0
   Left os i = Safe N s i os false ⊎ NoStore N s i
 
-  -- a block's state in the image
-  at-size : (P : BlockState → Type 0) (j : ℕ) → P (blockState (block s j img)) → P (StateOf N img j)
+  pub at-size : (P : BlockState → Type 0) (j : ℕ) → P (blockState (block s j img)) → P (StateOf N img j)
   at-size P j x = subst (λ (n : ℕ). P (blockState (block n j img))) (sym (size-of z)) x
 
-  safe-newest : {os : List Object} (k : ℕ) → k < N → (v : Valid s img k os) → Lessers N s img (v .time) k → Newest N img k
+  -- what a safe image holds is the current block
+  abbrev pub safe-newest : {os : List Object} (k : ℕ) → k < N → (v : Valid s img k os) → Lessers N s img (v .time) k → Newest N img k
   safe-newest k l v q =
       record {
         time = v .time;
