@@ -4,36 +4,36 @@ use mathlib.Core.List.{List, [], _∷_}
 use mathlib.Core.Bool.{Bool, false, false≢true}
 use Prim.Native.Nat.{ℕ, _+_, _-_, _≤_, _<_}
 use native.Mathlib.Omega.{arith}
-use lib.Dec.{ltb}
+use lib.Dec.{eqb, ltb}
 use lib.ListN.{length, take}
 use lib.Seq.{take-all}
-use borrow.Author.Tests.{ltb-true, ltb-false}
+use borrow.Author.Tests.{eqb-true, eqb-false, ltb-true, ltb-false}
 use Rattle.flash.specs.Flash.{Step, applyAll, block, sizeOf}
 use Rattle.flash.proofs.Cases.{on-test}
 use Rattle.frame.specs.Reader.{clean}
-use Rattle.journal.specs.Replay.{Object}
+use Rattle.journal.specs.Replay.{Object, replay}
 use Rattle.journal.specs.Block.{headerLen, BlockState, blank, inProgress, valid, foreign, blockState}
 use Rattle.journal.proofs.Blocks.{blank-block}
 use Rattle.journal.proofs.States.{contents-valid}
 use Rattle.board.specs.declared.Record.{Record}
 use Rattle.board.specs.Record.{Out, rest, idle}
 use Rattle.board.specs.Step.{begin}
-use Rattle.board.specs.Mount.{formatJob, formatOn}
+use Rattle.board.specs.Mount.{Store, formatJob, formatOn}
 use Rattle.board.specs.Exec.{exec}
 use Rattle.board.specs.Plan.{formatPlan}
 use Rattle.board.specs.Book.{Book}
 use Rattle.board.specs.Claim.{stepsOn, Event, call, cutErase, Happens}
-use Rattle.board.specs.CutFormat.{Left, afterAll, leftBy, OldObjects, Empty, EmptyStore, Leaves, old-objects, no-store, empty-store, CutFormat}
+use Rattle.board.specs.CutFormat.{Left, afterAll, leftBy, Beside, OldObjects, Empty, EmptyStore, Leaves, old-objects, no-store, empty-store, CutFormat}
 use Rattle.board.proofs.Images.{Sized, size-of, sized-as, length-all-steps}
-use Rattle.board.proofs.Invariant.{Quiet, Safe, no-valid, some-valid, Inv}
-use Rattle.board.proofs.Order.{Newest}
-use Rattle.board.proofs.Current.{Alone}
+use Rattle.board.proofs.Invariant.{Quiet, Safe, Inv}
+use Rattle.board.proofs.Current.{Alone, Keeps}
+use Rattle.board.proofs.Deciding.{Taken, MountSafe, nothing-there, store-there, mount-safe}
 use Rattle.board.proofs.Outcomes.{format-begins}
 use Rattle.board.proofs.Stepping.{follows-part}
 use Rattle.board.proofs.Keeping.{Bare, bare-of, cut-bare}
 use Rattle.board.proofs.Accepted.{follows-format}
 use Rattle.board.proofs.Lengths.{length-format}
-use Rattle.board.proofs.Formatting.{at-size, safe-newest, FormatCut, format-cut, format-alone}
+use Rattle.board.proofs.Formatting.{at-size, FormatCut, format-cut, format-alone}
 use Rattle.board.proofs.Claiming.{begin-keeps, call-keeps, formatted-inv}
 
 -- ---- what a mount finds after all
@@ -70,20 +70,45 @@ module _ {N : ℕ} {s : ℕ} {img : List ℕ} (z : Sized N s img) where
   quiet-empty (valid t fs c) q = absurd q
   quiet-empty (foreign e) q = absurd q
 
-  safe-old : {os : List Object} → Safe N s img os false → OldObjects N img os
-  safe-old (no-valid e q) = absurd (false≢true e)
-  safe-old {os} (some-valid k h v q) =
-      let n : Newest N img k = safe-newest z k h v q in
+  -- what a mount takes
+  taken-old : {os : List Object} (x : Store) → Taken N s img x → Keeps s (replay (x .frames)) os → OldObjects N img os
+  taken-old x y k =
       record {
-        number = k;
-        time = v .time;
-        frames = v .frames;
-        tail = v .tail;
-        there = h;
-        is-valid = n .is-valid;
-        objects = v .same;
-        others = n .others;
+        number = x .number;
+        time = x .time;
+        frames = x .frames;
+        tail = x .tail;
+        there = y .there;
+        is-valid = at-size z (λ a. a ≡ valid (x .time) (x .frames) (x .tail)) (x .number) (y .is-valid);
+        objects = k .same;
+        others = λ j h n. at-size z (Beside (x .time)) j (y .others j h n);
+        apart = λ i j t fs gs c d h l p q.
+            on-test (eqb i j) (eqb-true i j)
+            (λ e.
+            absurd (y .untied i j
+            (record {
+              time = t;
+              frames = fs;
+              tail = c;
+              frames′ = gs;
+              tail′ = d;
+              there = h;
+              there′ = l;
+              apart = eqb-false i j e;
+              is-valid = at-s i (valid t fs c) p;
+              is-valid′ = at-s j (valid t gs d) q;
+            })));
       }
+    where
+      at-s : (j : ℕ) (a : BlockState) → blockState (block (sizeOf N img) j img) ≡ a → blockState (block s j img) ≡ a
+      at-s j a e = subst (λ (n : ℕ). blockState (block n j img) ≡ a) (size-of z) e
+
+  safe-old : {os : List Object} → Safe N s img os false → OldObjects N img os
+  safe-old {os} f = go (mount-safe z f)
+    where
+      go : MountSafe N s img os false → OldObjects N img os
+      go (nothing-there e r) = absurd (false≢true e)
+      go (store-there x y h k q) = taken-old x y k
 
   alone-empty : Alone N s img 0 1 [] clean → EmptyStore N img
   alone-empty y =

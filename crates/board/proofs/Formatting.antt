@@ -112,7 +112,7 @@ module _ {N : ℕ} {s : ℕ} {img : List ℕ} (z : Sized N s img) where
   at-size P j x = subst (λ (n : ℕ). P (blockState (block n j img))) (sym (size-of z)) x
 
   -- what a safe image holds is the current block
-  abbrev pub safe-newest : {os : List Object} (k : ℕ) → k < N → (v : Valid s img k os) → Lessers N s img (v .time) k → Newest N img k
+  safe-newest : {os : List Object} (k : ℕ) → k < N → (v : Valid s img k os) → Lessers N s img (v .time) k → Newest N img k
   safe-newest k l v q =
       record {
         time = v .time;
