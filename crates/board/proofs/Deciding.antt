@@ -329,6 +329,6 @@ mount-safe {N} {s} {img} {os} {u} z (some-valid k h v q) = go (mount-decides z)
 
     go : Decided N s img → MountSafe N s img os u
     go (foreign-block j l f p o b r) = absurd (o k (v .time) (v .frames) (v .tail) h here)
-    go (equal-times i j p o r) = absurd (safe-untied (some-valid k h v q) i j p)
+    go (equal-times i j p o r) = absurd (safe-untied {u = u} (some-valid k h v q) i j p)
     go (none-valid n r) = absurd (subst Quiet here (n k h))
     go (at-store x y) = on-test (eqb (x .number) k) (λ e. at x y (eqb-true (x .number) k e)) (λ e. other x y (eqb-false (x .number) k e))
