@@ -3,7 +3,7 @@ use mathlib.Core.Path.{_≡_, refl, sym, ap, subst, _∙_}
 use mathlib.Core.List.{List, [], _∷_, _++_}
 use mathlib.Core.Logic.{_⊎_, inl, inr}
 use mathlib.Core.Bool.{Bool, true, false, cond}
-use Prim.Native.Nat.{ℕ, zero, suc, _+_, _-_, _≤_, _<_}
+use Prim.Native.Nat.{ℕ, zero, suc, _+_, _≤_, _<_}
 use native.Mathlib.Omega.{arith}
 use lib.Dec.{eqb}
 use lib.ListN.{length, length-append}
@@ -15,7 +15,7 @@ use Rattle.frame.specs.Reader.{Tail}
 use Rattle.journal.specs.Block.{BlockState, blank, inProgress, valid, foreign, blockState}
 use Rattle.board.specs.Mount.{Store, allFound, stores, newest, numbersBut, tied, orderFor, formatOrder}
 use Rattle.board.specs.CutFormat.{Beside}
-use Rattle.board.proofs.Numbers.{length-numbers, but-is}
+use Rattle.board.proofs.Numbers.{length-numbers, length-but}
 use Rattle.board.proofs.Blocks.{Blocks, Besides, besides-blocks}
 use Rattle.board.proofs.Erasing.{In}
 use Rattle.board.proofs.Found.{Among, Rising, newest-among, newest-most, newest-strict, Pair, tied-pair, store, Holds, among-holds, holds-among, stores-rise, stores-none}
@@ -170,11 +170,7 @@ in-snoc j k ns f = on-test (eqb j k) (λ t. last ns (eqb-true j k t)) (λ t. fro
     front (n ∷ ns) (inr i) = inr (front ns i)
 
 length-last : (N k : ℕ) → k < N → length (numbersBut k (blockNumbers N) ++ (k ∷ [])) ≡ N
-length-last N k h =
-    let low : List ℕ = numbersFrom 0 (k - 0) in
-    let high : List ℕ = numbersFrom (suc k) (0 + N - suc k) in
-    let n : length (numbersBut k (blockNumbers N)) ≡ length low + length high = ap length (but-is k 0 N (omega arith) (omega arith)) ∙ length-append low high in
-    length-append (numbersBut k (blockNumbers N)) (k ∷ []) ∙ omega (arith, n, length-numbers 0 (k - 0), length-numbers (suc k) (0 + N - suc k))
+length-last N k h = length-append (numbersBut k (blockNumbers N)) (k ∷ []) ∙ omega (arith, length-but N k h)
 
 module _ (N : ℕ) (img : List ℕ) where
   pub order-blocks : Blocks N (formatOrder N img)
