@@ -23,7 +23,7 @@ use Rattle.board.specs.Exec.{exec}
 use Rattle.board.specs.Plan.{formatPlan}
 use Rattle.board.specs.Book.{Book}
 use Rattle.board.specs.Claim.{stepsOn, Event, call, cutErase, Happens}
-use Rattle.board.specs.CutFormat.{Left, afterAll, leftBy, Beside, OldObjects, Empty, EmptyStore, Leaves, old-objects, no-store, empty-store, CutFormat}
+use Rattle.board.specs.CutFormat.{Left, afterAll, leftBy, OldObjects, Empty, EmptyStore, Leaves, old-objects, no-store, empty-store, CutFormat}
 use Rattle.board.proofs.Images.{Sized, size-of, sized-as, length-all-steps}
 use Rattle.board.proofs.Invariant.{Quiet, Safe, no-valid, some-valid, Inv}
 use Rattle.board.proofs.Order.{Newest}
@@ -53,7 +53,8 @@ run-ends v (cutErase k new q ∷ cutErase j more p ∷ es) (x, n, h) = absurd n
 
 -- ---- some steps of a plan, made
 
-format-part : {N : ℕ} {s : ℕ} {img : List ℕ} (j : ℕ) → Sized N s img → j ≤ N + 10 → stepsOn (exec N) j (formatOn N img) .image ≡ applyAll s (take j (formatPlan N img)) img
+format-part : {N : ℕ} {s : ℕ} {img : List ℕ} (j : ℕ) → Sized N s img → j ≤ N + 10
+    → stepsOn (exec N) j (formatOn N img) .image ≡ applyAll s (take j (formatPlan N img)) img
 format-part {N} {s} {img} j z h =
     ap (λ (o : Out). stepsOn (exec N) j o .image) (format-begins N img (z .ok))
     ∙ follows-part N (exec N) s j (formatPlan N img) (begin img [] (formatJob N img)) (idle (rest N (length img - 1) 0 headerLen)) (size-of z)

@@ -91,7 +91,8 @@ module _ {N : ℕ} {s : ℕ} {img : List ℕ} (x : Store) (z : Sized N s img) (h
 
       go : (b : Bool) → needs ≡ b → After N s (applyAll s (transferIf N b (x .number) (x .time) st) wiped) (mountedAt N b (length img - 1) x) st
       go true e =
-          subst (λ (n : ℕ). After N s (applyAll s (transferIf N true (x .number) (x .time) st) wiped) (idle (rest N (length img - 1) (nextBlock N (x .number)) n)) st)
+          let after : List ℕ = applyAll s (transferIf N true (x .number) (x .time) st) wiped in
+          subst (λ (n : ℕ). After N s after (idle (rest N (length img - 1) (nextBlock N (x .number)) n)) st)
           (claimed-settled (replay (x .frames)))
           (transferred alone st (moves-settled alone (t e)) (length img - 1) long (roomy-settled alone))
       go false e =
