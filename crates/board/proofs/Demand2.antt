@@ -154,14 +154,14 @@ abbrev Kept : ℕ → ℕ → Out → Type 0
 Kept N s o = Steady N s (o .image) (o .board)
 
 request-kept : {N : ℕ} {s : ℕ} {img : List ℕ} {r : Record} → Steady N s img r → (h : Host) (m reply : List ℕ) → Bytes m → Kept N s (requestOn N img r reply h m)
-request-kept {N} {s} {img} {r} v h m reply bm = go (request-met img r reply h m)
+request-kept {N} {s} {img} {r} v h m reply bm = go (request-met N img r reply h m)
   where
     go : Met N img r reply h m (requestOn N img r reply h m) → Kept N s (requestOn N img r reply h m)
     go (refused n p) = subst (Kept N s) (sym p) v
     go (done d i b) = subst (λ (l : List ℕ). Steady N s l (requestOn N img r reply h m .board)) (sym i) (subst (Steady N s img) (sym b) v)
     go (begun y p) =
         let j = frame-begins (v .sized) (v .bytes) bm y in
-        subst (Kept N s) (sym p) (steady-busy (v .sized) (v .bytes) (jobOf N y) (j .0) (j .1))
+        subst (Kept N s) (sym p) (steady-busy (v .sized) (v .bytes) (jobOf y) (j .0) (j .1))
 
 -- ---- a step
 

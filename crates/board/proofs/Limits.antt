@@ -117,13 +117,13 @@ module _ {N : ℕ} (img : List ℕ) (r : Record) (h : Host) (msg reply : List �
       )
 
 -- the first line that holds of the last two
-module _ {N : ℕ} {N W : Type 0} (a : Answer) where
-  room-line : Exactly (line 7 N ∷ line 6 W ∷ []) a → (numberOf a ≡ some 7) ↔ N
+module _ {R W : Type 0} (a : Answer) where
+  room-line : Exactly (line 7 R ∷ line 6 W ∷ []) a → (numberOf a ≡ some 7) ↔ R
   room-line (inl (n, f)) = ((λ e. n), (λ _. f))
   room-line (inr (g, inl (w, f))) = ((λ e. other-number a 6 7 (λ v. omega arith) f e), (λ n. absurd (g n)))
   room-line (inr (g, inr (k, z))) = ((λ e. absurd (number-accepted a 6 e z)), (λ n. absurd (g n)))
 
-  wear-line : Exactly (line 7 N ∷ line 6 W ∷ []) a → (numberOf a ≡ some 7 → ⊥) → (numberOf a ≡ some 6) ↔ W
+  wear-line : Exactly (line 7 R ∷ line 6 W ∷ []) a → (numberOf a ≡ some 7 → ⊥) → (numberOf a ≡ some 6) ↔ W
   wear-line (inl (n, f)) g = absurd (g f)
   wear-line (inr (g, inl (w, f))) k = ((λ e. w), (λ _. f))
   wear-line (inr (g, inr (k, z))) v = ((λ e. absurd (number-accepted a 5 e z)), (λ w. absurd (k w)))

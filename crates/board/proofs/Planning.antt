@@ -31,7 +31,7 @@ use Rattle.wire.specs.Message.{parse, valueIn, pageLen}
 use Rattle.board.specs.declared.Phase.{Phase}
 use Rattle.board.specs.declared.Phase.the-variants.{Unmounted, Idle, Busy}
 use Rattle.board.specs.declared.Record.{Record}
-use Rattle.board.specs.Record.{allowed, rest, idle, Out, out, refuse, answerOf}
+use Rattle.board.specs.Record.{allowed, restOf, idle, Out, out, refuse, answerOf}
 use Rattle.board.specs.Step.{enterWipe}
 use Rattle.board.specs.Queue.{Held, held, needsRoom, appendJob, append, serve, serveChange, serveEnd, serveParsed, serveHeld, requestIn, requestOn}
 use Rattle.board.specs.Exec.{request, exec}
@@ -70,15 +70,15 @@ pub record Asked (N : ℕ) (img : List ℕ) (r : Record) (h : Host) (m : List �
   pub has-room : roomRule (sizeOf N img) h m holding asked ≡ false
   pub not-worn : (needsRoom N img r frame && eqb (holding .time) lastTime) ≡ false
 
-abbrev pub jobOf : ℕ → {img : List ℕ} {r : Record} {h : Host} {m : List ℕ} → Asked N img r h m → Record
-jobOf N {img} {r} y = enterWipe (appendJob N img r (y .holding) (y .frame))
+abbrev pub jobOf : {N : ℕ} {img : List ℕ} {r : Record} {h : Host} {m : List ℕ} → Asked N img r h m → Record
+jobOf {N} {img} {r} y = enterWipe (appendJob N img r (y .holding) (y .frame))
 
 pub data Met (N : ℕ) (img : List ℕ) (r : Record) (reply : List ℕ) (h : Host) (m : List ℕ) (o : Out) : Type 0 where
   refused : (n : Refusal) → o ≡ refuse n img r reply → Met N img r reply h m o
   done : o .answer ≡ Done → o .image ≡ img → o .board ≡ r → Met N img r reply h m o
-  begun : (y : Asked N img r h m) → o ≡ out (answerOf (jobOf N y)) img (jobOf N y) reply → Met N img r reply h m o
+  begun : (y : Asked N img r h m) → o ≡ out (answerOf (jobOf y)) img (jobOf y) reply → Met N img r reply h m o
 
-module _ {N : ℕ} (img : List ℕ) (r : Record) (reply : List ℕ) (h : Host) (m : List ℕ) where
+module _ (N : ℕ) (img : List ℕ) (r : Record) (reply : List ℕ) (h : Host) (m : List ℕ) where
   abbrev Meets : Out → Type 0
   Meets o = Met N img r reply h m o
 
@@ -235,13 +235,13 @@ module _ {N : ℕ} {s : ℕ} {img : List ℕ} {r : Record} {h : Host} {m : List 
 
   holds : AsRecorded N s img r x
   holds =
-      let v : (w : Ready N s img (idle (rest N (r .last) (r .block) (r .end)))) × (w .time ≡ x .time) × (w .frames ≡ x .frames) = held-inv r z by (y .is-held) in
-      let w : AsRecorded N s img (idle (rest N (r .last) (r .block) (r .end))) x = ready-holds z (v .0) (v .1) (v .2) in
-      record { alone = w .alone; ends = w .ends; long = w .long; blocks = sym (fresh-exact N img r x by (z .ok) .0 (y .is-held) .blocks-are) }
+      let v : (w : Ready N s img (idle (restOf r))) × (w .time ≡ x .time) × (w .frames ≡ x .frames) = held-inv r z by (y .is-held) in
+      let w : AsRecorded N s img (idle (restOf r)) x = ready-holds z (v .0) (v .1) (v .2) in
+      record { alone = w .alone; ends = w .ends; long = w .long; blocks = w .blocks }
 
   roomy : Roomy s (replay (x .frames))
   roomy =
-      let v : (w : Ready N s img (idle (rest N (r .last) (r .block) (r .end)))) × (w .time ≡ x .time) × (w .frames ≡ x .frames) = held-inv r z by (y .is-held) in
+      let v : (w : Ready N s img (idle (restOf r))) × (w .time ≡ x .time) × (w .frames ≡ x .frames) = held-inv r z by (y .is-held) in
       subst (λ (fs : List Frame). Roomy s (replay fs)) (v .2) (v .0 .room)
 
   fitting : Fitting s (replay (x .frames)) f
@@ -261,7 +261,7 @@ module _ {N : ℕ} {s : ℕ} {img : List ℕ} {r : Record} {h : Host} {m : List 
             omega (arith, eqb-false (x .time) lastTime v, holds .alone .contents .layout .time-hi);
       }
 
-  pub frame-appends : (reply : List ℕ) → Appends N img r h m (out (answerOf (jobOf N y)) img (jobOf N y) reply)
+  pub frame-appends : (reply : List ℕ) → Appends N img r h m (out (answerOf (jobOf y)) img (jobOf y) reply)
   unfolding FreshExact MessagesExact
   frame-appends reply =
       let j : Journal (block (sizeOf N img) (r .block) img) (x .frames) =
@@ -279,7 +279,7 @@ module _ {N : ℕ} {s : ℕ} {img : List ℕ} {r : Record} {h : Host} {m : List 
       }
 
   -- the job is begun: each step lands, and it ends idle
-  pub frame-begins : (answerOf (jobOf N y) ≡ More) × InJob N s (StepLands s) (Ready N s) img (jobOf N y)
+  pub frame-begins : (answerOf (jobOf y) ≡ More) × InJob N s (StepLands s) (Ready N s) img (jobOf y)
   frame-begins =
       let a : After N s (applyAll s (framePlan N (needsRoom N img r f) (r .block) (r .end) x f) img)
       (framedAt N (needsRoom N img r f) (r .last) (r .block) (r .end) x f) (nextState (replay (x .frames)) f) = frame-ends holds appendable (fitting .room) in
@@ -289,7 +289,7 @@ module _ {N : ℕ} {s : ℕ} {img : List ℕ} {r : Record} {h : Host} {m : List 
 
 pub requests-planned : {N : ℕ} (img : List ℕ) (r : Record) (h : Host) (m reply : List ℕ) → Bytes img → Bytes m → exec N img r (request h m reply) .answer ≡ More
     → Appends N img r h m (exec N img r (request h m reply))
-requests-planned {N} img r h m reply by bm e = go (request-met img r reply h m)
+requests-planned {N} img r h m reply by bm e = go (request-met N img r reply h m)
   where
     go : Met N img r reply h m (requestOn N img r reply h m) → Appends N img r h m (requestOn N img r reply h m)
     go (refused n p) = let q : Refused n ≡ More = sym (ap (λ (o : Out). o .answer) p) ∙ e in let z : _≡_ {A = ℕ} 0 1 = cc in absurd (omega arith)

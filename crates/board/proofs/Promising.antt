@@ -82,7 +82,7 @@ module _ {N : ℕ} (img : List ℕ) (r : Record) (h : Host) (m reply : List ℕ)
         hands-back = subst (λ (y : Out). HandsBack N img r x q (y .stretch)) (sym d) v;
       }
 
-  begun : (o : Out) (y : Asked N img r h m) → o ≡ out (answerOf (jobOf N y)) img (jobOf N y) reply → (f : Frame) → frameFor h m x q ≡ some f
+  begun : (o : Out) (y : Asked N img r h m) → o ≡ out (answerOf (jobOf y)) img (jobOf y) reply → (f : Frame) → frameFor h m x q ≡ some f
       → reply ≡ replyFor N img reply x q → HandsBack N img r x q noStretch → Meets o
   begun o y d f g u v a =
       record {
@@ -259,10 +259,10 @@ calls {N} =
       table = by-lines;
       names = λ img r k e by. mount-names img by k e;
       untouched = refusals-untouched N;
-      told = told;
+      told = told N;
       rests = step-resting N;
       one-step = at-most-one-step N;
-      silent = silent;
+      silent = silent N;
       serves = serves;
       jobs = λ img r c plan z by bc j a. job-does img r by c plan z bc j a;
       ends = forged-ends N;

@@ -1,4 +1,4 @@
--- A mount is refused exactly as the table's lines say; the states of halves in words.
+-- A mount is refused exactly as the table's lines say; the states of blocks in words.
 use mathlib.Core.Path.{_≡_, refl, sym, ap, ap₂, subst, _∙_, subst₂}
 use mathlib.Core.List.{List, [], _∷_}
 use mathlib.Core.Logic.{inl, inr}
@@ -194,7 +194,7 @@ module _ {N : ℕ} (img : List ℕ) (by : Bytes img) (ok : allowed N (length img
       )
   decided-lines (at-store x y) = taken-lines x y (mount-outcome x z y (taken-holds x z by y))
 
--- ---- the current half
+-- ---- the current block
 
 pub record Mountable (N : ℕ) (img : List ℕ) : Type 0 where
   pub store : Store
@@ -218,7 +218,7 @@ mounts-current img by ok o y =
       newest = λ k t fs c n v. y .newest k t fs c (v .0) n (at-valid img by ok v);
     }
 
--- the image settles which half is current
+-- the image settles which block is current
 pub same-store : {N : ℕ} (img : List ℕ) → Bytes img → allowed N (length img) ≡ true → (x y : Store) → Current N img x → Current N img y → x ≡ y
 same-store {N} img by ok x y a b = on-test (eqb (x .number) (y .number)) (λ t. alike (eqb-true (x .number) (y .number) t)) apart
   where
