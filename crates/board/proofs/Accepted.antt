@@ -81,12 +81,14 @@ follows-mount {N} img x ks h here others g =
     let total-is : headerLen + total (framesOf st) ≡ used (replay (x .frames)) = frames-total st ∙ claimed-settled (replay (x .frames)) in
     let end-is : headerLen + total (framesOf st) + 0 ≡ used (replay (x .frames)) = omega arith in
     subst (λ (b : Bool). Follows N (exec N) img (enterWipe r) (map erase ks ++ transferIf N b k (x .time) st) (mountedAt N b l x)) (sym t)
-    (subst (λ (n : ℕ). Follows N (exec N) img (enterWipe r) (map erase ks ++ (onBlock (nextBlock N k) (build n (framesOf st)) ++ (erase k ∷ []))) (mountedAt N true l x))
+    (subst (λ (n : ℕ). Follows N (exec N) img (enterWipe r) (map erase ks ++ (onBlock (nextBlock N k) (build n (framesOf st)) ++ (erase k ∷ [])))
+    (mountedAt N true l x))
     (ap (λ (b : Bool). newTime b (x .time)) t)
     (subst (λ (n : ℕ). Follows N (exec N) img (enterWipe r) (map erase ks ++ (onBlock (nextBlock N k) (build (r .job .time) (framesOf st)) ++ (erase k ∷ [])))
     (idle (rest N l (nextBlock N k) n))) end-is
     (subst (λ (ys : List Step). Follows N (exec N) img (enterWipe r) ys (idle (rest N l (nextBlock N k) (headerLen + total (framesOf st) + 0))))
-    (no-append (nextBlock N k) (headerLen + total (framesOf st)) (map erase ks) (onBlock (nextBlock N k) (build (r .job .time) (framesOf st)) ++ (erase k ∷ [])))
+    (no-append (nextBlock N k) (headerLen + total (framesOf st)) (map erase ks)
+    (onBlock (nextBlock N k) (build (r .job .time) (framesOf st)) ++ (erase k ∷ [])))
     (follows-moving img l k e (placesOf (x .frames)) (r .job) 0 e [] ks (sized-last sized) (sized .count) (besides-blocks N k ks others) has here (omega arith)
     (framesOf st) t (next-there k here) (next-other k (sized .few) here)
     (omega (arith, used-claimed (replay (x .frames)), claimed-replay (x .frames)))
@@ -96,13 +98,14 @@ follows-mount {N} img x ks h here others g =
     subst (λ (b : Bool). Follows N (exec N) img (enterWipe r) (map erase ks ++ transferIf N b k (x .time) st) (mountedAt N b l x)) (sym t)
     (subst (λ (n : ℕ). Follows N (exec N) img (enterWipe r) (map erase ks ++ []) (idle (rest N l k n))) end-is
     (subst (λ (ys : List Step). Follows N (exec N) img (enterWipe r) ys (idle (rest N l k (e + 0)))) (no-append k e (map erase ks) [])
-    (follows-staying img l k e (placesOf (x .frames)) (r .job) 0 e [] ks (sized-last sized) (sized .count) (besides-blocks N k ks others) has here (omega arith) t
-    (omega arith)))))
+    (follows-staying img l k e (placesOf (x .frames)) (r .job) 0 e [] ks (sized-last sized) (sized .count) (besides-blocks N k ks others) has here
+    (omega arith) t (omega arith)))))
 
 -- ---- a queue request's frame
 
 pub follows-frame : {N : ℕ} (img : List ℕ) (r : Record) (x : Held) (f : Frame) → isCount N ≡ true → length img ≡ suc (r .last)
-    → r .blocks ≡ N → r .block < N → Journal (block (sizeOf N img) (r .block) img) (x .frames) → r .end ≡ endOf (x .frames) → claimed (replay (x .frames)) + frameLen f ≤ sizeOf N img
+    → r .blocks ≡ N → r .block < N → Journal (block (sizeOf N img) (r .block) img) (x .frames) → r .end ≡ endOf (x .frames)
+    → claimed (replay (x .frames)) + frameLen f ≤ sizeOf N img
     → Follows N (exec N) img (enterWipe (appendJob N img r x f)) (framePlan N (needsRoom N img r f) (r .block) (r .end) x f)
     (framedAt N (needsRoom N img r f) (r .last) (r .block) (r .end) x f)
 unfolding applyAll

@@ -169,7 +169,8 @@ same-stands {N} img r x i st su y z =
     stretchAt : ℕ → ℕ → Stretch
     stretchAt a n = record { at = a; size = n }
 
-pub same-stretch : (N : ℕ) (img : List ℕ) (r : Record) (x : Held) (q : Request) (st su : Stretch) → HandsBack N img r x q st → HandsBack N img r x q su → st ≡ su
+pub same-stretch : (N : ℕ) (img : List ℕ) (r : Record) (x : Held) (q : Request) (st su : Stretch) → HandsBack N img r x q st → HandsBack N img r x q su
+    → st ≡ su
 same-stretch N img r x (Put i) st su e f = e ∙ sym f
 same-stretch N img r x (Delete i) st su e f = e ∙ sym f
 same-stretch N img r x Commit st su e f = e ∙ sym f

@@ -42,7 +42,7 @@ use Rattle.board.proofs.Lengths.{length-format, format-some}
 use Rattle.board.proofs.Replies.{journal-of}
 use Rattle.board.proofs.Formatting.{format-safe, format-ends}
 use Rattle.board.proofs.Deciding.{Taken, StoreThere, InTime, Outcome, worn-out, begins, mount-outcome, MountSafe, nothing-there, store-there, mount-safe}
-use Rattle.board.proofs.Mounting.{mount-keeps, mount-ends, mount-short}
+use Rattle.board.proofs.Mounting.{mount-keeps, mount-ends, mount-short, mount-erases}
 use Rattle.board.proofs.Requests.{Requested, request-keeps}
 use Rattle.frame.specs.declared.Fault.{Fault}
 
@@ -169,7 +169,7 @@ module _ {N : ℕ} {s : ℕ} {img : List ℕ} (b : Book) {u : Bool} (v : Bare N 
       finish g (job-begins img g (mountPlan N (allFound N img) x) last
       (follows-mount img x ks (v .sized .ok) (y .there) (wiped-besides N (x .number) img)
       (subst (λ (n : ℕ). Journal (block n (x .number) img) (x .frames)) (sym (size-of (v .sized))) (journal-of h)))
-      (mount-short x (v .sized) (y .there) h t)
+      (omega (arith, mount-short x (v .sized) (y .there) h t, mount-erases x (v .sized) (y .there) h t))
       (λ n l. let g = mount-keeps x (v .sized) (y .there) h t false k f n l in (g .0, λ d. g .1)) (settled-book k a) (ready-idle (a .ready)))
     where
       finish : (g : Record) → Begun N s (GuardIn N s (b .objects) false nothing) (λ i q. IdleBook N s i q (book (b .objects) noLists nothing)) img g
@@ -239,7 +239,7 @@ format-done : {N : ℕ} {s : ℕ} {img : List ℕ} (r : Record) → Sized N s im
     → formatted N (exec N) img r ≡ out Done (applyAll s (formatPlan N img) img) (idle (rest N (length img - 1) 0 headerLen)) []
 format-done {N} {s} {img} r z =
     let first = format-some N img in
-    ap (stepsOn (exec N) 12) (format-begins N img (z .ok))
+    ap (stepsOn (exec N) (N + 10)) (format-begins N img (z .ok))
     ∙ ap (λ (n : ℕ). stepsOn (exec N) n (begin img [] (formatJob N img))) (sym (length-format N img))
     ∙ follows-steps N (exec N) (formatPlan N img) (first .0) (first .1) (first .2) s (begin img [] (formatJob N img))
     (idle (rest N (length img - 1) 0 headerLen)) (size-of z)

@@ -31,21 +31,14 @@ use Rattle.board.specs.CutFormat.{Beside}
 use Rattle.board.specs.Demand2.{Accepted}
 use Rattle.board.proofs.Images.{Sized, size-of}
 use Rattle.board.proofs.Invariant.{Quiet, Others, Lessers, Safe, no-valid, some-valid}
-use Rattle.board.proofs.Found.{Among, Rising, newest-among, Pair, newest-strict, unequal-untied, LowestPair, lowest-pair, foundFrom, found-all, store}
-use Rattle.board.proofs.Found.{Holds, among-holds, holds-among, stores-rise, stores-none, Strangest, no-foreign, first-foreign, strangest}
+use Rattle.board.proofs.Found.{Among, Rising, same-number, newest-among, Pair, untied-one, newest-strict, unequal-untied, LowestPair, lowest-pair, foundFrom}
+use Rattle.board.proofs.Found.{found-all, store, Holds, among-holds, holds-among, stores-rise, stores-none, Strangest, no-foreign, first-foreign, strangest}
 use Rattle.board.proofs.Order.{beside-of}
 use Rattle.board.proofs.Outcomes.{mount-none, mount-equal, mount-at, mount-worn, mount-begins}
 use Rattle.board.proofs.Current.{Keeps, block-long, blank-quiet}
 use Rattle.board.proofs.Erasing.{NoStore, SameValid, same-valid}
 
 -- ---- the decision
-
--- the store that a mount takes
-pub record Taken (N : ℕ) (s : ℕ) (img : List ℕ) (x : Store) : Type 0 where
-  pub there : x .number < N
-  pub is-valid : blockState (block s (x .number) img) ≡ valid (x .time) (x .frames) (x .tail)
-  pub others : Others N (λ j. Beside (x .time) (blockState (block s j img))) (x .number)
-  pub decides : mountOn N img ≡ mountAt N img (allFound N img) x
 
 -- two valid blocks of one time
 pub record SameTimes (N : ℕ) (s : ℕ) (img : List ℕ) (j k : ℕ) : Type 0 where
@@ -59,6 +52,14 @@ pub record SameTimes (N : ℕ) (s : ℕ) (img : List ℕ) (j k : ℕ) : Type 0 w
   pub apart : j ≡ k → ⊥
   pub is-valid : blockState (block s j img) ≡ valid time frames tail
   pub is-valid′ : blockState (block s k img) ≡ valid time frames′ tail′
+
+-- the store that a mount takes
+pub record Taken (N : ℕ) (s : ℕ) (img : List ℕ) (x : Store) : Type 0 where
+  pub there : x .number < N
+  pub is-valid : blockState (block s (x .number) img) ≡ valid (x .time) (x .frames) (x .tail)
+  pub others : Others N (λ j. Beside (x .time) (blockState (block s j img))) (x .number)
+  pub untied : (j k : ℕ) → SameTimes N s img j k → ⊥
+  pub decides : mountOn N img ≡ mountAt N img (allFound N img) x
 
 pub data Decided (N : ℕ) (s : ℕ) (img : List ℕ) : Type 0 where
   foreign-block : (j : ℕ) → j < N → (e : Fault) → blockState (block s j img) ≡ foreign e
@@ -149,6 +150,10 @@ module _ {N : ℕ} {s : ℕ} {img : List ℕ} (z : Sized N s img) where
           is-valid = h .is-valid;
           others = λ j l n. beside-of (State j)
               (λ t fs c v. newest-strict y ys (unequal-untied (x .time) (y ∷ ys) q) (store j t fs c) (among j t fs c l v) n);
+          untied = λ j k p.
+              p .apart (same-number (untied-one (p .time) (y ∷ ys) (unequal-untied (p .time) (y ∷ ys) q) (store j (p .time) (p .frames) (p .tail))
+              (store k (p .time) (p .frames′) (p .tail′)) (among j (p .time) (p .frames) (p .tail) (p .there) (p .is-valid))
+              (among k (p .time) (p .frames′) (p .tail′) (p .there′) (p .is-valid′)) refl refl));
           decides = mount-at N img (z .ok) y ys e q;
         }
 
@@ -263,6 +268,28 @@ mount-worn-out {N} {s} {img} z y e = go (mount-decides z)
 
 -- ---- on a safe image
 
+-- no two valid blocks have one time: beside the current one, which is newer, at most one is valid
+pub safe-untied : {N : ℕ} {s : ℕ} {img : List ℕ} {os : List Object} {u : Bool} → Safe N s img os u → (i j : ℕ) → SameTimes N s img i j → ⊥
+safe-untied (no-valid e n) i j p = subst Quiet (p .is-valid) (n i (p .there))
+safe-untied {N} {s} {img} (some-valid k h v q) i j p =
+    on-test (eqb i k)
+    (λ e. let f : i ≡ k = eqb-true i k e in omega (arith, at-time i (p .is-valid) f, older j (p .there′) (p .is-valid′) (λ g. p .apart (f ∙ sym g)) .1))
+    (λ e.
+    let o = older i (p .there) (p .is-valid) (eqb-false i k e) in
+    on-test (eqb j k)
+    (λ g. omega (arith, o .1, at-time j (p .is-valid′) (eqb-true j k g)))
+    (λ g. p .apart (o .0 ∙ sym (older j (p .there′) (p .is-valid′) (eqb-false j k g) .0))))
+  where
+    at-time : {t : ℕ} {fs : List Frame} {c : Tail} (m : ℕ) → blockState (block s m img) ≡ valid t fs c → m ≡ k → t ≡ v .time
+    at-time m a e = same-valid (sym a ∙ ap (λ (n : ℕ). blockState (block s n img)) e ∙ contents-valid (v .contents)) .time
+
+    older : {t : ℕ} {fs : List Frame} {c : Tail} (m : ℕ) → m < N → blockState (block s m img) ≡ valid t fs c → (m ≡ k → ⊥) → (m ≡ q .one) × (t < v .time)
+    older m l a n = (
+      on-test (eqb m (q .one)) (eqb-true m (q .one))
+          (λ e. absurd (subst Quiet a (blank-quiet s (block s m img) (q .blanks m l n (eqb-false m (q .one) e))))),
+      harmless-older (block s m img) (q .older m l n) a,
+    )
+
 pub data MountSafe (N : ℕ) (s : ℕ) (img : List ℕ) (os : List Object) (u : Bool) : Type 0 where
   nothing-there : u ≡ true → mountOn N img ≡ refuse refusal.NoStore img unmounted [] → MountSafe N s img os u
   store-there : (x : Store) → Taken N s img x → StoreThere s img x → Keeps s (replay (x .frames)) os → Lessers N s img (x .time) (x .number)
@@ -280,32 +307,6 @@ mount-safe {N} {s} {img} {os} {u} z (some-valid k h v q) = go (mount-decides z)
   where
     here : blockState (block s k img) ≡ valid (v .time) (v .frames) (v .tail)
     here = contents-valid (v .contents)
-
-    -- no block but that one and one other is valid, and the two have different times
-    older : (j t : ℕ) (fs : List Frame) (c : Tail) → j < N → blockState (block s j img) ≡ valid t fs c → (j ≡ k → ⊥) → (j ≡ q .one) × (t < v .time)
-    older j t fs c l a n = (
-      on-test (eqb j (q .one)) (eqb-true j (q .one))
-          (λ e. absurd (subst Quiet a (blank-quiet s (block s j img) (q .blanks j l n (eqb-false j (q .one) e))))),
-      harmless-older (block s j img) (q .older j l n) a,
-    )
-
-    at-time : (j t : ℕ) (fs : List Frame) (c : Tail) → blockState (block s j img) ≡ valid t fs c → j ≡ k → t ≡ v .time
-    at-time j t fs c a e = same-valid (sym a ∙ ap (λ (i : ℕ). blockState (block s i img)) e ∙ here) .time
-
-    twice : (i j : ℕ) → SameTimes N s img i j → ⊥
-    twice i j p =
-        on-test (eqb i k)
-        (λ e. let f : i ≡ k = eqb-true i k e in
-        omega (
-          arith,
-          at-time i (p .time) (p .frames) (p .tail) (p .is-valid) f,
-          older j (p .time) (p .frames′) (p .tail′) (p .there′) (p .is-valid′) (λ g. p .apart (f ∙ sym g)) .1,
-        ))
-        (λ e.
-        let o = older i (p .time) (p .frames) (p .tail) (p .there) (p .is-valid) (eqb-false i k e) in
-        on-test (eqb j k)
-        (λ g. omega (arith, o .1, at-time j (p .time) (p .frames′) (p .tail′) (p .is-valid′) (eqb-true j k g)))
-        (λ g. p .apart (o .0 ∙ sym (older j (p .time) (p .frames′) (p .tail′) (p .there′) (p .is-valid′) (eqb-false j k g) .0))))
 
     -- the store that is taken is the one that is there
     at : (x : Store) → Taken N s img x → x .number ≡ k → MountSafe N s img os u
@@ -328,6 +329,6 @@ mount-safe {N} {s} {img} {os} {u} z (some-valid k h v q) = go (mount-decides z)
 
     go : Decided N s img → MountSafe N s img os u
     go (foreign-block j l f p o b r) = absurd (o k (v .time) (v .frames) (v .tail) h here)
-    go (equal-times i j p o r) = absurd (twice i j p)
+    go (equal-times i j p o r) = absurd (safe-untied {u = u} (some-valid k h v q) i j p)
     go (none-valid n r) = absurd (subst Quiet here (n k h))
     go (at-store x y) = on-test (eqb (x .number) k) (λ e. at x y (eqb-true (x .number) k e)) (λ e. other x y (eqb-false (x .number) k e))

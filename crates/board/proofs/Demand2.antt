@@ -46,7 +46,7 @@ use Rattle.board.proofs.Replies.{journal-of}
 use Rattle.board.proofs.Refusals.{refusals-untouched, at-most-one-step}
 use Rattle.board.proofs.Formatting.{format-lands, format-ends}
 use Rattle.board.proofs.Deciding.{Begins, mount-accepted, taken-newest}
-use Rattle.board.proofs.Mounting.{mount-lands, mount-ends, mount-short}
+use Rattle.board.proofs.Mounting.{mount-lands, mount-ends, mount-short, mount-erases}
 use Rattle.board.proofs.Planning.{jobOf, Met, refused, done, begun, request-met, frame-begins}
 
 -- ---- one store
@@ -72,12 +72,13 @@ module _ {N : ℕ} {s : ℕ} {img : List ℕ} (z : Sized N s img) (y : Begins N 
   -- the job is begun, or there is none
   mount-begun : Begun N s (StepLands s) (Ready N s) img job
   mount-begun =
-      job-begins img job (mountPlan N (allFound N img) x) last mount-follows (mount-short x z (y .taken .there) (y .holds) (y .in-time))
+      job-begins img job (mountPlan N (allFound N img) x) last mount-follows
+      (omega (arith, mount-short x z (y .taken .there) (y .holds) (y .in-time), mount-erases x z (y .taken .there) (y .holds) (y .in-time)))
       (mount-lands x z (y .taken .there) (y .holds) (y .in-time)) (after .ready) (ready-idle (after .ready))
 
-pub one-store : {N : ℕ} → OneStore N (exec N)
+pub one-store : (N : ℕ) → OneStore N (exec N)
 unfolding OneStore
-one-store {N} img r by ok a =
+one-store N img r by ok a =
     let s : ℕ = sizeOf N img in
     let z : Sized N s img = sized-of N img ok in
     let y : Begins N s img = mount-accepted z by a in
@@ -166,7 +167,7 @@ request-kept {N} {s} {img} {r} v h m reply bm = go (request-met N img r reply h 
 -- ---- a step
 
 abbrev StepDone : ℕ → ℕ → List ℕ → Out → Type 0
-StepDone N s img o = OneLands img o × Kept N s o
+StepDone N s img o = OneLands N img o × Kept N s o
 
 step-done : {N : ℕ} {s : ℕ} {img : List ℕ} {r : Record} → Steady N s img r → StepDone N s img (stepOn N img r)
 step-done {N} {s} {img} {r} v = go (r .phase) refl (v .phase)
@@ -181,7 +182,7 @@ step-done {N} {s} {img} {r} v = go (r .phase) refl (v .phase)
         let y : Stepped N s (StepLands s) (Ready N s) img r = job-step (v .sized) j in
         let i : List ℕ = apply s (y .does) img in
         subst (StepDone N s img) (sym (y .gives)) (
-          subst (λ (n : ℕ). OneLands img (out (answerOf (y .next)) (apply n (y .does) img) (y .next) [])) (size-of (v .sized))
+          subst (λ (n : ℕ). OneLands N img (out (answerOf (y .next)) (apply n (y .does) img) (y .next) [])) (size-of (v .sized))
               (inr (y .does, refl, subst (λ (n : ℕ). LandsAt n (y .does) img) (sym (size-of (v .sized))) (lands-at s (y .does) img (y .holds)))),
           steady-begun (sized-as i (length-apply s (y .does) img) (v .sized)) (bytes-apply s (y .does) img (v .bytes)) (y .next) (y .then),
         )
@@ -252,8 +253,8 @@ all-land {N} {s} {img} b v (cutErase k new q ∷ call c ∷ es) (x, n, (_, h)) =
     (inl (y .0), all-land (enterCall b c (exec N i q c .answer)) (y .1) es h)
 all-land b v (cutErase k new q ∷ cutErase j more p ∷ es) (x, n, h) = absurd n
 
-pub lands-from : {N : ℕ} → LandsFrom N (exec N)
-lands-from =
+pub lands-from : (N : ℕ) → LandsFrom N (exec N)
+lands-from N =
     record {
       from-mount = λ img r b es by ok h. all-land b (mount-kept (sized-of N img ok) by) es h;
       from-format = λ img r b es by ok h. all-land b (format-kept (sized-of N img ok) by) es h;

@@ -17,7 +17,7 @@ use Rattle.frame.specs.Frame.{Frame}
 use Rattle.frame.specs.Reader.{Tail}
 use Rattle.journal.specs.Replay.{Object}
 use Rattle.journal.specs.Block.{BlockState, valid, blockState}
-use Rattle.journal.proofs.States.{Contents, contents-valid}
+use Rattle.journal.proofs.States.{Contents}
 use Rattle.journal.proofs.Raising.{Harmless, harmless-raised, blank-harmless}
 use Rattle.board.proofs.Blocks.{Blocks, Besides, besides-blocks, besides-kept}
 use Rattle.board.proofs.Images.{Sized, sized-as, sized-block, length-all-steps}
@@ -51,19 +51,9 @@ quiet-not-valid x t fs c q e = absurd (subst Quiet e q)
 abbrev pub NoStore : ℕ → ℕ → List ℕ → Type 0
 NoStore N s img = (j : ℕ) → j < N → Quiet (blockState (block s j img))
 
--- the objects are there, or no store
-pub safe-or : {N : ℕ} {s : ℕ} {img : List ℕ} {os : List Object} {u : Bool} → Safe N s img os u → Safe N s img os false ⊎ ((u ≡ true) × NoStore N s img)
-safe-or (no-valid e q) = inr (e, q)
-safe-or (some-valid k h v q) = inl (some-valid k h v q)
-
 pub safe-more : {N : ℕ} {s : ℕ} {img : List ℕ} {os : List Object} (u : Bool) → Safe N s img os false → Safe N s img os u
 safe-more u (no-valid e q) = absurd (false≢true e)
 safe-more u (some-valid k h v q) = some-valid k h v q
-
-pub safe-some : {N : ℕ} {s : ℕ} {img : List ℕ} {os : List Object} → Safe N s img os false → NoStore N s img → ⊥
-safe-some (no-valid e q) n = false≢true e
-safe-some {N} {s} {img} (some-valid k h v q) n =
-    quiet-not-valid (blockState (block s k img)) (v .time) (v .frames) (v .tail) (n k h) (contents-valid (v .contents))
 
 -- a valid state's parts
 pub record SameValid (t : ℕ) (fs : List Frame) (c : Tail) (t′ : ℕ) (fs′ : List Frame) (c′ : Tail) : Type 0 where
@@ -146,10 +136,6 @@ module _ {N : ℕ} {s : ℕ} {img : List ℕ} {os : List Object} (z : Sized N s 
   pub erase-lessers : Lessers N s (eraseBlock s k img) (v .time) m
   unfolding ones
   erase-lessers = still-lessers z m k l h d v q ones ones-long ones-harmless (λ _. ones-blank)
-
-  pub erase-safe : (u : Bool) → Safe N s (eraseBlock s k img) os u
-  unfolding ones
-  erase-safe u = still-safe z m k l h d v q ones ones-long ones-harmless (λ _. ones-blank) u
 
 -- ---- erases of a list of blocks
 

@@ -53,7 +53,7 @@ module _ {N : ℕ} {m : Machine} (p : Calls N m) where
   unfolding OneStore
   one-store-of img r by ok a =
       let e : m img r mount .answer ≡ exec N img r mount .answer = ap (λ (s : Shown). s .answer) (mount-agrees p calls img by r r .same) in
-      mounts-over img r (exec N img r mount) by a (one-store img r by ok (subst Accepted e a))
+      mounts-over img r (exec N img r mount) by a (one-store N img r by ok (subst Accepted e a))
 
   -- ---- every run
 
@@ -93,10 +93,10 @@ module _ {N : ℕ} {m : Machine} (p : Calls N m) where
       record {
         from-mount = λ img r b es by ok h.
             lands-first img (m img r mount) (exec N img r mount) b (p .one-step img r mount) (mount-agrees p calls img by r r) es h
-            (lands-from .from-mount img r b es by ok);
+            (lands-from N .from-mount img r b es by ok);
         from-format = λ img r b es by ok h.
             lands-first img (m img r format) (exec N img r format) b (p .one-step img r format) (format-agrees p calls img by r r) es h
-            (lands-from .from-format img r b es by ok);
+            (lands-from N .from-format img r b es by ok);
       }
 
 -- ---- the promise

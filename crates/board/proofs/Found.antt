@@ -2,7 +2,7 @@
 use mathlib.Core.Path.{_≡_, refl, sym, ap, subst, _∙_}
 use mathlib.Core.List.{List, [], _∷_, map}
 use mathlib.Core.Logic.{_⊎_, inl, inr}
-use mathlib.Core.Bool.{Bool, true, false, _||_, cond, false≢true}
+use mathlib.Core.Bool.{true, false, false≢true}
 use Prim.Native.Nat.{ℕ, zero, suc, _+_, _≤_, _<_}
 use native.Mathlib.Omega.{arith}
 use lib.Dec.{eqb, ltb}
@@ -27,7 +27,7 @@ abbrev pub Rising : List Store → Type 0
 Rising [] = Unit {0}
 Rising (x ∷ xs) = ((y : Store) → Among y xs → x .number < y .number) × Rising xs
 
-same-number : {x y : Store} → x ≡ y → x .number ≡ y .number
+pub same-number : {x y : Store} → x ≡ y → x .number ≡ y .number
 same-number e = ap (λ (z : Store). z .number) e
 
 time-is : {x y : Store} → x ≡ y → x .time ≡ y .time

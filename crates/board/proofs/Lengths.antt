@@ -2,10 +2,10 @@
 use mathlib.Core.Path.{_≡_, refl, ap, _∙_}
 use mathlib.Core.List.{List, [], _∷_, _++_, map}
 use mathlib.Core.Bool.{Bool, true, false}
-use Prim.Native.Nat.{ℕ, zero, suc, _+_, _≤_}
+use Prim.Native.Nat.{ℕ, suc, _+_}
 use native.Mathlib.Omega.{arith}
-use lib.ListN.{length, drop, length-append, length-map}
-use Rattle.flash.specs.Flash.{Step, program, erase, Write, writeStep, writes}
+use lib.ListN.{length, length-append, length-map}
+use Rattle.flash.specs.Flash.{Step, erase, Write, writeStep, writes}
 use Rattle.flash.proofs.Programming.{length-writes}
 use Rattle.frame.specs.Frame.{Frame, encode, encodeAll, frameLen}
 use Rattle.frame.proofs.Encode.{length-encode}
@@ -74,40 +74,41 @@ length-mount-stayed N xs x t =
 
 -- ---- without the erases
 
-pub programs-wipes : (ks : List ℕ) (xs : List Step) → programs (map erase ks ++ xs) ≡ programs xs
+programs-wipes : (ks : List ℕ) (xs : List Step) → programs (map erase ks ++ xs) ≡ programs xs
 unfolding programs
 programs-wipes [] xs = refl
 programs-wipes (k ∷ ks) xs = programs-wipes ks xs
 
-pub programs-writes : (k : ℕ) (ws : List Write) (xs : List Step) → programs (onBlock k ws ++ xs) ≡ onBlock k ws ++ programs xs
+programs-writes : (k : ℕ) (ws : List Write) (xs : List Step) → programs (onBlock k ws ++ xs) ≡ onBlock k ws ++ programs xs
 unfolding programs
 programs-writes k [] xs = refl
 programs-writes k (w ∷ ws) xs = ap (λ (ys : List Step). writeStep k w ∷ ys) (programs-writes k ws xs)
 
 -- a transfer has one erase
-pub programs-transfer : (N : ℕ) (k time : ℕ) (st : State) → length (transferPlan N k time st) ≡ suc (length (programs (transferPlan N k time st)))
+programs-transfer : (N : ℕ) (k time : ℕ) (st : State) → length (transferPlan N k time st) ≡ suc (length (programs (transferPlan N k time st)))
 unfolding programs
 programs-transfer N k time st =
-    let ws : List Step = onBlock (nextBlock N k) (build (suc time) (framesOf st)) in
-    omega (arith, length-append ws (erase k ∷ []), ap (λ (xs : List Step). length xs) (programs-writes (nextBlock N k) (build (suc time) (framesOf st)) (erase k ∷ [])), length-append ws [])
+    let ws : List Write = build (suc time) (framesOf st) in
+    let n : ℕ = nextBlock N k in
+    let e : length (programs (transferPlan N k time st)) ≡ length (onBlock n ws) + 0 =
+    ap (λ (xs : List Step). length xs) (programs-writes n ws (erase k ∷ [])) ∙ length-append (onBlock n ws) [] in
+    omega (arith, e, length-append (onBlock n ws) (erase k ∷ []))
 
--- no more of them are in a part of a plan
-pub programs-less : (xs : List Step) → length (programs xs) ≤ length xs
-unfolding programs
-programs-less [] = omega arith
-programs-less (program k o v ∷ xs) = omega (arith, programs-less xs)
-programs-less (erase k ∷ xs) = omega (arith, programs-less xs)
+pub programs-mount-moved : (N : ℕ) (xs : List Found) (x : Store) → needsTransfer (x .frames) (x .tail) ≡ true
+    → length (programs (mountPlan N xs x)) + 6 ≡ used (replay (x .frames))
+programs-mount-moved N xs x t =
+    let ks : List ℕ = wipeList (x .number) xs in
+    let st : State = settledOnly (replay (x .frames)) in
+    let ts : List Step = transferPlan N (x .number) (x .time) st in
+    let e : length (programs (mountPlan N xs x)) ≡ length (programs ts) =
+    ap (λ (b : Bool). length (programs (map erase ks ++ transferIf N b (x .number) (x .time) st))) t
+    ∙ ap (λ (ys : List Step). length ys) (programs-wipes ks ts) in
+    omega (arith, e, programs-transfer N (x .number) (x .time) st, length-transfer N (x .number) (x .time) st, claimed-settled (replay (x .frames)))
 
-pub programs-drop : (n : ℕ) (xs : List Step) → length (programs (drop n xs)) ≤ length (programs xs)
+pub programs-mount-stayed : (N : ℕ) (xs : List Found) (x : Store) → needsTransfer (x .frames) (x .tail) ≡ false
+    → length (programs (mountPlan N xs x)) ≡ 0
 unfolding programs
-programs-drop zero xs = omega arith
-programs-drop (suc n) [] = omega arith
-programs-drop (suc n) (program k o v ∷ xs) = omega (arith, programs-drop n xs)
-programs-drop (suc n) (erase k ∷ xs) = programs-drop n xs
-
-pub erases-drop : (n : ℕ) (xs : List Step) → length (drop n xs) + length (programs xs) ≤ length xs + length (programs (drop n xs))
-unfolding programs
-erases-drop zero xs = omega arith
-erases-drop (suc n) [] = omega arith
-erases-drop (suc n) (program k o v ∷ xs) = omega (arith, erases-drop n xs)
-erases-drop (suc n) (erase k ∷ xs) = omega (arith, erases-drop n xs)
+programs-mount-stayed N xs x t =
+    let ks : List ℕ = wipeList (x .number) xs in
+    ap (λ (b : Bool). length (programs (map erase ks ++ transferIf N b (x .number) (x .time) (settledOnly (replay (x .frames)))))) t
+    ∙ ap (λ (ys : List Step). length ys) (programs-wipes ks [])

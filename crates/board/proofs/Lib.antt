@@ -1,7 +1,7 @@
 -- The laws and theorems of the board, by subject. Each file's first line says what it proves.
 
 -- ---- images and blocks: used by every group below
-pub mod Numbers  -- the number of the block that a transfer goes to
+pub mod Numbers  -- of blocks: the one that a transfer goes to, all, all but one
 pub mod Images  -- allowed lengths, and what steps do to each block
 pub mod Blocks  -- lists of block numbers
 pub mod Found  -- the valid blocks, the newest of them, those of one time, the lowest foreign block

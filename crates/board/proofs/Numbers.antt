@@ -1,11 +1,11 @@
 -- Numbers of blocks: the one that a transfer goes to, and all of them.
 use mathlib.Core.Path.{_≡_, refl, sym, ap, ap₂, _∙_}
-use mathlib.Core.List.{List, [], _∷_, _++_}
-use mathlib.Core.Bool.{Bool, true, false, cond}
+use mathlib.Core.List.{List, _∷_, _++_}
 use Prim.Native.Nat.{ℕ, zero, suc, _+_, _-_, _≤_, _<_}
 use native.Mathlib.Omega.{arith}
 use lib.Dec.{eqb, ltb}
-use lib.ListN.{length, getD}
+use lib.ListN.{length, getD, length-append, List·getD-append}
+use lib.Seq.{getD-append-add}
 use borrow.Author.Tests.{eqb-true, eqb-false, ltb-true, ltb-false, ne-eqb}
 use Rattle.flash.specs.Flash.{numbersFrom, blockNumbers}
 use Rattle.flash.proofs.Cases.{on-test}
@@ -49,7 +49,7 @@ but-past k a zero h = refl
 but-past k a (suc n) h = rw (ne-eqb k a (λ e. omega arith)) (ap (λ (l : List ℕ). a ∷ l) (but-past k (suc a) n (omega arith)))
 
 -- those below it, and those above
-pub but-is : (k a n : ℕ) → a ≤ k → k < a + n → numbersBut k (numbersFrom a n) ≡ numbersFrom a (k - a) ++ numbersFrom (suc k) (a + n - suc k)
+but-is : (k a n : ℕ) → a ≤ k → k < a + n → numbersBut k (numbersFrom a n) ≡ numbersFrom a (k - a) ++ numbersFrom (suc k) (a + n - suc k)
 unfolding numbersFrom
 but-is k a zero l h = absurd (omega arith)
 but-is k a (suc n) l h =
@@ -63,3 +63,30 @@ but-is k a (suc n) l h =
     let low : suc (k - suc a) ≡ k - a = omega (arith, d) in
     let high : suc a + n - suc k ≡ a + suc n - suc k = omega arith in
     rw t (ap (λ (l : List ℕ). a ∷ l) (but-is k (suc a) n (omega (arith, d)) (omega arith)) ∙ ap₂ parts low high))
+
+-- of the blocks of an image
+module _ (N k : ℕ) (h : k < N) where
+  abbrev low : List ℕ
+  low = numbersFrom 0 (k - 0)
+
+  abbrev high : List ℕ
+  high = numbersFrom (suc k) (0 + N - suc k)
+
+  parts : numbersBut k (blockNumbers N) ≡ low ++ high
+  parts = but-is k 0 N (omega arith) (omega arith)
+
+  low-long : length low ≡ k
+  low-long = length-numbers 0 (k - 0) ∙ omega arith
+
+  pub length-but : length (numbersBut k (blockNumbers N)) ≡ N - 1
+  length-but = ap length parts ∙ length-append low high ∙ omega (arith, low-long, length-numbers (suc k) (0 + N - suc k))
+
+  pub but-below : (i : ℕ) → i < k → getD (numbersBut k (blockNumbers N)) i 0 ≡ i
+  but-below i l =
+      ap (λ (ns : List ℕ). getD ns i 0) parts ∙ List·getD-append low high 0 i (omega (arith, low-long)) ∙ number-at 0 (k - 0) i (omega arith) ∙ omega arith
+
+  pub but-above : (i : ℕ) → k ≤ i → suc i < N → getD (numbersBut k (blockNumbers N)) i 0 ≡ suc i
+  but-above i l g =
+      let e : i ≡ length low + (i - k) = omega (arith, low-long) in
+      ap (λ (ns : List ℕ). getD ns i 0) parts ∙ ap (λ (n : ℕ). getD (low ++ high) n 0) e ∙ getD-append-add low high (i - k) 0
+      ∙ number-at (suc k) (0 + N - suc k) (i - k) (omega arith) ∙ omega arith

@@ -1,9 +1,9 @@
 -- The order in which a format erases the blocks: all of them, in number order but for the current one, which is last.
 use mathlib.Core.Path.{_≡_, refl, sym, ap, subst, _∙_}
 use mathlib.Core.List.{List, [], _∷_, _++_}
-use mathlib.Core.Logic.{_⊎_, inl, inr}
-use mathlib.Core.Bool.{Bool, true, false, cond}
-use Prim.Native.Nat.{ℕ, zero, suc, _+_, _-_, _≤_, _<_}
+use mathlib.Core.Logic.{inl, inr}
+use mathlib.Core.Bool.{true, false}
+use Prim.Native.Nat.{ℕ, zero, suc, _+_, _≤_, _<_}
 use native.Mathlib.Omega.{arith}
 use lib.Dec.{eqb}
 use lib.ListN.{length, length-append}
@@ -15,10 +15,11 @@ use Rattle.frame.specs.Reader.{Tail}
 use Rattle.journal.specs.Block.{BlockState, blank, inProgress, valid, foreign, blockState}
 use Rattle.board.specs.Mount.{Store, allFound, stores, newest, numbersBut, tied, orderFor, formatOrder}
 use Rattle.board.specs.CutFormat.{Beside}
-use Rattle.board.proofs.Numbers.{length-numbers, but-is}
+use Rattle.board.proofs.Numbers.{length-numbers, length-but}
 use Rattle.board.proofs.Blocks.{Blocks, Besides, besides-blocks}
 use Rattle.board.proofs.Erasing.{In}
-use Rattle.board.proofs.Found.{Among, Rising, newest-among, newest-most, newest-strict, Pair, tied-pair, store, Holds, among-holds, holds-among, stores-rise, stores-none}
+use Rattle.board.proofs.Found.{Among, Rising, newest-among, newest-most, newest-strict, Pair, tied-pair, store, Holds, among-holds, holds-among}
+use Rattle.board.proofs.Found.{stores-rise, stores-none}
 
 -- what is valid only with a smaller time
 pub beside-of : {t : ℕ} (a : BlockState) → ((u : ℕ) (fs : List Frame) (c : Tail) → a ≡ valid u fs c → u < t) → Beside t a
@@ -121,7 +122,9 @@ module _ (N : ℕ) (img : List ℕ) where
   order-of = go (stores (allFound N img)) refl
     where
       go : (xs : List Store) → stores (allFound N img) ≡ xs → Order N img
-      go [] e = by-number (λ k n. stores-none (StateOf N img) 0 N e k (n .time) (n .frames) (n .tail) (omega arith) (omega (arith, n .there)) (n .is-valid)) (order-is e)
+      go [] e =
+          by-number (λ k n. stores-none (StateOf N img) 0 N e k (n .time) (n .frames) (n .tail) (omega arith) (omega (arith, n .there)) (n .is-valid))
+          (order-is e)
       go (y ∷ ys) e =
           on-test (tied (newest y ys .time) (y ∷ ys)) (λ t. by-number (newest-not e t) (order-is e ∙ rw t))
           (λ t. last-is (newest y ys .number) (newest-there e t) (order-is e ∙ rw t))
@@ -170,11 +173,7 @@ in-snoc j k ns f = on-test (eqb j k) (λ t. last ns (eqb-true j k t)) (λ t. fro
     front (n ∷ ns) (inr i) = inr (front ns i)
 
 length-last : (N k : ℕ) → k < N → length (numbersBut k (blockNumbers N) ++ (k ∷ [])) ≡ N
-length-last N k h =
-    let low : List ℕ = numbersFrom 0 (k - 0) in
-    let high : List ℕ = numbersFrom (suc k) (0 + N - suc k) in
-    let n : length (numbersBut k (blockNumbers N)) ≡ length low + length high = ap length (but-is k 0 N (omega arith) (omega arith)) ∙ length-append low high in
-    length-append (numbersBut k (blockNumbers N)) (k ∷ []) ∙ omega (arith, n, length-numbers 0 (k - 0), length-numbers (suc k) (0 + N - suc k))
+length-last N k h = length-append (numbersBut k (blockNumbers N)) (k ∷ []) ∙ omega (arith, length-but N k h)
 
 module _ (N : ℕ) (img : List ℕ) where
   pub order-blocks : Blocks N (formatOrder N img)
@@ -183,7 +182,8 @@ module _ (N : ℕ) (img : List ℕ) where
       go : Order N img → Blocks N (formatOrder N img)
       go (by-number f e) = subst (Blocks N) (sym e) (blocks-from N 0 N (omega arith))
       go (last-is k n e) =
-          subst (Blocks N) (sym e) (blocks-snoc k (numbersBut k (blockNumbers N)) (besides-blocks N k (numbersBut k (blockNumbers N)) (but-besides N k)) (n .there))
+          let ks : List ℕ = numbersBut k (blockNumbers N) in
+          subst (Blocks N) (sym e) (blocks-snoc k ks (besides-blocks N k ks (but-besides N k)) (n .there))
 
   pub order-every : (j : ℕ) → j < N → In j (formatOrder N img)
   order-every j h = go (order-of N img)

@@ -223,7 +223,7 @@ module _ {N : ℕ} (img : List ℕ) (r : Record) (by : Bytes img) where
   mount-does x v a =
       on-test (allowed N (length img))
       (λ ok.
-      let y : Mounts N (exec N) img (mountOn N img) = one-store img r by ok a in
+      let y : Mounts N (exec N) img (mountOn N img) = one-store N img r by ok a in
       let e : y .store ≡ x = same-store img by ok (y .store) x (mounts-current img by ok (mountOn N img) y) v in
       subst (λ (s : Store). Does N img (mountOn N img .board) (mountPlan N (allFound N img) s) (mountedAt N (needsTransfer (s .frames) (s .tail)) (length img - 1) s)) e
       (subst (Follows N (exec N) img (mountOn N img .board) (mountPlan N (allFound N img) (y .store))) (y .is-last) (y .follows), y .short))

@@ -1,4 +1,4 @@
--- A mount is refused exactly as the table's lines say; the states of halves in words.
+-- A mount is refused exactly as the table's lines say; the states of blocks in words.
 use mathlib.Core.Path.{_≡_, refl, sym, ap, ap₂, subst, _∙_, subst₂}
 use mathlib.Core.List.{List, [], _∷_}
 use mathlib.Core.Logic.{inl, inr}
@@ -40,7 +40,7 @@ use Rattle.board.proofs.Current.{block-long}
 use Rattle.board.proofs.Outcomes.{mount-length}
 use Rattle.board.proofs.Erasing.{SameValid, same-valid}
 use Rattle.board.proofs.Deciding as deciding
-use Rattle.board.proofs.Deciding.{Taken, Decided, Outcome, InTime, worn-out, begins, foreign-block, none-valid, at-store}
+use Rattle.board.proofs.Deciding.{Taken, SameTimes, Decided, Outcome, InTime, worn-out, begins, foreign-block, none-valid, at-store}
 use Rattle.board.proofs.Deciding.{mount-decides, mount-outcome, mount-accepted, taken-holds, taken-newest}
 use Rattle.board.proofs.Tabling.{false-true, allowed-is, is-allowed, allowed-not}
 use Rattle.journal.specs.Faults.{FaultIn}
@@ -76,50 +76,64 @@ due-unsettled fs clean t = inr (some-pending (replay fs .pending) t)
 due-unsettled fs (cut k) t = inl (λ e. let w : _≡_ {A = ℕ} 0 1 = cc in omega arith)
 due-unsettled fs (bad e) t = inl (λ e. let w : _≡_ {A = ℕ} 0 1 = cc in omega arith)
 
-module _ {N : ℕ} (img : List ℕ) (by : Bytes img) (ok : allowed N (length img) ≡ true) where
-  abbrev s : ℕ
-  s = sizeOf N img
+answer : {n : Refusal} (N : ℕ) (img : List ℕ) → mountOn N img ≡ refuse n img unmounted [] → numberOf (mountOn N img .answer) ≡ some (refusalNumber n)
+answer N img e = ap (λ (o : Out). numberOf (o .answer)) e
 
-  z : Sized N s img
+-- the table's lines but for 4
+abbrev Left : ℕ → List ℕ → Type 0
+Left N img = Exactly (line 2 (NothingThere N img) ∷ line 3 (Unclear N img) ∷ line 6 (MountWorn N img) ∷ []) (mountOn N img .answer)
+
+module _ {N : ℕ} (img : List ℕ) (by : Bytes img) (ok : allowed N (length img) ≡ true) where
+  z : Sized N (sizeOf N img) img
   z = sized-of N img ok
 
-  long : (k : ℕ) → k < N → headerLen ≤ length (block s k img)
+  long : (k : ℕ) → k < N → headerLen ≤ length (block (sizeOf N img) k img)
   long k h = omega (arith, block-long k z h, z .low)
 
   -- ---- a block's state in words, and back
 
-  pub valid-at : {k t : ℕ} {fs : List Frame} {c : Tail} → k < N → blockState (block s k img) ≡ valid t fs c → ValidAt N img k t fs c
-  valid-at {k} {t} {fs} {c} h e = (h, states-exact .is-valid (block s k img) t fs c (bytes-block s k img by) (long k h) .0 e)
+  pub valid-at : {k t : ℕ} {fs : List Frame} {c : Tail} → k < N → blockState (block (sizeOf N img) k img) ≡ valid t fs c → ValidAt N img k t fs c
+  valid-at {k} {t} {fs} {c} h e = (h, states-exact .is-valid (block (sizeOf N img) k img) t fs c (bytes-block (sizeOf N img) k img by) (long k h) .0 e)
 
-  pub at-valid : {k t : ℕ} {fs : List Frame} {c : Tail} → ValidAt N img k t fs c → blockState (block s k img) ≡ valid t fs c
-  at-valid {k} {t} {fs} {c} (h, v) = states-exact .is-valid (block s k img) t fs c (bytes-block s k img by) (long k h) .1 v
+  pub at-valid : {k t : ℕ} {fs : List Frame} {c : Tail} → ValidAt N img k t fs c → blockState (block (sizeOf N img) k img) ≡ valid t fs c
+  at-valid {k} {t} {fs} {c} (h, v) = states-exact .is-valid (block (sizeOf N img) k img) t fs c (bytes-block (sizeOf N img) k img by) (long k h) .1 v
 
-  foreign-at : {k : ℕ} {e : Fault} → k < N → blockState (block s k img) ≡ foreign e → ForeignAt N img k
-  foreign-at {k} {e} h p = (h, states-exact .is-foreign (block s k img) (bytes-block s k img by) (long k h) .0 (e, p))
+  foreign-at : {k : ℕ} {e : Fault} → k < N → blockState (block (sizeOf N img) k img) ≡ foreign e → ForeignAt N img k
+  foreign-at {k} {e} h p = (h, states-exact .is-foreign (block (sizeOf N img) k img) (bytes-block (sizeOf N img) k img by) (long k h) .0 (e, p))
 
-  at-foreign : {k : ℕ} → ForeignAt N img k → (e : Fault) × (blockState (block s k img) ≡ foreign e)
-  at-foreign {k} (h, v) = states-exact .is-foreign (block s k img) (bytes-block s k img by) (long k h) .1 v
+  at-foreign : {k : ℕ} → ForeignAt N img k → (e : Fault) × (blockState (block (sizeOf N img) k img) ≡ foreign e)
+  at-foreign {k} (h, v) = states-exact .is-foreign (block (sizeOf N img) k img) (bytes-block (sizeOf N img) k img by) (long k h) .1 v
 
-  answer : {n : Refusal} → mountOn N img ≡ refuse n img unmounted [] → numberOf (mountOn N img .answer) ≡ some (refusalNumber n)
-  answer e = ap (λ (o : Out). numberOf (o .answer)) e
+  -- two blocks of one time in words, and back
+  tied-same : {j : ℕ} (k : ℕ) → SameTimes N (sizeOf N img) img j k → TiedAt N img j
+  tied-same k p =
+      tied-with k (p .time) (p .frames′) (p .frames) (p .tail′) (p .tail) (λ e. p .apart (sym e)) (valid-at (p .there′) (p .is-valid′))
+      (valid-at (p .there) (p .is-valid))
 
-  abbrev Left : Type 0
-  Left = Exactly (line 2 (NothingThere N img) ∷ line 3 (Unclear N img) ∷ line 6 (MountWorn N img) ∷ []) (mountOn N img .answer)
+  same-tied : {j : ℕ} → TiedAt N img j → (k : ℕ) × SameTimes N (sizeOf N img) img j k
+  same-tied {j} (tied-with k t fs gs c d n a b) = (
+    k,
+    record {
+      time = t;
+      frames = gs;
+      tail = d;
+      frames′ = fs;
+      tail′ = c;
+      there = b .0;
+      there′ = a .0;
+      apart = λ e. n (sym e);
+      is-valid = at-valid b;
+      is-valid′ = at-valid a;
+    },
+  )
 
-  module _ (x : Store) (y : Taken N s img x) where
+  module _ (x : Store) (y : Taken N (sizeOf N img) img x) where
     at-number : {k t : ℕ} {fs : List Frame} {c : Tail} → ValidAt N img k t fs c → k ≡ x .number → SameValid t fs c (x .time) (x .frames) (x .tail)
-    at-number a e = same-valid (sym (at-valid a) ∙ ap (λ (n : ℕ). blockState (block s n img)) e ∙ y .is-valid)
+    at-number a e = same-valid (sym (at-valid a) ∙ ap (λ (n : ℕ). blockState (block (sizeOf N img) n img)) e ∙ y .is-valid)
 
     clear : Unclear N img → ⊥
     clear (foreign-half k f n) = n (x .number) (x .time) (x .frames) (x .tail) (valid-at (y .there) (y .is-valid))
-    clear (equal-times k (tied-with j t fs gs c d n a b)) =
-        on-test (eqb j (x .number))
-        (λ p. let e : j ≡ x .number = eqb-true j (x .number) p in
-        omega (arith, at-number a e .time, taken-newest z y k t gs d (b .0) (λ q. n (e ∙ sym q)) (at-valid b)))
-        (λ p. let l : t < x .time = taken-newest z y j t fs c (a .0) (eqb-false j (x .number) p) (at-valid a) in
-        on-test (eqb k (x .number))
-        (λ q. omega (arith, at-number b (eqb-true k (x .number) q) .time))
-        (λ q. omega (arith, n, a .0, b .0, y .there, eqb-false j (x .number) p, eqb-false k (x .number) q)))
+    clear (equal-times k w) = let p = same-tied w in y .untied k (p .0) (p .1)
 
     not-worn : InTime x → MountWorn N img → ⊥
     not-worn t w =
@@ -136,7 +150,7 @@ module _ {N : ℕ} (img : List ℕ) (by : Bytes img) (ok : allowed N (length img
               (eqb-false (w .number) (x .number) p) (at-valid (w .is-valid)),
         ))
 
-    taken-lines : Outcome N img x → Left
+    taken-lines : Outcome N img x → Left N img
     taken-lines o = inr ((λ n. n .none-valid (x .number) (x .time) (x .frames) (x .tail) (valid-at (y .there) (y .is-valid))), inr (clear, last o))
       where
         last : Outcome N img x → Exactly (line 6 (MountWorn N img) ∷ []) (mountOn N img .answer)
@@ -149,37 +163,38 @@ module _ {N : ℕ} (img : List ℕ) (by : Bytes img) (ok : allowed N (length img
                 is-valid = valid-at (w .there) (w .is-valid);
                 unsettled = due-unsettled (w .frames) (w .tail) (w .due);
               },
-              answer e,
+              answer N img e,
             )
         last (begins t e) =
             let g : Record = enterWipe (mountJob N img x (wipeList (x .number) (allFound N img))) in
             inr (not-worn t, subst (λ (o : Out). Accepted (o .answer)) (sym e) (begun (g .phase)))
 
-  current-of : (x : Store) → Taken N s img x → Current N img x
+  current-of : (x : Store) → Taken N (sizeOf N img) img x → Current N img x
   current-of x y =
       record { is-valid = valid-at (y .there) (y .is-valid); newest = λ k t fs c n v. taken-newest z y k t fs c (v .0) n (at-valid v) }
 
-  decided-lines : Decided N s img → Left
+  decided-lines : Decided N (sizeOf N img) img → Left N img
   decided-lines (foreign-block j h e p o b r) =
       inr (
         (λ n. n .none-foreign j (foreign-at h p)),
-        inl (foreign-half j (foreign-at h p) (λ k t fs c a. o k t fs c (a .0) (at-valid a)), answer r),
+        inl (foreign-half j (foreign-at h p) (λ k t fs c a. o k t fs c (a .0) (at-valid a)), answer N img r),
       )
-  decided-lines (deciding.equal-times t fs gs c d p q r) =
-      let a : ValidAt N img 0 t fs c = valid-at (omega arith) p in
-      let b : ValidAt N img 1 t gs d = valid-at (omega arith) q in
-      inr ((λ n. n .none-valid 0 t fs c a), inl (equal-times 1 (tied-with 0 t fs gs c d (λ e. omega arith) a b), answer r))
+  decided-lines (deciding.equal-times j k p o r) =
+      inr (
+        (λ n. n .none-valid j (p .time) (p .frames) (p .tail) (valid-at (p .there) (p .is-valid))),
+        inl (equal-times j (tied-same k p), answer N img r),
+      )
   decided-lines (none-valid n r) =
       inl (
         record {
           none-valid = λ k t fs c a. subst Quiet (at-valid a) (n k (a .0));
           none-foreign = λ k f. let p = at-foreign f in subst Quiet (p .1) (n k (f .0));
         },
-        answer r,
+        answer N img r,
       )
   decided-lines (at-store x y) = taken-lines x y (mount-outcome x z y (taken-holds x z by y))
 
--- ---- the current half
+-- ---- the current block
 
 pub record Mountable (N : ℕ) (img : List ℕ) : Type 0 where
   pub store : Store
@@ -188,21 +203,22 @@ pub record Mountable (N : ℕ) (img : List ℕ) : Type 0 where
 pub accepted-takes : {N : ℕ} (img : List ℕ) → Bytes img → Accepted (mountOn N img .answer) → Mountable N img
 accepted-takes {N} img by a =
     on-test (allowed N (length img))
-    (λ ok. let y : deciding.Begins (sizeOf N img) img = mount-accepted (sized-of N img ok) by a in
+    (λ ok. let y : deciding.Begins N (sizeOf N img) img = mount-accepted (sized-of N img ok) by a in
     record { store = y .store; current = current-of img by ok (y .store) (y .taken) })
     (λ no. absurd (subst (λ (o : Out). Accepted (o .answer)) (mount-length N img no) a))
 
 abbrev storeOf : ℕ → ℕ → List Frame → Tail → Store
 storeOf k t fs c = record { number = k; time = t; frames = fs; tail = c }
 
-pub mounts-current : {N : ℕ} {m : Machine} (img : List ℕ) → Bytes img → allowed N (length img) ≡ true → (o : Out) → (y : Mounts N m img o) → Current N img (y .store)
+pub mounts-current : {N : ℕ} {m : Machine} (img : List ℕ) → Bytes img → allowed N (length img) ≡ true → (o : Out) → (y : Mounts N m img o)
+    → Current N img (y .store)
 mounts-current img by ok o y =
     record {
       is-valid = valid-at img by ok (y .there) (y .is-valid);
       newest = λ k t fs c n v. y .newest k t fs c (v .0) n (at-valid img by ok v);
     }
 
--- the image settles which half is current
+-- the image settles which block is current
 pub same-store : {N : ℕ} (img : List ℕ) → Bytes img → allowed N (length img) ≡ true → (x y : Store) → Current N img x → Current N img y → x ≡ y
 same-store {N} img by ok x y a b = on-test (eqb (x .number) (y .number)) (λ t. alike (eqb-true (x .number) (y .number) t)) apart
   where
@@ -230,8 +246,8 @@ mount-lines {N} img by =
 
 -- ---- what 3 names
 
-fault-at : {N : ℕ} (img : List ℕ) → Bytes img → allowed N (length img) ≡ true → (k : ℕ) (e : Fault) → k < N → blockState (block (sizeOf N img) k img) ≡ foreign e
-    → ForeignAt N img k × FaultIn (block (sizeOf N img) k img) e
+fault-at : {N : ℕ} (img : List ℕ) → Bytes img → allowed N (length img) ≡ true → (k : ℕ) (e : Fault) → k < N
+    → blockState (block (sizeOf N img) k img) ≡ foreign e → ForeignAt N img k × FaultIn (block (sizeOf N img) k img) e
 fault-at {N} img by ok k e h p =
     let w = states-exact .is-foreign-at (block (sizeOf N img) k img) e (bytes-block (sizeOf N img) k img by) (long img by ok k h) .0 p in ((h, w .0), w .1)
 
@@ -254,13 +270,11 @@ mount-names {N} img by k e q =
         subst₂ (Names N img) jk fe
         (names-foreign (λ i t fs c a. o i t fs c (a .0) (at-valid img by ok a)) (w .0) (w .1)
         (λ i l y. let z = at-foreign img by ok y in subst Quiet (z .1) (b i l)))
-    go ok (deciding.equal-times t fs gs c d p u r) =
+    go ok (deciding.equal-times j i p o r) =
         let w = told r in
-        let zk : 0 ≡ k = cc in
+        let jk : j ≡ k = cc in
         let fe : fault field.Created 4 ≡ e = cc in
-        subst₂ (Names N img) zk fe
-        (names-equal (tied-with 1 t gs fs d c (λ n. omega arith) (valid-at img by ok (omega arith) u) (valid-at img by ok (omega arith) p)) refl
-        (λ j l y. absurd (omega arith)))
+        subst₂ (Names N img) jk fe (names-equal (tied-same img by ok i p) refl (λ m l y. let z = same-tied img by ok y in o m (z .0) l (z .1)))
     go ok (none-valid n r) = let t = told r in let w : _≡_ {A = ℕ} 0 1 = cc in absurd (omega arith)
     go ok (at-store x y) = out (mount-outcome x (sized-of N img ok) y (taken-holds x (sized-of N img ok) by y))
       where
@@ -298,7 +312,7 @@ mount-told img by = (mount-lines img by, mount-names img by)
 same-named : {N : ℕ} (img : List ℕ) → Bytes img → (a b : Answer) → MountTold N img a → MountTold N img b → SameNamed a b
 same-named img by a b (inl (p, x), n) (y, m) k j e f s t =
     let w : _≡_ {A = Option ℕ} (some 3) (some 4) = sym (ap numberOf s) ∙ x in let z : _≡_ {A = ℕ} 3 4 = cc in absurd (omega arith)
-same-named img by a b (inr (p, x), n) (y, m) k j e f s t = names-one img by (allowed-not N (length img) p) k j e f (n k e s) (m j f t)
+same-named {N} img by a b (inr (p, x), n) (y, m) k j e f s t = names-one img by (allowed-not N (length img) p) k j e f (n k e s) (m j f t)
 
 pub same-mounts : {N : ℕ} (img : List ℕ) → Bytes img → (a b : Answer) → MountTold N img a → MountTold N img b → Both a b
 same-mounts {N} img by a b x y = same-lines (mountLines N img) a b (same-named img by a b x y) (x .0) (y .0)

@@ -179,7 +179,8 @@ step-silent N img r = go (r .phase) refl
 
 -- ---- requests
 
-request-told : (N : ℕ) (img : List ℕ) (r : Record) (h : Host) (m reply : List ℕ) → Accepted (requestOn N img r reply h m .answer) → Tells (requestOn N img r reply h m)
+request-told : (N : ℕ) (img : List ℕ) (r : Record) (h : Host) (m reply : List ℕ) → Accepted (requestOn N img r reply h m .answer)
+    → Tells (requestOn N img r reply h m)
 request-told N img r h m reply a = go (request-met N img r reply h m) (r .phase) refl
   where
     o : Out

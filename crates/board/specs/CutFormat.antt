@@ -44,7 +44,7 @@ Beside t inProgress = Unit {0}
 Beside t (valid u fs c) = u < t
 Beside t (foreign e) = Unit {0}
 
--- "the old settled objects": a mount finds them
+-- "the old settled objects": a mount finds them. K14: "equal times among valid blocks are 3", so that no two have one time
 pub record OldObjects (N : ℕ) (img : List ℕ) (os : List Object) : Type 0 where
   pub number : ℕ
   pub time : ℕ
@@ -54,6 +54,8 @@ pub record OldObjects (N : ℕ) (img : List ℕ) (os : List Object) : Type 0 whe
   pub is-valid : blockState (block (sizeOf N img) number img) ≡ valid time frames tail
   pub objects : replay frames .objects ≡ os
   pub others : (j : ℕ) → j < N → (j ≡ number → ⊥) → Beside time (blockState (block (sizeOf N img) j img))
+  pub apart : (i j t : ℕ) (fs gs : List Frame) (c d : Tail) → i < N → j < N → blockState (block (sizeOf N img) i img) ≡ valid t fs c
+      → blockState (block (sizeOf N img) j img) ≡ valid t gs d → i ≡ j
 
 -- "no store": a mount answers 2
 abbrev pub Empty : BlockState → Type 0
