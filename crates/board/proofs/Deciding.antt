@@ -269,7 +269,7 @@ mount-worn-out {N} {s} {img} z y e = go (mount-decides z)
 -- ---- on a safe image
 
 -- no two valid blocks have one time: beside the current one, which is newer, at most one is valid
-pub safe-untied : {N : ℕ} {s : ℕ} {img : List ℕ} {os : List Object} {u : Bool} → Safe N s img os u → (i j : ℕ) → SameTimes N s img i j → ⊥
+safe-untied : {N : ℕ} {s : ℕ} {img : List ℕ} {os : List Object} {u : Bool} → Safe N s img os u → (i j : ℕ) → SameTimes N s img i j → ⊥
 safe-untied (no-valid e n) i j p = subst Quiet (p .is-valid) (n i (p .there))
 safe-untied {N} {s} {img} (some-valid k h v q) i j p =
     on-test (eqb i k)
