@@ -31,8 +31,9 @@ use Rattle.board.specs.CutFormat.{Beside}
 use Rattle.board.specs.Demand2.{Accepted}
 use Rattle.board.proofs.Images.{Sized, size-of}
 use Rattle.board.proofs.Invariant.{Quiet, Others, Lessers, Safe, no-valid, some-valid}
-use Rattle.board.proofs.Found.{Among, Rising, same-number, newest-among, Pair, untied-one, newest-strict, unequal-untied, LowestPair, lowest-pair, foundFrom}
-use Rattle.board.proofs.Found.{found-all, store, Holds, among-holds, holds-among, stores-rise, stores-none, Strangest, no-foreign, first-foreign, strangest}
+use Rattle.board.proofs.Found.{Among, Rising, same-number, newest-among, Pair, untied-one, newest-strict, unequal-untied}
+use Rattle.board.proofs.Found.{LowestPair, lowest-pair, foundFrom, found-all, store, Holds, among-holds, holds-among}
+use Rattle.board.proofs.Found.{stores-rise, stores-none, Strangest, no-foreign, first-foreign, strangest}
 use Rattle.board.proofs.Order.{beside-of}
 use Rattle.board.proofs.Outcomes.{mount-none, mount-equal, mount-at, mount-worn, mount-begins}
 use Rattle.board.proofs.Current.{Keeps, block-long, blank-quiet}
