@@ -16,7 +16,7 @@ use Rattle.flash.proofs.Raising.{block-with, other-with, raised-blank}
 use Rattle.frame.specs.Frame.{Frame}
 use Rattle.frame.specs.Reader.{Tail}
 use Rattle.journal.specs.Replay.{Object}
-use Rattle.journal.specs.Block.{BlockState, valid, blockState}
+use Rattle.journal.specs.Block.{valid, blockState}
 use Rattle.journal.proofs.States.{Contents}
 use Rattle.journal.proofs.Raising.{Harmless, harmless-raised, blank-harmless}
 use Rattle.board.proofs.Blocks.{Blocks, Besides, besides-blocks, besides-kept}
@@ -41,9 +41,6 @@ valid-kept after e v =
 
 pub quiet-kept : (b after : List ℕ) → after ≡ b → Quiet (blockState b) → Quiet (blockState after)
 quiet-kept b after e q = subst (λ (x : List ℕ). Quiet (blockState x)) (sym e) q
-
-pub quiet-not-valid : {P : Type 0} (x : BlockState) (t : ℕ) (fs : List Frame) (c : Tail) → Quiet x → x ≡ valid t fs c → P
-quiet-not-valid x t fs c q e = absurd (subst Quiet e q)
 
 -- ---- what a safe image holds
 
