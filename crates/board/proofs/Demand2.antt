@@ -94,6 +94,7 @@ one-store N img r by ok a =
       is-last = refl;
       follows = mount-follows z y;
       short = mount-short x z (y .taken .there) (y .holds) (y .in-time);
+      erases = mount-erases x z (y .taken .there) (y .holds) (y .in-time);
       time = e .ready .time;
       frames = e .ready .frames;
       leaves =

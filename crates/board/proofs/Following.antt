@@ -4,7 +4,7 @@ use mathlib.Core.Path.{_≡_, refl, sym, ap, subst, subst₂, _∙_}
 use mathlib.Core.List.{List, [], _∷_}
 use mathlib.Core.Option.{Option, none, some}
 use mathlib.Core.Bool.{Bool, true, false}
-use Prim.Native.Nat.{ℕ, zero, suc, _-_}
+use Prim.Native.Nat.{ℕ, _+_, zero, suc, _-_}
 use native.Mathlib.Omega.{arith}
 use lib.ListN.{length, take}
 use Rattle.flash.specs.Bytes.{Bytes}
@@ -68,17 +68,17 @@ plan-steps {N} m img o plan z i a e f =
     lasts [] g = g
     lasts (x ∷ xs) g = ap (λ (q : Out). q .board) (follows-steps N m (x ∷ xs) x xs refl (sizeOf N img) o z (ap (sizeOf N) i) g)
 
-framed-idle : {N : ℕ} (b : Bool) (l k end : ℕ) (x : Held) (f : Frame) → framedAt N b l k end x f .phase ≡ Idle
-framed-idle true l k end x f = refl
-framed-idle false l k end x f = refl
+framed-idle : (N : ℕ) (b : Bool) (l k end : ℕ) (x : Held) (f : Frame) → framedAt N b l k end x f .phase ≡ Idle
+framed-idle N true l k end x f = refl
+framed-idle N false l k end x f = refl
 
-pub mounted-idle : {N : ℕ} (b : Bool) (l : ℕ) (x : Store) → mountedAt N b l x .phase ≡ Idle
-mounted-idle true l x = refl
-mounted-idle false l x = refl
+pub mounted-idle : (N : ℕ) (b : Bool) (l : ℕ) (x : Store) → mountedAt N b l x .phase ≡ Idle
+mounted-idle N true l x = refl
+mounted-idle N false l x = refl
 
-pub job-idle : {img : List ℕ} {r : Record} {c : Call} {plan : List Step} {z : Record} → Job N img r c plan z → z .phase ≡ Idle
-job-idle {img} {r} (frame-job h msg reply x q f v k g) = framed-idle (needsRoom N img r f) (r .last) (r .block) (r .end) x f
-job-idle {img} (mount-job x v) = mounted-idle (needsTransfer (x .frames) (x .tail)) (length img - 1) x
+pub job-idle : {N : ℕ} {img : List ℕ} {r : Record} {c : Call} {plan : List Step} {z : Record} → Job N img r c plan z → z .phase ≡ Idle
+job-idle {N} {img} {r} (frame-job h msg reply x q f v k g) = framed-idle N (needsRoom N img r f) (r .last) (r .block) (r .end) x f
+job-idle {N} {img} (mount-job x v) = mounted-idle N (needsTransfer (x .frames) (x .tail)) (length img - 1) x
 job-idle format-job = refl
 
 module _ {N : ℕ} {m : Machine} (p : Calls N m) where
@@ -118,17 +118,17 @@ request-shown (Is (Read i)) reply s r q b y = read-shown s r q (lookup i (b .obj
 request-shown (Is (Log g)) reply s r q b y = y
 
 -- a record that is idle here is idle there
-says-over : {N : ℕ} (img : List ℕ) (r q : Record) (b : Book) (u : Bool) (c : Call) (o p : Out) → shown o ≡ shown p → (r .phase ≡ Idle → q .phase ≡ Idle)
+says-over : (N : ℕ) (img : List ℕ) (r q : Record) (b : Book) (u : Bool) (c : Call) (o p : Out) → shown o ≡ shown p → (r .phase ≡ Idle → q .phase ≡ Idle)
     → Says N img q b u c p → Says N img r b u c o
-says-over img r q b u (request h msg reply) o p e f (x, y, z) =
+says-over N img r q b u (request h msg reply) o p e f (x, y, z) =
     let a : o .answer ≡ p .answer = ap (λ (s : Shown). s .answer) e in (
       (λ g. x (sym a ∙ g)),
       (λ g. y (sym a ∙ g)),
       (λ i k. request-shown (parse msg) reply (shown o) (p .board) (o .board) b
           (subst (λ (s : Shown). RequestSays (parse msg) reply (outOf s (p .board)) b) (sym e) (z (f i) k))),
     )
-says-over img r q b u step o p e f y = λ n g. y n (sym (ap (λ (s : Shown). s .answer) e) ∙ g)
-says-over img r q b u mount o p e f y =
+says-over N img r q b u step o p e f y = λ n g. y n (sym (ap (λ (s : Shown). s .answer) e) ∙ g)
+says-over N img r q b u mount o p e f y =
     let a : o .answer ≡ p .answer = ap (λ (s : Shown). s .answer) e in
     record {
       never-foreign = λ k f g. y .never-foreign k f (sym a ∙ g);
@@ -136,7 +136,7 @@ says-over img r q b u mount o p e f y =
       no-store = λ g. y .no-store (sym a ∙ g);
       worn = λ g. y .worn (sym a ∙ g);
     }
-says-over img r q b u format o p e f y = ap (λ (s : Shown). s .answer) e ∙ y
+says-over N img r q b u format o p e f y = ap (λ (s : Shown). s .answer) e ∙ y
 
 -- ---- runs
 
@@ -230,7 +230,7 @@ module _ {N : ℕ} {m : Machine} (p : Calls N m) where
       let o : Out = m img r c in
       let x : Out = exec N img q c in
       let w : Both o x = call-agrees p calls img by r q v c bc in (
-        says-over img r q b u c o x (w .same) (same-idle v) s,
+        says-over N img r q b u c o x (w .same) (same-idle v) s,
         agrees-over (o .image) (o .board) (x .board) (enterCall b c (o .answer)) (w .next)
             (carry-back (λ i a. Agrees N (exec N) i (x .board) (enterCall b c a)) w y),
         run-over (o .image) (o .board) (x .board) (enterCall b c (o .answer)) (track u b c (o .answer)) (w .bytes) (w .next) es h
@@ -242,7 +242,7 @@ module _ {N : ℕ} {m : Machine} (p : Calls N m) where
       let o : Out = m i g c in
       let x : Out = exec N i g c in
       let w : Both o x = begun-agrees p calls i g g c (cut-bytes by d) n in (
-        says-over i g g b u c o x (w .same) (λ e. e) s,
+        says-over N i g g b u c o x (w .same) (λ e. e) s,
         agrees-over (o .image) (o .board) (x .board) (enterCall b c (o .answer)) (w .next)
             (carry-back (λ l a. Agrees N (exec N) l (x .board) (enterCall b c a)) w y),
         run-over (o .image) (o .board) (x .board) (enterCall b c (o .answer)) (track u b c (o .answer)) (w .bytes) (w .next) es h
@@ -258,7 +258,7 @@ module _ {N : ℕ} {m : Machine} (p : Calls N m) where
       (call-agrees p calls (o .image) (w .bytes) (o .board) (x .board) (w .next) step tt))
 
   formatted-over : (img : List ℕ) (r : Record) → Bytes img → Both (formatted N m img r) (formatted N (exec N) img r)
-  formatted-over img r by = steps-over 12 (m img r format) (exec N img r format) (format-agrees p calls img by r r)
+  formatted-over img r by = steps-over (N + 10) (m img r format) (exec N img r format) (format-agrees p calls img by r r)
 
   happens-from : (img : List ℕ) (r : Record) → Bytes img → (es : List Event) → HappensFrom N m img r es → HappensFrom N (exec N) img r es
   happens-from img r by es h =

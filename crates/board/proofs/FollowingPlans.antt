@@ -14,7 +14,7 @@ use Rattle.board.specs.Plan.{Follows, mountPlan, mountedAt}
 use Rattle.board.specs.Demand2.{Accepted, Mounts, OneStore, StepLands, AllLand, LandsFrom}
 use Rattle.board.specs.Book.{Book, enterCall}
 use Rattle.board.specs.Claim.{Event, call, cutErase, Happens}
-use Rattle.board.specs.Promise.{mount-job, Calls, Promise, Shown}
+use Rattle.board.specs.Promise.{Kept, mount-job, Calls, Promise, Shown}
 use Rattle.board.proofs.Demand2.{one-store, lands-from}
 use Rattle.board.proofs.Determining.{Alike, Agree, mount-allowed, call-agrees, mount-agrees, format-agrees, begun-agrees}
 use Rattle.board.proofs.TablingMounts.{mounts-current}
@@ -43,6 +43,7 @@ module _ {N : ℕ} {m : Machine} (p : Calls N m) where
         is-last = y .is-last;
         follows = subst (Follows N m img (m img r mount .board) (mountPlan N (allFound N img) s)) (sym (y .is-last)) f;
         short = y .short;
+        erases = y .erases;
         time = y .time;
         frames = y .frames;
         leaves = y .leaves;
@@ -117,3 +118,7 @@ from-calls p =
 
 pub promise : {N : ℕ} → Promise N (exec N)
 promise = from-calls calls
+
+-- for every N
+pub kept : Kept exec
+kept N = promise

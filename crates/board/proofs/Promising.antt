@@ -40,7 +40,7 @@ use Rattle.board.specs.Demand2.{Accepted, Mounts, OneStore}
 use Rattle.board.specs.Claim.{ByteCall}
 use Rattle.wire.specs.Sentences.{Means, MessagesExact}
 use Rattle.board.specs.Sentences.{StretchExact}
-use Rattle.board.specs.Promise.{Answers, replyFor, Stands, HandsBack, Serves, Current, Job, frame-job, mount-job, format-job, Calls}
+use Rattle.board.specs.Promise.{Short, Answers, replyFor, Stands, HandsBack, Serves, Current, Job, frame-job, mount-job, format-job, Calls}
 use Rattle.board.proofs.Checks.{roomRule}
 use Rattle.board.proofs.Images.{sized-of}
 use Rattle.board.proofs.Refusals.{refusals-untouched, at-most-one-step}
@@ -63,7 +63,7 @@ use Rattle.board.proofs.Telling.{told, silent}
 
 -- ---- accepted requests
 
-module _ {N : ℕ} (img : List ℕ) (r : Record) (h : Host) (m reply : List ℕ) (by : Bytes img) (bm : Bytes m) (x : Held) (e : held N img r ≡ some x)
+module _ (N : ℕ) (img : List ℕ) (r : Record) (h : Host) (m reply : List ℕ) (by : Bytes img) (bm : Bytes m) (x : Held) (e : held N img r ≡ some x)
     (q : Request) (p : parse m ≡ Is q) where
   abbrev Meets : Out → Type 0
   Meets o = Accepted (o .answer) → Serves N img r h m reply x q o
@@ -128,7 +128,7 @@ module _ {N : ℕ} (img : List ℕ) (r : Record) (h : Host) (m reply : List ℕ)
         (λ t. at-once (serveEnd N img r reply h x f) noStretch (end-idle N img r reply h x f t ∙ ap (λ (y : List ℕ). whole Done img r y noStretch) u) v
         (g ∙ ap (λ (b : Bool). frameIf b f) t))
 
-module _ {N : ℕ} (img : List ℕ) (r : Record) (h : Host) (m reply : List ℕ) (by : Bytes img) (bm : Bytes m) (x : Held) (e : held N img r ≡ some x) where
+module _ (N : ℕ) (img : List ℕ) (r : Record) (h : Host) (m reply : List ℕ) (by : Bytes img) (bm : Bytes m) (x : Held) (e : held N img r ≡ some x) where
   abbrev Met : Request → Out → Type 0
   Met q o = Accepted (o .answer) → Serves N img r h m reply x q o
 
@@ -137,34 +137,34 @@ module _ {N : ℕ} (img : List ℕ) (r : Record) (h : Host) (m reply : List ℕ)
       → Stands N img r x i (placeOf N img r x i)
   unfolding FreshExact MessagesExact StretchExact
   stands ok i p v l =
-      let y = stretch-exact img r x clean i v (fresh-exact N img r x by ok .0 e .is-valid) (messages-exact m (Read i) .0 p .3) l in
+      let y = stretch-exact N img r x clean i v (fresh-exact N img r x by ok .0 e .is-valid) (messages-exact m (Read i) .0 p .3) l in
       record { value = v; at = y .0; from = y .2; is = y .1 }
 
   read-met : allowed N (length img) ≡ true → (i : ObjectId) → parse m ≡ Is (Read i) → (v : Option (List ℕ)) → lookup i (replay (x .frames) .objects) ≡ v
       → Met (Read i) (serve N img r reply h m x (Read i))
-  read-met ok i p none l = turned-down img r h m reply by bm x e (Read i) p refusal.NoObject (read-none N img r reply h m x i l)
+  read-met ok i p none l = turned-down N img r h m reply by bm x e (Read i) p refusal.NoObject (read-none N img r reply h m x i l)
   read-met ok i p (some v) l =
-      at-once img r h m reply by bm x e (Read i) p (serve N img r reply h m x (Read i)) (placeOf N img r x i) (read-some N img r reply h m x i v l)
+      at-once N img r h m reply by bm x e (Read i) p (serve N img r reply h m x (Read i)) (placeOf N img r x i) (read-some N img r reply h m x i v l)
       (stands ok i p v l) refl
 
   log-met : parse m ≡ Is (Log Summary) → Met (Log Summary) (serve N img r reply h m x (Log Summary))
   log-met p =
-      over img r h m reply by bm x e (Log Summary) p (serve-log N img r reply h m x)
+      over N img r h m reply by bm x e (Log Summary) p (serve-log N img r reply h m x)
       (on-test (ltb (length reply) pageLen)
-      (λ t. turned-down img r h m reply by bm x e (Log Summary) p refusal.ShortReply (log-short N img r reply x t))
-      (λ t. at-once img r h m reply by bm x e (Log Summary) p _ noStretch (log-done N img r reply x t) refl refl))
+      (λ t. turned-down N img r h m reply by bm x e (Log Summary) p refusal.ShortReply (log-short N img r reply x t))
+      (λ t. at-once N img r h m reply by bm x e (Log Summary) p _ noStretch (log-done N img r reply x t) refl refl))
 
   serve-met : allowed N (length img) ≡ true → h .0 ≤ hostMax → (q : Request) → parse m ≡ Is q → Met q (serve N img r reply h m x q)
   serve-met a k (Put i) p =
-      over img r h m reply by bm x e (Put i) p (serve-put N img r reply h m x i)
-      (change-met img r h m reply by bm x e (Put i) p a k (put i (valueIn m)) refl refl refl refl)
+      over N img r h m reply by bm x e (Put i) p (serve-put N img r reply h m x i)
+      (change-met N img r h m reply by bm x e (Put i) p a k (put i (valueIn m)) refl refl refl refl)
   serve-met a k (Delete i) p =
-      over img r h m reply by bm x e (Delete i) p (serve-delete N img r reply h m x i)
-      (change-met img r h m reply by bm x e (Delete i) p a k (delete i) refl refl refl refl)
+      over N img r h m reply by bm x e (Delete i) p (serve-delete N img r reply h m x i)
+      (change-met N img r h m reply by bm x e (Delete i) p a k (delete i) refl refl refl refl)
   serve-met a k Commit p =
-      over img r h m reply by bm x e Commit p (serve-commit N img r reply h m x) (end-met img r h m reply by bm x e Commit p a k (commit h) refl refl refl refl)
+      over N img r h m reply by bm x e Commit p (serve-commit N img r reply h m x) (end-met N img r h m reply by bm x e Commit p a k (commit h) refl refl refl refl)
   serve-met a k Abort p =
-      over img r h m reply by bm x e Abort p (serve-abort N img r reply h m x) (end-met img r h m reply by bm x e Abort p a k (abort h) refl refl refl refl)
+      over N img r h m reply by bm x e Abort p (serve-abort N img r reply h m x) (end-met N img r h m reply by bm x e Abort p a k (abort h) refl refl refl refl)
   serve-met a k (Read i) p = read-met a i p (lookup i (replay (x .frames) .objects)) refl
   serve-met a k (Log Summary) p = log-met p
 
@@ -175,36 +175,36 @@ module _ {N : ℕ} (img : List ℕ) (r : Record) (h : Host) (m reply : List ℕ)
       (λ a. turned refusal.ImageLength (request-length N img r reply h m a))
     where
       turned : (n : Refusal) → requestOn N img r reply h m ≡ refuse n img r reply → Met q (requestOn N img r reply h m)
-      turned n d = turned-down img r h m reply by bm x e q p n d
+      turned n d = turned-down N img r h m reply by bm x e q p n d
 
       phased : allowed N (length img) ≡ true → leb (h .0) hostMax ≡ true → (s : Phase) → r .phase ≡ s → Met q (requestOn N img r reply h m)
       phased a k (Busy s) d = turned refusal.Busy (request-busy N img r reply h m a k s d)
       phased a k Unmounted d = turned refusal.NoStore (request-unmounted N img r reply h m a k d)
       phased a k Idle d =
-          over img r h m reply by bm x e q p (request-served N img r reply h m a k x q d e p) (serve-met a (leb-true (h .0) hostMax k) q p)
+          over N img r h m reply by bm x e q p (request-served N img r reply h m a k x q d e p) (serve-met a (leb-true (h .0) hostMax k) q p)
 
 serves : {N : ℕ} (img : List ℕ) (r : Record) (h : Host) (m reply : List ℕ) (x : Held) (q : Request) → Bytes img → Bytes m → Fresh N img r x → Means m q
     → Accepted (exec N img r (request h m reply) .answer) → Serves N img r h m reply x q (exec N img r (request h m reply))
 unfolding FreshExact MessagesExact
 serves {N} img r h m reply x q by bm f k a =
     on-test (allowed N (length img))
-    (λ ok. request-met img r h m reply by bm x (fresh-exact N img r x by ok .1 f) q (messages-exact m q .1 k) a)
+    (λ ok. request-met N img r h m reply by bm x (fresh-exact N img r x by ok .1 f) q (messages-exact m q .1 k) a)
     (λ no. absurd (subst Accepted (ap (λ (o : Out). o .answer) (request-length N img r reply h m no)) a))
 
 -- ---- jobs
 
 -- the steps of a job, and how many
-abbrev Does : ℕ → List ℕ → Record → List Step → Record → Type 0
-Does N img r plan z = Follows N (exec N) img r plan z × (length plan ≤ sizeOf N img)
+abbrev Does : ℕ → List ℕ → Call → Record → List Step → Record → Type 0
+Does N img c r plan z = Follows N (exec N) img r plan z × Short N (sizeOf N img) plan c
 
 -- the frame that a job appends is the one asked for
-abbrev Plans : ℕ → List ℕ → Record → Out → Held → Frame → Type 0
-Plans N img r o x f =
-    Does N img (o .board) (framePlan N (needsRoom N img r f) (r .block) (r .end) x f) (framedAt N (needsRoom N img r f) (r .last) (r .block) (r .end) x f)
+abbrev Plans : ℕ → List ℕ → Record → Call → Out → Held → Frame → Type 0
+Plans N img r c o x f =
+    Does N img c (o .board) (framePlan N (needsRoom N img r f) (r .block) (r .end) x f) (framedAt N (needsRoom N img r f) (r .last) (r .block) (r .end) x f)
 
-module _ {N : ℕ} (img : List ℕ) (r : Record) (by : Bytes img) where
+module _ (N : ℕ) (img : List ℕ) (r : Record) (by : Bytes img) where
   frame-does : (h : Host) (m reply : List ℕ) (x : Held) (q : Request) (f : Frame) → Bytes m → Fresh N img r x → Means m q → frameFor h m x q ≡ some f
-      → Accepted (exec N img r (request h m reply) .answer) → Plans N img r (exec N img r (request h m reply)) x f
+      → Accepted (exec N img r (request h m reply) .answer) → Plans N img r (request h m reply) (exec N img r (request h m reply)) x f
   frame-does h m reply x q f bm v k g a =
       let o : Out = exec N img r (request h m reply) in
       let t : o .answer ≡ More = subst (λ (n : Option Frame). Answers n r o) g (serves img r h m reply x q by bm v k a .answers) in
@@ -215,48 +215,48 @@ module _ {N : ℕ} (img : List ℕ) (r : Record) (by : Bytes img) where
       (λ no. absurd (subst Accepted (ap (λ (y : Out). y .answer) (request-length N img r reply h m no)) a)) in
       let d : w .asked ≡ q = same-request m (w .asked) q (w .is-asked) k in
       let e : w .frame ≡ f = the-frame (sym (w .is-frame) ∙ ap₂ (frameFor h m) c d ∙ g) in
-      subst₂ (Plans N img r o) c e (w .follows, w .short)
+      subst₂ (Plans N img r (request h m reply) o) c e (w .follows, w .short)
 
   mount-does : (x : Store) → Current N img x → Accepted (mountOn N img .answer)
-      → Does N img (mountOn N img .board) (mountPlan N (allFound N img) x) (mountedAt N (needsTransfer (x .frames) (x .tail)) (length img - 1) x)
+      → Does N img mount (mountOn N img .board) (mountPlan N (allFound N img) x) (mountedAt N (needsTransfer (x .frames) (x .tail)) (length img - 1) x)
   unfolding OneStore
   mount-does x v a =
       on-test (allowed N (length img))
       (λ ok.
       let y : Mounts N (exec N) img (mountOn N img) = one-store N img r by ok a in
       let e : y .store ≡ x = same-store img by ok (y .store) x (mounts-current img by ok (mountOn N img) y) v in
-      subst (λ (s : Store). Does N img (mountOn N img .board) (mountPlan N (allFound N img) s) (mountedAt N (needsTransfer (s .frames) (s .tail)) (length img - 1) s)) e
-      (subst (Follows N (exec N) img (mountOn N img .board) (mountPlan N (allFound N img) (y .store))) (y .is-last) (y .follows), y .short))
+      subst (λ (s : Store). Does N img mount (mountOn N img .board) (mountPlan N (allFound N img) s) (mountedAt N (needsTransfer (s .frames) (s .tail)) (length img - 1) s)) e
+      (subst (Follows N (exec N) img (mountOn N img .board) (mountPlan N (allFound N img) (y .store))) (y .is-last) (y .follows), (y .short, y .erases)))
       (λ no. absurd (subst (λ (o : Out). Accepted (o .answer)) (mount-length N img no) a))
 
-  format-does : Accepted (formatOn N img .answer) → Does N img (formatOn N img .board) (formatPlan N img) (idle (rest N (length img - 1) 0 headerLen))
+  format-does : Accepted (formatOn N img .answer) → Does N img format (formatOn N img .board) (formatPlan N img) (idle (rest N (length img - 1) 0 headerLen))
   format-does a =
       on-test (allowed N (length img))
       (λ ok. (
         subst (λ (o : Out). Follows N (exec N) img (o .board) (formatPlan N img) (idle (rest N (length img - 1) 0 headerLen))) (sym (format-begins N img ok))
             (follows-format N img ok),
-        omega (arith, length-format N img, sized-of N img ok .low),
+        omega (arith, length-format N img, sized-of N img ok .low, sized-of N img ok .most),
       ))
       (λ no. absurd (subst (λ (o : Out). Accepted (o .answer)) (format-length N img no) a))
 
   job-does : (c : Call) (plan : List Step) (z : Record) → ByteCall c → Job N img r c plan z → Accepted (exec N img r c .answer)
-      → Does N img (exec N img r c .board) plan z
+      → Does N img c (exec N img r c .board) plan z
   job-does c plan z bc (frame-job h m reply x q f v k g) a = frame-does h m reply x q f bc v k g a
   job-does c plan z bc (mount-job x v) a = mount-does x v a
   job-does c plan z bc format-job a = format-does a
 
 -- ---- every call
 
-by-lines : {N : ℕ} (img : List ℕ) (r : Record) (c : Call) → Bytes img → Exactly (linesOf N img r c) (exec N img r c .answer)
-by-lines img r (request h msg reply) by = request-lines img r h msg reply by
-by-lines img r step by = step-lines img r
-by-lines img r mount by = mount-lines img by
-by-lines img r format by = format-lines img r
+by-lines : (N : ℕ) (img : List ℕ) (r : Record) (c : Call) → Bytes img → Exactly (linesOf N img r c) (exec N img r c .answer)
+by-lines N img r (request h msg reply) by = request-lines img r h msg reply by
+by-lines N img r step by = step-lines img r
+by-lines N img r mount by = mount-lines img by
+by-lines N img r format by = format-lines img r
 
 pub calls : {N : ℕ} → Calls N (exec N)
 calls {N} =
     record {
-      table = by-lines;
+      table = by-lines N;
       names = λ img r k e by. mount-names img by k e;
       untouched = refusals-untouched N;
       told = told N;
@@ -264,6 +264,6 @@ calls {N} =
       one-step = at-most-one-step N;
       silent = silent N;
       serves = serves;
-      jobs = λ img r c plan z by bc j a. job-does img r by c plan z bc j a;
+      jobs = λ img r c plan z by bc j a. job-does N img r by c plan z bc j a;
       ends = forged-ends N;
     }

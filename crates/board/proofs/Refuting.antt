@@ -1,5 +1,5 @@
 -- The wrong stores are refuted: on a short run each shows something else than the machine does, and the promise leaves no room for that.
-use mathlib.Core.Path.{_≡_, refl, sym, ap, _∙_}
+use mathlib.Core.Path.{_≡_, refl, sym, ap, _∙_, subst}
 use mathlib.Core.List.{List, [], _∷_, map}
 use mathlib.Core.Logic.{inl, inr}
 use mathlib.Core.Bool.{Bool, true, false, _&&_, cond}
@@ -9,15 +9,17 @@ use lib.Dec.{ltb}
 use lib.ListN.{length, replicate}
 use borrow.Author.Tests.{ltb-true, le-leb, eqb-false}
 use Rattle.flash.specs.Bytes.{Bytes, allFF}
+use Rattle.flash.specs.Flash.{numbersFrom, sizeIn}
 use Rattle.flash.proofs.Cases.{and-left, and-right, clash}
 use Rattle.journal.specs.Block.{blockState}
+use Rattle.wire.specs.declared.Answer.the-variants.{More}
 use Rattle.board.specs.declared.Stage.the-variants.{Wipe}
 use Rattle.board.specs.declared.Phase.the-variants.{Unmounted, Idle, Busy}
 use Rattle.board.specs.declared.Record.{Record}
-use Rattle.board.specs.Record.{unmounted, cursor, inStage}
-use Rattle.board.specs.Step.{enterWipe, stepBusy, stepOn}
+use Rattle.board.specs.Record.{allowed, unmounted, cursor, inStage}
+use Rattle.board.specs.Step.{advance, enterWipe, stepBusy, stepOn}
 use Rattle.board.specs.Mount.{formatOrder, formatOn}
-use Rattle.board.specs.Table.{Exactly, linesOf}
+use Rattle.board.specs.Table.{Exactly, Misplaced, linesOf}
 use Rattle.board.specs.Demand1.{Declared, EndsWithin}
 use Rattle.board.specs.Exec.{Call, request, step, mount, format, Machine, exec}
 use Rattle.board.specs.Claim.{call}
@@ -47,8 +49,8 @@ unfolding PromiseDetermines
 same-trace m p img b [] e c = refl
 same-trace m p img b (request h msg reply ∷ cs) e c = clash false e refl
 same-trace m p img b (step ∷ cs) e c = clash false e refl
-same-trace {N} m p img b (mount ∷ cs) e c = promise-determines N m (exec N) p (promise N) img unmounted unmounted mount (map call cs) b tt (c .1)
-same-trace {N} m p img b (format ∷ cs) e c = promise-determines N m (exec N) p (promise N) img unmounted unmounted format (map call cs) b tt (c .1)
+same-trace {N} m p img b (mount ∷ cs) e c = promise-determines N m (exec N) p promise img unmounted unmounted mount (map call cs) b tt (c .1)
+same-trace {N} m p img b (format ∷ cs) e c = promise-determines N m (exec N) p promise img unmounted unmounted format (map call cs) b tt (c .1)
 
 -- so one that shows something else doesn't keep it
 differs : {N : ℕ} {w : Wrongly} {img : List ℕ} {cs : List Call} {see : Shown → ℕ} {a b : ℕ}
@@ -90,13 +92,20 @@ unfolding outsideIsDone stepBusy stepOn allFF blockState numbersFrom sizeIn allo
 outside-is-done p = not-idle (p 2 .calls .told (replicate 1280 0xFF) formatting step tt (λ e. absurd (not-unmounted e)) .done .0 refl)
 
 -- given another number of blocks
+goes-on : offBench ignoresCount 3 long formatting step .answer ≡ More
+unfolding ignoresCount advance stepBusy stepOn allFF blockState numbersFrom sizeIn allowed formatOrder formatOn enterWipe formatting
+goes-on = refl
+
+other-count : Misplaced 3 long formatting
+unfolding allFF blockState numbersFrom sizeIn allowed formatOrder formatOn enterWipe formatting
+other-count = record { stage = Wipe; is-busy = refl; misfits = inr (inl (λ e. omega arith)) }
+
 ignores-count : Kept (offBench ignoresCount) → ⊥
-unfolding ignoresCount stepBusy stepOn allFF blockState numbersFrom sizeIn allowed formatOrder formatOn enterWipe formatting
-ignores-count p = go (p 3 .calls .table long formatting step (bytes-replicate 768))
+ignores-count p = go (subst (Exactly (linesOf 3 long formatting step)) goes-on (p 3 .calls .table long formatting step (bytes-all long refl)))
   where
-    go : Exactly (linesOf 3 long formatting step) (offBench ignoresCount 3 long formatting step .answer) → ⊥
+    go : Exactly (linesOf 3 long formatting step) More → ⊥
     go (inl (y, e)) = let w : _≡_ {A = ℕ} 0 1 = cc in omega arith
-    go (inr (n, y)) = n (record { stage = Wipe; is-busy = refl; misfits = inr (inl (λ e. omega arith)) })
+    go (inr (n, y)) = n other-count
 
 -- at a step that its job doesn't have
 unfoldable stuck : Record

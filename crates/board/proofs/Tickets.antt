@@ -4,7 +4,7 @@ use mathlib.Core.List.{List, [], _∷_, _++_}
 use mathlib.Core.Bool.{Bool, true, false}
 use mathlib.Core.Logic.{_⊎_, inl, inr}
 use mathlib.Core.Option.{Option, none, some}
-use Prim.Native.Nat.{ℕ, zero, suc, _-_, _/_, _≤_, _<_}
+use Prim.Native.Nat.{ℕ, zero, suc, _+_, _-_, _≤_, _<_}
 use native.Mathlib.Nat.{le-refl}
 use native.Mathlib.Omega.{arith}
 use lib.Dec.{ltb}
@@ -12,7 +12,7 @@ use lib.ListN.{length}
 use lib.Seq.{take-all}
 use borrow.Author.Tests.{ltb-true, ltb-false}
 use Rattle.flash.specs.Bytes.{Bytes}
-use Rattle.flash.specs.Flash.{Step, applyAll, block, sizeOf}
+use Rattle.flash.specs.Flash.{sizeIn, Step, applyAll, block, sizeOf}
 use Rattle.flash.proofs.Cases.{on-test}
 use Rattle.frame.specs.declared.Host.{Host}
 use Rattle.frame.specs.Frame.{Frame, Change}
@@ -49,7 +49,7 @@ use Rattle.board.proofs.Images.{length-all-steps}
 use Rattle.board.proofs.Demand2.{one-store}
 use Rattle.board.proofs.Answering.{number-done}
 use Rattle.board.proofs.TablingMounts.{Mountable, mounts-current, same-store}
-use Rattle.board.proofs.Determining.{Asked, request-asks, mount-takes, mount-allowed, mount-agrees}
+use Rattle.board.proofs.Determining.{short-most, Asked, request-asks, mount-takes, mount-allowed, mount-agrees}
 use Rattle.board.proofs.Following.{left-by, job-idle, mounted-idle}
 use Rattle.board.proofs.Runs.{stepping, after-append, HappensAfter, happens-append, happens-first, happens-rest, steps-happen, run-rest, steps-agree}
 
@@ -102,21 +102,21 @@ quiet-step os l (Refused n) = refl
 abbrev leftAs : Out → Book → Left
 leftAs o b = record { image = o .image; board = o .board; book = b }
 
-quiet-steps : {N : ℕ} (m : Machine) (n : ℕ) (o : Out) (os : List Object) (l : Host → List Change)
+quiet-steps : (N : ℕ) (m : Machine) (n : ℕ) (o : Out) (os : List Object) (l : Host → List Change)
     → afterAll N m (o .image) (o .board) (book os l nothing) (stepping n) ≡ leftAs (stepsOn m n o) (book os l nothing)
-quiet-steps m zero o os l = refl
-quiet-steps {N} m (suc n) o os l =
+quiet-steps N m zero o os l = refl
+quiet-steps N m (suc n) o os l =
     let x : Out = m (o .image) (o .board) step in
-    ap (λ (b : Book). afterAll N m (x .image) (x .board) b (stepping n)) (quiet-step os l (x .answer)) ∙ quiet-steps m n x os l
+    ap (λ (b : Book). afterAll N m (x .image) (x .board) b (stepping n)) (quiet-step os l (x .answer)) ∙ quiet-steps N m n x os l
 
 -- a step call that answers more leaves it too
-more-steps : {N : ℕ} (m : Machine) (n : ℕ) (o : Out) (b : Book) → ((j : ℕ) → j < n → stepsOn m (suc j) o .answer ≡ More)
+more-steps : (N : ℕ) (m : Machine) (n : ℕ) (o : Out) (b : Book) → ((j : ℕ) → j < n → stepsOn m (suc j) o .answer ≡ More)
     → afterAll N m (o .image) (o .board) b (stepping n) .book ≡ b
-more-steps m zero o b f = refl
-more-steps {N} m (suc n) o b f =
+more-steps N m zero o b f = refl
+more-steps N m (suc n) o b f =
     let x : Out = m (o .image) (o .board) step in
     ap (λ (a : Answer). afterAll N m (x .image) (x .board) (enterStep b a) (stepping n) .book) (f zero (omega arith))
-    ∙ more-steps m n x b (λ j h. f (suc j) (omega arith))
+    ∙ more-steps N m n x b (λ j h. f (suc j) (omega arith))
 
 -- the book once a commit under way is done
 abbrev settled : Book → Host → Book
@@ -126,17 +126,17 @@ abbrev begun : Book → Host → Book
 begun b h = book (b .objects) (b .lists) (books.committing h)
 
 -- n steps that answer more, one that answers 0, and t of them in all
-done-steps : {N : ℕ} (m : Machine) (n t : ℕ) (o : Out) (b : Book) (h : Host) → n < t → ((j : ℕ) → j < n → stepsOn m (suc j) o .answer ≡ More)
+done-steps : (N : ℕ) (m : Machine) (n t : ℕ) (o : Out) (b : Book) (h : Host) → n < t → ((j : ℕ) → j < n → stepsOn m (suc j) o .answer ≡ More)
     → stepsOn m (suc n) o .answer ≡ Done → afterAll N m (o .image) (o .board) (begun b h) (stepping t) .book ≡ settled b h
-done-steps m n zero o b h l f e = absurd (omega arith)
-done-steps {N} m zero (suc t) o b h l f e =
+done-steps N m n zero o b h l f e = absurd (omega arith)
+done-steps N m zero (suc t) o b h l f e =
     let x : Out = m (o .image) (o .board) step in
     ap (λ (a : Answer). afterAll N m (x .image) (x .board) (enterStep (begun b h) a) (stepping t) .book) e
-    ∙ ap (λ (l : Left). l .book) (quiet-steps m t x (settled b h .objects) (settled b h .lists))
-done-steps {N} m (suc n) (suc t) o b h l f e =
+    ∙ ap (λ (l : Left). l .book) (quiet-steps N m t x (settled b h .objects) (settled b h .lists))
+done-steps N m (suc n) (suc t) o b h l f e =
     let x : Out = m (o .image) (o .board) step in
     ap (λ (a : Answer). afterAll N m (x .image) (x .board) (enterStep (begun b h) a) (stepping t) .book) (f zero (omega arith))
-    ∙ done-steps m n t x b h (omega arith) (λ j l. f (suc j) (omega arith)) e
+    ∙ done-steps N m n t x b h (omega arith) (λ j l. f (suc j) (omega arith)) e
 
 -- steps of a record in no job
 rest-steps : {N : ℕ} {m : Machine} → Calls N m → (d : ℕ) (o : Out) → Rests (o .board .phase) → o .answer ≡ Done → stepsOn m d o .answer ≡ Done
@@ -164,11 +164,11 @@ plan-book : {N : ℕ} {m : Machine} → Calls N m → (i : List ℕ) (o : Out) (
 plan-book p i o [] z st e a b h k = done-more (o .answer) (st .done) a
 plan-book {N} {m} p i o (x ∷ xs) z st e a b h k =
     on-test (ltb k (suc n))
-    (λ t. let l : k < suc n = ltb-true k (suc n) t in inr (st .more k l, more-steps m k o (begun b h) (λ j v. st .more (suc j) (omega arith))))
+    (λ t. let l : k < suc n = ltb-true k (suc n) t in inr (st .more k l, more-steps N m k o (begun b h) (λ j v. st .more (suc j) (omega arith))))
     (λ t. let l : suc n ≤ k = ltb-false k (suc n) t in
     inl (
       ap numberOf (late-steps p (suc n) k o l (subst (λ (w : Record). Rests (w .phase)) (sym (st .last)) (subst Rests (sym e) tt)) done),
-      done-steps m n k o b h (omega arith) (λ j v. st .more (suc j) (omega arith)) done,
+      done-steps N m n k o b h (omega arith) (λ j v. st .more (suc j) (omega arith)) done,
     ))
   where
     n : ℕ
@@ -243,7 +243,7 @@ module _ {N : ℕ} {m : Machine} (p : Promise N m) (i : List ℕ) (bi : Bytes i)
   idle-agrees : IdleAgrees N after z (book os noLists nothing)
   idle-agrees =
       subst (λ (h : Phase). AgreesIn N m h after z (book os noLists nothing))
-      (mounted-idle (needsTransfer (store .store .frames) (store .store .tail)) (length i - 1) (store .store))
+      (mounted-idle N (needsTransfer (store .store .frames) (store .store .tail)) (length i - 1) (store .store))
       (subst₂ (λ (l : List ℕ) (v : Record). Agrees N m l v (book os noLists nothing)) (image-after w accepted-too) (steps w accepted-too .last)
       (agrees (length plan)))
 
@@ -258,14 +258,15 @@ module _ {N : ℕ} {m : Machine} (p : Promise N m) (i : List ℕ) (bi : Bytes i)
       λ s v. blockState (block (sizeOf N i) (v .block) (applyAll (sizeOf N i) (mountPlan N (allFound N i) s) i)) in
       let g : SameValid (y .time) (y .frames) clean (idle-agrees .time) (idle-agrees .frames) clean =
       same-valid (sym (y .leaves) ∙ ap₂ left e f
-      ∙ sym (ap (λ (n : ℕ). blockState (block (n / N) (z .block) after)) (length-all-steps (sizeOf N i) plan i)) ∙ idle-agrees .is-valid) in
+      ∙ sym (ap (λ (n : ℕ). blockState (block (sizeIn N n) (z .block) after)) (length-all-steps (sizeOf N i) plan i)) ∙ idle-agrees .is-valid) in
       sym (ap (λ (fs : List Frame). replay fs .pending) (g .frames)) ∙ ap (λ (s : State). s .pending) (y .holds)
 
   mount-restores : Restores N m (m i q mount) os
   mount-restores =
       record {
         count = length plan;
-        short = subst (λ (l : List ℕ). length plan ≤ sizeOf N l) (sym (p .calls .one-step i q mount)) (p .calls .jobs i q mount plan z bi tt (job q) a .1);
+        short = subst (λ (l : List ℕ). length plan ≤ sizeOf N l + N) (sym (p .calls .one-step i q mount))
+            (short-most N (sizeOf N i) plan mount (p .calls .jobs i q mount plan z bi tt (job q) a .1));
         more = steps q a .more;
         done = steps q a .done;
         time = idle-agrees .time;
@@ -289,7 +290,7 @@ module _ {N : ℕ} {m : Machine} (p : Promise N m) (img : List ℕ) (r : Record)
       let all : HappensFrom N m img r (es ++ ds) =
       happens-append N m (formatted N m img r .image) (formatted N m img r .board) firstBook es ds hs tt (tt, steps-happen N m n (o .image) (o .board) b) in
       let y = run-rest N m (formatted N m img r .image) (formatted N m img r .board) firstBook false es ds (p .claim img r by ok .3 (es ++ ds) all) in
-      subst (λ (l : Left). Agrees N m (l .image) (l .board) (l .book)) (quiet-steps m n o (x .book .objects) noLists)
+      subst (λ (l : Left). Agrees N m (l .image) (l .board) (l .book)) (quiet-steps N m n o (x .book .objects) noLists)
       (steps-agree N m n (o .image) (o .board) b (track (y .0) (x .book) mount (o .answer)) (y .1 .1) (y .1 .2))
 
   restores : (es : List Event) → HappensFrom N m img r es → (q : Record) → let x : Left = leftBy N m img r es in
@@ -359,8 +360,8 @@ module _ {N : ℕ} {m : Machine} (p : Promise N m) (img : List ℕ) (r : Record)
 pub tickets-settled : TicketsSettled
 tickets-settled =
     record {
-      bad-log-length = λ m p. record { refused = malformed-refused (p .calls); undisturbed = nobody-disturbed (p .calls) };
-      power-cuts = λ m p.
+      bad-log-length = λ N m p. record { refused = malformed-refused (p .calls); undisturbed = nobody-disturbed (p .calls) };
+      power-cuts = λ N m p.
           record {
             restores = λ img r es q by ok hs a. restores p img r by ok es hs q a;
             whole-or-not = λ img r es h msg reply k q by ok hs n e a. whole-or-not p img r by ok es h msg reply k q hs n e a;

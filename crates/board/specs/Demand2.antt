@@ -46,7 +46,9 @@ pub record Mounts (N : ℕ) (m : Machine) (img : List ℕ) (o : Out) : Type 0 wh
   pub last : Record
   pub is-last : last ≡ mountedAt N (needsTransfer (store .frames) (store .tail)) (length img - 1) store
   pub follows : Follows N m img (o .board) (mountPlan N (allFound N img) store) last
+  -- K14: "Demand 1's bound leaves a mount's erases aside"; of those there are at most N
   pub short : length (programs (mountPlan N (allFound N img) store)) ≤ sizeOf N img
+  pub erases : length (mountPlan N (allFound N img) store) ≤ length (programs (mountPlan N (allFound N img) store)) + N
   pub time : ℕ
   pub frames : List Frame
   pub leaves :
