@@ -171,7 +171,8 @@ module _ (b : List ℕ) (size : length b ≡ recordSize) (ok : (i : ℕ) → get
 
   -- the next byte of the frame that is copied
   pub byte-copied : (w : ℕ) (c : Cursor) → c ≡ recordIn b .cursor → w ≡ suc (c .at)
-      → set (set (set b (cursorAt + madeAt) (w % 256)) (cursorAt + (madeAt + 1)) (w / 256)) (cursorAt + offAt) (suc (c .off)) ≡ around (cursorBytes (nextByte c))
+      → set (set (set b (cursorAt + madeAt) (w % 256)) (cursorAt + (madeAt + 1)) (w / 256)) (cursorAt + offAt) (suc (c .off))
+      ≡ around (cursorBytes (nextByte c))
   byte-copied w c e q =
       let t = cursorBytes c ++ drop unitAt b in
       ap (λ (l : List ℕ). set (set (set l (cursorAt + madeAt) (w % 256)) (cursorAt + (madeAt + 1)) (w / 256)) (cursorAt + offAt) (suc (c .off)))
