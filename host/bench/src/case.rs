@@ -21,7 +21,7 @@ struct Builder {
 impl Builder {
     fn formatted(length: usize) -> Builder {
         let image = vec![0xFF; length];
-        let (answer, record) = Model.format(&image);
+        let (answer, record) = Model.format(&image, 2);
         assert_eq!(answer, Answer::MORE);
         let mut builder = Builder { image, record };
         builder.finish();
@@ -29,11 +29,11 @@ impl Builder {
     }
 
     fn finish(&mut self) {
-        while Model.step(&mut self.image, &mut self.record) == Answer::MORE {}
+        while Model.step(&mut self.image, 2, &mut self.record) == Answer::MORE {}
     }
 
     fn serve(&mut self, message: &[u8]) {
-        assert_eq!(Model.request(&self.image, &mut self.record, 0, message, &mut []), Answer::MORE);
+        assert_eq!(Model.request(&self.image, 2, &mut self.record, 0, message, &mut []), Answer::MORE);
         self.finish();
     }
 
@@ -86,6 +86,6 @@ fn case(mut builder: Builder, fill: &'static str) -> Case {
     let (rest, rest_idle) = (builder.image.clone(), builder.idle());
     builder.serve(&message::put(0, &[1]));
     let pending_idle = builder.idle();
-    assert_eq!(pending_idle.half, rest_idle.half, "no transfer");
+    assert_eq!(pending_idle.block, rest_idle.block, "no transfer");
     Case { fill, rest, rest_idle, pending: builder.image, pending_idle }
 }

@@ -54,13 +54,13 @@ const VALUE: [u8; OBJECT] = [7; OBJECT];
 /// One go at it, and how many operations that was.
 pub fn once<S: Store>(store: &S, operation: Operation, case: &Case) -> (Duration, usize) {
     match operation {
-        Operation::Mount => timed(|| assert_eq!(store.mount(black_box(&case.rest)).0, Answer::DONE)),
+        Operation::Mount => timed(|| assert_eq!(store.mount(black_box(&case.rest), 2).0, Answer::DONE)),
         Operation::Read => read(store, case, message::read(1), Answer::DONE),
         Operation::ReadNothing => read(store, case, message::read(255), Answer::NO_OBJECT),
         Operation::Log => {
             let (mut record, log, mut page) = (store.idle(case.rest_idle), message::log(), [0; message::PAGE]);
             timed(|| {
-                let answer = store.request(black_box(&case.rest), &mut record, 0, &log, &mut page);
+                let answer = store.request(black_box(&case.rest), 2, &mut record, 0, &log, &mut page);
                 assert_eq!(answer, Answer::DONE);
             })
         }
@@ -88,7 +88,7 @@ fn timed(operation: impl FnOnce()) -> (Duration, usize) {
 }
 
 fn ask<S: Store>(store: &S, image: &[u8], record: &mut S::Record, message: &[u8]) -> Answer {
-    store.request(black_box(image), record, 0, message, &mut [])
+    store.request(black_box(image), 2, record, 0, message, &mut [])
 }
 
 fn steps_of_put<S: Store>(store: &S, case: &Case) -> (Duration, usize) {
@@ -102,7 +102,7 @@ fn steps_of_put<S: Store>(store: &S, case: &Case) -> (Duration, usize) {
 /// The mount before it does not count.
 fn run_of_transfer<S: Store>(store: &S, case: &Case) -> (Duration, usize) {
     let mut image = case.pending.clone();
-    let (answer, mut record) = store.mount(&image);
+    let (answer, mut record) = store.mount(&image, 2);
     assert_eq!(answer, Answer::MORE);
     timed(|| assert!(run(store, &mut image, &mut record) > 0))
 }
@@ -110,7 +110,7 @@ fn run_of_transfer<S: Store>(store: &S, case: &Case) -> (Duration, usize) {
 /// All steps of the job in hand; how many they were.
 fn finish<S: Store>(store: &S, image: &mut [u8], record: &mut S::Record) -> usize {
     let mut steps = 1;
-    while store.step(image, record) == Answer::MORE {
+    while store.step(image, 2, record) == Answer::MORE {
         steps += 1;
     }
     steps
@@ -118,14 +118,14 @@ fn finish<S: Store>(store: &S, image: &mut [u8], record: &mut S::Record) -> usiz
 
 /// The same in one call; a store that has none makes the steps one by one.
 fn run<S: Store>(store: &S, image: &mut [u8], record: &mut S::Record) -> usize {
-    let (answer, steps) = store.run(image, record, usize::MAX);
+    let (answer, steps) = store.run(image, 2, record, usize::MAX);
     assert_eq!(answer, Answer::DONE);
     steps
 }
 
 fn read<S: Store>(store: &S, case: &Case, message: Vec<u8>, expected: Answer) -> (Duration, usize) {
     let record = store.idle(case.rest_idle);
-    timed(|| assert_eq!(store.read(black_box(&case.rest), &record, 0, &message).0, expected))
+    timed(|| assert_eq!(store.read(black_box(&case.rest), 2, &record, 0, &message).0, expected))
 }
 
 fn serve<S: Store>(
@@ -146,12 +146,12 @@ fn serve<S: Store>(
 fn restart<S: Store>(
     store: &S,
     image: &[u8],
-    begin: impl Fn(&S, &[u8]) -> (Answer, S::Record),
+    begin: impl Fn(&S, &[u8], u8) -> (Answer, S::Record),
     steps: impl Fn(&S, &mut [u8], &mut S::Record) -> usize,
 ) -> (Duration, usize) {
     let mut image = image.to_vec();
     timed(|| {
-        let (answer, mut record) = begin(store, black_box(&image));
+        let (answer, mut record) = begin(store, black_box(&image), 2);
         assert_eq!(answer, Answer::MORE);
         steps(store, &mut image, &mut record);
     })

@@ -135,7 +135,7 @@ impl Cuts {
     /// The objects that were to be found, and are.
     fn judge<'a>(&mut self, allowed: Allowed<'a>) -> &'a Objects {
         let idle = self.twin.idle().expect("a mount whose steps are all made ends idle");
-        let (objects, lists) = found(half_of(self.twin.image(), usize::from(idle.half)));
+        let (objects, lists) = found(half_of(self.twin.image(), usize::from(idle.block)));
         assert_eq!(lists, Lists::default(), "something is pending after a mount");
         let (Allowed::Exactly(expected) | Allowed::OrGone(expected)) = allowed;
         assert_eq!(objects, *expected);

@@ -88,15 +88,16 @@ fn forged(rng: &mut Rng, image: &[u8]) -> Vec<Idle> {
             _ => 16,
         };
         let near = rng.pick(&[end - 1, end + 1, end + 6, 0, 16, length / 2, length / 2 + 1, 65_535]);
-        records.push(Idle { length, half: number, end: end as u16 });
-        records.push(Idle { length, half: number, end: near.min(65_535) as u16 });
+        records.push(Idle { length, block: number, end: end as u16, blocks: 2 });
+        records.push(Idle { length, block: number, end: near.min(65_535) as u16, blocks: 2 });
         if rng.once_in(4) {
             records.push(Idle {
                 length: rng.pick(&[length - 1, length / 2, 1, 65_536]),
-                half: number,
+                block: number,
                 end: end as u16,
+                blocks: 2,
             });
-            records.push(Idle { length, half: rng.pick(&[number + 2, 255]), end: end as u16 });
+            records.push(Idle { length, block: rng.pick(&[number + 2, 255]), end: end as u16, blocks: 2 });
         }
     }
     records

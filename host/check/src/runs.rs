@@ -292,7 +292,7 @@ impl Run {
     }
 
     fn check_book(&mut self, idle: Idle) {
-        let (objects, lists) = found(half_of(self.twin.image(), usize::from(idle.half)));
+        let (objects, lists) = found(half_of(self.twin.image(), usize::from(idle.block)));
         assert_eq!(objects, self.book.objects, "replay's objects are not the book's");
         assert_eq!(lists, self.book.lists, "replay's lists are not the book's");
         if lists == Lists::default() {
@@ -315,7 +315,7 @@ impl Run {
         for _ in 0..=self.rng.below(3) {
             damage::harm(&mut self.rng, &mut image);
         }
-        self.twin.tally.count_fault(fault::agreed(&image).1);
+        self.twin.tally.count_fault(fault::agreed(&image, self.twin.blocks).1);
     }
 
     fn check_read(&mut self, id: u8) {

@@ -24,7 +24,7 @@ impl Tally {
     }
 
     pub fn count_fault(&mut self, fault: Option<Fault>) {
-        if let Some(Fault { half, field, .. }) = fault {
+        if let Some(Fault { block: half, field, .. }) = fault {
             *self.faults.entry((half, field)).or_default() += 1;
         }
     }

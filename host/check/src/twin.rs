@@ -79,6 +79,8 @@ pub struct Twin {
     driven: Side<Driven>,
     plain: Side<Plain>,
     nor: Nor,
+    /// How many blocks each call is told.
+    pub blocks: u8,
     /// Where the job began: its image, the record before, the call; and the steps made since.
     job: Option<(Vec<u8>, Head, Call)>,
     steps: usize,
@@ -94,6 +96,7 @@ impl Twin {
             driven: Side::new(Driven(Library::linked()), image),
             plain: Side::new(Plain, image),
             nor: Nor::new(image),
+            blocks: 2,
             job: None,
             steps: 0,
             tally: Tally::default(),
@@ -198,7 +201,7 @@ impl Twin {
             Call::Run(most) => self.run_on_nor(*most),
             _ => {}
         }
-        let outcome = self.model.call(call);
+        let outcome = self.model.call(call, self.blocks);
         if self.nor.bytes() != self.model.image {
             self.fail("the model's image is not what its steps make", before, call);
         }
@@ -225,7 +228,7 @@ impl Twin {
     }
 
     fn compare_told(&self, call: &Call, before: Head) {
-        let told = self.library.store.next_of(self.nor.bytes().len(), &self.library.record);
+        let told = self.library.store.next_of(self.nor.bytes().len(), self.blocks, &self.library.record);
         if told != self.next() {
             self.fail(&format!("the library tells {told:?}, the model {:?}", self.next()), before, call);
         }
@@ -253,12 +256,18 @@ impl Twin {
 
     fn compare(&mut self, call: &Call, expected: &Outcome, before: Head) {
         let (head, image) = (self.head(), self.nor.bytes());
-        let plain =
-            self.plain.difference(call, expected, head, image).map(|what| format!("the plain program {what}"));
-        let library =
-            self.library.difference(call, expected, head, image).map(|what| format!("the library {what}"));
-        let driven =
-            self.driven.difference(call, expected, head, image).map(|what| format!("the library driven {what}"));
+        let plain = self
+            .plain
+            .difference(call, self.blocks, expected, head, image)
+            .map(|what| format!("the plain program {what}"));
+        let library = self
+            .library
+            .difference(call, self.blocks, expected, head, image)
+            .map(|what| format!("the library {what}"));
+        let driven = self
+            .driven
+            .difference(call, self.blocks, expected, head, image)
+            .map(|what| format!("the library driven {what}"));
         let parted = (self.driven.record != self.library.record)
             .then(|| "the library driven has another record than by steps".to_string());
         let untidy =
@@ -276,7 +285,7 @@ impl Twin {
 
     /// Why a mount of the image as it is would be refused, and where it broke.
     pub fn fault(&mut self) -> (Answer, Option<Fault>) {
-        let (answer, fault) = fault::agreed(self.image());
+        let (answer, fault) = fault::agreed(self.image(), self.blocks);
         self.tally.count_fault(fault);
         (answer, fault)
     }
@@ -371,7 +380,7 @@ fn tidy(library: &Side<Library>) -> bool {
 
 fn setting(image: &[u8], head: Head) -> String {
     let record = match head {
-        Head::Idle(Idle { length, half, end }) => format!("idle {length} {half} {end}\n"),
+        Head::Idle(Idle { length, block, end, .. }) => format!("idle {length} {block} {end}\n"),
         _ => String::new(),
     };
     format!("image {}\n{record}", hex::show(image))

@@ -46,7 +46,7 @@ impl<'a> Report<'a> {
         let (answer, fault) = (board.mount(), board.fault());
         let (_, steps) = board.run();
         let current = match board.head() {
-            Head::Idle(idle) => Some(idle.half),
+            Head::Idle(idle) => Some(idle.block),
             _ => None,
         };
         let sides = if answer == Answer::IMAGE_LENGTH { Vec::new() } else { sides(image) };
@@ -96,7 +96,7 @@ impl<'a> Report<'a> {
     }
 
     /// What a mount refused with 3 says, in words.
-    fn broken(&self, Fault { half, field, place }: Fault) -> String {
+    fn broken(&self, Fault { block: half, field, place }: Fault) -> String {
         if self.newest().is_some() {
             return format!("half {half}: the time at byte {place} is the other half's too");
         }

@@ -77,6 +77,11 @@ pub const UNCOUNTED: usize = usize::MAX;
 
 pub struct Library(());
 
+/// The linked library has images of two blocks only.
+fn two(blocks: u8) {
+    assert_eq!(blocks, 2, "the linked library takes two blocks");
+}
+
 impl Library {
     /// The linked library, whose records must have the size that this wrapper knows.
     pub fn linked() -> Library {
@@ -85,29 +90,34 @@ impl Library {
         Library(())
     }
 
-    pub fn mount_into(&self, image: &[u8], record: &mut [u8]) -> Answer {
+    pub fn mount_into(&self, image: &[u8], blocks: u8, record: &mut [u8]) -> Answer {
+        two(blocks);
         Answer(unsafe { grommetide_mount(image.as_ptr(), image.len(), record.as_mut_ptr(), record.len()) })
     }
 
     /// The answer, and what half, field and place are set to.
-    pub fn fault_of(&self, image: &[u8]) -> (Answer, (usize, u8, usize)) {
+    pub fn fault_of(&self, image: &[u8], blocks: u8) -> (Answer, (usize, u8, usize)) {
+        two(blocks);
         let (mut half, mut field, mut place) = (usize::MAX, u8::MAX, usize::MAX);
         let answer = unsafe { grommetide_fault(image.as_ptr(), image.len(), &mut half, &mut field, &mut place) };
         (Answer(answer), (half, field, place))
     }
 
-    pub fn format_into(&self, image: &[u8], record: &mut [u8]) -> Answer {
+    pub fn format_into(&self, image: &[u8], blocks: u8, record: &mut [u8]) -> Answer {
+        two(blocks);
         Answer(unsafe { grommetide_format(image.as_ptr(), image.len(), record.as_mut_ptr(), record.len()) })
     }
 
     pub fn request_on(
         &self,
         image: &[u8],
+        blocks: u8,
         record: &mut [u8],
         host: u8,
         message: &[u8],
         reply: &mut [u8],
     ) -> Answer {
+        two(blocks);
         Answer(unsafe {
             grommetide_request(
                 image.as_ptr(),
@@ -123,7 +133,8 @@ impl Library {
         })
     }
 
-    pub fn read_on(&self, image: &[u8], record: &[u8], host: u8, message: &[u8]) -> (Answer, Stretch) {
+    pub fn read_on(&self, image: &[u8], blocks: u8, record: &[u8], host: u8, message: &[u8]) -> (Answer, Stretch) {
+        two(blocks);
         let mut stretch = Stretch { at: usize::MAX, len: usize::MAX };
         let answer = unsafe {
             grommetide_read(
@@ -142,7 +153,8 @@ impl Library {
     }
 
     /// The image's length is told, not the image: by the record alone.
-    pub fn next_of(&self, image_len: usize, record: &[u8]) -> (Answer, Told) {
+    pub fn next_of(&self, image_len: usize, blocks: u8, record: &[u8]) -> (Answer, Told) {
+        two(blocks);
         let mut told = Told::NOTHING;
         let answer = unsafe {
             grommetide_next(image_len, record.as_ptr(), record.len(), &mut told.at, &mut told.len, &mut told.byte)
@@ -150,15 +162,18 @@ impl Library {
         (Answer(answer), told)
     }
 
-    pub fn made_on(&self, image: &[u8], record: &mut [u8]) -> Answer {
+    pub fn made_on(&self, image: &[u8], blocks: u8, record: &mut [u8]) -> Answer {
+        two(blocks);
         Answer(unsafe { grommetide_made(image.as_ptr(), image.len(), record.as_mut_ptr(), record.len()) })
     }
 
-    pub fn step_on(&self, image: &mut [u8], record: &mut [u8]) -> Answer {
+    pub fn step_on(&self, image: &mut [u8], blocks: u8, record: &mut [u8]) -> Answer {
+        two(blocks);
         Answer(unsafe { grommetide_step(image.as_mut_ptr(), image.len(), record.as_mut_ptr(), record.len()) })
     }
 
-    pub fn run_on(&self, image: &mut [u8], record: &mut [u8], most: usize) -> (Answer, usize) {
+    pub fn run_on(&self, image: &mut [u8], blocks: u8, record: &mut [u8], most: usize) -> (Answer, usize) {
+        two(blocks);
         let mut steps = UNCOUNTED;
         let answer = unsafe {
             grommetide_run(image.as_mut_ptr(), image.len(), record.as_mut_ptr(), record.len(), most, &mut steps)

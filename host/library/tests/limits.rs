@@ -25,9 +25,9 @@ fn defined(name: &str) -> usize {
 /// An image of 1,024 bytes, formatted, and its record.
 fn formatted(library: &Library) -> (Vec<u8>, Record) {
     let mut image = vec![0xFF; 1_024];
-    let (answer, mut record) = library.format(&image);
+    let (answer, mut record) = library.format(&image, 2);
     assert_eq!(answer, Answer::MORE);
-    while library.step(&mut image, &mut record) == Answer::MORE {}
+    while library.step(&mut image, 2, &mut record) == Answer::MORE {}
     (image, record)
 }
 
@@ -35,7 +35,7 @@ fn formatted(library: &Library) -> (Vec<u8>, Record) {
 fn put(size: usize) -> (Answer, Record) {
     let library = Library::linked();
     let (image, mut record) = formatted(&library);
-    let answer = library.request(&image, &mut record, 2, &message::put(5, &vec![0xA7; size]), &mut []);
+    let answer = library.request(&image, 2, &mut record, 2, &message::put(5, &vec![0xA7; size]), &mut []);
     (answer, record)
 }
 

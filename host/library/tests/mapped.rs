@@ -80,12 +80,12 @@ impl Board {
     }
 
     /// Makes a call that writes the record, and all steps after it.
-    fn whole(&mut self, call: impl FnOnce(&Library, &[u8], &mut [u8]) -> Answer) -> Answer {
-        let mut answer = self.record.write(|record| call(&self.library, self.image.bytes(), record));
+    fn whole(&mut self, call: impl FnOnce(&Library, &[u8], u8, &mut [u8]) -> Answer) -> Answer {
+        let mut answer = self.record.write(|record| call(&self.library, self.image.bytes(), 2, record));
         while answer == Answer::MORE {
-            let (next, told) = self.library.next_of(self.image.len, self.record.bytes());
+            let (next, told) = self.library.next_of(self.image.len, 2, self.record.bytes());
             self.image.write(|image| flash(image, next, told));
-            answer = self.record.write(|record| self.library.made_on(self.image.bytes(), record));
+            answer = self.record.write(|record| self.library.made_on(self.image.bytes(), 2, record));
         }
         answer
     }
@@ -96,14 +96,14 @@ impl Board {
 
     fn ask(&mut self, host: u8, message: &[u8]) -> Answer {
         let message = Mapped::new(message);
-        self.whole(|library, image, record| {
-            library.request_on(image, record, host, message.bytes(), &mut [0; message::PAGE])
+        self.whole(|library, image, blocks, record| {
+            library.request_on(image, blocks, record, host, message.bytes(), &mut [0; message::PAGE])
         })
     }
 
     fn value(&self, id: u8) -> Option<&[u8]> {
         let message = Mapped::new(&message::read(id));
-        match self.library.read_on(self.image.bytes(), self.record.bytes(), 0, message.bytes()) {
+        match self.library.read_on(self.image.bytes(), 2, self.record.bytes(), 0, message.bytes()) {
             (Answer::DONE, stretch) => Some(stretch.of(self.image.bytes())),
             (answer, _) => {
                 assert_eq!(answer, Answer::NO_OBJECT);
@@ -116,7 +116,7 @@ impl Board {
     fn half(&self) -> u8 {
         let record: &Record = self.record.bytes().try_into().expect("a record's bytes");
         match self.library.head(record) {
-            Head::Idle(idle) => idle.half,
+            Head::Idle(idle) => idle.block,
             other => panic!("{other:?}"),
         }
     }

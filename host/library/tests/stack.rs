@@ -79,29 +79,30 @@ impl Board {
     }
 
     fn mount(&mut self) -> Answer {
-        let answer = self.measure("grommetide_mount", |library, image, record| library.mount_into(image, record));
+        let answer =
+            self.measure("grommetide_mount", |library, image, record| library.mount_into(image, 2, record));
         self.finish(answer)
     }
 
     fn fault(&mut self) -> Answer {
-        self.measure("grommetide_fault", |library, image, _| library.fault_of(image).0)
+        self.measure("grommetide_fault", |library, image, _| library.fault_of(image, 2).0)
     }
 
     fn format(&mut self) -> Answer {
         let answer =
-            self.measure("grommetide_format", |library, image, record| library.format_into(image, record));
+            self.measure("grommetide_format", |library, image, record| library.format_into(image, 2, record));
         self.finish(answer)
     }
 
     fn ask(&mut self, host: u8, message: &[u8]) -> Answer {
         let answer = self.measure("grommetide_request", |library, image, record| {
-            library.request_on(image, record, host, message, &mut [0; message::PAGE])
+            library.request_on(image, 2, record, host, message, &mut [0; message::PAGE])
         });
         self.finish(answer)
     }
 
     fn read(&mut self, message: &[u8]) -> Answer {
-        self.measure("grommetide_read", |library, image, record| library.read_on(image, record, 0, message).0)
+        self.measure("grommetide_read", |library, image, record| library.read_on(image, 2, record, 0, message).0)
     }
 
     /// All steps of the job in hand, in one run and then one by one; the last answer.
@@ -110,8 +111,8 @@ impl Board {
             return answer;
         }
         let (image, record) = (self.image.clone(), self.record);
-        let end =
-            self.measure("grommetide_run", |library, image, record| library.run_on(image, record, usize::MAX).0);
+        let end = self
+            .measure("grommetide_run", |library, image, record| library.run_on(image, 2, record, usize::MAX).0);
         let (image, record) = (mem::replace(&mut self.image, image), mem::replace(&mut self.record, record));
         while answer == Answer::MORE {
             answer = self.step();
@@ -122,11 +123,11 @@ impl Board {
 
     /// A step, told before, and made again under the record from before it.
     fn step(&mut self) -> Answer {
-        self.measure("grommetide_next", |library, image, record| library.next_of(image.len(), record).0);
+        self.measure("grommetide_next", |library, image, record| library.next_of(image.len(), 2, record).0);
         let before = self.record;
-        let answer = self.measure("grommetide_step", |library, image, record| library.step_on(image, record));
+        let answer = self.measure("grommetide_step", |library, image, record| library.step_on(image, 2, record));
         let after = mem::replace(&mut self.record, before);
-        let made = self.measure("grommetide_made", |library, image, record| library.made_on(image, record));
+        let made = self.measure("grommetide_made", |library, image, record| library.made_on(image, 2, record));
         assert!(made == answer && self.record == after);
         answer
     }

@@ -14,9 +14,9 @@ pub fn of_image(image: &[u8]) -> Fault {
     match foreign {
         Some(half) => {
             let (field, place) = of_half(half_of(image, half));
-            Fault { half, field, place }
+            Fault { block: half, field, place }
         }
-        None => Fault { half: 0, field: Field::Time, place: TIME },
+        None => Fault { block: 0, field: Field::Time, place: TIME },
     }
 }
 

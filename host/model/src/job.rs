@@ -52,6 +52,10 @@ impl Job {
         self.idle.length
     }
 
+    pub fn blocks(&self) -> u8 {
+        self.idle.blocks
+    }
+
     /// The step that comes next.
     pub fn next(&self) -> Step {
         match &self.work[0] {

@@ -22,24 +22,32 @@ pub struct Model;
 impl Store for Model {
     type Record = Record;
 
-    fn mount(&self, image: &[u8]) -> (Answer, Record) {
-        accepted_or_unmounted(mount(image))
+    fn mount(&self, image: &[u8], blocks: u8) -> (Answer, Record) {
+        accepted_or_unmounted(mount(image, blocks))
     }
 
-    fn fault(&self, image: &[u8]) -> (Answer, Option<Fault>) {
-        match mount(image) {
+    fn fault(&self, image: &[u8], blocks: u8) -> (Answer, Option<Fault>) {
+        match mount(image, blocks) {
             Ok(_) => (Answer::DONE, None),
             Err(Answer::FOREIGN) => (Answer::FOREIGN, Some(fault::of_image(image))),
             Err(refusal) => (refusal, None),
         }
     }
 
-    fn format(&self, image: &[u8]) -> (Answer, Record) {
-        accepted_or_unmounted(format(image))
+    fn format(&self, image: &[u8], blocks: u8) -> (Answer, Record) {
+        accepted_or_unmounted(format(image, blocks))
     }
 
-    fn request(&self, image: &[u8], record: &mut Record, host: u8, message: &[u8], reply: &mut [u8]) -> Answer {
-        match serve(image, record, host, message, reply) {
+    fn request(
+        &self,
+        image: &[u8],
+        blocks: u8,
+        record: &mut Record,
+        host: u8,
+        message: &[u8],
+        reply: &mut [u8],
+    ) -> Answer {
+        match serve(image, blocks, record, host, message, reply) {
             Ok(next) => {
                 *record = next;
                 job::answer(record)
@@ -48,11 +56,11 @@ impl Store for Model {
         }
     }
 
-    fn step(&self, image: &mut [u8], record: &mut Record) -> Answer {
+    fn step(&self, image: &mut [u8], blocks: u8, record: &mut Record) -> Answer {
         let Record::Job(job) = record else {
             return Answer::DONE;
         };
-        if image.len() != job.length() {
+        if image.len() != job.length() || blocks != job.blocks() {
             return Answer::STALE;
         }
         job.next().make(image);
@@ -62,8 +70,8 @@ impl Store for Model {
         job::answer(record)
     }
 
-    fn read(&self, image: &[u8], record: &Record, host: u8, message: &[u8]) -> (Answer, Stretch) {
-        match read(image, record, host, message) {
+    fn read(&self, image: &[u8], blocks: u8, record: &Record, host: u8, message: &[u8]) -> (Answer, Stretch) {
+        match read(image, blocks, record, host, message) {
             Ok(stretch) => (Answer::DONE, stretch),
             Err(refusal) => (refusal, Stretch::default()),
         }
@@ -93,8 +101,8 @@ fn accepted_or_unmounted(result: Result<Record, Answer>) -> (Answer, Record) {
     }
 }
 
-fn allowed_length(image: &[u8]) -> Result<(), Answer> {
-    let allowed = image.len().is_multiple_of(256) && (512..=65_536).contains(&image.len());
+fn allowed_length(image: &[u8], blocks: u8) -> Result<(), Answer> {
+    let allowed = blocks == 2 && image.len().is_multiple_of(256) && (512..=65_536).contains(&image.len());
     if allowed { Ok(()) } else { Err(Answer::IMAGE_LENGTH) }
 }
 
@@ -104,8 +112,8 @@ pub fn half_of(image: &[u8], half: usize) -> &[u8] {
     &image[half * size..][..size]
 }
 
-fn mount(image: &[u8]) -> Result<Record, Answer> {
-    allowed_length(image)?;
+fn mount(image: &[u8], blocks: u8) -> Result<Record, Answer> {
+    allowed_length(image, blocks)?;
     let (current, journal, other_blank) = match (half::read(half_of(image, 0)), half::read(half_of(image, 1))) {
         (Half::Valid(first), Half::Valid(second)) if first.time == second.time => return Err(Answer::FOREIGN),
         (Half::Valid(first), Half::Valid(second)) if first.time > second.time => (0, first, false),
@@ -128,8 +136,8 @@ fn mount(image: &[u8]) -> Result<Record, Answer> {
     Ok(job::begin(work, board.idle(1 - current, board.replay.used())))
 }
 
-fn format(image: &[u8]) -> Result<Record, Answer> {
-    allowed_length(image)?;
+fn format(image: &[u8], blocks: u8) -> Result<Record, Answer> {
+    allowed_length(image, blocks)?;
     let time = |half: usize| half::read(half_of(image, half)).time();
     let last = match (time(0), time(1)) {
         (Some(first), Some(second)) if first > second => 0,
@@ -138,7 +146,7 @@ fn format(image: &[u8]) -> Result<Record, Answer> {
     };
     let mut work = vec![Work::Erase { half: 1 - last }, Work::Erase { half: last }];
     work.extend(write_half(0, 1, Vec::new()));
-    Ok(job::begin(work, Idle { length: image.len(), half: 0, end: half::HEADER as u16 }))
+    Ok(job::begin(work, Idle { length: image.len(), block: 0, end: half::HEADER as u16, blocks }))
 }
 
 /// Writes a half that starts at `base`: the state byte says "in progress" first and "valid" last.
@@ -153,26 +161,33 @@ fn write_half(base: usize, time: u32, frames: Vec<u8>) -> [Work; 5] {
 }
 
 /// The refusals that come before a look at the message.
-fn board<'a>(image: &'a [u8], record: &Record, host: u8) -> Result<(Board<'a>, Host), Answer> {
-    allowed_length(image)?;
+fn board<'a>(image: &'a [u8], blocks: u8, record: &Record, host: u8) -> Result<(Board<'a>, Host), Answer> {
+    allowed_length(image, blocks)?;
     let host = Host::new(host).ok_or(Answer::HOST_RANGE)?;
     match record {
         Record::Job(_) => Err(Answer::BUSY),
         Record::Unmounted => Err(Answer::NO_STORE),
-        Record::Idle(idle) => Ok((Board::found(image, *idle).ok_or(Answer::STALE)?, host)),
+        Record::Idle(idle) => Ok((Board::found(image, blocks, *idle).ok_or(Answer::STALE)?, host)),
     }
 }
 
-fn read(image: &[u8], record: &Record, host: u8, message: &[u8]) -> Result<Stretch, Answer> {
-    let (board, _) = board(image, record, host)?;
+fn read(image: &[u8], blocks: u8, record: &Record, host: u8, message: &[u8]) -> Result<Stretch, Answer> {
+    let (board, _) = board(image, blocks, record, host)?;
     match request::parse(message) {
         Some(Request::Read(id)) => board.find(id).ok_or(Answer::NO_OBJECT),
         _ => Err(Answer::MALFORMED),
     }
 }
 
-fn serve(image: &[u8], record: &Record, host: u8, message: &[u8], reply: &mut [u8]) -> Result<Record, Answer> {
-    let (board, host) = board(image, record, host)?;
+fn serve(
+    image: &[u8],
+    blocks: u8,
+    record: &Record,
+    host: u8,
+    message: &[u8],
+    reply: &mut [u8],
+) -> Result<Record, Answer> {
+    let (board, host) = board(image, blocks, record, host)?;
     match request::parse(message).ok_or(Answer::MALFORMED)? {
         Request::Read(id) => board.find(id).ok_or(Answer::NO_OBJECT).map(|_| record.clone()),
         Request::Log(Page::Store) => {
@@ -197,11 +212,11 @@ struct Board<'a> {
 
 impl<'a> Board<'a> {
     /// The board as an idle record has it, unless the image is another (refusal 11).
-    fn found(image: &'a [u8], idle: Idle) -> Option<Board<'a>> {
-        if idle.length != image.len() || idle.half > 1 {
+    fn found(image: &'a [u8], blocks: u8, idle: Idle) -> Option<Board<'a>> {
+        if idle.length != image.len() || idle.blocks != blocks || idle.block > 1 {
             return None;
         }
-        let half = usize::from(idle.half);
+        let half = usize::from(idle.block);
         let Half::Valid(journal) = half::read(half_of(image, half)) else {
             return None;
         };
@@ -220,7 +235,7 @@ impl<'a> Board<'a> {
     }
 
     fn idle(&self, half: usize, end: usize) -> Idle {
-        Idle { length: self.image.len(), half: half as u8, end: end as u16 }
+        Idle { length: self.image.len(), block: half as u8, end: end as u16, blocks: 2 }
     }
 
     fn find(&self, id: Id) -> Option<Stretch> {

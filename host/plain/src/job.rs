@@ -27,6 +27,7 @@ pub struct Record {
     pub length: u32,
     pub half: u8,
     pub end: u16,
+    pub blocks: u8,
     /// How many halves are erased first, and which, the last one at 0.
     wipes: u8,
     wipe: [u8; 2],
@@ -54,6 +55,7 @@ impl Record {
         length: 0,
         half: 0,
         end: 0,
+        blocks: 2,
         wipes: 0,
         wipe: [0; 2],
         makes: false,
@@ -146,11 +148,11 @@ impl Record {
         }
     }
 
-    pub fn step(&mut self, image: &mut [u8]) -> Answer {
+    pub fn step(&mut self, image: &mut [u8], blocks: u8) -> Answer {
         if matches!(self.phase, Phase::Unmounted | Phase::Idle) {
             return Answer::DONE;
         }
-        if image.len() != self.length as usize {
+        if image.len() != self.length as usize || blocks != self.blocks {
             return Answer::STALE;
         }
         if self.make_step(image) {

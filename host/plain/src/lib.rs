@@ -16,13 +16,13 @@ use store::{Answer, Fault, Field, Head, Idle, Store, Stretch};
 pub struct Plain;
 
 /// Finds the store and begins to tidy up after a power cut.
-pub fn mount(image: &[u8], record: &mut Record) -> Answer {
+pub fn mount(image: &[u8], blocks: u8, record: &mut Record) -> Answer {
     *record = Record::UNMOUNTED;
-    begin_mount(image, record).unwrap_or_else(|refusal| refusal)
+    begin_mount(image, blocks, record).unwrap_or_else(|refusal| refusal)
 }
 
-fn begin_mount(image: &[u8], record: &mut Record) -> Result<Answer, Answer> {
-    allowed(image)?;
+fn begin_mount(image: &[u8], blocks: u8, record: &mut Record) -> Result<Answer, Answer> {
+    allowed(image, blocks)?;
     let mut journals = [Journal::EMPTY; 2];
     let states = [journals[0].read(half_of(image, 0)), journals[1].read(half_of(image, 1))];
     let half = match &states {
@@ -49,8 +49,8 @@ fn begin_mount(image: &[u8], record: &mut Record) -> Result<Answer, Answer> {
 }
 
 /// Why a mount would be refused, and with 3 where the image broke; 0 if it would be accepted.
-pub fn fault(image: &[u8]) -> (Answer, Option<Fault>) {
-    match mount(image, &mut Record::UNMOUNTED.clone()) {
+pub fn fault(image: &[u8], blocks: u8) -> (Answer, Option<Fault>) {
+    match mount(image, blocks, &mut Record::UNMOUNTED.clone()) {
         Answer::FOREIGN => (Answer::FOREIGN, Some(broken(image))),
         answer if answer.refused() => (answer, None),
         _ => (Answer::DONE, None),
@@ -61,16 +61,16 @@ pub fn fault(image: &[u8]) -> (Answer, Option<Fault>) {
 fn broken(image: &[u8]) -> Fault {
     for half in [0, 1] {
         if let State::Foreign((field, place)) = Journal::EMPTY.clone().read(half_of(image, half)) {
-            return Fault { half, field, place };
+            return Fault { block: half, field, place };
         }
     }
-    Fault { half: 0, field: Field::Time, place: TIME }
+    Fault { block: 0, field: Field::Time, place: TIME }
 }
 
 /// Begins to make an empty store. The half that holds the store, if there is one, is erased last.
-pub fn format(image: &[u8], record: &mut Record) -> Answer {
+pub fn format(image: &[u8], blocks: u8, record: &mut Record) -> Answer {
     *record = Record::UNMOUNTED;
-    if let Err(refusal) = allowed(image) {
+    if let Err(refusal) = allowed(image, blocks) {
         return refusal;
     }
     record.rest(image.len(), 0, HEADER);
@@ -91,13 +91,27 @@ fn time(image: &[u8], half: usize) -> u32 {
 }
 
 /// A host's message.
-pub fn request(image: &[u8], record: &mut Record, host: u8, message: &[u8], reply: &mut [u8]) -> Answer {
-    serve(image, record, host, message, reply).unwrap_or_else(|refusal| refusal)
+pub fn request(
+    image: &[u8],
+    blocks: u8,
+    record: &mut Record,
+    host: u8,
+    message: &[u8],
+    reply: &mut [u8],
+) -> Answer {
+    serve(image, blocks, record, host, message, reply).unwrap_or_else(|refusal| refusal)
 }
 
-fn serve(image: &[u8], record: &mut Record, host: u8, message: &[u8], reply: &mut [u8]) -> Result<Answer, Answer> {
+fn serve(
+    image: &[u8],
+    blocks: u8,
+    record: &mut Record,
+    host: u8,
+    message: &[u8],
+    reply: &mut [u8],
+) -> Result<Answer, Answer> {
     let mut journal = Journal::EMPTY;
-    fresh(image, record, host, &mut journal)?;
+    fresh(image, blocks, record, host, &mut journal)?;
     let (kind, body) = kind_of(message)?;
     let quiet = journal.pending[usize::from(host)] == 0;
     match (kind, body) {
@@ -120,9 +134,9 @@ fn serve(image: &[u8], record: &mut Record, host: u8, message: &[u8], reply: &mu
 }
 
 /// Where a settled value stands.
-pub fn read(image: &[u8], record: &Record, host: u8, message: &[u8]) -> Result<Stretch, Answer> {
+pub fn read(image: &[u8], blocks: u8, record: &Record, host: u8, message: &[u8]) -> Result<Stretch, Answer> {
     let mut journal = Journal::EMPTY;
-    fresh(image, record, host, &mut journal)?;
+    fresh(image, blocks, record, host, &mut journal)?;
     match kind_of(message)? {
         (5, [id, 0]) => {
             let half = usize::from(record.half);
@@ -133,8 +147,8 @@ pub fn read(image: &[u8], record: &Record, host: u8, message: &[u8]) -> Result<S
     }
 }
 
-fn allowed(image: &[u8]) -> Result<(), Answer> {
-    let allowed = image.len().is_multiple_of(256) && (512..=65_536).contains(&image.len());
+fn allowed(image: &[u8], blocks: u8) -> Result<(), Answer> {
+    let allowed = blocks == 2 && image.len().is_multiple_of(256) && (512..=65_536).contains(&image.len());
     if allowed { Ok(()) } else { Err(Answer::IMAGE_LENGTH) }
 }
 
@@ -144,8 +158,8 @@ fn half_of(image: &[u8], half: usize) -> &[u8] {
 }
 
 /// The refusals before a look at the message; the current half is read into `journal`.
-fn fresh(image: &[u8], record: &Record, host: u8, journal: &mut Journal) -> Result<(), Answer> {
-    allowed(image)?;
+fn fresh(image: &[u8], blocks: u8, record: &Record, host: u8, journal: &mut Journal) -> Result<(), Answer> {
+    allowed(image, blocks)?;
     if host > 3 {
         return Err(Answer::HOST_RANGE);
     }
@@ -156,6 +170,7 @@ fn fresh(image: &[u8], record: &Record, host: u8, journal: &mut Journal) -> Resu
     }
     let half = usize::from(record.half);
     let stale = image.len() != record.length as usize
+        || record.blocks != blocks
         || half > 1
         || journal.read(half_of(image, half)) != State::Valid
         || journal.end != usize::from(record.end)
@@ -219,30 +234,38 @@ fn log(image: &[u8], journal: &Journal, reply: &mut [u8]) -> Result<Answer, Answ
 impl Store for Plain {
     type Record = Record;
 
-    fn mount(&self, image: &[u8]) -> (Answer, Record) {
+    fn mount(&self, image: &[u8], blocks: u8) -> (Answer, Record) {
         let mut record = Record::UNMOUNTED;
-        (mount(image, &mut record), record)
+        (mount(image, blocks, &mut record), record)
     }
 
-    fn fault(&self, image: &[u8]) -> (Answer, Option<Fault>) {
-        fault(image)
+    fn fault(&self, image: &[u8], blocks: u8) -> (Answer, Option<Fault>) {
+        fault(image, blocks)
     }
 
-    fn format(&self, image: &[u8]) -> (Answer, Record) {
+    fn format(&self, image: &[u8], blocks: u8) -> (Answer, Record) {
         let mut record = Record::UNMOUNTED;
-        (format(image, &mut record), record)
+        (format(image, blocks, &mut record), record)
     }
 
-    fn request(&self, image: &[u8], record: &mut Record, host: u8, message: &[u8], reply: &mut [u8]) -> Answer {
-        request(image, record, host, message, reply)
+    fn request(
+        &self,
+        image: &[u8],
+        blocks: u8,
+        record: &mut Record,
+        host: u8,
+        message: &[u8],
+        reply: &mut [u8],
+    ) -> Answer {
+        request(image, blocks, record, host, message, reply)
     }
 
-    fn step(&self, image: &mut [u8], record: &mut Record) -> Answer {
-        record.step(image)
+    fn step(&self, image: &mut [u8], blocks: u8, record: &mut Record) -> Answer {
+        record.step(image, blocks)
     }
 
-    fn read(&self, image: &[u8], record: &Record, host: u8, message: &[u8]) -> (Answer, Stretch) {
-        match read(image, record, host, message) {
+    fn read(&self, image: &[u8], blocks: u8, record: &Record, host: u8, message: &[u8]) -> (Answer, Stretch) {
+        match read(image, blocks, record, host, message) {
             Ok(stretch) => (Answer::DONE, stretch),
             Err(refusal) => (refusal, Stretch::default()),
         }
@@ -254,14 +277,20 @@ impl Store for Plain {
 
     fn idle(&self, idle: Idle) -> Record {
         let mut record = Record::UNMOUNTED;
-        record.rest(idle.length, usize::from(idle.half), usize::from(idle.end));
+        record.rest(idle.length, usize::from(idle.block), usize::from(idle.end));
+        record.blocks = idle.blocks;
         record
     }
 
     fn head(&self, record: &Record) -> Head {
         match record.phase {
             Phase::Unmounted => Head::Unmounted,
-            Phase::Idle => Head::Idle(Idle { length: record.length as usize, half: record.half, end: record.end }),
+            Phase::Idle => Head::Idle(Idle {
+                length: record.length as usize,
+                block: record.half,
+                end: record.end,
+                blocks: record.blocks,
+            }),
             _ => Head::Job,
         }
     }

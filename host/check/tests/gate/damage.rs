@@ -169,7 +169,7 @@ fn frames_of_the_longest_value() {
 fn frames_to_the_very_end() {
     let commit = frame::commit(Host(0));
     let mut twin = with_tail(&commit, commit.len());
-    twin.forge(Idle { length: LONG, half: 0, end: S as u16 });
+    twin.forge(Idle { length: LONG, block: 0, end: S as u16, blocks: 2 });
     assert_eq!(twin.ask(1, &message::commit()), Answer::DONE);
     assert_eq!(twin.whole(&Call::Mount), (Answer::DONE, 0));
     assert_eq!(twin.ids(), [1, 2]);
@@ -204,7 +204,7 @@ fn two_valid_halves() {
     assert_eq!(twin.step(), Answer::MORE);
     assert_eq!(twin.image()[S..], [0xFF; S]);
     assert_eq!(twin.finish(), (Answer::DONE, 22));
-    let Idle { half, end, .. } = twin.idle().expect("idle");
+    let Idle { block: half, end, .. } = twin.idle().expect("idle");
     assert_eq!((half, end), (1, 27));
     let outcome = twin.call(&Call::Read { host: 0, message: message::read(1) });
     assert_eq!(outcome.stretch, Stretch { at: S + 22, len: 4 });
@@ -258,7 +258,7 @@ fn a_foreign_half_is_erased_beside_a_valid_one() {
             halves.rotate_left(half);
             let mut twin = Twin::new(&halves.concat());
             assert_eq!(twin.whole(&Call::Mount), (Answer::DONE, 1), "byte {at}");
-            assert_eq!(twin.idle(), Some(Idle { length: LONG, half: half as u8, end: 27 }));
+            assert_eq!(twin.idle(), Some(Idle { length: LONG, block: half as u8, end: 27, blocks: 2 }));
             assert_eq!(twin.image()[(1 - half) * S..][..S], [0xFF; S]);
             assert_eq!(twin.value(1), Some(b"kept".to_vec()));
         }

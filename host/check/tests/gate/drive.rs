@@ -36,10 +36,10 @@ const WORDS: [usize; 8] = [4, 528, 530, 532, 534, 538, 540, 542];
 fn jobs(length: usize) -> Vec<Board> {
     let library = Library::linked();
     let mut twin = Twin::formatted(length);
-    let mut jobs = vec![(twin.image().to_vec(), library.format(twin.image()).1)];
+    let mut jobs = vec![(twin.image().to_vec(), library.format(twin.image(), 2).1)];
     let ask = |image: &[u8], message: &[u8]| {
-        let mut record = library.mount(image).1;
-        assert_eq!(library.request(image, &mut record, 1, message, &mut []), Answer::MORE);
+        let mut record = library.mount(image, 2).1;
+        assert_eq!(library.request(image, 2, &mut record, 1, message, &mut []), Answer::MORE);
         (image.to_vec(), record)
     };
     jobs.push(ask(twin.image(), &message::put(9, &[9; 20])));
@@ -56,7 +56,7 @@ fn jobs(length: usize) -> Vec<Board> {
     assert_eq!(twin.serve(3, &message::put(3, b"pending")).0, Answer::DONE);
     let mut image = twin.image().to_vec();
     image[8] = 0xFE;
-    jobs.push((image.clone(), library.mount(&image).1));
+    jobs.push((image.clone(), library.mount(&image, 2).1));
     jobs
 }
 
@@ -104,11 +104,11 @@ fn check_told(answer: Answer, told: Told, length: usize) {
 /// A step and, on a copy, the same told, done and made.
 fn both_ways(library: &Library, (image, record): &mut Board, seen: &mut Seen) -> Answer {
     let (mut flash, mut driven, stage) = (image.clone(), *record, record[0]);
-    let (next, told) = library.next_of(image.len(), record);
+    let (next, told) = library.next_of(image.len(), 2, record);
     check_told(next, told, image.len());
     *seen.entry((stage, next.0)).or_default() += 1;
-    let answer = library.step(image, record);
-    assert_eq!(Driven(Library::linked()).step(&mut flash, &mut driven), answer);
+    let answer = library.step(image, 2, record);
+    assert_eq!(Driven(Library::linked()).step(&mut flash, 2, &mut driven), answer);
     assert!(flash == *image && driven == *record, "next and made did other than step, stage {stage}");
     match next {
         Answer::PROGRAM | Answer::ERASE => assert!(!answer.refused()),
@@ -124,7 +124,7 @@ fn by_steps(library: &Library, (image, record): &mut Board, most: usize) -> (Ans
     }
     let mut made = 0;
     while made < most {
-        let answer = library.step(image, record);
+        let answer = library.step(image, 2, record);
         made += usize::from(!answer.refused());
         if answer != Answer::MORE {
             return (answer, made);
@@ -139,18 +139,18 @@ fn check_runs(library: &Library, board: &Board) {
     for most in [0, 1, 2, 7, exact.saturating_sub(1), exact, exact + 1, usize::MAX] {
         let (mut steps, mut run) = (board.clone(), board.clone());
         let expected = by_steps(library, &mut steps, most);
-        assert_eq!(library.run(&mut run.0, &mut run.1, most), expected, "of at most {most} steps");
+        assert_eq!(library.run(&mut run.0, 2, &mut run.1, most), expected, "of at most {most} steps");
         assert!(run == steps, "a run of {most} steps did other than {most} steps");
     }
     let (mut whole, mut parts) = (board.clone(), board.clone());
-    let (end, _) = library.run(&mut whole.0, &mut whole.1, usize::MAX);
+    let (end, _) = library.run(&mut whole.0, 2, &mut whole.1, usize::MAX);
     let mut made = 0;
-    while let (Answer::MORE, steps) = library.run(&mut parts.0, &mut parts.1, 7) {
+    while let (Answer::MORE, steps) = library.run(&mut parts.0, 2, &mut parts.1, 7) {
         assert_eq!(steps, 7);
         made += steps;
     }
     assert!(whole == parts && made <= exact && exact <= made + 7);
-    assert_eq!(library.run(&mut parts.0, &mut parts.1, 7).0, end);
+    assert_eq!(library.run(&mut parts.0, 2, &mut parts.1, 7).0, end);
 }
 
 /// Goes on with the job both ways, to its end or so many steps.
@@ -220,7 +220,7 @@ fn images_of_other_lengths() {
     for length in [0, 1, 256, 510, 511, 513, 514, 768, 65_536, 131_584] {
         let mut board = (vec![0xFF; length], real);
         assert_eq!(both_ways(&library, &mut board, &mut seen), Answer::STALE);
-        assert_eq!(library.run(&mut board.0, &mut board.1, 5), (Answer::STALE, 0));
+        assert_eq!(library.run(&mut board.0, 2, &mut board.1, 5), (Answer::STALE, 0));
         assert!(board.1 == real && board.0.iter().all(|byte| *byte == 0xFF), "11 changed something");
     }
 }
@@ -231,11 +231,11 @@ fn next_may_be_asked_again() {
     let library = Library::linked();
     for (mut image, mut record) in jobs(512) {
         while library.head(&record) == Head::Job {
-            let (answer, told) = library.next_of(image.len(), &record);
+            let (answer, told) = library.next_of(image.len(), 2, &record);
             library::flash(&mut image, answer, told);
-            assert_eq!(library.next_of(image.len(), &record), (answer, told));
+            assert_eq!(library.next_of(image.len(), 2, &record), (answer, told));
             library::flash(&mut image, answer, told);
-            assert!(!library.made_on(&image, &mut record).refused());
+            assert!(!library.made_on(&image, 2, &mut record).refused());
         }
     }
 }

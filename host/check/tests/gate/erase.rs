@@ -63,7 +63,7 @@ impl Scene {
     }
 
     fn judge(&self, twin: &mut Twin) {
-        let Idle { half, .. } = twin.idle().expect("idle");
+        let Idle { block: half, .. } = twin.idle().expect("idle");
         let moved = self.rest > 0;
         assert_eq!(usize::from(half) == self.half, moved);
         assert_eq!(newest(twin.image()), Some(self.time + u32::from(moved)));
@@ -336,5 +336,5 @@ fn a_foreign_half_that_no_store_wrote() {
     twin.cut_erase(&newer[S..]);
     assert_eq!(twin.image(), [&newer[S..], &stays[S..]].concat());
     assert_eq!(twin.whole(&Call::Mount), (Answer::DONE, 1));
-    assert_eq!(twin.idle().map(|idle| idle.half), Some(0));
+    assert_eq!(twin.idle().map(|idle| idle.block), Some(0));
 }

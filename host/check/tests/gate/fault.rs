@@ -34,10 +34,10 @@ fn blank() -> Vec<u8> {
 /// What is said of a half of these frames beside a blank one. Half 1 is said to be broken just as half 0 is.
 fn of_frames(frames: &[&[u8]]) -> Option<(Field, usize)> {
     let half = half(&[&HEADER[..], &frames.concat()]);
-    let (answer, first) = agreed(&[&half[..], &blank()].concat());
-    let (same, second) = agreed(&[&blank()[..], &half].concat());
-    assert_eq!((same, second), (answer, first.map(|fault| Fault { half: 1, ..fault })));
-    let Fault { half, field, place } = first?;
+    let (answer, first) = agreed(&[&half[..], &blank()].concat(), 2);
+    let (same, second) = agreed(&[&blank()[..], &half].concat(), 2);
+    assert_eq!((same, second), (answer, first.map(|fault| Fault { block: 1, ..fault })));
+    let Fault { block: half, field, place } = first?;
     assert_eq!((answer, half), (Answer::FOREIGN, 0));
     Some((field, place))
 }
@@ -87,8 +87,8 @@ fn every_byte_of_short_journals() {
         let written = journal.iter().rposition(|byte| *byte != 0xFF).map_or(0, |last| last + 1).max(16);
         for (at, byte) in (0..written + 12).flat_map(|at| (0..=255).map(move |byte| (at, byte))) {
             let damaged = with(&journal, at, byte);
-            let (_, fault) = agreed(&[&damaged[..], &blank()].concat());
-            if let Some(Fault { half, field, place }) = fault {
+            let (_, fault) = agreed(&[&damaged[..], &blank()].concat(), 2);
+            if let Some(Fault { block: half, field, place }) = fault {
                 assert_eq!(half, 0);
                 assert!(at >= written || place + of_bytes(field) > at, "byte {at} is {byte}, {field} at {place}");
                 seen.insert(field);
@@ -105,13 +105,13 @@ fn nothing_after_the_bad_field_matters() {
     for journal in journals() {
         for at in 0..60 {
             let mut damaged = with(&journal, at, rng.byte());
-            let (_, Some(fault)) = agreed(&[&damaged[..], &blank()].concat()) else { continue };
+            let (_, Some(fault)) = agreed(&[&damaged[..], &blank()].concat(), 2) else { continue };
             let after = fault.place + of_bytes(fault.field);
             for _ in 0..10.min(S - after) {
                 let later = after + rng.below(S - after);
                 // byte 8 decides whether a half is in progress, whatever else stands there
                 damaged[later] = if later == 8 { 0xFC } else { rng.below(255) as u8 };
-                assert_eq!(agreed(&[&damaged[..], &blank()].concat()), (Answer::FOREIGN, Some(fault)));
+                assert_eq!(agreed(&[&damaged[..], &blank()].concat(), 2), (Answer::FOREIGN, Some(fault)));
             }
         }
     }
@@ -272,11 +272,11 @@ fn frames_at_the_end_of_the_half() {
 
 /// What is said of an image whose halves are these.
 fn of_halves(halves: [&[u8]; 2]) -> (Answer, Option<Fault>) {
-    agreed(&halves.concat())
+    agreed(&halves.concat(), 2)
 }
 
 fn foreign(half: usize, field: Field, place: usize) -> (Answer, Option<Fault>) {
-    (Answer::FOREIGN, Some(Fault { half, field, place }))
+    (Answer::FOREIGN, Some(Fault { block: half, field, place }))
 }
 
 /// Fields in address order, each named at its own start, the rest always at 9.
@@ -360,11 +360,11 @@ fn equal_times() {
 #[test]
 fn other_answers() {
     for length in [0, 1, 256, 511, 513, 65_792] {
-        assert_eq!(agreed(&vec![0; length]), (Answer::IMAGE_LENGTH, None));
+        assert_eq!(agreed(&vec![0; length], 2), (Answer::IMAGE_LENGTH, None));
     }
     for length in [512, 768, 65_536] {
-        assert_eq!(agreed(&vec![0xFF; length]), (Answer::NO_STORE, None));
-        assert_eq!(agreed(&vec![0; length]), foreign(0, Field::Length, 0));
+        assert_eq!(agreed(&vec![0xFF; length], 2), (Answer::NO_STORE, None));
+        assert_eq!(agreed(&vec![0; length], 2), foreign(0, Field::Length, 0));
     }
     let last = |frames: &[u8]| half(&[b"\x10\0\x01\x4A\0\0\0\0", &HEADER[8..], frames]);
     assert_eq!(of_halves([&last(&PUT), &blank()]), (Answer::WORN, None));

@@ -75,7 +75,7 @@ fn the_order_of_the_erases() {
             }
             assert_eq!(twin.finish(), (Answer::DONE, 10));
             assert_eq!(twin.image(), [half(&FORMATTED), half(&[])].concat());
-            assert_eq!(twin.head(), Head::Idle(Idle { length: LENGTH, half: 0, end: 16 }));
+            assert_eq!(twin.head(), Head::Idle(Idle { length: LENGTH, block: 0, end: 16, blocks: 2 }));
             seen[order[1]] += 1;
         }
     }

@@ -19,7 +19,7 @@ fn done(steps: usize) -> (Answer, usize) {
 }
 
 fn idle(half: u8, end: usize) -> Head {
-    Head::Idle(Idle { length: LENGTH, half, end: end as u16 })
+    Head::Idle(Idle { length: LENGTH, block: half, end: end as u16, blocks: 2 })
 }
 
 fn request(host: u8, message: Vec<u8>) -> Call {
@@ -185,7 +185,7 @@ fn before_a_transfer() -> Twin {
     assert_eq!(twin.serve(0, &put(4)), done(LONGEST_FRAME));
     assert_eq!(twin.serve(0, &message::commit()), done(6));
     assert_eq!(twin.serve(3, &put(7)), done(LONGEST_FRAME));
-    assert_eq!(twin.idle(), Some(Idle { length: 2 * LENGTH, half: 0, end: 1_020 }));
+    assert_eq!(twin.idle(), Some(Idle { length: 2 * LENGTH, block: 0, end: 1_020, blocks: 2 }));
     twin
 }
 
@@ -194,7 +194,7 @@ fn before_a_transfer() -> Twin {
 fn a_transfer_of_long_values() {
     let mut twin = before_a_transfer();
     assert_eq!(twin.serve(3, &message::commit()), done(753 + 6));
-    assert_eq!(twin.idle(), Some(Idle { length: 2 * LENGTH, half: 1, end: 764 }));
+    assert_eq!(twin.idle(), Some(Idle { length: 2 * LENGTH, block: 1, end: 764, blocks: 2 }));
     let value = |id: u8| vec![id; LONGEST_VALUE];
     let settled = |id: u8| [&[0xF7, 0, 5, 0, id, 0][..], &value(id), &[0xFE]].concat();
     let put = [&[0xF8, 0, 1, 0, 3, 7, 0][..], &value(7), &[0xFE]].concat();

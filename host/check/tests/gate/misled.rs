@@ -11,7 +11,7 @@ type Said = Option<Fault>;
 /// Halves, and what a mount refused with 3 names.
 fn images() -> Vec<([Vec<u8>; 2], Fault)> {
     let blank = || half(&[]);
-    let fault = |half, field, place| Fault { half, field, place };
+    let fault = |half, field, place| Fault { block: half, field, place };
     let host = half(&[&HEADER, &with(&COMMIT, 4, 4)]);
     let rest = half(&[&with(&HEADER, 9, 0)]);
     let last = with(&SETTLED, 4, 255);
@@ -35,13 +35,16 @@ fn wrong(said: impl Fn(&[u8]) -> Said) -> usize {
 }
 
 fn right(image: &[u8]) -> Said {
-    Model.fault(image).1
+    Model.fault(image, 2).1
 }
 
 #[test]
 fn right_stores_are_not_misled() {
     let library = Library::linked();
-    assert_eq!([wrong(right), wrong(|image| Plain.fault(image).1), wrong(|image| library.fault(image).1)], [0; 3]);
+    assert_eq!(
+        [wrong(right), wrong(|image| Plain.fault(image, 2).1), wrong(|image| library.fault(image, 2).1)],
+        [0; 3]
+    );
 }
 
 /// The next field in the order of their numbers, where there is one.
@@ -68,7 +71,7 @@ fn places_counted_from_the_frame() {
 fn half_1_named_before_half_0() {
     let swapped = |image: &[u8]| {
         let (first, second) = image.split_at(image.len() / 2);
-        right(&[second, first].concat()).map(|fault| Fault { half: 1 - fault.half, ..fault })
+        right(&[second, first].concat()).map(|fault| Fault { block: 1 - fault.block, ..fault })
     };
     assert_eq!(wrong(swapped), 2);
 }
@@ -89,7 +92,7 @@ fn at_the_id_after_settled_id_255() {
 fn the_state_before_the_time() {
     let state = |image: &[u8]| {
         let fault = right(image)?;
-        let early = fault.field == Field::Time && image[fault.half * image.len() / 2 + 8] != 0xFC;
+        let early = fault.field == Field::Time && image[fault.block * image.len() / 2 + 8] != 0xFC;
         Some(if early { Fault { field: Field::State, place: 8, ..fault } } else { fault })
     };
     assert_eq!(wrong(state), 1);

@@ -27,7 +27,7 @@ fn in_a_job() -> Twin {
 /// A record that the image does not bear out.
 fn misplaced() -> Twin {
     let mut twin = formatted();
-    twin.forge(Idle { length: LENGTH, half: 0, end: 17 });
+    twin.forge(Idle { length: LENGTH, block: 0, end: 17, blocks: 2 });
     twin
 }
 
@@ -92,7 +92,7 @@ fn unmounted() {
 fn a_record_that_is_not_the_images_goes_before_the_message() {
     let messages =
         [message::put(2, b"y"), message::read(1), message::log(), message::commit(), MALFORMED.to_vec()];
-    let record = |length, half, end| Idle { length, half, end };
+    let record = |length, half, end| Idle { length, block: half, end, blocks: 2 };
     let wrong = [
         record(768, 0, 16),
         record(511, 0, 16),
@@ -152,7 +152,7 @@ fn an_image_without_room_for_the_commits() {
         let frames = [put(0, 64), put(0, 64), put(second_host, 64), put(0, 7)].concat();
         image[16..16 + frames.len()].copy_from_slice(&frames);
         let mut twin = Twin::new(&image);
-        twin.forge(Idle { length: LENGTH, half: 0, end: 16 + frames.len() as u16 });
+        twin.forge(Idle { length: LENGTH, block: 0, end: 16 + frames.len() as u16, blocks: 2 });
         assert_eq!(twin.ask(0, &message::commit()), expected);
     }
 }
@@ -254,7 +254,7 @@ fn a_transfer_at_the_last_time() {
     for id in [1, 2] {
         assert_eq!(twin.serve(0, &message::put(id, &[])), (Answer::DONE, 8));
     }
-    assert_eq!(twin.head(), Head::Idle(Idle { length: LENGTH, half: 0, end: 248 }));
+    assert_eq!(twin.head(), Head::Idle(Idle { length: LENGTH, block: 0, end: 248, blocks: 2 }));
     assert_eq!(twin.serve(0, &message::commit()), (Answer::DONE, 6));
     assert_eq!(refusal(&mut twin, 0, &message::delete(1), 0), Answer::WORN);
     assert_eq!(refusal(&mut twin, 0, &message::put(1, &[7; 64]), 0), Answer::WORN);

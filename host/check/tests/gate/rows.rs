@@ -56,7 +56,7 @@ fn empty_put_to_4() -> Vec<u8> {
 }
 
 fn idle(half: u8, end: u16) -> Head {
-    Head::Idle(Idle { length: 2 * S, half, end })
+    Head::Idle(Idle { length: 2 * S, block: half, end, blocks: 2 })
 }
 
 /// A half that begins with these bytes and is 0xFF after them.
@@ -227,7 +227,7 @@ fn o_value_limits() {
     let mut twin = Twin::formatted(1_024);
     assert_eq!(twin.ask(0, &message::put(9, &value)), Answer::MORE);
     assert_eq!(twin.finish(), done(248));
-    assert_eq!(twin.head(), Head::Idle(Idle { length: 1_024, half: 0, end: 264 }));
+    assert_eq!(twin.head(), Head::Idle(Idle { length: 1_024, block: 0, end: 264, blocks: 2 }));
     let frame = [&bytes("F8 00 01 00 00 09 00")[..], &value, &[0xFE]].concat();
     assert_eq!(twin.image()[16..264], frame);
 

@@ -117,7 +117,7 @@ fn the_time_is_inverted() {
     for time in 2..=300u32 {
         put(&mut twin, 0, 1, b"x");
         assert_eq!(cut_and_mount(&mut twin), done(11));
-        let base = S * usize::from(twin.idle().expect("idle").half);
+        let base = S * usize::from(twin.idle().expect("idle").block);
         assert_eq!(twin.image()[base + 4..base + 8], (!time).to_le_bytes());
     }
     let mut image = twin.image().to_vec();
@@ -126,7 +126,7 @@ fn the_time_is_inverted() {
     older[5] = 0xFF;
     twin.load(&image);
     assert_eq!(twin.whole(&Call::Mount), done(1));
-    assert_eq!(twin.idle(), Some(Idle { length: LENGTH, half: 1, end: 16 }));
+    assert_eq!(twin.idle(), Some(Idle { length: LENGTH, block: 1, end: 16, blocks: 2 }));
 }
 
 #[test]
@@ -182,7 +182,7 @@ fn an_empty_value() {
 fn pending_changes_go_over_a_transfer() {
     let mut twin = before_a_transfer();
     assert_eq!(twin.serve(0, &message::put(1, &[2; 64])), done(71 + 72));
-    assert_eq!(twin.idle(), Some(Idle { length: LENGTH, half: 1, end: 148 }));
+    assert_eq!(twin.idle(), Some(Idle { length: LENGTH, block: 1, end: 148, blocks: 2 }));
 
     let settled_7 = [&[0x0C, 0, 5, 0, 7, 0][..], b"seven", &[0xFE]].concat();
     let settled_9 = vec![0x07, 0, 5, 0, 9, 0, 0xFE];
@@ -243,7 +243,7 @@ fn a_format_cut_anywhere() {
     let mut twin = before_a_transfer();
     let objects = [(7, b"seven".to_vec()), (9, vec![])].into();
     for current in [0, 1] {
-        assert_eq!(twin.idle().map(|idle| idle.half), Some(current));
+        assert_eq!(twin.idle().map(|idle| idle.block), Some(current));
         let image = twin.image().to_vec();
         let start = Start { image: &image, idle: None, call: &Call::Format };
         let mut cuts = Cuts::everywhere(LENGTH);

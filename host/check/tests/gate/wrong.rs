@@ -12,35 +12,43 @@ type Begun = (Answer, Record);
 
 /// The model with another mount or format.
 struct Altered {
-    mount: fn(&[u8]) -> Begun,
-    format: fn(&[u8]) -> Begun,
+    mount: fn(&[u8], u8) -> Begun,
+    format: fn(&[u8], u8) -> Begun,
 }
 
 impl Store for Altered {
     type Record = Record;
 
-    fn mount(&self, image: &[u8]) -> Begun {
-        (self.mount)(image)
+    fn mount(&self, image: &[u8], blocks: u8) -> Begun {
+        (self.mount)(image, blocks)
     }
 
-    fn fault(&self, image: &[u8]) -> (Answer, Option<Fault>) {
-        Model.fault(image)
+    fn fault(&self, image: &[u8], blocks: u8) -> (Answer, Option<Fault>) {
+        Model.fault(image, blocks)
     }
 
-    fn format(&self, image: &[u8]) -> Begun {
-        (self.format)(image)
+    fn format(&self, image: &[u8], blocks: u8) -> Begun {
+        (self.format)(image, blocks)
     }
 
-    fn request(&self, image: &[u8], record: &mut Record, host: u8, message: &[u8], reply: &mut [u8]) -> Answer {
-        Model.request(image, record, host, message, reply)
+    fn request(
+        &self,
+        image: &[u8],
+        blocks: u8,
+        record: &mut Record,
+        host: u8,
+        message: &[u8],
+        reply: &mut [u8],
+    ) -> Answer {
+        Model.request(image, blocks, record, host, message, reply)
     }
 
-    fn step(&self, image: &mut [u8], record: &mut Record) -> Answer {
-        Model.step(image, record)
+    fn step(&self, image: &mut [u8], blocks: u8, record: &mut Record) -> Answer {
+        Model.step(image, blocks, record)
     }
 
-    fn read(&self, image: &[u8], record: &Record, host: u8, message: &[u8]) -> (Answer, Stretch) {
-        Model.read(image, record, host, message)
+    fn read(&self, image: &[u8], blocks: u8, record: &Record, host: u8, message: &[u8]) -> (Answer, Stretch) {
+        Model.read(image, blocks, record, host, message)
     }
 
     fn unmounted(&self) -> Record {
@@ -56,39 +64,46 @@ impl Store for Altered {
     }
 }
 
-const RIGHT: Altered = Altered { mount: |image| Model.mount(image), format: |image| Model.format(image) };
+const RIGHT: Altered = Altered {
+    mount: |image, blocks| Model.mount(image, blocks),
+    format: |image, blocks| Model.format(image, blocks),
+};
 
 fn halves(image: &[u8]) -> [Half; 2] {
     [0, 1].map(|half| half::read(half_of(image, half)))
 }
 
 /// As before K4: any foreign half is 3.
-fn mount_that_refuses(image: &[u8]) -> Begun {
-    if halves(image).contains(&Half::Foreign) { (Answer::FOREIGN, Record::Unmounted) } else { Model.mount(image) }
+fn mount_that_refuses(image: &[u8], blocks: u8) -> Begun {
+    if halves(image).contains(&Half::Foreign) {
+        (Answer::FOREIGN, Record::Unmounted)
+    } else {
+        Model.mount(image, blocks)
+    }
 }
 
 /// Of two valid halves the older is current, as if times were stored as they are.
-fn mount_of_the_older(image: &[u8]) -> Begun {
+fn mount_of_the_older(image: &[u8], blocks: u8) -> Begun {
     let mut seen = image.to_vec();
     if let [Half::Valid(first), Half::Valid(second)] = halves(image) {
         let newer = usize::from(second.time > first.time);
         seen[newer * image.len() / 2 + half::STATE] = half::IN_PROGRESS;
     }
-    Model.mount(&seen)
+    Model.mount(&seen, blocks)
 }
 
 /// As before K4: half 0 first, whatever it holds.
-fn format_in_number_order(image: &[u8]) -> Begun {
-    Model.format(&vec![0xFF; image.len()])
+fn format_in_number_order(image: &[u8], blocks: u8) -> Begun {
+    Model.format(&vec![0xFF; image.len()], blocks)
 }
 
 /// The value of an object after a restart and all its steps, or the refusal.
 fn restart<S: Store>(store: &S, image: &mut [u8], id: u8) -> Result<Vec<u8>, Answer> {
-    let (mut answer, mut record) = store.mount(image);
+    let (mut answer, mut record) = store.mount(image, 2);
     while answer == Answer::MORE {
-        answer = store.step(image, &mut record);
+        answer = store.step(image, 2, &mut record);
     }
-    match store.read(image, &record, 0, &message::read(id)) {
+    match store.read(image, 2, &record, 0, &message::read(id)) {
         _ if answer.refused() => Err(answer),
         (Answer::DONE, stretch) => Ok(stretch.of(image).to_vec()),
         (refusal, _) => Err(refusal),
@@ -114,8 +129,8 @@ fn wrong_formats<S: Store>(store: &S) -> usize {
         let image = transferred(current);
         for older in olders(half_of(&image, 1 - current)) {
             let mut image = beside(&image, current, &older);
-            let (answer, mut record) = store.format(&image);
-            assert_eq!((answer, store.step(&mut image, &mut record)), (Answer::MORE, Answer::MORE));
+            let (answer, mut record) = store.format(&image, 2);
+            assert_eq!((answer, store.step(&mut image, 2, &mut record)), (Answer::MORE, Answer::MORE));
             wrong += usize::from(restart(store, &mut image, 5) != Ok(b"AB".to_vec()));
         }
     }

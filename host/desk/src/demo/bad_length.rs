@@ -67,7 +67,12 @@ fn refuse_every_length<S: Store>(board: &mut Board<S>) -> usize {
 
 /// Host 0's commit with a bad request before each step: its steps, after which the image is as without them.
 fn commit_disturbed<S: Store>(board: &mut Board<S>) -> usize {
-    let mut alone = Board { store: board.store, image: board.image.clone(), record: board.record.clone() };
+    let mut alone = Board {
+        store: board.store,
+        image: board.image.clone(),
+        blocks: board.blocks,
+        record: board.record.clone(),
+    };
     serve(&mut alone, 0, &message::commit());
     assert_eq!(board.request(0, &message::commit(), &mut []), Answer::MORE);
     let mut steps = 0;

@@ -97,30 +97,38 @@ mod tests {
     impl Store for Mixed {
         type Record = Record;
 
-        fn mount(&self, image: &[u8]) -> (Answer, Record) {
+        fn mount(&self, image: &[u8], blocks: u8) -> (Answer, Record) {
             self.mounted.set(true);
-            Model.mount(image)
+            Model.mount(image, blocks)
         }
 
-        fn fault(&self, image: &[u8]) -> (Answer, Option<Fault>) {
-            Model.fault(image)
+        fn fault(&self, image: &[u8], blocks: u8) -> (Answer, Option<Fault>) {
+            Model.fault(image, blocks)
         }
 
-        fn format(&self, image: &[u8]) -> (Answer, Record) {
-            Model.format(image)
+        fn format(&self, image: &[u8], blocks: u8) -> (Answer, Record) {
+            Model.format(image, blocks)
         }
 
-        fn request(&self, image: &[u8], record: &mut Record, host: u8, body: &[u8], reply: &mut [u8]) -> Answer {
-            Model.request(image, record, host, body, reply)
+        fn request(
+            &self,
+            image: &[u8],
+            blocks: u8,
+            record: &mut Record,
+            host: u8,
+            body: &[u8],
+            reply: &mut [u8],
+        ) -> Answer {
+            Model.request(image, blocks, record, host, body, reply)
         }
 
-        fn step(&self, image: &mut [u8], record: &mut Record) -> Answer {
-            Model.step(image, record)
+        fn step(&self, image: &mut [u8], blocks: u8, record: &mut Record) -> Answer {
+            Model.step(image, blocks, record)
         }
 
-        fn read(&self, image: &[u8], record: &Record, host: u8, body: &[u8]) -> (Answer, Stretch) {
+        fn read(&self, image: &[u8], blocks: u8, record: &Record, host: u8, body: &[u8]) -> (Answer, Stretch) {
             let mixed = self.mounted.get() && body == message::read(2);
-            Model.read(image, record, host, if mixed { &[6, 0, 5, 1, 1, 0] } else { body })
+            Model.read(image, blocks, record, host, if mixed { &[6, 0, 5, 1, 1, 0] } else { body })
         }
 
         fn unmounted(&self) -> Record {

@@ -100,7 +100,7 @@ fn mount<S: Store>(board: &mut Board<S>, _: &[Word]) -> Made {
 
 fn step<S: Store>(board: &mut Board<S>, words: &[Word]) -> Made {
     let most = words.first().map_or(Ok(1), |word| word.number(1, usize::MAX))?;
-    answer(board.store.run(&mut board.image, &mut board.record, most).0)
+    answer(board.store.run(&mut board.image, board.blocks, &mut board.record, most).0)
 }
 
 fn run<S: Store>(board: &mut Board<S>, _: &[Word]) -> Made {
@@ -178,13 +178,18 @@ fn dump<S: Store>(board: &mut Board<S>, _: &[Word]) -> Made {
 fn record<S: Store>(board: &mut Board<S>, _: &[Word]) -> Made {
     Ok(Back::Plain(match board.head() {
         Head::Unmounted => "unmounted".to_string(),
-        Head::Idle(Idle { length, half, end }) => format!("idle len={length} half={half} end={end}"),
+        Head::Idle(Idle { length, block, end, .. }) => format!("idle len={length} half={block} end={end}"),
         Head::Job => "job".to_string(),
     }))
 }
 
 fn idle<S: Store>(board: &mut Board<S>, words: &[Word]) -> Made {
-    let idle = Idle { length: words[0].number(1, 65_536)?, half: words[1].byte()?, end: words[2].short()? };
+    let idle = Idle {
+        length: words[0].number(1, 65_536)?,
+        block: words[1].byte()?,
+        end: words[2].short()?,
+        blocks: board.blocks,
+    };
     board.record = board.store.idle(idle);
     Ok(Back::Ok)
 }
