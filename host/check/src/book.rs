@@ -1,8 +1,8 @@
 //! Document 01's book for demand 3: fed each call and its answer, and nothing of image or record.
 
 use crate::twin::Call;
+use model::block::{self, Block, Replay};
 use model::frame::{Body, Host, Id};
-use model::half::{self, Half, Replay};
 use std::collections::BTreeMap;
 use store::{Answer, message};
 
@@ -107,10 +107,10 @@ impl Book {
 
 /// What replay finds in a half: objects and each host's list.
 pub fn found(half: &[u8]) -> (Objects, Lists) {
-    let Half::Valid(journal) = half::read(half) else {
+    let Block::Valid(journal) = block::read(half) else {
         panic!("an idle record names a half that is not valid");
     };
-    let replay = half::replay(&journal);
+    let replay = block::replay(&journal);
     assert!(16 <= replay.used() && replay.used() <= replay.claimed(), "U is at least 16 and at most C");
     assert!(
         replay.claimed() <= journal.end && journal.end <= half.len(),

@@ -5,8 +5,8 @@ use crate::book::{Lists, Objects, found};
 use crate::raise;
 use crate::rng::Rng;
 use crate::twin::{Call, Twin};
-use model::half::{self, Half, Journal};
-use model::half_of;
+use model::block::{self, Block, Journal};
+use model::block_of;
 use std::collections::{HashSet, VecDeque};
 use store::{Answer, Idle};
 
@@ -135,7 +135,7 @@ impl Cuts {
     /// The objects that were to be found, and are.
     fn judge<'a>(&mut self, allowed: Allowed<'a>) -> &'a Objects {
         let idle = self.twin.idle().expect("a mount whose steps are all made ends idle");
-        let (objects, lists) = found(half_of(self.twin.image(), usize::from(idle.block)));
+        let (objects, lists) = found(block_of(self.twin.image(), 2, usize::from(idle.block)));
         assert_eq!(lists, Lists::default(), "something is pending after a mount");
         let (Allowed::Exactly(expected) | Allowed::OrGone(expected)) = allowed;
         assert_eq!(objects, *expected);
@@ -165,13 +165,13 @@ pub fn newest(image: &[u8]) -> Option<u32> {
 
 /// Whether a mount would need a transfer at the last time.
 pub fn stuck(image: &[u8]) -> bool {
-    let dirty = |journal: &Journal| journal.torn || !half::replay(journal).pending.is_empty();
+    let dirty = |journal: &Journal| journal.torn || !block::replay(journal).pending.is_empty();
     current(image).is_some_and(|journal| journal.time == u32::MAX && dirty(&journal))
 }
 
 fn current(image: &[u8]) -> Option<Journal> {
-    let journal = |half| match half::read(half_of(image, half)) {
-        Half::Valid(journal) => Some(journal),
+    let journal = |half| match block::read(block_of(image, 2, half)) {
+        Block::Valid(journal) => Some(journal),
         _ => None,
     };
     [journal(0), journal(1)].into_iter().flatten().max_by_key(|journal| journal.time)

@@ -4,9 +4,9 @@ use crate::generate::{self, Manner, Wish};
 use crate::raise;
 use crate::rng::Rng;
 use crate::twin::{Call, Twin};
+use model::block::{self, Block, Journal};
+use model::block_of;
 use model::frame::{self, Host, Id, LONGEST, VALUE_LIMIT};
-use model::half::{self, Half, Journal};
-use model::half_of;
 use store::{Answer, Idle, message};
 
 /// Tries one image: mounts it, then asks under forged records.
@@ -43,7 +43,7 @@ fn cut_erases(twin: &mut Twin, rng: &mut Rng, image: &[u8]) {
                 to_erase(twin);
             }
             if let Some(half) = twin.erases_next() {
-                let mask = raise::mask(rng, half_of(twin.image(), half));
+                let mask = raise::mask(rng, block_of(twin.image(), 2, half));
                 twin.cut_erase(&mask);
                 twin.whole(&Call::Mount);
             }
@@ -82,9 +82,9 @@ fn ask(twin: &mut Twin, rng: &mut Rng) {
 fn forged(rng: &mut Rng, image: &[u8]) -> Vec<Idle> {
     let length = image.len();
     let mut records = Vec::new();
-    for (half, number) in [(half_of(image, 0), 0), (half_of(image, 1), 1)] {
-        let end = match half::read(half) {
-            Half::Valid(journal) => journal.end,
+    for (half, number) in [(block_of(image, 2, 0), 0), (block_of(image, 2, 1), 1)] {
+        let end = match block::read(half) {
+            Block::Valid(journal) => journal.end,
             _ => 16,
         };
         let near = rng.pick(&[end - 1, end + 1, end + 6, 0, 16, length / 2, length / 2 + 1, 65_535]);
@@ -126,7 +126,7 @@ fn some_half(rng: &mut Rng, size: usize) -> Vec<u8> {
         1 => rng.bytes(size),
         2 => {
             let mut half = if rng.once_in(2) { rng.bytes(size) } else { written_half(rng, size) };
-            half[half::STATE] = half::IN_PROGRESS;
+            half[block::STATE] = block::IN_PROGRESS;
             half
         }
         _ => written_half(rng, size),
@@ -141,10 +141,10 @@ const IDS: usize = 6;
 /// Header, settled frames, other frames, and a tail: blank, torn, or bytes of no kind.
 fn written_half(rng: &mut Rng, size: usize) -> Vec<u8> {
     let time: u32 = rng.pick(&[1, 2, 3, 0x0102_0304, u32::MAX - 1, u32::MAX]);
-    let mut half = half::LABEL.to_vec();
+    let mut half = block::LABEL.to_vec();
     half.extend((!time).to_le_bytes());
-    half.push(half::VALID);
-    half.resize(half::HEADER, 0xFF);
+    half.push(block::VALID);
+    half.resize(block::HEADER, 0xFF);
     let limit = rng.pick(&[16, 60, size / 2, size, size]);
     // In a small half one of the longest values leaves no room for anything else.
     let longest = rng.pick(&[30, 64, if size < 512 { 64 } else { VALUE_LIMIT }, VALUE_LIMIT]);
@@ -239,7 +239,7 @@ pub fn harm(rng: &mut Rng, image: &mut [u8]) {
         3 => image[at] = image[at].wrapping_add(rng.pick(&[1, 255])),
         4 => image[at] = rng.pick(&[0x00, 0x01, 0x04, 0x06, 0x07, 0x08, 0xF7, 0xF8, 0xF9, 0xFC, 0xFE, 0xFF]),
         5 => image[at..base + size].fill(0xFF),
-        6 => image[base + half::TIME..base + half::STATE]
+        6 => image[base + block::TIME..base + block::STATE]
             .copy_from_slice(&(!rng.pick(&[0, u32::MAX])).to_le_bytes()),
         _ => image[at] = rng.byte(),
     }
@@ -247,9 +247,9 @@ pub fn harm(rng: &mut Rng, image: &mut [u8]) {
 
 /// A place in a half: of the header, of a frame's fields, or any.
 fn place(rng: &mut Rng, half: &[u8]) -> usize {
-    match half::read(half) {
+    match block::read(half) {
         _ if rng.once_in(4) => rng.below(16),
-        Half::Valid(Journal { frames, .. }) if !frames.is_empty() && !rng.once_in(5) => {
+        Block::Valid(Journal { frames, .. }) if !frames.is_empty() && !rng.once_in(5) => {
             let place = frames[rng.below(frames.len())].place.clone();
             if rng.once_in(3) { place.end - 1 } else { place.start + rng.below(7) }.min(half.len() - 1)
         }

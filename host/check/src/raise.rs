@@ -1,7 +1,7 @@
 //! Power lost inside an erase (K4): each bit of the half is then as it was or 1, freely.
 
 use crate::rng::Rng;
-use model::half::{HEADER, STATE, TIME};
+use model::block::{HEADER, STATE, TIME};
 
 /// Bits for such a cut to raise, of a half that is being erased.
 pub fn mask(rng: &mut Rng, half: &[u8]) -> Vec<u8> {

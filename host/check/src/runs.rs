@@ -9,8 +9,8 @@ use crate::raise;
 use crate::rng::Rng;
 use crate::tally::Tally;
 use crate::twin::{Call, Outcome, Twin, UNWRITTEN};
+use model::block_of;
 use model::frame::VALUE_LIMIT;
-use model::half_of;
 use store::{Answer, Head, Idle, message};
 
 /// What a run is to be like.
@@ -147,7 +147,7 @@ impl Run {
                 None => self.steps(1),
                 Some(half) => {
                     let before = newest(self.twin.image());
-                    let mask = raise::mask(&mut self.rng, half_of(self.twin.image(), half));
+                    let mask = raise::mask(&mut self.rng, block_of(self.twin.image(), 2, half));
                     self.twin.cut_erase(&mask);
                     assert_eq!(newest(self.twin.image()), before, "a half looks newer, half erased");
                     self.inside += 1;
@@ -292,7 +292,7 @@ impl Run {
     }
 
     fn check_book(&mut self, idle: Idle) {
-        let (objects, lists) = found(half_of(self.twin.image(), usize::from(idle.block)));
+        let (objects, lists) = found(block_of(self.twin.image(), 2, usize::from(idle.block)));
         assert_eq!(objects, self.book.objects, "replay's objects are not the book's");
         assert_eq!(lists, self.book.lists, "replay's lists are not the book's");
         if lists == Lists::default() {

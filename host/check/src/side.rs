@@ -1,6 +1,6 @@
 //! One of the stores that are compared.
 
-use crate::twin::{Call, Outcome, UNWRITTEN};
+use crate::call::{Call, Outcome, UNWRITTEN};
 use store::{Answer, Head, Store, Stretch};
 
 /// One store with its own copy of the image.

@@ -2,8 +2,8 @@
 
 use crate::say::count;
 use crate::survey::{Side, sides};
+use model::block::{Block, HEADER, Replay};
 use model::frame::{Body, Frame, Id};
-use model::half::{HEADER, Half, Replay};
 
 pub const LEGEND: &str = concat!(
     "  H header     S settled value   P pending change   C commit or abort mark\n",
@@ -42,14 +42,14 @@ fn letters(side: &Side) -> Vec<char> {
     let programmed = |letter| -> Vec<char> {
         side.bytes.iter().map(|byte| if *byte == 0xFF { BLANK } else { letter }).collect()
     };
-    match &side.half {
-        Half::Blank => programmed(BLANK),
-        Half::InProgress => programmed('w'),
-        Half::Foreign => programmed('?'),
-        Half::Valid(journal) => {
+    match &side.block {
+        Block::Blank => programmed(BLANK),
+        Block::InProgress => programmed('w'),
+        Block::Foreign => programmed('?'),
+        Block::Valid(journal) => {
             let mut letters = programmed('T');
             letters[..HEADER].fill('H');
-            let replay = model::half::replay(journal);
+            let replay = model::block::replay(journal);
             for frame in &journal.frames {
                 letters[frame.place.clone()].fill(letter(frame, &replay));
             }
@@ -74,13 +74,13 @@ fn letter(frame: &Frame, replay: &Replay) -> char {
 #[cfg(test)]
 mod tests {
     use super::*;
+    use model::block;
     use model::frame::{Host, abort, commit, delete, put, settled};
-    use model::half;
 
     const HEAD: [u8; 16] = [16, 0, 1, 0x4A, 0xFE, 255, 255, 255, 0xFC, 255, 255, 255, 255, 255, 255, 255];
 
     fn side(bytes: &[u8]) -> Side<'_> {
-        Side { number: 0, base: 0, bytes, half: half::read(bytes) }
+        Side { number: 0, base: 0, bytes, block: block::read(bytes) }
     }
 
     fn text(bytes: &[u8]) -> String {
@@ -137,7 +137,7 @@ mod tests {
         let [first, last] = [8, 63].map(|at| format!("{}w{}", ".".repeat(at), ".".repeat(63 - at)));
         let drawn = format!("      0  {first}\n     64  128 bytes blank\n    192  {last}\n");
         assert_eq!(rows(&side(&cut)), drawn);
-        let blank = Side { number: 1, base: 256, bytes: &[0xFF; 256], half: Half::Blank };
+        let blank = Side { number: 1, base: 256, bytes: &[0xFF; 256], block: Block::Blank };
         assert_eq!(rows(&blank), "    256  256 bytes blank\n");
     }
 }

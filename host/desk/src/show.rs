@@ -4,8 +4,8 @@ use crate::board::Board;
 use crate::picture::{LEGEND, rows};
 use crate::say::{self, count, grouped};
 use crate::survey::{Side, owner, sides};
+use model::block::{Block, Journal, Replay, replay};
 use model::frame::{Body, Frame, Host};
-use model::half::{Half, Journal, Replay, replay};
 use std::io::{self, Write};
 use std::ops::Range;
 use store::{Answer, Fault, Head, Store};
@@ -122,7 +122,7 @@ impl<'a> Report<'a> {
                 writeln!(out, "mount answers more (255 in C), and 0, done, after {steps}.")?;
             }
         }
-        if self.sides.iter().any(|side| side.half == Half::Foreign) {
+        if self.sides.iter().any(|side| side.block == Block::Foreign) {
             writeln!(out, "Its first step erases the foreign half.")?;
         }
         self.current.map_or(Ok(()), |half| writeln!(out, "Half {half} is then current."))

@@ -1,8 +1,8 @@
 //! Blank and almost blank: tails of every length modulo 8, the other half, a whole image, each with any one bit cleared.
 
 use check::twin::{Call, Twin};
+use model::block::HEADER;
 use model::frame::{self, Id};
-use model::half::HEADER;
 use std::ops::Range;
 use store::{Answer, message};
 

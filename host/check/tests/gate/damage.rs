@@ -1,8 +1,8 @@
 //! Damage tried systematically.
 
 use check::twin::{Call, Twin};
+use model::block::HEADER;
 use model::frame::{self, Host, Id, LONGEST, VALUE_LIMIT};
-use model::half::HEADER;
 use store::{Answer, Idle, Stretch, message};
 
 const LENGTH: usize = 512;

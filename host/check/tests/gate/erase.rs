@@ -6,8 +6,8 @@ use check::damage;
 use check::raise::{mask, zeros};
 use check::rng::Rng;
 use check::twin::{Call, Twin};
-use model::half::{self, Half};
-use model::half_of;
+use model::block::{self, Block};
+use model::block_of;
 use store::{Answer, Head, Idle, message};
 
 const LENGTH: usize = 512;
@@ -36,7 +36,7 @@ impl Scene {
     }
 
     fn erased(&self) -> &[u8] {
-        half_of(&self.image, self.half)
+        block_of(&self.image, 2, self.half)
     }
 
     pub fn raised(&self, mask: &[u8]) -> Vec<u8> {
@@ -52,7 +52,7 @@ impl Scene {
         let image = self.raised(mask);
         assert_eq!(newest(&image), Some(self.time), "the half that was being erased looks newer");
         twin.load(&image);
-        let blank = half_of(&image, self.half).iter().all(|byte| *byte == 0xFF);
+        let blank = block_of(&image, 2, self.half).iter().all(|byte| *byte == 0xFF);
         let steps = usize::from(!blank) + self.rest;
         assert_eq!(twin.call(&Call::Mount).answer, if steps == 0 { Answer::DONE } else { Answer::MORE });
         if !blank {
@@ -67,8 +67,8 @@ impl Scene {
         let moved = self.rest > 0;
         assert_eq!(usize::from(half) == self.half, moved);
         assert_eq!(newest(twin.image()), Some(self.time + u32::from(moved)));
-        assert_eq!(half_of(twin.image(), 1 - usize::from(half)), [0xFF; S]);
-        assert_eq!(found(half_of(twin.image(), usize::from(half))), (self.objects.clone(), Lists::default()));
+        assert_eq!(block_of(twin.image(), 2, 1 - usize::from(half)), [0xFF; S]);
+        assert_eq!(found(block_of(twin.image(), 2, usize::from(half))), (self.objects.clone(), Lists::default()));
         for (id, value) in &self.objects {
             assert_eq!(twin.value(*id).as_ref(), Some(value));
         }
@@ -196,7 +196,7 @@ fn every_combination_of_time_and_state() {
         let mut mask = [0; S];
         mask[TIME].copy_from_slice(&time.to_le_bytes());
         mask[STATE] = state;
-        let read = half::read(half_of(&scene.raised(&mask), scene.half));
+        let read = block::read(block_of(&scene.raised(&mask), 2, scene.half));
         let expected = match (state, 0x0FFF & !time) {
             (0, 0) => (None, 0),
             (0, left) => (Some(left), 1),
@@ -204,16 +204,16 @@ fn every_combination_of_time_and_state() {
             _ => (None, 3),
         };
         let kind = match read {
-            Half::Blank => panic!("its frames are still there"),
-            Half::Foreign => {
+            Block::Blank => panic!("its frames are still there"),
+            Block::Foreign => {
                 if state == 0 {
                     0
                 } else {
                     3
                 }
             }
-            Half::Valid(_) => 1,
-            Half::InProgress => 2,
+            Block::Valid(_) => 1,
+            Block::InProgress => 2,
         };
         assert_eq!((read.time(), kind), expected, "{bits:#06x}");
         seen[kind] += 1;
@@ -261,7 +261,7 @@ fn cuts_again_and_again() {
                 assert!(!twin.call(&Call::Mount).answer.refused());
                 match twin.erases_next() {
                     Some(half) if half == scene.half && !rng.once_in(10) => {
-                        let mask = mask(&mut rng, half_of(twin.image(), half));
+                        let mask = mask(&mut rng, block_of(twin.image(), 2, half));
                         twin.cut_erase(&mask);
                     }
                     _ => break,
@@ -281,12 +281,12 @@ fn a_half_erased_half_never_looks_newer() {
     let (mut still_valid, mut older) = (0, 0);
     for _ in 0..4_000 {
         let image = damage::image(&mut rng, LENGTH);
-        for half in [half_of(&image, 0), half_of(&image, 1)] {
-            let Some(time) = half::read(half).time() else { continue };
+        for half in [block_of(&image, 2, 0), block_of(&image, 2, 1)] {
+            let Some(time) = block::read(half).time() else { continue };
             for _ in 0..10 {
                 let mask = mask(&mut rng, half);
                 let raised: Vec<u8> = half.iter().zip(mask).map(|(byte, bits)| byte | bits).collect();
-                if let Some(left) = half::read(&raised).time() {
+                if let Some(left) = block::read(&raised).time() {
                     assert_eq!(left & !time, 0, "{time:#x} became {left:#x}");
                     still_valid += 1;
                     older += u32::from(left < time);
@@ -304,7 +304,7 @@ fn a_changed_value_in_a_half_erased_half() {
     let mut mask = [0; S];
     mask[16 + 7..16 + 12].fill(0x08);
     let image = scene.raised(&mask);
-    let Half::Valid(old) = half::read(half_of(&image, 0)) else { panic!("the old half is still valid") };
+    let Block::Valid(old) = block::read(block_of(&image, 2, 0)) else { panic!("the old half is still valid") };
     assert_eq!((old.time, &image[16 + 7..16 + 12]), (1, &b"{m~mn"[..]));
     scene.mount(&mut Twin::blank(LENGTH), &mask);
 }

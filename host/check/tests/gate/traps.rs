@@ -2,8 +2,8 @@
 
 use check::cuts::{Allowed, Cuts, Start};
 use check::twin::{Call, Twin};
-use model::half::{self, Half};
-use model::half_of;
+use model::block::{self, Block};
+use model::block_of;
 use store::{Answer, Idle, message};
 
 const LENGTH: usize = 512;
@@ -92,7 +92,7 @@ fn one_half_is_valid_after_every_step_of_a_transfer() {
     let mut twin = before_a_transfer();
     assert_eq!(twin.ask(0, &message::put(1, &[2; 64])), Answer::MORE);
     while twin.busy() {
-        let valid = |half| matches!(half::read(half_of(twin.image(), half)), Half::Valid(_));
+        let valid = |half| matches!(block::read(block_of(twin.image(), 2, half)), Block::Valid(_));
         assert!(valid(0) || valid(1));
         assert!(!twin.step().refused());
     }

@@ -3,8 +3,8 @@
 use super::erase::{Scene, mount_transfer};
 use super::format::{beside, olders, transferred};
 use library::Library;
-use model::half::{self, Half};
-use model::{Model, Record, half_of};
+use model::block::{self, Block};
+use model::{Model, Record, block_of};
 use plain::Plain;
 use store::{Answer, Fault, Head, Idle, Store, Stretch, message};
 
@@ -69,13 +69,13 @@ const RIGHT: Altered = Altered {
     format: |image, blocks| Model.format(image, blocks),
 };
 
-fn halves(image: &[u8]) -> [Half; 2] {
-    [0, 1].map(|half| half::read(half_of(image, half)))
+fn halves(image: &[u8]) -> [Block; 2] {
+    [0, 1].map(|half| block::read(block_of(image, 2, half)))
 }
 
 /// As before K4: any foreign half is 3.
 fn mount_that_refuses(image: &[u8], blocks: u8) -> Begun {
-    if halves(image).contains(&Half::Foreign) {
+    if halves(image).contains(&Block::Foreign) {
         (Answer::FOREIGN, Record::Unmounted)
     } else {
         Model.mount(image, blocks)
@@ -85,9 +85,9 @@ fn mount_that_refuses(image: &[u8], blocks: u8) -> Begun {
 /// Of two valid halves the older is current, as if times were stored as they are.
 fn mount_of_the_older(image: &[u8], blocks: u8) -> Begun {
     let mut seen = image.to_vec();
-    if let [Half::Valid(first), Half::Valid(second)] = halves(image) {
+    if let [Block::Valid(first), Block::Valid(second)] = halves(image) {
         let newer = usize::from(second.time > first.time);
-        seen[newer * image.len() / 2 + half::STATE] = half::IN_PROGRESS;
+        seen[newer * image.len() / 2 + block::STATE] = block::IN_PROGRESS;
     }
     Model.mount(&seen, blocks)
 }
@@ -127,7 +127,7 @@ fn wrong_formats<S: Store>(store: &S) -> usize {
     let mut wrong = 0;
     for current in [0, 1] {
         let image = transferred(current);
-        for older in olders(half_of(&image, 1 - current)) {
+        for older in olders(block_of(&image, 2, 1 - current)) {
             let mut image = beside(&image, current, &older);
             let (answer, mut record) = store.format(&image, 2);
             assert_eq!((answer, store.step(&mut image, 2, &mut record)), (Answer::MORE, Answer::MORE));
