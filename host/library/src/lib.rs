@@ -14,8 +14,8 @@ pub const VALUE_LIMIT: usize = 240;
 /// Length of the longest frame, a put of the longest value.
 const LONGEST: usize = 8 + VALUE_LIMIT;
 
-/// Where the job stands in a record: after the six bytes that anyone may know and the places of 256 values.
-pub const JOB: Range<usize> = 518..546;
+/// Where the job stands in a record: after the seven bytes that anyone may know and the places of 256 values.
+pub const JOB: Range<usize> = 519..561;
 /// After the job there are two frames in hand.
 pub const RECORD_SIZE: usize = JOB.end + 2 * LONGEST;
 
@@ -86,15 +86,19 @@ impl Store for Library {
         record[1..3].copy_from_slice(&((idle.length - 1) as u16).to_le_bytes());
         record[3] = idle.block;
         record[4..6].copy_from_slice(&idle.end.to_le_bytes());
+        record[6] = idle.blocks;
         record
     }
 
     fn head(&self, record: &Record) -> Head {
         let short = |at: usize| u16::from_le_bytes([record[at], record[at + 1]]);
         match record[0] {
-            IDLE => {
-                Head::Idle(Idle { length: usize::from(short(1)) + 1, block: record[3], end: short(4), blocks: 2 })
-            }
+            IDLE => Head::Idle(Idle {
+                length: usize::from(short(1)) + 1,
+                block: record[3],
+                end: short(4),
+                blocks: record[6],
+            }),
             stage if JOB_STAGES.contains(&stage) => Head::Job,
             _ => Head::Unmounted,
         }
