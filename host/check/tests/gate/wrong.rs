@@ -8,12 +8,14 @@ use model::{Model, Record, block_of};
 use plain::Plain;
 use store::{Answer, Fault, Head, Idle, Store, Stretch, message};
 
-type Begun = (Answer, Record);
+pub type Begun = (Answer, Record);
 
-/// The model with another mount or format.
-struct Altered {
-    mount: fn(&[u8], u8) -> Begun,
-    format: fn(&[u8], u8) -> Begun,
+/// The model with another mount, format, request or step.
+pub struct Altered {
+    pub mount: fn(&[u8], u8) -> Begun,
+    pub format: fn(&[u8], u8) -> Begun,
+    pub request: fn(&[u8], u8, &mut Record, u8, &[u8], &mut [u8]) -> Answer,
+    pub step: fn(&mut [u8], u8, &mut Record) -> Answer,
 }
 
 impl Store for Altered {
@@ -40,11 +42,11 @@ impl Store for Altered {
         message: &[u8],
         reply: &mut [u8],
     ) -> Answer {
-        Model.request(image, blocks, record, host, message, reply)
+        (self.request)(image, blocks, record, host, message, reply)
     }
 
     fn step(&self, image: &mut [u8], blocks: u8, record: &mut Record) -> Answer {
-        Model.step(image, blocks, record)
+        (self.step)(image, blocks, record)
     }
 
     fn read(&self, image: &[u8], blocks: u8, record: &Record, host: u8, message: &[u8]) -> (Answer, Stretch) {
@@ -64,9 +66,13 @@ impl Store for Altered {
     }
 }
 
-const RIGHT: Altered = Altered {
+pub const RIGHT: Altered = Altered {
     mount: |image, blocks| Model.mount(image, blocks),
     format: |image, blocks| Model.format(image, blocks),
+    request: |image, blocks, record, host, message, reply| {
+        Model.request(image, blocks, record, host, message, reply)
+    },
+    step: |image, blocks, record| Model.step(image, blocks, record),
 };
 
 fn halves(image: &[u8]) -> [Block; 2] {
