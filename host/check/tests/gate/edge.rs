@@ -71,7 +71,7 @@ fn records_of_no_phase() {
     }
 }
 
-/// An idle record's first six bytes decide, whatever the others are.
+/// An idle record's first seven bytes decide, whatever the others are.
 #[test]
 fn idle_records_with_other_bytes_set() {
     let library = Library::linked();
@@ -79,7 +79,7 @@ fn idle_records_with_other_bytes_set() {
     let mut rng = Rng::new(2);
     for _ in 0..100 {
         let mut record: Record = rng.bytes(RECORD_SIZE).try_into().expect("a record's bytes");
-        record[..6].copy_from_slice(&tidy[..6]);
+        record[..7].copy_from_slice(&tidy[..7]);
         let kept = record;
         no_steps(&library, &mut image, &mut record);
         assert_eq!(library.request(&image, 2, &mut record, 0, &message::read(1), &mut []), Answer::NO_OBJECT);
@@ -110,6 +110,7 @@ fn forged_job(rng: &mut Rng, real: &Record) -> Record {
     if rng.once_in(3) {
         record = rng.bytes(RECORD_SIZE).try_into().expect("a record's bytes");
         record[1..3].copy_from_slice(&real[1..3]);
+        record[6] = real[6];
     }
     for _ in 0..rng.below(6) {
         let at = if rng.once_in(2) { rng.below(RECORD_SIZE) } else { JOB.start + rng.below(JOB.len()) };
