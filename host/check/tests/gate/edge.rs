@@ -98,8 +98,8 @@ fn at_most_one_step(before: &[u8], after: &[u8]) -> bool {
         [] => true,
         [at] if after[at] & !before[at] == 0 => true,
         [first, ..] => {
-            let half = first / S * S..first / S * S + S;
-            changed.iter().all(|at| half.contains(at)) && after[half].iter().all(|byte| *byte == 0xFF)
+            let block = first / S * S..first / S * S + S;
+            changed.iter().all(|at| block.contains(at)) && after[block].iter().all(|byte| *byte == 0xFF)
         }
     }
 }

@@ -88,11 +88,11 @@ fn a_put_of_0xff_cut_anywhere() {
 }
 
 #[test]
-fn one_half_is_valid_after_every_step_of_a_transfer() {
+fn one_block_is_valid_after_every_step_of_a_transfer() {
     let mut twin = before_a_transfer();
     assert_eq!(twin.ask(0, &message::put(1, &[2; 64])), Answer::MORE);
     while twin.busy() {
-        let valid = |half| matches!(block::read(block_of(twin.image(), 2, half)), Block::Valid(_));
+        let valid = |block| matches!(block::read(block_of(twin.image(), 2, block)), Block::Valid(_));
         assert!(valid(0) || valid(1));
         assert!(!twin.step().refused());
     }
@@ -141,7 +141,7 @@ fn an_abort_drops_its_hosts_changes_only() {
     assert_eq!(twin.value(1), Some(b"one".to_vec()));
 }
 
-/// Commits decide, not puts: the value that stands lower in the half is the one read.
+/// Commits decide, not puts: the value that stands lower in the block is the one read.
 #[test]
 fn the_later_commit_wins_over_the_later_put() {
     let mut twin = Twin::formatted(LENGTH);

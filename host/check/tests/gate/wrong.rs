@@ -75,30 +75,30 @@ pub const RIGHT: Altered = Altered {
     step: |image, blocks, record| Model.step(image, blocks, record),
 };
 
-fn halves(image: &[u8]) -> [Block; 2] {
-    [0, 1].map(|half| block::read(block_of(image, 2, half)))
+fn both(image: &[u8]) -> [Block; 2] {
+    [0, 1].map(|block| block::read(block_of(image, 2, block)))
 }
 
-/// As before K4: any foreign half is 3.
+/// As before K4: any foreign block is 3.
 fn mount_that_refuses(image: &[u8], blocks: u8) -> Begun {
-    if halves(image).contains(&Block::Foreign) {
+    if both(image).contains(&Block::Foreign) {
         (Answer::FOREIGN, Record::Unmounted)
     } else {
         Model.mount(image, blocks)
     }
 }
 
-/// Of two valid halves the older is current, as if times were stored as they are.
+/// Of two valid blocks the older is current, as if times were stored as they are.
 fn mount_of_the_older(image: &[u8], blocks: u8) -> Begun {
     let mut seen = image.to_vec();
-    if let [Block::Valid(first), Block::Valid(second)] = halves(image) {
+    if let [Block::Valid(first), Block::Valid(second)] = both(image) {
         let newer = usize::from(second.time > first.time);
         seen[newer * image.len() / 2 + block::STATE] = block::IN_PROGRESS;
     }
     Model.mount(&seen, blocks)
 }
 
-/// As before K4: half 0 first, whatever it holds.
+/// As before K4: block 0 first, whatever it holds.
 fn format_in_number_order(image: &[u8], blocks: u8) -> Begun {
     Model.format(&vec![0xFF; image.len()], blocks)
 }
@@ -128,7 +128,7 @@ fn wrong_restarts<S: Store>(store: &S) -> usize {
     images.into_iter().filter(|image| restart(store, &mut image.clone(), 7) != Ok(b"seven".to_vec())).count()
 }
 
-/// How many formats, cut after their first step beside a half-erased older half, leave other objects than the old ones.
+/// How many formats, cut after their first step beside a half-erased older block, leave other objects than the old ones.
 fn wrong_formats<S: Store>(store: &S) -> usize {
     let mut wrong = 0;
     for current in [0, 1] {
@@ -150,20 +150,20 @@ fn right_stores_pass() {
     assert_eq!((wrong_restarts(&RIGHT), wrong_formats(&RIGHT)), (0, 0));
 }
 
-/// State byte 0xFD, time 0 and a wrong kind make the old half foreign.
+/// State byte 0xFD, time 0 and a wrong kind make the old block foreign.
 #[test]
-fn a_store_that_refuses_a_half_erased_half() {
+fn a_store_that_refuses_a_half_erased_block() {
     assert_eq!(wrong_restarts(&Altered { mount: mount_that_refuses, ..RIGHT }), 3);
 }
 
-/// The old half is still valid with its first put's length or value raised: to 77, a torn tail and no object, or to "{even".
+/// The old block is still valid with its first put's length or value raised: to 77, a torn tail and no object, or to "{even".
 #[test]
-fn a_store_that_takes_the_old_half_for_the_newer() {
+fn a_store_that_takes_the_old_block_for_the_newer() {
     assert_eq!(wrong_restarts(&Altered { mount: mount_of_the_older, ..RIGHT }), 2);
 }
 
-/// With half 0 current, no older half is left to find in its place, or one with another value.
+/// With block 0 current, no older block is left to find in its place, or one with another value.
 #[test]
-fn a_format_that_erases_the_valid_half_first() {
+fn a_format_that_erases_the_valid_block_first() {
     assert_eq!(wrong_formats(&Altered { format: format_in_number_order, ..RIGHT }), 8);
 }
