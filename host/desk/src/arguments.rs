@@ -19,7 +19,8 @@ pub struct Command {
 
 /// What follows a command.
 pub struct Asked {
-    options: Vec<&'static str>,
+    /// Each with what stands behind its `=`.
+    options: Vec<(&'static str, String)>,
     file: Option<OsString>,
 }
 
@@ -52,9 +53,17 @@ impl Command {
         Ok(asked)
     }
 
-    fn option(&self, text: &str) -> Option<&'static str> {
-        let known = self.takes.split(' ').map(|word| word.trim_matches(['[', ']']));
-        known.filter(|word| word.starts_with('-')).find(|word| *word == text)
+    /// The option that a word is. It has something behind `=` exactly if the command says so.
+    fn option(&self, text: &str) -> Option<(&'static str, String)> {
+        let (name, value) = text.split_once('=').unzip();
+        let known = self.takes.split(' ').map(|word| word.trim_matches(['[', ']'])).map(|word| {
+            let (name, value) = word.split_once('=').unzip();
+            (name.unwrap_or(word), value.is_some())
+        });
+        let (name, _) = known
+            .filter(|(name, _)| name.starts_with('-'))
+            .find(|known| *known == (name.unwrap_or(text), value.is_some()))?;
+        Some((name, value.unwrap_or_default().to_string()))
     }
 
     fn wrong(&self, how: &str, word: &OsStr) -> Failure {
@@ -68,7 +77,14 @@ impl Command {
 
 impl Asked {
     pub fn has(&self, option: &str) -> bool {
-        self.options.contains(&option)
+        self.options.iter().any(|(name, _)| *name == option)
+    }
+
+    /// The number behind an option, if it is there.
+    pub fn number(&self, option: &str) -> Result<Option<u8>, Failure> {
+        let Some((_, value)) = self.options.iter().rfind(|(name, _)| *name == option) else { return Ok(None) };
+        let wrong = format!("{option}= goes with a number from 0 to 255, not {}", say::word(value));
+        value.parse().map(Some).map_err(|_| Failure { status: WRONG, why: wrong })
     }
 
     /// The file, or standard input if none is named.
