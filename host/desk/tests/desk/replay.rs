@@ -232,7 +232,7 @@ fn calls_and_fields_that_are_not_there_yet() {
 #[test]
 fn tickets() {
     let expected = |name: &str| std::fs::read_to_string(format!("{TICKETS}/{name}.expected")).expect("answers");
-    for ticket in ["1-bad-log-length", "2-power-cuts", "3-power-lost-in-erase"] {
+    for ticket in ["1-bad-log-length", "2-power-cuts", "3-power-lost-in-erase", "4-four-blocks"] {
         let (status, out, errors) = run(&["replay", "--strict", &format!("{TICKETS}/{ticket}.desk")], b"");
         assert_eq!((status, &out, &errors[..]), (0, &expected(ticket), ""), "{ticket}");
     }
