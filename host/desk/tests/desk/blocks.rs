@@ -158,7 +158,15 @@ fn records_there_and_back() {
         ("record", "idle len=1024 half=0 end=16 blocks=2"),
         // Blocks 2 and 3 are one half now, and blank.
         ("req 0 04000301 0", "0"),
+        // An image has two blocks if nothing else is said, whatever the one before had.
+        ("blocks 4", "ok"),
         ("image ff", "ok"),
+        ("idle 1 0 0", "ok"),
+        ("record", "idle len=1 half=0 end=0 blocks=2"),
+        ("image ff 9", "ok"),
+        ("idle 1 0 0", "ok"),
+        ("record", "idle len=1 half=0 end=0 blocks=9"),
+        ("load /dev/null", "ok"),
         ("idle 1 0 0", "ok"),
         ("record", "idle len=1 half=0 end=0 blocks=2"),
     ]);

@@ -1,4 +1,4 @@
-//! Where a half broke: what `mount` prints after a 3, and what `show` says to people.
+//! Where a block broke: what `mount` prints after a 3, and what `show` says to people.
 
 use super::{COMMIT, HEADER, PUT, check, image_of, run};
 
