@@ -53,17 +53,14 @@ impl Command {
         Ok(asked)
     }
 
-    /// The option that a word is. It has something behind `=` exactly if the command says so.
+    /// The option that a word is, and what stands behind its `=` where the command wants something there.
     fn option(&self, text: &str) -> Option<(&'static str, String)> {
-        let (name, value) = text.split_once('=').unzip();
-        let known = self.takes.split(' ').map(|word| word.trim_matches(['[', ']'])).map(|word| {
-            let (name, value) = word.split_once('=').unzip();
-            (name.unwrap_or(word), value.is_some())
-        });
-        let (name, _) = known
-            .filter(|(name, _)| name.starts_with('-'))
-            .find(|known| *known == (name.unwrap_or(text), value.is_some()))?;
-        Some((name, value.unwrap_or_default().to_string()))
+        let mut known = self.takes.split(' ').map(|word| word.trim_matches(['[', ']']));
+        known.find_map(|word| match (word.split_once('='), text.split_once('=')) {
+            (None, _) if word == text => Some((word, String::new())),
+            (Some((name, _)), Some((given, value))) if name == given => Some((name, value.to_string())),
+            _ => None,
+        })
     }
 
     fn wrong(&self, how: &str, word: &OsStr) -> Failure {
