@@ -1,5 +1,6 @@
 //! Comparing the library with the model, and both with document 01's book.
 
+pub mod blocks;
 pub mod book;
 mod call;
 pub mod cuts;

@@ -2,36 +2,43 @@
 
 use model::job::Step;
 
-pub struct Nor(Vec<u8>);
+pub struct Nor {
+    bytes: Vec<u8>,
+    /// How often each block was erased.
+    pub erases: [usize; 16],
+}
 
 impl Nor {
     pub fn new(bytes: &[u8]) -> Nor {
-        Nor(bytes.to_vec())
+        Nor { bytes: bytes.to_vec(), erases: [0; 16] }
     }
 
     pub fn bytes(&self) -> &[u8] {
-        &self.0
+        &self.bytes
     }
 
     pub fn load(&mut self, bytes: &[u8]) {
-        self.0.clear();
-        self.0.extend_from_slice(bytes);
+        self.bytes.clear();
+        self.bytes.extend_from_slice(bytes);
     }
 
     /// What a cut inside the erase of the block at `at` leaves: these bits are 1, the others as they were.
     pub fn raise(&mut self, at: usize, mask: &[u8]) {
-        for (byte, raised) in self.0[at..at + mask.len()].iter_mut().zip(mask) {
+        for (byte, raised) in self.bytes[at..at + mask.len()].iter_mut().zip(mask) {
             *byte |= raised;
         }
     }
 
     pub fn make(&mut self, step: Step) {
         match step {
-            Step::Erase { at, len } => self.0[at..at + len].fill(0xFF),
+            Step::Erase { at, len } => {
+                self.bytes[at..at + len].fill(0xFF);
+                self.erases[at / len] += 1;
+            }
             Step::Program { at, byte } => {
-                let old = self.0[at];
+                let old = self.bytes[at];
                 assert!(byte & !old == 0, "programming {byte:#04x} over {old:#04x} at {at} would set bits");
-                self.0[at] = byte;
+                self.bytes[at] = byte;
             }
         }
     }
@@ -47,6 +54,7 @@ mod tests {
         nor.make(Step::Program { at: 1, byte: 0xFC });
         nor.make(Step::Erase { at: 2, len: 2 });
         assert_eq!(nor.bytes(), [0xFF, 0xFC, 0xFF, 0xFF]);
+        assert_eq!(nor.erases[..3], [0, 1, 0]);
     }
 
     #[test]

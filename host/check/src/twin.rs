@@ -104,6 +104,11 @@ impl Twin {
         block_of(self.image(), self.blocks, block)
     }
 
+    /// How often each block has been erased so far.
+    pub fn erases(&self) -> [usize; 16] {
+        self.nor.erases
+    }
+
     pub fn size(&self) -> usize {
         self.image().len() / usize::from(self.blocks)
     }

@@ -50,7 +50,7 @@ impl Scene {
     /// Mounts what the cut left: the half is erased unless it is blank, and the half that stays counts.
     fn mount(&self, twin: &mut Twin, mask: &[u8]) {
         let image = self.raised(mask);
-        assert_eq!(newest(&image), Some(self.time), "the half that was being erased looks newer");
+        assert_eq!(newest(&image, 2), Some(self.time), "the half that was being erased looks newer");
         twin.load(&image);
         let blank = block_of(&image, 2, self.half).iter().all(|byte| *byte == 0xFF);
         let steps = usize::from(!blank) + self.rest;
@@ -66,7 +66,7 @@ impl Scene {
         let Idle { block: half, .. } = twin.idle().expect("idle");
         let moved = self.rest > 0;
         assert_eq!(usize::from(half) == self.half, moved);
-        assert_eq!(newest(twin.image()), Some(self.time + u32::from(moved)));
+        assert_eq!(newest(twin.image(), 2), Some(self.time + u32::from(moved)));
         assert_eq!(block_of(twin.image(), 2, 1 - usize::from(half)), [0xFF; S]);
         assert_eq!(found(block_of(twin.image(), 2, usize::from(half))), (self.objects.clone(), Lists::default()));
         for (id, value) in &self.objects {
@@ -241,7 +241,7 @@ fn cuts_in_the_mounts_after_them() {
                 assert_eq!(twin.erases_next(), Some(scene.half));
                 twin.cut_erase(mask);
                 assert_eq!(twin.head(), Head::Unmounted);
-                assert_eq!(newest(twin.image()), Some(scene.time));
+                assert_eq!(newest(twin.image(), 2), Some(scene.time));
             }
             assert_eq!(twin.whole(&Call::Mount), (Answer::DONE, 1 + scene.rest));
             scene.judge(&mut twin);
@@ -280,7 +280,7 @@ fn a_half_erased_half_never_looks_newer() {
     let mut rng = Rng::new(5);
     let (mut still_valid, mut older) = (0, 0);
     for _ in 0..4_000 {
-        let image = damage::image(&mut rng, LENGTH);
+        let image = damage::image(&mut rng, 2, LENGTH);
         for half in [block_of(&image, 2, 0), block_of(&image, 2, 1)] {
             let Some(time) = block::read(half).time() else { continue };
             for _ in 0..10 {
