@@ -22,11 +22,13 @@
  * The image
  *
  *   The image is N blocks of S bytes each, block 0 first; N is 2 to GROMMETIDE_BLOCKS_MAX and is given as `blocks` with
- *   every call that takes an image, the same for as long as the flash holds the store. image_len is N * S, at most 65,536,
- *   and S is a multiple of 128 from 256 up; so with two blocks it is a multiple of 256 from 512 on. A flash step programs
- *   one byte (new = old AND given, so bits are only cleared) or erases one block (all its bytes become 0xFF). Programming
- *   0xFF is a step too, which changes nothing. With S = 256 there is room for values of up to 212 bytes, from S = 384 on for
- *   all (docs/STORE.md, Room).
+ *   every call that takes an image. image_len is N * S, at most 65,536, and S is a multiple of 128 from 256 up; so with two
+ *   blocks it is a multiple of 256 from 512 on. The flash does not say what N is: always give the same, since a mount that is
+ *   told another may not see the store, or take it wrongly and lose it.
+ *
+ *   A flash step programs one byte (new = old AND given, so bits are only cleared) or erases one block (all its bytes become
+ *   0xFF). Programming 0xFF is a step too, which changes nothing. With S = 256 there is room for values of up to 212 bytes,
+ *   from S = 384 on for all (docs/STORE.md, Room).
  *
  *   At rest one block holds the store and the others are blank. When it is full, what counts moves to the next block in
  *   number, after the last one to block 0, and the old block is erased: the blocks wear in turn. With more of them each is
@@ -83,9 +85,6 @@
  *     4-5    where the current block's frames end, counted from its start
  *     6      number of blocks
  *     7-1056 the library's own: 7-518 places of values, 519-560 the job, 561-808 and 809-1056 frames in hand
- *
- *   In the job: blocks to erase 16 bytes, how many they are 1, whether it moves the store 1, whether it drops what is
- *   pending 1, its target 1, time 4, each host's mark 8, length of the frame to append 1, cursor 9.
  *
  *   Bytes 1 to 6 mean this in an idle record. An unmounted or idle record that the library hands out has zeros in all
  *   bytes it does not use. A record that does not belong to the image is noticed (GROMMETIDE_STALE), or, in a job, does

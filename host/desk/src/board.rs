@@ -3,6 +3,9 @@
 use std::ops::Range;
 use store::{Answer, Fault, Head, Store, Stretch};
 
+/// An image has so many blocks if nothing else is said.
+pub const BLOCKS: u8 = 2;
+
 pub struct Board<'s, S: Store> {
     pub store: &'s S,
     pub image: Vec<u8>,
@@ -12,9 +15,9 @@ pub struct Board<'s, S: Store> {
 }
 
 impl<'s, S: Store> Board<'s, S> {
-    /// This image with an unmounted record.
-    pub fn new(store: &'s S, image: Vec<u8>) -> Board<'s, S> {
-        Board { record: store.unmounted(), image, blocks: 2, store }
+    /// This image of so many blocks, with an unmounted record.
+    pub fn new(store: &'s S, image: Vec<u8>, blocks: u8) -> Board<'s, S> {
+        Board { record: store.unmounted(), image, blocks, store }
     }
 
     pub fn head(&self) -> Head {
@@ -50,19 +53,20 @@ impl<'s, S: Store> Board<'s, S> {
         self.store.step(&mut self.image, self.blocks, &mut self.record)
     }
 
-    /// The half that the job's next step erases, if it does. It shows on an image of zeros: no other step sets bits.
+    /// The block that the job's next step erases, if it does. It shows on an image of zeros: no other step sets bits.
     pub fn erases_next(&self) -> Option<Range<usize>> {
         let (mut zeros, mut record) = (vec![0; self.image.len()], self.record.clone());
         self.store.step(&mut zeros, self.blocks, &mut record);
         let first = zeros.iter().position(|byte| *byte != 0)?;
-        Some(first..first + zeros.len() / 2)
+        let size = zeros[first..].iter().take_while(|byte| **byte != 0).count();
+        Some(first..first + size)
     }
 
-    /// Power is lost inside the erase that comes next: each byte of the half becomes old OR mask, the mask being repeated.
+    /// Power is lost inside the erase that comes next: each byte of the block becomes old OR mask, the mask being repeated.
     /// Whether there is such an erase.
     pub fn cut_erase(&mut self, mask: &[u8]) -> bool {
-        let Some(half) = self.erases_next() else { return false };
-        for (byte, bits) in self.image[half].iter_mut().zip(mask.iter().cycle()) {
+        let Some(block) = self.erases_next() else { return false };
+        for (byte, bits) in self.image[block].iter_mut().zip(mask.iter().cycle()) {
             *byte |= bits;
         }
         self.record = self.store.unmounted();

@@ -1,4 +1,4 @@
-//! The halves of an image, and what state each is in.
+//! The blocks of an image, and what state each is in.
 
 use crate::say::{self, count};
 use model::block::{self, Block, Journal};
@@ -10,23 +10,31 @@ use model::frame::{Body, Frame, Host};
 const KINDS: [&str; 4] = ["put", "delete", "commit", "abort"];
 
 pub struct Side<'a> {
+    /// What people call it: half or block.
+    pub word: &'static str,
     pub number: usize,
-    /// Where the half starts in the image.
+    /// Where the block starts in the image.
     pub base: usize,
     pub bytes: &'a [u8],
     pub block: Block,
 }
 
-/// Both halves of an image whose length is allowed.
-pub fn sides(image: &[u8]) -> Vec<Side<'_>> {
-    let numbered = cut(image, 2).into_iter().enumerate();
-    numbered
-        .map(|(number, bytes)| Side { number, base: number * bytes.len(), bytes, block: block::read(bytes) })
-        .collect()
+/// All blocks of an image whose length is allowed.
+pub fn sides(image: &[u8], blocks: u8) -> Vec<Side<'_>> {
+    let side = |(number, bytes): (usize, _)| {
+        let (word, block) = (say::block(blocks), block::read(bytes));
+        Side { word, number, base: number * bytes.len(), bytes, block }
+    };
+    cut(image, blocks).into_iter().enumerate().map(side).collect()
 }
 
 impl Side<'_> {
-    /// The journal of a valid half.
+    /// "half 0", "block 3".
+    pub fn name(&self) -> String {
+        format!("{} {}", self.word, self.number)
+    }
+
+    /// The journal of a valid block.
     pub fn journal(&self) -> Option<&Journal> {
         match &self.block {
             Block::Valid(journal) => Some(journal),
@@ -34,7 +42,7 @@ impl Side<'_> {
         }
     }
 
-    /// The creation time of a valid half.
+    /// The creation time of a valid block.
     pub fn time(&self) -> Option<u32> {
         self.block.time()
     }
@@ -54,7 +62,7 @@ impl Side<'_> {
         }
     }
 
-    /// Where a foreign half broke, counted from its start and, if that is another place, from the image's.
+    /// Where a foreign block broke, counted from its start and, if that is another place, from the image's.
     fn broken(&self) -> String {
         let (field, place) = fault::of_block(self.bytes);
         let at = match self.base {
