@@ -283,7 +283,7 @@ fn foreign(block: usize, field: Field, place: usize) -> (Answer, Option<Fault>) 
 #[test]
 fn each_field_of_the_header() {
     let whole = block(&[&HEADER, &PUT, &COMMIT]);
-    for at in 0..16 {
+    for (at, right) in HEADER.into_iter().enumerate() {
         let (field, place) = match at {
             0..2 => (Field::Length, 0),
             2..4 => (Field::Kind, 2),
@@ -294,7 +294,7 @@ fn each_field_of_the_header() {
         for byte in 0..=255 {
             let damaged = with(&whole, at, byte);
             let expected = match (at, byte) {
-                _ if byte == HEADER[at] => (Answer::DONE, None),
+                _ if byte == right => (Answer::DONE, None),
                 (8, 0xFE) => (Answer::NO_STORE, None),
                 (4, 0xFF) => foreign(0, Field::Time, 4),
                 (4..8, _) => (Answer::DONE, None),

@@ -9,12 +9,13 @@ use plain::Plain;
 use store::{Answer, Fault, Head, Idle, Store, Stretch, message};
 
 pub type Begun = (Answer, Record);
+type Ask = fn(&[u8], u8, &mut Record, u8, &[u8], &mut [u8]) -> Answer;
 
 /// The model with another mount, format, request or step.
 pub struct Altered {
     pub mount: fn(&[u8], u8) -> Begun,
     pub format: fn(&[u8], u8) -> Begun,
-    pub request: fn(&[u8], u8, &mut Record, u8, &[u8], &mut [u8]) -> Answer,
+    pub request: Ask,
     pub step: fn(&mut [u8], u8, &mut Record) -> Answer,
 }
 
