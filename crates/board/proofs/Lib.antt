@@ -61,7 +61,8 @@ pub mod FollowingPlans  -- demand 2 of it, and the whole promise
 pub mod Runs  -- runs in two parts
 pub mod Tickets  -- the customer's two tickets, of any machine that keeps the promise
 pub mod Driving  -- what is next, done to the flash by the caller, then made, is a step call
-pub mod Two  -- two blocks are the two halves of before
+pub mod Two  -- two blocks are the two halves of before: the image, requests, steps
+pub mod TwoMounts  -- mounts, formats, and the whole comparison
 -- ---- wrong stores
 pub mod RefutingRuns  -- the runs that tell, computed
 pub mod Refuting  -- none of them keeps the promise

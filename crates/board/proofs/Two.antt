@@ -1,15 +1,15 @@
 -- Two blocks: what the definitions over N say of N = 2 is what was said of two halves.
-use mathlib.Core.Path.{_≡_, refl, sym, ap, ap₂, subst, _∙_}
+use mathlib.Core.Path.{_≡_, refl, sym, ap, ap₂, _∙_}
 use mathlib.Core.List.{List, [], _∷_, _++_}
-use mathlib.Core.Option.{Option, none}
-use mathlib.Core.Bool.{Bool, true, false, _&&_, _||_, cond}
-use Prim.Native.Nat.{ℕ, zero, suc, _+_, _*_, _/_, _%_, _≤_, _<_}
+use mathlib.Core.Option.{none}
+use mathlib.Core.Bool.{Bool, true, false, _&&_, cond}
+use Prim.Native.Nat.{ℕ, zero, suc, _+_, _/_, _%_, _≤_, _<_}
 use native.Mathlib.Omega.{arith}
 use lib.Dec.{eqb, ltb, leb}
 use lib.ListN.{length}
 use borrow.Author.Tests.{eqb-true, eq-eqb, leb-true, le-leb, ltb-true}
 use Rattle.flash.specs.Bytes.{allFF}
-use Rattle.flash.specs.Flash.{numbersFrom, blockNumbers, sizeIn, sizeOf, block, Step, erase, blockOf, offsetOf, apply}
+use Rattle.flash.specs.Flash.{numbersFrom, blockNumbers, sizeOf, block, Step, erase, blockOf, offsetOf, apply}
 use Rattle.flash.proofs.Cases.{on-test, clash, and-left, and-right, and-both}
 use Rattle.flash.proofs.Sizes.{size-some}
 use Rattle.frame.specs.Frame.{Frame, frameLen}
@@ -17,7 +17,6 @@ use Rattle.journal.specs.Replay.{replay, framesOf}
 use Rattle.journal.specs.Block.{blockState, build}
 use Rattle.journal.specs.Room.{claimed}
 use Rattle.wire.specs.declared.Refusal.the-variants as refusal
-use Rattle.board.specs.declared.Stage.{Stage}
 use Rattle.board.specs.declared.Phase.{Phase}
 use Rattle.board.specs.declared.Phase.the-variants.{Unmounted, Idle, Busy}
 use Rattle.board.specs.declared.Record.{Record}
@@ -84,7 +83,9 @@ same-two img r e =
 
 pub two-fresh : (img : List ℕ) (r : Record) → r .blocks ≡ 2 → held 2 img r ≡ heldTwo img r
 unfolding held
-two-fresh img r e = ap (λ (b : Bool). heldBy 2 b img r) (same-two img r e) ∙ by (eqb (length img) (suc (r .last)) && (ltb (r .block) 2 && allFF (block (sizeTwo img) (beside (r .block)) img)))
+two-fresh img r e =
+    ap (λ (b : Bool). heldBy 2 b img r) (same-two img r e)
+    ∙ by (eqb (length img) (suc (r .last)) && (ltb (r .block) 2 && allFF (block (sizeTwo img) (beside (r .block)) img)))
   where
     by : (b : Bool) → heldBy 2 b img r ≡ cond b (heldIn (sizeTwo img) (r .end) (stateTwo img (r .block))) none
     by true = ap (λ (n : ℕ). heldIn n (r .end) (blockState (block n (r .block) img))) (two-sizes img)
@@ -104,7 +105,9 @@ two-frame img r x f h =
         ≡ cond b (transferTwo (r .block) (x .time) (replay (x .frames)) ++ appendPlan (beside (r .block)) (claimed (replay (x .frames))) f)
         (appendPlan (r .block) (r .end) f)
     by true =
-        ap (λ (k : ℕ). (onBlock k (build (suc (x .time)) (framesOf (replay (x .frames)))) ++ (erase (r .block) ∷ [])) ++ appendPlan k (claimed (replay (x .frames))) f)
+        ap
+        (λ (k : ℕ).
+        (onBlock k (build (suc (x .time)) (framesOf (replay (x .frames)))) ++ (erase (r .block) ∷ [])) ++ appendPlan k (claimed (replay (x .frames))) f)
         (next-beside (r .block) h)
     by false = refl
 

@@ -17,7 +17,6 @@ use Rattle.journal.specs.Room.{used, claimed}
 use Rattle.wire.specs.declared.Answer.the-variants.{Done}
 use Rattle.wire.specs.declared.Refusal.{Refusal}
 use Rattle.wire.specs.declared.Refusal.the-variants as refusal
-use Rattle.board.specs.declared.Stage.{Stage}
 use Rattle.board.specs.declared.Phase.{Phase}
 use Rattle.board.specs.declared.Phase.the-variants.{Unmounted, Idle, Busy}
 use Rattle.board.specs.declared.Record.{Record}
