@@ -60,6 +60,7 @@ pub mod Following  -- the k-th step, demand 3 and a cut format, of any machine t
 pub mod FollowingPlans  -- demand 2 of it, and the whole promise
 pub mod Runs  -- runs in two parts
 pub mod Tickets  -- the customer's two tickets, of any machine that keeps the promise
+pub mod Counts  -- calls that are given another number of blocks
 pub mod Driving  -- what is next, done to the flash by the caller, then made, is a step call
 pub mod Two  -- two blocks are the two halves of before: the image, requests, steps
 pub mod TwoMounts  -- mounts, formats, and the whole comparison
