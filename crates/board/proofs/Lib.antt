@@ -44,6 +44,7 @@ pub mod Planning  -- demand 2: requests follow their plans
 pub mod Demand2  -- demand 2: mounts, formats, runs
 pub mod Claiming  -- demand 3
 pub mod CutFormat  -- what a cut format leaves
+pub mod Wear  -- erase counts
 pub mod Bench  -- the starred rows
 -- ---- the promise
 pub mod Sentences  -- frames, plans and places, which the promise uses, are as document 01 words them
