@@ -20,19 +20,19 @@ use Rattle.journal.specs.Index.{sited, placesFrom, sinceFrom, valueAt, nextSett
 use Rattle.wire.specs.declared.Answer.the-variants.{Done, Refused}
 use Rattle.wire.specs.declared.Refusal.the-variants as refusal
 use Rattle.wire.specs.Message.{parse}
 use Rattle.board.specs.declared.Record.{Record}
 use Rattle.board.specs.Record.{allowed, unmounted, Out, out, rest, idle, noPlaces, noFrame}
 use Rattle.board.specs.Step.{enterAppend, enterDrop, enterCopy, enterOpen, enterWipe, advance, stepBusy, stepOn}
 use Rattle.board.specs.Mount.{mountAt, mountFound, mountOn, formatOrder, formatOn, tiedTimes}
 use Rattle.board.specs.Queue.{held, append, serveChange, serveEnd, serveLog, serve, requestOn}
 use Rattle.board.specs.Exec.{step, mount, Machine}
 use Rattle.board.specs.Book.{Book, nothing, firstBook, join, enterCall}
 use Rattle.board.specs.Table.{InJob}
 use Rattle.board.specs.Claim.{Event, call, cutErase, CutsErase, Happens, Run, formatted, Claim}
 use Rattle.board.specs.CutFormat.{Left, afterAll}
-use Rattle.board.specs.Wrong.{offBench, refusesHalfErased}
-use Rattle.board.specs.WrongRuns.{half, blankHalf, fading, putEmpty, cutRun, ClaimSees}
+use Rattle.refuted.specs.Wrong.{offBench, refusesHalfErased}
+use Rattle.refuted.specs.WrongRuns.{half, blankHalf, fading, putEmpty, cutRun, ClaimSees}
 use Rattle.board.proofs.Runs.{stepping, HappensAfter, steps-then, steps-image, run-rest}
 
 abbrev m : Machine
 m = offBench refusesHalfErased 2

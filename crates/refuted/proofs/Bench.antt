@@ -9,13 +9,13 @@ use Rattle.journal.specs.Block.{headerFault, blockState}
 use Rattle.journal.specs.Room.{noRoom}
 use Rattle.journal.specs.Index.{sited, placesFrom, sinceFrom, valueAt, nextSettled, nextPending, nextLoad}
 use Rattle.wire.specs.Message.{parse}
 use Rattle.board.specs.Record.{allowed, noPlaces, noFrame}
 use Rattle.board.specs.Step.{enterAppend, enterDrop, enterCopy, enterOpen, enterWipe, advance, stepBusy, stepOn}
 use Rattle.board.specs.Mount.{mountAt, mountFound, mountOn, formatOrder, formatOn}
 use Rattle.board.specs.Queue.{held, append, serveChange, serveEnd, serveLog, serve, requestOn}
 use Rattle.board.specs.Exec.{exec}
-use Rattle.board.specs.Rows.{drive, returned, ask, asked, cutIn, mounted, replayed, timed, part, rowA, rowB, rowC, rowD, rowE, rowF}
-use Rattle.board.specs.Rows.{rowG, rowH, rowI, rowK, rowALong, rowO, commitMessage, putMessage, formatAnswer, Rows}
+use Rattle.refuted.specs.Rows.{drive, returned, ask, asked, cutIn, mounted, replayed, timed, part, rowA, rowB, rowC, rowD, rowE, rowF}
+use Rattle.refuted.specs.Rows.{rowG, rowH, rowI, rowK, rowALong, rowO, commitMessage, putMessage, formatAnswer, Rows}
 
 pub rows : Rows (exec 2)
 unfolding numbersFrom sizeIn allowed drive returned ask asked cutIn mounted replayed timed part rowA rowB rowC rowD rowE rowF rowG rowH rowI rowK rowALong rowO commitMessage

@@ -12,22 +12,22 @@ use Rattle.frame.specs.Frame.{hostOf}
 use Rattle.journal.specs.Room.{claimed}
 use Rattle.wire.specs.declared.Answer.{Answer}
 use Rattle.wire.specs.declared.Answer.the-variants.{Done, More, Refused}
 use Rattle.board.specs.declared.Record.{Record}
 use Rattle.board.specs.Record.{unmounted, Out, out}
 use Rattle.board.specs.Exec.{Call, request, step, mount, format, exec}
 use Rattle.board.specs.Demand1.{OneStep}
-use Rattle.board.specs.Rows.{Ran, ran, drive, returned, ask, asked, cutIn, mounted, replayed, timed, part, rowA, rowB, rowC, rowD, rowE}
-use Rattle.board.specs.Rows.{rowF, rowG, rowH, rowI, rowK, rowALong, rowO, commitMessage, putMessage, formatAnswer, Rows}
-use Rattle.board.specs.Wrong.{Wrongly, onBench, offBench, byAnswer, onImage}
-use Rattle.board.specs.Wrong.{refusesAll, refusesPuts, refusesHighIds, ownFormatsOnly, firstHalfOnly, hostFirst, refusalClears}
-use Rattle.board.specs.Wrong.{refusedLogWrites, readsAlike, inventsCount, neverCommits, abortsNothing, takesOthers, keepsOld}
-use Rattle.board.specs.Wrong.{programsNothing, wholeFrame, inventsStep, erasesFirst, outsideIsDone, forgedWaits, hurriedMount}
-use Rattle.board.specs.Wrong.{losesAll, keepsPending, refusesAlike, overlooksForeign, namesSecond, tiesAtStart, refusesHalfErased}
-use Rattle.board.specs.Wrong.{takesHalfErased, formatsAtOnce, formatsBlindly, goesBack, erasesOne, ignoresCount, evenOnly}
-use Rattle.board.specs.WrongRows.{RightInRows}
+use Rattle.refuted.specs.Rows.{Ran, ran, drive, returned, ask, asked, cutIn, mounted, replayed, timed, part, rowA, rowB, rowC, rowD, rowE}
+use Rattle.refuted.specs.Rows.{rowF, rowG, rowH, rowI, rowK, rowALong, rowO, commitMessage, putMessage, formatAnswer, Rows}
+use Rattle.refuted.specs.Wrong.{Wrongly, onBench, offBench, byAnswer, onImage}
+use Rattle.refuted.specs.Wrong.{refusesAll, refusesPuts, refusesHighIds, ownFormatsOnly, firstHalfOnly, hostFirst, refusalClears}
+use Rattle.refuted.specs.Wrong.{refusedLogWrites, readsAlike, inventsCount, neverCommits, abortsNothing, takesOthers, keepsOld}
+use Rattle.refuted.specs.Wrong.{programsNothing, wholeFrame, inventsStep, erasesFirst, outsideIsDone, forgedWaits, hurriedMount}
+use Rattle.refuted.specs.Wrong.{losesAll, keepsPending, refusesAlike, overlooksForeign, namesSecond, tiesAtStart, refusesHalfErased}
+use Rattle.refuted.specs.Wrong.{takesHalfErased, formatsAtOnce, formatsBlindly, goesBack, erasesOne, ignoresCount, evenOnly}
+use Rattle.refuted.specs.WrongRows.{RightInRows}
 use Rattle.board.proofs.Refusals.{at-most-one-step}
-use Rattle.board.proofs.Bench.{rows}
-use Rattle.board.proofs.Refuting.{same-on-bench}
+use Rattle.refuted.proofs.Bench.{rows}
+use Rattle.refuted.proofs.Refuting.{same-on-bench}
 
 one-step-length : (img after : List ℕ) → OneStep 2 img after → length after ≡ length img
 one-step-length img after (inl e) = ap length e

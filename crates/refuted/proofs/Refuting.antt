@@ -13,22 +13,22 @@ use Rattle.flash.specs.Flash.{numbersFrom, sizeIn}
 use Rattle.flash.proofs.Cases.{and-left, and-right, clash}
 use Rattle.journal.specs.Block.{blockState}
 use Rattle.wire.specs.declared.Answer.the-variants.{More}
 use Rattle.board.specs.declared.Stage.the-variants.{Wipe}
 use Rattle.board.specs.declared.Phase.the-variants.{Unmounted, Idle, Busy}
 use Rattle.board.specs.declared.Record.{Record}
 use Rattle.board.specs.Record.{allowed, unmounted, cursor, inStage}
 use Rattle.board.specs.Step.{advance, enterWipe, stepBusy, stepOn}
 use Rattle.board.specs.Mount.{formatOrder, formatOn}
 use Rattle.board.specs.Table.{Exactly, Misplaced, linesOf}
 use Rattle.board.specs.Demand1.{Declared, EndsWithin}
 use Rattle.board.specs.Exec.{Call, request, step, mount, format, Machine, exec}
 use Rattle.board.specs.Claim.{call}
 use Rattle.board.specs.Promise.{Promise, Kept, Shown, trace, ByteEvents, PromiseDetermines}
-use Rattle.board.specs.Wrong.{Wrongly, onBench, offBench, outsideIsDone, forgedWaits, ignoresCount, RightOnBench, Refuted}
-use Rattle.board.specs.WrongRuns.{nothing, lastFrom, allBytes, bytesIn, begins, Differs}
+use Rattle.refuted.specs.Wrong.{Wrongly, onBench, offBench, outsideIsDone, forgedWaits, ignoresCount, RightOnBench, Refuted}
+use Rattle.refuted.specs.WrongRuns.{nothing, lastFrom, allBytes, bytesIn, begins, Differs}
 use Rattle.board.proofs.Determining.{promise-determines}
 use Rattle.board.proofs.FollowingPlans.{promise}
-use Rattle.board.proofs.RefutingRuns.{runs}
+use Rattle.refuted.proofs.RefutingRuns.{runs}
 
 bytes-all : (l : List ℕ) → allBytes l ≡ true → Bytes l
 bytes-all [] e = tt

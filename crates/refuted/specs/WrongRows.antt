@@ -1,10 +1,10 @@
 -- Every wrong store is right in every bench row: the promise refutes it, no row does.
-use Rattle.board.specs.Rows.{Rows}
-use Rattle.board.specs.Wrong.{offBench, refusesAll, refusesPuts, refusesHighIds, ownFormatsOnly, firstHalfOnly, hostFirst}
-use Rattle.board.specs.Wrong.{refusalClears, refusedLogWrites, readsAlike, inventsCount, neverCommits, abortsNothing, takesOthers}
-use Rattle.board.specs.Wrong.{keepsOld, programsNothing, wholeFrame, inventsStep, erasesFirst, outsideIsDone, forgedWaits}
-use Rattle.board.specs.Wrong.{hurriedMount, losesAll, keepsPending, refusesAlike, overlooksForeign, namesSecond, tiesAtStart, refusesHalfErased}
-use Rattle.board.specs.Wrong.{takesHalfErased, formatsAtOnce, formatsBlindly, goesBack, erasesOne, ignoresCount, evenOnly}
+use Rattle.refuted.specs.Rows.{Rows}
+use Rattle.refuted.specs.Wrong.{offBench, refusesAll, refusesPuts, refusesHighIds, ownFormatsOnly, firstHalfOnly, hostFirst}
+use Rattle.refuted.specs.Wrong.{refusalClears, refusedLogWrites, readsAlike, inventsCount, neverCommits, abortsNothing, takesOthers}
+use Rattle.refuted.specs.Wrong.{keepsOld, programsNothing, wholeFrame, inventsStep, erasesFirst, outsideIsDone, forgedWaits}
+use Rattle.refuted.specs.Wrong.{hurriedMount, losesAll, keepsPending, refusesAlike, overlooksForeign, namesSecond, tiesAtStart, refusesHalfErased}
+use Rattle.refuted.specs.Wrong.{takesHalfErased, formatsAtOnce, formatsBlindly, goesBack, erasesOne, ignoresCount, evenOnly}
 
 pub record RightInRows : Type 0 where
   pub refuses-all : Rows (offBench refusesAll 2)
