@@ -4,16 +4,15 @@ use mathlib.Core.List.{List}
 use mathlib.Core.Logic.{_⊎_, inl, inr}
 use mathlib.Core.Option.{Option, none, some}
 use mathlib.Core.Bool.{true, false, _&&_}
-use Prim.Native.Nat.{ℕ, zero, suc, _+_, _-_, _*_, _≤_, _<_}
+use Prim.Native.Nat.{ℕ, zero, suc, _+_, _-_, _≤_, _<_}
 use native.Mathlib.Omega.{arith}
-use native.Mathlib.Nat.{mul-le-mul-right}
 use lib.Dec.{eqb, ltb, leb}
 use lib.ListN.{length}
 use borrow.Author.Tests.{ltb-true, leb-true, eqb-true}
 use Rattle.flash.specs.Flash.{maxBlocks, sizeIn, isCount, Step, blockOf, offsetOf, apply, sizeOf, within}
 use Rattle.flash.proofs.Cases.{on-test, and-left, and-right, and-no-left, and-no-right}
 use Rattle.flash.proofs.Image.{length-apply}
-use Rattle.flash.proofs.Sizes.{size-within}
+use Rattle.flash.proofs.Sizes.{size-half}
 use Rattle.journal.specs.Block.{markWrites}
 use Rattle.journal.specs.Index.{Load}
 use Rattle.wire.specs.declared.Answer.the-variants.{Refused}
@@ -183,10 +182,7 @@ few-left N (Busy Append) img r d e = omega arith
 
 -- at least two blocks in at most 65,536 bytes
 few-bytes : (N n : ℕ) → isCount N ≡ true → n ≤ 65536 → sizeIn N n ≤ 32768
-few-bytes N n c h =
-    let two : 2 ≤ N = leb-true 2 N (and-left (leb 2 N) (leb N maxBlocks) c) in
-    let whole : N * sizeIn N n ≤ n = size-within N n in
-    omega (arith, mul-le-mul-right {m = 2} {n = N} (sizeIn N n) two)
+few-bytes N n c h = omega (arith, size-half N n (leb-true 2 N (and-left (leb 2 N) (leb N maxBlocks) c)))
 
 pub forged-ends : (N : ℕ) (img : List ℕ) (r : Record) → Declared r → EndsWithin (exec N) 65536 img r
 forged-ends N img r d =

@@ -4,7 +4,6 @@ use mathlib.Core.List.{List, [], _∷_, _++_}
 use mathlib.Core.Bool.{Bool, true, _&&_}
 use Prim.Native.Nat.{ℕ, suc, _+_, _-_, _*_, _%_, _≤_, _<_}
 use native.Mathlib.Omega.{arith}
-use native.Mathlib.Nat.{mul-le-mul-right}
 use lib.Dec.{eqb, leb}
 use lib.ListN.{length}
 use borrow.Author.Tests.{eqb-true, leb-true, le-leb, eq-eqb}
@@ -13,7 +12,7 @@ use Rattle.flash.specs.Flash.{maxBlocks, sizeIn, isCount, Step, apply, applyAll
 use Rattle.flash.proofs.Cases.{and-left, and-right, and-both}
 use Rattle.flash.proofs.Image.{in-image, length-apply, bytes-apply, block-program, other-program}
 use Rattle.flash.proofs.Offsets.{Below}
-use Rattle.flash.proofs.Sizes.{size-is}
+use Rattle.flash.proofs.Sizes.{size-is, size-half}
 use Rattle.board.specs.Record.{allowed}
 use Rattle.board.specs.Plan.{onBlock}
 
@@ -74,10 +73,6 @@ allowed-from N n s few most short whole multiple low =
     (and-both (eqb (N * z) n) e (eq-eqb (N * z) n (ap (λ (k : ℕ). N * k) q ∙ sym whole))
     (and-both (eqb (z % 128) 0) (leb 256 z) (eq-eqb (z % 128) 0 (ap (λ (k : ℕ). k % 128) q ∙ multiple)) (le-leb 256 z (omega arith)))))
 
--- at least two blocks of s bytes in an image
-half-most : (N s : ℕ) → 2 ≤ N → N * s ≤ 65536 → s ≤ 32768
-half-most N s h l = omega (arith, mul-le-mul-right {m = 2} {n = N} s h)
-
 pub sized-of : (N : ℕ) (img : List ℕ) → allowed N (length img) ≡ true → Sized N (sizeOf N img) img
 sized-of N img t =
     let y : AllowedAs N (length img) = allowed-tests N (length img) t in
@@ -88,7 +83,7 @@ sized-of N img t =
       all = sym (y .all);
       short = y .short;
       low = y .low;
-      high = half-most N (sizeOf N img) (y .few) (subst (λ (n : ℕ). n ≤ 65536) (sym (y .all)) (y .short));
+      high = omega (arith, size-half N (length img) (y .few), y .short);
       size = refl;
       ok = t;
     }

@@ -3,7 +3,7 @@ use mathlib.Core.Path.{_≡_, sym, ap, subst, _∙_}
 use mathlib.Core.Bool.{Bool, true, false, cond}
 use Prim.Native.Nat.{ℕ, zero, suc, _+_, _*_, _/_, _≤_}
 use native.Mathlib.Omega.{arith}
-use native.Mathlib.Nat.{mul-div-cancel-left, mul-div-le, zero-mul}
+use native.Mathlib.Nat.{mul-div-cancel-left, mul-div-le, mul-le-mul-right, zero-mul}
 use lib.Dec.{eqb}
 use borrow.Author.Tests.{eqb-true, eqb-false}
 use Rattle.flash.specs.Flash.{sizeIn}
@@ -26,3 +26,7 @@ size-within N n =
     on-test (eqb N 0)
     (λ t. let e : N * sizeIn N n ≡ 0 = ap (λ (k : ℕ). k * sizeIn N n) (eqb-true N 0 t) ∙ zero-mul (sizeIn N n) in omega arith)
     (λ t. subst (λ (s : ℕ). N * s ≤ n) (size-some N n (eqb-false N 0 t)) (mul-div-le n N))
+
+-- of two blocks or more, one is at most half of the image
+pub size-half : (N n : ℕ) → 2 ≤ N → 2 * sizeIn N n ≤ n
+size-half N n h = omega (arith, mul-le-mul-right {m = 2} {n = N} (sizeIn N n) h, size-within N n)

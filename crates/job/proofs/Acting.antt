@@ -10,7 +10,7 @@ use borrow.Author.Tests.{eqb-true, ltb-true}
 use Rattle.flash.specs.Flash.{Step, apply, maxBlocks, isCount, sizeIn, sizeOf, within, blockOf, offsetOf, write, writes}
 use Rattle.flash.proofs.Cases.{and-left, and-right, between}
 use Rattle.flash.proofs.Image.{blocks-le}
-use Rattle.flash.proofs.Sizes.{size-within}
+use Rattle.flash.proofs.Sizes.{size-within, size-half}
 use Rattle.journal.specs.Block.{openWrite, sealWrite, stateAt, inTransfer, validData}
 use Rattle.board.specs.declared.Rest.{Rest}
 use Rattle.board.specs.Record.{idle}
@@ -52,7 +52,7 @@ place-low N n s x e t =
 
 -- a block is at most half of an image
 pub size-low : (N n : ℕ) → isCount N ≡ true → 2 * sizeIn N n ≤ n
-size-low N n c = omega (arith, mul-le-mul-right (sizeIn N n) (between 2 N maxBlocks c .0), size-within N n)
+size-low N n c = size-half N n (between 2 N maxBlocks c .0)
 
 pub did-not : (N : ℕ) (x : Step) (img : List ℕ) → within N (sizeOf N img) x ≡ false
     → (false ≡ within N (sizeOf N img) x) × (img ≡ did N x img)
