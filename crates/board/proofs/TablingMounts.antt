@@ -31,7 +31,7 @@ use Rattle.board.specs.Record.{allowed, unmounted, Out, refuse, answerIn
 use Rattle.board.specs.Step.{enterWipe}
 use Rattle.board.specs.Mount.{Store, needsTransfer, anyPending, allFound, wipeList, mountJob, mountOn}
 use Rattle.board.specs.Demand2.{Accepted, Mounts}
-use Rattle.board.specs.Table.{line, Exactly, ValidAt, ForeignAt, NothingThere, Unclear, foreign-half, equal-times, TiedAt, tied-with}
+use Rattle.board.specs.Table.{line, Exactly, ValidAt, ForeignAt, NothingThere, Unclear, foreign-only, equal-times, TiedAt, tied-with}
 use Rattle.board.specs.Table.{Unsettled, MountWorn, mountLines, Names, names-foreign, names-equal}
 use Rattle.board.specs.Promise.{Machine, Current}
 use Rattle.board.proofs.Images.{Sized, sized-of}
@@ -132,7 +132,7 @@ module _ {N : ℕ} (img : List ℕ) (by : Bytes img) (ok : allowed N (length img
     at-number a e = same-valid (sym (at-valid a) ∙ ap (λ (n : ℕ). blockState (block (sizeOf N img) n img)) e ∙ y .is-valid)
 
     clear : Unclear N img → ⊥
-    clear (foreign-half k f n) = n (x .number) (x .time) (x .frames) (x .tail) (valid-at (y .there) (y .is-valid))
+    clear (foreign-only k f n) = n (x .number) (x .time) (x .frames) (x .tail) (valid-at (y .there) (y .is-valid))
     clear (equal-times k w) = let p = same-tied w in y .untied k (p .0) (p .1)
 
     not-worn : InTime x → MountWorn N img → ⊥
@@ -177,7 +177,7 @@ module _ {N : ℕ} (img : List ℕ) (by : Bytes img) (ok : allowed N (length img
   decided-lines (foreign-block j h e p o b r) =
       inr (
         (λ n. n .none-foreign j (foreign-at h p)),
-        inl (foreign-half j (foreign-at h p) (λ k t fs c a. o k t fs c (a .0) (at-valid a)), answer N img r),
+        inl (foreign-only j (foreign-at h p) (λ k t fs c a. o k t fs c (a .0) (at-valid a)), answer N img r),
       )
   decided-lines (deciding.equal-times j k p o r) =
       inr (

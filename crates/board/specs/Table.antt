@@ -171,11 +171,11 @@ pub record NothingThere (N : ℕ) (img : List ℕ) : Type 0 where
 
 -- 3: document 02, K4, "Refusal 3 remains for two valid halves of equal time, and for no valid half with at least one foreign."
 pub data Unclear (N : ℕ) (img : List ℕ) : Type 0 where
-  foreign-half : (k : ℕ) → ForeignAt N img k → NoneValid N img → Unclear N img
+  foreign-only : (k : ℕ) → ForeignAt N img k → NoneValid N img → Unclear N img
   equal-times : (k : ℕ) → TiedAt N img k → Unclear N img
 
 -- what 3 names, document 02, K5: "the foreign half (0 first) and, within it, the fault and its place. .. equal times name half 0, place 4."
--- No lower half is such a one, so that of two it is half 0.
+-- No lower block is such a one, so that of two it is half 0.
 pub data Names (N : ℕ) (img : List ℕ) (k : ℕ) (e : Fault) : Type 0 where
   names-foreign : NoneValid N img → ForeignAt N img k → FaultIn (block (sizeOf N img) k img) e → ((j : ℕ) → j < k → ForeignAt N img j → ⊥) → Names N img k e
   names-equal : TiedAt N img k → e ≡ fault field.Created 4 → ((j : ℕ) → j < k → TiedAt N img j → ⊥) → Names N img k e

@@ -66,7 +66,7 @@ pub record BadLogLength (m : Machine) : Type 0 where
 
 -- ---- 2: power drops in the middle of two hosts' changes
 
--- from an accepted mount on: its steps end, and the half in use then holds these objects and nothing that waits for a commit
+-- from an accepted mount on: its steps end, and the block in use then holds these objects and nothing that waits for a commit
 pub record Restores (N : ℕ) (m : Machine) (o : Out) (os : List Object) : Type 0 where
   pub count : ℕ
   pub short : count ≤ sizeOf N (o .image) + N

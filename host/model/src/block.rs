@@ -1,4 +1,4 @@
-//! A half: its header, its journal, and what replay makes of it.
+//! A block: its header, its journal, and what replay makes of it.
 
 use crate::frame::{self, Body, Frame, Host, Id};
 use std::ops::Range;
@@ -15,7 +15,7 @@ pub const IN_PROGRESS: u8 = 0xFE;
 pub const VALID: u8 = 0xFC;
 
 #[derive(PartialEq, Eq, Debug)]
-pub enum Half {
+pub enum Block {
     Blank,
     InProgress,
     Valid(Journal),
@@ -31,22 +31,22 @@ pub struct Journal {
     pub torn: bool,
 }
 
-impl Half {
-    /// The creation time, if the half is valid.
+impl Block {
+    /// The creation time, if the block is valid.
     pub fn time(&self) -> Option<u32> {
         match self {
-            Half::Valid(journal) => Some(journal.time),
+            Block::Valid(journal) => Some(journal.time),
             _ => None,
         }
     }
 }
 
-pub fn read(half: &[u8]) -> Half {
-    match half[STATE] {
-        READY if blank(half) => Half::Blank,
-        IN_PROGRESS => Half::InProgress,
-        VALID => journal(half).map_or(Half::Foreign, Half::Valid),
-        _ => Half::Foreign,
+pub fn read(block: &[u8]) -> Block {
+    match block[STATE] {
+        READY if blank(block) => Block::Blank,
+        IN_PROGRESS => Block::InProgress,
+        VALID => journal(block).map_or(Block::Foreign, Block::Valid),
+        _ => Block::Foreign,
     }
 }
 
@@ -54,27 +54,27 @@ pub fn blank(bytes: &[u8]) -> bool {
     bytes.iter().all(|byte| *byte == 0xFF)
 }
 
-fn journal(half: &[u8]) -> Option<Journal> {
-    let time = header_time(half)?;
-    let (frames, _) = frames(half);
+fn journal(block: &[u8]) -> Option<Journal> {
+    let time = header_time(block)?;
+    let (frames, _) = frames(block);
     let end = frames.last().map_or(HEADER, |frame| frame.place.end);
-    let tail = &half[end..];
+    let tail = &block[end..];
     let torn = !blank(tail);
     (!torn || frame::torn(tail)).then_some(Journal { time, frames, end, torn })
 }
 
-fn header_time(half: &[u8]) -> Option<u32> {
-    let inverse = half[TIME..STATE].try_into().expect("four bytes");
+fn header_time(block: &[u8]) -> Option<u32> {
+    let inverse = block[TIME..STATE].try_into().expect("four bytes");
     let time = !u32::from_le_bytes(inverse);
-    (half[..TIME] == LABEL && time != 0 && blank(&half[STATE + 1..HEADER])).then_some(time)
+    (block[..TIME] == LABEL && time != 0 && blank(&block[STATE + 1..HEADER])).then_some(time)
 }
 
 /// The whole legal frames from the header on, each where it may stand, and the lowest id that a settled frame may have
 /// after them: 256, which is none, once another frame has stood.
-pub fn frames(half: &[u8]) -> (Vec<Frame>, u16) {
+pub fn frames(block: &[u8]) -> (Vec<Frame>, u16) {
     let mut frames = Vec::new();
     let (mut at, mut lowest) = (HEADER, 0);
-    while let Some(frame) = frame::whole(half, at).filter(|frame| frame.may_stand(lowest)) {
+    while let Some(frame) = frame::whole(block, at).filter(|frame| frame.may_stand(lowest)) {
         lowest = match frame.body {
             Body::Settled(Id(id), _) => u16::from(id) + 1,
             _ => 256,
@@ -88,7 +88,7 @@ pub fn frames(half: &[u8]) -> (Vec<Frame>, u16) {
 /// What replay of a journal gives.
 #[derive(Debug)]
 pub struct Replay {
-    /// By id, where its settled value stands in the half.
+    /// By id, where its settled value stands in the block.
     pub settled: Vec<Option<Range<usize>>>,
     /// The pending puts and deletes of all hosts, as they stand in the journal.
     pub pending: Vec<Frame>,
