@@ -235,7 +235,7 @@ run-holds v (cutErase k new q ∷ cutErase j more p ∷ es) (x, n, h) = absurd n
 
 -- ---- from a finished format on
 
-format-done : {N : ℕ} {s : ℕ} {img : List ℕ} (r : Record) → Sized N s img
+pub format-done : {N : ℕ} {s : ℕ} {img : List ℕ} (r : Record) → Sized N s img
     → formatted N (exec N) img r ≡ out Done (applyAll s (formatPlan N img) img) (idle (rest N (length img - 1) 0 headerLen)) []
 format-done {N} {s} {img} r z =
     let first = format-some N img in

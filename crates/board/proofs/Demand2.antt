@@ -131,16 +131,16 @@ lands-at s (program k o v) img y =
 
 -- ---- what holds between calls, whatever the image was
 
-record Steady (N : ℕ) (s : ℕ) (img : List ℕ) (r : Record) : Type 0 where
-  sized : Sized N s img
-  bytes : Bytes img
-  phase : Sound N (r .phase) s img r
+pub record Steady (N : ℕ) (s : ℕ) (img : List ℕ) (r : Record) : Type 0 where
+  pub sized : Sized N s img
+  pub bytes : Bytes img
+  pub phase : Sound N (r .phase) s img r
 
 module _ {N : ℕ} {s : ℕ} {img : List ℕ} (z : Sized N s img) (by : Bytes img) where
   steady-unmounted : (r : Record) → r .phase ≡ Unmounted → Steady N s img r
   steady-unmounted r e = record { sized = z; bytes = by; phase = subst (λ (p : Phase). Sound N p s img r) (sym e) tt }
 
-  steady-idle : (r : Record) → Ready N s img r → Steady N s img r
+  pub steady-idle : (r : Record) → Ready N s img r → Steady N s img r
   steady-idle r y = record { sized = z; bytes = by; phase = subst (λ (p : Phase). Sound N p s img r) (sym (ready-idle y)) y }
 
   steady-busy : (r : Record) → answerOf r ≡ More → InJob N s (StepLands s) (Ready N s) img r → Steady N s img r
@@ -155,7 +155,7 @@ module _ {N : ℕ} {s : ℕ} {img : List ℕ} (z : Sized N s img) (by : Bytes im
 abbrev Kept : ℕ → ℕ → Out → Type 0
 Kept N s o = Steady N s (o .image) (o .board)
 
-request-kept : {N : ℕ} {s : ℕ} {img : List ℕ} {r : Record} → Steady N s img r → (h : Host) (m reply : List ℕ) → Bytes m → Kept N s (requestOn N img r reply h m)
+pub request-kept : {N : ℕ} {s : ℕ} {img : List ℕ} {r : Record} → Steady N s img r → (h : Host) (m reply : List ℕ) → Bytes m → Kept N s (requestOn N img r reply h m)
 request-kept {N} {s} {img} {r} v h m reply bm = go (request-met N img r reply h m)
   where
     go : Met N img r reply h m (requestOn N img r reply h m) → Kept N s (requestOn N img r reply h m)
@@ -170,7 +170,7 @@ request-kept {N} {s} {img} {r} v h m reply bm = go (request-met N img r reply h 
 abbrev StepDone : ℕ → ℕ → List ℕ → Out → Type 0
 StepDone N s img o = OneLands N img o × Kept N s o
 
-step-done : {N : ℕ} {s : ℕ} {img : List ℕ} {r : Record} → Steady N s img r → StepDone N s img (stepOn N img r)
+pub step-done : {N : ℕ} {s : ℕ} {img : List ℕ} {r : Record} → Steady N s img r → StepDone N s img (stepOn N img r)
 step-done {N} {s} {img} {r} v = go (r .phase) refl (v .phase)
   where
     rests : Rests (r .phase) → StepDone N s img (stepOn N img r)
@@ -220,7 +220,7 @@ same-image : {N : ℕ} {s : ℕ} {img : List ℕ} (o : Out) → o .image ≡ img
 same-image {N} {s} o e v = subst (λ (l : List ℕ). Steady N s l (o .board)) (sym e) v
 
 -- a mount or a format
-begun-kept : {N : ℕ} {s : ℕ} {img : List ℕ} (r : Record) → Sized N s img → Bytes img → (c : Call) → Restarting c → (exec N img r c .image ≡ img) × Kept N s (exec N img r c)
+pub begun-kept : {N : ℕ} {s : ℕ} {img : List ℕ} (r : Record) → Sized N s img → Bytes img → (c : Call) → Restarting c → (exec N img r c .image ≡ img) × Kept N s (exec N img r c)
 begun-kept r z by (request h m reply) n = absurd n
 begun-kept r z by step n = absurd n
 begun-kept {N} {s} {img} r z by mount n =

@@ -44,7 +44,7 @@ pub mod Planning  -- demand 2: requests follow their plans
 pub mod Demand2  -- demand 2: mounts, formats, runs
 pub mod Claiming  -- demand 3
 pub mod CutFormat  -- what a cut format leaves
-pub mod Bench  -- the starred rows
+pub mod Wear  -- erase counts
 -- ---- the promise
 pub mod Sentences  -- frames, plans and places, which the promise uses, are as document 01 words them
 pub mod Freshness  -- and so is refusal 11
@@ -64,8 +64,3 @@ pub mod Counts  -- calls that are given another number of blocks
 pub mod Driving  -- what is next, done to the flash by the caller, then made, is a step call
 pub mod Two  -- two blocks are the two halves of before: the image, requests, steps
 pub mod TwoMounts  -- mounts, formats, and the whole comparison
--- ---- wrong stores
-pub mod RefutingRuns  -- the runs that tell, computed
-pub mod Refuting  -- none of them keeps the promise
-pub mod RefutingCut  -- demand 3 sees one that is wrong on half-erased halves only
-pub mod RefutingRows  -- and yet all are right in every row

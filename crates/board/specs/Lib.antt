@@ -6,7 +6,6 @@ pub mod Exec
 pub mod Plan
 pub mod Book
 pub mod Claim
-pub mod Rows
 pub mod Table
 pub mod Demand1
 pub mod Demand2
@@ -17,7 +16,4 @@ pub mod Counts
 pub mod Two
 pub mod Tickets
 pub mod Drive
-pub mod Wrong
-pub mod WrongRuns
-pub mod WrongRows
 pub mod Sentences

@@ -1,0 +1,4 @@
+pub mod Rows
+pub mod Wrong
+pub mod WrongRuns
+pub mod WrongRows
