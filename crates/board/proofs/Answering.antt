@@ -82,6 +82,10 @@ number-injective a b s e = go (kind a) (kind b)
 pub number-done : (a : Answer) → numberOf a ≡ some 0 → a ≡ Done
 number-done a e = number-injective a Done (λ k j f g p q. let w : _≡_ {A = ℕ} 0 1 = cc in absurd (omega arith)) e
 
+-- any refusal but 3
+pub number-refused : (a : Answer) (n : Refusal) (k : ℕ) → numberOf (Refused n) ≡ some k → (k ≡ 3 → ⊥) → numberOf a ≡ some k → a ≡ Refused n
+number-refused a n k d h e = number-injective a (Refused n) (λ i j f g p q. absurd (not-three k h (sym d ∙ ap numberOf q))) (e ∙ sym d)
+
 -- a number above 0 is a refusal's
 pub number-accepted : (a : Answer) (k : ℕ) → numberOf a ≡ some (suc k) → Accepted a → ⊥
 number-accepted Done k e y = let w : _≡_ {A = ℕ} 0 (suc k) = cc in omega arith

@@ -12,7 +12,6 @@ use borrow.Author.Tests.{eqb-true, eqb-false}
 use Rattle.flash.specs.Bytes.{Bytes}
 use Rattle.flash.specs.Flash.{sizeOf, withBlock}
 use Rattle.flash.proofs.Cases.{on-test}
-use Rattle.frame.specs.declared.Fault.{Fault}
 use Rattle.frame.specs.declared.Host.{Host}
 use Rattle.frame.specs.Frame.{hostOf}
 use Rattle.wire.specs.declared.Answer.{Answer}
@@ -32,7 +31,7 @@ use Rattle.board.specs.Claim.{Never, ByteCall, Begins, Event, call, cutE
 use Rattle.board.specs.CutFormat.{Left, afterAll, leftBy}
 use Rattle.board.specs.Promise.{Calls}
 use Rattle.board.specs.Counts.{Apart, OtherCounts}
-use Rattle.board.proofs.Answering.{number-injective, number-accepted}
+use Rattle.board.proofs.Answering.{number-refused, number-accepted}
 use Rattle.board.proofs.Following.{left-by}
 
 -- ---- what the claim still says at a point of a run
@@ -64,28 +63,11 @@ upheld-after N m img r b f (cutErase k new q ∷ cutErase j more g ∷ es) c (x,
 
 -- ---- the record has the run's number of blocks
 
--- a refusal by its number
-abbrev Plain : Refusal → Type 0
-Plain n = (k : ℕ) (e : Fault) → Refused n ≡ Refused (refusal.Foreign k e) → ⊥
-
-stale-plain : Plain refusal.Stale
-stale-plain k e p = let w : _≡_ {A = ℕ} 0 1 = cc in omega arith
-
-length-plain : Plain refusal.ImageLength
-length-plain k e p = let w : _≡_ {A = ℕ} 0 1 = cc in omega arith
-
-by-number : (a : Answer) (n : Refusal) → Plain n → numberOf a ≡ numberOf (Refused n) → a ≡ Refused n
-by-number a n f e = number-injective a (Refused n) (λ k j g w p q. absurd (f j w q)) e
-
 same-count : (N n : ℕ) → ((N ≡ n → ⊥) → ⊥) → N ≡ n
 same-count N n f = on-test (eqb N n) (eqb-true N n) (λ t. absurd (f (eqb-false N n t)))
 
 idle-mounted : {p : Phase} → p ≡ Idle → p ≡ Unmounted → ⊥
 idle-mounted e q = let w : Idle ≡ Unmounted = sym e ∙ q in let z : _≡_ {A = ℕ} 0 1 = cc in omega arith
-
--- an unmounted record has none
-abbrev Counted : ℕ → Record → Type 0
-Counted N r = (r .phase ≡ Unmounted → ⊥) → N ≡ r .blocks
 
 module _ {N : ℕ} {m : Machine} (p : Calls N m) (img : List ℕ) (r : Record) (b : Book) (by : Bytes img) (f : Upheld N m img r b) where
   idle-count : r .phase ≡ Idle → N ≡ r .blocks
@@ -98,21 +80,22 @@ module _ {N : ℕ} {m : Machine} (p : Calls N m) (img : List ℕ) (r : Record) (
       says = let y = f .1 (call c ∷ []) (tt, tt) .0 in (y .0, y .1)
 
       go : Exactly (requestLines N img r (hostOf 0) [] []) (m img r c .answer) → N ≡ r .blocks
-      go (inl (_, n)) = absurd (says .0 (by-number (m img r c .answer) refusal.ImageLength length-plain n))
+      go (inl (_, n)) = absurd (says .0 (number-refused (m img r c .answer) refusal.ImageLength 4 refl (omega arith) n))
       go (inr (_, inl (l, _))) = absurd (omega arith)
       go (inr (_, inr (_, inl (j, _)))) = absurd (subst InJob e j)
       go (inr (_, inr (_, inr (_, inl (q, _))))) = absurd (idle-mounted e q)
-      go (inr (_, inr (_, inr (_, inr (_, inl (_, n)))))) = absurd (says .1 (by-number (m img r c .answer) refusal.Stale stale-plain n))
+      go (inr (_, inr (_, inr (_, inr (_, inl (_, n)))))) = absurd (says .1 (number-refused (m img r c .answer) refusal.Stale 11 refl (omega arith) n))
       go (inr (_, inr (_, inr (_, inr (_, inr (g, _)))))) = same-count N (r .blocks) (λ d. g (λ x y. d (y .blocks-are)))
 
   busy-count : (s : Stage) → r .phase ≡ Busy s → N ≡ r .blocks
   busy-count s e = go (p .table img r step by)
     where
       go : Exactly (linesOf N img r step) (m img r step .answer) → N ≡ r .blocks
-      go (inl (_, n)) = absurd (f .1 (call step ∷ []) (tt, tt) .0 refusal.Stale (by-number (m img r step .answer) refusal.Stale stale-plain n))
+      go (inl (_, n)) = absurd (f .1 (call step ∷ []) (tt, tt) .0 refusal.Stale (number-refused (m img r step .answer) refusal.Stale 11 refl (omega arith) n))
       go (inr (g, _)) = same-count N (r .blocks) (λ d. g (record { stage = s; is-busy = e; misfits = inr (inl d) }))
 
-  counted : Counted N r
+  -- an unmounted record has none
+  counted : (r .phase ≡ Unmounted → ⊥) → N ≡ r .blocks
   counted d = go (r .phase) refl
     where
       go : (q : Phase) → r .phase ≡ q → N ≡ r .blocks
@@ -149,7 +132,7 @@ module _ {M : ℕ} {m : Machine} (p : Calls M m) (img : List ℕ) (r : Record) (
       go : (q : Phase) → r .phase ≡ q → InJob q → Exactly (linesOf M img r step) (m img r step .answer) → m img r step .answer ≡ Refused refusal.Stale
       go Unmounted e k t = absurd k
       go Idle e k t = absurd k
-      go (Busy s) e k (inl (_, n)) = by-number (m img r step .answer) refusal.Stale stale-plain n
+      go (Busy s) e k (inl (_, n)) = number-refused (m img r step .answer) refusal.Stale 11 refl (omega arith) n
       go (Busy s) e k (inr (g, _)) = absurd (g (record { stage = s; is-busy = e; misfits = inr (inl (d (λ q. subst InJob q j))) }))
 
   apart : Apart m img r

@@ -70,7 +70,8 @@ unfolding numbersFrom
 erases-none = refl
 
 -- two
-erases-later : (t u : ℕ) (fs gs : List Frame) (c d : Tail) → Erases (both (valid t fs c) (valid u gs d)) (cond (ltb u t) 0 1)
+erases-later : (t u : ℕ) (fs gs : List Frame) (c d : Tail)
+    → Erases (both (valid t fs c) (valid u gs d)) (lastTwo (valid t fs c) (valid u gs d))
 unfolding numbersFrom
 erases-later t u fs gs c d =
     on-order t u (λ _ h. rw (lt-ltb t u h, ne-eqb u t (λ e. omega arith), eq-eqb u u refl, le-ltb u t (omega arith)))
