@@ -8,6 +8,7 @@ use crate::twin::{Call, Twin};
 use model::block::{self, Block, Journal};
 use model::cut;
 use std::collections::{HashSet, VecDeque};
+use std::hash::{DefaultHasher, Hasher};
 use store::{Answer, Idle};
 
 /// Where a job starts: its image, the idle record (mount and format take none) and the call.
@@ -185,6 +186,7 @@ fn current(image: &[u8], blocks: u8) -> Option<Journal> {
 }
 
 fn digest(image: &[u8]) -> u64 {
-    let words = image.chunks_exact(8).map(|word| u64::from_le_bytes(word.try_into().expect("eight bytes")));
-    words.fold(0, |sum: u64, word| (sum ^ word).wrapping_mul(0x9E37_79B9_7F4A_7C15).rotate_left(29))
+    let mut hasher = DefaultHasher::new();
+    hasher.write(image);
+    hasher.finish()
 }

@@ -52,7 +52,7 @@ pub struct Idle {
     pub block: u8,
     /// Where its whole frames end, counted from the block's start.
     pub end: u16,
-    /// How many blocks the image is.
+    /// How many blocks the image was said to be.
     pub blocks: u8,
 }
 
@@ -77,6 +77,7 @@ impl Stretch {
     }
 }
 
+/// Each call that takes an image is told how many blocks it is, which may be any number.
 pub trait Store {
     type Record: Clone + PartialEq + fmt::Debug;
 
