@@ -36,32 +36,32 @@ in-job s Unmounted = refl
 in-job s Idle = refl
 in-job s (Busy n) = refl
 
-pub step-keeps : (img : List ℕ) (r : Record) → Keeps r (stepOn img r)
-step-keeps img r = by (r .phase) refl
+pub step-keeps : {N : ℕ} (img : List ℕ) (r : Record) → Keeps r (stepOn N img r)
+step-keeps {N} img r = by (r .phase) refl
   where
-    by : (p : Phase) → r .phase ≡ p → Keeps r (stepOn img r)
+    by : (p : Phase) → r .phase ≡ p → Keeps r (stepOn N img r)
     by Unmounted e = kept r _ _ (step-resting img r (subst Rests (sym e) tt)) refl
     by Idle e = kept r _ _ (step-resting img r (subst Rests (sym e) tt)) refl
     by (Busy s) e =
-        on-test (eqb (length img) (suc (r .last)) && within (sizeOf img) (action s r))
-        (λ t. wrote r (stepOn img r) (Busy s) _ e (ap (λ (o : Out). o .answer) (step-goes img r s e t))
-        (in-job s (advance s (apply (sizeOf img) (action s r) img) r .phase)))
+        on-test (eqb (length img) (suc (r .last)) && within N (sizeOf N img) (action s r))
+        (λ t. wrote r (stepOn N img r) (Busy s) _ e (ap (λ (o : Out). o .answer) (step-goes img r s e t))
+        (in-job s (advance N s (apply (sizeOf N img) (action s r) img) r .phase)))
         (λ t. kept r _ _ (step-outside img r s e t) refl)
 
 -- ---- a step that the caller made
 
-pub made-cases : (P : Out → Type 0) (img : List ℕ) (r : Record) → P (out Done img r [])
-    → ((s : Stage) → r .phase ≡ Busy s → P (stepped img (advance s img r))) → P (refuse refusal.Stale img r []) → P (madeOn img r)
+pub made-cases : {N : ℕ} (P : Out → Type 0) (img : List ℕ) (r : Record) → P (out Done img r [])
+    → ((s : Stage) → r .phase ≡ Busy s → P (stepped img (advance N s img r))) → P (refuse refusal.Stale img r []) → P (madeOn N img r)
 unfolding madeOn
-made-cases P img r rests goes stale = by (r .phase) refl
+made-cases {N} P img r rests goes stale = by (r .phase) refl
   where
     by : (p : Phase) → r .phase ≡ p → P (madeIn p img r)
     by Unmounted e = rests
     by Idle e = rests
-    by (Busy s) e = on-test (eqb (length img) (suc (r .last)) && within (sizeOf img) (action s r)) (λ t. rw t (goes s e)) (λ t. rw t stale)
+    by (Busy s) e = on-test (eqb (length img) (suc (r .last)) && within N (sizeOf N img) (action s r)) (λ t. rw t (goes s e)) (λ t. rw t stale)
 
-pub made-keeps : (img : List ℕ) (r : Record) → Keeps r (madeOn img r)
-made-keeps img r =
+pub made-keeps : {N : ℕ} (img : List ℕ) (r : Record) → Keeps r (madeOn N img r)
+made-keeps {N} img r =
     made-cases (Keeps r) img r (λ _. refl)
-    (λ s e. wrote r (stepped img (advance s img r)) (Busy s) _ e refl (in-job s (advance s img r .phase)))
+    (λ s e. wrote r (stepped img (advance N s img r)) (Busy s) _ e refl (in-job s (advance N s img r .phase)))
     (λ _. refl)

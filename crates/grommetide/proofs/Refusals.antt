@@ -45,10 +45,10 @@ never-refused Unmounted n e = let z : _≡_ {A = ℕ} 0 1 = cc in omega arith
 never-refused Idle n e = let z : _≡_ {A = ℕ} 0 1 = cc in omega arith
 never-refused (Busy s) n e = let z : _≡_ {A = ℕ} 0 1 = cc in omega arith
 
-made-untouched : (img : List ℕ) (r : Record) → Untouched img r [] (madeOn img r)
-made-untouched img r =
+made-untouched : {N : ℕ} (img : List ℕ) (r : Record) → Untouched img r [] (madeOn N img r)
+made-untouched {N} img r =
     made-cases (Untouched img r []) img r (λ n e. absurd (never-refused Idle n e))
-    (λ s e n q. absurd (never-refused (advance s img r .phase) n q))
+    (λ s e n q. absurd (never-refused (advance N s img r .phase) n q))
     (λ n e. ap (λ (a : Answer). out a img r []) e)
 
 pub refused-stays : RefusedStays
@@ -67,5 +67,5 @@ unfolding RefusedReadEmpty edgeRead
 refused-read-empty img b h m at size l =
     rw (eq-eqb (length b) recordSize l)
     (λ f.
-    let x = is-refused (requestOn img (recordIn b) [] (record { 0 = h }) (asRead m) .answer) f in
+    let x = is-refused (requestOn N img (recordIn b) [] (record { 0 = h }) (asRead m) .answer) f in
     rw (refusals-untouched img (recordIn b) (request (record { 0 = h }) (asRead m) []) (x .0) (x .1)))
