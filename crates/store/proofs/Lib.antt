@@ -1,5 +1,6 @@
 pub mod Images
 pub mod Transfers
-pub mod Choosing
-pub mod Ordering
+pub mod Listing
+pub mod Looking
+pub mod Looked
 pub mod Outcomes

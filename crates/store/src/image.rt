@@ -2,22 +2,38 @@
 ghost use mathlib.Core.Path.{_≡_};
 ghost use Rattle.board.specs.Record.{allowed};
 ghost use Rattle.board.specs.Mount.{nextBlock};
+use flash::MAX_BLOCKS;
 
-pub fn is_allowed(n: usize) -> bool
-    ensures { λ r. ⌜ r ≡ allowed n ⌝ }
+pub fn is_allowed(blocks: u8, len: usize) -> bool
+    ensures { λ r. ⌜ r ≡ allowed blocks len ⌝ }
 {
-    if n < 512 {
+    let count = blocks as usize;
+    if count < 2 {
         return false;
     }
-    if 65536 < n {
+    if MAX_BLOCKS < count {
         return false;
     }
-    n % 256 == 0
+    if 65536 < len {
+        return false;
+    }
+    let size = flash::size_of(blocks, len);
+    if count * size != len {
+        return false;
+    }
+    if size % 128 != 0 {
+        return false;
+    }
+    256 <= size
 }
 
 // The block that a transfer goes to.
-pub fn next_block(number: u8) -> u8
-    ensures { λ r. ⌜ r ≡ nextBlock number ⌝ }
+pub fn next_block(blocks: u8, number: u8) -> u8
+    ensures { λ r. ⌜ r ≡ nextBlock blocks number ⌝ }
 {
-    if number == 0 { 1 } else { 0 }
+    if blocks <= number {
+        return 0;
+    }
+    let next = number + 1;
+    if next < blocks { next } else { 0 }
 }

@@ -1,5 +1,7 @@
 // Mount and format in code: each equal to its definition, on every input. What the queue's requests share with them is public too.
 pub mod image;
+mod lists;
+mod looks;
 mod mounts;
 pub mod surveys;
 

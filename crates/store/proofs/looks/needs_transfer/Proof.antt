@@ -3,8 +3,8 @@ use mathlib.Core.Path.{ap}
 use lib.Dec.{ltb}
 use borrow.Author.Tests.{lt-ltb, le-ltb}
 use borrow.Author.Needs.{needs}
-use Rattle.store.proofs.mounts.needs_transfer.Statement.{statement}
-use Rattle.store.proofs.mounts.needs_transfer.Tie as tie
+use Rattle.store.proofs.looks.needs_transfer.Statement.{statement}
+use Rattle.store.proofs.looks.needs_transfer.Tie as tie
 
 pub needs-transfer-spec : {M : Type 1} → statement M
 needs-transfer-spec = tie.close (tie.spec

@@ -1,7 +1,7 @@
 -- A foreign block's fault is passed on.
 use borrow.Author.Needs.{needs}
-use Rattle.store.proofs.mounts.or_foreign.Statement.{statement}
-use Rattle.store.proofs.mounts.or_foreign.Tie as tie
+use Rattle.store.proofs.looks.or_foreign.Statement.{statement}
+use Rattle.store.proofs.looks.or_foreign.Tie as tie
 
 pub or-foreign-spec : {M : Type 1} → statement M
 or-foreign-spec =
