@@ -26,18 +26,19 @@ use Rattle.grommetide.proofs.Buffers.{filled}
 use Rattle.grommetide.proofs.Kept.{Keeps}
 
 -- a frame loaded from the buffer's own arrays
-pub frame-loaded : {N : ℕ} (img : List ℕ) (n : Numbers) (b after places unit laid : List ℕ) (s : Stepped) → places ≡ recordIn b .places
+pub frame-loaded : (N : ℕ) (img : List ℕ) (n : Numbers) (b after places unit laid : List ℕ) (s : Stepped) → places ≡ recordIn b .places
     → unit ≡ recordIn b .unit → ((f : List ℕ) → LeadsTo places laid f s (enterCopy N img (assemble n places unit f)))
     → Holds (loadedIn s laid b) b after → Holds (enterCopy N img (over n b)) b after
-frame-loaded img n b after places unit laid s ep eu h w =
+frame-loaded N img n b after places unit laid s ep eu h w =
     let g = rw (ep, eu) at (h (recordIn b .frame)) in subst (λ (r : Record). Holds r b after) (g .gives) w
 
 -- where a step led, by whether a frame is due
-module _ (img : List ℕ) (p : Phase) (m : Moved) (b : List ℕ) (n : ℕ) (after : List ℕ) where
+module _ (N : ℕ) (img : List ℕ) (p : Phase) (m : Moved) (b : List ℕ) (n : ℕ) (after : List ℕ) where
   abbrev reached-if : (d : Bool) → Record
   reached-if d = reachedIf N d img (m .stepped) (recordIn b .places) (recordIn b .unit) (recordIn b .frame)
 
-  pub went-loading : {N : ℕ} → m .loads ≡ true → Holds (enterCopy N img (over (m .stepped .next) b)) b after → n ≡ edgeNumber More → Went N img p m b n after
+  pub went-loading : m .loads ≡ true → Holds (enterCopy N img (over (m .stepped .next) b)) b after → n ≡ edgeNumber More
+      → Went N img p m b n after
   went-loading t h e =
       let a : answered m ≡ More = ap (λ (d : Bool). answeredIf d (m .stepped)) t in
       let g = ap reached-if t in
@@ -51,8 +52,8 @@ module _ (img : List ℕ) (p : Phase) (m : Moved) (b : List ℕ) (n : ℕ) (afte
     same-answer : answered m ≡ m .stepped .answer
     same-answer = ap (λ (d : Bool). answeredIf d (m .stepped)) t
 
-    pub went-nowhere : {N : ℕ} → changes p (m .stepped .answer) ≡ false → after ≡ b → Went N img p m b n after
-    went-nowhere {N} f k =
+    pub went-nowhere : changes p (m .stepped .answer) ≡ false → after ≡ b → Went N img p m b n after
+    went-nowhere f k =
         let c : changes p (answered m) ≡ false = ap (changes p) same-answer ∙ f in
         record {
           answer = e ∙ ap edgeNumber (sym same-answer);
@@ -60,7 +61,7 @@ module _ (img : List ℕ) (p : Phase) (m : Moved) (b : List ℕ) (n : ℕ) (afte
           back = λ d. absurd (true≢false (sym d ∙ c));
         }
 
-    pub went-on : {N : ℕ} → changes p (m .stepped .answer) ≡ true → Holds (leftIn (m .stepped) b) b after → Went N img p m b n after
+    pub went-on : changes p (m .stepped .answer) ≡ true → Holds (leftIn (m .stepped) b) b after → Went N img p m b n after
     went-on f h =
         let c : changes p (answered m) ≡ true = ap (changes p) same-answer ∙ f in
         let g = ap reached-if t in

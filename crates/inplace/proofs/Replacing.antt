@@ -168,7 +168,7 @@ module _ (on : ℕ → List ℕ → Out) {M : Type 1} (𝓤 : URA M) (H : Heap �
     walks : (#f : Name) (C : Calls 𝓤 H) (Λ : Loops 𝓤 H) → FmC 𝓤 H (W .laws) C → Triple 𝓤 (C #f) Callee
         → Walks 𝓤 H A self.ended stayed (WpFn 𝓤 H C Λ (function #f)) c
     walks #f C Λ fm known =
-        walked 𝓤 H A self.ended stayed c (WpFn 𝓤 H C Λ (function #f)) 
+        walked 𝓤 H A self.ended stayed c (WpFn 𝓤 H C Λ (function #f))
         (λ κs. (slice-vals, (uint-vals w8, (ptr-vals, tt))))
         (λ κs. (shr-slice-tells (named 0) (κs .0) u8, (uint-tells w8, (mut-tells (named 1) (κs .1 .0) R, tt))))
         (λ κs qs bounds a g are. via 𝓤 _ (fst∗ 𝓤 _ (c κs a .requires g))
@@ -181,8 +181,7 @@ module _ (on : ℕ → List ℕ → Out) {M : Type 1} (𝓤 : URA M) (H : Heap �
       → Meets 𝓤 H (𝓖 .A) self.signature (𝓡 .run (env #self)) (closing 𝓤 H (𝓖 .A) self.ended c)
   replaces env #self #f routine closed calls known c follows =
       let W = givenOf 𝓤 H 𝓜 𝓖 in
-      meets 𝓤 H 𝓜 𝓖 𝓡 self.ended stayed
-      (
+      meets 𝓤 H 𝓜 𝓖 𝓡 self.ended stayed (
         goes-dropped 𝓤 H (𝓖 .A) W 2 ImageS yes (λ κs x f. refl),
         (goes-dropped 𝓤 H (𝓖 .A) W 2 ByteS yes (λ κs x f. refl), (goes-ref 𝓤 H (𝓖 .A) W 2 1 tt RecordS, tt)),
       ) c

@@ -150,7 +150,7 @@ module _ {M : Type 1} (𝓤 : URA M) (H : Heap 𝓤) (A : Atoms 𝓤) (W : Given
           assigns ! (of-opd ! (load ! (from ! (hop ! (look ! 16 refl) (stop !))) (look-raw ! 0 refl))) (from ! (stop !))
           (init ! 8 refl (board-typed W h g)) $
           move ! (5 ∷ 7 ∷ []) $ use2 W (raw (Callee .pre to-callee)) (goes is-blocks g) $
-          calls-at ! fm Callee known to-callee 
+          calls-at ! fm Callee known to-callee
           (and-then ! (in-local ! 9 refl) (and-then ! (in-local ! 17 refl) (and-then ! (in-local ! 7 refl) (no-more !)))) (λ w.
           told callee.ended (callee.clauses 𝓤 H A at-mem run) to-callee ! tt w (λ r zs. Said N (x .now) h (zs .0) r) (λ r zs. id⊢ 𝓤 _)
           (λ r zs e.
@@ -167,7 +167,7 @@ module _ {M : Type 1} (𝓤 : URA M) (H : Heap 𝓤) (A : Atoms 𝓤) (W : Given
   walks : (C : Calls 𝓤 H) (Λ : Loops 𝓤 H) → FmC 𝓤 H (W .laws) C → Triple 𝓤 (C callee.Symbol.name) Callee
       → Walks 𝓤 H A self.ended stayed (WpFn 𝓤 H C Λ code.function) (self.clauses 𝓤 H A at-mem run)
   walks C Λ fm known =
-      walked 𝓤 H A self.ended stayed (self.clauses 𝓤 H A at-mem run) (WpFn 𝓤 H C Λ code.function) 
+      walked 𝓤 H A self.ended stayed (self.clauses 𝓤 H A at-mem run) (WpFn 𝓤 H C Λ code.function)
       (λ κs. (slice-vals, (uint-vals w8, (ptr-vals, tt))))
       (λ κs. (mut-slice-tells (named 0) (κs .0) u8, (uint-tells w8, (mut-tells (named 1) (κs .1 .0) R, tt))))
       (λ κs qs bounds a g are. via 𝓤 _ (fst∗ 𝓤 _ (emp 𝓤))

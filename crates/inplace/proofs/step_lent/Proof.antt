@@ -138,10 +138,10 @@ module _ {M : Type 1} (𝓤 : URA M) (H : Heap 𝓤) (A : Atoms 𝓤) (W : Given
           fjoin ! $ move ! (2 ∷ 0 ∷ []) $ fjoin ! $
           move ! (23 ∷ []) $ split ! $ move ! (5 ∷ 1 ∷ []) $ join ! $ move ! (1 ∷ 0 ∷ []) $ join ! $
           use2 W (raw (Callee .pre (to-callee ν l₄ δ))) (asked ν l₄ δ) $
-          calls-at ! fm Callee known (to-callee ν l₄ δ) 
+          calls-at ! fm Callee known (to-callee ν l₄ δ)
           (and-then ! (in-local ! 7 refl) (and-then ! (in-local ! 16 refl) (and-then ! (in-local ! 5 refl) (no-more !))))
           (λ w.
-          told callee.ended (callee.clauses 𝓤 H A at-mem run) (to-callee ν l₄ δ) ! tt w 
+          told callee.ended (callee.clauses 𝓤 H A at-mem run) (to-callee ν l₄ δ) ! tt w
           (λ n zs. Said N (x .now) h (zs .0) n (zs .1 .1 .0))
           (λ n zs. id⊢ 𝓤 _) (λ n zs e.
           fsplit ! $ fsplit ! $ move ! (1 ∷ []) $ feqL ! (λ l. move ! (1 ∷ []) $ fsplit ! $ drop ! $ fsplit ! $
@@ -170,8 +170,7 @@ pub step-lent-spec : {M : Type 1} → stated.statement M
 unfolding code.routine
 step-lent-spec 𝓤 H 𝓜 𝓖 𝓡 =
     let W = givenOf 𝓤 H 𝓜 𝓖 in
-    meets 𝓤 H 𝓜 𝓖 𝓡 self.ended stayed
-    (
+    meets 𝓤 H 𝓜 𝓖 𝓡 self.ended stayed (
       goes-gave-slice 𝓤 H (𝓖 .A) W 1 0 tt ByteS,
       (goes-dropped 𝓤 H (𝓖 .A) W 1 ByteS yes (λ κs x f. refl), (goes-dropped 𝓤 H (𝓖 .A) W 1 RecordS yes (λ κs x f. refl), tt)),
     )
