@@ -71,22 +71,22 @@ begun-is b after p f n s o l q r h =
     ((h .0 .0 ∙ ap edgeNumber (q .answers), z .0), z .1)
 
 -- a record in a job is refused
-pub done-rests : (img : List ℕ) (r : Record) (reply : List ℕ) (h : Host) (m : List ℕ) → requestOn img r reply h m .answer ≡ Done
+pub done-rests : (N : ℕ) (img : List ℕ) (r : Record) (reply : List ℕ) (h : Host) (m : List ℕ) → requestOn N img r reply h m .answer ≡ Done
     → isBusy (r .phase) ≡ false
-done-rests img r reply h m d = by (r .phase) refl
+done-rests N img r reply h m d = by (r .phase) refl
   where
-    no : (why : Refusal) → requestOn img r reply h m ≡ refuse why img r reply → isBusy (r .phase) ≡ false
+    no : (why : Refusal) → requestOn N img r reply h m ≡ refuse why img r reply → isBusy (r .phase) ≡ false
     no why e = let w : Refused why ≡ Done = sym (ap (λ (o : Out). o .answer) e) ∙ d in let z : _≡_ {A = ℕ} 0 1 = cc in absurd (omega arith)
 
     by : (p : Phase) → r .phase ≡ p → isBusy (r .phase) ≡ false
     by Unmounted e = ap isBusy e
     by Idle e = ap isBusy e
     by (Busy s) e =
-        on-test (allowed (length img))
+        on-test (allowed N (length img))
         (λ a. on-test (leb (h .0) hostMax)
-        (λ b. no refusal.Busy (request-busy img r reply h m a b s e))
-        (λ b. no refusal.HostRange (request-host img r reply h m a b)))
-        (λ a. no refusal.ImageLength (request-length img r reply h m a))
+        (λ b. no refusal.Busy (request-busy N img r reply h m a b s e))
+        (λ b. no refusal.HostRange (request-host N img r reply h m a b)))
+        (λ a. no refusal.ImageLength (request-length N img r reply h m a))
 
 -- ---- a read's message asks for nothing else
 

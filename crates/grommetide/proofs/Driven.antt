@@ -26,18 +26,19 @@ use Rattle.grommetide.proofs.Buffers.{filled}
 use Rattle.grommetide.proofs.Kept.{Keeps}
 
 -- a frame loaded from the buffer's own arrays
-pub frame-loaded : (img : List ℕ) (n : Numbers) (b after places unit laid : List ℕ) (s : Stepped) → places ≡ recordIn b .places
-    → unit ≡ recordIn b .unit → ((f : List ℕ) → LeadsTo places laid f s (enterCopy img (assemble n places unit f)))
-    → Holds (loadedIn s laid b) b after → Holds (enterCopy img (over n b)) b after
-frame-loaded img n b after places unit laid s ep eu h w =
+pub frame-loaded : (N : ℕ) (img : List ℕ) (n : Numbers) (b after places unit laid : List ℕ) (s : Stepped) → places ≡ recordIn b .places
+    → unit ≡ recordIn b .unit → ((f : List ℕ) → LeadsTo places laid f s (enterCopy N img (assemble n places unit f)))
+    → Holds (loadedIn s laid b) b after → Holds (enterCopy N img (over n b)) b after
+frame-loaded N img n b after places unit laid s ep eu h w =
     let g = rw (ep, eu) at (h (recordIn b .frame)) in subst (λ (r : Record). Holds r b after) (g .gives) w
 
 -- where a step led, by whether a frame is due
-module _ (img : List ℕ) (p : Phase) (m : Moved) (b : List ℕ) (n : ℕ) (after : List ℕ) where
+module _ (N : ℕ) (img : List ℕ) (p : Phase) (m : Moved) (b : List ℕ) (n : ℕ) (after : List ℕ) where
   abbrev reached-if : (d : Bool) → Record
-  reached-if d = reachedIf d img (m .stepped) (recordIn b .places) (recordIn b .unit) (recordIn b .frame)
+  reached-if d = reachedIf N d img (m .stepped) (recordIn b .places) (recordIn b .unit) (recordIn b .frame)
 
-  pub went-loading : m .loads ≡ true → Holds (enterCopy img (over (m .stepped .next) b)) b after → n ≡ edgeNumber More → Went img p m b n after
+  pub went-loading : m .loads ≡ true → Holds (enterCopy N img (over (m .stepped .next) b)) b after → n ≡ edgeNumber More
+      → Went N img p m b n after
   went-loading t h e =
       let a : answered m ≡ More = ap (λ (d : Bool). answeredIf d (m .stepped)) t in
       let g = ap reached-if t in
@@ -51,16 +52,16 @@ module _ (img : List ℕ) (p : Phase) (m : Moved) (b : List ℕ) (n : ℕ) (afte
     same-answer : answered m ≡ m .stepped .answer
     same-answer = ap (λ (d : Bool). answeredIf d (m .stepped)) t
 
-    pub went-nowhere : changes p (m .stepped .answer) ≡ false → after ≡ b → Went img p m b n after
+    pub went-nowhere : changes p (m .stepped .answer) ≡ false → after ≡ b → Went N img p m b n after
     went-nowhere f k =
         let c : changes p (answered m) ≡ false = ap (changes p) same-answer ∙ f in
         record {
           answer = e ∙ ap edgeNumber (sym same-answer);
-          bytes = k ∙ sym (ap (λ (d : Bool). cond d (recordInto (reachedIn m img b) b) b) c);
+          bytes = k ∙ sym (ap (λ (d : Bool). cond d (recordInto (reachedIn N m img b) b) b) c);
           back = λ d. absurd (true≢false (sym d ∙ c));
         }
 
-    pub went-on : changes p (m .stepped .answer) ≡ true → Holds (leftIn (m .stepped) b) b after → Went img p m b n after
+    pub went-on : changes p (m .stepped .answer) ≡ true → Holds (leftIn (m .stepped) b) b after → Went N img p m b n after
     went-on f h =
         let c : changes p (answered m) ≡ true = ap (changes p) same-answer ∙ f in
         let g = ap reached-if t in
@@ -71,8 +72,8 @@ module _ (img : List ℕ) (p : Phase) (m : Moved) (b : List ℕ) (n : ℕ) (afte
         }
 
 -- the whole: a step, or a step that was made
-pub driven : (img b after : List ℕ) (n : ℕ) (m : Moved) (o : Out) → length b ≡ recordSize
-    → Steps (answered m) (m .stepped .ended) (reachedIn m img b) img o → Keeps (recordIn b) o → Went img (recordIn b .phase) m b n after
+pub driven : {N : ℕ} (img b after : List ℕ) (n : ℕ) (m : Moved) (o : Out) → length b ≡ recordSize
+    → Steps (answered m) (m .stepped .ended) (reachedIn N m img b) img o → Keeps (recordIn b) o → Went N img (recordIn b .phase) m b n after
     → ((n ≡ edgeNumber (o .answer)) × (after ≡ written b o)) × (recordIn after ≡ o .board)
 driven img b after n m o l s k w =
     let p = recordIn b .phase in
@@ -86,10 +87,10 @@ driven img b after n m o l s k w =
     )
 
 -- a step in the middle of a frame
-pub middle : (img b img′ b′ : List ℕ) (n : ℕ) → n ≡ edgeNumber More → Made img b img′ b′ → DoesStep img b n img′ b′
+pub middle : {N : ℕ} (img b img′ b′ : List ℕ) (n : ℕ) → n ≡ edgeNumber More → Made N img b img′ b′ → DoesStep N img b n img′ b′
 unfolding edgeStep
-middle img b img′ b′ n e m =
-    let o = stepOn img (recordIn b) in
+middle {N} img b img′ b′ n e m =
+    let o = stepOn N img (recordIn b) in
     record {
       answer = rw (eq-eqb _ _ (m .size)) (e ∙ ap edgeNumber (sym (m .answers)));
       image = rw (eq-eqb _ _ (m .size)) (m .image);

@@ -58,29 +58,29 @@ module _ (b : List ℕ) where
   met : Out → Edge
   met o = edge (edgeNumber (o .answer)) (o .image) (written b o) (o .reply)
 
-  made-is : (img : List ℕ) → holdsRecord b ≡ true → edgeMade img b ≡ met (madeOn img (recordIn b))
+  made-is : (N : ℕ) (img : List ℕ) → holdsRecord b ≡ true → edgeMade N img b ≡ met (madeOn N img (recordIn b))
   unfolding edgeMade met
-  made-is img t = rw t
+  made-is N img t = rw t
 
-  step-is : (img : List ℕ) → holdsRecord b ≡ true → edgeStep img b ≡ met (stepOn img (recordIn b))
+  step-is : (N : ℕ) (img : List ℕ) → holdsRecord b ≡ true → edgeStep N img b ≡ met (stepOn N img (recordIn b))
   unfolding edgeStep met
-  step-is img t = rw t
+  step-is N img t = rw t
 
   -- on any other buffer both are 254
-  same-other : (img : List ℕ) → holdsRecord b ≡ false → edgeMade img b ≡ edgeStep img b
+  same-other : (N : ℕ) (img : List ℕ) → holdsRecord b ≡ false → edgeMade N img b ≡ edgeStep N img b
   unfolding edgeMade edgeStep
-  same-other img t = rw t
+  same-other N img t = rw t
 
 pub edge-next-then-made : EdgeNextThenMade
 unfolding EdgeNextThenMade NextThenMade edgeNext
-edge-next-then-made img b at size byte =
-    let x = nextOn (length img) (recordIn b) in
-    let by : Bool → Edge = λ q. edgeMade (flashedBy (cond q (tells x) (told 254 at size byte)) img) b in
+edge-next-then-made N img b at size byte =
+    let x = nextOn N (length img) (recordIn b) in
+    let by : Bool → Edge = λ q. edgeMade N (flashedBy (cond q (tells x) (told 254 at size byte)) img) b in
     on-test (holdsRecord b)
     (λ t.
-    ap by t ∙ ap (λ (i : List ℕ). edgeMade i b) (told-flashes x img) ∙ made-is b (flashed x img) t ∙ ap (met b) (next-then-made img (recordIn b))
-    ∙ sym (step-is b img t))
-    (λ t. ap by t ∙ same-other b img t)
+    ap by t ∙ ap (λ (i : List ℕ). edgeMade N i b) (told-flashes x img) ∙ made-is b N (flashed x img) t ∙ ap (met b) (next-then-made N img (recordIn b))
+    ∙ sym (step-is b N img t))
+    (λ t. ap by t ∙ same-other b N img t)
 
 -- ---- runs
 
@@ -88,23 +88,23 @@ abbrev stepsOf : Drove → ℕ
 stepsOf d = d .steps
 
 -- from its second step call on a run has made a step
-made-some : (m c : ℕ) (o : Out) → 1 < c → 0 < runFrom m c o .steps
-made-some zero c o h = by (o .answer) refl
+made-some : (N m c : ℕ) (o : Out) → 1 < c → 0 < runFrom N m c o .steps
+made-some N zero c o h = by (o .answer) refl
   where
-    by : (a : Answer) → o .answer ≡ a → 0 < runFrom 0 c o .steps
-    by Done e = omega (arith, ap stepsOf (run-done 0 c o e))
-    by More e = omega (arith, ap stepsOf (run-over c o e))
-    by (Refused why) e = omega (arith, ap stepsOf (run-refused 0 c o why e))
-made-some (suc m) c o h = by (o .answer) refl (λ x. made-some m (suc c) x (omega arith))
+    by : (a : Answer) → o .answer ≡ a → 0 < runFrom N 0 c o .steps
+    by Done e = omega (arith, ap stepsOf (run-done N 0 c o e))
+    by More e = omega (arith, ap stepsOf (run-over N c o e))
+    by (Refused why) e = omega (arith, ap stepsOf (run-refused N 0 c o why e))
+made-some N (suc m) c o h = by (o .answer) refl (λ x. made-some N m (suc c) x (omega arith))
   where
-    by : (a : Answer) → o .answer ≡ a → ((x : Out) → 0 < runFrom m (suc c) x .steps) → 0 < runFrom (suc m) c o .steps
-    by Done e f = omega (arith, ap stepsOf (run-done (suc m) c o e))
-    by More e f = omega (arith, ap stepsOf (run-on m c o e), f (stepOn (o .image) (o .board)))
-    by (Refused why) e f = omega (arith, ap stepsOf (run-refused (suc m) c o why e))
+    by : (a : Answer) → o .answer ≡ a → ((x : Out) → 0 < runFrom N m (suc c) x .steps) → 0 < runFrom N (suc m) c o .steps
+    by Done e f = omega (arith, ap stepsOf (run-done N (suc m) c o e))
+    by More e f = omega (arith, ap stepsOf (run-on N m c o e), f (stepOn N (o .image) (o .board)))
+    by (Refused why) e f = omega (arith, ap stepsOf (run-refused N (suc m) c o why e))
 
-made-one : (m : ℕ) (o : Out) → o .answer ≡ More → runFrom m 1 o .steps ≡ 0 → ⊥
-made-one zero o q e = omega (arith, e, ap stepsOf (run-over 1 o q))
-made-one (suc m) o q e = omega (arith, e, ap stepsOf (run-on m 1 o q), made-some m 2 (stepOn (o .image) (o .board)) (omega arith))
+made-one : (N m : ℕ) (o : Out) → o .answer ≡ More → runFrom N m 1 o .steps ≡ 0 → ⊥
+made-one N zero o q e = omega (arith, e, ap stepsOf (run-over N 1 o q))
+made-one N (suc m) o q e = omega (arith, e, ap stepsOf (run-on N m 1 o q), made-some N m 2 (stepOn N (o .image) (o .board)) (omega arith))
 
 -- image and record as they were
 abbrev Leaves : List ℕ → Record → Drove → Type 0
@@ -113,33 +113,34 @@ Leaves img r d = (d .out .image ≡ img) × (d .out .board ≡ r)
 left : (img : List ℕ) (r : Record) (d e : Drove) → d ≡ e → Leaves img r e → Leaves img r d
 left img r d e p h = (ap (λ (x : Drove). x .out .image) p ∙ h .0, ap (λ (x : Drove). x .out .board) p ∙ h .1)
 
-first-refused : (m : ℕ) (img : List ℕ) (r : Record) → runFrom m 1 (stepOn img r) .steps ≡ 0 → Leaves img r (runFrom m 1 (stepOn img r))
-first-refused m img r e = by (stepOn img r .answer) refl
+first-refused : (N m : ℕ) (img : List ℕ) (r : Record) → runFrom N m 1 (stepOn N img r) .steps ≡ 0
+    → Leaves img r (runFrom N m 1 (stepOn N img r))
+first-refused N m img r e = by (stepOn N img r .answer) refl
   where
-    by : (a : Answer) → stepOn img r .answer ≡ a → Leaves img r (runFrom m 1 (stepOn img r))
-    by Done q = absurd (omega (arith, e, ap stepsOf (run-done m 1 (stepOn img r) q)))
-    by More q = absurd (made-one m (stepOn img r) q e)
+    by : (a : Answer) → stepOn N img r .answer ≡ a → Leaves img r (runFrom N m 1 (stepOn N img r))
+    by Done q = absurd (omega (arith, e, ap stepsOf (run-done N m 1 (stepOn N img r) q)))
+    by More q = absurd (made-one N m (stepOn N img r) q e)
     by (Refused why) q =
-        let u = refusals-untouched img r step why q in
-        left img r _ _ (run-refused m 1 (stepOn img r) why q) (ap (λ (o : Out). o .image) u, ap (λ (o : Out). o .board) u)
+        let u = refusals-untouched N img r step why q in
+        left img r _ _ (run-refused N m 1 (stepOn N img r) why q) (ap (λ (o : Out). o .image) u, ap (λ (o : Out). o .board) u)
 
 -- a run that made none leaves image and record
-pub none-made : (m : ℕ) (img : List ℕ) (r : Record) → runOn m img r .steps ≡ 0 → Leaves img r (runOn m img r)
-none-made m img r e = by m (answerOf r) refl e
+pub none-made : (N m : ℕ) (img : List ℕ) (r : Record) → runOn N m img r .steps ≡ 0 → Leaves img r (runOn N m img r)
+none-made N m img r e = by m (answerOf r) refl e
   where
-    by : (k : ℕ) (a : Answer) → answerOf r ≡ a → runOn k img r .steps ≡ 0 → Leaves img r (runOn k img r)
-    by k Done q f = left img r _ _ (run-done k 0 (stepped img r) q) (refl, refl)
-    by k (Refused why) q f = left img r _ _ (run-refused k 0 (stepped img r) why q) (refl, refl)
-    by zero More q f = left img r _ _ (run-over 0 (stepped img r) q) (refl, refl)
+    by : (k : ℕ) (a : Answer) → answerOf r ≡ a → runOn N k img r .steps ≡ 0 → Leaves img r (runOn N k img r)
+    by k Done q f = left img r _ _ (run-done N k 0 (stepped img r) q) (refl, refl)
+    by k (Refused why) q f = left img r _ _ (run-refused N k 0 (stepped img r) why q) (refl, refl)
+    by zero More q f = left img r _ _ (run-over N 0 (stepped img r) q) (refl, refl)
     by (suc k) More q f =
-        let g = run-on k 0 (stepped img r) q in
-        left img r _ _ g (first-refused k img r (sym (ap stepsOf g) ∙ f))
+        let g = run-on N k 0 (stepped img r) q in
+        left img r _ _ g (first-refused N k img r (sym (ap stepsOf g) ∙ f))
 
 -- what the code came to: x by the parts, after the buffer
-module _ (img img′ b unit after : List ℕ) (n m : ℕ) (x : Ran) (l : length b ≡ recordSize)
-    (q : Runs x (recordIn b .places) unit (recordIn b .frame) img′ (runOn m img (recordIn b))) (e : n ≡ edgeNumber (x .stepped .answer)) where
+module _ (N : ℕ) (img img′ b unit after : List ℕ) (n m : ℕ) (x : Ran) (l : length b ≡ recordSize)
+    (q : Runs x (recordIn b .places) unit (recordIn b .frame) img′ (runOn N m img (recordIn b))) (e : n ≡ edgeNumber (x .stepped .answer)) where
   abbrev d : Drove
-  d = runOn m img (recordIn b)
+  d = runOn N m img (recordIn b)
 
   same-run : after ≡ cond (eqb (d .steps) 0) b (recordBytes (d .out .board)) → run n (x .steps) img′ after ≡ ran b d
   same-run w = λ i. run ((e ∙ ap edgeNumber (q .answers)) i) (q .steps i) (q .image i) (w i)
@@ -148,7 +149,7 @@ module _ (img img′ b unit after : List ℕ) (n m : ℕ) (x : Ran) (l : length 
   ran-none z k =
       let y : d .steps ≡ 0 = sym (q .steps) ∙ z in (
         same-run (k ∙ sym (ap (λ (t : ℕ). cond (eqb t 0) b (recordBytes (d .out .board))) y)),
-        ap recordIn k ∙ sym (none-made m img (recordIn b) y .1),
+        ap recordIn k ∙ sym (none-made N m img (recordIn b) y .1),
       )
 
   pub ran-some : (x .steps ≡ 0 → ⊥) → Holds (loadedIn (x .stepped) unit b) b after
@@ -161,9 +162,10 @@ module _ (img img′ b unit after : List ℕ) (n m : ℕ) (x : Ran) (l : length 
 
 pub no-step-stays : NoStepStays
 unfolding NoStepStays edgeRun
-no-step-stays img b n =
+no-step-stays N img b n =
     on-test (holdsRecord b)
     (λ t. rw t (λ e.
-    let k = none-made n img (recordIn b) e in
-    λ i. run (edgeNumber (runOn n img (recordIn b) .out .answer)) (e i) (k .0 i) (ap (λ (s : ℕ). cond (eqb s 0) b (recordBytes (runOn n img (recordIn b) .out .board))) e i)))
+    let k = none-made N n img (recordIn b) e in
+    let o = runOn N n img (recordIn b) .out in
+    λ i. run (edgeNumber (o .answer)) (e i) (k .0 i) (ap (λ (s : ℕ). cond (eqb s 0) b (recordBytes (o .board))) e i)))
     (λ t. rw t (λ _. refl))

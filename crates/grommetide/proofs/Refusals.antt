@@ -45,27 +45,27 @@ never-refused Unmounted n e = let z : _≡_ {A = ℕ} 0 1 = cc in omega arith
 never-refused Idle n e = let z : _≡_ {A = ℕ} 0 1 = cc in omega arith
 never-refused (Busy s) n e = let z : _≡_ {A = ℕ} 0 1 = cc in omega arith
 
-made-untouched : (img : List ℕ) (r : Record) → Untouched img r [] (madeOn img r)
-made-untouched img r =
-    made-cases (Untouched img r []) img r (λ n e. absurd (never-refused Idle n e))
-    (λ s e n q. absurd (never-refused (advance s img r .phase) n q))
+made-untouched : (N : ℕ) (img : List ℕ) (r : Record) → Untouched img r [] (madeOn N img r)
+made-untouched N img r =
+    made-cases N (Untouched img r []) img r (λ n e. absurd (never-refused Idle n e))
+    (λ s e n q. absurd (never-refused (advance N s img r .phase) n q))
     (λ n e. ap (λ (a : Answer). out a img r []) e)
 
 pub refused-stays : RefusedStays
 unfolding edgeRequest edgeStep edgeMade
 refused-stays =
     record {
-      request = λ img b h m reply. stays img b reply _ (λ n. refusals-untouched img (recordIn b) (request (record { 0 = h }) m reply) n);
-      step = λ img b. stays img b _ _ (λ n. refusals-untouched img (recordIn b) step n);
-      made = λ img b. stays img b _ _ (made-untouched img (recordIn b));
+      request = λ N img b h m reply. stays img b reply _ (λ n. refusals-untouched N img (recordIn b) (request (record { 0 = h }) m reply) n);
+      step = λ N img b. stays img b _ _ (λ n. refusals-untouched N img (recordIn b) step n);
+      made = λ N img b. stays img b _ _ (made-untouched N img (recordIn b));
     }
 
 -- ---- reads
 
 pub refused-read-empty : RefusedReadEmpty
 unfolding RefusedReadEmpty edgeRead
-refused-read-empty img b h m at size l =
+refused-read-empty N img b h m at size l =
     rw (eq-eqb (length b) recordSize l)
     (λ f.
-    let x = is-refused (requestOn img (recordIn b) [] (record { 0 = h }) (asRead m) .answer) f in
-    rw (refusals-untouched img (recordIn b) (request (record { 0 = h }) (asRead m) []) (x .0) (x .1)))
+    let x = is-refused (requestOn N img (recordIn b) [] (record { 0 = h }) (asRead m) .answer) f in
+    rw (refusals-untouched N img (recordIn b) (request (record { 0 = h }) (asRead m) []) (x .0) (x .1)))

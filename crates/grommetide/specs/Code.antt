@@ -20,18 +20,18 @@ abbrev pub over : Numbers → List ℕ → Record
 over n b = assemble n (recordIn b .places) (recordIn b .unit) (recordIn b .frame)
 
 -- the record that a step reaches from a buffer's arrays
-abbrev pub reachedIn : Moved → List ℕ → List ℕ → Record
-reachedIn m img b = reached m img (recordIn b .places) (recordIn b .unit) (recordIn b .frame)
+abbrev pub reachedIn : ℕ → Moved → List ℕ → List ℕ → Record
+reachedIn N m img b = reached N m img (recordIn b .places) (recordIn b .unit) (recordIn b .frame)
 
 -- a step's answer, and the buffer after it: written if the record changed, by the phase before
-pub record Went (img : List ℕ) (p : Phase) (m : Moved) (b : List ℕ) (n : ℕ) (after : List ℕ) : Type 0 where
+pub record Went (N : ℕ) (img : List ℕ) (p : Phase) (m : Moved) (b : List ℕ) (n : ℕ) (after : List ℕ) : Type 0 where
   pub answer : n ≡ edgeNumber (answered m)
-  pub bytes : after ≡ cond (changes p (answered m)) (recordInto (reachedIn m img b) b) b
-  pub back : changes p (answered m) ≡ true → length b ≡ recordSize → recordIn after ≡ reachedIn m img b
+  pub bytes : after ≡ cond (changes p (answered m)) (recordInto (reachedIn N m img b) b) b
+  pub back : changes p (answered m) ≡ true → length b ≡ recordSize → recordIn after ≡ reachedIn N m img b
 
 -- a step call
-pub record DoesStep (img b : List ℕ) (n : ℕ) (img′ b′ : List ℕ) : Type 0 where
-  pub answer : n ≡ edgeStep img b .answer
-  pub image : img′ ≡ edgeStep img b .image
-  pub board : b′ ≡ edgeStep img b .board
-  pub back : ReadsBack b b′ (stepOn img (recordIn b) .board)
+pub record DoesStep (N : ℕ) (img b : List ℕ) (n : ℕ) (img′ b′ : List ℕ) : Type 0 where
+  pub answer : n ≡ edgeStep N img b .answer
+  pub image : img′ ≡ edgeStep N img b .image
+  pub board : b′ ≡ edgeStep N img b .board
+  pub back : ReadsBack b b′ (stepOn N img (recordIn b) .board)

@@ -49,25 +49,25 @@ abbrev pub written : List ℕ → Out → List ℕ
 written b o = cond (changes (recordIn b .phase) (o .answer)) (recordBytes (o .board)) b
 
 -- a request, and a step, which is lent no reply
-unfoldable pub edgeRequest : List ℕ → List ℕ → ℕ → List ℕ → List ℕ → Edge
-edgeRequest img b h m reply =
-    let o : Out = requestOn img (recordIn b) reply (record { 0 = h }) m in
+unfoldable pub edgeRequest : ℕ → List ℕ → List ℕ → ℕ → List ℕ → List ℕ → Edge
+edgeRequest N img b h m reply =
+    let o : Out = requestOn N img (recordIn b) reply (record { 0 = h }) m in
     guarded img b reply o (written b o)
 
-unfoldable pub edgeStep : List ℕ → List ℕ → Edge
-edgeStep img b = let o : Out = stepOn img (recordIn b) in guarded img b [] o (written b o)
+unfoldable pub edgeStep : ℕ → List ℕ → List ℕ → Edge
+edgeStep N img b = let o : Out = stepOn N img (recordIn b) in guarded img b [] o (written b o)
 
 -- a step that the caller made to the flash
-unfoldable pub edgeMade : List ℕ → List ℕ → Edge
-edgeMade img b = let o : Out = madeOn img (recordIn b) in guarded img b [] o (written b o)
+unfoldable pub edgeMade : ℕ → List ℕ → List ℕ → Edge
+edgeMade N img b = let o : Out = madeOn N img (recordIn b) in guarded img b [] o (written b o)
 
 -- ---- mount and format write the record, whatever stood there
 
-unfoldable pub edgeMount : List ℕ → List ℕ → Edge
-edgeMount img b = guarded img b [] (mountOn img) (recordBytes (mountOn img .board))
+unfoldable pub edgeMount : ℕ → List ℕ → List ℕ → Edge
+edgeMount N img b = guarded img b [] (mountOn N img) (recordBytes (mountOn N img .board))
 
-unfoldable pub edgeFormat : List ℕ → List ℕ → Edge
-edgeFormat img b = guarded img b [] (formatOn img) (recordBytes (formatOn img .board))
+unfoldable pub edgeFormat : ℕ → List ℕ → List ℕ → Edge
+edgeFormat N img b = guarded img b [] (formatOn N img) (recordBytes (formatOn N img .board))
 
 -- ---- a read hands out numbers
 
@@ -95,9 +95,9 @@ abbrev pub asRead : List ℕ → List ℕ
 asRead m = cond (isRead (parse m)) m []
 
 -- with a record buffer of any other size the numbers stay as they were
-unfoldable pub edgeRead : List ℕ → List ℕ → ℕ → List ℕ → ℕ → ℕ → Place
-edgeRead img b h m at size =
-    let o : Out = requestOn img (recordIn b) [] (record { 0 = h }) (asRead m) in
+unfoldable pub edgeRead : ℕ → List ℕ → List ℕ → ℕ → List ℕ → ℕ → ℕ → Place
+edgeRead N img b h m at size =
+    let o : Out = requestOn N img (recordIn b) [] (record { 0 = h }) (asRead m) in
     cond (holdsRecord b) (place (edgeNumber (o .answer)) (o .stretch .at) (o .stretch .size)) (place 254 at size)
 
 -- ---- the next flash step, told in numbers
@@ -118,9 +118,9 @@ tells (next.Erase at n) = told 253 at n 255
 tells next.Nothing = told 0 0 0 0
 tells (next.Refused why) = told (refusalNumber why) 0 0 0
 
--- on an image of n bytes; with a record buffer of any other size the numbers stay as they were
-unfoldable pub edgeNext : ℕ → List ℕ → ℕ → ℕ → ℕ → Told
-edgeNext n b at size byte = cond (holdsRecord b) (tells (nextOn n (recordIn b))) (told 254 at size byte)
+-- on an image of N blocks and n bytes; with a record buffer of any other size the numbers stay as they were
+unfoldable pub edgeNext : ℕ → ℕ → List ℕ → ℕ → ℕ → ℕ → Told
+edgeNext N n b at size byte = cond (holdsRecord b) (tells (nextOn N n (recordIn b))) (told 254 at size byte)
 
 -- the flash after what was told is done to it
 abbrev pub flashedBy : Told → List ℕ → List ℕ
@@ -143,26 +143,26 @@ abbrev pub ran : List ℕ → Drove → Run
 ran b d = run (edgeNumber (d .out .answer)) (d .steps) (d .out .image) (cond (eqb (d .steps) 0) b (recordBytes (d .out .board)))
 
 -- at most n of them; with a record buffer of any other size the count of steps stays as it was
-unfoldable pub edgeRun : List ℕ → List ℕ → ℕ → ℕ → Run
-edgeRun img b n steps = cond (holdsRecord b) (ran b (runOn n img (recordIn b))) (run 254 steps img b)
+unfoldable pub edgeRun : ℕ → List ℕ → List ℕ → ℕ → ℕ → Run
+edgeRun N img b n steps = cond (holdsRecord b) (ran b (runOn N n img (recordIn b))) (run 254 steps img b)
 
 -- ---- where a refused mount broke
 
 -- a mount's refusal, and what it names
 pub record Broken : Type 0 where
   pub answer : ℕ
-  pub half : ℕ
+  pub block : ℕ
   pub field : ℕ
   pub place : ℕ
 
 abbrev pub broken : ℕ → ℕ → ℕ → ℕ → Broken
-broken n half field place = record { answer = n; half = half; field = field; place = place }
+broken n block field place = record { answer = n; block = block; field = field; place = place }
 
 -- document 02, K5: "Mount's 3 passes it on as an answer that names the foreign half (0 first) and, within it, the fault and its place": the
--- number with which a mount of the image is refused, or 0; half, field and place with 3, else 0
-unfoldable pub edgeFault : List ℕ → Broken
-edgeFault img =
-    let a : Answer = mountOn img .answer in
+-- number with which a mount of the image is refused, or 0; block, field and place with 3, else 0
+unfoldable pub edgeFault : ℕ → List ℕ → Broken
+edgeFault N img =
+    let a : Answer = mountOn N img .answer in
     let s : Spot = spotOf a in
     broken (refusedNumber a) (s .half) (s .field) (s .place)
 
@@ -178,23 +178,23 @@ Stays img b reply e = Refuses (e .answer) → e ≡ edge (e .answer) img b reply
 
 -- "Every refusal .. changes no byte of image, reply or record"; nor does 254
 pub record RefusedStays : Type 0 where
-  pub request : (img b : List ℕ) (h : ℕ) (m reply : List ℕ) → Stays img b reply (edgeRequest img b h m reply)
-  pub step : (img b : List ℕ) → Stays img b [] (edgeStep img b)
-  pub made : (img b : List ℕ) → Stays img b [] (edgeMade img b)
+  pub request : (N : ℕ) (img b : List ℕ) (h : ℕ) (m reply : List ℕ) → Stays img b reply (edgeRequest N img b h m reply)
+  pub step : (N : ℕ) (img b : List ℕ) → Stays img b [] (edgeStep N img b)
+  pub made : (N : ℕ) (img b : List ℕ) → Stays img b [] (edgeMade N img b)
 
 -- a run that made no step leaves image and record as they were
 unfoldable pub NoStepStays : Type 0
-NoStepStays = (img b : List ℕ) (n : ℕ) → edgeRun img b n 0 .steps ≡ 0 → edgeRun img b n 0 ≡ run (edgeRun img b n 0 .answer) 0 img b
+NoStepStays = (N : ℕ) (img b : List ℕ) (n : ℕ) → edgeRun N img b n 0 .steps ≡ 0 → edgeRun N img b n 0 ≡ run (edgeRun N img b n 0 .answer) 0 img b
 
 -- what next tells, done to the flash, then made, is a step: of the answer, the flash and the record's bytes
 unfoldable pub EdgeNextThenMade : Type 0
-EdgeNextThenMade = (img b : List ℕ) (at size byte : ℕ) → edgeMade (flashedBy (edgeNext (length img) b at size byte) img) b ≡ edgeStep img b
+EdgeNextThenMade = (N : ℕ) (img b : List ℕ) (at size byte : ℕ) → edgeMade N (flashedBy (edgeNext N (length img) b at size byte) img) b ≡ edgeStep N img b
 
 -- "A refused read hands back an empty stretch"
 unfoldable pub RefusedReadEmpty : Type 0
 RefusedReadEmpty =
-    (img b : List ℕ) (h : ℕ) (m : List ℕ) (at size : ℕ) → length b ≡ recordSize → Refuses (edgeRead img b h m at size .answer)
-    → edgeRead img b h m at size ≡ place (edgeRead img b h m at size .answer) 0 0
+    (N : ℕ) (img b : List ℕ) (h : ℕ) (m : List ℕ) (at size : ℕ) → length b ≡ recordSize → Refuses (edgeRead N img b h m at size .answer)
+    → edgeRead N img b h m at size ≡ place (edgeRead N img b h m at size .answer) 0 0
 
 -- the buffer after a call reads as the record that the board's definition gives back
 abbrev pub ReadsBack : List ℕ → List ℕ → Record → Type 0

@@ -31,16 +31,16 @@ pub extern "C" fn grommetide_record_size() -> usize
 }
 
 #[no_mangle]
-pub extern "C" fn grommetide_mount(image: &[u8], board: &mut [u8]) -> u8
-    ensures { λ r. ⌜ (r ≡ edgeMount (now (image .entry)) (now (board .entry)) .answer)
-        × (now (board .exit) ≡ edgeMount (now (image .entry)) (now (board .entry)) .board) ⌝ }
-    ensures back { λ r. ⌜ ReadsBack (now (board .entry)) (now (board .exit)) (mountOn (now (image .entry)) .board) ⌝ }
+pub extern "C" fn grommetide_mount(image: &[u8], blocks: u8, board: &mut [u8]) -> u8
+    ensures { λ r. ⌜ (r ≡ edgeMount blocks (now (image .entry)) (now (board .entry)) .answer)
+        × (now (board .exit) ≡ edgeMount blocks (now (image .entry)) (now (board .entry)) .board) ⌝ }
+    ensures back { λ r. ⌜ ReadsBack (now (board .entry)) (now (board .exit)) (mountOn blocks (now (image .entry)) .board) ⌝ }
 {
     if board.len() != RECORD_SIZE {
         return WRONG_RECORD;
     }
     let mut places = records::no_places();
-    let s = store::mount_core(image, &mut places);
+    let s = store::mount_core(image, blocks, &mut places);
     let frame = records::no_frame();
     pack::new_record(s, &places, &frame, board)
 }
@@ -48,52 +48,54 @@ pub extern "C" fn grommetide_mount(image: &[u8], board: &mut [u8]) -> u8
 #[no_mangle]
 pub extern "C" fn grommetide_fault(
     image: &[u8],
-    half: &mut usize,
+    blocks: u8,
+    block: &mut usize,
     field: &mut u8,
     place: &mut usize,
 ) -> u8
-    ensures { λ r. ⌜ broken r (now (half .exit)) (now (field .exit)) (now (place .exit)) ≡ edgeFault (now (image .entry)) ⌝ }
+    ensures { λ r. ⌜ broken r (now (block .exit)) (now (field .exit)) (now (place .exit)) ≡ edgeFault blocks (now (image .entry)) ⌝ }
 {
     let mut places = records::no_places();
-    let s = store::mount_core(image, &mut places);
+    let s = store::mount_core(image, blocks, &mut places);
     let answer = s.answer;
     let spot = wire::spot_of(answer);
-    *half = spot.half as usize;
+    *block = spot.half as usize;
     *field = spot.field;
     *place = spot.place;
     wire::refused(answer)
 }
 
 #[no_mangle]
-pub extern "C" fn grommetide_format(image: &[u8], board: &mut [u8]) -> u8
-    ensures { λ r. ⌜ (r ≡ edgeFormat (now (image .entry)) (now (board .entry)) .answer)
-        × (now (board .exit) ≡ edgeFormat (now (image .entry)) (now (board .entry)) .board) ⌝ }
-    ensures back { λ r. ⌜ ReadsBack (now (board .entry)) (now (board .exit)) (formatOn (now (image .entry)) .board) ⌝ }
+pub extern "C" fn grommetide_format(image: &[u8], blocks: u8, board: &mut [u8]) -> u8
+    ensures { λ r. ⌜ (r ≡ edgeFormat blocks (now (image .entry)) (now (board .entry)) .answer)
+        × (now (board .exit) ≡ edgeFormat blocks (now (image .entry)) (now (board .entry)) .board) ⌝ }
+    ensures back { λ r. ⌜ ReadsBack (now (board .entry)) (now (board .exit)) (formatOn blocks (now (image .entry)) .board) ⌝ }
 {
     if board.len() != RECORD_SIZE {
         return WRONG_RECORD;
     }
     let places = records::no_places();
     let frame = records::no_frame();
-    pack::new_record(store::format_core(image), &places, &frame, board)
+    pack::new_record(store::format_core(image, blocks), &places, &frame, board)
 }
 
 #[no_mangle]
 pub extern "C" fn grommetide_request(
     image: &[u8],
+    blocks: u8,
     board: &mut [u8],
     host: u8,
     message: &[u8],
     reply: &mut [u8],
 ) -> u8
     ensures { λ r. ⌜ (r
-        ≡ edgeRequest (now (image .entry)) (now (board .entry)) host (now (message .entry)) (now (reply .entry)) .answer)
+        ≡ edgeRequest blocks (now (image .entry)) (now (board .entry)) host (now (message .entry)) (now (reply .entry)) .answer)
         × (now (board .exit)
-        ≡ edgeRequest (now (image .entry)) (now (board .entry)) host (now (message .entry)) (now (reply .entry)) .board)
+        ≡ edgeRequest blocks (now (image .entry)) (now (board .entry)) host (now (message .entry)) (now (reply .entry)) .board)
         × (now (reply .exit)
-        ≡ edgeRequest (now (image .entry)) (now (board .entry)) host (now (message .entry)) (now (reply .entry)) .reply) ⌝ }
+        ≡ edgeRequest blocks (now (image .entry)) (now (board .entry)) host (now (message .entry)) (now (reply .entry)) .reply) ⌝ }
     ensures back { λ r. ⌜ ReadsBack (now (board .entry)) (now (board .exit))
-        (requestOn (now (image .entry)) (recordIn (now (board .entry))) (now (reply .entry))
+        (requestOn blocks (now (image .entry)) (recordIn (now (board .entry))) (now (reply .entry))
         (record { 0 = host }) (now (message .entry)) .board) ⌝ }
 {
     if board.len() != RECORD_SIZE {
@@ -105,6 +107,7 @@ pub extern "C" fn grommetide_request(
     let mut frame = records::no_frame();
     let s = queue::request_core(
         image,
+        blocks,
         phase,
         rest,
         Host(host),
@@ -145,6 +148,7 @@ fn as_read(message: &[u8]) -> &[u8]
 #[no_mangle]
 pub extern "C" fn grommetide_read(
     image: &[u8],
+    blocks: u8,
     board: &[u8],
     host: u8,
     message: &[u8],
@@ -152,14 +156,14 @@ pub extern "C" fn grommetide_read(
     len: &mut usize,
 ) -> u8
     ensures { λ r. ⌜ place r (now (at .exit)) (now (len .exit))
-        ≡ edgeRead (now (image .entry)) (now (board .entry)) host (now (message .entry)) (now (at .entry)) (now (len .entry)) ⌝ }
+        ≡ edgeRead blocks (now (image .entry)) (now (board .entry)) host (now (message .entry)) (now (at .entry)) (now (len .entry)) ⌝ }
 {
     if board.len() != RECORD_SIZE {
         return WRONG_RECORD;
     }
     let phase = unpack::phase_of(board);
     let rest = unpack::rest_of(board);
-    let found = queue::find(image, phase, rest, Host(host), as_read(message));
+    let found = queue::find(image, blocks, phase, rest, Host(host), as_read(message));
     *at = found.at;
     *len = found.size;
     let answer = found.answer;

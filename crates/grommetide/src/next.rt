@@ -57,19 +57,20 @@ fn tell(next: Next) -> Telling
 #[no_mangle]
 pub extern "C" fn grommetide_next(
     len: usize,
+    blocks: u8,
     board: &[u8],
     at: &mut usize,
     size: &mut usize,
     byte: &mut u8,
 ) -> u8
     ensures { λ r. ⌜ told r (now (at .exit)) (now (size .exit)) (now (byte .exit))
-        ≡ edgeNext len (now (board .entry)) (now (at .entry)) (now (size .entry)) (now (byte .entry)) ⌝ }
+        ≡ edgeNext blocks len (now (board .entry)) (now (at .entry)) (now (size .entry)) (now (byte .entry)) ⌝ }
 {
     if board.len() != RECORD_SIZE {
         return WRONG_RECORD;
     }
     let n = unpack::numbers(board);
-    let t = tell(drive::next_of(len, n, unpack::in_hand(n, board)));
+    let t = tell(drive::next_of(len, blocks, n, unpack::in_hand(n, board)));
     *at = t.at;
     *size = t.size;
     *byte = t.byte;

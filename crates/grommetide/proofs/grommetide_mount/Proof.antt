@@ -28,5 +28,5 @@ grommetide-mount-spec =
     let mount-core′ = c7 .mount-core in
     let if1′ = c10 .if1 in
     let args′ = c13 .args in
-    replaced _ _ _ _ _ _ (mount-core′ .result) (mountOn (now (args′ .image))) (if1′ .left) (mount-core′ .ensures)
+    replaced _ _ _ _ _ _ (mount-core′ .result) (mountOn (args′ .blocks) (now (args′ .image))) (if1′ .left) (mount-core′ .ensures)
     (no-frame′ .ensures) (c .before .before .new-record .ensures)))

@@ -16,7 +16,7 @@ go-on-spec =
     (λ c.
     let if1′ = c .before .before .before .before .before .before .if1 in
     let args′ = c .before .before .before .before .before .before .before .before .before .before .args in
-    went-loading (now (args′ .image)) (args′ .phase) (args′ .m) (now (args′ .board)) _ _ (if1′ .taken)
+    went-loading (args′ .blocks) (now (args′ .image)) (args′ .phase) (args′ .m) (now (args′ .board)) _ _ (if1′ .taken)
     (c .before .before .before .load .ensures) (c .number .ensures))
     (λ c κs. search needs)
     (λ c κs. search needs)
@@ -28,10 +28,10 @@ go-on-spec =
     let if1′ = c .before .before .before .before .before .before .before .if1 in
     let c11 = c .before .before .before .before .before .before .before .before .before .before .before in
     let args′ = c11 .args in
-    went-on (now (args′ .image)) (args′ .phase) (args′ .m) (now (args′ .board)) _ _ (if1′ .left) (c .number2 .ensures)
+    went-on (args′ .blocks) (now (args′ .image)) (args′ .phase) (args′ .m) (now (args′ .board)) _ _ (if1′ .left) (c .number2 .ensures)
     (sym (changes′ .ensures) ∙ if2′ .taken) (c .before .before .before .write-step .ensures))
     (λ c κs. search needs)
     (λ c.
     let args′ = c .before .before .before .before .before .before .before .args in
-    went-nowhere (now (args′ .image)) (args′ .phase) (args′ .m) (now (args′ .board)) _ _ (c .before .before .before .if1 .left)
+    went-nowhere (args′ .blocks) (now (args′ .image)) (args′ .phase) (args′ .m) (now (args′ .board)) _ _ (c .before .before .before .if1 .left)
     (c .number3 .ensures) (sym (c .before .before .changes .ensures) ∙ c .before .if2 .left) refl))

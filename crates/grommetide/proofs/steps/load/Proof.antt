@@ -21,5 +21,5 @@ load-spec =
     let places′ = c10 .places in
     let c14 = c10 .before .before .before .before in
     let args′ = c14 .args in
-    frame-loaded (now (args′ .image)) (args′ .n) (now (args′ .board)) _ _ _ _ (enter-copy′ .result) (places′ .ensures) (unit′ .ensures)
+    frame-loaded (args′ .blocks) (now (args′ .image)) (args′ .n) (now (args′ .board)) _ _ _ _ (enter-copy′ .result) (places′ .ensures) (unit′ .ensures)
     (enter-copy′ .ensures) (c .before .before .write-loaded .ensures)))

@@ -31,8 +31,8 @@ step-numbers-spec =
     let pre′ = c15 .pre in
     let b = now (args′ .board) in let r = recordIn b in let s = rw (numbers′ .ensures) at
     (try-step′ .ensures (r .places) (r .unit) (r .frame) (in-hand′ .ensures)) in let w = rw (numbers′ .ensures) at
-    (c .before .before .go-on .ensures) in let z = driven _ b _ _ (try-step′ .result) (stepOn (now (args′ .image)) r) (pre′) s
-    (step-keeps _ _) w in let t = eq-eqb _ _ (pre′) in record {
+    (c .before .before .go-on .ensures) in let z = driven _ b _ _ (try-step′ .result) (stepOn (args′ .blocks) (now (args′ .image)) r) (pre′) s
+    (step-keeps _ _ _) w in let t = eq-eqb _ _ (pre′) in record {
       answer = rw t (z .0 .0);
       image = rw t (s .image);
       board = rw t
