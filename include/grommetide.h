@@ -109,9 +109,9 @@
  *
  *   Bytes of stack that a call takes at most, its return address included (held by a test that paints the stack):
  *
- *     grommetide_mount        2,304
- *     grommetide_fault        2,304
- *     grommetide_format       1,536
+ *     grommetide_mount        3,072
+ *     grommetide_fault        3,072
+ *     grommetide_format       2,816
  *     grommetide_request      2,304
  *     grommetide_read         1,792
  *     grommetide_next           576
