@@ -1,14 +1,14 @@
 -- Lists of blocks to erase, as they grow in the record's array.
 use mathlib.Core.Path.{_≡_, refl, sym, ap, ap₂, subst, _∙_}
 use mathlib.Core.List.{List, [], _∷_, _++_, append-nil, append-assoc}
-use mathlib.Core.Bool.{Bool, true, false, _||_, not, cond}
+use mathlib.Core.Bool.{Bool, true, false, _||_, not}
 use Prim.Native.Nat.{ℕ, zero, suc, _+_, _-_, _≤_, _<_}
 use native.Mathlib.Omega.{arith}
 use native.Mathlib.Nat.{sub-zero}
 use lib.Dec.{eqb, ltb}
 use lib.ListN.{length, getD, set, replicate, length-append}
 use lib.Seq.{set-append-seam}
-use borrow.Author.Tests.{eqb-true, eqb-false, ne-eqb, eq-eqb, ltb-true}
+use borrow.Author.Tests.{eqb-false, ne-eqb, ltb-true}
 use Rattle.flash.specs.Flash.{maxBlocks, numbersFrom, blockNumbers}
 use Rattle.flash.proofs.Cases.{on-test}
 use Rattle.board.specs.Mount.{wipeArray, numbersBut}

@@ -1,10 +1,10 @@
 -- What mount and format give back, put together from what their parts give.
 use mathlib.Core.Path.{_≡_, refl, sym, ap, subst, _∙_}
-use mathlib.Core.List.{List, [], _∷_, _++_, append-nil}
-use mathlib.Core.Bool.{Bool, true, false, _&&_, not, cond}
+use mathlib.Core.List.{List, [], _∷_, append-nil}
+use mathlib.Core.Bool.{Bool, true, false, _&&_, cond}
 use Prim.Native.Nat.{ℕ, _-_, _<_}
 use native.Mathlib.Omega.{arith}
-use lib.Dec.{eqb, ltb}
+use lib.Dec.{eqb}
 use lib.ListN.{length}
 use borrow.Author.Tests.{lt-ltb, le-ltb}
 use Rattle.flash.specs.Flash.{blockNumbers}
@@ -27,14 +27,14 @@ use Rattle.board.proofs.Outcomes.{mount-stores, format-begins}
 use Rattle.job.specs.declared.Outcome.{Outcome}
 use Rattle.job.specs.declared.records.Stepped.{Stepped}
 use Rattle.job.specs.Code.{assemble, leaves, leavesIf, begins}
-use Rattle.job.proofs.Entering.{wipe-leaves}
+use Rattle.job.proofs.Entering.{when-true, when-false, wipe-leaves}
 use Rattle.store.specs.declared.lists.Erases.{Erases}
 use Rattle.store.specs.declared.looks.Newest.{Newest}
 use Rattle.store.specs.declared.looks.Tie.{Tie}
 use Rattle.store.specs.declared.looks.Seen.{Seen}
 use Rattle.store.specs.Calls.{made, Gives, refused}
 use Rattle.store.specs.Seen.{erasesOf, othersIn, newestIn, tieIn, placesFor, Sees}
-use Rattle.store.specs.Mounts.{mountPlan, mountIn, mountSeen, lastErased, endsWith, orderBy}
+use Rattle.store.specs.Mounts.{mountPlan, mountIn, mountSeen, lastErased, orderBy}
 use Rattle.store.proofs.Listing.{but-none}
 use Rattle.store.proofs.Looked.{stateAt}
 
@@ -87,10 +87,12 @@ module _ (N : ℕ) (img p : List ℕ) where
 
   -- a mount by what was kept of the blocks
   abbrev kept : Newest → Tie → Refusal → (ℕ → List ℕ) → Stepped
-  kept w t why others = cond (w .valid) (cond (t .equal) (refused (tiedTimes (t .lowest))) (mountIn N l w (erasesOf (others (w .number))))) (refused why)
+  kept w t why others =
+      cond (w .valid) (cond (t .equal) (refused (tiedTimes (t .lowest))) (mountIn N l w (erasesOf (others (w .number))))) (refused why)
 
   mount-with : (xs : List Found) (y : Store) (ys : List Store)
-      → Came (placesOf (newest y ys .frames)) (mountIn N l (newestIn (y ∷ ys)) (erasesOf (wipeList (newest y ys .number) xs))) (mountAt N img xs (newest y ys))
+      → Came (placesOf (newest y ys .frames)) (mountIn N l (newestIn (y ∷ ys)) (erasesOf (wipeList (newest y ys .number) xs)))
+      (mountAt N img xs (newest y ys))
   unfolding mountIn mountAt noFrame
   mount-with xs y ys =
       let x : Store = newest y ys in
@@ -118,16 +120,18 @@ module _ (N : ℕ) (img p : List ℕ) where
           ∙ ap (λ (n : Refusal). kept (newestIn (stores (allFound N img))) (tieIn (stores (allFound N img))) n f) (x .why) in
           rw e (mounts-stores (allFound N img) (stores (allFound N img)) f (x .others))
 
--- ---- mount: w is what the test for the last time gave
-
+-- b is what the test for the last time gave
 module _ (N l : ℕ) (w : Newest) (es : Erases) (b : Bool) (e : b ≡ (w .moves && eqb (w .time) lastTime)) where
+  abbrev begun : Stepped
+  begun = begins (rest N l (w .number) (w .end)) (mountPlan N w es) (starting 0 (w .end))
+
   pub mount-worn : b ≡ true → refused refusal.Worn ≡ mountIn N l w es
   unfolding mountIn
-  mount-worn t = sym (ap (λ (c : Bool). cond c (refused refusal.Worn) (begins (rest N l (w .number) (w .end)) (mountPlan N w es) (starting 0 (w .end)))) (sym e ∙ t))
+  mount-worn t = when-true (w .moves && eqb (w .time) lastTime) (refused refusal.Worn) begun (sym e ∙ t)
 
-  pub mount-begun : b ≡ false → begins (rest N l (w .number) (w .end)) (mountPlan N w es) (starting 0 (w .end)) ≡ mountIn N l w es
+  pub mount-begun : b ≡ false → begun ≡ mountIn N l w es
   unfolding mountIn
-  mount-begun t = sym (ap (λ (c : Bool). cond c (refused refusal.Worn) (begins (rest N l (w .number) (w .end)) (mountPlan N w es) (starting 0 (w .end)))) (sym e ∙ t))
+  mount-begun t = when-false (w .moves && eqb (w .time) lastTime) (refused refusal.Worn) begun (sym e ∙ t)
 
 -- ---- format
 

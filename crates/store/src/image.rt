@@ -2,23 +2,18 @@
 ghost use mathlib.Core.Path.{_≡_};
 ghost use Rattle.board.specs.Record.{allowed};
 ghost use Rattle.board.specs.Mount.{nextBlock};
-use flash::MAX_BLOCKS;
 
 pub fn is_allowed(blocks: u8, len: usize) -> bool
     ensures { λ r. ⌜ r ≡ allowed blocks len ⌝ }
 {
-    let count = blocks as usize;
-    if count < 2 {
-        return false;
-    }
-    if MAX_BLOCKS < count {
+    if !job::is_count(blocks) {
         return false;
     }
     if 65536 < len {
         return false;
     }
     let size = flash::size_of(blocks, len);
-    if count * size != len {
+    if blocks as usize * size != len {
         return false;
     }
     if size % 128 != 0 {
