@@ -1,9 +1,10 @@
 -- The record's image.
-use mathlib.Core.Path.{_≡_, ap, _∙_}
-use mathlib.Core.List.{List, _∷_}
+use mathlib.Core.Path.{_≡_, sym, ap, ap₂, _∙_}
+use mathlib.Core.List.{List}
 use mathlib.Core.Bool.{Bool, true, _&&_, _||_}
 use Prim.Native.Nat.{ℕ, suc, _+_, _-_, _≤_, _<_}
 use native.Mathlib.Omega.{arith}
+use native.Mathlib.Numerals.{add-one}
 use lib.Dec.{eqb, ltb}
 use lib.ListN.{length}
 use borrow.Author.Tests.{eqb-true, ltb-true}
@@ -13,6 +14,7 @@ use Rattle.flash.proofs.Cases.{and-left, and-right}
 use Rattle.board.specs.declared.Record.{Record}
 use Rattle.board.specs.Step.{sameShape}
 use Rattle.board.specs.Queue.{othersBlank, sameImage}
+use Rattle.store.proofs.Listing.{numbers-next}
 
 -- ---- the other blocks, one by one
 
@@ -21,17 +23,12 @@ module _ (N k : ℕ) (img : List ℕ) where
   abbrev pub blankFrom : ℕ → Bool
   blankFrom j = othersBlank N k img (numbersFrom j (N - j))
 
-  numbers-on : (j : ℕ) → j < N → numbersFrom j (N - j) ≡ j ∷ numbersFrom (j + 1) (N - (j + 1))
-  unfolding numbersFrom
-  numbers-on j h =
-      let e : N - j ≡ suc (N - (j + 1)) = omega arith in
-      ap (numbersFrom j) e ∙ ap (λ (i : ℕ). j ∷ numbersFrom i (N - (j + 1))) (omega arith)
-
   pub blank-start : blankFrom 0 ≡ othersBlank N k img (blockNumbers N)
   blank-start = ap (λ (n : ℕ). othersBlank N k img (numbersFrom 0 n)) (omega arith)
 
   pub blank-on : (j : ℕ) (t : Bool) → j < N → (eqb k j || allFF (block (sizeOf N img) j img)) ≡ t → blankFrom j ≡ (t && blankFrom (j + 1))
-  blank-on j t h e = ap (othersBlank N k img) (numbers-on j h) ∙ ap (λ (u : Bool). u && blankFrom (j + 1)) e
+  blank-on j t h e =
+      ap (othersBlank N k img) (numbers-next j N h) ∙ ap₂ (λ (u : Bool) (i : ℕ). u && blankFrom i) e (sym (add-one j))
 
   pub blank-end : (j : ℕ) → N ≤ j → blankFrom j ≡ true
   unfolding numbersFrom
