@@ -4,7 +4,7 @@ use Prim.Native.Nat.{ℕ}
 use native.Mathlib.Omega.{arith}
 use denote.Ref.{now}
 use Rattle.board.proofs.Images.{sized-of}
-use Rattle.store.specs.Seen.{erasesOf}
+use Rattle.looks.specs.Seen.{erasesOf}
 use Rattle.store.specs.Mounts.{orderBy}
 use Rattle.store.proofs.Outcomes.{order-is}
 use borrow.Author.Needs.{needs}
