@@ -1,7 +1,7 @@
 -- The blocks of an allowed image, looked at from the last down to k.
-use mathlib.Core.Path.{_≡_, refl, sym, ap, subst, _∙_}
-use mathlib.Core.List.{List, [], _∷_}
-use mathlib.Core.Bool.{Bool, true, cond}
+use mathlib.Core.Path.{_≡_, refl, subst}
+use mathlib.Core.List.{List}
+use mathlib.Core.Bool.{true, cond}
 use Prim.Native.Nat.{ℕ, suc, _-_, _≤_, _<_}
 use native.Mathlib.Omega.{arith}
 use native.Mathlib.Nat.{sub-zero}
@@ -15,7 +15,6 @@ use Rattle.survey.specs.declared.Survey.{Survey}
 use Rattle.survey.specs.Survey.{surveyOf, placesIn, stateOf}
 use Rattle.survey.proofs.Surveying.{half-fits}
 use Rattle.board.specs.Record.{allowed}
-use Rattle.board.specs.Mount.{Found}
 use Rattle.board.proofs.Images.{sized-of}
 use Rattle.board.proofs.Found.{foundFrom}
 use Rattle.looks.specs.declared.looks.Seen.{Seen}

@@ -1,23 +1,23 @@
 -- One look at the blocks, the last first: what it keeps is what the definitions say of them.
-use mathlib.Core.Path.{_≡_, refl, sym, ap, ap₂, subst, _∙_}
+use mathlib.Core.Path.{_≡_, refl, sym, _∙_}
 use mathlib.Core.List.{List, [], _∷_}
-use mathlib.Core.Bool.{Bool, true, false, _&&_, _||_, cond}
-use Prim.Native.Nat.{ℕ, zero, suc, _+_, _-_, _≤_, _<_}
+use mathlib.Core.Bool.{Bool, true, false, _||_, cond}
+use Prim.Native.Nat.{ℕ, zero, suc, _-_, _≤_, _<_}
 use native.Mathlib.Omega.{arith}
 use lib.Dec.{eqb, ltb, leb}
 use lib.ListN.{length, getD, drop, set, replicate, length-set, drop-of-length-le}
 use lib.Seq.{drop-cons, getD-set-same, getD-set-other}
 use borrow.Author.Tests.{eq-eqb, ne-eqb, lt-ltb, le-ltb, le-leb, lt-leb, ltb-true, ltb-false}
 use Rattle.flash.specs.Flash.{maxBlocks, numbersFrom}
-use Rattle.flash.proofs.Cases.{on-test, on-order}
+use Rattle.flash.proofs.Cases.{on-test}
 use Rattle.frame.specs.Frame.{Frame}
 use Rattle.frame.specs.Reader.{Tail}
 use Rattle.journal.specs.Block.{BlockState, blank, inProgress, valid, foreign, timeIn}
 use Rattle.journal.specs.Index.{placesOf}
 use Rattle.survey.specs.Survey.{kindIn, surveyOf, placesIn}
 use Rattle.wire.specs.declared.Refusal.{Refusal}
-use Rattle.board.specs.Mount.{Found, isBlank, Store, storeIn, stores, sameTime, equalTimes, newest, tied, wipeList, endOf, needsTransfer}
-use Rattle.board.specs.Mount.{orForeign, noneValid, lowestTied}
+use Rattle.board.specs.Mount.{Found, isBlank, Store, storeIn, stores, sameTime, newest, tied, wipeList, endOf, needsTransfer}
+use Rattle.board.specs.Mount.{orForeign, noneValid}
 use Rattle.looks.specs.declared.looks.Newest.{Newest}
 use Rattle.looks.specs.declared.looks.Tie.{Tie}
 use Rattle.looks.specs.declared.looks.Seen.{Seen}

@@ -9,7 +9,6 @@ use Rattle.flash.specs.Flash.{maxBlocks, blockNumbers}
 use Rattle.survey.specs.declared.Survey.{Survey}
 use Rattle.journal.specs.Index.{placesOf}
 use Rattle.wire.specs.declared.Refusal.the-variants as refusal
-use Rattle.board.specs.Record.{noWipes}
 use Rattle.board.specs.Mount.{allFound, Store, stores, equalTimes, lowestTied, newest, tied, wipeList, wipeArray, endOf, needsTransfer, noneValid}
 use Rattle.looks.specs.declared.lists.Erases.{Erases}
 use Rattle.looks.specs.declared.looks.Newest.{Newest}

@@ -1,14 +1,12 @@
 // One look at each block of an image, the last first: what mount and format have to know of them.
 ghost use mathlib.Core.Path.{_≡_};
-ghost use mathlib.Core.Bool.{true, _&&_, _||_, cond};
+ghost use mathlib.Core.Bool.{true, _&&_, cond};
 ghost use Prim.Native.Nat.{_<_};
-ghost use lib.Dec.{ltb, leb};
 ghost use lib.ListN.{length, drop};
 ghost use Rattle.flash.specs.Flash.{maxBlocks};
 ghost use Rattle.board.specs.Record.{allowed};
-ghost use Rattle.board.specs.Mount.{allFound, stores};
 ghost use Rattle.looks.specs.Surveys.{isBlankKind, orForeignKind, needsIn};
-ghost use Rattle.looks.specs.Seen.{hasTime, takesOver, newer, tying, seeing, noneSeen, placesFor, Sees};
+ghost use Rattle.looks.specs.Seen.{hasTime, takesOver, newer, tying, seeing, noneSeen, Sees};
 use crate::surveys;
 use flash::MAX_BLOCKS;
 use job::records;

@@ -1,10 +1,10 @@
 -- What mount and format give back, put together from what their parts give.
 use mathlib.Core.Path.{_≡_, refl, sym, ap, subst, _∙_}
-use mathlib.Core.List.{List, [], _∷_, _++_, append-nil}
-use mathlib.Core.Bool.{Bool, true, false, _&&_, not, cond}
+use mathlib.Core.List.{List, [], _∷_, append-nil}
+use mathlib.Core.Bool.{Bool, true, false, _&&_, cond}
 use Prim.Native.Nat.{ℕ, _-_, _≤_, _<_}
 use native.Mathlib.Omega.{arith}
-use lib.Dec.{eqb, ltb}
+use lib.Dec.{eqb}
 use lib.ListN.{length}
 use borrow.Author.Tests.{lt-ltb, le-ltb}
 use Rattle.flash.specs.Flash.{blockNumbers, sizeOf}
@@ -35,7 +35,7 @@ use Rattle.looks.specs.declared.looks.Tie.{Tie}
 use Rattle.looks.specs.declared.looks.Seen.{Seen}
 use Rattle.store.specs.Calls.{made, Gives, refused}
 use Rattle.looks.specs.Seen.{erasesOf, othersIn, newestIn, tieIn, placesFor, Sees}
-use Rattle.store.specs.Mounts.{mountPlan, mountIn, mountSeen, lastErased, endsWith, orderBy}
+use Rattle.store.specs.Mounts.{mountPlan, mountIn, mountSeen, lastErased, orderBy}
 use Rattle.store.proofs.Ordering.{but-none}
 use Rattle.looks.proofs.Looked.{stateAt}
 

@@ -1,7 +1,6 @@
 -- One look, and the order that it tells.
 use mathlib.Core.Path.{sym, ap, _∙_}
 use Prim.Native.Nat.{ℕ}
-use native.Mathlib.Omega.{arith}
 use denote.Ref.{now}
 use Rattle.board.proofs.Images.{sized-of}
 use Rattle.looks.specs.Seen.{erasesOf}
