@@ -36,9 +36,9 @@ use Rattle.queue.specs.declared.requests.Gate.the-variants as gate
 use Rattle.queue.specs.declared.requests.Ask.{Ask}
 use Rattle.queue.specs.declared.requests.Ask.the-variants as ask
 use Rattle.queue.specs.Calls.{openIf, gateIn, gateOf, asRecorded, askIf, askOf}
-use Rattle.store.proofs.Images.{block-fits}
+use Rattle.looks.proofs.Images.{block-fits}
 use Rattle.queue.proofs.Images.{same-inside}
-use Rattle.store.proofs.Transfers.{cut-not}
+use Rattle.looks.proofs.Transfers.{cut-not}
 use Rattle.serving.proofs.Rooms.{claimed-is, open-is}
 
 -- ---- the gate

@@ -47,7 +47,7 @@ use Rattle.job.specs.Code.{outcome}
 use Rattle.queue.specs.declared.reads.Located.{Located}
 use Rattle.queue.specs.Calls.{askOf, stretchAt, foundFor, AsksRead, answerTo, nothing, Finds}
 use Rattle.serving.specs.Calls.{refused, keptOr, Asks, serveIn, replyIn, frameIn}
-use Rattle.store.proofs.Images.{block-length}
+use Rattle.looks.proofs.Images.{block-length}
 use Rattle.queue.proofs.Images.{same-count, same-inside}
 use Rattle.queue.proofs.Asking.{Passed, Served, unheard, heard}
 use Rattle.serving.proofs.Answering.{journal, serve-is, reply-is}

@@ -14,7 +14,7 @@ use Rattle.flash.proofs.Cases.{and-left, and-right}
 use Rattle.board.specs.declared.Record.{Record}
 use Rattle.board.specs.Step.{sameShape}
 use Rattle.board.specs.Queue.{othersBlank, sameImage}
-use Rattle.store.proofs.Listing.{numbers-next}
+use Rattle.looks.proofs.Listing.{numbers-next}
 
 -- ---- the other blocks, one by one
 

@@ -34,7 +34,7 @@ use Rattle.queue.specs.declared.requests.Gate.{Gate}
 use Rattle.queue.specs.declared.requests.Gate.the-variants as gate
 use Rattle.queue.specs.declared.requests.Ask.{Ask}
 use Rattle.queue.specs.declared.requests.Ask.the-variants as ask
-use Rattle.store.specs.Calls.{isValid}
+use Rattle.looks.specs.Surveys.{isValid}
 use Rattle.serving.specs.Calls.{openIn, claimedIn, Asks}
 
 -- ---- before a request is served

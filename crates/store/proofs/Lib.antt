@@ -1,6 +1,2 @@
-pub mod Images
-pub mod Transfers
-pub mod Listing
-pub mod Looking
-pub mod Looked
+pub mod Ordering
 pub mod Outcomes

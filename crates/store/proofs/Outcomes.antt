@@ -2,12 +2,12 @@
 use mathlib.Core.Path.{_≡_, refl, sym, ap, subst, _∙_}
 use mathlib.Core.List.{List, [], _∷_, append-nil}
 use mathlib.Core.Bool.{Bool, true, false, _&&_, cond}
-use Prim.Native.Nat.{ℕ, _-_, _<_}
+use Prim.Native.Nat.{ℕ, _-_, _≤_, _<_}
 use native.Mathlib.Omega.{arith}
 use lib.Dec.{eqb}
 use lib.ListN.{length}
 use borrow.Author.Tests.{lt-ltb, le-ltb}
-use Rattle.flash.specs.Flash.{blockNumbers}
+use Rattle.flash.specs.Flash.{blockNumbers, sizeOf}
 use Rattle.flash.proofs.Cases.{on-test}
 use Rattle.journal.specs.Block.{lastTime}
 use Rattle.journal.specs.Index.{placesOf}
@@ -22,21 +22,27 @@ use Rattle.board.specs.Record.{allowed, noPlaces, noMarks, noFrame, unmounted, 
 use Rattle.board.specs.Step.{begin}
 use Rattle.board.specs.Mount.{nextBlock, Found, allFound, Store, stores, equalTimes, newest, tied, wipeList, needsTransfer, noneValid, lowestTied}
 use Rattle.board.specs.Mount.{tiedTimes, mountAt, mountStores, mountOn, numbersBut, orderFor, formatOrder, formatOn}
+use Rattle.board.proofs.Images.{Sized, sized-of, sized-block}
 use Rattle.board.proofs.Found.{Among, newest-among, among-holds}
 use Rattle.board.proofs.Outcomes.{mount-stores, format-begins}
 use Rattle.job.specs.declared.Outcome.{Outcome}
 use Rattle.job.specs.declared.records.Stepped.{Stepped}
 use Rattle.job.specs.Code.{assemble, leaves, leavesIf, begins}
 use Rattle.job.proofs.Entering.{when-true, when-false, wipe-leaves}
-use Rattle.store.specs.declared.lists.Erases.{Erases}
-use Rattle.store.specs.declared.looks.Newest.{Newest}
-use Rattle.store.specs.declared.looks.Tie.{Tie}
-use Rattle.store.specs.declared.looks.Seen.{Seen}
+use Rattle.looks.specs.declared.lists.Erases.{Erases}
+use Rattle.looks.specs.declared.looks.Newest.{Newest}
+use Rattle.looks.specs.declared.looks.Tie.{Tie}
+use Rattle.looks.specs.declared.looks.Seen.{Seen}
 use Rattle.store.specs.Calls.{made, Gives, refused}
-use Rattle.store.specs.Seen.{erasesOf, othersIn, newestIn, tieIn, placesFor, Sees}
+use Rattle.looks.specs.Seen.{erasesOf, othersIn, newestIn, tieIn, placesFor, Sees}
 use Rattle.store.specs.Mounts.{mountPlan, mountIn, mountSeen, lastErased, orderBy}
-use Rattle.store.proofs.Listing.{but-none}
-use Rattle.store.proofs.Looked.{stateAt}
+use Rattle.store.proofs.Ordering.{but-none}
+use Rattle.looks.proofs.Looked.{stateAt}
+
+-- its length less one fits the record
+pub last-fits : (N : ℕ) (img : List ℕ) → allowed N (length img) ≡ true → (1 ≤ length img) × (length img ≤ 65536)
+last-fits N img a =
+    let z : Sized N (sizeOf N img) img = sized-of N img a in omega (arith, z .low, z .short, sized-block 0 z (omega (arith, z .few)))
 
 -- the record put together
 pub made-is : {p : List ℕ} {s : Stepped} {o : Out} {x : Outcome} → x ≡ made p s → Gives p s o → (x .answer ≡ o .answer) × (x .board ≡ o .board)

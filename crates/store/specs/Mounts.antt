@@ -11,11 +11,11 @@ use Rattle.board.specs.Record.{noMarks, rest, starting}
 use Rattle.board.specs.Mount.{nextBlock, newTime, tiedTimes, numbersBut}
 use Rattle.job.specs.declared.records.Stepped.{Stepped}
 use Rattle.job.specs.Code.{begins}
-use Rattle.store.specs.declared.lists.Erases.{Erases}
-use Rattle.store.specs.declared.looks.Newest.{Newest}
-use Rattle.store.specs.declared.looks.Seen.{Seen}
+use Rattle.looks.specs.declared.lists.Erases.{Erases}
+use Rattle.looks.specs.declared.looks.Newest.{Newest}
+use Rattle.looks.specs.declared.looks.Seen.{Seen}
 use Rattle.store.specs.Calls.{refused}
-use Rattle.store.specs.Seen.{erasesOf, othersIn}
+use Rattle.looks.specs.Seen.{erasesOf, othersIn}
 
 -- ---- mount
 

@@ -5,8 +5,7 @@ use denote.Ref.{now}
 use borrow.Author.Tests.{not-true, not-false}
 use Rattle.wire.specs.declared.Refusal.the-variants as refusal
 use Rattle.board.proofs.Outcomes.{format-length}
-use Rattle.store.proofs.Images.{last-fits}
-use Rattle.store.proofs.Outcomes.{refusal-given, format-is}
+use Rattle.store.proofs.Outcomes.{last-fits, refusal-given, format-is}
 use borrow.Author.Needs.{needs}
 use Rattle.store.proofs.mounts.format_core.Statement.{statement}
 use Rattle.store.proofs.mounts.format_core.Tie as tie

@@ -6,9 +6,9 @@ use lib.Dec.{ltb}
 use lib.ListN.{replicate}
 use borrow.Author.Tests.{ltb-true}
 use Rattle.flash.specs.Flash.{maxBlocks}
-use Rattle.store.specs.declared.lists.Erases.{Erases}
-use Rattle.store.specs.Seen.{noted}
-use Rattle.store.proofs.Listing.{others-less, format-listed}
+use Rattle.looks.specs.declared.lists.Erases.{Erases}
+use Rattle.looks.specs.Seen.{noted}
+use Rattle.store.proofs.Ordering.{others-less, format-listed}
 use borrow.Author.Needs.{needs}
 use Rattle.store.proofs.mounts.format_list.Statement.{statement}
 use Rattle.store.proofs.mounts.format_list.Tie as tie

@@ -3,7 +3,7 @@ use mathlib.Core.Path.{sym, ap, _∙_}
 use Prim.Native.Nat.{ℕ}
 use denote.Ref.{now}
 use Rattle.board.proofs.Images.{sized-of}
-use Rattle.store.specs.Seen.{erasesOf}
+use Rattle.looks.specs.Seen.{erasesOf}
 use Rattle.store.specs.Mounts.{orderBy}
 use Rattle.store.proofs.Outcomes.{order-is}
 use borrow.Author.Needs.{needs}

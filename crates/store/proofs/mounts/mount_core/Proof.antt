@@ -6,8 +6,7 @@ use borrow.Author.Tests.{not-true, not-false}
 use Rattle.wire.specs.declared.Refusal.the-variants as refusal
 use Rattle.board.proofs.Images.{sized-of}
 use Rattle.board.proofs.Outcomes.{mount-length}
-use Rattle.store.proofs.Images.{last-fits}
-use Rattle.store.proofs.Outcomes.{refusal-given, mount-is}
+use Rattle.store.proofs.Outcomes.{last-fits, refusal-given, mount-is}
 use borrow.Author.Needs.{needs}
 use Rattle.store.proofs.mounts.mount_core.Statement.{statement}
 use Rattle.store.proofs.mounts.mount_core.Tie as tie
