@@ -8,6 +8,7 @@ ghost use Rattle.board.specs.Queue.{requestOn};
 ghost use Rattle.lent.specs.Layout.{recordSize, recordIn};
 ghost use Rattle.edge.specs.Edge.{edgeMount, edgeFormat, edgeRequest, ReadsBack};
 ghost use Rattle.edge.specs.Edge.{place, edgeRead, broken, edgeFault};
+use edge::as_read;
 use frame::Host;
 use job::records;
 use lent::RECORD_SIZE;
@@ -133,14 +134,7 @@ pub extern "C" fn grommetide_read(
     }
     let phase = unpack::phase_of(board);
     let rest = unpack::rest_of(board);
-    let found = queue::find(
-        image,
-        blocks,
-        phase,
-        rest,
-        Host(host),
-        edge::as_read(message),
-    );
+    let found = queue::find(image, blocks, phase, rest, Host(host), as_read(message));
     *at = found.at;
     *len = found.size;
     let answer = found.answer;
