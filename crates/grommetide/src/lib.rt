@@ -6,8 +6,9 @@ ghost use mathlib.Core.Path.{_≡_};
 ghost use Rattle.board.specs.Mount.{mountOn, formatOn};
 ghost use Rattle.board.specs.Queue.{requestOn};
 ghost use Rattle.lent.specs.Layout.{recordSize, recordIn};
-ghost use Rattle.grommetide.specs.Edge.{edgeMount, edgeFormat, edgeRequest, ReadsBack};
-ghost use Rattle.grommetide.specs.Edge.{place, isRead, asRead, edgeRead, broken, edgeFault};
+ghost use Rattle.edge.specs.Edge.{edgeMount, edgeFormat, edgeRequest, ReadsBack};
+ghost use Rattle.edge.specs.Edge.{place, edgeRead, broken, edgeFault};
+use edge::as_read;
 use frame::Host;
 use job::records;
 use lent::RECORD_SIZE;
@@ -15,10 +16,6 @@ pub use next::grommetide_next;
 pub use steps::grommetide_made;
 pub use steps::grommetide_run;
 pub use steps::grommetide_step;
-use wire::Parsed;
-use wire::Request;
-
-const DONE: u8 = 0;
 
 // The answer to a record buffer of another size.
 const WRONG_RECORD: u8 = 254;
@@ -56,8 +53,8 @@ pub extern "C" fn grommetide_fault(
     ensures { λ r. ⌜ broken r (now (block .exit)) (now (field .exit)) (now (place .exit)) ≡ edgeFault blocks (now (image .entry)) ⌝ }
 {
     let mut places = records::no_places();
-    let s = store::mount_core(image, blocks, &mut places);
-    let answer = s.answer;
+    let mounted = store::mount_core(image, blocks, &mut places);
+    let answer = mounted.answer;
     let spot = wire::spot_of(answer);
     *block = spot.half as usize;
     *field = spot.field;
@@ -117,32 +114,6 @@ pub extern "C" fn grommetide_request(
         &mut frame,
     );
     pack::begun(s, &places, &frame, board)
-}
-
-fn is_read(parsed: Parsed) -> bool
-    ensures { λ r. ⌜ r ≡ isRead parsed ⌝ }
-{
-    match parsed {
-        Parsed::Malformed => false,
-        Parsed::Is(ask) => match ask {
-            Request::Put(_) => false,
-            Request::Delete(_) => false,
-            Request::Commit => false,
-            Request::Abort => false,
-            Request::Read(_) => true,
-            Request::Log(_) => false,
-        },
-    }
-}
-
-// A message that is no well-formed read counts as an empty one.
-fn as_read(message: &[u8]) -> &[u8]
-    ensures { λ r. ⌜ now r ≡ asRead (now (message .entry)) ⌝ }
-{
-    if is_read(wire::parse(message)) {
-        return message;
-    }
-    &message[..0]
 }
 
 #[no_mangle]

@@ -2,8 +2,8 @@
 use denote.Ref.{now}
 use borrow.Author.Tests.{ne-eqb}
 use Rattle.board.specs.Mount.{formatOn}
-use Rattle.grommetide.specs.Edge.{edgeFormat}
-use Rattle.grommetide.proofs.Begun.{replaced}
+use Rattle.edge.specs.Edge.{edgeFormat}
+use Rattle.edge.proofs.Begun.{replaced}
 use borrow.Author.Needs.{needs}
 use Rattle.grommetide.proofs.grommetide_format.Statement.{statement}
 use Rattle.grommetide.proofs.grommetide_format.Tie as tie

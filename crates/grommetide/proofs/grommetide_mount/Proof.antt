@@ -2,8 +2,8 @@
 use denote.Ref.{now}
 use borrow.Author.Tests.{ne-eqb}
 use Rattle.board.specs.Mount.{mountOn}
-use Rattle.grommetide.specs.Edge.{edgeMount}
-use Rattle.grommetide.proofs.Begun.{replaced}
+use Rattle.edge.specs.Edge.{edgeMount}
+use Rattle.edge.proofs.Begun.{replaced}
 use borrow.Author.Needs.{needs}
 use Rattle.grommetide.proofs.grommetide_mount.Statement.{statement}
 use Rattle.grommetide.proofs.grommetide_mount.Tie as tie

@@ -3,8 +3,8 @@ use denote.Ref.{now}
 use borrow.Author.Tests.{eq-eqb, ne-eqb}
 use Rattle.board.specs.Queue.{requestOn}
 use Rattle.lent.specs.Layout.{recordIn}
-use Rattle.grommetide.specs.Edge.{edgeRequest}
-use Rattle.grommetide.proofs.Begun.{begun-is, done-rests}
+use Rattle.edge.specs.Edge.{edgeRequest}
+use Rattle.edge.proofs.Begun.{begun-is, done-rests}
 use borrow.Author.Needs.{needs}
 use Rattle.grommetide.proofs.grommetide_request.Statement.{statement}
 use Rattle.grommetide.proofs.grommetide_request.Tie as tie

@@ -4,9 +4,9 @@ use denote.Ref.{now}
 use borrow.Author.Tests.{eq-eqb, ne-eqb}
 use Rattle.board.specs.Drive.{madeOn}
 use Rattle.lent.specs.Layout.{recordIn}
-use Rattle.grommetide.specs.Edge.{edgeMade}
-use Rattle.grommetide.proofs.Kept.{made-keeps}
-use Rattle.grommetide.proofs.Driven.{driven}
+use Rattle.edge.specs.Edge.{edgeMade}
+use Rattle.edge.proofs.Kept.{made-keeps}
+use Rattle.edge.proofs.Driven.{driven}
 use borrow.Author.Needs.{needs}
 use Rattle.grommetide.proofs.steps.grommetide_made.Statement.{statement}
 use Rattle.grommetide.proofs.steps.grommetide_made.Tie as tie

@@ -2,8 +2,8 @@
 use mathlib.Core.Path.{refl}
 use denote.Ref.{now}
 use borrow.Author.Tests.{eq-eqb, ne-eqb}
-use Rattle.grommetide.specs.Edge.{edgeRun}
-use Rattle.grommetide.proofs.Driving.{ran-none, ran-some}
+use Rattle.edge.specs.Edge.{edgeRun}
+use Rattle.edge.proofs.Driving.{ran-none, ran-some}
 use borrow.Author.Needs.{needs}
 use Rattle.grommetide.proofs.steps.grommetide_run.Statement.{statement}
 use Rattle.grommetide.proofs.steps.grommetide_run.Tie as tie

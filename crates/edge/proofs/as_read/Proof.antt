@@ -1,9 +1,9 @@
 -- A read's message, or none.
 use mathlib.Core.Path.{sym, ap, _∙_}
 use borrow.Author.Needs.{needs}
-use Rattle.grommetide.specs.Edge.{isRead}
-use Rattle.grommetide.proofs.as_read.Statement.{statement}
-use Rattle.grommetide.proofs.as_read.Tie as tie
+use Rattle.edge.specs.Edge.{isRead}
+use Rattle.edge.proofs.as_read.Statement.{statement}
+use Rattle.edge.proofs.as_read.Tie as tie
 
 pub as-read-spec : {M : Type 1} → statement M
 as-read-spec =

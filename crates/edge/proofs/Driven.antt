@@ -20,10 +20,10 @@ use Rattle.job.specs.Code.{assemble, LeadsTo, reachedIf, answeredIf, answered, 
 use Rattle.lent.specs.Layout.{recordSize, recordIn, recordBytes, recordInto}
 use Rattle.pack.specs.Code.{loadedIn, leftIn, Holds, changes}
 use Rattle.midframe.specs.Code.{Made}
-use Rattle.grommetide.specs.Edge.{edgeStep, written}
-use Rattle.grommetide.specs.Code.{over, reachedIn, Went, DoesStep}
-use Rattle.grommetide.proofs.Buffers.{filled}
-use Rattle.grommetide.proofs.Kept.{Keeps}
+use Rattle.edge.specs.Edge.{edgeStep, written}
+use Rattle.edge.specs.Code.{over, reachedIn, Went, DoesStep}
+use Rattle.edge.proofs.Buffers.{filled}
+use Rattle.edge.proofs.Kept.{Keeps}
 
 -- a frame loaded from the buffer's own arrays
 pub frame-loaded : (N : ℕ) (img : List ℕ) (n : Numbers) (b after places unit laid : List ℕ) (s : Stepped) → places ≡ recordIn b .places

@@ -1,8 +1,8 @@
 -- Each kind of step in numbers.
 use mathlib.Core.Path.{_∙_}
 use borrow.Author.Needs.{needs}
-use Rattle.grommetide.proofs.next.tell.Statement.{statement}
-use Rattle.grommetide.proofs.next.tell.Tie as tie
+use Rattle.edge.proofs.next.tell.Statement.{statement}
+use Rattle.edge.proofs.next.tell.Tie as tie
 
 pub tell-spec : {M : Type 1} → statement M
 tell-spec =

@@ -3,12 +3,12 @@ use denote.Ref.{now}
 use borrow.Author.Tests.{eq-eqb}
 use Rattle.board.specs.Step.{stepOn}
 use Rattle.lent.specs.Layout.{recordIn}
-use Rattle.grommetide.specs.Edge.{edgeStep}
-use Rattle.grommetide.proofs.Kept.{step-keeps}
-use Rattle.grommetide.proofs.Driven.{driven}
+use Rattle.edge.specs.Edge.{edgeStep}
+use Rattle.edge.proofs.Kept.{step-keeps}
+use Rattle.edge.proofs.Driven.{driven}
 use borrow.Author.Needs.{needs}
-use Rattle.grommetide.proofs.steps.step_numbers.Statement.{statement}
-use Rattle.grommetide.proofs.steps.step_numbers.Tie as tie
+use Rattle.edge.proofs.steps.step_numbers.Statement.{statement}
+use Rattle.edge.proofs.steps.step_numbers.Tie as tie
 
 pub step-numbers-spec : {M : Type 1} → statement M
 unfolding edgeStep

@@ -1,10 +1,10 @@
 -- A frame loaded, nothing written, or the numbers written.
 use mathlib.Core.Path.{refl, sym, _∙_}
 use denote.Ref.{now}
-use Rattle.grommetide.proofs.Driven.{went-loading, went-nowhere, went-on}
+use Rattle.edge.proofs.Driven.{went-loading, went-nowhere, went-on}
 use borrow.Author.Needs.{needs}
-use Rattle.grommetide.proofs.steps.go_on.Statement.{statement}
-use Rattle.grommetide.proofs.steps.go_on.Tie as tie
+use Rattle.edge.proofs.steps.go_on.Statement.{statement}
+use Rattle.edge.proofs.steps.go_on.Tie as tie
 
 pub go-on-spec : {M : Type 1} → statement M
 go-on-spec =

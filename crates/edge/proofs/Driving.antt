@@ -27,9 +27,9 @@ use Rattle.drive.specs.Code.{Runs}
 use Rattle.drive.proofs.Running.{run-on, run-over, run-done, run-refused}
 use Rattle.lent.specs.Layout.{recordSize, recordIn, recordBytes}
 use Rattle.pack.specs.Code.{loadedIn, Holds}
-use Rattle.grommetide.specs.Edge.{Edge, edge, written, holdsRecord, edgeStep, edgeMade, tells, told, flashedBy, edgeNext}
-use Rattle.grommetide.specs.Edge.{run, ran, edgeRun, NoStepStays, EdgeNextThenMade}
-use Rattle.grommetide.proofs.Buffers.{filled}
+use Rattle.edge.specs.Edge.{Edge, edge, written, holdsRecord, edgeStep, edgeMade, tells, told, flashedBy, edgeNext}
+use Rattle.edge.specs.Edge.{run, ran, edgeRun, NoStepStays, EdgeNextThenMade}
+use Rattle.edge.proofs.Buffers.{filled}
 
 -- ---- next, then made
 

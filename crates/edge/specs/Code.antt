@@ -13,7 +13,7 @@ use Rattle.job.specs.declared.moves.Moved.{Moved}
 use Rattle.job.specs.Code.{assemble, reached, answered}
 use Rattle.lent.specs.Layout.{recordSize, recordIn, recordInto}
 use Rattle.pack.specs.Code.{changes}
-use Rattle.grommetide.specs.Edge.{edgeStep, ReadsBack}
+use Rattle.edge.specs.Edge.{edgeStep, ReadsBack}
 
 -- numbers over a buffer's arrays
 abbrev pub over : Numbers → List ℕ → Record

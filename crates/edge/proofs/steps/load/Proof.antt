@@ -1,9 +1,9 @@
 -- The next frame, read by the places in the buffer.
 use denote.Ref.{now}
-use Rattle.grommetide.proofs.Driven.{frame-loaded}
+use Rattle.edge.proofs.Driven.{frame-loaded}
 use borrow.Author.Needs.{needs}
-use Rattle.grommetide.proofs.steps.load.Statement.{statement}
-use Rattle.grommetide.proofs.steps.load.Tie as tie
+use Rattle.edge.proofs.steps.load.Statement.{statement}
+use Rattle.edge.proofs.steps.load.Tie as tie
 
 pub load-spec : {M : Type 1} → statement M
 load-spec =

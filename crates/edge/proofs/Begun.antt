@@ -1,6 +1,6 @@
 -- What mount, format, requests and reads leave in the buffers that they are lent.
 use mathlib.Core.Path.{_≡_, refl, sym, ap, _∙_}
-use mathlib.Core.List.{List, []}
+use mathlib.Core.List.{List}
 use mathlib.Core.Bool.{true, false}
 use Prim.Native.Nat.{ℕ}
 use native.Mathlib.Omega.{arith}
@@ -33,14 +33,14 @@ use Rattle.store.specs.Calls.{Gives}
 use Rattle.serving.specs.Calls.{keptOr, Asks}
 use Rattle.queue.specs.Calls.{AsksRead}
 use Rattle.pack.specs.Code.{ReadsAs, intoIf, ReadsAsIf}
-use Rattle.grommetide.specs.Edge.{Edge, guarded, written, isRead, asRead, ReadsBack}
-use Rattle.grommetide.proofs.Buffers.{filled}
+use Rattle.edge.specs.Edge.{Edge, anew, written, isRead, asRead, ReadsBack}
+use Rattle.edge.proofs.Buffers.{filled}
 
 -- ---- mount and format write the record that they give back
 
 abbrev pub Replaces : List ℕ → List ℕ → List ℕ → ℕ → Out → Type 0
 Replaces img b after n o =
-    let e : Edge = guarded img b [] o (recordBytes (o .board)) in
+    let e : Edge = anew img b o in
     ((n ≡ e .answer) × (after ≡ e .board)) × ReadsBack b after (o .board)
 
 pub replaced : (img b after p f : List ℕ) (n : ℕ) (s : Stepped) (o : Out) → length b ≡ recordSize → Gives p s o → f ≡ noFrame

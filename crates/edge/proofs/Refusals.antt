@@ -20,9 +20,9 @@ use Rattle.board.specs.Queue.{requestOn}
 use Rattle.board.specs.Exec.{request, step}
 use Rattle.board.proofs.Refusals.{refusals-untouched}
 use Rattle.lent.specs.Layout.{recordSize, recordIn}
-use Rattle.grommetide.proofs.Kept.{made-cases}
-use Rattle.grommetide.specs.Edge.{holdsRecord, guarded, written, edgeRequest, edgeStep, edgeMade, asRead, edgeRead}
-use Rattle.grommetide.specs.Edge.{Refuses, Stays, RefusedStays, RefusedReadEmpty}
+use Rattle.edge.proofs.Kept.{made-cases}
+use Rattle.edge.specs.Edge.{holdsRecord, guarded, written, edgeRequest, edgeStep, edgeMade, asRead, edgeRead}
+use Rattle.edge.specs.Edge.{Refuses, Stays, RefusedStays, RefusedReadEmpty}
 
 -- an answer that refuses is a refusal's
 is-refused : (a : Answer) → Refuses (edgeNumber a) → (n : Refusal) × (a ≡ Refused n)

@@ -63,11 +63,14 @@ edgeMade N img b = let o : Out = madeOn N img (recordIn b) in guarded img b [] o
 
 -- ---- mount and format write the record, whatever stood there
 
+abbrev pub anew : List ℕ → List ℕ → Out → Edge
+anew img b o = guarded img b [] o (recordBytes (o .board))
+
 unfoldable pub edgeMount : ℕ → List ℕ → List ℕ → Edge
-edgeMount N img b = guarded img b [] (mountOn N img) (recordBytes (mountOn N img .board))
+edgeMount N img b = anew img b (mountOn N img)
 
 unfoldable pub edgeFormat : ℕ → List ℕ → List ℕ → Edge
-edgeFormat N img b = guarded img b [] (formatOn N img) (recordBytes (formatOn N img .board))
+edgeFormat N img b = anew img b (formatOn N img)
 
 -- ---- a read hands out numbers
 
