@@ -210,7 +210,8 @@ CallKeeps N s img r b u c =
     × Inv N s (exec N img r c .image) (exec N img r c .board) (enterCall b c (exec N img r c .answer)) (track u b c (exec N img r c .answer))
 
 -- a mount or a format, whatever the record
-pub begin-keeps : {N : ℕ} {s : ℕ} {img : List ℕ} (b : Book) {u : Bool} → Bare N s img (b .objects) u → (r : Record) (c : Call) → Begins c → CallKeeps N s img r b u c
+pub begin-keeps : {N : ℕ} {s : ℕ} {img : List ℕ} (b : Book) {u : Bool} → Bare N s img (b .objects) u → (r : Record) (c : Call) → Begins c
+    → CallKeeps N s img r b u c
 begin-keeps b v r (request h m reply) n = absurd n
 begin-keeps b v r step n = absurd n
 begin-keeps b v r mount n = let y = mount-call b v in (y .1, y .0)

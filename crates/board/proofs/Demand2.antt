@@ -155,7 +155,8 @@ module _ {N : ℕ} {s : ℕ} {img : List ℕ} (z : Sized N s img) (by : Bytes im
 abbrev Kept : ℕ → ℕ → Out → Type 0
 Kept N s o = Steady N s (o .image) (o .board)
 
-pub request-kept : {N : ℕ} {s : ℕ} {img : List ℕ} {r : Record} → Steady N s img r → (h : Host) (m reply : List ℕ) → Bytes m → Kept N s (requestOn N img r reply h m)
+pub request-kept : {N : ℕ} {s : ℕ} {img : List ℕ} {r : Record} → Steady N s img r → (h : Host) (m reply : List ℕ) → Bytes m
+    → Kept N s (requestOn N img r reply h m)
 request-kept {N} {s} {img} {r} v h m reply bm = go (request-met N img r reply h m)
   where
     go : Met N img r reply h m (requestOn N img r reply h m) → Kept N s (requestOn N img r reply h m)
@@ -220,7 +221,8 @@ same-image : {N : ℕ} {s : ℕ} {img : List ℕ} (o : Out) → o .image ≡ img
 same-image {N} {s} o e v = subst (λ (l : List ℕ). Steady N s l (o .board)) (sym e) v
 
 -- a mount or a format
-pub begun-kept : {N : ℕ} {s : ℕ} {img : List ℕ} (r : Record) → Sized N s img → Bytes img → (c : Call) → Restarting c → (exec N img r c .image ≡ img) × Kept N s (exec N img r c)
+pub begun-kept : {N : ℕ} {s : ℕ} {img : List ℕ} (r : Record) → Sized N s img → Bytes img → (c : Call) → Restarting c
+    → (exec N img r c .image ≡ img) × Kept N s (exec N img r c)
 begun-kept r z by (request h m reply) n = absurd n
 begun-kept r z by step n = absurd n
 begun-kept {N} {s} {img} r z by mount n =
@@ -237,7 +239,8 @@ cut-sized {N} {s} {img} k new v c =
     subst (λ (n : ℕ). Sized N s (withBlock n k new img)) (sym (size-of z))
     (sized-as (withBlock s k new img) (length-with s k new img (sized-block k z (c .there)) long) z)
 
-all-land : {N : ℕ} {s : ℕ} {img : List ℕ} {r : Record} (b : Book) → Steady N s img r → (es : List Event) → Happens N (exec N) img r b es → AllLand N (exec N) img r es
+all-land : {N : ℕ} {s : ℕ} {img : List ℕ} {r : Record} (b : Book) → Steady N s img r → (es : List Event) → Happens N (exec N) img r b es
+    → AllLand N (exec N) img r es
 all-land b v [] h = tt
 all-land {N} {s} {img} {r} b v (call (request g m reply) ∷ es) (bm, h) =
     let c : Call = request g m reply in

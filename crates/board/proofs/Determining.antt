@@ -134,7 +134,8 @@ module _ {N : ℕ} {m : Machine} (p : Calls N m) (img : List ℕ) (by : Bytes im
 
       found : (ok : allowed N (length img) ≡ true) → (((x : Held) → Fresh N img r x → ⊥) → ⊥) → (((q : Request) → Means msg q → ⊥) → ⊥)
           → (o : Option Held) → held N img r ≡ o → Asked N img r msg
-      found ok f g none e = absurd (f (λ x y. let w : some x ≡ none = sym (fresh-exact N img r x by ok .1 y) ∙ e in let z : _≡_ {A = ℕ} 0 1 = cc in omega arith))
+      found ok f g none e =
+          absurd (f (λ x y. let w : some x ≡ none = sym (fresh-exact N img r x by ok .1 y) ∙ e in let z : _≡_ {A = ℕ} 0 1 = cc in omega arith))
       found ok f g (some x) e = parsed ok x e g (parse msg) refl
 
       go : Exactly (requestLines N img r h msg reply) ans → Asked N img r msg
@@ -225,7 +226,8 @@ module _ {N : ℕ} {m n : Machine} (pm : Calls N m) (pn : Calls N n) (img : List
           → Job N img r c (framePlan N (needsRoom N img r f) (r .block) (r .end) x f) (framedAt N (needsRoom N img r f) (r .last) (r .block) (r .end) x f) =
           λ f e. frame-job h msg reply x q f (y .is-held) (y .is-asked) e in
           does-agree r h msg reply x q (frameFor h msg x q) o p k (pm .one-step img r c) (pn .one-step img r c) (s .answers) (t .answers) s t
-          (λ f e. job-alike r r c (framePlan N (needsRoom N img r f) (r .block) (r .end) x f) (framedAt N (needsRoom N img r f) (r .last) (r .block) (r .end) x f) bm
+          (λ f e. job-alike r r c (framePlan N (needsRoom N img r f) (r .block) (r .end) x f)
+          (framedAt N (needsRoom N img r f) (r .last) (r .block) (r .end) x f) bm
           (job f e) (job f e) (framed-idle N (needsRoom N img r f) (r .last) (r .block) (r .end) x f) a b)
 
   -- 4, 10 or 5, whatever the record holds
@@ -298,7 +300,8 @@ module _ {N : ℕ} {m n : Machine} (pm : Calls N m) (pn : Calls N n) (img : List
           let y : Mountable N img = mount-takes pm img by r a in
           let x : Store = y .store in
           agree-takes (m img r mount) (n img q mount) (takes-mount pm img by r a) (takes-mount pn img by q b)
-          (job-alike r q mount (mountPlan N (allFound N img) x) (mountedAt N (needsTransfer (x .frames) (x .tail)) (length img - 1) x) tt (mount-job x (y .current))
+          (job-alike r q mount (mountPlan N (allFound N img) x) (mountedAt N (needsTransfer (x .frames) (x .tail)) (length img - 1) x) tt
+          (mount-job x (y .current))
           (mount-job x (y .current)) (mounted-idle N (needsTransfer (x .frames) (x .tail)) (length img - 1) x) a b)
 
   -- ---- a format
@@ -372,7 +375,8 @@ module _ {N : ℕ} {m n : Machine} (pm : Calls N m) (pn : Calls N n) where
       go Unmounted e = rested (subst Rests (sym e) tt)
       go Idle e = rested (subst Rests (sym e) tt)
       go (Busy s) e =
-          busy s e (same-numbered (requestLines N img r h msg reply) (m img r (request h msg reply) .answer) (n img r (request h msg reply) .answer) (omega arith)
+          busy s e (same-numbered (requestLines N img r h msg reply) (m img r (request h msg reply) .answer) (n img r (request h msg reply) .answer)
+          (omega arith)
           (pm .table img r (request h msg reply) by) (pn .table img r (request h msg reply) by))
 
 pub promise-determines : PromiseDetermines

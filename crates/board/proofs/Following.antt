@@ -196,7 +196,8 @@ module _ {N : ℕ} {m : Machine} (p : Calls N m) where
   carry-back : (P : List ℕ → Answer → Type 0) {o x : Out} → Both o x → P (x .image) (x .answer) → P (o .image) (o .answer)
   carry-back P w y = subst₂ P (sym (w .image)) (sym (answers-over w)) y
 
-  pub happens-over : (img : List ℕ) (r q : Record) (b : Book) → Bytes img → Same img r q → (es : List Event) → Happens N m img r b es → Happens N (exec N) img q b es
+  pub happens-over : (img : List ℕ) (r q : Record) (b : Book) → Bytes img → Same img r q → (es : List Event) → Happens N m img r b es
+      → Happens N (exec N) img q b es
   happens-over img r q b by v [] h = tt
   happens-over img r q b by v (call c ∷ es) (bc, h) =
       let o : Out = m img r c in
@@ -275,7 +276,8 @@ module _ {N : ℕ} {m : Machine} (p : Calls N m) where
       let y = claim N img r by ok in (
         answers-over w ∙ y .0,
         idle-same (w .next) (y .1),
-        agrees-over (o .image) (o .board) (x .board) firstBook (w .next) (subst (λ (i : List ℕ). Agrees N (exec N) i (x .board) firstBook) (sym (w .image)) (y .2)),
+        agrees-over (o .image) (o .board) (x .board) firstBook (w .next) (subst (λ (i : List ℕ). Agrees N (exec N) i (x .board) firstBook) (sym (w .image))
+            (y .2)),
         (λ es h. run-over (o .image) (o .board) (x .board) firstBook false (w .bytes) (w .next) es h
             (subst (λ (i : List ℕ). Run N (exec N) i (x .board) firstBook false es) (sym (w .image)) (y .3 es (happens-from img r by es h)))),
       )
@@ -306,7 +308,8 @@ module _ {N : ℕ} {m : Machine} (p : Calls N m) where
       (left-over (o .image) (o .board) (x .board) (enterCall b c (o .answer)) (w .bytes) (w .next) es h)
   left-over img r q b by v (cutErase k new g ∷ cutErase j more f ∷ es) (x, n, h) = absurd n
 
-  pub left-by : (img : List ℕ) (r : Record) → Bytes img → (es : List Event) → HappensFrom N m img r es → SameLeft (leftBy N m img r es) (leftBy N (exec N) img r es)
+  pub left-by : (img : List ℕ) (r : Record) → Bytes img → (es : List Event) → HappensFrom N m img r es
+      → SameLeft (leftBy N m img r es) (leftBy N (exec N) img r es)
   left-by img r by es h =
       let w : Both (formatted N m img r) (formatted N (exec N) img r) = formatted-over img r by in
       subst (λ (i : List ℕ). SameLeft (leftBy N m img r es) (afterAll N (exec N) i (formatted N (exec N) img r .board) firstBook es)) (w .image)

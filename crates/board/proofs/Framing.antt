@@ -80,7 +80,8 @@ module _ {N : ℕ} {s : ℕ} {img : List ℕ} {r : Record} {x : Held} {f : Frame
   -- what holds at every step, either way
   each : (P : Step → List ℕ → Type 0) → (needsRoom N img r f ≡ false → Each s P (appendPlan (r .block) (endOf (x .frames)) f) img)
       → (needsRoom N img r f ≡ true → Each s P (transferPlan N (r .block) (x .time) st) img)
-      → (needsRoom N img r f ≡ true → Each s P (appendPlan (nextBlock N (r .block)) (endOf (framesOf st)) f) moved) → Each s P (planned (needsRoom N img r f)) img
+      → (needsRoom N img r f ≡ true → Each s P (appendPlan (nextBlock N (r .block)) (endOf (framesOf st)) f) moved)
+      → Each s P (planned (needsRoom N img r f)) img
   each P one first second = go (needsRoom N img r f) refl
     where
       go : (b : Bool) → needsRoom N img r f ≡ b → Each s P (planned b) img
@@ -100,13 +101,15 @@ module _ {N : ℕ} {s : ℕ} {img : List ℕ} {r : Record} {x : Held} {f : Frame
       (λ e. append-guard (new e) f after u (subst (λ (z : State). Keeps s z os) (sym (replay-framesOf st)) p))
 
   pub frame-ends : Roomy s (nextState (replay (x .frames)) f)
-      → After N s (applyAll s (framePlan N (needsRoom N img r f) (r .block) (r .end) x f) img) (framedAt N (needsRoom N img r f) (r .last) (r .block) (r .end) x f)
+      → After N s (applyAll s (framePlan N (needsRoom N img r f) (r .block) (r .end) x f) img)
+      (framedAt N (needsRoom N img r f) (r .last) (r .block) (r .end) x f)
       (nextState (replay (x .frames)) f)
   frame-ends room = go (needsRoom N img r f) refl
     where
       go : (b : Bool) → needsRoom N img r f ≡ b → After N s (applyAll s (planned b) img) (framedAt N b (r .last) (r .block) (r .end) x f) (nextState st f)
       go false e =
-          subst (λ (n : ℕ). After N s (applyAll s (appendPlan (r .block) n f) img) (idle (rest N (r .last) (r .block) (n + frameLen f))) (nextState st f)) (h .ends)
+          subst (λ (n : ℕ). After N s (applyAll s (appendPlan (r .block) n f) img) (idle (rest N (r .last) (r .block) (n + frameLen f))) (nextState st f))
+          (h .ends)
           (append-ends (h .alone) f (here e) (r .last) (h .long) room)
       go true e =
           let k : ℕ = nextBlock N (r .block) in

@@ -63,7 +63,8 @@ held-by N false img r x e = let z : _≡_ {A = ℕ} 0 1 = cc in absurd (omega ar
 pub passed : {N : ℕ} {s : ℕ} {img : List ℕ} {r : Record} {x : Held} → Sized N s img → held N img r ≡ some x → Passed N s img r x
 unfolding held
 passed {N} {s} {img} {r} {x} z e =
-    let y : (sameImage N img r ≡ true) × Inside (sizeOf N img) (r .end) (blockState (block (sizeOf N img) (r .block) img)) x = held-by N (sameImage N img r) img r x e in
+    let y : (sameImage N img r ≡ true) × Inside (sizeOf N img) (r .end) (blockState (block (sizeOf N img) (r .block) img)) x =
+    held-by N (sameImage N img r) img r x e in
     let i : Inside s (r .end) (blockState (block s (r .block) img)) x =
     subst (λ (n : ℕ). Inside n (r .end) (blockState (block n (r .block) img)) x) (size-of z) (y .1) in
     record { same = y .0; is-valid = i .is-valid; fits = i .fits }

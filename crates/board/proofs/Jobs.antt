@@ -36,7 +36,8 @@ pub record Stepped (N : ℕ) (s : ℕ) (P : Step → List ℕ → Type 0) (Q : L
 abbrev Onward : ℕ → ℕ → List ℕ → Record → Step → List Step → Record → Type 0
 Onward N s img r x xs z = (n : Record) × (stepOn N img r ≡ out (answerOf n) (apply s x img) n []) × Follows N (exec N) (apply s x img) n xs z
 
-onward : (N : ℕ) (s : ℕ) (img : List ℕ) (r : Record) (x : Step) (xs : List Step) (z : Record) → sizeOf N img ≡ s → Follows N (exec N) img r (x ∷ xs) z → Onward N s img r x xs z
+onward : (N : ℕ) (s : ℕ) (img : List ℕ) (r : Record) (x : Step) (xs : List Step) (z : Record) → sizeOf N img ≡ s → Follows N (exec N) img r (x ∷ xs) z
+    → Onward N s img r x xs z
 onward N s img r x xs z e (m, f) = subst (λ (n : ℕ). Onward N n img r x xs z) e f
 
 one-more : (s : ℕ) (plan : List Step) (c : ℕ) (start : List ℕ) → c < length plan

@@ -50,7 +50,8 @@ more-busy (Busy g) e = record { stage = g; is = refl }
 abbrev pub Working : ℕ → ℕ → List ℕ → Record → Book → Bool → Type 0
 Working N s img r b u = InJob N s (GuardIn N s (b .objects) u (b .under)) (λ i z. IdleBook N s i z (finishing b (b .under))) img r
 
-pub inv-unmounted : {N : ℕ} {s : ℕ} {img : List ℕ} {b : Book} {u : Bool} (r : Record) → Sized N s img → Bytes img → r .phase ≡ Unmounted → Safe N s img (b .objects) u
+pub inv-unmounted : {N : ℕ} {s : ℕ} {img : List ℕ} {b : Book} {u : Bool} (r : Record) → Sized N s img → Bytes img → r .phase ≡ Unmounted
+    → Safe N s img (b .objects) u
     → b .under ≡ nothing → Inv N s img r b u
 inv-unmounted {N} {s} {img} {b} {u} r z y e f n = record { sized = z; bytes = y; phase = subst (λ (p : Phase). InPhase N p s img r b u) (sym e) (f, n) }
 
@@ -60,7 +61,8 @@ ready-idle y = ap (λ (x : Record). x .phase) (y .is)
 pub inv-idle : {N : ℕ} {s : ℕ} {img : List ℕ} {b : Book} {u : Bool} (r : Record) → Sized N s img → Bytes img → IdleBook N s img r b → Inv N s img r b u
 inv-idle {N} {s} {img} {b} {u} r z y i = record { sized = z; bytes = y; phase = subst (λ (p : Phase). InPhase N p s img r b u) (sym (ready-idle (i .ready))) i }
 
-pub inv-busy : {N : ℕ} {s : ℕ} {img : List ℕ} {b : Book} {u : Bool} (r : Record) → Sized N s img → Bytes img → answerOf r ≡ More → Working N s img r b u → Inv N s img r b u
+pub inv-busy : {N : ℕ} {s : ℕ} {img : List ℕ} {b : Book} {u : Bool} (r : Record) → Sized N s img → Bytes img → answerOf r ≡ More → Working N s img r b u
+    → Inv N s img r b u
 inv-busy {N} {s} {img} {b} {u} r z y m j =
     record { sized = z; bytes = y; phase = subst (λ (p : Phase). InPhase N p s img r b u) (sym (more-busy (r .phase) m .is)) j }
 
@@ -108,7 +110,8 @@ done-never : (o : Out) (a : Answer) → o .answer ≡ a → (a ≡ Done) ⊎ (a 
 done-never o a e (inl d) n x = let z : _≡_ {A = ℕ} 0 1 = cc in omega arith
 done-never o a e (inr m) n x = let z : _≡_ {A = ℕ} 0 1 = cc in omega arith
 
-resting-keeps : {N : ℕ} {s : ℕ} {img : List ℕ} {r : Record} {b : Book} {u : Bool} → Inv N s img r b u → b .under ≡ nothing → StepKeeps N s b u (out Done img r [])
+resting-keeps : {N : ℕ} {s : ℕ} {img : List ℕ} {r : Record} {b : Book} {u : Bool} → Inv N s img r b u → b .under ≡ nothing
+    → StepKeeps N s b u (out Done img r [])
 resting-keeps {N} {s} {img} {r} {b} {u} v n = (
   subst (λ (w : UnderWay). Inv N s img r (finishing b w) (trackStep u w Done)) (sym n) v,
   done-never (out Done img r []) Done refl (inl refl),

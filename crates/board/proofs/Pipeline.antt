@@ -30,7 +30,8 @@ inside-yes {N} s x c h k =
 
 -- a step inside its block keeps every other block
 pub other-block : (N : ℕ) (s k : ℕ) (x : Step) (img : List ℕ) → (k ≡ blockOf x → ⊥) → within N s x ≡ true → block s k (apply s x img) ≡ block s k img
-other-block N s k (program j o v) img n w = other-program s k j o v img n (ltb-true o s (and-right (ltb j N) (ltb o s) (and-right (isCount N) (ltb j N && ltb o s) w)))
+other-block N s k (program j o v) img n w =
+    other-program s k j o v img n (ltb-true o s (and-right (ltb j N) (ltb o s) (and-right (isCount N) (ltb j N && ltb o s) w)))
 other-block N s k (erase j) img n w = other-erase s k j img n
 
 -- ---- one step
@@ -56,8 +57,10 @@ step-taken N s st img r x q p l a w =
     ∙ ap₂ (λ (n : ℕ) (y : Step). stepIf N st img r (same && within N n y) n y) q a
     ∙ ap (λ (b : Bool). stepIf N st img r b s x) (and-both same (within N s x) l w)
 
-pub follows-step : (N : ℕ) (s : ℕ) (st : Stage) (img : List ℕ) (r next : Record) (x : Step) (xs : List Step) (z : Record) → sizeOf N img ≡ s → r .phase ≡ Busy st
-    → sameShape N (length img) r ≡ true → action st r ≡ x → within N s x ≡ true → advance N st (apply s x img) r ≡ next → Follows N (exec N) (apply s x img) next xs z
+pub follows-step : (N : ℕ) (s : ℕ) (st : Stage) (img : List ℕ) (r next : Record) (x : Step) (xs : List Step) (z : Record) → sizeOf N img ≡ s
+    → r .phase ≡ Busy st
+    → sameShape N (length img) r ≡ true → action st r ≡ x → within N s x ≡ true → advance N st (apply s x img) r ≡ next
+    → Follows N (exec N) (apply s x img) next xs z
     → Follows N (exec N) img r (x ∷ xs) z
 follows-step N s st img r next x xs z q p l a w n f = (
   ap answerIn p,

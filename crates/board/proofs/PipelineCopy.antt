@@ -116,7 +116,8 @@ module _ {N : ℕ} (l s : ℕ) (shape : Shape N l s) (k e : ℕ) (places : List 
 
   copy-one : (b bs : List ℕ) (a d so n : ℕ) (img : List ℕ) (tail : List Step) (z : Record) → length img ≡ suc l → block s k img ≡ b → length bs ≡ n → 0 < n
       → a + n ≤ s
-      → ((img′ : List ℕ) → length img′ ≡ suc l → block s k img′ ≡ b → Follows N (exec N) img′ (enterCopy N img′ (at Copy 0 (a + n) d so n 0 (buffer bs))) tail z)
+      → ((img′ : List ℕ) → length img′ ≡ suc l → block s k img′ ≡ b → Follows N (exec N) img′
+      (enterCopy N img′ (at Copy 0 (a + n) d so n 0 (buffer bs))) tail z)
       → Follows N (exec N) img (at Copy 0 a d so n 0 (buffer bs)) (onBlock (j .target) (writes a bs) ++ tail) z
   copy-one b bs a d so n img tail z q h w p room f =
       let xs : List Step = onBlock (j .target) (writes a bs) in
@@ -150,7 +151,8 @@ module _ {N : ℕ} (l s : ℕ) (shape : Shape N l s) (k e : ℕ) (places : List 
       (λ (x : ℕ).
       Follows N (exec N) img (enterCopy N img r) (onBlock (j .target) (writes a (encodeAll (f ∷ fs))) ++ sealing j k bytes x)
       (idle (rest N l (j .target) (x + length bytes)))) t
-      (subst (λ (xs : List Step). Follows N (exec N) img (enterCopy N img r) xs done) (sym (copy-cons (j .target) a f fs (sealing j k bytes (a + m + total fs))))
+      (subst (λ (xs : List Step). Follows N (exec N) img (enterCopy N img r) xs done) (sym (copy-cons (j .target) a f fs
+      (sealing j k bytes (a + m + total fs))))
       (subst (λ (x : Record). Follows N (exec N) img x (onBlock (j .target) (writes a (encode f)) ++ tail) done)
       (sym (next-frame b img st i a d so z o u (some (load f d′ so′)) q h n))
       (copy-one b (encode f) a d′ so′ m img tail done q h (length-encode f) (omega arith) (omega arith)

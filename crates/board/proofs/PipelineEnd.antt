@@ -75,7 +75,8 @@ buffered k o bs i h =
 pub on-block : (k : ℕ) (ws : List Write) (i : ℕ) (w : Write) → blockOf (getD (onBlock k ws) i (writeStep k w)) ≡ k
 on-block k ws i w = ap blockOf (List·getD-map (writeStep k) ws i w)
 
-pub marks-inside : {N : ℕ} (s k : ℕ) (ws : List Write) (w : Write) → isCount N ≡ true → k < N → ((i : ℕ) → i < length ws → getD ws i w .at < s) → (i : ℕ) → i < length (onBlock k ws)
+pub marks-inside : {N : ℕ} (s k : ℕ) (ws : List Write) (w : Write) → isCount N ≡ true → k < N → ((i : ℕ) → i < length ws → getD ws i w .at < s) → (i : ℕ)
+    → i < length (onBlock k ws)
     → within N s (getD (onBlock k ws) i (writeStep k w)) ≡ true
 marks-inside {N} s k ws w c h o i q =
     ap (within N s) (List·getD-map (writeStep k) ws i w)
@@ -118,7 +119,8 @@ module _ {N : ℕ} (l s : ℕ) (shape : Shape N l s) where
         }
 
     pub follows-append : (st : Stage) (c : Cursor) (u img : List ℕ) → length img ≡ suc l
-        → Follows N (exec N) img (enterAppend (jobAt N l k e places j (buffer bytes) st c u)) (onBlock k (writes e bytes)) (idle (rest N l k (e + length bytes)))
+        → Follows N (exec N) img (enterAppend (jobAt N l k e places j (buffer bytes) st c u)) (onBlock k (writes e bytes))
+        (idle (rest N l k (e + length bytes)))
     unfolding enterAppend
     follows-append st c u img q =
         let r : Record = jobAt N l k e places j (buffer bytes) st c u in
@@ -142,7 +144,8 @@ module _ {N : ℕ} (l s : ℕ) (shape : Shape N l s) where
 
   module _ (k e : ℕ) (places : List ℕ) (j : Job) (bytes : List ℕ) (size : j .size ≡ length bytes) (here : k < N) (there : j .target < N) where
     follows-drop : (st : Stage) (i a d so z o : ℕ) (u img : List ℕ) → length img ≡ suc l → 0 < s → a + length bytes ≤ s
-        → Follows N (exec N) img (enterDrop (jobAt N l k e places j (buffer bytes) st (cursor i a d so z o) u)) (dropped j k ++ onBlock (j .target) (writes a bytes))
+        → Follows N (exec N) img (enterDrop (jobAt N l k e places j (buffer bytes) st (cursor i a d so z o) u))
+        (dropped j k ++ onBlock (j .target) (writes a bytes))
         (idle (rest N l (j .target) (a + length bytes)))
     unfolding enterDrop advance
     follows-drop st i a d so z o u img q p room =
@@ -155,7 +158,8 @@ module _ {N : ℕ} (l s : ℕ) (shape : Shape N l s) where
         on-test (j .drops)
         (λ t.
         subst (λ (b : Bool). Follows N (exec N) img (cond b (enter Drop r) (enterAppend (landed r))) (cond b (erase k ∷ []) [] ++ steps) done) (sym t)
-        (follows-step N s Drop img (enter Drop r) (enterAppend (jobAt N l (j .target) a places j (buffer bytes) Drop (cursor 0 a d so z o) u)) (erase k) steps done
+        (follows-step N s Drop img (enter Drop r) (enterAppend (jobAt N l (j .target) a places j (buffer bytes) Drop (cursor 0 a d so z o) u))
+        (erase k) steps done
         (ap (sizeIn N) q ∙ shape .size) refl (same-shape (length img) (enter Drop r) q refl) refl (inside-yes s (erase k) (shape .count) here p) refl
         (app Drop (cursor 0 a d so z o) (apply s (erase k) img) (length-apply s (erase k) img ∙ q))))
         (λ t.

@@ -59,7 +59,8 @@ module _ (N : ℕ) (l s : ℕ) (shape : Shape N l s) (ks : List ℕ) (there : Bl
       }
 
   pub follows-wipe : (a d so z o : ℕ) (u img : List ℕ) (tail : List Step) (done : Record) → length img ≡ suc l
-      → ((n : ℕ) (img′ : List ℕ) → length img′ ≡ suc l → img′ ≡ applyAll s (map erase ks) img → Follows N (exec N) img′ (enterOpen (wiping a d so z o n u)) tail done)
+      → ((n : ℕ) (img′ : List ℕ) → length img′ ≡ suc l → img′ ≡ applyAll s (map erase ks) img → Follows N (exec N) img′
+      (enterOpen (wiping a d so z o n u)) tail done)
       → Follows N (exec N) img (enterWipe (wiping a d so z o 0 u)) (map erase ks ++ tail) done
   unfolding enterWipe applyAll
   follows-wipe a d so z o u img tail done q f =
@@ -96,7 +97,8 @@ built : (k time : ℕ) (fs : List Frame) (xs ys : List Step)
     (onBlock k (writes headerLen (encodeAll fs)) ++ (onBlock k (sealWrites time) ++ (xs ++ ys)))
 built k time fs xs ys = map-three (writeStep k) openWrites (writes headerLen (encodeAll fs)) (sealWrites time) xs ys
 
-module _ {N : ℕ} (img : List ℕ) (l k e : ℕ) (places : List ℕ) (j : Job) (id source : ℕ) (bytes ks : List ℕ) (long : length img ≡ suc l) (some-blocks : isCount N ≡ true) (there : Blocks N ks)
+module _ {N : ℕ} (img : List ℕ) (l k e : ℕ) (places : List ℕ) (j : Job) (id source : ℕ) (bytes ks : List ℕ) (long : length img ≡ suc l)
+    (some-blocks : isCount N ≡ true) (there : Blocks N ks)
     (has : Has j ks bytes) (here : k < N) (header : headerLen ≤ sizeOf N img) where
   shape : Shape N l (sizeOf N img)
   shape = record { count = some-blocks; size = ap (sizeIn N) (sym long) }
@@ -110,7 +112,8 @@ module _ {N : ℕ} (img : List ℕ) (l k e : ℕ) (places : List ℕ) (j : Job) 
       (onBlock k (writes e bytes)) (idle (rest N l k (e + length bytes))) long
       (λ n img′ q′ p.
       let r : Record = jobAt N l k e places j (buffer bytes) Wipe (cursor n headerLen id source 0 0) noFrame in
-      subst (λ (b : Bool). Follows N (exec N) img′ (cond b (enter Open r) (enterAppend r)) (onBlock k (writes e bytes)) (idle (rest N l k (e + length bytes)))) (sym t)
+      subst (λ (b : Bool). Follows N (exec N) img′ (cond b (enter Open r) (enterAppend r)) (onBlock k (writes e bytes))
+      (idle (rest N l k (e + length bytes)))) (sym t)
       (follows-append l (sizeOf N img) shape k e places j bytes (has .size) here room Wipe (cursor n headerLen id source 0 0) noFrame img′ q′))
 
   pub follows-moving : (fs : List Frame) → j .moves ≡ true → j .target < N → (j .target ≡ k → ⊥) → headerLen + total fs + length bytes ≤ sizeOf N img

@@ -162,7 +162,8 @@ module _ (N : ℕ) (img : List ℕ) (r : Record) (h : Host) (m reply : List ℕ)
       over N img r h m reply by bm x e (Delete i) p (serve-delete N img r reply h m x i)
       (change-met N img r h m reply by bm x e (Delete i) p a k (delete i) refl refl refl refl)
   serve-met a k Commit p =
-      over N img r h m reply by bm x e Commit p (serve-commit N img r reply h m x) (end-met N img r h m reply by bm x e Commit p a k (commit h) refl refl refl refl)
+      over N img r h m reply by bm x e Commit p (serve-commit N img r reply h m x) (end-met N img r h m reply by bm x e Commit p a k
+      (commit h) refl refl refl refl)
   serve-met a k Abort p =
       over N img r h m reply by bm x e Abort p (serve-abort N img r reply h m x) (end-met N img r h m reply by bm x e Abort p a k (abort h) refl refl refl refl)
   serve-met a k (Read i) p = read-met a i p (lookup i (replay (x .frames) .objects)) refl
@@ -225,7 +226,8 @@ module _ (N : ℕ) (img : List ℕ) (r : Record) (by : Bytes img) where
       (λ ok.
       let y : Mounts N (exec N) img (mountOn N img) = one-store N img r by ok a in
       let e : y .store ≡ x = same-store img by ok (y .store) x (mounts-current img by ok (mountOn N img) y) v in
-      subst (λ (s : Store). Does N img mount (mountOn N img .board) (mountPlan N (allFound N img) s) (mountedAt N (needsTransfer (s .frames) (s .tail)) (length img - 1) s)) e
+      subst (λ (s : Store). Does N img mount (mountOn N img .board) (mountPlan N (allFound N img) s)
+      (mountedAt N (needsTransfer (s .frames) (s .tail)) (length img - 1) s)) e
       (subst (Follows N (exec N) img (mountOn N img .board) (mountPlan N (allFound N img) (y .store))) (y .is-last) (y .follows), (y .short, y .erases)))
       (λ no. absurd (subst (λ (o : Out). Accepted (o .answer)) (mount-length N img no) a))
 

@@ -239,7 +239,8 @@ refused-by-table N img r step = step-follows N img r (r .phase) refl .table
 refused-by-table N img r mount = mount-made N img .table
 refused-by-table N img r format = format-made N img .table
 
-pub refusals-untouched : (N : ℕ) (img : List ℕ) (r : Record) (c : Call) (n : Refusal) → exec N img r c .answer ≡ Refused n → exec N img r c ≡ Unchanged img r c n
+pub refusals-untouched : (N : ℕ) (img : List ℕ) (r : Record) (c : Call) (n : Refusal) → exec N img r c .answer ≡ Refused n
+    → exec N img r c ≡ Unchanged img r c n
 refusals-untouched N img r (request h m reply) n e = request-asked N img r reply h m .untouched n e
 refusals-untouched N img r step n e = step-follows N img r (r .phase) refl .untouched n e
 refusals-untouched N img r mount n e = mount-made N img .untouched n e

@@ -49,7 +49,8 @@ use Rattle.board.proofs.Framing.{AsRecorded, ready-holds, Appendable, f
 
 -- ---- a frame job is begun
 
-pub frame-short : (N : ℕ) (needs : Bool) (s k e : ℕ) (x : Held) (f : Frame) → claimed (replay (x .frames)) + frameLen f ≤ s → length (framePlan N needs k e x f) ≤ s
+pub frame-short : (N : ℕ) (needs : Bool) (s k e : ℕ) (x : Held) (f : Frame) → claimed (replay (x .frames)) + frameLen f ≤ s
+    → length (framePlan N needs k e x f) ≤ s
 frame-short N true s k e x f h = omega (arith, length-frame-moved N k e x f)
 frame-short N false s k e x f h = omega (arith, length-frame-stayed N k e x f)
 
@@ -69,7 +70,11 @@ frame-starts {N} {s} {P} {Q} {img} r x f z h y each ends idle =
     job-starts img (enterWipe (appendJob N img r x f)) (framePlan N (needsRoom N img r f) (r .block) (r .end) x f)
     (framedAt N (needsRoom N img r f) (r .last) (r .block) (r .end) x f)
     (follows-frame img r x f (z .count) (h .long) (h .blocks) (h .alone .there) j (sym (h .ends)) (omega (arith, y .fits, size-of z)))
-    (frame-some N (needsRoom N img r f) (r .block) (r .end) x f) (omega (arith, frame-short N (needsRoom N img r f) s (r .block) (r .end) x f (y .fits))) each ends idle
+    (frame-some N (needsRoom N img r f) (r .block) (r .end) x f) (omega (
+      arith,
+      frame-short N (needsRoom N img r f) s (r .block) (r .end) x f
+          (y .fits),
+    )) each ends idle
 
 -- ---- serving one request on an idle record of a run
 
@@ -97,7 +102,8 @@ Legal h m (Log p) = Unit {0}
 pub found : {N : ℕ} {s : ℕ} {img : List ℕ} {r : Record} {b : Book} (y : IdleBook N s img r b) → BookFits s (replay (y .ready .frames)) b
 found y = record { room = y .ready .room; spare = y .spare; objects = y .objects; lists = y .lists; under = y .under }
 
-module _ {N : ℕ} {s : ℕ} {img : List ℕ} {r : Record} {b : Book} (u : Bool) (z : Sized N s img) (by : Bytes img) (y : IdleBook N s img r b) (reply : List ℕ) (h : Host)
+module _ {N : ℕ} {s : ℕ} {img : List ℕ} {r : Record} {b : Book} (u : Bool) (z : Sized N s img) (by : Bytes img) (y : IdleBook N s img r b) (reply : List ℕ)
+    (h : Host)
     (k : h .0 ≤ hostMax) (m : List ℕ) where
   abbrev x : Held
   x = heldOf (y .ready)

@@ -159,7 +159,8 @@ BookSteps N m o b h k =
     ((numberOf (stepsOn m k o .answer) ≡ some 0) × (afterAll N m (o .image) (o .board) (begun b h) (stepping k) .book ≡ settled b h))
     ⊎ ((stepsOn m k o .answer ≡ More) × (afterAll N m (o .image) (o .board) (begun b h) (stepping k) .book ≡ begun b h))
 
-plan-book : {N : ℕ} {m : Machine} → Calls N m → (i : List ℕ) (o : Out) (plan : List Step) (z : Record) → StepsOf N m i o plan z → z .phase ≡ Idle → o .answer ≡ More
+plan-book : {N : ℕ} {m : Machine} → Calls N m → (i : List ℕ) (o : Out) (plan : List Step) (z : Record) → StepsOf N m i o plan z → z .phase ≡ Idle
+    → o .answer ≡ More
     → (b : Book) (h : Host) (k : ℕ) → BookSteps N m o b h k
 plan-book p i o [] z st e a b h k = done-more (o .answer) (st .done) a
 plan-book {N} {m} p i o (x ∷ xs) z st e a b h k =

@@ -18,7 +18,8 @@ use Rattle.refuted.specs.Rows.{drive, returned, ask, asked, cutIn, mount
 use Rattle.refuted.specs.Rows.{rowG, rowH, rowI, rowK, rowALong, rowO, commitMessage, putMessage, formatAnswer, Rows}
 
 pub rows : Rows (exec 2)
-unfolding numbersFrom sizeIn allowed drive returned ask asked cutIn mounted replayed timed part rowA rowB rowC rowD rowE rowF rowG rowH rowI rowK rowALong rowO commitMessage
+unfolding numbersFrom sizeIn allowed drive returned ask asked cutIn mounted replayed timed part rowA rowB rowC rowD rowE rowF rowG rowH rowI rowK rowALong
+    rowO commitMessage
     putMessage formatAnswer allFF sameBytes writes encodeAll total match readFrame scan insert remove lookup changeAll listOf
     without isOpen replayFrom headerFault blockState noRoom sited placesFrom sinceFrom valueAt nextSettled nextPending nextLoad
     parse noPlaces noFrame enterAppend enterDrop enterCopy enterOpen enterWipe advance stepBusy stepOn mountAt mountFound mountOn

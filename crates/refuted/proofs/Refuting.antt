@@ -24,7 +24,8 @@ use Rattle.board.specs.Demand1.{Declared, EndsWithin}
 use Rattle.board.specs.Exec.{Call, request, step, mount, format, Machine, exec}
 use Rattle.board.specs.Claim.{call}
 use Rattle.board.specs.Promise.{Promise, Kept, Shown, trace, ByteEvents, PromiseDetermines}
-use Rattle.refuted.specs.Wrong.{Wrongly, onBench, offBench, outsideIsDone, forgedWaits, ignoresCount, RightOnBench, Refuted}
+use Rattle.refuted.specs.Wrong.{Wrongly, onBench, offBench, outsideIsDone, forgedWaits, ignoresCount}
+use Rattle.refuted.specs.Refuted.{RightOnBench, Refuted}
 use Rattle.refuted.specs.WrongRuns.{nothing, lastFrom, allBytes, bytesIn, begins, Differs}
 use Rattle.board.proofs.Determining.{promise-determines}
 use Rattle.board.proofs.FollowingPlans.{promise}

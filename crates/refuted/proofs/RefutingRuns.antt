@@ -24,7 +24,8 @@ use Rattle.refuted.specs.WrongRuns.{halfErased, seemsEmpty, inMiddle, be
 pub runs : Runs
 unfolding numbersFrom sizeIn allowed refusesAll refusesPuts refusesHighIds ownFormatsOnly firstHalfOnly hostFirst refusalClears refusedLogWrites readsAlike
     inventsCount neverCommits abortsNothing takesOthers keepsOld programsNothing wholeFrame inventsStep erasesFirst hurriedMount losesAll
-    keepsPending refusesAlike overlooksForeign namesSecond tiesAtStart refusesHalfErased takesHalfErased formatsAtOnce formatsBlindly goesBack erasesOne evenOnly
+    keepsPending refusesAlike overlooksForeign namesSecond tiesAtStart refusesHalfErased takesHalfErased formatsAtOnce formatsBlindly goesBack erasesOne
+    evenOnly
     allFF sameBytes applyAll writes encodeAll total match readFrame scan insert
     remove lookup changeAll listOf without isOpen replayFrom headerFault blockState noRoom sited placesFrom sinceFrom valueAt nextSettled
     nextPending nextLoad parse noPlaces noFrame enterAppend enterDrop enterCopy enterOpen enterWipe advance stepBusy stepOn mountAt

@@ -1,10 +1,8 @@
 -- Wrong stores. Each differs from the machine in one thing, and only on images that the bench doesn't have, so that no row
--- sees it. None keeps the promise: `Refuted`. The runs that tell are in WrongRuns.
+-- sees it. None keeps the promise: page Refuted. The runs that tell are in WrongRuns.
 use mathlib.Core.List.{List, [], _∷_, _++_}
 use mathlib.Core.Bool.{Bool, false, _&&_, _||_, cond}
-use mathlib.Core.Path.{_≡_}
-use mathlib.Core.Logic.{_⊎_}
-use Prim.Native.Nat.{ℕ, _+_, _-_, _%_, _≤_}
+use Prim.Native.Nat.{ℕ, _+_, _-_, _%_}
 use lib.Dec.{eqb, ltb, leb}
 use lib.ListN.{length, take, drop, getD, set, replicate}
 use Rattle.flash.specs.Bytes.{sameBytes}
@@ -29,7 +27,6 @@ use Rattle.board.specs.Queue.{held}
 use Rattle.board.specs.Table.{isNone}
 use Rattle.board.specs.Exec.{Call, request, step, mount, format, Family, exec}
 use Rattle.board.specs.Plan.{onBlock, mountedAt}
-use Rattle.board.specs.Promise.{Kept}
 
 -- ---- how a store is made wrong
 
@@ -373,47 +370,3 @@ ignoresCount = steps (λ N img r o. exec (r .blocks) img r step)
 -- K14: "The image is N blocks": of an odd number the last is left out
 unfoldable pub evenOnly : Wrongly
 evenOnly N img r c o = cond (eqb (N % 2) 0) o (exec (N - 1) img r c)
-
--- ---- right on the bench, and yet none of them keeps the promise
-
--- on the bench's images, whatever is done off it; for the rows one by one see WrongRows
-unfoldable pub RightOnBench : Type 0
-RightOnBench = (w : Wrongly) (N : ℕ) (img : List ℕ) (r : Record) (c : Call) → (length img ≤ 512) ⊎ (length img ≡ 1024)
-    → offBench w N img r c ≡ exec N img r c
-
-pub record Refuted : Type 0 where
-  pub refuses-all : Kept (offBench refusesAll) → ⊥
-  pub refuses-puts : Kept (offBench refusesPuts) → ⊥
-  pub refuses-high-ids : Kept (offBench refusesHighIds) → ⊥
-  pub own-formats-only : Kept (offBench ownFormatsOnly) → ⊥
-  pub first-half-only : Kept (offBench firstHalfOnly) → ⊥
-  pub host-first : Kept (offBench hostFirst) → ⊥
-  pub refusal-clears : Kept (offBench refusalClears) → ⊥
-  pub refused-log-writes : Kept (offBench refusedLogWrites) → ⊥
-  pub reads-alike : Kept (offBench readsAlike) → ⊥
-  pub invents-count : Kept (offBench inventsCount) → ⊥
-  pub never-commits : Kept (offBench neverCommits) → ⊥
-  pub aborts-nothing : Kept (offBench abortsNothing) → ⊥
-  pub takes-others : Kept (offBench takesOthers) → ⊥
-  pub keeps-old : Kept (offBench keepsOld) → ⊥
-  pub programs-nothing : Kept (offBench programsNothing) → ⊥
-  pub whole-frame : Kept (offBench wholeFrame) → ⊥
-  pub invents-step : Kept (offBench inventsStep) → ⊥
-  pub erases-first : Kept (offBench erasesFirst) → ⊥
-  pub outside-is-done : Kept (offBench outsideIsDone) → ⊥
-  pub forged-waits : Kept (offBench forgedWaits) → ⊥
-  pub hurried-mount : Kept (offBench hurriedMount) → ⊥
-  pub loses-all : Kept (offBench losesAll) → ⊥
-  pub keeps-pending : Kept (offBench keepsPending) → ⊥
-  pub refuses-alike : Kept (offBench refusesAlike) → ⊥
-  pub overlooks-foreign : Kept (offBench overlooksForeign) → ⊥
-  pub names-second : Kept (offBench namesSecond) → ⊥
-  pub ties-at-start : Kept (offBench tiesAtStart) → ⊥
-  pub refuses-half-erased : Kept (offBench refusesHalfErased) → ⊥
-  pub takes-half-erased : Kept (offBench takesHalfErased) → ⊥
-  pub formats-at-once : Kept (offBench formatsAtOnce) → ⊥
-  pub formats-blindly : Kept (offBench formatsBlindly) → ⊥
-  pub goes-back : Kept (offBench goesBack) → ⊥
-  pub erases-one : Kept (offBench erasesOne) → ⊥
-  pub ignores-count : Kept (offBench ignoresCount) → ⊥
-  pub even-only : Kept (offBench evenOnly) → ⊥
