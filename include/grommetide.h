@@ -1,5 +1,5 @@
 /*
- * Grommetide: a settings store in two halves of NOR flash, for firmware.
+ * Grommetide: a settings store in two to sixteen blocks of NOR flash, for firmware.
  *
  * The store keeps objects (an id from 0 to 255 and a value of 0 to 240 bytes) for four hosts and survives power cuts at
  * any step and inside erases. docs/STORE.md has its rules, docs/FORMAT.md the bytes in flash. Link with libgrommetide.a,
@@ -21,10 +21,18 @@
  *
  * The image
  *
- *   image_len is a multiple of 256 from 512 to 65,536; the image is two halves of image_len / 2 bytes. A flash step programs
- *   one byte (new = old AND given, so bits are only cleared) or erases one half (all its bytes become 0xFF). Programming 0xFF
- *   is a step too, which changes nothing. With 512 bytes there is room for values of up to 212 bytes, from 768 on for all
- *   (docs/STORE.md, Room).
+ *   The image is N blocks of S bytes each, block 0 first; N is 2 to GROMMETIDE_BLOCKS_MAX and is given as `blocks` with
+ *   every call that takes an image. image_len is N * S, at most 65,536, and S is a multiple of 128 from 256 up; so with two
+ *   blocks it is a multiple of 256 from 512 on. The flash does not say what N is: always give the same, since a mount that is
+ *   told another may not see the store, or take it wrongly and lose it.
+ *
+ *   A flash step programs one byte (new = old AND given, so bits are only cleared) or erases one block (all its bytes become
+ *   0xFF). Programming 0xFF is a step too, which changes nothing. With S = 256 there is room for values of up to 212 bytes,
+ *   from S = 384 on for all (docs/STORE.md, Room).
+ *
+ *   At rest one block holds the store and the others are blank. When it is full, what counts moves to the next block in
+ *   number, after the last one to block 0, and the old block is erased: the blocks wear in turn. With more of them each is
+ *   erased less often.
  *
  * How flash is connected
  *
@@ -37,12 +45,12 @@
  *      an SPI chip.
  *
  *          do {
- *              told = grommetide_next(image_len, record, record_len, &at, &len, &byte);
+ *              told = grommetide_next(image_len, blocks, record, record_len, &at, &len, &byte);
  *              if (told == GROMMETIDE_PROGRAM)
  *                  program(at, byte);
  *              else if (told == GROMMETIDE_ERASE)
  *                  erase(at, len);
- *              answer = grommetide_made(image, image_len, record, record_len);
+ *              answer = grommetide_made(image, image_len, blocks, record, record_len);
  *          } while (answer == GROMMETIDE_MORE);
  *
  *   2. Memory that plain writes can change: RAM in a simulator or a test, FRAM. grommetide_step makes the next step itself,
@@ -56,14 +64,14 @@
  *
  * What the flash must do
  *
- *   - Erased bytes read 0xFF, and each half can be erased by itself: image_len / 2 is a whole number of sectors.
+ *   - Erased bytes read 0xFF, and each block can be erased by itself: S is a whole number of sectors.
  *   - Bytes can be programmed one at a time, at any address. The store asks for no alignment.
- *   - A byte may be programmed again while bits are only cleared: byte 8 of a half's header goes from 0xFF to 0xFE and
+ *   - A byte may be programmed again while bits are only cleared: byte 8 of a block's header goes from 0xFF to 0xFE and
  *     later to 0xFC. So flash with ECC over words, and flash whose words can be written only once, will not do.
- *   - A power cut falls between steps or inside an erase. Inside an erase it leaves each bit of the half as it was or 1,
- *     freely; so a half of several sectors may be erased sector by sector, in any order. Programming a byte happens whole
+ *   - A power cut falls between steps or inside an erase. Inside an erase it leaves each bit of the block as it was or 1,
+ *     freely; so a block of several sectors may be erased sector by sector, in any order. Programming a byte happens whole
  *     or not at all. The proofs assume this; a flash that a cut leaves with a weakly programmed byte, or with bits that
- *     read now so and now so, is not covered. Nor is a cut inside one of a format's two erases: format again.
+ *     read now so and now so, is not covered. Nor is a cut inside one of a format's erases: format again.
  *   - Flash reads back what was programmed. There is no checksum: damage that leaves legal frames goes unnoticed.
  *
  * The record
@@ -73,11 +81,12 @@
  *
  *     0      phase: 0 unmounted, 1 idle, 2 to 7 in a job; any other value reads as unmounted
  *     1-2    image length less one
- *     3      current half, 0 or 1
- *     4-5    where the current half's frames end, counted from its start
- *     6-1041 the library's own: 6-517 places of values, 518-545 the job, 546-793 and 794-1041 frames in hand
+ *     3      current block, from 0 on
+ *     4-5    where the current block's frames end, counted from its start
+ *     6      number of blocks
+ *     7-1056 the library's own: 7-518 places of values, 519-560 the job, 561-808 and 809-1056 frames in hand
  *
- *   Bytes 1 to 5 mean this in an idle record. An unmounted or idle record that the library hands out has zeros in all
+ *   Bytes 1 to 6 mean this in an idle record. An unmounted or idle record that the library hands out has zeros in all
  *   bytes it does not use. A record that does not belong to the image is noticed (GROMMETIDE_STALE), or, in a job, does
  *   one flash step at a time and ends, or is noticed, within 65,536 steps.
  *
@@ -100,9 +109,9 @@
  *
  *   Bytes of stack that a call takes at most, its return address included (held by a test that paints the stack):
  *
- *     grommetide_mount        2,304
- *     grommetide_fault        2,304
- *     grommetide_format       1,536
+ *     grommetide_mount        3,072
+ *     grommetide_fault        3,072
+ *     grommetide_format       2,816
  *     grommetide_request      2,304
  *     grommetide_read         1,792
  *     grommetide_next           576
@@ -123,6 +132,8 @@ extern "C" {
 /*
  * This header's version. A record is of use only to the version that wrote it; the flash may outlive versions.
  *
+ *   0.6  two to sixteen blocks: each call that takes an image is told their number, and so a record of 1,057 bytes. With two
+ *        blocks, steps and flash are those of 0.5. GROMMETIDE_HALF_KIND is called GROMMETIDE_BLOCK_KIND.
  *   0.5  grommetide_fault says where a mount that is refused with GROMMETIDE_FOREIGN broke. Record and flash are those of 0.4.
  *   0.4  power may be lost inside an erase. A mount erases a foreign half beside a valid one, where 0.3 answers
  *        GROMMETIDE_FOREIGN; a format erases last the half that holds the store. Record and flash are those of 0.3.
@@ -132,17 +143,20 @@ extern "C" {
  *   0.1  values of up to 64 bytes, a record of 690 bytes. It finds flash in which a longer value stands foreign.
  */
 #define GROMMETIDE_VERSION_MAJOR 0
-#define GROMMETIDE_VERSION_MINOR 5
+#define GROMMETIDE_VERSION_MINOR 6
 #define GROMMETIDE_VERSION_PATCH 0
 
 /*
- * What tells formats of the flash apart: bytes 2 and 3 of a half's header. A half that says it is valid (byte 8 is 0xFC)
- * and has another kind is foreign: if the other half is not valid, mount answers GROMMETIDE_FOREIGN and changes nothing;
- * if it is, the foreign one is erased. In a half that is in progress (byte 8 is 0xFE) the kind is not looked at.
+ * What tells formats of the flash apart: bytes 2 and 3 of a block's header. A block that says it is valid (byte 8 is 0xFC)
+ * and has another kind is foreign: if no block is valid, mount answers GROMMETIDE_FOREIGN and changes nothing; if one is,
+ * the foreign one is erased. In a block that is in progress (byte 8 is 0xFE) the kind is not looked at.
  */
-#define GROMMETIDE_HALF_KIND 0x4A01
+#define GROMMETIDE_BLOCK_KIND 0x4A01
 
-#define GROMMETIDE_RECORD_BYTES 1042
+#define GROMMETIDE_RECORD_BYTES 1057
+
+/* The most blocks of an image. The fewest are two. */
+#define GROMMETIDE_BLOCKS_MAX 16
 
 /* The most bytes of a value. The message that puts it has six more. */
 #define GROMMETIDE_VALUE_MAX 240
@@ -152,29 +166,29 @@ enum {
     GROMMETIDE_DONE = 0,             /* finished, or nothing to do */
     GROMMETIDE_MALFORMED = 1,        /* the message's length, kind, id, value length or page */
     GROMMETIDE_NO_STORE = 2,         /* the record is unmounted; for mount, there is no store and nothing foreign */
-    GROMMETIDE_FOREIGN = 3,          /* mount: no half is valid and one is foreign, or two are equally new */
-    GROMMETIDE_IMAGE_LENGTH = 4,     /* image_len is not allowed */
+    GROMMETIDE_FOREIGN = 3,          /* mount: no block is valid and one is foreign, or valid ones have equal times */
+    GROMMETIDE_IMAGE_LENGTH = 4,     /* image_len or blocks is not allowed */
     GROMMETIDE_BUSY = 5,             /* a job has steps left */
     GROMMETIDE_WORN = 6,             /* a transfer is needed, but the creation time cannot rise any more */
     GROMMETIDE_NO_ROOM = 7,          /* put or delete: commits must always fit, and this would leave too little room */
     GROMMETIDE_NO_OBJECT = 8,        /* read: there is no settled object of this id */
     GROMMETIDE_SHORT_REPLY = 9,      /* log: the reply buffer has fewer than 14 bytes */
     GROMMETIDE_HOST_RANGE = 10,      /* the host is above 3 */
-    GROMMETIDE_STALE = 11,           /* the image is not the one that the record belongs to */
+    GROMMETIDE_STALE = 11,           /* the record belongs to another image or number of blocks */
     GROMMETIDE_PROGRAM = 252,        /* next: a byte is to be programmed */
-    GROMMETIDE_ERASE = 253,          /* next: a half is to be erased */
+    GROMMETIDE_ERASE = 253,          /* next: a block is to be erased */
     GROMMETIDE_WRONG_RECORD = 254,   /* record_len is not GROMMETIDE_RECORD_BYTES; nothing was done */
     GROMMETIDE_MORE = 255            /* accepted, or a step was made; steps are left */
 };
 
-/* Fields of a half's header and of a frame, as grommetide_fault names them. docs/FORMAT.md says where each stands. */
+/* Fields of a block's header and of a frame, as grommetide_fault names them. docs/FORMAT.md says where each stands. */
 enum {
     GROMMETIDE_FIELD_LENGTH = 1,     /* of the header (place 0) or of a frame */
     GROMMETIDE_FIELD_KIND = 2,       /* of the header (place 2) or of a frame */
     GROMMETIDE_FIELD_HOST = 3,
     GROMMETIDE_FIELD_ID = 4,
     GROMMETIDE_FIELD_FINISH = 5,     /* a frame's last byte, which is 0xFE */
-    GROMMETIDE_FIELD_TIME = 6,       /* of the header (place 4): never programmed, or both halves have the same */
+    GROMMETIDE_FIELD_TIME = 6,       /* of the header (place 4): never programmed, or another valid block has the same */
     GROMMETIDE_FIELD_STATE = 7,      /* of the header (place 8) */
     GROMMETIDE_FIELD_REST = 8        /* of the header (place 9): bytes 9 to 15, which are 0xFF */
 };
@@ -183,26 +197,27 @@ enum {
 size_t grommetide_record_size(void);
 
 /*
- * Finds the store in an image and begins to tidy up after a power cut. Pending changes are dropped. The half beside the
+ * Finds the store in an image and begins to tidy up after a power cut. Pending changes are dropped. Every block beside the
  * store's is erased if it is not blank, one that no store wrote too: read the image out before, to look at it.
  * DONE: the store is mounted. MORE: steps are left. Refused: IMAGE_LENGTH, NO_STORE, FOREIGN, WORN.
  */
-uint8_t grommetide_mount(const uint8_t *image, size_t image_len, uint8_t *record, size_t record_len);
+uint8_t grommetide_mount(const uint8_t *image, size_t image_len, uint8_t blocks, uint8_t *record, size_t record_len);
 
 /*
  * Why a mount of this image is refused, and where the image broke. It takes no record and can be asked of any image.
- * FOREIGN, exactly where grommetide_mount answers it: in half *half (0 or 1) the field *field is bad, which starts at offset
- * *place of that half. Half 0 is named before half 1, and of a half's bad fields the first. If both halves are valid and
- * equally new, it is the time of half 0. IMAGE_LENGTH, NO_STORE, WORN: so does a mount answer. DONE: a mount is accepted. With
- * these *half, *field and *place are set to 0.
+ * FOREIGN, exactly where grommetide_mount answers it: in block *block the field *field is bad, which starts at offset *place
+ * of that block. If valid blocks have equal times, it is the time of the lowest such block; otherwise the first bad field of
+ * the lowest foreign block. IMAGE_LENGTH, NO_STORE, WORN: so does a mount answer. DONE: a mount is accepted. With these
+ * *block, *field and *place are set to 0.
  */
-uint8_t grommetide_fault(const uint8_t *image, size_t image_len, size_t *half, uint8_t *field, size_t *place);
+uint8_t grommetide_fault(const uint8_t *image, size_t image_len, uint8_t blocks, size_t *block, uint8_t *field,
+                         size_t *place);
 
 /*
- * Begins to make an empty store, in 12 steps, whatever the image holds. The half that holds the store is erased last.
- * Always MORE, unless refused: IMAGE_LENGTH.
+ * Begins to make an empty store in block 0, in N + 10 steps, whatever the image holds. All blocks are erased by number, but
+ * the one that holds the store last. Always MORE, unless refused: IMAGE_LENGTH.
  */
-uint8_t grommetide_format(const uint8_t *image, size_t image_len, uint8_t *record, size_t record_len);
+uint8_t grommetide_format(const uint8_t *image, size_t image_len, uint8_t blocks, uint8_t *record, size_t record_len);
 
 /*
  * A host's message. The host number comes from the port, 0 to 3. A message is its length (2 bytes), its kind (2) and:
@@ -213,21 +228,21 @@ uint8_t grommetide_format(const uint8_t *image, size_t image_len, uint8_t *recor
  *   0x0104 abort                             the host's pending changes are dropped
  *   0x0105 read    id (2)                    only answers whether the object is there; see grommetide_read
  *   0x0106 log     page (1), which is 1      writes 14 bytes to the reply: length 14 (2), kind 0x0201 (2), creation
- *                                            time (4), settled objects (2), bytes they need (2), bytes of a half (2)
+ *                                            time (4), settled objects (2), bytes they need (2), bytes of a block (2)
  *
  * Numbers are little-endian. Only log writes to the reply, and only if it answers DONE; bytes after the 14 stay.
  * DONE: finished, without a step. MORE: accepted, steps are left. Refused: any but FOREIGN.
  */
-uint8_t grommetide_request(const uint8_t *image, size_t image_len, uint8_t *record, size_t record_len, uint8_t host,
-                           const uint8_t *message, size_t message_len, uint8_t *reply, size_t reply_len);
+uint8_t grommetide_request(const uint8_t *image, size_t image_len, uint8_t blocks, uint8_t *record, size_t record_len,
+                           uint8_t host, const uint8_t *message, size_t message_len, uint8_t *reply, size_t reply_len);
 
 /*
  * Where a settled value stands: *len bytes from image[*at] on, counted from the image's start. The message is a read
  * (0x0105). DONE: found; *len is 0 for an empty value. Refused: IMAGE_LENGTH, HOST_RANGE, BUSY, NO_STORE, STALE, MALFORMED
  * (also for a message that is no read), NO_OBJECT; *at and *len are then set to 0. With WRONG_RECORD they stay.
  */
-uint8_t grommetide_read(const uint8_t *image, size_t image_len, const uint8_t *record, size_t record_len, uint8_t host,
-                        const uint8_t *message, size_t message_len, size_t *at, size_t *len);
+uint8_t grommetide_read(const uint8_t *image, size_t image_len, uint8_t blocks, const uint8_t *record, size_t record_len,
+                        uint8_t host, const uint8_t *message, size_t message_len, size_t *at, size_t *len);
 
 /*
  * What the next flash step of the job in the record is, by the record alone. PROGRAM: *byte is to be programmed at offset
@@ -235,21 +250,22 @@ uint8_t grommetide_read(const uint8_t *image, size_t image_len, const uint8_t *r
  * has no job. Refused: STALE, as the step would be. With DONE and STALE *at, *len and *byte are set to 0; with WRONG_RECORD
  * they stay.
  */
-uint8_t grommetide_next(size_t image_len, const uint8_t *record, size_t record_len, size_t *at, size_t *len,
-                        uint8_t *byte);
+uint8_t grommetide_next(size_t image_len, uint8_t blocks, const uint8_t *record, size_t record_len, size_t *at,
+                        size_t *len, uint8_t *byte);
 
 /*
  * That flash step was made: the record moves on. The image is read as it is after the step and is not written to.
  * DONE: it was the job's last step, or the record has no job and nothing was done. MORE: steps are left. Refused: STALE, as
  * the step would be.
  */
-uint8_t grommetide_made(const uint8_t *image, size_t image_len, uint8_t *record, size_t record_len);
+uint8_t grommetide_made(const uint8_t *image, size_t image_len, uint8_t blocks, uint8_t *record, size_t record_len);
 
 /*
  * Does the next step of the job in the record. DONE: it was the last, or the record has no job and nothing was done.
- * MORE: steps are left. Refused: STALE, if image_len is not the record's or the job's next place lies outside the image.
+ * MORE: steps are left. Refused: STALE, if image_len or blocks is not the record's or the job's next place lies outside the
+ * image.
  */
-uint8_t grommetide_step(uint8_t *image, size_t image_len, uint8_t *record, size_t record_len);
+uint8_t grommetide_step(uint8_t *image, size_t image_len, uint8_t blocks, uint8_t *record, size_t record_len);
 
 /*
  * At most `most` steps in one call: what so many calls of grommetide_step do, up to the first that does not answer MORE.
@@ -257,7 +273,7 @@ uint8_t grommetide_step(uint8_t *image, size_t image_len, uint8_t *record, size_
  * left; so answers a `most` of 0 where there is a job. Refused: STALE; image and record are then as those *steps steps left
  * them. With WRONG_RECORD *steps stays.
  */
-uint8_t grommetide_run(uint8_t *image, size_t image_len, uint8_t *record, size_t record_len, size_t most,
+uint8_t grommetide_run(uint8_t *image, size_t image_len, uint8_t blocks, uint8_t *record, size_t record_len, size_t most,
                        size_t *steps);
 
 #ifdef __cplusplus

@@ -6,6 +6,8 @@
 
 #include "grommetide.h"
 
+enum { BLOCKS = 2 };
+
 static uint8_t image[512], record[GROMMETIDE_RECORD_BYTES];
 
 /* By GROMMETIDE_FIELD_LENGTH and so on; 0 is none. */
@@ -14,7 +16,7 @@ static const char *const fields[] = {"-", "length", "kind", "host", "id", "finis
 static void finish(uint8_t answer)
 {
     while (answer == GROMMETIDE_MORE)
-        answer = grommetide_step(image, sizeof image, record, sizeof record);
+        answer = grommetide_step(image, sizeof image, BLOCKS, record, sizeof record);
     if (answer != GROMMETIDE_DONE) {
         fprintf(stderr, "broken: refused with %u\n", answer);
         exit(1);
@@ -24,18 +26,19 @@ static void finish(uint8_t answer)
 static void request(const uint8_t *message)
 {
     uint8_t reply[1];
-    finish(grommetide_request(image, sizeof image, record, sizeof record, 2, message, message[0], reply, sizeof reply));
+    finish(grommetide_request(image, sizeof image, BLOCKS, record, sizeof record, 2, message, message[0], reply,
+                              sizeof reply));
 }
 
 /* What a service desk would note of the image as it is now. */
 static void diagnose(const char *when)
 {
-    size_t half, place;
+    size_t block, place;
     uint8_t field;
-    uint8_t answer = grommetide_fault(image, sizeof image, &half, &field, &place);
+    uint8_t answer = grommetide_fault(image, sizeof image, BLOCKS, &block, &field, &place);
     printf("%s: %u", when, answer);
     if (answer == GROMMETIDE_FOREIGN)
-        printf(", half %u broke at its %s, byte %u", (unsigned)half, fields[field], (unsigned)place);
+        printf(", block %u broke at its %s, byte %u", (unsigned)block, fields[field], (unsigned)place);
     printf("\n");
 }
 
@@ -43,13 +46,13 @@ int main(void)
 {
     static const uint8_t put[] = {8, 0, 0x01, 1, 5, 0, 'o', 'n'}, commit[] = {4, 0, 0x03, 1};
 
-    finish(grommetide_format(image, sizeof image, record, sizeof record));
+    finish(grommetide_format(image, sizeof image, BLOCKS, record, sizeof record));
     request(put);
     request(commit);
     diagnose("as it was");
 
     image[28] &= 0xFC; /* the commit's kind was 3 */
-    if (grommetide_mount(image, sizeof image, record, sizeof record) != GROMMETIDE_FOREIGN)
+    if (grommetide_mount(image, sizeof image, BLOCKS, record, sizeof record) != GROMMETIDE_FOREIGN)
         return 1;
     diagnose("two bits lost in byte 28");
 

@@ -14,10 +14,7 @@
 #include <stddef.h>
 #include <stdint.h>
 
-/*
- * A sector is a half of the store. With smaller ones a half would be erased by several commands, and a power cut between
- * two of them would leave it half erased, which the store does not cover (grommetide.h, "What the flash must do").
- */
+/* A sector is a block of the store here. Smaller ones would do: a cut between two of them is one inside the erase. */
 enum { CHIP_BYTES = 512, CHIP_PAGE = 256, CHIP_SECTOR = 256 };
 
 enum { CHIP_PROGRAM = 0x02, CHIP_READ = 0x03, CHIP_STATUS = 0x05, CHIP_WRITE_ENABLE = 0x06, CHIP_ERASE = 0x20 };

@@ -67,7 +67,7 @@ static int finish(int answer, unsigned *jobs)
         answer = spi_nor_step(record);
         /* when power goes the chip has done the step, or not begun it */
         if (answer != SPI_NOR_POWER_LOST || memcmp(chip_cells(), plain, CHIP_BYTES) != 0)
-            plain_answer = grommetide_step(plain, CHIP_BYTES, plain_record, sizeof plain_record);
+            plain_answer = grommetide_step(plain, CHIP_BYTES, SPI_NOR_BLOCKS, plain_record, sizeof plain_record);
         if (answer != SPI_NOR_POWER_LOST)
             both((uint8_t)answer, (uint8_t)plain_answer);
         if (memcmp(chip_cells(), plain, CHIP_BYTES) != 0)
@@ -84,8 +84,8 @@ static int finish(int answer, unsigned *jobs)
 
 static int format(void)
 {
-    return finish(both(grommetide_format(chip_mapped(), CHIP_BYTES, record, sizeof record),
-                       grommetide_format(plain, CHIP_BYTES, plain_record, sizeof plain_record)),
+    return finish(both(grommetide_format(chip_mapped(), CHIP_BYTES, SPI_NOR_BLOCKS, record, sizeof record),
+                       grommetide_format(plain, CHIP_BYTES, SPI_NOR_BLOCKS, plain_record, sizeof plain_record)),
                   &now.formats);
 }
 
@@ -93,8 +93,8 @@ static int format(void)
 static int restart(void)
 {
     unsigned mounts = 0;
-    int answer = both(grommetide_mount(chip_mapped(), CHIP_BYTES, record, sizeof record),
-                      grommetide_mount(plain, CHIP_BYTES, plain_record, sizeof plain_record));
+    int answer = both(grommetide_mount(chip_mapped(), CHIP_BYTES, SPI_NOR_BLOCKS, record, sizeof record),
+                      grommetide_mount(plain, CHIP_BYTES, SPI_NOR_BLOCKS, plain_record, sizeof plain_record));
     if (answer != GROMMETIDE_NO_STORE)
         return finish(answer, &mounts);
     if (now.formats > 0)
@@ -105,10 +105,10 @@ static int restart(void)
 static int ask(uint8_t host, const uint8_t *message, unsigned *jobs)
 {
     uint8_t reply[1];
-    return finish(both(grommetide_request(chip_mapped(), CHIP_BYTES, record, sizeof record, host, message, message[0],
-                                          reply, sizeof reply),
-                       grommetide_request(plain, CHIP_BYTES, plain_record, sizeof plain_record, host, message, message[0],
-                                          reply, sizeof reply)),
+    return finish(both(grommetide_request(chip_mapped(), CHIP_BYTES, SPI_NOR_BLOCKS, record, sizeof record, host, message,
+                                          message[0], reply, sizeof reply),
+                       grommetide_request(plain, CHIP_BYTES, SPI_NOR_BLOCKS, plain_record, sizeof plain_record, host, message,
+                                          message[0], reply, sizeof reply)),
                   jobs);
 }
 
@@ -142,7 +142,8 @@ static void expect(uint8_t id, uint8_t letter, unsigned round)
 {
     const uint8_t message[] = {6, 0, 0x05, 1, id, 0}, *value = chip_mapped();
     size_t at, len;
-    uint8_t answer = grommetide_read(value, CHIP_BYTES, record, sizeof record, 0, message, sizeof message, &at, &len);
+    uint8_t answer =
+        grommetide_read(value, CHIP_BYTES, SPI_NOR_BLOCKS, record, sizeof record, 0, message, sizeof message, &at, &len);
     value += at;
     if (round == 0 ? answer != GROMMETIDE_NO_OBJECT
                    : answer != GROMMETIDE_DONE || len != 2 || value[0] != letter || value[1] != '0' + round)

@@ -11,7 +11,7 @@
 
 #include "grommetide.h"
 
-enum { LENGTH = 512 };
+enum { LENGTH = 512, BLOCKS = 2 };
 
 static uint8_t nor[LENGTH];
 
@@ -49,7 +49,7 @@ static uint8_t step(struct board *board)
 {
     size_t at, len;
     uint8_t byte;
-    switch (grommetide_next(LENGTH, board->record, sizeof board->record, &at, &len, &byte)) {
+    switch (grommetide_next(LENGTH, BLOCKS, board->record, sizeof board->record, &at, &len, &byte)) {
     case GROMMETIDE_PROGRAM:
         nor_program(at, byte);
         board->copy[at] &= byte;
@@ -61,7 +61,7 @@ static uint8_t step(struct board *board)
     default:
         stop("there is no step");
     }
-    return grommetide_made(board->copy, LENGTH, board->record, sizeof board->record);
+    return grommetide_made(board->copy, LENGTH, BLOCKS, board->record, sizeof board->record);
 }
 
 /* Up to `most` steps of the job in hand; how many were made. */
@@ -89,19 +89,19 @@ static unsigned begin(struct board *board, uint8_t answer, unsigned most)
 
 static unsigned mount(struct board *board, unsigned most)
 {
-    return begin(board, grommetide_mount(board->copy, LENGTH, board->record, sizeof board->record), most);
+    return begin(board, grommetide_mount(board->copy, LENGTH, BLOCKS, board->record, sizeof board->record), most);
 }
 
 static unsigned format(struct board *board)
 {
-    return begin(board, grommetide_format(board->copy, LENGTH, board->record, sizeof board->record), LENGTH);
+    return begin(board, grommetide_format(board->copy, LENGTH, BLOCKS, board->record, sizeof board->record), LENGTH);
 }
 
 static unsigned request(struct board *board, uint8_t host, const uint8_t *message, unsigned most)
 {
     uint8_t reply[1];
-    uint8_t answer = grommetide_request(board->copy, LENGTH, board->record, sizeof board->record, host, message, message[0],
-                                        reply, sizeof reply);
+    uint8_t answer = grommetide_request(board->copy, LENGTH, BLOCKS, board->record, sizeof board->record, host, message,
+                                        message[0], reply, sizeof reply);
     return begin(board, answer, most);
 }
 
@@ -109,8 +109,8 @@ static void show(const struct board *board, const char *when)
 {
     static const uint8_t read_5[] = {6, 0, 0x05, 1, 5, 0};
     size_t at, len;
-    uint8_t answer = grommetide_read(board->copy, LENGTH, board->record, sizeof board->record, 0, read_5, sizeof read_5,
-                                     &at, &len);
+    uint8_t answer = grommetide_read(board->copy, LENGTH, BLOCKS, board->record, sizeof board->record, 0, read_5,
+                                     sizeof read_5, &at, &len);
     if (answer != GROMMETIDE_DONE)
         stop("object 5 is gone");
     printf("%s: object 5 is \"%.*s\", %u bytes at %u\n", when, (int)len, (const char *)board->copy + at, (unsigned)len,
@@ -128,7 +128,7 @@ int main(void)
         stop("header and library differ");
     nor_erase(0, LENGTH);
     power_up(&board);
-    if (grommetide_mount(board.copy, LENGTH, board.record, sizeof board.record) != GROMMETIDE_NO_STORE)
+    if (grommetide_mount(board.copy, LENGTH, BLOCKS, board.record, sizeof board.record) != GROMMETIDE_NO_STORE)
         stop("a store on blank flash");
     printf("blank flash: no store; formatted in %u steps\n", format(&board));
 

@@ -1,6 +1,5 @@
 #include "spi_nor.h"
 
-#include "chip.h"
 #include "grommetide.h"
 
 static int enable(void)
@@ -26,7 +25,7 @@ static int program(size_t at, uint8_t byte)
     return enable() && chip_send(command, sizeof command, NULL, 0) && wait();
 }
 
-/* Sector by sector; chip.h says why a half is one sector here. */
+/* Sector by sector. */
 static int erase(size_t at, size_t len)
 {
     const size_t end = at + len;
@@ -43,7 +42,7 @@ int spi_nor_step(uint8_t *record)
     size_t at, len;
     uint8_t byte;
     int powered = 1;
-    switch (grommetide_next(CHIP_BYTES, record, GROMMETIDE_RECORD_BYTES, &at, &len, &byte)) {
+    switch (grommetide_next(CHIP_BYTES, SPI_NOR_BLOCKS, record, GROMMETIDE_RECORD_BYTES, &at, &len, &byte)) {
     case GROMMETIDE_PROGRAM:
         powered = program(at, byte);
         break;
@@ -55,5 +54,5 @@ int spi_nor_step(uint8_t *record)
     }
     if (!powered)
         return SPI_NOR_POWER_LOST;
-    return grommetide_made(chip_mapped(), CHIP_BYTES, record, GROMMETIDE_RECORD_BYTES);
+    return grommetide_made(chip_mapped(), CHIP_BYTES, SPI_NOR_BLOCKS, record, GROMMETIDE_RECORD_BYTES);
 }

@@ -9,6 +9,7 @@ use scene::blank;
 use scene::bytes;
 use scene::commit;
 use scene::format;
+use scene::front;
 use scene::hex;
 use scene::log;
 use scene::mount;
@@ -21,10 +22,12 @@ use scene::say;
 use scene::tell;
 use scene::tell_run;
 
+// The rows are of two blocks.
+const BLOCKS: u8 = 2;
+
 // A format erases whatever was there.
 fn row_a() -> Bench {
-    let zeros = [0u8; 512];
-    let a = format(zeros);
+    let a = format(scene::new(0, 512, BLOCKS), 65536);
     tell(b"a  format", a);
     bytes(a, 0, 9);
     a
@@ -44,21 +47,30 @@ fn row_c(b: Bench) -> Bench {
     c
 }
 
-fn read_five(what: &[u8], image: [u8; 512], board: Record) {
+fn read_five(what: &[u8], d: Bench) {
+    let image = d.image;
+    let board = d.board;
     say(what);
-    hex(queue::read(&image, board, Host(0), &[6, 0, 5, 1, 5, 0]));
+    hex(queue::read(
+        front(&image, d.size),
+        d.blocks,
+        board,
+        Host(0),
+        &[6, 0, 5, 1, 5, 0],
+    ));
     say(b"\n");
 }
 
 // That the stretch is the image's own bytes 23 and 24 shows when these two change.
 fn row_d(c: Bench) {
+    let mut changed = c;
     let mut image = c.image;
-    let board = c.board;
     tell(b"d  read 5", ask(c, 0, &[6, 0, 5, 1, 5, 0]));
-    read_five(b"   stretch:", image, board);
+    read_five(b"   stretch:", c);
     image[23] = 1;
     image[24] = 2;
-    read_five(b"   once bytes 23 and 24 are 01 02:", image, board);
+    changed.image = image;
+    read_five(b"   once bytes 23 and 24 are 01 02:", changed);
 }
 
 // The reply was 16 bytes of 0xEE; the last two stay.
@@ -71,17 +83,12 @@ fn row_e(c: Bench) {
     say(b"\n");
 }
 
-fn first_half(image: &[u8]) {
-    let size = image.len() / 2;
-    blank(&image[0..size]);
-}
-
 fn row_f(b: Bench) {
     let f = mount(b);
     let image = f.image;
     tell(b"f  after b, cut, mount", f);
-    say(b"   half 0: ");
-    first_half(&image);
+    say(b"   block 0: ");
+    blank(front(&image, 256));
     bytes(f, 256, 265);
     objects(f);
 }
@@ -141,7 +148,7 @@ fn row_l(i: Bench) -> Bench {
     before
 }
 
-// Step 152 makes the new half valid, step 153 erases the old one.
+// Step 152 makes the new block valid, step 153 erases the old one.
 fn row_m(before: Bench, most: usize) {
     let cut = ask_some(before, 0, &[6, 0, 1, 1, 4, 0], most);
     tell(b"m  in that put, cut", cut);
@@ -157,12 +164,12 @@ fn row_n(a: Bench) {
 // Host 0's put, on an image of 1,024 bytes that was just formatted.
 fn put_on_1024(what: &[u8], message: &[u8]) {
     let mut image = [0u8; 1024];
-    let begun = store::format(&image);
-    let a = run(&mut image, begun, 65536);
+    let begun = store::format(&image, BLOCKS);
+    let a = run(&mut image, BLOCKS, begun, 65536);
     let board = a.board;
     let mut reply = [0u8; 14];
-    let asked = queue::request(&image, board, Host(0), message, &mut reply);
-    tell_run(what, run(&mut image, asked, 65536));
+    let asked = queue::request(&image, BLOCKS, board, Host(0), message, &mut reply);
+    tell_run(what, run(&mut image, BLOCKS, asked, 65536));
 }
 
 // A frame of 248 bytes has no room where S is 256. Where S is 512: 16 + 248 + 6 + 14 = 284, and it ends at 16 + 248 = 264.
@@ -184,7 +191,7 @@ fn row_o(a: Bench) {
 }
 
 fn finish(image: &mut [u8], what: &[u8], begun: Outcome) -> Record {
-    let r = run(image, begun, 65536);
+    let r = run(image, BLOCKS, begun, 65536);
     say(what);
     result(r.answer, r.steps);
     r.board
@@ -194,10 +201,17 @@ fn finish(image: &mut [u8], what: &[u8], begun: Outcome) -> Record {
 fn row_p(image: &mut [u8]) {
     say(b"p  length ");
     number(image.len());
-    finish(image, b"; format", store::format(image));
-    let board = finish(image, b"; mount", store::mount(image));
+    finish(image, b"; format", store::format(image, BLOCKS));
+    let board = finish(image, b"; mount", store::mount(image, BLOCKS));
     let mut reply = [0u8; 14];
-    let asked = queue::request(image, board, Host(0), &[7, 0, 1, 1, 0, 0, 9], &mut reply);
+    let asked = queue::request(
+        image,
+        BLOCKS,
+        board,
+        Host(0),
+        &[7, 0, 1, 1, 0, 0, 9],
+        &mut reply,
+    );
     finish(image, b"; put", asked);
     say(b"\n");
 }

@@ -6,8 +6,8 @@ use Prim.Native.Nat.{ℕ, suc, _+_, _-_, _*_, _≤_, _<_}
 use native.Mathlib.Omega.{arith}
 use lib.ListN.{length, drop, length-append, length-take}
 use borrow.Author.Tests.{ltb-false}
-use Rattle.flash.specs.Flash.{Step, erase, blocks, block, sizeOf, applyAll, writes}
-use Rattle.flash.proofs.Cases.{on-test}
+use Rattle.flash.specs.Flash.{maxBlocks, isCount, Step, erase, block, sizeOf, applyAll, writes}
+use Rattle.flash.proofs.Cases.{on-test, between}
 use Rattle.frame.specs.Frame.{Frame, encode, encodeAll, frameLen, total}
 use Rattle.frame.proofs.Encode.{length-encode, length-all}
 use Rattle.journal.specs.Replay.{State, framesOf, replay, settledOnly}
@@ -19,16 +19,16 @@ use Rattle.journal.proofs.Room.{frames-total, used-claimed, claimed-settled, cl
 use Rattle.journal.proofs.Loading.{Yields, yields-none, yields-settled, yields-all}
 use Rattle.board.specs.declared.Job.{Job}
 use Rattle.board.specs.declared.Record.{Record}
-use Rattle.board.specs.Record.{allowed, noPlaces, noMarks, rest, idle}
+use Rattle.board.specs.Record.{allowed, noPlaces, noMarks, rest, starting, idle, busy}
 use Rattle.board.specs.Step.{enterWipe}
 use Rattle.board.specs.Mount.{nextBlock, newTime, endOf, Store, needsTransfer, mountJob, formatOrder, formatJob}
 use Rattle.board.specs.Queue.{Held, needsRoom, appendJob}
 use Rattle.board.specs.Exec.{exec}
 use Rattle.board.specs.Plan.{Follows, onBlock, formatPlan, transferIf, mountedAt, framePlan, framedAt}
 use Rattle.board.proofs.Numbers.{next-there, next-other}
-use Rattle.board.proofs.Images.{Sized, sized-of}
+use Rattle.board.proofs.Images.{Sized, sized-of, sized-last}
 use Rattle.board.proofs.Blocks.{Besides, besides-blocks, besides-kept}
-use Rattle.board.proofs.Order.{order-both, both-blocks}
+use Rattle.board.proofs.Order.{order-blocks}
 use Rattle.board.proofs.PipelineJob.{Has, follows-staying, follows-moving}
 
 -- a journal in a block lies below the block's end
@@ -41,15 +41,16 @@ journal-fits s k img fs g =
 
 -- ---- format
 
-pub follows-format : (img : List ℕ) → allowed (length img) ≡ true
-    → Follows exec img (enterWipe (formatJob img)) (formatPlan img) (idle (rest (length img - 1) 0 headerLen))
+pub follows-format : (N : ℕ) (img : List ℕ) → allowed N (length img) ≡ true
+    → Follows N (exec N) img (enterWipe (formatJob N img)) (formatPlan N img) (idle (rest N (length img - 1) 0 headerLen))
 unfolding writes encodeAll total
-follows-format img h =
-    let j : Job = formatJob img .job in
-    let sized : Sized (sizeOf img) img = sized-of img h in
-    follows-moving img (length img - 1) (nextBlock 0) headerLen noPlaces j 256 headerLen [] (formatOrder img) (omega arith) (both-blocks (order-both img))
-    (record { wipe = refl; wipes = refl; size = refl }) (omega arith) (omega arith) [] refl (omega arith) (λ q. omega arith) (omega arith)
-    (yields-none (block (sizeOf img) (nextBlock 0) (applyAll (sizeOf img) (map erase (formatOrder img)) img)) headerLen noPlaces noMarks)
+follows-format N img h =
+    let j : Job = formatJob N img .job in
+    let sized : Sized N (sizeOf N img) img = sized-of N img h in
+    follows-moving img (length img - 1) (nextBlock N 0) headerLen noPlaces j 256 headerLen [] (formatOrder N img) (sized-last sized) (sized .count)
+    (order-blocks N img) (record { wipe = refl; wipes = refl; size = refl }) (next-there 0 (omega (arith, sized .few))) (omega (arith, sized .low)) [] refl
+    (omega (arith, sized .few)) (λ q. next-other 0 (sized .few) (omega (arith, sized .few)) (sym q)) (omega (arith, sized .low))
+    (yields-none (block (sizeOf N img) (nextBlock N 0) (applyAll (sizeOf N img) (map erase (formatOrder N img)) img)) headerLen noPlaces noMarks)
 
 -- ---- mount
 
@@ -58,82 +59,90 @@ no-append : (k e : ℕ) (xs ys : List Step) → xs ++ (ys ++ onBlock k (writes e
 unfolding writes
 no-append k e xs ys = ap (λ (zs : List Step). xs ++ zs) (append-nil ys)
 
-pub follows-mount : (img : List ℕ) (x : Store) (ks : List ℕ) → allowed (length img) ≡ true → x .number < blocks → Besides (x .number) ks
-    → Journal (block (sizeOf img) (x .number) img) (x .frames)
-    → Follows exec img (enterWipe (mountJob img x ks))
-    (map erase ks ++ transferIf (needsTransfer (x .frames) (x .tail)) (x .number) (x .time) (settledOnly (replay (x .frames))))
-    (mountedAt (needsTransfer (x .frames) (x .tail)) (length img - 1) x)
-follows-mount img x ks h here others g =
+pub follows-mount : {N : ℕ} (img : List ℕ) (x : Store) (ks : List ℕ) → allowed N (length img) ≡ true → x .number < N → Besides N (x .number) ks
+    → Journal (block (sizeOf N img) (x .number) img) (x .frames)
+    → Follows N (exec N) img (enterWipe (mountJob N img x ks))
+    (map erase ks ++ transferIf N (needsTransfer (x .frames) (x .tail)) (x .number) (x .time) (settledOnly (replay (x .frames))))
+    (mountedAt N (needsTransfer (x .frames) (x .tail)) (length img - 1) x)
+follows-mount {N} img x ks h here others g =
     let k : ℕ = x .number in
-    let s : ℕ = sizeOf img in
+    let s : ℕ = sizeOf N img in
     let l : ℕ = length img - 1 in
     let e : ℕ = endOf (x .frames) in
     let moves : Bool = needsTransfer (x .frames) (x .tail) in
     let st : State = settledOnly (replay (x .frames)) in
-    let r : Record = mountJob img x ks in
-    let sized : Sized (sizeOf img) img = sized-of img h in
+    let r : Record = mountJob N img x ks in
+    let sized : Sized N (sizeOf N img) img = sized-of N img h in
     let fits : e ≤ s = journal-fits s k img (x .frames) g in
     let has : Has (r .job) ks [] = record { wipe = refl; wipes = refl; size = refl } in
     on-test moves
     (λ t.
-    let same : block s k (applyAll s (map erase ks) img) ≡ block s k img = besides-kept s k ks img others in
+    let same : block s k (applyAll s (map erase ks) img) ≡ block s k img = besides-kept N s k ks img others in
     let total-is : headerLen + total (framesOf st) ≡ used (replay (x .frames)) = frames-total st ∙ claimed-settled (replay (x .frames)) in
     let end-is : headerLen + total (framesOf st) + 0 ≡ used (replay (x .frames)) = omega arith in
-    subst (λ (b : Bool). Follows exec img (enterWipe r) (map erase ks ++ transferIf b k (x .time) st) (mountedAt b l x)) (sym t)
-    (subst (λ (n : ℕ). Follows exec img (enterWipe r) (map erase ks ++ (onBlock (nextBlock k) (build n (framesOf st)) ++ (erase k ∷ []))) (mountedAt true l x))
+    subst (λ (b : Bool). Follows N (exec N) img (enterWipe r) (map erase ks ++ transferIf N b k (x .time) st) (mountedAt N b l x)) (sym t)
+    (subst (λ (n : ℕ). Follows N (exec N) img (enterWipe r) (map erase ks ++ (onBlock (nextBlock N k) (build n (framesOf st)) ++ (erase k ∷ [])))
+    (mountedAt N true l x))
     (ap (λ (b : Bool). newTime b (x .time)) t)
-    (subst (λ (n : ℕ). Follows exec img (enterWipe r) (map erase ks ++ (onBlock (nextBlock k) (build (r .job .time) (framesOf st)) ++ (erase k ∷ [])))
-    (idle (rest l (nextBlock k) n))) end-is
-    (subst (λ (ys : List Step). Follows exec img (enterWipe r) ys (idle (rest l (nextBlock k) (headerLen + total (framesOf st) + 0))))
-    (no-append (nextBlock k) (headerLen + total (framesOf st)) (map erase ks) (onBlock (nextBlock k) (build (r .job .time) (framesOf st)) ++ (erase k ∷ [])))
-    (follows-moving img l k e (placesOf (x .frames)) (r .job) 0 e [] ks (omega arith) (besides-blocks k ks others) has here (omega arith) (framesOf st) t
-    (next-there k here) (next-other k here)
+    (subst (λ (n : ℕ). Follows N (exec N) img (enterWipe r) (map erase ks ++ (onBlock (nextBlock N k) (build (r .job .time) (framesOf st)) ++ (erase k ∷ [])))
+    (idle (rest N l (nextBlock N k) n))) end-is
+    (subst (λ (ys : List Step). Follows N (exec N) img (enterWipe r) ys (idle (rest N l (nextBlock N k) (headerLen + total (framesOf st) + 0))))
+    (no-append (nextBlock N k) (headerLen + total (framesOf st)) (map erase ks)
+    (onBlock (nextBlock N k) (build (r .job .time) (framesOf st)) ++ (erase k ∷ [])))
+    (follows-moving img l k e (placesOf (x .frames)) (r .job) 0 e [] ks (sized-last sized) (sized .count) (besides-blocks N k ks others) has here (omega arith)
+    (framesOf st) t (next-there k here) (next-other k (sized .few) here)
     (omega (arith, used-claimed (replay (x .frames)), claimed-replay (x .frames)))
     (subst (λ (b : List ℕ). Yields b e (placesOf (x .frames)) noMarks 0 e (framesOf st)) (sym same) (yields-settled (block s k img) (x .frames) noMarks g)))))))
     (λ t.
     let end-is : e + 0 ≡ e = omega arith in
-    subst (λ (b : Bool). Follows exec img (enterWipe r) (map erase ks ++ transferIf b k (x .time) st) (mountedAt b l x)) (sym t)
-    (subst (λ (n : ℕ). Follows exec img (enterWipe r) (map erase ks ++ []) (idle (rest l k n))) end-is
-    (subst (λ (ys : List Step). Follows exec img (enterWipe r) ys (idle (rest l k (e + 0)))) (no-append k e (map erase ks) [])
-    (follows-staying img l k e (placesOf (x .frames)) (r .job) 0 e [] ks (omega arith) (besides-blocks k ks others) has here (omega arith) t (omega arith)))))
+    subst (λ (b : Bool). Follows N (exec N) img (enterWipe r) (map erase ks ++ transferIf N b k (x .time) st) (mountedAt N b l x)) (sym t)
+    (subst (λ (n : ℕ). Follows N (exec N) img (enterWipe r) (map erase ks ++ []) (idle (rest N l k n))) end-is
+    (subst (λ (ys : List Step). Follows N (exec N) img (enterWipe r) ys (idle (rest N l k (e + 0)))) (no-append k e (map erase ks) [])
+    (follows-staying img l k e (placesOf (x .frames)) (r .job) 0 e [] ks (sized-last sized) (sized .count) (besides-blocks N k ks others) has here
+    (omega arith) t (omega arith)))))
 
 -- ---- a queue request's frame
 
-pub follows-frame : (img : List ℕ) (r : Record) (x : Held) (f : Frame) → length img ≡ suc (r .last) → r .block < blocks
-    → Journal (block (sizeOf img) (r .block) img) (x .frames) → r .end ≡ endOf (x .frames) → claimed (replay (x .frames)) + frameLen f ≤ sizeOf img
-    → Follows exec img (enterWipe (appendJob img r x f)) (framePlan (needsRoom img r f) (r .block) (r .end) x f)
-    (framedAt (needsRoom img r f) (r .last) (r .block) (r .end) x f)
+pub follows-frame : {N : ℕ} (img : List ℕ) (r : Record) (x : Held) (f : Frame) → isCount N ≡ true → length img ≡ suc (r .last)
+    → r .blocks ≡ N → r .block < N → Journal (block (sizeOf N img) (r .block) img) (x .frames) → r .end ≡ endOf (x .frames)
+    → claimed (replay (x .frames)) + frameLen f ≤ sizeOf N img
+    → Follows N (exec N) img (enterWipe (appendJob N img r x f)) (framePlan N (needsRoom N img r f) (r .block) (r .end) x f)
+    (framedAt N (needsRoom N img r f) (r .last) (r .block) (r .end) x f)
 unfolding applyAll
-follows-frame img r x f long here g end room =
+follows-frame {N} img r x f count long blocks here g end room =
     let k : ℕ = r .block in
-    let s : ℕ = sizeOf img in
+    let s : ℕ = sizeOf N img in
     let l : ℕ = r .last in
     let e : ℕ = r .end in
     let st : State = replay (x .frames) in
     let fs : List Frame = framesOf st in
-    let a : Record = appendJob img r x f in
+    let a : Record = appendJob N img r x f in
     let header : headerLen ≤ s = omega (arith, journal-fits s k img (x .frames) g) in
     let has : Has (a .job) [] (encode f) = record { wipe = refl; wipes = refl; size = sym (length-encode f) } in
-    on-test (needsRoom img r f)
+    let plan : List Step = framePlan N (needsRoom N img r f) k e x f in
+    let last : Record = framedAt N (needsRoom N img r f) l k e x f in
+    let at : ℕ → Record = λ n. enterWipe (busy (rest n l k e) (placesOf (x .frames)) (a .job) (starting 0 headerLen) (encode f)) in
+    subst (λ (n : ℕ). Follows N (exec N) img (at n) plan last) (sym blocks)
+    (on-test (needsRoom N img r f)
     (λ t.
     let total-is : headerLen + total fs ≡ claimed st = frames-total st in
-    subst (λ (b : Bool). Follows exec img (enterWipe a) (framePlan b k e x f) (framedAt b l k e x f)) (sym t)
+    subst (λ (b : Bool). Follows N (exec N) img (at N) (framePlan N b k e x f) (framedAt N b l k e x f)) (sym t)
     (subst
     (λ (n : ℕ).
-    Follows exec img (enterWipe a) ((onBlock (nextBlock k) (build n fs) ++ (erase k ∷ [])) ++ onBlock (nextBlock k) (writes (claimed st) (encode f)))
-    (idle (rest l (nextBlock k) (claimed st + frameLen f))))
+    Follows N (exec N) img (at N) ((onBlock (nextBlock N k) (build n fs) ++ (erase k ∷ [])) ++ onBlock (nextBlock N k) (writes (claimed st) (encode f)))
+    (idle (rest N l (nextBlock N k) (claimed st + frameLen f))))
     (ap (λ (b : Bool). newTime b (x .time)) t)
     (subst₂
     (λ (n m : ℕ).
-    Follows exec img (enterWipe a) ((onBlock (nextBlock k) (build (a .job .time) fs) ++ (erase k ∷ [])) ++ onBlock (nextBlock k) (writes n (encode f)))
-    (idle (rest l (nextBlock k) (n + m))))
+    Follows N (exec N) img (at N) ((onBlock (nextBlock N k) (build (a .job .time) fs) ++ (erase k ∷ [])) ++ onBlock (nextBlock N k) (writes n (encode f)))
+    (idle (rest N l (nextBlock N k) (n + m))))
     total-is (length-encode f)
-    (follows-moving img l k e (placesOf (x .frames)) (a .job) 0 headerLen (encode f) [] long tt has here header fs t (next-there k here) (next-other k here)
-    (omega (arith, length-encode f))
+    (follows-moving img l k e (placesOf (x .frames)) (a .job) 0 headerLen (encode f) [] long count tt has here header fs t (next-there k here)
+    (next-other k (between 2 N maxBlocks count .0) here) (omega (arith, length-encode f))
     (subst (λ (n : ℕ). Yields (block s k img) n (placesOf (x .frames)) (sinceOf (x .frames)) 0 headerLen fs) (sym end)
     (yields-all (block s k img) (x .frames) g))))))
     (λ t.
-    subst (λ (b : Bool). Follows exec img (enterWipe a) (framePlan b k e x f) (framedAt b l k e x f)) (sym t)
-    (subst (λ (m : ℕ). Follows exec img (enterWipe a) (onBlock k (writes e (encode f))) (idle (rest l k (e + m)))) (length-encode f)
-    (follows-staying img l k e (placesOf (x .frames)) (a .job) 0 headerLen (encode f) [] long tt has here header t
-    (omega (arith, length-encode f, ltb-false (sizeOf img) (r .end + frameLen f) t)))))
+    subst (λ (b : Bool). Follows N (exec N) img (at N) (framePlan N b k e x f) (framedAt N b l k e x f)) (sym t)
+    (subst (λ (m : ℕ). Follows N (exec N) img (at N) (onBlock k (writes e (encode f))) (idle (rest N l k (e + m)))) (length-encode f)
+    (follows-staying img l k e (placesOf (x .frames)) (a .job) 0 headerLen (encode f) [] long count tt has here header t
+    (omega (arith, length-encode f, ltb-false (sizeOf N img) (r .end + frameLen f) t))))))

@@ -82,6 +82,10 @@ number-injective a b s e = go (kind a) (kind b)
 pub number-done : (a : Answer) → numberOf a ≡ some 0 → a ≡ Done
 number-done a e = number-injective a Done (λ k j f g p q. let w : _≡_ {A = ℕ} 0 1 = cc in absurd (omega arith)) e
 
+-- any refusal but 3
+pub number-refused : (a : Answer) (n : Refusal) (k : ℕ) → numberOf (Refused n) ≡ some k → (k ≡ 3 → ⊥) → numberOf a ≡ some k → a ≡ Refused n
+number-refused a n k d h e = number-injective a (Refused n) (λ i j f g p q. absurd (not-three k h (sym d ∙ ap numberOf q))) (e ∙ sym d)
+
 -- a number above 0 is a refusal's
 pub number-accepted : (a : Answer) (k : ℕ) → numberOf a ≡ some (suc k) → Accepted a → ⊥
 number-accepted Done k e y = let w : _≡_ {A = ℕ} 0 (suc k) = cc in omega arith
@@ -159,20 +163,21 @@ some-value e = cc
 taken-value : {fs : List Frame} {i : ObjectId} {v : List ℕ} {at : ℕ} → TakenFrom fs i v at → lookup i (replay fs .objects) ≡ some v
 taken-value {fs} {i} {v} y = ap (λ (gs : List Frame). lookup i (replay gs .objects)) (y .stands) ∙ y .taken v
 
-same-stands : (img : List ℕ) (r : Record) (x : Held) (i : ObjectId) (st su : Stretch) → Stands img r x i st → Stands img r x i su → st ≡ su
-same-stands img r x i st su y z =
+same-stands : {N : ℕ} (img : List ℕ) (r : Record) (x : Held) (i : ObjectId) (st su : Stretch) → Stands N img r x i st → Stands N img r x i su → st ≡ su
+same-stands {N} img r x i st su y z =
     let e : y .value ≡ z .value = some-value (sym (taken-value (y .from)) ∙ taken-value (z .from)) in
     let g : TakenFrom (x .frames) i (z .value) (y .at) = subst (λ (v : List ℕ). TakenFrom (x .frames) i v (y .at)) e (y .from) in
     let f : y .at ≡ z .at = place-exact .once (x .frames) i (z .value) (y .at) (z .at) g (z .from) in
-    y .is ∙ ap₂ (λ (a : ℕ) (v : List ℕ). stretchAt (r .block * sizeOf img + a) (length v)) f e ∙ sym (z .is)
+    y .is ∙ ap₂ (λ (a : ℕ) (v : List ℕ). stretchAt (r .block * sizeOf N img + a) (length v)) f e ∙ sym (z .is)
   where
     stretchAt : ℕ → ℕ → Stretch
     stretchAt a n = record { at = a; size = n }
 
-pub same-stretch : (img : List ℕ) (r : Record) (x : Held) (q : Request) (st su : Stretch) → HandsBack img r x q st → HandsBack img r x q su → st ≡ su
-same-stretch img r x (Put i) st su e f = e ∙ sym f
-same-stretch img r x (Delete i) st su e f = e ∙ sym f
-same-stretch img r x Commit st su e f = e ∙ sym f
-same-stretch img r x Abort st su e f = e ∙ sym f
-same-stretch img r x (Read i) st su e f = same-stands img r x i st su e f
-same-stretch img r x (Log p) st su e f = e ∙ sym f
+pub same-stretch : (N : ℕ) (img : List ℕ) (r : Record) (x : Held) (q : Request) (st su : Stretch) → HandsBack N img r x q st → HandsBack N img r x q su
+    → st ≡ su
+same-stretch N img r x (Put i) st su e f = e ∙ sym f
+same-stretch N img r x (Delete i) st su e f = e ∙ sym f
+same-stretch N img r x Commit st su e f = e ∙ sym f
+same-stretch N img r x Abort st su e f = e ∙ sym f
+same-stretch N img r x (Read i) st su e f = same-stands img r x i st su e f
+same-stretch N img r x (Log p) st su e f = e ∙ sym f

@@ -132,7 +132,7 @@ lands-fresh l ws q d f g h e =
 abbrev frameWrites : List Frame → Frame → List Write
 frameWrites fs f = writes (endOf fs) (encode f)
 
-module _ {s k t : ℕ} {img : List ℕ} {fs : List Frame} (a : Alone s img k t fs clean) (f : Frame) (x : Fits s fs f) where
+module _ {N : ℕ} {s k t : ℕ} {img : List ℕ} {fs : List Frame} (a : Alone N s img k t fs clean) (f : Frame) (x : Fits s fs f) where
   long : length (block s k img) ≡ s
   long = block-long k (a .sized) (a .there)
 
@@ -164,24 +164,24 @@ module _ {s k t : ℕ} {img : List ℕ} {fs : List Frame} (a : Alone s img k t f
           (lands-fresh (block s k img) (frameWrites fs f) j (write 0 0) (fresh-stretch (endOf fs) (encode f))
           (given-writes (endOf fs) (encode f) (bytes-encode 256 f (x .legal))) h (ap (λ (n : ℕ). getD (block s k img) n 0) place ∙ was))
 
-  pub append-guard : {os : List Object} (u : Bool) → Keeps s (replay fs) os → Each s (Guard s os u) (appendPlan k (endOf fs) f) img
+  pub append-guard : {os : List Object} (u : Bool) → Keeps s (replay fs) os → Each s (Guard N s os u) (appendPlan k (endOf fs) f) img
   unfolding applyAll
-  append-guard {os} u p = each-writes s k (Guard s os u) (frameWrites fs f) (write 0 0) img (λ j h. (go j h, tt))
+  append-guard {os} u p = each-writes s k (Guard N s os u) (frameWrites fs f) (write 0 0) img (λ j h. (go j h, tt))
     where
-      go : (j : ℕ) → j < length (frameWrites fs f) → Safe s (applyAll s (onBlock k (take j (frameWrites fs f))) img) os u
+      go : (j : ℕ) → j < length (frameWrites fs f) → Safe N s (applyAll s (onBlock k (take j (frameWrites fs f))) img) os u
       go zero h = alone-safe u a p
       go (suc j) h =
-          subst (λ (q : List Step). Safe s (applyAll s q img) os u) (sym (part-is (suc j)))
+          subst (λ (q : List Step). Safe N s (applyAll s q img) os u) (sym (part-is (suc j)))
           (alone-safe u (alone-written (writes (endOf fs) (take (suc j) (encode f))) a (below (suc j))
           (torn-contents (a .contents) f fits (suc j) (omega arith) (omega (arith, length-writes (endOf fs) (encode f), length-encode f)))) p)
 
-  pub append-alone : Alone s (applyAll s (appendPlan k (endOf fs) f) img) k t (fs ++ (f ∷ [])) clean
+  pub append-alone : Alone N s (applyAll s (appendPlan k (endOf fs) f) img) k t (fs ++ (f ∷ [])) clean
   append-alone =
       alone-written (frameWrites fs f) a (below-writes s (endOf fs) (encode f) (omega (arith, length-encode f, x .short))) (whole-contents (a .contents) f fits)
 
   pub append-ends : (l : ℕ) → length img ≡ suc l → Roomy s (nextState (replay fs) f)
-      → After s (applyAll s (appendPlan k (endOf fs) f) img) (idle (rest l k (endOf fs + frameLen f))) (nextState (replay fs) f)
+      → After N s (applyAll s (appendPlan k (endOf fs) f) img) (idle (rest N l k (endOf fs + frameLen f))) (nextState (replay fs) f)
   append-ends l e room =
       let end : endOf (fs ++ (f ∷ [])) ≡ endOf fs + frameLen f = omega (arith, total-snoc fs f) in
-      subst (λ (n : ℕ). After s (applyAll s (appendPlan k (endOf fs) f) img) (idle (rest l k n)) (nextState (replay fs) f)) end
+      subst (λ (n : ℕ). After N s (applyAll s (appendPlan k (endOf fs) f) img) (idle (rest N l k n)) (nextState (replay fs) f)) end
       (alone-after l (nextState (replay fs) f) append-alone (length-all-steps s (appendPlan k (endOf fs) f) img ∙ e) (replay-snoc fs f) room)

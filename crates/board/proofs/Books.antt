@@ -60,9 +60,9 @@ pub record Entered (s : ℕ) (st : State) (f : Frame) (b : Book) : Type 0 where
   pub lists : Lists (nextState st f .pending) (finishing b (b .under))
   pub under : finishing b (b .under) .under ≡ nothing
 
-pub idle-book : {s : ℕ} {img : List ℕ} {r : Record} {st : State} {f : Frame} {b : Book} → Entered s st f b → After s img r (nextState st f)
-    → IdleBook s img r (finishing b (b .under))
-idle-book {s} {img} {r} {st} {f} {b} e a =
+pub idle-book : {N : ℕ} {s : ℕ} {img : List ℕ} {r : Record} {st : State} {f : Frame} {b : Book} → Entered s st f b → After N s img r (nextState st f)
+    → IdleBook N s img r (finishing b (b .under))
+idle-book {N} {s} {img} {r} {st} {f} {b} e a =
     record {
       ready = a .ready;
       spare = subst (λ (x : State). kept x + (deleteLen + endLen) ≤ s) (sym (a .state)) (e .spare);

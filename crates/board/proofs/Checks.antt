@@ -24,7 +24,7 @@ use Rattle.board.specs.declared.Phase.{Phase}
 use Rattle.board.specs.declared.Phase.the-variants.{Unmounted, Idle, Busy}
 use Rattle.board.specs.declared.Record.{Record}
 use Rattle.board.specs.Record.{allowed}
-use Rattle.board.specs.Step.{action}
+use Rattle.board.specs.Step.{sameShape, action}
 use Rattle.board.specs.Mount.{allFound, anyForeign, stores, Store, equalTimes, newest, needsTransfer, Found, noneValid, lowestTied, tiedTimes}
 use Rattle.board.specs.Queue.{Held, held, needsRoom}
 use Rattle.board.specs.Exec.{Call, request, step, mount, format}
@@ -83,36 +83,36 @@ roomRule size h m x (Read i) = false
 roomRule size h m x (Log p) = false
 
 -- 6: "a transfer is needed .. at time 4,294,967,295"
-abbrev pub worn : List ℕ → Record → Held → Option Frame → Bool
-worn img r x none = false
-worn img r x (some f) = needsRoom img r f && eqb (x .time) lastTime
+abbrev pub worn : ℕ → List ℕ → Record → Held → Option Frame → Bool
+worn N img r x none = false
+worn N img r x (some f) = needsRoom N img r f && eqb (x .time) lastTime
 
 -- 8, 9, 7, 6
-abbrev pub heldChecks : List ℕ → Record → Host → List ℕ → List ℕ → Held → Request → List Check
-heldChecks img r h m reply x q =
+abbrev pub heldChecks : ℕ → List ℕ → Record → Host → List ℕ → List ℕ → Held → Request → List Check
+heldChecks N img r h m reply x q =
     check refusal.NoObject (noObject x q) ∷ check refusal.ShortReply (shortReply reply q)
-    ∷ check refusal.NoRoom (roomRule (sizeOf img) h m x q) ∷ check refusal.Worn (worn img r x (frameFor h m x q)) ∷ []
+    ∷ check refusal.NoRoom (roomRule (sizeOf N img) h m x q) ∷ check refusal.Worn (worn N img r x (frameFor h m x q)) ∷ []
 
 -- where 11 or 1 holds no later line can be the first
-abbrev pub laterChecks : List ℕ → Record → Host → List ℕ → List ℕ → Option Held → Parsed → List Check
-laterChecks img r h m reply none p = []
-laterChecks img r h m reply (some x) Malformed = []
-laterChecks img r h m reply (some x) (Is q) = heldChecks img r h m reply x q
+abbrev pub laterChecks : ℕ → List ℕ → Record → Host → List ℕ → List ℕ → Option Held → Parsed → List Check
+laterChecks N img r h m reply none p = []
+laterChecks N img r h m reply (some x) Malformed = []
+laterChecks N img r h m reply (some x) (Is q) = heldChecks N img r h m reply x q
 
 -- 4, 10, 5, 2, 11, 1, 8, 9, 7, 6
-abbrev pub requestChecks : List ℕ → Record → Host → List ℕ → List ℕ → List Check
-requestChecks img r h m reply =
-    check refusal.ImageLength (not (allowed (length img))) ∷ check refusal.HostRange (ltb hostMax (h .0))
-    ∷ check refusal.Busy (isBusy (r .phase)) ∷ check refusal.NoStore (isUnmounted (r .phase)) ∷ check refusal.Stale (isNone (held img r))
-    ∷ check refusal.Malformed (isMalformed (parse m)) ∷ laterChecks img r h m reply (held img r) (parse m)
+abbrev pub requestChecks : ℕ → List ℕ → Record → Host → List ℕ → List ℕ → List Check
+requestChecks N img r h m reply =
+    check refusal.ImageLength (not (allowed N (length img))) ∷ check refusal.HostRange (ltb hostMax (h .0))
+    ∷ check refusal.Busy (isBusy (r .phase)) ∷ check refusal.NoStore (isUnmounted (r .phase)) ∷ check refusal.Stale (isNone (held N img r))
+    ∷ check refusal.Malformed (isMalformed (parse m)) ∷ laterChecks N img r h m reply (held N img r) (parse m)
 
 -- ---- steps, mounts and formats
 
 -- "in a job, 11 is given exactly if the image length isn't the record's or the job's next place lies outside it"
-abbrev pub outside : Phase → List ℕ → Record → Bool
-outside Unmounted img r = false
-outside Idle img r = false
-outside (Busy s) img r = not (eqb (length img) (suc (r .last)) && within (sizeOf img) (action s r))
+abbrev pub outside : ℕ → Phase → List ℕ → Record → Bool
+outside N Unmounted img r = false
+outside N Idle img r = false
+outside N (Busy s) img r = not (sameShape N (length img) r && within N (sizeOf N img) (action s r))
 
 -- "no valid half"
 abbrev pub noStore : List Store → Bool
@@ -130,20 +130,20 @@ wornStore [] = false
 wornStore (x ∷ xs) = let y : Store = newest x xs in needsTransfer (y .frames) (y .tail) && eqb (y .time) lastTime
 
 -- 4, 2, 3, 6
-abbrev pub mountChecks : List ℕ → List Check
-mountChecks img =
-    check refusal.ImageLength (not (allowed (length img)))
-    ∷ check refusal.NoStore (noStore (stores (allFound img)) && not (anyForeign (allFound img)))
-    ∷ check (unclear (allFound img) (stores (allFound img)))
-    ((noStore (stores (allFound img)) && anyForeign (allFound img)) || equalTimes (stores (allFound img)))
-    ∷ check refusal.Worn (wornStore (stores (allFound img))) ∷ []
+abbrev pub mountChecks : ℕ → List ℕ → List Check
+mountChecks N img =
+    check refusal.ImageLength (not (allowed N (length img)))
+    ∷ check refusal.NoStore (noStore (stores (allFound N img)) && not (anyForeign (allFound N img)))
+    ∷ check (unclear (allFound N img) (stores (allFound N img)))
+    ((noStore (stores (allFound N img)) && anyForeign (allFound N img)) || equalTimes (stores (allFound N img)))
+    ∷ check refusal.Worn (wornStore (stores (allFound N img))) ∷ []
 
 -- the lines that concern each call: 11 alone concerns a step, 4 alone a format
-abbrev pub checks : List ℕ → Record → Call → List Check
-checks img r (request h m reply) = requestChecks img r h m reply
-checks img r step = check refusal.Stale (outside (r .phase) img r) ∷ []
-checks img r mount = mountChecks img
-checks img r format = check refusal.ImageLength (not (allowed (length img))) ∷ []
+abbrev pub checks : ℕ → List ℕ → Record → Call → List Check
+checks N img r (request h m reply) = requestChecks N img r h m reply
+checks N img r step = check refusal.Stale (outside N (r .phase) img r) ∷ []
+checks N img r mount = mountChecks N img
+checks N img r format = check refusal.ImageLength (not (allowed N (length img))) ∷ []
 
 -- the refusal of an answer
 abbrev pub refusalIn : Answer → Option Refusal

@@ -30,7 +30,7 @@ use Rattle.board.specs.Book.{Book, book, nothing, formatting, noLists, f
 use Rattle.board.specs.Claim.{IdleAgrees, Finishes, AgreesIn, Agrees, WornOut, MountSays, Says, trackMount, trackFormat, track, Run}
 use Rattle.board.specs.Claim.{stepsOn, formatted, ByteCall, Begins, Event, call, cutErase, Happens, Claim}
 use Rattle.board.proofs.Images.{Sized, size-of, sized-of, sized-as, length-all-steps, bytes-all-steps}
-use Rattle.board.proofs.Invariant.{Others, Lesser, Safe, GuardIn, IdleBook, InJob, InPhase, Inv}
+use Rattle.board.proofs.Invariant.{Lessers, Safe, GuardIn, IdleBook, InJob, InPhase, Inv}
 use Rattle.board.proofs.Outcomes.{format-begins}
 use Rattle.board.proofs.Current.{After, Keeps}
 use Rattle.board.proofs.Jobs.{Begun, job-starts, job-begins}
@@ -42,14 +42,14 @@ use Rattle.board.proofs.Lengths.{length-format, format-some}
 use Rattle.board.proofs.Replies.{journal-of}
 use Rattle.board.proofs.Formatting.{format-safe, format-ends}
 use Rattle.board.proofs.Deciding.{Taken, StoreThere, InTime, Outcome, worn-out, begins, mount-outcome, MountSafe, nothing-there, store-there, mount-safe}
-use Rattle.board.proofs.Mounting.{mount-keeps, mount-ends, mount-short}
+use Rattle.board.proofs.Mounting.{mount-keeps, mount-ends, mount-short, mount-erases}
 use Rattle.board.proofs.Requests.{Requested, request-keeps}
 use Rattle.frame.specs.declared.Fault.{Fault}
 
 -- ---- what the invariant gives between calls
 
-finishes : {s : ℕ} {P : Step → List ℕ → Type 0} {Q : List ℕ → Record → Type 0} {img : List ℕ} {r : Record} → Sized s img → InJob s P Q img r
-    → Finishes exec img r
+finishes : {N : ℕ} {s : ℕ} {P : Step → List ℕ → Type 0} {Q : List ℕ → Record → Type 0} {img : List ℕ} {r : Record} → Sized N s img → InJob N s P Q img r
+    → Finishes N (exec N) img r
 finishes z j =
     record {
       plan = drop (j .count) (j .plan);
@@ -59,8 +59,8 @@ finishes z j =
       short = omega (arith, size-of z, j .short, length-drop (j .count) (j .plan));
     }
 
-idle-agrees : {s : ℕ} {img : List ℕ} {r : Record} {b : Book} → Sized s img → IdleBook s img r b → IdleAgrees img r b
-idle-agrees {s} {img} {r} {b} z y =
+idle-agrees : {N : ℕ} {s : ℕ} {img : List ℕ} {r : Record} {b : Book} → Sized N s img → IdleBook N s img r b → IdleAgrees N img r b
+idle-agrees {N} {s} {img} {r} {b} z y =
     record {
       time = y .ready .time;
       frames = y .ready .frames;
@@ -71,23 +71,23 @@ idle-agrees {s} {img} {r} {b} z y =
       room = λ e. omega (arith, size-of z, y .spare, kept-none (replay (y .ready .frames)) e);
     }
 
-pub agrees : {s : ℕ} {img : List ℕ} {r : Record} {b : Book} {u : Bool} → Inv s img r b u → Agrees exec img r b
-agrees {s} {img} {r} {b} {u} v = go (r .phase) (v .phase)
+pub agrees : {N : ℕ} {s : ℕ} {img : List ℕ} {r : Record} {b : Book} {u : Bool} → Inv N s img r b u → Agrees N (exec N) img r b
+agrees {N} {s} {img} {r} {b} {u} v = go (r .phase) (v .phase)
   where
-    go : (p : Phase) → InPhase p s img r b u → AgreesIn exec p img r b
+    go : (p : Phase) → InPhase N p s img r b u → AgreesIn N (exec N) p img r b
     go Unmounted x = tt
     go Idle y = idle-agrees (v .sized) y
     go (Busy g) j = finishes (v .sized) j
 
 -- ---- a format call
 
-abbrev FormatKeeps : ℕ → Book → Bool → Out → Type 0
-FormatKeeps s b u o = Inv s (o .image) (o .board) (enterFormat b (o .answer)) (trackFormat u (o .answer)) × (o .answer ≡ More)
+abbrev FormatKeeps : ℕ → ℕ → Book → Bool → Out → Type 0
+FormatKeeps N s b u o = Inv N s (o .image) (o .board) (enterFormat b (o .answer)) (trackFormat u (o .answer)) × (o .answer ≡ More)
 
 -- an empty store with an empty book
-empty-book : {s : ℕ} {img : List ℕ} {r : Record} → 256 ≤ s → After s img r (state [] []) → IdleBook s img r (book [] noLists nothing)
+empty-book : {N : ℕ} {s : ℕ} {img : List ℕ} {r : Record} → 256 ≤ s → After N s img r (state [] []) → IdleBook N s img r (book [] noLists nothing)
 unfolding total listOf
-empty-book {s} {img} {r} h a =
+empty-book {N} {s} {img} {r} h a =
     let empty : State = state [] [] in
     record {
       ready = a .ready;
@@ -97,43 +97,43 @@ empty-book {s} {img} {r} h a =
       under = refl;
     }
 
-format-works : {s : ℕ} {img : List ℕ} (os : List Object) {u : Bool} → Sized s img → Safe s img os u
-    → (answerOf (enterWipe (formatJob img)) ≡ More) × Working s img (enterWipe (formatJob img)) (book os noLists formatting) true
-format-works {s} {img} os z f =
-    let a : After s (applyAll s (formatPlan img) img) (idle (rest (length img - 1) 0 headerLen)) (state [] []) = format-ends z in
-    job-starts img (enterWipe (formatJob img)) (formatPlan img) (idle (rest (length img - 1) 0 headerLen)) (follows-format img (z .ok))
-    (omega (arith, length-format img))
-    (omega (arith, length-format img, z .low)) (λ j h. (format-safe z f j h, λ n. absurd (n refl))) (empty-book (z .low) a) (ready-idle (a .ready))
+format-works : {N : ℕ} {s : ℕ} {img : List ℕ} (os : List Object) {u : Bool} → Sized N s img → Safe N s img os u
+    → (answerOf (enterWipe (formatJob N img)) ≡ More) × Working N s img (enterWipe (formatJob N img)) (book os noLists formatting) true
+format-works {N} {s} {img} os z f =
+    let a : After N s (applyAll s (formatPlan N img) img) (idle (rest N (length img - 1) 0 headerLen)) (state [] []) = format-ends z in
+    job-starts img (enterWipe (formatJob N img)) (formatPlan N img) (idle (rest N (length img - 1) 0 headerLen)) (follows-format N img (z .ok))
+    (omega (arith, length-format N img))
+    (omega (arith, length-format N img, z .low)) (λ j h. (format-safe z f j h, λ n. absurd (n refl))) (empty-book (z .low) a) (ready-idle (a .ready))
 
-format-call : {s : ℕ} {img : List ℕ} (b : Book) {u : Bool} → Bare s img (b .objects) u → FormatKeeps s b u (formatOn img)
-format-call {s} {img} b {u} v =
-    let w : (answerOf (enterWipe (formatJob img)) ≡ More) × Working s img (enterWipe (formatJob img)) (book (b .objects) noLists formatting) true =
+format-call : {N : ℕ} {s : ℕ} {img : List ℕ} (b : Book) {u : Bool} → Bare N s img (b .objects) u → FormatKeeps N s b u (formatOn N img)
+format-call {N} {s} {img} b {u} v =
+    let w : (answerOf (enterWipe (formatJob N img)) ≡ More) × Working N s img (enterWipe (formatJob N img)) (book (b .objects) noLists formatting) true =
     format-works (b .objects) (v .sized) (v .safe) in
-    subst (FormatKeeps s b u) (sym (format-begins img (v .sized .ok))) (
-      subst (λ (a : Answer). Inv s img (enterWipe (formatJob img)) (enterFormat b a) (trackFormat u a)) (sym (w .0))
-          (inv-busy (enterWipe (formatJob img)) (v .sized) (v .bytes) (w .0) (w .1)),
+    subst (FormatKeeps N s b u) (sym (format-begins N img (v .sized .ok))) (
+      subst (λ (a : Answer). Inv N s img (enterWipe (formatJob N img)) (enterFormat b a) (trackFormat u a)) (sym (w .0))
+          (inv-busy (enterWipe (formatJob N img)) (v .sized) (v .bytes) (w .0) (w .1)),
       w .0,
     )
 
 -- ---- a mount call
 
-abbrev MountKeeps : ℕ → List ℕ → Book → Bool → Out → Type 0
-MountKeeps s img b u o = Inv s (o .image) (o .board) (book (b .objects) noLists nothing) (trackMount u (o .answer)) × MountSays img u o
+abbrev MountKeeps : ℕ → ℕ → List ℕ → Book → Bool → Out → Type 0
+MountKeeps N s img b u o = Inv N s (o .image) (o .board) (book (b .objects) noLists nothing) (trackMount u (o .answer)) × MountSays N img u o
 
 -- a refused mount
-turned-down : {s : ℕ} {img : List ℕ} (b : Book) {u : Bool} (n : Refusal) → Bare s img (b .objects) u
+turned-down : {N : ℕ} {s : ℕ} {img : List ℕ} (b : Book) {u : Bool} (n : Refusal) → Bare N s img (b .objects) u
     → ((k : ℕ) (f : Fault) → Refused n ≡ Refused (refusal.Foreign k f) → ⊥) → (Refused n ≡ Refused refusal.ImageLength → ⊥)
-    → (Refused n ≡ Refused refusal.NoStore → u ≡ true) → (Refused n ≡ Refused refusal.Worn → WornOut img) → MountKeeps s img b u (refuse n img unmounted [])
+    → (Refused n ≡ Refused refusal.NoStore → u ≡ true) → (Refused n ≡ Refused refusal.Worn → WornOut N img) → MountKeeps N s img b u (refuse n img unmounted [])
 turned-down b n v a c d e = (
   inv-unmounted unmounted (v .sized) (v .bytes) refl (v .safe) refl,
   record { never-foreign = a; never-length = c; no-store = d; worn = e },
 )
 
 -- the settled objects alone, in a book with no lists
-settled-book : {s : ℕ} {img : List ℕ} {r : Record} {st : State} {os : List Object} → Keeps s st os → After s img r (settledOnly st)
-    → IdleBook s img r (book os noLists nothing)
+settled-book : {N : ℕ} {s : ℕ} {img : List ℕ} {r : Record} {st : State} {os : List Object} → Keeps s st os → After N s img r (settledOnly st)
+    → IdleBook N s img r (book os noLists nothing)
 unfolding listOf
-settled-book {s} {img} {r} {st} {os} k a =
+settled-book {N} {s} {img} {r} {st} {os} k a =
     record {
       ready = a .ready;
       spare = subst (λ (x : State). kept x + (deleteLen + endLen) ≤ s) (sym (a .state)) (omega (arith, k .room, used-kept st, kept-none (settledOnly st) refl));
@@ -142,7 +142,7 @@ settled-book {s} {img} {r} {st} {os} k a =
       under = refl;
     }
 
-accepted-says : {img : List ℕ} {u : Bool} (o : Out) → (o .answer ≡ More) ⊎ (o .answer ≡ Done) → MountSays img u o
+accepted-says : {N : ℕ} {img : List ℕ} {u : Bool} (o : Out) → (o .answer ≡ More) ⊎ (o .answer ≡ Done) → MountSays N img u o
 accepted-says o (inl e) =
     record {
       never-foreign = λ k f c. (let w : _≡_ {A = ℕ} 0 1 = cc in omega arith);
@@ -158,45 +158,45 @@ accepted-says o (inr e) =
       worn = λ c. (let w : _≡_ {A = ℕ} 0 1 = cc in absurd (omega arith));
     }
 
-module _ {s : ℕ} {img : List ℕ} (b : Book) {u : Bool} (v : Bare s img (b .objects) u) where
-  mount-begun : (x : Store) → Taken s img x → StoreThere s img x → Keeps s (replay (x .frames)) (b .objects) → Others (Lesser s img (x .time)) (x .number)
-      → InTime x → MountKeeps s img b u (begin img [] (mountJob img x (wipeList (x .number) (allFound img))))
+module _ {N : ℕ} {s : ℕ} {img : List ℕ} (b : Book) {u : Bool} (v : Bare N s img (b .objects) u) where
+  mount-begun : (x : Store) → Taken N s img x → StoreThere s img x → Keeps s (replay (x .frames)) (b .objects) → Lessers N s img (x .time) (x .number)
+      → InTime x → MountKeeps N s img b u (begin img [] (mountJob N img x (wipeList (x .number) (allFound N img))))
   mount-begun x y h k f t =
-      let ks : List ℕ = wipeList (x .number) (allFound img) in
-      let g : Record = enterWipe (mountJob img x ks) in
-      let last : Record = mountedAt (needsTransfer (x .frames) (x .tail)) (length img - 1) x in
-      let a : After s (applyAll s (mountPlan (allFound img) x) img) last (settledOnly (replay (x .frames))) = mount-ends x (v .sized) (y .there) h t in
-      finish g (job-begins img g (mountPlan (allFound img) x) last
-      (follows-mount img x ks (v .sized .ok) (y .there) (wiped-besides (x .number) img)
+      let ks : List ℕ = wipeList (x .number) (allFound N img) in
+      let g : Record = enterWipe (mountJob N img x ks) in
+      let last : Record = mountedAt N (needsTransfer (x .frames) (x .tail)) (length img - 1) x in
+      let a : After N s (applyAll s (mountPlan N (allFound N img) x) img) last (settledOnly (replay (x .frames))) = mount-ends x (v .sized) (y .there) h t in
+      finish g (job-begins img g (mountPlan N (allFound N img) x) last
+      (follows-mount img x ks (v .sized .ok) (y .there) (wiped-besides N (x .number) img)
       (subst (λ (n : ℕ). Journal (block n (x .number) img) (x .frames)) (sym (size-of (v .sized))) (journal-of h)))
-      (mount-short x (v .sized) (y .there) h t)
+      (omega (arith, mount-short x (v .sized) (y .there) h t, mount-erases x (v .sized) (y .there) h t))
       (λ n l. let g = mount-keeps x (v .sized) (y .there) h t false k f n l in (g .0, λ d. g .1)) (settled-book k a) (ready-idle (a .ready)))
     where
-      finish : (g : Record) → Begun s (GuardIn s (b .objects) false nothing) (λ i q. IdleBook s i q (book (b .objects) noLists nothing)) img g
-          → MountKeeps s img b u (out (answerOf g) img g [])
+      finish : (g : Record) → Begun N s (GuardIn N s (b .objects) false nothing) (λ i q. IdleBook N s i q (book (b .objects) noLists nothing)) img g
+          → MountKeeps N s img b u (out (answerOf g) img g [])
       finish g (inl (m, j)) = (
-        subst (λ (w : Answer). Inv s img g (book (b .objects) noLists nothing) (trackMount u w)) (sym m) (inv-busy g (v .sized) (v .bytes) m j),
+        subst (λ (w : Answer). Inv N s img g (book (b .objects) noLists nothing) (trackMount u w)) (sym m) (inv-busy g (v .sized) (v .bytes) m j),
         accepted-says (out (answerOf g) img g []) (inl m),
       )
       finish g (inr (d, i)) = (
-        subst (λ (w : Answer). Inv s img g (book (b .objects) noLists nothing) (trackMount u w)) (sym d) (inv-idle g (v .sized) (v .bytes) i),
+        subst (λ (w : Answer). Inv N s img g (book (b .objects) noLists nothing) (trackMount u w)) (sym d) (inv-idle g (v .sized) (v .bytes) i),
         accepted-says (out (answerOf g) img g []) (inr d),
       )
 
-  mount-found : (x : Store) → Taken s img x → StoreThere s img x → Keeps s (replay (x .frames)) (b .objects) → Others (Lesser s img (x .time)) (x .number)
-      → Outcome img x → MountKeeps s img b u (mountOn img)
+  mount-found : (x : Store) → Taken N s img x → StoreThere s img x → Keeps s (replay (x .frames)) (b .objects) → Lessers N s img (x .time) (x .number)
+      → Outcome N img x → MountKeeps N s img b u (mountOn N img)
   mount-found x y h k f (worn-out w e) =
-      subst (MountKeeps s img b u) (sym e)
+      subst (MountKeeps N s img b u) (sym e)
       (turned-down b refusal.Worn v (λ k f c. let w : _≡_ {A = ℕ} 0 1 = cc in omega arith) (λ c. let w : _≡_ {A = ℕ} 0 1 = cc in omega arith)
       (λ c. let w : _≡_ {A = ℕ} 0 1 = cc in absurd (omega arith)) (λ c. w))
-  mount-found x y h k f (begins t e) = subst (MountKeeps s img b u) (sym e) (mount-begun x y h k f t)
+  mount-found x y h k f (begins t e) = subst (MountKeeps N s img b u) (sym e) (mount-begun x y h k f t)
 
-  mount-call : MountKeeps s img b u (mountOn img)
+  mount-call : MountKeeps N s img b u (mountOn N img)
   mount-call = go (mount-safe (v .sized) (v .safe))
     where
-      go : MountSafe s img (b .objects) u → MountKeeps s img b u (mountOn img)
+      go : MountSafe N s img (b .objects) u → MountKeeps N s img b u (mountOn N img)
       go (nothing-there e q) =
-          subst (MountKeeps s img b u) (sym q)
+          subst (MountKeeps N s img b u) (sym q)
           (turned-down b refusal.NoStore v (λ k f c. let w : _≡_ {A = ℕ} 0 1 = cc in omega arith) (λ c. let w : _≡_ {A = ℕ} 0 1 = cc in omega arith) (λ c. e)
           (λ c. let w : _≡_ {A = ℕ} 0 1 = cc in absurd (omega arith)))
       go (store-there x y h k f) = mount-found x y h k f (mount-outcome x (v .sized) y h)
@@ -204,61 +204,62 @@ module _ {s : ℕ} {img : List ℕ} (b : Book) {u : Bool} (v : Bare s img (b .ob
 -- ---- every call, and every run
 
 -- what a call says, and the invariant after it
-abbrev CallKeeps : ℕ → List ℕ → Record → Book → Bool → Call → Type 0
-CallKeeps s img r b u c =
-    Says img r b u c (exec img r c)
-    × Inv s (exec img r c .image) (exec img r c .board) (enterCall b c (exec img r c .answer)) (track u b c (exec img r c .answer))
+abbrev CallKeeps : ℕ → ℕ → List ℕ → Record → Book → Bool → Call → Type 0
+CallKeeps N s img r b u c =
+    Says N img r b u c (exec N img r c)
+    × Inv N s (exec N img r c .image) (exec N img r c .board) (enterCall b c (exec N img r c .answer)) (track u b c (exec N img r c .answer))
 
 -- a mount or a format, whatever the record
-pub begin-keeps : {s : ℕ} {img : List ℕ} (b : Book) {u : Bool} → Bare s img (b .objects) u → (r : Record) (c : Call) → Begins c → CallKeeps s img r b u c
+pub begin-keeps : {N : ℕ} {s : ℕ} {img : List ℕ} (b : Book) {u : Bool} → Bare N s img (b .objects) u → (r : Record) (c : Call) → Begins c
+    → CallKeeps N s img r b u c
 begin-keeps b v r (request h m reply) n = absurd n
 begin-keeps b v r step n = absurd n
 begin-keeps b v r mount n = let y = mount-call b v in (y .1, y .0)
 begin-keeps b v r format n = let y = format-call b v in (y .1, y .0)
 
-pub call-keeps : {s : ℕ} {img : List ℕ} {r : Record} {b : Book} {u : Bool} → Inv s img r b u → (c : Call) → ByteCall c → CallKeeps s img r b u c
-call-keeps {s} {img} {r} {b} {u} v (request h m reply) by =
-    let y : Requested s img r b u h m reply (exec img r (request h m reply)) = request-keeps v h m reply by in
+pub call-keeps : {N : ℕ} {s : ℕ} {img : List ℕ} {r : Record} {b : Book} {u : Bool} → Inv N s img r b u → (c : Call) → ByteCall c → CallKeeps N s img r b u c
+call-keeps {N} {s} {img} {r} {b} {u} v (request h m reply) by =
+    let y : Requested N s img r b u h m reply (exec N img r (request h m reply)) = request-keeps v h m reply by in
     ((y .0 .1, y .0 .2, y .1), y .0 .0)
 call-keeps v step by = let y = step-keeps v in (y .1, y .0)
-call-keeps {r = r} {b = b} v mount by = begin-keeps b (bare-of v) r mount tt
-call-keeps {r = r} {b = b} v format by = begin-keeps b (bare-of v) r format tt
+call-keeps {N} {r = r} {b = b} v mount by = begin-keeps b (bare-of v) r mount tt
+call-keeps {N} {r = r} {b = b} v format by = begin-keeps b (bare-of v) r format tt
 
-pub run-holds : {s : ℕ} {img : List ℕ} {r : Record} {b : Book} {u : Bool} → Inv s img r b u → (es : List Event) → Happens exec img r b es
-    → Run exec img r b u es
+pub run-holds : {N : ℕ} {s : ℕ} {img : List ℕ} {r : Record} {b : Book} {u : Bool} → Inv N s img r b u → (es : List Event) → Happens N (exec N) img r b es
+    → Run N (exec N) img r b u es
 run-holds v [] h = tt
 run-holds v (call c ∷ es) (by, h) = let y = call-keeps v c by in (y .0, agrees (y .1), run-holds (y .1) es h)
 run-holds v (cutErase k new q ∷ []) (x, n, h) = tt
-run-holds {b = b} v (cutErase k new q ∷ call c ∷ es) (x, n, (by, h)) =
+run-holds {N} {b = b} v (cutErase k new q ∷ call c ∷ es) (x, n, (by, h)) =
     let y = begin-keeps b (cut-bare k new v x) q c n in (y .0, agrees (y .1), run-holds (y .1) es h)
 run-holds v (cutErase k new q ∷ cutErase j more p ∷ es) (x, n, h) = absurd n
 
 -- ---- from a finished format on
 
-format-done : {s : ℕ} {img : List ℕ} (r : Record) → Sized s img
-    → formatted exec img r ≡ out Done (applyAll s (formatPlan img) img) (idle (rest (length img - 1) 0 headerLen)) []
-format-done {s} {img} r z =
-    let first = format-some img in
-    ap (stepsOn exec 12) (format-begins img (z .ok))
-    ∙ ap (λ (n : ℕ). stepsOn exec n (begin img [] (formatJob img))) (sym (length-format img))
-    ∙ follows-steps exec (formatPlan img) (first .0) (first .1) (first .2) s (begin img [] (formatJob img))
-    (idle (rest (length img - 1) 0 headerLen)) (size-of z)
-    (follows-format img (z .ok))
+pub format-done : {N : ℕ} {s : ℕ} {img : List ℕ} (r : Record) → Sized N s img
+    → formatted N (exec N) img r ≡ out Done (applyAll s (formatPlan N img) img) (idle (rest N (length img - 1) 0 headerLen)) []
+format-done {N} {s} {img} r z =
+    let first = format-some N img in
+    ap (stepsOn (exec N) (N + 10)) (format-begins N img (z .ok))
+    ∙ ap (λ (n : ℕ). stepsOn (exec N) n (begin img [] (formatJob N img))) (sym (length-format N img))
+    ∙ follows-steps N (exec N) (formatPlan N img) (first .0) (first .1) (first .2) s (begin img [] (formatJob N img))
+    (idle (rest N (length img - 1) 0 headerLen)) (size-of z)
+    (follows-format N img (z .ok))
 
 -- the invariant after a finished format
-pub formatted-inv : (img : List ℕ) (r : Record) → Bytes img → allowed (length img) ≡ true
-    → Inv (sizeOf img) (formatted exec img r .image) (formatted exec img r .board) firstBook false
-formatted-inv img r by ok =
-    let z : Sized (sizeOf img) img = sized-of img ok in
-    let i : List ℕ = applyAll (sizeOf img) (formatPlan img) img in
-    subst (λ (o : Out). Inv (sizeOf img) (o .image) (o .board) firstBook false) (sym (format-done r z))
-    (inv-idle (idle (rest (length img - 1) 0 headerLen)) (sized-as i (length-all-steps (sizeOf img) (formatPlan img) img) z)
-    (bytes-all-steps (sizeOf img) (formatPlan img) img by) (empty-book (z .low) (format-ends z)))
+pub formatted-inv : {N : ℕ} (img : List ℕ) (r : Record) → Bytes img → allowed N (length img) ≡ true
+    → Inv N (sizeOf N img) (formatted N (exec N) img r .image) (formatted N (exec N) img r .board) firstBook false
+formatted-inv {N} img r by ok =
+    let z : Sized N (sizeOf N img) img = sized-of N img ok in
+    let i : List ℕ = applyAll (sizeOf N img) (formatPlan N img) img in
+    subst (λ (o : Out). Inv N (sizeOf N img) (o .image) (o .board) firstBook false) (sym (format-done r z))
+    (inv-idle (idle (rest N (length img - 1) 0 headerLen)) (sized-as i (length-all-steps (sizeOf N img) (formatPlan N img) img) z)
+    (bytes-all-steps (sizeOf N img) (formatPlan N img) img by) (empty-book (z .low) (format-ends z)))
 
-pub claim : Claim exec
+pub claim : (N : ℕ) → Claim N (exec N)
 unfolding Claim
-claim img r by ok =
-    let e : formatted exec img r ≡ out Done (applyAll (sizeOf img) (formatPlan img) img) (idle (rest (length img - 1) 0 headerLen)) [] =
-    format-done r (sized-of img ok) in
-    let v : Inv (sizeOf img) (formatted exec img r .image) (formatted exec img r .board) firstBook false = formatted-inv img r by ok in
+claim N img r by ok =
+    let e : formatted N (exec N) img r ≡ out Done (applyAll (sizeOf N img) (formatPlan N img) img) (idle (rest N (length img - 1) 0 headerLen)) [] =
+    format-done r (sized-of N img ok) in
+    let v : Inv N (sizeOf N img) (formatted N (exec N) img r .image) (formatted N (exec N) img r .board) firstBook false = formatted-inv img r by ok in
     (ap (λ (o : Out). o .answer) e, ap (λ (o : Out). o .board .phase) e, agrees v, run-holds v)

@@ -28,26 +28,26 @@ and-part =
     and-step w n ∙ ap₂ (λ (x y : ℕ). bitAnd x (n / 2) * 2 + min y (n % 2)) d r
     ∙ ap₂ (λ (x y : ℕ). x * 2 + y) (ih (v / 2)) (min-eq-left l) ∙ sym e)
 
-same-clears : (img : List ℕ) → OnlyClears img img
-same-clears img = inl (λ i. and-self (getD img i 0))
+same-clears : (N : ℕ) (img : List ℕ) → OnlyClears N img img
+same-clears N img = inl (λ i. and-self (getD img i 0))
 
-step-clears : (img : List ℕ) (x : Step) → OnlyClears img (apply (sizeOf img) x img)
-step-clears img (program k o v) = inl (λ i. go i (clears img (k * sizeOf img + o) v i))
+step-clears : (N : ℕ) (img : List ℕ) (x : Step) → OnlyClears N img (apply (sizeOf N img) x img)
+step-clears N img (program k o v) = inl (λ i. go i (clears img (k * sizeOf N img + o) v i))
   where
     new : ℕ → ℕ
-    new i = getD (apply (sizeOf img) (program k o v) img) i 0
+    new i = getD (apply (sizeOf N img) (program k o v) img) i 0
 
     go : (i : ℕ) → (new i ≡ getD img i 0) ⊎ (new i ≡ bitAnd (getD img i 0) v) → bitAnd (new i) (getD img i 0) ≡ new i
     go i (inl e) = subst (λ (n : ℕ). bitAnd n (getD img i 0) ≡ n) (sym e) (and-self (getD img i 0))
     go i (inr e) = subst (λ (n : ℕ). bitAnd n (getD img i 0) ≡ n) (sym e) (and-part (getD img i 0) v)
-step-clears img (erase k) = inr (k, refl)
+step-clears N img (erase k) = inr (k, refl)
 
-one-clears : (img after : List ℕ) → OneStep img after → OnlyClears img after
-one-clears img after (inl e) = subst (OnlyClears img) (sym e) (same-clears img)
-one-clears img after (inr (x, e)) = subst (OnlyClears img) (sym e) (step-clears img x)
+one-clears : (N : ℕ) (img after : List ℕ) → OneStep N img after → OnlyClears N img after
+one-clears N img after (inl e) = subst (OnlyClears N img) (sym e) (same-clears N img)
+one-clears N img after (inr (x, e)) = subst (OnlyClears N img) (sym e) (step-clears N img x)
 
-pub only-clears : {m : Machine} → Calls m → (img : List ℕ) (r : Record) (c : Call) → OnlyClears img (m img r c .image)
-only-clears p img r (request h msg reply) = subst (OnlyClears img) (sym (p .one-step img r (request h msg reply))) (same-clears img)
-only-clears {m} p img r step = one-clears img (m img r step .image) (p .one-step img r step)
-only-clears p img r mount = subst (OnlyClears img) (sym (p .one-step img r mount)) (same-clears img)
-only-clears p img r format = subst (OnlyClears img) (sym (p .one-step img r format)) (same-clears img)
+pub only-clears : {N : ℕ} {m : Machine} → Calls N m → (img : List ℕ) (r : Record) (c : Call) → OnlyClears N img (m img r c .image)
+only-clears {N} p img r (request h msg reply) = subst (OnlyClears N img) (sym (p .one-step img r (request h msg reply))) (same-clears N img)
+only-clears {N} {m} p img r step = one-clears N img (m img r step .image) (p .one-step img r step)
+only-clears {N} p img r mount = subst (OnlyClears N img) (sym (p .one-step img r mount)) (same-clears N img)
+only-clears {N} p img r format = subst (OnlyClears N img) (sym (p .one-step img r format)) (same-clears N img)

@@ -5,7 +5,7 @@ use mathlib.Core.Bool.{Bool}
 use Prim.Native.Nat.{ℕ, suc, _+_, _*_, _≤_, _<_}
 use native.Mathlib.Omega.{arith}
 use lib.ListN.{length, replicate}
-use Rattle.flash.specs.Flash.{applyAll, block, blocks, Write, writeAll}
+use Rattle.flash.specs.Flash.{applyAll, block, Write, writeAll}
 use Rattle.flash.proofs.Image.{length-block}
 use Rattle.flash.proofs.Offsets.{Below}
 use Rattle.frame.specs.Frame.{Frame, deleteLen, endLen}
@@ -22,32 +22,32 @@ use Rattle.board.specs.Record.{rest, idle}
 use Rattle.board.specs.Mount.{endOf}
 use Rattle.board.specs.Plan.{onBlock}
 use Rattle.board.proofs.Images.{Sized, sized-as, sized-block, length-all-steps, block-writes, other-writes}
-use Rattle.board.proofs.Invariant.{Valid, Quiet, Others, Lesser, Safe, some-valid, Ready}
+use Rattle.board.proofs.Invariant.{Valid, Quiet, Others, Lesser, Lessers, Safe, some-valid, Ready}
 
-pub record Alone (s : ℕ) (img : List ℕ) (k t : ℕ) (fs : List Frame) (c : Tail) : Type 0 where
-  pub sized : Sized s img
-  pub there : k < blocks
+pub record Alone (N : ℕ) (s : ℕ) (img : List ℕ) (k t : ℕ) (fs : List Frame) (c : Tail) : Type 0 where
+  pub sized : Sized N s img
+  pub there : k < N
   pub contents : Contents (block s k img) t fs c
-  pub others : Others (λ j. block s j img ≡ replicate s 255) k
+  pub others : Others N (λ j. block s j img ≡ replicate s 255) k
 
 -- an idle record whose block replays to a state
-pub record After (s : ℕ) (img : List ℕ) (r : Record) (st : State) : Type 0 where
-  pub ready : Ready s img r
+pub record After (N : ℕ) (s : ℕ) (img : List ℕ) (r : Record) (st : State) : Type 0 where
+  pub ready : Ready N s img r
   pub state : replay (ready .frames) ≡ st
 
-pub block-long : {s : ℕ} {img : List ℕ} (k : ℕ) → Sized s img → k < blocks → length (block s k img) ≡ s
-block-long {s} {img} k z h = length-block s k img (sized-block k z h)
+pub block-long : {N : ℕ} {s : ℕ} {img : List ℕ} (k : ℕ) → Sized N s img → k < N → length (block s k img) ≡ s
+block-long {N} {s} {img} k z h = length-block s k img (sized-block k z h)
 
-pub ready-alone : {s : ℕ} {img : List ℕ} {r : Record} → Sized s img → (y : Ready s img r) → Alone s img (y .number) (y .time) (y .frames) clean
+pub ready-alone : {N : ℕ} {s : ℕ} {img : List ℕ} {r : Record} → Sized N s img → (y : Ready N s img r) → Alone N s img (y .number) (y .time) (y .frames) clean
 ready-alone z y = record { sized = z; there = y .there; contents = y .contents; others = y .others }
 
 -- the room that an idle record's block leaves
 abbrev pub Roomy : ℕ → State → Type 0
 Roomy s st = claimed st + endLen * openHosts (st .pending) ≤ s
 
-pub alone-after : {s k t : ℕ} {img : List ℕ} {fs : List Frame} (l : ℕ) (st : State) → Alone s img k t fs clean → length img ≡ suc l → replay fs ≡ st
-    → Roomy s st → After s img (idle (rest l k (endOf fs))) st
-alone-after {s} {k} {t} {img} {fs} l st x long e room =
+pub alone-after : {N : ℕ} {s k t : ℕ} {img : List ℕ} {fs : List Frame} (l : ℕ) (st : State) → Alone N s img k t fs clean → length img ≡ suc l → replay fs ≡ st
+    → Roomy s st → After N s img (idle (rest N l k (endOf fs))) st
+alone-after {N} {s} {k} {t} {img} {fs} l st x long e room =
     record {
       ready = record {
         last = l;
@@ -83,18 +83,21 @@ valid-of {s} {k} {t} {img} {fs} {c} x p = record { time = t; frames = fs; tail =
 pub blank-quiet : (s : ℕ) (b : List ℕ) → b ≡ replicate s 255 → Quiet (blockState b)
 blank-quiet s b e = subst Quiet (sym (ap blockState e ∙ blank-block s)) tt
 
-pub blank-lesser : {s : ℕ} {img : List ℕ} → Sized s img → (t j : ℕ) → block s j img ≡ replicate s 255 → Lesser s img t j
-blank-lesser {s} {img} z t j e = blank-harmless s t (block s j img) (omega (arith, z .low)) e
+pub blank-lesser : {N : ℕ} {s : ℕ} {img : List ℕ} → Sized N s img → (t j : ℕ) → block s j img ≡ replicate s 255 → Lesser s img t j
+blank-lesser {N} {s} {img} z t j e = blank-harmless s t (block s j img) (omega (arith, z .low)) e
 
-pub alone-safe : {s k t : ℕ} {img : List ℕ} {fs : List Frame} {c : Tail} {os : List Object} (u : Bool) → Alone s img k t fs c → Keeps s (replay fs) os
-    → Safe s img os u
-alone-safe {s} {k} {t} {img} u x p = some-valid k (x .there) (valid-of (x .contents) p) (λ j h n. blank-lesser (x .sized) t j (x .others j h n))
+pub blank-lessers : {N : ℕ} {s k : ℕ} {img : List ℕ} → Sized N s img → (t : ℕ) → Others N (λ j. block s j img ≡ replicate s 255) k → Lessers N s img t k
+blank-lessers {k = k} z t o = record { older = λ j h n. blank-lesser z t j (o j h n); one = k; blanks = λ j h n _. o j h n }
+
+pub alone-safe : {N : ℕ} {s k t : ℕ} {img : List ℕ} {fs : List Frame} {c : Tail} {os : List Object} (u : Bool) → Alone N s img k t fs c → Keeps s (replay fs) os
+    → Safe N s img os u
+alone-safe {N} {s} {k} {t} {img} u x p = some-valid k (x .there) (valid-of (x .contents) p) (blank-lessers (x .sized) t (x .others))
 
 -- ---- the block written to
 
-pub alone-written : {s k t t′ : ℕ} {img : List ℕ} {fs fs′ : List Frame} {c c′ : Tail} (ws : List Write) → Alone s img k t fs c → Below s ws
-    → Contents (writeAll (block s k img) ws) t′ fs′ c′ → Alone s (applyAll s (onBlock k ws) img) k t′ fs′ c′
-alone-written {s} {k} {t} {t′} {img} {fs} {fs′} {c} {c′} ws x b y =
+pub alone-written : {N : ℕ} {s k t t′ : ℕ} {img : List ℕ} {fs fs′ : List Frame} {c c′ : Tail} (ws : List Write) → Alone N s img k t fs c → Below s ws
+    → Contents (writeAll (block s k img) ws) t′ fs′ c′ → Alone N s (applyAll s (onBlock k ws) img) k t′ fs′ c′
+alone-written {N} {s} {k} {t} {t′} {img} {fs} {fs′} {c} {c′} ws x b y =
     record {
       sized = sized-as (applyAll s (onBlock k ws) img) (length-all-steps s (onBlock k ws) img) (x .sized);
       there = x .there;

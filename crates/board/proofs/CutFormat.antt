@@ -2,118 +2,141 @@
 use mathlib.Core.Path.{_≡_, sym, ap, subst, _∙_}
 use mathlib.Core.List.{List, [], _∷_}
 use mathlib.Core.Bool.{Bool, false, false≢true}
-use Prim.Native.Nat.{ℕ, _-_, _≤_, _<_}
+use Prim.Native.Nat.{ℕ, _+_, _-_, _≤_, _<_}
 use native.Mathlib.Omega.{arith}
-use lib.Dec.{ltb}
+use lib.Dec.{eqb, ltb}
 use lib.ListN.{length, take}
 use lib.Seq.{take-all}
-use borrow.Author.Tests.{ltb-true, ltb-false}
+use borrow.Author.Tests.{eqb-true, eqb-false, ltb-true, ltb-false}
 use Rattle.flash.specs.Flash.{Step, applyAll, block, sizeOf}
 use Rattle.flash.proofs.Cases.{on-test}
 use Rattle.frame.specs.Reader.{clean}
-use Rattle.journal.specs.Replay.{Object}
+use Rattle.journal.specs.Replay.{Object, replay}
 use Rattle.journal.specs.Block.{headerLen, BlockState, blank, inProgress, valid, foreign, blockState}
 use Rattle.journal.proofs.Blocks.{blank-block}
 use Rattle.journal.proofs.States.{contents-valid}
-use Rattle.journal.proofs.Raising.{harmless-older}
 use Rattle.board.specs.declared.Record.{Record}
 use Rattle.board.specs.Record.{Out, rest, idle}
 use Rattle.board.specs.Step.{begin}
-use Rattle.board.specs.Mount.{formatJob, formatOn}
+use Rattle.board.specs.Mount.{Store, formatJob, formatOn}
 use Rattle.board.specs.Exec.{exec}
 use Rattle.board.specs.Plan.{formatPlan}
 use Rattle.board.specs.Book.{Book}
 use Rattle.board.specs.Claim.{stepsOn, Event, call, cutErase, Happens}
 use Rattle.board.specs.CutFormat.{Left, afterAll, leftBy, Beside, OldObjects, Empty, EmptyStore, Leaves, old-objects, no-store, empty-store, CutFormat}
 use Rattle.board.proofs.Images.{Sized, size-of, sized-as, length-all-steps}
-use Rattle.board.proofs.Invariant.{Quiet, Safe, no-valid, some-valid, Inv}
-use Rattle.board.proofs.Order.{beside-of}
-use Rattle.board.proofs.Current.{Alone}
+use Rattle.board.proofs.Invariant.{Quiet, Safe, Inv}
+use Rattle.board.proofs.Current.{Alone, Keeps}
+use Rattle.board.proofs.Deciding.{Taken, MountSafe, nothing-there, store-there, mount-safe}
 use Rattle.board.proofs.Outcomes.{format-begins}
 use Rattle.board.proofs.Stepping.{follows-part}
 use Rattle.board.proofs.Keeping.{Bare, bare-of, cut-bare}
 use Rattle.board.proofs.Accepted.{follows-format}
 use Rattle.board.proofs.Lengths.{length-format}
-use Rattle.board.proofs.Formatting.{FormatCut, format-cut, format-alone}
+use Rattle.board.proofs.Formatting.{at-size, FormatCut, format-cut, format-alone}
 use Rattle.board.proofs.Claiming.{begin-keeps, call-keeps, formatted-inv}
 
 -- ---- what a mount finds after all
 
 -- at the end, whether a format is then unfinished
-pub record Ended (s : ℕ) (l : Left) : Type 0 where
+pub record Ended (N : ℕ) (s : ℕ) (l : Left) : Type 0 where
   pub unfinished : Bool
-  pub bare : Bare s (l .image) (l .book .objects) unfinished
+  pub bare : Bare N s (l .image) (l .book .objects) unfinished
 
-pub run-ends : {s : ℕ} {img : List ℕ} {r : Record} {b : Book} {u : Bool} → Inv s img r b u → (es : List Event) → Happens exec img r b es
-    → Ended s (afterAll exec img r b es)
-run-ends {s} {img} {r} {b} {u} v [] h = record { unfinished = u; bare = bare-of v }
+pub run-ends : {N : ℕ} {s : ℕ} {img : List ℕ} {r : Record} {b : Book} {u : Bool} → Inv N s img r b u → (es : List Event) → Happens N (exec N) img r b es
+    → Ended N s (afterAll N (exec N) img r b es)
+run-ends {N} {s} {img} {r} {b} {u} v [] h = record { unfinished = u; bare = bare-of v }
 run-ends v (call c ∷ es) (by, h) = run-ends (call-keeps v c by .1) es h
-run-ends {u = u} v (cutErase k new q ∷ []) (x, n, h) = record { unfinished = u; bare = cut-bare k new v x }
-run-ends {b = b} v (cutErase k new q ∷ call c ∷ es) (x, n, (by, h)) = run-ends (begin-keeps b (cut-bare k new v x) q c n .1) es h
+run-ends {N} {u = u} v (cutErase k new q ∷ []) (x, n, h) = record { unfinished = u; bare = cut-bare k new v x }
+run-ends {N} {b = b} v (cutErase k new q ∷ call c ∷ es) (x, n, (by, h)) = run-ends (begin-keeps b (cut-bare k new v x) q c n .1) es h
 run-ends v (cutErase k new q ∷ cutErase j more p ∷ es) (x, n, h) = absurd n
 
 -- ---- some steps of a plan, made
 
-format-part : {s : ℕ} {img : List ℕ} (j : ℕ) → Sized s img → j ≤ 12 → stepsOn exec j (formatOn img) .image ≡ applyAll s (take j (formatPlan img)) img
-format-part {s} {img} j z h =
-    ap (λ (o : Out). stepsOn exec j o .image) (format-begins img (z .ok))
-    ∙ follows-part exec s j (formatPlan img) (begin img [] (formatJob img)) (idle (rest (length img - 1) 0 headerLen)) (size-of z)
-    (omega (arith, length-format img))
-    (follows-format img (z .ok))
+format-part : {N : ℕ} {s : ℕ} {img : List ℕ} (j : ℕ) → Sized N s img → j ≤ N + 10
+    → stepsOn (exec N) j (formatOn N img) .image ≡ applyAll s (take j (formatPlan N img)) img
+format-part {N} {s} {img} j z h =
+    ap (λ (o : Out). stepsOn (exec N) j o .image) (format-begins N img (z .ok))
+    ∙ follows-part N (exec N) s j (formatPlan N img) (begin img [] (formatJob N img)) (idle (rest N (length img - 1) 0 headerLen)) (size-of z)
+    (omega (arith, length-format N img))
+    (follows-format N img (z .ok))
 
 -- ---- what is left
 
-module _ {s : ℕ} {img : List ℕ} (z : Sized s img) where
-  at-size : (P : BlockState → Type 0) (j : ℕ) → P (blockState (block s j img)) → P (blockState (block (sizeOf img) j img))
-  at-size P j x = subst (λ (n : ℕ). P (blockState (block n j img))) (sym (size-of z)) x
-
+module _ {N : ℕ} {s : ℕ} {img : List ℕ} (z : Sized N s img) where
   quiet-empty : (a : BlockState) → Quiet a → Empty a
   quiet-empty blank q = tt
   quiet-empty inProgress q = tt
   quiet-empty (valid t fs c) q = absurd q
   quiet-empty (foreign e) q = absurd q
 
-  safe-old : {os : List Object} → Safe s img os false → OldObjects img os
-  safe-old (no-valid e q) = absurd (false≢true e)
-  safe-old {os} (some-valid k h v q) =
+  -- what a mount takes
+  taken-old : {os : List Object} (x : Store) → Taken N s img x → Keeps s (replay (x .frames)) os → OldObjects N img os
+  taken-old x y k =
       record {
-        number = k;
-        time = v .time;
-        frames = v .frames;
-        tail = v .tail;
-        there = h;
-        is-valid = at-size (λ a. a ≡ valid (v .time) (v .frames) (v .tail)) k (contents-valid (v .contents));
-        objects = v .same;
-        others = λ j l n. at-size (Beside (v .time)) j (beside-of (blockState (block s j img)) (λ t fs c. harmless-older (block s j img) (q j l n)));
+        number = x .number;
+        time = x .time;
+        frames = x .frames;
+        tail = x .tail;
+        there = y .there;
+        is-valid = at-size z (λ a. a ≡ valid (x .time) (x .frames) (x .tail)) (x .number) (y .is-valid);
+        objects = k .same;
+        others = λ j h n. at-size z (Beside (x .time)) j (y .others j h n);
+        apart = λ i j t fs gs c d h l p q.
+            on-test (eqb i j) (eqb-true i j)
+            (λ e.
+            absurd (y .untied i j
+            (record {
+              time = t;
+              frames = fs;
+              tail = c;
+              frames′ = gs;
+              tail′ = d;
+              there = h;
+              there′ = l;
+              apart = eqb-false i j e;
+              is-valid = at-s i (valid t fs c) p;
+              is-valid′ = at-s j (valid t gs d) q;
+            })));
       }
+    where
+      at-s : (j : ℕ) (a : BlockState) → blockState (block (sizeOf N img) j img) ≡ a → blockState (block s j img) ≡ a
+      at-s j a e = subst (λ (n : ℕ). blockState (block n j img) ≡ a) (size-of z) e
 
-  alone-empty : Alone s img 0 1 [] clean → EmptyStore img
+  safe-old : {os : List Object} → Safe N s img os false → OldObjects N img os
+  safe-old {os} f = go (mount-safe z f)
+    where
+      go : MountSafe N s img os false → OldObjects N img os
+      go (nothing-there e r) = absurd (false≢true e)
+      go (store-there x y h k q) = taken-old x y k
+
+  alone-empty : Alone N s img 0 1 [] clean → EmptyStore N img
   alone-empty y =
       record {
-        first = at-size (λ a. a ≡ valid 1 [] clean) 0 (contents-valid (y .contents));
-        others = λ j h n. at-size (λ a. a ≡ blank) j (ap blockState (y .others j h n) ∙ blank-block s);
+        first = at-size z (λ a. a ≡ valid 1 [] clean) 0 (contents-valid (y .contents));
+        others = λ j h n. at-size z (λ a. a ≡ blank) j (ap blockState (y .others j h n) ∙ blank-block s);
       }
 
-  cut-leaves : {os : List Object} (j : ℕ) → j < 12 → FormatCut s img os j → Leaves os j img
+  cut-leaves : {os : List Object} (j : ℕ) → j < N + 10 → FormatCut N s img os j → Leaves N os j img
   cut-leaves j h (FormatCut.old-objects f) = old-objects h (safe-old f)
-  cut-leaves j h (FormatCut.no-store q) = no-store h (λ i l. at-size Empty i (quiet-empty (blockState (block s i img)) (q i l)))
+  cut-leaves j h (FormatCut.no-store q) = no-store h (λ i l. at-size z Empty i (quiet-empty (blockState (block s i img)) (q i l)))
   cut-leaves j h (FormatCut.empty-store e y) = absurd (omega arith)
 
-format-leaves : {s : ℕ} {img : List ℕ} {os : List Object} {u : Bool} (j : ℕ) → Sized s img → Safe s img os u → j ≤ 12
-    → Leaves os j (stepsOn exec j (formatOn img) .image)
-format-leaves {s} {img} {os} {u} j z f h =
-    let i : List ℕ = applyAll s (take j (formatPlan img)) img in
-    let after : Sized s i = sized-as i (length-all-steps s (take j (formatPlan img)) img) z in
-    subst (Leaves os j) (sym (format-part j z h))
-    (on-test (ltb j 12)
-    (λ t. cut-leaves after j (ltb-true j 12 t) (format-cut z f j (omega (arith, length-format img))))
-    (λ t. empty-store (omega (arith, ltb-false j 12 t))
+format-leaves : {N : ℕ} {s : ℕ} {img : List ℕ} {os : List Object} {u : Bool} (j : ℕ) → Sized N s img → Safe N s img os u → j ≤ N + 10
+    → Leaves N os j (stepsOn (exec N) j (formatOn N img) .image)
+format-leaves {N} {s} {img} {os} {u} j z f h =
+    let i : List ℕ = applyAll s (take j (formatPlan N img)) img in
+    let after : Sized N s i = sized-as i (length-all-steps s (take j (formatPlan N img)) img) z in
+    subst (Leaves N os j) (sym (format-part j z h))
+    (on-test (ltb j (N + 10))
+    (λ t. cut-leaves after j (ltb-true j (N + 10) t) (format-cut z f j (omega (arith, length-format N img))))
+    (λ t. empty-store (omega (arith, ltb-false j (N + 10) t))
     (alone-empty after
-    (subst (λ (p : List Step). Alone s (applyAll s p img) 0 1 [] clean)
-    (sym (take-all j (formatPlan img) (omega (arith, length-format img, ltb-false j 12 t)))) (format-alone z)))))
+    (subst (λ (p : List Step). Alone N s (applyAll s p img) 0 1 [] clean)
+    (sym (take-all j (formatPlan N img) (omega (arith, length-format N img, ltb-false j (N + 10) t)))) (format-alone z)))))
 
-pub cut-format : CutFormat exec
+pub cut-format : (N : ℕ) → CutFormat N (exec N)
 unfolding CutFormat
-cut-format img r es j by ok hs h =
-    let y : Ended (sizeOf img) (leftBy exec img r es) = run-ends (formatted-inv img r by ok) es hs in
+cut-format N img r es j by ok hs h =
+    let y : Ended N (sizeOf N img) (leftBy N (exec N) img r es) = run-ends (formatted-inv img r by ok) es hs in
     format-leaves j (y .bare .sized) (y .bare .safe) h

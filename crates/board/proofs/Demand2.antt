@@ -46,44 +46,45 @@ use Rattle.board.proofs.Replies.{journal-of}
 use Rattle.board.proofs.Refusals.{refusals-untouched, at-most-one-step}
 use Rattle.board.proofs.Formatting.{format-lands, format-ends}
 use Rattle.board.proofs.Deciding.{Begins, mount-accepted, taken-newest}
-use Rattle.board.proofs.Mounting.{mount-lands, mount-ends, mount-short}
+use Rattle.board.proofs.Mounting.{mount-lands, mount-ends, mount-short, mount-erases}
 use Rattle.board.proofs.Planning.{jobOf, Met, refused, done, begun, request-met, frame-begins}
 
 -- ---- one store
 
-module _ {s : ℕ} {img : List ℕ} (z : Sized s img) (y : Begins s img) where
+module _ {N : ℕ} {s : ℕ} {img : List ℕ} (z : Sized N s img) (y : Begins N s img) where
   abbrev x : Store
   x = y .store
 
   abbrev last : Record
-  last = mountedAt (needsTransfer (x .frames) (x .tail)) (length img - 1) x
+  last = mountedAt N (needsTransfer (x .frames) (x .tail)) (length img - 1) x
 
   abbrev job : Record
-  job = enterWipe (mountJob img x (wipeList (x .number) (allFound img)))
+  job = enterWipe (mountJob N img x (wipeList (x .number) (allFound N img)))
 
-  mount-follows : Follows exec img job (mountPlan (allFound img) x) last
+  mount-follows : Follows N (exec N) img job (mountPlan N (allFound N img) x) last
   mount-follows =
-      follows-mount img x (wipeList (x .number) (allFound img)) (z .ok) (y .taken .there) (wiped-besides (x .number) img)
+      follows-mount img x (wipeList (x .number) (allFound N img)) (z .ok) (y .taken .there) (wiped-besides N (x .number) img)
       (subst (λ (n : ℕ). Journal (block n (x .number) img) (x .frames)) (sym (size-of z)) (journal-of (y .holds)))
 
-  after : After s (applyAll s (mountPlan (allFound img) x) img) last (settledOnly (replay (x .frames)))
+  after : After N s (applyAll s (mountPlan N (allFound N img) x) img) last (settledOnly (replay (x .frames)))
   after = mount-ends x z (y .taken .there) (y .holds) (y .in-time)
 
   -- the job is begun, or there is none
-  mount-begun : Begun s (StepLands s) (Ready s) img job
+  mount-begun : Begun N s (StepLands s) (Ready N s) img job
   mount-begun =
-      job-begins img job (mountPlan (allFound img) x) last mount-follows (mount-short x z (y .taken .there) (y .holds) (y .in-time))
+      job-begins img job (mountPlan N (allFound N img) x) last mount-follows
+      (omega (arith, mount-short x z (y .taken .there) (y .holds) (y .in-time), mount-erases x z (y .taken .there) (y .holds) (y .in-time)))
       (mount-lands x z (y .taken .there) (y .holds) (y .in-time)) (after .ready) (ready-idle (after .ready))
 
-pub one-store : OneStore exec
+pub one-store : (N : ℕ) → OneStore N (exec N)
 unfolding OneStore
-one-store img r by ok a =
-    let s : ℕ = sizeOf img in
-    let z : Sized s img = sized-of img ok in
-    let y : Begins s img = mount-accepted z by a in
+one-store N img r by ok a =
+    let s : ℕ = sizeOf N img in
+    let z : Sized N s img = sized-of N img ok in
+    let y : Begins N s img = mount-accepted z by a in
     let x : Store = y .store in
-    let e : After s (applyAll s (mountPlan (allFound img) x) img) (last z y) (settledOnly (replay (x .frames))) = after z y in
-    subst (Mounts exec img) (sym (y .begins))
+    let e : After N s (applyAll s (mountPlan N (allFound N img) x) img) (last z y) (settledOnly (replay (x .frames))) = after z y in
+    subst (Mounts N (exec N) img) (sym (y .begins))
     (record {
       store = x;
       there = y .taken .there;
@@ -93,10 +94,11 @@ one-store img r by ok a =
       is-last = refl;
       follows = mount-follows z y;
       short = mount-short x z (y .taken .there) (y .holds) (y .in-time);
+      erases = mount-erases x z (y .taken .there) (y .holds) (y .in-time);
       time = e .ready .time;
       frames = e .ready .frames;
       leaves =
-          ap (λ (r : Record). blockState (block s (r .block) (applyAll s (mountPlan (allFound img) x) img))) (e .ready .is)
+          ap (λ (r : Record). blockState (block s (r .block) (applyAll s (mountPlan N (allFound N img) x) img))) (e .ready .is)
           ∙ contents-valid (e .ready .contents);
       holds = e .state;
     })
@@ -129,132 +131,135 @@ lands-at s (program k o v) img y =
 
 -- ---- what holds between calls, whatever the image was
 
-record Steady (s : ℕ) (img : List ℕ) (r : Record) : Type 0 where
-  sized : Sized s img
-  bytes : Bytes img
-  phase : Sound (r .phase) s img r
+pub record Steady (N : ℕ) (s : ℕ) (img : List ℕ) (r : Record) : Type 0 where
+  pub sized : Sized N s img
+  pub bytes : Bytes img
+  pub phase : Sound N (r .phase) s img r
 
-module _ {s : ℕ} {img : List ℕ} (z : Sized s img) (by : Bytes img) where
-  steady-unmounted : (r : Record) → r .phase ≡ Unmounted → Steady s img r
-  steady-unmounted r e = record { sized = z; bytes = by; phase = subst (λ (p : Phase). Sound p s img r) (sym e) tt }
+module _ {N : ℕ} {s : ℕ} {img : List ℕ} (z : Sized N s img) (by : Bytes img) where
+  steady-unmounted : (r : Record) → r .phase ≡ Unmounted → Steady N s img r
+  steady-unmounted r e = record { sized = z; bytes = by; phase = subst (λ (p : Phase). Sound N p s img r) (sym e) tt }
 
-  steady-idle : (r : Record) → Ready s img r → Steady s img r
-  steady-idle r y = record { sized = z; bytes = by; phase = subst (λ (p : Phase). Sound p s img r) (sym (ready-idle y)) y }
+  pub steady-idle : (r : Record) → Ready N s img r → Steady N s img r
+  steady-idle r y = record { sized = z; bytes = by; phase = subst (λ (p : Phase). Sound N p s img r) (sym (ready-idle y)) y }
 
-  steady-busy : (r : Record) → answerOf r ≡ More → InJob s (StepLands s) (Ready s) img r → Steady s img r
-  steady-busy r e j = record { sized = z; bytes = by; phase = subst (λ (p : Phase). Sound p s img r) (sym (more-busy (r .phase) e .is)) j }
+  steady-busy : (r : Record) → answerOf r ≡ More → InJob N s (StepLands s) (Ready N s) img r → Steady N s img r
+  steady-busy r e j = record { sized = z; bytes = by; phase = subst (λ (p : Phase). Sound N p s img r) (sym (more-busy (r .phase) e .is)) j }
 
-  steady-begun : (r : Record) → Begun s (StepLands s) (Ready s) img r → Steady s img r
+  steady-begun : (r : Record) → Begun N s (StepLands s) (Ready N s) img r → Steady N s img r
   steady-begun r (inl (e, j)) = steady-busy r e j
   steady-begun r (inr (e, y)) = steady-idle r y
 
 -- ---- a request
 
-abbrev Kept : ℕ → Out → Type 0
-Kept s o = Steady s (o .image) (o .board)
+abbrev Kept : ℕ → ℕ → Out → Type 0
+Kept N s o = Steady N s (o .image) (o .board)
 
-request-kept : {s : ℕ} {img : List ℕ} {r : Record} → Steady s img r → (h : Host) (m reply : List ℕ) → Bytes m → Kept s (requestOn img r reply h m)
-request-kept {s} {img} {r} v h m reply bm = go (request-met img r reply h m)
+pub request-kept : {N : ℕ} {s : ℕ} {img : List ℕ} {r : Record} → Steady N s img r → (h : Host) (m reply : List ℕ) → Bytes m
+    → Kept N s (requestOn N img r reply h m)
+request-kept {N} {s} {img} {r} v h m reply bm = go (request-met N img r reply h m)
   where
-    go : Met img r reply h m (requestOn img r reply h m) → Kept s (requestOn img r reply h m)
-    go (refused n p) = subst (Kept s) (sym p) v
-    go (done d i b) = subst (λ (l : List ℕ). Steady s l (requestOn img r reply h m .board)) (sym i) (subst (Steady s img) (sym b) v)
+    go : Met N img r reply h m (requestOn N img r reply h m) → Kept N s (requestOn N img r reply h m)
+    go (refused n p) = subst (Kept N s) (sym p) v
+    go (done d i b) = subst (λ (l : List ℕ). Steady N s l (requestOn N img r reply h m .board)) (sym i) (subst (Steady N s img) (sym b) v)
     go (begun y p) =
         let j = frame-begins (v .sized) (v .bytes) bm y in
-        subst (Kept s) (sym p) (steady-busy (v .sized) (v .bytes) (jobOf y) (j .0) (j .1))
+        subst (Kept N s) (sym p) (steady-busy (v .sized) (v .bytes) (jobOf y) (j .0) (j .1))
 
 -- ---- a step
 
-abbrev StepDone : ℕ → List ℕ → Out → Type 0
-StepDone s img o = OneLands img o × Kept s o
+abbrev StepDone : ℕ → ℕ → List ℕ → Out → Type 0
+StepDone N s img o = OneLands N img o × Kept N s o
 
-step-done : {s : ℕ} {img : List ℕ} {r : Record} → Steady s img r → StepDone s img (stepOn img r)
-step-done {s} {img} {r} v = go (r .phase) refl (v .phase)
+pub step-done : {N : ℕ} {s : ℕ} {img : List ℕ} {r : Record} → Steady N s img r → StepDone N s img (stepOn N img r)
+step-done {N} {s} {img} {r} v = go (r .phase) refl (v .phase)
   where
-    rests : Rests (r .phase) → StepDone s img (stepOn img r)
-    rests h = subst (StepDone s img) (sym (step-resting img r h)) (inl refl, v)
+    rests : Rests (r .phase) → StepDone N s img (stepOn N img r)
+    rests h = subst (StepDone N s img) (sym (step-resting N img r h)) (inl refl, v)
 
-    go : (p : Phase) → r .phase ≡ p → Sound p s img r → StepDone s img (stepOn img r)
+    go : (p : Phase) → r .phase ≡ p → Sound N p s img r → StepDone N s img (stepOn N img r)
     go Unmounted e y = rests (subst Rests (sym e) tt)
     go Idle e y = rests (subst Rests (sym e) tt)
     go (Busy g) e j =
-        let y : Stepped s (StepLands s) (Ready s) img r = job-step (v .sized) j in
+        let y : Stepped N s (StepLands s) (Ready N s) img r = job-step (v .sized) j in
         let i : List ℕ = apply s (y .does) img in
-        subst (StepDone s img) (sym (y .gives)) (
-          subst (λ (n : ℕ). OneLands img (out (answerOf (y .next)) (apply n (y .does) img) (y .next) [])) (size-of (v .sized))
+        subst (StepDone N s img) (sym (y .gives)) (
+          subst (λ (n : ℕ). OneLands N img (out (answerOf (y .next)) (apply n (y .does) img) (y .next) [])) (size-of (v .sized))
               (inr (y .does, refl, subst (λ (n : ℕ). LandsAt n (y .does) img) (sym (size-of (v .sized))) (lands-at s (y .does) img (y .holds)))),
           steady-begun (sized-as i (length-apply s (y .does) img) (v .sized)) (bytes-apply s (y .does) img (v .bytes)) (y .next) (y .then),
         )
 
 -- ---- mount and format
 
-mount-kept : {s : ℕ} {img : List ℕ} → Sized s img → Bytes img → Steady s img (mountOn img .board)
-mount-kept {s} {img} z by = go (mountOn img .answer) refl
+mount-kept : {N : ℕ} {s : ℕ} {img : List ℕ} → Sized N s img → Bytes img → Steady N s img (mountOn N img .board)
+mount-kept {N} {s} {img} z by = go (mountOn N img .answer) refl
   where
-    goes : (a : Answer) → mountOn img .answer ≡ a → Accepted a → Steady s img (mountOn img .board)
+    goes : (a : Answer) → mountOn N img .answer ≡ a → Accepted a → Steady N s img (mountOn N img .board)
     goes a e f =
-        let y : Begins s img = mount-accepted z by (subst Accepted (sym e) f) in
-        subst (λ (o : Out). Steady s img (o .board)) (sym (y .begins)) (steady-begun z by (job z y) (mount-begun z y))
+        let y : Begins N s img = mount-accepted z by (subst Accepted (sym e) f) in
+        subst (λ (o : Out). Steady N s img (o .board)) (sym (y .begins)) (steady-begun z by (job z y) (mount-begun z y))
 
-    go : (a : Answer) → mountOn img .answer ≡ a → Steady s img (mountOn img .board)
+    go : (a : Answer) → mountOn N img .answer ≡ a → Steady N s img (mountOn N img .board)
     go Done e = goes Done e tt
     go More e = goes More e tt
     go (Refused n) e =
-        subst (λ (o : Out). Steady s img (o .board)) (sym (refusals-untouched img unmounted mount n e)) (steady-unmounted z by unmounted refl)
+        subst (λ (o : Out). Steady N s img (o .board)) (sym (refusals-untouched N img unmounted mount n e)) (steady-unmounted z by unmounted refl)
 
-format-kept : {s : ℕ} {img : List ℕ} → Sized s img → Bytes img → Steady s img (formatOn img .board)
-format-kept {s} {img} z by =
-    let a : After s (applyAll s (formatPlan img) img) (idle (rest (length img - 1) 0 headerLen)) (state [] []) = format-ends z in
-    let j : (answerOf (enterWipe (formatJob img)) ≡ More) × InJob s (StepLands s) (Ready s) img (enterWipe (formatJob img)) =
-    job-starts img (enterWipe (formatJob img)) (formatPlan img) (idle (rest (length img - 1) 0 headerLen)) (follows-format img (z .ok))
-    (omega (arith, length-format img))
-    (omega (arith, length-format img, z .low)) (format-lands z) (a .ready) (ready-idle (a .ready)) in
-    subst (λ (o : Out). Steady s img (o .board)) (sym (format-begins img (z .ok))) (steady-busy z by (enterWipe (formatJob img)) (j .0) (j .1))
+format-kept : {N : ℕ} {s : ℕ} {img : List ℕ} → Sized N s img → Bytes img → Steady N s img (formatOn N img .board)
+format-kept {N} {s} {img} z by =
+    let a : After N s (applyAll s (formatPlan N img) img) (idle (rest N (length img - 1) 0 headerLen)) (state [] []) = format-ends z in
+    let j : (answerOf (enterWipe (formatJob N img)) ≡ More) × InJob N s (StepLands s) (Ready N s) img (enterWipe (formatJob N img)) =
+    job-starts img (enterWipe (formatJob N img)) (formatPlan N img) (idle (rest N (length img - 1) 0 headerLen)) (follows-format N img (z .ok))
+    (omega (arith, length-format N img))
+    (omega (arith, length-format N img, z .low)) (format-lands z) (a .ready) (ready-idle (a .ready)) in
+    subst (λ (o : Out). Steady N s img (o .board)) (sym (format-begins N img (z .ok))) (steady-busy z by (enterWipe (formatJob N img)) (j .0) (j .1))
 
 -- ---- every call, and every run
 
 -- only a step changes the image
-same-image : {s : ℕ} {img : List ℕ} (o : Out) → o .image ≡ img → Steady s img (o .board) → Kept s o
-same-image {s} o e v = subst (λ (l : List ℕ). Steady s l (o .board)) (sym e) v
+same-image : {N : ℕ} {s : ℕ} {img : List ℕ} (o : Out) → o .image ≡ img → Steady N s img (o .board) → Kept N s o
+same-image {N} {s} o e v = subst (λ (l : List ℕ). Steady N s l (o .board)) (sym e) v
 
 -- a mount or a format
-begun-kept : {s : ℕ} {img : List ℕ} (r : Record) → Sized s img → Bytes img → (c : Call) → Restarting c → (exec img r c .image ≡ img) × Kept s (exec img r c)
+pub begun-kept : {N : ℕ} {s : ℕ} {img : List ℕ} (r : Record) → Sized N s img → Bytes img → (c : Call) → Restarting c
+    → (exec N img r c .image ≡ img) × Kept N s (exec N img r c)
 begun-kept r z by (request h m reply) n = absurd n
 begun-kept r z by step n = absurd n
-begun-kept {s} {img} r z by mount n =
-    let e : mountOn img .image ≡ img = at-most-one-step img r mount in (e, same-image (mountOn img) e (mount-kept z by))
-begun-kept {s} {img} r z by format n =
-    let e : formatOn img .image ≡ img = at-most-one-step img r format in (e, same-image (formatOn img) e (format-kept z by))
+begun-kept {N} {s} {img} r z by mount n =
+    let e : mountOn N img .image ≡ img = at-most-one-step N img r mount in (e, same-image (mountOn N img) e (mount-kept z by))
+begun-kept {N} {s} {img} r z by format n =
+    let e : formatOn N img .image ≡ img = at-most-one-step N img r format in (e, same-image (formatOn N img) e (format-kept z by))
 
 -- power lost inside an erase
-cut-sized : {s : ℕ} {img : List ℕ} {r : Record} {b : Book} (k : ℕ) (new : List ℕ) → Steady s img r → CutsErase exec img r b k new
-    → Sized s (withBlock (sizeOf img) k new img)
-cut-sized {s} {img} k new v c =
-    let z : Sized s img = v .sized in
+cut-sized : {N : ℕ} {s : ℕ} {img : List ℕ} {r : Record} {b : Book} (k : ℕ) (new : List ℕ) → Steady N s img r → CutsErase N (exec N) img r b k new
+    → Sized N s (withBlock (sizeOf N img) k new img)
+cut-sized {N} {s} {img} k new v c =
+    let z : Sized N s img = v .sized in
     let long : length new ≡ s = c .raised .long ∙ ap (λ (n : ℕ). length (block n k img)) (size-of z) ∙ block-long k z (c .there) in
-    subst (λ (n : ℕ). Sized s (withBlock n k new img)) (sym (size-of z))
+    subst (λ (n : ℕ). Sized N s (withBlock n k new img)) (sym (size-of z))
     (sized-as (withBlock s k new img) (length-with s k new img (sized-block k z (c .there)) long) z)
 
-all-land : {s : ℕ} {img : List ℕ} {r : Record} (b : Book) → Steady s img r → (es : List Event) → Happens exec img r b es → AllLand exec img r es
+all-land : {N : ℕ} {s : ℕ} {img : List ℕ} {r : Record} (b : Book) → Steady N s img r → (es : List Event) → Happens N (exec N) img r b es
+    → AllLand N (exec N) img r es
 all-land b v [] h = tt
-all-land {s} {img} {r} b v (call (request g m reply) ∷ es) (bm, h) =
+all-land {N} {s} {img} {r} b v (call (request g m reply) ∷ es) (bm, h) =
     let c : Call = request g m reply in
-    (inl (at-most-one-step img r c), all-land (enterCall b c (exec img r c .answer)) (request-kept v g m reply bm) es h)
-all-land {s} {img} {r} b v (call step ∷ es) (_, h) = let y = step-done v in (y .0, all-land (enterCall b step (exec img r step .answer)) (y .1) es h)
-all-land {s} {img} {r} b v (call mount ∷ es) (_, h) =
-    let y = begun-kept r (v .sized) (v .bytes) mount tt in (inl (y .0), all-land (enterCall b mount (exec img r mount .answer)) (y .1) es h)
-all-land {s} {img} {r} b v (call format ∷ es) (_, h) =
-    let y = begun-kept r (v .sized) (v .bytes) format tt in (inl (y .0), all-land (enterCall b format (exec img r format .answer)) (y .1) es h)
+    (inl (at-most-one-step N img r c), all-land (enterCall b c (exec N img r c .answer)) (request-kept v g m reply bm) es h)
+all-land {N} {s} {img} {r} b v (call step ∷ es) (_, h) = let y = step-done v in (y .0, all-land (enterCall b step (exec N img r step .answer)) (y .1) es h)
+all-land {N} {s} {img} {r} b v (call mount ∷ es) (_, h) =
+    let y = begun-kept r (v .sized) (v .bytes) mount tt in (inl (y .0), all-land (enterCall b mount (exec N img r mount .answer)) (y .1) es h)
+all-land {N} {s} {img} {r} b v (call format ∷ es) (_, h) =
+    let y = begun-kept r (v .sized) (v .bytes) format tt in (inl (y .0), all-land (enterCall b format (exec N img r format .answer)) (y .1) es h)
 all-land b v (cutErase k new q ∷ []) h = tt
-all-land {s} {img} b v (cutErase k new q ∷ call c ∷ es) (x, n, (_, h)) =
-    let i : List ℕ = withBlock (sizeOf img) k new img in
-    let y = begun-kept q (cut-sized k new v x) (bytes-with (sizeOf img) k new img (x .raised .bytes) (v .bytes)) c n in
-    (inl (y .0), all-land (enterCall b c (exec i q c .answer)) (y .1) es h)
+all-land {N} {s} {img} b v (cutErase k new q ∷ call c ∷ es) (x, n, (_, h)) =
+    let i : List ℕ = withBlock (sizeOf N img) k new img in
+    let y = begun-kept q (cut-sized k new v x) (bytes-with (sizeOf N img) k new img (x .raised .bytes) (v .bytes)) c n in
+    (inl (y .0), all-land (enterCall b c (exec N i q c .answer)) (y .1) es h)
 all-land b v (cutErase k new q ∷ cutErase j more p ∷ es) (x, n, h) = absurd n
 
-pub lands-from : LandsFrom exec
-lands-from =
+pub lands-from : (N : ℕ) → LandsFrom N (exec N)
+lands-from N =
     record {
-      from-mount = λ img r b es by ok h. all-land b (mount-kept (sized-of img ok) by) es h;
-      from-format = λ img r b es by ok h. all-land b (format-kept (sized-of img ok) by) es h;
+      from-mount = λ img r b es by ok h. all-land b (mount-kept (sized-of N img ok) by) es h;
+      from-format = λ img r b es by ok h. all-land b (format-kept (sized-of N img ok) by) es h;
     }

@@ -4,11 +4,11 @@ use mathlib.Core.List.{List, [], _∷_}
 use mathlib.Core.Logic.{inl, inr}
 use mathlib.Core.Option.{Option, none, some}
 use mathlib.Core.Bool.{Bool, true, false}
-use Prim.Native.Nat.{ℕ, _-_, _/_, _≤_, _<_}
+use Prim.Native.Nat.{ℕ, _+_, _-_, _≤_, _<_}
 use native.Mathlib.Omega.{arith}
 use lib.ListN.{length}
 use Rattle.flash.specs.Bytes.{Bytes}
-use Rattle.flash.specs.Flash.{Step, apply, block, blocks, sizeOf, withBlock}
+use Rattle.flash.specs.Flash.{sizeIn, Step, apply, block, sizeOf, withBlock}
 use Rattle.flash.proofs.Image.{length-apply, bytes-apply}
 use Rattle.flash.proofs.Raising.{bytes-with}
 use Rattle.frame.specs.declared.Host.{Host}
@@ -34,7 +34,7 @@ use Rattle.board.specs.Demand1.{Rests}
 use Rattle.board.specs.Demand2.{Accepted}
 use Rattle.board.specs.Claim.{ByteCall, Begins, Event, call, cutErase}
 use Rattle.wire.specs.Sentences.{Means, MessagesExact, MalformedExact}
-use Rattle.board.specs.Promise.{Machine, replyFor, Answers, Serves, Job, frame-job, mount-job, format-job, Calls, Shown, restingIn}
+use Rattle.board.specs.Promise.{Short, Machine, replyFor, Answers, Serves, Job, frame-job, mount-job, format-job, Calls, Shown, restingIn}
 use Rattle.board.specs.Promise.{shownRecord, shown, trace, ByteEvents, PromiseDetermines, PromiseDeterminesFrom, PromiseDeterminesCall}
 use Rattle.board.proofs.Answering.{number-done, number-accepted, Both, both-taken, both-refused, same-numbered, told-answer}
 use Rattle.board.proofs.Answering.{whole, whole-is, in-job, same-stretch}
@@ -45,42 +45,49 @@ use Rattle.board.proofs.Freshness.{fresh-exact}
 
 -- ---- two machines between calls: the same record in no job, or the same steps to do and then the same idle record
 
-pub data Alike (m n : Machine) (img : List ℕ) (r q : Record) : Type 0 where
-  resting : Rests (q .phase) → r ≡ q → Alike m n img r q
-  working : (x : Step) (xs : List Step) (z : Record) → z .phase ≡ Idle → length (x ∷ xs) ≤ sizeOf img → Follows m img r (x ∷ xs) z
-      → Follows n img q (x ∷ xs) z → Alike m n img r q
+pub data Alike (N : ℕ) (m n : Machine) (img : List ℕ) (r q : Record) : Type 0 where
+  resting : Rests (q .phase) → r ≡ q → Alike N m n img r q
+  working : (x : Step) (xs : List Step) (z : Record) → z .phase ≡ Idle → length (x ∷ xs) ≤ sizeOf N img + N → Follows N m img r (x ∷ xs) z
+      → Follows N n img q (x ∷ xs) z → Alike N m n img r q
 
 more-none : (p : Phase) (r : Record) → answerIn p ≡ More → restingIn p r ≡ none
 more-none Unmounted r e = let w : _≡_ {A = ℕ} 0 1 = cc in absurd (omega arith)
 more-none Idle r e = let w : _≡_ {A = ℕ} 0 1 = cc in absurd (omega arith)
 more-none (Busy s) r e = refl
 
-module _ {m n : Machine} {img : List ℕ} {r q : Record} where
-  alike-shown : Alike m n img r q → shownRecord r ≡ shownRecord q
+module _ {N : ℕ} {m n : Machine} {img : List ℕ} {r q : Record} where
+  alike-shown : Alike N m n img r q → shownRecord r ≡ shownRecord q
   alike-shown (resting h e) = ap shownRecord e
   alike-shown (working x xs z h l f g) = more-none (r .phase) r (f .0) ∙ sym (more-none (q .phase) q (g .0))
 
-  alike-answer : Alike m n img r q → answerOf r ≡ answerOf q
+  alike-answer : Alike N m n img r q → answerOf r ≡ answerOf q
   alike-answer (resting h e) = ap answerOf e
   alike-answer (working x xs z h l f g) = f .0 ∙ sym (g .0)
 
+-- a job's steps, a mount's erases too
+pub short-most : (N s : ℕ) (plan : List Step) (c : Call) → Short N s plan c → length plan ≤ s + N
+short-most N s plan (request h msg reply) l = omega arith
+short-most N s plan step l = omega arith
+short-most N s plan mount (l, e) = omega arith
+short-most N s plan format l = omega arith
+
 -- a plan to follow, if it has steps; else the record after it
-alike-plan : {m n : Machine} {img : List ℕ} {r q : Record} (xs : List Step) (z : Record) → z .phase ≡ Idle → length xs ≤ sizeOf img
-    → Follows m img r xs z → Follows n img q xs z → Alike m n img r q
+alike-plan : {N : ℕ} {m n : Machine} {img : List ℕ} {r q : Record} (xs : List Step) (z : Record) → z .phase ≡ Idle → length xs ≤ sizeOf N img + N
+    → Follows N m img r xs z → Follows N n img q xs z → Alike N m n img r q
 alike-plan [] z h l f g = resting (subst (λ (y : Record). Rests (y .phase)) (sym g) (subst Rests (sym h) tt)) (f ∙ sym g)
 alike-plan (x ∷ xs) z h l f g = working x xs z h l f g
 
 -- ---- two outcomes
 
-pub record Agree (m n : Machine) (o p : Out) : Type 0 where
+pub record Agree (N : ℕ) (m n : Machine) (o p : Out) : Type 0 where
   pub same : shown o ≡ shown p
   pub image : o .image ≡ p .image
-  pub next : Alike m n (o .image) (o .board) (p .board)
+  pub next : Alike N m n (o .image) (o .board) (p .board)
   pub bytes : Bytes (o .image)
 
-module _ {m n : Machine} where
+module _ {N : ℕ} {m n : Machine} where
   agree-whole : (a b : Answer) (img : List ℕ) (r q : Record) (reply : List ℕ) (st : Stretch) → a ≡ b → Bytes img
-      → Alike m n img r q → Agree m n (whole a img r reply st) (whole b img q reply st)
+      → Alike N m n img r q → Agree N m n (whole a img r reply st) (whole b img q reply st)
   agree-whole a b img r q reply st e by v =
       record {
         same = ap₂ (λ (w : Answer) (x : Option Record). record { answer = w; image = img; board = x; reply = reply; stretch = st }) e (alike-shown v);
@@ -89,71 +96,72 @@ module _ {m n : Machine} where
         bytes = by;
       }
 
-  agree-by : {o p o′ p′ : Out} → o ≡ o′ → p ≡ p′ → Agree m n o′ p′ → Agree m n o p
-  agree-by e f y = subst₂ (Agree m n) (sym e) (sym f) y
+  agree-by : {o p o′ p′ : Out} → o ≡ o′ → p ≡ p′ → Agree N m n o′ p′ → Agree N m n o p
+  agree-by e f y = subst₂ (Agree N m n) (sym e) (sym f) y
 
 -- ---- what a machine that keeps the promise gives back
 
 -- a plan's last record is idle
-framed-idle : (b : Bool) (l k end : ℕ) (x : Held) (f : Frame) → framedAt b l k end x f .phase ≡ Idle
-framed-idle true l k end x f = refl
-framed-idle false l k end x f = refl
+framed-idle : (N : ℕ) (b : Bool) (l k end : ℕ) (x : Held) (f : Frame) → framedAt N b l k end x f .phase ≡ Idle
+framed-idle N true l k end x f = refl
+framed-idle N false l k end x f = refl
 
-mounted-idle : (b : Bool) (l : ℕ) (x : Store) → mountedAt b l x .phase ≡ Idle
-mounted-idle true l x = refl
-mounted-idle false l x = refl
+mounted-idle : (N : ℕ) (b : Bool) (l : ℕ) (x : Store) → mountedAt N b l x .phase ≡ Idle
+mounted-idle N true l x = refl
+mounted-idle N false l x = refl
 
 -- past the first lines a request has an image and a message that can be told
-pub record Asked (img : List ℕ) (r : Record) (msg : List ℕ) : Type 0 where
-  pub length-ok : allowed (length img) ≡ true
+pub record Asked (N : ℕ) (img : List ℕ) (r : Record) (msg : List ℕ) : Type 0 where
+  pub length-ok : allowed N (length img) ≡ true
   pub holding : Held
   pub asked : Request
-  pub is-held : Fresh img r holding
+  pub is-held : Fresh N img r holding
   pub is-asked : Means msg asked
 
-module _ {m : Machine} (p : Calls m) (img : List ℕ) (by : Bytes img) where
-  pub request-asks : (r : Record) (h : Host) (msg reply : List ℕ) → Accepted (m img r (request h msg reply) .answer) → Asked img r msg
+module _ {N : ℕ} {m : Machine} (p : Calls N m) (img : List ℕ) (by : Bytes img) where
+  pub request-asks : (r : Record) (h : Host) (msg reply : List ℕ) → Accepted (m img r (request h msg reply) .answer) → Asked N img r msg
   unfolding FreshExact MessagesExact MalformedExact
   request-asks r h msg reply a = go (p .table img r (request h msg reply) by)
     where
       ans : Answer
       ans = m img r (request h msg reply) .answer
 
-      parsed : (ok : allowed (length img) ≡ true) (x : Held) → held img r ≡ some x → (((q : Request) → Means msg q → ⊥) → ⊥) → (w : Parsed)
-          → parse msg ≡ w → Asked img r msg
+      parsed : (ok : allowed N (length img) ≡ true) (x : Held) → held N img r ≡ some x → (((q : Request) → Means msg q → ⊥) → ⊥) → (w : Parsed)
+          → parse msg ≡ w → Asked N img r msg
       parsed ok x e g Malformed w = absurd (g (malformed-exact msg .0 w))
       parsed ok x e g (Is q) w =
-          record { length-ok = ok; holding = x; asked = q; is-held = fresh-exact img r x by ok .0 e; is-asked = messages-exact msg q .0 w }
+          record { length-ok = ok; holding = x; asked = q; is-held = fresh-exact N img r x by ok .0 e; is-asked = messages-exact msg q .0 w }
 
-      found : (ok : allowed (length img) ≡ true) → (((x : Held) → Fresh img r x → ⊥) → ⊥) → (((q : Request) → Means msg q → ⊥) → ⊥)
-          → (o : Option Held) → held img r ≡ o → Asked img r msg
-      found ok f g none e = absurd (f (λ x y. let w : some x ≡ none = sym (fresh-exact img r x by ok .1 y) ∙ e in let z : _≡_ {A = ℕ} 0 1 = cc in omega arith))
+      found : (ok : allowed N (length img) ≡ true) → (((x : Held) → Fresh N img r x → ⊥) → ⊥) → (((q : Request) → Means msg q → ⊥) → ⊥)
+          → (o : Option Held) → held N img r ≡ o → Asked N img r msg
+      found ok f g none e =
+          absurd (f (λ x y. let w : some x ≡ none = sym (fresh-exact N img r x by ok .1 y) ∙ e in let z : _≡_ {A = ℕ} 0 1 = cc in omega arith))
       found ok f g (some x) e = parsed ok x e g (parse msg) refl
 
-      go : Exactly (requestLines img r h msg reply) ans → Asked img r msg
+      go : Exactly (requestLines N img r h msg reply) ans → Asked N img r msg
       go (inl (_, e)) = absurd (number-accepted ans 3 e a)
       go (inr (_, inl (_, e))) = absurd (number-accepted ans 9 e a)
       go (inr (_, inr (_, inl (_, e)))) = absurd (number-accepted ans 4 e a)
       go (inr (_, inr (_, inr (_, inl (_, e))))) = absurd (number-accepted ans 1 e a)
       go (inr (_, inr (_, inr (_, inr (_, inl (_, e)))))) = absurd (number-accepted ans 10 e a)
       go (inr (_, inr (_, inr (_, inr (_, inr (_, inl (_, e))))))) = absurd (number-accepted ans 0 e a)
-      go (inr (l, inr (_, inr (_, inr (_, inr (f, inr (g, _))))))) = found (allowed-not (length img) l) f g (held img r) refl
+      go (inr (l, inr (_, inr (_, inr (_, inr (f, inr (g, _))))))) = found (allowed-not N (length img) l) f g (held N img r) refl
 
   -- an accepted mount has a current half to take
-  pub mount-takes : (r : Record) → Accepted (m img r mount .answer) → Mountable img
+  pub mount-takes : (r : Record) → Accepted (m img r mount .answer) → Mountable N img
   mount-takes r a =
-      go (same-mounts img by (m img r mount .answer) (mountOn img .answer) (p .table img r mount by, λ k e. p .names img r k e by) (mount-told img by))
+      go (same-mounts img by (m img r mount .answer) (mountOn N img .answer) (p .table img r mount by, λ k e. p .names img r k e by) (mount-told img by))
     where
-      go : Both (m img r mount .answer) (mountOn img .answer) → Mountable img
+      go : Both (m img r mount .answer) (mountOn N img .answer) → Mountable N img
       go (both-refused w e f) = absurd (subst Accepted e a)
       go (both-taken _ b) = accepted-takes img by b
 
-  pub mount-allowed : (r : Record) → Accepted (m img r mount .answer) → allowed (length img) ≡ true
+  pub mount-allowed : (r : Record) → Accepted (m img r mount .answer) → allowed N (length img) ≡ true
   mount-allowed r a = go (p .table img r mount by)
     where
-      go : Exactly (mountLines img) (m img r mount .answer) → allowed (length img) ≡ true
+      go : Exactly (mountLines N img) (m img r mount .answer) → allowed N (length img) ≡ true
       go (inl (_, e)) = absurd (number-accepted (m img r mount .answer) 3 e a)
-      go (inr (f, _)) = allowed-not (length img) f
+      go (inr (f, _)) = allowed-not N (length img) f
 
   -- an accepted mount or format touches nothing
   takes-mount : (r : Record) → Accepted (m img r mount .answer) → m img r mount ≡ out (answerOf (m img r mount .board)) img (m img r mount .board) []
@@ -169,31 +177,31 @@ module _ {m : Machine} (p : Calls m) (img : List ℕ) (by : Bytes img) where
 
 -- ---- each call
 
-module _ {m n : Machine} (pm : Calls m) (pn : Calls n) (img : List ℕ) (by : Bytes img) where
+module _ {N : ℕ} {m n : Machine} (pm : Calls N m) (pn : Calls N n) (img : List ℕ) (by : Bytes img) where
   -- ---- a request
 
   does-agree : (r : Record) (h : Host) (msg reply : List ℕ) (x : Held) (q : Request) (f : Option Frame) (o p : Out) → Rests (r .phase)
-      → o .image ≡ img → p .image ≡ img → Answers f r o → Answers f r p → Serves img r h msg reply x q o → Serves img r h msg reply x q p
-      → ((g : Frame) → f ≡ some g → Alike m n img (o .board) (p .board)) → Agree m n o p
+      → o .image ≡ img → p .image ≡ img → Answers f r o → Answers f r p → Serves N img r h msg reply x q o → Serves N img r h msg reply x q p
+      → ((g : Frame) → f ≡ some g → Alike N m n img (o .board) (p .board)) → Agree N m n o p
   does-agree r h msg reply x q none o p k i j (a, b) (c, d) s t v =
       agree-by (whole-is o (number-done (o .answer) a) i b (s .writes) refl)
-      (whole-is p (number-done (p .answer) c) j d (t .writes) (same-stretch img r x q (p .stretch) (o .stretch) (t .hands-back) (s .hands-back)))
-      (agree-whole Done Done img r r (replyFor img reply x q) (o .stretch) refl by (resting k refl))
+      (whole-is p (number-done (p .answer) c) j d (t .writes) (same-stretch N img r x q (p .stretch) (o .stretch) (t .hands-back) (s .hands-back)))
+      (agree-whole Done Done img r r (replyFor N img reply x q) (o .stretch) refl by (resting k refl))
   does-agree r h msg reply x q (some f) o p k i j a b s t v =
       agree-by (whole-is o a i refl (s .writes) refl)
-      (whole-is p b j refl (t .writes) (same-stretch img r x q (p .stretch) (o .stretch) (t .hands-back) (s .hands-back)))
-      (agree-whole More More img (o .board) (p .board) (replyFor img reply x q) (o .stretch) refl by (v f refl))
+      (whole-is p b j refl (t .writes) (same-stretch N img r x q (p .stretch) (o .stretch) (t .hands-back) (s .hands-back)))
+      (agree-whole More More img (o .board) (p .board) (replyFor N img reply x q) (o .stretch) refl by (v f refl))
 
   -- the same job
-  job-alike : (r q : Record) (c : Call) (plan : List Step) (z : Record) → ByteCall c → Job img r c plan z → Job img q c plan z → z .phase ≡ Idle
-      → Accepted (m img r c .answer) → Accepted (n img q c .answer) → Alike m n img (m img r c .board) (n img q c .board)
+  job-alike : (r q : Record) (c : Call) (plan : List Step) (z : Record) → ByteCall c → Job N img r c plan z → Job N img q c plan z → z .phase ≡ Idle
+      → Accepted (m img r c .answer) → Accepted (n img q c .answer) → Alike N m n img (m img r c .board) (n img q c .board)
   job-alike r q c plan z bc j k e a b =
-      let f = pm .jobs img r c plan z by bc j a in alike-plan plan z e (f .1) (f .0) (pn .jobs img q c plan z by bc k b .0)
+      let f = pm .jobs img r c plan z by bc j a in alike-plan plan z e (short-most N (sizeOf N img) plan c (f .1)) (f .0) (pn .jobs img q c plan z by bc k b .0)
 
   request-agrees : (r : Record) (h : Host) (msg reply : List ℕ) → Bytes msg → Rests (r .phase)
-      → Agree m n (m img r (request h msg reply)) (n img r (request h msg reply))
+      → Agree N m n (m img r (request h msg reply)) (n img r (request h msg reply))
   request-agrees r h msg reply bm k =
-      go (same-numbered (requestLines img r h msg reply) (o .answer) (p .answer) (omega arith) (pm .table img r c by) (pn .table img r c by))
+      go (same-numbered (requestLines N img r h msg reply) (o .answer) (p .answer) (omega arith) (pm .table img r c by) (pn .table img r c by))
     where
       c : Call
       c = request h msg reply
@@ -204,28 +212,29 @@ module _ {m n : Machine} (pm : Calls m) (pn : Calls n) (img : List ℕ) (by : By
       p : Out
       p = n img r c
 
-      go : Both (o .answer) (p .answer) → Agree m n o p
+      go : Both (o .answer) (p .answer) → Agree N m n o p
       go (both-refused w e f) =
           agree-by (pm .untouched img r c w e) (pn .untouched img r c w f)
           (agree-whole (Refused w) (Refused w) img r r reply noStretch refl by (resting k refl))
       go (both-taken a b) =
-          let y : Asked img r msg = request-asks pm img by r h msg reply a in
+          let y : Asked N img r msg = request-asks pm img by r h msg reply a in
           let x : Held = y .holding in
           let q : Request = y .asked in
-          let s : Serves img r h msg reply x q o = pm .serves img r h msg reply x q by bm (y .is-held) (y .is-asked) a in
-          let t : Serves img r h msg reply x q p = pn .serves img r h msg reply x q by bm (y .is-held) (y .is-asked) b in
+          let s : Serves N img r h msg reply x q o = pm .serves img r h msg reply x q by bm (y .is-held) (y .is-asked) a in
+          let t : Serves N img r h msg reply x q p = pn .serves img r h msg reply x q by bm (y .is-held) (y .is-asked) b in
           let job : (f : Frame) → frameFor h msg x q ≡ some f
-          → Job img r c (framePlan (needsRoom img r f) (r .block) (r .end) x f) (framedAt (needsRoom img r f) (r .last) (r .block) (r .end) x f) =
+          → Job N img r c (framePlan N (needsRoom N img r f) (r .block) (r .end) x f) (framedAt N (needsRoom N img r f) (r .last) (r .block) (r .end) x f) =
           λ f e. frame-job h msg reply x q f (y .is-held) (y .is-asked) e in
           does-agree r h msg reply x q (frameFor h msg x q) o p k (pm .one-step img r c) (pn .one-step img r c) (s .answers) (t .answers) s t
-          (λ f e. job-alike r r c (framePlan (needsRoom img r f) (r .block) (r .end) x f) (framedAt (needsRoom img r f) (r .last) (r .block) (r .end) x f) bm
-          (job f e) (job f e) (framed-idle (needsRoom img r f) (r .last) (r .block) (r .end) x f) a b)
+          (λ f e. job-alike r r c (framePlan N (needsRoom N img r f) (r .block) (r .end) x f)
+          (framedAt N (needsRoom N img r f) (r .last) (r .block) (r .end) x f) bm
+          (job f e) (job f e) (framed-idle N (needsRoom N img r f) (r .last) (r .block) (r .end) x f) a b)
 
   -- 4, 10 or 5, whatever the record holds
   abbrev busyLines : Host → List Line
-  busyLines h = line 4 (Allowed (length img) → ⊥) ∷ line 10 (3 < h .0) ∷ line 5 (Unit {0}) ∷ []
+  busyLines h = line 4 (Allowed N (length img) → ⊥) ∷ line 10 (3 < h .0) ∷ line 5 (Unit {0}) ∷ []
 
-  while-busy : (r : Record) (h : Host) (msg reply : List ℕ) (a : Answer) → InJob (r .phase) → Exactly (requestLines img r h msg reply) a
+  while-busy : (r : Record) (h : Host) (msg reply : List ℕ) (a : Answer) → InJob (r .phase) → Exactly (requestLines N img r h msg reply) a
       → Exactly (busyLines h) a
   while-busy r h msg reply a j (inl x) = inl x
   while-busy r h msg reply a j (inr (f, inl x)) = inr (f, inl x)
@@ -238,8 +247,8 @@ module _ {m n : Machine} (pm : Calls m) (pn : Calls n) (img : List ℕ) (by : By
   busy-refuses h a (inr (_, inr (_, inl (_, e)))) y = number-accepted a 4 e y
   busy-refuses h a (inr (_, inr (_, inr (f, _)))) y = f tt
 
-  request-busy : (r q : Record) (h : Host) (msg reply : List ℕ) → answerOf r ≡ More → answerOf q ≡ More → Alike m n img r q
-      → Agree m n (m img r (request h msg reply)) (n img q (request h msg reply))
+  request-busy : (r q : Record) (h : Host) (msg reply : List ℕ) → answerOf r ≡ More → answerOf q ≡ More → Alike N m n img r q
+      → Agree N m n (m img r (request h msg reply)) (n img q (request h msg reply))
   request-busy r q h msg reply a b v = go (same-numbered (busyLines h) (m img r c .answer) (n img q c .answer) (omega arith) mine its)
     where
       c : Call
@@ -251,7 +260,7 @@ module _ {m n : Machine} (pm : Calls m) (pn : Calls n) (img : List ℕ) (by : By
       its : Exactly (busyLines h) (n img q c .answer)
       its = while-busy q h msg reply (n img q c .answer) (in-job (q .phase) b) (pn .table img q c by)
 
-      go : Both (m img r c .answer) (n img q c .answer) → Agree m n (m img r c) (n img q c)
+      go : Both (m img r c .answer) (n img q c .answer) → Agree N m n (m img r c) (n img q c)
       go (both-taken x y) = absurd (busy-refuses h (m img r c .answer) mine x)
       go (both-refused w e f) =
           agree-by (pm .untouched img r c w e) (pn .untouched img q c w f)
@@ -259,59 +268,60 @@ module _ {m n : Machine} (pm : Calls m) (pn : Calls n) (img : List ℕ) (by : By
 
   -- ---- a step
 
-  step-agrees : (r q : Record) → Alike m n img r q → Agree m n (m img r step) (n img q step)
+  step-agrees : (r q : Record) → Alike N m n img r q → Agree N m n (m img r step) (n img q step)
   step-agrees r q (resting h e) =
       agree-by (pm .rests img r (subst (λ (y : Record). Rests (y .phase)) (sym e) h)) (pn .rests img q h)
       (agree-whole Done Done img r q [] noStretch refl by (resting h e))
   step-agrees r q (working x xs z h l (a, (r′, e, f)) (b, (q′, d, g))) =
-      let after : List ℕ = apply (sizeOf img) x img in
-      let w : sizeOf after ≡ sizeOf img = ap (λ (k : ℕ). k / blocks) (length-apply (sizeOf img) x img) in
-      let v : Alike m n after r′ q′ = alike-plan xs z h (omega (arith, w)) f g in
+      let after : List ℕ = apply (sizeOf N img) x img in
+      let w : sizeOf N after ≡ sizeOf N img = ap (sizeIn N) (length-apply (sizeOf N img) x img) in
+      let v : Alike N m n after r′ q′ = alike-plan xs z h (omega (arith, w)) f g in
       agree-by e d
-      (agree-whole (answerOf r′) (answerOf q′) after r′ q′ [] noStretch (alike-answer v) (bytes-apply (sizeOf img) x img by) v)
+      (agree-whole (answerOf r′) (answerOf q′) after r′ q′ [] noStretch (alike-answer v) (bytes-apply (sizeOf N img) x img by) v)
 
   -- ---- a mount
 
   -- both took the call, and have the same to do
   agree-takes : (o p : Out) → o ≡ out (answerOf (o .board)) img (o .board) [] → p ≡ out (answerOf (p .board)) img (p .board) []
-      → Alike m n img (o .board) (p .board) → Agree m n o p
+      → Alike N m n img (o .board) (p .board) → Agree N m n o p
   agree-takes o p e f v =
       agree-by e f (agree-whole (answerOf (o .board)) (answerOf (p .board)) img (o .board) (p .board) [] noStretch (alike-answer v) by v)
 
-  pub mount-agrees : (r q : Record) → Agree m n (m img r mount) (n img q mount)
+  pub mount-agrees : (r q : Record) → Agree N m n (m img r mount) (n img q mount)
   mount-agrees r q =
       go (same-mounts img by (m img r mount .answer) (n img q mount .answer) (pm .table img r mount by, λ k e. pm .names img r k e by)
       (pn .table img q mount by, λ k e. pn .names img q k e by))
     where
-      go : Both (m img r mount .answer) (n img q mount .answer) → Agree m n (m img r mount) (n img q mount)
+      go : Both (m img r mount .answer) (n img q mount .answer) → Agree N m n (m img r mount) (n img q mount)
       go (both-refused w e f) =
           agree-by (pm .untouched img r mount w e) (pn .untouched img q mount w f)
           (agree-whole (Refused w) (Refused w) img unmounted unmounted [] noStretch refl by (resting tt refl))
       go (both-taken a b) =
-          let y : Mountable img = mount-takes pm img by r a in
+          let y : Mountable N img = mount-takes pm img by r a in
           let x : Store = y .store in
           agree-takes (m img r mount) (n img q mount) (takes-mount pm img by r a) (takes-mount pn img by q b)
-          (job-alike r q mount (mountPlan (allFound img) x) (mountedAt (needsTransfer (x .frames) (x .tail)) (length img - 1) x) tt (mount-job x (y .current))
-          (mount-job x (y .current)) (mounted-idle (needsTransfer (x .frames) (x .tail)) (length img - 1) x) a b)
+          (job-alike r q mount (mountPlan N (allFound N img) x) (mountedAt N (needsTransfer (x .frames) (x .tail)) (length img - 1) x) tt
+          (mount-job x (y .current))
+          (mount-job x (y .current)) (mounted-idle N (needsTransfer (x .frames) (x .tail)) (length img - 1) x) a b)
 
   -- ---- a format
 
-  pub format-agrees : (r q : Record) → Agree m n (m img r format) (n img q format)
+  pub format-agrees : (r q : Record) → Agree N m n (m img r format) (n img q format)
   format-agrees r q =
-      go (same-numbered (linesOf img r format) (m img r format .answer) (n img q format .answer) (omega arith) (pm .table img r format by)
+      go (same-numbered (linesOf N img r format) (m img r format .answer) (n img q format .answer) (omega arith) (pm .table img r format by)
       (pn .table img q format by))
     where
-      go : Both (m img r format .answer) (n img q format .answer) → Agree m n (m img r format) (n img q format)
+      go : Both (m img r format .answer) (n img q format .answer) → Agree N m n (m img r format) (n img q format)
       go (both-refused w e f) =
           agree-by (pm .untouched img r format w e) (pn .untouched img q format w f)
           (agree-whole (Refused w) (Refused w) img unmounted unmounted [] noStretch refl by (resting tt refl))
       go (both-taken a b) =
           agree-takes (m img r format) (n img q format) (takes-format pm img by r a) (takes-format pn img by q b)
-          (job-alike r q format (formatPlan img) (idle (rest (length img - 1) 0 headerLen)) tt format-job format-job refl a b)
+          (job-alike r q format (formatPlan N img) (idle (rest N (length img - 1) 0 headerLen)) tt format-job format-job refl a b)
 
-  pub call-agrees : (r q : Record) → Alike m n img r q → (c : Call) → ByteCall c → Agree m n (m img r c) (n img q c)
+  pub call-agrees : (r q : Record) → Alike N m n img r q → (c : Call) → ByteCall c → Agree N m n (m img r c) (n img q c)
   call-agrees r q (resting h e) (request g msg reply) bm =
-      subst (λ (x : Record). Agree m n (m img x (request g msg reply)) (n img q (request g msg reply))) (sym e) (request-agrees q g msg reply bm h)
+      subst (λ (x : Record). Agree N m n (m img x (request g msg reply)) (n img q (request g msg reply))) (sym e) (request-agrees q g msg reply bm h)
   call-agrees r q (working x xs z h l f g) (request k msg reply) bm = request-busy r q k msg reply (f .0) (g .0) (working x xs z h l f g)
   call-agrees r q v step bm = step-agrees r q v
   call-agrees r q v mount bm = mount-agrees r q
@@ -319,28 +329,28 @@ module _ {m n : Machine} (pm : Calls m) (pn : Calls n) (img : List ℕ) (by : By
 
 -- ---- every run
 
-module _ {m n : Machine} (pm : Calls m) (pn : Calls n) where
-  agree-run : (o p : Out) → Agree m n o p
-      → (es : List Event) → trace m (o .image) (o .board) es ≡ trace n (o .image) (p .board) es
-      → shown o ∷ trace m (o .image) (o .board) es ≡ shown p ∷ trace n (p .image) (p .board) es
+module _ {N : ℕ} {m n : Machine} (pm : Calls N m) (pn : Calls N n) where
+  agree-run : (o p : Out) → Agree N m n o p
+      → (es : List Event) → trace N m (o .image) (o .board) es ≡ trace N n (o .image) (p .board) es
+      → shown o ∷ trace N m (o .image) (o .board) es ≡ shown p ∷ trace N n (p .image) (p .board) es
   agree-run o p y es e =
-      ap₂ (λ (x : Shown) (xs : List Shown). x ∷ xs) (y .same) (e ∙ ap (λ (i : List ℕ). trace n i (p .board) es) (y .image))
+      ap₂ (λ (x : Shown) (xs : List Shown). x ∷ xs) (y .same) (e ∙ ap (λ (i : List ℕ). trace N n i (p .board) es) (y .image))
 
-  pub begun-agrees : (img : List ℕ) (r q : Record) (c : Call) → Bytes img → Begins c → Agree m n (m img r c) (n img q c)
+  pub begun-agrees : (img : List ℕ) (r q : Record) (c : Call) → Bytes img → Begins c → Agree N m n (m img r c) (n img q c)
   begun-agrees img r q (request h msg reply) by b = absurd b
   begun-agrees img r q step by b = absurd b
   begun-agrees img r q mount by b = mount-agrees pm pn img by r q
   begun-agrees img r q format by b = format-agrees pm pn img by r q
 
-  run-agrees : (img : List ℕ) (r q : Record) → Bytes img → Alike m n img r q → (es : List Event) → ByteEvents es → trace m img r es ≡ trace n img q es
+  run-agrees : (img : List ℕ) (r q : Record) → Bytes img → Alike N m n img r q → (es : List Event) → ByteEvents es → trace N m img r es ≡ trace N n img q es
   run-agrees img r q by v [] bs = refl
   run-agrees img r q by v (call c ∷ es) (bc, bs) =
-      let y : Agree m n (m img r c) (n img q c) = call-agrees pm pn img by r q v c bc in
+      let y : Agree N m n (m img r c) (n img q c) = call-agrees pm pn img by r q v c bc in
       agree-run (m img r c) (n img q c) y es (run-agrees (m img r c .image) (m img r c .board) (n img q c .board) (y .bytes) (y .next) es bs)
   run-agrees img r q by v (cutErase k new g ∷ []) bs = refl
   run-agrees img r q by v (cutErase k new g ∷ call c ∷ es) (bn, b, (bc, bs)) =
-      let i : List ℕ = withBlock (sizeOf img) k new img in
-      let y : Agree m n (m i g c) (n i g c) = begun-agrees i g g c (bytes-with (sizeOf img) k new img bn by) b in
+      let i : List ℕ = withBlock (sizeOf N img) k new img in
+      let y : Agree N m n (m i g c) (n i g c) = begun-agrees i g g c (bytes-with (sizeOf N img) k new img bn by) b in
       agree-run (m i g c) (n i g c) y es (run-agrees (m i g c .image) (m i g c .board) (n i g c .board) (y .bytes) (y .next) es bs)
   run-agrees img r q by v (cutErase k new g ∷ cutErase j more f ∷ es) (bn, b, bs) = absurd b
 
@@ -365,23 +375,24 @@ module _ {m n : Machine} (pm : Calls m) (pn : Calls n) where
       go Unmounted e = rested (subst Rests (sym e) tt)
       go Idle e = rested (subst Rests (sym e) tt)
       go (Busy s) e =
-          busy s e (same-numbered (requestLines img r h msg reply) (m img r (request h msg reply) .answer) (n img r (request h msg reply) .answer) (omega arith)
+          busy s e (same-numbered (requestLines N img r h msg reply) (m img r (request h msg reply) .answer) (n img r (request h msg reply) .answer)
+          (omega arith)
           (pm .table img r (request h msg reply) by) (pn .table img r (request h msg reply) by))
 
 pub promise-determines : PromiseDetermines
 unfolding PromiseDetermines
-promise-determines m n pm pn img r q c es by b bs =
-    let y : Agree m n (m img r c) (n img q c) = begun-agrees (pm .calls) (pn .calls) img r q c by b in
+promise-determines N m n pm pn img r q c es by b bs =
+    let y : Agree N m n (m img r c) (n img q c) = begun-agrees (pm .calls) (pn .calls) img r q c by b in
     agree-run (pm .calls) (pn .calls) (m img r c) (n img q c) y es
     (run-agrees (pm .calls) (pn .calls) (m img r c .image) (m img r c .board) (n img q c .board) (y .bytes) (y .next) es bs)
 
 pub promise-determines-from : PromiseDeterminesFrom
 unfolding PromiseDeterminesFrom
-promise-determines-from m n pm pn img r es by h bs = run-agrees (pm .calls) (pn .calls) img r r by (resting h refl) es bs
+promise-determines-from N m n pm pn img r es by h bs = run-agrees (pm .calls) (pn .calls) img r r by (resting h refl) es bs
 
 pub promise-determines-call : PromiseDeterminesCall
 unfolding PromiseDeterminesCall
-promise-determines-call m n pm pn img r (request h msg reply) by bc w = lone-request (pm .calls) (pn .calls) img r h msg reply by bc
-promise-determines-call m n pm pn img r step by bc w = absurd w
-promise-determines-call m n pm pn img r mount by bc w = mount-agrees (pm .calls) (pn .calls) img by r r .same
-promise-determines-call m n pm pn img r format by bc w = format-agrees (pm .calls) (pn .calls) img by r r .same
+promise-determines-call N m n pm pn img r (request h msg reply) by bc w = lone-request (pm .calls) (pn .calls) img r h msg reply by bc
+promise-determines-call N m n pm pn img r step by bc w = absurd w
+promise-determines-call N m n pm pn img r mount by bc w = mount-agrees (pm .calls) (pn .calls) img by r r .same
+promise-determines-call N m n pm pn img r format by bc w = format-agrees (pm .calls) (pn .calls) img by r r .same

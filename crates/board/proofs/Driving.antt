@@ -5,7 +5,7 @@ use mathlib.Core.Bool.{Bool, true, false, _&&_, cond}
 use Prim.Native.Nat.{ℕ, suc, _/_}
 use lib.Dec.{eqb}
 use lib.ListN.{length}
-use Rattle.flash.specs.Flash.{Step, program, erase, apply, blocks, sizeOf, within}
+use Rattle.flash.specs.Flash.{sizeIn, Step, program, erase, apply, sizeOf, within}
 use Rattle.flash.proofs.Image.{length-apply}
 use Rattle.wire.specs.declared.Refusal.the-variants as refusal
 use Rattle.board.specs.declared.Next.the-variants as next
@@ -13,7 +13,7 @@ use Rattle.board.specs.declared.Phase.{Phase}
 use Rattle.board.specs.declared.Phase.the-variants.{Unmounted, Idle, Busy}
 use Rattle.board.specs.declared.Record.{Record}
 use Rattle.board.specs.Record.{Out, refuse}
-use Rattle.board.specs.Step.{action, advance, stepped, stepBusy, stepOn, stepIn}
+use Rattle.board.specs.Step.{action, advance, sameShape, stepped, stepBusy, stepOn, stepIn}
 use Rattle.board.specs.Drive.{placed, nextIn, nextOn, flashed, madeIn, madeOn, NextThenMade}
 
 -- the caller's flash step is the machine's
@@ -21,32 +21,32 @@ placed-flashes : (s : ℕ) (x : Step) (img : List ℕ) → flashed (placed s x) 
 placed-flashes s (program k o v) img = refl
 placed-flashes s (erase k) img = refl
 
-made-in : (p : Phase) (img : List ℕ) (r : Record) → madeIn p (flashed (nextIn p (length img) r) img) r ≡ stepIn p img r
+made-in : (N : ℕ) (p : Phase) (img : List ℕ) (r : Record) → madeIn N p (flashed (nextIn N p (length img) r) img) r ≡ stepIn N p img r
 unfolding stepBusy
-made-in Unmounted img r = refl
-made-in Idle img r = refl
-made-in (Busy s) img r = go (taken img) refl
+made-in N Unmounted img r = refl
+made-in N Idle img r = refl
+made-in N (Busy s) img r = go (taken img) refl
   where
     taken : List ℕ → Bool
-    taken i = eqb (length i) (suc (r .last)) && within (sizeOf i) (action s r)
+    taken i = sameShape N (length i) r && within N (sizeOf N i) (action s r)
 
     after : List ℕ
-    after = apply (sizeOf img) (action s r) img
+    after = apply (sizeOf N img) (action s r) img
 
     moved : Bool → List ℕ → Out
-    moved b i = cond b (stepped i (advance s i r)) (refuse refusal.Stale i r [])
+    moved b i = cond b (stepped i (advance N s i r)) (refuse refusal.Stale i r [])
 
     -- the flash keeps its length
     same : taken after ≡ taken img
-    same = ap (λ (n : ℕ). eqb n (suc (r .last)) && within (n / blocks) (action s r)) (length-apply (sizeOf img) (action s r) img)
+    same = ap (λ (n : ℕ). sameShape N n r && within N (sizeIn N n) (action s r)) (length-apply (sizeOf N img) (action s r) img)
 
     go : (b : Bool) → taken img ≡ b
-        → madeIn (Busy s) (flashed (cond b (placed (sizeOf img) (action s r)) (next.Refused refusal.Stale)) img) r
-        ≡ cond b (stepped after (advance s after r)) (refuse refusal.Stale img r [])
+        → madeIn N (Busy s) (flashed (cond b (placed (sizeOf N img) (action s r)) (next.Refused refusal.Stale)) img) r
+        ≡ cond b (stepped after (advance N s after r)) (refuse refusal.Stale img r [])
     go true e =
-        ap (λ (i : List ℕ). moved (taken i) i) (placed-flashes (sizeOf img) (action s r) img) ∙ ap (λ (b : Bool). moved b after) (same ∙ e)
+        ap (λ (i : List ℕ). moved (taken i) i) (placed-flashes (sizeOf N img) (action s r) img) ∙ ap (λ (b : Bool). moved b after) (same ∙ e)
     go false e = ap (λ (b : Bool). moved b img) e
 
 pub next-then-made : NextThenMade
 unfolding NextThenMade nextOn madeOn stepOn
-next-then-made img r = made-in (r .phase) img r
+next-then-made N img r = made-in N (r .phase) img r

@@ -4,14 +4,15 @@ use mathlib.Core.List.{List}
 use mathlib.Core.Logic.{_⊎_, inl, inr}
 use mathlib.Core.Option.{Option, none, some}
 use mathlib.Core.Bool.{true, false, _&&_}
-use Prim.Native.Nat.{ℕ, zero, suc, _+_, _-_, _/_, _≤_, _<_}
+use Prim.Native.Nat.{ℕ, zero, suc, _+_, _-_, _≤_, _<_}
 use native.Mathlib.Omega.{arith}
-use lib.Dec.{eqb, ltb}
+use lib.Dec.{eqb, ltb, leb}
 use lib.ListN.{length}
-use borrow.Author.Tests.{ltb-true, eqb-true}
-use Rattle.flash.specs.Flash.{apply, blocks, sizeOf, within}
-use Rattle.flash.proofs.Cases.{on-test, and-right, and-no-left}
+use borrow.Author.Tests.{ltb-true, leb-true, eqb-true}
+use Rattle.flash.specs.Flash.{maxBlocks, sizeIn, isCount, Step, blockOf, offsetOf, apply, sizeOf, within}
+use Rattle.flash.proofs.Cases.{on-test, and-left, and-right, and-no-left, and-no-right}
 use Rattle.flash.proofs.Image.{length-apply}
+use Rattle.flash.proofs.Sizes.{size-half}
 use Rattle.journal.specs.Block.{markWrites}
 use Rattle.journal.specs.Index.{Load}
 use Rattle.wire.specs.declared.Answer.the-variants.{Refused}
@@ -22,7 +23,7 @@ use Rattle.board.specs.declared.Phase.{Phase}
 use Rattle.board.specs.declared.Phase.the-variants.{Unmounted, Idle, Busy}
 use Rattle.board.specs.declared.Record.{Record}
 use Rattle.board.specs.Record.{inStage, Out, rest}
-use Rattle.board.specs.Step.{landed, enterAppend, enterDrop, enterCopy, enterOpen, action, pastFrame, advance, stepOn}
+use Rattle.board.specs.Step.{sameShape, landed, enterAppend, enterDrop, enterCopy, enterOpen, action, pastFrame, advance, stepOn}
 use Rattle.board.specs.Exec.{exec}
 use Rattle.board.specs.Demand1.{Declared, Rests, EndsWithin}
 use Rattle.board.proofs.Outcomes.{nextFor, open-enters, open-skips, copy-loads, copy-ends, drop-enters, drop-skips, append-enters}
@@ -73,12 +74,12 @@ drop-left z r =
     (λ e. rw (drop-enters r e) (omega arith))
     (λ e. rw (drop-skips r e) (omega (arith, append-left z (landed r))))
 
-copy-left : (z : ℕ) (img : List ℕ) (r : Record) → left z (enterCopy img r) ≤ inCopy z r
-copy-left z img r = go (nextFor img r) refl
+copy-left : (N : ℕ) (z : ℕ) (img : List ℕ) (r : Record) → left z (enterCopy N img r) ≤ inCopy z r
+copy-left N z img r = go (nextFor N img r) refl
   where
-    go : (u : Option Load) → nextFor img r ≡ u → left z (enterCopy img r) ≤ inCopy z r
-    go (some u) e = rw (copy-loads img r u e) (omega arith)
-    go none e = rw (copy-ends img r e) (omega arith)
+    go : (u : Option Load) → nextFor N img r ≡ u → left z (enterCopy N img r) ≤ inCopy z r
+    go (some u) e = rw (copy-loads N img r u e) (omega arith)
+    go none e = rw (copy-ends N img r e) (omega arith)
 
 open-left : (z : ℕ) (r : Record) → left z (enterOpen r) ≤ inOpen z r
 open-left z r =
@@ -88,29 +89,31 @@ open-left z r =
 
 -- ---- each step leaves less
 
-advance-less : (z : ℕ) (s : Stage) (img : List ℕ) (r : Record) → within z (action s r) ≡ true → left z (advance s img r) < leftIn (Busy s) z r
-advance-less z Wipe img r w =
+advance-less : (N : ℕ) (z : ℕ) (s : Stage) (img : List ℕ) (r : Record) → within N z (action s r) ≡ true → left z (advance N s img r) < leftIn (Busy s) z r
+advance-less N z Wipe img r w =
     on-test (ltb (suc (r .cursor .index)) (r .job .wipes))
-    (λ e. rw (wipe-next img r e) (omega (arith, ltb-true (suc (r .cursor .index)) (r .job .wipes) e)))
-    (λ e. rw (wipe-last img r e) (omega (arith, open-left z r)))
-advance-less z Open img r w =
+    (λ e. rw (wipe-next N img r e) (omega (arith, ltb-true (suc (r .cursor .index)) (r .job .wipes) e)))
+    (λ e. rw (wipe-last N img r e) (omega (arith, open-left z r)))
+advance-less N z Open img r w =
     on-test (ltb (suc (r .cursor .index)) markWrites)
-    (λ e. rw (open-next img r e) (omega (arith, ltb-true (suc (r .cursor .index)) markWrites e)))
-    (λ e. rw (open-last img r e) (omega (arith, copy-left z img r)))
-advance-less z Copy img r w =
-    let t : r .cursor .at < z = ltb-true (r .cursor .at) z (and-right (ltb (r .job .target) blocks) (ltb (r .cursor .at) z) w) in
+    (λ e. rw (open-next N img r e) (omega (arith, ltb-true (suc (r .cursor .index)) markWrites e)))
+    (λ e. rw (open-last N img r e) (omega (arith, copy-left N z img r)))
+advance-less N z Copy img r w =
+    let t : r .cursor .at < z =
+    ltb-true (r .cursor .at) z
+    (and-right (ltb (r .job .target) N) (ltb (r .cursor .at) z) (and-right (isCount N) (ltb (r .job .target) N && ltb (r .cursor .at) z) w)) in
     on-test (ltb (suc (r .cursor .off)) (r .cursor .size))
-    (λ e. rw (copy-next img r e) (omega arith))
-    (λ e. rw (copy-last img r e) (omega (arith, copy-left z img (inStage Copy (pastFrame (r .cursor)) r))))
-advance-less z Seal img r w =
+    (λ e. rw (copy-next N img r e) (omega arith))
+    (λ e. rw (copy-last N img r e) (omega (arith, copy-left N z img (inStage Copy (pastFrame (r .cursor)) r))))
+advance-less N z Seal img r w =
     on-test (ltb (suc (r .cursor .index)) markWrites)
-    (λ e. rw (seal-next img r e) (omega (arith, ltb-true (suc (r .cursor .index)) markWrites e)))
-    (λ e. rw (seal-last img r e) (omega (arith, drop-left z r)))
-advance-less z Drop img r w = rw (drop-last img r) (omega (arith, append-left z (landed r)))
-advance-less z Append img r w =
+    (λ e. rw (seal-next N img r e) (omega (arith, ltb-true (suc (r .cursor .index)) markWrites e)))
+    (λ e. rw (seal-last N img r e) (omega (arith, drop-left z r)))
+advance-less N z Drop img r w = rw (drop-last N img r) (omega (arith, append-left z (landed r)))
+advance-less N z Append img r w =
     on-test (ltb (suc (r .cursor .index)) (r .job .size))
-    (λ e. rw (append-next img r e) (omega (arith, ltb-true (suc (r .cursor .index)) (r .job .size) e)))
-    (λ e. rw (append-last img r e) (omega arith))
+    (λ e. rw (append-next N img r e) (omega (arith, ltb-true (suc (r .cursor .index)) (r .job .size) e)))
+    (λ e. rw (append-last N img r e) (omega arith))
 
 -- ---- so they end
 
@@ -125,11 +128,11 @@ none-left (Busy Drop) z r h = omega arith
 none-left (Busy Append) z r h = omega arith
 
 -- one call more
-module _ (n : ℕ) (img : List ℕ) (r : Record) where
+module _ (N : ℕ) (n : ℕ) (img : List ℕ) (r : Record) where
   abbrev Goes : Type 0
-  Goes = (stepOn img r .answer ≡ Refused refusal.Stale) ⊎ EndsWithin exec n (stepOn img r .image) (stepOn img r .board)
+  Goes = (stepOn N img r .answer ≡ Refused refusal.Stale) ⊎ EndsWithin (exec N) n (stepOn N img r .image) (stepOn N img r .board)
 
-  one-more : ((s : Stage) → r .phase ≡ Busy s → Goes) → EndsWithin exec (suc n) img r
+  one-more : ((s : Stage) → r .phase ≡ Busy s → Goes) → EndsWithin (exec N) (suc n) img r
   unfolding EndsWithin
   one-more f = go (r .phase) refl
     where
@@ -138,47 +141,61 @@ module _ (n : ℕ) (img : List ℕ) (r : Record) where
       go Idle e = inl (subst Rests (sym e) tt)
       go (Busy s) e = inr (f s e)
 
-  gets-11 : (s : Stage) → r .phase ≡ Busy s → (eqb (length img) (suc (r .last)) && within (sizeOf img) (action s r)) ≡ false → Goes
-  gets-11 s e t = inl (ap (λ (o : Out). o .answer) (step-outside img r s e t))
+  gets-11 : (s : Stage) → r .phase ≡ Busy s → (sameShape N (length img) r && within N (sizeOf N img) (action s r)) ≡ false → Goes
+  gets-11 s e t = inl (ap (λ (o : Out). o .answer) (step-outside N img r s e t))
 
-  goes-on : left (sizeOf img) r ≤ suc n → ((i : List ℕ) (b : Record) → left (sizeOf i) b ≤ n → EndsWithin exec n i b) → (s : Stage) → r .phase ≡ Busy s
-      → (eqb (length img) (suc (r .last)) && within (sizeOf img) (action s r)) ≡ true → Goes
-  goes-on h rest s e t =
-      let after : List ℕ = apply (sizeOf img) (action s r) img in
-      let l : length after ≡ length img = length-apply (sizeOf img) (action s r) img in
-      let b : leftIn (Busy s) (sizeOf img) r ≤ suc n = subst (λ (p : Phase). leftIn p (sizeOf img) r ≤ suc n) e h in
-      let less : left (sizeOf img) (advance s after r) ≤ n =
-      omega (arith, advance-less (sizeOf img) s after r (and-right (eqb (length img) (suc (r .last))) (within (sizeOf img) (action s r)) t)) in
+  goes-on : left (sizeOf N img) r ≤ suc n → ((i : List ℕ) (b : Record) → left (sizeOf N i) b ≤ n → EndsWithin (exec N) n i b) → (s : Stage) → r .phase ≡ Busy s
+      → (sameShape N (length img) r && within N (sizeOf N img) (action s r)) ≡ true → Goes
+  goes-on h further s e t =
+      let after : List ℕ = apply (sizeOf N img) (action s r) img in
+      let l : length after ≡ length img = length-apply (sizeOf N img) (action s r) img in
+      let b : leftIn (Busy s) (sizeOf N img) r ≤ suc n = subst (λ (p : Phase). leftIn p (sizeOf N img) r ≤ suc n) e h in
+      let less : left (sizeOf N img) (advance N s after r) ≤ n =
+      omega (arith, advance-less N (sizeOf N img) s after r (and-right (sameShape N (length img) r) (within N (sizeOf N img) (action s r)) t)) in
       inr
-      (subst (λ (o : Out). EndsWithin exec n (o .image) (o .board)) (sym (step-goes img r s e t))
-      (rest after (advance s after r) (subst (λ (m : ℕ). left (m / blocks) (advance s after r) ≤ n) (sym l) less)))
+      (subst (λ (o : Out). EndsWithin (exec N) n (o .image) (o .board)) (sym (step-goes N img r s e t))
+      (further after (advance N s after r) (subst (λ (m : ℕ). left (sizeIn N m) (advance N s after r) ≤ n) (sym l) less)))
 
-ends : (n : ℕ) (img : List ℕ) (r : Record) → left (sizeOf img) r ≤ n → EndsWithin exec n img r
+ends : (N : ℕ) (n : ℕ) (img : List ℕ) (r : Record) → left (sizeOf N img) r ≤ n → EndsWithin (exec N) n img r
 unfolding EndsWithin
-ends zero img r h = none-left (r .phase) (sizeOf img) r h
-ends (suc n) img r h =
-    one-more n img r
-    (λ s e. on-test (eqb (length img) (suc (r .last)) && within (sizeOf img) (action s r)) (goes-on n img r h (λ i b l. ends n i b l) s e)
-    (gets-11 n img r s e))
+ends N zero img r h = none-left (r .phase) (sizeOf N img) r h
+ends N (suc n) img r h =
+    one-more N n img r
+    (λ s e. on-test (sameShape N (length img) r && within N (sizeOf N img) (action s r)) (goes-on N n img r h (λ i b l. ends N n i b l) s e)
+    (gets-11 N n img r s e))
 
--- another image's length
-ends-at-once : (n : ℕ) (img : List ℕ) (r : Record) → 0 < n → eqb (length img) (suc (r .last)) ≡ false → EndsWithin exec n img r
-ends-at-once zero img r h e = absurd (omega arith)
-ends-at-once (suc n) img r h e =
-    one-more n img r (λ s p. gets-11 n img r s p (and-no-left (eqb (length img) (suc (r .last))) (within (sizeOf img) (action s r)) e))
+-- an image of another shape, or a number of blocks that none has
+ends-at-once : (N : ℕ) (n : ℕ) (img : List ℕ) (r : Record) → 0 < n
+    → ((s : Stage) → (sameShape N (length img) r && within N (sizeOf N img) (action s r)) ≡ false) → EndsWithin (exec N) n img r
+ends-at-once N zero img r h e = absurd (omega arith)
+ends-at-once N (suc n) img r h e = one-more N n img r (λ s p. gets-11 N n img r s p (e s))
 
-few-left : (p : Phase) (img : List ℕ) (r : Record) → Declared r → length img ≡ suc (r .last) → leftIn p (sizeOf img) r ≤ 65536
-few-left Unmounted img r d e = omega arith
-few-left Idle img r d e = omega arith
-few-left (Busy Wipe) img r d e = omega arith
-few-left (Busy Open) img r d e = omega arith
-few-left (Busy Copy) img r d e = omega arith
-few-left (Busy Seal) img r d e = omega arith
-few-left (Busy Drop) img r d e = omega arith
-few-left (Busy Append) img r d e = omega arith
+few-left : (N : ℕ) (p : Phase) (img : List ℕ) (r : Record) → Declared r → sizeOf N img ≤ 32768 → leftIn p (sizeOf N img) r ≤ 65536
+few-left N Unmounted img r d e = omega arith
+few-left N Idle img r d e = omega arith
+few-left N (Busy Wipe) img r d e = omega arith
+few-left N (Busy Open) img r d e = omega arith
+few-left N (Busy Copy) img r d e = omega arith
+few-left N (Busy Seal) img r d e = omega arith
+few-left N (Busy Drop) img r d e = omega arith
+few-left N (Busy Append) img r d e = omega arith
 
-pub forged-ends : (img : List ℕ) (r : Record) → Declared r → EndsWithin exec 65536 img r
-forged-ends img r d =
-    on-test (eqb (length img) (suc (r .last)))
-    (λ e. ends 65536 img r (few-left (r .phase) img r d (eqb-true (length img) (suc (r .last)) e)))
-    (λ e. ends-at-once 65536 img r (omega arith) e)
+-- at least two blocks in at most 65,536 bytes
+few-bytes : (N n : ℕ) → isCount N ≡ true → n ≤ 65536 → sizeIn N n ≤ 32768
+few-bytes N n c h = omega (arith, size-half N n (leb-true 2 N (and-left (leb 2 N) (leb N maxBlocks) c)))
+
+pub forged-ends : (N : ℕ) (img : List ℕ) (r : Record) → Declared r → EndsWithin (exec N) 65536 img r
+forged-ends N img r d =
+    on-test (isCount N)
+    (λ c.
+    on-test (sameShape N (length img) r)
+    (λ e.
+    let l : length img ≡ suc (r .last) = eqb-true (length img) (suc (r .last)) (and-left (eqb (length img) (suc (r .last))) (eqb N (r .blocks)) e) in
+    ends N 65536 img r (few-left N (r .phase) img r d (few-bytes N (length img) c (omega (arith, d .last)))))
+    (λ e.
+    ends-at-once N 65536 img r (omega arith) (λ s. and-no-left (sameShape N (length img) r) (within N (sizeOf N img) (action s r)) e)))
+    (λ c. ends-at-once N 65536 img r (omega arith)
+    (λ s.
+    let x : Step = action s r in
+    and-no-right (sameShape N (length img) r) (within N (sizeOf N img) x)
+    (and-no-left (isCount N) (ltb (blockOf x) N && ltb (offsetOf x) (sizeOf N img)) c)))

@@ -8,19 +8,20 @@ use native.Mathlib.Omega.{arith}
 use lib.Dec.{eqb}
 use lib.ListN.{length, replicate, length-replicate}
 use borrow.Author.Tests.{eqb-true, eqb-false}
-use Rattle.flash.specs.Flash.{erase, withBlock, eraseBlock, applyAll, block, blocks}
+use Rattle.flash.specs.Flash.{erase, withBlock, eraseBlock, applyAll, block}
+use Rattle.flash.specs.Raised.{Raised}
 use Rattle.flash.proofs.Cases.{on-test}
 use Rattle.flash.proofs.Image.{length-erase, block-erase, other-erase}
-use Rattle.flash.proofs.Raising.{block-with, other-with}
+use Rattle.flash.proofs.Raising.{block-with, other-with, raised-blank}
 use Rattle.frame.specs.Frame.{Frame}
 use Rattle.frame.specs.Reader.{Tail}
 use Rattle.journal.specs.Replay.{Object}
-use Rattle.journal.specs.Block.{BlockState, valid, blockState}
-use Rattle.journal.proofs.States.{Contents, contents-valid}
+use Rattle.journal.specs.Block.{valid, blockState}
+use Rattle.journal.proofs.States.{Contents}
 use Rattle.journal.proofs.Raising.{Harmless, harmless-raised, blank-harmless}
 use Rattle.board.proofs.Blocks.{Blocks, Besides, besides-blocks, besides-kept}
 use Rattle.board.proofs.Images.{Sized, sized-as, sized-block, length-all-steps}
-use Rattle.board.proofs.Invariant.{Valid, Quiet, Others, Lesser, Safe, no-valid, some-valid, CutSafe, Guard, StepLands}
+use Rattle.board.proofs.Invariant.{Valid, Quiet, Others, Lessers, Safe, no-valid, some-valid, CutSafe, Guard, StepLands}
 use Rattle.board.proofs.Prefixes.{Each}
 use Rattle.board.proofs.Current.{Alone, block-long, blank-quiet}
 
@@ -41,28 +42,15 @@ valid-kept after e v =
 pub quiet-kept : (b after : List ℕ) → after ≡ b → Quiet (blockState b) → Quiet (blockState after)
 quiet-kept b after e q = subst (λ (x : List ℕ). Quiet (blockState x)) (sym e) q
 
-pub quiet-not-valid : {P : Type 0} (x : BlockState) (t : ℕ) (fs : List Frame) (c : Tail) → Quiet x → x ≡ valid t fs c → P
-quiet-not-valid x t fs c q e = absurd (subst Quiet e q)
-
 -- ---- what a safe image holds
 
 -- no block is valid, none is foreign
-abbrev pub NoStore : ℕ → List ℕ → Type 0
-NoStore s img = (j : ℕ) → j < blocks → Quiet (blockState (block s j img))
+abbrev pub NoStore : ℕ → ℕ → List ℕ → Type 0
+NoStore N s img = (j : ℕ) → j < N → Quiet (blockState (block s j img))
 
--- the objects are there, or no store
-pub safe-or : {s : ℕ} {img : List ℕ} {os : List Object} {u : Bool} → Safe s img os u → Safe s img os false ⊎ ((u ≡ true) × NoStore s img)
-safe-or (no-valid e q) = inr (e, q)
-safe-or (some-valid k h v q) = inl (some-valid k h v q)
-
-pub safe-more : {s : ℕ} {img : List ℕ} {os : List Object} (u : Bool) → Safe s img os false → Safe s img os u
+pub safe-more : {N : ℕ} {s : ℕ} {img : List ℕ} {os : List Object} (u : Bool) → Safe N s img os false → Safe N s img os u
 safe-more u (no-valid e q) = absurd (false≢true e)
 safe-more u (some-valid k h v q) = some-valid k h v q
-
-pub safe-some : {s : ℕ} {img : List ℕ} {os : List Object} → Safe s img os false → NoStore s img → ⊥
-safe-some (no-valid e q) n = false≢true e
-safe-some {s} {img} (some-valid k h v q) n =
-    quiet-not-valid (blockState (block s k img)) (v .time) (v .frames) (v .tail) (n k h) (contents-valid (v .contents))
 
 -- a valid state's parts
 pub record SameValid (t : ℕ) (fs : List Frame) (c : Tail) (t′ : ℕ) (fs′ : List Frame) (c′ : Tail) : Type 0 where
@@ -75,8 +63,8 @@ same-valid e = record { time = cc; frames = cc; tail = cc }
 
 -- ---- one erase
 
-module _ {s : ℕ} {img : List ℕ} (z : Sized s img) (k : ℕ) (h : k < blocks) where
-  pub sized-erase : Sized s (eraseBlock s k img)
+module _ {N : ℕ} {s : ℕ} {img : List ℕ} (z : Sized N s img) (k : ℕ) (h : k < N) where
+  pub sized-erase : Sized N s (eraseBlock s k img)
   sized-erase = sized-as (eraseBlock s k img) (length-erase s k img) z
 
   pub erased : block s k (eraseBlock s k img) ≡ replicate s 255
@@ -93,27 +81,39 @@ module _ {s : ℕ} {img : List ℕ} (z : Sized s img) (k : ℕ) (h : k < blocks)
 -- ---- a block beside the current one gets other bytes
 
 -- m is the current block, and k is not
-module _ {s : ℕ} {img : List ℕ} {os : List Object} (z : Sized s img) (m k : ℕ) (l : m < blocks) (h : k < blocks) (d : m ≡ k → ⊥) (v : Valid s img m os)
-    (q : Others (Lesser s img (v .time)) m) (new : List ℕ) (long : length new ≡ s) (y : Harmless (v .time) new) where
+module _ {N : ℕ} {s : ℕ} {img : List ℕ} {os : List Object} (z : Sized N s img) (m k : ℕ) (l : m < N) (h : k < N) (d : m ≡ k → ⊥) (v : Valid s img m os)
+    (q : Lessers N s img (v .time) m) (new : List ℕ) (long : length new ≡ s) (y : Harmless (v .time) new)
+    (b : block s k img ≡ replicate s 255 → new ≡ replicate s 255) where
   abbrev pub still : Valid s (withBlock s k new img) m os
   still = valid-kept (withBlock s k new img) (other-with s k new img (sized-block k z h) long m d) v
 
-  pub still-lesser : Others (Lesser s (withBlock s k new img) (v .time)) m
-  still-lesser j g n =
+  -- what holds of the new bytes where it held of the old ones
+  each-block : (P : List ℕ → Type 0) (j : ℕ) → (j ≡ k → P new) → P (block s j img) → P (block s j (withBlock s k new img))
+  each-block P j f p =
       on-test (eqb j k)
-      (λ t. subst (Harmless (v .time))
-      (sym (ap (λ (i : ℕ). block s i (withBlock s k new img)) (eqb-true j k t) ∙ block-with s k new img (sized-block k z h) long)) y)
-      (λ t. subst (Harmless (v .time)) (sym (other-with s k new img (sized-block k z h) long j (eqb-false j k t))) (q j g n))
+      (λ t. let e : j ≡ k = eqb-true j k t in
+      subst P (sym (ap (λ (i : ℕ). block s i (withBlock s k new img)) e ∙ block-with s k new img (sized-block k z h) long)) (f e))
+      (λ t. subst P (sym (other-with s k new img (sized-block k z h) long j (eqb-false j k t))) p)
 
-  pub still-safe : (u : Bool) → Safe s (withBlock s k new img) os u
-  still-safe u = some-valid m l still still-lesser
+  pub still-lessers : Lessers N s (withBlock s k new img) (v .time) m
+  still-lessers =
+      record {
+        older = λ j g n. each-block (Harmless (v .time)) j (λ _. y) (q .older j g n);
+        one = q .one;
+        blanks = λ j g n o.
+            each-block (λ (l : List ℕ). l ≡ replicate s 255) j (λ e. b (ap (λ (i : ℕ). block s i img) (sym e) ∙ q .blanks j g n o)) (q .blanks j g n o);
+      }
 
-module _ {s : ℕ} {img : List ℕ} {os : List Object} (z : Sized s img) (m k : ℕ) (l : m < blocks) (h : k < blocks) (d : m ≡ k → ⊥) (v : Valid s img m os)
-    (q : Others (Lesser s img (v .time)) m) where
+  pub still-safe : (u : Bool) → Safe N s (withBlock s k new img) os u
+  still-safe u = some-valid m l still still-lessers
+
+module _ {N : ℕ} {s : ℕ} {img : List ℕ} {os : List Object} (z : Sized N s img) (m k : ℕ) (l : m < N) (h : k < N) (d : m ≡ k → ⊥) (v : Valid s img m os)
+    (q : Lessers N s img (v .time) m) where
   -- its erase is cut
-  pub cut-safe : (u : Bool) → CutSafe s os u (erase k) img
+  pub cut-safe : (u : Bool) → CutSafe N s os u (erase k) img
   cut-safe u new r =
-      still-safe z m k l h d v q new (r .long ∙ block-long k z h) (harmless-raised (v .time) (block s k img) new r (q k h (λ e. d (sym e)))) u
+      still-safe z m k l h d v q new (r .long ∙ block-long k z h) (harmless-raised (v .time) (block s k img) new r (q .older k h (λ e. d (sym e))))
+      (λ e. raised-blank s new (subst (λ (l : List ℕ). Raised l new) e r)) u
 
   ones : List ℕ
   ones = replicate (length (block s k img)) 255
@@ -122,18 +122,17 @@ module _ {s : ℕ} {img : List ℕ} {os : List Object} (z : Sized s img) (m k : 
   unfolding ones
   ones-long = length-replicate (length (block s k img)) 255 ∙ block-long k z h
 
-  ones-harmless : Harmless (v .time) ones
+  ones-blank : ones ≡ replicate s 255
   unfolding ones
-  ones-harmless = blank-harmless s (v .time) ones (omega (arith, z .low)) (ap (λ (n : ℕ). replicate n 255) (block-long k z h))
+  ones-blank = ap (λ (n : ℕ). replicate n 255) (block-long k z h)
+
+  ones-harmless : Harmless (v .time) ones
+  ones-harmless = blank-harmless s (v .time) ones (omega (arith, z .low)) ones-blank
 
   -- it is erased
-  pub erase-lesser : Others (Lesser s (eraseBlock s k img) (v .time)) m
+  pub erase-lessers : Lessers N s (eraseBlock s k img) (v .time) m
   unfolding ones
-  erase-lesser = still-lesser z m k l h d v q ones ones-long ones-harmless
-
-  pub erase-safe : (u : Bool) → Safe s (eraseBlock s k img) os u
-  unfolding ones
-  erase-safe u = still-safe z m k l h d v q ones ones-long ones-harmless u
+  erase-lessers = still-lessers z m k l h d v q ones ones-long ones-harmless (λ _. ones-blank)
 
 -- ---- erases of a list of blocks
 
@@ -141,12 +140,12 @@ abbrev pub In : ℕ → List ℕ → Type 0
 In j [] = ⊥
 In j (k ∷ ks) = (j ≡ k) ⊎ In j ks
 
-pub erases-blank : {s : ℕ} (j : ℕ) (ks : List ℕ) (img : List ℕ) → Sized s img → Blocks ks → (block s j img ≡ replicate s 255) ⊎ In j ks
+pub erases-blank : {N : ℕ} {s : ℕ} (j : ℕ) (ks : List ℕ) (img : List ℕ) → Sized N s img → Blocks N ks → (block s j img ≡ replicate s 255) ⊎ In j ks
     → block s j (applyAll s (map erase ks) img) ≡ replicate s 255
 unfolding applyAll
 erases-blank j [] img z b (inl e) = e
 erases-blank j [] img z b (inr i) = absurd i
-erases-blank {s} j (k ∷ ks) img z (h, b) c = erases-blank j ks (eraseBlock s k img) (sized-erase z k h) b (go c)
+erases-blank {N} {s} j (k ∷ ks) img z (h, b) c = erases-blank j ks (eraseBlock s k img) (sized-erase z k h) b (go c)
   where
     go : (block s j img ≡ replicate s 255) ⊎ ((j ≡ k) ⊎ In j ks) → (block s j (eraseBlock s k img) ≡ replicate s 255) ⊎ In j ks
     go (inl e) =
@@ -163,23 +162,23 @@ erases-land s (k ∷ ks) img zero h = tt
 erases-land s (k ∷ ks) img (suc j) h = erases-land s ks (eraseBlock s k img) j (omega arith)
 
 -- others than the current one: cut or not, each keeps what a mount finds
-pub erases-guard : {s : ℕ} {os : List Object} (u : Bool) (n : ℕ) (ks : List ℕ) (img : List ℕ) → Sized s img → n < blocks → Besides n ks
-    → (v : Valid s img n os) → Others (Lesser s img (v .time)) n → Each s (Guard s os u) (map erase ks) img
+pub erases-guard : {N : ℕ} {s : ℕ} {os : List Object} (u : Bool) (n : ℕ) (ks : List ℕ) (img : List ℕ) → Sized N s img → n < N → Besides N n ks
+    → (v : Valid s img n os) → Lessers N s img (v .time) n → Each s (Guard N s os u) (map erase ks) img
 unfolding applyAll
 erases-guard u n [] img z l b v q j h = absurd (omega arith)
 erases-guard u n (k ∷ ks) img z l (g, d, b) v q zero h = (some-valid n l v q, cut-safe z n k l g d v q u)
-erases-guard {s} u n (k ∷ ks) img z l (g, d, b) v q (suc j) h =
+erases-guard {N} {s} u n (k ∷ ks) img z l (g, d, b) v q (suc j) h =
     erases-guard u n ks (eraseBlock s k img) (sized-erase z k g) l b (valid-kept (eraseBlock s k img) (other-erase s n k img d) v)
-    (erase-lesser z n k l g d v q) j (omega arith)
+    (erase-lessers z n k l g d v q) j (omega arith)
 
 -- the valid block is then alone
-pub erases-alone : {s : ℕ} {n t : ℕ} {fs : List Frame} {c : Tail} (ks : List ℕ) (img : List ℕ) → Sized s img → n < blocks
-    → Contents (block s n img) t fs c → Besides n ks
-    → Others (λ j. (block s j img ≡ replicate s 255) ⊎ In j ks) n → Alone s (applyAll s (map erase ks) img) n t fs c
-erases-alone {s} {n} {t} {fs} {c} ks img z l x b o =
+pub erases-alone : {N : ℕ} {s : ℕ} {n t : ℕ} {fs : List Frame} {c : Tail} (ks : List ℕ) (img : List ℕ) → Sized N s img → n < N
+    → Contents (block s n img) t fs c → Besides N n ks
+    → Others N (λ j. (block s j img ≡ replicate s 255) ⊎ In j ks) n → Alone N s (applyAll s (map erase ks) img) n t fs c
+erases-alone {N} {s} {n} {t} {fs} {c} ks img z l x b o =
     record {
       sized = sized-as (applyAll s (map erase ks) img) (length-all-steps s (map erase ks) img) z;
       there = l;
-      contents = subst (λ (y : List ℕ). Contents y t fs c) (sym (besides-kept s n ks img b)) x;
-      others = λ j h d. erases-blank j ks img z (besides-blocks n ks b) (o j h d);
+      contents = subst (λ (y : List ℕ). Contents y t fs c) (sym (besides-kept N s n ks img b)) x;
+      others = λ j h d. erases-blank j ks img z (besides-blocks N n ks b) (o j h d);
     }

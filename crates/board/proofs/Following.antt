@@ -4,7 +4,7 @@ use mathlib.Core.Path.{_≡_, refl, sym, ap, subst, subst₂, _∙_}
 use mathlib.Core.List.{List, [], _∷_}
 use mathlib.Core.Option.{Option, none, some}
 use mathlib.Core.Bool.{Bool, true, false}
-use Prim.Native.Nat.{ℕ, zero, suc, _-_}
+use Prim.Native.Nat.{ℕ, _+_, zero, suc, _-_}
 use native.Mathlib.Omega.{arith}
 use lib.ListN.{length, take}
 use Rattle.flash.specs.Bytes.{Bytes}
@@ -49,53 +49,53 @@ done-idle : (z : Record) → z .phase ≡ Idle → numberOf (answerOf z) ≡ som
 done-idle z e = ap (λ (p : Phase). numberOf (answerIn p)) e
 
 -- a plan's steps, made by the calls that follow an outcome that tells its record
-plan-steps : (m : Machine) (img : List ℕ) (o : Out) (plan : List Step) (z : Record) → o .image ≡ img → o .answer ≡ answerOf (o .board) → z .phase ≡ Idle
-    → Follows m img (o .board) plan z → StepsOf m img o plan z
-plan-steps m img o plan z i a e f =
-    let g : Follows m (o .image) (o .board) plan z = subst (λ (x : List ℕ). Follows m x (o .board) plan z) (sym i) f in
+plan-steps : {N : ℕ} (m : Machine) (img : List ℕ) (o : Out) (plan : List Step) (z : Record) → o .image ≡ img → o .answer ≡ answerOf (o .board) → z .phase ≡ Idle
+    → Follows N m img (o .board) plan z → StepsOf N m img o plan z
+plan-steps {N} m img o plan z i a e f =
+    let g : Follows N m (o .image) (o .board) plan z = subst (λ (x : List ℕ). Follows N m x (o .board) plan z) (sym i) f in
     record {
-      images = λ n l. follows-part m (sizeOf img) n plan o z (ap sizeOf i) l g ∙ ap (applyAll (sizeOf img) (take n plan)) i;
-      more = λ n l. follows-more m n plan o z a l g;
+      images = λ n l. follows-part N m (sizeOf N img) n plan o z (ap (sizeOf N) i) l g ∙ ap (applyAll (sizeOf N img) (take n plan)) i;
+      more = λ n l. follows-more N m n plan o z a l g;
       done = ends plan g;
       last = lasts plan g;
     }
   where
-    ends : (xs : List Step) → Follows m (o .image) (o .board) xs z → numberOf (stepsOn m (length xs) o .answer) ≡ some 0
+    ends : (xs : List Step) → Follows N m (o .image) (o .board) xs z → numberOf (stepsOn m (length xs) o .answer) ≡ some 0
     ends [] g = ap numberOf (a ∙ ap answerOf g) ∙ done-idle z e
-    ends (x ∷ xs) g = ap (λ (q : Out). numberOf (q .answer)) (follows-steps m (x ∷ xs) x xs refl (sizeOf img) o z (ap sizeOf i) g) ∙ done-idle z e
+    ends (x ∷ xs) g = ap (λ (q : Out). numberOf (q .answer)) (follows-steps N m (x ∷ xs) x xs refl (sizeOf N img) o z (ap (sizeOf N) i) g) ∙ done-idle z e
 
-    lasts : (xs : List Step) → Follows m (o .image) (o .board) xs z → stepsOn m (length xs) o .board ≡ z
+    lasts : (xs : List Step) → Follows N m (o .image) (o .board) xs z → stepsOn m (length xs) o .board ≡ z
     lasts [] g = g
-    lasts (x ∷ xs) g = ap (λ (q : Out). q .board) (follows-steps m (x ∷ xs) x xs refl (sizeOf img) o z (ap sizeOf i) g)
+    lasts (x ∷ xs) g = ap (λ (q : Out). q .board) (follows-steps N m (x ∷ xs) x xs refl (sizeOf N img) o z (ap (sizeOf N) i) g)
 
-framed-idle : (b : Bool) (l k end : ℕ) (x : Held) (f : Frame) → framedAt b l k end x f .phase ≡ Idle
-framed-idle true l k end x f = refl
-framed-idle false l k end x f = refl
+framed-idle : (N : ℕ) (b : Bool) (l k end : ℕ) (x : Held) (f : Frame) → framedAt N b l k end x f .phase ≡ Idle
+framed-idle N true l k end x f = refl
+framed-idle N false l k end x f = refl
 
-pub mounted-idle : (b : Bool) (l : ℕ) (x : Store) → mountedAt b l x .phase ≡ Idle
-mounted-idle true l x = refl
-mounted-idle false l x = refl
+pub mounted-idle : (N : ℕ) (b : Bool) (l : ℕ) (x : Store) → mountedAt N b l x .phase ≡ Idle
+mounted-idle N true l x = refl
+mounted-idle N false l x = refl
 
-pub job-idle : {img : List ℕ} {r : Record} {c : Call} {plan : List Step} {z : Record} → Job img r c plan z → z .phase ≡ Idle
-job-idle {img} {r} (frame-job h msg reply x q f v k g) = framed-idle (needsRoom img r f) (r .last) (r .block) (r .end) x f
-job-idle {img} (mount-job x v) = mounted-idle (needsTransfer (x .frames) (x .tail)) (length img - 1) x
+pub job-idle : {N : ℕ} {img : List ℕ} {r : Record} {c : Call} {plan : List Step} {z : Record} → Job N img r c plan z → z .phase ≡ Idle
+job-idle {N} {img} {r} (frame-job h msg reply x q f v k g) = framed-idle N (needsRoom N img r f) (r .last) (r .block) (r .end) x f
+job-idle {N} {img} (mount-job x v) = mounted-idle N (needsTransfer (x .frames) (x .tail)) (length img - 1) x
 job-idle format-job = refl
 
-module _ {m : Machine} (p : Calls m) where
+module _ {N : ℕ} {m : Machine} (p : Calls N m) where
   -- a job is no step's
-  job-image : {img : List ℕ} {r : Record} {c : Call} {plan : List Step} {z : Record} → Job img r c plan z → m img r c .image ≡ img
+  job-image : {img : List ℕ} {r : Record} {c : Call} {plan : List Step} {z : Record} → Job N img r c plan z → m img r c .image ≡ img
   job-image {img} {r} (frame-job h msg reply x q f v k g) = p .one-step img r (request h msg reply)
   job-image {img} {r} (mount-job x v) = p .one-step img r mount
   job-image {img} {r} format-job = p .one-step img r format
 
-  job-tells : {img : List ℕ} {r : Record} {c : Call} {plan : List Step} {z : Record} → Job img r c plan z → Accepted (m img r c .answer)
+  job-tells : {img : List ℕ} {r : Record} {c : Call} {plan : List Step} {z : Record} → Job N img r c plan z → Accepted (m img r c .answer)
       → m img r c .answer ≡ answerOf (m img r c .board)
   job-tells {img} {r} {c} (frame-job h msg reply x q f v k g) a = told-answer (m img r c) (p .told img r c a (λ _. tt)) a
   job-tells {img} {r} {c} (mount-job x v) a = told-answer (m img r c) (p .told img r c a (λ _. tt)) a
   job-tells {img} {r} {c} format-job a = told-answer (m img r c) (p .told img r c a (λ _. tt)) a
 
-  pub job-steps : (img : List ℕ) (r : Record) (c : Call) (plan : List Step) (z : Record) → Bytes img → ByteCall c → Job img r c plan z
-      → Accepted (m img r c .answer) → StepsOf m img (m img r c) plan z
+  pub job-steps : (img : List ℕ) (r : Record) (c : Call) (plan : List Step) (z : Record) → Bytes img → ByteCall c → Job N img r c plan z
+      → Accepted (m img r c .answer) → StepsOf N m img (m img r c) plan z
   job-steps img r c plan z by bc j a =
       plan-steps m img (m img r c) plan z (job-image j) (job-tells j a) (job-idle j) (p .jobs img r c plan z by bc j a .0)
 
@@ -118,17 +118,17 @@ request-shown (Is (Read i)) reply s r q b y = read-shown s r q (lookup i (b .obj
 request-shown (Is (Log g)) reply s r q b y = y
 
 -- a record that is idle here is idle there
-says-over : (img : List ℕ) (r q : Record) (b : Book) (u : Bool) (c : Call) (o p : Out) → shown o ≡ shown p → (r .phase ≡ Idle → q .phase ≡ Idle)
-    → Says img q b u c p → Says img r b u c o
-says-over img r q b u (request h msg reply) o p e f (x, y, z) =
+says-over : (N : ℕ) (img : List ℕ) (r q : Record) (b : Book) (u : Bool) (c : Call) (o p : Out) → shown o ≡ shown p → (r .phase ≡ Idle → q .phase ≡ Idle)
+    → Says N img q b u c p → Says N img r b u c o
+says-over N img r q b u (request h msg reply) o p e f (x, y, z) =
     let a : o .answer ≡ p .answer = ap (λ (s : Shown). s .answer) e in (
       (λ g. x (sym a ∙ g)),
       (λ g. y (sym a ∙ g)),
       (λ i k. request-shown (parse msg) reply (shown o) (p .board) (o .board) b
           (subst (λ (s : Shown). RequestSays (parse msg) reply (outOf s (p .board)) b) (sym e) (z (f i) k))),
     )
-says-over img r q b u step o p e f y = λ n g. y n (sym (ap (λ (s : Shown). s .answer) e) ∙ g)
-says-over img r q b u mount o p e f y =
+says-over N img r q b u step o p e f y = λ n g. y n (sym (ap (λ (s : Shown). s .answer) e) ∙ g)
+says-over N img r q b u mount o p e f y =
     let a : o .answer ≡ p .answer = ap (λ (s : Shown). s .answer) e in
     record {
       never-foreign = λ k f g. y .never-foreign k f (sym a ∙ g);
@@ -136,16 +136,16 @@ says-over img r q b u mount o p e f y =
       no-store = λ g. y .no-store (sym a ∙ g);
       worn = λ g. y .worn (sym a ∙ g);
     }
-says-over img r q b u format o p e f y = ap (λ (s : Shown). s .answer) e ∙ y
+says-over N img r q b u format o p e f y = ap (λ (s : Shown). s .answer) e ∙ y
 
 -- ---- runs
 
-module _ {m : Machine} (p : Calls m) where
+module _ {N : ℕ} {m : Machine} (p : Calls N m) where
   abbrev Same : List ℕ → Record → Record → Type 0
-  Same img r q = Alike m exec img r q
+  Same img r q = Alike N m (exec N) img r q
 
   abbrev Both : Out → Out → Type 0
-  Both o x = Agree m exec o x
+  Both o x = Agree N m (exec N) o x
 
   same-idle : {img : List ℕ} {r q : Record} → Same img r q → r .phase ≡ Idle → q .phase ≡ Idle
   same-idle (resting h e) i = sym (ap (λ (x : Record). x .phase) e) ∙ i
@@ -155,23 +155,23 @@ module _ {m : Machine} (p : Calls m) where
   idle-same (resting h e) i = ap (λ (x : Record). x .phase) e ∙ i
   idle-same (working x xs z h l f g) i = let w : Done ≡ More = sym (ap answerIn i) ∙ g .0 in let v : _≡_ {A = ℕ} 0 1 = cc in absurd (omega arith)
 
-  at-rest : (s : Phase) (img : List ℕ) (q : Record) (b : Book) → Rests s → AgreesIn exec s img q b → AgreesIn m s img q b
+  at-rest : (s : Phase) (img : List ℕ) (q : Record) (b : Book) → Rests s → AgreesIn N (exec N) s img q b → AgreesIn N m s img q b
   at-rest Unmounted img q b h y = y
   at-rest Idle img q b h y = y
   at-rest (Busy s) img q b h y = absurd h
 
-  agrees-over : (img : List ℕ) (r q : Record) (b : Book) → Same img r q → Agrees exec img q b → Agrees m img r b
-  agrees-over img r q b (resting h e) y = subst (λ (x : Record). Agrees m img x b) (sym e) (at-rest (q .phase) img q b h y)
+  agrees-over : (img : List ℕ) (r q : Record) (b : Book) → Same img r q → Agrees N (exec N) img q b → Agrees N m img r b
+  agrees-over img r q b (resting h e) y = subst (λ (x : Record). Agrees N m img x b) (sym e) (at-rest (q .phase) img q b h y)
   agrees-over img r q b (working x xs z h l f g) y =
-      subst (λ (s : Phase). AgreesIn m s img r b) (sym (more-busy (r .phase) (f .0) .is))
+      subst (λ (s : Phase). AgreesIn N m s img r b) (sym (more-busy (r .phase) (f .0) .is))
       (record { plan = x ∷ xs; last = z; follows = f; rests = h; short = l })
 
   answers-over : {o x : Out} → Both o x → o .answer ≡ x .answer
   answers-over y = ap (λ (s : Shown). s .answer) (y .same)
 
   -- a cut inside an erase: the other machine erases there too
-  cut-over : (img : List ℕ) (r q : Record) (b : Book) (k : ℕ) (new : List ℕ) → Bytes img → Same img r q → CutsErase m img r b k new
-      → CutsErase exec img q b k new
+  cut-over : (img : List ℕ) (r q : Record) (b : Book) (k : ℕ) (new : List ℕ) → Bytes img → Same img r q → CutsErase N m img r b k new
+      → CutsErase N (exec N) img q b k new
   cut-over img r q b k new by v c =
       record {
         in-job = busy v;
@@ -185,9 +185,9 @@ module _ {m : Machine} (p : Calls m) where
       busy (resting h e) = subst (λ (x : Record). InJob (x .phase)) e (c .in-job)
       busy (working x xs z h l f g) = in-job (q .phase) (g .0)
 
-  pub cut-bytes : {img : List ℕ} {r : Record} {b : Book} {k : ℕ} {new : List ℕ} → Bytes img → CutsErase m img r b k new
-      → Bytes (withBlock (sizeOf img) k new img)
-  cut-bytes {img} {r} {b} {k} {new} by c = bytes-with (sizeOf img) k new img (c .raised .bytes) by
+  pub cut-bytes : {img : List ℕ} {r : Record} {b : Book} {k : ℕ} {new : List ℕ} → Bytes img → CutsErase N m img r b k new
+      → Bytes (withBlock (sizeOf N img) k new img)
+  cut-bytes {img} {r} {b} {k} {new} by c = bytes-with (sizeOf N img) k new img (c .raised .bytes) by
 
   -- what holds by the image and the answer that the one gives back holds by those of the other
   carry : (P : List ℕ → Answer → Type 0) {o x : Out} → Both o x → P (o .image) (o .answer) → P (x .image) (x .answer)
@@ -196,88 +196,90 @@ module _ {m : Machine} (p : Calls m) where
   carry-back : (P : List ℕ → Answer → Type 0) {o x : Out} → Both o x → P (x .image) (x .answer) → P (o .image) (o .answer)
   carry-back P w y = subst₂ P (sym (w .image)) (sym (answers-over w)) y
 
-  pub happens-over : (img : List ℕ) (r q : Record) (b : Book) → Bytes img → Same img r q → (es : List Event) → Happens m img r b es → Happens exec img q b es
+  pub happens-over : (img : List ℕ) (r q : Record) (b : Book) → Bytes img → Same img r q → (es : List Event) → Happens N m img r b es
+      → Happens N (exec N) img q b es
   happens-over img r q b by v [] h = tt
   happens-over img r q b by v (call c ∷ es) (bc, h) =
       let o : Out = m img r c in
-      let x : Out = exec img q c in
+      let x : Out = exec N img q c in
       let w : Both o x = call-agrees p calls img by r q v c bc in (
         bc,
-        carry (λ i a. Happens exec i (x .board) (enterCall b c a) es) w
+        carry (λ i a. Happens N (exec N) i (x .board) (enterCall b c a) es) w
             (happens-over (o .image) (o .board) (x .board) (enterCall b c (o .answer)) (w .bytes) (w .next) es h),
       )
   happens-over img r q b by v (cutErase k new g ∷ []) (x, n, h) = (cut-over img r q b k new by v x, n, h)
   happens-over img r q b by v (cutErase k new g ∷ call c ∷ es) (y, n, (bc, h)) =
-      let i : List ℕ = withBlock (sizeOf img) k new img in
+      let i : List ℕ = withBlock (sizeOf N img) k new img in
       let o : Out = m i g c in
-      let x : Out = exec i g c in
+      let x : Out = exec N i g c in
       let w : Both o x = begun-agrees p calls i g g c (cut-bytes by y) n in (
         cut-over img r q b k new by v y,
         n,
         (
           bc,
-          carry (λ l a. Happens exec l (x .board) (enterCall b c a) es) w
+          carry (λ l a. Happens N (exec N) l (x .board) (enterCall b c a) es) w
               (happens-over (o .image) (o .board) (x .board) (enterCall b c (o .answer)) (w .bytes) (w .next) es h),
         ),
       )
   happens-over img r q b by v (cutErase k new g ∷ cutErase j more y ∷ es) (x, n, h) = absurd n
 
   -- a call that both answer alike says of the one what it says of the other, and so on from there
-  run-over : (img : List ℕ) (r q : Record) (b : Book) (u : Bool) → Bytes img → Same img r q → (es : List Event) → Happens m img r b es
-      → Run exec img q b u es → Run m img r b u es
+  run-over : (img : List ℕ) (r q : Record) (b : Book) (u : Bool) → Bytes img → Same img r q → (es : List Event) → Happens N m img r b es
+      → Run N (exec N) img q b u es → Run N m img r b u es
   run-over img r q b u by v [] h y = tt
   run-over img r q b u by v (call c ∷ es) (bc, h) (s, y, z) =
       let o : Out = m img r c in
-      let x : Out = exec img q c in
+      let x : Out = exec N img q c in
       let w : Both o x = call-agrees p calls img by r q v c bc in (
-        says-over img r q b u c o x (w .same) (same-idle v) s,
+        says-over N img r q b u c o x (w .same) (same-idle v) s,
         agrees-over (o .image) (o .board) (x .board) (enterCall b c (o .answer)) (w .next)
-            (carry-back (λ i a. Agrees exec i (x .board) (enterCall b c a)) w y),
+            (carry-back (λ i a. Agrees N (exec N) i (x .board) (enterCall b c a)) w y),
         run-over (o .image) (o .board) (x .board) (enterCall b c (o .answer)) (track u b c (o .answer)) (w .bytes) (w .next) es h
-            (carry-back (λ i a. Run exec i (x .board) (enterCall b c a) (track u b c a) es) w z),
+            (carry-back (λ i a. Run N (exec N) i (x .board) (enterCall b c a) (track u b c a) es) w z),
       )
   run-over img r q b u by v (cutErase k new g ∷ []) (x, n, h) y = tt
   run-over img r q b u by v (cutErase k new g ∷ call c ∷ es) (d, n, (bc, h)) (s, y, z) =
-      let i : List ℕ = withBlock (sizeOf img) k new img in
+      let i : List ℕ = withBlock (sizeOf N img) k new img in
       let o : Out = m i g c in
-      let x : Out = exec i g c in
+      let x : Out = exec N i g c in
       let w : Both o x = begun-agrees p calls i g g c (cut-bytes by d) n in (
-        says-over i g g b u c o x (w .same) (λ e. e) s,
+        says-over N i g g b u c o x (w .same) (λ e. e) s,
         agrees-over (o .image) (o .board) (x .board) (enterCall b c (o .answer)) (w .next)
-            (carry-back (λ l a. Agrees exec l (x .board) (enterCall b c a)) w y),
+            (carry-back (λ l a. Agrees N (exec N) l (x .board) (enterCall b c a)) w y),
         run-over (o .image) (o .board) (x .board) (enterCall b c (o .answer)) (track u b c (o .answer)) (w .bytes) (w .next) es h
-            (carry-back (λ l a. Run exec l (x .board) (enterCall b c a) (track u b c a) es) w z),
+            (carry-back (λ l a. Run N (exec N) l (x .board) (enterCall b c a) (track u b c a) es) w z),
       )
   run-over img r q b u by v (cutErase k new g ∷ cutErase j more f ∷ es) (x, n, h) y = absurd n
 
-  steps-over : (n : ℕ) (o x : Out) → Both o x → Both (stepsOn m n o) (stepsOn exec n x)
+  steps-over : (n : ℕ) (o x : Out) → Both o x → Both (stepsOn m n o) (stepsOn (exec N) n x)
   steps-over zero o x w = w
   steps-over (suc n) o x w =
-      steps-over n (m (o .image) (o .board) step) (exec (x .image) (x .board) step)
-      (subst (λ (i : List ℕ). Both (m (o .image) (o .board) step) (exec i (x .board) step)) (w .image)
+      steps-over n (m (o .image) (o .board) step) (exec N (x .image) (x .board) step)
+      (subst (λ (i : List ℕ). Both (m (o .image) (o .board) step) (exec N i (x .board) step)) (w .image)
       (call-agrees p calls (o .image) (w .bytes) (o .board) (x .board) (w .next) step tt))
 
-  formatted-over : (img : List ℕ) (r : Record) → Bytes img → Both (formatted m img r) (formatted exec img r)
-  formatted-over img r by = steps-over 12 (m img r format) (exec img r format) (format-agrees p calls img by r r)
+  formatted-over : (img : List ℕ) (r : Record) → Bytes img → Both (formatted N m img r) (formatted N (exec N) img r)
+  formatted-over img r by = steps-over (N + 10) (m img r format) (exec N img r format) (format-agrees p calls img by r r)
 
-  happens-from : (img : List ℕ) (r : Record) → Bytes img → (es : List Event) → HappensFrom m img r es → HappensFrom exec img r es
+  happens-from : (img : List ℕ) (r : Record) → Bytes img → (es : List Event) → HappensFrom N m img r es → HappensFrom N (exec N) img r es
   happens-from img r by es h =
-      let w : Both (formatted m img r) (formatted exec img r) = formatted-over img r by in
-      subst (λ (i : List ℕ). Happens exec i (formatted exec img r .board) firstBook es) (w .image)
-      (happens-over (formatted m img r .image) (formatted m img r .board) (formatted exec img r .board) firstBook (w .bytes) (w .next) es h)
+      let w : Both (formatted N m img r) (formatted N (exec N) img r) = formatted-over img r by in
+      subst (λ (i : List ℕ). Happens N (exec N) i (formatted N (exec N) img r .board) firstBook es) (w .image)
+      (happens-over (formatted N m img r .image) (formatted N m img r .board) (formatted N (exec N) img r .board) firstBook (w .bytes) (w .next) es h)
 
-  pub claim-of : Claim m
+  pub claim-of : Claim N m
   unfolding Claim
   claim-of img r by ok =
-      let o : Out = formatted m img r in
-      let x : Out = formatted exec img r in
+      let o : Out = formatted N m img r in
+      let x : Out = formatted N (exec N) img r in
       let w : Both o x = formatted-over img r by in
-      let y = claim img r by ok in (
+      let y = claim N img r by ok in (
         answers-over w ∙ y .0,
         idle-same (w .next) (y .1),
-        agrees-over (o .image) (o .board) (x .board) firstBook (w .next) (subst (λ (i : List ℕ). Agrees exec i (x .board) firstBook) (sym (w .image)) (y .2)),
+        agrees-over (o .image) (o .board) (x .board) firstBook (w .next) (subst (λ (i : List ℕ). Agrees N (exec N) i (x .board) firstBook) (sym (w .image))
+            (y .2)),
         (λ es h. run-over (o .image) (o .board) (x .board) firstBook false (w .bytes) (w .next) es h
-            (subst (λ (i : List ℕ). Run exec i (x .board) firstBook false es) (sym (w .image)) (y .3 es (happens-from img r by es h)))),
+            (subst (λ (i : List ℕ). Run N (exec N) i (x .board) firstBook false es) (sym (w .image)) (y .3 es (happens-from img r by es h)))),
       )
 
   -- ---- what a run leaves
@@ -287,39 +289,40 @@ module _ {m : Machine} (p : Calls m) where
     pub book : l .book ≡ k .book
     pub bytes : Bytes (l .image)
 
-  left-over : (img : List ℕ) (r q : Record) (b : Book) → Bytes img → Same img r q → (es : List Event) → Happens m img r b es
-      → SameLeft (afterAll m img r b es) (afterAll exec img q b es)
+  left-over : (img : List ℕ) (r q : Record) (b : Book) → Bytes img → Same img r q → (es : List Event) → Happens N m img r b es
+      → SameLeft (afterAll N m img r b es) (afterAll N (exec N) img q b es)
   left-over img r q b by v [] h = record { image = refl; book = refl; bytes = by }
   left-over img r q b by v (call c ∷ es) (bc, h) =
       let o : Out = m img r c in
-      let x : Out = exec img q c in
+      let x : Out = exec N img q c in
       let w : Both o x = call-agrees p calls img by r q v c bc in
-      carry (λ i a. SameLeft (afterAll m (o .image) (o .board) (enterCall b c (o .answer)) es) (afterAll exec i (x .board) (enterCall b c a) es)) w
+      carry (λ i a. SameLeft (afterAll N m (o .image) (o .board) (enterCall b c (o .answer)) es) (afterAll N (exec N) i (x .board) (enterCall b c a) es)) w
       (left-over (o .image) (o .board) (x .board) (enterCall b c (o .answer)) (w .bytes) (w .next) es h)
   left-over img r q b by v (cutErase k new g ∷ []) (x, n, h) = record { image = refl; book = refl; bytes = cut-bytes by x }
   left-over img r q b by v (cutErase k new g ∷ call c ∷ es) (d, n, (bc, h)) =
-      let i : List ℕ = withBlock (sizeOf img) k new img in
+      let i : List ℕ = withBlock (sizeOf N img) k new img in
       let o : Out = m i g c in
-      let x : Out = exec i g c in
+      let x : Out = exec N i g c in
       let w : Both o x = begun-agrees p calls i g g c (cut-bytes by d) n in
-      carry (λ l a. SameLeft (afterAll m (o .image) (o .board) (enterCall b c (o .answer)) es) (afterAll exec l (x .board) (enterCall b c a) es)) w
+      carry (λ l a. SameLeft (afterAll N m (o .image) (o .board) (enterCall b c (o .answer)) es) (afterAll N (exec N) l (x .board) (enterCall b c a) es)) w
       (left-over (o .image) (o .board) (x .board) (enterCall b c (o .answer)) (w .bytes) (w .next) es h)
   left-over img r q b by v (cutErase k new g ∷ cutErase j more f ∷ es) (x, n, h) = absurd n
 
-  pub left-by : (img : List ℕ) (r : Record) → Bytes img → (es : List Event) → HappensFrom m img r es → SameLeft (leftBy m img r es) (leftBy exec img r es)
+  pub left-by : (img : List ℕ) (r : Record) → Bytes img → (es : List Event) → HappensFrom N m img r es
+      → SameLeft (leftBy N m img r es) (leftBy N (exec N) img r es)
   left-by img r by es h =
-      let w : Both (formatted m img r) (formatted exec img r) = formatted-over img r by in
-      subst (λ (i : List ℕ). SameLeft (leftBy m img r es) (afterAll exec i (formatted exec img r .board) firstBook es)) (w .image)
-      (left-over (formatted m img r .image) (formatted m img r .board) (formatted exec img r .board) firstBook (w .bytes) (w .next) es h)
+      let w : Both (formatted N m img r) (formatted N (exec N) img r) = formatted-over img r by in
+      subst (λ (i : List ℕ). SameLeft (leftBy N m img r es) (afterAll N (exec N) i (formatted N (exec N) img r .board) firstBook es)) (w .image)
+      (left-over (formatted N m img r .image) (formatted N m img r .board) (formatted N (exec N) img r .board) firstBook (w .bytes) (w .next) es h)
 
-  pub cut-format-of : CutFormat m
+  pub cut-format-of : CutFormat N m
   unfolding CutFormat
   cut-format-of img r es j by ok hs h =
-      let l : Left = leftBy m img r es in
-      let k : Left = leftBy exec img r es in
+      let l : Left = leftBy N m img r es in
+      let k : Left = leftBy N (exec N) img r es in
       let s : SameLeft l k = left-by img r by es hs in
-      let w : Both (stepsOn m j (m (l .image) (l .board) format)) (stepsOn exec j (exec (l .image) (k .board) format)) =
-      steps-over j (m (l .image) (l .board) format) (exec (l .image) (k .board) format) (format-agrees p calls (l .image) (s .bytes) (l .board) (k .board)) in
-      let e : stepsOn exec j (exec (k .image) (k .board) format) .image ≡ stepsOn m j (m (l .image) (l .board) format) .image =
-      ap (λ (i : List ℕ). stepsOn exec j (exec i (k .board) format) .image) (sym (s .image)) ∙ sym (w .image) in
-      subst₂ (λ (b : Book) (i : List ℕ). Leaves (b .objects) j i) (sym (s .book)) e (cut-format img r es j by ok (happens-from img r by es hs) h)
+      let w : Both (stepsOn m j (m (l .image) (l .board) format)) (stepsOn (exec N) j (exec N (l .image) (k .board) format)) =
+      steps-over j (m (l .image) (l .board) format) (exec N (l .image) (k .board) format) (format-agrees p calls (l .image) (s .bytes) (l .board) (k .board)) in
+      let e : stepsOn (exec N) j (exec N (k .image) (k .board) format) .image ≡ stepsOn m j (m (l .image) (l .board) format) .image =
+      ap (λ (i : List ℕ). stepsOn (exec N) j (exec N i (k .board) format) .image) (sym (s .image)) ∙ sym (w .image) in
+      subst₂ (λ (b : Book) (i : List ℕ). Leaves N (b .objects) j i) (sym (s .book)) e (cut-format N img r es j by ok (happens-from img r by es hs) h)

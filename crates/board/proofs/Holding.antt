@@ -9,7 +9,7 @@ use lib.Dec.{eqb, ltb, leb}
 use lib.ListN.{length, replicate}
 use borrow.Author.Tests.{eqb-true, leb-true, ltb-true}
 use Rattle.flash.specs.Bytes.{Bytes, allFF}
-use Rattle.flash.specs.Flash.{blocks, blockNumbers, block, sizeOf}
+use Rattle.flash.specs.Flash.{blockNumbers, block, sizeOf}
 use Rattle.flash.proofs.Cases.{on-test, and-left, and-right}
 use Rattle.flash.proofs.Blank.{all-ff}
 use Rattle.flash.proofs.Image.{length-block, bytes-block}
@@ -20,15 +20,17 @@ use Rattle.journal.specs.Block.{BlockState, blank, inProgress, valid, foreign, 
 use Rattle.journal.specs.Room.{claimed, openHosts}
 use Rattle.journal.proofs.States.{valid-inv}
 use Rattle.board.specs.declared.Record.{Record}
-use Rattle.board.specs.Record.{rest, idle}
+use Rattle.board.specs.Record.{rest, restOf, idle}
+use Rattle.board.specs.Step.{sameShape}
 use Rattle.board.specs.Mount.{endOf}
 use Rattle.board.specs.Queue.{Held, held, heldBy, heldIn, heldIf, fitsRecord, sameImage, othersBlank}
 use Rattle.board.proofs.Images.{Sized, size-of, sized-block}
+use Rattle.board.proofs.Blocks.{others-blank}
 use Rattle.board.proofs.Invariant.{Others, Ready}
 
 -- what a check that passed has seen
-pub record Passed (s : ℕ) (img : List ℕ) (r : Record) (x : Held) : Type 0 where
-  pub same : sameImage img r ≡ true
+pub record Passed (N : ℕ) (s : ℕ) (img : List ℕ) (r : Record) (x : Held) : Type 0 where
+  pub same : sameImage N img r ≡ true
   pub is-valid : blockState (block s (r .block) img) ≡ valid (x .time) (x .frames) clean
   pub fits : fitsRecord s (r .end) (x .frames) ≡ true
 
@@ -53,35 +55,32 @@ held-in s e (valid t fs (cut n)) x q = let z : _≡_ {A = ℕ} 0 1 = cc in absur
 held-in s e (valid t fs (bad f)) x q = let z : _≡_ {A = ℕ} 0 1 = cc in absurd (omega arith)
 held-in s e (foreign f) x q = let z : _≡_ {A = ℕ} 0 1 = cc in absurd (omega arith)
 
-held-by : (b : Bool) (img : List ℕ) (r : Record) (x : Held) → heldBy b img r ≡ some x
-    → (b ≡ true) × Inside (sizeOf img) (r .end) (blockState (block (sizeOf img) (r .block) img)) x
-held-by true img r x e = (refl, held-in (sizeOf img) (r .end) (blockState (block (sizeOf img) (r .block) img)) x e)
-held-by false img r x e = let z : _≡_ {A = ℕ} 0 1 = cc in absurd (omega arith)
+held-by : (N : ℕ) (b : Bool) (img : List ℕ) (r : Record) (x : Held) → heldBy N b img r ≡ some x
+    → (b ≡ true) × Inside (sizeOf N img) (r .end) (blockState (block (sizeOf N img) (r .block) img)) x
+held-by N true img r x e = (refl, held-in (sizeOf N img) (r .end) (blockState (block (sizeOf N img) (r .block) img)) x e)
+held-by N false img r x e = let z : _≡_ {A = ℕ} 0 1 = cc in absurd (omega arith)
 
-pub passed : {s : ℕ} {img : List ℕ} {r : Record} {x : Held} → Sized s img → held img r ≡ some x → Passed s img r x
+pub passed : {N : ℕ} {s : ℕ} {img : List ℕ} {r : Record} {x : Held} → Sized N s img → held N img r ≡ some x → Passed N s img r x
 unfolding held
-passed {s} {img} {r} {x} z e =
-    let y : (sameImage img r ≡ true) × Inside (sizeOf img) (r .end) (blockState (block (sizeOf img) (r .block) img)) x = held-by (sameImage img r) img r x e in
+passed {N} {s} {img} {r} {x} z e =
+    let y : (sameImage N img r ≡ true) × Inside (sizeOf N img) (r .end) (blockState (block (sizeOf N img) (r .block) img)) x =
+    held-by N (sameImage N img r) img r x e in
     let i : Inside s (r .end) (blockState (block s (r .block) img)) x =
     subst (λ (n : ℕ). Inside n (r .end) (blockState (block n (r .block) img)) x) (size-of z) (y .1) in
     record { same = y .0; is-valid = i .is-valid; fits = i .fits }
 
--- "other half blank", block by block
-blank-other : (k j : ℕ) (img : List ℕ) → (j ≡ k → ⊥) → (eqb k j || allFF (block (sizeOf img) j img)) ≡ true → allFF (block (sizeOf img) j img) ≡ true
-blank-other k j img n t =
-    on-test (eqb k j) (λ e. absurd (n (sym (eqb-true k j e)))) (λ e. rw e at t)
-
-pub held-inv : {s : ℕ} {img : List ℕ} {x : Held} (r : Record) → Sized s img → Bytes img → held img r ≡ some x
-    → (y : Ready s img (idle (rest (r .last) (r .block) (r .end)))) × (y .time ≡ x .time) × (y .frames ≡ x .frames)
-held-inv {s} {img} {x} r z b e =
-    let p : Passed s img r x = passed z e in
+pub held-inv : {N : ℕ} {s : ℕ} {img : List ℕ} {x : Held} (r : Record) → Sized N s img → Bytes img → held N img r ≡ some x
+    → (y : Ready N s img (idle (restOf r))) × (y .time ≡ x .time) × (y .frames ≡ x .frames)
+held-inv {N} {s} {img} {x} r z b e =
+    let p : Passed N s img r x = passed z e in
     let k : ℕ = r .block in
-    let long : eqb (length img) (suc (r .last)) ≡ true =
-    and-left (eqb (length img) (suc (r .last))) (ltb k blocks && othersBlank k img blockNumbers) (p .same) in
-    let rest : (ltb k blocks && othersBlank k img blockNumbers) ≡ true =
-    and-right (eqb (length img) (suc (r .last))) (ltb k blocks && othersBlank k img blockNumbers) (p .same) in
-    let there : k < blocks = ltb-true k blocks (and-left (ltb k blocks) (othersBlank k img blockNumbers) rest) in
-    let others : othersBlank k img blockNumbers ≡ true = and-right (ltb k blocks) (othersBlank k img blockNumbers) rest in
+    let shape : sameShape N (length img) r ≡ true =
+    and-left (sameShape N (length img) r) (ltb k N && othersBlank N k img (blockNumbers N)) (p .same) in
+    let blocks : N ≡ r .blocks = eqb-true N (r .blocks) (and-right (eqb (length img) (suc (r .last))) (eqb N (r .blocks)) shape) in
+    let beside : (ltb k N && othersBlank N k img (blockNumbers N)) ≡ true =
+    and-right (sameShape N (length img) r) (ltb k N && othersBlank N k img (blockNumbers N)) (p .same) in
+    let there : k < N = ltb-true k N (and-left (ltb k N) (othersBlank N k img (blockNumbers N)) beside) in
+    let others : othersBlank N k img (blockNumbers N) ≡ true = and-right (ltb k N) (othersBlank N k img (blockNumbers N)) beside in
     let n : length (block s k img) ≡ s = length-block s k img (sized-block k z there) in
     let room : leb (claimed (replay (x .frames)) + endLen * openHosts (replay (x .frames) .pending)) s ≡ true =
     and-right (eqb (endOf (x .frames)) (r .end)) (leb (claimed (replay (x .frames)) + endLen * openHosts (replay (x .frames) .pending)) s) (p .fits) in (
@@ -89,8 +88,8 @@ held-inv {s} {img} {x} r z b e =
         last = r .last;
         number = k;
         end = r .end;
-        is = refl;
-        long = eqb-true (length img) (suc (r .last)) long;
+        is = ap (λ (n : ℕ). idle (rest n (r .last) k (r .end))) (sym blocks);
+        long = eqb-true (length img) (suc (r .last)) (and-left (eqb (length img) (suc (r .last))) (eqb N (r .blocks)) shape);
         there = there;
         time = x .time;
         frames = x .frames;
@@ -104,16 +103,8 @@ held-inv {s} {img} {x} r z b e =
       refl,
     )
   where
-    one : ℕ → ℕ → Bool
-    one k j = eqb k j || allFF (block (sizeOf img) j img)
-
-    each : (k j : ℕ) → othersBlank k img blockNumbers ≡ true → j < blocks → one k j ≡ true
-    each k zero t h = and-left (one k 0) (one k 1 && true) t
-    each k (suc zero) t h = and-left (one k 1) true (and-right (one k 0) (one k 1 && true) t)
-    each k (suc (suc j)) t h = absurd (omega arith)
-
-    blanks : (k : ℕ) → othersBlank k img blockNumbers ≡ true → Others (λ j. block s j img ≡ replicate s 255) k
+    blanks : (k : ℕ) → othersBlank N k img (blockNumbers N) ≡ true → Others N (λ j. block s j img ≡ replicate s 255) k
     blanks k t j h m =
         let q : allFF (block s j img) ≡ true =
-        subst (λ (w : ℕ). allFF (block w j img) ≡ true) (size-of z) (blank-other k j img m (each k j t h)) in
+        subst (λ (w : ℕ). allFF (block w j img) ≡ true) (size-of z) (others-blank N k img t j h m) in
         all-ff (block s j img) q ∙ ap (λ (w : ℕ). replicate w 255) (length-block s j img (sized-block j z h))

@@ -5,7 +5,7 @@ use mathlib.Core.Bool.{Bool, true}
 use Prim.Native.Nat.{ℕ, suc, _+_, _*_, _≤_, _<_}
 use lib.ListN.{length, getD, take, drop, replicate}
 use Rattle.flash.specs.Bytes.{Bytes}
-use Rattle.flash.specs.Flash.{Step, program, erase, applyAll, block, blocks, withBlock, write}
+use Rattle.flash.specs.Flash.{Step, program, erase, applyAll, block, withBlock, write}
 use Rattle.flash.specs.Raised.{Raised}
 use Rattle.frame.specs.declared.Host.{Host}
 use Rattle.frame.specs.Frame.{Frame, hostMax, deleteLen, endLen}
@@ -46,54 +46,60 @@ Quiet (valid t fs c) = ⊥
 Quiet (foreign e) = ⊥
 
 -- every block but these
-abbrev pub Others : (ℕ → Type 0) → ℕ → Type 0
-Others P k = (j : ℕ) → j < blocks → (j ≡ k → ⊥) → P j
+abbrev pub Others : ℕ → (ℕ → Type 0) → ℕ → Type 0
+Others N P k = (j : ℕ) → j < N → (j ≡ k → ⊥) → P j
 
 -- beside a valid block of time t: nothing that a mount takes, whatever bits a cut erase raises
 abbrev pub Lesser : ℕ → List ℕ → ℕ → ℕ → Type 0
 Lesser s img t j = Harmless t (block s j img)
 
+-- beside block k, all of them; and all but one are blank: two of one time, smaller too, would be refused
+pub record Lessers (N : ℕ) (s : ℕ) (img : List ℕ) (t k : ℕ) : Type 0 where
+  pub older : Others N (Lesser s img t) k
+  pub one : ℕ
+  pub blanks : Others N (λ j. (j ≡ one → ⊥) → block s j img ≡ replicate s 255) k
+
 -- a mount of the image finds the objects: a valid block has them, and every other is harmless; nothing at all only while a format is
 -- unfinished
-pub data Safe (s : ℕ) (img : List ℕ) (os : List Object) (unfinished : Bool) : Type 0 where
-  no-valid : unfinished ≡ true → ((j : ℕ) → j < blocks → Quiet (blockState (block s j img))) → Safe s img os unfinished
-  some-valid : (k : ℕ) → k < blocks → (v : Valid s img k os) → Others (Lesser s img (v .time)) k → Safe s img os unfinished
+pub data Safe (N : ℕ) (s : ℕ) (img : List ℕ) (os : List Object) (unfinished : Bool) : Type 0 where
+  no-valid : unfinished ≡ true → ((j : ℕ) → j < N → Quiet (blockState (block s j img))) → Safe N s img os unfinished
+  some-valid : (k : ℕ) → k < N → (v : Valid s img k os) → Lessers N s img (v .time) k → Safe N s img os unfinished
 
 -- a mount finds them too where the step is an erase and is cut
-abbrev pub CutSafe : ℕ → List Object → Bool → Step → List ℕ → Type 0
-CutSafe s os u (program k o v) img = Unit {0}
-CutSafe s os u (erase k) img = (new : List ℕ) → Raised (block s k img) new → Safe s (withBlock s k new img) os u
+abbrev pub CutSafe : ℕ → ℕ → List Object → Bool → Step → List ℕ → Type 0
+CutSafe N s os u (program k o v) img = Unit {0}
+CutSafe N s os u (erase k) img = (new : List ℕ) → Raised (block s k img) new → Safe N s (withBlock s k new img) os u
 
 -- before a step, and inside it
-abbrev pub Guard : ℕ → List Object → Bool → Step → List ℕ → Type 0
-Guard s os u x img = Safe s img os u × CutSafe s os u x img
+abbrev pub Guard : ℕ → ℕ → List Object → Bool → Step → List ℕ → Type 0
+Guard N s os u x img = Safe N s img os u × CutSafe N s os u x img
 
 -- the same where a format may be under way: a run ends with a cut inside its erases
-abbrev pub GuardIn : ℕ → List Object → Bool → UnderWay → Step → List ℕ → Type 0
-GuardIn s os u w x img = Safe s img os u × ((w ≡ formatting → ⊥) → CutSafe s os u x img)
+abbrev pub GuardIn : ℕ → ℕ → List Object → Bool → UnderWay → Step → List ℕ → Type 0
+GuardIn N s os u w x img = Safe N s img os u × ((w ≡ formatting → ⊥) → CutSafe N s os u x img)
 
 -- ---- an idle record
 
 -- the image is as the record says, the book apart
-pub record Ready (s : ℕ) (img : List ℕ) (r : Record) : Type 0 where
+pub record Ready (N : ℕ) (s : ℕ) (img : List ℕ) (r : Record) : Type 0 where
   pub last : ℕ
   pub number : ℕ
   pub end : ℕ
-  pub is : r ≡ idle (rest last number end)
+  pub is : r ≡ idle (rest N last number end)
   pub long : length img ≡ suc last
-  pub there : number < blocks
+  pub there : number < N
   pub time : ℕ
   pub frames : List Frame
   pub contents : Contents (block s number img) time frames clean
   pub ends : end ≡ endOf frames
   pub room : claimed (replay frames) + endLen * openHosts (replay frames .pending) ≤ s
-  pub others : Others (λ j. block s j img ≡ replicate s 255) number
+  pub others : Others N (λ j. block s j img ≡ replicate s 255) number
 
 abbrev pub Lists : List Entry → Book → Type 0
 Lists ps b = (h : Host) → h .0 ≤ hostMax → listOf h ps ≡ b .lists h
 
-pub record IdleBook (s : ℕ) (img : List ℕ) (r : Record) (b : Book) : Type 0 where
-  pub ready : Ready s img r
+pub record IdleBook (N : ℕ) (s : ℕ) (img : List ℕ) (r : Record) (b : Book) : Type 0 where
+  pub ready : Ready N s img r
   pub spare : kept (replay (ready .frames)) + (deleteLen + endLen) ≤ s
   pub objects : replay (ready .frames) .objects ≡ b .objects
   pub lists : Lists (replay (ready .frames) .pending) b
@@ -101,15 +107,15 @@ pub record IdleBook (s : ℕ) (img : List ℕ) (r : Record) (b : Book) : Type 0 
 
 -- ---- a record in a job: `count` steps of a plan are done on the image it began with; P holds of every step still to be done
 -- and the image it is done on, Q of what the last gives
-pub record InJob (s : ℕ) (P : Step → List ℕ → Type 0) (Q : List ℕ → Record → Type 0) (img : List ℕ) (r : Record) : Type 0 where
+pub record InJob (N : ℕ) (s : ℕ) (P : Step → List ℕ → Type 0) (Q : List ℕ → Record → Type 0) (img : List ℕ) (r : Record) : Type 0 where
   pub start : List ℕ
   pub plan : List Step
   pub last : Record
   pub count : ℕ
   pub now : img ≡ applyAll s (take count plan) start
-  pub follows : Follows exec img r (drop count plan) last
+  pub follows : Follows N (exec N) img r (drop count plan) last
   pub begun : count < length plan
-  pub short : length plan ≤ s
+  pub short : length plan ≤ s + N
   pub each : (j : ℕ) → j < length plan → P (getD plan j (erase 0)) (applyAll s (take j plan) start)
   pub ends : Q (applyAll s plan start) last
   pub rests : last .phase ≡ Idle
@@ -121,18 +127,18 @@ StepLands s (erase k) img = Unit {0}
 
 -- ---- between calls
 
-abbrev pub InPhase : Phase → ℕ → List ℕ → Record → Book → Bool → Type 0
-InPhase Unmounted s img r b u = Safe s img (b .objects) u × (b .under ≡ nothing)
-InPhase Idle s img r b u = IdleBook s img r b
-InPhase (Busy g) s img r b u = InJob s (GuardIn s (b .objects) u (b .under)) (λ i z. IdleBook s i z (finishing b (b .under))) img r
+abbrev pub InPhase : ℕ → Phase → ℕ → List ℕ → Record → Book → Bool → Type 0
+InPhase N Unmounted s img r b u = Safe N s img (b .objects) u × (b .under ≡ nothing)
+InPhase N Idle s img r b u = IdleBook N s img r b
+InPhase N (Busy g) s img r b u = InJob N s (GuardIn N s (b .objects) u (b .under)) (λ i z. IdleBook N s i z (finishing b (b .under))) img r
 
-pub record Inv (s : ℕ) (img : List ℕ) (r : Record) (b : Book) (u : Bool) : Type 0 where
-  pub sized : Sized s img
+pub record Inv (N : ℕ) (s : ℕ) (img : List ℕ) (r : Record) (b : Book) (u : Bool) : Type 0 where
+  pub sized : Sized N s img
   pub bytes : Bytes img
-  pub phase : InPhase (r .phase) s img r b u
+  pub phase : InPhase N (r .phase) s img r b u
 
 -- the same without a book, for images that no run of ours left
-abbrev pub Sound : Phase → ℕ → List ℕ → Record → Type 0
-Sound Unmounted s img r = Unit {0}
-Sound Idle s img r = Ready s img r
-Sound (Busy g) s img r = InJob s (StepLands s) (Ready s) img r
+abbrev pub Sound : ℕ → Phase → ℕ → List ℕ → Record → Type 0
+Sound N Unmounted s img r = Unit {0}
+Sound N Idle s img r = Ready N s img r
+Sound N (Busy g) s img r = InJob N s (StepLands s) (Ready N s) img r

@@ -29,7 +29,7 @@ use Rattle.board.specs.Exec.{exec}
 use Rattle.board.specs.Claim.{trackStep, Never, CutsErase}
 use Rattle.board.proofs.Images.{Sized, size-of, sized-as, sized-block}
 use Rattle.board.proofs.Invariant.{Valid, Safe, no-valid, some-valid, CutSafe, GuardIn, Ready, IdleBook, InJob, InPhase, Inv}
-use Rattle.board.proofs.Current.{block-long, blank-lesser}
+use Rattle.board.proofs.Current.{block-long, blank-lessers}
 use Rattle.board.proofs.Outcomes.{step-resting}
 use Rattle.board.proofs.Jobs.{Stepped, job-step}
 
@@ -47,50 +47,52 @@ more-busy (Busy g) e = record { stage = g; is = refl }
 -- ---- the invariant in each phase
 
 -- a record in a job, with what the book has under way
-abbrev pub Working : ℕ → List ℕ → Record → Book → Bool → Type 0
-Working s img r b u = InJob s (GuardIn s (b .objects) u (b .under)) (λ i z. IdleBook s i z (finishing b (b .under))) img r
+abbrev pub Working : ℕ → ℕ → List ℕ → Record → Book → Bool → Type 0
+Working N s img r b u = InJob N s (GuardIn N s (b .objects) u (b .under)) (λ i z. IdleBook N s i z (finishing b (b .under))) img r
 
-pub inv-unmounted : {s : ℕ} {img : List ℕ} {b : Book} {u : Bool} (r : Record) → Sized s img → Bytes img → r .phase ≡ Unmounted → Safe s img (b .objects) u
-    → b .under ≡ nothing → Inv s img r b u
-inv-unmounted {s} {img} {b} {u} r z y e f n = record { sized = z; bytes = y; phase = subst (λ (p : Phase). InPhase p s img r b u) (sym e) (f, n) }
+pub inv-unmounted : {N : ℕ} {s : ℕ} {img : List ℕ} {b : Book} {u : Bool} (r : Record) → Sized N s img → Bytes img → r .phase ≡ Unmounted
+    → Safe N s img (b .objects) u
+    → b .under ≡ nothing → Inv N s img r b u
+inv-unmounted {N} {s} {img} {b} {u} r z y e f n = record { sized = z; bytes = y; phase = subst (λ (p : Phase). InPhase N p s img r b u) (sym e) (f, n) }
 
-pub ready-idle : {s : ℕ} {img : List ℕ} {r : Record} → Ready s img r → r .phase ≡ Idle
+pub ready-idle : {N : ℕ} {s : ℕ} {img : List ℕ} {r : Record} → Ready N s img r → r .phase ≡ Idle
 ready-idle y = ap (λ (x : Record). x .phase) (y .is)
 
-pub inv-idle : {s : ℕ} {img : List ℕ} {b : Book} {u : Bool} (r : Record) → Sized s img → Bytes img → IdleBook s img r b → Inv s img r b u
-inv-idle {s} {img} {b} {u} r z y i = record { sized = z; bytes = y; phase = subst (λ (p : Phase). InPhase p s img r b u) (sym (ready-idle (i .ready))) i }
+pub inv-idle : {N : ℕ} {s : ℕ} {img : List ℕ} {b : Book} {u : Bool} (r : Record) → Sized N s img → Bytes img → IdleBook N s img r b → Inv N s img r b u
+inv-idle {N} {s} {img} {b} {u} r z y i = record { sized = z; bytes = y; phase = subst (λ (p : Phase). InPhase N p s img r b u) (sym (ready-idle (i .ready))) i }
 
-pub inv-busy : {s : ℕ} {img : List ℕ} {b : Book} {u : Bool} (r : Record) → Sized s img → Bytes img → answerOf r ≡ More → Working s img r b u → Inv s img r b u
-inv-busy {s} {img} {b} {u} r z y m j =
-    record { sized = z; bytes = y; phase = subst (λ (p : Phase). InPhase p s img r b u) (sym (more-busy (r .phase) m .is)) j }
+pub inv-busy : {N : ℕ} {s : ℕ} {img : List ℕ} {b : Book} {u : Bool} (r : Record) → Sized N s img → Bytes img → answerOf r ≡ More → Working N s img r b u
+    → Inv N s img r b u
+inv-busy {N} {s} {img} {b} {u} r z y m j =
+    record { sized = z; bytes = y; phase = subst (λ (p : Phase). InPhase N p s img r b u) (sym (more-busy (r .phase) m .is)) j }
 
 -- by the record's phase
-pub on-phase : {C : Type 0} {s : ℕ} {img : List ℕ} {r : Record} {b : Book} {u : Bool} → Inv s img r b u
-    → (r .phase ≡ Unmounted → Safe s img (b .objects) u → b .under ≡ nothing → C) → (r .phase ≡ Idle → IdleBook s img r b → C)
-    → (IsBusy (r .phase) → Working s img r b u → C) → C
-on-phase {C} {s} {img} {r} {b} {u} v f g h = go (r .phase) refl (v .phase)
+pub on-phase : {N : ℕ} {C : Type 0} {s : ℕ} {img : List ℕ} {r : Record} {b : Book} {u : Bool} → Inv N s img r b u
+    → (r .phase ≡ Unmounted → Safe N s img (b .objects) u → b .under ≡ nothing → C) → (r .phase ≡ Idle → IdleBook N s img r b → C)
+    → (IsBusy (r .phase) → Working N s img r b u → C) → C
+on-phase {N} {C} {s} {img} {r} {b} {u} v f g h = go (r .phase) refl (v .phase)
   where
-    go : (p : Phase) → r .phase ≡ p → InPhase p s img r b u → C
+    go : (p : Phase) → r .phase ≡ p → InPhase N p s img r b u → C
     go Unmounted e (x, n) = f e x n
     go Idle e x = g e x
     go (Busy q) e x = h (record { stage = q; is = e }) x
 
 -- ---- the objects are safe
 
-abbrev pub idle-valid : {s : ℕ} {img : List ℕ} {r : Record} {b : Book} (y : IdleBook s img r b) → Valid s img (y .ready .number) (b .objects)
+abbrev pub idle-valid : {N s : ℕ} {img : List ℕ} {r : Record} {b : Book} (y : IdleBook N s img r b) → Valid s img (y .ready .number) (b .objects)
 idle-valid y =
     record { time = y .ready .time; frames = y .ready .frames; tail = clean; contents = y .ready .contents; room = y .spare; same = y .objects }
 
-pub safe-idle : {s : ℕ} {img : List ℕ} {r : Record} {b : Book} {u : Bool} → Sized s img → IdleBook s img r b → Safe s img (b .objects) u
-safe-idle z y =
-    some-valid (y .ready .number) (y .ready .there) (idle-valid y) (λ j h n. blank-lesser z (y .ready .time) j (y .ready .others j h n))
+pub safe-idle : {N : ℕ} {s : ℕ} {img : List ℕ} {r : Record} {b : Book} {u : Bool} → Sized N s img → IdleBook N s img r b → Safe N s img (b .objects) u
+safe-idle {N} z y =
+    some-valid (y .ready .number) (y .ready .there) (idle-valid y) (blank-lessers z (y .ready .time) (y .ready .others))
 
-pub safe-of : {s : ℕ} {img : List ℕ} {r : Record} {b : Book} {u : Bool} → Inv s img r b u → Safe s img (b .objects) u
-safe-of {s} {img} {r} {b} {u} v =
+pub safe-of : {N : ℕ} {s : ℕ} {img : List ℕ} {r : Record} {b : Book} {u : Bool} → Inv N s img r b u → Safe N s img (b .objects) u
+safe-of {N} {s} {img} {r} {b} {u} v =
     on-phase v (λ e f n. f) (λ e y. safe-idle (v .sized) y)
-    (λ g j. subst (λ (i : List ℕ). Safe s i (b .objects) u) (sym (j .now)) (j .each (j .count) (j .begun) .0))
+    (λ g j. subst (λ (i : List ℕ). Safe N s i (b .objects) u) (sym (j .now)) (j .each (j .count) (j .begun) .0))
 
-pub safe-true : {s : ℕ} {img : List ℕ} {os : List Object} {u : Bool} → Safe s img os u → Safe s img os true
+pub safe-true : {N : ℕ} {s : ℕ} {img : List ℕ} {os : List Object} {u : Bool} → Safe N s img os u → Safe N s img os true
 safe-true (no-valid e q) = no-valid refl q
 safe-true (some-valid k h v q) = some-valid k h v q
 
@@ -101,62 +103,63 @@ track-more u nothing = refl
 track-more u (committing h) = refl
 track-more u formatting = refl
 
-abbrev pub StepKeeps : ℕ → Book → Bool → Out → Type 0
-StepKeeps s b u o = Inv s (o .image) (o .board) (enterStep b (o .answer)) (trackStep u (b .under) (o .answer)) × ((n : Refusal) → Never n o)
+abbrev pub StepKeeps : ℕ → ℕ → Book → Bool → Out → Type 0
+StepKeeps N s b u o = Inv N s (o .image) (o .board) (enterStep b (o .answer)) (trackStep u (b .under) (o .answer)) × ((n : Refusal) → Never n o)
 
 done-never : (o : Out) (a : Answer) → o .answer ≡ a → (a ≡ Done) ⊎ (a ≡ More) → (n : Refusal) → Never n o
 done-never o a e (inl d) n x = let z : _≡_ {A = ℕ} 0 1 = cc in omega arith
 done-never o a e (inr m) n x = let z : _≡_ {A = ℕ} 0 1 = cc in omega arith
 
-resting-keeps : {s : ℕ} {img : List ℕ} {r : Record} {b : Book} {u : Bool} → Inv s img r b u → b .under ≡ nothing → StepKeeps s b u (out Done img r [])
-resting-keeps {s} {img} {r} {b} {u} v n = (
-  subst (λ (w : UnderWay). Inv s img r (finishing b w) (trackStep u w Done)) (sym n) v,
+resting-keeps : {N : ℕ} {s : ℕ} {img : List ℕ} {r : Record} {b : Book} {u : Bool} → Inv N s img r b u → b .under ≡ nothing
+    → StepKeeps N s b u (out Done img r [])
+resting-keeps {N} {s} {img} {r} {b} {u} v n = (
+  subst (λ (w : UnderWay). Inv N s img r (finishing b w) (trackStep u w Done)) (sym n) v,
   done-never (out Done img r []) Done refl (inl refl),
 )
 
-abbrev Then : ℕ → Book → Bool → List ℕ → Record → Type 0
-Then s b u img r =
-    ((answerOf r ≡ More) × Working s img r b u) ⊎ ((answerOf r ≡ Done) × IdleBook s img r (finishing b (b .under)))
+abbrev Then : ℕ → ℕ → Book → Bool → List ℕ → Record → Type 0
+Then N s b u img r =
+    ((answerOf r ≡ More) × Working N s img r b u) ⊎ ((answerOf r ≡ Done) × IdleBook N s img r (finishing b (b .under)))
 
-then-keeps : (s : ℕ) (b : Book) (u : Bool) (img : List ℕ) (r : Record) → Sized s img → Bytes img → Then s b u img r
-    → StepKeeps s b u (out (answerOf r) img r [])
-then-keeps s b u img r z y (inl (m, j)) = (
-  subst (λ (a : Answer). Inv s img r (enterStep b a) (trackStep u (b .under) a)) (sym m)
-      (subst (λ (w : Bool). Inv s img r b w) (sym (track-more u (b .under))) (inv-busy r z y m j)),
+then-keeps : {N : ℕ} (s : ℕ) (b : Book) (u : Bool) (img : List ℕ) (r : Record) → Sized N s img → Bytes img → Then N s b u img r
+    → StepKeeps N s b u (out (answerOf r) img r [])
+then-keeps {N} s b u img r z y (inl (m, j)) = (
+  subst (λ (a : Answer). Inv N s img r (enterStep b a) (trackStep u (b .under) a)) (sym m)
+      (subst (λ (w : Bool). Inv N s img r b w) (sym (track-more u (b .under))) (inv-busy r z y m j)),
   done-never (out (answerOf r) img r []) (answerOf r) refl (inr m),
 )
-then-keeps s b u img r z y (inr (d, i)) = (
-  subst (λ (a : Answer). Inv s img r (enterStep b a) (trackStep u (b .under) a)) (sym d) (inv-idle r z y i),
+then-keeps {N} s b u img r z y (inr (d, i)) = (
+  subst (λ (a : Answer). Inv N s img r (enterStep b a) (trackStep u (b .under) a)) (sym d) (inv-idle r z y i),
   done-never (out (answerOf r) img r []) (answerOf r) refl (inl d),
 )
 
-pub step-keeps : {s : ℕ} {img : List ℕ} {r : Record} {b : Book} {u : Bool} → Inv s img r b u → StepKeeps s b u (stepOn img r)
-step-keeps {s} {img} {r} {b} {u} v =
+pub step-keeps : {N : ℕ} {s : ℕ} {img : List ℕ} {r : Record} {b : Book} {u : Bool} → Inv N s img r b u → StepKeeps N s b u (stepOn N img r)
+step-keeps {N} {s} {img} {r} {b} {u} v =
     on-phase v
-    (λ e f n. subst (StepKeeps s b u) (sym (step-resting img r (subst (λ (p : Phase). Rests p) (sym e) tt))) (resting-keeps v n))
-    (λ e y. subst (StepKeeps s b u) (sym (step-resting img r (subst (λ (p : Phase). Rests p) (sym e) tt))) (resting-keeps v (y .under)))
+    (λ e f n. subst (StepKeeps N s b u) (sym (step-resting N img r (subst (λ (p : Phase). Rests p) (sym e) tt))) (resting-keeps v n))
+    (λ e y. subst (StepKeeps N s b u) (sym (step-resting N img r (subst (λ (p : Phase). Rests p) (sym e) tt))) (resting-keeps v (y .under)))
     (λ g j.
-    let y : Stepped s (GuardIn s (b .objects) u (b .under)) (λ i z. IdleBook s i z (finishing b (b .under))) img r = job-step (v .sized) j in
-    subst (StepKeeps s b u) (sym (y .gives))
+    let y : Stepped N s (GuardIn N s (b .objects) u (b .under)) (λ i z. IdleBook N s i z (finishing b (b .under))) img r = job-step (v .sized) j in
+    subst (StepKeeps N s b u) (sym (y .gives))
     (then-keeps s b u (apply s (y .does) img) (y .next) (sized-as (apply s (y .does) img) (length-apply s (y .does) img) (v .sized))
     (bytes-apply s (y .does) img (v .bytes)) (y .then)))
 
 -- ---- power is lost
 
 -- an image on which a mount or format may come next, whatever the record
-pub record Bare (s : ℕ) (img : List ℕ) (os : List Object) (u : Bool) : Type 0 where
-  pub sized : Sized s img
+pub record Bare (N : ℕ) (s : ℕ) (img : List ℕ) (os : List Object) (u : Bool) : Type 0 where
+  pub sized : Sized N s img
   pub bytes : Bytes img
-  pub safe : Safe s img os u
+  pub safe : Safe N s img os u
 
-pub bare-of : {s : ℕ} {img : List ℕ} {r : Record} {b : Book} {u : Bool} → Inv s img r b u → Bare s img (b .objects) u
+pub bare-of : {N : ℕ} {s : ℕ} {img : List ℕ} {r : Record} {b : Book} {u : Bool} → Inv N s img r b u → Bare N s img (b .objects) u
 bare-of v = record { sized = v .sized; bytes = v .bytes; safe = safe-of v }
 
 -- inside an erase
-pub cut-bare : {s : ℕ} {img : List ℕ} {r : Record} {b : Book} {u : Bool} (k : ℕ) (new : List ℕ) → Inv s img r b u → CutsErase exec img r b k new
-    → Bare s (withBlock (sizeOf img) k new img) (b .objects) u
-cut-bare {s} {img} {r} {b} {u} k new v c =
-    subst (λ (n : ℕ). Bare s (withBlock n k new img) (b .objects) u) (sym (size-of (v .sized)))
+pub cut-bare : {N : ℕ} {s : ℕ} {img : List ℕ} {r : Record} {b : Book} {u : Bool} (k : ℕ) (new : List ℕ) → Inv N s img r b u → CutsErase N (exec N) img r b k new
+    → Bare N s (withBlock (sizeOf N img) k new img) (b .objects) u
+cut-bare {N} {s} {img} {r} {b} {u} k new v c =
+    subst (λ (n : ℕ). Bare N s (withBlock n k new img) (b .objects) u) (sym (size-of (v .sized)))
     (record {
       sized = sized-as (withBlock s k new img) (length-with s k new img room (raised .long ∙ block-long k (v .sized) (c .there))) (v .sized);
       bytes = bytes-with s k new img (raised .bytes) (v .bytes);
@@ -170,15 +173,15 @@ cut-bare {s} {img} {r} {b} {u} k new v c =
     raised = subst (λ (n : ℕ). Raised (block n k img) new) (size-of (v .sized)) (c .raised)
 
     -- the step is this erase, or the block is blank and stays so
-    pick : (x : Step) → GuardIn s (b .objects) u (b .under) x img → (x ≡ erase k) ⊎ (block s k img ≡ replicate s 255)
-        → Safe s (withBlock s k new img) (b .objects) u
-    pick x h (inl p) = subst (λ (y : Step). CutSafe s (b .objects) u y img) p (h .1 (c .no-format)) new raised
+    pick : (x : Step) → GuardIn N s (b .objects) u (b .under) x img → (x ≡ erase k) ⊎ (block s k img ≡ replicate s 255)
+        → Safe N s (withBlock s k new img) (b .objects) u
+    pick x h (inl p) = subst (λ (y : Step). CutSafe N s (b .objects) u y img) p (h .1 (c .no-format)) new raised
     pick x h (inr p) =
         let e : new ≡ block s k img = raised-blank s new (subst (λ (l : List ℕ). Raised l new) p raised) ∙ sym p in
-        subst (λ (l : List ℕ). Safe s l (b .objects) u) (sym (ap (λ (l : List ℕ). withBlock s k l img) e ∙ with-same s k img)) (safe-of v)
+        subst (λ (l : List ℕ). Safe N s l (b .objects) u) (sym (ap (λ (l : List ℕ). withBlock s k l img) e ∙ with-same s k img)) (safe-of v)
 
-    go : Stepped s (GuardIn s (b .objects) u (b .under)) (λ i z. IdleBook s i z (finishing b (b .under))) img r
-        → Safe s (withBlock s k new img) (b .objects) u
+    go : Stepped N s (GuardIn N s (b .objects) u (b .under)) (λ i z. IdleBook N s i z (finishing b (b .under))) img r
+        → Safe N s (withBlock s k new img) (b .objects) u
     go y =
         let e : apply s (y .does) img ≡ eraseBlock s k img =
         ap (λ (o : Out). o .image) (sym (y .gives)) ∙ c .erases ∙ ap (λ (n : ℕ). eraseBlock n k img) (size-of (v .sized)) in

@@ -1,9 +1,10 @@
 -- The laws and theorems of the board, by subject. Each file's first line says what it proves.
 
 -- ---- images and blocks: used by every group below
-pub mod Numbers  -- the number of the block that a transfer goes to
+pub mod Numbers  -- of blocks: the one that a transfer goes to, all, all but one
 pub mod Images  -- allowed lengths, and what steps do to each block
 pub mod Blocks  -- lists of block numbers
+pub mod Found  -- the valid blocks, the newest of them, those of one time, the lowest foreign block
 pub mod Order  -- the order in which a format erases the blocks
 pub mod Prefixes  -- what holds at every step of a list of steps
 pub mod Invariant  -- what holds of image, record and book between the calls of a run: stated for every group below
@@ -43,7 +44,7 @@ pub mod Planning  -- demand 2: requests follow their plans
 pub mod Demand2  -- demand 2: mounts, formats, runs
 pub mod Claiming  -- demand 3
 pub mod CutFormat  -- what a cut format leaves
-pub mod Bench  -- the starred rows
+pub mod Wear  -- erase counts
 -- ---- the promise
 pub mod Sentences  -- frames, plans and places, which the promise uses, are as document 01 words them
 pub mod Freshness  -- and so is refusal 11
@@ -59,9 +60,7 @@ pub mod Following  -- the k-th step, demand 3 and a cut format, of any machine t
 pub mod FollowingPlans  -- demand 2 of it, and the whole promise
 pub mod Runs  -- runs in two parts
 pub mod Tickets  -- the customer's two tickets, of any machine that keeps the promise
+pub mod Counts  -- calls that are given another number of blocks
 pub mod Driving  -- what is next, done to the flash by the caller, then made, is a step call
--- ---- wrong stores
-pub mod RefutingRuns  -- the runs that tell, computed
-pub mod Refuting  -- none of them keeps the promise
-pub mod RefutingCut  -- demand 3 sees one that is wrong on half-erased halves only
-pub mod RefutingRows  -- and yet all are right in every row
+pub mod Two  -- two blocks are the two halves of before: the image, requests, steps
+pub mod TwoMounts  -- mounts, formats, and the whole comparison

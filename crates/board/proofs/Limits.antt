@@ -64,15 +64,15 @@ putNeeds h msg x i =
 abbrev deleteNeeds : Host → Held → ObjectId → ℕ
 deleteNeeds h x i = claimed (replay (x .frames)) + 8 + 6 * openHosts (replay (x .frames) .pending ++ (entry h (delete i) ∷ []))
 
-module _ (img : List ℕ) (r : Record) (h : Host) (msg reply : List ℕ) (x : Held) (q : Request) (y : Asks img r h msg x q) where
+module _ {N : ℕ} (img : List ℕ) (r : Record) (h : Host) (msg reply : List ℕ) (x : Held) (q : Request) (y : Asks N img r h msg x q) where
   abbrev afterMalformed : List Line
   afterMalformed =
-      line 8 (NoObject img r msg) ∷ line 9 (ShortReply msg reply) ∷ line 7 (NoRoom img r h msg) ∷ line 6 (Worn img r h msg) ∷ []
+      line 8 (NoObject N img r msg) ∷ line 9 (ShortReply msg reply) ∷ line 7 (NoRoom N img r h msg) ∷ line 6 (Worn N img r h msg) ∷ []
 
-  same : (w : Held) → Fresh img r w → w ≡ x
-  same w f = same-held img r (y .bytes) (is-allowed (length img) (y .length-ok)) w x f (y .is-held)
+  same : (w : Held) → Fresh N img r w → w ≡ x
+  same w f = same-held N img r (y .bytes) (is-allowed N (length img) (y .length-ok)) w x f (y .is-held)
 
-  past : (a : Answer) → Exactly (requestLines img r h msg reply) a → Exactly afterMalformed a
+  past : (a : Answer) → Exactly (requestLines N img r h msg reply) a → Exactly afterMalformed a
   past a (inl (n, _)) = absurd (n (y .length-ok))
   past a (inr (_, inl (l, _))) = absurd (omega (arith, l, y .host-ok))
   past a (inr (_, inr (_, inl (j, _)))) = absurd (subst InJob (y .is-idle) j)
@@ -86,62 +86,62 @@ module _ (img : List ℕ) (r : Record) (h : Host) (msg reply : List ℕ) (x : He
   asks-one s k = same-request msg q s (y .is-asked) k
 
   -- of a request that is no read and no log 7 and 6 alone are left
-  later : Changes q → (a : Answer) → Exactly afterMalformed a → Exactly (line 7 (NoRoom img r h msg) ∷ line 6 (Worn img r h msg) ∷ []) a
+  later : Changes q → (a : Answer) → Exactly afterMalformed a → Exactly (line 7 (NoRoom N img r h msg) ∷ line 6 (Worn N img r h msg) ∷ []) a
   later k a (inl (n, _)) = absurd (subst Changes (asks-one (Read (n .id)) (n .is-asked)) k)
   later k a (inr (_, inl (n, _))) = absurd (subst Changes (asks-one (Log (n .page)) (n .is-asked)) k)
   later k a (inr (_, inr (_, z))) = z
 
   -- what each line says of this request
-  full-put : (i : ObjectId) → q ≡ Put i → NoRoom img r h msg → sizeOf img < putNeeds h msg x i
+  full-put : (i : ObjectId) → q ≡ Put i → NoRoom N img r h msg → sizeOf N img < putNeeds h msg x i
   full-put i e (for-put w j f k l) =
       let g : Put i ≡ Put j = sym e ∙ asks-one (Put j) k in
-      subst₂ (λ (v : Held) (n : ObjectId). sizeOf img < putNeeds h msg v n) (same w f) (sym (same-put g)) l
+      subst₂ (λ (v : Held) (n : ObjectId). sizeOf N img < putNeeds h msg v n) (same w f) (sym (same-put g)) l
   full-put i e (for-delete w j f k l) = let g : Put i ≡ Delete j = sym e ∙ asks-one (Delete j) k in let v : _≡_ {A = ℕ} 0 1 = cc in absurd (omega arith)
 
-  full-delete : (i : ObjectId) → q ≡ Delete i → NoRoom img r h msg → sizeOf img < deleteNeeds h x i
+  full-delete : (i : ObjectId) → q ≡ Delete i → NoRoom N img r h msg → sizeOf N img < deleteNeeds h x i
   full-delete i e (for-put w j f k l) = let g : Delete i ≡ Put j = sym e ∙ asks-one (Put j) k in let v : _≡_ {A = ℕ} 0 1 = cc in absurd (omega arith)
   full-delete i e (for-delete w j f k l) =
       let g : Delete i ≡ Delete j = sym e ∙ asks-one (Delete j) k in
-      subst₂ (λ (v : Held) (n : ObjectId). sizeOf img < deleteNeeds h v n) (same w f) (sym (same-delete g)) l
+      subst₂ (λ (v : Held) (n : ObjectId). sizeOf N img < deleteNeeds h v n) (same w f) (sym (same-delete g)) l
 
-  full-change : NoRoom img r h msg → IsChange q
+  full-change : NoRoom N img r h msg → IsChange q
   full-change (for-put w j f k l) = subst IsChange (sym (asks-one (Put j) k)) tt
   full-change (for-delete w j f k l) = subst IsChange (sym (asks-one (Delete j) k)) tt
 
-  worn-out : (f : Frame) → frameFor h msg x q ≡ some f → Worn img r h msg → (sizeOf img < r .end + frameLen f) × (x .time ≡ 4294967295)
+  worn-out : (f : Frame) → frameFor h msg x q ≡ some f → Worn N img r h msg → (sizeOf N img < r .end + frameLen f) × (x .time ≡ 4294967295)
   worn-out f e w =
       let g : w .frame ≡ f =
       the-frame (sym (w .is-frame) ∙ ap₂ (frameFor h msg) (same (w .holding) (w .is-held)) (sym (asks-one (w .asked) (w .is-asked))) ∙ e) in (
-        subst (λ (n : Frame). sizeOf img < r .end + frameLen n) g (w .exceeds),
+        subst (λ (n : Frame). sizeOf N img < r .end + frameLen n) g (w .exceeds),
         sym (ap (λ (v : Held). v .time) (same (w .holding) (w .is-held))) ∙ w .last-time,
       )
 
 -- the first line that holds of the last two
-module _ {N W : Type 0} (a : Answer) where
-  room-line : Exactly (line 7 N ∷ line 6 W ∷ []) a → (numberOf a ≡ some 7) ↔ N
+module _ {R W : Type 0} (a : Answer) where
+  room-line : Exactly (line 7 R ∷ line 6 W ∷ []) a → (numberOf a ≡ some 7) ↔ R
   room-line (inl (n, f)) = ((λ e. n), (λ _. f))
   room-line (inr (g, inl (w, f))) = ((λ e. other-number a 6 7 (λ v. omega arith) f e), (λ n. absurd (g n)))
   room-line (inr (g, inr (k, z))) = ((λ e. absurd (number-accepted a 6 e z)), (λ n. absurd (g n)))
 
-  wear-line : Exactly (line 7 N ∷ line 6 W ∷ []) a → (numberOf a ≡ some 7 → ⊥) → (numberOf a ≡ some 6) ↔ W
+  wear-line : Exactly (line 7 R ∷ line 6 W ∷ []) a → (numberOf a ≡ some 7 → ⊥) → (numberOf a ≡ some 6) ↔ W
   wear-line (inl (n, f)) g = absurd (g f)
   wear-line (inr (g, inl (w, f))) k = ((λ e. w), (λ _. f))
   wear-line (inr (g, inr (k, z))) v = ((λ e. absurd (number-accepted a 5 e z)), (λ w. absurd (k w)))
 
 -- ---- every machine that keeps the table
 
-module _ {m : Machine} (p : Calls m) where
-  rest-lines : (img : List ℕ) (r : Record) (h : Host) (msg reply : List ℕ) (x : Held) (q : Request) → Asks img r h msg x q → Changes q
-      → Exactly (line 7 (NoRoom img r h msg) ∷ line 6 (Worn img r h msg) ∷ []) (m img r (request h msg reply) .answer)
+module _ {N : ℕ} {m : Machine} (p : Calls N m) where
+  rest-lines : (img : List ℕ) (r : Record) (h : Host) (msg reply : List ℕ) (x : Held) (q : Request) → Asks N img r h msg x q → Changes q
+      → Exactly (line 7 (NoRoom N img r h msg) ∷ line 6 (Worn N img r h msg) ∷ []) (m img r (request h msg reply) .answer)
   rest-lines img r h msg reply x q y k =
       let a : Answer = m img r (request h msg reply) .answer in
       later img r h msg reply x q y k a (past img r h msg reply x q y a (p .table img r (request h msg reply) (y .bytes)))
 
-  room-exactly : (img : List ℕ) (r : Record) (h : Host) (msg reply : List ℕ) (x : Held) (q : Request) → Asks img r h msg x q → Changes q
-      → (numberOf (m img r (request h msg reply) .answer) ≡ some 7) ↔ NoRoom img r h msg
+  room-exactly : (img : List ℕ) (r : Record) (h : Host) (msg reply : List ℕ) (x : Held) (q : Request) → Asks N img r h msg x q → Changes q
+      → (numberOf (m img r (request h msg reply) .answer) ≡ some 7) ↔ NoRoom N img r h msg
   room-exactly img r h msg reply x q y k = room-line (m img r (request h msg reply) .answer) (rest-lines img r h msg reply x q y k)
 
-  pub room-exact : RoomExact m
+  pub room-exact : RoomExact N m
   room-exact =
       record {
         of-put = λ img r h msg reply x i y.
@@ -154,7 +154,7 @@ module _ {m : Machine} (p : Calls m) where
         of-abort = λ img r h msg reply x y f. full-change img r h msg reply x Abort y (room-exactly img r h msg reply x Abort y tt .0 f);
       }
 
-  pub wear-exact : WearExact m
+  pub wear-exact : WearExact N m
   unfolding WearExact
   wear-exact img r h msg reply x q f y e n =
       let w = wear-line (m img r (request h msg reply) .answer) (rest-lines img r h msg reply x q y (framed q e)) n in (

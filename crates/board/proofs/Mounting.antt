@@ -1,11 +1,11 @@
 -- What an accepted mount does: each step lands, every prefix keeps what a mount finds, and it ends with the settled objects alone.
-use mathlib.Core.Path.{_≡_, refl, sym, ap, subst}
+use mathlib.Core.Path.{_≡_, refl, sym, ap, subst, _∙_}
 use mathlib.Core.List.{List, [], _∷_, map}
 use mathlib.Core.Bool.{Bool, true, false, false≢true}
-use Prim.Native.Nat.{ℕ, suc, _-_, _≤_, _<_}
+use Prim.Native.Nat.{ℕ, suc, _+_, _-_, _≤_, _<_}
 use native.Mathlib.Omega.{arith}
 use lib.ListN.{length}
-use Rattle.flash.specs.Flash.{erase, applyAll, blocks}
+use Rattle.flash.specs.Flash.{erase, applyAll}
 use Rattle.flash.proofs.Cases.{on-test}
 use Rattle.frame.specs.Frame.{Frame}
 use Rattle.frame.specs.Reader.{Tail, clean, cut, bad}
@@ -14,11 +14,11 @@ use Rattle.journal.specs.Block.{lastTime}
 use Rattle.journal.proofs.Room.{claimed-settled}
 use Rattle.board.specs.Record.{rest, idle}
 use Rattle.board.specs.Mount.{Store, allFound, wipeList, nextBlock, anyPending, needsTransfer}
-use Rattle.board.specs.Plan.{transferIf, mountPlan, mountedAt}
+use Rattle.board.specs.Plan.{transferIf, programs, mountPlan, mountedAt}
 use Rattle.board.proofs.Blocks.{wiped-besides}
-use Rattle.board.proofs.Images.{Sized, apply-append, length-all-steps}
-use Rattle.board.proofs.Lengths.{length-mount-moved, length-mount-stayed}
-use Rattle.board.proofs.Invariant.{Others, Lesser, Guard, StepLands}
+use Rattle.board.proofs.Images.{Sized, sized-last, apply-append, length-all-steps}
+use Rattle.board.proofs.Lengths.{length-mount-moved, length-mount-stayed, programs-mount-moved, programs-mount-stayed}
+use Rattle.board.proofs.Invariant.{Lessers, Guard, StepLands}
 use Rattle.board.proofs.Prefixes.{Each, each-append}
 use Rattle.board.proofs.Current.{Alone, After, Keeps, alone-after, valid-of, keeps-settled}
 use Rattle.board.proofs.Erasing.{erases-land, erases-guard, erases-alone}
@@ -44,9 +44,9 @@ needs-none fs (bad f) e = absurd (false≢true (sym e))
 
 -- ---- the plan
 
-module _ {s : ℕ} {img : List ℕ} (x : Store) (z : Sized s img) (h : x .number < blocks) (y : StoreThere s img x) (t : InTime x) where
+module _ {N : ℕ} {s : ℕ} {img : List ℕ} (x : Store) (z : Sized N s img) (h : x .number < N) (y : StoreThere s img x) (t : InTime x) where
   abbrev ks : List ℕ
-  ks = wipeList (x .number) (allFound img)
+  ks = wipeList (x .number) (allFound N img)
 
   abbrev st : State
   st = settledOnly (replay (x .frames))
@@ -55,54 +55,61 @@ module _ {s : ℕ} {img : List ℕ} (x : Store) (z : Sized s img) (h : x .number
   abbrev wiped : List ℕ
   wiped = applyAll s (map erase ks) img
 
-  alone : Alone s wiped (x .number) (x .time) (x .frames) (x .tail)
-  alone = erases-alone ks img z h y (wiped-besides (x .number) img) (wipes-others z (x .number))
+  alone : Alone N s wiped (x .number) (x .time) (x .frames) (x .tail)
+  alone = erases-alone ks img z h y (wiped-besides N (x .number) img) (wipes-others z (x .number))
 
-  pub mount-lands : Each s (StepLands s) (mountPlan (allFound img) x) img
+  pub mount-lands : Each s (StepLands s) (mountPlan N (allFound N img) x) img
   mount-lands =
-      each-append s (StepLands s) (map erase ks) (transferIf (needsTransfer (x .frames) (x .tail)) (x .number) (x .time) st) img (erases-land s ks img)
+      each-append s (StepLands s) (map erase ks) (transferIf N (needsTransfer (x .frames) (x .tail)) (x .number) (x .time) st) img (erases-land s ks img)
       (go (needsTransfer (x .frames) (x .tail)) t)
     where
-      go : (b : Bool) → (b ≡ true → x .time < lastTime) → Each s (StepLands s) (transferIf b (x .number) (x .time) st) wiped
+      go : (b : Bool) → (b ≡ true → x .time < lastTime) → Each s (StepLands s) (transferIf N b (x .number) (x .time) st) wiped
       go true l = transfer-lands alone st (moves-settled alone (l refl))
       go false l = λ j k. absurd (omega arith)
 
-  pub mount-keeps : {os : List Object} (u : Bool) → Keeps s (replay (x .frames)) os → Others (Lesser s img (x .time)) (x .number)
-      → Each s (Guard s os u) (mountPlan (allFound img) x) img
+  pub mount-keeps : {os : List Object} (u : Bool) → Keeps s (replay (x .frames)) os → Lessers N s img (x .time) (x .number)
+      → Each s (Guard N s os u) (mountPlan N (allFound N img) x) img
   mount-keeps {os} u p q =
-      each-append s (Guard s os u) (map erase ks) (transferIf (needsTransfer (x .frames) (x .tail)) (x .number) (x .time) st) img
-      (erases-guard u (x .number) ks img z h (wiped-besides (x .number) img) (valid-of y p) q) (go (needsTransfer (x .frames) (x .tail)) t)
+      each-append s (Guard N s os u) (map erase ks) (transferIf N (needsTransfer (x .frames) (x .tail)) (x .number) (x .time) st) img
+      (erases-guard u (x .number) ks img z h (wiped-besides N (x .number) img) (valid-of y p) q) (go (needsTransfer (x .frames) (x .tail)) t)
     where
-      go : (b : Bool) → (b ≡ true → x .time < lastTime) → Each s (Guard s os u) (transferIf b (x .number) (x .time) st) wiped
+      go : (b : Bool) → (b ≡ true → x .time < lastTime) → Each s (Guard N s os u) (transferIf N b (x .number) (x .time) st) wiped
       go true l = transfer-guard alone st (moves-settled alone (l refl)) u p (keeps-settled p)
       go false l = λ j k. absurd (omega arith)
 
-  pub mount-ends : After s (applyAll s (mountPlan (allFound img) x) img) (mountedAt (needsTransfer (x .frames) (x .tail)) (length img - 1) x) st
+  pub mount-ends : After N s (applyAll s (mountPlan N (allFound N img) x) img) (mountedAt N (needsTransfer (x .frames) (x .tail)) (length img - 1) x) st
   unfolding applyAll
   mount-ends =
-      subst (λ (i : List ℕ). After s i (mountedAt needs (length img - 1) x) st)
-      (sym (apply-append s (map erase ks) (transferIf needs (x .number) (x .time) st) img)) (go needs refl)
+      subst (λ (i : List ℕ). After N s i (mountedAt N needs (length img - 1) x) st)
+      (sym (apply-append s (map erase ks) (transferIf N needs (x .number) (x .time) st) img)) (go needs refl)
     where
       needs : Bool
       needs = needsTransfer (x .frames) (x .tail)
 
       long : length wiped ≡ suc (length img - 1)
-      long = omega (arith, length-all-steps s (map erase ks) img, z .two, z .low)
+      long = length-all-steps s (map erase ks) img ∙ sized-last z
 
-      go : (b : Bool) → needs ≡ b → After s (applyAll s (transferIf b (x .number) (x .time) st) wiped) (mountedAt b (length img - 1) x) st
+      go : (b : Bool) → needs ≡ b → After N s (applyAll s (transferIf N b (x .number) (x .time) st) wiped) (mountedAt N b (length img - 1) x) st
       go true e =
-          subst (λ (n : ℕ). After s (applyAll s (transferIf true (x .number) (x .time) st) wiped) (idle (rest (length img - 1) (nextBlock (x .number)) n)) st)
+          let after : List ℕ = applyAll s (transferIf N true (x .number) (x .time) st) wiped in
+          subst (λ (n : ℕ). After N s after (idle (rest N (length img - 1) (nextBlock N (x .number)) n)) st)
           (claimed-settled (replay (x .frames)))
           (transferred alone st (moves-settled alone (t e)) (length img - 1) long (roomy-settled alone))
       go false e =
           alone-after (length img - 1) st
-          (subst (λ (c : Tail). Alone s wiped (x .number) (x .time) (x .frames) c) (needs-clean (x .frames) (x .tail) e) alone) long
+          (subst (λ (c : Tail). Alone N s wiped (x .number) (x .time) (x .frames) c) (needs-clean (x .frames) (x .tail) e) alone) long
           (needs-none (x .frames) (x .tail) e) (roomy-settled alone)
 
-  -- at most S steps
-  pub mount-short : length (mountPlan (allFound img) x) ≤ s
+  -- K14: "Demand 1's bound leaves a mount's erases aside": at most S steps without them, and of them at most N
+  pub mount-short : length (programs (mountPlan N (allFound N img) x)) ≤ s
   mount-short =
-      let few : length ks ≤ 1 = wipes-few img (x .number) h in
       on-test (needsTransfer (x .frames) (x .tail))
-      (λ e. omega (arith, length-mount-moved (allFound img) x e, roomy-settled alone, claimed-settled (replay (x .frames))))
-      (λ e. omega (arith, length-mount-stayed (allFound img) x e, z .low))
+      (λ e. omega (arith, programs-mount-moved N (allFound N img) x e, roomy-settled alone, claimed-settled (replay (x .frames))))
+      (λ e. omega (arith, programs-mount-stayed N (allFound N img) x e))
+
+  pub mount-erases : length (mountPlan N (allFound N img) x) ≤ length (programs (mountPlan N (allFound N img) x)) + N
+  mount-erases =
+      let few : length ks < N = wipes-few N (x .number) img h in
+      on-test (needsTransfer (x .frames) (x .tail))
+      (λ e. omega (arith, few, length-mount-moved N (allFound N img) x e, programs-mount-moved N (allFound N img) x e))
+      (λ e. omega (arith, few, length-mount-stayed N (allFound N img) x e))

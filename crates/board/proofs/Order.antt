@@ -1,26 +1,25 @@
--- The order in which a format erases the blocks.
-use mathlib.Core.Path.{_≡_, refl, sym, ap, ap₂, subst, _∙_}
+-- The order in which a format erases the blocks: all of them, in number order but for the current one, which is last.
+use mathlib.Core.Path.{_≡_, refl, sym, ap, subst, _∙_}
 use mathlib.Core.List.{List, [], _∷_, _++_}
-use mathlib.Core.Bool.{Bool, true, false, _||_, cond}
-use Prim.Native.Nat.{ℕ, zero, suc, _<_}
+use mathlib.Core.Logic.{inl, inr}
+use mathlib.Core.Bool.{true, false}
+use Prim.Native.Nat.{ℕ, zero, suc, _+_, _≤_, _<_}
 use native.Mathlib.Omega.{arith}
-use lib.Dec.{eqb, ltb}
-use borrow.Author.Tests.{eq-eqb, ne-eqb, lt-ltb, le-ltb}
-use Rattle.flash.specs.Flash.{block, blocks, blockNumbers, sizeOf}
-use Rattle.flash.proofs.Cases.{on-order}
+use lib.Dec.{eqb}
+use lib.ListN.{length, length-append}
+use borrow.Author.Tests.{eqb-true, eqb-false}
+use Rattle.flash.specs.Flash.{numbersFrom, blockNumbers, block, sizeOf}
+use Rattle.flash.proofs.Cases.{on-test}
 use Rattle.frame.specs.Frame.{Frame}
 use Rattle.frame.specs.Reader.{Tail}
 use Rattle.journal.specs.Block.{BlockState, blank, inProgress, valid, foreign, blockState}
-use Rattle.board.specs.Mount.{nextBlock, Found, Store, stores, numbersBut, tied, orderFor, formatOrder}
+use Rattle.board.specs.Mount.{Store, allFound, stores, newest, numbersBut, tied, orderFor, formatOrder}
 use Rattle.board.specs.CutFormat.{Beside}
-use Rattle.board.proofs.Blocks.{Blocks}
-
--- a block that isn't valid
-abbrev pub Unread : BlockState → Type 0
-Unread blank = Unit {0}
-Unread inProgress = Unit {0}
-Unread (valid t fs c) = ⊥
-Unread (foreign e) = Unit {0}
+use Rattle.board.proofs.Numbers.{length-numbers, length-but}
+use Rattle.board.proofs.Blocks.{Blocks, Besides, besides-blocks}
+use Rattle.board.proofs.Erasing.{In}
+use Rattle.board.proofs.Found.{Among, Rising, newest-among, newest-most, newest-strict, Pair, tied-pair, store, Holds, among-holds, holds-among}
+use Rattle.board.proofs.Found.{stores-rise, stores-none}
 
 -- what is valid only with a smaller time
 pub beside-of : {t : ℕ} (a : BlockState) → ((u : ℕ) (fs : List Frame) (c : Tail) → a ≡ valid u fs c → u < t) → Beside t a
@@ -29,139 +28,173 @@ beside-of inProgress f = tt
 beside-of (valid u fs c) f = f u fs c refl
 beside-of (foreign e) f = tt
 
-pub unread-of : (a : BlockState) → ((u : ℕ) (fs : List Frame) (c : Tail) → a ≡ valid u fs c → ⊥) → Unread a
-unread-of blank f = tt
-unread-of inProgress f = tt
-unread-of (valid u fs c) f = f u fs c refl
-unread-of (foreign e) f = tt
+-- ---- lists of numbers
 
-abbrev pub foundIn : BlockState → BlockState → List Found
-foundIn a b = record { number = 0; state = a } ∷ record { number = 1; state = b } ∷ []
+blocks-from : (N a n : ℕ) → a + n ≤ N → Blocks N (numbersFrom a n)
+unfolding numbersFrom
+blocks-from N a zero h = tt
+blocks-from N a (suc n) h = (omega arith, blocks-from N (suc a) n (omega arith))
 
--- the order, by the blocks' states
-abbrev order : BlockState → BlockState → List ℕ
-order a b = orderFor (stores (foundIn a b))
+in-from : (a n j : ℕ) → a ≤ j → j < a + n → In j (numbersFrom a n)
+unfolding numbersFrom
+in-from a zero j l h = absurd (omega arith)
+in-from a (suc n) j l h =
+    on-test (eqb j a) (λ t. inl (eqb-true j a t)) (λ t. inr (in-from (suc a) n j (omega (arith, eqb-false j a t)) (omega arith)))
 
--- a list whose last is k, where no other has its time
-abbrev lastIf : Bool → ℕ → List ℕ
-lastIf c k = cond c blockNumbers (numbersBut k blockNumbers ++ (k ∷ []))
+besides-but : (N k : ℕ) (ns : List ℕ) → Blocks N ns → Besides N k (numbersBut k ns)
+besides-but N k [] b = tt
+besides-but N k (n ∷ ns) (h, b) = on-test (eqb k n) (λ t. rw t (besides-but N k ns b)) (λ t. rw t (h, eqb-false k n t, besides-but N k ns b))
 
-either : (b : Bool) → cond b false false ≡ false
-either true = refl
-either false = refl
+in-but : (k j : ℕ) (ns : List ℕ) → (j ≡ k → ⊥) → In j ns → In j (numbersBut k ns)
+in-but k j [] d i = i
+in-but k j (n ∷ ns) d (inl e) = on-test (eqb k n) (λ t. absurd (d (e ∙ sym (eqb-true k n t)))) (λ t. rw t (inl e))
+in-but k j (n ∷ ns) d (inr i) = on-test (eqb k n) (λ t. rw t (in-but k j ns d i)) (λ t. rw t (inr (in-but k j ns d i)))
 
-alone : (t k : ℕ) → lastIf (cond (eqb t t) false false) k ≡ lastIf false k
-alone t k = ap (λ (b : Bool). lastIf b k) (either (eqb t t))
+-- the blocks of an image but one
+pub but-besides : (N k : ℕ) → Besides N k (numbersBut k (blockNumbers N))
+but-besides N k = besides-but N k (blockNumbers N) (blocks-from N 0 N (omega arith))
 
-order-none : (a b : BlockState) → Unread a → Unread b → order a b ≡ 0 ∷ 1 ∷ []
-order-none (valid t fs c) b x y = absurd x
-order-none blank (valid t fs c) x y = absurd y
-order-none inProgress (valid t fs c) x y = absurd y
-order-none (foreign e) (valid t fs c) x y = absurd y
-order-none blank blank x y = refl
-order-none blank inProgress x y = refl
-order-none blank (foreign f) x y = refl
-order-none inProgress blank x y = refl
-order-none inProgress inProgress x y = refl
-order-none inProgress (foreign f) x y = refl
-order-none (foreign e) blank x y = refl
-order-none (foreign e) inProgress x y = refl
-order-none (foreign e) (foreign f) x y = refl
-
--- two valid ones
-abbrev pairOrder : Bool → ℕ → ℕ → List ℕ
-pairOrder l t u =
-    cond l (lastIf (cond (eqb u t) (eqb u u || false) (cond (eqb u u) false false)) 1)
-    (lastIf (cond (eqb t t) (eqb t u || false) (cond (eqb t u) false false)) 0)
-
-order-pair : (t u : ℕ) (fs gs : List Frame) (c d : Tail) → order (valid t fs c) (valid u gs d) ≡ pairOrder (ltb t u) t u
-order-pair t u fs gs c d = go (ltb t u)
-  where
-    x : Store
-    x = record { number = 0; time = t; frames = fs; tail = c }
-
-    y : Store
-    y = record { number = 1; time = u; frames = gs; tail = d }
-
-    go : (l : Bool) → lastIf (tied (cond l y x .time) (x ∷ y ∷ [])) (cond l y x .number) ≡ pairOrder l t u
-    go true = refl
-    go false = refl
-
-pub order-equal : (t : ℕ) (fs gs : List Frame) (c d : Tail) → order (valid t fs c) (valid t gs d) ≡ 0 ∷ 1 ∷ []
-order-equal t fs gs c d = order-pair t t fs gs c d ∙ rw (le-ltb t t (omega arith), eq-eqb t t refl)
-
-order-first : (t : ℕ) (fs : List Frame) (c : Tail) (b : BlockState) → Beside t b → order (valid t fs c) b ≡ 1 ∷ 0 ∷ []
-order-first t fs c blank o = alone t 0
-order-first t fs c inProgress o = alone t 0
-order-first t fs c (foreign e) o = alone t 0
-order-first t fs c (valid u gs d) o =
-    order-pair t u fs gs c d ∙ rw (le-ltb t u (omega arith), eq-eqb t t refl, ne-eqb t u (λ e. omega arith))
-
-order-second : (t : ℕ) (fs : List Frame) (c : Tail) (a : BlockState) → Beside t a → order a (valid t fs c) ≡ 0 ∷ 1 ∷ []
-order-second t fs c blank o = alone t 1
-order-second t fs c inProgress o = alone t 1
-order-second t fs c (foreign e) o = alone t 1
-order-second t fs c (valid u gs d) o =
-    order-pair u t gs fs d c ∙ rw (lt-ltb u t o, ne-eqb t u (λ e. omega arith)) (alone t 1)
+pub but-every : (N k j : ℕ) → j < N → (j ≡ k → ⊥) → In j (numbersBut k (blockNumbers N))
+but-every N k j h d = in-but k j (blockNumbers N) d (in-from 0 N j (omega arith) (omega arith))
 
 -- ---- of an image
 
-module _ (img : List ℕ) where
-  abbrev State : ℕ → BlockState
-  State k = blockState (block (sizeOf img) k img)
+abbrev pub StateOf : ℕ → List ℕ → ℕ → BlockState
+StateOf N img k = blockState (block (sizeOf N img) k img)
 
-  order-by : {a b : BlockState} → State 0 ≡ a → State 1 ≡ b → formatOrder img ≡ order a b
+-- block k is the current one: valid, and every other valid one has a smaller time
+pub record Newest (N : ℕ) (img : List ℕ) (k : ℕ) : Type 0 where
+  pub time : ℕ
+  pub frames : List Frame
+  pub tail : Tail
+  pub there : k < N
+  pub is-valid : StateOf N img k ≡ valid time frames tail
+  pub others : (j : ℕ) → j < N → (j ≡ k → ⊥) → Beside time (StateOf N img j)
+
+-- K14: "Format erases all in number order, but the current block last if there is one"
+pub data Order (N : ℕ) (img : List ℕ) : Type 0 where
+  by-number : ((k : ℕ) → Newest N img k → ⊥) → formatOrder N img ≡ blockNumbers N → Order N img
+  last-is : (k : ℕ) → Newest N img k → formatOrder N img ≡ numbersBut k (blockNumbers N) ++ (k ∷ []) → Order N img
+
+module _ (N : ℕ) (img : List ℕ) where
+  order-is : {xs : List Store} → stores (allFound N img) ≡ xs → formatOrder N img ≡ orderFor N xs
   unfolding formatOrder
-  order-by p q = ap₂ order p q
+  order-is e = ap (orderFor N) e
 
-  -- the current block last
-  pub order-last : (k t : ℕ) (fs : List Frame) (c : Tail) → k < blocks → State k ≡ valid t fs c → Beside t (State (nextBlock k))
-      → formatOrder img ≡ nextBlock k ∷ k ∷ []
-  order-last zero t fs c h e o = order-by e refl ∙ order-first t fs c (State 1) o
-  order-last (suc zero) t fs c h e o = order-by refl e ∙ order-second t fs c (State 0) o
-  order-last (suc (suc k)) t fs c h e o = absurd (omega arith)
+  module _ {y : Store} {ys : List Store} (e : stores (allFound N img) ≡ y ∷ ys) where
+    abbrev x : Store
+    x = newest y ys
 
-  -- number order
-  pub order-unread : Unread (State 0) → Unread (State 1) → formatOrder img ≡ 0 ∷ 1 ∷ []
-  order-unread x y = order-by refl refl ∙ order-none (State 0) (State 1) x y
+    holds : (p : Store) → Among p (y ∷ ys) → Holds (StateOf N img) 0 N p
+    holds p i = among-holds (StateOf N img) 0 N p (subst (Among p) (sym e) i)
 
-  pub order-tie : (t : ℕ) (fs gs : List Frame) (c d : Tail) → State 0 ≡ valid t fs c → State 1 ≡ valid t gs d → formatOrder img ≡ 0 ∷ 1 ∷ []
-  order-tie t fs gs c d p q = order-by p q ∙ order-equal t fs gs c d
+    among : (j t : ℕ) (fs : List Frame) (c : Tail) → j < N → StateOf N img j ≡ valid t fs c → Among (store j t fs c) (y ∷ ys)
+    among j t fs c h v = subst (Among (store j t fs c)) e (holds-among (StateOf N img) 0 N j t fs c (omega arith) (omega arith) v)
 
--- ---- either way both blocks
+    -- no other has its time
+    newest-there : tied (x .time) (y ∷ ys) ≡ false → Newest N img (x .number)
+    newest-there t =
+        let h : Holds (StateOf N img) 0 N x = holds x (newest-among y ys) in
+        record {
+          time = x .time;
+          frames = x .frames;
+          tail = x .tail;
+          there = omega (arith, h .below);
+          is-valid = h .is-valid;
+          others = λ j l d. beside-of (StateOf N img j) (λ u fs c v. newest-strict y ys t (store j u fs c) (among j u fs c l v) d);
+        }
 
-pub data Both (l : List ℕ) : Type 0 where
-  rising : l ≡ 0 ∷ 1 ∷ [] → Both l
-  falling : l ≡ 1 ∷ 0 ∷ [] → Both l
+    -- one of two that have it is not k
+    newest-not : tied (x .time) (y ∷ ys) ≡ true → (k : ℕ) → Newest N img k → ⊥
+    newest-not t k n =
+        let p : Pair (x .time) (y ∷ ys) = tied-pair (x .time) (y ∷ ys) (subst Rising e (stores-rise (StateOf N img) 0 N)) t in
+        on-test (eqb (p .low .number) k)
+        (λ a. other (p .high) (p .high-in) (p .high-time) (λ b. omega (arith, p .rises, eqb-true (p .low .number) k a)))
+        (λ a. other (p .low) (p .low-in) (p .low-time) (eqb-false (p .low .number) k a))
+      where
+        other : (q : Store) → Among q (y ∷ ys) → q .time ≡ x .time → (q .number ≡ k → ⊥) → ⊥
+        other q i a d =
+            let h : Holds (StateOf N img) 0 N q = holds q i in
+            let less : q .time < n .time = subst (Beside (n .time)) (h .is-valid) (n .others (q .number) (omega (arith, h .below)) d) in
+            omega (arith, newest-most y ys (store k (n .time) (n .frames) (n .tail)) (among k (n .time) (n .frames) (n .tail) (n .there) (n .is-valid)))
 
-pub order-both : (img : List ℕ) → Both (formatOrder img)
-order-both img = go (State img 0) (State img 1) refl refl
+  pub order-of : Order N img
+  order-of = go (stores (allFound N img)) refl
+    where
+      go : (xs : List Store) → stores (allFound N img) ≡ xs → Order N img
+      go [] e =
+          by-number (λ k n. stores-none (StateOf N img) 0 N e k (n .time) (n .frames) (n .tail) (omega arith) (omega (arith, n .there)) (n .is-valid))
+          (order-is e)
+      go (y ∷ ys) e =
+          on-test (tied (newest y ys .time) (y ∷ ys)) (λ t. by-number (newest-not e t) (order-is e ∙ rw t))
+          (λ t. last-is (newest y ys .number) (newest-there e t) (order-is e ∙ rw t))
+
+-- ---- one block at most is the current one
+
+pub newest-one : {N k j : ℕ} {img : List ℕ} → Newest N img k → Newest N img j → k ≡ j
+newest-one {N} {k} {j} a b = on-test (eqb k j) (eqb-true k j) (λ t. absurd (clash (eqb-false k j t)))
   where
-    pair : (t u : ℕ) (fs gs : List Frame) (c d : Tail) → State img 0 ≡ valid t fs c → State img 1 ≡ valid u gs d → Both (formatOrder img)
-    pair t u fs gs c d p q =
-        on-order t u
-        (λ _ h. rising (order-by img p q ∙ order-second u gs d (valid t fs c) h))
-        (λ _ h. rising (order-tie img t fs gs c d p (q ∙ ap (λ (n : ℕ). valid n gs d) (sym h))))
-        (λ _ h. falling (order-by img p q ∙ order-first t fs c (valid u gs d) h))
+    clash : (k ≡ j → ⊥) → ⊥
+    clash d =
+        let up : b .time < a .time = subst (Beside (a .time)) (b .is-valid) (a .others j (b .there) (λ e. d (sym e))) in
+        let down : a .time < b .time = subst (Beside (b .time)) (a .is-valid) (b .others k (a .there) d) in
+        omega arith
 
-    go : (a b : BlockState) → State img 0 ≡ a → State img 1 ≡ b → Both (formatOrder img)
-    go (valid t fs c) (valid u gs d) p q = pair t u fs gs c d p q
-    go (valid t fs c) blank p q = falling (order-by img p q ∙ order-first t fs c blank tt)
-    go (valid t fs c) inProgress p q = falling (order-by img p q ∙ order-first t fs c inProgress tt)
-    go (valid t fs c) (foreign e) p q = falling (order-by img p q ∙ order-first t fs c (foreign e) tt)
-    go blank (valid t fs c) p q = rising (order-by img p q ∙ order-second t fs c blank tt)
-    go inProgress (valid t fs c) p q = rising (order-by img p q ∙ order-second t fs c inProgress tt)
-    go (foreign e) (valid t fs c) p q = rising (order-by img p q ∙ order-second t fs c (foreign e) tt)
-    go blank blank p q = rising (order-by img p q)
-    go blank inProgress p q = rising (order-by img p q)
-    go blank (foreign f) p q = rising (order-by img p q)
-    go inProgress blank p q = rising (order-by img p q)
-    go inProgress inProgress p q = rising (order-by img p q)
-    go inProgress (foreign f) p q = rising (order-by img p q)
-    go (foreign e) blank p q = rising (order-by img p q)
-    go (foreign e) inProgress p q = rising (order-by img p q)
-    go (foreign e) (foreign f) p q = rising (order-by img p q)
+pub order-last : {N k : ℕ} {img : List ℕ} → Newest N img k → formatOrder N img ≡ numbersBut k (blockNumbers N) ++ (k ∷ [])
+order-last {N} {k} {img} n = go (order-of N img)
+  where
+    go : Order N img → formatOrder N img ≡ numbersBut k (blockNumbers N) ++ (k ∷ [])
+    go (by-number f e) = absurd (f k n)
+    go (last-is j m e) = subst (λ (i : ℕ). formatOrder N img ≡ numbersBut i (blockNumbers N) ++ (i ∷ [])) (newest-one m n) e
 
-pub both-blocks : {l : List ℕ} → Both l → Blocks l
-both-blocks (rising e) = subst Blocks (sym e) (omega arith, (omega arith, tt))
-both-blocks (falling e) = subst Blocks (sym e) (omega arith, (omega arith, tt))
+pub order-rises : {N : ℕ} {img : List ℕ} → ((k : ℕ) → Newest N img k → ⊥) → formatOrder N img ≡ blockNumbers N
+order-rises {N} {img} f = go (order-of N img)
+  where
+    go : Order N img → formatOrder N img ≡ blockNumbers N
+    go (by-number g e) = e
+    go (last-is j m e) = absurd (f j m)
+
+-- ---- either way every block, once
+
+blocks-snoc : {N : ℕ} (k : ℕ) (ns : List ℕ) → Blocks N ns → k < N → Blocks N (ns ++ (k ∷ []))
+blocks-snoc k [] b h = (h, tt)
+blocks-snoc k (n ∷ ns) (l, b) h = (l, blocks-snoc k ns b h)
+
+in-snoc : (j k : ℕ) (ns : List ℕ) → ((j ≡ k → ⊥) → In j ns) → In j (ns ++ (k ∷ []))
+in-snoc j k ns f = on-test (eqb j k) (λ t. last ns (eqb-true j k t)) (λ t. front ns (f (eqb-false j k t)))
+  where
+    last : (ns : List ℕ) → j ≡ k → In j (ns ++ (k ∷ []))
+    last [] e = inl e
+    last (n ∷ ns) e = inr (last ns e)
+
+    front : (ns : List ℕ) → In j ns → In j (ns ++ (k ∷ []))
+    front [] i = absurd i
+    front (n ∷ ns) (inl e) = inl e
+    front (n ∷ ns) (inr i) = inr (front ns i)
+
+length-last : (N k : ℕ) → k < N → length (numbersBut k (blockNumbers N) ++ (k ∷ [])) ≡ N
+length-last N k h = length-append (numbersBut k (blockNumbers N)) (k ∷ []) ∙ omega (arith, length-but N k h)
+
+module _ (N : ℕ) (img : List ℕ) where
+  pub order-blocks : Blocks N (formatOrder N img)
+  order-blocks = go (order-of N img)
+    where
+      go : Order N img → Blocks N (formatOrder N img)
+      go (by-number f e) = subst (Blocks N) (sym e) (blocks-from N 0 N (omega arith))
+      go (last-is k n e) =
+          let ks : List ℕ = numbersBut k (blockNumbers N) in
+          subst (Blocks N) (sym e) (blocks-snoc k ks (besides-blocks N k ks (but-besides N k)) (n .there))
+
+  pub order-every : (j : ℕ) → j < N → In j (formatOrder N img)
+  order-every j h = go (order-of N img)
+    where
+      go : Order N img → In j (formatOrder N img)
+      go (by-number f e) = subst (In j) (sym e) (in-from 0 N j (omega arith) (omega arith))
+      go (last-is k n e) = subst (In j) (sym e) (in-snoc j k (numbersBut k (blockNumbers N)) (but-every N k j h))
+
+  pub length-order : length (formatOrder N img) ≡ N
+  length-order = go (order-of N img)
+    where
+      go : Order N img → length (formatOrder N img) ≡ N
+      go (by-number f e) = ap length e ∙ length-numbers 0 N
+      go (last-is k n e) = ap length e ∙ length-last N k (n .there)

@@ -7,7 +7,7 @@ use native.Mathlib.Omega.{arith}
 use lib.Dec.{ltb}
 use lib.ListN.{length, getD, length-map, List·getD-map, List·getD-append, replicate}
 use borrow.Author.Tests.{lt-ltb, le-ltb, ltb-true, ltb-false}
-use Rattle.flash.specs.Flash.{Step, program, erase, blocks, blockOf, within, apply, applyAll, Write, write, writeStep, writes}
+use Rattle.flash.specs.Flash.{sizeIn, isCount, Step, program, erase, blockOf, within, apply, applyAll, Write, write, writeStep, writes}
 use Rattle.flash.proofs.Cases.{on-test}
 use Rattle.flash.proofs.Image.{length-apply}
 use Rattle.flash.proofs.Programming.{length-writes, writes-at}
@@ -24,12 +24,12 @@ use Rattle.board.specs.Step.{enter, enterAppend, enterDrop, landed, onwa
 use Rattle.board.specs.Exec.{exec}
 use Rattle.board.specs.Plan.{Follows, onBlock}
 use Rattle.board.proofs.Images.{length-all-steps}
-use Rattle.board.proofs.Pipeline.{inside-yes, follows-step, Runs, follows-stage}
+use Rattle.board.proofs.Pipeline.{inside-yes, Shape, same-shape, follows-step, Runs, follows-stage}
 
 -- a record in a job
-abbrev pub jobAt : ℕ → ℕ → ℕ → List ℕ → Job → List ℕ → Stage → Cursor → List ℕ → Record
-jobAt l k e places j frame st c u =
-    record { phase = Busy st; last = l; block = k; end = e; places = places; job = j; cursor = c; unit = u; frame = frame }
+abbrev pub jobAt : ℕ → ℕ → ℕ → ℕ → List ℕ → Job → List ℕ → Stage → Cursor → List ℕ → Record
+jobAt N l k e places j frame st c u =
+    record { phase = Busy st; blocks = N; last = l; block = k; end = e; places = places; job = j; cursor = c; unit = u; frame = frame }
 
 -- the erase of the old block
 abbrev pub dropped : Job → ℕ → List Step
@@ -58,11 +58,11 @@ no-steps k o (b ∷ bs) q = absurd (omega arith)
 step-of : (k o : ℕ) (bs : List ℕ) (i : ℕ) → i < length bs → getD (onBlock k (writes o bs)) i (program k 0 0) ≡ program k (o + i) (getD bs i 0)
 step-of k o bs i h = List·getD-map (writeStep k) (writes o bs) i (write 0 0) ∙ ap (writeStep k) (writes-at o bs i (write 0 0) h)
 
-pub step-inside : (s k o : ℕ) (bs : List ℕ) → k < blocks → o + length bs ≤ s → (i : ℕ) → i < length (onBlock k (writes o bs))
-    → within s (getD (onBlock k (writes o bs)) i (program k 0 0)) ≡ true
-step-inside s k o bs h room i q =
+pub step-inside : {N : ℕ} (s k o : ℕ) (bs : List ℕ) → isCount N ≡ true → k < N → o + length bs ≤ s → (i : ℕ) → i < length (onBlock k (writes o bs))
+    → within N s (getD (onBlock k (writes o bs)) i (program k 0 0)) ≡ true
+step-inside {N} s k o bs c h room i q =
     let n : i < length bs = omega (arith, length-steps k o bs) in
-    ap (within s) (step-of k o bs i n) ∙ inside-yes s (program k (o + i) (getD bs i 0)) h (omega arith)
+    ap (within N s) (step-of k o bs i n) ∙ inside-yes s (program k (o + i) (getD bs i 0)) c h (omega arith)
 
 -- the same from a buffer
 pub buffered : (k o : ℕ) (bs : List ℕ) (i : ℕ) → i < length (onBlock k (writes o bs))
@@ -75,11 +75,12 @@ buffered k o bs i h =
 pub on-block : (k : ℕ) (ws : List Write) (i : ℕ) (w : Write) → blockOf (getD (onBlock k ws) i (writeStep k w)) ≡ k
 on-block k ws i w = ap blockOf (List·getD-map (writeStep k) ws i w)
 
-pub marks-inside : (s k : ℕ) (ws : List Write) (w : Write) → k < blocks → ((i : ℕ) → i < length ws → getD ws i w .at < s) → (i : ℕ) → i < length (onBlock k ws)
-    → within s (getD (onBlock k ws) i (writeStep k w)) ≡ true
-marks-inside s k ws w h o i q =
-    ap (within s) (List·getD-map (writeStep k) ws i w)
-    ∙ inside-yes s (writeStep k (getD ws i w)) h (o i (omega (arith, length-map ws (writeStep k))))
+pub marks-inside : {N : ℕ} (s k : ℕ) (ws : List Write) (w : Write) → isCount N ≡ true → k < N → ((i : ℕ) → i < length ws → getD ws i w .at < s) → (i : ℕ)
+    → i < length (onBlock k ws)
+    → within N s (getD (onBlock k ws) i (writeStep k w)) ≡ true
+marks-inside {N} s k ws w c h o i q =
+    ap (within N s) (List·getD-map (writeStep k) ws i w)
+    ∙ inside-yes s (writeStep k (getD ws i w)) c h (o i (omega (arith, length-map ws (writeStep k))))
 
 seal-at : (time i : ℕ) → i < markWrites → sealWrite time i .at < headerLen
 unfolding writes
@@ -94,85 +95,90 @@ pub length-seal : (k time : ℕ) → length (onBlock k (sealWrites time)) ≡ ma
 unfolding writes
 length-seal k time = refl
 
-module _ (l s : ℕ) (half : suc l / blocks ≡ s) where
+module _ {N : ℕ} (l s : ℕ) (shape : Shape N l s) where
   -- ---- the frame appended
 
-  module _ (k e : ℕ) (places : List ℕ) (j : Job) (bytes : List ℕ) (size : j .size ≡ length bytes) (here : k < blocks) (room : e + length bytes ≤ s) where
+  module _ (k e : ℕ) (places : List ℕ) (j : Job) (bytes : List ℕ) (size : j .size ≡ length bytes) (here : k < N) (room : e + length bytes ≤ s) where
     appends : (a d so z o : ℕ) (u : List ℕ)
-        → Runs l s Append (λ i. jobAt l k e places j (buffer bytes) Append (cursor i a d so z o) u) (λ img. idle (rest l k (e + length bytes)))
+        → Runs N l s Append (λ i. jobAt N l k e places j (buffer bytes) Append (cursor i a d so z o) u) (λ img. idle (rest N l k (e + length bytes)))
         (onBlock k (writes e bytes)) (program k 0 0)
     unfolding advance
     appends a d so z o u =
         record {
           phase = λ i. refl;
+          blocks = λ i. refl;
           last = λ i. refl;
           acts = λ i h. buffered k e bytes i h;
-          inside = step-inside s k e bytes here room;
+          inside = step-inside s k e bytes (shape .count) here room;
           goes = λ i img h.
-              onward-on Append (j .size) (jobAt l k e places j (buffer bytes) Append (cursor i a d so z o) u) (idle (rest l k (e + j .size)))
+              onward-on Append (j .size) (jobAt N l k e places j (buffer bytes) Append (cursor i a d so z o) u) (idle (rest N l k (e + j .size)))
               (omega (arith, length-steps k e bytes));
           ends = λ i img h.
-              onward-off Append (j .size) (jobAt l k e places j (buffer bytes) Append (cursor i a d so z o) u) (idle (rest l k (e + j .size)))
-              (omega (arith, length-steps k e bytes)) ∙ ap (λ (n : ℕ). idle (rest l k (e + n))) size;
+              onward-off Append (j .size) (jobAt N l k e places j (buffer bytes) Append (cursor i a d so z o) u) (idle (rest N l k (e + j .size)))
+              (omega (arith, length-steps k e bytes)) ∙ ap (λ (n : ℕ). idle (rest N l k (e + n))) size;
         }
 
     pub follows-append : (st : Stage) (c : Cursor) (u img : List ℕ) → length img ≡ suc l
-        → Follows exec img (enterAppend (jobAt l k e places j (buffer bytes) st c u)) (onBlock k (writes e bytes)) (idle (rest l k (e + length bytes)))
+        → Follows N (exec N) img (enterAppend (jobAt N l k e places j (buffer bytes) st c u)) (onBlock k (writes e bytes))
+        (idle (rest N l k (e + length bytes)))
     unfolding enterAppend
     follows-append st c u img q =
-        let r : Record = jobAt l k e places j (buffer bytes) st c u in
+        let r : Record = jobAt N l k e places j (buffer bytes) st c u in
         let steps : List Step = onBlock k (writes e bytes) in
-        let done : Record = idle (rest l k (e + length bytes)) in
+        let done : Record = idle (rest N l k (e + length bytes)) in
         on-test (ltb 0 (j .size))
         (λ t.
-        subst (λ (b : Bool). Follows exec img (cond b (enter Append r) (idle (rest l k e))) steps done) (sym t)
-        (subst (λ (xs : List Step). Follows exec img (enter Append r) xs done) (append-nil steps)
-        (follows-stage l s Append (λ i. jobAt l k e places j (buffer bytes) Append (cursor i (c .at) (c .id) (c .source) (c .size) (c .off)) u)
+        subst (λ (b : Bool). Follows N (exec N) img (cond b (enter Append r) (idle (rest N l k e))) steps done) (sym t)
+        (subst (λ (xs : List Step). Follows N (exec N) img (enter Append r) xs done) (append-nil steps)
+        (follows-stage l s Append (λ i. jobAt N l k e places j (buffer bytes) Append (cursor i (c .at) (c .id) (c .source) (c .size) (c .off)) u)
         (λ i. done) steps
-        (program k 0 0) half (appends (c .at) (c .id) (c .source) (c .size) (c .off) u) [] done (length bytes - 1) img
+        (program k 0 0) shape (appends (c .at) (c .id) (c .source) (c .size) (c .off) u) [] done (length bytes - 1) img
         (omega (arith, length-steps k e bytes, ltb-true 0 (j .size) t)) q refl)))
         (λ t.
         let n : length bytes ≡ 0 = omega (arith, ltb-false 0 (j .size) t) in
         let z : e ≡ e + length bytes = omega arith in
-        subst (λ (b : Bool). Follows exec img (cond b (enter Append r) (idle (rest l k e))) steps done) (sym t)
-        (subst (λ (xs : List Step). Follows exec img (idle (rest l k e)) xs done) (sym (no-steps k e bytes n)) (ap (λ (n : ℕ). idle (rest l k n)) z)))
+        subst (λ (b : Bool). Follows N (exec N) img (cond b (enter Append r) (idle (rest N l k e))) steps done) (sym t)
+        (subst (λ (xs : List Step). Follows N (exec N) img (idle (rest N l k e)) xs done) (sym (no-steps k e bytes n)) (ap (λ (n : ℕ). idle (rest N l k n)) z)))
 
   -- ---- the old block erased, the new one sealed
 
-  module _ (k e : ℕ) (places : List ℕ) (j : Job) (bytes : List ℕ) (size : j .size ≡ length bytes) (here : k < blocks) (there : j .target < blocks) where
+  module _ (k e : ℕ) (places : List ℕ) (j : Job) (bytes : List ℕ) (size : j .size ≡ length bytes) (here : k < N) (there : j .target < N) where
     follows-drop : (st : Stage) (i a d so z o : ℕ) (u img : List ℕ) → length img ≡ suc l → 0 < s → a + length bytes ≤ s
-        → Follows exec img (enterDrop (jobAt l k e places j (buffer bytes) st (cursor i a d so z o) u)) (dropped j k ++ onBlock (j .target) (writes a bytes))
-        (idle (rest l (j .target) (a + length bytes)))
+        → Follows N (exec N) img (enterDrop (jobAt N l k e places j (buffer bytes) st (cursor i a d so z o) u))
+        (dropped j k ++ onBlock (j .target) (writes a bytes))
+        (idle (rest N l (j .target) (a + length bytes)))
     unfolding enterDrop advance
     follows-drop st i a d so z o u img q p room =
-        let r : Record = jobAt l k e places j (buffer bytes) st (cursor i a d so z o) u in
+        let r : Record = jobAt N l k e places j (buffer bytes) st (cursor i a d so z o) u in
         let steps : List Step = onBlock (j .target) (writes a bytes) in
-        let done : Record = idle (rest l (j .target) (a + length bytes)) in
+        let done : Record = idle (rest N l (j .target) (a + length bytes)) in
         let app : (s′ : Stage) (c′ : Cursor) (img′ : List ℕ) → length img′ ≡ suc l
-        → Follows exec img′ (enterAppend (jobAt l (j .target) a places j (buffer bytes) s′ c′ u)) steps done =
+        → Follows N (exec N) img′ (enterAppend (jobAt N l (j .target) a places j (buffer bytes) s′ c′ u)) steps done =
         λ s′ c′ img′ q′. follows-append (j .target) a places j bytes size there room s′ c′ u img′ q′ in
         on-test (j .drops)
         (λ t.
-        subst (λ (b : Bool). Follows exec img (cond b (enter Drop r) (enterAppend (landed r))) (cond b (erase k ∷ []) [] ++ steps) done) (sym t)
-        (follows-step s Drop img (enter Drop r) (enterAppend (jobAt l (j .target) a places j (buffer bytes) Drop (cursor 0 a d so z o) u)) (erase k) steps done
-        (ap (λ (m : ℕ). m / blocks) q ∙ half) refl q refl (inside-yes s (erase k) here p) refl
+        subst (λ (b : Bool). Follows N (exec N) img (cond b (enter Drop r) (enterAppend (landed r))) (cond b (erase k ∷ []) [] ++ steps) done) (sym t)
+        (follows-step N s Drop img (enter Drop r) (enterAppend (jobAt N l (j .target) a places j (buffer bytes) Drop (cursor 0 a d so z o) u))
+        (erase k) steps done
+        (ap (sizeIn N) q ∙ shape .size) refl (same-shape (length img) (enter Drop r) q refl) refl (inside-yes s (erase k) (shape .count) here p) refl
         (app Drop (cursor 0 a d so z o) (apply s (erase k) img) (length-apply s (erase k) img ∙ q))))
         (λ t.
-        subst (λ (b : Bool). Follows exec img (cond b (enter Drop r) (enterAppend (landed r))) (cond b (erase k ∷ []) [] ++ steps) done) (sym t)
+        subst (λ (b : Bool). Follows N (exec N) img (cond b (enter Drop r) (enterAppend (landed r))) (cond b (erase k ∷ []) [] ++ steps) done) (sym t)
         (app st (cursor i a d so z o) img q))
 
     seals : (a d so z o : ℕ) (u : List ℕ) → headerLen ≤ s
-        → Runs l s Seal (λ i. jobAt l k e places j (buffer bytes) Seal (cursor i a d so z o) u)
-        (λ img. enterDrop (jobAt l k e places j (buffer bytes) Seal (cursor 4 a d so z o) u)) (onBlock (j .target) (sealWrites (j .time)))
+        → Runs N l s Seal (λ i. jobAt N l k e places j (buffer bytes) Seal (cursor i a d so z o) u)
+        (λ img. enterDrop (jobAt N l k e places j (buffer bytes) Seal (cursor 4 a d so z o) u)) (onBlock (j .target) (sealWrites (j .time)))
         (writeStep (j .target) (write stateAt validData))
     unfolding advance
     seals a d so z o u p =
-        let r : ℕ → Record = λ i. jobAt l k e places j (buffer bytes) Seal (cursor i a d so z o) u in
+        let r : ℕ → Record = λ i. jobAt N l k e places j (buffer bytes) Seal (cursor i a d so z o) u in
         record {
           phase = λ i. refl;
+          blocks = λ i. refl;
           last = λ i. refl;
           acts = λ i h. sym (List·getD-map (writeStep (j .target)) (sealWrites (j .time)) i (write stateAt validData));
-          inside = marks-inside s (j .target) (sealWrites (j .time)) (write stateAt validData) there
+          inside = marks-inside s (j .target) (sealWrites (j .time)) (write stateAt validData) (shape .count) there
               (λ i h. omega (
                 arith,
                 seal-at (j .time) i (omega
@@ -185,12 +191,12 @@ module _ (l s : ℕ) (half : suc l / blocks ≡ s) where
         }
 
     pub follows-seal : (st : Stage) (i a d so z o : ℕ) (u img : List ℕ) → length img ≡ suc l → headerLen ≤ s → a + length bytes ≤ s
-        → Follows exec img (enter Seal (jobAt l k e places j (buffer bytes) st (cursor i a d so z o) u)) (sealing j k bytes a)
-        (idle (rest l (j .target) (a + length bytes)))
+        → Follows N (exec N) img (enter Seal (jobAt N l k e places j (buffer bytes) st (cursor i a d so z o) u)) (sealing j k bytes a)
+        (idle (rest N l (j .target) (a + length bytes)))
     follows-seal st i a d so z o u img q p room =
         let steps : List Step = onBlock (j .target) (sealWrites (j .time)) in
-        follows-stage l s Seal (λ n. jobAt l k e places j (buffer bytes) Seal (cursor n a d so z o) u)
-        (λ img′. enterDrop (jobAt l k e places j (buffer bytes) Seal (cursor 4 a d so z o) u)) steps (writeStep (j .target) (write stateAt validData)) half
-        (seals a d so z o u p) (dropped j k ++ onBlock (j .target) (writes a bytes)) (idle (rest l (j .target) (a + length bytes))) 4 img
+        follows-stage l s Seal (λ n. jobAt N l k e places j (buffer bytes) Seal (cursor n a d so z o) u)
+        (λ img′. enterDrop (jobAt N l k e places j (buffer bytes) Seal (cursor 4 a d so z o) u)) steps (writeStep (j .target) (write stateAt validData)) shape
+        (seals a d so z o u p) (dropped j k ++ onBlock (j .target) (writes a bytes)) (idle (rest N l (j .target) (a + length bytes))) 4 img
         (sym (length-seal (j .target) (j .time))) q
         (follows-drop Seal 4 a d so z o u (applyAll s steps img) (length-all-steps s steps img ∙ q) (omega arith) room)

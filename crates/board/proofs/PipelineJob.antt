@@ -7,7 +7,7 @@ use native.Mathlib.Omega.{arith}
 use lib.Dec.{ltb}
 use lib.ListN.{length, getD, length-map, List·getD-map, List·getD-append, replicate}
 use borrow.Author.Tests.{ltb-true, ltb-false}
-use Rattle.flash.specs.Flash.{Step, erase, blocks, block, sizeOf, within, applyAll, writeStep, writes}
+use Rattle.flash.specs.Flash.{maxBlocks, sizeIn, isCount, Step, erase, block, sizeOf, within, applyAll, writeStep, writes}
 use Rattle.flash.proofs.Cases.{on-test}
 use Rattle.frame.specs.Frame.{Frame, encodeAll, total}
 use Rattle.journal.specs.Block.{openWrites, sealWrites, build, headerLen}
@@ -22,7 +22,7 @@ use Rattle.board.specs.Exec.{exec}
 use Rattle.board.specs.Plan.{Follows, onBlock}
 use Rattle.board.proofs.Blocks.{Blocks, a-block}
 use Rattle.board.proofs.Images.{length-all-steps}
-use Rattle.board.proofs.Pipeline.{inside-yes, Runs, follows-stage}
+use Rattle.board.proofs.Pipeline.{inside-yes, Shape, Runs, follows-stage}
 use Rattle.board.proofs.PipelineEnd.{jobAt, onward-on, onward-off, dropped, follows-append}
 use Rattle.board.proofs.PipelineCopy.{map-append, follows-open}
 
@@ -32,25 +32,26 @@ no-wipes (k ∷ ks) h = absurd (omega arith)
 
 -- ---- the wipes
 
-module _ (l s : ℕ) (half : suc l / blocks ≡ s) (ks : List ℕ) (there : Blocks ks) (some-room : 0 < s) (k e : ℕ) (places : List ℕ) (j : Job) (frame : List ℕ)
+module _ (N : ℕ) (l s : ℕ) (shape : Shape N l s) (ks : List ℕ) (there : Blocks N ks) (some-room : 0 < s) (k e : ℕ) (places : List ℕ) (j : Job) (frame : List ℕ)
     (array : j .wipe ≡ wipeArray ks) (count : j .wipes ≡ length ks) where
   abbrev wiping : ℕ → ℕ → ℕ → ℕ → ℕ → ℕ → List ℕ → Record
-  wiping a d so z o i u = jobAt l k e places j frame Wipe (cursor i a d so z o) u
+  wiping a d so z o i u = jobAt N l k e places j frame Wipe (cursor i a d so z o) u
 
   wipes : (a d so z o : ℕ) (u : List ℕ)
-      → Runs l s Wipe (λ i. wiping a d so z o i u) (λ img. enterOpen (wiping a d so z o (length ks - 1) u)) (map erase ks) (erase 0)
+      → Runs N l s Wipe (λ i. wiping a d so z o i u) (λ img. enterOpen (wiping a d so z o (length ks - 1) u)) (map erase ks) (erase 0)
   unfolding advance
   wipes a d so z o u =
       let r : ℕ → Record = λ i. wiping a d so z o i u in
       record {
         phase = λ i. refl;
+        blocks = λ i. refl;
         last = λ i. refl;
         acts = λ i h.
             ap (λ (x : List ℕ). erase (getD x i 0)) array
-            ∙ ap erase (List·getD-append ks (replicate (blocks - length ks) 0) 0 i (omega (arith, length-map ks erase))) ∙ sym (List·getD-map erase ks i 0);
+            ∙ ap erase (List·getD-append ks (replicate (maxBlocks - length ks) 0) 0 i (omega (arith, length-map ks erase))) ∙ sym (List·getD-map erase ks i 0);
         inside = λ i h.
-            ap (within s) (List·getD-map erase ks i 0)
-            ∙ inside-yes s (erase (getD ks i 0)) (a-block ks i there (omega (arith, length-map ks erase))) some-room;
+            ap (within N s) (List·getD-map erase ks i 0)
+            ∙ inside-yes s (erase (getD ks i 0)) (shape .count) (a-block ks i there (omega (arith, length-map ks erase))) some-room;
         goes = λ i img h. onward-on Wipe (j .wipes) (r i) (enterOpen (r i)) (omega (arith, length-map ks erase));
         ends = λ i img h.
             let n : i ≡ length ks - 1 = omega (arith, length-map ks erase) in
@@ -58,23 +59,24 @@ module _ (l s : ℕ) (half : suc l / blocks ≡ s) (ks : List ℕ) (there : Bloc
       }
 
   pub follows-wipe : (a d so z o : ℕ) (u img : List ℕ) (tail : List Step) (done : Record) → length img ≡ suc l
-      → ((n : ℕ) (img′ : List ℕ) → length img′ ≡ suc l → img′ ≡ applyAll s (map erase ks) img → Follows exec img′ (enterOpen (wiping a d so z o n u)) tail done)
-      → Follows exec img (enterWipe (wiping a d so z o 0 u)) (map erase ks ++ tail) done
+      → ((n : ℕ) (img′ : List ℕ) → length img′ ≡ suc l → img′ ≡ applyAll s (map erase ks) img → Follows N (exec N) img′
+      (enterOpen (wiping a d so z o n u)) tail done)
+      → Follows N (exec N) img (enterWipe (wiping a d so z o 0 u)) (map erase ks ++ tail) done
   unfolding enterWipe applyAll
   follows-wipe a d so z o u img tail done q f =
       let r : Record = wiping a d so z o 0 u in
       let xs : List Step = map erase ks in
       on-test (ltb 0 (j .wipes))
       (λ t.
-      subst (λ (b : Bool). Follows exec img (cond b (enter Wipe r) (enterOpen r)) (xs ++ tail) done) (sym t)
-      (follows-stage l s Wipe (λ i. wiping a d so z o i u) (λ img. enterOpen (wiping a d so z o (length ks - 1) u)) xs (erase 0) half
+      subst (λ (b : Bool). Follows N (exec N) img (cond b (enter Wipe r) (enterOpen r)) (xs ++ tail) done) (sym t)
+      (follows-stage l s Wipe (λ i. wiping a d so z o i u) (λ img. enterOpen (wiping a d so z o (length ks - 1) u)) xs (erase 0) shape
       (wipes a d so z o u) tail done
       (length ks - 1) img (omega (arith, length-map ks erase, ltb-true 0 (j .wipes) t)) q
       (f (length ks - 1) (applyAll s xs img) (length-all-steps s xs img ∙ q) refl)))
       (λ t.
       let none : xs ≡ [] = no-wipes ks (omega (arith, ltb-false 0 (j .wipes) t)) in
-      subst (λ (b : Bool). Follows exec img (cond b (enter Wipe r) (enterOpen r)) (xs ++ tail) done) (sym t)
-      (subst (λ (ys : List Step). Follows exec img (enterOpen r) (ys ++ tail) done) (sym none)
+      subst (λ (b : Bool). Follows N (exec N) img (cond b (enter Wipe r) (enterOpen r)) (xs ++ tail) done) (sym t)
+      (subst (λ (ys : List Step). Follows N (exec N) img (enterOpen r) (ys ++ tail) done) (sym none)
       (f 0 img q (ap (λ (ys : List Step). applyAll s ys img) (sym none)))))
 
 -- ---- the jobs
@@ -95,39 +97,41 @@ built : (k time : ℕ) (fs : List Frame) (xs ys : List Step)
     (onBlock k (writes headerLen (encodeAll fs)) ++ (onBlock k (sealWrites time) ++ (xs ++ ys)))
 built k time fs xs ys = map-three (writeStep k) openWrites (writes headerLen (encodeAll fs)) (sealWrites time) xs ys
 
-module _ (img : List ℕ) (l k e : ℕ) (places : List ℕ) (j : Job) (id source : ℕ) (bytes ks : List ℕ) (long : length img ≡ suc l) (there : Blocks ks)
-    (has : Has j ks bytes) (here : k < blocks) (header : headerLen ≤ sizeOf img) where
-  half : suc l / blocks ≡ sizeOf img
-  half = ap (λ (n : ℕ). n / blocks) (sym long)
+module _ {N : ℕ} (img : List ℕ) (l k e : ℕ) (places : List ℕ) (j : Job) (id source : ℕ) (bytes ks : List ℕ) (long : length img ≡ suc l)
+    (some-blocks : isCount N ≡ true) (there : Blocks N ks)
+    (has : Has j ks bytes) (here : k < N) (header : headerLen ≤ sizeOf N img) where
+  shape : Shape N l (sizeOf N img)
+  shape = record { count = some-blocks; size = ap (sizeIn N) (sym long) }
 
-  pub follows-staying : j .moves ≡ false → e + length bytes ≤ sizeOf img
-      → Follows exec img (enterWipe (busy (rest l k e) places j (starting id source) bytes)) (map erase ks ++ onBlock k (writes e bytes))
-      (idle (rest l k (e + length bytes)))
+  pub follows-staying : j .moves ≡ false → e + length bytes ≤ sizeOf N img
+      → Follows N (exec N) img (enterWipe (busy (rest N l k e) places j (starting id source) bytes)) (map erase ks ++ onBlock k (writes e bytes))
+      (idle (rest N l k (e + length bytes)))
   unfolding enterOpen
   follows-staying t room =
-      follows-wipe l (sizeOf img) half ks there (omega arith) k e places j (buffer bytes) (has .wipe) (has .wipes) headerLen id source 0 0 noFrame img
-      (onBlock k (writes e bytes)) (idle (rest l k (e + length bytes))) long
+      follows-wipe N l (sizeOf N img) shape ks there (omega arith) k e places j (buffer bytes) (has .wipe) (has .wipes) headerLen id source 0 0 noFrame img
+      (onBlock k (writes e bytes)) (idle (rest N l k (e + length bytes))) long
       (λ n img′ q′ p.
-      let r : Record = jobAt l k e places j (buffer bytes) Wipe (cursor n headerLen id source 0 0) noFrame in
-      subst (λ (b : Bool). Follows exec img′ (cond b (enter Open r) (enterAppend r)) (onBlock k (writes e bytes)) (idle (rest l k (e + length bytes)))) (sym t)
-      (follows-append l (sizeOf img) half k e places j bytes (has .size) here room Wipe (cursor n headerLen id source 0 0) noFrame img′ q′))
+      let r : Record = jobAt N l k e places j (buffer bytes) Wipe (cursor n headerLen id source 0 0) noFrame in
+      subst (λ (b : Bool). Follows N (exec N) img′ (cond b (enter Open r) (enterAppend r)) (onBlock k (writes e bytes))
+      (idle (rest N l k (e + length bytes)))) (sym t)
+      (follows-append l (sizeOf N img) shape k e places j bytes (has .size) here room Wipe (cursor n headerLen id source 0 0) noFrame img′ q′))
 
-  pub follows-moving : (fs : List Frame) → j .moves ≡ true → j .target < blocks → (j .target ≡ k → ⊥) → headerLen + total fs + length bytes ≤ sizeOf img
-      → Yields (block (sizeOf img) k (applyAll (sizeOf img) (map erase ks) img)) e places (j .since) id source fs
-      → Follows exec img (enterWipe (busy (rest l k e) places j (starting id source) bytes))
+  pub follows-moving : (fs : List Frame) → j .moves ≡ true → j .target < N → (j .target ≡ k → ⊥) → headerLen + total fs + length bytes ≤ sizeOf N img
+      → Yields (block (sizeOf N img) k (applyAll (sizeOf N img) (map erase ks) img)) e places (j .since) id source fs
+      → Follows N (exec N) img (enterWipe (busy (rest N l k e) places j (starting id source) bytes))
       (map erase ks ++ ((onBlock (j .target) (build (j .time) fs) ++ dropped j k) ++ onBlock (j .target) (writes (headerLen + total fs) bytes)))
-      (idle (rest l (j .target) (headerLen + total fs + length bytes)))
+      (idle (rest N l (j .target) (headerLen + total fs + length bytes)))
   unfolding enterOpen
   follows-moving fs t target apart room y =
-      let s : ℕ = sizeOf img in
+      let s : ℕ = sizeOf N img in
       let tail : List Step = (onBlock (j .target) (build (j .time) fs) ++ dropped j k) ++ onBlock (j .target) (writes (headerLen + total fs) bytes) in
-      let done : Record = idle (rest l (j .target) (headerLen + total fs + length bytes)) in
-      follows-wipe l s half ks there (omega arith) k e places j (buffer bytes) (has .wipe) (has .wipes) headerLen id source 0 0 noFrame img tail done long
+      let done : Record = idle (rest N l (j .target) (headerLen + total fs + length bytes)) in
+      follows-wipe N l s shape ks there (omega arith) k e places j (buffer bytes) (has .wipe) (has .wipes) headerLen id source 0 0 noFrame img tail done long
       (λ n img′ q′ p.
-      let r : Record = jobAt l k e places j (buffer bytes) Wipe (cursor n headerLen id source 0 0) noFrame in
-      subst (λ (b : Bool). Follows exec img′ (cond b (enter Open r) (enterAppend r)) tail done) (sym t)
-      (subst (λ (xs : List Step). Follows exec img′ (enter Open r) xs done)
+      let r : Record = jobAt N l k e places j (buffer bytes) Wipe (cursor n headerLen id source 0 0) noFrame in
+      subst (λ (b : Bool). Follows N (exec N) img′ (cond b (enter Open r) (enterAppend r)) tail done) (sym t)
+      (subst (λ (xs : List Step). Follows N (exec N) img′ (enter Open r) xs done)
       (sym (built (j .target) (j .time) fs (dropped j k) (onBlock (j .target) (writes (headerLen + total fs) bytes))))
-      (follows-open l s half k e places j bytes (has .size) here target apart header
+      (follows-open l s shape k e places j bytes (has .size) here target apart header
       (block s k (applyAll s (map erase ks) img)) fs Wipe n headerLen id source 0 0 noFrame
       img′ q′ (ap (block s k) p) y room)))

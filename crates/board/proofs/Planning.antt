@@ -31,7 +31,7 @@ use Rattle.wire.specs.Message.{parse, valueIn, pageLen}
 use Rattle.board.specs.declared.Phase.{Phase}
 use Rattle.board.specs.declared.Phase.the-variants.{Unmounted, Idle, Busy}
 use Rattle.board.specs.declared.Record.{Record}
-use Rattle.board.specs.Record.{allowed, rest, idle, Out, out, refuse, answerOf}
+use Rattle.board.specs.Record.{allowed, restOf, idle, Out, out, refuse, answerOf}
 use Rattle.board.specs.Step.{enterWipe}
 use Rattle.board.specs.Queue.{Held, held, needsRoom, appendJob, append, serve, serveChange, serveEnd, serveParsed, serveHeld, requestIn, requestOn}
 use Rattle.board.specs.Exec.{request, exec}
@@ -58,38 +58,38 @@ use Rattle.board.proofs.Serving.{Legal, frame-short, frame-starts}
 -- ---- what a request meets
 
 -- past every check: the frame that it appends
-pub record Asked (img : List ℕ) (r : Record) (h : Host) (m : List ℕ) : Type 0 where
+pub record Asked (N : ℕ) (img : List ℕ) (r : Record) (h : Host) (m : List ℕ) : Type 0 where
   pub holding : Held
   pub asked : Request
   pub frame : Frame
-  pub length-ok : allowed (length img) ≡ true
+  pub length-ok : allowed N (length img) ≡ true
   pub host-ok : h .0 ≤ hostMax
-  pub is-held : held img r ≡ some holding
+  pub is-held : held N img r ≡ some holding
   pub is-asked : parse m ≡ Is asked
   pub is-frame : frameFor h m holding asked ≡ some frame
-  pub has-room : roomRule (sizeOf img) h m holding asked ≡ false
-  pub not-worn : (needsRoom img r frame && eqb (holding .time) lastTime) ≡ false
+  pub has-room : roomRule (sizeOf N img) h m holding asked ≡ false
+  pub not-worn : (needsRoom N img r frame && eqb (holding .time) lastTime) ≡ false
 
-abbrev pub jobOf : {img : List ℕ} {r : Record} {h : Host} {m : List ℕ} → Asked img r h m → Record
-jobOf {img} {r} y = enterWipe (appendJob img r (y .holding) (y .frame))
+abbrev pub jobOf : {N : ℕ} {img : List ℕ} {r : Record} {h : Host} {m : List ℕ} → Asked N img r h m → Record
+jobOf {N} {img} {r} y = enterWipe (appendJob N img r (y .holding) (y .frame))
 
-pub data Met (img : List ℕ) (r : Record) (reply : List ℕ) (h : Host) (m : List ℕ) (o : Out) : Type 0 where
-  refused : (n : Refusal) → o ≡ refuse n img r reply → Met img r reply h m o
-  done : o .answer ≡ Done → o .image ≡ img → o .board ≡ r → Met img r reply h m o
-  begun : (y : Asked img r h m) → o ≡ out (answerOf (jobOf y)) img (jobOf y) reply → Met img r reply h m o
+pub data Met (N : ℕ) (img : List ℕ) (r : Record) (reply : List ℕ) (h : Host) (m : List ℕ) (o : Out) : Type 0 where
+  refused : (n : Refusal) → o ≡ refuse n img r reply → Met N img r reply h m o
+  done : o .answer ≡ Done → o .image ≡ img → o .board ≡ r → Met N img r reply h m o
+  begun : (y : Asked N img r h m) → o ≡ out (answerOf (jobOf y)) img (jobOf y) reply → Met N img r reply h m o
 
-module _ (img : List ℕ) (r : Record) (reply : List ℕ) (h : Host) (m : List ℕ) where
+module _ (N : ℕ) (img : List ℕ) (r : Record) (reply : List ℕ) (h : Host) (m : List ℕ) where
   abbrev Meets : Out → Type 0
-  Meets o = Met img r reply h m o
+  Meets o = Met N img r reply h m o
 
   over : {o o′ : Out} → o ≡ o′ → Meets o′ → Meets o
   over e x = subst Meets (sym e) x
 
-  module _ (a : allowed (length img) ≡ true) (k : h .0 ≤ hostMax) (x : Held) (e : held img r ≡ some x) (q : Request) (p : parse m ≡ Is q) where
-    append-met : (f : Frame) → frameFor h m x q ≡ some f → roomRule (sizeOf img) h m x q ≡ false → Meets (append img r reply x f)
+  module _ (a : allowed N (length img) ≡ true) (k : h .0 ≤ hostMax) (x : Held) (e : held N img r ≡ some x) (q : Request) (p : parse m ≡ Is q) where
+    append-met : (f : Frame) → frameFor h m x q ≡ some f → roomRule (sizeOf N img) h m x q ≡ false → Meets (append N img r reply x f)
     append-met f g n =
-        on-test (needsRoom img r f && eqb (x .time) lastTime)
-        (λ t. refused refusal.Worn (append-worn img r reply x f t))
+        on-test (needsRoom N img r f && eqb (x .time) lastTime)
+        (λ t. refused refusal.Worn (append-worn N img r reply x f t))
         (λ t. begun
         (record {
           holding = x;
@@ -103,59 +103,59 @@ module _ (img : List ℕ) (r : Record) (reply : List ℕ) (h : Host) (m : List �
           has-room = n;
           not-worn = t;
         })
-        (append-begins img r reply x f t))
+        (append-begins N img r reply x f t))
 
-    change-met : (c : Change) → frameFor h m x q ≡ some (change h c) → roomRule (sizeOf img) h m x q ≡ noRoom (sizeOf img) (replay (x .frames)) h c
-        → Meets (serveChange img r reply h x c)
+    change-met : (c : Change) → frameFor h m x q ≡ some (change h c) → roomRule (sizeOf N img) h m x q ≡ noRoom (sizeOf N img) (replay (x .frames)) h c
+        → Meets (serveChange N img r reply h x c)
     change-met c g n =
-        on-test (noRoom (sizeOf img) (replay (x .frames)) h c)
-        (λ t. refused refusal.NoRoom (change-refused img r reply h x c t))
-        (λ t. over (change-goes img r reply h x c t) (append-met (change h c) g (n ∙ t)))
+        on-test (noRoom (sizeOf N img) (replay (x .frames)) h c)
+        (λ t. refused refusal.NoRoom (change-refused N img r reply h x c t))
+        (λ t. over (change-goes N img r reply h x c t) (append-met (change h c) g (n ∙ t)))
 
-    end-met : (f : Frame) → frameFor h m x q ≡ frameIf (isOpen h (replay (x .frames) .pending)) f → roomRule (sizeOf img) h m x q ≡ false
-        → Meets (serveEnd img r reply h x f)
+    end-met : (f : Frame) → frameFor h m x q ≡ frameIf (isOpen h (replay (x .frames) .pending)) f → roomRule (sizeOf N img) h m x q ≡ false
+        → Meets (serveEnd N img r reply h x f)
     end-met f g n =
         on-test (isOpen h (replay (x .frames) .pending))
-        (λ t. over (end-goes img r reply h x f t) (append-met f (g ∙ ap (λ (b : Bool). frameIf b f) t) n))
-        (λ t. over (end-idle img r reply h x f t) (done refl refl refl))
+        (λ t. over (end-goes N img r reply h x f t) (append-met f (g ∙ ap (λ (b : Bool). frameIf b f) t) n))
+        (λ t. over (end-idle N img r reply h x f t) (done refl refl refl))
 
-  module _ (a : allowed (length img) ≡ true) (k : h .0 ≤ hostMax) (x : Held) (e : held img r ≡ some x) where
-    read-met : (i : ObjectId) (v : Option (List ℕ)) → lookup i (replay (x .frames) .objects) ≡ v → Meets (serve img r reply h m x (Read i))
-    read-met i none l = refused refusal.NoObject (read-none img r reply h m x i l)
-    read-met i (some v) l = over (read-some img r reply h m x i v l) (done refl refl refl)
+  module _ (a : allowed N (length img) ≡ true) (k : h .0 ≤ hostMax) (x : Held) (e : held N img r ≡ some x) where
+    read-met : (i : ObjectId) (v : Option (List ℕ)) → lookup i (replay (x .frames) .objects) ≡ v → Meets (serve N img r reply h m x (Read i))
+    read-met i none l = refused refusal.NoObject (read-none N img r reply h m x i l)
+    read-met i (some v) l = over (read-some N img r reply h m x i v l) (done refl refl refl)
 
-    serve-met : (q : Request) → parse m ≡ Is q → Meets (serve img r reply h m x q)
-    serve-met (Put i) p = over (serve-put img r reply h m x i) (change-met a k x e (Put i) p (put i (valueIn m)) refl refl)
-    serve-met (Delete i) p = over (serve-delete img r reply h m x i) (change-met a k x e (Delete i) p (delete i) refl refl)
-    serve-met Commit p = over (serve-commit img r reply h m x) (end-met a k x e Commit p (commit h) refl refl)
-    serve-met Abort p = over (serve-abort img r reply h m x) (end-met a k x e Abort p (abort h) refl refl)
+    serve-met : (q : Request) → parse m ≡ Is q → Meets (serve N img r reply h m x q)
+    serve-met (Put i) p = over (serve-put N img r reply h m x i) (change-met a k x e (Put i) p (put i (valueIn m)) refl refl)
+    serve-met (Delete i) p = over (serve-delete N img r reply h m x i) (change-met a k x e (Delete i) p (delete i) refl refl)
+    serve-met Commit p = over (serve-commit N img r reply h m x) (end-met a k x e Commit p (commit h) refl refl)
+    serve-met Abort p = over (serve-abort N img r reply h m x) (end-met a k x e Abort p (abort h) refl refl)
     serve-met (Read i) p = read-met i (lookup i (replay (x .frames) .objects)) refl
     serve-met (Log Summary) p =
-        over (serve-log img r reply h m x)
+        over (serve-log N img r reply h m x)
         (on-test (ltb (length reply) pageLen)
-        (λ t. refused refusal.ShortReply (log-short img r reply x t))
-        (λ t. over (log-done img r reply x t) (done refl refl refl)))
+        (λ t. refused refusal.ShortReply (log-short N img r reply x t))
+        (λ t. over (log-done N img r reply x t) (done refl refl refl)))
 
-    parsed-met : (p : Parsed) → parse m ≡ p → Meets (serveParsed img r reply h m x p)
+    parsed-met : (p : Parsed) → parse m ≡ p → Meets (serveParsed N img r reply h m x p)
     parsed-met Malformed p = refused refusal.Malformed refl
     parsed-met (Is q) p = serve-met q p
 
-  held-met : allowed (length img) ≡ true → h .0 ≤ hostMax → (x : Option Held) → held img r ≡ x → Meets (serveHeld img r reply h m x)
+  held-met : allowed N (length img) ≡ true → h .0 ≤ hostMax → (x : Option Held) → held N img r ≡ x → Meets (serveHeld N img r reply h m x)
   held-met a k none e = refused refusal.Stale refl
   held-met a k (some x) e = parsed-met a k x e (parse m) refl
 
-  phase-met : allowed (length img) ≡ true → h .0 ≤ hostMax → (p : Phase) → Meets (requestIn p img r reply h m)
+  phase-met : allowed N (length img) ≡ true → h .0 ≤ hostMax → (p : Phase) → Meets (requestIn N p img r reply h m)
   phase-met a k (Busy s) = refused refusal.Busy refl
   phase-met a k Unmounted = refused refusal.NoStore refl
-  phase-met a k Idle = held-met a k (held img r) refl
+  phase-met a k Idle = held-met a k (held N img r) refl
 
-  pub request-met : Meets (requestOn img r reply h m)
+  pub request-met : Meets (requestOn N img r reply h m)
   request-met =
-      on-test (allowed (length img))
+      on-test (allowed N (length img))
       (λ a. on-test (leb (h .0) hostMax)
-      (λ k. over (request-in img r reply h m a k) (phase-met a (leb-true (h .0) hostMax k) (r .phase)))
-      (λ k. refused refusal.HostRange (request-host img r reply h m a k)))
-      (λ a. refused refusal.ImageLength (request-length img r reply h m a))
+      (λ k. over (request-in N img r reply h m a k) (phase-met a (leb-true (h .0) hostMax k) (r .phase)))
+      (λ k. refused refusal.HostRange (request-host N img r reply h m a k)))
+      (λ a. refused refusal.ImageLength (request-length N img r reply h m a))
 
 -- ---- the frame fits
 
@@ -215,33 +215,33 @@ frame-fits s h m x (Log p) f l k g t e = no-frame e
 -- ---- its plan
 
 -- an accepted request with steps to do appends document 01's frame, after a transfer if it must, in at most S steps
-pub record Appends (img : List ℕ) (r : Record) (h : Host) (msg : List ℕ) (o : Out) : Type 0 where
+pub record Appends (N : ℕ) (img : List ℕ) (r : Record) (h : Host) (msg : List ℕ) (o : Out) : Type 0 where
   pub holding : Held
   pub asked : Request
   pub frame : Frame
-  pub is-held : Fresh img r holding
+  pub is-held : Fresh N img r holding
   pub is-asked : Means msg asked
   pub is-frame : frameFor h msg holding asked ≡ some frame
-  pub follows : Follows exec img (o .board) (framePlan (needsRoom img r frame) (r .block) (r .end) holding frame)
-      (framedAt (needsRoom img r frame) (r .last) (r .block) (r .end) holding frame)
-  pub short : length (framePlan (needsRoom img r frame) (r .block) (r .end) holding frame) ≤ sizeOf img
+  pub follows : Follows N (exec N) img (o .board) (framePlan N (needsRoom N img r frame) (r .block) (r .end) holding frame)
+      (framedAt N (needsRoom N img r frame) (r .last) (r .block) (r .end) holding frame)
+  pub short : length (framePlan N (needsRoom N img r frame) (r .block) (r .end) holding frame) ≤ sizeOf N img
 
-module _ {s : ℕ} {img : List ℕ} {r : Record} {h : Host} {m : List ℕ} (z : Sized s img) (by : Bytes img) (bm : Bytes m) (y : Asked img r h m) where
+module _ {N : ℕ} {s : ℕ} {img : List ℕ} {r : Record} {h : Host} {m : List ℕ} (z : Sized N s img) (by : Bytes img) (bm : Bytes m) (y : Asked N img r h m) where
   abbrev x : Held
   x = y .holding
 
   abbrev f : Frame
   f = y .frame
 
-  holds : AsRecorded s img r x
+  holds : AsRecorded N s img r x
   holds =
-      let v : (w : Ready s img (idle (rest (r .last) (r .block) (r .end)))) × (w .time ≡ x .time) × (w .frames ≡ x .frames) = held-inv r z by (y .is-held) in
-      let w : AsRecorded s img (idle (rest (r .last) (r .block) (r .end))) x = ready-holds z (v .0) (v .1) (v .2) in
-      record { alone = w .alone; ends = w .ends; long = w .long }
+      let v : (w : Ready N s img (idle (restOf r))) × (w .time ≡ x .time) × (w .frames ≡ x .frames) = held-inv r z by (y .is-held) in
+      let w : AsRecorded N s img (idle (restOf r)) x = ready-holds z (v .0) (v .1) (v .2) in
+      record { alone = w .alone; ends = w .ends; long = w .long; blocks = w .blocks }
 
   roomy : Roomy s (replay (x .frames))
   roomy =
-      let v : (w : Ready s img (idle (rest (r .last) (r .block) (r .end)))) × (w .time ≡ x .time) × (w .frames ≡ x .frames) = held-inv r z by (y .is-held) in
+      let v : (w : Ready N s img (idle (restOf r))) × (w .time ≡ x .time) × (w .frames ≡ x .frames) = held-inv r z by (y .is-held) in
       subst (λ (fs : List Frame). Roomy s (replay fs)) (v .2) (v .0 .room)
 
   fitting : Fitting s (replay (x .frames)) f
@@ -249,48 +249,49 @@ module _ {s : ℕ} {img : List ℕ} {r : Record} {h : Host} {m : List ℕ} (z : 
       frame-fits s h m x (y .asked) f roomy (y .host-ok) (legal h m (y .asked) (y .host-ok) bm (y .is-asked))
       (subst (λ (n : ℕ). roomRule n h m x (y .asked) ≡ false) (size-of z) (y .has-room)) (y .is-frame)
 
-  appendable : Appendable s img r x f
+  appendable : Appendable N s img r x f
   appendable =
       record {
         host = fitting .host;
         legal = fitting .legal;
         fits = fitting .fits;
         young = λ n.
-            let t : (needsRoom img r f && eqb (x .time) lastTime) ≡ false = y .not-worn in
+            let t : (needsRoom N img r f && eqb (x .time) lastTime) ≡ false = y .not-worn in
             let v : eqb (x .time) lastTime ≡ false = rw n at t in
             omega (arith, eqb-false (x .time) lastTime v, holds .alone .contents .layout .time-hi);
       }
 
-  pub frame-appends : (reply : List ℕ) → Appends img r h m (out (answerOf (jobOf y)) img (jobOf y) reply)
+  pub frame-appends : (reply : List ℕ) → Appends N img r h m (out (answerOf (jobOf y)) img (jobOf y) reply)
   unfolding FreshExact MessagesExact
   frame-appends reply =
-      let j : Journal (block (sizeOf img) (r .block) img) (x .frames) =
+      let j : Journal (block (sizeOf N img) (r .block) img) (x .frames) =
       subst (λ (n : ℕ). Journal (block n (r .block) img) (x .frames)) (sym (size-of z)) (journal-of (holds .alone .contents)) in
       record {
         holding = x;
         asked = y .asked;
         frame = f;
-        is-held = fresh-exact img r x by (z .ok) .0 (y .is-held);
+        is-held = fresh-exact N img r x by (z .ok) .0 (y .is-held);
         is-asked = messages-exact m (y .asked) .0 (y .is-asked);
         is-frame = y .is-frame;
-        follows = follows-frame img r x f (holds .long) (holds .alone .there) j (sym (holds .ends)) (omega (arith, fitting .fits, size-of z));
-        short = frame-short (needsRoom img r f) (sizeOf img) (r .block) (r .end) x f (omega (arith, fitting .fits, size-of z));
+        follows = follows-frame img r x f (z .count) (holds .long) (holds .blocks) (holds .alone .there) j (sym (holds .ends))
+            (omega (arith, fitting .fits, size-of z));
+        short = frame-short N (needsRoom N img r f) (sizeOf N img) (r .block) (r .end) x f (omega (arith, fitting .fits, size-of z));
       }
 
   -- the job is begun: each step lands, and it ends idle
-  pub frame-begins : (answerOf (jobOf y) ≡ More) × InJob s (StepLands s) (Ready s) img (jobOf y)
+  pub frame-begins : (answerOf (jobOf y) ≡ More) × InJob N s (StepLands s) (Ready N s) img (jobOf y)
   frame-begins =
-      let a : After s (applyAll s (framePlan (needsRoom img r f) (r .block) (r .end) x f) img)
-      (framedAt (needsRoom img r f) (r .last) (r .block) (r .end) x f) (nextState (replay (x .frames)) f) = frame-ends holds appendable (fitting .room) in
+      let a : After N s (applyAll s (framePlan N (needsRoom N img r f) (r .block) (r .end) x f) img)
+      (framedAt N (needsRoom N img r f) (r .last) (r .block) (r .end) x f) (nextState (replay (x .frames)) f) = frame-ends holds appendable (fitting .room) in
       frame-starts r x f z holds appendable (frame-lands holds appendable) (a .ready) (ready-idle (a .ready))
 
 -- ---- on any record and image
 
-pub requests-planned : (img : List ℕ) (r : Record) (h : Host) (m reply : List ℕ) → Bytes img → Bytes m → exec img r (request h m reply) .answer ≡ More
-    → Appends img r h m (exec img r (request h m reply))
-requests-planned img r h m reply by bm e = go (request-met img r reply h m)
+pub requests-planned : {N : ℕ} (img : List ℕ) (r : Record) (h : Host) (m reply : List ℕ) → Bytes img → Bytes m → exec N img r (request h m reply) .answer ≡ More
+    → Appends N img r h m (exec N img r (request h m reply))
+requests-planned {N} img r h m reply by bm e = go (request-met N img r reply h m)
   where
-    go : Met img r reply h m (requestOn img r reply h m) → Appends img r h m (requestOn img r reply h m)
+    go : Met N img r reply h m (requestOn N img r reply h m) → Appends N img r h m (requestOn N img r reply h m)
     go (refused n p) = let q : Refused n ≡ More = sym (ap (λ (o : Out). o .answer) p) ∙ e in let z : _≡_ {A = ℕ} 0 1 = cc in absurd (omega arith)
     go (done d i b) = let q : Done ≡ More = sym d ∙ e in let z : _≡_ {A = ℕ} 0 1 = cc in absurd (omega arith)
-    go (begun y p) = subst (Appends img r h m) (sym p) (frame-appends (sized-of img (y .length-ok)) by bm y reply)
+    go (begun y p) = subst (Appends N img r h m) (sym p) (frame-appends (sized-of N img (y .length-ok)) by bm y reply)

@@ -40,7 +40,7 @@ use Rattle.board.specs.Demand2.{Accepted, Mounts, OneStore}
 use Rattle.board.specs.Claim.{ByteCall}
 use Rattle.wire.specs.Sentences.{Means, MessagesExact}
 use Rattle.board.specs.Sentences.{StretchExact}
-use Rattle.board.specs.Promise.{Answers, replyFor, Stands, HandsBack, Serves, Current, Job, frame-job, mount-job, format-job, Calls}
+use Rattle.board.specs.Promise.{Short, Answers, replyFor, Stands, HandsBack, Serves, Current, Job, frame-job, mount-job, format-job, Calls}
 use Rattle.board.proofs.Checks.{roomRule}
 use Rattle.board.proofs.Images.{sized-of}
 use Rattle.board.proofs.Refusals.{refusals-untouched, at-most-one-step}
@@ -63,10 +63,10 @@ use Rattle.board.proofs.Telling.{told, silent}
 
 -- ---- accepted requests
 
-module _ (img : List ℕ) (r : Record) (h : Host) (m reply : List ℕ) (by : Bytes img) (bm : Bytes m) (x : Held) (e : held img r ≡ some x)
+module _ (N : ℕ) (img : List ℕ) (r : Record) (h : Host) (m reply : List ℕ) (by : Bytes img) (bm : Bytes m) (x : Held) (e : held N img r ≡ some x)
     (q : Request) (p : parse m ≡ Is q) where
   abbrev Meets : Out → Type 0
-  Meets o = Accepted (o .answer) → Serves img r h m reply x q o
+  Meets o = Accepted (o .answer) → Serves N img r h m reply x q o
 
   over : {o o′ : Out} → o ≡ o′ → Meets o′ → Meets o
   over d y = subst Meets (sym d) y
@@ -74,31 +74,31 @@ module _ (img : List ℕ) (r : Record) (h : Host) (m reply : List ℕ) (by : Byt
   turned-down : {o : Out} (n : Refusal) → o ≡ refuse n img r reply → Meets o
   turned-down n d a = absurd (subst Accepted (ap (λ (o : Out). o .answer) d) a)
 
-  at-once : (o : Out) (st : Stretch) → o ≡ whole Done img r (replyFor img reply x q) st → HandsBack img r x q st → frameFor h m x q ≡ none → Meets o
+  at-once : (o : Out) (st : Stretch) → o ≡ whole Done img r (replyFor N img reply x q) st → HandsBack N img r x q st → frameFor h m x q ≡ none → Meets o
   at-once o st d v n a =
       record {
         answers = subst (λ (f : Option Frame). Answers f r o) (sym n) (ap (λ (y : Out). numberOf (y .answer)) d, ap (λ (y : Out). y .board) d);
         writes = ap (λ (y : Out). y .reply) d;
-        hands-back = subst (λ (y : Out). HandsBack img r x q (y .stretch)) (sym d) v;
+        hands-back = subst (λ (y : Out). HandsBack N img r x q (y .stretch)) (sym d) v;
       }
 
-  begun : (o : Out) (y : Asked img r h m) → o ≡ out (answerOf (jobOf y)) img (jobOf y) reply → (f : Frame) → frameFor h m x q ≡ some f
-      → reply ≡ replyFor img reply x q → HandsBack img r x q noStretch → Meets o
+  begun : (o : Out) (y : Asked N img r h m) → o ≡ out (answerOf (jobOf y)) img (jobOf y) reply → (f : Frame) → frameFor h m x q ≡ some f
+      → reply ≡ replyFor N img reply x q → HandsBack N img r x q noStretch → Meets o
   begun o y d f g u v a =
       record {
         answers = subst (λ (k : Option Frame). Answers k r o) (sym g)
-            (ap (λ (k : Out). k .answer) d ∙ frame-begins (sized-of img (y .length-ok)) by bm y .0);
+            (ap (λ (k : Out). k .answer) d ∙ frame-begins (sized-of N img (y .length-ok)) by bm y .0);
         writes = ap (λ (k : Out). k .reply) d ∙ u;
-        hands-back = subst (λ (k : Out). HandsBack img r x q (k .stretch)) (sym d) v;
+        hands-back = subst (λ (k : Out). HandsBack N img r x q (k .stretch)) (sym d) v;
       }
 
-  module _ (a : allowed (length img) ≡ true) (k : h .0 ≤ hostMax) where
-    append-met : (f : Frame) → frameFor h m x q ≡ some f → roomRule (sizeOf img) h m x q ≡ false → reply ≡ replyFor img reply x q
-        → HandsBack img r x q noStretch → Meets (append img r reply x f)
+  module _ (a : allowed N (length img) ≡ true) (k : h .0 ≤ hostMax) where
+    append-met : (f : Frame) → frameFor h m x q ≡ some f → roomRule (sizeOf N img) h m x q ≡ false → reply ≡ replyFor N img reply x q
+        → HandsBack N img r x q noStretch → Meets (append N img r reply x f)
     append-met f g n u v =
-        on-test (needsRoom img r f && eqb (x .time) lastTime)
-        (λ t. turned-down refusal.Worn (append-worn img r reply x f t))
-        (λ t. begun (append img r reply x f)
+        on-test (needsRoom N img r f && eqb (x .time) lastTime)
+        (λ t. turned-down refusal.Worn (append-worn N img r reply x f t))
+        (λ t. begun (append N img r reply x f)
         (record {
           holding = x;
           asked = q;
@@ -111,159 +111,161 @@ module _ (img : List ℕ) (r : Record) (h : Host) (m reply : List ℕ) (by : Byt
           has-room = n;
           not-worn = t;
         })
-        (append-begins img r reply x f t) f g u v)
+        (append-begins N img r reply x f t) f g u v)
 
-    change-met : (c : Change) → frameFor h m x q ≡ some (change h c) → roomRule (sizeOf img) h m x q ≡ noRoom (sizeOf img) (replay (x .frames)) h c
-        → reply ≡ replyFor img reply x q → HandsBack img r x q noStretch → Meets (serveChange img r reply h x c)
+    change-met : (c : Change) → frameFor h m x q ≡ some (change h c) → roomRule (sizeOf N img) h m x q ≡ noRoom (sizeOf N img) (replay (x .frames)) h c
+        → reply ≡ replyFor N img reply x q → HandsBack N img r x q noStretch → Meets (serveChange N img r reply h x c)
     change-met c g n u v =
-        on-test (noRoom (sizeOf img) (replay (x .frames)) h c)
-        (λ t. turned-down refusal.NoRoom (change-refused img r reply h x c t))
-        (λ t. over (change-goes img r reply h x c t) (append-met (change h c) g (n ∙ t) u v))
+        on-test (noRoom (sizeOf N img) (replay (x .frames)) h c)
+        (λ t. turned-down refusal.NoRoom (change-refused N img r reply h x c t))
+        (λ t. over (change-goes N img r reply h x c t) (append-met (change h c) g (n ∙ t) u v))
 
-    end-met : (f : Frame) → frameFor h m x q ≡ frameIf (isOpen h (replay (x .frames) .pending)) f → roomRule (sizeOf img) h m x q ≡ false
-        → reply ≡ replyFor img reply x q → HandsBack img r x q noStretch → Meets (serveEnd img r reply h x f)
+    end-met : (f : Frame) → frameFor h m x q ≡ frameIf (isOpen h (replay (x .frames) .pending)) f → roomRule (sizeOf N img) h m x q ≡ false
+        → reply ≡ replyFor N img reply x q → HandsBack N img r x q noStretch → Meets (serveEnd N img r reply h x f)
     end-met f g n u v =
         on-test (isOpen h (replay (x .frames) .pending))
-        (λ t. over (end-goes img r reply h x f t) (append-met f (g ∙ ap (λ (b : Bool). frameIf b f) t) n u v))
-        (λ t. at-once (serveEnd img r reply h x f) noStretch (end-idle img r reply h x f t ∙ ap (λ (y : List ℕ). whole Done img r y noStretch) u) v
+        (λ t. over (end-goes N img r reply h x f t) (append-met f (g ∙ ap (λ (b : Bool). frameIf b f) t) n u v))
+        (λ t. at-once (serveEnd N img r reply h x f) noStretch (end-idle N img r reply h x f t ∙ ap (λ (y : List ℕ). whole Done img r y noStretch) u) v
         (g ∙ ap (λ (b : Bool). frameIf b f) t))
 
-module _ (img : List ℕ) (r : Record) (h : Host) (m reply : List ℕ) (by : Bytes img) (bm : Bytes m) (x : Held) (e : held img r ≡ some x) where
+module _ (N : ℕ) (img : List ℕ) (r : Record) (h : Host) (m reply : List ℕ) (by : Bytes img) (bm : Bytes m) (x : Held) (e : held N img r ≡ some x) where
   abbrev Met : Request → Out → Type 0
-  Met q o = Accepted (o .answer) → Serves img r h m reply x q o
+  Met q o = Accepted (o .answer) → Serves N img r h m reply x q o
 
   -- where the value stands
-  stands : allowed (length img) ≡ true → (i : ObjectId) → parse m ≡ Is (Read i) → (v : List ℕ) → lookup i (replay (x .frames) .objects) ≡ some v
-      → Stands img r x i (placeOf img r x i)
+  stands : allowed N (length img) ≡ true → (i : ObjectId) → parse m ≡ Is (Read i) → (v : List ℕ) → lookup i (replay (x .frames) .objects) ≡ some v
+      → Stands N img r x i (placeOf N img r x i)
   unfolding FreshExact MessagesExact StretchExact
   stands ok i p v l =
-      let y = stretch-exact img r x clean i v (fresh-exact img r x by ok .0 e .is-valid) (messages-exact m (Read i) .0 p .3) l in
+      let y = stretch-exact N img r x clean i v (fresh-exact N img r x by ok .0 e .is-valid) (messages-exact m (Read i) .0 p .3) l in
       record { value = v; at = y .0; from = y .2; is = y .1 }
 
-  read-met : allowed (length img) ≡ true → (i : ObjectId) → parse m ≡ Is (Read i) → (v : Option (List ℕ)) → lookup i (replay (x .frames) .objects) ≡ v
-      → Met (Read i) (serve img r reply h m x (Read i))
-  read-met ok i p none l = turned-down img r h m reply by bm x e (Read i) p refusal.NoObject (read-none img r reply h m x i l)
+  read-met : allowed N (length img) ≡ true → (i : ObjectId) → parse m ≡ Is (Read i) → (v : Option (List ℕ)) → lookup i (replay (x .frames) .objects) ≡ v
+      → Met (Read i) (serve N img r reply h m x (Read i))
+  read-met ok i p none l = turned-down N img r h m reply by bm x e (Read i) p refusal.NoObject (read-none N img r reply h m x i l)
   read-met ok i p (some v) l =
-      at-once img r h m reply by bm x e (Read i) p (serve img r reply h m x (Read i)) (placeOf img r x i) (read-some img r reply h m x i v l)
+      at-once N img r h m reply by bm x e (Read i) p (serve N img r reply h m x (Read i)) (placeOf N img r x i) (read-some N img r reply h m x i v l)
       (stands ok i p v l) refl
 
-  log-met : parse m ≡ Is (Log Summary) → Met (Log Summary) (serve img r reply h m x (Log Summary))
+  log-met : parse m ≡ Is (Log Summary) → Met (Log Summary) (serve N img r reply h m x (Log Summary))
   log-met p =
-      over img r h m reply by bm x e (Log Summary) p (serve-log img r reply h m x)
+      over N img r h m reply by bm x e (Log Summary) p (serve-log N img r reply h m x)
       (on-test (ltb (length reply) pageLen)
-      (λ t. turned-down img r h m reply by bm x e (Log Summary) p refusal.ShortReply (log-short img r reply x t))
-      (λ t. at-once img r h m reply by bm x e (Log Summary) p _ noStretch (log-done img r reply x t) refl refl))
+      (λ t. turned-down N img r h m reply by bm x e (Log Summary) p refusal.ShortReply (log-short N img r reply x t))
+      (λ t. at-once N img r h m reply by bm x e (Log Summary) p _ noStretch (log-done N img r reply x t) refl refl))
 
-  serve-met : allowed (length img) ≡ true → h .0 ≤ hostMax → (q : Request) → parse m ≡ Is q → Met q (serve img r reply h m x q)
+  serve-met : allowed N (length img) ≡ true → h .0 ≤ hostMax → (q : Request) → parse m ≡ Is q → Met q (serve N img r reply h m x q)
   serve-met a k (Put i) p =
-      over img r h m reply by bm x e (Put i) p (serve-put img r reply h m x i)
-      (change-met img r h m reply by bm x e (Put i) p a k (put i (valueIn m)) refl refl refl refl)
+      over N img r h m reply by bm x e (Put i) p (serve-put N img r reply h m x i)
+      (change-met N img r h m reply by bm x e (Put i) p a k (put i (valueIn m)) refl refl refl refl)
   serve-met a k (Delete i) p =
-      over img r h m reply by bm x e (Delete i) p (serve-delete img r reply h m x i)
-      (change-met img r h m reply by bm x e (Delete i) p a k (delete i) refl refl refl refl)
+      over N img r h m reply by bm x e (Delete i) p (serve-delete N img r reply h m x i)
+      (change-met N img r h m reply by bm x e (Delete i) p a k (delete i) refl refl refl refl)
   serve-met a k Commit p =
-      over img r h m reply by bm x e Commit p (serve-commit img r reply h m x) (end-met img r h m reply by bm x e Commit p a k (commit h) refl refl refl refl)
+      over N img r h m reply by bm x e Commit p (serve-commit N img r reply h m x) (end-met N img r h m reply by bm x e Commit p a k
+      (commit h) refl refl refl refl)
   serve-met a k Abort p =
-      over img r h m reply by bm x e Abort p (serve-abort img r reply h m x) (end-met img r h m reply by bm x e Abort p a k (abort h) refl refl refl refl)
+      over N img r h m reply by bm x e Abort p (serve-abort N img r reply h m x) (end-met N img r h m reply by bm x e Abort p a k (abort h) refl refl refl refl)
   serve-met a k (Read i) p = read-met a i p (lookup i (replay (x .frames) .objects)) refl
   serve-met a k (Log Summary) p = log-met p
 
-  request-met : (q : Request) → parse m ≡ Is q → Met q (requestOn img r reply h m)
+  request-met : (q : Request) → parse m ≡ Is q → Met q (requestOn N img r reply h m)
   request-met q p =
-      on-test (allowed (length img))
-      (λ a. on-test (leb (h .0) hostMax) (λ k. phased a k (r .phase) refl) (λ k. turned refusal.HostRange (request-host img r reply h m a k)))
-      (λ a. turned refusal.ImageLength (request-length img r reply h m a))
+      on-test (allowed N (length img))
+      (λ a. on-test (leb (h .0) hostMax) (λ k. phased a k (r .phase) refl) (λ k. turned refusal.HostRange (request-host N img r reply h m a k)))
+      (λ a. turned refusal.ImageLength (request-length N img r reply h m a))
     where
-      turned : (n : Refusal) → requestOn img r reply h m ≡ refuse n img r reply → Met q (requestOn img r reply h m)
-      turned n d = turned-down img r h m reply by bm x e q p n d
+      turned : (n : Refusal) → requestOn N img r reply h m ≡ refuse n img r reply → Met q (requestOn N img r reply h m)
+      turned n d = turned-down N img r h m reply by bm x e q p n d
 
-      phased : allowed (length img) ≡ true → leb (h .0) hostMax ≡ true → (s : Phase) → r .phase ≡ s → Met q (requestOn img r reply h m)
-      phased a k (Busy s) d = turned refusal.Busy (request-busy img r reply h m a k s d)
-      phased a k Unmounted d = turned refusal.NoStore (request-unmounted img r reply h m a k d)
+      phased : allowed N (length img) ≡ true → leb (h .0) hostMax ≡ true → (s : Phase) → r .phase ≡ s → Met q (requestOn N img r reply h m)
+      phased a k (Busy s) d = turned refusal.Busy (request-busy N img r reply h m a k s d)
+      phased a k Unmounted d = turned refusal.NoStore (request-unmounted N img r reply h m a k d)
       phased a k Idle d =
-          over img r h m reply by bm x e q p (request-served img r reply h m a k x q d e p) (serve-met a (leb-true (h .0) hostMax k) q p)
+          over N img r h m reply by bm x e q p (request-served N img r reply h m a k x q d e p) (serve-met a (leb-true (h .0) hostMax k) q p)
 
-serves : (img : List ℕ) (r : Record) (h : Host) (m reply : List ℕ) (x : Held) (q : Request) → Bytes img → Bytes m → Fresh img r x → Means m q
-    → Accepted (exec img r (request h m reply) .answer) → Serves img r h m reply x q (exec img r (request h m reply))
+serves : {N : ℕ} (img : List ℕ) (r : Record) (h : Host) (m reply : List ℕ) (x : Held) (q : Request) → Bytes img → Bytes m → Fresh N img r x → Means m q
+    → Accepted (exec N img r (request h m reply) .answer) → Serves N img r h m reply x q (exec N img r (request h m reply))
 unfolding FreshExact MessagesExact
-serves img r h m reply x q by bm f k a =
-    on-test (allowed (length img))
-    (λ ok. request-met img r h m reply by bm x (fresh-exact img r x by ok .1 f) q (messages-exact m q .1 k) a)
-    (λ no. absurd (subst Accepted (ap (λ (o : Out). o .answer) (request-length img r reply h m no)) a))
+serves {N} img r h m reply x q by bm f k a =
+    on-test (allowed N (length img))
+    (λ ok. request-met N img r h m reply by bm x (fresh-exact N img r x by ok .1 f) q (messages-exact m q .1 k) a)
+    (λ no. absurd (subst Accepted (ap (λ (o : Out). o .answer) (request-length N img r reply h m no)) a))
 
 -- ---- jobs
 
 -- the steps of a job, and how many
-abbrev Does : List ℕ → Record → List Step → Record → Type 0
-Does img r plan z = Follows exec img r plan z × (length plan ≤ sizeOf img)
+abbrev Does : ℕ → List ℕ → Call → Record → List Step → Record → Type 0
+Does N img c r plan z = Follows N (exec N) img r plan z × Short N (sizeOf N img) plan c
 
 -- the frame that a job appends is the one asked for
-abbrev Plans : List ℕ → Record → Out → Held → Frame → Type 0
-Plans img r o x f =
-    Does img (o .board) (framePlan (needsRoom img r f) (r .block) (r .end) x f) (framedAt (needsRoom img r f) (r .last) (r .block) (r .end) x f)
+abbrev Plans : ℕ → List ℕ → Record → Call → Out → Held → Frame → Type 0
+Plans N img r c o x f =
+    Does N img c (o .board) (framePlan N (needsRoom N img r f) (r .block) (r .end) x f) (framedAt N (needsRoom N img r f) (r .last) (r .block) (r .end) x f)
 
-module _ (img : List ℕ) (r : Record) (by : Bytes img) where
-  frame-does : (h : Host) (m reply : List ℕ) (x : Held) (q : Request) (f : Frame) → Bytes m → Fresh img r x → Means m q → frameFor h m x q ≡ some f
-      → Accepted (exec img r (request h m reply) .answer) → Plans img r (exec img r (request h m reply)) x f
+module _ (N : ℕ) (img : List ℕ) (r : Record) (by : Bytes img) where
+  frame-does : (h : Host) (m reply : List ℕ) (x : Held) (q : Request) (f : Frame) → Bytes m → Fresh N img r x → Means m q → frameFor h m x q ≡ some f
+      → Accepted (exec N img r (request h m reply) .answer) → Plans N img r (request h m reply) (exec N img r (request h m reply)) x f
   frame-does h m reply x q f bm v k g a =
-      let o : Out = exec img r (request h m reply) in
+      let o : Out = exec N img r (request h m reply) in
       let t : o .answer ≡ More = subst (λ (n : Option Frame). Answers n r o) g (serves img r h m reply x q by bm v k a .answers) in
-      let w : Appends img r h m o = requests-planned img r h m reply by bm t in
+      let w : Appends N img r h m o = requests-planned img r h m reply by bm t in
       let c : w .holding ≡ x =
-      on-test (allowed (length img))
-      (λ ok. same-held img r by ok (w .holding) x (w .is-held) v)
-      (λ no. absurd (subst Accepted (ap (λ (y : Out). y .answer) (request-length img r reply h m no)) a)) in
+      on-test (allowed N (length img))
+      (λ ok. same-held N img r by ok (w .holding) x (w .is-held) v)
+      (λ no. absurd (subst Accepted (ap (λ (y : Out). y .answer) (request-length N img r reply h m no)) a)) in
       let d : w .asked ≡ q = same-request m (w .asked) q (w .is-asked) k in
       let e : w .frame ≡ f = the-frame (sym (w .is-frame) ∙ ap₂ (frameFor h m) c d ∙ g) in
-      subst₂ (Plans img r o) c e (w .follows, w .short)
+      subst₂ (Plans N img r (request h m reply) o) c e (w .follows, w .short)
 
-  mount-does : (x : Store) → Current img x → Accepted (mountOn img .answer)
-      → Does img (mountOn img .board) (mountPlan (allFound img) x) (mountedAt (needsTransfer (x .frames) (x .tail)) (length img - 1) x)
+  mount-does : (x : Store) → Current N img x → Accepted (mountOn N img .answer)
+      → Does N img mount (mountOn N img .board) (mountPlan N (allFound N img) x) (mountedAt N (needsTransfer (x .frames) (x .tail)) (length img - 1) x)
   unfolding OneStore
   mount-does x v a =
-      on-test (allowed (length img))
+      on-test (allowed N (length img))
       (λ ok.
-      let y : Mounts exec img (mountOn img) = one-store img r by ok a in
-      let e : y .store ≡ x = same-store img by ok (y .store) x (mounts-current img by ok (mountOn img) y) v in
-      subst (λ (s : Store). Does img (mountOn img .board) (mountPlan (allFound img) s) (mountedAt (needsTransfer (s .frames) (s .tail)) (length img - 1) s)) e
-      (subst (Follows exec img (mountOn img .board) (mountPlan (allFound img) (y .store))) (y .is-last) (y .follows), y .short))
-      (λ no. absurd (subst (λ (o : Out). Accepted (o .answer)) (mount-length img no) a))
+      let y : Mounts N (exec N) img (mountOn N img) = one-store N img r by ok a in
+      let e : y .store ≡ x = same-store img by ok (y .store) x (mounts-current img by ok (mountOn N img) y) v in
+      subst (λ (s : Store). Does N img mount (mountOn N img .board) (mountPlan N (allFound N img) s)
+      (mountedAt N (needsTransfer (s .frames) (s .tail)) (length img - 1) s)) e
+      (subst (Follows N (exec N) img (mountOn N img .board) (mountPlan N (allFound N img) (y .store))) (y .is-last) (y .follows), (y .short, y .erases)))
+      (λ no. absurd (subst (λ (o : Out). Accepted (o .answer)) (mount-length N img no) a))
 
-  format-does : Accepted (formatOn img .answer) → Does img (formatOn img .board) (formatPlan img) (idle (rest (length img - 1) 0 headerLen))
+  format-does : Accepted (formatOn N img .answer) → Does N img format (formatOn N img .board) (formatPlan N img) (idle (rest N (length img - 1) 0 headerLen))
   format-does a =
-      on-test (allowed (length img))
+      on-test (allowed N (length img))
       (λ ok. (
-        subst (λ (o : Out). Follows exec img (o .board) (formatPlan img) (idle (rest (length img - 1) 0 headerLen))) (sym (format-begins img ok))
-            (follows-format img ok),
-        omega (arith, length-format img, sized-of img ok .low),
+        subst (λ (o : Out). Follows N (exec N) img (o .board) (formatPlan N img) (idle (rest N (length img - 1) 0 headerLen))) (sym (format-begins N img ok))
+            (follows-format N img ok),
+        omega (arith, length-format N img, sized-of N img ok .low, sized-of N img ok .most),
       ))
-      (λ no. absurd (subst (λ (o : Out). Accepted (o .answer)) (format-length img no) a))
+      (λ no. absurd (subst (λ (o : Out). Accepted (o .answer)) (format-length N img no) a))
 
-  job-does : (c : Call) (plan : List Step) (z : Record) → ByteCall c → Job img r c plan z → Accepted (exec img r c .answer)
-      → Does img (exec img r c .board) plan z
+  job-does : (c : Call) (plan : List Step) (z : Record) → ByteCall c → Job N img r c plan z → Accepted (exec N img r c .answer)
+      → Does N img c (exec N img r c .board) plan z
   job-does c plan z bc (frame-job h m reply x q f v k g) a = frame-does h m reply x q f bc v k g a
   job-does c plan z bc (mount-job x v) a = mount-does x v a
   job-does c plan z bc format-job a = format-does a
 
 -- ---- every call
 
-by-lines : (img : List ℕ) (r : Record) (c : Call) → Bytes img → Exactly (linesOf img r c) (exec img r c .answer)
-by-lines img r (request h msg reply) by = request-lines img r h msg reply by
-by-lines img r step by = step-lines img r
-by-lines img r mount by = mount-lines img by
-by-lines img r format by = format-lines img r
+by-lines : (N : ℕ) (img : List ℕ) (r : Record) (c : Call) → Bytes img → Exactly (linesOf N img r c) (exec N img r c .answer)
+by-lines N img r (request h msg reply) by = request-lines img r h msg reply by
+by-lines N img r step by = step-lines img r
+by-lines N img r mount by = mount-lines img by
+by-lines N img r format by = format-lines img r
 
-pub calls : Calls exec
-calls =
+pub calls : {N : ℕ} → Calls N (exec N)
+calls {N} =
     record {
-      table = by-lines;
+      table = by-lines N;
       names = λ img r k e by. mount-names img by k e;
-      untouched = refusals-untouched;
-      told = told;
-      rests = step-resting;
-      one-step = at-most-one-step;
-      silent = silent;
+      untouched = refusals-untouched N;
+      told = told N;
+      rests = step-resting N;
+      one-step = at-most-one-step N;
+      silent = silent N;
       serves = serves;
-      jobs = λ img r c plan z by bc j a. job-does img r by c plan z bc j a;
-      ends = forged-ends;
+      jobs = λ img r c plan z by bc j a. job-does N img r by c plan z bc j a;
+      ends = forged-ends N;
     }

@@ -31,7 +31,7 @@ use Rattle.board.specs.declared.Phase.{Phase}
 use Rattle.board.specs.declared.Phase.the-variants.{Unmounted, Idle, Busy}
 use Rattle.board.specs.declared.Record.{Record}
 use Rattle.board.specs.Record.{allowed, unmounted, Out, refuse, answerIn}
-use Rattle.board.specs.Step.{enterWipe, action, advance, stepOn}
+use Rattle.board.specs.Step.{sameShape, enterWipe, action, advance, stepOn}
 use Rattle.board.specs.Mount.{allFound, anyForeign, Found, Store, stores, equalTimes, newest, wipeList, needsTransfer, mountJob}
 use Rattle.board.specs.Mount.{isForeign, orForeign, noneValid, mountAt, mountStores, mountOn, formatJob, formatOn}
 use Rattle.board.specs.Queue.{Held, held, needsRoom, appendJob, append, serveChange, serveEnd, serve, serveParsed, serveHeld, requestIn, requestOn}
@@ -96,92 +96,92 @@ over {K} {img} {b} {reply} {cs} e f = subst (λ (x : Out). Follows K img b reply
 abbrev Same : List ℕ → List ℕ → Type 0
 Same img i = i ≡ img
 
-module _ (img : List ℕ) (r : Record) (reply : List ℕ) where
+module _ (N : ℕ) (img : List ℕ) (r : Record) (reply : List ℕ) where
   abbrev Asked : List Check → Out → Type 0
   Asked cs o = Follows (Same img) img r reply cs o
 
-  append-asked : (x : Held) (f : Frame) → Asked (check refusal.Worn (needsRoom img r f && eqb (x .time) lastTime) ∷ []) (append img r reply x f)
+  append-asked : (x : Held) (f : Frame) → Asked (check refusal.Worn (needsRoom N img r f && eqb (x .time) lastTime) ∷ []) (append N img r reply x f)
   append-asked x f =
-      on-test (needsRoom img r f && eqb (x .time) lastTime)
-      (λ e. stops refl e (append-worn img r reply x f e))
-      (λ e. over (append-begins img r reply x f e) (passes e (accepted (begin-accepts (enterWipe (appendJob img r x f) .phase)) refl)))
+      on-test (needsRoom N img r f && eqb (x .time) lastTime)
+      (λ e. stops refl e (append-worn N img r reply x f e))
+      (λ e. over (append-begins N img r reply x f e) (passes e (accepted (begin-accepts (enterWipe (appendJob N img r x f) .phase)) refl)))
 
   change-asked : (h : Host) (x : Held) (c : Change)
-      → Asked (check refusal.NoRoom (noRoom (sizeOf img) (replay (x .frames)) h c) ∷ check refusal.Worn (worn img r x (some (change h c))) ∷ [])
-      (serveChange img r reply h x c)
+      → Asked (check refusal.NoRoom (noRoom (sizeOf N img) (replay (x .frames)) h c) ∷ check refusal.Worn (worn N img r x (some (change h c))) ∷ [])
+      (serveChange N img r reply h x c)
   change-asked h x c =
-      on-test (noRoom (sizeOf img) (replay (x .frames)) h c)
-      (λ e. stops refl e (change-refused img r reply h x c e))
-      (λ e. over (change-goes img r reply h x c e) (passes e (append-asked x (change h c))))
+      on-test (noRoom (sizeOf N img) (replay (x .frames)) h c)
+      (λ e. stops refl e (change-refused N img r reply h x c e))
+      (λ e. over (change-goes N img r reply h x c e) (passes e (append-asked x (change h c))))
 
   end-asked : (h : Host) (x : Held) (f : Frame)
-      → Asked (check refusal.Worn (worn img r x (frameIf (isOpen h (replay (x .frames) .pending)) f)) ∷ []) (serveEnd img r reply h x f)
+      → Asked (check refusal.Worn (worn N img r x (frameIf (isOpen h (replay (x .frames) .pending)) f)) ∷ []) (serveEnd N img r reply h x f)
   end-asked h x f =
       on-test (isOpen h (replay (x .frames) .pending))
-      (λ e. over (end-goes img r reply h x f e) (rw e (append-asked x f)))
-      (λ e. over (end-idle img r reply h x f e) (passes (rw e) (accepted refl refl)))
+      (λ e. over (end-goes N img r reply h x f e) (rw e (append-asked x f)))
+      (λ e. over (end-idle N img r reply h x f e) (passes (rw e) (accepted refl refl)))
 
   read-asked : (h : Host) (m : List ℕ) (x : Held) (i : ObjectId) (v : Option (List ℕ)) → lookup i (replay (x .frames) .objects) ≡ v
-      → Asked (heldChecks img r h m reply x (Read i)) (serve img r reply h m x (Read i))
-  read-asked h m x i none e = stops refl (rw e) (read-none img r reply h m x i e)
+      → Asked (heldChecks N img r h m reply x (Read i)) (serve N img r reply h m x (Read i))
+  read-asked h m x i none e = stops refl (rw e) (read-none N img r reply h m x i e)
   read-asked h m x i (some v) e =
-      over (read-some img r reply h m x i v e) (passes (rw e) (passes refl (passes refl (passes refl (accepted refl refl)))))
+      over (read-some N img r reply h m x i v e) (passes (rw e) (passes refl (passes refl (passes refl (accepted refl refl)))))
 
-  log-asked : (h : Host) (m : List ℕ) (x : Held) → Asked (heldChecks img r h m reply x (Log Summary)) (serve img r reply h m x (Log Summary))
+  log-asked : (h : Host) (m : List ℕ) (x : Held) → Asked (heldChecks N img r h m reply x (Log Summary)) (serve N img r reply h m x (Log Summary))
   log-asked h m x =
-      over (serve-log img r reply h m x)
+      over (serve-log N img r reply h m x)
       (passes refl
       (on-test (ltb (length reply) pageLen)
-      (λ e. stops refl e (log-short img r reply x e))
-      (λ e. over (log-done img r reply x e) (passes e (passes refl (passes refl (accepted refl refl)))))))
+      (λ e. stops refl e (log-short N img r reply x e))
+      (λ e. over (log-done N img r reply x e) (passes e (passes refl (passes refl (accepted refl refl)))))))
 
-  serve-asked : (h : Host) (m : List ℕ) (x : Held) (q : Request) → Asked (heldChecks img r h m reply x q) (serve img r reply h m x q)
-  serve-asked h m x (Put i) = over (serve-put img r reply h m x i) (passes refl (passes refl (change-asked h x (put i (valueIn m)))))
-  serve-asked h m x (Delete i) = over (serve-delete img r reply h m x i) (passes refl (passes refl (change-asked h x (delete i))))
-  serve-asked h m x Commit = over (serve-commit img r reply h m x) (passes refl (passes refl (passes refl (end-asked h x (commit h)))))
-  serve-asked h m x Abort = over (serve-abort img r reply h m x) (passes refl (passes refl (passes refl (end-asked h x (abort h)))))
+  serve-asked : (h : Host) (m : List ℕ) (x : Held) (q : Request) → Asked (heldChecks N img r h m reply x q) (serve N img r reply h m x q)
+  serve-asked h m x (Put i) = over (serve-put N img r reply h m x i) (passes refl (passes refl (change-asked h x (put i (valueIn m)))))
+  serve-asked h m x (Delete i) = over (serve-delete N img r reply h m x i) (passes refl (passes refl (change-asked h x (delete i))))
+  serve-asked h m x Commit = over (serve-commit N img r reply h m x) (passes refl (passes refl (passes refl (end-asked h x (commit h)))))
+  serve-asked h m x Abort = over (serve-abort N img r reply h m x) (passes refl (passes refl (passes refl (end-asked h x (abort h)))))
   serve-asked h m x (Read i) = read-asked h m x i (lookup i (replay (x .frames) .objects)) refl
   serve-asked h m x (Log Summary) = log-asked h m x
 
   parsed-asked : (h : Host) (m : List ℕ) (x : Held) (p : Parsed)
-      → Asked (check refusal.Malformed (isMalformed p) ∷ laterChecks img r h m reply (some x) p) (serveParsed img r reply h m x p)
+      → Asked (check refusal.Malformed (isMalformed p) ∷ laterChecks N img r h m reply (some x) p) (serveParsed N img r reply h m x p)
   parsed-asked h m x Malformed = stops refl refl refl
   parsed-asked h m x (Is q) = passes refl (serve-asked h m x q)
 
   held-asked : (h : Host) (m : List ℕ) (x : Option Held)
-      → Asked (check refusal.Stale (isNone x) ∷ check refusal.Malformed (isMalformed (parse m)) ∷ laterChecks img r h m reply x (parse m))
-      (serveHeld img r reply h m x)
+      → Asked (check refusal.Stale (isNone x) ∷ check refusal.Malformed (isMalformed (parse m)) ∷ laterChecks N img r h m reply x (parse m))
+      (serveHeld N img r reply h m x)
   held-asked h m none = stops refl refl refl
   held-asked h m (some x) = passes refl (parsed-asked h m x (parse m))
 
   phase-asked : (h : Host) (m : List ℕ) (p : Phase)
-      → Asked (check refusal.Busy (isBusy p) ∷ check refusal.NoStore (isUnmounted p) ∷ check refusal.Stale (isNone (held img r))
-      ∷ check refusal.Malformed (isMalformed (parse m)) ∷ laterChecks img r h m reply (held img r) (parse m))
-      (requestIn p img r reply h m)
+      → Asked (check refusal.Busy (isBusy p) ∷ check refusal.NoStore (isUnmounted p) ∷ check refusal.Stale (isNone (held N img r))
+      ∷ check refusal.Malformed (isMalformed (parse m)) ∷ laterChecks N img r h m reply (held N img r) (parse m))
+      (requestIn N p img r reply h m)
   phase-asked h m (Busy s) = stops refl refl refl
   phase-asked h m Unmounted = passes refl (stops refl refl refl)
-  phase-asked h m Idle = passes refl (passes refl (held-asked h m (held img r)))
+  phase-asked h m Idle = passes refl (passes refl (held-asked h m (held N img r)))
 
-  request-asked : (h : Host) (m : List ℕ) → Asked (requestChecks img r h m reply) (requestOn img r reply h m)
+  request-asked : (h : Host) (m : List ℕ) → Asked (requestChecks N img r h m reply) (requestOn N img r reply h m)
   request-asked h m =
-      on-test (allowed (length img))
+      on-test (allowed N (length img))
       (λ a. passes (ap not a)
       (on-test (leb (h .0) hostMax)
-      (λ e. over (request-in img r reply h m a e) (passes (le-ltb hostMax (h .0) (leb-true (h .0) hostMax e)) (phase-asked h m (r .phase))))
-      (λ e. stops refl (lt-ltb hostMax (h .0) (leb-false (h .0) hostMax e)) (request-host img r reply h m a e))))
-      (λ a. stops refl (ap not a) (request-length img r reply h m a))
+      (λ e. over (request-in N img r reply h m a e) (passes (le-ltb hostMax (h .0) (leb-true (h .0) hostMax e)) (phase-asked h m (r .phase))))
+      (λ e. stops refl (lt-ltb hostMax (h .0) (leb-false (h .0) hostMax e)) (request-host N img r reply h m a e))))
+      (λ a. stops refl (ap not a) (request-length N img r reply h m a))
 
 -- ---- mount and format
 
 abbrev Made : List ℕ → List Check → Out → Type 0
 Made img cs o = Follows (Same img) img unmounted [] cs o
 
-at-made : (img : List ℕ) (xs : List Found) (x : Store)
-    → Made img (check refusal.Worn (needsTransfer (x .frames) (x .tail) && eqb (x .time) lastTime) ∷ []) (mountAt img xs x)
-at-made img xs x =
+at-made : (N : ℕ) (img : List ℕ) (xs : List Found) (x : Store)
+    → Made img (check refusal.Worn (needsTransfer (x .frames) (x .tail) && eqb (x .time) lastTime) ∷ []) (mountAt N img xs x)
+at-made N img xs x =
     on-test (needsTransfer (x .frames) (x .tail) && eqb (x .time) lastTime)
-    (λ e. stops refl e (mount-worn img xs x e))
-    (λ e. over (mount-begins img xs x e) (passes e (accepted (begin-accepts (enterWipe (mountJob img x (wipeList (x .number) xs)) .phase)) refl)))
+    (λ e. stops refl e (mount-worn N img xs x e))
+    (λ e. over (mount-begins N img xs x e) (passes e (accepted (begin-accepts (enterWipe (mountJob N img x (wipeList (x .number) xs)) .phase)) refl)))
 
 none-foreign : (xs : List Found) → anyForeign xs ≡ false → noneValid xs ≡ refusal.NoStore
 none-foreign [] e = refl
@@ -194,59 +194,60 @@ none-foreign (x ∷ xs) e =
     go (valid t fs c) f y = y
     go (foreign w) f y = let z : _≡_ {A = ℕ} 0 1 = cc in absurd (omega arith)
 
-stores-made : (img : List ℕ) (xs : List Found) (ys : List Store)
+stores-made : (N : ℕ) (img : List ℕ) (xs : List Found) (ys : List Store)
     → Made img
     (check refusal.NoStore (noStore ys && not (anyForeign xs)) ∷ check (unclear xs ys) ((noStore ys && anyForeign xs) || equalTimes ys)
     ∷ check refusal.Worn (wornStore ys) ∷ [])
-    (mountStores img xs ys)
-stores-made img xs [] =
+    (mountStores N img xs ys)
+stores-made N img xs [] =
     on-test (anyForeign xs)
     (λ e. passes (ap not e) (stops refl (or-left (anyForeign xs) false e) refl))
     (λ e. stops refl (ap not e) (ap (λ (w : Refusal). refuse w img unmounted []) (none-foreign xs e)))
-stores-made img xs (y ∷ ys) =
+stores-made N img xs (y ∷ ys) =
     passes refl
-    (on-test (equalTimes (y ∷ ys)) (λ e. stops refl e (rw e)) (λ e. passes e (over (rw e) (at-made img xs (newest y ys)))))
+    (on-test (equalTimes (y ∷ ys)) (λ e. stops refl e (rw e)) (λ e. passes e (over (rw e) (at-made N img xs (newest y ys)))))
 
-mount-made : (img : List ℕ) → Made img (mountChecks img) (mountOn img)
-mount-made img =
-    on-test (allowed (length img))
-    (λ a. passes (ap not a) (over (mount-stores img a) (stores-made img (allFound img) (stores (allFound img)))))
-    (λ a. stops refl (ap not a) (mount-length img a))
+mount-made : (N : ℕ) (img : List ℕ) → Made img (mountChecks N img) (mountOn N img)
+mount-made N img =
+    on-test (allowed N (length img))
+    (λ a. passes (ap not a) (over (mount-stores N img a) (stores-made N img (allFound N img) (stores (allFound N img)))))
+    (λ a. stops refl (ap not a) (mount-length N img a))
 
-format-made : (img : List ℕ) → Made img (checks img unmounted format) (formatOn img)
-format-made img =
-    on-test (allowed (length img))
-    (λ a. over (format-begins img a) (passes (ap not a) (accepted (begin-accepts (enterWipe (formatJob img) .phase)) refl)))
-    (λ a. stops refl (ap not a) (format-length img a))
+format-made : (N : ℕ) (img : List ℕ) → Made img (checks N img unmounted format) (formatOn N img)
+format-made N img =
+    on-test (allowed N (length img))
+    (λ a. over (format-begins N img a) (passes (ap not a) (accepted (begin-accepts (enterWipe (formatJob N img) .phase)) refl)))
+    (λ a. stops refl (ap not a) (format-length N img a))
 
 -- ---- step
 
-step-follows : (img : List ℕ) (r : Record) (p : Phase) → r .phase ≡ p
-    → Follows (OneStep img) img r [] (check refusal.Stale (outside p img r) ∷ []) (stepOn img r)
-step-follows img r Unmounted e = over (step-resting img r (subst Rests (sym e) tt)) (passes refl (accepted refl (inl refl)))
-step-follows img r Idle e = over (step-resting img r (subst Rests (sym e) tt)) (passes refl (accepted refl (inl refl)))
-step-follows img r (Busy s) e =
-    on-test (eqb (length img) (suc (r .last)) && within (sizeOf img) (action s r))
-    (λ t. over (step-goes img r s e t)
-    (passes (ap not t) (accepted (begin-accepts (advance s (apply (sizeOf img) (action s r) img) r .phase)) (inr (action s r, refl)))))
-    (λ t. stops (inl refl) (ap not t) (step-outside img r s e t))
+step-follows : (N : ℕ) (img : List ℕ) (r : Record) (p : Phase) → r .phase ≡ p
+    → Follows (OneStep N img) img r [] (check refusal.Stale (outside N p img r) ∷ []) (stepOn N img r)
+step-follows N img r Unmounted e = over (step-resting N img r (subst Rests (sym e) tt)) (passes refl (accepted refl (inl refl)))
+step-follows N img r Idle e = over (step-resting N img r (subst Rests (sym e) tt)) (passes refl (accepted refl (inl refl)))
+step-follows N img r (Busy s) e =
+    on-test (sameShape N (length img) r && within N (sizeOf N img) (action s r))
+    (λ t. over (step-goes N img r s e t)
+    (passes (ap not t) (accepted (begin-accepts (advance N s (apply (sizeOf N img) (action s r) img) r .phase)) (inr (action s r, refl)))))
+    (λ t. stops (inl refl) (ap not t) (step-outside N img r s e t))
 
 -- ---- demand 1
 
-pub refused-by-table : (img : List ℕ) (r : Record) (c : Call) → refusalIn (exec img r c .answer) ≡ firstOf (checks img r c)
-refused-by-table img r (request h m reply) = request-asked img r reply h m .table
-refused-by-table img r step = step-follows img r (r .phase) refl .table
-refused-by-table img r mount = mount-made img .table
-refused-by-table img r format = format-made img .table
+pub refused-by-table : (N : ℕ) (img : List ℕ) (r : Record) (c : Call) → refusalIn (exec N img r c .answer) ≡ firstOf (checks N img r c)
+refused-by-table N img r (request h m reply) = request-asked N img r reply h m .table
+refused-by-table N img r step = step-follows N img r (r .phase) refl .table
+refused-by-table N img r mount = mount-made N img .table
+refused-by-table N img r format = format-made N img .table
 
-pub refusals-untouched : (img : List ℕ) (r : Record) (c : Call) (n : Refusal) → exec img r c .answer ≡ Refused n → exec img r c ≡ Unchanged img r c n
-refusals-untouched img r (request h m reply) n e = request-asked img r reply h m .untouched n e
-refusals-untouched img r step n e = step-follows img r (r .phase) refl .untouched n e
-refusals-untouched img r mount n e = mount-made img .untouched n e
-refusals-untouched img r format n e = format-made img .untouched n e
+pub refusals-untouched : (N : ℕ) (img : List ℕ) (r : Record) (c : Call) (n : Refusal) → exec N img r c .answer ≡ Refused n
+    → exec N img r c ≡ Unchanged img r c n
+refusals-untouched N img r (request h m reply) n e = request-asked N img r reply h m .untouched n e
+refusals-untouched N img r step n e = step-follows N img r (r .phase) refl .untouched n e
+refusals-untouched N img r mount n e = mount-made N img .untouched n e
+refusals-untouched N img r format n e = format-made N img .untouched n e
 
-pub at-most-one-step : (img : List ℕ) (r : Record) (c : Call) → ImageAfter exec img r c
-at-most-one-step img r (request h m reply) = request-asked img r reply h m .kept
-at-most-one-step img r step = step-follows img r (r .phase) refl .kept
-at-most-one-step img r mount = mount-made img .kept
-at-most-one-step img r format = format-made img .kept
+pub at-most-one-step : (N : ℕ) (img : List ℕ) (r : Record) (c : Call) → ImageAfter N (exec N) img r c
+at-most-one-step N img r (request h m reply) = request-asked N img r reply h m .kept
+at-most-one-step N img r step = step-follows N img r (r .phase) refl .kept
+at-most-one-step N img r mount = mount-made N img .kept
+at-most-one-step N img r format = format-made N img .kept

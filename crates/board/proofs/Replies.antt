@@ -10,7 +10,7 @@ use lib.ListN.{length, getD, take, drop, replicate}
 use lib.Seq.{drop-drop}
 use borrow.Author.Tests.{eq-eqb, le-leb, lt-ltb, eqb-false, ltb-true}
 use Rattle.flash.specs.Bytes.{allFF, u16le}
-use Rattle.flash.specs.Flash.{blocks, blockNumbers, block, sizeOf}
+use Rattle.flash.specs.Flash.{blockNumbers, block, sizeOf}
 use Rattle.flash.proofs.Cases.{on-test, and-both, or-left, or-right}
 use Rattle.flash.proofs.Blank.{allFF-all}
 use Rattle.flash.proofs.Image.{take-drop-take, length-block}
@@ -31,44 +31,38 @@ use Rattle.wire.specs.declared.Request.the-variants.{Read, Log}
 use Rattle.wire.specs.Message.{pageLen}
 use Rattle.board.specs.declared.Record.{Record}
 use Rattle.board.specs.Record.{Out, rest, idle, Stretch}
+use Rattle.board.specs.Step.{sameShape}
 use Rattle.board.specs.Mount.{endOf}
 use Rattle.board.specs.Queue.{Held, held, heldBy, heldIn, heldIf, fitsRecord, sameImage, othersBlank, stretchOf, placeOf, serve}
 use Rattle.board.specs.Claim.{ReadSays, LogSays}
 use Rattle.board.proofs.Images.{Sized, size-of, sized-block}
+use Rattle.board.proofs.Blocks.{others-are}
+use Rattle.board.proofs.Pipeline.{same-shape}
 use Rattle.board.proofs.Invariant.{Others, Ready}
 use Rattle.board.proofs.Outcomes.{read-none, read-some, serve-log, log-done}
 
 -- ---- the image fits the record
 
-others-blank : (s k : ℕ) (img : List ℕ) → sizeOf img ≡ s → Others (λ j. block s j img ≡ replicate s 255) k → othersBlank k img blockNumbers ≡ true
-others-blank s k img e o =
-    and-both (one 0) (one 1 && true) (each 0 (omega arith)) (and-both (one 1) true (each 1 (omega arith)) refl)
-  where
-    one : ℕ → Bool
-    one j = eqb k j || allFF (block (sizeOf img) j img)
+blank-beside : {N : ℕ} (s k : ℕ) (img : List ℕ) → sizeOf N img ≡ s → Others N (λ j. block s j img ≡ replicate s 255) k
+    → othersBlank N k img (blockNumbers N) ≡ true
+blank-beside {N} s k img e o = others-are N k img (λ j h n. ap (λ (w : ℕ). allFF (block w j img)) e ∙ ap allFF (o j h n) ∙ allFF-all s)
 
-    each : (j : ℕ) → j < blocks → (eqb k j || allFF (block (sizeOf img) j img)) ≡ true
-    each j h =
-        on-test (eqb k j) (λ t. or-left (eqb k j) (allFF (block (sizeOf img) j img)) t)
-        (λ t. or-right (eqb k j) (allFF (block (sizeOf img) j img))
-        (ap (λ (n : ℕ). allFF (block n j img)) e ∙ ap allFF (o j h (λ q. eqb-false k j t (sym q))) ∙ allFF-all s))
-
-abbrev pub heldOf : {s : ℕ} {img : List ℕ} {r : Record} → Ready s img r → Held
+abbrev pub heldOf : {N s : ℕ} {img : List ℕ} {r : Record} → Ready N s img r → Held
 heldOf y = record { time = y .time; frames = y .frames }
 
-pub held-ready : {s : ℕ} {img : List ℕ} {r : Record} → Sized s img → (y : Ready s img r) → held img r ≡ some (heldOf y)
+pub held-ready : {N : ℕ} {s : ℕ} {img : List ℕ} {r : Record} → Sized N s img → (y : Ready N s img r) → held N img r ≡ some (heldOf y)
 unfolding held
-held-ready {s} {img} {r} z y =
-    ap (held img) (y .is) ∙ ap (λ (b : Bool). heldBy b img (idle (rest (y .last) (y .number) (y .end)))) same
+held-ready {N} {s} {img} {r} z y =
+    ap (held N img) (y .is) ∙ ap (λ (b : Bool). heldBy N b img (idle (rest N (y .last) (y .number) (y .end)))) same
     ∙ ap (λ (n : ℕ). heldIn n (y .end) (blockState (block n (y .number) img))) (size-of z)
     ∙ ap (heldIn s (y .end)) (contents-valid (y .contents)) ∙ ap (λ (b : Bool). heldIf b (y .time) (y .frames)) fit
   where
-    same : sameImage img (idle (rest (y .last) (y .number) (y .end))) ≡ true
+    same : sameImage N img (idle (rest N (y .last) (y .number) (y .end))) ≡ true
     same =
-        and-both (eqb (length img) (suc (y .last))) (ltb (y .number) blocks && othersBlank (y .number) img blockNumbers)
-        (eq-eqb (length img) (suc (y .last)) (y .long))
-        (and-both (ltb (y .number) blocks) (othersBlank (y .number) img blockNumbers) (lt-ltb (y .number) blocks (y .there))
-        (others-blank s (y .number) img (size-of z) (y .others)))
+        and-both (sameShape N (length img) (idle (rest N (y .last) (y .number) (y .end)))) (ltb (y .number) N && othersBlank N (y .number) img (blockNumbers N))
+        (same-shape (length img) (idle (rest N (y .last) (y .number) (y .end))) (y .long) refl)
+        (and-both (ltb (y .number) N) (othersBlank N (y .number) img (blockNumbers N)) (lt-ltb (y .number) N (y .there))
+        (blank-beside s (y .number) img (size-of z) (y .others)))
 
     fit : fitsRecord s (y .end) (y .frames) ≡ true
     fit =
@@ -85,26 +79,26 @@ stretch s k p n img h = sym (ap (take n) (drop-drop p (k * s) img)) ∙ sym (tak
 pub journal-of : {b : List ℕ} {t : ℕ} {fs : List Frame} {c : Tail} → Contents b t fs c → Journal b fs
 journal-of {b} {t} x = record { head = header t validData; rest = x .rest; split = x .layout .is; long = refl; stand = x .layout .stands }
 
-module _ {s : ℕ} {img : List ℕ} {r : Record} (z : Sized s img) (y : Ready s img r) (reply : List ℕ) (h : Host) (m : List ℕ) where
+module _ {N : ℕ} {s : ℕ} {img : List ℕ} {r : Record} (z : Sized N s img) (y : Ready N s img r) (reply : List ℕ) (h : Host) (m : List ℕ) where
   abbrev served : Request → Out
-  served q = serve img r reply h m (heldOf y) q
+  served q = serve N img r reply h m (heldOf y) q
 
   pub read-says : (i : ObjectId) → i .0 ≤ idMax → ReadSays (served (Read i)) (lookup i (replay (y .frames) .objects))
   read-says i l = go (lookup i (replay (y .frames) .objects)) refl
     where
       go : (o : Option (List ℕ)) → lookup i (replay (y .frames) .objects) ≡ o → ReadSays (served (Read i)) o
-      go none e = ap (λ (o : Out). o .answer) (read-none img r reply h m (heldOf y) i e)
+      go none e = ap (λ (o : Out). o .answer) (read-none N img r reply h m (heldOf y) i e)
       go (some v) e =
           let k : ℕ = y .number in
           let b : List ℕ = block s k img in
           let x : ValueStands b i (getD (placesOf (y .frames)) (i .0) 0) v = place-law b (y .frames) i v (journal-of (y .contents)) l e in
           let n : length b ≡ s = length-block s k img (sized-block k z (y .there)) in
-          let at : placeOf img r (heldOf y) i ≡ record { at = k * s + x .at; size = length v } =
-          ap (λ (q : Record). placeOf img q (heldOf y) i) (y .is)
+          let at : placeOf N img r (heldOf y) i ≡ record { at = k * s + x .at; size = length v } =
+          ap (λ (q : Record). placeOf N img q (heldOf y) i) (y .is)
           ∙ ap (λ (w : ℕ). stretchOf (k * w) (valueAt (block w k img) i (getD (placesOf (y .frames)) (i .0) 0))) (size-of z)
           ∙ ap (stretchOf (k * s)) (x .found) in
           let f : served (Read i) ≡ record { answer = Done; image = img; board = r; reply = reply; stretch = record { at = k * s + x .at; size = length v } } =
-          read-some img r reply h m (heldOf y) i v e
+          read-some N img r reply h m (heldOf y) i v e
           ∙ ap (λ (t : Stretch). record { answer = Done; image = img; board = r; reply = reply; stretch = t }) at in (
             ap (λ (o : Out). o .answer) f,
             subst (λ (o : Out). take (o .stretch .size) (drop (o .stretch .at) (o .image)) ≡ v) (sym f)
@@ -119,4 +113,4 @@ module _ {s : ℕ} {img : List ℕ} {r : Record} (z : Sized s img) (y : Ready s 
       (λ t. absurd (omega (arith, ltb-true (length reply) pageLen t)))
       (λ t. subst (λ (o : Out). (o .answer ≡ Done) × (take 4 (drop 8 (o .reply)) ≡ u16le (length (replay (y .frames) .objects)) ++ u16le
       (usedBy (replay (y .frames) .objects))))
-      (sym (serve-log img r reply h m (heldOf y) ∙ log-done img r reply (heldOf y) t)) (refl, refl)))
+      (sym (serve-log N img r reply h m (heldOf y) ∙ log-done N img r reply (heldOf y) t)) (refl, refl)))

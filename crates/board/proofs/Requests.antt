@@ -35,14 +35,14 @@ use Rattle.board.proofs.Keeping.{on-phase}
 use Rattle.board.proofs.Replies.{heldOf, held-ready, read-says, log-says}
 use Rattle.board.proofs.Serving.{entered, Served, Legal, served}
 
-abbrev pub RequestKeeps : ℕ → Book → Bool → Host → List ℕ → Out → Type 0
-RequestKeeps s b u h m o =
-    Inv s (o .image) (o .board) (enterRequest b h m (o .answer)) u × Never refusal.ImageLength o × Never refusal.Stale o
+abbrev pub RequestKeeps : ℕ → ℕ → Book → Bool → Host → List ℕ → Out → Type 0
+RequestKeeps N s b u h m o =
+    Inv N s (o .image) (o .board) (enterRequest b h m (o .answer)) u × Never refusal.ImageLength o × Never refusal.Stale o
 
 -- what is had of a request: the invariant, and on an idle record and for a host in range what it says
-abbrev pub Requested : ℕ → List ℕ → Record → Book → Bool → Host → List ℕ → List ℕ → Out → Type 0
-Requested s img r b u h m reply o =
-    RequestKeeps s b u h m o × (r .phase ≡ Idle → h .0 ≤ hostMax → RequestSays (parse m) reply o b)
+abbrev pub Requested : ℕ → ℕ → List ℕ → Record → Book → Bool → Host → List ℕ → List ℕ → Out → Type 0
+Requested N s img r b u h m reply o =
+    RequestKeeps N s b u h m o × (r .phase ≡ Idle → h .0 ≤ hostMax → RequestSays (parse m) reply o b)
 
 entered-is : (b : Book) (h : Host) (m : List ℕ) (q : Request) (a : Answer) → parse m ≡ Is q → entered b h m q a ≡ enterRequest b h m a
 entered-is b h m q Done e = ap (λ (p : Parsed). enterParsed b h m p Done) (sym e)
@@ -57,26 +57,26 @@ legal h m Abort k b e = tt
 legal h m (Read i) k b e = tt
 legal h m (Log p) k b e = tt
 
-module _ {s : ℕ} {img : List ℕ} {r : Record} {b : Book} {u : Bool} (v : Inv s img r b u) (h : Host) (m reply : List ℕ) (by : Bytes m) where
+module _ {N : ℕ} {s : ℕ} {img : List ℕ} {r : Record} {b : Book} {u : Bool} (v : Inv N s img r b u) (h : Host) (m reply : List ℕ) (by : Bytes m) where
   abbrev Is-had : Out → Type 0
-  Is-had o = Requested s img r b u h m reply o
+  Is-had o = Requested N s img r b u h m reply o
 
   -- a refusal before the record is looked into
   turned-away : (n : Refusal) → (Refused n ≡ Refused refusal.ImageLength → ⊥) → (Refused n ≡ Refused refusal.Stale → ⊥)
       → (r .phase ≡ Idle → h .0 ≤ hostMax → ⊥) → Is-had (refuse n img r reply)
   turned-away n a c f = ((v, a, c), λ e k. absurd (f e k))
 
-  idle-says : (y : IdleBook s img r b) (q : Request) → parse m ≡ Is q → RequestSays (Is q) reply (serve img r reply h m (heldOf (y .ready)) q) b
+  idle-says : (y : IdleBook N s img r b) (q : Request) → parse m ≡ Is q → RequestSays (Is q) reply (serve N img r reply h m (heldOf (y .ready)) q) b
   idle-says y (Put i) e = tt
   idle-says y (Delete i) e = tt
   idle-says y Commit e = tt
   idle-says y Abort e = tt
   idle-says y (Read i) e =
-      subst (λ (os : List Object). ReadSays (serve img r reply h m (heldOf (y .ready)) (Read i)) (lookup i os)) (y .objects)
+      subst (λ (os : List Object). ReadSays (serve N img r reply h m (heldOf (y .ready)) (Read i)) (lookup i os)) (y .objects)
       (read-says (v .sized) (y .ready) reply h m i (read-parsed m i e))
   idle-says y (Log Summary) e = log-says (v .sized) (y .ready) reply h m (b .objects) (y .objects)
 
-  on-idle : leb (h .0) hostMax ≡ true → r .phase ≡ Idle → IdleBook s img r b → Is-had (requestOn img r reply h m)
+  on-idle : leb (h .0) hostMax ≡ true → r .phase ≡ Idle → IdleBook N s img r b → Is-had (requestOn N img r reply h m)
   on-idle t e y = go (parse m) refl
     where
       x : Held
@@ -85,38 +85,38 @@ module _ {s : ℕ} {img : List ℕ} {r : Record} {b : Book} {u : Bool} (v : Inv 
       k : h .0 ≤ hostMax
       k = leb-true (h .0) hostMax t
 
-      go : (p : Parsed) → parse m ≡ p → Is-had (requestOn img r reply h m)
+      go : (p : Parsed) → parse m ≡ p → Is-had (requestOn N img r reply h m)
       go Malformed q =
-          subst Is-had (sym (request-malformed img r reply h m (v .sized .ok) t (heldOf (y .ready)) e (held-ready (v .sized) (y .ready)) q)) (
+          subst Is-had (sym (request-malformed N img r reply h m (v .sized .ok) t (heldOf (y .ready)) e (held-ready (v .sized) (y .ready)) q)) (
             (v, λ c. (let w : _≡_ {A = ℕ} 0 1 = cc in omega arith), λ c. (let w : _≡_ {A = ℕ} 0 1 = cc in omega arith)),
             λ i j. subst (λ (p : Parsed). RequestSays p reply (refuse refusal.Malformed img r reply) b) (sym q) refl,
           )
       go (Is a) q =
-          let o : Out = serve img r reply h m (heldOf (y .ready)) a in
-          let w : Served s b u h m a o = served u (v .sized) (v .bytes) y reply h (leb-true (h .0) hostMax t) m a
+          let o : Out = serve N img r reply h m (heldOf (y .ready)) a in
+          let w : Served N s b u h m a o = served u (v .sized) (v .bytes) y reply h (leb-true (h .0) hostMax t) m a
           (legal h m a (leb-true (h .0) hostMax t) by q) in
-          subst Is-had (sym (request-served img r reply h m (v .sized .ok) t (heldOf (y .ready)) a e (held-ready (v .sized) (y .ready)) q)) (
-            (subst (λ (c : Book). Inv s (o .image) (o .board) c u) (entered-is b h m a (o .answer) q) (w .0), w .1, w .2),
+          subst Is-had (sym (request-served N img r reply h m (v .sized .ok) t (heldOf (y .ready)) a e (held-ready (v .sized) (y .ready)) q)) (
+            (subst (λ (c : Book). Inv N s (o .image) (o .board) c u) (entered-is b h m a (o .answer) q) (w .0), w .1, w .2),
             λ i j. subst (λ (p : Parsed). RequestSays p reply o b) (sym q) (idle-says y a q),
           )
 
-  in-range : leb (h .0) hostMax ≡ true → Is-had (requestOn img r reply h m)
+  in-range : leb (h .0) hostMax ≡ true → Is-had (requestOn N img r reply h m)
   in-range t =
       on-phase v
-      (λ e f n. subst Is-had (sym (request-unmounted img r reply h m (v .sized .ok) t e))
+      (λ e f n. subst Is-had (sym (request-unmounted N img r reply h m (v .sized .ok) t e))
       (turned-away refusal.NoStore (λ c. let w : _≡_ {A = ℕ} 0 1 = cc in omega arith) (λ c. let w : _≡_ {A = ℕ} 0 1 = cc in omega arith)
       (λ i j. not-idle Unmounted e i (λ c. let w : _≡_ {A = ℕ} 0 1 = cc in omega arith))))
       (λ e y. on-idle t e y)
-      (λ g j. subst Is-had (sym (request-busy img r reply h m (v .sized .ok) t (g .stage) (g .is)))
+      (λ g j. subst Is-had (sym (request-busy N img r reply h m (v .sized .ok) t (g .stage) (g .is)))
       (turned-away refusal.Busy (λ c. let w : _≡_ {A = ℕ} 0 1 = cc in omega arith) (λ c. let w : _≡_ {A = ℕ} 0 1 = cc in omega arith)
       (λ i k. not-idle (Busy (g .stage)) (g .is) i (λ c. let w : _≡_ {A = ℕ} 0 1 = cc in omega arith))))
     where
       not-idle : (p : Phase) → r .phase ≡ p → r .phase ≡ Idle → (p ≡ Idle → ⊥) → ⊥
       not-idle p a c f = f (sym a ∙ c)
 
-  pub request-keeps : Is-had (requestOn img r reply h m)
+  pub request-keeps : Is-had (requestOn N img r reply h m)
   request-keeps =
       on-test (leb (h .0) hostMax) in-range
-      (λ t. subst Is-had (sym (request-host img r reply h m (v .sized .ok) t))
+      (λ t. subst Is-had (sym (request-host N img r reply h m (v .sized .ok) t))
       (turned-away refusal.HostRange (λ c. let w : _≡_ {A = ℕ} 0 1 = cc in omega arith) (λ c. let w : _≡_ {A = ℕ} 0 1 = cc in omega arith)
       (λ i k. omega (arith, leb-false (h .0) hostMax t))))

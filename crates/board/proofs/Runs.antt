@@ -16,11 +16,11 @@ use Rattle.board.specs.CutFormat.{Left, afterAll}
 abbrev pub stepping : ℕ → List Event
 stepping n = replicate n (call step)
 
-pub after-append : (m : Machine) (img : List ℕ) (r : Record) (b : Book) (es ds : List Event)
-    → afterAll m img r b (es ++ ds) ≡ (let x : Left = afterAll m img r b es in afterAll m (x .image) (x .board) (x .book) ds)
-after-append m img r b [] ds = refl
-after-append m img r b (call c ∷ es) ds = after-append m (m img r c .image) (m img r c .board) (enterCall b c (m img r c .answer)) es ds
-after-append m img r b (cutErase k new q ∷ es) ds = after-append m (withBlock (sizeOf img) k new img) q b es ds
+pub after-append : (N : ℕ) (m : Machine) (img : List ℕ) (r : Record) (b : Book) (es ds : List Event)
+    → afterAll N m img r b (es ++ ds) ≡ (let x : Left = afterAll N m img r b es in afterAll N m (x .image) (x .board) (x .book) ds)
+after-append N m img r b [] ds = refl
+after-append N m img r b (call c ∷ es) ds = after-append N m (m img r c .image) (m img r c .board) (enterCall b c (m img r c .answer)) es ds
+after-append N m img r b (cutErase k new q ∷ es) ds = after-append N m (withBlock (sizeOf N img) k new img) q b es ds
 
 restarts-append : (es ds : List Event) → Restarts es → Restarts ds → Restarts (es ++ ds)
 restarts-append [] ds x y = y
@@ -32,56 +32,56 @@ restarts-first [] ds x = tt
 restarts-first (call c ∷ es) ds x = x
 restarts-first (cutErase k new q ∷ es) ds x = absurd x
 
-module _ (m : Machine) where
+module _ (N : ℕ) (m : Machine) where
   abbrev pub HappensAfter : Left → List Event → Type 0
-  HappensAfter x ds = Happens m (x .image) (x .board) (x .book) ds
+  HappensAfter x ds = Happens N m (x .image) (x .board) (x .book) ds
 
-  pub happens-append : (img : List ℕ) (r : Record) (b : Book) (es ds : List Event) → Happens m img r b es → Restarts ds
-      → HappensAfter (afterAll m img r b es) ds → Happens m img r b (es ++ ds)
+  pub happens-append : (img : List ℕ) (r : Record) (b : Book) (es ds : List Event) → Happens N m img r b es → Restarts ds
+      → HappensAfter (afterAll N m img r b es) ds → Happens N m img r b (es ++ ds)
   happens-append img r b [] ds x n y = y
   happens-append img r b (call c ∷ es) ds (bc, x) n y =
       (bc, happens-append (m img r c .image) (m img r c .board) (enterCall b c (m img r c .answer)) es ds x n y)
   happens-append img r b (cutErase k new q ∷ es) ds (c, e, x) n y =
-      (c, restarts-append es ds e n, happens-append (withBlock (sizeOf img) k new img) q b es ds x n y)
+      (c, restarts-append es ds e n, happens-append (withBlock (sizeOf N img) k new img) q b es ds x n y)
 
-  pub happens-first : (img : List ℕ) (r : Record) (b : Book) (es ds : List Event) → Happens m img r b (es ++ ds) → Happens m img r b es
+  pub happens-first : (img : List ℕ) (r : Record) (b : Book) (es ds : List Event) → Happens N m img r b (es ++ ds) → Happens N m img r b es
   happens-first img r b [] ds x = tt
   happens-first img r b (call c ∷ es) ds (bc, x) =
       (bc, happens-first (m img r c .image) (m img r c .board) (enterCall b c (m img r c .answer)) es ds x)
   happens-first img r b (cutErase k new q ∷ es) ds (c, e, x) =
-      (c, restarts-first es ds e, happens-first (withBlock (sizeOf img) k new img) q b es ds x)
+      (c, restarts-first es ds e, happens-first (withBlock (sizeOf N img) k new img) q b es ds x)
 
-  pub happens-rest : (img : List ℕ) (r : Record) (b : Book) (es ds : List Event) → Happens m img r b (es ++ ds) → HappensAfter (afterAll m img r b es) ds
+  pub happens-rest : (img : List ℕ) (r : Record) (b : Book) (es ds : List Event) → Happens N m img r b (es ++ ds) → HappensAfter (afterAll N m img r b es) ds
   happens-rest img r b [] ds x = x
   happens-rest img r b (call c ∷ es) ds (bc, x) = happens-rest (m img r c .image) (m img r c .board) (enterCall b c (m img r c .answer)) es ds x
-  happens-rest img r b (cutErase k new q ∷ es) ds (c, e, x) = happens-rest (withBlock (sizeOf img) k new img) q b es ds x
+  happens-rest img r b (cutErase k new q ∷ es) ds (c, e, x) = happens-rest (withBlock (sizeOf N img) k new img) q b es ds x
 
-  pub steps-happen : (n : ℕ) (img : List ℕ) (r : Record) (b : Book) → Happens m img r b (stepping n)
+  pub steps-happen : (n : ℕ) (img : List ℕ) (r : Record) (b : Book) → Happens N m img r b (stepping n)
   steps-happen zero img r b = tt
   steps-happen (suc n) img r b = (tt, steps-happen n (m img r step .image) (m img r step .board) (enterStep b (m img r step .answer)))
 
   -- step calls, then anything
-  pub steps-then : (n : ℕ) (img : List ℕ) (r : Record) (b : Book) (ds : List Event) → HappensAfter (afterAll m img r b (stepping n)) ds
-      → Happens m img r b (stepping n ++ ds)
+  pub steps-then : (n : ℕ) (img : List ℕ) (r : Record) (b : Book) (ds : List Event) → HappensAfter (afterAll N m img r b (stepping n)) ds
+      → Happens N m img r b (stepping n ++ ds)
   steps-then zero img r b ds y = y
   steps-then (suc n) img r b ds y =
       (tt, steps-then n (m img r step .image) (m img r step .board) (enterStep b (m img r step .answer)) ds y)
 
   pub steps-image : (n : ℕ) (img : List ℕ) (r : Record) (b : Book)
-      → (let x : Left = afterAll m img r b (stepping n) in m (x .image) (x .board) step .image) ≡ afterAll m img r b (stepping (suc n)) .image
+      → (let x : Left = afterAll N m img r b (stepping n) in m (x .image) (x .board) step .image) ≡ afterAll N m img r b (stepping (suc n)) .image
   steps-image zero img r b = refl
   steps-image (suc n) img r b = steps-image n (m img r step .image) (m img r step .board) (enterStep b (m img r step .answer))
 
-  pub run-rest : (img : List ℕ) (r : Record) (b : Book) (u : Bool) (es ds : List Event) → Run m img r b u (es ++ ds)
-      → (w : Bool) × (let x : Left = afterAll m img r b es in Run m (x .image) (x .board) (x .book) w ds)
+  pub run-rest : (img : List ℕ) (r : Record) (b : Book) (u : Bool) (es ds : List Event) → Run N m img r b u (es ++ ds)
+      → (w : Bool) × (let x : Left = afterAll N m img r b es in Run N m (x .image) (x .board) (x .book) w ds)
   run-rest img r b u [] ds y = (u, y)
   run-rest img r b u (call c ∷ es) ds (s, a, y) =
       run-rest (m img r c .image) (m img r c .board) (enterCall b c (m img r c .answer)) (track u b c (m img r c .answer)) es ds y
-  run-rest img r b u (cutErase k new q ∷ es) ds y = run-rest (withBlock (sizeOf img) k new img) q b u es ds y
+  run-rest img r b u (cutErase k new q ∷ es) ds y = run-rest (withBlock (sizeOf N img) k new img) q b u es ds y
 
   -- after steps too the record agrees with the book
-  pub steps-agree : (n : ℕ) (img : List ℕ) (r : Record) (b : Book) (u : Bool) → Agrees m img r b → Run m img r b u (stepping n)
-      → let x : Left = afterAll m img r b (stepping n) in Agrees m (x .image) (x .board) (x .book)
+  pub steps-agree : (n : ℕ) (img : List ℕ) (r : Record) (b : Book) (u : Bool) → Agrees N m img r b → Run N m img r b u (stepping n)
+      → let x : Left = afterAll N m img r b (stepping n) in Agrees N m (x .image) (x .board) (x .book)
   steps-agree zero img r b u a y = a
   steps-agree (suc n) img r b u a (s, e, y) =
       let o : Out = m img r step in

@@ -1,34 +1,42 @@
 -- The frame that a request appends, the steps of each job and a read's stretch are as document 01 words them.
 use mathlib.Core.Path.{_≡_, refl, sym, ap, subst, _∙_}
 use mathlib.Core.List.{List, [], _∷_, _++_, map, append-assoc, map-append}
+use mathlib.Core.Logic.{inl, inr}
 use mathlib.Core.Option.{some, Option·map}
-use mathlib.Core.Bool.{Bool, true, false, cond}
+use mathlib.Core.Bool.{Bool, true}
 use Prim.Native.Nat.{ℕ, zero, suc, _+_, _-_, _*_, _/_, _%_, _≤_, _<_}
 use native.Mathlib.Omega.{arith}
-use lib.ListN.{length, getD, drop, length-drop, length-map}
+use lib.ListN.{length, getD, drop, length-append, length-drop, length-map, List·getD-append}
+use lib.Seq.{getD-at}
 use borrow.Author.Tests.{ltb-true, lt-ltb}
-use Rattle.flash.specs.Flash.{Step, program, erase, block, sizeOf, Write, write, writeStep, writes}
+use Rattle.flash.specs.Bytes.{Bytes}
+use Rattle.flash.specs.Flash.{blockNumbers, sizeIn, Step, program, erase, block, sizeOf, Write, write, writeStep, writes}
 use Rattle.flash.proofs.Blank.{bytes-drop}
+use Rattle.flash.proofs.Sizes.{size-is}
 use Rattle.flash.proofs.Programming.{length-writes, writes-at}
 use Rattle.frame.specs.Frame.{valueMax, put, delete, change, commit, abort, encode, encodeAll, frameLen}
 use Rattle.frame.specs.Reader.{Tail}
 use Rattle.frame.proofs.Encode.{encode-plain, length-encode, length-all}
 use Rattle.journal.specs.Replay.{Entry, State, replay, framesOf, settledOnly}
-use Rattle.journal.specs.Block.{BlockState, blank, inProgress, valid, foreign, blockState, headerLen, lastTime, sealWrites, build}
+use Rattle.journal.specs.Block.{headerLen, lastTime, sealWrites, build}
 use Rattle.journal.specs.Room.{claimed}
 use Rattle.journal.proofs.Lists.{open-none}
 use Rattle.journal.proofs.Room.{frames-total}
 use Rattle.journal.proofs.ReplayLaws.{order-laws}
 use Rattle.journal.proofs.Sources.{place-exact}
-use Rattle.board.specs.Mount.{nextBlock, allFound, isBlank, wipeList, anyPending, needsTransfer, formatOrder}
+use Rattle.board.specs.Mount.{nextBlock, allFound, wipeList, anyPending, needsTransfer, numbersBut, formatOrder}
 use Rattle.board.specs.Record.{allowed}
 use Rattle.board.specs.Queue.{stretchOf}
 use Rattle.board.specs.Table.{frameIf}
 use Rattle.board.specs.Plan.{onBlock, transferPlan, formatPlan, appendPlan, transferIf}
 use Rattle.board.specs.CutFormat.{Beside}
-use Rattle.board.specs.Sentences.{FrameExact, NeedsExact, Programs, TransferExact, formatSteps, FormatExact, AppendExact, MountExact, StretchExact}
-use Rattle.board.proofs.Lengths.{length-transfer}
-use Rattle.board.proofs.Order.{beside-of, unread-of, order-last, order-unread, order-tie}
+use Rattle.board.specs.Sentences.{FrameExact, NeedsExact, Programs, NextOf, following, round, TransferExact, AppendExact, StretchExact}
+use Rattle.board.specs.Sentences.{firstHeader, ByNumber, LastIs, NewestAt, FormatExact, Member, MountExact}
+use Rattle.board.proofs.Numbers.{next-up, next-round, length-numbers, number-at, length-but, but-below, but-above}
+use Rattle.board.proofs.Lengths.{length-transfer, length-format}
+use Rattle.board.proofs.Order.{beside-of, StateOf, Newest, order-last, order-rises}
+use Rattle.board.proofs.Erasing.{In}
+use Rattle.board.proofs.Wiping.{Rising, wipes-rise, wipes-exact}
 use Rattle.board.proofs.Tabling.{is-allowed}
 use Rattle.board.proofs.TablingMounts.{valid-at, at-valid}
 
@@ -53,11 +61,11 @@ frame-exact =
 
 pub needs-exact : NeedsExact
 unfolding NeedsExact
-needs-exact img s r f e =
+needs-exact N img s r f h e =
     let l : length (encode f) ≡ frameLen f = length-encode f in
-    let z : sizeOf img ≡ s = omega arith in (
-      λ t. omega (arith, ltb-true (sizeOf img) (r .end + frameLen f) t),
-      λ h. lt-ltb (sizeOf img) (r .end + frameLen f) (omega arith),
+    let z : sizeOf N img ≡ s = ap (sizeIn N) e ∙ size-is N s h in (
+      λ t. omega (arith, ltb-true (sizeOf N img) (r .end + frameLen f) t),
+      λ h. lt-ltb (sizeOf N img) (r .end + frameLen f) (omega arith),
     )
 
 -- ---- steps
@@ -75,10 +83,9 @@ programs k at bs =
           mapped-at k (writes at bs) n d (write 0 0) (omega (arith, length-writes at bs)) ∙ ap (writeStep k) (writes-at at bs n (write 0 0) h);
     }
 
-other-half : (k j : ℕ) → k + j ≡ 1 → nextBlock k ≡ j
-other-half zero j e = let z : 1 ≡ j = omega arith in z
-other-half (suc zero) j e = let z : 0 ≡ j = omega arith in z
-other-half (suc (suc k)) j e = absurd (omega arith)
+next-of : {N k j : ℕ} → NextOf N k j → nextBlock N k ≡ j
+next-of {N} {k} (following h) = next-up N k h
+next-of {N} {k} (round e) = next-round N k (omega arith)
 
 -- the four bytes of the inverse, each the inverse of a byte
 inverse : (t : ℕ) → t ≤ 4294967295
@@ -90,11 +97,11 @@ inverse t h = (omega arith, omega arith, omega arith, omega arith)
 abbrev opened : ℕ → List Step → List Step
 opened j xs = program j 8 0xFE ∷ program j 0 16 ∷ program j 1 0 ∷ program j 2 0x01 ∷ program j 3 0x4A ∷ xs
 
-transfer-is : (k j time : ℕ) (st : State) → nextBlock k ≡ j
-    → transferPlan k time st
+transfer-is : (N k j time : ℕ) (st : State) → nextBlock N k ≡ j
+    → transferPlan N k time st
     ≡ opened j (onBlock j (writes headerLen (encodeAll (framesOf st))) ++ (onBlock j (sealWrites (suc time)) ++ (erase k ∷ [])))
 unfolding writes
-transfer-is k j time st e =
+transfer-is N k j time st e =
     let ws : List Write = writes headerLen (encodeAll (framesOf st)) in
     ap (λ (n : ℕ). onBlock n (build (suc time) (framesOf st)) ++ (erase k ∷ [])) e
     ∙ ap (λ (xs : List Step). opened j (xs ++ (erase k ∷ []))) (map-append (writeStep j) ws (sealWrites (suc time)))
@@ -102,71 +109,104 @@ transfer-is k j time st e =
 
 pub transfer-exact : TransferExact
 unfolding TransferExact writes
-transfer-exact k j time st e h =
+transfer-exact N k j time st e h =
     let bs : List ℕ = encodeAll (framesOf st) in
     let v = inverse (suc time) h in
     record {
       copied = onBlock j (writes headerLen bs);
-      steps = transfer-is k j time st (other-half k j e) ∙ rw (v .0, v .1, v .2, v .3) refl;
+      steps = transfer-is N k j time st (next-of e) ∙ rw (v .0, v .1, v .2, v .3) refl;
       frames = programs j headerLen bs;
-      count = length-transfer k time st;
+      count = length-transfer N k time st;
     }
 
-format-steps : (img : List ℕ) (j k : ℕ) → formatOrder img ≡ j ∷ k ∷ [] → formatPlan img ≡ formatSteps j k
+-- ---- format
+
+format-steps : (N : ℕ) (img order : List ℕ) → formatOrder N img ≡ order → formatPlan N img ≡ map erase order ++ firstHeader
 unfolding writes encodeAll
-format-steps img j k e = ap (λ (l : List ℕ). map erase l ++ onBlock 0 (build 1 [])) e
+format-steps N img order e = ap (λ (l : List ℕ). map erase l ++ firstHeader) e
+
+numbers-rise : (N : ℕ) → ByNumber N (blockNumbers N)
+numbers-rise N = record { all = length-numbers 0 N; each = λ i h. number-at 0 N i h ∙ omega arith }
+
+but-last : (N k : ℕ) → k < N → LastIs k N (numbersBut k (blockNumbers N) ++ (k ∷ []))
+but-last N k h =
+    let ks : List ℕ = numbersBut k (blockNumbers N) in
+    let front : (i : ℕ) → suc i < N → getD (ks ++ (k ∷ [])) i 0 ≡ getD ks i 0 = λ i l. List·getD-append ks (k ∷ []) 0 i (omega (arith, length-but N k h)) in
+    record {
+      all = length-append ks (k ∷ []) ∙ omega (arith, length-but N k h);
+      below = λ i l. front i (omega arith) ∙ but-below N k h i l;
+      above = λ i l g. front i g ∙ but-above N k h i l g;
+      last = getD-at ks k [] 0 (N - 1) (length-but N k h);
+    }
+
+module _ (N : ℕ) (img : List ℕ) (by : Bytes img) (ok : allowed N (length img) ≡ true) where
+  newest-in : {k : ℕ} → NewestAt N img k → Newest N img k
+  newest-in (t, fs, c, v, o) =
+      record {
+        time = t;
+        frames = fs;
+        tail = c;
+        there = v .0;
+        is-valid = at-valid img by ok v;
+        others = λ j h d. beside-of (StateOf N img j) (λ u gs b q. o j u gs b d (valid-at img by ok h q));
+      }
+
+  newest-at : {k : ℕ} → Newest N img k → NewestAt N img k
+  newest-at n = (
+    n .time,
+    n .frames,
+    n .tail,
+    valid-at img by ok (n .there) (n .is-valid),
+    λ j u gs d a w. subst (Beside (n .time)) (at-valid img by ok w) (n .others j (w .0) a),
+  )
 
 pub format-exact : FormatExact
 format-exact =
     record {
-      one-valid = λ img j k t fs c e by al v o.
-          let ok : allowed (length img) ≡ true = is-allowed (length img) al in
-          let n : nextBlock k ≡ j = other-half k j (omega arith) in
-          format-steps img j k
-          (order-last img k t fs c (v .0) (at-valid img by ok v)
-          (subst (λ (i : ℕ). Beside t (blockState (block (sizeOf img) i img))) (sym n)
-          (beside-of (blockState (block (sizeOf img) j img)) (λ u gs d q. o u gs d (valid-at img by ok (omega arith) q))))
-          ∙ ap (λ (i : ℕ). i ∷ k ∷ []) n);
-      none-valid = λ img by al o.
-          let ok : allowed (length img) ≡ true = is-allowed (length img) al in
-          format-steps img 0 1
-          (order-unread img (unread-of (blockState (block (sizeOf img) 0 img)) (λ t fs c q. o 0 t fs c (valid-at img by ok (omega arith) q)))
-          (unread-of (blockState (block (sizeOf img) 1 img)) (λ t fs c q. o 1 t fs c (valid-at img by ok (omega arith) q))));
-      equal-times = λ img t fs gs c d by al v w.
-          let ok : allowed (length img) ≡ true = is-allowed (length img) al in
-          format-steps img 0 1 (order-tie img t fs gs c d (at-valid img by ok v) (at-valid img by ok w));
+      current = λ N img k by al n.
+          let y : Newest N img k = newest-in N img by (is-allowed N (length img) al) n in
+          let order : List ℕ = numbersBut k (blockNumbers N) ++ (k ∷ []) in
+          record { order = order; steps = format-steps N img order (order-last y); ordered = but-last N k (y .there) };
+      no-current = λ N img by al f.
+          record {
+            order = blockNumbers N;
+            steps = format-steps N img (blockNumbers N) (order-rises (λ k n. f k (newest-at N img by (is-allowed N (length img) al) n)));
+            ordered = numbers-rise N;
+          };
+      count = length-format;
     }
 
 pub append-exact : AppendExact
 append-exact =
     record {
-      stays = λ k end x f. programs k end (encode f);
-      moves = λ k j end x f e.
+      stays = λ N k end x f. programs k end (encode f);
+      moves = λ N k j end x f e.
           let st : State = replay (x .frames) in
           let o : ℕ = 16 + length (encodeAll (framesOf st)) in
-          let xs : List Step = appendPlan (nextBlock k) (claimed st) f in
+          let xs : List Step = appendPlan (nextBlock N k) (claimed st) f in
           let c : claimed st ≡ o = omega (arith, frames-total st, length-all (framesOf st)) in
-          let p : Programs (nextBlock k) o (encode f) xs =
-          subst (λ (n : ℕ). Programs (nextBlock k) n (encode f) xs) c (programs (nextBlock k) (claimed st) (encode f)) in
-          (xs, refl, subst (λ (n : ℕ). Programs n o (encode f) xs) (other-half k j e) p);
+          let p : Programs (nextBlock N k) o (encode f) xs =
+          subst (λ (n : ℕ). Programs (nextBlock N k) n (encode f) xs) c (programs (nextBlock N k) (claimed st) (encode f)) in
+          (xs, refl, subst (λ (n : ℕ). Programs n o (encode f) xs) (next-of e) p);
     }
 
 -- ---- mount
 
-wipes : (img : List ℕ) (k j : ℕ) → k + j ≡ 1 → wipeList k (allFound img) ≡ cond (isBlank (blockState (block (sizeOf img) j img))) [] (j ∷ [])
-wipes img zero j e =
-    let z : 1 ≡ j = omega arith in
-    subst (λ (n : ℕ). wipeList 0 (allFound img) ≡ cond (isBlank (blockState (block (sizeOf img) n img))) [] (n ∷ [])) z refl
-wipes img (suc zero) j e =
-    let z : 0 ≡ j = omega arith in
-    subst (λ (n : ℕ). wipeList 1 (allFound img) ≡ cond (isBlank (blockState (block (sizeOf img) n img))) [] (n ∷ [])) z refl
-wipes img (suc (suc k)) j e = absurd (omega arith)
+rising-at : (a : ℕ) (ns : List ℕ) → Rising a ns → (i : ℕ) → suc i < length ns → getD ns i 0 < getD ns (suc i) 0
+rising-at a [] r i h = absurd (omega arith)
+rising-at a (n ∷ []) r i h = absurd (omega arith)
+rising-at a (n ∷ m ∷ ns) (l, (g, r)) zero h = omega arith
+rising-at a (n ∷ m ∷ ns) (l, r) (suc i) h = rising-at (suc n) (m ∷ ns) r i (omega arith)
 
-not-blank : (b : BlockState) → (b ≡ blank → ⊥) → isBlank b ≡ false
-not-blank blank n = absurd (n refl)
-not-blank inProgress n = refl
-not-blank (valid t fs c) n = refl
-not-blank (foreign e) n = refl
+in-member : (j : ℕ) (ns : List ℕ) → In j ns → Member j ns
+in-member j [] i = absurd i
+in-member j (n ∷ ns) (inl e) = (0, omega arith, sym e)
+in-member j (n ∷ ns) (inr i) = let (k, h, e) = in-member j ns i in (suc k, omega arith, e)
+
+member-in : (j : ℕ) (ns : List ℕ) (i : ℕ) → i < length ns → getD ns i 0 ≡ j → In j ns
+member-in j [] i h e = absurd (omega arith)
+member-in j (n ∷ ns) zero h e = inl (sym e)
+member-in j (n ∷ ns) (suc i) h e = inr (member-in j ns i (omega arith) e)
 
 some-pending : (es : List Entry) → (es ≡ [] → ⊥) → anyPending es ≡ true
 some-pending [] n = absurd (n refl)
@@ -174,28 +214,28 @@ some-pending (e ∷ es) n = refl
 
 pub mount-exact : MountExact
 unfolding MountExact
-mount-exact img x j e =
+mount-exact N img x =
     let st : State = settledOnly (replay (x .frames)) in
-    let w = wipes img (x .number) j e in
+    let ks : List ℕ = wipeList (x .number) (allFound N img) in
     record {
-      erases = map erase (wipeList (x .number) (allFound img));
-      moves = transferIf (needsTransfer (x .frames) (x .tail)) (x .number) (x .time) st;
+      erased = ks;
+      moves = transferIf N (needsTransfer (x .frames) (x .tail)) (x .number) (x .time) st;
       steps = refl;
-      other-blank = λ q. ap (map erase) (w ∙ ap (λ (b : BlockState). cond (isBlank b) [] (j ∷ [])) q);
-      other-not = λ n. ap (map erase) (w ∙ ap (λ (b : Bool). cond b [] (j ∷ [])) (not-blank (blockState (block (sizeOf img) j img)) n));
-      torn = λ n q. ap (λ (t : Tail). transferIf (needsTransfer (x .frames) t) (x .number) (x .time) st) q;
+      by-number = rising-at 0 ks (wipes-rise N (x .number) img);
+      every = λ j. let w = wipes-exact N (x .number) img j in (λ (i, h, e). w .0 (member-in j ks i h e), λ y. in-member j ks (w .1 y));
+      torn = λ n q. ap (λ (t : Tail). transferIf N (needsTransfer (x .frames) t) (x .number) (x .time) st) q;
       pending = λ q n.
-          ap (λ (t : Tail). transferIf (needsTransfer (x .frames) t) (x .number) (x .time) st) q
-          ∙ ap (λ (b : Bool). transferIf b (x .number) (x .time) st) (some-pending (replay (x .frames) .pending) n);
+          ap (λ (t : Tail). transferIf N (needsTransfer (x .frames) t) (x .number) (x .time) st) q
+          ∙ ap (λ (b : Bool). transferIf N b (x .number) (x .time) st) (some-pending (replay (x .frames) .pending) n);
       at-rest = λ q n.
-          ap (λ (t : Tail). transferIf (needsTransfer (x .frames) t) (x .number) (x .time) st) q
-          ∙ ap (λ (es : List Entry). transferIf (anyPending es) (x .number) (x .time) st) n;
+          ap (λ (t : Tail). transferIf N (needsTransfer (x .frames) t) (x .number) (x .time) st) q
+          ∙ ap (λ (es : List Entry). transferIf N (anyPending es) (x .number) (x .time) st) n;
     }
 
 -- ---- a read's stretch
 
 pub stretch-exact : StretchExact
 unfolding StretchExact
-stretch-exact img r x c i v y h s =
-    let p = place-exact .found (block (sizeOf img) (r .block) img) (x .time) (x .frames) c i v y h s in
-    (p .0, ap (stretchOf (r .block * sizeOf img)) (p .1), p .2)
+stretch-exact N img r x c i v y h s =
+    let p = place-exact .found (block (sizeOf N img) (r .block) img) (x .time) (x .frames) c i v y h s in
+    (p .0, ap (stretchOf (r .block * sizeOf N img)) (p .1), p .2)

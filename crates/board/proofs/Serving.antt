@@ -49,27 +49,32 @@ use Rattle.board.proofs.Framing.{AsRecorded, ready-holds, Appendable, f
 
 -- ---- a frame job is begun
 
-pub frame-short : (needs : Bool) (s k e : ℕ) (x : Held) (f : Frame) → claimed (replay (x .frames)) + frameLen f ≤ s → length (framePlan needs k e x f) ≤ s
-frame-short true s k e x f h = omega (arith, length-frame-moved k e x f)
-frame-short false s k e x f h = omega (arith, length-frame-stayed k e x f)
+pub frame-short : (N : ℕ) (needs : Bool) (s k e : ℕ) (x : Held) (f : Frame) → claimed (replay (x .frames)) + frameLen f ≤ s
+    → length (framePlan N needs k e x f) ≤ s
+frame-short N true s k e x f h = omega (arith, length-frame-moved N k e x f)
+frame-short N false s k e x f h = omega (arith, length-frame-stayed N k e x f)
 
-frame-some : (needs : Bool) (k e : ℕ) (x : Held) (f : Frame) → 0 < length (framePlan needs k e x f)
-frame-some true k e x f = omega (arith, length-frame-moved k e x f)
-frame-some false k e x f = omega (arith, length-frame-stayed k e x f)
+frame-some : (N : ℕ) (needs : Bool) (k e : ℕ) (x : Held) (f : Frame) → 0 < length (framePlan N needs k e x f)
+frame-some N true k e x f = omega (arith, length-frame-moved N k e x f)
+frame-some N false k e x f = omega (arith, length-frame-stayed N k e x f)
 
 -- whatever holds of each step and of the end: the job of a frame is begun
-pub frame-starts : {s : ℕ} {P : Step → List ℕ → Type 0} {Q : List ℕ → Record → Type 0} {img : List ℕ} (r : Record) (x : Held) (f : Frame)
-    → Sized s img → AsRecorded s img r x → Appendable s img r x f → Each s P (framePlan (needsRoom img r f) (r .block) (r .end) x f) img
-    → Q (applyAll s (framePlan (needsRoom img r f) (r .block) (r .end) x f) img) (framedAt (needsRoom img r f) (r .last) (r .block) (r .end) x f)
-    → framedAt (needsRoom img r f) (r .last) (r .block) (r .end) x f .phase ≡ Idle
-    → (answerOf (enterWipe (appendJob img r x f)) ≡ More) × InJob s P Q img (enterWipe (appendJob img r x f))
-frame-starts {s} {P} {Q} {img} r x f z h y each ends idle =
-    let j : Journal (block (sizeOf img) (r .block) img) (x .frames) =
+pub frame-starts : {N : ℕ} {s : ℕ} {P : Step → List ℕ → Type 0} {Q : List ℕ → Record → Type 0} {img : List ℕ} (r : Record) (x : Held) (f : Frame)
+    → Sized N s img → AsRecorded N s img r x → Appendable N s img r x f → Each s P (framePlan N (needsRoom N img r f) (r .block) (r .end) x f) img
+    → Q (applyAll s (framePlan N (needsRoom N img r f) (r .block) (r .end) x f) img) (framedAt N (needsRoom N img r f) (r .last) (r .block) (r .end) x f)
+    → framedAt N (needsRoom N img r f) (r .last) (r .block) (r .end) x f .phase ≡ Idle
+    → (answerOf (enterWipe (appendJob N img r x f)) ≡ More) × InJob N s P Q img (enterWipe (appendJob N img r x f))
+frame-starts {N} {s} {P} {Q} {img} r x f z h y each ends idle =
+    let j : Journal (block (sizeOf N img) (r .block) img) (x .frames) =
     subst (λ (n : ℕ). Journal (block n (r .block) img) (x .frames)) (sym (size-of z)) (journal-of (h .alone .contents)) in
-    job-starts img (enterWipe (appendJob img r x f)) (framePlan (needsRoom img r f) (r .block) (r .end) x f)
-    (framedAt (needsRoom img r f) (r .last) (r .block) (r .end) x f)
-    (follows-frame img r x f (h .long) (h .alone .there) j (sym (h .ends)) (omega (arith, y .fits, size-of z)))
-    (frame-some (needsRoom img r f) (r .block) (r .end) x f) (frame-short (needsRoom img r f) s (r .block) (r .end) x f (y .fits)) each ends idle
+    job-starts img (enterWipe (appendJob N img r x f)) (framePlan N (needsRoom N img r f) (r .block) (r .end) x f)
+    (framedAt N (needsRoom N img r f) (r .last) (r .block) (r .end) x f)
+    (follows-frame img r x f (z .count) (h .long) (h .blocks) (h .alone .there) j (sym (h .ends)) (omega (arith, y .fits, size-of z)))
+    (frame-some N (needsRoom N img r f) (r .block) (r .end) x f) (omega (
+      arith,
+      frame-short N (needsRoom N img r f) s (r .block) (r .end) x f
+          (y .fits),
+    )) each ends idle
 
 -- ---- serving one request on an idle record of a run
 
@@ -80,9 +85,9 @@ entered b h m q More = accept b h m q More
 entered b h m q (Refused n) = b
 
 -- the invariant is kept and neither 4 nor 11 is answered
-abbrev pub Served : ℕ → Book → Bool → Host → List ℕ → Request → Out → Type 0
-Served s b u h m q o =
-    Inv s (o .image) (o .board) (entered b h m q (o .answer)) u × Never refusal.ImageLength o × Never refusal.Stale o
+abbrev pub Served : ℕ → ℕ → Book → Bool → Host → List ℕ → Request → Out → Type 0
+Served N s b u h m q o =
+    Inv N s (o .image) (o .board) (entered b h m q (o .answer)) u × Never refusal.ImageLength o × Never refusal.Stale o
 
 -- a change that a request asks for is legal
 abbrev pub Legal : Host → List ℕ → Request → Type 0
@@ -94,10 +99,11 @@ Legal h m (Read i) = Unit {0}
 Legal h m (Log p) = Unit {0}
 
 -- what is known of an idle record
-pub found : {s : ℕ} {img : List ℕ} {r : Record} {b : Book} (y : IdleBook s img r b) → BookFits s (replay (y .ready .frames)) b
+pub found : {N : ℕ} {s : ℕ} {img : List ℕ} {r : Record} {b : Book} (y : IdleBook N s img r b) → BookFits s (replay (y .ready .frames)) b
 found y = record { room = y .ready .room; spare = y .spare; objects = y .objects; lists = y .lists; under = y .under }
 
-module _ {s : ℕ} {img : List ℕ} {r : Record} {b : Book} (u : Bool) (z : Sized s img) (by : Bytes img) (y : IdleBook s img r b) (reply : List ℕ) (h : Host)
+module _ {N : ℕ} {s : ℕ} {img : List ℕ} {r : Record} {b : Book} (u : Bool) (z : Sized N s img) (by : Bytes img) (y : IdleBook N s img r b) (reply : List ℕ)
+    (h : Host)
     (k : h .0 ≤ hostMax) (m : List ℕ) where
   abbrev x : Held
   x = heldOf (y .ready)
@@ -105,15 +111,15 @@ module _ {s : ℕ} {img : List ℕ} {r : Record} {b : Book} (u : Bool) (z : Size
   abbrev st : State
   st = replay (y .ready .frames)
 
-  same : Inv s img r b u
+  same : Inv N s img r b u
   same = inv-idle r z by y
 
   begun : (q : Request) (f : Frame) → OfHost f → MayStand 256 f → Entered s st f (accept b h m q More) → accept b h m q More .objects ≡ b .objects
-      → (needsRoom img r f && eqb (y .ready .time) lastTime) ≡ false → Served s b u h m q (begin img reply (appendJob img r x f))
+      → (needsRoom N img r f && eqb (y .ready .time) lastTime) ≡ false → Served N s b u h m q (begin img reply (appendJob N img r x f))
   begun q f o g e os t =
       let b′ : Book = accept b h m q More in
-      let hold : AsRecorded s img r x = ready-holds z (y .ready) refl refl in
-      let fit : Appendable s img r x f =
+      let hold : AsRecorded N s img r x = ready-holds z (y .ready) refl refl in
+      let fit : Appendable N s img r x f =
       record {
         host = o;
         legal = g;
@@ -121,13 +127,13 @@ module _ {s : ℕ} {img : List ℕ} {r : Record} {b : Book} (u : Bool) (z : Size
         young = λ n. let v : eqb (y .ready .time) lastTime ≡ false = rw n at t in omega
             (arith, eqb-false (y .ready .time) lastTime v, y .ready .contents .layout .time-hi);
       } in
-      let after : After s (applyAll s (framePlan (needsRoom img r f) (r .block) (r .end) x f) img)
-      (framedAt (needsRoom img r f) (r .last) (r .block) (r .end) x f) (nextState st f) = frame-ends hold fit (e .room) in
+      let after : After N s (applyAll s (framePlan N (needsRoom N img r f) (r .block) (r .end) x f) img)
+      (framedAt N (needsRoom N img r f) (r .last) (r .block) (r .end) x f) (nextState st f) = frame-ends hold fit (e .room) in
       let keeps : Keeps s st (b′ .objects) = record { room = y .spare; same = y .objects ∙ sym os } in
-      let j : (answerOf (enterWipe (appendJob img r x f)) ≡ More) × Working s img (enterWipe (appendJob img r x f)) b′ u =
+      let j : (answerOf (enterWipe (appendJob N img r x f)) ≡ More) × Working N s img (enterWipe (appendJob N img r x f)) b′ u =
       frame-starts r x f z hold fit (λ n l. let g = frame-guard hold fit u keeps n l in (g .0, λ d. g .1)) (idle-book e after) (ready-idle (after .ready)) in (
-        subst (λ (a : Answer). Inv s img (enterWipe (appendJob img r x f)) (entered b h m q a) u) (sym (j .0))
-            (inv-busy (enterWipe (appendJob img r x f)) z by (j .0) (j .1)),
+        subst (λ (a : Answer). Inv N s img (enterWipe (appendJob N img r x f)) (entered b h m q a) u) (sym (j .0))
+            (inv-busy (enterWipe (appendJob N img r x f)) z by (j .0) (j .1)),
         no-refusal (j .0),
         no-refusal (j .0),
       )
@@ -137,70 +143,70 @@ module _ {s : ℕ} {img : List ℕ} {r : Record} {b : Book} (u : Bool) (z : Size
 
   -- a refusal changes nothing
   refused : (q : Request) (n : Refusal) → (Refused n ≡ Refused refusal.ImageLength → ⊥) → (Refused n ≡ Refused refusal.Stale → ⊥)
-      → Served s b u h m q (refuse n img r reply)
+      → Served N s b u h m q (refuse n img r reply)
   refused q n a c = (same, a, c)
 
   -- an answer of 0 on the record as it is, with another reply or a stretch
-  done : (q : Request) (o : Out) → o .answer ≡ Done → o .image ≡ img → o .board ≡ r → IdleBook s img r (accept b h m q Done) → Served s b u h m q o
+  done : (q : Request) (o : Out) → o .answer ≡ Done → o .image ≡ img → o .board ≡ r → IdleBook N s img r (accept b h m q Done) → Served N s b u h m q o
   done q o e i p w = (
-    subst (λ (a : Answer). Inv s (o .image) (o .board) (entered b h m q a) u) (sym e)
-        (subst (λ (l : List ℕ). Inv s l (o .board) (accept b h m q Done) u) (sym i)
-        (subst (λ (c : Record). Inv s img c (accept b h m q Done) u) (sym p) (inv-idle r z by w))),
+    subst (λ (a : Answer). Inv N s (o .image) (o .board) (entered b h m q a) u) (sym e)
+        (subst (λ (l : List ℕ). Inv N s l (o .board) (accept b h m q Done) u) (sym i)
+        (subst (λ (c : Record). Inv N s img c (accept b h m q Done) u) (sym p) (inv-idle r z by w))),
     λ c. (let w : _≡_ {A = ℕ} 0 1 = cc in omega arith),
     λ c. (let w : _≡_ {A = ℕ} 0 1 = cc in omega arith),
   )
 
   appended : (q : Request) (f : Frame) → OfHost f → MayStand 256 f → Entered s st f (accept b h m q More) → accept b h m q More .objects ≡ b .objects
-      → Served s b u h m q (append img r reply x f)
+      → Served N s b u h m q (append N img r reply x f)
   appended q f o g e os =
-      on-test (needsRoom img r f && eqb (y .ready .time) lastTime)
-      (λ t. subst (Served s b u h m q) (sym (append-worn img r reply x f t))
+      on-test (needsRoom N img r f && eqb (y .ready .time) lastTime)
+      (λ t. subst (Served N s b u h m q) (sym (append-worn N img r reply x f t))
       (refused q refusal.Worn (λ c. let w : _≡_ {A = ℕ} 0 1 = cc in omega arith) (λ c. let w : _≡_ {A = ℕ} 0 1 = cc in omega arith)))
-      (λ t. subst (Served s b u h m q) (sym (append-begins img r reply x f t)) (begun q f o g e os t))
+      (λ t. subst (Served N s b u h m q) (sym (append-begins N img r reply x f t)) (begun q f o g e os t))
 
-  changed : (q : Request) (c : Change) → accept b h m q More ≡ join b h c → MayStand 256 (change h c) → Served s b u h m q (serveChange img r reply h x c)
+  changed : (q : Request) (c : Change) → accept b h m q More ≡ join b h c → MayStand 256 (change h c) → Served N s b u h m q (serveChange N img r reply h x c)
   changed q c e g =
-      on-test (noRoom (sizeOf img) st h c)
-      (λ t. subst (Served s b u h m q) (sym (change-refused img r reply h x c t))
+      on-test (noRoom (sizeOf N img) st h c)
+      (λ t. subst (Served N s b u h m q) (sym (change-refused N img r reply h x c t))
       (refused q refusal.NoRoom (λ c. let w : _≡_ {A = ℕ} 0 1 = cc in omega arith) (λ c. let w : _≡_ {A = ℕ} 0 1 = cc in omega arith)))
-      (λ t. subst (Served s b u h m q) (sym (change-goes img r reply h x c t))
+      (λ t. subst (Served N s b u h m q) (sym (change-goes N img r reply h x c t))
       (appended q (change h c) tt g
       (subst (Entered s st (change h c)) (sym e) (entered-change (found y) h k c (subst (λ (n : ℕ). noRoom n st h c ≡ false) (size-of z) t)))
       (ap (λ (w : Book). w .objects) e)))
 
   ended : (q : Request) (f : Frame) → OfHost f → MayStand 256 f → (isOpen h (st .pending) ≡ true → Entered s st f (accept b h m q More))
-      → accept b h m q More .objects ≡ b .objects → (isOpen h (st .pending) ≡ false → IdleBook s img r (accept b h m q Done))
-      → Served s b u h m q (serveEnd img r reply h x f)
+      → accept b h m q More .objects ≡ b .objects → (isOpen h (st .pending) ≡ false → IdleBook N s img r (accept b h m q Done))
+      → Served N s b u h m q (serveEnd N img r reply h x f)
   ended q f o g e os n =
       on-test (isOpen h (st .pending))
-      (λ t. subst (Served s b u h m q) (sym (end-goes img r reply h x f t)) (appended q f o g (e t) os))
-      (λ t. subst (Served s b u h m q) (sym (end-idle img r reply h x f t)) (done q (out Done img r reply) refl refl refl (n t)))
+      (λ t. subst (Served N s b u h m q) (sym (end-goes N img r reply h x f t)) (appended q f o g (e t) os))
+      (λ t. subst (Served N s b u h m q) (sym (end-idle N img r reply h x f t)) (done q (out Done img r reply) refl refl refl (n t)))
 
   -- an abort with nothing pending leaves the book as it is, but for an empty list
-  abort-none : isOpen h (st .pending) ≡ false → IdleBook s img r (book (b .objects) (withList (b .lists) h []) (b .under))
+  abort-none : isOpen h (st .pending) ≡ false → IdleBook N s img r (book (b .objects) (withList (b .lists) h []) (b .under))
   abort-none t = record { ready = y .ready; spare = y .spare; objects = y .objects; lists = lists-none (st .pending) b h t (y .lists); under = y .under }
 
-  pub served : (q : Request) → Legal h m q → Served s b u h m q (serve img r reply h m x q)
-  served (Put i) g = subst (Served s b u h m (Put i)) (sym (serve-put img r reply h m x i)) (changed (Put i) (put i (valueIn m)) refl g)
-  served (Delete i) g = subst (Served s b u h m (Delete i)) (sym (serve-delete img r reply h m x i)) (changed (Delete i) (delete i) refl g)
+  pub served : (q : Request) → Legal h m q → Served N s b u h m q (serve N img r reply h m x q)
+  served (Put i) g = subst (Served N s b u h m (Put i)) (sym (serve-put N img r reply h m x i)) (changed (Put i) (put i (valueIn m)) refl g)
+  served (Delete i) g = subst (Served N s b u h m (Delete i)) (sym (serve-delete N img r reply h m x i)) (changed (Delete i) (delete i) refl g)
   served Commit g =
-      subst (Served s b u h m Commit) (sym (serve-commit img r reply h m x))
+      subst (Served N s b u h m Commit) (sym (serve-commit N img r reply h m x))
       (ended Commit (commit h) tt k (entered-commit (found y) h k) refl (λ t. y))
   served Abort g =
-      subst (Served s b u h m Abort) (sym (serve-abort img r reply h m x)) (ended Abort (abort h) tt k (entered-abort (found y) h k) refl abort-none)
+      subst (Served N s b u h m Abort) (sym (serve-abort N img r reply h m x)) (ended Abort (abort h) tt k (entered-abort (found y) h k) refl abort-none)
   served (Read i) g = go (lookup i (st .objects)) refl
     where
-      go : (v : Option (List ℕ)) → lookup i (st .objects) ≡ v → Served s b u h m (Read i) (serve img r reply h m x (Read i))
+      go : (v : Option (List ℕ)) → lookup i (st .objects) ≡ v → Served N s b u h m (Read i) (serve N img r reply h m x (Read i))
       go none e =
-          subst (Served s b u h m (Read i)) (sym (read-none img r reply h m x i e))
+          subst (Served N s b u h m (Read i)) (sym (read-none N img r reply h m x i e))
           (refused (Read i) refusal.NoObject (λ c. let w : _≡_ {A = ℕ} 0 1 = cc in omega arith) (λ c. let w : _≡_ {A = ℕ} 0 1 = cc in omega arith))
       go (some v) e =
-          let o : Out = serve img r reply h m x (Read i) in
-          let f : o ≡ record { answer = Done; image = img; board = r; reply = reply; stretch = placeOf img r x i } = read-some img r reply h m x i v e in
+          let o : Out = serve N img r reply h m x (Read i) in
+          let f : o ≡ record { answer = Done; image = img; board = r; reply = reply; stretch = placeOf N img r x i } = read-some N img r reply h m x i v e in
           done (Read i) o (ap (λ (w : Out). w .answer) f) (ap (λ (w : Out). w .image) f) (ap (λ (w : Out). w .board) f) y
   served (Log Summary) g =
       on-test (ltb (length reply) pageLen)
-      (λ t. subst (Served s b u h m (Log Summary)) (sym (serve-log img r reply h m x ∙ log-short img r reply x t))
+      (λ t. subst (Served N s b u h m (Log Summary)) (sym (serve-log N img r reply h m x ∙ log-short N img r reply x t))
       (refused (Log Summary) refusal.ShortReply (λ c. let w : _≡_ {A = ℕ} 0 1 = cc in omega arith) (λ c. let w : _≡_ {A = ℕ} 0 1 = cc in omega arith)))
-      (λ t. subst (Served s b u h m (Log Summary)) (sym (serve-log img r reply h m x ∙ log-done img r reply x t))
-      (done (Log Summary) (out Done img r (withPage (logPage (y .ready .time) (length (st .objects)) (used st) (sizeOf img)) reply)) refl refl refl y))
+      (λ t. subst (Served N s b u h m (Log Summary)) (sym (serve-log N img r reply h m x ∙ log-done N img r reply x t))
+      (done (Log Summary) (out Done img r (withPage (logPage (y .ready .time) (length (st .objects)) (used st) (sizeOf N img)) reply)) refl refl refl y))

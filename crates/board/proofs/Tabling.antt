@@ -4,13 +4,13 @@ use mathlib.Core.List.{List, [], _∷_}
 use mathlib.Core.Logic.{_⊎_, inl, inr}
 use mathlib.Core.Option.{Option, none, some}
 use mathlib.Core.Bool.{Bool, true, false, _&&_, not}
-use Prim.Native.Nat.{ℕ, suc, _+_, _%_, _<_}
+use Prim.Native.Nat.{ℕ, suc, _+_, _≤_, _<_}
 use native.Mathlib.Omega.{arith}
 use lib.Dec.{eqb, ltb, leb}
 use lib.ListN.{length}
-use borrow.Author.Tests.{eqb-true, eqb-false, eq-eqb, leb-true, le-leb, ltb-true, ltb-false, lt-ltb}
+use borrow.Author.Tests.{eqb-true, eqb-false, eq-eqb, leb-true, leb-false, ltb-true, ltb-false, lt-ltb}
 use Rattle.flash.specs.Bytes.{Bytes}
-use Rattle.flash.specs.Flash.{Step, blocks, sizeOf, blockOf, offsetOf, within}
+use Rattle.flash.specs.Flash.{maxBlocks, sizeIn, isCount, Step, sizeOf, blockOf, offsetOf, within}
 use Rattle.flash.proofs.Cases.{on-test, clash, and-both, and-left, and-right}
 use Rattle.frame.specs.declared.Host.{Host}
 use Rattle.frame.specs.Frame.{Frame, frameLen, hostMax}
@@ -32,7 +32,7 @@ use Rattle.board.specs.declared.Phase.{Phase}
 use Rattle.board.specs.declared.Phase.the-variants.{Unmounted, Idle, Busy}
 use Rattle.board.specs.declared.Record.{Record}
 use Rattle.board.specs.Record.{allowed}
-use Rattle.board.specs.Step.{action}
+use Rattle.board.specs.Step.{sameShape, action}
 use Rattle.board.specs.Queue.{Held, held, needsRoom}
 use Rattle.board.specs.Exec.{request, step, format, exec}
 use Rattle.board.specs.Table.{isBusy, isNone, frameFor, Line, line, Exactly, Allowed, InJob, Fresh, FreshExact, NoObject}
@@ -42,6 +42,7 @@ use Rattle.wire.specs.Sentences.{Means, MessagesExact, MalformedExact}
 use Rattle.board.proofs.Checks.{Check, check, firstOf, isUnmounted, isMalformed, noObject, shortReply, roomRule, worn, laterChecks}
 use Rattle.board.proofs.Checks.{heldChecks, requestChecks, outside, refusalIn}
 use Rattle.wire.proofs.Sentences.{messages-exact, malformed-exact}
+use Rattle.board.proofs.Images.{AllowedAs, allowed-tests, allowed-from}
 use Rattle.board.proofs.Freshness.{fresh-exact}
 use Rattle.board.proofs.Refusals.{refused-by-table}
 
@@ -92,20 +93,24 @@ false-true e = let w : _≡_ {A = ℕ} 0 1 = cc in absurd (omega arith)
 
 -- ---- 4, 10, 5, 2
 
-pub allowed-is : (n : ℕ) → allowed n ≡ true → Allowed n
-allowed-is n t =
-    let ab : (leb 512 n && leb n 65536) ≡ true = and-left (leb 512 n && leb n 65536) (eqb (n % 256) 0) t in (
-      leb-true 512 n (and-left (leb 512 n) (leb n 65536) ab),
-      leb-true n 65536 (and-right (leb 512 n) (leb n 65536) ab),
-      eqb-true (n % 256) 0 (and-right (leb 512 n && leb n 65536) (eqb (n % 256) 0) t),
-    )
+pub allowed-is : (N n : ℕ) → allowed N n ≡ true → Allowed N n
+allowed-is N n t =
+    let y : AllowedAs N n = allowed-tests N n t in
+    record {
+      at-least = y .few;
+      at-most = y .most;
+      long = y .short;
+      size = sizeIn N n;
+      whole = sym (y .all);
+      multiple = y .multiple;
+      low = y .low;
+    }
 
-pub is-allowed : (n : ℕ) → Allowed n → allowed n ≡ true
-is-allowed n (a, b, c) =
-    and-both (leb 512 n && leb n 65536) (eqb (n % 256) 0) (and-both (leb 512 n) (leb n 65536) (le-leb 512 n a) (le-leb n 65536 b)) (eq-eqb (n % 256) 0 c)
+pub is-allowed : (N n : ℕ) → Allowed N n → allowed N n ≡ true
+is-allowed N n y = allowed-from N n (y .size) (y .at-least) (y .at-most) (y .long) (y .whole) (y .multiple) (y .low)
 
-pub allowed-not : (n : ℕ) → ((Allowed n → ⊥) → ⊥) → allowed n ≡ true
-allowed-not n f = on-test (allowed n) (λ t. t) (λ t. absurd (f (λ y. clash (allowed n) (is-allowed n y) t)))
+pub allowed-not : (N n : ℕ) → ((Allowed N n → ⊥) → ⊥) → allowed N n ≡ true
+allowed-not N n f = on-test (allowed N n) (λ t. t) (λ t. absurd (f (λ y. clash (allowed N n) (is-allowed N n y) t)))
 
 not-yes : (b : Bool) → not b ≡ true → b ≡ true → ⊥
 not-yes true e f = false-true e
@@ -119,9 +124,9 @@ pub not-not : (b : Bool) → not b ≡ false → b ≡ true
 not-not true e = refl
 not-not false e = false-true (sym e)
 
-length-test : (n : ℕ) → Tests (not (allowed n)) (Allowed n → ⊥)
-length-test n =
-    record { yes = λ t y. not-yes (allowed n) t (is-allowed n y); no = λ f. not-no (allowed n) (λ t. f (allowed-is n t)) }
+length-test : (N n : ℕ) → Tests (not (allowed N n)) (Allowed N n → ⊥)
+length-test N n =
+    record { yes = λ t y. not-yes (allowed N n) t (is-allowed N n y); no = λ f. not-no (allowed N n) (λ t. f (allowed-is N n t)) }
 
 host-test : (h : Host) → Tests (ltb hostMax (h .0)) (3 < h .0)
 host-test h = record { yes = ltb-true hostMax (h .0); no = lt-ltb hostMax (h .0) }
@@ -152,15 +157,15 @@ pub same-request : (msg : List ℕ) (q s : Request) → Means msg q → Means ms
 unfolding MessagesExact
 same-request msg q s a b = is-request (sym (messages-exact msg q .1 a) ∙ messages-exact msg s .1 b)
 
-module _ (img : List ℕ) (r : Record) (by : Bytes img) (ok : allowed (length img) ≡ true) where
-  pub same-held : (x y : Held) → Fresh img r x → Fresh img r y → x ≡ y
+module _ (N : ℕ) (img : List ℕ) (r : Record) (by : Bytes img) (ok : allowed N (length img) ≡ true) where
+  pub same-held : (x y : Held) → Fresh N img r x → Fresh N img r y → x ≡ y
   unfolding FreshExact
-  same-held x y a b = some-held (sym (fresh-exact img r x by ok .1 a) ∙ fresh-exact img r y by ok .1 b)
+  same-held x y a b = some-held (sym (fresh-exact N img r x by ok .1 a) ∙ fresh-exact N img r y by ok .1 b)
 
-  stale-test : (o : Option Held) → held img r ≡ o → Tests (isNone o) ((x : Held) → Fresh img r x → ⊥)
+  stale-test : (o : Option Held) → held N img r ≡ o → Tests (isNone o) ((x : Held) → Fresh N img r x → ⊥)
   unfolding FreshExact
-  stale-test none e = record { yes = λ t x y. none-some (sym e ∙ fresh-exact img r x by ok .1 y); no = λ f. refl }
-  stale-test (some x) e = record { yes = λ t. false-true t; no = λ f. absurd (f x (fresh-exact img r x by ok .0 e)) }
+  stale-test none e = record { yes = λ t x y. none-some (sym e ∙ fresh-exact N img r x by ok .1 y); no = λ f. refl }
+  stale-test (some x) e = record { yes = λ t. false-true t; no = λ f. absurd (f x (fresh-exact N img r x by ok .0 e)) }
 
   module _ (h : Host) (msg reply : List ℕ) where
     malformed-test : (p : Parsed) → parse msg ≡ p → Tests (isMalformed p) ((q : Request) → Means msg q → ⊥)
@@ -168,8 +173,8 @@ module _ (img : List ℕ) (r : Record) (by : Bytes img) (ok : allowed (length im
     malformed-test Malformed e = record { yes = λ t. malformed-exact msg .0 e; no = λ f. refl }
     malformed-test (Is q) e = record { yes = λ t. false-true t; no = λ f. absurd (f q (messages-exact msg q .0 e)) }
 
-    module _ (x : Held) (q : Request) (fresh : Fresh img r x) (means : Means msg q) where
-      object-test : Tests (noObject x q) (NoObject img r msg)
+    module _ (x : Held) (q : Request) (fresh : Fresh N img r x) (means : Means msg q) where
+      object-test : Tests (noObject x q) (NoObject N img r msg)
       object-test =
           record {
             yes = λ t. there q means t;
@@ -182,7 +187,7 @@ module _ (img : List ℕ) (r : Record) (by : Bytes img) (ok : allowed (length im
           lacks none e = refl
           lacks (some v) e = false-true e
 
-          there : (s : Request) → Means msg s → noObject x s ≡ true → NoObject img r msg
+          there : (s : Request) → Means msg s → noObject x s ≡ true → NoObject N img r msg
           there (Put i) a t = false-true t
           there (Delete i) a t = false-true t
           there Commit a t = false-true t
@@ -206,28 +211,28 @@ module _ (img : List ℕ) (r : Record) (by : Bytes img) (ok : allowed (length im
           there (Read i) a t = false-true t
           there (Log p) a t = record { page = p; is-asked = a; short = ltb-true (length reply) pageLen t }
 
-      room-test : Tests (roomRule (sizeOf img) h msg x q) (NoRoom img r h msg)
+      room-test : Tests (roomRule (sizeOf N img) h msg x q) (NoRoom N img r h msg)
       unfolding noRoom
       room-test = record { yes = λ t. full q means t; no = λ y. asks y }
         where
-          full : (s : Request) → Means msg s → roomRule (sizeOf img) h msg x s ≡ true → NoRoom img r h msg
-          full (Put i) a t = for-put x i fresh a (omega (arith, ltb-true (sizeOf img) _ t))
-          full (Delete i) a t = for-delete x i fresh a (omega (arith, ltb-true (sizeOf img) _ t))
+          full : (s : Request) → Means msg s → roomRule (sizeOf N img) h msg x s ≡ true → NoRoom N img r h msg
+          full (Put i) a t = for-put x i fresh a (omega (arith, ltb-true (sizeOf N img) _ t))
+          full (Delete i) a t = for-delete x i fresh a (omega (arith, ltb-true (sizeOf N img) _ t))
           full Commit a t = false-true t
           full Abort a t = false-true t
           full (Read i) a t = false-true t
           full (Log p) a t = false-true t
 
-          asks : NoRoom img r h msg → roomRule (sizeOf img) h msg x q ≡ true
+          asks : NoRoom N img r h msg → roomRule (sizeOf N img) h msg x q ≡ true
           asks (for-put y i f a l) =
-              ap₂ (roomRule (sizeOf img) h msg) (same-held x y fresh f) (same-request msg q (Put i) means a) ∙ lt-ltb (sizeOf img) _ (omega arith)
+              ap₂ (roomRule (sizeOf N img) h msg) (same-held x y fresh f) (same-request msg q (Put i) means a) ∙ lt-ltb (sizeOf N img) _ (omega arith)
           asks (for-delete y i f a l) =
-              ap₂ (roomRule (sizeOf img) h msg) (same-held x y fresh f) (same-request msg q (Delete i) means a) ∙ lt-ltb (sizeOf img) _ (omega arith)
+              ap₂ (roomRule (sizeOf N img) h msg) (same-held x y fresh f) (same-request msg q (Delete i) means a) ∙ lt-ltb (sizeOf N img) _ (omega arith)
 
-      worn-test : Tests (worn img r x (frameFor h msg x q)) (Worn img r h msg)
+      worn-test : Tests (worn N img r x (frameFor h msg x q)) (Worn N img r h msg)
       worn-test = record { yes = λ t. over (frameFor h msg x q) refl t; no = λ y. due y }
         where
-          over : (f : Option Frame) → frameFor h msg x q ≡ f → worn img r x f ≡ true → Worn img r h msg
+          over : (f : Option Frame) → frameFor h msg x q ≡ f → worn N img r x f ≡ true → Worn N img r h msg
           over none e t = false-true t
           over (some f) e t =
               record {
@@ -237,20 +242,20 @@ module _ (img : List ℕ) (r : Record) (by : Bytes img) (ok : allowed (length im
                 is-held = fresh;
                 is-asked = means;
                 is-frame = e;
-                exceeds = ltb-true (sizeOf img) (r .end + frameLen f) (and-left (needsRoom img r f) (eqb (x .time) lastTime) t);
-                last-time = eqb-true (x .time) lastTime (and-right (needsRoom img r f) (eqb (x .time) lastTime) t);
+                exceeds = ltb-true (sizeOf N img) (r .end + frameLen f) (and-left (needsRoom N img r f) (eqb (x .time) lastTime) t);
+                last-time = eqb-true (x .time) lastTime (and-right (needsRoom N img r f) (eqb (x .time) lastTime) t);
               }
 
-          due : Worn img r h msg → worn img r x (frameFor h msg x q) ≡ true
+          due : Worn N img r h msg → worn N img r x (frameFor h msg x q) ≡ true
           due y =
-              ap₂ (λ (z : Held) (s : Request). worn img r z (frameFor h msg z s)) (same-held x (y .holding) fresh (y .is-held))
+              ap₂ (λ (z : Held) (s : Request). worn N img r z (frameFor h msg z s)) (same-held x (y .holding) fresh (y .is-held))
               (same-request msg q (y .asked) means (y .is-asked))
-              ∙ ap (worn img r (y .holding)) (y .is-frame)
-              ∙ and-both (needsRoom img r (y .frame)) (eqb (y .holding .time) lastTime) (lt-ltb (sizeOf img) (r .end + frameLen (y .frame)) (y .exceeds))
+              ∙ ap (worn N img r (y .holding)) (y .is-frame)
+              ∙ and-both (needsRoom N img r (y .frame)) (eqb (y .holding .time) lastTime) (lt-ltb (sizeOf N img) (r .end + frameLen (y .frame)) (y .exceeds))
               (eq-eqb (y .holding .time) lastTime (y .last-time))
 
-      held-rows : Rows (heldChecks img r h msg reply x q)
-          (line 8 (NoObject img r msg) ∷ line 9 (ShortReply msg reply) ∷ line 7 (NoRoom img r h msg) ∷ line 6 (Worn img r h msg) ∷ [])
+      held-rows : Rows (heldChecks N img r h msg reply x q)
+          (line 8 (NoObject N img r msg) ∷ line 9 (ShortReply msg reply) ∷ line 7 (NoRoom N img r h msg) ∷ line 6 (Worn N img r h msg) ∷ [])
       held-rows =
           row refusal.NoObject object-test (λ _.
           row refusal.ShortReply short-test (λ _.
@@ -259,88 +264,121 @@ module _ (img : List ℕ) (r : Record) (by : Bytes img) (ok : allowed (length im
 
     abbrev lastLines : List Line
     lastLines =
-        line 1 ((q : Request) → Means msg q → ⊥) ∷ line 8 (NoObject img r msg) ∷ line 9 (ShortReply msg reply) ∷ line 7 (NoRoom img r h msg)
-        ∷ line 6 (Worn img r h msg) ∷ []
+        line 1 ((q : Request) → Means msg q → ⊥) ∷ line 8 (NoObject N img r msg) ∷ line 9 (ShortReply msg reply) ∷ line 7 (NoRoom N img r h msg)
+        ∷ line 6 (Worn N img r h msg) ∷ []
 
-    parsed-rows : (x : Held) → Fresh img r x → (p : Parsed) → parse msg ≡ p
-        → Rows (check refusal.Malformed (isMalformed p) ∷ laterChecks img r h msg reply (some x) p) lastLines
+    parsed-rows : (x : Held) → Fresh N img r x → (p : Parsed) → parse msg ≡ p
+        → Rows (check refusal.Malformed (isMalformed p) ∷ laterChecks N img r h msg reply (some x) p) lastLines
     unfolding MessagesExact
     parsed-rows x f Malformed e = row refusal.Malformed (malformed-test Malformed e) (λ t. false-true (sym t))
     parsed-rows x f (Is q) e = row refusal.Malformed (malformed-test (Is q) e) (λ _. held-rows x q f (messages-exact msg q .0 e))
 
-    stale-rows : (o : Option Held) → held img r ≡ o
-        → Rows (check refusal.Stale (isNone o) ∷ check refusal.Malformed (isMalformed (parse msg)) ∷ laterChecks img r h msg reply o (parse msg))
-        (line 11 ((x : Held) → Fresh img r x → ⊥) ∷ lastLines)
+    stale-rows : (o : Option Held) → held N img r ≡ o
+        → Rows (check refusal.Stale (isNone o) ∷ check refusal.Malformed (isMalformed (parse msg)) ∷ laterChecks N img r h msg reply o (parse msg))
+        (line 11 ((x : Held) → Fresh N img r x → ⊥) ∷ lastLines)
     unfolding FreshExact
     stale-rows none e = row refusal.Stale (stale-test none e) (λ t. false-true (sym t))
-    stale-rows (some x) e = row refusal.Stale (stale-test (some x) e) (λ _. parsed-rows x (fresh-exact img r x by ok .0 e) (parse msg) refl)
+    stale-rows (some x) e = row refusal.Stale (stale-test (some x) e) (λ _. parsed-rows x (fresh-exact N img r x by ok .0 e) (parse msg) refl)
 
-request-rows : (img : List ℕ) (r : Record) (h : Host) (msg reply : List ℕ) → Bytes img
-    → Rows (requestChecks img r h msg reply) (requestLines img r h msg reply)
-request-rows img r h msg reply by =
-    row refusal.ImageLength (length-test (length img)) (λ n.
+request-rows : {N : ℕ} (img : List ℕ) (r : Record) (h : Host) (msg reply : List ℕ) → Bytes img
+    → Rows (requestChecks N img r h msg reply) (requestLines N img r h msg reply)
+request-rows {N} img r h msg reply by =
+    row refusal.ImageLength (length-test N (length img)) (λ n.
     row refusal.HostRange (host-test h) (λ _.
     row refusal.Busy (busy-test (r .phase)) (λ _.
     row refusal.NoStore (unmounted-test (r .phase)) (λ _.
-    stale-rows img r by (not-not (allowed (length img)) n) h msg reply (held img r) refl))))
+    stale-rows N img r by (not-not (allowed N (length img)) n) h msg reply (held N img r) refl))))
 
 -- ---- steps and formats
 
-step-test : (img : List ℕ) (r : Record) (p : Phase) → r .phase ≡ p → Tests (outside p img r) (Misplaced img r)
+step-test : {N : ℕ} (img : List ℕ) (r : Record) (p : Phase) → r .phase ≡ p → Tests (outside N p img r) (Misplaced N img r)
 step-test img r Unmounted e =
     record { yes = λ t. false-true t; no = λ y. false-true (ap isBusy (sym e ∙ y .is-busy)) }
 step-test img r Idle e =
     record { yes = λ t. false-true t; no = λ y. false-true (ap isBusy (sym e ∙ y .is-busy)) }
-step-test img r (Busy s) e = record { yes = λ t. record { stage = s; is-busy = e; misfits = misfit t }; no = λ y. not-no fits (λ t. hit (at-stage y) t) }
+step-test {N} img r (Busy s) e = record { yes = λ t. record { stage = s; is-busy = e; misfits = misfit t }; no = λ y. not-no fits (λ t. hit (at-stage y) t) }
   where
     x : Step
     x = action s r
 
+    shape : Bool
+    shape = sameShape N (length img) r
+
     long : Bool
     long = eqb (length img) (suc (r .last))
 
-    fits : Bool
-    fits = long && within (sizeOf img) x
+    same : Bool
+    same = eqb N (r .blocks)
 
-    misfit : not fits ≡ true → (length img ≡ suc (r .last) → ⊥) ⊎ Outside img x
+    there : Bool
+    there = ltb (blockOf x) N
+
+    inside : Bool
+    inside = ltb (offsetOf x) (sizeOf N img)
+
+    fits : Bool
+    fits = shape && within N (sizeOf N img) x
+
+    Misfit : Stage → Type 0
+    Misfit g = (length img ≡ suc (r .last) → ⊥) ⊎ ((N ≡ r .blocks → ⊥) ⊎ Outside N img (action g r))
+
+    no-count : isCount N ≡ false → Outside N img x
+    no-count c =
+        on-test (leb 2 N)
+        (λ a. on-test (leb N maxBlocks) (λ b. clash (isCount N) (and-both (leb 2 N) (leb N maxBlocks) a b) c)
+        (λ b. inr (inl (leb-false N maxBlocks b))))
+        (λ a. inl (leb-false 2 N a))
+
+    misfit : not fits ≡ true → Misfit s
     misfit t =
         on-test long
-        (λ a. on-test (ltb (blockOf x) blocks)
-        (λ b. on-test (ltb (offsetOf x) (sizeOf img))
-        (λ c. absurd (not-yes fits t (and-both long (within (sizeOf img) x) a (and-both (ltb (blockOf x) blocks) (ltb (offsetOf x) (sizeOf img)) b c))))
-        (λ c. inr (inr (ltb-false (offsetOf x) (sizeOf img) c))))
-        (λ b. inr (inl (ltb-false (blockOf x) blocks b))))
+        (λ a.
+        on-test same
+        (λ b.
+        on-test (isCount N)
+        (λ c.
+        on-test there
+        (λ d.
+        on-test inside
+        (λ e.
+        absurd (not-yes fits t (and-both shape (within N (sizeOf N img) x) (and-both long same a b)
+        (and-both (isCount N) (there && inside) c (and-both there inside d e)))))
+        (λ e. inr (inr (inr (inr (inr (ltb-false (offsetOf x) (sizeOf N img) e)))))))
+        (λ d. inr (inr (inr (inr (inl (ltb-false (blockOf x) N d)))))))
+        (λ c. inr (inr (no-count c))))
+        (λ b. inr (inl (eqb-false N (r .blocks) b))))
         (λ a. inl (eqb-false (length img) (suc (r .last)) a))
 
     same-stage : {a b : Stage} → Busy a ≡ Busy b → a ≡ b
     same-stage q = cc
 
-    at-stage : Misplaced img r → (length img ≡ suc (r .last) → ⊥) ⊎ Outside img x
-    at-stage y = subst (λ (g : Stage). (length img ≡ suc (r .last) → ⊥) ⊎ Outside img (action g r)) (same-stage (sym (y .is-busy) ∙ e)) (y .misfits)
+    at-stage : Misplaced N img r → Misfit s
+    at-stage y = subst Misfit (same-stage (sym (y .is-busy) ∙ e)) (y .misfits)
 
-    hit : (length img ≡ suc (r .last) → ⊥) ⊎ Outside img x → fits ≡ true → ⊥
-    hit (inl f) t = f (eqb-true (length img) (suc (r .last)) (and-left long (within (sizeOf img) x) t))
-    hit (inr (inl l)) t =
-        omega (
-          arith,
-          ltb-true (blockOf x) blocks
-              (and-left (ltb (blockOf x) blocks) (ltb (offsetOf x) (sizeOf img)) (and-right long (within (sizeOf img) x) t)),
-        )
-    hit (inr (inr l)) t =
-        omega (
-          arith,
-          ltb-true (offsetOf x) (sizeOf img)
-              (and-right (ltb (blockOf x) blocks) (ltb (offsetOf x) (sizeOf img)) (and-right long (within (sizeOf img) x) t)),
-        )
+    hit : Misfit s → fits ≡ true → ⊥
+    hit (inl f) t = f (eqb-true (length img) (suc (r .last)) (and-left long same (and-left shape (within N (sizeOf N img) x) t)))
+    hit (inr (inl f)) t = f (eqb-true N (r .blocks) (and-right long same (and-left shape (within N (sizeOf N img) x) t)))
+    hit (inr (inr o)) t =
+        let w : within N (sizeOf N img) x ≡ true = and-right shape (within N (sizeOf N img) x) t in
+        let c : isCount N ≡ true = and-left (isCount N) (there && inside) w in
+        let d : (there && inside) ≡ true = and-right (isCount N) (there && inside) w in
+        out-hit o (leb-true 2 N (and-left (leb 2 N) (leb N maxBlocks) c)) (leb-true N maxBlocks (and-right (leb 2 N) (leb N maxBlocks) c))
+        (ltb-true (blockOf x) N (and-left there inside d)) (ltb-true (offsetOf x) (sizeOf N img) (and-right there inside d))
+      where
+        out-hit : Outside N img x → 2 ≤ N → N ≤ 16 → blockOf x < N → offsetOf x < sizeOf N img → ⊥
+        out-hit (inl l) a b c d = omega arith
+        out-hit (inr (inl l)) a b c d = omega arith
+        out-hit (inr (inr (inl l))) a b c d = omega arith
+        out-hit (inr (inr (inr l))) a b c d = omega arith
 
-pub request-lines : (img : List ℕ) (r : Record) (h : Host) (msg reply : List ℕ) → Bytes img
-    → Exactly (requestLines img r h msg reply) (exec img r (request h msg reply) .answer)
-request-lines img r h msg reply by =
-    exactly (request-rows img r h msg reply by) (exec img r (request h msg reply) .answer) (refused-by-table img r (request h msg reply))
+pub request-lines : {N : ℕ} (img : List ℕ) (r : Record) (h : Host) (msg reply : List ℕ) → Bytes img
+    → Exactly (requestLines N img r h msg reply) (exec N img r (request h msg reply) .answer)
+request-lines {N} img r h msg reply by =
+    exactly (request-rows img r h msg reply by) (exec N img r (request h msg reply) .answer) (refused-by-table N img r (request h msg reply))
 
-pub step-lines : (img : List ℕ) (r : Record) → Exactly (linesOf img r step) (exec img r step .answer)
-step-lines img r = exactly (row refusal.Stale (step-test img r (r .phase) refl) (λ _. end)) (exec img r step .answer) (refused-by-table img r step)
+pub step-lines : {N : ℕ} (img : List ℕ) (r : Record) → Exactly (linesOf N img r step) (exec N img r step .answer)
+step-lines {N} img r = exactly (row refusal.Stale (step-test img r (r .phase) refl) (λ _. end)) (exec N img r step .answer) (refused-by-table N img r step)
 
-pub format-lines : (img : List ℕ) (r : Record) → Exactly (linesOf img r format) (exec img r format .answer)
-format-lines img r =
-    exactly (row refusal.ImageLength (length-test (length img)) (λ _. end)) (exec img r format .answer) (refused-by-table img r format)
+pub format-lines : {N : ℕ} (img : List ℕ) (r : Record) → Exactly (linesOf N img r format) (exec N img r format .answer)
+format-lines {N} img r =
+    exactly (row refusal.ImageLength (length-test N (length img)) (λ _. end)) (exec N img r format .answer) (refused-by-table N img r format)

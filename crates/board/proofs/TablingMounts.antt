@@ -1,4 +1,4 @@
--- A mount is refused exactly as the table's lines say; the states of halves in words.
+-- A mount is refused exactly as the table's lines say; the states of blocks in words.
 use mathlib.Core.Path.{_≡_, refl, sym, ap, ap₂, subst, _∙_, subst₂}
 use mathlib.Core.List.{List, [], _∷_}
 use mathlib.Core.Logic.{inl, inr}
@@ -10,7 +10,7 @@ use lib.Dec.{eqb}
 use lib.ListN.{length}
 use borrow.Author.Tests.{eqb-true, eqb-false}
 use Rattle.flash.specs.Bytes.{Bytes}
-use Rattle.flash.specs.Flash.{blocks, block, sizeOf}
+use Rattle.flash.specs.Flash.{block, sizeOf}
 use Rattle.flash.proofs.Cases.{on-test, on-order, clash}
 use Rattle.flash.proofs.Image.{bytes-block}
 use Rattle.frame.specs.declared.Fault.{Fault}
@@ -31,17 +31,16 @@ use Rattle.board.specs.Record.{allowed, unmounted, Out, refuse, answerIn
 use Rattle.board.specs.Step.{enterWipe}
 use Rattle.board.specs.Mount.{Store, needsTransfer, anyPending, allFound, wipeList, mountJob, mountOn}
 use Rattle.board.specs.Demand2.{Accepted, Mounts}
-use Rattle.board.specs.Table.{line, Exactly, ValidAt, ForeignAt, NothingThere, Unclear, foreign-half, equal-times, TiedAt, tied-with}
+use Rattle.board.specs.Table.{line, Exactly, ValidAt, ForeignAt, NothingThere, Unclear, foreign-only, equal-times, TiedAt, tied-with}
 use Rattle.board.specs.Table.{Unsettled, MountWorn, mountLines, Names, names-foreign, names-equal}
 use Rattle.board.specs.Promise.{Machine, Current}
 use Rattle.board.proofs.Images.{Sized, sized-of}
 use Rattle.board.proofs.Invariant.{Quiet}
-use Rattle.board.proofs.Order.{Unread}
 use Rattle.board.proofs.Current.{block-long}
 use Rattle.board.proofs.Outcomes.{mount-length}
 use Rattle.board.proofs.Erasing.{SameValid, same-valid}
 use Rattle.board.proofs.Deciding as deciding
-use Rattle.board.proofs.Deciding.{Taken, Decided, Outcome, InTime, worn-out, begins, foreign-block, none-valid, at-store}
+use Rattle.board.proofs.Deciding.{Taken, SameTimes, Decided, Outcome, InTime, worn-out, begins, foreign-block, none-valid, at-store}
 use Rattle.board.proofs.Deciding.{mount-decides, mount-outcome, mount-accepted, taken-holds, taken-newest}
 use Rattle.board.proofs.Tabling.{false-true, allowed-is, is-allowed, allowed-not}
 use Rattle.journal.specs.Faults.{FaultIn}
@@ -77,52 +76,66 @@ due-unsettled fs clean t = inr (some-pending (replay fs .pending) t)
 due-unsettled fs (cut k) t = inl (λ e. let w : _≡_ {A = ℕ} 0 1 = cc in omega arith)
 due-unsettled fs (bad e) t = inl (λ e. let w : _≡_ {A = ℕ} 0 1 = cc in omega arith)
 
-module _ (img : List ℕ) (by : Bytes img) (ok : allowed (length img) ≡ true) where
-  abbrev s : ℕ
-  s = sizeOf img
+answer : {n : Refusal} (N : ℕ) (img : List ℕ) → mountOn N img ≡ refuse n img unmounted [] → numberOf (mountOn N img .answer) ≡ some (refusalNumber n)
+answer N img e = ap (λ (o : Out). numberOf (o .answer)) e
 
-  z : Sized s img
-  z = sized-of img ok
+-- the table's lines but for 4
+abbrev Left : ℕ → List ℕ → Type 0
+Left N img = Exactly (line 2 (NothingThere N img) ∷ line 3 (Unclear N img) ∷ line 6 (MountWorn N img) ∷ []) (mountOn N img .answer)
 
-  long : (k : ℕ) → k < blocks → headerLen ≤ length (block s k img)
+module _ {N : ℕ} (img : List ℕ) (by : Bytes img) (ok : allowed N (length img) ≡ true) where
+  z : Sized N (sizeOf N img) img
+  z = sized-of N img ok
+
+  long : (k : ℕ) → k < N → headerLen ≤ length (block (sizeOf N img) k img)
   long k h = omega (arith, block-long k z h, z .low)
 
   -- ---- a block's state in words, and back
 
-  pub valid-at : {k t : ℕ} {fs : List Frame} {c : Tail} → k < blocks → blockState (block s k img) ≡ valid t fs c → ValidAt img k t fs c
-  valid-at {k} {t} {fs} {c} h e = (h, states-exact .is-valid (block s k img) t fs c (bytes-block s k img by) (long k h) .0 e)
+  pub valid-at : {k t : ℕ} {fs : List Frame} {c : Tail} → k < N → blockState (block (sizeOf N img) k img) ≡ valid t fs c → ValidAt N img k t fs c
+  valid-at {k} {t} {fs} {c} h e = (h, states-exact .is-valid (block (sizeOf N img) k img) t fs c (bytes-block (sizeOf N img) k img by) (long k h) .0 e)
 
-  pub at-valid : {k t : ℕ} {fs : List Frame} {c : Tail} → ValidAt img k t fs c → blockState (block s k img) ≡ valid t fs c
-  at-valid {k} {t} {fs} {c} (h, v) = states-exact .is-valid (block s k img) t fs c (bytes-block s k img by) (long k h) .1 v
+  pub at-valid : {k t : ℕ} {fs : List Frame} {c : Tail} → ValidAt N img k t fs c → blockState (block (sizeOf N img) k img) ≡ valid t fs c
+  at-valid {k} {t} {fs} {c} (h, v) = states-exact .is-valid (block (sizeOf N img) k img) t fs c (bytes-block (sizeOf N img) k img by) (long k h) .1 v
 
-  foreign-at : {k : ℕ} {e : Fault} → k < blocks → blockState (block s k img) ≡ foreign e → ForeignAt img k
-  foreign-at {k} {e} h p = (h, states-exact .is-foreign (block s k img) (bytes-block s k img by) (long k h) .0 (e, p))
+  foreign-at : {k : ℕ} {e : Fault} → k < N → blockState (block (sizeOf N img) k img) ≡ foreign e → ForeignAt N img k
+  foreign-at {k} {e} h p = (h, states-exact .is-foreign (block (sizeOf N img) k img) (bytes-block (sizeOf N img) k img by) (long k h) .0 (e, p))
 
-  at-foreign : {k : ℕ} → ForeignAt img k → (e : Fault) × (blockState (block s k img) ≡ foreign e)
-  at-foreign {k} (h, v) = states-exact .is-foreign (block s k img) (bytes-block s k img by) (long k h) .1 v
+  at-foreign : {k : ℕ} → ForeignAt N img k → (e : Fault) × (blockState (block (sizeOf N img) k img) ≡ foreign e)
+  at-foreign {k} (h, v) = states-exact .is-foreign (block (sizeOf N img) k img) (bytes-block (sizeOf N img) k img by) (long k h) .1 v
 
-  answer : {n : Refusal} → mountOn img ≡ refuse n img unmounted [] → numberOf (mountOn img .answer) ≡ some (refusalNumber n)
-  answer e = ap (λ (o : Out). numberOf (o .answer)) e
+  -- two blocks of one time in words, and back
+  tied-same : {j : ℕ} (k : ℕ) → SameTimes N (sizeOf N img) img j k → TiedAt N img j
+  tied-same k p =
+      tied-with k (p .time) (p .frames′) (p .frames) (p .tail′) (p .tail) (λ e. p .apart (sym e)) (valid-at (p .there′) (p .is-valid′))
+      (valid-at (p .there) (p .is-valid))
 
-  abbrev Left : Type 0
-  Left = Exactly (line 2 (NothingThere img) ∷ line 3 (Unclear img) ∷ line 6 (MountWorn img) ∷ []) (mountOn img .answer)
+  same-tied : {j : ℕ} → TiedAt N img j → (k : ℕ) × SameTimes N (sizeOf N img) img j k
+  same-tied {j} (tied-with k t fs gs c d n a b) = (
+    k,
+    record {
+      time = t;
+      frames = gs;
+      tail = d;
+      frames′ = fs;
+      tail′ = c;
+      there = b .0;
+      there′ = a .0;
+      apart = λ e. n (sym e);
+      is-valid = at-valid b;
+      is-valid′ = at-valid a;
+    },
+  )
 
-  module _ (x : Store) (y : Taken s img x) where
-    at-number : {k t : ℕ} {fs : List Frame} {c : Tail} → ValidAt img k t fs c → k ≡ x .number → SameValid t fs c (x .time) (x .frames) (x .tail)
-    at-number a e = same-valid (sym (at-valid a) ∙ ap (λ (n : ℕ). blockState (block s n img)) e ∙ y .is-valid)
+  module _ (x : Store) (y : Taken N (sizeOf N img) img x) where
+    at-number : {k t : ℕ} {fs : List Frame} {c : Tail} → ValidAt N img k t fs c → k ≡ x .number → SameValid t fs c (x .time) (x .frames) (x .tail)
+    at-number a e = same-valid (sym (at-valid a) ∙ ap (λ (n : ℕ). blockState (block (sizeOf N img) n img)) e ∙ y .is-valid)
 
-    clear : Unclear img → ⊥
-    clear (foreign-half k f n) = n (x .number) (x .time) (x .frames) (x .tail) (valid-at (y .there) (y .is-valid))
-    clear (equal-times k (tied-with j t fs gs c d n a b)) =
-        on-test (eqb j (x .number))
-        (λ p. let e : j ≡ x .number = eqb-true j (x .number) p in
-        omega (arith, at-number a e .time, taken-newest z y k t gs d (b .0) (λ q. n (e ∙ sym q)) (at-valid b)))
-        (λ p. let l : t < x .time = taken-newest z y j t fs c (a .0) (eqb-false j (x .number) p) (at-valid a) in
-        on-test (eqb k (x .number))
-        (λ q. omega (arith, at-number b (eqb-true k (x .number) q) .time))
-        (λ q. omega (arith, n, a .0, b .0, y .there, eqb-false j (x .number) p, eqb-false k (x .number) q)))
+    clear : Unclear N img → ⊥
+    clear (foreign-only k f n) = n (x .number) (x .time) (x .frames) (x .tail) (valid-at (y .there) (y .is-valid))
+    clear (equal-times k w) = let p = same-tied w in y .untied k (p .0) (p .1)
 
-    not-worn : InTime x → MountWorn img → ⊥
+    not-worn : InTime x → MountWorn N img → ⊥
     not-worn t w =
         on-test (eqb (w .number) (x .number))
         (λ p.
@@ -137,10 +150,10 @@ module _ (img : List ℕ) (by : Bytes img) (ok : allowed (length img) ≡ true) 
               (eqb-false (w .number) (x .number) p) (at-valid (w .is-valid)),
         ))
 
-    taken-lines : Outcome img x → Left
+    taken-lines : Outcome N img x → Left N img
     taken-lines o = inr ((λ n. n .none-valid (x .number) (x .time) (x .frames) (x .tail) (valid-at (y .there) (y .is-valid))), inr (clear, last o))
       where
-        last : Outcome img x → Exactly (line 6 (MountWorn img) ∷ []) (mountOn img .answer)
+        last : Outcome N img x → Exactly (line 6 (MountWorn N img) ∷ []) (mountOn N img .answer)
         last (worn-out w e) =
             inl (
               record {
@@ -150,62 +163,64 @@ module _ (img : List ℕ) (by : Bytes img) (ok : allowed (length img) ≡ true) 
                 is-valid = valid-at (w .there) (w .is-valid);
                 unsettled = due-unsettled (w .frames) (w .tail) (w .due);
               },
-              answer e,
+              answer N img e,
             )
         last (begins t e) =
-            let g : Record = enterWipe (mountJob img x (wipeList (x .number) (allFound img))) in
+            let g : Record = enterWipe (mountJob N img x (wipeList (x .number) (allFound N img))) in
             inr (not-worn t, subst (λ (o : Out). Accepted (o .answer)) (sym e) (begun (g .phase)))
 
-  current-of : (x : Store) → Taken s img x → Current img x
+  current-of : (x : Store) → Taken N (sizeOf N img) img x → Current N img x
   current-of x y =
       record { is-valid = valid-at (y .there) (y .is-valid); newest = λ k t fs c n v. taken-newest z y k t fs c (v .0) n (at-valid v) }
 
-  decided-lines : Decided s img → Left
+  decided-lines : Decided N (sizeOf N img) img → Left N img
   decided-lines (foreign-block j h e p o b r) =
       inr (
         (λ n. n .none-foreign j (foreign-at h p)),
-        inl (foreign-half j (foreign-at h p) (λ k t fs c a. subst Unread (at-valid a) (o k (a .0))), answer r),
+        inl (foreign-only j (foreign-at h p) (λ k t fs c a. o k t fs c (a .0) (at-valid a)), answer N img r),
       )
-  decided-lines (deciding.equal-times t fs gs c d p q r) =
-      let a : ValidAt img 0 t fs c = valid-at (omega arith) p in
-      let b : ValidAt img 1 t gs d = valid-at (omega arith) q in
-      inr ((λ n. n .none-valid 0 t fs c a), inl (equal-times 1 (tied-with 0 t fs gs c d (λ e. omega arith) a b), answer r))
+  decided-lines (deciding.equal-times j k p o r) =
+      inr (
+        (λ n. n .none-valid j (p .time) (p .frames) (p .tail) (valid-at (p .there) (p .is-valid))),
+        inl (equal-times j (tied-same k p), answer N img r),
+      )
   decided-lines (none-valid n r) =
       inl (
         record {
           none-valid = λ k t fs c a. subst Quiet (at-valid a) (n k (a .0));
           none-foreign = λ k f. let p = at-foreign f in subst Quiet (p .1) (n k (f .0));
         },
-        answer r,
+        answer N img r,
       )
   decided-lines (at-store x y) = taken-lines x y (mount-outcome x z y (taken-holds x z by y))
 
--- ---- the current half
+-- ---- the current block
 
-pub record Mountable (img : List ℕ) : Type 0 where
+pub record Mountable (N : ℕ) (img : List ℕ) : Type 0 where
   pub store : Store
-  pub current : Current img store
+  pub current : Current N img store
 
-pub accepted-takes : (img : List ℕ) → Bytes img → Accepted (mountOn img .answer) → Mountable img
-accepted-takes img by a =
-    on-test (allowed (length img))
-    (λ ok. let y : deciding.Begins (sizeOf img) img = mount-accepted (sized-of img ok) by a in
+pub accepted-takes : {N : ℕ} (img : List ℕ) → Bytes img → Accepted (mountOn N img .answer) → Mountable N img
+accepted-takes {N} img by a =
+    on-test (allowed N (length img))
+    (λ ok. let y : deciding.Begins N (sizeOf N img) img = mount-accepted (sized-of N img ok) by a in
     record { store = y .store; current = current-of img by ok (y .store) (y .taken) })
-    (λ no. absurd (subst (λ (o : Out). Accepted (o .answer)) (mount-length img no) a))
+    (λ no. absurd (subst (λ (o : Out). Accepted (o .answer)) (mount-length N img no) a))
 
 abbrev storeOf : ℕ → ℕ → List Frame → Tail → Store
 storeOf k t fs c = record { number = k; time = t; frames = fs; tail = c }
 
-pub mounts-current : {m : Machine} (img : List ℕ) → Bytes img → allowed (length img) ≡ true → (o : Out) → (y : Mounts m img o) → Current img (y .store)
+pub mounts-current : {N : ℕ} {m : Machine} (img : List ℕ) → Bytes img → allowed N (length img) ≡ true → (o : Out) → (y : Mounts N m img o)
+    → Current N img (y .store)
 mounts-current img by ok o y =
     record {
       is-valid = valid-at img by ok (y .there) (y .is-valid);
       newest = λ k t fs c n v. y .newest k t fs c (v .0) n (at-valid img by ok v);
     }
 
--- the image settles which half is current
-pub same-store : (img : List ℕ) → Bytes img → allowed (length img) ≡ true → (x y : Store) → Current img x → Current img y → x ≡ y
-same-store img by ok x y a b = on-test (eqb (x .number) (y .number)) (λ t. alike (eqb-true (x .number) (y .number) t)) apart
+-- the image settles which block is current
+pub same-store : {N : ℕ} (img : List ℕ) → Bytes img → allowed N (length img) ≡ true → (x y : Store) → Current N img x → Current N img y → x ≡ y
+same-store {N} img by ok x y a b = on-test (eqb (x .number) (y .number)) (λ t. alike (eqb-true (x .number) (y .number) t)) apart
   where
     apart : eqb (x .number) (y .number) ≡ false → x ≡ y
     apart t =
@@ -219,87 +234,85 @@ same-store img by ok x y a b = on-test (eqb (x .number) (y .number)) (λ t. alik
     alike : x .number ≡ y .number → x ≡ y
     alike e =
         let s : SameValid (x .time) (x .frames) (x .tail) (y .time) (y .frames) (y .tail) =
-        same-valid (sym (at-valid img by ok (a .is-valid)) ∙ ap (λ (k : ℕ). blockState (block (sizeOf img) k img)) e ∙ at-valid img by ok (b .is-valid)) in
+        same-valid (sym (at-valid img by ok (a .is-valid)) ∙ ap (λ (k : ℕ). blockState (block (sizeOf N img) k img)) e ∙ at-valid img by ok (b .is-valid)) in
         ap₂ (λ (k t : ℕ). storeOf k t (x .frames) (x .tail)) e (s .time)
         ∙ ap₂ (λ (fs : List Frame) (c : Tail). storeOf (y .number) (y .time) fs c) (s .frames) (s .tail)
 
-pub mount-lines : (img : List ℕ) → Bytes img → Exactly (mountLines img) (mountOn img .answer)
-mount-lines img by =
-    on-test (allowed (length img))
-    (λ ok. inr ((λ n. n (allowed-is (length img) ok)), decided-lines img by ok (mount-decides (sized-of img ok))))
-    (λ no. inl ((λ y. clash (allowed (length img)) (is-allowed (length img) y) no), ap (λ (o : Out). numberOf (o .answer)) (mount-length img no)))
+pub mount-lines : {N : ℕ} (img : List ℕ) → Bytes img → Exactly (mountLines N img) (mountOn N img .answer)
+mount-lines {N} img by =
+    on-test (allowed N (length img))
+    (λ ok. inr ((λ n. n (allowed-is N (length img) ok)), decided-lines img by ok (mount-decides (sized-of N img ok))))
+    (λ no. inl ((λ y. clash (allowed N (length img)) (is-allowed N (length img) y) no), ap (λ (o : Out). numberOf (o .answer)) (mount-length N img no)))
 
 -- ---- what 3 names
 
-fault-at : (img : List ℕ) → Bytes img → allowed (length img) ≡ true → (k : ℕ) (e : Fault) → k < blocks → blockState (block (sizeOf img) k img) ≡ foreign e
-    → ForeignAt img k × FaultIn (block (sizeOf img) k img) e
-fault-at img by ok k e h p =
-    let w = states-exact .is-foreign-at (block (sizeOf img) k img) e (bytes-block (sizeOf img) k img by) (long img by ok k h) .0 p in ((h, w .0), w .1)
+fault-at : {N : ℕ} (img : List ℕ) → Bytes img → allowed N (length img) ≡ true → (k : ℕ) (e : Fault) → k < N
+    → blockState (block (sizeOf N img) k img) ≡ foreign e → ForeignAt N img k × FaultIn (block (sizeOf N img) k img) e
+fault-at {N} img by ok k e h p =
+    let w = states-exact .is-foreign-at (block (sizeOf N img) k img) e (bytes-block (sizeOf N img) k img by) (long img by ok k h) .0 p in ((h, w .0), w .1)
 
-pub mount-names : (img : List ℕ) → Bytes img → (k : ℕ) (e : Fault) → mountOn img .answer ≡ Refused (refusal.Foreign k e) → Names img k e
-mount-names img by k e q =
-    on-test (allowed (length img))
-    (λ ok. go ok (mount-decides (sized-of img ok)))
-    (λ no. let r : Refused refusal.ImageLength ≡ Refused (refusal.Foreign k e) = sym (ap (λ (o : Out). o .answer) (mount-length img no)) ∙ q in
+pub mount-names : {N : ℕ} (img : List ℕ) → Bytes img → (k : ℕ) (e : Fault) → mountOn N img .answer ≡ Refused (refusal.Foreign k e) → Names N img k e
+mount-names {N} img by k e q =
+    on-test (allowed N (length img))
+    (λ ok. go ok (mount-decides (sized-of N img ok)))
+    (λ no. let r : Refused refusal.ImageLength ≡ Refused (refusal.Foreign k e) = sym (ap (λ (o : Out). o .answer) (mount-length N img no)) ∙ q in
     let w : _≡_ {A = ℕ} 0 1 = cc in absurd (omega arith))
   where
-    told : {n : Refusal} → mountOn img ≡ refuse n img unmounted [] → Refused n ≡ Refused (refusal.Foreign k e)
+    told : {n : Refusal} → mountOn N img ≡ refuse n img unmounted [] → Refused n ≡ Refused (refusal.Foreign k e)
     told r = sym (ap (λ (o : Out). o .answer) r) ∙ q
 
-    go : allowed (length img) ≡ true → Decided (sizeOf img) img → Names img k e
+    go : allowed N (length img) ≡ true → Decided N (sizeOf N img) img → Names N img k e
     go ok (foreign-block j h f p o b r) =
         let t = told r in
         let jk : j ≡ k = cc in
         let fe : f ≡ e = cc in
         let w = fault-at img by ok j f h p in
-        subst₂ (Names img) jk fe
-        (names-foreign (λ i t fs c a. subst Unread (at-valid img by ok a) (o i (a .0))) (w .0) (w .1)
+        subst₂ (Names N img) jk fe
+        (names-foreign (λ i t fs c a. o i t fs c (a .0) (at-valid img by ok a)) (w .0) (w .1)
         (λ i l y. let z = at-foreign img by ok y in subst Quiet (z .1) (b i l)))
-    go ok (deciding.equal-times t fs gs c d p u r) =
+    go ok (deciding.equal-times j i p o r) =
         let w = told r in
-        let zk : 0 ≡ k = cc in
+        let jk : j ≡ k = cc in
         let fe : fault field.Created 4 ≡ e = cc in
-        subst₂ (Names img) zk fe
-        (names-equal (tied-with 1 t gs fs d c (λ n. omega arith) (valid-at img by ok (omega arith) u) (valid-at img by ok (omega arith) p)) refl
-        (λ j l y. absurd (omega arith)))
+        subst₂ (Names N img) jk fe (names-equal (tied-same img by ok i p) refl (λ m l y. let z = same-tied img by ok y in o m (z .0) l (z .1)))
     go ok (none-valid n r) = let t = told r in let w : _≡_ {A = ℕ} 0 1 = cc in absurd (omega arith)
-    go ok (at-store x y) = out (mount-outcome x (sized-of img ok) y (taken-holds x (sized-of img ok) by y))
+    go ok (at-store x y) = out (mount-outcome x (sized-of N img ok) y (taken-holds x (sized-of N img ok) by y))
       where
-        out : Outcome img x → Names img k e
+        out : Outcome N img x → Names N img k e
         out (worn-out w r) = let t = told r in let w : _≡_ {A = ℕ} 0 1 = cc in absurd (omega arith)
         out (begins t r) =
-            let g : Record = enterWipe (mountJob img x (wipeList (x .number) (allFound img))) in
+            let g : Record = enterWipe (mountJob N img x (wipeList (x .number) (allFound N img))) in
             absurd (subst Accepted q (subst (λ (o : Out). Accepted (o .answer)) (sym r) (begun (g .phase))))
 
 lowest-one : {P : ℕ → Type 0} (k j : ℕ) → P k → P j → ((i : ℕ) → i < k → P i → ⊥) → ((i : ℕ) → i < j → P i → ⊥) → k ≡ j
 lowest-one k j a b m n =
     on-order k j (λ _ l. absurd (n k l a)) (λ _ e. e) (λ _ l. absurd (m j l b))
 
-names-one : (img : List ℕ) → Bytes img → allowed (length img) ≡ true → (k j : ℕ) (e f : Fault) → Names img k e → Names img j f → (k ≡ j) × (e ≡ f)
-names-one img by ok k j e f (names-foreign n a b c) (names-foreign n′ a′ b′ c′) =
-    let same : k ≡ j = lowest-one {P = ForeignAt img} k j a a′ c c′ in
+names-one : {N : ℕ} (img : List ℕ) → Bytes img → allowed N (length img) ≡ true → (k j : ℕ) (e f : Fault) → Names N img k e → Names N img j f → (k ≡ j) × (e ≡ f)
+names-one {N} img by ok k j e f (names-foreign n a b c) (names-foreign n′ a′ b′ c′) =
+    let same : k ≡ j = lowest-one {P = ForeignAt N img} k j a a′ c c′ in
     let p = at-fault k e a b in
     let q = at-fault j f a′ b′ in
-    let r : foreign e ≡ foreign f = sym p ∙ ap (λ (n : ℕ). blockState (block (sizeOf img) n img)) same ∙ q in
+    let r : foreign e ≡ foreign f = sym p ∙ ap (λ (n : ℕ). blockState (block (sizeOf N img) n img)) same ∙ q in
     (same, cc)
   where
-    at-fault : (n : ℕ) (g : Fault) → ForeignAt img n → FaultIn (block (sizeOf img) n img) g → blockState (block (sizeOf img) n img) ≡ foreign g
-    at-fault n g (h, y) z = states-exact .is-foreign-at (block (sizeOf img) n img) g (bytes-block (sizeOf img) n img by) (long img by ok n h) .1 (y, z)
+    at-fault : (n : ℕ) (g : Fault) → ForeignAt N img n → FaultIn (block (sizeOf N img) n img) g → blockState (block (sizeOf N img) n img) ≡ foreign g
+    at-fault n g (h, y) z = states-exact .is-foreign-at (block (sizeOf N img) n img) g (bytes-block (sizeOf N img) n img by) (long img by ok n h) .1 (y, z)
 names-one img by ok k j e f (names-foreign n a b c) (names-equal (tied-with i t fs gs u v d x y) q m) = absurd (n i t fs u x)
 names-one img by ok k j e f (names-equal (tied-with i t fs gs u v d x y) q m) (names-foreign n a b c) = absurd (n i t fs u x)
-names-one img by ok k j e f (names-equal x q m) (names-equal x′ q′ m′) = (lowest-one {P = TiedAt img} k j x x′ m m′, q ∙ sym q′)
+names-one {N} img by ok k j e f (names-equal x q m) (names-equal x′ q′ m′) = (lowest-one {P = TiedAt N img} k j x x′ m m′, q ∙ sym q′)
 
 -- what a mount may answer: by the table, and naming what 3 names
-abbrev pub MountTold : List ℕ → Answer → Type 0
-MountTold img a = Exactly (mountLines img) a × ((k : ℕ) (e : Fault) → a ≡ Refused (refusal.Foreign k e) → Names img k e)
+abbrev pub MountTold : ℕ → List ℕ → Answer → Type 0
+MountTold N img a = Exactly (mountLines N img) a × ((k : ℕ) (e : Fault) → a ≡ Refused (refusal.Foreign k e) → Names N img k e)
 
-pub mount-told : (img : List ℕ) → Bytes img → MountTold img (mountOn img .answer)
+pub mount-told : {N : ℕ} (img : List ℕ) → Bytes img → MountTold N img (mountOn N img .answer)
 mount-told img by = (mount-lines img by, mount-names img by)
 
-same-named : (img : List ℕ) → Bytes img → (a b : Answer) → MountTold img a → MountTold img b → SameNamed a b
+same-named : {N : ℕ} (img : List ℕ) → Bytes img → (a b : Answer) → MountTold N img a → MountTold N img b → SameNamed a b
 same-named img by a b (inl (p, x), n) (y, m) k j e f s t =
     let w : _≡_ {A = Option ℕ} (some 3) (some 4) = sym (ap numberOf s) ∙ x in let z : _≡_ {A = ℕ} 3 4 = cc in absurd (omega arith)
-same-named img by a b (inr (p, x), n) (y, m) k j e f s t = names-one img by (allowed-not (length img) p) k j e f (n k e s) (m j f t)
+same-named {N} img by a b (inr (p, x), n) (y, m) k j e f s t = names-one img by (allowed-not N (length img) p) k j e f (n k e s) (m j f t)
 
-pub same-mounts : (img : List ℕ) → Bytes img → (a b : Answer) → MountTold img a → MountTold img b → Both a b
-same-mounts img by a b x y = same-lines (mountLines img) a b (same-named img by a b x y) (x .0) (y .0)
+pub same-mounts : {N : ℕ} (img : List ℕ) → Bytes img → (a b : Answer) → MountTold N img a → MountTold N img b → Both a b
+same-mounts {N} img by a b x y = same-lines (mountLines N img) a b (same-named img by a b x y) (x .0) (y .0)

@@ -23,7 +23,7 @@ use Rattle.board.specs.declared.Phase.{Phase}
 use Rattle.board.specs.declared.Phase.the-variants.{Unmounted, Idle, Busy}
 use Rattle.board.specs.declared.Record.{Record}
 use Rattle.board.specs.Record.{allowed, restOf, idle, inStage, noStretch, Out, out, refuse, answerIn, answerOf}
-use Rattle.board.specs.Step.{enter, landed, loadOr, enterAppend, enterDrop, enterCopy, enterOpen, enterWipe, action, nextIndex}
+use Rattle.board.specs.Step.{sameShape, enter, landed, loadOr, enterAppend, enterDrop, enterCopy, enterOpen, enterWipe, action, nextIndex}
 use Rattle.board.specs.Step.{nextByte, pastFrame, advance, stepOn}
 use Rattle.board.specs.Mount.{allFound, Store, stores, equalTimes, newest, needsTransfer, wipeList, mountJob}
 use Rattle.board.specs.Mount.{noneValid, lowestTied, tiedTimes, mountAt, mountOn, formatJob, formatOn}
@@ -64,9 +64,9 @@ up-load : (r : Record) (u : Option Load) → Up (loadOr r u)
 up-load r none = tt
 up-load r (some u) = tt
 
-up-copy : (img : List ℕ) (r : Record) → Up (enterCopy img r)
+up-copy : (N : ℕ) (img : List ℕ) (r : Record) → Up (enterCopy N img r)
 unfolding enterCopy
-up-copy img r = up-load r (nextLoad (block (sizeOf img) (r .block) img) (r .end) (r .places) (r .job .since) (r .cursor .id) (r .cursor .source))
+up-copy N img r = up-load r (nextLoad (block (sizeOf N img) (r .block) img) (r .end) (r .places) (r .job .since) (r .cursor .id) (r .cursor .source))
 
 up-open : (r : Record) → Up (enterOpen r)
 unfolding enterOpen
@@ -76,16 +76,16 @@ up-wipe : (r : Record) → Up (enterWipe r)
 unfolding enterWipe
 up-wipe r = up-cond (ltb 0 (r .job .wipes)) (enter Wipe r) (enterOpen r) tt (up-open r)
 
-up-advance : (s : Stage) (img : List ℕ) (r : Record) → Up (advance s img r)
+up-advance : (N : ℕ) (s : Stage) (img : List ℕ) (r : Record) → Up (advance N s img r)
 unfolding advance
-up-advance Wipe img r = up-cond (ltb (suc (r .cursor .index)) (r .job .wipes)) (inStage Wipe (nextIndex (r .cursor)) r) (enterOpen r) tt (up-open r)
-up-advance Open img r = up-cond (ltb (suc (r .cursor .index)) markWrites) (inStage Open (nextIndex (r .cursor)) r) (enterCopy img r) tt (up-copy img r)
-up-advance Copy img r =
+up-advance N Wipe img r = up-cond (ltb (suc (r .cursor .index)) (r .job .wipes)) (inStage Wipe (nextIndex (r .cursor)) r) (enterOpen r) tt (up-open r)
+up-advance N Open img r = up-cond (ltb (suc (r .cursor .index)) markWrites) (inStage Open (nextIndex (r .cursor)) r) (enterCopy N img r) tt (up-copy N img r)
+up-advance N Copy img r =
     up-cond (ltb (suc (r .cursor .off)) (r .cursor .size)) (inStage Copy (nextByte (r .cursor)) r)
-    (enterCopy img (inStage Copy (pastFrame (r .cursor)) r)) tt (up-copy img (inStage Copy (pastFrame (r .cursor)) r))
-up-advance Seal img r = up-cond (ltb (suc (r .cursor .index)) markWrites) (inStage Seal (nextIndex (r .cursor)) r) (enterDrop r) tt (up-drop r)
-up-advance Drop img r = up-append (landed r)
-up-advance Append img r = up-cond (ltb (suc (r .cursor .index)) (r .job .size)) (inStage Append (nextIndex (r .cursor)) r) _ tt tt
+    (enterCopy N img (inStage Copy (pastFrame (r .cursor)) r)) tt (up-copy N img (inStage Copy (pastFrame (r .cursor)) r))
+up-advance N Seal img r = up-cond (ltb (suc (r .cursor .index)) markWrites) (inStage Seal (nextIndex (r .cursor)) r) (enterDrop r) tt (up-drop r)
+up-advance N Drop img r = up-append (landed r)
+up-advance N Append img r = up-cond (ltb (suc (r .cursor .index)) (r .job .size)) (inStage Append (nextIndex (r .cursor)) r) _ tt tt
 
 -- ---- outcomes
 
@@ -123,94 +123,95 @@ plain-silent (begun-plain img g u e) = (ap (λ (x : Out). x .reply) e, ap (λ (x
 
 -- ---- mount and format
 
-at-plain : (img : List ℕ) (x : Store) → Plain (mountAt img (allFound img) x)
-at-plain img x =
+at-plain : (N : ℕ) (img : List ℕ) (x : Store) → Plain (mountAt N img (allFound N img) x)
+at-plain N img x =
     on-test (needsTransfer (x .frames) (x .tail) && eqb (x .time) lastTime)
-    (λ t. refused-plain refusal.Worn img _ (mount-worn img (allFound img) x t))
-    (λ t. let j : Record = mountJob img x (wipeList (x .number) (allFound img)) in
-    begun-plain img (enterWipe j) (up-wipe j) (mount-begins img (allFound img) x t))
+    (λ t. refused-plain refusal.Worn img _ (mount-worn N img (allFound N img) x t))
+    (λ t. let j : Record = mountJob N img x (wipeList (x .number) (allFound N img)) in
+    begun-plain img (enterWipe j) (up-wipe j) (mount-begins N img (allFound N img) x t))
 
-mount-plain : (img : List ℕ) → Plain (mountOn img)
-mount-plain img =
-    on-test (allowed (length img))
-    (λ a. go a (stores (allFound img)) refl)
-    (λ a. refused-plain refusal.ImageLength img _ (mount-length img a))
+mount-plain : (N : ℕ) (img : List ℕ) → Plain (mountOn N img)
+mount-plain N img =
+    on-test (allowed N (length img))
+    (λ a. go a (stores (allFound N img)) refl)
+    (λ a. refused-plain refusal.ImageLength img _ (mount-length N img a))
   where
-    go : allowed (length img) ≡ true → (xs : List Store) → stores (allFound img) ≡ xs → Plain (mountOn img)
-    go a [] e = refused-plain (noneValid (allFound img)) img _ (mount-none img a e)
+    go : allowed N (length img) ≡ true → (xs : List Store) → stores (allFound N img) ≡ xs → Plain (mountOn N img)
+    go a [] e = refused-plain (noneValid (allFound N img)) img _ (mount-none N img a e)
     go a (y ∷ ys) e =
         on-test (equalTimes (y ∷ ys))
-        (λ q. refused-plain (tiedTimes (lowestTied (y ∷ ys))) img _ (mount-equal img a y ys e q))
-        (λ q. subst Plain (sym (mount-at img a y ys e q)) (at-plain img (newest y ys)))
+        (λ q. refused-plain (tiedTimes (lowestTied (y ∷ ys))) img _ (mount-equal N img a y ys e q))
+        (λ q. subst Plain (sym (mount-at N img a y ys e q)) (at-plain N img (newest y ys)))
 
-format-plain : (img : List ℕ) → Plain (formatOn img)
-format-plain img =
-    on-test (allowed (length img))
-    (λ a. begun-plain img (enterWipe (formatJob img)) (up-wipe (formatJob img)) (format-begins img a))
-    (λ a. refused-plain refusal.ImageLength img _ (format-length img a))
+format-plain : (N : ℕ) (img : List ℕ) → Plain (formatOn N img)
+format-plain N img =
+    on-test (allowed N (length img))
+    (λ a. begun-plain img (enterWipe (formatJob N img)) (up-wipe (formatJob N img)) (format-begins N img a))
+    (λ a. refused-plain refusal.ImageLength img _ (format-length N img a))
 
 -- ---- steps
 
-step-plain : (img : List ℕ) (r : Record) (s : Stage) → r .phase ≡ Busy s → Plain (stepOn img r)
-step-plain img r s e =
-    on-test (eqb (length img) (suc (r .last)) && within (sizeOf img) (action s r))
-    (λ t. let after : List ℕ = apply (sizeOf img) (action s r) img in
-    begun-plain after (advance s after r) (up-advance s after r) (step-goes img r s e t))
-    (λ t. refused-plain refusal.Stale img r (step-outside img r s e t))
+step-plain : (N : ℕ) (img : List ℕ) (r : Record) (s : Stage) → r .phase ≡ Busy s → Plain (stepOn N img r)
+step-plain N img r s e =
+    on-test (sameShape N (length img) r && within N (sizeOf N img) (action s r))
+    (λ t. let after : List ℕ = apply (sizeOf N img) (action s r) img in
+    begun-plain after (advance N s after r) (up-advance N s after r) (step-goes N img r s e t))
+    (λ t. refused-plain refusal.Stale img r (step-outside N img r s e t))
 
-step-told : (img : List ℕ) (r : Record) → (r .phase ≡ Unmounted → ⊥) → Accepted (stepOn img r .answer) → Tells (stepOn img r)
-step-told img r n a = go (r .phase) refl
+step-told : (N : ℕ) (img : List ℕ) (r : Record) → (r .phase ≡ Unmounted → ⊥) → Accepted (stepOn N img r .answer) → Tells (stepOn N img r)
+step-told N img r n a = go (r .phase) refl
   where
-    go : (p : Phase) → r .phase ≡ p → Tells (stepOn img r)
+    go : (p : Phase) → r .phase ≡ p → Tells (stepOn N img r)
     go Unmounted e = absurd (n e)
-    go Idle e = subst Tells (sym (step-resting img r (subst Rests (sym e) tt))) (tells-of (out Done img r []) Idle e refl tt)
-    go (Busy s) e = plain-tells (stepOn img r) (step-plain img r s e) a
+    go Idle e = subst Tells (sym (step-resting N img r (subst Rests (sym e) tt))) (tells-of (out Done img r []) Idle e refl tt)
+    go (Busy s) e = plain-tells (stepOn N img r) (step-plain N img r s e) a
 
-step-silent : (img : List ℕ) (r : Record) → (stepOn img r .reply ≡ []) × (stepOn img r .stretch ≡ noStretch)
-step-silent img r = go (r .phase) refl
+step-silent : (N : ℕ) (img : List ℕ) (r : Record) → (stepOn N img r .reply ≡ []) × (stepOn N img r .stretch ≡ noStretch)
+step-silent N img r = go (r .phase) refl
   where
-    rested : Rests (r .phase) → (stepOn img r .reply ≡ []) × (stepOn img r .stretch ≡ noStretch)
-    rested h = (ap (λ (x : Out). x .reply) (step-resting img r h), ap (λ (x : Out). x .stretch) (step-resting img r h))
+    rested : Rests (r .phase) → (stepOn N img r .reply ≡ []) × (stepOn N img r .stretch ≡ noStretch)
+    rested h = (ap (λ (x : Out). x .reply) (step-resting N img r h), ap (λ (x : Out). x .stretch) (step-resting N img r h))
 
-    go : (p : Phase) → r .phase ≡ p → (stepOn img r .reply ≡ []) × (stepOn img r .stretch ≡ noStretch)
+    go : (p : Phase) → r .phase ≡ p → (stepOn N img r .reply ≡ []) × (stepOn N img r .stretch ≡ noStretch)
     go Unmounted e = rested (subst Rests (sym e) tt)
     go Idle e = rested (subst Rests (sym e) tt)
-    go (Busy s) e = plain-silent (step-plain img r s e)
+    go (Busy s) e = plain-silent (step-plain N img r s e)
 
 -- ---- requests
 
-request-told : (img : List ℕ) (r : Record) (h : Host) (m reply : List ℕ) → Accepted (requestOn img r reply h m .answer) → Tells (requestOn img r reply h m)
-request-told img r h m reply a = go (request-met img r reply h m) (r .phase) refl
+request-told : (N : ℕ) (img : List ℕ) (r : Record) (h : Host) (m reply : List ℕ) → Accepted (requestOn N img r reply h m .answer)
+    → Tells (requestOn N img r reply h m)
+request-told N img r h m reply a = go (request-met N img r reply h m) (r .phase) refl
   where
     o : Out
-    o = requestOn img r reply h m
+    o = requestOn N img r reply h m
 
     turned : (n : Refusal) → o ≡ refuse n img r reply → Tells o
     turned n e = absurd (subst Accepted (ap (λ (x : Out). x .answer) e) a)
 
-    past : (allowed (length img) ≡ true → leb (h .0) hostMax ≡ true → Tells o) → Tells o
+    past : (allowed N (length img) ≡ true → leb (h .0) hostMax ≡ true → Tells o) → Tells o
     past f =
-        on-test (allowed (length img))
-        (λ b. on-test (leb (h .0) hostMax) (f b) (λ k. turned refusal.HostRange (request-host img r reply h m b k)))
-        (λ b. turned refusal.ImageLength (request-length img r reply h m b))
+        on-test (allowed N (length img))
+        (λ b. on-test (leb (h .0) hostMax) (f b) (λ k. turned refusal.HostRange (request-host N img r reply h m b k)))
+        (λ b. turned refusal.ImageLength (request-length N img r reply h m b))
 
-    go : Met img r reply h m o → (p : Phase) → r .phase ≡ p → Tells o
+    go : Met N img r reply h m o → (p : Phase) → r .phase ≡ p → Tells o
     go (refused n e) p q = turned n e
     go (begun y e) p q = tells-begun img reply _ (up-wipe _) e
-    go (done d i b) (Busy s) q = past (λ c k. turned refusal.Busy (request-busy img r reply h m c k s q))
-    go (done d i b) Unmounted q = past (λ c k. turned refusal.NoStore (request-unmounted img r reply h m c k q))
+    go (done d i b) (Busy s) q = past (λ c k. turned refusal.Busy (request-busy N img r reply h m c k s q))
+    go (done d i b) Unmounted q = past (λ c k. turned refusal.NoStore (request-unmounted N img r reply h m c k q))
     go (done d i b) Idle q = tells-of o Idle (ap (λ (x : Record). x .phase) b ∙ q) d tt
 
 -- ---- every call
 
-pub told : (img : List ℕ) (r : Record) (c : Call) → Accepted (exec img r c .answer) → (r .phase ≡ Unmounted → NoStep c) → Tells (exec img r c)
-told img r (request h m reply) a n = request-told img r h m reply a
-told img r step a n = step-told img r n a
-told img r mount a n = plain-tells (mountOn img) (mount-plain img) a
-told img r format a n = plain-tells (formatOn img) (format-plain img) a
+pub told : (N : ℕ) (img : List ℕ) (r : Record) (c : Call) → Accepted (exec N img r c .answer) → (r .phase ≡ Unmounted → NoStep c) → Tells (exec N img r c)
+told N img r (request h m reply) a n = request-told N img r h m reply a
+told N img r step a n = step-told N img r n a
+told N img r mount a n = plain-tells (mountOn N img) (mount-plain N img) a
+told N img r format a n = plain-tells (formatOn N img) (format-plain N img) a
 
-pub silent : (img : List ℕ) (r : Record) (c : Call) → Silent c (exec img r c)
-silent img r (request h m reply) = tt
-silent img r step = step-silent img r
-silent img r mount = plain-silent (mount-plain img)
-silent img r format = plain-silent (format-plain img)
+pub silent : (N : ℕ) (img : List ℕ) (r : Record) (c : Call) → Silent c (exec N img r c)
+silent N img r (request h m reply) = tt
+silent N img r step = step-silent N img r
+silent N img r mount = plain-silent (mount-plain N img)
+silent N img r format = plain-silent (format-plain N img)

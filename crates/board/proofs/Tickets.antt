@@ -4,7 +4,7 @@ use mathlib.Core.List.{List, [], _∷_, _++_}
 use mathlib.Core.Bool.{Bool, true, false}
 use mathlib.Core.Logic.{_⊎_, inl, inr}
 use mathlib.Core.Option.{Option, none, some}
-use Prim.Native.Nat.{ℕ, zero, suc, _-_, _/_, _≤_, _<_}
+use Prim.Native.Nat.{ℕ, zero, suc, _+_, _-_, _≤_, _<_}
 use native.Mathlib.Nat.{le-refl}
 use native.Mathlib.Omega.{arith}
 use lib.Dec.{ltb}
@@ -12,7 +12,7 @@ use lib.ListN.{length}
 use lib.Seq.{take-all}
 use borrow.Author.Tests.{ltb-true, ltb-false}
 use Rattle.flash.specs.Bytes.{Bytes}
-use Rattle.flash.specs.Flash.{Step, applyAll, blocks, block, sizeOf}
+use Rattle.flash.specs.Flash.{sizeIn, Step, applyAll, block, sizeOf}
 use Rattle.flash.proofs.Cases.{on-test}
 use Rattle.frame.specs.declared.Host.{Host}
 use Rattle.frame.specs.Frame.{Frame, Change}
@@ -49,19 +49,19 @@ use Rattle.board.proofs.Images.{length-all-steps}
 use Rattle.board.proofs.Demand2.{one-store}
 use Rattle.board.proofs.Answering.{number-done}
 use Rattle.board.proofs.TablingMounts.{Mountable, mounts-current, same-store}
-use Rattle.board.proofs.Determining.{Asked, request-asks, mount-takes, mount-allowed, mount-agrees}
+use Rattle.board.proofs.Determining.{short-most, Asked, request-asks, mount-takes, mount-allowed, mount-agrees}
 use Rattle.board.proofs.Following.{left-by, job-idle, mounted-idle}
 use Rattle.board.proofs.Runs.{stepping, after-append, HappensAfter, happens-append, happens-first, happens-rest, steps-happen, run-rest, steps-agree}
 
 -- ---- 1
 
-module _ {m : Machine} (p : Calls m) where
+module _ {N : ℕ} {m : Machine} (p : Calls N m) where
   malformed-refused : (img : List ℕ) (r : Record) (h : Host) (msg reply : List ℕ) → Bytes img → ((q : Request) → Means msg q → ⊥)
       → IsRefused (request h msg reply) (m img r (request h msg reply) .answer)
   malformed-refused img r h msg reply by f = go (m img r (request h msg reply) .answer) refl
     where
       taken : Accepted (m img r (request h msg reply) .answer) → ⊥
-      taken a = let y : Asked img r msg = request-asks p img by r h msg reply a in f (y .asked) (y .is-asked)
+      taken a = let y : Asked N img r msg = request-asks p img by r h msg reply a in f (y .asked) (y .is-asked)
 
       go : (a : Answer) → m img r (request h msg reply) .answer ≡ a → IsRefused (request h msg reply) (m img r (request h msg reply) .answer)
       go Done e = absurd (taken (subst Accepted (sym e) tt))
@@ -102,21 +102,21 @@ quiet-step os l (Refused n) = refl
 abbrev leftAs : Out → Book → Left
 leftAs o b = record { image = o .image; board = o .board; book = b }
 
-quiet-steps : (m : Machine) (n : ℕ) (o : Out) (os : List Object) (l : Host → List Change)
-    → afterAll m (o .image) (o .board) (book os l nothing) (stepping n) ≡ leftAs (stepsOn m n o) (book os l nothing)
-quiet-steps m zero o os l = refl
-quiet-steps m (suc n) o os l =
+quiet-steps : (N : ℕ) (m : Machine) (n : ℕ) (o : Out) (os : List Object) (l : Host → List Change)
+    → afterAll N m (o .image) (o .board) (book os l nothing) (stepping n) ≡ leftAs (stepsOn m n o) (book os l nothing)
+quiet-steps N m zero o os l = refl
+quiet-steps N m (suc n) o os l =
     let x : Out = m (o .image) (o .board) step in
-    ap (λ (b : Book). afterAll m (x .image) (x .board) b (stepping n)) (quiet-step os l (x .answer)) ∙ quiet-steps m n x os l
+    ap (λ (b : Book). afterAll N m (x .image) (x .board) b (stepping n)) (quiet-step os l (x .answer)) ∙ quiet-steps N m n x os l
 
 -- a step call that answers more leaves it too
-more-steps : (m : Machine) (n : ℕ) (o : Out) (b : Book) → ((j : ℕ) → j < n → stepsOn m (suc j) o .answer ≡ More)
-    → afterAll m (o .image) (o .board) b (stepping n) .book ≡ b
-more-steps m zero o b f = refl
-more-steps m (suc n) o b f =
+more-steps : (N : ℕ) (m : Machine) (n : ℕ) (o : Out) (b : Book) → ((j : ℕ) → j < n → stepsOn m (suc j) o .answer ≡ More)
+    → afterAll N m (o .image) (o .board) b (stepping n) .book ≡ b
+more-steps N m zero o b f = refl
+more-steps N m (suc n) o b f =
     let x : Out = m (o .image) (o .board) step in
-    ap (λ (a : Answer). afterAll m (x .image) (x .board) (enterStep b a) (stepping n) .book) (f zero (omega arith))
-    ∙ more-steps m n x b (λ j h. f (suc j) (omega arith))
+    ap (λ (a : Answer). afterAll N m (x .image) (x .board) (enterStep b a) (stepping n) .book) (f zero (omega arith))
+    ∙ more-steps N m n x b (λ j h. f (suc j) (omega arith))
 
 -- the book once a commit under way is done
 abbrev settled : Book → Host → Book
@@ -126,49 +126,50 @@ abbrev begun : Book → Host → Book
 begun b h = book (b .objects) (b .lists) (books.committing h)
 
 -- n steps that answer more, one that answers 0, and t of them in all
-done-steps : (m : Machine) (n t : ℕ) (o : Out) (b : Book) (h : Host) → n < t → ((j : ℕ) → j < n → stepsOn m (suc j) o .answer ≡ More)
-    → stepsOn m (suc n) o .answer ≡ Done → afterAll m (o .image) (o .board) (begun b h) (stepping t) .book ≡ settled b h
-done-steps m n zero o b h l f e = absurd (omega arith)
-done-steps m zero (suc t) o b h l f e =
+done-steps : (N : ℕ) (m : Machine) (n t : ℕ) (o : Out) (b : Book) (h : Host) → n < t → ((j : ℕ) → j < n → stepsOn m (suc j) o .answer ≡ More)
+    → stepsOn m (suc n) o .answer ≡ Done → afterAll N m (o .image) (o .board) (begun b h) (stepping t) .book ≡ settled b h
+done-steps N m n zero o b h l f e = absurd (omega arith)
+done-steps N m zero (suc t) o b h l f e =
     let x : Out = m (o .image) (o .board) step in
-    ap (λ (a : Answer). afterAll m (x .image) (x .board) (enterStep (begun b h) a) (stepping t) .book) e
-    ∙ ap (λ (l : Left). l .book) (quiet-steps m t x (settled b h .objects) (settled b h .lists))
-done-steps m (suc n) (suc t) o b h l f e =
+    ap (λ (a : Answer). afterAll N m (x .image) (x .board) (enterStep (begun b h) a) (stepping t) .book) e
+    ∙ ap (λ (l : Left). l .book) (quiet-steps N m t x (settled b h .objects) (settled b h .lists))
+done-steps N m (suc n) (suc t) o b h l f e =
     let x : Out = m (o .image) (o .board) step in
-    ap (λ (a : Answer). afterAll m (x .image) (x .board) (enterStep (begun b h) a) (stepping t) .book) (f zero (omega arith))
-    ∙ done-steps m n t x b h (omega arith) (λ j l. f (suc j) (omega arith)) e
+    ap (λ (a : Answer). afterAll N m (x .image) (x .board) (enterStep (begun b h) a) (stepping t) .book) (f zero (omega arith))
+    ∙ done-steps N m n t x b h (omega arith) (λ j l. f (suc j) (omega arith)) e
 
 -- steps of a record in no job
-rest-steps : {m : Machine} → Calls m → (d : ℕ) (o : Out) → Rests (o .board .phase) → o .answer ≡ Done → stepsOn m d o .answer ≡ Done
+rest-steps : {N : ℕ} {m : Machine} → Calls N m → (d : ℕ) (o : Out) → Rests (o .board .phase) → o .answer ≡ Done → stepsOn m d o .answer ≡ Done
 rest-steps p zero o h e = e
-rest-steps {m} p (suc d) o h e =
+rest-steps {N} {m} p (suc d) o h e =
     let x : m (o .image) (o .board) step ≡ out Done (o .image) (o .board) [] = p .rests (o .image) (o .board) h in
     rest-steps p d (m (o .image) (o .board) step) (subst (λ (w : Out). Rests (w .board .phase)) (sym x) h) (ap (λ (w : Out). w .answer) x)
 
-late-steps : {m : Machine} → Calls m → (n t : ℕ) (o : Out) → n ≤ t → Rests (stepsOn m n o .board .phase) → stepsOn m n o .answer ≡ Done
+late-steps : {N : ℕ} {m : Machine} → Calls N m → (n t : ℕ) (o : Out) → n ≤ t → Rests (stepsOn m n o .board .phase) → stepsOn m n o .answer ≡ Done
     → stepsOn m t o .answer ≡ Done
 late-steps p zero t o h r e = rest-steps p t o r e
 late-steps p (suc n) zero o h r e = absurd (omega arith)
-late-steps {m} p (suc n) (suc t) o h r e = late-steps p n t (m (o .image) (o .board) step) (omega arith) r e
+late-steps {N} {m} p (suc n) (suc t) o h r e = late-steps p n t (m (o .image) (o .board) step) (omega arith) r e
 
 -- ---- a request that answers more
 
 -- a commit under way, by k of its steps: 0 was answered and the book has settled the list, or not yet
-abbrev BookSteps : Machine → Out → Book → Host → ℕ → Type 0
-BookSteps m o b h k =
-    ((numberOf (stepsOn m k o .answer) ≡ some 0) × (afterAll m (o .image) (o .board) (begun b h) (stepping k) .book ≡ settled b h))
-    ⊎ ((stepsOn m k o .answer ≡ More) × (afterAll m (o .image) (o .board) (begun b h) (stepping k) .book ≡ begun b h))
+abbrev BookSteps : ℕ → Machine → Out → Book → Host → ℕ → Type 0
+BookSteps N m o b h k =
+    ((numberOf (stepsOn m k o .answer) ≡ some 0) × (afterAll N m (o .image) (o .board) (begun b h) (stepping k) .book ≡ settled b h))
+    ⊎ ((stepsOn m k o .answer ≡ More) × (afterAll N m (o .image) (o .board) (begun b h) (stepping k) .book ≡ begun b h))
 
-plan-book : {m : Machine} → Calls m → (i : List ℕ) (o : Out) (plan : List Step) (z : Record) → StepsOf m i o plan z → z .phase ≡ Idle → o .answer ≡ More
-    → (b : Book) (h : Host) (k : ℕ) → BookSteps m o b h k
+plan-book : {N : ℕ} {m : Machine} → Calls N m → (i : List ℕ) (o : Out) (plan : List Step) (z : Record) → StepsOf N m i o plan z → z .phase ≡ Idle
+    → o .answer ≡ More
+    → (b : Book) (h : Host) (k : ℕ) → BookSteps N m o b h k
 plan-book p i o [] z st e a b h k = done-more (o .answer) (st .done) a
-plan-book {m} p i o (x ∷ xs) z st e a b h k =
+plan-book {N} {m} p i o (x ∷ xs) z st e a b h k =
     on-test (ltb k (suc n))
-    (λ t. let l : k < suc n = ltb-true k (suc n) t in inr (st .more k l, more-steps m k o (begun b h) (λ j v. st .more (suc j) (omega arith))))
+    (λ t. let l : k < suc n = ltb-true k (suc n) t in inr (st .more k l, more-steps N m k o (begun b h) (λ j v. st .more (suc j) (omega arith))))
     (λ t. let l : suc n ≤ k = ltb-false k (suc n) t in
     inl (
       ap numberOf (late-steps p (suc n) k o l (subst (λ (w : Record). Rests (w .phase)) (sym (st .last)) (subst Rests (sym e) tt)) done),
-      done-steps m n k o b h (omega arith) (λ j v. st .more (suc j) (omega arith)) done,
+      done-steps N m n k o b h (omega arith) (λ j v. st .more (suc j) (omega arith)) done,
     ))
   where
     n : ℕ
@@ -177,9 +178,9 @@ plan-book {m} p i o (x ∷ xs) z st e a b h k =
     done : stepsOn m (suc n) o .answer ≡ Done
     done = number-done (stepsOn m (suc n) o .answer) (st .done)
 
-book-steps : {m : Machine} (p : Promise m) (i : List ℕ) → Bytes i → (w : Record) (h : Host) (msg reply : List ℕ) → Bytes msg
-    → m i w (request h msg reply) .answer ≡ More → (b : Book) (k : ℕ) → BookSteps m (m i w (request h msg reply)) b h k
-book-steps {m} p i bi w h msg reply bm e b k = go (frameFor h msg x q) refl (serves .answers)
+book-steps : {N : ℕ} {m : Machine} (p : Promise N m) (i : List ℕ) → Bytes i → (w : Record) (h : Host) (msg reply : List ℕ) → Bytes msg
+    → m i w (request h msg reply) .answer ≡ More → (b : Book) (k : ℕ) → BookSteps N m (m i w (request h msg reply)) b h k
+book-steps {N} {m} p i bi w h msg reply bm e b k = go (frameFor h msg x q) refl (serves .answers)
   where
     o : Out
     o = m i w (request h msg reply)
@@ -187,7 +188,7 @@ book-steps {m} p i bi w h msg reply bm e b k = go (frameFor h msg x q) refl (ser
     taken : Accepted (o .answer)
     taken = subst Accepted (sym e) tt
 
-    y : Asked i w msg
+    y : Asked N i w msg
     y = request-asks (p .calls) i bi w h msg reply taken
 
     x : Held
@@ -196,106 +197,107 @@ book-steps {m} p i bi w h msg reply bm e b k = go (frameFor h msg x q) refl (ser
     q : Request
     q = y .asked
 
-    serves : Serves i w h msg reply x q o
+    serves : Serves N i w h msg reply x q o
     serves = p .calls .serves i w h msg reply x q bi bm (y .is-held) (y .is-asked) taken
 
-    go : (f : Option Frame) → frameFor h msg x q ≡ f → Answers f w o → BookSteps m o b h k
+    go : (f : Option Frame) → frameFor h msg x q ≡ f → Answers f w o → BookSteps N m o b h k
     go none g a = done-more (o .answer) (a .0) e
     go (some f) g a =
-        let plan : List Step = framePlan (needsRoom i w f) (w .block) (w .end) x f in
-        let z : Record = framedAt (needsRoom i w f) (w .last) (w .block) (w .end) x f in
-        let job : Job i w (request h msg reply) plan z = frame-job h msg reply x q f (y .is-held) (y .is-asked) g in
+        let plan : List Step = framePlan N (needsRoom N i w f) (w .block) (w .end) x f in
+        let z : Record = framedAt N (needsRoom N i w f) (w .last) (w .block) (w .end) x f in
+        let job : Job N i w (request h msg reply) plan z = frame-job h msg reply x q f (y .is-held) (y .is-asked) g in
         plan-book (p .calls) i o plan z (p .steps i w (request h msg reply) plan z bi bm job taken) (job-idle job) e b h k
 
 -- ---- 2
 
 -- a mount of image i, whose steps leave a record that agrees with the objects os
-module _ {m : Machine} (p : Promise m) (i : List ℕ) (bi : Bytes i) (w : Record) (os : List Object)
-    (agrees : (n : ℕ) → let o : Out = stepsOn m n (m i w mount) in Agrees m (o .image) (o .board) (book os noLists nothing))
+module _ {N : ℕ} {m : Machine} (p : Promise N m) (i : List ℕ) (bi : Bytes i) (w : Record) (os : List Object)
+    (agrees : (n : ℕ) → let o : Out = stepsOn m n (m i w mount) in Agrees N m (o .image) (o .board) (book os noLists nothing))
     (q : Record) (a : Accepted (m i q mount .answer)) where
-  store : Mountable i
+  store : Mountable N i
   store = mount-takes (p .calls) i bi q a
 
   abbrev plan : List Step
-  plan = mountPlan (allFound i) (store .store)
+  plan = mountPlan N (allFound N i) (store .store)
 
   abbrev z : Record
-  z = mountedAt (needsTransfer (store .store .frames) (store .store .tail)) (length i - 1) (store .store)
+  z = mountedAt N (needsTransfer (store .store .frames) (store .store .tail)) (length i - 1) (store .store)
 
   abbrev after : List ℕ
-  after = applyAll (sizeOf i) plan i
+  after = applyAll (sizeOf N i) plan i
 
-  job : (v : Record) → Job i v mount plan z
+  job : (v : Record) → Job N i v mount plan z
   job v = mount-job (store .store) (store .current)
 
-  steps : (v : Record) → Accepted (m i v mount .answer) → StepsOf m i (m i v mount) plan z
+  steps : (v : Record) → Accepted (m i v mount .answer) → StepsOf N m i (m i v mount) plan z
   steps v b = p .steps i v mount plan z bi tt (job v) b
 
   image-after : (v : Record) → Accepted (m i v mount .answer) → stepsOn m (length plan) (m i v mount) .image ≡ after
   image-after v b =
       steps v b .images (length plan) (le-refl (length plan))
-      ∙ ap (λ (ys : List Step). applyAll (sizeOf i) ys i) (take-all (length plan) plan (le-refl (length plan)))
+      ∙ ap (λ (ys : List Step). applyAll (sizeOf N i) ys i) (take-all (length plan) plan (le-refl (length plan)))
 
   -- whatever record it is given
   accepted-too : Accepted (m i w mount .answer)
   accepted-too = subst Accepted (ap (λ (s : Shown). s .answer) (mount-agrees (p .calls) (p .calls) i bi q w .same)) a
 
-  idle-agrees : IdleAgrees after z (book os noLists nothing)
+  idle-agrees : IdleAgrees N after z (book os noLists nothing)
   idle-agrees =
-      subst (λ (h : Phase). AgreesIn m h after z (book os noLists nothing))
-      (mounted-idle (needsTransfer (store .store .frames) (store .store .tail)) (length i - 1) (store .store))
-      (subst₂ (λ (l : List ℕ) (v : Record). Agrees m l v (book os noLists nothing)) (image-after w accepted-too) (steps w accepted-too .last)
+      subst (λ (h : Phase). AgreesIn N m h after z (book os noLists nothing))
+      (mounted-idle N (needsTransfer (store .store .frames) (store .store .tail)) (length i - 1) (store .store))
+      (subst₂ (λ (l : List ℕ) (v : Record). Agrees N m l v (book os noLists nothing)) (image-after w accepted-too) (steps w accepted-too .last)
       (agrees (length plan)))
 
   none-pending : replay (idle-agrees .frames) .pending ≡ []
   unfolding OneStore
   none-pending =
-      let ok : allowed (length i) ≡ true = mount-allowed (p .calls) i bi q a in
-      let y : Mounts m i (m i q mount) = p .one-store i q bi ok a in
+      let ok : allowed N (length i) ≡ true = mount-allowed (p .calls) i bi q a in
+      let y : Mounts N m i (m i q mount) = p .one-store i q bi ok a in
       let e : y .store ≡ store .store = same-store i bi ok (y .store) (store .store) (mounts-current i bi ok (m i q mount) y) (store .current) in
-      let f : y .last ≡ z = y .is-last ∙ ap (λ (s : Store). mountedAt (needsTransfer (s .frames) (s .tail)) (length i - 1) s) e in
+      let f : y .last ≡ z = y .is-last ∙ ap (λ (s : Store). mountedAt N (needsTransfer (s .frames) (s .tail)) (length i - 1) s) e in
       let left : Store → Record → BlockState =
-      λ s v. blockState (block (sizeOf i) (v .block) (applyAll (sizeOf i) (mountPlan (allFound i) s) i)) in
+      λ s v. blockState (block (sizeOf N i) (v .block) (applyAll (sizeOf N i) (mountPlan N (allFound N i) s) i)) in
       let g : SameValid (y .time) (y .frames) clean (idle-agrees .time) (idle-agrees .frames) clean =
       same-valid (sym (y .leaves) ∙ ap₂ left e f
-      ∙ sym (ap (λ (n : ℕ). blockState (block (n / blocks) (z .block) after)) (length-all-steps (sizeOf i) plan i)) ∙ idle-agrees .is-valid) in
+      ∙ sym (ap (λ (n : ℕ). blockState (block (sizeIn N n) (z .block) after)) (length-all-steps (sizeOf N i) plan i)) ∙ idle-agrees .is-valid) in
       sym (ap (λ (fs : List Frame). replay fs .pending) (g .frames)) ∙ ap (λ (s : State). s .pending) (y .holds)
 
-  mount-restores : Restores m (m i q mount) os
+  mount-restores : Restores N m (m i q mount) os
   mount-restores =
       record {
         count = length plan;
-        short = subst (λ (l : List ℕ). length plan ≤ sizeOf l) (sym (p .calls .one-step i q mount)) (p .calls .jobs i q mount plan z bi tt (job q) a .1);
+        short = subst (λ (l : List ℕ). length plan ≤ sizeOf N l + N) (sym (p .calls .one-step i q mount))
+            (short-most N (sizeOf N i) plan mount (p .calls .jobs i q mount plan z bi tt (job q) a .1));
         more = steps q a .more;
         done = steps q a .done;
         time = idle-agrees .time;
         frames = idle-agrees .frames;
-        is-valid = ap₂ (λ (l : List ℕ) (v : Record). blockState (block (sizeOf l) (v .block) l)) (image-after q a) (steps q a .last) ∙ idle-agrees .is-valid;
+        is-valid = ap₂ (λ (l : List ℕ) (v : Record). blockState (block (sizeOf N l) (v .block) l)) (image-after q a) (steps q a .last) ∙ idle-agrees .is-valid;
         objects = idle-agrees .objects;
         nothing-pending = none-pending;
       }
 
-module _ {m : Machine} (p : Promise m) (img : List ℕ) (r : Record) (by : Bytes img) (ok : allowed (length img) ≡ true) where
+module _ {N : ℕ} {m : Machine} (p : Promise N m) (img : List ℕ) (r : Record) (by : Bytes img) (ok : allowed N (length img) ≡ true) where
   -- a run that goes on with a mount and n of its steps
-  mounted-agrees : (es : List Event) → HappensFrom m img r es → (n : ℕ)
-      → let x : Left = leftBy m img r es in let o : Out = stepsOn m n (m (x .image) (x .board) mount) in
-      Agrees m (o .image) (o .board) (book (x .book .objects) noLists nothing)
+  mounted-agrees : (es : List Event) → HappensFrom N m img r es → (n : ℕ)
+      → let x : Left = leftBy N m img r es in let o : Out = stepsOn m n (m (x .image) (x .board) mount) in
+      Agrees N m (o .image) (o .board) (book (x .book .objects) noLists nothing)
   unfolding Claim
   mounted-agrees es hs n =
-      let x : Left = leftBy m img r es in
+      let x : Left = leftBy N m img r es in
       let o : Out = m (x .image) (x .board) mount in
       let b : Book = book (x .book .objects) noLists nothing in
       let ds : List Event = call mount ∷ stepping n in
-      let all : HappensFrom m img r (es ++ ds) =
-      happens-append m (formatted m img r .image) (formatted m img r .board) firstBook es ds hs tt (tt, steps-happen m n (o .image) (o .board) b) in
-      let y = run-rest m (formatted m img r .image) (formatted m img r .board) firstBook false es ds (p .claim img r by ok .3 (es ++ ds) all) in
-      subst (λ (l : Left). Agrees m (l .image) (l .board) (l .book)) (quiet-steps m n o (x .book .objects) noLists)
-      (steps-agree m n (o .image) (o .board) b (track (y .0) (x .book) mount (o .answer)) (y .1 .1) (y .1 .2))
+      let all : HappensFrom N m img r (es ++ ds) =
+      happens-append N m (formatted N m img r .image) (formatted N m img r .board) firstBook es ds hs tt (tt, steps-happen N m n (o .image) (o .board) b) in
+      let y = run-rest N m (formatted N m img r .image) (formatted N m img r .board) firstBook false es ds (p .claim img r by ok .3 (es ++ ds) all) in
+      subst (λ (l : Left). Agrees N m (l .image) (l .board) (l .book)) (quiet-steps N m n o (x .book .objects) noLists)
+      (steps-agree N m n (o .image) (o .board) b (track (y .0) (x .book) mount (o .answer)) (y .1 .1) (y .1 .2))
 
-  restores : (es : List Event) → HappensFrom m img r es → (q : Record) → let x : Left = leftBy m img r es in
-      Accepted (m (x .image) q mount .answer) → Restores m (m (x .image) q mount) (x .book .objects)
+  restores : (es : List Event) → HappensFrom N m img r es → (q : Record) → let x : Left = leftBy N m img r es in
+      Accepted (m (x .image) q mount .answer) → Restores N m (m (x .image) q mount) (x .book .objects)
   restores es hs q a =
-      let x : Left = leftBy m img r es in
+      let x : Left = leftBy N m img r es in
       mount-restores p (x .image) (left-by (p .calls) img r by es hs .bytes) (x .board) (x .book .objects) (mounted-agrees es hs) q a
 
   -- the book after a commit that has steps to do
@@ -305,52 +307,52 @@ module _ {m : Machine} (p : Promise m) (img : List ℕ) (r : Record) (by : Bytes
   entered b h msg a e k =
       ap (enterRequest b h msg) e ∙ ap (λ (w : Parsed). enterParsed b h msg w More) (messages-exact msg Commit .1 k)
 
-  commit-left : (es : List Event) (h : Host) (msg reply : List ℕ) (k : ℕ) → Means msg Commit → let x : Left = leftBy m img r es in
+  commit-left : (es : List Event) (h : Host) (msg reply : List ℕ) (k : ℕ) → Means msg Commit → let x : Left = leftBy N m img r es in
       let o : Out = m (x .image) (x .board) (request h msg reply) in o .answer ≡ More
-      → leftBy m img r (committing es h msg reply k) .book ≡ afterAll m (o .image) (o .board) (begun (x .book) h) (stepping k) .book
+      → leftBy N m img r (committing es h msg reply k) .book ≡ afterAll N m (o .image) (o .board) (begun (x .book) h) (stepping k) .book
   commit-left es h msg reply k y e =
-      let x : Left = leftBy m img r es in
+      let x : Left = leftBy N m img r es in
       let o : Out = m (x .image) (x .board) (request h msg reply) in
       ap (λ (l : Left). l .book)
-      (after-append m (formatted m img r .image) (formatted m img r .board) firstBook es (call (request h msg reply) ∷ stepping k))
-      ∙ ap (λ (b : Book). afterAll m (o .image) (o .board) b (stepping k) .book) (entered (x .book) h msg (o .answer) e y)
+      (after-append N m (formatted N m img r .image) (formatted N m img r .board) firstBook es (call (request h msg reply) ∷ stepping k))
+      ∙ ap (λ (b : Book). afterAll N m (o .image) (o .board) b (stepping k) .book) (entered (x .book) h msg (o .answer) e y)
 
-  whole-or-not : (es : List Event) (h : Host) (msg reply : List ℕ) (k : ℕ) (q : Record) → HappensFrom m img r (committing es h msg reply k)
-      → Means msg Commit → let x : Left = leftBy m img r es in let y : Left = leftBy m img r (committing es h msg reply k) in
+  whole-or-not : (es : List Event) (h : Host) (msg reply : List ℕ) (k : ℕ) (q : Record) → HappensFrom N m img r (committing es h msg reply k)
+      → Means msg Commit → let x : Left = leftBy N m img r es in let y : Left = leftBy N m img r (committing es h msg reply k) in
       let o : Out = m (x .image) (x .board) (request h msg reply) in
       o .answer ≡ More → Accepted (m (y .image) q mount .answer)
-      → ((numberOf (stepsOn m k o .answer) ≡ some 0) × Restores m (m (y .image) q mount) (changeAll (x .book .lists h) (x .book .objects)))
-      ⊎ ((stepsOn m k o .answer ≡ More) × Restores m (m (y .image) q mount) (x .book .objects))
+      → ((numberOf (stepsOn m k o .answer) ≡ some 0) × Restores N m (m (y .image) q mount) (changeAll (x .book .lists h) (x .book .objects)))
+      ⊎ ((stepsOn m k o .answer ≡ More) × Restores N m (m (y .image) q mount) (x .book .objects))
   whole-or-not es h msg reply k q hs n e a =
       go (book-steps p (x .image) (left-by (p .calls) img r by es first .bytes) (x .board) h msg reply (rest .0) e (x .book) k)
     where
       x : Left
-      x = leftBy m img r es
+      x = leftBy N m img r es
 
       y : Left
-      y = leftBy m img r (committing es h msg reply k)
+      y = leftBy N m img r (committing es h msg reply k)
 
       ds : List Event
       ds = call (request h msg reply) ∷ stepping k
 
-      first : HappensFrom m img r es
-      first = happens-first m (formatted m img r .image) (formatted m img r .board) firstBook es ds hs
+      first : HappensFrom N m img r es
+      first = happens-first N m (formatted N m img r .image) (formatted N m img r .board) firstBook es ds hs
 
-      rest : HappensAfter m (leftBy m img r es) ds
-      rest = happens-rest m (formatted m img r .image) (formatted m img r .board) firstBook es ds hs
+      rest : HappensAfter N m (leftBy N m img r es) ds
+      rest = happens-rest N m (formatted N m img r .image) (formatted N m img r .board) firstBook es ds hs
 
       o : Out
       o = m (x .image) (x .board) (request h msg reply)
 
-      back : (b : Book) → afterAll m (o .image) (o .board) (begun (x .book) h) (stepping k) .book ≡ b
-          → Restores m (m (y .image) q mount) (b .objects)
+      back : (b : Book) → afterAll N m (o .image) (o .board) (begun (x .book) h) (stepping k) .book ≡ b
+          → Restores N m (m (y .image) q mount) (b .objects)
       back b f =
-          subst (λ (w : Book). Restores m (m (y .image) q mount) (w .objects)) (commit-left es h msg reply k n e ∙ f)
+          subst (λ (w : Book). Restores N m (m (y .image) q mount) (w .objects)) (commit-left es h msg reply k n e ∙ f)
           (restores (committing es h msg reply k) hs q a)
 
-      go : BookSteps m o (x .book) h k
-          → ((numberOf (stepsOn m k o .answer) ≡ some 0) × Restores m (m (y .image) q mount) (changeAll (x .book .lists h) (x .book .objects)))
-          ⊎ ((stepsOn m k o .answer ≡ More) × Restores m (m (y .image) q mount) (x .book .objects))
+      go : BookSteps N m o (x .book) h k
+          → ((numberOf (stepsOn m k o .answer) ≡ some 0) × Restores N m (m (y .image) q mount) (changeAll (x .book .lists h) (x .book .objects)))
+          ⊎ ((stepsOn m k o .answer ≡ More) × Restores N m (m (y .image) q mount) (x .book .objects))
       go (inl (f, g)) = inl (f, back (settled (x .book) h) g)
       go (inr (f, g)) = inr (f, back (begun (x .book) h) g)
 
@@ -359,8 +361,8 @@ module _ {m : Machine} (p : Promise m) (img : List ℕ) (r : Record) (by : Bytes
 pub tickets-settled : TicketsSettled
 tickets-settled =
     record {
-      bad-log-length = λ m p. record { refused = malformed-refused (p .calls); undisturbed = nobody-disturbed (p .calls) };
-      power-cuts = λ m p.
+      bad-log-length = λ N m p. record { refused = malformed-refused (p .calls); undisturbed = nobody-disturbed (p .calls) };
+      power-cuts = λ N m p.
           record {
             restores = λ img r es q by ok hs a. restores p img r by ok es hs q a;
             whole-or-not = λ img r es h msg reply k q by ok hs n e a. whole-or-not p img r by ok es h msg reply k q hs n e a;

@@ -4,8 +4,11 @@ use mathlib.Core.List.{List, [], _∷_}
 use mathlib.Core.Bool.{Bool}
 use Prim.Native.Nat.{ℕ, zero, suc, _+_, _-_, _≤_, _<_}
 use native.Mathlib.Omega.{arith}
+use lib.Dec.{eqb}
 use lib.ListN.{length, getD, take, replicate, length-replicate}
-use Rattle.flash.specs.Flash.{erase, eraseBlock, applyAll, block, blocks, Write, write, writeAll}
+use borrow.Author.Tests.{eqb-true, eqb-false}
+use Rattle.flash.specs.Flash.{erase, eraseBlock, applyAll, block, Write, write, writeAll}
+use Rattle.flash.proofs.Cases.{on-test}
 use Rattle.flash.proofs.Image.{block-erase, other-erase, length-erase}
 use Rattle.flash.proofs.Offsets.{Below}
 use Rattle.frame.specs.Frame.{Frame, total, AllMayStand, nextOf}
@@ -23,11 +26,11 @@ use Rattle.journal.proofs.Room.{frames-total, used-claimed, claimed-settled, cl
 use Rattle.board.specs.Record.{rest, idle}
 use Rattle.board.specs.Mount.{nextBlock}
 use Rattle.board.specs.Plan.{onBlock, transferPlan}
-use Rattle.board.proofs.Numbers.{next-there, next-other, next-next, next-only}
+use Rattle.board.proofs.Numbers.{next-there, next-other}
 use Rattle.board.proofs.Images.{Sized, sized-as, sized-block, apply-append, length-all-steps, block-writes, other-writes}
-use Rattle.board.proofs.Invariant.{StepLands, Others, Valid, Lesser, Safe, some-valid, CutSafe, Guard}
+use Rattle.board.proofs.Invariant.{StepLands, Valid, Lesser, Lessers, Safe, some-valid, CutSafe, Guard}
 use Rattle.board.proofs.Prefixes.{Each, each-append, each-one, each-writes, below-take}
-use Rattle.board.proofs.Current.{Alone, After, Roomy, Keeps, block-long, alone-after, valid-of}
+use Rattle.board.proofs.Current.{Alone, After, Roomy, Keeps, block-long, alone-after, blank-lesser, valid-of}
 use Rattle.board.proofs.Erasing.{cut-safe}
 
 -- a state that a block may be made of, after one of time t
@@ -37,14 +40,15 @@ pub record Moves (s t : ℕ) (st : State) : Type 0 where
   pub short : claimed st ≤ s
 
 -- what a mount leaves: the settled objects alone
-pub roomy-settled : {s k t : ℕ} {img : List ℕ} {fs : List Frame} {c : Tail} → Alone s img k t fs c → Roomy s (settledOnly (replay fs))
+pub roomy-settled : {N : ℕ} {s k t : ℕ} {img : List ℕ} {fs : List Frame} {c : Tail} → Alone N s img k t fs c → Roomy s (settledOnly (replay fs))
 unfolding isOpen
-roomy-settled {k = k} {fs = fs} a =
+roomy-settled {N} {k = k} {fs = fs} a =
     omega
     (arith, claimed-settled (replay fs), used-claimed (replay fs), claimed-replay fs, layout-size (a .contents .layout), block-long k (a .sized) (a .there))
 
-pub moves-settled : {s k t : ℕ} {img : List ℕ} {fs : List Frame} {c : Tail} → Alone s img k t fs c → t < lastTime → Moves s t (settledOnly (replay fs))
-moves-settled {fs = fs} a y =
+pub moves-settled : {N : ℕ} {s k t : ℕ} {img : List ℕ} {fs : List Frame} {c : Tail} → Alone N s img k t fs c → t < lastTime
+    → Moves s t (settledOnly (replay fs))
+moves-settled {N} {fs = fs} a y =
     record { young = y; stands = stands-settled fs (a .contents .layout .stands); short = omega (arith, roomy-settled a) }
 
 -- the writes of a transfer
@@ -69,13 +73,13 @@ copied s t st x =
       clean-is = λ q. ap (λ (m : ℕ). replicate m 255) (sym (length-replicate n 255));
     }
 
-module _ {s k t : ℕ} {img : List ℕ} {fs : List Frame} {c : Tail} (a : Alone s img k t fs c) (st : State) (x : Moves s t st) where
+module _ {N : ℕ} {s k t : ℕ} {img : List ℕ} {fs : List Frame} {c : Tail} (a : Alone N s img k t fs c) (st : State) (x : Moves s t st) where
   -- the image after j bytes of the copy
   abbrev during : ℕ → List ℕ
-  during j = applyAll s (onBlock (nextBlock k) (take j (copyWrites t st))) img
+  during j = applyAll s (onBlock (nextBlock N k) (take j (copyWrites t st))) img
 
   abbrev copy : List ℕ
-  copy = applyAll s (onBlock (nextBlock k) (copyWrites t st)) img
+  copy = applyAll s (onBlock (nextBlock N k) (copyWrites t st)) img
 
   fits : headerLen + total (framesOf st) ≤ s
   fits = omega (arith, x .short, frames-total st)
@@ -83,34 +87,61 @@ module _ {s k t : ℕ} {img : List ℕ} {fs : List Frame} {c : Tail} (a : Alone 
   below : Below s (copyWrites t st)
   below = below-build s (suc t) (framesOf st) fits
 
-  -- the block that is made, and the one that it is made of
-  made-part : (ws : List Write) → Below s ws → block s (nextBlock k) (applyAll s (onBlock (nextBlock k) ws) img) ≡ writeAll (replicate s 255) ws
-  made-part ws b =
-      block-writes s (nextBlock k) ws img b ∙ ap (λ (l : List ℕ). writeAll l ws) (a .others (nextBlock k) (next-there k (a .there)) (next-other k (a .there)))
+  there : nextBlock N k < N
+  there = next-there k (a .there)
 
-  kept-part : (ws : List Write) → Below s ws → block s k (applyAll s (onBlock (nextBlock k) ws) img) ≡ block s k img
-  kept-part ws b = other-writes s k (nextBlock k) ws img (λ e. next-other k (a .there) (sym e)) b
+  apart : nextBlock N k ≡ k → ⊥
+  apart = next-other k (a .sized .few) (a .there)
 
-  new : Contents (block s (nextBlock k) copy) (suc t) (framesOf st) clean
+  -- the block that is made, the one that it is made of, and the rest
+  made-part : (ws : List Write) → Below s ws → block s (nextBlock N k) (applyAll s (onBlock (nextBlock N k) ws) img) ≡ writeAll (replicate s 255) ws
+  made-part ws b = block-writes s (nextBlock N k) ws img b ∙ ap (λ (l : List ℕ). writeAll l ws) (a .others (nextBlock N k) there apart)
+
+  kept-part : (ws : List Write) → Below s ws → block s k (applyAll s (onBlock (nextBlock N k) ws) img) ≡ block s k img
+  kept-part ws b = other-writes s k (nextBlock N k) ws img (λ e. apart (sym e)) b
+
+  blank-part : (ws : List Write) → Below s ws → (i : ℕ) → i < N → (i ≡ k → ⊥) → (i ≡ nextBlock N k → ⊥)
+      → block s i (applyAll s (onBlock (nextBlock N k) ws) img) ≡ replicate s 255
+  blank-part ws b i l m n = other-writes s i (nextBlock N k) ws img n b ∙ a .others i l m
+
+  sized-part : (ws : List Write) → Sized N s (applyAll s (onBlock (nextBlock N k) ws) img)
+  sized-part ws = sized-as (applyAll s (onBlock (nextBlock N k) ws) img) (length-all-steps s (onBlock (nextBlock N k) ws) img) (a .sized)
+
+  -- beside one of the two, the other and the rest
+  beside : (ws : List Write) → Below s ws → (u : ℕ) (m n : ℕ) → ((i : ℕ) → (i ≡ m → ⊥) → (i ≡ n → ⊥) → (i ≡ k → ⊥) × (i ≡ nextBlock N k → ⊥))
+      → Lesser s (applyAll s (onBlock (nextBlock N k) ws) img) u n → Lessers N s (applyAll s (onBlock (nextBlock N k) ws) img) u m
+  beside ws b u m n f o =
+      let img′ : List ℕ = applyAll s (onBlock (nextBlock N k) ws) img in
+      let rest : (i : ℕ) → i < N → (i ≡ m → ⊥) → (i ≡ n → ⊥) → block s i img′ ≡ replicate s 255 =
+      λ i l x y. let g = f i x y in blank-part ws b i l (g .0) (g .1) in
+      record {
+        older = λ i l x.
+            on-test (eqb i n) (λ e. subst (Lesser s img′ u) (sym (eqb-true i n e)) o)
+            (λ e. blank-lesser (sized-part ws) u i (rest i l x (eqb-false i n e)));
+        one = n;
+        blanks = rest;
+      }
+
+  new : Contents (block s (nextBlock N k) copy) (suc t) (framesOf st) clean
   new = subst (λ (b : List ℕ). Contents b (suc t) (framesOf st) clean) (sym (made-part (copyWrites t st) below)) (copied s t st x)
 
-  pub transfer-lands : Each s (StepLands s) (transferPlan k t st) img
+  pub transfer-lands : Each s (StepLands s) (transferPlan N k t st) img
   transfer-lands =
-      each-append s (StepLands s) (onBlock (nextBlock k) (copyWrites t st)) (erase k ∷ []) img
-      (each-writes s (nextBlock k) (StepLands s) (copyWrites t st) (write 0 0) img go) (each-one s (StepLands s) (erase k) copy tt)
+      each-append s (StepLands s) (onBlock (nextBlock N k) (copyWrites t st)) (erase k ∷ []) img
+      (each-writes s (nextBlock N k) (StepLands s) (copyWrites t st) (write 0 0) img go) (each-one s (StepLands s) (erase k) copy tt)
     where
-      go : (j : ℕ) → j < length (copyWrites t st) → Lands (block s (nextBlock k) (during j)) (getD (copyWrites t st) j (write 0 0))
+      go : (j : ℕ) → j < length (copyWrites t st) → Lands (block s (nextBlock N k) (during j)) (getD (copyWrites t st) j (write 0 0))
       go j h =
           subst (λ (b : List ℕ). Lands b (getD (copyWrites t st) j (write 0 0)))
           (sym (made-part (take j (copyWrites t st)) (below-take s j (copyWrites t st) below)))
           (lands s (suc t) j (framesOf st) (write 0 0) fits (x .stands) h)
 
-  pub transfer-guard : {os : List Object} (u : Bool) → Keeps s (replay fs) os → Keeps s st os → Each s (Guard s os u) (transferPlan k t st) img
+  pub transfer-guard : {os : List Object} (u : Bool) → Keeps s (replay fs) os → Keeps s st os → Each s (Guard N s os u) (transferPlan N k t st) img
   unfolding writeAll
   transfer-guard {os} u p q =
-      each-append s (Guard s os u) (onBlock (nextBlock k) (copyWrites t st)) (erase k ∷ []) img
-      (each-writes s (nextBlock k) (Guard s os u) (copyWrites t st) (write 0 0) img (λ j h. (go j h, tt)))
-      (each-one s (Guard s os u) (erase k) copy (some-valid (nextBlock k) there made old, cut))
+      each-append s (Guard N s os u) (onBlock (nextBlock N k) (copyWrites t st)) (erase k ∷ []) img
+      (each-writes s (nextBlock N k) (Guard N s os u) (copyWrites t st) (write 0 0) img (λ j h. (go j h, tt)))
+      (each-one s (Guard N s os u) (erase k) copy (some-valid (nextBlock N k) there made old, cut))
     where
       -- while the copy is made, the old block is the current one
       part : ℕ → List ℕ
@@ -120,55 +151,53 @@ module _ {s k t : ℕ} {img : List ℕ} {fs : List Frame} {c : Tail} (a : Alone 
       half-made zero h = blank-harmless s t (replicate s 255) (omega (arith, a .sized .low)) refl
       half-made (suc j) h = progress-harmless t (part (suc j)) (making s (suc t) (suc j) (framesOf st) fits (omega arith) h)
 
-      go : (j : ℕ) → j < length (copyWrites t st) → Safe s (during j) os u
+      go : (j : ℕ) → j < length (copyWrites t st) → Safe N s (during j) os u
       go j h =
           let b : Below s (take j (copyWrites t st)) = below-take s j (copyWrites t st) below in
           some-valid k (a .there) (valid-of (subst (λ (l : List ℕ). Contents l t fs c) (sym (kept-part (take j (copyWrites t st)) b)) (a .contents)) p)
-          (λ i l n. subst (λ (m : ℕ). Lesser s (during j) t m) (sym (next-only k (a .there) i l n))
+          (beside (take j (copyWrites t st)) b t k (nextBlock N k) (λ i x y. (x, y))
           (subst (Harmless t) (sym (made-part (take j (copyWrites t st)) b)) (half-made j h)))
 
       -- then the new one is
-      there : nextBlock k < blocks
-      there = next-there k (a .there)
-
-      made : Valid s copy (nextBlock k) os
+      made : Valid s copy (nextBlock N k) os
       made = valid-of new (subst (λ (z : State). Keeps s z os) (sym (replay-framesOf st)) q)
 
-      old : Others (Lesser s copy (suc t)) (nextBlock k)
-      old i l n =
-          subst (λ (m : ℕ). Lesser s copy (suc t) m) (sym (next-only (nextBlock k) there i l n ∙ next-next k (a .there)))
+      old : Lessers N s copy (suc t) (nextBlock N k)
+      old =
+          beside (copyWrites t st) below (suc t) (nextBlock N k) k (λ i x y. (y, x))
           (valid-harmless (block s k copy) (ap blockState (kept-part (copyWrites t st) below) ∙ contents-valid (a .contents)) (omega arith))
 
-      cut : CutSafe s os u (erase k) copy
-      cut =
-          cut-safe (sized-as copy (length-all-steps s (onBlock (nextBlock k) (copyWrites t st)) img) (a .sized)) (nextBlock k) k there (a .there)
-          (next-other k (a .there)) made old u
+      cut : CutSafe N s os u (erase k) copy
+      cut = cut-safe (sized-part (copyWrites t st)) (nextBlock N k) k there (a .there) apart made old u
 
-  pub transfer-alone : Alone s (applyAll s (transferPlan k t st) img) (nextBlock k) (suc t) (framesOf st) clean
+  pub transfer-alone : Alone N s (applyAll s (transferPlan N k t st) img) (nextBlock N k) (suc t) (framesOf st) clean
   unfolding applyAll
-  transfer-alone = subst (λ (i : List ℕ). Alone s i (nextBlock k) (suc t) (framesOf st) clean) (sym all-is) dropped
+  transfer-alone = subst (λ (i : List ℕ). Alone N s i (nextBlock N k) (suc t) (framesOf st) clean) (sym all-is) dropped
     where
-      all-is : applyAll s (transferPlan k t st) img ≡ eraseBlock s k copy
-      all-is = apply-append s (onBlock (nextBlock k) (copyWrites t st)) (erase k ∷ []) img
+      all-is : applyAll s (transferPlan N k t st) img ≡ eraseBlock s k copy
+      all-is = apply-append s (onBlock (nextBlock N k) (copyWrites t st)) (erase k ∷ []) img
 
-      sized : Sized s copy
-      sized = sized-as copy (length-all-steps s (onBlock (nextBlock k) (copyWrites t st)) img) (a .sized)
+      sized : Sized N s copy
+      sized = sized-part (copyWrites t st)
 
-      blank : (j : ℕ) → j < blocks → (j ≡ nextBlock k → ⊥) → block s j (eraseBlock s k copy) ≡ replicate s 255
+      -- the old one was erased, and the rest were blank before
+      blank : (j : ℕ) → j < N → (j ≡ nextBlock N k → ⊥) → block s j (eraseBlock s k copy) ≡ replicate s 255
       blank j h n =
-          let e : j ≡ k = next-only (nextBlock k) (next-there k (a .there)) j h n ∙ next-next k (a .there) in
-          ap (λ (i : ℕ). block s i (eraseBlock s k copy)) e ∙ block-erase s k copy (sized-block k sized (a .there))
+          on-test (eqb j k)
+          (λ e. ap (λ (i : ℕ). block s i (eraseBlock s k copy)) (eqb-true j k e) ∙ block-erase s k copy (sized-block k sized (a .there)))
+          (λ e. let d : j ≡ k → ⊥ = eqb-false j k e in other-erase s j k copy d ∙ blank-part (copyWrites t st) below j h d n)
 
-      dropped : Alone s (eraseBlock s k copy) (nextBlock k) (suc t) (framesOf st) clean
+      dropped : Alone N s (eraseBlock s k copy) (nextBlock N k) (suc t) (framesOf st) clean
       dropped =
           record {
             sized = sized-as (eraseBlock s k copy) (length-erase s k copy) sized;
-            there = next-there k (a .there);
-            contents = subst (λ (b : List ℕ). Contents b (suc t) (framesOf st) clean) (sym (other-erase s (nextBlock k) k copy (next-other k (a .there)))) new;
+            there = there;
+            contents = subst (λ (b : List ℕ). Contents b (suc t) (framesOf st) clean) (sym (other-erase s (nextBlock N k) k copy apart)) new;
             others = blank;
           }
 
-  pub transferred : (l : ℕ) → length img ≡ suc l → Roomy s st → After s (applyAll s (transferPlan k t st) img) (idle (rest l (nextBlock k) (claimed st))) st
+  pub transferred : (l : ℕ) → length img ≡ suc l → Roomy s st
+      → After N s (applyAll s (transferPlan N k t st) img) (idle (rest N l (nextBlock N k) (claimed st))) st
   transferred l e room =
-      subst (λ (n : ℕ). After s (applyAll s (transferPlan k t st) img) (idle (rest l (nextBlock k) n)) st) (frames-total st)
-      (alone-after l st transfer-alone (length-all-steps s (transferPlan k t st) img ∙ e) (replay-framesOf st) room)
+      subst (λ (n : ℕ). After N s (applyAll s (transferPlan N k t st) img) (idle (rest N l (nextBlock N k) n)) st) (frames-total st)
+      (alone-after l st transfer-alone (length-all-steps s (transferPlan N k t st) img ∙ e) (replay-framesOf st) room)

@@ -1,49 +1,33 @@
 -- The blocks that a mount erases.
 use mathlib.Core.Path.{_≡_, refl, sym, ap, subst, _∙_}
-use mathlib.Core.List.{List, [], _∷_}
-use mathlib.Core.Logic.{_⊎_, inl, inr}
+use mathlib.Core.List.{List, [], _∷_, map}
+use mathlib.Core.Logic.{_⊎_, inl, inr, _↔_}
 use mathlib.Core.Bool.{Bool, true, false, _||_, cond, false≢true}
-use Prim.Native.Nat.{ℕ, zero, suc, _≤_, _<_}
+use Prim.Native.Nat.{ℕ, zero, suc, _+_, _≤_, _<_}
 use native.Mathlib.Omega.{arith}
 use lib.Dec.{eqb}
 use lib.ListN.{length, replicate}
-use borrow.Author.Tests.{eqb-true}
-use Rattle.flash.specs.Flash.{block, blocks, sizeOf}
-use Rattle.flash.proofs.Cases.{on-test}
+use borrow.Author.Tests.{eqb-true, eqb-false, ne-eqb}
+use Rattle.flash.specs.Flash.{numbersFrom, block, sizeOf}
+use Rattle.flash.proofs.Cases.{on-test, clash, or-neither, or-no-left, or-no-right}
 use Rattle.journal.specs.Block.{BlockState, blank, inProgress, valid, foreign, blockState}
 use Rattle.journal.proofs.States.{blank-is}
-use Rattle.board.specs.Mount.{Found, allFound, isBlank, wipeList}
+use Rattle.board.specs.Mount.{found, allFound, isBlank, wipeList}
 use Rattle.board.proofs.Images.{Sized, size-of}
 use Rattle.board.proofs.Invariant.{Others}
 use Rattle.board.proofs.Current.{block-long}
 use Rattle.board.proofs.Erasing.{In}
 
--- every block is n, blank or one of these
-abbrev Covered : ℕ → List ℕ → List Found → Type 0
-Covered n ks [] = Unit {0}
-Covered n ks (x ∷ xs) = ((x .number ≡ n → ⊥) → (isBlank (x .state) ≡ true) ⊎ In (x .number) ks) × Covered n ks xs
+-- rising numbers, from a on
+abbrev pub Rising : ℕ → List ℕ → Type 0
+Rising a [] = Unit {0}
+Rising a (n ∷ ns) = (a ≤ n) × Rising (suc n) ns
 
-covered-more : (n k : ℕ) (ks : List ℕ) (xs : List Found) → Covered n ks xs → Covered n (k ∷ ks) xs
-covered-more n k ks [] r = tt
-covered-more n k ks (x ∷ xs) (f, r) = ((λ d. go (f d)), covered-more n k ks xs r)
-  where
-    go : (isBlank (x .state) ≡ true) ⊎ In (x .number) ks → (isBlank (x .state) ≡ true) ⊎ In (x .number) (k ∷ ks)
-    go (inl e) = inl e
-    go (inr i) = inr (inr i)
+rising-from : (a : ℕ) (ns : List ℕ) → Rising (suc a) ns → Rising a ns
+rising-from a [] r = tt
+rising-from a (n ∷ ns) (h, r) = (omega arith, r)
 
-covered : (n : ℕ) (xs : List Found) → Covered n (wipeList n xs) xs
-covered n [] = tt
-covered n (x ∷ xs) =
-    let ks : List ℕ = wipeList n xs in
-    let a : Bool = eqb n (x .number) in
-    on-test (a || isBlank (x .state))
-    (λ t. subst (λ (b : Bool). Covered n (cond b ks (x .number ∷ ks)) (x ∷ xs)) (sym t) ((λ d. inl (blank-left a d refl t)), covered n xs))
-    (λ t. subst (λ (b : Bool). Covered n (cond b ks (x .number ∷ ks)) (x ∷ xs)) (sym t)
-    ((λ d. inr (inl refl)), covered-more n (x .number) ks xs (covered n xs)))
-  where
-    blank-left : (a : Bool) → (x .number ≡ n → ⊥) → eqb n (x .number) ≡ a → (a || isBlank (x .state)) ≡ true → isBlank (x .state) ≡ true
-    blank-left true d e t = absurd (d (sym (eqb-true n (x .number) e)))
-    blank-left false d e t = t
+-- ---- a block's state by its test
 
 blank-state : (a : BlockState) → isBlank a ≡ true → a ≡ blank
 blank-state blank e = refl
@@ -51,35 +35,94 @@ blank-state inProgress e = absurd (false≢true e)
 blank-state (valid t fs c) e = absurd (false≢true e)
 blank-state (foreign f) e = absurd (false≢true e)
 
-module _ {s : ℕ} {img : List ℕ} (z : Sized s img) (n : ℕ) where
-  blank-of : (j : ℕ) → j < blocks → isBlank (blockState (block (sizeOf img) j img)) ≡ true → block s j img ≡ replicate s 255
-  blank-of j h e =
-      let q : blockState (block s j img) ≡ blank =
-      blank-state (blockState (block s j img)) (subst (λ (m : ℕ). isBlank (blockState (block m j img)) ≡ true) (size-of z) e) in
-      blank-is (block s j img) q ∙ ap (λ (m : ℕ). replicate m 255) (block-long j z h)
+not-blank : (a : BlockState) → (a ≡ blank → ⊥) → isBlank a ≡ false
+not-blank a n = on-test (isBlank a) (λ t. absurd (n (blank-state a t))) (λ t. t)
 
-  pub wipes-others : Others (λ j. (block s j img ≡ replicate s 255) ⊎ In j (wipeList n (allFound img))) n
-  wipes-others j h d = go (covered n (allFound img)) j h d
+-- ---- of an image, by number
+
+module _ (N k : ℕ) (img : List ℕ) where
+  abbrev state : ℕ → BlockState
+  state j = blockState (block (sizeOf N img) j img)
+
+  abbrev stays : ℕ → Bool
+  stays j = eqb k j || isBlank (state j)
+
+  -- of n blocks from a on
+  abbrev wiped : ℕ → ℕ → List ℕ
+  wiped a n = wipeList k (map (found N img) (numbersFrom a n))
+
+  -- the first of them is erased, or it stays
+  wiped-cases : (P : List ℕ → Type 0) (a n : ℕ) → (stays a ≡ true → P (wiped (suc a) n)) → (stays a ≡ false → P (a ∷ wiped (suc a) n))
+      → P (wiped a (suc n))
+  unfolding numbersFrom
+  wiped-cases P a n f g =
+      let ks : List ℕ = wiped (suc a) n in
+      on-test (stays a) (λ t. subst (λ (b : Bool). P (cond b ks (a ∷ ks))) (sym t) (f t)) (λ t. subst (λ (b : Bool). P (cond b ks (a ∷ ks))) (sym t) (g t))
+
+  wiped-rising : (a n : ℕ) → Rising a (wiped a n)
+  unfolding numbersFrom
+  wiped-rising a zero = tt
+  wiped-rising a (suc n) =
+      wiped-cases (Rising a) a n (λ t. rising-from a (wiped (suc a) n) (wiped-rising (suc a) n)) (λ t. (omega arith, wiped-rising (suc a) n))
+
+  wiped-most : (a n : ℕ) → length (wiped a n) ≤ n
+  unfolding numbersFrom
+  wiped-most a zero = omega arith
+  wiped-most a (suc n) =
+      wiped-cases (λ l. length l ≤ suc n) a n (λ t. omega (arith, wiped-most (suc a) n)) (λ t. omega (arith, wiped-most (suc a) n))
+
+  wiped-fewer : (a n : ℕ) → a ≤ k → k < a + n → length (wiped a n) < n
+  wiped-fewer a zero l h = absurd (omega arith)
+  wiped-fewer a (suc n) l h =
+      wiped-cases (λ ks. length ks < suc n) a n (λ t. omega (arith, wiped-most (suc a) n))
+      (λ t. let d : k ≡ a → ⊥ = eqb-false k a (or-no-left (eqb k a) (isBlank (state a)) t) in
+      omega (arith, d, wiped-fewer (suc a) n (omega (arith, d)) (omega arith)))
+
+  wiped-in : (a n j : ℕ) → a ≤ j → j < a + n → stays j ≡ false → In j (wiped a n)
+  wiped-in a zero j l h e = absurd (omega arith)
+  wiped-in a (suc n) j l h e =
+      let later : eqb j a ≡ false → In j (wiped (suc a) n) = λ q. wiped-in (suc a) n j (omega (arith, eqb-false j a q)) (omega arith) e in
+      wiped-cases (In j) a n (λ t. on-test (eqb j a) (λ q. clash (stays a) t (ap stays (sym (eqb-true j a q)) ∙ e)) later)
+      (λ t. on-test (eqb j a) (λ q. inl (eqb-true j a q)) (λ q. inr (later q)))
+
+  wiped-is : (a n j : ℕ) → In j (wiped a n) → (j < a + n) × (stays j ≡ false)
+  unfolding numbersFrom
+  wiped-is a zero j i = absurd i
+  wiped-is a (suc n) j i =
+      let later : In j (wiped (suc a) n) → (j < a + suc n) × (stays j ≡ false) = λ i. let y = wiped-is (suc a) n j i in (omega (arith, y .0), y .1) in
+      wiped-cases (λ ks. In j ks → (j < a + suc n) × (stays j ≡ false)) a n (λ t. later) (λ t. first later t) i
     where
-      ks : List ℕ
-      ks = wipeList n (allFound img)
+      first : (In j (wiped (suc a) n) → (j < a + suc n) × (stays j ≡ false)) → stays a ≡ false → (j ≡ a) ⊎ In j (wiped (suc a) n)
+          → (j < a + suc n) × (stays j ≡ false)
+      first later t (inl e) = (omega arith, ap stays e ∙ t)
+      first later t (inr i) = later i
 
-      each : (i : ℕ) → i < blocks → (isBlank (blockState (block (sizeOf img) i img)) ≡ true) ⊎ In i ks → (block s i img ≡ replicate s 255) ⊎ In i ks
-      each i l (inl e) = inl (blank-of i l e)
-      each i l (inr x) = inr x
+  -- ---- K14: "mount erases every other that isn't blank, by number"
 
-      go : Covered n ks (allFound img) → (i : ℕ) → i < blocks → (i ≡ n → ⊥) → (block s i img ≡ replicate s 255) ⊎ In i ks
-      go (f, (g, r)) zero l d = each 0 l (f d)
-      go (f, (g, r)) (suc zero) l d = each 1 l (g d)
-      go (f, (g, r)) (suc (suc i)) l d = absurd (omega arith)
+  pub wipes-rise : Rising 0 (wipeList k (allFound N img))
+  wipes-rise = wiped-rising 0 N
 
-few : (n : ℕ) (a b : Bool) → n < blocks
-    → length {A = ℕ} (cond (eqb n 0 || a) (cond (eqb n 1 || b) [] (1 ∷ [])) (0 ∷ cond (eqb n 1 || b) [] (1 ∷ []))) ≤ 1
-few zero a true h = omega arith
-few zero a false h = omega arith
-few (suc zero) true b h = omega arith
-few (suc zero) false b h = omega arith
-few (suc (suc n)) a b h = absurd (omega arith)
+  pub wipes-few : k < N → length (wipeList k (allFound N img)) < N
+  wipes-few h = wiped-fewer 0 N (omega arith) (omega arith)
 
-pub wipes-few : (img : List ℕ) (n : ℕ) → n < blocks → length (wipeList n (allFound img)) ≤ 1
-wipes-few img n h = few n (isBlank (blockState (block (sizeOf img) 0 img))) (isBlank (blockState (block (sizeOf img) 1 img))) h
+  abbrev Wiped : ℕ → Type 0
+  Wiped j = (j < N) × (j ≡ k → ⊥) × (state j ≡ blank → ⊥)
+
+  pub wipes-exact : (j : ℕ) → In j (wipeList k (allFound N img)) ↔ Wiped j
+  wipes-exact j = (
+    λ i. let y = wiped-is 0 N j i in (
+      omega (arith, y .0),
+      λ e. eqb-false k j (or-no-left (eqb k j) (isBlank (state j)) (y .1)) (sym e),
+      λ e. clash (isBlank (state j)) (ap isBlank e) (or-no-right (eqb k j) (isBlank (state j)) (y .1)),
+    ),
+    λ (h, d, n). wiped-in 0 N j (omega arith) (omega arith) (or-neither (eqb k j) (isBlank (state j)) (ne-eqb k j (λ e. d (sym e))) (not-blank (state j) n)),
+  )
+
+-- every other is blank or erased
+pub wipes-others : {N : ℕ} {s : ℕ} {img : List ℕ} → Sized N s img → (n : ℕ)
+    → Others N (λ j. (block s j img ≡ replicate s 255) ⊎ In j (wipeList n (allFound N img))) n
+wipes-others {N} {s} {img} z n j h d =
+    let same : blockState (block (sizeOf N img) j img) ≡ blockState (block s j img) = ap (λ (m : ℕ). blockState (block m j img)) (size-of z) in
+    on-test (isBlank (blockState (block s j img)))
+    (λ t. inl (blank-is (block s j img) (blank-state (blockState (block s j img)) t) ∙ ap (λ (m : ℕ). replicate m 255) (block-long j z h)))
+    (λ t. inr (wipes-exact N n img j .1 (h, d, λ e. clash (isBlank (blockState (block s j img))) (ap isBlank (sym same ∙ e)) t)))

@@ -1,4 +1,5 @@
--- Demand 3: the claim about every list of calls, and of cuts inside erases (document 02, K4), from a finished format on. Beyond the
+-- Demand 3: the claim about every list of calls, and of cuts inside erases (document 02, K4), from a finished format on, for every N, "the
+-- same N in each call of a run" (K14). Beyond the
 -- papers' letter it says that the store stays available: a store that loses all at a cut and then refuses every mount would meet the letter.
 use mathlib.Core.List.{List, [], _∷_, _++_}
 use mathlib.Core.Option.{Option, none, some}
@@ -7,7 +8,7 @@ use mathlib.Core.Path.{_≡_}
 use Prim.Native.Nat.{ℕ, zero, suc, _+_, _≤_, _<_}
 use lib.ListN.{length, take, drop}
 use Rattle.flash.specs.Bytes.{Bytes, u16le}
-use Rattle.flash.specs.Flash.{Step, blocks, block, sizeOf, withBlock, eraseBlock}
+use Rattle.flash.specs.Flash.{Step, block, sizeOf, withBlock, eraseBlock}
 use Rattle.flash.specs.Raised.{Raised}
 use Rattle.frame.specs.declared.Host.{Host}
 use Rattle.frame.specs.Frame.{Frame, hostMax, deleteLen, endLen}
@@ -37,31 +38,31 @@ use Rattle.board.specs.Book.{Book, UnderWay, nothing, committing, format
 -- ---- between calls
 
 -- "replay of the record's half gives exactly the book's objects and, for each host, the book's list"
-pub record IdleAgrees (img : List ℕ) (r : Record) (b : Book) : Type 0 where
+pub record IdleAgrees (N : ℕ) (img : List ℕ) (r : Record) (b : Book) : Type 0 where
   pub time : ℕ
   pub frames : List Frame
-  pub is-valid : blockState (block (sizeOf img) (r .block) img) ≡ valid time frames clean
+  pub is-valid : blockState (block (sizeOf N img) (r .block) img) ≡ valid time frames clean
   pub objects : replay frames .objects ≡ b .objects
   pub lists : (h : Host) → h .0 ≤ hostMax → listOf h (replay frames .pending) ≡ b .lists h
   -- when nothing is pending there is room for a delete and its commit
-  pub room : replay frames .pending ≡ [] → used (replay frames) + (deleteLen + endLen) ≤ sizeOf img
+  pub room : replay frames .pending ≡ [] → used (replay frames) + (deleteLen + endLen) ≤ sizeOf N img
 
--- a job whose steps are all made ends idle, after at most S of them
-pub record Finishes (m : Machine) (img : List ℕ) (r : Record) : Type 0 where
+-- a job whose steps are all made ends idle, after at most S of them and, for a mount, N erases (K14: "Demand 1's bound leaves a mount's erases aside")
+pub record Finishes (N : ℕ) (m : Machine) (img : List ℕ) (r : Record) : Type 0 where
   pub plan : List Step
   pub last : Record
-  pub follows : Follows m img r plan last
+  pub follows : Follows N m img r plan last
   pub rests : last .phase ≡ Idle
-  pub short : length plan ≤ sizeOf img
+  pub short : length plan ≤ sizeOf N img + N
 
 -- "after each call in it that gives back an idle record"; beyond the letter, a job under way can be finished
-abbrev pub AgreesIn : Machine → Phase → List ℕ → Record → Book → Type 0
-AgreesIn m Unmounted img r b = Unit {0}
-AgreesIn m Idle img r b = IdleAgrees img r b
-AgreesIn m (Busy s) img r b = Finishes m img r
+abbrev pub AgreesIn : ℕ → Machine → Phase → List ℕ → Record → Book → Type 0
+AgreesIn N m Unmounted img r b = Unit {0}
+AgreesIn N m Idle img r b = IdleAgrees N img r b
+AgreesIn N m (Busy s) img r b = Finishes N m img r
 
-abbrev pub Agrees : Machine → List ℕ → Record → Book → Type 0
-Agrees m img r b = AgreesIn m (r .phase) img r b
+abbrev pub Agrees : ℕ → Machine → List ℕ → Record → Book → Type 0
+Agrees N m img r b = AgreesIn N m (r .phase) img r b
 
 -- ---- what a call says of the book's objects
 
@@ -93,28 +94,28 @@ abbrev pub Never : Refusal → Out → Type 0
 Never n o = o .answer ≡ Refused n → ⊥
 
 -- the current block's time is the last and a transfer is due
-pub record WornOut (img : List ℕ) : Type 0 where
+pub record WornOut (N : ℕ) (img : List ℕ) : Type 0 where
   pub number : ℕ
   pub frames : List Frame
   pub tail : Tail
-  pub there : number < blocks
-  pub is-valid : blockState (block (sizeOf img) number img) ≡ valid lastTime frames tail
+  pub there : number < N
+  pub is-valid : blockState (block (sizeOf N img) number img) ≡ valid lastTime frames tail
   pub due : needsTransfer frames tail ≡ true
 
 -- `unfinished`: a format was accepted and has since neither finished nor been followed by an accepted mount
-pub record MountSays (img : List ℕ) (unfinished : Bool) (o : Out) : Type 0 where
+pub record MountSays (N : ℕ) (img : List ℕ) (unfinished : Bool) (o : Out) : Type 0 where
   pub never-foreign : (k : ℕ) (e : Fault) → Never (refusal.Foreign k e) o
   pub never-length : Never refusal.ImageLength o
   pub no-store : o .answer ≡ Refused refusal.NoStore → unfinished ≡ true
-  pub worn : o .answer ≡ Refused refusal.Worn → WornOut img
+  pub worn : o .answer ≡ Refused refusal.Worn → WornOut N img
 
 -- what each call answers: 4 and 11 go to no request, no step and no format is refused
-abbrev pub Says : List ℕ → Record → Book → Bool → Call → Out → Type 0
-Says img r b u (request h m reply) o =
+abbrev pub Says : ℕ → List ℕ → Record → Book → Bool → Call → Out → Type 0
+Says N img r b u (request h m reply) o =
     Never refusal.ImageLength o × Never refusal.Stale o × (r .phase ≡ Idle → h .0 ≤ hostMax → RequestSays (parse m) reply o b)
-Says img r b u step o = (n : Refusal) → Never n o
-Says img r b u mount o = MountSays img u o
-Says img r b u format o = o .answer ≡ More
+Says N img r b u step o = (n : Refusal) → Never n o
+Says N img r b u mount o = MountSays N img u o
+Says N img r b u format o = o .answer ≡ More
 
 -- `unfinished` after a call: set by an accepted format, cleared by the last step of one and by an accepted mount
 abbrev pub trackStep : Bool → UnderWay → Answer → Bool
@@ -164,12 +165,12 @@ pub data Event : Type 0 where
 
 -- such a cut can happen: a job's next step erases the block, and no format is under way. "A cut inside a format's erase ends its run".
 -- "power lost inside an erase leaves each bit as it was or 1, freely": any raised bytes
-pub record CutsErase (m : Machine) (img : List ℕ) (r : Record) (b : Book) (k : ℕ) (new : List ℕ) : Type 0 where
+pub record CutsErase (N : ℕ) (m : Machine) (img : List ℕ) (r : Record) (b : Book) (k : ℕ) (new : List ℕ) : Type 0 where
   pub in-job : InJob (r .phase)
   pub no-format : b .under ≡ formatting → ⊥
-  pub there : k < blocks
-  pub erases : m img r step .image ≡ eraseBlock (sizeOf img) k img
-  pub raised : Raised (block (sizeOf img) k img) new
+  pub there : k < N
+  pub erases : m img r step .image ≡ eraseBlock (sizeOf N img) k img
+  pub raised : Raised (block (sizeOf N img) k img) new
 
 -- "and a mount or format comes next"
 abbrev pub Restarts : List Event → Type 0
@@ -178,41 +179,41 @@ Restarts (call c ∷ es) = Begins c
 Restarts (cutErase k new q ∷ es) = ⊥
 
 -- the list can happen from an image, a record, a book; of a cut "the book takes nothing from it"
-abbrev pub Happens : Machine → List ℕ → Record → Book → List Event → Type 0
-Happens m img r b [] = Unit {0}
-Happens m img r b (call c ∷ es) =
-    let o : Out = m img r c in ByteCall c × Happens m (o .image) (o .board) (enterCall b c (o .answer)) es
-Happens m img r b (cutErase k new q ∷ es) =
-    CutsErase m img r b k new × Restarts es × Happens m (withBlock (sizeOf img) k new img) q b es
+abbrev pub Happens : ℕ → Machine → List ℕ → Record → Book → List Event → Type 0
+Happens N m img r b [] = Unit {0}
+Happens N m img r b (call c ∷ es) =
+    let o : Out = m img r c in ByteCall c × Happens N m (o .image) (o .board) (enterCall b c (o .answer)) es
+Happens N m img r b (cutErase k new q ∷ es) =
+    CutsErase N m img r b k new × Restarts es × Happens N m (withBlock (sizeOf N img) k new img) q b es
 
 -- ---- the run
 
 -- the claim from an image, a record, a book: what each call says, and that after it the record agrees with the book
-abbrev pub Run : Machine → List ℕ → Record → Book → Bool → List Event → Type 0
-Run m img r b u [] = Unit {0}
-Run m img r b u (call c ∷ es) =
+abbrev pub Run : ℕ → Machine → List ℕ → Record → Book → Bool → List Event → Type 0
+Run N m img r b u [] = Unit {0}
+Run N m img r b u (call c ∷ es) =
     let o : Out = m img r c in
     let b′ : Book = enterCall b c (o .answer) in
-    Says img r b u c o × Agrees m (o .image) (o .board) b′ × Run m (o .image) (o .board) b′ (track u b c (o .answer)) es
-Run m img r b u (cutErase k new q ∷ es) = Run m (withBlock (sizeOf img) k new img) q b u es
+    Says N img r b u c o × Agrees N m (o .image) (o .board) b′ × Run N m (o .image) (o .board) b′ (track u b c (o .answer)) es
+Run N m img r b u (cutErase k new q ∷ es) = Run N m (withBlock (sizeOf N img) k new img) q b u es
 
 -- "whose steps too each got what the call before gave back"
 abbrev pub stepsOn : Machine → ℕ → Out → Out
 stepsOn m zero o = o
 stepsOn m (suc n) o = stepsOn m n (m (o .image) (o .board) step)
 
--- "the image and idle record that a finished format gave back", whatever record there was before
-abbrev pub formatted : Machine → List ℕ → Record → Out
-formatted m img r = stepsOn m 12 (m img r format)
+-- "the image and idle record that a finished format gave back", whatever record there was before: N erases and a header
+abbrev pub formatted : ℕ → Machine → List ℕ → Record → Out
+formatted N m img r = stepsOn m (N + 10) (m img r format)
 
 -- a list that can happen from there on
-abbrev pub HappensFrom : Machine → List ℕ → Record → List Event → Type 0
-HappensFrom m img r es = Happens m (formatted m img r .image) (formatted m img r .board) firstBook es
+abbrev pub HappensFrom : ℕ → Machine → List ℕ → Record → List Event → Type 0
+HappensFrom N m img r es = Happens N m (formatted N m img r .image) (formatted N m img r .board) firstBook es
 
 -- "This is a single claim about the whole list": every image of an allowed length, every list that can happen
-unfoldable pub Claim : Machine → Type 0
-Claim m =
-    (img : List ℕ) (r : Record) → Bytes img → allowed (length img) ≡ true
-    → let o : Out = formatted m img r in
-    (o .answer ≡ Done) × (o .board .phase ≡ Idle) × Agrees m (o .image) (o .board) firstBook
-    × ((es : List Event) → HappensFrom m img r es → Run m (o .image) (o .board) firstBook false es)
+unfoldable pub Claim : ℕ → Machine → Type 0
+Claim N m =
+    (img : List ℕ) (r : Record) → Bytes img → allowed N (length img) ≡ true
+    → let o : Out = formatted N m img r in
+    (o .answer ≡ Done) × (o .board .phase ≡ Idle) × Agrees N m (o .image) (o .board) firstBook
+    × ((es : List Event) → HappensFrom N m img r es → Run N m (o .image) (o .board) firstBook false es)

@@ -3,10 +3,10 @@
 use mathlib.Core.List.{List, [], _∷_}
 use mathlib.Core.Bool.{true}
 use mathlib.Core.Path.{_≡_}
-use Prim.Native.Nat.{ℕ, _≤_, _<_}
+use Prim.Native.Nat.{ℕ, _+_, _≤_, _<_}
 use lib.ListN.{length}
 use Rattle.flash.specs.Bytes.{Bytes}
-use Rattle.flash.specs.Flash.{blocks, block, sizeOf, withBlock}
+use Rattle.flash.specs.Flash.{block, sizeOf, withBlock}
 use Rattle.frame.specs.Frame.{Frame}
 use Rattle.frame.specs.Reader.{Tail, clean}
 use Rattle.journal.specs.Replay.{Object, replay}
@@ -26,14 +26,14 @@ pub record Left : Type 0 where
   pub book : Book
 
 -- calls that each got what the last gave back, and cuts inside erases
-abbrev pub afterAll : Machine → List ℕ → Record → Book → List Event → Left
-afterAll m img r b [] = record { image = img; board = r; book = b }
-afterAll m img r b (call c ∷ es) = let o : Out = m img r c in afterAll m (o .image) (o .board) (enterCall b c (o .answer)) es
-afterAll m img r b (cutErase k new q ∷ es) = afterAll m (withBlock (sizeOf img) k new img) q b es
+abbrev pub afterAll : ℕ → Machine → List ℕ → Record → Book → List Event → Left
+afterAll N m img r b [] = record { image = img; board = r; book = b }
+afterAll N m img r b (call c ∷ es) = let o : Out = m img r c in afterAll N m (o .image) (o .board) (enterCall b c (o .answer)) es
+afterAll N m img r b (cutErase k new q ∷ es) = afterAll N m (withBlock (sizeOf N img) k new img) q b es
 
 -- a run from a finished format on
-abbrev pub leftBy : Machine → List ℕ → Record → List Event → Left
-leftBy m img r es = afterAll m (formatted m img r .image) (formatted m img r .board) firstBook es
+abbrev pub leftBy : ℕ → Machine → List ℕ → Record → List Event → Left
+leftBy N m img r es = afterAll N m (formatted N m img r .image) (formatted N m img r .board) firstBook es
 
 -- ---- what a cut leaves
 
@@ -44,16 +44,18 @@ Beside t inProgress = Unit {0}
 Beside t (valid u fs c) = u < t
 Beside t (foreign e) = Unit {0}
 
--- "the old settled objects": a mount finds them
-pub record OldObjects (img : List ℕ) (os : List Object) : Type 0 where
+-- "the old settled objects": a mount finds them. K14: "equal times among valid blocks are 3", so that no two have one time
+pub record OldObjects (N : ℕ) (img : List ℕ) (os : List Object) : Type 0 where
   pub number : ℕ
   pub time : ℕ
   pub frames : List Frame
   pub tail : Tail
-  pub there : number < blocks
-  pub is-valid : blockState (block (sizeOf img) number img) ≡ valid time frames tail
+  pub there : number < N
+  pub is-valid : blockState (block (sizeOf N img) number img) ≡ valid time frames tail
   pub objects : replay frames .objects ≡ os
-  pub others : (j : ℕ) → j < blocks → (j ≡ number → ⊥) → Beside time (blockState (block (sizeOf img) j img))
+  pub others : (j : ℕ) → j < N → (j ≡ number → ⊥) → Beside time (blockState (block (sizeOf N img) j img))
+  pub apart : (i j t : ℕ) (fs gs : List Frame) (c d : Tail) → i < N → j < N → blockState (block (sizeOf N img) i img) ≡ valid t fs c
+      → blockState (block (sizeOf N img) j img) ≡ valid t gs d → i ≡ j
 
 -- "no store": a mount answers 2
 abbrev pub Empty : BlockState → Type 0
@@ -62,22 +64,22 @@ Empty inProgress = Unit {0}
 Empty (valid t fs c) = ⊥
 Empty (foreign e) = ⊥
 
-abbrev pub NoStore : List ℕ → Type 0
-NoStore img = (j : ℕ) → j < blocks → Empty (blockState (block (sizeOf img) j img))
+abbrev pub NoStore : ℕ → List ℕ → Type 0
+NoStore N img = (j : ℕ) → j < N → Empty (blockState (block (sizeOf N img) j img))
 
 -- "the empty store"
-pub record EmptyStore (img : List ℕ) : Type 0 where
-  pub first : blockState (block (sizeOf img) 0 img) ≡ valid 1 [] clean
-  pub others : (j : ℕ) → j < blocks → (j ≡ 0 → ⊥) → blockState (block (sizeOf img) j img) ≡ blank
+pub record EmptyStore (N : ℕ) (img : List ℕ) : Type 0 where
+  pub first : blockState (block (sizeOf N img) 0 img) ≡ valid 1 [] clean
+  pub others : (j : ℕ) → j < N → (j ≡ 0 → ⊥) → blockState (block (sizeOf N img) j img) ≡ blank
 
--- after j of the twelve steps, on an image that held these objects
-pub data Leaves (os : List Object) (j : ℕ) (img : List ℕ) : Type 0 where
-  old-objects : j < 12 → OldObjects img os → Leaves os j img
-  no-store : j < 12 → NoStore img → Leaves os j img
-  empty-store : j ≡ 12 → EmptyStore img → Leaves os j img
+-- after j of the N + 10 steps, on an image that held these objects
+pub data Leaves (N : ℕ) (os : List Object) (j : ℕ) (img : List ℕ) : Type 0 where
+  old-objects : j < N + 10 → OldObjects N img os → Leaves N os j img
+  no-store : j < N + 10 → NoStore N img → Leaves N os j img
+  empty-store : j ≡ N + 10 → EmptyStore N img → Leaves N os j img
 
 -- for every run and every cut, before the first step and after the last too
-unfoldable pub CutFormat : Machine → Type 0
-CutFormat m =
-    (img : List ℕ) (r : Record) (es : List Event) (j : ℕ) → Bytes img → allowed (length img) ≡ true → HappensFrom m img r es → j ≤ 12
-    → let x : Left = leftBy m img r es in Leaves (x .book .objects) j (stepsOn m j (m (x .image) (x .board) format) .image)
+unfoldable pub CutFormat : ℕ → Machine → Type 0
+CutFormat N m =
+    (img : List ℕ) (r : Record) (es : List Event) (j : ℕ) → Bytes img → allowed N (length img) ≡ true → HappensFrom N m img r es → j ≤ N + 10
+    → let x : Left = leftBy N m img r es in Leaves N (x .book .objects) j (stepsOn m j (m (x .image) (x .board) format) .image)

@@ -22,15 +22,15 @@ Unchanged img r mount n = out (Refused n) img unmounted []
 Unchanged img r format n = out (Refused n) img unmounted []
 
 -- "Accepting takes no step": only a step call changes the image, and it does at most one flash step
-abbrev pub OneStep : List ℕ → List ℕ → Type 0
-OneStep img after = (after ≡ img) ⊎ ((x : Step) × (after ≡ apply (sizeOf img) x img))
+abbrev pub OneStep : ℕ → List ℕ → List ℕ → Type 0
+OneStep N img after = (after ≡ img) ⊎ ((x : Step) × (after ≡ apply (sizeOf N img) x img))
 
 -- "A step does one thing"; a request, a mount and a format do none
-abbrev pub ImageAfter : Machine → List ℕ → Record → Call → Type 0
-ImageAfter m img r (request h msg reply) = m img r (request h msg reply) .image ≡ img
-ImageAfter m img r step = OneStep img (m img r step .image)
-ImageAfter m img r mount = m img r mount .image ≡ img
-ImageAfter m img r format = m img r format .image ≡ img
+abbrev pub ImageAfter : ℕ → Machine → List ℕ → Record → Call → Type 0
+ImageAfter N m img r (request h msg reply) = m img r (request h msg reply) .image ≡ img
+ImageAfter N m img r step = OneStep N img (m img r step .image)
+ImageAfter N m img r mount = m img r mount .image ≡ img
+ImageAfter N m img r format = m img r format .image ≡ img
 
 -- ---- forged records
 

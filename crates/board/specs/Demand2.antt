@@ -8,7 +8,7 @@ use mathlib.Core.Path.{_≡_}
 use Prim.Native.Nat.{ℕ, _+_, _-_, _*_, _≤_, _<_}
 use lib.ListN.{length, getD}
 use Rattle.flash.specs.Bytes.{Bytes}
-use Rattle.flash.specs.Flash.{Step, program, erase, apply, applyAll, blocks, block, sizeOf, withBlock}
+use Rattle.flash.specs.Flash.{Step, program, erase, apply, applyAll, block, sizeOf, withBlock}
 use Rattle.frame.specs.declared.Host.{Host}
 use Rattle.frame.specs.declared.ObjectId.{ObjectId}
 use Rattle.frame.specs.Frame.{Frame, frameLen, put, delete}
@@ -27,7 +27,7 @@ use Rattle.board.specs.Record.{Out, allowed}
 use Rattle.board.specs.Mount.{allFound, Store, needsTransfer}
 use Rattle.board.specs.Queue.{Held}
 use Rattle.board.specs.Exec.{request, mount, format, Machine}
-use Rattle.board.specs.Plan.{Follows, mountPlan, mountedAt}
+use Rattle.board.specs.Plan.{Follows, programs, mountPlan, mountedAt}
 use Rattle.board.specs.Table.{frameFor, Allowed, Fresh}
 use Rattle.wire.specs.Sentences.{Means}
 use Rattle.board.specs.Book.{Book}
@@ -37,26 +37,28 @@ use Rattle.board.specs.Claim.{Event, call, cutErase, Happens}
 
 -- the store that an accepted mount takes: a valid block, newer than every other valid one; its plan is document 01's, and leaves a block
 -- that replays to its settled objects and nothing pending
-pub record Mounts (m : Machine) (img : List ℕ) (o : Out) : Type 0 where
+pub record Mounts (N : ℕ) (m : Machine) (img : List ℕ) (o : Out) : Type 0 where
   pub store : Store
-  pub there : store .number < blocks
-  pub is-valid : blockState (block (sizeOf img) (store .number) img) ≡ valid (store .time) (store .frames) (store .tail)
-  pub newest : (k t : ℕ) (fs : List Frame) (c : Tail) → k < blocks → (k ≡ store .number → ⊥)
-      → blockState (block (sizeOf img) k img) ≡ valid t fs c → t < store .time
+  pub there : store .number < N
+  pub is-valid : blockState (block (sizeOf N img) (store .number) img) ≡ valid (store .time) (store .frames) (store .tail)
+  pub newest : (k t : ℕ) (fs : List Frame) (c : Tail) → k < N → (k ≡ store .number → ⊥)
+      → blockState (block (sizeOf N img) k img) ≡ valid t fs c → t < store .time
   pub last : Record
-  pub is-last : last ≡ mountedAt (needsTransfer (store .frames) (store .tail)) (length img - 1) store
-  pub follows : Follows m img (o .board) (mountPlan (allFound img) store) last
-  pub short : length (mountPlan (allFound img) store) ≤ sizeOf img
+  pub is-last : last ≡ mountedAt N (needsTransfer (store .frames) (store .tail)) (length img - 1) store
+  pub follows : Follows N m img (o .board) (mountPlan N (allFound N img) store) last
+  -- K14: "Demand 1's bound leaves a mount's erases aside"; of those there are at most N
+  pub short : length (programs (mountPlan N (allFound N img) store)) ≤ sizeOf N img
+  pub erases : length (mountPlan N (allFound N img) store) ≤ length (programs (mountPlan N (allFound N img) store)) + N
   pub time : ℕ
   pub frames : List Frame
   pub leaves :
-      blockState (block (sizeOf img) (last .block) (applyAll (sizeOf img) (mountPlan (allFound img) store) img)) ≡ valid time frames clean
+      blockState (block (sizeOf N img) (last .block) (applyAll (sizeOf N img) (mountPlan N (allFound N img) store) img)) ≡ valid time frames clean
   pub holds : replay frames ≡ settledOnly (replay (store .frames))
 
 -- the refusals of a mount, and their exact conditions, are the table's lines
-unfoldable pub OneStore : Machine → Type 0
-OneStore m =
-    (img : List ℕ) (r : Record) → Bytes img → allowed (length img) ≡ true → Accepted (m img r mount .answer) → Mounts m img (m img r mount)
+unfoldable pub OneStore : ℕ → Machine → Type 0
+OneStore N m =
+    (img : List ℕ) (r : Record) → Bytes img → allowed N (length img) ≡ true → Accepted (m img r mount .answer) → Mounts N m img (m img r mount)
 
 -- ---- every programmed byte lands as given
 
@@ -68,51 +70,51 @@ LandsAt s (program k o v) img =
 LandsAt s (erase k) img = Unit {0}
 
 -- a call changes nothing, or does one step that lands
-abbrev pub StepLands : List ℕ → Out → Type 0
-StepLands img o = (o .image ≡ img) ⊎ ((x : Step) × (o .image ≡ apply (sizeOf img) x img) × LandsAt (sizeOf img) x img)
+abbrev pub StepLands : ℕ → List ℕ → Out → Type 0
+StepLands N img o = (o .image ≡ img) ⊎ ((x : Step) × (o .image ≡ apply (sizeOf N img) x img) × LandsAt (sizeOf N img) x img)
 
 -- calls that each got what the last gave back, and cuts inside erases
-abbrev pub AllLand : Machine → List ℕ → Record → List Event → Type 0
-AllLand m img r [] = Unit {0}
-AllLand m img r (call c ∷ es) = let o : Out = m img r c in StepLands img o × AllLand m (o .image) (o .board) es
-AllLand m img r (cutErase k new q ∷ es) = AllLand m (withBlock (sizeOf img) k new img) q es
+abbrev pub AllLand : ℕ → Machine → List ℕ → Record → List Event → Type 0
+AllLand N m img r [] = Unit {0}
+AllLand N m img r (call c ∷ es) = let o : Out = m img r c in StepLands N img o × AllLand N m (o .image) (o .board) es
+AllLand N m img r (cutErase k new q ∷ es) = AllLand N m (withBlock (sizeOf N img) k new img) q es
 
 -- from a mount or a format on, accepted or not, of any image of an allowed length, whatever a book says
-pub record LandsFrom (m : Machine) : Type 0 where
-  pub from-mount : (img : List ℕ) (r : Record) (b : Book) (es : List Event) → Bytes img → allowed (length img) ≡ true
-      → Happens m img (m img r mount .board) b es → AllLand m img (m img r mount .board) es
-  pub from-format : (img : List ℕ) (r : Record) (b : Book) (es : List Event) → Bytes img → allowed (length img) ≡ true
-      → Happens m img (m img r format .board) b es → AllLand m img (m img r format .board) es
+pub record LandsFrom (N : ℕ) (m : Machine) : Type 0 where
+  pub from-mount : (img : List ℕ) (r : Record) (b : Book) (es : List Event) → Bytes img → allowed N (length img) ≡ true
+      → Happens N m img (m img r mount .board) b es → AllLand N m img (m img r mount .board) es
+  pub from-format : (img : List ℕ) (r : Record) (b : Book) (es : List Event) → Bytes img → allowed N (length img) ≡ true
+      → Happens N m img (m img r format .board) b es → AllLand N m img (m img r format .board) es
 
 -- ---- room and wear
 
 -- a request that no line of the table before 8 refuses, where the image read afresh holds x and the message means q
-pub record Asks (img : List ℕ) (r : Record) (h : Host) (msg : List ℕ) (x : Held) (q : Request) : Type 0 where
+pub record Asks (N : ℕ) (img : List ℕ) (r : Record) (h : Host) (msg : List ℕ) (x : Held) (q : Request) : Type 0 where
   pub bytes : Bytes img
-  pub length-ok : Allowed (length img)
+  pub length-ok : Allowed N (length img)
   pub host-ok : h .0 ≤ 3
   pub is-idle : r .phase ≡ Idle
-  pub is-held : Fresh img r x
+  pub is-held : Fresh N img r x
   pub is-asked : Means msg q
 
 -- "a put is refused exactly if C + n + 6·open + 14 > S, a delete exactly if C + 8 + 6·open > S. Commit and abort are never refused for room."
-pub record RoomExact (m : Machine) : Type 0 where
-  pub of-put : (img : List ℕ) (r : Record) (h : Host) (msg reply : List ℕ) (x : Held) (i : ObjectId) → Asks img r h msg x (Put i)
+pub record RoomExact (N : ℕ) (m : Machine) : Type 0 where
+  pub of-put : (img : List ℕ) (r : Record) (h : Host) (msg reply : List ℕ) (x : Held) (i : ObjectId) → Asks N img r h msg x (Put i)
       → (numberOf (m img r (request h msg reply) .answer) ≡ some 7)
-      ↔ (sizeOf img
+      ↔ (sizeOf N img
       < claimed (replay (x .frames)) + (8 + length (valueIn msg))
       + 6 * openHosts (replay (x .frames) .pending ++ (entry h (put i (valueIn msg)) ∷ [])) + 14)
   pub of-delete : (img : List ℕ) (r : Record) (h : Host) (msg reply : List ℕ) (x : Held) (i : ObjectId)
-      → Asks img r h msg x (Delete i) → (numberOf (m img r (request h msg reply) .answer) ≡ some 7)
-      ↔ (sizeOf img < claimed (replay (x .frames)) + 8 + 6 * openHosts (replay (x .frames) .pending ++ (entry h (delete i) ∷ [])))
-  pub of-commit : (img : List ℕ) (r : Record) (h : Host) (msg reply : List ℕ) (x : Held) → Asks img r h msg x Commit
+      → Asks N img r h msg x (Delete i) → (numberOf (m img r (request h msg reply) .answer) ≡ some 7)
+      ↔ (sizeOf N img < claimed (replay (x .frames)) + 8 + 6 * openHosts (replay (x .frames) .pending ++ (entry h (delete i) ∷ [])))
+  pub of-commit : (img : List ℕ) (r : Record) (h : Host) (msg reply : List ℕ) (x : Held) → Asks N img r h msg x Commit
       → numberOf (m img r (request h msg reply) .answer) ≡ some 7 → ⊥
-  pub of-abort : (img : List ℕ) (r : Record) (h : Host) (msg reply : List ℕ) (x : Held) → Asks img r h msg x Abort
+  pub of-abort : (img : List ℕ) (r : Record) (h : Host) (msg reply : List ℕ) (x : Held) → Asks N img r h msg x Abort
       → numberOf (m img r (request h msg reply) .answer) ≡ some 7 → ⊥
 
 -- past the room rule too, 6 exactly if the frame needs a transfer at the last time
-unfoldable pub WearExact : Machine → Type 0
-WearExact m =
-    (img : List ℕ) (r : Record) (h : Host) (msg reply : List ℕ) (x : Held) (q : Request) (f : Frame) → Asks img r h msg x q
+unfoldable pub WearExact : ℕ → Machine → Type 0
+WearExact N m =
+    (img : List ℕ) (r : Record) (h : Host) (msg reply : List ℕ) (x : Held) (q : Request) (f : Frame) → Asks N img r h msg x q
     → frameFor h msg x q ≡ some f → (numberOf (m img r (request h msg reply) .answer) ≡ some 7 → ⊥)
-    → (numberOf (m img r (request h msg reply) .answer) ≡ some 6) ↔ ((sizeOf img < r .end + frameLen f) × (x .time ≡ 4294967295))
+    → (numberOf (m img r (request h msg reply) .answer) ≡ some 6) ↔ ((sizeOf N img < r .end + frameLen f) × (x .time ≡ 4294967295))

@@ -15,13 +15,17 @@ pub data Call : Type 0 where
   mount : Call
   format : Call
 
--- anything that answers a call on an image and a record: what the statements are about
+-- anything that answers a call on an image and a record: what the statements are about, for one number of blocks
 abbrev pub Machine : Type 0
 Machine = List ℕ → Record → Call → Out
 
--- document 01's. "Mount and format take no record."
-abbrev pub exec : Machine
-exec img r (request h m reply) = requestOn img r reply h m
-exec img r step = stepOn img r
-exec img r mount = mountOn img
-exec img r format = formatOn img
+-- document 02, K14: "N given by the caller", with every call
+abbrev pub Family : Type 0
+Family = ℕ → Machine
+
+-- the papers'. "Mount and format take no record."
+abbrev pub exec : Family
+exec N img r (request h m reply) = requestOn N img r reply h m
+exec N img r step = stepOn N img r
+exec N img r mount = mountOn N img
+exec N img r format = formatOn N img

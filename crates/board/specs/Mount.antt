@@ -1,10 +1,10 @@
--- Mount and format, document 01, "Jobs", and document 02, K4. Both take no record.
+-- Mount and format, document 01, "Jobs", and document 02, K4, K5 and K14. Both take no record.
 use mathlib.Core.List.{List, [], _∷_, _++_, map}
 use mathlib.Core.Bool.{Bool, true, false, _&&_, _||_, cond}
 use Prim.Native.Nat.{ℕ, suc, _+_, _-_}
 use lib.Dec.{eqb, ltb}
 use lib.ListN.{length, replicate}
-use Rattle.flash.specs.Flash.{blocks, blockNumbers, block, sizeOf}
+use Rattle.flash.specs.Flash.{maxBlocks, blockNumbers, block, sizeOf}
 use Rattle.frame.specs.Frame.{Frame, total}
 use Rattle.frame.specs.Reader.{fault, Tail, clean, cut, bad}
 use Rattle.frame.specs.declared.Field.the-variants as field
@@ -17,9 +17,9 @@ use Rattle.board.specs.declared.Record.{Record}
 use Rattle.board.specs.Record.{allowed, noPlaces, noMarks, rest, starting, unmounted, busy, Out, refuse}
 use Rattle.board.specs.Step.{begin}
 
--- the block that a transfer goes to
-abbrev pub nextBlock : ℕ → ℕ
-nextBlock k = cond (ltb (suc k) blocks) (suc k) 0
+-- K14: "A transfer goes to the next block in number, round to 0"
+abbrev pub nextBlock : ℕ → ℕ → ℕ
+nextBlock N k = cond (ltb (suc k) N) (suc k) 0
 
 -- the creation time of the block that is made, if one is
 abbrev pub newTime : Bool → ℕ → ℕ
@@ -37,12 +37,12 @@ pub record Found : Type 0 where
   pub number : ℕ
   pub state : BlockState
 
-abbrev pub found : List ℕ → ℕ → Found
-found img k = record { number = k; state = blockState (block (sizeOf img) k img) }
+abbrev pub found : ℕ → List ℕ → ℕ → Found
+found N img k = record { number = k; state = blockState (block (sizeOf N img) k img) }
 
 -- every block of an image and its state
-abbrev pub allFound : List ℕ → List Found
-allFound img = map (found img) blockNumbers
+abbrev pub allFound : ℕ → List ℕ → List Found
+allFound N img = map (found N img) (blockNumbers N)
 
 -- what refusal 3 and the erase of a mount ask about a block
 abbrev pub isForeign : BlockState → Bool
@@ -79,7 +79,7 @@ abbrev pub stores : List Found → List Store
 stores [] = []
 stores (x ∷ xs) = storeIn (x .number) (x .state) (stores xs)
 
--- 3: "two valid halves of equal time"
+-- 3, K14: "equal times among valid blocks", below the largest too
 abbrev pub sameTime : ℕ → List Store → Bool
 sameTime t [] = false
 sameTime t (x ∷ xs) = eqb t (x .time) || sameTime t xs
@@ -88,19 +88,19 @@ abbrev pub equalTimes : List Store → Bool
 equalTimes [] = false
 equalTimes (x ∷ xs) = sameTime (x .time) xs || equalTimes xs
 
--- "of two, the one with the larger time"
+-- K14: "The valid block with the largest time is current"
 abbrev pub newest : Store → List Store → Store
 newest x [] = x
 newest x (y ∷ ys) = cond (ltb (x .time) (y .time)) (newest y ys) (newest x ys)
 
--- "The other is erased if it isn't blank." K4: "Where one half is valid, the other, if foreign, is erased on mount."
+-- K14: "mount erases every other that isn't blank, by number". K4: "Where one half is valid, the other, if foreign, is erased on mount."
 abbrev pub wipeList : ℕ → List Found → List ℕ
 wipeList k [] = []
 wipeList k (x ∷ xs) = cond (eqb k (x .number) || isBlank (x .state)) (wipeList k xs) (x .number ∷ wipeList k xs)
 
 -- the blocks to erase, in the record's array
 abbrev pub wipeArray : List ℕ → List ℕ
-wipeArray ks = ks ++ replicate (blocks - length ks) 0
+wipeArray ks = ks ++ replicate (maxBlocks - length ks) 0
 
 -- "If the current one has a torn tail or anything pending, a transfer of the settled objects alone follows."
 abbrev pub anyPending : List Entry → Bool
@@ -115,15 +115,15 @@ needsTransfer fs (bad e) = true
 -- ---- mount
 
 -- a transfer copies no pending frame: it starts to look for them at the end
-abbrev pub mountJob : List ℕ → Store → List ℕ → Record
-mountJob img x ks =
-    busy (rest (length img - 1) (x .number) (endOf (x .frames))) (placesOf (x .frames))
+abbrev pub mountJob : ℕ → List ℕ → Store → List ℕ → Record
+mountJob N img x ks =
+    busy (rest N (length img - 1) (x .number) (endOf (x .frames))) (placesOf (x .frames))
     (record {
       wipe = wipeArray ks;
       wipes = length ks;
       moves = needsTransfer (x .frames) (x .tail);
       drops = true;
-      target = nextBlock (x .number);
+      target = nextBlock N (x .number);
       time = newTime (needsTransfer (x .frames) (x .tail)) (x .time);
       since = noMarks;
       size = 0;
@@ -131,10 +131,10 @@ mountJob img x ks =
     (starting 0 (endOf (x .frames))) []
 
 -- 6: "a transfer is needed, by a mount too, at time 4,294,967,295"
-unfoldable pub mountAt : List ℕ → List Found → Store → Out
-mountAt img xs x =
+unfoldable pub mountAt : ℕ → List ℕ → List Found → Store → Out
+mountAt N img xs x =
     cond (needsTransfer (x .frames) (x .tail) && eqb (x .time) lastTime) (refuse refusal.Worn img unmounted [])
-    (begin img [] (mountJob img x (wipeList (x .number) xs)))
+    (begin img [] (mountJob N img x (wipeList (x .number) xs)))
 
 -- with no valid block, 3 "names the foreign half (0 first) and, within it, the fault and its place" (K5); 2: "no valid half and none foreign"
 abbrev pub orForeign : ℕ → BlockState → Refusal → Refusal
@@ -152,22 +152,22 @@ abbrev pub lowestTied : List Store → ℕ
 lowestTied [] = 0
 lowestTied (x ∷ xs) = cond (sameTime (x .time) xs) (x .number) (lowestTied xs)
 
--- K5: "equal times name half 0, place 4"
+-- K5: "equal times name half 0, place 4"; K14: "naming the lowest of them"
 abbrev pub tiedTimes : ℕ → Refusal
 tiedTimes k = refusal.Foreign k (fault field.Created timeAt)
 
 -- K4: "Refusal 3 remains for two valid halves of equal time, and for no valid half with at least one foreign."
-abbrev pub mountStores : List ℕ → List Found → List Store → Out
-mountStores img xs [] = refuse (noneValid xs) img unmounted []
-mountStores img xs (y ∷ ys) =
-    cond (equalTimes (y ∷ ys)) (refuse (tiedTimes (lowestTied (y ∷ ys))) img unmounted []) (mountAt img xs (newest y ys))
+abbrev pub mountStores : ℕ → List ℕ → List Found → List Store → Out
+mountStores N img xs [] = refuse (noneValid xs) img unmounted []
+mountStores N img xs (y ∷ ys) =
+    cond (equalTimes (y ∷ ys)) (refuse (tiedTimes (lowestTied (y ∷ ys))) img unmounted []) (mountAt N img xs (newest y ys))
 
-unfoldable pub mountFound : List ℕ → List Found → Out
-mountFound img xs = mountStores img xs (stores xs)
+unfoldable pub mountFound : ℕ → List ℕ → List Found → Out
+mountFound N img xs = mountStores N img xs (stores xs)
 
 -- 4: "image length not allowed"
-unfoldable pub mountOn : List ℕ → Out
-mountOn img = cond (allowed (length img)) (mountFound img (allFound img)) (refuse refusal.ImageLength img unmounted [])
+unfoldable pub mountOn : ℕ → List ℕ → Out
+mountOn N img = cond (allowed N (length img)) (mountFound N img (allFound N img)) (refuse refusal.ImageLength img unmounted [])
 
 -- ---- format
 
@@ -181,24 +181,24 @@ abbrev pub tied : ℕ → List Store → Bool
 tied t [] = false
 tied t (x ∷ xs) = cond (eqb t (x .time)) (sameTime t xs) (tied t xs)
 
--- the order in which a format erases the blocks of an image. K4: "Format now erases last the valid half, of two the one with the larger time
--- (half 1 if there is none or the times are equal)."
-abbrev pub orderFor : List Store → List ℕ
-orderFor [] = blockNumbers
-orderFor (y ∷ ys) =
+-- the order in which a format erases the blocks of an image. K14: "Format erases all in number order, but the current block last if there is
+-- one": the valid block whose time is larger than any other's
+abbrev pub orderFor : ℕ → List Store → List ℕ
+orderFor N [] = blockNumbers N
+orderFor N (y ∷ ys) =
     let x : Store = newest y ys in
-    cond (tied (x .time) (y ∷ ys)) blockNumbers (numbersBut (x .number) blockNumbers ++ (x .number ∷ []))
+    cond (tied (x .time) (y ∷ ys)) (blockNumbers N) (numbersBut (x .number) (blockNumbers N) ++ (x .number ∷ []))
 
-unfoldable pub formatOrder : List ℕ → List ℕ
-formatOrder img = orderFor (stores (allFound img))
+unfoldable pub formatOrder : ℕ → List ℕ → List ℕ
+formatOrder N img = orderFor N (stores (allFound N img))
 
--- "then half 0's header at time 1 in the same order": no frame is copied, from no id and no offset on
-abbrev pub formatJob : List ℕ → Record
-formatJob img =
-    busy (rest (length img - 1) (nextBlock 0) headerLen) noPlaces
+-- "then writes block 0", its header at time 1 in a transfer's order: no frame is copied, from no id and no offset on
+abbrev pub formatJob : ℕ → List ℕ → Record
+formatJob N img =
+    busy (rest N (length img - 1) (nextBlock N 0) headerLen) noPlaces
     (record {
-      wipe = wipeArray (formatOrder img);
-      wipes = length (formatOrder img);
+      wipe = wipeArray (formatOrder N img);
+      wipes = length (formatOrder N img);
       moves = true;
       drops = false;
       target = 0;
@@ -209,5 +209,5 @@ formatJob img =
     (starting 256 headerLen) []
 
 -- 4 is its only refusal
-unfoldable pub formatOn : List ℕ → Out
-formatOn img = cond (allowed (length img)) (begin img [] (formatJob img)) (refuse refusal.ImageLength img unmounted [])
+unfoldable pub formatOn : ℕ → List ℕ → Out
+formatOn N img = cond (allowed N (length img)) (begin img [] (formatJob N img)) (refuse refusal.ImageLength img unmounted [])

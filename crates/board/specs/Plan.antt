@@ -3,7 +3,7 @@ use mathlib.Core.List.{List, [], _∷_, _++_, map}
 use mathlib.Core.Bool.{Bool, true, false}
 use mathlib.Core.Path.{_≡_}
 use Prim.Native.Nat.{ℕ, suc, _+_}
-use Rattle.flash.specs.Flash.{Step, erase, apply, sizeOf, Write, writeStep, writes}
+use Rattle.flash.specs.Flash.{Step, program, erase, apply, sizeOf, Write, writeStep, writes}
 use Rattle.frame.specs.Frame.{Frame, encode, frameLen}
 use Rattle.journal.specs.Replay.{State, framesOf, replay, settledOnly}
 use Rattle.journal.specs.Block.{build}
@@ -20,51 +20,57 @@ abbrev pub onBlock : ℕ → List Write → List Step
 onBlock k ws = map (writeStep k) ws
 
 -- "Transfer, into the blank half: byte 8 to 0xFE, header bytes 0-3, settled frames by rising id, pending frames in their order,
--- inverse of (time + 1), byte 8 to 0xFC, erase of the old half." Of block k, made at a time, with a state.
-abbrev pub transferPlan : ℕ → ℕ → State → List Step
-transferPlan k time st = onBlock (nextBlock k) (build (suc time) (framesOf st)) ++ (erase k ∷ [])
+-- inverse of (time + 1), byte 8 to 0xFC, erase of the old half." Of block k, made at a time, with a state, into the next in number (K14).
+abbrev pub transferPlan : ℕ → ℕ → ℕ → State → List Step
+transferPlan N k time st = onBlock (nextBlock N k) (build (suc time) (framesOf st)) ++ (erase k ∷ [])
 
--- "Format: erase half 0, erase half 1, then half 0's header at time 1 in the same order": the erases in K4's order
-abbrev pub formatPlan : List ℕ → List Step
-formatPlan img = map erase (formatOrder img) ++ onBlock 0 (build 1 [])
+-- "Format: erase half 0, erase half 1, then half 0's header at time 1 in the same order": of all blocks, in K14's order
+abbrev pub formatPlan : ℕ → List ℕ → List Step
+formatPlan N img = map erase (formatOrder N img) ++ onBlock 0 (build 1 [])
 
 -- "Put, delete, commit, abort: one frame of n bytes": at an offset of block k
 abbrev pub appendPlan : ℕ → ℕ → Frame → List Step
 appendPlan k end f = onBlock k (writes end (encode f))
 
 -- the record's step calls do exactly these steps, one each; it is in a job until the last is done, and then this record
-abbrev pub Follows : Machine → List ℕ → Record → List Step → Record → Type 0
-Follows m img r [] z = r ≡ z
-Follows m img r (x ∷ xs) z =
+abbrev pub Follows : ℕ → Machine → List ℕ → Record → List Step → Record → Type 0
+Follows N m img r [] z = r ≡ z
+Follows N m img r (x ∷ xs) z =
     (answerOf r ≡ More)
-    × ((next : Record) × (m img r step ≡ out (answerOf next) (apply (sizeOf img) x img) next [])
-    × Follows m (apply (sizeOf img) x img) next xs z)
+    × ((next : Record) × (m img r step ≡ out (answerOf next) (apply (sizeOf N img) x img) next [])
+    × Follows N m (apply (sizeOf N img) x img) next xs z)
+
+-- a plan without its erases
+unfoldable pub programs : List Step → List Step
+programs [] = []
+programs (program k o v ∷ xs) = program k o v ∷ programs xs
+programs (erase k ∷ xs) = programs xs
 
 -- ---- the plan of each accepted call
 
--- "Mount: .. The other is erased if it isn't blank. If the current one has a torn tail or anything pending, a transfer of the
+-- K14: "mount erases every other that isn't blank, by number". "If the current one has a torn tail or anything pending, a transfer of the
 -- settled objects alone follows."
-abbrev pub transferIf : Bool → ℕ → ℕ → State → List Step
-transferIf true k time st = transferPlan k time st
-transferIf false k time st = []
+abbrev pub transferIf : ℕ → Bool → ℕ → ℕ → State → List Step
+transferIf N true k time st = transferPlan N k time st
+transferIf N false k time st = []
 
-abbrev pub mountPlan : List Found → Store → List Step
-mountPlan xs x =
+abbrev pub mountPlan : ℕ → List Found → Store → List Step
+mountPlan N xs x =
     map erase (wipeList (x .number) xs)
-    ++ transferIf (needsTransfer (x .frames) (x .tail)) (x .number) (x .time) (settledOnly (replay (x .frames)))
+    ++ transferIf N (needsTransfer (x .frames) (x .tail)) (x .number) (x .time) (settledOnly (replay (x .frames)))
 
 -- the record after it
-abbrev pub mountedAt : Bool → ℕ → Store → Record
-mountedAt true l x = idle (rest l (nextBlock (x .number)) (used (replay (x .frames))))
-mountedAt false l x = idle (rest l (x .number) (endOf (x .frames)))
+abbrev pub mountedAt : ℕ → Bool → ℕ → Store → Record
+mountedAt N true l x = idle (rest N l (nextBlock N (x .number)) (used (replay (x .frames))))
+mountedAt N false l x = idle (rest N l (x .number) (endOf (x .frames)))
 
 -- "one frame of n bytes, after a transfer if end + n exceeds S": on block k whose frames run to `end`
-abbrev pub framePlan : Bool → ℕ → ℕ → Held → Frame → List Step
-framePlan true k end x f =
-    transferPlan k (x .time) (replay (x .frames)) ++ appendPlan (nextBlock k) (claimed (replay (x .frames))) f
-framePlan false k end x f = appendPlan k end f
+abbrev pub framePlan : ℕ → Bool → ℕ → ℕ → Held → Frame → List Step
+framePlan N true k end x f =
+    transferPlan N k (x .time) (replay (x .frames)) ++ appendPlan (nextBlock N k) (claimed (replay (x .frames))) f
+framePlan N false k end x f = appendPlan k end f
 
 -- the record after it
-abbrev pub framedAt : Bool → ℕ → ℕ → ℕ → Held → Frame → Record
-framedAt true l k end x f = idle (rest l (nextBlock k) (claimed (replay (x .frames)) + frameLen f))
-framedAt false l k end x f = idle (rest l k (end + frameLen f))
+abbrev pub framedAt : ℕ → Bool → ℕ → ℕ → ℕ → Held → Frame → Record
+framedAt N true l k end x f = idle (rest N l (nextBlock N k) (claimed (replay (x .frames)) + frameLen f))
+framedAt N false l k end x f = idle (rest N l k (end + frameLen f))

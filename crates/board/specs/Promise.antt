@@ -31,9 +31,9 @@ use Rattle.board.specs.declared.Record.{Record}
 use Rattle.board.specs.Record.{rest, idle, Stretch, noStretch, Out, out}
 use Rattle.board.specs.Mount.{allFound, Store, needsTransfer}
 use Rattle.board.specs.Queue.{Held, needsRoom}
-pub use Rattle.board.specs.Exec.{Machine}
+pub use Rattle.board.specs.Exec.{Machine, Family}
 use Rattle.board.specs.Exec.{Call, request, step, mount, format}
-use Rattle.board.specs.Plan.{Follows, formatPlan, mountPlan, mountedAt, framePlan, framedAt}
+use Rattle.board.specs.Plan.{Follows, programs, formatPlan, mountPlan, mountedAt, framePlan, framedAt}
 use Rattle.board.specs.Table.{frameFor, Exactly, InJob, Fresh, ValidAt, Names, linesOf}
 use Rattle.board.specs.Demand1.{Unchanged, ImageAfter, Declared, Rests, EndsWithin}
 use Rattle.board.specs.Demand2.{Accepted, OneStore, LandsFrom, RoomExact, WearExact}
@@ -63,9 +63,9 @@ Silent mount o = (o .reply ≡ []) × (o .stretch ≡ noStretch)
 Silent format o = (o .reply ≡ []) × (o .stretch ≡ noStretch)
 
 -- "program one byte (new value = old AND given), erase one half (all bytes 0xFF)": each byte keeps only bits that it had, or a half is erased
-abbrev pub OnlyClears : List ℕ → List ℕ → Type 0
-OnlyClears img after =
-    ((i : ℕ) → bitAnd (getD after i 0) (getD img i 0) ≡ getD after i 0) ⊎ ((k : ℕ) × (after ≡ eraseBlock (sizeOf img) k img))
+abbrev pub OnlyClears : ℕ → List ℕ → List ℕ → Type 0
+OnlyClears N img after =
+    ((i : ℕ) → bitAnd (getD after i 0) (getD img i 0) ≡ getD after i 0) ⊎ ((k : ℕ) × (after ≡ eraseBlock (sizeOf N img) k img))
 
 -- ---- accepted requests
 
@@ -76,111 +76,123 @@ Answers (some f) r o = o .answer ≡ More
 
 -- "Log page 1 writes 14 bytes to the lent reply: length 14 (2), kind 0x0201 (2), creation time (4), settled count (2), U (2), S (2);
 -- later reply bytes stay. Nothing else writes to the reply."
-abbrev pub replyFor : List ℕ → List ℕ → Held → Request → List ℕ
-replyFor img reply x (Put i) = reply
-replyFor img reply x (Delete i) = reply
-replyFor img reply x Commit = reply
-replyFor img reply x Abort = reply
-replyFor img reply x (Read i) = reply
-replyFor img reply x (Log p) =
+abbrev pub replyFor : ℕ → List ℕ → List ℕ → Held → Request → List ℕ
+replyFor N img reply x (Put i) = reply
+replyFor N img reply x (Delete i) = reply
+replyFor N img reply x Commit = reply
+replyFor N img reply x Abort = reply
+replyFor N img reply x (Read i) = reply
+replyFor N img reply x (Log p) =
     (u16le 14 ++ (u16le 0x0201 ++ (u32le (x .time) ++ (u16le (length (replay (x .frames) .objects))
-    ++ (u16le (used (replay (x .frames))) ++ u16le (sizeOf img))))))
+    ++ (u16le (used (replay (x .frames))) ++ u16le (sizeOf N img))))))
     ++ drop 14 reply
 
 -- "A read that finds its object hands back that stretch of the caller's own flash image": where the recorded half's replay took the
 -- value from
-pub record Stands (img : List ℕ) (r : Record) (x : Held) (i : ObjectId) (st : Stretch) : Type 0 where
+pub record Stands (N : ℕ) (img : List ℕ) (r : Record) (x : Held) (i : ObjectId) (st : Stretch) : Type 0 where
   pub value : List ℕ
   pub at : ℕ
   pub from : TakenFrom (x .frames) i value at
-  pub is : st ≡ record { at = r .block * sizeOf img + at; size = length value }
+  pub is : st ≡ record { at = r .block * sizeOf N img + at; size = length value }
 
-abbrev pub HandsBack : List ℕ → Record → Held → Request → Stretch → Type 0
-HandsBack img r x (Put i) st = st ≡ noStretch
-HandsBack img r x (Delete i) st = st ≡ noStretch
-HandsBack img r x Commit st = st ≡ noStretch
-HandsBack img r x Abort st = st ≡ noStretch
-HandsBack img r x (Read i) st = Stands img r x i st
-HandsBack img r x (Log p) st = st ≡ noStretch
+abbrev pub HandsBack : ℕ → List ℕ → Record → Held → Request → Stretch → Type 0
+HandsBack N img r x (Put i) st = st ≡ noStretch
+HandsBack N img r x (Delete i) st = st ≡ noStretch
+HandsBack N img r x Commit st = st ≡ noStretch
+HandsBack N img r x Abort st = st ≡ noStretch
+HandsBack N img r x (Read i) st = Stands N img r x i st
+HandsBack N img r x (Log p) st = st ≡ noStretch
 
 -- an accepted request q of host h, where the image read afresh holds x
-pub record Serves (img : List ℕ) (r : Record) (h : Host) (msg reply : List ℕ) (x : Held) (q : Request) (o : Out) : Type 0 where
+pub record Serves (N : ℕ) (img : List ℕ) (r : Record) (h : Host) (msg reply : List ℕ) (x : Held) (q : Request) (o : Out) : Type 0 where
   pub answers : Answers (frameFor h msg x q) r o
-  pub writes : o .reply ≡ replyFor img reply x q
-  pub hands-back : HandsBack img r x q (o .stretch)
+  pub writes : o .reply ≡ replyFor N img reply x q
+  pub hands-back : HandsBack N img r x q (o .stretch)
 
 -- ---- jobs
 
--- "the valid half is current; of two, the one with the larger time"
-pub record Current (img : List ℕ) (x : Store) : Type 0 where
-  pub is-valid : ValidAt img (x .number) (x .time) (x .frames) (x .tail)
-  pub newest : (k t : ℕ) (fs : List Frame) (c : Tail) → (k ≡ x .number → ⊥) → ValidAt img k t fs c → t < x .time
+-- K14: "The valid block with the largest time is current"
+pub record Current (N : ℕ) (img : List ℕ) (x : Store) : Type 0 where
+  pub is-valid : ValidAt N img (x .number) (x .time) (x .frames) (x .tail)
+  pub newest : (k t : ℕ) (fs : List Frame) (c : Tail) → (k ≡ x .number → ⊥) → ValidAt N img k t fs c → t < x .time
 
 -- the steps that an accepted call has to do, and the idle record after the last
-pub data Job (img : List ℕ) (r : Record) : Call → List Step → Record → Type 0 where
+pub data Job (N : ℕ) (img : List ℕ) (r : Record) : Call → List Step → Record → Type 0 where
   -- "one frame of n bytes, after a transfer if end + n exceeds S"
-  frame-job : (h : Host) (msg reply : List ℕ) (x : Held) (q : Request) (f : Frame) → Fresh img r x → Means msg q → frameFor h msg x q ≡ some f
-      → Job img r (request h msg reply) (framePlan (needsRoom img r f) (r .block) (r .end) x f)
-      (framedAt (needsRoom img r f) (r .last) (r .block) (r .end) x f)
-  -- "The other is erased if it isn't blank. If the current one has a torn tail or anything pending, a transfer of the settled objects
-  -- alone follows."
-  mount-job : (x : Store) → Current img x
-      → Job img r mount (mountPlan (allFound img) x) (mountedAt (needsTransfer (x .frames) (x .tail)) (length img - 1) x)
-  -- "erase half 0, erase half 1, then half 0's header at time 1"; K4: "Format now erases last the valid half"
-  format-job : Job img r format (formatPlan img) (idle (rest (length img - 1) 0 headerLen))
+  frame-job : (h : Host) (msg reply : List ℕ) (x : Held) (q : Request) (f : Frame) → Fresh N img r x → Means msg q → frameFor h msg x q ≡ some f
+      → Job N img r (request h msg reply) (framePlan N (needsRoom N img r f) (r .block) (r .end) x f)
+      (framedAt N (needsRoom N img r f) (r .last) (r .block) (r .end) x f)
+  -- K14: "mount erases every other that isn't blank, by number". "If the current one has a torn tail or anything pending, a transfer of the
+  -- settled objects alone follows."
+  mount-job : (x : Store) → Current N img x
+      → Job N img r mount (mountPlan N (allFound N img) x) (mountedAt N (needsTransfer (x .frames) (x .tail)) (length img - 1) x)
+  -- K14: "Format erases all in number order, but the current block last if there is one, then writes block 0"
+  format-job : Job N img r format (formatPlan N img) (idle (rest N (length img - 1) 0 headerLen))
+
+-- "No accepted request takes more flash steps than one block has bytes." K14: "Demand 1's bound leaves a mount's erases aside": of those there
+-- are at most N
+abbrev pub Short : ℕ → ℕ → List Step → Call → Type 0
+Short N s plan (request h msg reply) = length plan ≤ s
+Short N s plan step = length plan ≤ s
+Short N s plan mount = (length (programs plan) ≤ s) × (length plan ≤ length (programs plan) + N)
+Short N s plan format = length plan ≤ s
 
 -- "each step call then does the next step, and the last one answers 0 with the record idle": of a call's outcome, all by the number of
 -- step calls after it
-pub record StepsOf (m : Machine) (img : List ℕ) (o : Out) (plan : List Step) (z : Record) : Type 0 where
-  pub images : (n : ℕ) → n ≤ length plan → stepsOn m n o .image ≡ applyAll (sizeOf img) (take n plan) img
+pub record StepsOf (N : ℕ) (m : Machine) (img : List ℕ) (o : Out) (plan : List Step) (z : Record) : Type 0 where
+  pub images : (n : ℕ) → n ≤ length plan → stepsOn m n o .image ≡ applyAll (sizeOf N img) (take n plan) img
   pub more : (n : ℕ) → n < length plan → stepsOn m n o .answer ≡ More
   pub done : numberOf (stepsOn m (length plan) o .answer) ≡ some 0
   pub last : stepsOn m (length plan) o .board ≡ z
 
 -- ---- the promise
 
--- what a machine does on each call
-pub record Calls (m : Machine) : Type 0 where
+-- what a machine of N blocks does on each call
+pub record Calls (N : ℕ) (m : Machine) : Type 0 where
   -- "When the queue says no"
-  pub table : (img : List ℕ) (r : Record) (c : Call) → Bytes img → Exactly (linesOf img r c) (m img r c .answer)
+  pub table : (img : List ℕ) (r : Record) (c : Call) → Bytes img → Exactly (linesOf N img r c) (m img r c .answer)
   -- K5: "Mount's 3 passes it on as an answer that names the foreign half"
-  pub names : (img : List ℕ) (r : Record) (k : ℕ) (e : Fault) → Bytes img → m img r mount .answer ≡ Refused (refusal.Foreign k e) → Names img k e
+  pub names : (img : List ℕ) (r : Record) (k : ℕ) (e : Fault) → Bytes img → m img r mount .answer ≡ Refused (refusal.Foreign k e) → Names N img k e
   -- "Every refusal takes no step and changes no byte of image, reply or record; a refused mount or format hands back an unmounted record."
   pub untouched : (img : List ℕ) (r : Record) (c : Call) (n : Refusal) → m img r c .answer ≡ Refused n → m img r c ≡ Unchanged img r c n
   -- 0 exactly with an idle record, more exactly with a job in it; but for a step on an unmounted record
   pub told : (img : List ℕ) (r : Record) (c : Call) → Accepted (m img r c .answer) → (r .phase ≡ Unmounted → NoStep c) → Tells (m img r c)
   -- "on an unmounted or idle record it answers 0 and changes nothing"
   pub rests : (img : List ℕ) (r : Record) → Rests (r .phase) → m img r step ≡ out Done img r []
-  pub one-step : (img : List ℕ) (r : Record) (c : Call) → ImageAfter m img r c
+  pub one-step : (img : List ℕ) (r : Record) (c : Call) → ImageAfter N m img r c
   pub silent : (img : List ℕ) (r : Record) (c : Call) → Silent c (m img r c)
   -- on any record, forged ones too
-  pub serves : (img : List ℕ) (r : Record) (h : Host) (msg reply : List ℕ) (x : Held) (q : Request) → Bytes img → Bytes msg → Fresh img r x
-      → Means msg q → Accepted (m img r (request h msg reply) .answer) → Serves img r h msg reply x q (m img r (request h msg reply))
-  -- the steps of an accepted call are its job's, in at most S step calls
-  pub jobs : (img : List ℕ) (r : Record) (c : Call) (plan : List Step) (z : Record) → Bytes img → ByteCall c → Job img r c plan z
-      → Accepted (m img r c .answer) → Follows m img (m img r c .board) plan z × (length plan ≤ sizeOf img)
+  pub serves : (img : List ℕ) (r : Record) (h : Host) (msg reply : List ℕ) (x : Held) (q : Request) → Bytes img → Bytes msg → Fresh N img r x
+      → Means msg q → Accepted (m img r (request h msg reply) .answer) → Serves N img r h msg reply x q (m img r (request h msg reply))
+  -- the steps of an accepted call are its job's, and so many
+  pub jobs : (img : List ℕ) (r : Record) (c : Call) (plan : List Step) (z : Record) → Bytes img → ByteCall c → Job N img r c plan z
+      → Accepted (m img r c .answer) → Follows N m img (m img r c .board) plan z × Short N (sizeOf N img) plan c
   -- "A record forged otherwise does at most one step a call .. and ends or gets 11 within 65,536 step calls."
   pub ends : (img : List ℕ) (r : Record) → Declared r → EndsWithin m 65536 img r
 
 -- and what follows for every list of calls
-pub record Promise (m : Machine) : Type 0 where
-  pub calls : Calls m
+pub record Promise (N : ℕ) (m : Machine) : Type 0 where
+  pub calls : Calls N m
   -- the k-th step call of an accepted call's job does the k-th step of its plan
-  pub steps : (img : List ℕ) (r : Record) (c : Call) (plan : List Step) (z : Record) → Bytes img → ByteCall c → Job img r c plan z
-      → Accepted (m img r c .answer) → StepsOf m img (m img r c) plan z
+  pub steps : (img : List ℕ) (r : Record) (c : Call) (plan : List Step) (z : Record) → Bytes img → ByteCall c → Job N img r c plan z
+      → Accepted (m img r c .answer) → StepsOf N m img (m img r c) plan z
   -- programming only clears bits
-  pub clears : (img : List ℕ) (r : Record) (c : Call) → OnlyClears img (m img r c .image)
+  pub clears : (img : List ℕ) (r : Record) (c : Call) → OnlyClears N img (m img r c .image)
   -- demand 2: every image reads as one store, which a mount takes and leaves with its settled objects and nothing pending
-  pub one-store : OneStore m
+  pub one-store : OneStore N m
   -- demand 2: "refusals for room and wear are exact"
-  pub room : RoomExact m
-  pub wear : WearExact m
+  pub room : RoomExact N m
+  pub wear : WearExact N m
   -- demand 2: in a run every programmed byte lands as given, where 0xFF was or byte 8 goes on
-  pub lands : LandsFrom m
+  pub lands : LandsFrom N m
   -- demand 3
-  pub claim : Claim m
+  pub claim : Claim N m
   -- "On an image the store left, a cut format leaves the old settled objects, no store, or the empty store."
-  pub cut-format : CutFormat m
+  pub cut-format : CutFormat N m
+
+-- of a store: for every N that a call may give
+abbrev pub Kept : Family → Type 0
+Kept m = (N : ℕ) → Promise N (m N)
 
 -- ---- what a run shows
 
@@ -205,10 +217,10 @@ shown o =
     record { answer = o .answer; image = o .image; board = shownRecord (o .board); reply = o .reply; stretch = o .stretch }
 
 -- calls that each got what the last gave back; a cut inside an erase shows nothing
-abbrev pub trace : Machine → List ℕ → Record → List Event → List Shown
-trace m img r [] = []
-trace m img r (call c ∷ es) = let o : Out = m img r c in shown o ∷ trace m (o .image) (o .board) es
-trace m img r (cutErase k new q ∷ es) = trace m (withBlock (sizeOf img) k new img) q es
+abbrev pub trace : ℕ → Machine → List ℕ → Record → List Event → List Shown
+trace N m img r [] = []
+trace N m img r (call c ∷ es) = let o : Out = m img r c in shown o ∷ trace N m (o .image) (o .board) es
+trace N m img r (cutErase k new q ∷ es) = trace N m (withBlock (sizeOf N img) k new img) q es
 
 -- messages are bytes, and so is what a cut leaves; a mount or format comes next
 abbrev pub ByteEvents : List Event → Type 0
@@ -220,17 +232,17 @@ ByteEvents (cutErase k new q ∷ es) = Bytes new × Restarts es × ByteEvents es
 -- records they were first given
 unfoldable pub PromiseDetermines : Type 0
 PromiseDetermines =
-    (m n : Machine) → Promise m → Promise n → (img : List ℕ) (r q : Record) (c : Call) (es : List Event) → Bytes img → Begins c → ByteEvents es
-    → trace m img r (call c ∷ es) ≡ trace n img q (call c ∷ es)
+    (N : ℕ) (m n : Machine) → Promise N m → Promise N n → (img : List ℕ) (r q : Record) (c : Call) (es : List Event) → Bytes img → Begins c → ByteEvents es
+    → trace N m img r (call c ∷ es) ≡ trace N n img q (call c ∷ es)
 
 -- the same from any record in no job, a forged one too
 unfoldable pub PromiseDeterminesFrom : Type 0
 PromiseDeterminesFrom =
-    (m n : Machine) → Promise m → Promise n → (img : List ℕ) (r : Record) (es : List Event) → Bytes img → Rests (r .phase) → ByteEvents es
-    → trace m img r es ≡ trace n img r es
+    (N : ℕ) (m n : Machine) → Promise N m → Promise N n → (img : List ℕ) (r : Record) (es : List Event) → Bytes img → Rests (r .phase) → ByteEvents es
+    → trace N m img r es ≡ trace N n img r es
 
 -- one call on any record: all is settled but a step of a job, and of a job that is begun the record
 unfoldable pub PromiseDeterminesCall : Type 0
 PromiseDeterminesCall =
-    (m n : Machine) → Promise m → Promise n → (img : List ℕ) (r : Record) (c : Call) → Bytes img → ByteCall c → NoStep c
+    (N : ℕ) (m n : Machine) → Promise N m → Promise N n → (img : List ℕ) (r : Record) (c : Call) → Bytes img → ByteCall c → NoStep c
     → shown (m img r c) ≡ shown (n img r c)

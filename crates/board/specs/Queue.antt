@@ -6,7 +6,7 @@ use Prim.Native.Nat.{ℕ, suc, _+_, _*_}
 use lib.Dec.{eqb, ltb, leb}
 use lib.ListN.{length, getD}
 use Rattle.flash.specs.Bytes.{allFF}
-use Rattle.flash.specs.Flash.{blocks, blockNumbers, block, sizeOf}
+use Rattle.flash.specs.Flash.{blockNumbers, block, sizeOf}
 use Rattle.frame.specs.declared.Host.{Host}
 use Rattle.frame.specs.declared.ObjectId.{ObjectId}
 use Rattle.frame.specs.Frame.{hostMax, Change, put, delete, Frame, change, commit, abort, frameLen, encode, endLen}
@@ -28,7 +28,7 @@ use Rattle.board.specs.declared.Phase.{Phase}
 use Rattle.board.specs.declared.Phase.the-variants.{Unmounted, Idle, Busy}
 use Rattle.board.specs.declared.Record.{Record}
 use Rattle.board.specs.Record.{allowed, noWipes, restOf, starting, busy, Stretch, noStretch, Out, out, refuse}
-use Rattle.board.specs.Step.{begin}
+use Rattle.board.specs.Step.{begin, sameShape}
 use Rattle.board.specs.Mount.{nextBlock, newTime, endOf}
 
 -- ---- 11: the image read afresh
@@ -55,59 +55,59 @@ heldIn size end (valid t fs (cut n)) = none
 heldIn size end (valid t fs (bad e)) = none
 heldIn size end (foreign e) = none
 
--- "other half blank"
-abbrev pub othersBlank : ℕ → List ℕ → List ℕ → Bool
-othersBlank k img [] = true
-othersBlank k img (j ∷ js) = (eqb k j || allFF (block (sizeOf img) j img)) && othersBlank k img js
+-- "other half blank"; K14: "the others stay blank"
+abbrev pub othersBlank : ℕ → ℕ → List ℕ → List ℕ → Bool
+othersBlank N k img [] = true
+othersBlank N k img (j ∷ js) = (eqb k j || allFF (block (sizeOf N img) j img)) && othersBlank N k img js
 
--- "idle record: its length differs, or the image read afresh isn't: recorded half valid, .."
-abbrev pub sameImage : List ℕ → Record → Bool
-sameImage img r = eqb (length img) (suc (r .last)) && (ltb (r .block) blocks && othersBlank (r .block) img blockNumbers)
+-- "idle record: its length differs", K14: or its N, "or the image read afresh isn't: recorded half valid, .."
+abbrev pub sameImage : ℕ → List ℕ → Record → Bool
+sameImage N img r = sameShape N (length img) r && (ltb (r .block) N && othersBlank N (r .block) img (blockNumbers N))
 
-abbrev pub heldBy : Bool → List ℕ → Record → Option Held
-heldBy true img r = heldIn (sizeOf img) (r .end) (blockState (block (sizeOf img) (r .block) img))
-heldBy false img r = none
+abbrev pub heldBy : ℕ → Bool → List ℕ → Record → Option Held
+heldBy N true img r = heldIn (sizeOf N img) (r .end) (blockState (block (sizeOf N img) (r .block) img))
+heldBy N false img r = none
 
 -- what the recorded block holds; none where 11 is given
-unfoldable pub held : List ℕ → Record → Option Held
-held img r = heldBy (sameImage img r) img r
+unfoldable pub held : ℕ → List ℕ → Record → Option Held
+held N img r = heldBy N (sameImage N img r) img r
 
 -- ---- a frame is appended, "after a transfer if end + n exceeds S"
 
-abbrev pub needsRoom : List ℕ → Record → Frame → Bool
-needsRoom img r f = ltb (sizeOf img) (r .end + frameLen f)
+abbrev pub needsRoom : ℕ → List ℕ → Record → Frame → Bool
+needsRoom N img r f = ltb (sizeOf N img) (r .end + frameLen f)
 
 -- a transfer copies from the first id and from the header on
-abbrev pub appendJob : List ℕ → Record → Held → Frame → Record
-appendJob img r x f =
+abbrev pub appendJob : ℕ → List ℕ → Record → Held → Frame → Record
+appendJob N img r x f =
     busy (restOf r) (placesOf (x .frames))
     (record {
       wipe = noWipes;
       wipes = 0;
-      moves = needsRoom img r f;
+      moves = needsRoom N img r f;
       drops = true;
-      target = nextBlock (r .block);
-      time = newTime (needsRoom img r f) (x .time);
+      target = nextBlock N (r .block);
+      time = newTime (needsRoom N img r f) (x .time);
       since = sinceOf (x .frames);
       size = frameLen f;
     })
     (starting 0 headerLen) (encode f)
 
 -- 6: "a transfer is needed .. at time 4,294,967,295"
-unfoldable pub append : List ℕ → Record → List ℕ → Held → Frame → Out
-append img r reply x f =
-    cond (needsRoom img r f && eqb (x .time) lastTime) (refuse refusal.Worn img r reply) (begin img reply (appendJob img r x f))
+unfoldable pub append : ℕ → List ℕ → Record → List ℕ → Held → Frame → Out
+append N img r reply x f =
+    cond (needsRoom N img r f && eqb (x .time) lastTime) (refuse refusal.Worn img r reply) (begin img reply (appendJob N img r x f))
 
 -- ---- the requests
 
 -- a put or delete; 7: the room rule
-unfoldable pub serveChange : List ℕ → Record → List ℕ → Host → Held → Change → Out
-serveChange img r reply h x c =
-    cond (noRoom (sizeOf img) (replay (x .frames)) h c) (refuse refusal.NoRoom img r reply) (append img r reply x (change h c))
+unfoldable pub serveChange : ℕ → List ℕ → Record → List ℕ → Host → Held → Change → Out
+serveChange N img r reply h x c =
+    cond (noRoom (sizeOf N img) (replay (x .frames)) h c) (refuse refusal.NoRoom img r reply) (append N img r reply x (change h c))
 
 -- "Commit or abort with nothing pending is done in 0 steps."
-unfoldable pub serveEnd : List ℕ → Record → List ℕ → Host → Held → Frame → Out
-serveEnd img r reply h x f = cond (isOpen h (replay (x .frames) .pending)) (append img r reply x f) (out Done img r reply)
+unfoldable pub serveEnd : ℕ → List ℕ → Record → List ℕ → Host → Held → Frame → Out
+serveEnd N img r reply h x f = cond (isOpen h (replay (x .frames) .pending)) (append N img r reply x f) (out Done img r reply)
 
 -- counted from the image's first byte
 abbrev pub stretchOf : ℕ → Option Value → Stretch
@@ -115,55 +115,55 @@ stretchOf start none = noStretch
 stretchOf start (some x) = record { at = start + x .at; size = length (x .bytes) }
 
 -- "A read that finds its object hands back that stretch of the caller's own flash image": where replay took the value from
-abbrev pub placeOf : List ℕ → Record → Held → ObjectId → Stretch
-placeOf img r x i =
-    stretchOf (r .block * sizeOf img) (valueAt (block (sizeOf img) (r .block) img) i (getD (placesOf (x .frames)) (i .0) 0))
+abbrev pub placeOf : ℕ → List ℕ → Record → Held → ObjectId → Stretch
+placeOf N img r x i =
+    stretchOf (r .block * sizeOf N img) (valueAt (block (sizeOf N img) (r .block) img) i (getD (placesOf (x .frames)) (i .0) 0))
 
 -- "Reads see settled objects only"; 8: "no such settled object"
-abbrev pub serveRead : List ℕ → Record → List ℕ → Held → ObjectId → Option (List ℕ) → Out
-serveRead img r reply x i none = refuse refusal.NoObject img r reply
-serveRead img r reply x i (some v) =
-    record { answer = Done; image = img; board = r; reply = reply; stretch = placeOf img r x i }
+abbrev pub serveRead : ℕ → List ℕ → Record → List ℕ → Held → ObjectId → Option (List ℕ) → Out
+serveRead N img r reply x i none = refuse refusal.NoObject img r reply
+serveRead N img r reply x i (some v) =
+    record { answer = Done; image = img; board = r; reply = reply; stretch = placeOf N img r x i }
 
 -- 9: "log: reply under 14 bytes"
-unfoldable pub serveLog : List ℕ → Record → List ℕ → Held → Page → Out
-serveLog img r reply x Summary =
+unfoldable pub serveLog : ℕ → List ℕ → Record → List ℕ → Held → Page → Out
+serveLog N img r reply x Summary =
     let st : State = replay (x .frames) in
     cond (ltb (length reply) pageLen) (refuse refusal.ShortReply img r reply)
-    (out Done img r (withPage (logPage (x .time) (length (st .objects)) (used st) (sizeOf img)) reply))
+    (out Done img r (withPage (logPage (x .time) (length (st .objects)) (used st) (sizeOf N img)) reply))
 
 -- "A request is one of six kinds"
-unfoldable pub serve : List ℕ → Record → List ℕ → Host → List ℕ → Held → Request → Out
-serve img r reply h m x (Put i) = serveChange img r reply h x (put i (valueIn m))
-serve img r reply h m x (Delete i) = serveChange img r reply h x (delete i)
-serve img r reply h m x Commit = serveEnd img r reply h x (commit h)
-serve img r reply h m x Abort = serveEnd img r reply h x (abort h)
-serve img r reply h m x (Read i) = serveRead img r reply x i (lookup i (replay (x .frames) .objects))
-serve img r reply h m x (Log p) = serveLog img r reply x p
+unfoldable pub serve : ℕ → List ℕ → Record → List ℕ → Host → List ℕ → Held → Request → Out
+serve N img r reply h m x (Put i) = serveChange N img r reply h x (put i (valueIn m))
+serve N img r reply h m x (Delete i) = serveChange N img r reply h x (delete i)
+serve N img r reply h m x Commit = serveEnd N img r reply h x (commit h)
+serve N img r reply h m x Abort = serveEnd N img r reply h x (abort h)
+serve N img r reply h m x (Read i) = serveRead N img r reply x i (lookup i (replay (x .frames) .objects))
+serve N img r reply h m x (Log p) = serveLog N img r reply x p
 
 -- 1, after 11
-abbrev pub serveParsed : List ℕ → Record → List ℕ → Host → List ℕ → Held → Parsed → Out
-serveParsed img r reply h m x Malformed = refuse refusal.Malformed img r reply
-serveParsed img r reply h m x (Is q) = serve img r reply h m x q
+abbrev pub serveParsed : ℕ → List ℕ → Record → List ℕ → Host → List ℕ → Held → Parsed → Out
+serveParsed N img r reply h m x Malformed = refuse refusal.Malformed img r reply
+serveParsed N img r reply h m x (Is q) = serve N img r reply h m x q
 
 -- 11
-abbrev pub serveHeld : List ℕ → Record → List ℕ → Host → List ℕ → Option Held → Out
-serveHeld img r reply h m none = refuse refusal.Stale img r reply
-serveHeld img r reply h m (some x) = serveParsed img r reply h m x (parse m)
+abbrev pub serveHeld : ℕ → List ℕ → Record → List ℕ → Host → List ℕ → Option Held → Out
+serveHeld N img r reply h m none = refuse refusal.Stale img r reply
+serveHeld N img r reply h m (some x) = serveParsed N img r reply h m x (parse m)
 
 -- 5, then 2, then 11
-abbrev pub requestIn : Phase → List ℕ → Record → List ℕ → Host → List ℕ → Out
-requestIn (Busy s) img r reply h m = refuse refusal.Busy img r reply
-requestIn Unmounted img r reply h m = refuse refusal.NoStore img r reply
-requestIn Idle img r reply h m = serveHeld img r reply h m (held img r)
+abbrev pub requestIn : ℕ → Phase → List ℕ → Record → List ℕ → Host → List ℕ → Out
+requestIn N (Busy s) img r reply h m = refuse refusal.Busy img r reply
+requestIn N Unmounted img r reply h m = refuse refusal.NoStore img r reply
+requestIn N Idle img r reply h m = serveHeld N img r reply h m (held N img r)
 
 -- 4, then 10
-unfoldable pub requestOn : List ℕ → Record → List ℕ → Host → List ℕ → Out
-requestOn img r reply h m =
-    cond (allowed (length img))
-    (cond (leb (h .0) hostMax) (requestIn (r .phase) img r reply h m) (refuse refusal.HostRange img r reply))
+unfoldable pub requestOn : ℕ → List ℕ → Record → List ℕ → Host → List ℕ → Out
+requestOn N img r reply h m =
+    cond (allowed N (length img))
+    (cond (leb (h .0) hostMax) (requestIn N (r .phase) img r reply h m) (refuse refusal.HostRange img r reply))
     (refuse refusal.ImageLength img r reply)
 
 -- the stretch of a read alone; "A refused read hands back an empty stretch", and so does a message that is no read
-abbrev pub readOn : List ℕ → Record → Host → List ℕ → Stretch
-readOn img r h m = requestOn img r [] h m .stretch
+abbrev pub readOn : ℕ → List ℕ → Record → Host → List ℕ → Stretch
+readOn N img r h m = requestOn N img r [] h m .stretch

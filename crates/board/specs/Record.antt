@@ -1,10 +1,10 @@
 -- The board record: unmounted, idle, or in a job; and what a call gives back.
 use mathlib.Core.List.{List, [], _∷_}
 use mathlib.Core.Bool.{Bool, false, _&&_}
-use Prim.Native.Nat.{ℕ, _%_}
+use Prim.Native.Nat.{ℕ, _*_, _%_}
 use lib.Dec.{eqb, leb}
 use lib.ListN.{replicate}
-use Rattle.flash.specs.Flash.{blocks}
+use Rattle.flash.specs.Flash.{maxBlocks, sizeIn, isCount}
 pub use Rattle.frame.specs.Frame.{buffer}
 use Rattle.frame.specs.Frame.{maxFrame}
 use Rattle.journal.specs.Block.{headerLen}
@@ -20,9 +20,10 @@ use Rattle.board.specs.declared.Cursor.{Cursor}
 use Rattle.board.specs.declared.Rest.{Rest}
 use Rattle.board.specs.declared.Record.{Record}
 
--- "Its length is a multiple of 256 from 512 to 65,536."
-abbrev pub allowed : ℕ → Bool
-allowed n = leb 512 n && leb n 65536 && eqb (n % 256) 0
+-- document 02, K14: "refusal 4 comes exactly if N isn't 2 to 16, the length exceeds 65,536, or S isn't a whole multiple of 128 from 256 up"
+unfoldable pub allowed : ℕ → ℕ → Bool
+allowed N n =
+    let s : ℕ = sizeIn N n in isCount N && (leb n 65536 && (eqb (N * s) n && (eqb (s % 128) 0 && leb 256 s)))
 
 -- ---- records
 
@@ -37,7 +38,7 @@ abbrev pub noMarks : List ℕ
 noMarks = 0 ∷ 0 ∷ 0 ∷ 0 ∷ []
 
 abbrev pub noWipes : List ℕ
-noWipes = replicate blocks 0
+noWipes = replicate maxBlocks 0
 
 abbrev pub noJob : Job
 noJob = record { wipe = noWipes; wipes = 0; moves = false; drops = false; target = 0; time = 0; since = noMarks; size = 0 }
@@ -50,19 +51,20 @@ cursor i a d s z o = record { index = i; at = a; id = d; source = s; size = z; o
 abbrev pub starting : ℕ → ℕ → Cursor
 starting id source = cursor 0 headerLen id source 0 0
 
--- image length less one, current block, end of its whole frames
-abbrev pub rest : ℕ → ℕ → ℕ → Rest
-rest l k e = record { last = l; block = k; end = e }
+-- number of blocks, image length less one, current block, end of its whole frames
+abbrev pub rest : ℕ → ℕ → ℕ → ℕ → Rest
+rest N l k e = record { blocks = N; last = l; block = k; end = e }
 
 -- where a record stands
 abbrev pub restOf : Record → Rest
-restOf r = rest (r .last) (r .block) (r .end)
+restOf r = rest (r .blocks) (r .last) (r .block) (r .end)
 
 -- a record in no job
 abbrev pub resting : Phase → Rest → Record
 resting p z =
     record {
       phase = p;
+      blocks = z .blocks;
       last = z .last;
       block = z .block;
       end = z .end;
@@ -75,7 +77,7 @@ resting p z =
 
 -- "unmounted, idle, or in a job"
 abbrev pub unmounted : Record
-unmounted = resting Unmounted (rest 0 0 0)
+unmounted = resting Unmounted (rest 0 0 0 0)
 
 abbrev pub idle : Rest → Record
 idle z = resting Idle z
@@ -85,6 +87,7 @@ abbrev pub busyWith : Rest → List ℕ → Job → Cursor → List ℕ → Reco
 busyWith z places j c frame =
     record {
       phase = Busy Wipe;
+      blocks = z .blocks;
       last = z .last;
       block = z .block;
       end = z .end;
@@ -104,6 +107,7 @@ abbrev pub inStage : Stage → Cursor → Record → Record
 inStage s c r =
     record {
       phase = Busy s;
+      blocks = r .blocks;
       last = r .last;
       block = r .block;
       end = r .end;

@@ -1,6 +1,6 @@
 -- Document 01's sentences on the frame that a request appends, on the steps of each job and on a read's stretch, "Frames", "Jobs" and
 -- "What hosts send", document 02's on a format's order, K4, and the statements that the definitions say exactly these.
-use mathlib.Core.List.{List, [], _∷_, _++_}
+use mathlib.Core.List.{List, [], _∷_, _++_, map}
 use mathlib.Core.Logic.{_↔_}
 use mathlib.Core.Option.{none, some, Option·map}
 use mathlib.Core.Bool.{true, false}
@@ -46,11 +46,11 @@ pub record FrameExact : Type 0 where
   pub of-read : (h : Host) (m : List ℕ) (x : Held) (i : ObjectId) → frameFor h m x (Read i) ≡ none
   pub of-log : (h : Host) (m : List ℕ) (x : Held) (p : Page) → frameFor h m x (Log p) ≡ none
 
--- "after a transfer if end + n exceeds S"; "It is two halves of S bytes each."
+-- "after a transfer if end + n exceeds S"; document 02, K14: "The image is N blocks of S bytes"
 unfoldable pub NeedsExact : Type 0
 NeedsExact =
-    (img : List ℕ) (s : ℕ) (r : Record) (f : Frame) → length img ≡ s + s
-    → (needsRoom img r f ≡ true) ↔ (s < r .end + length (encode f))
+    (N : ℕ) (img : List ℕ) (s : ℕ) (r : Record) (f : Frame) → 1 ≤ N → length img ≡ N * s
+    → (needsRoom N img r f ≡ true) ↔ (s < r .end + length (encode f))
 
 -- ---- the steps of each job
 
@@ -59,64 +59,92 @@ pub record Programs (k at : ℕ) (bytes : List ℕ) (steps : List Step) : Type 0
   pub each : length steps ≡ length bytes
   pub in-order : (n : ℕ) (d : Step) → n < length bytes → getD steps n d ≡ program k (at + n) (getD bytes n 0)
 
+-- K14: "A transfer goes to the next block in number, round to 0": from block k
+pub data NextOf (N k : ℕ) : ℕ → Type 0 where
+  following : suc k < N → NextOf N k (suc k)
+  round : suc k ≡ N → NextOf N k 0
+
 -- "Transfer, into the blank half: byte 8 to 0xFE, header bytes 0-3, settled frames by rising id, pending frames in their order, inverse of
--- (time + 1), byte 8 to 0xFC, erase of the old half. C-5 steps." Of half k into half j; "length, 16", "kind, 0x4A01"
-pub record TransferSteps (k j time : ℕ) (st : State) : Type 0 where
+-- (time + 1), byte 8 to 0xFC, erase of the old half. C-5 steps." Of block k into block j; "length, 16", "kind, 0x4A01"
+pub record TransferSteps (N k j time : ℕ) (st : State) : Type 0 where
   pub copied : List Step
-  pub steps : transferPlan k time st
+  pub steps : transferPlan N k time st
       ≡ program j 8 0xFE ∷ program j 0 16 ∷ program j 1 0 ∷ program j 2 0x01 ∷ program j 3 0x4A
       ∷ (copied
       ++ (program j 4 (255 - suc time % 256) ∷ program j 5 (255 - suc time / 256 % 256) ∷ program j 6 (255 - suc time / 65536 % 256)
       ∷ program j 7 (255 - suc time / 16777216) ∷ program j 8 0xFC ∷ erase k ∷ []))
   pub frames : Programs j 16 (encodeAll (framesOf st)) copied
-  pub count : length (transferPlan k time st) + 5 ≡ claimed st
+  pub count : length (transferPlan N k time st) + 5 ≡ claimed st
 
 unfoldable pub TransferExact : Type 0
-TransferExact = (k j time : ℕ) (st : State) → k + j ≡ 1 → suc time ≤ 4294967295 → TransferSteps k j time st
+TransferExact = (N k j time : ℕ) (st : State) → NextOf N k j → suc time ≤ 4294967295 → TransferSteps N k j time st
 
--- "Format: erase half 0, erase half 1, then half 0's header at time 1 in the same order. 12 steps." Of half j first and half k last
-abbrev pub formatSteps : ℕ → ℕ → List Step
-formatSteps j k =
-    erase j ∷ erase k ∷ program 0 8 0xFE ∷ program 0 0 0x10 ∷ program 0 1 0x00 ∷ program 0 2 0x01 ∷ program 0 3 0x4A ∷ program 0 4 0xFE
+-- "then half 0's header at time 1 in the same order"
+abbrev pub firstHeader : List Step
+firstHeader =
+    program 0 8 0xFE ∷ program 0 0 0x10 ∷ program 0 1 0x00 ∷ program 0 2 0x01 ∷ program 0 3 0x4A ∷ program 0 4 0xFE
     ∷ program 0 5 0xFF ∷ program 0 6 0xFF ∷ program 0 7 0xFF ∷ program 0 8 0xFC ∷ []
 
--- K4: "Format now erases last the valid half, of two the one with the larger time (half 1 if there is none or the times are equal)."
-pub record FormatExact : Type 0 where
-  pub one-valid : (img : List ℕ) (j k t : ℕ) (fs : List Frame) (c : Tail) → j + k ≡ 1 → Bytes img → Allowed (length img) → ValidAt img k t fs c
-      → ((u : ℕ) (gs : List Frame) (d : Tail) → ValidAt img j u gs d → u < t) → formatPlan img ≡ formatSteps j k
-  pub none-valid : (img : List ℕ) → Bytes img → Allowed (length img) → ((k t : ℕ) (fs : List Frame) (c : Tail) → ValidAt img k t fs c → ⊥)
-      → formatPlan img ≡ formatSteps 0 1
-  pub equal-times : (img : List ℕ) (t : ℕ) (fs gs : List Frame) (c d : Tail) → Bytes img → Allowed (length img) → ValidAt img 0 t fs c
-      → ValidAt img 1 t gs d → formatPlan img ≡ formatSteps 0 1
+-- all blocks "in number order"; the same, but block k last
+pub record ByNumber (N : ℕ) (order : List ℕ) : Type 0 where
+  pub all : length order ≡ N
+  pub each : (i : ℕ) → i < N → getD order i 0 ≡ i
 
--- "one frame of n bytes, after a transfer if end + n exceeds S": at the recorded end, or in the other half past what was copied there
+pub record LastIs (k N : ℕ) (order : List ℕ) : Type 0 where
+  pub all : length order ≡ N
+  pub below : (i : ℕ) → i < k → getD order i 0 ≡ i
+  pub above : (i : ℕ) → k ≤ i → suc i < N → getD order i 0 ≡ suc i
+  pub last : getD order (N - 1) 0 ≡ k
+
+pub record FormatSteps (N : ℕ) (img : List ℕ) (Ordered : ℕ → List ℕ → Type 0) : Type 0 where
+  pub order : List ℕ
+  pub steps : formatPlan N img ≡ map erase order ++ firstHeader
+  pub ordered : Ordered N order
+
+-- block k is valid, and every other valid one has a smaller time
+abbrev pub NewestAt : ℕ → List ℕ → ℕ → Type 0
+NewestAt N img k =
+    (t : ℕ) × (fs : List Frame) × (c : Tail) × ValidAt N img k t fs c
+    × ((j u : ℕ) (gs : List Frame) (d : Tail) → (j ≡ k → ⊥) → ValidAt N img j u gs d → u < t)
+
+-- K14: "Format erases all in number order, but the current block last if there is one, then writes block 0."
+pub record FormatExact : Type 0 where
+  pub current : (N : ℕ) (img : List ℕ) (k : ℕ) → Bytes img → Allowed N (length img) → NewestAt N img k → FormatSteps N img (LastIs k)
+  pub no-current : (N : ℕ) (img : List ℕ) → Bytes img → Allowed N (length img) → ((k : ℕ) → NewestAt N img k → ⊥) → FormatSteps N img ByNumber
+  pub count : (N : ℕ) (img : List ℕ) → length (formatPlan N img) ≡ N + 10
+
+-- "one frame of n bytes, after a transfer if end + n exceeds S": at the recorded end, or in the next block past what was copied there
 pub record AppendExact : Type 0 where
-  pub stays : (k end : ℕ) (x : Held) (f : Frame) → Programs k end (encode f) (framePlan false k end x f)
-  pub moves : (k j end : ℕ) (x : Held) (f : Frame) → k + j ≡ 1
-      → (appended : List Step) × (framePlan true k end x f ≡ transferPlan k (x .time) (replay (x .frames)) ++ appended)
+  pub stays : (N k end : ℕ) (x : Held) (f : Frame) → Programs k end (encode f) (framePlan N false k end x f)
+  pub moves : (N k j end : ℕ) (x : Held) (f : Frame) → NextOf N k j
+      → (appended : List Step) × (framePlan N true k end x f ≡ transferPlan N k (x .time) (replay (x .frames)) ++ appended)
       × Programs j (16 + length (encodeAll (framesOf (replay (x .frames))))) (encode f) appended
 
--- "The other is erased if it isn't blank. If the current one has a torn tail or anything pending, a transfer of the settled objects alone
--- follows." K4: "Where one half is valid, the other, if foreign, is erased on mount." Of the current half x, j the other
-pub record MountSteps (img : List ℕ) (x : Store) (j : ℕ) : Type 0 where
-  pub erases : List Step
+-- a number stands in a list
+abbrev pub Member : ℕ → List ℕ → Type 0
+Member j l = (i : ℕ) × (i < length l) × (getD l i 0 ≡ j)
+
+-- K14: "mount erases every other that isn't blank, by number". "If the current one has a torn tail or anything pending, a transfer of the settled
+-- objects alone follows." Of the current block x
+pub record MountSteps (N : ℕ) (img : List ℕ) (x : Store) : Type 0 where
+  pub erased : List ℕ
   pub moves : List Step
-  pub steps : mountPlan (allFound img) x ≡ erases ++ moves
-  pub other-blank : blockState (block (sizeOf img) j img) ≡ blank → erases ≡ []
-  pub other-not : (blockState (block (sizeOf img) j img) ≡ blank → ⊥) → erases ≡ erase j ∷ []
-  pub torn : (n : ℕ) → x .tail ≡ cut n → moves ≡ transferPlan (x .number) (x .time) (state (objectsAfter (x .frames)) [])
+  pub steps : mountPlan N (allFound N img) x ≡ map erase erased ++ moves
+  pub by-number : (i : ℕ) → suc i < length erased → getD erased i 0 < getD erased (suc i) 0
+  pub every : (j : ℕ) → Member j erased ↔ ((j < N) × (j ≡ x .number → ⊥) × (blockState (block (sizeOf N img) j img) ≡ blank → ⊥))
+  pub torn : (n : ℕ) → x .tail ≡ cut n → moves ≡ transferPlan N (x .number) (x .time) (state (objectsAfter (x .frames)) [])
   pub pending : x .tail ≡ clean → (replay (x .frames) .pending ≡ [] → ⊥)
-      → moves ≡ transferPlan (x .number) (x .time) (state (objectsAfter (x .frames)) [])
+      → moves ≡ transferPlan N (x .number) (x .time) (state (objectsAfter (x .frames)) [])
   pub at-rest : x .tail ≡ clean → replay (x .frames) .pending ≡ [] → moves ≡ []
 
 unfoldable pub MountExact : Type 0
-MountExact = (img : List ℕ) (x : Store) (j : ℕ) → x .number + j ≡ 1 → MountSteps img x j
+MountExact = (N : ℕ) (img : List ℕ) (x : Store) → MountSteps N img x
 
 -- ---- a read's stretch
 
 -- "hands back that stretch of the caller's own flash image": where in the recorded half the value was put, counted from the image's start
 unfoldable pub StretchExact : Type 0
 StretchExact =
-    (img : List ℕ) (r : Record) (x : Held) (c : Tail) (i : ObjectId) (v : List ℕ)
-    → ValidBlock (block (sizeOf img) (r .block) img) (x .time) (x .frames) c → i .0 ≤ 255 → lookup i (objectsAfter (x .frames)) ≡ some v
-    → (at : ℕ) × (placeOf img r x i ≡ record { at = r .block * sizeOf img + at; size = length v }) × TakenFrom (x .frames) i v at
+    (N : ℕ) (img : List ℕ) (r : Record) (x : Held) (c : Tail) (i : ObjectId) (v : List ℕ)
+    → ValidBlock (block (sizeOf N img) (r .block) img) (x .time) (x .frames) c → i .0 ≤ 255 → lookup i (objectsAfter (x .frames)) ≡ some v
+    → (at : ℕ) × (placeOf N img r x i ≡ record { at = r .block * sizeOf N img + at; size = length v }) × TakenFrom (x .frames) i v at

@@ -1,7 +1,7 @@
 -- A step call on any record and any image, document 01, "Jobs" and "When the queue says no".
 use mathlib.Core.List.{List, []}
 use mathlib.Core.Option.{Option, none, some}
-use mathlib.Core.Bool.{_&&_, cond}
+use mathlib.Core.Bool.{Bool, _&&_, cond}
 use Prim.Native.Nat.{ℕ, suc, _+_}
 use lib.Dec.{eqb, ltb}
 use lib.ListN.{length, getD}
@@ -38,6 +38,7 @@ abbrev pub landed : Record → Record
 landed r =
     record {
       phase = r .phase;
+      blocks = r .blocks;
       last = r .last;
       block = r .job .target;
       end = r .cursor .at;
@@ -57,6 +58,7 @@ abbrev pub loaded : Record → Load → Record
 loaded r u =
     record {
       phase = Busy Copy;
+      blocks = r .blocks;
       last = r .last;
       block = r .block;
       end = r .end;
@@ -72,9 +74,9 @@ loadOr r (some u) = loaded r u
 loadOr r none = enter Seal r
 
 -- "settled frames by rising id, pending frames in their order": the next one, read from the current block
-unfoldable pub enterCopy : List ℕ → Record → Record
-enterCopy img r =
-    loadOr r (nextLoad (block (sizeOf img) (r .block) img) (r .end) (r .places) (r .job .since) (r .cursor .id) (r .cursor .source))
+unfoldable pub enterCopy : ℕ → List ℕ → Record → Record
+enterCopy N img r =
+    loadOr r (nextLoad (block (sizeOf N img) (r .block) img) (r .end) (r .places) (r .job .since) (r .cursor .id) (r .cursor .source))
 
 -- a job that makes no block goes on to its frame
 unfoldable pub enterOpen : Record → Record
@@ -115,33 +117,37 @@ abbrev pub onward : Stage → ℕ → Record → Record → Record
 onward s count r after = cond (ltb (suc (r .cursor .index)) count) (inStage s (nextIndex (r .cursor)) r) after
 
 -- the record after the step that gave the image
-unfoldable pub advance : Stage → List ℕ → Record → Record
-advance Wipe img r = onward Wipe (r .job .wipes) r (enterOpen r)
-advance Open img r = onward Open markWrites r (enterCopy img r)
-advance Copy img r =
+unfoldable pub advance : ℕ → Stage → List ℕ → Record → Record
+advance N Wipe img r = onward Wipe (r .job .wipes) r (enterOpen r)
+advance N Open img r = onward Open markWrites r (enterCopy N img r)
+advance N Copy img r =
     cond (ltb (suc (r .cursor .off)) (r .cursor .size)) (inStage Copy (nextByte (r .cursor)) r)
-    (enterCopy img (inStage Copy (pastFrame (r .cursor)) r))
-advance Seal img r = onward Seal markWrites r (enterDrop r)
-advance Drop img r = enterAppend (landed r)
-advance Append img r = onward Append (r .job .size) r (idle (rest (r .last) (r .block) (r .end + r .job .size)))
+    (enterCopy N img (inStage Copy (pastFrame (r .cursor)) r))
+advance N Seal img r = onward Seal markWrites r (enterDrop r)
+advance N Drop img r = enterAppend (landed r)
+advance N Append img r = onward Append (r .job .size) r (idle (rest (r .blocks) (r .last) (r .block) (r .end + r .job .size)))
 
 -- "the last one answers 0 with the record idle", any other more
 abbrev pub stepped : List ℕ → Record → Out
 stepped img r = out (answerOf r) img r []
 
+-- the record is of an image of N blocks and so many bytes. K14: "A record of another N gets 11, in a job's step too."
+abbrev pub sameShape : ℕ → ℕ → Record → Bool
+sameShape N n r = eqb n (suc (r .last)) && eqb N (r .blocks)
+
 -- "in a job, 11 is given exactly if the image length isn't the record's or the job's next place lies outside it"
-unfoldable pub stepBusy : Stage → List ℕ → Record → Out
-stepBusy s img r =
-    let after : List ℕ = apply (sizeOf img) (action s r) img in
-    cond (eqb (length img) (suc (r .last)) && within (sizeOf img) (action s r)) (stepped after (advance s after r))
+unfoldable pub stepBusy : ℕ → Stage → List ℕ → Record → Out
+stepBusy N s img r =
+    let after : List ℕ = apply (sizeOf N img) (action s r) img in
+    cond (sameShape N (length img) r && within N (sizeOf N img) (action s r)) (stepped after (advance N s after r))
     (refuse refusal.Stale img r [])
 
 -- "on an unmounted or idle record it answers 0 and changes nothing"
-abbrev pub stepIn : Phase → List ℕ → Record → Out
-stepIn Unmounted img r = out Done img r []
-stepIn Idle img r = out Done img r []
-stepIn (Busy s) img r = stepBusy s img r
+abbrev pub stepIn : ℕ → Phase → List ℕ → Record → Out
+stepIn N Unmounted img r = out Done img r []
+stepIn N Idle img r = out Done img r []
+stepIn N (Busy s) img r = stepBusy N s img r
 
 -- a step call
-unfoldable pub stepOn : List ℕ → Record → Out
-stepOn img r = stepIn (r .phase) img r
+unfoldable pub stepOn : ℕ → List ℕ → Record → Out
+stepOn N img r = stepIn N (r .phase) img r

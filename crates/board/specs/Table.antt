@@ -7,7 +7,7 @@ use mathlib.Core.Path.{_≡_}
 use Prim.Native.Nat.{ℕ, suc, _+_, _*_, _%_, _≤_, _<_}
 use lib.ListN.{length}
 use Rattle.flash.specs.Bytes.{Bytes}
-use Rattle.flash.specs.Flash.{Step, blocks, block, sizeOf, blockOf, offsetOf}
+use Rattle.flash.specs.Flash.{Step, block, sizeOf, blockOf, offsetOf}
 use Rattle.frame.specs.declared.Host.{Host}
 use Rattle.frame.specs.declared.ObjectId.{ObjectId}
 use Rattle.frame.specs.Frame.{Frame, put, delete, frameLen, total, change, commit, abort}
@@ -64,9 +64,15 @@ abbrev pub Exactly : List Line → Answer → Type 0
 Exactly [] a = Accepted a
 Exactly (l ∷ ls) a = (l .holds × (numberOf a ≡ some (l .number))) ⊎ ((l .holds → ⊥) × Exactly ls a)
 
--- 4: "Its length is a multiple of 256 from 512 to 65,536."
-abbrev pub Allowed : ℕ → Type 0
-Allowed n = (512 ≤ n) × (n ≤ 65536) × (n % 256 ≡ 0)
+-- 4, document 02, K14: "exactly if N isn't 2 to 16, the length exceeds 65,536, or S isn't a whole multiple of 128 from 256 up"
+pub record Allowed (N n : ℕ) : Type 0 where
+  pub at-least : 2 ≤ N
+  pub at-most : N ≤ 16
+  pub long : n ≤ 65536
+  pub size : ℕ
+  pub whole : n ≡ N * size
+  pub multiple : size % 128 ≡ 0
+  pub low : 256 ≤ size
 
 -- 5: "a job is unfinished"
 abbrev pub InJob : Phase → Type 0
@@ -77,24 +83,25 @@ InJob (Busy s) = Unit {0}
 -- ---- requests
 
 -- 11: "idle record: its length differs, or the image read afresh isn't: recorded half valid, its last whole frame (or the header, if
--- none) ending exactly at the recorded end with only 0xFF after it, other half blank, C + 6·open at most S"
-pub record Fresh (img : List ℕ) (r : Record) (x : Held) : Type 0 where
+-- none) ending exactly at the recorded end with only 0xFF after it, other half blank, C + 6·open at most S"; K14: "A record of another N gets 11"
+pub record Fresh (N : ℕ) (img : List ℕ) (r : Record) (x : Held) : Type 0 where
   pub length-is : length img ≡ suc (r .last)
-  pub there : r .block < blocks
-  pub is-valid : ValidBlock (block (sizeOf img) (r .block) img) (x .time) (x .frames) clean
+  pub blocks-are : N ≡ r .blocks
+  pub there : r .block < N
+  pub is-valid : ValidBlock (block (sizeOf N img) (r .block) img) (x .time) (x .frames) clean
   pub ends : headerLen + total (x .frames) ≡ r .end
-  pub others-blank : (j : ℕ) → j < blocks → (j ≡ r .block → ⊥) → BlankBlock (block (sizeOf img) j img)
-  pub room : claimed (replay (x .frames)) + 6 * openHosts (replay (x .frames) .pending) ≤ sizeOf img
+  pub others-blank : (j : ℕ) → j < N → (j ≡ r .block → ⊥) → BlankBlock (block (sizeOf N img) j img)
+  pub room : claimed (replay (x .frames)) + 6 * openHosts (replay (x .frames) .pending) ≤ sizeOf N img
 
 -- `held` finds exactly this
 unfoldable pub FreshExact : Type 0
-FreshExact = (img : List ℕ) (r : Record) (x : Held) → Bytes img → allowed (length img) ≡ true → (held img r ≡ some x) ↔ Fresh img r x
+FreshExact = (N : ℕ) (img : List ℕ) (r : Record) (x : Held) → Bytes img → allowed N (length img) ≡ true → (held N img r ≡ some x) ↔ Fresh N img r x
 
 -- 8: "read: no such settled object"
-pub record NoObject (img : List ℕ) (r : Record) (msg : List ℕ) : Type 0 where
+pub record NoObject (N : ℕ) (img : List ℕ) (r : Record) (msg : List ℕ) : Type 0 where
   pub holding : Held
   pub id : ObjectId
-  pub is-held : Fresh img r holding
+  pub is-held : Fresh N img r holding
   pub is-asked : Means msg (Read id)
   pub none-there : lookup id (replay (holding .frames) .objects) ≡ none
 
@@ -106,112 +113,112 @@ pub record ShortReply (msg reply : List ℕ) : Type 0 where
 
 -- 7: "with `open` the hosts that would then have something pending, a put is refused exactly if C + n + 6·open + 14 > S, a delete
 -- exactly if C + 8 + 6·open > S"
-pub data NoRoom (img : List ℕ) (r : Record) (h : Host) (msg : List ℕ) : Type 0 where
-  for-put : (x : Held) (i : ObjectId) → Fresh img r x → Means msg (Put i)
-      → sizeOf img
+pub data NoRoom (N : ℕ) (img : List ℕ) (r : Record) (h : Host) (msg : List ℕ) : Type 0 where
+  for-put : (x : Held) (i : ObjectId) → Fresh N img r x → Means msg (Put i)
+      → sizeOf N img
       < claimed (replay (x .frames)) + (8 + length (valueIn msg))
       + 6 * openHosts (replay (x .frames) .pending ++ (entry h (put i (valueIn msg)) ∷ [])) + 14
-      → NoRoom img r h msg
-  for-delete : (x : Held) (i : ObjectId) → Fresh img r x → Means msg (Delete i)
-      → sizeOf img < claimed (replay (x .frames)) + 8 + 6 * openHosts (replay (x .frames) .pending ++ (entry h (delete i) ∷ []))
-      → NoRoom img r h msg
+      → NoRoom N img r h msg
+  for-delete : (x : Held) (i : ObjectId) → Fresh N img r x → Means msg (Delete i)
+      → sizeOf N img < claimed (replay (x .frames)) + 8 + 6 * openHosts (replay (x .frames) .pending ++ (entry h (delete i) ∷ []))
+      → NoRoom N img r h msg
 
 -- 6: "a transfer is needed, .. at time 4,294,967,295": "if end + n exceeds S"
-pub record Worn (img : List ℕ) (r : Record) (h : Host) (msg : List ℕ) : Type 0 where
+pub record Worn (N : ℕ) (img : List ℕ) (r : Record) (h : Host) (msg : List ℕ) : Type 0 where
   pub holding : Held
   pub asked : Request
   pub frame : Frame
-  pub is-held : Fresh img r holding
+  pub is-held : Fresh N img r holding
   pub is-asked : Means msg asked
   pub is-frame : frameFor h msg holding asked ≡ some frame
-  pub exceeds : sizeOf img < r .end + frameLen frame
+  pub exceeds : sizeOf N img < r .end + frameLen frame
   pub last-time : holding .time ≡ 4294967295
 
-abbrev pub requestLines : List ℕ → Record → Host → List ℕ → List ℕ → List Line
-requestLines img r h msg reply =
-    line 4 (Allowed (length img) → ⊥)
+abbrev pub requestLines : ℕ → List ℕ → Record → Host → List ℕ → List ℕ → List Line
+requestLines N img r h msg reply =
+    line 4 (Allowed N (length img) → ⊥)
     ∷ line 10 (3 < h .0)
     ∷ line 5 (InJob (r .phase))
     ∷ line 2 (r .phase ≡ Unmounted)
-    ∷ line 11 ((x : Held) → Fresh img r x → ⊥)
+    ∷ line 11 ((x : Held) → Fresh N img r x → ⊥)
     ∷ line 1 ((q : Request) → Means msg q → ⊥)
-    ∷ line 8 (NoObject img r msg)
+    ∷ line 8 (NoObject N img r msg)
     ∷ line 9 (ShortReply msg reply)
-    ∷ line 7 (NoRoom img r h msg)
-    ∷ line 6 (Worn img r h msg)
+    ∷ line 7 (NoRoom N img r h msg)
+    ∷ line 6 (Worn N img r h msg)
     ∷ []
 
 -- ---- mounts
 
--- half k is valid; half k is foreign
-abbrev pub ValidAt : List ℕ → ℕ → ℕ → List Frame → Tail → Type 0
-ValidAt img k t fs c = (k < blocks) × ValidBlock (block (sizeOf img) k img) t fs c
+-- block k is valid; block k is foreign
+abbrev pub ValidAt : ℕ → List ℕ → ℕ → ℕ → List Frame → Tail → Type 0
+ValidAt N img k t fs c = (k < N) × ValidBlock (block (sizeOf N img) k img) t fs c
 
-abbrev pub ForeignAt : List ℕ → ℕ → Type 0
-ForeignAt img k = (k < blocks) × ForeignBlock (block (sizeOf img) k img)
+abbrev pub ForeignAt : ℕ → List ℕ → ℕ → Type 0
+ForeignAt N img k = (k < N) × ForeignBlock (block (sizeOf N img) k img)
 
--- no half is valid; half k is valid and another has its time
-abbrev pub NoneValid : List ℕ → Type 0
-NoneValid img = (k t : ℕ) (fs : List Frame) (c : Tail) → ValidAt img k t fs c → ⊥
+-- no block is valid; block k is valid and another has its time
+abbrev pub NoneValid : ℕ → List ℕ → Type 0
+NoneValid N img = (k t : ℕ) (fs : List Frame) (c : Tail) → ValidAt N img k t fs c → ⊥
 
-pub data TiedAt (img : List ℕ) (k : ℕ) : Type 0 where
-  tied-with : (j t : ℕ) (fs gs : List Frame) (c d : Tail) → (j ≡ k → ⊥) → ValidAt img j t fs c → ValidAt img k t gs d → TiedAt img k
+pub data TiedAt (N : ℕ) (img : List ℕ) (k : ℕ) : Type 0 where
+  tied-with : (j t : ℕ) (fs gs : List Frame) (c d : Tail) → (j ≡ k → ⊥) → ValidAt N img j t fs c → ValidAt N img k t gs d → TiedAt N img k
 
 -- 2: "for mount, no valid half and none foreign"
-pub record NothingThere (img : List ℕ) : Type 0 where
-  pub none-valid : NoneValid img
-  pub none-foreign : (k : ℕ) → ForeignAt img k → ⊥
+pub record NothingThere (N : ℕ) (img : List ℕ) : Type 0 where
+  pub none-valid : NoneValid N img
+  pub none-foreign : (k : ℕ) → ForeignAt N img k → ⊥
 
 -- 3: document 02, K4, "Refusal 3 remains for two valid halves of equal time, and for no valid half with at least one foreign."
-pub data Unclear (img : List ℕ) : Type 0 where
-  foreign-half : (k : ℕ) → ForeignAt img k → NoneValid img → Unclear img
-  equal-times : (k : ℕ) → TiedAt img k → Unclear img
+pub data Unclear (N : ℕ) (img : List ℕ) : Type 0 where
+  foreign-only : (k : ℕ) → ForeignAt N img k → NoneValid N img → Unclear N img
+  equal-times : (k : ℕ) → TiedAt N img k → Unclear N img
 
 -- what 3 names, document 02, K5: "the foreign half (0 first) and, within it, the fault and its place. .. equal times name half 0, place 4."
--- No lower half is such a one, so that of two it is half 0.
-pub data Names (img : List ℕ) (k : ℕ) (e : Fault) : Type 0 where
-  names-foreign : NoneValid img → ForeignAt img k → FaultIn (block (sizeOf img) k img) e → ((j : ℕ) → j < k → ForeignAt img j → ⊥) → Names img k e
-  names-equal : TiedAt img k → e ≡ fault field.Created 4 → ((j : ℕ) → j < k → TiedAt img j → ⊥) → Names img k e
+-- No lower block is such a one, so that of two it is half 0.
+pub data Names (N : ℕ) (img : List ℕ) (k : ℕ) (e : Fault) : Type 0 where
+  names-foreign : NoneValid N img → ForeignAt N img k → FaultIn (block (sizeOf N img) k img) e → ((j : ℕ) → j < k → ForeignAt N img j → ⊥) → Names N img k e
+  names-equal : TiedAt N img k → e ≡ fault field.Created 4 → ((j : ℕ) → j < k → TiedAt N img j → ⊥) → Names N img k e
 
 -- "has a torn tail or anything pending"
 abbrev pub Unsettled : List Frame → Tail → Type 0
 Unsettled fs c = (c ≡ clean → ⊥) ⊎ (replay fs .pending ≡ [] → ⊥)
 
 -- 6: "a transfer is needed, by a mount too, at time 4,294,967,295": no time is larger, so that this half is the current one
-pub record MountWorn (img : List ℕ) : Type 0 where
+pub record MountWorn (N : ℕ) (img : List ℕ) : Type 0 where
   pub number : ℕ
   pub frames : List Frame
   pub tail : Tail
-  pub is-valid : ValidAt img number 4294967295 frames tail
+  pub is-valid : ValidAt N img number 4294967295 frames tail
   pub unsettled : Unsettled frames tail
 
-abbrev pub mountLines : List ℕ → List Line
-mountLines img =
-    line 4 (Allowed (length img) → ⊥)
-    ∷ line 2 (NothingThere img)
-    ∷ line 3 (Unclear img)
-    ∷ line 6 (MountWorn img)
+abbrev pub mountLines : ℕ → List ℕ → List Line
+mountLines N img =
+    line 4 (Allowed N (length img) → ⊥)
+    ∷ line 2 (NothingThere N img)
+    ∷ line 3 (Unclear N img)
+    ∷ line 6 (MountWorn N img)
     ∷ []
 
 -- ---- steps
 
--- "the job's next place lies outside it": its half isn't there, or its offset is past the half
-abbrev pub Outside : List ℕ → Step → Type 0
-Outside img x = (blocks ≤ blockOf x) ⊎ (sizeOf img ≤ offsetOf x)
+-- "the job's next place lies outside it": no image has so many blocks, its block isn't there, or its offset is past the block
+abbrev pub Outside : ℕ → List ℕ → Step → Type 0
+Outside N img x = (N < 2) ⊎ ((16 < N) ⊎ ((N ≤ blockOf x) ⊎ (sizeOf N img ≤ offsetOf x)))
 
--- "in a job, 11 is given exactly if the image length isn't the record's or the job's next place lies outside it"
-pub record Misplaced (img : List ℕ) (r : Record) : Type 0 where
+-- "in a job, 11 is given exactly if the image length isn't the record's or the job's next place lies outside it"; K14: or N isn't the record's
+pub record Misplaced (N : ℕ) (img : List ℕ) (r : Record) : Type 0 where
   pub stage : Stage
   pub is-busy : r .phase ≡ Busy stage
-  pub misfits : (length img ≡ suc (r .last) → ⊥) ⊎ Outside img (action stage r)
+  pub misfits : (length img ≡ suc (r .last) → ⊥) ⊎ ((N ≡ r .blocks → ⊥) ⊎ Outside N img (action stage r))
 
 -- ---- the table
 
-abbrev pub linesOf : List ℕ → Record → Call → List Line
-linesOf img r (request h msg reply) = requestLines img r h msg reply
-linesOf img r step = line 11 (Misplaced img r) ∷ []
-linesOf img r mount = mountLines img
-linesOf img r format = line 4 (Allowed (length img) → ⊥) ∷ []
+abbrev pub linesOf : ℕ → List ℕ → Record → Call → List Line
+linesOf N img r (request h msg reply) = requestLines N img r h msg reply
+linesOf N img r step = line 11 (Misplaced N img r) ∷ []
+linesOf N img r mount = mountLines N img
+linesOf N img r format = line 4 (Allowed N (length img) → ⊥) ∷ []
 
 -- ---- two tests that other definitions share
 

@@ -4,7 +4,7 @@ use mathlib.Core.Bool.{Bool, true, false}
 use mathlib.Core.Logic.{_⊎_}
 use mathlib.Core.Option.{some}
 use mathlib.Core.Path.{_≡_}
-use Prim.Native.Nat.{ℕ, _≤_, _<_}
+use Prim.Native.Nat.{ℕ, _+_, _≤_, _<_}
 use lib.ListN.{length, replicate}
 use Rattle.flash.specs.Bytes.{Bytes}
 use Rattle.flash.specs.Flash.{block, sizeOf}
@@ -66,15 +66,15 @@ pub record BadLogLength (m : Machine) : Type 0 where
 
 -- ---- 2: power drops in the middle of two hosts' changes
 
--- from an accepted mount on: its steps end, and the half in use then holds these objects and nothing that waits for a commit
-pub record Restores (m : Machine) (o : Out) (os : List Object) : Type 0 where
+-- from an accepted mount on: its steps end, and the block in use then holds these objects and nothing that waits for a commit
+pub record Restores (N : ℕ) (m : Machine) (o : Out) (os : List Object) : Type 0 where
   pub count : ℕ
-  pub short : count ≤ sizeOf (o .image)
+  pub short : count ≤ sizeOf N (o .image) + N
   pub more : (n : ℕ) → n < count → stepsOn m n o .answer ≡ More
   pub done : numberOf (stepsOn m count o .answer) ≡ some 0
   pub time : ℕ
   pub frames : List Frame
-  pub is-valid : let z : Out = stepsOn m count o in blockState (block (sizeOf (z .image)) (z .board .block) (z .image)) ≡ valid time frames clean
+  pub is-valid : let z : Out = stepsOn m count o in blockState (block (sizeOf N (z .image)) (z .board .block) (z .image)) ≡ valid time frames clean
   pub objects : replay frames .objects ≡ os
   pub nothing-pending : replay frames .pending ≡ []
 
@@ -82,22 +82,22 @@ pub record Restores (m : Machine) (o : Out) (os : List Object) : Type 0 where
 abbrev pub committing : List Event → Host → List ℕ → List ℕ → ℕ → List Event
 committing es h msg reply k = es ++ (call (request h msg reply) ∷ replicate k (call step))
 
-pub record PowerCuts (m : Machine) : Type 0 where
+pub record PowerCuts (N : ℕ) (m : Machine) : Type 0 where
   -- power drops anywhere in a run, inside an erase too: a mount, whatever record it is given, restores the book's objects, and nobody's
   -- uncommitted change
-  pub restores : (img : List ℕ) (r : Record) (es : List Event) (q : Record) → Bytes img → allowed (length img) ≡ true → HappensFrom m img r es
-      → let x : Left = leftBy m img r es in Accepted (m (x .image) q mount .answer) → Restores m (m (x .image) q mount) (x .book .objects)
+  pub restores : (img : List ℕ) (r : Record) (es : List Event) (q : Record) → Bytes img → allowed N (length img) ≡ true → HappensFrom N m img r es
+      → let x : Left = leftBy N m img r es in Accepted (m (x .image) q mount .answer) → Restores N m (m (x .image) q mount) (x .book .objects)
   -- power drops after a host's commit has begun, k of its step calls made: what the host had sent is there whole, if one of them had
   -- answered 0, or not at all
   pub whole-or-not : (img : List ℕ) (r : Record) (es : List Event) (h : Host) (msg reply : List ℕ) (k : ℕ) (q : Record)
-      → Bytes img → allowed (length img) ≡ true → HappensFrom m img r (committing es h msg reply k) → Means msg Commit
-      → let x : Left = leftBy m img r es in let y : Left = leftBy m img r (committing es h msg reply k) in
+      → Bytes img → allowed N (length img) ≡ true → HappensFrom N m img r (committing es h msg reply k) → Means msg Commit
+      → let x : Left = leftBy N m img r es in let y : Left = leftBy N m img r (committing es h msg reply k) in
       let o : Out = m (x .image) (x .board) (request h msg reply) in
       o .answer ≡ More → Accepted (m (y .image) q mount .answer)
-      → ((numberOf (stepsOn m k o .answer) ≡ some 0) × Restores m (m (y .image) q mount) (changeAll (x .book .lists h) (x .book .objects)))
-      ⊎ ((stepsOn m k o .answer ≡ More) × Restores m (m (y .image) q mount) (x .book .objects))
+      → ((numberOf (stepsOn m k o .answer) ≡ some 0) × Restores N m (m (y .image) q mount) (changeAll (x .book .lists h) (x .book .objects)))
+      ⊎ ((stepsOn m k o .answer ≡ More) × Restores N m (m (y .image) q mount) (x .book .objects))
 
 -- every machine that keeps the promise settles both
 pub record TicketsSettled : Type 0 where
-  pub bad-log-length : (m : Machine) → Promise m → BadLogLength m
-  pub power-cuts : (m : Machine) → Promise m → PowerCuts m
+  pub bad-log-length : (N : ℕ) (m : Machine) → Promise N m → BadLogLength m
+  pub power-cuts : (N : ℕ) (m : Machine) → Promise N m → PowerCuts N m

@@ -1,5 +1,5 @@
 // The board's types: what a record holds.
-use flash::BLOCKS;
+use flash::MAX_BLOCKS;
 use frame::MAX_FRAME;
 use wire::Refusal;
 
@@ -22,7 +22,7 @@ pub enum Phase {
 // What a job is to do; it stays as it is while the job runs.
 pub struct Job {
     // blocks to erase first, and how many of them
-    pub wipe: [u8; BLOCKS],
+    pub wipe: [u8; MAX_BLOCKS],
     pub wipes: u8,
     // a block is made, and the one it is made from erased
     pub moves: bool,
@@ -51,7 +51,8 @@ pub struct Cursor {
 
 // Where a record in no job stands: a further field of such a record goes here.
 pub struct Rest {
-    // the image's length less one
+    // how many blocks the image has, and its length less one
+    pub blocks: u8,
     pub last: u16,
     // the current block, and where its whole frames end
     pub block: u8,
@@ -61,7 +62,8 @@ pub struct Rest {
 // The board record.
 pub struct Record {
     pub phase: Phase,
-    // the image's length less one
+    // how many blocks the image has, and its length less one
+    pub blocks: u8,
     pub last: u16,
     // the current block, and where its whole frames end
     pub block: u8,

@@ -2,14 +2,13 @@
 use mathlib.Core.Path.{_≡_, refl, sym, ap, ap₂, subst, _∙_}
 use mathlib.Core.List.{List, [], _∷_}
 use mathlib.Core.Bool.{Bool, true, false, _&&_, cond}
-use Prim.Native.Nat.{ℕ, zero, suc, _+_, _-_, _*_, _/_, _≤_, _<_}
+use Prim.Native.Nat.{ℕ, zero, suc, _+_, _-_, _*_, _≤_, _<_}
 use native.Mathlib.Omega.{arith}
 use native.Mathlib.Nat.{zero-add}
-use lib.Dec.{eqb}
 use lib.ListN.{length, getD, take, drop, length-set, length-drop}
 use lib.Seq.{getD-drop}
-use borrow.Author.Tests.{eq-eqb, lt-ltb}
-use Rattle.flash.specs.Flash.{Step, apply, programAt, blocks, sizeOf, within, writes, writeAll}
+use borrow.Author.Tests.{lt-ltb}
+use Rattle.flash.specs.Flash.{Step, apply, programAt, isCount, sizeIn, sizeOf, within, writes, writeAll}
 use Rattle.flash.proofs.Cases.{and-both}
 use Rattle.wire.specs.declared.Answer.{Answer}
 use Rattle.wire.specs.declared.Answer.the-variants.{Done, More, Refused}
@@ -22,7 +21,7 @@ use Rattle.board.specs.declared.Phase.the-variants.{Unmounted, Idle, Busy}
 use Rattle.board.specs.declared.Cursor.{Cursor}
 use Rattle.board.specs.declared.Record.{Record}
 use Rattle.board.specs.Record.{Out, out, inStage, refuse, answerIn, answerOf, cursor}
-use Rattle.board.specs.Step.{action, advance, nextIndex, nextByte, stepped, stepBusy, stepIn, stepOn}
+use Rattle.board.specs.Step.{action, advance, nextIndex, nextByte, sameShape, stepped, stepBusy, stepIn, stepOn}
 use Rattle.board.specs.Drive.{Drove, drove, runFrom, runOn}
 use Rattle.board.proofs.Pipeline.{inside-yes}
 use Rattle.board.proofs.Outcomes.{step-goes, copy-next, append-next}
@@ -34,26 +33,26 @@ use Rattle.drive.specs.declared.bursts.Lane.{Lane}
 
 -- ---- a run by the answer it is at
 
-pub run-on : (m c : ℕ) (o : Out) → o .answer ≡ More → runFrom (suc m) c o ≡ runFrom m (suc c) (stepOn (o .image) (o .board))
+pub run-on : (N m c : ℕ) (o : Out) → o .answer ≡ More → runFrom N (suc m) c o ≡ runFrom N m (suc c) (stepOn N (o .image) (o .board))
 unfolding runFrom
-run-on m c o e = rw e
+run-on N m c o e = rw e
 
 abbrev ended : ℕ → Out → Drove
 ended c o = record { steps = c; out = o }
 
-pub run-over : (c : ℕ) (o : Out) → o .answer ≡ More → runFrom 0 c o ≡ ended c o
+pub run-over : (N c : ℕ) (o : Out) → o .answer ≡ More → runFrom N 0 c o ≡ ended c o
 unfolding runFrom
-run-over c o e = ap (drove c o) e
+run-over N c o e = ap (drove c o) e
 
-pub run-done : (m c : ℕ) (o : Out) → o .answer ≡ Done → runFrom m c o ≡ ended c o
+pub run-done : (N m c : ℕ) (o : Out) → o .answer ≡ Done → runFrom N m c o ≡ ended c o
 unfolding runFrom
-run-done zero c o e = ap (drove c o) e
-run-done (suc m) c o e = rw e
+run-done N zero c o e = ap (drove c o) e
+run-done N (suc m) c o e = rw e
 
-pub run-refused : (m c : ℕ) (o : Out) (why : Refusal) → o .answer ≡ Refused why → runFrom m c o ≡ ended (c - 1) o
+pub run-refused : (N m c : ℕ) (o : Out) (why : Refusal) → o .answer ≡ Refused why → runFrom N m c o ≡ ended (c - 1) o
 unfolding runFrom
-run-refused zero c o why e = ap (drove c o) e
-run-refused (suc m) c o why e = rw e
+run-refused N zero c o why e = ap (drove c o) e
+run-refused N (suc m) c o why e = rw e
 
 -- ---- a step that goes on
 
@@ -68,92 +67,87 @@ by-test : (b : Bool) (x y : Out) → x ≡ stepped (x .image) (x .board) → (y 
 by-test true x y s n e = s
 by-test false x y s n e = absurd (n e)
 
-goes-in : (ph : Phase) (img : List ℕ) (r : Record) → stepIn ph img r .answer ≡ More
-    → stepIn ph img r ≡ stepped (stepIn ph img r .image) (stepIn ph img r .board)
+goes-in : (N : ℕ) (ph : Phase) (img : List ℕ) (r : Record) → stepIn N ph img r .answer ≡ More
+    → stepIn N ph img r ≡ stepped (stepIn N ph img r .image) (stepIn N ph img r .board)
 unfolding stepBusy
-goes-in Unmounted img r e = absurd (done-ends e)
-goes-in Idle img r e = absurd (done-ends e)
-goes-in (Busy s) img r e =
-    let after : List ℕ = apply (sizeOf img) (action s r) img in
-    by-test (eqb (length img) (suc (r .last)) && within (sizeOf img) (action s r)) (stepped after (advance s after r))
+goes-in N Unmounted img r e = absurd (done-ends e)
+goes-in N Idle img r e = absurd (done-ends e)
+goes-in N (Busy s) img r e =
+    let after : List ℕ = apply (sizeOf N img) (action s r) img in
+    by-test (sameShape N (length img) r && within N (sizeOf N img) (action s r)) (stepped after (advance N s after r))
     (refuse refusal.Stale img r []) refl (refused-ends refusal.Stale) e
 
-pub more-steps : (img : List ℕ) (r : Record) (b : Bool) (q : Record) (img′ : List ℕ) → Steps More b q img′ (stepOn img r)
-    → stepOn img r ≡ stepped img′ q
+pub more-steps : (N : ℕ) (img : List ℕ) (r : Record) (b : Bool) (q : Record) (img′ : List ℕ) → Steps More b q img′ (stepOn N img r)
+    → stepOn N img r ≡ stepped img′ q
 unfolding stepOn
-more-steps img r b q img′ x = goes-in (r .phase) img r (sym (x .answers)) ∙ ap₂ stepped (sym (x .image)) (sym (x .gives))
+more-steps N img r b q img′ x = goes-in N (r .phase) img r (sym (x .answers)) ∙ ap₂ stepped (sym (x .image)) (sym (x .gives))
 
 -- ---- bytes of a frame, one after the other
 
-pub no-burst : (img : List ℕ) (r : Record) → Bursts 0 img r img r
-no-burst img r = record { answers = refl; runs = λ m d. ap₂ (λ (i j : ℕ). runFrom i j (stepped img r)) (zero-add m) (sym (zero-add d)) }
+pub no-burst : (N : ℕ) (img : List ℕ) (r : Record) → Bursts N 0 img r img r
+no-burst N img r = record { answers = refl; runs = λ m d. ap₂ (λ (i j : ℕ). runFrom N i j (stepped img r)) (zero-add m) (sym (zero-add d)) }
 
 -- a step programs a byte and leads to the record after it
-abbrev Programs : (ℕ → Record) → ℕ → List ℕ → ℕ → ℕ → Type 0
-Programs r a bs len i =
+abbrev Programs : ℕ → (ℕ → Record) → ℕ → List ℕ → ℕ → ℕ → Type 0
+Programs N r a bs len i =
     (img : List ℕ) → length img ≡ len
-    → (answerOf (r i) ≡ More) × (stepOn img (r i) ≡ stepped (programAt img (i + a) (getD bs i 0)) (r (suc i)))
+    → (answerOf (r i) ≡ More) × (stepOn N img (r i) ≡ stepped (programAt img (i + a) (getD bs i 0)) (r (suc i)))
 
-pub glide : (k : ℕ) (r : ℕ → Record) (a : ℕ) (bs : List ℕ) (len : ℕ) → k ≤ length bs → ((i : ℕ) → i < k → Programs r a bs len i)
+pub glide : (N k : ℕ) (r : ℕ → Record) (a : ℕ) (bs : List ℕ) (len : ℕ) → k ≤ length bs → ((i : ℕ) → i < k → Programs N r a bs len i)
     → (img : List ℕ) → length img ≡ len → (m d : ℕ)
-    → runFrom (k + m) d (stepped img (r 0)) ≡ runFrom m (k + d) (stepped (writeAll img (writes a (take k bs))) (r k))
+    → runFrom N (k + m) d (stepped img (r 0)) ≡ runFrom N m (k + d) (stepped (writeAll img (writes a (take k bs))) (r k))
 unfolding writes writeAll
-glide zero r a bs len h each img l m d = no-burst img (r 0) .runs m d
-glide (suc k) r a [] len h each img l m d = absurd (omega arith)
-glide (suc k) r a (x ∷ bs) len h each img l m d =
+glide N zero r a bs len h each img l m d = no-burst N img (r 0) .runs m d
+glide N (suc k) r a [] len h each img l m d = absurd (omega arith)
+glide N (suc k) r a (x ∷ bs) len h each img l m d =
     let e : suc k + m ≡ suc (k + m) = omega arith in
     let f : k + suc d ≡ suc k + d = omega arith in
     let z : 0 + a ≡ a = omega arith in
     let s = each 0 (omega arith) img l in
     let on : (i : ℕ) → suc i + a ≡ i + suc a = λ i. omega arith in
     let img₁ : List ℕ = programAt img a x in
-    ap (λ (i : ℕ). runFrom i d (stepped img (r 0))) e
-    ∙ run-on (k + m) d (stepped img (r 0)) (s .0)
-    ∙ ap (runFrom (k + m) (suc d)) (s .1 ∙ ap (λ (i : ℕ). stepped (programAt img i x) (r 1)) z)
-    ∙ glide k (λ i. r (suc i)) (suc a) bs len (omega arith)
+    ap (λ (i : ℕ). runFrom N i d (stepped img (r 0))) e
+    ∙ run-on N (k + m) d (stepped img (r 0)) (s .0)
+    ∙ ap (runFrom N (k + m) (suc d)) (s .1 ∙ ap (λ (i : ℕ). stepped (programAt img i x) (r 1)) z)
+    ∙ glide N k (λ i. r (suc i)) (suc a) bs len (omega arith)
     (λ i g im y. (
       each (suc i) (omega arith) im y .0,
       each (suc i) (omega arith) im y .1 ∙ ap (λ (j : ℕ). stepped (programAt im j (getD bs i 0)) (r (suc (suc i)))) (on i),
     ))
     img₁ (length-set img a _ ∙ l) m (suc d)
-    ∙ ap (λ (i : ℕ). runFrom m i (stepped (writeAll img₁ (writes (suc a) (take k bs))) (r (suc k)))) f
+    ∙ ap (λ (i : ℕ). runFrom N m i (stepped (writeAll img₁ (writes (suc a) (take k bs))) (r (suc k)))) f
 
-module _ (img : List ℕ) (q : Record) (c : Cursor) (same : length img ≡ suc (q .last)) where
-  abbrev size : ℕ
-  size = suc (q .last) / blocks
-
-  half : sizeOf img ≡ size
-  half = ap (λ (k : ℕ). k / blocks) same
-
+module _ (N : ℕ) (img : List ℕ) (q : Record) (c : Cursor) (size : ℕ) (is : sizeOf N img ≡ size) (same : sameShape N (length img) q ≡ true)
+    (count : isCount N ≡ true) where
   -- a byte of the frame that is copied, but its last
-  copy-byte : q .job .target < blocks → c .at < size → suc (c .off) < c .size
-      → stepOn img (inStage Copy c q)
+  copy-byte : q .job .target < N → c .at < size → suc (c .off) < c .size
+      → stepOn N img (inStage Copy c q)
       ≡ stepped (programAt img (q .job .target * size + c .at) (getD (q .unit) (c .off) 0)) (inStage Copy (nextByte c) q)
   copy-byte t a o =
       let byte : ℕ = getD (q .unit) (c .off) 0 in
       let place : ℕ → ℕ = λ k. q .job .target * k + c .at in
       let x : Step = action Copy (inStage Copy c q) in
-      step-goes img (inStage Copy c q) Copy refl
-      (and-both (eqb (length img) (suc (q .last))) (within (sizeOf img) x) (eq-eqb _ _ same)
-      (inside-yes (sizeOf img) x t (subst (λ (k : ℕ). c .at < k) (sym half) a)))
-      ∙ ap (stepped (programAt img (place (sizeOf img)) byte))
-      (copy-next (programAt img (place (sizeOf img)) byte) (inStage Copy c q) (lt-ltb _ _ o))
-      ∙ ap (λ (k : ℕ). stepped (programAt img (place k) byte) (inStage Copy (nextByte c) q)) half
+      step-goes N img (inStage Copy c q) Copy refl
+      (and-both (sameShape N (length img) q) (within N (sizeOf N img) x) same
+      (inside-yes (sizeOf N img) x count t (subst (λ (k : ℕ). c .at < k) (sym is) a)))
+      ∙ ap (stepped (programAt img (place (sizeOf N img)) byte))
+      (copy-next N (programAt img (place (sizeOf N img)) byte) (inStage Copy c q) (lt-ltb _ _ o))
+      ∙ ap (λ (k : ℕ). stepped (programAt img (place k) byte) (inStage Copy (nextByte c) q)) is
 
   -- a byte of the frame to append, but its last
-  append-byte : q .block < blocks → q .end + c .index < size → suc (c .index) < q .job .size
-      → stepOn img (inStage Append c q)
+  append-byte : q .block < N → q .end + c .index < size → suc (c .index) < q .job .size
+      → stepOn N img (inStage Append c q)
       ≡ stepped (programAt img (q .block * size + (q .end + c .index)) (getD (q .frame) (c .index) 0)) (inStage Append (nextIndex c) q)
   append-byte t a o =
       let byte : ℕ = getD (q .frame) (c .index) 0 in
       let place : ℕ → ℕ = λ k. q .block * k + (q .end + c .index) in
       let x : Step = action Append (inStage Append c q) in
-      step-goes img (inStage Append c q) Append refl
-      (and-both (eqb (length img) (suc (q .last))) (within (sizeOf img) x) (eq-eqb _ _ same)
-      (inside-yes (sizeOf img) x t (subst (λ (k : ℕ). q .end + c .index < k) (sym half) a)))
-      ∙ ap (stepped (programAt img (place (sizeOf img)) byte))
-      (append-next (programAt img (place (sizeOf img)) byte) (inStage Append c q) (lt-ltb _ _ o))
-      ∙ ap (λ (k : ℕ). stepped (programAt img (place k) byte) (inStage Append (nextIndex c) q)) half
+      step-goes N img (inStage Append c q) Append refl
+      (and-both (sameShape N (length img) q) (within N (sizeOf N img) x) same
+      (inside-yes (sizeOf N img) x count t (subst (λ (k : ℕ). q .end + c .index < k) (sym is) a)))
+      ∙ ap (stepped (programAt img (place (sizeOf N img)) byte))
+      (append-next N (programAt img (place (sizeOf N img)) byte) (inStage Append c q) (lt-ltb _ _ o))
+      ∙ ap (λ (k : ℕ). stepped (programAt img (place k) byte) (inStage Append (nextIndex c) q)) is
 
 -- the i-th byte from a cursor on
 ith : (bs : List ℕ) (o i : ℕ) → getD bs (i + o) 0 ≡ getD (drop o bs) i 0
@@ -161,7 +155,7 @@ ith bs o i = let e : i + o ≡ o + i = omega arith in ap (λ (j : ℕ). getD bs 
 
 -- ---- some bytes of a frame at once
 
-module _ (p u f img : List ℕ) (n : Numbers) (k : ℕ) where
+module _ (N : ℕ) (p u f img : List ℕ) (n : Numbers) (k : ℕ) where
   abbrev was : Record
   was = assemble n p u f
 
@@ -174,19 +168,19 @@ module _ (p u f img : List ℕ) (n : Numbers) (k : ℕ) where
       ap₂ (λ (y : Phase) (z : Cursor). assemble (record { phase = y; rest = n .rest; job = n .job; cursor = z }) p u f) (sym e) g
 
   spread : (st : Stage) → n .phase ≡ Busy st → (at : ℕ → Cursor) → at 0 ≡ c → (lane : Lane) (bs : List ℕ)
-      → Short (length img) (n .rest .last) lane k → k + lane .done ≤ length bs
-      → ((i : ℕ) → i < k → Programs (λ j. inStage st (at j) was) (lane .block * (length img / blocks) + lane .at) (drop (lane .done) bs)
+      → Short N (length img) (n .rest) lane k → k + lane .done ≤ length bs
+      → ((i : ℕ) → i < k → Programs N (λ j. inStage st (at j) was) (lane .block * sizeOf N img + lane .at) (drop (lane .done) bs)
       (length img) i)
-      → (img′ : List ℕ) (n′ : Numbers) → img′ ≡ laid lane bs k img → n′ ≡ staged st (at k) n
-      → Bursts k img was img′ (assemble n′ p u f)
+      → (img′ : List ℕ) (n′ : Numbers) → img′ ≡ laid N lane bs k img → n′ ≡ staged st (at k) n
+      → Bursts N k img was img′ (assemble n′ p u f)
   spread st e at start lane bs short full each img′ n′ wrote moved =
       let h : k ≤ length (drop (lane .done) bs) = simp length-drop (omega arith) in
       record {
         answers = ap (λ (x : Numbers). answerIn (x .phase)) moved ∙ sym (ap answerIn e);
-        runs = λ m d. ap (λ (x : Record). runFrom (k + m) d (stepped img x)) (sym (own st e (at 0) start))
-            ∙ glide k (λ j. inStage st (at j) was) (lane .block * (length img / blocks) + lane .at) (drop (lane .done) bs) (length img) h each img
+        runs = λ m d. ap (λ (x : Record). runFrom N (k + m) d (stepped img x)) (sym (own st e (at 0) start))
+            ∙ glide N k (λ j. inStage st (at j) was) (lane .block * sizeOf N img + lane .at) (drop (lane .done) bs) (length img) h each img
             refl m d
-            ∙ ap₂ (λ (i : List ℕ) (x : Numbers). runFrom m (k + d) (stepped i (assemble x p u f))) (sym wrote) (sym moved);
+            ∙ ap₂ (λ (i : List ℕ) (x : Numbers). runFrom N m (k + d) (stepped i (assemble x p u f))) (sym wrote) (sym moved);
       }
 
   zero-on : (onBy 0 c ≡ c) × (stepsBy 0 c ≡ c)
@@ -195,75 +189,74 @@ module _ (p u f img : List ℕ) (n : Numbers) (k : ℕ) where
     ap (λ (x : ℕ). cursor x (c .at) (c .id) (c .source) (c .size) (c .off)) (zero-add (c .index)),
   )
 
-  pub copies-some : n .phase ≡ Busy Copy → Short (length img) (n .rest .last) (copyLane n) k → k + c .off ≤ length u
-      → (img′ : List ℕ) (n′ : Numbers) → img′ ≡ laid (copyLane n) u k img → n′ ≡ staged Copy (onBy k c) n
-      → Bursts k img was img′ (assemble n′ p u f)
+  pub copies-some : n .phase ≡ Busy Copy → Short N (length img) (n .rest) (copyLane n) k → k + c .off ≤ length u
+      → (img′ : List ℕ) (n′ : Numbers) → img′ ≡ laid N (copyLane n) u k img → n′ ≡ staged Copy (onBy k c) n
+      → Bursts N k img was img′ (assemble n′ p u f)
   copies-some e short full =
       spread Copy e (λ i. onBy i c) (zero-on .0) (copyLane n) u short full (λ i g im l.
-      let b : ℕ = n .job .target * (length img / blocks) in
-      let s : suc (n .rest .last) / blocks ≡ length img / blocks = ap (λ (x : ℕ). x / blocks) (sym (short .same)) in
+      let b : ℕ = n .job .target * sizeOf N img in
       let room = short .room in
       let inside = short .inside in
       let x : suc (i + c .at) ≡ suc i + c .at = omega arith in
       let y : suc (i + c .off) ≡ suc i + c .off = omega arith in
       let shift : (o : ℕ) → o + (i + c .at) ≡ i + (o + c .at) = λ o. omega arith in (
         refl,
-        copy-byte im was (onBy i c) (l ∙ short .same) (short .there) (subst (λ (z : ℕ). i + c .at < z) (sym s) (omega arith)) (omega arith)
+        copy-byte N im was (onBy i c) (sizeOf N img) (ap (sizeIn N) l) (ap (λ (z : ℕ). sameShape N z was) l ∙ short .same) (short .count)
+            (short .there) (omega arith) (omega arith)
             ∙ ap₂ (λ (z w : ℕ). stepped (programAt im z w) (inStage Copy (nextByte (onBy i c)) was))
-            (ap (λ (z : ℕ). n .job .target * z + (i + c .at)) s ∙ shift b) (ith u (c .off) i)
+            (shift b) (ith u (c .off) i)
             ∙ ap₂ (λ (z w : ℕ). stepped (programAt im (i + (b + c .at)) (getD (drop (c .off) u) i 0))
             (inStage Copy (cursor (c .index) z (c .id) (c .source) (c .size) w) was)) x y,
       ))
 
-  pub appends-some : n .phase ≡ Busy Append → Short (length img) (n .rest .last) (appendLane n) k → k + c .index ≤ length f
-      → (img′ : List ℕ) (n′ : Numbers) → img′ ≡ laid (appendLane n) f k img → n′ ≡ staged Append (stepsBy k c) n
-      → Bursts k img was img′ (assemble n′ p u f)
+  pub appends-some : n .phase ≡ Busy Append → Short N (length img) (n .rest) (appendLane n) k → k + c .index ≤ length f
+      → (img′ : List ℕ) (n′ : Numbers) → img′ ≡ laid N (appendLane n) f k img → n′ ≡ staged Append (stepsBy k c) n
+      → Bursts N k img was img′ (assemble n′ p u f)
   appends-some e short full =
       spread Append e (λ i. stepsBy i c) (zero-on .1) (appendLane n) f short full (λ i g im l.
-      let b : ℕ = n .rest .block * (length img / blocks) in
-      let s : suc (n .rest .last) / blocks ≡ length img / blocks = ap (λ (x : ℕ). x / blocks) (sym (short .same)) in
+      let b : ℕ = n .rest .block * sizeOf N img in
       let room = short .room in
       let inside = short .inside in
       let x : suc (i + c .index) ≡ suc i + c .index = omega arith in
       let shift : (o : ℕ) → o + (n .rest .end + (i + c .index)) ≡ i + (o + (n .rest .end + c .index)) = λ o. omega arith in (
         refl,
-        append-byte im was (stepsBy i c) (l ∙ short .same) (short .there)
-            (subst (λ (z : ℕ). n .rest .end + (i + c .index) < z) (sym s) (omega arith)) (omega arith)
+        append-byte N im was (stepsBy i c) (sizeOf N img) (ap (sizeIn N) l) (ap (λ (z : ℕ). sameShape N z was) l ∙ short .same) (short .count)
+            (short .there) (omega arith) (omega arith)
             ∙ ap₂ (λ (z w : ℕ). stepped (programAt im z w) (inStage Append (nextIndex (stepsBy i c)) was))
-            (ap (λ (z : ℕ). n .rest .block * z + (n .rest .end + (i + c .index))) s ∙ shift b) (ith f (c .index) i)
+            (shift b) (ith f (c .index) i)
             ∙ ap (λ (z : ℕ). stepped (programAt im (i + (b + (n .rest .end + c .index))) (getD (drop (c .index) f) i 0))
             (inStage Append (cursor z (c .at) (c .id) (c .source) (c .size) (c .off)) was)) x,
       ))
 
 -- ---- a run from here
 
-module _ (d : Drove) (most steps k : ℕ) (img : List ℕ) (r : Record) (img₁ : List ℕ) (r₁ : Record) (more : steps < most)
-    (few : k ≤ most - steps - 1) (from : runFrom (most - steps) steps (stepped img r) ≡ d) (busy : answerOf r ≡ More)
-    (burst : Bursts k img r img₁ r₁) where
+module _ (N : ℕ) (d : Drove) (most steps k : ℕ) (img : List ℕ) (r : Record) (img₁ : List ℕ) (r₁ : Record) (more : steps < most)
+    (few : k ≤ most - steps - 1) (from : runFrom N (most - steps) steps (stepped img r) ≡ d) (busy : answerOf r ≡ More)
+    (burst : Bursts N k img r img₁ r₁) where
   -- some steps at once, then one
-  stepping : runFrom (most - (steps + k + 1)) (steps + k + 1) (stepOn img₁ r₁) ≡ d
+  stepping : runFrom N (most - (steps + k + 1)) (steps + k + 1) (stepOn N img₁ r₁) ≡ d
   stepping =
       let m : ℕ = most - (steps + k + 1) in
       let e : most - steps ≡ k + suc m = omega arith in
       let f : suc (k + steps) ≡ steps + k + 1 = omega arith in
-      sym (sym from ∙ ap (λ (i : ℕ). runFrom i steps (stepped img r)) e ∙ burst .runs (suc m) steps
-      ∙ run-on m (k + steps) (stepped img₁ r₁) (burst .answers ∙ busy) ∙ ap (λ (i : ℕ). runFrom m i (stepOn img₁ r₁)) f)
+      sym (sym from ∙ ap (λ (i : ℕ). runFrom N i steps (stepped img r)) e ∙ burst .runs (suc m) steps
+      ∙ run-on N m (k + steps) (stepped img₁ r₁) (burst .answers ∙ busy) ∙ ap (λ (i : ℕ). runFrom N m i (stepOn N img₁ r₁)) f)
 
-  module _ (s : Stepped) (p u f img₂ : List ℕ) (x : Steps (s .answer) (s .ended) (leaves s p u f) img₂ (stepOn img₁ r₁)) where
+  module _ (s : Stepped) (p u f img₂ : List ℕ) (x : Steps (s .answer) (s .ended) (leaves s p u f) img₂ (stepOn N img₁ r₁)) where
     pub run-again : s .answer ≡ More
-        → (runFrom (most - (steps + k + 1)) (steps + k + 1) (stepped img₂ (assemble (s .next) p u f)) ≡ d)
+        → (runFrom N (most - (steps + k + 1)) (steps + k + 1) (stepped img₂ (assemble (s .next) p u f)) ≡ d)
         × (answerIn (s .next .phase) ≡ More)
     run-again e =
         let whole : leaves s p u f ≡ assemble (s .next) p u f = ap (λ (b : Bool). leavesIf b (s .next) p u f) (x .goes e) in
-        let y : Steps More (s .ended) (leaves s p u f) img₂ (stepOn img₁ r₁) =
-        subst (λ (a : Answer). Steps a (s .ended) (leaves s p u f) img₂ (stepOn img₁ r₁)) e x in
-        let z : stepOn img₁ r₁ ≡ stepped img₂ (assemble (s .next) p u f) =
-        more-steps img₁ r₁ (s .ended) (leaves s p u f) img₂ y ∙ ap (stepped img₂) whole in (
-          ap (runFrom (most - (steps + k + 1)) (steps + k + 1)) (sym z) ∙ stepping,
+        let y : Steps More (s .ended) (leaves s p u f) img₂ (stepOn N img₁ r₁) =
+        subst (λ (a : Answer). Steps a (s .ended) (leaves s p u f) img₂ (stepOn N img₁ r₁)) e x in
+        let z : stepOn N img₁ r₁ ≡ stepped img₂ (assemble (s .next) p u f) =
+        more-steps N img₁ r₁ (s .ended) (leaves s p u f) img₂ y ∙ ap (stepped img₂) whole in (
+          ap (runFrom N (most - (steps + k + 1)) (steps + k + 1)) (sym z) ∙ stepping,
           sym (ap (λ (o : Out). o .answer) z) ∙ sym (x .answers) ∙ e,
         )
 
-    run-is : (i : ℕ) → ended i (stepOn img₁ r₁) ≡ d → Runs (record { steps = i; stepped = s }) p u f img₂ d
+    run-is : (i : ℕ) → ended i (stepOn N img₁ r₁) ≡ d → Runs (record { steps = i; stepped = s }) p u f img₂ d
     run-is i e =
         record {
           steps = ap (λ (y : Drove). y .steps) e;
@@ -274,22 +267,22 @@ module _ (d : Drove) (most steps k : ℕ) (img : List ℕ) (r : Record) (img₁ 
 
     pub run-ends : s .answer ≡ Done → Runs (record { steps = steps + k + 1; stepped = s }) p u f img₂ d
     run-ends e =
-        run-is (steps + k + 1) (sym (run-done (most - (steps + k + 1)) (steps + k + 1) (stepOn img₁ r₁) (sym (x .answers) ∙ e)) ∙ stepping)
+        run-is (steps + k + 1) (sym (run-done N (most - (steps + k + 1)) (steps + k + 1) (stepOn N img₁ r₁) (sym (x .answers) ∙ e)) ∙ stepping)
 
     pub run-stops : (why : Refusal) → s .answer ≡ Refused why → Runs (record { steps = steps + k; stepped = s }) p u f img₂ d
     run-stops why e =
         let f₁ : steps + k ≡ steps + k + 1 - 1 = omega arith in
-        run-is (steps + k) (ap (λ (i : ℕ). ended i (stepOn img₁ r₁)) f₁
-        ∙ sym (run-refused (most - (steps + k + 1)) (steps + k + 1) (stepOn img₁ r₁) why (sym (x .answers) ∙ e)) ∙ stepping)
+        run-is (steps + k) (ap (λ (i : ℕ). ended i (stepOn N img₁ r₁)) f₁
+        ∙ sym (run-refused N (most - (steps + k + 1)) (steps + k + 1) (stepOn N img₁ r₁) why (sym (x .answers) ∙ e)) ∙ stepping)
 
 -- the budget is spent
-pub run-spent : (d : Drove) (most steps : ℕ) (p u f img : List ℕ) (n : Numbers) → most ≤ steps
-    → runFrom (most - steps) steps (stepped img (assemble n p u f)) ≡ d → answerIn (n .phase) ≡ More
+pub run-spent : (N : ℕ) (d : Drove) (most steps : ℕ) (p u f img : List ℕ) (n : Numbers) → most ≤ steps
+    → runFrom N (most - steps) steps (stepped img (assemble n p u f)) ≡ d → answerIn (n .phase) ≡ More
     → Runs (record { steps = steps; stepped = staying More n }) p u f img d
-run-spent d most steps p u f img n spent from busy =
+run-spent N d most steps p u f img n spent from busy =
     let z : most - steps ≡ 0 = omega arith in
     let e : ended steps (stepped img (assemble n p u f)) ≡ d =
-    sym (run-over steps (stepped img (assemble n p u f)) busy) ∙ ap (λ (i : ℕ). runFrom i steps (stepped img (assemble n p u f))) (sym z) ∙ from in
+    sym (run-over N steps (stepped img (assemble n p u f)) busy) ∙ ap (λ (i : ℕ). runFrom N i steps (stepped img (assemble n p u f))) (sym z) ∙ from in
     record {
       steps = ap (λ (y : Drove). y .steps) e;
       image = ap (λ (y : Drove). y .out .image) e;
@@ -298,11 +291,11 @@ run-spent d most steps p u f img n spent from busy =
     }
 
 -- a record in no job
-pub run-rests : (most : ℕ) (p u f img : List ℕ) (n : Numbers) → answerIn (n .phase) ≡ Done
-    → Runs (record { steps = 0; stepped = staying Done n }) p u f img (runOn most img (assemble n p u f))
-run-rests most p u f img n rests =
-    let e : ended 0 (stepped img (assemble n p u f)) ≡ runOn most img (assemble n p u f) =
-    sym (run-done most 0 (stepped img (assemble n p u f)) rests) in
+pub run-rests : (N most : ℕ) (p u f img : List ℕ) (n : Numbers) → answerIn (n .phase) ≡ Done
+    → Runs (record { steps = 0; stepped = staying Done n }) p u f img (runOn N most img (assemble n p u f))
+run-rests N most p u f img n rests =
+    let e : ended 0 (stepped img (assemble n p u f)) ≡ runOn N most img (assemble n p u f) =
+    sym (run-done N most 0 (stepped img (assemble n p u f)) rests) in
     record {
       steps = ap (λ (y : Drove). y .steps) e;
       image = ap (λ (y : Drove). y .out .image) e;

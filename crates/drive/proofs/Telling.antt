@@ -1,39 +1,39 @@
 -- What is next, by the step's place; bytes programmed one by one.
 use mathlib.Core.Path.{_≡_, sym, ap, ap₂, _∙_}
 use mathlib.Core.List.{List}
-use mathlib.Core.Bool.{Bool, true, _&&_, cond}
-use Prim.Native.Nat.{ℕ, suc, _+_, _/_, _<_}
+use mathlib.Core.Bool.{Bool, cond}
+use Prim.Native.Nat.{ℕ, suc, _+_, _*_, _≤_, _<_}
 use native.Mathlib.Omega.{arith}
-use lib.Dec.{eqb, ltb}
 use lib.ListN.{length, getD, drop}
 use lib.Seq.{drop-cons, drop-length}
-use borrow.Author.Tests.{ltb-true}
-use Rattle.flash.specs.Flash.{Step, programAt, blocks, blockOf, offsetOf, within, writes, writeAll}
-use Rattle.flash.proofs.Cases.{and-left, and-right}
+use Rattle.flash.specs.Flash.{Step, programAt, sizeIn, writes, writeAll}
 use Rattle.wire.specs.declared.Refusal.the-variants as refusal
 use Rattle.board.specs.declared.Stage.{Stage}
 use Rattle.board.specs.declared.Phase.the-variants.{Busy}
 use Rattle.board.specs.declared.Record.{Record}
+use Rattle.board.specs.declared.Rest.{Rest}
 use Rattle.board.specs.declared.Next.the-variants as next
+use Rattle.board.specs.Record.{restOf}
 use Rattle.board.specs.Step.{action}
 use Rattle.board.specs.Drive.{placed, nextIn}
-
-pub in-parts : (s : ℕ) (x : Step) → within s x ≡ true → (blockOf x < blocks) × (offsetOf x < s)
-in-parts s x e = (
-  ltb-true (blockOf x) blocks (and-left (ltb (blockOf x) blocks) (ltb (offsetOf x) s) e),
-  ltb-true (offsetOf x) s (and-right (ltb (blockOf x) blocks) (ltb (offsetOf x) s) e),
-)
+use Rattle.job.specs.Code.{takes}
+use Rattle.job.proofs.Acting.{place-most}
+use Rattle.drive.specs.declared.bursts.Lane.{Lane}
+use Rattle.drive.specs.Code.{Short}
 
 -- ---- what is next in a job, by whether its place lies in the image
 
-pub next-is : (len : ℕ) (r : Record) (st : Stage) (x : Step) (b : Bool) → x ≡ action st r
-    → (eqb len (suc (r .last)) && within (len / blocks) x) ≡ b
-    → cond b (placed (len / blocks) x) (next.Refused refusal.Stale) ≡ nextIn (Busy st) len r
-next-is len r st x b e t =
-    ap (λ (c : Bool). cond c (placed (len / blocks) x) (next.Refused refusal.Stale)) (sym t)
-    ∙ ap (λ (y : Step). cond (eqb len (suc (r .last)) && within (len / blocks) y) (placed (len / blocks) y) (next.Refused refusal.Stale)) e
+pub next-is : (N len : ℕ) (r : Record) (st : Stage) (x : Step) (b : Bool) → x ≡ action st r → takes N len (restOf r) x ≡ b
+    → cond b (placed (sizeIn N len) x) (next.Refused refusal.Stale) ≡ nextIn N (Busy st) len r
+next-is N len r st x b e t =
+    ap (λ (c : Bool). cond c (placed (sizeIn N len) x) (next.Refused refusal.Stale)) (sym t)
+    ∙ ap (λ (y : Step). cond (takes N len (restOf r) y) (placed (sizeIn N len) y) (next.Refused refusal.Stale)) e
 
 -- ---- bytes programmed
+
+-- the places of a frame's bytes end in the image
+pub lane-ends : (N len s : ℕ) (z : Rest) (l : Lane) (k : ℕ) → s ≡ sizeIn N len → Short N len z l k → l .block * s + (k + l .at) ≤ len
+lane-ends N len s z l k e h = place-most N len s (l .block) (k + l .at) e (h .there) (omega (arith, h .room))
 
 module _ (img : List ℕ) (at : ℕ) (bs : List ℕ) where
   pub write-first : writeAll img (writes (at + 0) (drop 0 bs)) ≡ writeAll img (writes at bs)

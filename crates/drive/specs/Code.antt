@@ -1,14 +1,16 @@
 -- What the code's parts do: some steps at once, and what a run leaves.
 use mathlib.Core.Path.{_≡_}
 use mathlib.Core.List.{List}
-use Prim.Native.Nat.{ℕ, suc, _+_, _*_, _/_, _≤_, _<_}
+use mathlib.Core.Bool.{true}
+use Prim.Native.Nat.{ℕ, _+_, _*_, _≤_, _<_}
 use lib.ListN.{take, drop}
-use Rattle.flash.specs.Flash.{blocks, sizeOf, writes, writeAll}
+use Rattle.flash.specs.Flash.{isCount, sizeIn, sizeOf, writes, writeAll}
 use Rattle.frame.specs.Frame.{maxFrame}
 use Rattle.board.specs.declared.Cursor.{Cursor}
 use Rattle.board.specs.declared.Record.{Record}
-use Rattle.board.specs.Record.{cursor, answerOf}
-use Rattle.board.specs.Step.{stepped}
+use Rattle.board.specs.declared.Rest.{Rest}
+use Rattle.board.specs.Record.{idle, cursor, answerOf}
+use Rattle.board.specs.Step.{sameShape, stepped}
 use Rattle.board.specs.Drive.{Drove, runFrom}
 use Rattle.job.specs.declared.records.Numbers.{Numbers}
 use Rattle.job.specs.Code.{leaves}
@@ -30,22 +32,23 @@ copyLane n = record { block = n .job .target; at = n .cursor .at; done = n .curs
 abbrev pub appendLane : Numbers → Lane
 appendLane n = record { block = n .rest .block; at = n .rest .end + n .cursor .index; done = n .cursor .index; size = n .job .size }
 
--- k bytes of a frame stop short of its last one, and their places lie in an image of a length, the record's
-pub record Short (len last : ℕ) (l : Lane) (k : ℕ) : Type 0 where
-  pub same : len ≡ suc last
-  pub there : l .block < blocks
-  pub room : k + l .at ≤ len / blocks
+-- k bytes of a frame stop short of its last one, and their places lie in an image of N blocks and a length, the record's
+pub record Short (N len : ℕ) (z : Rest) (l : Lane) (k : ℕ) : Type 0 where
+  pub same : sameShape N len (idle z) ≡ true
+  pub count : isCount N ≡ true
+  pub there : l .block < N
+  pub room : k + l .at ≤ sizeIn N len
   pub inside : k + l .done < l .size
   pub held : k + l .done < maxFrame
 
 -- the image with k bytes of a frame programmed
-abbrev pub laid : Lane → List ℕ → ℕ → List ℕ → List ℕ
-laid l bs k img = writeAll img (writes (l .block * sizeOf img + l .at) (take k (drop (l .done) bs)))
+abbrev pub laid : ℕ → Lane → List ℕ → ℕ → List ℕ → List ℕ
+laid N l bs k img = writeAll img (writes (l .block * sizeOf N img + l .at) (take k (drop (l .done) bs)))
 
 -- k steps at once lead from an image and a record to others: as so many step calls would
-pub record Bursts (k : ℕ) (img : List ℕ) (r : Record) (img′ : List ℕ) (r′ : Record) : Type 0 where
+pub record Bursts (N k : ℕ) (img : List ℕ) (r : Record) (img′ : List ℕ) (r′ : Record) : Type 0 where
   pub answers : answerOf r′ ≡ answerOf r
-  pub runs : (m c : ℕ) → runFrom (k + m) c (stepped img r) ≡ runFrom m (k + c) (stepped img′ r′)
+  pub runs : (m c : ℕ) → runFrom N (k + m) c (stepped img r) ≡ runFrom N m (k + c) (stepped img′ r′)
 
 -- what a run gives back, with these arrays
 pub record Runs (r : Ran) (places unit frame img : List ℕ) (d : Drove) : Type 0 where

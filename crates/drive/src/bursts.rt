@@ -8,10 +8,9 @@ ghost use Rattle.board.specs.declared.Stage.the-variants.{Copy, Append};
 ghost use Rattle.board.specs.declared.Phase.the-variants.{Busy};
 ghost use Rattle.job.specs.Code.{assemble, staged};
 ghost use Rattle.drive.specs.Code.{onBy, stepsBy, Short, laid, Bursts};
-use crate::calls;
 use board::Phase;
+use board::Rest;
 use board::Stage;
-use flash::BLOCKS;
 use frame::MAX_FRAME;
 use job::records::Numbers;
 
@@ -60,31 +59,40 @@ fn least(a: usize, b: usize) -> usize
 }
 
 // How many bytes can be programmed before the frame's last one: none where the next one's place is not in the image.
-fn burst_len(len: usize, last: u16, lane: Lane, most: usize) -> usize
-    ensures { λ r. ⌜ (r ≤ most) × (0 < r → Short len last lane r) ⌝ }
+fn burst_len(len: usize, blocks: u8, rest: Rest, lane: Lane, most: usize) -> usize
+    ensures { λ r. ⌜ (r ≤ most) × (0 < r → Short blocks len rest lane r) ⌝ }
 {
-    if len != last as usize + 1 {
+    let size = flash::size_of(blocks, len);
+    if !job::same_shape(len, blocks, rest) {
         return 0;
     }
-    if BLOCKS <= lane.block as usize {
+    if !job::lies_in(blocks, size, lane.block, lane.at) {
         return 0;
     }
     let ahead = less(least(lane.size as usize, MAX_FRAME), lane.done as usize + 1);
-    least(least(most, less(len / BLOCKS, lane.at)), ahead)
+    least(least(most, size - lane.at), ahead)
 }
 
 // Programs them, and says how many they were.
-fn lay(image: &mut [u8], last: u16, lane: Lane, frame: &[u8; MAX_FRAME], most: usize) -> usize
-    ensures { λ r. ⌜ (r ≤ most) × (0 < r → Short (length (now (image .entry))) last lane r)
-        × (0 < r → (now (image .exit) ≡ laid lane (now (frame .entry)) r (now (image .entry))) × (r + lane .done ≤ length (now (frame .entry))))
+fn lay(
+    image: &mut [u8],
+    blocks: u8,
+    rest: Rest,
+    lane: Lane,
+    frame: &[u8; MAX_FRAME],
+    most: usize,
+) -> usize
+    ensures { λ r. ⌜ (r ≤ most) × (0 < r → Short blocks (length (now (image .entry))) rest lane r)
+        × (0 < r → (now (image .exit) ≡ laid blocks lane (now (frame .entry)) r (now (image .entry))) × (r + lane .done ≤ length (now (frame .entry))))
         × (r ≡ 0 → now (image .exit) ≡ now (image .entry)) ⌝ }
 {
-    let k = burst_len(image.len(), last, lane, most);
+    let k = burst_len(image.len(), blocks, rest, lane, most);
     if k == 0 {
         return 0;
     }
     let done = lane.done as usize;
-    let at = calls::base(image.len() / BLOCKS, lane.block) + lane.at;
+    let size = flash::size_of(blocks, image.len());
+    let at = lane.block as usize * size + lane.at;
     let bytes = &frame[..];
     program_all(image, at, &bytes[done..done + k]);
     k
@@ -132,9 +140,15 @@ fn no_burst(n: Numbers) -> Stride
 }
 
 // Not the frame's last byte: after it another frame is loaded.
-fn burst_copy(image: &mut [u8], n: Numbers, unit: &[u8; MAX_FRAME], most: usize) -> Stride
+fn burst_copy(
+    image: &mut [u8],
+    blocks: u8,
+    n: Numbers,
+    unit: &[u8; MAX_FRAME],
+    most: usize,
+) -> Stride
     requires { ⌜ n .phase ≡ Busy Copy ⌝ }
-    ensures { λ r. ⌜ (r .steps ≤ most) × ((p f : List ℕ) → Bursts (r .steps) (now (image .entry)) (assemble n p (now (unit .entry)) f)
+    ensures { λ r. ⌜ (r .steps ≤ most) × ((p f : List ℕ) → Bursts blocks (r .steps) (now (image .entry)) (assemble n p (now (unit .entry)) f)
         (now (image .exit)) (assemble (r .next) p (now (unit .entry)) f)) ⌝ }
 {
     let rest = n.rest;
@@ -146,7 +160,7 @@ fn burst_copy(image: &mut [u8], n: Numbers, unit: &[u8; MAX_FRAME], most: usize)
         done: c.off,
         size: c.size,
     };
-    let k = lay(image, rest.last, lane, unit, most);
+    let k = lay(image, blocks, rest, lane, unit, most);
     if k == 0 {
         return no_burst(n);
     }
@@ -157,9 +171,15 @@ fn burst_copy(image: &mut [u8], n: Numbers, unit: &[u8; MAX_FRAME], most: usize)
 }
 
 // Not the frame's last byte: after it the job is over.
-fn burst_append(image: &mut [u8], n: Numbers, frame: &[u8; MAX_FRAME], most: usize) -> Stride
+fn burst_append(
+    image: &mut [u8],
+    blocks: u8,
+    n: Numbers,
+    frame: &[u8; MAX_FRAME],
+    most: usize,
+) -> Stride
     requires { ⌜ n .phase ≡ Busy Append ⌝ }
-    ensures { λ r. ⌜ (r .steps ≤ most) × ((p u : List ℕ) → Bursts (r .steps) (now (image .entry)) (assemble n p u (now (frame .entry)))
+    ensures { λ r. ⌜ (r .steps ≤ most) × ((p u : List ℕ) → Bursts blocks (r .steps) (now (image .entry)) (assemble n p u (now (frame .entry)))
         (now (image .exit)) (assemble (r .next) p u (now (frame .entry)))) ⌝ }
 {
     let rest = n.rest;
@@ -171,7 +191,7 @@ fn burst_append(image: &mut [u8], n: Numbers, frame: &[u8; MAX_FRAME], most: usi
         done: c.index,
         size: job.size,
     };
-    let k = lay(image, rest.last, lane, frame, most);
+    let k = lay(image, blocks, rest, lane, frame, most);
     if k == 0 {
         return no_burst(n);
     }
@@ -184,20 +204,21 @@ fn burst_append(image: &mut [u8], n: Numbers, frame: &[u8; MAX_FRAME], most: usi
 // Steps of a job that are made faster together, at most so many; maybe none.
 pub fn burst(
     image: &mut [u8],
+    blocks: u8,
     n: Numbers,
     unit: &[u8; MAX_FRAME],
     frame: &[u8; MAX_FRAME],
     most: usize,
 ) -> Stride
-    ensures { λ r. ⌜ (r .steps ≤ most) × ((p : List ℕ) → Bursts (r .steps) (now (image .entry))
+    ensures { λ r. ⌜ (r .steps ≤ most) × ((p : List ℕ) → Bursts blocks (r .steps) (now (image .entry))
         (assemble n p (now (unit .entry)) (now (frame .entry))) (now (image .exit))
         (assemble (r .next) p (now (unit .entry)) (now (frame .entry)))) ⌝ }
 {
     let phase = n.phase;
     match phase {
         Phase::Busy(stage) => match stage {
-            Stage::Copy => return burst_copy(image, n, unit, most),
-            Stage::Append => return burst_append(image, n, frame, most),
+            Stage::Copy => return burst_copy(image, blocks, n, unit, most),
+            Stage::Append => return burst_append(image, blocks, n, frame, most),
             _ => return no_burst(n),
         },
         _ => return no_burst(n),

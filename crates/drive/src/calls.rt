@@ -1,9 +1,8 @@
 // What a job's next flash step is, and the record moved on once the caller made it.
 ghost use mathlib.Core.Path.{_≡_};
 ghost use mathlib.Core.List.{List};
-ghost use mathlib.Core.Bool.{true};
-ghost use Prim.Native.Nat.{ℕ, _*_, _<_, _≤_};
-ghost use Rattle.flash.specs.Flash.{blocks, within};
+ghost use Prim.Native.Nat.{ℕ, _+_, _*_, _<_};
+ghost use Rattle.flash.specs.Flash.{blockOf, offsetOf};
 ghost use Rattle.board.specs.declared.Phase.the-variants.{Busy};
 ghost use Rattle.board.specs.Drive.{placed, nextIn, nextOn, madeOn};
 ghost use Rattle.job.specs.Code.{assemble, flashStep, inHandAt, inHand};
@@ -11,7 +10,6 @@ use board::Next;
 use board::Phase;
 use board::Record;
 use board::Stage;
-use flash::BLOCKS;
 use job::Action;
 use job::Outcome;
 use job::records;
@@ -20,71 +18,60 @@ use wire::Refusal;
 
 // ---- what is next
 
-// Where a block starts.
-pub fn base(size: usize, block: u8) -> usize
-    requires { ⌜ block < blocks ⌝ }
-    ensures { λ r. ⌜ (r ≡ block * size) × (r ≤ size) ⌝ }
-{
-    if block == 0 {
-        return 0;
-    }
-    size
-}
-
 // A flash step by its place in the image.
 fn placed(size: usize, a: Action) -> Next
-    requires { ⌜ (within size (flashStep a) ≡ true) × (size ≤ 32768) ⌝ }
+    requires { ⌜ blockOf (flashStep a) * size + offsetOf (flashStep a) < 65536 ⌝ }
     ensures { λ r. ⌜ r ≡ placed size (flashStep a) ⌝ }
 {
     match a {
-        Action::Program(block, at, byte) => return Next::Program(base(size, block) + at, byte),
-        Action::Erase(block) => return Next::Erase(base(size, block), size),
+        Action::Program(block, at, byte) => return Next::Program(block as usize * size + at, byte),
+        Action::Erase(block) => return Next::Erase(block as usize * size, size),
     }
 }
 
-fn next_busy(len: usize, stage: Stage, n: Numbers, byte: u8) -> Next
-    ensures { λ r. ⌜ ((p u f : List ℕ) → byte ≡ inHandAt stage n u f → r ≡ nextIn (Busy stage) len (assemble n p u f)) ⌝ }
+fn next_busy(len: usize, blocks: u8, stage: Stage, n: Numbers, byte: u8) -> Next
+    ensures { λ r. ⌜ ((p u f : List ℕ) → byte ≡ inHandAt stage n u f → r ≡ nextIn blocks (Busy stage) len (assemble n p u f)) ⌝ }
 {
     let rest = n.rest;
     let a = job::next_action(stage, n, byte);
-    if job::within_image(len, rest.last, a) {
-        return placed(len / BLOCKS, a);
+    if job::within_image(len, blocks, rest, a) {
+        return placed(flash::size_of(blocks, len), a);
     }
     Next::Refused(Refusal::Stale)
 }
 
-// By a record's numbers and the byte in hand, on an image of a length.
-pub fn next_of(len: usize, n: Numbers, byte: u8) -> Next
-    ensures { λ r. ⌜ ((p u f : List ℕ) → byte ≡ inHand n u f → r ≡ nextOn len (assemble n p u f)) ⌝ }
+// By a record's numbers and the byte in hand, on an image of a length and so many blocks.
+pub fn next_of(len: usize, blocks: u8, n: Numbers, byte: u8) -> Next
+    ensures { λ r. ⌜ ((p u f : List ℕ) → byte ≡ inHand n u f → r ≡ nextOn blocks len (assemble n p u f)) ⌝ }
 {
     let phase = n.phase;
     match phase {
         Phase::Unmounted => return Next::Nothing,
         Phase::Idle => return Next::Nothing,
-        Phase::Busy(stage) => return next_busy(len, stage, n, byte),
+        Phase::Busy(stage) => return next_busy(len, blocks, stage, n, byte),
     }
 }
 
 // A next call.
-pub fn next(len: usize, board: Record) -> Next
-    ensures { λ r. ⌜ r ≡ nextOn len board ⌝ }
+pub fn next(len: usize, blocks: u8, board: Record) -> Next
+    ensures { λ r. ⌜ r ≡ nextOn blocks len board ⌝ }
 {
     let unit = board.unit;
     let frame = board.frame;
     let n = records::numbers_of(board);
-    next_of(len, n, job::in_hand(n, &unit, &frame))
+    next_of(len, blocks, n, job::in_hand(n, &unit, &frame))
 }
 
 // ---- it is made
 
 // A made call: the image is read as it is now, never written.
-pub fn made(image: &[u8], board: Record) -> Outcome
-    ensures { λ r. ⌜ (r .answer ≡ madeOn (now (image .entry)) board .answer) × (r .board ≡ madeOn (now (image .entry)) board .board) ⌝ }
+pub fn made(image: &[u8], blocks: u8, board: Record) -> Outcome
+    ensures { λ r. ⌜ (r .answer ≡ madeOn blocks (now (image .entry)) board .answer) × (r .board ≡ madeOn blocks (now (image .entry)) board .board) ⌝ }
 {
     let places = board.places;
     let mut unit = board.unit;
     let frame = board.frame;
-    let m = job::made_of(image.len(), records::numbers_of(board));
-    let s = job::load_due(image, m, &places, &mut unit);
+    let m = job::made_of(image.len(), blocks, records::numbers_of(board));
+    let s = job::load_due(image, blocks, m, &places, &mut unit);
     records::give_back(s, places, unit, frame)
 }

@@ -23,6 +23,7 @@ pub struct Ran {
 
 fn run_busy(
     image: &mut [u8],
+    blocks: u8,
     n: Numbers,
     places: &[u16; 256],
     unit: &mut [u8; MAX_FRAME],
@@ -31,13 +32,13 @@ fn run_busy(
 ) -> Ran
     requires { ⌜ answerIn (n .phase) ≡ More ⌝ }
     ensures { λ r. ⌜ Runs r (now (places .entry)) (now (unit .exit)) (now (frame .entry)) (now (image .exit))
-        (runOn most (now (image .entry)) (assemble n (now (places .entry)) (now (unit .entry)) (now (frame .entry)))) ⌝ }
+        (runOn blocks most (now (image .entry)) (assemble n (now (places .entry)) (now (unit .entry)) (now (frame .entry)))) ⌝ }
 {
     let mut m = n;
     let mut steps: usize = 0;
     while steps < most {
-        let b = bursts::burst(image, m, unit, frame, most - steps - 1);
-        let s = job::step_core(image, b.next, places, unit, frame);
+        let b = bursts::burst(image, blocks, m, unit, frame, most - steps - 1);
+        let s = job::step_core(image, blocks, b.next, places, unit, frame);
         let answer = s.answer;
         match answer {
             Answer::More => {
@@ -63,6 +64,7 @@ fn run_busy(
 // A run call by a record's numbers, its arrays lent. Where the job ended the arrays are the caller's to clear.
 pub fn run_core(
     image: &mut [u8],
+    blocks: u8,
     n: Numbers,
     places: &[u16; 256],
     unit: &mut [u8; MAX_FRAME],
@@ -70,7 +72,7 @@ pub fn run_core(
     most: usize,
 ) -> Ran
     ensures { λ r. ⌜ Runs r (now (places .entry)) (now (unit .exit)) (now (frame .entry)) (now (image .exit))
-        (runOn most (now (image .entry)) (assemble n (now (places .entry)) (now (unit .entry)) (now (frame .entry)))) ⌝ }
+        (runOn blocks most (now (image .entry)) (assemble n (now (places .entry)) (now (unit .entry)) (now (frame .entry)))) ⌝ }
 {
     let phase = n.phase;
     match phase {
@@ -82,7 +84,7 @@ pub fn run_core(
             steps: 0,
             stepped: records::staying(Answer::Done, n),
         },
-        Phase::Busy(_) => return run_busy(image, n, places, unit, frame, most),
+        Phase::Busy(_) => return run_busy(image, blocks, n, places, unit, frame, most),
     }
 }
 
@@ -93,14 +95,15 @@ pub struct Driven {
 }
 
 // A run call: step calls that stop at the first answer that isn't more, at most so many.
-pub fn run(image: &mut [u8], most: usize, board: Record) -> Driven
-    ensures { λ r. ⌜ Drives r (now (image .exit)) (runOn most (now (image .entry)) board) ⌝ }
+pub fn run(image: &mut [u8], blocks: u8, most: usize, board: Record) -> Driven
+    ensures { λ r. ⌜ Drives r (now (image .exit)) (runOn blocks most (now (image .entry)) board) ⌝ }
 {
     let places = board.places;
     let mut unit = board.unit;
     let frame = board.frame;
     let ran = run_core(
         image,
+        blocks,
         records::numbers_of(board),
         &places,
         &mut unit,

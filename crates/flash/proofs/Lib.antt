@@ -6,3 +6,4 @@ pub mod Programming
 pub mod Image
 pub mod Offsets
 pub mod Raising
+pub mod Sizes

@@ -1,21 +1,32 @@
 -- The flash, document 01, "What the board holds": an image is blocks of one size; a step changes one byte or one block.
 use mathlib.Core.List.{List, [], _∷_, _++_}
-use mathlib.Core.Bool.{Bool, _&&_}
-use Prim.Native.Nat.{ℕ, suc, _+_, _*_, _/_}
+use mathlib.Core.Bool.{Bool, _&&_, cond}
+use Prim.Native.Nat.{ℕ, zero, suc, _+_, _*_, _/_}
 use lib.Bits.{bitAnd}
-use lib.Dec.{ltb}
+use lib.Dec.{eqb, ltb, leb}
 use lib.ListN.{length, getD, take, drop, set, replicate}
 
--- "It is two halves of S bytes each." Document 01's half is a block here; blocks are known by number.
-abbrev pub blocks : ℕ
-blocks = 2
+-- document 02, K14: "The image is N blocks of S bytes, N given by the caller". Document 01's half is a block here; blocks are known by number.
+abbrev pub maxBlocks : ℕ
+maxBlocks = 16
 
-abbrev pub blockNumbers : List ℕ
-blockNumbers = 0 ∷ 1 ∷ []
+unfoldable pub numbersFrom : ℕ → ℕ → List ℕ
+numbersFrom k zero = []
+numbersFrom k (suc n) = k ∷ numbersFrom (suc k) n
 
--- S; of an odd length the last byte belongs to no block
-abbrev pub sizeOf : List ℕ → ℕ
-sizeOf img = length img / blocks
+abbrev pub blockNumbers : ℕ → List ℕ
+blockNumbers N = numbersFrom 0 N
+
+-- S, of an image of so many bytes; what N doesn't divide is a rest that belongs to no block, and with no block there is no size
+unfoldable pub sizeIn : ℕ → ℕ → ℕ
+sizeIn N n = cond (eqb N 0) 0 (n / N)
+
+abbrev pub sizeOf : ℕ → List ℕ → ℕ
+sizeOf N img = sizeIn N (length img)
+
+-- "if N isn't 2 to 16"
+abbrev pub isCount : ℕ → Bool
+isCount N = leb 2 N && leb N maxBlocks
 
 -- block k of an image of blocks of s bytes
 abbrev pub block : ℕ → ℕ → List ℕ → List ℕ
@@ -57,9 +68,9 @@ abbrev pub offsetOf : Step → ℕ
 offsetOf (program k o v) = o
 offsetOf (erase k) = 0
 
--- the place lies in the image: its block is there and its offset is below the block's size
-abbrev pub within : ℕ → Step → Bool
-within s x = ltb (blockOf x) blocks && ltb (offsetOf x) s
+-- the place lies in an image of N blocks of s bytes: its block is there and its offset is below the block's size
+abbrev pub within : ℕ → ℕ → Step → Bool
+within N s x = isCount N && (ltb (blockOf x) N && ltb (offsetOf x) s)
 
 -- ---- writes to one block
 

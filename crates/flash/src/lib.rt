@@ -3,10 +3,20 @@ ghost use mathlib.Core.Path.{_≡_};
 ghost use Prim.Native.Nat.{_+_, _*_, _-_, _≤_, min};
 ghost use lib.ListN.{length, getD, take, drop, replicate};
 ghost use Rattle.flash.specs.Bytes.{allFF};
-ghost use Rattle.flash.specs.Flash.{sizeOf, block, programAt, eraseBlock};
+ghost use Rattle.flash.specs.Flash.{sizeIn, block, programAt, eraseBlock};
 
-// How many blocks an image has.
-pub const BLOCKS: usize = 2;
+// The most blocks that an image has.
+pub const MAX_BLOCKS: usize = 16;
+
+// The size of a block, where an image has so many; 0 where it has none.
+pub fn size_of(blocks: u8, len: usize) -> usize
+    ensures { λ r. ⌜ r ≡ sizeIn blocks len ⌝ }
+{
+    if blocks == 0 {
+        return 0;
+    }
+    len / blocks as usize
+}
 
 // The byte at a place, 0 past the end.
 pub fn byte_at(bytes: &[u8], i: usize) -> u8
@@ -105,11 +115,10 @@ fn reach(size: usize, start: usize, end: usize) -> usize
     start + size
 }
 
-// A block of the image by its number, as much of it as there is.
-pub fn block_of(image: &[u8], number: u8) -> &[u8]
-    ensures { λ r. ⌜ now r ≡ block (sizeOf (now (image .entry))) number (now (image .entry)) ⌝ }
+// A block of the image by its size and number, as much of it as there is.
+pub fn block_of(image: &[u8], size: usize, number: u8) -> &[u8]
+    ensures { λ r. ⌜ now r ≡ block size number (now (image .entry)) ⌝ }
 {
-    let size = image.len() / BLOCKS;
     let from = start_of(size, number as usize, image.len());
     let to = reach(size, from, image.len());
     &image[from..to]

@@ -6,8 +6,9 @@ ghost use mathlib.Core.Path.{_≡_};
 ghost use Rattle.board.specs.Mount.{mountOn, formatOn};
 ghost use Rattle.board.specs.Queue.{requestOn};
 ghost use Rattle.lent.specs.Layout.{recordSize, recordIn};
-ghost use Rattle.grommetide.specs.Edge.{edgeMount, edgeFormat, edgeRequest, ReadsBack};
-ghost use Rattle.grommetide.specs.Edge.{place, isRead, asRead, edgeRead, broken, edgeFault};
+ghost use Rattle.edge.specs.Edge.{edgeMount, edgeFormat, edgeRequest, ReadsBack};
+ghost use Rattle.edge.specs.Edge.{place, edgeRead, broken, edgeFault};
+use edge::as_read;
 use frame::Host;
 use job::records;
 use lent::RECORD_SIZE;
@@ -15,10 +16,6 @@ pub use next::grommetide_next;
 pub use steps::grommetide_made;
 pub use steps::grommetide_run;
 pub use steps::grommetide_step;
-use wire::Parsed;
-use wire::Request;
-
-const DONE: u8 = 0;
 
 // The answer to a record buffer of another size.
 const WRONG_RECORD: u8 = 254;
@@ -31,16 +28,16 @@ pub extern "C" fn grommetide_record_size() -> usize
 }
 
 #[no_mangle]
-pub extern "C" fn grommetide_mount(image: &[u8], board: &mut [u8]) -> u8
-    ensures { λ r. ⌜ (r ≡ edgeMount (now (image .entry)) (now (board .entry)) .answer)
-        × (now (board .exit) ≡ edgeMount (now (image .entry)) (now (board .entry)) .board) ⌝ }
-    ensures back { λ r. ⌜ ReadsBack (now (board .entry)) (now (board .exit)) (mountOn (now (image .entry)) .board) ⌝ }
+pub extern "C" fn grommetide_mount(image: &[u8], blocks: u8, board: &mut [u8]) -> u8
+    ensures { λ r. ⌜ (r ≡ edgeMount blocks (now (image .entry)) (now (board .entry)) .answer)
+        × (now (board .exit) ≡ edgeMount blocks (now (image .entry)) (now (board .entry)) .board) ⌝ }
+    ensures back { λ r. ⌜ ReadsBack (now (board .entry)) (now (board .exit)) (mountOn blocks (now (image .entry)) .board) ⌝ }
 {
     if board.len() != RECORD_SIZE {
         return WRONG_RECORD;
     }
     let mut places = records::no_places();
-    let s = store::mount_core(image, &mut places);
+    let s = store::mount_core(image, blocks, &mut places);
     let frame = records::no_frame();
     pack::new_record(s, &places, &frame, board)
 }
@@ -48,52 +45,54 @@ pub extern "C" fn grommetide_mount(image: &[u8], board: &mut [u8]) -> u8
 #[no_mangle]
 pub extern "C" fn grommetide_fault(
     image: &[u8],
-    half: &mut usize,
+    blocks: u8,
+    block: &mut usize,
     field: &mut u8,
     place: &mut usize,
 ) -> u8
-    ensures { λ r. ⌜ broken r (now (half .exit)) (now (field .exit)) (now (place .exit)) ≡ edgeFault (now (image .entry)) ⌝ }
+    ensures { λ r. ⌜ broken r (now (block .exit)) (now (field .exit)) (now (place .exit)) ≡ edgeFault blocks (now (image .entry)) ⌝ }
 {
     let mut places = records::no_places();
-    let s = store::mount_core(image, &mut places);
-    let answer = s.answer;
+    let mounted = store::mount_core(image, blocks, &mut places);
+    let answer = mounted.answer;
     let spot = wire::spot_of(answer);
-    *half = spot.half as usize;
+    *block = spot.half as usize;
     *field = spot.field;
     *place = spot.place;
     wire::refused(answer)
 }
 
 #[no_mangle]
-pub extern "C" fn grommetide_format(image: &[u8], board: &mut [u8]) -> u8
-    ensures { λ r. ⌜ (r ≡ edgeFormat (now (image .entry)) (now (board .entry)) .answer)
-        × (now (board .exit) ≡ edgeFormat (now (image .entry)) (now (board .entry)) .board) ⌝ }
-    ensures back { λ r. ⌜ ReadsBack (now (board .entry)) (now (board .exit)) (formatOn (now (image .entry)) .board) ⌝ }
+pub extern "C" fn grommetide_format(image: &[u8], blocks: u8, board: &mut [u8]) -> u8
+    ensures { λ r. ⌜ (r ≡ edgeFormat blocks (now (image .entry)) (now (board .entry)) .answer)
+        × (now (board .exit) ≡ edgeFormat blocks (now (image .entry)) (now (board .entry)) .board) ⌝ }
+    ensures back { λ r. ⌜ ReadsBack (now (board .entry)) (now (board .exit)) (formatOn blocks (now (image .entry)) .board) ⌝ }
 {
     if board.len() != RECORD_SIZE {
         return WRONG_RECORD;
     }
     let places = records::no_places();
     let frame = records::no_frame();
-    pack::new_record(store::format_core(image), &places, &frame, board)
+    pack::new_record(store::format_core(image, blocks), &places, &frame, board)
 }
 
 #[no_mangle]
 pub extern "C" fn grommetide_request(
     image: &[u8],
+    blocks: u8,
     board: &mut [u8],
     host: u8,
     message: &[u8],
     reply: &mut [u8],
 ) -> u8
     ensures { λ r. ⌜ (r
-        ≡ edgeRequest (now (image .entry)) (now (board .entry)) host (now (message .entry)) (now (reply .entry)) .answer)
+        ≡ edgeRequest blocks (now (image .entry)) (now (board .entry)) host (now (message .entry)) (now (reply .entry)) .answer)
         × (now (board .exit)
-        ≡ edgeRequest (now (image .entry)) (now (board .entry)) host (now (message .entry)) (now (reply .entry)) .board)
+        ≡ edgeRequest blocks (now (image .entry)) (now (board .entry)) host (now (message .entry)) (now (reply .entry)) .board)
         × (now (reply .exit)
-        ≡ edgeRequest (now (image .entry)) (now (board .entry)) host (now (message .entry)) (now (reply .entry)) .reply) ⌝ }
+        ≡ edgeRequest blocks (now (image .entry)) (now (board .entry)) host (now (message .entry)) (now (reply .entry)) .reply) ⌝ }
     ensures back { λ r. ⌜ ReadsBack (now (board .entry)) (now (board .exit))
-        (requestOn (now (image .entry)) (recordIn (now (board .entry))) (now (reply .entry))
+        (requestOn blocks (now (image .entry)) (recordIn (now (board .entry))) (now (reply .entry))
         (record { 0 = host }) (now (message .entry)) .board) ⌝ }
 {
     if board.len() != RECORD_SIZE {
@@ -105,6 +104,7 @@ pub extern "C" fn grommetide_request(
     let mut frame = records::no_frame();
     let s = queue::request_core(
         image,
+        blocks,
         phase,
         rest,
         Host(host),
@@ -116,35 +116,10 @@ pub extern "C" fn grommetide_request(
     pack::begun(s, &places, &frame, board)
 }
 
-fn is_read(parsed: Parsed) -> bool
-    ensures { λ r. ⌜ r ≡ isRead parsed ⌝ }
-{
-    match parsed {
-        Parsed::Malformed => false,
-        Parsed::Is(ask) => match ask {
-            Request::Put(_) => false,
-            Request::Delete(_) => false,
-            Request::Commit => false,
-            Request::Abort => false,
-            Request::Read(_) => true,
-            Request::Log(_) => false,
-        },
-    }
-}
-
-// A message that is no well-formed read counts as an empty one.
-fn as_read(message: &[u8]) -> &[u8]
-    ensures { λ r. ⌜ now r ≡ asRead (now (message .entry)) ⌝ }
-{
-    if is_read(wire::parse(message)) {
-        return message;
-    }
-    &message[..0]
-}
-
 #[no_mangle]
 pub extern "C" fn grommetide_read(
     image: &[u8],
+    blocks: u8,
     board: &[u8],
     host: u8,
     message: &[u8],
@@ -152,14 +127,14 @@ pub extern "C" fn grommetide_read(
     len: &mut usize,
 ) -> u8
     ensures { λ r. ⌜ place r (now (at .exit)) (now (len .exit))
-        ≡ edgeRead (now (image .entry)) (now (board .entry)) host (now (message .entry)) (now (at .entry)) (now (len .entry)) ⌝ }
+        ≡ edgeRead blocks (now (image .entry)) (now (board .entry)) host (now (message .entry)) (now (at .entry)) (now (len .entry)) ⌝ }
 {
     if board.len() != RECORD_SIZE {
         return WRONG_RECORD;
     }
     let phase = unpack::phase_of(board);
     let rest = unpack::rest_of(board);
-    let found = queue::find(image, phase, rest, Host(host), as_read(message));
+    let found = queue::find(image, blocks, phase, rest, Host(host), as_read(message));
     *at = found.at;
     *len = found.size;
     let answer = found.answer;

@@ -48,8 +48,8 @@ use denote.Triple.Walked.{Stays, AllGo, walk-meets}
 use Rattle.wire.specs.declared.Answer.{Answer}
 use Rattle.board.specs.declared.Record.{Record}
 use Rattle.job.specs.declared.Outcome.{Outcome}
-use Rattle.wire.proofs.Answer as N
-use Rattle.wire.proofs.Answer.Laws as N′
+use Rattle.wire.proofs.Answer as Ans
+use Rattle.wire.proofs.Answer.Laws as Ans′
 use Rattle.board.proofs.Record as B
 use Rattle.board.proofs.Record.Laws as B′
 use Rattle.job.proofs.Outcome as O
@@ -67,7 +67,7 @@ abbrev pub outcome : Outcome → Val
 outcome r = LL.val O.the-type O′.the-laws r
 
 abbrev pub answer : Answer → Val
-answer n = only (EL.vals N.the-type N′.the-laws n)
+answer n = only (EL.vals Ans.the-type Ans′.the-laws n)
 
 -- a record, an outcome, an answer that the machine can hold
 abbrev pub IsBoard : Record → Type 0
@@ -77,7 +77,7 @@ abbrev pub IsOutcome : Outcome → Type 0
 IsOutcome r = Is O.the-row r (outcome r ∷ [])
 
 abbrev pub IsAnswer : Answer → Type 0
-IsAnswer n = Is N.the-row n (answer n ∷ [])
+IsAnswer n = Is Ans.the-row n (answer n ∷ [])
 
 -- whoever holds an outcome holds its parts, and the parts make it
 board-of : (r : Outcome) {w : Val} → Is O.the-row r (w ∷ []) → IsBoard (r .board)
@@ -86,9 +86,9 @@ board-of r is = LL.owed O.the-type O′.the-laws r _ is .1 .0
 answer-of : (r : Outcome) {w : Val} → Is O.the-row r (w ∷ []) → IsAnswer (r .answer)
 answer-of r is = LL.owed O.the-type O′.the-laws r _ is .0
 
-pub outcome-of : (r : Outcome) {w : Val} → Is N.the-row (r .answer) (w ∷ []) → IsBoard (r .board) → IsOutcome r
+pub outcome-of : (r : Outcome) {w : Val} → Is Ans.the-row (r .answer) (w ∷ []) → IsBoard (r .board) → IsOutcome r
 outcome-of r is g = LL.owes O.the-type O′.the-laws r
-    (subst (Is N.the-row (r .answer)) (EL.tells N.the-type N′.the-laws (r .answer) _ is) is, (g, tt))
+    (subst (Is Ans.the-row (r .answer)) (EL.tells Ans.the-type Ans′.the-laws (r .answer) _ is) is, (g, tt))
 
 module _ {M : Type 1} {𝓤 : URA M} {H : Heap 𝓤} {A : Atoms 𝓤} (W : Given 𝓤 H A) where
   pub board-typed : (h : Record) → IsBoard h → T (hasTy B′.mir (board h)) × WT (board h)
@@ -97,8 +97,8 @@ module _ {M : Type 1} {𝓤 : URA M} {H : Heap 𝓤} {A : Atoms 𝓤} (W : Given
   pub outcome-typed : (r : Outcome) {w : Val} → Is O.the-row r (w ∷ []) → T (hasTy O′.mir w) × WT w
   outcome-typed r is = LL.lawful O.the-type O′.the-laws 𝓤 H A W .typed r _ is .0
 
-  pub answer-typed : (n : Answer) {w : Val} → Is N.the-row n (w ∷ []) → T (hasTy N′.mir w) × WT w
-  answer-typed n is = EL.lawful N.the-type N′.the-laws 𝓤 H A W tt .typed n _ is .0
+  pub answer-typed : (n : Answer) {w : Val} → Is Ans.the-row n (w ∷ []) → T (hasTy Ans′.mir w) × WT w
+  answer-typed n is = EL.lawful Ans.the-type Ans′.the-laws 𝓤 H A W tt .typed n _ is .0
 
 -- ---- the record out of its borrow, and back
 
@@ -179,48 +179,48 @@ module _ {M : Type 1} {𝓤 : URA M} {H : Heap 𝓤} {A : Atoms 𝓤} {K : Type 
 
 module _ {M : Type 1} {𝓤 : URA M} {H : Heap 𝓤} {A : Atoms 𝓤} {K : Type 0} {W : Given 𝓤 H A} {Γ : List (Item 𝓤)} {E : Wp.Env 𝓤 H}
     {C : Calls 𝓤 H} {Λ : Loops 𝓤 H} {p : Post 𝓤 H} where
-  pub stored : K → {i l l₂ l₀ : ℕ} {ρ : Ty} {rest : Body} {κ : Lft} {q : Share} {γ : GName} {u v : Gv} {x : Val} {w : Val} (r : Outcome)
+  pub stored : K → {i l l₃ l₀ : ℕ} {ρ : Ty} {rest : Body} {κ : Lft} {q : Share} {γ : GName} {u v : Gv} {x : Val} {w : Val} (r : Outcome)
       (b o : ℕ)
-      → spotOf 𝓤 H E i ≡ (O′.mir, l, 0) → spotOf 𝓤 H E 2 ≡ (ρ, l₂, 0) → spotOf 𝓤 H E 0 ≡ (N′.mir, l₀, 0)
+      → spotOf 𝓤 H E i ≡ (O′.mir, l, 0) → spotOf 𝓤 H E 3 ≡ (ρ, l₃, 0) → spotOf 𝓤 H E 0 ≡ (Ans′.mir, l₀, 0)
       → (IsAnswer (r .answer) → Seq K W
       (‵ (fobs γ (R .coded .code (r .board))) ∷ ‵ (fbor κ (Kept (mem R) b o γ)) ∷ ‵ (flft κ q) ∷
-      ‵ (fat fullShare O′.mir l 0 (outcome r)) ∷ ‵ (fat fullShare ρ l₂ 0 (vptr b o)) ∷ ‵ (fat fullShare N′.mir l₀ 0 (answer (r .answer))) ∷
+      ‵ (fat fullShare O′.mir l 0 (outcome r)) ∷ ‵ (fat fullShare ρ l₃ 0 (vptr b o)) ∷ ‵ (fat fullShare Ans′.mir l₀ 0 (answer (r .answer))) ∷
       Γ)
       (runs C Λ E rest p))
       → Seq K W
       (‵ (O.the-row .own r (w ∷ [])) ∷ ‵ (cellAt fullShare (R .mir) (x ∷ []) b o) ∷ ‵ (fobor κ q (Kept (mem R) b o γ)) ∷ ‵ (fobs γ u) ∷
-      ‵ (fauth γ v) ∷ ‵ (froom O′.mir l 0) ∷ ‵ (fat fullShare ρ l₂ 0 (vptr b o)) ∷ ‵ (froom N′.mir l₀ 0) ∷ Γ)
+      ‵ (fauth γ v) ∷ ‵ (froom O′.mir l 0) ∷ ‵ (fat fullShare ρ l₃ 0 (vptr b o)) ∷ ‵ (froom Ans′.mir l₀ 0) ∷ Γ)
       (lands C Λ E (place i []) w
-      (seq (assign (place 2 (deref B′.mir ∷ [])) (rvOpd (copy (place i (field 1 ∷ [])))))
+      (seq (assign (place 3 (deref B′.mir ∷ [])) (rvOpd (copy (place i (field 1 ∷ [])))))
       (seq (assign (place 0 []) (rvOpd (copy (place i (field 0 ∷ []))))) rest)) p)
-  stored t {l = l} {w = w} r b o at-i at-2 at-0 k =
+  stored t {l = l} {w = w} r b o at-i at-3 at-0 k =
       peeks t O.the-row (Is O.the-row) (shows 𝓤 H A O.the-row) r (w ∷ []) (λ is. drop t $
       land t (spot t at-i (stop t)) (init t 4 refl (outcome-typed W r is)) $
       rewrite t 4 (λ (z : Val). ‵ (fat fullShare O′.mir l 0 z)) (ap only (LL.tells O.the-type O′.the-laws r _ is)) refl $
       assigns t (of-opd t (load t (spot t at-i (fld t refl (stop t))) (look-in t 4 (sub t 1 refl (whole t)))))
-      (spot t at-2 (hop t (look t 5 refl) (stop t))) (store-raw t 0 refl (board-typed W (r .board) (board-of r is))) $
+      (spot t at-3 (hop t (look t 5 refl) (stop t))) (store-raw t 0 refl (board-typed W (r .board) (board-of r is))) $
       assigns t (of-opd t (load t (spot t at-i (fld t refl (stop t))) (look-in t 4 (sub t 0 refl (whole t))))) (spot t at-0 (stop t))
       (init t 6 refl (answer-typed W (r .answer) (answer-of r is))) $
       given-back t tt (r .board) (board-of r is) b o $ k (answer-of r is))
 
   -- the answer of a call that was lent the local j is back in the local i: the record is taken back, and the two are the outcome
   pub gathered : K → {i j k l l′ lₖ l₀ : ℕ} {rest : Body} {w : Val} (ν : ℕ) (δ : GName) (r : Outcome)
-      → spotOf 𝓤 H E i ≡ (N′.mir, l, 0) → spotOf 𝓤 H E j ≡ (B′.mir, l′, 0) → spotOf 𝓤 H E k ≡ (B′.mir, lₖ, 0)
+      → spotOf 𝓤 H E i ≡ (Ans′.mir, l, 0) → spotOf 𝓤 H E j ≡ (B′.mir, l′, 0) → spotOf 𝓤 H E k ≡ (B′.mir, lₖ, 0)
       → spotOf 𝓤 H E 0 ≡ (O′.mir, l₀, 0)
       → (IsOutcome r → Seq K W
-      (‵ (fat fullShare O′.mir l₀ 0 (outcome r)) ∷ ‵ (fat fullShare N′.mir l 0 (answer (r .answer))) ∷
+      (‵ (fat fullShare O′.mir l₀ 0 (outcome r)) ∷ ‵ (fat fullShare Ans′.mir l 0 (answer (r .answer))) ∷
       ‵ (fat fullShare B′.mir lₖ 0 (board (r .board))) ∷ ‵ (fat fullShare B′.mir l′ 0 (board (r .board))) ∷ Γ)
       (runs C Λ E rest p))
       → Seq K W
-      (‵ (N.the-row .own (r .answer) (w ∷ [])) ∷ ‵ (froom N′.mir l 0) ∷ ‵ (flft (ν ∷ []) fullShare) ∷
+      (‵ (Ans.the-row .own (r .answer) (w ∷ [])) ∷ ‵ (froom Ans′.mir l 0) ∷ ‵ (flft (ν ∷ []) fullShare) ∷
       ‵ (flent (ν ∷ []) (Kept (mem R) l′ 0 δ)) ∷ ‵ (fres δ (R .coded .code (r .board))) ∷ ‵ (froom B′.mir lₖ 0) ∷ ‵ (froom O′.mir l₀ 0) ∷ Γ)
       (lands C Λ E (place i []) w
       (seq (assign (place k []) (rvOpd (copy (place j []))))
       (seq (assign (place 0 []) (aggregate (copy (place i []) ∷ copy (place k []) ∷ []))) rest)) p)
   gathered t {l = l} {l′ = l′} {w = w} ν δ r at-i at-j at-k at-0 go =
-      peeks t N.the-row (Is N.the-row) (shows 𝓤 H A N.the-row) (r .answer) (w ∷ []) (λ is. drop t $
+      peeks t Ans.the-row (Is Ans.the-row) (shows 𝓤 H A Ans.the-row) (r .answer) (w ∷ []) (λ is. drop t $
       land t (spot t at-i (stop t)) (init t 0 refl (answer-typed W (r .answer) is)) $
-      rewrite t 0 (λ (z : Val). ‵ (fat fullShare N′.mir l 0 z)) (ap only (EL.tells N.the-type N′.the-laws (r .answer) _ is)) refl $
+      rewrite t 0 (λ (z : Val). ‵ (fat fullShare Ans′.mir l 0 z)) (ap only (EL.tells Ans.the-type Ans′.the-laws (r .answer) _ is)) refl $
       move t (1 ∷ 2 ∷ 3 ∷ []) $ back t tt ν δ (r .board) l′ (λ g.
       assigns t (of-opd t (load t (spot t at-j (stop t)) (look t 0 refl))) (spot t at-k (stop t))
       (init t 2 refl (board-typed W (r .board) g)) $

@@ -9,12 +9,12 @@ use job::Outcome;
 use wire::Answer;
 
 // A step call.
-pub fn step_in_place(image: &mut [u8], board: &mut Record) -> Answer
-    ensures { λ r. ⌜ (now (image .exit) ≡ stepOn (now (image .entry)) (now (board .entry)) .image)
-        × (r ≡ stepOn (now (image .entry)) (now (board .entry)) .answer)
-        × (now (board .exit) ≡ stepOn (now (image .entry)) (now (board .entry)) .board) ⌝ }
+pub fn step_in_place(image: &mut [u8], blocks: u8, board: &mut Record) -> Answer
+    ensures { λ r. ⌜ (now (image .exit) ≡ stepOn blocks (now (image .entry)) (now (board .entry)) .image)
+        × (r ≡ stepOn blocks (now (image .entry)) (now (board .entry)) .answer)
+        × (now (board .exit) ≡ stepOn blocks (now (image .entry)) (now (board .entry)) .board) ⌝ }
 {
-    let out = job::step(image, *board);
+    let out = job::step(image, blocks, *board);
     *board = out.board;
     out.answer
 }
@@ -22,46 +22,47 @@ pub fn step_in_place(image: &mut [u8], board: &mut Record) -> Answer
 // A queue request.
 pub fn request_in_place(
     image: &[u8],
+    blocks: u8,
     board: &mut Record,
     host: Host,
     message: &[u8],
     reply: &mut [u8],
 ) -> Answer
-    ensures { λ r. ⌜ (r ≡ requestOn (now (image .entry)) (now (board .entry)) (now (reply .entry)) host (now (message .entry)) .answer)
-        × (now (board .exit) ≡ requestOn (now (image .entry)) (now (board .entry)) (now (reply .entry)) host (now (message .entry)) .board)
-        × (now (reply .exit) ≡ requestOn (now (image .entry)) (now (board .entry)) (now (reply .entry)) host (now (message .entry)) .reply) ⌝ }
+    ensures { λ r. ⌜ (r ≡ requestOn blocks (now (image .entry)) (now (board .entry)) (now (reply .entry)) host (now (message .entry)) .answer)
+        × (now (board .exit) ≡ requestOn blocks (now (image .entry)) (now (board .entry)) (now (reply .entry)) host (now (message .entry)) .board)
+        × (now (reply .exit) ≡ requestOn blocks (now (image .entry)) (now (board .entry)) (now (reply .entry)) host (now (message .entry)) .reply) ⌝ }
 {
-    let out = queue::request(image, *board, host, message, reply);
+    let out = queue::request(image, blocks, *board, host, message, reply);
     *board = out.board;
     out.answer
 }
 
 // A mount: what stood in the record is lost, also where the mount is refused.
-pub fn mount_in_place(image: &[u8], board: &mut Record) -> Answer
-    ensures { λ r. ⌜ (r ≡ mountOn (now (image .entry)) .answer) × (now (board .exit) ≡ mountOn (now (image .entry)) .board) ⌝ }
+pub fn mount_in_place(image: &[u8], blocks: u8, board: &mut Record) -> Answer
+    ensures { λ r. ⌜ (r ≡ mountOn blocks (now (image .entry)) .answer) × (now (board .exit) ≡ mountOn blocks (now (image .entry)) .board) ⌝ }
 {
-    let out = store::mount(image);
+    let out = store::mount(image, blocks);
     *board = out.board;
     out.answer
 }
 
 // A format, likewise.
-pub fn format_in_place(image: &[u8], board: &mut Record) -> Answer
-    ensures { λ r. ⌜ (r ≡ formatOn (now (image .entry)) .answer) × (now (board .exit) ≡ formatOn (now (image .entry)) .board) ⌝ }
+pub fn format_in_place(image: &[u8], blocks: u8, board: &mut Record) -> Answer
+    ensures { λ r. ⌜ (r ≡ formatOn blocks (now (image .entry)) .answer) × (now (board .exit) ≡ formatOn blocks (now (image .entry)) .board) ⌝ }
 {
-    let out = store::format(image);
+    let out = store::format(image, blocks);
     *board = out.board;
     out.answer
 }
 
 // ---- for callers that hold the record by value: the record stands in a local, which is lent
 
-pub fn step_lent(image: &mut [u8], board: Record) -> Outcome
-    ensures { λ r. ⌜ (now (image .exit) ≡ stepOn (now (image .entry)) board .image)
-        × (r .answer ≡ stepOn (now (image .entry)) board .answer) × (r .board ≡ stepOn (now (image .entry)) board .board) ⌝ }
+pub fn step_lent(image: &mut [u8], blocks: u8, board: Record) -> Outcome
+    ensures { λ r. ⌜ (now (image .exit) ≡ stepOn blocks (now (image .entry)) board .image)
+        × (r .answer ≡ stepOn blocks (now (image .entry)) board .answer) × (r .board ≡ stepOn blocks (now (image .entry)) board .board) ⌝ }
 {
     let mut held = board;
-    let answer = step_in_place(image, &mut held);
+    let answer = step_in_place(image, blocks, &mut held);
     Outcome {
         answer: answer,
         board: held,
@@ -70,17 +71,18 @@ pub fn step_lent(image: &mut [u8], board: Record) -> Outcome
 
 pub fn request_lent(
     image: &[u8],
+    blocks: u8,
     board: Record,
     host: Host,
     message: &[u8],
     reply: &mut [u8],
 ) -> Outcome
-    ensures { λ r. ⌜ (r .answer ≡ requestOn (now (image .entry)) board (now (reply .entry)) host (now (message .entry)) .answer)
-        × (r .board ≡ requestOn (now (image .entry)) board (now (reply .entry)) host (now (message .entry)) .board)
-        × (now (reply .exit) ≡ requestOn (now (image .entry)) board (now (reply .entry)) host (now (message .entry)) .reply) ⌝ }
+    ensures { λ r. ⌜ (r .answer ≡ requestOn blocks (now (image .entry)) board (now (reply .entry)) host (now (message .entry)) .answer)
+        × (r .board ≡ requestOn blocks (now (image .entry)) board (now (reply .entry)) host (now (message .entry)) .board)
+        × (now (reply .exit) ≡ requestOn blocks (now (image .entry)) board (now (reply .entry)) host (now (message .entry)) .reply) ⌝ }
 {
     let mut kept = board;
-    let answer = request_in_place(image, &mut kept, host, message, reply);
+    let answer = request_in_place(image, blocks, &mut kept, host, message, reply);
     Outcome {
         answer: answer,
         board: kept,

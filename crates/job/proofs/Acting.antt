@@ -1,41 +1,68 @@
 -- A flash step by its block and offset; the writes that open and seal a block, by number.
-use mathlib.Core.Path.{_≡_, refl, sym, ap, _∙_}
+use mathlib.Core.Path.{_≡_, refl, sym, ap, subst}
 use mathlib.Core.List.{List}
-use mathlib.Core.Bool.{Bool, true, false, cond}
-use Prim.Native.Nat.{ℕ, zero, suc, _+_, _*_, _≤_, _<_}
+use mathlib.Core.Bool.{Bool, true, false, _&&_, cond}
+use Prim.Native.Nat.{ℕ, zero, suc, _+_, _*_, _<_, _≤_}
 use native.Mathlib.Omega.{arith}
-use native.Mathlib.Nat.{zero-mul, one-mul}
-use lib.Dec.{ltb}
-use borrow.Author.Tests.{le-ltb}
-use Rattle.flash.specs.Flash.{Step, apply, sizeOf, within, blockOf, offsetOf, blocks, write, writes}
-use Rattle.flash.proofs.Cases.{and-no-left, and-no-right}
+use native.Mathlib.Nat.{mul-le-mul-right}
+use lib.Dec.{eqb, ltb}
+use borrow.Author.Tests.{eqb-true, ltb-true}
+use Rattle.flash.specs.Flash.{Step, apply, maxBlocks, isCount, sizeIn, sizeOf, within, blockOf, offsetOf, write, writes}
+use Rattle.flash.proofs.Cases.{and-left, and-right, between}
+use Rattle.flash.proofs.Image.{blocks-le}
+use Rattle.flash.proofs.Sizes.{size-within, size-half}
 use Rattle.journal.specs.Block.{openWrite, sealWrite, stateAt, inTransfer, validData}
-use Rattle.job.specs.Code.{did}
+use Rattle.board.specs.declared.Rest.{Rest}
+use Rattle.board.specs.Record.{idle}
+use Rattle.board.specs.Step.{sameShape}
+use Rattle.job.specs.Code.{takes, did}
 
 -- ---- a step's place
 
-pub no-block : (s : ℕ) (x : Step) → blocks ≤ blockOf x → within s x ≡ false
-no-block s x h = and-no-left (ltb (blockOf x) blocks) (ltb (offsetOf x) s) (le-ltb _ _ h)
+pub in-parts : (N s : ℕ) (x : Step) → within N s x ≡ true → (isCount N ≡ true) × (blockOf x < N) × (offsetOf x < s)
+in-parts N s x e =
+    let t = and-right (isCount N) (ltb (blockOf x) N && ltb (offsetOf x) s) e in (
+      and-left (isCount N) (ltb (blockOf x) N && ltb (offsetOf x) s) e,
+      ltb-true (blockOf x) N (and-left (ltb (blockOf x) N) (ltb (offsetOf x) s) t),
+      ltb-true (offsetOf x) s (and-right (ltb (blockOf x) N) (ltb (offsetOf x) s) t),
+    )
 
-pub no-offset : (s : ℕ) (x : Step) → s ≤ offsetOf x → within s x ≡ false
-no-offset s x h = and-no-right (ltb (blockOf x) blocks) (ltb (offsetOf x) s) (le-ltb _ _ h)
+-- the record's image, and a step's place in it
+pub same-parts : (N n : ℕ) (z : Rest) → sameShape N n (idle z) ≡ true → (n ≡ suc (z .last)) × (N ≡ z .blocks)
+same-parts N n z e = (
+  eqb-true n (suc (z .last)) (and-left (eqb n (suc (z .last))) (eqb N (z .blocks)) e),
+  eqb-true N (z .blocks) (and-right (eqb n (suc (z .last))) (eqb N (z .blocks)) e),
+)
 
-pub did-not : (x : Step) (img : List ℕ) → within (sizeOf img) x ≡ false → (false ≡ within (sizeOf img) x) × (img ≡ did x img)
+pub takes-parts : (N n : ℕ) (z : Rest) (x : Step) → takes N n z x ≡ true → (n ≡ suc (z .last)) × (within N (sizeIn N n) x ≡ true)
+takes-parts N n z x e = (
+  same-parts N n z (and-left (sameShape N n (idle z)) (within N (sizeIn N n) x) e) .0,
+  and-right (sameShape N n (idle z)) (within N (sizeIn N n) x) e,
+)
+
+-- an offset up to a block's end is at most the image's length
+pub place-most : (N n s k o : ℕ) → s ≡ sizeIn N n → k < N → o ≤ s → k * s + o ≤ n
+place-most N n s k o e h l = omega (arith, blocks-le s k N h, subst (λ (z : ℕ). N * z ≤ n) (sym e) (size-within N n))
+
+pub place-low : (N n s : ℕ) (x : Step) → s ≡ sizeIn N n → within N s x ≡ true → blockOf x * s + offsetOf x < n
+place-low N n s x e t =
+    let w = in-parts N s x t in
+    let l : suc (offsetOf x) ≤ s = omega (arith, w .2) in
+    omega (arith, place-most N n s (blockOf x) (suc (offsetOf x)) e (w .1) l)
+
+-- a block is at most half of an image
+pub size-low : (N n : ℕ) → isCount N ≡ true → 2 * sizeIn N n ≤ n
+size-low N n c = size-half N n (between 2 N maxBlocks c .0)
+
+pub did-not : (N : ℕ) (x : Step) (img : List ℕ) → within N (sizeOf N img) x ≡ false
+    → (false ≡ within N (sizeOf N img) x) × (img ≡ did N x img)
 unfolding did
-did-not x img e = (sym e, sym (ap (λ (b : Bool). cond b (apply (sizeOf img) x img) img) e))
+did-not N x img e = (sym e, sym (ap (λ (b : Bool). cond b (apply (sizeOf N img) x img) img) e))
 
-pub did-it : (x : Step) (img : List ℕ) → within (sizeOf img) x ≡ true → (true ≡ within (sizeOf img) x) × (apply (sizeOf img) x img ≡ did x img)
+pub did-it : (N : ℕ) (x : Step) (img : List ℕ) → within N (sizeOf N img) x ≡ true
+    → (true ≡ within N (sizeOf N img) x) × (apply (sizeOf N img) x img ≡ did N x img)
 unfolding did
-did-it x img e = (sym e, sym (ap (λ (b : Bool). cond b (apply (sizeOf img) x img) img) e))
-
-pub in-first : (k s o : ℕ) → k ≡ 0 → o ≡ k * s + o
-in-first k s o e = let z : k * s ≡ 0 = ap (λ (m : ℕ). m * s) e ∙ zero-mul s in omega arith
-
-pub in-second : (k s o : ℕ) → k < 2 → (k ≡ 0 → ⊥) → s + o ≡ k * s + o
-in-second k s o h n =
-    let e : k ≡ 1 = omega arith in
-    let z : k * s ≡ s = ap (λ (m : ℕ). m * s) e ∙ one-mul s in
-    omega arith
+did-it N x img e = (sym e, sym (ap (λ (b : Bool). cond b (apply (sizeOf N img) x img) img) e))
 
 -- ---- the writes of a header
 

@@ -1,11 +1,11 @@
 -- What the code's parts do: a record's numbers by themselves, its arrays apart.
 use mathlib.Core.Path.{_≡_}
 use mathlib.Core.List.{List}
-use mathlib.Core.Bool.{Bool, true, false, cond}
+use mathlib.Core.Bool.{Bool, true, false, _&&_, cond}
 use Prim.Native.Nat.{ℕ, suc, _+_}
 use lib.Dec.{ltb}
 use lib.ListN.{getD}
-use Rattle.flash.specs.Flash.{Step, program, erase, apply, sizeOf, within, writeStep}
+use Rattle.flash.specs.Flash.{Step, program, erase, apply, sizeIn, sizeOf, within, writeStep}
 use Rattle.journal.specs.Block.{openWrite, sealWrite}
 use Rattle.wire.specs.declared.Answer.{Answer}
 use Rattle.wire.specs.declared.Answer.the-variants.{Done, More}
@@ -17,8 +17,8 @@ use Rattle.board.specs.declared.Job.{Job}
 use Rattle.board.specs.declared.Cursor.{Cursor}
 use Rattle.board.specs.declared.Record.{Record}
 use Rattle.board.specs.declared.Rest.{Rest}
-use Rattle.board.specs.Record.{noPlaces, noFrame, noJob, cursor, rest, restOf, answerOf, Out}
-use Rattle.board.specs.Step.{first, enterCopy}
+use Rattle.board.specs.Record.{noPlaces, noFrame, noJob, cursor, rest, restOf, idle, answerOf, Out}
+use Rattle.board.specs.Step.{first, enterCopy, sameShape}
 use Rattle.job.specs.declared.Outcome.{Outcome}
 use Rattle.job.specs.declared.records.Numbers.{Numbers}
 use Rattle.job.specs.declared.records.Stepped.{Stepped}
@@ -35,6 +35,7 @@ abbrev pub assemble : Numbers → List ℕ → List ℕ → List ℕ → Record
 assemble n places unit frame =
     record {
       phase = n .phase;
+      blocks = n .rest .blocks;
       last = n .rest .last;
       block = n .rest .block;
       end = n .rest .end;
@@ -50,6 +51,7 @@ abbrev pub placed : Phase → Rest → Record → Record
 placed p z r =
     record {
       phase = p;
+      blocks = z .blocks;
       last = z .last;
       block = z .block;
       end = z .end;
@@ -111,7 +113,7 @@ goAppend n = cond (ltb 0 (n .job .size)) (going Append (first (n .cursor)) n) (o
 -- the block that was made is the current one
 abbrev pub landedOn : Numbers → Numbers
 landedOn n =
-    record { phase = n .phase; rest = rest (n .rest .last) (n .job .target) (n .cursor .at); job = n .job; cursor = n .cursor }
+    record { phase = n .phase; rest = rest (n .rest .blocks) (n .rest .last) (n .job .target) (n .cursor .at); job = n .job; cursor = n .cursor }
 
 unfoldable pub goDrop : Numbers → Stepped
 goDrop n = cond (n .job .drops) (going Drop (first (n .cursor)) n) (goAppend (landedOn n))
@@ -146,9 +148,13 @@ actionBy Seal n b = writeStep (n .job .target) (sealWrite (n .job .time) (n .cur
 actionBy Drop n b = erase (n .rest .block)
 actionBy Append n b = program (n .rest .block) (n .rest .end + n .cursor .index) b
 
--- a step done where its place lies in the image
-unfoldable pub did : Step → List ℕ → List ℕ
-did x img = cond (within (sizeOf img) x) (apply (sizeOf img) x img) img
+-- an image of N blocks and n bytes is the record's, by where that stands, and a step's place lies in it
+abbrev pub takes : ℕ → ℕ → Rest → Step → Bool
+takes N n z x = sameShape N n (idle z) && within N (sizeIn N n) x
+
+-- a step done where its place lies in the image of N blocks
+unfoldable pub did : ℕ → Step → List ℕ → List ℕ
+did N x img = cond (within N (sizeOf N img) x) (apply (sizeOf N img) x img) img
 
 -- the offset of a stage's steps that is counted up
 abbrev pub offsetFor : Stage → Numbers → ℕ
@@ -186,12 +192,12 @@ abbrev pub due : Numbers → Moved
 due n = record { stepped = staying More n; loads = true }
 
 -- the record that it reaches once the frame that is due is loaded, read from the image
-abbrev pub reachedIf : Bool → List ℕ → Stepped → List ℕ → List ℕ → List ℕ → Record
-reachedIf true img s places unit frame = enterCopy img (assemble (s .next) places unit frame)
-reachedIf false img s places unit frame = leaves s places unit frame
+abbrev pub reachedIf : ℕ → Bool → List ℕ → Stepped → List ℕ → List ℕ → List ℕ → Record
+reachedIf N true img s places unit frame = enterCopy N img (assemble (s .next) places unit frame)
+reachedIf N false img s places unit frame = leaves s places unit frame
 
-abbrev pub reached : Moved → List ℕ → List ℕ → List ℕ → List ℕ → Record
-reached m img places unit frame = reachedIf (m .loads) img (m .stepped) places unit frame
+abbrev pub reached : ℕ → Moved → List ℕ → List ℕ → List ℕ → List ℕ → Record
+reached N m img places unit frame = reachedIf N (m .loads) img (m .stepped) places unit frame
 
 -- with a frame loaded, or none left to load, the job goes on
 abbrev pub answeredIf : Bool → Stepped → Answer
@@ -201,9 +207,9 @@ answeredIf false s = s .answer
 abbrev pub answered : Moved → Answer
 answered m = answeredIf (m .loads) (m .stepped)
 
-pub record Moves (img places unit frame : List ℕ) (m : Moved) (r : Record) : Type 0 where
+pub record Moves (N : ℕ) (img places unit frame : List ℕ) (m : Moved) (r : Record) : Type 0 where
   pub answers : answered m ≡ answerOf r
-  pub gives : reached m img places unit frame ≡ r
+  pub gives : reached N m img places unit frame ≡ r
   pub goes : GoesOn (answered m) (m .stepped .ended)
 
 -- an answer, a record and an image are what a step call gives back

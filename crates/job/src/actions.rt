@@ -1,17 +1,19 @@
 // The flash step that a job does next, and doing it.
 ghost use mathlib.Core.Path.{_≡_};
 ghost use mathlib.Core.Bool.{_&&_};
-ghost use Prim.Native.Nat.{suc, _/_};
-ghost use lib.Dec.{eqb, ltb};
+ghost use lib.Dec.{ltb};
 ghost use lib.ListN.{getD};
-ghost use Rattle.flash.specs.Flash.{program, erase, blocks, sizeOf, within, writeStep};
+ghost use Rattle.flash.specs.Flash.{program, erase, isCount, sizeOf, within, writeStep};
 ghost use Rattle.journal.specs.Block.{openWrite, sealWrite};
-ghost use Rattle.job.specs.Code.{actionBy, flashStep, did};
+ghost use Rattle.board.specs.Record.{idle};
+ghost use Rattle.board.specs.Step.{sameShape};
+ghost use Rattle.job.specs.Code.{actionBy, flashStep, takes, did};
 use crate::header;
 use crate::records;
 use crate::records::Numbers;
+use board::Rest;
 use board::Stage;
-use flash::BLOCKS;
+use flash::MAX_BLOCKS;
 use journal::IN_TRANSFER;
 use journal::STATE_AT;
 use journal::TIME_AT;
@@ -24,11 +26,11 @@ pub enum Action {
 }
 
 // A block to erase; block 0 past the last of them.
-fn wiped(wipe: [u8; BLOCKS], i: u8) -> u8
+fn wiped(wipe: [u8; MAX_BLOCKS], i: u8) -> u8
     ensures { λ r. ⌜ r ≡ getD wipe i 0 ⌝ }
 {
     let k = i as usize;
-    if k < BLOCKS {
+    if k < MAX_BLOCKS {
         return wipe[k];
     }
     0
@@ -85,71 +87,89 @@ pub fn next_action(stage: Stage, n: Numbers, byte: u8) -> Action
     }
 }
 
+// ---- a step's place
+
+// A number of blocks that an image can have.
+pub fn is_count(blocks: u8) -> bool
+    ensures { λ r. ⌜ r ≡ isCount blocks ⌝ }
+{
+    if blocks < 2 {
+        return false;
+    }
+    blocks as usize <= MAX_BLOCKS
+}
+
+// It lies in an image of so many blocks of a size.
+pub fn lies_in(blocks: u8, size: usize, block: u8, at: usize) -> bool
+    ensures { λ r. ⌜ r ≡ (isCount blocks && (ltb block blocks && ltb at size)) ⌝ }
+{
+    if !is_count(blocks) {
+        return false;
+    }
+    if block < blocks {
+        return at < size;
+    }
+    false
+}
+
 // ---- the step done, where its place lies in the image; else nothing changes
 
-pub fn program_in(image: &mut [u8], block: u8, at: usize, byte: u8) -> bool
-    ensures { λ r. ⌜ (r ≡ within (sizeOf (now (image .entry))) (program block at byte))
-        × (now (image .exit) ≡ did (program block at byte) (now (image .entry))) ⌝ }
+pub fn program_in(image: &mut [u8], blocks: u8, block: u8, at: usize, byte: u8) -> bool
+    ensures { λ r. ⌜ (r ≡ within blocks (sizeOf blocks (now (image .entry))) (program block at byte))
+        × (now (image .exit) ≡ did blocks (program block at byte) (now (image .entry))) ⌝ }
 {
-    let size = image.len() / 2;
-    if header::BLOCK_COUNT <= block {
+    let size = flash::size_of(blocks, image.len());
+    if !lies_in(blocks, size, block, at) {
         return false;
     }
-    if size <= at {
-        return false;
-    }
-    if block == 0 {
-        flash::program(image, at, byte);
-        return true;
-    }
-    flash::program(image, size + at, byte);
+    flash::program(image, block as usize * size + at, byte);
     true
 }
 
-fn erase_in(image: &mut [u8], block: u8) -> bool
-    ensures { λ r. ⌜ (r ≡ within (sizeOf (now (image .entry))) (erase block)) × (now (image .exit) ≡ did (erase block) (now (image .entry))) ⌝ }
+fn erase_in(image: &mut [u8], blocks: u8, block: u8) -> bool
+    ensures { λ r. ⌜ (r ≡ within blocks (sizeOf blocks (now (image .entry))) (erase block))
+        × (now (image .exit) ≡ did blocks (erase block) (now (image .entry))) ⌝ }
 {
-    let size = image.len() / 2;
-    if header::BLOCK_COUNT <= block {
-        return false;
-    }
-    if size == 0 {
+    let size = flash::size_of(blocks, image.len());
+    if !lies_in(blocks, size, block, 0) {
         return false;
     }
     flash::erase_block(image, size, block as usize);
     true
 }
 
-pub fn act(image: &mut [u8], a: Action) -> bool
-    ensures { λ r. ⌜ (r ≡ within (sizeOf (now (image .entry))) (flashStep a)) × (now (image .exit) ≡ did (flashStep a) (now (image .entry))) ⌝ }
+pub fn act(image: &mut [u8], blocks: u8, a: Action) -> bool
+    ensures { λ r. ⌜ (r ≡ within blocks (sizeOf blocks (now (image .entry))) (flashStep a))
+        × (now (image .exit) ≡ did blocks (flashStep a) (now (image .entry))) ⌝ }
 {
     match a {
-        Action::Program(block, at, byte) => return program_in(image, block, at, byte),
-        Action::Erase(block) => return erase_in(image, block),
+        Action::Program(block, at, byte) => return program_in(image, blocks, block, at, byte),
+        Action::Erase(block) => return erase_in(image, blocks, block),
     }
 }
 
-// ---- the step's place, where the caller does it
+// ---- the record's image
 
-fn lies_in(size: usize, block: u8, at: usize) -> bool
-    ensures { λ r. ⌜ r ≡ (ltb block blocks && ltb at size) ⌝ }
+// An image of a length and so many blocks is the record's, by where that stands.
+pub fn same_shape(len: usize, blocks: u8, rest: Rest) -> bool
+    ensures { λ r. ⌜ r ≡ sameShape blocks len (idle rest) ⌝ }
 {
-    if block < header::BLOCK_COUNT {
-        return at < size;
+    if len != rest.last as usize + 1 {
+        return false;
     }
-    false
+    blocks == rest.blocks
 }
 
-// An image of a length is the record's, and the step's place lies in it.
-pub fn within_image(len: usize, last: u16, a: Action) -> bool
-    ensures { λ r. ⌜ r ≡ (eqb len (suc last) && within (len / blocks) (flashStep a)) ⌝ }
+// And the place of a step that the caller does lies in it.
+pub fn within_image(len: usize, blocks: u8, rest: Rest, a: Action) -> bool
+    ensures { λ r. ⌜ r ≡ takes blocks len rest (flashStep a) ⌝ }
 {
-    let size = len / BLOCKS;
-    if len != last as usize + 1 {
+    let size = flash::size_of(blocks, len);
+    if !same_shape(len, blocks, rest) {
         return false;
     }
     match a {
-        Action::Program(block, at, _) => return lies_in(size, block, at),
-        Action::Erase(block) => return lies_in(size, block, 0),
+        Action::Program(block, at, _) => return lies_in(blocks, size, block, at),
+        Action::Erase(block) => return lies_in(blocks, size, block, 0),
     }
 }

@@ -1,10 +1,7 @@
-// Numbers of the steps: how many blocks, how many writes open and seal one, and where in its header they go.
-use flash::BLOCKS;
+// Numbers of the steps: how many writes open and seal a block, and where in its header they go.
 use frame::KIND_AT;
 use journal::HEADER_LEN;
 use journal::TIME_AT;
-
-pub const BLOCK_COUNT: u8 = BLOCKS as u8;
 
 pub const OPENING: u8 = 5;
 

@@ -7,8 +7,11 @@ mod steps;
 
 pub use actions::Action;
 pub use actions::act;
+pub use actions::is_count;
+pub use actions::lies_in;
 pub use actions::next_action;
 pub use actions::program_in;
+pub use actions::same_shape;
 pub use actions::within_image;
 use board::Record;
 pub use moves::Moved;

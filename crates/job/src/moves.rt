@@ -67,7 +67,7 @@ fn next_step(stage: Stage, n: Numbers) -> Stepped
 }
 
 fn after_wipe(n: Numbers) -> Stepped
-    ensures { λ r. ⌜ ((i p u f : List ℕ) → LeadsTo p u f r (advance stages.Wipe i (assemble n p u f))) ⌝ }
+    ensures { λ r. ⌜ ((N : ℕ) (i p u f : List ℕ) → LeadsTo p u f r (advance N stages.Wipe i (assemble n p u f))) ⌝ }
 {
     let job = n.job;
     let cursor = n.cursor;
@@ -78,7 +78,7 @@ fn after_wipe(n: Numbers) -> Stepped
 }
 
 fn after_open(n: Numbers) -> Moved
-    ensures { λ r. ⌜ ((i p u f : List ℕ) → Moves i p u f r (advance stages.Open i (assemble n p u f))) ⌝ }
+    ensures { λ r. ⌜ ((N : ℕ) (i p u f : List ℕ) → Moves N i p u f r (advance N stages.Open i (assemble n p u f))) ⌝ }
 {
     let cursor = n.cursor;
     if has_next(cursor.index, header::OPENING) {
@@ -124,7 +124,7 @@ fn next_byte(n: Numbers) -> Numbers
 
 fn after_copy(n: Numbers) -> Moved
     requires { ⌜ n .cursor .at < 32768 ⌝ }
-    ensures { λ r. ⌜ ((i p u f : List ℕ) → Moves i p u f r (advance stages.Copy i (assemble n p u f))) ⌝ }
+    ensures { λ r. ⌜ ((N : ℕ) (i p u f : List ℕ) → Moves N i p u f r (advance N stages.Copy i (assemble n p u f))) ⌝ }
 {
     let c = n.cursor;
     Moved {
@@ -134,7 +134,7 @@ fn after_copy(n: Numbers) -> Moved
 }
 
 fn after_seal(n: Numbers) -> Stepped
-    ensures { λ r. ⌜ ((i p u f : List ℕ) → LeadsTo p u f r (advance stages.Seal i (assemble n p u f))) ⌝ }
+    ensures { λ r. ⌜ ((N : ℕ) (i p u f : List ℕ) → LeadsTo p u f r (advance N stages.Seal i (assemble n p u f))) ⌝ }
 {
     let cursor = n.cursor;
     if has_next(cursor.index, header::SEALING) {
@@ -144,14 +144,14 @@ fn after_seal(n: Numbers) -> Stepped
 }
 
 fn after_drop(n: Numbers) -> Stepped
-    ensures { λ r. ⌜ ((i p u f : List ℕ) → LeadsTo p u f r (advance stages.Drop i (assemble n p u f))) ⌝ }
+    ensures { λ r. ⌜ ((N : ℕ) (i p u f : List ℕ) → LeadsTo p u f r (advance N stages.Drop i (assemble n p u f))) ⌝ }
 {
     records::enter_append(records::landed(n))
 }
 
 fn after_append(n: Numbers) -> Stepped
     requires { ⌜ n .rest .end < 32768 ⌝ }
-    ensures { λ r. ⌜ ((i p u f : List ℕ) → LeadsTo p u f r (advance stages.Append i (assemble n p u f))) ⌝ }
+    ensures { λ r. ⌜ ((N : ℕ) (i p u f : List ℕ) → LeadsTo p u f r (advance N stages.Append i (assemble n p u f))) ⌝ }
 {
     let job = n.job;
     let cursor = n.cursor;
@@ -166,7 +166,7 @@ fn after_append(n: Numbers) -> Stepped
 // After a step whose place was in the image.
 pub fn advance(stage: Stage, n: Numbers) -> Moved
     requires { ⌜ offsetFor stage n < 32768 ⌝ }
-    ensures { λ r. ⌜ ((i p u f : List ℕ) → Moves i p u f r (advance stage i (assemble n p u f))) ⌝ }
+    ensures { λ r. ⌜ ((N : ℕ) (i p u f : List ℕ) → Moves N i p u f r (advance N stage i (assemble n p u f))) ⌝ }
 {
     match stage {
         Stage::Wipe => return still(after_wipe(n)),

@@ -10,7 +10,7 @@ use board::Phase;
 use board::Record;
 use board::Rest;
 use board::Stage;
-use flash::BLOCKS;
+use flash::MAX_BLOCKS;
 use frame::MAX_FRAME;
 use journal::HEADER_LEN;
 use wire::Answer;
@@ -53,7 +53,7 @@ pub fn no_job() -> Job
     ensures { λ r. ⌜ r ≡ noJob ⌝ }
 {
     Job {
-        wipe: [0; BLOCKS],
+        wipe: [0; MAX_BLOCKS],
         wipes: 0,
         moves: false,
         drops: false,
@@ -82,6 +82,7 @@ pub fn rest_of(board: Record) -> Rest
     ensures { λ r. ⌜ r ≡ restOf board ⌝ }
 {
     Rest {
+        blocks: board.blocks,
         last: board.last,
         block: board.block,
         end: board.end,
@@ -105,6 +106,7 @@ pub fn unmounted() -> Record
     ensures { λ r. ⌜ r ≡ unmounted ⌝ }
 {
     let rest = Rest {
+        blocks: 0,
         last: 0,
         block: 0,
         end: 0,
@@ -162,6 +164,7 @@ pub fn assemble(
     let cursor = n.cursor;
     Record {
         phase: phase,
+        blocks: rest.blocks,
         last: rest.last,
         block: rest.block,
         end: rest.end,

@@ -56,18 +56,20 @@ fn load(source: &[u8], fetch: Fetch, n: Numbers, unit: &mut [u8; MAX_FRAME]) -> 
 // The next frame to copy is put into the buffer, or the block is sealed.
 pub fn enter_copy(
     image: &[u8],
+    blocks: u8,
     n: Numbers,
     places: &[u16; 256],
     unit: &mut [u8; MAX_FRAME],
 ) -> Stepped
     ensures { λ r. ⌜ ((f : List ℕ) → LeadsTo (now (places .entry)) (now (unit .exit)) f r
-        (enterCopy (now (image .entry)) (assemble n (now (places .entry)) (now (unit .entry)) f))) ⌝ }
+        (enterCopy blocks (now (image .entry)) (assemble n (now (places .entry)) (now (unit .entry)) f))) ⌝ }
 {
     let job = n.job;
     let since = job.since;
     let cursor = n.cursor;
     let rest = n.rest;
-    let source = flash::block_of(image, rest.block);
+    let size = flash::size_of(blocks, image.len());
+    let source = flash::block_of(image, size, rest.block);
     match fetch::next_load(source, rest.end, places, since, cursor.id, cursor.source) {
         Fetched::Frame(fetch) => return load(source, fetch, n, unit),
         Fetched::Nothing => return records::enter(Stage::Seal, n),
@@ -90,57 +92,57 @@ pub fn rests(n: Numbers) -> Moved
     moves::still(records::staying(Answer::Done, n))
 }
 
-fn try_busy(image: &mut [u8], stage: Stage, n: Numbers, byte: u8) -> Moved
-    ensures { λ r. ⌜ ((p u f : List ℕ) → byte ≡ inHandAt stage n u f → Steps (answered r) (r .stepped .ended) (reached r (now (image .exit)) p u f)
-        (now (image .exit)) (stepBusy stage (now (image .entry)) (assemble n p u f))) ⌝ }
+fn try_busy(image: &mut [u8], blocks: u8, stage: Stage, n: Numbers, byte: u8) -> Moved
+    ensures { λ r. ⌜ ((p u f : List ℕ) → byte ≡ inHandAt stage n u f → Steps (answered r) (r .stepped .ended) (reached blocks r (now (image .exit)) p u f)
+        (now (image .exit)) (stepBusy blocks stage (now (image .entry)) (assemble n p u f))) ⌝ }
 {
     let rest = n.rest;
-    if image.len() != rest.last as usize + 1 {
+    if !actions::same_shape(image.len(), blocks, rest) {
         return stale(n);
     }
     let next = actions::next_action(stage, n, byte);
-    if !actions::act(image, next) {
+    if !actions::act(image, blocks, next) {
         return stale(n);
     }
     moves::advance(stage, n)
 }
 
 // A step that reads no array of the record: the byte in hand is given, and the next frame is still to be loaded where one is due.
-pub fn try_step(image: &mut [u8], n: Numbers, byte: u8) -> Moved
-    ensures { λ r. ⌜ ((p u f : List ℕ) → byte ≡ inHand n u f → Steps (answered r) (r .stepped .ended) (reached r (now (image .exit)) p u f)
-        (now (image .exit)) (stepOn (now (image .entry)) (assemble n p u f))) ⌝ }
+pub fn try_step(image: &mut [u8], blocks: u8, n: Numbers, byte: u8) -> Moved
+    ensures { λ r. ⌜ ((p u f : List ℕ) → byte ≡ inHand n u f → Steps (answered r) (r .stepped .ended) (reached blocks r (now (image .exit)) p u f)
+        (now (image .exit)) (stepOn blocks (now (image .entry)) (assemble n p u f))) ⌝ }
 {
     let phase = n.phase;
     match phase {
         Phase::Unmounted => return rests(n),
         Phase::Idle => return rests(n),
-        Phase::Busy(stage) => return try_busy(image, stage, n, byte),
+        Phase::Busy(stage) => return try_busy(image, blocks, stage, n, byte),
     }
 }
 
 // ---- a step that the caller made
 
-fn made_busy(len: usize, stage: Stage, n: Numbers) -> Moved
-    ensures { λ r. ⌜ ((img p u f : List ℕ) → length img ≡ len → Steps (answered r) (r .stepped .ended) (reached r img p u f) img
-        (madeIn (Busy stage) img (assemble n p u f))) ⌝ }
+fn made_busy(len: usize, blocks: u8, stage: Stage, n: Numbers) -> Moved
+    ensures { λ r. ⌜ ((img p u f : List ℕ) → length img ≡ len → Steps (answered r) (r .stepped .ended) (reached blocks r img p u f) img
+        (madeIn blocks (Busy stage) img (assemble n p u f))) ⌝ }
 {
     let rest = n.rest;
-    if actions::within_image(len, rest.last, actions::next_action(stage, n, 0)) {
+    if actions::within_image(len, blocks, rest, actions::next_action(stage, n, 0)) {
         return moves::advance(stage, n);
     }
     stale(n)
 }
 
-// The record moves on by a step made to an image of a length: no array of it is read, nor the image.
-pub fn made_of(len: usize, n: Numbers) -> Moved
-    ensures { λ r. ⌜ ((img p u f : List ℕ) → length img ≡ len → Steps (answered r) (r .stepped .ended) (reached r img p u f) img
-        (madeOn img (assemble n p u f))) ⌝ }
+// The record moves on by a step made to an image of a length and so many blocks: no array of it is read, nor the image.
+pub fn made_of(len: usize, blocks: u8, n: Numbers) -> Moved
+    ensures { λ r. ⌜ ((img p u f : List ℕ) → length img ≡ len → Steps (answered r) (r .stepped .ended) (reached blocks r img p u f) img
+        (madeOn blocks img (assemble n p u f))) ⌝ }
 {
     let phase = n.phase;
     match phase {
         Phase::Unmounted => return rests(n),
         Phase::Idle => return rests(n),
-        Phase::Busy(stage) => return made_busy(len, stage, n),
+        Phase::Busy(stage) => return made_busy(len, blocks, stage, n),
     }
 }
 
@@ -167,16 +169,22 @@ pub fn in_hand(n: Numbers, unit: &[u8; MAX_FRAME], frame: &[u8; MAX_FRAME]) -> u
 }
 
 // The next frame is loaded where one is due.
-pub fn load_due(image: &[u8], m: Moved, places: &[u16; 256], unit: &mut [u8; MAX_FRAME]) -> Stepped
+pub fn load_due(
+    image: &[u8],
+    blocks: u8,
+    m: Moved,
+    places: &[u16; 256],
+    unit: &mut [u8; MAX_FRAME],
+) -> Stepped
     ensures { λ r. ⌜ ((f : List ℕ) (o : Out)
-        → Steps (answered m) (m .stepped .ended) (reached m (now (image .entry)) (now (places .entry)) (now (unit .entry)) f)
+        → Steps (answered m) (m .stepped .ended) (reached blocks m (now (image .entry)) (now (places .entry)) (now (unit .entry)) f)
         (now (image .entry)) o
         → Steps (r .answer) (r .ended) (leaves r (now (places .entry)) (now (unit .exit)) f) (now (image .entry)) o) ⌝ }
 {
     let s = m.stepped;
     if m.loads {
         let next = s.next;
-        return enter_copy(image, next, places, unit);
+        return enter_copy(image, blocks, next, places, unit);
     }
     s
 }
@@ -184,29 +192,31 @@ pub fn load_due(image: &[u8], m: Moved, places: &[u16; 256], unit: &mut [u8; MAX
 // A step by a record's numbers, its arrays lent. Where the job ended the arrays are the caller's to clear.
 pub fn step_core(
     image: &mut [u8],
+    blocks: u8,
     n: Numbers,
     places: &[u16; 256],
     unit: &mut [u8; MAX_FRAME],
     frame: &[u8; MAX_FRAME],
 ) -> Stepped
     ensures { λ r. ⌜ Steps (r .answer) (r .ended) (leaves r (now (places .entry)) (now (unit .exit)) (now (frame .entry))) (now (image .exit))
-        (stepOn (now (image .entry)) (assemble n (now (places .entry)) (now (unit .entry)) (now (frame .entry)))) ⌝ }
+        (stepOn blocks (now (image .entry)) (assemble n (now (places .entry)) (now (unit .entry)) (now (frame .entry)))) ⌝ }
 {
     let byte = in_hand(n, unit, frame);
-    let m = try_step(image, n, byte);
-    load_due(image, m, places, unit)
+    let m = try_step(image, blocks, n, byte);
+    load_due(image, blocks, m, places, unit)
 }
 
 // A step call.
-pub fn step(image: &mut [u8], board: Record) -> Outcome
-    ensures { λ r. ⌜ (now (image .exit) ≡ stepOn (now (image .entry)) board .image)
-        × (r .answer ≡ stepOn (now (image .entry)) board .answer) × (r .board ≡ stepOn (now (image .entry)) board .board) ⌝ }
+pub fn step(image: &mut [u8], blocks: u8, board: Record) -> Outcome
+    ensures { λ r. ⌜ (now (image .exit) ≡ stepOn blocks (now (image .entry)) board .image)
+        × (r .answer ≡ stepOn blocks (now (image .entry)) board .answer) × (r .board ≡ stepOn blocks (now (image .entry)) board .board) ⌝ }
 {
     let places = board.places;
     let mut unit = board.unit;
     let frame = board.frame;
     let s = step_core(
         image,
+        blocks,
         records::numbers_of(board),
         &places,
         &mut unit,

@@ -8,7 +8,7 @@ use native.Mathlib.Numerals.{add-one}
 use lib.ListN.{length, getD, take, drop, set, length-append, length-drop, take-append-drop}
 use lib.Seq.{take-at, drop-cons, drop-drop, getD-drop, length-take-le}
 use Rattle.flash.specs.Bytes.{u16le, u32le, le32}
-use Rattle.flash.specs.Flash.{blocks}
+use Rattle.flash.specs.Flash.{maxBlocks}
 use Rattle.wire.specs.Message.{wordAt}
 use Rattle.board.specs.declared.Stage.{Stage}
 use Rattle.board.specs.declared.Phase.the-variants.{Busy}
@@ -16,7 +16,7 @@ use Rattle.board.specs.declared.Cursor.{Cursor}
 use Rattle.board.specs.Record.{inStage}
 use Rattle.board.specs.Step.{nextIndex, nextByte}
 use Rattle.lent.specs.Layout.{madeAt, idAt, sourceAt, copyAt, offAt, movesAt, dropsAt, targetAt, timeAt, sinceAt, sinceSize, appendAt}
-use Rattle.lent.specs.Layout.{lastAt, blockAt, endAt, placesAt, placesSize, jobAt, planAt, cursorAt, unitAt, recordSize}
+use Rattle.lent.specs.Layout.{lastAt, blockAt, endAt, blocksAt, placesAt, placesSize, jobAt, planAt, cursorAt, unitAt, recordSize}
 use Rattle.lent.specs.Layout.{phaseIn, flagIn, wordsIn, numberIn, jobIn, cursorIn, recordIn}
 use Rattle.lent.specs.Layout.{phaseByte, flagByte, wordBytes, headBytes, planBytes, cursorBytes, recordBytes}
 use Rattle.lent.proofs.Words.{length-word-bytes}
@@ -84,16 +84,17 @@ pub record Canonical (b : List ℕ) : Type 0 where
   pub drops : getD b (planAt + dropsAt) 0 < 2
 
 module _ (b : List ℕ) (size : length b ≡ recordSize) (ok : (i : ℕ) → getD b i 0 < 256) (canon : Canonical b) where
-  at-plan : (i : ℕ) → getD (drop blocks (drop jobAt b)) i 0 ≡ getD b (planAt + i) 0
-  at-plan i = ap (λ (l : List ℕ). getD l i 0) (drop-drop blocks jobAt b) ∙ getD-drop planAt b i 0
+  at-plan : (i : ℕ) → getD (drop maxBlocks (drop jobAt b)) i 0 ≡ getD b (planAt + i) 0
+  at-plan i = ap (λ (l : List ℕ). getD l i 0) (drop-drop maxBlocks jobAt b) ∙ getD-drop planAt b i 0
 
   plan-own : (t : List ℕ) → t ≡ drop cursorAt b → planBytes (jobIn (drop jobAt b)) ++ t ≡ drop planAt b
   plan-own t f =
-      let from : (i : ℕ) → drop i (drop blocks (drop jobAt b)) ≡ drop (planAt + i) b = λ i. ap (drop i) (drop-drop blocks jobAt b) ∙ drop-drop i planAt b in
-      let flag : (i : ℕ) → getD b (planAt + i) 0 < 2 → flagByte (flagIn (getD (drop blocks (drop jobAt b)) i 0)) ≡ getD b (planAt + i) 0 =
+      let from : (i : ℕ) → drop i (drop maxBlocks (drop jobAt b)) ≡ drop (planAt + i) b =
+      λ i. ap (drop i) (drop-drop maxBlocks jobAt b) ∙ drop-drop i planAt b in
+      let flag : (i : ℕ) → getD b (planAt + i) 0 < 2 → flagByte (flagIn (getD (drop maxBlocks (drop jobAt b)) i 0)) ≡ getD b (planAt + i) 0 =
       λ i h. ap (λ (n : ℕ). flagByte (flagIn n)) (at-plan i) ∙ flag-own (getD b (planAt + i) 0) h in
       let since = jobIn (drop jobAt b) .since in
-      let last = getD (drop blocks (drop jobAt b)) appendAt 0 in
+      let last = getD (drop maxBlocks (drop jobAt b)) appendAt 0 in
       one b ok planAt _ _ (omega arith) (at-plan 0)
       (one b ok (planAt + movesAt) _ _ (omega arith) (flag movesAt (canon .moves))
       (one b ok (planAt + dropsAt) _ _ (omega arith) (flag dropsAt (canon .drops))
@@ -122,9 +123,10 @@ module _ (b : List ℕ) (size : length b ≡ recordSize) (ok : (i : ℕ) → get
       (two b ok lastAt 0 lastAt _ refl (omega arith)
       (one b ok blockAt _ _ (omega arith) refl
       (two b ok endAt 0 endAt _ refl (omega arith)
+      (one b ok blocksAt _ _ (omega arith) refl
       (some b ok placesAt placesSize _ _ (places-own b size ok)
-      (some b ok jobAt blocks _ _ (bytes-own blocks (drop jobAt b) (simp length-drop (omega arith)))
-      (plan-own _ (cursor-own _ (frames-own b size))))))))
+      (some b ok jobAt maxBlocks _ _ (bytes-own maxBlocks (drop jobAt b) (simp length-drop (omega arith)))
+      (plan-own _ (cursor-own _ (frames-own b size)))))))))
 
   -- the bytes before the cursor and after it
   abbrev around : List ℕ → List ℕ
@@ -146,6 +148,7 @@ module _ (b : List ℕ) (size : length b ≡ recordSize) (ok : (i : ℕ) → get
       sym (take-at p (cursorBytes (r .cursor) ++ uf) cursorAt n) ∙ ap (take cursorAt) (sym (parts (cursorBytes (r .cursor) ++ uf)) ∙ own) in
       (λ i. recordBytes (record {
         phase = sym e i;
+        blocks = r .blocks;
         last = r .last;
         block = r .block;
         end = r .end;
@@ -168,7 +171,8 @@ module _ (b : List ℕ) (size : length b ≡ recordSize) (ok : (i : ℕ) → get
 
   -- the next byte of the frame that is copied
   pub byte-copied : (w : ℕ) (c : Cursor) → c ≡ recordIn b .cursor → w ≡ suc (c .at)
-      → set (set (set b (cursorAt + madeAt) (w % 256)) (cursorAt + (madeAt + 1)) (w / 256)) (cursorAt + offAt) (suc (c .off)) ≡ around (cursorBytes (nextByte c))
+      → set (set (set b (cursorAt + madeAt) (w % 256)) (cursorAt + (madeAt + 1)) (w / 256)) (cursorAt + offAt) (suc (c .off))
+      ≡ around (cursorBytes (nextByte c))
   byte-copied w c e q =
       let t = cursorBytes c ++ drop unitAt b in
       ap (λ (l : List ℕ). set (set (set l (cursorAt + madeAt) (w % 256)) (cursorAt + (madeAt + 1)) (w / 256)) (cursorAt + offAt) (suc (c .off)))

@@ -8,7 +8,7 @@ use lib.ListN.{length, getD, drop, length-append}
 use lib.Seq.{take-at, getD-at, drop-at, drop-drop}
 use Rattle.flash.specs.Bytes.{Bytes, u32le}
 use Rattle.flash.proofs.Blank.{bytes-append, le16-u16, le32-u32}
-use Rattle.flash.specs.Flash.{blocks}
+use Rattle.flash.specs.Flash.{maxBlocks}
 use Rattle.frame.specs.Frame.{maxFrame}
 use Rattle.wire.specs.Message.{wordAt}
 use Rattle.board.specs.declared.Stage.the-variants.{Wipe, Open, Copy, Seal, Drop, Append}
@@ -17,7 +17,7 @@ use Rattle.board.specs.declared.Phase.the-variants.{Unmounted, Idle, Busy}
 use Rattle.board.specs.declared.Job.{Job}
 use Rattle.board.specs.declared.Cursor.{Cursor}
 use Rattle.board.specs.declared.Record.{Record}
-use Rattle.lent.specs.Layout.{cursorSize, sinceSize, planSize, lastAt, blockAt, endAt, placesAt, placesSize, jobAt, planAt}
+use Rattle.lent.specs.Layout.{cursorSize, sinceSize, planSize, lastAt, blockAt, endAt, blocksAt, placesAt, placesSize, jobAt, planAt}
 use Rattle.lent.specs.Layout.{cursorAt, unitAt, frameAt, recordSize}
 use Rattle.lent.specs.Layout.{phaseIn, bytesIn, wordsIn, flagIn, planIn, jobIn, cursorIn, recordIn}
 use Rattle.lent.specs.Layout.{phaseByte, wordBytes, flagByte, headBytes, planBytes, cursorBytes, recordBytes}
@@ -66,19 +66,19 @@ plan-back j x q =
       le32-u32 (j .time),
     )
 
-job-back : (j : Job) (x : List ℕ) → length (j .wipe) ≡ blocks → length (j .since) ≡ 4 → jobIn (j .wipe ++ (planBytes j ++ x)) ≡ j
+job-back : (j : Job) (x : List ℕ) → length (j .wipe) ≡ maxBlocks → length (j .since) ≡ 4 → jobIn (j .wipe ++ (planBytes j ++ x)) ≡ j
 job-back j x p q =
     let rest = planBytes j ++ x in
-    ap (λ (w : List ℕ). planIn w (drop blocks (j .wipe ++ rest))) (array-back blocks (j .wipe) rest p)
-    ∙ ap (planIn (j .wipe)) (drop-at (j .wipe) rest blocks p)
+    ap (λ (w : List ℕ). planIn w (drop maxBlocks (j .wipe ++ rest))) (array-back maxBlocks (j .wipe) rest p)
+    ∙ ap (planIn (j .wipe)) (drop-at (j .wipe) rest maxBlocks p)
     ∙ plan-back j x q
 
 parts-back : (l : List ℕ) (r : Record) → phaseIn (getD l 0 0) ≡ r .phase → wordAt l lastAt ≡ r .last → getD l blockAt 0 ≡ r .block
-    → wordAt l endAt ≡ r .end → wordsIn 256 (drop placesAt l) ≡ r .places → jobIn (drop jobAt l) ≡ r .job → cursorIn (drop cursorAt l) ≡ r .cursor
-    → bytesIn maxFrame (drop unitAt l) ≡ r .unit → bytesIn maxFrame (drop frameAt l) ≡ r .frame → recordIn l ≡ r
+    → wordAt l endAt ≡ r .end → getD l blocksAt 0 ≡ r .blocks → wordsIn 256 (drop placesAt l) ≡ r .places → jobIn (drop jobAt l) ≡ r .job
+    → cursorIn (drop cursorAt l) ≡ r .cursor → bytesIn maxFrame (drop unitAt l) ≡ r .unit → bytesIn maxFrame (drop frameAt l) ≡ r .frame → recordIn l ≡ r
 unfolding recordIn
-parts-back l r p a b e w j c u f =
-    λ i. record { phase = p i; last = a i; block = b i; end = e i; places = w i; job = j i; cursor = c i; unit = u i; frame = f i }
+parts-back l r p a b e n w j c u f =
+    λ i. record { phase = p i; blocks = n i; last = a i; block = b i; end = e i; places = w i; job = j i; cursor = c i; unit = u i; frame = f i }
 
 -- ---- the parts are bytes
 
@@ -105,7 +105,7 @@ head-bytes : (r : Record) → RecordFits r → Bytes (headBytes r)
 head-bytes r h =
     let a = h .last in
     let b = h .end in
-    (phase-byte (r .phase), (omega arith, (omega arith, (h .block, (omega arith, (omega arith, tt))))))
+    (phase-byte (r .phase), (omega arith, (omega arith, (h .block, (omega arith, (omega arith, (h .blocks, tt)))))))
 
 cursor-bytes : (c : Cursor) → CursorFits c → Bytes (cursorBytes c)
 cursor-bytes c h = (h .index, (omega arith, (omega arith, (omega arith, (omega arith, (omega arith, (omega arith, (h .size, (h .off, tt)))))))))
@@ -127,7 +127,7 @@ past at n l p q e h = sym (drop-drop n at l) ∙ ap (drop n) e ∙ drop-at p q n
 -- each array has its length
 pub record Sized (r : Record) : Type 0 where
   pub places : length (r .places) ≡ 256
-  pub wipe : length (r .job .wipe) ≡ blocks
+  pub wipe : length (r .job .wipe) ≡ maxBlocks
   pub since : length (r .job .since) ≡ 4
   pub unit : length (r .unit) ≡ maxFrame
   pub frame : length (r .frame) ≡ maxFrame
@@ -170,7 +170,7 @@ module _ (r : Record) (h : Sized r) where
   from-job = past placesAt placesSize (recordBytes r) (W r) (EPCUF r) refl length-W
 
   from-plan : drop planAt (recordBytes r) ≡ PCUF r
-  from-plan = past jobAt blocks (recordBytes r) (E r) (PCUF r) from-job (h .wipe)
+  from-plan = past jobAt maxBlocks (recordBytes r) (E r) (PCUF r) from-job (h .wipe)
 
   from-cursor : drop cursorAt (recordBytes r) ≡ CUF r
   from-cursor = past planAt planSize (recordBytes r) (P r) (CUF r) from-plan length-P
@@ -184,7 +184,7 @@ module _ (r : Record) (h : Sized r) where
   pub record-back : recordIn (recordBytes r) ≡ r
   unfolding recordBytes
   record-back =
-      parts-back (recordBytes r) r (phase-back (r .phase)) (le16-u16 (r .last)) refl (le16-u16 (r .end))
+      parts-back (recordBytes r) r (phase-back (r .phase)) (le16-u16 (r .last)) refl (le16-u16 (r .end)) refl
       (words-back (r .places) (EPCUF r) 256 (h .places))
       (ap jobIn from-job ∙ job-back (r .job) (CUF r) (h .wipe) (h .since))
       (ap cursorIn from-cursor ∙ cursor-back (r .cursor) (UF r))

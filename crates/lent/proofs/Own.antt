@@ -5,7 +5,7 @@ use Prim.Native.Nat.{ℕ, zero, suc, _+_, _-_, _*_, _/_, _%_, _≤_, _<_}
 use native.Mathlib.Omega.{arith}
 use lib.ListN.{length, getD, take, drop, length-append, length-take, length-drop, length-replicate, take-append-drop}
 use lib.Seq.{take-all, drop-at, drop-drop, drop-append-le, getD-drop, length-take-le}
-use Rattle.flash.specs.Flash.{blocks}
+use Rattle.flash.specs.Flash.{maxBlocks}
 use Rattle.frame.specs.Frame.{maxFrame}
 use Rattle.lent.specs.Layout.{sinceAt, placesAt, placesSize, jobAt, unitAt, frameAt, recordSize, bytesIn, wordsIn, recordIn, wordBytes}
 use Rattle.lent.proofs.Inverse.{Sized, array-back}
@@ -25,8 +25,8 @@ unfolding recordIn
 own-sized l =
     record {
       places = length-words-in 256 (drop placesAt l);
-      wipe = length-bytes-in blocks (drop jobAt l);
-      since = length-words-in 4 (drop sinceAt (drop blocks (drop jobAt l)));
+      wipe = length-bytes-in maxBlocks (drop jobAt l);
+      since = length-words-in 4 (drop sinceAt (drop maxBlocks (drop jobAt l)));
       unit = length-bytes-in maxFrame (drop unitAt l);
       frame = length-bytes-in maxFrame (drop frameAt l);
     }

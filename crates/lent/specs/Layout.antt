@@ -6,7 +6,7 @@ use Prim.Native.Nat.{ℕ, zero, suc, _+_, _-_, _*_, _<_}
 use lib.Dec.{eqb}
 use lib.ListN.{length, getD, take, drop, replicate}
 use Rattle.flash.specs.Bytes.{Bytes, u16le, u32le, le32}
-use Rattle.flash.specs.Flash.{blocks}
+use Rattle.flash.specs.Flash.{maxBlocks}
 use Rattle.frame.specs.Frame.{maxFrame}
 use Rattle.wire.specs.Message.{wordAt}
 use Rattle.board.specs.declared.Stage.{Stage}
@@ -65,7 +65,7 @@ appendAt = sinceAt + sinceSize
 abbrev pub planSize : ℕ
 planSize = appendAt + 1
 
--- in the record: phase 1, last 2, block 1, end 2, each place 2, the job, the cursor, two frame buffers
+-- in the record: phase 1, last 2, block 1, end 2, blocks 1, each place 2, the job, the cursor, two frame buffers
 abbrev pub lastAt : ℕ
 lastAt = 1
 
@@ -75,8 +75,11 @@ blockAt = lastAt + 2
 abbrev pub endAt : ℕ
 endAt = blockAt + 1
 
+abbrev pub blocksAt : ℕ
+blocksAt = endAt + 2
+
 abbrev pub placesAt : ℕ
-placesAt = endAt + 2
+placesAt = blocksAt + 1
 
 abbrev pub placesSize : ℕ
 placesSize = 2 * 256
@@ -85,7 +88,7 @@ abbrev pub jobAt : ℕ
 jobAt = placesAt + placesSize
 
 abbrev pub planAt : ℕ
-planAt = jobAt + blocks
+planAt = jobAt + maxBlocks
 
 abbrev pub cursorAt : ℕ
 cursorAt = planAt + planSize
@@ -137,7 +140,7 @@ planIn wipe l =
     }
 
 abbrev pub jobIn : List ℕ → Job
-jobIn l = planIn (bytesIn blocks l) (drop blocks l)
+jobIn l = planIn (bytesIn maxBlocks l) (drop maxBlocks l)
 
 abbrev pub cursorIn : List ℕ → Cursor
 cursorIn l = cursor (getD l 0 0) (wordAt l madeAt) (wordAt l idAt) (wordAt l sourceAt) (getD l copyAt 0) (getD l offAt 0)
@@ -146,6 +149,7 @@ unfoldable pub recordIn : List ℕ → Record
 recordIn l =
     record {
       phase = phaseIn (getD l 0 0);
+      blocks = getD l blocksAt 0;
       last = wordAt l lastAt;
       block = getD l blockAt 0;
       end = wordAt l endAt;
@@ -182,7 +186,7 @@ flagByte b = cond b 1 0
 
 -- the bytes before the places, of the plan, of the cursor, and of the whole record: each field where it is read
 abbrev pub headBytes : Record → List ℕ
-headBytes r = phaseByte (r .phase) ∷ (u16le (r .last) ++ (r .block ∷ u16le (r .end)))
+headBytes r = phaseByte (r .phase) ∷ (u16le (r .last) ++ (r .block ∷ (u16le (r .end) ++ (r .blocks ∷ []))))
 
 abbrev pub planBytes : Job → List ℕ
 planBytes j =
@@ -214,7 +218,7 @@ SomeWords n l = (length l ≡ n) × Words l
 
 -- each number is one that its field can hold, each array has its length
 pub record JobFits (j : Job) : Type 0 where
-  pub wipe : SomeBytes blocks (j .wipe)
+  pub wipe : SomeBytes maxBlocks (j .wipe)
   pub wipes : j .wipes < 256
   pub target : j .target < 256
   pub time : j .time < 4294967296
@@ -230,6 +234,7 @@ pub record CursorFits (c : Cursor) : Type 0 where
   pub off : c .off < 256
 
 pub record RecordFits (r : Record) : Type 0 where
+  pub blocks : r .blocks < 256
   pub last : r .last < 65536
   pub block : r .block < 256
   pub end : r .end < 65536

@@ -1,5 +1,5 @@
 // The board record lent as bytes, for the edge to C. Here is where each field stands: right after the one before it.
-use flash::BLOCKS;
+use flash::MAX_BLOCKS;
 use frame::MAX_FRAME;
 
 // ---- the record
@@ -10,13 +10,15 @@ pub const BLOCK_AT: usize = LAST_AT + 2;
 
 pub const END_AT: usize = BLOCK_AT + 1;
 
-pub const PLACES_AT: usize = END_AT + 2;
+pub const BLOCKS_AT: usize = END_AT + 2;
+
+pub const PLACES_AT: usize = BLOCKS_AT + 1;
 
 pub const PLACES_SIZE: usize = 2 * 256;
 
 pub const JOB_AT: usize = PLACES_AT + PLACES_SIZE;
 
-pub const PLAN_AT: usize = JOB_AT + BLOCKS;
+pub const PLAN_AT: usize = JOB_AT + MAX_BLOCKS;
 
 pub const CURSOR_AT: usize = PLAN_AT + PLAN_SIZE;
 

@@ -10,7 +10,7 @@ use borrow.Author.Tests.{lt-ltb, le-ltb}
 use Rattle.flash.specs.Bytes.{u16le}
 use Rattle.wire.specs.Code.{overlay}
 use Rattle.wire.proofs.Laying.{to-end}
-use Rattle.flash.specs.Flash.{blocks}
+use Rattle.flash.specs.Flash.{maxBlocks}
 use Rattle.frame.specs.Frame.{maxFrame}
 use Rattle.board.specs.declared.Record.{Record}
 use Rattle.lent.specs.Layout.{cursorSize, planSize, placesAt, placesSize, jobAt, planAt, cursorAt, unitAt, frameAt, recordSize}
@@ -110,7 +110,7 @@ module _ (r : Record) (l x₁ x₂ x₃ x₄ x₅ x₆ x₇ h p c : List ℕ) (e
       let u₀ : Upto 0 [] l l = record { written = refl; size = refl } in
       let u₁ = next 0 placesAt h u₀ e₁ (ap length eh) (omega (arith, nl)) in
       let u₂ = next placesAt placesSize (wordBytes (r .places)) u₁ e₂ (length-word-bytes (r .places) ∙ rw (n .places)) (omega (arith, nl)) in
-      let u₃ = next jobAt blocks (r .job .wipe) u₂ e₃ (n .wipe) (omega (arith, nl)) in
+      let u₃ = next jobAt maxBlocks (r .job .wipe) u₂ e₃ (n .wipe) (omega (arith, nl)) in
       let u₄ = next planAt planSize p u₃ e₄ nq (omega (arith, nl)) in
       let u₅ = next cursorAt cursorSize c u₄ e₅ (ap length ec) (omega (arith, nl)) in
       let u₆ = next unitAt maxFrame (r .unit) u₅ e₆ (n .unit) (omega (arith, nl)) in

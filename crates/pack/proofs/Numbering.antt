@@ -7,7 +7,7 @@ use native.Mathlib.Omega.{arith}
 use lib.ListN.{length, getD, take, drop, replicate, length-append, length-take, length-drop, take-append-drop}
 use lib.Seq.{drop-drop, length-take-le}
 use borrow.Author.Tests.{eq-eqb, ne-eqb}
-use Rattle.flash.specs.Flash.{blocks}
+use Rattle.flash.specs.Flash.{maxBlocks}
 use Rattle.frame.specs.Frame.{maxFrame}
 use Rattle.board.specs.declared.Record.{Record}
 use Rattle.board.specs.Record.{noPlaces, noFrame}
@@ -35,7 +35,7 @@ keep at n {p} {l} {x} u k =
 flat : (a b c d e f : List ℕ) → ((((a ++ b) ++ c) ++ d) ++ e) ++ f ≡ a ++ (b ++ (c ++ (d ++ (e ++ f))))
 flat a b c d e f = simp append-assoc
 
-module _ (n : Numbers) (wipe : length (n .job .wipe) ≡ blocks) (since : length (n .job .since) ≡ 4) where
+module _ (n : Numbers) (wipe : length (n .job .wipe) ≡ maxBlocks) (since : length (n .job .since) ≡ 4) where
   numbers-laid : (l p u f : List ℕ) → length l ≡ recordSize → wordBytes p ≡ take placesSize (drop placesAt l) → u ++ f ≡ drop unitAt l
       → numbersInto n l ≡ recordBytes (assemble n p u f)
   unfolding numbersInto recordBytes
@@ -46,7 +46,7 @@ module _ (n : Numbers) (wipe : length (n .job .wipe) ≡ blocks) (since : length
       let u₀ : Upto 0 [] l l = record { written = refl; size = refl } in
       let u₁ = next 0 placesAt h u₀ refl refl (omega (arith, size)) in
       let u₂ = keep placesAt placesSize u₁ (omega (arith, size)) in
-      let u₃ = next jobAt blocks (n .job .wipe) u₂ refl wipe (omega (arith, size)) in
+      let u₃ = next jobAt maxBlocks (n .job .wipe) u₂ refl wipe (omega (arith, size)) in
       let u₄ = next planAt planSize q u₃ refl (length-plan (n .job) since) (omega (arith, size)) in
       let u₅ = next cursorAt cursorSize c u₄ refl refl (omega (arith, size)) in
       u₅ .written ∙ flat h (take placesSize (drop placesAt l)) (n .job .wipe) q c (drop unitAt l) ∙ rw (← ep, ← ef)
@@ -82,7 +82,7 @@ held : (r : Record) (b after : List ℕ) → length b ≡ recordSize → Sized r
 unfolding recordInto
 held r b after l z e = record { bytes = rw (eq-eqb _ _ l) e; back = λ _. ap recordIn e ∙ record-back r z }
 
-module _ (s : Stepped) (b after : List ℕ) (l : length b ≡ recordSize) (wipe : length (s .next .job .wipe) ≡ blocks)
+module _ (s : Stepped) (b after : List ℕ) (l : length b ≡ recordSize) (wipe : length (s .next .job .wipe) ≡ maxBlocks)
     (since : length (s .next .job .since) ≡ 4) where
   -- the job went on
   pub went-on : ((i : ℕ) → getD b i 0 < 256) → s .ended ≡ false → after ≡ numbersInto (s .next) b → Holds (leftIn s b) b after

@@ -80,6 +80,7 @@ fn head_bytes(n: Numbers) -> [u8; lent::PLACES_AT]
         rest.block,
         low(end),
         high(end),
+        rest.blocks,
     ]
 }
 

@@ -3,20 +3,21 @@ use mathlib.Core.Path.{_≡_, refl, sym, ap, ap₂, _∙_}
 use mathlib.Core.List.{List}
 use mathlib.Core.Option.{Option, none, some}
 use mathlib.Core.Bool.{Bool, true, false, _&&_}
-use Prim.Native.Nat.{ℕ, _+_, _*_, _≤_, _<_}
+use Prim.Native.Nat.{ℕ, _+_, _*_, _≤_}
 use native.Mathlib.Omega.{arith}
 use lib.Dec.{eqb, leb}
 use lib.ListN.{length}
 use borrow.Author.Tests.{ne-eqb}
 use Rattle.flash.specs.Bytes.{Bytes}
-use Rattle.flash.specs.Flash.{blocks, block, sizeOf}
+use Rattle.flash.specs.Flash.{block, sizeOf}
 use Rattle.flash.proofs.Cases.{on-test}
 use Rattle.flash.proofs.Image.{bytes-block}
 use Rattle.frame.specs.declared.Host.{Host}
 use Rattle.frame.specs.Frame.{Frame, hostMax, endLen}
 use Rattle.frame.specs.Reader.{clean, cut, bad}
 use Rattle.journal.specs.Block.{headerLen, BlockState, blank, inProgress, valid, foreign, blockState}
-use Rattle.survey.specs.Survey.{surveyOf}
+use Rattle.survey.specs.Survey.{surveyOf, stateOf}
+use Rattle.survey.proofs.Surveying.{half-fits}
 use Rattle.journal.proofs.States.{Contents, valid-inv}
 use Rattle.wire.specs.declared.Refusal.{Refusal}
 use Rattle.wire.specs.declared.Refusal.the-variants as refusal
@@ -29,25 +30,25 @@ use Rattle.board.specs.declared.Phase.the-variants.{Unmounted, Idle, Busy}
 use Rattle.board.specs.declared.Record.{Record}
 use Rattle.board.specs.Record.{allowed, restOf, refuse}
 use Rattle.board.specs.Mount.{endOf}
-use Rattle.board.specs.Queue.{Held, held, heldBy, heldIn, heldIf, fitsRecord, serve, requestOn}
+use Rattle.board.specs.Queue.{Held, sameImage, held, heldBy, heldIn, heldIf, fitsRecord, serve, requestOn}
 use Rattle.board.proofs.Outcomes.{request-length, request-host, request-busy, request-unmounted, request-stale, request-malformed, request-served}
 use Rattle.queue.specs.declared.requests.Gate.the-variants as gate
 use Rattle.queue.specs.declared.requests.Ask.{Ask}
 use Rattle.queue.specs.declared.requests.Ask.the-variants as ask
-use Rattle.queue.specs.Calls.{sameAs, openIf, gateIn, gateOf, asRecorded, askIf, askOf}
-use Rattle.store.proofs.Images.{block-fits}
-use Rattle.queue.proofs.Images.{same-as, same-inside}
-use Rattle.store.proofs.Transfers.{cut-not}
+use Rattle.queue.specs.Calls.{openIf, gateIn, gateOf, asRecorded, askIf, askOf}
+use Rattle.looks.proofs.Images.{block-fits}
+use Rattle.queue.proofs.Images.{same-inside}
+use Rattle.looks.proofs.Transfers.{cut-not}
 use Rattle.serving.proofs.Rooms.{claimed-is, open-is}
 
 -- ---- the gate
 
 -- what an open gate says
-pub record Passed (img : List ℕ) (r : Record) (h : Host) : Type 0 where
-  pub ok : allowed (length img) ≡ true
+pub record Passed (N : ℕ) (img : List ℕ) (r : Record) (h : Host) : Type 0 where
+  pub ok : allowed N (length img) ≡ true
   pub host : leb (h .0) hostMax ≡ true
   pub idle : r .phase ≡ Idle
-  pub same : sameAs img (r .last) (r .block) ≡ true
+  pub same : sameImage N img r ≡ true
 
 open-not : (why : Refusal) → gate.Shut why ≡ gate.Open → ⊥
 open-not why e = let z : _≡_ {A = ℕ} 0 1 = cc in omega arith
@@ -63,43 +64,43 @@ shut-if false why e = (refl, cc)
 same-why : (a why : Refusal) → gate.Shut a ≡ gate.Shut why → a ≡ why
 same-why a why e = cc
 
-module _ (img : List ℕ) (r : Record) (h : Host) where
-  phase-open : (p : Phase) → gateIn p img (restOf r) ≡ gate.Open → (p ≡ Idle) × (sameAs img (r .last) (r .block) ≡ true)
+module _ (N : ℕ) (img : List ℕ) (r : Record) (h : Host) where
+  phase-open : (p : Phase) → gateIn N p img (restOf r) ≡ gate.Open → (p ≡ Idle) × (sameImage N img r ≡ true)
   phase-open (Busy s) e = absurd (open-not refusal.Busy e)
   phase-open Unmounted e = absurd (open-not refusal.NoStore e)
-  phase-open Idle e = (refl, open-if (sameAs img (r .last) (r .block)) e)
+  phase-open Idle e = (refl, open-if (sameImage N img r) e)
 
-  pub passed : gateOf img (r .phase) (restOf r) h ≡ gate.Open → Passed img r h
+  pub passed : gateOf N img (r .phase) (restOf r) h ≡ gate.Open → Passed N img r h
   unfolding gateOf
   passed e =
-      on-test (allowed (length img))
+      on-test (allowed N (length img))
       (λ a. on-test (leb (h .0) hostMax)
-      (λ b. let q : gateIn (r .phase) img (restOf r) ≡ gate.Open = rw (a, b, gateOf) at e in
+      (λ b. let q : gateIn N (r .phase) img (restOf r) ≡ gate.Open = rw (a, b, gateOf) at e in
       let p = phase-open (r .phase) q in record { ok = a; host = b; idle = p .0; same = p .1 })
       (λ b. absurd (open-not refusal.HostRange (rw (a, b, gateOf) at e))))
       (λ a. absurd (open-not refusal.ImageLength (rw (a, gateOf) at e)))
 
   module _ (reply m : List ℕ) (why : Refusal) where
     abbrev Refuses : Refusal → Type 0
-    Refuses n = requestOn img r reply h m ≡ refuse n img r reply
+    Refuses n = requestOn N img r reply h m ≡ refuse n img r reply
 
-    phase-shut : (p : Phase) → r .phase ≡ p → allowed (length img) ≡ true → leb (h .0) hostMax ≡ true → gateIn p img (restOf r) ≡ gate.Shut why
+    phase-shut : (p : Phase) → r .phase ≡ p → allowed N (length img) ≡ true → leb (h .0) hostMax ≡ true → gateIn N p img (restOf r) ≡ gate.Shut why
         → Refuses why
     unfolding held
-    phase-shut (Busy s) i a b e = rw (← same-why refusal.Busy why e) (request-busy img r reply h m a b s i)
-    phase-shut Unmounted i a b e = rw (← same-why refusal.NoStore why e) (request-unmounted img r reply h m a b i)
+    phase-shut (Busy s) i a b e = rw (← same-why refusal.Busy why e) (request-busy N img r reply h m a b s i)
+    phase-shut Unmounted i a b e = rw (← same-why refusal.NoStore why e) (request-unmounted N img r reply h m a b i)
     phase-shut Idle i a b e =
-        let p : (sameAs img (r .last) (r .block) ≡ false) × (refusal.Stale ≡ why) = shut-if (sameAs img (r .last) (r .block)) why e in
-        rw (← p .1) (request-stale img r reply h m a b i (ap (λ (t : Bool). heldBy t img r) (same-as img r ∙ p .0)))
+        let p : (sameImage N img r ≡ false) × (refusal.Stale ≡ why) = shut-if (sameImage N img r) why e in
+        rw (← p .1) (request-stale N img r reply h m a b i (ap (λ (t : Bool). heldBy N t img r) (p .0)))
 
-    pub shut : gateOf img (r .phase) (restOf r) h ≡ gate.Shut why → Refuses why
+    pub shut : gateOf N img (r .phase) (restOf r) h ≡ gate.Shut why → Refuses why
     unfolding gateOf
     shut e =
-        on-test (allowed (length img))
+        on-test (allowed N (length img))
         (λ a. on-test (leb (h .0) hostMax)
         (λ b. phase-shut (r .phase) refl a b (rw (a, b, gateOf) at e))
-        (λ b. rw (← same-why refusal.HostRange why (rw (a, b, gateOf) at e)) (request-host img r reply h m a b)))
-        (λ a. rw (← same-why refusal.ImageLength why (rw (a, gateOf) at e)) (request-length img r reply h m a))
+        (λ b. rw (← same-why refusal.HostRange why (rw (a, b, gateOf) at e)) (request-host N img r reply h m a b)))
+        (λ a. rw (← same-why refusal.ImageLength why (rw (a, gateOf) at e)) (request-length N img r reply h m a))
 
 -- ---- the block itself
 
@@ -137,68 +138,72 @@ serve-not : (q : Request) (why : Refusal) → ask.Refused why ≡ ask.Serve q �
 serve-not q why e = let z : _≡_ {A = ℕ} 0 1 = cc in omega arith
 
 -- a request that is served
-pub record Served (img : List ℕ) (r : Record) (h : Host) (m : List ℕ) (q : Request) : Type 0 where
+pub record Served (N : ℕ) (img : List ℕ) (r : Record) (h : Host) (m : List ℕ) (q : Request) : Type 0 where
   pub held : Held
-  pub serves : (reply : List ℕ) → requestOn img r reply h m ≡ serve img r reply h m held q
-  pub contents : Contents (block (sizeOf img) (r .block) img) (held .time) (held .frames) clean
-  pub state : blockState (block (sizeOf img) (r .block) img) ≡ valid (held .time) (held .frames) clean
+  pub serves : (reply : List ℕ) → requestOn N img r reply h m ≡ serve N img r reply h m held q
+  pub contents : Contents (block (sizeOf N img) (r .block) img) (held .time) (held .frames) clean
+  pub state : blockState (block (sizeOf N img) (r .block) img) ≡ valid (held .time) (held .frames) clean
   pub says : parse m ≡ Is q
 
-module _ (img : List ℕ) (r : Record) (h : Host) (m : List ℕ) (y : Bytes img) (p : Passed img r h) where
-  there : r .block < blocks
-  there = same-inside img (r .last) (r .block) (p .same)
-
-  held-is : (o : Option Held) → heldIn (sizeOf img) (r .end) (blockState (block (sizeOf img) (r .block) img)) ≡ o → held img r ≡ o
+module _ (N : ℕ) (img : List ℕ) (r : Record) (h : Host) (m : List ℕ) (y : Bytes img) (p : Passed N img r h) where
+  held-is : (o : Option Held) → heldIn (sizeOf N img) (r .end) (blockState (block (sizeOf N img) (r .block) img)) ≡ o → held N img r ≡ o
   unfolding held
-  held-is o e = ap (λ (t : Bool). heldBy t img r) (same-as img r ∙ p .same) ∙ e
+  held-is o e = ap (λ (t : Bool). heldBy N t img r) (p .same) ∙ e
 
-  pub looks : (headerLen ≤ length (block (sizeOf img) (r .block) img)) × (length (block (sizeOf img) (r .block) img) ≤ 32768)
-  looks = block-fits img (r .block) (p .ok) there
+  looks : (headerLen ≤ length (block (sizeOf N img) (r .block) img)) × (length (block (sizeOf N img) (r .block) img) ≤ 32768)
+  looks = block-fits N img (r .block) (p .ok) (same-inside N img r (p .same))
 
-  here-holds : Holding (sizeOf img) (r .end) (blockState (block (sizeOf img) (r .block) img))
+  -- what a survey of the block tells of
+  pub state-is : {size : ℕ} (b : List ℕ) → size ≡ sizeOf N img → b ≡ block size (r .block) img
+      → stateOf b ≡ blockState (block (sizeOf N img) (r .block) img)
+  state-is b e q =
+      let z : b ≡ block (sizeOf N img) (r .block) img = q ∙ ap (λ (s : ℕ). block s (r .block) img) e in
+      half-fits b (rw z looks) ∙ ap blockState z
+
+  here-holds : Holding (sizeOf N img) (r .end) (blockState (block (sizeOf N img) (r .block) img))
   here-holds =
-      holding (sizeOf img) (r .end) (block (sizeOf img) (r .block) img) (blockState (block (sizeOf img) (r .block) img)) refl
-      (bytes-block (sizeOf img) (r .block) img y) (looks .0)
+      holding (sizeOf N img) (r .end) (block (sizeOf N img) (r .block) img) (blockState (block (sizeOf N img) (r .block) img)) refl
+      (bytes-block (sizeOf N img) (r .block) img y) (looks .0)
 
   abbrev Asks : Ask → Type 0
-  Asks a = askOf (sizeOf img) (r .end) (surveyOf (blockState (block (sizeOf img) (r .block) img))) m ≡ a
+  Asks a = askOf (sizeOf N img) (r .end) (surveyOf (blockState (block (sizeOf N img) (r .block) img))) m ≡ a
 
-  pub unheard : (reply : List ℕ) (why : Refusal) → Asks (ask.Refused why) → requestOn img r reply h m ≡ refuse why img r reply
+  pub unheard : (reply : List ℕ) (why : Refusal) → Asks (ask.Refused why) → requestOn N img r reply h m ≡ refuse why img r reply
   unfolding askOf
   unheard reply why e = go here-holds
     where
-      on-message : (x : Held) (s : Parsed) → held img r ≡ some x → parse m ≡ s → askIf s ≡ ask.Refused why
-          → requestOn img r reply h m ≡ refuse why img r reply
+      on-message : (x : Held) (s : Parsed) → held N img r ≡ some x → parse m ≡ s → askIf s ≡ ask.Refused why
+          → requestOn N img r reply h m ≡ refuse why img r reply
       on-message x (Is q) w s z = absurd (ask-not q why z)
       on-message x Malformed w s z =
           let n : refusal.Malformed ≡ why = cc in
-          rw (← n) (request-malformed img r reply h m (p .ok) (p .host) x (p .idle) w s)
+          rw (← n) (request-malformed N img r reply h m (p .ok) (p .host) x (p .idle) w s)
 
-      go : Holding (sizeOf img) (r .end) (blockState (block (sizeOf img) (r .block) img)) → requestOn img r reply h m ≡ refuse why img r reply
+      go : Holding (sizeOf N img) (r .end) (blockState (block (sizeOf N img) (r .block) img)) → requestOn N img r reply h m ≡ refuse why img r reply
       go (holds-not f n) =
           let z : ask.Refused refusal.Stale ≡ ask.Refused why = rw (f, askOf) at e in
           let w : refusal.Stale ≡ why = cc in
-          rw (← w) (request-stale img r reply h m (p .ok) (p .host) (p .idle) (held-is none n))
+          rw (← w) (request-stale N img r reply h m (p .ok) (p .host) (p .idle) (held-is none n))
       go (holds-so x f n v) = on-message x (parse m) (held-is (some x) n) refl (rw (f, askOf) at e)
 
-  pub heard : (q : Request) → Asks (ask.Serve q) → Served img r h m q
+  pub heard : (q : Request) → Asks (ask.Serve q) → Served N img r h m q
   unfolding askOf
   heard q e = go here-holds
     where
-      on-message : (x : Held) (s : Parsed) → held img r ≡ some x → blockState (block (sizeOf img) (r .block) img) ≡ valid (x .time) (x .frames) clean
-          → parse m ≡ s → askIf s ≡ ask.Serve q → Served img r h m q
+      on-message : (x : Held) (s : Parsed) → held N img r ≡ some x → blockState (block (sizeOf N img) (r .block) img) ≡ valid (x .time) (x .frames) clean
+          → parse m ≡ s → askIf s ≡ ask.Serve q → Served N img r h m q
       on-message x (Is a) w v s z =
           let n : a ≡ q = cc in
           record {
             held = x;
-            serves = λ reply. request-served img r reply h m (p .ok) (p .host) x q (p .idle) w (s ∙ ap Is n);
-            contents = valid-inv (block (sizeOf img) (r .block) img) (x .time) (x .frames) clean
-                (bytes-block (sizeOf img) (r .block) img y) (looks .0) v;
+            serves = λ reply. request-served N img r reply h m (p .ok) (p .host) x q (p .idle) w (s ∙ ap Is n);
+            contents = valid-inv (block (sizeOf N img) (r .block) img) (x .time) (x .frames) clean
+                (bytes-block (sizeOf N img) (r .block) img y) (looks .0) v;
             state = v;
             says = s ∙ ap Is n;
           }
       on-message x Malformed w v s z = absurd (serve-not q refusal.Malformed z)
 
-      go : Holding (sizeOf img) (r .end) (blockState (block (sizeOf img) (r .block) img)) → Served img r h m q
+      go : Holding (sizeOf N img) (r .end) (blockState (block (sizeOf N img) (r .block) img)) → Served N img r h m q
       go (holds-not f n) = absurd (serve-not q refusal.Stale (rw (f, askOf) at e))
       go (holds-so x f n v) = on-message x (parse m) (held-is (some x) n) v refl (rw (f, askOf) at e)

@@ -1,5 +1,5 @@
 -- The stretch that a read hands back, and a served request as a whole.
-use mathlib.Core.Path.{_≡_, refl, sym, ap, subst, _∙_}
+use mathlib.Core.Path.{_≡_, refl, sym, ap, ap₂, subst, _∙_}
 use mathlib.Core.List.{List, []}
 use mathlib.Core.Option.{Option, none, some}
 use mathlib.Core.Bool.{Bool, true, false, _&&_, cond}
@@ -9,7 +9,7 @@ use lib.Dec.{eqb, ltb}
 use lib.ListN.{length, getD}
 use borrow.Author.Tests.{leb-true}
 use Rattle.flash.specs.Bytes.{Bytes}
-use Rattle.flash.specs.Flash.{blocks, block, sizeOf}
+use Rattle.flash.specs.Flash.{block, sizeOf}
 use Rattle.frame.specs.declared.Host.{Host}
 use Rattle.frame.specs.declared.ObjectId.{ObjectId}
 use Rattle.frame.specs.Frame.{hostMax, idMax, Change, put, delete, Frame, change, commit, abort}
@@ -47,8 +47,8 @@ use Rattle.job.specs.Code.{outcome}
 use Rattle.queue.specs.declared.reads.Located.{Located}
 use Rattle.queue.specs.Calls.{askOf, stretchAt, foundFor, AsksRead, answerTo, nothing, Finds}
 use Rattle.serving.specs.Calls.{refused, keptOr, Asks, serveIn, replyIn, frameIn}
-use Rattle.store.proofs.Images.{block-length}
-use Rattle.queue.proofs.Images.{same-inside}
+use Rattle.looks.proofs.Images.{block-length}
+use Rattle.queue.proofs.Images.{same-count, same-inside}
 use Rattle.queue.proofs.Asking.{Passed, Served, unheard, heard}
 use Rattle.serving.proofs.Answering.{journal, serve-is, reply-is}
 
@@ -56,40 +56,40 @@ stretch-of : (start : ℕ) (o : Option Value) → stretchOf start o ≡ stretchA
 stretch-of start none = refl
 stretch-of start (some x) = refl
 
-module _ (img : List ℕ) (r : Record) (reply : List ℕ) (h : Host) (x : Held)
-    (w : Contents (block (sizeOf img) (r .block) img) (x .time) (x .frames) clean) where
+module _ (N : ℕ) (img : List ℕ) (r : Record) (reply : List ℕ) (h : Host) (x : Held)
+    (w : Contents (block (sizeOf N img) (r .block) img) (x .time) (x .frames) clean) where
   cond-none : (t : Bool) (a b : Out) → a .stretch ≡ noStretch → b .stretch ≡ noStretch → cond t a b .stretch ≡ noStretch
   cond-none true a b p q = p
   cond-none false a b p q = q
 
-  append-none : (f : Frame) → append img r reply x f .stretch ≡ noStretch
+  append-none : (f : Frame) → append N img r reply x f .stretch ≡ noStretch
   unfolding append
-  append-none f = cond-none (needsRoom img r f && eqb (x .time) lastTime) _ _ refl refl
+  append-none f = cond-none (needsRoom N img r f && eqb (x .time) lastTime) _ _ refl refl
 
-  change-none : (c : Change) → serveChange img r reply h x c .stretch ≡ noStretch
+  change-none : (c : Change) → serveChange N img r reply h x c .stretch ≡ noStretch
   unfolding serveChange
-  change-none c = cond-none (noRoom (sizeOf img) (replay (x .frames)) h c) _ _ refl (append-none (change h c))
+  change-none c = cond-none (noRoom (sizeOf N img) (replay (x .frames)) h c) _ _ refl (append-none (change h c))
 
-  end-none : (f : Frame) → serveEnd img r reply h x f .stretch ≡ noStretch
+  end-none : (f : Frame) → serveEnd N img r reply h x f .stretch ≡ noStretch
   unfolding serveEnd
   end-none f = cond-none (isOpen h (replay (x .frames) .pending)) _ _ (append-none f) refl
 
-  log-none : (p : Page) → serveLog img r reply x p .stretch ≡ noStretch
+  log-none : (p : Page) → serveLog N img r reply x p .stretch ≡ noStretch
   unfolding serveLog
   log-none Summary = cond-none (ltb (length reply) pageLen) _ _ refl refl
 
   read-found : (i : ObjectId) → i .0 ≤ idMax → (o : Option (List ℕ)) → lookup i (replay (x .frames) .objects) ≡ o
-      → serveRead img r reply x i o .stretch
-      ≡ stretchAt (r .block * sizeOf img) (foundFor (block (sizeOf img) (r .block) img) (placesOf (x .frames)) (Read i))
+      → serveRead N img r reply x i o .stretch
+      ≡ stretchAt (r .block * sizeOf N img) (foundFor (block (sizeOf N img) (r .block) img) (placesOf (x .frames)) (Read i))
   read-found i l none e =
-      let q : valueAt (block (sizeOf img) (r .block) img) i (getD (placesOf (x .frames)) (i .0) 0) ≡ none =
-      ap (valueAt (block (sizeOf img) (r .block) img) i) (no-place (x .frames) i l e) ∙ value-zero (block (sizeOf img) (r .block) img) i in
-      sym (ap (λ (v : Option Value). stretchAt (r .block * sizeOf img) (foundOf v)) q)
-  read-found i l (some v) e = stretch-of (r .block * sizeOf img)
-      (valueAt (block (sizeOf img) (r .block) img) i (getD (placesOf (x .frames)) (i .0) 0))
+      let q : valueAt (block (sizeOf N img) (r .block) img) i (getD (placesOf (x .frames)) (i .0) 0) ≡ none =
+      ap (valueAt (block (sizeOf N img) (r .block) img) i) (no-place (x .frames) i l e) ∙ value-zero (block (sizeOf N img) (r .block) img) i in
+      sym (ap (λ (v : Option Value). stretchAt (r .block * sizeOf N img) (foundOf v)) q)
+  read-found i l (some v) e = stretch-of (r .block * sizeOf N img)
+      (valueAt (block (sizeOf N img) (r .block) img) i (getD (placesOf (x .frames)) (i .0) 0))
 
   stretch-is : (m : List ℕ) (q : Request) → InRange m q
-      → serve img r reply h m x q .stretch ≡ stretchAt (r .block * sizeOf img) (foundFor (block (sizeOf img) (r .block) img) (placesOf (x .frames)) q)
+      → serve N img r reply h m x q .stretch ≡ stretchAt (r .block * sizeOf N img) (foundFor (block (sizeOf N img) (r .block) img) (placesOf (x .frames)) q)
   unfolding serve
   stretch-is m (Put i) k = change-none (put i (valueIn m))
   stretch-is m (Delete i) k = change-none (delete i)
@@ -100,18 +100,18 @@ module _ (img : List ℕ) (r : Record) (reply : List ℕ) (h : Host) (x : Held)
 
   -- what was found says how a read is answered
   read-answers : (i : ObjectId) → i .0 ≤ idMax → (o : Option (List ℕ)) → lookup i (replay (x .frames) .objects) ≡ o → (g : Found)
-      → foundFor (block (sizeOf img) (r .block) img) (placesOf (x .frames)) (Read i) ≡ g → answerTo g ≡ serveRead img r reply x i o .answer
+      → foundFor (block (sizeOf N img) (r .block) img) (placesOf (x .frames)) (Read i) ≡ g → answerTo g ≡ serveRead N img r reply x i o .answer
   read-answers i l none e g q =
-      let z : valueAt (block (sizeOf img) (r .block) img) i (getD (placesOf (x .frames)) (i .0) 0) ≡ none =
-      ap (valueAt (block (sizeOf img) (r .block) img) i) (no-place (x .frames) i l e) ∙ value-zero (block (sizeOf img) (r .block) img) i in
+      let z : valueAt (block (sizeOf N img) (r .block) img) i (getD (placesOf (x .frames)) (i .0) 0) ≡ none =
+      ap (valueAt (block (sizeOf N img) (r .block) img) i) (no-place (x .frames) i l e) ∙ value-zero (block (sizeOf N img) (r .block) img) i in
       ap answerTo (sym q ∙ ap foundOf z)
   read-answers i l (some v) e g q =
-      let z : ValueStands (block (sizeOf img) (r .block) img) i (getD (placesOf (x .frames)) (i .0) 0) v =
-      place-law (block (sizeOf img) (r .block) img) (x .frames) i v (journal img r reply h x w) l e in
+      let z : ValueStands (block (sizeOf N img) (r .block) img) i (getD (placesOf (x .frames)) (i .0) 0) v =
+      place-law (block (sizeOf N img) (r .block) img) (x .frames) i v (journal w) l e in
       ap answerTo (sym q ∙ ap foundOf (z .found))
 
   answers-is : (m : List ℕ) (q : Request) → InRange m q → AsksRead (Is q) → (g : Found)
-      → foundFor (block (sizeOf img) (r .block) img) (placesOf (x .frames)) q ≡ g → answerTo g ≡ serve img r reply h m x q .answer
+      → foundFor (block (sizeOf N img) (r .block) img) (placesOf (x .frames)) q ≡ g → answerTo g ≡ serve N img r reply h m x q .answer
   unfolding serve
   answers-is m (Put i) k a g e = absurd a
   answers-is m (Delete i) k a g e = absurd a
@@ -122,24 +122,24 @@ module _ (img : List ℕ) (r : Record) (reply : List ℕ) (h : Host) (x : Held)
 
   -- what is found lies in the block
   found-in : (i : ObjectId) → i .0 ≤ idMax → (p n : ℕ) (o : Option (List ℕ)) → lookup i (replay (x .frames) .objects) ≡ o
-      → foundFor (block (sizeOf img) (r .block) img) (placesOf (x .frames)) (Read i) ≡ found.At p n → p + n ≤ length
-      (block (sizeOf img) (r .block) img)
+      → foundFor (block (sizeOf N img) (r .block) img) (placesOf (x .frames)) (Read i) ≡ found.At p n → p + n ≤ length
+      (block (sizeOf N img) (r .block) img)
   found-in i l p n none e q =
-      let z : valueAt (block (sizeOf img) (r .block) img) i (getD (placesOf (x .frames)) (i .0) 0) ≡ none =
-      ap (valueAt (block (sizeOf img) (r .block) img) i) (no-place (x .frames) i l e) ∙ value-zero (block (sizeOf img) (r .block) img) i in
+      let z : valueAt (block (sizeOf N img) (r .block) img) i (getD (placesOf (x .frames)) (i .0) 0) ≡ none =
+      ap (valueAt (block (sizeOf N img) (r .block) img) i) (no-place (x .frames) i l e) ∙ value-zero (block (sizeOf N img) (r .block) img) i in
       let y : found.Nothing ≡ found.At p n = sym (ap foundOf z) ∙ q in
       let u : _≡_ {A = ℕ} 0 1 = cc in
       absurd (omega arith)
   found-in i l p n (some v) e q =
-      let z : ValueStands (block (sizeOf img) (r .block) img) i (getD (placesOf (x .frames)) (i .0) 0) v =
-      place-law (block (sizeOf img) (r .block) img) (x .frames) i v (journal img r reply h x w) l e in
+      let z : ValueStands (block (sizeOf N img) (r .block) img) i (getD (placesOf (x .frames)) (i .0) 0) v =
+      place-law (block (sizeOf N img) (r .block) img) (x .frames) i v (journal w) l e in
       let y : found.At (z .at) (length v) ≡ found.At p n = sym (ap foundOf (z .found)) ∙ q in
       let a : z .at ≡ p = cc in
       let b : length v ≡ n = cc in
       omega (arith, z .fits)
 
   found-inside : (m : List ℕ) (q : Request) (p n : ℕ) → InRange m q
-      → foundFor (block (sizeOf img) (r .block) img) (placesOf (x .frames)) q ≡ found.At p n → p + n ≤ length (block (sizeOf img) (r .block) img)
+      → foundFor (block (sizeOf N img) (r .block) img) (placesOf (x .frames)) q ≡ found.At p n → p + n ≤ length (block (sizeOf N img) (r .block) img)
   found-inside m (Put i) p n k e = let u : _≡_ {A = ℕ} 0 1 = cc in absurd (omega arith)
   found-inside m (Delete i) p n k e = let u : _≡_ {A = ℕ} 0 1 = cc in absurd (omega arith)
   found-inside m Commit p n k e = let u : _≡_ {A = ℕ} 0 1 = cc in absurd (omega arith)
@@ -148,14 +148,14 @@ module _ (img : List ℕ) (r : Record) (reply : List ℕ) (h : Host) (x : Held)
   found-inside m (Log g) p n k e = let u : _≡_ {A = ℕ} 0 1 = cc in absurd (omega arith)
 
 -- a refused request, and a refused read
-pub refused-all : (img : List ℕ) (r : Record) (h : Host) (m reply p f : List ℕ) (why : Refusal) (s : Stepped)
-    → requestOn img r reply h m ≡ refuse why img r reply → s ≡ refused why (restOf r)
-    → let o : Out = requestOn img r reply h m in Asks r p f s o × (reply ≡ o .reply)
-refused-all img r h m reply p f why s e q = rw (e, q) (record { answers = refl; gives = refl }, refl)
+pub refused-all : (N : ℕ) (img : List ℕ) (r : Record) (h : Host) (m reply p f : List ℕ) (why : Refusal) (s : Stepped)
+    → requestOn N img r reply h m ≡ refuse why img r reply → s ≡ refused why (restOf r)
+    → let o : Out = requestOn N img r reply h m in Asks r p f s o × (reply ≡ o .reply)
+refused-all N img r h m reply p f why s e q = rw (e, q) (record { answers = refl; gives = refl }, refl)
 
-pub none-read : (img : List ℕ) (r : Record) (h : Host) (m : List ℕ) (why : Refusal) (l : Located) → requestOn img r [] h m ≡ refuse why img r []
-    → l ≡ nothing why → Finds img r h m l
-none-read img r h m why l e q =
+pub none-read : (N : ℕ) (img : List ℕ) (r : Record) (h : Host) (m : List ℕ) (why : Refusal) (l : Located)
+    → requestOn N img r [] h m ≡ refuse why img r [] → l ≡ nothing why → Finds N img r h m l
+none-read N img r h m why l e q =
     rw q (record {
       answers = λ a. sym (ap (λ (o : Out). o .answer) e);
       at = sym (ap (λ (o : Out). o .stretch .at) e);
@@ -171,22 +171,23 @@ by-value x o e q = (ap (λ (y : Outcome). y .answer) e ∙ q .0 .answers, ap (λ
 
 -- ---- a request as far as its message was read
 
-pub record Looked (img : List ℕ) (r : Record) (h : Host) (m : List ℕ) (s : Survey) (a : Ask) : Type 0 where
+pub record Looked (N : ℕ) (img : List ℕ) (r : Record) (h : Host) (m : List ℕ) (size : ℕ) (s : Survey) (a : Ask) : Type 0 where
   pub bytes : Bytes img
-  pub passed : Passed img r h
-  pub survey : s ≡ surveyOf (blockState (block (sizeOf img) (r .block) img))
-  pub asks : a ≡ askOf (sizeOf img) (r .end) s m
+  pub passed : Passed N img r h
+  pub sized : size ≡ sizeOf N img
+  pub survey : s ≡ surveyOf (blockState (block (sizeOf N img) (r .block) img))
+  pub asks : a ≡ askOf size (r .end) s m
 
-module _ {img : List ℕ} {r : Record} {h : Host} {m : List ℕ} {s : Survey} {a : Ask} (l : Looked img r h m s a) where
-  asked : (b : Ask) → a ≡ b → askOf (sizeOf img) (r .end) (surveyOf (blockState (block (sizeOf img) (r .block) img))) m ≡ b
-  asked b e = ap (λ (x : Survey). askOf (sizeOf img) (r .end) x m) (sym (l .survey)) ∙ sym (l .asks) ∙ e
+module _ {N : ℕ} {img : List ℕ} {r : Record} {h : Host} {m : List ℕ} {size : ℕ} {s : Survey} {a : Ask} (l : Looked N img r h m size s a) where
+  asked : (b : Ask) → a ≡ b → askOf (sizeOf N img) (r .end) (surveyOf (blockState (block (sizeOf N img) (r .block) img))) m ≡ b
+  asked b e = ap₂ (λ (n : ℕ) (x : Survey). askOf n (r .end) x m) (sym (l .sized)) (sym (l .survey)) ∙ sym (l .asks) ∙ e
 
-  pub not-served : (reply : List ℕ) (why : Refusal) → a ≡ ask.Refused why → requestOn img r reply h m ≡ refuse why img r reply
-  not-served reply why e = unheard img r h m (l .bytes) (l .passed) reply why (asked (ask.Refused why) e)
+  pub not-served : (reply : List ℕ) (why : Refusal) → a ≡ ask.Refused why → requestOn N img r reply h m ≡ refuse why img r reply
+  not-served reply why e = unheard N img r h m (l .bytes) (l .passed) reply why (asked (ask.Refused why) e)
 
   module _ (q : Request) (e : a ≡ ask.Serve q) where
-    served : Served img r h m q
-    served = heard img r h m (l .bytes) (l .passed) q (asked (ask.Serve q) e)
+    served : Served N img r h m q
+    served = heard N img r h m (l .bytes) (l .passed) q (asked (ask.Serve q) e)
 
     pub served-says : parse m ≡ Is q
     served-says = served .says
@@ -194,56 +195,59 @@ module _ {img : List ℕ} {r : Record} {h : Host} {m : List ℕ} {s : Survey} {a
     range : InRange m q
     range = in-range m q (served .says)
 
+    here : N ≡ r .blocks
+    here = same-count N img r (l .passed .same)
+
     low : h .0 ≤ hostMax
     low = leb-true (h .0) hostMax (l .passed .host)
 
     survey-now : s ≡ surveyOf (valid (served .held .time) (served .held .frames) clean)
     survey-now = l .survey ∙ ap surveyOf (served .state)
 
-    pub served-reply : (reply : List ℕ) → replyIn (sizeOf img) s reply q ≡ requestOn img r reply h m .reply
+    pub served-reply : (reply : List ℕ) → replyIn size s reply q ≡ requestOn N img r reply h m .reply
     served-reply reply =
-        ap (λ (x : Survey). replyIn (sizeOf img) x reply q) survey-now
-        ∙ sym (reply-is img r reply h (served .held) (served .contents) m q) ∙ sym (ap (λ (o : Out). o .reply) (served .serves reply))
+        ap₂ (λ (n : ℕ) (x : Survey). replyIn n x reply q) (l .sized) survey-now
+        ∙ sym (reply-is N img r reply h (served .held) here (served .contents) m q) ∙ sym (ap (λ (o : Out). o .reply) (served .serves reply))
 
-    module _ (places : List ℕ) (ep : places ≡ placesIn (blockState (block (sizeOf img) (r .block) img))) where
+    module _ (places : List ℕ) (ep : places ≡ placesIn (blockState (block (sizeOf N img) (r .block) img))) where
       places-now : places ≡ placesOf (served .held .frames)
       places-now = ep ∙ ap placesIn (served .state)
 
-      pub served-asks : (reply g f : List ℕ) (y : Stepped) → y ≡ serveIn (sizeOf img) (restOf r) reply h m s places q → f ≡ frameIn h m q g
-          → Asks r places f y (requestOn img r reply h m)
+      pub served-asks : (reply g f : List ℕ) (y : Stepped) → y ≡ serveIn size (restOf r) reply h m s places q → f ≡ frameIn h m q g
+          → Asks r places f y (requestOn N img r reply h m)
       served-asks reply g f y ey ef =
-          rw (ey, ef, survey-now, places-now, served .serves reply)
-          (serve-is img r reply h (served .held) (served .contents) m q g range low)
+          rw (ey, ef, l .sized, survey-now, places-now, served .serves reply)
+          (serve-is N img r reply h (served .held) here (served .contents) m q g range low)
 
-      module _ (b : List ℕ) (eb : b ≡ block (sizeOf img) (r .block) img) (f : Found) (ef : f ≡ foundFor b places q) where
-        found-here : f ≡ foundFor (block (sizeOf img) (r .block) img) places q
-        found-here = ef ∙ ap (λ (x : List ℕ). foundFor x places q) eb
+      module _ (b : List ℕ) (eb : b ≡ block size (r .block) img) (f : Found) (ef : f ≡ foundFor b places q) where
+        found-here : f ≡ foundFor (block (sizeOf N img) (r .block) img) places q
+        found-here = ef ∙ ap (λ (x : List ℕ). foundFor x places q) (eb ∙ ap (λ (n : ℕ). block n (r .block) img) (l .sized))
 
-        read-stretch : (g : Found) → f ≡ g → readOn img r h m ≡ stretchAt (r .block * sizeOf img) g
+        read-stretch : (g : Found) → f ≡ g → readOn N img r h m ≡ stretchAt (r .block * sizeOf N img) g
         read-stretch g eg =
-            ap (λ (o : Out). o .stretch) (served .serves []) ∙ stretch-is img r [] h (served .held) (served .contents) m q range
-            ∙ ap (λ (b : List ℕ). stretchAt (r .block * sizeOf img) (foundFor (block (sizeOf img) (r .block) img) b q)) (sym places-now)
-            ∙ ap (stretchAt (r .block * sizeOf img)) (sym found-here ∙ eg)
+            ap (λ (o : Out). o .stretch) (served .serves []) ∙ stretch-is N img r [] h (served .held) (served .contents) m q range
+            ∙ ap (λ (b : List ℕ). stretchAt (r .block * sizeOf N img) (foundFor (block (sizeOf N img) (r .block) img) b q)) (sym places-now)
+            ∙ ap (stretchAt (r .block * sizeOf N img)) (sym found-here ∙ eg)
 
         -- it lies in the image
-        pub read-inside : (at n : ℕ) → f ≡ found.At at n → (r .block * sizeOf img + at + n ≤ length img) × (length img ≤ 65536)
+        pub read-inside : (at n : ℕ) → f ≡ found.At at n → (r .block * size + at + n ≤ length img) × (length img ≤ 65536)
         read-inside at n eg =
-            let ok : allowed (length img) ≡ true = l .passed .ok in
-            let there : r .block < blocks = same-inside img (r .last) (r .block) (l .passed .same) in
-            let z : Sized (sizeOf img) img = sized-of img ok in
-            let i : at + n ≤ length (block (sizeOf img) (r .block) img) =
-            found-inside img r [] h (served .held) (served .contents) m q at n range
-            (ap (λ (b : List ℕ). foundFor (block (sizeOf img) (r .block) img) b q) (sym places-now) ∙ sym found-here ∙ eg) in
-            omega (arith, i, block-length img (r .block) ok there, sized-block (r .block) z there, z .two, z .high)
+            let ok : allowed N (length img) ≡ true = l .passed .ok in
+            let there : r .block < N = same-inside N img r (l .passed .same) in
+            let z : Sized N (sizeOf N img) img = sized-of N img ok in
+            let i : at + n ≤ length (block (sizeOf N img) (r .block) img) =
+            found-inside N img r [] h (served .held) (served .contents) m q at n range
+            (ap (λ (b : List ℕ). foundFor (block (sizeOf N img) (r .block) img) b q) (sym places-now) ∙ sym found-here ∙ eg) in
+            rw (l .sized) (omega (arith, i, block-length N img (r .block) ok there, sized-block (r .block) z there, z .short))
 
         -- its answer
-        read-answer : (g : Found) → f ≡ g → AsksRead (parse m) → answerTo g ≡ requestOn img r [] h m .answer
+        read-answer : (g : Found) → f ≡ g → AsksRead (parse m) → answerTo g ≡ requestOn N img r [] h m .answer
         read-answer g eg a =
-            answers-is img r [] h (served .held) (served .contents) m q range (subst AsksRead (served .says) a) g
-            (ap (λ (b : List ℕ). foundFor (block (sizeOf img) (r .block) img) b q) (sym places-now) ∙ sym found-here ∙ eg)
+            answers-is N img r [] h (served .held) (served .contents) m q range (subst AsksRead (served .says) a) g
+            (ap (λ (b : List ℕ). foundFor (block (sizeOf N img) (r .block) img) b q) (sym places-now) ∙ sym found-here ∙ eg)
             ∙ sym (ap (λ (o : Out). o .answer) (served .serves []))
 
-        pub read-none : f ≡ found.Nothing → (x : Located) → x ≡ nothing refusal.NoObject → Finds img r h m x
+        pub read-none : f ≡ found.Nothing → (x : Located) → x ≡ nothing refusal.NoObject → Finds N img r h m x
         read-none eg x ex =
             let z = read-stretch found.Nothing eg in
             rw ex (record {
@@ -254,12 +258,12 @@ module _ {img : List ℕ} {r : Record} {h : Host} {m : List ℕ} {s : Survey} {a
             })
 
         pub read-found-at : (at n : ℕ) → f ≡ found.At at n
-            → Finds img r h m (record { answer = Done; at = r .block * sizeOf img + at; size = n })
+            → Finds N img r h m (record { answer = Done; at = r .block * size + at; size = n })
         read-found-at at n eg =
             let z = read-stretch (found.At at n) eg in
             record {
               answers = read-answer (found.At at n) eg;
-              at = sym (ap (λ (s : Stretch). s .at) z);
+              at = ap (λ (k : ℕ). r .block * k + at) (l .sized) ∙ sym (ap (λ (s : Stretch). s .at) z);
               size = sym (ap (λ (s : Stretch). s .size) z);
               inside = read-inside at n eg .0;
             }

@@ -1,42 +1,45 @@
 -- The record's image.
-use mathlib.Core.Path.{_≡_, refl, ap}
+use mathlib.Core.Path.{_≡_, sym, ap, ap₂, _∙_}
 use mathlib.Core.List.{List}
-use mathlib.Core.Bool.{Bool, true, false, _&&_}
-use Prim.Native.Nat.{ℕ, zero, suc, _<_}
+use mathlib.Core.Bool.{Bool, true, _&&_, _||_}
+use Prim.Native.Nat.{ℕ, suc, _+_, _-_, _≤_, _<_}
 use native.Mathlib.Omega.{arith}
+use native.Mathlib.Numerals.{add-one}
 use lib.Dec.{eqb, ltb}
 use lib.ListN.{length}
-use borrow.Author.Tests.{ltb-true}
+use borrow.Author.Tests.{eqb-true, ltb-true}
 use Rattle.flash.specs.Bytes.{allFF}
-use Rattle.flash.specs.Flash.{blocks, blockNumbers, block, sizeOf}
+use Rattle.flash.specs.Flash.{numbersFrom, blockNumbers, block, sizeOf}
+use Rattle.flash.proofs.Cases.{and-left, and-right}
 use Rattle.board.specs.declared.Record.{Record}
-use Rattle.board.specs.Mount.{nextBlock}
+use Rattle.board.specs.Step.{sameShape}
 use Rattle.board.specs.Queue.{othersBlank, sameImage}
-use Rattle.queue.specs.Calls.{sameAs}
+use Rattle.looks.proofs.Listing.{numbers-next}
 
-and-true : (b : Bool) → (b && true) ≡ b
-and-true true = refl
-and-true false = refl
+-- ---- the other blocks, one by one
 
-others-blank : (k : ℕ) (img : List ℕ) → k < blocks → othersBlank k img blockNumbers ≡ allFF (block (sizeOf img) (nextBlock k) img)
-others-blank zero img h = and-true (allFF (block (sizeOf img) 1 img))
-others-blank (suc zero) img h = and-true (allFF (block (sizeOf img) 0 img))
-others-blank (suc (suc k)) img h = absurd (omega arith)
+module _ (N k : ℕ) (img : List ℕ) where
+  -- those from number j on
+  abbrev pub blankFrom : ℕ → Bool
+  blankFrom j = othersBlank N k img (numbersFrom j (N - j))
 
-same-there : (t : Bool) (k : ℕ) (img : List ℕ) → ltb k blocks ≡ t
-    → (t && othersBlank k img blockNumbers) ≡ (t && allFF (block (sizeOf img) (nextBlock k) img))
-same-there true k img e = others-blank k img (ltb-true k blocks e)
-same-there false k img e = refl
+  pub blank-start : blankFrom 0 ≡ othersBlank N k img (blockNumbers N)
+  blank-start = ap (λ (n : ℕ). othersBlank N k img (numbersFrom 0 n)) (omega arith)
 
-pub same-as : (img : List ℕ) (r : Record) → sameImage img r ≡ sameAs img (r .last) (r .block)
-unfolding sameAs
-same-as img r = ap (λ (t : Bool). eqb (length img) (suc (r .last)) && t) (same-there (ltb (r .block) blocks) (r .block) img refl)
+  pub blank-on : (j : ℕ) (t : Bool) → j < N → (eqb k j || allFF (block (sizeOf N img) j img)) ≡ t → blankFrom j ≡ (t && blankFrom (j + 1))
+  blank-on j t h e =
+      ap (othersBlank N k img) (numbers-next j N h) ∙ ap₂ (λ (u : Bool) (i : ℕ). u && blankFrom i) e (sym (add-one j))
 
-pub same-inside : (img : List ℕ) (l k : ℕ) → sameAs img l k ≡ true → k < blocks
-unfolding sameAs
-same-inside img l k e = go (eqb (length img) (suc l)) (ltb k blocks) refl e
-  where
-    go : (a b : Bool) → ltb k blocks ≡ b → (a && (b && allFF (block (sizeOf img) (nextBlock k) img))) ≡ true → k < blocks
-    go true true q t = ltb-true k blocks q
-    go true false q t = let z : _≡_ {A = Bool} false true = t in let w : _≡_ {A = ℕ} 0 1 = cc in absurd (omega arith)
-    go false b q t = let z : _≡_ {A = Bool} false true = t in let w : _≡_ {A = ℕ} 0 1 = cc in absurd (omega arith)
+  pub blank-end : (j : ℕ) → N ≤ j → blankFrom j ≡ true
+  unfolding numbersFrom
+  blank-end j h = let e : N - j ≡ 0 = omega arith in ap (λ (n : ℕ). othersBlank N k img (numbersFrom j n)) e
+
+-- ---- what an image that is the record's says
+
+module _ (N : ℕ) (img : List ℕ) (r : Record) (e : sameImage N img r ≡ true) where
+  pub same-count : N ≡ r .blocks
+  same-count = eqb-true N (r .blocks)
+      (and-right (eqb (length img) (suc (r .last))) (eqb N (r .blocks)) (and-left (sameShape N (length img) r) _ e))
+
+  pub same-inside : r .block < N
+  same-inside = ltb-true (r .block) N (and-left (ltb (r .block) N) _ (and-right (sameShape N (length img) r) _ e))

@@ -2,11 +2,9 @@
 use mathlib.Core.Path.{_≡_}
 use mathlib.Core.List.{List, []}
 use mathlib.Core.Bool.{Bool, true, false, _&&_, cond}
-use Prim.Native.Nat.{ℕ, suc, _+_, _*_, _≤_}
-use lib.Dec.{eqb, ltb, leb}
+use Prim.Native.Nat.{ℕ, _+_, _*_, _≤_}
+use lib.Dec.{eqb, leb}
 use lib.ListN.{length, getD}
-use Rattle.flash.specs.Bytes.{allFF}
-use Rattle.flash.specs.Flash.{blocks, block, sizeOf}
 use Rattle.frame.specs.declared.Host.{Host}
 use Rattle.frame.specs.Frame.{hostMax, endLen}
 use Rattle.survey.specs.declared.Survey.{Survey}
@@ -27,9 +25,8 @@ use Rattle.board.specs.declared.Phase.{Phase}
 use Rattle.board.specs.declared.Phase.the-variants.{Unmounted, Idle, Busy}
 use Rattle.board.specs.declared.Rest.{Rest}
 use Rattle.board.specs.declared.Record.{Record}
-use Rattle.board.specs.Record.{allowed, Stretch, noStretch, Out}
-use Rattle.board.specs.Mount.{nextBlock}
-use Rattle.board.specs.Queue.{requestOn, readOn}
+use Rattle.board.specs.Record.{allowed, idle, Stretch, noStretch, Out}
+use Rattle.board.specs.Queue.{sameImage, requestOn, readOn}
 use Rattle.job.specs.declared.records.Stepped.{Stepped}
 use Rattle.job.specs.Code.{placed}
 use Rattle.queue.specs.declared.reads.Located.{Located}
@@ -37,7 +34,7 @@ use Rattle.queue.specs.declared.requests.Gate.{Gate}
 use Rattle.queue.specs.declared.requests.Gate.the-variants as gate
 use Rattle.queue.specs.declared.requests.Ask.{Ask}
 use Rattle.queue.specs.declared.requests.Ask.the-variants as ask
-use Rattle.store.specs.Calls.{isValid}
+use Rattle.looks.specs.Surveys.{isValid}
 use Rattle.serving.specs.Calls.{openIn, claimedIn, Asks}
 
 -- ---- before a request is served
@@ -46,19 +43,15 @@ abbrev pub openIf : Bool → Gate
 openIf true = gate.Open
 openIf false = gate.Shut refusal.Stale
 
--- "idle record: its length differs, or .." the recorded block isn't there, or the other isn't blank
-unfoldable pub sameAs : List ℕ → ℕ → ℕ → Bool
-sameAs img last k = eqb (length img) (suc last) && (ltb k blocks && allFF (block (sizeOf img) (nextBlock k) img))
-
-abbrev pub gateIn : Phase → List ℕ → Rest → Gate
-gateIn (Busy s) img z = gate.Shut refusal.Busy
-gateIn Unmounted img z = gate.Shut refusal.NoStore
-gateIn Idle img z = openIf (sameAs img (z .last) (z .block))
+abbrev pub gateIn : ℕ → Phase → List ℕ → Rest → Gate
+gateIn N (Busy s) img z = gate.Shut refusal.Busy
+gateIn N Unmounted img z = gate.Shut refusal.NoStore
+gateIn N Idle img z = openIf (sameImage N img (idle z))
 
 -- 4, 10, 5, 2, and of 11 all but the block itself
-unfoldable pub gateOf : List ℕ → Phase → Rest → Host → Gate
-gateOf img p z h =
-    cond (allowed (length img)) (cond (leb (h .0) hostMax) (gateIn p img z) (gate.Shut refusal.HostRange))
+unfoldable pub gateOf : ℕ → List ℕ → Phase → Rest → Host → Gate
+gateOf N img p z h =
+    cond (allowed N (length img)) (cond (leb (h .0) hostMax) (gateIn N p img z) (gate.Shut refusal.HostRange))
     (gate.Shut refusal.ImageLength)
 
 -- the block is as an idle record has it
@@ -77,9 +70,9 @@ askOf size end s m = cond (asRecorded size end s) (askIf (parse m)) (ask.Refused
 -- ---- a request
 
 -- what it came to, for every record that stands there; the job's arrays and the reply after it
-abbrev pub Requested : List ℕ → Phase → Rest → List ℕ → Host → List ℕ → Stepped → List ℕ → List ℕ → List ℕ → Type 0
-Requested img p z reply h m s places frame after =
-    (b : Record) → let o : Out = requestOn img (placed p z b) reply h m in Asks (placed p z b) places frame s o × (after ≡ o .reply)
+abbrev pub Requested : ℕ → List ℕ → Phase → Rest → List ℕ → Host → List ℕ → Stepped → List ℕ → List ℕ → List ℕ → Type 0
+Requested N img p z reply h m s places frame after =
+    (b : Record) → let o : Out = requestOn N img (placed p z b) reply h m in Asks (placed p z b) places frame s o × (after ≡ o .reply)
 
 -- ---- a read
 
@@ -94,10 +87,10 @@ AsksRead (Is (Read i)) = Unit {0}
 AsksRead (Is (Log p)) = ⊥
 
 -- the request's stretch, and its answer where it asks for nothing else
-pub record Finds (img : List ℕ) (r : Record) (h : Host) (m : List ℕ) (l : Located) : Type 0 where
-  pub answers : AsksRead (parse m) → l .answer ≡ requestOn img r [] h m .answer
-  pub at : l .at ≡ readOn img r h m .at
-  pub size : l .size ≡ readOn img r h m .size
+pub record Finds (N : ℕ) (img : List ℕ) (r : Record) (h : Host) (m : List ℕ) (l : Located) : Type 0 where
+  pub answers : AsksRead (parse m) → l .answer ≡ requestOn N img r [] h m .answer
+  pub at : l .at ≡ readOn N img r h m .at
+  pub size : l .size ≡ readOn N img r h m .size
   pub inside : l .at + l .size ≤ length img
 
 abbrev pub nothing : Refusal → Located

@@ -58,15 +58,22 @@ fn value_for(block: &[u8], places: &[u16; 256], ask: Request) -> Found
 }
 
 // A read by where the record stands: its answer and its stretch in one look.
-pub fn find(image: &[u8], phase: Phase, rest: Rest, host: Host, message: &[u8]) -> Located
-    ensures { λ r. ⌜ ((b : Record) → Finds (now (image .entry)) (placed phase rest b) host (now (message .entry)) r) ⌝ }
+pub fn find(
+    image: &[u8],
+    blocks: u8,
+    phase: Phase,
+    rest: Rest,
+    host: Host,
+    message: &[u8],
+) -> Located
+    ensures { λ r. ⌜ ((b : Record) → Finds blocks (now (image .entry)) (placed phase rest b) host (now (message .entry)) r) ⌝ }
 {
-    match requests::check(image, phase, rest, host) {
+    match requests::check(image, blocks, phase, rest, host) {
         Gate::Shut(why) => return nothing(why),
         Gate::Open => {
-            let size = image.len() / 2;
+            let size = flash::size_of(blocks, image.len());
             let mut places = records::no_places();
-            let block = flash::block_of(image, rest.block);
+            let block = flash::block_of(image, size, rest.block);
             let s = survey::survey_block(block, &mut places);
             match requests::hear(size, rest.end, s, message) {
                 Ask::Refused(why) => return nothing(why),
@@ -86,13 +93,13 @@ pub fn find(image: &[u8], phase: Phase, rest: Rest, host: Host, message: &[u8]) 
 }
 
 // Where a read's value stands, and its size: both 0 where it is refused.
-pub fn locate(image: &[u8], board: Record, host: Host, message: &[u8]) -> Stretch
-    ensures { λ r. ⌜ (r .at ≡ readOn (now (image .entry)) board host (now (message .entry)) .at)
-        × (r .size ≡ readOn (now (image .entry)) board host (now (message .entry)) .size)
+pub fn locate(image: &[u8], blocks: u8, board: Record, host: Host, message: &[u8]) -> Stretch
+    ensures { λ r. ⌜ (r .at ≡ readOn blocks (now (image .entry)) board host (now (message .entry)) .at)
+        × (r .size ≡ readOn blocks (now (image .entry)) board host (now (message .entry)) .size)
         × (r .at + r .size ≤ length (now (image .entry))) ⌝ }
 {
     let phase = board.phase;
-    let found = find(image, phase, records::rest_of(board), host, message);
+    let found = find(image, blocks, phase, records::rest_of(board), host, message);
     Stretch {
         at: found.at,
         size: found.size,
@@ -100,13 +107,13 @@ pub fn locate(image: &[u8], board: Record, host: Host, message: &[u8]) -> Stretc
 }
 
 // The stretch of the image that a read hands back, empty where it is refused.
-pub fn read<'a>(image: &'a [u8], board: Record, host: Host, message: &[u8]) -> &'a [u8]
-    ensures value { λ r. ⌜ now r ≡ take (readOn (now (image .entry)) board host (now (message .entry)) .size)
-        (drop (readOn (now (image .entry)) board host (now (message .entry)) .at) (now (image .entry))) ⌝ }
+pub fn read<'a>(image: &'a [u8], blocks: u8, board: Record, host: Host, message: &[u8]) -> &'a [u8]
+    ensures value { λ r. ⌜ now r ≡ take (readOn blocks (now (image .entry)) board host (now (message .entry)) .size)
+        (drop (readOn blocks (now (image .entry)) board host (now (message .entry)) .at) (now (image .entry))) ⌝ }
     ensures place { λ r. ⌜ (ptr r .0 ≡ ptr (image .entry) .0)
-        × (ptr r .1 ≡ readOn (now (image .entry)) board host (now (message .entry)) .at + ptr (image .entry) .1) ⌝ }
+        × (ptr r .1 ≡ readOn blocks (now (image .entry)) board host (now (message .entry)) .at + ptr (image .entry) .1) ⌝ }
 {
-    let s = locate(image, board, host, message);
+    let s = locate(image, blocks, board, host, message);
     let start = s.at;
     let end = start + s.size;
     &image[start..end]

@@ -1,28 +1,30 @@
 // Queue requests: the refusals in document 01's order.
 ghost use mathlib.Core.Path.{_≡_};
-ghost use Rattle.board.specs.Queue.{requestOn};
+ghost use mathlib.Core.Bool.{_||_};
+ghost use lib.Dec.{eqb};
+ghost use Rattle.flash.specs.Bytes.{allFF};
+ghost use Rattle.flash.specs.Flash.{block, blockNumbers};
+ghost use Rattle.board.specs.Record.{idle};
+ghost use Rattle.board.specs.Queue.{othersBlank, sameImage, requestOn};
 ghost use Rattle.job.specs.Code.{outcome};
 ghost use Rattle.serving.specs.Calls.{keptOr};
-ghost use Rattle.queue.specs.Calls.{sameAs, gateOf, gateIn, asRecorded, askOf, Requested};
+ghost use Rattle.queue.specs.Calls.{gateOf, gateIn, asRecorded, askOf, Requested};
 use board::Phase;
 use board::Record;
 use board::Rest;
-use flash::BLOCKS;
 use frame::Host;
 use frame::MAX_FRAME;
 use job::Outcome;
 use job::records;
 use job::records::Stepped;
+use looks::image;
+use looks::surveys;
 use serving::room;
-use store::image;
-use store::surveys;
 use survey::Survey;
 use wire::Answer;
 use wire::Parsed;
 use wire::Refusal;
 use wire::Request;
-
-const BLOCK_COUNT: u8 = BLOCKS as u8;
 
 // Whether the current block is to be looked at, or why not.
 pub enum Gate {
@@ -36,28 +38,53 @@ pub enum Ask {
     Refused(Refusal),
 }
 
-// The image has the recorded length, the recorded block is there, and the other is blank.
-fn same_image(image: &[u8], last: u16, number: u8) -> bool
-    ensures { λ r. ⌜ r ≡ sameAs (now (image .entry)) last number ⌝ }
+// A block is blank, or the one that is passed over.
+fn passes(image: &[u8], size: usize, number: u8, k: u8) -> bool
+    ensures { λ r. ⌜ r ≡ (eqb number k || allFF (block size k (now (image .entry)))) ⌝ }
 {
-    if image.len() != last as usize + 1 {
+    if number == k {
+        return true;
+    }
+    flash::is_blank(flash::block_of(image, size, k))
+}
+
+// Every block but one is blank.
+fn others_blank(image: &[u8], blocks: u8, number: u8) -> bool
+    ensures { λ r. ⌜ r ≡ othersBlank blocks number (now (image .entry)) (blockNumbers blocks) ⌝ }
+{
+    let size = flash::size_of(blocks, image.len());
+    let mut k = 0;
+    while k < blocks {
+        if !passes(image, size, number, k) {
+            return false;
+        }
+        k += 1;
+    }
+    true
+}
+
+// The image has the recorded length and number of blocks, the recorded block is there, and the others are blank.
+fn same_image(image: &[u8], blocks: u8, rest: Rest) -> bool
+    ensures { λ r. ⌜ r ≡ sameImage blocks (now (image .entry)) (idle rest) ⌝ }
+{
+    if !job::same_shape(image.len(), blocks, rest) {
         return false;
     }
-    if BLOCK_COUNT <= number {
+    if blocks <= rest.block {
         return false;
     }
-    flash::is_blank(flash::block_of(image, image::next_block(number)))
+    others_blank(image, blocks, rest.block)
 }
 
 // A record in no job, and the image that it is of.
-fn check_phase(image: &[u8], phase: Phase, rest: Rest) -> Gate
-    ensures { λ r. ⌜ r ≡ gateIn phase (now (image .entry)) rest ⌝ }
+fn check_phase(image: &[u8], blocks: u8, phase: Phase, rest: Rest) -> Gate
+    ensures { λ r. ⌜ r ≡ gateIn blocks phase (now (image .entry)) rest ⌝ }
 {
     match phase {
         Phase::Busy(_) => return Gate::Shut(Refusal::Busy),
         Phase::Unmounted => return Gate::Shut(Refusal::NoStore),
         Phase::Idle => {
-            if same_image(image, rest.last, rest.block) {
+            if same_image(image, blocks, rest) {
                 return Gate::Open;
             }
             return Gate::Shut(Refusal::Stale);
@@ -65,16 +92,16 @@ fn check_phase(image: &[u8], phase: Phase, rest: Rest) -> Gate
     }
 }
 
-pub fn check(image: &[u8], phase: Phase, rest: Rest, host: Host) -> Gate
-    ensures { λ r. ⌜ r ≡ gateOf (now (image .entry)) phase rest host ⌝ }
+pub fn check(image: &[u8], blocks: u8, phase: Phase, rest: Rest, host: Host) -> Gate
+    ensures { λ r. ⌜ r ≡ gateOf blocks (now (image .entry)) phase rest host ⌝ }
 {
-    if !image::is_allowed(image.len()) {
+    if !image::is_allowed(blocks, image.len()) {
         return Gate::Shut(Refusal::ImageLength);
     }
     if 3 < host.0 {
         return Gate::Shut(Refusal::HostRange);
     }
-    check_phase(image, phase, rest)
+    check_phase(image, blocks, phase, rest)
 }
 
 // The current block is as an idle record has it.
@@ -132,6 +159,7 @@ fn kept_or(s: Stepped, board: Record, places: [u16; 256], frame: [u8; MAX_FRAME]
 // A request by where the record stands. A job that began has its places and frame in the arrays that are lent.
 pub fn request_core(
     image: &[u8],
+    blocks: u8,
     phase: Phase,
     rest: Rest,
     host: Host,
@@ -140,14 +168,14 @@ pub fn request_core(
     places: &mut [u16; 256],
     frame: &mut [u8; MAX_FRAME],
 ) -> Stepped
-    ensures { λ r. ⌜ Requested (now (image .entry)) phase rest (now (reply .entry)) host (now (message .entry))
+    ensures { λ r. ⌜ Requested blocks (now (image .entry)) phase rest (now (reply .entry)) host (now (message .entry))
         r (now (places .exit)) (now (frame .exit)) (now (reply .exit)) ⌝ }
 {
-    match check(image, phase, rest, host) {
+    match check(image, blocks, phase, rest, host) {
         Gate::Shut(why) => return serving::refused(why, rest),
         Gate::Open => {
-            let size = image.len() / 2;
-            let s = survey::survey_block(flash::block_of(image, rest.block), places);
+            let size = flash::size_of(blocks, image.len());
+            let s = survey::survey_block(flash::block_of(image, size, rest.block), places);
             match hear(size, rest.end, s, message) {
                 Ask::Refused(why) => return serving::refused(why, rest),
                 Ask::Serve(ask) => return serving::serve(
@@ -166,10 +194,17 @@ pub fn request_core(
     }
 }
 
-pub fn request(image: &[u8], board: Record, host: Host, message: &[u8], reply: &mut [u8]) -> Outcome
-    ensures { λ r. ⌜ (r .answer ≡ requestOn (now (image .entry)) board (now (reply .entry)) host (now (message .entry)) .answer)
-        × (r .board ≡ requestOn (now (image .entry)) board (now (reply .entry)) host (now (message .entry)) .board)
-        × (now (reply .exit) ≡ requestOn (now (image .entry)) board (now (reply .entry)) host (now (message .entry)) .reply) ⌝ }
+pub fn request(
+    image: &[u8],
+    blocks: u8,
+    board: Record,
+    host: Host,
+    message: &[u8],
+    reply: &mut [u8],
+) -> Outcome
+    ensures { λ r. ⌜ (r .answer ≡ requestOn blocks (now (image .entry)) board (now (reply .entry)) host (now (message .entry)) .answer)
+        × (r .board ≡ requestOn blocks (now (image .entry)) board (now (reply .entry)) host (now (message .entry)) .board)
+        × (now (reply .exit) ≡ requestOn blocks (now (image .entry)) board (now (reply .entry)) host (now (message .entry)) .reply) ⌝ }
 {
     let mut places = records::no_places();
     let mut frame = records::no_frame();
@@ -177,6 +212,7 @@ pub fn request(image: &[u8], board: Record, host: Host, message: &[u8], reply: &
     let rest = records::rest_of(board);
     let s = request_core(
         image,
+        blocks,
         phase,
         rest,
         host,

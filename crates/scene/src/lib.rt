@@ -1,13 +1,17 @@
 // What the programs that run the store share: a call with its steps, and a line that says what it came to.
 ghost use mathlib.Core.Path.{_≡_};
-ghost use mathlib.Core.List.{_∷_, []};
+ghost use mathlib.Core.List.{_∷_, [], _++_};
 ghost use Prim.Native.Nat.{_≤_};
-ghost use Rattle.scene.specs.Runs.{runOn, benchOf, callOn, fresh, askOn, putMessage};
-ghost use lib.ListN.{length, take};
+ghost use Rattle.scene.specs.Runs.{runOn, newBench, imageOf, benchOf, callOn, fresh, askOn, putMessage};
+ghost use lib.ListN.{length, take, drop};
 ghost use Rattle.board.specs.Mount.{mountOn, formatOn};
 use board::Record;
 use frame::Host;
 use job::Outcome;
+use job::records;
+
+// The longest image of a bench: 16 blocks of 256 bytes.
+pub const ROOM: usize = 4096;
 
 // What a call and the steps after it came to: the last answer, 255 for more, and how many steps there were.
 pub struct Ran {
@@ -16,9 +20,11 @@ pub struct Ran {
     pub steps: usize,
 }
 
-// An image of two halves of 256 bytes, its record, and what the last call came to.
+// An image, the first bytes of a buffer; the number of blocks that calls are told; the record, and what the last call came to.
 pub struct Bench {
-    pub image: [u8; 512],
+    pub image: [u8; ROOM],
+    pub size: usize,
+    pub blocks: u8,
     pub board: Record,
     pub answer: u8,
     pub steps: usize,
@@ -66,7 +72,7 @@ pub fn tell_run(what: &[u8], r: Ran) {
     result(r.answer, r.steps);
     if r.answer != 255 {
         let board = r.board;
-        say(b"; half ");
+        say(b"; block ");
         number(board.block as usize);
         say(b", end ");
         number(board.end as usize);
@@ -113,15 +119,44 @@ fn show(image: &[u8], from: usize, to: usize) {
 
 pub fn bytes(d: Bench, from: usize, to: usize) {
     let image = d.image;
-    show(&image, from, to);
+    show(front(&image, d.size), from, to);
+}
+
+// ---- benches
+
+// The first bytes, as many as there are.
+pub fn front(s: &[u8], n: usize) -> &[u8]
+    ensures { λ r. ⌜ now r ≡ take n (now (s .entry)) ⌝ }
+{
+    if s.len() < n {
+        return s;
+    }
+    &s[..n]
+}
+
+// An image of so many bytes of one value, unmounted.
+pub fn new(value: u8, size: usize, blocks: u8) -> Bench
+    ensures { λ r. ⌜ r ≡ newBench value size blocks ⌝ }
+{
+    let board = records::unmounted();
+    Bench {
+        image: [value; ROOM],
+        size: size,
+        blocks: blocks,
+        board: board,
+        answer: 0,
+        steps: 0,
+        reply: [0xEE; 16],
+    }
 }
 
 // ---- calls
 
 // Does a job's steps, at most so many.
-pub fn run(image: &mut [u8], begun: Outcome, most: usize) -> Ran
-    ensures { λ r. ⌜ (now (image .exit) ≡ runOn most (now (image .entry)) begun .image) × (r .board ≡ runOn most (now (image .entry)) begun .board)
-        × (r .answer ≡ runOn most (now (image .entry)) begun .answer) × (r .steps ≡ runOn most (now (image .entry)) begun .steps) ⌝ }
+pub fn run(image: &mut [u8], blocks: u8, begun: Outcome, most: usize) -> Ran
+    ensures { λ r. ⌜ (now (image .exit) ≡ runOn blocks most (now (image .entry)) begun .image)
+        × (r .board ≡ runOn blocks most (now (image .entry)) begun .board)
+        × (r .answer ≡ runOn blocks most (now (image .entry)) begun .answer) × (r .steps ≡ runOn blocks most (now (image .entry)) begun .steps) ⌝ }
 {
     let first = begun.answer;
     let mut board = begun.board;
@@ -131,7 +166,7 @@ pub fn run(image: &mut [u8], begun: Outcome, most: usize) -> Ran
         if answer != 255 {
             break;
         }
-        let next = job::step(image, board);
+        let next = job::step(image, blocks, board);
         let now = next.answer;
         board = next.board;
         answer = wire::number(now);
@@ -144,15 +179,30 @@ pub fn run(image: &mut [u8], begun: Outcome, most: usize) -> Ran
     }
 }
 
-// A call on an image, and its steps.
-pub fn went(start: [u8; 512], begun: Outcome, reply: [u8; 16], most: usize) -> Bench
-    ensures { λ r. ⌜ r ≡ benchOf (runOn most start begun) reply ⌝ }
+// The same on the first bytes of a buffer.
+fn run_front(buffer: &mut [u8], size: usize, blocks: u8, begun: Outcome, most: usize) -> Ran
+    ensures { λ r. ⌜ (now (buffer .exit) ≡ runOn blocks most (take size (now (buffer .entry))) begun .image ++ drop size (now (buffer .entry)))
+        × (r .board ≡ runOn blocks most (take size (now (buffer .entry))) begun .board)
+        × (r .answer ≡ runOn blocks most (take size (now (buffer .entry))) begun .answer)
+        × (r .steps ≡ runOn blocks most (take size (now (buffer .entry))) begun .steps) ⌝ }
 {
-    let mut image = start;
-    let r = run(&mut image, begun, most);
+    if buffer.len() < size {
+        return run(buffer, blocks, begun, most);
+    }
+    run(&mut buffer[..size], blocks, begun, most)
+}
+
+// A call on a bench's image, and its steps.
+pub fn went(d: Bench, begun: Outcome, reply: [u8; 16], most: usize) -> Bench
+    ensures { λ r. ⌜ r ≡ benchOf d (runOn (d .blocks) most (imageOf d) begun) reply ⌝ }
+{
+    let mut image = d.image;
+    let r = run_front(&mut image, d.size, d.blocks, begun, most);
     let board = r.board;
     Bench {
         image: image,
+        size: d.size,
+        blocks: d.blocks,
         board: board,
         answer: r.answer,
         steps: r.steps,
@@ -167,8 +217,15 @@ pub fn ask_some(d: Bench, host: u8, message: &[u8], most: usize) -> Bench
     let image = d.image;
     let board = d.board;
     let mut reply = [0xEE; 16];
-    let begun = queue::request(&image, board, Host(host), message, &mut reply);
-    went(image, begun, reply, most)
+    let begun = queue::request(
+        front(&image, d.size),
+        d.blocks,
+        board,
+        Host(host),
+        message,
+        &mut reply,
+    );
+    went(d, begun, reply, most)
 }
 
 pub fn ask(d: Bench, host: u8, message: &[u8]) -> Bench
@@ -210,16 +267,20 @@ pub fn commit(d: Bench, host: u8) -> Bench
 }
 
 pub fn mount(d: Bench) -> Bench
-    ensures { λ r. ⌜ r ≡ callOn 65536 (d .image) (mountOn (d .image)) fresh ⌝ }
+    ensures { λ r. ⌜ r ≡ callOn d 65536 (mountOn (d .blocks) (imageOf d)) fresh ⌝ }
 {
     let image = d.image;
-    went(image, store::mount(&image), [0xEE; 16], 65536)
+    let begun = store::mount(front(&image, d.size), d.blocks);
+    went(d, begun, [0xEE; 16], 65536)
 }
 
-pub fn format(start: [u8; 512]) -> Bench
-    ensures { λ r. ⌜ r ≡ callOn 65536 start (formatOn start) fresh ⌝ }
+// A format, with so many steps at most.
+pub fn format(d: Bench, most: usize) -> Bench
+    ensures { λ r. ⌜ r ≡ callOn d most (formatOn (d .blocks) (imageOf d)) fresh ⌝ }
 {
-    went(start, store::format(&start), [0xEE; 16], 65536)
+    let image = d.image;
+    let begun = store::format(front(&image, d.size), d.blocks);
+    went(d, begun, [0xEE; 16], most)
 }
 
 // ---- what a bench holds
@@ -259,7 +320,7 @@ fn object(d: Bench, id: u8) -> usize
     say(b" ");
     number(id as usize);
     say(b" of ");
-    number(queue::read(&image, board, Host(0), &message).len());
+    number(queue::read(front(&image, d.size), d.blocks, board, Host(0), &message).len());
     say(b" bytes");
     1
 }

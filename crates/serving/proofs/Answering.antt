@@ -1,5 +1,5 @@
 -- The requests by surveys and places are the definitions' requests.
-use mathlib.Core.Path.{_≡_, refl, sym, ap, _∙_}
+use mathlib.Core.Path.{_≡_, refl, sym, ap, subst, _∙_}
 use mathlib.Core.List.{List}
 use mathlib.Core.Option.{Option, none, some}
 use mathlib.Core.Bool.{Bool, true, false, _&&_, cond}
@@ -77,30 +77,42 @@ unfolding goWipe goOpen goAppend
 goes z s true n c l = (refl, refl)
 goes z s false n c l = rw (lt-ltb 0 n l) (refl, refl)
 
-module _ (img : List ℕ) (r : Record) (reply : List ℕ) (h : Host) (x : Held)
-    (w : Contents (block (sizeOf img) (r .block) img) (x .time) (x .frames) clean) where
+-- the frames of a valid block
+pub journal : {b : List ℕ} {t : ℕ} {fs : List Frame} → Contents b t fs clean → Journal b fs
+journal {t = t} w =
+    record {
+      head = header t validData;
+      rest = w .rest;
+      split = w .layout .is;
+      long = refl;
+      stand = w .layout .stands;
+    }
+
+module _ (N : ℕ) (img : List ℕ) (r : Record) (reply : List ℕ) (h : Host) (x : Held) (same : N ≡ r .blocks)
+    (w : Contents (block (sizeOf N img) (r .block) img) (x .time) (x .frames) clean) where
   abbrev survey : Survey
   survey = surveyOf (valid (x .time) (x .frames) clean)
 
   abbrev places : List ℕ
   places = placesOf (x .frames)
 
-  append-is : (f : Frame) → Asks r places (bytesOf f) (appendIn (sizeOf img) (restOf r) survey (frameLen f)) (append img r reply x f)
+  append-is : (f : Frame) → Asks r places (bytesOf f) (appendIn (sizeOf N img) (restOf r) survey (frameLen f)) (append N img r reply x f)
   unfolding append appendIn surveyOf
   append-is f =
-      let m : Bool = needsRoom img r f in
+      let m : Bool = needsRoom (r .blocks) img r f in
       let z : Rest = restOf r in
       let j : Job = appendPlan z survey m (frameLen f) in
       let g = goes z survey m (frameLen f) (starting 0 headerLen) (omega arith) in
-      asks-if r places (bytesOf f) (m && eqb (x .time) lastTime) (refusing r _ _ img reply refusal.Worn)
+      subst (λ (k : ℕ). Asks r places (bytesOf f) (appendIn (sizeOf k img) z survey (frameLen f)) (append k img r reply x f)) (sym same)
+      (asks-if r places (bytesOf f) (m && eqb (x .time) lastTime) (refusing r _ _ img reply refusal.Worn)
       (begun r _ _ img reply _ _ (g .0) (g .1)
-      (wipe-leaves places noFrame (bytesOf f) (record { phase = Busy Wipe; rest = z; job = j; cursor = starting 0 headerLen })))
+      (wipe-leaves places noFrame (bytesOf f) (record { phase = Busy Wipe; rest = z; job = j; cursor = starting 0 headerLen }))))
 
   change-is : (c : Change) → Asks r places (bytesOf (change h c))
-      (changeIn (sizeOf img) (restOf r) survey h (frameLen (change h c)) (spare c)) (serveChange img r reply h x c)
+      (changeIn (sizeOf N img) (restOf r) survey h (frameLen (change h c)) (spare c)) (serveChange N img r reply h x c)
   unfolding serveChange changeIn
   change-is c =
-      rw (← no-room-is w (sizeOf img) h c) (asks-if r _ _ (noRoom (sizeOf img) (replay (x .frames)) h c)
+      rw (← no-room-is w (sizeOf N img) h c) (asks-if r _ _ (noRoom (sizeOf N img) (replay (x .frames)) h c)
       (refusing r _ _ img reply refusal.NoRoom) (append-is (change h c)))
 
   open-is : h .0 ≤ hostMax → isOpen h (replay (x .frames) .pending) ≡ ltb 0 (getD (survey .pending) (h .0) 0)
@@ -108,37 +120,27 @@ module _ (img : List ℕ) (r : Record) (reply : List ℕ) (h : Host) (x : Held)
   open-is l = open-bytes h (replay (x .frames) .pending) ∙ ap (ltb 0) (sym (per-at (λ g. pendingBytes g (replay (x .frames) .pending)) h l))
 
   end-is : (f : Frame) → frameLen f ≡ endLen → h .0 ≤ hostMax
-      → Asks r places (bytesOf f) (endIn (sizeOf img) (restOf r) survey h) (serveEnd img r reply h x f)
+      → Asks r places (bytesOf f) (endIn (sizeOf N img) (restOf r) survey h) (serveEnd N img r reply h x f)
   unfolding serveEnd endIn
   end-is f e l =
       rw (← open-is l, ← e) (asks-if r _ _ (isOpen h (replay (x .frames) .pending)) (append-is f) (doing r _ _ img reply))
 
-  pub journal : Journal (block (sizeOf img) (r .block) img) (x .frames)
-  journal =
-      record {
-        head = header (x .time) validData;
-        rest = w .rest;
-        split = w .layout .is;
-        long = refl;
-        stand = w .layout .stands;
-      }
-
   read-is : (f : List ℕ) (i : ObjectId) → i .0 ≤ idMax → (o : Option (List ℕ)) → lookup i (replay (x .frames) .objects) ≡ o
-      → Asks r places f (readIn (restOf r) places i) (serveRead img r reply x i o)
+      → Asks r places f (readIn (restOf r) places i) (serveRead N img r reply x i o)
   unfolding readIn
   read-is f i l none e = rw (no-place (x .frames) i l e) (refusing r _ _ img reply refusal.NoObject)
   read-is f i l (some v) e =
-      let z : ValueStands (block (sizeOf img) (r .block) img) i (getD (placesOf (x .frames)) (i .0) 0) v =
-      place-law (block (sizeOf img) (r .block) img) (x .frames) i v journal l e in
+      let z : ValueStands (block (sizeOf N img) (r .block) img) i (getD (placesOf (x .frames)) (i .0) 0) v =
+      place-law (block (sizeOf N img) (r .block) img) (x .frames) i v (journal w) l e in
       rw (ne-eqb (getD (placesOf (x .frames)) (i .0) 0) 0 (λ q. omega (arith, z .past))) (record { answers = refl; gives = refl })
 
-  log-is : (f : List ℕ) (p : Page) → Asks r places f (logIn (restOf r) reply) (serveLog img r reply x p)
+  log-is : (f : List ℕ) (p : Page) → Asks r places f (logIn (restOf r) reply) (serveLog N img r reply x p)
   unfolding serveLog logIn
   log-is f Summary =
       asks-if r _ _ (ltb (length reply) pageLen) (refusing r _ _ img reply refusal.ShortReply) (record { answers = refl; gives = refl })
 
   pub serve-is : (m : List ℕ) (q : Request) (g : List ℕ) → InRange m q → h .0 ≤ hostMax
-      → Asks r places (frameIn h m q g) (serveIn (sizeOf img) (restOf r) reply h m survey places q) (serve img r reply h m x q)
+      → Asks r places (frameIn h m q g) (serveIn (sizeOf N img) (restOf r) reply h m survey places q) (serve N img r reply h m x q)
   unfolding serve
   serve-is m (Put i) g k l = rw (take-all valueMax (valueIn m) (k .1)) (change-is (put i (valueIn m)))
   serve-is m (Delete i) g k l = change-is (delete i)
@@ -153,27 +155,27 @@ module _ (img : List ℕ) (r : Record) (reply : List ℕ) (h : Host) (x : Held)
   cond-reply true a b p q = p
   cond-reply false a b p q = q
 
-  append-reply : (f : Frame) → append img r reply x f .reply ≡ reply
+  append-reply : (f : Frame) → append N img r reply x f .reply ≡ reply
   unfolding append
-  append-reply f = cond-reply (needsRoom img r f && eqb (x .time) lastTime) _ _ refl refl
+  append-reply f = cond-reply (needsRoom N img r f && eqb (x .time) lastTime) _ _ refl refl
 
-  change-reply : (c : Change) → serveChange img r reply h x c .reply ≡ reply
+  change-reply : (c : Change) → serveChange N img r reply h x c .reply ≡ reply
   unfolding serveChange
-  change-reply c = cond-reply (noRoom (sizeOf img) (replay (x .frames)) h c) _ _ refl (append-reply (change h c))
+  change-reply c = cond-reply (noRoom (sizeOf N img) (replay (x .frames)) h c) _ _ refl (append-reply (change h c))
 
-  end-reply : (f : Frame) → serveEnd img r reply h x f .reply ≡ reply
+  end-reply : (f : Frame) → serveEnd N img r reply h x f .reply ≡ reply
   unfolding serveEnd
   end-reply f = cond-reply (isOpen h (replay (x .frames) .pending)) _ _ (append-reply f) refl
 
-  read-reply : (i : ObjectId) (o : Option (List ℕ)) → serveRead img r reply x i o .reply ≡ reply
+  read-reply : (i : ObjectId) (o : Option (List ℕ)) → serveRead N img r reply x i o .reply ≡ reply
   read-reply i none = refl
   read-reply i (some v) = refl
 
-  log-reply : (p : Page) → serveLog img r reply x p .reply ≡ replyIn (sizeOf img) survey reply (Log p)
+  log-reply : (p : Page) → serveLog N img r reply x p .reply ≡ replyIn (sizeOf N img) survey reply (Log p)
   unfolding serveLog pageInto surveyOf
   log-reply Summary = on-test (ltb (length reply) pageLen) (λ t. rw (t, pageInto)) (λ t. rw (t, pageInto))
 
-  pub reply-is : (m : List ℕ) (q : Request) → serve img r reply h m x q .reply ≡ replyIn (sizeOf img) survey reply q
+  pub reply-is : (m : List ℕ) (q : Request) → serve N img r reply h m x q .reply ≡ replyIn (sizeOf N img) survey reply q
   unfolding serve
   reply-is m (Put i) = change-reply (put i (valueIn m))
   reply-is m (Delete i) = change-reply (delete i)

@@ -28,7 +28,7 @@ use Rattle.board.specs.Mount.{nextBlock, newTime}
 use Rattle.job.specs.declared.records.Numbers.{Numbers}
 use Rattle.job.specs.declared.records.Stepped.{Stepped}
 use Rattle.job.specs.Code.{assemble, atRest, begins}
-use Rattle.store.specs.Calls.{sumOf}
+use Rattle.looks.specs.Surveys.{sumOf}
 
 -- ---- what a request came to
 
@@ -80,7 +80,7 @@ appendPlan z s moves n =
       wipes = 0;
       moves = moves;
       drops = true;
-      target = nextBlock (z .block);
+      target = nextBlock (z .blocks) (z .block);
       time = newTime moves (s .time);
       since = s .since;
       size = n;

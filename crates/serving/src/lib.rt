@@ -10,7 +10,7 @@ pub mod room;
 use board::Job;
 use board::Phase;
 use board::Rest;
-use flash::BLOCKS;
+use flash::MAX_BLOCKS;
 use frame::DELETE_LEN;
 use frame::END_LEN;
 use frame::Head;
@@ -20,8 +20,8 @@ use frame::ObjectId;
 use frame::PUT_LEN;
 use job::records;
 use job::records::Stepped;
-use store::image;
-use store::surveys;
+use looks::image;
+use looks::surveys;
 use survey::Survey;
 use wire::Answer;
 use wire::Page;
@@ -65,11 +65,11 @@ fn append(size: usize, rest: Rest, s: Survey, n: u8) -> Stepped
     }
     let since = s.since;
     let job = Job {
-        wipe: [0; BLOCKS],
+        wipe: [0; MAX_BLOCKS],
         wipes: 0,
         moves: moves,
         drops: true,
-        target: image::next_block(rest.block),
+        target: image::next_block(rest.blocks, rest.block),
         time: surveys::new_time(moves, s.time),
         since: since,
         size: n,

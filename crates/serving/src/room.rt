@@ -7,7 +7,7 @@ ghost use Rattle.journal.specs.Room.{one};
 ghost use Rattle.serving.specs.Calls.{claimedIn, openIn, openWith, noRoomIn};
 use frame::END_LEN;
 use frame::Host;
-use store::surveys;
+use looks::surveys;
 use survey::Survey;
 
 pub const END: usize = END_LEN as usize;

@@ -1,7 +1,5 @@
-// Mount and format in code: each equal to its definition, on every input. What the queue's requests share with them is public too.
-pub mod image;
+// Mount and format in code: each equal to its definition, on every input.
 mod mounts;
-pub mod surveys;
 
 pub use mounts::format;
 pub use mounts::format_core;

@@ -12,6 +12,7 @@ use job::Outcome;
 use scene::Bench;
 use scene::ask;
 use scene::ask_some;
+use scene::front;
 use scene::put;
 use scene::result;
 use scene::say;
@@ -22,7 +23,7 @@ use wire::Answer;
 // ---- requests
 
 // A number as a byte; a larger one shows.
-fn byte(n: usize) -> u8 {
+pub fn byte(n: usize) -> u8 {
     if 255 < n {
         say(b"? above 255 ");
         return 255;
@@ -52,8 +53,15 @@ pub fn with_reply(d: Bench, message: &[u8], room: usize, text: &[u8]) -> Bench {
     }
     let image = d.image;
     let mut reply = [0xEE; 16];
-    let begun = queue::request(&image, d.board, Host(0), message, &mut reply[0..room]);
-    let after = went(image, begun, reply, 65536);
+    let begun = queue::request(
+        front(&image, d.size),
+        d.blocks,
+        d.board,
+        Host(0),
+        message,
+        &mut reply[0..room],
+    );
+    let after = went(d, begun, reply, 65536);
     came(d, after, text);
     after
 }
@@ -70,8 +78,7 @@ pub fn reads(d: Bench, message: &[u8], text: &[u8]) {
 // ---- the board's calls
 
 pub fn formats(d: Bench, most: usize, text: &[u8]) -> Bench {
-    let image = d.image;
-    let after = went(image, store::format(&image), [0xEE; 16], most);
+    let after = scene::format(d, most);
     tell(text, after);
     after
 }
@@ -98,13 +105,12 @@ pub fn mounts(d: Bench, text: &[u8]) -> Bench {
 
 // Step calls: what a job has left, or one that may not change anything.
 pub fn stepped(d: Bench, most: usize, text: &[u8]) -> Bench {
-    let image = d.image;
     let board = d.board;
     let more = Outcome {
         answer: Answer::More,
         board: board,
     };
-    let after = went(image, more, [0xEE; 16], most);
+    let after = went(d, more, [0xEE; 16], most);
     if 1 < most {
         tell(text, after);
         return after;

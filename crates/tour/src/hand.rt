@@ -1,5 +1,6 @@
 // The store changed by hand, and images of other lengths.
-use crate::lines::front;
+use crate::calls::byte;
+use crate::lines::Args;
 use crate::shown::answered;
 use crate::shown::judge;
 use crate::shown::records;
@@ -10,19 +11,16 @@ use frame::Host;
 use job::Outcome;
 use lent::RECORD_SIZE;
 use scene::Bench;
+use scene::front;
 use scene::say;
 
 // ---- changes
 
-// A blank image, unmounted.
-pub fn new() -> Bench {
-    Bench {
-        image: [0xFF; 512],
-        board: job::records::unmounted(),
-        answer: 0,
-        steps: 0,
-        reply: [0xEE; 16],
-    }
+// Calls are told another number of blocks from now on.
+pub fn told(d: Bench, blocks: u8) -> Bench {
+    let mut e = d;
+    e.blocks = blocks;
+    e
 }
 
 fn lay_at(bytes: &mut [u8], at: usize, source: &[u8]) {
@@ -41,10 +39,11 @@ pub fn image(d: Bench, at: usize, bytes: &[u8]) -> Bench {
     e
 }
 
-// The first half in both.
-pub fn double(d: Bench) -> Bench {
+// Block 0's bytes at an offset too.
+pub fn double(d: Bench, at: usize) -> Bench {
     let old = d.image;
-    image(d, 256, flash::block_of(&old, 0))
+    let size = flash::size_of(d.blocks, d.size);
+    image(d, at, flash::block_of(&old, size, 0))
 }
 
 fn record(old: Record, at: usize, bytes: &[u8]) -> Record {
@@ -65,11 +64,11 @@ pub fn board(d: Bench, at: usize, bytes: &[u8]) -> Bench {
 // ---- images of other lengths
 
 // A format, a mount, or 3 bytes of a commit from host 4.
-fn called(zeros: &[u8], board: Record, which: usize, reply: &mut [u8]) -> Outcome {
+fn called(zeros: &[u8], blocks: u8, board: Record, which: usize, reply: &mut [u8]) -> Outcome {
     match which {
-        0 => store::format(zeros),
-        1 => store::mount(zeros),
-        _ => queue::request(zeros, board, Host(4), &[4, 0, 3], reply),
+        0 => store::format(zeros, blocks),
+        1 => store::mount(zeros, blocks),
+        _ => queue::request(zeros, blocks, board, Host(4), &[4, 0, 3], reply),
     }
 }
 
@@ -82,12 +81,14 @@ fn left(old: Record, new: Record, which: usize, reply: [u8; 16]) {
     say(b"\n");
 }
 
-// A call on an image of so many bytes 0.
-pub fn zeros(d: Bench, size: usize, which: usize, text: &[u8]) {
+// A call on an image of so many bytes 0, b of them, with c blocks.
+pub fn zeros(d: Bench, n: Args, text: &[u8]) {
+    let size = n.b;
+    let which = n.d;
     let image = [0u8; 66048];
     let old = [0u8; 66048];
     let mut reply = [0xEE; 16];
-    let after = called(front(&image, size), d.board, which, &mut reply);
+    let after = called(front(&image, size), byte(n.c), d.board, which, &mut reply);
     let answer = after.answer;
     say(text);
     answered(wire::number(answer));
@@ -99,7 +100,7 @@ pub fn zeros(d: Bench, size: usize, which: usize, text: &[u8]) {
 pub fn elsewhere(d: Bench, text: &[u8]) {
     let board = d.board;
     let mut image = [0xFF; 768];
-    let after = job::step(&mut image, board);
+    let after = job::step(&mut image, d.blocks, board);
     let answer = after.answer;
     let next = after.board;
     say(text);

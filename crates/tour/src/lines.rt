@@ -1,7 +1,7 @@
 // A line of the script, taken apart.
 ghost use Prim.Native.Nat.{_≤_};
 ghost use mathlib.Core.Path.{_≡_};
-ghost use lib.ListN.{length, take};
+ghost use lib.ListN.{length};
 
 // A line's last three numbers, d the last of them, and how many there are: NONE where one can't be read. Inside, a digit goes on.
 pub struct Args {
@@ -37,13 +37,6 @@ pub fn find(s: &[u8], from: usize, byte: u8) -> usize
     i
 }
 
-pub fn front(s: &[u8], n: usize) -> &[u8] {
-    if s.len() < n {
-        return s;
-    }
-    &s[0..n]
-}
-
 // What stands after an index.
 pub fn after(s: &[u8], at: usize) -> &[u8] {
     let n = s.len();
@@ -58,7 +51,7 @@ const EXPECTED: [usize; 26] = [
     1,
     1,
     2,
-    0,
+    1,
     0,
     1,
     0,
@@ -68,10 +61,10 @@ const EXPECTED: [usize; 26] = [
     1,
     0,
     0,
-    0,
+    2,
     0,
     3,
-    10,
+    1,
     0,
     0,
     0,
@@ -80,7 +73,7 @@ const EXPECTED: [usize; 26] = [
     1,
     10,
     10,
-    2,
+    3,
 ];
 
 pub fn expected(word: u8) -> usize {

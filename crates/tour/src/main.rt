@@ -6,10 +6,10 @@ use lines::Args;
 use lines::after;
 use lines::expected;
 use lines::find;
-use lines::front;
 use lines::message;
 use lines::numbers;
 use scene::Bench;
+use scene::front;
 use scene::number;
 use scene::say;
 
@@ -35,8 +35,9 @@ fn next(d: Bench, word: u8, n: Args, message: &[u8], text: &[u8]) -> Bench {
         b'm' => calls::mounts(d, text),
         b'g' => calls::stepped(d, 65536, text),
         b't' => calls::stepped(d, 1, text),
-        b'n' => hand::new(),
-        b'd' => hand::double(d),
+        b'n' => scene::new(0xFF, n.c, calls::byte(n.d)),
+        b'q' => hand::told(d, calls::byte(n.d)),
+        b'd' => hand::double(d, n.d),
         b'i' => hand::image(d, n.d, message),
         b'b' => hand::board(d, n.d, message),
         _ => d,
@@ -52,7 +53,7 @@ fn show(d: Bench, word: u8, n: Args, message: &[u8], text: &[u8]) {
         b'o' => scene::objects(d),
         b'h' => shown::reply_shown(d),
         b'r' => calls::reads(d, message, text),
-        b'z' => hand::zeros(d, n.c, n.d, text),
+        b'z' => hand::zeros(d, n, text),
         b'e' => hand::elsewhere(d, text),
         _ => (),
     }
@@ -150,7 +151,7 @@ fn line(t: Tour, s: &[u8], count: usize) -> Tour {
 }
 
 fn script(s: &[u8]) {
-    let start = hand::new();
+    let start = scene::new(0xFF, 512, 2);
     let mut t = Tour {
         now: start,
         kept: [start; 4],

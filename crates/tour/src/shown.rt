@@ -5,6 +5,7 @@ use check::same;
 use frame::Host;
 use lent::RECORD_SIZE;
 use scene::Bench;
+use scene::front;
 use scene::hex;
 use scene::number;
 use scene::result;
@@ -84,7 +85,7 @@ pub fn unmounted(board: Record) {
 
 pub fn stretch(d: Bench, message: &[u8]) {
     let image = d.image;
-    let found = queue::read(&image, d.board, Host(0), message);
+    let found = queue::read(front(&image, d.size), d.blocks, d.board, Host(0), message);
     say(b"; stretch [");
     hex(found);
     say(b" ] of length ");

@@ -52,8 +52,3 @@ byte-in n i l h = before-zeros (take n l) (n - length (take n l)) i ∙ getD-tak
 pub byte-past : (n i : ℕ) (l : List ℕ) → n ≤ i → getD (bytesIn n l) i 0 ≡ 0
 byte-past n i l h =
     before-zeros (take n l) (n - length (take n l)) i ∙ List·getD-eq-default (take n l) 0 (simp length-take (omega arith))
-
-pub two-in : (l : List ℕ) → getD l 0 0 ∷ getD l 1 0 ∷ [] ≡ bytesIn 2 l
-two-in [] = refl
-two-in (x ∷ []) = refl
-two-in (x ∷ y ∷ l) = refl

@@ -18,6 +18,7 @@ pub fn rest_of(bytes: &[u8]) -> Rest
     ensures { λ r. ⌜ r ≡ restOf (recordIn (now (bytes .entry))) ⌝ }
 {
     Rest {
+        blocks: byte_at(bytes, lent::BLOCKS_AT),
         last: word_in(bytes, lent::LAST_AT),
         block: byte_at(bytes, lent::BLOCK_AT),
         end: word_in(bytes, lent::END_AT),

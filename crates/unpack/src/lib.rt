@@ -14,7 +14,7 @@ pub use drive::numbers;
 pub use drive::places;
 pub use drive::unit;
 pub use drive::unit_byte;
-use flash::BLOCKS;
+use flash::MAX_BLOCKS;
 use flash::byte_at;
 use frame::MAX_FRAME;
 pub use head::phase_of;
@@ -22,7 +22,7 @@ pub use head::rest_of;
 use wire::word_at;
 ghost use mathlib.Core.Path.{_≡_};
 ghost use lib.ListN.{take, drop};
-ghost use Rattle.flash.specs.Flash.{blocks};
+ghost use Rattle.flash.specs.Flash.{maxBlocks};
 ghost use Rattle.frame.specs.Frame.{maxFrame};
 ghost use Rattle.wire.specs.Message.{wordAt};
 ghost use Rattle.lent.specs.Layout.{phaseIn, bytesIn, wordsIn, numberIn, flagIn, jobIn, cursorIn, recordIn};
@@ -124,18 +124,19 @@ fn flag_in(number: u8) -> bool
     number != 0
 }
 
-// A step of C's reads them, so they are read one by one and not copied as a stretch.
-fn wipe_in(bytes: &[u8]) -> [u8; BLOCKS]
-    ensures { λ r. ⌜ r ≡ bytesIn blocks (now (bytes .entry)) ⌝ }
+fn wipe_in(bytes: &[u8]) -> [u8; MAX_BLOCKS]
+    ensures { λ r. ⌜ r ≡ bytesIn maxBlocks (now (bytes .entry)) ⌝ }
 {
-    [byte_at(bytes, 0), byte_at(bytes, 1)]
+    let mut w = [0u8; MAX_BLOCKS];
+    wire::lay(&mut w[..], front(bytes, MAX_BLOCKS));
+    w
 }
 
 fn job_in(bytes: &[u8]) -> Job
     ensures { λ r. ⌜ r ≡ jobIn (now (bytes .entry)) ⌝ }
 {
     let wipe = wipe_in(bytes);
-    let plan = tail(bytes, BLOCKS);
+    let plan = tail(bytes, MAX_BLOCKS);
     let since = since_in(tail(plan, lent::SINCE_AT));
     Job {
         wipe: wipe,
@@ -181,6 +182,7 @@ pub fn decode(bytes: &[u8]) -> Record
     let frame = frame_in(tail(bytes, lent::FRAME_AT));
     Record {
         phase: phase_in(byte_at(bytes, 0)),
+        blocks: byte_at(bytes, lent::BLOCKS_AT),
         last: word_in(bytes, lent::LAST_AT),
         block: byte_at(bytes, lent::BLOCK_AT),
         end: word_in(bytes, lent::END_AT),

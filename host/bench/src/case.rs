@@ -5,6 +5,7 @@ use store::{Answer, Head, Idle, Store, message};
 
 /// A store at rest, and the same with one change of host 0 pending.
 pub struct Case {
+    pub blocks: u8,
     pub fill: &'static str,
     pub rest: Vec<u8>,
     pub rest_idle: Idle,
@@ -15,25 +16,27 @@ pub struct Case {
 /// A board under the model, which builds the images.
 struct Builder {
     image: Vec<u8>,
+    blocks: u8,
     record: model::Record,
 }
 
 impl Builder {
-    fn formatted(length: usize) -> Builder {
+    fn formatted(length: usize, blocks: u8) -> Builder {
         let image = vec![0xFF; length];
-        let (answer, record) = Model.format(&image);
+        let (answer, record) = Model.format(&image, blocks);
         assert_eq!(answer, Answer::MORE);
-        let mut builder = Builder { image, record };
+        let mut builder = Builder { image, blocks, record };
         builder.finish();
         builder
     }
 
     fn finish(&mut self) {
-        while Model.step(&mut self.image, &mut self.record) == Answer::MORE {}
+        while Model.step(&mut self.image, self.blocks, &mut self.record) == Answer::MORE {}
     }
 
     fn serve(&mut self, message: &[u8]) {
-        assert_eq!(Model.request(&self.image, &mut self.record, 0, message, &mut []), Answer::MORE);
+        let answer = Model.request(&self.image, self.blocks, &mut self.record, 0, message, &mut []);
+        assert_eq!(answer, Answer::MORE);
         self.finish();
     }
 
@@ -44,15 +47,20 @@ impl Builder {
         }
     }
 
+    /// Bytes of a block.
+    fn size(&self) -> usize {
+        self.image.len() / usize::from(self.blocks)
+    }
+
     /// Bytes after the last frame.
     fn free(&self) -> usize {
-        self.image.len() / 2 - usize::from(self.idle().end)
+        self.size() - usize::from(self.idle().end)
     }
 }
 
 /// Two short objects in an otherwise empty journal.
-pub fn sparse(length: usize) -> Case {
-    let mut builder = Builder::formatted(length);
+pub fn sparse(length: usize, blocks: u8) -> Case {
+    let mut builder = Builder::formatted(length, blocks);
     for id in [0, 1] {
         builder.serve(&message::put(id, &[id; 8]));
     }
@@ -66,11 +74,10 @@ pub const OBJECT: usize = 64;
 
 /// As many such objects as leave room for one more put, none of them 255, and a journal with at most 28 bytes left, so
 /// that such a put needs a transfer and a short change with its commit does not.
-pub fn full(length: usize) -> Case {
-    let mut builder = Builder::formatted(length);
-    let size = length / 2;
+pub fn full(length: usize, blocks: u8) -> Case {
+    let mut builder = Builder::formatted(length, blocks);
     let (put, settled) = (8 + OBJECT, 7 + OBJECT);
-    let objects = ((size - 16 - (put + 6 + 14)) / settled).min(255);
+    let objects = ((builder.size() - 16 - (put + 6 + 14)) / settled).min(255);
     for id in 0..objects {
         builder.serve(&message::put(id as u8, &[id as u8; OBJECT]));
         builder.serve(&message::commit());
@@ -86,6 +93,6 @@ fn case(mut builder: Builder, fill: &'static str) -> Case {
     let (rest, rest_idle) = (builder.image.clone(), builder.idle());
     builder.serve(&message::put(0, &[1]));
     let pending_idle = builder.idle();
-    assert_eq!(pending_idle.half, rest_idle.half, "no transfer");
-    Case { fill, rest, rest_idle, pending: builder.image, pending_idle }
+    assert_eq!(pending_idle.block, rest_idle.block, "no transfer");
+    Case { blocks: builder.blocks, fill, rest, rest_idle, pending: builder.image, pending_idle }
 }

@@ -22,8 +22,11 @@ fn main() {
         exit(2);
     }
     if env::args().nth(1).as_deref() == Some(ONCE) {
-        for run::Row { length, fill, name, figures } in run::rows() {
-            println!("{length}\t{fill}\t{name}\t{}", figures.map(|figure| figure.to_string()).join("\t"));
+        for run::Row { length, blocks, fill, name, figures } in run::rows() {
+            println!(
+                "{length}\t{blocks}\t{fill}\t{name}\t{}",
+                figures.map(|figure| figure.to_string()).join("\t")
+            );
         }
         return;
     }
@@ -35,7 +38,10 @@ fn main() {
     print_table("Whole operation", &runs, split..rows);
 }
 
-/// A row as a run prints it: its first three cells, and its figures.
+/// The cells of a row in front of its figures.
+const CELLS: usize = 4;
+
+/// A row as a run prints it: those cells, and its figures.
 type Row = (Vec<String>, Figures);
 
 fn separate_run() -> Vec<Row> {
@@ -47,13 +53,13 @@ fn separate_run() -> Vec<Row> {
 
 fn row(line: &str) -> Row {
     let cells: Vec<String> = line.split('\t').map(str::to_string).collect();
-    let figures: Vec<f64> = cells[3..].iter().map(|cell| cell.parse().expect("a number")).collect();
-    (cells[..3].to_vec(), figures.try_into().expect("five figures"))
+    let figures: Vec<f64> = cells[CELLS..].iter().map(|cell| cell.parse().expect("a number")).collect();
+    (cells[..CELLS].to_vec(), figures.try_into().expect("five figures"))
 }
 
 fn print_table(kind: &str, runs: &[Vec<Row>], rows: std::ops::Range<usize>) {
-    println!("| Image | Fill | {kind} | Library | Plain | Model | Library / plain | Library / model |");
-    println!("|---|---|---|---|---|---|---|---|");
+    println!("| Image | Blocks | Fill | {kind} | Library | Plain | Model | Library / plain | Library / model |");
+    println!("|---|---|---|---|---|---|---|---|---|");
     for at in rows {
         let over_runs = |figure: usize| runs.iter().map(move |run| run[at].1[figure]).collect::<Vec<_>>();
         let times = [0, 1, 2].map(|figure| time(&over_runs(figure)));

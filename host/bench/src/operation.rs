@@ -54,19 +54,19 @@ const VALUE: [u8; OBJECT] = [7; OBJECT];
 /// One go at it, and how many operations that was.
 pub fn once<S: Store>(store: &S, operation: Operation, case: &Case) -> (Duration, usize) {
     match operation {
-        Operation::Mount => timed(|| assert_eq!(store.mount(black_box(&case.rest)).0, Answer::DONE)),
+        Operation::Mount => timed(|| assert_eq!(store.mount(black_box(&case.rest), case.blocks).0, Answer::DONE)),
         Operation::Read => read(store, case, message::read(1), Answer::DONE),
         Operation::ReadNothing => read(store, case, message::read(255), Answer::NO_OBJECT),
         Operation::Log => {
             let (mut record, log, mut page) = (store.idle(case.rest_idle), message::log(), [0; message::PAGE]);
             timed(|| {
-                let answer = store.request(black_box(&case.rest), &mut record, 0, &log, &mut page);
+                let answer = store.request(black_box(&case.rest), case.blocks, &mut record, 0, &log, &mut page);
                 assert_eq!(answer, Answer::DONE);
             })
         }
         Operation::Accept => {
             let (mut record, put) = (store.idle(case.rest_idle), message::put(1, &VALUE));
-            timed(|| assert_eq!(ask(store, &case.rest, &mut record, &put), Answer::MORE))
+            timed(|| assert_eq!(ask(store, &case.rest, case.blocks, &mut record, &put), Answer::MORE))
         }
         Operation::Step | Operation::DrivenStep => steps_of_put(store, case),
         Operation::Run => run_of_transfer(store, case),
@@ -75,9 +75,9 @@ pub fn once<S: Store>(store: &S, operation: Operation, case: &Case) -> (Duration
         Operation::Delete => serve(store, &case.rest, case.rest_idle, message::delete(1), finish),
         Operation::Commit => serve(store, &case.pending, case.pending_idle, message::commit(), finish),
         Operation::Abort => serve(store, &case.pending, case.pending_idle, message::abort(), finish),
-        Operation::Format => restart(store, &case.rest, S::format, finish),
-        Operation::Transfer => restart(store, &case.pending, S::mount, finish),
-        Operation::TransferByRun => restart(store, &case.pending, S::mount, run),
+        Operation::Format => restart(store, &case.rest, case.blocks, S::format, finish),
+        Operation::Transfer => restart(store, &case.pending, case.blocks, S::mount, finish),
+        Operation::TransferByRun => restart(store, &case.pending, case.blocks, S::mount, run),
     }
 }
 
@@ -87,45 +87,45 @@ fn timed(operation: impl FnOnce()) -> (Duration, usize) {
     (start.elapsed(), 1)
 }
 
-fn ask<S: Store>(store: &S, image: &[u8], record: &mut S::Record, message: &[u8]) -> Answer {
-    store.request(black_box(image), record, 0, message, &mut [])
+fn ask<S: Store>(store: &S, image: &[u8], blocks: u8, record: &mut S::Record, message: &[u8]) -> Answer {
+    store.request(black_box(image), blocks, record, 0, message, &mut [])
 }
 
 fn steps_of_put<S: Store>(store: &S, case: &Case) -> (Duration, usize) {
     let (mut image, mut record) = (case.rest.clone(), store.idle(case.rest_idle));
-    assert_eq!(ask(store, &image, &mut record, &message::put(1, &VALUE)), Answer::MORE);
+    assert_eq!(ask(store, &image, case.blocks, &mut record, &message::put(1, &VALUE)), Answer::MORE);
     let start = Instant::now();
-    let steps = finish(store, &mut image, &mut record);
+    let steps = finish(store, &mut image, case.blocks, &mut record);
     (start.elapsed(), steps)
 }
 
 /// The mount before it does not count.
 fn run_of_transfer<S: Store>(store: &S, case: &Case) -> (Duration, usize) {
     let mut image = case.pending.clone();
-    let (answer, mut record) = store.mount(&image);
+    let (answer, mut record) = store.mount(&image, case.blocks);
     assert_eq!(answer, Answer::MORE);
-    timed(|| assert!(run(store, &mut image, &mut record) > 0))
+    timed(|| assert!(run(store, &mut image, case.blocks, &mut record) > 0))
 }
 
 /// All steps of the job in hand; how many they were.
-fn finish<S: Store>(store: &S, image: &mut [u8], record: &mut S::Record) -> usize {
+fn finish<S: Store>(store: &S, image: &mut [u8], blocks: u8, record: &mut S::Record) -> usize {
     let mut steps = 1;
-    while store.step(image, record) == Answer::MORE {
+    while store.step(image, blocks, record) == Answer::MORE {
         steps += 1;
     }
     steps
 }
 
 /// The same in one call; a store that has none makes the steps one by one.
-fn run<S: Store>(store: &S, image: &mut [u8], record: &mut S::Record) -> usize {
-    let (answer, steps) = store.run(image, record, usize::MAX);
+fn run<S: Store>(store: &S, image: &mut [u8], blocks: u8, record: &mut S::Record) -> usize {
+    let (answer, steps) = store.run(image, blocks, record, usize::MAX);
     assert_eq!(answer, Answer::DONE);
     steps
 }
 
 fn read<S: Store>(store: &S, case: &Case, message: Vec<u8>, expected: Answer) -> (Duration, usize) {
     let record = store.idle(case.rest_idle);
-    timed(|| assert_eq!(store.read(black_box(&case.rest), &record, 0, &message).0, expected))
+    timed(|| assert_eq!(store.read(black_box(&case.rest), case.blocks, &record, 0, &message).0, expected))
 }
 
 fn serve<S: Store>(
@@ -133,12 +133,12 @@ fn serve<S: Store>(
     image: &[u8],
     idle: Idle,
     message: Vec<u8>,
-    steps: impl Fn(&S, &mut [u8], &mut S::Record) -> usize,
+    steps: impl Fn(&S, &mut [u8], u8, &mut S::Record) -> usize,
 ) -> (Duration, usize) {
     let (mut image, mut record) = (image.to_vec(), store.idle(idle));
     timed(|| {
-        assert_eq!(ask(store, &image, &mut record, &message), Answer::MORE);
-        steps(store, &mut image, &mut record);
+        assert_eq!(ask(store, &image, idle.blocks, &mut record, &message), Answer::MORE);
+        steps(store, &mut image, idle.blocks, &mut record);
     })
 }
 
@@ -146,13 +146,14 @@ fn serve<S: Store>(
 fn restart<S: Store>(
     store: &S,
     image: &[u8],
-    begin: impl Fn(&S, &[u8]) -> (Answer, S::Record),
-    steps: impl Fn(&S, &mut [u8], &mut S::Record) -> usize,
+    blocks: u8,
+    begin: impl Fn(&S, &[u8], u8) -> (Answer, S::Record),
+    steps: impl Fn(&S, &mut [u8], u8, &mut S::Record) -> usize,
 ) -> (Duration, usize) {
     let mut image = image.to_vec();
     timed(|| {
-        let (answer, mut record) = begin(store, black_box(&image));
+        let (answer, mut record) = begin(store, black_box(&image), blocks);
         assert_eq!(answer, Answer::MORE);
-        steps(store, &mut image, &mut record);
+        steps(store, &mut image, blocks, &mut record);
     })
 }

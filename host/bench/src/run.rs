@@ -1,12 +1,15 @@
 //! One run: every row measured once, the stores in turns.
 
-use crate::case::{self, Case};
+use crate::case::{Case, full, sparse};
 use crate::operation::{Operation, SINGLE, WHOLE, once};
 use library::{Driven, Library};
 use model::Model;
 use plain::Plain;
 use std::time::Duration;
 use store::Store;
+
+/// Lengths and numbers of blocks. The smallest image has room for two.
+const IMAGES: [(usize, u8); 5] = [(512, 2), (4_096, 2), (4_096, 16), (65_536, 2), (65_536, 16)];
 
 const REPEATS: usize = 15;
 /// What one repeat of a measurement takes at least, and its goes at least, so that one held up does not decide.
@@ -19,16 +22,20 @@ pub type Figures = [f64; 5];
 /// A row of the tables: where it belongs, and what was measured.
 pub struct Row {
     pub length: usize,
+    pub blocks: u8,
     pub fill: &'static str,
     pub name: &'static str,
     pub figures: Figures,
 }
 
+fn cases() -> Vec<Case> {
+    let cases = IMAGES.iter().flat_map(|(length, blocks)| [sparse(*length, *blocks), full(*length, *blocks)]);
+    cases.collect()
+}
+
 /// The rows of single calls, then those of whole operations.
 pub fn rows() -> Vec<Row> {
-    let library = Library::linked();
-    let cases: Vec<Case> =
-        [512, 4_096, 65_536].into_iter().flat_map(|length| [case::sparse(length), case::full(length)]).collect();
+    let (library, cases) = (Library::linked(), cases());
     let mut rows = Vec::new();
     for operations in [&SINGLE[..], &WHOLE] {
         for case in &cases {
@@ -37,7 +44,7 @@ pub fn rows() -> Vec<Row> {
                     Operation::DrivenStep => measure(&Driven(Library::linked()), operation, case),
                     _ => measure(&library, operation, case),
                 };
-                rows.push(Row { length: case.rest.len(), fill: case.fill, name, figures });
+                rows.push(Row { length: case.rest.len(), blocks: case.blocks, fill: case.fill, name, figures });
             }
         }
     }
@@ -72,4 +79,20 @@ fn nanoseconds<S: Store>(store: &S, operation: Operation, case: &Case) -> f64 {
 fn median(mut values: Vec<f64>) -> f64 {
     values.sort_by(f64::total_cmp);
     values[values.len() / 2]
+}
+
+#[cfg(test)]
+mod tests {
+    use super::*;
+
+    /// Each operation asserts what it is answered; both stores make as many steps.
+    #[test]
+    fn every_row_can_be_measured() {
+        for case in cases() {
+            for (operation, name) in SINGLE.into_iter().chain(WHOLE) {
+                let [(_, plain), (_, model)] = [once(&Plain, operation, &case), once(&Model, operation, &case)];
+                assert_eq!(plain, model, "{name}, {} blocks in {} bytes", case.blocks, case.rest.len());
+            }
+        }
+    }
 }

@@ -1,8 +1,8 @@
 //! Document 01's book for demand 3: fed each call and its answer, and nothing of image or record.
 
 use crate::twin::Call;
+use model::block::{self, Block, Replay};
 use model::frame::{Body, Host, Id};
-use model::half::{self, Half, Replay};
 use std::collections::BTreeMap;
 use store::{Answer, message};
 
@@ -105,27 +105,27 @@ impl Book {
     }
 }
 
-/// What replay finds in a half: objects and each host's list.
-pub fn found(half: &[u8]) -> (Objects, Lists) {
-    let Half::Valid(journal) = half::read(half) else {
-        panic!("an idle record names a half that is not valid");
+/// What replay finds in a block: objects and each host's list.
+pub fn found(block: &[u8]) -> (Objects, Lists) {
+    let Block::Valid(journal) = block::read(block) else {
+        panic!("an idle record names a block that is not valid");
     };
-    let replay = half::replay(&journal);
+    let replay = block::replay(&journal);
     assert!(16 <= replay.used() && replay.used() <= replay.claimed(), "U is at least 16 and at most C");
     assert!(
-        replay.claimed() <= journal.end && journal.end <= half.len(),
+        replay.claimed() <= journal.end && journal.end <= block.len(),
         "C is at most the end, the end at most S"
     );
-    let objects = replay.objects().map(|(Id(id), value)| (id, half[value].to_vec())).collect();
-    (objects, lists(half, &replay))
+    let objects = replay.objects().map(|(Id(id), value)| (id, block[value].to_vec())).collect();
+    (objects, lists(block, &replay))
 }
 
-fn lists(half: &[u8], replay: &Replay) -> Lists {
+fn lists(block: &[u8], replay: &Replay) -> Lists {
     let mut lists = Lists::default();
     for frame in &replay.pending {
         match &frame.body {
             Body::Put(Host(host), Id(id), value) => {
-                lists[usize::from(*host)].push(Change::Put(*id, half[value.clone()].to_vec()));
+                lists[usize::from(*host)].push(Change::Put(*id, block[value.clone()].to_vec()));
             }
             Body::Delete(Host(host), Id(id)) => lists[usize::from(*host)].push(Change::Delete(*id)),
             other => panic!("{other:?} is pending"),

@@ -5,9 +5,10 @@ use crate::book::{Lists, Objects, found};
 use crate::raise;
 use crate::rng::Rng;
 use crate::twin::{Call, Twin};
-use model::half::{self, Half, Journal};
-use model::half_of;
+use model::block::{self, Block, Journal};
+use model::cut;
 use std::collections::{HashSet, VecDeque};
+use std::hash::{DefaultHasher, Hasher};
 use store::{Answer, Idle};
 
 /// Where a job starts: its image, the idle record (mount and format take none) and the call.
@@ -45,12 +46,13 @@ pub struct Cuts {
 }
 
 impl Cuts {
-    pub fn new(length: usize, most: usize, seed: u64) -> Cuts {
-        Cuts { twin: Twin::blank(length), rng: Rng::new(seed), most, cuts: 0, inside: 0 }
+    pub fn new(blocks: u8, length: usize, most: usize, seed: u64) -> Cuts {
+        let twin = Twin::of_blocks(blocks, &vec![0xFF; length]);
+        Cuts { twin, rng: Rng::new(seed), most, cuts: 0, inside: 0 }
     }
 
     pub fn everywhere(length: usize) -> Cuts {
-        Cuts::new(length, usize::MAX, 0)
+        Cuts::new(2, length, usize::MAX, 0)
     }
 
     /// Cuts the job everywhere: up to its last step `before` must be found, after it `after`.
@@ -91,16 +93,16 @@ impl Cuts {
         Ok(images)
     }
 
-    /// If the next step is an erase, some images that a cut inside it leaves. In none does its half look newer.
+    /// If the next step is an erase, some images that a cut inside it leaves. In none does its block look newer.
     fn raise(&mut self, raised: usize, images: &mut Vec<Left>, seen: &mut HashSet<u64>) {
-        let Some(half) = self.twin.erases_next() else { return };
-        let size = self.twin.image().len() / 2;
+        let Some(block) = self.twin.erases_next() else { return };
+        let (size, newest) = (self.twin.size(), self.newest(self.twin.image()));
         for _ in 0..raised {
             let mut image = self.twin.image().to_vec();
-            let bytes = &mut image[half * size..][..size];
+            let bytes = &mut image[block * size..][..size];
             let mask = raise::mask(&mut self.rng, bytes);
             bytes.iter_mut().zip(mask).for_each(|(byte, bits)| *byte |= bits);
-            assert_eq!(newest(&image), newest(self.twin.image()), "a half looks newer, half erased");
+            assert_eq!(self.newest(&image), newest, "a block looks newer, half erased");
             keep(&image, true, images, seen);
         }
     }
@@ -123,7 +125,7 @@ impl Cuts {
             self.inside += u64::from(inside);
             let raised = usize::from(self.rng.once_in(2));
             match self.images(&Start { image: &image, idle: None, call: &Call::Mount }, raised, &mut seen) {
-                Err(refusal) => judge_refusal(refusal, &image, allowed),
+                Err(refusal) => self.judge_refusal(refusal, &image, allowed),
                 Ok(reached) => {
                     let objects = self.judge(allowed);
                     images.extend(reached.into_iter().map(|left| (left, Allowed::Exactly(objects))));
@@ -135,19 +137,25 @@ impl Cuts {
     /// The objects that were to be found, and are.
     fn judge<'a>(&mut self, allowed: Allowed<'a>) -> &'a Objects {
         let idle = self.twin.idle().expect("a mount whose steps are all made ends idle");
-        let (objects, lists) = found(half_of(self.twin.image(), usize::from(idle.half)));
+        let (objects, lists) = found(self.twin.block(usize::from(idle.block)));
         assert_eq!(lists, Lists::default(), "something is pending after a mount");
         let (Allowed::Exactly(expected) | Allowed::OrGone(expected)) = allowed;
         assert_eq!(objects, *expected);
         expected
     }
-}
 
-fn judge_refusal(answer: Answer, image: &[u8], allowed: Allowed) {
-    match answer {
-        Answer::NO_STORE => assert!(matches!(allowed, Allowed::OrGone(_)), "the store is gone"),
-        Answer::WORN => assert!(stuck(image), "6 though the time may rise or nothing is to be done"),
-        refusal => panic!("mount after a cut answered {refusal}"),
+    fn judge_refusal(&self, answer: Answer, image: &[u8], allowed: Allowed) {
+        match answer {
+            Answer::NO_STORE => assert!(matches!(allowed, Allowed::OrGone(_)), "the store is gone"),
+            Answer::WORN => {
+                assert!(stuck(image, self.twin.blocks), "6 though the time may rise or nothing is to be done");
+            }
+            refusal => panic!("mount after a cut answered {refusal}"),
+        }
+    }
+
+    fn newest(&self, image: &[u8]) -> Option<u32> {
+        newest(image, self.twin.blocks)
     }
 }
 
@@ -158,26 +166,27 @@ fn keep(image: &[u8], inside: bool, images: &mut Vec<Left>, seen: &mut HashSet<u
     }
 }
 
-/// The larger time of the valid halves.
-pub fn newest(image: &[u8]) -> Option<u32> {
-    current(image).map(|journal| journal.time)
+/// The largest time of the valid blocks.
+pub fn newest(image: &[u8], blocks: u8) -> Option<u32> {
+    current(image, blocks).map(|journal| journal.time)
 }
 
 /// Whether a mount would need a transfer at the last time.
-pub fn stuck(image: &[u8]) -> bool {
-    let dirty = |journal: &Journal| journal.torn || !half::replay(journal).pending.is_empty();
-    current(image).is_some_and(|journal| journal.time == u32::MAX && dirty(&journal))
+pub fn stuck(image: &[u8], blocks: u8) -> bool {
+    let dirty = |journal: &Journal| journal.torn || !block::replay(journal).pending.is_empty();
+    current(image, blocks).is_some_and(|journal| journal.time == u32::MAX && dirty(&journal))
 }
 
-fn current(image: &[u8]) -> Option<Journal> {
-    let journal = |half| match half::read(half_of(image, half)) {
-        Half::Valid(journal) => Some(journal),
+fn current(image: &[u8], blocks: u8) -> Option<Journal> {
+    let journal = |bytes| match block::read(bytes) {
+        Block::Valid(journal) => Some(journal),
         _ => None,
     };
-    [journal(0), journal(1)].into_iter().flatten().max_by_key(|journal| journal.time)
+    cut(image, blocks).into_iter().filter_map(journal).max_by_key(|journal| journal.time)
 }
 
 fn digest(image: &[u8]) -> u64 {
-    let words = image.chunks_exact(8).map(|word| u64::from_le_bytes(word.try_into().expect("eight bytes")));
-    words.fold(0, |sum: u64, word| (sum ^ word).wrapping_mul(0x9E37_79B9_7F4A_7C15).rotate_left(29))
+    let mut hasher = DefaultHasher::new();
+    hasher.write(image);
+    hasher.finish()
 }

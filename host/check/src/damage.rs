@@ -1,12 +1,13 @@
 //! Images that a store left, that one might have left, and that none did; and idle records forged for them.
 
+use crate::blocks;
 use crate::generate::{self, Manner, Wish};
 use crate::raise;
 use crate::rng::Rng;
 use crate::twin::{Call, Twin};
+use model::block::{self, Block, Journal};
+use model::cut;
 use model::frame::{self, Host, Id, LONGEST, VALUE_LIMIT};
-use model::half::{self, Half, Journal};
-use model::half_of;
 use store::{Answer, Idle, message};
 
 /// Tries one image: mounts it, then asks under forged records.
@@ -19,7 +20,7 @@ pub fn try_image(twin: &mut Twin, rng: &mut Rng, image: &[u8]) {
         twin.call(&Call::Read { host: 0, message: message::read(id) });
     }
     ask(twin, rng);
-    for idle in forged(rng, image) {
+    for idle in forged(rng, image, twin.blocks) {
         twin.load(image);
         twin.forge(idle);
         ask(twin, rng);
@@ -34,7 +35,7 @@ pub fn try_image(twin: &mut Twin, rng: &mut Rng, image: &[u8]) {
 /// inside a format's erase, a mount may find anything.
 fn cut_erases(twin: &mut Twin, rng: &mut Rng, image: &[u8]) {
     for call in [Call::Mount, Call::Format] {
-        for whole in 0..2 {
+        for whole in [0, 1, rng.below(usize::from(twin.blocks))] {
             twin.load(image);
             twin.call(&call);
             to_erase(twin);
@@ -42,8 +43,8 @@ fn cut_erases(twin: &mut Twin, rng: &mut Rng, image: &[u8]) {
                 twin.step();
                 to_erase(twin);
             }
-            if let Some(half) = twin.erases_next() {
-                let mask = raise::mask(rng, half_of(twin.image(), half));
+            if let Some(block) = twin.erases_next() {
+                let mask = raise::mask(rng, twin.block(block));
                 twin.cut_erase(&mask);
                 twin.whole(&Call::Mount);
             }
@@ -60,7 +61,7 @@ fn to_erase(twin: &mut Twin) {
 
 /// Some request or read, with all its steps.
 fn ask(twin: &mut Twin, rng: &mut Rng) {
-    let manner = Manner::new(rng, twin.image().len());
+    let manner = Manner::new(rng, twin.size());
     let host = generate::host(rng);
     let wish = manner.wish(rng);
     let odd = rng.once_in(10);
@@ -71,98 +72,102 @@ fn ask(twin: &mut Twin, rng: &mut Rng) {
     let reply = rng.pick(&[0, 13, 14, 17]);
     let (answer, steps) = twin.whole(&Call::Request { host, message, reply });
     if !answer.refused() {
-        let size = twin.image().len() / 2;
+        let size = twin.size();
         // an odd message may be a well-formed one of another kind
         let most = if matches!(wish, Wish::Put(..)) && !odd { size - 25 } else { size - 5 };
         assert!(steps <= most, "{steps} steps, {wish:?}, odd: {odd}");
     }
 }
 
-/// Idle records for this image: the true ones, and some that are not.
-fn forged(rng: &mut Rng, image: &[u8]) -> Vec<Idle> {
-    let length = image.len();
+/// Idle records for this image: the true ones of some blocks, and some that are not.
+fn forged(rng: &mut Rng, image: &[u8], blocks: u8) -> Vec<Idle> {
+    let (length, cut) = (image.len(), cut(image, blocks));
+    let size = cut[0].len();
+    let newest = (0..cut.len()).max_by_key(|block| block::read(cut[*block]).time()).expect("a block");
     let mut records = Vec::new();
-    for (half, number) in [(half_of(image, 0), 0), (half_of(image, 1), 1)] {
-        let end = match half::read(half) {
-            Half::Valid(journal) => journal.end,
+    for block in [newest, rng.below(cut.len())] {
+        let end = match block::read(cut[block]) {
+            Block::Valid(journal) => journal.end,
             _ => 16,
         };
-        let near = rng.pick(&[end - 1, end + 1, end + 6, 0, 16, length / 2, length / 2 + 1, 65_535]);
-        records.push(Idle { length, half: number, end: end as u16 });
-        records.push(Idle { length, half: number, end: near.min(65_535) as u16 });
+        let near = rng.pick(&[end - 1, end + 1, end + 6, 0, 16, size, size + 1, 65_535]);
+        let right = Idle { length, block: block as u8, end: end as u16, blocks };
+        records.extend([right, Idle { end: near.min(65_535) as u16, ..right }]);
         if rng.once_in(4) {
-            records.push(Idle {
-                length: rng.pick(&[length - 1, length / 2, 1, 65_536]),
-                half: number,
-                end: end as u16,
-            });
-            records.push(Idle { length, half: rng.pick(&[number + 2, 255]), end: end as u16 });
+            records.push(Idle { length: rng.pick(&[length - 1, size, 1, 65_536]), ..right });
+            records.push(Idle { block: rng.pick(&[right.block + blocks, blocks, 255]), ..right });
+            records.push(Idle { blocks: blocks::other(rng, blocks), ..right });
         }
     }
     records
 }
 
-/// An image of this length: two halves, each of some kind, then some damage.
-pub fn image(rng: &mut Rng, length: usize) -> Vec<u8> {
-    let size = length / 2;
-    let mut halves = [some_half(rng, size), if rng.once_in(4) { some_half(rng, size) } else { vec![0xFF; size] }];
-    if rng.once_in(2) {
-        halves.swap(0, 1);
+/// An image of so many blocks, each of some kind and most of them blank, then some damage.
+pub fn image(rng: &mut Rng, blocks: u8, length: usize) -> Vec<u8> {
+    let (number, size) = (usize::from(blocks), length / usize::from(blocks));
+    let mut parts = vec![vec![0xFF; size]; number];
+    let blank = rng.pick(&[1, 2, 8]);
+    for part in &mut parts {
+        if rng.once_in(blank) {
+            *part = some_block(rng, size);
+        }
     }
+    parts[rng.below(number)] = some_block(rng, size);
     if rng.once_in(20) {
-        halves[0] = halves[1].clone();
+        parts[rng.below(number)] = parts[rng.below(number)].clone();
     }
-    let mut image = halves.concat();
+    let mut image = parts.concat();
     for _ in 0..rng.pick(&[0, 0, 0, 0, 0, 1, 1, 2]) {
-        harm(rng, &mut image);
+        harm(rng, &mut image, size);
     }
     image
 }
 
-fn some_half(rng: &mut Rng, size: usize) -> Vec<u8> {
+fn some_block(rng: &mut Rng, size: usize) -> Vec<u8> {
     match rng.below(12) {
         0 => vec![0xFF; size],
         1 => rng.bytes(size),
         2 => {
-            let mut half = if rng.once_in(2) { rng.bytes(size) } else { written_half(rng, size) };
-            half[half::STATE] = half::IN_PROGRESS;
-            half
+            let mut block = if rng.once_in(2) { rng.bytes(size) } else { written_block(rng, size) };
+            block[block::STATE] = block::IN_PROGRESS;
+            block
         }
-        _ => written_half(rng, size),
+        _ => written_block(rng, size),
     }
 }
 
-/// What is left free of a half before its last frames.
+/// What is left free of a block before its last frames.
 const SPARE: usize = 80;
 /// The ids that are put and deleted: those below this.
 const IDS: usize = 6;
 
 /// Header, settled frames, other frames, and a tail: blank, torn, or bytes of no kind.
-fn written_half(rng: &mut Rng, size: usize) -> Vec<u8> {
-    let time: u32 = rng.pick(&[1, 2, 3, 0x0102_0304, u32::MAX - 1, u32::MAX]);
-    let mut half = half::LABEL.to_vec();
-    half.extend((!time).to_le_bytes());
-    half.push(half::VALID);
-    half.resize(half::HEADER, 0xFF);
+fn written_block(rng: &mut Rng, size: usize) -> Vec<u8> {
+    let some = 1 + rng.below(1_000) as u32;
+    let time = rng.pick(&[some, some, 1, 2, 3, 0x0102_0304, u32::MAX - 1, u32::MAX, u32::MAX]);
+    let mut block = block::LABEL.to_vec();
+    block.extend((!time).to_le_bytes());
+    block.push(block::VALID);
+    block.resize(block::HEADER, 0xFF);
     let limit = rng.pick(&[16, 60, size / 2, size, size]);
-    // In a small half one of the longest values leaves no room for anything else.
+    // In a small block one of the longest values leaves no room for anything else.
     let longest = rng.pick(&[30, 64, if size < 512 { 64 } else { VALUE_LIMIT }, VALUE_LIMIT]);
     let settled_until = rng.below(limit.min(size - SPARE));
     let mut id = 0;
-    while half.len() < settled_until && id < 256 {
-        let most = longest.min(size - frame::SETTLED - half.len());
-        half.extend(settled_frame(rng, id as u8, most));
+    while block.len() < settled_until && id < 256 {
+        let most = longest.min(size - frame::SETTLED - block.len());
+        block.extend(settled_frame(rng, id as u8, most));
         id += 1 + rng.below(3);
     }
-    while half.len() + SPARE < limit {
-        let most = longest.min(limit - frame::CHANGE - half.len());
-        half.extend(journal_frame(rng, most));
+    while block.len() + SPARE < limit {
+        let most = longest.min(limit - frame::CHANGE - block.len());
+        block.extend(journal_frame(rng, most));
     }
     let most =
-        if rng.once_in(4) { longest } else { longest.min((size - half.len()).saturating_sub(frame::CHANGE)) };
-    tail(rng, &mut half, size, most);
-    half.resize(size, 0xFF);
-    half
+        if rng.once_in(4) { longest } else { longest.min((size - block.len()).saturating_sub(frame::CHANGE)) };
+    tail(rng, &mut block, size, most);
+    block.resize(size, 0xFF);
+    block
 }
 
 /// A value of at most so many bytes.
@@ -190,46 +195,45 @@ fn journal_frame(rng: &mut Rng, most: usize) -> Vec<u8> {
 }
 
 /// The last frame, in part or whole, has a value of at most so many bytes.
-fn tail(rng: &mut Rng, half: &mut Vec<u8>, size: usize, most: usize) {
+fn tail(rng: &mut Rng, block: &mut Vec<u8>, size: usize, most: usize) {
     let last = journal_frame(rng, most);
     match rng.below(10) {
-        0..=1 => half.extend(&last[..rng.below(last.len())]),
+        0..=1 => block.extend(&last[..rng.below(last.len())]),
         2 => {
             let mut torn = last[..rng.below(last.len())].to_vec();
             if let Some(byte) = torn.last_mut() {
                 *byte = rng.byte();
             }
-            half.extend(torn);
+            block.extend(torn);
         }
         3 => {
-            half.resize(size - rng.below(10).min(size - half.len()), 0xFF);
-            half.extend(&last);
-            half.truncate(size);
+            block.resize(size - rng.below(10).min(size - block.len()), 0xFF);
+            block.extend(&last);
+            block.truncate(size);
         }
-        4 => fill_to(rng, half, size),
+        4 => fill_to(rng, block, size),
         _ => {}
     }
 }
 
-/// Frames up to the half's very end, or a frame that is one byte too long for it.
-fn fill_to(rng: &mut Rng, half: &mut Vec<u8>, size: usize) {
+/// Frames up to the block's very end, or a frame that is one byte too long for it.
+fn fill_to(rng: &mut Rng, block: &mut Vec<u8>, size: usize) {
     let host = Host(rng.below(4) as u8);
-    while size - half.len() > LONGEST + frame::CHANGE {
-        half.extend(frame::put(host, Id(1), &[0xFF; VALUE_LIMIT]));
-        half.extend(frame::commit(host));
+    while size - block.len() > LONGEST + frame::CHANGE {
+        block.extend(frame::put(host, Id(1), &[0xFF; VALUE_LIMIT]));
+        block.extend(frame::commit(host));
     }
-    let rest = size - half.len();
+    let rest = size - block.len();
     if rest >= 8 {
         let value = (rest - 8 + rng.below(2)).min(VALUE_LIMIT);
-        half.extend(frame::put(host, Id(2), &vec![0xFE; value]));
-        half.truncate(size);
+        block.extend(frame::put(host, Id(2), &vec![0xFE; value]));
+        block.truncate(size);
     }
 }
 
-/// One act of damage, where it is likely to matter.
-pub fn harm(rng: &mut Rng, image: &mut [u8]) {
-    let size = image.len() / 2;
-    let base = rng.below(2) * size;
+/// One act of damage to a block of this size, where it is likely to matter.
+pub fn harm(rng: &mut Rng, image: &mut [u8], size: usize) {
+    let base = rng.below(image.len() / size) * size;
     let at = base + place(rng, &image[base..base + size]);
     match rng.below(8) {
         0 => image[at] ^= 1 << rng.below(8),
@@ -238,20 +242,20 @@ pub fn harm(rng: &mut Rng, image: &mut [u8]) {
         3 => image[at] = image[at].wrapping_add(rng.pick(&[1, 255])),
         4 => image[at] = rng.pick(&[0x00, 0x01, 0x04, 0x06, 0x07, 0x08, 0xF7, 0xF8, 0xF9, 0xFC, 0xFE, 0xFF]),
         5 => image[at..base + size].fill(0xFF),
-        6 => image[base + half::TIME..base + half::STATE]
+        6 => image[base + block::TIME..base + block::STATE]
             .copy_from_slice(&(!rng.pick(&[0, u32::MAX])).to_le_bytes()),
         _ => image[at] = rng.byte(),
     }
 }
 
-/// A place in a half: of the header, of a frame's fields, or any.
-fn place(rng: &mut Rng, half: &[u8]) -> usize {
-    match half::read(half) {
+/// A place in a block: of the header, of a frame's fields, or any.
+fn place(rng: &mut Rng, block: &[u8]) -> usize {
+    match block::read(block) {
         _ if rng.once_in(4) => rng.below(16),
-        Half::Valid(Journal { frames, .. }) if !frames.is_empty() && !rng.once_in(5) => {
+        Block::Valid(Journal { frames, .. }) if !frames.is_empty() && !rng.once_in(5) => {
             let place = frames[rng.below(frames.len())].place.clone();
-            if rng.once_in(3) { place.end - 1 } else { place.start + rng.below(7) }.min(half.len() - 1)
+            if rng.once_in(3) { place.end - 1 } else { place.start + rng.below(7) }.min(block.len() - 1)
         }
-        _ => rng.below(half.len()),
+        _ => rng.below(block.len()),
     }
 }

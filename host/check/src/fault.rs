@@ -6,11 +6,12 @@ use plain::Plain;
 use store::{Answer, Fault, Store, hex};
 
 /// Mount's refusal, 0 if it would be accepted, and where the image broke: all three say the same.
-pub fn agreed(image: &[u8]) -> (Answer, Option<Fault>) {
-    let expected = Model.fault(image);
-    for (name, said) in
-        [("the library", Library::linked().fault(image)), ("the plain program", Plain.fault(image))]
-    {
+pub fn agreed(image: &[u8], blocks: u8) -> (Answer, Option<Fault>) {
+    let expected = Model.fault(image, blocks);
+    for (name, said) in [
+        ("the library", Library::linked().fault(image, blocks)),
+        ("the plain program", Plain.fault(image, blocks)),
+    ] {
         assert!(
             said == expected,
             "{name} says {said:?}, the model {expected:?}\nimage {}\nmount",

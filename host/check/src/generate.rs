@@ -36,9 +36,9 @@ pub struct Manner {
 }
 
 impl Manner {
-    /// Hosts of an image of this length. Below 1,024 bytes the longest values leave no room for others.
-    pub fn new(rng: &mut Rng, length: usize) -> Manner {
-        let long = if length < 1_024 { 64 } else { VALUE_LIMIT };
+    /// Hosts of a store in blocks of this size. Below 512 bytes the longest values leave no room for others.
+    pub fn new(rng: &mut Rng, size: usize) -> Manner {
+        let long = if size < 512 { 64 } else { VALUE_LIMIT };
         Manner {
             ids: rng.pick(&[1, 3, 12, 256]),
             longest: rng.pick(&[4, 24, 64, long, long]),

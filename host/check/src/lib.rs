@@ -1,6 +1,8 @@
 //! Comparing the library with the model, and both with document 01's book.
 
+pub mod blocks;
 pub mod book;
+mod call;
 pub mod cuts;
 pub mod damage;
 pub mod fault;

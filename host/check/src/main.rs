@@ -1,6 +1,6 @@
 //! The comparison for as long as one likes: `cargo run --release -p check -- [SECONDS [FIRST_ROUND]]`.
 
-use check::rounds::{Sum, damaged_images, random_runs};
+use check::rounds::{Sum, images_of_more, images_of_two, runs_of_more, runs_of_two};
 use std::time::{Duration, Instant};
 
 fn main() {
@@ -22,8 +22,10 @@ fn compare(time: Duration, first: u64) {
     let mut sum = Sum::default();
     for round in first.. {
         println!("round {round}, {} s", start.elapsed().as_secs());
-        random_runs(round, &mut sum);
-        damaged_images(round, &mut sum);
+        runs_of_two(round, &mut sum);
+        runs_of_more(round, &mut sum);
+        images_of_two(round, &mut sum);
+        images_of_more(round, &mut sum);
         if start.elapsed() >= time {
             break;
         }

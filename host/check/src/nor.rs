@@ -2,41 +2,43 @@
 
 use model::job::Step;
 
-pub struct Nor(Vec<u8>);
+pub struct Nor {
+    bytes: Vec<u8>,
+    /// How often each block was erased.
+    pub erases: [usize; 16],
+}
 
 impl Nor {
     pub fn new(bytes: &[u8]) -> Nor {
-        Nor(bytes.to_vec())
+        Nor { bytes: bytes.to_vec(), erases: [0; 16] }
     }
 
     pub fn bytes(&self) -> &[u8] {
-        &self.0
+        &self.bytes
     }
 
     pub fn load(&mut self, bytes: &[u8]) {
-        self.0.clear();
-        self.0.extend_from_slice(bytes);
+        self.bytes.clear();
+        self.bytes.extend_from_slice(bytes);
     }
 
-    /// What a cut inside the erase of a half leaves: these bits are 1, the others as they were.
-    pub fn raise(&mut self, half: usize, mask: &[u8]) {
-        let size = self.0.len() / 2;
-        assert_eq!(mask.len(), size);
-        for (byte, raised) in self.0[half * size..][..size].iter_mut().zip(mask) {
+    /// What a cut inside the erase of the block at `at` leaves: these bits are 1, the others as they were.
+    pub fn raise(&mut self, at: usize, mask: &[u8]) {
+        for (byte, raised) in self.bytes[at..at + mask.len()].iter_mut().zip(mask) {
             *byte |= raised;
         }
     }
 
     pub fn make(&mut self, step: Step) {
         match step {
-            Step::Erase { half } => {
-                let size = self.0.len() / 2;
-                self.0[half * size..][..size].fill(0xFF);
+            Step::Erase { at, len } => {
+                self.bytes[at..at + len].fill(0xFF);
+                self.erases[at / len] += 1;
             }
             Step::Program { at, byte } => {
-                let old = self.0[at];
+                let old = self.bytes[at];
                 assert!(byte & !old == 0, "programming {byte:#04x} over {old:#04x} at {at} would set bits");
-                self.0[at] = byte;
+                self.bytes[at] = byte;
             }
         }
     }
@@ -50,14 +52,15 @@ mod tests {
     fn clears_bits_and_erases() {
         let mut nor = Nor::new(&[0xFF, 0xFE, 0x00, 0x00]);
         nor.make(Step::Program { at: 1, byte: 0xFC });
-        nor.make(Step::Erase { half: 1 });
+        nor.make(Step::Erase { at: 2, len: 2 });
         assert_eq!(nor.bytes(), [0xFF, 0xFC, 0xFF, 0xFF]);
+        assert_eq!(nor.erases[..3], [0, 1, 0]);
     }
 
     #[test]
-    fn raises_bits_of_one_half() {
+    fn raises_bits_of_one_block() {
         let mut nor = Nor::new(&[0x10, 0x00, 0x01, 0x4A]);
-        nor.raise(1, &[0x06, 0xFF]);
+        nor.raise(2, &[0x06, 0xFF]);
         nor.raise(0, &[0x00, 0x01]);
         assert_eq!(nor.bytes(), [0x10, 0x01, 0x07, 0xFF]);
     }

@@ -1,28 +1,28 @@
-//! Power lost inside an erase (K4): each bit of the half is then as it was or 1, freely.
+//! Power lost inside an erase (K4): each bit of the block is then as it was or 1, freely.
 
 use crate::rng::Rng;
-use model::half::{HEADER, STATE, TIME};
+use model::block::{HEADER, STATE, TIME};
 
-/// Bits for such a cut to raise, of a half that is being erased.
-pub fn mask(rng: &mut Rng, half: &[u8]) -> Vec<u8> {
-    let mut mask = vec![0; half.len()];
+/// Bits for such a cut to raise, of a block that is being erased.
+pub fn mask(rng: &mut Rng, block: &[u8]) -> Vec<u8> {
+    let mut mask = vec![0; block.len()];
     match rng.below(10) {
         0 => {}
         1 => mask.fill(0xFF),
-        2 => flip(rng, half, &mut mask),
+        2 => flip(rng, block, &mut mask),
         3 => {
             mask.fill(0xFF);
-            flip(rng, half, &mut mask);
+            flip(rng, block, &mut mask);
         }
         4 => raise(rng, &mut mask[..HEADER]),
         5 => raise(rng, &mut mask[TIME..=STATE]),
         6 => raise(rng, &mut mask[HEADER..]),
         7 => {
-            let from = rng.below(half.len());
+            let from = rng.below(block.len());
             mask[from..].fill(0xFF);
         }
         8 => {
-            let until = rng.below(half.len());
+            let until = rng.below(block.len());
             mask[..until].fill(0xFF);
         }
         _ => raise(rng, &mut mask),
@@ -31,8 +31,8 @@ pub fn mask(rng: &mut Rng, half: &[u8]) -> Vec<u8> {
 }
 
 /// Turns one bit of the mask, of those that can make a difference.
-fn flip(rng: &mut Rng, half: &[u8], mask: &mut [u8]) {
-    let bits: Vec<(usize, u8)> = zeros(half).collect();
+fn flip(rng: &mut Rng, block: &[u8], mask: &mut [u8]) {
+    let bits: Vec<(usize, u8)> = zeros(block).collect();
     if !bits.is_empty() {
         let (at, bit) = bits[rng.below(bits.len())];
         mask[at] ^= bit;
@@ -47,11 +47,11 @@ fn raise(rng: &mut Rng, mask: &mut [u8]) {
     }
 }
 
-/// The bits of a half that are 0, each as a place and the bit in its byte.
-pub fn zeros(half: &[u8]) -> impl Iterator<Item = (usize, u8)> {
+/// The bits of a block that are 0, each as a place and the bit in its byte.
+pub fn zeros(block: &[u8]) -> impl Iterator<Item = (usize, u8)> {
     let bits = |(at, byte): (usize, &u8)| {
         let byte = *byte;
         (0..8).map(move |bit| (at, 1 << bit)).filter(move |(_, bit)| byte & bit == 0)
     };
-    half.iter().enumerate().flat_map(bits)
+    block.iter().enumerate().flat_map(bits)
 }

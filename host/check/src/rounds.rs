@@ -18,55 +18,105 @@ pub struct Sum {
 
 const EVERYWHERE: usize = usize::MAX;
 
-/// Length, calls, one job in so many cut, the most recoveries after it, whether the journal is filled first.
-const RUNS: [(usize, usize, usize, usize, bool); 11] = [
-    (512, 800, 15, EVERYWHERE, false),
-    (512, 3_000, 0, 0, false),
-    (768, 500, 40, EVERYWHERE, false),
-    (1_024, 500, 60, EVERYWHERE, false),
-    (2_816, 600, 40, 100, true),
-    (4_096, 600, 20, 100, false),
-    (33_024, 150, 0, 0, false),
-    (33_024, 30, 10, 10, true),
-    (65_536, 15, 6, 8, true),
-    (2_048, 3_000, 0, 0, false),
-    (4_096, 3_000, 0, 0, false),
+/// Number of blocks, length, calls, one job in so many cut, the most recoveries after it, whether the journal is filled
+/// first.
+type Kind = (u8, usize, usize, usize, usize, bool);
+
+const TWO: [Kind; 11] = [
+    (2, 512, 800, 15, EVERYWHERE, false),
+    (2, 512, 3_000, 0, 0, false),
+    (2, 768, 500, 40, EVERYWHERE, false),
+    (2, 1_024, 500, 60, EVERYWHERE, false),
+    (2, 2_816, 600, 40, 100, true),
+    (2, 4_096, 600, 20, 100, false),
+    (2, 33_024, 150, 0, 0, false),
+    (2, 33_024, 30, 10, 10, true),
+    (2, 65_536, 15, 6, 8, true),
+    (2, 2_048, 3_000, 0, 0, false),
+    (2, 4_096, 3_000, 0, 0, false),
 ];
 
-/// Length and number of damaged images.
-const IMAGES: [(usize, usize); 6] =
-    [(512, 4_000), (768, 1_500), (1_024, 1_000), (1_280, 800), (8_192, 100), (65_536, 10)];
+const MORE: [Kind; 9] = [
+    (3, 768, 800, 20, EVERYWHERE, false),
+    (4, 1_024, 500, 40, EVERYWHERE, false),
+    (7, 2_688, 500, 40, 400, false),
+    (16, 4_096, 400, 30, 400, false),
+    (3, 1_152, 2_000, 0, 0, false),
+    (16, 4_096, 2_000, 0, 0, false),
+    (5, 2_560, 2_000, 0, 0, true),
+    (3, 33_024, 100, 0, 0, true),
+    (16, 65_536, 60, 10, 8, true),
+];
 
-/// The runs of a round: each kind once, then short ones near the last time.
-pub fn random_runs(round: u64, sum: &mut Sum) {
-    for (number, (length, calls, cut_jobs, most_cuts, filled)) in (0..).zip(RUNS) {
-        add_run(Plan { seed: round * 100 + number, length, calls, time: 1, cut_jobs, most_cuts, filled }, sum);
-    }
-    for number in 0..10 {
-        let time = u32::MAX - number as u32 % 4;
-        let seed = round * 100 + 50 + number;
-        add_run(
-            Plan { seed, length: 512, calls: 200, time, cut_jobs: 15, most_cuts: EVERYWHERE, filled: false },
-            sum,
-        );
+/// Number of blocks, length and calls of runs in which no power is lost inside a job.
+const CALM: [(u8, usize, usize); 5] =
+    [(2, 512, 1_000), (3, 768, 1_500), (4, 1_536, 3_000), (7, 1_792, 4_000), (16, 4_096, 8_000)];
+
+/// Number of blocks, length and number of damaged images.
+const IMAGES_OF_TWO: [(u8, usize, usize); 6] =
+    [(2, 512, 4_000), (2, 768, 1_500), (2, 1_024, 1_000), (2, 1_280, 800), (2, 8_192, 100), (2, 65_536, 10)];
+const IMAGES_OF_MORE: [(u8, usize, usize); 6] =
+    [(3, 768, 2_000), (4, 1_024, 1_500), (7, 2_688, 600), (16, 4_096, 600), (5, 10_240, 80), (16, 65_536, 20)];
+
+/// The runs of a round with two blocks: each kind once, then short ones near the last time.
+pub fn runs_of_two(round: u64, sum: &mut Sum) {
+    runs_of(&TWO, round * 100, sum);
+    (0..10).for_each(|number| late_run(2, round * 100 + 50, number, sum));
+}
+
+/// The same with three to sixteen, and runs in which the blocks' wear must be even.
+pub fn runs_of_more(round: u64, sum: &mut Sum) {
+    runs_of(&MORE, round * 100 + 20, sum);
+    (0..4).for_each(|number| late_run(3 + number as u8, round * 100 + 60, number, sum));
+    for (number, (blocks, length, calls)) in (0..).zip(CALM) {
+        let seed = round * 100 + 40 + number;
+        let (cut_jobs, most_cuts, filled) = (0, 0, false);
+        let erases =
+            add_run(Plan { seed, blocks, length, calls, time: 1, cut_jobs, most_cuts, filled, calm: true }, sum);
+        assert!(erases > 2 * usize::from(blocks), "{erases} erases of {blocks} blocks");
     }
 }
 
-fn add_run(plan: Plan, sum: &mut Sum) {
+fn runs_of(kinds: &[Kind], seed: u64, sum: &mut Sum) {
+    for (number, (blocks, length, calls, cut_jobs, most_cuts, filled)) in (0..).zip(kinds.iter().copied()) {
+        let seed = seed + number;
+        add_run(Plan { seed, blocks, length, calls, time: 1, cut_jobs, most_cuts, filled, calm: false }, sum);
+    }
+}
+
+/// A run that begins at one of the last four times.
+fn late_run(blocks: u8, seed: u64, number: u64, sum: &mut Sum) {
+    let (seed, time, length) = (seed + number, u32::MAX - number as u32 % 4, 256 * usize::from(blocks));
+    let (calls, cut_jobs, most_cuts) = (200, 15, EVERYWHERE);
+    add_run(Plan { seed, blocks, length, calls, time, cut_jobs, most_cuts, filled: false, calm: false }, sum);
+}
+
+/// Makes the run; the most erases in it that had to be even.
+fn add_run(plan: Plan, sum: &mut Sum) -> usize {
     let made = runs::run(plan);
     sum.tally.add(&made.tally);
     sum.cuts += made.cuts;
     sum.inside += made.inside;
     sum.runs += 1;
+    made.erases
 }
 
-/// The damaged images of a round.
-pub fn damaged_images(round: u64, sum: &mut Sum) {
-    let mut rng = Rng::new(round * 100 + 99);
-    for (length, images) in IMAGES {
-        let mut twin = Twin::blank(length);
+/// The damaged images of a round, with two blocks.
+pub fn images_of_two(round: u64, sum: &mut Sum) {
+    images_of(&IMAGES_OF_TWO, round * 100 + 99, sum);
+}
+
+/// The same with three to sixteen.
+pub fn images_of_more(round: u64, sum: &mut Sum) {
+    images_of(&IMAGES_OF_MORE, round * 100 + 98, sum);
+}
+
+fn images_of(kinds: &[(u8, usize, usize)], seed: u64, sum: &mut Sum) {
+    let mut rng = Rng::new(seed);
+    for (blocks, length, images) in kinds.iter().copied() {
+        let mut twin = Twin::of_blocks(blocks, &vec![0xFF; length]);
         for _ in 0..images {
-            let image = damage::image(&mut rng, length);
+            let image = damage::image(&mut rng, blocks, length);
             damage::try_image(&mut twin, &mut rng, &image);
         }
         sum.tally.add(&twin.tally);

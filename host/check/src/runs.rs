@@ -1,5 +1,6 @@
 //! Random runs from a finished format, held to the book at every idle record.
 
+use crate::blocks::{self, Wear};
 use crate::book::{Book, Lists, found};
 use crate::cuts::{Allowed, Cuts, Start, newest, stuck};
 use crate::damage;
@@ -10,16 +11,16 @@ use crate::rng::Rng;
 use crate::tally::Tally;
 use crate::twin::{Call, Outcome, Twin, UNWRITTEN};
 use model::frame::VALUE_LIMIT;
-use model::half_of;
 use store::{Answer, Head, Idle, message};
 
 /// What a run is to be like.
 #[derive(Clone, Copy)]
 pub struct Plan {
     pub seed: u64,
+    pub blocks: u8,
     pub length: usize,
     pub calls: usize,
-    /// The creation time that the formatted half is given.
+    /// The creation time that the formatted block is given.
     pub time: u32,
     /// One job in so many is cut; 0 for none.
     pub cut_jobs: usize,
@@ -27,6 +28,8 @@ pub struct Plan {
     pub most_cuts: usize,
     /// Whether the journal is filled nearly to its end first.
     pub filled: bool,
+    /// Whether no power is lost inside a job.
+    pub calm: bool,
 }
 
 struct Run {
@@ -34,6 +37,8 @@ struct Run {
     book: Book,
     rng: Rng,
     manner: Manner,
+    calm: bool,
+    wear: Wear,
     cuts: Cuts,
     cut_jobs: usize,
     /// Cuts inside an erase, in the run itself.
@@ -44,26 +49,31 @@ struct Run {
     due: Option<usize>,
 }
 
-/// What a run came to: how often each call got each answer, the cuts, and how many of these fell inside an erase.
+/// What a run came to: how often each call got each answer, the cuts, how many of these fell inside an erase, and the most
+/// erases between two formats that had to be even.
 pub struct Made {
     pub tally: Tally,
     pub cuts: u64,
     pub inside: u64,
+    pub erases: usize,
 }
 
 pub fn run(plan: Plan) -> Made {
     let mut rng = Rng::new(plan.seed);
     let mut run = Run {
-        twin: formatted_at(plan.length, plan.time),
+        twin: formatted_at(plan),
         book: Book::default(),
-        manner: Manner::new(&mut rng, plan.length),
-        cuts: Cuts::new(plan.length, plan.most_cuts, plan.seed),
+        manner: Manner::new(&mut rng, plan.length / usize::from(plan.blocks)),
+        calm: plan.calm,
+        wear: Wear::default(),
+        cuts: Cuts::new(plan.blocks, plan.length, plan.most_cuts, plan.seed),
         inside: 0,
         cut_jobs: 0,
         format_open: false,
         due: None,
         rng,
     };
+    run.wear.start(run.twin.erases());
     if plan.filled {
         run.fill();
     }
@@ -73,11 +83,12 @@ pub fn run(plan: Plan) -> Made {
     }
     let mut tally = run.twin.tally;
     tally.add(&run.cuts.twin.tally);
-    Made { tally, cuts: run.cuts.cuts + run.inside, inside: run.cuts.inside + run.inside }
+    let (cuts, inside) = (run.cuts.cuts + run.inside, run.cuts.inside + run.inside);
+    Made { tally, cuts, inside, erases: run.wear.most }
 }
 
-fn formatted_at(length: usize, time: u32) -> Twin {
-    let mut twin = Twin::formatted(length);
+fn formatted_at(Plan { blocks, length, time, .. }: Plan) -> Twin {
+    let mut twin = Twin::formatted_of(blocks, length);
     let mut image = twin.image().to_vec();
     image[4..8].copy_from_slice(&(!time).to_le_bytes());
     twin.swap_image(&image);
@@ -87,7 +98,7 @@ fn formatted_at(length: usize, time: u32) -> Twin {
 impl Run {
     /// Puts of host 0 with a commit after each, until less than 300 bytes are left.
     fn fill(&mut self) {
-        while self.twin.idle().is_some_and(|idle| usize::from(idle.end) + 300 < self.size()) {
+        while self.twin.idle().is_some_and(|idle| usize::from(idle.end) + 300 < self.twin.size()) {
             let (id, value) = (self.rng.byte(), generate::value(&mut self.rng, 40));
             for wish in [Wish::Put(id, value), Wish::Commit] {
                 self.wish(0, &wish);
@@ -97,22 +108,22 @@ impl Run {
     }
 
     fn act(&mut self) {
+        if self.rng.once_in(30) {
+            return blocks::tell_another(&mut self.twin, &mut self.rng);
+        }
         match (self.twin.head(), self.rng.below(100)) {
+            (Head::Job, 85..) if self.calm => self.steps(usize::MAX),
             (Head::Job, 0..=79) => self.steps(usize::MAX),
             (Head::Job, 80..=84) => self.some_steps(),
             (Head::Job, 85..=91) => self.cut_erase(),
             (Head::Job, 92..=95) => self.any_request(),
             (Head::Idle(_), 0..=1) => self.steps(1),
-            (Head::Idle(idle), 2..=13) => self.put_at_the_limit(idle),
+            (Head::Idle(_), 2..=13) => self.put_at_the_limit(),
             (Head::Idle(_), 14..=96) => self.any_request(),
             (Head::Unmounted, 0..=19) => self.any_request(),
             (Head::Unmounted, 20..=24) => self.steps(1),
             _ => self.restart(),
         }
-    }
-
-    fn size(&self) -> usize {
-        self.twin.image().len() / 2
     }
 
     /// So many steps while there are any, each by itself or in one run.
@@ -145,12 +156,13 @@ impl Run {
         while !self.format_open && self.twin.busy() {
             match self.twin.erases_next() {
                 None => self.steps(1),
-                Some(half) => {
-                    let before = newest(self.twin.image());
-                    let mask = raise::mask(&mut self.rng, half_of(self.twin.image(), half));
+                Some(block) => {
+                    let before = self.newest();
+                    let mask = raise::mask(&mut self.rng, self.twin.block(block));
                     self.twin.cut_erase(&mask);
-                    assert_eq!(newest(self.twin.image()), before, "a half looks newer, half erased");
+                    assert_eq!(self.newest(), before, "a block looks newer, half erased");
                     self.inside += 1;
+                    self.wear.end();
                     self.restart();
                     if self.rng.once_in(2) {
                         break;
@@ -158,6 +170,10 @@ impl Run {
                 }
             }
         }
+    }
+
+    fn newest(&self) -> Option<u32> {
+        newest(self.twin.image(), self.twin.blocks)
     }
 
     fn any_request(&mut self) {
@@ -172,10 +188,10 @@ impl Run {
     }
 
     /// The longest put that the room rule and the limit take, or the next longer one.
-    fn put_at_the_limit(&mut self, idle: Idle) {
+    fn put_at_the_limit(&mut self) {
         let host = self.rng.below(4);
         let taken = self.book.claimed() + 8 + 6 * self.book.open(host) + 14;
-        let free = (idle.length / 2).saturating_sub(taken).min(VALUE_LIMIT) + self.rng.below(2);
+        let free = self.twin.size().saturating_sub(taken).min(VALUE_LIMIT) + self.rng.below(2);
         let value = generate::value(&mut self.rng, free);
         let id = self.manner.id(&mut self.rng);
         self.wish(host as u8, &Wish::Put(id, value));
@@ -212,13 +228,13 @@ impl Run {
             Wish::Commit | Wish::Abort if self.book.lists[host].is_empty() => return (Answer::DONE, 0),
             Wish::Commit | Wish::Abort => (6, true),
             Wish::Put(_, value) if value.len() > VALUE_LIMIT => return (Answer::MALFORMED, 0),
-            Wish::Put(_, value) => (8 + value.len(), taken + 8 + value.len() + 14 <= self.size()),
-            Wish::Delete(_) => (8, taken + 8 <= self.size()),
+            Wish::Put(_, value) => (8 + value.len(), taken + 8 + value.len() + 14 <= self.twin.size()),
+            Wish::Delete(_) => (8, taken + 8 <= self.twin.size()),
         };
-        let transfer = usize::from(idle.end) + frame > self.size();
+        let transfer = usize::from(idle.end) + frame > self.twin.size();
         if !room {
             (Answer::NO_ROOM, 0)
-        } else if transfer && newest(self.twin.image()) == Some(u32::MAX) {
+        } else if transfer && self.newest() == Some(u32::MAX) {
             (Answer::WORN, 0)
         } else {
             (Answer::MORE, frame + if transfer { self.book.claimed() - 5 } else { 0 })
@@ -229,9 +245,9 @@ impl Run {
     fn check_reply(&self, wish: &Wish, outcome: &Outcome) {
         let mut expected = vec![UNWRITTEN; outcome.reply.len()];
         if *wish == Wish::Log && outcome.answer == Answer::DONE {
-            let time = newest(self.twin.image()).expect("a valid half");
+            let time = self.newest().expect("a valid block");
             let short = |number: usize| (number as u16).to_le_bytes();
-            let numbers = [short(self.book.objects.len()), short(self.book.used()), short(self.size())];
+            let numbers = [short(self.book.objects.len()), short(self.book.used()), short(self.twin.size())];
             let page = [&[14, 0, 1, 2][..], &time.to_le_bytes(), &numbers.concat()].concat();
             expected[..message::PAGE].copy_from_slice(&page);
         }
@@ -249,6 +265,7 @@ impl Run {
         }
         self.book.feed(&call, outcome.answer);
         self.count_steps(&call, &outcome, busy);
+        self.wear.check(self.twin.blocks, self.twin.erases());
         if let Some(idle) = self.twin.idle() {
             self.check_book(idle);
         }
@@ -260,7 +277,7 @@ impl Run {
         match (call, answer) {
             (Call::Format, _) => assert_eq!(answer, Answer::MORE),
             (Call::Mount, Answer::NO_STORE) => assert!(self.format_open, "the store is gone"),
-            (Call::Mount, Answer::WORN) => assert!(stuck(self.twin.image())),
+            (Call::Mount, Answer::WORN) => assert!(stuck(self.twin.image(), self.twin.blocks)),
             (Call::Mount, _) => assert!(!answer.refused(), "mount answered {answer}"),
             (Call::Step | Call::Run(_), _) => assert!(!answer.refused(), "a step got {answer}"),
             _ => assert!(
@@ -268,18 +285,27 @@ impl Run {
                 "{call} got {answer}"
             ),
         }
-        match call {
-            Call::Format => self.format_open = true,
-            Call::Mount if !answer.refused() => self.format_open = false,
-            Call::Step | Call::Run(_) if busy && answer == Answer::DONE => self.format_open = false,
-            _ => {}
+        self.follow_format(call, answer, busy);
+    }
+
+    fn follow_format(&mut self, call: &Call, answer: Answer, busy: bool) {
+        let ended = call.goes_on() && busy && answer == Answer::DONE;
+        if *call == Call::Format || (*call == Call::Mount && busy) {
+            self.wear.end();
+        } else if self.format_open && ended {
+            self.wear.start(self.twin.erases());
         }
+        self.format_open = match call {
+            Call::Format => true,
+            Call::Mount => self.format_open && answer.refused(),
+            _ => self.format_open && !ended,
+        };
     }
 
     /// The job's steps are as many as document 01 says.
     fn count_steps(&mut self, call: &Call, outcome: &Outcome, busy: bool) {
         match call {
-            Call::Format => self.due = Some(12),
+            Call::Format => self.due = Some(usize::from(self.twin.blocks) + 10),
             Call::Mount => self.due = None,
             Call::Request { .. } if outcome.answer == Answer::MORE => self.due = None,
             Call::Step | Call::Run(_) if busy => {
@@ -292,11 +318,11 @@ impl Run {
     }
 
     fn check_book(&mut self, idle: Idle) {
-        let (objects, lists) = found(half_of(self.twin.image(), usize::from(idle.half)));
+        let (objects, lists) = found(self.twin.block(usize::from(idle.block)));
         assert_eq!(objects, self.book.objects, "replay's objects are not the book's");
         assert_eq!(lists, self.book.lists, "replay's lists are not the book's");
         if lists == Lists::default() {
-            assert!(self.book.used() + 14 <= self.size(), "U + 14 exceeds S though nothing is pending");
+            assert!(self.book.used() + 14 <= self.twin.size(), "U + 14 exceeds S though nothing is pending");
         }
         if self.rng.once_in(10) {
             self.harm_a_copy();
@@ -313,9 +339,9 @@ impl Run {
     fn harm_a_copy(&mut self) {
         let mut image = self.twin.image().to_vec();
         for _ in 0..=self.rng.below(3) {
-            damage::harm(&mut self.rng, &mut image);
+            damage::harm(&mut self.rng, &mut image, self.twin.size());
         }
-        self.twin.tally.count_fault(fault::agreed(&image).1);
+        self.twin.tally.count_fault(fault::agreed(&image, self.twin.blocks).1);
     }
 
     fn check_read(&mut self, id: u8) {

@@ -1,6 +1,6 @@
 //! One of the stores that are compared.
 
-use crate::twin::{Call, Outcome, UNWRITTEN};
+use crate::call::{Call, Outcome, UNWRITTEN};
 use store::{Answer, Head, Store, Stretch};
 
 /// One store with its own copy of the image.
@@ -27,26 +27,26 @@ impl<S: Store> Side<S> {
 
     /// Makes the call. Mount and format take no record; the other calls leave it as it is unless a job begins in it or a
     /// step of its job is made.
-    pub fn call(&mut self, call: &Call) -> Outcome {
+    pub fn call(&mut self, call: &Call, blocks: u8) -> Outcome {
         let mut outcome =
             Outcome { answer: Answer::DONE, steps: 0, reply: Vec::new(), stretch: Stretch::default() };
         let (image, before) = (&mut self.image, self.record.clone());
         let record = &mut self.record;
         match call {
-            Call::Mount => (outcome.answer, *record) = self.store.mount(image),
-            Call::Format => (outcome.answer, *record) = self.store.format(image),
+            Call::Mount => (outcome.answer, *record) = self.store.mount(image, blocks),
+            Call::Format => (outcome.answer, *record) = self.store.format(image, blocks),
             Call::Step => {
                 let busy = self.store.head(record) == Head::Job;
-                outcome.answer = self.store.step(image, record);
+                outcome.answer = self.store.step(image, blocks, record);
                 outcome.steps = usize::from(busy && !outcome.answer.refused());
             }
-            Call::Run(most) => (outcome.answer, outcome.steps) = self.store.run(image, record, *most),
+            Call::Run(most) => (outcome.answer, outcome.steps) = self.store.run(image, blocks, record, *most),
             Call::Request { host, message, reply } => {
                 outcome.reply = vec![UNWRITTEN; *reply];
-                outcome.answer = self.store.request(image, record, *host, message, &mut outcome.reply);
+                outcome.answer = self.store.request(image, blocks, record, *host, message, &mut outcome.reply);
             }
             Call::Read { host, message } => {
-                (outcome.answer, outcome.stretch) = self.store.read(image, record, *host, message);
+                (outcome.answer, outcome.stretch) = self.store.read(image, blocks, record, *host, message);
             }
         }
         let kept = match call {
@@ -60,8 +60,15 @@ impl<S: Store> Side<S> {
     }
 
     /// Makes the call and says how this side then differs from the model, if it does.
-    pub fn difference(&mut self, call: &Call, expected: &Outcome, head: Head, image: &[u8]) -> Option<String> {
-        let outcome = self.call(call);
+    pub fn difference(
+        &mut self,
+        call: &Call,
+        blocks: u8,
+        expected: &Outcome,
+        head: Head,
+        image: &[u8],
+    ) -> Option<String> {
+        let outcome = self.call(call, blocks);
         if outcome != *expected {
             Some(format!("gave {outcome:?}, the model {expected:?}"))
         } else if self.head() != head {

@@ -6,7 +6,7 @@ use std::fmt;
 use store::{Answer, Fault, Field, message};
 
 /// How often each call got each answer, how often with a value of each length (the one put, or the one found), and how often
-/// each half was said to have broken in each field.
+/// each block was said to have broken in each field.
 #[derive(Default)]
 pub struct Tally {
     answers: BTreeMap<(&'static str, u8), u64>,
@@ -24,8 +24,8 @@ impl Tally {
     }
 
     pub fn count_fault(&mut self, fault: Option<Fault>) {
-        if let Some(Fault { half, field, .. }) = fault {
-            *self.faults.entry((half, field)).or_default() += 1;
+        if let Some(Fault { block, field, .. }) = fault {
+            *self.faults.entry((block, field)).or_default() += 1;
         }
     }
 
@@ -50,9 +50,9 @@ impl Tally {
         self.values.get(&(call, answer.0, length)).copied().unwrap_or(0)
     }
 
-    /// How often this half was said to have broken in this field.
-    pub fn faults(&self, half: usize, field: Field) -> u64 {
-        self.faults.get(&(half, field)).copied().unwrap_or(0)
+    /// How often this block was said to have broken in this field.
+    pub fn faults(&self, block: usize, field: Field) -> u64 {
+        self.faults.get(&(block, field)).copied().unwrap_or(0)
     }
 
     pub fn calls(&self) -> u64 {
@@ -77,8 +77,8 @@ impl fmt::Display for Tally {
         for ((call, answer), count) in &self.answers {
             writeln!(f, "  {call:8} {:>4}  {count}", Answer(*answer).to_string())?;
         }
-        for ((half, field), count) in &self.faults {
-            writeln!(f, "  half {half}: {field:6}  {count}")?;
+        for ((block, field), count) in &self.faults {
+            writeln!(f, "  block {block}: {field:6}  {count}")?;
         }
         Ok(())
     }

@@ -1,77 +1,17 @@
 //! The model, the library and the plain program, given the same calls: whatever anyone can see of them must agree. The
 //! library is there twice: by `step` and `run`, and by `next`, a flash step that is done here, and `made`.
 
+pub use crate::call::{Call, Outcome, UNWRITTEN};
 use crate::fault;
 use crate::nor::Nor;
 use crate::side::Side;
 use crate::tally::Tally;
 use library::{Driven, Library, Told};
-use model::job::Step;
-use model::{Model, Record};
+use model::job::{Job, Step};
+use model::{Model, Record, block_of};
 use plain::Plain;
 use std::fmt;
-use store::{Answer, Fault, Head, Idle, Store, Stretch, hex, message};
-
-#[derive(Clone, PartialEq, Eq, Debug)]
-pub enum Call {
-    Mount,
-    Format,
-    Step,
-    /// At most so many steps.
-    Run(usize),
-    Request {
-        host: u8,
-        message: Vec<u8>,
-        reply: usize,
-    },
-    Read {
-        host: u8,
-        message: Vec<u8>,
-    },
-}
-
-impl Call {
-    pub fn name(&self) -> &'static str {
-        match self {
-            Call::Mount => "mount",
-            Call::Format => "format",
-            Call::Step => "step",
-            Call::Run(_) => "run",
-            Call::Request { .. } => "request",
-            Call::Read { .. } => "read",
-        }
-    }
-
-    /// Whether it goes on with the job in hand.
-    pub fn goes_on(&self) -> bool {
-        matches!(self, Call::Step | Call::Run(_))
-    }
-}
-
-/// The call as a line for `desk replay`.
-impl fmt::Display for Call {
-    fn fmt(&self, f: &mut fmt::Formatter) -> fmt::Result {
-        let bytes = |message: &[u8]| if message.is_empty() { "-".to_string() } else { hex::show(message) };
-        match self {
-            Call::Request { host, message, reply } => write!(f, "req {host} {} {reply}", bytes(message)),
-            Call::Read { host, message } => write!(f, "read {host} {}", bytes(message)),
-            Call::Run(most) => write!(f, "step {most}"),
-            other => f.write_str(other.name()),
-        }
-    }
-}
-
-#[derive(Clone, PartialEq, Eq, Debug)]
-pub struct Outcome {
-    pub answer: Answer,
-    /// Flash steps made.
-    pub steps: usize,
-    pub reply: Vec<u8>,
-    pub stretch: Stretch,
-}
-
-/// What a lent reply holds before the call.
-pub const UNWRITTEN: u8 = 0x5A;
+use store::{Answer, Fault, Head, Idle, Store, hex, message};
 
 pub struct Twin {
     model: Side<Model>,
@@ -79,21 +19,28 @@ pub struct Twin {
     driven: Side<Driven>,
     plain: Side<Plain>,
     nor: Nor,
-    /// Where the job began: its image, the record before, the call; and the steps made since.
-    job: Option<(Vec<u8>, Head, Call)>,
+    /// How many blocks each call is told.
+    pub blocks: u8,
+    /// Where the job began, the call, and the steps made since.
+    job: Option<(Setting, Call)>,
     steps: usize,
     pub tally: Tally,
 }
 
 impl Twin {
-    /// An image with an unmounted record.
+    /// An image of two blocks with an unmounted record.
     pub fn new(image: &[u8]) -> Twin {
+        Twin::of_blocks(2, image)
+    }
+
+    pub fn of_blocks(blocks: u8, image: &[u8]) -> Twin {
         Twin {
             model: Side::new(Model, image),
             library: Side::new(Library::linked(), image),
             driven: Side::new(Driven(Library::linked()), image),
             plain: Side::new(Plain, image),
             nor: Nor::new(image),
+            blocks,
             job: None,
             steps: 0,
             tally: Tally::default(),
@@ -106,8 +53,12 @@ impl Twin {
 
     /// A blank image, formatted.
     pub fn formatted(length: usize) -> Twin {
-        let mut twin = Twin::blank(length);
-        assert_eq!(twin.whole(&Call::Format), (Answer::DONE, 12));
+        Twin::formatted_of(2, length)
+    }
+
+    pub fn formatted_of(blocks: u8, length: usize) -> Twin {
+        let mut twin = Twin::of_blocks(blocks, &vec![0xFF; length]);
+        assert_eq!(twin.whole(&Call::Format), (Answer::DONE, usize::from(blocks) + 10));
         twin
     }
 
@@ -148,6 +99,20 @@ impl Twin {
         self.nor.bytes()
     }
 
+    /// The bytes of a block, by the number that calls are told.
+    pub fn block(&self, block: usize) -> &[u8] {
+        block_of(self.image(), self.blocks, block)
+    }
+
+    /// How often each block has been erased so far.
+    pub fn erases(&self) -> [usize; 16] {
+        self.nor.erases
+    }
+
+    pub fn size(&self) -> usize {
+        self.image().len() / usize::from(self.blocks)
+    }
+
     pub fn head(&self) -> Head {
         self.model.head()
     }
@@ -171,21 +136,22 @@ impl Twin {
         }
     }
 
-    /// The half that the next step erases, if it does.
+    /// The block that the next step erases, if it does.
     pub fn erases_next(&self) -> Option<usize> {
         match &self.model.record {
             Record::Job(job) => match job.next() {
-                Step::Erase { half } => Some(half),
+                Step::Erase { at, len } => Some(at / len),
                 Step::Program { .. } => None,
             },
             _ => None,
         }
     }
 
-    /// Power is lost inside the erase that comes next: these bits of the half are then 1, the others as they were.
+    /// Power is lost inside the erase that comes next: these bits of the block are then 1, the others as they were.
     pub fn cut_erase(&mut self, mask: &[u8]) {
-        let half = self.erases_next().expect("the next step is an erase");
-        self.nor.raise(half, mask);
+        let block = self.erases_next().expect("the next step is an erase");
+        assert_eq!(mask.len(), self.size());
+        self.nor.raise(block * mask.len(), mask);
         let image = self.image().to_vec();
         self.load(&image);
     }
@@ -198,7 +164,7 @@ impl Twin {
             Call::Run(most) => self.run_on_nor(*most),
             _ => {}
         }
-        let outcome = self.model.call(call);
+        let outcome = self.model.call(call, self.blocks);
         if self.nor.bytes() != self.model.image {
             self.fail("the model's image is not what its steps make", before, call);
         }
@@ -213,34 +179,38 @@ impl Twin {
 
     /// What is next, by the model's job.
     fn next(&self) -> (Answer, Told) {
-        let (length, size) = (self.nor.bytes().len(), self.nor.bytes().len() / 2);
         match &self.model.record {
-            Record::Job(job) if job.length() != length => (Answer::STALE, Told::default()),
+            Record::Job(job) if !self.is_on(job) => (Answer::STALE, Told::default()),
             Record::Job(job) => match job.next() {
                 Step::Program { at, byte } => (Answer::PROGRAM, Told { at, len: 1, byte }),
-                Step::Erase { half } => (Answer::ERASE, Told { at: half * size, len: size, byte: 0xFF }),
+                Step::Erase { at, len } => (Answer::ERASE, Told { at, len, byte: 0xFF }),
             },
             _ => (Answer::DONE, Told::default()),
         }
     }
 
     fn compare_told(&self, call: &Call, before: Head) {
-        let told = self.library.store.next_of(self.nor.bytes().len(), &self.library.record);
+        let told = self.library.store.next_of(self.nor.bytes().len(), self.blocks, &self.library.record);
         if told != self.next() {
             self.fail(&format!("the library tells {told:?}, the model {:?}", self.next()), before, call);
         }
     }
 
+    /// Whether a step of this job may be made on the image that calls are given.
+    fn is_on(&self, job: &Job) -> bool {
+        job.is_on(self.nor.bytes().len(), self.blocks)
+    }
+
     fn step_on_nor(&mut self) {
         match &self.model.record {
-            Record::Job(job) if job.length() == self.nor.bytes().len() => self.nor.make(job.next()),
+            Record::Job(job) if self.is_on(job) => self.nor.make(job.next()),
             _ => {}
         }
     }
 
     fn run_on_nor(&mut self, most: usize) {
         let Record::Job(job) = &self.model.record else { return };
-        if job.length() == self.nor.bytes().len() {
+        if self.is_on(job) {
             let mut job = job.clone();
             for _ in 0..most {
                 self.nor.make(job.next());
@@ -253,12 +223,18 @@ impl Twin {
 
     fn compare(&mut self, call: &Call, expected: &Outcome, before: Head) {
         let (head, image) = (self.head(), self.nor.bytes());
-        let plain =
-            self.plain.difference(call, expected, head, image).map(|what| format!("the plain program {what}"));
-        let library =
-            self.library.difference(call, expected, head, image).map(|what| format!("the library {what}"));
-        let driven =
-            self.driven.difference(call, expected, head, image).map(|what| format!("the library driven {what}"));
+        let plain = self
+            .plain
+            .difference(call, self.blocks, expected, head, image)
+            .map(|what| format!("the plain program {what}"));
+        let library = self
+            .library
+            .difference(call, self.blocks, expected, head, image)
+            .map(|what| format!("the library {what}"));
+        let driven = self
+            .driven
+            .difference(call, self.blocks, expected, head, image)
+            .map(|what| format!("the library driven {what}"));
         let parted = (self.driven.record != self.library.record)
             .then(|| "the library driven has another record than by steps".to_string());
         let untidy =
@@ -276,7 +252,7 @@ impl Twin {
 
     /// Why a mount of the image as it is would be refused, and where it broke.
     pub fn fault(&mut self) -> (Answer, Option<Fault>) {
-        let (answer, fault) = fault::agreed(self.image());
+        let (answer, fault) = fault::agreed(self.image(), self.blocks);
         self.tally.count_fault(fault);
         (answer, fault)
     }
@@ -285,7 +261,7 @@ impl Twin {
         if call.goes_on() {
             self.steps += outcome.steps;
         } else if outcome.answer == Answer::MORE {
-            self.job = Some((self.image().to_vec(), before, call.clone()));
+            self.job = Some((self.setting(before), call.clone()));
             self.steps = 0;
         }
     }
@@ -293,13 +269,17 @@ impl Twin {
     /// Panics with a script that shows the difference in `desk replay`.
     fn fail(&self, what: &str, before: Head, call: &Call) -> ! {
         let script = match (&self.job, before) {
-            (Some((image, head, begin)), Head::Job) => {
+            (Some((setting, begin)), Head::Job) => {
                 let steps = if self.steps > 0 { format!("step {}\n", self.steps) } else { String::new() };
-                format!("{}{begin}\n{steps}", setting(image, *head))
+                format!("{setting}{begin}\n{steps}")
             }
-            _ => setting(self.image(), before),
+            _ => self.setting(before).to_string(),
         };
-        panic!("{what}\n{script}{call}\nrecord\ndump");
+        panic!("{what}\n{script}blocks {}\n{call}\nrecord\ndump", self.blocks);
+    }
+
+    fn setting(&self, head: Head) -> Setting {
+        Setting { image: self.image().to_vec(), blocks: self.blocks, head }
     }
 
     pub fn step(&mut self) -> Answer {
@@ -369,10 +349,22 @@ fn tidy(library: &Side<Library>) -> bool {
     }
 }
 
-fn setting(image: &[u8], head: Head) -> String {
-    let record = match head {
-        Head::Idle(Idle { length, half, end }) => format!("idle {length} {half} {end}\n"),
-        _ => String::new(),
-    };
-    format!("image {}\n{record}", hex::show(image))
+/// What a call was given.
+struct Setting {
+    image: Vec<u8>,
+    blocks: u8,
+    head: Head,
+}
+
+/// The lines for `desk replay` that put it in place.
+impl fmt::Display for Setting {
+    fn fmt(&self, f: &mut fmt::Formatter) -> fmt::Result {
+        writeln!(f, "image {} {}", hex::show(&self.image), self.blocks)?;
+        match self.head {
+            Head::Idle(Idle { length, block, end, blocks }) => {
+                writeln!(f, "idle {length} {block} {end} blocks={blocks}")
+            }
+            _ => Ok(()),
+        }
+    }
 }

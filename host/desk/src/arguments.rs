@@ -19,7 +19,8 @@ pub struct Command {
 
 /// What follows a command.
 pub struct Asked {
-    options: Vec<&'static str>,
+    /// Each with what stands behind its `=`.
+    options: Vec<(&'static str, String)>,
     file: Option<OsString>,
 }
 
@@ -52,9 +53,14 @@ impl Command {
         Ok(asked)
     }
 
-    fn option(&self, text: &str) -> Option<&'static str> {
-        let known = self.takes.split(' ').map(|word| word.trim_matches(['[', ']']));
-        known.filter(|word| word.starts_with('-')).find(|word| *word == text)
+    /// The option that a word is, and what stands behind its `=` where the command wants something there.
+    fn option(&self, text: &str) -> Option<(&'static str, String)> {
+        let mut known = self.takes.split(' ').map(|word| word.trim_matches(['[', ']']));
+        known.find_map(|word| match (word.split_once('='), text.split_once('=')) {
+            (None, _) if word == text => Some((word, String::new())),
+            (Some((name, _)), Some((given, value))) if name == given => Some((name, value.to_string())),
+            _ => None,
+        })
     }
 
     fn wrong(&self, how: &str, word: &OsStr) -> Failure {
@@ -68,7 +74,14 @@ impl Command {
 
 impl Asked {
     pub fn has(&self, option: &str) -> bool {
-        self.options.contains(&option)
+        self.options.iter().any(|(name, _)| *name == option)
+    }
+
+    /// The number behind an option, if it is there.
+    pub fn number(&self, option: &str) -> Result<Option<u8>, Failure> {
+        let Some((_, value)) = self.options.iter().rfind(|(name, _)| *name == option) else { return Ok(None) };
+        let wrong = format!("{option}= goes with a number from 0 to 255, not {}", say::word(value));
+        value.parse().map(Some).map_err(|_| Failure { status: WRONG, why: wrong })
     }
 
     /// The file, or standard input if none is named.

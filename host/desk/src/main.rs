@@ -11,6 +11,7 @@ mod show;
 mod survey;
 
 use arguments::{Asked, Command, Failure, WRONG};
+use board::BLOCKS;
 use input::{LARGEST, LONGEST};
 use library::Library;
 use script::{Manner, Trouble};
@@ -22,7 +23,7 @@ use std::process::ExitCode;
 const HELP: &str = include_str!("help.txt");
 
 const COMMANDS: [Command; 4] = [
-    Command { name: "show", takes: "[--hex] [--journal] FILE", run: show },
+    Command { name: "show", takes: "[--hex] [--journal] [--blocks=N] FILE", run: show },
     Command { name: "replay", takes: "[--words] [--strict] [FILE]", run: replay },
     Command { name: "demo", takes: "", run: demo },
     Command { name: "help", takes: "", run: help },
@@ -68,11 +69,12 @@ fn run(arguments: &[OsString]) -> Result<bool, Failure> {
 fn show(asked: &Asked) -> Result<bool, Failure> {
     let name = asked.name();
     let failed = |why: String| Failure { status: WRONG, why: format!("{name}: {why}") };
+    let blocks = asked.number("--blocks")?.unwrap_or(BLOCKS);
     let (hex, file) = (asked.has("--hex"), asked.open().map_err(failed)?);
     let most = if hex { LONGEST } else { LARGEST };
     let bytes = input::whole(file, most).map_err(|error| failed(input::why(&error)))?;
     let image = if hex { &input::from_hex(&bytes).map_err(failed)? } else { &bytes };
-    let report = Report::new(&Library::linked(), image);
+    let report = Report::new(&Library::linked(), image, blocks);
     let mut out = BufWriter::new(io::stdout().lock());
     let wanted = Wanted { journal: asked.has("--journal") };
     let hint = if !hex && !report.store() && input::looks_like_hex(image) { HINT } else { "" };

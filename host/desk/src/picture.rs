@@ -1,9 +1,9 @@
-//! A picture of both halves, a letter for each byte.
+//! A picture of all blocks, a letter for each byte.
 
 use crate::say::count;
 use crate::survey::{Side, sides};
+use model::block::{Block, HEADER, Replay};
 use model::frame::{Body, Frame, Id};
-use model::half::{HEADER, Half, Replay};
 
 pub const LEGEND: &str = concat!(
     "  H header     S settled value   P pending change   C commit or abort mark\n",
@@ -14,11 +14,11 @@ pub const LEGEND: &str = concat!(
 const ROW: usize = 64;
 const BLANK: char = '.';
 
-pub fn picture(image: &[u8]) -> String {
-    sides(image).iter().map(|side| format!("half {}\n{}", side.number, rows(side))).collect()
+pub fn picture(image: &[u8], blocks: u8) -> String {
+    sides(image, blocks).iter().map(|side| format!("{}\n{}", side.name(), rows(side))).collect()
 }
 
-/// A half in rows; blank rows that follow each other are told in one.
+/// A block in rows; blank rows that follow each other are told in one.
 pub fn rows(side: &Side) -> String {
     let letters = letters(side);
     let rows: Vec<&[char]> = letters.chunks(ROW).collect();
@@ -42,14 +42,14 @@ fn letters(side: &Side) -> Vec<char> {
     let programmed = |letter| -> Vec<char> {
         side.bytes.iter().map(|byte| if *byte == 0xFF { BLANK } else { letter }).collect()
     };
-    match &side.half {
-        Half::Blank => programmed(BLANK),
-        Half::InProgress => programmed('w'),
-        Half::Foreign => programmed('?'),
-        Half::Valid(journal) => {
+    match &side.block {
+        Block::Blank => programmed(BLANK),
+        Block::InProgress => programmed('w'),
+        Block::Foreign => programmed('?'),
+        Block::Valid(journal) => {
             let mut letters = programmed('T');
             letters[..HEADER].fill('H');
-            let replay = model::half::replay(journal);
+            let replay = model::block::replay(journal);
             for frame in &journal.frames {
                 letters[frame.place.clone()].fill(letter(frame, &replay));
             }
@@ -74,13 +74,13 @@ fn letter(frame: &Frame, replay: &Replay) -> char {
 #[cfg(test)]
 mod tests {
     use super::*;
+    use model::block;
     use model::frame::{Host, abort, commit, delete, put, settled};
-    use model::half;
 
     const HEAD: [u8; 16] = [16, 0, 1, 0x4A, 0xFE, 255, 255, 255, 0xFC, 255, 255, 255, 255, 255, 255, 255];
 
     fn side(bytes: &[u8]) -> Side<'_> {
-        Side { number: 0, base: 0, bytes, half: half::read(bytes) }
+        Side { word: "half", number: 0, base: 0, bytes, block: block::read(bytes) }
     }
 
     fn text(bytes: &[u8]) -> String {
@@ -88,9 +88,9 @@ mod tests {
     }
 
     fn valid(frames: &[Vec<u8>], size: usize) -> Vec<u8> {
-        let mut half = [HEAD.to_vec(), frames.concat()].concat();
-        half.resize(size, 0xFF);
-        half
+        let mut block = [HEAD.to_vec(), frames.concat()].concat();
+        block.resize(size, 0xFF);
+        block
     }
 
     #[test]
@@ -111,33 +111,33 @@ mod tests {
     }
 
     #[test]
-    fn other_halves() {
-        let mut half = [0xFF; 20];
-        assert_eq!(text(&half), "....................");
-        half[8] = 0xFE;
-        assert_eq!(text(&half), "........w...........");
-        half[8] = 0x00;
-        assert_eq!(text(&half), "........?...........");
+    fn other_blocks() {
+        let mut block = [0xFF; 20];
+        assert_eq!(text(&block), "....................");
+        block[8] = 0xFE;
+        assert_eq!(text(&block), "........w...........");
+        block[8] = 0x00;
+        assert_eq!(text(&block), "........?...........");
     }
 
     #[test]
     fn only_blank_rows_are_folded() {
         // A value of 0xFF bytes fills the third row: it is written, so it is drawn.
         let frames = [settled(Id(1), &[0; 41]), settled(Id(2), &[0; 57]), settled(Id(3), &[255; 64])];
-        let half = valid(&frames, 448);
+        let block = valid(&frames, 448);
         let full = |letters: &str| letters.repeat(64);
         let drawn = [
             format!("      0  {}{}\n", "H".repeat(16), "S".repeat(48)),
             format!("     64  {}\n    128  {}\n", full("S"), full("S")),
             format!("    192  {}{}\n    256  192 bytes blank\n", "S".repeat(7), ".".repeat(57)),
         ];
-        assert_eq!(rows(&side(&half)), drawn.concat());
+        assert_eq!(rows(&side(&block)), drawn.concat());
         let mut cut = [0xFF; 256];
         (cut[8], cut[255]) = (0xFE, 0);
         let [first, last] = [8, 63].map(|at| format!("{}w{}", ".".repeat(at), ".".repeat(63 - at)));
         let drawn = format!("      0  {first}\n     64  128 bytes blank\n    192  {last}\n");
         assert_eq!(rows(&side(&cut)), drawn);
-        let blank = Side { number: 1, base: 256, bytes: &[0xFF; 256], half: Half::Blank };
+        let blank = Side { word: "half", number: 1, base: 256, bytes: &[0xFF; 256], block: Block::Blank };
         assert_eq!(rows(&blank), "    256  256 bytes blank\n");
     }
 }

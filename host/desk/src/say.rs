@@ -31,7 +31,17 @@ pub fn named(answer: Answer) -> String {
     }
 }
 
-/// What is wrong with a field that starts here in its half.
+/// What a block is called: with two of them, as in document 01, a half.
+pub fn block(blocks: u8) -> &'static str {
+    if blocks == 2 { "half" } else { "block" }
+}
+
+/// "two halves", "4 blocks".
+pub fn blocks(blocks: u8) -> String {
+    if blocks == 2 { "two halves".to_string() } else { format!("{blocks} blocks") }
+}
+
+/// What is wrong with a field that starts here in its block.
 pub fn fault(field: Field, place: usize, at: &str) -> String {
     let (name, wrong) = match (field, place) {
         (Field::Length, 0) => ("header's length", "is not 16"),

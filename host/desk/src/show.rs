@@ -1,27 +1,17 @@
-//! A returned board: its picture, its halves, what they hold, and what a mount would say.
+//! A returned board: its picture, its blocks, what they hold, and what a mount would say.
 
 use crate::board::Board;
 use crate::picture::{LEGEND, rows};
 use crate::say::{self, count, grouped};
 use crate::survey::{Side, owner, sides};
+use model::block::{Block, Journal, Replay, replay};
 use model::frame::{Body, Frame, Host};
-use model::half::{Half, Journal, Replay, replay};
 use std::io::{self, Write};
 use std::ops::Range;
 use store::{Answer, Fault, Head, Store};
 
 /// Columns that a value may take before it goes on in the next line.
 const WIDTH: usize = 48;
-
-/// What a refused mount means for a board, and what helps.
-const MEANING: [(Answer, &str); 3] = [
-    (Answer::NO_STORE, "No half is valid. A format makes an empty store."),
-    (Answer::IMAGE_LENGTH, "It must be a multiple of 256 from 512 to 65,536."),
-    (
-        Answer::WORN,
-        "A transfer is needed, and the time cannot rise.\nOnly a format helps, and it loses all objects.",
-    ),
-];
 
 /// What is shown only if asked for.
 #[derive(Clone, Copy)]
@@ -31,8 +21,9 @@ pub struct Wanted {
 
 pub struct Report<'a> {
     image: &'a [u8],
+    blocks: u8,
     sides: Vec<Side<'a>>,
-    /// What mount answers, the steps it then takes, and the half that is current after them.
+    /// What mount answers, the steps it then takes, and the block that is current after them.
     answer: Answer,
     steps: usize,
     current: Option<u8>,
@@ -41,16 +32,16 @@ pub struct Report<'a> {
 }
 
 impl<'a> Report<'a> {
-    pub fn new<S: Store>(store: &S, image: &'a [u8]) -> Report<'a> {
-        let mut board = Board::new(store, image.to_vec());
+    pub fn new<S: Store>(store: &S, image: &'a [u8], blocks: u8) -> Report<'a> {
+        let mut board = Board::new(store, image.to_vec(), blocks);
         let (answer, fault) = (board.mount(), board.fault());
         let (_, steps) = board.run();
         let current = match board.head() {
-            Head::Idle(idle) => Some(idle.half),
+            Head::Idle(idle) => Some(idle.block),
             _ => None,
         };
-        let sides = if answer == Answer::IMAGE_LENGTH { Vec::new() } else { sides(image) };
-        Report { image, sides, answer, steps, current, fault }
+        let sides = if answer == Answer::IMAGE_LENGTH { Vec::new() } else { sides(image, blocks) };
+        Report { image, blocks, sides, answer, steps, current, fault }
     }
 
     /// Whether there is a store: mount does not refuse.
@@ -63,9 +54,10 @@ impl<'a> Report<'a> {
             writeln!(out, "{name}: {length}\n")?;
             return self.mount(out);
         }
-        writeln!(out, "{name}: {length}, two halves of {}\n\n{LEGEND}", grouped(self.image.len() / 2))?;
+        let size = grouped(self.image.len() / usize::from(self.blocks));
+        writeln!(out, "{name}: {length}, {} of {size}\n\n{LEGEND}", say::blocks(self.blocks))?;
         for side in &self.sides {
-            writeln!(out, "half {}{}: {}\n{}", side.number, self.role(side), side.state(), rows(side))?;
+            writeln!(out, "{}{}: {}\n{}", side.name(), self.role(side), side.state(), rows(side))?;
         }
         for (side, found) in self.listed() {
             if wanted.journal {
@@ -78,7 +70,7 @@ impl<'a> Report<'a> {
         self.mount(out)
     }
 
-    /// What a valid half is beside the other, where a mount can tell.
+    /// What a valid block is beside the others, where a mount can tell.
     fn role(&self, side: &Side) -> &'static str {
         match side.time() {
             None => "",
@@ -88,7 +80,7 @@ impl<'a> Report<'a> {
         }
     }
 
-    /// The halves whose objects are listed: the newest valid one, or both if they are equally new.
+    /// The blocks whose objects are listed: the newest valid one, or all that are equally new.
     fn listed(&self) -> impl Iterator<Item = (&Side<'a>, &Journal)> {
         let newest = self.newest();
         let valid = self.sides.iter().filter_map(|side| Some((side, side.journal()?)));
@@ -96,11 +88,39 @@ impl<'a> Report<'a> {
     }
 
     /// What a mount refused with 3 says, in words.
-    fn broken(&self, Fault { half, field, place }: Fault) -> String {
-        if self.newest().is_some() {
-            return format!("half {half}: the time at byte {place} is the other half's too");
+    fn broken(&self, Fault { block, field, place }: Fault) -> String {
+        let name = self.sides[block].name();
+        if self.newest().is_none() {
+            return format!("{name}: {}", say::fault(field, place, &place.to_string()));
         }
-        format!("half {half}: {}", say::fault(field, place, &place.to_string()))
+        let other = if self.blocks == 2 { "the other half" } else { "another block" };
+        format!("{name}: the time at byte {place} is {other}'s too")
+    }
+
+    /// What another refusal means for a board, and what helps.
+    fn meaning(&self) -> Option<&'static str> {
+        Some(match (self.answer, self.blocks) {
+            (Answer::NO_STORE, 2) => "No half is valid. A format makes an empty store.",
+            (Answer::NO_STORE, _) => "No block is valid. A format makes an empty store.",
+            (Answer::IMAGE_LENGTH, 2) => "It must be a multiple of 256 from 512 to 65,536.",
+            (Answer::IMAGE_LENGTH, _) => {
+                "It must be 2 to 16 blocks of one size, a\nmultiple of 128 from 256 up, and 65,536 bytes at most."
+            }
+            (Answer::WORN, _) => {
+                "A transfer is needed, and the time cannot rise.\nOnly a format helps, and it loses all objects."
+            }
+            _ => return None,
+        })
+    }
+
+    /// What a mount does to the foreign blocks.
+    fn erased(&self) -> &'static str {
+        match self.sides.iter().filter(|side| side.block == Block::Foreign).count() {
+            0 => "",
+            _ if self.blocks == 2 => "Its first step erases the foreign half.\n",
+            1 => "It erases the foreign block.\n",
+            _ => "It erases the foreign blocks.\n",
+        }
     }
 
     fn newest(&self) -> Option<u32> {
@@ -112,7 +132,7 @@ impl<'a> Report<'a> {
             writeln!(out, "mount answers 3, foreign.\n{}.", self.broken(fault))?;
             return writeln!(out, "Only a format helps, and it loses all objects.");
         }
-        if let Some((_, meaning)) = MEANING.iter().find(|(answer, _)| *answer == self.answer) {
+        if let Some(meaning) = self.meaning() {
             return writeln!(out, "mount answers {}. {meaning}", say::named(self.answer).replacen(' ', ", ", 1));
         }
         match self.answer {
@@ -122,16 +142,15 @@ impl<'a> Report<'a> {
                 writeln!(out, "mount answers more (255 in C), and 0, done, after {steps}.")?;
             }
         }
-        if self.sides.iter().any(|side| side.half == Half::Foreign) {
-            writeln!(out, "Its first step erases the foreign half.")?;
-        }
-        self.current.map_or(Ok(()), |half| writeln!(out, "Half {half} is then current."))
+        let name = if self.blocks == 2 { "Half" } else { "Block" };
+        let current = self.current.map(|block| format!("{name} {block} is then current.\n"));
+        write!(out, "{}{}", self.erased(), current.unwrap_or_default())
     }
 }
 
 fn settled(side: &Side, replay: &Replay, out: &mut impl Write) -> io::Result<()> {
     let (objects, used, size) = (count(replay.objects().count(), "object"), replay.used(), side.bytes.len());
-    writeln!(out, "Settled in half {}: {objects}; {used} of {size} bytes used", side.number)?;
+    writeln!(out, "Settled in {}: {objects}; {used} of {size} bytes used", side.name())?;
     if replay.objects().next().is_some() {
         writeln!(out, "   id     at  bytes  value")?;
     }
@@ -145,7 +164,7 @@ fn settled(side: &Side, replay: &Replay, out: &mut impl Write) -> io::Result<()>
 fn pending(side: &Side, replay: &Replay, out: &mut impl Write) -> io::Result<()> {
     let changes = count(replay.pending.len(), "change");
     let fate = if replay.pending.is_empty() { "" } else { ", which a mount drops" };
-    writeln!(out, "Pending in half {}: {changes}{fate}", side.number)?;
+    writeln!(out, "Pending in {}: {changes}{fate}", side.name())?;
     for host in (0..=3).map(Host) {
         let mut label = format!("host {}", host.0);
         for frame in replay.pending.iter().filter(|frame| owner(frame) == Some(host)) {
@@ -156,9 +175,9 @@ fn pending(side: &Side, replay: &Replay, out: &mut impl Write) -> io::Result<()>
     writeln!(out)
 }
 
-/// The whole frames of a valid half, as they were written.
+/// The whole frames of a valid block, as they were written.
 fn journal(side: &Side, journal: &Journal, out: &mut impl Write) -> io::Result<()> {
-    writeln!(out, "Journal of half {}: {}", side.number, count(journal.frames.len(), "frame"))?;
+    writeln!(out, "Journal of {}: {}", side.name(), count(journal.frames.len(), "frame"))?;
     for frame in &journal.frames {
         let host = owner(frame).map_or(String::new(), |host| format!("host {}", host.0));
         change(&format!("  {:>5}  {host:6}  ", side.base + frame.place.start), side, frame, out)?;

@@ -1,53 +1,60 @@
-//! The halves of an image, and what state each is in.
+//! The blocks of an image, and what state each is in.
 
 use crate::say::{self, count};
+use model::block::{self, Block, Journal};
+use model::cut;
 use model::fault;
 use model::frame::{Body, Frame, Host};
-use model::half::{self, Half, Journal};
-use model::half_of;
 
 /// Frames of kinds 1 to 4, which may be torn.
 const KINDS: [&str; 4] = ["put", "delete", "commit", "abort"];
 
 pub struct Side<'a> {
+    /// What people call it: half or block.
+    pub word: &'static str,
     pub number: usize,
-    /// Where the half starts in the image.
+    /// Where the block starts in the image.
     pub base: usize,
     pub bytes: &'a [u8],
-    pub half: Half,
+    pub block: Block,
 }
 
-/// Both halves of an image whose length is allowed.
-pub fn sides(image: &[u8]) -> Vec<Side<'_>> {
-    let side = |number| {
-        let bytes = half_of(image, number);
-        Side { number, base: number * bytes.len(), bytes, half: half::read(bytes) }
+/// All blocks of an image whose length is allowed.
+pub fn sides(image: &[u8], blocks: u8) -> Vec<Side<'_>> {
+    let side = |(number, bytes): (usize, _)| {
+        let (word, block) = (say::block(blocks), block::read(bytes));
+        Side { word, number, base: number * bytes.len(), bytes, block }
     };
-    [0, 1].map(side).into()
+    cut(image, blocks).into_iter().enumerate().map(side).collect()
 }
 
 impl Side<'_> {
-    /// The journal of a valid half.
+    /// "half 0", "block 3".
+    pub fn name(&self) -> String {
+        format!("{} {}", self.word, self.number)
+    }
+
+    /// The journal of a valid block.
     pub fn journal(&self) -> Option<&Journal> {
-        match &self.half {
-            Half::Valid(journal) => Some(journal),
+        match &self.block {
+            Block::Valid(journal) => Some(journal),
             _ => None,
         }
     }
 
-    /// The creation time of a valid half.
+    /// The creation time of a valid block.
     pub fn time(&self) -> Option<u32> {
-        self.half.time()
+        self.block.time()
     }
 
     pub fn state(&self) -> String {
-        match &self.half {
-            Half::Blank => "blank".to_string(),
-            Half::InProgress => "in progress: power was lost while it was being written".to_string(),
-            Half::Foreign => {
+        match &self.block {
+            Block::Blank => "blank".to_string(),
+            Block::InProgress => "in progress: power was lost while it was being written".to_string(),
+            Block::Foreign => {
                 format!("foreign: power was lost while it was being erased, or it is damaged\n  {}", self.broken())
             }
-            Half::Valid(journal) => {
+            Block::Valid(journal) => {
                 let tail = if journal.torn { self.torn(journal.end) } else { "the rest is blank".to_string() };
                 let (frames, end) = (count(journal.frames.len(), "frame"), self.base + journal.end);
                 format!("valid, time {}\n  {frames} up to byte {end}, {tail}", journal.time)
@@ -55,9 +62,9 @@ impl Side<'_> {
         }
     }
 
-    /// Where a foreign half broke, counted from its start and, if that is another place, from the image's.
+    /// Where a foreign block broke, counted from its start and, if that is another place, from the image's.
     fn broken(&self) -> String {
-        let (field, place) = fault::of_half(self.bytes);
+        let (field, place) = fault::of_block(self.bytes);
         let at = match self.base {
             0 => place.to_string(),
             base => format!("{place} ({} of the image)", base + place),

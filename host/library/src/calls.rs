@@ -8,18 +8,21 @@ use store::{Answer, Stretch};
 
 unsafe extern "C" {
     fn grommetide_record_size() -> usize;
-    fn grommetide_mount(image: *const u8, image_len: usize, record: *mut u8, record_len: usize) -> u8;
+    fn grommetide_mount(image: *const u8, image_len: usize, blocks: u8, record: *mut u8, record_len: usize) -> u8;
     fn grommetide_fault(
         image: *const u8,
         image_len: usize,
-        half: *mut usize,
+        blocks: u8,
+        block: *mut usize,
         field: *mut u8,
         place: *mut usize,
     ) -> u8;
-    fn grommetide_format(image: *const u8, image_len: usize, record: *mut u8, record_len: usize) -> u8;
+    fn grommetide_format(image: *const u8, image_len: usize, blocks: u8, record: *mut u8, record_len: usize)
+    -> u8;
     fn grommetide_request(
         image: *const u8,
         image_len: usize,
+        blocks: u8,
         record: *mut u8,
         record_len: usize,
         host: u8,
@@ -31,6 +34,7 @@ unsafe extern "C" {
     fn grommetide_read(
         image: *const u8,
         image_len: usize,
+        blocks: u8,
         record: *const u8,
         record_len: usize,
         host: u8,
@@ -41,17 +45,19 @@ unsafe extern "C" {
     ) -> u8;
     fn grommetide_next(
         image_len: usize,
+        blocks: u8,
         record: *const u8,
         record_len: usize,
         at: *mut usize,
         len: *mut usize,
         byte: *mut u8,
     ) -> u8;
-    fn grommetide_made(image: *const u8, image_len: usize, record: *mut u8, record_len: usize) -> u8;
-    fn grommetide_step(image: *mut u8, image_len: usize, record: *mut u8, record_len: usize) -> u8;
+    fn grommetide_made(image: *const u8, image_len: usize, blocks: u8, record: *mut u8, record_len: usize) -> u8;
+    fn grommetide_step(image: *mut u8, image_len: usize, blocks: u8, record: *mut u8, record_len: usize) -> u8;
     fn grommetide_run(
         image: *mut u8,
         image_len: usize,
+        blocks: u8,
         record: *mut u8,
         record_len: usize,
         most: usize,
@@ -85,24 +91,28 @@ impl Library {
         Library(())
     }
 
-    pub fn mount_into(&self, image: &[u8], record: &mut [u8]) -> Answer {
-        Answer(unsafe { grommetide_mount(image.as_ptr(), image.len(), record.as_mut_ptr(), record.len()) })
+    pub fn mount_into(&self, image: &[u8], blocks: u8, record: &mut [u8]) -> Answer {
+        Answer(unsafe { grommetide_mount(image.as_ptr(), image.len(), blocks, record.as_mut_ptr(), record.len()) })
     }
 
-    /// The answer, and what half, field and place are set to.
-    pub fn fault_of(&self, image: &[u8]) -> (Answer, (usize, u8, usize)) {
-        let (mut half, mut field, mut place) = (usize::MAX, u8::MAX, usize::MAX);
-        let answer = unsafe { grommetide_fault(image.as_ptr(), image.len(), &mut half, &mut field, &mut place) };
-        (Answer(answer), (half, field, place))
+    /// The answer, and what block, field and place are set to.
+    pub fn fault_of(&self, image: &[u8], blocks: u8) -> (Answer, (usize, u8, usize)) {
+        let (mut block, mut field, mut place) = (usize::MAX, u8::MAX, usize::MAX);
+        let answer =
+            unsafe { grommetide_fault(image.as_ptr(), image.len(), blocks, &mut block, &mut field, &mut place) };
+        (Answer(answer), (block, field, place))
     }
 
-    pub fn format_into(&self, image: &[u8], record: &mut [u8]) -> Answer {
-        Answer(unsafe { grommetide_format(image.as_ptr(), image.len(), record.as_mut_ptr(), record.len()) })
+    pub fn format_into(&self, image: &[u8], blocks: u8, record: &mut [u8]) -> Answer {
+        Answer(unsafe {
+            grommetide_format(image.as_ptr(), image.len(), blocks, record.as_mut_ptr(), record.len())
+        })
     }
 
     pub fn request_on(
         &self,
         image: &[u8],
+        blocks: u8,
         record: &mut [u8],
         host: u8,
         message: &[u8],
@@ -112,6 +122,7 @@ impl Library {
             grommetide_request(
                 image.as_ptr(),
                 image.len(),
+                blocks,
                 record.as_mut_ptr(),
                 record.len(),
                 host,
@@ -123,12 +134,13 @@ impl Library {
         })
     }
 
-    pub fn read_on(&self, image: &[u8], record: &[u8], host: u8, message: &[u8]) -> (Answer, Stretch) {
+    pub fn read_on(&self, image: &[u8], blocks: u8, record: &[u8], host: u8, message: &[u8]) -> (Answer, Stretch) {
         let mut stretch = Stretch { at: usize::MAX, len: usize::MAX };
         let answer = unsafe {
             grommetide_read(
                 image.as_ptr(),
                 image.len(),
+                blocks,
                 record.as_ptr(),
                 record.len(),
                 host,
@@ -142,26 +154,44 @@ impl Library {
     }
 
     /// The image's length is told, not the image: by the record alone.
-    pub fn next_of(&self, image_len: usize, record: &[u8]) -> (Answer, Told) {
+    pub fn next_of(&self, image_len: usize, blocks: u8, record: &[u8]) -> (Answer, Told) {
         let mut told = Told::NOTHING;
         let answer = unsafe {
-            grommetide_next(image_len, record.as_ptr(), record.len(), &mut told.at, &mut told.len, &mut told.byte)
+            grommetide_next(
+                image_len,
+                blocks,
+                record.as_ptr(),
+                record.len(),
+                &mut told.at,
+                &mut told.len,
+                &mut told.byte,
+            )
         };
         (Answer(answer), told)
     }
 
-    pub fn made_on(&self, image: &[u8], record: &mut [u8]) -> Answer {
-        Answer(unsafe { grommetide_made(image.as_ptr(), image.len(), record.as_mut_ptr(), record.len()) })
+    pub fn made_on(&self, image: &[u8], blocks: u8, record: &mut [u8]) -> Answer {
+        Answer(unsafe { grommetide_made(image.as_ptr(), image.len(), blocks, record.as_mut_ptr(), record.len()) })
     }
 
-    pub fn step_on(&self, image: &mut [u8], record: &mut [u8]) -> Answer {
-        Answer(unsafe { grommetide_step(image.as_mut_ptr(), image.len(), record.as_mut_ptr(), record.len()) })
+    pub fn step_on(&self, image: &mut [u8], blocks: u8, record: &mut [u8]) -> Answer {
+        Answer(unsafe {
+            grommetide_step(image.as_mut_ptr(), image.len(), blocks, record.as_mut_ptr(), record.len())
+        })
     }
 
-    pub fn run_on(&self, image: &mut [u8], record: &mut [u8], most: usize) -> (Answer, usize) {
+    pub fn run_on(&self, image: &mut [u8], blocks: u8, record: &mut [u8], most: usize) -> (Answer, usize) {
         let mut steps = UNCOUNTED;
         let answer = unsafe {
-            grommetide_run(image.as_mut_ptr(), image.len(), record.as_mut_ptr(), record.len(), most, &mut steps)
+            grommetide_run(
+                image.as_mut_ptr(),
+                image.len(),
+                blocks,
+                record.as_mut_ptr(),
+                record.len(),
+                most,
+                &mut steps,
+            )
         };
         (Answer(answer), steps)
     }

@@ -17,30 +17,38 @@ pub fn flash(image: &mut [u8], answer: Answer, Told { at, len, byte }: Told) {
 impl Store for Driven {
     type Record = Record;
 
-    fn mount(&self, image: &[u8]) -> (Answer, Record) {
-        self.0.mount(image)
+    fn mount(&self, image: &[u8], blocks: u8) -> (Answer, Record) {
+        self.0.mount(image, blocks)
     }
 
-    fn fault(&self, image: &[u8]) -> (Answer, Option<Fault>) {
-        self.0.fault(image)
+    fn fault(&self, image: &[u8], blocks: u8) -> (Answer, Option<Fault>) {
+        self.0.fault(image, blocks)
     }
 
-    fn format(&self, image: &[u8]) -> (Answer, Record) {
-        self.0.format(image)
+    fn format(&self, image: &[u8], blocks: u8) -> (Answer, Record) {
+        self.0.format(image, blocks)
     }
 
-    fn request(&self, image: &[u8], record: &mut Record, host: u8, message: &[u8], reply: &mut [u8]) -> Answer {
-        self.0.request(image, record, host, message, reply)
+    fn request(
+        &self,
+        image: &[u8],
+        blocks: u8,
+        record: &mut Record,
+        host: u8,
+        message: &[u8],
+        reply: &mut [u8],
+    ) -> Answer {
+        self.0.request(image, blocks, record, host, message, reply)
     }
 
-    fn step(&self, image: &mut [u8], record: &mut Record) -> Answer {
-        let (answer, told) = self.0.next_of(image.len(), record);
+    fn step(&self, image: &mut [u8], blocks: u8, record: &mut Record) -> Answer {
+        let (answer, told) = self.0.next_of(image.len(), blocks, record);
         flash(image, answer, told);
-        self.0.made_on(image, record)
+        self.0.made_on(image, blocks, record)
     }
 
-    fn read(&self, image: &[u8], record: &Record, host: u8, message: &[u8]) -> (Answer, Stretch) {
-        self.0.read(image, record, host, message)
+    fn read(&self, image: &[u8], blocks: u8, record: &Record, host: u8, message: &[u8]) -> (Answer, Stretch) {
+        self.0.read(image, blocks, record, host, message)
     }
 
     fn unmounted(&self) -> Record {

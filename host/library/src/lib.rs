@@ -14,8 +14,8 @@ pub const VALUE_LIMIT: usize = 240;
 /// Length of the longest frame, a put of the longest value.
 const LONGEST: usize = 8 + VALUE_LIMIT;
 
-/// Where the job stands in a record: after the six bytes that anyone may know and the places of 256 values.
-pub const JOB: Range<usize> = 518..546;
+/// Where the job stands in a record: after the seven bytes that anyone may know and the places of 256 values.
+pub const JOB: Range<usize> = 519..561;
 /// After the job there are two frames in hand.
 pub const RECORD_SIZE: usize = JOB.end + 2 * LONGEST;
 
@@ -32,40 +32,48 @@ const STALE: Record = [0xA5; RECORD_SIZE];
 impl Store for Library {
     type Record = Record;
 
-    fn mount(&self, image: &[u8]) -> (Answer, Record) {
+    fn mount(&self, image: &[u8], blocks: u8) -> (Answer, Record) {
         let mut record = STALE;
-        (self.mount_into(image, &mut record), record)
+        (self.mount_into(image, blocks, &mut record), record)
     }
 
-    fn fault(&self, image: &[u8]) -> (Answer, Option<Fault>) {
-        let (answer, (half, number, place)) = self.fault_of(image);
-        let fault = Field::numbered(number).map(|field| Fault { half, field, place });
+    fn fault(&self, image: &[u8], blocks: u8) -> (Answer, Option<Fault>) {
+        let (answer, (block, number, place)) = self.fault_of(image, blocks);
+        let fault = Field::numbered(number).map(|field| Fault { block, field, place });
         assert!(
-            fault.is_some() || (half, number, place) == (0, 0, 0),
-            "{answer}: half {half}, field {number}, place {place}"
+            fault.is_some() || (block, number, place) == (0, 0, 0),
+            "{answer}: block {block}, field {number}, place {place}"
         );
         (answer, fault)
     }
 
-    fn format(&self, image: &[u8]) -> (Answer, Record) {
+    fn format(&self, image: &[u8], blocks: u8) -> (Answer, Record) {
         let mut record = STALE;
-        (self.format_into(image, &mut record), record)
+        (self.format_into(image, blocks, &mut record), record)
     }
 
-    fn request(&self, image: &[u8], record: &mut Record, host: u8, message: &[u8], reply: &mut [u8]) -> Answer {
-        self.request_on(image, record, host, message, reply)
+    fn request(
+        &self,
+        image: &[u8],
+        blocks: u8,
+        record: &mut Record,
+        host: u8,
+        message: &[u8],
+        reply: &mut [u8],
+    ) -> Answer {
+        self.request_on(image, blocks, record, host, message, reply)
     }
 
-    fn step(&self, image: &mut [u8], record: &mut Record) -> Answer {
-        self.step_on(image, record)
+    fn step(&self, image: &mut [u8], blocks: u8, record: &mut Record) -> Answer {
+        self.step_on(image, blocks, record)
     }
 
-    fn run(&self, image: &mut [u8], record: &mut Record, most: usize) -> (Answer, usize) {
-        self.run_on(image, record, most)
+    fn run(&self, image: &mut [u8], blocks: u8, record: &mut Record, most: usize) -> (Answer, usize) {
+        self.run_on(image, blocks, record, most)
     }
 
-    fn read(&self, image: &[u8], record: &Record, host: u8, message: &[u8]) -> (Answer, Stretch) {
-        self.read_on(image, record, host, message)
+    fn read(&self, image: &[u8], blocks: u8, record: &Record, host: u8, message: &[u8]) -> (Answer, Stretch) {
+        self.read_on(image, blocks, record, host, message)
     }
 
     fn unmounted(&self) -> Record {
@@ -76,15 +84,21 @@ impl Store for Library {
         let mut record = self.unmounted();
         record[0] = IDLE;
         record[1..3].copy_from_slice(&((idle.length - 1) as u16).to_le_bytes());
-        record[3] = idle.half;
+        record[3] = idle.block;
         record[4..6].copy_from_slice(&idle.end.to_le_bytes());
+        record[6] = idle.blocks;
         record
     }
 
     fn head(&self, record: &Record) -> Head {
         let short = |at: usize| u16::from_le_bytes([record[at], record[at + 1]]);
         match record[0] {
-            IDLE => Head::Idle(Idle { length: usize::from(short(1)) + 1, half: record[3], end: short(4) }),
+            IDLE => Head::Idle(Idle {
+                length: usize::from(short(1)) + 1,
+                block: record[3],
+                end: short(4),
+                blocks: record[6],
+            }),
             stage if JOB_STAGES.contains(&stage) => Head::Job,
             _ => Head::Unmounted,
         }

@@ -59,6 +59,11 @@ fn the_broken_example() {
     try_example(&["broken"]);
 }
 
+#[test]
+fn the_wear_example() {
+    try_example(&["wear"]);
+}
+
 /// The first block of a language in README, which must have one.
 fn block(language: &str) -> String {
     let readme = text(repository("README.md"));

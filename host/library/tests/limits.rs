@@ -1,9 +1,9 @@
-//! The longest value, the record's size and the fields' numbers: what the library does, what the header says and what this
-//! wrapper knows are one.
+//! The longest value, the most blocks, the record's layout and the fields' numbers: what the library does, what the header
+//! says and what this wrapper knows are one.
 
 use library::{JOB, Library, RECORD_SIZE, Record, VALUE_LIMIT};
 use std::fs;
-use store::{Answer, Field, Store, message};
+use store::{Answer, Field, Head, Idle, Store, message};
 
 const HEADER: &str = concat!(env!("CARGO_MANIFEST_DIR"), "/../../include/grommetide.h");
 
@@ -22,20 +22,20 @@ fn defined(name: &str) -> usize {
     numbers.next().expect(name)
 }
 
-/// An image of 1,024 bytes, formatted, and its record.
-fn formatted(library: &Library) -> (Vec<u8>, Record) {
-    let mut image = vec![0xFF; 1_024];
-    let (answer, mut record) = library.format(&image);
+/// An image of so many blocks of 512 bytes, formatted, and its record.
+fn formatted(library: &Library, blocks: u8) -> (Vec<u8>, Record) {
+    let mut image = vec![0xFF; usize::from(blocks) * 512];
+    let (answer, mut record) = library.format(&image, blocks);
     assert_eq!(answer, Answer::MORE);
-    while library.step(&mut image, &mut record) == Answer::MORE {}
+    while library.step(&mut image, blocks, &mut record) == Answer::MORE {}
     (image, record)
 }
 
 /// What the library answers to a put of a value of this size, and the record after it.
 fn put(size: usize) -> (Answer, Record) {
     let library = Library::linked();
-    let (image, mut record) = formatted(&library);
-    let answer = library.request(&image, &mut record, 2, &message::put(5, &vec![0xA7; size]), &mut []);
+    let (image, mut record) = formatted(&library, 2);
+    let answer = library.request(&image, 2, &mut record, 2, &message::put(5, &vec![0xA7; size]), &mut []);
     (answer, record)
 }
 
@@ -63,6 +63,35 @@ fn the_fields_have_the_headers_numbers() {
 }
 
 #[test]
+fn the_library_takes_two_blocks_up_to_the_headers_number() {
+    let (library, most) = (Library::linked(), defined("GROMMETIDE_BLOCKS_MAX"));
+    for blocks in 0..=u8::MAX {
+        let (answer, _) = library.format(&vec![0xFF; usize::from(blocks) * 256], blocks);
+        let allowed = (2..=most).contains(&usize::from(blocks));
+        assert_eq!(answer, if allowed { Answer::MORE } else { Answer::IMAGE_LENGTH }, "{blocks} blocks");
+    }
+}
+
+/// The bytes that anyone may know are where the header says, and there are zeros after them.
+#[test]
+fn idle_records_are_what_the_header_says() {
+    let library = Library::linked();
+    for blocks in 2..=16 {
+        let (image, record) = formatted(&library, blocks);
+        let idle = Idle { length: image.len(), block: 0, end: 16, blocks };
+        assert_eq!((library.head(&record), record), (Head::Idle(idle), library.idle(idle)));
+        let last = ((image.len() - 1) as u16).to_le_bytes();
+        assert_eq!(record[..7], [1, last[0], last[1], 0, 16, 0, blocks]);
+    }
+    let header = header();
+    for line in
+        ["3      current block,", "4-5    where the current block's frames end,", "6      number of blocks"]
+    {
+        assert!(header.contains(&format!(" *     {line}")), "{line}");
+    }
+}
+
+#[test]
 fn the_library_takes_values_up_to_the_limit() {
     for size in 0..=VALUE_LIMIT {
         assert_eq!(put(size).0, Answer::MORE, "{size} bytes");
@@ -79,7 +108,7 @@ fn frames_in_hand_are_where_the_header_says() {
     let second = JOB.end + frame.len();
     assert_eq!(RECORD_SIZE, second + frame.len());
     assert_eq!(put(VALUE_LIMIT).1[second..], frame);
-    let own = format!("6-{} ", RECORD_SIZE - 1);
+    let own = format!("7-{} ", RECORD_SIZE - 1);
     let job = format!("{}-{} the job", JOB.start, JOB.end - 1);
     let frames = format!("{}-{} and {second}-{} frames in hand", JOB.end, second - 1, RECORD_SIZE - 1);
     let header = header();

@@ -69,23 +69,24 @@ impl Drop for Mapped {
 
 struct Board {
     library: Library,
+    blocks: u8,
     image: Mapped,
     record: Mapped,
 }
 
 impl Board {
-    fn blank(length: usize) -> Board {
+    fn blank(length: usize, blocks: u8) -> Board {
         let (library, record) = (Library::linked(), [0; RECORD_SIZE]);
-        Board { library, image: Mapped::new(&vec![0xFF; length]), record: Mapped::new(&record) }
+        Board { library, blocks, image: Mapped::new(&vec![0xFF; length]), record: Mapped::new(&record) }
     }
 
     /// Makes a call that writes the record, and all steps after it.
-    fn whole(&mut self, call: impl FnOnce(&Library, &[u8], &mut [u8]) -> Answer) -> Answer {
-        let mut answer = self.record.write(|record| call(&self.library, self.image.bytes(), record));
+    fn whole(&mut self, call: impl FnOnce(&Library, &[u8], u8, &mut [u8]) -> Answer) -> Answer {
+        let mut answer = self.record.write(|record| call(&self.library, self.image.bytes(), self.blocks, record));
         while answer == Answer::MORE {
-            let (next, told) = self.library.next_of(self.image.len, self.record.bytes());
+            let (next, told) = self.library.next_of(self.image.len, self.blocks, self.record.bytes());
             self.image.write(|image| flash(image, next, told));
-            answer = self.record.write(|record| self.library.made_on(self.image.bytes(), record));
+            answer = self.record.write(|record| self.library.made_on(self.image.bytes(), self.blocks, record));
         }
         answer
     }
@@ -96,14 +97,14 @@ impl Board {
 
     fn ask(&mut self, host: u8, message: &[u8]) -> Answer {
         let message = Mapped::new(message);
-        self.whole(|library, image, record| {
-            library.request_on(image, record, host, message.bytes(), &mut [0; message::PAGE])
+        self.whole(|library, image, blocks, record| {
+            library.request_on(image, blocks, record, host, message.bytes(), &mut [0; message::PAGE])
         })
     }
 
     fn value(&self, id: u8) -> Option<&[u8]> {
         let message = Mapped::new(&message::read(id));
-        match self.library.read_on(self.image.bytes(), self.record.bytes(), 0, message.bytes()) {
+        match self.library.read_on(self.image.bytes(), self.blocks, self.record.bytes(), 0, message.bytes()) {
             (Answer::DONE, stretch) => Some(stretch.of(self.image.bytes())),
             (answer, _) => {
                 assert_eq!(answer, Answer::NO_OBJECT);
@@ -112,11 +113,11 @@ impl Board {
         }
     }
 
-    /// The current half.
-    fn half(&self) -> u8 {
+    /// The current block.
+    fn current(&self) -> u8 {
         let record: &Record = self.record.bytes().try_into().expect("a record's bytes");
         match self.library.head(record) {
-            Head::Idle(idle) => idle.half,
+            Head::Idle(idle) => idle.block,
             other => panic!("{other:?}"),
         }
     }
@@ -125,13 +126,14 @@ impl Board {
 /// A format, puts up to a transfer and on, a restart with a change pending, and reads.
 #[test]
 fn flash_that_is_mapped_to_be_read_only() {
-    for length in [512, 768, 65_536] {
-        let mut board = Board::blank(length);
+    for (length, blocks) in [(512, 2), (768, 2), (65_536, 2), (1_152, 3), (4_096, 16), (65_536, 16)] {
+        let mut board = Board::blank(length, blocks);
+        let size = length / usize::from(blocks);
         assert_eq!(board.mount(), Answer::NO_STORE);
         assert_eq!(board.whole(Library::format_into), Answer::DONE);
-        let value = |number: u8| vec![number; (length / 8).min(240)];
+        let value = |number: u8| vec![number; (size / 4).min(240)];
         let mut last = 0;
-        while board.half() == 0 {
+        while board.current() == 0 {
             last += 1;
             assert_eq!(board.ask(1, &message::put(1, &value(last))), Answer::DONE);
             assert_eq!(board.ask(2, &message::delete(2)), Answer::DONE);
@@ -142,6 +144,6 @@ fn flash_that_is_mapped_to_be_read_only() {
         assert_eq!(board.ask(0, &message::log()), Answer::DONE);
         assert_eq!(board.ask(0, &message::commit()[..3]), Answer::MALFORMED);
         assert_eq!(board.mount(), Answer::DONE);
-        assert_eq!((board.half(), board.value(1), board.value(2)), (0, Some(&value(last)[..]), None));
+        assert_eq!((board.current(), board.value(1), board.value(2)), (2 % blocks, Some(&value(last)[..]), None));
     }
 }

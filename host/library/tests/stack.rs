@@ -48,18 +48,20 @@ impl Area {
 struct Board {
     library: Library,
     image: Vec<u8>,
+    blocks: u8,
     record: Record,
     area: Box<Area>,
     most: BTreeMap<&'static str, usize>,
 }
 
 impl Board {
-    fn new(length: usize) -> Board {
+    fn new(length: usize, blocks: u8) -> Board {
         let library = Library::linked();
         let record = library.unmounted();
         Board {
             library,
             image: vec![0xFF; length],
+            blocks,
             record,
             area: Box::new(Area([0; AREA])),
             most: BTreeMap::new(),
@@ -69,39 +71,45 @@ impl Board {
     fn measure(
         &mut self,
         name: &'static str,
-        call: impl Fn(&Library, &mut [u8], &mut Record) -> Answer,
+        call: impl Fn(&Library, &mut [u8], u8, &mut Record) -> Answer,
     ) -> Answer {
         let mut answer = Answer::MORE;
-        let used = self.area.used_by(|| answer = call(&self.library, &mut self.image, &mut self.record));
+        let used =
+            self.area.used_by(|| answer = call(&self.library, &mut self.image, self.blocks, &mut self.record));
         let most = self.most.entry(name).or_default();
         *most = used.max(*most);
         answer
     }
 
     fn mount(&mut self) -> Answer {
-        let answer = self.measure("grommetide_mount", |library, image, record| library.mount_into(image, record));
+        let answer = self.measure("grommetide_mount", |library, image, blocks, record| {
+            library.mount_into(image, blocks, record)
+        });
         self.finish(answer)
     }
 
     fn fault(&mut self) -> Answer {
-        self.measure("grommetide_fault", |library, image, _| library.fault_of(image).0)
+        self.measure("grommetide_fault", |library, image, blocks, _| library.fault_of(image, blocks).0)
     }
 
     fn format(&mut self) -> Answer {
-        let answer =
-            self.measure("grommetide_format", |library, image, record| library.format_into(image, record));
+        let answer = self.measure("grommetide_format", |library, image, blocks, record| {
+            library.format_into(image, blocks, record)
+        });
         self.finish(answer)
     }
 
     fn ask(&mut self, host: u8, message: &[u8]) -> Answer {
-        let answer = self.measure("grommetide_request", |library, image, record| {
-            library.request_on(image, record, host, message, &mut [0; message::PAGE])
+        let answer = self.measure("grommetide_request", |library, image, blocks, record| {
+            library.request_on(image, blocks, record, host, message, &mut [0; message::PAGE])
         });
         self.finish(answer)
     }
 
     fn read(&mut self, message: &[u8]) -> Answer {
-        self.measure("grommetide_read", |library, image, record| library.read_on(image, record, 0, message).0)
+        self.measure("grommetide_read", |library, image, blocks, record| {
+            library.read_on(image, blocks, record, 0, message).0
+        })
     }
 
     /// All steps of the job in hand, in one run and then one by one; the last answer.
@@ -110,8 +118,9 @@ impl Board {
             return answer;
         }
         let (image, record) = (self.image.clone(), self.record);
-        let end =
-            self.measure("grommetide_run", |library, image, record| library.run_on(image, record, usize::MAX).0);
+        let end = self.measure("grommetide_run", |library, image, blocks, record| {
+            library.run_on(image, blocks, record, usize::MAX).0
+        });
         let (image, record) = (mem::replace(&mut self.image, image), mem::replace(&mut self.record, record));
         while answer == Answer::MORE {
             answer = self.step();
@@ -122,21 +131,31 @@ impl Board {
 
     /// A step, told before, and made again under the record from before it.
     fn step(&mut self) -> Answer {
-        self.measure("grommetide_next", |library, image, record| library.next_of(image.len(), record).0);
+        self.measure("grommetide_next", |library, image, blocks, record| {
+            library.next_of(image.len(), blocks, record).0
+        });
         let before = self.record;
-        let answer = self.measure("grommetide_step", |library, image, record| library.step_on(image, record));
+        let answer = self
+            .measure("grommetide_step", |library, image, blocks, record| library.step_on(image, blocks, record));
         let after = mem::replace(&mut self.record, before);
-        let made = self.measure("grommetide_made", |library, image, record| library.made_on(image, record));
+        let made = self
+            .measure("grommetide_made", |library, image, blocks, record| library.made_on(image, blocks, record));
         assert!(made == answer && self.record == after);
         answer
+    }
+
+    /// The bytes of a block.
+    fn size(&self) -> usize {
+        self.image.len() / usize::from(self.blocks)
     }
 
     /// Every request, found and refused, in a journal that is filled until a put needs a transfer.
     fn use_all(&mut self) {
         assert_eq!(self.mount(), Answer::NO_STORE);
         assert_eq!(self.format(), Answer::DONE);
-        let moved = |image: &[u8]| image[image.len() / 2] != 0xFF;
-        let size = VALUE_LIMIT.min(self.image.len() / 8);
+        let second = self.size();
+        let moved = |image: &[u8]| image[second] != 0xFF;
+        let size = VALUE_LIMIT.min(second / 4);
         for id in (0..=255).cycle() {
             self.ask(1, &message::put(2, &[id; 9]));
             self.ask(1, if id % 2 == 0 { &[4, 0, 4, 1] } else { &[4, 0, 3, 1] });
@@ -170,7 +189,7 @@ impl Board {
     fn break_it(&mut self) {
         assert_eq!(self.fault(), Answer::DONE);
         let last = self.image.iter().rposition(|byte| *byte == 0xFE).expect("a finish byte");
-        for at in [last, 0, self.image.len() / 2] {
+        for at in [last, 0, self.size()] {
             self.image[at] = 0;
             assert_eq!(self.fault(), Answer::FOREIGN);
         }
@@ -189,12 +208,12 @@ fn stated(header: &str, call: &str) -> usize {
 #[test]
 fn no_call_takes_more_stack_than_the_header_says() {
     let header = fs::read_to_string(HEADER).expect("the header");
-    for length in [512, 65_536] {
-        let mut board = Board::new(length);
+    for (length, blocks) in [(512, 2), (65_536, 2), (4_096, 16), (65_536, 16)] {
+        let mut board = Board::new(length, blocks);
         board.use_all();
         assert_eq!(board.most.len(), 9);
         for (call, used) in &board.most {
-            println!("{call}, image of {length} bytes: {used} bytes of stack");
+            println!("{call}, {blocks} blocks in {length} bytes: {used} bytes of stack");
         }
         for (call, used) in board.most {
             let bound = stated(&header, call);

@@ -1,43 +1,49 @@
-//! K5: the first bad field of a foreign half. It is found by trying every legal frame: the bytes up to the field's end begin
+//! K5: the first bad field of a foreign block. It is found by trying every legal frame: the bytes up to the field's end begin
 //! none that may stand there and fits, and those up to the end of the field before still do.
 
+use crate::block::{self, Block, HEADER, LABEL, STATE, TIME, VALID, blank};
+use crate::cut;
 use crate::frame::{self, Body, Frame, SAMPLES, SETTLED_SAMPLES};
-use crate::half::{self, HEADER, Half, LABEL, STATE, TIME, VALID, blank};
-use crate::half_of;
 use std::mem::discriminant;
 use std::ops::Range;
 use store::{Fault, Field};
 
-/// What a mount refused with 3 names: the lowest foreign half; if none is, the times of two valid halves are equal.
-pub fn of_image(image: &[u8]) -> Fault {
-    let foreign = [0, 1].into_iter().find(|half| half::read(half_of(image, *half)) == Half::Foreign);
-    match foreign {
-        Some(half) => {
-            let (field, place) = of_half(half_of(image, half));
-            Fault { half, field, place }
-        }
-        None => Fault { half: 0, field: Field::Time, place: TIME },
+/// What a mount refused with 3 names: the lowest of the valid blocks of equal times, or else the lowest foreign block.
+pub fn of_image(image: &[u8], blocks: u8) -> Fault {
+    let cut = cut(image, blocks);
+    let read: Vec<Block> = cut.iter().map(|bytes| block::read(bytes)).collect();
+    if let Some(block) = equal_times(&read) {
+        return Fault { block, field: Field::Time, place: TIME };
     }
+    let block = read.iter().position(|read| *read == Block::Foreign).expect("refused with 3");
+    let (field, place) = of_block(cut[block]);
+    Fault { block, field, place }
 }
 
-/// The first bad field of a foreign half, and where it starts.
-pub fn of_half(half: &[u8]) -> (Field, usize) {
-    of_header(half).unwrap_or_else(|| {
-        let (frames, lowest) = half::frames(half);
+/// The lowest valid block whose time another has too.
+pub fn equal_times(read: &[Block]) -> Option<usize> {
+    let has = |time: u32| read.iter().filter(|read| read.time() == Some(time)).count();
+    read.iter().position(|read| read.time().is_some_and(|time| has(time) > 1))
+}
+
+/// The first bad field of a foreign block, and where it starts.
+pub fn of_block(block: &[u8]) -> (Field, usize) {
+    of_header(block).unwrap_or_else(|| {
+        let (frames, lowest) = block::frames(block);
         let end = frames.last().map_or(HEADER, |frame| frame.place.end);
-        let (field, place) = of_frame(&half[end..], lowest);
+        let (field, place) = of_frame(&block[end..], lowest);
         (field, end + place)
     })
 }
 
-/// The first field that is not as the header of a valid half has it.
-fn of_header(half: &[u8]) -> Option<(Field, usize)> {
+/// The first field that is not as the header of a valid block has it.
+fn of_header(block: &[u8]) -> Option<(Field, usize)> {
     let fields = [
-        (Field::Length, 0, half[..2] == LABEL[..2]),
-        (Field::Kind, 2, half[2..TIME] == LABEL[2..]),
-        (Field::Time, TIME, !blank(&half[TIME..STATE])),
-        (Field::State, STATE, half[STATE] == VALID),
-        (Field::Rest, STATE + 1, blank(&half[STATE + 1..HEADER])),
+        (Field::Length, 0, block[..2] == LABEL[..2]),
+        (Field::Kind, 2, block[2..TIME] == LABEL[2..]),
+        (Field::Time, TIME, !blank(&block[TIME..STATE])),
+        (Field::State, STATE, block[STATE] == VALID),
+        (Field::Rest, STATE + 1, blank(&block[STATE + 1..HEADER])),
     ];
     fields.into_iter().find(|(_, _, right)| !right).map(|(field, place, _)| (field, place))
 }

@@ -1,4 +1,4 @@
-//! Frames, the entries of a half's journal.
+//! Frames, the entries of a block's journal.
 
 use std::ops::Range;
 use std::sync::LazyLock;
@@ -76,20 +76,20 @@ fn frame(kind: u16, body: &[u8]) -> Vec<u8> {
 }
 
 /// The whole legal frame at `at`, if one stands there.
-pub fn whole(half: &[u8], at: usize) -> Option<Frame> {
-    let length = number(half, at)?;
-    let kind = number(half, at + 2)?;
+pub fn whole(block: &[u8], at: usize) -> Option<Frame> {
+    let length = number(block, at)?;
+    let kind = number(block, at + 2)?;
     let place = at..at + length;
-    if !fits(kind, length) || *half.get(place.end - 1)? != FINISH {
+    if !fits(kind, length) || *block.get(place.end - 1)? != FINISH {
         return None;
     }
-    let host = || Host::new(half[at + 4]);
+    let host = || Host::new(block[at + 4]);
     let body = match kind {
-        1 => Body::Put(host()?, id(half, at + 5)?, at + 7..place.end - 1),
-        2 => Body::Delete(host()?, id(half, at + 5)?),
+        1 => Body::Put(host()?, id(block, at + 5)?, at + 7..place.end - 1),
+        2 => Body::Delete(host()?, id(block, at + 5)?),
         3 => Body::Commit(host()?),
         4 => Body::Abort(host()?),
-        _ => Body::Settled(id(half, at + 4)?, at + 6..place.end - 1),
+        _ => Body::Settled(id(block, at + 4)?, at + 6..place.end - 1),
     };
     Some(Frame { place, body })
 }
@@ -104,12 +104,12 @@ fn fits(kind: usize, length: usize) -> bool {
     }
 }
 
-fn id(half: &[u8], at: usize) -> Option<Id> {
-    u8::try_from(number(half, at)?).ok().map(Id)
+fn id(block: &[u8], at: usize) -> Option<Id> {
+    u8::try_from(number(block, at)?).ok().map(Id)
 }
 
-fn number(half: &[u8], at: usize) -> Option<usize> {
-    let bytes = half.get(at..at + 2)?;
+fn number(block: &[u8], at: usize) -> Option<usize> {
+    let bytes = block.get(at..at + 2)?;
     Some(usize::from(u16::from_le_bytes([bytes[0], bytes[1]])))
 }
 

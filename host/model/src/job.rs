@@ -13,13 +13,13 @@ pub enum Record {
 /// A stretch of a job: one step for an erase, one for each byte programmed.
 #[derive(Clone, PartialEq, Eq, Debug)]
 pub enum Work {
-    Erase { half: usize },
+    Erase { at: usize, len: usize },
     Program { at: usize, bytes: VecDeque<u8> },
 }
 
 #[derive(Clone, Copy, PartialEq, Eq, Debug)]
 pub enum Step {
-    Erase { half: usize },
+    Erase { at: usize, len: usize },
     Program { at: usize, byte: u8 },
 }
 
@@ -31,6 +31,10 @@ pub struct Job {
 }
 
 impl Work {
+    pub fn erase(block: usize, size: usize) -> Work {
+        Work::Erase { at: block * size, len: size }
+    }
+
     pub fn program(at: usize, bytes: impl Into<VecDeque<u8>>) -> Work {
         Work::Program { at, bytes: bytes.into() }
     }
@@ -48,14 +52,15 @@ pub fn answer(record: &Record) -> Answer {
 }
 
 impl Job {
-    pub fn length(&self) -> usize {
-        self.idle.length
+    /// Whether it is a job on such an image; a step on any other gets 11.
+    pub fn is_on(&self, length: usize, blocks: u8) -> bool {
+        (self.idle.length, self.idle.blocks) == (length, blocks)
     }
 
     /// The step that comes next.
     pub fn next(&self) -> Step {
         match &self.work[0] {
-            Work::Erase { half } => Step::Erase { half: *half },
+            Work::Erase { at, len } => Step::Erase { at: *at, len: *len },
             Work::Program { at, bytes } => Step::Program { at: *at, byte: bytes[0] },
         }
     }
@@ -87,10 +92,7 @@ impl Job {
 impl Step {
     pub fn make(self, image: &mut [u8]) {
         match self {
-            Step::Erase { half } => {
-                let size = image.len() / 2;
-                image[half * size..][..size].fill(0xFF);
-            }
+            Step::Erase { at, len } => image[at..at + len].fill(0xFF),
             Step::Program { at, byte } => image[at] &= byte,
         }
     }

@@ -1,14 +1,14 @@
-//! Document 01 with K2, K4 and K5 of document 02, implemented straightforwardly and on its own: nothing here is shared with
-//! the proved library.
+//! Document 01 with K2, K4, K5 and K14 of document 02, implemented straightforwardly and on its own: nothing here is
+//! shared with the proved library.
 
+pub mod block;
 pub mod fault;
 pub mod frame;
-pub mod half;
 pub mod job;
 mod request;
 
+use block::{Block, Journal, Replay};
 use frame::{Host, Id};
-use half::{Half, Journal, Replay};
 pub use job::Record;
 use job::Work;
 use request::{Page, Request};
@@ -22,24 +22,32 @@ pub struct Model;
 impl Store for Model {
     type Record = Record;
 
-    fn mount(&self, image: &[u8]) -> (Answer, Record) {
-        accepted_or_unmounted(mount(image))
+    fn mount(&self, image: &[u8], blocks: u8) -> (Answer, Record) {
+        accepted_or_unmounted(mount(image, blocks))
     }
 
-    fn fault(&self, image: &[u8]) -> (Answer, Option<Fault>) {
-        match mount(image) {
+    fn fault(&self, image: &[u8], blocks: u8) -> (Answer, Option<Fault>) {
+        match mount(image, blocks) {
             Ok(_) => (Answer::DONE, None),
-            Err(Answer::FOREIGN) => (Answer::FOREIGN, Some(fault::of_image(image))),
+            Err(Answer::FOREIGN) => (Answer::FOREIGN, Some(fault::of_image(image, blocks))),
             Err(refusal) => (refusal, None),
         }
     }
 
-    fn format(&self, image: &[u8]) -> (Answer, Record) {
-        accepted_or_unmounted(format(image))
+    fn format(&self, image: &[u8], blocks: u8) -> (Answer, Record) {
+        accepted_or_unmounted(format(image, blocks))
     }
 
-    fn request(&self, image: &[u8], record: &mut Record, host: u8, message: &[u8], reply: &mut [u8]) -> Answer {
-        match serve(image, record, host, message, reply) {
+    fn request(
+        &self,
+        image: &[u8],
+        blocks: u8,
+        record: &mut Record,
+        host: u8,
+        message: &[u8],
+        reply: &mut [u8],
+    ) -> Answer {
+        match serve(image, blocks, record, host, message, reply) {
             Ok(next) => {
                 *record = next;
                 job::answer(record)
@@ -48,11 +56,11 @@ impl Store for Model {
         }
     }
 
-    fn step(&self, image: &mut [u8], record: &mut Record) -> Answer {
+    fn step(&self, image: &mut [u8], blocks: u8, record: &mut Record) -> Answer {
         let Record::Job(job) = record else {
             return Answer::DONE;
         };
-        if image.len() != job.length() {
+        if !job.is_on(image.len(), blocks) {
             return Answer::STALE;
         }
         job.next().make(image);
@@ -62,8 +70,8 @@ impl Store for Model {
         job::answer(record)
     }
 
-    fn read(&self, image: &[u8], record: &Record, host: u8, message: &[u8]) -> (Answer, Stretch) {
-        match read(image, record, host, message) {
+    fn read(&self, image: &[u8], blocks: u8, record: &Record, host: u8, message: &[u8]) -> (Answer, Stretch) {
+        match read(image, blocks, record, host, message) {
             Ok(stretch) => (Answer::DONE, stretch),
             Err(refusal) => (refusal, Stretch::default()),
         }
@@ -93,86 +101,103 @@ fn accepted_or_unmounted(result: Result<Record, Answer>) -> (Answer, Record) {
     }
 }
 
-fn allowed_length(image: &[u8]) -> Result<(), Answer> {
-    let allowed = image.len().is_multiple_of(256) && (512..=65_536).contains(&image.len());
-    if allowed { Ok(()) } else { Err(Answer::IMAGE_LENGTH) }
-}
-
-/// The bytes of half 0 or 1.
-pub fn half_of(image: &[u8], half: usize) -> &[u8] {
-    let size = image.len() / 2;
-    &image[half * size..][..size]
-}
-
-fn mount(image: &[u8]) -> Result<Record, Answer> {
-    allowed_length(image)?;
-    let (current, journal, other_blank) = match (half::read(half_of(image, 0)), half::read(half_of(image, 1))) {
-        (Half::Valid(first), Half::Valid(second)) if first.time == second.time => return Err(Answer::FOREIGN),
-        (Half::Valid(first), Half::Valid(second)) if first.time > second.time => (0, first, false),
-        (Half::Valid(_), Half::Valid(second)) => (1, second, false),
-        (Half::Valid(first), other) => (0, first, other == Half::Blank),
-        (other, Half::Valid(second)) => (1, second, other == Half::Blank),
-        (Half::Foreign, _) | (_, Half::Foreign) => return Err(Answer::FOREIGN),
-        _ => return Err(Answer::NO_STORE),
-    };
-    let mut board = Board { image, half: current, replay: half::replay(&journal), journal };
-    let mut work = Vec::new();
-    if !other_blank {
-        work.push(Work::Erase { half: 1 - current });
+/// The size of a block, unless the length is not allowed (refusal 4).
+fn allowed_size(image: &[u8], blocks: u8) -> Result<usize, Answer> {
+    let (length, blocks) = (image.len(), usize::from(blocks));
+    if !(2..=16).contains(&blocks) || length > 65_536 || length % blocks != 0 {
+        return Err(Answer::IMAGE_LENGTH);
     }
+    let size = length / blocks;
+    if size >= 256 && size.is_multiple_of(128) { Ok(size) } else { Err(Answer::IMAGE_LENGTH) }
+}
+
+/// The bytes of each block of an image whose length is allowed.
+pub fn cut(image: &[u8], blocks: u8) -> Vec<&[u8]> {
+    image.chunks(image.len() / usize::from(blocks)).collect()
+}
+
+/// The bytes of one of them.
+pub fn block_of(image: &[u8], blocks: u8, block: usize) -> &[u8] {
+    cut(image, blocks)[block]
+}
+
+fn mount(image: &[u8], blocks: u8) -> Result<Record, Answer> {
+    let size = allowed_size(image, blocks)?;
+    let mut read: Vec<Block> = cut(image, blocks).into_iter().map(block::read).collect();
+    let current = match newest(&read) {
+        _ if fault::equal_times(&read).is_some() => return Err(Answer::FOREIGN),
+        Some(block) => block,
+        None if read.contains(&Block::Foreign) => return Err(Answer::FOREIGN),
+        None => return Err(Answer::NO_STORE),
+    };
+    let dirty = |block: &usize| *block != current && read[*block] != Block::Blank;
+    let mut work: Vec<Work> = (0..read.len()).filter(dirty).map(|block| Work::erase(block, size)).collect();
+    let mut board = Board::new(image, blocks, current, read.swap_remove(current)).expect("the newest is valid");
     if !board.journal.torn && board.replay.pending.is_empty() {
         return Ok(job::begin(work, board.idle(current, board.journal.end)));
     }
     board.replay.pending.clear();
     work.extend(board.transfer()?);
-    Ok(job::begin(work, board.idle(1 - current, board.replay.used())))
+    Ok(job::begin(work, board.idle(board.next(), board.replay.used())))
 }
 
-fn format(image: &[u8]) -> Result<Record, Answer> {
-    allowed_length(image)?;
-    let time = |half: usize| half::read(half_of(image, half)).time();
-    let last = match (time(0), time(1)) {
-        (Some(first), Some(second)) if first > second => 0,
-        (Some(_), None) => 0,
-        _ => 1,
-    };
-    let mut work = vec![Work::Erase { half: 1 - last }, Work::Erase { half: last }];
-    work.extend(write_half(0, 1, Vec::new()));
-    Ok(job::begin(work, Idle { length: image.len(), half: 0, end: half::HEADER as u16 }))
+/// The valid block with the strictly largest time.
+fn newest(read: &[Block]) -> Option<usize> {
+    let others = |block: usize| read.iter().enumerate().filter(move |(number, _)| *number != block);
+    let largest = |block: &usize| others(*block).all(|(_, other)| other.time() < read[*block].time());
+    (0..read.len()).filter(|block| read[*block].time().is_some()).find(largest)
 }
 
-/// Writes a half that starts at `base`: the state byte says "in progress" first and "valid" last.
-fn write_half(base: usize, time: u32, frames: Vec<u8>) -> [Work; 5] {
+/// Erases all blocks in number order, but the current one last if there is one, and writes block 0.
+fn format(image: &[u8], blocks: u8) -> Result<Record, Answer> {
+    let size = allowed_size(image, blocks)?;
+    let read: Vec<Block> = cut(image, blocks).into_iter().map(block::read).collect();
+    let current = newest(&read);
+    let others = (0..read.len()).filter(|block| Some(*block) != current);
+    let mut work: Vec<Work> = others.chain(current).map(|block| Work::erase(block, size)).collect();
+    work.extend(write_block(0, 1, Vec::new()));
+    Ok(job::begin(work, Idle { length: image.len(), block: 0, end: block::HEADER as u16, blocks }))
+}
+
+/// Writes a block that starts at `base`: the state byte says "in progress" first and "valid" last.
+fn write_block(base: usize, time: u32, frames: Vec<u8>) -> [Work; 5] {
     [
-        Work::program(base + half::STATE, [half::IN_PROGRESS]),
-        Work::program(base, half::LABEL),
-        Work::program(base + half::HEADER, frames),
-        Work::program(base + half::TIME, (!time).to_le_bytes()),
-        Work::program(base + half::STATE, [half::VALID]),
+        Work::program(base + block::STATE, [block::IN_PROGRESS]),
+        Work::program(base, block::LABEL),
+        Work::program(base + block::HEADER, frames),
+        Work::program(base + block::TIME, (!time).to_le_bytes()),
+        Work::program(base + block::STATE, [block::VALID]),
     ]
 }
 
 /// The refusals that come before a look at the message.
-fn board<'a>(image: &'a [u8], record: &Record, host: u8) -> Result<(Board<'a>, Host), Answer> {
-    allowed_length(image)?;
+fn board<'a>(image: &'a [u8], blocks: u8, record: &Record, host: u8) -> Result<(Board<'a>, Host), Answer> {
+    allowed_size(image, blocks)?;
     let host = Host::new(host).ok_or(Answer::HOST_RANGE)?;
     match record {
         Record::Job(_) => Err(Answer::BUSY),
         Record::Unmounted => Err(Answer::NO_STORE),
-        Record::Idle(idle) => Ok((Board::found(image, *idle).ok_or(Answer::STALE)?, host)),
+        Record::Idle(idle) => Ok((Board::found(image, blocks, *idle).ok_or(Answer::STALE)?, host)),
     }
 }
 
-fn read(image: &[u8], record: &Record, host: u8, message: &[u8]) -> Result<Stretch, Answer> {
-    let (board, _) = board(image, record, host)?;
+fn read(image: &[u8], blocks: u8, record: &Record, host: u8, message: &[u8]) -> Result<Stretch, Answer> {
+    let (board, _) = board(image, blocks, record, host)?;
     match request::parse(message) {
         Some(Request::Read(id)) => board.find(id).ok_or(Answer::NO_OBJECT),
         _ => Err(Answer::MALFORMED),
     }
 }
 
-fn serve(image: &[u8], record: &Record, host: u8, message: &[u8], reply: &mut [u8]) -> Result<Record, Answer> {
-    let (board, host) = board(image, record, host)?;
+fn serve(
+    image: &[u8],
+    blocks: u8,
+    record: &Record,
+    host: u8,
+    message: &[u8],
+    reply: &mut [u8],
+) -> Result<Record, Answer> {
+    let (board, host) = board(image, blocks, record, host)?;
     match request::parse(message).ok_or(Answer::MALFORMED)? {
         Request::Read(id) => board.find(id).ok_or(Answer::NO_OBJECT).map(|_| record.clone()),
         Request::Log(Page::Store) => {
@@ -187,45 +212,57 @@ fn serve(image: &[u8], record: &Record, host: u8, message: &[u8], reply: &mut [u
     }
 }
 
-/// An image and the half of it that is current.
+/// An image of so many blocks, and the one of them that is current.
 struct Board<'a> {
     image: &'a [u8],
-    half: usize,
+    blocks: u8,
+    block: usize,
     journal: Journal,
     replay: Replay,
 }
 
 impl<'a> Board<'a> {
+    fn new(image: &'a [u8], blocks: u8, block: usize, read: Block) -> Option<Board<'a>> {
+        match read {
+            Block::Valid(journal) => {
+                Some(Board { image, blocks, block, replay: block::replay(&journal), journal })
+            }
+            _ => None,
+        }
+    }
+
     /// The board as an idle record has it, unless the image is another (refusal 11).
-    fn found(image: &'a [u8], idle: Idle) -> Option<Board<'a>> {
-        if idle.length != image.len() || idle.half > 1 {
+    fn found(image: &'a [u8], blocks: u8, idle: Idle) -> Option<Board<'a>> {
+        if idle.length != image.len() || idle.blocks != blocks || idle.block >= blocks {
             return None;
         }
-        let half = usize::from(idle.half);
-        let Half::Valid(journal) = half::read(half_of(image, half)) else {
-            return None;
-        };
-        let board = Board { image, half, replay: half::replay(&journal), journal };
+        let (block, mut others) = (usize::from(idle.block), cut(image, blocks));
+        let board = Board::new(image, blocks, block, block::read(others.remove(block)))?;
         let room = board.replay.claimed() + frame::MARK * board.replay.open(None) <= board.size();
         let ends = board.journal.end == usize::from(idle.end) && !board.journal.torn;
-        (ends && room && half::read(half_of(image, 1 - half)) == Half::Blank).then_some(board)
+        (ends && room && others.into_iter().all(|other| block::read(other) == Block::Blank)).then_some(board)
     }
 
     fn size(&self) -> usize {
-        self.image.len() / 2
+        self.image.len() / usize::from(self.blocks)
     }
 
     fn bytes(&self) -> &'a [u8] {
-        half_of(self.image, self.half)
+        block_of(self.image, self.blocks, self.block)
     }
 
-    fn idle(&self, half: usize, end: usize) -> Idle {
-        Idle { length: self.image.len(), half: half as u8, end: end as u16 }
+    /// Where a transfer goes: the next block in number, round to 0.
+    fn next(&self) -> usize {
+        (self.block + 1) % usize::from(self.blocks)
+    }
+
+    fn idle(&self, block: usize, end: usize) -> Idle {
+        Idle { length: self.image.len(), block: block as u8, end: end as u16, blocks: self.blocks }
     }
 
     fn find(&self, id: Id) -> Option<Stretch> {
         let value = self.replay.settled[usize::from(id.0)].clone()?;
-        Some(Stretch { at: self.half * self.size() + value.start, len: value.len() })
+        Some(Stretch { at: self.block * self.size() + value.start, len: value.len() })
     }
 
     fn page(&self) -> [u8; PAGE] {
@@ -250,24 +287,23 @@ impl<'a> Board<'a> {
     }
 
     fn append(&self, frame: Vec<u8>) -> Result<Record, Answer> {
-        let (mut work, half, at) = if self.journal.end + frame.len() > self.size() {
-            (self.transfer()?, 1 - self.half, self.replay.claimed())
+        let (mut work, block, at) = if self.journal.end + frame.len() > self.size() {
+            (self.transfer()?, self.next(), self.replay.claimed())
         } else {
-            (Vec::new(), self.half, self.journal.end)
+            (Vec::new(), self.block, self.journal.end)
         };
-        let idle = self.idle(half, at + frame.len());
-        work.push(Work::program(half * self.size() + at, frame));
+        let idle = self.idle(block, at + frame.len());
+        work.push(Work::program(block * self.size() + at, frame));
         Ok(job::begin(work, idle))
     }
 
-    /// Settled and pending frames into the other half, then the erase of this one.
+    /// Settled and pending frames into the next block, then the erase of this one.
     fn transfer(&self) -> Result<Vec<Work>, Answer> {
         if self.journal.time == LAST_TIME {
             return Err(Answer::WORN);
         }
-        let other = 1 - self.half;
-        let mut work = Vec::from(write_half(other * self.size(), self.journal.time + 1, self.frames()));
-        work.push(Work::Erase { half: self.half });
+        let mut work = Vec::from(write_block(self.next() * self.size(), self.journal.time + 1, self.frames()));
+        work.push(Work::erase(self.block, self.size()));
         Ok(work)
     }
 

@@ -1,42 +1,46 @@
 //! The board record and the steps of a job, one for each call.
 
+use crate::MOST;
 use crate::journal::value_at;
 use crate::journal::{DELETE, FINISH, HEADER, IN_PROGRESS, Journal, LABEL, LONGEST, SETTLED, STATE, TIME, VALID};
-use store::Answer;
+use store::{Answer, Idle};
 
 #[derive(Clone, Copy, PartialEq, Eq, Debug)]
 pub enum Phase {
     Unmounted,
     Idle,
-    /// Erasing the halves that a mount or format erases first.
+    /// Erasing the blocks that a mount or format erases first.
     Wipe,
-    /// The new half's state byte and label.
+    /// The new block's state byte and label.
     Open,
     Copy,
     /// Its time and state byte.
     Seal,
-    /// Erasing the old half.
+    /// Erasing the old block.
     Drop,
     Append,
 }
 
-/// In a job `half` is the half that is written to, and `end` where its next frame byte goes.
+/// In a job `block` is the block that is written to, and `end` where its next frame byte goes.
 #[derive(Clone, PartialEq, Eq, Debug)]
 pub struct Record {
     pub phase: Phase,
     pub length: u32,
-    pub half: u8,
+    pub blocks: u8,
+    pub block: u8,
     pub end: u16,
-    /// How many halves are erased first, and which, the last one at 0.
+    /// The bytes of a block.
+    size: u16,
+    /// How many blocks are erased first, and which, in this order.
     wipes: u8,
-    wipe: [u8; 2],
-    /// Whether a half is made, and whether the other one is erased after.
+    wipe: [u8; MOST],
+    /// Whether a block is made, and whether the one before it is erased after.
     makes: bool,
     drops: bool,
     time: u32,
-    /// The next write of Open or Seal, the next byte of `unit` or `frame`.
+    /// The next of `wipe`, the next write of Open or Seal, the next byte of `unit` or `frame`.
     index: u8,
-    /// What is copied: places of settled values from `id` on, then the old half's changes from `from` to `until`, of
+    /// What is copied: places of settled values from `id` on, then the old block's changes from `from` to `until`, of
     /// each host from `since` on.
     id: u16,
     from: u16,
@@ -52,10 +56,12 @@ impl Record {
     pub const UNMOUNTED: Record = Record {
         phase: Phase::Unmounted,
         length: 0,
-        half: 0,
+        blocks: 0,
+        block: 0,
         end: 0,
+        size: 0,
         wipes: 0,
-        wipe: [0; 2],
+        wipe: [0; MOST],
         makes: false,
         drops: false,
         time: 0,
@@ -69,34 +75,38 @@ impl Record {
         frame: [0; LONGEST],
     };
 
-    /// A record that names a half of an image, with nothing to do.
-    pub fn rest(&mut self, length: usize, half: usize, end: usize) {
+    /// A record that names a block of an image, with nothing to do.
+    pub fn rest(&mut self, Idle { length, block, end, blocks }: Idle) {
         self.phase = Phase::Idle;
         self.length = length as u32;
-        self.half = half as u8;
-        self.end = end as u16;
-        self.wipes = 0;
-        self.makes = false;
-        self.drops = false;
+        (self.blocks, self.block, self.end) = (blocks, block, end);
+        (self.wipes, self.index) = (0, 0);
+        (self.makes, self.drops) = (false, false);
         self.frame[0] = 0;
     }
 
-    /// Erases this half after those asked for before.
-    pub fn wipe(&mut self, half: usize) {
-        self.wipe = [half as u8, self.wipe[0]];
+    /// What it names.
+    pub fn idle(&self) -> Idle {
+        Idle { length: self.length as usize, block: self.block, end: self.end, blocks: self.blocks }
+    }
+
+    /// Erases this block after those asked for before.
+    pub fn wipe(&mut self, block: usize) {
+        self.wipe[usize::from(self.wipes)] = block as u8;
         self.wipes += 1;
     }
 
-    /// An empty half is made.
-    pub fn make(&mut self, half: usize, time: u32) {
-        (self.half, self.end) = (half as u8, HEADER as u16);
+    /// An empty block is made.
+    pub fn make(&mut self, block: u8, time: u32) {
+        (self.block, self.end) = (block, HEADER as u16);
         (self.makes, self.time) = (true, time);
         (self.id, self.from, self.until) = (256, 0, 0);
     }
 
-    /// The journal goes over to the other half, with its pending frames or without.
+    /// The journal goes over to the next block, with its pending frames or without.
     pub fn transfer(&mut self, journal: &Journal, pending: bool) {
-        self.make(1 - usize::from(self.half), journal.time + 1);
+        let next = self.block + 1;
+        self.make(if next == self.blocks { 0 } else { next }, journal.time + 1);
         self.drops = true;
         self.id = 0;
         self.places = journal.places;
@@ -117,6 +127,7 @@ impl Record {
     /// Takes up what was asked for above.
     pub fn begin(&mut self, image: &[u8]) -> Answer {
         self.phase = Phase::Wipe;
+        self.size = (image.len() / usize::from(self.blocks)) as u16;
         if self.wipes == 0 {
             self.next_phase(image);
         }
@@ -146,11 +157,11 @@ impl Record {
         }
     }
 
-    pub fn step(&mut self, image: &mut [u8]) -> Answer {
+    pub fn step(&mut self, image: &mut [u8], blocks: u8) -> Answer {
         if matches!(self.phase, Phase::Unmounted | Phase::Idle) {
             return Answer::DONE;
         }
-        if image.len() != self.length as usize {
+        if (image.len(), blocks) != (self.length as usize, self.blocks) {
             return Answer::STALE;
         }
         if self.make_step(image) {
@@ -165,9 +176,8 @@ impl Record {
         self.index += 1;
         match self.phase {
             Phase::Wipe => {
-                self.wipes -= 1;
-                erase(image, usize::from(self.wipe[usize::from(self.wipes)]));
-                self.wipes == 0
+                self.erase(image, self.wipe[index]);
+                index + 1 == usize::from(self.wipes)
             }
             Phase::Open => {
                 let (at, byte) = if index == 0 { (STATE, IN_PROGRESS) } else { (index - 1, LABEL[index - 1]) };
@@ -185,7 +195,7 @@ impl Record {
                 index == time.len()
             }
             Phase::Drop => {
-                erase(image, 1 - usize::from(self.half));
+                self.erase(image, self.old());
                 true
             }
             _ => {
@@ -195,8 +205,24 @@ impl Record {
         }
     }
 
+    /// The block before the one that is written to, round to the last.
+    fn old(&self) -> u8 {
+        if self.block == 0 { self.blocks - 1 } else { self.block - 1 }
+    }
+
+    /// Where a block starts, and where it ends.
+    fn bounds(&self, block: u8) -> (usize, usize) {
+        let (size, number) = (usize::from(self.size), usize::from(block));
+        (size * number, size * number + size)
+    }
+
+    fn erase(&self, image: &mut [u8], block: u8) {
+        let (start, end) = self.bounds(block);
+        image[start..end].fill(0xFF);
+    }
+
     fn program(&self, image: &mut [u8], at: usize, byte: u8) {
-        image[usize::from(self.half) * (image.len() / 2) + at] &= byte;
+        image[self.bounds(self.block).0 + at] &= byte;
     }
 
     fn program_next(&mut self, image: &mut [u8], byte: u8) {
@@ -206,8 +232,8 @@ impl Record {
 
     /// Takes the next frame to be copied into `unit`, if there is one.
     fn load(&mut self, image: &[u8]) -> bool {
-        let size = image.len() / 2;
-        let old = &image[(1 - usize::from(self.half)) * size..][..size];
+        let (start, end) = self.bounds(self.old());
+        let old = &image[start..end];
         self.index = 0;
         while self.id < 256 {
             let (id, place) = (self.id as u8, self.places[usize::from(self.id)]);
@@ -231,9 +257,4 @@ impl Record {
         }
         false
     }
-}
-
-fn erase(image: &mut [u8], half: usize) {
-    let size = image.len() / 2;
-    image[half * size..][..size].fill(0xFF);
 }

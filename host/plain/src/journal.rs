@@ -1,4 +1,4 @@
-//! Reading a half: one pass over its frames, into a table of fixed size.
+//! Reading a block: one pass over its frames, into a table of fixed size.
 
 use store::Field;
 
@@ -35,7 +35,7 @@ pub enum State {
 /// The first field that is wrong, and where it starts.
 pub type Wrong = (Field, usize);
 
-/// What a valid half holds. A place is the offset of a frame in the half; 0 is none.
+/// What a valid block holds. A place is the offset of a frame in the block; 0 is none.
 #[derive(Clone)]
 pub struct Journal {
     pub time: u32,
@@ -64,48 +64,48 @@ impl Journal {
         pending: [0; 4],
     };
 
-    /// Reads a half into an empty journal, which means something if the half is valid.
-    pub fn read(&mut self, half: &[u8]) -> State {
-        if half[STATE] == IN_PROGRESS {
+    /// Reads a block into an empty journal, which means something if the block is valid.
+    pub fn read(&mut self, block: &[u8]) -> State {
+        if block[STATE] == IN_PROGRESS {
             return State::InProgress;
         }
-        if half[STATE] == 0xFF && blank(half) {
+        if block[STATE] == 0xFF && blank(block) {
             return State::Blank;
         }
-        match self.header(half).and_then(|()| self.frames(half)) {
+        match self.header(block).and_then(|()| self.frames(block)) {
             Ok(()) => State::Valid,
             Err(wrong) => State::Foreign(wrong),
         }
     }
 
-    fn header(&mut self, half: &[u8]) -> Result<(), Wrong> {
-        self.time = !u32::from_le_bytes([half[4], half[5], half[6], half[7]]);
-        if half[..2] != LABEL[..2] {
+    fn header(&mut self, block: &[u8]) -> Result<(), Wrong> {
+        self.time = !u32::from_le_bytes([block[4], block[5], block[6], block[7]]);
+        if block[..2] != LABEL[..2] {
             Err((Field::Length, 0))
-        } else if half[2..TIME] != LABEL[2..] {
+        } else if block[2..TIME] != LABEL[2..] {
             Err((Field::Kind, 2))
         } else if self.time == 0 {
             Err((Field::Time, TIME))
-        } else if half[STATE] != VALID {
+        } else if block[STATE] != VALID {
             Err((Field::State, STATE))
-        } else if !blank(&half[STATE + 1..HEADER]) {
+        } else if !blank(&block[STATE + 1..HEADER]) {
             Err((Field::Rest, STATE + 1))
         } else {
             Ok(())
         }
     }
 
-    fn frames(&mut self, half: &[u8]) -> Result<(), Wrong> {
+    fn frames(&mut self, block: &[u8]) -> Result<(), Wrong> {
         // the least id that a settled frame may still have
         let mut least = 0;
-        while let Some((length, kind)) = frame_at(&half[self.end..]) {
+        while let Some((length, kind)) = frame_at(&block[self.end..]) {
             let at = self.end;
-            let number = half[at + 4];
+            let number = block[at + 4];
             let host = usize::from(number & 3);
             match kind {
                 SETTLED if u16::from(number) < least => break,
-                SETTLED => self.set(half, number, at),
-                COMMIT => self.commit(half, host),
+                SETTLED => self.set(block, number, at),
+                COMMIT => self.commit(block, host),
                 ABORT => self.pending[host] = 0,
                 _ => {
                     if self.pending[host] == 0 {
@@ -117,7 +117,7 @@ impl Journal {
             least = if kind == SETTLED { u16::from(number) + 1 } else { 256 };
             self.end += length;
         }
-        let tail = &half[self.end..];
+        let tail = &block[self.end..];
         self.torn = !blank(tail);
         if !self.torn || begins_frame(tail) {
             return Ok(());
@@ -127,31 +127,31 @@ impl Journal {
     }
 
     /// Goes over the host's pending frames again, in their order.
-    fn commit(&mut self, half: &[u8], host: usize) {
+    fn commit(&mut self, block: &[u8], host: usize) {
         let mut at = if self.pending[host] == 0 { self.end } else { usize::from(self.since[host]) };
         while at < self.end {
-            let (kind, owner, id) = (half[at + 2], half[at + 4], half[at + 5]);
+            let (kind, owner, id) = (block[at + 2], block[at + 4], block[at + 5]);
             if usize::from(owner) == host && kind == PUT {
-                self.set(half, id, at);
+                self.set(block, id, at);
             } else if usize::from(owner) == host && kind == DELETE {
-                self.remove(half, id);
+                self.remove(block, id);
             }
-            at += usize::from(half[at]);
+            at += usize::from(block[at]);
         }
         self.pending[host] = 0;
     }
 
-    fn set(&mut self, half: &[u8], id: u8, at: usize) {
-        self.remove(half, id);
+    fn set(&mut self, block: &[u8], id: u8, at: usize) {
+        self.remove(block, id);
         self.places[usize::from(id)] = at as u16;
         self.objects += 1;
-        self.used += settled_length(half, at);
+        self.used += settled_length(block, at);
     }
 
-    fn remove(&mut self, half: &[u8], id: u8) {
+    fn remove(&mut self, block: &[u8], id: u8) {
         let place = &mut self.places[usize::from(id)];
         if *place != 0 {
-            self.used -= settled_length(half, usize::from(*place));
+            self.used -= settled_length(block, usize::from(*place));
             self.objects -= 1;
             *place = 0;
         }
@@ -173,13 +173,13 @@ pub fn blank(bytes: &[u8]) -> bool {
 }
 
 /// Where the value of the put or settled frame at `at` stands, and its length.
-pub fn value_at(half: &[u8], at: usize) -> (usize, usize) {
-    let head = if half[at + 2] == PUT { 7 } else { 6 };
-    (at + head, usize::from(half[at]) - head - 1)
+pub fn value_at(block: &[u8], at: usize) -> (usize, usize) {
+    let head = if block[at + 2] == PUT { 7 } else { 6 };
+    (at + head, usize::from(block[at]) - head - 1)
 }
 
-fn settled_length(half: &[u8], at: usize) -> usize {
-    7 + value_at(half, at).1
+fn settled_length(block: &[u8], at: usize) -> usize {
+    7 + value_at(block, at).1
 }
 
 /// Length and kind of the whole legal frame that `bytes` begin with.

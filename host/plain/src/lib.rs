@@ -6,146 +6,149 @@
 
 mod job;
 mod journal;
+mod look;
 
 use job::Phase;
 pub use job::Record;
 pub use journal::VALUE_LIMIT;
-use journal::{ABORT, COMMIT, DELETE, HEADER, Journal, MARK, PUT, State, TIME, blank, value_at};
-use store::{Answer, Fault, Field, Head, Idle, Store, Stretch};
+use journal::{ABORT, COMMIT, DELETE, HEADER, Journal, MARK, PUT, State, blank, value_at};
+use look::Look;
+use store::{Answer, Fault, Head, Idle, Store, Stretch};
 
 pub struct Plain;
 
+/// The most blocks that an image can be.
+const MOST: usize = 16;
+
 /// Finds the store and begins to tidy up after a power cut.
-pub fn mount(image: &[u8], record: &mut Record) -> Answer {
+pub fn mount(image: &[u8], blocks: u8, record: &mut Record) -> Answer {
     *record = Record::UNMOUNTED;
-    begin_mount(image, record).unwrap_or_else(|refusal| refusal)
+    begin_mount(image, blocks, record).unwrap_or_else(|refusal| refusal)
 }
 
-fn begin_mount(image: &[u8], record: &mut Record) -> Result<Answer, Answer> {
-    allowed(image)?;
-    let mut journals = [Journal::EMPTY; 2];
-    let states = [journals[0].read(half_of(image, 0)), journals[1].read(half_of(image, 1))];
-    let half = match &states {
-        [State::Valid, State::Valid] if journals[0].time == journals[1].time => return Err(Answer::FOREIGN),
-        [State::Valid, State::Valid] => usize::from(journals[1].time > journals[0].time),
-        [State::Valid, _] => 0,
-        [_, State::Valid] => 1,
-        [State::Foreign(_), _] | [_, State::Foreign(_)] => return Err(Answer::FOREIGN),
-        _ => return Err(Answer::NO_STORE),
+fn begin_mount(image: &[u8], blocks: u8, record: &mut Record) -> Result<Answer, Answer> {
+    let look = Look::at(image, size_of(image, blocks)?);
+    let block = match look.current() {
+        _ if look.equal().is_some() => return Err(Answer::FOREIGN),
+        Some(block) => block,
+        None if look.foreign.is_some() => return Err(Answer::FOREIGN),
+        None => return Err(Answer::NO_STORE),
     };
-    let journal = &journals[half];
-    let dirty = journal.torn || journal.open(None) > 0;
-    if dirty && journal.time == u32::MAX {
+    let dirty = look.journal.torn || look.journal.open(None) > 0;
+    if dirty && look.journal.time == u32::MAX {
         return Err(Answer::WORN);
     }
-    record.rest(image.len(), half, journal.end);
-    if states[1 - half] != State::Blank {
-        record.wipe(1 - half);
+    record.rest(Idle { length: image.len(), block: block as u8, end: look.journal.end as u16, blocks });
+    for other in (0..MOST).filter(|other| *other != block && look.used[*other]) {
+        record.wipe(other);
     }
     if dirty {
-        record.transfer(journal, false);
+        record.transfer(&look.journal, false);
     }
     Ok(record.begin(image))
 }
 
 /// Why a mount would be refused, and with 3 where the image broke; 0 if it would be accepted.
-pub fn fault(image: &[u8]) -> (Answer, Option<Fault>) {
-    match mount(image, &mut Record::UNMOUNTED.clone()) {
-        Answer::FOREIGN => (Answer::FOREIGN, Some(broken(image))),
+pub fn fault(image: &[u8], blocks: u8) -> (Answer, Option<Fault>) {
+    match mount(image, blocks, &mut Record::UNMOUNTED.clone()) {
+        Answer::FOREIGN => {
+            let look = Look::at(image, image.len() / usize::from(blocks));
+            (Answer::FOREIGN, look.equal().or(look.foreign))
+        }
         answer if answer.refused() => (answer, None),
         _ => (Answer::DONE, None),
     }
 }
 
-/// The first half that is foreign; if none is, both are valid with equal times.
-fn broken(image: &[u8]) -> Fault {
-    for half in [0, 1] {
-        if let State::Foreign((field, place)) = Journal::EMPTY.clone().read(half_of(image, half)) {
-            return Fault { half, field, place };
-        }
-    }
-    Fault { half: 0, field: Field::Time, place: TIME }
-}
-
-/// Begins to make an empty store. The half that holds the store, if there is one, is erased last.
-pub fn format(image: &[u8], record: &mut Record) -> Answer {
+/// Begins to make an empty store. The block that holds the store, if there is one, is erased last.
+pub fn format(image: &[u8], blocks: u8, record: &mut Record) -> Answer {
     *record = Record::UNMOUNTED;
-    if let Err(refusal) = allowed(image) {
-        return refusal;
+    let size = match size_of(image, blocks) {
+        Ok(size) => size,
+        Err(refusal) => return refusal,
+    };
+    let current = Look::at(image, size).current();
+    record.rest(Idle { length: image.len(), block: 0, end: HEADER as u16, blocks });
+    for block in (0..usize::from(blocks)).filter(|block| Some(*block) != current) {
+        record.wipe(block);
     }
-    record.rest(image.len(), 0, HEADER);
-    let newest = usize::from(time(image, 0) <= time(image, 1));
-    record.wipe(1 - newest);
-    record.wipe(newest);
+    if let Some(block) = current {
+        record.wipe(block);
+    }
     record.make(0, 1);
     record.begin(image)
 }
 
-/// The creation time of a valid half, 0 of any other.
-fn time(image: &[u8], half: usize) -> u32 {
-    let mut journal = Journal::EMPTY;
-    match journal.read(half_of(image, half)) {
-        State::Valid => journal.time,
-        _ => 0,
-    }
-}
-
 /// A host's message.
-pub fn request(image: &[u8], record: &mut Record, host: u8, message: &[u8], reply: &mut [u8]) -> Answer {
-    serve(image, record, host, message, reply).unwrap_or_else(|refusal| refusal)
+pub fn request(
+    image: &[u8],
+    blocks: u8,
+    record: &mut Record,
+    host: u8,
+    message: &[u8],
+    reply: &mut [u8],
+) -> Answer {
+    serve(image, blocks, record, host, message, reply).unwrap_or_else(|refusal| refusal)
 }
 
-fn serve(image: &[u8], record: &mut Record, host: u8, message: &[u8], reply: &mut [u8]) -> Result<Answer, Answer> {
+fn serve(
+    image: &[u8],
+    blocks: u8,
+    record: &mut Record,
+    host: u8,
+    message: &[u8],
+    reply: &mut [u8],
+) -> Result<Answer, Answer> {
     let mut journal = Journal::EMPTY;
-    fresh(image, record, host, &mut journal)?;
+    let size = fresh(image, blocks, record, host, &mut journal)?;
     let (kind, body) = kind_of(message)?;
     let quiet = journal.pending[usize::from(host)] == 0;
     match (kind, body) {
         (1, [id, 0, value @ ..]) if value.len() <= VALUE_LIMIT => {
             let length = 8 + value.len();
-            room(image, &journal, host, length + MARK + 8)?;
-            append(image, record, &journal, &[length as u8, 0, PUT, 0, host, *id, 0], value)
+            room(size, &journal, host, length + MARK + 8)?;
+            append(image, size, record, &journal, &[length as u8, 0, PUT, 0, host, *id, 0], value)
         }
         (2, [id, 0]) => {
-            room(image, &journal, host, 8)?;
-            append(image, record, &journal, &[8, 0, DELETE, 0, host, *id, 0], &[])
+            room(size, &journal, host, 8)?;
+            append(image, size, record, &journal, &[8, 0, DELETE, 0, host, *id, 0], &[])
         }
         (3 | 4, []) if quiet => Ok(Answer::DONE),
-        (3, []) => append(image, record, &journal, &[6, 0, COMMIT, 0, host], &[]),
-        (4, []) => append(image, record, &journal, &[6, 0, ABORT, 0, host], &[]),
+        (3, []) => append(image, size, record, &journal, &[6, 0, COMMIT, 0, host], &[]),
+        (4, []) => append(image, size, record, &journal, &[6, 0, ABORT, 0, host], &[]),
         (5, [id, 0]) => settled(&journal, *id).map(|_| Answer::DONE),
-        (6, [1]) => log(image, &journal, reply),
+        (6, [1]) => log(size, &journal, reply),
         _ => Err(Answer::MALFORMED),
     }
 }
 
 /// Where a settled value stands.
-pub fn read(image: &[u8], record: &Record, host: u8, message: &[u8]) -> Result<Stretch, Answer> {
+pub fn read(image: &[u8], blocks: u8, record: &Record, host: u8, message: &[u8]) -> Result<Stretch, Answer> {
     let mut journal = Journal::EMPTY;
-    fresh(image, record, host, &mut journal)?;
+    let size = fresh(image, blocks, record, host, &mut journal)?;
     match kind_of(message)? {
         (5, [id, 0]) => {
-            let half = usize::from(record.half);
-            let (at, len) = value_at(half_of(image, half), settled(&journal, *id)?);
-            Ok(Stretch { at: half * (image.len() / 2) + at, len })
+            let base = size * usize::from(record.block);
+            let (at, len) = value_at(&image[base..base + size], settled(&journal, *id)?);
+            Ok(Stretch { at: base + at, len })
         }
         _ => Err(Answer::MALFORMED),
     }
 }
 
-fn allowed(image: &[u8]) -> Result<(), Answer> {
-    let allowed = image.len().is_multiple_of(256) && (512..=65_536).contains(&image.len());
-    if allowed { Ok(()) } else { Err(Answer::IMAGE_LENGTH) }
+/// The bytes of a block, if image and number of blocks are allowed.
+fn size_of(image: &[u8], blocks: u8) -> Result<usize, Answer> {
+    let length = image.len();
+    let size = match usize::from(blocks) {
+        blocks @ 2..=MOST if length <= 65_536 && length.is_multiple_of(128 * blocks) => length / blocks,
+        _ => 0,
+    };
+    if size < 256 { Err(Answer::IMAGE_LENGTH) } else { Ok(size) }
 }
 
-fn half_of(image: &[u8], half: usize) -> &[u8] {
-    let size = image.len() / 2;
-    &image[half * size..][..size]
-}
-
-/// The refusals before a look at the message; the current half is read into `journal`.
-fn fresh(image: &[u8], record: &Record, host: u8, journal: &mut Journal) -> Result<(), Answer> {
-    allowed(image)?;
+/// The refusals before a look at the message; the current block is read into `journal`. Gives the bytes of a block.
+fn fresh(image: &[u8], blocks: u8, record: &Record, host: u8, journal: &mut Journal) -> Result<usize, Answer> {
+    let size = size_of(image, blocks)?;
     if host > 3 {
         return Err(Answer::HOST_RANGE);
     }
@@ -154,15 +157,23 @@ fn fresh(image: &[u8], record: &Record, host: u8, journal: &mut Journal) -> Resu
         Phase::Unmounted => return Err(Answer::NO_STORE),
         _ => return Err(Answer::BUSY),
     }
-    let half = usize::from(record.half);
     let stale = image.len() != record.length as usize
-        || half > 1
-        || journal.read(half_of(image, half)) != State::Valid
-        || journal.end != usize::from(record.end)
-        || journal.torn
-        || !blank(half_of(image, 1 - half))
-        || journal.claimed() + MARK * journal.open(None) > image.len() / 2;
-    if stale { Err(Answer::STALE) } else { Ok(()) }
+        || record.blocks != blocks
+        || record.block >= blocks
+        || !rests(image, size, record, journal);
+    if stale { Err(Answer::STALE) } else { Ok(size) }
+}
+
+/// Whether the record's block is valid up to the recorded end, with room to settle, and all others are blank.
+fn rests(image: &[u8], size: usize, record: &Record, journal: &mut Journal) -> bool {
+    let (before, rest) = image.split_at(size * usize::from(record.block));
+    let (block, after) = rest.split_at(size);
+    journal.read(block) == State::Valid
+        && journal.end == usize::from(record.end)
+        && !journal.torn
+        && blank(before)
+        && blank(after)
+        && journal.claimed() + MARK * journal.open(None) <= size
 }
 
 /// The low byte of a message's kind, and its body.
@@ -182,23 +193,24 @@ fn settled(journal: &Journal, id: u8) -> Result<usize, Answer> {
     }
 }
 
-fn room(image: &[u8], journal: &Journal, host: u8, bytes: usize) -> Result<(), Answer> {
+fn room(size: usize, journal: &Journal, host: u8, bytes: usize) -> Result<(), Answer> {
     let marks = MARK * journal.open(Some(usize::from(host)));
-    if journal.claimed() + bytes + marks > image.len() / 2 { Err(Answer::NO_ROOM) } else { Ok(()) }
+    if journal.claimed() + bytes + marks > size { Err(Answer::NO_ROOM) } else { Ok(()) }
 }
 
 fn append(
     image: &[u8],
+    size: usize,
     record: &mut Record,
     journal: &Journal,
     head: &[u8],
     value: &[u8],
 ) -> Result<Answer, Answer> {
-    let transfer = journal.end + head.len() + value.len() + 1 > image.len() / 2;
+    let transfer = journal.end + head.len() + value.len() + 1 > size;
     if transfer && journal.time == u32::MAX {
         return Err(Answer::WORN);
     }
-    record.rest(image.len(), usize::from(record.half), journal.end);
+    record.rest(record.idle());
     if transfer {
         record.transfer(journal, true);
     }
@@ -206,43 +218,51 @@ fn append(
     Ok(record.begin(image))
 }
 
-fn log(image: &[u8], journal: &Journal, reply: &mut [u8]) -> Result<Answer, Answer> {
+fn log(size: usize, journal: &Journal, reply: &mut [u8]) -> Result<Answer, Answer> {
     let page = reply.first_chunk_mut::<14>().ok_or(Answer::SHORT_REPLY)?;
     page[..4].copy_from_slice(&[14, 0, 0x01, 0x02]);
     page[4..8].copy_from_slice(&journal.time.to_le_bytes());
     page[8..10].copy_from_slice(&journal.objects.to_le_bytes());
     page[10..12].copy_from_slice(&(journal.used as u16).to_le_bytes());
-    page[12..].copy_from_slice(&((image.len() / 2) as u16).to_le_bytes());
+    page[12..].copy_from_slice(&(size as u16).to_le_bytes());
     Ok(Answer::DONE)
 }
 
 impl Store for Plain {
     type Record = Record;
 
-    fn mount(&self, image: &[u8]) -> (Answer, Record) {
+    fn mount(&self, image: &[u8], blocks: u8) -> (Answer, Record) {
         let mut record = Record::UNMOUNTED;
-        (mount(image, &mut record), record)
+        (mount(image, blocks, &mut record), record)
     }
 
-    fn fault(&self, image: &[u8]) -> (Answer, Option<Fault>) {
-        fault(image)
+    fn fault(&self, image: &[u8], blocks: u8) -> (Answer, Option<Fault>) {
+        fault(image, blocks)
     }
 
-    fn format(&self, image: &[u8]) -> (Answer, Record) {
+    fn format(&self, image: &[u8], blocks: u8) -> (Answer, Record) {
         let mut record = Record::UNMOUNTED;
-        (format(image, &mut record), record)
+        (format(image, blocks, &mut record), record)
     }
 
-    fn request(&self, image: &[u8], record: &mut Record, host: u8, message: &[u8], reply: &mut [u8]) -> Answer {
-        request(image, record, host, message, reply)
+    fn request(
+        &self,
+        image: &[u8],
+        blocks: u8,
+        record: &mut Record,
+        host: u8,
+        message: &[u8],
+        reply: &mut [u8],
+    ) -> Answer {
+        request(image, blocks, record, host, message, reply)
     }
 
-    fn step(&self, image: &mut [u8], record: &mut Record) -> Answer {
-        record.step(image)
+    fn step(&self, image: &mut [u8], blocks: u8, record: &mut Record) -> Answer {
+        record.step(image, blocks)
     }
 
-    fn read(&self, image: &[u8], record: &Record, host: u8, message: &[u8]) -> (Answer, Stretch) {
-        match read(image, record, host, message) {
+    fn read(&self, image: &[u8], blocks: u8, record: &Record, host: u8, message: &[u8]) -> (Answer, Stretch) {
+        match read(image, blocks, record, host, message) {
             Ok(stretch) => (Answer::DONE, stretch),
             Err(refusal) => (refusal, Stretch::default()),
         }
@@ -254,14 +274,14 @@ impl Store for Plain {
 
     fn idle(&self, idle: Idle) -> Record {
         let mut record = Record::UNMOUNTED;
-        record.rest(idle.length, usize::from(idle.half), usize::from(idle.end));
+        record.rest(idle);
         record
     }
 
     fn head(&self, record: &Record) -> Head {
         match record.phase {
             Phase::Unmounted => Head::Unmounted,
-            Phase::Idle => Head::Idle(Idle { length: record.length as usize, half: record.half, end: record.end }),
+            Phase::Idle => Head::Idle(record.idle()),
             _ => Head::Job,
         }
     }

@@ -1,8 +1,8 @@
-//! Where a half broke (K5): what a mount refused with 3 has to say.
+//! Where a block broke (K5): what a mount refused with 3 has to say.
 
 use std::fmt;
 
-/// A field of a half's header or of a frame, with its number in include/grommetide.h.
+/// A field of a block's header or of a frame, with its number in include/grommetide.h.
 #[derive(Clone, Copy, PartialEq, Eq, PartialOrd, Ord, Hash, Debug)]
 pub enum Field {
     Length = 1,
@@ -47,10 +47,10 @@ impl fmt::Display for Field {
     }
 }
 
-/// The first bad field of a half; its place is where it starts in the half.
+/// The first bad field of a block; its place is where it starts in the block.
 #[derive(Clone, Copy, PartialEq, Eq, Debug)]
 pub struct Fault {
-    pub half: usize,
+    pub block: usize,
     pub field: Field,
     pub place: usize,
 }
@@ -58,6 +58,6 @@ pub struct Fault {
 /// As `desk replay` prints it.
 impl fmt::Display for Fault {
     fn fmt(&self, f: &mut fmt::Formatter) -> fmt::Result {
-        write!(f, "half={} fault={} place={}", self.half, self.field, self.place)
+        write!(f, "half={} fault={} place={}", self.block, self.field, self.place)
     }
 }

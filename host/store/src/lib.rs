@@ -48,10 +48,12 @@ impl fmt::Display for Answer {
 pub struct Idle {
     /// Image length, 1 to 65,536.
     pub length: usize,
-    /// Current half.
-    pub half: u8,
-    /// Where its whole frames end, counted from the half's start.
+    /// Current block.
+    pub block: u8,
+    /// Where its whole frames end, counted from the block's start.
     pub end: u16,
+    /// How many blocks the image was said to be.
+    pub blocks: u8,
 }
 
 /// What anyone may know of a record; a job's inside is its store's own.
@@ -75,30 +77,32 @@ impl Stretch {
     }
 }
 
+/// Each call that takes an image is told how many blocks it is, which may be any number.
 pub trait Store {
     type Record: Clone + PartialEq + fmt::Debug;
 
-    fn mount(&self, image: &[u8]) -> (Answer, Self::Record);
+    fn mount(&self, image: &[u8], blocks: u8) -> (Answer, Self::Record);
     /// Why a mount would be refused: its number, and with 3 where the image broke; 0 if it would be accepted.
-    fn fault(&self, image: &[u8]) -> (Answer, Option<Fault>);
-    fn format(&self, image: &[u8]) -> (Answer, Self::Record);
+    fn fault(&self, image: &[u8], blocks: u8) -> (Answer, Option<Fault>);
+    fn format(&self, image: &[u8], blocks: u8) -> (Answer, Self::Record);
     fn request(
         &self,
         image: &[u8],
+        blocks: u8,
         record: &mut Self::Record,
         host: u8,
         message: &[u8],
         reply: &mut [u8],
     ) -> Answer;
-    fn step(&self, image: &mut [u8], record: &mut Self::Record) -> Answer;
+    fn step(&self, image: &mut [u8], blocks: u8, record: &mut Self::Record) -> Answer;
 
     /// Up to so many steps, ending with the first that does not answer "more": the answer, and the flash steps made.
-    fn run(&self, image: &mut [u8], record: &mut Self::Record, most: usize) -> (Answer, usize) {
+    fn run(&self, image: &mut [u8], blocks: u8, record: &mut Self::Record, most: usize) -> (Answer, usize) {
         if self.head(record) != Head::Job {
             return (Answer::DONE, 0);
         }
         for made in 0..most {
-            match self.step(image, record) {
+            match self.step(image, blocks, record) {
                 Answer::MORE => {}
                 Answer::DONE => return (Answer::DONE, made + 1),
                 refusal => return (refusal, made),
@@ -108,7 +112,8 @@ pub trait Store {
     }
 
     /// A refused read has the stretch 0, 0.
-    fn read(&self, image: &[u8], record: &Self::Record, host: u8, message: &[u8]) -> (Answer, Stretch);
+    fn read(&self, image: &[u8], blocks: u8, record: &Self::Record, host: u8, message: &[u8])
+    -> (Answer, Stretch);
 
     fn unmounted(&self) -> Self::Record;
     /// An idle record, as forged as the caller likes.

@@ -1,7 +1,6 @@
 -- A block: the part from its start to its end, as far as the image goes.
 use denote.Ref.{now}
 use borrow.Author.Needs.{needs}
-use Rattle.flash.specs.Flash.{sizeOf}
 use Rattle.flash.proofs.Stretches.{block-part}
 use Rattle.flash.proofs.block_of.Statement.{statement}
 use Rattle.flash.proofs.block_of.Tie as tie
@@ -19,5 +18,5 @@ block-of-spec =
     let reach′ = c .before .reach in
     let start-of′ = c .before .before .start-of in
     let args′ = c .before .before .before .before .args in
-    let img = now (args′ .image) in block-part (sizeOf img) (args′ .number) (start-of′ .result) (reach′ .result) img (start-of′ .ensures)
+    let img = now (args′ .image) in block-part (args′ .size) (args′ .number) (start-of′ .result) (reach′ .result) img (start-of′ .ensures)
     (reach′ .ensures)))

@@ -3,7 +3,7 @@ use mathlib.Core.Path.{ap, ap₂, _∙_}
 use Prim.Native.Nat.{ℕ}
 use Rattle.wire.specs.declared.Spot.{Spot}
 use Rattle.wire.specs.Answer.{refusedNumber, spotOf}
-use Rattle.grommetide.specs.Edge.{broken, edgeFault}
+use Rattle.edge.specs.Edge.{broken, edgeFault}
 use borrow.Author.Needs.{needs}
 use Rattle.grommetide.proofs.grommetide_fault.Statement.{statement}
 use Rattle.grommetide.proofs.grommetide_fault.Tie as tie

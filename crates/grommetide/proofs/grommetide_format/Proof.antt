@@ -2,8 +2,8 @@
 use denote.Ref.{now}
 use borrow.Author.Tests.{ne-eqb}
 use Rattle.board.specs.Mount.{formatOn}
-use Rattle.grommetide.specs.Edge.{edgeFormat}
-use Rattle.grommetide.proofs.Begun.{replaced}
+use Rattle.edge.specs.Edge.{edgeFormat}
+use Rattle.edge.proofs.Begun.{replaced}
 use borrow.Author.Needs.{needs}
 use Rattle.grommetide.proofs.grommetide_format.Statement.{statement}
 use Rattle.grommetide.proofs.grommetide_format.Tie as tie
@@ -30,5 +30,5 @@ grommetide-format-spec =
     let no-places′ = c8 .no-places in
     let if1′ = c9 .if1 in
     let args′ = c12 .args in
-    replaced _ _ _ _ _ _ (format-core′ .result) (formatOn (now (args′ .image))) (if1′ .left) (format-core′ .ensures)
+    replaced _ _ _ _ _ _ (format-core′ .result) (formatOn (args′ .blocks) (now (args′ .image))) (if1′ .left) (format-core′ .ensures)
     (no-frame′ .ensures) (rw (no-places′ .ensures) at (c .before .before .new-record .ensures))))

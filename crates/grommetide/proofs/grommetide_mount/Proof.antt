@@ -2,8 +2,8 @@
 use denote.Ref.{now}
 use borrow.Author.Tests.{ne-eqb}
 use Rattle.board.specs.Mount.{mountOn}
-use Rattle.grommetide.specs.Edge.{edgeMount}
-use Rattle.grommetide.proofs.Begun.{replaced}
+use Rattle.edge.specs.Edge.{edgeMount}
+use Rattle.edge.proofs.Begun.{replaced}
 use borrow.Author.Needs.{needs}
 use Rattle.grommetide.proofs.grommetide_mount.Statement.{statement}
 use Rattle.grommetide.proofs.grommetide_mount.Tie as tie
@@ -28,5 +28,5 @@ grommetide-mount-spec =
     let mount-core′ = c7 .mount-core in
     let if1′ = c10 .if1 in
     let args′ = c13 .args in
-    replaced _ _ _ _ _ _ (mount-core′ .result) (mountOn (now (args′ .image))) (if1′ .left) (mount-core′ .ensures)
+    replaced _ _ _ _ _ _ (mount-core′ .result) (mountOn (args′ .blocks) (now (args′ .image))) (if1′ .left) (mount-core′ .ensures)
     (no-frame′ .ensures) (c .before .before .new-record .ensures)))

@@ -4,8 +4,8 @@ use denote.Ref.{now}
 use borrow.Author.Tests.{eq-eqb, ne-eqb}
 use Rattle.wire.specs.Answer.{edgeNumber}
 use Rattle.lent.specs.Layout.{recordIn}
-use Rattle.grommetide.specs.Edge.{place, edgeRead}
-use Rattle.grommetide.proofs.Begun.{asks-read}
+use Rattle.edge.specs.Edge.{place, edgeRead}
+use Rattle.edge.proofs.Begun.{asks-read}
 use borrow.Author.Needs.{needs}
 use Rattle.grommetide.proofs.grommetide_read.Statement.{statement}
 use Rattle.grommetide.proofs.grommetide_read.Tie as tie

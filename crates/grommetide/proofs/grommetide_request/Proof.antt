@@ -3,8 +3,8 @@ use denote.Ref.{now}
 use borrow.Author.Tests.{eq-eqb, ne-eqb}
 use Rattle.board.specs.Queue.{requestOn}
 use Rattle.lent.specs.Layout.{recordIn}
-use Rattle.grommetide.specs.Edge.{edgeRequest}
-use Rattle.grommetide.proofs.Begun.{begun-is, done-rests}
+use Rattle.edge.specs.Edge.{edgeRequest}
+use Rattle.edge.proofs.Begun.{begun-is, done-rests}
 use borrow.Author.Needs.{needs}
 use Rattle.grommetide.proofs.grommetide_request.Statement.{statement}
 use Rattle.grommetide.proofs.grommetide_request.Tie as tie
@@ -34,8 +34,8 @@ grommetide-request-spec =
     let phase-of′ = c16 .phase-of in
     let if1′ = c18 .if1 in
     let args′ = c23 .args in
-    let b = now (args′ .board) in let o = requestOn (now (args′ .image)) (recordIn b) (now (args′ .reply))
+    let b = now (args′ .board) in let o = requestOn (args′ .blocks) (now (args′ .image)) (recordIn b) (now (args′ .reply))
     (record { 0 = args′ .host }) (now (args′ .message)) in let q = rw (phase-of′ .ensures, rest-of′ .ensures) at
     (request-core′ .ensures (recordIn b)) in let z = begun-is b _ _ _ _ (request-core′ .result) o (if1′ .left) (q .0)
-    (done-rests _ _ _ _ _) (c .before .before .begun .ensures) in
+    (done-rests _ _ _ _ _ _) (c .before .before .begun .ensures) in
     (rw (eq-eqb _ _ (if1′ .left)) (z .0 .0, z .0 .1, q .1), λ _. z .1)))

@@ -18,7 +18,7 @@ append-byte-spec =
     (λ c. search needs)
     (λ c. search needs)
     (λ c. search needs)
-    (λ c. nothing _ _ _ _ refl refl)
+    (λ c. nothing _ _ _ _ _ refl refl)
     (λ c κs. search needs)
     (λ c. search needs)
     (λ c. search needs)
@@ -46,9 +46,12 @@ append-byte-spec =
     let c18 = c16 .before .before in
     let args′ = c18 .args in
     let pre′ = c18 .pre in
-    done _ _ _ _ (appended (now (args′ .image)) (now (args′ .board)) _ _ (pre′ .0) (λ i. slice-known2′ .given i .fits) (pre′ .1) _ _ _ _ _ (byte-at′ .ensures) (byte-at2′ .ensures) (omega (arith, if1′ .left)) (rw (word-in′ .ensures) refl) (byte-at3′ .ensures) (append-byte′ .ensures) (sym (program-in′ .ensures .0) ∙ c .if2 .taken) (program-in′ .ensures .1) refl))
+    done _ _ _ _ _
+    (appended (args′ .blocks) (now (args′ .image)) (now (args′ .board)) _ _ (pre′ .0) (λ i. slice-known2′ .given i .fits) (pre′ .1) _ _ _ _ _
+    (byte-at′ .ensures) (byte-at2′ .ensures) (omega (arith, if1′ .left)) (rw (word-in′ .ensures) refl) (byte-at3′ .ensures)
+    (append-byte′ .ensures) (sym (program-in′ .ensures .0) ∙ c .if2 .taken) (program-in′ .ensures .1) refl))
     (λ c. search needs)
     (λ c. search needs)
     (λ c.
     let program-in′ = c .before .before .before .program-in in
-    nothing _ _ _ _ (not-done _ _ _ _ (program-in′ .ensures .0) (program-in′ .ensures .1) (c .if2 .left)) refl))
+    nothing _ _ _ _ _ (not-done _ _ _ _ _ (program-in′ .ensures .0) (program-in′ .ensures .1) (c .if2 .left)) refl))

@@ -21,7 +21,7 @@ copy-byte-spec =
     (λ c. search needs)
     (λ c. search needs)
     (λ c. search needs)
-    (λ c. nothing _ _ _ _ refl refl)
+    (λ c. nothing _ _ _ _ _ refl refl)
     (λ c. search needs)
     (λ c κs. search needs)
     (λ c. search needs)
@@ -39,7 +39,7 @@ copy-byte-spec =
     let c18 = c16 .before .before in
     let args′ = c18 .args in
     let pre′ = c18 .pre in
-    let h : word-in′ .result < 32768 = counts-on (now (args′ .image)) (now (args′ .board)) (byte-at3′ .result) (word-in′ .result)
+    let h : word-in′ .result < 32768 = counts-on (args′ .blocks) (now (args′ .image)) (now (args′ .board)) (byte-at3′ .result) (word-in′ .result)
     (unit-byte′ .result) (λ i. slice-known2′ .given i .fits) (pre′ .1 .fits)
     (sym (c .before .before .before .program-in .ensures .0) ∙ c .if2 .taken) in omega (arith, h))
     (λ c κs. search needs)
@@ -79,9 +79,12 @@ copy-byte-spec =
     let c20 = c18 .before .before in
     let args′ = c20 .args in
     let pre′ = c20 .pre in
-    done _ _ _ _ (copied (now (args′ .image)) (now (args′ .board)) _ _ (pre′ .0) (λ i. slice-known2′ .given i .fits) (pre′ .1) _ _ _ _ _ _ _ (byte-at′ .ensures) (byte-at2′ .ensures) (omega (arith, if1′ .left)) (word-in′ .ensures) (byte-at3′ .ensures) (unit-byte′ .ensures) (sym (program-in′ .ensures .0) ∙ c .before .before .if2 .taken) (program-in′ .ensures .1) (c .before .low .ensures) (c .high .ensures) refl))
+    done _ _ _ _ _
+    (copied (args′ .blocks) (now (args′ .image)) (now (args′ .board)) _ _ (pre′ .0) (λ i. slice-known2′ .given i .fits) (pre′ .1) _ _ _ _ _ _ _
+    (byte-at′ .ensures) (byte-at2′ .ensures) (omega (arith, if1′ .left)) (word-in′ .ensures) (byte-at3′ .ensures) (unit-byte′ .ensures)
+    (sym (program-in′ .ensures .0) ∙ c .before .before .if2 .taken) (program-in′ .ensures .1) (c .before .low .ensures) (c .high .ensures) refl))
     (λ c. search needs)
     (λ c. search needs)
     (λ c.
     let program-in′ = c .before .before .before .program-in in
-    nothing _ _ _ _ (not-done _ _ _ _ (program-in′ .ensures .0) (program-in′ .ensures .1) (c .if2 .left)) refl))
+    nothing _ _ _ _ _ (not-done _ _ _ _ _ (program-in′ .ensures .0) (program-in′ .ensures .1) (c .if2 .left)) refl))

@@ -21,18 +21,20 @@ stands-spec =
     (λ c κs. search needs)
     (λ c. λ t. absurd (false≢true t))
     (λ c κs. search needs)
+    (λ c. λ t. absurd (false≢true t))
+    (λ c κs. search needs)
     (λ c. search needs)
     (λ c. search needs)
     (λ c.
-    let byte-at2′ = c .before .before .before .before .byte-at2 in
-    let if1′ = c .before .before .before .before .before .if1 in
-    let byte-at′ = c .before .before .before .before .before .before .byte-at in
+    let c3 = c .before .before .before in
+    let if2′ = c3 .before .before .if2 in
+    let byte-at2′ = c3 .before .before .before .byte-at2 in
+    let if1′ = c3 .before .before .before .before .if1 in
+    let byte-at′ = c3 .before .before .before .before .before .byte-at in
     λ t. record {
-      phase = sym (byte-at′ .ensures)
-          ∙ if1′ .left;
-      moves = omega (arith, byte-at2′ .ensures, c .before .before .before .if2 .left);
-      drops = omega
-          (arith, c .before .before .byte-at3 .ensures, c .before .if3 .left);
-      fits = eqb-true _ _ t
-          ∙ rw (c .word-in .ensures) (add-one _);
+      phase = sym (byte-at′ .ensures) ∙ if1′ .left;
+      moves = omega (arith, byte-at2′ .ensures, if2′ .left);
+      drops = omega (arith, c3 .before .byte-at3 .ensures, c3 .if3 .left);
+      count = omega (arith, c .before .before .byte-at4 .ensures, c .before .if4 .left);
+      fits = eqb-true _ _ t ∙ rw (c .word-in .ensures) (add-one _);
     }))

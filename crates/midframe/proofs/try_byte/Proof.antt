@@ -9,7 +9,7 @@ pub try-byte-spec : {M : Type 1} → statement M
 try-byte-spec =
     tie.close
     (tie.spec
-    (λ c. nothing _ _ _ _ refl refl)
+    (λ c. nothing _ _ _ _ _ refl refl)
     (λ c κs. search needs)
     (λ c κs.
     let if1′ = c .before .before .before .before .before .if1 in
@@ -25,4 +25,4 @@ try-byte-spec =
     (λ c. search needs)
     (λ c. search needs)
     (λ c. search needs)
-    (λ c. nothing _ _ _ _ refl refl))
+    (λ c. nothing _ _ _ _ _ refl refl))

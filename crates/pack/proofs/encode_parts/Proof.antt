@@ -3,7 +3,7 @@ use mathlib.Core.Path.{_≡_, sym}
 use lib.ListN.{length}
 use denote.Ref.{now}
 use borrow.Author.Tests.{eq-eqb, ne-eqb}
-use Rattle.flash.specs.Flash.{blocks}
+use Rattle.flash.specs.Flash.{maxBlocks}
 use Rattle.lent.specs.Layout.{recordInto}
 use Rattle.lent.proofs.Inverse.{Sized}
 use Rattle.job.specs.Code.{assemble}
@@ -29,7 +29,7 @@ encode-parts-spec =
     let c20 = c10 .before .before .before .before .before .before .before .before .before .before in
     let args′ = c20 .args in
     let good′ = c20 .good in
-    let k : length (args′ .n .job .wipe) ≡ blocks = search (needs, good′ .0 .1 .1 .1 .1 .0 .1 .1 .0) in sym k)
+    let k : length (args′ .n .job .wipe) ≡ maxBlocks = search (needs, good′ .0 .1 .1 .1 .1 .0 .1 .1 .0) in sym k)
     (λ c κs. search needs)
     (λ c. search needs)
     (λ c κs. search needs)

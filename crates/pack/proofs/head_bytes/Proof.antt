@@ -1,4 +1,4 @@
--- The six bytes before the places.
+-- The seven bytes before the places.
 use borrow.Author.Needs.{needs}
 use Rattle.pack.proofs.head_bytes.Statement.{statement}
 use Rattle.pack.proofs.head_bytes.Tie as tie

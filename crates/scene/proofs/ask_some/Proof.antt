@@ -1,6 +1,9 @@
 -- `scene::ask_some` is a request, and some of its steps.
 use mathlib.Core.Path.{_∙_}
+use denote.Ref.{now}
 use borrow.Author.Needs.{needs}
+use Rattle.board.specs.Queue.{requestOn}
+use Rattle.scene.specs.Runs.{imageOf, fresh}
 use Rattle.scene.proofs.Stepping.{call-is}
 use Rattle.scene.proofs.ask_some.Statement.{statement}
 use Rattle.scene.proofs.ask_some.Tie as tie
@@ -10,10 +13,13 @@ ask-some-spec =
     tie.close
     (tie.spec
     (λ c. search needs)
+    (λ c κs. search needs)
     (λ c. search needs)
     (λ c κs. search needs)
     (λ c κs. search needs)
     (λ c.
-    c .went .ensures
-    ∙ call-is _ _ _ _ _ _ _ _ (c .before .before .request .ensures .0) (c .before .before .request .ensures .1)
-    (c .before .before .request .ensures .2)))
+    let r = rw (c .before .before .before .before .front .ensures) at (c .before .before .request .ensures) in
+    let args′ = c .before .before .before .before .before .before .before .before .before .args in
+    let d = args′ .d in
+    let o = requestOn (d .blocks) (imageOf d) (d .board) fresh (record { 0 = args′ .host }) (now (args′ .message)) in
+    c .went .ensures ∙ call-is d (args′ .most) (c .before .before .request .result) o _ _ (r .0, r .1) (r .2)))

@@ -1,6 +1,8 @@
 -- `scene::format` is a format, and its steps.
 use mathlib.Core.Path.{refl, _∙_}
 use borrow.Author.Needs.{needs}
+use Rattle.board.specs.Mount.{formatOn}
+use Rattle.scene.specs.Runs.{imageOf}
 use Rattle.scene.proofs.Stepping.{call-is}
 use Rattle.scene.proofs.format.Statement.{statement}
 use Rattle.scene.proofs.format.Tie as tie
@@ -12,4 +14,9 @@ format-spec =
     (λ c. search needs)
     (λ c κs. search needs)
     (λ c κs. search needs)
-    (λ c. c .went .ensures ∙ call-is _ _ _ _ _ _ _ _ (c .before .format .ensures .0) (c .before .format .ensures .1) refl))
+    (λ c κs. search needs)
+    (λ c.
+    let r = rw (c .before .before .front .ensures) at (c .before .format .ensures) in
+    let args′ = c .before .before .before .before .before .args in
+    let d = args′ .d in
+    c .went .ensures ∙ call-is d (args′ .most) (c .before .format .result) (formatOn (d .blocks) (imageOf d)) _ _ r refl))

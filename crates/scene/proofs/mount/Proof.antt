@@ -1,6 +1,8 @@
 -- `scene::mount` is a mount, and its steps.
 use mathlib.Core.Path.{refl, _∙_}
 use borrow.Author.Needs.{needs}
+use Rattle.board.specs.Mount.{mountOn}
+use Rattle.scene.specs.Runs.{imageOf}
 use Rattle.scene.proofs.Stepping.{call-is}
 use Rattle.scene.proofs.mount.Statement.{statement}
 use Rattle.scene.proofs.mount.Tie as tie
@@ -12,4 +14,9 @@ mount-spec =
     (λ c. search needs)
     (λ c κs. search needs)
     (λ c κs. search needs)
-    (λ c. c .went .ensures ∙ call-is _ _ _ _ _ _ _ _ (c .before .mount .ensures .0) (c .before .mount .ensures .1) refl))
+    (λ c κs. search needs)
+    (λ c.
+    let r = rw (c .before .before .front .ensures) at (c .before .mount .ensures) in
+    let args′ = c .before .before .before .before .before .args in
+    let d = args′ .d in
+    c .went .ensures ∙ call-is d 65536 (c .before .mount .result) (mountOn (d .blocks) (imageOf d)) _ _ r refl))

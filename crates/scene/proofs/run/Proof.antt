@@ -12,12 +12,12 @@ use Rattle.scene.proofs.run.Statement.{statement}
 use Rattle.scene.proofs.run.Tie as tie
 
 abbrev Inv-loop : tie.InvT-loop
-Inv-loop image₀ most board₀ answer₀ steps₀ image board answer steps =
+Inv-loop image₀ blocks most board₀ answer₀ steps₀ image board answer steps =
     (length image ≡ length image₀) × (steps ≤ most)
-    × (stepsFrom (most - steps) image board answer steps ≡ stepsFrom most image₀ board₀ answer₀ 0)
+    × (stepsFrom blocks (most - steps) image board answer steps ≡ stepsFrom blocks most image₀ board₀ answer₀ 0)
 
 abbrev μ-loop : tie.MeasureT-loop
-μ-loop image₀ most board₀ answer₀ steps₀ image board answer steps = most - steps
+μ-loop image₀ blocks most board₀ answer₀ steps₀ image board answer steps = most - steps
 
 pub run-spec : {M : Type 1} → statement M
 run-spec =
@@ -36,13 +36,13 @@ run-spec =
     let c8 = c4 .before .before .before .before in (
       c4 .step .kept .0 ∙ c8 .loop .inv .0,
       omega arith,
-      one-more _ _ _ _ _ _ _ _ _ _ (c4 .before .before .before .loop-test .taken) (c4 .before .before .if1 .left) (c4 .step .ensures)
+      one-more _ _ _ _ _ _ _ _ _ _ _ (c4 .before .before .before .loop-test .taken) (c4 .before .before .if1 .left) (c4 .step .ensures)
           (c .number2 .ensures) (c8 .loop .inv .2),
     ))
     (λ c. c .before .loop .inv .0)
     (λ c.
-    ended _ _ _ _ _ _ _ _ _ _ (all-done _ _ _ _ _ (c .loop-test .left)) (c .before .loop .inv .2) (c .before .before .number .ensures))
+    ended _ _ _ _ _ _ _ _ _ _ _ (all-done _ _ _ _ _ _ (c .loop-test .left)) (c .before .loop .inv .2) (c .before .before .number .ensures))
     (λ c. c .before .before .loop .inv .0)
     (λ c.
-    ended _ _ _ _ _ _ _ _ _ _ (no-more _ _ _ _ _ (ne-eqb _ _ (c .if1 .taken))) (c .before .before .loop .inv .2)
+    ended _ _ _ _ _ _ _ _ _ _ _ (no-more _ _ _ _ _ _ (ne-eqb _ _ (c .if1 .taken))) (c .before .before .loop .inv .2)
     (c .before .before .before .number .ensures)))

@@ -24,6 +24,7 @@ decode-spec =
     (λ c κs. search needs)
     (λ c κs. search needs)
     (λ c κs. search needs)
+    (λ c κs. search needs)
     (λ c.
     let c3 = c .before .before .before in
     let c4 = c3 .before in
@@ -37,20 +38,22 @@ decode-spec =
     let c12 = c11 .before in
     let c13 = c12 .before in
     let c14 = c13 .before in
+    let c15 = c14 .before in
     rw (
-      c3 .phase-in .ensures,
-      c4 .byte-at .ensures,
+      c4 .phase-in .ensures,
+      c5 .byte-at .ensures,
+      c3 .byte-at2 .ensures,
       c .before .before .word-in .ensures,
-      c .before .byte-at2 .ensures,
+      c .before .byte-at3 .ensures,
       c .word-in2 .ensures,
-      c13 .places-in .ensures,
-      c14 .tail .ensures,
-      c11 .job-in .ensures,
-      c12 .tail2 .ensures,
-      c9 .cursor-in .ensures,
-      c10 .tail3 .ensures,
-      c7 .frame-in .ensures,
-      c8 .tail4 .ensures,
-      c5 .frame-in2 .ensures,
-      c6 .tail5 .ensures,
+      c14 .places-in .ensures,
+      c15 .tail .ensures,
+      c12 .job-in .ensures,
+      c13 .tail2 .ensures,
+      c10 .cursor-in .ensures,
+      c11 .tail3 .ensures,
+      c8 .frame-in .ensures,
+      c9 .tail4 .ensures,
+      c6 .frame-in2 .ensures,
+      c7 .tail5 .ensures,
     )))

@@ -1,8 +1,8 @@
-//! Blank and almost blank: tails of every length modulo 8, the other half, a whole image, each with any one bit cleared.
+//! Blank and almost blank: tails of every length modulo 8, the other block, a whole image, each with any one bit cleared.
 
 use check::twin::{Call, Twin};
+use model::block::HEADER;
 use model::frame::{self, Id};
-use model::half::HEADER;
 use std::ops::Range;
 use store::{Answer, message};
 
@@ -23,7 +23,7 @@ fn each_bit(twin: &mut Twin, image: &[u8], places: Range<usize>) {
     }
 }
 
-/// A half with one settled object of `size` bytes, beside a blank one.
+/// A block with one settled object of `size` bytes, beside a blank one.
 fn settled(size: usize) -> (Vec<u8>, usize) {
     let mut image = Twin::formatted(LENGTH).image()[..HEADER].to_vec();
     image.extend(frame::settled(Id(1), &vec![0; size]));
@@ -43,7 +43,7 @@ fn tails_of_every_length_modulo_eight() {
 }
 
 #[test]
-fn the_other_half() {
+fn the_other_block() {
     let (image, _) = settled(3);
     let mut twin = Twin::new(&image);
     assert_eq!(twin.whole(&Call::Mount), (Answer::DONE, 0));
@@ -62,5 +62,5 @@ fn a_whole_image() {
             assert!(twin.call(&Call::Mount).answer.refused());
         }
     }
-    assert_eq!(twin.tally.of("mount", Answer::NO_STORE), 3, "blank, and each half in progress");
+    assert_eq!(twin.tally.of("mount", Answer::NO_STORE), 3, "blank, and each block in progress");
 }

@@ -1,18 +1,18 @@
 //! Damage tried systematically.
 
 use check::twin::{Call, Twin};
+use model::block::HEADER;
 use model::frame::{self, Host, Id, LONGEST, VALUE_LIMIT};
-use model::half::HEADER;
 use store::{Answer, Idle, Stretch, message};
 
 const LENGTH: usize = 512;
-/// An image with room for the longest frames, and its half.
+/// An image with room for the longest frames, and its block.
 const LONG: usize = 1_024;
 const S: usize = LONG / 2;
 /// Room for any frame.
 const AMPLE: usize = 300;
 
-/// A half with settled frames, changes of two hosts of which some are committed and some aborted, and pending ones.
+/// A block with settled frames, changes of two hosts of which some are committed and some aborted, and pending ones.
 fn rich() -> Twin {
     let mut twin = Twin::formatted(LENGTH);
     for (host, message) in [
@@ -59,10 +59,10 @@ fn every_single_byte_change() {
     assert!(twin.tally.of("request", Answer::DONE) > LENGTH as u64);
 }
 
-/// The header of a half just formatted: time 1.
+/// The header of a block just formatted: time 1.
 const FORMATTED: [u8; HEADER] = *b"\x10\0\x01\x4A\xFE\xFF\xFF\xFF\xFC\xFF\xFF\xFF\xFF\xFF\xFF\xFF";
 
-/// A half of S bytes that begins with these, beside a blank one.
+/// A block of S bytes that begins with these, beside a blank one.
 fn image_of(start: &[u8]) -> Vec<u8> {
     let mut image = start.to_vec();
     assert!(image.len() <= S);
@@ -70,17 +70,17 @@ fn image_of(start: &[u8]) -> Vec<u8> {
     image
 }
 
-/// A formatted half with one settled object, then `tail` placed so that `room` bytes are left for it.
+/// A formatted block with one settled object, then `tail` placed so that `room` bytes are left for it.
 fn with_tail(tail: &[u8], room: usize) -> Twin {
-    let mut half = FORMATTED.to_vec();
-    half.extend(frame::settled(Id(1), b"kept"));
-    while half.len() < S - room {
-        let left = S - room - half.len();
+    let mut block = FORMATTED.to_vec();
+    block.extend(frame::settled(Id(1), b"kept"));
+    while block.len() < S - room {
+        let left = S - room - block.len();
         let length = if left > LONGEST { (left - 8).min(LONGEST) } else { left };
-        half.extend(frame::put(Host(0), Id(2), &vec![0; length - 8]));
+        block.extend(frame::put(Host(0), Id(2), &vec![0; length - 8]));
     }
-    half.extend(tail);
-    Twin::new(&image_of(&half))
+    block.extend(tail);
+    Twin::new(&image_of(&block))
 }
 
 fn samples() -> Vec<Vec<u8>> {
@@ -169,15 +169,15 @@ fn frames_of_the_longest_value() {
 fn frames_to_the_very_end() {
     let commit = frame::commit(Host(0));
     let mut twin = with_tail(&commit, commit.len());
-    twin.forge(Idle { length: LONG, half: 0, end: S as u16 });
+    twin.forge(Idle { length: LONG, block: 0, end: S as u16, blocks: 2 });
     assert_eq!(twin.ask(1, &message::commit()), Answer::DONE);
     assert_eq!(twin.whole(&Call::Mount), (Answer::DONE, 0));
     assert_eq!(twin.ids(), [1, 2]);
 }
 
 fn mount_of_frames(frames: &[Vec<u8>]) -> Answer {
-    let half = [&FORMATTED[..], &frames.concat()].concat();
-    Twin::new(&image_of(&half)).call(&Call::Mount).answer
+    let block = [&FORMATTED[..], &frames.concat()].concat();
+    Twin::new(&image_of(&block)).call(&Call::Mount).answer
 }
 
 #[test]
@@ -193,9 +193,9 @@ fn settled_frames_stand_first_with_rising_ids() {
     }
 }
 
-/// Of two valid halves the newer is current, even if its tail is torn; the older is erased first.
+/// Of two valid blocks the newer is current, even if its tail is torn; the older is erased first.
 #[test]
-fn two_valid_halves() {
+fn two_valid_blocks() {
     let torn = with_tail(&[6], AMPLE);
     let mut newer = torn.image()[..S].to_vec();
     newer[4] = 0xFD;
@@ -204,28 +204,28 @@ fn two_valid_halves() {
     assert_eq!(twin.step(), Answer::MORE);
     assert_eq!(twin.image()[S..], [0xFF; S]);
     assert_eq!(twin.finish(), (Answer::DONE, 22));
-    let Idle { half, end, .. } = twin.idle().expect("idle");
-    assert_eq!((half, end), (1, 27));
+    let Idle { block, end, .. } = twin.idle().expect("idle");
+    assert_eq!((block, end), (1, 27));
     let outcome = twin.call(&Call::Read { host: 0, message: message::read(1) });
     assert_eq!(outcome.stretch, Stretch { at: S + 22, len: 4 });
 }
 
-/// A half that is foreign but for this byte 8: 0xFE makes it one in progress, 0xFF a blank one.
+/// A block that is foreign but for this byte 8: 0xFE makes it one in progress, 0xFF a blank one.
 fn with_state(state: u8) -> Vec<u8> {
-    let mut half = vec![0xFF; S];
-    half[8] = state;
-    half
+    let mut block = vec![0xFF; S];
+    block[8] = state;
+    block
 }
 
-/// K4: beside a valid half a foreign one is erased, as any that isn't blank; without one it is 3.
+/// K4: beside a valid block a foreign one is erased, as any that isn't blank; without one it is 3.
 #[test]
-fn a_half_of_every_state_beside_another() {
+fn a_block_of_every_state_beside_another() {
     let valid = with_tail(&[], AMPLE).image()[..S].to_vec();
     for state in 0..=255 {
         let other = with_state(state);
         let foreign = state < 0xFE;
-        for halves in [[&valid, &other], [&other, &valid]] {
-            let mut twin = Twin::new(&halves.map(|half| half.clone()).concat());
+        for blocks in [[&valid, &other], [&other, &valid]] {
+            let mut twin = Twin::new(&blocks.map(|block| block.clone()).concat());
             let erase = usize::from(state != 0xFF);
             // U - 5 for a transfer of the settled object: a put of another is pending
             assert_eq!(twin.whole(&Call::Mount), (Answer::DONE, erase + 22), "{state:#04x}");
@@ -243,9 +243,9 @@ fn a_half_of_every_state_beside_another() {
     }
 }
 
-/// Foreign by each header field, by a frame and by its tail, beside a clean half: one step, and it is blank.
+/// Foreign by each header field, by a frame and by its tail, beside a clean block: one step, and it is blank.
 #[test]
-fn a_foreign_half_is_erased_beside_a_valid_one() {
+fn a_foreign_block_is_erased_beside_a_valid_one() {
     let clean = image_of(&[&FORMATTED[..], &frame::settled(Id(1), b"kept")].concat())[..S].to_vec();
     for (at, byte) in
         [(0, 0x11), (1, 1), (2, 3), (3, 0x4B), (8, 0xFD), (9, 0xFE), (15, 0), (16, 0), (17, 1), (S - 1, 0)]
@@ -253,13 +253,13 @@ fn a_foreign_half_is_erased_beside_a_valid_one() {
         let mut foreign = clean.clone();
         foreign[at] = byte;
         assert_eq!(Twin::new(&image_of(&foreign)).call(&Call::Mount).answer, Answer::FOREIGN, "byte {at}");
-        for half in [0, 1] {
-            let mut halves = [clean.clone(), foreign.clone()];
-            halves.rotate_left(half);
-            let mut twin = Twin::new(&halves.concat());
+        for block in [0, 1] {
+            let mut blocks = [clean.clone(), foreign.clone()];
+            blocks.rotate_left(block);
+            let mut twin = Twin::new(&blocks.concat());
             assert_eq!(twin.whole(&Call::Mount), (Answer::DONE, 1), "byte {at}");
-            assert_eq!(twin.idle(), Some(Idle { length: LONG, half: half as u8, end: 27 }));
-            assert_eq!(twin.image()[(1 - half) * S..][..S], [0xFF; S]);
+            assert_eq!(twin.idle(), Some(Idle { length: LONG, block: block as u8, end: 27, blocks: 2 }));
+            assert_eq!(twin.image()[(1 - block) * S..][..S], [0xFF; S]);
             assert_eq!(twin.value(1), Some(b"kept".to_vec()));
         }
     }

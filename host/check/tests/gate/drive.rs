@@ -1,72 +1,94 @@
 //! `next`, its flash step and `made` against `step`; `run` against as many steps. Jobs of every kind and records forged from
-//! them, on images of the record's length and of others. `Twin` compares the same on all its runs.
+//! them, on images of the record's length and of others, of two blocks and of more. `Twin` compares the same on all its runs.
 
 use check::rng::Rng;
 use check::twin::Twin;
-use library::{Driven, Library, RECORD_SIZE, Record, Told};
+use library::{Driven, JOB, Library, RECORD_SIZE, Record, Told};
 use std::collections::BTreeMap;
 use store::{Answer, Head, Store, message};
 
-/// An image and a record, whether they belong together or not.
-type Board = (Vec<u8>, Record);
+/// An image, how many blocks it is said to have, and a record, whether they belong together or not.
+#[derive(Clone, PartialEq)]
+struct Board {
+    image: Vec<u8>,
+    blocks: u8,
+    record: Record,
+}
 
 /// The stages of a job, the record's first byte.
 const STAGES: std::ops::RangeInclusive<u8> = 2..=7;
 
-/// One-byte fields of a job by their place in the record, with values on both sides of what is in range: current half,
-/// halves to erase and their number, two flags, half made, length to append, step, length copied and its next byte.
-const BYTES: [(usize, &[u8]); 11] = [
-    (3, &[0, 0, 1, 1, 2, 255]),
-    (518, &[0, 1, 2, 255]),
-    (519, &[0, 1, 2, 255]),
-    (520, &[0, 1, 2, 3, 255]),
-    (521, &[0, 1, 5]),
-    (522, &[0, 1, 5]),
-    (523, &[0, 0, 1, 1, 2, 255]),
-    (536, &[0, 1, 6, 247, 248, 249, 255]),
-    (537, &[0, 1, 3, 4, 5, 6, 246, 247, 248, 255]),
-    (544, &[0, 1, 7, 247, 248, 249, 255]),
-    (545, &[0, 1, 6, 246, 247, 248, 254, 255]),
+/// Where the record says how many blocks there are.
+const BLOCKS: usize = 6;
+
+/// One-byte fields of a job by their place in the record, with values on both sides of what is in range: current block,
+/// the first two and the last of the blocks to erase and their number, two flags, block made, length to append, step,
+/// length copied and its next byte.
+const BYTES: [(usize, &[u8]); 12] = [
+    (3, &[0, 0, 1, 1, 2, 15, 16, 255]),
+    (JOB.start, &[0, 1, 2, 15, 16, 255]),
+    (JOB.start + 1, &[0, 1, 2, 15, 16, 255]),
+    (JOB.start + 15, &[0, 1, 2, 15, 16, 255]),
+    (JOB.start + 16, &[0, 1, 2, 3, 15, 16, 17, 255]),
+    (JOB.start + 17, &[0, 1, 5]),
+    (JOB.start + 18, &[0, 1, 5]),
+    (JOB.start + 19, &[0, 0, 1, 1, 2, 15, 16, 255]),
+    (JOB.start + 32, &[0, 1, 6, 247, 248, 249, 255]),
+    (JOB.start + 33, &[0, 1, 3, 4, 5, 6, 246, 247, 248, 255]),
+    (JOB.start + 40, &[0, 1, 7, 247, 248, 249, 255]),
+    (JOB.start + 41, &[0, 1, 6, 246, 247, 248, 254, 255]),
 ];
 
-/// Two-byte fields: end, each host's mark, next offset, next id, next frame to copy.
-const WORDS: [usize; 8] = [4, 528, 530, 532, 534, 538, 540, 542];
+/// Two-byte fields: end, then in the job each host's mark, next offset, next id, next frame to copy.
+const WORDS: [usize; 8] = [
+    4,
+    JOB.start + 24,
+    JOB.start + 26,
+    JOB.start + 28,
+    JOB.start + 30,
+    JOB.start + 34,
+    JOB.start + 36,
+    JOB.start + 38,
+];
 
-/// A job of each kind on an image of this length: format, append, append after a transfer, mount with erase and transfer.
-fn jobs(length: usize) -> Vec<Board> {
-    let library = Library::linked();
-    let mut twin = Twin::formatted(length);
-    let mut jobs = vec![(twin.image().to_vec(), library.format(twin.image()).1)];
+/// A job of each kind on an image of so many blocks: format, append, append after a transfer, mount with erase and
+/// transfer.
+fn jobs(blocks: u8, length: usize) -> Vec<Board> {
+    let (library, size) = (Library::linked(), length / usize::from(blocks));
+    let mut twin = Twin::formatted_of(blocks, length);
+    let board = |image: &[u8], record| Board { image: image.to_vec(), blocks, record };
+    let mut jobs = vec![board(twin.image(), library.format(twin.image(), blocks).1)];
     let ask = |image: &[u8], message: &[u8]| {
-        let mut record = library.mount(image).1;
-        assert_eq!(library.request(image, &mut record, 1, message, &mut []), Answer::MORE);
-        (image.to_vec(), record)
+        let mut record = library.mount(image, blocks).1;
+        assert_eq!(library.request(image, blocks, &mut record, 1, message, &mut []), Answer::MORE);
+        board(image, record)
     };
     jobs.push(ask(twin.image(), &message::put(9, &[9; 20])));
-    let value = vec![7; (length / 16).min(200)];
-    while twin.image()[length / 2] == 0xFF {
+    let value = vec![7; (size / 8).min(200)];
+    while twin.image()[size] == 0xFF {
         let transfer = ask(twin.image(), &message::put(2, &value));
         for message in [message::put(1, &value), message::commit(), message::put(2, &value), message::commit()] {
             assert_eq!(twin.serve(1, &message).0, Answer::DONE);
         }
-        if twin.image()[length / 2] != 0xFF {
+        if twin.image()[size] != 0xFF {
             jobs.push(transfer);
         }
     }
     assert_eq!(twin.serve(3, &message::put(3, b"pending")).0, Answer::DONE);
     let mut image = twin.image().to_vec();
     image[8] = 0xFE;
-    jobs.push((image.clone(), library.mount(&image).1));
+    jobs.push(board(&image, library.mount(&image, blocks).1));
     jobs
 }
 
-/// The record with some fields at their limits, in any stage, and now and then other bytes.
-fn forged(rng: &mut Rng, real: &Record, length: usize) -> Record {
-    let mut record = *real;
+/// The board with some fields of its record at their limits, in any stage, and now and then other bytes. Where the record
+/// says another number of blocks, calls are mostly told that one.
+fn forged(rng: &mut Rng, real: &Board) -> Board {
+    let Board { image, mut blocks, mut record } = real.clone();
     if rng.once_in(2) {
         record[0] = 2 + rng.below(6) as u8;
     }
-    let size = (length / 2) as u16;
+    let size = (image.len() / usize::from(blocks)) as u16;
     for (at, bytes) in BYTES {
         if rng.once_in(4) {
             record[at] = rng.pick(bytes);
@@ -81,20 +103,24 @@ fn forged(rng: &mut Rng, real: &Record, length: usize) -> Record {
     for _ in 0..rng.pick(&[0, 0, 1, 5]) {
         record[3 + rng.below(RECORD_SIZE - 3)] = rng.byte();
     }
-    record
+    if rng.once_in(8) {
+        record[BLOCKS] = rng.pick(&[0, 1, 2, 3, 5, 16, 17, 255]);
+        blocks = if rng.once_in(4) { blocks } else { record[BLOCKS] };
+    }
+    Board { image, blocks, record }
 }
 
 /// How often each stage's next step was told with each answer.
 type Seen = BTreeMap<(u8, u8), usize>;
 
 /// What `next` may say beside its answer.
-fn check_told(answer: Answer, told: Told, length: usize) {
+fn check_told(answer: Answer, told: Told, length: usize, blocks: u8) {
     let Told { at, len, byte } = told;
     match answer {
         Answer::PROGRAM => assert!(at < length && len == 1),
         Answer::ERASE => {
-            assert!(at == 0 || at == length / 2);
-            assert_eq!((len, byte), (length / 2, 0xFF));
+            assert_eq!((Some(len), byte), (length.checked_div(usize::from(blocks)), 0xFF));
+            assert!((0..usize::from(blocks)).any(|block| at == block * len));
         }
         Answer::DONE | Answer::STALE => assert_eq!(told, Told::default()),
         other => panic!("next answered {other}"),
@@ -102,13 +128,14 @@ fn check_told(answer: Answer, told: Told, length: usize) {
 }
 
 /// A step and, on a copy, the same told, done and made.
-fn both_ways(library: &Library, (image, record): &mut Board, seen: &mut Seen) -> Answer {
+fn both_ways(library: &Library, board: &mut Board, seen: &mut Seen) -> Answer {
+    let Board { image, blocks, record } = board;
     let (mut flash, mut driven, stage) = (image.clone(), *record, record[0]);
-    let (next, told) = library.next_of(image.len(), record);
-    check_told(next, told, image.len());
+    let (next, told) = library.next_of(image.len(), *blocks, record);
+    check_told(next, told, image.len(), *blocks);
     *seen.entry((stage, next.0)).or_default() += 1;
-    let answer = library.step(image, record);
-    assert_eq!(Driven(Library::linked()).step(&mut flash, &mut driven), answer);
+    let answer = library.step(image, *blocks, record);
+    assert_eq!(Driven(Library::linked()).step(&mut flash, *blocks, &mut driven), answer);
     assert!(flash == *image && driven == *record, "next and made did other than step, stage {stage}");
     match next {
         Answer::PROGRAM | Answer::ERASE => assert!(!answer.refused()),
@@ -118,13 +145,14 @@ fn both_ways(library: &Library, (image, record): &mut Board, seen: &mut Seen) ->
 }
 
 /// Up to so many step calls, and how many flash steps they made.
-fn by_steps(library: &Library, (image, record): &mut Board, most: usize) -> (Answer, usize) {
+fn by_steps(library: &Library, board: &mut Board, most: usize) -> (Answer, usize) {
+    let Board { image, blocks, record } = board;
     if library.head(record) != Head::Job {
         return (Answer::DONE, 0);
     }
     let mut made = 0;
     while made < most {
-        let answer = library.step(image, record);
+        let answer = library.step(image, *blocks, record);
         made += usize::from(!answer.refused());
         if answer != Answer::MORE {
             return (answer, made);
@@ -133,24 +161,28 @@ fn by_steps(library: &Library, (image, record): &mut Board, most: usize) -> (Ans
     (Answer::MORE, made)
 }
 
+fn run(library: &Library, board: &mut Board, most: usize) -> (Answer, usize) {
+    library.run(&mut board.image, board.blocks, &mut board.record, most)
+}
+
 /// Runs with budgets around what the job needs, each from the same board; and runs of 7 up to the end.
 fn check_runs(library: &Library, board: &Board) {
     let (_, exact) = by_steps(library, &mut board.clone(), usize::MAX);
     for most in [0, 1, 2, 7, exact.saturating_sub(1), exact, exact + 1, usize::MAX] {
-        let (mut steps, mut run) = (board.clone(), board.clone());
+        let (mut steps, mut at_once) = (board.clone(), board.clone());
         let expected = by_steps(library, &mut steps, most);
-        assert_eq!(library.run(&mut run.0, &mut run.1, most), expected, "of at most {most} steps");
-        assert!(run == steps, "a run of {most} steps did other than {most} steps");
+        assert_eq!(run(library, &mut at_once, most), expected, "of at most {most} steps");
+        assert!(at_once == steps, "a run of {most} steps did other than {most} steps");
     }
     let (mut whole, mut parts) = (board.clone(), board.clone());
-    let (end, _) = library.run(&mut whole.0, &mut whole.1, usize::MAX);
+    let (end, _) = run(library, &mut whole, usize::MAX);
     let mut made = 0;
-    while let (Answer::MORE, steps) = library.run(&mut parts.0, &mut parts.1, 7) {
+    while let (Answer::MORE, steps) = run(library, &mut parts, 7) {
         assert_eq!(steps, 7);
         made += steps;
     }
     assert!(whole == parts && made <= exact && exact <= made + 7);
-    assert_eq!(library.run(&mut parts.0, &mut parts.1, 7).0, end);
+    assert_eq!(run(library, &mut parts, 7).0, end);
 }
 
 /// Goes on with the job both ways, to its end or so many steps.
@@ -166,9 +198,9 @@ fn walk(library: &Library, mut board: Board, most: usize, seen: &mut Seen) {
 fn jobs_of_every_kind() {
     let library = Library::linked();
     let mut seen = Seen::new();
-    for length in [512, 768, 4_096, 65_536] {
-        for board in jobs(length) {
-            assert_eq!(library.head(&board.1), Head::Job);
+    for (blocks, length) in [(2, 512), (2, 768), (2, 4_096), (2, 65_536), (3, 768), (7, 2_688), (16, 4_096)] {
+        for board in jobs(blocks, length) {
+            assert_eq!(library.head(&board.record), Head::Job);
             check_runs(&library, &board);
             walk(&library, board, usize::MAX, &mut seen);
         }
@@ -183,12 +215,14 @@ fn forged_records() {
     let library = Library::linked();
     let mut rng = Rng::new(6);
     let mut seen = Seen::new();
-    for (length, boards) in [(512, 4_000), (768, 1_000), (65_536, 25)] {
-        let jobs = jobs(length);
+    let kinds = [(2, 512, 3_000), (2, 768, 1_000), (2, 65_536, 25), (3, 768, 1_000), (16, 4_096, 500)];
+    for (blocks, length, boards) in kinds {
+        let jobs = jobs(blocks, length);
         for number in 0..boards {
-            let (image, real) = &jobs[number % jobs.len()];
-            let image = if rng.once_in(8) { rng.bytes(length) } else { image.clone() };
-            let board = (image, forged(&mut rng, real, length));
+            let mut board = forged(&mut rng, &jobs[number % jobs.len()]);
+            if rng.once_in(8) {
+                board.image = rng.bytes(length);
+            }
             check_runs(&library, &board);
             walk(&library, board, 600, &mut seen);
         }
@@ -206,36 +240,57 @@ fn forged_records() {
 fn images_of_other_lengths() {
     let library = Library::linked();
     let mut rng = Rng::new(7);
-    let real = jobs(512).swap_remove(2).1;
+    let real = jobs(2, 512).swap_remove(2);
     let mut seen = Seen::new();
     for length in [1, 2, 3, 17, 18, 255, 256, 511, 513, 65_535, 65_536] {
         for _ in 0..60 {
-            let mut record = forged(&mut rng, &real, length);
-            record[1..3].copy_from_slice(&((length - 1) as u16).to_le_bytes());
-            let board = (rng.bytes(length), record);
+            let other = Board { image: rng.bytes(length), ..real.clone() };
+            let mut board = forged(&mut rng, &other);
+            board.record[1..3].copy_from_slice(&((length - 1) as u16).to_le_bytes());
             check_runs(&library, &board);
             walk(&library, board, 300, &mut seen);
         }
     }
     for length in [0, 1, 256, 510, 511, 513, 514, 768, 65_536, 131_584] {
-        let mut board = (vec![0xFF; length], real);
-        assert_eq!(both_ways(&library, &mut board, &mut seen), Answer::STALE);
-        assert_eq!(library.run(&mut board.0, &mut board.1, 5), (Answer::STALE, 0));
-        assert!(board.1 == real && board.0.iter().all(|byte| *byte == 0xFF), "11 changed something");
+        let other = Board { image: vec![0xFF; length], ..real.clone() };
+        check_stale(&library, &other, &mut seen);
     }
+}
+
+/// 11, and nothing changes.
+fn check_stale(library: &Library, board: &Board, seen: &mut Seen) {
+    let mut after = board.clone();
+    assert_eq!(both_ways(library, &mut after, seen), Answer::STALE);
+    assert_eq!(run(library, &mut after, 5), (Answer::STALE, 0));
+    assert!(after == *board, "11 changed something");
+}
+
+/// A job whose calls are told another number of blocks than its record says.
+#[test]
+fn other_numbers_of_blocks() {
+    let library = Library::linked();
+    let mut seen = Seen::new();
+    for (own, length) in [(2, 768), (3, 768), (16, 4_096)] {
+        for real in jobs(own, length) {
+            for blocks in (0..=255).filter(|blocks| *blocks != own) {
+                check_stale(&library, &Board { blocks, ..real.clone() }, &mut seen);
+            }
+        }
+    }
+    assert!(seen.keys().all(|(_, answer)| *answer == Answer::STALE.0), "{seen:?}");
 }
 
 /// The same record tells the same, whatever the flash holds: a driver may ask again after its step, and before it is made.
 #[test]
 fn next_may_be_asked_again() {
     let library = Library::linked();
-    for (mut image, mut record) in jobs(512) {
+    for Board { mut image, blocks, mut record } in jobs(2, 512).into_iter().chain(jobs(3, 768)) {
         while library.head(&record) == Head::Job {
-            let (answer, told) = library.next_of(image.len(), &record);
+            let (answer, told) = library.next_of(image.len(), blocks, &record);
             library::flash(&mut image, answer, told);
-            assert_eq!(library.next_of(image.len(), &record), (answer, told));
+            assert_eq!(library.next_of(image.len(), blocks, &record), (answer, told));
             library::flash(&mut image, answer, told);
-            assert!(!library.made_on(&image, &mut record).refused());
+            assert!(!library.made_on(&image, blocks, &mut record).refused());
         }
     }
 }

@@ -10,14 +10,14 @@ const S: usize = LENGTH / 2;
 
 fn formatted(library: &Library) -> (Vec<u8>, Record) {
     let mut image = vec![0xFF; LENGTH];
-    let (answer, mut record) = library.format(&image);
+    let (answer, mut record) = library.format(&image, 2);
     assert_eq!(answer, Answer::MORE);
     finish(library, &mut image, &mut record);
     (image, record)
 }
 
 fn finish(library: &Library, image: &mut [u8], record: &mut Record) {
-    while library.step(image, record) == Answer::MORE {}
+    while library.step(image, 2, record) == Answer::MORE {}
     assert!(matches!(library.head(record), Head::Idle(_)));
 }
 
@@ -30,27 +30,27 @@ fn record_buffers_of_another_size() {
         let mut record = vec![1; size];
         let mut reply = [7; 14];
         let answers = [
-            library.mount_into(&image, &mut record),
-            library.format_into(&image, &mut record),
-            library.request_on(&image, &mut record, 0, &message::log(), &mut reply),
-            library.step_on(&mut image, &mut record),
-            library.read_on(&image, &record, 0, &message::read(1)).0,
+            library.mount_into(&image, 2, &mut record),
+            library.format_into(&image, 2, &mut record),
+            library.request_on(&image, 2, &mut record, 0, &message::log(), &mut reply),
+            library.step_on(&mut image, 2, &mut record),
+            library.read_on(&image, 2, &record, 0, &message::read(1)).0,
         ];
         assert_eq!(answers, [Answer::WRONG_RECORD; 5]);
-        assert_eq!(library.next_of(LENGTH, &record), (Answer::WRONG_RECORD, Told::NOTHING));
-        assert_eq!(library.made_on(&image, &mut record), Answer::WRONG_RECORD);
-        assert_eq!(library.run_on(&mut image, &mut record, 9), (Answer::WRONG_RECORD, UNCOUNTED));
+        assert_eq!(library.next_of(LENGTH, 2, &record), (Answer::WRONG_RECORD, Told::NOTHING));
+        assert_eq!(library.made_on(&image, 2, &mut record), Answer::WRONG_RECORD);
+        assert_eq!(library.run_on(&mut image, 2, &mut record, 9), (Answer::WRONG_RECORD, UNCOUNTED));
         assert_eq!((record, reply, &image), (vec![1; size], [7; 14], &before));
     }
 }
 
 /// The calls that go on with a job, on a record that has none.
 fn no_steps(library: &Library, image: &mut [u8], record: &mut Record) {
-    assert_eq!(library.next_of(image.len(), record), (Answer::DONE, Told::default()));
-    assert_eq!(library.made_on(image, record), Answer::DONE);
-    assert_eq!(library.step(image, record), Answer::DONE);
+    assert_eq!(library.next_of(image.len(), 2, record), (Answer::DONE, Told::default()));
+    assert_eq!(library.made_on(image, 2, record), Answer::DONE);
+    assert_eq!(library.step(image, 2, record), Answer::DONE);
     for most in [0, 9] {
-        assert_eq!(library.run(image, record, most), (Answer::DONE, 0));
+        assert_eq!(library.run(image, 2, record, most), (Answer::DONE, 0));
     }
 }
 
@@ -64,14 +64,14 @@ fn records_of_no_phase() {
         let mut record: Record = rng.bytes(RECORD_SIZE).try_into().expect("a record's bytes");
         record[0] = phase;
         let (kept, before) = (record, image.clone());
-        assert_eq!(library.request(&image, &mut record, 0, &message::log(), &mut [0; 14]), Answer::NO_STORE);
-        assert_eq!(library.read(&image, &record, 0, &message::read(1)), (Answer::NO_STORE, Stretch::default()));
+        assert_eq!(library.request(&image, 2, &mut record, 0, &message::log(), &mut [0; 14]), Answer::NO_STORE);
+        assert_eq!(library.read(&image, 2, &record, 0, &message::read(1)), (Answer::NO_STORE, Stretch::default()));
         no_steps(&library, &mut image, &mut record);
         assert!(record == kept && image == before, "phase {phase}");
     }
 }
 
-/// An idle record's first six bytes decide, whatever the others are.
+/// An idle record's first seven bytes decide, whatever the others are.
 #[test]
 fn idle_records_with_other_bytes_set() {
     let library = Library::linked();
@@ -79,12 +79,12 @@ fn idle_records_with_other_bytes_set() {
     let mut rng = Rng::new(2);
     for _ in 0..100 {
         let mut record: Record = rng.bytes(RECORD_SIZE).try_into().expect("a record's bytes");
-        record[..6].copy_from_slice(&tidy[..6]);
+        record[..7].copy_from_slice(&tidy[..7]);
         let kept = record;
         no_steps(&library, &mut image, &mut record);
-        assert_eq!(library.request(&image, &mut record, 0, &message::read(1), &mut []), Answer::NO_OBJECT);
+        assert_eq!(library.request(&image, 2, &mut record, 0, &message::read(1), &mut []), Answer::NO_OBJECT);
         assert!(record == kept);
-        assert_eq!(library.request(&image, &mut record, 2, &message::put(5, b"AB"), &mut []), Answer::MORE);
+        assert_eq!(library.request(&image, 2, &mut record, 2, &message::put(5, b"AB"), &mut []), Answer::MORE);
         let mut copy = image.clone();
         finish(&library, &mut copy, &mut record);
         assert_eq!(copy[16..26], [0x0A, 0, 1, 0, 2, 5, 0, 0x41, 0x42, 0xFE]);
@@ -98,8 +98,8 @@ fn at_most_one_step(before: &[u8], after: &[u8]) -> bool {
         [] => true,
         [at] if after[at] & !before[at] == 0 => true,
         [first, ..] => {
-            let half = first / S * S..first / S * S + S;
-            changed.iter().all(|at| half.contains(at)) && after[half].iter().all(|byte| *byte == 0xFF)
+            let block = first / S * S..first / S * S + S;
+            changed.iter().all(|at| block.contains(at)) && after[block].iter().all(|byte| *byte == 0xFF)
         }
     }
 }
@@ -110,6 +110,7 @@ fn forged_job(rng: &mut Rng, real: &Record) -> Record {
     if rng.once_in(3) {
         record = rng.bytes(RECORD_SIZE).try_into().expect("a record's bytes");
         record[1..3].copy_from_slice(&real[1..3]);
+        record[6] = real[6];
     }
     for _ in 0..rng.below(6) {
         let at = if rng.once_in(2) { rng.below(RECORD_SIZE) } else { JOB.start + rng.below(JOB.len()) };
@@ -122,7 +123,7 @@ fn forged_job(rng: &mut Rng, real: &Record) -> Record {
 fn run_forged(library: &Library, image: &mut [u8], record: &mut Record) -> Answer {
     for _ in 0..65_536 {
         let (before, kept) = (image.to_vec(), *record);
-        let answer = library.step(image, record);
+        let answer = library.step(image, 2, record);
         assert!(at_most_one_step(&before, image), "more than a step");
         match answer {
             Answer::MORE => assert_eq!(library.head(record), Head::Job),
@@ -152,11 +153,11 @@ fn forged_jobs() {
     let image = twin.image().to_vec();
     let mut ends = [0, 0];
     for _ in 0..3_000 {
-        let (mut copy, mut record) = (image.clone(), library.mount(&image).1);
+        let (mut copy, mut record) = (image.clone(), library.mount(&image, 2).1);
         let message = if rng.once_in(2) { message::put(9, &[9; 20]) } else { message::delete(1) };
-        assert_eq!(library.request(&copy, &mut record, 1, &message, &mut []), Answer::MORE);
+        assert_eq!(library.request(&copy, 2, &mut record, 1, &message, &mut []), Answer::MORE);
         let mut record = forged_job(&mut rng, &record);
-        assert_eq!(library.request(&copy, &mut record, 0, &message::log(), &mut [0; 14]), Answer::BUSY);
+        assert_eq!(library.request(&copy, 2, &mut record, 0, &message::log(), &mut [0; 14]), Answer::BUSY);
         let end = run_forged(&library, &mut copy, &mut record);
         ends[usize::from(end == Answer::STALE)] += 1;
     }
@@ -168,10 +169,10 @@ fn forged_jobs_on_the_largest_image_end_in_time() {
     let library = Library::linked();
     let mut rng = Rng::new(5);
     let mut image = vec![0xFF; 65_536];
-    let real = library.format(&image).1;
+    let real = library.format(&image, 2).1;
     for _ in 0..60 {
         let mut record = forged_job(&mut rng, &real);
-        let end = (0..65_536).find(|_| library.step(&mut image, &mut record) != Answer::MORE);
+        let end = (0..65_536).find(|_| library.step(&mut image, 2, &mut record) != Answer::MORE);
         assert!(end.is_some(), "no end within 65,536 steps");
     }
 }
@@ -183,7 +184,7 @@ fn a_job_under_another_image() {
     let mut rng = Rng::new(4);
     for _ in 0..300 {
         let (image, mut record) = formatted(&library);
-        assert_eq!(library.request(&image, &mut record, 1, &message::put(1, b"x"), &mut []), Answer::MORE);
+        assert_eq!(library.request(&image, 2, &mut record, 1, &message::put(1, b"x"), &mut []), Answer::MORE);
         run_forged(&library, &mut rng.bytes(LENGTH), &mut record);
     }
 }
@@ -195,7 +196,7 @@ fn nothing_is_kept_between_calls() {
     let message = |board: usize, id: u8| message::put(id, &[board as u8; 30]);
     let serve = |boards: &mut [(Vec<u8>, Record)], number: usize, id: u8| {
         let (image, record) = &mut boards[number];
-        library.request(image, record, 0, &message(number, id), &mut [])
+        library.request(image, 2, record, 0, &message(number, id), &mut [])
     };
     let mut together = [formatted(&library), formatted(&library)];
     let mut apart = [formatted(&library), formatted(&library)];
@@ -203,7 +204,7 @@ fn nothing_is_kept_between_calls() {
         assert_eq!(serve(&mut together, 0, id), Answer::MORE);
         assert_eq!(serve(&mut together, 1, id), Answer::MORE);
         for _ in 0..38 {
-            together.iter_mut().for_each(|(image, record)| assert!(!library.step(image, record).refused()));
+            together.iter_mut().for_each(|(image, record)| assert!(!library.step(image, 2, record).refused()));
         }
         for number in [0, 1] {
             assert_eq!(serve(&mut apart, number, id), Answer::MORE);

@@ -1,4 +1,4 @@
-//! K4: power lost inside an erase of a transfer or mount. Each bit of the half is then as it was or 1.
+//! K4: power lost inside an erase of a transfer or mount. Each bit of the block is then as it was or 1.
 
 use check::book::{Lists, Objects, found};
 use check::cuts::newest;
@@ -6,8 +6,8 @@ use check::damage;
 use check::raise::{mask, zeros};
 use check::rng::Rng;
 use check::twin::{Call, Twin};
-use model::half::{self, Half};
-use model::half_of;
+use model::block::{self, Block};
+use model::block_of;
 use store::{Answer, Head, Idle, message};
 
 const LENGTH: usize = 512;
@@ -19,56 +19,56 @@ const TIME: std::ops::Range<usize> = 4..8;
 /// An image before an erase, and what a mount must find after a cut inside it.
 pub struct Scene {
     image: Vec<u8>,
-    /// The half to be erased.
-    half: usize,
+    /// The block to be erased.
+    block: usize,
     objects: Objects,
-    /// The time of the half that stays.
+    /// The time of the block that stays.
     time: u32,
-    /// Steps of the mount after its erase: a transfer if the half that stays is dirty.
+    /// Steps of the mount after its erase: a transfer if the block that stays is dirty.
     rest: usize,
 }
 
 impl Scene {
     fn now(twin: &Twin, time: u32, rest: usize) -> Scene {
-        let half = twin.erases_next().expect("the next step is an erase");
+        let block = twin.erases_next().expect("the next step is an erase");
         let objects = [(7, b"seven".to_vec()), (9, vec![])].into();
-        Scene { image: twin.image().to_vec(), half, objects, time, rest }
+        Scene { image: twin.image().to_vec(), block, objects, time, rest }
     }
 
     fn erased(&self) -> &[u8] {
-        half_of(&self.image, self.half)
+        block_of(&self.image, 2, self.block)
     }
 
     pub fn raised(&self, mask: &[u8]) -> Vec<u8> {
         let mut image = self.image.clone();
-        for (byte, bits) in image[self.half * S..][..S].iter_mut().zip(mask) {
+        for (byte, bits) in image[self.block * S..][..S].iter_mut().zip(mask) {
             *byte |= bits;
         }
         image
     }
 
-    /// Mounts what the cut left: the half is erased unless it is blank, and the half that stays counts.
+    /// Mounts what the cut left: the block is erased unless it is blank, and the block that stays counts.
     fn mount(&self, twin: &mut Twin, mask: &[u8]) {
         let image = self.raised(mask);
-        assert_eq!(newest(&image), Some(self.time), "the half that was being erased looks newer");
+        assert_eq!(newest(&image, 2), Some(self.time), "the block that was being erased looks newer");
         twin.load(&image);
-        let blank = half_of(&image, self.half).iter().all(|byte| *byte == 0xFF);
+        let blank = block_of(&image, 2, self.block).iter().all(|byte| *byte == 0xFF);
         let steps = usize::from(!blank) + self.rest;
         assert_eq!(twin.call(&Call::Mount).answer, if steps == 0 { Answer::DONE } else { Answer::MORE });
         if !blank {
-            assert_eq!(twin.erases_next(), Some(self.half));
+            assert_eq!(twin.erases_next(), Some(self.block));
         }
         assert_eq!(twin.finish(), (Answer::DONE, steps));
         self.judge(twin);
     }
 
     fn judge(&self, twin: &mut Twin) {
-        let Idle { half, .. } = twin.idle().expect("idle");
+        let Idle { block, .. } = twin.idle().expect("idle");
         let moved = self.rest > 0;
-        assert_eq!(usize::from(half) == self.half, moved);
-        assert_eq!(newest(twin.image()), Some(self.time + u32::from(moved)));
-        assert_eq!(half_of(twin.image(), 1 - usize::from(half)), [0xFF; S]);
-        assert_eq!(found(half_of(twin.image(), usize::from(half))), (self.objects.clone(), Lists::default()));
+        assert_eq!(usize::from(block) == self.block, moved);
+        assert_eq!(newest(twin.image(), 2), Some(self.time + u32::from(moved)));
+        assert_eq!(block_of(twin.image(), 2, 1 - usize::from(block)), [0xFF; S]);
+        assert_eq!(found(block_of(twin.image(), 2, usize::from(block))), (self.objects.clone(), Lists::default()));
         for (id, value) in &self.objects {
             assert_eq!(twin.value(*id).as_ref(), Some(value));
         }
@@ -85,7 +85,7 @@ fn steps(twin: &mut Twin, count: usize) {
     }
 }
 
-/// Objects 7 and 9 settled in half 0, U being 16 + 12 + 7, then a put pending. Its time is this one.
+/// Objects 7 and 9 settled in block 0, U being 16 + 12 + 7, then a put pending. Its time is this one.
 fn pending(time: u32) -> Twin {
     let mut twin = Twin::formatted(LENGTH);
     let mut image = twin.image().to_vec();
@@ -98,7 +98,7 @@ fn pending(time: u32) -> Twin {
     twin
 }
 
-/// A mount's transfer of 30 steps, up to the erase of half 0.
+/// A mount's transfer of 30 steps, up to the erase of block 0.
 pub fn mount_transfer(time: u32) -> Scene {
     let mut twin = pending(time);
     assert_eq!(twin.call(&Call::Mount).answer, Answer::MORE);
@@ -106,14 +106,14 @@ pub fn mount_transfer(time: u32) -> Scene {
     Scene::now(&twin, time + 1, 0)
 }
 
-/// The same, but for a second mount that is to erase half 0 before anything else.
+/// The same, but for a second mount that is to erase block 0 before anything else.
 fn mount_older(time: u32) -> Scene {
     let mut twin = Twin::new(&mount_transfer(time).image);
     assert_eq!(twin.call(&Call::Mount).answer, Answer::MORE);
     Scene::now(&twin, time + 1, 0)
 }
 
-/// A mount's transfer cut after 20 steps: the next mount is to erase half 1, then makes the transfer.
+/// A mount's transfer cut after 20 steps: the next mount is to erase block 1, then makes the transfer.
 fn mount_in_progress(time: u32) -> Scene {
     let mut twin = pending(time);
     assert_eq!(twin.call(&Call::Mount).answer, Answer::MORE);
@@ -184,7 +184,7 @@ fn every_value_of_a_header_byte() {
     }
 }
 
-/// Time 0x0FFF has twelve zeros in its bytes and the state byte two: all their combinations. The half that stays has
+/// Time 0x0FFF has twelve zeros in its bytes and the state byte two: all their combinations. The block that stays has
 /// 0x1000, of which none is left in the old time.
 #[test]
 fn every_combination_of_time_and_state() {
@@ -196,7 +196,7 @@ fn every_combination_of_time_and_state() {
         let mut mask = [0; S];
         mask[TIME].copy_from_slice(&time.to_le_bytes());
         mask[STATE] = state;
-        let read = half::read(half_of(&scene.raised(&mask), scene.half));
+        let read = block::read(block_of(&scene.raised(&mask), 2, scene.block));
         let expected = match (state, 0x0FFF & !time) {
             (0, 0) => (None, 0),
             (0, left) => (Some(left), 1),
@@ -204,16 +204,16 @@ fn every_combination_of_time_and_state() {
             _ => (None, 3),
         };
         let kind = match read {
-            Half::Blank => panic!("its frames are still there"),
-            Half::Foreign => {
+            Block::Blank => panic!("its frames are still there"),
+            Block::Foreign => {
                 if state == 0 {
                     0
                 } else {
                     3
                 }
             }
-            Half::Valid(_) => 1,
-            Half::InProgress => 2,
+            Block::Valid(_) => 1,
+            Block::InProgress => 2,
         };
         assert_eq!((read.time(), kind), expected, "{bits:#06x}");
         seen[kind] += 1;
@@ -238,10 +238,10 @@ fn cuts_in_the_mounts_after_them() {
             twin.load(&scene.image);
             for mask in &masks[..3] {
                 assert_eq!(twin.call(&Call::Mount).answer, Answer::MORE);
-                assert_eq!(twin.erases_next(), Some(scene.half));
+                assert_eq!(twin.erases_next(), Some(scene.block));
                 twin.cut_erase(mask);
                 assert_eq!(twin.head(), Head::Unmounted);
-                assert_eq!(newest(twin.image()), Some(scene.time));
+                assert_eq!(newest(twin.image(), 2), Some(scene.time));
             }
             assert_eq!(twin.whole(&Call::Mount), (Answer::DONE, 1 + scene.rest));
             scene.judge(&mut twin);
@@ -260,8 +260,8 @@ fn cuts_again_and_again() {
             for _ in 0..20 {
                 assert!(!twin.call(&Call::Mount).answer.refused());
                 match twin.erases_next() {
-                    Some(half) if half == scene.half && !rng.once_in(10) => {
-                        let mask = mask(&mut rng, half_of(twin.image(), half));
+                    Some(block) if block == scene.block && !rng.once_in(10) => {
+                        let mask = mask(&mut rng, block_of(twin.image(), 2, block));
                         twin.cut_erase(&mask);
                     }
                     _ => break,
@@ -274,19 +274,19 @@ fn cuts_again_and_again() {
     }
 }
 
-/// The paper's sentence, of any valid half, also one that no store wrote: its inverted time only gains ones.
+/// The paper's sentence, of any valid block, also one that no store wrote: its inverted time only gains ones.
 #[test]
-fn a_half_erased_half_never_looks_newer() {
+fn a_half_erased_block_never_looks_newer() {
     let mut rng = Rng::new(5);
     let (mut still_valid, mut older) = (0, 0);
     for _ in 0..4_000 {
-        let image = damage::image(&mut rng, LENGTH);
-        for half in [half_of(&image, 0), half_of(&image, 1)] {
-            let Some(time) = half::read(half).time() else { continue };
+        let image = damage::image(&mut rng, 2, LENGTH);
+        for block in [block_of(&image, 2, 0), block_of(&image, 2, 1)] {
+            let Some(time) = block::read(block).time() else { continue };
             for _ in 0..10 {
-                let mask = mask(&mut rng, half);
-                let raised: Vec<u8> = half.iter().zip(mask).map(|(byte, bits)| byte | bits).collect();
-                if let Some(left) = half::read(&raised).time() {
+                let mask = mask(&mut rng, block);
+                let raised: Vec<u8> = block.iter().zip(mask).map(|(byte, bits)| byte | bits).collect();
+                if let Some(left) = block::read(&raised).time() {
                     assert_eq!(left & !time, 0, "{time:#x} became {left:#x}");
                     still_valid += 1;
                     older += u32::from(left < time);
@@ -297,20 +297,20 @@ fn a_half_erased_half_never_looks_newer() {
     assert!(still_valid > 1_000 && older > 100, "{still_valid} still valid, {older} of them older");
 }
 
-/// The old half's value has changed under it, and it is still valid: the half that stays has the true one.
+/// The old block's value has changed under it, and it is still valid: the block that stays has the true one.
 #[test]
-fn a_changed_value_in_a_half_erased_half() {
+fn a_changed_value_in_a_half_erased_block() {
     let scene = mount_transfer(1);
     let mut mask = [0; S];
     mask[16 + 7..16 + 12].fill(0x08);
     let image = scene.raised(&mask);
-    let Half::Valid(old) = half::read(half_of(&image, 0)) else { panic!("the old half is still valid") };
+    let Block::Valid(old) = block::read(block_of(&image, 2, 0)) else { panic!("the old block is still valid") };
     assert_eq!((old.time, &image[16 + 7..16 + 12]), (1, &b"{m~mn"[..]));
     scene.mount(&mut Twin::blank(LENGTH), &mask);
 }
 
-/// The half that stays has the last time. Clean, it is mounted; with a put pending a transfer would be needed: 6, and the old
-/// half stays as the cut left it.
+/// The block that stays has the last time. Clean, it is mounted; with a put pending a transfer would be needed: 6, and the old
+/// block stays as the cut left it.
 #[test]
 fn cuts_at_the_last_time() {
     let (clean, dirty) = (mount_transfer(u32::MAX - 1), put_transfer(u32::MAX - 1));
@@ -326,9 +326,9 @@ fn cuts_at_the_last_time() {
     }
 }
 
-/// Outside a run: of a half that no store wrote, all zeros, a cut erase can leave anything, a newer valid half too.
+/// Outside a run: of a block that no store wrote, all zeros, a cut erase can leave anything, a newer valid block too.
 #[test]
-fn a_foreign_half_that_no_store_wrote() {
+fn a_foreign_block_that_no_store_wrote() {
     let (stays, newer) = (mount_transfer(1).image, mount_transfer(8).image);
     let mut twin = Twin::new(&[&[0; S], &stays[S..]].concat());
     assert_eq!(twin.call(&Call::Mount).answer, Answer::MORE);
@@ -336,5 +336,5 @@ fn a_foreign_half_that_no_store_wrote() {
     twin.cut_erase(&newer[S..]);
     assert_eq!(twin.image(), [&newer[S..], &stays[S..]].concat());
     assert_eq!(twin.whole(&Call::Mount), (Answer::DONE, 1));
-    assert_eq!(twin.idle().map(|idle| idle.half), Some(0));
+    assert_eq!(twin.idle().map(|idle| idle.block), Some(0));
 }

@@ -1,4 +1,4 @@
-//! K5: where a half broke. What is expected stands in document 01's tables; the frames are spelt out by them.
+//! K5: where a block broke. What is expected stands in document 01's tables; the frames are spelt out by them.
 
 use check::fault::agreed;
 use check::rng::Rng;
@@ -19,26 +19,26 @@ pub const SETTLED: [u8; 9] = [9, 0, 5, 0, 5, 0, 0x41, 0x42, 0xFE];
 /// An empty value: the one length that no other kind has.
 pub const EMPTY: [u8; 7] = [7, 0, 5, 0, 6, 0, 0xFE];
 
-/// A half that begins with these bytes.
-pub fn half(parts: &[&[u8]]) -> Vec<u8> {
-    let mut half = parts.concat();
-    assert!(half.len() <= S);
-    half.resize(S, 0xFF);
-    half
+/// A block that begins with these bytes.
+pub fn block(parts: &[&[u8]]) -> Vec<u8> {
+    let mut block = parts.concat();
+    assert!(block.len() <= S);
+    block.resize(S, 0xFF);
+    block
 }
 
 fn blank() -> Vec<u8> {
-    half(&[])
+    block(&[])
 }
 
-/// What is said of a half of these frames beside a blank one. Half 1 is said to be broken just as half 0 is.
+/// What is said of a block of these frames beside a blank one. Block 1 is said to be broken just as block 0 is.
 fn of_frames(frames: &[&[u8]]) -> Option<(Field, usize)> {
-    let half = half(&[&HEADER[..], &frames.concat()]);
-    let (answer, first) = agreed(&[&half[..], &blank()].concat());
-    let (same, second) = agreed(&[&blank()[..], &half].concat());
-    assert_eq!((same, second), (answer, first.map(|fault| Fault { half: 1, ..fault })));
-    let Fault { half, field, place } = first?;
-    assert_eq!((answer, half), (Answer::FOREIGN, 0));
+    let block = block(&[&HEADER[..], &frames.concat()]);
+    let (answer, first) = agreed(&[&block[..], &blank()].concat(), 2);
+    let (same, second) = agreed(&[&blank()[..], &block].concat(), 2);
+    assert_eq!((same, second), (answer, first.map(|fault| Fault { block: 1, ..fault })));
+    let Fault { block, field, place } = first?;
+    assert_eq!((answer, block), (Answer::FOREIGN, 0));
     Some((field, place))
 }
 
@@ -69,13 +69,13 @@ fn of_bytes(field: Field) -> usize {
 fn journals() -> Vec<Vec<u8>> {
     let longer = [14, 0, 5, 0, 255, 0, 9, 0, 5, 0, 7, 0, 0xFF, 0xFE];
     vec![
-        half(&[&HEADER]),
-        half(&[&HEADER, &PUT, &COMMIT]),
-        half(&[&HEADER, &SETTLED, &EMPTY, &DELETE, &ABORT]),
-        half(&[&HEADER, &SETTLED, &longer, &COMMIT]),
-        half(&[&HEADER, &EMPTY, &longer]),
-        half(&[&HEADER, &DELETE, &PUT[..7]]),
-        half(&[&HEADER, &SETTLED, &COMMIT[..5]]),
+        block(&[&HEADER]),
+        block(&[&HEADER, &PUT, &COMMIT]),
+        block(&[&HEADER, &SETTLED, &EMPTY, &DELETE, &ABORT]),
+        block(&[&HEADER, &SETTLED, &longer, &COMMIT]),
+        block(&[&HEADER, &EMPTY, &longer]),
+        block(&[&HEADER, &DELETE, &PUT[..7]]),
+        block(&[&HEADER, &SETTLED, &COMMIT[..5]]),
     ]
 }
 
@@ -87,9 +87,9 @@ fn every_byte_of_short_journals() {
         let written = journal.iter().rposition(|byte| *byte != 0xFF).map_or(0, |last| last + 1).max(16);
         for (at, byte) in (0..written + 12).flat_map(|at| (0..=255).map(move |byte| (at, byte))) {
             let damaged = with(&journal, at, byte);
-            let (_, fault) = agreed(&[&damaged[..], &blank()].concat());
-            if let Some(Fault { half, field, place }) = fault {
-                assert_eq!(half, 0);
+            let (_, fault) = agreed(&[&damaged[..], &blank()].concat(), 2);
+            if let Some(Fault { block, field, place }) = fault {
+                assert_eq!(block, 0);
                 assert!(at >= written || place + of_bytes(field) > at, "byte {at} is {byte}, {field} at {place}");
                 seen.insert(field);
             }
@@ -105,13 +105,13 @@ fn nothing_after_the_bad_field_matters() {
     for journal in journals() {
         for at in 0..60 {
             let mut damaged = with(&journal, at, rng.byte());
-            let (_, Some(fault)) = agreed(&[&damaged[..], &blank()].concat()) else { continue };
+            let (_, Some(fault)) = agreed(&[&damaged[..], &blank()].concat(), 2) else { continue };
             let after = fault.place + of_bytes(fault.field);
             for _ in 0..10.min(S - after) {
                 let later = after + rng.below(S - after);
-                // byte 8 decides whether a half is in progress, whatever else stands there
+                // byte 8 decides whether a block is in progress, whatever else stands there
                 damaged[later] = if later == 8 { 0xFC } else { rng.below(255) as u8 };
-                assert_eq!(agreed(&[&damaged[..], &blank()].concat()), (Answer::FOREIGN, Some(fault)));
+                assert_eq!(agreed(&[&damaged[..], &blank()].concat(), 2), (Answer::FOREIGN, Some(fault)));
             }
         }
     }
@@ -165,9 +165,9 @@ fn each_field_of_each_frame() {
     }
 }
 
-/// The same put at several places: a place counts from the half's start, not from the frame's.
+/// The same put at several places: a place counts from the block's start, not from the frame's.
 #[test]
-fn places_count_from_the_half() {
+fn places_count_from_the_block() {
     let bytes = with(&PUT, 4, 4);
     assert_eq!(of_frames(&[&bytes]), Some((Field::Host, 20)));
     assert_eq!(of_frames(&[&COMMIT, &bytes]), Some((Field::Host, 26)));
@@ -256,7 +256,7 @@ fn a_torn_frame_with_something_behind() {
 
 /// A frame that would not fit has a bad length. Fewer than six bytes hold no frame at all.
 #[test]
-fn frames_at_the_end_of_the_half() {
+fn frames_at_the_end_of_the_block() {
     let filler = frame::put(Host(0), Id(1), &[0; S - 16 - 8 - 10]);
     assert_eq!(behind(&[&filler], &PUT), None);
     assert_eq!(behind(&[&filler], &with(&PUT, 9, 0)), Some((Field::Finish, 9)));
@@ -270,20 +270,20 @@ fn frames_at_the_end_of_the_half() {
     }
 }
 
-/// What is said of an image whose halves are these.
-fn of_halves(halves: [&[u8]; 2]) -> (Answer, Option<Fault>) {
-    agreed(&halves.concat())
+/// What is said of an image whose blocks are these.
+fn of_blocks(blocks: [&[u8]; 2]) -> (Answer, Option<Fault>) {
+    agreed(&blocks.concat(), 2)
 }
 
-fn foreign(half: usize, field: Field, place: usize) -> (Answer, Option<Fault>) {
-    (Answer::FOREIGN, Some(Fault { half, field, place }))
+fn foreign(block: usize, field: Field, place: usize) -> (Answer, Option<Fault>) {
+    (Answer::FOREIGN, Some(Fault { block, field, place }))
 }
 
 /// Fields in address order, each named at its own start, the rest always at 9.
 #[test]
 fn each_field_of_the_header() {
-    let whole = half(&[&HEADER, &PUT, &COMMIT]);
-    for at in 0..16 {
+    let whole = block(&[&HEADER, &PUT, &COMMIT]);
+    for (at, right) in HEADER.into_iter().enumerate() {
         let (field, place) = match at {
             0..2 => (Field::Length, 0),
             2..4 => (Field::Kind, 2),
@@ -294,13 +294,13 @@ fn each_field_of_the_header() {
         for byte in 0..=255 {
             let damaged = with(&whole, at, byte);
             let expected = match (at, byte) {
-                _ if byte == HEADER[at] => (Answer::DONE, None),
+                _ if byte == right => (Answer::DONE, None),
                 (8, 0xFE) => (Answer::NO_STORE, None),
                 (4, 0xFF) => foreign(0, Field::Time, 4),
                 (4..8, _) => (Answer::DONE, None),
                 _ => foreign(0, field, place),
             };
-            assert_eq!(of_halves([&damaged, &blank()]), expected, "byte {at} is {byte:#04x}");
+            assert_eq!(of_blocks([&damaged, &blank()]), expected, "byte {at} is {byte:#04x}");
         }
     }
 }
@@ -308,40 +308,40 @@ fn each_field_of_the_header() {
 /// Of several bad fields the first is named: a time never programmed goes before the state byte, both before the rest.
 #[test]
 fn several_fields_of_the_header() {
-    let whole = half(&[&HEADER, &PUT, &with(&COMMIT, 4, 9)]);
+    let whole = block(&[&HEADER, &PUT, &with(&COMMIT, 4, 9)]);
     let bad = [(0, 17, Field::Length), (2, 2, Field::Kind), (4, 0xFF, Field::Time), (8, 0xF0, Field::State)];
     let bad = [&bad[..], &[(9, 0, Field::Rest)]].concat();
     for first in 0..bad.len() {
         let (place, _, field) = bad[first];
-        let damaged = bad[first..].iter().fold(whole.clone(), |half, (at, byte, _)| with(&half, *at, *byte));
-        assert_eq!(of_halves([&damaged, &blank()]), foreign(0, field, place));
+        let damaged = bad[first..].iter().fold(whole.clone(), |block, (at, byte, _)| with(&block, *at, *byte));
+        assert_eq!(of_blocks([&damaged, &blank()]), foreign(0, field, place));
     }
-    assert_eq!(of_halves([&whole, &blank()]), foreign(0, Field::Host, 30));
+    assert_eq!(of_blocks([&whole, &blank()]), foreign(0, Field::Host, 30));
     for state in [0x00, 0xF8, 0xFD, 0xFF] {
         let without_time = with(&with(&whole, 4, 0xFF), 8, state);
-        assert_eq!(of_halves([&without_time, &blank()]), foreign(0, Field::Time, 4));
-        assert_eq!(of_halves([&with(&whole, 8, state), &blank()]), foreign(0, Field::State, 8));
+        assert_eq!(of_blocks([&without_time, &blank()]), foreign(0, Field::Time, 4));
+        assert_eq!(of_blocks([&with(&whole, 8, state), &blank()]), foreign(0, Field::State, 8));
     }
     // nothing but one byte programmed somewhere: the length was never programmed
-    assert_eq!(of_halves([&blank(), &with(&blank(), 100, 0)]), foreign(1, Field::Length, 0));
+    assert_eq!(of_blocks([&blank(), &with(&blank(), 100, 0)]), foreign(1, Field::Length, 0));
 }
 
-/// Half 0 is named before half 1; a half that is blank or in progress has no fault.
+/// Block 0 is named before block 1; a block that is blank or in progress has no fault.
 #[test]
-fn which_half_is_named() {
-    let (host, rest) = (half(&[&HEADER, &with(&COMMIT, 4, 9)]), half(&[&with(&HEADER, 15, 0)]));
-    assert_eq!(of_halves([&host, &rest]), foreign(0, Field::Host, 20));
-    assert_eq!(of_halves([&rest, &host]), foreign(0, Field::Rest, 9));
+fn which_block_is_named() {
+    let (host, rest) = (block(&[&HEADER, &with(&COMMIT, 4, 9)]), block(&[&with(&HEADER, 15, 0)]));
+    assert_eq!(of_blocks([&host, &rest]), foreign(0, Field::Host, 20));
+    assert_eq!(of_blocks([&rest, &host]), foreign(0, Field::Rest, 9));
     for other in [blank(), with(&host, 8, 0xFE)] {
-        assert_eq!(of_halves([&host, &other]), foreign(0, Field::Host, 20));
-        assert_eq!(of_halves([&other, &rest]), foreign(1, Field::Rest, 9));
-        assert_eq!(of_halves([&other, &other]), (Answer::NO_STORE, None));
+        assert_eq!(of_blocks([&host, &other]), foreign(0, Field::Host, 20));
+        assert_eq!(of_blocks([&other, &rest]), foreign(1, Field::Rest, 9));
+        assert_eq!(of_blocks([&other, &other]), (Answer::NO_STORE, None));
     }
-    // K4: beside a valid half a foreign one is erased
-    let valid = half(&[&HEADER, &SETTLED]);
-    for halves in [[&valid[..], &host], [&host, &valid]] {
-        assert_eq!(of_halves(halves), (Answer::DONE, None));
-        let mut twin = Twin::new(&halves.concat());
+    // K4: beside a valid block a foreign one is erased
+    let valid = block(&[&HEADER, &SETTLED]);
+    for blocks in [[&valid[..], &host], [&host, &valid]] {
+        assert_eq!(of_blocks(blocks), (Answer::DONE, None));
+        let mut twin = Twin::new(&blocks.concat());
         assert_eq!(twin.whole(&Call::Mount), (Answer::DONE, 1));
         assert_eq!(twin.fault(), (Answer::DONE, None));
     }
@@ -349,26 +349,26 @@ fn which_half_is_named() {
 
 #[test]
 fn equal_times() {
-    let [one, other] = [half(&[&HEADER, &SETTLED]), half(&[&HEADER, &PUT[..4]])];
-    for halves in [[&one[..], &other], [&other, &one], [&one, &one]] {
-        assert_eq!(of_halves(halves), foreign(0, Field::Time, 4));
+    let [one, other] = [block(&[&HEADER, &SETTLED]), block(&[&HEADER, &PUT[..4]])];
+    for blocks in [[&one[..], &other], [&other, &one], [&one, &one]] {
+        assert_eq!(of_blocks(blocks), foreign(0, Field::Time, 4));
     }
-    assert_eq!(of_halves([&one, &with(&other, 4, 0xFD)]), (Answer::DONE, None));
+    assert_eq!(of_blocks([&one, &with(&other, 4, 0xFD)]), (Answer::DONE, None));
 }
 
-/// The other refusals of a mount, in their order, and accepted ones: no half, field or place.
+/// The other refusals of a mount, in their order, and accepted ones: no block, field or place.
 #[test]
 fn other_answers() {
     for length in [0, 1, 256, 511, 513, 65_792] {
-        assert_eq!(agreed(&vec![0; length]), (Answer::IMAGE_LENGTH, None));
+        assert_eq!(agreed(&vec![0; length], 2), (Answer::IMAGE_LENGTH, None));
     }
     for length in [512, 768, 65_536] {
-        assert_eq!(agreed(&vec![0xFF; length]), (Answer::NO_STORE, None));
-        assert_eq!(agreed(&vec![0; length]), foreign(0, Field::Length, 0));
+        assert_eq!(agreed(&vec![0xFF; length], 2), (Answer::NO_STORE, None));
+        assert_eq!(agreed(&vec![0; length], 2), foreign(0, Field::Length, 0));
     }
-    let last = |frames: &[u8]| half(&[b"\x10\0\x01\x4A\0\0\0\0", &HEADER[8..], frames]);
-    assert_eq!(of_halves([&last(&PUT), &blank()]), (Answer::WORN, None));
-    assert_eq!(of_halves([&last(&PUT[..1]), &blank()]), (Answer::WORN, None));
-    assert_eq!(of_halves([&blank(), &last(&SETTLED)]), (Answer::DONE, None));
-    assert_eq!(of_halves([&last(&with(&PUT, 4, 4)), &blank()]), foreign(0, Field::Host, 20));
+    let last = |frames: &[u8]| block(&[b"\x10\0\x01\x4A\0\0\0\0", &HEADER[8..], frames]);
+    assert_eq!(of_blocks([&last(&PUT), &blank()]), (Answer::WORN, None));
+    assert_eq!(of_blocks([&last(&PUT[..1]), &blank()]), (Answer::WORN, None));
+    assert_eq!(of_blocks([&blank(), &last(&SETTLED)]), (Answer::DONE, None));
+    assert_eq!(of_blocks([&last(&with(&PUT, 4, 4)), &blank()]), foreign(0, Field::Host, 20));
 }

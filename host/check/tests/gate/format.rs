@@ -1,4 +1,4 @@
-//! K4: a format erases last the valid half, of two the one with the larger time; half 1 if there is none or the times
+//! K4: a format erases last the valid block, of two the one with the larger time; block 1 if there is none or the times
 //! are equal. What a cut between its steps leaves.
 
 use check::book::Objects;
@@ -8,30 +8,30 @@ use store::{Answer, Head, Idle, message};
 
 const LENGTH: usize = 512;
 const S: usize = LENGTH / 2;
-/// The half that a format makes.
+/// The block that a format makes.
 const FORMATTED: [u8; 9] = *b"\x10\0\x01\x4A\xFE\xFF\xFF\xFF\xFC";
 
-/// A half that begins with these bytes.
-fn half(start: &[u8]) -> Vec<u8> {
-    let mut half = start.to_vec();
-    half.resize(S, 0xFF);
-    half
+/// A block that begins with these bytes.
+fn block(start: &[u8]) -> Vec<u8> {
+    let mut block = start.to_vec();
+    block.resize(S, 0xFF);
+    block
 }
 
-/// A half of this time, with some bytes after its header.
+/// A block of this time, with some bytes after its header.
 fn valid(time: u32, tail: &[u8]) -> Vec<u8> {
-    let mut half = half(&FORMATTED);
-    half[4..8].copy_from_slice(&(!time).to_le_bytes());
-    half[16..16 + tail.len()].copy_from_slice(tail);
-    half
+    let mut block = block(&FORMATTED);
+    block[4..8].copy_from_slice(&(!time).to_le_bytes());
+    block[16..16 + tail.len()].copy_from_slice(tail);
+    block
 }
 
-/// Halves of every kind, with the time of the valid ones.
-fn halves() -> [(Vec<u8>, Option<u32>); 11] {
-    let state = |state: u8| half(&[0, 0, 0, 0, 0, 0, 0, 0, state]);
+/// Blocks of every kind, with the time of the valid ones.
+fn blocks() -> [(Vec<u8>, Option<u32>); 11] {
+    let state = |state: u8| block(&[0, 0, 0, 0, 0, 0, 0, 0, state]);
     let valid = |time: u32, tail: &[u8]| (valid(time, tail), Some(time));
     [
-        (half(&[]), None),
+        (block(&[]), None),
         (state(0xFE), None),
         (state(0xFC), None),
         (state(0xFD), None),
@@ -46,7 +46,7 @@ fn halves() -> [(Vec<u8>, Option<u32>); 11] {
     ]
 }
 
-/// The halves' order, by the paper's sentence.
+/// The blocks' order, by the paper's sentence.
 fn order(times: [Option<u32>; 2]) -> [usize; 2] {
     let last = match times {
         [None, None] => 1,
@@ -61,30 +61,30 @@ fn order(times: [Option<u32>; 2]) -> [usize; 2] {
 #[test]
 fn the_order_of_the_erases() {
     let mut seen = [0; 2];
-    for (first, first_time) in halves() {
-        for (second, second_time) in halves() {
+    for (first, first_time) in blocks() {
+        for (second, second_time) in blocks() {
             let mut image = [first.clone(), second.clone()].concat();
             let mut twin = Twin::new(&image);
             assert_eq!(twin.call(&Call::Format).answer, Answer::MORE);
             let order = order([first_time, second_time]);
-            for half in order {
-                assert_eq!(twin.erases_next(), Some(half), "{first_time:?} {second_time:?}");
+            for block in order {
+                assert_eq!(twin.erases_next(), Some(block), "{first_time:?} {second_time:?}");
                 assert_eq!(twin.step(), Answer::MORE);
-                image[half * S..][..S].fill(0xFF);
+                image[block * S..][..S].fill(0xFF);
                 assert_eq!(twin.image(), image);
             }
             assert_eq!(twin.finish(), (Answer::DONE, 10));
-            assert_eq!(twin.image(), [half(&FORMATTED), half(&[])].concat());
-            assert_eq!(twin.head(), Head::Idle(Idle { length: LENGTH, half: 0, end: 16 }));
+            assert_eq!(twin.image(), [block(&FORMATTED), block(&[])].concat());
+            assert_eq!(twin.head(), Head::Idle(Idle { length: LENGTH, block: 0, end: 16, blocks: 2 }));
             seen[order[1]] += 1;
         }
     }
-    // Half 0 is last as one of five valid halves beside six that are not, and where it is newer: 2, torn or not, over 1;
+    // Block 0 is last as one of five valid blocks beside six that are not, and where it is newer: 2, torn or not, over 1;
     // 3 over three; the last time over four.
     assert_eq!(seen, [30 + 2 + 3 + 4, 11 * 11 - 39]);
 }
 
-/// Object 5 settled in this half, and the older half not erased yet. There a put of it stands at 16, or a settled frame.
+/// Object 5 settled in this block, and the older block not erased yet. There a put of it stands at 16, or a settled frame.
 pub fn transferred(current: usize) -> Vec<u8> {
     let mut twin = Twin::formatted(LENGTH);
     for transfer in 0.. {
@@ -106,22 +106,22 @@ pub fn transferred(current: usize) -> Vec<u8> {
     twin.image().to_vec()
 }
 
-/// What may stand beside the current half: the older one whole, half erased in some ways, and erased.
+/// What may stand beside the current block: the older one whole, half erased in some ways, and erased.
 pub fn olders(older: &[u8]) -> Vec<Vec<u8>> {
     let raised = |at: usize, bits: u8| {
-        let mut half = older.to_vec();
-        half[at] |= bits;
-        half
+        let mut block = older.to_vec();
+        block[at] |= bits;
+        block
     };
     // the state byte to 0xFD, 0xFE and 0xFF; the time to 0; a kind; a byte of a value; the header alone left, then nothing
     let mut olders = vec![older.to_vec(), raised(8, 1), raised(8, 2), raised(8, 3), raised(4, 3), raised(2, 0x80)];
     olders.push(raised(23, 0x28));
-    olders.push(half(&older[..16]));
-    olders.push(half(&[]));
+    olders.push(block(&older[..16]));
+    olders.push(block(&[]));
     olders
 }
 
-/// The image with another half beside the current one.
+/// The image with another block beside the current one.
 pub fn beside(image: &[u8], current: usize, other: &[u8]) -> Vec<u8> {
     let mut image = image.to_vec();
     image[(1 - current) * S..][..S].copy_from_slice(other);
@@ -143,13 +143,13 @@ fn a_format_cut_after_each_step() {
                 }
                 let left = twin.image().to_vec();
                 twin.load(&left);
-                let erase = usize::from(cut == 0 && *older != half(&[]));
+                let erase = usize::from(cut == 0 && *older != block(&[]));
                 let expected = match cut {
                     0 | 1 => (Answer::DONE, erase),
                     12 => (Answer::DONE, 0),
                     _ => (Answer::NO_STORE, 0),
                 };
-                assert_eq!(twin.whole(&Call::Mount), expected, "half {current}, {number}, {cut} steps");
+                assert_eq!(twin.whole(&Call::Mount), expected, "block {current}, {number}, {cut} steps");
                 match cut {
                     0 | 1 => assert_eq!((twin.ids(), twin.value(5)), (vec![5], Some(b"AB".to_vec()))),
                     12 => assert_eq!(twin.ids(), []),
@@ -163,7 +163,7 @@ fn a_format_cut_after_each_step() {
 /// The same with every recovery cut in its turn, inside its erases too. No other image is without a store than the seven
 /// that the format's own steps leave.
 #[test]
-fn a_format_cut_anywhere_beside_an_older_half() {
+fn a_format_cut_anywhere_beside_an_older_block() {
     let objects = Objects::from([(5, b"AB".to_vec())]);
     for current in [0, 1] {
         let image = transferred(current);

@@ -18,8 +18,8 @@ fn done(steps: usize) -> (Answer, usize) {
     (Answer::DONE, steps)
 }
 
-fn idle(half: u8, end: usize) -> Head {
-    Head::Idle(Idle { length: LENGTH, half, end: end as u16 })
+fn idle(block: u8, end: usize) -> Head {
+    Head::Idle(Idle { length: LENGTH, block, end: end as u16, blocks: 2 })
 }
 
 fn request(host: u8, message: Vec<u8>) -> Call {
@@ -74,7 +74,7 @@ fn values_of_every_length() {
 /// An empty store has C = 16, and one host is open: a put of 240 bytes makes 16 + 248 + 6 + 14 = 284, one of 212 makes
 /// 256. 1 goes before 7.
 #[test]
-fn room_in_small_halves() {
+fn room_in_small_blocks() {
     let answer = |length: usize, size: usize| Twin::formatted(length).ask(0, &message::put(1, &vec![0; size]));
     assert_eq!(answer(512, 240), Answer::NO_ROOM);
     assert_eq!(answer(512, 213), Answer::NO_ROOM);
@@ -100,7 +100,7 @@ fn room_beside_a_long_value() {
     }
 }
 
-/// The torn frame is dropped and what was settled goes to half 1: U - 5 steps. The whole frame is pending, and dropped too.
+/// The torn frame is dropped and what was settled goes to block 1: U - 5 steps. The whole frame is pending, and dropped too.
 #[test]
 fn a_put_cut_after_each_byte() {
     let settled = [&[0x0B, 0, 5, 0, 1, 0][..], KEPT, &[0xFE]].concat();
@@ -145,7 +145,7 @@ fn a_commit_of_a_long_value_cut_after_each_byte() {
     }
 }
 
-/// Cuts in the put, in its commit, and in the restart that moves the value to half 1 (U = 16 + 247), and in every recovery
+/// Cuts in the put, in its commit, and in the restart that moves the value to block 1 (U = 16 + 247), and in every recovery
 /// from them.
 #[test]
 fn long_values_cut_anywhere() {
@@ -175,7 +175,7 @@ fn long_values_cut_anywhere() {
     }
 }
 
-/// Half 0 of a 2,048-byte image up to byte 1,020: an aborted put, two puts of host 0 and their commit, host 3's put.
+/// Block 0 of a 2,048-byte image up to byte 1,020: an aborted put, two puts of host 0 and their commit, host 3's put.
 fn before_a_transfer() -> Twin {
     let mut twin = Twin::formatted(2 * LENGTH);
     let put = |id: u8| message::put(id, &[id; LONGEST_VALUE]);
@@ -185,7 +185,7 @@ fn before_a_transfer() -> Twin {
     assert_eq!(twin.serve(0, &put(4)), done(LONGEST_FRAME));
     assert_eq!(twin.serve(0, &message::commit()), done(6));
     assert_eq!(twin.serve(3, &put(7)), done(LONGEST_FRAME));
-    assert_eq!(twin.idle(), Some(Idle { length: 2 * LENGTH, half: 0, end: 1_020 }));
+    assert_eq!(twin.idle(), Some(Idle { length: 2 * LENGTH, block: 0, end: 1_020, blocks: 2 }));
     twin
 }
 
@@ -194,7 +194,7 @@ fn before_a_transfer() -> Twin {
 fn a_transfer_of_long_values() {
     let mut twin = before_a_transfer();
     assert_eq!(twin.serve(3, &message::commit()), done(753 + 6));
-    assert_eq!(twin.idle(), Some(Idle { length: 2 * LENGTH, half: 1, end: 764 }));
+    assert_eq!(twin.idle(), Some(Idle { length: 2 * LENGTH, block: 1, end: 764, blocks: 2 }));
     let value = |id: u8| vec![id; LONGEST_VALUE];
     let settled = |id: u8| [&[0xF7, 0, 5, 0, id, 0][..], &value(id), &[0xFE]].concat();
     let put = [&[0xF8, 0, 1, 0, 3, 7, 0][..], &value(7), &[0xFE]].concat();

@@ -1,6 +1,6 @@
-//! Wrong words on where a half broke, each wrong in one thing that K5 says: these images must tell them from the right ones.
+//! Wrong words on where a block broke, each wrong in one thing that K5 says: these images must tell them from the right ones.
 
-use super::fault::{COMMIT, EMPTY, HEADER, PUT, SETTLED, half, with};
+use super::fault::{COMMIT, EMPTY, HEADER, PUT, SETTLED, block, with};
 use library::Library;
 use model::Model;
 use plain::Plain;
@@ -8,40 +8,43 @@ use store::{Fault, Field, Store};
 
 type Said = Option<Fault>;
 
-/// Halves, and what a mount refused with 3 names.
+/// Blocks, and what a mount refused with 3 names.
 fn images() -> Vec<([Vec<u8>; 2], Fault)> {
-    let blank = || half(&[]);
-    let fault = |half, field, place| Fault { half, field, place };
-    let host = half(&[&HEADER, &with(&COMMIT, 4, 4)]);
-    let rest = half(&[&with(&HEADER, 9, 0)]);
+    let blank = || block(&[]);
+    let fault = |block, field, place| Fault { block, field, place };
+    let host = block(&[&HEADER, &with(&COMMIT, 4, 4)]);
+    let rest = block(&[&with(&HEADER, 9, 0)]);
     let last = with(&SETTLED, 4, 255);
-    let no_time = half(&[&with(&with(&HEADER, 4, 0xFF), 8, 0xFD)]);
+    let no_time = block(&[&with(&with(&HEADER, 4, 0xFF), 8, 0xFD)]);
     vec![
-        ([half(&[&HEADER, &PUT, &with(&COMMIT, 2, 6)]), blank()], fault(0, Field::Kind, 28)),
+        ([block(&[&HEADER, &PUT, &with(&COMMIT, 2, 6)]), blank()], fault(0, Field::Kind, 28)),
         ([host.clone(), blank()], fault(0, Field::Host, 20)),
         ([blank(), host.clone()], fault(1, Field::Host, 20)),
         ([host, rest], fault(0, Field::Host, 20)),
-        ([half(&[&HEADER, &last, &SETTLED]), blank()], fault(0, Field::Kind, 27)),
-        ([half(&[&HEADER, &last, &EMPTY]), blank()], fault(0, Field::Length, 25)),
-        ([half(&[&HEADER, &SETTLED[..8]]), blank()], fault(0, Field::Finish, 24)),
+        ([block(&[&HEADER, &last, &SETTLED]), blank()], fault(0, Field::Kind, 27)),
+        ([block(&[&HEADER, &last, &EMPTY]), blank()], fault(0, Field::Length, 25)),
+        ([block(&[&HEADER, &SETTLED[..8]]), blank()], fault(0, Field::Finish, 24)),
         ([no_time, blank()], fault(0, Field::Time, 4)),
-        ([half(&[&HEADER]), half(&[&HEADER, &PUT])], fault(0, Field::Time, 4)),
+        ([block(&[&HEADER]), block(&[&HEADER, &PUT])], fault(0, Field::Time, 4)),
     ]
 }
 
 /// How many of these images it is wrong about.
 fn wrong(said: impl Fn(&[u8]) -> Said) -> usize {
-    images().into_iter().filter(|(halves, fault)| said(&halves.concat()) != Some(*fault)).count()
+    images().into_iter().filter(|(blocks, fault)| said(&blocks.concat()) != Some(*fault)).count()
 }
 
 fn right(image: &[u8]) -> Said {
-    Model.fault(image).1
+    Model.fault(image, 2).1
 }
 
 #[test]
 fn right_stores_are_not_misled() {
     let library = Library::linked();
-    assert_eq!([wrong(right), wrong(|image| Plain.fault(image).1), wrong(|image| library.fault(image).1)], [0; 3]);
+    assert_eq!(
+        [wrong(right), wrong(|image| Plain.fault(image, 2).1), wrong(|image| library.fault(image, 2).1)],
+        [0; 3]
+    );
 }
 
 /// The next field in the order of their numbers, where there is one.
@@ -65,10 +68,10 @@ fn places_counted_from_the_frame() {
 
 /// Wrong where both are foreign, and of equal times.
 #[test]
-fn half_1_named_before_half_0() {
+fn block_1_named_before_block_0() {
     let swapped = |image: &[u8]| {
         let (first, second) = image.split_at(image.len() / 2);
-        right(&[second, first].concat()).map(|fault| Fault { half: 1 - fault.half, ..fault })
+        right(&[second, first].concat()).map(|fault| Fault { block: 1 - fault.block, ..fault })
     };
     assert_eq!(wrong(swapped), 2);
 }
@@ -89,7 +92,7 @@ fn at_the_id_after_settled_id_255() {
 fn the_state_before_the_time() {
     let state = |image: &[u8]| {
         let fault = right(image)?;
-        let early = fault.field == Field::Time && image[fault.half * image.len() / 2 + 8] != 0xFC;
+        let early = fault.field == Field::Time && image[fault.block * image.len() / 2 + 8] != 0xFC;
         Some(if early { Fault { field: Field::State, place: 8, ..fault } } else { fault })
     };
     assert_eq!(wrong(state), 1);

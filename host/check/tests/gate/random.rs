@@ -1,6 +1,6 @@
 //! Random runs and damaged images, fixed seeds. `cargo run --release -p check` makes more rounds of the same.
 
-use check::rounds::{Sum, damaged_images, random_runs};
+use check::rounds::{Sum, images_of_more, images_of_two, runs_of_more, runs_of_two};
 use store::{Answer, Field};
 
 fn seen(sum: &Sum, call: &'static str, answers: &[Answer]) {
@@ -27,23 +27,29 @@ fn seen_values(sum: &Sum) {
     assert!(sum.tally.with_value("request", Answer::MALFORMED, 241) > 0, "no put of 241 bytes was tried");
 }
 
-/// Each half was found broken in each field.
-fn seen_faults(sum: &Sum) {
-    for (half, field) in [0, 1].into_iter().flat_map(|half| Field::ALL.map(|field| (half, field))) {
-        assert!(sum.tally.faults(half, field) > 0, "half {half} never had a bad {field}");
+/// Each block up to this one was found broken in each field.
+fn seen_faults(sum: &Sum, last: usize) {
+    for (block, field) in (0..=last).flat_map(|block| Field::ALL.map(|field| (block, field))) {
+        assert!(sum.tally.faults(block, field) > 0, "block {block} never had a bad {field}");
     }
+}
+
+fn seen_runs(sum: &Sum) {
+    assert!(sum.inside > 1_000, "{} cuts inside an erase", sum.inside);
+    assert_eq!(sum.tally.of("mount", Answer::FOREIGN), 0);
+    seen(sum, "mount", &[0, 2, 6, 255].map(Answer));
+    seen(sum, "request", &[0, 1, 2, 4, 5, 6, 7, 8, 9, 10, 11, 255].map(Answer));
+    seen(sum, "step", &[0, 11, 255].map(Answer));
+    seen(sum, "run", &[0, 11, 255].map(Answer));
+    seen(sum, "read", &[0, 4, 5, 8, 10, 11].map(Answer));
+    seen_faults(sum, 1);
 }
 
 fn runs_of(rounds: std::ops::Range<u64>) {
     let mut sum = Sum::default();
-    rounds.for_each(|round| random_runs(round, &mut sum));
-    assert!(sum.inside > 1_000, "{} cuts inside an erase", sum.inside);
-    assert_eq!(sum.tally.of("mount", Answer::FOREIGN), 0);
-    seen(&sum, "mount", &[0, 2, 6, 255].map(Answer));
-    seen(&sum, "request", &[0, 1, 2, 5, 6, 7, 8, 9, 10, 255].map(Answer));
-    seen(&sum, "run", &[0, 255].map(Answer));
+    rounds.for_each(|round| runs_of_two(round, &mut sum));
+    seen_runs(&sum);
     seen_values(&sum);
-    seen_faults(&sum);
 }
 
 #[test]
@@ -57,12 +63,31 @@ fn runs_of_later_rounds() {
 }
 
 #[test]
+fn runs_of_more_blocks() {
+    let mut sum = Sum::default();
+    runs_of_more(0, &mut sum);
+    seen_runs(&sum);
+}
+
+fn seen_images(sum: &Sum) {
+    seen(sum, "mount", &[0, 2, 3, 6, 255].map(Answer));
+    seen(sum, "request", &[0, 1, 2, 6, 7, 8, 9, 10, 11, 255].map(Answer));
+    seen(sum, "read", &[0, 1, 2, 8, 10, 11].map(Answer));
+}
+
+#[test]
 fn images_of_first_rounds() {
     let mut sum = Sum::default();
-    (0..2).for_each(|round| damaged_images(round, &mut sum));
-    seen(&sum, "mount", &[0, 2, 3, 6, 255].map(Answer));
-    seen(&sum, "request", &[0, 1, 2, 6, 7, 8, 9, 10, 11, 255].map(Answer));
-    seen(&sum, "read", &[0, 1, 2, 8, 10, 11].map(Answer));
+    (0..2).for_each(|round| images_of_two(round, &mut sum));
+    seen_images(&sum);
     seen_values(&sum);
-    seen_faults(&sum);
+    seen_faults(&sum, 1);
+}
+
+#[test]
+fn images_of_more_blocks() {
+    let mut sum = Sum::default();
+    (0..2).for_each(|round| images_of_more(round, &mut sum));
+    seen_images(&sum);
+    seen_faults(&sum, 2);
 }

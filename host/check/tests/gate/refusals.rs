@@ -9,7 +9,7 @@ fn formatted() -> Twin {
     Twin::formatted(LENGTH)
 }
 
-/// A store whose half has this creation time.
+/// A store whose block has this creation time.
 fn formatted_at(time: u32) -> Twin {
     let mut twin = formatted();
     let mut image = twin.image().to_vec();
@@ -27,7 +27,7 @@ fn in_a_job() -> Twin {
 /// A record that the image does not bear out.
 fn misplaced() -> Twin {
     let mut twin = formatted();
-    twin.forge(Idle { length: LENGTH, half: 0, end: 17 });
+    twin.forge(Idle { length: LENGTH, block: 0, end: 17, blocks: 2 });
     twin
 }
 
@@ -92,7 +92,7 @@ fn unmounted() {
 fn a_record_that_is_not_the_images_goes_before_the_message() {
     let messages =
         [message::put(2, b"y"), message::read(1), message::log(), message::commit(), MALFORMED.to_vec()];
-    let record = |length, half, end| Idle { length, half, end };
+    let record = |length, block, end| Idle { length, block, end, blocks: 2 };
     let wrong = [
         record(768, 0, 16),
         record(511, 0, 16),
@@ -152,7 +152,7 @@ fn an_image_without_room_for_the_commits() {
         let frames = [put(0, 64), put(0, 64), put(second_host, 64), put(0, 7)].concat();
         image[16..16 + frames.len()].copy_from_slice(&frames);
         let mut twin = Twin::new(&image);
-        twin.forge(Idle { length: LENGTH, half: 0, end: 16 + frames.len() as u16 });
+        twin.forge(Idle { length: LENGTH, block: 0, end: 16 + frames.len() as u16, blocks: 2 });
         assert_eq!(twin.ask(0, &message::commit()), expected);
     }
 }
@@ -254,7 +254,7 @@ fn a_transfer_at_the_last_time() {
     for id in [1, 2] {
         assert_eq!(twin.serve(0, &message::put(id, &[])), (Answer::DONE, 8));
     }
-    assert_eq!(twin.head(), Head::Idle(Idle { length: LENGTH, half: 0, end: 248 }));
+    assert_eq!(twin.head(), Head::Idle(Idle { length: LENGTH, block: 0, end: 248, blocks: 2 }));
     assert_eq!(twin.serve(0, &message::commit()), (Answer::DONE, 6));
     assert_eq!(refusal(&mut twin, 0, &message::delete(1), 0), Answer::WORN);
     assert_eq!(refusal(&mut twin, 0, &message::put(1, &[7; 64]), 0), Answer::WORN);
@@ -290,7 +290,7 @@ fn mount_at_the_last_time() {
     assert_eq!(twin.whole(&Call::Format), (Answer::DONE, 12));
 }
 
-/// The other half would have to be erased: 6 comes first and nothing is.
+/// The other block would have to be erased: 6 comes first and nothing is.
 #[test]
 fn mount_at_the_last_time_erases_nothing() {
     let mut image = formatted_at(u32::MAX).image().to_vec();
@@ -301,9 +301,9 @@ fn mount_at_the_last_time_erases_nothing() {
     assert_eq!((twin.image(), twin.head()), (&image[..], Head::Unmounted));
 }
 
-/// A foreign half beside the valid one does not make it 3 (K4), so it is 6, and nothing is erased.
+/// A foreign block beside the valid one does not make it 3 (K4), so it is 6, and nothing is erased.
 #[test]
-fn mount_at_the_last_time_beside_a_foreign_half() {
+fn mount_at_the_last_time_beside_a_foreign_block() {
     let mut image = formatted_at(u32::MAX).image().to_vec();
     image[256..].fill(0);
     let mut twin = Twin::new(&image);
@@ -314,14 +314,14 @@ fn mount_at_the_last_time_beside_a_foreign_half() {
     assert_eq!((twin.image(), twin.head()), (&image[..], Head::Unmounted));
 }
 
-/// Two valid halves of the last time, one torn: 3 goes before 6.
+/// Two valid blocks of the last time, one torn: 3 goes before 6.
 #[test]
 fn equal_times_go_before_the_last_time() {
-    let half = formatted_at(u32::MAX).image()[..256].to_vec();
-    let mut torn = half.clone();
+    let block = formatted_at(u32::MAX).image()[..256].to_vec();
+    let mut torn = block.clone();
     torn[16] = 6;
-    assert_eq!(mount_of(&half, &torn), Answer::FOREIGN);
-    assert_eq!(mount_of(&torn, &half), Answer::FOREIGN);
+    assert_eq!(mount_of(&block, &torn), Answer::FOREIGN);
+    assert_eq!(mount_of(&torn, &block), Answer::FOREIGN);
     assert_eq!(mount_of(&torn, &torn), Answer::FOREIGN);
 }
 
@@ -333,7 +333,7 @@ fn mount_of(first: &[u8], second: &[u8]) -> Answer {
 }
 
 #[test]
-fn mount_without_a_store_and_with_a_foreign_half() {
+fn mount_without_a_store_and_with_a_foreign_block() {
     let blank = [0xFF; 256];
     let valid = formatted().image()[..256].to_vec();
     let newer = formatted_at(2).image()[..256].to_vec();

@@ -55,15 +55,15 @@ fn empty_put_to_4() -> Vec<u8> {
     message::put(4, &[])
 }
 
-fn idle(half: u8, end: u16) -> Head {
-    Head::Idle(Idle { length: 2 * S, half, end })
+fn idle(block: u8, end: u16) -> Head {
+    Head::Idle(Idle { length: 2 * S, block, end, blocks: 2 })
 }
 
-/// A half that begins with these bytes and is 0xFF after them.
-fn half(start: &str) -> Vec<u8> {
-    let mut half = bytes(start);
-    half.resize(S, 0xFF);
-    half
+/// A block that begins with these bytes and is 0xFF after them.
+fn block(start: &str) -> Vec<u8> {
+    let mut block = bytes(start);
+    block.resize(S, 0xFF);
+    block
 }
 
 /// Power cut and mount: answer and steps.
@@ -86,21 +86,21 @@ fn a_format() {
         assert_eq!(twin.step(), Answer::MORE);
     }
     assert_eq!(twin.step(), Answer::DONE);
-    assert_eq!(twin.image(), [half(EMPTY), half("")].concat());
+    assert_eq!(twin.image(), [block(EMPTY), block("")].concat());
     assert_eq!(twin.head(), idle(0, 16));
 }
 
 #[test]
 fn b_put() {
     let twin = after_b();
-    assert_eq!(twin.image(), [half(WITH_B), half("")].concat());
+    assert_eq!(twin.image(), [block(WITH_B), block("")].concat());
     assert_eq!(twin.head(), idle(0, 26));
 }
 
 #[test]
 fn c_commit() {
     let twin = after_c();
-    assert_eq!(twin.image(), [half(WITH_C), half("")].concat());
+    assert_eq!(twin.image(), [block(WITH_C), block("")].concat());
     assert_eq!(twin.head(), idle(0, 32));
 }
 
@@ -126,7 +126,7 @@ fn e_log() {
 fn f_cut_with_a_put_pending() {
     let mut twin = after_b();
     assert_eq!(cut_and_mount(&mut twin), done(11));
-    assert_eq!(twin.image(), [half(""), half("10 00 01 4A FD FF FF FF FC")].concat());
+    assert_eq!(twin.image(), [block(""), block("10 00 01 4A FD FF FF FF FC")].concat());
     assert_eq!(twin.head(), idle(1, 16));
     assert_eq!(twin.log()[4..10], [2, 0, 0, 0, 0, 0]);
     assert_eq!(twin.ids(), []);
@@ -188,11 +188,11 @@ fn l_put_with_a_transfer() {
     let header = bytes("10 00 01 4A FD FF FF FF FC FF FF FF FF FF FF FF");
     let mut written = [header, settled(2), settled(3), bytes("08 00 01 00 00 04 00 FE")].concat();
     written.resize(S, 0xFF);
-    assert_eq!(twin.image(), [half(""), written].concat());
+    assert_eq!(twin.image(), [block(""), written].concat());
 }
 
 #[test]
-fn m_cut_before_and_after_the_new_half_counts() {
+fn m_cut_before_and_after_the_new_block_counts() {
     for cut in [151, 152] {
         let mut twin = before_l();
         assert_eq!(twin.ask(0, &empty_put_to_4()), Answer::MORE);
@@ -227,7 +227,7 @@ fn o_value_limits() {
     let mut twin = Twin::formatted(1_024);
     assert_eq!(twin.ask(0, &message::put(9, &value)), Answer::MORE);
     assert_eq!(twin.finish(), done(248));
-    assert_eq!(twin.head(), Head::Idle(Idle { length: 1_024, half: 0, end: 264 }));
+    assert_eq!(twin.head(), Head::Idle(Idle { length: 1_024, block: 0, end: 264, blocks: 2 }));
     let frame = [&bytes("F8 00 01 00 00 09 00")[..], &value, &[0xFE]].concat();
     assert_eq!(twin.image()[16..264], frame);
 

@@ -2,8 +2,8 @@
 
 use check::cuts::{Allowed, Cuts, Start};
 use check::twin::{Call, Twin};
-use model::half::{self, Half};
-use model::half_of;
+use model::block::{self, Block};
+use model::block_of;
 use store::{Answer, Idle, message};
 
 const LENGTH: usize = 512;
@@ -88,11 +88,11 @@ fn a_put_of_0xff_cut_anywhere() {
 }
 
 #[test]
-fn one_half_is_valid_after_every_step_of_a_transfer() {
+fn one_block_is_valid_after_every_step_of_a_transfer() {
     let mut twin = before_a_transfer();
     assert_eq!(twin.ask(0, &message::put(1, &[2; 64])), Answer::MORE);
     while twin.busy() {
-        let valid = |half| matches!(half::read(half_of(twin.image(), half)), Half::Valid(_));
+        let valid = |block| matches!(block::read(block_of(twin.image(), 2, block)), Block::Valid(_));
         assert!(valid(0) || valid(1));
         assert!(!twin.step().refused());
     }
@@ -117,7 +117,7 @@ fn the_time_is_inverted() {
     for time in 2..=300u32 {
         put(&mut twin, 0, 1, b"x");
         assert_eq!(cut_and_mount(&mut twin), done(11));
-        let base = S * usize::from(twin.idle().expect("idle").half);
+        let base = S * usize::from(twin.idle().expect("idle").block);
         assert_eq!(twin.image()[base + 4..base + 8], (!time).to_le_bytes());
     }
     let mut image = twin.image().to_vec();
@@ -126,7 +126,7 @@ fn the_time_is_inverted() {
     older[5] = 0xFF;
     twin.load(&image);
     assert_eq!(twin.whole(&Call::Mount), done(1));
-    assert_eq!(twin.idle(), Some(Idle { length: LENGTH, half: 1, end: 16 }));
+    assert_eq!(twin.idle(), Some(Idle { length: LENGTH, block: 1, end: 16, blocks: 2 }));
 }
 
 #[test]
@@ -141,7 +141,7 @@ fn an_abort_drops_its_hosts_changes_only() {
     assert_eq!(twin.value(1), Some(b"one".to_vec()));
 }
 
-/// Commits decide, not puts: the value that stands lower in the half is the one read.
+/// Commits decide, not puts: the value that stands lower in the block is the one read.
 #[test]
 fn the_later_commit_wins_over_the_later_put() {
     let mut twin = Twin::formatted(LENGTH);
@@ -182,7 +182,7 @@ fn an_empty_value() {
 fn pending_changes_go_over_a_transfer() {
     let mut twin = before_a_transfer();
     assert_eq!(twin.serve(0, &message::put(1, &[2; 64])), done(71 + 72));
-    assert_eq!(twin.idle(), Some(Idle { length: LENGTH, half: 1, end: 148 }));
+    assert_eq!(twin.idle(), Some(Idle { length: LENGTH, block: 1, end: 148, blocks: 2 }));
 
     let settled_7 = [&[0x0C, 0, 5, 0, 7, 0][..], b"seven", &[0xFE]].concat();
     let settled_9 = vec![0x07, 0, 5, 0, 9, 0, 0xFE];
@@ -243,7 +243,7 @@ fn a_format_cut_anywhere() {
     let mut twin = before_a_transfer();
     let objects = [(7, b"seven".to_vec()), (9, vec![])].into();
     for current in [0, 1] {
-        assert_eq!(twin.idle().map(|idle| idle.half), Some(current));
+        assert_eq!(twin.idle().map(|idle| idle.block), Some(current));
         let image = twin.image().to_vec();
         let start = Start { image: &image, idle: None, call: &Call::Format };
         let mut cuts = Cuts::everywhere(LENGTH);

@@ -3,44 +3,55 @@
 use super::erase::{Scene, mount_transfer};
 use super::format::{beside, olders, transferred};
 use library::Library;
-use model::half::{self, Half};
-use model::{Model, Record, half_of};
+use model::block::{self, Block};
+use model::{Model, Record, block_of};
 use plain::Plain;
 use store::{Answer, Fault, Head, Idle, Store, Stretch, message};
 
-type Begun = (Answer, Record);
+pub type Begun = (Answer, Record);
+type Ask = fn(&[u8], u8, &mut Record, u8, &[u8], &mut [u8]) -> Answer;
 
-/// The model with another mount or format.
-struct Altered {
-    mount: fn(&[u8]) -> Begun,
-    format: fn(&[u8]) -> Begun,
+/// The model with another mount, format, request or step.
+pub struct Altered {
+    pub mount: fn(&[u8], u8) -> Begun,
+    pub format: fn(&[u8], u8) -> Begun,
+    pub request: Ask,
+    pub step: fn(&mut [u8], u8, &mut Record) -> Answer,
 }
 
 impl Store for Altered {
     type Record = Record;
 
-    fn mount(&self, image: &[u8]) -> Begun {
-        (self.mount)(image)
+    fn mount(&self, image: &[u8], blocks: u8) -> Begun {
+        (self.mount)(image, blocks)
     }
 
-    fn fault(&self, image: &[u8]) -> (Answer, Option<Fault>) {
-        Model.fault(image)
+    fn fault(&self, image: &[u8], blocks: u8) -> (Answer, Option<Fault>) {
+        Model.fault(image, blocks)
     }
 
-    fn format(&self, image: &[u8]) -> Begun {
-        (self.format)(image)
+    fn format(&self, image: &[u8], blocks: u8) -> Begun {
+        (self.format)(image, blocks)
     }
 
-    fn request(&self, image: &[u8], record: &mut Record, host: u8, message: &[u8], reply: &mut [u8]) -> Answer {
-        Model.request(image, record, host, message, reply)
+    fn request(
+        &self,
+        image: &[u8],
+        blocks: u8,
+        record: &mut Record,
+        host: u8,
+        message: &[u8],
+        reply: &mut [u8],
+    ) -> Answer {
+        (self.request)(image, blocks, record, host, message, reply)
     }
 
-    fn step(&self, image: &mut [u8], record: &mut Record) -> Answer {
-        Model.step(image, record)
+    fn step(&self, image: &mut [u8], blocks: u8, record: &mut Record) -> Answer {
+        (self.step)(image, blocks, record)
     }
 
-    fn read(&self, image: &[u8], record: &Record, host: u8, message: &[u8]) -> (Answer, Stretch) {
-        Model.read(image, record, host, message)
+    fn read(&self, image: &[u8], blocks: u8, record: &Record, host: u8, message: &[u8]) -> (Answer, Stretch) {
+        Model.read(image, blocks, record, host, message)
     }
 
     fn unmounted(&self) -> Record {
@@ -56,39 +67,50 @@ impl Store for Altered {
     }
 }
 
-const RIGHT: Altered = Altered { mount: |image| Model.mount(image), format: |image| Model.format(image) };
+pub const RIGHT: Altered = Altered {
+    mount: |image, blocks| Model.mount(image, blocks),
+    format: |image, blocks| Model.format(image, blocks),
+    request: |image, blocks, record, host, message, reply| {
+        Model.request(image, blocks, record, host, message, reply)
+    },
+    step: |image, blocks, record| Model.step(image, blocks, record),
+};
 
-fn halves(image: &[u8]) -> [Half; 2] {
-    [0, 1].map(|half| half::read(half_of(image, half)))
+fn both(image: &[u8]) -> [Block; 2] {
+    [0, 1].map(|block| block::read(block_of(image, 2, block)))
 }
 
-/// As before K4: any foreign half is 3.
-fn mount_that_refuses(image: &[u8]) -> Begun {
-    if halves(image).contains(&Half::Foreign) { (Answer::FOREIGN, Record::Unmounted) } else { Model.mount(image) }
-}
-
-/// Of two valid halves the older is current, as if times were stored as they are.
-fn mount_of_the_older(image: &[u8]) -> Begun {
-    let mut seen = image.to_vec();
-    if let [Half::Valid(first), Half::Valid(second)] = halves(image) {
-        let newer = usize::from(second.time > first.time);
-        seen[newer * image.len() / 2 + half::STATE] = half::IN_PROGRESS;
+/// As before K4: any foreign block is 3.
+fn mount_that_refuses(image: &[u8], blocks: u8) -> Begun {
+    if both(image).contains(&Block::Foreign) {
+        (Answer::FOREIGN, Record::Unmounted)
+    } else {
+        Model.mount(image, blocks)
     }
-    Model.mount(&seen)
 }
 
-/// As before K4: half 0 first, whatever it holds.
-fn format_in_number_order(image: &[u8]) -> Begun {
-    Model.format(&vec![0xFF; image.len()])
+/// Of two valid blocks the older is current, as if times were stored as they are.
+fn mount_of_the_older(image: &[u8], blocks: u8) -> Begun {
+    let mut seen = image.to_vec();
+    if let [Block::Valid(first), Block::Valid(second)] = both(image) {
+        let newer = usize::from(second.time > first.time);
+        seen[newer * image.len() / 2 + block::STATE] = block::IN_PROGRESS;
+    }
+    Model.mount(&seen, blocks)
+}
+
+/// As before K4: block 0 first, whatever it holds.
+fn format_in_number_order(image: &[u8], blocks: u8) -> Begun {
+    Model.format(&vec![0xFF; image.len()], blocks)
 }
 
 /// The value of an object after a restart and all its steps, or the refusal.
 fn restart<S: Store>(store: &S, image: &mut [u8], id: u8) -> Result<Vec<u8>, Answer> {
-    let (mut answer, mut record) = store.mount(image);
+    let (mut answer, mut record) = store.mount(image, 2);
     while answer == Answer::MORE {
-        answer = store.step(image, &mut record);
+        answer = store.step(image, 2, &mut record);
     }
-    match store.read(image, &record, 0, &message::read(id)) {
+    match store.read(image, 2, &record, 0, &message::read(id)) {
         _ if answer.refused() => Err(answer),
         (Answer::DONE, stretch) => Ok(stretch.of(image).to_vec()),
         (refusal, _) => Err(refusal),
@@ -107,15 +129,15 @@ fn wrong_restarts<S: Store>(store: &S) -> usize {
     images.into_iter().filter(|image| restart(store, &mut image.clone(), 7) != Ok(b"seven".to_vec())).count()
 }
 
-/// How many formats, cut after their first step beside a half-erased older half, leave other objects than the old ones.
+/// How many formats, cut after their first step beside a half-erased older block, leave other objects than the old ones.
 fn wrong_formats<S: Store>(store: &S) -> usize {
     let mut wrong = 0;
     for current in [0, 1] {
         let image = transferred(current);
-        for older in olders(half_of(&image, 1 - current)) {
+        for older in olders(block_of(&image, 2, 1 - current)) {
             let mut image = beside(&image, current, &older);
-            let (answer, mut record) = store.format(&image);
-            assert_eq!((answer, store.step(&mut image, &mut record)), (Answer::MORE, Answer::MORE));
+            let (answer, mut record) = store.format(&image, 2);
+            assert_eq!((answer, store.step(&mut image, 2, &mut record)), (Answer::MORE, Answer::MORE));
             wrong += usize::from(restart(store, &mut image, 5) != Ok(b"AB".to_vec()));
         }
     }
@@ -129,20 +151,20 @@ fn right_stores_pass() {
     assert_eq!((wrong_restarts(&RIGHT), wrong_formats(&RIGHT)), (0, 0));
 }
 
-/// State byte 0xFD, time 0 and a wrong kind make the old half foreign.
+/// State byte 0xFD, time 0 and a wrong kind make the old block foreign.
 #[test]
-fn a_store_that_refuses_a_half_erased_half() {
+fn a_store_that_refuses_a_half_erased_block() {
     assert_eq!(wrong_restarts(&Altered { mount: mount_that_refuses, ..RIGHT }), 3);
 }
 
-/// The old half is still valid with its first put's length or value raised: to 77, a torn tail and no object, or to "{even".
+/// The old block is still valid with its first put's length or value raised: to 77, a torn tail and no object, or to "{even".
 #[test]
-fn a_store_that_takes_the_old_half_for_the_newer() {
+fn a_store_that_takes_the_old_block_for_the_newer() {
     assert_eq!(wrong_restarts(&Altered { mount: mount_of_the_older, ..RIGHT }), 2);
 }
 
-/// With half 0 current, no older half is left to find in its place, or one with another value.
+/// With block 0 current, no older block is left to find in its place, or one with another value.
 #[test]
-fn a_format_that_erases_the_valid_half_first() {
+fn a_format_that_erases_the_valid_block_first() {
     assert_eq!(wrong_formats(&Altered { format: format_in_number_order, ..RIGHT }), 8);
 }

@@ -1,6 +1,6 @@
 //! Ticket 1: a log request with a bad length.
 
-use super::{Checked, formatted, found, read, serve};
+use super::{BLOCKS, Checked, formatted, found, read, serve};
 use crate::board::Board;
 use crate::picture::picture;
 use crate::say::grouped;
@@ -16,7 +16,11 @@ pub fn tell<S: Store>(store: &S, checked: &mut Checked, out: &mut impl Write) ->
     writeln!(out, "hosts could not reach their drives.\n")?;
     let mut board = formatted(store);
     serve(&mut board, 0, &message::put(5, b"AB"));
-    writeln!(out, "Host 0 has put object 5 = \"AB\" and not yet committed it:\n\n{}", picture(&board.image))?;
+    writeln!(
+        out,
+        "Host 0 has put object 5 = \"AB\" and not yet committed it:\n\n{}",
+        picture(&board.image, BLOCKS)
+    )?;
 
     assert_eq!(refuse(&mut board, &BAD), Answer::MALFORMED);
     writeln!(out, "Host 2 asks for log page 1 with {}: five bytes that say they are six.", hex::show(&BAD))?;
@@ -29,7 +33,7 @@ pub fn tell<S: Store>(store: &S, checked: &mut Checked, out: &mut impl Write) ->
     writeln!(out, "Host 0 commits. Host 2 sends its bad request again before each of the {steps} steps.")?;
     writeln!(out, "  Answer 5 each time, a job is unfinished; the commit ends as it does alone.\n")?;
     others_go_on(&mut board, checked, out)?;
-    writeln!(out, "{}", picture(&board.image))
+    writeln!(out, "{}", picture(&board.image, BLOCKS))
 }
 
 fn others_go_on<S: Store>(board: &mut Board<S>, checked: &mut Checked, out: &mut impl Write) -> io::Result<()> {
@@ -67,7 +71,12 @@ fn refuse_every_length<S: Store>(board: &mut Board<S>) -> usize {
 
 /// Host 0's commit with a bad request before each step: its steps, after which the image is as without them.
 fn commit_disturbed<S: Store>(board: &mut Board<S>) -> usize {
-    let mut alone = Board { store: board.store, image: board.image.clone(), record: board.record.clone() };
+    let mut alone = Board {
+        store: board.store,
+        image: board.image.clone(),
+        blocks: board.blocks,
+        record: board.record.clone(),
+    };
     serve(&mut alone, 0, &message::commit());
     assert_eq!(board.request(0, &message::commit(), &mut []), Answer::MORE);
     let mut steps = 0;

@@ -1,15 +1,12 @@
-//! Ticket 3: power lost inside the erase of the old half.
+//! Ticket 3: power lost inside the erase of the old block, a half of the flash.
 
 use super::power_cuts::{before_the_changes, judge, tell_objects};
-use super::{Checked, serve};
+use super::{BLOCKS, Checked, SIZE, serve};
 use crate::board::Board;
 use crate::picture::picture;
 use crate::say::grouped;
 use std::io::{self, Write};
 use store::{Answer, Store, message};
-
-/// A half of this demo's flash.
-const SIZE: usize = super::LENGTH / 2;
 
 pub fn tell<S: Store>(store: &S, checked: &mut Checked, out: &mut impl Write) -> io::Result<()> {
     writeln!(out, "TICKET 3: power is lost inside an erase\n")?;
@@ -17,15 +14,15 @@ pub fn tell<S: Store>(store: &S, checked: &mut Checked, out: &mut impl Write) ->
     writeln!(out, "1, and the board refused to start.\n")?;
     let image = before_the_erase(store);
     writeln!(out, "The settings as in ticket 2, host 1's change not committed. A restart has moved")?;
-    writeln!(out, "what is settled to half 1 and is about to erase half 0:\n\n{}", picture(&image))?;
+    writeln!(out, "what is settled to half 1 and is about to erase half 0:\n\n{}", picture(&image, BLOCKS))?;
 
     let mut board = half_erased(store, &image, &[0x0F, 0xF0, 0xFF, 0x00, 0xFF]);
     writeln!(out, "Power is lost inside that erase, and half 0 is left like this, say:\n")?;
-    writeln!(out, "{}", picture(&board.image))?;
+    writeln!(out, "{}", picture(&board.image, BLOCKS))?;
     let steps = restart(&mut board);
     assert_eq!(steps, 1);
     writeln!(out, "The next restart takes half 1, which is newer, and erases half 0 again:\n")?;
-    writeln!(out, "{}", picture(&board.image))?;
+    writeln!(out, "{}", picture(&board.image, BLOCKS))?;
     tell_objects(&mut board, checked, out)?;
     every_bit(store, &image, checked, out)
 }
@@ -44,7 +41,7 @@ fn before_the_erase<S: Store>(store: &S) -> Vec<u8> {
 
 /// The restart's erase begins and is cut, with these bits raised.
 fn half_erased<'s, S: Store>(store: &'s S, image: &[u8], mask: &[u8]) -> Board<'s, S> {
-    let mut board = Board::new(store, image.to_vec());
+    let mut board = Board::new(store, image.to_vec(), BLOCKS);
     assert_eq!(board.mount(), Answer::MORE);
     assert!(board.cut_erase(mask));
     board

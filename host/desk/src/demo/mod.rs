@@ -10,7 +10,10 @@ use crate::say::{grouped, value};
 use std::io::{self, Write};
 use store::{Answer, Store, message};
 
+/// This demo's flash: its bytes, its blocks, the bytes of one.
 const LENGTH: usize = 512;
+const BLOCKS: u8 = 2;
+const SIZE: usize = LENGTH / BLOCKS as usize;
 
 /// What was really checked, and found.
 #[derive(Default)]
@@ -27,7 +30,7 @@ struct Checked {
 /// Tells the tickets; whether no half change was found.
 pub fn demo<S: Store>(store: &S, out: &mut impl Write) -> io::Result<bool> {
     let mut checked = Checked::default();
-    writeln!(out, "The proved settings store on a board of {LENGTH} bytes of flash, two halves of 256.")?;
+    writeln!(out, "The proved settings store on a board of {LENGTH} bytes of flash, two halves of {SIZE}.")?;
     writeln!(out, "In the pictures each letter is a byte:\n\n{LEGEND}")?;
     bad_length::tell(store, &mut checked, out)?;
     power_cuts::tell(store, &mut checked, out)?;
@@ -49,9 +52,9 @@ pub fn demo<S: Store>(store: &S, out: &mut impl Write) -> io::Result<bool> {
 }
 
 fn formatted<S: Store>(store: &S) -> Board<'_, S> {
-    let mut board = Board::new(store, vec![0xFF; LENGTH]);
+    let mut board = Board::new(store, vec![0xFF; LENGTH], BLOCKS);
     assert_eq!(board.format(), Answer::MORE);
-    assert_eq!(board.run(), (Answer::DONE, 12));
+    assert_eq!(board.run(), (Answer::DONE, usize::from(BLOCKS) + 10));
     board
 }
 
@@ -97,30 +100,38 @@ mod tests {
     impl Store for Mixed {
         type Record = Record;
 
-        fn mount(&self, image: &[u8]) -> (Answer, Record) {
+        fn mount(&self, image: &[u8], blocks: u8) -> (Answer, Record) {
             self.mounted.set(true);
-            Model.mount(image)
+            Model.mount(image, blocks)
         }
 
-        fn fault(&self, image: &[u8]) -> (Answer, Option<Fault>) {
-            Model.fault(image)
+        fn fault(&self, image: &[u8], blocks: u8) -> (Answer, Option<Fault>) {
+            Model.fault(image, blocks)
         }
 
-        fn format(&self, image: &[u8]) -> (Answer, Record) {
-            Model.format(image)
+        fn format(&self, image: &[u8], blocks: u8) -> (Answer, Record) {
+            Model.format(image, blocks)
         }
 
-        fn request(&self, image: &[u8], record: &mut Record, host: u8, body: &[u8], reply: &mut [u8]) -> Answer {
-            Model.request(image, record, host, body, reply)
+        fn request(
+            &self,
+            image: &[u8],
+            blocks: u8,
+            record: &mut Record,
+            host: u8,
+            body: &[u8],
+            reply: &mut [u8],
+        ) -> Answer {
+            Model.request(image, blocks, record, host, body, reply)
         }
 
-        fn step(&self, image: &mut [u8], record: &mut Record) -> Answer {
-            Model.step(image, record)
+        fn step(&self, image: &mut [u8], blocks: u8, record: &mut Record) -> Answer {
+            Model.step(image, blocks, record)
         }
 
-        fn read(&self, image: &[u8], record: &Record, host: u8, body: &[u8]) -> (Answer, Stretch) {
+        fn read(&self, image: &[u8], blocks: u8, record: &Record, host: u8, body: &[u8]) -> (Answer, Stretch) {
             let mixed = self.mounted.get() && body == message::read(2);
-            Model.read(image, record, host, if mixed { &[6, 0, 5, 1, 1, 0] } else { body })
+            Model.read(image, blocks, record, host, if mixed { &[6, 0, 5, 1, 1, 0] } else { body })
         }
 
         fn unmounted(&self) -> Record {

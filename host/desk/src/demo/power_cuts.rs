@@ -1,6 +1,6 @@
 //! Ticket 2: power cuts in the middle of two hosts' changes.
 
-use super::{Checked, formatted, found, read, serve};
+use super::{BLOCKS, Checked, SIZE, formatted, found, read, serve};
 use crate::board::Board;
 use crate::picture::picture;
 use std::io::{self, Write};
@@ -30,7 +30,7 @@ pub fn tell<S: Store>(store: &S, checked: &mut Checked, out: &mut impl Write) ->
     let old = objects(&mut board, checked);
     assert_eq!(whole(&old), Some(0));
     writeln!(out, "Settled: {}.\nThe journal is nearly full:\n", listed(&old))?;
-    writeln!(out, "{}", picture(&board.image))?;
+    writeln!(out, "{}", picture(&board.image, BLOCKS))?;
     writeln!(out, "Host 1 puts 1 = \"low 35\" and 2 = \"high 95\", which belong together. Host 3 puts")?;
     writeln!(out, "3 = \"blink\" and deletes 4. They take turns; then host 1 commits, then host 3.")?;
 
@@ -86,14 +86,14 @@ fn every_cut<S: Store>(board: &mut Board<S>) -> Vec<Cut> {
 
 /// A cut in the middle of the transfer, with pictures.
 fn one_cut<S: Store>(store: &S, cuts: &[Cut], checked: &mut Checked, out: &mut impl Write) -> io::Result<()> {
-    let torn = cuts.iter().position(|cut| cut.image[256] != 0xFF).expect("a transfer") + 30;
+    let torn = cuts.iter().position(|cut| cut.image[SIZE] != 0xFF).expect("a transfer") + 30;
     writeln!(out, "After step {torn}, say, the transfer to the other half is under way:\n")?;
-    writeln!(out, "{}", picture(&cuts[torn].image))?;
-    let mut after = Board::new(store, cuts[torn].image.clone());
+    writeln!(out, "{}", picture(&cuts[torn].image, BLOCKS))?;
+    let mut after = Board::new(store, cuts[torn].image.clone(), BLOCKS);
     assert_eq!(after.mount(), Answer::MORE);
     let (answer, steps) = after.run();
     assert_eq!(answer, Answer::DONE);
-    writeln!(out, "A restart mounts what it finds, in {steps} steps:\n\n{}", picture(&after.image))?;
+    writeln!(out, "A restart mounts what it finds, in {steps} steps:\n\n{}", picture(&after.image, BLOCKS))?;
     tell_objects(&mut after, checked, out)
 }
 
@@ -134,11 +134,11 @@ fn every_restart<S: Store>(
 /// Restarts after the cut, and again after cutting the restart at each of its steps. The state found, if whole.
 fn recover<S: Store>(store: &S, cut: &Cut, checked: &mut Checked) -> Option<usize> {
     checked.cuts += 1;
-    let mut board = Board::new(store, cut.image.clone());
+    let mut board = Board::new(store, cut.image.clone(), BLOCKS);
     let mut answer = board.mount();
     loop {
         checked.nested += 1;
-        let mut again = Board::new(store, board.image.clone());
+        let mut again = Board::new(store, board.image.clone(), BLOCKS);
         assert!(!again.mount().refused());
         assert_eq!(again.run().0, Answer::DONE);
         judge(&mut again, cut.state, checked);

@@ -2,7 +2,7 @@
 
 use super::Back;
 use super::word::{Word, Words};
-use crate::board::Board;
+use crate::board::{BLOCKS, Board};
 use crate::input::{self, LARGEST};
 use crate::say;
 use std::fs;
@@ -19,10 +19,11 @@ pub struct Call<S: Store> {
 }
 
 impl<S: Store> Call<S> {
-    pub const ALL: [Call<S>; 22] = [
-        Call { name: "new", takes: "LEN", make: new },
-        Call { name: "image", takes: "HEX", make: image },
-        Call { name: "load", takes: "FILE", make: load },
+    pub const ALL: [Call<S>; 23] = [
+        Call { name: "new", takes: "LEN [BLOCKS]", make: new },
+        Call { name: "image", takes: "HEX [BLOCKS]", make: image },
+        Call { name: "load", takes: "FILE [BLOCKS]", make: load },
+        Call { name: "blocks", takes: "BLOCKS", make: blocks },
         Call { name: "save", takes: "FILE", make: save },
         Call { name: "mount", takes: "", make: mount },
         Call { name: "format", takes: "", make: |board, _| answer(board.format()) },
@@ -39,7 +40,7 @@ impl<S: Store> Call<S> {
         Call { name: "log", takes: "HOST", make: log },
         Call { name: "dump", takes: "", make: dump },
         Call { name: "record", takes: "", make: record },
-        Call { name: "idle", takes: "LEN HALF END", make: idle },
+        Call { name: "idle", takes: "LEN HALF END [blocks=BLOCKS]", make: idle },
         Call { name: "unmount", takes: "", make: unmount },
         Call { name: "poke", takes: "OFFSET HEX", make: poke },
     ];
@@ -63,25 +64,37 @@ fn answer(answer: Answer) -> Made {
     Ok(Back::Answer(answer, String::new()))
 }
 
+/// The number of blocks that a word gives, any that a call can be told.
+fn number_of_blocks(word: Option<&Word>) -> Result<u8, String> {
+    word.map_or(Ok(BLOCKS), Word::byte)
+}
+
 fn new<S: Store>(board: &mut Board<S>, words: &[Word]) -> Made {
-    *board = Board::new(board.store, vec![0xFF; words[0].number(0, LARGEST)?]);
+    let (length, blocks) = (words[0].number(0, LARGEST)?, number_of_blocks(words.get(1))?);
+    *board = Board::new(board.store, vec![0xFF; length], blocks);
     Ok(Back::Ok)
 }
 
 fn image<S: Store>(board: &mut Board<S>, words: &[Word]) -> Made {
-    *board = Board::new(board.store, words[0].bytes()?);
+    *board = Board::new(board.store, words[0].bytes()?, number_of_blocks(words.get(1))?);
+    Ok(Back::Ok)
+}
+
+/// Later calls are told another number; image and record stay.
+fn blocks<S: Store>(board: &mut Board<S>, words: &[Word]) -> Made {
+    board.blocks = words[0].byte()?;
     Ok(Back::Ok)
 }
 
 fn load<S: Store>(board: &mut Board<S>, words: &[Word]) -> Made {
-    let path = words[0].file()?;
+    let (path, blocks) = (words[0].file()?, number_of_blocks(words.get(1))?);
     let failed = |why: String| format!("{}: {why}", words[0].said());
     let file = input::open(path).map_err(failed)?;
     let image = input::whole(file, LARGEST).map_err(|error| failed(input::why(&error)))?;
     if image.len() > LARGEST {
         return Err(failed(format!("more than {LARGEST} bytes")));
     }
-    *board = Board::new(board.store, image);
+    *board = Board::new(board.store, image, blocks);
     Ok(Back::Ok)
 }
 
@@ -100,7 +113,7 @@ fn mount<S: Store>(board: &mut Board<S>, _: &[Word]) -> Made {
 
 fn step<S: Store>(board: &mut Board<S>, words: &[Word]) -> Made {
     let most = words.first().map_or(Ok(1), |word| word.number(1, usize::MAX))?;
-    answer(board.store.run(&mut board.image, &mut board.record, most).0)
+    answer(board.store.run(&mut board.image, board.blocks, &mut board.record, most).0)
 }
 
 fn run<S: Store>(board: &mut Board<S>, _: &[Word]) -> Made {
@@ -178,14 +191,23 @@ fn dump<S: Store>(board: &mut Board<S>, _: &[Word]) -> Made {
 fn record<S: Store>(board: &mut Board<S>, _: &[Word]) -> Made {
     Ok(Back::Plain(match board.head() {
         Head::Unmounted => "unmounted".to_string(),
-        Head::Idle(Idle { length, half, end }) => format!("idle len={length} half={half} end={end}"),
+        Head::Idle(Idle { length, block, end, blocks }) => {
+            format!("idle len={length} half={block} end={end} blocks={blocks}")
+        }
         Head::Job => "job".to_string(),
     }))
 }
 
+/// Without its field the record has the board's number of blocks.
 fn idle<S: Store>(board: &mut Board<S>, words: &[Word]) -> Made {
-    let idle = Idle { length: words[0].number(1, 65_536)?, half: words[1].byte()?, end: words[2].short()? };
-    board.record = board.store.idle(idle);
+    let (length, block, end) = (words[0].number(1, 65_536)?, words[1].byte()?, words[2].short()?);
+    let blocks = match words.get(3) {
+        None => board.blocks,
+        Some(word) => {
+            word.field("blocks").ok_or_else(|| format!("{} is no field of a record", word.said()))?.byte()?
+        }
+    };
+    board.record = board.store.idle(Idle { length, block, end, blocks });
     Ok(Back::Ok)
 }
 

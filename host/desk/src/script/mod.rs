@@ -3,7 +3,7 @@
 mod call;
 mod word;
 
-use crate::board::Board;
+use crate::board::{BLOCKS, Board};
 use crate::input::{self, LONGEST, Line};
 use crate::say;
 use call::Call;
@@ -61,7 +61,7 @@ pub fn replay<S: Store>(
     mut script: impl BufRead,
     mut out: impl Write,
 ) -> Result<bool, Trouble> {
-    let mut board = Board::new(store, Vec::new());
+    let mut board = Board::new(store, Vec::new(), BLOCKS);
     let mut bytes = Vec::new();
     for number in 1.. {
         let line = input::line(&mut script, &mut bytes).map_err(Trouble::Input)?;

@@ -34,6 +34,17 @@ impl Word<'_> {
         self.number(0, 65_535).map(|number| number as u16)
     }
 
+    /// What stands behind `name=` in this word, if anything does.
+    pub fn field(&self, name: &str) -> Option<Word<'_>> {
+        match self {
+            Word::Plain(word) => {
+                let value = word.strip_prefix(name)?.strip_prefix('=')?;
+                (!value.is_empty()).then_some(Word::Plain(value))
+            }
+            Word::Text(_) => None,
+        }
+    }
+
     /// Bytes in hex.
     pub fn bytes(&self) -> Result<Vec<u8>, String> {
         let bytes = match self {

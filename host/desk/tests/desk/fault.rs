@@ -1,4 +1,4 @@
-//! Where a half broke: what `mount` prints after a 3, and what `show` says to people.
+//! Where a block broke: what `mount` prints after a 3, and what `show` says to people.
 
 use super::{COMMIT, HEADER, PUT, check, image_of, run};
 
@@ -24,7 +24,7 @@ fn what_mount_says_of_a_poked_image() {
         ("poke 260 fd", "ok"),
         ("mount", "more"),
         ("run", "0 steps=1"),
-        ("record", "idle len=512 half=1 end=16"),
+        ("record", "idle len=512 half=1 end=16 blocks=2"),
     ]);
 }
 

@@ -19,7 +19,7 @@ fn saved_byte_for_byte_and_loaded_again() {
         ("commit 2", "more"),
         ("run", "0 steps=6"),
         (&save, "ok"),
-        ("record", "idle len=512 half=0 end=32"),
+        ("record", "idle len=512 half=0 end=32 blocks=2"),
         (&load_spaces, "ok"),
         ("record", "unmounted"),
         ("mount", "more"),
@@ -77,10 +77,10 @@ fn files_that_cannot_be_had_change_nothing() {
         ("load /proc/self/mem", "? line 9: /proc/self/mem: Input/output error (os error 5)"),
         ("load -", "? line 10: - is no file name"),
         ("save -", "? line 11: - is no file name"),
-        ("load", "? line 12: load goes with FILE"),
+        ("load", "? line 12: load goes with FILE [BLOCKS]"),
         ("save a b", "? line 13: save goes with FILE"),
         ("load \"a\u{1b}\"", "? line 14: \"a\\u{1b}\": no such file or directory"),
-        ("record", "idle len=512 half=0 end=16"),
+        ("record", "idle len=512 half=0 end=16 blocks=2"),
         ("put 0 1 -", "more"),
     ]);
 }

@@ -1,5 +1,6 @@
 //! The program itself, run as a user runs it.
 
+mod blocks;
 mod demo;
 mod erase;
 mod fault;
@@ -78,14 +79,14 @@ fn unhex(digits: &str) -> Vec<u8> {
     pairs.map(|pair| u8::from_str_radix(pair, 16).expect("hex")).collect()
 }
 
-/// An image of two halves of `size` bytes that start with these, in hex.
-fn image_of(size: usize, halves: [&str; 2]) -> Vec<u8> {
-    let half = |start: &str| {
+/// An image of blocks of `size` bytes that start with these, in hex.
+fn image_of<const N: usize>(size: usize, blocks: [&str; N]) -> Vec<u8> {
+    let block = |start: &str| {
         let mut bytes = unhex(start);
         bytes.resize(size, 0xFF);
         bytes
     };
-    halves.map(half).concat()
+    blocks.map(block).concat()
 }
 
 /// A folder of a test's own, gone with it.

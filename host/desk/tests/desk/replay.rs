@@ -25,7 +25,7 @@ fn rows_a_to_h() {
         ("req 2 04000301 0", "more"),
         ("run", "0 steps=6"),
         ("dump", &image(&format!("{header}{put}0600030002fe"))),
-        ("record", "idle len=512 half=0 end=32"),
+        ("record", "idle len=512 half=0 end=32 blocks=2"),
         ("read 1 060005010500", "0 at=23 len=2"),
         ("req 1 0500060101 14", "0 reply=0e00010201000000010019000001"),
         ("mount", "0"),
@@ -35,7 +35,7 @@ fn rows_a_to_h() {
         ("mount", "more"),
         ("run", "0 steps=11"),
         ("read 1 060005010500", "8"),
-        ("record", "idle len=512 half=1 end=16"),
+        ("record", "idle len=512 half=1 end=16 blocks=2"),
         (&image(&format!("{header}{put}0600030002")).replace('=', " "), "ok"),
         ("mount", "more"),
         ("run", "0 steps=11"),
@@ -56,7 +56,7 @@ fn rows_i_to_m() {
         ("run", "0 steps=72"),
         (&third, "more"),
         ("run", "0 steps=72"),
-        ("record", "idle len=512 half=0 end=232"),
+        ("record", "idle len=512 half=0 end=232 blocks=2"),
         ("req 0 060001010400 0", "7"),
         ("req 0 04000301 0", "more"),
         ("run", "0 steps=6"),
@@ -65,12 +65,14 @@ fn rows_i_to_m() {
         ("run", "0 steps=8"),
         ("req 0 04000301 0", "more"),
         ("run", "0 steps=6"),
-        ("record", "idle len=512 half=0 end=252"),
+        ("record", "idle len=512 half=0 end=252 blocks=2"),
         ("req 0 060001010400 0", "more"),
     ];
-    check(&[&before_l[..], &[("run", "0 steps=161"), ("record", "idle len=512 half=1 end=166")]].concat());
-    let old = ("step 151", "idle len=512 half=0 end=252", "0 at=95 len=64");
-    let new = ("step 152", "idle len=512 half=1 end=158", "0 at=278 len=64");
+    check(
+        &[&before_l[..], &[("run", "0 steps=161"), ("record", "idle len=512 half=1 end=166 blocks=2")]].concat(),
+    );
+    let old = ("step 151", "idle len=512 half=0 end=252 blocks=2", "0 at=95 len=64");
+    let new = ("step 152", "idle len=512 half=1 end=158 blocks=2", "0 at=278 len=64");
     for (cut, record, place) in [old, new] {
         let mount = [(cut, "more"), ("mount", "more"), ("run", "0 steps=1"), ("record", record)];
         let reads = [("read 0 060005010100", "8"), ("read 0 060005010200", place)];
@@ -165,9 +167,9 @@ fn lines_that_cannot_be_read() {
         ("poke 18446744073709551615 00", "? line 14: the image has only 0 bytes"),
         ("idle 0 0 0", "? line 15: 0 is less than 1"),
         ("idle 65536 255 65535", "ok"),
-        ("record", "idle len=65536 half=255 end=65535"),
+        ("record", "idle len=65536 half=255 end=65535 blocks=2"),
         ("idle 65537 0 0", "? line 18: 65537 is more than 65536"),
-        ("record", "idle len=65536 half=255 end=65535"),
+        ("record", "idle len=65536 half=255 end=65535 blocks=2"),
         ("unmount", "ok"),
         ("record", "unmounted"),
     ]);
@@ -217,12 +219,11 @@ fn pokes_and_forged_records() {
 #[test]
 fn calls_and_fields_that_are_not_there_yet() {
     check(&[
-        ("new 512 2", "? line 1: new goes with LEN"),
-        ("image ff 2", "? line 2: image goes with HEX"),
-        ("idle 512 0 16 blocks=2", "? line 3: idle goes with LEN HALF END"),
-        ("blocks 2", "? line 4: no call is named blocks"),
-        ("log-open", "? line 5: no call is named log-open"),
-        ("boot-read", "? line 6: no call is named boot-read"),
+        ("idle 512 0 16 edition=1", "? line 1: edition=1 is no field of a record"),
+        ("idle 512 0 16 pending=0,0,0,0", "? line 2: pending=0,0,0,0 is no field of a record"),
+        ("idle 512 0 16 place=5:16", "? line 3: place=5:16 is no field of a record"),
+        ("log-open", "? line 4: no call is named log-open"),
+        ("boot-read", "? line 5: no call is named boot-read"),
         ("dump", "image=-"),
         ("record", "unmounted"),
     ]);
@@ -231,7 +232,7 @@ fn calls_and_fields_that_are_not_there_yet() {
 #[test]
 fn tickets() {
     let expected = |name: &str| std::fs::read_to_string(format!("{TICKETS}/{name}.expected")).expect("answers");
-    for ticket in ["1-bad-log-length", "2-power-cuts", "3-power-lost-in-erase"] {
+    for ticket in ["1-bad-log-length", "2-power-cuts", "3-power-lost-in-erase", "4-four-blocks"] {
         let (status, out, errors) = run(&["replay", "--strict", &format!("{TICKETS}/{ticket}.desk")], b"");
         assert_eq!((status, &out, &errors[..]), (0, &expected(ticket), ""), "{ticket}");
     }

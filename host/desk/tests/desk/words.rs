@@ -108,7 +108,7 @@ const REFUSED: [(&str, &str, &str); 16] = [
     ("req 0 0500060101 13", "9", "9 short reply"),
     ("put 4 1 -", "10", "10 host range"),
     ("nothing", "? line 15: no call is named nothing", "? line 15: no call is named nothing"),
-    ("record", "idle len=512 half=0 end=16", "idle len=512 half=0 end=16"),
+    ("record", "idle len=512 half=0 end=16 blocks=2", "idle len=512 half=0 end=16 blocks=2"),
 ];
 
 #[test]
@@ -181,7 +181,7 @@ fn words_that_cannot_be_read() {
         lines.push((line.to_string(), format!("? line {}: {why}", lines.len() + 1)));
     }
     lines.push((most, "1".to_string()));
-    lines.push(("record".to_string(), "idle len=512 half=0 end=16".to_string()));
+    lines.push(("record".to_string(), "idle len=512 half=0 end=16 blocks=2".to_string()));
     check(&lines.iter().map(|(line, answer)| (&line[..], &answer[..])).collect::<Vec<_>>());
 }
 

@@ -29,8 +29,16 @@ burst-spec =
     (λ c κs. search needs)
     (λ c.
     let args′ = c .before .before .before .before .before .before .args in
-    rw (c .no-burst .ensures) (omega arith, λ p. no-burst (now (args′ .image)) (assemble (args′ .n) p (now (args′ .unit)) (now (args′ .frame)))))
+    rw (c .no-burst .ensures) (
+      omega arith,
+      λ p. no-burst (args′ .blocks) (now (args′ .image))
+          (assemble (args′ .n) p (now (args′ .unit)) (now (args′ .frame))),
+    ))
     (λ c κs. search needs)
     (λ c.
     let args′ = c .before .before .before .args in
-    rw (c .no-burst2 .ensures) (omega arith, λ p. no-burst (now (args′ .image)) (assemble (args′ .n) p (now (args′ .unit)) (now (args′ .frame))))))
+    rw (c .no-burst2 .ensures) (
+      omega arith,
+      λ p. no-burst (args′ .blocks) (now (args′ .image))
+          (assemble (args′ .n) p (now (args′ .unit)) (now (args′ .frame))),
+    )))

@@ -23,7 +23,7 @@ burst-append-spec =
     let args′ = c .before .before .before .before .before .before .before .before .before .before .before .before .args in
     rw (c .no-burst .ensures) (
       omega arith,
-      λ p u. rw (lay′ .ensures .3 (c .before .if1 .taken)) (no-burst (now (args′ .image)) (assemble
+      λ p u. rw (lay′ .ensures .3 (c .before .if1 .taken)) (no-burst (args′ .blocks) (now (args′ .image)) (assemble
           (args′ .n) p u (now (args′ .frame)))),
     ))
     (λ c κs.
@@ -36,6 +36,6 @@ burst-append-spec =
     let pre′ = c .before .before .before .before .before .before .before .before .before .before .before .before .pre in
     let h : 0 < lay′ .result = omega (arith, c .before .if1 .left) in let s = lay′ .ensures .1 h in let w = lay′ .ensures .2 h in (
       lay′ .ensures .0,
-      λ p u. appends-some p u (now (args′ .frame)) (now (args′ .image)) (args′ .n) (lay′ .result) (pre′) s (w .1) _
+      λ p u. appends-some (args′ .blocks) p u (now (args′ .frame)) (now (args′ .image)) (args′ .n) (lay′ .result) (pre′) s (w .1) _
           (c .appended .result) (w .0) (c .appended .ensures),
     )))

@@ -1,11 +1,12 @@
 -- Bytes of a frame programmed, but its last.
 use mathlib.Core.Path.{_≡_, refl, ap₂, _∙_}
-use Prim.Native.Nat.{ℕ, _+_, _<_}
+use Prim.Native.Nat.{ℕ, _+_, _*_, _<_}
 use native.Mathlib.Omega.{arith}
 use native.Mathlib.Nat.{add-sub-cancel-left}
 use lib.ListN.{length, take, drop, length-take, length-drop}
 use denote.Ref.{now}
 use Rattle.flash.specs.Flash.{writes, writeAll}
+use Rattle.drive.proofs.Telling.{lane-ends}
 use borrow.Author.Needs.{needs}
 use Rattle.drive.proofs.bursts.lay.Statement.{statement}
 use Rattle.drive.proofs.bursts.lay.Tie as tie
@@ -17,47 +18,47 @@ lay-spec =
     (λ c κs. search needs)
     (λ c. (omega arith, λ h. absurd (omega arith), λ h. absurd (omega arith), λ e. refl))
     (λ c. search needs)
-    (λ c κs.
-    let burst-len′ = c .before .before .burst-len in
-    let h : 0 < burst-len′ .result = omega (arith, c .before .if1 .left) in let s = burst-len′ .ensures .1 h in s .there)
+    (λ c κs. search needs)
+    (λ c. search needs)
     (λ c.
     let burst-len′ = c .before .before .before .before .burst-len in
-    let h : 0 < burst-len′ .result = omega (arith, c .before .before .before .if1 .left) in let s = burst-len′ .ensures .1 h in omega
-    (arith, s .room, c .before .base .ensures .1))
+    let h : 0 < burst-len′ .result = omega (arith, c .before .before .before .if1 .left) in
+    omega (arith, lane-ends _ _ _ _ _ _ (c .before .size-of .ensures) (burst-len′ .ensures .1 h)))
     (λ c.
-    let if1′ = c .before .before .before .before .before .if1 in
-    let burst-len′ = c .before .before .before .before .before .before .burst-len in
-    let h : 0 < burst-len′ .result = omega (arith, if1′ .left) in let s = burst-len′ .ensures .1 h in omega (arith, s .held))
-    (λ c. search needs)
-    (λ c. search needs)
+    let burst-len′ = c .before .before .before .before .before .burst-len in
+    let h : 0 < burst-len′ .result = omega (arith, c .before .before .before .before .if1 .left) in
+    omega (arith, lane-ends _ _ _ _ _ _ (c .before .before .size-of .ensures) (burst-len′ .ensures .1 h)))
     (λ c.
-    let if1′ = c .before .before .before .before .before .if1 in
-    let burst-len′ = c .before .before .before .before .before .before .burst-len in
-    let h : 0 < burst-len′ .result = omega (arith, if1′ .left) in let s = burst-len′ .ensures .1 h in let t = s .held in search needs)
-    (λ c κs.
-    let base′ = c .before .before .before .before .base in
-    let if1′ = c .before .before .before .before .before .before .if1 in
     let burst-len′ = c .before .before .before .before .before .before .before .burst-len in
+    let h : 0 < burst-len′ .result = omega (arith, c .before .before .before .before .before .before .if1 .left) in
+    omega (arith, burst-len′ .ensures .1 h .held))
+    (λ c. search needs)
+    (λ c. search needs)
+    (λ c.
+    let burst-len′ = c .before .before .before .before .before .before .before .burst-len in
+    let h : 0 < burst-len′ .result = omega (arith, c .before .before .before .before .before .before .if1 .left) in
+    let s = burst-len′ .ensures .1 h in let t = s .held in search needs)
+    (λ c κs.
+    let burst-len′ = c .before .before .before .before .before .before .before .before .burst-len in
+    let h : 0 < burst-len′ .result = omega (arith, c .before .before .before .before .before .before .before .if1 .left) in
+    let t = lane-ends _ _ _ _ _ _ (c .before .before .before .before .before .size-of .ensures) (burst-len′ .ensures .1 h) in
+    simp (length-take, length-drop) (omega arith))
+    (λ c. search needs)
+    (λ c.
+    let size-of′ = c .before .before .before .before .before .before .before .before .size-of in
+    let if1′ = c .before .before .before .before .before .before .before .before .before .before .if1 in
+    let burst-len′ = c .before .before .before .before .before .before .before .before .before .before .before .burst-len in
+    let args′ = c .before .before .before .before .before .before .before .before .before .before .before .before .before .args in
     let h : 0 < burst-len′ .result = omega (arith, if1′ .left) in
     let s = burst-len′ .ensures .1 h in
-    let t = s .room in
-    let b = base′ .ensures .1 in simp (length-take, length-drop) (omega arith))
-    (λ c. search needs)
-    (λ c.
-    let base′ = c .before .before .before .before .before .before .before .base in
-    let if1′ = c .before .before .before .before .before .before .before .before .before .if1 in
-    let burst-len′ = c .before .before .before .before .before .before .before .before .before .before .burst-len in
-    let args′ = c .before .before .before .before .before .before .before .before .before .before .before .before .args in
-    let h : 0 < burst-len′ .result = omega (arith, if1′ .left) in let s = burst-len′ .ensures .1 h in let l : length
-    (now (args′ .frame)) ≡ 248 = search needs in (
+    let l : length (now (args′ .frame)) ≡ 248 = search needs in (
       burst-len′ .ensures .0,
       λ z. s,
       λ z. (
-        c .before .before .program-all .ensures ∙ ap₂ (λ
-            (b j : ℕ). writeAll (now (args′ .image)) (writes (b + args′ .lane .at) (take j (drop (args′ .lane .done) (now (args′ .frame))))))
-            (base′ .ensures .0) (add-sub-cancel-left (args′ .lane .done) (burst-len′ .result)),
+        c .before .before .program-all .ensures ∙ ap₂ (λ (b j : ℕ). writeAll (now (args′ .image)) (writes (args′ .lane .block * b + args′ .lane .at)
+            (take j (drop (args′ .lane .done) (now (args′ .frame))))))
+            (size-of′ .ensures) (add-sub-cancel-left (args′ .lane .done) (burst-len′ .result)),
         omega (arith, s .held),
       ),
-      λ e. absurd (omega
-          (arith, if1′ .left)),
+      λ e. absurd (omega (arith, if1′ .left)),
     )))

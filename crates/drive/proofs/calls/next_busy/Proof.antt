@@ -1,13 +1,12 @@
 -- What is next in a job.
-use mathlib.Core.Path.{sym, _∙_}
+use mathlib.Core.Path.{_≡_, sym, ap, subst, _∙_}
 use mathlib.Core.Bool.{true, false}
-use Prim.Native.Nat.{suc, _/_}
+use Prim.Native.Nat.{ℕ}
 use native.Mathlib.Omega.{arith}
-use borrow.Author.Tests.{eqb-true}
-use lib.Dec.{eqb}
-use Rattle.flash.specs.Flash.{blocks, within}
-use Rattle.flash.proofs.Cases.{and-left, and-right}
+use Rattle.flash.specs.Flash.{within}
+use Rattle.board.specs.Drive.{placed}
 use Rattle.job.specs.Code.{assemble, flashStep}
+use Rattle.job.proofs.Acting.{takes-parts, place-low}
 use Rattle.job.proofs.Advancing.{by-hand}
 use Rattle.drive.proofs.Telling.{next-is}
 use borrow.Author.Needs.{needs}
@@ -20,27 +19,30 @@ next-busy-spec =
     (tie.spec
     (λ c κs. search needs)
     (λ c κs. search needs)
+    (λ c κs. search needs)
     (λ c κs.
-    let next-action′ = c .before .before .next-action in
-    let args′ = c .before .before .before .before .args in
-    let good′ = c .before .before .before .before .good in
-    let t = sym (c .before .within-image .ensures)
-    ∙ c .if1 .taken in let l = eqb-true (args′ .len) (suc (args′ .n .rest .last))
-    (and-left (eqb (args′ .len) (suc (args′ .n .rest .last))) (within (args′ .len / blocks) (flashStep (next-action′ .result))) t) in (
-      and-right (eqb (args′ .len) (suc (args′ .n .rest .last))) (within (args′ .len / blocks) (flashStep (next-action′ .result))) t,
-      omega
-          (arith, l, good′),
-    ))
-    (λ c.
     let next-action′ = c .before .before .before .next-action in
     let args′ = c .before .before .before .before .before .args in
-    λ p u f e. c .placed .ensures
-    ∙ next-is (args′ .len) (assemble (args′ .n) p u f) (args′ .stage) (flashStep (next-action′ .result)) true
+    let good′ = c .before .before .before .before .before .good in
+    let t = takes-parts (args′ .blocks) (args′ .len) (args′ .n .rest) (flashStep (next-action′ .result))
+    (sym (c .before .before .within-image .ensures) ∙ c .before .if1 .taken) in
+    let inside = subst (λ (s : ℕ). within (args′ .blocks) s (flashStep (next-action′ .result)) ≡ true) (sym (c .size-of .ensures)) (t .1) in
+    omega (
+      arith,
+      t .0,
+      place-low (args′ .blocks) (args′ .len) (c .size-of .result) (flashStep (next-action′ .result)) (c .size-of .ensures) inside,
+      good′,
+    ))
+    (λ c.
+    let next-action′ = c .before .before .before .before .next-action in
+    let args′ = c .before .before .before .before .before .before .args in
+    λ p u f e. c .placed .ensures ∙ ap (λ (s : ℕ). placed s (flashStep (next-action′ .result))) (c .before .size-of .ensures)
+    ∙ next-is (args′ .blocks) (args′ .len) (assemble (args′ .n) p u f) (args′ .stage) (flashStep (next-action′ .result)) true
     (next-action′ .ensures ∙ by-hand (args′ .stage) (args′ .n) (args′ .byte) p u f e)
-    (sym (c .before .before .within-image .ensures) ∙ c .before .if1 .taken))
+    (sym (c .before .before .before .within-image .ensures) ∙ c .before .before .if1 .taken))
     (λ c.
     let next-action′ = c .before .before .next-action in
     let args′ = c .before .before .before .before .args in
-    λ p u f e. next-is (args′ .len) (assemble (args′ .n) p u f) (args′ .stage) (flashStep (next-action′ .result)) false
+    λ p u f e. next-is (args′ .blocks) (args′ .len) (assemble (args′ .n) p u f) (args′ .stage) (flashStep (next-action′ .result)) false
     (next-action′ .ensures ∙ by-hand (args′ .stage) (args′ .n) (args′ .byte) p u f e)
     (sym (c .before .within-image .ensures) ∙ c .if1 .left)))

@@ -16,15 +16,15 @@ next-of-spec =
     (λ c. search needs)
     (λ c.
     let args′ = c .before .before .args in
-    λ p u f e. sym (ap (λ (x : Phase). nextIn x (args′ .len) (assemble (args′ .n) p u f)) (c .enum-told .given .1)))
+    λ p u f e. sym (ap (λ (x : Phase). nextIn (args′ .blocks) x (args′ .len) (assemble (args′ .n) p u f)) (c .enum-told .given .1)))
     (λ c. search needs)
     (λ c.
     let args′ = c .before .before .args in
-    λ p u f e. sym (ap (λ (x : Phase). nextIn x (args′ .len) (assemble (args′ .n) p u f)) (c .enum-told2 .given .1)))
+    λ p u f e. sym (ap (λ (x : Phase). nextIn (args′ .blocks) x (args′ .len) (assemble (args′ .n) p u f)) (c .enum-told2 .given .1)))
     (λ c. search needs)
     (λ c κs. search needs)
     (λ c.
     let phase′ = c .before .before .phase in
     let args′ = c .before .before .before .before .args in
     λ p u f e. c .next-busy .ensures p u f (busy-hand (args′ .n) (args′ .n .phase) _ u f (phase′ .given .1) e)
-    ∙ sym (ap (λ (x : Phase). nextIn x (args′ .len) (assemble (args′ .n) p u f)) (phase′ .given .1))))
+    ∙ sym (ap (λ (x : Phase). nextIn (args′ .blocks) x (args′ .len) (assemble (args′ .n) p u f)) (phase′ .given .1))))

@@ -16,12 +16,12 @@ use Rattle.drive.proofs.runs.run_busy.Statement.{statement}
 use Rattle.drive.proofs.runs.run_busy.Tie as tie
 
 abbrev Inv-loop : tie.InvT-loop
-Inv-loop image₀ places unit₀ frame most m₀ steps₀ image unit m steps =
-    (runFrom (most - steps) steps (stepped image (assemble m places unit frame)) ≡ runOn most image₀ (assemble m₀ places unit₀ frame))
+Inv-loop image₀ blocks places unit₀ frame most m₀ steps₀ image unit m steps =
+    (runFrom blocks (most - steps) steps (stepped image (assemble m places unit frame)) ≡ runOn blocks most image₀ (assemble m₀ places unit₀ frame))
     × (answerIn (m .phase) ≡ More) × (steps ≤ most) × (length image ≡ length image₀)
 
 abbrev μ-loop : tie.MeasureT-loop
-μ-loop image₀ places unit₀ frame most m₀ steps₀ image unit m steps = most - steps
+μ-loop image₀ blocks places unit₀ frame most m₀ steps₀ image unit m steps = most - steps
 
 pub run-busy-spec : {M : Type 1} → statement M
 run-busy-spec =
@@ -58,7 +58,8 @@ run-busy-spec =
     let loop′ = c .before .before .before .before .before .before .before .before .before .before .before .before .before .before .before .loop in
     let args′ =
     c .before .before .before .before .before .before .before .before .before .before .before .before .before .before .before .before .before .args in
-    let x = run-again (runOn (args′ .most) (now (args′ .image)) (assemble (args′ .n) (now (args′ .places)) (now (args′ .unit)) (now
+    let x = run-again (args′ .blocks) (runOn (args′ .blocks) (args′ .most) (now (args′ .image))
+    (assemble (args′ .n) (now (args′ .places)) (now (args′ .unit)) (now
     (args′ .frame)))) (args′ .most) (loop′ .steps) (burst′ .result .steps) (loop′ .image) (assemble (loop′ .m) (now (args′ .places))
     (loop′ .unit) (now (args′ .frame))) _ _ (loop-test′ .taken) (burst′ .ensures .0) (loop′ .inv .0) (loop′ .inv .1) (burst′ .ensures .1 (now
     (args′ .places))) (step-core′ .result) (now (args′ .places)) _ (now (args′ .frame)) _ (step-core′ .ensures)
@@ -92,7 +93,8 @@ run-busy-spec =
     let loop′ = c .before .before .before .before .before .before .before .before .before .before .before .before .before .before .loop in
     let args′ =
     c .before .before .before .before .before .before .before .before .before .before .before .before .before .before .before .before .args in
-    run-ends (runOn (args′ .most) (now (args′ .image)) (assemble (args′ .n) (now (args′ .places)) (now (args′ .unit)) (now (args′ .frame))))
+    run-ends (args′ .blocks) (runOn (args′ .blocks) (args′ .most) (now (args′ .image))
+    (assemble (args′ .n) (now (args′ .places)) (now (args′ .unit)) (now (args′ .frame))))
     (args′ .most) (loop′ .steps) (burst′ .result .steps) (loop′ .image) (assemble (loop′ .m) (now (args′ .places)) (loop′ .unit) (now
     (args′ .frame))) _ _ (loop-test′ .taken) (burst′ .ensures .0) (loop′ .inv .0) (loop′ .inv .1) (burst′ .ensures .1 (now (args′ .places)))
     (step-core′ .result) (now (args′ .places)) _ (now (args′ .frame)) _ (step-core′ .ensures) (c .before .enum-told2 .given .1))
@@ -117,7 +119,8 @@ run-busy-spec =
     let loop′ = c .before .before .before .before .before .before .before .before .before .before .before .before .before .before .loop in
     let args′ =
     c .before .before .before .before .before .before .before .before .before .before .before .before .before .before .before .before .args in
-    run-stops (runOn (args′ .most) (now (args′ .image)) (assemble (args′ .n) (now (args′ .places)) (now (args′ .unit)) (now (args′ .frame))))
+    run-stops (args′ .blocks) (runOn (args′ .blocks) (args′ .most) (now (args′ .image))
+    (assemble (args′ .n) (now (args′ .places)) (now (args′ .unit)) (now (args′ .frame))))
     (args′ .most) (loop′ .steps) (burst′ .result .steps) (loop′ .image) (assemble (loop′ .m) (now (args′ .places)) (loop′ .unit) (now
     (args′ .frame))) _ _ (loop-test′ .taken) (burst′ .ensures .0) (loop′ .inv .0) (loop′ .inv .1) (burst′ .ensures .1 (now (args′ .places)))
     (step-core′ .result) (now (args′ .places)) _ (now (args′ .frame)) _ (step-core′ .ensures) _ (c .before .enum-told3 .given .1))
@@ -126,5 +129,5 @@ run-busy-spec =
     (λ c.
     let loop′ = c .before .before .loop in
     let args′ = c .before .before .before .before .args in
-    rw (c .staying .ensures) (run-spent _ (args′ .most) (loop′ .steps) (now (args′ .places)) (loop′ .unit) (now (args′ .frame))
+    rw (c .staying .ensures) (run-spent (args′ .blocks) _ (args′ .most) (loop′ .steps) (now (args′ .places)) (loop′ .unit) (now (args′ .frame))
     (loop′ .image) (loop′ .m) (omega arith) (loop′ .inv .0) (loop′ .inv .1))))

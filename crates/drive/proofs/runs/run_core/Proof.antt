@@ -15,13 +15,13 @@ run-core-spec =
     (λ c κs. search needs)
     (λ c.
     let args′ = c .before .before .before .before .args in
-    rw (c .staying .ensures) (run-rests (args′ .most) (now (args′ .places)) (now (args′ .unit)) (now (args′ .frame)) (now (args′ .image))
+    rw (c .staying .ensures) (run-rests (args′ .blocks) (args′ .most) (now (args′ .places)) (now (args′ .unit)) (now (args′ .frame)) (now (args′ .image))
     (args′ .n) (ap answerIn (c .before .enum-told .given .1))))
     (λ c. search needs)
     (λ c κs. search needs)
     (λ c.
     let args′ = c .before .before .before .before .args in
-    rw (c .staying2 .ensures) (run-rests (args′ .most) (now (args′ .places)) (now (args′ .unit)) (now (args′ .frame)) (now (args′ .image))
+    rw (c .staying2 .ensures) (run-rests (args′ .blocks) (args′ .most) (now (args′ .places)) (now (args′ .unit)) (now (args′ .frame)) (now (args′ .image))
     (args′ .n) (ap answerIn (c .before .enum-told2 .given .1))))
     (λ c. search needs)
     (λ c κs. ap answerIn (c .before .before .enum-told3 .given .1))

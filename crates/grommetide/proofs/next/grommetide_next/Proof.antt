@@ -3,7 +3,7 @@ use mathlib.Core.Path.{ap, _∙_}
 use denote.Ref.{now}
 use borrow.Author.Tests.{eq-eqb, ne-eqb}
 use Rattle.lent.specs.Layout.{recordIn}
-use Rattle.grommetide.specs.Edge.{tells, edgeNext}
+use Rattle.edge.specs.Edge.{tells, edgeNext}
 use borrow.Author.Needs.{needs}
 use Rattle.grommetide.proofs.next.grommetide_next.Statement.{statement}
 use Rattle.grommetide.proofs.next.grommetide_next.Tie as tie

@@ -4,9 +4,9 @@ use denote.Ref.{now}
 use borrow.Author.Tests.{eq-eqb, ne-eqb}
 use Rattle.board.specs.Drive.{madeOn}
 use Rattle.lent.specs.Layout.{recordIn}
-use Rattle.grommetide.specs.Edge.{edgeMade}
-use Rattle.grommetide.proofs.Kept.{made-keeps}
-use Rattle.grommetide.proofs.Driven.{driven}
+use Rattle.edge.specs.Edge.{edgeMade}
+use Rattle.edge.proofs.Kept.{made-keeps}
+use Rattle.edge.proofs.Driven.{driven}
 use borrow.Author.Needs.{needs}
 use Rattle.grommetide.proofs.steps.grommetide_made.Statement.{statement}
 use Rattle.grommetide.proofs.steps.grommetide_made.Tie as tie
@@ -28,5 +28,5 @@ grommetide-made-spec =
     let args′ = c .before .before .before .before .before .before .before .before .before .before .args in
     let b = now (args′ .board) in let img = now (args′ .image) in let r = recordIn b in let l = if1′ .left in let s = rw
     (numbers′ .ensures) at (made-of′ .ensures img (r .places) (r .unit) (r .frame) refl) in let w = rw (numbers′ .ensures) at
-    (c .before .before .go-on .ensures) in let z = driven _ b _ _ (made-of′ .result) (madeOn img r) l s
-    (made-keeps _ _) w in let t = eq-eqb _ _ l in ((rw t (z .0 .0), rw t (z .0 .1)), λ _. z .1)))
+    (c .before .before .go-on .ensures) in let z = driven _ b _ _ (made-of′ .result) (madeOn (args′ .blocks) img r) l s
+    (made-keeps _ _ _) w in let t = eq-eqb _ _ l in ((rw t (z .0 .0), rw t (z .0 .1)), λ _. z .1)))

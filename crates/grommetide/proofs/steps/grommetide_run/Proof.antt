@@ -2,8 +2,8 @@
 use mathlib.Core.Path.{refl}
 use denote.Ref.{now}
 use borrow.Author.Tests.{eq-eqb, ne-eqb}
-use Rattle.grommetide.specs.Edge.{edgeRun}
-use Rattle.grommetide.proofs.Driving.{ran-none, ran-some}
+use Rattle.edge.specs.Edge.{edgeRun}
+use Rattle.edge.proofs.Driving.{ran-none, ran-some}
 use borrow.Author.Needs.{needs}
 use Rattle.grommetide.proofs.steps.grommetide_run.Statement.{statement}
 use Rattle.grommetide.proofs.steps.grommetide_run.Tie as tie
@@ -38,7 +38,7 @@ grommetide-run-spec =
     let args′ = c22 .args in
     let b = now (args′ .board) in let l = if1′ .left in let q = rw
     (numbers′ .ensures, places′ .ensures, unit′ .ensures, append′ .ensures) at (run-core′ .ensures) in let z = ran-none
-    (now (args′ .image)) _ b _ _ _ (args′ .most) (run-core′ .result) l q (c .number .ensures) (c .before .if2 .taken) refl in
+    (args′ .blocks) (now (args′ .image)) _ b _ _ _ (args′ .most) (run-core′ .result) l q (c .number .ensures) (c .before .if2 .taken) refl in
     (rw (eq-eqb _ _ l) (z .0), λ _. z .1))
     (λ c κs. search needs)
     (λ c κs. search needs)
@@ -62,5 +62,5 @@ grommetide-run-spec =
     let args′ = c27 .args in
     let b = now (args′ .board) in let l = if1′ .left in let q = rw
     (numbers′ .ensures, places′ .ensures, unit′ .ensures, append′ .ensures) at (run-core′ .ensures) in let z = ran-some
-    (now (args′ .image)) _ b _ _ _ (args′ .most) (run-core′ .result) l q (c .number2 .ensures) (if2′ .left)
+    (args′ .blocks) (now (args′ .image)) _ b _ _ _ (args′ .most) (run-core′ .result) l q (c .number2 .ensures) (if2′ .left)
     (c .before .before .before .write-loaded .ensures) in (rw (eq-eqb _ _ l) (z .0), λ _. z .1)))

@@ -1,8 +1,8 @@
 -- A step: in the middle of a frame, or by the numbers.
 use denote.Ref.{now}
 use borrow.Author.Tests.{ne-eqb}
-use Rattle.grommetide.specs.Edge.{edgeStep}
-use Rattle.grommetide.proofs.Driven.{middle}
+use Rattle.edge.specs.Edge.{edgeStep}
+use Rattle.edge.proofs.Driven.{middle}
 use borrow.Author.Needs.{needs}
 use Rattle.grommetide.proofs.steps.grommetide_step.Statement.{statement}
 use Rattle.grommetide.proofs.steps.grommetide_step.Tie as tie

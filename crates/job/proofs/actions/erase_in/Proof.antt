@@ -1,26 +1,33 @@
 -- A block erased, where it lies in the image.
-use mathlib.Core.Path.{_∙_}
-use native.Mathlib.Omega.{arith}
+use mathlib.Core.Path.{sym, ap, _∙_}
+use Prim.Native.Nat.{ℕ}
 use denote.Ref.{now}
-use Rattle.board.proofs.Pipeline.{inside-yes}
-use Rattle.job.proofs.Acting.{no-block, no-offset, did-not, did-it}
-use Rattle.flash.specs.Flash.{erase, sizeOf}
+use borrow.Author.Tests.{not-true, not-false}
+use Rattle.flash.specs.Flash.{erase, eraseBlock}
+use Rattle.job.proofs.Acting.{did-not, did-it}
 use borrow.Author.Needs.{needs}
 use Rattle.job.proofs.actions.erase_in.Statement.{statement}
 use Rattle.job.proofs.actions.erase_in.Tie as tie
 
 pub erase-in-spec : {M : Type 1} → statement M
-erase-in-spec = tie.close (tie.spec
+erase-in-spec =
+    tie.close
+    (tie.spec
+    (λ c κs. search needs)
+    (λ c κs. search needs)
     (λ c.
-    let args′ = c .before .before .args in
-    did-not (erase (args′ .block)) (now (args′ .image)) (no-block (sizeOf (now (args′ .image))) (erase (args′ .block)) (c .if1 .taken)))
-    (λ c.
-    let args′ = c .before .before .before .args in
-    did-not (erase (args′ .block)) (now (args′ .image)) (no-offset (sizeOf (now (args′ .image))) (erase (args′ .block)) (omega arith)))
+    let args′ = c .before .before .before .before .args in
+    did-not (args′ .blocks) (erase (args′ .block)) (now (args′ .image))
+    (rw (c .before .before .size-of .ensures) at (sym (c .before .lies-in .ensures) ∙ not-true _ (c .if1 .taken))))
     (λ c κs. search needs)
     (λ c. search needs)
     (λ c.
-    let if1′ = c .before .before .before .before .before .if1 in
-    let args′ = c .before .before .before .before .before .before .before .args in
-    let img = now (args′ .image) in let d = did-it (erase (args′ .block)) img
-    (inside-yes (sizeOf img) (erase (args′ .block)) (if1′ .left) (omega arith)) in (d .0, c .before .before .erase-block .ensures ∙ d .1)))
+    let if1′ = c .before .before .before .before .if1 in
+    let lies-in′ = c .before .before .before .before .before .lies-in in
+    let size-of′ = c .before .before .before .before .before .before .size-of in
+    let args′ = c .before .before .before .before .before .before .before .before .args in
+    let d = did-it (args′ .blocks) (erase (args′ .block)) (now (args′ .image))
+    (rw (size-of′ .ensures) at (sym (lies-in′ .ensures) ∙ not-false _ (if1′ .left))) in (
+      d .0,
+      c .before .before .erase-block .ensures ∙ ap (λ (s : ℕ). eraseBlock s (args′ .block) (now (args′ .image))) (size-of′ .ensures) ∙ d .1,
+    )))

@@ -10,4 +10,4 @@ pub wiped-spec : {M : Type 1} → statement M
 wiped-spec = tie.close (tie.spec
     (λ c. search needs)
     (λ c. search needs)
-    (λ c. let l : length (c .before .args .t1) ≡ 2 = search needs in sym (List·getD-eq-default (c .before .args .t1) 0 (omega arith))))
+    (λ c. let l : length (c .before .args .t1) ≡ 16 = search needs in sym (List·getD-eq-default (c .before .args .t1) 0 (omega arith))))

@@ -26,8 +26,8 @@ after-append-spec =
     (λ c.
     let args′ = c .before .before .before .before .before .args in
     let n = args′ .n in
-    λ i p u f. rw (c .next-step .ensures) (on-leaves p u f Append (n .job .size) n
-    (idle (rest (n .rest .last) (n .rest .block) (n .rest .end + n .job .size)))
+    λ N i p u f. rw (c .next-step .ensures) (on-leaves p u f Append (n .job .size) n
+    (idle (rest (n .rest .blocks) (n .rest .last) (n .rest .block) (n .rest .end + n .job .size)))
     (sym (c .before .before .has-next .ensures) ∙ c .before .if1 .taken)))
     (λ c. search needs)
     (λ c. search needs)
@@ -36,6 +36,6 @@ after-append-spec =
     let has-next′ = c .before .before .before .before .before .has-next in
     let args′ = c .before .before .before .before .before .before .before .before .args in
     let n = args′ .n in
-    let z = rest (n .rest .last) (n .rest .block) (n .rest .end + n .job .size) in
-    λ i p u f. rw (c .over .ensures) (off-leaves p u f Append (n .job .size) (assemble n p u f) (over z) (idle z)
+    let z = rest (n .rest .blocks) (n .rest .last) (n .rest .block) (n .rest .end + n .job .size) in
+    λ N i p u f. rw (c .over .ensures) (off-leaves p u f Append (n .job .size) (assemble n p u f) (over z) (idle z)
     (sym (has-next′ .ensures) ∙ c .before .before .before .before .if1 .left) (over-leaves p u f z))))

@@ -12,5 +12,5 @@ after-copy-spec =
     (λ c κs. search needs)
     (λ c.
     let args′ = c .before .before .before .before .args in
-    λ i p u f. rw (c .before .staying .ensures, c .before .before .next-byte .ensures, c .has-next .ensures)
-    (copy-moves i p u f (args′ .n))))
+    λ N i p u f. rw (c .before .staying .ensures, c .before .before .next-byte .ensures, c .has-next .ensures)
+    (copy-moves N i p u f (args′ .n))))

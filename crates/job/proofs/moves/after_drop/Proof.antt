@@ -12,4 +12,4 @@ after-drop-spec = tie.close (tie.spec
     (λ c κs. search needs)
     (λ c κs. search needs)
     (λ c.
-    λ i p u f. rw (c .enter-append .ensures, c .before .landed .ensures) (append-leaves p u f (landedOn (c .before .before .args .n)))))
+    λ N i p u f. rw (c .enter-append .ensures, c .before .landed .ensures) (append-leaves p u f (landedOn (c .before .before .args .n)))))

@@ -18,9 +18,9 @@ after-open-spec =
     (λ c κs. search needs)
     (λ c.
     let args′ = c .before .before .before .before .before .args in
-    λ i p u f. rw (c .still .ensures, c .before .next-step .ensures)
-    (open-on i p u f (args′ .n) (sym (c .before .before .before .has-next .ensures) ∙ c .before .before .if1 .taken)))
+    λ N i p u f. rw (c .still .ensures, c .before .next-step .ensures)
+    (open-on N i p u f (args′ .n) (sym (c .before .before .before .has-next .ensures) ∙ c .before .before .if1 .taken)))
     (λ c κs. search needs)
     (λ c.
     let args′ = c .before .before .before .before .args in
-    λ i p u f. rw (c .due .ensures) (open-off i p u f (args′ .n) (sym (c .before .before .has-next .ensures) ∙ c .before .if1 .left))))
+    λ N i p u f. rw (c .due .ensures) (open-off N i p u f (args′ .n) (sym (c .before .before .has-next .ensures) ∙ c .before .if1 .left))))

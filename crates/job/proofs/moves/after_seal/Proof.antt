@@ -26,10 +26,10 @@ after-seal-spec =
     ))
     (λ c.
     let args′ = c .before .before .before .before .args in
-    λ i p u f. rw (c .next-step .ensures) (on-leaves p u f Seal 5 (args′ .n) (enterDrop (assemble (args′ .n) p u f))
+    λ N i p u f. rw (c .next-step .ensures) (on-leaves p u f Seal 5 (args′ .n) (enterDrop (assemble (args′ .n) p u f))
     (sym (c .before .before .has-next .ensures) ∙ c .before .if1 .taken)))
     (λ c κs. search needs)
     (λ c.
     let args′ = c .before .before .before .before .args in
-    λ i p u f. rw (c .enter-drop .ensures) (off-leaves p u f Seal 5 (assemble (args′ .n) p u f) (goDrop (args′ .n))
+    λ N i p u f. rw (c .enter-drop .ensures) (off-leaves p u f Seal 5 (assemble (args′ .n) p u f) (goDrop (args′ .n))
     (enterDrop (assemble (args′ .n) p u f)) (sym (c .before .before .has-next .ensures) ∙ c .before .if1 .left) (drop-leaves p u f (args′ .n)))))

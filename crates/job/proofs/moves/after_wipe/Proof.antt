@@ -23,10 +23,10 @@ after-wipe-spec =
     omega (arith, ltb-true (suc (args′ .n .cursor .index)) (args′ .n .job .wipes) (sym (c .before .has-next .ensures) ∙ c .if1 .taken), good′))
     (λ c.
     let args′ = c .before .before .before .before .before .args in
-    λ i p u f. rw (c .next-step .ensures) (on-leaves p u f Wipe (args′ .n .job .wipes) (args′ .n) (enterOpen (assemble (args′ .n) p u f))
+    λ N i p u f. rw (c .next-step .ensures) (on-leaves p u f Wipe (args′ .n .job .wipes) (args′ .n) (enterOpen (assemble (args′ .n) p u f))
     (sym (c .before .before .has-next .ensures) ∙ c .before .if1 .taken)))
     (λ c κs. search needs)
     (λ c.
     let args′ = c .before .before .before .before .before .args in
-    λ i p u f. rw (c .enter-open .ensures) (off-leaves p u f Wipe (args′ .n .job .wipes) (assemble (args′ .n) p u f) (goOpen (args′ .n))
+    λ N i p u f. rw (c .enter-open .ensures) (off-leaves p u f Wipe (args′ .n .job .wipes) (assemble (args′ .n) p u f) (goOpen (args′ .n))
     (enterOpen (assemble (args′ .n) p u f)) (sym (c .before .before .has-next .ensures) ∙ c .before .if1 .left) (open-leaves p u f (args′ .n)))))

@@ -7,7 +7,9 @@ use Rattle.fetch.specs.Fetch.{Inside}
 use Rattle.fetch.proofs.Copying.{fetches}
 use Rattle.job.proofs.Loading.{frame-found, none-found}
 use denote.Ref.{now}
-use mathlib.Core.Path.{subst}
+use mathlib.Core.Path.{ap, subst, _∙_}
+use Prim.Native.Nat.{ℕ}
+use Rattle.flash.specs.Flash.{block}
 use borrow.Author.Needs.{needs}
 use Rattle.job.proofs.steps.enter_copy.Statement.{statement}
 use Rattle.job.proofs.steps.enter_copy.Tie as tie
@@ -16,6 +18,7 @@ pub enter-copy-spec : {M : Type 1} → statement M
 enter-copy-spec =
     tie.close
     (tie.spec
+    (λ c κs. search needs)
     (λ c κs. search needs)
     (λ c κs. search needs)
     (λ c. search needs)
@@ -27,19 +30,23 @@ enter-copy-spec =
     let fetch′ = c .before .before .before .fetch in
     let next-load′ = c .before .before .before .before .before .next-load in
     let block-of′ = c .before .before .before .before .before .before .block-of in
-    let args′ = c .before .before .before .before .before .before .before .before .before .before .before .before .args in
+    let size-of′ = c .before .before .before .before .before .before .before .size-of in
+    let args′ = c .before .before .before .before .before .before .before .before .before .before .before .before .before .args in
     λ f. subst (LeadsTo (now (args′ .places)) _ f (c .load .result))
-    (frame-found (now (args′ .image)) (assemble (args′ .n) (now (args′ .places)) (now (args′ .unit)) f) (now (block-of′ .result))
-    (block-of′ .ensures) (next-load′ .result) (fetches _ _ _ _ _ _ _ (next-load′ .ensures) .0) (fetch′ .given .0 .0)
+    (frame-found (args′ .blocks) (now (args′ .image)) (assemble (args′ .n) (now (args′ .places)) (now (args′ .unit)) f) (now (block-of′ .result))
+    (block-of′ .ensures ∙ ap (λ (s : ℕ). block s (args′ .n .rest .block) (now (args′ .image))) (size-of′ .ensures))
+    (next-load′ .result) (fetches _ _ _ _ _ _ _ (next-load′ .ensures) .0) (fetch′ .given .0 .0)
     (fetch′ .given .1)) (c .load .ensures (now (args′ .places)) f))
     (λ c. search needs)
     (λ c κs. search needs)
     (λ c.
     let next-load′ = c .before .before .before .next-load in
     let block-of′ = c .before .before .before .before .block-of in
-    let args′ = c .before .before .before .before .before .before .before .before .before .before .args in
+    let size-of′ = c .before .before .before .before .before .size-of in
+    let args′ = c .before .before .before .before .before .before .before .before .before .before .before .args in
     λ f. rw (c .enter .ensures) (subst (LeadsTo (now (args′ .places)) (now (args′ .unit)) f
     (going Seal (first (args′ .n .cursor)) (args′ .n)))
-    (none-found (now (args′ .image)) (assemble (args′ .n) (now (args′ .places)) (now (args′ .unit)) f) (now (block-of′ .result))
-    (block-of′ .ensures) (next-load′ .result) (fetches _ _ _ _ _ _ _ (next-load′ .ensures) .0) (c .before .enum-told .given .1))
+    (none-found (args′ .blocks) (now (args′ .image)) (assemble (args′ .n) (now (args′ .places)) (now (args′ .unit)) f) (now (block-of′ .result))
+    (block-of′ .ensures ∙ ap (λ (s : ℕ). block s (args′ .n .rest .block) (now (args′ .image))) (size-of′ .ensures))
+    (next-load′ .result) (fetches _ _ _ _ _ _ _ (next-load′ .ensures) .0) (c .before .enum-told .given .1))
     (going-leaves (now (args′ .places)) (now (args′ .unit)) f Seal (first (args′ .n .cursor)) (args′ .n)))))

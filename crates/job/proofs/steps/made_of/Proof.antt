@@ -15,16 +15,18 @@ made-of-spec =
     (λ c. search needs)
     (λ c κs. search needs)
     (λ c.
-    λ img p u f e. rw (c .rests .ensures) (in-phase (λ (x : Phase). madeIn x img (assemble (c .before .before .before .args .n) p u f)) _ _
+    let args′ = c .before .before .before .args in
+    λ img p u f e. rw (c .rests .ensures) (in-phase (λ (x : Phase). madeIn (args′ .blocks) x img (assemble (args′ .n) p u f)) _ _
     (c .before .enum-told .given .1) _ _ _ _ (stays _ _)))
     (λ c. search needs)
     (λ c κs. search needs)
     (λ c.
-    λ img p u f e. rw (c .rests2 .ensures) (in-phase (λ (x : Phase). madeIn x img (assemble (c .before .before .before .args .n) p u f)) _ _
+    let args′ = c .before .before .before .args in
+    λ img p u f e. rw (c .rests2 .ensures) (in-phase (λ (x : Phase). madeIn (args′ .blocks) x img (assemble (args′ .n) p u f)) _ _
     (c .before .enum-told2 .given .1) _ _ _ _ (stays _ _)))
     (λ c. search needs)
     (λ c κs. search needs)
     (λ c.
     let args′ = c .before .before .before .before .args in
-    λ img p u f e. in-phase (λ (x : Phase). madeIn x img (assemble (args′ .n) p u f)) _ _ (c .before .before .phase .given .1) _ _ _ _
+    λ img p u f e. in-phase (λ (x : Phase). madeIn (args′ .blocks) x img (assemble (args′ .n) p u f)) _ _ (c .before .before .phase .given .1) _ _ _ _
     (c .made-busy .ensures img p u f e)))

@@ -1,13 +1,13 @@
 -- A step call in a job.
-use Rattle.flash.specs.Flash.{sizeOf}
-use Rattle.job.specs.Code.{flashStep}
-use Rattle.job.proofs.Advancing.{offset-low, by-hand, other-length, other-place, step-done}
-use borrow.Author.Tests.{not-true, not-false}
-use native.Mathlib.Numerals.{add-one}
-use native.Mathlib.Omega.{arith}
-use borrow.Author.Needs.{needs}
-use denote.Ref.{now}
 use mathlib.Core.Path.{sym, _∙_}
+use native.Mathlib.Omega.{arith}
+use lib.ListN.{length}
+use denote.Ref.{now}
+use borrow.Author.Tests.{not-true, not-false}
+use Rattle.job.specs.Code.{flashStep}
+use Rattle.job.proofs.Acting.{same-parts}
+use Rattle.job.proofs.Advancing.{offset-low, by-hand, other-shape, other-place, step-done}
+use borrow.Author.Needs.{needs}
 use Rattle.job.proofs.steps.try_busy.Statement.{statement}
 use Rattle.job.proofs.steps.try_busy.Tie as tie
 
@@ -15,13 +15,12 @@ pub try-busy-spec : {M : Type 1} → statement M
 try-busy-spec =
     tie.close
     (tie.spec
-    (λ c. search needs)
-    (λ c. search needs)
+    (λ c κs. search needs)
     (λ c κs. search needs)
     (λ c.
     let args′ = c .before .before .before .before .before .args in
-    λ p u f e. rw (c .stale .ensures) (other-length p u f (args′ .stage) (now (args′ .image)) (args′ .n) (λ x. c .before .if1 .taken (x ∙ sym
-    (add-one (args′ .n .rest .last))))))
+    λ p u f e. rw (c .stale .ensures) (other-shape (args′ .blocks) p u f (args′ .stage) (now (args′ .image)) (args′ .n)
+    (sym (c .before .before .same-shape .ensures) ∙ not-true _ (c .before .if1 .taken))))
     (λ c κs. search needs)
     (λ c κs. search needs)
     (λ c κs. search needs)
@@ -30,22 +29,27 @@ try-busy-spec =
     let act′ = c .before .before .before .before .act in
     let next-action′ = c .before .before .before .before .before .before .next-action in
     let args′ = c .before .before .before .before .before .before .before .before .before .before .before .args in
-    λ p u f e. rw (c .stale2 .ensures) (other-place p u f (args′ .stage) (now (args′ .image)) (args′ .n) (flashStep (next-action′ .result))
-    (next-action′ .ensures ∙ by-hand (args′ .stage) (args′ .n) (args′ .byte) p u f e) (sym (act′ .ensures .0) ∙ not-true (act′ .result)
-    (c .before .if2 .taken)) _ (act′ .ensures .1)))
+    λ p u f e. rw (c .stale2 .ensures) (other-place (args′ .blocks) p u f (args′ .stage) (now (args′ .image)) (args′ .n)
+    (flashStep (next-action′ .result)) (next-action′ .ensures ∙ by-hand (args′ .stage) (args′ .n) (args′ .byte) p u f e)
+    (sym (act′ .ensures .0) ∙ not-true (act′ .result) (c .before .if2 .taken)) _ (act′ .ensures .1)))
     (λ c κs.
     let act′ = c .before .before .before .act in
     let next-action′ = c .before .before .before .before .before .next-action in
+    let if1′ = c .before .before .before .before .before .before .if1 in
+    let same-shape′ = c .before .before .before .before .before .before .before .same-shape in
     let args′ = c .before .before .before .before .before .before .before .before .before .before .args in
-    offset-low (args′ .stage) (sizeOf (now (args′ .image))) (args′ .n) (args′ .byte)
-    (rw (next-action′ .ensures) at (sym (act′ .ensures .0) ∙ not-false (act′ .result) (c .if2 .left))) (omega arith))
+    let good′ = c .before .before .before .before .before .before .before .before .before .before .good in
+    let s = same-parts (args′ .blocks) (length (now (args′ .image))) (args′ .n .rest) (sym (same-shape′ .ensures) ∙ not-false _ (if1′ .left)) in
+    offset-low (args′ .stage) (args′ .blocks) (length (now (args′ .image))) (args′ .n) (args′ .byte)
+    (rw (next-action′ .ensures) at (sym (act′ .ensures .0) ∙ not-false (act′ .result) (c .if2 .left))) (omega (arith, s .0, good′)))
     (λ c. search needs)
     (λ c.
     let act′ = c .before .before .before .before .act in
     let next-action′ = c .before .before .before .before .before .before .next-action in
     let if1′ = c .before .before .before .before .before .before .before .if1 in
+    let same-shape′ = c .before .before .before .before .before .before .before .before .same-shape in
     let args′ = c .before .before .before .before .before .before .before .before .before .before .before .args in
-    λ p u f e. step-done p u f (args′ .stage) (now (args′ .image)) (args′ .n) (flashStep (next-action′ .result))
-    (next-action′ .ensures ∙ by-hand (args′ .stage) (args′ .n) (args′ .byte) p u f e) (if1′ .left ∙ add-one (args′ .n .rest .last))
+    λ p u f e. step-done (args′ .blocks) p u f (args′ .stage) (now (args′ .image)) (args′ .n) (flashStep (next-action′ .result))
+    (next-action′ .ensures ∙ by-hand (args′ .stage) (args′ .n) (args′ .byte) p u f e) (sym (same-shape′ .ensures) ∙ not-false _ (if1′ .left))
     (sym (act′ .ensures .0) ∙ not-false (act′ .result) (c .before .if2 .left)) _ (act′ .ensures .1) (c .advance .result)
-    (c .advance .ensures _ p u f)))
+    (c .advance .ensures (args′ .blocks) _ p u f)))

@@ -17,13 +17,13 @@ try-step-spec =
     (λ c κs. search needs)
     (λ c.
     let args′ = c .before .before .before .before .args in
-    λ p u f e. rw (c .rests .ensures) (in-phase (λ (x : Phase). stepIn x (now (args′ .image)) (assemble (args′ .n) p u f)) _ _
+    λ p u f e. rw (c .rests .ensures) (in-phase (λ (x : Phase). stepIn (args′ .blocks) x (now (args′ .image)) (assemble (args′ .n) p u f)) _ _
     (c .before .enum-told .given .1) _ _ _ _ (stays _ _)))
     (λ c. search needs)
     (λ c κs. search needs)
     (λ c.
     let args′ = c .before .before .before .before .args in
-    λ p u f e. rw (c .rests2 .ensures) (in-phase (λ (x : Phase). stepIn x (now (args′ .image)) (assemble (args′ .n) p u f)) _ _
+    λ p u f e. rw (c .rests2 .ensures) (in-phase (λ (x : Phase). stepIn (args′ .blocks) x (now (args′ .image)) (assemble (args′ .n) p u f)) _ _
     (c .before .enum-told2 .given .1) _ _ _ _ (stays _ _)))
     (λ c. search needs)
     (λ c κs. search needs)
@@ -31,5 +31,5 @@ try-step-spec =
     (λ c.
     let phase′ = c .before .before .before .before .before .phase in
     let args′ = c .before .before .before .before .before .before .before .before .args in
-    λ p u f e. in-phase (λ (x : Phase). stepIn x (now (args′ .image)) (assemble (args′ .n) p u f)) _ _ (phase′ .given .1) _ _ _ _
+    λ p u f e. in-phase (λ (x : Phase). stepIn (args′ .blocks) x (now (args′ .image)) (assemble (args′ .n) p u f)) _ _ (phase′ .given .1) _ _ _ _
     (c .before .before .try-busy .ensures p u f (busy-hand (args′ .n) (args′ .n .phase) _ u f (phase′ .given .1) e))))

@@ -15,8 +15,6 @@ write-loaded-spec =
     (λ c.
     let lay-at′ = c .before .before .before .before .before .before .lay-at in
     let if1′ = c .before .before .before .before .before .before .before .before .before .if1 in
-    let c11 = c .before .before .before .before .before .before .before .before .before .before .before in
-    let args′ = c11 .args in
-    let good′ = c11 .good in
-    loaded (args′ .s) (now (args′ .unit)) (now (args′ .bytes)) _ _ (if1′ .left) (search (needs, good′)) (lay-at′ .ensures)
+    let args′ = c .before .before .before .before .before .before .before .before .before .before .before .args in
+    loaded (args′ .s) (now (args′ .unit)) (now (args′ .bytes)) _ _ (if1′ .left) (search needs) (lay-at′ .ensures)
     (c .before .before .write-step .ensures)))

@@ -7,10 +7,9 @@ use Rattle.flash.specs.Flash.{sizeOf, block}
 use Rattle.flash.proofs.Blank.{bytes-of}
 use Rattle.journal.specs.Block.{blockState}
 use Rattle.survey.specs.Survey.{surveyOf, placesIn, stateOf}
-use Rattle.survey.proofs.Surveying.{half-fits}
 use Rattle.board.specs.declared.Record.{Record}
 use Rattle.job.specs.Code.{placed}
-use Rattle.queue.proofs.Asking.{Passed, passed, looks, shut}
+use Rattle.queue.proofs.Asking.{Passed, passed, state-is, shut}
 use Prim.Native.Nat.{_+_, _*_, _≤_}
 use lib.ListN.{length}
 use Rattle.board.specs.Record.{unmounted}
@@ -22,55 +21,55 @@ use Rattle.queue.proofs.reads.find.Tie as tie
 -- the gate was open
 opened : (c : tie.After-enum-told) (b : Record) →
     let args′ = c .before .before .before .before .before .args in
-    Passed (now (args′ .image)) (placed (args′ .phase) (args′ .rest) b) (args′ .host)
+    Passed (args′ .blocks) (now (args′ .image)) (placed (args′ .phase) (args′ .rest) b) (args′ .host)
 opened c b =
     let args′ = c .before .before .before .before .before .args in
-    passed (now (args′ .image)) (placed (args′ .phase) (args′ .rest) b) (args′ .host)
+    passed (args′ .blocks) (now (args′ .image)) (placed (args′ .phase) (args′ .rest) b) (args′ .host)
     (sym (c .before .before .check .ensures) ∙ c .enum-told .given .1)
 
 -- the current block, which is to be surveyed
-bytes : (c : tie.After-block-of) → Bytes (now (c .before .before .before .before .before .before .before .args .image))
-bytes c = bytes-of (now (c .before .before .before .before .before .before .before .args .image))
-    (λ i. c .before .before .before .before .before .before .shared-slice-known .given i .fits)
+bytes : (c : tie.After-block-of) → Bytes (now (c .before .before .before .before .before .before .before .before .args .image))
+bytes c = bytes-of (now (c .before .before .before .before .before .before .before .before .args .image))
+    (λ i. c .before .before .before .before .before .before .before .shared-slice-known .given i .fits)
 
 surveyed : (c : tie.After-block-of) →
-    let args′ = c .before .before .before .before .before .before .before .args in
-    stateOf (now (c .block-of .result)) ≡ blockState (block (sizeOf (now (args′ .image))) (args′ .rest .block) (now (args′ .image)))
+    let args′ = c .before .before .before .before .before .before .before .before .args in
+    stateOf (now (c .block-of .result)) ≡ blockState (block (sizeOf (args′ .blocks) (now (args′ .image))) (args′ .rest .block) (now (args′ .image)))
 surveyed c =
-    let args′ = c .before .before .before .before .before .before .before .args in
-    let r = placed (args′ .phase) (args′ .rest) unmounted in
-    half-fits (now (c .block-of .result))
-    (rw (c .block-of .ensures) (looks _ r (args′ .host) (now (args′ .message)) (bytes c) (opened (c .before .before) unmounted)))
-    ∙ ap blockState (c .block-of .ensures)
+    let args′ = c .before .before .before .before .before .before .before .before .args in
+    state-is (args′ .blocks) _ (placed (args′ .phase) (args′ .rest) unmounted) (args′ .host) (now (args′ .message)) (bytes c)
+    (opened (c .before .before .before) unmounted) (now (c .block-of .result)) (c .before .before .size-of .ensures) (c .block-of .ensures)
 
 looked : (c : tie.After-hear) (b : Record) →
-    let args′ = c .before .before .before .before .before .before .before .before .before .before .args in
-    Looked (now (args′ .image)) (placed (args′ .phase) (args′ .rest) b) (args′ .host) (now (args′ .message))
-    (c .before .survey-block .result) (c .hear .result)
+    let c3 = c .before .before .before in
+    let args′ = c3 .before .before .before .before .before .before .before .before .args in
+    Looked (args′ .blocks) (now (args′ .image)) (placed (args′ .phase) (args′ .rest) b) (args′ .host) (now (args′ .message))
+    (c3 .before .before .size-of .result) (c .before .survey-block .result) (c .hear .result)
 looked c b =
+    let c3 = c .before .before .before in
     record {
-      bytes = bytes (c .before .before .before);
-      passed = opened (c .before .before .before .before .before) b;
-      survey = c .before .survey-block .ensures .0 ∙ ap surveyOf (surveyed (c .before .before .before));
+      bytes = bytes c3;
+      passed = opened (c3 .before .before .before) b;
+      sized = c3 .before .before .size-of .ensures;
+      survey = c .before .survey-block .ensures .0 ∙ ap surveyOf (surveyed c3);
       asks = c .hear .ensures;
     }
 
 -- what was found lies in the image
 inside : (c : tie.After-at) →
     let c10 = c .before .before .before .before .before .before .before .before .before .before in
-    let args′ = c10 .before .before .before .before .before .before .before .args in
+    let args′ = c10 .before .before .before .before .before .before .before .before .args in
     let at′ = c .at in
-    (args′ .rest .block * sizeOf (now (args′ .image)) + at′ .given .0 .0 + at′ .given .0 .1 .0 ≤ length (now (args′ .image)))
+    (args′ .rest .block * c10 .before .before .size-of .result + at′ .given .0 .0 + at′ .given .0 .1 .0 ≤ length (now (args′ .image)))
     × (length (now (args′ .image)) ≤ 65536)
 inside c =
     let at′ = c .at in
     let find′ = c .before .before .value-for in
     let ask′ = c .before .before .before .before .before .ask in
-    let block-of′ = c .before .before .before .before .before .before .before .before .before .before .block-of in
+    let c10 = c .before .before .before .before .before .before .before .before .before .before in
     read-inside (looked (c .before .before .before .before .before .before .before) unmounted) (ask′ .given .0 .0) (ask′ .given .1) _
-    (c .before .before .before .before .before .before .before .before .survey-block .ensures .1 ∙ ap placesIn
-    (surveyed (c .before .before .before .before .before .before .before .before .before .before))) (now (block-of′ .result))
-    (block-of′ .ensures) (find′ .result) (find′ .ensures)
+    (c .before .before .before .before .before .before .before .before .survey-block .ensures .1 ∙ ap placesIn (surveyed c10)) (now (c10 .block-of .result))
+    (c10 .block-of .ensures) (find′ .result) (find′ .ensures)
     (at′ .given .0 .0) (at′ .given .0 .1 .0) (at′ .given .1)
 
 pub find-spec : {M : Type 1} → statement M
@@ -84,10 +83,11 @@ find-spec =
     let c7 = c .before .before .before .before .before .before .before in
     let check′ = c .before .before .before .before .check in
     let args′ = c7 .args in
-    λ b. none-read (now (args′ .image)) (placed (args′ .phase) (args′ .rest) b) _ _ _ _
-    (shut (now (args′ .image)) (placed (args′ .phase) (args′ .rest) b) _ _ _ _ (sym (check′ .ensures) ∙ c .before .before .why .given .1))
+    λ b. none-read (args′ .blocks) (now (args′ .image)) (placed (args′ .phase) (args′ .rest) b) _ _ _ _
+    (shut (args′ .blocks) (now (args′ .image)) (placed (args′ .phase) (args′ .rest) b) _ _ _ _ (sym (check′ .ensures) ∙ c .before .before .why .given .1))
     (c .nothing .ensures))
     (λ c. search needs)
+    (λ c κs. search needs)
     (λ c κs. search needs)
     (λ c κs. search needs)
     (λ c κs. search needs)
@@ -95,9 +95,9 @@ find-spec =
     (λ c. search needs)
     (λ c κs. search needs)
     (λ c.
-    let c14 = c .before .before .before .before .before .before .before .before .before .before .before .before .before .before in
-    let args′ = c14 .args in
-    λ b. none-read (now (args′ .image)) (placed (args′ .phase) (args′ .rest) b) _ _ _ _
+    let c15 = c .before .before .before .before .before .before .before .before .before .before .before .before .before .before .before in
+    let args′ = c15 .args in
+    λ b. none-read (args′ .blocks) (now (args′ .image)) (placed (args′ .phase) (args′ .rest) b) _ _ _ _
     (not-served (looked (c .before .before .before .before) b) _ _ (c .before .before .why2 .given .1)) (c .nothing2 .ensures))
     (λ c. search needs)
     (λ c κs. search needs)

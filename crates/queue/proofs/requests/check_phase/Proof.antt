@@ -14,18 +14,18 @@ check-phase-spec =
     (λ c. search needs)
     (λ c.
     let args′ = c .before .before .before .args in
-    ap (λ (p : Phase). gateIn p (now (args′ .image)) (args′ .rest)) (sym (c .enum-told .given .1)))
+    ap (λ (p : Phase). gateIn (args′ .blocks) p (now (args′ .image)) (args′ .rest)) (sym (c .enum-told .given .1)))
     (λ c. search needs)
     (λ c.
     let args′ = c .before .before .before .args in
-    ap (λ (p : Phase). gateIn p (now (args′ .image)) (args′ .rest)) (sym (c .enum-told2 .given .1)))
+    ap (λ (p : Phase). gateIn (args′ .blocks) p (now (args′ .image)) (args′ .rest)) (sym (c .enum-told2 .given .1)))
     (λ c. search needs)
     (λ c κs. search needs)
     (λ c.
     let args′ = c .before .before .before .before .before .args in
     ap openIf (sym (sym (c .before .same-image .ensures) ∙ c .if1 .taken))
-    ∙ ap (λ (p : Phase). gateIn p (now (args′ .image)) (args′ .rest)) (sym (c .before .before .enum-told3 .given .1)))
+    ∙ ap (λ (p : Phase). gateIn (args′ .blocks) p (now (args′ .image)) (args′ .rest)) (sym (c .before .before .enum-told3 .given .1)))
     (λ c.
     let args′ = c .before .before .before .before .before .args in
     ap openIf (sym (sym (c .before .same-image .ensures) ∙ c .if1 .left))
-    ∙ ap (λ (p : Phase). gateIn p (now (args′ .image)) (args′ .rest)) (sym (c .before .before .enum-told3 .given .1))))
+    ∙ ap (λ (p : Phase). gateIn (args′ .blocks) p (now (args′ .image)) (args′ .rest)) (sym (c .before .before .enum-told3 .given .1))))

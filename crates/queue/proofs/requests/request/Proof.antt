@@ -21,5 +21,5 @@ request-spec =
     let c13 = c7 .before .before .before .before .before .before in
     let rest-of′ = c7 .rest-of in
     let args′ = c13 .args in
-    by-value (c .kept-or .result) (requestOn (now (args′ .image)) (args′ .board) (now (args′ .reply)) (args′ .host) (now (args′ .message)))
+    by-value (c .kept-or .result) (requestOn (args′ .blocks) (now (args′ .image)) (args′ .board) (now (args′ .reply)) (args′ .host) (now (args′ .message)))
     (c .kept-or .ensures) (rw (rest-of′ .ensures) at (c .before .before .before .request-core .ensures (args′ .board)))))

@@ -7,10 +7,9 @@ use Rattle.flash.specs.Flash.{sizeOf, block}
 use Rattle.flash.proofs.Blank.{bytes-of}
 use Rattle.journal.specs.Block.{blockState}
 use Rattle.survey.specs.Survey.{surveyOf, placesIn, stateOf}
-use Rattle.survey.proofs.Surveying.{half-fits}
 use Rattle.board.specs.declared.Record.{Record}
 use Rattle.job.specs.Code.{placed}
-use Rattle.queue.proofs.Asking.{Passed, passed, looks, shut}
+use Rattle.queue.proofs.Asking.{Passed, passed, state-is, shut}
 use Rattle.board.proofs.Images.{sized-of}
 use Rattle.board.specs.Record.{unmounted}
 use Rattle.queue.proofs.Handing.{Looked, refused-all, not-served, served-says, served-asks, served-reply}
@@ -21,36 +20,37 @@ use Rattle.queue.proofs.requests.request_core.Tie as tie
 -- the gate was open
 opened : (c : tie.After-enum-told) (b : Record) →
     let args′ = c .before .before .before .before .before .before .args in
-    Passed (now (args′ .image)) (placed (args′ .phase) (args′ .rest) b) (args′ .host)
+    Passed (args′ .blocks) (now (args′ .image)) (placed (args′ .phase) (args′ .rest) b) (args′ .host)
 opened c b =
     let args′ = c .before .before .before .before .before .before .args in
-    passed (now (args′ .image)) (placed (args′ .phase) (args′ .rest) b) (args′ .host)
+    passed (args′ .blocks) (now (args′ .image)) (placed (args′ .phase) (args′ .rest) b) (args′ .host)
     (sym (c .before .before .check .ensures) ∙ c .enum-told .given .1)
 
 -- the current block, which is to be surveyed
-bytes : (c : tie.After-block-of) → Bytes (now (c .before .before .before .before .before .before .before .args .image))
-bytes c = bytes-of (now (c .before .before .before .before .before .before .before .args .image))
-    (λ i. c .before .before .before .before .before .before .shared-slice-known .given i .fits)
+bytes : (c : tie.After-block-of) → Bytes (now (c .before .before .before .before .before .before .before .before .args .image))
+bytes c = bytes-of (now (c .before .before .before .before .before .before .before .before .args .image))
+    (λ i. c .before .before .before .before .before .before .before .shared-slice-known .given i .fits)
 
 surveyed : (c : tie.After-block-of) →
-    let args′ = c .before .before .before .before .before .before .before .args in
-    stateOf (now (c .block-of .result)) ≡ blockState (block (sizeOf (now (args′ .image))) (args′ .rest .block) (now (args′ .image)))
+    let args′ = c .before .before .before .before .before .before .before .before .args in
+    stateOf (now (c .block-of .result)) ≡ blockState (block (sizeOf (args′ .blocks) (now (args′ .image))) (args′ .rest .block) (now (args′ .image)))
 surveyed c =
-    let args′ = c .before .before .before .before .before .before .before .args in
-    let r = placed (args′ .phase) (args′ .rest) unmounted in
-    half-fits (now (c .block-of .result))
-    (rw (c .block-of .ensures) (looks _ r (args′ .host) (now (args′ .message)) (bytes c) (opened (c .before) unmounted)))
-    ∙ ap blockState (c .block-of .ensures)
+    let args′ = c .before .before .before .before .before .before .before .before .args in
+    state-is (args′ .blocks) _ (placed (args′ .phase) (args′ .rest) unmounted) (args′ .host) (now (args′ .message)) (bytes c)
+    (opened (c .before .before) unmounted) (now (c .block-of .result)) (c .before .size-of .ensures) (c .block-of .ensures)
 
 looked : (c : tie.After-hear) (b : Record) →
-    let args′ = c .before .before .before .before .before .before .before .before .before .before .args in
-    Looked (now (args′ .image)) (placed (args′ .phase) (args′ .rest) b) (args′ .host) (now (args′ .message))
-    (c .before .survey-block .result) (c .hear .result)
+    let c3 = c .before .before .before in
+    let args′ = c3 .before .before .before .before .before .before .before .before .args in
+    Looked (args′ .blocks) (now (args′ .image)) (placed (args′ .phase) (args′ .rest) b) (args′ .host) (now (args′ .message))
+    (c3 .before .size-of .result) (c .before .survey-block .result) (c .hear .result)
 looked c b =
+    let c3 = c .before .before .before in
     record {
-      bytes = bytes (c .before .before .before);
-      passed = opened (c .before .before .before .before) b;
-      survey = c .before .survey-block .ensures .0 ∙ ap surveyOf (surveyed (c .before .before .before));
+      bytes = bytes c3;
+      passed = opened (c3 .before .before) b;
+      sized = c3 .before .size-of .ensures;
+      survey = c .before .survey-block .ensures .0 ∙ ap surveyOf (surveyed c3);
       asks = c .hear .ensures;
     }
 
@@ -65,26 +65,28 @@ request-core-spec =
     let c8 = c .before .before .before .before .before .before .before .before in
     let check′ = c .before .before .before .before .check in
     let args′ = c8 .args in
-    λ b. refused-all (now (args′ .image)) (placed (args′ .phase) (args′ .rest) b) _ _ _ _ _ _ _
-    (shut (now (args′ .image)) (placed (args′ .phase) (args′ .rest) b) _ _ _ _ (sym (check′ .ensures) ∙ c .before .before .why .given .1))
+    λ b. refused-all (args′ .blocks) (now (args′ .image)) (placed (args′ .phase) (args′ .rest) b) _ _ _ _ _ _ _
+    (shut (args′ .blocks) (now (args′ .image)) (placed (args′ .phase) (args′ .rest) b) _ _ _ _ (sym (check′ .ensures) ∙ c .before .before .why .given .1))
     (c .refused .ensures))
     (λ c. search needs)
     (λ c κs. search needs)
     (λ c κs. search needs)
     (λ c κs. search needs)
+    (λ c κs. search needs)
     (λ c. search needs)
     (λ c κs. search needs)
     (λ c.
-    let c14 = c .before .before .before .before .before .before .before .before .before .before .before .before .before .before in
-    let args′ = c14 .args in
-    λ b. refused-all (now (args′ .image)) (placed (args′ .phase) (args′ .rest) b) _ _ _ _ _ _ _
+    let c15 = c .before .before .before .before .before .before .before .before .before .before .before .before .before .before .before in
+    let args′ = c15 .args in
+    λ b. refused-all (args′ .blocks) (now (args′ .image)) (placed (args′ .phase) (args′ .rest) b) _ _ _ _ _ _ _
     (not-served (looked (c .before .before .before .before) b) _ _ (c .before .before .why2 .given .1)) (c .refused2 .ensures))
     (λ c. search needs)
     (λ c.
     let c7 = c .before .before .before .before .before .before .before in
-    let c13 = c7 .before .before .before .before .before .before in
-    let args′ = c13 .args in
-    let z = sized-of (now (args′ .image)) ((opened c7 unmounted) .ok) in omega (arith, z .two, z .high))
+    let c14 = c7 .before .before .before .before .before .before .before in
+    let args′ = c14 .args in
+    let z = sized-of (args′ .blocks) (now (args′ .image)) ((opened (c7 .before) unmounted) .ok) in
+    omega (arith, c7 .size-of .ensures, z .high))
     (λ c κs.
     let c6 = c .before .before .before .before .before .before in
     let ask′ = c .before .before .before .before .ask in

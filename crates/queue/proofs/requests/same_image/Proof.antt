@@ -1,39 +1,38 @@
--- The length, then the block, then the other block.
-use mathlib.Core.Path.{_≡_, ap, _∙_}
-use mathlib.Core.Bool.{true, false}
-use Prim.Native.Nat.{ℕ, suc}
-use native.Mathlib.Omega.{arith}
-use lib.Dec.{eqb, ltb}
+-- The length and the number of blocks, then the block, then the others.
+use mathlib.Core.Path.{sym, ap₂, _∙_}
+use mathlib.Core.Bool.{Bool, _&&_}
 use denote.Ref.{now}
-use borrow.Author.Tests.{lt-ltb, le-ltb, eq-eqb, ne-eqb}
+use lib.Dec.{ltb}
 use lib.ListN.{length}
-use Rattle.flash.specs.Bytes.{allFF}
-use Rattle.flash.specs.Flash.{block, sizeOf}
-use Rattle.queue.specs.Calls.{sameAs}
+use borrow.Author.Tests.{lt-ltb, le-ltb, not-true, not-false}
+use Rattle.flash.specs.Flash.{blockNumbers}
+use Rattle.flash.proofs.Cases.{and-no-left, and-no-right}
+use Rattle.board.specs.Record.{idle}
+use Rattle.board.specs.Step.{sameShape}
+use Rattle.board.specs.Queue.{othersBlank}
 use borrow.Author.Needs.{needs}
 use Rattle.queue.proofs.requests.same_image.Statement.{statement}
 use Rattle.queue.proofs.requests.same_image.Tie as tie
 
 pub same-image-spec : {M : Type 1} → statement M
-unfolding sameAs
 same-image-spec =
     tie.close
     (tie.spec
-    (λ c. search needs)
-    (λ c.
-    let args′ = c .before .before .args in
-    let e1 : eqb (length (now (args′ .image))) (suc (args′ .last)) ≡ false = ne-eqb (length (now (args′ .image))) (suc (args′ .last))
-    (λ q. omega arith) in rw (e1, sameAs))
+    (λ c κs. search needs)
     (λ c.
     let args′ = c .before .before .before .args in
-    let e1 : eqb (length (now (args′ .image))) (suc (args′ .last)) ≡ true = eq-eqb (length (now (args′ .image))) (suc (args′ .last))
-    (omega arith) in let e2 : ltb (args′ .number) 2 ≡ false = le-ltb (args′ .number) 2 (c .if2 .taken) in rw (e1, e2, sameAs))
-    (λ c κs. search needs)
-    (λ c κs. search needs)
+    let same-shape′ = c .before .same-shape in
+    sym (and-no-left (sameShape (args′ .blocks) (length (now (args′ .image))) (idle (args′ .rest))) _
+    (sym (same-shape′ .ensures) ∙ not-true (same-shape′ .result) (c .if1 .taken))))
+    (λ c.
+    let args′ = c .before .before .before .before .before .args in
+    sym (and-no-right (sameShape (args′ .blocks) (length (now (args′ .image))) (idle (args′ .rest))) _
+    (and-no-left (ltb (args′ .rest .block) (args′ .blocks)) _ (le-ltb _ _ (c .if2 .taken)))))
     (λ c κs. search needs)
     (λ c.
-    let args′ = c .before .before .before .before .before .before .args in
-    let e1 : eqb (length (now (args′ .image))) (suc (args′ .last)) ≡ true = eq-eqb (length (now (args′ .image))) (suc (args′ .last))
-    (omega arith) in let e2 : ltb (args′ .number) 2 ≡ true = lt-ltb (args′ .number) 2 (c .before .before .before .if2 .left) in rw
-    (e1, e2, sameAs) (c .is-blank .ensures ∙ ap allFF (c .before .block-of .ensures) ∙ ap
-    (λ (k : ℕ). allFF (block (sizeOf (now (args′ .image))) k (now (args′ .image)))) (c .before .before .next-block .ensures))))
+    let c3 = c .before .before .before in
+    let args′ = c3 .before .before .before .args in
+    let same-shape′ = c3 .before .same-shape in
+    c .others-blank .ensures
+    ∙ sym (ap₂ (λ (t u : Bool). t && (u && othersBlank (args′ .blocks) (args′ .rest .block) (now (args′ .image)) (blockNumbers (args′ .blocks))))
+    (sym (same-shape′ .ensures) ∙ not-false (same-shape′ .result) (c3 .if1 .left)) (lt-ltb _ _ (c .before .if2 .left)))))

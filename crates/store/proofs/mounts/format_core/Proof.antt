@@ -4,9 +4,8 @@ use native.Mathlib.Omega.{arith}
 use denote.Ref.{now}
 use borrow.Author.Tests.{not-true, not-false}
 use Rattle.wire.specs.declared.Refusal.the-variants as refusal
-use Rattle.board.proofs.Images.{sized-of}
 use Rattle.board.proofs.Outcomes.{format-length}
-use Rattle.store.proofs.Outcomes.{refusal-given, format-is}
+use Rattle.store.proofs.Outcomes.{last-fits, refusal-given, format-is}
 use borrow.Author.Needs.{needs}
 use Rattle.store.proofs.mounts.format_core.Statement.{statement}
 use Rattle.store.proofs.mounts.format_core.Tie as tie
@@ -20,25 +19,33 @@ format-core-spec =
     (λ c.
     let is-allowed′ = c .before .before .is-allowed in
     let args′ = c .before .before .before .before .args in
-    refusal-given refusal.ImageLength (format-length (now (args′ .image))
+    refusal-given refusal.ImageLength (format-length (args′ .blocks) (now (args′ .image))
     (sym (is-allowed′ .ensures) ∙ not-true (is-allowed′ .result) (c .before .if1 .taken))) (c .refused .ensures) refl)
+    (λ c κs. (sym (c .before .is-allowed .ensures) ∙ not-false (c .before .is-allowed .result) (c .if1 .left)))
+    (λ c.
+    let is-allowed′ = c .before .before .before .is-allowed in
+    let args′ = c .before .before .before .before .before .args in
+    omega (
+      arith,
+      last-fits (args′ .blocks) (now (args′ .image))
+          (sym (is-allowed′ .ensures) ∙ not-false (is-allowed′ .result) (c .before .before .if1 .left)),
+    ))
+    (λ c.
+    let is-allowed′ = c .before .before .before .is-allowed in
+    let args′ = c .before .before .before .before .before .args in
+    omega (
+      arith,
+      last-fits (args′ .blocks) (now (args′ .image))
+          (sym (is-allowed′ .ensures) ∙ not-false (is-allowed′ .result) (c .before .before .if1 .left)),
+    ))
+    (λ c κs. search needs)
+    (λ c κs. search needs)
     (λ c κs. search needs)
     (λ c.
-    let is-allowed′ = c .before .before .is-allowed in
-    let args′ = c .before .before .before .before .args in
-    let z = sized-of (now (args′ .image)) (sym (is-allowed′ .ensures) ∙ not-false (is-allowed′ .result) (c .before .if1 .left)) in omega
-    (arith, z .two, z .low, z .high))
-    (λ c.
-    let is-allowed′ = c .before .before .is-allowed in
-    let args′ = c .before .before .before .before .args in
-    let z = sized-of (now (args′ .image)) (sym (is-allowed′ .ensures) ∙ not-false (is-allowed′ .result) (c .before .if1 .left)) in omega
-    (arith, z .two, z .low, z .high))
-    (λ c κs. search needs)
-    (λ c κs. search needs)
-    (λ c.
-    let format-order′ = c .before .before .format-order in
-    let is-allowed′ = c .before .before .before .before .is-allowed in
-    let args′ = c .before .before .before .before .before .before .args in
-    rw (c .begin .ensures, c .before .starting .ensures)
-    (format-is (now (args′ .image)) (format-order′ .result)
-    (sym (is-allowed′ .ensures) ∙ not-false (is-allowed′ .result) (c .before .before .before .if1 .left)) (format-order′ .ensures))))
+    let format-order′ = c .before .before .before .before .format-order in
+    let if1′ = c .before .before .before .before .before .if1 in
+    let is-allowed′ = c .before .before .before .before .before .before .is-allowed in
+    let args′ = c .before .before .before .before .before .before .before .before .args in
+    rw (c .begin .ensures, c .before .starting .ensures, c .before .before .next-block .ensures)
+    (format-is (args′ .blocks) (now (args′ .image)) (format-order′ .result)
+    (sym (is-allowed′ .ensures) ∙ not-false (is-allowed′ .result) (if1′ .left)) (format-order′ .ensures))))

@@ -11,35 +11,23 @@ mount-at-spec =
     (tie.spec
     (λ c κs. search needs)
     (λ c κs. search needs)
-    (λ c κs. search needs)
     (λ c.
     let is-worn′ = c .before .before .is-worn in
-    let needs-transfer′ = c .before .before .before .needs-transfer in
-    let args′ = c .before .before .before .before .args in
+    let args′ = c .before .before .before .args in
     c .refused .ensures
-    ∙ mount-worn (args′ .last) (args′ .number) (args′ .s) (args′ .wipes) (needs-transfer′ .result) (is-worn′ .result)
-    (needs-transfer′ .ensures) (is-worn′ .ensures) (c .before .if1 .taken))
-    (λ c κs. search needs)
-    (λ c κs. search needs)
+    ∙ mount-worn (args′ .blocks) (args′ .last) (args′ .w) (args′ .list) (is-worn′ .result) (is-worn′ .ensures) (c .before .if1 .taken))
     (λ c κs. search needs)
     (λ c κs. search needs)
     (λ c κs. search needs)
     (λ c κs. search needs)
     (λ c.
-    let next-block′ = c .before .before .before .next-block in
-    let how-many′ = c .before .before .before .before .how-many in
-    let wipe-other′ = c .before .before .before .before .before .wipe-other in
-    let if1′ = c .before .before .before .before .before .before .if1 in
-    let is-worn′ = c .before .before .before .before .before .before .before .is-worn in
-    let needs-transfer′ = c .before .before .before .before .before .before .before .before .needs-transfer in
-    let args′ = c .before .before .before .before .before .before .before .before .before .args in
+    let if1′ = c .before .before .before .before .before .if1 in
+    let is-worn′ = c .before .before .before .before .before .before .is-worn in
+    let args′ = c .before .before .before .before .before .before .before .args in
     c .begin .ensures
     ∙ rw (
-      wipe-other′ .ensures,
-      how-many′ .ensures,
-      next-block′ .ensures,
+      c .before .before .before .next-block .ensures,
       c .before .before .new-time .ensures,
       sym (is-worn′ .ensures) ∙ if1′ .left,
       c .before .starting .ensures,
-    ) (mount-begun (args′ .last) (args′ .number) (args′ .s) (args′ .wipes)
-    (needs-transfer′ .result) (is-worn′ .result) (needs-transfer′ .ensures) (is-worn′ .ensures) (if1′ .left))))
+    ) (mount-begun (args′ .blocks) (args′ .last) (args′ .w) (args′ .list) (is-worn′ .result) (is-worn′ .ensures) (if1′ .left))))

@@ -1,0 +1,197 @@
+-- Two blocks: a mount takes the half that it took before and erases the other, a format erases the two in the same order; and the whole comparison.
+use mathlib.Core.Path.{_≡_, refl, sym, ap, ap₂, subst, subst₂, _∙_}
+use mathlib.Core.List.{List, [], _∷_, _++_, map}
+use mathlib.Core.Bool.{Bool, true, false, _&&_, cond}
+use Prim.Native.Nat.{ℕ, zero, suc, _-_, _<_}
+use native.Mathlib.Omega.{arith}
+use lib.Dec.{eqb, ltb}
+use lib.ListN.{length}
+use borrow.Author.Tests.{eq-eqb, ne-eqb, lt-ltb, le-ltb}
+use Rattle.flash.specs.Bytes.{Bytes}
+use Rattle.flash.specs.Flash.{numbersFrom, erase, block, sizeOf}
+use Rattle.flash.proofs.Cases.{on-test, on-order, and-both}
+use Rattle.flash.proofs.Image.{bytes-block}
+use Rattle.frame.specs.Frame.{Frame}
+use Rattle.frame.specs.Reader.{Tail}
+use Rattle.journal.specs.Replay.{State, replay, framesOf, settledOnly}
+use Rattle.journal.specs.Block.{BlockState, blank, inProgress, valid, foreign, blockState, build, headerLen, lastTime}
+use Rattle.journal.specs.Room.{used}
+use Rattle.journal.proofs.Places.{Journal}
+use Rattle.journal.proofs.States.{valid-inv}
+use Rattle.wire.specs.declared.Refusal.{Refusal}
+use Rattle.wire.specs.declared.Refusal.the-variants as refusal
+use Rattle.board.specs.declared.Record.{Record}
+use Rattle.board.specs.Record.{allowed, unmounted, rest, idle, Out, refuse}
+use Rattle.board.specs.Mount.{endOf, Found, allFound, isBlank, Store, stores, wipeList, needsTransfer, mountAt, mountStores, mountOn}
+use Rattle.board.specs.Mount.{orderFor, formatOrder, formatOn}
+use Rattle.board.specs.Exec.{exec}
+use Rattle.board.specs.Plan.{Follows, onBlock, formatPlan, transferIf, mountPlan, mountedAt}
+use Rattle.board.specs.Two.{Choice, takes, refuses, allowedTwo, stateTwo, beside, chooseTwo, transferTwo, mountTwo, mountedTwo}
+use Rattle.board.specs.Two.{lastTwo, formatTwo, TwoBlocks}
+use Rattle.board.proofs.Images.{Sized, sized-of}
+use Rattle.board.proofs.Blocks.{Besides, wiped-besides}
+use Rattle.board.proofs.Found.{found-all, store}
+use Rattle.board.proofs.Current.{block-long}
+use Rattle.board.proofs.Replies.{journal-of}
+use Rattle.board.proofs.Outcomes.{mount-stores, mount-worn, mount-begins, format-begins}
+use Rattle.board.proofs.Accepted.{follows-format, follows-mount}
+use Rattle.board.proofs.Two.{two-lengths, two-sizes, two-fresh, two-frame, two-framed, two-step, next-beside}
+
+-- ---- what the two states decide
+
+abbrev both : BlockState → BlockState → List Found
+both a b = record { number = 0; state = a } ∷ record { number = 1; state = b } ∷ []
+
+all-two : (img : List ℕ) → allFound 2 img ≡ both (stateTwo img 0) (stateTwo img 1)
+unfolding numbersFrom
+all-two img = found-all 2 img (two-sizes img)
+
+-- a mount of blocks with the states f does what was chosen
+abbrev Chooses : List ℕ → (ℕ → BlockState) → List Found → Choice → Type 0
+Chooses img f xs (takes k t fs c) =
+    (k < 2) × (f k ≡ valid t fs c) × (mountStores 2 img xs (stores xs) ≡ mountAt 2 img xs (store k t fs c))
+Chooses img f xs (refuses n) = mountStores 2 img xs (stores xs) ≡ refuse n img unmounted []
+
+-- a format erases this block last
+abbrev Erases : List Found → ℕ → Type 0
+Erases xs k = orderFor 2 (stores xs) ≡ beside k ∷ k ∷ []
+
+-- one valid block
+erases-low : (t : ℕ) (fs : List Frame) (c : Tail) → orderFor 2 (store 0 t fs c ∷ []) ≡ 1 ∷ 0 ∷ []
+unfolding numbersFrom
+erases-low t fs c = rw (eq-eqb t t refl)
+
+erases-high : (t : ℕ) (fs : List Frame) (c : Tail) → orderFor 2 (store 1 t fs c ∷ []) ≡ 0 ∷ 1 ∷ []
+unfolding numbersFrom
+erases-high t fs c = rw (eq-eqb t t refl)
+
+erases-none : orderFor 2 [] ≡ 0 ∷ 1 ∷ []
+unfolding numbersFrom
+erases-none = refl
+
+-- two
+erases-later : (t u : ℕ) (fs gs : List Frame) (c d : Tail)
+    → Erases (both (valid t fs c) (valid u gs d)) (lastTwo (valid t fs c) (valid u gs d))
+unfolding numbersFrom
+erases-later t u fs gs c d =
+    on-order t u (λ _ h. rw (lt-ltb t u h, ne-eqb u t (λ e. omega arith), eq-eqb u u refl, le-ltb u t (omega arith)))
+    (λ _ h. rw (le-ltb t u (omega arith), eq-eqb t t refl, eq-eqb t u h, le-ltb u t (omega arith)))
+    (λ _ h. rw (le-ltb t u (omega arith), eq-eqb t t refl, ne-eqb t u (λ e. omega arith), lt-ltb u t h))
+
+module _ (img : List ℕ) (f : ℕ → BlockState) where
+  chooses-later : (t u : ℕ) (fs gs : List Frame) (c d : Tail) → f 0 ≡ valid t fs c → f 1 ≡ valid u gs d
+      → Chooses img f (both (valid t fs c) (valid u gs d)) (chooseTwo (valid t fs c) (valid u gs d))
+  chooses-later t u fs gs c d p q =
+      on-test (eqb t u) (λ e. rw e (rw e))
+      (λ e. on-test (ltb t u) (λ l. rw (e, l) (omega arith, q, rw (e, l))) (λ l. rw (e, l) (omega arith, p, rw (e, l))))
+
+  decides : (a b : BlockState) → f 0 ≡ a → f 1 ≡ b → Chooses img f (both a b) (chooseTwo a b) × Erases (both a b) (lastTwo a b)
+  decides (valid t fs c) (valid u gs d) p q = (chooses-later t u fs gs c d p q, erases-later t u fs gs c d)
+  decides (valid t fs c) blank p q = ((omega arith, p, refl), erases-low t fs c)
+  decides (valid t fs c) inProgress p q = ((omega arith, p, refl), erases-low t fs c)
+  decides (valid t fs c) (foreign e) p q = ((omega arith, p, refl), erases-low t fs c)
+  decides blank (valid t fs c) p q = ((omega arith, q, refl), erases-high t fs c)
+  decides inProgress (valid t fs c) p q = ((omega arith, q, refl), erases-high t fs c)
+  decides (foreign e) (valid t fs c) p q = ((omega arith, q, refl), erases-high t fs c)
+  decides blank blank p q = (refl, erases-none)
+  decides blank inProgress p q = (refl, erases-none)
+  decides blank (foreign e) p q = (refl, erases-none)
+  decides inProgress blank p q = (refl, erases-none)
+  decides inProgress inProgress p q = (refl, erases-none)
+  decides inProgress (foreign e) p q = (refl, erases-none)
+  decides (foreign e) blank p q = (refl, erases-none)
+  decides (foreign e) inProgress p q = (refl, erases-none)
+  decides (foreign e) (foreign w) p q = (refl, erases-none)
+
+-- ---- a mount's steps
+
+-- the block beside, if it isn't blank
+wipes-beside : (k : ℕ) (f : ℕ → BlockState) → k < 2
+    → map erase (wipeList k (both (f 0) (f 1))) ≡ cond (isBlank (f (beside k))) [] (erase (beside k) ∷ [])
+wipes-beside zero f h = on-test (isBlank (f 1)) (λ t. rw t) (λ t. rw t)
+wipes-beside (suc zero) f h = on-test (isBlank (f 0)) (λ t. rw t) (λ t. rw t)
+wipes-beside (suc (suc k)) f h = absurd (omega arith)
+
+moves-beside : (b : Bool) (k t : ℕ) (st : State) → k < 2 → transferIf 2 b k t st ≡ cond b (transferTwo k t st) []
+moves-beside true k t st h = ap (λ (j : ℕ). onBlock j (build (suc t) (framesOf st)) ++ (erase k ∷ [])) (next-beside k h)
+moves-beside false k t st h = refl
+
+mounted-beside : (b : Bool) (l k t : ℕ) (fs : List Frame) (c : Tail) → k < 2
+    → mountedAt 2 b l (store k t fs c) ≡ cond b (idle (rest 2 l (beside k) (used (replay fs)))) (idle (rest 2 l k (endOf fs)))
+mounted-beside true l k t fs c h = ap (λ (j : ℕ). idle (rest 2 l j (used (replay fs)))) (next-beside k h)
+mounted-beside false l k t fs c h = refl
+
+-- ---- a call
+
+module _ (img : List ℕ) (t : allowedTwo (length img) ≡ true) where
+  ok : allowed 2 (length img) ≡ true
+  ok = two-lengths (length img) ∙ t
+
+  abbrev states : List Found
+  states = both (stateTwo img 0) (stateTwo img 1)
+
+  mount-two : mountOn 2 img ≡ mountStores 2 img states (stores states)
+  mount-two = mount-stores 2 img ok ∙ ap (λ (xs : List Found). mountStores 2 img xs (stores xs)) (all-two img)
+
+  chosen : {x : Choice} → chooseTwo (stateTwo img 0) (stateTwo img 1) ≡ x → Chooses img (stateTwo img) states x
+  chosen e = subst (Chooses img (stateTwo img) states) e (decides img (stateTwo img) (stateTwo img 0) (stateTwo img 1) refl refl .0)
+
+  two-refused : (n : Refusal) → chooseTwo (stateTwo img 0) (stateTwo img 1) ≡ refuses n → mountOn 2 img ≡ refuse n img unmounted []
+  two-refused n e = mount-two ∙ chosen e
+
+  module _ (k u : ℕ) (fs : List Frame) (c : Tail) (e : chooseTwo (stateTwo img 0) (stateTwo img 1) ≡ takes k u fs c) where
+    two-takes : mountOn 2 img ≡ mountAt 2 img states (store k u fs c)
+    two-takes = mount-two ∙ chosen e .2
+
+    -- the block that is taken holds its frames
+    two-journal : Bytes img → Journal (block (sizeOf 2 img) k img) fs
+    two-journal by =
+        let s : ℕ = sizeOf 2 img in
+        let z : Sized 2 s img = sized-of 2 img ok in
+        let v : blockState (block s k img) ≡ valid u fs c = ap (λ (n : ℕ). blockState (block n k img)) (two-sizes img) ∙ chosen e .1 in
+        journal-of (valid-inv (block s k img) u fs c (bytes-block s k img by) (omega (arith, block-long k z (chosen e .0), z .low)) v)
+
+    two-worn : u ≡ lastTime → needsTransfer fs c ≡ true → mountOn 2 img ≡ refuse refusal.Worn img unmounted []
+    two-worn l n = two-takes ∙ mount-worn 2 img states (store k u fs c) (and-both (needsTransfer fs c) (eqb u lastTime) n (eq-eqb u lastTime l))
+
+    two-mounts : Bytes img → (needsTransfer fs c && eqb u lastTime) ≡ false
+        → Follows 2 (exec 2) img (mountOn 2 img .board) (mountTwo img k u fs c) (mountedTwo img k fs c)
+    two-mounts by n =
+        let x : Store = store k u fs c in
+        let moves : Bool = needsTransfer fs c in
+        let here : k < 2 = chosen e .0 in
+        subst₂ (Follows 2 (exec 2) img (mountOn 2 img .board))
+        (ap₂ _++_ (wipes-beside k (stateTwo img) here) (moves-beside moves k u (settledOnly (replay fs)) here))
+        (mounted-beside moves (length img - 1) k u fs c here)
+        (subst (λ (o : Out). Follows 2 (exec 2) img (o .board) (mountPlan 2 states x) (mountedAt 2 moves (length img - 1) x))
+        (sym (two-takes ∙ mount-begins 2 img states x n))
+        (follows-mount img x (wipeList k states) ok here
+        (subst (λ (xs : List Found). Besides 2 k (wipeList k xs)) (all-two img) (wiped-besides 2 k img)) (two-journal by)))
+
+  order-two : formatOrder 2 img ≡ beside (lastTwo (stateTwo img 0) (stateTwo img 1)) ∷ lastTwo (stateTwo img 0) (stateTwo img 1) ∷ []
+  unfolding formatOrder
+  order-two =
+      ap (λ (xs : List Found). orderFor 2 (stores xs)) (all-two img) ∙ decides img (stateTwo img) (stateTwo img 0) (stateTwo img 1) refl refl .1
+
+  two-formats : Follows 2 (exec 2) img (formatOn 2 img .board) (formatTwo img) (idle (rest 2 (length img - 1) 0 headerLen))
+  two-formats =
+      let z : Record = idle (rest 2 (length img - 1) 0 headerLen) in
+      subst (λ (ks : List ℕ). Follows 2 (exec 2) img (formatOn 2 img .board) (map erase ks ++ onBlock 0 (build 1 [])) z) order-two
+      (subst (λ (o : Out). Follows 2 (exec 2) img (o .board) (formatPlan 2 img) z) (sym (format-begins 2 img ok)) (follows-format 2 img ok))
+
+-- ---- "N = 2 gives the same bytes and steps as before"
+
+pub two-blocks : TwoBlocks
+two-blocks =
+    record {
+      lengths = two-lengths;
+      sizes = two-sizes;
+      mount-refused = λ img n t e. two-refused img t n e;
+      mount-worn = λ img k fs c t e n. two-worn img t k lastTime fs c e refl n;
+      mount-steps = λ img k u fs c by t e n. two-mounts img t k u fs c e by n;
+      format-steps = two-formats;
+      fresh = two-fresh;
+      frame-steps = two-frame;
+      frame-record = two-framed;
+      steps = two-step;
+    }

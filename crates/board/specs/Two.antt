@@ -1,0 +1,153 @@
+-- Two blocks, document 02, K14: "N = 2 gives the same bytes and steps as before". What documents 01 and 02 say of two halves, as it was defined before
+-- K14, stands here for this comparison alone.
+use mathlib.Core.List.{List, [], _∷_, _++_}
+use mathlib.Core.Option.{Option, none}
+use mathlib.Core.Bool.{Bool, true, false, _&&_, cond}
+use mathlib.Core.Path.{_≡_}
+use Prim.Native.Nat.{ℕ, suc, _+_, _-_, _/_, _%_, _<_}
+use lib.Dec.{eqb, ltb, leb}
+use lib.ListN.{length}
+use Rattle.flash.specs.Bytes.{Bytes, allFF}
+use Rattle.flash.specs.Flash.{Step, erase, apply, block, sizeOf, blockOf, offsetOf}
+use Rattle.frame.specs.Frame.{Frame, frameLen}
+use Rattle.frame.specs.Reader.{Tail}
+use Rattle.journal.specs.Replay.{State, framesOf, replay, settledOnly}
+use Rattle.journal.specs.Block.{BlockState, blank, inProgress, valid, foreign, blockState, build, headerLen, lastTime}
+use Rattle.journal.specs.Room.{used, claimed}
+use Rattle.wire.specs.declared.Answer.the-variants.{Done}
+use Rattle.wire.specs.declared.Refusal.{Refusal}
+use Rattle.wire.specs.declared.Refusal.the-variants as refusal
+use Rattle.board.specs.declared.Phase.{Phase}
+use Rattle.board.specs.declared.Phase.the-variants.{Unmounted, Idle, Busy}
+use Rattle.board.specs.declared.Record.{Record}
+use Rattle.board.specs.Record.{allowed, unmounted, rest, idle, Out, out, refuse}
+use Rattle.board.specs.Step.{action, advance, stepped, stepOn}
+use Rattle.board.specs.Mount.{isBlank, needsTransfer, tiedTimes, endOf, mountOn, formatOn}
+use Rattle.board.specs.Queue.{Held, held, heldIn, needsRoom}
+use Rattle.board.specs.Exec.{exec}
+use Rattle.board.specs.Plan.{onBlock, appendPlan, framePlan, framedAt, Follows}
+
+-- ---- the image
+
+-- "Its length is a multiple of 256 from 512 to 65,536." "It is two halves of S bytes each."
+abbrev pub allowedTwo : ℕ → Bool
+allowedTwo n = leb 512 n && leb n 65536 && eqb (n % 256) 0
+
+abbrev pub sizeTwo : List ℕ → ℕ
+sizeTwo img = length img / 2
+
+abbrev pub stateTwo : List ℕ → ℕ → BlockState
+stateTwo img k = blockState (block (sizeTwo img) k img)
+
+-- of two, the one that isn't k
+abbrev pub beside : ℕ → ℕ
+beside k = cond (eqb k 0) 1 0
+
+-- ---- mount
+
+-- "the valid half is current; of two, the one with the larger time"; refusals 2 and 3, K4 and K5
+pub data Choice : Type 0 where
+  takes : ℕ → ℕ → List Frame → Tail → Choice
+  refuses : Refusal → Choice
+
+abbrev pub chooseTwo : BlockState → BlockState → Choice
+chooseTwo (valid t fs c) (valid u gs d) =
+    cond (eqb t u) (refuses (tiedTimes 0)) (cond (ltb t u) (takes 1 u gs d) (takes 0 t fs c))
+chooseTwo (valid t fs c) blank = takes 0 t fs c
+chooseTwo (valid t fs c) inProgress = takes 0 t fs c
+chooseTwo (valid t fs c) (foreign e) = takes 0 t fs c
+chooseTwo blank (valid u gs d) = takes 1 u gs d
+chooseTwo inProgress (valid u gs d) = takes 1 u gs d
+chooseTwo (foreign e) (valid u gs d) = takes 1 u gs d
+chooseTwo (foreign e) blank = refuses (refusal.Foreign 0 e)
+chooseTwo (foreign e) inProgress = refuses (refusal.Foreign 0 e)
+chooseTwo (foreign e) (foreign f) = refuses (refusal.Foreign 0 e)
+chooseTwo blank (foreign e) = refuses (refusal.Foreign 1 e)
+chooseTwo inProgress (foreign e) = refuses (refusal.Foreign 1 e)
+chooseTwo blank blank = refuses refusal.NoStore
+chooseTwo blank inProgress = refuses refusal.NoStore
+chooseTwo inProgress blank = refuses refusal.NoStore
+chooseTwo inProgress inProgress = refuses refusal.NoStore
+
+-- "Transfer, into the blank half: .., erase of the old half."
+abbrev pub transferTwo : ℕ → ℕ → State → List Step
+transferTwo k time st = onBlock (beside k) (build (suc time) (framesOf st)) ++ (erase k ∷ [])
+
+-- "The other is erased if it isn't blank. If the current one has a torn tail or anything pending, a transfer of the settled objects alone follows."
+abbrev pub mountTwo : List ℕ → ℕ → ℕ → List Frame → Tail → List Step
+mountTwo img k t fs c =
+    cond (isBlank (stateTwo img (beside k))) [] (erase (beside k) ∷ [])
+    ++ cond (needsTransfer fs c) (transferTwo k t (settledOnly (replay fs))) []
+
+abbrev pub mountedTwo : List ℕ → ℕ → List Frame → Tail → Record
+mountedTwo img k fs c =
+    cond (needsTransfer fs c) (idle (rest 2 (length img - 1) (beside k) (used (replay fs)))) (idle (rest 2 (length img - 1) k (endOf fs)))
+
+-- ---- format
+
+-- K4: "Format now erases last the valid half, of two the one with the larger time (half 1 if there is none or the times are equal)."
+abbrev pub lastTwo : BlockState → BlockState → ℕ
+lastTwo (valid t fs c) (valid u gs d) = cond (ltb u t) 0 1
+lastTwo (valid t fs c) blank = 0
+lastTwo (valid t fs c) inProgress = 0
+lastTwo (valid t fs c) (foreign e) = 0
+lastTwo blank b = 1
+lastTwo inProgress b = 1
+lastTwo (foreign e) b = 1
+
+abbrev pub formatTwo : List ℕ → List Step
+formatTwo img = let k : ℕ = lastTwo (stateTwo img 0) (stateTwo img 1) in erase (beside k) ∷ erase k ∷ onBlock 0 (build 1 [])
+
+-- ---- requests and steps
+
+-- 11: "its length differs, or the image read afresh isn't: recorded half valid, .., other half blank, .."
+abbrev pub heldTwo : List ℕ → Record → Option Held
+heldTwo img r =
+    cond (eqb (length img) (suc (r .last)) && (ltb (r .block) 2 && allFF (block (sizeTwo img) (beside (r .block)) img)))
+    (heldIn (sizeTwo img) (r .end) (stateTwo img (r .block))) none
+
+-- "one frame of n bytes, after a transfer if end + n exceeds S"
+abbrev pub frameTwo : List ℕ → Record → Held → Frame → List Step
+frameTwo img r x f =
+    cond (ltb (sizeTwo img) (r .end + frameLen f))
+    (transferTwo (r .block) (x .time) (replay (x .frames)) ++ appendPlan (beside (r .block)) (claimed (replay (x .frames))) f)
+    (appendPlan (r .block) (r .end) f)
+
+abbrev pub framedTwo : List ℕ → Record → Held → Frame → Record
+framedTwo img r x f =
+    cond (ltb (sizeTwo img) (r .end + frameLen f)) (idle (rest 2 (r .last) (beside (r .block)) (claimed (replay (x .frames)) + frameLen f)))
+    (idle (rest 2 (r .last) (r .block) (r .end + frameLen f)))
+
+-- "in a job, 11 is given exactly if the image length isn't the record's or the job's next place lies outside it"
+abbrev pub stepTwo : Phase → List ℕ → Record → Out
+stepTwo Unmounted img r = out Done img r []
+stepTwo Idle img r = out Done img r []
+stepTwo (Busy s) img r =
+    let x : Step = action s r in
+    let after : List ℕ = apply (sizeTwo img) x img in
+    cond (eqb (length img) (suc (r .last)) && (ltb (blockOf x) 2 && ltb (offsetOf x) (sizeTwo img))) (stepped after (advance 2 s after r))
+    (refuse refusal.Stale img r [])
+
+-- ---- "N = 2 gives the same bytes and steps as before"
+
+pub record TwoBlocks : Type 0 where
+  pub lengths : (n : ℕ) → allowed 2 n ≡ allowedTwo n
+  pub sizes : (img : List ℕ) → sizeOf 2 img ≡ sizeTwo img
+  -- a mount refused, for its halves or for its time, and accepted
+  pub mount-refused : (img : List ℕ) (n : Refusal) → allowedTwo (length img) ≡ true → chooseTwo (stateTwo img 0) (stateTwo img 1) ≡ refuses n
+      → mountOn 2 img ≡ refuse n img unmounted []
+  pub mount-worn : (img : List ℕ) (k : ℕ) (fs : List Frame) (c : Tail) → allowedTwo (length img) ≡ true
+      → chooseTwo (stateTwo img 0) (stateTwo img 1) ≡ takes k lastTime fs c → needsTransfer fs c ≡ true
+      → mountOn 2 img ≡ refuse refusal.Worn img unmounted []
+  pub mount-steps : (img : List ℕ) (k t : ℕ) (fs : List Frame) (c : Tail) → Bytes img → allowedTwo (length img) ≡ true
+      → chooseTwo (stateTwo img 0) (stateTwo img 1) ≡ takes k t fs c → (needsTransfer fs c && eqb t lastTime) ≡ false
+      → Follows 2 (exec 2) img (mountOn 2 img .board) (mountTwo img k t fs c) (mountedTwo img k fs c)
+  pub format-steps : (img : List ℕ) → allowedTwo (length img) ≡ true
+      → Follows 2 (exec 2) img (formatOn 2 img .board) (formatTwo img) (idle (rest 2 (length img - 1) 0 headerLen))
+  -- requests: the image read afresh, the steps, the record after them
+  pub fresh : (img : List ℕ) (r : Record) → r .blocks ≡ 2 → held 2 img r ≡ heldTwo img r
+  pub frame-steps : (img : List ℕ) (r : Record) (x : Held) (f : Frame) → r .block < 2
+      → framePlan 2 (needsRoom 2 img r f) (r .block) (r .end) x f ≡ frameTwo img r x f
+  pub frame-record : (img : List ℕ) (r : Record) (x : Held) (f : Frame) → r .block < 2
+      → framedAt 2 (needsRoom 2 img r f) (r .last) (r .block) (r .end) x f ≡ framedTwo img r x f
+  pub steps : (img : List ℕ) (r : Record) → r .blocks ≡ 2 → stepOn 2 img r ≡ stepTwo (r .phase) img r

@@ -1,0 +1,224 @@
+-- One look at the blocks, the last first: what it keeps is what the definitions say of them.
+use mathlib.Core.Path.{_≡_, refl, sym, _∙_}
+use mathlib.Core.List.{List, [], _∷_}
+use mathlib.Core.Bool.{Bool, true, false, _||_, cond}
+use Prim.Native.Nat.{ℕ, zero, suc, _-_, _≤_, _<_}
+use native.Mathlib.Omega.{arith}
+use lib.Dec.{eqb, ltb, leb}
+use lib.ListN.{length, getD, drop, set, replicate, length-set, drop-of-length-le}
+use lib.Seq.{drop-cons, getD-set-same, getD-set-other}
+use borrow.Author.Tests.{eq-eqb, ne-eqb, lt-ltb, le-ltb, le-leb, lt-leb, ltb-true, ltb-false}
+use Rattle.flash.specs.Flash.{maxBlocks, numbersFrom}
+use Rattle.flash.proofs.Cases.{on-test}
+use Rattle.frame.specs.Frame.{Frame}
+use Rattle.frame.specs.Reader.{Tail}
+use Rattle.journal.specs.Block.{BlockState, blank, inProgress, valid, foreign, timeIn}
+use Rattle.journal.specs.Index.{placesOf}
+use Rattle.survey.specs.Survey.{kindIn, surveyOf, placesIn}
+use Rattle.wire.specs.declared.Refusal.{Refusal}
+use Rattle.board.specs.Mount.{Found, isBlank, Store, storeIn, stores, sameTime, newest, tied, wipeList, endOf, needsTransfer}
+use Rattle.board.specs.Mount.{orForeign, noneValid}
+use Rattle.looks.specs.declared.looks.Newest.{Newest}
+use Rattle.looks.specs.declared.looks.Tie.{Tie}
+use Rattle.looks.specs.declared.looks.Seen.{Seen}
+use Rattle.looks.specs.Surveys.{isBlankKind, orForeignKind, needsIn}
+use Rattle.looks.specs.Seen.{othersIn, newestIn, tieIn, placesFor, noneSeen, hasTime, takesOver, newer, tying, sameAbove, seeing}
+
+-- ---- the newest, with one more in front
+
+-- b is the newest of y and m, a that of x and m
+newer-of : (x y m a b : Store) → a ≡ cond (ltb (x .time) (m .time)) m x → b ≡ cond (ltb (y .time) (m .time)) m y
+    → cond (ltb (x .time) (y .time)) b a ≡ cond (ltb (x .time) (b .time)) b x
+newer-of x y m a b p q =
+    rw (p, q) (on-test (ltb (y .time) (m .time))
+    (λ t. on-test (ltb (x .time) (y .time))
+    (λ u. rw (t, u, lt-ltb (x .time) (m .time) (omega (arith, ltb-true (y .time) (m .time) t, ltb-true (x .time) (y .time) u))))
+    (λ u. rw (t, u)))
+    (λ t. on-test (ltb (x .time) (y .time))
+    (λ u. rw (t, u))
+    (λ u. rw (t, u, le-ltb (x .time) (m .time) (omega (arith, ltb-false (y .time) (m .time) t, ltb-false (x .time) (y .time) u))))))
+
+newest-cons : (x y : Store) (ys : List Store) → newest x (y ∷ ys) ≡ cond (ltb (x .time) (newest y ys .time)) (newest y ys) x
+newest-cons x y [] = refl
+newest-cons x y (z ∷ zs) =
+    newer-of x y (newest z zs) (newest x (z ∷ zs)) (newest y (z ∷ zs)) (newest-cons x z zs) (newest-cons y z zs)
+
+abbrev kept : Store → Bool → Newest
+kept x same =
+    record {
+      valid = true;
+      number = x .number;
+      time = x .time;
+      end = endOf (x .frames);
+      moves = needsTransfer (x .frames) (x .tail);
+      shared = same;
+    }
+
+newest-more : (x : Store) (xs : List Store)
+    → cond (leb (newestIn xs .time) (x .time)) (kept x (sameTime (x .time) xs)) (newestIn xs) ≡ newestIn (x ∷ xs)
+newest-more x [] = rw (le-leb 0 (x .time) (omega arith), eq-eqb (x .time) (x .time) refl)
+newest-more x (y ∷ ys) = go (newest y ys) (newest x (y ∷ ys)) (newest-cons x y ys)
+  where
+    go : (w v : Store) → v ≡ cond (ltb (x .time) (w .time)) w x
+        → cond (leb (w .time) (x .time)) (kept x (sameTime (x .time) (y ∷ ys))) (kept w (tied (w .time) (y ∷ ys))) ≡ kept v (tied (v .time) (x ∷ y ∷ ys))
+    go w v e =
+        rw e (on-test (ltb (x .time) (w .time))
+        (λ t. let l = ltb-true (x .time) (w .time) t in
+        rw (t, lt-leb (w .time) (x .time) l, ne-eqb (w .time) (x .time) (λ q. omega arith)))
+        (λ t. rw (t, le-leb (w .time) (x .time) (ltb-false (x .time) (w .time) t), eq-eqb (x .time) (x .time) refl)))
+
+-- the same by what was kept so far
+newer-is : (x : Store) (xs : List Store) {w : Newest} {m same : Bool} → w ≡ newestIn xs → m ≡ needsTransfer (x .frames) (x .tail)
+    → same ≡ sameTime (x .time) xs
+    → cond (leb (w .time) (x .time)) (record { valid = true; number = x .number; time = x .time; end = endOf (x .frames); moves = m; shared = same }) w
+    ≡ newestIn (x ∷ xs)
+newer-is x xs e f g = rw (e, f, g) (newest-more x xs)
+
+places-more : (p : List ℕ) (x : Store) (xs : List Store)
+    → cond (leb (newestIn xs .time) (x .time)) (placesOf (x .frames)) (placesFor p xs) ≡ placesFor p (x ∷ xs)
+places-more p x [] = rw (le-leb 0 (x .time) (omega arith))
+places-more p x (y ∷ ys) = go (newest y ys) (newest x (y ∷ ys)) (newest-cons x y ys)
+  where
+    go : (w v : Store) → v ≡ cond (ltb (x .time) (w .time)) w x
+        → cond (leb (w .time) (x .time)) (placesOf (x .frames)) (placesOf (w .frames)) ≡ placesOf (v .frames)
+    go w v e =
+        rw e (on-test (ltb (x .time) (w .time))
+        (λ t. rw (t, lt-leb (w .time) (x .time) (ltb-true (x .time) (w .time) t)))
+        (λ t. rw (t, le-leb (w .time) (x .time) (ltb-false (x .time) (w .time) t))))
+
+places-is : (p : List ℕ) (x : Store) (xs : List Store) {w : Newest} {q : List ℕ} → w ≡ newestIn xs → q ≡ placesFor p xs
+    → cond (leb (w .time) (x .time)) (placesOf (x .frames)) q ≡ placesFor p (x ∷ xs)
+places-is p x xs e f = rw (e, f) (places-more p x xs)
+
+tie-more : (x : Store) (xs : List Store) (q : Tie) (same : Bool) → q ≡ tieIn xs → same ≡ sameTime (x .time) xs
+    → tying q (x .number) same ≡ tieIn (x ∷ xs)
+unfolding tying
+tie-more x xs q same e f = rw (e, f) (on-test (sameTime (x .time) xs) (λ t. rw t) (λ t. rw t))
+
+-- ---- the arrays
+
+drop-set : {A : Type 0} (l : List A) (k : ℕ) (v : A) → k < length l → drop k (set l k v) ≡ v ∷ drop (suc k) l
+drop-set [] k v h = absurd (omega arith)
+drop-set (x ∷ l) zero v h = refl
+drop-set (x ∷ l) (suc k) v h = drop-set l k v (omega arith)
+
+no-time : (t m k : ℕ) → 0 < t → hasTime t (drop k (replicate m 0)) ≡ false
+no-time t zero zero h = refl
+no-time t zero (suc k) h = refl
+no-time t (suc m) zero h = rw (ne-eqb t 0 (λ e. omega arith)) (no-time t m zero h)
+no-time t (suc m) (suc k) h = no-time t m k h
+
+-- a search from a place on: found here, further on, or nowhere
+pub time-here : (t i : ℕ) (l : List ℕ) → i < length l → getD l i 0 ≡ t → hasTime t (drop i l) ≡ true
+time-here t i l h e = rw (drop-cons l i 0 h, eq-eqb t (getD l i 0) (sym e))
+
+pub time-on : (t i : ℕ) (l : List ℕ) → i < length l → (getD l i 0 ≡ t → ⊥) → hasTime t (drop i l) ≡ hasTime t (drop (suc i) l)
+time-on t i l h e = rw (drop-cons l i 0 h, ne-eqb t (getD l i 0) (λ q. e (sym q)))
+
+pub time-past : (t i : ℕ) (l : List ℕ) → length l ≤ i → hasTime t (drop i l) ≡ false
+time-past t i l h = rw (drop-of-length-le l h)
+
+-- a store below the blocks listed
+others-above : (c j : ℕ) (b : Bool) (skips : List Bool) (k n : ℕ) → j < k
+    → othersIn c (set skips j b) (numbersFrom k n) ≡ othersIn c skips (numbersFrom k n)
+unfolding numbersFrom
+others-above c j b skips k zero h = refl
+others-above c j b skips k (suc n) h =
+    let e : getD (set skips j b) k false ≡ getD skips k false = getD-set-other skips j k b false (λ q. omega arith) in
+    rw (e, others-above c j b skips (suc k) n (omega arith))
+
+kind-blank : (a : BlockState) → isBlankKind (kindIn a) ≡ isBlank a
+kind-blank blank = refl
+kind-blank inProgress = refl
+kind-blank (valid t fs c) = refl
+kind-blank (foreign e) = refl
+
+why-more : (k : ℕ) (a : BlockState) {w n : Refusal} → w ≡ n → orForeignKind k (kindIn a) w ≡ orForeign k a n
+why-more k blank e = e
+why-more k inProgress e = e
+why-more k (valid t fs c) e = e
+why-more k (foreign f) e = refl
+
+-- ---- the blocks from k on, n of them
+
+-- what the bytes of a block say of a valid one: a survey tells whether a transfer is needed, and its time isn't 0
+pub record Told (t : ℕ) (fs : List Frame) (c : Tail) : Type 0 where
+  pub needs : needsTransfer fs c ≡ needsIn (surveyOf (valid t fs c))
+  pub some : 0 < t
+
+abbrev pub Tells : BlockState → Type 0
+Tells blank = Unit {0}
+Tells inProgress = Unit {0}
+Tells (valid t fs c) = Told t fs c
+Tells (foreign e) = Unit {0}
+
+pub record Seeing (k n : ℕ) (xs : List Found) (p : List ℕ) (z : Seen) (q : List ℕ) : Type 0 where
+  pub why : z .why ≡ noneValid xs
+  pub newest : z .newest ≡ newestIn (stores xs)
+  pub tie : z .tie ≡ tieIn (stores xs)
+  pub others : (c : ℕ) → othersIn c (z .blanks) (numbersFrom k n) ≡ wipeList c xs
+  pub places : q ≡ placesFor p (stores xs)
+  pub times : (t : ℕ) → 0 < t → hasTime t (drop k (z .times)) ≡ sameTime t (stores xs)
+  pub times-long : length (z .times) ≡ maxBlocks
+  pub blanks-long : length (z .blanks) ≡ maxBlocks
+
+pub none-seen : (k : ℕ) (p : List ℕ) → Seeing k 0 [] p noneSeen p
+unfolding numbersFrom
+none-seen k p =
+    record {
+      why = refl;
+      newest = refl;
+      tie = refl;
+      others = λ c. refl;
+      places = refl;
+      times = λ t h. no-time t maxBlocks k h;
+      times-long = refl;
+      blanks-long = refl;
+    }
+
+module _ {k n : ℕ} {xs : List Found} {p : List ℕ} {z : Seen} {q : List ℕ} (h : k < maxBlocks) (x : Seeing (suc k) n xs p z q) where
+  times-next : (t u : ℕ) → 0 < t → hasTime t (drop k (set (z .times) k u)) ≡ (eqb t u || sameTime t (stores xs))
+  times-next t u l = rw (drop-set (z .times) k u (omega (arith, x .times-long)), x .times t l)
+
+  others-next : (a : BlockState) (c : ℕ)
+      → othersIn c (set (z .blanks) k (isBlankKind (kindIn a))) (numbersFrom k (suc n)) ≡ wipeList c (record { number = k; state = a } ∷ xs)
+  unfolding numbersFrom
+  others-next a c =
+      let e : getD (set (z .blanks) k (isBlankKind (kindIn a))) k false ≡ isBlank a =
+      getD-set-same (z .blanks) k (isBlankKind (kindIn a)) false (omega (arith, x .blanks-long)) ∙ kind-blank a in
+      rw (e, others-above c k (isBlankKind (kindIn a)) (z .blanks) (suc k) n (omega arith), x .others c)
+
+  -- a block, by what it adds to the valid ones
+  seen-by : (a : BlockState)
+      → newer (z .newest) k (surveyOf a) (sameAbove k (surveyOf a) (z .times)) ≡ newestIn (storeIn k a (stores xs))
+      → tying (z .tie) k (sameAbove k (surveyOf a) (z .times)) ≡ tieIn (storeIn k a (stores xs))
+      → cond (takesOver (z .newest) (surveyOf a)) (placesIn a) q ≡ placesFor p (storeIn k a (stores xs))
+      → ((t : ℕ) → 0 < t → (eqb t (timeIn a) || sameTime t (stores xs)) ≡ sameTime t (storeIn k a (stores xs)))
+      → Seeing k (suc n) (record { number = k; state = a } ∷ xs) p (seeing k (surveyOf a) z) (cond (takesOver (z .newest) (surveyOf a)) (placesIn a) q)
+  unfolding seeing surveyOf
+  seen-by a e f g i =
+      record {
+        why = why-more k a (x .why);
+        newest = e;
+        tie = f;
+        others = others-next a;
+        places = g;
+        times = λ t l. times-next t (timeIn a) l ∙ i t l;
+        times-long = length-set (z .times) k (timeIn a) ∙ x .times-long;
+        blanks-long = length-set (z .blanks) k (isBlankKind (kindIn a)) ∙ x .blanks-long;
+      }
+
+  untimed : (t : ℕ) → 0 < t → (eqb t 0 || sameTime t (stores xs)) ≡ sameTime t (stores xs)
+  untimed t l = rw (ne-eqb t 0 (λ e. omega arith))
+
+  pub seen-next : (a : BlockState) → Tells a
+      → Seeing k (suc n) (record { number = k; state = a } ∷ xs) p (seeing k (surveyOf a) z) (cond (takesOver (z .newest) (surveyOf a)) (placesIn a) q)
+  unfolding surveyOf newer tying
+  seen-next blank d = seen-by blank (x .newest) (x .tie) (x .places) untimed
+  seen-next inProgress d = seen-by inProgress (x .newest) (x .tie) (x .places) untimed
+  seen-next (foreign e) d = seen-by (foreign e) (x .newest) (x .tie) (x .places) untimed
+  seen-next (valid t fs c) d =
+      let s : Store = record { number = k; time = t; frames = fs; tail = c } in
+      seen-by (valid t fs c) (newer-is s (stores xs) (x .newest) (sym (d .needs)) (x .times t (d .some)))
+      (tie-more s (stores xs) (z .tie) (hasTime t (drop (suc k) (z .times))) (x .tie) (x .times t (d .some)))
+      (places-is p s (stores xs) (x .newest) (x .places)) (λ u l. refl)

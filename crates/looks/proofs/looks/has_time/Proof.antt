@@ -1,0 +1,43 @@
+-- A search by index.
+use mathlib.Core.Path.{_≡_, refl, sym, _∙_}
+use Prim.Native.Nat.{_-_}
+use native.Mathlib.Omega.{arith}
+use native.Mathlib.Numerals.{add-one}
+use denote.Ref.{now}
+use lib.ListN.{length, drop}
+use Rattle.looks.specs.Seen.{hasTime}
+use Rattle.looks.proofs.Looking.{time-here, time-on, time-past}
+use Rattle.looks.proofs.looks.has_time.Statement.{statement}
+use Rattle.looks.proofs.looks.has_time.Tie as tie
+
+abbrev Inv-loop : tie.InvT-loop
+Inv-loop times from time i₀ i = hasTime time (drop i times) ≡ hasTime time (drop from times)
+
+abbrev μ-loop : tie.MeasureT-loop
+μ-loop times from time i₀ i = length times - i
+
+pub has-time-spec : {M : Type 1} → statement M
+has-time-spec =
+    tie.close
+    (tie.spec
+    Inv-loop
+    μ-loop
+    (λ c. refl)
+    (λ c. omega (arith, c .before .before .good))
+    (λ c. omega arith)
+    (λ c.
+    let loop′ = c .before .before .before .loop in
+    let args′ = c .before .before .before .before .args in
+    sym (time-here (args′ .time) (loop′ .i) (now (args′ .times)) (c .before .before .loop-test .taken) (c .if1 .taken))
+    ∙ loop′ .inv)
+    (λ c. omega (arith, c .before .before .before .before .good))
+    (λ c. omega arith)
+    (λ c.
+    let loop′ = c .before .before .before .loop in
+    let args′ = c .before .before .before .before .args in
+    rw add-one (sym (time-on (args′ .time) (loop′ .i) (now (args′ .times)) (c .before .before .loop-test .taken) (c .if1 .left)) ∙ loop′ .inv))
+    (λ c.
+    let loop′ = c .before .loop in
+    let args′ = c .before .before .args in
+    sym (time-past (args′ .time) (loop′ .i) (now (args′ .times)) (c .loop-test .left))
+    ∙ loop′ .inv))

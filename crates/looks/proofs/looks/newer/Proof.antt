@@ -1,0 +1,17 @@
+-- One that takes over, or the newest so far.
+use mathlib.Core.Path.{sym, _∙_}
+use borrow.Author.Tests.{not-true, not-false}
+use Rattle.looks.specs.Seen.{newer}
+use borrow.Author.Needs.{needs}
+use Rattle.looks.proofs.looks.newer.Statement.{statement}
+use Rattle.looks.proofs.looks.newer.Tie as tie
+
+pub newer-spec : {M : Type 1} → statement M
+unfolding newer
+newer-spec = tie.close (tie.spec
+    (λ c κs. search needs)
+    (λ c. rw (sym (c .before .takes-over .ensures) ∙ not-true (c .before .takes-over .result) (c .if1 .taken)))
+    (λ c κs. search needs)
+    (λ c.
+    let takes-over′ = c .before .before .takes-over in
+    rw (sym (takes-over′ .ensures) ∙ not-false (takes-over′ .result) (c .before .if1 .left), c .needs-transfer .ensures)))

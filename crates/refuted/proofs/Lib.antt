@@ -1,0 +1,6 @@
+-- The bench rows of the machine, and that the promise refutes each wrong store. Each file's first line says what it proves.
+pub mod Bench  -- the starred rows
+pub mod RefutingRuns  -- the runs that tell, computed
+pub mod Refuting  -- none of them keeps the promise
+pub mod RefutingCut  -- demand 3 sees one that is wrong on half-erased halves only
+pub mod RefutingRows  -- and yet all are right in every row

@@ -1,0 +1,167 @@
+-- The wrong stores are refuted: on a short run each shows something else than the machine does, and the promise leaves no room for that.
+use mathlib.Core.Path.{_≡_, refl, sym, ap, _∙_, subst}
+use mathlib.Core.List.{List, [], _∷_, map}
+use mathlib.Core.Logic.{inl, inr}
+use mathlib.Core.Bool.{Bool, true, false, _&&_, cond}
+use Prim.Native.Nat.{ℕ, zero, suc}
+use native.Mathlib.Omega.{arith}
+use lib.Dec.{ltb}
+use lib.ListN.{length, replicate}
+use borrow.Author.Tests.{ltb-true, le-leb, eqb-false}
+use Rattle.flash.specs.Bytes.{Bytes, allFF}
+use Rattle.flash.specs.Flash.{numbersFrom, sizeIn}
+use Rattle.flash.proofs.Cases.{and-left, and-right, clash}
+use Rattle.journal.specs.Block.{blockState}
+use Rattle.wire.specs.declared.Answer.the-variants.{More}
+use Rattle.board.specs.declared.Stage.the-variants.{Wipe}
+use Rattle.board.specs.declared.Phase.the-variants.{Unmounted, Idle, Busy}
+use Rattle.board.specs.declared.Record.{Record}
+use Rattle.board.specs.Record.{allowed, unmounted, cursor, inStage}
+use Rattle.board.specs.Step.{advance, enterWipe, stepBusy, stepOn}
+use Rattle.board.specs.Mount.{formatOrder, formatOn}
+use Rattle.board.specs.Table.{Exactly, Misplaced, linesOf}
+use Rattle.board.specs.Demand1.{Declared, EndsWithin}
+use Rattle.board.specs.Exec.{Call, request, step, mount, format, Machine, exec}
+use Rattle.board.specs.Claim.{call}
+use Rattle.board.specs.Promise.{Promise, Kept, Shown, trace, ByteEvents, PromiseDetermines}
+use Rattle.refuted.specs.Wrong.{Wrongly, onBench, offBench, outsideIsDone, forgedWaits, ignoresCount}
+use Rattle.refuted.specs.Refuted.{RightOnBench, Refuted}
+use Rattle.refuted.specs.WrongRuns.{nothing, lastFrom, allBytes, bytesIn, begins, Differs}
+use Rattle.board.proofs.Determining.{promise-determines}
+use Rattle.board.proofs.FollowingPlans.{promise}
+use Rattle.refuted.proofs.RefutingRuns.{runs}
+
+bytes-all : (l : List ℕ) → allBytes l ≡ true → Bytes l
+bytes-all [] e = tt
+bytes-all (b ∷ bs) e = (ltb-true b 256 (and-left (ltb b 256) (allBytes bs) e), bytes-all bs (and-right (ltb b 256) (allBytes bs) e))
+
+bytes-in : (cs : List Call) → bytesIn cs ≡ true → ByteEvents (map call cs)
+bytes-in [] e = tt
+bytes-in (request h m reply ∷ cs) e =
+    (bytes-all m (and-left (allBytes m) (bytesIn cs) e), bytes-in cs (and-right (allBytes m) (bytesIn cs) e))
+bytes-in (step ∷ cs) e = (tt, bytes-in cs e)
+bytes-in (mount ∷ cs) e = (tt, bytes-in cs e)
+bytes-in (format ∷ cs) e = (tt, bytes-in cs e)
+
+-- a store that keeps the promise shows what the machine shows
+same-trace : {N : ℕ} (m : Machine) → Promise N m → (img : List ℕ) → Bytes img → (cs : List Call) → begins cs ≡ true → ByteEvents (map call cs)
+    → trace N m img unmounted (map call cs) ≡ trace N (exec N) img unmounted (map call cs)
+unfolding PromiseDetermines
+same-trace m p img b [] e c = refl
+same-trace m p img b (request h msg reply ∷ cs) e c = clash false e refl
+same-trace m p img b (step ∷ cs) e c = clash false e refl
+same-trace {N} m p img b (mount ∷ cs) e c = promise-determines N m (exec N) p promise img unmounted unmounted mount (map call cs) b tt (c .1)
+same-trace {N} m p img b (format ∷ cs) e c = promise-determines N m (exec N) p promise img unmounted unmounted format (map call cs) b tt (c .1)
+
+-- so one that shows something else doesn't keep it
+differs : {N : ℕ} {w : Wrongly} {img : List ℕ} {cs : List Call} {see : Shown → ℕ} {a b : ℕ}
+    → Differs N w img cs see a b → Kept (offBench w) → ⊥
+differs {N} {w} {img} {cs} {see} {a} {b} t p =
+    let bytes : Bytes img = bytes-all img (and-left (allBytes img) (begins cs && bytesIn cs) (t .is-run)) in
+    let calls : (begins cs && bytesIn cs) ≡ true = and-right (allBytes img) (begins cs && bytesIn cs) (t .is-run) in
+    let same : trace N (offBench w N) img unmounted (map call cs) ≡ trace N (exec N) img unmounted (map call cs) =
+    same-trace (offBench w N) (p N) img bytes cs (and-left (begins cs) (bytesIn cs) calls)
+    (bytes-in cs (and-right (begins cs) (bytesIn cs) calls)) in
+    eqb-false a b (t .apart) (sym (t .shows-wrong) ∙ ap (λ (xs : List Shown). see (lastFrom nothing xs)) same ∙ t .shows-right)
+
+pub same-on-bench : (w : Wrongly) (N : ℕ) (img : List ℕ) (r : Record) (c : Call) → onBench (length img) ≡ true → offBench w N img r c ≡ exec N img r c
+same-on-bench w N img r c e = ap (λ (b : Bool). cond b (exec N img r c) (w N img r c (exec N img r c))) e
+
+pub right-on-bench : RightOnBench
+unfolding RightOnBench
+right-on-bench w N img r c (inl short) = same-on-bench w N img r c (rw (le-leb (length img) 512 short))
+right-on-bench w N img r c (inr e) = same-on-bench w N img r c (ap onBench e)
+
+-- ---- records that no run gives back: by the clause itself
+
+-- an image and the record of its format
+abbrev long : List ℕ
+long = replicate 768 0xFF
+
+unfoldable formatting : Record
+formatting = exec 2 long unmounted format .board
+
+not-idle : Busy Wipe ≡ Idle → ⊥
+not-idle e = let w : _≡_ {A = ℕ} 0 1 = cc in omega arith
+
+not-unmounted : Busy Wipe ≡ Unmounted → ⊥
+not-unmounted e = let w : _≡_ {A = ℕ} 0 1 = cc in omega arith
+
+-- with an image of another length
+outside-is-done : Kept (offBench outsideIsDone) → ⊥
+unfolding outsideIsDone stepBusy stepOn allFF blockState numbersFrom sizeIn allowed formatOrder formatOn enterWipe formatting
+outside-is-done p = not-idle (p 2 .calls .told (replicate 1280 0xFF) formatting step tt (λ e. absurd (not-unmounted e)) .done .0 refl)
+
+-- given another number of blocks
+goes-on : offBench ignoresCount 3 long formatting step .answer ≡ More
+unfolding ignoresCount advance stepBusy stepOn allFF blockState numbersFrom sizeIn allowed formatOrder formatOn enterWipe formatting
+goes-on = refl
+
+other-count : Misplaced 3 long formatting
+unfolding allFF blockState numbersFrom sizeIn allowed formatOrder formatOn enterWipe formatting
+other-count = record { stage = Wipe; is-busy = refl; misfits = inr (inl (λ e. omega arith)) }
+
+ignores-count : Kept (offBench ignoresCount) → ⊥
+ignores-count p = go (subst (Exactly (linesOf 3 long formatting step)) goes-on (p 3 .calls .table long formatting step (bytes-all long refl)))
+  where
+    go : Exactly (linesOf 3 long formatting step) More → ⊥
+    go (inl (y, e)) = let w : _≡_ {A = ℕ} 0 1 = cc in omega arith
+    go (inr (n, y)) = n other-count
+
+-- at a step that its job doesn't have
+unfoldable stuck : Record
+stuck = inStage Wipe (cursor 100 0 0 0 0 0) formatting
+
+never-ends : (n : ℕ) → EndsWithin (offBench forgedWaits 2) n long stuck → ⊥
+unfolding EndsWithin forgedWaits stuck
+never-ends zero e = e
+never-ends (suc n) (inl e) = e
+never-ends (suc n) (inr (inl e)) = let w : _≡_ {A = ℕ} 0 1 = cc in omega arith
+never-ends (suc n) (inr (inr e)) = never-ends n e
+
+stuck-declared : Declared stuck
+unfolding stuck formatting allFF blockState numbersFrom sizeIn allowed formatOrder formatOn enterWipe
+stuck-declared = record { last = omega arith; wipes = omega arith; append = omega arith; copy = omega arith }
+
+forged-waits : Kept (offBench forgedWaits) → ⊥
+forged-waits p = never-ends 65536 (p 2 .calls .ends long stuck stuck-declared)
+
+pub refuted : Refuted
+refuted =
+    record {
+      refuses-all = differs (runs .refuses-all);
+      refuses-puts = differs (runs .refuses-puts);
+      refuses-high-ids = differs (runs .refuses-high-ids);
+      own-formats-only = differs (runs .own-formats-only);
+      first-half-only = differs (runs .first-half-only);
+      host-first = differs (runs .host-first);
+      refusal-clears = differs (runs .refusal-clears);
+      refused-log-writes = differs (runs .refused-log-writes);
+      reads-alike = differs (runs .reads-alike);
+      invents-count = differs (runs .invents-count);
+      never-commits = differs (runs .never-commits);
+      aborts-nothing = differs (runs .aborts-nothing);
+      takes-others = differs (runs .takes-others);
+      keeps-old = differs (runs .keeps-old);
+      programs-nothing = differs (runs .programs-nothing);
+      whole-frame = differs (runs .whole-frame);
+      invents-step = differs (runs .invents-step);
+      erases-first = differs (runs .erases-first);
+      outside-is-done = outside-is-done;
+      forged-waits = forged-waits;
+      hurried-mount = differs (runs .hurried-mount);
+      loses-all = differs (runs .loses-all);
+      keeps-pending = differs (runs .keeps-pending);
+      refuses-alike = differs (runs .refuses-alike);
+      overlooks-foreign = differs (runs .overlooks-foreign);
+      names-second = differs (runs .names-second);
+      ties-at-start = differs (runs .ties-at-start);
+      refuses-half-erased = differs (runs .refuses-half-erased);
+      takes-half-erased = differs (runs .takes-half-erased);
+      formats-at-once = differs (runs .formats-at-once);
+      formats-blindly = differs (runs .formats-blindly);
+      goes-back = differs (runs .goes-back);
+      erases-one = differs (runs .erases-one);
+      ignores-count = ignores-count;
+      even-only = differs (runs .even-only);
+    }

@@ -1,0 +1,68 @@
+-- The runs that tell the wrong stores from the machine, computed over the definitions.
+use mathlib.Core.Path.{refl}
+use Rattle.flash.specs.Bytes.{allFF, sameBytes}
+use Rattle.flash.specs.Flash.{numbersFrom, sizeIn, applyAll, writes}
+use Rattle.frame.specs.Frame.{encodeAll, total}
+use Rattle.frame.specs.Reader.{match, readFrame, scan}
+use Rattle.journal.specs.Replay.{insert, remove, lookup, changeAll, listOf, without, isOpen, replayFrom}
+use Rattle.journal.specs.Block.{headerFault, blockState}
+use Rattle.journal.specs.Room.{noRoom}
+use Rattle.journal.specs.Index.{sited, placesFrom, sinceFrom, valueAt, nextSettled, nextPending, nextLoad}
+use Rattle.wire.specs.Message.{parse}
+use Rattle.board.specs.Record.{allowed, noPlaces, noFrame}
+use Rattle.board.specs.Step.{enterAppend, enterDrop, enterCopy, enterOpen, enterWipe, advance, stepBusy, stepOn}
+use Rattle.board.specs.Mount.{mountAt, mountFound, mountOn, formatOrder, formatOn}
+use Rattle.board.specs.Queue.{held, append, serveChange, serveEnd, serveLog, serve, requestOn}
+use Rattle.refuted.specs.Wrong.{refusesAll, refusesPuts, refusesHighIds, ownFormatsOnly, firstHalfOnly, hostFirst, refusalClears}
+use Rattle.refuted.specs.Wrong.{refusedLogWrites, readsAlike, inventsCount, neverCommits, abortsNothing, takesOthers, keepsOld}
+use Rattle.refuted.specs.Wrong.{programsNothing, wholeFrame, inventsStep, erasesFirst, hurriedMount, losesAll, keepsPending}
+use Rattle.refuted.specs.Wrong.{refusesAlike, overlooksForeign, namesSecond, tiesAtStart, refusesHalfErased, takesHalfErased, formatsAtOnce}
+use Rattle.refuted.specs.Wrong.{formatsBlindly, goesBack, erasesOne, evenOnly}
+use Rattle.refuted.specs.WrongRuns.{half, blankHalf, stored, pending, later, second, begun, twice, tiedHalves, bothStrange, strange}
+use Rattle.refuted.specs.WrongRuns.{halfErased, seemsEmpty, inMiddle, begunTwice, storedFirst, Runs}
+
+pub runs : Runs
+unfolding numbersFrom sizeIn allowed refusesAll refusesPuts refusesHighIds ownFormatsOnly firstHalfOnly hostFirst refusalClears refusedLogWrites readsAlike
+    inventsCount neverCommits abortsNothing takesOthers keepsOld programsNothing wholeFrame inventsStep erasesFirst hurriedMount losesAll
+    keepsPending refusesAlike overlooksForeign namesSecond tiesAtStart refusesHalfErased takesHalfErased formatsAtOnce formatsBlindly goesBack erasesOne
+    evenOnly
+    allFF sameBytes applyAll writes encodeAll total match readFrame scan insert
+    remove lookup changeAll listOf without isOpen replayFrom headerFault blockState noRoom sited placesFrom sinceFrom valueAt nextSettled
+    nextPending nextLoad parse noPlaces noFrame enterAppend enterDrop enterCopy enterOpen enterWipe advance stepBusy stepOn mountAt
+    mountFound mountOn formatOrder formatOn held append serveChange serveEnd serveLog serve requestOn half blankHalf stored pending later second begun
+    twice tiedHalves bothStrange strange halfErased seemsEmpty inMiddle begunTwice storedFirst
+runs =
+    record {
+      refuses-all = record { is-run = refl; shows-wrong = refl; shows-right = refl; apart = refl };
+      refuses-puts = record { is-run = refl; shows-wrong = refl; shows-right = refl; apart = refl };
+      refuses-high-ids = record { is-run = refl; shows-wrong = refl; shows-right = refl; apart = refl };
+      own-formats-only = record { is-run = refl; shows-wrong = refl; shows-right = refl; apart = refl };
+      first-half-only = record { is-run = refl; shows-wrong = refl; shows-right = refl; apart = refl };
+      host-first = record { is-run = refl; shows-wrong = refl; shows-right = refl; apart = refl };
+      refusal-clears = record { is-run = refl; shows-wrong = refl; shows-right = refl; apart = refl };
+      refused-log-writes = record { is-run = refl; shows-wrong = refl; shows-right = refl; apart = refl };
+      reads-alike = record { is-run = refl; shows-wrong = refl; shows-right = refl; apart = refl };
+      invents-count = record { is-run = refl; shows-wrong = refl; shows-right = refl; apart = refl };
+      never-commits = record { is-run = refl; shows-wrong = refl; shows-right = refl; apart = refl };
+      aborts-nothing = record { is-run = refl; shows-wrong = refl; shows-right = refl; apart = refl };
+      takes-others = record { is-run = refl; shows-wrong = refl; shows-right = refl; apart = refl };
+      keeps-old = record { is-run = refl; shows-wrong = refl; shows-right = refl; apart = refl };
+      programs-nothing = record { is-run = refl; shows-wrong = refl; shows-right = refl; apart = refl };
+      whole-frame = record { is-run = refl; shows-wrong = refl; shows-right = refl; apart = refl };
+      invents-step = record { is-run = refl; shows-wrong = refl; shows-right = refl; apart = refl };
+      erases-first = record { is-run = refl; shows-wrong = refl; shows-right = refl; apart = refl };
+      hurried-mount = record { is-run = refl; shows-wrong = refl; shows-right = refl; apart = refl };
+      loses-all = record { is-run = refl; shows-wrong = refl; shows-right = refl; apart = refl };
+      keeps-pending = record { is-run = refl; shows-wrong = refl; shows-right = refl; apart = refl };
+      refuses-alike = record { is-run = refl; shows-wrong = refl; shows-right = refl; apart = refl };
+      overlooks-foreign = record { is-run = refl; shows-wrong = refl; shows-right = refl; apart = refl };
+      names-second = record { is-run = refl; shows-wrong = refl; shows-right = refl; apart = refl };
+      ties-at-start = record { is-run = refl; shows-wrong = refl; shows-right = refl; apart = refl };
+      refuses-half-erased = record { is-run = refl; shows-wrong = refl; shows-right = refl; apart = refl };
+      takes-half-erased = record { is-run = refl; shows-wrong = refl; shows-right = refl; apart = refl };
+      formats-at-once = record { is-run = refl; shows-wrong = refl; shows-right = refl; apart = refl };
+      formats-blindly = record { is-run = refl; shows-wrong = refl; shows-right = refl; apart = refl };
+      goes-back = record { is-run = refl; shows-wrong = refl; shows-right = refl; apart = refl };
+      erases-one = record { is-run = refl; shows-wrong = refl; shows-right = refl; apart = refl };
+      even-only = record { is-run = refl; shows-wrong = refl; shows-right = refl; apart = refl };
+    }

@@ -1,0 +1,5 @@
+pub mod Rows
+pub mod Wrong
+pub mod Refuted
+pub mod WrongRuns
+pub mod WrongRows

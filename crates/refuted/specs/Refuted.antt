@@ -1,0 +1,56 @@
+-- Wrong stores are right on the bench's images, and none of them keeps the promise.
+use mathlib.Core.List.{List}
+use mathlib.Core.Path.{_≡_}
+use mathlib.Core.Logic.{_⊎_}
+use Prim.Native.Nat.{ℕ, _≤_}
+use lib.ListN.{length}
+use Rattle.board.specs.declared.Record.{Record}
+use Rattle.board.specs.Exec.{Call, exec}
+use Rattle.board.specs.Promise.{Kept}
+use Rattle.refuted.specs.Wrong.{Wrongly, offBench, refusesAll, refusesPuts, refusesHighIds, ownFormatsOnly, firstHalfOnly, hostFirst}
+use Rattle.refuted.specs.Wrong.{refusalClears, refusedLogWrites, readsAlike, inventsCount, neverCommits, abortsNothing, takesOthers}
+use Rattle.refuted.specs.Wrong.{keepsOld, programsNothing, wholeFrame, inventsStep, erasesFirst, outsideIsDone, forgedWaits, hurriedMount}
+use Rattle.refuted.specs.Wrong.{losesAll, keepsPending, refusesAlike, overlooksForeign, namesSecond, tiesAtStart, refusesHalfErased}
+use Rattle.refuted.specs.Wrong.{takesHalfErased, formatsAtOnce, formatsBlindly, goesBack, erasesOne, ignoresCount, evenOnly}
+
+-- on the bench's images, whatever is done off it; for the rows one by one see WrongRows
+unfoldable pub RightOnBench : Type 0
+RightOnBench = (w : Wrongly) (N : ℕ) (img : List ℕ) (r : Record) (c : Call) → (length img ≤ 512) ⊎ (length img ≡ 1024)
+    → offBench w N img r c ≡ exec N img r c
+
+pub record Refuted : Type 0 where
+  pub refuses-all : Kept (offBench refusesAll) → ⊥
+  pub refuses-puts : Kept (offBench refusesPuts) → ⊥
+  pub refuses-high-ids : Kept (offBench refusesHighIds) → ⊥
+  pub own-formats-only : Kept (offBench ownFormatsOnly) → ⊥
+  pub first-half-only : Kept (offBench firstHalfOnly) → ⊥
+  pub host-first : Kept (offBench hostFirst) → ⊥
+  pub refusal-clears : Kept (offBench refusalClears) → ⊥
+  pub refused-log-writes : Kept (offBench refusedLogWrites) → ⊥
+  pub reads-alike : Kept (offBench readsAlike) → ⊥
+  pub invents-count : Kept (offBench inventsCount) → ⊥
+  pub never-commits : Kept (offBench neverCommits) → ⊥
+  pub aborts-nothing : Kept (offBench abortsNothing) → ⊥
+  pub takes-others : Kept (offBench takesOthers) → ⊥
+  pub keeps-old : Kept (offBench keepsOld) → ⊥
+  pub programs-nothing : Kept (offBench programsNothing) → ⊥
+  pub whole-frame : Kept (offBench wholeFrame) → ⊥
+  pub invents-step : Kept (offBench inventsStep) → ⊥
+  pub erases-first : Kept (offBench erasesFirst) → ⊥
+  pub outside-is-done : Kept (offBench outsideIsDone) → ⊥
+  pub forged-waits : Kept (offBench forgedWaits) → ⊥
+  pub hurried-mount : Kept (offBench hurriedMount) → ⊥
+  pub loses-all : Kept (offBench losesAll) → ⊥
+  pub keeps-pending : Kept (offBench keepsPending) → ⊥
+  pub refuses-alike : Kept (offBench refusesAlike) → ⊥
+  pub overlooks-foreign : Kept (offBench overlooksForeign) → ⊥
+  pub names-second : Kept (offBench namesSecond) → ⊥
+  pub ties-at-start : Kept (offBench tiesAtStart) → ⊥
+  pub refuses-half-erased : Kept (offBench refusesHalfErased) → ⊥
+  pub takes-half-erased : Kept (offBench takesHalfErased) → ⊥
+  pub formats-at-once : Kept (offBench formatsAtOnce) → ⊥
+  pub formats-blindly : Kept (offBench formatsBlindly) → ⊥
+  pub goes-back : Kept (offBench goesBack) → ⊥
+  pub erases-one : Kept (offBench erasesOne) → ⊥
+  pub ignores-count : Kept (offBench ignoresCount) → ⊥
+  pub even-only : Kept (offBench evenOnly) → ⊥

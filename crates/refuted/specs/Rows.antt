@@ -1,0 +1,169 @@
+-- Document 01's starred bench rows, S = 256, row p, and row o's values as document 02, K2 has them: one table over a machine of
+-- two blocks.
+use mathlib.Core.List.{List, [], _∷_}
+use mathlib.Core.Path.{_≡_}
+use Prim.Native.Nat.{ℕ, zero, suc, _+_}
+use lib.ListN.{take, drop, replicate}
+use Rattle.flash.specs.Flash.{block}
+use Rattle.frame.specs.Frame.{hostOf, idOf}
+use Rattle.journal.specs.Replay.{State, state, object, replay}
+use Rattle.journal.specs.Block.{blockState, framesIn, timeIn}
+use Rattle.journal.specs.Room.{claimed}
+use Rattle.wire.specs.declared.Answer.{Answer}
+use Rattle.wire.specs.declared.Answer.the-variants.{Done, More, Refused}
+use Rattle.wire.specs.declared.Refusal.the-variants as refusal
+use Rattle.board.specs.declared.Record.{Record}
+use Rattle.board.specs.Record.{unmounted, rest, idle, Out}
+use Rattle.board.specs.Exec.{request, step, mount, format, Machine}
+
+-- what a call and its steps give, and how many step calls it took
+pub record Ran : Type 0 where
+  pub steps : ℕ
+  pub image : List ℕ
+  pub board : Record
+  pub answer : Answer
+
+abbrev pub ran : ℕ → Out → Ran
+ran c o = record { steps = c; image = o .image; board = o .board; answer = o .answer }
+
+-- step calls while the answer is more, at most n
+unfoldable pub drive : Machine → ℕ → ℕ → Out → Ran
+drive m zero c o = ran c o
+drive m (suc n) c o =
+    elim (o .answer) [
+      | Done ↦ ran c o
+      | More ↦ drive m n (suc c) (m (o .image) (o .board) step)
+      | Refused r ↦ ran c o
+    ]
+
+-- an image of 512 bytes that no store wrote
+unfoldable pub returned : List ℕ
+returned = replicate 512 0x5A
+
+-- a request of host h, with a reply of 16 bytes; and with its steps made
+unfoldable pub ask : Machine → Ran → ℕ → List ℕ → Out
+ask m r h msg = m (r .image) (r .board) (request (hostOf h) msg (replicate 16 0xEE))
+
+unfoldable pub asked : Machine → Ran → ℕ → List ℕ → Ran
+asked m r h msg = drive m 300 0 (ask m r h msg)
+
+-- in a request, cut after n steps
+unfoldable pub cutIn : Machine → Ran → ℕ → List ℕ → ℕ → List ℕ
+cutIn m r h msg n = drive m n 0 (ask m r h msg) .image
+
+-- a mount after a power cut
+unfoldable pub mounted : Machine → List ℕ → Ran
+mounted m img = drive m 300 0 (m img unmounted mount)
+
+-- what a block of a run replays to
+unfoldable pub replayed : ℕ → Ran → State
+replayed k r = replay (framesIn (blockState (block 256 k (r .image))))
+
+-- a block's creation time
+unfoldable pub timed : ℕ → Ran → ℕ
+timed k r = timeIn (blockState (block 256 k (r .image)))
+
+-- n bytes from a place on
+unfoldable pub part : ℕ → ℕ → List ℕ → List ℕ
+part at n l = take n (drop at l)
+
+-- ---- the rows' givens
+
+unfoldable pub rowA : Machine → Ran
+rowA m = drive m 100 0 (m returned unmounted format)
+
+unfoldable pub rowB : Machine → Ran
+rowB m = asked m (rowA m) 2 (0x08 ∷ 0x00 ∷ 0x01 ∷ 0x01 ∷ 0x05 ∷ 0x00 ∷ 0x41 ∷ 0x42 ∷ [])
+
+unfoldable pub commitMessage : List ℕ
+commitMessage = 0x04 ∷ 0x00 ∷ 0x03 ∷ 0x01 ∷ []
+
+unfoldable pub rowC : Machine → Ran
+rowC m = asked m (rowB m) 2 commitMessage
+
+-- rows d and e are asked by a host that put nothing
+unfoldable pub rowD : Machine → Out
+rowD m = ask m (rowC m) 0 (0x06 ∷ 0x00 ∷ 0x05 ∷ 0x01 ∷ 0x05 ∷ 0x00 ∷ [])
+
+unfoldable pub rowE : Machine → Out
+rowE m = ask m (rowC m) 0 (0x05 ∷ 0x00 ∷ 0x06 ∷ 0x01 ∷ 0x01 ∷ [])
+
+unfoldable pub rowF : Machine → Ran
+rowF m = mounted m (rowB m .image)
+
+unfoldable pub rowG : Machine → Ran
+rowG m = mounted m (cutIn m (rowB m) 2 commitMessage 5)
+
+unfoldable pub rowH : Machine → Ran
+rowH m = mounted m (cutIn m (rowB m) 2 commitMessage 6)
+
+-- n bytes put to an id
+unfoldable pub putMessage : ℕ → ℕ → List ℕ
+putMessage i n = (6 + n) ∷ 0x00 ∷ 0x01 ∷ 0x01 ∷ i ∷ 0x00 ∷ replicate n 0x41
+
+unfoldable pub rowI : Machine → ℕ → Ran
+rowI m last = asked m (asked m (asked m (rowA m) 0 (putMessage 1 64)) 0 (putMessage 2 64)) 0 (putMessage 3 last)
+
+unfoldable pub rowK : Machine → ℕ → Ran
+rowK m last = asked m (rowI m last) 0 commitMessage
+
+-- "Row o's value cases become 240 and 241 on a 1,024-byte image": row a there, and a put of n bytes
+unfoldable pub rowALong : Machine → Ran
+rowALong m = drive m 100 0 (m (replicate 1024 0x5A) unmounted format)
+
+unfoldable pub rowO : Machine → ℕ → Ran
+rowO m n = asked m (rowALong m) 0 (putMessage 9 n)
+
+-- a format's answer on an image of n bytes
+unfoldable pub formatAnswer : Machine → ℕ → Answer
+formatAnswer m n = m (replicate n 0x5A) unmounted format .answer
+
+-- ---- the table
+
+pub record Rows (m : Machine) : Type 0 where
+  pub a-steps : rowA m .steps ≡ 12
+  pub a-done : rowA m .board ≡ idle (rest 2 511 0 16)
+  pub a-half : part 0 16 (rowA m .image)
+      ≡ 0x10 ∷ 0x00 ∷ 0x01 ∷ 0x4A ∷ 0xFE ∷ 0xFF ∷ 0xFF ∷ 0xFF ∷ 0xFC ∷ 0xFF ∷ 0xFF ∷ 0xFF ∷ 0xFF ∷ 0xFF ∷ 0xFF ∷ 0xFF ∷ []
+  pub a-rest : drop 16 (rowA m .image) ≡ replicate 496 0xFF
+  pub b-steps : rowB m .steps ≡ 10
+  pub b-done : rowB m .board ≡ idle (rest 2 511 0 26)
+  pub b-frame : part 16 10 (rowB m .image) ≡ 0x0A ∷ 0x00 ∷ 0x01 ∷ 0x00 ∷ 0x02 ∷ 0x05 ∷ 0x00 ∷ 0x41 ∷ 0x42 ∷ 0xFE ∷ []
+  pub c-steps : rowC m .steps ≡ 6
+  pub c-frame : part 26 6 (rowC m .image) ≡ 0x06 ∷ 0x00 ∷ 0x03 ∷ 0x00 ∷ 0x02 ∷ 0xFE ∷ []
+  pub c-end : rowC m .board ≡ idle (rest 2 511 0 32)
+  pub c-rest : drop 32 (rowC m .image) ≡ replicate 480 0xFF
+  pub d-answer : rowD m .answer ≡ Done
+  pub d-place : rowD m .stretch ≡ record { at = 23; size = 2 }
+  pub e-answer : rowE m .answer ≡ Done
+  pub e-reply : rowE m .reply
+      ≡ 0x0E ∷ 0x00 ∷ 0x01 ∷ 0x02 ∷ 0x01 ∷ 0x00 ∷ 0x00 ∷ 0x00 ∷ 0x01 ∷ 0x00 ∷ 0x19 ∷ 0x00 ∷ 0x00 ∷ 0x01 ∷ 0xEE ∷ 0xEE ∷ []
+  pub f-steps : rowF m .steps ≡ 11
+  pub f-done : rowF m .board ≡ idle (rest 2 511 1 16)
+  pub f-time : timed 1 (rowF m) ≡ 2
+  pub f-holds : replayed 1 (rowF m) ≡ state [] []
+  pub g-steps : rowG m .steps ≡ 11
+  pub g-done : rowG m .board ≡ idle (rest 2 511 1 16)
+  pub g-holds : replayed 1 (rowG m) ≡ state [] []
+  pub h-steps : rowH m .steps ≡ 0
+  pub h-done : rowH m .board ≡ idle (rest 2 511 0 32)
+  pub h-holds : replayed 0 (rowH m) ≡ state (object (idOf 5) (0x41 ∷ 0x42 ∷ []) ∷ []) []
+  pub i-accepted : ask m (rowA m) 0 (putMessage 1 64) .answer ≡ More
+  pub i-done : rowI m 64 .board ≡ idle (rest 2 511 0 232)
+  pub i-claimed : claimed (replayed 0 (rowI m 64)) ≡ 232
+  pub j : ask m (rowI m 64) 0 (putMessage 4 0) .answer ≡ Refused refusal.NoRoom
+  pub k-refused : ask m (rowK m 64) 0 (putMessage 4 0) .answer ≡ Refused refusal.NoRoom
+  pub k-accepted : ask m (rowK m 63) 0 (putMessage 4 0) .answer ≡ More
+  pub n : ask m (rowA m) 0 (0x05 ∷ 0x00 ∷ 0x03 ∷ 0x01 ∷ []) .answer ≡ Refused refusal.Malformed
+  pub o-240-steps : rowO m 240 .steps ≡ 248
+  pub o-240-done : rowO m 240 .board ≡ idle (rest 2 1023 0 264)
+  pub o-241 : rowO m 241 .answer ≡ Refused refusal.Malformed
+  -- beyond row o: where S is 256 there is no room for the longest value
+  pub o-240-short : ask m (rowA m) 0 (putMessage 9 240) .answer ≡ Refused refusal.NoRoom
+  pub p-512 : formatAnswer m 512 ≡ More
+  pub p-768 : formatAnswer m 768 ≡ More
+  pub p-65536 : formatAnswer m 65536 ≡ More
+  pub p-256 : formatAnswer m 256 ≡ Refused refusal.ImageLength
+  pub p-511 : formatAnswer m 511 ≡ Refused refusal.ImageLength
+  -- beyond row p: the first multiple of 256 past the longest
+  pub p-over : formatAnswer m 65792 ≡ Refused refusal.ImageLength

@@ -1,0 +1,44 @@
+-- Every wrong store is right in every bench row: the promise refutes it, no row does.
+use Rattle.refuted.specs.Rows.{Rows}
+use Rattle.refuted.specs.Wrong.{offBench, refusesAll, refusesPuts, refusesHighIds, ownFormatsOnly, firstHalfOnly, hostFirst}
+use Rattle.refuted.specs.Wrong.{refusalClears, refusedLogWrites, readsAlike, inventsCount, neverCommits, abortsNothing, takesOthers}
+use Rattle.refuted.specs.Wrong.{keepsOld, programsNothing, wholeFrame, inventsStep, erasesFirst, outsideIsDone, forgedWaits}
+use Rattle.refuted.specs.Wrong.{hurriedMount, losesAll, keepsPending, refusesAlike, overlooksForeign, namesSecond, tiesAtStart, refusesHalfErased}
+use Rattle.refuted.specs.Wrong.{takesHalfErased, formatsAtOnce, formatsBlindly, goesBack, erasesOne, ignoresCount, evenOnly}
+
+pub record RightInRows : Type 0 where
+  pub refuses-all : Rows (offBench refusesAll 2)
+  pub refuses-puts : Rows (offBench refusesPuts 2)
+  pub refuses-high-ids : Rows (offBench refusesHighIds 2)
+  pub own-formats-only : Rows (offBench ownFormatsOnly 2)
+  pub first-half-only : Rows (offBench firstHalfOnly 2)
+  pub host-first : Rows (offBench hostFirst 2)
+  pub refusal-clears : Rows (offBench refusalClears 2)
+  pub refused-log-writes : Rows (offBench refusedLogWrites 2)
+  pub reads-alike : Rows (offBench readsAlike 2)
+  pub invents-count : Rows (offBench inventsCount 2)
+  pub never-commits : Rows (offBench neverCommits 2)
+  pub aborts-nothing : Rows (offBench abortsNothing 2)
+  pub takes-others : Rows (offBench takesOthers 2)
+  pub keeps-old : Rows (offBench keepsOld 2)
+  pub programs-nothing : Rows (offBench programsNothing 2)
+  pub whole-frame : Rows (offBench wholeFrame 2)
+  pub invents-step : Rows (offBench inventsStep 2)
+  pub erases-first : Rows (offBench erasesFirst 2)
+  pub outside-is-done : Rows (offBench outsideIsDone 2)
+  pub forged-waits : Rows (offBench forgedWaits 2)
+  pub hurried-mount : Rows (offBench hurriedMount 2)
+  pub loses-all : Rows (offBench losesAll 2)
+  pub keeps-pending : Rows (offBench keepsPending 2)
+  pub refuses-alike : Rows (offBench refusesAlike 2)
+  pub overlooks-foreign : Rows (offBench overlooksForeign 2)
+  pub names-second : Rows (offBench namesSecond 2)
+  pub ties-at-start : Rows (offBench tiesAtStart 2)
+  pub refuses-half-erased : Rows (offBench refusesHalfErased 2)
+  pub takes-half-erased : Rows (offBench takesHalfErased 2)
+  pub formats-at-once : Rows (offBench formatsAtOnce 2)
+  pub formats-blindly : Rows (offBench formatsBlindly 2)
+  pub goes-back : Rows (offBench goesBack 2)
+  pub erases-one : Rows (offBench erasesOne 2)
+  pub ignores-count : Rows (offBench ignoresCount 2)
+  pub even-only : Rows (offBench evenOnly 2)

@@ -1,0 +1,1 @@
+// No code: the bench rows, and the wrong stores that the promise refutes.
