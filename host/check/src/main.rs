@@ -30,7 +30,7 @@ fn compare(time: Duration, first: u64) {
             break;
         }
     }
-    let Sum { tally, runs, cuts, inside, images } = sum;
+    let Sum { tally, runs, cuts, inside, images, .. } = sum;
     println!(
         "{tally}No difference in {} calls: {runs} runs, {cuts} cuts ({inside} inside an erase), {images} damaged images.",
         tally.calls()

@@ -67,6 +67,9 @@ fn runs_of_more_blocks() {
     let mut sum = Sum::default();
     runs_of_more(0, &mut sum);
     seen_runs(&sum);
+    for blocks in [2, 3, 4, 7, 16] {
+        assert!(sum.even[blocks] > 2 * blocks, "{} erases of {blocks} blocks", sum.even[blocks]);
+    }
 }
 
 fn seen_images(sum: &Sum) {
