@@ -14,7 +14,7 @@ pub fn agreed(image: &[u8], blocks: u8) -> (Answer, Option<Fault>) {
     ] {
         assert!(
             said == expected,
-            "{name} says {said:?}, the model {expected:?}\nimage {}\nmount",
+            "{name} says {said:?}, the model {expected:?}\nimage {} {blocks}\nmount",
             hex::show(image)
         );
     }
