@@ -17,13 +17,10 @@ use Rattle.journal.specs.Replay.{Object, replay}
 use Rattle.journal.specs.Block.{BlockState, blank, inProgress, valid, foreign, blockState, lastTime}
 use Rattle.journal.proofs.States.{Contents, contents-valid, valid-inv}
 use Rattle.journal.proofs.Raising.{harmless-older}
-use Rattle.wire.specs.declared.Answer.the-variants.{Refused}
 use Rattle.wire.specs.declared.Refusal.{Refusal}
 use Rattle.wire.specs.declared.Refusal.the-variants as refusal
-use Rattle.board.specs.declared.Phase.{Phase}
-use Rattle.board.specs.declared.Phase.the-variants.{Unmounted, Idle, Busy}
-use Rattle.board.specs.Record.{Out, unmounted, refuse, answerIn}
-use Rattle.board.specs.Step.{enterWipe, begin}
+use Rattle.board.specs.Record.{Out, unmounted, refuse}
+use Rattle.board.specs.Step.{begin}
 use Rattle.board.specs.Mount.{allFound, isForeign, Store, stores, equalTimes, newest, wipeList, needsTransfer, mountJob, mountAt, mountOn, noneValid}
 use Rattle.board.specs.Mount.{tiedTimes}
 use Rattle.board.specs.Claim.{WornOut}
@@ -242,30 +239,6 @@ mount-accepted {N} {s} {img} z y f = go (mount-decides z)
     go (equal-times j k p o r) = refused r
     go (none-valid n r) = refused r
     go (at-store x k) = at x k (mount-outcome x z k (taken-holds x z y k))
-
--- a record that a call gives back is no refusal
-pub not-refused : (p : Phase) (n : Refusal) → answerIn p ≡ Refused n → ⊥
-not-refused Unmounted n e = let y : _≡_ {A = ℕ} 0 1 = cc in omega arith
-not-refused Idle n e = let y : _≡_ {A = ℕ} 0 1 = cc in omega arith
-not-refused (Busy g) n e = let y : _≡_ {A = ℕ} 0 1 = cc in omega arith
-
--- 6 is given only where the current block's time is the last and a transfer is due
-pub mount-worn-out : {N : ℕ} {s : ℕ} {img : List ℕ} → Sized N s img → Bytes img → mountOn N img .answer ≡ Refused refusal.Worn → WornOut N img
-mount-worn-out {N} {s} {img} z y e = go (mount-decides z)
-  where
-    taken : (x : Store) → Outcome N img x → WornOut N img
-    taken x (worn-out w r) = w
-    taken x (begins t r) =
-        absurd (not-refused (enterWipe (mountJob N img x (wipeList (x .number) (allFound N img))) .phase) refusal.Worn (sym (answer r) ∙ e))
-
-    other : {n : Refusal} → mountOn N img ≡ refuse n img unmounted [] → Refused n ≡ Refused refusal.Worn
-    other r = sym (answer r) ∙ e
-
-    go : Decided N s img → WornOut N img
-    go (foreign-block j h f p o b r) = let q = other r in let x : _≡_ {A = ℕ} 0 1 = cc in absurd (omega arith)
-    go (equal-times j k p o r) = let q = other r in let x : _≡_ {A = ℕ} 0 1 = cc in absurd (omega arith)
-    go (none-valid n r) = let q = other r in let x : _≡_ {A = ℕ} 0 1 = cc in absurd (omega arith)
-    go (at-store x k) = taken x (mount-outcome x z k (taken-holds x z y k))
 
 -- ---- on a safe image
 

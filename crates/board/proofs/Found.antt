@@ -239,18 +239,9 @@ module _ (f : ℕ → BlockState) where
       go (foreign w) r = r
       go (valid t fs c) r = ((λ y i. among-holds (suc k) n y i .from), r)
 
-  -- no store: no block is valid, and conversely
+  -- no store: no block is valid
   pub stores-none : (k n : ℕ) → stores (foundFrom f k n) ≡ [] → (j t : ℕ) (fs : List Frame) (c : Tail) → k ≤ j → j < k + n → f j ≡ valid t fs c → ⊥
   stores-none k n e j t fs c l h v = subst (Among (store j t fs c)) e (holds-among k n j t fs c l h v)
-
-  pub none-stores : (k n : ℕ) → ((j t : ℕ) (fs : List Frame) (c : Tail) → k ≤ j → j < k + n → f j ≡ valid t fs c → ⊥) → stores (foundFrom f k n) ≡ []
-  none-stores k n m = go (stores (foundFrom f k n)) refl
-    where
-      go : (xs : List Store) → stores (foundFrom f k n) ≡ xs → stores (foundFrom f k n) ≡ []
-      go [] e = e
-      go (x ∷ xs) e =
-          let h : Holds k n x = among-holds k n x (subst (Among x) (sym e) (inl refl)) in
-          absurd (m (x .number) (x .time) (x .frames) (x .tail) (h .from) (h .below) (h .is-valid))
 
   -- ---- the lowest foreign block
 
