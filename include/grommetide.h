@@ -129,9 +129,18 @@
 extern "C" {
 #endif
 
+/* A length or an offset: 64 bits wide in every build, on a processor of 32 bits too. */
+#if SIZE_MAX > 0xFFFFFFFF
+typedef size_t grommetide_size;
+#else
+typedef uint64_t grommetide_size;
+#endif
+
 /*
  * This header's version. A record is of use only to the version that wrote it; the flash may outlive versions.
  *
+ *   0.7  other processors than x86-64: lengths and offsets are grommetide_size, which on x86-64 is size_t as before. Record and
+ *        flash are those of 0.6.
  *   0.6  two to sixteen blocks: each call that takes an image is told their number, and so a record of 1,057 bytes. With two
  *        blocks, steps and flash are those of 0.5. GROMMETIDE_HALF_KIND is called GROMMETIDE_BLOCK_KIND.
  *   0.5  grommetide_fault says where a mount that is refused with GROMMETIDE_FOREIGN broke. Record and flash are those of 0.4.
@@ -143,7 +152,7 @@ extern "C" {
  *   0.1  values of up to 64 bytes, a record of 690 bytes. It finds flash in which a longer value stands foreign.
  */
 #define GROMMETIDE_VERSION_MAJOR 0
-#define GROMMETIDE_VERSION_MINOR 6
+#define GROMMETIDE_VERSION_MINOR 7
 #define GROMMETIDE_VERSION_PATCH 0
 
 /*
@@ -194,14 +203,15 @@ enum {
 };
 
 /* GROMMETIDE_RECORD_BYTES, as the library was built. */
-size_t grommetide_record_size(void);
+grommetide_size grommetide_record_size(void);
 
 /*
  * Finds the store in an image and begins to tidy up after a power cut. Pending changes are dropped. Every block beside the
  * store's is erased if it is not blank, one that no store wrote too: read the image out before, to look at it.
  * DONE: the store is mounted. MORE: steps are left. Refused: IMAGE_LENGTH, NO_STORE, FOREIGN, WORN.
  */
-uint8_t grommetide_mount(const uint8_t *image, size_t image_len, uint8_t blocks, uint8_t *record, size_t record_len);
+uint8_t grommetide_mount(const uint8_t *image, grommetide_size image_len, uint8_t blocks, uint8_t *record,
+                         grommetide_size record_len);
 
 /*
  * Why a mount of this image is refused, and where the image broke. It takes no record and can be asked of any image.
@@ -210,14 +220,15 @@ uint8_t grommetide_mount(const uint8_t *image, size_t image_len, uint8_t blocks,
  * the lowest foreign block. IMAGE_LENGTH, NO_STORE, WORN: so does a mount answer. DONE: a mount is accepted. With these
  * *block, *field and *place are set to 0.
  */
-uint8_t grommetide_fault(const uint8_t *image, size_t image_len, uint8_t blocks, size_t *block, uint8_t *field,
-                         size_t *place);
+uint8_t grommetide_fault(const uint8_t *image, grommetide_size image_len, uint8_t blocks, grommetide_size *block,
+                         uint8_t *field, grommetide_size *place);
 
 /*
  * Begins to make an empty store in block 0, in N + 10 steps, whatever the image holds. All blocks are erased by number, but
  * the one that holds the store last. Always MORE, unless refused: IMAGE_LENGTH.
  */
-uint8_t grommetide_format(const uint8_t *image, size_t image_len, uint8_t blocks, uint8_t *record, size_t record_len);
+uint8_t grommetide_format(const uint8_t *image, grommetide_size image_len, uint8_t blocks, uint8_t *record,
+                          grommetide_size record_len);
 
 /*
  * A host's message. The host number comes from the port, 0 to 3. A message is its length (2 bytes), its kind (2) and:
@@ -233,16 +244,18 @@ uint8_t grommetide_format(const uint8_t *image, size_t image_len, uint8_t blocks
  * Numbers are little-endian. Only log writes to the reply, and only if it answers DONE; bytes after the 14 stay.
  * DONE: finished, without a step. MORE: accepted, steps are left. Refused: any but FOREIGN.
  */
-uint8_t grommetide_request(const uint8_t *image, size_t image_len, uint8_t blocks, uint8_t *record, size_t record_len,
-                           uint8_t host, const uint8_t *message, size_t message_len, uint8_t *reply, size_t reply_len);
+uint8_t grommetide_request(const uint8_t *image, grommetide_size image_len, uint8_t blocks, uint8_t *record,
+                           grommetide_size record_len, uint8_t host, const uint8_t *message, grommetide_size message_len,
+                           uint8_t *reply, grommetide_size reply_len);
 
 /*
  * Where a settled value stands: *len bytes from image[*at] on, counted from the image's start. The message is a read
  * (0x0105). DONE: found; *len is 0 for an empty value. Refused: IMAGE_LENGTH, HOST_RANGE, BUSY, NO_STORE, STALE, MALFORMED
  * (also for a message that is no read), NO_OBJECT; *at and *len are then set to 0. With WRONG_RECORD they stay.
  */
-uint8_t grommetide_read(const uint8_t *image, size_t image_len, uint8_t blocks, const uint8_t *record, size_t record_len,
-                        uint8_t host, const uint8_t *message, size_t message_len, size_t *at, size_t *len);
+uint8_t grommetide_read(const uint8_t *image, grommetide_size image_len, uint8_t blocks, const uint8_t *record,
+                        grommetide_size record_len, uint8_t host, const uint8_t *message, grommetide_size message_len,
+                        grommetide_size *at, grommetide_size *len);
 
 /*
  * What the next flash step of the job in the record is, by the record alone. PROGRAM: *byte is to be programmed at offset
@@ -250,22 +263,24 @@ uint8_t grommetide_read(const uint8_t *image, size_t image_len, uint8_t blocks, 
  * has no job. Refused: STALE, as the step would be. With DONE and STALE *at, *len and *byte are set to 0; with WRONG_RECORD
  * they stay.
  */
-uint8_t grommetide_next(size_t image_len, uint8_t blocks, const uint8_t *record, size_t record_len, size_t *at,
-                        size_t *len, uint8_t *byte);
+uint8_t grommetide_next(grommetide_size image_len, uint8_t blocks, const uint8_t *record, grommetide_size record_len,
+                        grommetide_size *at, grommetide_size *len, uint8_t *byte);
 
 /*
  * That flash step was made: the record moves on. The image is read as it is after the step and is not written to.
  * DONE: it was the job's last step, or the record has no job and nothing was done. MORE: steps are left. Refused: STALE, as
  * the step would be.
  */
-uint8_t grommetide_made(const uint8_t *image, size_t image_len, uint8_t blocks, uint8_t *record, size_t record_len);
+uint8_t grommetide_made(const uint8_t *image, grommetide_size image_len, uint8_t blocks, uint8_t *record,
+                        grommetide_size record_len);
 
 /*
  * Does the next step of the job in the record. DONE: it was the last, or the record has no job and nothing was done.
  * MORE: steps are left. Refused: STALE, if image_len or blocks is not the record's or the job's next place lies outside the
  * image.
  */
-uint8_t grommetide_step(uint8_t *image, size_t image_len, uint8_t blocks, uint8_t *record, size_t record_len);
+uint8_t grommetide_step(uint8_t *image, grommetide_size image_len, uint8_t blocks, uint8_t *record,
+                        grommetide_size record_len);
 
 /*
  * At most `most` steps in one call: what so many calls of grommetide_step do, up to the first that does not answer MORE.
@@ -273,8 +288,8 @@ uint8_t grommetide_step(uint8_t *image, size_t image_len, uint8_t blocks, uint8_
  * left; so answers a `most` of 0 where there is a job. Refused: STALE; image and record are then as those *steps steps left
  * them. With WRONG_RECORD *steps stays.
  */
-uint8_t grommetide_run(uint8_t *image, size_t image_len, uint8_t blocks, uint8_t *record, size_t record_len, size_t most,
-                       size_t *steps);
+uint8_t grommetide_run(uint8_t *image, grommetide_size image_len, uint8_t blocks, uint8_t *record,
+                       grommetide_size record_len, grommetide_size most, grommetide_size *steps);
 
 #ifdef __cplusplus
 }

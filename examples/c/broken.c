@@ -33,7 +33,7 @@ static void request(const uint8_t *message)
 /* What a service desk would note of the image as it is now. */
 static void diagnose(const char *when)
 {
-    size_t block, place;
+    grommetide_size block, place;
     uint8_t field;
     uint8_t answer = grommetide_fault(image, sizeof image, BLOCKS, &block, &field, &place);
     printf("%s: %u", when, answer);

@@ -141,7 +141,7 @@ static int script(void)
 static void expect(uint8_t id, uint8_t letter, unsigned round)
 {
     const uint8_t message[] = {6, 0, 0x05, 1, id, 0}, *value = chip_mapped();
-    size_t at, len;
+    grommetide_size at, len;
     uint8_t answer =
         grommetide_read(value, CHIP_BYTES, SPI_NOR_BLOCKS, record, sizeof record, 0, message, sizeof message, &at, &len);
     value += at;

@@ -47,7 +47,7 @@ static void power_up(struct board *board)
 /* One step of the job in hand, told, done to the array and to the copy, made. */
 static uint8_t step(struct board *board)
 {
-    size_t at, len;
+    grommetide_size at, len;
     uint8_t byte;
     switch (grommetide_next(LENGTH, BLOCKS, board->record, sizeof board->record, &at, &len, &byte)) {
     case GROMMETIDE_PROGRAM:
@@ -108,7 +108,7 @@ static unsigned request(struct board *board, uint8_t host, const uint8_t *messag
 static void show(const struct board *board, const char *when)
 {
     static const uint8_t read_5[] = {6, 0, 0x05, 1, 5, 0};
-    size_t at, len;
+    grommetide_size at, len;
     uint8_t answer = grommetide_read(board->copy, LENGTH, BLOCKS, board->record, sizeof board->record, 0, read_5,
                                      sizeof read_5, &at, &len);
     if (answer != GROMMETIDE_DONE)

@@ -39,7 +39,7 @@ static int erase(size_t at, size_t len)
 
 int spi_nor_step(uint8_t *record)
 {
-    size_t at, len;
+    grommetide_size at, len;
     uint8_t byte;
     int powered = 1;
     switch (grommetide_next(CHIP_BYTES, SPI_NOR_BLOCKS, record, GROMMETIDE_RECORD_BYTES, &at, &len, &byte)) {

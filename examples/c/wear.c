@@ -21,7 +21,7 @@ static unsigned erases[GROMMETIDE_BLOCKS_MAX];
 /* All steps of a job that began with this answer; how many they are. */
 static unsigned finish(uint8_t answer)
 {
-    size_t at, len;
+    grommetide_size at, len;
     uint8_t byte;
     unsigned steps = 0;
     while (answer == GROMMETIDE_MORE) {
@@ -72,7 +72,7 @@ static void wear(uint8_t number_of_blocks)
 int main(void)
 {
     static const uint8_t read[] = {6, 0, 0x05, 1, 5, 0};
-    size_t at, len;
+    grommetide_size at, len;
     wear(2);
     wear(4);
     wear(GROMMETIDE_BLOCKS_MAX);
