@@ -1,6 +1,7 @@
 //! How long the library's calls take beside the plain program's and the model's.
 //!
-//! `cargo run --release -p bench` makes three runs, each a process of its own, and prints two Markdown tables.
+//! `cargo run --release -p bench` makes three runs, each a process of its own, and prints two Markdown tables. With `trial`
+//! it goes through the same rows once, quickly: the gate's way to see that all of this works. Its figures mean nothing.
 
 mod case;
 mod operation;
@@ -13,29 +14,39 @@ use std::env;
 use std::process::{Command, exit};
 
 const RUNS: usize = 3;
-/// The argument of one such run.
+/// The arguments of one such run, and of one that is a trial.
 const ONCE: &str = "once";
+const TRIAL: &str = "trial";
 
 fn main() {
     if cfg!(debug_assertions) {
         eprintln!("bench: build with --release");
         exit(2);
     }
-    if env::args().nth(1).as_deref() == Some(ONCE) {
-        for run::Row { length, blocks, fill, name, figures } in run::rows() {
-            println!(
-                "{length}\t{blocks}\t{fill}\t{name}\t{}",
-                figures.map(|figure| figure.to_string()).join("\t")
-            );
+    let argument = env::args().nth(1);
+    let runs: Vec<_> = match argument.as_deref() {
+        Some(ONCE) => return rows(run::WHOLE_RUN).iter().for_each(|row| println!("{row}")),
+        Some(TRIAL) => vec![rows(run::TRIAL).iter().map(|line| row(line)).collect()],
+        None => (0..RUNS).map(|_| separate_run()).collect(),
+        Some(other) => {
+            eprintln!("bench: what is {other}? There is `trial`, or no argument");
+            exit(2);
         }
-        return;
-    }
+    };
     place::print();
-    let runs: Vec<_> = (0..RUNS).map(|_| separate_run()).collect();
     let rows = runs[0].len();
     let split = rows * SINGLE.len() / (SINGLE.len() + WHOLE.len());
     print_table("Single call", &runs, 0..split);
     print_table("Whole operation", &runs, split..rows);
+}
+
+/// The rows of one run, each as a line.
+fn rows(effort: run::Effort) -> Vec<String> {
+    let line = |row: run::Row| {
+        let figures = row.figures.map(|figure| figure.to_string()).join("\t");
+        format!("{}\t{}\t{}\t{}\t{figures}", row.length, row.blocks, row.fill, row.name)
+    };
+    run::rows(effort).into_iter().map(line).collect()
 }
 
 /// The cells of a row in front of its figures.

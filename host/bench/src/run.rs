@@ -11,10 +11,19 @@ use store::Store;
 /// Lengths and numbers of blocks. The smallest image has room for two.
 const IMAGES: [(usize, u8); 5] = [(512, 2), (4_096, 2), (4_096, 16), (65_536, 2), (65_536, 16)];
 
-const REPEATS: usize = 15;
-/// What one repeat of a measurement takes at least, and its goes at least, so that one held up does not decide.
-const LEAST: Duration = Duration::from_millis(3);
-const GOES: usize = 7;
+/// How much is measured: repeats, and of each the time and the goes that it takes at least, so that one held up does not
+/// decide.
+#[derive(Clone, Copy)]
+pub struct Effort {
+    repeats: usize,
+    least: Duration,
+    goes: usize,
+}
+
+/// For figures.
+pub const WHOLE_RUN: Effort = Effort { repeats: 15, least: Duration::from_millis(3), goes: 7 };
+/// Shows that every row can be measured, and no more.
+pub const TRIAL: Effort = Effort { repeats: 1, least: Duration::ZERO, goes: 1 };
 
 /// Nanoseconds of library, plain and model, then library / plain and library / model.
 pub type Figures = [f64; 5];
@@ -34,15 +43,15 @@ fn cases() -> Vec<Case> {
 }
 
 /// The rows of single calls, then those of whole operations.
-pub fn rows() -> Vec<Row> {
+pub fn rows(effort: Effort) -> Vec<Row> {
     let (library, cases) = (Library::linked(), cases());
     let mut rows = Vec::new();
     for operations in [&SINGLE[..], &WHOLE] {
         for case in &cases {
             for &(operation, name) in operations {
                 let figures = match operation {
-                    Operation::DrivenStep => measure(&Driven(Library::linked()), operation, case),
-                    _ => measure(&library, operation, case),
+                    Operation::DrivenStep => measure(&Driven(Library::linked()), operation, case, effort),
+                    _ => measure(&library, operation, case, effort),
                 };
                 rows.push(Row { length: case.rest.len(), blocks: case.blocks, fill: case.fill, name, figures });
             }
@@ -52,12 +61,12 @@ pub fn rows() -> Vec<Row> {
 }
 
 /// Medians over the repeats; a ratio is taken in each repeat.
-fn measure(library: &impl Store, operation: Operation, case: &Case) -> Figures {
+fn measure(library: &impl Store, operation: Operation, case: &Case, effort: Effort) -> Figures {
     let mut repeats: [Vec<f64>; 5] = Default::default();
-    for _ in 0..REPEATS {
-        let plain = nanoseconds(&Plain, operation, case);
-        let library = nanoseconds(library, operation, case);
-        let model = nanoseconds(&Model, operation, case);
+    for _ in 0..effort.repeats {
+        let plain = nanoseconds(&Plain, operation, case, effort);
+        let library = nanoseconds(library, operation, case, effort);
+        let model = nanoseconds(&Model, operation, case, effort);
         let figures = [library, plain, model, library / plain, library / model];
         repeats.iter_mut().zip(figures).for_each(|(repeats, figure)| repeats.push(figure));
     }
@@ -65,10 +74,10 @@ fn measure(library: &impl Store, operation: Operation, case: &Case) -> Figures {
 }
 
 /// The time of one operation: the median of the goes of one repeat.
-fn nanoseconds<S: Store>(store: &S, operation: Operation, case: &Case) -> f64 {
+fn nanoseconds<S: Store>(store: &S, operation: Operation, case: &Case, effort: Effort) -> f64 {
     let mut spent = Duration::ZERO;
     let mut goes = Vec::new();
-    while spent < LEAST || goes.len() < GOES {
+    while spent < effort.least || goes.len() < effort.goes {
         let (time, operations) = once(store, operation, case);
         spent += time;
         goes.push(time.as_nanos() as f64 / operations as f64);
