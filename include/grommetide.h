@@ -1,9 +1,10 @@
 /*
  * Grommetide: a settings store in two to sixteen blocks of NOR flash, for firmware.
  *
- * The store keeps objects (an id from 0 to 255 and a value of 0 to 240 bytes) for four hosts and survives power cuts at
- * any step and inside erases. docs/STORE.md has its rules, docs/FORMAT.md the bytes in flash. Link with libgrommetide.a,
- * x86-64.
+ * The store keeps objects (an id from 0 to 255 and a value of 0 to 240 bytes) for four hosts. Power may be cut between any
+ * two flash steps and inside an erase, except a format's ("What the flash must do"). docs/STORE.md has its rules,
+ * docs/FORMAT.md the bytes in flash, docs/PORTING.md the way from a bare board to the first commit. Link with
+ * libgrommetide.a, which is made for x86-64 by `make` and for other processors by `make TARGET=..`.
  *
  * How it is used
  *
@@ -71,7 +72,11 @@
  *   - A power cut falls between steps or inside an erase. Inside an erase it leaves each bit of the block as it was or 1,
  *     freely; so a block of several sectors may be erased sector by sector, in any order. Programming a byte happens whole
  *     or not at all. The proofs assume this; a flash that a cut leaves with a weakly programmed byte, or with bits that
- *     read now so and now so, is not covered. Nor is a cut inside one of a format's erases: format again.
+ *     read now so and now so, is not covered: such a byte may make its block foreign, and a mount then answers
+ *     GROMMETIDE_FOREIGN and changes nothing, or it may go unnoticed. Nor is a cut inside one of a format's erases covered:
+ *     format again.
+ *   - Times run out in the end: a block made at time 4,294,967,295 is the last. A mount of it that finds something pending
+ *     or a torn frame, after a power cut, is refused with GROMMETIDE_WORN.
  *   - Flash reads back what was programmed. There is no checksum: damage that leaves legal frames goes unnoticed.
  *
  * The record
@@ -275,9 +280,9 @@ uint8_t grommetide_made(const uint8_t *image, grommetide_size image_len, uint8_t
                         grommetide_size record_len);
 
 /*
- * Does the next step of the job in the record. DONE: it was the last, or the record has no job and nothing was done.
- * MORE: steps are left. Refused: STALE, if image_len or blocks is not the record's or the job's next place lies outside the
- * image.
+ * Does the next step of the job in the record. DONE: it was the last, or the record has no job and nothing was done,
+ * whatever image_len and blocks are. MORE: steps are left. Refused, in a job only: STALE, if image_len or blocks is not the
+ * record's, blocks is not 2 to 16, or the job's next place lies in no block. The record then stays in its job.
  */
 uint8_t grommetide_step(uint8_t *image, grommetide_size image_len, uint8_t blocks, uint8_t *record,
                         grommetide_size record_len);
