@@ -63,5 +63,5 @@ pub mod Runs  -- runs in two parts
 pub mod Tickets  -- the customer's two tickets, of any machine that keeps the promise
 pub mod Counts  -- calls that are given another number of blocks
 pub mod Driving  -- what is next, done to the flash by the caller, then made, is a step call
-pub mod Two  -- two blocks are the two halves of before: the image, requests, steps
+pub mod Two  -- two blocks are document 01's two halves: the image, requests, steps
 pub mod TwoMounts  -- mounts, formats, and the whole comparison
