@@ -23,7 +23,7 @@ use Rattle.refuted.specs.Wrong.{refusesAll, refusesPuts, refusesHighIds,
 use Rattle.refuted.specs.Wrong.{refusedLogWrites, readsAlike, inventsCount, neverCommits, abortsNothing, takesOthers, keepsOld}
 use Rattle.refuted.specs.Wrong.{programsNothing, wholeFrame, inventsStep, erasesFirst, outsideIsDone, forgedWaits, hurriedMount}
 use Rattle.refuted.specs.Wrong.{losesAll, keepsPending, refusesAlike, overlooksForeign, namesSecond, tiesAtStart, refusesHalfErased}
-use Rattle.refuted.specs.Wrong.{takesHalfErased, formatsAtOnce, formatsBlindly, goesBack, erasesOne, ignoresCount, evenOnly}
+use Rattle.refuted.specs.Wrong.{takesHalfErased, formatsAtOnce, formatsBlindly, goesBack, erasesOne, erasesBlank, ignoresCount, evenOnly}
 use Rattle.refuted.specs.WrongRows.{RightInRows}
 use Rattle.board.proofs.Refusals.{at-most-one-step}
 use Rattle.refuted.proofs.Bench.{rows}
@@ -249,7 +249,7 @@ pub right-in-rows : RightInRows
 unfolding refusesAll refusesPuts refusesHighIds ownFormatsOnly firstHalfOnly hostFirst refusalClears refusedLogWrites readsAlike
     inventsCount neverCommits abortsNothing takesOthers keepsOld programsNothing wholeFrame inventsStep erasesFirst outsideIsDone
     forgedWaits hurriedMount losesAll keepsPending refusesAlike overlooksForeign namesSecond tiesAtStart refusesHalfErased takesHalfErased
-    goesBack erasesOne ignoresCount evenOnly
+    goesBack erasesOne erasesBlank ignoresCount evenOnly
 right-in-rows =
     record {
       refuses-all = rows-kept refusesAll (λ img r o. refl);
@@ -285,6 +285,7 @@ right-in-rows =
       formats-blindly = rows-kept formatsBlindly formats-blindly;
       goes-back = rows-kept goesBack (λ img r o. refl);
       erases-one = rows-kept erasesOne (λ img r o. refl);
+      erases-blank = rows-kept erasesBlank (λ img r o. refl);
       ignores-count = rows-kept ignoresCount (λ img r o. refl);
       even-only = rows-kept evenOnly (λ img r o. refl);
     }
