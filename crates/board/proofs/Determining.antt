@@ -231,17 +231,17 @@ module _ {N : ℕ} {m n : Machine} (pm : Calls N m) (pn : Calls N n) (img : List
           (job f e) (job f e) (framed-idle N (needsRoom N img r f) (r .last) (r .block) (r .end) x f) a b)
 
   -- 4, 10 or 5, whatever the record holds
-  abbrev busyLines : Host → List Line
+  abbrev pub busyLines : Host → List Line
   busyLines h = line 4 (Allowed N (length img) → ⊥) ∷ line 10 (3 < h .0) ∷ line 5 (Unit {0}) ∷ []
 
-  while-busy : (r : Record) (h : Host) (msg reply : List ℕ) (a : Answer) → InJob (r .phase) → Exactly (requestLines N img r h msg reply) a
+  pub while-busy : (r : Record) (h : Host) (msg reply : List ℕ) (a : Answer) → InJob (r .phase) → Exactly (requestLines N img r h msg reply) a
       → Exactly (busyLines h) a
   while-busy r h msg reply a j (inl x) = inl x
   while-busy r h msg reply a j (inr (f, inl x)) = inr (f, inl x)
   while-busy r h msg reply a j (inr (f, inr (g, inl (_, e)))) = inr (f, inr (g, inl (tt, e)))
   while-busy r h msg reply a j (inr (f, inr (g, inr (w, _)))) = absurd (w j)
 
-  busy-refuses : (h : Host) (a : Answer) → Exactly (busyLines h) a → Accepted a → ⊥
+  pub busy-refuses : (h : Host) (a : Answer) → Exactly (busyLines h) a → Accepted a → ⊥
   busy-refuses h a (inl (_, e)) y = number-accepted a 3 e y
   busy-refuses h a (inr (_, inl (_, e))) y = number-accepted a 9 e y
   busy-refuses h a (inr (_, inr (_, inl (_, e)))) y = number-accepted a 4 e y

@@ -258,7 +258,7 @@ module _ {N : ℕ} {m : Machine} (p : Calls N m) where
       (subst (λ (i : List ℕ). Both (m (o .image) (o .board) step) (exec N i (x .board) step)) (w .image)
       (call-agrees p calls (o .image) (w .bytes) (o .board) (x .board) (w .next) step tt))
 
-  formatted-over : (img : List ℕ) (r : Record) → Bytes img → Both (formatted N m img r) (formatted N (exec N) img r)
+  pub formatted-over : (img : List ℕ) (r : Record) → Bytes img → Both (formatted N m img r) (formatted N (exec N) img r)
   formatted-over img r by = steps-over (N + 10) (m img r format) (exec N img r format) (format-agrees p calls img by r r)
 
   happens-from : (img : List ℕ) (r : Record) → Bytes img → (es : List Event) → HappensFrom N m img r es → HappensFrom N (exec N) img r es

@@ -1,6 +1,6 @@
 -- Images of an allowed length, and what a list of steps does to each block.
 use mathlib.Core.Path.{_≡_, refl, sym, ap, subst, _∙_}
-use mathlib.Core.List.{List, [], _∷_, _++_}
+use mathlib.Core.List.{List, [], _∷_}
 use mathlib.Core.Bool.{Bool, true, _&&_}
 use Prim.Native.Nat.{ℕ, suc, _+_, _-_, _*_, _%_, _≤_, _<_}
 use native.Mathlib.Omega.{arith}
@@ -10,7 +10,8 @@ use borrow.Author.Tests.{eqb-true, leb-true, le-leb, eq-eqb}
 use Rattle.flash.specs.Bytes.{Bytes}
 use Rattle.flash.specs.Flash.{maxBlocks, sizeIn, isCount, Step, apply, applyAll, block, sizeOf, programAt, Write, writeAll}
 use Rattle.flash.proofs.Cases.{and-left, and-right, and-both}
-use Rattle.flash.proofs.Image.{in-image, length-apply, bytes-apply, block-program, other-program}
+pub use Rattle.flash.proofs.Applied.{apply-append, length-all-steps}
+use Rattle.flash.proofs.Image.{in-image, bytes-apply, block-program, other-program}
 use Rattle.flash.proofs.Offsets.{Below}
 use Rattle.flash.proofs.Sizes.{size-is, size-half}
 use Rattle.board.specs.Record.{allowed}
@@ -110,16 +111,6 @@ pub sized-last : {N : ℕ} {s : ℕ} {img : List ℕ} → Sized N s img → leng
 sized-last z = omega (arith, sized-block 0 z (omega (arith, z .few)), z .low)
 
 -- ---- lists of steps
-
-pub apply-append : (s : ℕ) (xs ys : List Step) (img : List ℕ) → applyAll s (xs ++ ys) img ≡ applyAll s ys (applyAll s xs img)
-unfolding applyAll
-apply-append s [] ys img = refl
-apply-append s (x ∷ xs) ys img = apply-append s xs ys (apply s x img)
-
-pub length-all-steps : (s : ℕ) (xs : List Step) (img : List ℕ) → length (applyAll s xs img) ≡ length img
-unfolding applyAll
-length-all-steps s [] img = refl
-length-all-steps s (x ∷ xs) img = length-all-steps s xs (apply s x img) ∙ length-apply s x img
 
 pub bytes-all-steps : (s : ℕ) (xs : List Step) (img : List ℕ) → Bytes img → Bytes (applyAll s xs img)
 unfolding applyAll

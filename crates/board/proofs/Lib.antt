@@ -44,7 +44,8 @@ pub mod Planning  -- demand 2: requests follow their plans
 pub mod Demand2  -- demand 2: mounts, formats, runs
 pub mod Claiming  -- demand 3
 pub mod CutFormat  -- what a cut format leaves
-pub mod Wear  -- erase counts
+pub mod Wear  -- erases counted, and the plans level: for WearRuns
+pub mod WearRuns  -- K14, erase counts of every run: to read
 -- ---- the promise
 pub mod Sentences  -- frames, plans and places, which the promise uses, are as document 01 words them
 pub mod Freshness  -- and so is refusal 11
@@ -62,5 +63,5 @@ pub mod Runs  -- runs in two parts
 pub mod Tickets  -- the customer's two tickets, of any machine that keeps the promise
 pub mod Counts  -- calls that are given another number of blocks
 pub mod Driving  -- what is next, done to the flash by the caller, then made, is a step call
-pub mod Two  -- two blocks are the two halves of before: the image, requests, steps
+pub mod Two  -- two blocks are document 01's two halves: the image, requests, steps
 pub mod TwoMounts  -- mounts, formats, and the whole comparison

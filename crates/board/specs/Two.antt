@@ -1,5 +1,7 @@
--- Two blocks, document 02, K14: "N = 2 gives the same bytes and steps as before". What documents 01 and 02 say of two halves, as it was defined before
--- K14, stands here for this comparison alone.
+-- Two blocks, document 02, K14: "N = 2 gives the same bytes and steps as before". What documents 01 and 02 say of two halves is written down here a
+-- second time, by the states of the two, for this comparison alone. Most of it is not what stood in the definitions before K14: those went by lists of
+-- blocks, as today's do. What the lines below take from today's pages is shared: the states of a block, replay, sums, the plan of an append, a job's
+-- next step and where the record goes on.
 use mathlib.Core.List.{List, [], _∷_, _++_}
 use mathlib.Core.Option.{Option, none}
 use mathlib.Core.Bool.{Bool, true, false, _&&_, cond}
@@ -128,7 +130,7 @@ stepTwo (Busy s) img r =
     cond (eqb (length img) (suc (r .last)) && (ltb (blockOf x) 2 && ltb (offsetOf x) (sizeTwo img))) (stepped after (advance 2 s after r))
     (refuse refusal.Stale img r [])
 
--- ---- "N = 2 gives the same bytes and steps as before"
+-- ---- "N = 2 gives the same bytes and steps as before": those of the two halves above
 
 pub record TwoBlocks : Type 0 where
   pub lengths : (n : ℕ) → allowed 2 n ≡ allowedTwo n

@@ -3,7 +3,9 @@ pub mod Blank
 pub mod Eights
 pub mod Stretches
 pub mod Programming
+pub mod Replaced
 pub mod Image
+pub mod Applied
 pub mod Offsets
 pub mod Raising
 pub mod Sizes

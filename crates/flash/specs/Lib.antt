@@ -1,3 +1,4 @@
 pub mod Bytes
 pub mod Flash
+pub mod Applied
 pub mod Raised

@@ -1,6 +1,7 @@
 -- The laws of frames, by subject. Each file's first line says what it proves; here who needs it.
 
 -- ---- bytes of frames
+pub mod ByKind  -- each kind's bytes in document 01's numbers: to read
 pub mod Encode  -- lengths and bytes: for the files below, journal, board
 pub mod Stores  -- copies into a buffer: for src/bytes, wire
 pub mod Heads  -- a frame is its head and its value: for journal

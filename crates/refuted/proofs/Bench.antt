@@ -1,4 +1,4 @@
--- The starred bench rows, row p and row o's values, computed over the definitions.
+-- The starred bench rows, rows l and p and row o's values, computed over the definitions.
 use mathlib.Core.Path.{refl}
 use Rattle.flash.specs.Bytes.{allFF, sameBytes}
 use Rattle.flash.specs.Flash.{numbersFrom, sizeIn, writes}
@@ -15,11 +15,11 @@ use Rattle.board.specs.Mount.{mountAt, mountFound, mountOn, formatOrder, format
 use Rattle.board.specs.Queue.{held, append, serveChange, serveEnd, serveLog, serve, requestOn}
 use Rattle.board.specs.Exec.{exec}
 use Rattle.refuted.specs.Rows.{drive, returned, ask, asked, cutIn, mounted, replayed, timed, part, rowA, rowB, rowC, rowD, rowE, rowF}
-use Rattle.refuted.specs.Rows.{rowG, rowH, rowI, rowK, rowALong, rowO, commitMessage, putMessage, formatAnswer, Rows}
+use Rattle.refuted.specs.Rows.{rowG, rowH, rowI, rowK, rowLBefore, rowL, rowALong, rowO, commitMessage, putMessage, formatAnswer, Rows}
 
 pub rows : Rows (exec 2)
-unfolding numbersFrom sizeIn allowed drive returned ask asked cutIn mounted replayed timed part rowA rowB rowC rowD rowE rowF rowG rowH rowI rowK rowALong
-    rowO commitMessage
+unfolding numbersFrom sizeIn allowed drive returned ask asked cutIn mounted replayed timed part rowA rowB rowC rowD rowE rowF rowG rowH rowI rowK rowLBefore
+    rowL rowALong rowO commitMessage
     putMessage formatAnswer allFF sameBytes writes encodeAll total match readFrame scan insert remove lookup changeAll listOf
     without isOpen replayFrom headerFault blockState noRoom sited placesFrom sinceFrom valueAt nextSettled nextPending nextLoad
     parse noPlaces noFrame enterAppend enterDrop enterCopy enterOpen enterWipe advance stepBusy stepOn mountAt mountFound mountOn
@@ -57,6 +57,15 @@ rows =
       j = refl;
       k-refused = refl;
       k-accepted = refl;
+      l-end = refl;
+      l-steps = refl;
+      l-done = refl;
+      l-old = refl;
+      l-header = refl;
+      l-settled-2 = refl;
+      l-settled-3 = refl;
+      l-put = refl;
+      l-rest = refl;
       n = refl;
       o-240-steps = refl;
       o-240-done = refl;

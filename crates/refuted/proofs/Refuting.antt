@@ -8,25 +8,29 @@ use native.Mathlib.Omega.{arith}
 use lib.Dec.{ltb}
 use lib.ListN.{length, replicate}
 use borrow.Author.Tests.{ltb-true, le-leb, eqb-false}
-use Rattle.flash.specs.Bytes.{Bytes, allFF}
+use Rattle.flash.specs.Bytes.{Bytes, allFF, sameBytes}
 use Rattle.flash.specs.Flash.{numbersFrom, sizeIn}
+use Rattle.frame.specs.Frame.{encodeAll, total}
+use Rattle.frame.specs.Reader.{match, readFrame, scan}
+use Rattle.journal.specs.Replay.{insert, changeAll, without, isOpen, replayFrom}
 use Rattle.flash.proofs.Cases.{and-left, and-right, clash}
-use Rattle.journal.specs.Block.{blockState}
+use Rattle.journal.specs.Block.{headerFault, blockState}
+use Rattle.journal.specs.Index.{placesFrom}
 use Rattle.wire.specs.declared.Answer.the-variants.{More}
 use Rattle.board.specs.declared.Stage.the-variants.{Wipe}
 use Rattle.board.specs.declared.Phase.the-variants.{Unmounted, Idle, Busy}
 use Rattle.board.specs.declared.Record.{Record}
-use Rattle.board.specs.Record.{allowed, unmounted, cursor, inStage}
-use Rattle.board.specs.Step.{advance, enterWipe, stepBusy, stepOn}
-use Rattle.board.specs.Mount.{formatOrder, formatOn}
+use Rattle.board.specs.Record.{allowed, noPlaces, noFrame, unmounted, cursor, inStage}
+use Rattle.board.specs.Step.{advance, enterAppend, enterOpen, enterWipe, stepBusy, stepOn}
+use Rattle.board.specs.Mount.{mountAt, mountFound, mountOn, formatOrder, formatOn}
 use Rattle.board.specs.Table.{Exactly, Misplaced, linesOf}
 use Rattle.board.specs.Demand1.{Declared, EndsWithin}
 use Rattle.board.specs.Exec.{Call, request, step, mount, format, Machine, exec}
 use Rattle.board.specs.Claim.{call}
 use Rattle.board.specs.Promise.{Promise, Kept, Shown, trace, ByteEvents, PromiseDetermines}
-use Rattle.refuted.specs.Wrong.{Wrongly, onBench, offBench, outsideIsDone, forgedWaits, ignoresCount}
+use Rattle.refuted.specs.Wrong.{Wrongly, onBench, offBench, outsideIsDone, forgedWaits, erasesBlank, ignoresCount}
 use Rattle.refuted.specs.Refuted.{RightOnBench, Refuted}
-use Rattle.refuted.specs.WrongRuns.{nothing, lastFrom, allBytes, bytesIn, begins, Differs}
+use Rattle.refuted.specs.WrongRuns.{nothing, lastFrom, allBytes, bytesIn, begins, Differs, answered, half, blankHalf, stored}
 use Rattle.board.proofs.Determining.{promise-determines}
 use Rattle.board.proofs.FollowingPlans.{promise}
 use Rattle.refuted.proofs.RefutingRuns.{runs}
@@ -71,6 +75,13 @@ pub right-on-bench : RightOnBench
 unfolding RightOnBench
 right-on-bench w N img r c (inl short) = same-on-bench w N img r c (rw (le-leb (length img) 512 short))
 right-on-bench w N img r c (inr e) = same-on-bench w N img r c (ap onBench e)
+
+-- ---- a mount with nothing to do: the other block is blank
+
+erases-blank : Differs 2 erasesBlank stored (mount ∷ []) answered 255 0
+unfolding erasesBlank numbersFrom sizeIn allowed allFF sameBytes encodeAll total match readFrame scan isOpen replayFrom insert changeAll without
+    headerFault blockState placesFrom noPlaces noFrame enterAppend enterOpen enterWipe mountAt mountFound mountOn half blankHalf stored
+erases-blank = record { is-run = refl; shows-wrong = refl; shows-right = refl; apart = refl }
 
 -- ---- records that no run gives back: by the clause itself
 
@@ -162,6 +173,7 @@ refuted =
       formats-blindly = differs (runs .formats-blindly);
       goes-back = differs (runs .goes-back);
       erases-one = differs (runs .erases-one);
+      erases-blank = differs erases-blank;
       ignores-count = ignores-count;
       even-only = differs (runs .even-only);
     }

@@ -17,13 +17,13 @@ use Rattle.board.specs.Record.{unmounted, Out, out}
 use Rattle.board.specs.Exec.{Call, request, step, mount, format, exec}
 use Rattle.board.specs.Demand1.{OneStep}
 use Rattle.refuted.specs.Rows.{Ran, ran, drive, returned, ask, asked, cutIn, mounted, replayed, timed, part, rowA, rowB, rowC, rowD, rowE}
-use Rattle.refuted.specs.Rows.{rowF, rowG, rowH, rowI, rowK, rowALong, rowO, commitMessage, putMessage, formatAnswer, Rows}
+use Rattle.refuted.specs.Rows.{rowF, rowG, rowH, rowI, rowK, rowLBefore, rowL, rowALong, rowO, commitMessage, putMessage, formatAnswer, Rows}
 use Rattle.refuted.specs.Wrong.{Wrongly, onBench, offBench, byAnswer, onImage}
 use Rattle.refuted.specs.Wrong.{refusesAll, refusesPuts, refusesHighIds, ownFormatsOnly, firstHalfOnly, hostFirst, refusalClears}
 use Rattle.refuted.specs.Wrong.{refusedLogWrites, readsAlike, inventsCount, neverCommits, abortsNothing, takesOthers, keepsOld}
 use Rattle.refuted.specs.Wrong.{programsNothing, wholeFrame, inventsStep, erasesFirst, outsideIsDone, forgedWaits, hurriedMount}
 use Rattle.refuted.specs.Wrong.{losesAll, keepsPending, refusesAlike, overlooksForeign, namesSecond, tiesAtStart, refusesHalfErased}
-use Rattle.refuted.specs.Wrong.{takesHalfErased, formatsAtOnce, formatsBlindly, goesBack, erasesOne, ignoresCount, evenOnly}
+use Rattle.refuted.specs.Wrong.{takesHalfErased, formatsAtOnce, formatsBlindly, goesBack, erasesOne, erasesBlank, ignoresCount, evenOnly}
 use Rattle.refuted.specs.WrongRows.{RightInRows}
 use Rattle.board.proofs.Refusals.{at-most-one-step}
 use Rattle.refuted.proofs.Bench.{rows}
@@ -144,6 +144,14 @@ same-k : (w : Wrongly) (n : ℕ) → Same (rowK (offBench w 2) n) (rowK (exec 2)
 unfolding rowK
 same-k w n = same-asked w (same-i w n) 0 commitMessage
 
+same-l-before : (w : Wrongly) → Same (rowLBefore (offBench w 2)) (rowLBefore (exec 2))
+unfolding rowLBefore
+same-l-before w = same-asked w (same-asked w (same-k w 64) 0 (0x06 ∷ 0x00 ∷ 0x02 ∷ 0x01 ∷ 0x01 ∷ 0x00 ∷ [])) 0 commitMessage
+
+same-l : (w : Wrongly) → rowL (offBench w 2) ≡ rowL (exec 2)
+unfolding rowL
+same-l w = same-asked w (same-l-before w) 0 (putMessage 4 0) .same
+
 same-a-long : (w : Wrongly) → Same (rowALong (offBench w 2)) (rowALong (exec 2))
 unfolding rowALong
 same-a-long w =
@@ -201,6 +209,15 @@ rows-kept w f =
       j = ap (λ (x : Out). x .answer) (same-ask w (same-i w 64) 0 (putMessage 4 0)) ∙ rows .j;
       k-refused = ap (λ (x : Out). x .answer) (same-ask w (same-k w 64) 0 (putMessage 4 0)) ∙ rows .k-refused;
       k-accepted = ap (λ (x : Out). x .answer) (same-ask w (same-k w 63) 0 (putMessage 4 0)) ∙ rows .k-accepted;
+      l-end = ap (λ (x : Ran). x .board) (same-l-before w .same) ∙ rows .l-end;
+      l-steps = ap (λ (x : Ran). x .steps) (same-l w) ∙ rows .l-steps;
+      l-done = ap (λ (x : Ran). x .board) (same-l w) ∙ rows .l-done;
+      l-old = ap (λ (x : Ran). part 0 256 (x .image)) (same-l w) ∙ rows .l-old;
+      l-header = ap (λ (x : Ran). part 256 16 (x .image)) (same-l w) ∙ rows .l-header;
+      l-settled-2 = ap (λ (x : Ran). part 272 71 (x .image)) (same-l w) ∙ rows .l-settled-2;
+      l-settled-3 = ap (λ (x : Ran). part 343 71 (x .image)) (same-l w) ∙ rows .l-settled-3;
+      l-put = ap (λ (x : Ran). part 414 8 (x .image)) (same-l w) ∙ rows .l-put;
+      l-rest = ap (λ (x : Ran). drop 422 (x .image)) (same-l w) ∙ rows .l-rest;
       n = ap (λ (x : Out). x .answer) (same-ask w (same-a w) 0 (0x05 ∷ 0x00 ∷ 0x03 ∷ 0x01 ∷ [])) ∙ rows .n;
       o-240-steps = ap (λ (x : Ran). x .steps) (same-o w 240) ∙ rows .o-240-steps;
       o-240-done = ap (λ (x : Ran). x .board) (same-o w 240) ∙ rows .o-240-done;
@@ -232,7 +249,7 @@ pub right-in-rows : RightInRows
 unfolding refusesAll refusesPuts refusesHighIds ownFormatsOnly firstHalfOnly hostFirst refusalClears refusedLogWrites readsAlike
     inventsCount neverCommits abortsNothing takesOthers keepsOld programsNothing wholeFrame inventsStep erasesFirst outsideIsDone
     forgedWaits hurriedMount losesAll keepsPending refusesAlike overlooksForeign namesSecond tiesAtStart refusesHalfErased takesHalfErased
-    goesBack erasesOne ignoresCount evenOnly
+    goesBack erasesOne erasesBlank ignoresCount evenOnly
 right-in-rows =
     record {
       refuses-all = rows-kept refusesAll (λ img r o. refl);
@@ -268,6 +285,7 @@ right-in-rows =
       formats-blindly = rows-kept formatsBlindly formats-blindly;
       goes-back = rows-kept goesBack (λ img r o. refl);
       erases-one = rows-kept erasesOne (λ img r o. refl);
+      erases-blank = rows-kept erasesBlank (λ img r o. refl);
       ignores-count = rows-kept ignoresCount (λ img r o. refl);
       even-only = rows-kept evenOnly (λ img r o. refl);
     }

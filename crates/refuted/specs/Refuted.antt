@@ -11,7 +11,7 @@ use Rattle.refuted.specs.Wrong.{Wrongly, offBench, refusesAll, refusesPu
 use Rattle.refuted.specs.Wrong.{refusalClears, refusedLogWrites, readsAlike, inventsCount, neverCommits, abortsNothing, takesOthers}
 use Rattle.refuted.specs.Wrong.{keepsOld, programsNothing, wholeFrame, inventsStep, erasesFirst, outsideIsDone, forgedWaits, hurriedMount}
 use Rattle.refuted.specs.Wrong.{losesAll, keepsPending, refusesAlike, overlooksForeign, namesSecond, tiesAtStart, refusesHalfErased}
-use Rattle.refuted.specs.Wrong.{takesHalfErased, formatsAtOnce, formatsBlindly, goesBack, erasesOne, ignoresCount, evenOnly}
+use Rattle.refuted.specs.Wrong.{takesHalfErased, formatsAtOnce, formatsBlindly, goesBack, erasesOne, erasesBlank, ignoresCount, evenOnly}
 
 -- on the bench's images, whatever is done off it; for the rows one by one see WrongRows
 unfoldable pub RightOnBench : Type 0
@@ -52,5 +52,6 @@ pub record Refuted : Type 0 where
   pub formats-blindly : Kept (offBench formatsBlindly) → ⊥
   pub goes-back : Kept (offBench goesBack) → ⊥
   pub erases-one : Kept (offBench erasesOne) → ⊥
+  pub erases-blank : Kept (offBench erasesBlank) → ⊥
   pub ignores-count : Kept (offBench ignoresCount) → ⊥
   pub even-only : Kept (offBench evenOnly) → ⊥

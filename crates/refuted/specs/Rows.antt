@@ -1,6 +1,6 @@
--- Document 01's starred bench rows, S = 256, row p, and row o's values as document 02, K2 has them: one table over a machine of
+-- Document 01's starred bench rows, S = 256, rows l and p, and row o's values as document 02, K2 has them: one table over a machine of
 -- two blocks.
-use mathlib.Core.List.{List, [], _∷_}
+use mathlib.Core.List.{List, [], _∷_, _++_}
 use mathlib.Core.Path.{_≡_}
 use Prim.Native.Nat.{ℕ, zero, suc, _+_}
 use lib.ListN.{take, drop, replicate}
@@ -107,6 +107,13 @@ rowI m last = asked m (asked m (asked m (rowA m) 0 (putMessage 1 64)) 0 (putMess
 unfoldable pub rowK : Machine → ℕ → Ran
 rowK m last = asked m (rowI m last) 0 commitMessage
 
+-- row l before its last put: "after i, commit, delete 1, commit"
+unfoldable pub rowLBefore : Machine → Ran
+rowLBefore m = asked m (asked m (rowK m 64) 0 (0x06 ∷ 0x00 ∷ 0x02 ∷ 0x01 ∷ 0x01 ∷ 0x00 ∷ [])) 0 commitMessage
+
+unfoldable pub rowL : Machine → Ran
+rowL m = asked m (rowLBefore m) 0 (putMessage 4 0)
+
 -- "Row o's value cases become 240 and 241 on a 1,024-byte image": row a there, and a put of n bytes
 unfoldable pub rowALong : Machine → Ran
 rowALong m = drive m 100 0 (m (replicate 1024 0x5A) unmounted format)
@@ -154,6 +161,18 @@ pub record Rows (m : Machine) : Type 0 where
   pub j : ask m (rowI m 64) 0 (putMessage 4 0) .answer ≡ Refused refusal.NoRoom
   pub k-refused : ask m (rowK m 64) 0 (putMessage 4 0) .answer ≡ Refused refusal.NoRoom
   pub k-accepted : ask m (rowK m 63) 0 (putMessage 4 0) .answer ≡ More
+  pub l-end : rowLBefore m .board ≡ idle (rest 2 511 0 252)
+  pub l-steps : rowL m .steps ≡ 161
+  -- beyond row l: what the transfer leaves, byte for byte. The old half blank; the new one's header at time 2, the settled frames of ids 2 and 3,
+  -- 71 bytes each, then the put
+  pub l-done : rowL m .board ≡ idle (rest 2 511 1 166)
+  pub l-old : part 0 256 (rowL m .image) ≡ replicate 256 0xFF
+  pub l-header : part 256 16 (rowL m .image)
+      ≡ 0x10 ∷ 0x00 ∷ 0x01 ∷ 0x4A ∷ 0xFD ∷ 0xFF ∷ 0xFF ∷ 0xFF ∷ 0xFC ∷ 0xFF ∷ 0xFF ∷ 0xFF ∷ 0xFF ∷ 0xFF ∷ 0xFF ∷ 0xFF ∷ []
+  pub l-settled-2 : part 272 71 (rowL m .image) ≡ 0x47 ∷ 0x00 ∷ 0x05 ∷ 0x00 ∷ 0x02 ∷ 0x00 ∷ (replicate 64 0x41 ++ (0xFE ∷ []))
+  pub l-settled-3 : part 343 71 (rowL m .image) ≡ 0x47 ∷ 0x00 ∷ 0x05 ∷ 0x00 ∷ 0x03 ∷ 0x00 ∷ (replicate 64 0x41 ++ (0xFE ∷ []))
+  pub l-put : part 414 8 (rowL m .image) ≡ 0x08 ∷ 0x00 ∷ 0x01 ∷ 0x00 ∷ 0x00 ∷ 0x04 ∷ 0x00 ∷ 0xFE ∷ []
+  pub l-rest : drop 422 (rowL m .image) ≡ replicate 90 0xFF
   pub n : ask m (rowA m) 0 (0x05 ∷ 0x00 ∷ 0x03 ∷ 0x01 ∷ []) .answer ≡ Refused refusal.Malformed
   pub o-240-steps : rowO m 240 .steps ≡ 248
   pub o-240-done : rowO m 240 .board ≡ idle (rest 2 1023 0 264)

@@ -6,7 +6,7 @@ use Prim.Native.Nat.{ℕ, _+_, _-_, _%_}
 use lib.Dec.{eqb, ltb, leb}
 use lib.ListN.{length, take, drop, getD, set, replicate}
 use Rattle.flash.specs.Bytes.{sameBytes}
-use Rattle.flash.specs.Flash.{program, erase, apply, applyAll, block, sizeOf, writes}
+use Rattle.flash.specs.Flash.{program, erase, apply, applyAll, block, blockNumbers, sizeOf, writes}
 use Rattle.frame.specs.declared.Host.{Host}
 use Rattle.frame.specs.declared.Field.the-variants as field
 use Rattle.frame.specs.Frame.{hostMax, hostOf, encodeAll}
@@ -22,7 +22,8 @@ use Rattle.board.specs.declared.Phase.the-variants.{Unmounted, Idle, Busy}
 use Rattle.board.specs.declared.Job.{Job}
 use Rattle.board.specs.declared.Record.{Record}
 use Rattle.board.specs.Record.{allowed, unmounted, Stretch, Out, out, refuse, answerOf}
-use Rattle.board.specs.Mount.{allFound, anyForeign, Store, stores, equalTimes, noneValid, tiedTimes, mountAt, found}
+use Rattle.board.specs.Step.{begin}
+use Rattle.board.specs.Mount.{allFound, anyForeign, Store, stores, newest, equalTimes, noneValid, tiedTimes, mountJob, mountAt, numbersBut, found}
 use Rattle.board.specs.Queue.{held}
 use Rattle.board.specs.Table.{isNone}
 use Rattle.board.specs.Exec.{Call, request, step, mount, format, Family, exec}
@@ -362,6 +363,14 @@ oneWipe r =
 
 unfoldable pub erasesOne : Wrongly
 erasesOne = mounts (λ N img o. onJob oneWipe o)
+
+-- K14: "mount erases every other that isn't blank": every other, so that blank blocks are erased once more at each mount
+abbrev pub allOthers : ℕ → List ℕ → Out → List Store → Out
+allOthers N img o [] = o
+allOthers N img o (x ∷ xs) = let y : Store = newest x xs in begin img [] (mountJob N img y (numbersBut (y .number) (blockNumbers N)))
+
+unfoldable pub erasesBlank : Wrongly
+erasesBlank = mounts (λ N img o. accepted o (allOthers N img o (stores (allFound N img))))
 
 -- K14: "A record of another N gets 11, in a job's step too": a step goes by the record's
 unfoldable pub ignoresCount : Wrongly

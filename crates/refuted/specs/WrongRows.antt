@@ -4,7 +4,7 @@ use Rattle.refuted.specs.Wrong.{offBench, refusesAll, refusesPuts, refus
 use Rattle.refuted.specs.Wrong.{refusalClears, refusedLogWrites, readsAlike, inventsCount, neverCommits, abortsNothing, takesOthers}
 use Rattle.refuted.specs.Wrong.{keepsOld, programsNothing, wholeFrame, inventsStep, erasesFirst, outsideIsDone, forgedWaits}
 use Rattle.refuted.specs.Wrong.{hurriedMount, losesAll, keepsPending, refusesAlike, overlooksForeign, namesSecond, tiesAtStart, refusesHalfErased}
-use Rattle.refuted.specs.Wrong.{takesHalfErased, formatsAtOnce, formatsBlindly, goesBack, erasesOne, ignoresCount, evenOnly}
+use Rattle.refuted.specs.Wrong.{takesHalfErased, formatsAtOnce, formatsBlindly, goesBack, erasesOne, erasesBlank, ignoresCount, evenOnly}
 
 pub record RightInRows : Type 0 where
   pub refuses-all : Rows (offBench refusesAll 2)
@@ -40,5 +40,6 @@ pub record RightInRows : Type 0 where
   pub formats-blindly : Rows (offBench formatsBlindly 2)
   pub goes-back : Rows (offBench goesBack 2)
   pub erases-one : Rows (offBench erasesOne 2)
+  pub erases-blank : Rows (offBench erasesBlank 2)
   pub ignores-count : Rows (offBench ignoresCount 2)
   pub even-only : Rows (offBench evenOnly 2)
