@@ -110,6 +110,16 @@ same-lines (l ∷ ls) a b s (inl (p, x)) (inr (q, y)) = absurd (q p)
 same-lines (l ∷ ls) a b s (inr (p, x)) (inl (q, y)) = absurd (p q)
 same-lines (l ∷ ls) a b s (inr (p, x)) (inr (q, y)) = same-lines ls a b s x y
 
+-- no line has the number
+abbrev pub Without : ℕ → List Line → Type 0
+Without k [] = Unit {0}
+Without k (l ∷ ls) = (l .number ≡ k → ⊥) × Without k ls
+
+pub not-numbered : (k : ℕ) (ls : List Line) (a : Answer) → Without (suc k) ls → Exactly ls a → numberOf a ≡ some (suc k) → ⊥
+not-numbered k [] a n x e = number-accepted a k e x
+not-numbered k (l ∷ ls) a (h, n) (inl (p, y)) e = let w : some (l .number) ≡ some (suc k) = sym y ∙ e in let v : l .number ≡ suc k = cc in h v
+not-numbered k (l ∷ ls) a (h, n) (inr (p, y)) e = not-numbered k ls a n y e
+
 -- no line is 3
 abbrev pub NoThree : List Line → Type 0
 NoThree [] = Unit {0}

@@ -5,9 +5,9 @@ use mathlib.Core.Logic.{_⊎_, inl, inr}
 use mathlib.Core.Bool.{Bool, true, false}
 use Prim.Native.Nat.{ℕ, _+_, _-_, _≤_}
 use native.Mathlib.Omega.{arith}
-use lib.ListN.{length, drop, length-drop}
+use lib.ListN.{length}
 use Rattle.flash.specs.Bytes.{Bytes}
-use Rattle.flash.specs.Flash.{Step, applyAll, block, sizeOf}
+use Rattle.flash.specs.Flash.{applyAll, block, sizeOf, withBlock}
 use Rattle.frame.specs.Frame.{deleteLen, endLen, total}
 use Rattle.journal.specs.Replay.{Object, State, state, replay, listOf, settledOnly}
 use Rattle.journal.specs.Block.{blockState, headerLen}
@@ -26,11 +26,12 @@ use Rattle.board.specs.Step.{enterWipe, begin}
 use Rattle.board.specs.Mount.{Store, allFound, wipeList, needsTransfer, mountJob, mountOn, formatJob, formatOn}
 use Rattle.board.specs.Exec.{Call, request, step, mount, format, exec}
 use Rattle.board.specs.Plan.{formatPlan, mountPlan, mountedAt}
+use Rattle.board.specs.Table.{InJob as JobPhase}
 use Rattle.board.specs.Book.{Book, book, nothing, formatting, noLists, firstBook, enterCall, enterFormat}
-use Rattle.board.specs.Claim.{IdleAgrees, Finishes, AgreesIn, Agrees, WornOut, MountSays, Says, trackMount, trackFormat, track, Run}
+use Rattle.board.specs.Claim.{IdleAgrees, Finishes, AgreesIn, Agrees, WornOut, MountSays, Says, trackMount, trackFormat, track, begunBy, Run}
 use Rattle.board.specs.Claim.{stepsOn, formatted, ByteCall, Begins, Event, call, cutErase, Happens, Claim}
 use Rattle.board.proofs.Images.{Sized, size-of, sized-of, sized-as, length-all-steps, bytes-all-steps}
-use Rattle.board.proofs.Invariant.{Lessers, Safe, GuardIn, IdleBook, InJob, InPhase, Inv}
+use Rattle.board.proofs.Invariant.{Lessers, Safe, GuardIn, IdleBook, InPhase, Inv}
 use Rattle.board.proofs.Outcomes.{format-begins}
 use Rattle.board.proofs.Current.{After, Keeps}
 use Rattle.board.proofs.Jobs.{Begun, job-starts, job-begins}
@@ -42,22 +43,13 @@ use Rattle.board.proofs.Lengths.{length-format, format-some}
 use Rattle.board.proofs.Replies.{journal-of}
 use Rattle.board.proofs.Formatting.{format-safe, format-ends}
 use Rattle.board.proofs.Deciding.{Taken, StoreThere, InTime, Outcome, worn-out, begins, mount-outcome, MountSafe, nothing-there, store-there, mount-safe}
-use Rattle.board.proofs.Mounting.{mount-keeps, mount-ends, mount-short, mount-erases}
+use Rattle.board.proofs.Mounting.{mount-keeps, mount-ends}
 use Rattle.board.proofs.Requests.{Requested, request-keeps}
+use Rattle.board.proofs.Promising.{calls}
+use Rattle.board.proofs.Finishing.{Ends, idle-ends, call-ends, restart-ends}
 use Rattle.frame.specs.declared.Fault.{Fault}
 
 -- ---- what the invariant gives between calls
-
-finishes : {N : ℕ} {s : ℕ} {P : Step → List ℕ → Type 0} {Q : List ℕ → Record → Type 0} {img : List ℕ} {r : Record} → Sized N s img → InJob N s P Q img r
-    → Finishes N (exec N) img r
-finishes z j =
-    record {
-      plan = drop (j .count) (j .plan);
-      last = j .last;
-      follows = j .follows;
-      rests = j .rests;
-      short = omega (arith, size-of z, j .short, length-drop (j .count) (j .plan));
-    }
 
 idle-agrees : {N : ℕ} {s : ℕ} {img : List ℕ} {r : Record} {b : Book} → Sized N s img → IdleBook N s img r b → IdleAgrees N img r b
 idle-agrees {N} {s} {img} {r} {b} z y =
@@ -71,13 +63,14 @@ idle-agrees {N} {s} {img} {r} {b} z y =
       room = λ e. omega (arith, size-of z, y .spare, kept-none (replay (y .ready .frames)) e);
     }
 
-pub agrees : {N : ℕ} {s : ℕ} {img : List ℕ} {r : Record} {b : Book} {u : Bool} → Inv N s img r b u → Agrees N (exec N) img r b
-agrees {N} {s} {img} {r} {b} {u} v = go (r .phase) (v .phase)
+agrees : {N : ℕ} {s : ℕ} {img : List ℕ} {r : Record} {b : Book} {u : Bool} (a : Call) → Inv N s img r b u → Ends N (exec N) a img r
+    → Agrees N (exec N) a img r b
+agrees {N} {s} {img} {r} {b} {u} a v d = go (r .phase) (v .phase) d
   where
-    go : (p : Phase) → InPhase N p s img r b u → AgreesIn N (exec N) p img r b
-    go Unmounted x = tt
-    go Idle y = idle-agrees (v .sized) y
-    go (Busy g) j = finishes (v .sized) j
+    go : (p : Phase) → InPhase N p s img r b u → (JobPhase p → Finishes N (exec N) a img r) → AgreesIn N (exec N) a p img r b
+    go Unmounted x f = tt
+    go Idle y f = idle-agrees (v .sized) y
+    go (Busy g) j f = f tt
 
 -- ---- a format call
 
@@ -102,8 +95,7 @@ format-works : {N : ℕ} {s : ℕ} {img : List ℕ} (os : List Object) {u : Bool
 format-works {N} {s} {img} os z f =
     let a : After N s (applyAll s (formatPlan N img) img) (idle (rest N (length img - 1) 0 headerLen)) (state [] []) = format-ends z in
     job-starts img (enterWipe (formatJob N img)) (formatPlan N img) (idle (rest N (length img - 1) 0 headerLen)) (follows-format N img (z .ok))
-    (omega (arith, length-format N img))
-    (omega (arith, length-format N img, z .low)) (λ j h. (format-safe z f j h, λ n. absurd (n refl))) (empty-book (z .low) a) (ready-idle (a .ready))
+    (omega (arith, length-format N img)) (λ j h. (format-safe z f j h, λ n. absurd (n refl))) (empty-book (z .low) a) (ready-idle (a .ready))
 
 format-call : {N : ℕ} {s : ℕ} {img : List ℕ} (b : Book) {u : Bool} → Bare N s img (b .objects) u → FormatKeeps N s b u (formatOn N img)
 format-call {N} {s} {img} b {u} v =
@@ -169,7 +161,6 @@ module _ {N : ℕ} {s : ℕ} {img : List ℕ} (b : Book) {u : Bool} (v : Bare N 
       finish g (job-begins img g (mountPlan N (allFound N img) x) last
       (follows-mount img x ks (v .sized .ok) (y .there) (wiped-besides N (x .number) img)
       (subst (λ (n : ℕ). Journal (block n (x .number) img) (x .frames)) (sym (size-of (v .sized))) (journal-of h)))
-      (omega (arith, mount-short x (v .sized) (y .there) h t, mount-erases x (v .sized) (y .there) h t))
       (λ n l. let g = mount-keeps x (v .sized) (y .there) h t false k f n l in (g .0, λ d. g .1)) (settled-book k a) (ready-idle (a .ready)))
     where
       finish : (g : Record) → Begun N s (GuardIn N s (b .objects) false nothing) (λ i q. IdleBook N s i q (book (b .objects) noLists nothing)) img g
@@ -225,14 +216,21 @@ call-keeps v step by = let y = step-keeps v in (y .1, y .0)
 call-keeps {N} {r = r} {b = b} v mount by = begin-keeps b (bare-of v) r mount tt
 call-keeps {N} {r = r} {b = b} v format by = begin-keeps b (bare-of v) r format tt
 
-pub run-holds : {N : ℕ} {s : ℕ} {img : List ℕ} {r : Record} {b : Book} {u : Bool} → Inv N s img r b u → (es : List Event) → Happens N (exec N) img r b es
-    → Run N (exec N) img r b u es
-run-holds v [] h = tt
-run-holds v (call c ∷ es) (by, h) = let y = call-keeps v c by in (y .0, agrees (y .1), run-holds (y .1) es h)
-run-holds v (cutErase k new q ∷ []) (x, n, h) = tt
-run-holds {N} {b = b} v (cutErase k new q ∷ call c ∷ es) (x, n, (by, h)) =
-    let y = begin-keeps b (cut-bare k new v x) q c n in (y .0, agrees (y .1), run-holds (y .1) es h)
-run-holds v (cutErase k new q ∷ cutErase j more p ∷ es) (x, n, h) = absurd n
+pub run-holds : {N : ℕ} {s : ℕ} {img : List ℕ} {r : Record} {b : Book} {u : Bool} (a : Call) → Inv N s img r b u → Ends N (exec N) a img r → (es : List Event)
+    → Happens N (exec N) img r b es → Run N (exec N) img r b u a es
+run-holds a v d [] h = tt
+run-holds {N} {img = img} {r = r} a v d (call c ∷ es) (by, h) =
+    let y = call-keeps v c by in
+    let e = call-ends calls img (v .bytes) a r d c by in
+    let a′ : Call = begunBy a c (exec N img r c .answer) in (y .0, agrees a′ (y .1) e, run-holds a′ (y .1) e es h)
+run-holds a v d (cutErase k new q ∷ []) (x, n, h) = tt
+run-holds {N} {img = img} {b = b} a v d (cutErase k new q ∷ call c ∷ es) (x, n, (by, h)) =
+    let i : List ℕ = withBlock (sizeOf N img) k new img in
+    let w = cut-bare k new v x in
+    let y = begin-keeps b w q c n in
+    let e = restart-ends calls i (w .bytes) a q c n in
+    let a′ : Call = begunBy a c (exec N i q c .answer) in (y .0, agrees a′ (y .1) e, run-holds a′ (y .1) e es h)
+run-holds a v d (cutErase k new q ∷ cutErase j more p ∷ es) (x, n, h) = absurd n
 
 -- ---- from a finished format on
 
@@ -262,4 +260,5 @@ claim N img r by ok =
     let e : formatted N (exec N) img r ≡ out Done (applyAll (sizeOf N img) (formatPlan N img) img) (idle (rest N (length img - 1) 0 headerLen)) [] =
     format-done r (sized-of N img ok) in
     let v : Inv N (sizeOf N img) (formatted N (exec N) img r .image) (formatted N (exec N) img r .board) firstBook false = formatted-inv img r by ok in
-    (ap (λ (o : Out). o .answer) e, ap (λ (o : Out). o .board .phase) e, agrees v, run-holds v)
+    let i : formatted N (exec N) img r .board .phase ≡ Idle = ap (λ (o : Out). o .board .phase) e in
+    (ap (λ (o : Out). o .answer) e, i, agrees format v (idle-ends i), run-holds format v (idle-ends i))

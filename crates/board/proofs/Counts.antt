@@ -24,10 +24,10 @@ use Rattle.board.specs.declared.Phase.{Phase}
 use Rattle.board.specs.declared.Phase.the-variants.{Unmounted, Idle, Busy}
 use Rattle.board.specs.declared.Record.{Record}
 use Rattle.board.specs.Record.{Out, out}
-use Rattle.board.specs.Exec.{Machine, Call, request, step}
+use Rattle.board.specs.Exec.{Machine, Call, request, step, format}
 use Rattle.board.specs.Table.{Exactly, InJob, requestLines, linesOf}
 use Rattle.board.specs.Book.{Book, firstBook, enterCall}
-use Rattle.board.specs.Claim.{Never, ByteCall, Begins, Event, call, cutErase, CutsErase, Happens, Run, track, formatted, HappensFrom, Claim}
+use Rattle.board.specs.Claim.{Never, ByteCall, Begins, Event, call, cutErase, CutsErase, Happens, Run, track, begunBy, formatted, HappensFrom, Claim}
 use Rattle.board.specs.CutFormat.{Left, afterAll, leftBy}
 use Rattle.board.specs.Promise.{Calls}
 use Rattle.board.specs.Counts.{Apart, OtherCounts}
@@ -37,17 +37,18 @@ use Rattle.board.proofs.Following.{left-by}
 -- ---- what the claim still says at a point of a run
 
 abbrev Upheld : ℕ → Machine → List ℕ → Record → Book → Type 0
-Upheld N m img r b = (u : Bool) × ((es : List Event) → Happens N m img r b es → Run N m img r b u es)
+Upheld N m img r b = (u : Bool) × (a : Call) × ((es : List Event) → Happens N m img r b es → Run N m img r b u a es)
 
 module _ (N : ℕ) (m : Machine) (img : List ℕ) (r : Record) (b : Book) (f : Upheld N m img r b) where
   upheld-call : (c : Call) → ByteCall c → Upheld N m (m img r c .image) (m img r c .board) (enterCall b c (m img r c .answer))
-  upheld-call c bc = (track (f .0) b c (m img r c .answer), λ es h. f .1 (call c ∷ es) (bc, h) .2)
+  upheld-call c bc =
+      (track (f .0) b c (m img r c .answer), begunBy (f .1) c (m img r c .answer), λ es h. f .2 (call c ∷ es) (bc, h) .2)
 
   upheld-cut : (k : ℕ) (new : List ℕ) (q : Record) (c : Call) → CutsErase N m img r b k new → Begins c → ByteCall c
       → let o : Out = m (withBlock (sizeOf N img) k new img) q c in Upheld N m (o .image) (o .board) (enterCall b c (o .answer))
   upheld-cut k new q c x n bc =
       let o : Out = m (withBlock (sizeOf N img) k new img) q c in
-      (track (f .0) b c (o .answer), λ es h. f .1 (cutErase k new q ∷ call c ∷ es) (x, n, (bc, h)) .2)
+      (track (f .0) b c (o .answer), begunBy (f .1) c (o .answer), λ es h. f .2 (cutErase k new q ∷ call c ∷ es) (x, n, (bc, h)) .2)
 
 upheld-after : (N : ℕ) (m : Machine) (img : List ℕ) (r : Record) (b : Book) → Upheld N m img r b → (es : List Event) (c : Call)
     → Happens N m img r b (es ++ (call c ∷ []))
@@ -77,7 +78,7 @@ module _ {N : ℕ} {m : Machine} (p : Calls N m) (img : List ℕ) (r : Record) (
       c = request (hostOf 0) [] []
 
       says : Never refusal.ImageLength (m img r c) × Never refusal.Stale (m img r c)
-      says = let y = f .1 (call c ∷ []) (tt, tt) .0 in (y .0, y .1)
+      says = let y = f .2 (call c ∷ []) (tt, tt) .0 in (y .0, y .1)
 
       go : Exactly (requestLines N img r (hostOf 0) [] []) (m img r c .answer) → N ≡ r .blocks
       go (inl (_, n)) = absurd (says .0 (number-refused (m img r c .answer) refusal.ImageLength 4 refl (omega arith) n))
@@ -91,7 +92,7 @@ module _ {N : ℕ} {m : Machine} (p : Calls N m) (img : List ℕ) (r : Record) (
   busy-count s e = go (p .table img r step by)
     where
       go : Exactly (linesOf N img r step) (m img r step .answer) → N ≡ r .blocks
-      go (inl (_, n)) = absurd (f .1 (call step ∷ []) (tt, tt) .0 refusal.Stale (number-refused (m img r step .answer) refusal.Stale 11 refl (omega arith) n))
+      go (inl (_, n)) = absurd (f .2 (call step ∷ []) (tt, tt) .0 refusal.Stale (number-refused (m img r step .answer) refusal.Stale 11 refl (omega arith) n))
       go (inr (g, _)) = same-count N (r .blocks) (λ d. g (record { stage = s; is-busy = e; misfits = inr (inl d) }))
 
   -- an unmounted record has none
@@ -157,7 +158,7 @@ module _ {M : ℕ} {m : Machine} (p : Calls M m) (img : List ℕ) (r : Record) (
 pub other-counts : OtherCounts
 unfolding OtherCounts Claim
 other-counts m kept N M n img r by ok =
-    let f : Upheld N (m N) (formatted N (m N) img r .image) (formatted N (m N) img r .board) firstBook = (false, kept N .claim img r by ok .3) in (
+    let f : Upheld N (m N) (formatted N (m N) img r .image) (formatted N (m N) img r .board) firstBook = (false, format, kept N .claim img r by ok .3) in (
       at [] tt f,
       λ es c h. at (es ++ (call c ∷ [])) h
           (upheld-after N (m N) (formatted N (m N) img r .image) (formatted N (m N) img r .board) firstBook f es c h),

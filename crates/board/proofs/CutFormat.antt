@@ -2,13 +2,12 @@
 use mathlib.Core.Path.{_≡_, sym, ap, subst, _∙_}
 use mathlib.Core.List.{List, [], _∷_}
 use mathlib.Core.Bool.{Bool, false, false≢true}
-use Prim.Native.Nat.{ℕ, _+_, _-_, _≤_, _<_}
+use Prim.Native.Nat.{ℕ, _+_, _-_, _≤_}
 use native.Mathlib.Omega.{arith}
-use lib.Dec.{eqb, ltb}
+use lib.Dec.{eqb}
 use lib.ListN.{length, take}
-use lib.Seq.{take-all}
-use borrow.Author.Tests.{eqb-true, eqb-false, ltb-true, ltb-false}
-use Rattle.flash.specs.Flash.{Step, applyAll, block, sizeOf}
+use borrow.Author.Tests.{eqb-true, eqb-false}
+use Rattle.flash.specs.Flash.{applyAll, block, sizeOf}
 use Rattle.flash.proofs.Cases.{on-test}
 use Rattle.frame.specs.Reader.{clean}
 use Rattle.journal.specs.Replay.{Object, replay}
@@ -23,7 +22,8 @@ use Rattle.board.specs.Exec.{exec}
 use Rattle.board.specs.Plan.{formatPlan}
 use Rattle.board.specs.Book.{Book}
 use Rattle.board.specs.Claim.{stepsOn, Event, call, cutErase, Happens}
-use Rattle.board.specs.CutFormat.{Left, afterAll, leftBy, Beside, OldObjects, Empty, EmptyStore, Leaves, old-objects, no-store, empty-store, CutFormat}
+use Rattle.board.specs.CutFormat.{Left, afterAll, leftBy, Beside, OldObjects, Empty, NoStore as Nothing, EmptyStore, CutFormat}
+use Rattle.board.specs.CutFormat.{Leaves, old-objects, still-none, no-store, empty-store}
 use Rattle.board.proofs.Images.{Sized, size-of, sized-as, length-all-steps}
 use Rattle.board.proofs.Invariant.{Quiet, Safe, Inv}
 use Rattle.board.proofs.Current.{Alone, Keeps}
@@ -33,7 +33,8 @@ use Rattle.board.proofs.Stepping.{follows-part}
 use Rattle.board.proofs.Keeping.{Bare, bare-of, cut-bare}
 use Rattle.board.proofs.Accepted.{follows-format}
 use Rattle.board.proofs.Lengths.{length-format}
-use Rattle.board.proofs.Formatting.{at-size, FormatCut, format-cut, format-alone}
+use Rattle.board.proofs.Erasing.{NoStore}
+use Rattle.board.proofs.Formatting.{at-size, FormatCut, format-cut}
 use Rattle.board.proofs.Claiming.{begin-keeps, call-keeps, formatted-inv}
 
 -- ---- what a mount finds after all
@@ -117,23 +118,22 @@ module _ {N : ℕ} {s : ℕ} {img : List ℕ} (z : Sized N s img) where
         others = λ j h n. at-size z (λ a. a ≡ blank) j (ap blockState (y .others j h n) ∙ blank-block s);
       }
 
-  cut-leaves : {os : List Object} (j : ℕ) → j < N + 10 → FormatCut N s img os j → Leaves N os j img
-  cut-leaves j h (FormatCut.old-objects f) = old-objects h (safe-old f)
-  cut-leaves j h (FormatCut.no-store q) = no-store h (λ i l. at-size z Empty i (quiet-empty (blockState (block s i img)) (q i l)))
-  cut-leaves j h (FormatCut.empty-store e y) = absurd (omega arith)
+  none-there : NoStore N s img → Nothing N img
+  none-there q i l = at-size z Empty i (quiet-empty (blockState (block s i img)) (q i l))
+
+cut-leaves : {N : ℕ} {s : ℕ} {img after : List ℕ} {os : List Object} (j : ℕ) → Sized N s img → Sized N s after → FormatCut N s img os j after
+    → Leaves N os img j after
+cut-leaves j z w (FormatCut.old-objects h f) = old-objects h (safe-old w f)
+cut-leaves j z w (FormatCut.still-none h p q) = still-none h (none-there z p) (none-there w q)
+cut-leaves j z w (FormatCut.no-store l h q) = no-store l h (none-there w q)
+cut-leaves j z w (FormatCut.empty-store e y) = empty-store e (alone-empty w y)
 
 format-leaves : {N : ℕ} {s : ℕ} {img : List ℕ} {os : List Object} {u : Bool} (j : ℕ) → Sized N s img → Safe N s img os u → j ≤ N + 10
-    → Leaves N os j (stepsOn (exec N) j (formatOn N img) .image)
+    → Leaves N os img j (stepsOn (exec N) j (formatOn N img) .image)
 format-leaves {N} {s} {img} {os} {u} j z f h =
     let i : List ℕ = applyAll s (take j (formatPlan N img)) img in
-    let after : Sized N s i = sized-as i (length-all-steps s (take j (formatPlan N img)) img) z in
-    subst (Leaves N os j) (sym (format-part j z h))
-    (on-test (ltb j (N + 10))
-    (λ t. cut-leaves after j (ltb-true j (N + 10) t) (format-cut z f j (omega (arith, length-format N img))))
-    (λ t. empty-store (omega (arith, ltb-false j (N + 10) t))
-    (alone-empty after
-    (subst (λ (p : List Step). Alone N s (applyAll s p img) 0 1 [] clean)
-    (sym (take-all j (formatPlan N img) (omega (arith, length-format N img, ltb-false j (N + 10) t)))) (format-alone z)))))
+    subst (Leaves N os img j) (sym (format-part j z h))
+    (cut-leaves j z (sized-as i (length-all-steps s (take j (formatPlan N img)) img) z) (format-cut z f j h))
 
 pub cut-format : (N : ℕ) → CutFormat N (exec N)
 unfolding CutFormat

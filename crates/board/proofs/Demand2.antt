@@ -2,6 +2,7 @@
 use mathlib.Core.Path.{_≡_, refl, sym, ap, subst, _∙_}
 use mathlib.Core.List.{List, [], _∷_}
 use mathlib.Core.Logic.{_⊎_, inl, inr}
+use mathlib.Core.Option.{Option, some}
 use Prim.Native.Nat.{ℕ, _+_, _-_, _*_, _≤_, _<_}
 use native.Mathlib.Omega.{arith}
 use lib.Dec.{ltb}
@@ -15,25 +16,26 @@ use Rattle.flash.proofs.Image.{length-apply, bytes-apply, block-program}
 use Rattle.flash.proofs.Raising.{length-with, bytes-with}
 use Rattle.frame.specs.declared.Host.{Host}
 use Rattle.journal.specs.Replay.{state, replay, settledOnly}
-use Rattle.journal.specs.Block.{blockState, headerLen, stateAt, inTransfer}
+use Rattle.journal.specs.Block.{headerLen, stateAt, inTransfer}
 use Rattle.journal.proofs.Places.{Journal}
-use Rattle.journal.proofs.States.{contents-valid}
 use Rattle.wire.specs.declared.Answer.{Answer}
 use Rattle.wire.specs.declared.Answer.the-variants.{Done, More, Refused}
+use Rattle.wire.specs.Answer.{numberOf}
 use Rattle.board.specs.declared.Phase.{Phase}
 use Rattle.board.specs.declared.Phase.the-variants.{Unmounted, Idle, Busy}
 use Rattle.board.specs.declared.Record.{Record}
 use Rattle.board.specs.Record.{Out, out, unmounted, rest, idle, answerOf}
 use Rattle.board.specs.Step.{stepOn, enterWipe}
 use Rattle.board.specs.Mount.{Store, allFound, wipeList, needsTransfer, mountJob, mountOn, formatJob, formatOn}
-use Rattle.board.specs.Queue.{requestOn}
+use Rattle.board.specs.Queue.{Held, requestOn}
 use Rattle.board.specs.Exec.{Call, request, step, mount, format, exec}
 use Rattle.board.specs.Plan.{Follows, formatPlan, mountPlan, mountedAt}
+use Rattle.board.specs.Table.{InJob as JobPhase, Fresh, Exactly, requestLines, mountLines, linesOf}
 use Rattle.board.specs.Demand1.{Rests}
 use Rattle.board.specs.Book.{Book, enterCall}
 use Rattle.board.specs.Claim.{Begins as Restarting, Event, call, cutErase, CutsErase, Happens}
-use Rattle.board.specs.Demand2.{Accepted, Mounts, OneStore, LandsAt, StepLands as OneLands, AllLand, LandsFrom}
-use Rattle.board.proofs.Images.{Sized, size-of, sized-of, sized-as, sized-block}
+use Rattle.board.specs.Demand2.{Accepted, Mounts, OneStore, LandsAt, StepLands as OneLands, EachCall, FromAny, NotStale, UsableFrom, LandsFrom}
+use Rattle.board.proofs.Images.{Sized, size-of, sized-of, sized-as, sized-block, length-all-steps, bytes-all-steps}
 use Rattle.board.proofs.Invariant.{StepLands, Ready, InJob, Sound}
 use Rattle.board.proofs.Outcomes.{format-begins, step-resting}
 use Rattle.board.proofs.Current.{After, block-long}
@@ -42,7 +44,11 @@ use Rattle.board.proofs.Keeping.{more-busy, ready-idle}
 use Rattle.board.proofs.Accepted.{follows-format, follows-mount}
 use Rattle.board.proofs.Blocks.{wiped-besides}
 use Rattle.board.proofs.Lengths.{length-format}
-use Rattle.board.proofs.Replies.{journal-of}
+use Rattle.board.proofs.Replies.{journal-of, heldOf}
+use Rattle.board.proofs.Freshness.{ready-fresh}
+use Rattle.board.proofs.Answering.{number-accepted, not-numbered}
+use Rattle.board.proofs.Tabling.{request-lines, format-lines}
+use Rattle.board.proofs.TablingMounts.{mount-lines}
 use Rattle.board.proofs.Refusals.{refusals-untouched, at-most-one-step}
 use Rattle.board.proofs.Formatting.{format-lands, format-ends}
 use Rattle.board.proofs.Deciding.{Begins, mount-accepted, taken-newest}
@@ -73,7 +79,6 @@ module _ {N : ℕ} {s : ℕ} {img : List ℕ} (z : Sized N s img) (y : Begins N 
   mount-begun : Begun N s (StepLands s) (Ready N s) img job
   mount-begun =
       job-begins img job (mountPlan N (allFound N img) x) last mount-follows
-      (omega (arith, mount-short x z (y .taken .there) (y .holds) (y .in-time), mount-erases x z (y .taken .there) (y .holds) (y .in-time)))
       (mount-lands x z (y .taken .there) (y .holds) (y .in-time)) (after .ready) (ready-idle (after .ready))
 
 pub one-store : (N : ℕ) → OneStore N (exec N)
@@ -83,6 +88,7 @@ one-store N img r by ok a =
     let z : Sized N s img = sized-of N img ok in
     let y : Begins N s img = mount-accepted z by a in
     let x : Store = y .store in
+    let after-image : List ℕ = applyAll s (mountPlan N (allFound N img) x) img in
     let e : After N s (applyAll s (mountPlan N (allFound N img) x) img) (last z y) (settledOnly (replay (x .frames))) = after z y in
     subst (Mounts N (exec N) img) (sym (y .begins))
     (record {
@@ -95,11 +101,9 @@ one-store N img r by ok a =
       follows = mount-follows z y;
       short = mount-short x z (y .taken .there) (y .holds) (y .in-time);
       erases = mount-erases x z (y .taken .there) (y .holds) (y .in-time);
-      time = e .ready .time;
-      frames = e .ready .frames;
-      leaves =
-          ap (λ (r : Record). blockState (block s (r .block) (applyAll s (mountPlan N (allFound N img) x) img))) (e .ready .is)
-          ∙ contents-valid (e .ready .contents);
+      holding = heldOf (e .ready);
+      is-fresh = ready-fresh (sized-as after-image (length-all-steps s (mountPlan N (allFound N img) x) img) z)
+          (bytes-all-steps s (mountPlan N (allFound N img) x) img by) (e .ready);
       holds = e .state;
     })
 
@@ -210,11 +214,10 @@ format-kept {N} {s} {img} z by =
     let a : After N s (applyAll s (formatPlan N img) img) (idle (rest N (length img - 1) 0 headerLen)) (state [] []) = format-ends z in
     let j : (answerOf (enterWipe (formatJob N img)) ≡ More) × InJob N s (StepLands s) (Ready N s) img (enterWipe (formatJob N img)) =
     job-starts img (enterWipe (formatJob N img)) (formatPlan N img) (idle (rest N (length img - 1) 0 headerLen)) (follows-format N img (z .ok))
-    (omega (arith, length-format N img))
-    (omega (arith, length-format N img, z .low)) (format-lands z) (a .ready) (ready-idle (a .ready)) in
+    (omega (arith, length-format N img)) (format-lands z) (a .ready) (ready-idle (a .ready)) in
     subst (λ (o : Out). Steady N s img (o .board)) (sym (format-begins N img (z .ok))) (steady-busy z by (enterWipe (formatJob N img)) (j .0) (j .1))
 
--- ---- every call, and every run
+-- ---- every call
 
 -- only a step changes the image
 same-image : {N : ℕ} {s : ℕ} {img : List ℕ} (o : Out) → o .image ≡ img → Steady N s img (o .board) → Kept N s o
@@ -239,27 +242,100 @@ cut-sized {N} {s} {img} k new v c =
     subst (λ (n : ℕ). Sized N s (withBlock n k new img)) (sym (size-of z))
     (sized-as (withBlock s k new img) (length-with s k new img (sized-block k z (c .there)) long) z)
 
-all-land : {N : ℕ} {s : ℕ} {img : List ℕ} {r : Record} (b : Book) → Steady N s img r → (es : List Event) → Happens N (exec N) img r b es
-    → AllLand N (exec N) img r es
-all-land b v [] h = tt
-all-land {N} {s} {img} {r} b v (call (request g m reply) ∷ es) (bm, h) =
+-- ---- no call gets 11
+
+number-apart : {a : Option ℕ} (j k : ℕ) → (j ≡ k → ⊥) → a ≡ some j → a ≡ some k → ⊥
+number-apart j k n e f = let w : some j ≡ some k = sym e ∙ f in let v : j ≡ k = cc in n v
+
+request-fits : {N : ℕ} {s : ℕ} {img : List ℕ} {r : Record} → Steady N s img r → (h : Host) (m reply : List ℕ) → NotStale (requestOn N img r reply h m)
+request-fits {N} {s} {img} {r} v h m reply e = go (request-lines img r h m reply (v .bytes))
+  where
+    a : Answer
+    a = requestOn N img r reply h m .answer
+
+    fits : (p : Phase) → Sound N p s img r → (JobPhase p → ⊥) → (p ≡ Unmounted → ⊥) → ((x : Held) → Fresh N img r x → ⊥) → ⊥
+    fits Unmounted y j u f = u refl
+    fits Idle y j u f = f (heldOf y) (ready-fresh (v .sized) (v .bytes) y)
+    fits (Busy g) y j u f = j tt
+
+    go : Exactly (requestLines N img r h m reply) a → ⊥
+    go (inl (_, f)) = number-apart 4 11 (omega arith) f e
+    go (inr (_, inl (_, f))) = number-apart 10 11 (omega arith) f e
+    go (inr (_, inr (_, inl (_, f)))) = number-apart 5 11 (omega arith) f e
+    go (inr (_, inr (_, inr (_, inl (_, f))))) = number-apart 2 11 (omega arith) f e
+    go (inr (_, inr (_, inr (u, inr (w, inl (f, _)))))) = fits (r .phase) (v .phase) u w f
+    go (inr (_, inr (_, inr (_, inr (_, inr (_, x)))))) = not-numbered 10 (drop 5 (requestLines N img r h m reply)) a (omega arith) x e
+
+step-fits : {N : ℕ} {s : ℕ} {img : List ℕ} {r : Record} → Steady N s img r → NotStale (stepOn N img r)
+step-fits {N} {s} {img} {r} v = go (r .phase) refl (v .phase)
+  where
+    taken : (b : Answer) → (b ≡ More) ⊎ (b ≡ Done) → numberOf b ≡ some 11 → ⊥
+    taken b (inl e) f = number-accepted b 10 f (subst Accepted (sym e) tt)
+    taken b (inr e) f = number-accepted b 10 f (subst Accepted (sym e) tt)
+
+    rests : Rests (r .phase) → NotStale (stepOn N img r)
+    rests h = taken (stepOn N img r .answer) (inr (ap (λ (o : Out). o .answer) (step-resting N img r h)))
+
+    go : (p : Phase) → r .phase ≡ p → Sound N p s img r → NotStale (stepOn N img r)
+    go Unmounted e y = rests (subst Rests (sym e) tt)
+    go Idle e y = rests (subst Rests (sym e) tt)
+    go (Busy g) e j =
+        let y : Stepped N s (StepLands s) (Ready N s) img r = job-step (v .sized) j in
+        taken (stepOn N img r .answer) (then (ap (λ (o : Out). o .answer) (y .gives)) (y .then))
+      where
+        then : {b d : Answer} {P Q : Type 0} → b ≡ d → ((d ≡ More) × P) ⊎ ((d ≡ Done) × Q) → (b ≡ More) ⊎ (b ≡ Done)
+        then e (inl (f, _)) = inl (e ∙ f)
+        then e (inr (f, _)) = inr (e ∙ f)
+
+begun-fits : (N : ℕ) (img : List ℕ) (r : Record) → Bytes img → (c : Call) → Restarting c → NotStale (exec N img r c)
+begun-fits N img r by (request h m reply) n = absurd n
+begun-fits N img r by step n = absurd n
+begun-fits N img r by mount n = not-numbered 10 (mountLines N img) (mountOn N img .answer) (omega arith) (mount-lines img by)
+begun-fits N img r by format n = not-numbered 10 (linesOf N img r format) (formatOn N img .answer) (omega arith) (format-lines img r)
+
+-- ---- every run
+
+-- of each call: it does a step that lands or none, and does not get 11
+abbrev Fine : ℕ → List ℕ → Out → Type 0
+Fine N img o = OneLands N img o × NotStale o
+
+all-fine : {N : ℕ} {s : ℕ} {img : List ℕ} {r : Record} (b : Book) → Steady N s img r → (es : List Event) → Happens N (exec N) img r b es
+    → EachCall N (exec N) (Fine N) img r es
+all-fine b v [] h = tt
+all-fine {N} {s} {img} {r} b v (call (request g m reply) ∷ es) (bm, h) =
     let c : Call = request g m reply in
-    (inl (at-most-one-step N img r c), all-land (enterCall b c (exec N img r c .answer)) (request-kept v g m reply bm) es h)
-all-land {N} {s} {img} {r} b v (call step ∷ es) (_, h) = let y = step-done v in (y .0, all-land (enterCall b step (exec N img r step .answer)) (y .1) es h)
-all-land {N} {s} {img} {r} b v (call mount ∷ es) (_, h) =
-    let y = begun-kept r (v .sized) (v .bytes) mount tt in (inl (y .0), all-land (enterCall b mount (exec N img r mount .answer)) (y .1) es h)
-all-land {N} {s} {img} {r} b v (call format ∷ es) (_, h) =
-    let y = begun-kept r (v .sized) (v .bytes) format tt in (inl (y .0), all-land (enterCall b format (exec N img r format .answer)) (y .1) es h)
-all-land b v (cutErase k new q ∷ []) h = tt
-all-land {N} {s} {img} b v (cutErase k new q ∷ call c ∷ es) (x, n, (_, h)) =
+    ((inl (at-most-one-step N img r c), request-fits v g m reply), all-fine (enterCall b c (exec N img r c .answer)) (request-kept v g m reply bm) es h)
+all-fine {N} {s} {img} {r} b v (call step ∷ es) (_, h) =
+    let y = step-done v in ((y .0, step-fits v), all-fine (enterCall b step (exec N img r step .answer)) (y .1) es h)
+all-fine {N} {s} {img} {r} b v (call mount ∷ es) (_, h) =
+    let y = begun-kept r (v .sized) (v .bytes) mount tt in
+    ((inl (y .0), begun-fits N img r (v .bytes) mount tt), all-fine (enterCall b mount (exec N img r mount .answer)) (y .1) es h)
+all-fine {N} {s} {img} {r} b v (call format ∷ es) (_, h) =
+    let y = begun-kept r (v .sized) (v .bytes) format tt in
+    ((inl (y .0), begun-fits N img r (v .bytes) format tt), all-fine (enterCall b format (exec N img r format .answer)) (y .1) es h)
+all-fine b v (cutErase k new q ∷ []) h = tt
+all-fine {N} {s} {img} b v (cutErase k new q ∷ call c ∷ es) (x, n, (_, h)) =
     let i : List ℕ = withBlock (sizeOf N img) k new img in
-    let y = begun-kept q (cut-sized k new v x) (bytes-with (sizeOf N img) k new img (x .raised .bytes) (v .bytes)) c n in
-    (inl (y .0), all-land (enterCall b c (exec N i q c .answer)) (y .1) es h)
-all-land b v (cutErase k new q ∷ cutErase j more p ∷ es) (x, n, h) = absurd n
+    let by : Bytes i = bytes-with (sizeOf N img) k new img (x .raised .bytes) (v .bytes) in
+    let y = begun-kept q (cut-sized k new v x) by c n in
+    ((inl (y .0), begun-fits N i q by c n), all-fine (enterCall b c (exec N i q c .answer)) (y .1) es h)
+all-fine b v (cutErase k new q ∷ cutErase j more p ∷ es) (x, n, h) = absurd n
+
+module _ (N : ℕ) (P : List ℕ → Out → Type 0) (f : (img : List ℕ) (o : Out) → Fine N img o → P img o) where
+  each-as : (img : List ℕ) (r : Record) (es : List Event) → EachCall N (exec N) (Fine N) img r es → EachCall N (exec N) P img r es
+  each-as img r [] y = tt
+  each-as img r (call c ∷ es) (y, z) = (f img (exec N img r c) y, each-as (exec N img r c .image) (exec N img r c .board) es z)
+  each-as img r (cutErase k new q ∷ es) y = each-as (withBlock (sizeOf N img) k new img) q es y
+
+  from-any : FromAny N (exec N) P
+  from-any =
+      record {
+        from-mount = λ img r b es by ok h. each-as img (mountOn N img .board) es (all-fine b (mount-kept (sized-of N img ok) by) es h);
+        from-format = λ img r b es by ok h. each-as img (formatOn N img .board) es (all-fine b (format-kept (sized-of N img ok) by) es h);
+      }
 
 pub lands-from : (N : ℕ) → LandsFrom N (exec N)
-lands-from N =
-    record {
-      from-mount = λ img r b es by ok h. all-land b (mount-kept (sized-of N img ok) by) es h;
-      from-format = λ img r b es by ok h. all-land b (format-kept (sized-of N img ok) by) es h;
-    }
+lands-from N = from-any N (OneLands N) (λ img o y. y .0)
+
+pub usable-from : (N : ℕ) → UsableFrom N (exec N)
+usable-from N = from-any N (λ img o. NotStale o) (λ img o y. y .1)

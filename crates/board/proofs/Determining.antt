@@ -4,12 +4,12 @@ use mathlib.Core.List.{List, [], _∷_}
 use mathlib.Core.Logic.{inl, inr}
 use mathlib.Core.Option.{Option, none, some}
 use mathlib.Core.Bool.{Bool, true, false}
-use Prim.Native.Nat.{ℕ, _+_, _-_, _≤_, _<_}
+use Prim.Native.Nat.{ℕ, _-_, _<_}
 use native.Mathlib.Omega.{arith}
 use lib.ListN.{length}
 use Rattle.flash.specs.Bytes.{Bytes}
-use Rattle.flash.specs.Flash.{sizeIn, Step, apply, block, sizeOf, withBlock}
-use Rattle.flash.proofs.Image.{length-apply, bytes-apply}
+use Rattle.flash.specs.Flash.{Step, apply, block, sizeOf, withBlock}
+use Rattle.flash.proofs.Image.{bytes-apply}
 use Rattle.flash.proofs.Raising.{bytes-with}
 use Rattle.frame.specs.declared.Host.{Host}
 use Rattle.frame.specs.Frame.{Frame}
@@ -34,7 +34,7 @@ use Rattle.board.specs.Demand1.{Rests}
 use Rattle.board.specs.Demand2.{Accepted}
 use Rattle.board.specs.Claim.{ByteCall, Begins, Event, call, cutErase}
 use Rattle.wire.specs.Sentences.{Means, MessagesExact, MalformedExact}
-use Rattle.board.specs.Promise.{Short, Machine, replyFor, Answers, Serves, Job, frame-job, mount-job, format-job, Calls, Shown, restingIn}
+use Rattle.board.specs.Promise.{Machine, replyFor, Answers, Serves, Job, frame-job, mount-job, format-job, Calls, Shown, restingIn}
 use Rattle.board.specs.Promise.{shownRecord, shown, trace, ByteEvents, PromiseDetermines, PromiseDeterminesFrom, PromiseDeterminesCall}
 use Rattle.board.proofs.Answering.{number-done, number-accepted, Both, both-taken, both-refused, same-numbered, told-answer}
 use Rattle.board.proofs.Answering.{whole, whole-is, in-job, same-stretch}
@@ -47,7 +47,7 @@ use Rattle.board.proofs.Freshness.{fresh-exact}
 
 pub data Alike (N : ℕ) (m n : Machine) (img : List ℕ) (r q : Record) : Type 0 where
   resting : Rests (q .phase) → r ≡ q → Alike N m n img r q
-  working : (x : Step) (xs : List Step) (z : Record) → z .phase ≡ Idle → length (x ∷ xs) ≤ sizeOf N img + N → Follows N m img r (x ∷ xs) z
+  working : (x : Step) (xs : List Step) (z : Record) → z .phase ≡ Idle → Follows N m img r (x ∷ xs) z
       → Follows N n img q (x ∷ xs) z → Alike N m n img r q
 
 more-none : (p : Phase) (r : Record) → answerIn p ≡ More → restingIn p r ≡ none
@@ -58,24 +58,17 @@ more-none (Busy s) r e = refl
 module _ {N : ℕ} {m n : Machine} {img : List ℕ} {r q : Record} where
   alike-shown : Alike N m n img r q → shownRecord r ≡ shownRecord q
   alike-shown (resting h e) = ap shownRecord e
-  alike-shown (working x xs z h l f g) = more-none (r .phase) r (f .0) ∙ sym (more-none (q .phase) q (g .0))
+  alike-shown (working x xs z h f g) = more-none (r .phase) r (f .0) ∙ sym (more-none (q .phase) q (g .0))
 
   alike-answer : Alike N m n img r q → answerOf r ≡ answerOf q
   alike-answer (resting h e) = ap answerOf e
-  alike-answer (working x xs z h l f g) = f .0 ∙ sym (g .0)
-
--- a job's steps, a mount's erases too
-pub short-most : (N s : ℕ) (plan : List Step) (c : Call) → Short N s plan c → length plan ≤ s + N
-short-most N s plan (request h msg reply) l = omega arith
-short-most N s plan step l = omega arith
-short-most N s plan mount (l, e) = omega arith
-short-most N s plan format l = omega arith
+  alike-answer (working x xs z h f g) = f .0 ∙ sym (g .0)
 
 -- a plan to follow, if it has steps; else the record after it
-alike-plan : {N : ℕ} {m n : Machine} {img : List ℕ} {r q : Record} (xs : List Step) (z : Record) → z .phase ≡ Idle → length xs ≤ sizeOf N img + N
+alike-plan : {N : ℕ} {m n : Machine} {img : List ℕ} {r q : Record} (xs : List Step) (z : Record) → z .phase ≡ Idle
     → Follows N m img r xs z → Follows N n img q xs z → Alike N m n img r q
-alike-plan [] z h l f g = resting (subst (λ (y : Record). Rests (y .phase)) (sym g) (subst Rests (sym h) tt)) (f ∙ sym g)
-alike-plan (x ∷ xs) z h l f g = working x xs z h l f g
+alike-plan [] z h f g = resting (subst (λ (y : Record). Rests (y .phase)) (sym g) (subst Rests (sym h) tt)) (f ∙ sym g)
+alike-plan (x ∷ xs) z h f g = working x xs z h f g
 
 -- ---- two outcomes
 
@@ -106,9 +99,14 @@ framed-idle : (N : ℕ) (b : Bool) (l k end : ℕ) (x : Held) (f : Frame) → fr
 framed-idle N true l k end x f = refl
 framed-idle N false l k end x f = refl
 
-mounted-idle : (N : ℕ) (b : Bool) (l : ℕ) (x : Store) → mountedAt N b l x .phase ≡ Idle
+pub mounted-idle : (N : ℕ) (b : Bool) (l : ℕ) (x : Store) → mountedAt N b l x .phase ≡ Idle
 mounted-idle N true l x = refl
 mounted-idle N false l x = refl
+
+pub job-idle : {N : ℕ} {img : List ℕ} {r : Record} {c : Call} {plan : List Step} {z : Record} → Job N img r c plan z → z .phase ≡ Idle
+job-idle {N} {img} {r} (frame-job h msg reply x q f v k g) = framed-idle N (needsRoom N img r f) (r .last) (r .block) (r .end) x f
+job-idle {N} {img} (mount-job x v) = mounted-idle N (needsTransfer (x .frames) (x .tail)) (length img - 1) x
+job-idle format-job = refl
 
 -- past the first lines a request has an image and a message that can be told
 pub record Asked (N : ℕ) (img : List ℕ) (r : Record) (msg : List ℕ) : Type 0 where
@@ -193,10 +191,10 @@ module _ {N : ℕ} {m n : Machine} (pm : Calls N m) (pn : Calls N n) (img : List
       (agree-whole More More img (o .board) (p .board) (replyFor N img reply x q) (o .stretch) refl by (v f refl))
 
   -- the same job
-  job-alike : (r q : Record) (c : Call) (plan : List Step) (z : Record) → ByteCall c → Job N img r c plan z → Job N img q c plan z → z .phase ≡ Idle
+  job-alike : (r q : Record) (c : Call) (plan : List Step) (z : Record) → ByteCall c → Job N img r c plan z → Job N img q c plan z
       → Accepted (m img r c .answer) → Accepted (n img q c .answer) → Alike N m n img (m img r c .board) (n img q c .board)
-  job-alike r q c plan z bc j k e a b =
-      let f = pm .jobs img r c plan z by bc j a in alike-plan plan z e (short-most N (sizeOf N img) plan c (f .1)) (f .0) (pn .jobs img q c plan z by bc k b .0)
+  job-alike r q c plan z bc j k a b =
+      alike-plan plan z (job-idle j) (pm .jobs img r c plan z by bc j a .0) (pn .jobs img q c plan z by bc k b .0)
 
   request-agrees : (r : Record) (h : Host) (msg reply : List ℕ) → Bytes msg → Rests (r .phase)
       → Agree N m n (m img r (request h msg reply)) (n img r (request h msg reply))
@@ -228,7 +226,7 @@ module _ {N : ℕ} {m n : Machine} (pm : Calls N m) (pn : Calls N n) (img : List
           does-agree r h msg reply x q (frameFor h msg x q) o p k (pm .one-step img r c) (pn .one-step img r c) (s .answers) (t .answers) s t
           (λ f e. job-alike r r c (framePlan N (needsRoom N img r f) (r .block) (r .end) x f)
           (framedAt N (needsRoom N img r f) (r .last) (r .block) (r .end) x f) bm
-          (job f e) (job f e) (framed-idle N (needsRoom N img r f) (r .last) (r .block) (r .end) x f) a b)
+          (job f e) (job f e) a b)
 
   -- 4, 10 or 5, whatever the record holds
   abbrev pub busyLines : Host → List Line
@@ -272,10 +270,9 @@ module _ {N : ℕ} {m n : Machine} (pm : Calls N m) (pn : Calls N n) (img : List
   step-agrees r q (resting h e) =
       agree-by (pm .rests img r (subst (λ (y : Record). Rests (y .phase)) (sym e) h)) (pn .rests img q h)
       (agree-whole Done Done img r q [] noStretch refl by (resting h e))
-  step-agrees r q (working x xs z h l (a, (r′, e, f)) (b, (q′, d, g))) =
+  step-agrees r q (working x xs z h (a, (r′, e, f)) (b, (q′, d, g))) =
       let after : List ℕ = apply (sizeOf N img) x img in
-      let w : sizeOf N after ≡ sizeOf N img = ap (sizeIn N) (length-apply (sizeOf N img) x img) in
-      let v : Alike N m n after r′ q′ = alike-plan xs z h (omega (arith, w)) f g in
+      let v : Alike N m n after r′ q′ = alike-plan xs z h f g in
       agree-by e d
       (agree-whole (answerOf r′) (answerOf q′) after r′ q′ [] noStretch (alike-answer v) (bytes-apply (sizeOf N img) x img by) v)
 
@@ -302,7 +299,7 @@ module _ {N : ℕ} {m n : Machine} (pm : Calls N m) (pn : Calls N n) (img : List
           agree-takes (m img r mount) (n img q mount) (takes-mount pm img by r a) (takes-mount pn img by q b)
           (job-alike r q mount (mountPlan N (allFound N img) x) (mountedAt N (needsTransfer (x .frames) (x .tail)) (length img - 1) x) tt
           (mount-job x (y .current))
-          (mount-job x (y .current)) (mounted-idle N (needsTransfer (x .frames) (x .tail)) (length img - 1) x) a b)
+          (mount-job x (y .current)) a b)
 
   -- ---- a format
 
@@ -317,12 +314,12 @@ module _ {N : ℕ} {m n : Machine} (pm : Calls N m) (pn : Calls N n) (img : List
           (agree-whole (Refused w) (Refused w) img unmounted unmounted [] noStretch refl by (resting tt refl))
       go (both-taken a b) =
           agree-takes (m img r format) (n img q format) (takes-format pm img by r a) (takes-format pn img by q b)
-          (job-alike r q format (formatPlan N img) (idle (rest N (length img - 1) 0 headerLen)) tt format-job format-job refl a b)
+          (job-alike r q format (formatPlan N img) (idle (rest N (length img - 1) 0 headerLen)) tt format-job format-job a b)
 
   pub call-agrees : (r q : Record) → Alike N m n img r q → (c : Call) → ByteCall c → Agree N m n (m img r c) (n img q c)
   call-agrees r q (resting h e) (request g msg reply) bm =
       subst (λ (x : Record). Agree N m n (m img x (request g msg reply)) (n img q (request g msg reply))) (sym e) (request-agrees q g msg reply bm h)
-  call-agrees r q (working x xs z h l f g) (request k msg reply) bm = request-busy r q k msg reply (f .0) (g .0) (working x xs z h l f g)
+  call-agrees r q (working x xs z h f g) (request k msg reply) bm = request-busy r q k msg reply (f .0) (g .0) (working x xs z h f g)
   call-agrees r q v step bm = step-agrees r q v
   call-agrees r q v mount bm = mount-agrees r q
   call-agrees r q v format bm = format-agrees r q

@@ -3,14 +3,13 @@
 use mathlib.Core.Path.{_≡_, refl, sym, ap, subst, subst₂, _∙_}
 use mathlib.Core.List.{List, [], _∷_}
 use mathlib.Core.Option.{Option, none, some}
-use mathlib.Core.Bool.{Bool, true, false}
-use Prim.Native.Nat.{ℕ, _+_, zero, suc, _-_}
+use mathlib.Core.Bool.{Bool, false}
+use Prim.Native.Nat.{ℕ, _+_, zero, suc}
 use native.Mathlib.Omega.{arith}
 use lib.ListN.{length, take}
 use Rattle.flash.specs.Bytes.{Bytes}
 use Rattle.flash.specs.Flash.{Step, applyAll, sizeOf, withBlock}
 use Rattle.flash.proofs.Raising.{bytes-with}
-use Rattle.frame.specs.Frame.{Frame}
 use Rattle.journal.specs.Replay.{lookup}
 use Rattle.wire.specs.declared.Answer.{Answer}
 use Rattle.wire.specs.declared.Answer.the-variants.{Done, More}
@@ -23,16 +22,14 @@ use Rattle.board.specs.declared.Phase.{Phase}
 use Rattle.board.specs.declared.Phase.the-variants.{Unmounted, Idle, Busy}
 use Rattle.board.specs.declared.Record.{Record}
 use Rattle.board.specs.Record.{Out, answerIn, answerOf}
-use Rattle.board.specs.Mount.{Store, needsTransfer}
-use Rattle.board.specs.Queue.{Held, needsRoom}
 use Rattle.board.specs.Exec.{Machine, Call, request, step, mount, format, exec}
-use Rattle.board.specs.Plan.{Follows, mountedAt, framedAt}
+use Rattle.board.specs.Plan.{Follows}
 use Rattle.board.specs.Demand1.{Rests}
 use Rattle.board.specs.Demand2.{Accepted}
 use Rattle.board.specs.Book.{Book, firstBook, enterCall}
 use Rattle.board.specs.Table.{InJob}
 use Rattle.board.specs.Claim.{AgreesIn, Agrees, ReadSays, RequestSays, Says, track, ByteCall, Event, call, cutErase, CutsErase, Happens}
-use Rattle.board.specs.Claim.{Run, stepsOn, formatted, HappensFrom, Claim}
+use Rattle.board.specs.Claim.{begunBy, Run, stepsOn, formatted, HappensFrom, Claim}
 use Rattle.board.specs.CutFormat.{Left, afterAll, leftBy, Leaves, CutFormat}
 use Rattle.board.specs.Promise.{Job, frame-job, mount-job, format-job, StepsOf, Calls, Shown, shown}
 use Rattle.board.proofs.Keeping.{more-busy}
@@ -40,7 +37,8 @@ use Rattle.board.proofs.Claiming.{claim}
 use Rattle.board.proofs.CutFormat.{cut-format}
 use Rattle.board.proofs.Stepping.{follows-steps, follows-part, follows-more}
 use Rattle.board.proofs.Answering.{told-answer, in-job}
-use Rattle.board.proofs.Determining.{Alike, resting, working, Agree, call-agrees, format-agrees, begun-agrees}
+use Rattle.board.proofs.Determining.{job-idle, Alike, resting, working, Agree, call-agrees, format-agrees, begun-agrees}
+use Rattle.board.proofs.Finishing.{Ends, idle-ends, call-ends, restart-ends}
 use Rattle.board.proofs.Promising.{calls}
 
 -- ---- the k-th step call
@@ -67,19 +65,6 @@ plan-steps {N} m img o plan z i a e f =
     lasts : (xs : List Step) → Follows N m (o .image) (o .board) xs z → stepsOn m (length xs) o .board ≡ z
     lasts [] g = g
     lasts (x ∷ xs) g = ap (λ (q : Out). q .board) (follows-steps N m (x ∷ xs) x xs refl (sizeOf N img) o z (ap (sizeOf N) i) g)
-
-framed-idle : (N : ℕ) (b : Bool) (l k end : ℕ) (x : Held) (f : Frame) → framedAt N b l k end x f .phase ≡ Idle
-framed-idle N true l k end x f = refl
-framed-idle N false l k end x f = refl
-
-pub mounted-idle : (N : ℕ) (b : Bool) (l : ℕ) (x : Store) → mountedAt N b l x .phase ≡ Idle
-mounted-idle N true l x = refl
-mounted-idle N false l x = refl
-
-pub job-idle : {N : ℕ} {img : List ℕ} {r : Record} {c : Call} {plan : List Step} {z : Record} → Job N img r c plan z → z .phase ≡ Idle
-job-idle {N} {img} {r} (frame-job h msg reply x q f v k g) = framed-idle N (needsRoom N img r f) (r .last) (r .block) (r .end) x f
-job-idle {N} {img} (mount-job x v) = mounted-idle N (needsTransfer (x .frames) (x .tail)) (length img - 1) x
-job-idle format-job = refl
 
 module _ {N : ℕ} {m : Machine} (p : Calls N m) where
   -- a job is no step's
@@ -149,22 +134,22 @@ module _ {N : ℕ} {m : Machine} (p : Calls N m) where
 
   same-idle : {img : List ℕ} {r q : Record} → Same img r q → r .phase ≡ Idle → q .phase ≡ Idle
   same-idle (resting h e) i = sym (ap (λ (x : Record). x .phase) e) ∙ i
-  same-idle (working x xs z h l f g) i = let w : Done ≡ More = sym (ap answerIn i) ∙ f .0 in let v : _≡_ {A = ℕ} 0 1 = cc in absurd (omega arith)
+  same-idle (working x xs z h f g) i = let w : Done ≡ More = sym (ap answerIn i) ∙ f .0 in let v : _≡_ {A = ℕ} 0 1 = cc in absurd (omega arith)
 
   idle-same : {img : List ℕ} {r q : Record} → Same img r q → q .phase ≡ Idle → r .phase ≡ Idle
   idle-same (resting h e) i = ap (λ (x : Record). x .phase) e ∙ i
-  idle-same (working x xs z h l f g) i = let w : Done ≡ More = sym (ap answerIn i) ∙ g .0 in let v : _≡_ {A = ℕ} 0 1 = cc in absurd (omega arith)
+  idle-same (working x xs z h f g) i = let w : Done ≡ More = sym (ap answerIn i) ∙ g .0 in let v : _≡_ {A = ℕ} 0 1 = cc in absurd (omega arith)
 
-  at-rest : (s : Phase) (img : List ℕ) (q : Record) (b : Book) → Rests s → AgreesIn N (exec N) s img q b → AgreesIn N m s img q b
-  at-rest Unmounted img q b h y = y
-  at-rest Idle img q b h y = y
-  at-rest (Busy s) img q b h y = absurd h
+  at-rest : (s : Phase) (a : Call) (img : List ℕ) (q : Record) (b : Book) → Rests s → AgreesIn N (exec N) a s img q b → AgreesIn N m a s img q b
+  at-rest Unmounted a img q b h y = y
+  at-rest Idle a img q b h y = y
+  at-rest (Busy s) a img q b h y = absurd h
 
-  agrees-over : (img : List ℕ) (r q : Record) (b : Book) → Same img r q → Agrees N (exec N) img q b → Agrees N m img r b
-  agrees-over img r q b (resting h e) y = subst (λ (x : Record). Agrees N m img x b) (sym e) (at-rest (q .phase) img q b h y)
-  agrees-over img r q b (working x xs z h l f g) y =
-      subst (λ (s : Phase). AgreesIn N m s img r b) (sym (more-busy (r .phase) (f .0) .is))
-      (record { plan = x ∷ xs; last = z; follows = f; rests = h; short = l })
+  agrees-over : (a : Call) (img : List ℕ) (r q : Record) (b : Book) → Same img r q → Ends N m a img r → Agrees N (exec N) a img q b → Agrees N m a img r b
+  agrees-over a img r q b (resting h e) d y = subst (λ (x : Record). Agrees N m a img x b) (sym e) (at-rest (q .phase) a img q b h y)
+  agrees-over a img r q b (working x xs z h f g) d y =
+      let e : r .phase ≡ Busy (more-busy (r .phase) (f .0) .stage) = more-busy (r .phase) (f .0) .is in
+      subst (λ (s : Phase). AgreesIn N m a s img r b) (sym e) (d (subst InJob (sym e) tt))
 
   answers-over : {o x : Out} → Both o x → o .answer ≡ x .answer
   answers-over y = ap (λ (s : Shown). s .answer) (y .same)
@@ -183,7 +168,7 @@ module _ {N : ℕ} {m : Machine} (p : Calls N m) where
     where
       busy : Same img r q → InJob (q .phase)
       busy (resting h e) = subst (λ (x : Record). InJob (x .phase)) e (c .in-job)
-      busy (working x xs z h l f g) = in-job (q .phase) (g .0)
+      busy (working x xs z h f g) = in-job (q .phase) (g .0)
 
   pub cut-bytes : {img : List ℕ} {r : Record} {b : Book} {k : ℕ} {new : List ℕ} → Bytes img → CutsErase N m img r b k new
       → Bytes (withBlock (sizeOf N img) k new img)
@@ -224,32 +209,39 @@ module _ {N : ℕ} {m : Machine} (p : Calls N m) where
   happens-over img r q b by v (cutErase k new g ∷ cutErase j more y ∷ es) (x, n, h) = absurd n
 
   -- a call that both answer alike says of the one what it says of the other, and so on from there
-  run-over : (img : List ℕ) (r q : Record) (b : Book) (u : Bool) → Bytes img → Same img r q → (es : List Event) → Happens N m img r b es
-      → Run N (exec N) img q b u es → Run N m img r b u es
-  run-over img r q b u by v [] h y = tt
-  run-over img r q b u by v (call c ∷ es) (bc, h) (s, y, z) =
+  run-over : (img : List ℕ) (r q : Record) (b : Book) (u : Bool) (a : Call) → Bytes img → Same img r q → Ends N m a img r → (es : List Event)
+      → Happens N m img r b es
+      → Run N (exec N) img q b u a es → Run N m img r b u a es
+  run-over img r q b u a by v t [] h y = tt
+  run-over img r q b u a by v t (call c ∷ es) (bc, h) (s, y, z) =
       let o : Out = m img r c in
       let x : Out = exec N img q c in
-      let w : Both o x = call-agrees p calls img by r q v c bc in (
+      let w : Both o x = call-agrees p calls img by r q v c bc in
+      let b′ : Book = enterCall b c (o .answer) in
+      let a′ : Call = begunBy a c (o .answer) in
+      let t′ : Ends N m a′ (o .image) (o .board) = call-ends p img by a r t c bc in (
         says-over N img r q b u c o x (w .same) (same-idle v) s,
-        agrees-over (o .image) (o .board) (x .board) (enterCall b c (o .answer)) (w .next)
-            (carry-back (λ i a. Agrees N (exec N) i (x .board) (enterCall b c a)) w y),
-        run-over (o .image) (o .board) (x .board) (enterCall b c (o .answer)) (track u b c (o .answer)) (w .bytes) (w .next) es h
-            (carry-back (λ i a. Run N (exec N) i (x .board) (enterCall b c a) (track u b c a) es) w z),
+        agrees-over a′ (o .image) (o .board) (x .board) b′ (w .next) t′
+            (carry-back (λ i d. Agrees N (exec N) (begunBy a c d) i (x .board) (enterCall b c d)) w y),
+        run-over (o .image) (o .board) (x .board) b′ (track u b c (o .answer)) a′ (w .bytes) (w .next) t′ es h
+            (carry-back (λ i d. Run N (exec N) i (x .board) (enterCall b c d) (track u b c d) (begunBy a c d) es) w z),
       )
-  run-over img r q b u by v (cutErase k new g ∷ []) (x, n, h) y = tt
-  run-over img r q b u by v (cutErase k new g ∷ call c ∷ es) (d, n, (bc, h)) (s, y, z) =
+  run-over img r q b u a by v t (cutErase k new g ∷ []) (x, n, h) y = tt
+  run-over img r q b u a by v t (cutErase k new g ∷ call c ∷ es) (d, n, (bc, h)) (s, y, z) =
       let i : List ℕ = withBlock (sizeOf N img) k new img in
       let o : Out = m i g c in
       let x : Out = exec N i g c in
-      let w : Both o x = begun-agrees p calls i g g c (cut-bytes by d) n in (
+      let w : Both o x = begun-agrees p calls i g g c (cut-bytes by d) n in
+      let b′ : Book = enterCall b c (o .answer) in
+      let a′ : Call = begunBy a c (o .answer) in
+      let t′ : Ends N m a′ (o .image) (o .board) = restart-ends p i (cut-bytes by d) a g c n in (
         says-over N i g g b u c o x (w .same) (λ e. e) s,
-        agrees-over (o .image) (o .board) (x .board) (enterCall b c (o .answer)) (w .next)
-            (carry-back (λ l a. Agrees N (exec N) l (x .board) (enterCall b c a)) w y),
-        run-over (o .image) (o .board) (x .board) (enterCall b c (o .answer)) (track u b c (o .answer)) (w .bytes) (w .next) es h
-            (carry-back (λ l a. Run N (exec N) l (x .board) (enterCall b c a) (track u b c a) es) w z),
+        agrees-over a′ (o .image) (o .board) (x .board) b′ (w .next) t′
+            (carry-back (λ l d. Agrees N (exec N) (begunBy a c d) l (x .board) (enterCall b c d)) w y),
+        run-over (o .image) (o .board) (x .board) b′ (track u b c (o .answer)) a′ (w .bytes) (w .next) t′ es h
+            (carry-back (λ l d. Run N (exec N) l (x .board) (enterCall b c d) (track u b c d) (begunBy a c d) es) w z),
       )
-  run-over img r q b u by v (cutErase k new g ∷ cutErase j more f ∷ es) (x, n, h) y = absurd n
+  run-over img r q b u a by v t (cutErase k new g ∷ cutErase j more f ∷ es) (x, n, h) y = absurd n
 
   steps-over : (n : ℕ) (o x : Out) → Both o x → Both (stepsOn m n o) (stepsOn (exec N) n x)
   steps-over zero o x w = w
@@ -273,13 +265,15 @@ module _ {N : ℕ} {m : Machine} (p : Calls N m) where
       let o : Out = formatted N m img r in
       let x : Out = formatted N (exec N) img r in
       let w : Both o x = formatted-over img r by in
-      let y = claim N img r by ok in (
+      let y = claim N img r by ok in
+      let i : o .board .phase ≡ Idle = idle-same (w .next) (y .1) in
+      let t : Ends N m format (o .image) (o .board) = idle-ends i in (
         answers-over w ∙ y .0,
-        idle-same (w .next) (y .1),
-        agrees-over (o .image) (o .board) (x .board) firstBook (w .next) (subst (λ (i : List ℕ). Agrees N (exec N) i (x .board) firstBook) (sym (w .image))
-            (y .2)),
-        (λ es h. run-over (o .image) (o .board) (x .board) firstBook false (w .bytes) (w .next) es h
-            (subst (λ (i : List ℕ). Run N (exec N) i (x .board) firstBook false es) (sym (w .image)) (y .3 es (happens-from img r by es h)))),
+        i,
+        agrees-over format (o .image) (o .board) (x .board) firstBook (w .next) t
+            (subst (λ (i : List ℕ). Agrees N (exec N) format i (x .board) firstBook) (sym (w .image)) (y .2)),
+        (λ es h. run-over (o .image) (o .board) (x .board) firstBook false format (w .bytes) (w .next) t es h
+            (subst (λ (i : List ℕ). Run N (exec N) i (x .board) firstBook false format es) (sym (w .image)) (y .3 es (happens-from img r by es h)))),
       )
 
   -- ---- what a run leaves
@@ -325,4 +319,6 @@ module _ {N : ℕ} {m : Machine} (p : Calls N m) where
       steps-over j (m (l .image) (l .board) format) (exec N (l .image) (k .board) format) (format-agrees p calls (l .image) (s .bytes) (l .board) (k .board)) in
       let e : stepsOn (exec N) j (exec N (k .image) (k .board) format) .image ≡ stepsOn m j (m (l .image) (l .board) format) .image =
       ap (λ (i : List ℕ). stepsOn (exec N) j (exec N i (k .board) format) .image) (sym (s .image)) ∙ sym (w .image) in
-      subst₂ (λ (b : Book) (i : List ℕ). Leaves N (b .objects) j i) (sym (s .book)) e (cut-format N img r es j by ok (happens-from img r by es hs) h)
+      subst (λ (b : List ℕ). Leaves N (l .book .objects) b j (stepsOn m j (m (l .image) (l .board) format) .image)) (sym (s .image))
+      (subst₂ (λ (b : Book) (i : List ℕ). Leaves N (b .objects) (k .image) j i) (sym (s .book)) e
+      (cut-format N img r es j by ok (happens-from img r by es hs) h))

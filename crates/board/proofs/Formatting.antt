@@ -6,13 +6,13 @@ use mathlib.Core.Bool.{Bool, true, false}
 use Prim.Native.Nat.{ℕ, zero, suc, _+_, _-_, _≤_, _<_}
 use native.Mathlib.Omega.{arith}
 use lib.Dec.{ltb}
-use lib.ListN.{length, getD, take, replicate, length-replicate}
-use lib.Seq.{take-all}
+use lib.ListN.{length, getD, take, replicate, length-replicate, length-map}
+use lib.Seq.{take-all, take-append-le, take-append-add}
 use borrow.Author.Tests.{ltb-true, ltb-false}
-use Rattle.flash.specs.Flash.{blockNumbers, Step, erase, eraseBlock, applyAll, block, Write, write, writeAll}
+use Rattle.flash.specs.Flash.{blockNumbers, Step, erase, eraseBlock, applyAll, block, Write, write, writes, writeAll}
 use Rattle.flash.proofs.Cases.{on-test}
 use Rattle.flash.proofs.Offsets.{Below}
-use Rattle.frame.specs.Frame.{Frame, total, AllMayStand, nextOf}
+use Rattle.frame.specs.Frame.{Frame, total, encodeAll, AllMayStand, nextOf}
 use Rattle.frame.specs.Reader.{clean}
 use Rattle.frame.proofs.Scanning.{scan-blank}
 use Rattle.journal.specs.Replay.{Object, state, replayFrom, isOpen}
@@ -29,8 +29,8 @@ use Rattle.board.proofs.Images.{Sized, size-of, sized-as, sized-last, a
 use Rattle.board.proofs.Lengths.{length-format}
 use Rattle.board.proofs.Invariant.{Valid, Quiet, Lessers, Safe, no-valid, some-valid, StepLands}
 use Rattle.board.proofs.Blocks.{Blocks}
-use Rattle.board.proofs.Order.{beside-of, but-besides, but-every, StateOf, Newest, order-last, order-blocks, order-every}
-use Rattle.board.proofs.Prefixes.{Each, each-append, each-one, each-writes, below-take}
+use Rattle.board.proofs.Order.{beside-of, but-besides, but-every, StateOf, Newest, length-order, order-last, order-blocks, order-every}
+use Rattle.board.proofs.Prefixes.{Each, each-append, each-one, each-writes, take-on, below-take}
 use Rattle.board.proofs.Current.{Alone, After, alone-after, alone-safe, blank-quiet}
 use Rattle.board.proofs.Erasing.{NoStore, safe-more, sized-erase, quiet-erase, erases-land, erases-blank, erases-guard, erases-alone}
 
@@ -105,9 +105,6 @@ module _ {N : ℕ} {s : ℕ} {img : List ℕ} (z : Sized N s img) where
       each-append s (StepLands s) (map erase (formatOrder N img)) (onBlock 0 (build 1 [])) img (erases-land s (formatOrder N img) img)
       (part-lands s 0 wiped (wiped-blank 0 (omega (arith, z .few))) 1 [] (none-fit z) tt)
 
-  abbrev Left : List Object → List ℕ → Type 0
-  Left os i = Safe N s i os false ⊎ NoStore N s i
-
   pub at-size : (P : BlockState → Type 0) (j : ℕ) → P (blockState (block s j img)) → P (StateOf N img j)
   at-size P j x = subst (λ (n : ℕ). P (blockState (block n j img))) (sym (size-of z)) x
 
@@ -126,37 +123,26 @@ module _ {N : ℕ} {s : ℕ} {img : List ℕ} (z : Sized N s img) where
 
   -- the current block is the last to be erased
   erases-last : {os : List Object} (k : ℕ) → k < N → (v : Valid s img k os) → Lessers N s img (v .time) k
-      → Each s (λ y i. Left os i) (map erase (numbersBut k (blockNumbers N) ++ (k ∷ []))) img
+      → Each s (λ y i. Safe N s i os false) (map erase (numbersBut k (blockNumbers N) ++ (k ∷ []))) img
   erases-last {os} k l v q =
       let ks : List ℕ = numbersBut k (blockNumbers N) in
       let alone : Alone N s (applyAll s (map erase ks) img) k (v .time) (v .frames) (v .tail) =
       erases-alone ks img z l (v .contents) (but-besides N k) (λ j h d. inr (but-every N k j h d)) in
-      subst (λ (p : List Step). Each s (λ y i. Left os i) p img) (sym (map-append erase ks (k ∷ [])))
-      (each-append s (λ y i. Left os i) (map erase ks) (erase k ∷ []) img
-      (λ j h. inl (erases-guard false k ks img z l (but-besides N k) v q j h .0))
-      (each-one s (λ y i. Left os i) (erase k) (applyAll s (map erase ks) img) (inl (alone-safe false alone (record { room = v .room; same = v .same })))))
+      subst (λ (p : List Step). Each s (λ y i. Safe N s i os false) p img) (sym (map-append erase ks (k ∷ [])))
+      (each-append s (λ y i. Safe N s i os false) (map erase ks) (erase k ∷ []) img
+      (λ j h. erases-guard false k ks img z l (but-besides N k) v q j h .0)
+      (each-one s (λ y i. Safe N s i os false) (erase k) (applyAll s (map erase ks) img)
+      (alone-safe false alone (record { room = v .room; same = v .same }))))
 
-  -- before each step the objects are there, or no store
-  format-leaves : {os : List Object} {u : Bool} → Safe N s img os u → Each s (λ y i. Left os i) (formatPlan N img) img
-  format-leaves {os} {u} f =
-      each-append s (λ y i. Left os i) (map erase (formatOrder N img)) (onBlock 0 (build 1 [])) img (erases f)
-      (each-writes s 0 (λ y i. Left os i) (build 1 []) (write 0 0) wiped (λ j h. inr (part-empty j h)))
-    where
-      erases : Safe N s img os u → Each s (λ y i. Left os i) (map erase (formatOrder N img)) img
-      erases (no-valid e q) = λ j h. inr (erases-empty (formatOrder N img) img z (order-blocks N img) q j h)
-      erases (some-valid k l v q) =
-          subst (λ (ks : List ℕ). Each s (λ y i. Left os i) (map erase ks) img) (sym (order-last (safe-newest k l v q))) (erases-last k l v q)
-
-  pub format-safe : {os : List Object} {u : Bool} → Safe N s img os u → Each s (λ y i. Safe N s i os true) (formatPlan N img) img
-  format-safe {os} f j h = go (format-leaves f j h)
-    where
-      go : Safe N s (applyAll s (take j (formatPlan N img)) img) os false ⊎ NoStore N s (applyAll s (take j (formatPlan N img)) img)
-          → Safe N s (applyAll s (take j (formatPlan N img)) img) os true
-      go (inl x) = safe-more true x
-      go (inr q) = no-valid refl q
+  -- up to the last erase the objects are there, or there was no store
+  erases-leave : {os : List Object} {u : Bool} → Safe N s img os u
+      → Each s (λ y i. Safe N s i os false ⊎ (NoStore N s img × NoStore N s i)) (map erase (formatOrder N img)) img
+  erases-leave (no-valid e q) j h = inr (q, erases-empty (formatOrder N img) img z (order-blocks N img) q j h)
+  erases-leave {os} (some-valid k l v q) j h =
+      inl (subst (λ (ks : List ℕ). Each s (λ y i. Safe N s i os false) (map erase ks) img) (sym (order-last (safe-newest k l v q))) (erases-last k l v q) j h)
 
   -- the empty store: one block, of time 1 and no frames
-  pub format-alone : Alone N s (applyAll s (formatPlan N img) img) 0 1 [] clean
+  format-alone : Alone N s (applyAll s (formatPlan N img) img) 0 1 [] clean
   format-alone =
       let ws : List Write = build 1 [] in
       let b : Below s ws = below-build s 1 [] (none-fit z) in
@@ -179,24 +165,65 @@ module _ {N : ℕ} {s : ℕ} {img : List ℕ} (z : Sized N s img) where
 
 -- "On an image the store left, a cut format leaves the old settled objects, no store, or the empty store": after j of the steps.
 -- A mount finds the objects where an image is safe and no format is unfinished.
-pub data FormatCut (N : ℕ) (s : ℕ) (img : List ℕ) (os : List Object) (j : ℕ) : Type 0 where
-  old-objects : Safe N s img os false → FormatCut N s img os j
-  no-store : NoStore N s img → FormatCut N s img os j
-  empty-store : j ≡ N + 10 → Alone N s img 0 1 [] clean → FormatCut N s img os j
+pub data FormatCut (N : ℕ) (s : ℕ) (img : List ℕ) (os : List Object) (j : ℕ) (after : List ℕ) : Type 0 where
+  old-objects : j < N → Safe N s after os false → FormatCut N s img os j after
+  still-none : j < N → NoStore N s img → NoStore N s after → FormatCut N s img os j after
+  no-store : N ≤ j → j < N + 10 → NoStore N s after → FormatCut N s img os j after
+  empty-store : j ≡ N + 10 → Alone N s after 0 1 [] clean → FormatCut N s img os j after
 
-pub format-cut : {N : ℕ} {s : ℕ} {img : List ℕ} {os : List Object} {u : Bool} → Sized N s img → Safe N s img os u → (j : ℕ) → j ≤ length (formatPlan N img)
-    → FormatCut N s (applyAll s (take j (formatPlan N img)) img) os j
-format-cut {N} {s} {img} {os} z f j h =
-    on-test (ltb j (length (formatPlan N img)))
-    (λ t. early (format-leaves z f j (ltb-true j (length (formatPlan N img)) t)))
-    (λ t. last (omega (arith, ltb-false j (length (formatPlan N img)) t)))
-  where
-    early : Safe N s (applyAll s (take j (formatPlan N img)) img) os false ⊎ NoStore N s (applyAll s (take j (formatPlan N img)) img)
-        → FormatCut N s (applyAll s (take j (formatPlan N img)) img) os j
-    early (inl x) = old-objects x
-    early (inr q) = no-store q
+module _ {N : ℕ} {s : ℕ} {img : List ℕ} {os : List Object} {u : Bool} (z : Sized N s img) (f : Safe N s img os u) where
+  abbrev erases : List Step
+  erases = map erase (formatOrder N img)
 
-    last : j ≡ length (formatPlan N img) → FormatCut N s (applyAll s (take j (formatPlan N img)) img) os j
-    last e =
-        empty-store (e ∙ length-format N img)
-        (subst (λ (p : List Step). Alone N s (applyAll s p img) 0 1 [] clean) (sym (take-all j (formatPlan N img) (omega arith))) (format-alone z))
+  abbrev writing : List Step
+  writing = onBlock 0 (build 1 [])
+
+  length-erases : length erases ≡ N
+  length-erases = length-map (formatOrder N img) erase ∙ length-order N img
+
+  length-writing : length (build 1 []) ≡ 10
+  unfolding encodeAll writes
+  length-writing = refl
+
+  abbrev Cut : ℕ → List ℕ → Type 0
+  Cut j i = FormatCut N s img os j i
+
+  -- before the last erase
+  cut-early : (j : ℕ) → j < N → Cut j (applyAll s (take j (formatPlan N img)) img)
+  cut-early j h =
+      subst (λ (p : List Step). Cut j (applyAll s p img)) (sym (take-append-le j erases writing (omega (arith, length-erases))))
+      (go (erases-leave z f j (omega (arith, length-erases))))
+    where
+      go : Safe N s (applyAll s (take j erases) img) os false ⊎ (NoStore N s img × NoStore N s (applyAll s (take j erases) img))
+          → Cut j (applyAll s (take j erases) img)
+      go (inl x) = old-objects h x
+      go (inr (p, q)) = still-none h p q
+
+  -- after it
+  cut-late : (n : ℕ) → n < 10 → Cut (N + n) (applyAll s (take (N + n) (formatPlan N img)) img)
+  cut-late n h =
+      subst (Cut (N + n))
+      (sym (ap (λ (k : ℕ). applyAll s (take (k + n) (formatPlan N img)) img) (sym length-erases)
+      ∙ ap (λ (p : List Step). applyAll s p img) (take-append-add erases writing n ∙ ap (λ (p : List Step). erases ++ p) (take-on 0 n (build 1 [])))
+      ∙ apply-append s erases (onBlock 0 (take n (build 1 []))) img))
+      (no-store (omega arith) (omega arith) (part-empty z n (omega (arith, length-writing))))
+
+  pub format-cut : (j : ℕ) → j ≤ N + 10 → Cut j (applyAll s (take j (formatPlan N img)) img)
+  format-cut j h =
+      on-test (ltb j N)
+      (λ t. cut-early j (ltb-true j N t))
+      (λ t. on-test (ltb j (N + 10))
+      (λ w. let e : N + (j - N) ≡ j = omega (arith, ltb-false j N t) in
+      subst (λ (k : ℕ). Cut k (applyAll s (take k (formatPlan N img)) img)) e (cut-late (j - N) (omega (arith, ltb-true j (N + 10) w, ltb-false j N t))))
+      (λ w. empty-store (omega (arith, ltb-false j (N + 10) w))
+      (subst (λ (p : List Step). Alone N s (applyAll s p img) 0 1 [] clean)
+      (sym (take-all j (formatPlan N img) (omega (arith, length-format N img, ltb-false j (N + 10) w)))) (format-alone z))))
+
+  pub format-safe : Each s (λ y i. Safe N s i os true) (formatPlan N img) img
+  format-safe j h = go (format-cut j (omega (arith, length-format N img)))
+    where
+      go : Cut j (applyAll s (take j (formatPlan N img)) img) → Safe N s (applyAll s (take j (formatPlan N img)) img) os true
+      go (old-objects l x) = safe-more true x
+      go (still-none l p q) = no-valid refl q
+      go (no-store l k q) = no-valid refl q
+      go (empty-store e y) = absurd (omega (arith, length-format N img))

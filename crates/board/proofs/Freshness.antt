@@ -1,16 +1,16 @@
 -- Refusal 11: `held` finds exactly what document 01 asks for.
-use mathlib.Core.Path.{_≡_, refl, sym, ap, _∙_}
+use mathlib.Core.Path.{_≡_, sym, ap, _∙_}
 use mathlib.Core.List.{List}
 use mathlib.Core.Option.{some}
-use mathlib.Core.Bool.{Bool, true, _&&_, _||_}
+use mathlib.Core.Bool.{Bool, true, _&&_}
 use Prim.Native.Nat.{ℕ, suc, _+_, _*_, _≤_, _<_}
 use native.Mathlib.Omega.{arith}
 use lib.Dec.{eqb, ltb, leb}
 use lib.ListN.{length, replicate}
-use borrow.Author.Tests.{eqb-true, eqb-false, eq-eqb, leb-true, le-leb, ltb-true, lt-ltb}
+use borrow.Author.Tests.{eqb-true, eq-eqb, leb-true, le-leb, ltb-true, lt-ltb}
 use Rattle.flash.specs.Bytes.{Bytes, allFF}
 use Rattle.flash.specs.Flash.{blockNumbers, block, sizeOf}
-use Rattle.flash.proofs.Cases.{and-both, and-left, and-right, or-left, or-right, on-test}
+use Rattle.flash.proofs.Cases.{and-both, and-left, and-right}
 use Rattle.flash.proofs.Blank.{is-ff}
 use Rattle.flash.proofs.Image.{length-block, bytes-block}
 use Rattle.frame.specs.Frame.{endLen}
@@ -32,6 +32,7 @@ use Rattle.board.proofs.Blocks.{others-are}
 use Rattle.board.proofs.Pipeline.{same-shape}
 use Rattle.board.proofs.Invariant.{Ready}
 use Rattle.board.proofs.Holding.{Passed, passed, held-inv}
+use Rattle.board.proofs.Replies.{heldOf, held-ready}
 
 blank-means : (l : List ℕ) → Blank l → allFF l ≡ true
 blank-means l e = is-ff l e
@@ -98,3 +99,10 @@ module _ (N : ℕ) (img : List ℕ) (r : Record) (x : Held) (by : Bytes img) (ok
 pub fresh-exact : FreshExact
 unfolding FreshExact
 fresh-exact N img r x by ok = (held-fresh N img r x by ok, fresh-held N img r x by ok)
+
+pub fresh-valid : (N : ℕ) (img : List ℕ) (r : Record) (x : Held) → Bytes img → allowed N (length img) ≡ true → Fresh N img r x
+    → blockState (block (sizeOf N img) (r .block) img) ≡ valid (x .time) (x .frames) clean
+fresh-valid N img r x by ok y = passed (sized-of N img ok) (fresh-held N img r x by ok y) .is-valid
+
+pub ready-fresh : {N : ℕ} {s : ℕ} {img : List ℕ} {r : Record} → Sized N s img → Bytes img → (y : Ready N s img r) → Fresh N img r (heldOf y)
+ready-fresh {N} {s} {img} {r} z by y = held-fresh N img r (heldOf y) by (z .ok) (held-ready z y)

@@ -115,7 +115,6 @@ pub record InJob (N : ℕ) (s : ℕ) (P : Step → List ℕ → Type 0) (Q : Lis
   pub now : img ≡ applyAll s (take count plan) start
   pub follows : Follows N (exec N) img r (drop count plan) last
   pub begun : count < length plan
-  pub short : length plan ≤ s + N
   pub each : (j : ℕ) → j < length plan → P (getD plan j (erase 0)) (applyAll s (take j plan) start)
   pub ends : Q (applyAll s plan start) last
   pub rests : last .phase ≡ Idle

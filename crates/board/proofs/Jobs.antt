@@ -2,7 +2,7 @@
 use mathlib.Core.Path.{_≡_, refl, sym, ap, subst, _∙_}
 use mathlib.Core.List.{List, [], _∷_}
 use mathlib.Core.Logic.{_⊎_, inl, inr}
-use Prim.Native.Nat.{ℕ, suc, _+_, _≤_, _<_}
+use Prim.Native.Nat.{ℕ, suc, _≤_, _<_}
 use native.Mathlib.Omega.{arith}
 use lib.Dec.{ltb}
 use lib.ListN.{length, getD, take, drop, drop-of-length-le}
@@ -78,7 +78,6 @@ job-step {N} {s} {P} {Q} {img} {r} z y =
               now = i;
               follows = f .2;
               begun = h;
-              short = y .short;
               each = y .each;
               ends = y .ends;
               rests = y .rests;
@@ -101,17 +100,17 @@ Begun N s P Q img r = ((answerOf r ≡ More) × InJob N s P Q img r) ⊎ ((answe
 
 -- a plan with steps is begun
 pub job-starts : {N : ℕ} {s : ℕ} {P : Step → List ℕ → Type 0} {Q : List ℕ → Record → Type 0} (img : List ℕ) (r : Record) (plan : List Step) (last : Record)
-    → Follows N (exec N) img r plan last → 0 < length plan → length plan ≤ s + N → Each s P plan img → Q (applyAll s plan img) last → last .phase ≡ Idle
+    → Follows N (exec N) img r plan last → 0 < length plan → Each s P plan img → Q (applyAll s plan img) last → last .phase ≡ Idle
     → (answerOf r ≡ More) × InJob N s P Q img r
 unfolding applyAll
-job-starts img r [] last f n h e q i = absurd (omega arith)
-job-starts img r (x ∷ xs) last f n h e q i = (
+job-starts img r [] last f n e q i = absurd (omega arith)
+job-starts img r (x ∷ xs) last f n e q i = (
   f .0,
-  record { start = img; plan = x ∷ xs; last = last; count = 0; now = refl; follows = f; begun = n; short = h; each = e; ends = q; rests = i },
+  record { start = img; plan = x ∷ xs; last = last; count = 0; now = refl; follows = f; begun = n; each = e; ends = q; rests = i },
 )
 
 pub job-begins : {N : ℕ} {s : ℕ} {P : Step → List ℕ → Type 0} {Q : List ℕ → Record → Type 0} (img : List ℕ) (r : Record) (plan : List Step) (last : Record)
-    → Follows N (exec N) img r plan last → length plan ≤ s + N → Each s P plan img → Q (applyAll s plan img) last → last .phase ≡ Idle → Begun N s P Q img r
+    → Follows N (exec N) img r plan last → Each s P plan img → Q (applyAll s plan img) last → last .phase ≡ Idle → Begun N s P Q img r
 unfolding applyAll
-job-begins {N} {s} {P} {Q} img r [] last f h e q i = inr (idle-done (r .phase) (ap (λ (x : Record). x .phase) f ∙ i), subst (Q img) (sym f) q)
-job-begins {N} {s} {P} {Q} img r (x ∷ xs) last f h e q i = inl (job-starts img r (x ∷ xs) last f (omega arith) h e q i)
+job-begins {N} {s} {P} {Q} img r [] last f e q i = inr (idle-done (r .phase) (ap (λ (x : Record). x .phase) f ∙ i), subst (Q img) (sym f) q)
+job-begins {N} {s} {P} {Q} img r (x ∷ xs) last f e q i = inl (job-starts img r (x ∷ xs) last f (omega arith) e q i)

@@ -55,6 +55,7 @@ pub mod Answering  -- answers: numbers, lines, what they tell
 pub mod Telling  -- the answer tells the record
 pub mod Promising  -- the machine keeps each clause
 pub mod Determining  -- the clauses settle all that a machine shows
+pub mod Finishing  -- the job that a call began can be finished, in so many steps
 pub mod Limits  -- demand 2 of any machine that keeps the table: room and wear
 pub mod Clearing  -- programming only clears bits
 pub mod Following  -- the k-th step, demand 3 and a cut format, of any machine that keeps the clauses

@@ -36,11 +36,12 @@ use Rattle.board.specs.Queue.{Held, held, needsRoom, placeOf, append, se
 use Rattle.board.specs.Exec.{Call, request, step, mount, format, exec}
 use Rattle.board.specs.Plan.{Follows, formatPlan, mountPlan, mountedAt, framePlan, framedAt}
 use Rattle.board.specs.Table.{frameFor, frameIf, Fresh, FreshExact, Exactly, linesOf}
+use Rattle.board.specs.Demand1.{Short}
 use Rattle.board.specs.Demand2.{Accepted, Mounts, OneStore}
 use Rattle.board.specs.Claim.{ByteCall}
 use Rattle.wire.specs.Sentences.{Means, MessagesExact}
 use Rattle.board.specs.Sentences.{StretchExact}
-use Rattle.board.specs.Promise.{Short, Answers, replyFor, Stands, HandsBack, Serves, Current, Job, frame-job, mount-job, format-job, Calls}
+use Rattle.board.specs.Promise.{Answers, replyFor, Stands, HandsBack, Serves, Current, Job, frame-job, mount-job, format-job, Calls}
 use Rattle.board.proofs.Checks.{roomRule}
 use Rattle.board.proofs.Images.{sized-of}
 use Rattle.board.proofs.Refusals.{refusals-untouched, at-most-one-step}

@@ -70,11 +70,7 @@ frame-starts {N} {s} {P} {Q} {img} r x f z h y each ends idle =
     job-starts img (enterWipe (appendJob N img r x f)) (framePlan N (needsRoom N img r f) (r .block) (r .end) x f)
     (framedAt N (needsRoom N img r f) (r .last) (r .block) (r .end) x f)
     (follows-frame img r x f (z .count) (h .long) (h .blocks) (h .alone .there) j (sym (h .ends)) (omega (arith, y .fits, size-of z)))
-    (frame-some N (needsRoom N img r f) (r .block) (r .end) x f) (omega (
-      arith,
-      frame-short N (needsRoom N img r f) s (r .block) (r .end) x f
-          (y .fits),
-    )) each ends idle
+    (frame-some N (needsRoom N img r f) (r .block) (r .end) x f) each ends idle
 
 -- ---- serving one request on an idle record of a run
 

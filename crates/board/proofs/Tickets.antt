@@ -12,13 +12,13 @@ use lib.ListN.{length}
 use lib.Seq.{take-all}
 use borrow.Author.Tests.{ltb-true, ltb-false}
 use Rattle.flash.specs.Bytes.{Bytes}
-use Rattle.flash.specs.Flash.{sizeIn, Step, applyAll, block, sizeOf}
+use Rattle.flash.specs.Flash.{Step, applyAll, block, sizeOf}
 use Rattle.flash.proofs.Cases.{on-test}
 use Rattle.frame.specs.declared.Host.{Host}
 use Rattle.frame.specs.Frame.{Frame, Change}
 use Rattle.frame.specs.Reader.{clean}
 use Rattle.journal.specs.Replay.{Object, State, replay, changeAll}
-use Rattle.journal.specs.Block.{BlockState, blockState}
+use Rattle.journal.specs.Block.{blockState}
 use Rattle.wire.specs.declared.Answer.{Answer}
 use Rattle.wire.specs.declared.Answer.the-variants.{Done, More, Refused}
 use Rattle.wire.specs.declared.Request.{Request}
@@ -33,7 +33,7 @@ use Rattle.board.specs.Mount.{allFound, Store, needsTransfer}
 use Rattle.board.specs.Queue.{Held, needsRoom}
 use Rattle.board.specs.Exec.{Machine, Call, request, step, mount, format}
 use Rattle.board.specs.Plan.{mountPlan, mountedAt, framePlan, framedAt}
-use Rattle.board.specs.Table.{frameFor}
+use Rattle.board.specs.Table.{frameFor, Fresh}
 use Rattle.board.specs.Demand1.{Unchanged, Rests}
 use Rattle.board.specs.Demand2.{Mounts, OneStore}
 use Rattle.board.specs.Book.{Book, book, nothing, noLists, withList, firstBook, enterStep, enterRequest, enterParsed}
@@ -45,12 +45,13 @@ use Rattle.board.specs.Promise.{Answers, Serves, Job, frame-job, mount-j
 use Rattle.board.specs.Tickets.{outcomes, strike, IsRefused, MarksRefused, Restores, committing, TicketsSettled}
 use Rattle.wire.proofs.Sentences.{messages-exact}
 use Rattle.board.proofs.Erasing.{SameValid, same-valid}
-use Rattle.board.proofs.Images.{length-all-steps}
+use Rattle.board.proofs.Images.{length-all-steps, bytes-all-steps}
+use Rattle.board.proofs.Freshness.{fresh-valid}
 use Rattle.board.proofs.Demand2.{one-store}
 use Rattle.board.proofs.Answering.{number-done}
 use Rattle.board.proofs.TablingMounts.{Mountable, mounts-current, same-store}
-use Rattle.board.proofs.Determining.{short-most, Asked, request-asks, mount-takes, mount-allowed, mount-agrees}
-use Rattle.board.proofs.Following.{left-by, job-idle, mounted-idle}
+use Rattle.board.proofs.Determining.{mounted-idle, job-idle, Asked, request-asks, mount-takes, mount-allowed, mount-agrees}
+use Rattle.board.proofs.Following.{left-by}
 use Rattle.board.proofs.Runs.{stepping, after-append, HappensAfter, happens-append, happens-first, happens-rest, steps-happen, run-rest, steps-agree}
 
 -- ---- 1
@@ -212,7 +213,7 @@ book-steps {N} {m} p i bi w h msg reply bm e b k = go (frameFor h msg x q) refl 
 
 -- a mount of image i, whose steps leave a record that agrees with the objects os
 module _ {N : ℕ} {m : Machine} (p : Promise N m) (i : List ℕ) (bi : Bytes i) (w : Record) (os : List Object)
-    (agrees : (n : ℕ) → let o : Out = stepsOn m n (m i w mount) in Agrees N m (o .image) (o .board) (book os noLists nothing))
+    (agrees : (n : ℕ) → let o : Out = stepsOn m n (m i w mount) in Agrees N m mount (o .image) (o .board) (book os noLists nothing))
     (q : Record) (a : Accepted (m i q mount .answer)) where
   store : Mountable N i
   store = mount-takes (p .calls) i bi q a
@@ -243,9 +244,9 @@ module _ {N : ℕ} {m : Machine} (p : Promise N m) (i : List ℕ) (bi : Bytes i)
 
   idle-agrees : IdleAgrees N after z (book os noLists nothing)
   idle-agrees =
-      subst (λ (h : Phase). AgreesIn N m h after z (book os noLists nothing))
+      subst (λ (h : Phase). AgreesIn N m mount h after z (book os noLists nothing))
       (mounted-idle N (needsTransfer (store .store .frames) (store .store .tail)) (length i - 1) (store .store))
-      (subst₂ (λ (l : List ℕ) (v : Record). Agrees N m l v (book os noLists nothing)) (image-after w accepted-too) (steps w accepted-too .last)
+      (subst₂ (λ (l : List ℕ) (v : Record). Agrees N m mount l v (book os noLists nothing)) (image-after w accepted-too) (steps w accepted-too .last)
       (agrees (length plan)))
 
   none-pending : replay (idle-agrees .frames) .pending ≡ []
@@ -255,11 +256,11 @@ module _ {N : ℕ} {m : Machine} (p : Promise N m) (i : List ℕ) (bi : Bytes i)
       let y : Mounts N m i (m i q mount) = p .one-store i q bi ok a in
       let e : y .store ≡ store .store = same-store i bi ok (y .store) (store .store) (mounts-current i bi ok (m i q mount) y) (store .current) in
       let f : y .last ≡ z = y .is-last ∙ ap (λ (s : Store). mountedAt N (needsTransfer (s .frames) (s .tail)) (length i - 1) s) e in
-      let left : Store → Record → BlockState =
-      λ s v. blockState (block (sizeOf N i) (v .block) (applyAll (sizeOf N i) (mountPlan N (allFound N i) s) i)) in
-      let g : SameValid (y .time) (y .frames) clean (idle-agrees .time) (idle-agrees .frames) clean =
-      same-valid (sym (y .leaves) ∙ ap₂ left e f
-      ∙ sym (ap (λ (n : ℕ). blockState (block (sizeIn N n) (z .block) after)) (length-all-steps (sizeOf N i) plan i)) ∙ idle-agrees .is-valid) in
+      let fresh : Fresh N after z (y .holding) =
+      subst₂ (λ (s : Store) (v : Record). Fresh N (applyAll (sizeOf N i) (mountPlan N (allFound N i) s) i) v (y .holding)) e f (y .is-fresh) in
+      let g : SameValid (y .holding .time) (y .holding .frames) clean (idle-agrees .time) (idle-agrees .frames) clean =
+      same-valid (sym (fresh-valid N after z (y .holding) (bytes-all-steps (sizeOf N i) plan i bi)
+      (ap (allowed N) (length-all-steps (sizeOf N i) plan i) ∙ ok) fresh) ∙ idle-agrees .is-valid) in
       sym (ap (λ (fs : List Frame). replay fs .pending) (g .frames)) ∙ ap (λ (s : State). s .pending) (y .holds)
 
   mount-restores : Restores N m (m i q mount) os
@@ -267,7 +268,7 @@ module _ {N : ℕ} {m : Machine} (p : Promise N m) (i : List ℕ) (bi : Bytes i)
       record {
         count = length plan;
         short = subst (λ (l : List ℕ). length plan ≤ sizeOf N l + N) (sym (p .calls .one-step i q mount))
-            (short-most N (sizeOf N i) plan mount (p .calls .jobs i q mount plan z bi tt (job q) a .1));
+            (let l = p .calls .jobs i q mount plan z bi tt (job q) a .1 in omega (arith, l .0, l .1));
         more = steps q a .more;
         done = steps q a .done;
         time = idle-agrees .time;
@@ -281,7 +282,7 @@ module _ {N : ℕ} {m : Machine} (p : Promise N m) (img : List ℕ) (r : Record)
   -- a run that goes on with a mount and n of its steps
   mounted-agrees : (es : List Event) → HappensFrom N m img r es → (n : ℕ)
       → let x : Left = leftBy N m img r es in let o : Out = stepsOn m n (m (x .image) (x .board) mount) in
-      Agrees N m (o .image) (o .board) (book (x .book .objects) noLists nothing)
+      Agrees N m mount (o .image) (o .board) (book (x .book .objects) noLists nothing)
   unfolding Claim
   mounted-agrees es hs n =
       let x : Left = leftBy N m img r es in
@@ -290,9 +291,9 @@ module _ {N : ℕ} {m : Machine} (p : Promise N m) (img : List ℕ) (r : Record)
       let ds : List Event = call mount ∷ stepping n in
       let all : HappensFrom N m img r (es ++ ds) =
       happens-append N m (formatted N m img r .image) (formatted N m img r .board) firstBook es ds hs tt (tt, steps-happen N m n (o .image) (o .board) b) in
-      let y = run-rest N m (formatted N m img r .image) (formatted N m img r .board) firstBook false es ds (p .claim img r by ok .3 (es ++ ds) all) in
-      subst (λ (l : Left). Agrees N m (l .image) (l .board) (l .book)) (quiet-steps N m n o (x .book .objects) noLists)
-      (steps-agree N m n (o .image) (o .board) b (track (y .0) (x .book) mount (o .answer)) (y .1 .1) (y .1 .2))
+      let y = run-rest N m (formatted N m img r .image) (formatted N m img r .board) firstBook false format es ds (p .claim img r by ok .3 (es ++ ds) all) in
+      subst (λ (l : Left). Agrees N m mount (l .image) (l .board) (l .book)) (quiet-steps N m n o (x .book .objects) noLists)
+      (steps-agree N m n (o .image) (o .board) b (track (y .0) (x .book) mount (o .answer)) mount (y .2 .1) (y .2 .2))
 
   restores : (es : List Event) → HappensFrom N m img r es → (q : Record) → let x : Left = leftBy N m img r es in
       Accepted (m (x .image) q mount .answer) → Restores N m (m (x .image) q mount) (x .book .objects)

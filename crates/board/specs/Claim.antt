@@ -33,6 +33,7 @@ use Rattle.board.specs.Mount.{needsTransfer}
 use Rattle.board.specs.Exec.{Call, request, step, mount, format, Machine}
 use Rattle.board.specs.Plan.{Follows}
 use Rattle.board.specs.Table.{InJob}
+use Rattle.board.specs.Demand1.{Short}
 use Rattle.board.specs.Book.{Book, UnderWay, nothing, committing, formatting, firstBook, enterCall}
 
 -- ---- between calls
@@ -47,22 +48,23 @@ pub record IdleAgrees (N : ℕ) (img : List ℕ) (r : Record) (b : Book) : Type 
   -- when nothing is pending there is room for a delete and its commit
   pub room : replay frames .pending ≡ [] → used (replay frames) + (deleteLen + endLen) ≤ sizeOf N img
 
--- a job whose steps are all made ends idle, after at most S of them and, for a mount, N erases (K14: "Demand 1's bound leaves a mount's erases aside")
-pub record Finishes (N : ℕ) (m : Machine) (img : List ℕ) (r : Record) : Type 0 where
+-- a job that call c began ends idle once its steps are all made, and they are few: a request's and a format's at most S, a mount's at most S
+-- and its erases
+pub record Finishes (N : ℕ) (m : Machine) (c : Call) (img : List ℕ) (r : Record) : Type 0 where
   pub plan : List Step
   pub last : Record
   pub follows : Follows N m img r plan last
   pub rests : last .phase ≡ Idle
-  pub short : length plan ≤ sizeOf N img + N
+  pub short : Short N (sizeOf N img) plan c
 
--- "after each call in it that gives back an idle record"; beyond the letter, a job under way can be finished
-abbrev pub AgreesIn : ℕ → Machine → Phase → List ℕ → Record → Book → Type 0
-AgreesIn N m Unmounted img r b = Unit {0}
-AgreesIn N m Idle img r b = IdleAgrees N img r b
-AgreesIn N m (Busy s) img r b = Finishes N m img r
+-- "after each call in it that gives back an idle record"; beyond the letter, a job under way, which call c began, can be finished
+abbrev pub AgreesIn : ℕ → Machine → Call → Phase → List ℕ → Record → Book → Type 0
+AgreesIn N m c Unmounted img r b = Unit {0}
+AgreesIn N m c Idle img r b = IdleAgrees N img r b
+AgreesIn N m c (Busy s) img r b = Finishes N m c img r
 
-abbrev pub Agrees : ℕ → Machine → List ℕ → Record → Book → Type 0
-Agrees N m img r b = AgreesIn N m (r .phase) img r b
+abbrev pub Agrees : ℕ → Machine → Call → List ℕ → Record → Book → Type 0
+Agrees N m c img r b = AgreesIn N m c (r .phase) img r b
 
 -- ---- what a call says of the book's objects
 
@@ -141,6 +143,15 @@ track u b step a = trackStep u (b .under) a
 track u b mount a = trackMount u a
 track u b format a = trackFormat u a
 
+-- the call that began the job under way, after a call: the last request that was answered more, mount or format
+abbrev pub begunBy : Call → Call → Answer → Call
+begunBy a (request h m reply) Done = a
+begunBy a (request h m reply) More = request h m reply
+begunBy a (request h m reply) (Refused n) = a
+begunBy a step x = a
+begunBy a mount x = mount
+begunBy a format x = format
+
 -- ---- the list
 
 -- messages are bytes
@@ -188,14 +199,16 @@ Happens N m img r b (cutErase k new q ∷ es) =
 
 -- ---- the run
 
--- the claim from an image, a record, a book: what each call says, and that after it the record agrees with the book
-abbrev pub Run : ℕ → Machine → List ℕ → Record → Book → Bool → List Event → Type 0
-Run N m img r b u [] = Unit {0}
-Run N m img r b u (call c ∷ es) =
+-- the claim from an image, a record, a book, and call a that began the job under way: what each call says, and that after it the record
+-- agrees with the book
+abbrev pub Run : ℕ → Machine → List ℕ → Record → Book → Bool → Call → List Event → Type 0
+Run N m img r b u a [] = Unit {0}
+Run N m img r b u a (call c ∷ es) =
     let o : Out = m img r c in
     let b′ : Book = enterCall b c (o .answer) in
-    Says N img r b u c o × Agrees N m (o .image) (o .board) b′ × Run N m (o .image) (o .board) b′ (track u b c (o .answer)) es
-Run N m img r b u (cutErase k new q ∷ es) = Run N m (withBlock (sizeOf N img) k new img) q b u es
+    let a′ : Call = begunBy a c (o .answer) in
+    Says N img r b u c o × Agrees N m a′ (o .image) (o .board) b′ × Run N m (o .image) (o .board) b′ (track u b c (o .answer)) a′ es
+Run N m img r b u a (cutErase k new q ∷ es) = Run N m (withBlock (sizeOf N img) k new img) q b u a es
 
 -- "whose steps too each got what the call before gave back"
 abbrev pub stepsOn : Machine → ℕ → Out → Out
@@ -215,5 +228,5 @@ unfoldable pub Claim : ℕ → Machine → Type 0
 Claim N m =
     (img : List ℕ) (r : Record) → Bytes img → allowed N (length img) ≡ true
     → let o : Out = formatted N m img r in
-    (o .answer ≡ Done) × (o .board .phase ≡ Idle) × Agrees N m (o .image) (o .board) firstBook
-    × ((es : List Event) → HappensFrom N m img r es → Run N m (o .image) (o .board) firstBook false es)
+    (o .answer ≡ Done) × (o .board .phase ≡ Idle) × Agrees N m format (o .image) (o .board) firstBook
+    × ((es : List Event) → HappensFrom N m img r es → Run N m (o .image) (o .board) firstBook false format es)

@@ -72,14 +72,17 @@ pub record EmptyStore (N : ℕ) (img : List ℕ) : Type 0 where
   pub first : blockState (block (sizeOf N img) 0 img) ≡ valid 1 [] clean
   pub others : (j : ℕ) → j < N → (j ≡ 0 → ⊥) → blockState (block (sizeOf N img) j img) ≡ blank
 
--- after j of the N + 10 steps, on an image that held these objects
-pub data Leaves (N : ℕ) (os : List Object) (j : ℕ) (img : List ℕ) : Type 0 where
-  old-objects : j < N + 10 → OldObjects N img os → Leaves N os j img
-  no-store : j < N + 10 → NoStore N img → Leaves N os j img
-  empty-store : j ≡ N + 10 → EmptyStore N img → Leaves N os j img
+-- after j of a format's N + 10 steps, N erases and ten for the header, on an image that held these objects: the objects before the last erase,
+-- no store from there to the last step but one, the empty store after the last. Where an earlier format was cut and left no store, there is
+-- none before the last erase either
+pub data Leaves (N : ℕ) (os : List Object) (before : List ℕ) (j : ℕ) (img : List ℕ) : Type 0 where
+  old-objects : j < N → OldObjects N img os → Leaves N os before j img
+  still-none : j < N → NoStore N before → NoStore N img → Leaves N os before j img
+  no-store : N ≤ j → j < N + 10 → NoStore N img → Leaves N os before j img
+  empty-store : j ≡ N + 10 → EmptyStore N img → Leaves N os before j img
 
 -- for every run and every cut, before the first step and after the last too
 unfoldable pub CutFormat : ℕ → Machine → Type 0
 CutFormat N m =
     (img : List ℕ) (r : Record) (es : List Event) (j : ℕ) → Bytes img → allowed N (length img) ≡ true → HappensFrom N m img r es → j ≤ N + 10
-    → let x : Left = leftBy N m img r es in Leaves N (x .book .objects) j (stepsOn m j (m (x .image) (x .board) format) .image)
+    → let x : Left = leftBy N m img r es in Leaves N (x .book .objects) (x .image) j (stepsOn m j (m (x .image) (x .board) format) .image)

@@ -1,9 +1,10 @@
--- Demand 1, what the promise says it with: what a refusal hands back, what one call may do to the image, and when a forged record has
--- ended. The machine is a function, so that every call is answered is its type.
+-- Demand 1, what the promise says it with: what a refusal hands back, what one call may do to the image, how many steps a job may take, and
+-- when a forged record has ended. The machine is a function, so that every call is answered is its type.
 use mathlib.Core.List.{List, []}
 use mathlib.Core.Logic.{_⊎_}
 use mathlib.Core.Path.{_≡_}
-use Prim.Native.Nat.{ℕ, zero, suc, _<_}
+use Prim.Native.Nat.{ℕ, zero, suc, _+_, _≤_, _<_}
+use lib.ListN.{length}
 use Rattle.flash.specs.Flash.{Step, apply, sizeOf}
 use Rattle.wire.specs.declared.Answer.the-variants.{Refused}
 use Rattle.wire.specs.declared.Refusal.{Refusal}
@@ -13,6 +14,7 @@ use Rattle.board.specs.declared.Phase.the-variants.{Unmounted, Idle, Bus
 use Rattle.board.specs.declared.Record.{Record}
 use Rattle.board.specs.Record.{unmounted, Out, out}
 use Rattle.board.specs.Exec.{Call, request, step, mount, format, Machine}
+use Rattle.board.specs.Plan.{programs}
 
 -- "Every refusal takes no step and changes no byte of image, reply or record; a refused mount or format hands back an unmounted record."
 abbrev pub Unchanged : List ℕ → Record → Call → Refusal → Out
@@ -31,6 +33,16 @@ ImageAfter N m img r (request h msg reply) = m img r (request h msg reply) .imag
 ImageAfter N m img r step = OneStep N img (m img r step .image)
 ImageAfter N m img r mount = m img r mount .image ≡ img
 ImageAfter N m img r format = m img r format .image ≡ img
+
+-- ---- how many steps
+
+-- "No accepted request takes more flash steps than one block has bytes." K14: "Demand 1's bound leaves a mount's erases aside": of those there
+-- are at most N. By the call that began the job; a step begins none
+abbrev pub Short : ℕ → ℕ → List Step → Call → Type 0
+Short N s plan (request h msg reply) = length plan ≤ s
+Short N s plan step = length plan ≤ s
+Short N s plan mount = (length (programs plan) ≤ s) × (length plan ≤ length (programs plan) + N)
+Short N s plan format = length plan ≤ s
 
 -- ---- forged records
 

@@ -12,7 +12,7 @@ use Rattle.flash.specs.Flash.{Step, program, erase, apply, applyAll, block, siz
 use Rattle.frame.specs.declared.Host.{Host}
 use Rattle.frame.specs.declared.ObjectId.{ObjectId}
 use Rattle.frame.specs.Frame.{Frame, frameLen, put, delete}
-use Rattle.frame.specs.Reader.{Tail, clean}
+use Rattle.frame.specs.Reader.{Tail}
 use Rattle.journal.specs.Replay.{replay, entry, settledOnly}
 use Rattle.journal.specs.Block.{valid, blockState, stateAt, inTransfer}
 use Rattle.journal.specs.Room.{claimed, openHosts}
@@ -36,7 +36,7 @@ use Rattle.board.specs.Claim.{Event, call, cutErase, Happens}
 -- ---- every image reads as one store
 
 -- the store that an accepted mount takes: a valid block, newer than every other valid one; its plan is document 01's, and leaves a block
--- that replays to its settled objects and nothing pending
+-- that replays to its settled objects and nothing pending. Image and record then pass line 11 of the table: the store can be used
 pub record Mounts (N : ℕ) (m : Machine) (img : List ℕ) (o : Out) : Type 0 where
   pub store : Store
   pub there : store .number < N
@@ -49,16 +49,36 @@ pub record Mounts (N : ℕ) (m : Machine) (img : List ℕ) (o : Out) : Type 0 wh
   -- K14: "Demand 1's bound leaves a mount's erases aside"; of those there are at most N
   pub short : length (programs (mountPlan N (allFound N img) store)) ≤ sizeOf N img
   pub erases : length (mountPlan N (allFound N img) store) ≤ length (programs (mountPlan N (allFound N img) store)) + N
-  pub time : ℕ
-  pub frames : List Frame
-  pub leaves :
-      blockState (block (sizeOf N img) (last .block) (applyAll (sizeOf N img) (mountPlan N (allFound N img) store) img)) ≡ valid time frames clean
-  pub holds : replay frames ≡ settledOnly (replay (store .frames))
+  pub holding : Held
+  pub is-fresh : Fresh N (applyAll (sizeOf N img) (mountPlan N (allFound N img) store) img) last holding
+  pub holds : replay (holding .frames) ≡ settledOnly (replay (store .frames))
 
 -- the refusals of a mount, and their exact conditions, are the table's lines
 unfoldable pub OneStore : ℕ → Machine → Type 0
 OneStore N m =
     (img : List ℕ) (r : Record) → Bytes img → allowed N (length img) ≡ true → Accepted (m img r mount .answer) → Mounts N m img (m img r mount)
+
+-- ---- every run from a mount or a format on, accepted or not, of any image of an allowed length, whoever wrote it
+
+-- P of each call; calls that each got what the last gave back, and cuts inside erases
+abbrev pub EachCall : ℕ → Machine → (List ℕ → Out → Type 0) → List ℕ → Record → List Event → Type 0
+EachCall N m P img r [] = Unit {0}
+EachCall N m P img r (call c ∷ es) = let o : Out = m img r c in P img o × EachCall N m P (o .image) (o .board) es
+EachCall N m P img r (cutErase k new q ∷ es) = EachCall N m P (withBlock (sizeOf N img) k new img) q es
+
+-- whatever a book says
+pub record FromAny (N : ℕ) (m : Machine) (P : List ℕ → Out → Type 0) : Type 0 where
+  pub from-mount : (img : List ℕ) (r : Record) (b : Book) (es : List Event) → Bytes img → allowed N (length img) ≡ true
+      → Happens N m img (m img r mount .board) b es → EachCall N m P img (m img r mount .board) es
+  pub from-format : (img : List ℕ) (r : Record) (b : Book) (es : List Event) → Bytes img → allowed N (length img) ≡ true
+      → Happens N m img (m img r format .board) b es → EachCall N m P img (m img r format .board) es
+
+-- what a mount or format leaves can be used: no call after it gets 11
+abbrev pub NotStale : Out → Type 0
+NotStale o = numberOf (o .answer) ≡ some 11 → ⊥
+
+abbrev pub UsableFrom : ℕ → Machine → Type 0
+UsableFrom N m = FromAny N m (λ img o. NotStale o)
 
 -- ---- every programmed byte lands as given
 
@@ -73,18 +93,8 @@ LandsAt s (erase k) img = Unit {0}
 abbrev pub StepLands : ℕ → List ℕ → Out → Type 0
 StepLands N img o = (o .image ≡ img) ⊎ ((x : Step) × (o .image ≡ apply (sizeOf N img) x img) × LandsAt (sizeOf N img) x img)
 
--- calls that each got what the last gave back, and cuts inside erases
-abbrev pub AllLand : ℕ → Machine → List ℕ → Record → List Event → Type 0
-AllLand N m img r [] = Unit {0}
-AllLand N m img r (call c ∷ es) = let o : Out = m img r c in StepLands N img o × AllLand N m (o .image) (o .board) es
-AllLand N m img r (cutErase k new q ∷ es) = AllLand N m (withBlock (sizeOf N img) k new img) q es
-
--- from a mount or a format on, accepted or not, of any image of an allowed length, whatever a book says
-pub record LandsFrom (N : ℕ) (m : Machine) : Type 0 where
-  pub from-mount : (img : List ℕ) (r : Record) (b : Book) (es : List Event) → Bytes img → allowed N (length img) ≡ true
-      → Happens N m img (m img r mount .board) b es → AllLand N m img (m img r mount .board) es
-  pub from-format : (img : List ℕ) (r : Record) (b : Book) (es : List Event) → Bytes img → allowed N (length img) ≡ true
-      → Happens N m img (m img r format .board) b es → AllLand N m img (m img r format .board) es
+abbrev pub LandsFrom : ℕ → Machine → Type 0
+LandsFrom N m = FromAny N m (StepLands N)
 
 -- ---- room and wear
 

@@ -33,10 +33,10 @@ use Rattle.board.specs.Mount.{allFound, Store, needsTransfer}
 use Rattle.board.specs.Queue.{Held, needsRoom}
 pub use Rattle.board.specs.Exec.{Machine, Family}
 use Rattle.board.specs.Exec.{Call, request, step, mount, format}
-use Rattle.board.specs.Plan.{Follows, programs, formatPlan, mountPlan, mountedAt, framePlan, framedAt}
+use Rattle.board.specs.Plan.{Follows, formatPlan, mountPlan, mountedAt, framePlan, framedAt}
 use Rattle.board.specs.Table.{frameFor, Exactly, InJob, Fresh, ValidAt, Names, linesOf}
-use Rattle.board.specs.Demand1.{Unchanged, ImageAfter, Declared, Rests, EndsWithin}
-use Rattle.board.specs.Demand2.{Accepted, OneStore, LandsFrom, RoomExact, WearExact}
+use Rattle.board.specs.Demand1.{Unchanged, ImageAfter, Short, Declared, Rests, EndsWithin}
+use Rattle.board.specs.Demand2.{Accepted, OneStore, UsableFrom, LandsFrom, RoomExact, WearExact}
 use Rattle.wire.specs.Sentences.{Means}
 use Rattle.board.specs.Claim.{stepsOn, ByteCall, Begins, Event, call, cutErase, Restarts, Claim}
 use Rattle.board.specs.CutFormat.{CutFormat}
@@ -129,14 +129,6 @@ pub data Job (N : ℕ) (img : List ℕ) (r : Record) : Call → List Step → Re
   -- K14: "Format erases all in number order, but the current block last if there is one, then writes block 0"
   format-job : Job N img r format (formatPlan N img) (idle (rest N (length img - 1) 0 headerLen))
 
--- "No accepted request takes more flash steps than one block has bytes." K14: "Demand 1's bound leaves a mount's erases aside": of those there
--- are at most N
-abbrev pub Short : ℕ → ℕ → List Step → Call → Type 0
-Short N s plan (request h msg reply) = length plan ≤ s
-Short N s plan step = length plan ≤ s
-Short N s plan mount = (length (programs plan) ≤ s) × (length plan ≤ length (programs plan) + N)
-Short N s plan format = length plan ≤ s
-
 -- "each step call then does the next step, and the last one answers 0 with the record idle": of a call's outcome, all by the number of
 -- step calls after it
 pub record StepsOf (N : ℕ) (m : Machine) (img : List ℕ) (o : Out) (plan : List Step) (z : Record) : Type 0 where
@@ -180,6 +172,8 @@ pub record Promise (N : ℕ) (m : Machine) : Type 0 where
   pub clears : (img : List ℕ) (r : Record) (c : Call) → OnlyClears N img (m img r c .image)
   -- demand 2: every image reads as one store, which a mount takes and leaves with its settled objects and nothing pending
   pub one-store : OneStore N m
+  -- and which can then be used: in a run from a mount or format on, of any image, no call gets 11
+  pub usable : UsableFrom N m
   -- demand 2: "refusals for room and wear are exact"
   pub room : RoomExact N m
   pub wear : WearExact N m

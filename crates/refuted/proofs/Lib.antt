@@ -2,5 +2,7 @@
 pub mod Bench  -- the starred rows
 pub mod RefutingRuns  -- the runs that tell, computed
 pub mod Refuting  -- none of them keeps the promise
-pub mod RefutingCut  -- demand 3 sees one that is wrong on half-erased halves only
+pub mod RefutingCut  -- demand 3 sees one that refuses a half-erased half
+pub mod RefutingOlder  -- demand 3 sees one that takes it for the current one
+pub mod RefutingClauses  -- other clauses that see one alone
 pub mod RefutingRows  -- and yet all are right in every row

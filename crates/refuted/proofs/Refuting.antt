@@ -35,11 +35,11 @@ use Rattle.board.proofs.Determining.{promise-determines}
 use Rattle.board.proofs.FollowingPlans.{promise}
 use Rattle.refuted.proofs.RefutingRuns.{runs}
 
-bytes-all : (l : List ℕ) → allBytes l ≡ true → Bytes l
+pub bytes-all : (l : List ℕ) → allBytes l ≡ true → Bytes l
 bytes-all [] e = tt
 bytes-all (b ∷ bs) e = (ltb-true b 256 (and-left (ltb b 256) (allBytes bs) e), bytes-all bs (and-right (ltb b 256) (allBytes bs) e))
 
-bytes-in : (cs : List Call) → bytesIn cs ≡ true → ByteEvents (map call cs)
+pub bytes-in : (cs : List Call) → bytesIn cs ≡ true → ByteEvents (map call cs)
 bytes-in [] e = tt
 bytes-in (request h m reply ∷ cs) e =
     (bytes-all m (and-left (allBytes m) (bytesIn cs) e), bytes-in cs (and-right (allBytes m) (bytesIn cs) e))
@@ -156,6 +156,7 @@ refuted =
       keeps-old = differs (runs .keeps-old);
       programs-nothing = differs (runs .programs-nothing);
       whole-frame = differs (runs .whole-frame);
+      waits-long = differs (runs .waits-long);
       invents-step = differs (runs .invents-step);
       erases-first = differs (runs .erases-first);
       outside-is-done = outside-is-done;

@@ -21,7 +21,7 @@ use Rattle.refuted.specs.Rows.{rowF, rowG, rowH, rowI, rowK, rowLBefore,
 use Rattle.refuted.specs.Wrong.{Wrongly, onBench, offBench, byAnswer, onImage}
 use Rattle.refuted.specs.Wrong.{refusesAll, refusesPuts, refusesHighIds, ownFormatsOnly, firstHalfOnly, hostFirst, refusalClears}
 use Rattle.refuted.specs.Wrong.{refusedLogWrites, readsAlike, inventsCount, neverCommits, abortsNothing, takesOthers, keepsOld}
-use Rattle.refuted.specs.Wrong.{programsNothing, wholeFrame, inventsStep, erasesFirst, outsideIsDone, forgedWaits, hurriedMount}
+use Rattle.refuted.specs.Wrong.{programsNothing, wholeFrame, waitsLong, inventsStep, erasesFirst, outsideIsDone, forgedWaits, hurriedMount}
 use Rattle.refuted.specs.Wrong.{losesAll, keepsPending, refusesAlike, overlooksForeign, namesSecond, tiesAtStart, refusesHalfErased}
 use Rattle.refuted.specs.Wrong.{takesHalfErased, formatsAtOnce, formatsBlindly, goesBack, erasesOne, erasesBlank, ignoresCount, evenOnly}
 use Rattle.refuted.specs.WrongRows.{RightInRows}
@@ -247,7 +247,7 @@ formats-blindly img r o =
 
 pub right-in-rows : RightInRows
 unfolding refusesAll refusesPuts refusesHighIds ownFormatsOnly firstHalfOnly hostFirst refusalClears refusedLogWrites readsAlike
-    inventsCount neverCommits abortsNothing takesOthers keepsOld programsNothing wholeFrame inventsStep erasesFirst outsideIsDone
+    inventsCount neverCommits abortsNothing takesOthers keepsOld programsNothing wholeFrame waitsLong inventsStep erasesFirst outsideIsDone
     forgedWaits hurriedMount losesAll keepsPending refusesAlike overlooksForeign namesSecond tiesAtStart refusesHalfErased takesHalfErased
     goesBack erasesOne erasesBlank ignoresCount evenOnly
 right-in-rows =
@@ -268,6 +268,7 @@ right-in-rows =
       keeps-old = rows-kept keepsOld (λ img r o. refl);
       programs-nothing = rows-kept programsNothing (λ img r o. refl);
       whole-frame = rows-kept wholeFrame (λ img r o. refl);
+      waits-long = rows-kept waitsLong (λ img r o. refl);
       invents-step = rows-kept inventsStep (λ img r o. refl);
       erases-first = rows-kept erasesFirst (λ img r o. refl);
       outside-is-done = rows-kept outsideIsDone (λ img r o. refl);

@@ -15,7 +15,7 @@ use Rattle.board.specs.Mount.{mountAt, mountFound, mountOn, formatOrder, format
 use Rattle.board.specs.Queue.{held, append, serveChange, serveEnd, serveLog, serve, requestOn}
 use Rattle.refuted.specs.Wrong.{refusesAll, refusesPuts, refusesHighIds, ownFormatsOnly, firstHalfOnly, hostFirst, refusalClears}
 use Rattle.refuted.specs.Wrong.{refusedLogWrites, readsAlike, inventsCount, neverCommits, abortsNothing, takesOthers, keepsOld}
-use Rattle.refuted.specs.Wrong.{programsNothing, wholeFrame, inventsStep, erasesFirst, hurriedMount, losesAll, keepsPending}
+use Rattle.refuted.specs.Wrong.{programsNothing, wholeFrame, waitsLong, inventsStep, erasesFirst, hurriedMount, losesAll, keepsPending}
 use Rattle.refuted.specs.Wrong.{refusesAlike, overlooksForeign, namesSecond, tiesAtStart, refusesHalfErased, takesHalfErased, formatsAtOnce}
 use Rattle.refuted.specs.Wrong.{formatsBlindly, goesBack, erasesOne, evenOnly}
 use Rattle.refuted.specs.WrongRuns.{half, blankHalf, stored, pending, later, second, begun, twice, tiedHalves, bothStrange, strange}
@@ -23,7 +23,7 @@ use Rattle.refuted.specs.WrongRuns.{halfErased, seemsEmpty, inMiddle, be
 
 pub runs : Runs
 unfolding numbersFrom sizeIn allowed refusesAll refusesPuts refusesHighIds ownFormatsOnly firstHalfOnly hostFirst refusalClears refusedLogWrites readsAlike
-    inventsCount neverCommits abortsNothing takesOthers keepsOld programsNothing wholeFrame inventsStep erasesFirst hurriedMount losesAll
+    inventsCount neverCommits abortsNothing takesOthers keepsOld programsNothing wholeFrame waitsLong inventsStep erasesFirst hurriedMount losesAll
     keepsPending refusesAlike overlooksForeign namesSecond tiesAtStart refusesHalfErased takesHalfErased formatsAtOnce formatsBlindly goesBack erasesOne
     evenOnly
     allFF sameBytes applyAll writes encodeAll total match readFrame scan insert
@@ -49,6 +49,7 @@ runs =
       keeps-old = record { is-run = refl; shows-wrong = refl; shows-right = refl; apart = refl };
       programs-nothing = record { is-run = refl; shows-wrong = refl; shows-right = refl; apart = refl };
       whole-frame = record { is-run = refl; shows-wrong = refl; shows-right = refl; apart = refl };
+      waits-long = record { is-run = refl; shows-wrong = refl; shows-right = refl; apart = refl };
       invents-step = record { is-run = refl; shows-wrong = refl; shows-right = refl; apart = refl };
       erases-first = record { is-run = refl; shows-wrong = refl; shows-right = refl; apart = refl };
       hurried-mount = record { is-run = refl; shows-wrong = refl; shows-right = refl; apart = refl };

@@ -2,4 +2,5 @@ pub mod Rows
 pub mod Wrong
 pub mod Refuted
 pub mod WrongRuns
+pub mod Seen
 pub mod WrongRows

@@ -9,7 +9,7 @@ use Rattle.board.specs.Exec.{Call, exec}
 use Rattle.board.specs.Promise.{Kept}
 use Rattle.refuted.specs.Wrong.{Wrongly, offBench, refusesAll, refusesPuts, refusesHighIds, ownFormatsOnly, firstHalfOnly, hostFirst}
 use Rattle.refuted.specs.Wrong.{refusalClears, refusedLogWrites, readsAlike, inventsCount, neverCommits, abortsNothing, takesOthers}
-use Rattle.refuted.specs.Wrong.{keepsOld, programsNothing, wholeFrame, inventsStep, erasesFirst, outsideIsDone, forgedWaits, hurriedMount}
+use Rattle.refuted.specs.Wrong.{keepsOld, programsNothing, wholeFrame, waitsLong, inventsStep, erasesFirst, outsideIsDone, forgedWaits, hurriedMount}
 use Rattle.refuted.specs.Wrong.{losesAll, keepsPending, refusesAlike, overlooksForeign, namesSecond, tiesAtStart, refusesHalfErased}
 use Rattle.refuted.specs.Wrong.{takesHalfErased, formatsAtOnce, formatsBlindly, goesBack, erasesOne, erasesBlank, ignoresCount, evenOnly}
 
@@ -35,6 +35,7 @@ pub record Refuted : Type 0 where
   pub keeps-old : Kept (offBench keepsOld) → ⊥
   pub programs-nothing : Kept (offBench programsNothing) → ⊥
   pub whole-frame : Kept (offBench wholeFrame) → ⊥
+  pub waits-long : Kept (offBench waitsLong) → ⊥
   pub invents-step : Kept (offBench inventsStep) → ⊥
   pub erases-first : Kept (offBench erasesFirst) → ⊥
   pub outside-is-done : Kept (offBench outsideIsDone) → ⊥

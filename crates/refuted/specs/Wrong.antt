@@ -2,7 +2,7 @@
 -- sees it. None keeps the promise: page Refuted. The runs that tell are in WrongRuns.
 use mathlib.Core.List.{List, [], _∷_, _++_}
 use mathlib.Core.Bool.{Bool, false, _&&_, _||_, cond}
-use Prim.Native.Nat.{ℕ, _+_, _-_, _%_}
+use Prim.Native.Nat.{ℕ, suc, _+_, _-_, _%_}
 use lib.Dec.{eqb, ltb, leb}
 use lib.ListN.{length, take, drop, getD, set, replicate}
 use Rattle.flash.specs.Bytes.{sameBytes}
@@ -20,8 +20,9 @@ use Rattle.board.specs.declared.Stage.the-variants.{Wipe, Open, Copy, Seal, Dro
 use Rattle.board.specs.declared.Phase.{Phase}
 use Rattle.board.specs.declared.Phase.the-variants.{Unmounted, Idle, Busy}
 use Rattle.board.specs.declared.Job.{Job}
+use Rattle.board.specs.declared.Cursor.{Cursor}
 use Rattle.board.specs.declared.Record.{Record}
-use Rattle.board.specs.Record.{allowed, unmounted, Stretch, Out, out, refuse, answerOf}
+use Rattle.board.specs.Record.{allowed, unmounted, cursor, inStage, Stretch, Out, out, refuse, answerOf}
 use Rattle.board.specs.Step.{begin}
 use Rattle.board.specs.Mount.{allFound, anyForeign, Store, stores, newest, equalTimes, noneValid, tiedTimes, mountJob, mountAt, numbersBut, found}
 use Rattle.board.specs.Queue.{held}
@@ -199,6 +200,14 @@ wholeFrame = steps (λ N img r o. byStage (r .phase) o o (onImage (framed N img 
 -- "one that reports an invented settled count or step count": the last step is answered more the first time it is made
 unfoldable pub inventsStep : Wrongly
 inventsStep = steps (λ N img r o. byAnswer (o .answer) (cond (sameBytes img (o .image)) o (out More (o .image) r [])) o o)
+
+-- a step that does nothing but count
+abbrev pub waited : Record → Record
+waited r = let c : Cursor = r .cursor in inStage Append (cursor (c .index) (c .at) (suc (c .id)) (c .source) (c .size) (c .off)) r
+
+-- "No accepted request takes more flash steps than one block has bytes": one more, since a frame waits before its first byte
+unfoldable pub waitsLong : Wrongly
+waitsLong = steps (λ N img r o. byStage (r .phase) o o (cond (leb (r .cursor .id + r .job .size) (sizeOf N img)) (out More img (waited r) []) o) o)
 
 -- a transfer's last two steps: the new half says 0xFC, the old half is erased
 abbrev pub saysValid : ℕ → List ℕ → Record → List ℕ

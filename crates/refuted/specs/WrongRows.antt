@@ -2,7 +2,7 @@
 use Rattle.refuted.specs.Rows.{Rows}
 use Rattle.refuted.specs.Wrong.{offBench, refusesAll, refusesPuts, refusesHighIds, ownFormatsOnly, firstHalfOnly, hostFirst}
 use Rattle.refuted.specs.Wrong.{refusalClears, refusedLogWrites, readsAlike, inventsCount, neverCommits, abortsNothing, takesOthers}
-use Rattle.refuted.specs.Wrong.{keepsOld, programsNothing, wholeFrame, inventsStep, erasesFirst, outsideIsDone, forgedWaits}
+use Rattle.refuted.specs.Wrong.{keepsOld, programsNothing, wholeFrame, waitsLong, inventsStep, erasesFirst, outsideIsDone, forgedWaits}
 use Rattle.refuted.specs.Wrong.{hurriedMount, losesAll, keepsPending, refusesAlike, overlooksForeign, namesSecond, tiesAtStart, refusesHalfErased}
 use Rattle.refuted.specs.Wrong.{takesHalfErased, formatsAtOnce, formatsBlindly, goesBack, erasesOne, erasesBlank, ignoresCount, evenOnly}
 
@@ -23,6 +23,7 @@ pub record RightInRows : Type 0 where
   pub keeps-old : Rows (offBench keepsOld 2)
   pub programs-nothing : Rows (offBench programsNothing 2)
   pub whole-frame : Rows (offBench wholeFrame 2)
+  pub waits-long : Rows (offBench waitsLong 2)
   pub invents-step : Rows (offBench inventsStep 2)
   pub erases-first : Rows (offBench erasesFirst 2)
   pub outside-is-done : Rows (offBench outsideIsDone 2)

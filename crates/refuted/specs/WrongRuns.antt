@@ -13,12 +13,12 @@ use Rattle.wire.specs.declared.Refusal.the-variants as refusal
 use Rattle.wire.specs.Answer.{edgeNumber, spotOf}
 use Rattle.board.specs.Record.{unmounted, noStretch}
 use Rattle.board.specs.Exec.{Call, request, step, mount, format, Machine, exec}
-use Rattle.board.specs.Claim.{Event, call, cutErase, Claim}
+use Rattle.board.specs.Claim.{call}
 use Rattle.board.specs.Promise.{Shown, trace}
 use Rattle.refuted.specs.Wrong.{Wrongly, offBench}
 use Rattle.refuted.specs.Wrong.{refusesAll, refusesPuts, refusesHighIds, ownFormatsOnly, firstHalfOnly, hostFirst, refusalClears}
 use Rattle.refuted.specs.Wrong.{refusedLogWrites, readsAlike, inventsCount, neverCommits, abortsNothing, takesOthers, keepsOld}
-use Rattle.refuted.specs.Wrong.{programsNothing, wholeFrame, inventsStep, erasesFirst, hurriedMount, losesAll, keepsPending}
+use Rattle.refuted.specs.Wrong.{programsNothing, wholeFrame, waitsLong, inventsStep, erasesFirst, hurriedMount, losesAll, keepsPending}
 use Rattle.refuted.specs.Wrong.{refusesAlike, overlooksForeign, namesSecond, tiesAtStart, refusesHalfErased, takesHalfErased, formatsAtOnce}
 use Rattle.refuted.specs.Wrong.{formatsBlindly, goesBack, erasesOne, evenOnly}
 
@@ -211,6 +211,7 @@ pub record Runs : Type 0 where
   pub programs-nothing : Differs 2 programsNothing stored (format ∷ stepping 2 []) (byteAt 0) 0x10 0xFF
   -- the frame's second byte
   pub whole-frame : Differs 2 wholeFrame stored (mount ∷ putCD ∷ step ∷ []) (byteAt 33) 0x00 0xFF
+  pub waits-long : Differs 2 waitsLong stored (mount ∷ putCD ∷ stepping 10 []) answered 255 0
   pub invents-step : Differs 2 inventsStep begun (mount ∷ step ∷ []) answered 255 0
   -- the old half's first byte, after ten of the transfer's eleven steps
   pub erases-first : Differs 2 erasesFirst pending (mount ∷ stepping 10 []) (byteAt 0) 0xFF 0x10
@@ -231,19 +232,3 @@ pub record Runs : Type 0 where
   pub goes-back : Differs 3 goesBack inMiddle (mount ∷ step ∷ []) (byteAt 776) 0xFF 0xFE
   pub erases-one : Differs 3 erasesOne begunTwice (mount ∷ step ∷ []) answered 0 255
   pub even-only : Differs 3 evenOnly storedFirst (mount ∷ []) answered 4 0
-
--- ---- demand 3 alone sees a store that is wrong on half-erased halves only: its claim is for every raised half
-
--- what the erase of a half leaves that holds one empty put: eight bytes of 0xFF
-unfoldable pub fading : List ℕ
-fading = replicate 8 0xFF ++ drop 8 (half 1 (change (hostOf 2) (put (idOf 7) []) ∷ []))
-
--- after a format: the put; a mount, which makes a transfer since the put is pending, up to its last step; power lost inside that step, the
--- erase of half 0; a mount
-abbrev pub cutRun : List Event
-cutRun =
-    call (putEmpty 7) ∷ (replicate 8 (call step)
-    ++ (call mount ∷ (replicate 10 (call step) ++ (cutErase 0 fading unmounted ∷ call mount ∷ []))))
-
-unfoldable pub ClaimSees : Type 0
-ClaimSees = Claim 2 (offBench refusesHalfErased 2) → ⊥
