@@ -209,7 +209,7 @@ module _ (N : ℕ) (img b : List ℕ) (l : length b ≡ recordSize) where
   unfolding edgeRead
   is-place h m reply = rw (eq-eqb (length b) recordSize l)
 
-  is-step : let o : Out = stepOn N img r in edgeStep N img b ≡ edge (edgeNumber (o .answer)) (o .image) (written b o) (o .reply)
+  pub is-step : let o : Out = stepOn N img r in edgeStep N img b ≡ edge (edgeNumber (o .answer)) (o .image) (written b o) (o .reply)
   unfolding edgeStep
   is-step = rw (eq-eqb (length b) recordSize l)
 
