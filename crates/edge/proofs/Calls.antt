@@ -38,19 +38,22 @@ use Rattle.board.specs.Exec.{Call, request, step, mount, format, exec}
 use Rattle.board.specs.Claim.{Event}
 use Rattle.board.specs.Promise.{Shown, shown, trace}
 use Rattle.board.proofs.Outcomes as outcome
-use Rattle.board.proofs.Refusals.{refusals-untouched}
+use Rattle.board.proofs.Refusals.{refusals-untouched, at-most-one-step}
 use Rattle.board.proofs.Telling.{silent}
 use Rattle.lent.specs.Layout.{recordSize, recordIn, recordBytes}
 use Rattle.lent.proofs.Inverse.{Sized, record-back, length-bytes-of}
 use Rattle.lent.proofs.Own.{own-sized}
 use Rattle.pack.specs.Code.{changes}
 use Rattle.edge.specs.Edge.{Edge, edge, written, edgeRequest, edgeStep, edgeMount, edgeFormat, isRead, asRead, edgeRead}
+use Rattle.edge.specs.Edge.{place, EdgeNextThenMade}
 use Rattle.edge.specs.Edge.{Broken, broken, edgeFault}
-use Rattle.edge.specs.Calls.{fieldAt, answerAt, edgeCall, edgeStretch, edgeOut, CallExact, CallSized}
+use Rattle.edge.specs.Calls.{fieldAt, answerAt, Ask, plain, reads, drives, callOf, edgeCall, stretchIn, plainStretch, edgeStretch, edgeOut, CallExact, CallSized}
 use Rattle.edge.specs.Calls.{Happening, does, loses, cuts, Resumes, Lent, eventsOf, edgeTrace, TraceExact}
 use Rattle.edge.proofs.Kept.{Keeps, step-keeps}
 use Rattle.edge.proofs.Arrays.{Plain, step-sized, mount-sized, format-sized}
 use Rattle.edge.proofs.Asked.{serves}
+use Rattle.edge.proofs.Begun.{asks-read}
+use Rattle.edge.proofs.Driving.{edge-next-then-made}
 
 -- ---- numbers read back
 
@@ -141,22 +144,22 @@ module _ (N : ℕ) (img : List ℕ) (r : Record) (h : Host) (m : List ℕ) (i : 
 
 -- a message that is no read has none
 module _ (N : ℕ) (img : List ℕ) (r : Record) (s : Sized r) (h : Host) (m reply : List ℕ) where
-  abbrev place : Stretch
-  place = requestOn N img r [] h (asRead m) .stretch
+  abbrev readAt : Stretch
+  readAt = requestOn N img r [] h (asRead m) .stretch
 
-  no-place : isRead (parse m) ≡ false → place ≡ requestOn N img r reply h m .stretch
+  no-place : isRead (parse m) ≡ false → readAt ≡ requestOn N img r reply h m .stretch
   unfolding parse
   no-place f =
       ap (λ (b : Bool). requestOn N img r [] h (cond b m []) .stretch) f ∙ serves N img r [] h [] s .place refl
       ∙ sym (serves N img r reply h m s .place f)
 
-  read-place : place ≡ requestOn N img r reply h m .stretch
+  read-place : readAt ≡ requestOn N img r reply h m .stretch
   read-place = by (parse m) refl
     where
-      none-of : (p : Parsed) → parse m ≡ p → isRead p ≡ false → place ≡ requestOn N img r reply h m .stretch
+      none-of : (p : Parsed) → parse m ≡ p → isRead p ≡ false → readAt ≡ requestOn N img r reply h m .stretch
       none-of p e f = no-place (ap isRead e ∙ f)
 
-      by : (p : Parsed) → parse m ≡ p → place ≡ requestOn N img r reply h m .stretch
+      by : (p : Parsed) → parse m ≡ p → readAt ≡ requestOn N img r reply h m .stretch
       by Malformed e = none-of Malformed e refl
       by (Is (Put i)) e = none-of (Is (Put i)) e refl
       by (Is (Delete i)) e = none-of (Is (Delete i)) e refl
@@ -177,7 +180,7 @@ request-keeps N img r s h m reply = by (requestOn N img r reply h m .answer) ref
     by (Refused n) e w = ap (λ (o : Out). o .board) (refusals-untouched N img r (request h m reply) n e)
 
 -- what a call left in the buffers, beside what `exec` gives back
-pub record Meets (N : ℕ) (img b : List ℕ) (c : Call) (o : Out) : Type 0 where
+pub record Meets (N : ℕ) (img b : List ℕ) (c : Ask) (o : Out) : Type 0 where
   pub after : List ℕ
   pub is : edgeCall N img b c ≡ edge (edgeNumber (o .answer)) (o .image) after (o .reply)
   pub names : answerAt (edgeNumber (o .answer)) (edgeFault N img) ≡ o .answer
@@ -205,7 +208,7 @@ module _ (N : ℕ) (img b : List ℕ) (l : length b ≡ recordSize) where
   unfolding edgeRequest
   is-request h m reply = rw (eq-eqb (length b) recordSize l)
 
-  is-place : (h : Host) (m reply : List ℕ) → edgeStretch N img b (request h m reply) ≡ requestOn N img r [] h (asRead m) .stretch
+  is-place : (h : Host) (m reply : List ℕ) → plainStretch N img b (request h m reply) ≡ requestOn N img r [] h (asRead m) .stretch
   unfolding edgeRead
   is-place h m reply = rw (eq-eqb (length b) recordSize l)
 
@@ -221,8 +224,8 @@ module _ (N : ℕ) (img b : List ℕ) (l : length b ≡ recordSize) where
   unfolding edgeFormat
   is-format = rw (eq-eqb (length b) recordSize l)
 
-  pub meets : (c : Call) → Meets N img b c (exec N img r c)
-  meets (request h m reply) =
+  meets-plain : (c : Call) → Meets N img b (plain c) (exec N img r c)
+  meets-plain (request h m reply) =
       let o = requestOn N img r reply h m in
       let s = serves N img r reply h m (own-sized b) .leaves in
       let a = written-after o (s .0) (request-keeps N img r (own-sized b) h m reply) in
@@ -234,7 +237,7 @@ module _ (N : ℕ) (img b : List ℕ) (l : length b ≡ recordSize) where
         size = a .1;
         place = is-place h m reply ∙ read-place N img r (own-sized b) h m reply;
       }
-  meets step =
+  meets-plain step =
       let o = stepOn N img r in
       let s = step-sized N img r (own-sized b) in
       let a = written-after o (s .0) (step-keeps N img r) in
@@ -246,7 +249,7 @@ module _ (N : ℕ) (img b : List ℕ) (l : length b ≡ recordSize) where
         size = a .1;
         place = sym (silent N img r step .1);
       }
-  meets mount =
+  meets-plain mount =
       let o = mountOn N img in
       let a = bytes-after o (mount-sized N img) in
       record {
@@ -257,7 +260,7 @@ module _ (N : ℕ) (img b : List ℕ) (l : length b ≡ recordSize) where
         size = a .1;
         place = sym (silent N img r mount .1);
       }
-  meets format =
+  meets-plain format =
       let o = formatOn N img in
       let s = format-sized N img in
       let a = bytes-after o (s .0) in
@@ -270,7 +273,50 @@ module _ (N : ℕ) (img b : List ℕ) (l : length b ≡ recordSize) where
         place = sym (silent N img r format .1);
       }
 
-  pub exact : (c : Call) → edgeOut N img b c ≡ exec N img r c
+  -- a read changes nothing
+  is-read : (h : ℕ) (m : List ℕ) (at size : ℕ)
+      → let o : Out = requestOn N img r [] (record { 0 = h }) (asRead m) in
+      edgeRead N img b h m at size ≡ place (edgeNumber (o .answer)) (o .stretch .at) (o .stretch .size)
+  unfolding edgeRead
+  is-read h m at size = rw (eq-eqb (length b) recordSize l)
+
+  meets-read : (h : ℕ) (m : List ℕ) (at size : ℕ)
+      → Meets N img b (reads h m at size) (requestOn N img r [] (record { 0 = h }) (asRead m))
+  meets-read h m at size =
+      let g : Host = record { 0 = h } in
+      let s = serves N img r [] g (asRead m) (own-sized b) in
+      let k = s .read (asks-read m) in
+      let o = requestOn N img r [] g (asRead m) in
+      let e = is-read h m at size in
+      let i : o .image ≡ img = at-most-one-step N img r (request g (asRead m) []) in
+      record {
+        after = b;
+        is = λ j. edge (e j .answer) (sym i j) b (sym (k .1) j);
+        names = plain-back (o .answer) (edgeFault N img) (s .leaves .1);
+        back = sym (k .0);
+        size = l;
+        place = ap stretchIn e;
+      }
+
+  meets-drive : (at size byte : ℕ) → Meets N img b (drives at size byte) (stepOn N img r)
+  unfolding EdgeNextThenMade
+  meets-drive at size byte =
+      let m = meets-plain step in
+      record {
+        after = m .after;
+        is = edge-next-then-made N img b at size byte ∙ m .is;
+        names = m .names;
+        back = m .back;
+        size = m .size;
+        place = m .place;
+      }
+
+  pub meets : (c : Ask) → Meets N img b c (exec N img r (callOf c))
+  meets (plain c) = meets-plain c
+  meets (reads h m at size) = meets-read h m at size
+  meets (drives at size byte) = meets-drive at size byte
+
+  pub exact : (c : Ask) → edgeOut N img b c ≡ exec N img r (callOf c)
   exact c =
       let m = meets c in
       λ i.
@@ -282,7 +328,7 @@ module _ (N : ℕ) (img b : List ℕ) (l : length b ≡ recordSize) where
         stretch = m .place i;
       }
 
-  pub still-sized : (c : Call) → length (edgeCall N img b c .board) ≡ recordSize
+  pub still-sized : (c : Ask) → length (edgeCall N img b c .board) ≡ recordSize
   still-sized c = ap (λ (x : Edge). length (x .board)) (meets c .is) ∙ meets c .size
 
 pub call-exact : CallExact
@@ -299,10 +345,12 @@ call-sized N img b c l = still-sized N img b l c
 pub any-record : (N : ℕ) (img : List ℕ) (q r : Record) (es : List Happening) → Resumes es
     → trace N (exec N) img q (eventsOf es) ≡ trace N (exec N) img r (eventsOf es)
 any-record N img q r [] h = refl
-any-record N img q r (does (request x m reply) ∷ es) h = absurd h
-any-record N img q r (does step ∷ es) h = absurd h
-any-record N img q r (does mount ∷ es) h = refl
-any-record N img q r (does format ∷ es) h = refl
+any-record N img q r (does (plain (request x m reply)) ∷ es) h = absurd h
+any-record N img q r (does (plain step) ∷ es) h = absurd h
+any-record N img q r (does (plain mount) ∷ es) h = refl
+any-record N img q r (does (plain format) ∷ es) h = refl
+any-record N img q r (does (reads x m at size) ∷ es) h = absurd h
+any-record N img q r (does (drives at size byte) ∷ es) h = absurd h
 any-record N img q r (loses b ∷ es) h = absurd h
 any-record N img q r (cuts k new b ∷ es) h = absurd h
 

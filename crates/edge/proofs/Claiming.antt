@@ -25,7 +25,7 @@ use Rattle.board.proofs.Claiming.{claim}
 use Rattle.drive.proofs.Running.{run-on, run-done}
 use Rattle.lent.specs.Layout.{recordSize, recordIn}
 use Rattle.edge.specs.Edge.{Edge, edgeStep, edgeFormat, edgeRun}
-use Rattle.edge.specs.Calls.{edgeCall, edgeOut, Happening, does, loses, cuts, Resumes, eventsOf, CutsIn, Happen, Agree, Runs}
+use Rattle.edge.specs.Calls.{Ask, plain, reads, drives, callOf, edgeCall, edgeOut, Happening, does, loses, cuts, Resumes, eventsOf, CutsIn, Happen, Agree, Runs}
 use Rattle.edge.specs.Calls.{stepCalls, edgeFormatted, EdgeClaim}
 use Rattle.edge.proofs.Calls.{meets, exact, still-sized}
 use Rattle.edge.proofs.RunCalls.{is-run}
@@ -73,10 +73,12 @@ restarts (cuts k new b ∷ es) h = absurd h
 happens-any : (N : ℕ) (img : List ℕ) (q r : Record) (k : Book) (es : List Happening) → Resumes es → Happens N (exec N) img q k (eventsOf es)
     → Happens N (exec N) img r k (eventsOf es)
 happens-any N img q r k [] h x = x
-happens-any N img q r k (does (request g m reply) ∷ es) h x = absurd h
-happens-any N img q r k (does step ∷ es) h x = absurd h
-happens-any N img q r k (does mount ∷ es) h x = x
-happens-any N img q r k (does format ∷ es) h x = x
+happens-any N img q r k (does (plain (request g m reply)) ∷ es) h x = absurd h
+happens-any N img q r k (does (plain step) ∷ es) h x = absurd h
+happens-any N img q r k (does (plain mount) ∷ es) h x = x
+happens-any N img q r k (does (plain format) ∷ es) h x = x
+happens-any N img q r k (does (reads g m at size) ∷ es) h x = absurd h
+happens-any N img q r k (does (drives at size byte) ∷ es) h x = absurd h
 happens-any N img q r k (loses b ∷ es) h x = absurd h
 happens-any N img q r k (cuts j new b ∷ es) h x = absurd h
 
@@ -87,7 +89,7 @@ cuts-erase N img b k j new l h =
       in-job = h .in-job;
       no-format = h .no-format;
       there = h .there;
-      erases = sym (ap (λ (e : Edge). e .image) (meets N img b l step .is)) ∙ h .erases;
+      erases = sym (ap (λ (e : Edge). e .image) (meets N img b l (plain step) .is)) ∙ h .erases;
       raised = h .raised;
     }
 
@@ -96,7 +98,7 @@ happens : (N : ℕ) (img b : List ℕ) (k : Book) (es : List Happening) → leng
 happens N img b k [] l h = tt
 happens N img b k (does c ∷ es) l h = (
   h .0,
-  subst (λ (o : Out). Happens N (exec N) (o .image) (o .board) (enterCall k c (o .answer)) (eventsOf es)) (exact N img b l c)
+  subst (λ (o : Out). Happens N (exec N) (o .image) (o .board) (enterCall k (callOf c) (o .answer)) (eventsOf es)) (exact N img b l c)
       (happens N (edgeCall N img b c .image) (edgeCall N img b c .board) _ es (still-sized N img b l c) (h .1)),
 )
 happens N img b k (loses d ∷ es) l h = happens-any N img (recordIn d) (recordIn b) k es (h .1) (happens N img d k es (h .0) (h .2))
@@ -111,10 +113,12 @@ happens N img b k (cuts j new d ∷ es) l h = (
 run-any : (N : ℕ) (img : List ℕ) (q r : Record) (k : Book) (u : Bool) (es : List Happening) → Resumes es → Run N (exec N) img q k u (eventsOf es)
     → Run N (exec N) img r k u (eventsOf es)
 run-any N img q r k u [] h x = x
-run-any N img q r k u (does (request g m reply) ∷ es) h x = absurd h
-run-any N img q r k u (does step ∷ es) h x = absurd h
-run-any N img q r k u (does mount ∷ es) h x = x
-run-any N img q r k u (does format ∷ es) h x = x
+run-any N img q r k u (does (plain (request g m reply)) ∷ es) h x = absurd h
+run-any N img q r k u (does (plain step) ∷ es) h x = absurd h
+run-any N img q r k u (does (plain mount) ∷ es) h x = x
+run-any N img q r k u (does (plain format) ∷ es) h x = x
+run-any N img q r k u (does (reads g m at size) ∷ es) h x = absurd h
+run-any N img q r k u (does (drives at size byte) ∷ es) h x = absurd h
 run-any N img q r k u (loses b ∷ es) h x = absurd h
 run-any N img q r k u (cuts j new b ∷ es) h x = absurd h
 
@@ -123,12 +127,12 @@ runs : (N : ℕ) (img b : List ℕ) (k : Book) (u : Bool) (es : List Happening) 
 runs N img b k u [] l h x = tt
 runs N img b k u (does c ∷ es) l h x =
     let e : Edge = edgeCall N img b c in
-    let back : exec N img (recordIn b) c ≡ edgeOut N img b c = sym (exact N img b l c) in (
-      subst (Says N img (recordIn b) k u c) back (x .0),
+    let back : exec N img (recordIn b) (callOf c) ≡ edgeOut N img b c = sym (exact N img b l c) in (
+      subst (Says N img (recordIn b) k u (callOf c)) back (x .0),
       agree N (e .image) (e .board) _ (still-sized N img b l c)
-          (subst (λ (o : Out). Agrees N (exec N) (o .image) (o .board) (enterCall k c (o .answer))) back (x .1)),
+          (subst (λ (o : Out). Agrees N (exec N) (o .image) (o .board) (enterCall k (callOf c) (o .answer))) back (x .1)),
       runs N (e .image) (e .board) _ _ es (still-sized N img b l c) (h .1)
-          (subst (λ (o : Out). Run N (exec N) (o .image) (o .board) (enterCall k c (o .answer)) (track u k c (o .answer)) (eventsOf es)) back (x .2)),
+          (subst (λ (o : Out). Run N (exec N) (o .image) (o .board) (enterCall k (callOf c) (o .answer)) (track u k (callOf c) (o .answer)) (eventsOf es)) back (x .2)),
     )
 runs N img b k u (loses d ∷ es) l h x = runs N img d k u es (h .0) (h .2) (run-any N img (recordIn b) (recordIn d) k u es (h .1) x)
 runs N img b k u (cuts j new d ∷ es) l h x = runs N (withBlock (sizeOf N img) j new img) d k u es (h .0) (h .3) x
@@ -141,7 +145,7 @@ pub record Same (e : Edge) (o : Out) : Type 0 where
   pub board : recordIn (e .board) ≡ o .board
   pub size : length (e .board) ≡ recordSize
 
-same-call : (N : ℕ) (img b : List ℕ) → length b ≡ recordSize → (c : _) → Same (edgeCall N img b c) (exec N img (recordIn b) c)
+same-call : (N : ℕ) (img b : List ℕ) → length b ≡ recordSize → (c : Ask) → Same (edgeCall N img b c) (exec N img (recordIn b) (callOf c))
 same-call N img b l c =
     let m = meets N img b l c in
     record {
@@ -156,7 +160,7 @@ same-steps N zero e o s = s
 same-steps N (suc n) e o s =
     same-steps N n (edgeStep N (e .image) (e .board)) (exec N (o .image) (o .board) step)
     (subst (Same (edgeStep N (e .image) (e .board))) (λ i. exec N (s .image i) (s .board i) step)
-    (same-call N (e .image) (e .board) (s .size) step))
+    (same-call N (e .image) (e .board) (s .size) (plain step)))
 
 pub edge-claim : EdgeClaim
 unfolding EdgeClaim Claim
@@ -164,7 +168,7 @@ edge-claim N img b y a l =
     let e : Edge = edgeFormatted N img b in
     let o : Out = formatted N (exec N) img (recordIn b) in
     let x = claim N img (recordIn b) y a in
-    let s : Same e o = same-steps N (N + 10) (edgeFormat N img b) (exec N img (recordIn b) format) (same-call N img b l format) in
+    let s : Same e o = same-steps N (N + 10) (edgeFormat N img b) (exec N img (recordIn b) format) (same-call N img b l (plain format)) in
     let g : (P : List ℕ → Record → Type 0) → P (o .image) (o .board) → P (e .image) (recordIn (e .board)) =
     λ P h. subst (λ (q : Record). P (e .image) q) (sym (s .board)) (subst (λ (i : List ℕ). P i (o .board)) (sym (s .image)) h) in (
       s .answer ∙ ap edgeNumber (x .0),

@@ -24,7 +24,8 @@ use Rattle.board.specs.Book.{Book, formatting, firstBook, enterCall}
 use Rattle.board.specs.Claim.{IdleAgrees, Says, track, ByteCall, Begins, Event, call, cutErase}
 use Rattle.board.specs.Promise.{Shown, shown, trace}
 use Rattle.lent.specs.Layout.{recordSize, recordIn}
-use Rattle.edge.specs.Edge.{Edge, edgeRequest, edgeStep, edgeMount, edgeFormat, Place, edgeRead, Broken, edgeFault, Run, run, edgeRun}
+use Rattle.edge.specs.Edge.{Edge, edge, edgeRequest, edgeStep, edgeMade, edgeMount, edgeFormat, Place, asRead, edgeRead, edgeNext, flashedBy}
+use Rattle.edge.specs.Edge.{Run, run, edgeRun, Broken, edgeFault}
 
 -- ---- one call
 
@@ -49,22 +50,48 @@ answerAt n f =
     ∷ Refused refusal.Stale
     ∷ []) n More
 
--- the function of each call, on an image and a record buffer
-abbrev pub edgeCall : ℕ → List ℕ → List ℕ → Call → Edge
-edgeCall N img b (request h m reply) = edgeRequest N img b (h .0) m reply
-edgeCall N img b step = edgeStep N img b
-edgeCall N img b mount = edgeMount N img b
-edgeCall N img b format = edgeFormat N img b
+-- what a caller in C does beside image and record: one of the four calls; grommetide_read, given host, message and the two numbers before it;
+-- grommetide_next, given three numbers, then the flash step that it tells, then grommetide_made
+pub data Ask : Type 0 where
+  plain : Call → Ask
+  reads : ℕ → List ℕ → ℕ → ℕ → Ask
+  drives : ℕ → ℕ → ℕ → Ask
 
--- grommetide_read, which has no reply, tells where a value stands
-abbrev pub edgeStretch : ℕ → List ℕ → List ℕ → Call → Stretch
-edgeStretch N img b (request h m reply) = let p : Place = edgeRead N img b (h .0) m 0 0 in record { at = p .at; size = p .size }
-edgeStretch N img b step = noStretch
-edgeStretch N img b mount = noStretch
-edgeStretch N img b format = noStretch
+-- the machine's call that it stands for
+abbrev pub callOf : Ask → Call
+callOf (plain c) = c
+callOf (reads h m at size) = request (record { 0 = h }) (asRead m) []
+callOf (drives at size byte) = step
+
+-- its answer's number and the buffers after it
+abbrev pub edgePlain : ℕ → List ℕ → List ℕ → Call → Edge
+edgePlain N img b (request h m reply) = edgeRequest N img b (h .0) m reply
+edgePlain N img b step = edgeStep N img b
+edgePlain N img b mount = edgeMount N img b
+edgePlain N img b format = edgeFormat N img b
+
+abbrev pub edgeCall : ℕ → List ℕ → List ℕ → Ask → Edge
+edgeCall N img b (plain c) = edgePlain N img b c
+edgeCall N img b (reads h m at size) = edge (edgeRead N img b h m at size .answer) img b []
+edgeCall N img b (drives at size byte) = edgeMade N (flashedBy (edgeNext N (length img) b at size byte) img) b
+
+-- where a value stands is grommetide_read's to tell, for a request too
+abbrev pub stretchIn : Place → Stretch
+stretchIn p = record { at = p .at; size = p .size }
+
+abbrev pub plainStretch : ℕ → List ℕ → List ℕ → Call → Stretch
+plainStretch N img b (request h m reply) = stretchIn (edgeRead N img b (h .0) m 0 0)
+plainStretch N img b step = noStretch
+plainStretch N img b mount = noStretch
+plainStretch N img b format = noStretch
+
+abbrev pub edgeStretch : ℕ → List ℕ → List ℕ → Ask → Stretch
+edgeStretch N img b (plain c) = plainStretch N img b c
+edgeStretch N img b (reads h m at size) = stretchIn (edgeRead N img b h m at size)
+edgeStretch N img b (drives at size byte) = noStretch
 
 -- all that the caller has after it: numbers and bytes read back
-abbrev pub edgeOut : ℕ → List ℕ → List ℕ → Call → Out
+abbrev pub edgeOut : ℕ → List ℕ → List ℕ → Ask → Out
 edgeOut N img b c =
     let e : Edge = edgeCall N img b c in
     record {
@@ -77,25 +104,25 @@ edgeOut N img b c =
 
 -- on every image and every record buffer of its size, forged ones too: what `exec` gives back
 unfoldable pub CallExact : Type 0
-CallExact = (N : ℕ) (img b : List ℕ) (c : Call) → length b ≡ recordSize → edgeOut N img b c ≡ exec N img (recordIn b) c
+CallExact = (N : ℕ) (img b : List ℕ) (c : Ask) → length b ≡ recordSize → edgeOut N img b c ≡ exec N img (recordIn b) (callOf c)
 
 -- and a buffer of its size
 unfoldable pub CallSized : Type 0
-CallSized = (N : ℕ) (img b : List ℕ) (c : Call) → length b ≡ recordSize → length (edgeCall N img b c .board) ≡ recordSize
+CallSized = (N : ℕ) (img b : List ℕ) (c : Ask) → length b ≡ recordSize → length (edgeCall N img b c .board) ≡ recordSize
 
 -- ---- a list of calls
 
 -- what stands in it: a call; power lost between two calls or inside an erase, with what the record buffer holds when it is back, and of an
 -- erase the block and the bytes that it has then
 pub data Happening : Type 0 where
-  does : Call → Happening
+  does : Ask → Happening
   loses : List ℕ → Happening
   cuts : ℕ → List ℕ → List ℕ → Happening
 
 -- "and a mount or format comes next"
 abbrev pub Resumes : List Happening → Type 0
 Resumes [] = Unit {0}
-Resumes (does c ∷ es) = Begins c
+Resumes (does c ∷ es) = Begins (callOf c)
 Resumes (loses b ∷ es) = ⊥
 Resumes (cuts k new b ∷ es) = ⊥
 
@@ -109,7 +136,7 @@ Lent (cuts k new b ∷ es) = (length b ≡ recordSize) × Resumes es × Lent es
 -- the same list for a machine
 abbrev pub eventsOf : List Happening → List Event
 eventsOf [] = []
-eventsOf (does c ∷ es) = call c ∷ eventsOf es
+eventsOf (does c ∷ es) = call (callOf c) ∷ eventsOf es
 eventsOf (loses b ∷ es) = eventsOf es
 eventsOf (cuts k new b ∷ es) = cutErase k new (recordIn b) ∷ eventsOf es
 
@@ -141,7 +168,8 @@ pub record CutsIn (N : ℕ) (img b : List ℕ) (k : Book) (j : ℕ) (new : List 
 abbrev pub Happen : ℕ → List ℕ → List ℕ → Book → List Happening → Type 0
 Happen N img b k [] = Unit {0}
 Happen N img b k (does c ∷ es) =
-    let e : Edge = edgeCall N img b c in ByteCall c × Happen N (e .image) (e .board) (enterCall k c (edgeOut N img b c .answer)) es
+    let e : Edge = edgeCall N img b c in
+    ByteCall (callOf c) × Happen N (e .image) (e .board) (enterCall k (callOf c) (edgeOut N img b c .answer)) es
 Happen N img b k (loses d ∷ es) = (length d ≡ recordSize) × Resumes es × Happen N img d k es
 Happen N img b k (cuts j new d ∷ es) =
     (length d ≡ recordSize) × CutsIn N img b k j new × Resumes es × Happen N (withBlock (sizeOf N img) j new img) d k es
@@ -157,8 +185,8 @@ Runs N img b k u [] = Unit {0}
 Runs N img b k u (does c ∷ es) =
     let e : Edge = edgeCall N img b c in
     let o : Out = edgeOut N img b c in
-    let k′ : Book = enterCall k c (o .answer) in
-    Says N img (recordIn b) k u c o × Agree N (e .image) (e .board) k′ × Runs N (e .image) (e .board) k′ (track u k c (o .answer)) es
+    let k′ : Book = enterCall k (callOf c) (o .answer) in
+    Says N img (recordIn b) k u (callOf c) o × Agree N (e .image) (e .board) k′ × Runs N (e .image) (e .board) k′ (track u k (callOf c) (o .answer)) es
 Runs N img b k u (loses d ∷ es) = Runs N img d k u es
 Runs N img b k u (cuts j new d ∷ es) = Runs N (withBlock (sizeOf N img) j new img) d k u es
 
