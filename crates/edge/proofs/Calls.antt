@@ -36,10 +36,12 @@ use Rattle.board.specs.Mount.{mountOn, formatOn}
 use Rattle.board.specs.Queue.{Held, held, requestOn}
 use Rattle.board.specs.Exec.{Call, request, step, mount, format, exec}
 use Rattle.board.specs.Claim.{Event}
-use Rattle.board.specs.Promise.{Shown, shown, trace}
+use Rattle.board.specs.Promise.{Shown, shown, trace, PromiseDetermines}
 use Rattle.board.proofs.Outcomes as outcome
 use Rattle.board.proofs.Refusals.{refusals-untouched, at-most-one-step}
 use Rattle.board.proofs.Telling.{silent}
+use Rattle.board.proofs.FollowingPlans.{kept}
+use Rattle.board.proofs.Determining.{promise-determines}
 use Rattle.lent.specs.Layout.{recordSize, recordIn, recordBytes}
 use Rattle.lent.proofs.Inverse.{Sized, record-back, length-bytes-of}
 use Rattle.lent.proofs.Own.{own-sized}
@@ -48,7 +50,7 @@ use Rattle.edge.specs.Edge.{Edge, edge, written, edgeRequest, edgeStep, 
 use Rattle.edge.specs.Edge.{place, EdgeNextThenMade}
 use Rattle.edge.specs.Edge.{Broken, broken, edgeFault}
 use Rattle.edge.specs.Calls.{fieldAt, answerAt, Ask, plain, reads, drives, callOf, edgeCall, stretchIn, plainStretch, edgeStretch, edgeOut, CallExact, CallSized}
-use Rattle.edge.specs.Calls.{Happening, does, loses, cuts, Resumes, Lent, eventsOf, edgeTrace, TraceExact}
+use Rattle.edge.specs.Calls.{Happening, does, loses, cuts, Resumes, Lent, eventsOf, edgeTrace, TraceExact, TracePromised}
 use Rattle.edge.proofs.Kept.{Keeps, step-keeps}
 use Rattle.edge.proofs.Arrays.{Plain, step-sized, mount-sized, format-sized}
 use Rattle.edge.proofs.Asked.{serves}
@@ -365,4 +367,9 @@ trace-exact N img b (does c ∷ es) l h =
     ap (λ (ss : List Shown). shown (edgeOut N img b c) ∷ ss) t
     ∙ λ i. shown (x i) ∷ trace N (exec N) (x i .image) (x i .board) (eventsOf es)
 trace-exact N img b (loses d ∷ es) l h = trace-exact N img d es (h .0) (h .2) ∙ any-record N img (recordIn d) (recordIn b) es (h .1)
-trace-exact N img b (cuts k new d ∷ es) l h = trace-exact N (withBlock (sizeOf N img) k new img) d es (h .0) (h .2)
+trace-exact N img b (cuts k new d ∷ es) l h = trace-exact N (withBlock (sizeOf N img) k new img) d es (h .0) (h .1)
+
+pub trace-promised : TracePromised
+unfolding TracePromised TraceExact PromiseDetermines
+trace-promised N m k img b q c es l h y begins bytes =
+    trace-exact N img b (does (plain c) ∷ es) l h ∙ promise-determines N (exec N) m (kept N) k img (recordIn b) q c (eventsOf es) y begins bytes

@@ -18,18 +18,19 @@ use Rattle.wire.specs.declared.Refusal.the-variants as refusal
 use Rattle.wire.specs.Answer.{edgeNumber}
 use Rattle.board.specs.declared.Phase.the-variants.{Idle}
 use Rattle.board.specs.Record.{allowed, Stretch, noStretch, Out, answerOf}
-use Rattle.board.specs.Exec.{Call, request, step, mount, format, exec}
+use Rattle.board.specs.declared.Record.{Record}
+use Rattle.board.specs.Exec.{Call, request, step, mount, format, Machine, exec}
 use Rattle.board.specs.Table.{isBusy, InJob}
 use Rattle.board.specs.Book.{Book, formatting, firstBook, enterCall}
 use Rattle.board.specs.Claim.{IdleAgrees, Says, track, ByteCall, Begins, Event, call, cutErase}
-use Rattle.board.specs.Promise.{Shown, shown, trace}
+use Rattle.board.specs.Promise.{Promise, Shown, shown, trace, ByteEvents}
 use Rattle.lent.specs.Layout.{recordSize, recordIn}
 use Rattle.edge.specs.Edge.{Edge, edge, edgeRequest, edgeStep, edgeMade, edgeMount, edgeFormat, Place, asRead, edgeRead, edgeNext, flashedBy}
 use Rattle.edge.specs.Edge.{Run, run, edgeRun, Broken, edgeFault}
 
 -- ---- one call
 
--- the header's answers and fields by their numbers, in its order; what 3 names is grommetide_fault's. Any other number is none of an answer
+-- the header's answers and fields by their numbers, in its order; what 3 names is told by grommetide_fault. 255 is more; no other number is an answer's
 abbrev pub fieldAt : ℕ → Field
 fieldAt n =
     getD (field.Length ∷ field.Kind ∷ field.Host ∷ field.Id ∷ field.Finish ∷ field.Created ∷ field.State ∷ field.Spare ∷ []) (n - 1) field.Length
@@ -50,8 +51,8 @@ answerAt n f =
     ∷ Refused refusal.Stale
     ∷ []) n More
 
--- what a caller in C does beside image and record: one of the four calls; grommetide_read, given host, message and the two numbers before it;
--- grommetide_next, given three numbers, then the flash step that it tells, then grommetide_made
+-- what a caller in C asks for, image and record aside: one of the machine's calls; grommetide_read with a host, a message and what stood in the
+-- two numbers; or grommetide_next with what stood in the three numbers, then the flash step that it tells, then grommetide_made
 pub data Ask : Type 0 where
   plain : Call → Ask
   reads : ℕ → List ℕ → ℕ → ℕ → Ask
@@ -126,12 +127,12 @@ Resumes (does c ∷ es) = Begins (callOf c)
 Resumes (loses b ∷ es) = ⊥
 Resumes (cuts k new b ∷ es) = ⊥
 
--- the buffers are a record's size
+-- the record buffer has a record's size when power is back; lost between two calls, the record is lost too
 abbrev pub Lent : List Happening → Type 0
 Lent [] = Unit {0}
 Lent (does c ∷ es) = Lent es
 Lent (loses b ∷ es) = (length b ≡ recordSize) × Resumes es × Lent es
-Lent (cuts k new b ∷ es) = (length b ≡ recordSize) × Resumes es × Lent es
+Lent (cuts k new b ∷ es) = (length b ≡ recordSize) × Lent es
 
 -- the same list for a machine
 abbrev pub eventsOf : List Happening → List Event
@@ -148,11 +149,17 @@ edgeTrace N img b (does c ∷ es) =
 edgeTrace N img b (loses d ∷ es) = edgeTrace N img d es
 edgeTrace N img b (cuts k new d ∷ es) = edgeTrace N (withBlock (sizeOf N img) k new img) d es
 
--- answers, images, replies, stretches and records at rest are those of `exec`
+-- answers, images, replies, stretches and records at rest are those of `exec`: on every image, record buffer and list
 unfoldable pub TraceExact : Type 0
 TraceExact =
     (N : ℕ) (img b : List ℕ) (es : List Happening) → length b ≡ recordSize → Lent es
     → edgeTrace N img b es ≡ trace N (exec N) img (recordIn b) (eventsOf es)
+
+-- and those of any machine that keeps the promise, from a mount or format on
+unfoldable pub TracePromised : Type 0
+TracePromised =
+    (N : ℕ) (m : Machine) → Promise N m → (img b : List ℕ) (q : Record) (c : Call) (es : List Happening) → length b ≡ recordSize → Lent es
+    → Bytes img → Begins c → ByteEvents (eventsOf es) → edgeTrace N img b (does (plain c) ∷ es) ≡ trace N m img q (call c ∷ eventsOf es)
 
 -- ---- demand 3
 
