@@ -1,2 +1,4 @@
 pub mod Edge
+pub mod Header
 pub mod Code
+pub mod Calls
