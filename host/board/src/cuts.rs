@@ -42,7 +42,7 @@ impl fmt::Display for Tally {
 }
 
 /// One of so many cuts falls into the start, into a format, inside an erase.
-const MOUNTS: usize = 6;
+const STARTS: usize = 6;
 const FORMATS: usize = 12;
 const ERASES: usize = 8;
 
@@ -77,12 +77,13 @@ impl Bench {
 
     /// Power comes on, hosts make requests, and power goes at a random moment.
     pub fn cut(&mut self) {
-        if self.rng.once_in(ERASES) && !self.formatting {
+        let turn = |every: usize| self.tally.boots % every == every / 2;
+        let (early, format, inside) = (turn(STARTS), turn(FORMATS), turn(ERASES));
+        if inside && !self.formatting {
             self.tally.cut_in_erase += usize::from(self.chip.lose_power_in_erase(&mut self.rng));
         }
-        let time = if self.rng.once_in(MOUNTS) { self.time(20) } else { LONG };
+        let time = if early { self.time(20) } else { LONG };
         let Some(mut machine) = self.start(time) else { return };
-        let format = self.rng.once_in(FORMATS);
         let most = if format { 25 } else { self.rng.pick(&[30, 200, 800]) };
         let end = Instant::now() + self.time(most);
         let request = |rng: &mut Rng| if format { Request::Format } else { Request::random(rng) };

@@ -55,7 +55,7 @@ fn of_equal_times() {
     refused("equal", &[(BLOCK, &HEADER), (3 * BLOCK, &HEADER)], first);
 }
 
-/// A block that is in progress may have been valid before it lost its state byte: it may hold objects.
+/// One wrong bit of its state makes a valid block one in progress: it holds its objects still.
 #[test]
 fn without_a_store_and_not_blank() {
     let mut header = HEADER;
