@@ -16,6 +16,8 @@ pub struct Tally {
     pub cut_in_mount: usize,
     /// Starts on a chip that lost power inside an erase.
     pub cut_in_erase: usize,
+    /// Cut right behind the answer to a commit.
+    pub cut_at_answer: usize,
     pub requests: usize,
     pub commits: usize,
     pub no_room: usize,
@@ -29,20 +31,19 @@ pub struct Tally {
 
 impl fmt::Display for Tally {
     fn fmt(&self, f: &mut fmt::Formatter) -> fmt::Result {
-        let Tally { boots, cut_in_mount, cut_in_erase, requests, commits, .. } = self;
+        let Tally { boots, cut_in_mount, cut_in_erase, cut_at_answer, requests, commits, .. } = self;
         let Tally { no_room, formats, formats_again, kept, lost, .. } = self;
-        writeln!(
-            f,
-            "{boots} boots, {cut_in_mount} cut in the mount, {cut_in_erase} after power lost inside an erase"
-        )?;
+        writeln!(f, "{boots} boots, {cut_in_mount} cut in the mount, {cut_at_answer} right after an answer,")?;
+        writeln!(f, "{cut_in_erase} after power lost inside an erase")?;
         writeln!(f, "{requests} requests answered, {commits} commits, {no_room} refused for room")?;
         writeln!(f, "{formats} formats, {formats_again} cut ones made again")?;
         write!(f, "{kept} commits and formats in flight kept, {lost} lost")
     }
 }
 
-/// One of so many cuts falls into the start, into a format, inside an erase.
+/// One of so many cuts falls into the start, right behind the answer to a commit, into a format, inside an erase.
 const STARTS: usize = 6;
+const ANSWERS: usize = 5;
 const FORMATS: usize = 12;
 const ERASES: usize = 8;
 
@@ -75,21 +76,25 @@ impl Bench {
         }
     }
 
-    /// Power comes on, hosts make requests, and power goes at a random moment.
+    /// Power comes on, hosts make requests, and power goes at a random moment, or right after a commit was answered.
     pub fn cut(&mut self) {
         let turn = |every: usize| self.tally.boots % every == every / 2;
-        let (early, format, inside) = (turn(STARTS), turn(FORMATS), turn(ERASES));
+        let (early, answered, format, inside) = (turn(STARTS), turn(ANSWERS), turn(FORMATS), turn(ERASES));
         if inside && !self.formatting {
             self.tally.cut_in_erase += usize::from(self.chip.lose_power_in_erase(&mut self.rng));
         }
         let time = if early { self.time(20) } else { LONG };
         let Some(mut machine) = self.start(time) else { return };
         let most = if format { 25 } else { self.rng.pick(&[30, 200, 800]) };
-        let end = Instant::now() + self.time(most);
-        let request = |rng: &mut Rng| if format { Request::Format } else { Request::random(rng) };
+        let end = Instant::now() + if answered && !format { LONG } else { self.time(most) };
         loop {
-            let request = request(&mut self.rng);
+            let request = if format { Request::Format } else { Request::random(&mut self.rng) };
             machine.send(&format!("{}\r", request.typed()));
+            if answered && matches!(request, Request::Commit(_)) && request.outcome(&self.book).is_some() {
+                machine.wait_until(|heard| heard.matches("\r\n").count() == 2);
+                self.tally.cut_at_answer += 1;
+                return self.met(&request, &machine.cut());
+            }
             match machine.hear_until(end) {
                 Some(heard) => self.answered(&request, &heard),
                 None => return self.met(&request, &machine.cut()),

@@ -81,13 +81,13 @@ impl Machine {
         lines_after(&heard, command).unwrap_or_else(|| panic!("no echo of {command}: {heard}"))
     }
 
-    /// Waits until the board has printed this.
-    pub fn wait_for(&mut self, text: &str) -> String {
+    /// Waits until what the board has printed since the last prompt is enough.
+    pub fn wait_until(&mut self, enough: impl Fn(&str) -> bool) {
         let end = Instant::now() + PATIENCE;
         loop {
             let heard = String::from_utf8_lossy(&self.heard).into_owned();
-            if heard.contains(text) {
-                return heard;
+            if enough(&heard) {
+                return;
             }
             let left = end.saturating_duration_since(Instant::now());
             self.heard.extend(self.printed.recv_timeout(left).unwrap_or_else(|error| panic!("{error}: {heard}")));

@@ -1,8 +1,10 @@
-//! Changed firmwares: a driver that the chip does not obey, a store at another place.
+//! Changed firmwares: a driver that the chip does not obey, a store at another place, an answer too early.
 
 use crate::*;
 use board::chip::{BLOCK, STORE};
+use board::cuts::Bench;
 use std::fs;
+use std::panic::{AssertUnwindSafe, catch_unwind};
 
 /// The firmware with one text in one of its files replaced.
 fn changed(name: &str, file: &str, old: &str, new: &str) -> PathBuf {
@@ -32,7 +34,9 @@ fn writes_not_enabled() {
     let firmware = changed("not-enabled", "nor.c", "NOR_WRITE_ENABLE = 0x06", "NOR_WRITE_ENABLE = 0x04");
     let chip = chip("not-enabled", &[]);
     let mut machine = Machine::on(&firmware, chip.file());
-    machine.wait_for("flash: the chip did not program at byte 16384: it holds ff, not 66. Stopped.\r\n");
+    machine.wait_until(|heard| {
+        heard.contains("flash: the chip did not program at byte 16384: it holds ff, not 66. Stopped.\r\n")
+    });
     machine.cut();
     assert_eq!(chip.bytes(), vec![0xFF; 4 << 20]);
 }
@@ -43,9 +47,11 @@ fn erases_ignored() {
     let firmware = changed("not-erased", "nor.c", "NOR_ERASE = 0x20", "NOR_ERASE = 0x04");
     let chip = chip("not-erased", &[(0, &HEADER)]);
     let mut machine = Machine::on(&firmware, chip.file());
-    machine.wait_for("mount: 0 done\r\n");
+    machine.wait_until(|heard| heard.contains("mount: 0 done\r\n"));
     machine.send("format yes\r");
-    machine.wait_for("flash: the chip did not erase at byte 0: it holds 10, not ff. Stopped.\r\n");
+    machine.wait_until(|heard| {
+        heard.contains("flash: the chip did not erase at byte 0: it holds 10, not ff. Stopped.\r\n")
+    });
     machine.cut();
 }
 
@@ -63,4 +69,22 @@ fn the_store_at_another_place() {
     let (store, mut expected) = (AT..AT + 32, before);
     expected[store].copy_from_slice(&[&HEADER[..], &[0xFF; 7], &PUT, &COMMIT].concat());
     assert_eq!(chip.bytes(), expected);
+}
+
+/// A firmware that answers a commit before its flash steps are made: a cut right behind the answer loses it.
+#[test]
+fn an_early_answer_is_noticed() {
+    let right = "    if (kind == COMMIT || kind == ABORT || !store_is_worn())\n";
+    let early = r#"    if (kind == COMMIT) {
+        say_line("0 done");
+        store_request((uint8_t)host, message, len);
+        return;
+    }
+"#;
+    let firmware = changed("early", "command.c", right, &format!("{early}{right}"));
+    let mut bench = Bench::new(&firmware, scratch("early.chip"), 1);
+    let cuts = catch_unwind(AssertUnwindSafe(|| (0..60).for_each(|_| bench.cut())));
+    let why = cuts.expect_err("a commit that was answered must be lost within 60 cuts");
+    let why = why.downcast_ref::<String>().expect("a text");
+    assert!(why.contains("the book has others"), "{why}");
 }

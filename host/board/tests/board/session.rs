@@ -129,6 +129,28 @@ fn typing() {
     machine.cut();
 }
 
+/// What is typed while a flash job runs is not lost.
+#[test]
+fn typed_ahead() {
+    let chip = chip("ahead", &[]);
+    let mut machine = start(&chip, &[BLANK, FORMATTED]);
+    let value = "5a00".repeat(120);
+    machine.send(&format!("put 3 1 {value}\rcommit 3\rget 1\rlog\r"));
+    let lines = [
+        &format!("put 3 1 {value}"),
+        "0 done, 248 steps",
+        "> commit 3",
+        "0 done, 6 steps",
+        "> get 1",
+        &format!("0 done: {value}"),
+        "> log",
+        "0 done: time 1, 1 object, 263 of 4096 bytes used",
+        "> ",
+    ];
+    machine.wait_until(|heard| heard.ends_with("used\r\n> "));
+    assert_eq!(machine.cut().split("\r\n").collect::<Vec<_>>(), lines);
+}
+
 /// A mount is the deepest of the calls that the firmware makes; the stack in ast1030.ld has 8,192 bytes.
 #[test]
 fn the_stack_suffices() {
