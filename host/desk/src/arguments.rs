@@ -78,10 +78,11 @@ impl Asked {
     }
 
     /// The number behind an option, if it is there.
-    pub fn number(&self, option: &str) -> Result<Option<u8>, Failure> {
+    pub fn number(&self, option: &str, most: usize) -> Result<Option<usize>, Failure> {
         let Some((_, value)) = self.options.iter().rfind(|(name, _)| *name == option) else { return Ok(None) };
-        let wrong = format!("{option}= goes with a number from 0 to 255, not {}", say::word(value));
-        value.parse().map(Some).map_err(|_| Failure { status: WRONG, why: wrong })
+        let wrong = || format!("{option}= goes with a number from 0 to {most}, not {}", say::word(value));
+        let number = value.parse().ok().filter(|number| *number <= most);
+        number.map(Some).ok_or_else(|| Failure { status: WRONG, why: wrong() })
     }
 
     /// The file, or standard input if none is named.

@@ -28,6 +28,34 @@ pub fn whole(input: impl Read, most: usize) -> io::Result<Vec<u8>> {
     Ok(bytes)
 }
 
+/// The part of a larger dump that is the image.
+pub struct Part {
+    pub at: usize,
+    /// All that follows, if it is not given.
+    pub length: Option<usize>,
+}
+
+impl Part {
+    /// Its bytes in the dump that `input` is. Of a dump without an end no more than one above `LARGEST`.
+    pub fn of(&self, mut input: impl Read) -> io::Result<Vec<u8>> {
+        io::copy(&mut input.by_ref().take(self.at as u64), &mut io::sink())?;
+        match self.length {
+            Some(length) => {
+                let mut bytes = Vec::new();
+                input.take(length as u64).read_to_end(&mut bytes)?;
+                Ok(bytes)
+            }
+            None => whole(input, LARGEST),
+        }
+    }
+
+    /// Why these bytes are not all of it.
+    pub fn lacks(&self, bytes: &[u8]) -> Option<String> {
+        let length = self.length.filter(|length| *length > bytes.len())?;
+        Some(format!("{} of {length} bytes from byte {} on are there", bytes.len(), self.at))
+    }
+}
+
 /// Why a file cannot be had, without the system's numbers where plain words do.
 pub fn why(error: &io::Error) -> String {
     match error.kind() {

@@ -12,19 +12,23 @@ mod survey;
 
 use arguments::{Asked, Command, Failure, WRONG};
 use board::BLOCKS;
-use input::{LARGEST, LONGEST};
+use input::{LARGEST, LONGEST, Part};
 use library::Library;
 use script::{Manner, Trouble};
 use show::{Report, Wanted};
 use std::ffi::OsString;
-use std::io::{self, BufReader, BufWriter, ErrorKind, Write};
+use std::io::{self, BufReader, BufWriter, ErrorKind, Read, Write};
 use std::process::ExitCode;
 use store::Store;
 
 const HELP: &str = include_str!("help.txt");
 
 const COMMANDS: [Command; 4] = [
-    Command { name: "show", takes: "[--hex] [--journal] [--blocks=N] FILE", run: show },
+    Command {
+        name: "show",
+        takes: "[--hex] [--journal] [--blocks=N] [--at=BYTE] [--length=BYTES] FILE",
+        run: show,
+    },
     Command { name: "replay", takes: "[--words] [--strict] [FILE]", run: replay },
     Command { name: "demo", takes: "", run: demo },
     Command { name: "help", takes: "", run: help },
@@ -75,22 +79,33 @@ fn run(arguments: &[OsString]) -> Result<bool, Failure> {
 fn show(asked: &Asked) -> Result<bool, Failure> {
     let name = asked.name();
     let failed = |why: String| Failure { status: WRONG, why: format!("{name}: {why}") };
-    let blocks = asked.number("--blocks")?.unwrap_or(BLOCKS);
+    let blocks = asked.number("--blocks", 255)?.map_or(BLOCKS, |blocks| blocks as u8);
+    let (at, length) = (asked.number("--at", u32::MAX as usize)?, asked.number("--length", LARGEST)?);
+    let part = Part { at: at.unwrap_or(0), length };
     let (hex, file) = (asked.has("--hex"), asked.open().map_err(failed)?);
-    let most = if hex { LONGEST } else { LARGEST };
-    let bytes = input::whole(file, most).map_err(|error| failed(input::why(&error)))?;
-    let image = if hex { &input::from_hex(&bytes).map_err(failed)? } else { &bytes };
+    let image = &image(file, hex, &part).map_err(failed)?;
     let report = Report::new(&Library::linked(), image, blocks);
     let mut out = BufWriter::new(io::stdout().lock());
     let wanted = Wanted { journal: asked.has("--journal") };
     let hint = if !hex && !report.store() && input::looks_like_hex(image) { HINT } else { "" };
-    let shown = report.write(&name, &length(image, hex), wanted, &mut out);
+    let shown = report.write(&name, &size(image, hex), wanted, &mut out);
     written(shown.and_then(|()| out.write_all(hint.as_bytes())).and_then(|()| out.flush()), WRONG)?;
     Ok(report.store())
 }
 
+fn image(file: impl Read, hex: bool, part: &Part) -> Result<Vec<u8>, String> {
+    let read = |error: io::Error| input::why(&error);
+    let bytes = if hex {
+        let digits = input::whole(file, LONGEST).map_err(read)?;
+        part.of(&input::from_hex(&digits)?[..]).map_err(read)?
+    } else {
+        part.of(file).map_err(read)?
+    };
+    part.lacks(&bytes).map_or(Ok(bytes), Err)
+}
+
 /// How long an image is; of a file that is too large not all was read.
-fn length(image: &[u8], hex: bool) -> String {
+fn size(image: &[u8], hex: bool) -> String {
     match image.len() {
         length if length > LARGEST && !hex => format!("more than {}", say::count(LARGEST, "byte")),
         length => say::count(length, "byte"),

@@ -368,8 +368,14 @@ multiple of 128 from 256 up, and 65,536 bytes at most.\n";
         ("--blocks=", "--blocks= goes with a number from 0 to 255, not \n"),
         ("--blocks=256", "--blocks= goes with a number from 0 to 255, not 256\n"),
         ("--blocks=\u{1b}", "--blocks= goes with a number from 0 to 255, not \\u{1b}\n"),
-        ("--blocks", "show has no option --blocks\nusage: desk show [--hex] [--journal] [--blocks=N] FILE\n"),
-        ("--hex=4", "show has no option --hex=4\nusage: desk show [--hex] [--journal] [--blocks=N] FILE\n"),
+        (
+            "--blocks",
+            "show has no option --blocks\nusage: desk show [--hex] [--journal] [--blocks=N] [--at=BYTE] [--length=BYTES] FILE\n",
+        ),
+        (
+            "--hex=4",
+            "show has no option --hex=4\nusage: desk show [--hex] [--journal] [--blocks=N] [--at=BYTE] [--length=BYTES] FILE\n",
+        ),
     ] {
         assert_eq!(run(&["show", option, "-"], b""), (2, String::new(), format!("desk: {why}")));
     }

@@ -48,12 +48,21 @@ fn unknown_commands_and_options() {
     assert_eq!(run(&["play"], b""), (2, String::new(), format!("desk: no command is named play\n{commands}")));
     assert_eq!(run(&[""], b"").2, format!("desk: no command is named \n{commands}"));
     let usage = [
-        (&["show"][..], "show goes with a file\nusage: desk show [--hex] [--journal] [--blocks=N] FILE\n"),
-        (&["show", "--hex"], "show goes with a file\nusage: desk show [--hex] [--journal] [--blocks=N] FILE\n"),
-        (&["show", "a", "b"], "show does not go with b\nusage: desk show [--hex] [--journal] [--blocks=N] FILE\n"),
+        (
+            &["show"][..],
+            "show goes with a file\nusage: desk show [--hex] [--journal] [--blocks=N] [--at=BYTE] [--length=BYTES] FILE\n",
+        ),
+        (
+            &["show", "--hex"],
+            "show goes with a file\nusage: desk show [--hex] [--journal] [--blocks=N] [--at=BYTE] [--length=BYTES] FILE\n",
+        ),
+        (
+            &["show", "a", "b"],
+            "show does not go with b\nusage: desk show [--hex] [--journal] [--blocks=N] [--at=BYTE] [--length=BYTES] FILE\n",
+        ),
         (
             &["show", "--words", "a"],
-            "show has no option --words\nusage: desk show [--hex] [--journal] [--blocks=N] FILE\n",
+            "show has no option --words\nusage: desk show [--hex] [--journal] [--blocks=N] [--at=BYTE] [--length=BYTES] FILE\n",
         ),
         (&["replay", "--hex"], "replay has no option --hex\nusage: desk replay [--words] [--strict] [FILE]\n"),
         (&["demo", "x"], "demo does not go with x\nusage: desk demo\n"),

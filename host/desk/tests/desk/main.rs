@@ -6,6 +6,7 @@ mod erase;
 mod fault;
 mod files;
 mod input;
+mod part;
 mod replay;
 mod show;
 mod words;
