@@ -10,7 +10,7 @@ use std::path::{Path, PathBuf};
 /// The bytes of the stream for each call.
 const WORD: usize = 4;
 /// Seconds that a program may take for a thousand rounds, and at least.
-const PATIENCE: u64 = 300;
+const PATIENCE: u64 = 600;
 
 /// The first call of which a target gives back something else, as both tell it.
 #[derive(Debug)]

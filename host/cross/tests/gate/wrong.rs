@@ -45,7 +45,9 @@ fn a_wrong_kind() {
 #[test]
 fn a_longer_value() {
     let Difference { own, target, .. } = found("value", &RISCV64, "icmp ult i64 246,", "icmp ult i64 247,");
-    let told = |words: &str| words.contains("grommetide_request") && words.contains("message of 247 bytes: f7 00 01 01 09 00");
+    let told = |words: &str| {
+        words.contains("grommetide_request") && words.contains("message of 247 bytes: f7 00 01 01 09 00")
+    };
     assert!(
         told(&own) && own.contains("answer 1\n") && told(&target) && target.contains("answer 255\n"),
         "{own}{target}"
