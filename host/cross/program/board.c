@@ -1,10 +1,19 @@
 #include "program.h"
 
-static _Alignas(4) uint8_t images[2][IMAGE_BYTES];
+static _Alignas(4) uint8_t images[2][IMAGE_BYTES + 4];
 static _Alignas(4) uint8_t records[2][GROMMETIDE_RECORD_BYTES + 3];
 
 struct board here = {images[0], records[0], 0, GROMMETIDE_RECORD_BYTES, 2};
 struct board twin = {images[1], records[1], 0, GROMMETIDE_RECORD_BYTES, 2};
+
+/* Where the buffers begin, 0 to 3 bytes behind a multiple of four: the library asks for no alignment. */
+void place(uint32_t image, uint32_t record)
+{
+    here.image = images[0] + image;
+    here.record = records[0] + record;
+    twin.image = images[1] + (image ^ 1);
+    twin.record = records[1] + record;
+}
 
 /* Blank flash; the record is unmounted. */
 void clear(struct board *board, uint32_t len, uint8_t blocks)

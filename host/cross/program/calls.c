@@ -44,15 +44,24 @@ static inline uint32_t mixed(uint32_t old, uint32_t word)
     return new << 13 | new >> 19;
 }
 
-/* Words are little-endian and buffers stand at multiples of four, on every target. */
+static inline uint32_t word(const uint8_t *b)
+{
+    return (uint32_t)b[0] | (uint32_t)b[1] << 8 | (uint32_t)b[2] << 16 | (uint32_t)b[3] << 24;
+}
+
+/* Words are little-endian on every target. Most buffers stand at multiples of four, which is quicker. */
 static uint32_t mixed_bytes(uint32_t old, const uint8_t *bytes, uint32_t len)
 {
-    const uint8_t *b = __builtin_assume_aligned(bytes, 4);
     uint32_t i = 0;
+    if (((uintptr_t)bytes & 3) == 0) {
+        const uint8_t *b = __builtin_assume_aligned(bytes, 4);
+        for (; i + 4 <= len; i += 4)
+            old = mixed(old, word(b + i));
+    }
     for (; i + 4 <= len; i += 4)
-        old = mixed(old, (uint32_t)b[i] | (uint32_t)b[i + 1] << 8 | (uint32_t)b[i + 2] << 16 | (uint32_t)b[i + 3] << 24);
+        old = mixed(old, word(bytes + i));
     for (; i < len; i++)
-        old = mixed(old, b[i]);
+        old = mixed(old, bytes[i]);
     return old;
 }
 

@@ -85,6 +85,7 @@ void flush_calls(void);
 void end_calls(void);
 
 /* board.c */
+void place(uint32_t image, uint32_t record);
 void clear(struct board *board, uint32_t len, uint8_t blocks);
 void lose_record(struct board *board);
 void copy_board(struct board *to, const struct board *from);

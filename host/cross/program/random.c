@@ -227,6 +227,7 @@ static void begin_round(uint32_t limit, int wide)
 {
     const uint32_t blocks = 2 + below(15), most = (limit / blocks - 256) / 128 + 1;
     const uint32_t more = below(wide ? most : most < 4 ? most : 4);
+    place(one_in(8) ? below(4) : 0, one_in(8) ? below(4) : 0);
     clear(&here, blocks * (256 + 128 * more), (uint8_t)blocks);
     if (one_in(8))
         for (uint32_t i = 0; i < here.len; i++)
