@@ -1,0 +1,60 @@
+/* Next, its flash step and made beside step: after each, the same answer, image and record; on every kind of job. */
+#include "program.h"
+
+static void finish_beside(uint8_t answer)
+{
+    uint32_t made = 0;
+    while (answer == GROMMETIDE_MORE) {
+        answer = step_beside();
+        must(++made <= 65536);
+    }
+    must(answer == GROMMETIDE_DONE);
+    must(step_beside() == GROMMETIDE_DONE);
+}
+
+static void ask_beside(uint8_t host, const struct message *message)
+{
+    finish_beside(ask(host, message));
+}
+
+/* Puts, deletes, commits and aborts until the store has moved on to the next block, with something pending on the way. */
+static void fill_block(uint32_t size)
+{
+    const struct message commit = bare(COMMIT), abort = bare(ABORT);
+    uint8_t value[40];
+    for (uint8_t id = 0; all(here.image + size, 0xFF, size); id++) {
+        const struct message delete = message_of(DELETE, id, NULL, 0);
+        struct message put;
+        fill(value, id, sizeof value);
+        put = message_of(PUT, id & 3, value, id % sizeof value);
+        must(id < 250);
+        ask_beside(id & 1, &put);
+        ask_beside(2, &delete);
+        ask_beside(2, &abort);
+        ask_beside(id & 1, &commit);
+    }
+}
+
+static void all_jobs(uint32_t len, uint8_t blocks)
+{
+    const struct message put = put_of(7, "pending");
+    clear(&here, len, blocks);
+    must(call_mount(&here) == GROMMETIDE_NO_STORE);
+    finish_beside(call_format(&here));
+    fill_block(len / blocks);
+    ask_beside(3, &put);
+    lose_record(&here);
+    finish_beside(call_mount(&here));
+    must(ask(3, &put) == GROMMETIDE_MORE);
+    step_beside();
+    lose_record(&here);
+    finish_beside(call_mount(&here));
+    finish_beside(call_format(&here));
+}
+
+void driven(void)
+{
+    all_jobs(512, 2);
+    all_jobs(1152, 3);
+    all_jobs(4096, 16);
+}

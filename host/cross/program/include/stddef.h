@@ -1,0 +1,7 @@
+#ifndef STDDEF_H
+#define STDDEF_H
+
+typedef __SIZE_TYPE__ size_t;
+#define NULL ((void *)0)
+
+#endif

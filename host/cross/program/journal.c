@@ -1,0 +1,82 @@
+/* Journals as a store might have left them, and such that are foreign in one field. */
+#include "program.h"
+
+enum { HEADER = 16, SETTLED = 5, FRAME_MAX = 260 };
+
+/* The length of a frame's value: most are short, some near the longest that there may be. */
+static uint32_t value_len(void)
+{
+    return one_in(12) ? 238 + below(5) : below(24);
+}
+
+/* A frame of this kind; its bytes. */
+static uint32_t frame(uint8_t *to, uint8_t kind, uint8_t id)
+{
+    const uint32_t value = kind == PUT || kind == SETTLED ? value_len() : 0;
+    const uint8_t host = (uint8_t)below(4);
+    uint32_t at = 4;
+    if (kind != SETTLED)
+        to[at++] = host;
+    if (kind == PUT || kind == DELETE || kind == SETTLED) {
+        to[at++] = id;
+        to[at++] = 0;
+    }
+    for (uint32_t i = 0; i < value; i++)
+        to[at++] = (uint8_t)(one_in(3) ? 0xFF : any());
+    to[at++] = 0xFE;
+    to[0] = (uint8_t)at;
+    to[1] = 0;
+    to[2] = kind;
+    to[3] = 0;
+    return at;
+}
+
+/* A field becomes another by a little: in the length, the kind, the host, the id or the finish byte. */
+static void spoil(uint8_t *bytes, uint32_t len)
+{
+    const uint32_t at = one_in(3) ? len - 1 : below(8) % len;
+    bytes[at] = (uint8_t)(one_in(2) ? bytes[at] + 1 : one_in(2) ? bytes[at] - 1 : any());
+}
+
+static void header(uint8_t *block)
+{
+    const uint8_t time = (uint8_t)(one_in(20) ? below(2) : 1 + below(6));
+    const uint8_t bytes[] = {16, 0, 1, 0x4A, (uint8_t)~time, 0xFF, 0xFF, 0xFF, (uint8_t)(one_in(10) ? 0xFE : 0xFC)};
+    copy(block, bytes, sizeof bytes);
+    if (one_in(30))
+        fill(block + 4, 0, 4);
+    if (one_in(12))
+        spoil(block, HEADER);
+}
+
+/* Settled frames with rising ids, then others, then a tail that is blank or torn. */
+static void journal(uint8_t *block, uint32_t size)
+{
+    static uint8_t bytes[FRAME_MAX];
+    const uint32_t settled = below(5), frames = settled + below(8);
+    uint32_t at = HEADER;
+    uint8_t id = (uint8_t)below(3);
+    header(block);
+    for (uint32_t i = 0; i <= frames; i++) {
+        const int first = i < settled && !one_in(40);
+        uint32_t len = frame(bytes, first ? SETTLED : (uint8_t)(1 + below(one_in(30) ? 6 : 4)), id);
+        id = (uint8_t)(id + !one_in(30) + (one_in(4) ? below(90) : 0));
+        if (one_in(25))
+            spoil(bytes, len);
+        if (i == frames)
+            len = one_in(2) ? 0 : below(len);
+        if (len > size - at)
+            return;
+        copy(block + at, bytes, len);
+        at += len;
+    }
+}
+
+void craft(const struct board *board)
+{
+    const uint32_t size = board->len / board->blocks, full = below(board->blocks);
+    fill(board->image, 0xFF, board->len);
+    for (uint32_t block = 0; block < board->blocks; block++)
+        if (block == full || one_in(4))
+            journal(board->image + block * size, size);
+}
