@@ -60,18 +60,6 @@ module _ (N : ℕ) (m : Machine) where
   steps-happen zero img r b = tt
   steps-happen (suc n) img r b = (tt, steps-happen n (m img r step .image) (m img r step .board) (enterStep b (m img r step .answer)))
 
-  -- step calls, then anything
-  pub steps-then : (n : ℕ) (img : List ℕ) (r : Record) (b : Book) (ds : List Event) → HappensAfter (afterAll N m img r b (stepping n)) ds
-      → Happens N m img r b (stepping n ++ ds)
-  steps-then zero img r b ds y = y
-  steps-then (suc n) img r b ds y =
-      (tt, steps-then n (m img r step .image) (m img r step .board) (enterStep b (m img r step .answer)) ds y)
-
-  pub steps-image : (n : ℕ) (img : List ℕ) (r : Record) (b : Book)
-      → (let x : Left = afterAll N m img r b (stepping n) in m (x .image) (x .board) step .image) ≡ afterAll N m img r b (stepping (suc n)) .image
-  steps-image zero img r b = refl
-  steps-image (suc n) img r b = steps-image n (m img r step .image) (m img r step .board) (enterStep b (m img r step .answer))
-
   pub run-rest : (img : List ℕ) (r : Record) (b : Book) (u : Bool) (a : Call) (es ds : List Event) → Run N m img r b u a (es ++ ds)
       → (w : Bool) × (d : Call) × (let x : Left = afterAll N m img r b es in Run N m (x .image) (x .board) (x .book) w d ds)
   run-rest img r b u a [] ds y = (u, a, y)
