@@ -114,7 +114,7 @@ CallSized = (N : ℕ) (img b : List ℕ) (c : Ask) → length b ≡ recordSize �
 -- ---- a list of calls
 
 -- what stands in it: a call; power lost between two calls or inside an erase, with what the record buffer holds when it is back, and of an
--- erase the block and the bytes that it has then
+-- erase the block and the bytes that it has then. Power lost after a driven flash step and before made is `drives`, then `loses`
 pub data Happening : Type 0 where
   does : Ask → Happening
   loses : List ℕ → Happening
