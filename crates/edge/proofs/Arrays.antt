@@ -1,21 +1,18 @@
 -- Every call leaves the arrays of a record at their lengths: its bytes then read back as the record.
-use mathlib.Core.Path.{_≡_, refl, sym, ap, subst, _∙_}
+use mathlib.Core.Path.{_≡_, refl, sym, subst, _∙_}
 use mathlib.Core.List.{List, [], _∷_}
 use mathlib.Core.Option.{Option, none, some}
-use mathlib.Core.Bool.{true, false, cond, _&&_, _||_}
+use mathlib.Core.Bool.{true, _&&_, _||_}
 use Prim.Native.Nat.{ℕ, zero, suc, _+_, _-_, _≤_}
 use native.Mathlib.Omega.{arith}
-use lib.Dec.{eqb, ltb, leb}
-use lib.ListN.{length, getD, take, drop, replicate, length-append, length-map, length-drop, length-replicate}
-use Rattle.flash.specs.Flash.{maxBlocks, blockNumbers, apply, block, sizeOf, within}
+use lib.Dec.{eqb, ltb}
+use lib.ListN.{length, getD, take, drop, replicate, length-append, length-map, length-replicate}
+use Rattle.flash.specs.Flash.{maxBlocks, blockNumbers, apply, sizeOf, within}
 use Rattle.flash.proofs.Cases.{on-test}
-use Rattle.frame.specs.declared.Host.{Host}
-use Rattle.frame.specs.Frame.{hostMax, valueMax, maxFrame, idOf, Change, put, delete, Frame, change, commit, abort, settled, frameLen, encode, buffer}
+use Rattle.frame.specs.Frame.{maxFrame, idOf, Frame, settled, frameLen, encode, buffer}
 use Rattle.frame.specs.Reader.{Read, blank, whole, torn, wrong, readFrame}
 use Rattle.frame.proofs.Encode.{length-encode, frame-short}
-use Rattle.journal.specs.Replay.{replay, lookup, isOpen}
 use Rattle.journal.specs.Block.{lastTime, markWrites}
-use Rattle.journal.specs.Room.{noRoom}
 use Rattle.journal.specs.Index.{Value, valueAt, Load, load, nextSettled, isPending, nextPending, orElse, nextLoad}
 use Rattle.journal.proofs.Places.{length-places}
 use Rattle.fetch.proofs.FrameReads.{whole-stands}
@@ -23,14 +20,7 @@ use Rattle.fetch.proofs.Fetching.{in-block, pending-blank, pending-torn, pendin
 use Rattle.wire.specs.declared.Answer.{Answer}
 use Rattle.wire.specs.declared.Answer.the-variants.{Done, More, Refused}
 use Rattle.wire.specs.declared.Refusal.the-variants as refusal
-use Rattle.wire.specs.declared.Page.the-variants.{Summary}
-use Rattle.wire.specs.declared.Request.{Request}
-use Rattle.wire.specs.declared.Request.the-variants as ask
-use Rattle.wire.specs.declared.Parsed.{Parsed}
-use Rattle.wire.specs.declared.Parsed.the-variants.{Is, Malformed}
-use Rattle.wire.specs.Message.{parse, valueIn, pageLen}
-use Rattle.wire.specs.Sentences.{Means, MessagesExact}
-use Rattle.wire.proofs.Sentences.{messages-exact}
+use Rattle.wire.specs.declared.Parsed.the-variants.{Malformed}
 use Rattle.board.specs.declared.Stage.{Stage}
 use Rattle.board.specs.declared.Stage.the-variants.{Wipe, Open, Copy, Seal, Drop, Append}
 use Rattle.board.specs.declared.Phase.{Phase}
@@ -39,13 +29,11 @@ use Rattle.board.specs.declared.Cursor.{Cursor}
 use Rattle.board.specs.declared.Rest.{Rest}
 use Rattle.board.specs.declared.Record.{Record}
 use Rattle.board.specs.Record.{allowed, noPlaces, noFrame, resting, inStage, Out, answerIn}
-use Rattle.board.specs.Step.{first, enterAppend, landed, enterDrop, loaded, enterCopy, enterOpen, enterWipe, begin, action}
-use Rattle.board.specs.Step.{nextIndex, nextByte, pastFrame, advance, sameShape, stepOn}
+use Rattle.board.specs.Step.{enterAppend, landed, enterDrop, loaded, enterCopy, enterOpen, enterWipe, begin, action}
+use Rattle.board.specs.Step.{advance, sameShape, stepOn}
 use Rattle.board.specs.Mount.{Found, Store, allFound, found, stores, equalTimes, newest, isBlank, wipeList, wipeArray, needsTransfer, mountJob, mountOn}
 use Rattle.board.specs.Mount.{formatOrder, formatJob, formatOn}
-use Rattle.board.specs.Queue.{Held, held, needsRoom, appendJob, append, serveChange, serveEnd, serve, requestOn}
 use Rattle.board.specs.Demand1.{Rests}
-use Rattle.board.specs.Exec.{Call, request, step, mount, format, exec}
 use Rattle.board.proofs.Images.{allowed-tests}
 use Rattle.board.proofs.Numbers.{length-numbers}
 use Rattle.board.proofs.Order.{length-order}
@@ -113,7 +101,8 @@ load-short : (b : List ℕ) (end : ℕ) (places since : List ℕ) (id source : �
 unfolding nextLoad
 load-short b end places since id source u e = go (nextSettled b places source (256 - id) id) refl e
   where
-    go : (o : Option Load) → nextSettled b places source (256 - id) id ≡ o → orElse o (nextPending since source 0 (drop source (take end b))) ≡ some u → Short (u .frame)
+    go : (o : Option Load) → nextSettled b places source (256 - id) id ≡ o
+        → orElse o (nextPending since source 0 (drop source (take end b))) ≡ some u → Short (u .frame)
     go none q f = pending-short since source 0 _ u f
     go (some x) q f = settled-short b places source (256 - id) id u (q ∙ f)
 
@@ -215,7 +204,8 @@ step-sized N img r h = by (r .phase) refl
     by Idle e = subst Leaves (sym (outcome.step-resting N img r (subst Rests (sym e) tt))) (h, tt)
     by (Busy s) e =
         on-test (sameShape N (length img) r && within N (sizeOf N img) (action s r))
-        (λ t. subst Leaves (sym (outcome.step-goes N img r s e t)) (advance-sized N s _ r h, plain-in (advance N s (apply (sizeOf N img) (action s r) img) r .phase)))
+        (λ t. subst Leaves (sym (outcome.step-goes N img r s e t))
+        (advance-sized N s _ r h, plain-in (advance N s (apply (sizeOf N img) (action s r) img) r .phase)))
         (λ t. subst Leaves (sym (outcome.step-outside N img r s e t)) (h, tt))
 
 -- ---- mount and format

@@ -1,9 +1,9 @@
 -- What a request leaves: the record itself where it is done, refused or a read, arrays at their lengths, and a stretch for a read alone.
 use mathlib.Core.Path.{_≡_, refl, sym, ap, subst, _∙_}
-use mathlib.Core.List.{List, []}
+use mathlib.Core.List.{List}
 use mathlib.Core.Option.{Option, none, some}
 use mathlib.Core.Bool.{true, false, true≢false, _&&_}
-use Prim.Native.Nat.{ℕ, _<_}
+use Prim.Native.Nat.{ℕ}
 use native.Mathlib.Omega.{arith}
 use lib.Dec.{eqb, ltb, leb}
 use lib.ListN.{length, length-drop}
@@ -11,7 +11,6 @@ use borrow.Author.Tests.{lt-ltb}
 use Rattle.flash.specs.Flash.{sizeOf}
 use Rattle.flash.proofs.Cases.{on-test}
 use Rattle.frame.specs.declared.Host.{Host}
-use Rattle.frame.specs.declared.ObjectId.{ObjectId}
 use Rattle.frame.specs.Frame.{hostMax, Change, put, delete, Frame, change, commit, abort, settled, frameLen}
 use Rattle.journal.specs.Replay.{replay, lookup, isOpen}
 use Rattle.journal.specs.Block.{lastTime}
@@ -30,13 +29,13 @@ use Rattle.wire.proofs.Sentences.{messages-exact}
 use Rattle.board.specs.declared.Phase.{Phase}
 use Rattle.board.specs.declared.Phase.the-variants.{Unmounted, Idle, Busy}
 use Rattle.board.specs.declared.Record.{Record}
-use Rattle.board.specs.Record.{allowed, noFrame, Stretch, noStretch, Out, out, answerOf}
+use Rattle.board.specs.Record.{allowed, noFrame, noStretch, Out, out, answerOf}
 use Rattle.board.specs.Step.{enterWipe}
 use Rattle.board.specs.Queue.{Held, held, needsRoom, appendJob, append, serveChange, serveEnd, serve, requestOn}
 use Rattle.board.proofs.Outcomes as outcome
 use Rattle.lent.proofs.Inverse.{Sized}
 use Rattle.queue.specs.Calls.{AsksRead}
-use Rattle.edge.specs.Edge.{isRead, asRead}
+use Rattle.edge.specs.Edge.{isRead}
 use Rattle.edge.proofs.Arrays.{Short, buffer-sized, Plain, Leaves, begun}
 
 -- every frame has bytes

@@ -1,10 +1,9 @@
 -- The C library as a list of calls: one call, then all of them.
-use mathlib.Core.Path.{_≡_, refl, sym, ap, subst, _∙_}
+use mathlib.Core.Path.{_≡_, refl, sym, ap, _∙_}
 use mathlib.Core.List.{List, [], _∷_}
 use mathlib.Core.Option.{Option, none, some}
 use mathlib.Core.Bool.{Bool, true, false, true≢false, cond}
 use Prim.Native.Nat.{ℕ}
-use native.Mathlib.Omega.{arith}
 use lib.Dec.{leb}
 use lib.ListN.{length}
 use borrow.Author.Tests.{eq-eqb}
@@ -12,7 +11,6 @@ use Rattle.flash.specs.Flash.{sizeOf, withBlock}
 use Rattle.flash.proofs.Cases.{on-test}
 use Rattle.frame.specs.declared.Field.{Field}
 use Rattle.frame.specs.declared.Field.the-variants as field
-use Rattle.frame.specs.declared.Fault.{Fault}
 use Rattle.frame.specs.declared.Host.{Host}
 use Rattle.frame.specs.declared.ObjectId.{ObjectId}
 use Rattle.frame.specs.Frame.{hostMax}
@@ -20,7 +18,6 @@ use Rattle.frame.specs.Reader.{fault}
 use Rattle.journal.specs.Replay.{replay, lookup}
 use Rattle.wire.specs.declared.Answer.{Answer}
 use Rattle.wire.specs.declared.Answer.the-variants.{Done, More, Refused}
-use Rattle.wire.specs.declared.Refusal.{Refusal}
 use Rattle.wire.specs.declared.Refusal.the-variants as refusal
 use Rattle.wire.specs.declared.Parsed.{Parsed}
 use Rattle.wire.specs.declared.Parsed.the-variants.{Is, Malformed}
@@ -30,12 +27,11 @@ use Rattle.wire.specs.Message.{parse}
 use Rattle.board.specs.declared.Phase.{Phase}
 use Rattle.board.specs.declared.Phase.the-variants.{Unmounted, Idle, Busy}
 use Rattle.board.specs.declared.Record.{Record}
-use Rattle.board.specs.Record.{allowed, Stretch, noStretch, Out}
+use Rattle.board.specs.Record.{allowed, Stretch, Out}
 use Rattle.board.specs.Step.{stepOn}
 use Rattle.board.specs.Mount.{mountOn, formatOn}
 use Rattle.board.specs.Queue.{Held, held, requestOn}
 use Rattle.board.specs.Exec.{Call, request, step, mount, format, exec}
-use Rattle.board.specs.Claim.{Event}
 use Rattle.board.specs.Promise.{Shown, shown, trace, PromiseDetermines}
 use Rattle.board.proofs.Outcomes as outcome
 use Rattle.board.proofs.Refusals.{refusals-untouched, at-most-one-step}
@@ -49,8 +45,9 @@ use Rattle.pack.specs.Code.{changes}
 use Rattle.edge.specs.Edge.{Edge, edge, written, edgeRequest, edgeStep, edgeMount, edgeFormat, isRead, asRead, edgeRead}
 use Rattle.edge.specs.Edge.{place, EdgeNextThenMade}
 use Rattle.edge.specs.Edge.{Broken, broken, edgeFault}
-use Rattle.edge.specs.Calls.{fieldAt, answerAt, Ask, plain, reads, drives, callOf, edgeCall, stretchIn, plainStretch, edgeStretch, edgeOut, CallExact, CallSized}
-use Rattle.edge.specs.Calls.{Happening, does, loses, cuts, Resumes, Lent, eventsOf, edgeTrace, TraceExact, TracePromised}
+use Rattle.edge.specs.Calls.{fieldAt, answerAt, Ask, plain, reads, drives, callOf}
+use Rattle.edge.specs.Calls.{edgeCall, stretchIn, plainStretch, edgeStretch, edgeOut, CallExact, CallSized}
+use Rattle.edge.specs.Calls.{Happening, does, loses, cuts, Resumes, eventsOf, edgeTrace, TraceExact, TracePromised}
 use Rattle.edge.proofs.Kept.{Keeps, step-keeps}
 use Rattle.edge.proofs.Arrays.{Plain, step-sized, mount-sized, format-sized}
 use Rattle.edge.proofs.Asked.{serves}

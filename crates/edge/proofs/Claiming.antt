@@ -5,44 +5,88 @@ use mathlib.Core.Bool.{Bool, false}
 use Prim.Native.Nat.{ℕ, zero, suc, _+_, _≤_}
 use native.Mathlib.Omega.{arith}
 use lib.ListN.{length}
-use Rattle.flash.specs.Bytes.{Bytes}
-use Rattle.flash.specs.Flash.{Step, apply, sizeOf, withBlock}
+use Rattle.flash.specs.Flash.{Step, sizeOf, withBlock}
 use Rattle.wire.specs.declared.Answer.{Answer}
-use Rattle.wire.specs.declared.Answer.the-variants.{Done}
+use Rattle.wire.specs.declared.Answer.the-variants.{Done, More}
 use Rattle.wire.specs.Answer.{edgeNumber}
 use Rattle.board.specs.declared.Phase.{Phase}
 use Rattle.board.specs.declared.Phase.the-variants.{Unmounted, Idle, Busy}
 use Rattle.board.specs.declared.Record.{Record}
-use Rattle.board.specs.Record.{allowed, Out, answerIn, answerOf}
-use Rattle.board.specs.Step.{stepped}
-use Rattle.board.specs.Drive.{runFrom, runOn}
+use Rattle.board.specs.Record.{Out, answerIn, answerOf}
 use Rattle.board.specs.Exec.{request, step, mount, format, exec}
 use Rattle.board.specs.Plan.{Follows}
 use Rattle.board.specs.Table.{InJob}
-use Rattle.board.specs.Book.{Book, firstBook, enterCall}
-use Rattle.board.specs.Claim.{IdleAgrees, AgreesIn, Agrees, Finishes, Says, track, CutsErase, Restarts, Happens, Run, stepsOn, formatted, Claim}
+use Rattle.board.specs.Book.{UnderWay, nothing, committing, formatting, Book, firstBook, enterStep, enterCall}
+use Rattle.board.specs.Claim.{AgreesIn, Agrees, Finishes, Says, trackStep, track, ByteCall, Event, call, cutErase, CutsErase, Restarts, Happens, Run}
+use Rattle.board.specs.Claim.{stepsOn, formatted, Claim}
 use Rattle.board.proofs.Claiming.{claim}
-use Rattle.drive.proofs.Running.{run-on, run-done}
 use Rattle.lent.specs.Layout.{recordSize, recordIn}
-use Rattle.edge.specs.Edge.{Edge, edgeStep, edgeFormat, edgeRun}
-use Rattle.edge.specs.Calls.{Ask, plain, reads, drives, callOf, edgeCall, edgeOut, Happening, does, loses, cuts, Resumes, eventsOf, CutsIn, Happen, Agree, Runs}
-use Rattle.edge.specs.Calls.{stepCalls, edgeFormatted, EdgeClaim}
+use Rattle.edge.specs.Edge.{Edge, edgeStep, edgeFormat}
+use Rattle.edge.specs.Calls.{Ask, plain, callOf, edgeCall, edgeOut, Happening, does, loses, cuts, Resumes, CutsIn, Happen}
+use Rattle.edge.specs.Calls.{Ended, Agree, Runs, stepCalls, edgeFormatted, EdgeClaim, stepsUpTo, RunExact}
 use Rattle.edge.proofs.Calls.{meets, exact, still-sized}
-use Rattle.edge.proofs.RunCalls.{is-run}
+use Rattle.edge.proofs.RunCalls.{o, is-on, run-exact}
 
--- ---- a job under way is finished by one run
+-- ---- board's claim from here on, for the lists of one kind
 
-finished : (N n c : ℕ) (plan : List Step) (img : List ℕ) (r last : Record) → Follows N (exec N) img r plan last → last .phase ≡ Idle
-    → length plan ≤ n → runFrom N n c (stepped img r) .out .answer ≡ Done
-finished N n c [] img r last e i h =
-    let d : answerOf r ≡ Done = ap answerOf e ∙ ap answerIn i in ap (λ x. x .out .answer) (run-done N n c (stepped img r) d) ∙ d
-finished N zero c (x ∷ xs) img r last f i h = absurd (omega arith)
-finished N (suc n) c (x ∷ xs) img r last (a, (next, g, f)) i h =
-    ap (λ d. d .out .answer) (run-on N n c (stepped img r) a ∙ ap (runFrom N n (suc c)) g)
-    ∙ finished N n (suc c) xs (apply (sizeOf N img) x img) next last f i (omega arith)
+abbrev Holds : (List Event → Type 0) → ℕ → List ℕ → Record → Book → Bool → Type 0
+Holds P N img r k u = (es : List Event) → P es → Happens N (exec N) img r k es → Run N (exec N) img r k u es
 
-agree : (N : ℕ) (img b : List ℕ) (k : Book) → length b ≡ recordSize → Agrees N (exec N) img (recordIn b) k → Agree N img b k
-agree N img b k l = by (recordIn b .phase) refl
+abbrev Any : List Event → Type 0
+Any es = Unit {0}
+
+-- it goes on past a call
+after-call : (P : List Event → Type 0) (N : ℕ) (img : List ℕ) (r : Record) (k : Book) (u : Bool) (c : _) → ByteCall c
+    → ((es : List Event) → P (call c ∷ es)) → Holds P N img r k u
+    → let o : Out = exec N img r c in Holds Any N (o .image) (o .board) (enterCall k c (o .answer)) (track u k c (o .answer))
+after-call P N img r k u c y p q es _ h = q (call c ∷ es) (p es) (y, h) .2
+
+-- ---- a job under way is ended by one run
+
+track-more : (u : Bool) (w : UnderWay) → trackStep u w More ≡ u
+track-more u nothing = refl
+track-more u (committing h) = refl
+track-more u formatting = refl
+
+agrees-idle : (N : ℕ) (img : List ℕ) (r : Record) (k : Book) → r .phase ≡ Idle → Agrees N (exec N) img r k → AgreesIn N (exec N) Idle img r k
+agrees-idle N img r k i h = subst (λ (p : Phase). AgreesIn N (exec N) p img r k) i h
+
+ends : (N n : ℕ) (plan : List Step) (img b : List ℕ) (k : Book) (u : Bool) (last : Record) → length b ≡ recordSize
+    → Follows N (exec N) img (recordIn b) plan last → last .phase ≡ Idle → length plan ≤ n → answerOf (recordIn b) ≡ More
+    → Holds Any N img (recordIn b) k u → Ended N (enterStep k Done) (stepsUpTo N n img b)
+ends N n [] img b k u last l f i h m q =
+    let d : More ≡ Done = sym m ∙ ap answerOf f ∙ ap answerIn i in let z : _≡_ {A = ℕ} 0 1 = cc in absurd (omega arith)
+ends N zero (x ∷ xs) img b k u last l f i h m q = absurd (omega arith)
+ends N (suc n) (x ∷ []) img b k u last l (a, (next, g, f)) i h m q =
+    let z = meets N img b l (plain step) in
+    let p : o N img b l .board .phase ≡ Idle = ap (λ (y : Out). y .board .phase) g ∙ ap (λ (y : Record). y .phase) f ∙ i in
+    let d : o N img b l .answer ≡ Done = ap (λ (y : Out). y .answer) g ∙ ap answerOf f ∙ ap answerIn i in
+    let t = q (call step ∷ []) tt (tt, tt) .1 in
+    let w = agrees-idle N _ _ _ p (subst (λ (y : Answer). Agrees N (exec N) (o N img b l .image) (o N img b l .board) (enterStep k y)) d t) in
+    subst (Ended N (enterStep k Done)) (sym (is-on N img b l n Done d)) (
+      refl,
+      ap (λ (y : Record). y .phase) (z .back) ∙ p,
+      subst (λ (y : Record). AgreesIn N (exec N) Idle (o N img b l .image) y (enterStep k Done)) (sym (z .back)) w,
+    )
+ends N (suc n) (x ∷ y ∷ ys) img b k u last l (a, (next, g, f)) i h m q =
+    let z = meets N img b l (plain step) in
+    let s : Out = exec N img (recordIn b) step in
+    let d : s .answer ≡ More = ap (λ (w : Out). w .answer) g ∙ f .0 in
+    let v = after-call Any N img (recordIn b) k u step tt (λ _. tt) q in
+    let v′ : Holds Any N (s .image) (s .board) k u =
+    subst (Holds Any N (s .image) (s .board) k) (track-more u (k .under))
+    (subst (λ (w : Answer). Holds Any N (s .image) (s .board) (enterStep k w) (trackStep u (k .under) w)) d v) in
+    let w : Follows N (exec N) (s .image) (s .board) (y ∷ ys) last = subst (λ (w : Out). Follows N (exec N) (w .image) (w .board) (y ∷ ys) last) (sym g) f in
+    subst (Ended N (enterStep k Done)) (sym (is-on N img b l n More d))
+    (ends N n (y ∷ ys) (s .image) (z .after) k u last (z .size)
+    (subst (λ (r : Record). Follows N (exec N) (s .image) r (y ∷ ys) last) (sym (z .back)) w) i (omega arith)
+    (ap answerOf (z .back) ∙ w .0)
+    (subst (λ (r : Record). Holds Any N (s .image) r k u) (sym (z .back)) v′))
+
+agree : (N : ℕ) (img b : List ℕ) (k : Book) (u : Bool) → length b ≡ recordSize → Holds Any N img (recordIn b) k u
+    → Agrees N (exec N) img (recordIn b) k → Agree N img b k
+unfolding RunExact
+agree N img b k u l q = by (recordIn b .phase) refl
   where
     by : (p : Phase) → recordIn b .phase ≡ p → AgreesIn N (exec N) (recordIn b .phase) img (recordIn b) k → Agree N img b k
     by Unmounted e h =
@@ -50,37 +94,37 @@ agree N img b k l = by (recordIn b .phase) refl
           idle = λ i. let d : Unmounted ≡ Idle = sym e ∙ i in let z : _≡_ {A = ℕ} 0 1 = cc in absurd (omega arith);
           in-job = λ j. absurd (subst InJob e j);
         }
-    by Idle e h =
-        record { idle = λ i. subst (λ (p : Phase). AgreesIn N (exec N) p img (recordIn b) k) e h; in-job = λ j. absurd (subst InJob e j) }
+    by Idle e h = record { idle = λ i. agrees-idle N img (recordIn b) k e h; in-job = λ j. absurd (subst InJob e j) }
     by (Busy s) e h =
         let f : Finishes N (exec N) img (recordIn b) = subst (λ (p : Phase). AgreesIn N (exec N) p img (recordIn b) k) e h in
+        let n = sizeOf N img + N in
         record {
           idle = λ i. let d : Busy s ≡ Idle = sym e ∙ i in let z : _≡_ {A = ℕ} 0 1 = cc in absurd (omega arith);
           in-job = λ j.
-              ap (λ x. x .answer) (is-run N img b l (sizeOf N img + N) 0)
-              ∙ ap edgeNumber (finished N (sizeOf N img + N) 0 (f .plan) img (recordIn b) (f .last) (f .follows) (f .rests) (f .short));
+              subst (Ended N (enterStep k Done)) (sym (run-exact N img b n 0 l))
+              (ends N n (f .plan) img b k u (f .last) l (f .follows) (f .rests) (f .short) (ap answerIn e) q);
         }
 
 -- ---- what can happen
 
-restarts : (es : List Happening) → Resumes es → Restarts (eventsOf es)
-restarts [] h = tt
-restarts (does c ∷ es) h = h
-restarts (loses b ∷ es) h = absurd h
-restarts (cuts k new b ∷ es) h = absurd h
-
 -- a mount and a format take no record
-happens-any : (N : ℕ) (img : List ℕ) (q r : Record) (k : Book) (es : List Happening) → Resumes es → Happens N (exec N) img q k (eventsOf es)
-    → Happens N (exec N) img r k (eventsOf es)
+happens-any : (N : ℕ) (img : List ℕ) (q r : Record) (k : Book) (es : List Event) → Restarts es → Happens N (exec N) img q k es
+    → Happens N (exec N) img r k es
 happens-any N img q r k [] h x = x
-happens-any N img q r k (does (plain (request g m reply)) ∷ es) h x = absurd h
-happens-any N img q r k (does (plain step) ∷ es) h x = absurd h
-happens-any N img q r k (does (plain mount) ∷ es) h x = x
-happens-any N img q r k (does (plain format) ∷ es) h x = x
-happens-any N img q r k (does (reads g m at size) ∷ es) h x = absurd h
-happens-any N img q r k (does (drives at size byte) ∷ es) h x = absurd h
-happens-any N img q r k (loses b ∷ es) h x = absurd h
-happens-any N img q r k (cuts j new b ∷ es) h x = absurd h
+happens-any N img q r k (call (request g m reply) ∷ es) h x = absurd h
+happens-any N img q r k (call step ∷ es) h x = absurd h
+happens-any N img q r k (call mount ∷ es) h x = x
+happens-any N img q r k (call format ∷ es) h x = x
+happens-any N img q r k (cutErase j new p ∷ es) h x = absurd h
+
+run-any : (N : ℕ) (img : List ℕ) (q r : Record) (k : Book) (u : Bool) (es : List Event) → Restarts es → Run N (exec N) img q k u es
+    → Run N (exec N) img r k u es
+run-any N img q r k u [] h x = x
+run-any N img q r k u (call (request g m reply) ∷ es) h x = absurd h
+run-any N img q r k u (call step ∷ es) h x = absurd h
+run-any N img q r k u (call mount ∷ es) h x = x
+run-any N img q r k u (call format ∷ es) h x = x
+run-any N img q r k u (cutErase j new p ∷ es) h x = absurd h
 
 cuts-erase : (N : ℕ) (img b : List ℕ) (k : Book) (j : ℕ) (new : List ℕ) → length b ≡ recordSize → CutsIn N img b k j new
     → CutsErase N (exec N) img (recordIn b) k j new
@@ -93,57 +137,57 @@ cuts-erase N img b k j new l h =
       raised = h .raised;
     }
 
-happens : (N : ℕ) (img b : List ℕ) (k : Book) (es : List Happening) → length b ≡ recordSize → Happen N img b k es
-    → Happens N (exec N) img (recordIn b) k (eventsOf es)
-happens N img b k [] l h = tt
-happens N img b k (does c ∷ es) l h = (
-  h .0,
-  subst (λ (o : Out). Happens N (exec N) (o .image) (o .board) (enterCall k (callOf c) (o .answer)) (eventsOf es)) (exact N img b l c)
-      (happens N (edgeCall N img b c .image) (edgeCall N img b c .board) _ es (still-sized N img b l c) (h .1)),
-)
-happens N img b k (loses d ∷ es) l h = happens-any N img (recordIn d) (recordIn b) k es (h .1) (happens N img d k es (h .0) (h .2))
-happens N img b k (cuts j new d ∷ es) l h = (
-  cuts-erase N img b k j new l (h .1),
-  restarts es (h .2),
-  happens N (withBlock (sizeOf N img) j new img) d k es (h .0) (h .3),
-)
-
 -- ---- what the calls say
 
-run-any : (N : ℕ) (img : List ℕ) (q r : Record) (k : Book) (u : Bool) (es : List Happening) → Resumes es → Run N (exec N) img q k u (eventsOf es)
-    → Run N (exec N) img r k u (eventsOf es)
-run-any N img q r k u [] h x = x
-run-any N img q r k u (does (plain (request g m reply)) ∷ es) h x = absurd h
-run-any N img q r k u (does (plain step) ∷ es) h x = absurd h
-run-any N img q r k u (does (plain mount) ∷ es) h x = x
-run-any N img q r k u (does (plain format) ∷ es) h x = x
-run-any N img q r k u (does (reads g m at size) ∷ es) h x = absurd h
-run-any N img q r k u (does (drives at size byte) ∷ es) h x = absurd h
-run-any N img q r k u (loses b ∷ es) h x = absurd h
-run-any N img q r k u (cuts j new b ∷ es) h x = absurd h
+-- the lists of this kind have those that begin as this one does
+abbrev Opens : (List Event → Type 0) → List Happening → Type 0
+Opens P [] = Unit {0}
+Opens P (does c ∷ es) = (xs : List Event) → P (call (callOf c) ∷ xs)
+Opens P (loses d ∷ es) = (xs : List Event) → Restarts xs → P xs
+Opens P (cuts j new d ∷ es) = (xs : List Event) → P (cutErase j new (recordIn d) ∷ xs)
 
-runs : (N : ℕ) (img b : List ℕ) (k : Book) (u : Bool) (es : List Happening) → length b ≡ recordSize → Happen N img b k es
-    → Run N (exec N) img (recordIn b) k u (eventsOf es) → Runs N img b k u es
-runs N img b k u [] l h x = tt
-runs N img b k u (does c ∷ es) l h x =
+opens-any : (es : List Happening) → Opens Any es
+opens-any [] = tt
+opens-any (does c ∷ es) = λ xs. tt
+opens-any (loses d ∷ es) = λ xs h. tt
+opens-any (cuts j new d ∷ es) = λ xs. tt
+
+opens-restarts : (es : List Happening) → Resumes es → Opens Restarts es
+opens-restarts [] h = tt
+opens-restarts (does c ∷ es) h = λ xs. h
+opens-restarts (loses d ∷ es) h = absurd h
+opens-restarts (cuts j new d ∷ es) h = absurd h
+
+runs : (P : List Event → Type 0) (N : ℕ) (img b : List ℕ) (k : Book) (u : Bool) (es : List Happening) → length b ≡ recordSize → Opens P es
+    → Holds P N img (recordIn b) k u → Happen N img b k es → Runs N img b k u es
+runs P N img b k u [] l p q h = tt
+runs P N img b k u (does c ∷ es) l p q h =
     let e : Edge = edgeCall N img b c in
-    let back : exec N img (recordIn b) (callOf c) ≡ edgeOut N img b c = sym (exact N img b l c) in (
+    let z = still-sized N img b l c in
+    let back : exec N img (recordIn b) (callOf c) ≡ edgeOut N img b c = sym (exact N img b l c) in
+    let x = q (call (callOf c) ∷ []) (p []) (h .0, tt) in
+    let v =
+    subst (λ (o : Out). Holds Any N (o .image) (o .board) (enterCall k (callOf c) (o .answer)) (track u k (callOf c) (o .answer))) back
+    (after-call P N img (recordIn b) k u (callOf c) (h .0) p q) in (
       subst (Says N img (recordIn b) k u (callOf c)) back (x .0),
-      agree N (e .image) (e .board) _ (still-sized N img b l c)
+      agree N (e .image) (e .board) _ _ z v
           (subst (λ (o : Out). Agrees N (exec N) (o .image) (o .board) (enterCall k (callOf c) (o .answer))) back (x .1)),
-      runs N (e .image) (e .board) _ _ es (still-sized N img b l c) (h .1)
-          (subst (λ (o : Out). Run N (exec N) (o .image) (o .board) (enterCall k (callOf c) (o .answer)) (track u k (callOf c) (o .answer)) (eventsOf es)) back (x .2)),
+      runs Any N (e .image) (e .board) _ _ es z (opens-any es) v (h .1),
     )
-runs N img b k u (loses d ∷ es) l h x = runs N img d k u es (h .0) (h .2) (run-any N img (recordIn b) (recordIn d) k u es (h .1) x)
-runs N img b k u (cuts j new d ∷ es) l h x = runs N (withBlock (sizeOf N img) j new img) d k u es (h .0) (h .3) x
+runs P N img b k u (loses d ∷ es) l p q h =
+    runs Restarts N img d k u es (h .0) (opens-restarts es (h .1))
+    (λ xs r y. run-any N img (recordIn b) (recordIn d) k u xs r (q xs (p xs r) (happens-any N img (recordIn d) (recordIn b) k xs r y))) (h .2)
+runs P N img b k u (cuts j new d ∷ es) l p q h =
+    runs Restarts N (withBlock (sizeOf N img) j new img) d k u es (h .0) (opens-restarts es (h .2))
+    (λ xs r y. q (cutErase j new (recordIn d) ∷ xs) (p xs) (cuts-erase N img b k j new l (h .1), r, y)) (h .3)
 
 -- ---- a finished format
 
-pub record Same (e : Edge) (o : Out) : Type 0 where
-  pub answer : e .answer ≡ edgeNumber (o .answer)
-  pub image : e .image ≡ o .image
-  pub board : recordIn (e .board) ≡ o .board
-  pub size : length (e .board) ≡ recordSize
+record Same (e : Edge) (o : Out) : Type 0 where
+  answer : e .answer ≡ edgeNumber (o .answer)
+  image : e .image ≡ o .image
+  board : recordIn (e .board) ≡ o .board
+  size : length (e .board) ≡ recordSize
 
 same-call : (N : ℕ) (img b : List ℕ) → length b ≡ recordSize → (c : Ask) → Same (edgeCall N img b c) (exec N img (recordIn b) (callOf c))
 same-call N img b l c =
@@ -170,12 +214,10 @@ edge-claim N img b y a l =
     let x = claim N img (recordIn b) y a in
     let s : Same e o = same-steps N (N + 10) (edgeFormat N img b) (exec N img (recordIn b) format) (same-call N img b l (plain format)) in
     let g : (P : List ℕ → Record → Type 0) → P (o .image) (o .board) → P (e .image) (recordIn (e .board)) =
-    λ P h. subst (λ (q : Record). P (e .image) q) (sym (s .board)) (subst (λ (i : List ℕ). P i (o .board)) (sym (s .image)) h) in (
+    λ P h. subst (λ (q : Record). P (e .image) q) (sym (s .board)) (subst (λ (i : List ℕ). P i (o .board)) (sym (s .image)) h) in
+    let v : Holds Any N (e .image) (recordIn (e .board)) firstBook false = g (λ i q. Holds Any N i q firstBook false) (λ es _. x .3 es) in (
       s .answer ∙ ap edgeNumber (x .0),
       ap (λ (q : Record). q .phase) (s .board) ∙ x .1,
-      agree N (e .image) (e .board) firstBook (s .size) (g (λ i q. Agrees N (exec N) i q firstBook) (x .2)),
-      λ es h.
-          runs N (e .image) (e .board) firstBook false es (s .size) h
-          (g (λ i q. (es : _) → Happens N (exec N) i q firstBook es → Run N (exec N) i q firstBook false es) (x .3) (eventsOf es)
-          (happens N (e .image) (e .board) firstBook es (s .size) h)),
+      agree N (e .image) (e .board) firstBook false (s .size) v (g (λ i q. Agrees N (exec N) i q firstBook) (x .2)),
+      λ es. runs Any N (e .image) (e .board) firstBook false es (s .size) (opens-any es) v,
     )

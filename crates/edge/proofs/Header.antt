@@ -1,13 +1,10 @@
 -- The numbers that the header gives beside the board's answers.
 use mathlib.Core.Path.{_≡_, refl}
-use mathlib.Core.List.{List}
 use mathlib.Core.Bool.{false}
-use Prim.Native.Nat.{ℕ}
-use lib.Dec.{eqb}
 use lib.ListN.{length}
 use borrow.Author.Tests.{ne-eqb}
 use Rattle.edge.specs.Edge.{holdsRecord, edgeRequest, edgeStep, edgeMade, edgeMount, edgeFormat, edgeRead, edgeNext, edgeRun}
-use Rattle.edge.specs.Header.{NumbersExact, WrongRecord, WrongRecordExact}
+use Rattle.edge.specs.Header.{NumbersExact, WrongRecordExact}
 
 pub numbers-exact : NumbersExact
 numbers-exact = record { program = λ at v. refl; erase = λ at n. refl; record-bytes = refl }

@@ -11,7 +11,6 @@ use Rattle.flash.specs.Flash.{apply, sizeOf, within}
 use Rattle.flash.proofs.Cases.{on-test}
 use Rattle.wire.specs.declared.Answer.{Answer}
 use Rattle.wire.specs.declared.Answer.the-variants.{Done, More, Refused}
-use Rattle.wire.specs.declared.Refusal.{Refusal}
 use Rattle.wire.specs.declared.Refusal.the-variants as refusal
 use Rattle.wire.specs.Answer.{edgeNumber}
 use Rattle.board.specs.declared.Stage.{Stage}
@@ -20,6 +19,7 @@ use Rattle.board.specs.declared.Phase.the-variants.{Unmounted, Idle, Busy}
 use Rattle.board.specs.declared.Record.{Record}
 use Rattle.board.specs.Record.{Out, out, refuse, answerIn, answerOf}
 use Rattle.board.specs.Step.{action, advance, sameShape, stepped, stepOn}
+use Rattle.board.specs.Exec.{step}
 use Rattle.board.specs.Drive.{Drove, runFrom, runOn}
 use Rattle.board.specs.Demand1.{Rests}
 use Rattle.board.specs.Table.{isBusy}
@@ -30,9 +30,9 @@ use Rattle.lent.proofs.Inverse.{record-back, length-bytes-of}
 use Rattle.lent.proofs.Own.{own-sized}
 use Rattle.pack.specs.Code.{changes}
 use Rattle.edge.specs.Edge.{Edge, Run, run, ran, edgeRun}
-use Rattle.edge.specs.Calls.{lastSteps, oneMore, stepsUpTo, RunExact}
+use Rattle.edge.specs.Calls.{plain, lastSteps, oneMore, stepsUpTo, RunExact}
 use Rattle.edge.proofs.Arrays.{step-sized}
-use Rattle.edge.proofs.Calls.{is-step}
+use Rattle.edge.proofs.Calls.{meets, is-step}
 use Rattle.edge.proofs.Driving.{none-made}
 
 -- ---- one step call more before it
@@ -69,7 +69,7 @@ module _ (N : ℕ) (img b : List ℕ) (l : length b ≡ recordSize) where
   abbrev r : Record
   r = recordIn b
 
-  abbrev o : Out
+  abbrev pub o : Out
   o = stepOn N img r
 
   pub is-run : (n steps : ℕ) → edgeRun N img b n steps ≡ ran b (runOn N n img r)
@@ -77,19 +77,23 @@ module _ (N : ℕ) (img b : List ℕ) (l : length b ≡ recordSize) where
   is-run n steps = rw (eq-eqb (length b) recordSize l)
 
   -- a step call by its answer, then the rest
-  abbrev wrote : Answer → List ℕ
-  wrote a = cond (changes (r .phase) a) (recordBytes (o .board)) b
+  abbrev pub b′ : List ℕ
+  b′ = meets N img b l (plain step) .after
 
-  abbrev onFrom : ℕ → Answer → Run
-  onFrom n a =
-      cond (eqb (edgeNumber a) 255) (oneMore (stepsUpTo N n (o .image) (wrote a)))
-      (run (edgeNumber a) (lastSteps b (edgeNumber a)) (o .image) (wrote a))
+  abbrev pub on : ℕ → Answer → Run
+  on n a =
+      cond (eqb (edgeNumber a) 255) (oneMore (stepsUpTo N n (o .image) b′)) (run (edgeNumber a) (lastSteps b (edgeNumber a)) (o .image) b′)
 
-  is-on : (n : ℕ) → stepsUpTo N (suc n) img b ≡ onFrom n (o .answer)
+  pub is-on : (n : ℕ) (a : Answer) → o .answer ≡ a → stepsUpTo N (suc n) img b ≡ on n a
   unfolding stepsUpTo
-  is-on n =
-      ap (λ (e : Edge). cond (eqb (e .answer) 255) (oneMore (stepsUpTo N n (e .image) (e .board)))
-      (run (e .answer) (lastSteps b (e .answer)) (e .image) (e .board))) (is-step N img b l)
+  is-on n a e =
+      ap (λ (x : Edge). cond (eqb (x .answer) 255) (oneMore (stepsUpTo N n (x .image) (x .board)))
+      (run (x .answer) (lastSteps b (x .answer)) (x .image) (x .board))) (meets N img b l (plain step) .is) ∙ ap (on n) e
+
+  wrote : (a : Answer) → o .answer ≡ a → b′ ≡ cond (changes (r .phase) a) (recordBytes (o .board)) b
+  wrote a e =
+      ap (λ (x : Edge). x .board) (sym (meets N img b l (plain step) .is) ∙ is-step N img b l)
+      ∙ ap (λ (x : Answer). cond (changes (r .phase) x) (recordBytes (o .board)) b) e
 
   -- a record in no job
   run-rests : (n : ℕ) → answerOf r ≡ Done → ran b (runOn N n img r) ≡ run 0 0 img b
@@ -98,7 +102,8 @@ module _ (N : ℕ) (img b : List ℕ) (l : length b ≡ recordSize) where
   up-rests : (n : ℕ) → Rests (r .phase) → isBusy (r .phase) ≡ false → stepsUpTo N (suc n) img b ≡ run 0 0 img b
   up-rests n h t =
       let e = step-resting N img r h in
-      is-on n ∙ ap (onFrom n) (ap (λ (x : Out). x .answer) e) ∙ rw t (ap (λ (x : Out). run 0 0 (x .image) b) e)
+      let a : o .answer ≡ Done = ap (λ (x : Out). x .answer) e in
+      is-on n Done a ∙ ap (run 0 (lastSteps b 0) (o .image)) (wrote Done a) ∙ rw t (ap (λ (x : Out). run 0 0 (x .image) b) e)
 
   -- a record in a job: refused, ended, gone on
   module _ (s : Stage) (p : r .phase ≡ Busy s) (n : ℕ) where
@@ -115,25 +120,26 @@ module _ (N : ℕ) (img b : List ℕ) (l : length b ≡ recordSize) where
     refused e =
         let a : o .answer ≡ Refused refusal.Stale = ap (λ (x : Out). x .answer) e in
         ap (ran b) (from-one ∙ run-refused N n 1 o refusal.Stale a) ∙ ap (λ (x : Out). run (edgeNumber (x .answer)) 0 (x .image) b) e
-        ∙ sym (is-on n ∙ ap (onFrom n) a ∙ rw busy (ap (λ (x : Out). run 11 0 (x .image) b) e))
+        ∙ sym (is-on n (Refused refusal.Stale) a ∙ ap (run 11 (lastSteps b 11) (o .image)) (wrote (Refused refusal.Stale) a)
+        ∙ rw busy (ap (λ (x : Out). run 11 0 (x .image) b) e))
 
     ended : o .answer ≡ Done → ran b (runOn N (suc n) img r) ≡ stepsUpTo N (suc n) img b
     ended a =
         ap (ran b) (from-one ∙ run-done N n 1 o a) ∙ ap (λ (x : Answer). run (edgeNumber x) 1 (o .image) (recordBytes (o .board))) a
-        ∙ sym (is-on n ∙ ap (onFrom n) a ∙ rw busy)
+        ∙ sym (is-on n Done a ∙ ap (run 0 (lastSteps b 0) (o .image)) (wrote Done a) ∙ rw busy)
 
     -- the buffer then
-    abbrev b′ : List ℕ
-    b′ = recordBytes (o .board)
+    abbrev c : List ℕ
+    c = recordBytes (o .board)
 
-    gone-on : o .answer ≡ More → o ≡ stepped (o .image) (o .board) → ran b′ (runOn N n (o .image) (o .board)) ≡ stepsUpTo N n (o .image) b′
+    gone-on : o .answer ≡ More → o ≡ stepped (o .image) (o .board) → ran c (runOn N n (o .image) (o .board)) ≡ stepsUpTo N n (o .image) c
         → ran b (runOn N (suc n) img r) ≡ stepsUpTo N (suc n) img b
-    gone-on a e f = ap (ran b) one ∙ bytes ∙ ap oneMore f ∙ sym (is-on n ∙ ap (onFrom n) a)
+    gone-on a e f = ap (ran b) one ∙ bytes ∙ ap oneMore f ∙ sym (is-on n More a ∙ ap (λ (w : List ℕ). oneMore (stepsUpTo N n (o .image) w)) (wrote More a))
       where
         one : runOn N (suc n) img r ≡ bumped (runOn N n (o .image) (o .board))
         one = from-one ∙ first-more N n o a ∙ ap (λ (x : Out). bumped (runFrom N n 0 x)) e
 
-        bytes : ran b (bumped (runOn N n (o .image) (o .board))) ≡ oneMore (ran b′ (runOn N n (o .image) (o .board)))
+        bytes : ran b (bumped (runOn N n (o .image) (o .board))) ≡ oneMore (ran c (runOn N n (o .image) (o .board)))
         bytes =
             let d = runOn N n (o .image) (o .board) in
             let y : eqb (suc (d .steps)) 0 ≡ false = ne-eqb (suc (d .steps)) 0 (λ z. omega (arith, z)) in
@@ -142,8 +148,8 @@ module _ (N : ℕ) (img b : List ℕ) (l : length b ≡ recordSize) where
             (λ t.
             let k = none-made N n (o .image) (o .board) (eqb-true (d .steps) 0 t) in
             ap (λ (q : Bool). x q b) y ∙ ap (λ (w : Record). run (edgeNumber (d .out .answer)) (suc (d .steps)) (d .out .image) (recordBytes w)) (k .1)
-            ∙ sym (ap (λ (q : Bool). x q b′) t))
-            (λ t. ap (λ (q : Bool). x q b) y ∙ sym (ap (λ (q : Bool). x q b′) t))
+            ∙ sym (ap (λ (q : Bool). x q c) t))
+            (λ t. ap (λ (q : Bool). x q b) y ∙ sym (ap (λ (q : Bool). x q c) t))
 
 -- ---- every buffer
 

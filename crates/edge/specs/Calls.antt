@@ -114,7 +114,7 @@ CallSized = (N : ℕ) (img b : List ℕ) (c : Ask) → length b ≡ recordSize �
 -- ---- a list of calls
 
 -- what stands in it: a call; power lost between two calls or inside an erase, with what the record buffer holds when it is back, and of an
--- erase the block and the bytes that it has then
+-- erase the block and the bytes that it has then. Power lost after a driven flash step and before made is `drives`, then `loses`
 pub data Happening : Type 0 where
   does : Ask → Happening
   loses : List ℕ → Happening
@@ -181,10 +181,14 @@ Happen N img b k (loses d ∷ es) = (length d ≡ recordSize) × Resumes es × H
 Happen N img b k (cuts j new d ∷ es) =
     (length d ≡ recordSize) × CutsIn N img b k j new × Resumes es × Happen N (withBlock (sizeOf N img) j new img) d k es
 
--- "after each call in it that gives back an idle record"; a job under way is finished by at most S + N steps in one call
+-- a run that ended a job, and agrees with a book
+abbrev pub Ended : ℕ → Book → Run → Type 0
+Ended N k x = (x .answer ≡ 0) × (recordIn (x .board) .phase ≡ Idle) × IdleAgrees N (x .image) (recordIn (x .board)) k
+
+-- "after each call in it that gives back an idle record"; a job under way is ended by one run of S + N steps, the last of which answers 0
 pub record Agree (N : ℕ) (img b : List ℕ) (k : Book) : Type 0 where
   pub idle : recordIn b .phase ≡ Idle → IdleAgrees N img (recordIn b) k
-  pub in-job : InJob (recordIn b .phase) → edgeRun N img b (sizeOf N img + N) 0 .answer ≡ 0
+  pub in-job : InJob (recordIn b .phase) → Ended N (enterCall k step Done) (edgeRun N img b (sizeOf N img + N) 0)
 
 -- what each call says, and that after it the buffer agrees with the book; `u` as in board's claim
 abbrev pub Runs : ℕ → List ℕ → List ℕ → Book → Bool → List Happening → Type 0

@@ -47,19 +47,52 @@ fn the_header_and_the_wrapper_say_the_same() {
     assert_eq!(defined("GROMMETIDE_VALUE_MAX"), VALUE_LIMIT);
 }
 
-/// The header's enumeration has the fields that the wrapper knows, by the same numbers, and no others.
-#[test]
-fn the_fields_have_the_headers_numbers() {
+/// The names that the header's enumerations give numbers to, in its order.
+fn enumerated() -> Vec<(String, u8)> {
     let header = header();
     let words = header.lines().map(|line| line.split_whitespace().collect::<Vec<_>>());
     let found = words.filter_map(|words| match words[..] {
-        [name, "=", number, ..] => Some((name.strip_prefix("GROMMETIDE_FIELD_")?.to_lowercase(), number)),
+        [name, "=", number, ..] => Some((name.strip_prefix("GROMMETIDE_")?.to_lowercase(), number)),
         _ => None,
     });
-    let stated: Vec<_> = found.map(|(name, number)| (name, number.trim_end_matches(',').parse())).collect();
-    assert_eq!(stated, Field::ALL.map(|field| (field.to_string(), Ok(field as u8))));
+    found.map(|(name, number)| (name, number.trim_end_matches(',').parse().expect("a number"))).collect()
+}
+
+/// The header's enumeration has the fields that the wrapper knows, by the same numbers, and no others.
+#[test]
+fn the_fields_have_the_headers_numbers() {
+    let stated: Vec<_> = enumerated()
+        .iter()
+        .filter_map(|(name, number)| Some((name.strip_prefix("field_")?.to_owned(), *number)))
+        .collect();
+    assert_eq!(stated, Field::ALL.map(|field| (field.to_string(), field as u8)));
     assert_eq!(Field::ALL.map(|field| Field::numbered(field as u8)), Field::ALL.map(Some));
     assert_eq!([0, 9, 255].map(Field::numbered), [None; 3]);
+}
+
+/// The header's answers are those of the laws `wire/Header: AnswersExact` and `edge/Header: NumbersExact`, line by line.
+#[test]
+fn the_answers_have_the_laws_numbers() {
+    let refusals = [
+        ("malformed", 1),
+        ("no_store", 2),
+        ("foreign", 3),
+        ("image_length", 4),
+        ("busy", 5),
+        ("worn", 6),
+        ("no_room", 7),
+        ("no_object", 8),
+        ("short_reply", 9),
+        ("host_range", 10),
+        ("stale", 11),
+    ];
+    let others = [("program", 252), ("erase", 253), ("wrong_record", 254), ("more", 255)];
+    let stated = enumerated();
+    let answers = stated
+        .iter()
+        .map(|(name, number)| (name.as_str(), *number))
+        .filter(|(name, _)| !name.starts_with("field_"));
+    assert_eq!(answers.collect::<Vec<_>>(), [&[("done", 0)], &refusals[..], &others[..]].concat());
 }
 
 #[test]
