@@ -1,8 +1,10 @@
 //! Number and size of an image's blocks, and how evenly they wear (K14).
 
 use crate::rng::Rng;
+use crate::side::Modelled;
 use crate::twin::{Call, Twin, UNWRITTEN};
-use store::{Answer, Head, message};
+use library::Drive;
+use store::{Answer, Head, Store, message};
 
 /// Whether an image of this length may have so many blocks: 2 to 16 of a whole multiple of 128 bytes each, from 256 up,
 /// 65,536 bytes in all at most.
@@ -25,7 +27,7 @@ pub fn other(rng: &mut Rng, blocks: u8) -> u8 {
 
 /// A call that is told another number of blocks than the record's: it is refused and changes nothing. A step without a job
 /// in hand looks at no image.
-pub fn tell_another(twin: &mut Twin, rng: &mut Rng) {
+pub fn tell_another<M: Modelled, L: Drive, P: Store>(twin: &mut Twin<M, L, P>, rng: &mut Rng) {
     let (blocks, head, image) = (twin.blocks, twin.head(), twin.image().to_vec());
     let (host, message, reply) = (rng.below(5) as u8, rng.pick(&[message::log, message::commit])(), 20);
     let call = match rng.below(4) {

@@ -1,7 +1,7 @@
 //! What is asked of each store, and what comes back.
 
 use std::fmt;
-use store::{Answer, Stretch, hex};
+use store::{Answer, Stretch, hex, message};
 
 #[derive(Clone, PartialEq, Eq, Debug)]
 pub enum Call {
@@ -30,6 +30,19 @@ impl Call {
             Call::Run(_) => "run",
             Call::Request { .. } => "request",
             Call::Read { .. } => "read",
+        }
+    }
+
+    /// What the job is called that it begins.
+    pub fn job(&self) -> &'static str {
+        match self {
+            Call::Request { message, .. } => match u16::from_le_bytes([message[2], message[3]]) {
+                message::PUT => "put",
+                message::DELETE => "delete",
+                message::COMMIT => "commit",
+                _ => "abort",
+            },
+            other => other.name(),
         }
     }
 

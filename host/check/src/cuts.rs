@@ -4,12 +4,15 @@
 use crate::book::{Lists, Objects, found};
 use crate::raise;
 use crate::rng::Rng;
+use crate::side::{Modelled, Stores};
 use crate::twin::{Call, Twin};
+use library::{Drive, Library};
 use model::block::{self, Block, Journal};
-use model::cut;
+use model::{Model, cut};
+use plain::Plain;
 use std::collections::{HashSet, VecDeque};
 use std::hash::{DefaultHasher, Hasher};
-use store::{Answer, Idle};
+use store::{Answer, Idle, Store};
 
 /// Where a job starts: its image, the idle record (mount and format take none) and the call.
 pub struct Start<'a> {
@@ -35,8 +38,8 @@ struct Left {
     inside: bool,
 }
 
-pub struct Cuts {
-    pub twin: Twin,
+pub struct Cuts<M: Modelled = Model, L: Drive = Library, P: Store = Plain> {
+    pub twin: Twin<M, L, P>,
     rng: Rng,
     /// The most images to recover from after one job; if there may be more, cuts are made at only some steps.
     most: usize,
@@ -46,13 +49,15 @@ pub struct Cuts {
 }
 
 impl Cuts {
-    pub fn new(blocks: u8, length: usize, most: usize, seed: u64) -> Cuts {
-        let twin = Twin::of_blocks(blocks, &vec![0xFF; length]);
-        Cuts { twin, rng: Rng::new(seed), most, cuts: 0, inside: 0 }
-    }
-
     pub fn everywhere(length: usize) -> Cuts {
-        Cuts::new(2, length, usize::MAX, 0)
+        Cuts::among(Stores::real(), 2, length, usize::MAX, 0)
+    }
+}
+
+impl<M: Modelled, L: Drive, P: Store> Cuts<M, L, P> {
+    pub fn among(stores: Stores<M, L, P>, blocks: u8, length: usize, most: usize, seed: u64) -> Self {
+        let twin = Twin::among(stores, blocks, &vec![0xFF; length]);
+        Cuts { twin, rng: Rng::new(seed), most, cuts: 0, inside: 0 }
     }
 
     /// Cuts the job everywhere: up to its last step `before` must be found, after it `after`.
@@ -140,7 +145,7 @@ impl Cuts {
         let (objects, lists) = found(self.twin.block(usize::from(idle.block)));
         assert_eq!(lists, Lists::default(), "something is pending after a mount");
         let (Allowed::Exactly(expected) | Allowed::OrGone(expected)) = allowed;
-        assert_eq!(objects, *expected);
+        assert_eq!(objects, *expected, "a mount found other objects");
         expected
     }
 

@@ -12,6 +12,7 @@ pub mod raise;
 pub mod rng;
 pub mod rounds;
 pub mod runs;
-mod side;
+mod script;
+pub mod side;
 pub mod tally;
 pub mod twin;

@@ -2,13 +2,16 @@
 
 use crate::damage;
 use crate::rng::Rng;
-use crate::runs::{self, Plan};
+use crate::runs::{self, Midway, Plan};
 use crate::tally::Tally;
 use crate::twin::Twin;
 
 #[derive(Default)]
 pub struct Sum {
+    /// Of all calls, and of those that runs made themselves.
     pub tally: Tally,
+    pub own: Tally,
+    pub midway: Midway,
     pub runs: u64,
     pub cuts: u64,
     /// Those of the cuts that fell inside an erase.
@@ -38,7 +41,7 @@ const TWO: [Kind; 11] = [
     (2, 4_096, 3_000, 0, 0, false),
 ];
 
-const MORE: [Kind; 9] = [
+const MORE: [Kind; 18] = [
     (3, 768, 800, 20, EVERYWHERE, false),
     (4, 1_024, 500, 40, EVERYWHERE, false),
     (7, 2_688, 500, 40, 400, false),
@@ -48,17 +51,40 @@ const MORE: [Kind; 9] = [
     (5, 2_560, 2_000, 0, 0, true),
     (3, 33_024, 100, 0, 0, true),
     (16, 65_536, 60, 10, 8, true),
+    (6, 1_536, 300, 30, 200, false),
+    (8, 2_048, 300, 30, 200, false),
+    (9, 3_456, 300, 30, 200, false),
+    (10, 2_560, 300, 30, 200, false),
+    (11, 2_816, 300, 30, 200, false),
+    (12, 4_608, 300, 30, 200, false),
+    (13, 3_328, 300, 30, 200, false),
+    (14, 5_376, 300, 30, 200, false),
+    (15, 3_840, 300, 30, 200, false),
 ];
 
-/// Number of blocks, length and calls of runs in which no power is lost inside a job.
-const CALM: [(u8, usize, usize); 5] =
-    [(2, 512, 1_000), (3, 768, 1_500), (4, 1_536, 3_000), (7, 1_792, 4_000), (16, 4_096, 8_000)];
+/// Calls for each block of runs in which no power is lost inside a job.
+const CALM: usize = 500;
 
 /// Number of blocks, length and number of damaged images.
 const IMAGES_OF_TWO: [(u8, usize, usize); 6] =
     [(2, 512, 4_000), (2, 768, 1_500), (2, 1_024, 1_000), (2, 1_280, 800), (2, 8_192, 100), (2, 65_536, 10)];
-const IMAGES_OF_MORE: [(u8, usize, usize); 6] =
-    [(3, 768, 2_000), (4, 1_024, 1_500), (7, 2_688, 600), (16, 4_096, 600), (5, 10_240, 80), (16, 65_536, 20)];
+const IMAGES_OF_MORE: [(u8, usize, usize); 15] = [
+    (3, 768, 2_000),
+    (4, 1_024, 1_500),
+    (7, 2_688, 600),
+    (16, 4_096, 600),
+    (5, 10_240, 80),
+    (16, 65_536, 20),
+    (6, 1_536, 200),
+    (8, 2_048, 200),
+    (9, 3_456, 200),
+    (10, 2_560, 200),
+    (11, 2_816, 200),
+    (12, 4_608, 200),
+    (13, 3_328, 200),
+    (14, 5_376, 200),
+    (15, 3_840, 200),
+];
 
 /// The runs of a round with two blocks: each kind once, then short ones near the last time.
 pub fn runs_of_two(round: u64, sum: &mut Sum) {
@@ -69,14 +95,14 @@ pub fn runs_of_two(round: u64, sum: &mut Sum) {
 /// The same with three to sixteen, and runs in which the blocks' wear must be even.
 pub fn runs_of_more(round: u64, sum: &mut Sum) {
     runs_of(&MORE, round * 100 + 20, sum);
-    (0..4).for_each(|number| late_run(3 + number as u8, round * 100 + 60, number, sum));
-    for (number, (blocks, length, calls)) in (0..).zip(CALM) {
-        let seed = round * 100 + 40 + number;
+    (0..14).for_each(|number| late_run(3 + number as u8, round * 100 + 60, number, sum));
+    for blocks in 2..=16 {
+        let (seed, number) = (round * 100 + 76 + u64::from(blocks), usize::from(blocks));
+        let (length, calls) = (256 * number, CALM * number);
         let (cut_jobs, most_cuts, filled) = (0, 0, false);
         let erases =
             add_run(Plan { seed, blocks, length, calls, time: 1, cut_jobs, most_cuts, filled, calm: true }, sum);
-        let even = &mut sum.even[usize::from(blocks)];
-        *even = erases.max(*even);
+        sum.even[number] = erases.max(sum.even[number]);
     }
 }
 
@@ -97,7 +123,12 @@ fn late_run(blocks: u8, seed: u64, number: u64, sum: &mut Sum) {
 /// Makes the run; the most erases in it that had to be even.
 fn add_run(plan: Plan, sum: &mut Sum) -> usize {
     let made = runs::run(plan);
-    sum.tally.add(&made.tally);
+    sum.tally.add(&made.recoveries);
+    sum.tally.add(&made.own);
+    sum.own.add(&made.own);
+    for (job, cuts) in made.midway {
+        *sum.midway.entry(job).or_default() += cuts;
+    }
     sum.cuts += made.cuts;
     sum.inside += made.inside;
     sum.runs += 1;

@@ -1,7 +1,30 @@
-//! One of the stores that are compared.
+//! The stores that are compared.
 
 use crate::call::{Call, Outcome, UNWRITTEN};
-use store::{Answer, Head, Store, Stretch};
+use library::Library;
+use model::{Model, Record};
+use plain::Plain;
+use store::{Answer, Head, Idle, Store, Stretch};
+
+/// Model, library and plain, or others in their places: tests of the comparison itself put wrong ones there. The library is
+/// there twice: by step and run, and driven.
+pub struct Stores<M, L, P> {
+    pub model: M,
+    pub library: L,
+    pub driven: L,
+    pub plain: P,
+}
+
+impl Stores<Model, Library, Plain> {
+    pub fn real() -> Stores<Model, Library, Plain> {
+        Stores { model: Model, library: Library::linked(), driven: Library::linked(), plain: Plain }
+    }
+}
+
+/// What may stand in the model's place: the comparison looks into its jobs.
+pub trait Modelled: Store<Record = Record> {}
+
+impl<M: Store<Record = Record>> Modelled for M {}
 
 /// One store with its own copy of the image.
 pub struct Side<S: Store> {
@@ -18,6 +41,14 @@ impl<S: Store> Side<S> {
     pub fn load(&mut self, image: &[u8]) {
         self.image.clear();
         self.image.extend_from_slice(image);
+        self.record = self.store.unmounted();
+    }
+
+    pub fn forge(&mut self, idle: Idle) {
+        self.record = self.store.idle(idle);
+    }
+
+    pub fn unmount(&mut self) {
         self.record = self.store.unmounted();
     }
 

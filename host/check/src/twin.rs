@@ -4,26 +4,25 @@
 pub use crate::call::{Call, Outcome, UNWRITTEN};
 use crate::fault;
 use crate::nor::Nor;
-use crate::side::Side;
+use crate::script::{Begun, Setting};
+use crate::side::{Modelled, Side, Stores};
 use crate::tally::Tally;
-use library::{Driven, Library, Told};
+use library::{Drive, Driven, Library, Told};
 use model::job::{Job, Step};
 use model::{Model, Record, block_of};
 use plain::Plain;
-use std::fmt;
-use store::{Answer, Fault, Head, Idle, Store, hex, message};
+use store::{Answer, Fault, Head, Idle, Store, message};
 
-pub struct Twin {
-    model: Side<Model>,
-    library: Side<Library>,
-    driven: Side<Driven>,
-    plain: Side<Plain>,
+pub struct Twin<M: Modelled = Model, L: Drive = Library, P: Store = Plain> {
+    model: Side<M>,
+    library: Side<L>,
+    driven: Side<Driven<L>>,
+    plain: Side<P>,
     nor: Nor,
     /// How many blocks each call is told.
     pub blocks: u8,
-    /// Where the job began, the call, and the steps made since.
-    job: Option<(Setting, Call)>,
-    steps: usize,
+    /// How the job in hand began.
+    job: Option<Begun>,
     pub tally: Tally,
 }
 
@@ -34,17 +33,7 @@ impl Twin {
     }
 
     pub fn of_blocks(blocks: u8, image: &[u8]) -> Twin {
-        Twin {
-            model: Side::new(Model, image),
-            library: Side::new(Library::linked(), image),
-            driven: Side::new(Driven(Library::linked()), image),
-            plain: Side::new(Plain, image),
-            nor: Nor::new(image),
-            blocks,
-            job: None,
-            steps: 0,
-            tally: Tally::default(),
-        }
+        Twin::among(Stores::real(), blocks, image)
     }
 
     pub fn blank(length: usize) -> Twin {
@@ -57,7 +46,26 @@ impl Twin {
     }
 
     pub fn formatted_of(blocks: u8, length: usize) -> Twin {
-        let mut twin = Twin::of_blocks(blocks, &vec![0xFF; length]);
+        Twin::formatted_among(Stores::real(), blocks, length)
+    }
+}
+
+impl<M: Modelled, L: Drive, P: Store> Twin<M, L, P> {
+    pub fn among(Stores { model, library, driven, plain }: Stores<M, L, P>, blocks: u8, image: &[u8]) -> Self {
+        Twin {
+            model: Side::new(model, image),
+            library: Side::new(library, image),
+            driven: Side::new(Driven(driven), image),
+            plain: Side::new(plain, image),
+            nor: Nor::new(image),
+            blocks,
+            job: None,
+            tally: Tally::default(),
+        }
+    }
+
+    pub fn formatted_among(stores: Stores<M, L, P>, blocks: u8, length: usize) -> Self {
+        let mut twin = Twin::among(stores, blocks, &vec![0xFF; length]);
         assert_eq!(twin.whole(&Call::Format), (Answer::DONE, usize::from(blocks) + 10));
         twin
     }
@@ -73,17 +81,17 @@ impl Twin {
     }
 
     pub fn forge(&mut self, idle: Idle) {
-        self.model.record = Record::Idle(idle);
-        self.library.record = self.library.store.idle(idle);
-        self.driven.record = self.library.record;
-        self.plain.record = self.plain.store.idle(idle);
+        self.model.forge(idle);
+        self.library.forge(idle);
+        self.driven.forge(idle);
+        self.plain.forge(idle);
     }
 
     pub fn unmount(&mut self) {
-        self.model.record = Record::Unmounted;
-        self.library.record = self.library.store.unmounted();
-        self.driven.record = self.library.record;
-        self.plain.record = self.plain.store.unmounted();
+        self.model.unmount();
+        self.library.unmount();
+        self.driven.unmount();
+        self.plain.unmount();
     }
 
     /// Replaces the image under whatever record there is.
@@ -190,7 +198,7 @@ impl Twin {
     }
 
     fn compare_told(&self, call: &Call, before: Head) {
-        let told = self.library.store.next_of(self.nor.bytes().len(), self.blocks, &self.library.record);
+        let told = self.library.store.told(self.nor.bytes().len(), self.blocks, &self.library.record);
         if told != self.next() {
             self.fail(&format!("the library tells {told:?}, the model {:?}", self.next()), before, call);
         }
@@ -252,27 +260,29 @@ impl Twin {
 
     /// Why a mount of the image as it is would be refused, and where it broke.
     pub fn fault(&mut self) -> (Answer, Option<Fault>) {
-        let (answer, fault) = fault::agreed(self.image(), self.blocks);
+        self.fault_of(&self.image().to_vec())
+    }
+
+    /// The same of another image.
+    pub fn fault_of(&mut self, image: &[u8]) -> (Answer, Option<Fault>) {
+        let (model, library, plain) = (&self.model.store, &self.library.store, &self.plain.store);
+        let (answer, fault) = fault::agreed_by(model, library, plain, image, self.blocks);
         self.tally.count_fault(fault);
         (answer, fault)
     }
 
     fn remember(&mut self, call: &Call, before: Head, outcome: &Outcome) {
-        if call.goes_on() {
-            self.steps += outcome.steps;
-        } else if outcome.answer == Answer::MORE {
-            self.job = Some((self.setting(before), call.clone()));
-            self.steps = 0;
+        if !call.goes_on() && outcome.answer == Answer::MORE {
+            self.job = Some(Begun { setting: self.setting(before), call: call.clone(), steps: 0 });
+        } else if let Some(begun) = &mut self.job {
+            begun.steps += outcome.steps;
         }
     }
 
     /// Panics with a script that shows the difference in `desk replay`.
     fn fail(&self, what: &str, before: Head, call: &Call) -> ! {
         let script = match (&self.job, before) {
-            (Some((setting, begin)), Head::Job) => {
-                let steps = if self.steps > 0 { format!("step {}\n", self.steps) } else { String::new() };
-                format!("{setting}{begin}\n{steps}")
-            }
+            (Some(begun), Head::Job) => begun.to_string(),
             _ => self.setting(before).to_string(),
         };
         panic!("{what}\n{script}blocks {}\n{call}\nrecord\ndump", self.blocks);
@@ -341,30 +351,10 @@ impl Twin {
 }
 
 /// Whether an unmounted or idle record of the library has zeros wherever it uses none.
-fn tidy(library: &Side<Library>) -> bool {
+fn tidy<L: Store>(library: &Side<L>) -> bool {
     match library.head() {
         Head::Unmounted => library.record == library.store.unmounted(),
         Head::Idle(idle) => library.record == library.store.idle(idle),
         Head::Job => true,
-    }
-}
-
-/// What a call was given.
-struct Setting {
-    image: Vec<u8>,
-    blocks: u8,
-    head: Head,
-}
-
-/// The lines for `desk replay` that put it in place.
-impl fmt::Display for Setting {
-    fn fmt(&self, f: &mut fmt::Formatter) -> fmt::Result {
-        writeln!(f, "image {} {}", hex::show(&self.image), self.blocks)?;
-        match self.head {
-            Head::Idle(Idle { length, block, end, blocks }) => {
-                writeln!(f, "idle {length} {block} {end} blocks={blocks}")
-            }
-            _ => Ok(()),
-        }
     }
 }

@@ -3,7 +3,23 @@
 use crate::{Library, Record, Told};
 use store::{Answer, Fault, Head, Idle, Store, Stretch};
 
-pub struct Driven(pub Library);
+/// A store that tells its next flash step, by the record alone, and moves on once it was made.
+pub trait Drive: Store {
+    fn told(&self, image_len: usize, blocks: u8, record: &Self::Record) -> (Answer, Told);
+    fn made(&self, image: &[u8], blocks: u8, record: &mut Self::Record) -> Answer;
+}
+
+impl Drive for Library {
+    fn told(&self, image_len: usize, blocks: u8, record: &Record) -> (Answer, Told) {
+        self.next_of(image_len, blocks, record)
+    }
+
+    fn made(&self, image: &[u8], blocks: u8, record: &mut Record) -> Answer {
+        self.made_on(image, blocks, record)
+    }
+}
+
+pub struct Driven<L>(pub L);
 
 /// The flash step that `next` told; a program step clears bits and sets none.
 pub fn flash(image: &mut [u8], answer: Answer, Told { at, len, byte }: Told) {
@@ -14,10 +30,10 @@ pub fn flash(image: &mut [u8], answer: Answer, Told { at, len, byte }: Told) {
     }
 }
 
-impl Store for Driven {
-    type Record = Record;
+impl<L: Drive> Store for Driven<L> {
+    type Record = L::Record;
 
-    fn mount(&self, image: &[u8], blocks: u8) -> (Answer, Record) {
+    fn mount(&self, image: &[u8], blocks: u8) -> (Answer, L::Record) {
         self.0.mount(image, blocks)
     }
 
@@ -25,7 +41,7 @@ impl Store for Driven {
         self.0.fault(image, blocks)
     }
 
-    fn format(&self, image: &[u8], blocks: u8) -> (Answer, Record) {
+    fn format(&self, image: &[u8], blocks: u8) -> (Answer, L::Record) {
         self.0.format(image, blocks)
     }
 
@@ -33,7 +49,7 @@ impl Store for Driven {
         &self,
         image: &[u8],
         blocks: u8,
-        record: &mut Record,
+        record: &mut L::Record,
         host: u8,
         message: &[u8],
         reply: &mut [u8],
@@ -41,25 +57,25 @@ impl Store for Driven {
         self.0.request(image, blocks, record, host, message, reply)
     }
 
-    fn step(&self, image: &mut [u8], blocks: u8, record: &mut Record) -> Answer {
-        let (answer, told) = self.0.next_of(image.len(), blocks, record);
+    fn step(&self, image: &mut [u8], blocks: u8, record: &mut L::Record) -> Answer {
+        let (answer, told) = self.0.told(image.len(), blocks, record);
         flash(image, answer, told);
-        self.0.made_on(image, blocks, record)
+        self.0.made(image, blocks, record)
     }
 
-    fn read(&self, image: &[u8], blocks: u8, record: &Record, host: u8, message: &[u8]) -> (Answer, Stretch) {
+    fn read(&self, image: &[u8], blocks: u8, record: &L::Record, host: u8, message: &[u8]) -> (Answer, Stretch) {
         self.0.read(image, blocks, record, host, message)
     }
 
-    fn unmounted(&self) -> Record {
+    fn unmounted(&self) -> L::Record {
         self.0.unmounted()
     }
 
-    fn idle(&self, idle: Idle) -> Record {
+    fn idle(&self, idle: Idle) -> L::Record {
         self.0.idle(idle)
     }
 
-    fn head(&self, record: &Record) -> Head {
+    fn head(&self, record: &L::Record) -> Head {
         self.0.head(record)
     }
 }

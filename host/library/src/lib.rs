@@ -4,7 +4,7 @@ mod calls;
 mod driven;
 
 pub use calls::{Library, Told, UNCOUNTED};
-pub use driven::{Driven, flash};
+pub use driven::{Drive, Driven, flash};
 
 use std::ops::Range;
 use store::{Answer, Fault, Field, Head, Idle, Store, Stretch};

@@ -7,7 +7,7 @@ use check::twin::{Call, Twin};
 use store::{Answer, Fault, Field, Head, Idle, message};
 
 const S: usize = 256;
-pub const NUMBERS: [u8; 5] = [2, 3, 4, 7, 16];
+pub const NUMBERS: std::ops::RangeInclusive<u8> = 2..=16;
 
 /// What may stand in a block.
 #[derive(Clone, Copy)]
@@ -62,7 +62,7 @@ fn erased(twin: &mut Twin) -> (Vec<usize>, usize) {
 fn boards() -> impl Iterator<Item = (Vec<Part>, usize)> {
     let beside = [Blank, InProgress, Foreign, Valid(3), Blank, Valid(2), Foreign, Valid(1), Foreign];
     let others = move |from: usize| beside.into_iter().skip(from).chain([InProgress; 16]);
-    let places = NUMBERS.into_iter().flat_map(|blocks| (0..usize::from(blocks)).map(move |place| (blocks, place)));
+    let places = NUMBERS.flat_map(|blocks| (0..usize::from(blocks)).map(move |place| (blocks, place)));
     places.flat_map(move |(blocks, place)| {
         (0..4).map(move |from| {
             let mut parts: Vec<Part> = others(from).take(usize::from(blocks) - 1).collect();

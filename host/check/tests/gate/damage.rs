@@ -70,14 +70,18 @@ fn image_of(start: &[u8]) -> Vec<u8> {
     image
 }
 
-/// A formatted block with one settled object, then `tail` placed so that `room` bytes are left for it.
+/// A formatted block with one settled object and aborted puts, which leave nothing pending, then `tail` placed so that `room`
+/// bytes are left for it. So only the tail can make a mount transfer.
 fn with_tail(tail: &[u8], room: usize) -> Twin {
     let mut block = FORMATTED.to_vec();
     block.extend(frame::settled(Id(1), b"kept"));
+    // a put and its abort
+    let (least, most) = (8 + 6, LONGEST + 6);
     while block.len() < S - room {
         let left = S - room - block.len();
-        let length = if left > LONGEST { (left - 8).min(LONGEST) } else { left };
-        block.extend(frame::put(Host(0), Id(2), &vec![0; length - 8]));
+        let length = if left > most { (left - least).min(most) } else { left };
+        block.extend(frame::put(Host(0), Id(2), &vec![0; length - least]));
+        block.extend(frame::abort(Host(0)));
     }
     block.extend(tail);
     Twin::new(&image_of(&block))
@@ -89,7 +93,15 @@ fn samples() -> Vec<Vec<u8>> {
     puts.chain([frame::delete(Host(1), Id(0)), frame::commit(Host(2)), frame::abort(Host(0))]).collect()
 }
 
-/// A mount after a torn tail keeps the settled object: U is 16 + 11.
+/// Without a tail there is nothing to do.
+#[test]
+fn a_blank_tail_is_not_torn() {
+    for room in [6, 7, 8, 100, 247, 248, AMPLE] {
+        assert_eq!(with_tail(&[], room).whole(&Call::Mount), (Answer::DONE, 0));
+    }
+}
+
+/// A mount after a torn tail keeps the settled object: U is 16 + 11, a transfer 22 steps.
 fn found_torn(mut twin: Twin) -> bool {
     match twin.whole(&Call::Mount) {
         (Answer::DONE, 22) => {
@@ -167,8 +179,8 @@ fn frames_of_the_longest_value() {
 /// Frames that run exactly to S leave an empty tail.
 #[test]
 fn frames_to_the_very_end() {
-    let commit = frame::commit(Host(0));
-    let mut twin = with_tail(&commit, commit.len());
+    let last = [frame::put(Host(0), Id(2), b"last"), frame::commit(Host(0))].concat();
+    let mut twin = with_tail(&last, last.len());
     twin.forge(Idle { length: LONG, block: 0, end: S as u16, blocks: 2 });
     assert_eq!(twin.ask(1, &message::commit()), Answer::DONE);
     assert_eq!(twin.whole(&Call::Mount), (Answer::DONE, 0));
@@ -220,7 +232,7 @@ fn with_state(state: u8) -> Vec<u8> {
 /// K4: beside a valid block a foreign one is erased, as any that isn't blank; without one it is 3.
 #[test]
 fn a_block_of_every_state_beside_another() {
-    let valid = with_tail(&[], AMPLE).image()[..S].to_vec();
+    let valid = with_tail(&frame::put(Host(0), Id(2), &[]), AMPLE).image()[..S].to_vec();
     for state in 0..=255 {
         let other = with_state(state);
         let foreign = state < 0xFE;

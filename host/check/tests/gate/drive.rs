@@ -198,7 +198,8 @@ fn walk(library: &Library, mut board: Board, most: usize, seen: &mut Seen) {
 fn jobs_of_every_kind() {
     let library = Library::linked();
     let mut seen = Seen::new();
-    for (blocks, length) in [(2, 512), (2, 768), (2, 4_096), (2, 65_536), (3, 768), (7, 2_688), (16, 4_096)] {
+    let two = [(2, 512), (2, 768), (2, 4_096), (2, 65_536), (7, 2_688)];
+    for (blocks, length) in two.into_iter().chain((3..=16).map(|blocks| (blocks, 256 * usize::from(blocks)))) {
         for board in jobs(blocks, length) {
             assert_eq!(library.head(&board.record), Head::Job);
             check_runs(&library, &board);
@@ -270,7 +271,7 @@ fn check_stale(library: &Library, board: &Board, seen: &mut Seen) {
 fn other_numbers_of_blocks() {
     let library = Library::linked();
     let mut seen = Seen::new();
-    for (own, length) in [(2, 768), (3, 768), (16, 4_096)] {
+    for (own, length) in (2..=16).map(|blocks| (blocks, 384 * usize::from(blocks))) {
         for real in jobs(own, length) {
             for blocks in (0..=255).filter(|blocks| *blocks != own) {
                 check_stale(&library, &Board { blocks, ..real.clone() }, &mut seen);

@@ -1,13 +1,18 @@
 //! The tests of the gate. Most calls here are made on model, library and plain, and compared (`Twin`).
 
+mod altered;
 mod blank;
 mod blocks;
+mod booked;
+mod comparer;
 mod damage;
 mod drive;
 mod edge;
 mod erase;
 mod fault;
 mod format;
+mod judged;
+mod limits;
 mod long;
 mod misled;
 mod random;

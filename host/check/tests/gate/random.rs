@@ -1,11 +1,12 @@
 //! Random runs and damaged images, fixed seeds. `cargo run --release -p check` makes more rounds of the same.
 
 use check::rounds::{Sum, images_of_more, images_of_two, runs_of_more, runs_of_two};
+use check::tally::Tally;
 use store::{Answer, Field};
 
-fn seen(sum: &Sum, call: &'static str, answers: &[Answer]) {
+fn seen(tally: &Tally, call: &'static str, answers: &[Answer]) {
     for answer in answers {
-        assert!(sum.tally.of(call, *answer) > 0, "no {call} answered {answer}");
+        assert!(tally.of(call, *answer) > 0, "no {call} answered {answer}");
     }
 }
 
@@ -34,14 +35,20 @@ fn seen_faults(sum: &Sum, last: usize) {
     }
 }
 
+/// By the runs' own calls alone, without those of the recoveries from cuts of copies.
 fn seen_runs(sum: &Sum) {
     assert!(sum.inside > 1_000, "{} cuts inside an erase", sum.inside);
     assert_eq!(sum.tally.of("mount", Answer::FOREIGN), 0);
-    seen(sum, "mount", &[0, 2, 6, 255].map(Answer));
-    seen(sum, "request", &[0, 1, 2, 4, 5, 6, 7, 8, 9, 10, 11, 255].map(Answer));
-    seen(sum, "step", &[0, 11, 255].map(Answer));
-    seen(sum, "run", &[0, 11, 255].map(Answer));
-    seen(sum, "read", &[0, 4, 5, 8, 10, 11].map(Answer));
+    seen(&sum.own, "mount", &[0, 2, 6, 255].map(Answer));
+    seen(&sum.own, "request", &[0, 1, 2, 4, 5, 6, 7, 8, 9, 10, 11, 255].map(Answer));
+    seen(&sum.own, "step", &[0, 11, 255].map(Answer));
+    seen(&sum.own, "run", &[0, 11, 255].map(Answer));
+    seen(&sum.own, "read", &[0, 4, 5, 8, 10, 11].map(Answer));
+    for job in ["put", "delete", "commit", "abort", "mount", "format"] {
+        assert!(sum.midway.contains_key(job), "no {job} of a run was cut between its steps");
+    }
+    let cuts = sum.midway.values().sum::<u64>();
+    assert!(cuts > 200, "{cuts} jobs of runs were cut between steps");
     seen_faults(sum, 1);
 }
 
@@ -67,15 +74,15 @@ fn runs_of_more_blocks() {
     let mut sum = Sum::default();
     runs_of_more(0, &mut sum);
     seen_runs(&sum);
-    for blocks in [2, 3, 4, 7, 16] {
+    for blocks in 2..=16 {
         assert!(sum.even[blocks] > 2 * blocks, "{} erases of {blocks} blocks", sum.even[blocks]);
     }
 }
 
 fn seen_images(sum: &Sum) {
-    seen(sum, "mount", &[0, 2, 3, 6, 255].map(Answer));
-    seen(sum, "request", &[0, 1, 2, 6, 7, 8, 9, 10, 11, 255].map(Answer));
-    seen(sum, "read", &[0, 1, 2, 8, 10, 11].map(Answer));
+    seen(&sum.tally, "mount", &[0, 2, 3, 6, 255].map(Answer));
+    seen(&sum.tally, "request", &[0, 1, 2, 6, 7, 8, 9, 10, 11, 255].map(Answer));
+    seen(&sum.tally, "read", &[0, 1, 2, 8, 10, 11].map(Answer));
 }
 
 #[test]
@@ -93,4 +100,7 @@ fn images_of_more_blocks() {
     (0..2).for_each(|round| images_of_more(round, &mut sum));
     seen_images(&sum);
     seen_faults(&sum, 2);
+    for block in 3..16 {
+        assert!(Field::ALL.iter().any(|field| sum.tally.faults(block, *field) > 0), "block {block} never broke");
+    }
 }

@@ -71,10 +71,12 @@ fn told_another(twin: &mut Twin, step: Answer, request: Answer) {
     twin.blocks = own;
 }
 
-/// 3,072 and 12,288 bytes may be of several numbers of blocks.
+/// Some of these lengths may be of several numbers of blocks: 3,072, 12,288, 5,760, 7,680.
 #[test]
 fn a_call_told_another_number_changes_nothing() {
-    for (blocks, length) in [(2, 3_072), (3, 3_072), (4, 12_288), (7, 2_688), (16, 12_288)] {
+    let kinds = [(2, 3_072), (3, 3_072), (4, 12_288), (5, 7_680), (6, 3_072), (7, 2_688), (8, 12_288), (9, 5_760)];
+    let more = [(10, 7_680), (11, 8_448), (12, 12_288), (13, 3_328), (14, 5_376), (15, 5_760), (16, 12_288)];
+    for (blocks, length) in kinds.into_iter().chain(more) {
         let mut twin = Twin::formatted_of(blocks, length);
         told_another(&mut twin, Answer::DONE, Answer::STALE);
         for message in [message::put(5, b"AB"), message::commit()] {

@@ -1,80 +1,13 @@
 //! Wrong stores, each wrong in one thing that K4 says: the half-erased images of these tests must tell them from right ones.
 
+use super::altered::{Altered, Begun, RIGHT};
 use super::erase::{Scene, mount_transfer};
 use super::format::{beside, olders, transferred};
 use library::Library;
 use model::block::{self, Block};
 use model::{Model, Record, block_of};
 use plain::Plain;
-use store::{Answer, Fault, Head, Idle, Store, Stretch, message};
-
-pub type Begun = (Answer, Record);
-type Ask = fn(&[u8], u8, &mut Record, u8, &[u8], &mut [u8]) -> Answer;
-
-/// The model with another mount, format, request or step.
-pub struct Altered {
-    pub mount: fn(&[u8], u8) -> Begun,
-    pub format: fn(&[u8], u8) -> Begun,
-    pub request: Ask,
-    pub step: fn(&mut [u8], u8, &mut Record) -> Answer,
-}
-
-impl Store for Altered {
-    type Record = Record;
-
-    fn mount(&self, image: &[u8], blocks: u8) -> Begun {
-        (self.mount)(image, blocks)
-    }
-
-    fn fault(&self, image: &[u8], blocks: u8) -> (Answer, Option<Fault>) {
-        Model.fault(image, blocks)
-    }
-
-    fn format(&self, image: &[u8], blocks: u8) -> Begun {
-        (self.format)(image, blocks)
-    }
-
-    fn request(
-        &self,
-        image: &[u8],
-        blocks: u8,
-        record: &mut Record,
-        host: u8,
-        message: &[u8],
-        reply: &mut [u8],
-    ) -> Answer {
-        (self.request)(image, blocks, record, host, message, reply)
-    }
-
-    fn step(&self, image: &mut [u8], blocks: u8, record: &mut Record) -> Answer {
-        (self.step)(image, blocks, record)
-    }
-
-    fn read(&self, image: &[u8], blocks: u8, record: &Record, host: u8, message: &[u8]) -> (Answer, Stretch) {
-        Model.read(image, blocks, record, host, message)
-    }
-
-    fn unmounted(&self) -> Record {
-        Model.unmounted()
-    }
-
-    fn idle(&self, idle: Idle) -> Record {
-        Model.idle(idle)
-    }
-
-    fn head(&self, record: &Record) -> Head {
-        Model.head(record)
-    }
-}
-
-pub const RIGHT: Altered = Altered {
-    mount: |image, blocks| Model.mount(image, blocks),
-    format: |image, blocks| Model.format(image, blocks),
-    request: |image, blocks, record, host, message, reply| {
-        Model.request(image, blocks, record, host, message, reply)
-    },
-    step: |image, blocks, record| Model.step(image, blocks, record),
-};
+use store::{Answer, Store, message};
 
 fn both(image: &[u8]) -> [Block; 2] {
     [0, 1].map(|block| block::read(block_of(image, 2, block)))

@@ -1,34 +1,14 @@
 //! Wrong stores, each wrong in one thing that K14 says: found out at every number of blocks at which they are wrong.
 
+use super::altered::{Altered, Begun, RIGHT, job, steps};
 use super::blocks::{Part, image};
-use super::wrong::{Altered, Begun, RIGHT};
 use library::Library;
-use model::job::{Step, Work, begin};
+use model::job::Step;
 use model::{Model, Record, cut};
 use plain::Plain;
 use store::{Answer, Head, Idle, Store, message};
 
 const S: usize = 256;
-
-/// All steps of a job, and the idle record after them.
-fn steps(record: &Record) -> Option<(Vec<Step>, Idle)> {
-    let Record::Job(job) = record else { return None };
-    let (mut job, mut steps) = (job.clone(), Vec::new());
-    loop {
-        steps.push(job.next());
-        if let Some(idle) = job.advance() {
-            return Some((steps, idle));
-        }
-    }
-}
-
-fn job(steps: impl Iterator<Item = Step>, idle: Idle) -> Record {
-    let work = steps.map(|step| match step {
-        Step::Erase { at, len } => Work::Erase { at, len },
-        Step::Program { at, byte } => Work::program(at, [byte]),
-    });
-    begin(work.collect(), idle)
-}
 
 /// A request whose transfer, if it needs one, goes from a block of so many to another one.
 fn request_to(
@@ -53,7 +33,7 @@ fn request_to(
     answer
 }
 
-const BACK_TO_0: Altered = Altered {
+pub const BACK_TO_0: Altered = Altered {
     request: |image, blocks, record, host, message, reply| {
         request_to(|old, _| u8::from(old == 0), (image, blocks), record, (host, message), reply)
     },
@@ -77,7 +57,7 @@ fn mount_that_erases_one(image: &[u8], blocks: u8) -> Begun {
     (answer, job(kept, idle))
 }
 
-fn step_that_ignores_the_number(image: &mut [u8], blocks: u8, record: &mut Record) -> Answer {
+pub fn step_that_ignores_the_number(image: &mut [u8], blocks: u8, record: &mut Record) -> Answer {
     let own = match record {
         Record::Job(job) => (2..=16).find(|blocks| job.is_on(image.len(), *blocks)),
         _ => None,

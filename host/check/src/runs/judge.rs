@@ -1,0 +1,135 @@
+//! What a run is held to: the book, and what the book and document 01 tell beforehand.
+
+use super::Run;
+use crate::book::{Lists, found};
+use crate::cuts::stuck;
+use crate::damage;
+use crate::generate::Wish;
+use crate::side::Modelled;
+use crate::twin::{Call, Outcome, UNWRITTEN};
+use library::Drive;
+use model::frame::VALUE_LIMIT;
+use store::{Answer, Head, Idle, Store, message};
+
+impl<M: Modelled, L: Drive, P: Store> Run<M, L, P> {
+    pub fn expected(&self, host: u8, wish: &Wish, reply: usize) -> (Answer, usize) {
+        match self.twin.head() {
+            _ if host > 3 => (Answer::HOST_RANGE, 0),
+            Head::Job => (Answer::BUSY, 0),
+            Head::Unmounted => (Answer::NO_STORE, 0),
+            Head::Idle(idle) => self.expected_of_idle(idle, usize::from(host), wish, reply),
+        }
+    }
+
+    fn expected_of_idle(&self, idle: Idle, host: usize, wish: &Wish, reply: usize) -> (Answer, usize) {
+        let taken = self.book.claimed() + 6 * self.book.open(host);
+        let (frame, room) = match wish {
+            Wish::Read(id) if self.book.objects.contains_key(id) => return (Answer::DONE, 0),
+            Wish::Read(_) => return (Answer::NO_OBJECT, 0),
+            Wish::Log if reply < message::PAGE => return (Answer::SHORT_REPLY, 0),
+            Wish::Log => return (Answer::DONE, 0),
+            Wish::Commit | Wish::Abort if self.book.lists[host].is_empty() => return (Answer::DONE, 0),
+            Wish::Commit | Wish::Abort => (6, true),
+            Wish::Put(_, value) if value.len() > VALUE_LIMIT => return (Answer::MALFORMED, 0),
+            Wish::Put(_, value) => (8 + value.len(), taken + 8 + value.len() + 14 <= self.twin.size()),
+            Wish::Delete(_) => (8, taken + 8 <= self.twin.size()),
+        };
+        let transfer = usize::from(idle.end) + frame > self.twin.size();
+        if !room {
+            (Answer::NO_ROOM, 0)
+        } else if transfer && self.newest() == Some(u32::MAX) {
+            (Answer::WORN, 0)
+        } else {
+            (Answer::MORE, frame + if transfer { self.book.claimed() - 5 } else { 0 })
+        }
+    }
+
+    /// The log page holds the book's count and U; nothing else writes to the reply.
+    pub fn check_reply(&self, wish: &Wish, outcome: &Outcome) {
+        let mut expected = vec![UNWRITTEN; outcome.reply.len()];
+        if *wish == Wish::Log && outcome.answer == Answer::DONE {
+            let time = self.newest().expect("a valid block");
+            let short = |number: usize| (number as u16).to_le_bytes();
+            let numbers = [short(self.book.objects.len()), short(self.book.used()), short(self.twin.size())];
+            let page = [&[14, 0, 1, 2][..], &time.to_le_bytes(), &numbers.concat()].concat();
+            expected[..message::PAGE].copy_from_slice(&page);
+        }
+        assert_eq!(outcome.reply, expected, "another reply");
+    }
+
+    /// What holds of every run beyond the letter of demand 3: the store stays there.
+    pub fn check_available(&mut self, call: &Call, answer: Answer, busy: bool) {
+        match (call, answer) {
+            (Call::Format, _) => assert_eq!(answer, Answer::MORE),
+            (Call::Mount, Answer::NO_STORE) => assert!(self.format_open, "the store is gone"),
+            (Call::Mount, Answer::WORN) => assert!(stuck(self.twin.image(), self.twin.blocks)),
+            (Call::Mount, _) => assert!(!answer.refused(), "mount answered {answer}"),
+            (Call::Step | Call::Run(_), _) => assert!(!answer.refused(), "a step got {answer}"),
+            _ => assert!(
+                ![Answer::IMAGE_LENGTH, Answer::FOREIGN, Answer::STALE].contains(&answer),
+                "{call} got {answer}"
+            ),
+        }
+        self.follow_format(call, answer, busy);
+    }
+
+    fn follow_format(&mut self, call: &Call, answer: Answer, busy: bool) {
+        let ended = call.goes_on() && busy && answer == Answer::DONE;
+        if *call == Call::Format || (*call == Call::Mount && busy) {
+            self.wear.end();
+        } else if self.format_open && ended {
+            self.wear.start(self.twin.erases());
+        }
+        self.format_open = match call {
+            Call::Format => true,
+            Call::Mount => self.format_open && answer.refused(),
+            _ => self.format_open && !ended,
+        };
+    }
+
+    /// The job's steps are as many as document 01 says.
+    pub fn count_steps(&mut self, call: &Call, outcome: &Outcome, busy: bool) {
+        match call {
+            Call::Format => self.due = Some(usize::from(self.twin.blocks) + 10),
+            Call::Mount => self.due = None,
+            Call::Request { .. } if outcome.answer == Answer::MORE => self.due = None,
+            Call::Step | Call::Run(_) if busy => {
+                self.due = self.due.map(|due| due.checked_sub(outcome.steps).expect("more steps than due"));
+                let last = outcome.answer != Answer::MORE;
+                assert!(!last || self.due.is_none_or(|due| due == 0), "fewer steps than due");
+            }
+            _ => {}
+        }
+    }
+
+    pub fn check_book(&mut self, idle: Idle) {
+        let (objects, lists) = found(self.twin.block(usize::from(idle.block)));
+        assert_eq!(objects, self.book.objects, "replay's objects are not the book's");
+        assert_eq!(lists, self.book.lists, "replay's lists are not the book's");
+        if lists == Lists::default() {
+            assert!(self.book.used() + 14 <= self.twin.size(), "U + 14 exceeds S though nothing is pending");
+        }
+        if self.rng.once_in(10) {
+            self.harm_a_copy();
+        }
+        if self.rng.once_in(100) {
+            (0..=255).for_each(|id| self.check_read(id));
+        } else {
+            let id = self.manner.id(&mut self.rng);
+            self.check_read(id);
+        }
+    }
+
+    /// A mount of the image with up to three bytes harmed is refused for the same fault by all; the run goes on with the image.
+    fn harm_a_copy(&mut self) {
+        let mut image = self.twin.image().to_vec();
+        for _ in 0..=self.rng.below(3) {
+            damage::harm(&mut self.rng, &mut image, self.twin.size());
+        }
+        self.twin.fault_of(&image);
+    }
+
+    fn check_read(&mut self, id: u8) {
+        assert_eq!(self.twin.value(id).as_ref(), self.book.objects.get(&id), "read of {id}");
+    }
+}

@@ -1,0 +1,168 @@
+//! What runs are held to: each of these stores is wrong in one thing and stands in all places, so that no comparison can
+//! tell. The test must fail by what the book, document 01's numbers of steps or `Wear` know.
+
+use super::altered::{Altered, RIGHT, job, steps};
+use super::judged::{FOREIGN, NO_STORE};
+use super::wrong_blocks::{BACK_TO_0, step_that_ignores_the_number};
+use check::runs::{Made, Plan, run_among};
+use model::job::Step;
+use model::{Model, Record};
+use store::{Answer, Store, Stretch, message};
+
+/// A run of two blocks, or of three in which no power is lost.
+fn run(store: Altered, blocks: u8) -> Made {
+    let (length, calm) = (256 * usize::from(blocks), blocks > 2);
+    let (cut_jobs, most_cuts) = (0, 0);
+    let plan = Plan { seed: 7, blocks, length, calls: 600, time: 1, cut_jobs, most_cuts, filled: false, calm };
+    run_among(|| store.everywhere(), plan)
+}
+
+#[test]
+fn right_stores_run() {
+    assert!(run(RIGHT, 2).midway.values().sum::<u64>() > 10);
+    assert!(run(RIGHT, 3).erases > 6);
+}
+
+/// Another message in the place of those of a kind.
+fn instead(
+    (kind, other): (u16, fn(&[u8]) -> Vec<u8>),
+    (image, blocks): (&[u8], u8),
+    record: &mut Record,
+    (host, message): (u8, &[u8]),
+    reply: &mut [u8],
+) -> Answer {
+    let other = if message.get(2..4) == Some(&kind.to_le_bytes()) { other(message) } else { message.to_vec() };
+    Model.request(image, blocks, record, host, &other, reply)
+}
+
+#[test]
+#[should_panic(expected = "replay's objects are not the book's")]
+fn an_abort_that_commits() {
+    let request = |image: &[u8], blocks, record: &mut Record, host, message: &[u8], reply: &mut [u8]| {
+        let other: fn(&[u8]) -> Vec<u8> = |message| [&[4, 0, 3, 1], &message[4..]].concat();
+        instead((message::ABORT, other), (image, blocks), record, (host, message), reply)
+    };
+    run(Altered { request, ..RIGHT }, 2);
+}
+
+#[test]
+#[should_panic(expected = "replay's lists are not the book's")]
+fn a_delete_that_puts() {
+    let request = |image: &[u8], blocks, record: &mut Record, host, message: &[u8], reply: &mut [u8]| {
+        let other: fn(&[u8]) -> Vec<u8> = |message| [&[6, 0, 1, 1], &message[4..]].concat();
+        instead((message::DELETE, other), (image, blocks), record, (host, message), reply)
+    };
+    run(Altered { request, ..RIGHT }, 2);
+}
+
+/// Puts of more than 64 bytes are malformed, as before K2.
+#[test]
+#[should_panic(expected = ", Put(")]
+fn an_answer_that_the_book_does_not_tell() {
+    let request = |image: &[u8], blocks, record: &mut Record, host, message: &[u8], reply: &mut [u8]| {
+        let long =
+            message.get(2) == Some(&1) && message.len() > 70 && matches!(record, Record::Idle(_)) && host < 4;
+        if long { Answer::MALFORMED } else { Model.request(image, blocks, record, host, message, reply) }
+    };
+    run(Altered { request, ..RIGHT }, 2);
+}
+
+#[test]
+#[should_panic(expected = "got 11")]
+fn a_request_that_finds_the_record_stale() {
+    let request = |image: &[u8], blocks, record: &mut Record, host, message: &[u8], reply: &mut [u8]| match Model
+        .request(image, blocks, record, host, message, reply)
+    {
+        Answer::NO_OBJECT => Answer::STALE,
+        answer => answer,
+    };
+    run(Altered { request, ..RIGHT }, 2);
+}
+
+/// A request with other steps.
+fn with_steps(
+    other: fn(Vec<Step>) -> Vec<Step>,
+    (image, blocks): (&[u8], u8),
+    record: &mut Record,
+    (host, message): (u8, &[u8]),
+    reply: &mut [u8],
+) -> Answer {
+    let answer = Model.request(image, blocks, record, host, message, reply);
+    if let Some((steps, idle)) = steps(record) {
+        *record = job(other(steps), idle);
+    }
+    answer
+}
+
+#[test]
+#[should_panic(expected = "more steps than due")]
+fn a_step_too_many() {
+    let request = |image: &[u8], blocks, record: &mut Record, host, message: &[u8], reply: &mut [u8]| {
+        let again: fn(Vec<Step>) -> Vec<Step> = |steps| [&steps[..1], &steps].concat();
+        with_steps(again, (image, blocks), record, (host, message), reply)
+    };
+    run(Altered { request, ..RIGHT }, 2);
+}
+
+/// Document 01: "each one a step, 0xFF bytes too".
+#[test]
+#[should_panic(expected = "fewer steps than due")]
+fn bytes_of_0xff_that_are_no_steps() {
+    let request = |image: &[u8], blocks, record: &mut Record, host, message: &[u8], reply: &mut [u8]| {
+        let fewer: fn(Vec<Step>) -> Vec<Step> = |mut steps| {
+            steps.retain(|step| !matches!(step, Step::Program { byte: 0xFF, .. }));
+            steps
+        };
+        with_steps(fewer, (image, blocks), record, (host, message), reply)
+    };
+    run(Altered { request, ..RIGHT }, 2);
+}
+
+/// U is said to be S.
+#[test]
+#[should_panic(expected = "another reply")]
+fn a_log_of_another_size() {
+    let request = |image: &[u8], blocks, record: &mut Record, host, message: &[u8], reply: &mut [u8]| {
+        let answer = Model.request(image, blocks, record, host, message, reply);
+        if message == message::log() && answer == Answer::DONE {
+            reply.copy_within(12..14, 10);
+        }
+        answer
+    };
+    run(Altered { request, ..RIGHT }, 2);
+}
+
+#[test]
+#[should_panic(expected = ": read of ")]
+fn a_read_of_too_few_bytes() {
+    let read = |image: &[u8], blocks, record: &Record, host, message: &[u8]| {
+        let (answer, Stretch { at, len }) = Model.read(image, blocks, record, host, message);
+        (answer, Stretch { at, len: len.saturating_sub(1) })
+    };
+    run(Altered { read, ..RIGHT }, 2);
+}
+
+#[test]
+#[should_panic(expected = "the store is gone")]
+fn a_mount_that_finds_no_store() {
+    run(NO_STORE, 2);
+}
+
+#[test]
+#[should_panic(expected = "mount answered 3")]
+fn a_mount_that_answers_3() {
+    run(FOREIGN, 2);
+}
+
+/// Told and made heed the number; a step that does not is one that the model's own steps do not make, or is done.
+#[test]
+#[should_panic(expected = " blocks")]
+fn a_step_that_is_told_another_number() {
+    run(Altered { step: step_that_ignores_the_number, ..RIGHT }, 2);
+}
+
+#[test]
+#[should_panic(expected = "erased [")]
+fn blocks_that_wear_unevenly() {
+    run(BACK_TO_0, 3);
+}
