@@ -6,6 +6,7 @@ mod call;
 pub mod cuts;
 pub mod damage;
 pub mod fault;
+pub mod forged;
 pub mod generate;
 pub mod nor;
 pub mod raise;

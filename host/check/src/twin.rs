@@ -260,7 +260,8 @@ impl<M: Modelled, L: Drive, P: Store> Twin<M, L, P> {
 
     /// Why a mount of the image as it is would be refused, and where it broke.
     pub fn fault(&mut self) -> (Answer, Option<Fault>) {
-        self.fault_of(&self.image().to_vec())
+        let image = self.image().to_vec();
+        self.fault_of(&image)
     }
 
     /// The same of another image.

@@ -19,6 +19,7 @@ use show::{Report, Wanted};
 use std::ffi::OsString;
 use std::io::{self, BufReader, BufWriter, ErrorKind, Write};
 use std::process::ExitCode;
+use store::Store;
 
 const HELP: &str = include_str!("help.txt");
 
@@ -32,19 +33,24 @@ const COMMANDS: [Command; 4] = [
 /// For a file of hex that was read as an image.
 const HINT: &str = "FILE is all hex digits, though: try --hex.\n";
 
-/// The exit status of a replay or demo that could not go on.
+/// The exit status where all did not go well, and of a replay or demo that could not go on.
 const FAILED: u8 = 1;
 
 fn main() -> ExitCode {
     let arguments: Vec<OsString> = std::env::args_os().skip(1).collect();
-    match run(&arguments) {
-        Ok(true) => ExitCode::SUCCESS,
-        Ok(false) => ExitCode::FAILURE,
-        Err(Failure { status, why }) => {
-            // Nobody is left to be told if this fails.
-            let _ = writeln!(io::stderr(), "desk: {why}");
-            ExitCode::from(status)
-        }
+    let result = run(&arguments);
+    if let Err(Failure { why, .. }) = &result {
+        // Nobody is left to be told if this fails.
+        let _ = writeln!(io::stderr(), "desk: {why}");
+    }
+    ExitCode::from(status(&result))
+}
+
+fn status(result: &Result<bool, Failure>) -> u8 {
+    match result {
+        Ok(true) => 0,
+        Ok(false) => FAILED,
+        Err(Failure { status, .. }) => *status,
     }
 }
 
@@ -103,9 +109,14 @@ fn replay(asked: &Asked) -> Result<bool, Failure> {
 }
 
 fn demo(_: &Asked) -> Result<bool, Failure> {
-    let mut out = BufWriter::new(io::stdout().lock());
+    tell(&Library::linked(), io::stdout().lock())
+}
+
+/// The demo of a store; whether no half change was found.
+fn tell<S: Store>(store: &S, out: impl Write) -> Result<bool, Failure> {
+    let mut out = BufWriter::new(out);
     let mut whole = true;
-    let told = demo::demo(&Library::linked(), &mut out).and_then(|found| {
+    let told = demo::demo(store, &mut out).and_then(|found| {
         whole = found;
         out.flush()
     });

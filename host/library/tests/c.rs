@@ -19,7 +19,8 @@ fn text(path: impl AsRef<Path>) -> String {
 
 /// Runs a command, which must succeed, and gives what it printed.
 fn output(command: &mut Command) -> String {
-    let Output { status, stdout, stderr } = command.output().expect("the program runs");
+    let ran = command.output();
+    let Output { status, stdout, stderr } = ran.unwrap_or_else(|error| panic!("{command:?}: {error}"));
     assert!(status.success(), "{command:?}: {}", String::from_utf8_lossy(&stderr));
     String::from_utf8(stdout).expect("text")
 }
@@ -111,16 +112,9 @@ fn the_program_in_readme_with_the_installed_files() {
     install(&prefix, &[format!("PREFIX={}", prefix.display())]);
     let folder = prefix.join("lib/pkgconfig");
     let flags = flags_in(&text(folder.join("grommetide.pc")));
-    let asked = Command::new("pkg-config")
-        .args(["--cflags", "--libs", "grommetide"])
-        .env("PKG_CONFIG_PATH", &folder)
-        .output();
-    if let Ok(Output { status, stdout, stderr }) = asked {
-        assert!(status.success(), "{}", String::from_utf8_lossy(&stderr));
-        let told: Vec<_> =
-            String::from_utf8(stdout).expect("text").split_whitespace().map(str::to_string).collect();
-        assert_eq!(told, flags);
-    }
+    let mut asked = Command::new("pkg-config");
+    asked.args(["--cflags", "--libs", "grommetide"]).env("PKG_CONFIG_PATH", &folder);
+    assert_eq!(output(&mut asked).split_whitespace().collect::<Vec<_>>(), flags);
     try_readme("installed-readme", &flags);
 }
 

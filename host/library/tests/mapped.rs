@@ -126,7 +126,8 @@ impl Board {
 /// A format, puts up to a transfer and on, a restart with a change pending, and reads.
 #[test]
 fn flash_that_is_mapped_to_be_read_only() {
-    for (length, blocks) in [(512, 2), (768, 2), (65_536, 2), (1_152, 3), (4_096, 16), (65_536, 16)] {
+    let each = (2..=16).map(|blocks| (256 * usize::from(blocks), blocks));
+    for (length, blocks) in each.chain([(768, 2), (65_536, 2), (1_152, 3), (65_536, 16)]) {
         let mut board = Board::blank(length, blocks);
         let size = length / usize::from(blocks);
         assert_eq!(board.mount(), Answer::NO_STORE);

@@ -7,17 +7,19 @@ use model::{Model, Record};
 use store::{Answer, Fault, Field, Head, Idle, Store, Stretch};
 
 pub type Begun = (Answer, Record);
+type Said = (Answer, Option<Fault>);
+type Found = (Answer, Stretch);
 type Ask = fn(&[u8], u8, &mut Record, u8, &[u8], &mut [u8]) -> Answer;
 
 #[derive(Clone, Copy)]
 pub struct Altered {
     pub mount: fn(&[u8], u8) -> Begun,
     /// What is said of an image that the mount refuses with 3, and of any other.
-    pub fault: fn(&[u8], u8, Answer) -> (Answer, Option<Fault>),
+    pub fault: fn(&[u8], u8, Answer) -> Said,
     pub format: fn(&[u8], u8) -> Begun,
     pub request: Ask,
     pub step: fn(&mut [u8], u8, &mut Record) -> Answer,
-    pub read: fn(&[u8], u8, &Record, u8, &[u8]) -> (Answer, Stretch),
+    pub read: fn(&[u8], u8, &Record, u8, &[u8]) -> Found,
     pub idle: fn(Idle) -> Record,
     pub told: fn(usize, u8, &Record) -> (Answer, Told),
     pub made: fn(usize, u8, &mut Record) -> Answer,
@@ -105,7 +107,7 @@ impl Store for Altered {
         (self.mount)(image, blocks)
     }
 
-    fn fault(&self, image: &[u8], blocks: u8) -> (Answer, Option<Fault>) {
+    fn fault(&self, image: &[u8], blocks: u8) -> Said {
         (self.fault)(image, blocks, (self.mount)(image, blocks).0)
     }
 
@@ -129,7 +131,7 @@ impl Store for Altered {
         (self.step)(image, blocks, record)
     }
 
-    fn read(&self, image: &[u8], blocks: u8, record: &Record, host: u8, message: &[u8]) -> (Answer, Stretch) {
+    fn read(&self, image: &[u8], blocks: u8, record: &Record, host: u8, message: &[u8]) -> Found {
         (self.read)(image, blocks, record, host, message)
     }
 

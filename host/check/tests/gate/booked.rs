@@ -23,24 +23,26 @@ fn right_stores_run() {
     assert!(run(RIGHT, 3).erases > 6);
 }
 
-/// Another message in the place of those of a kind.
+/// Another message in the place of those of a kind: the start before their body.
 fn instead(
-    (kind, other): (u16, fn(&[u8]) -> Vec<u8>),
+    (kind, start): (u16, [u8; 4]),
     (image, blocks): (&[u8], u8),
     record: &mut Record,
     (host, message): (u8, &[u8]),
     reply: &mut [u8],
 ) -> Answer {
-    let other = if message.get(2..4) == Some(&kind.to_le_bytes()) { other(message) } else { message.to_vec() };
-    Model.request(image, blocks, record, host, &other, reply)
+    let mut message = message.to_vec();
+    if message.get(2..4) == Some(&kind.to_le_bytes()) {
+        message[..4].copy_from_slice(&start);
+    }
+    Model.request(image, blocks, record, host, &message, reply)
 }
 
 #[test]
 #[should_panic(expected = "replay's objects are not the book's")]
 fn an_abort_that_commits() {
     let request = |image: &[u8], blocks, record: &mut Record, host, message: &[u8], reply: &mut [u8]| {
-        let other: fn(&[u8]) -> Vec<u8> = |message| [&[4, 0, 3, 1], &message[4..]].concat();
-        instead((message::ABORT, other), (image, blocks), record, (host, message), reply)
+        instead((message::ABORT, [4, 0, 3, 1]), (image, blocks), record, (host, message), reply)
     };
     run(Altered { request, ..RIGHT }, 2);
 }
@@ -49,8 +51,7 @@ fn an_abort_that_commits() {
 #[should_panic(expected = "replay's lists are not the book's")]
 fn a_delete_that_puts() {
     let request = |image: &[u8], blocks, record: &mut Record, host, message: &[u8], reply: &mut [u8]| {
-        let other: fn(&[u8]) -> Vec<u8> = |message| [&[6, 0, 1, 1], &message[4..]].concat();
-        instead((message::DELETE, other), (image, blocks), record, (host, message), reply)
+        instead((message::DELETE, [6, 0, 1, 1]), (image, blocks), record, (host, message), reply)
     };
     run(Altered { request, ..RIGHT }, 2);
 }

@@ -1,6 +1,8 @@
-//! `next`, its flash step and `made` against `step`; `run` against as many steps. Jobs of every kind and records forged from
-//! them, on images of the record's length and of others, of two blocks and of more. `Twin` compares the same on all its runs.
+//! `next`, its flash step and `made` against `step`, and all of them against the definition of a step (`check::forged`); `run`
+//! against as many steps. Jobs of every kind and records forged from them, on images of the record's length and of others, of
+//! two blocks and of more. `Twin` compares the same on all its runs.
 
+use check::forged;
 use check::rng::Rng;
 use check::twin::Twin;
 use library::{Driven, JOB, Library, RECORD_SIZE, Record, Told};
@@ -134,9 +136,14 @@ fn both_ways(library: &Library, board: &mut Board, seen: &mut Seen) -> Answer {
     let (next, told) = library.next_of(image.len(), *blocks, record);
     check_told(next, told, image.len(), *blocks);
     *seen.entry((stage, next.0)).or_default() += 1;
+    let (mut defined_image, mut defined) = (image.clone(), *record);
     let answer = library.step(image, *blocks, record);
     assert_eq!(Driven(Library::linked()).step(&mut flash, *blocks, &mut driven), answer);
     assert!(flash == *image && driven == *record, "next and made did other than step, stage {stage}");
+    if STAGES.contains(&stage) {
+        assert_eq!(forged::step(&mut defined_image, *blocks, &mut defined), answer, "stage {stage}");
+        assert!(defined_image == *image && defined == *record, "a step as it should not be, stage {stage}");
+    }
     match next {
         Answer::PROGRAM | Answer::ERASE => assert!(!answer.refused()),
         none => assert_eq!(answer, none),
@@ -217,7 +224,8 @@ fn forged_records() {
     let mut rng = Rng::new(6);
     let mut seen = Seen::new();
     let kinds = [(2, 512, 3_000), (2, 768, 1_000), (2, 65_536, 25), (3, 768, 1_000), (16, 4_096, 500)];
-    for (blocks, length, boards) in kinds {
+    let more = (4..=15).map(|blocks| (blocks, 256 * usize::from(blocks), 100));
+    for (blocks, length, boards) in kinds.into_iter().chain(more) {
         let jobs = jobs(blocks, length);
         for number in 0..boards {
             let mut board = forged(&mut rng, &jobs[number % jobs.len()]);

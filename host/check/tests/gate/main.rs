@@ -10,6 +10,7 @@ mod drive;
 mod edge;
 mod erase;
 mod fault;
+mod forged;
 mod format;
 mod judged;
 mod limits;

@@ -164,4 +164,11 @@ mod tests {
         let (whole, story) = told(&Model);
         assert!(whole && story.ends_with("       0  half changes found\n"), "{story}");
     }
+
+    #[test]
+    fn half_changes_are_exit_status_1() {
+        let mixed = Mixed { mounted: Cell::new(false) };
+        assert_eq!(crate::status(&crate::tell(&mixed, io::sink())), 1);
+        assert_eq!(crate::status(&crate::tell(&Model, io::sink())), 0);
+    }
 }

@@ -110,6 +110,11 @@ fn lengths_and_numbers() {
         check(&[(&format!("new {length} {blocks}"), "ok"), ("format", format), ("run", &steps)]);
     }
     check(&[("new 512", "ok"), ("format", "more"), ("run", "0 steps=12")]);
+    for blocks in 2..=16 {
+        let (new, steps) = (format!("new {} {blocks}", 384 * blocks), format!("0 steps={}", blocks + 10));
+        let record = format!("idle len={} half=0 end=16 blocks={blocks}", 384 * blocks);
+        check(&[(&new, "ok"), ("format", "more"), ("run", &steps), ("record", &record)]);
+    }
 }
 
 #[test]
@@ -309,6 +314,36 @@ It erases the foreign blocks.\nBlock 2 is then current.\n";
         "{report}"
     );
     assert_eq!(report.matches("Settled").count(), 1);
+}
+
+/// Whichever block is current, of sixteen: its objects, its journal and its picture, with places counted from the image's start.
+#[test]
+fn objects_of_every_block() {
+    for block in 0..16 {
+        let mut image = vec![0xFF; 4_096];
+        let frames = super::unhex(&format!("{HEADER}{PUT}{COMMIT}"));
+        image[256 * block..][..frames.len()].copy_from_slice(&frames);
+        let (status, report, _) = run(&["show", "--journal", "--blocks=16", "-"], &image);
+        assert_eq!(status, 0);
+        let base = 256 * block;
+        let row = format!("{}{}{}{}", "H".repeat(16), "S".repeat(10), "C".repeat(6), ".".repeat(32));
+        for expected in [
+            format!(
+                "\nblock {block}, current: valid, time 1\n  2 frames up to byte {}, the rest is blank\n",
+                base + 32
+            ),
+            format!("\n  {base:>5}  {row}\n"),
+            format!("\nJournal of block {block}: 2 frames\n  {:>5}  host 2  put 5 = \"AB\"\n", base + 16),
+            format!("\n  {:>5}  host 2  commit\n", base + 26),
+            format!("\nSettled in block {block}: 1 object; 25 of 256 bytes used\n"),
+            format!("\n    5  {:>5}      2  \"AB\"\n", base + 23),
+            format!("\nPending in block {block}: no changes\n"),
+            format!("\nBlock {block} is then current.\n"),
+        ] {
+            assert!(report.contains(&expected), "{expected}{report}");
+        }
+        assert_eq!(report.matches(": blank\n").count(), 15);
+    }
 }
 
 #[test]

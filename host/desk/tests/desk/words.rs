@@ -195,3 +195,39 @@ fn strict_scripts_end_at_a_line_that_cannot_be_read() {
     // A refusal can be read.
     assert_eq!(run(&["replay", "--strict", "--words"], b"mount\n"), (0, "4 image length\n".into(), String::new()));
 }
+
+/// However late in the script.
+#[test]
+fn strict_scripts_end_at_a_late_line_too() {
+    for lines in [4, 5, 8, 300, 70_000] {
+        let script = format!("{}nothing\nformat\n", "new 512\n".repeat(lines));
+        let answers = format!("{}? line {}: no call is named nothing\n", "ok\n".repeat(lines), lines + 1);
+        assert_eq!(run(&["replay", "--strict"], script.as_bytes()), (1, answers, String::new()), "{lines} lines");
+    }
+}
+
+/// Each refusal that a read may get has its own number.
+#[test]
+fn what_get_is_refused_with() {
+    check_with(
+        &["--words"],
+        &[
+            ("get 0 1", "4 image length"),
+            ("new 512", "ok"),
+            ("get 4 1", "10 host range"),
+            ("get 0 1", "2 no store"),
+            ("format", "more"),
+            ("get 0 1", "5 busy"),
+            ("run", "0 steps=12"),
+            ("get 0 256", "1 malformed"),
+            ("get 0 1", "8 no object"),
+            ("idle 512 0 17", "ok"),
+            ("get 0 1", "11 stale"),
+            ("get 0 256", "11 stale"),
+            ("idle 512 0 16", "ok"),
+            ("get 0 1", "8 no object"),
+            ("poke 511 00", "ok"),
+            ("get 0 1", "11 stale"),
+        ],
+    );
+}

@@ -1,0 +1,164 @@
+//! Forged jobs: each step does what the definition says (`check::forged`), at most one flash step a call, and the job ends or
+//! gets 11 within 65,536 step calls, whatever the number of blocks.
+
+use check::forged;
+use check::rng::Rng;
+use check::twin::Twin;
+use library::{JOB, Library, RECORD_SIZE, Record};
+use store::{Answer, Head, Store, message};
+
+/// Whether one flash step, or none, leads from `before` to `after`, of blocks of this size.
+fn at_most_one_step(before: &[u8], after: &[u8], size: usize) -> bool {
+    let changed: Vec<usize> = (0..before.len()).filter(|at| before[*at] != after[*at]).collect();
+    match changed[..] {
+        [] => true,
+        [at] if after[at] & !before[at] == 0 => true,
+        [first, ..] => {
+            let block = first / size * size..first / size * size + size;
+            changed.iter().all(|at| block.contains(at)) && after[block].iter().all(|byte| *byte == 0xFF)
+        }
+    }
+}
+
+/// A job's record with bytes changed, or one of random bytes.
+fn forged_job(rng: &mut Rng, real: &Record) -> Record {
+    let mut record = *real;
+    if rng.once_in(3) {
+        record = rng.bytes(RECORD_SIZE).try_into().expect("a record's bytes");
+        record[1..3].copy_from_slice(&real[1..3]);
+        record[6] = real[6];
+    }
+    for _ in 0..rng.below(6) {
+        let at = if rng.once_in(2) { rng.below(RECORD_SIZE) } else { JOB.start + rng.below(JOB.len()) };
+        record[at] = rng.byte();
+    }
+    record[0] = 2 + rng.below(6) as u8;
+    record
+}
+
+/// All steps of a job, each beside the defined one; how it ended.
+fn run_forged(library: &Library, image: &mut [u8], blocks: u8, record: &mut Record) -> Answer {
+    let size = image.len() / usize::from(blocks);
+    for _ in 0..65_536 {
+        let (before, kept) = (image.to_vec(), *record);
+        let (mut defined_image, mut defined) = (before.clone(), kept);
+        let answer = library.step(image, blocks, record);
+        assert_eq!(answer, forged::step(&mut defined_image, blocks, &mut defined));
+        assert!(defined_image == image && defined == *record, "a step as it should not be, stage {}", kept[0]);
+        assert!(at_most_one_step(&before, image, size), "more than a step");
+        match answer {
+            Answer::MORE => assert_eq!(library.head(record), Head::Job),
+            Answer::DONE => {
+                assert_ne!(library.head(record), Head::Job);
+                return answer;
+            }
+            Answer::STALE => {
+                assert!(before == image && kept == *record, "11 changed something");
+                return answer;
+            }
+            other => panic!("a step answered {other}"),
+        }
+    }
+    panic!("no end within 65,536 steps");
+}
+
+#[test]
+fn forged_jobs() {
+    let library = Library::linked();
+    let mut rng = Rng::new(3);
+    for blocks in 2..=16 {
+        let mut twin = Twin::formatted_of(blocks, 256 * usize::from(blocks));
+        for id in 0..4 {
+            assert_eq!(twin.serve(0, &message::put(id, &[id; 20])).0, Answer::DONE);
+            assert_eq!(twin.serve(0, &message::commit()).0, Answer::DONE);
+        }
+        let image = twin.image().to_vec();
+        let mut ends = [0, 0];
+        for _ in 0..if blocks == 2 { 3_000 } else { 200 } {
+            let (mut copy, mut record) = (image.clone(), library.mount(&image, blocks).1);
+            let message = if rng.once_in(2) { message::put(9, &[9; 20]) } else { message::delete(1) };
+            assert_eq!(library.request(&copy, blocks, &mut record, 1, &message, &mut []), Answer::MORE);
+            let mut record = forged_job(&mut rng, &record);
+            let busy = library.request(&copy, blocks, &mut record, 0, &message::log(), &mut [0; 14]);
+            assert_eq!(busy, Answer::BUSY);
+            let end = run_forged(&library, &mut copy, blocks, &mut record);
+            ends[usize::from(end == Answer::STALE)] += 1;
+        }
+        assert!(ends[0] > 0 && ends[1] > 0, "done and 11: {ends:?}");
+    }
+}
+
+/// The largest block that so many allow.
+fn largest(blocks: u8) -> usize {
+    65_536 / usize::from(blocks) / 128 * 128
+}
+
+#[test]
+fn forged_jobs_on_the_largest_images_end_in_time() {
+    let library = Library::linked();
+    let mut rng = Rng::new(5);
+    for blocks in 2..=16 {
+        let mut image = vec![0xFF; largest(blocks) * usize::from(blocks)];
+        let real = library.format(&image, blocks).1;
+        for _ in 0..60 {
+            let mut record = forged_job(&mut rng, &real);
+            let (end, _) = library.run(&mut image, blocks, &mut record, 65_536);
+            assert!([Answer::DONE, Answer::STALE].contains(&end), "no end within 65,536 steps, {blocks} blocks");
+        }
+    }
+}
+
+/// A mount's job with 255 erases first and 255 bytes to append: 255 erases, five writes, the frames of 256 objects, five
+/// writes, the erase of the old block, 255 bytes of which the last seven are in no frame.
+#[test]
+fn the_longest_jobs() {
+    let library = Library::linked();
+    for blocks in 2..=16 {
+        let (number, size) = (usize::from(blocks), largest(blocks));
+        let value = ((size - 16 - 8 - 255) / 256 - 7).min(50);
+        let settled =
+            (0..=255).flat_map(|id| [&[7 + value as u8, 0, 5, 0, id, 0][..], &vec![id; value], &[0xFE]].concat());
+        let header = *b"\x10\0\x01\x4A\xFE\xFF\xFF\xFF\xFC\xFF\xFF\xFF\xFF\xFF\xFF\xFF";
+        let pending = [8, 0, 2, 0, 1, 5, 0, 0xFE];
+        let mut current: Vec<u8> = header.into_iter().chain(settled).chain(pending).collect();
+        current.resize(size, 0xFF);
+        let mut image = vec![0xFF; number * size];
+        image[size..2 * size].copy_from_slice(&current);
+        let (answer, mut record) = library.mount(&image, blocks);
+        assert_eq!(answer, Answer::MORE);
+        // the blocks to erase, their number, the length to append, by their places in the record
+        let target = record[JOB.start + 19];
+        assert_eq!(usize::from(target), 2 % number);
+        record[0] = 2;
+        record[JOB.start..JOB.start + 16].fill(target);
+        (record[JOB.start + 16], record[JOB.start + 32]) = (255, 255);
+        let steps = 255 + 5 + 256 * (7 + value) + 5 + 1 + 255;
+        assert_eq!(library.run(&mut image, blocks, &mut record, 65_536), (Answer::DONE, steps), "{blocks} blocks");
+        assert_eq!(
+            library.head(&record),
+            Head::Idle(store::Idle {
+                length: number * size,
+                block: target,
+                end: (16 + 256 * (7 + value) + 255) as u16,
+                blocks,
+            })
+        );
+    }
+}
+
+/// A job under another image of its length: the same bounds hold.
+#[test]
+fn a_job_under_another_image() {
+    let library = Library::linked();
+    let mut rng = Rng::new(4);
+    for blocks in 2..=16 {
+        let length = 256 * usize::from(blocks);
+        let real = Twin::formatted_of(blocks, length);
+        for _ in 0..40 {
+            let mut record = library.mount(real.image(), blocks).1;
+            let put = message::put(1, b"x");
+            assert_eq!(library.request(real.image(), blocks, &mut record, 1, &put, &mut []), Answer::MORE);
+            run_forged(&library, &mut rng.bytes(length), blocks, &mut record);
+        }
+    }
+}
