@@ -57,7 +57,7 @@ fn mount_that_erases_one(image: &[u8], blocks: u8) -> Begun {
     (answer, job(kept, idle))
 }
 
-pub fn step_that_ignores_the_number(image: &mut [u8], blocks: u8, record: &mut Record) -> Answer {
+fn step_that_ignores_the_number(image: &mut [u8], blocks: u8, record: &mut Record) -> Answer {
     let own = match record {
         Record::Job(job) => (2..=16).find(|blocks| job.is_on(image.len(), *blocks)),
         _ => None,
