@@ -14,8 +14,9 @@ pub struct Sum {
     pub midway: Midway,
     pub runs: u64,
     pub cuts: u64,
-    /// Those of the cuts that fell inside an erase.
+    /// Those of the cuts that fell inside an erase, and those of them in runs themselves.
     pub inside: u64,
+    pub own_inside: u64,
     pub images: u64,
     /// By the number of blocks, the most erases between two formats that had to be even.
     pub even: [usize; 17],
@@ -131,6 +132,7 @@ fn add_run(plan: Plan, sum: &mut Sum) -> usize {
     }
     sum.cuts += made.cuts;
     sum.inside += made.inside;
+    sum.own_inside += made.own_inside;
     sum.runs += 1;
     made.erases
 }

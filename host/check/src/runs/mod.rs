@@ -59,13 +59,14 @@ struct Run<M: Modelled, L: Drive, P: Store> {
 pub type Midway = BTreeMap<&'static str, u64>;
 
 /// What a run came to: how often each call of its own got each answer, and each in the recoveries from cuts of copies; the
-/// cuts, how many of these fell inside an erase, those of its own jobs; and the most erases between two formats that had to
-/// be even.
+/// cuts, how many of these fell inside an erase; those of its own jobs, inside an erase and between steps; and the most
+/// erases between two formats that had to be even.
 pub struct Made {
     pub own: Tally,
     pub recoveries: Tally,
     pub cuts: u64,
     pub inside: u64,
+    pub own_inside: u64,
     pub midway: Midway,
     pub erases: usize,
 }
@@ -102,7 +103,8 @@ pub fn run_among<M: Modelled, L: Drive, P: Store>(stores: impl Fn() -> Stores<M,
     }
     let (own, recoveries, midway) = (run.twin.tally, run.cuts.twin.tally, run.midway);
     let cuts = run.cuts.cuts + run.inside + midway.values().sum::<u64>();
-    Made { own, recoveries, cuts, inside: run.cuts.inside + run.inside, midway, erases: run.wear.most }
+    let (own_inside, inside, erases) = (run.inside, run.cuts.inside + run.inside, run.wear.most);
+    Made { own, recoveries, cuts, inside, own_inside, midway, erases }
 }
 
 fn formatted_at<M: Modelled, L: Drive, P: Store>(

@@ -2,8 +2,8 @@
 //! tell. The test must fail by what the book, document 01's numbers of steps or `Wear` know.
 
 use super::altered::{Altered, RIGHT, job, steps};
-use super::judged::{FOREIGN, NO_STORE};
-use super::wrong_blocks::{BACK_TO_0, step_that_ignores_the_number};
+use super::judged::{ERASES_FIRST, FOREIGN, NO_STORE};
+use super::wrong_blocks::BACK_TO_0;
 use check::runs::{Made, Plan, run_among};
 use model::job::Step;
 use model::{Model, Record};
@@ -13,7 +13,7 @@ use store::{Answer, Store, Stretch, message};
 fn run(store: Altered, blocks: u8) -> Made {
     let (length, calm) = (256 * usize::from(blocks), blocks > 2);
     let (cut_jobs, most_cuts) = (0, 0);
-    let plan = Plan { seed: 7, blocks, length, calls: 600, time: 1, cut_jobs, most_cuts, filled: false, calm };
+    let plan = Plan { seed: 7, blocks, length, calls: 3_000, time: 1, cut_jobs, most_cuts, filled: false, calm };
     run_among(|| store.everywhere(), plan)
 }
 
@@ -89,7 +89,7 @@ fn with_steps(
     reply: &mut [u8],
 ) -> Answer {
     let answer = Model.request(image, blocks, record, host, message, reply);
-    if let Some((steps, idle)) = steps(record) {
+    if let (Answer::MORE, Some((steps, idle))) = (answer, steps(record)) {
         *record = job(other(steps), idle);
     }
     answer
@@ -155,11 +155,21 @@ fn a_mount_that_answers_3() {
     run(FOREIGN, 2);
 }
 
-/// Told and made heed the number; a step that does not is one that the model's own steps do not make, or is done.
+/// A read goes by the record's number of blocks, whatever it is told.
 #[test]
-#[should_panic(expected = " blocks")]
-fn a_step_that_is_told_another_number() {
-    run(Altered { step: step_that_ignores_the_number, ..RIGHT }, 2);
+#[should_panic(expected = ", told ")]
+fn a_read_that_is_told_another_number() {
+    let read = |image: &[u8], blocks, record: &Record, host, message: &[u8]| {
+        let own = if let Record::Idle(idle) = record { idle.blocks } else { blocks };
+        Model.read(image, own, record, host, message)
+    };
+    run(Altered { read, ..RIGHT }, 2);
+}
+
+#[test]
+#[should_panic(expected = "a block looks newer, half erased")]
+fn an_erase_of_the_only_valid_block() {
+    run(ERASES_FIRST, 2);
 }
 
 #[test]

@@ -93,8 +93,8 @@ fn largest(blocks: u8) -> usize {
     65_536 / usize::from(blocks) / 128 * 128
 }
 
-#[test]
-fn forged_jobs_on_the_largest_images_end_in_time() {
+/// Forged jobs on the largest images, each number of blocks: how a run of 65,536 steps ends.
+fn end_in_time(run: impl Fn(&Library, &mut [u8], u8, &mut Record) -> Answer) {
     let library = Library::linked();
     let mut rng = Rng::new(5);
     for blocks in 2..=16 {
@@ -102,10 +102,25 @@ fn forged_jobs_on_the_largest_images_end_in_time() {
         let real = library.format(&image, blocks).1;
         for _ in 0..60 {
             let mut record = forged_job(&mut rng, &real);
-            let (end, _) = library.run(&mut image, blocks, &mut record, 65_536);
+            let end = run(&library, &mut image, blocks, &mut record);
             assert!([Answer::DONE, Answer::STALE].contains(&end), "no end within 65,536 steps, {blocks} blocks");
         }
     }
+}
+
+#[test]
+fn forged_jobs_on_the_largest_images_end_in_time() {
+    end_in_time(|library, image, blocks, record| library.run(image, blocks, record, 65_536).0);
+}
+
+/// With eleven blocks no job ever ends.
+#[test]
+#[should_panic(expected = "no end within 65,536 steps, 11 blocks")]
+fn jobs_without_an_end() {
+    end_in_time(|library, image, blocks, record| match library.run(image, blocks, record, 65_536) {
+        (Answer::DONE, _) if blocks == 11 => Answer::MORE,
+        (end, _) => end,
+    });
 }
 
 /// A mount's job with 255 erases first and 255 bytes to append: 255 erases, five writes, the frames of 256 objects, five

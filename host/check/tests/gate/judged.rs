@@ -50,9 +50,9 @@ fn right_stores_are_cut() {
     }
 }
 
-/// The job with its steps in another order.
-fn reordered(record: &mut Record, order: impl FnOnce(Vec<Step>) -> Vec<Step>) {
-    if let Some((steps, idle)) = steps(record) {
+/// The job that an answer says has begun, with its steps in another order.
+fn reordered(answer: Answer, record: &mut Record, order: impl FnOnce(Vec<Step>) -> Vec<Step>) {
+    if let (Answer::MORE, Some((steps, idle))) = (answer, steps(record)) {
         *record = job(order(steps), idle);
     }
 }
@@ -72,7 +72,7 @@ fn sealed_first(steps: Vec<Step>) -> Vec<Step> {
 /// Uncut it does as it should; only a cut of the recovery itself shows what is wrong.
 fn mount_that_seals_first(image: &[u8], blocks: u8) -> Begun {
     let (answer, mut record) = Model.mount(image, blocks);
-    reordered(&mut record, sealed_first);
+    reordered(answer, &mut record, sealed_first);
     (answer, record)
 }
 
@@ -87,25 +87,29 @@ fn a_recovery_that_is_wrong_only_if_it_is_cut() {
 fn a_transfer_that_makes_the_block_valid_first() {
     let request = |image: &[u8], blocks, record: &mut Record, host, message: &[u8], reply: &mut [u8]| {
         let answer = Model.request(image, blocks, record, host, message, reply);
-        reordered(record, sealed_first);
+        reordered(answer, record, sealed_first);
         answer
     };
     cut_everywhere(Altered { request, ..RIGHT }, true);
 }
 
 /// The trap of document 01: the old block is erased before the new one says 0xFC.
-#[test]
-#[should_panic(expected = "a block looks newer, half erased")]
-fn a_transfer_that_erases_first() {
-    let request = |image: &[u8], blocks, record: &mut Record, host, message: &[u8], reply: &mut [u8]| {
+pub const ERASES_FIRST: Altered = Altered {
+    request: |image, blocks, record, host, message, reply| {
         let answer = Model.request(image, blocks, record, host, message, reply);
-        reordered(record, |mut steps| {
+        reordered(answer, record, |mut steps| {
             steps.sort_by_key(|step| !matches!(step, Step::Erase { .. }));
             steps
         });
         answer
-    };
-    cut_everywhere(Altered { request, ..RIGHT }, true);
+    },
+    ..RIGHT
+};
+
+#[test]
+#[should_panic(expected = "a block looks newer, half erased")]
+fn a_transfer_that_erases_first() {
+    cut_everywhere(ERASES_FIRST, true);
 }
 
 /// A commit that writes an abort: nothing is found amiss up to its last step.

@@ -38,6 +38,7 @@ fn seen_faults(sum: &Sum, last: usize) {
 /// By the runs' own calls alone, without those of the recoveries from cuts of copies.
 fn seen_runs(sum: &Sum) {
     assert!(sum.inside > 1_000, "{} cuts inside an erase", sum.inside);
+    assert!(sum.own_inside > 50, "{} of them in runs themselves", sum.own_inside);
     assert_eq!(sum.tally.of("mount", Answer::FOREIGN), 0);
     seen(&sum.own, "mount", &[0, 2, 6, 255].map(Answer));
     seen(&sum.own, "request", &[0, 1, 2, 4, 5, 6, 7, 8, 9, 10, 11, 255].map(Answer));
