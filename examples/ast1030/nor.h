@@ -1,6 +1,6 @@
 /*
- * The SPI NOR chip on chip enable 0 of the AST1030's flash controller (FMC). It is read through its memory window; programs and
- * erases go to it as SPI commands.
+ * The SPI NOR chip on chip enable 0 of the AST1030's flash controller (FMC). It is read through its memory window; programs
+ * and erases go to it as SPI commands.
  */
 #ifndef NOR_H
 #define NOR_H

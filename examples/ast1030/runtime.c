@@ -15,17 +15,6 @@ void *memcpy(void *to, const void *from, size_t len)
     return to;
 }
 
-void *memmove(void *to, const void *from, size_t len)
-{
-    uint8_t *t = to;
-    const uint8_t *f = from;
-    if (t <= f)
-        return memcpy(to, from, len);
-    while (len-- > 0)
-        t[len] = f[len];
-    return to;
-}
-
 void *memset(void *to, int byte, size_t len)
 {
     uint8_t *t = to;

@@ -49,8 +49,8 @@ uint32_t stack_bytes(void)
 }
 
 /* Where the stack begins, then where to go on reset, NMI, faults, and the processor's other exceptions. */
+#define TO(function) ((const void *)(function))
 __attribute__((section(".vectors"), used)) static const void *const vectors[16] = {
-    stack_end,  (const void *)reset,      (const void *)unexpected, (const void *)unexpected, (const void *)unexpected,
-    (const void *)unexpected, (const void *)unexpected, 0, 0, 0, 0, (const void *)unexpected, (const void *)unexpected, 0,
-    (const void *)unexpected, (const void *)unexpected,
+    stack_end,      TO(reset),      TO(unexpected), TO(unexpected), TO(unexpected), TO(unexpected), TO(unexpected), 0, 0, 0, 0,
+    TO(unexpected), TO(unexpected), 0,              TO(unexpected), TO(unexpected),
 };

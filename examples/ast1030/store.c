@@ -97,8 +97,8 @@ uint8_t store_format(void)
 
 static uint8_t request(uint8_t host, const uint8_t *message, uint32_t len, uint8_t *reply, uint32_t reply_len)
 {
-    return finish(grommetide_request(store_image(), STORE_BYTES, STORE_BLOCKS, record, sizeof record, host, message, len, reply,
-                                     reply_len));
+    return finish(grommetide_request(store_image(), STORE_BYTES, STORE_BLOCKS, record, sizeof record, host, message, len,
+                                     reply, reply_len));
 }
 
 uint8_t store_request(uint8_t host, const uint8_t *message, uint32_t len)

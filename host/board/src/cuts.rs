@@ -33,10 +33,12 @@ impl fmt::Display for Tally {
     fn fmt(&self, f: &mut fmt::Formatter) -> fmt::Result {
         let Tally { boots, cut_in_mount, cut_in_erase, cut_at_answer, requests, commits, .. } = self;
         let Tally { no_room, formats, formats_again, kept, lost, .. } = self;
-        writeln!(f, "{boots} boots, {cut_in_mount} cut in the mount, {cut_at_answer} right after an answer,")?;
-        writeln!(f, "{cut_in_erase} after power lost inside an erase")?;
-        writeln!(f, "{requests} requests answered, {commits} commits, {no_room} refused for room")?;
-        writeln!(f, "{formats} formats, {formats_again} cut ones made again")?;
+        write!(f, "{boots} boots, {cut_in_mount} cut in the mount, {cut_at_answer} right after an answer, ")?;
+        write!(
+            f,
+            "{cut_in_erase} after power lost inside an erase; {requests} requests answered, {commits} commits, "
+        )?;
+        write!(f, "{no_room} refused for room; {formats} formats, {formats_again} cut ones made again; ")?;
         write!(f, "{kept} commits and formats in flight kept, {lost} lost")
     }
 }
@@ -44,7 +46,7 @@ impl fmt::Display for Tally {
 /// One of so many cuts falls into the start, right behind the answer to a commit, into a format, inside an erase.
 const STARTS: usize = 6;
 const ANSWERS: usize = 5;
-const FORMATS: usize = 12;
+const FORMATS: usize = 28;
 const ERASES: usize = 8;
 
 /// Any start is done by then, on a busy machine too.

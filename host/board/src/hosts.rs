@@ -91,7 +91,7 @@ impl Request {
 }
 
 fn value(rng: &mut Rng) -> Vec<u8> {
-    let (least, most) = rng.pick(&[(0, 8), (0, 120), (200, 240)]);
+    let (least, most) = rng.pick(&[(0, 8), (0, 120), (200, 240), (240, 240)]);
     let len = least + rng.below(most - least + 1);
     if rng.once_in(2) { rng.bytes(len) } else { (0..len).map(|_| b' ' + rng.below(95) as u8).collect() }
 }

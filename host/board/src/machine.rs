@@ -34,7 +34,7 @@ impl Machine {
         let mut qemu = Command::new("qemu-system-arm")
             .args(["-M", "ast1030-evb", "-nographic", "-monitor", "none", "-serial", "stdio", "-S", "-kernel"])
             .arg(firmware)
-            .args(["-drive", &format!("file={},format=raw,if=mtd", chip.display())])
+            .args(["-drive", &format!("file={},format=raw,if=mtd", chip.display().to_string().replace(',', ",,"))])
             .args(["-qmp", &format!("unix:{}", socket.display())])
             .stdin(Stdio::piped())
             .stdout(Stdio::piped())

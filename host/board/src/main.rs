@@ -22,7 +22,7 @@ fn main() {
     for cut in 1..=cuts {
         bench.cut();
         if cut % 100 == 0 {
-            println!("{cut} cuts, {} s", start.elapsed().as_secs());
+            println!("{cut} cuts, {} s: {}", start.elapsed().as_secs(), bench.tally);
         }
     }
     bench.settle();

@@ -1,6 +1,7 @@
 //! The board as a person at its serial line meets it, and with its power cut. Needs qemu-system-arm.
 
 mod cuts;
+mod documents;
 mod driver;
 mod format;
 mod refusals;
