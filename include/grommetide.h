@@ -112,17 +112,19 @@
  *   x87 and leaves MXCSR alone. As the ABI says, the stack must be aligned to 16 bytes at a call, and whoever interrupts
  *   must leave the red zone alone, 128 bytes below the stack pointer.
  *
- *   Bytes of stack that a call takes at most, its return address included (held by a test that paints the stack):
+ *   Bytes of stack that a call takes at most, its arguments and return address included (held by tests that paint the
+ *   stack):
  *
- *     grommetide_mount        3,072
- *     grommetide_fault        3,072
- *     grommetide_format       2,816
- *     grommetide_request      2,304
- *     grommetide_read         1,792
- *     grommetide_next           576
- *     grommetide_made         2,816
- *     grommetide_step         2,560
- *     grommetide_run          3,072
+ *                               x86-64   Cortex-M3
+ *     grommetide_mount           3,072       3,328
+ *     grommetide_fault           3,072       3,072
+ *     grommetide_format          2,816       3,328
+ *     grommetide_request         2,304       2,560
+ *     grommetide_read            1,792       1,536
+ *     grommetide_next              576         512
+ *     grommetide_made            2,816       2,816
+ *     grommetide_step            2,560       2,560
+ *     grommetide_run             3,072       3,072
  */
 #ifndef GROMMETIDE_H
 #define GROMMETIDE_H

@@ -25,7 +25,7 @@ static struct message any_message(void)
 {
     static const uint8_t no_value[GROMMETIDE_VALUE_MAX] = {0};
     const uint8_t kind = (uint8_t)(1 + below(one_in(40) ? 8 : 6));
-    const uint32_t id = one_in(60) ? any() & 0xFFFF : below(one_in(8) ? 256 : 6);
+    const uint32_t id = one_in(60) ? any() & 0xFFFF : one_in(30) ? 254 + below(4) : below(one_in(8) ? 256 : 6);
     const uint32_t len = below(one_in(6) ? GROMMETIDE_VALUE_MAX + 2 : 24);
     struct message message = message_of(kind, id, no_value, kind == PUT ? len > 240 ? 240 : len : kind == LOG);
     for (uint32_t i = 6; kind == PUT && i < message.len; i++)
@@ -172,6 +172,8 @@ static void mislead(void)
     switch (below(3)) {
     case 0:
         here.blocks = (uint8_t)(one_in(2) ? any() : below(18));
+        if (one_in(3)) /* and a record that is forged to say the same */
+            here.record[6] = here.blocks;
         break;
     case 1:
         here.len = one_in(2) ? here.len & (any() | 0xFF00) : below(here.len + 1);

@@ -1,6 +1,6 @@
 //! cross [ROUNDS]: compares all targets with x86-64 in so many rounds, 10,000 if none are given, and prints a table of them.
 
-use cross::compare::{compare, own, reference};
+use cross::compare::{Built, calls, compare, own, reference};
 use cross::link::{Kind, program};
 use cross::object::contents;
 use cross::run::run;
@@ -29,17 +29,20 @@ fn row(target: &Target, calls: usize) {
 }
 
 fn main() -> ExitCode {
-    let rounds = env::args().nth(1).map_or(10_000, |rounds| rounds.parse().expect("a number of rounds"));
+    let Ok(rounds) = env::args().nth(1).map_or(Ok(10_000), |rounds| rounds.parse()) else {
+        eprintln!("cross [ROUNDS]: how many rounds, 1,000 of which are some 220,000 calls on each target");
+        return ExitCode::from(2);
+    };
     archives();
     let own = own("long-x86-64");
     let mut streams: BTreeMap<u32, Vec<u8>> = BTreeMap::new();
     println!("| Target | Triple | Code, bytes | Stack, bytes | Calls | In |\n|---|---|---|---|---|---|");
-    row(&X86_64, reference(&own, rounds, X86_64.images).len() / 4);
+    row(&X86_64, calls(&reference(&own, rounds, X86_64.images)));
     let mut differ = false;
     for target in &OTHERS {
         let stream = streams.entry(target.images).or_insert_with(|| reference(&own, rounds, target.images));
         let name = format!("long-{}", target.name);
-        match compare(&cross::compare::Built::new(target, &target.archive(), &name), &own, stream, rounds) {
+        match compare(&Built::new(target, &target.archive(), &name), &own, stream, rounds) {
             Ok(calls) => row(target, calls),
             Err(difference) => {
                 differ = true;

@@ -196,11 +196,11 @@ impl Board {
     }
 }
 
-/// What the header says of a call: the number beside its name in the table of stack bytes.
+/// What the header says of a call: the first number beside its name in the table of stack bytes.
 fn stated(header: &str, call: &str) -> usize {
     let words = header.lines().map(|line| line.split_whitespace().collect::<Vec<_>>());
     let bytes =
-        words.filter_map(|words| if let ["*", name, bytes] = words[..] { Some((name, bytes)) } else { None });
+        words.filter_map(|words| if let ["*", name, bytes, _] = words[..] { Some((name, bytes)) } else { None });
     let (_, bytes) = bytes.into_iter().find(|(name, _)| *name == call).expect(call);
     bytes.replace(',', "").parse().expect(bytes)
 }
