@@ -22,7 +22,7 @@ use Rattle.board.specs.declared.Record.{Record}
 use Rattle.board.specs.Exec.{Call, request, step, mount, format, Machine, exec}
 use Rattle.board.specs.Table.{isBusy, InJob}
 use Rattle.board.specs.Book.{Book, formatting, firstBook, enterCall}
-use Rattle.board.specs.Claim.{IdleAgrees, Says, track, ByteCall, Begins, Event, call, cutErase}
+use Rattle.board.specs.Claim.{IdleAgrees, Says, track, begunBy, ByteCall, Begins, Event, call, cutErase}
 use Rattle.board.specs.Promise.{Promise, Shown, shown, trace, ByteEvents}
 use Rattle.lent.specs.Layout.{recordSize, recordIn}
 use Rattle.edge.specs.Edge.{Edge, edge, edgeRequest, edgeStep, edgeMade, edgeMount, edgeFormat, Place, asRead, edgeRead, edgeNext, flashedBy}
@@ -185,21 +185,31 @@ Happen N img b k (cuts j new d ∷ es) =
 abbrev pub Ended : ℕ → Book → Run → Type 0
 Ended N k x = (x .answer ≡ 0) × (recordIn (x .board) .phase ≡ Idle) × IdleAgrees N (x .image) (recordIn (x .board)) k
 
--- "after each call in it that gives back an idle record"; a job under way is ended by one run of S + N steps, the last of which answers 0
-pub record Agree (N : ℕ) (img b : List ℕ) (k : Book) : Type 0 where
-  pub idle : recordIn b .phase ≡ Idle → IdleAgrees N img (recordIn b) k
-  pub in-job : InJob (recordIn b .phase) → Ended N (enterCall k step Done) (edgeRun N img b (sizeOf N img + N) 0)
+-- the most steps of a job in blocks of s bytes, by the call that began it. K14: "Demand 1's bound leaves a mount's erases aside"
+abbrev pub mostSteps : ℕ → ℕ → Call → ℕ
+mostSteps N s (request h m reply) = s
+mostSteps N s step = s
+mostSteps N s mount = s + N
+mostSteps N s format = s
 
--- what each call says, and that after it the buffer agrees with the book; `u` as in board's claim
-abbrev pub Runs : ℕ → List ℕ → List ℕ → Book → Bool → List Happening → Type 0
-Runs N img b k u [] = Unit {0}
-Runs N img b k u (does c ∷ es) =
+-- "after each call in it that gives back an idle record"; a job under way, which call a began, is ended by one run of so many steps, the last of
+-- which answers 0
+pub record Agree (N : ℕ) (a : Call) (img b : List ℕ) (k : Book) : Type 0 where
+  pub idle : recordIn b .phase ≡ Idle → IdleAgrees N img (recordIn b) k
+  pub in-job : InJob (recordIn b .phase) → Ended N (enterCall k step Done) (edgeRun N img b (mostSteps N (sizeOf N img) a) 0)
+
+-- what each call says, and that after it the buffer agrees with the book; `u` and `a` as in board's claim
+abbrev pub Runs : ℕ → List ℕ → List ℕ → Book → Bool → Call → List Happening → Type 0
+Runs N img b k u a [] = Unit {0}
+Runs N img b k u a (does c ∷ es) =
     let e : Edge = edgeCall N img b c in
     let o : Out = edgeOut N img b c in
     let k′ : Book = enterCall k (callOf c) (o .answer) in
-    Says N img (recordIn b) k u (callOf c) o × Agree N (e .image) (e .board) k′ × Runs N (e .image) (e .board) k′ (track u k (callOf c) (o .answer)) es
-Runs N img b k u (loses d ∷ es) = Runs N img d k u es
-Runs N img b k u (cuts j new d ∷ es) = Runs N (withBlock (sizeOf N img) j new img) d k u es
+    let a′ : Call = begunBy a (callOf c) (o .answer) in
+    Says N img (recordIn b) k u (callOf c) o × Agree N a′ (e .image) (e .board) k′
+    × Runs N (e .image) (e .board) k′ (track u k (callOf c) (o .answer)) a′ es
+Runs N img b k u a (loses d ∷ es) = Runs N img d k u a es
+Runs N img b k u a (cuts j new d ∷ es) = Runs N (withBlock (sizeOf N img) j new img) d k u a es
 
 -- so many step calls, each given the buffers that the last left
 abbrev pub stepCalls : ℕ → ℕ → Edge → Edge
@@ -215,8 +225,8 @@ unfoldable pub EdgeClaim : Type 0
 EdgeClaim =
     (N : ℕ) (img b : List ℕ) → Bytes img → allowed N (length img) ≡ true → length b ≡ recordSize
     → let e : Edge = edgeFormatted N img b in
-    (e .answer ≡ 0) × (recordIn (e .board) .phase ≡ Idle) × Agree N (e .image) (e .board) firstBook
-    × ((es : List Happening) → Happen N (e .image) (e .board) firstBook es → Runs N (e .image) (e .board) firstBook false es)
+    (e .answer ≡ 0) × (recordIn (e .board) .phase ≡ Idle) × Agree N format (e .image) (e .board) firstBook
+    × ((es : List Happening) → Happen N (e .image) (e .board) firstBook es → Runs N (e .image) (e .board) firstBook false format es)
 
 -- ---- many steps in one call
 
