@@ -5,7 +5,7 @@ ghost use Prim.Native.Nat.{ℕ, _+_, _*_, _<_};
 ghost use Rattle.flash.specs.Flash.{blockOf, offsetOf};
 ghost use Rattle.board.specs.declared.Phase.the-variants.{Busy};
 ghost use Rattle.board.specs.Drive.{placed, nextIn, nextOn, madeOn};
-ghost use Rattle.job.specs.Code.{assemble, flashStep, inHandAt, inHand};
+ghost use Rattle.job.specs.Code.{assemble, flashStep, HandsAt, Hands};
 use board::Next;
 use board::Phase;
 use board::Record;
@@ -30,7 +30,7 @@ fn placed(size: usize, a: Action) -> Next
 }
 
 fn next_busy(len: usize, blocks: u8, stage: Stage, n: Numbers, byte: u8) -> Next
-    ensures { λ r. ⌜ ((p u f : List ℕ) → byte ≡ inHandAt stage n u f → r ≡ nextIn blocks (Busy stage) len (assemble n p u f)) ⌝ }
+    ensures { λ r. ⌜ ((p u f : List ℕ) → HandsAt stage n byte u f → r ≡ nextIn blocks (Busy stage) len (assemble n p u f)) ⌝ }
 {
     let rest = n.rest;
     let a = job::next_action(stage, n, byte);
@@ -40,9 +40,10 @@ fn next_busy(len: usize, blocks: u8, stage: Stage, n: Numbers, byte: u8) -> Next
     Next::Refused(Refusal::Stale)
 }
 
-// By a record's numbers and the byte in hand, on an image of a length and so many blocks.
+// Inner part of next, by value and over bytes. By a record's numbers and the byte in hand, any byte where no frame's byte is programmed, on an
+// image of a length and so many blocks.
 pub fn next_of(len: usize, blocks: u8, n: Numbers, byte: u8) -> Next
-    ensures { λ r. ⌜ ((p u f : List ℕ) → byte ≡ inHand n u f → r ≡ nextOn blocks len (assemble n p u f)) ⌝ }
+    ensures { λ r. ⌜ ((p u f : List ℕ) → Hands n byte u f → r ≡ nextOn blocks len (assemble n p u f)) ⌝ }
 {
     let phase = n.phase;
     match phase {

@@ -61,7 +61,7 @@ fn run_busy(
     }
 }
 
-// A run call by a record's numbers, its arrays lent. Where the job ended the arrays are the caller's to clear.
+// Inner part of run, by value and over bytes. A run by a record's numbers, its arrays lent. Where the job ended the arrays are the caller's to clear.
 pub fn run_core(
     image: &mut [u8],
     blocks: u8,

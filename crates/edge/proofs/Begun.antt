@@ -31,7 +31,7 @@ use Rattle.job.specs.declared.records.Stepped.{Stepped}
 use Rattle.job.specs.Code.{assemble}
 use Rattle.store.specs.Calls.{Gives}
 use Rattle.serving.specs.Calls.{keptOr, Asks}
-use Rattle.queue.specs.Calls.{AsksRead}
+use Rattle.queue.specs.Calls.{readAs}
 use Rattle.pack.specs.Code.{ReadsAs, intoIf, ReadsAsIf}
 use Rattle.edge.specs.Edge.{Edge, anew, written, isRead, asRead, ReadsBack}
 use Rattle.edge.proofs.Buffers.{filled}
@@ -88,20 +88,20 @@ done-rests N img r reply h m d = by (r .phase) refl
         (λ b. no refusal.HostRange (request-host N img r reply h m a b)))
         (λ a. no refusal.ImageLength (request-length N img r reply h m a))
 
--- ---- a read's message asks for nothing else
+-- ---- a read's message counts as itself
 
-pub asks-read : (m : List ℕ) → AsksRead (parse (asRead m))
+pub asks-read : (m : List ℕ) → readAs (parse (asRead m)) (asRead m) ≡ asRead m
 unfolding parse
 asks-read m = by (parse m) refl
   where
-    none : isRead (parse m) ≡ false → AsksRead (parse (asRead m))
-    none e = rw e tt
+    none : isRead (parse m) ≡ false → readAs (parse (asRead m)) (asRead m) ≡ asRead m
+    none e = rw e refl
 
-    by : (p : Parsed) → parse m ≡ p → AsksRead (parse (asRead m))
+    by : (p : Parsed) → parse m ≡ p → readAs (parse (asRead m)) (asRead m) ≡ asRead m
     by Malformed e = none (ap isRead e)
     by (Is (Put i)) e = none (ap isRead e)
     by (Is (Delete i)) e = none (ap isRead e)
     by (Is Commit) e = none (ap isRead e)
     by (Is Abort) e = none (ap isRead e)
-    by (Is (Read i)) e = let t : isRead (parse m) ≡ true = ap isRead e in rw (t, e) tt
+    by (Is (Read i)) e = let t : isRead (parse m) ≡ true = ap isRead e in rw (t, e) refl
     by (Is (Log p)) e = none (ap isRead e)

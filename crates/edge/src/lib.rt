@@ -11,6 +11,9 @@ pub use steps::step_numbers;
 use wire::Parsed;
 use wire::Request;
 
+// The answer to a record buffer of another size.
+pub const WRONG_RECORD: u8 = 254;
+
 fn is_read(parsed: Parsed) -> bool
     ensures { λ r. ⌜ r ≡ isRead parsed ⌝ }
 {

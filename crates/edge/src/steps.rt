@@ -1,13 +1,13 @@
 // Steps on the record's bytes: its numbers are read and written back, its arrays only where a frame is loaded.
 ghost use mathlib.Core.Path.{_≡_};
-ghost use lib.ListN.{length};
 ghost use Rattle.board.specs.Step.{enterCopy};
-ghost use Rattle.lent.specs.Layout.{recordSize};
 ghost use Rattle.pack.specs.Code.{Holds};
 ghost use Rattle.edge.specs.Code.{over, Went, DoesStep};
+use crate::WRONG_RECORD;
 use board::Phase;
 use job::Moved;
 use job::records::Numbers;
+use lent::RECORD_SIZE;
 use wire::Answer;
 
 // The next frame to copy is loaded, or the block is sealed.
@@ -20,7 +20,7 @@ fn load(image: &[u8], blocks: u8, n: Numbers, board: &mut [u8])
     pack::write_loaded(s, &unit, board);
 }
 
-// The record goes on where the step was made, by the phase before it; and the answer.
+// Inner part of step_numbers and grommetide_made. The record goes on where the step was made, by the phase before it; and the answer.
 pub fn go_on(image: &[u8], blocks: u8, phase: Phase, m: Moved, board: &mut [u8]) -> u8
     ensures { λ r. ⌜ Went blocks (now (image .entry)) phase m (now (board .entry)) r (now (board .exit)) ⌝ }
 {
@@ -38,11 +38,13 @@ pub fn go_on(image: &[u8], blocks: u8, phase: Phase, m: Moved, board: &mut [u8])
     wire::number(answer)
 }
 
-// A step by the record's numbers.
+// Inner part of grommetide_step: a step by the record's numbers.
 pub fn step_numbers(image: &mut [u8], blocks: u8, board: &mut [u8]) -> u8
-    requires { ⌜ length (now board) ≡ recordSize ⌝ }
     ensures { λ r. ⌜ DoesStep blocks (now (image .entry)) (now (board .entry)) r (now (image .exit)) (now (board .exit)) ⌝ }
 {
+    if board.len() != RECORD_SIZE {
+        return WRONG_RECORD;
+    }
     let n = unpack::numbers(board);
     let phase = n.phase;
     let m = job::try_step(image, blocks, n, unpack::in_hand(n, board));

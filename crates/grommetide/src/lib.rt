@@ -8,6 +8,7 @@ ghost use Rattle.board.specs.Queue.{requestOn};
 ghost use Rattle.lent.specs.Layout.{recordSize, recordIn};
 ghost use Rattle.edge.specs.Edge.{edgeMount, edgeFormat, edgeRequest, ReadsBack};
 ghost use Rattle.edge.specs.Edge.{place, edgeRead, broken, edgeFault};
+use edge::WRONG_RECORD;
 use edge::as_read;
 use frame::Host;
 use job::records;
@@ -16,9 +17,6 @@ pub use next::grommetide_next;
 pub use steps::grommetide_made;
 pub use steps::grommetide_run;
 pub use steps::grommetide_step;
-
-// The answer to a record buffer of another size.
-const WRONG_RECORD: u8 = 254;
 
 #[no_mangle]
 pub extern "C" fn grommetide_record_size() -> usize

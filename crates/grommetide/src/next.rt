@@ -1,7 +1,7 @@
 // The next flash step, told in numbers for the caller to make.
 ghost use mathlib.Core.Path.{_≡_};
 ghost use Rattle.edge.specs.Edge.{told, edgeNext};
-use crate::WRONG_RECORD;
+use edge::WRONG_RECORD;
 use lent::RECORD_SIZE;
 
 #[no_mangle]

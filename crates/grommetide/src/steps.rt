@@ -4,7 +4,7 @@ ghost use Rattle.board.specs.Step.{stepOn};
 ghost use Rattle.board.specs.Drive.{madeOn, runOn};
 ghost use Rattle.lent.specs.Layout.{recordIn};
 ghost use Rattle.edge.specs.Edge.{edgeStep, edgeMade, run, edgeRun, ReadsBack};
-use crate::WRONG_RECORD;
+use edge::WRONG_RECORD;
 use lent::RECORD_SIZE;
 use wire::Answer;
 
@@ -16,9 +16,6 @@ pub extern "C" fn grommetide_step(image: &mut [u8], blocks: u8, board: &mut [u8]
     ensures back { λ r. ⌜ ReadsBack (now (board .entry)) (now (board .exit))
         (stepOn blocks (now (image .entry)) (recordIn (now (board .entry))) .board) ⌝ }
 {
-    if board.len() != RECORD_SIZE {
-        return WRONG_RECORD;
-    }
     if midframe::try_byte(image, blocks, board) {
         return wire::number(Answer::More);
     }

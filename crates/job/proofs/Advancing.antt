@@ -8,7 +8,7 @@ use native.Mathlib.Omega.{arith}
 use lib.Dec.{ltb}
 use lib.ListN.{length}
 use Rattle.flash.specs.Flash.{Step, apply, sizeIn, sizeOf, within, offsetOf}
-use Rattle.flash.proofs.Cases.{and-both, and-no-left, and-no-right}
+use Rattle.flash.proofs.Cases.{on-test, and-both, and-no-left, and-no-right}
 use Rattle.journal.specs.Block.{markWrites}
 use Rattle.journal.specs.Index.{Load}
 use Rattle.wire.specs.declared.Answer.{Answer}
@@ -17,7 +17,7 @@ use Rattle.wire.specs.declared.Refusal.the-variants as refusal
 use Rattle.board.specs.declared.Stage.{Stage}
 use Rattle.board.specs.declared.Stage.the-variants.{Wipe, Open, Copy, Seal, Drop, Append}
 use Rattle.board.specs.declared.Phase.{Phase}
-use Rattle.board.specs.declared.Phase.the-variants.{Busy}
+use Rattle.board.specs.declared.Phase.the-variants.{Unmounted, Idle, Busy}
 use Rattle.board.specs.declared.Record.{Record}
 use Rattle.board.specs.Record.{cursor, inStage, Out, out, refuse, answerOf}
 use Rattle.board.specs.Step.{loadOr, enterCopy, action, nextIndex, nextByte, pastFrame, onward, advance, sameShape, stepped, stepBusy}
@@ -27,7 +27,7 @@ use Rattle.job.specs.declared.records.Numbers.{Numbers}
 use Rattle.job.specs.declared.records.Stepped.{Stepped}
 use Rattle.job.specs.declared.moves.Moved.{Moved}
 use Rattle.job.specs.Code.{assemble, staged, going, staying, leaves, LeadsTo, movedByte, takes, did, offsetFor, Steps}
-use Rattle.job.specs.Code.{still, due, reached, reachedIf, answered, answeredIf, Moves, inHandAt, inHandIn, actionBy}
+use Rattle.job.specs.Code.{still, due, reached, reachedIf, answered, answeredIf, Moves, Loads, inHandIn, inHand, HandsAt, HandsIn, Hands, actionBy}
 use Rattle.job.proofs.Acting.{in-parts, size-low}
 use Rattle.job.proofs.Entering.{when-true, when-false, going-leaves}
 
@@ -118,7 +118,7 @@ offset-low Drop N len n b w h = omega arith
 offset-low Append N len n b w h = below (actionBy Append n b) N len w h
 
 -- by the byte in hand it is the record's step
-pub by-hand : (st : Stage) (n : Numbers) (b : ℕ) (p u f : List ℕ) → b ≡ inHandAt st n u f → actionBy st n b ≡ action st (assemble n p u f)
+pub by-hand : (st : Stage) (n : Numbers) (b : ℕ) (p u f : List ℕ) → HandsAt st n b u f → actionBy st n b ≡ action st (assemble n p u f)
 by-hand Wipe n b p u f e = refl
 by-hand Open n b p u f e = refl
 by-hand Copy n b p u f e = ap (actionBy Copy n) e
@@ -220,16 +220,30 @@ module _ (call : Phase → Out) (ph x : Phase) (e : ph ≡ x) where
 pub stays : (img : List ℕ) (r : Record) → Steps Done false r img (out Done img r [])
 stays img r = record { image = refl; answers = refl; gives = refl; goes = λ e. refl }
 
-pub busy-hand : (n : Numbers) (ph : Phase) (st : Stage) (u f : List ℕ) → ph ≡ Busy st → {b : ℕ} → b ≡ inHandIn ph n u f → b ≡ inHandAt st n u f
-busy-hand n ph st u f e h = h ∙ ap (λ (x : Phase). inHandIn x n u f) e
+pub busy-hand : (n : Numbers) (ph : Phase) (st : Stage) (b : ℕ) (u f : List ℕ) → ph ≡ Busy st → HandsIn ph n b u f → HandsAt st n b u f
+busy-hand n ph st b u f e h = subst (λ (x : Phase). HandsIn x n b u f) e h
+
+-- the byte that was read from the arrays is one
+hand-in : (ph : Phase) (n : Numbers) (b : ℕ) (u f : List ℕ) → b ≡ inHandIn ph n u f → HandsIn ph n b u f
+hand-in Unmounted n b u f e = tt
+hand-in Idle n b u f e = tt
+hand-in (Busy Wipe) n b u f e = tt
+hand-in (Busy Open) n b u f e = tt
+hand-in (Busy Copy) n b u f e = e
+hand-in (Busy Seal) n b u f e = tt
+hand-in (Busy Drop) n b u f e = tt
+hand-in (Busy Append) n b u f e = e
+
+pub hands : (n : Numbers) (b : ℕ) (u f : List ℕ) → b ≡ inHand n u f → Hands n b u f
+hands n b u f e = hand-in (n .phase) n b u f e
 
 -- ---- the frame that is due is loaded
 
 module _ (N : ℕ) (p u f img : List ℕ) (o : Out) (m : Moved) (x : Steps (answered m) (m .stepped .ended) (reached N m img p u f) img o) where
-  pub none-due : m .loads ≡ false → Steps (m .stepped .answer) (m .stepped .ended) (leaves (m .stepped) p u f) img o
+  none-due : m .loads ≡ false → Steps (m .stepped .answer) (m .stepped .ended) (leaves (m .stepped) p u f) img o
   none-due e = subst (λ (b : Bool). Steps (answeredIf b (m .stepped)) (m .stepped .ended) (reachedIf N b img (m .stepped) p u f) img o) e x
 
-  pub one-due : m .loads ≡ true → (u′ : List ℕ) (s : Stepped) → LeadsTo p u′ f s (enterCopy N img (assemble (m .stepped .next) p u f))
+  one-due : m .loads ≡ true → (u′ : List ℕ) (s : Stepped) → LeadsTo p u′ f s (enterCopy N img (assemble (m .stepped .next) p u f))
       → Steps (s .answer) (s .ended) (leaves s p u′ f) img o
   one-due e u′ s l =
       let y = subst (λ (b : Bool). Steps (answeredIf b (m .stepped)) (m .stepped .ended) (reachedIf N b img (m .stepped) p u f) img o) e x in
@@ -239,3 +253,8 @@ module _ (N : ℕ) (p u f img : List ℕ) (o : Out) (m : Moved) (x : Steps (answ
         gives = l .gives ∙ y .gives;
         goes = l .goes;
       }
+
+  pub load-steps : (u′ : List ℕ) (s : Stepped) → Loads N img p u m s u′ → Steps (s .answer) (s .ended) (leaves s p u′ f) img o
+  load-steps u′ s l =
+      on-test (m .loads) (λ t. one-due t u′ s (l .due t f))
+      (λ t. rw (l .none t .0, l .none t .1) (none-due t))

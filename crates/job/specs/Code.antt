@@ -182,6 +182,23 @@ inHandIn (Busy s) n unit frame = inHandAt s n unit frame
 abbrev pub inHand : Numbers → List ℕ → List ℕ → ℕ
 inHand n unit frame = inHandIn (n .phase) n unit frame
 
+-- a byte that is given for it: where no frame's byte is programmed, any will do
+abbrev pub HandsAt : Stage → Numbers → ℕ → List ℕ → List ℕ → Type 0
+HandsAt Wipe n b unit frame = Unit {0}
+HandsAt Open n b unit frame = Unit {0}
+HandsAt Copy n b unit frame = b ≡ getD unit (n .cursor .off) 0
+HandsAt Seal n b unit frame = Unit {0}
+HandsAt Drop n b unit frame = Unit {0}
+HandsAt Append n b unit frame = b ≡ getD frame (n .cursor .index) 0
+
+abbrev pub HandsIn : Phase → Numbers → ℕ → List ℕ → List ℕ → Type 0
+HandsIn Unmounted n b unit frame = Unit {0}
+HandsIn Idle n b unit frame = Unit {0}
+HandsIn (Busy s) n b unit frame = HandsAt s n b unit frame
+
+abbrev pub Hands : Numbers → ℕ → List ℕ → List ℕ → Type 0
+Hands n b unit frame = HandsIn (n .phase) n b unit frame
+
 -- ---- a step that loads no frame yet
 
 abbrev pub still : Stepped → Moved
@@ -211,6 +228,11 @@ pub record Moves (N : ℕ) (img places unit frame : List ℕ) (m : Moved) (r : R
   pub answers : answered m ≡ answerOf r
   pub gives : reached N m img places unit frame ≡ r
   pub goes : GoesOn (answered m) (m .stepped .ended)
+
+-- the frame that is due is loaded, into the array that is lent; where none is due nothing is done
+pub record Loads (N : ℕ) (img places unit : List ℕ) (m : Moved) (s : Stepped) (unit′ : List ℕ) : Type 0 where
+  pub due : m .loads ≡ true → (f : List ℕ) → LeadsTo places unit′ f s (enterCopy N img (assemble (m .stepped .next) places unit f))
+  pub none : m .loads ≡ false → (s ≡ m .stepped) × (unit′ ≡ unit)
 
 -- an answer, a record and an image are what a step call gives back
 pub record Steps (a : Answer) (ended : Bool) (r : Record) (img : List ℕ) (o : Out) : Type 0 where

@@ -10,9 +10,8 @@ ghost use Rattle.wire.specs.declared.Answer.the-variants.{Done, Refused};
 ghost use Rattle.wire.specs.declared.Refusal.the-variants as refusal;
 ghost use Rattle.board.specs.declared.Phase.the-variants.{Busy};
 ghost use Rattle.board.specs.Drive.{madeIn, madeOn};
-ghost use Rattle.board.specs.Record.{Out};
 ghost use Rattle.board.specs.Step.{loaded, enterCopy, stepBusy, stepOn};
-ghost use Rattle.job.specs.Code.{assemble, LeadsTo, staying, still, inHandAt, inHand, leaves, reached, answered, Steps};
+ghost use Rattle.job.specs.Code.{assemble, LeadsTo, staying, still, inHand, HandsAt, Hands, leaves, reached, answered, Loads, Steps};
 use crate::Outcome;
 use crate::actions;
 use crate::moves;
@@ -93,7 +92,7 @@ pub fn rests(n: Numbers) -> Moved
 }
 
 fn try_busy(image: &mut [u8], blocks: u8, stage: Stage, n: Numbers, byte: u8) -> Moved
-    ensures { λ r. ⌜ ((p u f : List ℕ) → byte ≡ inHandAt stage n u f → Steps (answered r) (r .stepped .ended) (reached blocks r (now (image .exit)) p u f)
+    ensures { λ r. ⌜ ((p u f : List ℕ) → HandsAt stage n byte u f → Steps (answered r) (r .stepped .ended) (reached blocks r (now (image .exit)) p u f)
         (now (image .exit)) (stepBusy blocks stage (now (image .entry)) (assemble n p u f))) ⌝ }
 {
     let rest = n.rest;
@@ -107,9 +106,10 @@ fn try_busy(image: &mut [u8], blocks: u8, stage: Stage, n: Numbers, byte: u8) ->
     moves::advance(stage, n)
 }
 
-// A step that reads no array of the record: the byte in hand is given, and the next frame is still to be loaded where one is due.
+// Inner part of step_core, and of the steps over the record's bytes. It reads no array of the record: the byte in hand is given, any byte where no
+// frame's byte is programmed, and the next frame is still to be loaded where one is due.
 pub fn try_step(image: &mut [u8], blocks: u8, n: Numbers, byte: u8) -> Moved
-    ensures { λ r. ⌜ ((p u f : List ℕ) → byte ≡ inHand n u f → Steps (answered r) (r .stepped .ended) (reached blocks r (now (image .exit)) p u f)
+    ensures { λ r. ⌜ ((p u f : List ℕ) → Hands n byte u f → Steps (answered r) (r .stepped .ended) (reached blocks r (now (image .exit)) p u f)
         (now (image .exit)) (stepOn blocks (now (image .entry)) (assemble n p u f))) ⌝ }
 {
     let phase = n.phase;
@@ -133,7 +133,8 @@ fn made_busy(len: usize, blocks: u8, stage: Stage, n: Numbers) -> Moved
     stale(n)
 }
 
-// The record moves on by a step made to an image of a length and so many blocks: no array of it is read, nor the image.
+// Inner part of made, by value and over bytes. The record moves on by a step made to an image of a length and so many blocks: no array of it is
+// read, nor the image.
 pub fn made_of(len: usize, blocks: u8, n: Numbers) -> Moved
     ensures { λ r. ⌜ ((img p u f : List ℕ) → length img ≡ len → Steps (answered r) (r .stepped .ended) (reached blocks r img p u f) img
         (madeOn blocks img (assemble n p u f))) ⌝ }
@@ -168,7 +169,7 @@ pub fn in_hand(n: Numbers, unit: &[u8; MAX_FRAME], frame: &[u8; MAX_FRAME]) -> u
     }
 }
 
-// The next frame is loaded where one is due.
+// Inner part of step_core and made. The next frame is loaded where one is due; else nothing is done.
 pub fn load_due(
     image: &[u8],
     blocks: u8,
@@ -176,10 +177,7 @@ pub fn load_due(
     places: &[u16; 256],
     unit: &mut [u8; MAX_FRAME],
 ) -> Stepped
-    ensures { λ r. ⌜ ((f : List ℕ) (o : Out)
-        → Steps (answered m) (m .stepped .ended) (reached blocks m (now (image .entry)) (now (places .entry)) (now (unit .entry)) f)
-        (now (image .entry)) o
-        → Steps (r .answer) (r .ended) (leaves r (now (places .entry)) (now (unit .exit)) f) (now (image .entry)) o) ⌝ }
+    ensures { λ r. ⌜ Loads blocks (now (image .entry)) (now (places .entry)) (now (unit .entry)) m r (now (unit .exit)) ⌝ }
 {
     let s = m.stepped;
     if m.loads {
@@ -189,7 +187,7 @@ pub fn load_due(
     s
 }
 
-// A step by a record's numbers, its arrays lent. Where the job ended the arrays are the caller's to clear.
+// Inner part of step and run. A step by a record's numbers, its arrays lent. Where the job ended the arrays are the caller's to clear.
 pub fn step_core(
     image: &mut [u8],
     blocks: u8,

@@ -80,7 +80,8 @@ fn append_byte(image: &mut [u8], blocks: u8, board: &mut [u8]) -> bool
     false
 }
 
-// A step, if the record is in the middle of a frame and its flags stand as they are written; else nothing is done.
+// Inner part of grommetide_step, which goes on by the record's numbers where this says no. A step, if the record is in the middle of a frame and its
+// flags stand as they are written; else nothing is done. That it is the faster way is not promised: one that always says no would do.
 pub fn try_byte(image: &mut [u8], blocks: u8, board: &mut [u8]) -> bool
     ensures { λ r. ⌜ Tried blocks r (now (image .entry)) (now (board .entry)) (now (image .exit)) (now (board .exit)) ⌝ }
 {

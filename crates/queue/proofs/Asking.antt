@@ -1,6 +1,6 @@
 -- The refusals before a request is served: the code's tests are the table's.
 use mathlib.Core.Path.{_≡_, refl, sym, ap, ap₂, _∙_}
-use mathlib.Core.List.{List}
+use mathlib.Core.List.{List, []}
 use mathlib.Core.Option.{Option, none, some}
 use mathlib.Core.Bool.{Bool, true, false, _&&_}
 use Prim.Native.Nat.{ℕ, _+_, _*_, _≤_}
@@ -16,6 +16,7 @@ use Rattle.frame.specs.declared.Host.{Host}
 use Rattle.frame.specs.Frame.{Frame, hostMax, endLen}
 use Rattle.frame.specs.Reader.{clean, cut, bad}
 use Rattle.journal.specs.Block.{headerLen, BlockState, blank, inProgress, valid, foreign, blockState}
+use Rattle.survey.specs.declared.Survey.{Survey}
 use Rattle.survey.specs.Survey.{surveyOf, stateOf}
 use Rattle.survey.proofs.Surveying.{half-fits}
 use Rattle.journal.proofs.States.{Contents, valid-inv}
@@ -35,7 +36,7 @@ use Rattle.board.proofs.Outcomes.{request-length, request-host, request-busy, r
 use Rattle.queue.specs.declared.requests.Gate.the-variants as gate
 use Rattle.queue.specs.declared.requests.Ask.{Ask}
 use Rattle.queue.specs.declared.requests.Ask.the-variants as ask
-use Rattle.queue.specs.Calls.{openIf, gateIn, gateOf, asRecorded, askIf, askOf}
+use Rattle.queue.specs.Calls.{openIf, gateIn, gateOf, asRecorded, askIf, askOf, readAs}
 use Rattle.looks.proofs.Images.{block-fits}
 use Rattle.queue.proofs.Images.{same-inside}
 use Rattle.looks.proofs.Transfers.{cut-not}
@@ -136,6 +137,23 @@ ask-not q why e = let z : _≡_ {A = ℕ} 0 1 = cc in omega arith
 
 serve-not : (q : Request) (why : Refusal) → ask.Refused why ≡ ask.Serve q → ⊥
 serve-not q why e = let z : _≡_ {A = ℕ} 0 1 = cc in omega arith
+
+module _ (size end : ℕ) (s : Survey) (m : List ℕ) where
+  -- refused, a message that is no read is refused as the empty one
+  pub refused-as : (why : Refusal) → askOf size end s m ≡ ask.Refused why → askOf size end s (readAs (parse m) m) ≡ ask.Refused why
+  unfolding askOf parse
+  refused-as why e =
+      on-test (asRecorded size end s) (λ t. rw (t, askOf) (by (parse m) refl (rw (t, askOf) at e))) (λ t. rw (t, askOf) (rw (t, askOf) at e))
+    where
+      by : (x : Parsed) → parse m ≡ x → askIf x ≡ ask.Refused why → askIf (parse (readAs (parse m) m)) ≡ ask.Refused why
+      by (Is q) w z = absurd (ask-not q why z)
+      by Malformed w z = rw w z
+
+  -- where a message is heard, the empty one is malformed
+  pub empty-as : (q : Request) → askOf size end s m ≡ ask.Serve q → askOf size end s [] ≡ ask.Refused refusal.Malformed
+  unfolding askOf parse
+  empty-as q e =
+      on-test (asRecorded size end s) (λ t. rw (t, askOf)) (λ t. absurd (serve-not q refusal.Stale (rw (t, askOf) at e)))
 
 -- a request that is served
 pub record Served (N : ℕ) (img : List ℕ) (r : Record) (h : Host) (m : List ℕ) (q : Request) : Type 0 where

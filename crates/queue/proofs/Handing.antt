@@ -1,5 +1,5 @@
 -- The stretch that a read hands back, and a served request as a whole.
-use mathlib.Core.Path.{_≡_, refl, sym, ap, ap₂, subst, _∙_}
+use mathlib.Core.Path.{_≡_, refl, sym, ap, ap₂, _∙_}
 use mathlib.Core.List.{List, []}
 use mathlib.Core.Option.{Option, none, some}
 use mathlib.Core.Bool.{Bool, true, false, _&&_, cond}
@@ -25,9 +25,11 @@ use Rattle.survey.specs.Survey.{surveyOf, placesIn}
 use Rattle.fetch.specs.Fetch.{foundOf}
 use Rattle.journal.proofs.States.{Contents}
 use Rattle.journal.proofs.Places.{ValueStands, place-law, no-place, value-zero}
-use Rattle.wire.specs.declared.Answer.the-variants.{Done}
+use Rattle.wire.specs.declared.Answer.{Answer}
+use Rattle.wire.specs.declared.Answer.the-variants.{Done, More, Refused}
 use Rattle.wire.specs.declared.Refusal.{Refusal}
 use Rattle.wire.specs.declared.Refusal.the-variants as refusal
+use Rattle.wire.specs.declared.Parsed.{Parsed}
 use Rattle.wire.specs.declared.Parsed.the-variants.{Is}
 use Rattle.wire.specs.declared.Page.{Page}
 use Rattle.wire.specs.declared.Page.the-variants.{Summary}
@@ -36,7 +38,7 @@ use Rattle.wire.specs.declared.Request.the-variants.{Put, Delete, Commit, Abort
 use Rattle.wire.specs.Message.{parse, valueIn, pageLen}
 use Rattle.wire.proofs.Parsing.{InRange, in-range}
 use Rattle.board.specs.declared.Record.{Record}
-use Rattle.board.specs.Record.{allowed, restOf, Stretch, noStretch, Out, refuse}
+use Rattle.board.specs.Record.{allowed, noPlaces, noFrame, restOf, Stretch, noStretch, Out, refuse}
 use Rattle.board.proofs.Images.{Sized, sized-of, sized-block}
 use Rattle.board.specs.Queue.{Held, needsRoom, append, serveChange, serveEnd, serveRead, serveLog, serve, stretchOf, requestOn, readOn}
 use Rattle.queue.specs.declared.requests.Ask.{Ask}
@@ -45,11 +47,11 @@ use Rattle.job.specs.declared.Outcome.{Outcome}
 use Rattle.job.specs.declared.records.Stepped.{Stepped}
 use Rattle.job.specs.Code.{outcome}
 use Rattle.queue.specs.declared.reads.Located.{Located}
-use Rattle.queue.specs.Calls.{askOf, stretchAt, foundFor, AsksRead, answerTo, nothing, Finds}
-use Rattle.serving.specs.Calls.{refused, keptOr, Asks, serveIn, replyIn, frameIn}
+use Rattle.queue.specs.Calls.{askOf, stretchAt, foundFor, readAs, noneFor, answerTo, nothing, Finds}
+use Rattle.serving.specs.Calls.{refused, keptOr, began, Asks, serveIn, replyIn, frameIn}
 use Rattle.looks.proofs.Images.{block-length}
 use Rattle.queue.proofs.Images.{same-count, same-inside}
-use Rattle.queue.proofs.Asking.{Passed, Served, unheard, heard}
+use Rattle.queue.proofs.Asking.{Passed, Served, unheard, heard, refused-as, empty-as}
 use Rattle.serving.proofs.Answering.{journal, serve-is, reply-is}
 
 stretch-of : (start : ℕ) (o : Option Value) → stretchOf start o ≡ stretchAt start (foundOf o)
@@ -100,25 +102,28 @@ module _ (N : ℕ) (img : List ℕ) (r : Record) (reply : List ℕ) (h : Host) (
 
   -- what was found says how a read is answered
   read-answers : (i : ObjectId) → i .0 ≤ idMax → (o : Option (List ℕ)) → lookup i (replay (x .frames) .objects) ≡ o → (g : Found)
-      → foundFor (block (sizeOf N img) (r .block) img) (placesOf (x .frames)) (Read i) ≡ g → answerTo g ≡ serveRead N img r reply x i o .answer
+      → foundFor (block (sizeOf N img) (r .block) img) (placesOf (x .frames)) (Read i) ≡ g → answerTo (Read i) g ≡ serveRead N img r reply x i o .answer
   read-answers i l none e g q =
       let z : valueAt (block (sizeOf N img) (r .block) img) i (getD (placesOf (x .frames)) (i .0) 0) ≡ none =
       ap (valueAt (block (sizeOf N img) (r .block) img) i) (no-place (x .frames) i l e) ∙ value-zero (block (sizeOf N img) (r .block) img) i in
-      ap answerTo (sym q ∙ ap foundOf z)
+      ap (answerTo (Read i)) (sym q ∙ ap foundOf z)
   read-answers i l (some v) e g q =
       let z : ValueStands (block (sizeOf N img) (r .block) img) i (getD (placesOf (x .frames)) (i .0) 0) v =
       place-law (block (sizeOf N img) (r .block) img) (x .frames) i v (journal w) l e in
-      ap answerTo (sym q ∙ ap foundOf (z .found))
+      ap (answerTo (Read i)) (sym q ∙ ap foundOf (z .found))
 
-  answers-is : (m : List ℕ) (q : Request) → InRange m q → AsksRead (Is q) → (g : Found)
-      → foundFor (block (sizeOf N img) (r .block) img) (placesOf (x .frames)) q ≡ g → answerTo g ≡ serve N img r reply h m x q .answer
+  -- by what the message itself comes to, and the empty one
+  answers-is : (m : List ℕ) (q : Request) → InRange m q → requestOn N img r reply h m .answer ≡ serve N img r reply h m x q .answer
+      → requestOn N img r reply h [] .answer ≡ Refused refusal.Malformed → (g : Found)
+      → foundFor (block (sizeOf N img) (r .block) img) (placesOf (x .frames)) q ≡ g
+      → answerTo q g ≡ requestOn N img r reply h (readAs (Is q) m) .answer
   unfolding serve
-  answers-is m (Put i) k a g e = absurd a
-  answers-is m (Delete i) k a g e = absurd a
-  answers-is m Commit k a g e = absurd a
-  answers-is m Abort k a g e = absurd a
-  answers-is m (Read i) k a g e = read-answers i k (lookup i (replay (x .frames) .objects)) refl g e
-  answers-is m (Log p) k a g e = absurd a
+  answers-is m (Put i) k s n g e = ap (answerTo (Put i)) (sym e) ∙ sym n
+  answers-is m (Delete i) k s n g e = ap (answerTo (Delete i)) (sym e) ∙ sym n
+  answers-is m Commit k s n g e = ap (answerTo Commit) (sym e) ∙ sym n
+  answers-is m Abort k s n g e = ap (answerTo Abort) (sym e) ∙ sym n
+  answers-is m (Read i) k s n g e = read-answers i k (lookup i (replay (x .frames) .objects)) refl g e ∙ sym s
+  answers-is m (Log p) k s n g e = ap (answerTo (Log p)) (sym e) ∙ sym n
 
   -- what is found lies in the block
   found-in : (i : ObjectId) → i .0 ≤ idMax → (p n : ℕ) (o : Option (List ℕ)) → lookup i (replay (x .frames) .objects) ≡ o
@@ -151,17 +156,39 @@ module _ (N : ℕ) (img : List ℕ) (r : Record) (reply : List ℕ) (h : Host) (
 pub refused-all : (N : ℕ) (img : List ℕ) (r : Record) (h : Host) (m reply p f : List ℕ) (why : Refusal) (s : Stepped)
     → requestOn N img r reply h m ≡ refuse why img r reply → s ≡ refused why (restOf r)
     → let o : Out = requestOn N img r reply h m in Asks r p f s o × (reply ≡ o .reply)
-refused-all N img r h m reply p f why s e q = rw (e, q) (record { answers = refl; gives = refl }, refl)
+refused-all N img r h m reply p f why s e q = rw (e, q) (record { answers = refl; gives = refl; rests = refl }, refl)
 
 pub none-read : (N : ℕ) (img : List ℕ) (r : Record) (h : Host) (m : List ℕ) (why : Refusal) (l : Located)
-    → requestOn N img r [] h m ≡ refuse why img r [] → l ≡ nothing why → Finds N img r h m l
-none-read N img r h m why l e q =
+    → requestOn N img r [] h m ≡ refuse why img r [] → requestOn N img r [] h (readAs (parse m) m) ≡ refuse why img r [] → l ≡ nothing why
+    → Finds N img r h m l
+none-read N img r h m why l e a q =
     rw q (record {
-      answers = λ a. sym (ap (λ (o : Out). o .answer) e);
+      answers = sym (ap (λ (o : Out). o .answer) a);
       at = sym (ap (λ (o : Out). o .stretch .at) e);
       size = sym (ap (λ (o : Out). o .stretch .size) e);
       inside = omega arith;
     })
+
+-- what no job needs is cleared
+pub dropped : (t : Bool) (nothing kept p : List ℕ) → p ≡ cond t nothing kept → t ≡ true → p ≡ nothing
+dropped t nothing kept p e w = e ∙ ap (λ (b : Bool). cond b nothing kept) w
+
+module _ {r : Record} {q g p f : List ℕ} (s : Stepped) {o : Out} (a : Asks r q g s o) (ep : p ≡ cond (s .ended) noPlaces q)
+    (ef : f ≡ cond (s .ended) noFrame g) where
+  job-arrays : (x : Answer) → s ≡ began x (restOf r) (s .next) → keptOr x r (s .next) p f ≡ keptOr x r (s .next) q g
+  job-arrays Done e = refl
+  job-arrays More e =
+      let t : s .ended ≡ false = ap (λ (y : Stepped). y .ended) e in
+      ap₂ (keptOr More r (s .next)) (ep ∙ ap (λ (b : Bool). cond b noPlaces q) t) (ef ∙ ap (λ (b : Bool). cond b noFrame g) t)
+  job-arrays (Refused w) e = refl
+
+  pub cleared : Asks r p f s o
+  cleared =
+      record {
+        answers = a .answers;
+        gives = job-arrays (s .answer) (a .rests ∙ ap (λ (x : Answer). began x (restOf r) (s .next)) (sym (a .answers))) ∙ a .gives;
+        rests = a .rests;
+      }
 
 -- a request by value
 pub by-value : {r : Record} {p f reply : List ℕ} {s : Stepped} (x : Outcome) (o : Out)
@@ -184,6 +211,10 @@ module _ {N : ℕ} {img : List ℕ} {r : Record} {h : Host} {m : List ℕ} {size
 
   pub not-served : (reply : List ℕ) (why : Refusal) → a ≡ ask.Refused why → requestOn N img r reply h m ≡ refuse why img r reply
   not-served reply why e = unheard N img r h m (l .bytes) (l .passed) reply why (asked (ask.Refused why) e)
+
+  pub no-read : (why : Refusal) → a ≡ ask.Refused why → requestOn N img r [] h (readAs (parse m) m) ≡ refuse why img r []
+  no-read why e =
+      unheard N img r h (readAs (parse m) m) (l .bytes) (l .passed) [] why (refused-as _ _ _ m why (asked (ask.Refused why) e))
 
   module _ (q : Request) (e : a ≡ ask.Serve q) where
     served : Served N img r h m q
@@ -241,13 +272,15 @@ module _ {N : ℕ} {img : List ℕ} {r : Record} {h : Host} {m : List ℕ} {size
             rw (l .sized) (omega (arith, i, block-length N img (r .block) ok there, sized-block (r .block) z there, z .short))
 
         -- its answer
-        read-answer : (g : Found) → f ≡ g → AsksRead (parse m) → answerTo g ≡ requestOn N img r [] h m .answer
-        read-answer g eg a =
-            answers-is N img r [] h (served .held) (served .contents) m q range (subst AsksRead (served .says) a) g
+        read-answer : (g : Found) → f ≡ g → answerTo q g ≡ requestOn N img r [] h (readAs (parse m) m) .answer
+        read-answer g eg =
+            answers-is N img r [] h (served .held) (served .contents) m q range (ap (λ (o : Out). o .answer) (served .serves []))
+            (ap (λ (o : Out). o .answer)
+            (unheard N img r h [] (l .bytes) (l .passed) [] refusal.Malformed (empty-as _ _ _ m q (asked (ask.Serve q) e)))) g
             (ap (λ (b : List ℕ). foundFor (block (sizeOf N img) (r .block) img) b q) (sym places-now) ∙ sym found-here ∙ eg)
-            ∙ sym (ap (λ (o : Out). o .answer) (served .serves []))
+            ∙ sym (ap (λ (x : Parsed). requestOn N img r [] h (readAs x m) .answer) (served .says))
 
-        pub read-none : f ≡ found.Nothing → (x : Located) → x ≡ nothing refusal.NoObject → Finds N img r h m x
+        pub read-none : f ≡ found.Nothing → (x : Located) → x ≡ nothing (noneFor q) → Finds N img r h m x
         read-none eg x ex =
             let z = read-stretch found.Nothing eg in
             rw ex (record {

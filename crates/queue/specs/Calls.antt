@@ -25,7 +25,7 @@ use Rattle.board.specs.declared.Phase.{Phase}
 use Rattle.board.specs.declared.Phase.the-variants.{Unmounted, Idle, Busy}
 use Rattle.board.specs.declared.Rest.{Rest}
 use Rattle.board.specs.declared.Record.{Record}
-use Rattle.board.specs.Record.{allowed, idle, Stretch, noStretch, Out}
+use Rattle.board.specs.Record.{allowed, noPlaces, noFrame, idle, Stretch, noStretch, Out}
 use Rattle.board.specs.Queue.{sameImage, requestOn, readOn}
 use Rattle.job.specs.declared.records.Stepped.{Stepped}
 use Rattle.job.specs.Code.{placed}
@@ -70,25 +70,32 @@ askOf size end s m = cond (asRecorded size end s) (askIf (parse m)) (ask.Refused
 -- ---- a request
 
 -- what it came to, for every record that stands there; the job's arrays and the reply after it
-abbrev pub Requested : ℕ → List ℕ → Phase → Rest → List ℕ → Host → List ℕ → Stepped → List ℕ → List ℕ → List ℕ → Type 0
-Requested N img p z reply h m s places frame after =
+abbrev pub Asked : ℕ → List ℕ → Phase → Rest → List ℕ → Host → List ℕ → Stepped → List ℕ → List ℕ → List ℕ → Type 0
+Asked N img p z reply h m s places frame after =
     (b : Record) → let o : Out = requestOn N img (placed p z b) reply h m in Asks (placed p z b) places frame s o × (after ≡ o .reply)
+
+-- the same, and where no job began the arrays hold nothing
+pub record Requested (N : ℕ) (img : List ℕ) (p : Phase) (z : Rest) (reply : List ℕ) (h : Host) (m : List ℕ) (s : Stepped)
+    (places frame after : List ℕ) : Type 0 where
+  pub asked : Asked N img p z reply h m s places frame after
+  pub no-places : s .ended ≡ true → places ≡ noPlaces
+  pub no-frame : s .ended ≡ true → frame ≡ noFrame
 
 -- ---- a read
 
--- a read, or a message that is no request
-abbrev pub AsksRead : Parsed → Type 0
-AsksRead Malformed = Unit {0}
-AsksRead (Is (Put i)) = ⊥
-AsksRead (Is (Delete i)) = ⊥
-AsksRead (Is Commit) = ⊥
-AsksRead (Is Abort) = ⊥
-AsksRead (Is (Read i)) = Unit {0}
-AsksRead (Is (Log p)) = ⊥
+-- a message that is no read counts as the empty one, which is malformed
+abbrev pub readAs : Parsed → List ℕ → List ℕ
+readAs Malformed m = []
+readAs (Is (Put i)) m = []
+readAs (Is (Delete i)) m = []
+readAs (Is Commit) m = []
+readAs (Is Abort) m = []
+readAs (Is (Read i)) m = m
+readAs (Is (Log p)) m = []
 
--- the request's stretch, and its answer where it asks for nothing else
+-- the request's stretch, and a read's answer
 pub record Finds (N : ℕ) (img : List ℕ) (r : Record) (h : Host) (m : List ℕ) (l : Located) : Type 0 where
-  pub answers : AsksRead (parse m) → l .answer ≡ requestOn N img r [] h m .answer
+  pub answers : l .answer ≡ requestOn N img r [] h (readAs (parse m) m) .answer
   pub at : l .at ≡ readOn N img r h m .at
   pub size : l .size ≡ readOn N img r h m .size
   pub inside : l .at + l .size ≤ length img
@@ -96,9 +103,18 @@ pub record Finds (N : ℕ) (img : List ℕ) (r : Record) (h : Host) (m : List �
 abbrev pub nothing : Refusal → Located
 nothing why = record { answer = Refused why; at = 0; size = 0 }
 
-abbrev pub answerTo : Found → Answer
-answerTo found.Nothing = Refused refusal.NoObject
-answerTo (found.At p n) = Done
+-- why nothing is found: a read's object isn't there, any other request is no read
+abbrev pub noneFor : Request → Refusal
+noneFor (Put i) = refusal.Malformed
+noneFor (Delete i) = refusal.Malformed
+noneFor Commit = refusal.Malformed
+noneFor Abort = refusal.Malformed
+noneFor (Read i) = refusal.NoObject
+noneFor (Log p) = refusal.Malformed
+
+abbrev pub answerTo : Request → Found → Answer
+answerTo q found.Nothing = Refused (noneFor q)
+answerTo q (found.At p n) = Done
 
 -- what was found in a block that starts there
 abbrev pub stretchAt : ℕ → Found → Stretch

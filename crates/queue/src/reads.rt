@@ -6,7 +6,7 @@ ghost use denote.Ref.{ptr};
 ghost use Rattle.board.specs.Queue.{readOn};
 ghost use Rattle.board.specs.declared.Record.{Record};
 ghost use Rattle.job.specs.Code.{placed};
-ghost use Rattle.queue.specs.Calls.{nothing, foundFor, Finds};
+ghost use Rattle.queue.specs.Calls.{nothing, noneFor, foundFor, Finds};
 use crate::requests;
 use crate::requests::Ask;
 use crate::requests::Gate;
@@ -43,6 +43,20 @@ fn nothing(why: Refusal) -> Located
     }
 }
 
+// Why a request has no value: any but a read is malformed as one.
+fn none_for(ask: Request) -> Refusal
+    ensures { λ r. ⌜ r ≡ noneFor ask ⌝ }
+{
+    match ask {
+        Request::Read(_) => return Refusal::NoObject,
+        Request::Put(_) => return Refusal::Malformed,
+        Request::Delete(_) => return Refusal::Malformed,
+        Request::Commit => return Refusal::Malformed,
+        Request::Abort => return Refusal::Malformed,
+        Request::Log(_) => return Refusal::Malformed,
+    }
+}
+
 // The value that a read asks for, by its place in a block.
 fn value_for(block: &[u8], places: &[u16; 256], ask: Request) -> Found
     ensures { λ r. ⌜ r ≡ foundFor (now (block .entry)) (now (places .entry)) ask ⌝ }
@@ -57,7 +71,7 @@ fn value_for(block: &[u8], places: &[u16; 256], ask: Request) -> Found
     }
 }
 
-// A read by where the record stands: its answer and its stretch in one look.
+// A read by where the record stands: its answer and its stretch in one look. A message that is no read is malformed.
 pub fn find(
     image: &[u8],
     blocks: u8,
@@ -78,7 +92,7 @@ pub fn find(
             match requests::hear(size, rest.end, s, message) {
                 Ask::Refused(why) => return nothing(why),
                 Ask::Serve(ask) => match value_for(block, &places, ask) {
-                    Found::Nothing => return nothing(Refusal::NoObject),
+                    Found::Nothing => return nothing(none_for(ask)),
                     Found::At(at, n) => {
                         return Located {
                             answer: Answer::Done,

@@ -1,14 +1,14 @@
 // Queue requests: the refusals in document 01's order.
 ghost use mathlib.Core.Path.{_≡_};
-ghost use mathlib.Core.Bool.{_||_};
+ghost use mathlib.Core.Bool.{_||_, cond};
 ghost use lib.Dec.{eqb};
 ghost use Rattle.flash.specs.Bytes.{allFF};
 ghost use Rattle.flash.specs.Flash.{block, blockNumbers};
-ghost use Rattle.board.specs.Record.{idle};
+ghost use Rattle.board.specs.Record.{noPlaces, noFrame, idle};
 ghost use Rattle.board.specs.Queue.{othersBlank, sameImage, requestOn};
 ghost use Rattle.job.specs.Code.{outcome};
 ghost use Rattle.serving.specs.Calls.{keptOr};
-ghost use Rattle.queue.specs.Calls.{gateOf, gateIn, asRecorded, askOf, Requested};
+ghost use Rattle.queue.specs.Calls.{gateOf, gateIn, asRecorded, askOf, Asked, Requested};
 use board::Phase;
 use board::Record;
 use board::Rest;
@@ -156,8 +156,8 @@ fn kept_or(s: Stepped, board: Record, places: [u16; 256], frame: [u8; MAX_FRAME]
     }
 }
 
-// A request by where the record stands. A job that began has its places and frame in the arrays that are lent.
-pub fn request_core(
+// A request by where the record stands. The arrays that are lent may be used where no job began.
+fn request_at(
     image: &[u8],
     blocks: u8,
     phase: Phase,
@@ -168,7 +168,7 @@ pub fn request_core(
     places: &mut [u16; 256],
     frame: &mut [u8; MAX_FRAME],
 ) -> Stepped
-    ensures { λ r. ⌜ Requested blocks (now (image .entry)) phase rest (now (reply .entry)) host (now (message .entry))
+    ensures { λ r. ⌜ Asked blocks (now (image .entry)) phase rest (now (reply .entry)) host (now (message .entry))
         r (now (places .exit)) (now (frame .exit)) (now (reply .exit)) ⌝ }
 {
     match check(image, blocks, phase, rest, host) {
@@ -192,6 +192,48 @@ pub fn request_core(
             }
         }
     }
+}
+
+// Only a job needs them.
+fn drop_arrays(ended: bool, places: &mut [u16; 256], frame: &mut [u8; MAX_FRAME])
+    ensures { λ r. ⌜ (now (places .exit) ≡ cond ended noPlaces (now (places .entry)))
+        × (now (frame .exit) ≡ cond ended noFrame (now (frame .entry))) ⌝ }
+{
+    if ended {
+        *places = records::no_places();
+        *frame = records::no_frame();
+    }
+}
+
+// A request by where the record stands, which stays as it was unless a job began: the answer is more, and the arrays that are lent have its
+// places and frame. Else they are cleared.
+pub fn request_core(
+    image: &[u8],
+    blocks: u8,
+    phase: Phase,
+    rest: Rest,
+    host: Host,
+    message: &[u8],
+    reply: &mut [u8],
+    places: &mut [u16; 256],
+    frame: &mut [u8; MAX_FRAME],
+) -> Stepped
+    ensures { λ r. ⌜ Requested blocks (now (image .entry)) phase rest (now (reply .entry)) host (now (message .entry))
+        r (now (places .exit)) (now (frame .exit)) (now (reply .exit)) ⌝ }
+{
+    let s = request_at(
+        image,
+        blocks,
+        phase,
+        rest,
+        host,
+        message,
+        reply,
+        places,
+        frame,
+    );
+    drop_arrays(s.ended, places, frame);
+    s
 }
 
 pub fn request(

@@ -1,5 +1,5 @@
 -- The requests by surveys and places are the definitions' requests.
-use mathlib.Core.Path.{_≡_, refl, sym, ap, subst, _∙_}
+use mathlib.Core.Path.{_≡_, refl, sym, ap, ap₂, subst, _∙_}
 use mathlib.Core.List.{List}
 use mathlib.Core.Option.{Option, none, some}
 use mathlib.Core.Bool.{Bool, true, false, _&&_, cond}
@@ -46,7 +46,8 @@ use Rattle.board.specs.Queue.{Held, needsRoom, append, serveChange, serveEnd, s
 use Rattle.job.specs.declared.records.Stepped.{Stepped}
 use Rattle.job.specs.Code.{leavesIf, LeadsTo, goAppend, goOpen, goWipe, begins}
 use Rattle.job.proofs.Entering.{wipe-leaves}
-use Rattle.serving.specs.Calls.{done, refused, keptOr, Asks, bytesOf, appendPlan, appendIn, changeIn, endIn, readIn, logIn, serveIn, frameIn, replyIn}
+use Rattle.serving.specs.Calls.{done, refused, keptOr, began, Asks, bytesOf, appendPlan, appendIn, changeIn, endIn, readIn, logIn}
+use Rattle.serving.specs.Calls.{serveIn, frameIn, replyIn}
 use Rattle.serving.proofs.Rooms.{no-room-is}
 
 -- ---- what a request came to, put together
@@ -57,10 +58,10 @@ module _ (r : Record) (p f : List ℕ) where
   asks-if false a b = b
 
   refusing : (img reply : List ℕ) (why : Refusal) → Asks r p f (refused why (restOf r)) (refuse why img r reply)
-  refusing img reply why = record { answers = refl; gives = refl }
+  refusing img reply why = record { answers = refl; gives = refl; rests = refl }
 
   doing : (img reply : List ℕ) → Asks r p f (done (restOf r)) (out Done img r reply)
-  doing img reply = record { answers = refl; gives = refl }
+  doing img reply = record { answers = refl; gives = refl; rests = refl }
 
   begun : (img reply : List ℕ) (s : Stepped) (q : Record) → s .answer ≡ More → s .ended ≡ false → LeadsTo p noFrame f s q
       → Asks r p f s (out (answerOf q) img q reply)
@@ -68,6 +69,9 @@ module _ (r : Record) (p f : List ℕ) where
       record {
         answers = l .answers;
         gives = ap (λ (x : Answer). keptOr x r (s .next) p f) a ∙ sym (ap (λ (t : Bool). leavesIf t (s .next) p noFrame f) e) ∙ l .gives;
+        rests =
+            ap₂ (λ (x : Answer) (t : Bool). record { answer = x; next = s .next; ended = t }) a e
+            ∙ ap (λ (x : Answer). began x (restOf r) (s .next)) (sym a ∙ l .answers);
       }
 
 -- a job that appends a frame has a step
@@ -132,12 +136,12 @@ module _ (N : ℕ) (img : List ℕ) (r : Record) (reply : List ℕ) (h : Host) (
   read-is f i l (some v) e =
       let z : ValueStands (block (sizeOf N img) (r .block) img) i (getD (placesOf (x .frames)) (i .0) 0) v =
       place-law (block (sizeOf N img) (r .block) img) (x .frames) i v (journal w) l e in
-      rw (ne-eqb (getD (placesOf (x .frames)) (i .0) 0) 0 (λ q. omega (arith, z .past))) (record { answers = refl; gives = refl })
+      rw (ne-eqb (getD (placesOf (x .frames)) (i .0) 0) 0 (λ q. omega (arith, z .past))) (record { answers = refl; gives = refl; rests = refl })
 
   log-is : (f : List ℕ) (p : Page) → Asks r places f (logIn (restOf r) reply) (serveLog N img r reply x p)
   unfolding serveLog logIn
   log-is f Summary =
-      asks-if r _ _ (ltb (length reply) pageLen) (refusing r _ _ img reply refusal.ShortReply) (record { answers = refl; gives = refl })
+      asks-if r _ _ (ltb (length reply) pageLen) (refusing r _ _ img reply refusal.ShortReply) (record { answers = refl; gives = refl; rests = refl })
 
   pub serve-is : (m : List ℕ) (q : Request) (g : List ℕ) → InRange m q → h .0 ≤ hostMax
       → Asks r places (frameIn h m q g) (serveIn (sizeOf N img) (restOf r) reply h m survey places q) (serve N img r reply h m x q)

@@ -23,11 +23,11 @@ use Rattle.board.specs.declared.Phase.the-variants.{Idle}
 use Rattle.board.specs.declared.Job.{Job}
 use Rattle.board.specs.declared.Rest.{Rest}
 use Rattle.board.specs.declared.Record.{Record}
-use Rattle.board.specs.Record.{noWipes, noFrame, starting, Out}
+use Rattle.board.specs.Record.{noWipes, noFrame, restOf, starting, Out}
 use Rattle.board.specs.Mount.{nextBlock, newTime}
 use Rattle.job.specs.declared.records.Numbers.{Numbers}
 use Rattle.job.specs.declared.records.Stepped.{Stepped}
-use Rattle.job.specs.Code.{assemble, atRest, begins}
+use Rattle.job.specs.Code.{assemble, atRest, staying, begins}
 use Rattle.looks.specs.Surveys.{sumOf}
 
 -- ---- what a request came to
@@ -45,10 +45,17 @@ keptOr Done r n places frame = r
 keptOr More r n places frame = assemble n places noFrame frame
 keptOr (Refused w) r n places frame = r
 
+-- the numbers of the job that began; where none did, those of an idle record that stands there
+abbrev pub began : Answer → Rest → Numbers → Stepped
+began Done z n = done z
+began More z n = staying More n
+began (Refused w) z n = refused w z
+
 -- it is what the definition gives back, with the job's places and frame
 pub record Asks (r : Record) (places frame : List ℕ) (s : Stepped) (o : Out) : Type 0 where
   pub answers : s .answer ≡ o .answer
   pub gives : keptOr (s .answer) r (s .next) places frame ≡ o .board
+  pub rests : s ≡ began (o .answer) (restOf r) (s .next)
 
 -- ---- what a survey tells of the room in its block
 

@@ -4,7 +4,7 @@ use mathlib.Core.List.{List, [], _∷_, append-nil}
 use mathlib.Core.Bool.{Bool, true, false, _&&_, cond}
 use Prim.Native.Nat.{ℕ, _-_, _≤_, _<_}
 use native.Mathlib.Omega.{arith}
-use lib.Dec.{eqb}
+use lib.Dec.{eqb, ltb}
 use lib.ListN.{length}
 use borrow.Author.Tests.{lt-ltb, le-ltb}
 use Rattle.flash.specs.Flash.{blockNumbers, sizeOf}
@@ -13,27 +13,28 @@ use Rattle.journal.specs.Block.{lastTime}
 use Rattle.journal.specs.Index.{placesOf}
 use Rattle.wire.specs.declared.Refusal.{Refusal}
 use Rattle.wire.specs.declared.Refusal.the-variants as refusal
-use Rattle.board.specs.declared.Stage.the-variants.{Wipe}
+use Rattle.board.specs.declared.Stage.the-variants.{Wipe, Open, Append}
 use Rattle.board.specs.declared.Phase.the-variants.{Busy}
 use Rattle.board.specs.declared.Job.{Job}
 use Rattle.board.specs.declared.Cursor.{Cursor}
 use Rattle.board.specs.declared.Rest.{Rest}
 use Rattle.board.specs.Record.{allowed, noPlaces, noMarks, noFrame, unmounted, rest, starting, busyWith, Out, refuse}
-use Rattle.board.specs.Step.{begin}
+use Rattle.board.specs.Step.{first, begin}
 use Rattle.board.specs.Mount.{nextBlock, Found, allFound, Store, stores, equalTimes, newest, tied, wipeList, needsTransfer, noneValid, lowestTied}
 use Rattle.board.specs.Mount.{tiedTimes, mountAt, mountStores, mountOn, numbersBut, orderFor, formatOrder, formatOn}
 use Rattle.board.proofs.Images.{Sized, sized-of, sized-block}
 use Rattle.board.proofs.Found.{Among, newest-among, among-holds}
 use Rattle.board.proofs.Outcomes.{mount-stores, format-begins}
 use Rattle.job.specs.declared.Outcome.{Outcome}
+use Rattle.job.specs.declared.records.Numbers.{Numbers}
 use Rattle.job.specs.declared.records.Stepped.{Stepped}
-use Rattle.job.specs.Code.{assemble, leaves, leavesIf, begins}
+use Rattle.job.specs.Code.{assemble, going, over, leaves, leavesIf, goAppend, goOpen, goWipe, begins}
 use Rattle.job.proofs.Entering.{when-true, when-false, wipe-leaves}
 use Rattle.looks.specs.declared.lists.Erases.{Erases}
 use Rattle.looks.specs.declared.looks.Newest.{Newest}
 use Rattle.looks.specs.declared.looks.Tie.{Tie}
 use Rattle.looks.specs.declared.looks.Seen.{Seen}
-use Rattle.store.specs.Calls.{made, Gives, refused}
+use Rattle.store.specs.Calls.{made, ends, Gives, refused}
 use Rattle.looks.specs.Seen.{erasesOf, othersIn, newestIn, tieIn, placesFor, Sees}
 use Rattle.store.specs.Mounts.{mountPlan, mountIn, mountSeen, lastErased, orderBy}
 use Rattle.store.proofs.Ordering.{but-none}
@@ -51,28 +52,41 @@ made-is e g = (ap (λ (y : Outcome). y .answer) e ∙ g .answers, ap (λ (y : Ou
 -- a refusal, which leaves no places
 pub refusal-given : {img p : List ℕ} {s : Stepped} {o : Out} (why : Refusal) → o ≡ refuse why img unmounted [] → s ≡ refused why → p ≡ noPlaces
     → Gives p s o
-refusal-given why e d n = rw (e, d, n) (record { answers = refl; gives = refl })
+refusal-given why e d n = rw (e, d, n) (record { answers = refl; gives = refl; ended = refl })
 
 -- what a mount came to, by the places of the block that is taken
 record Came (p : List ℕ) (s : Stepped) (o : Out) : Type 0 where
   answers : s .answer ≡ o .answer
   gives : leaves s p noFrame noFrame ≡ o .board
+  ended : s .ended ≡ ends (s .answer)
 
 came-if : (p : List ℕ) (t : Bool) {s u : Stepped} {o x : Out} → Came p s o → Came p u x → Came p (cond t s u) (cond t o x)
 came-if p true a b = a
 came-if p false a b = b
 
 refusing : (img p : List ℕ) (why : Refusal) → Came p (refused why) (refuse why img unmounted [])
-refusing img p why = record { answers = refl; gives = refl }
+refusing img p why = record { answers = refl; gives = refl; ended = refl }
+
+ends-if : (t : Bool) (s u : Stepped) → s .ended ≡ ends (s .answer) → u .ended ≡ ends (u .answer) → cond t s u .ended ≡ ends (cond t s u .answer)
+ends-if true s u a b = a
+ends-if false s u a b = b
+
+begun-ends : (n : Numbers) → goWipe n .ended ≡ ends (goWipe n .answer)
+unfolding goWipe goOpen goAppend
+begun-ends n =
+    let c : Cursor = first (n .cursor) in
+    ends-if (ltb 0 (n .job .wipes)) (going Wipe c n) (goOpen n) refl (ends-if (n .job .moves) (going Open c n) (goAppend n) refl
+    (ends-if (ltb 0 (n .job .size)) (going Append c n) (over (n .rest)) refl refl))
 
 beginning : (img p : List ℕ) (z : Rest) (j : Job) (c : Cursor) → Came p (begins z j c) (begin img [] (busyWith z p j c noFrame))
 beginning img p z j c =
-    let l = wipe-leaves p noFrame noFrame (record { phase = Busy Wipe; rest = z; job = j; cursor = c }) in
-    record { answers = l .answers; gives = l .gives }
+    let n : Numbers = record { phase = Busy Wipe; rest = z; job = j; cursor = c } in
+    let l = wipe-leaves p noFrame noFrame n in
+    record { answers = l .answers; gives = l .gives; ended = begun-ends n }
 
 -- only a job needs the places
 came-gives : (q : List ℕ) (s : Stepped) (o : Out) → Came q s o → Gives (cond (s .ended) noPlaces q) s o
-came-gives q s o x = record { answers = x .answers; gives = by (s .ended) (x .gives) }
+came-gives q s o x = record { answers = x .answers; gives = by (s .ended) (x .gives); ended = x .ended ∙ ap ends (x .answers) }
   where
     by : (t : Bool) → leavesIf t (s .next) q noFrame noFrame ≡ o .board → assemble (s .next) (cond t noPlaces q) noFrame noFrame ≡ o .board
     by true e = e

@@ -1,8 +1,10 @@
 -- What a call came to. proofs/ ties it to board's definitions.
 use mathlib.Core.Path.{_≡_}
 use mathlib.Core.List.{List}
+use mathlib.Core.Bool.{Bool, true, false}
 use Prim.Native.Nat.{ℕ}
-use Rattle.wire.specs.declared.Answer.the-variants.{Refused}
+use Rattle.wire.specs.declared.Answer.{Answer}
+use Rattle.wire.specs.declared.Answer.the-variants.{Done, More, Refused}
 use Rattle.wire.specs.declared.Refusal.{Refusal}
 use Rattle.board.specs.declared.Phase.the-variants.{Unmounted}
 use Rattle.board.specs.Record.{noFrame, rest, Out}
@@ -14,10 +16,17 @@ use Rattle.job.specs.Code.{assemble, atRest, outcome}
 abbrev pub made : List ℕ → Stepped → Outcome
 made places s = outcome (s .answer) (assemble (s .next) places noFrame noFrame)
 
+-- an answer that leaves no job
+abbrev pub ends : Answer → Bool
+ends Done = true
+ends More = false
+ends (Refused n) = true
+
 -- it is what the definition gives back, with these places
 pub record Gives (places : List ℕ) (s : Stepped) (o : Out) : Type 0 where
   pub answers : s .answer ≡ o .answer
   pub gives : assemble (s .next) places noFrame noFrame ≡ o .board
+  pub ended : s .ended ≡ ends (o .answer)
 
 -- a refusal: the record is unmounted
 abbrev pub refused : Refusal → Stepped

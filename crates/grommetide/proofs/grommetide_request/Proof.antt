@@ -36,6 +36,6 @@ grommetide-request-spec =
     let args′ = c23 .args in
     let b = now (args′ .board) in let o = requestOn (args′ .blocks) (now (args′ .image)) (recordIn b) (now (args′ .reply))
     (record { 0 = args′ .host }) (now (args′ .message)) in let q = rw (phase-of′ .ensures, rest-of′ .ensures) at
-    (request-core′ .ensures (recordIn b)) in let z = begun-is b _ _ _ _ (request-core′ .result) o (if1′ .left) (q .0)
+    (request-core′ .ensures .asked (recordIn b)) in let z = begun-is b _ _ _ _ (request-core′ .result) o (if1′ .left) (q .0)
     (done-rests _ _ _ _ _ _) (c .before .before .begun .ensures) in
     (rw (eq-eqb _ _ (if1′ .left)) (z .0 .0, z .0 .1, q .1), λ _. z .1)))

@@ -1,5 +1,6 @@
 -- A made call.
 use mathlib.Core.Path.{refl}
+use Rattle.job.proofs.Advancing.{load-steps}
 use borrow.Author.Needs.{needs}
 use Rattle.drive.proofs.calls.made.Statement.{statement}
 use Rattle.drive.proofs.calls.made.Tie as tie
@@ -16,5 +17,5 @@ made-spec =
     let made-of′ = c .before .before .before .before .made-of in
     let numbers-of′ = c .before .before .before .before .before .numbers-of in
     let args′ = c .before .before .before .before .before .before .before .before .before .before .args in
-    let s = c .before .load-due .ensures (args′ .board .frame) _ (made-of′ .ensures _ _ _ (args′ .board .frame) refl) in let t = rw
-    (numbers-of′ .ensures) at s in rw (c .give-back .ensures) (t .answers, t .gives)))
+    let s = load-steps _ _ _ (args′ .board .frame) _ _ (made-of′ .result) (made-of′ .ensures _ _ _ (args′ .board .frame) refl) _ _
+    (c .before .load-due .ensures) in let t = rw (numbers-of′ .ensures) at s in rw (c .give-back .ensures) (t .answers, t .gives)))

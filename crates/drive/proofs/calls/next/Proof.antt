@@ -1,4 +1,5 @@
 -- A next call.
+use Rattle.job.proofs.Advancing.{hands}
 use borrow.Author.Needs.{needs}
 use Rattle.drive.proofs.calls.next.Statement.{statement}
 use Rattle.drive.proofs.calls.next.Tie as tie
@@ -11,4 +12,5 @@ next-spec = tie.close (tie.spec
     (λ c.
     let numbers-of′ = c .before .before .before .before .numbers-of in
     let args′ = c .before .before .before .before .before .before .before .args in
-    let s = c .next-of .ensures (args′ .board .places) _ _ (c .before .in-hand .ensures) in rw (numbers-of′ .ensures) at s))
+    let u = args′ .board .unit in let f = args′ .board .frame in
+    let s = c .next-of .ensures (args′ .board .places) u f (hands (numbers-of′ .result) _ u f (c .before .in-hand .ensures)) in rw (numbers-of′ .ensures) at s))

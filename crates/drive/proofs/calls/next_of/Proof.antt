@@ -26,5 +26,5 @@ next-of-spec =
     (λ c.
     let phase′ = c .before .before .phase in
     let args′ = c .before .before .before .before .args in
-    λ p u f e. c .next-busy .ensures p u f (busy-hand (args′ .n) (args′ .n .phase) _ u f (phase′ .given .1) e)
+    λ p u f e. c .next-busy .ensures p u f (busy-hand (args′ .n) (args′ .n .phase) _ (args′ .byte) u f (phase′ .given .1) e)
     ∙ sym (ap (λ (x : Phase). nextIn (args′ .blocks) x (args′ .len) (assemble (args′ .n) p u f)) (phase′ .given .1))))

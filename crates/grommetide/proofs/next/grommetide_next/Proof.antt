@@ -2,6 +2,7 @@
 use mathlib.Core.Path.{ap, _∙_}
 use denote.Ref.{now}
 use borrow.Author.Tests.{eq-eqb, ne-eqb}
+use Rattle.job.proofs.Advancing.{hands}
 use Rattle.lent.specs.Layout.{recordIn}
 use Rattle.edge.specs.Edge.{tells, edgeNext}
 use borrow.Author.Needs.{needs}
@@ -21,6 +22,8 @@ grommetide-next-spec =
     (λ c.
     let if1′ = c .before .before .before .before .if1 in
     let args′ = c .before .before .before .before .before .before .args in
-    let r = recordIn (now (args′ .board)) in let e = rw (c .before .before .before .numbers .ensures) at
-    (c .before .next-of .ensures (r .places) (r .unit) (r .frame) (c .before .before .in-hand .ensures)) in rw (eq-eqb _ _ (if1′ .left))
+    let r = recordIn (now (args′ .board)) in
+    let numbers′ = c .before .before .before .numbers in
+    let h = hands (numbers′ .result) _ (r .unit) (r .frame) (c .before .before .in-hand .ensures) in
+    let e = rw (numbers′ .ensures) at (c .before .next-of .ensures (r .places) (r .unit) (r .frame) h) in rw (eq-eqb _ _ (if1′ .left))
     (c .tell .ensures ∙ ap tells e)))

@@ -32,4 +32,4 @@ try-step-spec =
     let phase′ = c .before .before .before .before .before .phase in
     let args′ = c .before .before .before .before .before .before .before .before .args in
     λ p u f e. in-phase (λ (x : Phase). stepIn (args′ .blocks) x (now (args′ .image)) (assemble (args′ .n) p u f)) _ _ (phase′ .given .1) _ _ _ _
-    (c .before .before .try-busy .ensures p u f (busy-hand (args′ .n) (args′ .n .phase) _ u f (phase′ .given .1) e))))
+    (c .before .before .try-busy .ensures p u f (busy-hand (args′ .n) (args′ .n .phase) _ (args′ .byte) u f (phase′ .given .1) e))))

@@ -9,11 +9,12 @@ use Rattle.journal.specs.Block.{blockState}
 use Rattle.survey.specs.Survey.{surveyOf, placesIn, stateOf}
 use Rattle.board.specs.declared.Record.{Record}
 use Rattle.job.specs.Code.{placed}
+use Rattle.queue.specs.Calls.{nothing}
 use Rattle.queue.proofs.Asking.{Passed, passed, state-is, shut}
 use Prim.Native.Nat.{_+_, _*_, _≤_}
 use lib.ListN.{length}
 use Rattle.board.specs.Record.{unmounted}
-use Rattle.queue.proofs.Handing.{Looked, none-read, not-served, read-none, read-inside, read-found-at}
+use Rattle.queue.proofs.Handing.{Looked, none-read, not-served, no-read, read-none, read-inside, read-found-at}
 use borrow.Author.Needs.{needs}
 use Rattle.queue.proofs.reads.find.Statement.{statement}
 use Rattle.queue.proofs.reads.find.Tie as tie
@@ -85,6 +86,7 @@ find-spec =
     let args′ = c7 .args in
     λ b. none-read (args′ .blocks) (now (args′ .image)) (placed (args′ .phase) (args′ .rest) b) _ _ _ _
     (shut (args′ .blocks) (now (args′ .image)) (placed (args′ .phase) (args′ .rest) b) _ _ _ _ (sym (check′ .ensures) ∙ c .before .before .why .given .1))
+    (shut (args′ .blocks) (now (args′ .image)) (placed (args′ .phase) (args′ .rest) b) _ _ _ _ (sym (check′ .ensures) ∙ c .before .before .why .given .1))
     (c .nothing .ensures))
     (λ c. search needs)
     (λ c κs. search needs)
@@ -98,23 +100,26 @@ find-spec =
     let c15 = c .before .before .before .before .before .before .before .before .before .before .before .before .before .before .before in
     let args′ = c15 .args in
     λ b. none-read (args′ .blocks) (now (args′ .image)) (placed (args′ .phase) (args′ .rest) b) _ _ _ _
-    (not-served (looked (c .before .before .before .before) b) _ _ (c .before .before .why2 .given .1)) (c .nothing2 .ensures))
+    (not-served (looked (c .before .before .before .before) b) _ _ (c .before .before .why2 .given .1))
+    (no-read (looked (c .before .before .before .before) b) _ (c .before .before .why2 .given .1)) (c .nothing2 .ensures))
     (λ c. search needs)
     (λ c κs. search needs)
     (λ c. search needs)
+    (λ c κs. search needs)
     (λ c κs. search needs)
     (λ c.
-    let c6 = c .before .before .before .before .before .before in
-    let c8 = c6 .before .before in
+    let c7 = c .before .before .before .before .before .before .before in
+    let c8 = c7 .before .before in
     let c9 = c8 .before in
     let c11 = c9 .before .before in
-    let value-for′ = c .before .before .before .value-for in
-    let ask′ = c6 .ask in
+    let value-for′ = c .before .before .before .before .value-for in
+    let ask′ = c7 .ask in
     let survey-block′ = c9 .survey-block in
     let block-of′ = c11 .block-of in
     λ b. read-none (looked c8 b) (ask′ .given .0 .0) (ask′ .given .1) _
     (survey-block′ .ensures .1 ∙ ap placesIn (surveyed c11)) (now (block-of′ .result)) (block-of′ .ensures)
-    (value-for′ .result) (value-for′ .ensures) (c .before .enum-told2 .given .1) _ (c .nothing3 .ensures))
+    (value-for′ .result) (value-for′ .ensures) (c .before .before .enum-told2 .given .1) _
+    (c .nothing3 .ensures ∙ ap nothing (c .before .none-for .ensures)))
     (λ c. search needs)
     (λ c. search needs)
     (λ c. let k = inside (c .before .before) in omega arith)

@@ -22,4 +22,4 @@ request-spec =
     let rest-of′ = c7 .rest-of in
     let args′ = c13 .args in
     by-value (c .kept-or .result) (requestOn (args′ .blocks) (now (args′ .image)) (args′ .board) (now (args′ .reply)) (args′ .host) (now (args′ .message)))
-    (c .kept-or .ensures) (rw (rest-of′ .ensures) at (c .before .before .before .request-core .ensures (args′ .board)))))
+    (c .kept-or .ensures) (rw (rest-of′ .ensures) at (c .before .before .before .request-core .ensures .asked (args′ .board)))))
