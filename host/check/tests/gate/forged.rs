@@ -3,7 +3,7 @@
 
 use check::forged;
 use check::rng::Rng;
-use check::twin::Twin;
+use check::twin::{Call, Twin};
 use library::{JOB, Library, RECORD_SIZE, Record};
 use store::{Answer, Head, Store, message};
 
@@ -175,5 +175,44 @@ fn a_job_under_another_image() {
             assert_eq!(library.request(real.image(), blocks, &mut record, 1, &put, &mut []), Answer::MORE);
             run_forged(&library, &mut rng.bytes(length), blocks, &mut record);
         }
+    }
+}
+
+/// The image with these bytes in block 0, the rest blank.
+fn starting(start: &[u8], length: usize) -> Vec<u8> {
+    let mut image = start.to_vec();
+    image.resize(length, 0xFF);
+    image
+}
+
+/// A format and an append read nothing: under any other image of their length, library, model and plain go on alike, with the
+/// bytes that are left. The record is then not the image's.
+#[test]
+fn jobs_that_read_nothing_go_on_under_another_image() {
+    let mut rng = Rng::new(8);
+    for blocks in 2..=16 {
+        let length = 256 * usize::from(blocks);
+        let erases = usize::from(blocks);
+        let mut twin = Twin::of_blocks(blocks, &vec![0xFF; length]);
+        assert_eq!(twin.call(&Call::Format).answer, Answer::MORE);
+        twin.swap_image(&rng.bytes(length));
+        assert_eq!(twin.finish(), (Answer::DONE, erases + 10));
+        assert_eq!(twin.image(), starting(b"\x10\0\x01\x4A\xFE\xFF\xFF\xFF\xFC", length));
+
+        assert_eq!(twin.call(&Call::Format).answer, Answer::MORE);
+        // the erases, byte 8, bytes 0 and 1
+        assert_eq!(twin.call(&Call::Run(erases + 3)).answer, Answer::MORE);
+        twin.swap_image(&vec![0xFF; length]);
+        assert_eq!(twin.finish(), (Answer::DONE, 7));
+        assert_eq!(twin.image(), starting(b"\xFF\xFF\x01\x4A\xFE\xFF\xFF\xFF\xFC", length));
+        assert_eq!(twin.ask(0, &message::log()), Answer::STALE);
+
+        let mut twin = Twin::formatted_of(blocks, length);
+        assert_eq!(twin.ask(2, &message::put(5, b"AB")), Answer::MORE);
+        assert_eq!(twin.call(&Call::Run(3)).answer, Answer::MORE);
+        twin.swap_image(&vec![0xFF; length]);
+        assert_eq!(twin.finish(), (Answer::DONE, 7));
+        assert_eq!(twin.image(), starting(&[&[0xFF; 19][..], b"\0\x02\x05\0AB\xFE"].concat(), length));
+        assert_eq!(twin.ask(2, &message::commit()), Answer::STALE);
     }
 }
