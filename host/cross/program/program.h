@@ -92,6 +92,7 @@ void copy_board(struct board *to, const struct board *from);
 void flash_step(struct board *board, uint8_t answer);
 uint8_t step_beside(void);
 uint8_t finish(uint8_t answer, uint32_t *steps);
+void goes_on(uint32_t steps);
 struct message message_of(uint8_t kind, uint32_t id, const uint8_t *value, uint32_t len);
 struct message put_of(uint8_t id, const char *text);
 struct message bare(uint8_t kind);
