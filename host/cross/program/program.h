@@ -112,8 +112,8 @@ uint32_t any(void);
 uint32_t below(uint32_t n);
 int one_in(uint32_t n);
 
-/* journal.c: flash in which each block is blank, torn, in progress, valid or foreign by a little. */
-void craft(const struct board *board);
+/* journal.c: flash with a journal in block `full`, and in others perhaps, foreign by a little or not; where its frames end. */
+uint32_t craft(const struct board *board, uint32_t full);
 
 /* The parts of the run. */
 void rows(void);
