@@ -76,6 +76,13 @@ uint8_t finish(uint8_t answer, uint32_t *steps)
     return answer;
 }
 
+/* So many steps, and more are left. */
+void goes_on(uint32_t steps)
+{
+    for (uint32_t i = 0; i < steps; i++)
+        must(call_step(&here) == GROMMETIDE_MORE);
+}
+
 struct message message_of(uint8_t kind, uint32_t id, const uint8_t *value, uint32_t len)
 {
     struct message message;

@@ -49,11 +49,11 @@ static void header(uint8_t *block)
         spoil(block, HEADER);
 }
 
-/* Settled frames with rising ids, then others, then a tail that is blank or torn. */
-static void journal(uint8_t *block, uint32_t size)
+/* Settled frames with rising ids, then others, as many as fit or fewer, then a tail that is blank or torn; where frames end. */
+static uint32_t journal(uint8_t *block, uint32_t size)
 {
     static uint8_t bytes[FRAME_MAX];
-    const uint32_t settled = below(5), frames = settled + below(8);
+    const uint32_t settled = below(5), frames = settled + (one_in(3) ? size : below(8));
     uint32_t at = HEADER;
     uint8_t id = (uint8_t)below(3);
     header(block);
@@ -63,20 +63,26 @@ static void journal(uint8_t *block, uint32_t size)
         id = (uint8_t)(id + !one_in(30) + (one_in(4) ? below(90) : 0));
         if (one_in(25))
             spoil(bytes, len);
+        if (len > size - at)
+            break;
         if (i == frames)
             len = one_in(2) ? 0 : below(len);
-        if (len > size - at)
-            return;
         copy(block + at, bytes, len);
-        at += len;
+        at += i == frames ? 0 : len;
     }
+    return at;
 }
 
-void craft(const struct board *board)
+uint32_t craft(const struct board *board, uint32_t full)
 {
-    const uint32_t size = board->len / board->blocks, full = below(board->blocks);
+    const uint32_t size = board->len / board->blocks, alone = one_in(2);
+    uint32_t end = 0;
     fill(board->image, 0xFF, board->len);
-    for (uint32_t block = 0; block < board->blocks; block++)
-        if (block == full || one_in(4))
+    for (uint32_t block = 0; block < board->blocks; block++) {
+        if (block == full)
+            end = journal(board->image + block * size, size);
+        else if (!alone && one_in(4))
             journal(board->image + block * size, size);
+    }
+    return end;
 }

@@ -92,6 +92,7 @@ void copy_board(struct board *to, const struct board *from);
 void flash_step(struct board *board, uint8_t answer);
 uint8_t step_beside(void);
 uint8_t finish(uint8_t answer, uint32_t *steps);
+void goes_on(uint32_t steps);
 struct message message_of(uint8_t kind, uint32_t id, const uint8_t *value, uint32_t len);
 struct message put_of(uint8_t id, const char *text);
 struct message bare(uint8_t kind);
@@ -111,8 +112,8 @@ uint32_t any(void);
 uint32_t below(uint32_t n);
 int one_in(uint32_t n);
 
-/* journal.c: flash in which each block is blank, torn, in progress, valid or foreign by a little. */
-void craft(const struct board *board);
+/* journal.c: flash with a journal in block `full`, and in others perhaps, foreign by a little or not; where its frames end. */
+uint32_t craft(const struct board *board, uint32_t full);
 
 /* The parts of the run. */
 void rows(void);

@@ -149,13 +149,24 @@ static void damage_block(uint8_t *block, uint32_t size)
     }
 }
 
+/* Journals that no store wrote, and an idle record that fits one of them. */
+static void by_hand(void)
+{
+    const uint32_t block = below(here.blocks), end = craft(&here, block), last = here.len - 1;
+    const uint8_t head[] = {1, (uint8_t)last, (uint8_t)(last >> 8), (uint8_t)block, (uint8_t)end, (uint8_t)(end >> 8), here.blocks};
+    fill(here.record, 0, GROMMETIDE_RECORD_BYTES);
+    copy(here.record, head, sizeof head);
+    event("journals written by hand");
+    for (uint32_t i = below(5); i != 0; i--)
+        one_in(3) ? any_read() : any_request();
+}
+
 static void damage(void)
 {
     const uint32_t size = here.len / here.blocks;
-    if (one_in(3)) {
-        craft(&here);
-        event("journals written by hand");
-    } else {
+    if (one_in(3))
+        by_hand();
+    else {
         damage_block(here.image + size * below(here.blocks), size);
         event("an image damaged");
     }
@@ -213,7 +224,7 @@ static void one(void)
         call_fault(&here);
     else if (which < 90)
         forge();
-    else if (which < 93)
+    else if (which < 94)
         damage();
     else if (which < 97)
         mislead();

@@ -73,12 +73,6 @@ static void rows_d_e(void)
     must(same(reply, page, 14) && reply[14] == 0xEE && reply[15] == 0xEE);
 }
 
-static void steps(uint32_t number)
-{
-    for (uint32_t i = 0; i < number; i++)
-        must(call_step(&here) == GROMMETIDE_MORE);
-}
-
 static void rows_f_g_h(void)
 {
     static const uint8_t f[] = {HEADER_2};
@@ -90,7 +84,7 @@ static void rows_f_g_h(void)
     log_says(2, 0, 16);
     after_b();
     must(ask(2, &commit_c) == GROMMETIDE_MORE);
-    steps(5);
+    goes_on(5);
     mounts(11);
     log_says(2, 0, 16);
     holds_none(5);
@@ -132,6 +126,15 @@ static void rows_i_j_k(void)
     must(ask(0, &empty) == GROMMETIDE_MORE);
 }
 
+/* The value that row i put: 64 bytes, each the id. */
+static void holds_64(uint8_t id)
+{
+    char text[65];
+    fill((uint8_t *)text, id, 64);
+    text[64] = 0;
+    holds(id, text);
+}
+
 static void before_l(void)
 {
     const struct message commit = bare(COMMIT), delete = message_of(DELETE, 1, NULL, 0);
@@ -158,12 +161,12 @@ static void rows_l_m(void)
     for (uint32_t cut = 151; cut <= 152; cut++) {
         before_l();
         must(ask(0, &empty) == GROMMETIDE_MORE);
-        steps(cut);
+        goes_on(cut);
         mounts(1);
         log_says(cut - 150, 2, 158);
         holds_none(1);
-        holds(2, "\2\2\2\2\2\2\2\2\2\2\2\2\2\2\2\2\2\2\2\2\2\2\2\2\2\2\2\2\2\2\2\2\2\2\2\2\2\2\2\2\2\2\2\2\2\2\2\2\2\2\2\2\2\2\2\2\2\2\2\2\2\2\2\2");
-        holds(3, "\3\3\3\3\3\3\3\3\3\3\3\3\3\3\3\3\3\3\3\3\3\3\3\3\3\3\3\3\3\3\3\3\3\3\3\3\3\3\3\3\3\3\3\3\3\3\3\3\3\3\3\3\3\3\3\3\3\3\3\3\3\3\3\3");
+        holds_64(2);
+        holds_64(3);
     }
 }
 

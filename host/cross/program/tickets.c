@@ -1,12 +1,6 @@
 /* The customer's tickets: examples/tickets 1 to 3, told there line by line. */
 #include "program.h"
 
-static void steps(uint32_t number)
-{
-    for (uint32_t i = 0; i < number; i++)
-        must(call_step(&here) == GROMMETIDE_MORE);
-}
-
 static void put(uint8_t host, uint8_t id, const char *text, uint32_t steps)
 {
     const struct message message = put_of(id, text);
@@ -23,7 +17,7 @@ static void begin_commit(uint8_t host, uint32_t made)
 {
     const struct message message = bare(COMMIT);
     must(ask(host, &message) == GROMMETIDE_MORE);
-    steps(made);
+    goes_on(made);
 }
 
 /* A refused request changes nothing: record, image and reply are as they were. */
@@ -49,7 +43,7 @@ static void bad_log_length(void)
     is_idle(0, 26);
     begin_commit(0, 3);
     refused(2, &six, 5);
-    steps(2);
+    goes_on(2);
     must(call_step(&here) == GROMMETIDE_DONE);
     put(1, 6, "CD", 10);
     commit(1, 6);
@@ -96,7 +90,7 @@ static void power_cuts(void)
     begin_commit(3, 3);
     lose_record(&here);
     must(call_mount(&here) == GROMMETIDE_MORE);
-    steps(20);
+    goes_on(20);
     mounts(40);
     limits_are("low 35", "high 100");
     commit(3, 0);
@@ -123,7 +117,7 @@ static void cut_transfer(uint8_t at, uint8_t bits, uint32_t len)
     put(1, 1, "low 35", 14);
     lose_record(&here);
     must(call_mount(&here) == GROMMETIDE_MORE);
-    steps(36);
+    goes_on(36);
     cut_erase(mask, len);
 }
 
@@ -149,7 +143,7 @@ static void lost_in_erase(void)
     put(1, 1, "low 35", 14);
     lose_record(&here);
     must(call_mount(&here) == GROMMETIDE_MORE);
-    steps(20);
+    goes_on(20);
     lose_record(&here);
     must(call_mount(&here) == GROMMETIDE_MORE);
     cut_erase(&odd_bits, 1);
@@ -167,7 +161,7 @@ static void cut_format(void)
     holds(1, "low 35");
     is_idle(0, 62);
     must(call_format(&here) == GROMMETIDE_MORE);
-    steps(1);
+    goes_on(1);
     mounts(0);
     holds(1, "low 35");
     holds(2, "high 80");

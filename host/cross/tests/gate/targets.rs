@@ -4,8 +4,9 @@ use cross::ROUNDS;
 use cross::compare::{Built, calls, compare, own, reference};
 use cross::object::contents;
 use cross::target::{AARCH64, CORTEX_M0, CORTEX_M3, CORTEX_M4, OTHERS, RISCV32, RISCV64, Target, WASM32, X86_64};
-use cross::tools::archives;
-use std::collections::BTreeMap;
+use cross::tools::{archives, repository};
+use std::collections::{BTreeMap, BTreeSet};
+use std::fs;
 use std::sync::{Mutex, OnceLock};
 
 /// The calls at random that are due on each target.
@@ -94,4 +95,13 @@ fn what_each_archive_needs() {
         assert_eq!(held.written, 0, "{}", target.name);
         println!("{}: {} bytes of code, {} of constants", target.name, held.code, held.constants);
     }
+}
+
+/// `make tested` makes these targets and no others.
+#[test]
+fn the_targets_are_those_of_make() {
+    let makefile = fs::read_to_string(repository("Makefile")).expect("the Makefile");
+    let tested = makefile.lines().find_map(|line| line.strip_prefix("TESTED = ")).expect("a list");
+    let own: BTreeSet<_> = OTHERS.iter().filter_map(|target| target.triple).collect();
+    assert_eq!(tested.split_whitespace().collect::<BTreeSet<_>>(), own);
 }
