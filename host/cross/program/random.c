@@ -112,9 +112,27 @@ static void any_read(void)
     call_read(&here, (uint8_t)(one_in(30) ? any() : below(4)), &message);
 }
 
+/* A format, a mount that may move the store, or a put, and some of its steps. */
+static void into_job(void)
+{
+    const struct message put = put_of((uint8_t)below(6), "in the middle of a frame");
+    uint8_t answer;
+    if (one_in(4))
+        answer = call_format(&here);
+    else if (one_in(2)) {
+        lose_record(&here);
+        answer = call_mount(&here);
+    } else
+        answer = call_request(&here, (uint8_t)below(4), &put, 14);
+    if (answer == GROMMETIDE_MORE)
+        call_run(&here, below(50));
+}
+
 /* Some bytes of the record become others, mostly those of the phase, the head and the job. */
 static void forge(void)
 {
+    if (!one_in(3))
+        into_job();
     for (uint32_t i = 1 + below(4); i != 0; i--) {
         const uint32_t at = one_in(3) ? below(GROMMETIDE_RECORD_BYTES) : one_in(2) ? below(7) : 519 + below(42);
         here.record[at] = (uint8_t)(one_in(2) ? below(9) : any());
