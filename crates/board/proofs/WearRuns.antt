@@ -36,9 +36,9 @@ use Rattle.board.proofs.Refusals.{at-most-one-step}
 use Rattle.board.proofs.Demand2.{Steady, steady-idle, request-kept, step-done, begun-kept}
 use Rattle.board.proofs.Claiming.{format-done}
 use Rattle.board.proofs.Answering.{number-done, told-answer, in-job}
-use Rattle.board.proofs.Determining.{Alike, resting, working, Agree, Asked, request-asks, mount-takes, while-busy, busy-refuses, call-agrees}
+use Rattle.board.proofs.Determining.{Alike, resting, working, Agree, Asked, request-asks, mount-takes, while-busy, busy-refuses, call-agrees, job-idle}
 use Rattle.board.proofs.TablingMounts.{Mountable}
-use Rattle.board.proofs.Following.{job-idle, formatted-over}
+use Rattle.board.proofs.Following.{formatted-over}
 use Rattle.board.proofs.Promising.{calls}
 use Rattle.board.proofs.Wear.{Level, level-even, Leads, Here, Begin, job-leads}
 
@@ -123,7 +123,7 @@ module _ {N : ℕ} {m : Machine} (p : Calls N m) (img : List ℕ) (by : Bytes im
 
       go : Alike N m (exec N) (o .image) (o .board) (exec N img q c .board) → Rests (exec N img q c .board .phase) × (o .board ≡ exec N img q c .board)
       go (resting k e) = (k, e)
-      go (working x ys z i l f g) = absurd (busy (f .0) (o .answer) refl)
+      go (working x ys z i f g) = absurd (busy (f .0) (o .answer) refl)
 
   rest-leaves : {s : ℕ} (xs : List Step) (c : Call) (after : List Step) → Begin c → ByteCall c → Sized N s img → Here N s img xs
       → Steady N s img (exec N img q c .board) → LeavesToDo N m img q [] c after → Going N s m img (m img q c .board) (exec N img q c .board) xs after
@@ -317,7 +317,7 @@ module _ {N : ℕ} {m : Machine} (p : Calls N m) (s : ℕ) where
 
 at-rest : {N : ℕ} {m : Machine} {img : List ℕ} {r q : Record} → q .phase ≡ Idle → Alike N m (exec N) img r q → r ≡ q
 at-rest i (resting h e) = e
-at-rest {q = q} i (working x xs z j l f g) = absurd (rests-not (q .phase) (subst Rests (sym i) tt) (g .0))
+at-rest {q = q} i (working x xs z j f g) = absurd (rests-not (q .phase) (subst Rests (sym i) tt) (g .0))
 
 pub even-wear : EvenWear
 unfolding EvenWear erasesOf
