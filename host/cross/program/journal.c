@@ -49,26 +49,41 @@ static void header(uint8_t *block)
         spoil(block, HEADER);
 }
 
+/* A journal's plan: how many settled frames stand first, how many frames in all, which of them is spoiled, if one is. */
+struct plan {
+    uint32_t settled, frames, bad;
+    uint8_t kinds; /* puts and deletes, or commits and aborts too */
+};
+
+static struct plan any_plan(uint32_t size)
+{
+    struct plan plan;
+    plan.settled = below(5);
+    plan.frames = plan.settled + (one_in(3) ? size : below(8));
+    plan.bad = one_in(3) ? below(12) : size;
+    plan.kinds = (uint8_t)(one_in(3) ? 2 : one_in(10) ? 6 : 4);
+    return plan;
+}
+
 /* Settled frames with rising ids, then others, as many as fit or fewer, then a tail that is blank or torn; where frames end. */
 static uint32_t journal(uint8_t *block, uint32_t size)
 {
     static uint8_t bytes[FRAME_MAX];
-    const uint32_t settled = below(5), frames = settled + (one_in(3) ? size : below(8));
+    const struct plan plan = any_plan(size);
     uint32_t at = HEADER;
     uint8_t id = (uint8_t)below(3);
     header(block);
-    for (uint32_t i = 0; i <= frames; i++) {
-        const int first = i < settled && !one_in(40);
-        uint32_t len = frame(bytes, first ? SETTLED : (uint8_t)(1 + below(one_in(30) ? 6 : 4)), id);
-        id = (uint8_t)(id + !one_in(30) + (one_in(4) ? below(90) : 0));
-        if (one_in(25))
+    for (uint32_t i = 0; i <= plan.frames; i++) {
+        uint32_t len = frame(bytes, i < plan.settled ? SETTLED : (uint8_t)(1 + below(plan.kinds)), id);
+        id = (uint8_t)(id + !one_in(60) + (one_in(4) ? below(90) : 0));
+        if (i == plan.bad)
             spoil(bytes, len);
         if (len > size - at)
             break;
-        if (i == frames)
+        if (i == plan.frames)
             len = one_in(2) ? 0 : below(len);
         copy(block + at, bytes, len);
-        at += i == frames ? 0 : len;
+        at += i == plan.frames ? 0 : len;
     }
     return at;
 }

@@ -198,10 +198,12 @@ static void damage(void)
 static void mislead(void)
 {
     const struct board right = here;
+    if (one_in(4))
+        into_job();
     switch (below(3)) {
     case 0:
-        here.blocks = (uint8_t)(one_in(2) ? any() : below(18));
-        if (one_in(3)) /* and a record that is forged to say the same */
+        here.blocks = (uint8_t)(one_in(2) ? any() : 16 * below(2) + below(2));
+        if (one_in(2)) /* and a record that is forged to say the same */
             here.record[6] = here.blocks;
         break;
     case 1:
