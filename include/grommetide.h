@@ -105,12 +105,21 @@
  *
  * What it needs
  *
- *   No heap, no input or output, no static data that is written to; of the C library only memcpy and memset.
+ *   No heap, no input or output, no static data that is written to, no floating-point numbers. These symbols stay undefined,
+ *   and no others (held by a test); a C library or the compiler's own runtime has them, examples/ast1030/runtime.c those of
+ *   a Cortex-M:
  *
- *   It is compiled for x86-64 under the System V ABI. It moves data through the SSE registers (xmm, SSE2), so whoever
- *   switches tasks or takes interrupts must save them; it computes with no floating-point numbers, uses neither AVX nor
- *   x87 and leaves MXCSR alone. As the ABI says, the stack must be aligned to 16 bytes at a call, and whoever interrupts
- *   must leave the red zone alone, 128 bytes below the stack pointer.
+ *     x86-64, AArch64, RISC-V 64   memcpy, memset
+ *     RISC-V 32                    memcpy, memset, __udivdi3
+ *     Cortex-M3, Cortex-M4         __aeabi_memcpy, __aeabi_memcpy4, __aeabi_memcpy8, __aeabi_memset, __aeabi_memclr,
+ *                                  __aeabi_memclr4, __aeabi_memclr8, __aeabi_uldivmod
+ *     Cortex-M0                    these and __aeabi_uidiv, __aeabi_lmul
+ *     WebAssembly                  none
+ *
+ *   For x86-64 it is compiled under the System V ABI. It moves data through the SSE registers (xmm, SSE2), so whoever
+ *   switches tasks or takes interrupts must save them; it uses neither AVX nor x87 and leaves MXCSR alone. As the ABI says,
+ *   the stack must be aligned to 16 bytes at a call, and whoever interrupts must leave the red zone alone, 128 bytes below
+ *   the stack pointer. On AArch64 it moves data through the vector registers too, unless TARGET_FLAGS=-mgeneral-regs-only.
  *
  *   Bytes of stack that a call takes at most, its arguments and return address included (held by tests that paint the
  *   stack):
