@@ -34,9 +34,38 @@ use Rattle.board.specs.Step.{enterWipe}
 use Rattle.board.specs.Queue.{Held, held, needsRoom, appendJob, append, serveChange, serveEnd, serve, requestOn}
 use Rattle.board.proofs.Outcomes as outcome
 use Rattle.lent.proofs.Inverse.{Sized}
-use Rattle.queue.specs.Calls.{AsksRead}
-use Rattle.edge.specs.Edge.{isRead}
+use Rattle.edge.specs.Edge.{isRead, asRead}
 use Rattle.edge.proofs.Arrays.{Short, buffer-sized, Plain, Leaves, begun}
+
+-- ---- a read's message asks for nothing else
+
+-- a read, or a message that is no request
+abbrev pub AsksRead : Parsed → Type 0
+AsksRead Malformed = Unit {0}
+AsksRead (Is (Put i)) = ⊥
+AsksRead (Is (Delete i)) = ⊥
+AsksRead (Is Commit) = ⊥
+AsksRead (Is Abort) = ⊥
+AsksRead (Is (Read i)) = Unit {0}
+AsksRead (Is (Log p)) = ⊥
+
+pub reads-only : (m : List ℕ) → AsksRead (parse (asRead m))
+unfolding parse
+reads-only m = by (parse m) refl
+  where
+    none : isRead (parse m) ≡ false → AsksRead (parse (asRead m))
+    none e = rw e tt
+
+    by : (p : Parsed) → parse m ≡ p → AsksRead (parse (asRead m))
+    by Malformed e = none (ap isRead e)
+    by (Is (Put i)) e = none (ap isRead e)
+    by (Is (Delete i)) e = none (ap isRead e)
+    by (Is Commit) e = none (ap isRead e)
+    by (Is Abort) e = none (ap isRead e)
+    by (Is (Read i)) e = let t : isRead (parse m) ≡ true = ap isRead e in rw (t, e) tt
+    by (Is (Log p)) e = none (ap isRead e)
+
+-- ---- what is served
 
 -- every frame has bytes
 some-bytes : (f : Frame) → ltb 0 (frameLen f) ≡ true

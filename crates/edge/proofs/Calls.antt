@@ -50,8 +50,7 @@ use Rattle.edge.specs.Calls.{edgeCall, stretchIn, plainStretch, edgeStre
 use Rattle.edge.specs.Calls.{Happening, does, loses, cuts, Resumes, eventsOf, edgeTrace, TraceExact, TracePromised}
 use Rattle.edge.proofs.Kept.{Keeps, step-keeps}
 use Rattle.edge.proofs.Arrays.{Plain, step-sized, mount-sized, format-sized}
-use Rattle.edge.proofs.Asked.{serves}
-use Rattle.edge.proofs.Begun.{asks-read}
+use Rattle.edge.proofs.Asked.{reads-only, serves}
 use Rattle.edge.proofs.Driving.{edge-next-then-made}
 
 -- ---- numbers read back
@@ -284,7 +283,7 @@ module _ (N : ℕ) (img b : List ℕ) (l : length b ≡ recordSize) where
   meets-read h m at size =
       let g : Host = record { 0 = h } in
       let s = serves N img r [] g (asRead m) (own-sized b) in
-      let k = s .read (asks-read m) in
+      let k = s .read (reads-only m) in
       let o = requestOn N img r [] g (asRead m) in
       let e = is-read h m at size in
       let i : o .image ≡ img = at-most-one-step N img r (request g (asRead m) []) in
