@@ -2,7 +2,7 @@
 use mathlib.Core.Path.{_≡_, refl, sym, ap, subst, _∙_}
 use mathlib.Core.List.{List, []}
 use mathlib.Core.Logic.{_⊎_, inl, inr}
-use mathlib.Core.Bool.{Bool, true}
+use mathlib.Core.Bool.{Bool}
 use Prim.Native.Nat.{ℕ, _+_, _*_, _≤_}
 use native.Mathlib.Omega.{arith}
 use lib.ListN.{length, replicate}
@@ -28,7 +28,7 @@ use Rattle.board.specs.Table.{InJob as JobPhase}
 use Rattle.board.specs.Exec.{exec}
 use Rattle.board.specs.Claim.{trackStep, Never, CutsErase}
 use Rattle.board.proofs.Images.{Sized, size-of, sized-as, sized-block}
-use Rattle.board.proofs.Invariant.{Valid, Safe, no-valid, some-valid, CutSafe, GuardIn, Ready, IdleBook, InJob, InPhase, Inv}
+use Rattle.board.proofs.Invariant.{Valid, Safe, some-valid, CutSafe, GuardIn, Ready, IdleBook, InJob, InPhase, Inv}
 use Rattle.board.proofs.Current.{block-long, blank-lessers}
 use Rattle.board.proofs.Outcomes.{step-resting}
 use Rattle.board.proofs.Jobs.{Stepped, job-step}
@@ -91,10 +91,6 @@ pub safe-of : {N : ℕ} {s : ℕ} {img : List ℕ} {r : Record} {b : Book} {u : 
 safe-of {N} {s} {img} {r} {b} {u} v =
     on-phase v (λ e f n. f) (λ e y. safe-idle (v .sized) y)
     (λ g j. subst (λ (i : List ℕ). Safe N s i (b .objects) u) (sym (j .now)) (j .each (j .count) (j .begun) .0))
-
-pub safe-true : {N : ℕ} {s : ℕ} {img : List ℕ} {os : List Object} {u : Bool} → Safe N s img os u → Safe N s img os true
-safe-true (no-valid e q) = no-valid refl q
-safe-true (some-valid k h v q) = some-valid k h v q
 
 -- ---- a step call
 

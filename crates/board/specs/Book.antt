@@ -80,6 +80,7 @@ enterStep b More = b
 enterStep b (Refused n) = b
 
 -- "Mount or format, refused or not: every list is emptied and nothing is under way. A format that isn't refused is then under way."
+-- In a run no format is refused (`Claim`); the book is said for any answer, because it judges any machine
 abbrev pub enterFormat : Book → Answer → Book
 enterFormat b Done = book (b .objects) noLists formatting
 enterFormat b More = book (b .objects) noLists formatting

@@ -7,7 +7,7 @@ use native.Mathlib.Omega.{arith}
 use lib.Dec.{eqb}
 use lib.ListN.{length, getD, take, drop, set, replicate}
 use borrow.Author.Tests.{eqb-true, eq-eqb, ne-eqb}
-use Rattle.flash.specs.Bytes.{Bytes, u16le, u32le, le16, le32, allFF, sameBytes}
+use Rattle.flash.specs.Bytes.{Bytes, u32le, le16, le32, allFF, sameBytes}
 use Rattle.flash.proofs.Cases.{on-test}
 
 -- ---- blank
@@ -66,10 +66,6 @@ pub bytes-append : (a b : List ℕ) → Bytes a → Bytes b → Bytes (a ++ b)
 bytes-append [] b h k = k
 bytes-append (x ∷ a) b (p, h) k = (p, bytes-append a b h k)
 
-pub bytes-left : (a b : List ℕ) → Bytes (a ++ b) → Bytes a
-bytes-left [] b h = tt
-bytes-left (x ∷ a) b (p, h) = (p, bytes-left a b h)
-
 pub bytes-right : (a b : List ℕ) → Bytes (a ++ b) → Bytes b
 bytes-right [] b h = h
 bytes-right (x ∷ a) b (p, h) = bytes-right a b h
@@ -98,9 +94,6 @@ byte-at [] i h = omega arith
 byte-at (b ∷ l) zero (h, r) = h
 byte-at (b ∷ l) (suc i) (h, r) = byte-at l i r
 
-pub bytes-u16 : (x : ℕ) → x < 65536 → Bytes (u16le x)
-bytes-u16 x h = (omega arith, (omega arith, tt))
-
 pub bytes-u32 : (x : ℕ) → x < 4294967296 → Bytes (u32le x)
 bytes-u32 x h = (omega arith, (omega arith, (omega arith, (omega arith, tt))))
 
@@ -110,9 +103,6 @@ le16-u16 x = omega arith
 
 pub le32-u32 : (x : ℕ) → le32 (x % 256) (x / 256 % 256) (x / 65536 % 256) (x / 16777216) ≡ x
 le32-u32 x = omega arith
-
-pub le16-small : (a b : ℕ) → a < 256 → b < 256 → le16 a b < 65536
-le16-small a b h k = omega arith
 
 pub le32-small : (a b c d : ℕ) → a < 256 → b < 256 → c < 256 → d < 256 → le32 a b c d < 4294967296
 le32-small a b c d h k l m = omega arith

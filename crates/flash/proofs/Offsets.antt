@@ -1,14 +1,12 @@
 -- Lists of writes by the offsets that they go to, and what lands on a blank area.
-use mathlib.Core.Path.{_≡_, refl, sym, ap, _∙_}
+use mathlib.Core.Path.{_≡_, refl, sym, _∙_}
 use mathlib.Core.List.{List, [], _∷_, _++_}
 use Prim.Native.Nat.{ℕ, zero, suc, _+_, _≤_, _<_}
 use native.Mathlib.Omega.{arith}
 use lib.ListN.{length, getD, take, replicate, getD-replicate}
-use lib.Seq.{take-suc}
 use Rattle.flash.specs.Bytes.{Bytes}
-use Rattle.flash.specs.Flash.{block, programAt, apply, Write, writeStep, writes, writeAll}
-use Rattle.flash.proofs.Programming.{write-append}
-use Rattle.flash.proofs.Image.{block-program, program-other}
+use Rattle.flash.specs.Flash.{programAt, Write, writes, writeAll}
+use Rattle.flash.proofs.Image.{program-other}
 
 -- each write goes below s
 abbrev pub Below : ℕ → List Write → Type 0
@@ -117,16 +115,3 @@ pub fresh-ff : (s : ℕ) (ws : List Write) (q : ℕ) (d : Write) → Fresh ws �
     → getD (writeAll (replicate s 255) (take q ws)) (getD ws q d .at) 0 ≡ 255
 fresh-ff s ws q d f b h =
     untouched (getD ws q d .at) (replicate s 255) (take q ws) (fresh-at ws q d f h) ∙ getD-replicate s (getD ws q d .at) 255 0 (below-at s ws q d b h)
-
--- one write more
-pub write-suc : (l : List ℕ) (ws : List Write) (q : ℕ) (d : Write) → q < length ws
-    → writeAll l (take (suc q) ws) ≡ programAt (writeAll l (take q ws)) (getD ws q d .at) (getD ws q d .byte)
-unfolding writeAll
-write-suc l ws q d h = ap (writeAll l) (take-suc ws q d h) ∙ write-append l (take q ws) (getD ws q d ∷ [])
-
--- the same in block j of an image
-pub block-write : (s j : ℕ) (img l : List ℕ) (ws : List Write) (q : ℕ) (d : Write) → q < length ws → getD ws q d .at < s
-    → block s j img ≡ writeAll l (take q ws) → block s j (apply s (writeStep j (getD ws q d)) img) ≡ writeAll l (take (suc q) ws)
-block-write s j img l ws q d h b e =
-    let w : Write = getD ws q d in
-    block-program s j (w .at) (w .byte) img b ∙ ap (λ (x : List ℕ). programAt x (w .at) (w .byte)) e ∙ sym (write-suc l ws q d h)

@@ -7,13 +7,13 @@ use native.Mathlib.Omega.{arith}
 use lib.Bits.{bitAnd}
 use lib.Dec.{ltb}
 use lib.ListN.{length, getD, take, replicate, length-append, length-replicate, getD-replicate, replicate-append-replicate, List·getD-append}
-use lib.Seq.{take-append-le, getD-at, getD-append-add}
+use lib.Seq.{take-append-le, getD-at}
 use borrow.Author.Tests.{ltb-true, ltb-false}
 use Rattle.flash.specs.Bytes.{Bytes, u16le, u32le}
 use Rattle.flash.specs.Flash.{programAt, Write, write, writes, writeAll}
 use Rattle.flash.proofs.Cases.{on-test}
 use Rattle.flash.proofs.Blank.{bytes-u32}
-use Rattle.flash.proofs.Programming.{and-ff, write-bytes, write-append, length-write, length-writes, writes-at}
+use Rattle.flash.proofs.Programming.{and-ff, write-bytes, write-append, length-write, length-writes}
 use Rattle.flash.proofs.Image.{program-same}
 use Rattle.flash.proofs.Offsets.{Below, off-below, below-append, below-writes, Given, given-append, given-writes, given-at, Off, off-append}
 use Rattle.flash.proofs.Offsets.{off-take, off-writes, untouched, Fresh, fresh-writes, fresh-stretch, fresh-ff}
@@ -22,7 +22,7 @@ use Rattle.frame.specs.Reader.{clean}
 use Rattle.frame.proofs.Encode.{bytes-all, length-all}
 use Rattle.frame.proofs.Scanning.{scan-blank}
 use Rattle.journal.specs.Block.{headerLen, headerKind, lastTime, stateAt, inTransfer, validData, header, inProgress, valid}
-use Rattle.journal.specs.Block.{blockState, openWrites, sealWrites, openWrite, sealWrite, markWrites, build}
+use Rattle.journal.specs.Block.{blockState, sealWrites, build}
 use Rattle.journal.proofs.Blocks.{Layout, valid-block, progress-block}
 
 -- ---- the writes
@@ -224,31 +224,3 @@ lands s t q fs d h g l =
         (record { before = inr (refl, was); after = program-same x stateAt validData ∙ ap (λ (n : ℕ). bitAnd n validData) was })
 
 -- ---- each by its number
-
-any-default : {A : Type 0} (l : List A) (i : ℕ) (d e : A) → i < length l → getD l i d ≡ getD l i e
-any-default [] i d e h = absurd (omega arith)
-any-default (x ∷ l) zero d e h = refl
-any-default (x ∷ l) (suc i) d e h = any-default l i d e (omega arith)
-
-pub build-open : (t i : ℕ) (fs : List Frame) (d : Write) → i < markWrites → getD (build t fs) i d ≡ openWrite i
-unfolding writes
-build-open t i fs d h =
-    List·getD-append openWrites (writes headerLen (encodeAll fs) ++ sealWrites t) d i h
-    ∙ any-default openWrites i d (write stateAt inTransfer) h
-
-pub build-frame : (t i : ℕ) (fs : List Frame) (d : Write) → i < total fs
-    → getD (build t fs) (markWrites + i) d ≡ write (headerLen + i) (getD (encodeAll fs) i 0)
-unfolding writes
-build-frame t i fs d h =
-    getD-append-add openWrites (writes headerLen (encodeAll fs) ++ sealWrites t) i d
-    ∙ List·getD-append (writes headerLen (encodeAll fs)) (sealWrites t) d i (omega (arith, length-writes headerLen (encodeAll fs), length-all fs))
-    ∙ writes-at headerLen (encodeAll fs) i d (omega (arith, length-all fs))
-
-pub build-seal : (t i : ℕ) (fs : List Frame) (d : Write) → i < markWrites → getD (build t fs) (markWrites + (total fs + i)) d ≡ sealWrite t i
-unfolding writes
-build-seal t i fs d h =
-    let e : total fs + i ≡ length (writes headerLen (encodeAll fs)) + i = omega (arith, length-writes headerLen (encodeAll fs), length-all fs) in
-    getD-append-add openWrites (writes headerLen (encodeAll fs) ++ sealWrites t) (total fs + i) d
-    ∙ ap (λ (n : ℕ). getD (writes headerLen (encodeAll fs) ++ sealWrites t) n d) e
-    ∙ getD-append-add (writes headerLen (encodeAll fs)) (sealWrites t) i d
-    ∙ any-default (sealWrites t) i d (write stateAt validData) h

@@ -4,11 +4,10 @@ use mathlib.Core.List.{List, [], _∷_, _++_, append-assoc}
 use mathlib.Core.Option.{Option, none, some, Option·map}
 use Prim.Native.Nat.{ℕ, zero, suc, _+_, _≤_, _<_}
 use native.Mathlib.Omega.{arith}
-use lib.Dec.{eqb, leb}
-use lib.ListN.{length, getD, take, drop, length-append, List·getD-eq-default}
+use lib.Dec.{eqb}
+use lib.ListN.{length, getD, take, drop, length-append}
 use lib.Seq.{drop-append-add, take-at, drop-at}
-use borrow.Author.Tests.{eq-eqb, ne-eqb, leb-true, leb-false}
-use Rattle.flash.proofs.Cases.{on-test}
+use borrow.Author.Tests.{eq-eqb, ne-eqb}
 use Rattle.frame.specs.declared.ObjectId.{ObjectId}
 use Rattle.frame.specs.Frame.{idMax, idOf, put, delete, FrameOf, Frame, change, commit, abort, settled, mapFrame, encode, encodeAll}
 use Rattle.frame.specs.Frame.{frameLen, MayStand, AllMayStand, nextAfter}
@@ -203,15 +202,3 @@ place-value b fs i j h = go (lookup i (replay fs .objects)) refl
     go : (x : Option (List ℕ)) → lookup i (replay fs .objects) ≡ x → bytesOf (valueAt b i (getD (placesOf fs) (i .0) 0)) ≡ lookup i (replay fs .objects)
     go none q = ap (λ (p : ℕ). bytesOf (valueAt b i p)) (no-place fs i h q) ∙ ap bytesOf (value-zero b i) ∙ sym q
     go (some v) q = ap bytesOf (place-law b fs i v j h q .found) ∙ sym q
-
-pub place-inside : (b : List ℕ) (fs : List Frame) (k : ℕ) → Journal b fs → getD (placesOf fs) k 0 < length b
-place-inside b fs k j =
-    on-test (leb k 255) (λ t. inside (leb-true k 255 t) (lookup (idOf k) (replay fs .objects)) refl)
-    (λ t. rw (List·getD-eq-default (placesOf fs) 0 {n = k} (omega (arith, length-places fs, leb-false k 255 t))) some-bytes)
-  where
-    some-bytes : 0 < length b
-    some-bytes = subst (λ (x : List ℕ). 0 < length x) (sym (j .split)) (simp length-append (omega (arith, j .long)))
-
-    inside : k ≤ 255 → (x : Option (List ℕ)) → lookup (idOf k) (replay fs .objects) ≡ x → getD (placesOf fs) k 0 < length b
-    inside h none q = rw (no-place fs (idOf k) h q) some-bytes
-    inside h (some v) q = place-law b fs (idOf k) v j h q .inside

@@ -1,7 +1,7 @@
 -- Room: what each frame does to the room that a state takes, and how many hosts have something pending.
 use mathlib.Core.Path.{_≡_, refl, sym, ap, _∙_}
 use mathlib.Core.List.{List, [], _∷_, _++_, map}
-use mathlib.Core.Bool.{Bool, true, false}
+use mathlib.Core.Bool.{true, false}
 use Prim.Native.Nat.{ℕ, zero, suc, _+_, _≤_}
 use native.Mathlib.Omega.{arith}
 use lib.Dec.{eqb}
@@ -17,7 +17,7 @@ use Rattle.journal.specs.Replay.{Object, object, Entry, entry, State, st
 use Rattle.journal.specs.Replay.{isOpen, nextState, replayFrom, replay, settledFrame, pendingFrame, framesOf, settledOnly}
 use Rattle.journal.specs.Room.{used, claimed, one, openHosts}
 use Rattle.journal.proofs.Lookups.{insert-lt, insert-eq, insert-gt}
-use Rattle.journal.proofs.Lists.{open-own, open-other, open-snoc, open-snoc-other}
+use Rattle.journal.proofs.Lists.{open-own, open-other}
 
 -- what a change adds to the settled frames at most: a put's frame, and for a delete nothing
 abbrev pub putPart : Change → ℕ
@@ -158,18 +158,6 @@ kept-none s e = let q : putsOf (s .pending) ≡ 0 = ap putsOf e in omega arith
 
 -- ---- how many hosts have something pending
 
-pub one-le : (a b : Bool) → (a ≡ true → b ≡ true) → one a ≤ one b
-one-le true b h = let e : b ≡ true = h refl in rw e (omega arith)
-one-le false b h = omega arith
-
-one-most : (a : Bool) → one a ≤ 1
-one-most true = omega arith
-one-most false = omega arith
-
-pub open-most : (es : List Entry) → openHosts es ≤ 4
-open-most es =
-    omega (arith, one-most (isOpen (hostOf 0) es), one-most (isOpen (hostOf 1) es), one-most (isOpen (hostOf 2) es), one-most (isOpen (hostOf 3) es))
-
 fewer : (es ds : List Entry) → ((h : Host) → one (isOpen h es) ≤ one (isOpen h ds)) → openHosts es ≤ openHosts ds
 fewer es ds k = omega (arith, k (hostOf 0), k (hostOf 1), k (hostOf 2), k (hostOf 3))
 
@@ -183,18 +171,8 @@ one-without g h es =
     (λ t. let e : isOpen g (without h es) ≡ false = ap (λ (x : Host). isOpen x (without h es)) (sym (host-is h g t)) ∙ open-own h es in rw e (omega arith))
     (λ t. rw (open-other g h es (eqb-false (h .0) (g .0) t)) (omega arith))
 
-one-snoc : (g h : Host) (es : List Entry) (c : Change) → one (isOpen g es) ≤ one (isOpen g (es ++ (entry h c ∷ [])))
-one-snoc g h es c =
-    on-test (eqb (h .0) (g .0))
-    (λ t. one-le (isOpen g es) (isOpen g (es ++ (entry h c ∷ [])))
-    (λ q. ap (λ (x : Host). isOpen x (es ++ (entry h c ∷ []))) (sym (host-is h g t)) ∙ open-snoc h es c))
-    (λ t. rw (open-snoc-other g h es c (eqb-false (h .0) (g .0) t)) (omega arith))
-
 pub fewer-without : (h : Host) (es : List Entry) → openHosts (without h es) ≤ openHosts es
 fewer-without h es = fewer (without h es) es (λ g. one-without g h es)
-
-pub more-snoc : (h : Host) (es : List Entry) (c : Change) → openHosts es ≤ openHosts (es ++ (entry h c ∷ []))
-more-snoc h es c = fewer es (es ++ (entry h c ∷ [])) (λ g. one-snoc g h es c)
 
 -- a host with something pending is one of them, and its commit or abort leaves one fewer
 pub less-without : (h : Host) (es : List Entry) → h .0 ≤ hostMax → isOpen h es ≡ true → openHosts (without h es) + 1 ≤ openHosts es

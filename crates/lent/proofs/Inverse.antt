@@ -206,15 +206,6 @@ sized r h =
       frame = h .frame .0;
     }
 
-pub bytes-of-bytes : (r : Record) → RecordFits r → Bytes (recordBytes r)
-unfolding recordBytes
-bytes-of-bytes r h =
-    bytes-append (headBytes r) (W r ++ EPCUF r) (head-bytes r h)
-    (bytes-append (W r) (EPCUF r) (word-bytes (r .places) (h .places .1))
-    (bytes-append (E r) (PCUF r) (h .job .wipe .1)
-    (bytes-append (P r) (CUF r) (plan-bytes (r .job) (h .job))
-    (bytes-append (C r) (UF r) (cursor-bytes (r .cursor) (h .cursor)) (bytes-append (r .unit) (r .frame) (h .unit .1) (h .frame .1))))))
-
 pub bytes-back : BytesBack
 unfolding BytesBack
 bytes-back r h = record-back r (sized r h)
