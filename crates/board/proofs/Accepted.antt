@@ -9,7 +9,7 @@ use borrow.Author.Tests.{ltb-false}
 use Rattle.flash.specs.Flash.{maxBlocks, isCount, Step, erase, block, sizeOf, applyAll, writes}
 use Rattle.flash.proofs.Cases.{on-test, between}
 use Rattle.frame.specs.Frame.{Frame, encode, encodeAll, frameLen, total}
-use Rattle.frame.proofs.Encode.{length-encode, length-all}
+use Rattle.frame.proofs.First.{length-encode, length-all}
 use Rattle.journal.specs.Replay.{State, framesOf, replay, settledOnly}
 use Rattle.journal.specs.Block.{build, headerLen}
 use Rattle.journal.specs.Room.{used, claimed}

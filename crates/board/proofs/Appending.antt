@@ -16,8 +16,7 @@ use Rattle.flash.proofs.Image.{program-same}
 use Rattle.flash.proofs.Offsets.{Below, below-writes, Given, given-writes, given-at, Fresh, fresh-at, fresh-stretch, untouched}
 use Rattle.frame.specs.Frame.{Frame, encode, frameLen, encodeAll, MayStand, OfHost, nextOf}
 use Rattle.frame.specs.Reader.{clean, cut}
-use Rattle.frame.proofs.Encode.{length-encode, length-all, bytes-encode, stands-any, stands-append, encode-snoc, total-snoc}
-use Rattle.frame.proofs.Scanning.{scan-blank, scan-cut}
+use Rattle.frame.proofs.First.{length-encode, length-all, bytes-encode, stands-any, stands-append, encode-snoc, total-snoc, scan-blank, scan-cut}
 use Rattle.journal.specs.Block.{validData, header}
 use Rattle.journal.specs.Replay.{Object, nextState, replay}
 use Rattle.journal.proofs.Blocks.{layout-size}

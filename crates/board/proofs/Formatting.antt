@@ -14,7 +14,7 @@ use Rattle.flash.proofs.Cases.{on-test}
 use Rattle.flash.proofs.Offsets.{Below}
 use Rattle.frame.specs.Frame.{Frame, total, encodeAll, AllMayStand, nextOf}
 use Rattle.frame.specs.Reader.{clean}
-use Rattle.frame.proofs.Scanning.{scan-blank}
+use Rattle.frame.proofs.First.{scan-blank}
 use Rattle.journal.specs.Replay.{Object, state, replayFrom, isOpen}
 use Rattle.journal.specs.Block.{headerLen, lastTime, BlockState, valid, blockState, build}
 use Rattle.journal.proofs.Blocks.{Layout}

@@ -8,7 +8,7 @@ use lib.ListN.{length, length-append, length-map}
 use Rattle.flash.specs.Flash.{Step, erase, Write, writeStep, writes}
 use Rattle.flash.proofs.Programming.{length-writes}
 use Rattle.frame.specs.Frame.{Frame, encode, encodeAll, frameLen}
-use Rattle.frame.proofs.Encode.{length-encode}
+use Rattle.frame.proofs.First.{length-encode}
 use Rattle.journal.specs.Replay.{State, framesOf, settledOnly, replay}
 use Rattle.journal.specs.Block.{build}
 use Rattle.journal.specs.Room.{used, claimed}

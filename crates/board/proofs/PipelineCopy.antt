@@ -10,7 +10,7 @@ use borrow.Author.Tests.{lt-ltb, le-ltb}
 use Rattle.flash.specs.Flash.{sizeIn, Step, program, block, within, applyAll, Write, write, writeStep, writes}
 use Rattle.flash.proofs.Programming.{writes-append}
 use Rattle.frame.specs.Frame.{Frame, encode, encodeAll, frameLen, total}
-use Rattle.frame.proofs.Encode.{length-encode}
+use Rattle.frame.proofs.First.{length-encode}
 use Rattle.journal.specs.Block.{openWrites, openWrite, markWrites, stateAt, inTransfer, headerLen}
 use Rattle.journal.specs.Index.{Load, load, nextLoad}
 use Rattle.journal.proofs.Loading.{Yields}

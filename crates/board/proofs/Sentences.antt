@@ -16,7 +16,7 @@ use Rattle.flash.proofs.Sizes.{size-is}
 use Rattle.flash.proofs.Programming.{length-writes, writes-at}
 use Rattle.frame.specs.Frame.{valueMax, put, delete, change, commit, abort, encode, encodeAll, frameLen}
 use Rattle.frame.specs.Reader.{Tail}
-use Rattle.frame.proofs.Encode.{encode-plain, length-encode, length-all}
+use Rattle.frame.proofs.First.{encode-plain, length-encode, length-all}
 use Rattle.journal.specs.Replay.{Entry, State, replay, framesOf, settledOnly}
 use Rattle.journal.specs.Block.{headerLen, lastTime, sealWrites, build}
 use Rattle.journal.specs.Room.{claimed}

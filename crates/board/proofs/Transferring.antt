@@ -13,7 +13,7 @@ use Rattle.flash.proofs.Image.{block-erase, other-erase, length-erase}
 use Rattle.flash.proofs.Offsets.{Below}
 use Rattle.frame.specs.Frame.{Frame, total, AllMayStand, nextOf}
 use Rattle.frame.specs.Reader.{Tail, clean}
-use Rattle.frame.proofs.Scanning.{scan-blank}
+use Rattle.frame.proofs.First.{scan-blank}
 use Rattle.journal.specs.Block.{headerLen, lastTime, blockState, build}
 use Rattle.journal.specs.Replay.{Object, State, isOpen, replay, framesOf, settledOnly}
 use Rattle.journal.specs.Room.{claimed}

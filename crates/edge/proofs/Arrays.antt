@@ -11,7 +11,7 @@ use Rattle.flash.specs.Flash.{maxBlocks, blockNumbers, apply, sizeOf, within}
 use Rattle.flash.proofs.Cases.{on-test}
 use Rattle.frame.specs.Frame.{maxFrame, idOf, Frame, settled, frameLen, encode, buffer}
 use Rattle.frame.specs.Reader.{Read, blank, whole, torn, wrong, readFrame}
-use Rattle.frame.proofs.Encode.{length-encode, frame-short}
+use Rattle.frame.proofs.First.{length-encode, frame-short}
 use Rattle.journal.specs.Block.{lastTime, markWrites}
 use Rattle.journal.specs.Index.{Value, valueAt, Load, load, nextSettled, isPending, nextPending, orElse, nextLoad}
 use Rattle.journal.proofs.Places.{length-places}

@@ -16,7 +16,7 @@ use Rattle.frame.specs.Frame.{idOf, valueMax, put, delete, Frame, change, commi
 use Rattle.frame.specs.Reader.{Read, blank, whole, torn, wrong, readFrame}
 use Rattle.frame.specs.Code.{headOf, valueOf, valueLen, valueStart}
 use Rattle.frame.proofs.Heads.{value-len}
-use Rattle.frame.proofs.Reading.{read-blank}
+use Rattle.frame.proofs.First.{read-blank}
 use Rattle.fetch.specs.declared.Found.the-variants as found
 use Rattle.fetch.specs.declared.Fetch.{Fetch}
 use Rattle.fetch.specs.declared.Fetched.the-variants as fetched

@@ -13,11 +13,8 @@ use Rattle.frame.specs.Frame.{Frame, change, commit, abort, settled, put, delet
 use Rattle.frame.specs.Reader.{Read, blank, whole, torn, wrong, readFrame, clean, cut, bad, push, ends, scan}
 use Rattle.frame.specs.Sentences.{Whole}
 use Rattle.frame.specs.Code.{headOf, valueOf, readOf, headLen, valueLen, valueStart}
-use Rattle.frame.proofs.Encode.{length-encode}
-use Rattle.frame.proofs.Exact.{whole-sound}
-use Rattle.frame.proofs.Reading.{read-blank}
-use Rattle.frame.proofs.Heads.{head-len, value-stands}
-use Rattle.frame.proofs.Scanning.{scan-nil, scan-skip, scan-read-blank, scan-read-whole, scan-read-torn, scan-read-wrong}
+use Rattle.frame.proofs.First.{length-encode, whole-sound, read-blank, head-len, value-stands, scan-nil, scan-skip, scan-read-blank, scan-read-whole}
+use Rattle.frame.proofs.First.{scan-read-torn, scan-read-wrong}
 
 -- ---- what the code read
 

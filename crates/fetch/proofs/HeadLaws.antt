@@ -16,7 +16,7 @@ use Rattle.frame.specs.Frame.{idOf, Frame, settled, frameLen}
 use Rattle.frame.specs.Reader.{blank, whole, torn, wrong, readFrame}
 use Rattle.frame.specs.Code.{headOf, readOf, headLen, valueStart}
 use Rattle.reader.proofs.Answers.{wrong-read}
-use Rattle.frame.proofs.Heads.{head-len}
+use Rattle.frame.proofs.First.{head-len}
 use Rattle.fetch.specs.declared.Found.the-variants as found
 use Rattle.fetch.specs.declared.Fetch.{Fetch}
 use Rattle.fetch.specs.declared.Fetched.the-variants as fetched

@@ -1,122 +1,123 @@
 -- The bytes of frames: how many, that they are bytes, and one frame more.
-use mathlib.Core.Path.{_≡_, refl, sym, ap, subst, _∙_}
+use mathlib.Core.Path.{_≡_, refl, sym, ap, _∙_}
 use mathlib.Core.List.{List, [], _∷_, _++_, append-assoc, append-nil}
-use Prim.Native.Nat.{ℕ, _+_, _/_, _%_, _≤_, _<_}
+use Prim.Native.Nat.{ℕ, _+_, _≤_, _<_}
 use native.Mathlib.Omega.{arith}
-use native.Mathlib.Nat.{lt-of-le-of-lt}
 use lib.ListN.{length, length-append}
 use Rattle.flash.specs.Bytes.{Bytes}
 use Rattle.flash.proofs.Blank.{bytes-append}
-use Rattle.frame.specs.Frame.{Frame, change, commit, abort, settled, put, delete, encode, frameLen, encodeAll, total, finish}
-use Rattle.frame.specs.Frame.{maxFrame, putLen, deleteLen, endLen, settledLen}
-use Rattle.frame.specs.Frame.{MayStand, AllMayStand, OfHost, nextAfter, nextOf}
+use Rattle.crc.specs.Crc.{crc32Of}
+use Rattle.crc.proofs.Small.{crc32-small}
+use Rattle.frame.specs.declared.Edition.{Edition}
+use Rattle.frame.specs.declared.Edition.the-variants as edition
+use Rattle.frame.specs.Frame.{Frame, change, commit, abort, settled, put, delete, kindOf, body, check, checkLen, sealed, sealOf, finish}
+use Rattle.frame.specs.Frame.{front, encodeIn, frameLenIn, encodeAllIn, totalIn, maxFrameIn, MayStandIn, AllMayStandIn, OfHost, nextAfter, nextOf}
 use Rattle.frame.specs.Sentences.{LengthShows}
 
--- ---- a frame's length is one byte, and not 0xFF
+-- ---- the check: all that is used of it is how many bytes it has
 
-pub length-shows : LengthShows
-length-shows = omega arith
+pub check-length : (s : Edition) (x : List ℕ) → length (check s x) ≡ checkLen s
+check-length edition.First x = refl
+check-length edition.Second x = refl
 
-pub length-byte : (n : ℕ) → n ≤ maxFrame → n < 255
-length-byte n h = lt-of-le-of-lt h length-shows
+pub check-short : (s : Edition) → checkLen s ≤ 4
+check-short edition.First = omega arith
+check-short edition.Second = omega arith
+
+check-bytes : (s : Edition) (x : List ℕ) → Bytes x → Bytes (check s x)
+check-bytes edition.First x y = tt
+check-bytes edition.Second x y =
+    let h : crc32Of x < 4294967296 = crc32-small x y in (omega arith, (omega arith, (omega arith, (omega arith, tt))))
+
+-- ---- by kind
+
+pub frame-short : (e : Edition) (next : ℕ) (f : Frame) → MayStandIn e next f → frameLenIn e f ≤ maxFrameIn e
+frame-short e next (change h (put i v)) (hh, hi, (hv, hb)) = omega arith
+frame-short e next (change h (delete i)) g = omega arith
+frame-short e next (commit h) g = omega arith
+frame-short e next (abort h) g = omega arith
+frame-short e next (settled i v) (hn, hi, (hv, hb)) = omega arith
+
+pub kind-small : (f : Frame) → kindOf f < 255
+kind-small (change h (put i v)) = omega arith
+kind-small (change h (delete i)) = omega arith
+kind-small (commit h) = omega arith
+kind-small (abort h) = omega arith
+kind-small (settled i v) = omega arith
+
+body-bytes : (e : Edition) (next : ℕ) (f : Frame) → MayStandIn e next f → Bytes (body f)
+body-bytes e next (change h (put i v)) (hh, hi, (hv, hb)) = (omega arith, (omega arith, (omega arith, hb)))
+body-bytes e next (change h (delete i)) (hh, hi) = omega arith
+body-bytes e next (commit h) hh = omega arith
+body-bytes e next (abort h) hh = omega arith
+body-bytes e next (settled i v) (hn, hi, (hv, hb)) = (omega arith, (omega arith, hb))
+
+-- frames of kinds 1 to 4 may stand anywhere
+pub stands-any : (e : Edition) (a b : ℕ) (f : Frame) → OfHost f → MayStandIn e a f → MayStandIn e b f
+stands-any e a b (change h (put i v)) u g = g
+stands-any e a b (change h (delete i)) u g = g
+stands-any e a b (commit h) u g = g
+stands-any e a b (abort h) u g = g
+stands-any e a b (settled i v) u g = absurd u
 
 -- ---- one frame
 
--- the bytes of a frame that may stand, its numbers worked out
-abbrev pub plain : Frame → List ℕ
-plain (change h (put i v)) = putLen (length v) ∷ 0 ∷ 1 ∷ 0 ∷ h .0 ∷ i .0 ∷ 0 ∷ (v ++ (finish ∷ []))
-plain (change h (delete i)) = deleteLen ∷ 0 ∷ 2 ∷ 0 ∷ h .0 ∷ i .0 ∷ 0 ∷ finish ∷ []
-plain (commit h) = endLen ∷ 0 ∷ 3 ∷ 0 ∷ h .0 ∷ finish ∷ []
-plain (abort h) = endLen ∷ 0 ∷ 4 ∷ 0 ∷ h .0 ∷ finish ∷ []
-plain (settled i v) = settledLen (length v) ∷ 0 ∷ 5 ∷ 0 ∷ i .0 ∷ 0 ∷ (v ++ (finish ∷ []))
+-- a frame's length is one byte, and not 0xFF
+pub length-shows : LengthShows
+length-shows e = omega (arith, check-short e)
 
-pub encode-plain : (next : ℕ) (f : Frame) → MayStand next f → encode f ≡ plain f
-encode-plain next (change h (put i v)) (hh, hi, (hv, hb)) =
-    let n : putLen (length v) < 255 = length-byte (putLen (length v)) (omega arith) in
-    let e1 : frameLen (change h (put i v)) % 256 ≡ putLen (length v) = omega arith in
-    let e2 : frameLen (change h (put i v)) / 256 ≡ 0 = omega arith in
-    let e3 : i .0 % 256 ≡ i .0 = omega arith in
-    let e4 : i .0 / 256 ≡ 0 = omega arith in
-    simp (e1, e2, e3, e4)
-encode-plain next (change h (delete i)) (hh, hi) =
-    let e3 : i .0 % 256 ≡ i .0 = omega arith in
-    let e4 : i .0 / 256 ≡ 0 = omega arith in
-    simp (e3, e4)
-encode-plain next (commit h) g = refl
-encode-plain next (abort h) g = refl
-encode-plain next (settled i v) (hn, hi, (hv, hb)) =
-    let n : settledLen (length v) < 255 = length-byte (settledLen (length v)) (omega arith) in
-    let e1 : frameLen (settled i v) % 256 ≡ settledLen (length v) = omega arith in
-    let e2 : frameLen (settled i v) / 256 ≡ 0 = omega arith in
-    let e3 : i .0 % 256 ≡ i .0 = omega arith in
-    let e4 : i .0 / 256 ≡ 0 = omega arith in
-    simp (e1, e2, e3, e4)
+pub frame-small : (e : Edition) (next : ℕ) (f : Frame) → MayStandIn e next f → frameLenIn e f < 255
+frame-small e next f g = omega (arith, frame-short e next f g, length-shows e)
 
-pub length-encode : (f : Frame) → length (encode f) ≡ frameLen f
-length-encode f = simp length-append (omega arith)
+pub length-sealed : (s : Edition) (x : List ℕ) → length (sealed s x) ≡ length x + checkLen s + 1
+length-sealed s x = simp length-append (omega (arith, check-length s x))
 
-pub frame-short : (next : ℕ) (f : Frame) → MayStand next f → frameLen f ≤ maxFrame
-frame-short next (change h (put i v)) (hh, hi, (hv, hb)) = omega arith
-frame-short next (change h (delete i)) g = omega arith
-frame-short next (commit h) g = omega arith
-frame-short next (abort h) g = omega arith
-frame-short next (settled i v) (hn, hi, (hv, hb)) = omega arith
+pub length-encode : (e : Edition) (f : Frame) → length (encodeIn e f) ≡ frameLenIn e f
+length-encode e f = length-sealed (sealOf e f) (front e f) ∙ omega arith
 
-bytes-plain : (next : ℕ) (f : Frame) → MayStand next f → Bytes (plain f)
-bytes-plain next (change h (put i v)) (hh, hi, (hv, hb)) =
-    let n : putLen (length v) < 255 = length-byte (putLen (length v)) (omega arith) in
-    (omega arith, (omega arith, (omega arith, (omega arith, (omega arith, (omega arith, (omega arith, bytes-append v (finish ∷ []) hb (omega arith, tt))))))))
-bytes-plain next (change h (delete i)) (hh, hi) = omega arith
-bytes-plain next (commit h) hh = omega arith
-bytes-plain next (abort h) hh = omega arith
-bytes-plain next (settled i v) (hn, hi, (hv, hb)) =
-    let n : settledLen (length v) < 255 = length-byte (settledLen (length v)) (omega arith) in
-    (omega arith, (omega arith, (omega arith, (omega arith, (omega arith, (omega arith, bytes-append v (finish ∷ []) hb (omega arith, tt)))))))
-
-pub bytes-encode : (next : ℕ) (f : Frame) → MayStand next f → Bytes (encode f)
-bytes-encode next f g = subst (λ (x : List ℕ). Bytes x) (sym (encode-plain next f g)) (bytes-plain next f g)
-
--- frames of kinds 1 to 4 may stand anywhere
-pub stands-any : (a b : ℕ) (f : Frame) → OfHost f → MayStand a f → MayStand b f
-stands-any a b (change h (put i v)) u g = g
-stands-any a b (change h (delete i)) u g = g
-stands-any a b (commit h) u g = g
-stands-any a b (abort h) u g = g
-stands-any a b (settled i v) u g = absurd u
+pub bytes-encode : (e : Edition) (next : ℕ) (f : Frame) → MayStandIn e next f → Bytes (encodeIn e f)
+bytes-encode e next f g =
+    let n : frameLenIn e f < 255 = frame-small e next f g in
+    let k : kindOf f < 255 = kind-small f in
+    let b : Bytes (front e f) = (omega arith, (omega arith, (omega arith, (omega arith, body-bytes e next f g)))) in
+    bytes-append (front e f) (check (sealOf e f) (front e f) ++ (finish ∷ [])) b
+    (bytes-append (check (sealOf e f) (front e f)) (finish ∷ []) (check-bytes (sealOf e f) (front e f) b) (omega arith, tt))
 
 -- ---- frames one after the other
 
-pub length-all : (fs : List Frame) → length (encodeAll fs) ≡ total fs
-unfolding encodeAll total
-length-all [] = refl
-length-all (f ∷ fs) = length-append (encode f) (encodeAll fs) ∙ omega (arith, length-encode f, length-all fs)
+pub length-all : (e : Edition) (fs : List Frame) → length (encodeAllIn e fs) ≡ totalIn e fs
+unfolding encodeAllIn totalIn
+length-all e [] = refl
+length-all e (f ∷ fs) = length-append (encodeIn e f) (encodeAllIn e fs) ∙ omega (arith, length-encode e f, length-all e fs)
 
-pub bytes-all : (next : ℕ) (fs : List Frame) → AllMayStand next fs → Bytes (encodeAll fs)
-unfolding encodeAll
-bytes-all next [] g = tt
-bytes-all next (f ∷ fs) (g, gs) = bytes-append (encode f) (encodeAll fs) (bytes-encode next f g) (bytes-all (nextAfter f) fs gs)
+pub bytes-all : (e : Edition) (next : ℕ) (fs : List Frame) → AllMayStandIn e next fs → Bytes (encodeAllIn e fs)
+unfolding encodeAllIn
+bytes-all e next [] g = tt
+bytes-all e next (f ∷ fs) (g, gs) = bytes-append (encodeIn e f) (encodeAllIn e fs) (bytes-encode e next f g) (bytes-all e (nextAfter f) fs gs)
 
-pub encode-append : (fs gs : List Frame) → encodeAll (fs ++ gs) ≡ encodeAll fs ++ encodeAll gs
-unfolding encodeAll
-encode-append [] gs = refl
-encode-append (f ∷ fs) gs = ap (λ (x : List ℕ). encode f ++ x) (encode-append fs gs) ∙ sym (append-assoc (encode f) (encodeAll fs) (encodeAll gs))
+pub encode-append : (e : Edition) (fs gs : List Frame) → encodeAllIn e (fs ++ gs) ≡ encodeAllIn e fs ++ encodeAllIn e gs
+unfolding encodeAllIn
+encode-append e [] gs = refl
+encode-append e (f ∷ fs) gs =
+    ap (λ (x : List ℕ). encodeIn e f ++ x) (encode-append e fs gs) ∙ sym (append-assoc (encodeIn e f) (encodeAllIn e fs) (encodeAllIn e gs))
 
-pub encode-snoc : (fs : List Frame) (f : Frame) → encodeAll (fs ++ (f ∷ [])) ≡ encodeAll fs ++ encode f
-unfolding encodeAll
-encode-snoc fs f = encode-append fs (f ∷ []) ∙ ap (λ (x : List ℕ). encodeAll fs ++ x) (append-nil (encode f))
+pub encode-snoc : (e : Edition) (fs : List Frame) (f : Frame) → encodeAllIn e (fs ++ (f ∷ [])) ≡ encodeAllIn e fs ++ encodeIn e f
+unfolding encodeAllIn
+encode-snoc e fs f = encode-append e fs (f ∷ []) ∙ ap (λ (x : List ℕ). encodeAllIn e fs ++ x) (append-nil (encodeIn e f))
 
-pub total-append : (fs gs : List Frame) → total (fs ++ gs) ≡ total fs + total gs
-unfolding total
-total-append [] gs = omega arith
-total-append (f ∷ fs) gs = omega (arith, total-append fs gs)
+pub total-append : (e : Edition) (fs gs : List Frame) → totalIn e (fs ++ gs) ≡ totalIn e fs + totalIn e gs
+unfolding totalIn
+total-append e [] gs = omega arith
+total-append e (f ∷ fs) gs = omega (arith, total-append e fs gs)
 
-pub total-snoc : (fs : List Frame) (f : Frame) → total (fs ++ (f ∷ [])) ≡ total fs + frameLen f
-unfolding total
-total-snoc fs f = omega (arith, total-append fs (f ∷ []))
+pub total-snoc : (e : Edition) (fs : List Frame) (f : Frame) → totalIn e (fs ++ (f ∷ [])) ≡ totalIn e fs + frameLenIn e f
+unfolding totalIn
+total-snoc e fs f = omega (arith, total-append e fs (f ∷ []))
 
-pub stands-append : (next : ℕ) (fs gs : List Frame) → AllMayStand next fs → AllMayStand (nextOf next fs) gs → AllMayStand next (fs ++ gs)
-stands-append next [] gs u w = w
-stands-append next (f ∷ fs) gs (g, u) w = (g, stands-append (nextAfter f) fs gs u w)
+pub stands-append : (e : Edition) (next : ℕ) (fs gs : List Frame) → AllMayStandIn e next fs → AllMayStandIn e (nextOf next fs) gs
+    → AllMayStandIn e next (fs ++ gs)
+stands-append e next [] gs u w = w
+stands-append e next (f ∷ fs) gs (g, u) w = (g, stands-append e (nextAfter f) fs gs u w)
 
 pub next-append : (next : ℕ) (fs gs : List Frame) → nextOf next (fs ++ gs) ≡ nextOf (nextOf next fs) gs
 next-append next [] gs = refl

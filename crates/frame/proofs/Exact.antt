@@ -1,268 +1,253 @@
--- The reader says blank, whole, torn or wrong exactly where document 01's sentences do.
-use mathlib.Core.Path.{_≡_, refl, sym, ap, subst, _∙_}
+-- The reader says blank, whole, torn or wrong exactly where document 01's sentences do. No law of this file goes by kinds or by editions.
+use mathlib.Core.Path.{_≡_, refl, sym, ap, ap₂, subst, _∙_}
 use mathlib.Core.List.{List, [], _∷_, _++_}
-use mathlib.Core.Bool.{Bool, true, false, _&&_, _||_}
-use Prim.Native.Nat.{ℕ, zero, suc, _+_, _-_, _≤_}
+use mathlib.Core.Bool.{Bool, true, false, _&&_}
+use Prim.Native.Nat.{ℕ, zero, suc, _+_, _≤_, _<_}
 use native.Mathlib.Omega.{arith}
-use lib.Dec.{eqb, leb}
-use lib.ListN.{length, getD, take, replicate, length-append, length-take, length-replicate}
-use lib.Seq.{take-at}
-use borrow.Author.Tests.{leb-true}
+use lib.Dec.{leb}
+use lib.ListN.{length, getD, take, drop, replicate, length-append, length-drop, length-replicate, getD-replicate, take-append-drop}
+use lib.Seq.{take-at, take-all, take-length, length-take-le}
+use borrow.Author.Tests.{leb-true, leb-false, le-leb}
 use Rattle.flash.specs.Bytes.{allFF}
-use Rattle.flash.proofs.Cases.{on-test, clash, and-left, and-right, between}
-use Rattle.flash.proofs.Blank.{allFF-all, all-ff, is-ff}
-use Rattle.frame.specs.Frame.{Frame, idMax, valueMax, putLen, deleteLen, settledLen, encode, frameLen}
-use Rattle.frame.specs.Reader.{Read, blank, whole, torn, wrong, fault, Slot, slot, fits, valueSlots, changeSlots, endSlots}
-use Rattle.frame.specs.Reader.{settledSlots, noSlots, hostSlots, idLeft, onlySettled, Match, all, part, misfit, match, decode, ofHostMatch}
-use Rattle.frame.specs.Reader.{ofSettledMatch, readLaid, readFrame}
-use Rattle.frame.specs.Sentences.{Whole, Torn, Blank, Wrong}
+use Rattle.flash.proofs.Cases.{on-test, clash, and-both, and-left, and-right}
+use Rattle.flash.proofs.Blank.{allFF-all, allFF-at, all-ff, is-ff}
+use Rattle.frame.specs.declared.Edition.{Edition}
 use Rattle.frame.specs.declared.Fault.{Fault}
 use Rattle.frame.specs.declared.Field.the-variants as field
-use Rattle.frame.proofs.Encode.{length-encode}
-use Rattle.frame.proofs.Fit.{Fit, fit-length, match-misfit, Partly, last-kind}
-use Rattle.frame.proofs.Reading.{read-ff, laid-host, laid-settled, read-back, read-torn}
-use Rattle.frame.proofs.Inverse.{Seen, match-seen, Begun, match-begun, IsFrame, IsOfHost, change-inv, end-inv, settled-inv, none-inv, on-host}
+use Rattle.frame.specs.Frame.{Frame, encodeIn, frameLenIn, MayStandIn, OfHost}
+use Rattle.frame.specs.Reader.{Read, blank, whole, torn, wrong, fault, Slot, hasLength, layoutOf, Match, all, part, misfit, match, decode, ofMatch}
+use Rattle.frame.specs.Reader.{readLaid, readFrameIn}
+use Rattle.frame.specs.Sentences.{WholeIn, TornIn, Blank, Wrong}
+use Rattle.frame.proofs.Encode.{frame-small, length-encode}
+use Rattle.frame.proofs.Fit.{Fit, match-all, Partly, match-some, match-seen, Stopped, Blanks, Stuck, match-stuck}
+use Rattle.frame.proofs.Own.{own, unseen, has-length, decode-own}
+use Rattle.frame.proofs.Layouts.{layoutAt, slotsAt, length-slots, closed-slots, begins-length, begins-kind, begins-fit, Begun, complete}
 
--- ---- past the tests of the reader
+-- ---- the steps of the reader
 
--- an answer that is neither blank nor wrong comes from a layout
-read-inv : {P : Type 0} (next at : ℕ) (t : List ℕ) (x : Read) → readFrame next at t ≡ x → (x ≡ blank → ⊥) → ((e : Fault) → x ≡ wrong e → ⊥)
-    → (allFF t ≡ false → getD t 0 0 ≤ length t → readLaid next at (getD t 0 0) (getD t 2 0) t ≡ x → P) → P
-unfolding readFrame
-read-inv next at t x e nb nw k =
+pub read-ff : (e : Edition) (next at : ℕ) (t : List ℕ) → allFF t ≡ true → readFrameIn e next at t ≡ blank
+unfolding readFrameIn
+read-ff e next at t p = rw (p, readFrameIn)
+
+pub read-blank : (e : Edition) (next at m : ℕ) → readFrameIn e next at (replicate m 255) ≡ blank
+read-blank e next at m = read-ff e next at (replicate m 255) (allFF-all m)
+
+-- a length that some frame has, and that fits
+abbrev pub lengthFits : Edition → ℕ → List ℕ → Bool
+lengthFits e next t = leb (getD t 0 0) (length t) && hasLength e next (getD t 0 0)
+
+pub read-laid : (e : Edition) (next at : ℕ) (t : List ℕ) → allFF t ≡ false → lengthFits e next t ≡ true
+    → readFrameIn e next at t ≡ readLaid e next at (getD t 0 0) (getD t 2 0) t
+unfolding readFrameIn
+read-laid e next at t p q = rw (p, q, readFrameIn)
+
+pub read-short : (e : Edition) (next at : ℕ) (t : List ℕ) → allFF t ≡ false → lengthFits e next t ≡ false
+    → readFrameIn e next at t ≡ wrong (fault field.Length at)
+unfolding readFrameIn
+read-short e next at t p q = rw (p, q, readFrameIn)
+
+-- which of the three it takes
+pub on-read : {P : Type 0} (e : Edition) (next at : ℕ) (t : List ℕ) (x : Read) → readFrameIn e next at t ≡ x → (allFF t ≡ true → blank ≡ x → P)
+    → (allFF t ≡ false → lengthFits e next t ≡ false → wrong (fault field.Length at) ≡ x → P)
+    → (allFF t ≡ false → getD t 0 0 ≤ length t → hasLength e next (getD t 0 0) ≡ true → readLaid e next at (getD t 0 0) (getD t 2 0) t ≡ x → P) → P
+on-read e next at t x q f g h =
+    let n : ℕ = getD t 0 0 in
     on-test (allFF t)
-    (λ a. let q : blank ≡ x = rw (a, readFrame) at e in absurd (nb (sym q)))
-    (λ a. on-test (leb (getD t 0 0) (length t))
-    (λ b. k a (leb-true (getD t 0 0) (length t) b) (rw (a, b, readFrame) at e))
-    (λ b. let q : wrong (fault field.Length at) ≡ x = rw (a, b, readFrame) at e in absurd (nw (fault field.Length at) (sym q))))
+    (λ a. f a (sym (read-ff e next at t a) ∙ q))
+    (λ a. on-test (lengthFits e next t)
+    (λ b. h a (leb-true n (length t) (and-left (leb n (length t)) (hasLength e next n) b)) (and-right (leb n (length t)) (hasLength e next n) b)
+    (sym (read-laid e next at t a b) ∙ q))
+    (λ b. g a b (sym (read-short e next at t a b) ∙ q)))
 
-host-all : (at n : ℕ) (g f : Frame) (m : Match) → ofHostMatch at n g m ≡ whole f → m ≡ all
-host-all at n g f all e = refl
-host-all at n g f (part p) e = let z : _≡_ {A = ℕ} 0 1 = cc in absurd (omega arith)
-host-all at n g f (misfit p) e = let z : _≡_ {A = ℕ} 0 1 = cc in absurd (omega arith)
+-- ---- bytes that begin a legal frame
 
-host-part : (at n x : ℕ) (g : Frame) (m : Match) → ofHostMatch at n g m ≡ torn x → Partly m
-host-part at n x g all e = let z : _≡_ {A = ℕ} 0 1 = cc in absurd (omega arith)
-host-part at n x g (part p) e = record { at = p; is = refl }
-host-part at n x g (misfit p) e = let z : _≡_ {A = ℕ} 0 1 = cc in absurd (omega arith)
+module _ (e : Edition) (next at : ℕ) (t : List ℕ) (j : ℕ) (f : Frame) (g : MayStandIn e next f) (q : take j t ≡ take j (encodeIn e f)) (h : 1 ≤ j)
+    (l : frameLenIn e f ≤ length t) where
+  pub begins-laid : readFrameIn e next at t ≡ readLaid e next at (getD t 0 0) (getD t 2 0) t
+  begins-laid =
+      let n : getD t 0 0 ≡ frameLenIn e f = begins-length e next t j f g q h in
+      read-laid e next at t (allFF-at t 0 (omega arith) (omega (arith, frame-small e next f g)))
+      (and-both (leb (getD t 0 0) (length t)) (hasLength e next (getD t 0 0)) (le-leb (getD t 0 0) (length t) (omega arith))
+      (ap (hasLength e next) n ∙ has-length e next f g))
 
-settled-all : (at : ℕ) (g f : Frame) (m : Match) → ofSettledMatch at g m ≡ whole f → m ≡ all
-settled-all at g f all e = refl
-settled-all at g f (part p) e = let z : _≡_ {A = ℕ} 0 1 = cc in absurd (omega arith)
-settled-all at g f (misfit p) e = let z : _≡_ {A = ℕ} 0 1 = cc in absurd (omega arith)
-
-settled-part : (at x : ℕ) (g : Frame) (m : Match) → ofSettledMatch at g m ≡ torn x → ⊥
-settled-part at x g all e = let z : _≡_ {A = ℕ} 0 1 = cc in omega arith
-settled-part at x g (part p) e = let z : _≡_ {A = ℕ} 0 1 = cc in omega arith
-settled-part at x g (misfit p) e = let z : _≡_ {A = ℕ} 0 1 = cc in omega arith
-
-pub only-size : (next n k : ℕ) → onlySettled next n k ≡ true → (settledLen 0 ≤ n) × (n ≤ settledLen valueMax)
-only-size next n k e =
-    let size : Bool = leb (settledLen 0) n && leb n (settledLen valueMax) in
-    between (settledLen 0) n (settledLen valueMax) (and-right (idLeft next) size (and-left (idLeft next && size) (eqb k 5 || eqb n (settledLen 0)) e))
-
-pub only-next : (next n k : ℕ) → onlySettled next n k ≡ true → next ≤ idMax
-only-next next n k e =
-    let size : Bool = leb (settledLen 0) n && leb n (settledLen valueMax) in
-    let left : idLeft next ≡ true = and-left (idLeft next) size (and-left (idLeft next && size) (eqb k 5 || eqb n (settledLen 0)) e) in
-    omega (arith, leb-true next _ left)
+  pub begins-slots : length (slotsAt e next t) ≡ frameLenIn e f
+  begins-slots =
+      let n : getD t 0 0 ≡ frameLenIn e f = begins-length e next t j f g q h in
+      length-slots e next t (ap (hasLength e next) n ∙ has-length e next f g) ∙ n
 
 -- ---- whole
 
-pub host-inv : (next n : ℕ) (xs : List ℕ) → Fit (hostSlots n) xs → IsOfHost next xs
-host-inv next n xs r =
-    on-host n
-    (λ e s. end-inv next xs (subst (λ (ps : List Slot). Fit ps xs) s r))
-    (λ lo hi s. change-inv next n xs lo hi (subst (λ (ps : List Slot). Fit ps xs) s r))
-    (λ s. absurd (none-inv xs (subst (λ (ps : List Slot). Fit ps xs) s r)))
+pub read-back : (e : Edition) (next at : ℕ) (f : Frame) (rest : List ℕ) → MayStandIn e next f → readFrameIn e next at (encodeIn e f ++ rest) ≡ whole f
+read-back e next at f rest g =
+    let t : List ℕ = encodeIn e f ++ rest in
+    let n : ℕ = frameLenIn e f in
+    let len : length (encodeIn e f) ≡ n = length-encode e f in
+    let q0 : take n t ≡ encodeIn e f = take-at (encodeIn e f) rest n len in
+    let q : take n t ≡ take n (encodeIn e f) = q0 ∙ sym (take-all n (encodeIn e f) (omega arith)) in
+    let l : n ≤ length t = omega (arith, length-append (encodeIn e f) rest) in
+    let ps : List Slot = slotsAt e next t in
+    let size : length ps ≡ n = begins-slots e next at t n f g q (omega arith) l in
+    let fit : Fit ps (encodeIn e f) =
+    subst (Fit ps) q0
+    (subst (λ (x : List Slot). Fit x (take n t)) (take-all n ps (omega arith)) (begins-fit e next t n f g q (omega arith))) in
+    begins-laid e next at t n f g q (omega arith) l
+    ∙ ap₂ (λ (x : Frame) (m : Match). ofMatch at (getD t 0 0) (layoutAt e next t .tears) x m)
+    (ap₂ (λ (k m : ℕ). decode e k m t) (begins-kind e next t n f g q (omega arith)) (begins-length e next t n f g q (omega arith)) ∙ decode-own e f rest)
+    (match-all ps (encodeIn e f) rest fit)
 
-whole-of : (next at : ℕ) (t : List ℕ) (f : Frame) (ps : List Slot) → readFrame next at t ≡ whole f → match ps t ≡ all
-    → ((xs : List ℕ) → Fit ps xs → IsFrame next xs) → Whole next t f
-whole-of next at t f ps e m inv =
-    let y : Seen ps t = match-seen ps t m in
-    let g : IsFrame next (y .bytes) = inv (y .bytes) (y .fit) in
-    let i : t ≡ encode (g .frame) ++ y .rest = y .is-list ∙ ap (λ (x : List ℕ). x ++ y .rest) (sym (g .is-list)) in
-    let same : whole (g .frame) ≡ whole f = sym (ap (readFrame next at) i ∙ read-back next at (g .frame) (y .rest) (g .stands)) ∙ e in
-    let s : g .frame ≡ f = cc in
-    subst (Whole next t) s (record { rest = y .rest; stands = g .stands; bytes = i })
+pub whole-reads : (e : Edition) (next at : ℕ) (t : List ℕ) (f : Frame) → WholeIn e next t f → readFrameIn e next at t ≡ whole f
+whole-reads e next at t f w = ap (readFrameIn e next at) (w .bytes) ∙ read-back e next at f (w .rest) (w .stands)
 
-pub whole-sound : (next at : ℕ) (t : List ℕ) (f : Frame) → readFrame next at t ≡ whole f → Whole next t f
-whole-sound next at t f e =
+of-all : (at n : ℕ) (b : Bool) (g f : Frame) (m : Match) → ofMatch at n b g m ≡ whole f → m ≡ all
+of-all at n b g f all q = refl
+of-all at n true g f (part p) q = let z : _≡_ {A = ℕ} 0 1 = cc in absurd (omega arith)
+of-all at n false g f (part p) q = let z : _≡_ {A = ℕ} 0 1 = cc in absurd (omega arith)
+of-all at n b g f (misfit p) q = let z : _≡_ {A = ℕ} 0 1 = cc in absurd (omega arith)
+
+pub whole-sound : (e : Edition) (next at : ℕ) (t : List ℕ) (f : Frame) → readFrameIn e next at t ≡ whole f → WholeIn e next t f
+whole-sound e next at t f q =
     let n : ℕ = getD t 0 0 in
-    let k : ℕ = getD t 2 0 in
-    read-inv next at t (whole f) e (λ q. let z : _≡_ {A = ℕ} 0 1 = cc in omega arith) (λ x q. let z : _≡_ {A = ℕ} 0 1 = cc in omega arith)
-    (λ a l w. on-test (onlySettled next n k)
-    (λ s.
-    let size : (settledLen 0 ≤ n) × (n ≤ settledLen valueMax) = only-size next n k s in
-    let m : match (settledSlots next n) t ≡ all = settled-all at (decode 5 n t) f (match (settledSlots next n) t) (sym (laid-settled next at n k t s) ∙ w) in
-    whole-of next at t f (settledSlots next n) e m (λ xs r. settled-inv next n xs (size .0) (size .1) r .0))
-    (λ s.
-    let m : match (hostSlots n) t ≡ all = host-all at n (decode k n t) f (match (hostSlots n) t) (sym (laid-host next at n k t s) ∙ w) in
-    whole-of next at t f (hostSlots n) e m (λ xs r. host-inv next n xs r .0)))
+    let ps : List Slot = slotsAt e next t in
+    on-read e next at t (whole f) q
+    (λ a r. let z : _≡_ {A = ℕ} 0 1 = cc in absurd (omega arith))
+    (λ a b r. let z : _≡_ {A = ℕ} 0 1 = cc in absurd (omega arith))
+    (λ a l b r.
+    let m : match ps t ≡ all = of-all at n (layoutAt e next t .tears) (decode e (getD t 2 0) n t) f (match ps t) r in
+    let size : length ps ≡ n = length-slots e next t b in
+    let fit : Fit (take (length ps) ps) (take (length ps) t) =
+    subst (λ (x : List Slot). Fit x (take (length ps) t)) (sym (take-length ps)) (match-seen ps t m) in
+    let y : Begun e next t (length ps) = complete e next t (length ps) b fit (omega arith) in
+    let g : Frame = y .frame in
+    let g-is : encodeIn e g ≡ take (length ps) t =
+    sym (take-all (length ps) (encodeIn e g) (omega (arith, length-encode e g, y .size))) ∙ y .bytes in
+    let i : t ≡ encodeIn e g ++ drop (length ps) t =
+    sym (take-append-drop (length ps) t) ∙ ap (λ (x : List ℕ). x ++ drop (length ps) t) (sym g-is) in
+    let same : whole g ≡ whole f = sym (ap (readFrameIn e next at) i ∙ read-back e next at g (drop (length ps) t) (y .stands)) ∙ q in
+    let s : g ≡ f = cc in
+    subst (WholeIn e next t) s (record { rest = drop (length ps) t; stands = y .stands; bytes = i }))
 
 -- ---- torn
 
--- every slot takes its least value
-abbrev pub Wide : List Slot → Type 0
-Wide [] = Unit {0}
-Wide (p ∷ ps) = (p .lo ≤ p .hi) × Wide ps
+pub length-cut : (k : ℕ) (x : List ℕ) (m : ℕ) → k ≤ length x → length (take k x ++ replicate m 255) ≡ k + m
+length-cut k x m h =
+    length-append (take k x) (replicate m 255) ∙ ap₂ (λ (a b : ℕ). a + b) (length-take-le k x h) (length-replicate {A = ℕ} m 255)
 
-pub least : List Slot → List ℕ
-least [] = []
-least (p ∷ ps) = p .lo ∷ least ps
+-- the third byte where at most two stand
+third : (x : List ℕ) (m : ℕ) → length x ≤ 2 → 3 ≤ length x + m → getD (x ++ replicate m 255) 2 0 ≡ 255
+third [] m h l = getD-replicate m 2 255 0 (omega arith)
+third (a ∷ []) m h l = getD-replicate m 1 255 0 (omega arith)
+third (a ∷ b ∷ []) m h l = getD-replicate m 0 255 0 (omega arith)
+third (a ∷ b ∷ c ∷ x) m h l = absurd (omega arith)
 
-pub wide-right : (a b : List Slot) → Wide (a ++ b) → Wide b
-wide-right [] b w = w
-wide-right (p ∷ a) b (h, w) = wide-right a b w
+pub read-torn : (e : Edition) (next at : ℕ) (f : Frame) (k m : ℕ) → OfHost f → MayStandIn e next f → 1 ≤ k → k < frameLenIn e f → frameLenIn e f ≤ k + m
+    → readFrameIn e next at (take k (encodeIn e f) ++ replicate m 255) ≡ torn (frameLenIn e f)
+read-torn e next at f k m u g h lo hi =
+    let x : List ℕ = take k (encodeIn e f) in
+    let t : List ℕ = x ++ replicate m 255 in
+    let len : length x ≡ k = length-take-le k (encodeIn e f) (omega (arith, length-encode e f)) in
+    let q : take k t ≡ take k (encodeIn e f) = take-at x (replicate m 255) k len in
+    let l : length t ≡ k + m = length-cut k (encodeIn e f) m (omega (arith, length-encode e f)) in
+    let n : getD t 0 0 ≡ frameLenIn e f = begins-length e next t k f g q h in
+    let ps : List Slot = slotsAt e next t in
+    let size : length ps ≡ frameLenIn e f = begins-slots e next at t k f g q h (omega arith) in
+    let fit : Fit (take k ps) x = subst (Fit (take k ps)) q (begins-fit e next t k f g q h) in
+    let p : Partly (match ps t) = match-some k ps x m fit (closed-slots e next t) (omega arith) (omega arith) in
+    let tears : layoutAt e next t .tears ≡ true =
+    ap (λ (z : ℕ). layoutOf e next z (getD t 2 0) .tears) n
+    ∙ on-test (leb 3 k)
+    (λ b. ap (λ (z : ℕ). layoutOf e next (frameLenIn e f) z .tears) (begins-kind e next t k f g q (leb-true 3 k b)) ∙ own e next f g .tears u)
+    (λ b. ap (λ (z : ℕ). layoutOf e next (frameLenIn e f) z .tears) (third x m (omega (arith, leb-false 3 k b)) (omega arith)) ∙ unseen e next f u g) in
+    begins-laid e next at t k f g q h (omega arith)
+    ∙ ap₂ (λ (b : Bool) (y : Match). ofMatch at (getD t 0 0) b (decode e (getD t 2 0) (getD t 0 0) t) y) tears (p .is)
+    ∙ ap torn n
 
-pub wide-value : (o m : ℕ) → Wide (valueSlots o m)
-wide-value o zero = (omega arith, tt)
-wide-value o (suc m) = (omega arith, wide-value (suc o) m)
-
-pub wide-change : (n : ℕ) → Wide (changeSlots n)
-wide-change n = (
-  omega arith,
-  (
-    omega arith,
-    (
-      last-kind (eqb n deleteLen),
-      (omega arith, (omega arith, (omega arith, (omega arith, wide-value 7 (n - putLen 0))))),
-    ),
-  ),
-)
-
-pub fit-complete : (a b : List Slot) (bytes : List ℕ) → Fit a bytes → Wide b → Fit (a ++ b) (bytes ++ least b)
-unfolding least
-fit-complete [] [] [] f w = tt
-fit-complete [] (p ∷ b) [] f (h, w) = (omega arith, h, fit-complete [] b [] tt w)
-fit-complete [] b (x ∷ xs) f w = absurd f
-fit-complete (p ∷ a) b [] f w = absurd f
-fit-complete (p ∷ a) b (x ∷ xs) (l, h, f) w = (l, h, fit-complete a b xs f w)
-
-pub length-value : (o m : ℕ) → length (valueSlots o m) ≡ m + 1
-length-value o zero = refl
-length-value o (suc m) = omega (arith, length-value (suc o) m)
-
-length-least : (ps : List Slot) → length (least ps) ≡ length ps
-unfolding least
-length-least [] = refl
-length-least (p ∷ ps) = ap suc (length-least ps)
-
-none-part : (t : List ℕ) → allFF t ≡ false → Partly (match noSlots t) → ⊥
-unfolding match allFF
-none-part [] a e = let z : _≡_ {A = ℕ} 0 1 = cc in omega arith
-none-part (b ∷ t) a e =
-    on-test (fits (slot field.Length 0 1 0) b)
-    (λ q. omega (arith, between 1 b 0 q))
-    (λ q. let r : misfit (slot field.Length 0 1 0) ≡ part (e .at) = sym (match-misfit (slot field.Length 0 1 0) [] b t q a)
-    ∙ e .is in let z : _≡_ {A = ℕ} 0 1 = cc in omega arith)
-
-pub torn-reads : (next at : ℕ) (t : List ℕ) (n : ℕ) → Torn next t n → readFrame next at t ≡ torn n
-torn-reads next at t n y =
+pub torn-reads : (e : Edition) (next at : ℕ) (t : List ℕ) (n : ℕ) → TornIn e next t n → readFrameIn e next at t ≡ torn n
+torn-reads e next at t n y =
     let l : length t ≡ y .k + y .left =
-    ap length (y .bytes) ∙ simp (length-append, length-take, length-replicate) (omega (arith, length-encode (y .frame), y .not-all)) in
-    ap (readFrame next at) (y .bytes)
-    ∙ read-torn next at (y .frame) (y .k) (y .left) (y .of-host) (y .legal) (y .some) (y .not-all) (omega (arith, y .would-fit))
+    ap length (y .bytes) ∙ length-cut (y .k) (encodeIn e (y .frame)) (y .left) (omega (arith, length-encode e (y .frame), y .not-all)) in
+    ap (readFrameIn e next at) (y .bytes)
+    ∙ read-torn e next at (y .frame) (y .k) (y .left) (y .of-host) (y .legal) (y .some) (y .not-all) (omega (arith, y .would-fit))
     ∙ ap torn (sym (y .long))
 
-torn-of : (next at n : ℕ) (t : List ℕ) (ps : List Slot) → readFrame next at t ≡ torn n → allFF t ≡ false → length ps ≤ length t → Wide ps
-    → ((xs : List ℕ) → Fit ps xs → IsOfHost next xs) → Partly (match ps t) → Torn next t n
-torn-of next at n t ps reads a l w inv e =
-    let y : Begun ps t = match-begun ps t e in
-    let b : List Slot = y .next ∷ y .others in
-    let w′ : Wide (y .first ++ b) = subst (λ (x : List Slot). Wide x) (y .is-slots) w in
-    let xs : List ℕ = y .bytes ++ least b in
-    let fit : Fit ps xs =
-    subst (λ (x : List Slot). Fit x xs) (sym (y .is-slots)) (fit-complete (y .first) b (y .bytes) (y .fit) (wide-right (y .first) b w′)) in
-    let g : IsOfHost next xs = inv xs fit in
-    let f : Frame = g .0 .frame in
-    let size : frameLen f ≡ length (y .bytes) + length (least b) = sym (length-encode f) ∙ ap length (g .0 .is-list) ∙ length-append (y .bytes) (least b) in
-    let some : length (least b) ≡ suc (length (y .others)) = length-least b in
-    let m : Torn next t (frameLen f) = record {
-      frame = f;
-      k = length (y .bytes);
-      left = y .left;
-      of-host = g .1;
-      legal = g .0 .stands;
-      some = nonempty (y .left) (y .bytes) (y .is-list);
-      not-all = omega arith;
-      would-fit = omega (arith, length-append (y .bytes) (least b), fit-length ps xs fit);
-      bytes =
-          y .is-list ∙ ap (λ (x : List ℕ). x ++ replicate (y .left) 255)
-          (sym (ap (take (length (y .bytes))) (g .0 .is-list) ∙ take-at (y .bytes) (least b) (length (y .bytes)) refl));
-      long = refl;
-    } in
-    let same : torn (frameLen f) ≡ torn n = sym (torn-reads next at t (frameLen f) m) ∙ reads in
-    let s : frameLen f ≡ n = cc in
-    subst (Torn next t) s m
-  where
-    nonempty : (m : ℕ) (bs : List ℕ) → t ≡ bs ++ replicate m 255 → 1 ≤ length bs
-    nonempty m [] q = clash (allFF t) (ap allFF q ∙ allFF-all m) a
-    nonempty m (x ∷ bs) q = omega arith
+record OfTorn (n : ℕ) (b : Bool) (m : Match) (x : ℕ) : Type 0 where
+  tears : b ≡ true
+  partly : Partly m
+  long : n ≡ x
 
-host-torn : (next at n x : ℕ) (t : List ℕ) → readFrame next at t ≡ torn x → allFF t ≡ false → n ≤ length t → Partly (match (hostSlots n) t) → Torn next t x
-host-torn next at n x t reads a l m =
-    on-host n
-    (λ e s. torn-of next at x t endSlots reads a (omega arith) (omega arith) (λ xs f. end-inv next xs f)
-    (subst (λ (ps : List Slot). Partly (match ps t)) s m))
-    (λ lo hi s. torn-of next at x t (changeSlots n) reads a (omega (arith, length-value 7 (n - putLen 0))) (wide-change n)
-    (λ xs f. change-inv next n xs lo hi f)
-    (subst (λ (ps : List Slot). Partly (match ps t)) s m))
-    (λ s. absurd (none-part t a (subst (λ (ps : List Slot). Partly (match ps t)) s m)))
+of-torn : (at n : ℕ) (b : Bool) (g : Frame) (m : Match) (x : ℕ) → ofMatch at n b g m ≡ torn x → OfTorn n b m x
+of-torn at n b g all x q = let z : _≡_ {A = ℕ} 0 1 = cc in absurd (omega arith)
+of-torn at n true g (part p) x q = record { tears = refl; partly = record { at = p; is = refl }; long = cc }
+of-torn at n false g (part p) x q = let z : _≡_ {A = ℕ} 0 1 = cc in absurd (omega arith)
+of-torn at n b g (misfit p) x q = let z : _≡_ {A = ℕ} 0 1 = cc in absurd (omega arith)
 
-pub torn-sound : (next at : ℕ) (t : List ℕ) (x : ℕ) → readFrame next at t ≡ torn x → Torn next t x
-torn-sound next at t x e =
+-- where a match stops is before the end
+pub stuck-before : (ps : List Slot) (t : List ℕ) (p : Slot) (y : Stuck ps t p) → y .place < length ps
+stuck-before ps t p y = omega (arith, length-drop (y .place) ps, ap length (y .is-slots))
+
+pub torn-sound : (e : Edition) (next at : ℕ) (t : List ℕ) (x : ℕ) → readFrameIn e next at t ≡ torn x → TornIn e next t x
+torn-sound e next at t x q =
     let n : ℕ = getD t 0 0 in
-    let k : ℕ = getD t 2 0 in
-    read-inv next at t (torn x) e (λ q. let z : _≡_ {A = ℕ} 0 1 = cc in omega arith) (λ y q. let z : _≡_ {A = ℕ} 0 1 = cc in omega arith)
-    (λ a l w. on-test (onlySettled next n k)
-    (λ s. absurd (settled-part at x (decode 5 n t) (match (settledSlots next n) t) (sym (laid-settled next at n k t s) ∙ w)))
-    (λ s. host-torn next at n x t e a l (host-part at n x (decode k n t) (match (hostSlots n) t) (sym (laid-host next at n k t s) ∙ w))))
+    let ps : List Slot = slotsAt e next t in
+    on-read e next at t (torn x) q
+    (λ a r. let z : _≡_ {A = ℕ} 0 1 = cc in absurd (omega arith))
+    (λ a b r. let z : _≡_ {A = ℕ} 0 1 = cc in absurd (omega arith))
+    (λ a l b r.
+    let o : OfTorn n (layoutAt e next t .tears) (match ps t) x =
+    of-torn at n (layoutAt e next t .tears) (decode e (getD t 2 0) n t) (match ps t) x r in
+    let p : Slot = o .partly .at in
+    let y : Stuck ps t p = match-stuck ps t p (subst (λ (m : Match). Stopped m p) (sym (o .partly .is)) refl) in
+    let i : ℕ = y .place in
+    let w : (left : ℕ) × (t ≡ take i t ++ replicate left 255) = subst (λ (m : Match). Blanks m t i) (o .partly .is) (y .blanks) in
+    let size : length ps ≡ n = length-slots e next t b in
+    let in-ps : i < length ps = stuck-before ps t p y in
+    let z : Begun e next t i = complete e next t i b (y .fit) (omega arith) in
+    record {
+      frame = z .frame;
+      k = i;
+      left = w .0;
+      of-host = z .tears (o .tears);
+      legal = z .stands;
+      some = some i (w .0) a (w .1);
+      not-all = omega (arith, z .size);
+      would-fit = omega (arith, z .size);
+      bytes = w .1 ∙ ap (λ (u : List ℕ). u ++ replicate (w .0) 255) (sym (z .bytes));
+      long = sym (o .long) ∙ sym (z .size);
+    })
+  where
+    some : (i m : ℕ) → allFF t ≡ false → t ≡ take i t ++ replicate m 255 → 1 ≤ i
+    some zero m a r = clash (allFF t) (ap allFF r ∙ allFF-all m) a
+    some (suc i) m a r = omega arith
 
 -- ---- blank and wrong
 
-host-blank : (at n : ℕ) (g : Frame) (m : Match) → ofHostMatch at n g m ≡ blank → ⊥
-host-blank at n g all e = let z : _≡_ {A = ℕ} 0 1 = cc in omega arith
-host-blank at n g (part p) e = let z : _≡_ {A = ℕ} 0 1 = cc in omega arith
-host-blank at n g (misfit p) e = let z : _≡_ {A = ℕ} 0 1 = cc in omega arith
+of-blank : (at n : ℕ) (b : Bool) (g : Frame) (m : Match) → ofMatch at n b g m ≡ blank → ⊥
+of-blank at n b g all q = let z : _≡_ {A = ℕ} 0 1 = cc in omega arith
+of-blank at n true g (part p) q = let z : _≡_ {A = ℕ} 0 1 = cc in omega arith
+of-blank at n false g (part p) q = let z : _≡_ {A = ℕ} 0 1 = cc in omega arith
+of-blank at n b g (misfit p) q = let z : _≡_ {A = ℕ} 0 1 = cc in omega arith
 
-settled-blank : (at : ℕ) (g : Frame) (m : Match) → ofSettledMatch at g m ≡ blank → ⊥
-settled-blank at g all e = let z : _≡_ {A = ℕ} 0 1 = cc in omega arith
-settled-blank at g (part p) e = let z : _≡_ {A = ℕ} 0 1 = cc in omega arith
-settled-blank at g (misfit p) e = let z : _≡_ {A = ℕ} 0 1 = cc in omega arith
+pub blank-sound : (e : Edition) (next at : ℕ) (t : List ℕ) → readFrameIn e next at t ≡ blank → Blank t
+blank-sound e next at t q =
+    on-read e next at t blank q
+    (λ a r. all-ff t a)
+    (λ a b r. let z : _≡_ {A = ℕ} 0 1 = cc in absurd (omega arith))
+    (λ a l b r. absurd (of-blank at (getD t 0 0) (layoutAt e next t .tears) (decode e (getD t 2 0) (getD t 0 0) t) (match (slotsAt e next t) t) r))
 
-laid-blank : (next at n k : ℕ) (t : List ℕ) → readLaid next at n k t ≡ blank → ⊥
-laid-blank next at n k t e =
-    on-test (onlySettled next n k)
-    (λ s. settled-blank at (decode 5 n t) (match (settledSlots next n) t) (sym (laid-settled next at n k t s) ∙ e))
-    (λ s. host-blank at n (decode k n t) (match (hostSlots n) t) (sym (laid-host next at n k t s) ∙ e))
+pub blank-reads : (e : Edition) (next at : ℕ) (t : List ℕ) → Blank t → readFrameIn e next at t ≡ blank
+blank-reads e next at t b = read-ff e next at t (is-ff t b)
 
-pub blank-sound : (next at : ℕ) (t : List ℕ) → readFrame next at t ≡ blank → Blank t
-unfolding readFrame
-blank-sound next at t e =
-    on-test (allFF t) (λ a. all-ff t a)
-    (λ a. on-test (leb (getD t 0 0) (length t))
-    (λ b. absurd (laid-blank next at (getD t 0 0) (getD t 2 0) t (rw (a, b, readFrame) at e)))
-    (λ b. let q : wrong (fault field.Length at) ≡ blank = rw (a, b, readFrame) at e in let z : _≡_ {A = ℕ} 0 1 = cc in absurd (omega arith)))
-
-pub blank-reads : (next at : ℕ) (t : List ℕ) → Blank t → readFrame next at t ≡ blank
-blank-reads next at t b = read-ff next at t (is-ff t b)
-
-pub whole-reads : (next at : ℕ) (t : List ℕ) (f : Frame) → Whole next t f → readFrame next at t ≡ whole f
-whole-reads next at t f w = ap (readFrame next at) (w .bytes) ∙ read-back next at f (w .rest) (w .stands)
-
-pub wrong-sound : (next at : ℕ) (t : List ℕ) (e : Fault) → readFrame next at t ≡ wrong e → Wrong next t
-wrong-sound next at t e q = record {
-  not-blank = λ b. let p : blank ≡ wrong e = sym (blank-reads next at t b) ∙ q in let z : _≡_ {A = ℕ} 0 1 = cc in omega arith;
-  not-whole = λ f w. let p : whole f ≡ wrong e = sym (whole-reads next at t f w) ∙ q in let z : _≡_ {A = ℕ} 0 1 = cc in omega arith;
-  not-torn = λ n y. let p : torn n ≡ wrong e = sym (torn-reads next at t n y) ∙ q in let z : _≡_ {A = ℕ} 0 1 = cc in omega arith;
+pub wrong-sound : (e : Edition) (next at : ℕ) (t : List ℕ) (x : Fault) → readFrameIn e next at t ≡ wrong x → Wrong e next t
+wrong-sound e next at t x q = record {
+  not-blank = λ b. let p : blank ≡ wrong x = sym (blank-reads e next at t b) ∙ q in let z : _≡_ {A = ℕ} 0 1 = cc in omega arith;
+  not-whole = λ f w. let p : whole f ≡ wrong x = sym (whole-reads e next at t f w) ∙ q in let z : _≡_ {A = ℕ} 0 1 = cc in omega arith;
+  not-torn = λ n y. let p : torn n ≡ wrong x = sym (torn-reads e next at t n y) ∙ q in let z : _≡_ {A = ℕ} 0 1 = cc in omega arith;
 }
 
-pub wrong-reads : (next at : ℕ) (t : List ℕ) → Wrong next t → (e : Fault) × (readFrame next at t ≡ wrong e)
-wrong-reads next at t w = go (readFrame next at t) refl
+pub wrong-reads : (e : Edition) (next at : ℕ) (t : List ℕ) → Wrong e next t → (x : Fault) × (readFrameIn e next at t ≡ wrong x)
+wrong-reads e next at t w = go (readFrameIn e next at t) refl
   where
-    go : (r : Read) → readFrame next at t ≡ r → (e : Fault) × (readFrame next at t ≡ wrong e)
-    go blank q = absurd (w .not-blank (blank-sound next at t q))
-    go (whole f) q = absurd (w .not-whole f (whole-sound next at t f q))
-    go (torn n) q = absurd (w .not-torn n (torn-sound next at t n q))
-    go (wrong e) q = (e, q)
+    go : (r : Read) → readFrameIn e next at t ≡ r → (x : Fault) × (readFrameIn e next at t ≡ wrong x)
+    go blank q = absurd (w .not-blank (blank-sound e next at t q))
+    go (whole f) q = absurd (w .not-whole f (whole-sound e next at t f q))
+    go (torn n) q = absurd (w .not-torn n (torn-sound e next at t n q))
+    go (wrong x) q = (x, q)

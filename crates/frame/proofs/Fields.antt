@@ -1,20 +1,21 @@
 -- The fields of frames, in address order, and the frames that bytes begin: there is one first bad field.
-use mathlib.Core.Path.{_≡_, refl, sym, ap, subst, _∙_}
+use mathlib.Core.Path.{_≡_, refl, sym, ap, ap₂, subst, _∙_}
 use mathlib.Core.List.{List, [], _∷_, _++_}
 use mathlib.Core.Logic.{inl, inr}
 use mathlib.Core.Bool.{true, false}
-use Prim.Native.Nat.{ℕ, zero, suc, _-_, _≤_, _<_}
+use Prim.Native.Nat.{ℕ, _+_, _-_, _≤_, _<_}
 use native.Mathlib.Omega.{arith}
 use lib.Dec.{eqb, leb}
-use lib.ListN.{getD, take, drop}
-use lib.Seq.{take-take, getD-take}
+use lib.ListN.{length, take, drop}
+use lib.Seq.{take-take}
 use borrow.Author.Tests.{leb-true, leb-false}
 use Rattle.flash.proofs.Cases.{on-test}
-use Rattle.frame.specs.Frame.{Frame, change, commit, abort, settled, put, delete, settledLen, encode, frameLen, OfHost}
-use Rattle.frame.specs.Sentences.{Span, span, Among, fieldsOf, Begins, FirstBad}
+use Rattle.frame.specs.declared.Edition.{Edition}
+use Rattle.frame.specs.declared.Edition.the-variants as edition
 use Rattle.frame.specs.declared.Field.the-variants as field
-use Rattle.frame.proofs.Encode.{plain, encode-plain}
-use Rattle.frame.proofs.Reading.{plain-first}
+use Rattle.frame.specs.Frame.{Frame, change, commit, abort, settled, put, delete, kindOf, body, checkLen, sealOf, bodyAt, encodeIn, frameLenIn}
+use Rattle.frame.specs.Sentences.{Span, span, Among, bodyFields, sealFields, fieldsOf, Begins, FirstBad}
+use Rattle.frame.proofs.Layouts.{begins-length, begins-kind}
 
 -- ---- spans in address order
 
@@ -45,16 +46,21 @@ overlapping P x y less p q b c n m = (
       (leb-false (x .end) (y .start)),
 )
 
-ordered-fields : (f : Frame) → Ordered 0 (fieldsOf f)
-ordered-fields (change h (put i v)) = omega arith
-ordered-fields (change h (delete i)) = omega arith
-ordered-fields (commit h) = omega arith
-ordered-fields (abort h) = omega arith
-ordered-fields (settled i v) = omega arith
+ordered-seal : (s : Edition) (o lo : ℕ) → lo ≤ o → Ordered lo (sealFields s o)
+ordered-seal edition.First o lo h = (omega arith, omega arith, tt)
+ordered-seal edition.Second o lo h = (omega arith, omega arith, (omega arith, omega arith, tt))
 
--- ---- what the front of a frame says
+-- ---- by kind
 
--- the fields by the numbers of kind and length
+ordered-body : (e : Edition) (f : Frame) → Ordered 4 (bodyFields f ++ sealFields (sealOf e f) (bodyAt + length (body f)))
+ordered-body e (change h (put i v)) =
+    (omega arith, omega arith, (omega arith, omega arith, ordered-seal e (bodyAt + length (body (change h (put i v)))) 7 (omega arith)))
+ordered-body e (change h (delete i)) = (omega arith, omega arith, (omega arith, omega arith, ordered-seal e 7 7 (omega arith)))
+ordered-body e (commit h) = (omega arith, omega arith, ordered-seal e 5 5 (omega arith))
+ordered-body e (abort h) = (omega arith, omega arith, ordered-seal e 5 5 (omega arith))
+ordered-body e (settled i v) = (omega arith, omega arith, ordered-seal e (bodyAt + length (body (settled i v))) 6 (omega arith))
+
+-- the fields by the number of the kind
 abbrev bodyBy : ℕ → List Span
 bodyBy k =
     elim (eqb k 5) [
@@ -62,80 +68,75 @@ bodyBy k =
       | false ↦ elim (leb k 2) [ true ↦ span field.Host 4 5 ∷ span field.Id 5 7 ∷ [] | false ↦ span field.Host 4 5 ∷ [] ]
     ]
 
-abbrev fieldsBy : ℕ → ℕ → List Span
-fieldsBy k n = span field.Length 0 2 ∷ span field.Kind 2 4 ∷ (bodyBy k ++ (span field.Finish (n - 1) n ∷ []))
+abbrev sealBy : Edition → ℕ → Edition
+sealBy e k = e
 
-fields-by : (f : Frame) → fieldsOf f ≡ fieldsBy (getD (plain f) 2 0) (frameLen f)
-fields-by (change h (put i v)) = refl
-fields-by (change h (delete i)) = refl
-fields-by (commit h) = refl
-fields-by (abort h) = refl
-fields-by (settled i v) = refl
+body-by : (f : Frame) → bodyFields f ≡ bodyBy (kindOf f)
+body-by (change h (put i v)) = refl
+body-by (change h (delete i)) = refl
+body-by (commit h) = refl
+body-by (abort h) = refl
+body-by (settled i v) = refl
 
-plain-second : (f : Frame) → getD (plain f) 1 0 ≡ 0
-plain-second (change h (put i v)) = refl
-plain-second (change h (delete i)) = refl
-plain-second (commit h) = refl
-plain-second (abort h) = refl
-plain-second (settled i v) = refl
+seal-by : (e : Edition) (f : Frame) → sealOf e f ≡ sealBy e (kindOf f)
+seal-by e (change h c) = refl
+seal-by e (commit h) = refl
+seal-by e (abort h) = refl
+seal-by e (settled i v) = refl
 
--- frames of one length start alike
-pub alike : (f g : Frame) → getD (plain f) 0 0 ≡ getD (plain g) 0 0 → (i : ℕ) → i < 2 → getD (plain f) i 0 ≡ getD (plain g) i 0
-alike f g e zero h = e
-alike f g e (suc zero) h = plain-second f ∙ sym (plain-second g)
-alike f g e (suc (suc i)) h = absurd (omega arith)
+-- ---- the fields of a frame
 
--- a frame of kinds 1 to 4 has neither kind 5 nor 7 bytes
-pub of-host : (f : Frame) → OfHost f → (getD (plain f) 2 0 ≡ 5 → ⊥) × (getD (plain f) 0 0 ≡ settledLen 0 → ⊥)
-of-host (change h (put i v)) u = (omega arith, omega arith)
-of-host (change h (delete i)) u = (omega arith, omega arith)
-of-host (commit h) u = (omega arith, omega arith)
-of-host (abort h) u = (omega arith, omega arith)
-of-host (settled i v) u = absurd u
+ordered-fields : (e : Edition) (f : Frame) → Ordered 0 (fieldsOf e f)
+ordered-fields e f = (omega arith, omega arith, (omega arith, omega arith, ordered-body e f))
+
+abbrev fieldsBy : Edition → ℕ → ℕ → List Span
+fieldsBy e k n = span field.Length 0 2 ∷ span field.Kind 2 4 ∷ (bodyBy k ++ sealFields (sealBy e k) (n - 1 - checkLen (sealBy e k)))
+
+fields-by : (e : Edition) (f : Frame) → fieldsOf e f ≡ fieldsBy e (kindOf f) (frameLenIn e f)
+fields-by e f =
+    let o : bodyAt + length (body f) ≡ frameLenIn e f - 1 - checkLen (sealOf e f) = omega arith in
+    ap₂ (λ (b s : List Span). span field.Length 0 2 ∷ span field.Kind 2 4 ∷ (b ++ s)) (body-by f)
+    (ap (sealFields (sealOf e f)) o ∙ ap (λ (s : Edition). sealFields s (frameLenIn e f - 1 - checkLen s)) (seal-by e f))
 
 -- ---- frames that bytes begin
 
-begins-less : (next : ℕ) (t : List ℕ) (i j : ℕ) (f : Frame) → i ≤ j → Begins next t j f → Begins next t i f
-begins-less next t i j f h y = record {
+begins-less : (e : Edition) (next : ℕ) (t : List ℕ) (i j : ℕ) (f : Frame) → i ≤ j → Begins e next t j f → Begins e next t i f
+begins-less e next t i j f h y = record {
   stands = y .stands;
   fits = y .fits;
-  bytes = sym (take-take i j t h) ∙ ap (take i) (y .bytes) ∙ take-take i j (encode f) h;
+  bytes = sym (take-take i j t h) ∙ ap (take i) (y .bytes) ∙ take-take i j (encodeIn e f) h;
 }
-
-pub begins-at : (next : ℕ) (t : List ℕ) (i j : ℕ) (f : Frame) → i < j → Begins next t j f → getD t i 0 ≡ getD (plain f) i 0
-begins-at next t i j f h y =
-    sym (getD-take j t i 0 h) ∙ ap (λ (l : List ℕ). getD l i 0) (y .bytes) ∙ getD-take j (encode f) i 0 h
-    ∙ ap (λ (l : List ℕ). getD l i 0) (encode-plain next f (y .stands))
 
 -- ---- one first bad field
 
-begins-fields : (next : ℕ) (t : List ℕ) (f g : Frame) → Begins next t 4 f → Begins next t 4 g → fieldsOf f ≡ fieldsOf g
-begins-fields next t f g y z =
-    let k : getD (plain f) 2 0 ≡ getD (plain g) 2 0 = sym (begins-at next t 2 4 f (omega arith) y) ∙ begins-at next t 2 4 g (omega arith) z in
-    let n : getD (plain f) 0 0 ≡ getD (plain g) 0 0 = sym (begins-at next t 0 4 f (omega arith) y) ∙ begins-at next t 0 4 g (omega arith) z in
-    let m : frameLen f ≡ frameLen g = sym (plain-first f) ∙ n ∙ plain-first g in
-    fields-by f ∙ ap (λ (x : ℕ). fieldsBy x (frameLen f)) k ∙ ap (fieldsBy (getD (plain g) 2 0)) m ∙ sym (fields-by g)
+begins-fields : (e : Edition) (next : ℕ) (t : List ℕ) (f g : Frame) → Begins e next t 4 f → Begins e next t 4 g → fieldsOf e f ≡ fieldsOf e g
+begins-fields e next t f g y z =
+    let k : kindOf f ≡ kindOf g =
+    sym (begins-kind e next t 4 f (y .stands) (y .bytes) (omega arith)) ∙ begins-kind e next t 4 g (z .stands) (z .bytes) (omega arith) in
+    let n : frameLenIn e f ≡ frameLenIn e g =
+    sym (begins-length e next t 4 f (y .stands) (y .bytes) (omega arith)) ∙ begins-length e next t 4 g (z .stands) (z .bytes) (omega arith) in
+    fields-by e f ∙ ap₂ (fieldsBy e) k n ∙ sym (fields-by e g)
 
 -- past the kind the two frames have the same fields; before its end all frames have
-common : (next : ℕ) (t : List ℕ) (x y : Span) (f g : Frame) → Among x (fieldsOf f) → Among y (fieldsOf g)
-    → (0 < x .start → Begins next t (x .start) f) → (0 < y .start → Begins next t (y .start) g) → x .start < y .end → y .start < x .end → x ≡ y
-common next t x y f g (inl e) n b c p q = overlap 0 (fieldsOf g) x y (ordered-fields g) (inl e) n p q
-common next t x y f g (inr (inl e)) n b c p q = overlap 0 (fieldsOf g) x y (ordered-fields g) (inr (inl e)) n p q
-common next t x y f g (inr (inr m)) (inl e) b c p q = overlap 0 (fieldsOf f) x y (ordered-fields f) (inr (inr m)) (inl e) p q
-common next t x y f g (inr (inr m)) (inr (inl e)) b c p q = overlap 0 (fieldsOf f) x y (ordered-fields f) (inr (inr m)) (inr (inl e)) p q
-common next t x y f g (inr (inr m)) (inr (inr n)) b c p q =
-    let lo : 4 ≤ x .start = among-from 4 (drop 2 (fieldsOf f)) x (ordered-fields f .2 .2) m .0 in
-    let hi : 4 ≤ y .start = among-from 4 (drop 2 (fieldsOf g)) y (ordered-fields g .2 .2) n .0 in
-    let e : fieldsOf g ≡ fieldsOf f =
-    begins-fields next t g f (begins-less next t 4 (y .start) g hi (c (omega arith))) (begins-less next t 4 (x .start) f lo (b (omega arith))) in
-    overlap 0 (fieldsOf f) x y (ordered-fields f) (inr (inr m)) (subst (Among y) e (inr (inr n))) p q
+common : (e : Edition) (next : ℕ) (t : List ℕ) (x y : Span) (f g : Frame) → Among x (fieldsOf e f) → Among y (fieldsOf e g)
+    → (0 < x .start → Begins e next t (x .start) f) → (0 < y .start → Begins e next t (y .start) g) → x .start < y .end → y .start < x .end → x ≡ y
+common e next t x y f g (inl r) n b c p q = overlap 0 (fieldsOf e g) x y (ordered-fields e g) (inl r) n p q
+common e next t x y f g (inr (inl r)) n b c p q = overlap 0 (fieldsOf e g) x y (ordered-fields e g) (inr (inl r)) n p q
+common e next t x y f g (inr (inr m)) (inl r) b c p q = overlap 0 (fieldsOf e f) x y (ordered-fields e f) (inr (inr m)) (inl r) p q
+common e next t x y f g (inr (inr m)) (inr (inl r)) b c p q = overlap 0 (fieldsOf e f) x y (ordered-fields e f) (inr (inr m)) (inr (inl r)) p q
+common e next t x y f g (inr (inr m)) (inr (inr n)) b c p q =
+    let lo : 4 ≤ x .start = among-from 4 (drop 2 (fieldsOf e f)) x (ordered-fields e f .2 .2) m .0 in
+    let hi : 4 ≤ y .start = among-from 4 (drop 2 (fieldsOf e g)) y (ordered-fields e g .2 .2) n .0 in
+    let r : fieldsOf e g ≡ fieldsOf e f =
+    begins-fields e next t g f (begins-less e next t 4 (y .start) g hi (c (omega arith))) (begins-less e next t 4 (x .start) f lo (b (omega arith))) in
+    overlap 0 (fieldsOf e f) x y (ordered-fields e f) (inr (inr m)) (subst (Among y) r (inr (inr n))) p q
 
-pub first-one : (next : ℕ) (t : List ℕ) (x y : Span) → FirstBad next t x → FirstBad next t y → x ≡ y
-first-one next t x y a b =
+pub first-one : (e : Edition) (next : ℕ) (t : List ℕ) (x y : Span) → FirstBad e next t x → FirstBad e next t y → x ≡ y
+first-one e next t x y a b =
     let o : (x .start < y .end) × (y .start < x .end) =
-    overlapping (λ j. (f : Frame) × Begins next t j f) x y (λ i j h z. (z .0, begins-less next t i j (z .0) h (z .1))) (sized x a) (sized y b)
+    overlapping (λ j. (f : Frame) × Begins e next t j f) x y (λ i j h z. (z .0, begins-less e next t i j (z .0) h (z .1))) (sized x a) (sized y b)
     (λ h. (a .frame, a .before h)) (λ h. (b .frame, b .before h)) (λ z. a .none (z .0) (z .1)) (λ z. b .none (z .0) (z .1)) in
-    common next t x y (a .frame) (b .frame) (a .has) (b .has) (a .before) (b .before) (o .0) (o .1)
+    common e next t x y (a .frame) (b .frame) (a .has) (b .has) (a .before) (b .before) (o .0) (o .1)
   where
-    sized : (x : Span) → FirstBad next t x → x .start < x .end
-    sized x a = among-from 0 (fieldsOf (a .frame)) x (ordered-fields (a .frame)) (a .has) .1
+    sized : (x : Span) → FirstBad e next t x → x .start < x .end
+    sized x a = among-from 0 (fieldsOf e (a .frame)) x (ordered-fields e (a .frame)) (a .has) .1

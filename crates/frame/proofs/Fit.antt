@@ -1,21 +1,16 @@
--- Layouts: what bytes that fit one match as, and which layout a legal frame's bytes fit.
-use mathlib.Core.Path.{_≡_, refl, ap, _∙_}
+-- Bytes held against slots: what bytes that fit match as, and what a match has seen.
+use mathlib.Core.Path.{_≡_, refl, sym, ap, subst, _∙_}
 use mathlib.Core.List.{List, [], _∷_, _++_}
-use mathlib.Core.Bool.{Bool, true, false}
-use Prim.Native.Nat.{ℕ, zero, suc, _+_, _-_, _≤_, _<_}
+use mathlib.Core.Bool.{true, false}
+use Prim.Native.Nat.{ℕ, zero, suc, _+_, _≤_, _<_}
 use native.Mathlib.Omega.{arith}
-use lib.Dec.{eqb, leb}
-use lib.ListN.{length, getD, take, replicate}
-use borrow.Author.Tests.{ne-eqb, lt-leb}
-use Rattle.flash.specs.Bytes.{Bytes, allFF}
-use Rattle.flash.proofs.Cases.{on-test, and-no-right, between-yes}
-use Rattle.flash.proofs.Blank.{allFF-all}
-use Rattle.frame.specs.Frame.{Frame, change, commit, abort, settled, put, delete, finish, valueMax, putLen, deleteLen, endLen}
-use Rattle.frame.specs.Frame.{settledLen, MayStand, OfHost}
-use Rattle.frame.specs.Reader.{Slot, slot, fits, valueSlots, lastKind, changeSlots, settledSlots, hostSlots, Match, all, part, misfit, match}
-use Rattle.frame.specs.declared.ObjectId.{ObjectId}
-use Rattle.frame.specs.declared.Field.the-variants as field
-use Rattle.frame.proofs.Encode.{plain}
+use lib.Dec.{leb}
+use lib.ListN.{length, getD, take, drop, replicate}
+use borrow.Author.Tests.{lt-leb}
+use Rattle.flash.specs.Bytes.{allFF}
+use Rattle.flash.proofs.Cases.{on-test, and-no-right, between, between-yes}
+use Rattle.flash.proofs.Blank.{allFF-all, all-ff}
+use Rattle.frame.specs.Reader.{Slot, fits, Match, all, part, misfit, match}
 
 -- each byte fits its slot
 abbrev pub Fit : List Slot → List ℕ → Type 0
@@ -29,6 +24,56 @@ fit-length [] [] r = refl
 fit-length [] (b ∷ t) r = absurd r
 fit-length (p ∷ ps) [] r = absurd r
 fit-length (p ∷ ps) (b ∷ t) r = ap suc (fit-length ps t (r .2))
+
+pub fit-append : (a b : List Slot) (x y : List ℕ) → Fit a x → Fit b y → Fit (a ++ b) (x ++ y)
+fit-append [] b [] y f g = g
+fit-append [] b (c ∷ x) y f g = absurd f
+fit-append (p ∷ a) b [] y f g = absurd f
+fit-append (p ∷ a) b (c ∷ x) y (l, h, f) g = (l, h, fit-append a b x y f g)
+
+pub fit-split : (a b : List Slot) (xs : List ℕ) → Fit (a ++ b) xs → Fit a (take (length a) xs) × Fit b (drop (length a) xs)
+fit-split [] b xs f = (tt, f)
+fit-split (p ∷ a) b [] f = absurd f
+fit-split (p ∷ a) b (x ∷ xs) (l, h, f) = let r : Fit a (take (length a) xs) × Fit b (drop (length a) xs) = fit-split a b xs f in ((l, h, r .0), r .1)
+
+pub fit-take : (j : ℕ) (ps : List Slot) (xs : List ℕ) → Fit ps xs → Fit (take j ps) (take j xs)
+fit-take zero ps xs f = tt
+fit-take (suc j) [] [] f = tt
+fit-take (suc j) [] (x ∷ xs) f = absurd f
+fit-take (suc j) (p ∷ ps) [] f = absurd f
+fit-take (suc j) (p ∷ ps) (x ∷ xs) (l, h, f) = (l, h, fit-take j ps xs f)
+
+-- the byte at a slot's place
+pub fit-at : (i j : ℕ) (ps others : List Slot) (p : Slot) (t : List ℕ) → drop i ps ≡ p ∷ others → i < j → Fit (take j ps) (take j t)
+    → fits p (getD t i 0) ≡ true
+fit-at i zero ps others p t e h f = absurd (omega arith)
+fit-at zero (suc j) [] others p t e h f = let z : _≡_ {A = ℕ} 0 1 = cc in absurd (omega arith)
+fit-at (suc i) (suc j) [] others p t e h f = let z : _≡_ {A = ℕ} 0 1 = cc in absurd (omega arith)
+fit-at i (suc j) (q ∷ ps) others p [] e h f = absurd f
+fit-at zero (suc j) (q ∷ ps) others p (b ∷ t) e h f =
+    let s : q ≡ p = cc in subst (λ (x : Slot). fits x b ≡ true) s (between-yes (q .lo) b (q .hi) (f .0) (f .1))
+fit-at (suc i) (suc j) (q ∷ ps) others p (b ∷ t) e h f = fit-at i j ps others p t e (omega arith) (f .2)
+
+-- ---- the least bytes that fit
+
+abbrev pub Wide : List Slot → Type 0
+Wide [] = Unit {0}
+Wide (p ∷ ps) = (p .lo ≤ p .hi) × Wide ps
+
+pub least : List Slot → List ℕ
+least [] = []
+least (p ∷ ps) = p .lo ∷ least ps
+
+-- bytes that fit the first slots, completed
+pub fit-complete : (i : ℕ) (ps : List Slot) (xs : List ℕ) → Fit (take i ps) xs → Wide ps → Fit ps (xs ++ least (drop i ps))
+unfolding least
+fit-complete zero [] [] f w = tt
+fit-complete zero (p ∷ ps) [] f (h, w) = (omega arith, h, fit-complete zero ps [] tt w)
+fit-complete zero ps (x ∷ xs) f w = absurd f
+fit-complete (suc i) [] [] f w = tt
+fit-complete (suc i) [] (x ∷ xs) f w = absurd f
+fit-complete (suc i) (p ∷ ps) [] f w = absurd f
+fit-complete (suc i) (p ∷ ps) (x ∷ xs) (l, h, f) (k, w) = (l, h, fit-complete i ps xs f w)
 
 -- ---- the steps of a match
 
@@ -61,6 +106,18 @@ Closed [] = ⊥
 Closed (p ∷ []) = p .hi < 255
 Closed (p ∷ q ∷ ps) = Closed (q ∷ ps)
 
+pub closed-append : (a b : List Slot) → Closed b → Closed (a ++ b)
+closed-append [] b c = c
+closed-append (p ∷ []) [] c = absurd c
+closed-append (p ∷ []) (q ∷ b) c = c
+closed-append (p ∷ q ∷ a) b c = closed-append (q ∷ a) b c
+
+pub closed-drop : (j : ℕ) (ps : List Slot) → Closed ps → j < length ps → Closed (drop j ps)
+closed-drop zero ps c h = c
+closed-drop (suc j) [] c h = absurd c
+closed-drop (suc j) (p ∷ []) c h = absurd (omega arith)
+closed-drop (suc j) (p ∷ q ∷ ps) c h = closed-drop j (q ∷ ps) c (omega arith)
+
 pub record Partly (m : Match) : Type 0 where
   pub at : Slot
   pub is : m ≡ part at
@@ -81,92 +138,93 @@ match-ff (p ∷ q ∷ ps) (suc m) c h =
     (match-ff (q ∷ ps) m c (omega arith)))
     (λ e. match-no p (q ∷ ps) m e)
 
--- fewer than all of them, and 0xFF after
-pub match-some : (ps : List Slot) (bs : List ℕ) (k m : ℕ) → Fit ps bs → Closed ps → k < length bs → length bs ≤ k + m
-    → Partly (match ps (take k bs ++ replicate m 255))
-match-some ps bs zero m r c h l = match-ff ps m c (omega (arith, fit-length ps bs r))
-match-some [] bs (suc k) m r c h l = absurd c
-match-some (p ∷ ps) [] (suc k) m r c h l = absurd r
-match-some (p ∷ []) (b ∷ []) (suc k) m r c h l = absurd (omega arith)
-match-some (p ∷ []) (b ∷ b′ ∷ t) (suc k) m r c h l = absurd (r .2)
-match-some (p ∷ q ∷ ps) (b ∷ t) (suc k) m r c h l =
-    let s : List ℕ = take k t ++ replicate m 255 in
-    over (match (p ∷ q ∷ ps) (b ∷ s)) (match (q ∷ ps) s) (match-yes p (q ∷ ps) b s (r .0) (r .1))
-    (match-some (q ∷ ps) t k m (r .2) c (omega arith) (omega arith))
+-- bytes that fit the first slots, and 0xFF after them
+pub match-some : (k : ℕ) (ps : List Slot) (xs : List ℕ) (m : ℕ) → Fit (take k ps) xs → Closed ps → k < length ps → length ps ≤ k + m
+    → Partly (match ps (xs ++ replicate m 255))
+match-some zero ps [] m f c h l = match-ff ps m c (omega arith)
+match-some zero ps (x ∷ xs) m f c h l = absurd f
+match-some (suc k) [] xs m f c h l = absurd c
+match-some (suc k) (p ∷ ps) [] m f c h l = absurd f
+match-some (suc k) (p ∷ []) (x ∷ xs) m f c h l = absurd (omega arith)
+match-some (suc k) (p ∷ q ∷ ps) (x ∷ xs) m f c h l =
+    let s : List ℕ = xs ++ replicate m 255 in
+    over (match (p ∷ q ∷ ps) (x ∷ s)) (match (q ∷ ps) s) (match-yes p (q ∷ ps) x s (f .0) (f .1))
+    (match-some k (q ∷ ps) xs m (f .2) c (omega arith) (omega arith))
 
--- ---- the layout of each kind
+-- ---- what a match has seen
 
-fit-value : (o : ℕ) (v : List ℕ) → Bytes v → Fit (valueSlots o (length v)) (v ++ (finish ∷ []))
-fit-value o [] h = (omega arith, omega arith, tt)
-fit-value o (b ∷ v) (h, r) = (omega arith, omega arith, fit-value (suc o) v r)
+pub match-seen : (ps : List Slot) (t : List ℕ) → match ps t ≡ all → Fit ps (take (length ps) t)
+unfolding match
+match-seen [] t e = tt
+match-seen (p ∷ ps) [] e = let z : _≡_ {A = ℕ} 0 1 = cc in absurd (omega arith)
+match-seen (p ∷ ps) (b ∷ t) e =
+    on-test (fits p b)
+    (λ q.
+    let w : (p .lo ≤ b) × (b ≤ p .hi) = between (p .lo) b (p .hi) q in
+    (w .0, w .1, match-seen ps t (sym (match-go p ps b t q) ∙ e)))
+    (λ q. on-test (allFF (b ∷ t))
+    (λ a. let r : part p ≡ all = sym (match-part p ps b t q a) ∙ e in let z : _≡_ {A = ℕ} 0 1 = cc in absurd (omega arith))
+    (λ a. let r : misfit p ≡ all = sym (match-misfit p ps b t q a) ∙ e in let z : _≡_ {A = ℕ} 0 1 = cc in absurd (omega arith)))
 
-pub slots-change : (n : ℕ) → putLen 0 ≤ n → n ≤ putLen valueMax → hostSlots n ≡ changeSlots n
-slots-change n lo hi = rw (ne-eqb n endLen (omega arith), between-yes (putLen 0) n (putLen valueMax) lo hi, hostSlots)
+-- ---- where a match stops
 
-pub last-kind : (b : Bool) → 1 ≤ lastKind b
-last-kind true = omega arith
-last-kind false = omega arith
+abbrev pub Stopped : Match → Slot → Type 0
+Stopped all p = ⊥
+Stopped (part q) p = q ≡ p
+Stopped (misfit q) p = q ≡ p
 
--- a frame of kinds 1 to 4 fits the layout of its length
-pub fit-host : (next : ℕ) (f : Frame) → OfHost f → MayStand next f → Fit (hostSlots (getD (plain f) 0 0)) (plain f)
-fit-host next (change h (put i v)) u (hh, hi, (hv, hb)) =
-    let e : putLen (length v) - putLen 0 ≡ length v = omega arith in
-    rw (slots-change (putLen (length v)) (omega arith) (omega arith)) (
-      omega arith,
-      omega arith,
-      (
-        omega arith,
-        omega arith,
-        (
-          omega arith,
-          last-kind (eqb (putLen (length v)) deleteLen),
-          (
-            omega arith,
-            omega arith,
-            (
-              omega arith,
-              omega arith,
-              (omega arith, omega arith, (omega arith, omega arith, rw e (fit-value 7 v hb))),
-            ),
-          ),
-        ),
-      ),
-    )
-fit-host next (change h (delete i)) u (hh, hi) = omega arith
-fit-host next (commit h) u hh = omega arith
-fit-host next (abort h) u hh = omega arith
-fit-host next (settled i v) u g = absurd u
+-- where it is part, only 0xFF follows
+abbrev pub Blanks : Match → List ℕ → ℕ → Type 0
+Blanks all t i = Unit {0}
+Blanks (part q) t i = (left : ℕ) × (t ≡ take i t ++ replicate left 255)
+Blanks (misfit q) t i = Unit {0}
 
-pub fit-settled : (next : ℕ) (i : ObjectId) (v : List ℕ) → MayStand next (settled i v) → Fit (settledSlots next (settledLen (length v))) (plain (settled i v))
-fit-settled next i v (hn, hi, (hv, hb)) =
-    let e : settledLen (length v) - settledLen 0 ≡ length v = omega arith in (
-      omega arith,
-      omega arith,
-      (
-        omega arith,
-        omega arith,
-        (omega arith, omega arith, (omega arith, omega arith, (hn, hi, (omega arith, omega arith, rw e (fit-value 6 v hb))))),
-      ),
-    )
+blanks-more : (m : Match) (b : ℕ) (t : List ℕ) (i : ℕ) → Blanks m t i → Blanks m (b ∷ t) (suc i)
+blanks-more all b t i y = tt
+blanks-more (part q) b t i (n, e) = (n, ap (λ (x : List ℕ). b ∷ x) e)
+blanks-more (misfit q) b t i y = tt
 
--- ---- each ends in a slot for the finish byte
+-- the bytes before the slot fit, and the one there does not
+pub record Stuck (ps : List Slot) (t : List ℕ) (p : Slot) : Type 0 where
+  pub place : ℕ
+  pub others : List Slot
+  pub is-slots : drop place ps ≡ p ∷ others
+  pub fit : Fit (take place ps) (take place t)
+  pub unfit : place < length t → fits p (getD t place 0) ≡ false
+  pub blanks : Blanks (match ps t) t place
 
-pub closed-value : (o v : ℕ) → Closed (valueSlots o v)
-closed-value o zero = omega arith
-closed-value o (suc zero) = omega arith
-closed-value o (suc (suc v)) = closed-value (suc o) (suc v)
-
-pub closed-cons : (p : Slot) (ps : List Slot) → Closed ps → Closed (p ∷ ps)
-closed-cons p [] c = absurd c
-closed-cons p (q ∷ ps) c = c
-
-closed-change : (n : ℕ) → Closed (changeSlots n)
-closed-change n = closed-cons (slot field.Id 5 0 0) (valueSlots 7 (n - putLen 0)) (closed-value 7 (n - putLen 0))
-
-pub closed-host : (next : ℕ) (f : Frame) → OfHost f → MayStand next f → Closed (hostSlots (getD (plain f) 0 0))
-closed-host next (change h (put i v)) u (hh, hi, (hv, hb)) =
-    rw (slots-change (putLen (length v)) (omega arith) (omega arith)) (closed-change (putLen (length v)))
-closed-host next (change h (delete i)) u g = closed-change deleteLen
-closed-host next (commit h) u g = omega arith
-closed-host next (abort h) u g = omega arith
-closed-host next (settled i v) u g = absurd u
+pub match-stuck : (ps : List Slot) (t : List ℕ) (p : Slot) → Stopped (match ps t) p → Stuck ps t p
+unfolding match
+match-stuck [] t p s = absurd s
+match-stuck (q ∷ ps) [] p s =
+    record { place = 0; others = ps; is-slots = ap (λ (x : Slot). x ∷ ps) s; fit = tt; unfit = λ l. absurd (omega arith); blanks = tt }
+match-stuck (q ∷ ps) (b ∷ t) p s =
+    on-test (fits q b)
+    (λ e.
+    let y : Stuck ps t p = match-stuck ps t p (subst (λ (m : Match). Stopped m p) (match-go q ps b t e) s) in
+    let w : (q .lo ≤ b) × (b ≤ q .hi) = between (q .lo) b (q .hi) e in
+    record {
+      place = suc (y .place);
+      others = y .others;
+      is-slots = y .is-slots;
+      fit = (w .0, w .1, y .fit);
+      unfit = λ l. y .unfit (omega arith);
+      blanks = subst (λ (m : Match). Blanks m (b ∷ t) (suc (y .place))) (sym (match-go q ps b t e)) (blanks-more (match ps t) b t (y .place) (y .blanks));
+    })
+    (λ e. on-test (allFF (b ∷ t))
+    (λ a.
+    let m : match (q ∷ ps) (b ∷ t) ≡ part q = match-part q ps b t e a in
+    here e (subst (λ (m : Match). Stopped m p) m s) (subst (λ (m : Match). Blanks m (b ∷ t) 0) (sym m) (suc (length t), all-ff (b ∷ t) a)))
+    (λ a.
+    let m : match (q ∷ ps) (b ∷ t) ≡ misfit q = match-misfit q ps b t e a in
+    here e (subst (λ (m : Match). Stopped m p) m s) (subst (λ (m : Match). Blanks m (b ∷ t) 0) (sym m) tt)))
+  where
+    here : fits q b ≡ false → q ≡ p → Blanks (match (q ∷ ps) (b ∷ t)) (b ∷ t) 0 → Stuck (q ∷ ps) (b ∷ t) p
+    here e r y = record {
+      place = 0;
+      others = ps;
+      is-slots = ap (λ (x : Slot). x ∷ ps) r;
+      fit = tt;
+      unfit = λ l. subst (λ (x : Slot). fits x b ≡ false) r e;
+      blanks = y;
+    }

@@ -2,21 +2,22 @@
 
 -- ---- bytes of frames
 pub mod ByKind  -- each kind's bytes in document 01's numbers: to read
-pub mod Encode  -- lengths and bytes: for the files below, journal, board
-pub mod Stores  -- copies into a buffer: for src/bytes, wire
-pub mod Heads  -- a frame is its head and its value: for journal
+pub mod Encode  -- lengths and bytes: for the files below
+pub mod Stores  -- copies into a buffer: for src/bytes
 -- ---- the reader
-pub mod Fit  -- layouts that a legal frame fits: for Reading, Exact, Inverse
-pub mod Reading  -- what a legal frame's bytes read as: for Exact, Scanning, journal
-pub mod Inverse  -- from layouts back to frames: for Exact, Places
-pub mod Exact  -- document 01's sentences on a frame: for Scanned, Sentences, journal
+pub mod Fit  -- bytes held against slots: for Own, Shape, Layouts, Exact
+pub mod Own  -- each kind: its length, its layout, its bytes read back: for Shape, Exact, src/reader
+pub mod Shape  -- and what fits a layout is a frame: for Layouts, Faults
+pub mod Layouts  -- frames and slots, every kind and edition at once: for Exact, Faults
+pub mod Exact  -- document 01's sentences on a frame: for Scanned, Sentences, First
 pub mod Fields  -- fields of frames, the first bad one: for Faults, journal
-pub mod Slots  -- layouts and fields: for Faults
-pub mod Faults  -- where the reader says wrong: for Sentences, journal
+pub mod Faults  -- where the reader says wrong: for Sentences, First, src/reader
 pub mod Sentences  -- all of them: to read
-pub mod Places  -- a fault lies in the bytes read: for src/reader
+pub mod Heads  -- a frame is its head and its value: for First
 -- ---- journals
-pub mod Scanning  -- frames written are read back: for journal, board
-pub mod Scanned  -- any bytes read as a journal: for journal, store
+pub mod Scanning  -- frames written are read back: for First
+pub mod Scanned  -- any bytes read as a journal: for First
+-- ---- the first edition
+pub mod First  -- the laws as the crates above use them
 -- ---- rows
 pub mod Examples  -- rows b and c

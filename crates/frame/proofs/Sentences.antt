@@ -1,112 +1,113 @@
--- The reader is the papers': what it says, where it says wrong, and what that is of settled frames.
-use mathlib.Core.Path.{_≡_, refl, sym, ap, _∙_}
+-- The reader is the papers': what it says, where it says wrong, and what that is of settled frames, in each edition.
+use mathlib.Core.Path.{_≡_, sym, ap, ap₂, subst, _∙_}
 use mathlib.Core.List.{List, [], _∷_, _++_}
 use mathlib.Core.Logic.{_⊎_, inl, inr}
-use mathlib.Core.Bool.{Bool, true, false, _||_}
-use Prim.Native.Nat.{ℕ, zero, suc, _+_, _-_, _≤_, _<_}
+use mathlib.Core.Bool.{Bool, false}
+use Prim.Native.Nat.{ℕ, _+_, _/_, _%_, _≤_, _<_}
 use native.Mathlib.Omega.{arith}
-use native.Mathlib.Nat.{add-zero}
-use lib.Dec.{eqb, leb}
-use lib.ListN.{length, getD, take, drop, replicate, length-append, length-take, length-replicate}
-use borrow.Author.Tests.{lt-leb, eq-eqb}
-use Rattle.flash.proofs.Cases.{and-no-right, or-right, between-yes}
+use lib.Dec.{leb}
+use lib.ListN.{length, getD, take, drop, replicate, length-append}
+use lib.Seq.{take-at, length-take-le}
+use borrow.Author.Tests.{lt-leb, le-leb}
+use Rattle.flash.proofs.Cases.{and-both, and-no-right, between-yes}
 use Rattle.flash.proofs.Blank.{allFF-no}
-use Rattle.frame.specs.Frame.{settled, finish, valueMax, settledLen, deleteLen, encode, frameLen, LegalValue, MayStand, putLen}
-use Rattle.frame.specs.Reader.{wrong, fault, Slot, slot, lastKind, changeSlots, settledSlots, hostSlots, valueSlots, decode}
-use Rattle.frame.specs.Reader.{misfit, match, faultAt, ofHostMatch, ofSettledMatch, readFrame}
-use Rattle.frame.specs.Sentences.{ReaderExact, SettledWrong, lastFault}
+use Rattle.frame.specs.declared.Edition.{Edition}
 use Rattle.frame.specs.declared.Fault.{Fault}
 use Rattle.frame.specs.declared.Field.the-variants as field
 use Rattle.frame.specs.declared.ObjectId.{ObjectId}
-use Rattle.frame.proofs.Encode.{plain, encode-plain, length-encode}
-use Rattle.frame.proofs.Fit.{Partly, match-go, match-misfit, match-some, slots-change, fit-settled, closed-value, closed-cons}
-use Rattle.frame.proofs.Reading.{read-long, laid-host, laid-settled, only-yes}
+use Rattle.frame.specs.Frame.{Frame, change, settled, put, hostOf, idOf, idMax, bodyAt, encodeIn, frameLenIn, LegalValue, MayStandIn}
+use Rattle.frame.specs.Reader.{wrong, Slot, slot, Layout, layoutOf, frontSlots, sealSlots, hasLength, Match, misfit, match, decode, faultAt}
+use Rattle.frame.specs.Reader.{ofMatch, readFrameIn}
+use Rattle.frame.specs.Sentences.{ReaderExact, SettledWrong, lastFault}
+use Rattle.frame.proofs.Encode.{frame-small, length-encode}
+use Rattle.frame.proofs.Fit.{Fit, Partly, match-go, match-misfit, match-some}
+use Rattle.frame.proofs.Own.{has-length, settled-tears, last-length, last-layout}
+use Rattle.frame.proofs.Layouts.{layoutAt, slotsAt, closed-slots, begins-length, begins-kind, begins-fit}
+use Rattle.frame.proofs.Exact.{read-laid, read-short, begins-laid, begins-slots, length-cut}
 use Rattle.frame.proofs.Exact.{blank-sound, blank-reads, whole-sound, whole-reads, torn-sound, torn-reads, wrong-sound, wrong-reads}
 use Rattle.frame.proofs.Faults.{wrong-at-sound, wrong-at-reads}
 
-pub reader-exact : ReaderExact
-reader-exact = record {
-  is-blank = λ next at t. (blank-sound next at t, blank-reads next at t);
-  is-whole = λ next at t f. (whole-sound next at t f, whole-reads next at t f);
-  is-torn = λ next at t n. (torn-sound next at t n, torn-reads next at t n);
-  is-wrong = λ next at t. ((λ p. wrong-sound next at t (p .0) (p .1)), wrong-reads next at t);
-  is-wrong-at = λ next at t e y. (wrong-at-sound next at t e y, wrong-at-reads next at t e y);
+pub reader-exact : (e : Edition) → ReaderExact e
+reader-exact e = record {
+  is-blank = λ next at t. (blank-sound e next at t, blank-reads e next at t);
+  is-whole = λ next at t f. (whole-sound e next at t f, whole-reads e next at t f);
+  is-torn = λ next at t n. (torn-sound e next at t n, torn-reads e next at t n);
+  is-wrong = λ next at t. ((λ p. wrong-sound e next at t (p .0) (p .1)), wrong-reads e next at t);
+  is-wrong-at = λ next at t x y. (wrong-at-sound e next at t x y, wrong-at-reads e next at t x y);
 }
 
 -- ---- settled frames after the last id
 
-kind-below : (b : Bool) → lastKind b < 5
-kind-below true = omega arith
-kind-below false = omega arith
-
--- kind 5 in the layout of a put
-kind-bad : (n : ℕ) (t : List ℕ) → putLen 0 ≤ n → n ≤ putLen valueMax
-    → match (hostSlots n) (n ∷ 0 ∷ 5 ∷ t) ≡ misfit (slot field.Kind 2 1 (lastKind (eqb n deleteLen)))
-kind-bad n t lo hi =
-    let k : ℕ = lastKind (eqb n deleteLen) in
-    ap (λ (ps : List Slot). match ps (n ∷ 0 ∷ 5 ∷ t)) (slots-change n lo hi)
-    ∙ match-go (slot field.Length 0 n n) (drop 1 (changeSlots n)) n (0 ∷ 5 ∷ t) (between-yes n n n (omega arith) (omega arith))
-    ∙ match-go (slot field.Length 0 0 0) (drop 2 (changeSlots n)) 0 (5 ∷ t) refl
-    ∙ match-misfit (slot field.Kind 2 1 k) (drop 3 (changeSlots n)) 5 t (and-no-right (leb 1 5) (leb 5 k) (lt-leb 5 k (kind-below (eqb n deleteLen))))
+-- kind 5 in a layout of lower kinds
+kind-bad : (l : Layout) (ps : List Slot) (n a : ℕ) (t : List ℕ) → a ≡ 0 → l .to < 5
+    → match (frontSlots n l ++ ps) (n ∷ a ∷ 5 ∷ t) ≡ misfit (slot field.Kind 2 (l .from) (l .to))
+kind-bad l ps n a t q h =
+    match-go (slot field.Length 0 n n) (drop 1 (frontSlots n l ++ ps)) n (a ∷ 5 ∷ t) (between-yes n n n (omega arith) (omega arith))
+    ∙ match-go (slot field.Length 0 0 0) (drop 2 (frontSlots n l ++ ps)) a (5 ∷ t) (between-yes 0 a 0 (omega arith) (omega arith))
+    ∙ match-misfit (slot field.Kind 2 (l .from) (l .to)) (drop 3 (frontSlots n l ++ ps)) 5 t
+    (and-no-right (leb (l .from) 5) (leb 5 (l .to)) (lt-leb 5 (l .to) h))
     (allFF-no 5 t (omega arith))
 
-after-last : (at : ℕ) (i : ObjectId) (v rest : List ℕ) → LegalValue v → readFrame 256 at (plain (settled i v) ++ rest) ≡ wrong (lastFault at v)
-after-last at i [] rest h =
-    let u : List ℕ = 0 ∷ 5 ∷ 0 ∷ i .0 ∷ 0 ∷ finish ∷ rest in
-    read-long 256 at 7 u (omega arith) (omega arith)
-    ∙ laid-host 256 at 7 5 (7 ∷ u) refl
-    ∙ ap (ofHostMatch at 7 (decode 5 7 (7 ∷ u))) (match-misfit (slot field.Length 0 1 0) [] 7 u refl (allFF-no 7 u (omega arith)))
-    ∙ ap (λ (p : ℕ). wrong (fault field.Length p)) (add-zero at)
-after-last at i (b ∷ v) rest (h, y) =
-    let n : ℕ = settledLen (suc (length v)) in
-    let u : List ℕ = 0 ∷ i .0 ∷ 0 ∷ ((b ∷ (v ++ (finish ∷ []))) ++ rest) in
-    let l : length ((v ++ (finish ∷ [])) ++ rest) ≡ length v + 1 + length rest = simp length-append (omega arith) in
-    read-long 256 at n (0 ∷ 5 ∷ u) (omega arith) (omega arith)
-    ∙ laid-host 256 at n 5 (n ∷ 0 ∷ 5 ∷ u) refl
-    ∙ ap (ofHostMatch at n (decode 5 n (n ∷ 0 ∷ 5 ∷ u))) (kind-bad n u (omega arith) (omega arith))
+after-last : (e : Edition) (at : ℕ) (i : ObjectId) (v rest : List ℕ) → i .0 ≤ idMax → LegalValue v
+    → readFrameIn e 256 at (encodeIn e (settled i v) ++ rest) ≡ wrong (lastFault at v)
+after-last e at i [] rest hi hv =
+    let f : Frame = settled i [] in
+    let n : ℕ = frameLenIn e f in
+    let t : List ℕ = encodeIn e f ++ rest in
+    let small : n < 255 = frame-small e 0 f (omega arith, hi, hv) in
+    read-short e 256 at t (allFF-no (n % 256) (drop 1 t) (omega arith))
+    (and-no-right (leb (n % 256) (length t)) (hasLength e 256 (n % 256)) (last-length e 256 (n % 256) (omega arith) (omega arith)))
+after-last e at i (b ∷ v) rest hi (hv, (h, hb)) =
+    let f : Frame = settled i (b ∷ v) in
+    let g : Frame = change (hostOf 0) (put (idOf 0) v) in
+    let n : ℕ = frameLenIn e f in
+    let t : List ℕ = encodeIn e f ++ rest in
+    let small : n < 255 = frame-small e 0 f (omega arith, hi, (hv, (h, hb))) in
+    let same : frameLenIn e g ≡ n % 256 = omega arith in
+    let l : Layout = layoutOf e 256 (n % 256) 5 in
+    let m : ℕ = bodyAt + length (l .body) in
+    read-laid e 256 at t (allFF-no (n % 256) (drop 1 t) (omega arith))
+    (and-both (leb (n % 256) (length t)) (hasLength e 256 (n % 256))
+    (le-leb (n % 256) (length t) (omega (arith, length-append (encodeIn e f) rest, length-encode e f)))
+    (ap (hasLength e 256) (sym same) ∙ has-length e 256 g (omega arith, omega arith, (omega arith, hb))))
+    ∙ ap (ofMatch at (n % 256) (l .tears) (decode e 5 (n % 256) t))
+    (kind-bad l (sealSlots (l .seal) m (take m t)) (n % 256) (n / 256) (drop 3 t) (omega arith) (last-layout e 256 (n % 256) (omega arith) (omega arith)))
 
 -- ---- settled frames cut off
 
--- what is left of a settled frame past its first byte
-abbrev past : ObjectId → List ℕ → List ℕ
-past i v = 0 ∷ 5 ∷ 0 ∷ i .0 ∷ 0 ∷ (v ++ (finish ∷ []))
-
--- its kind can be seen, or it has 7 bytes
-known : (i : ObjectId) (v : List ℕ) (j m : ℕ) → (3 ≤ suc j) ⊎ ((1 ≤ suc j) × (v ≡ []))
-    → (eqb (getD (take j (past i v) ++ replicate m 255) 1 0) 5 || eqb (settledLen (length v)) (settledLen 0)) ≡ true
-known i v j m (inr (h, e)) =
-    or-right (eqb (getD (take j (past i v) ++ replicate m 255) 1 0) 5) (eqb (settledLen (length v)) (settledLen 0))
-    (eq-eqb (settledLen (length v)) (settledLen 0) (ap (λ (x : List ℕ). settledLen (length x)) e))
-known i v zero m (inl h) = absurd (omega arith)
-known i v (suc zero) m (inl h) = absurd (omega arith)
-known i v (suc (suc j)) m (inl h) = refl
-
-cut-off : (next at : ℕ) (i : ObjectId) (v : List ℕ) (k m : ℕ) → MayStand next (settled i v) → (3 ≤ k) ⊎ ((1 ≤ k) × (v ≡ []))
-    → k < length (plain (settled i v)) → length (plain (settled i v)) ≤ k + m
-    → (e : Fault) × (readFrame next at (take k (plain (settled i v)) ++ replicate m 255) ≡ wrong e)
-cut-off next at i v zero m g (inl h) lo hi = absurd (omega arith)
-cut-off next at i v zero m g (inr (h, e)) lo hi = absurd (omega arith)
-cut-off next at i v (suc j) m (hn, hi, (hv, hb)) s lo up =
-    let n : ℕ = settledLen (length v) in
-    let u : List ℕ = take j (past i v) ++ replicate m 255 in
-    let k : ℕ = getD u 1 0 in
-    let l : length (v ++ (finish ∷ [])) ≡ length v + 1 = length-append v (finish ∷ []) in
-    let len : length u ≡ j + m = simp (length-append, length-take, length-replicate) (omega arith) in
-    let p : Partly (match (settledSlots next n) (n ∷ u)) =
-    match-some (settledSlots next n) (plain (settled i v)) (suc j) m (fit-settled next i v (hn, hi, (hv, hb)))
-    (closed-cons (slot field.Id 4 0 0) (valueSlots 6 (n - settledLen 0)) (closed-value 6 (n - settledLen 0))) lo up in (
+cut-off : (e : Edition) (next at : ℕ) (i : ObjectId) (v : List ℕ) (k m : ℕ) → MayStandIn e next (settled i v) → (3 ≤ k) ⊎ ((1 ≤ k) × (v ≡ []))
+    → 1 ≤ k → k < frameLenIn e (settled i v) → frameLenIn e (settled i v) ≤ k + m
+    → (x : Fault) × (readFrameIn e next at (take k (encodeIn e (settled i v)) ++ replicate m 255) ≡ wrong x)
+cut-off e next at i v k m g s h lo hi =
+    let f : Frame = settled i v in
+    let x : List ℕ = take k (encodeIn e f) in
+    let t : List ℕ = x ++ replicate m 255 in
+    let len : length x ≡ k = length-take-le k (encodeIn e f) (omega (arith, length-encode e f)) in
+    let q : take k t ≡ take k (encodeIn e f) = take-at x (replicate m 255) k len in
+    let l : length t ≡ k + m = length-cut k (encodeIn e f) m (omega (arith, length-encode e f)) in
+    let n : getD t 0 0 ≡ frameLenIn e f = begins-length e next t k f g q h in
+    let ps : List Slot = slotsAt e next t in
+    let size : length ps ≡ frameLenIn e f = begins-slots e next at t k f g q h (omega arith) in
+    let fit : Fit (take k ps) x = subst (Fit (take k ps)) q (begins-fit e next t k f g q h) in
+    let p : Partly (match ps t) = match-some k ps x m fit (closed-slots e next t) (omega arith) (omega arith) in
+    let known : (getD t 2 0 ≡ 5) ⊎ (v ≡ []) = seen s (λ b. begins-kind e next t k f g q b) in
+    let tears : layoutAt e next t .tears ≡ false =
+    ap (λ (z : ℕ). layoutOf e next z (getD t 2 0) .tears) n ∙ settled-tears e next i v (getD t 2 0) g known in (
       faultAt at (p .at),
-      read-long next at n u (omega arith) (omega arith)
-          ∙ laid-settled next at n k (n ∷ u) (only-yes next n k (omega arith) (omega arith) (omega arith) (known i v j m s))
-          ∙ ap (ofSettledMatch at (decode 5 n (n ∷ u))) (p .is),
+      begins-laid e next at t k f g q h (omega arith)
+          ∙ ap₂ (λ (b : Bool) (y : Match). ofMatch at (getD t 0 0) b (decode e (getD t 2 0) (getD t 0 0) t) y) tears (p .is),
     )
+  where
+    seen : {k : ℕ} {v : List ℕ} {P : Type 0} → (3 ≤ k) ⊎ ((1 ≤ k) × (v ≡ [])) → (3 ≤ k → P) → P ⊎ (v ≡ [])
+    seen (inl a) b = inl (b a)
+    seen (inr (a, c)) b = inr c
 
-pub settled-wrong : SettledWrong
-settled-wrong = record {
-  after-last = λ at i v w rest hi hv.
-      ap (λ (x : List ℕ). readFrame 256 at (x ++ rest)) (encode-plain 0 (settled i v) (omega arith, hi, hv)) ∙ after-last at i v rest hv;
-  cut = λ next at i v k left g s lo hi.
-      let e : encode (settled i v) ≡ plain (settled i v) = encode-plain next (settled i v) g in
-      let l : length (plain (settled i v)) ≡ frameLen (settled i v) = sym (ap length e) ∙ length-encode (settled i v) in
-      rw e (cut-off next at i v k left g s (omega arith) (omega arith));
+pub settled-wrong : (e : Edition) → SettledWrong e
+settled-wrong e = record {
+  after-last = λ at i v w rest hi hv. after-last e at i v rest hi hv;
+  cut = λ next at i v k left g s lo hi. cut-off e next at i v k left g s (some k v s) lo hi;
 }
+  where
+    some : (k : ℕ) (v : List ℕ) → (3 ≤ k) ⊎ ((1 ≤ k) × (v ≡ [])) → 1 ≤ k
+    some k v (inl a) = omega arith
+    some k v (inr (a, c)) = a

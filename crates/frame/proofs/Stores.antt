@@ -9,7 +9,6 @@ use lib.Seq.{drop-cons, take-suc, take-all, take-at, drop-at, set-at, length-tak
 use Rattle.frame.specs.Frame.{change, settled, put, finish, valueMax, putLen, settledLen, encode, frameLen}
 use Rattle.frame.specs.declared.Host.{Host}
 use Rattle.frame.specs.declared.ObjectId.{ObjectId}
-use Rattle.frame.proofs.Encode.{length-byte}
 
 pub copy-more : (s d : List ℕ) (i : ℕ) → i < length s → i < length d → set (take i s ++ drop i d) i (getD s i 0) ≡ take (i + 1) s ++ drop (i + 1) d
 copy-more s d i l m =
@@ -71,7 +70,6 @@ module _ (p v f g : List ℕ) (m : ℕ) (l : length p + length v < m)
 pub put-front : (h : Host) (i : ObjectId) (v : List ℕ) → length v ≤ valueMax
     → putLen (length v) ∷ 0 ∷ 1 ∷ 0 ∷ h .0 ∷ i .0 % 256 ∷ i .0 / 256 ∷ (v ++ (finish ∷ [])) ≡ encode (change h (put i v))
 put-front h i v l =
-    let n : putLen (length v) < 255 = length-byte (putLen (length v)) (omega arith) in
     let e1 : frameLen (change h (put i v)) % 256 ≡ putLen (length v) = omega arith in
     let e2 : frameLen (change h (put i v)) / 256 ≡ 0 = omega arith in
     simp (e1, e2)
@@ -79,7 +77,6 @@ put-front h i v l =
 pub settled-front : (i : ObjectId) (v : List ℕ) → length v ≤ valueMax
     → settledLen (length v) ∷ 0 ∷ 5 ∷ 0 ∷ i .0 % 256 ∷ i .0 / 256 ∷ (v ++ (finish ∷ [])) ≡ encode (settled i v)
 settled-front i v l =
-    let n : settledLen (length v) < 255 = length-byte (settledLen (length v)) (omega arith) in
     let e1 : frameLen (settled i v) % 256 ≡ settledLen (length v) = omega arith in
     let e2 : frameLen (settled i v) / 256 ≡ 0 = omega arith in
     simp (e1, e2)

@@ -2,12 +2,14 @@
 use mathlib.Core.List.{List, []}
 use Prim.Native.Nat.{ℕ}
 use lib.ListN.{length}
+use Rattle.frame.specs.declared.Edition.{Edition}
+use Rattle.frame.specs.declared.Edition.the-variants as edition
 use Rattle.frame.specs.declared.Head.{Head}
 use Rattle.frame.specs.declared.Head.the-variants as head
 use Rattle.frame.specs.declared.FrameRead.{FrameRead}
 use Rattle.frame.specs.declared.FrameRead.the-variants as read
-use Rattle.frame.specs.Frame.{Frame, change, commit, abort, settled, put, delete, putValueAt, settledValueAt, putLen}
-use Rattle.frame.specs.Frame.{deleteLen, endLen, settledLen}
+use Rattle.frame.specs.Frame.{Frame, change, commit, abort, settled, put, delete, putValueAt, settledValueAt, putLenIn}
+use Rattle.frame.specs.Frame.{deleteLenIn, endLenIn, settledLenIn}
 use Rattle.frame.specs.Reader.{Read, blank, whole, torn, wrong}
 
 -- a frame without its value's bytes
@@ -41,12 +43,15 @@ readOf (torn n) = read.Torn n
 readOf (wrong e) = read.Wrong e
 
 -- the length of a frame with this head
+abbrev pub headLenIn : Edition → Head → ℕ
+headLenIn e (head.Put h i n) = putLenIn e n
+headLenIn e (head.Delete h i) = deleteLenIn e
+headLenIn e (head.Commit h) = endLenIn e
+headLenIn e (head.Abort h) = endLenIn e
+headLenIn e (head.Settled i n) = settledLenIn e n
+
 abbrev pub headLen : Head → ℕ
-headLen (head.Put h i n) = putLen n
-headLen (head.Delete h i) = deleteLen
-headLen (head.Commit h) = endLen
-headLen (head.Abort h) = endLen
-headLen (head.Settled i n) = settledLen n
+headLen h = headLenIn edition.First h
 
 -- how many bytes its value has, and where in the frame they start
 abbrev pub valueLen : Head → ℕ

@@ -1,17 +1,19 @@
 -- Reading one frame, and the frames of a journal, out of any bytes.
-use mathlib.Core.List.{List, [], _∷_}
+use mathlib.Core.List.{List, [], _∷_, _++_}
 use mathlib.Core.Bool.{Bool, true, false, _&&_, _||_}
 use Prim.Native.Nat.{ℕ, zero, suc, _+_, _-_}
 use lib.Dec.{eqb, leb}
 use lib.ListN.{length, getD, take, drop}
 use Rattle.flash.specs.Bytes.{le16, allFF}
+use Rattle.frame.specs.declared.Edition.{Edition}
+use Rattle.frame.specs.declared.Edition.the-variants as edition
 use Rattle.frame.specs.declared.Host.{Host}
 use Rattle.frame.specs.declared.ObjectId.{ObjectId}
 use Rattle.frame.specs.declared.Fault.{Fault}
 use Rattle.frame.specs.declared.Field.{Field}
 use Rattle.frame.specs.declared.Field.the-variants as field
-use Rattle.frame.specs.Frame.{Frame, change, commit, abort, settled, put, delete, hostMax, idMax, valueMax, finish, kindAt, bodyAt}
-use Rattle.frame.specs.Frame.{putValueAt, settledValueAt, frameLen, putLen, deleteLen, endLen, settledLen, nextAfter}
+use Rattle.frame.specs.Frame.{Frame, change, commit, abort, settled, put, delete, hostMax, idMax, valueMax, finish, check, checkLen}
+use Rattle.frame.specs.Frame.{kindAt, bodyAt, putValueAt, settledValueAt, frameLenIn, putLenIn, deleteLenIn, endLenIn, settledLenIn, nextAfter}
 
 -- a bad field and its offset in the block
 abbrev pub fault : Field → ℕ → Fault
@@ -40,52 +42,85 @@ slot f o a b = record { lo = a; hi = b; field = f; start = o }
 abbrev pub fits : Slot → ℕ → Bool
 fits p b = leb (p .lo) b && leb b (p .hi)
 
--- a value of v bytes and the finish byte, at offset o
+-- a value of v bytes, at offset o: any bytes, so never bad
 abbrev pub valueSlots : ℕ → ℕ → List Slot
-valueSlots o zero = slot field.Finish o finish finish ∷ []
+valueSlots o zero = []
 valueSlots o (suc v) = slot field.Finish o 0 255 ∷ valueSlots (suc o) v
 
--- length and kind; both have a high byte of 0
-abbrev pub frontSlots : ℕ → ℕ → ℕ → List Slot → List Slot
-frontSlots n a b rest = slot field.Length 0 n n ∷ slot field.Length 0 0 0 ∷ slot field.Kind kindAt a b ∷ slot field.Kind kindAt 0 0 ∷ rest
+-- a layout: some kinds whose bodies have these slots, the edition by which they are sealed, and whether they may be torn
+pub record Layout : Type 0 where
+  pub from : ℕ
+  pub to : ℕ
+  pub body : List Slot
+  pub seal : Edition
+  pub tears : Bool
 
 -- a put or a delete of n bytes: only one of a delete's length can be a delete
 abbrev pub lastKind : Bool → ℕ
 lastKind true = 2
 lastKind false = 1
 
-abbrev pub changeSlots : ℕ → List Slot
-changeSlots n =
-    frontSlots n 1 (lastKind (eqb n deleteLen))
-    (slot field.Host bodyAt 0 hostMax ∷ slot field.Id (bodyAt + 1) 0 idMax ∷ slot field.Id (bodyAt + 1) 0 0 ∷ valueSlots putValueAt (n - putLen 0))
+abbrev pub changeLayout : Edition → ℕ → Layout
+changeLayout e n = record {
+  from = 1;
+  to = lastKind (eqb n (deleteLenIn e));
+  body = slot field.Host bodyAt 0 hostMax ∷ slot field.Id (bodyAt + 1) 0 idMax ∷ slot field.Id (bodyAt + 1) 0 0 ∷ valueSlots putValueAt (n - putLenIn e 0);
+  seal = e;
+  tears = true;
+}
 
 -- a commit or an abort
-abbrev pub endSlots : List Slot
-endSlots = frontSlots endLen 3 4 (slot field.Host bodyAt 0 hostMax ∷ slot field.Finish (bodyAt + 1) finish finish ∷ [])
+abbrev pub endLayout : Edition → Layout
+endLayout e = record { from = 3; to = 4; body = slot field.Host bodyAt 0 hostMax ∷ []; seal = e; tears = true }
 
--- a settled frame of n bytes whose id is at least next
-abbrev pub settledSlots : ℕ → ℕ → List Slot
-settledSlots next n = frontSlots n 5 5 (slot field.Id bodyAt next idMax ∷ slot field.Id bodyAt 0 0 ∷ valueSlots settledValueAt (n - settledLen 0))
-
--- no frame is that long
-abbrev pub noSlots : List Slot
-noSlots = slot field.Length 0 1 0 ∷ []
+-- a settled frame of n bytes whose id is at least next. Only "kinds 1 to 4" are torn: a settled frame that is cut off is wrong.
+abbrev pub settledLayout : Edition → ℕ → ℕ → Layout
+settledLayout e next n = record {
+  from = 5;
+  to = 5;
+  body = slot field.Id bodyAt next idMax ∷ slot field.Id bodyAt 0 0 ∷ valueSlots settledValueAt (n - settledLenIn e 0);
+  seal = e;
+  tears = false;
+}
 
 -- a settled frame may stand: after id 255 none may
 abbrev pub idLeft : ℕ → Bool
 idLeft next = leb next idMax
 
+-- some frame that may stand has n bytes
+abbrev pub hasLength : Edition → ℕ → ℕ → Bool
+hasLength e next n = eqb n (endLenIn e) || ((leb (putLenIn e 0) n && leb n (putLenIn e valueMax)) || (idLeft next && eqb n (settledLenIn e 0)))
+
 -- the bytes can only be a settled frame's: by their kind, or by a length that no other kind has
-abbrev pub onlySettled : ℕ → ℕ → ℕ → Bool
-onlySettled next n k = idLeft next && (leb (settledLen 0) n && leb n (settledLen valueMax)) && (eqb k 5 || eqb n (settledLen 0))
+abbrev pub onlySettled : Edition → ℕ → ℕ → ℕ → Bool
+onlySettled e next n k = idLeft next && (leb (settledLenIn e 0) n && leb n (settledLenIn e valueMax)) && (eqb k 5 || eqb n (settledLenIn e 0))
 
 -- kinds 1 to 4: the length tells commit and abort from put and delete
-abbrev pub hostSlots : ℕ → List Slot
-hostSlots n =
-    elim (eqb n endLen) [
-      | true ↦ endSlots
-      | false ↦ elim (leb (putLen 0) n && leb n (putLen valueMax)) [ true ↦ changeSlots n | false ↦ noSlots ]
-    ]
+unfoldable pub hostLayout : Edition → ℕ → Layout
+hostLayout e n = elim (eqb n (endLenIn e)) [ true ↦ endLayout e | false ↦ changeLayout e n ]
+
+-- the layout of frames of n bytes, where the kind's low byte is k
+unfoldable pub layoutOf : Edition → ℕ → ℕ → ℕ → Layout
+layoutOf e next n k = elim (onlySettled e next n k) [ true ↦ settledLayout e next n | false ↦ hostLayout e n ]
+
+-- length and kind, both with a high byte of 0, and the body
+abbrev pub frontSlots : ℕ → Layout → List Slot
+frontSlots n l = slot field.Length 0 n n ∷ slot field.Length 0 0 0 ∷ slot field.Kind kindAt (l .from) (l .to) ∷ slot field.Kind kindAt 0 0 ∷ l .body
+
+-- the check and the finish byte, at offset o, after a front: each can only be one byte
+abbrev pub checkSlots : ℕ → List ℕ → List Slot
+checkSlots o [] = []
+checkSlots o (c ∷ cs) = slot field.Crc o c c ∷ checkSlots o cs
+
+abbrev pub finishSlot : ℕ → Slot
+finishSlot o = slot field.Finish o finish finish
+
+abbrev pub sealSlots : Edition → ℕ → List ℕ → List Slot
+sealSlots s o x = checkSlots o (check s x) ++ (finishSlot (o + checkLen s) ∷ [])
+
+-- the slots against which t is held: what the seal can be is told by the bytes that stand before it
+abbrev pub laid : ℕ → Layout → List ℕ → List Slot
+laid n l t = frontSlots n l ++ sealSlots (l .seal) (bodyAt + length (l .body)) (take (bodyAt + length (l .body)) t)
 
 -- ---- the reader
 
@@ -109,46 +144,37 @@ abbrev pub idAt : List ℕ → ℕ → ObjectId
 idAt t i = record { 0 = le16 (getD t i 0) (getD t (suc i) 0) }
 
 -- the frame that bytes are, by their low kind byte and their length; used only where they fit its layout, so kind 0 never is
-abbrev pub decode : ℕ → ℕ → List ℕ → Frame
-decode zero n t = commit (hostAt t bodyAt)
-decode (suc zero) n t = change (hostAt t bodyAt) (put (idAt t (bodyAt + 1)) (take (n - putLen 0) (drop putValueAt t)))
-decode (suc (suc zero)) n t = change (hostAt t bodyAt) (delete (idAt t (bodyAt + 1)))
-decode (suc (suc (suc zero))) n t = commit (hostAt t bodyAt)
-decode (suc (suc (suc (suc zero)))) n t = abort (hostAt t bodyAt)
-decode (suc (suc (suc (suc (suc k))))) n t = settled (idAt t bodyAt) (take (n - settledLen 0) (drop settledValueAt t))
+abbrev pub decode : Edition → ℕ → ℕ → List ℕ → Frame
+decode e zero n t = commit (hostAt t bodyAt)
+decode e (suc zero) n t = change (hostAt t bodyAt) (put (idAt t (bodyAt + 1)) (take (n - putLenIn e 0) (drop putValueAt t)))
+decode e (suc (suc zero)) n t = change (hostAt t bodyAt) (delete (idAt t (bodyAt + 1)))
+decode e (suc (suc (suc zero))) n t = commit (hostAt t bodyAt)
+decode e (suc (suc (suc (suc zero)))) n t = abort (hostAt t bodyAt)
+decode e (suc (suc (suc (suc (suc k))))) n t = settled (idAt t bodyAt) (take (n - settledLenIn e 0) (drop settledValueAt t))
 
 -- a bad slot of a frame that starts at an offset of the block
 abbrev pub faultAt : ℕ → Slot → Fault
 faultAt at p = fault (p .field) (at + p .start)
 
 -- "Torn means: the first k bytes, k at least 1 and fewer than all, of some legal frame of kinds 1 to 4 that would fit, then 0xFF only."
-abbrev pub ofHostMatch : ℕ → ℕ → Frame → Match → Read
-ofHostMatch at n f all = whole f
-ofHostMatch at n f (part p) = torn n
-ofHostMatch at n f (misfit p) = wrong (faultAt at p)
-
--- only "kinds 1 to 4" are torn: a settled frame that is cut off is wrong
-abbrev pub ofSettledMatch : ℕ → Frame → Match → Read
-ofSettledMatch at f all = whole f
-ofSettledMatch at f (part p) = wrong (faultAt at p)
-ofSettledMatch at f (misfit p) = wrong (faultAt at p)
+abbrev pub ofMatch : ℕ → ℕ → Bool → Frame → Match → Read
+ofMatch at n tears f all = whole f
+ofMatch at n true f (part p) = torn n
+ofMatch at n false f (part p) = wrong (faultAt at p)
+ofMatch at n tears f (misfit p) = wrong (faultAt at p)
 
 -- n and k: the low bytes of length and kind
-abbrev pub readLaid : ℕ → ℕ → ℕ → ℕ → List ℕ → Read
-readLaid next at n k t =
-    elim (onlySettled next n k) [
-      | true ↦ ofSettledMatch at (decode 5 n t) (match (settledSlots next n) t)
-      | false ↦ ofHostMatch at n (decode k n t) (match (hostSlots n) t)
-    ]
+abbrev pub readLaid : Edition → ℕ → ℕ → ℕ → ℕ → List ℕ → Read
+readLaid e next at n k t = ofMatch at n (layoutOf e next n k .tears) (decode e k n t) (match (laid n (layoutOf e next n k) t) t)
 
 -- the frame at the front of t, which runs to the block's end and starts at offset `at` of it; settled ids from `next` on.
 -- A frame longer than t would not fit: it is neither whole nor torn.
-unfoldable pub readFrame : ℕ → ℕ → List ℕ → Read
-readFrame next at t =
+unfoldable pub readFrameIn : Edition → ℕ → ℕ → List ℕ → Read
+readFrameIn e next at t =
     elim (allFF t) [
       | true ↦ blank
-      | false ↦ elim (leb (getD t 0 0) (length t)) [
-        | true ↦ readLaid next at (getD t 0 0) (getD t kindAt 0) t
+      | false ↦ elim (leb (getD t 0 0) (length t) && hasLength e next (getD t 0 0)) [
+        | true ↦ readLaid e next at (getD t 0 0) (getD t kindAt 0) t
         | false ↦ wrong (fault field.Length at)
       ]
     ]
@@ -173,13 +199,23 @@ abbrev pub ends : Tail → Scan
 ends t = record { frames = []; tail = t }
 
 -- "whole legal frames .. run to a tail"; the first k bytes belong to a frame that was read already
-unfoldable pub scan : ℕ → ℕ → ℕ → List ℕ → Scan
-scan next at k [] = ends clean
-scan next at zero (b ∷ t) =
-    elim (readFrame next at (b ∷ t)) [
+unfoldable pub scanIn : Edition → ℕ → ℕ → ℕ → List ℕ → Scan
+scanIn e next at k [] = ends clean
+scanIn e next at zero (b ∷ t) =
+    elim (readFrameIn e next at (b ∷ t)) [
       | blank ↦ ends clean
-      | whole f ↦ push f (scan (nextAfter f) (suc at) (frameLen f - 1) t)
+      | whole f ↦ push f (scanIn e (nextAfter f) (suc at) (frameLenIn e f - 1) t)
       | torn n ↦ ends (cut n)
-      | wrong e ↦ ends (bad e)
+      | wrong x ↦ ends (bad x)
     ]
-scan next at (suc k) (b ∷ t) = scan next (suc at) k t
+scanIn e next at (suc k) (b ∷ t) = scanIn e next (suc at) k t
+
+-- ---- the first edition
+
+unfoldable pub readFrame : ℕ → ℕ → List ℕ → Read
+unfolding readFrameIn layoutOf hostLayout
+readFrame next at t = readFrameIn edition.First next at t
+
+unfoldable pub scan : ℕ → ℕ → ℕ → List ℕ → Scan
+unfolding scanIn
+scan next at k t = scanIn edition.First next at k t

@@ -2,34 +2,37 @@
 use mathlib.Core.List.{List, [], _∷_, _++_}
 use mathlib.Core.Logic.{_↔_, _⊎_}
 use mathlib.Core.Path.{_≡_}
-use Prim.Native.Nat.{ℕ, _+_, _-_, _≤_, _<_}
+use Prim.Native.Nat.{ℕ, _+_, _≤_, _<_}
 use lib.ListN.{length, take, replicate}
 use Rattle.flash.specs.Bytes.{Bytes}
-use Rattle.frame.specs.Frame.{Frame, change, commit, abort, settled, idOf, idMax, LegalValue, encode, frameLen, maxFrame, MayStand, OfHost, nextAfter}
-use Rattle.frame.specs.Reader.{blank, whole, torn, wrong, fault, readFrame}
+use Rattle.frame.specs.declared.Edition.{Edition}
+use Rattle.frame.specs.declared.Edition.the-variants as edition
+use Rattle.frame.specs.Frame.{Frame, change, commit, abort, settled, idOf, idMax, body, checkLen, sealOf, bodyAt}
+use Rattle.frame.specs.Frame.{LegalValue, encodeIn, frameLenIn, maxFrameIn, MayStandIn, OfHost, nextAfter}
+use Rattle.frame.specs.Reader.{blank, whole, torn, wrong, fault, readFrameIn}
 use Rattle.frame.specs.declared.Fault.{Fault}
 use Rattle.frame.specs.declared.Field.{Field}
 use Rattle.frame.specs.declared.Field.the-variants as field
 use Rattle.frame.specs.declared.ObjectId.{ObjectId}
 
 -- a legal frame that may stand there stands there, whatever follows
-pub record Whole (next : ℕ) (t : List ℕ) (f : Frame) : Type 0 where
+pub record WholeIn (e : Edition) (next : ℕ) (t : List ℕ) (f : Frame) : Type 0 where
   pub rest : List ℕ
-  pub stands : MayStand next f
-  pub bytes : t ≡ encode f ++ rest
+  pub stands : MayStandIn e next f
+  pub bytes : t ≡ encodeIn e f ++ rest
 
 -- "Torn means: the first k bytes, k at least 1 and fewer than all, of some legal frame of kinds 1 to 4 that would fit, then 0xFF only."
-pub record Torn (next : ℕ) (t : List ℕ) (n : ℕ) : Type 0 where
+pub record TornIn (e : Edition) (next : ℕ) (t : List ℕ) (n : ℕ) : Type 0 where
   pub frame : Frame
   pub k : ℕ
   pub left : ℕ
   pub of-host : OfHost frame
-  pub legal : MayStand next frame
+  pub legal : MayStandIn e next frame
   pub some : 1 ≤ k
-  pub not-all : k < frameLen frame
-  pub would-fit : frameLen frame ≤ length t
-  pub bytes : t ≡ take k (encode frame) ++ replicate left 255
-  pub long : n ≡ frameLen frame
+  pub not-all : k < frameLenIn e frame
+  pub would-fit : frameLenIn e frame ≤ length t
+  pub bytes : t ≡ take k (encodeIn e frame) ++ replicate left 255
+  pub long : n ≡ frameLenIn e frame
 
 -- "all 0xFF"
 abbrev pub Blank : List ℕ → Type 0
@@ -39,13 +42,13 @@ Blank t = t ≡ replicate (length t) 255
 -- as in blank flash: programming it leaves no trace, so a tail of 0xFF only would be blank and, with this one byte programmed, torn too.
 -- A limit on values that is raised too far breaks this law.
 abbrev pub LengthShows : Type 0
-LengthShows = maxFrame < 255
+LengthShows = (e : Edition) → maxFrameIn e < 255
 
 -- none of the three
-pub record Wrong (next : ℕ) (t : List ℕ) : Type 0 where
+pub record Wrong (e : Edition) (next : ℕ) (t : List ℕ) : Type 0 where
   pub not-blank : Blank t → ⊥
-  pub not-whole : (f : Frame) → Whole next t f → ⊥
-  pub not-torn : (n : ℕ) → Torn next t n → ⊥
+  pub not-whole : (f : Frame) → WholeIn e next t f → ⊥
+  pub not-torn : (n : ℕ) → TornIn e next t n → ⊥
 
 -- ---- where it is wrong: "the first bad field, up to whose end the bytes begin no legal frame that may stand there" (document 02, K5)
 
@@ -69,49 +72,68 @@ bodyFields (commit h) = span field.Host 4 5 ∷ []
 bodyFields (abort h) = span field.Host 4 5 ∷ []
 bodyFields (settled i v) = span field.Id 4 6 ∷ []
 
+-- the check and the finish byte, from offset o on
+abbrev pub checkFields : Edition → ℕ → List Span
+checkFields edition.First o = []
+checkFields edition.Second o = span field.Crc o (o + 4) ∷ []
+
+abbrev pub sealFields : Edition → ℕ → List Span
+sealFields s o = checkFields s o ++ (span field.Finish (o + checkLen s) (o + checkLen s + 1) ∷ [])
+
 -- "Length (2, whole frame), kind (2), body, finish byte 0xFE."
-abbrev pub fieldsOf : Frame → List Span
-fieldsOf f = span field.Length 0 2 ∷ span field.Kind 2 4 ∷ (bodyFields f ++ (span field.Finish (frameLen f - 1) (frameLen f) ∷ []))
+abbrev pub fieldsOf : Edition → Frame → List Span
+fieldsOf e f = span field.Length 0 2 ∷ span field.Kind 2 4 ∷ (bodyFields f ++ sealFields (sealOf e f) (bodyAt + length (body f)))
 
 -- the bytes up to j begin this legal frame, which may stand there and fits
-pub record Begins (next : ℕ) (t : List ℕ) (j : ℕ) (f : Frame) : Type 0 where
-  pub stands : MayStand next f
-  pub fits : frameLen f ≤ length t
-  pub bytes : take j t ≡ take j (encode f)
+pub record Begins (e : Edition) (next : ℕ) (t : List ℕ) (j : ℕ) (f : Frame) : Type 0 where
+  pub stands : MayStandIn e next f
+  pub fits : frameLenIn e f ≤ length t
+  pub bytes : take j t ≡ take j (encodeIn e f)
 
 -- the first bad field: up to its end the bytes begin no frame; up to its start, where the field before it ends, they begin one that has it.
 -- Before the length there is no field.
-pub record FirstBad (next : ℕ) (t : List ℕ) (s : Span) : Type 0 where
+pub record FirstBad (e : Edition) (next : ℕ) (t : List ℕ) (s : Span) : Type 0 where
   pub frame : Frame
-  pub has : Among s (fieldsOf frame)
-  pub before : 0 < s .start → Begins next t (s .start) frame
-  pub none : (f : Frame) → Begins next t (s .end) f → ⊥
+  pub has : Among s (fieldsOf e frame)
+  pub before : 0 < s .start → Begins e next t (s .start) frame
+  pub none : (f : Frame) → Begins e next t (s .end) f → ⊥
 
 -- wrong, with this fault, at offset `at` of the half: "Its place is its offset in the half." What is torn is not wrong, whatever field is bad.
-pub record WrongAt (next at : ℕ) (t : List ℕ) (e : Fault) : Type 0 where
-  pub wrong : Wrong next t
+pub record WrongAtIn (e : Edition) (next at : ℕ) (t : List ℕ) (x : Fault) : Type 0 where
+  pub wrong : Wrong e next t
   pub span : Span
-  pub bad : FirstBad next t span
-  pub is : e ≡ fault (span .field) (at + span .start)
+  pub bad : FirstBad e next t span
+  pub is : x ≡ fault (span .field) (at + span .start)
 
 -- the reader says blank, whole, torn or wrong exactly as the sentences do; its answer being one, they exclude each other
-pub record ReaderExact : Type 0 where
-  pub is-blank : (next at : ℕ) (t : List ℕ) → (readFrame next at t ≡ blank) ↔ Blank t
-  pub is-whole : (next at : ℕ) (t : List ℕ) (f : Frame) → (readFrame next at t ≡ whole f) ↔ Whole next t f
-  pub is-torn : (next at : ℕ) (t : List ℕ) (n : ℕ) → (readFrame next at t ≡ torn n) ↔ Torn next t n
-  pub is-wrong : (next at : ℕ) (t : List ℕ) → ((e : Fault) × (readFrame next at t ≡ wrong e)) ↔ Wrong next t
-  pub is-wrong-at : (next at : ℕ) (t : List ℕ) (e : Fault) → Bytes t → (readFrame next at t ≡ wrong e) ↔ WrongAt next at t e
+pub record ReaderExact (e : Edition) : Type 0 where
+  pub is-blank : (next at : ℕ) (t : List ℕ) → (readFrameIn e next at t ≡ blank) ↔ Blank t
+  pub is-whole : (next at : ℕ) (t : List ℕ) (f : Frame) → (readFrameIn e next at t ≡ whole f) ↔ WholeIn e next t f
+  pub is-torn : (next at : ℕ) (t : List ℕ) (n : ℕ) → (readFrameIn e next at t ≡ torn n) ↔ TornIn e next t n
+  pub is-wrong : (next at : ℕ) (t : List ℕ) → ((x : Fault) × (readFrameIn e next at t ≡ wrong x)) ↔ Wrong e next t
+  pub is-wrong-at : (next at : ℕ) (t : List ℕ) (x : Fault) → Bytes t → (readFrameIn e next at t ≡ wrong x) ↔ WrongAtIn e next at t x
 
 -- "Settled frames stand first, ids strictly rising", and after id 255 no further id rises: a settled frame there is wrong at its kind, or at its
--- length if that is 7, which no other kind has
+-- length if that is 7 (in the second edition 11), which no other kind has
 abbrev pub lastFault : ℕ → List ℕ → Fault
 lastFault at [] = fault field.Length at
 lastFault at (b ∷ v) = fault field.Kind (at + 2)
 
--- and "of kinds 1 to 4" alone are torn: a cut settled frame is wrong once its kind can be seen, or its length 7
-pub record SettledWrong : Type 0 where
+-- and "of kinds 1 to 4" alone are torn: a cut settled frame is wrong once its kind can be seen, or its length 7 (11)
+pub record SettledWrong (e : Edition) : Type 0 where
   pub after-last : (at : ℕ) (i : ObjectId) (v w rest : List ℕ) → i .0 ≤ idMax → LegalValue v
-      → readFrame (nextAfter (settled (idOf idMax) w)) at (encode (settled i v) ++ rest) ≡ wrong (lastFault at v)
-  pub cut : (next at : ℕ) (i : ObjectId) (v : List ℕ) (k left : ℕ) → MayStand next (settled i v) → (3 ≤ k) ⊎ ((1 ≤ k) × (v ≡ []))
-      → k < frameLen (settled i v) → frameLen (settled i v) ≤ k + left
-      → (e : Fault) × (readFrame next at (take k (encode (settled i v)) ++ replicate left 255) ≡ wrong e)
+      → readFrameIn e (nextAfter (settled (idOf idMax) w)) at (encodeIn e (settled i v) ++ rest) ≡ wrong (lastFault at v)
+  pub cut : (next at : ℕ) (i : ObjectId) (v : List ℕ) (k left : ℕ) → MayStandIn e next (settled i v) → (3 ≤ k) ⊎ ((1 ≤ k) × (v ≡ []))
+      → k < frameLenIn e (settled i v) → frameLenIn e (settled i v) ≤ k + left
+      → (x : Fault) × (readFrameIn e next at (take k (encodeIn e (settled i v)) ++ replicate left 255) ≡ wrong x)
+
+-- ---- the first edition
+
+abbrev pub Whole : ℕ → List ℕ → Frame → Type 0
+Whole next t f = WholeIn edition.First next t f
+
+abbrev pub Torn : ℕ → List ℕ → ℕ → Type 0
+Torn next t n = TornIn edition.First next t n
+
+abbrev pub WrongAt : ℕ → ℕ → List ℕ → Fault → Type 0
+WrongAt next at t x = WrongAtIn edition.First next at t x

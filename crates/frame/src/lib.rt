@@ -1,5 +1,6 @@
 // Frames: what a journal is made of.
 ghost use mathlib.Core.Path.{_≡_};
+ghost use Rattle.frame.specs.Frame.{checkLen};
 ghost use Rattle.frame.specs.Code.{headLen, valueLen, valueStart};
 
 mod bytes;
@@ -18,10 +19,17 @@ pub enum Field {
     Kind,
     Host,
     Id,
+    Crc,
     Finish,
     Created,
     State,
     Spare,
+}
+
+// The editions of the format: in the second each frame has a CRC-32.
+pub enum Edition {
+    First,
+    Second,
 }
 
 // The first bad field, and its offset in the block.
@@ -77,6 +85,16 @@ pub enum FrameRead {
     Whole(Head),
     Torn(usize),
     Wrong(Fault),
+}
+
+// How many bytes a frame's check has.
+pub fn check_len(edition: Edition) -> u8
+    ensures { λ r. ⌜ r ≡ checkLen edition ⌝ }
+{
+    match edition {
+        Edition::First => 0,
+        Edition::Second => 4,
+    }
 }
 
 // The length of a frame.

@@ -12,8 +12,7 @@ use Rattle.flash.specs.Bytes.{u16le, allFF, sameBytes}
 use Rattle.flash.proofs.Blank.{allFF-no, allFF-all, allFF-at, same-refl, le32-u32}
 use Rattle.frame.specs.Frame.{Frame, encodeAll, total, AllMayStand, nextOf}
 use Rattle.frame.specs.Reader.{Tail, clean, cut, bad, Scan, scan, ends}
-use Rattle.frame.proofs.Encode.{length-all}
-use Rattle.frame.proofs.Scanning.{scan-with}
+use Rattle.frame.proofs.First.{length-all, scan-with}
 use Rattle.journal.specs.Block.{headerLen, headerKind, lastTime, stateAt, inTransfer, validData, header, createdAt, headerFault}
 use Rattle.journal.specs.Block.{BlockState, blank, inProgress, valid, ofTail, blockState}
 

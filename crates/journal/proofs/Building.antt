@@ -19,8 +19,7 @@ use Rattle.flash.proofs.Offsets.{Below, off-below, below-append, below-writes, 
 use Rattle.flash.proofs.Offsets.{off-take, off-writes, untouched, Fresh, fresh-writes, fresh-stretch, fresh-ff}
 use Rattle.frame.specs.Frame.{Frame, encodeAll, total, AllMayStand, nextOf}
 use Rattle.frame.specs.Reader.{clean}
-use Rattle.frame.proofs.Encode.{bytes-all, length-all}
-use Rattle.frame.proofs.Scanning.{scan-blank}
+use Rattle.frame.proofs.First.{bytes-all, length-all, scan-blank}
 use Rattle.journal.specs.Block.{headerLen, headerKind, lastTime, stateAt, inTransfer, validData, header, inProgress, valid}
 use Rattle.journal.specs.Block.{blockState, openWrites, sealWrites, openWrite, sealWrite, markWrites, build}
 use Rattle.journal.proofs.Blocks.{Layout, valid-block, progress-block}

@@ -20,10 +20,8 @@ use Rattle.frame.specs.declared.Field.the-variants as field
 use Rattle.frame.specs.Frame.{Frame, encodeAll, total, nextOf}
 use Rattle.frame.specs.Reader.{fault, Tail, clean, cut, bad, Scan, scan, ends}
 use Rattle.frame.specs.Sentences.{Span, span, Among, WrongAt}
-use Rattle.frame.proofs.Scanning.{scan-read-wrong}
-use Rattle.frame.proofs.Scanned.{Scanned, scan-inv, tail-bad}
+use Rattle.frame.proofs.First.{scan-read-wrong, Scanned, scan-inv, tail-bad, wrong-at-sound, wrong-at-reads}
 use Rattle.frame.proofs.Fields.{Ordered, among-from, overlap, overlapping}
-use Rattle.frame.proofs.Faults.{wrong-at-sound, wrong-at-reads}
 use Rattle.journal.specs.Block.{headerLen, headerKind, lastTime, stateAt, inTransfer, validData, header, createdAt, headerFault}
 use Rattle.journal.specs.Block.{blank, inProgress, foreign, ofTail, ofHeader, blockState}
 use Rattle.journal.specs.Faults.{headerFields, HeaderTo, BadHeader, BadFrame, FaultIn}

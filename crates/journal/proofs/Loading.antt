@@ -13,8 +13,7 @@ use Rattle.flash.proofs.Cases.{on-test}
 use Rattle.frame.specs.declared.Host.{Host}
 use Rattle.frame.specs.Frame.{hostMax, idOf, Change, put, delete, Frame, change, commit, abort, settled, encode, encodeAll, frameLen, total}
 use Rattle.frame.specs.Frame.{MayStand, AllMayStand, nextAfter, nextOf}
-use Rattle.frame.proofs.Encode.{length-encode, length-all}
-use Rattle.frame.proofs.Reading.{read-back}
+use Rattle.frame.proofs.First.{length-encode, length-all, read-back}
 use Rattle.journal.specs.Block.{headerLen}
 use Rattle.journal.specs.Replay.{Object, Entry, entry, lookup, replay, settledFrame, pendingFrame, framesOf, settledOnly}
 use Rattle.journal.specs.Index.{placesOf, sinceOf, Value, valueAt, Load, load, nextSettled, isPending, nextPending, orElse, nextLoad}

@@ -13,8 +13,7 @@ use Rattle.frame.specs.declared.ObjectId.{ObjectId}
 use Rattle.frame.specs.Frame.{idMax, idOf, put, delete, FrameOf, Frame, change, commit, abort, settled, mapFrame, encode, encodeAll}
 use Rattle.frame.specs.Frame.{frameLen, MayStand, AllMayStand, nextAfter}
 use Rattle.frame.specs.Reader.{whole, readFrame}
-use Rattle.frame.proofs.Encode.{length-encode, stands-any}
-use Rattle.frame.proofs.Reading.{read-back}
+use Rattle.frame.proofs.First.{length-encode, stands-any, read-back}
 use Rattle.journal.specs.Block.{headerLen}
 use Rattle.journal.specs.Replay.{ObjectOf, StateOf, lookup, replay}
 use Rattle.journal.specs.Index.{sited, orZero, placesFrom, placesOf, Value, onlyIf, frameValue, valueAt}

@@ -10,7 +10,7 @@ use Rattle.flash.proofs.Cases.{on-test, on-order}
 use Rattle.frame.specs.declared.Host.{Host}
 use Rattle.frame.specs.declared.ObjectId.{ObjectId}
 use Rattle.frame.specs.Frame.{hostOf, Change, put, delete, FrameOf, Frame, change, commit, abort, settled, MayStand, AllMayStand, nextAfter, nextOf}
-use Rattle.frame.proofs.Encode.{stands-any, stands-append}
+use Rattle.frame.proofs.First.{stands-any, stands-append}
 use Rattle.journal.specs.Replay.{ObjectOf, object, EntryOf, entry, StateOf, state, Object, Entry, State, insert, remove, lookup}
 use Rattle.journal.specs.Replay.{change1, changeAll, listOf, without, nextState, replayFrom, replay, settledFrame, pendingFrame}
 use Rattle.journal.specs.Replay.{framesOf, settledOnly}

@@ -11,7 +11,7 @@ use Rattle.flash.proofs.Cases.{on-test, on-order}
 use Rattle.frame.specs.declared.Host.{Host}
 use Rattle.frame.specs.declared.ObjectId.{ObjectId}
 use Rattle.frame.specs.Frame.{hostOf, hostMax, Change, put, delete, Frame, change, commit, abort, settled, frameLen, putLen, total}
-use Rattle.frame.proofs.Encode.{total-append}
+use Rattle.frame.proofs.First.{total-append}
 use Rattle.journal.specs.Block.{headerLen}
 use Rattle.journal.specs.Replay.{Object, object, Entry, entry, State, state, insert, remove, change1, changeAll, listOf, without}
 use Rattle.journal.specs.Replay.{isOpen, nextState, replayFrom, replay, settledFrame, pendingFrame, framesOf, settledOnly}

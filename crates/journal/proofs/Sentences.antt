@@ -12,9 +12,7 @@ use Rattle.frame.specs.declared.Fault.{Fault}
 use Rattle.frame.specs.Frame.{Frame, total, nextOf}
 use Rattle.frame.specs.Reader.{Tail, clean, cut, bad, scan, ends}
 use Rattle.frame.specs.Sentences.{Torn}
-use Rattle.frame.proofs.Exact.{torn-reads}
-use Rattle.frame.proofs.Scanning.{scan-read-torn, scan-blank}
-use Rattle.frame.proofs.Scanned.{tail-clean, tail-cut}
+use Rattle.frame.proofs.First.{torn-reads, scan-read-torn, scan-blank, tail-clean, tail-cut}
 use Rattle.journal.specs.Block.{headerLen, stateAt, inTransfer, headerFault, BlockState, blank, inProgress, valid, foreign, ofHeader, blockState}
 use Rattle.journal.specs.Sentences.{BlankBlock, InProgressBlock, TailIs, ValidBlock, ForeignBlock, StatesExact}
 use Rattle.journal.proofs.Blocks.{Okay, valid-block, blank-block, progress-block}

@@ -14,8 +14,7 @@ use Rattle.frame.specs.declared.ObjectId.{ObjectId}
 use Rattle.frame.specs.Frame.{put, delete, Frame, change, commit, abort, settled, mapFrame, encode, encodeAll, frameLen, total, MayStand}
 use Rattle.frame.specs.Frame.{AllMayStand, nextAfter}
 use Rattle.frame.specs.Reader.{Tail, whole, readFrame}
-use Rattle.frame.proofs.Encode.{length-all, total-snoc, encode-append}
-use Rattle.frame.proofs.Reading.{read-back}
+use Rattle.frame.proofs.First.{length-all, total-snoc, encode-append, read-back}
 use Rattle.journal.specs.Block.{headerLen, header, validData}
 use Rattle.journal.specs.Replay.{lookup, replay}
 use Rattle.journal.specs.Index.{orZero, placesOf, valueAt}
@@ -110,6 +109,9 @@ module _ (fs : List Frame) (i : ObjectId) (v : List ℕ) (s : lookup i (objectsA
   bytes-are : (x : Spot) → lookup i (replay (spots headerLen fs) .objects) ≡ some x → x .bytes ≡ v
   bytes-are x q = let z : some (x .bytes) ≡ some v = sym (bytes-lookup fs i ∙ ap (Option·map (λ (u : Spot). u .bytes)) q) ∙ s in cc
 
+apart : (h p f n r : List ℕ) → h ++ ((p ++ (f ++ n)) ++ r) ≡ (h ++ p) ++ (f ++ (n ++ r))
+apart h p f n r = simp append-assoc
+
 module _ (b : List ℕ) (t : ℕ) (fs : List Frame) (c : Tail) (i : ObjectId) (v : List ℕ) (y : ValidBlock b t fs c) (h : i .0 ≤ 255)
     (s : lookup i (objectsAfter fs) ≡ some v) where
   abbrev Found : Type 0
@@ -141,7 +143,9 @@ module _ (b : List ℕ) (t : ℕ) (fs : List Frame) (c : Tail) (i : ObjectId) (v
         let post : List ℕ = encodeAll (z .after) ++ y .rest in
         let e : encodeAll fs ≡ encodeAll (z .before) ++ (encode f ++ encodeAll (z .after)) =
         ap encodeAll (z .stands) ∙ encode-append (z .before) (f ∷ z .after) in
-        let e′ : b ≡ pre ++ (encode f ++ post) = y .bytes ∙ ap (λ (l : List ℕ). header t validData ++ (l ++ y .rest)) e ∙ simp append-assoc in
+        let e′ : b ≡ pre ++ (encode f ++ post) =
+        y .bytes ∙ ap (λ (l : List ℕ). header t validData ++ (l ++ y .rest)) e
+        ∙ apart (header t validData) (encodeAll (z .before)) (encode f) (encodeAll (z .after)) (y .rest) in
         let l : length pre ≡ x .place =
         length-append (header t validData) (encodeAll (z .before)) ∙ omega (arith, z .place, length-all (z .before)) in
         ap (λ (d : List ℕ). readFrame 0 (x .place) (drop (x .place) d)) e′

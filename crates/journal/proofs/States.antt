@@ -14,7 +14,7 @@ use Rattle.flash.proofs.Blank.{all-ff, same-is, le32-small, byte-at}
 use Rattle.frame.specs.declared.Fault.{Fault}
 use Rattle.frame.specs.Frame.{Frame, total, nextOf}
 use Rattle.frame.specs.Reader.{Tail, clean, cut, bad, Scan, scan, ends}
-use Rattle.frame.proofs.Scanned.{Scanned, scan-inv, scan-clean}
+use Rattle.frame.proofs.First.{Scanned, scan-inv, scan-clean}
 use Rattle.journal.specs.Block.{headerLen, headerKind, lastTime, stateAt, inTransfer, validData, header, createdAt, headerFault}
 use Rattle.journal.specs.Block.{BlockState, blank, inProgress, valid, foreign, ofTail, ofHeader, blockState}
 use Rattle.journal.proofs.Blocks.{Layout, Header, Okay, ofScan, valid-block}

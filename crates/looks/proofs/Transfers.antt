@@ -9,7 +9,7 @@ use borrow.Author.Tests.{lt-ltb}
 use Rattle.frame.specs.Frame.{Frame, frameLen, total, nextOf}
 use Rattle.frame.specs.Reader.{Tail, clean, cut, bad}
 use Rattle.frame.specs.Sentences.{Torn}
-use Rattle.frame.proofs.Scanned.{tail-cut}
+use Rattle.frame.proofs.First.{tail-cut}
 use Rattle.journal.specs.Replay.{Entry, replay, pendingFrame}
 use Rattle.journal.specs.Block.{headerLen, valid}
 use Rattle.survey.specs.Survey.{pendingOf, surveyOf}

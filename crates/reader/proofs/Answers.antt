@@ -1,20 +1,23 @@
 -- What is read: by the first byte that does not fit, and at an offset.
 use mathlib.Core.Path.{_≡_, refl, sym, ap, ap₂, _∙_}
 use mathlib.Core.List.{List, [], _∷_}
-use mathlib.Core.Bool.{Bool, true, false}
-use Prim.Native.Nat.{ℕ, zero, suc, _+_, _-_, _≤_}
+use mathlib.Core.Logic.{inl, inr}
+use mathlib.Core.Bool.{Bool, true, false, not, _&&_}
+use Prim.Native.Nat.{ℕ, zero, suc, _+_, _-_, _≤_, _<_}
 use native.Mathlib.Omega.{arith}
 use native.Mathlib.Nat.{zero-add, add-zero}
-use lib.Dec.{leb}
+use lib.Dec.{eqb, leb}
+use borrow.Author.Tests.{leb-true, le-leb, lt-leb, eqb-true, eq-eqb}
 use lib.ListN.{length, getD, take, drop, length-take, length-drop}
-use borrow.Author.Tests.{le-leb}
 use Rattle.flash.specs.Bytes.{allFF}
-use Rattle.flash.proofs.Cases.{on-test, clash}
-use Rattle.frame.specs.Frame.{Frame, putLen, settledLen}
-use Rattle.frame.specs.Reader.{Read, blank, whole, torn, wrong, fault, faultAt, Slot, fits, valueSlots, settledSlots, hostSlots}
-use Rattle.frame.specs.Reader.{onlySettled, Match, all, part, misfit, match, decode, ofHostMatch, ofSettledMatch, readLaid, readFrame}
+use Rattle.flash.proofs.Cases.{on-test, clash, and-both, and-no-left, and-no-right, or-right}
+use Rattle.frame.specs.Frame.{Frame, idMax, checkLen, endLenIn, putLenIn, settledLenIn}
+use Rattle.frame.specs.Reader.{Read, blank, whole, torn, wrong, fault, faultAt, Slot, fits, layoutOf, laid, hasLength, onlySettled}
+use Rattle.frame.specs.Reader.{Match, all, part, misfit, match, decode, ofMatch, readLaid, readFrameIn, readFrame}
 use Rattle.frame.specs.Code.{headOf, readOf}
 use Rattle.reader.specs.Misfits.{firstMisfit, misfitFrom}
+use Rattle.frame.specs.declared.Edition.{Edition}
+use Rattle.frame.specs.declared.Edition.the-variants as edition
 use Rattle.frame.specs.declared.Fault.{Fault}
 use Rattle.frame.specs.declared.Field.{Field}
 use Rattle.frame.specs.declared.Field.the-variants as field
@@ -23,8 +26,10 @@ use Rattle.frame.specs.declared.FrameRead.the-variants as read
 use Rattle.reader.specs.declared.Misfit.{Misfit}
 use Rattle.reader.specs.declared.Misfit.the-variants as found
 use Rattle.frame.proofs.Fit.{match-go, match-part, match-misfit}
-use Rattle.frame.proofs.Inverse.{on-host}
-use Rattle.frame.proofs.Reading.{read-step, read-ff, laid-host, laid-settled}
+use Rattle.frame.proofs.Own.{only-yes, SomeLength, length-of, length-inv, tears-not}
+use Rattle.frame.proofs.Layouts.{length-slots}
+use Rattle.frame.proofs.Exact.{lengthFits, read-ff, read-laid, read-short}
+use Rattle.frame.proofs.First.{read-is}
 use Rattle.reader.proofs.Misfits.{first-none, first-at, one-fits, one-fails}
 
 -- ---- a misfit, and the match
@@ -38,17 +43,15 @@ unfolding misfitFrom
 found-stop o p ps b t e =
     ap (λ (x : Misfit). firstMisfit x (misfitFrom (suc o) ps t)) (one-fails o p b e) ∙ first-at o (p .field) (p .start) (misfitFrom (suc o) ps t)
 
-abbrev pub cutOff : Bool → ℕ → Field → ℕ → FrameRead
-cutOff true n f s = read.Torn n
-cutOff false n f s = read.Wrong (fault f s)
+-- tears, and only 0xFF follows
+abbrev pub cutOff : Bool → Bool → ℕ → Field → ℕ → FrameRead
+cutOff true true n f s = read.Torn n
+cutOff true false n f s = read.Wrong (fault f s)
+cutOff false x n f s = read.Wrong (fault f s)
 
-abbrev pub hostRead : ℕ → Frame → List ℕ → Misfit → FrameRead
-hostRead n f t found.None = read.Whole (headOf f)
-hostRead n f t (found.At o g s) = cutOff (allFF (drop o t)) n g s
-
-abbrev pub settledRead : Frame → Misfit → FrameRead
-settledRead f found.None = read.Whole (headOf f)
-settledRead f (found.At o g s) = read.Wrong (fault g s)
+abbrev pub laidRead : Bool → ℕ → Frame → List ℕ → Misfit → FrameRead
+laidRead b n f t found.None = read.Whole (headOf f)
+laidRead b n f t (found.At o g s) = cutOff b (allFF (drop o t)) n g s
 
 at-front : (p : Slot) → readOf (wrong (faultAt 0 p)) ≡ read.Wrong (fault (p .field) (p .start))
 at-front p = ap (λ (s : ℕ). read.Wrong (fault (p .field) s)) (zero-add (p .start))
@@ -59,90 +62,119 @@ drop-next zero b [] u e = ap (drop 1) e
 drop-next (suc o) b [] u e = ap (drop 1) e
 drop-next (suc o) b (x ∷ t) u e = drop-next o b t u e
 
-host-from : (n : ℕ) (f : Frame) (t : List ℕ) (o : ℕ) (ps : List Slot) (u : List ℕ) → drop o t ≡ u → length ps ≤ length u
-    → readOf (ofHostMatch 0 n f (match ps u)) ≡ hostRead n f t (misfitFrom o ps u)
+part-is : (b : Bool) (n : ℕ) (f : Frame) (p : Slot) → readOf (ofMatch 0 n b f (part p)) ≡ cutOff b true n (p .field) (p .start)
+part-is true n f p = refl
+part-is false n f p = at-front p
+
+misfit-is : (b : Bool) (n : ℕ) (f : Frame) (p : Slot) → readOf (ofMatch 0 n b f (misfit p)) ≡ cutOff b false n (p .field) (p .start)
+misfit-is true n f p = at-front p
+misfit-is false n f p = at-front p
+
+read-from : (b : Bool) (n : ℕ) (f : Frame) (t : List ℕ) (o : ℕ) (ps : List Slot) (u : List ℕ) → drop o t ≡ u → length ps ≤ length u
+    → readOf (ofMatch 0 n b f (match ps u)) ≡ laidRead b n f t (misfitFrom o ps u)
 unfolding match misfitFrom
-host-from n f t o [] u e l = refl
-host-from n f t o (p ∷ ps) [] e l = absurd (omega arith)
-host-from n f t o (p ∷ ps) (b ∷ u) e l =
+read-from c n f t o [] u e l = refl
+read-from c n f t o (p ∷ ps) [] e l = absurd (omega arith)
+read-from c n f t o (p ∷ ps) (b ∷ u) e l =
     on-test (fits p b)
-    (λ q. ap (λ (m : Match). readOf (ofHostMatch 0 n f m)) (match-go p ps b u q)
-    ∙ host-from n f t (suc o) ps u (drop-next o b t u e) (omega arith)
-    ∙ ap (hostRead n f t) (sym (found-go o p ps b u q)))
+    (λ q. ap (λ (m : Match). readOf (ofMatch 0 n c f m)) (match-go p ps b u q)
+    ∙ read-from c n f t (suc o) ps u (drop-next o b t u e) (omega arith)
+    ∙ ap (laidRead c n f t) (sym (found-go o p ps b u q)))
     (λ q.
-    let r : hostRead n f t (misfitFrom o (p ∷ ps) (b ∷ u)) ≡ cutOff (allFF (b ∷ u)) n (p .field) (p .start)
-    = ap (hostRead n f t) (found-stop o p ps b u q) ∙ ap (λ (x : List ℕ). cutOff (allFF x) n (p .field) (p .start)) e in
+    let r : laidRead c n f t (misfitFrom o (p ∷ ps) (b ∷ u)) ≡ cutOff c (allFF (b ∷ u)) n (p .field) (p .start)
+    = ap (laidRead c n f t) (found-stop o p ps b u q) ∙ ap (λ (x : List ℕ). cutOff c (allFF x) n (p .field) (p .start)) e in
     on-test (allFF (b ∷ u))
-    (λ a. ap (λ (m : Match). readOf (ofHostMatch 0 n f m)) (match-part p ps b u q a) ∙ sym (r ∙ ap (λ (x : Bool). cutOff x n (p .field) (p .start)) a))
-    (λ a. ap (λ (m : Match). readOf (ofHostMatch 0 n f m)) (match-misfit p ps b u q a)
-    ∙ at-front p ∙ sym (r ∙ ap (λ (x : Bool). cutOff x n (p .field) (p .start)) a)))
+    (λ a. ap (λ (m : Match). readOf (ofMatch 0 n c f m)) (match-part p ps b u q a)
+    ∙ part-is c n f p ∙ sym (r ∙ ap (λ (x : Bool). cutOff c x n (p .field) (p .start)) a))
+    (λ a. ap (λ (m : Match). readOf (ofMatch 0 n c f m)) (match-misfit p ps b u q a)
+    ∙ misfit-is c n f p ∙ sym (r ∙ ap (λ (x : Bool). cutOff c x n (p .field) (p .start)) a)))
 
-settled-from : (f : Frame) (o : ℕ) (ps : List Slot) (u : List ℕ) → readOf (ofSettledMatch 0 f (match ps u)) ≡ settledRead f (misfitFrom o ps u)
-unfolding match misfitFrom
-settled-from f o [] u = refl
-settled-from f o (p ∷ ps) [] = at-front p
-settled-from f o (p ∷ ps) (b ∷ u) =
-    on-test (fits p b)
-    (λ q. ap (λ (m : Match). readOf (ofSettledMatch 0 f m)) (match-go p ps b u q) ∙ settled-from f (suc o) ps u
-    ∙ ap (settledRead f) (sym (found-go o p ps b u q)))
-    (λ q.
-    let r : settledRead f (misfitFrom o (p ∷ ps) (b ∷ u)) ≡ read.Wrong (fault (p .field) (p .start)) = ap (settledRead f) (found-stop o p ps b u q) in
-    on-test (allFF (b ∷ u))
-    (λ a. ap (λ (m : Match). readOf (ofSettledMatch 0 f m)) (match-part p ps b u q a) ∙ at-front p ∙ sym r)
-    (λ a. ap (λ (m : Match). readOf (ofSettledMatch 0 f m)) (match-misfit p ps b u q a) ∙ at-front p ∙ sym r))
+-- the slots and the answer, where the length fits
+module _ (e : Edition) (next n k : ℕ) (t : List ℕ) (p : n ≡ getD t 0 0) (q : k ≡ getD t 2 0) (l : hasLength e next n ≡ true) (h : n ≤ length t) where
+  size-is : length (laid n (layoutOf e next n k) t) ≡ n
+  size-is =
+      ap₂ (λ (x y : ℕ). length (laid x (layoutOf e next x y) t)) p q
+      ∙ length-slots e next t (ap (hasLength e next) (sym p) ∙ l) ∙ sym p
 
-pub settled-read : (f : Frame) (ps : List Slot) (t : List ℕ) → readOf (ofSettledMatch 0 f (match ps t)) ≡ settledRead f (misfitFrom 0 ps t)
-settled-read f ps t = settled-from f 0 ps t
-
-length-values : (o v : ℕ) → length (valueSlots o v) ≡ suc v
-length-values o zero = refl
-length-values o (suc v) = ap suc (length-values (suc o) v)
-
-slots-fit : (n : ℕ) (t : List ℕ) → n ≤ length t → 1 ≤ length t → length (hostSlots n) ≤ length t
-slots-fit n t h u =
-    on-host n
-    (λ e s. rw s (omega arith))
-    (λ lo hi s. rw s (omega (arith, length-values 7 (n - putLen 0))))
-    (λ s. rw s (omega arith))
-
-pub host-read : (n : ℕ) (f : Frame) (t : List ℕ) → n ≤ length t → 1 ≤ length t
-    → readOf (ofHostMatch 0 n f (match (hostSlots n) t)) ≡ hostRead n f t (misfitFrom 0 (hostSlots n) t)
-host-read n f t h u = host-from n f t 0 (hostSlots n) t refl (slots-fit n t h u)
-
--- ---- heads
-
-pub put-length : (n : ℕ) (t : List ℕ) → n ≤ length t → length (take (n - putLen 0) (drop 7 t)) ≡ n - putLen 0
-put-length n t h = simp (length-take, length-drop) (omega arith)
-
-pub settled-length : (n : ℕ) (t : List ℕ) → n ≤ length t → length (take (n - settledLen 0) (drop 6 t)) ≡ n - settledLen 0
-settled-length n t h = simp (length-take, length-drop) (omega arith)
-
-pub decode-high : (k n : ℕ) (t : List ℕ) → 5 ≤ k → decode k n t ≡ decode 5 n t
-decode-high (suc (suc (suc (suc (suc k))))) n t h = refl
-decode-high zero n t h = absurd (omega arith)
-decode-high (suc zero) n t h = absurd (omega arith)
-decode-high (suc (suc zero)) n t h = absurd (omega arith)
-decode-high (suc (suc (suc zero))) n t h = absurd (omega arith)
-decode-high (suc (suc (suc (suc zero)))) n t h = absurd (omega arith)
+  pub laid-read : readOf (readLaid e next 0 n k t)
+      ≡ laidRead (not (onlySettled e next n k)) n (decode e k n t) t (misfitFrom 0 (laid n (layoutOf e next n k) t) t)
+  laid-read =
+      read-from (layoutOf e next n k .tears) n (decode e k n t) t 0 (laid n (layoutOf e next n k) t) t refl (omega (arith, size-is))
+      ∙ ap (λ (b : Bool). laidRead b n (decode e k n t) t (misfitFrom 0 (laid n (layoutOf e next n k) t) t)) (tears-not e next n k)
 
 -- ---- the steps of the reader
 
-pub not-empty : (t : List ℕ) → allFF t ≡ false → 1 ≤ length t
-unfolding allFF
-not-empty [] e = clash true refl e
-not-empty (b ∷ t) e = omega arith
+module _ (e : Edition) (next n : ℕ) (t : List ℕ) (p : n ≡ getD t 0 0) (a : allFF t ≡ false) where
+  pub front-laid : (k : ℕ) → k ≡ getD t 2 0 → n ≤ length t → hasLength e next n ≡ true → readOf (readFrameIn e next 0 t) ≡ readOf (readLaid e next 0 n k t)
+  front-laid k q h l =
+      ap readOf (read-laid e next 0 t a
+      (ap (λ (x : ℕ). leb x (length t) && hasLength e next x) (sym p) ∙ and-both (leb n (length t)) (hasLength e next n) (le-leb n (length t) h) l)
+      ∙ ap₂ (λ (x y : ℕ). readLaid e next 0 x y t) (sym p) (sym q))
 
-module _ (next n k : ℕ) (t : List ℕ) (p : n ≡ getD t 0 0) (q : k ≡ getD t 2 0) (a : allFF t ≡ false) (h : n ≤ length t) where
-  laid-read : readFrame next 0 t ≡ readLaid next 0 n k t
-  laid-read =
-      let l : getD t 0 0 ≤ length t = omega arith in
-      read-step next 0 t a (le-leb (getD t 0 0) (length t) l) ∙ ap₂ (λ (x y : ℕ). readLaid next 0 x y t) (sym p) (sym q)
+  pub front-long : length t < n → readOf (readFrameIn e next 0 t) ≡ read.Wrong (fault field.Length 0)
+  front-long h =
+      ap readOf (read-short e next 0 t a
+      (ap (λ (x : ℕ). leb x (length t) && hasLength e next x) (sym p) ∙ and-no-left (leb n (length t)) (hasLength e next n) (lt-leb n (length t) h)))
 
-  pub front-settled : onlySettled next n k ≡ true → readOf (readFrame next 0 t) ≡ readOf (ofSettledMatch 0 (decode 5 n t) (match (settledSlots next n) t))
-  front-settled s = ap readOf (laid-read ∙ laid-settled next 0 n k t s)
+  pub front-none : hasLength e next n ≡ false → readOf (readFrameIn e next 0 t) ≡ read.Wrong (fault field.Length 0)
+  front-none l =
+      ap readOf (read-short e next 0 t a
+      (ap (λ (x : ℕ). leb x (length t) && hasLength e next x) (sym p) ∙ and-no-right (leb n (length t)) (hasLength e next n) l))
 
-  pub front-host : onlySettled next n k ≡ false → readOf (readFrame next 0 t) ≡ readOf (ofHostMatch 0 n (decode k n t) (match (hostSlots n) t))
-  front-host s = ap readOf (laid-read ∙ laid-host next 0 n k t s)
+-- ---- lengths
+
+module _ (e : Edition) (next n : ℕ) where
+  same-length : (b : Bool) → (b ≡ true → SomeLength e next n) → (SomeLength e next n → b ≡ true) → b ≡ hasLength e next n
+  same-length true f g = sym (length-of e next n (f refl))
+  same-length false f g = sym (on-test (hasLength e next n) (λ q. clash true refl (sym (g (length-inv e next n q)))) (λ q. q))
+
+  pub is-end : (r : ℕ) → r ≡ checkLen e → n ≡ 6 + r → true ≡ hasLength e next n
+  is-end r q h = same-length true (λ b. inl (inl (omega arith))) (λ s. refl)
+
+  pub is-put : (r : ℕ) → r ≡ checkLen e → 8 + r ≤ n → leb n (248 + r) ≡ hasLength e next n
+  is-put r q h = same-length (leb n (248 + r)) (λ b. inl (inr (omega arith, omega (arith, leb-true n (248 + r) b)))) (λ s. le-leb n (248 + r) (most s))
+    where
+      most : SomeLength e next n → n ≤ 248 + r
+      most (inl (inl s)) = omega arith
+      most (inl (inr s)) = omega arith
+      most (inr s) = omega arith
+
+  other : (r : ℕ) → r ≡ checkLen e → (n ≡ 6 + r → ⊥) → n < 8 + r → SomeLength e next n → (next ≤ idMax) × (n ≡ settledLenIn e 0)
+  other r q a b (inl (inl s)) = absurd (a (omega arith))
+  other r q a b (inl (inr s)) = absurd (omega arith)
+  other r q a b (inr s) = s
+
+  pub is-none : (r : ℕ) → r ≡ checkLen e → (n ≡ 6 + r → ⊥) → n < 8 + r → idMax < next → false ≡ hasLength e next n
+  is-none r q a b h = same-length false (λ z. clash true refl (sym z)) (λ s. let y : next ≤ idMax = other r q a b s .0 in absurd (omega arith))
+
+  pub is-settled : (r : ℕ) → r ≡ checkLen e → (n ≡ 6 + r → ⊥) → n < 8 + r → next ≤ idMax → eqb n (7 + r) ≡ hasLength e next n
+  is-settled r q a b h =
+      same-length (eqb n (7 + r)) (λ z. inr (h, omega (arith, eqb-true n (7 + r) z))) (λ s. eq-eqb n (7 + r) (omega (arith, other r q a b s .1)))
+
+pub put-least : (e : Edition) (next n k : ℕ) → onlySettled e next n k ≡ false → hasLength e next n ≡ true → (n ≡ endLenIn e → ⊥) → putLenIn e 0 ≤ n
+put-least e next n k s q a = go (length-inv e next n q)
+  where
+    go : SomeLength e next n → putLenIn e 0 ≤ n
+    go (inl (inl h)) = absurd (a h)
+    go (inl (inr h)) = h .0
+    go (inr h) = clash (onlySettled e next n k) (only-yes e next n k (h .0) (omega arith) (omega arith)
+        (or-right (eqb k 5) (eqb n (settledLenIn e 0)) (eq-eqb n (settledLenIn e 0) (h .1)))) s
+
+-- ---- heads
+
+pub put-length : (e : Edition) (n : ℕ) (t : List ℕ) → n ≤ length t → length (take (n - putLenIn e 0) (drop 7 t)) ≡ n - (8 + checkLen e)
+put-length e n t h = simp (length-take, length-drop) (omega arith)
+
+pub settled-length : (e : Edition) (n : ℕ) (t : List ℕ) → n ≤ length t → length (take (n - settledLenIn e 0) (drop 6 t)) ≡ n - (7 + checkLen e)
+settled-length e n t h = simp (length-take, length-drop) (omega arith)
+
+pub decode-high : (e : Edition) (k n : ℕ) (t : List ℕ) → 5 ≤ k → decode e k n t ≡ decode e 5 n t
+decode-high e (suc (suc (suc (suc (suc k))))) n t h = refl
+decode-high e zero n t h = absurd (omega arith)
+decode-high e (suc zero) n t h = absurd (omega arith)
+decode-high e (suc (suc zero)) n t h = absurd (omega arith)
+decode-high e (suc (suc (suc zero))) n t h = absurd (omega arith)
+decode-high e (suc (suc (suc (suc zero)))) n t h = absurd (omega arith)
 
 -- ---- the same at an offset
 
@@ -152,41 +184,27 @@ shiftRead at (read.Whole h) = read.Whole h
 shiftRead at (read.Torn n) = read.Torn n
 shiftRead at (read.Wrong e) = read.Wrong (fault (e .field) (at + e .place))
 
-shift-host : (at n : ℕ) (f : Frame) (m : Match) → readOf (ofHostMatch at n f m) ≡ shiftRead at (readOf (ofHostMatch 0 n f m))
-shift-host at n f all = refl
-shift-host at n f (part p) = refl
-shift-host at n f (misfit p) = ap (λ (s : ℕ). read.Wrong (fault (p .field) (at + s))) (sym (zero-add (p .start)))
+shift-match : (at n : ℕ) (b : Bool) (f : Frame) (m : Match) → readOf (ofMatch at n b f m) ≡ shiftRead at (readOf (ofMatch 0 n b f m))
+shift-match at n b f all = refl
+shift-match at n true f (part p) = refl
+shift-match at n false f (part p) = ap (λ (s : ℕ). read.Wrong (fault (p .field) (at + s))) (sym (zero-add (p .start)))
+shift-match at n b f (misfit p) = ap (λ (s : ℕ). read.Wrong (fault (p .field) (at + s))) (sym (zero-add (p .start)))
 
-shift-settled : (at : ℕ) (f : Frame) (m : Match) → readOf (ofSettledMatch at f m) ≡ shiftRead at (readOf (ofSettledMatch 0 f m))
-shift-settled at f all = refl
-shift-settled at f (part p) = ap (λ (s : ℕ). read.Wrong (fault (p .field) (at + s))) (sym (zero-add (p .start)))
-shift-settled at f (misfit p) = ap (λ (s : ℕ). read.Wrong (fault (p .field) (at + s))) (sym (zero-add (p .start)))
-
-shift-laid : (next at n k : ℕ) (t : List ℕ) → readOf (readLaid next at n k t) ≡ shiftRead at (readOf (readLaid next 0 n k t))
-shift-laid next at n k t =
-    on-test (onlySettled next n k)
-    (λ s. ap readOf (laid-settled next at n k t s)
-    ∙ shift-settled at (decode 5 n t) (match (settledSlots next n) t)
-    ∙ ap (λ (r : Read). shiftRead at (readOf r)) (sym (laid-settled next 0 n k t s)))
-    (λ s. ap readOf (laid-host next at n k t s)
-    ∙ shift-host at n (decode k n t) (match (hostSlots n) t)
-    ∙ ap (λ (r : Read). shiftRead at (readOf r)) (sym (laid-host next 0 n k t s)))
-
-pub read-short : (next at : ℕ) (t : List ℕ) → allFF t ≡ false → leb (getD t 0 0) (length t) ≡ false → readFrame next at t ≡ wrong (fault field.Length at)
-unfolding readFrame
-read-short next at t p q = rw (p, q, readFrame)
-
-pub shift-read : (next at : ℕ) (t : List ℕ) → readOf (readFrame next at t) ≡ shiftRead at (readOf (readFrame next 0 t))
-shift-read next at t =
+shift-read : (e : Edition) (next at : ℕ) (t : List ℕ) → readOf (readFrameIn e next at t) ≡ shiftRead at (readOf (readFrameIn e next 0 t))
+shift-read e next at t =
     on-test (allFF t)
-    (λ a. ap readOf (read-ff next at t a) ∙ ap (λ (r : Read). shiftRead at (readOf r)) (sym (read-ff next 0 t a)))
-    (λ a. on-test (leb (getD t 0 0) (length t))
-    (λ b. ap readOf (read-step next at t a b)
-    ∙ shift-laid next at (getD t 0 0) (getD t 2 0) t
-    ∙ ap (λ (r : Read). shiftRead at (readOf r)) (sym (read-step next 0 t a b)))
-    (λ b. ap readOf (read-short next at t a b)
+    (λ a. ap readOf (read-ff e next at t a) ∙ ap (λ (r : Read). shiftRead at (readOf r)) (sym (read-ff e next 0 t a)))
+    (λ a. on-test (lengthFits e next t)
+    (λ b. ap readOf (read-laid e next at t a b)
+    ∙ shift-match at (getD t 0 0) (layoutOf e next (getD t 0 0) (getD t 2 0) .tears) (decode e (getD t 2 0) (getD t 0 0) t)
+    (match (laid (getD t 0 0) (layoutOf e next (getD t 0 0) (getD t 2 0)) t) t)
+    ∙ ap (λ (r : Read). shiftRead at (readOf r)) (sym (read-laid e next 0 t a b)))
+    (λ b. ap readOf (read-short e next at t a b)
     ∙ ap (λ (s : ℕ). read.Wrong (fault field.Length s)) (sym (add-zero at))
-    ∙ ap (λ (r : Read). shiftRead at (readOf r)) (sym (read-short next 0 t a b))))
+    ∙ ap (λ (r : Read). shiftRead at (readOf r)) (sym (read-short e next 0 t a b))))
+
+pub shift-first : (next at : ℕ) (t : List ℕ) → readOf (readFrame next at t) ≡ shiftRead at (readOf (readFrameIn edition.First next 0 t))
+shift-first next at t = ap readOf (read-is next at t) ∙ shift-read edition.First next at t
 
 -- back from what the code has of a fault
 pub wrong-read : (r : Read) (e : Fault) → readOf r ≡ read.Wrong e → r ≡ wrong e

@@ -1,24 +1,27 @@
 -- Where bytes stop fitting a layout, by tests of single bytes.
 use mathlib.Core.Path.{_≡_, refl, sym, ap, _∙_}
-use mathlib.Core.List.{List, [], _∷_}
+use mathlib.Core.List.{List, [], _∷_, _++_}
 use mathlib.Core.Bool.{true, false}
-use Prim.Native.Nat.{ℕ, zero, suc, _+_, _-_, _≤_, _<_}
+use Prim.Native.Nat.{ℕ, zero, suc, _+_, _-_, _/_, _%_, _≤_, _<_}
 use native.Mathlib.Omega.{arith}
 use lib.Dec.{eqb, leb}
-use lib.ListN.{length, getD, drop}
+use lib.ListN.{length, getD, take, drop}
 use lib.Seq.{drop-cons}
+use native.Mathlib.Nat.{add-zero}
 use borrow.Author.Tests.{lt-leb}
 use Rattle.flash.specs.Bytes.{Bytes}
 use Rattle.flash.proofs.Cases.{and-no-left, and-no-right, between-yes}
 use Rattle.flash.proofs.Blank.{byte-at}
-use Rattle.frame.specs.Frame.{hostMax, valueMax, finish, putLen, deleteLen, endLen, settledLen}
-use Rattle.frame.specs.Reader.{Slot, slot, fits, valueSlots, frontSlots, lastKind, changeSlots, endSlots, settledSlots, noSlots, hostSlots}
+use Rattle.crc.specs.Crc.{crc32Of}
+use Rattle.frame.specs.Frame.{hostMax, finish, checkLen, putLenIn, deleteLenIn, endLenIn, settledLenIn}
+use Rattle.frame.specs.Reader.{Slot, slot, fits, valueSlots, Layout, frontSlots, sealSlots, laid, lastKind, changeLayout, endLayout, settledLayout}
 use Rattle.reader.specs.Misfits.{firstMisfit, oneMisfit, misfitFrom, frontMisfit}
+use Rattle.frame.specs.declared.Edition.{Edition}
+use Rattle.frame.specs.declared.Edition.the-variants as edition
 use Rattle.frame.specs.declared.Field.{Field}
 use Rattle.frame.specs.declared.Field.the-variants as field
 use Rattle.reader.specs.declared.Misfit.{Misfit}
 use Rattle.reader.specs.declared.Misfit.the-variants as misfit
-use Rattle.frame.proofs.Inverse.{on-host}
 
 -- ---- one byte
 
@@ -71,24 +74,20 @@ past o p ps t h l k =
     let y : Misfit = misfitFrom (suc o) ps (drop (suc o) t) in
     then o p ps t y h refl ∙ ap (λ (x : Misfit). firstMisfit x y) (one-between o p (getD t o 0) l k) ∙ first-none y
 
-abbrev finishMisfit : ℕ → List ℕ → Misfit
-finishMisfit o t = oneMisfit o (slot field.Finish o finish finish) (getD t o 0)
-
 -- any byte fits in a value
-value-is : (o v : ℕ) (t : List ℕ) → Bytes t → o + v < length t → misfitFrom o (valueSlots o v) (drop o t) ≡ finishMisfit (o + v) t
-unfolding misfitFrom
-value-is o zero t bs h =
-    let e : o ≡ o + 0 = omega arith in
-    then o (slot field.Finish o finish finish) [] t misfit.None (omega arith) refl ∙ first-last (finishMisfit o t) ∙ ap (λ (i : ℕ). finishMisfit i t) e
-value-is o (suc v) t bs h =
-    let e : suc o + v ≡ o + suc v = omega arith in
-    past o (slot field.Finish o 0 255) (valueSlots (suc o) v) t (omega arith) (omega arith) (omega (arith, byte-at t o bs))
-    ∙ value-is (suc o) v t bs (omega arith)
-    ∙ ap (λ (i : ℕ). finishMisfit i t) e
+value-is : (o v m : ℕ) (ps : List Slot) (t : List ℕ) → Bytes t → m ≡ o + v → m ≤ length t
+    → misfitFrom o (valueSlots o v ++ ps) (drop o t) ≡ misfitFrom m ps (drop m t)
+value-is o zero m ps t bs q h = let r : o ≡ m = omega arith in ap (λ (i : ℕ). misfitFrom i ps (drop i t)) r
+value-is o (suc v) m ps t bs q h =
+    past o (slot field.Finish o 0 255) (valueSlots (suc o) v ++ ps) t (omega arith) (omega arith) (omega (arith, byte-at t o bs))
+    ∙ value-is (suc o) v m ps t bs (omega arith) h
 
-front-is : (n a b : ℕ) (rest : List Slot) (t : List ℕ) → n ≡ getD t 0 0 → 4 ≤ length t
-    → misfitFrom 0 (frontSlots n a b rest) t ≡ firstMisfit (frontMisfit a b t) (misfitFrom 4 rest (drop 4 t))
-front-is n a b rest t e h =
+front-is : (n : ℕ) (l : Layout) (ps : List Slot) (t : List ℕ) → n ≡ getD t 0 0 → 4 ≤ length t
+    → misfitFrom 0 (frontSlots n l ++ ps) t ≡ firstMisfit (frontMisfit (l .from) (l .to) t) (misfitFrom 4 (l .body ++ ps) (drop 4 t))
+front-is n l ps t e h =
+    let a : ℕ = l .from in
+    let b : ℕ = l .to in
+    let rest : List Slot = l .body ++ ps in
     past 0 (slot field.Length 0 n n) (slot field.Length 0 0 0 ∷ slot field.Kind 2 a b ∷ slot field.Kind 2 0 0 ∷ rest) t (omega arith)
     (omega arith) (omega arith)
     ∙ then 1 (slot field.Length 0 0 0) (slot field.Kind 2 a b ∷ slot field.Kind 2 0 0 ∷ rest) t _ (omega arith)
@@ -97,57 +96,89 @@ front-is n a b rest t e h =
     ∙ regroup (oneMisfit 1 (slot field.Length 0 0 0) (getD t 1 0)) (oneMisfit 2 (slot field.Kind 2 a b) (getD t 2 0))
     (oneMisfit 3 (slot field.Kind 2 0 0) (getD t 3 0)) (misfitFrom 4 rest (drop 4 t))
 
--- ---- the tests of each layout
+-- ---- the seal
 
-pub change-is : (n : ℕ) (t : List ℕ) → n ≡ getD t 0 0 → putLen 0 ≤ n → n ≤ length t → Bytes t
-    → misfitFrom 0 (changeSlots n) t
-    ≡ firstMisfit (frontMisfit 1 (lastKind (eqb n deleteLen)) t)
-    (firstMisfit (oneMisfit 4 (slot field.Host 4 0 hostMax) (getD t 4 0))
-    (firstMisfit (oneMisfit 6 (slot field.Id 5 0 0) (getD t 6 0)) (finishMisfit (n - 1) t)))
-change-is n t e lo hi bs =
-    let v : List Slot = valueSlots 7 (n - putLen 0) in
-    let l : 7 + (n - putLen 0) ≡ n - 1 = omega arith in
-    front-is n 1 (lastKind (eqb n deleteLen)) (slot field.Host 4 0 hostMax ∷ slot field.Id 5 0 255 ∷ slot field.Id 5 0 0 ∷ v) t e (omega arith)
-    ∙ ap (firstMisfit (frontMisfit 1 (lastKind (eqb n deleteLen)) t))
-    (then 4 (slot field.Host 4 0 hostMax) (slot field.Id 5 0 255 ∷ slot field.Id 5 0 0 ∷ v) t _ (omega arith)
-    (past 5 (slot field.Id 5 0 255) (slot field.Id 5 0 0 ∷ v) t (omega arith) (omega arith) (omega (arith, byte-at t 5 bs))
-    ∙ then 6 (slot field.Id 5 0 0) v t _ (omega arith)
-    (value-is 7 (n - putLen 0) t bs (omega arith) ∙ ap (λ (i : ℕ). finishMisfit i t) l)))
+then-at : (o j : ℕ) (p : Slot) (ps : List Slot) (t : List ℕ) (y : Misfit) → j ≡ suc o → o < length t → misfitFrom j ps (drop j t) ≡ y
+    → misfitFrom o (p ∷ ps) (drop o t) ≡ firstMisfit (oneMisfit o p (getD t o 0)) y
+then-at o j p ps t y q h r = then o p ps t y h (ap (λ (i : ℕ). misfitFrom i ps (drop i t)) (sym q) ∙ r)
 
-pub end-is : (t : List ℕ) → getD t 0 0 ≡ endLen → endLen ≤ length t → Bytes t
-    → misfitFrom 0 endSlots t
-    ≡ firstMisfit (frontMisfit 3 4 t) (firstMisfit (oneMisfit 4 (slot field.Host 4 0 hostMax) (getD t 4 0)) (finishMisfit 5 t))
-end-is t e hi bs =
-    front-is endLen 3 4 (slot field.Host 4 0 hostMax ∷ valueSlots 5 0) t (sym e) (omega arith)
-    ∙ ap (firstMisfit (frontMisfit 3 4 t)) (then 4 (slot field.Host 4 0 hostMax) (valueSlots 5 0) t _ (omega arith) (value-is 5 0 t bs (omega arith)))
-
-pub settled-is : (next n : ℕ) (t : List ℕ) → n ≡ getD t 0 0 → settledLen 0 ≤ n → n ≤ length t → Bytes t
-    → misfitFrom 0 (settledSlots next n) t
-    ≡ firstMisfit (frontMisfit 5 5 t)
-    (firstMisfit (oneMisfit 4 (slot field.Id 4 next 255) (getD t 4 0))
-    (firstMisfit (oneMisfit 5 (slot field.Id 4 0 0) (getD t 5 0)) (finishMisfit (n - 1) t)))
-settled-is next n t e lo hi bs =
-    let v : List Slot = valueSlots 6 (n - settledLen 0) in
-    let l : 6 + (n - settledLen 0) ≡ n - 1 = omega arith in
-    front-is n 5 5 (slot field.Id 4 next 255 ∷ slot field.Id 4 0 0 ∷ v) t e (omega arith)
-    ∙ ap (firstMisfit (frontMisfit 5 5 t))
-    (then 4 (slot field.Id 4 next 255) (slot field.Id 4 0 0 ∷ v) t _ (omega arith)
-    (then 5 (slot field.Id 4 0 0) v t _ (omega arith) (value-is 6 (n - settledLen 0) t bs (omega arith) ∙ ap (λ (i : ℕ). finishMisfit i t) l)))
-
-pub none-is : (t : List ℕ) → misfitFrom 0 noSlots t ≡ misfit.At 0 field.Length 0
+finish-is : (o m : ℕ) (t : List ℕ) → m ≡ o → o < length t
+    → misfitFrom o (slot field.Finish m finish finish ∷ []) (drop o t) ≡ oneMisfit o (slot field.Finish m finish finish) (getD t o 0)
 unfolding misfitFrom
-none-is [] = refl
-none-is (zero ∷ t) =
-    ap (λ (x : Misfit). firstMisfit x misfit.None) (one-below 0 (slot field.Length 0 1 0) zero (omega arith))
-    ∙ first-at 0 field.Length 0 misfit.None
-none-is (suc b ∷ t) =
-    ap (λ (x : Misfit). firstMisfit x misfit.None) (one-above 0 (slot field.Length 0 1 0) (suc b) (omega arith))
-    ∙ first-at 0 field.Length 0 misfit.None
+finish-is o m t q h =
+    then o (slot field.Finish m finish finish) [] t misfit.None h refl ∙ first-last (oneMisfit o (slot field.Finish m finish finish) (getD t o 0))
 
--- no frame of kinds 1 to 4 is that long
-pub host-none : (n : ℕ) (t : List ℕ) → (n ≡ endLen → ⊥) → (putLen 0 ≤ n → n ≤ putLen valueMax → ⊥) → misfitFrom 0 (hostSlots n) t ≡ misfit.At 0 field.Length 0
-host-none n t a b =
-    on-host n (λ e s. absurd (a e)) (λ lo hi s. absurd (b lo hi)) (λ s. ap (λ (ps : List Slot). misfitFrom 0 ps t) s ∙ none-is t)
+pub first-is : (m : ℕ) (t : List ℕ) → m < length t
+    → misfitFrom m (sealSlots edition.First m (take m t)) (drop m t) ≡ oneMisfit m (slot field.Finish m finish finish) (getD t m 0)
+first-is m t h =
+    finish-is m (m + 0) t (omega arith) h ∙ ap (λ (x : ℕ). oneMisfit m (slot field.Finish x finish finish) (getD t m 0)) (add-zero m)
 
-pub host-end : (n : ℕ) (t : List ℕ) → n ≡ endLen → misfitFrom 0 (hostSlots n) t ≡ misfitFrom 0 endSlots t
-host-end n t e = ap (λ (m : ℕ). misfitFrom 0 (hostSlots m) t) e
+pub second-is : (m c : ℕ) (t : List ℕ) → c ≡ crc32Of (take m t) → m + 4 < length t
+    → misfitFrom m (sealSlots edition.Second m (take m t)) (drop m t)
+    ≡ firstMisfit (oneMisfit m (slot field.Crc m (c % 256) (c % 256)) (getD t m 0))
+    (firstMisfit (oneMisfit (m + 1) (slot field.Crc m (c / 256 % 256) (c / 256 % 256)) (getD t (m + 1) 0))
+    (firstMisfit (oneMisfit (m + 2) (slot field.Crc m (c / 65536 % 256) (c / 65536 % 256)) (getD t (m + 2) 0))
+    (firstMisfit (oneMisfit (m + 3) (slot field.Crc m (c / 16777216) (c / 16777216)) (getD t (m + 3) 0))
+    (oneMisfit (m + 4) (slot field.Finish (m + 4) finish finish) (getD t (m + 4) 0)))))
+second-is m c t q h =
+    let s : ℕ → Slot = λ x. slot field.Crc m x x in
+    let f : List Slot = slot field.Finish (m + 4) finish finish ∷ [] in
+    rw (← q)
+    (then-at m (m + 1) (s (c % 256)) (s (c / 256 % 256) ∷ s (c / 65536 % 256) ∷ s (c / 16777216) ∷ f) t _ (omega arith) (omega arith)
+    (then-at (m + 1) (m + 2) (s (c / 256 % 256)) (s (c / 65536 % 256) ∷ s (c / 16777216) ∷ f) t _ (omega arith) (omega arith)
+    (then-at (m + 2) (m + 3) (s (c / 65536 % 256)) (s (c / 16777216) ∷ f) t _ (omega arith) (omega arith)
+    (then-at (m + 3) (m + 4) (s (c / 16777216)) f t _ (omega arith) (omega arith) (finish-is (m + 4) (m + 4) t refl (omega arith))))))
+
+-- ---- the tests of each layout, up to its seal
+
+abbrev pub sealMisfit : Edition → ℕ → List ℕ → Misfit
+sealMisfit e m t = misfitFrom m (sealSlots e m (take m t)) (drop m t)
+
+length-value : (o n : ℕ) → length (valueSlots o n) ≡ n
+length-value o zero = refl
+length-value o (suc n) = ap suc (length-value (suc o) n)
+
+-- where the seal is
+module _ (e : Edition) (n : ℕ) (t : List ℕ) (q : n ≡ getD t 0 0) (hi : n ≤ length t) (bs : Bytes t) where
+  pub change-is : putLenIn e 0 ≤ n
+      → misfitFrom 0 (laid n (changeLayout e n) t) t
+      ≡ firstMisfit (frontMisfit 1 (lastKind (eqb n (deleteLenIn e))) t)
+      (firstMisfit (oneMisfit 4 (slot field.Host 4 0 hostMax) (getD t 4 0))
+      (firstMisfit (oneMisfit 6 (slot field.Id 5 0 0) (getD t 6 0)) (sealMisfit e (n - 1 - checkLen e) t)))
+  change-is lo =
+      let l : Layout = changeLayout e n in
+      let v : List Slot = valueSlots 7 (n - putLenIn e 0) in
+      let m : ℕ = n - 1 - checkLen e in
+      let r : 4 + length (l .body) ≡ m = omega (arith, length-value 7 (n - putLenIn e 0)) in
+      let ps : List Slot = sealSlots e m (take m t) in
+      ap (λ (x : ℕ). misfitFrom 0 (frontSlots n l ++ sealSlots e x (take x t)) t) r
+      ∙ front-is n l ps t q (omega arith)
+      ∙ ap (firstMisfit (frontMisfit 1 (lastKind (eqb n (deleteLenIn e))) t))
+      (then 4 (slot field.Host 4 0 hostMax) (slot field.Id 5 0 255 ∷ slot field.Id 5 0 0 ∷ (v ++ ps)) t _ (omega arith)
+      (past 5 (slot field.Id 5 0 255) (slot field.Id 5 0 0 ∷ (v ++ ps)) t (omega arith) (omega arith) (omega (arith, byte-at t 5 bs))
+      ∙ then 6 (slot field.Id 5 0 0) (v ++ ps) t _ (omega arith) (value-is 7 (n - putLenIn e 0) m ps t bs (omega arith) (omega arith))))
+
+  pub end-is : n ≡ endLenIn e
+      → misfitFrom 0 (laid n (endLayout e) t) t
+      ≡ firstMisfit (frontMisfit 3 4 t) (firstMisfit (oneMisfit 4 (slot field.Host 4 0 hostMax) (getD t 4 0)) (sealMisfit e 5 t))
+  end-is s =
+      let ps : List Slot = sealSlots e 5 (take 5 t) in
+      front-is n (endLayout e) ps t q (omega arith)
+      ∙ ap (firstMisfit (frontMisfit 3 4 t)) (then 4 (slot field.Host 4 0 hostMax) ps t _ (omega arith) refl)
+
+  pub settled-is : (next : ℕ) → settledLenIn e 0 ≤ n
+      → misfitFrom 0 (laid n (settledLayout e next n) t) t
+      ≡ firstMisfit (frontMisfit 5 5 t)
+      (firstMisfit (oneMisfit 4 (slot field.Id 4 next 255) (getD t 4 0))
+      (firstMisfit (oneMisfit 5 (slot field.Id 4 0 0) (getD t 5 0)) (sealMisfit e (n - 1 - checkLen e) t)))
+  settled-is next lo =
+      let l : Layout = settledLayout e next n in
+      let v : List Slot = valueSlots 6 (n - settledLenIn e 0) in
+      let m : ℕ = n - 1 - checkLen e in
+      let r : 4 + length (l .body) ≡ m = omega (arith, length-value 6 (n - settledLenIn e 0)) in
+      let ps : List Slot = sealSlots e m (take m t) in
+      ap (λ (x : ℕ). misfitFrom 0 (frontSlots n l ++ sealSlots e x (take x t)) t) r
+      ∙ front-is n l ps t q (omega arith)
+      ∙ ap (firstMisfit (frontMisfit 5 5 t))
+      (then 4 (slot field.Id 4 next 255) (slot field.Id 4 0 0 ∷ (v ++ ps)) t _ (omega arith)
+      (then 5 (slot field.Id 4 0 0) (v ++ ps) t _ (omega arith) (value-is 6 (n - settledLenIn e 0) m ps t bs (omega arith) (omega arith))))

@@ -1,18 +1,21 @@
 // Reading a frame out of any bytes.
 ghost use mathlib.Core.Path.{_≡_};
-ghost use Prim.Native.Nat.{_-_, _≤_};
+ghost use Prim.Native.Nat.{_+_, _-_, _≤_, _<_};
 ghost use lib.Dec.{eqb};
-ghost use lib.ListN.{length, getD, drop};
+ghost use lib.ListN.{length, getD, take, drop};
 ghost use Rattle.flash.specs.Bytes.{le16};
-ghost use Rattle.frame.specs.Frame.{putLen, deleteLen, endLen, settledLen, idOf};
-ghost use Rattle.frame.specs.Reader.{slot, changeSlots, endSlots, settledSlots, hostSlots, lastKind, onlySettled, match};
-ghost use Rattle.frame.specs.Reader.{decode, ofHostMatch, ofSettledMatch, readFrame};
+ghost use Rattle.frame.specs.Frame.{putLenIn, deleteLenIn, endLenIn, settledLenIn, idOf, checkLen};
+ghost use mathlib.Core.Bool.{true};
 ghost use Rattle.frame.specs.Code.{headOf, readOf};
-ghost use Rattle.reader.specs.Misfits.{firstMisfit, oneMisfit, misfitFrom, frontMisfit};
+ghost use Rattle.frame.specs.Reader.{hasLength, onlySettled, layoutOf, decode, readLaid, readFrameIn, readFrame};
+ghost use Rattle.frame.specs.Reader.{slot, changeLayout, endLayout, settledLayout, sealSlots, laid, lastKind};
+ghost use Rattle.reader.specs.Misfits.{firstMisfit, oneMisfit, misfitFrom, frontMisfit, secondMisfit};
+use crc::crc32;
 use flash::byte_at;
 use frame::BODY_AT;
 use frame::DELETE_LEN;
 use frame::END_LEN;
+use frame::Edition;
 use frame::FINISH;
 use frame::Fault;
 use frame::Field;
@@ -27,8 +30,9 @@ use frame::ObjectId;
 use frame::PUT_LEN;
 use frame::SETTLED_LEN;
 use frame::VALUE_MAX;
+use frame::check_len;
 
-// The other offsets in a frame: high bytes, the id of a put or a delete, a commit's or abort's finish byte.
+// The other offsets in a frame: high bytes, and the id of a put or a delete.
 const LENGTH_HIGH: usize = 1;
 
 const KIND_HIGH: usize = KIND_AT + 1;
@@ -39,11 +43,10 @@ const ID_HIGH: usize = ID_AT + 1;
 
 const SETTLED_HIGH: usize = BODY_AT + 1;
 
-const END_FINISH: usize = BODY_AT + 1;
-
-// The finish byte, and the longest settled frame.
+// The finish byte.
 const LAST: usize = FINISH as usize;
 
+// The longest settled frame, without a check.
 const MAX_SETTLED: usize = SETTLED_LEN as usize + VALUE_MAX;
 
 // The first byte of a frame that does not fit: its offset, its field, and where that starts.
@@ -77,24 +80,25 @@ fn less(a: u8, b: u8) -> u8
 }
 
 // The frame of a low kind byte and a length.
-fn head_at(t: &[u8], k: u8, n: u8) -> Head
+fn head_at(t: &[u8], edition: Edition, k: u8, n: u8) -> Head
     requires { ⌜ n ≤ length (now t) ⌝ }
-    ensures { λ r. ⌜ r ≡ headOf (decode k n (now (t .entry))) ⌝ }
+    ensures { λ r. ⌜ r ≡ headOf (decode edition k n (now (t .entry))) ⌝ }
 {
+    let check = check_len(edition);
     let host = Host(byte_at(t, BODY_AT));
     match k {
         0 => Head::Commit(host),
         1 => Head::Put(
             host,
             id_of(byte_at(t, ID_AT), byte_at(t, ID_HIGH)),
-            less(n, PUT_LEN),
+            less(n, PUT_LEN + check),
         ),
         2 => Head::Delete(host, id_of(byte_at(t, ID_AT), byte_at(t, ID_HIGH))),
         3 => Head::Commit(host),
         4 => Head::Abort(host),
         _ => Head::Settled(
             id_of(byte_at(t, BODY_AT), byte_at(t, SETTLED_HIGH)),
-            less(n, SETTLED_LEN),
+            less(n, SETTLED_LEN + check),
         ),
     }
 }
@@ -133,105 +137,146 @@ fn front_misfit(t: &[u8], lo: usize, hi: usize) -> Misfit
     first(length, first(kind, high))
 }
 
-// Only a frame of a delete's length can be a delete.
-fn last_kind(n: u8) -> usize
-    ensures { λ r. ⌜ r ≡ lastKind (eqb n deleteLen) ⌝ }
+// The check and the finish byte of the second edition, after m bytes.
+fn second_misfit(t: &[u8], m: usize) -> Misfit
+    requires { ⌜ m + 4 < length (now t) ⌝ }
+    ensures { λ r. ⌜ r ≡ secondMisfit m (now (t .entry)) ⌝ }
 {
-    if n == DELETE_LEN { 2 } else { 1 }
+    let c = crc32(&t[..m]);
+    let c0 = (c % 256) as usize;
+    let c1 = (c / 256 % 256) as usize;
+    let c2 = (c / 65536 % 256) as usize;
+    let c3 = (c / 16777216) as usize;
+    let b0 = test_byte(t, m, c0, c0, Field::Crc, m);
+    let b1 = test_byte(t, m + 1, c1, c1, Field::Crc, m);
+    let b2 = test_byte(t, m + 2, c2, c2, Field::Crc, m);
+    let b3 = test_byte(t, m + 3, c3, c3, Field::Crc, m);
+    let finish = test_byte(t, m + 4, LAST, LAST, Field::Finish, m + 4);
+    first(b0, first(b1, first(b2, first(b3, finish))))
+}
+
+// The check and the finish byte, after m bytes.
+fn seal_misfit(t: &[u8], edition: Edition, m: usize) -> Misfit
+    requires { ⌜ m + checkLen edition < length (now t) ⌝ }
+    ensures { λ r. ⌜ r ≡ misfitFrom m (sealSlots edition m (take m (now (t .entry)))) (drop m (now (t .entry))) ⌝ }
+{
+    match edition {
+        Edition::First => test_byte(t, m, LAST, LAST, Field::Finish, m),
+        Edition::Second => second_misfit(t, m),
+    }
+}
+
+// Only a frame of a delete's length can be a delete.
+fn last_kind(edition: Edition, n: u8) -> usize
+    ensures { λ r. ⌜ r ≡ lastKind (eqb n (deleteLenIn edition)) ⌝ }
+{
+    if n == DELETE_LEN + check_len(edition) {
+        2
+    } else {
+        1
+    }
 }
 
 // A put or a delete of n bytes.
-fn change_misfit(t: &[u8], n: u8) -> Misfit
-    requires { ⌜ (n ≡ getD (now t) 0 0) × (putLen 0 ≤ n) × (n ≤ length (now t)) ⌝ }
-    ensures { λ r. ⌜ r ≡ misfitFrom 0 (changeSlots n) (now (t .entry)) ⌝ }
+fn change_misfit(t: &[u8], edition: Edition, n: u8) -> Misfit
+    requires { ⌜ (n ≡ getD (now t) 0 0) × (putLenIn edition 0 ≤ n) × (n ≤ length (now t)) ⌝ }
+    ensures { λ r. ⌜ r ≡ misfitFrom 0 (laid n (changeLayout edition n) (now (t .entry))) (now (t .entry)) ⌝ }
 {
-    let last = n as usize - 1;
-    let front = front_misfit(t, 1, last_kind(n));
+    let m = n as usize - 1 - check_len(edition) as usize;
+    let front = front_misfit(t, 1, last_kind(edition, n));
     let host = test_byte(t, BODY_AT, 0, HOST_MAX, Field::Host, BODY_AT);
     let id = test_byte(t, ID_HIGH, 0, 0, Field::Id, ID_AT);
-    let finish = test_byte(t, last, LAST, LAST, Field::Finish, last);
-    first(front, first(host, first(id, finish)))
+    let seal = seal_misfit(t, edition, m);
+    first(front, first(host, first(id, seal)))
 }
 
 // A commit or an abort.
-fn end_misfit(t: &[u8]) -> Misfit
-    requires { ⌜ (getD (now t) 0 0 ≡ endLen) × (endLen ≤ length (now t)) ⌝ }
-    ensures { λ r. ⌜ r ≡ misfitFrom 0 endSlots (now (t .entry)) ⌝ }
+fn end_misfit(t: &[u8], edition: Edition, n: u8) -> Misfit
+    requires { ⌜ (n ≡ getD (now t) 0 0) × (n ≡ endLenIn edition) × (n ≤ length (now t)) ⌝ }
+    ensures { λ r. ⌜ r ≡ misfitFrom 0 (laid n (endLayout edition) (now (t .entry))) (now (t .entry)) ⌝ }
 {
     let front = front_misfit(t, 3, 4);
     let host = test_byte(t, BODY_AT, 0, HOST_MAX, Field::Host, BODY_AT);
-    let finish = test_byte(t, END_FINISH, LAST, LAST, Field::Finish, END_FINISH);
-    first(front, first(host, finish))
+    let seal = seal_misfit(t, edition, BODY_AT + 1);
+    first(front, first(host, seal))
 }
 
 // A settled frame of n bytes whose id is at least next.
-fn settled_misfit(t: &[u8], next: usize, n: u8) -> Misfit
-    requires { ⌜ (n ≡ getD (now t) 0 0) × (settledLen 0 ≤ n) × (n ≤ length (now t)) ⌝ }
-    ensures { λ r. ⌜ r ≡ misfitFrom 0 (settledSlots next n) (now (t .entry)) ⌝ }
+fn settled_misfit(t: &[u8], edition: Edition, next: usize, n: u8) -> Misfit
+    requires { ⌜ (n ≡ getD (now t) 0 0) × (settledLenIn edition 0 ≤ n) × (n ≤ length (now t)) ⌝ }
+    ensures { λ r. ⌜ r ≡ misfitFrom 0 (laid n (settledLayout edition next n) (now (t .entry))) (now (t .entry)) ⌝ }
 {
-    let last = n as usize - 1;
+    let m = n as usize - 1 - check_len(edition) as usize;
     let front = front_misfit(t, 5, 5);
     let id = test_byte(t, BODY_AT, next, ID_MAX, Field::Id, BODY_AT);
     let high = test_byte(t, SETTLED_HIGH, 0, 0, Field::Id, BODY_AT);
-    let finish = test_byte(t, last, LAST, LAST, Field::Finish, last);
-    first(front, first(id, first(high, finish)))
+    let seal = seal_misfit(t, edition, m);
+    first(front, first(id, first(high, seal)))
 }
 
-// A frame of kinds 1 to 4 of n bytes: no frame has another length.
-fn host_misfit(t: &[u8], n: u8) -> Misfit
-    requires { ⌜ (n ≡ getD (now t) 0 0) × (n ≤ length (now t)) ⌝ }
-    ensures { λ r. ⌜ r ≡ misfitFrom 0 (hostSlots n) (now (t .entry)) ⌝ }
+// Some frame that may stand has n bytes.
+fn has_length(edition: Edition, next: usize, n: u8) -> bool
+    ensures { λ r. ⌜ r ≡ hasLength edition next n ⌝ }
 {
-    if n == END_LEN {
-        return end_misfit(t);
+    let check = check_len(edition);
+    if n == END_LEN + check {
+        return true;
     }
-    if n < PUT_LEN {
-        return Misfit::At(0, Field::Length, 0);
+    if PUT_LEN + check <= n {
+        return n as usize <= MAX_FRAME + check as usize;
     }
-    if MAX_FRAME < n as usize {
-        return Misfit::At(0, Field::Length, 0);
-    }
-    change_misfit(t, n)
-}
-
-// The bytes can only be a settled frame's.
-fn only_settled(next: usize, n: u8, k: u8) -> bool
-    ensures { λ r. ⌜ r ≡ onlySettled next n k ⌝ }
-{
     if ID_MAX < next {
         return false;
     }
-    if n < SETTLED_LEN {
+    n == SETTLED_LEN + check
+}
+
+// The bytes can only be a settled frame's.
+fn only_settled(edition: Edition, next: usize, n: u8, k: u8) -> bool
+    ensures { λ r. ⌜ r ≡ onlySettled edition next n k ⌝ }
+{
+    let check = check_len(edition);
+    if ID_MAX < next {
         return false;
     }
-    if MAX_SETTLED < n as usize {
+    if n < SETTLED_LEN + check {
+        return false;
+    }
+    if MAX_SETTLED + (check as usize) < n as usize {
         return false;
     }
     if k == 5 {
         return true;
     }
-    n == SETTLED_LEN
+    n == SETTLED_LEN + check
 }
 
-// A settled frame is never torn.
-fn read_settled(t: &[u8], next: usize, n: u8) -> FrameRead
-    requires { ⌜ (n ≡ getD (now t) 0 0) × (settledLen 0 ≤ n) × (n ≤ length (now t)) ⌝ }
-    ensures { λ r. ⌜ r ≡ readOf (ofSettledMatch 0 (decode 5 n (now (t .entry))) (match (settledSlots next n) (now (t .entry)))) ⌝ }
+// The first byte that does not fit the layout of n and k.
+fn layout_misfit(t: &[u8], edition: Edition, next: usize, n: u8, k: u8) -> Misfit
+    requires { ⌜ (n ≡ getD (now t) 0 0) × (hasLength edition next n ≡ true) × (n ≤ length (now t)) ⌝ }
+    ensures { λ r. ⌜ r ≡ misfitFrom 0 (laid n (layoutOf edition next n k) (now (t .entry))) (now (t .entry)) ⌝ }
 {
-    match settled_misfit(t, next, n) {
-        Misfit::None => FrameRead::Whole(head_at(t, 5, n)),
-        Misfit::At(_, f, s) => FrameRead::Wrong(Fault { field: f, place: s }),
+    if only_settled(edition, next, n, k) {
+        return settled_misfit(t, edition, next, n);
     }
+    if n == END_LEN + check_len(edition) {
+        return end_misfit(t, edition, n);
+    }
+    change_misfit(t, edition, n)
 }
 
-// A frame of kinds 1 to 4 that is cut off is torn.
-fn read_of_host(t: &[u8], n: u8, k: u8) -> FrameRead
-    requires { ⌜ (n ≡ getD (now t) 0 0) × (n ≤ length (now t)) × (1 ≤ length (now t)) ⌝ }
-    ensures { λ r. ⌜ r ≡ readOf (ofHostMatch 0 n (decode k n (now (t .entry))) (match (hostSlots n) (now (t .entry)))) ⌝ }
+// The frame of n and k: of a settled one that is cut off the fault, of others that they are torn.
+fn read_layout(t: &[u8], edition: Edition, next: usize, n: u8, k: u8) -> FrameRead
+    requires { ⌜ (n ≡ getD (now t) 0 0) × (hasLength edition next n ≡ true) × (n ≤ length (now t)) × (k ≡ getD (now t) 2 0) ⌝ }
+    ensures { λ r. ⌜ r ≡ readOf (readLaid edition next 0 n k (now (t .entry))) ⌝ }
 {
-    match host_misfit(t, n) {
-        Misfit::None => FrameRead::Whole(head_at(t, k, n)),
+    let settled = only_settled(edition, next, n, k);
+    match layout_misfit(t, edition, next, n, k) {
+        Misfit::None => FrameRead::Whole(head_at(t, edition, k, n)),
         Misfit::At(o, f, s) => {
+            if settled {
+                return FrameRead::Wrong(Fault { field: f, place: s });
+            }
             if flash::is_blank(rest(t, o)) {
                 return FrameRead::Torn(n as usize);
             }
@@ -241,8 +286,8 @@ fn read_of_host(t: &[u8], n: u8, k: u8) -> FrameRead
 }
 
 // The frame at the front of some bytes, which run to the block's end.
-fn read_front(t: &[u8], next: usize) -> FrameRead
-    ensures { λ r. ⌜ r ≡ readOf (readFrame next 0 (now (t .entry))) ⌝ }
+fn read_front(t: &[u8], edition: Edition, next: usize) -> FrameRead
+    ensures { λ r. ⌜ r ≡ readOf (readFrameIn edition next 0 (now (t .entry))) ⌝ }
 {
     if flash::is_blank(t) {
         return FrameRead::Blank;
@@ -254,18 +299,20 @@ fn read_front(t: &[u8], next: usize) -> FrameRead
             place: 0,
         });
     }
-    let k = byte_at(t, KIND_AT);
-    if only_settled(next, n, k) {
-        return read_settled(t, next, n);
+    if has_length(edition, next, n) {
+        return read_layout(t, edition, next, n, byte_at(t, KIND_AT));
     }
-    read_of_host(t, n, k)
+    FrameRead::Wrong(Fault {
+        field: Field::Length,
+        place: 0,
+    })
 }
 
 // The frame at an offset of a block: blank past its end. A settled frame's id is at least next.
 pub fn read_frame(block: &[u8], at: usize, next: usize) -> FrameRead
     ensures { λ r. ⌜ r ≡ readOf (readFrame next at (drop at (now (block .entry)))) ⌝ }
 {
-    match read_front(rest(block, at), next) {
+    match read_front(rest(block, at), Edition::First, next) {
         FrameRead::Blank => FrameRead::Blank,
         FrameRead::Whole(h) => FrameRead::Whole(h),
         FrameRead::Torn(n) => FrameRead::Torn(n),

@@ -18,7 +18,7 @@ use Rattle.frame.specs.Frame.{valueMax, idOf, put, delete, Frame, change, commi
 use Rattle.frame.specs.Reader.{whole, readFrame, Tail, clean, cut, bad, Scan, ends, scan}
 use Rattle.frame.specs.Code.{headOf, readOf, headLen}
 use Rattle.reader.proofs.Answers.{wrong-read}
-use Rattle.frame.proofs.Heads.{head-len}
+use Rattle.frame.proofs.First.{head-len}
 use Rattle.frame.proofs.Scanning.{pushAll, push-ends}
 use Rattle.fetch.specs.declared.Found.the-variants as found
 use Rattle.survey.specs.declared.Progress.{Progress}

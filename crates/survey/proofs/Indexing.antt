@@ -14,7 +14,7 @@ use Rattle.frame.specs.declared.Host.{Host}
 use Rattle.frame.specs.declared.ObjectId.{ObjectId}
 use Rattle.frame.specs.Frame.{idOf, hostOf, ChangeOf, Change, put, delete, FrameOf, Frame, change, commit, abort, settled, mapChange}
 use Rattle.frame.specs.Frame.{mapFrame, frameLen, total, MayStand, AllMayStand, nextOf}
-use Rattle.frame.proofs.Encode.{total-snoc}
+use Rattle.frame.proofs.First.{total-snoc}
 use Rattle.journal.specs.Block.{headerLen}
 use Rattle.journal.specs.Replay.{ObjectOf, object, EntryOf, StateOf, insert, remove, lookup, change1, changeAll, listOf, nextState, replay}
 use Rattle.journal.specs.Index.{sited, orZero, placesFrom, placesOf, isEnd, pick, sinceFrom, sinceHost}

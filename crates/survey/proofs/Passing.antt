@@ -13,8 +13,9 @@ use Rattle.frame.specs.Frame.{hostMax, put, delete, Frame, change, commit, abor
 use Rattle.frame.specs.Frame.{AllMayStand, nextAfter, nextOf}
 use Rattle.frame.specs.Reader.{whole, readFrame, clean, Scan, push, scan}
 use Rattle.frame.specs.Code.{headOf}
-use Rattle.frame.proofs.Encode.{length-all, encode-append, encode-snoc, total-snoc, stands-append, next-append}
-use Rattle.frame.proofs.Scanning.{scan-nil, pushAll, scan-with}
+use Rattle.frame.proofs.First.{length-all, encode-append, encode-snoc, total-snoc, stands-append, scan-nil, scan-with}
+use Rattle.frame.proofs.Encode.{next-append}
+use Rattle.frame.proofs.Scanning.{pushAll}
 use Rattle.survey.specs.declared.Progress.{Progress}
 use Rattle.journal.specs.Block.{headerLen}
 use Rattle.journal.specs.Replay.{Entry, State, nextState, replay}

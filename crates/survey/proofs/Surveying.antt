@@ -15,7 +15,7 @@ use Rattle.frame.specs.declared.Field.the-variants as field
 use Rattle.frame.specs.Frame.{Frame, total, nextOf}
 use Rattle.frame.specs.Reader.{fault, Tail, clean, cut, bad, Scan, scan, ends}
 use Rattle.frame.specs.Sentences.{Torn}
-use Rattle.frame.proofs.Scanned.{Scanned, scan-inv, scan-length, tail-cut}
+use Rattle.frame.proofs.First.{Scanned, scan-inv, scan-length, tail-cut}
 use Rattle.survey.specs.declared.HeaderCheck.the-variants as check
 use Rattle.survey.specs.declared.Progress.{Progress}
 use Rattle.survey.specs.declared.Tail.the-variants as tail

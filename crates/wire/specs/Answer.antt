@@ -53,6 +53,7 @@ fieldNumber field.Finish = 5
 fieldNumber field.Created = 6
 fieldNumber field.State = 7
 fieldNumber field.Spare = 8
+fieldNumber field.Crc = 9
 
 abbrev pub spot : ℕ → ℕ → ℕ → Spot
 spot k f p = record { half = k; field = f; place = p }

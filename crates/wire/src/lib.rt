@@ -229,6 +229,7 @@ fn field_number(field: Field) -> u8
         Field::Created => 6,
         Field::State => 7,
         Field::Spare => 8,
+        Field::Crc => 9,
     }
 }
 

@@ -2,8 +2,8 @@
 use mathlib.Core.Path.{sym}
 use native.Mathlib.Omega.{arith}
 use denote.Ref.{now}
-use Rattle.reader.proofs.Misfits.{end-is}
 use Rattle.flash.proofs.Blank.{bytes-of}
+use Rattle.reader.proofs.Misfits.{end-is}
 use borrow.Author.Needs.{needs}
 use Rattle.reader.proofs.end_misfit.Statement.{statement}
 use Rattle.reader.proofs.end_misfit.Tie as tie
@@ -14,6 +14,7 @@ end-misfit-spec =
     (tie.spec
     (λ c κs. search needs)
     (λ c κs. search needs)
+    (λ c. search needs)
     (λ c κs. search needs)
     (λ c κs. search needs)
     (λ c κs. search needs)
@@ -27,6 +28,6 @@ end-misfit-spec =
       c .before .first .ensures,
       front-misfit′ .ensures,
       c .before .before .before .test-byte .ensures,
-      c .before .before .test-byte2 .ensures,
-    ) (sym (end-is (now (args′ .t)) (pre′ .0) (pre′ .1)
-    (bytes-of (now (args′ .t)) (λ i. omega (arith, shared-slice-known′ .given i)))))))
+      c .before .before .seal-misfit .ensures,
+    ) (sym (end-is (args′ .edition) (args′ .n) (now (args′ .t)) (pre′ .0) (pre′ .2)
+    (bytes-of (now (args′ .t)) (λ i. omega (arith, shared-slice-known′ .given i))) (pre′ .1)))))

@@ -2,6 +2,7 @@
 use Prim.Native.Nat.{_≤_}
 use native.Mathlib.Omega.{arith}
 use denote.Ref.{now}
+use Rattle.frame.proofs.Encode.{check-short}
 use Rattle.reader.proofs.Answers.{put-length, settled-length, decode-high}
 use borrow.Author.Needs.{needs}
 use Rattle.reader.proofs.head_at.Statement.{statement}
@@ -16,43 +17,61 @@ head-at-spec =
     (λ c κs. search needs)
     (λ c κs. search needs)
     (λ c κs. search needs)
+    (λ c.
+    let check-len′ = c .before .before .before .before .before .check-len in
+    let args′ = c .before .before .before .before .before .before .before .args in
+    omega (arith, check-len′ .ensures, check-short (args′ .edition)))
     (λ c κs. search needs)
     (λ c κs. search needs)
     (λ c κs. search needs)
     (λ c κs. search needs)
     (λ c κs. search needs)
     (λ c κs. search needs)
+    (λ c κs. search needs)
+    (λ c.
+    let check-len′ = c .before .before .before .before .before .check-len in
+    let args′ = c .before .before .before .before .before .before .before .args in
+    omega (arith, check-len′ .ensures, check-short (args′ .edition)))
     (λ c κs. search needs)
     (λ c. rw (c .match .keys1, c .before .byte-at .ensures))
     (λ c.
     let match′ = c .before .before .before .before .match in
     let byte-at′ = c .before .before .before .before .before .byte-at in
-    let args′ = c .before .before .before .before .before .before .before .args in
-    let pre′ = c .before .before .before .before .before .before .before .pre in
+    let check-len′ = c .before .before .before .before .before .before .check-len in
+    let args′ = c .before .before .before .before .before .before .before .before .args in
+    let pre′ = c .before .before .before .before .before .before .before .before .pre in
     rw (
       match′ .keys2,
       c .less .ensures,
       c .before .id-of .ensures,
-      byte-at′ .ensures,
-      c .before .before .before .byte-at2 .ensures,
-      c .before .before .byte-at3 .ensures,
-      put-length (args′ .n) (now (args′ .t)) (pre′),
+      (byte-at′ .ensures),
+      (c .before .before .before .byte-at2 .ensures),
+      (c .before .before .byte-at3 .ensures),
+      (check-len′ .ensures),
+      put-length (args′ .edition) (args′ .n) (now (args′ .t)) (pre′),
     ))
     (λ c.
     let byte-at′ = c .before .before .before .before .byte-at in
-    rw (c .before .before .before .match .keys3, c .id-of2 .ensures, byte-at′ .ensures, c .before .before .byte-at4 .ensures, c .before .byte-at5 .ensures))
+    rw (
+      c .before .before .before .match .keys3,
+      c .id-of2 .ensures,
+      (byte-at′ .ensures),
+      (c .before .before .byte-at4 .ensures),
+      (c .before .byte-at5 .ensures),
+    ))
     (λ c. rw (c .match .keys4, c .before .byte-at .ensures))
     (λ c. rw (c .match .keys5, c .before .byte-at .ensures))
     (λ c.
-    let args′ = c .before .before .before .before .before .before .before .args in
-    let pre′ = c .before .before .before .before .before .before .before .pre in
-    let h : 5 ≤ args′ .k =
-    omega arith in rw (
-      decode-high (args′ .k) (args′ .n)
-          (now (args′ .t)) h,
+    let check-len′ = c .before .before .before .before .before .before .check-len in
+    let args′ = c .before .before .before .before .before .before .before .before .args in
+    let pre′ = c .before .before .before .before .before .before .before .before .pre in
+    let h : 5 ≤ (args′ .k) = omega arith in rw (
+      decode-high (args′ .edition) (args′ .k) (args′ .n) (now (args′ .t)) h,
       c .less2 .ensures,
       c .before .id-of3 .ensures,
-      c .before .before .before .byte-at6 .ensures,
-      c .before .before .byte-at7 .ensures,
-      settled-length (args′ .n) (now (args′ .t)) (pre′),
+      (c .before .before .before .byte-at6 .ensures),
+      (c .before .before .byte-at7 .ensures),
+      (check-len′ .ensures),
+      settled-length (args′ .edition)
+          (args′ .n) (now (args′ .t)) (pre′),
     )))

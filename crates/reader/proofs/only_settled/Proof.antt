@@ -1,35 +1,62 @@
 -- The tests in the order of the definition.
-use borrow.Author.Tests.{lt-leb, le-leb, eq-eqb, ne-eqb}
-use Rattle.frame.specs.Frame.{idMax, valueMax, settledLen}
+use mathlib.Core.Path.{_≡_, ap}
+use Prim.Native.Nat.{_+_}
+use native.Mathlib.Omega.{arith}
+use lib.Dec.{eqb}
+use borrow.Author.Tests.{eq-eqb, ne-eqb, le-leb, lt-leb}
+use Rattle.frame.specs.Frame.{settledLenIn}
+use Rattle.frame.proofs.Encode.{check-short}
+use Rattle.frame.specs.Frame.{idMax, valueMax}
+use borrow.Author.Needs.{needs}
 use Rattle.reader.proofs.only_settled.Statement.{statement}
 use Rattle.reader.proofs.only_settled.Tie as tie
 
 pub only-settled-spec : {M : Type 1} → statement M
-only-settled-spec = tie.close (tie.spec
-    (λ c. rw (lt-leb (c .before .args .next) idMax (c .if1 .taken)))
-    (λ c.
-    let args′ = c .before .before .args in
-    rw ((le-leb (args′ .next) idMax (c .before .if1 .left)), lt-leb (settledLen 0) (args′ .n) (c .if2 .taken)))
+only-settled-spec =
+    tie.close
+    (tie.spec
+    (λ c κs. search needs)
+    (λ c. rw (lt-leb (c .before .before .args .next) idMax (c .if1 .taken)))
+    (λ c. omega (arith, c .before .check-len .ensures, check-short (c .before .before .args .edition)))
     (λ c.
     let args′ = c .before .before .before .args in
     rw (
-      (le-leb (args′ .next) idMax (c .before .before .if1 .left)),
-      (le-leb (settledLen 0) (args′ .n) (c .before .if2 .left)),
-      lt-leb (args′ .n) (settledLen valueMax) (c .if3 .taken),
+      le-leb (args′ .next) idMax (c .before .if1 .left),
+      lt-leb (settledLenIn (args′ .edition) 0) (args′ .n)
+          (omega (arith, c .if2 .taken, (c .before .before .check-len .ensures))),
     ))
+    (λ c. search needs)
+    (λ c. search needs)
     (λ c.
+    let check-len′ = c .before .before .before .check-len in
     let args′ = c .before .before .before .before .args in
     rw (
-      (le-leb (args′ .next) idMax (c .before .before .before .if1 .left)),
-      (le-leb (settledLen 0) (args′ .n) (c .before .before .if2 .left)),
-      (le-leb (args′ .n) (settledLen valueMax) (c .before .if3 .left)),
+      le-leb (args′ .next) idMax (c .before .before .if1 .left),
+      le-leb (settledLenIn (args′ .edition) 0) (args′ .n)
+          (omega (arith, c .before .if2 .left, (check-len′ .ensures))),
+      lt-leb (args′ .n) (settledLenIn (args′ .edition) valueMax)
+          (omega (arith, c .if3 .taken, (check-len′ .ensures))),
+    ))
+    (λ c.
+    let check-len′ = c .before .before .before .before .check-len in
+    let args′ = c .before .before .before .before .before .args in
+    rw (
+      le-leb (args′ .next) idMax (c .before .before .before .if1 .left),
+      le-leb (settledLenIn (args′ .edition) 0) (args′ .n)
+          (omega (arith, c .before .before .if2 .left, (check-len′ .ensures))),
+      le-leb (args′ .n) (settledLenIn (args′ .edition) valueMax)
+          (omega (arith, c .before .if3 .left, (check-len′ .ensures))),
       eq-eqb (args′ .k) 5 (c .if4 .taken),
     ))
+    (λ c. search needs)
     (λ c.
-    let args′ = c .before .before .before .before .args in
-    rw (
-      (le-leb (args′ .next) idMax (c .before .before .before .if1 .left)),
-      (le-leb (settledLen 0) (args′ .n) (c .before .before .if2 .left)),
-      (le-leb (args′ .n) (settledLen valueMax) (c .before .if3 .left)),
+    let check-len′ = c .before .before .before .before .check-len in
+    let args′ = c .before .before .before .before .before .args in
+    let q : 7 + (check-len′ .result) ≡ (settledLenIn (args′ .edition) 0) = omega (arith, (check-len′ .ensures)) in rw (
+      le-leb (args′ .next) idMax (c .before .before .before .if1 .left),
+      le-leb (settledLenIn (args′ .edition) 0) (args′ .n)
+          (omega (arith, c .before .before .if2 .left, (check-len′ .ensures))),
+      le-leb (args′ .n) (settledLenIn (args′ .edition) valueMax)
+          (omega (arith, c .before .if3 .left, (check-len′ .ensures))),
       ne-eqb (args′ .k) 5 (c .if4 .left),
-    )))
+    ) (ap (eqb (args′ .n)) q)))

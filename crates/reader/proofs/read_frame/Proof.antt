@@ -6,10 +6,11 @@ use Prim.Native.Nat.{ℕ}
 use native.Mathlib.Omega.{arith}
 use lib.ListN.{length, drop, length-drop}
 use denote.Ref.{now}
-use Rattle.frame.specs.Reader.{readFrame}
+use Rattle.frame.specs.declared.Edition.the-variants as edition
+use Rattle.frame.specs.Reader.{readFrameIn}
 use Rattle.frame.specs.Code.{readOf}
-use Rattle.frame.proofs.Places.{PlacedIn, fault-placed}
-use Rattle.reader.proofs.Answers.{shiftRead, shift-read, wrong-read}
+use Rattle.frame.proofs.Faults.{PlacedIn, fault-placed}
+use Rattle.reader.proofs.Answers.{shiftRead, shift-first, wrong-read}
 use Rattle.reader.proofs.read_frame.Statement.{statement}
 use Rattle.reader.proofs.read_frame.Tie as tie
 
@@ -29,32 +30,32 @@ read-frame-spec =
     let rest′ = c .before .before .before .before .before .rest in
     let args′ = c .before .before .before .before .before .before .before .args in
     let good′ = c .before .before .before .before .before .before .before .good in
-    let q : PlacedIn 0 (length (drop (args′ .at) (now (args′ .block)))) (e′ .given .0 .0) = fault-placed (args′ .next) 0
+    let q : PlacedIn 0 (length (drop (args′ .at) (now (args′ .block)))) (e′ .given .0 .0) = fault-placed edition.First (args′ .next) 0
     (drop (args′ .at) (now (args′ .block))) (e′ .given .0 .0)
-    (wrong-read (readFrame (args′ .next) 0 (drop (args′ .at) (now (args′ .block)))) (e′ .given .0 .0)
-    (ap (λ (x : List ℕ). readOf (readFrame (args′ .next) 0 x)) (sym (rest′ .ensures)) ∙ sym (read-front′ .ensures) ∙ e′ .given .1)) in omega
+    (wrong-read (readFrameIn edition.First (args′ .next) 0 (drop (args′ .at) (now (args′ .block)))) (e′ .given .0 .0)
+    (ap (λ (x : List ℕ). readOf (readFrameIn edition.First (args′ .next) 0 x)) (sym (rest′ .ensures)) ∙ sym (read-front′ .ensures) ∙ e′ .given .1)) in omega
     (arith, q .1, length-drop (args′ .at) (now (args′ .block)), good′))
     (λ c.
     let args′ = c .before .before .before .before .before .args in
-    sym (shift-read (args′ .next) (args′ .at) (drop (args′ .at) (now (args′ .block)))
-    ∙ ap (shiftRead (args′ .at)) (ap (λ (x : List ℕ). readOf (readFrame (args′ .next) 0 x)) (sym (c .before .before .before .rest .ensures))
+    sym (shift-first (args′ .next) (args′ .at) (drop (args′ .at) (now (args′ .block)))
+    ∙ ap (shiftRead (args′ .at)) (ap (λ (x : List ℕ). readOf (readFrameIn edition.First (args′ .next) 0 x)) (sym (c .before .before .before .rest .ensures))
     ∙ sym (c .before .before .read-front .ensures) ∙ c .enum-told .given .1)))
     (λ c.
     let rest′ = c .before .before .before .before .rest in
     let args′ = c .before .before .before .before .before .before .args in
-    sym (shift-read (args′ .next) (args′ .at) (drop (args′ .at) (now (args′ .block)))
-    ∙ ap (shiftRead (args′ .at)) (ap (λ (x : List ℕ). readOf (readFrame (args′ .next) 0 x)) (sym (rest′ .ensures))
+    sym (shift-first (args′ .next) (args′ .at) (drop (args′ .at) (now (args′ .block)))
+    ∙ ap (shiftRead (args′ .at)) (ap (λ (x : List ℕ). readOf (readFrameIn edition.First (args′ .next) 0 x)) (sym (rest′ .ensures))
     ∙ sym (c .before .before .before .read-front .ensures) ∙ c .before .h .given .1)))
     (λ c.
     let rest′ = c .before .before .before .before .rest in
     let args′ = c .before .before .before .before .before .before .args in
-    sym (shift-read (args′ .next) (args′ .at) (drop (args′ .at) (now (args′ .block)))
-    ∙ ap (shiftRead (args′ .at)) (ap (λ (x : List ℕ). readOf (readFrame (args′ .next) 0 x)) (sym (rest′ .ensures))
+    sym (shift-first (args′ .next) (args′ .at) (drop (args′ .at) (now (args′ .block)))
+    ∙ ap (shiftRead (args′ .at)) (ap (λ (x : List ℕ). readOf (readFrameIn edition.First (args′ .next) 0 x)) (sym (rest′ .ensures))
     ∙ sym (c .before .before .before .read-front .ensures) ∙ c .before .n .given .1)))
     (λ c.
     let read-front′ = c .before .before .before .before .read-front in
     let rest′ = c .before .before .before .before .before .rest in
     let args′ = c .before .before .before .before .before .before .before .args in
-    sym (shift-read (args′ .next) (args′ .at) (drop (args′ .at) (now (args′ .block)))
-    ∙ ap (shiftRead (args′ .at)) (ap (λ (x : List ℕ). readOf (readFrame (args′ .next) 0 x)) (sym (rest′ .ensures))
+    sym (shift-first (args′ .next) (args′ .at) (drop (args′ .at) (now (args′ .block)))
+    ∙ ap (shiftRead (args′ .at)) (ap (λ (x : List ℕ). readOf (readFrameIn edition.First (args′ .next) 0 x)) (sym (rest′ .ensures))
     ∙ sym (read-front′ .ensures) ∙ c .before .before .e .given .1))))
