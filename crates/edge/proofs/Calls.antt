@@ -64,6 +64,7 @@ field-back field.Finish = refl
 field-back field.Created = refl
 field-back field.State = refl
 field-back field.Spare = refl
+field-back field.Crc = refl
 
 plain-back : (a : Answer) (f : Broken) → Plain a → answerAt (edgeNumber a) f ≡ a
 plain-back Done f h = refl

@@ -30,10 +30,12 @@ use Rattle.edge.specs.Edge.{Run, run, edgeRun, Broken, edgeFault}
 
 -- ---- one call
 
--- the header's answers and fields by their numbers, in its order; what 3 names is told by grommetide_fault. 255 is more; no other number is an answer's
+-- the header's answers and fields by their numbers, in its order; what 3 names is told by grommetide_fault. 255 is more; no other number is an answer's.
+-- After the header's fields comes crc, which no answer names yet
 abbrev pub fieldAt : ℕ → Field
 fieldAt n =
-    getD (field.Length ∷ field.Kind ∷ field.Host ∷ field.Id ∷ field.Finish ∷ field.Created ∷ field.State ∷ field.Spare ∷ []) (n - 1) field.Length
+    getD (field.Length ∷ field.Kind ∷ field.Host ∷ field.Id ∷ field.Finish ∷ field.Created ∷ field.State ∷ field.Spare ∷ field.Crc ∷ [])
+    (n - 1) field.Length
 
 abbrev pub answerAt : ℕ → Broken → Answer
 answerAt n f =
