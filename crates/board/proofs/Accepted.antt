@@ -18,13 +18,14 @@ use Rattle.journal.proofs.Places.{Journal}
 use Rattle.journal.proofs.Room.{frames-total, used-claimed, claimed-settled, claimed-replay}
 use Rattle.journal.proofs.Loading.{Yields, yields-none, yields-settled, yields-all}
 use Rattle.board.specs.declared.Job.{Job}
+use Rattle.board.specs.declared.Rest.{Rest}
 use Rattle.board.specs.declared.Record.{Record}
-use Rattle.board.specs.Record.{allowed, noPlaces, noMarks, rest, starting, idle, busy}
+use Rattle.board.specs.Record.{allowed, noPlaces, noMarks, landing, ending, idle}
 use Rattle.board.specs.Step.{enterWipe}
 use Rattle.board.specs.Mount.{nextBlock, newTime, endOf, Store, needsTransfer, mountJob, formatOrder, formatJob}
 use Rattle.board.specs.Queue.{Held, needsRoom, appendJob}
 use Rattle.board.specs.Exec.{exec}
-use Rattle.board.specs.Plan.{Follows, onBlock, formatPlan, transferIf, mountedAt, framePlan, framedAt}
+use Rattle.board.specs.Plan.{Follows, onBlock, formatPlan, transferIf, mountedAt, framePlan, framedAt, formattedAt}
 use Rattle.board.proofs.Numbers.{next-there, next-other}
 use Rattle.board.proofs.Images.{Sized, sized-of, sized-last}
 use Rattle.board.proofs.Blocks.{Besides, besides-blocks, besides-kept}
@@ -42,12 +43,12 @@ journal-fits s k img fs g =
 -- ---- format
 
 pub follows-format : (N : ℕ) (img : List ℕ) → allowed N (length img) ≡ true
-    → Follows N (exec N) img (enterWipe (formatJob N img)) (formatPlan N img) (idle (rest N (length img - 1) 0 headerLen))
+    → Follows N (exec N) img (enterWipe (formatJob N img)) (formatPlan N img) (formattedAt N (length img - 1))
 unfolding writes encodeAll total
 follows-format N img h =
     let j : Job = formatJob N img .job in
     let sized : Sized N (sizeOf N img) img = sized-of N img h in
-    follows-moving img (length img - 1) (nextBlock N 0) headerLen noPlaces j 256 headerLen [] (formatOrder N img) (sized-last sized) (sized .count)
+    follows-moving img (formatJob N img .rest) noPlaces j 256 headerLen [] (formatOrder N img) (sized-last sized) (sized .count) refl
     (order-blocks N img) (record { wipe = refl; wipes = refl; size = refl }) (next-there 0 (omega (arith, sized .few))) (omega (arith, sized .low)) [] refl
     (omega (arith, sized .few)) (λ q. next-other 0 (sized .few) (omega (arith, sized .few)) (sym q)) (omega (arith, sized .low))
     (yields-none (block (sizeOf N img) (nextBlock N 0) (applyAll (sizeOf N img) (map erase (formatOrder N img)) img)) headerLen noPlaces noMarks)
@@ -72,6 +73,7 @@ follows-mount {N} img x ks h here others g =
     let moves : Bool = needsTransfer (x .frames) (x .tail) in
     let st : State = settledOnly (replay (x .frames)) in
     let r : Record = mountJob N img x ks in
+    let z : Rest = r .rest in
     let sized : Sized N (sizeOf N img) img = sized-of N img h in
     let fits : e ≤ s = journal-fits s k img (x .frames) g in
     let has : Has (r .job) ks [] = record { wipe = refl; wipes = refl; size = refl } in
@@ -85,64 +87,60 @@ follows-mount {N} img x ks h here others g =
     (mountedAt N true l x))
     (ap (λ (b : Bool). newTime b (x .time)) t)
     (subst (λ (n : ℕ). Follows N (exec N) img (enterWipe r) (map erase ks ++ (onBlock (nextBlock N k) (build (r .job .time) (framesOf st)) ++ (erase k ∷ [])))
-    (idle (rest N l (nextBlock N k) n))) end-is
-    (subst (λ (ys : List Step). Follows N (exec N) img (enterWipe r) ys (idle (rest N l (nextBlock N k) (headerLen + total (framesOf st) + 0))))
+    (idle (landing z (nextBlock N k) n))) end-is
+    (subst (λ (ys : List Step). Follows N (exec N) img (enterWipe r) ys (idle (landing z (nextBlock N k) (headerLen + total (framesOf st) + 0))))
     (no-append (nextBlock N k) (headerLen + total (framesOf st)) (map erase ks)
     (onBlock (nextBlock N k) (build (r .job .time) (framesOf st)) ++ (erase k ∷ [])))
-    (follows-moving img l k e (placesOf (x .frames)) (r .job) 0 e [] ks (sized-last sized) (sized .count) (besides-blocks N k ks others) has here (omega arith)
+    (follows-moving img z (placesOf (x .frames)) (r .job) 0 e [] ks (sized-last sized) (sized .count) refl (besides-blocks N k ks others) has here (omega arith)
     (framesOf st) t (next-there k here) (next-other k (sized .few) here)
     (omega (arith, used-claimed (replay (x .frames)), claimed-replay (x .frames)))
     (subst (λ (b : List ℕ). Yields b e (placesOf (x .frames)) noMarks 0 e (framesOf st)) (sym same) (yields-settled (block s k img) (x .frames) noMarks g)))))))
     (λ t.
     let end-is : e + 0 ≡ e = omega arith in
     subst (λ (b : Bool). Follows N (exec N) img (enterWipe r) (map erase ks ++ transferIf N b k (x .time) st) (mountedAt N b l x)) (sym t)
-    (subst (λ (n : ℕ). Follows N (exec N) img (enterWipe r) (map erase ks ++ []) (idle (rest N l k n))) end-is
-    (subst (λ (ys : List Step). Follows N (exec N) img (enterWipe r) ys (idle (rest N l k (e + 0)))) (no-append k e (map erase ks) [])
-    (follows-staying img l k e (placesOf (x .frames)) (r .job) 0 e [] ks (sized-last sized) (sized .count) (besides-blocks N k ks others) has here
+    (subst (λ (n : ℕ). Follows N (exec N) img (enterWipe r) (map erase ks ++ []) (idle (ending z n))) end-is
+    (subst (λ (ys : List Step). Follows N (exec N) img (enterWipe r) ys (idle (ending z (e + 0)))) (no-append k e (map erase ks) [])
+    (follows-staying img z (placesOf (x .frames)) (r .job) 0 e [] ks (sized-last sized) (sized .count) refl (besides-blocks N k ks others) has here
     (omega arith) t (omega arith)))))
 
 -- ---- a queue request's frame
 
-pub follows-frame : {N : ℕ} (img : List ℕ) (r : Record) (x : Held) (f : Frame) → isCount N ≡ true → length img ≡ suc (r .last)
-    → r .blocks ≡ N → r .block < N → Journal (block (sizeOf N img) (r .block) img) (x .frames) → r .end ≡ endOf (x .frames)
+pub follows-frame : {N : ℕ} (img : List ℕ) (r : Record) (x : Held) (f : Frame) → isCount N ≡ true → length img ≡ suc (r .rest .last)
+    → r .rest .blocks ≡ N → r .rest .block < N → Journal (block (sizeOf N img) (r .rest .block) img) (x .frames) → r .rest .end ≡ endOf (x .frames)
     → claimed (replay (x .frames)) + frameLen f ≤ sizeOf N img
-    → Follows N (exec N) img (enterWipe (appendJob N img r x f)) (framePlan N (needsRoom N img r f) (r .block) (r .end) x f)
-    (framedAt N (needsRoom N img r f) (r .last) (r .block) (r .end) x f)
+    → Follows N (exec N) img (enterWipe (appendJob N img r x f)) (framePlan N (needsRoom N img r f) (r .rest) x f)
+    (framedAt N (needsRoom N img r f) (r .rest) x f)
 unfolding applyAll
 follows-frame {N} img r x f count long blocks here g end room =
-    let k : ℕ = r .block in
+    let k : ℕ = r .rest .block in
     let s : ℕ = sizeOf N img in
-    let l : ℕ = r .last in
-    let e : ℕ = r .end in
+    let z : Rest = r .rest in
     let st : State = replay (x .frames) in
     let fs : List Frame = framesOf st in
     let a : Record = appendJob N img r x f in
     let header : headerLen ≤ s = omega (arith, journal-fits s k img (x .frames) g) in
     let has : Has (a .job) [] (encode f) = record { wipe = refl; wipes = refl; size = sym (length-encode f) } in
-    let plan : List Step = framePlan N (needsRoom N img r f) k e x f in
-    let last : Record = framedAt N (needsRoom N img r f) l k e x f in
-    let at : ℕ → Record = λ n. enterWipe (busy (rest n l k e) (placesOf (x .frames)) (a .job) (starting 0 headerLen) (encode f)) in
-    subst (λ (n : ℕ). Follows N (exec N) img (at n) plan last) (sym blocks)
-    (on-test (needsRoom N img r f)
+    let begun : Record = enterWipe a in
+    on-test (needsRoom N img r f)
     (λ t.
     let total-is : headerLen + total fs ≡ claimed st = frames-total st in
-    subst (λ (b : Bool). Follows N (exec N) img (at N) (framePlan N b k e x f) (framedAt N b l k e x f)) (sym t)
+    subst (λ (b : Bool). Follows N (exec N) img begun (framePlan N b z x f) (framedAt N b z x f)) (sym t)
     (subst
     (λ (n : ℕ).
-    Follows N (exec N) img (at N) ((onBlock (nextBlock N k) (build n fs) ++ (erase k ∷ [])) ++ onBlock (nextBlock N k) (writes (claimed st) (encode f)))
-    (idle (rest N l (nextBlock N k) (claimed st + frameLen f))))
+    Follows N (exec N) img begun ((onBlock (nextBlock N k) (build n fs) ++ (erase k ∷ [])) ++ onBlock (nextBlock N k) (writes (claimed st) (encode f)))
+    (idle (landing z (nextBlock N k) (claimed st + frameLen f))))
     (ap (λ (b : Bool). newTime b (x .time)) t)
     (subst₂
     (λ (n m : ℕ).
-    Follows N (exec N) img (at N) ((onBlock (nextBlock N k) (build (a .job .time) fs) ++ (erase k ∷ [])) ++ onBlock (nextBlock N k) (writes n (encode f)))
-    (idle (rest N l (nextBlock N k) (n + m))))
+    Follows N (exec N) img begun ((onBlock (nextBlock N k) (build (a .job .time) fs) ++ (erase k ∷ [])) ++ onBlock (nextBlock N k) (writes n (encode f)))
+    (idle (landing z (nextBlock N k) (n + m))))
     total-is (length-encode f)
-    (follows-moving img l k e (placesOf (x .frames)) (a .job) 0 headerLen (encode f) [] long count tt has here header fs t (next-there k here)
+    (follows-moving img z (placesOf (x .frames)) (a .job) 0 headerLen (encode f) [] long count blocks tt has here header fs t (next-there k here)
     (next-other k (between 2 N maxBlocks count .0) here) (omega (arith, length-encode f))
     (subst (λ (n : ℕ). Yields (block s k img) n (placesOf (x .frames)) (sinceOf (x .frames)) 0 headerLen fs) (sym end)
     (yields-all (block s k img) (x .frames) g))))))
     (λ t.
-    subst (λ (b : Bool). Follows N (exec N) img (at N) (framePlan N b k e x f) (framedAt N b l k e x f)) (sym t)
-    (subst (λ (m : ℕ). Follows N (exec N) img (at N) (onBlock k (writes e (encode f))) (idle (rest N l k (e + m)))) (length-encode f)
-    (follows-staying img l k e (placesOf (x .frames)) (a .job) 0 headerLen (encode f) [] long count tt has here header t
-    (omega (arith, length-encode f, ltb-false (sizeOf N img) (r .end + frameLen f) t))))))
+    subst (λ (b : Bool). Follows N (exec N) img begun (framePlan N b z x f) (framedAt N b z x f)) (sym t)
+    (subst (λ (m : ℕ). Follows N (exec N) img begun (onBlock k (writes (z .end) (encode f))) (idle (ending z (z .end + m)))) (length-encode f)
+    (follows-staying img z (placesOf (x .frames)) (a .job) 0 headerLen (encode f) [] long count blocks tt has here header t
+    (omega (arith, length-encode f, ltb-false (sizeOf N img) (r .rest .end + frameLen f) t)))))

@@ -178,7 +178,7 @@ same-stands {N} img r x i st su y z =
     let e : y .value ≡ z .value = some-value (sym (taken-value (y .from)) ∙ taken-value (z .from)) in
     let g : TakenFrom (x .frames) i (z .value) (y .at) = subst (λ (v : List ℕ). TakenFrom (x .frames) i v (y .at)) e (y .from) in
     let f : y .at ≡ z .at = place-exact .once (x .frames) i (z .value) (y .at) (z .at) g (z .from) in
-    y .is ∙ ap₂ (λ (a : ℕ) (v : List ℕ). stretchAt (r .block * sizeOf N img + a) (length v)) f e ∙ sym (z .is)
+    y .is ∙ ap₂ (λ (a : ℕ) (v : List ℕ). stretchAt (r .rest .block * sizeOf N img + a) (length v)) f e ∙ sym (z .is)
   where
     stretchAt : ℕ → ℕ → Stretch
     stretchAt a n = record { at = a; size = n }

@@ -23,7 +23,8 @@ use Rattle.journal.proofs.Blocks.{layout-size}
 use Rattle.journal.proofs.Replaying.{replay-snoc}
 use Rattle.journal.proofs.States.{Contents}
 use Rattle.journal.proofs.Building.{Lands}
-use Rattle.board.specs.Record.{rest, idle}
+use Rattle.board.specs.declared.Rest.{Rest}
+use Rattle.board.specs.Record.{landing, idle}
 use Rattle.board.specs.Mount.{endOf}
 use Rattle.board.specs.Plan.{onBlock, appendPlan}
 use Rattle.board.proofs.Invariant.{StepLands, Safe, Guard}
@@ -178,9 +179,9 @@ module _ {N : ℕ} {s k t : ℕ} {img : List ℕ} {fs : List Frame} (a : Alone N
   append-alone =
       alone-written (frameWrites fs f) a (below-writes s (endOf fs) (encode f) (omega (arith, length-encode f, x .short))) (whole-contents (a .contents) f fits)
 
-  pub append-ends : (l : ℕ) → length img ≡ suc l → Roomy s (nextState (replay fs) f)
-      → After N s (applyAll s (appendPlan k (endOf fs) f) img) (idle (rest N l k (endOf fs + frameLen f))) (nextState (replay fs) f)
-  append-ends l e room =
+  pub append-ends : (z : Rest) → z .blocks ≡ N → length img ≡ suc (z .last) → Roomy s (nextState (replay fs) f)
+      → After N s (applyAll s (appendPlan k (endOf fs) f) img) (idle (landing z k (endOf fs + frameLen f))) (nextState (replay fs) f)
+  append-ends z b e room =
       let end : endOf (fs ++ (f ∷ [])) ≡ endOf fs + frameLen f = omega (arith, total-snoc fs f) in
-      subst (λ (n : ℕ). After N s (applyAll s (appendPlan k (endOf fs) f) img) (idle (rest N l k n)) (nextState (replay fs) f)) end
-      (alone-after l (nextState (replay fs) f) append-alone (length-all-steps s (appendPlan k (endOf fs) f) img ∙ e) (replay-snoc fs f) room)
+      subst (λ (n : ℕ). After N s (applyAll s (appendPlan k (endOf fs) f) img) (idle (landing z k n)) (nextState (replay fs) f)) end
+      (alone-after z (nextState (replay fs) f) append-alone b (length-all-steps s (appendPlan k (endOf fs) f) img ∙ e) (replay-snoc fs f) room)

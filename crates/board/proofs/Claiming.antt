@@ -10,7 +10,7 @@ use Rattle.flash.specs.Bytes.{Bytes}
 use Rattle.flash.specs.Flash.{applyAll, block, sizeOf, withBlock}
 use Rattle.frame.specs.Frame.{deleteLen, endLen, total}
 use Rattle.journal.specs.Replay.{Object, State, state, replay, listOf, settledOnly}
-use Rattle.journal.specs.Block.{blockState, headerLen}
+use Rattle.journal.specs.Block.{blockState}
 use Rattle.journal.proofs.Room.{kept, kept-none, used-kept}
 use Rattle.journal.proofs.Places.{Journal}
 use Rattle.journal.proofs.States.{contents-valid}
@@ -21,11 +21,11 @@ use Rattle.wire.specs.declared.Refusal.the-variants as refusal
 use Rattle.board.specs.declared.Phase.{Phase}
 use Rattle.board.specs.declared.Phase.the-variants.{Unmounted, Idle, Busy}
 use Rattle.board.specs.declared.Record.{Record}
-use Rattle.board.specs.Record.{Out, out, refuse, unmounted, rest, idle, answerOf, allowed}
+use Rattle.board.specs.Record.{Out, out, refuse, unmounted, answerOf, allowed}
 use Rattle.board.specs.Step.{enterWipe, begin}
 use Rattle.board.specs.Mount.{Store, allFound, wipeList, needsTransfer, mountJob, mountOn, formatJob, formatOn}
 use Rattle.board.specs.Exec.{Call, request, step, mount, format, exec}
-use Rattle.board.specs.Plan.{formatPlan, mountPlan, mountedAt}
+use Rattle.board.specs.Plan.{formatPlan, mountPlan, mountedAt, formattedAt}
 use Rattle.board.specs.Table.{InJob as JobPhase}
 use Rattle.board.specs.Book.{Book, book, nothing, formatting, noLists, firstBook, enterCall, enterFormat}
 use Rattle.board.specs.Claim.{IdleAgrees, Finishes, AgreesIn, Agrees, WornOut, MountSays, Says, trackMount, trackFormat, track, begunBy, Run}
@@ -56,8 +56,8 @@ idle-agrees {N} {s} {img} {r} {b} z y =
     record {
       time = y .ready .time;
       frames = y .ready .frames;
-      is-valid = ap (λ (n : ℕ). blockState (block n (r .block) img)) (size-of z)
-          ∙ ap (λ (q : Record). blockState (block s (q .block) img)) (y .ready .is) ∙ contents-valid (y .ready .contents);
+      is-valid = ap (λ (n : ℕ). blockState (block n (r .rest .block) img)) (size-of z)
+          ∙ ap (λ (q : Record). blockState (block s (q .rest .block) img)) (y .ready .is) ∙ contents-valid (y .ready .contents);
       objects = y .objects;
       lists = y .lists;
       room = λ e. omega (arith, size-of z, y .spare, kept-none (replay (y .ready .frames)) e);
@@ -93,8 +93,8 @@ empty-book {N} {s} {img} {r} h a =
 format-works : {N : ℕ} {s : ℕ} {img : List ℕ} (os : List Object) {u : Bool} → Sized N s img → Safe N s img os u
     → (answerOf (enterWipe (formatJob N img)) ≡ More) × Working N s img (enterWipe (formatJob N img)) (book os noLists formatting) true
 format-works {N} {s} {img} os z f =
-    let a : After N s (applyAll s (formatPlan N img) img) (idle (rest N (length img - 1) 0 headerLen)) (state [] []) = format-ends z in
-    job-starts img (enterWipe (formatJob N img)) (formatPlan N img) (idle (rest N (length img - 1) 0 headerLen)) (follows-format N img (z .ok))
+    let a : After N s (applyAll s (formatPlan N img) img) (formattedAt N (length img - 1)) (state [] []) = format-ends z in
+    job-starts img (enterWipe (formatJob N img)) (formatPlan N img) (formattedAt N (length img - 1)) (follows-format N img (z .ok))
     (omega (arith, length-format N img)) (λ j h. (format-safe z f j h, λ n. absurd (n refl))) (empty-book (z .low) a) (ready-idle (a .ready))
 
 format-call : {N : ℕ} {s : ℕ} {img : List ℕ} (b : Book) {u : Bool} → Bare N s img (b .objects) u → FormatKeeps N s b u (formatOn N img)
@@ -235,13 +235,13 @@ run-holds a v d (cutErase k new q ∷ cutErase j more p ∷ es) (x, n, h) = absu
 -- ---- from a finished format on
 
 pub format-done : {N : ℕ} {s : ℕ} {img : List ℕ} (r : Record) → Sized N s img
-    → formatted N (exec N) img r ≡ out Done (applyAll s (formatPlan N img) img) (idle (rest N (length img - 1) 0 headerLen)) []
+    → formatted N (exec N) img r ≡ out Done (applyAll s (formatPlan N img) img) (formattedAt N (length img - 1)) []
 format-done {N} {s} {img} r z =
     let first = format-some N img in
     ap (stepsOn (exec N) (N + 10)) (format-begins N img (z .ok))
     ∙ ap (λ (n : ℕ). stepsOn (exec N) n (begin img [] (formatJob N img))) (sym (length-format N img))
     ∙ follows-steps N (exec N) (formatPlan N img) (first .0) (first .1) (first .2) s (begin img [] (formatJob N img))
-    (idle (rest N (length img - 1) 0 headerLen)) (size-of z)
+    (formattedAt N (length img - 1)) (size-of z)
     (follows-format N img (z .ok))
 
 -- the invariant after a finished format
@@ -251,13 +251,13 @@ formatted-inv {N} img r by ok =
     let z : Sized N (sizeOf N img) img = sized-of N img ok in
     let i : List ℕ = applyAll (sizeOf N img) (formatPlan N img) img in
     subst (λ (o : Out). Inv N (sizeOf N img) (o .image) (o .board) firstBook false) (sym (format-done r z))
-    (inv-idle (idle (rest N (length img - 1) 0 headerLen)) (sized-as i (length-all-steps (sizeOf N img) (formatPlan N img) img) z)
+    (inv-idle (formattedAt N (length img - 1)) (sized-as i (length-all-steps (sizeOf N img) (formatPlan N img) img) z)
     (bytes-all-steps (sizeOf N img) (formatPlan N img) img by) (empty-book (z .low) (format-ends z)))
 
 pub claim : (N : ℕ) → Claim N (exec N)
 unfolding Claim
 claim N img r by ok =
-    let e : formatted N (exec N) img r ≡ out Done (applyAll (sizeOf N img) (formatPlan N img) img) (idle (rest N (length img - 1) 0 headerLen)) [] =
+    let e : formatted N (exec N) img r ≡ out Done (applyAll (sizeOf N img) (formatPlan N img) img) (formattedAt N (length img - 1)) [] =
     format-done r (sized-of N img ok) in
     let v : Inv N (sizeOf N img) (formatted N (exec N) img r .image) (formatted N (exec N) img r .board) firstBook false = formatted-inv img r by ok in
     let i : formatted N (exec N) img r .board .phase ≡ Idle = ap (λ (o : Out). o .board .phase) e in

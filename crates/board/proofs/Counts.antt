@@ -71,7 +71,7 @@ idle-mounted : {p : Phase} → p ≡ Idle → p ≡ Unmounted → ⊥
 idle-mounted e q = let w : Idle ≡ Unmounted = sym e ∙ q in let z : _≡_ {A = ℕ} 0 1 = cc in omega arith
 
 module _ {N : ℕ} {m : Machine} (p : Calls N m) (img : List ℕ) (r : Record) (b : Book) (by : Bytes img) (f : Upheld N m img r b) where
-  idle-count : r .phase ≡ Idle → N ≡ r .blocks
+  idle-count : r .phase ≡ Idle → N ≡ r .rest .blocks
   idle-count e = go (p .table img r c by)
     where
       c : Call
@@ -80,26 +80,26 @@ module _ {N : ℕ} {m : Machine} (p : Calls N m) (img : List ℕ) (r : Record) (
       says : Never refusal.ImageLength (m img r c) × Never refusal.Stale (m img r c)
       says = let y = f .2 (call c ∷ []) (tt, tt) .0 in (y .0, y .1)
 
-      go : Exactly (requestLines N img r (hostOf 0) [] []) (m img r c .answer) → N ≡ r .blocks
+      go : Exactly (requestLines N img r (hostOf 0) [] []) (m img r c .answer) → N ≡ r .rest .blocks
       go (inl (_, n)) = absurd (says .0 (number-refused (m img r c .answer) refusal.ImageLength 4 refl (omega arith) n))
       go (inr (_, inl (l, _))) = absurd (omega arith)
       go (inr (_, inr (_, inl (j, _)))) = absurd (subst InJob e j)
       go (inr (_, inr (_, inr (_, inl (q, _))))) = absurd (idle-mounted e q)
       go (inr (_, inr (_, inr (_, inr (_, inl (_, n)))))) = absurd (says .1 (number-refused (m img r c .answer) refusal.Stale 11 refl (omega arith) n))
-      go (inr (_, inr (_, inr (_, inr (_, inr (g, _)))))) = same-count N (r .blocks) (λ d. g (λ x y. d (y .blocks-are)))
+      go (inr (_, inr (_, inr (_, inr (_, inr (g, _)))))) = same-count N (r .rest .blocks) (λ d. g (λ x y. d (y .blocks-are)))
 
-  busy-count : (s : Stage) → r .phase ≡ Busy s → N ≡ r .blocks
+  busy-count : (s : Stage) → r .phase ≡ Busy s → N ≡ r .rest .blocks
   busy-count s e = go (p .table img r step by)
     where
-      go : Exactly (linesOf N img r step) (m img r step .answer) → N ≡ r .blocks
+      go : Exactly (linesOf N img r step) (m img r step .answer) → N ≡ r .rest .blocks
       go (inl (_, n)) = absurd (f .2 (call step ∷ []) (tt, tt) .0 refusal.Stale (number-refused (m img r step .answer) refusal.Stale 11 refl (omega arith) n))
-      go (inr (g, _)) = same-count N (r .blocks) (λ d. g (record { stage = s; is-busy = e; misfits = inr (inl d) }))
+      go (inr (g, _)) = same-count N (r .rest .blocks) (λ d. g (record { stage = s; is-busy = e; misfits = inr (inl d) }))
 
   -- an unmounted record has none
-  counted : (r .phase ≡ Unmounted → ⊥) → N ≡ r .blocks
+  counted : (r .phase ≡ Unmounted → ⊥) → N ≡ r .rest .blocks
   counted d = go (r .phase) refl
     where
-      go : (q : Phase) → r .phase ≡ q → N ≡ r .blocks
+      go : (q : Phase) → r .phase ≡ q → N ≡ r .rest .blocks
       go Unmounted e = absurd (d e)
       go Idle e = idle-count e
       go (Busy s) e = busy-count s e
@@ -112,7 +112,7 @@ refusal-of More k e = absurd (number-accepted More k e tt)
 refusal-of (Refused n) k e = (n, refl)
 
 module _ {M : ℕ} {m : Machine} (p : Calls M m) (img : List ℕ) (r : Record) (by : Bytes img)
-    (d : (r .phase ≡ Unmounted → ⊥) → M ≡ r .blocks → ⊥) where
+    (d : (r .phase ≡ Unmounted → ⊥) → M ≡ r .rest .blocks → ⊥) where
   -- the first line of the table that holds
   turned : (h : Host) (msg reply : List ℕ) → (k : ℕ) × (numberOf (m img r (request h msg reply) .answer) ≡ some (suc k))
       × (r .phase ≡ Idle → h .0 ≤ 3 → (suc k ≡ 4) ⊎ (suc k ≡ 11))

@@ -17,8 +17,9 @@ use Rattle.journal.proofs.Blocks.{blank-block}
 use Rattle.journal.proofs.States.{Contents}
 use Rattle.journal.proofs.Raising.{blank-harmless}
 use Rattle.journal.proofs.Room.{kept, used-kept, kept-none}
+use Rattle.board.specs.declared.Rest.{Rest}
 use Rattle.board.specs.declared.Record.{Record}
-use Rattle.board.specs.Record.{rest, idle}
+use Rattle.board.specs.Record.{landing, idle}
 use Rattle.board.specs.Mount.{endOf}
 use Rattle.board.specs.Plan.{onBlock}
 use Rattle.board.proofs.Images.{Sized, sized-as, sized-block, length-all-steps, block-writes, other-writes}
@@ -38,22 +39,22 @@ pub record After (N : ℕ) (s : ℕ) (img : List ℕ) (r : Record) (st : State) 
 pub block-long : {N : ℕ} {s : ℕ} {img : List ℕ} (k : ℕ) → Sized N s img → k < N → length (block s k img) ≡ s
 block-long {N} {s} {img} k z h = length-block s k img (sized-block k z h)
 
-pub ready-alone : {N : ℕ} {s : ℕ} {img : List ℕ} {r : Record} → Sized N s img → (y : Ready N s img r) → Alone N s img (y .number) (y .time) (y .frames) clean
+pub ready-alone : {N : ℕ} {s : ℕ} {img : List ℕ} {r : Record} → Sized N s img → (y : Ready N s img r)
+    → Alone N s img (y .stands .block) (y .time) (y .frames) clean
 ready-alone z y = record { sized = z; there = y .there; contents = y .contents; others = y .others }
 
 -- the room that an idle record's block leaves
 abbrev pub Roomy : ℕ → State → Type 0
 Roomy s st = claimed st + endLen * openHosts (st .pending) ≤ s
 
-pub alone-after : {N : ℕ} {s k t : ℕ} {img : List ℕ} {fs : List Frame} (l : ℕ) (st : State) → Alone N s img k t fs clean → length img ≡ suc l → replay fs ≡ st
-    → Roomy s st → After N s img (idle (rest N l k (endOf fs))) st
-alone-after {N} {s} {k} {t} {img} {fs} l st x long e room =
+pub alone-after : {N : ℕ} {s k t : ℕ} {img : List ℕ} {fs : List Frame} (z : Rest) (st : State) → Alone N s img k t fs clean → z .blocks ≡ N
+    → length img ≡ suc (z .last) → replay fs ≡ st → Roomy s st → After N s img (idle (landing z k (endOf fs))) st
+alone-after {N} {s} {k} {t} {img} {fs} z st x blocks long e room =
     record {
       ready = record {
-        last = l;
-        number = k;
-        end = endOf fs;
+        stands = landing z k (endOf fs);
         is = refl;
+        blocks = blocks;
         long = long;
         there = x .there;
         time = t;

@@ -11,15 +11,15 @@ use Rattle.flash.specs.Flash.{applyAll, block, sizeOf}
 use Rattle.flash.proofs.Cases.{on-test}
 use Rattle.frame.specs.Reader.{clean}
 use Rattle.journal.specs.Replay.{Object, replay}
-use Rattle.journal.specs.Block.{headerLen, BlockState, blank, inProgress, valid, foreign, blockState}
+use Rattle.journal.specs.Block.{BlockState, blank, inProgress, valid, foreign, blockState}
 use Rattle.journal.proofs.Blocks.{blank-block}
 use Rattle.journal.proofs.States.{contents-valid}
 use Rattle.board.specs.declared.Record.{Record}
-use Rattle.board.specs.Record.{Out, rest, idle}
+use Rattle.board.specs.Record.{Out}
 use Rattle.board.specs.Step.{begin}
 use Rattle.board.specs.Mount.{Store, formatJob, formatOn}
 use Rattle.board.specs.Exec.{exec}
-use Rattle.board.specs.Plan.{formatPlan}
+use Rattle.board.specs.Plan.{formatPlan, formattedAt}
 use Rattle.board.specs.Book.{Book}
 use Rattle.board.specs.Claim.{stepsOn, Event, call, cutErase, Happens}
 use Rattle.board.specs.CutFormat.{Left, afterAll, leftBy, Beside, OldObjects, Empty, NoStore as Nothing, EmptyStore, CutFormat}
@@ -58,7 +58,7 @@ format-part : {N : ℕ} {s : ℕ} {img : List ℕ} (j : ℕ) → Sized N s img �
     → stepsOn (exec N) j (formatOn N img) .image ≡ applyAll s (take j (formatPlan N img)) img
 format-part {N} {s} {img} j z h =
     ap (λ (o : Out). stepsOn (exec N) j o .image) (format-begins N img (z .ok))
-    ∙ follows-part N (exec N) s j (formatPlan N img) (begin img [] (formatJob N img)) (idle (rest N (length img - 1) 0 headerLen)) (size-of z)
+    ∙ follows-part N (exec N) s j (formatPlan N img) (begin img [] (formatJob N img)) (formattedAt N (length img - 1)) (size-of z)
     (omega (arith, length-format N img))
     (follows-format N img (z .ok))
 

@@ -16,7 +16,7 @@ use Rattle.flash.proofs.Image.{length-apply, bytes-apply, block-program}
 use Rattle.flash.proofs.Raising.{length-with, bytes-with}
 use Rattle.frame.specs.declared.Host.{Host}
 use Rattle.journal.specs.Replay.{state, replay, settledOnly}
-use Rattle.journal.specs.Block.{headerLen, stateAt, inTransfer}
+use Rattle.journal.specs.Block.{stateAt, inTransfer}
 use Rattle.journal.proofs.Places.{Journal}
 use Rattle.wire.specs.declared.Answer.{Answer}
 use Rattle.wire.specs.declared.Answer.the-variants.{Done, More, Refused}
@@ -24,12 +24,12 @@ use Rattle.wire.specs.Answer.{numberOf}
 use Rattle.board.specs.declared.Phase.{Phase}
 use Rattle.board.specs.declared.Phase.the-variants.{Unmounted, Idle, Busy}
 use Rattle.board.specs.declared.Record.{Record}
-use Rattle.board.specs.Record.{Out, out, unmounted, rest, idle, answerOf}
+use Rattle.board.specs.Record.{Out, out, unmounted, answerOf}
 use Rattle.board.specs.Step.{stepOn, enterWipe}
 use Rattle.board.specs.Mount.{Store, allFound, wipeList, needsTransfer, mountJob, mountOn, formatJob, formatOn}
 use Rattle.board.specs.Queue.{Held, requestOn}
 use Rattle.board.specs.Exec.{Call, request, step, mount, format, exec}
-use Rattle.board.specs.Plan.{Follows, formatPlan, mountPlan, mountedAt}
+use Rattle.board.specs.Plan.{Follows, formatPlan, mountPlan, mountedAt, formattedAt}
 use Rattle.board.specs.Table.{InJob as JobPhase, Fresh, Exactly, requestLines, mountLines, linesOf}
 use Rattle.board.specs.Demand1.{Rests}
 use Rattle.board.specs.Book.{Book, enterCall}
@@ -211,9 +211,9 @@ mount-kept {N} {s} {img} z by = go (mountOn N img .answer) refl
 
 format-kept : {N : ℕ} {s : ℕ} {img : List ℕ} → Sized N s img → Bytes img → Steady N s img (formatOn N img .board)
 format-kept {N} {s} {img} z by =
-    let a : After N s (applyAll s (formatPlan N img) img) (idle (rest N (length img - 1) 0 headerLen)) (state [] []) = format-ends z in
+    let a : After N s (applyAll s (formatPlan N img) img) (formattedAt N (length img - 1)) (state [] []) = format-ends z in
     let j : (answerOf (enterWipe (formatJob N img)) ≡ More) × InJob N s (StepLands s) (Ready N s) img (enterWipe (formatJob N img)) =
-    job-starts img (enterWipe (formatJob N img)) (formatPlan N img) (idle (rest N (length img - 1) 0 headerLen)) (follows-format N img (z .ok))
+    job-starts img (enterWipe (formatJob N img)) (formatPlan N img) (formattedAt N (length img - 1)) (follows-format N img (z .ok))
     (omega (arith, length-format N img)) (format-lands z) (a .ready) (ready-idle (a .ready)) in
     subst (λ (o : Out). Steady N s img (o .board)) (sym (format-begins N img (z .ok))) (steady-busy z by (enterWipe (formatJob N img)) (j .0) (j .1))
 

@@ -13,7 +13,6 @@ use Rattle.flash.proofs.Image.{bytes-apply}
 use Rattle.flash.proofs.Raising.{bytes-with}
 use Rattle.frame.specs.declared.Host.{Host}
 use Rattle.frame.specs.Frame.{Frame}
-use Rattle.journal.specs.Block.{headerLen}
 use Rattle.wire.specs.declared.Answer.{Answer}
 use Rattle.wire.specs.declared.Answer.the-variants.{Done, More, Refused}
 use Rattle.wire.specs.declared.Request.{Request}
@@ -23,12 +22,13 @@ use Rattle.wire.specs.Message.{parse}
 use Rattle.board.specs.declared.Stage.{Stage}
 use Rattle.board.specs.declared.Phase.{Phase}
 use Rattle.board.specs.declared.Phase.the-variants.{Unmounted, Idle, Busy}
+use Rattle.board.specs.declared.Rest.{Rest}
 use Rattle.board.specs.declared.Record.{Record}
-use Rattle.board.specs.Record.{allowed, unmounted, rest, idle, Stretch, noStretch, Out, out, answerIn, answerOf}
+use Rattle.board.specs.Record.{allowed, unmounted, Stretch, noStretch, Out, out, answerIn, answerOf}
 use Rattle.board.specs.Mount.{allFound, Store, needsTransfer, mountOn}
 use Rattle.board.specs.Queue.{Held, held, needsRoom}
 use Rattle.board.specs.Exec.{Call, request, step, mount, format}
-use Rattle.board.specs.Plan.{Follows, formatPlan, mountPlan, mountedAt, framePlan, framedAt}
+use Rattle.board.specs.Plan.{Follows, formatPlan, mountPlan, mountedAt, framePlan, framedAt, formattedAt}
 use Rattle.board.specs.Table.{frameFor, Line, line, Exactly, Allowed, InJob, Fresh, FreshExact, requestLines, mountLines, linesOf}
 use Rattle.board.specs.Demand1.{Rests}
 use Rattle.board.specs.Demand2.{Accepted}
@@ -95,16 +95,16 @@ module _ {N : ℕ} {m n : Machine} where
 -- ---- what a machine that keeps the promise gives back
 
 -- a plan's last record is idle
-framed-idle : (N : ℕ) (b : Bool) (l k end : ℕ) (x : Held) (f : Frame) → framedAt N b l k end x f .phase ≡ Idle
-framed-idle N true l k end x f = refl
-framed-idle N false l k end x f = refl
+framed-idle : (N : ℕ) (b : Bool) (z : Rest) (x : Held) (f : Frame) → framedAt N b z x f .phase ≡ Idle
+framed-idle N true z x f = refl
+framed-idle N false z x f = refl
 
 pub mounted-idle : (N : ℕ) (b : Bool) (l : ℕ) (x : Store) → mountedAt N b l x .phase ≡ Idle
 mounted-idle N true l x = refl
 mounted-idle N false l x = refl
 
 pub job-idle : {N : ℕ} {img : List ℕ} {r : Record} {c : Call} {plan : List Step} {z : Record} → Job N img r c plan z → z .phase ≡ Idle
-job-idle {N} {img} {r} (frame-job h msg reply x q f v k g) = framed-idle N (needsRoom N img r f) (r .last) (r .block) (r .end) x f
+job-idle {N} {img} {r} (frame-job h msg reply x q f v k g) = framed-idle N (needsRoom N img r f) (r .rest) x f
 job-idle {N} {img} (mount-job x v) = mounted-idle N (needsTransfer (x .frames) (x .tail)) (length img - 1) x
 job-idle format-job = refl
 
@@ -221,11 +221,11 @@ module _ {N : ℕ} {m n : Machine} (pm : Calls N m) (pn : Calls N n) (img : List
           let s : Serves N img r h msg reply x q o = pm .serves img r h msg reply x q by bm (y .is-held) (y .is-asked) a in
           let t : Serves N img r h msg reply x q p = pn .serves img r h msg reply x q by bm (y .is-held) (y .is-asked) b in
           let job : (f : Frame) → frameFor h msg x q ≡ some f
-          → Job N img r c (framePlan N (needsRoom N img r f) (r .block) (r .end) x f) (framedAt N (needsRoom N img r f) (r .last) (r .block) (r .end) x f) =
+          → Job N img r c (framePlan N (needsRoom N img r f) (r .rest) x f) (framedAt N (needsRoom N img r f) (r .rest) x f) =
           λ f e. frame-job h msg reply x q f (y .is-held) (y .is-asked) e in
           does-agree r h msg reply x q (frameFor h msg x q) o p k (pm .one-step img r c) (pn .one-step img r c) (s .answers) (t .answers) s t
-          (λ f e. job-alike r r c (framePlan N (needsRoom N img r f) (r .block) (r .end) x f)
-          (framedAt N (needsRoom N img r f) (r .last) (r .block) (r .end) x f) bm
+          (λ f e. job-alike r r c (framePlan N (needsRoom N img r f) (r .rest) x f)
+          (framedAt N (needsRoom N img r f) (r .rest) x f) bm
           (job f e) (job f e) a b)
 
   -- 4, 10 or 5, whatever the record holds
@@ -314,7 +314,7 @@ module _ {N : ℕ} {m n : Machine} (pm : Calls N m) (pn : Calls N n) (img : List
           (agree-whole (Refused w) (Refused w) img unmounted unmounted [] noStretch refl by (resting tt refl))
       go (both-taken a b) =
           agree-takes (m img r format) (n img q format) (takes-format pm img by r a) (takes-format pn img by q b)
-          (job-alike r q format (formatPlan N img) (idle (rest N (length img - 1) 0 headerLen)) tt format-job format-job a b)
+          (job-alike r q format (formatPlan N img) (formattedAt N (length img - 1)) tt format-job format-job a b)
 
   pub call-agrees : (r q : Record) → Alike N m n img r q → (c : Call) → ByteCall c → Agree N m n (m img r c) (n img q c)
   call-agrees r q (resting h e) (request g msg reply) bm =

@@ -22,7 +22,7 @@ use Rattle.board.specs.declared.Stage.the-variants.{Wipe, Open, Copy, Se
 use Rattle.board.specs.declared.Phase.{Phase}
 use Rattle.board.specs.declared.Phase.the-variants.{Unmounted, Idle, Busy}
 use Rattle.board.specs.declared.Record.{Record}
-use Rattle.board.specs.Record.{inStage, Out, rest}
+use Rattle.board.specs.Record.{inStage, Out}
 use Rattle.board.specs.Step.{sameShape, landed, enterAppend, enterDrop, enterCopy, enterOpen, action, pastFrame, advance, stepOn}
 use Rattle.board.specs.Exec.{exec}
 use Rattle.board.specs.Demand1.{Declared, Rests, EndsWithin}
@@ -190,7 +190,8 @@ forged-ends N img r d =
     (λ c.
     on-test (sameShape N (length img) r)
     (λ e.
-    let l : length img ≡ suc (r .last) = eqb-true (length img) (suc (r .last)) (and-left (eqb (length img) (suc (r .last))) (eqb N (r .blocks)) e) in
+    let l : length img ≡ suc (r .rest .last) =
+    eqb-true (length img) (suc (r .rest .last)) (and-left (eqb (length img) (suc (r .rest .last))) (eqb N (r .rest .blocks)) e) in
     ends N 65536 img r (few-left N (r .phase) img r d (few-bytes N (length img) c (omega (arith, d .last)))))
     (λ e.
     ends-at-once N 65536 img r (omega arith) (λ s. and-no-left (sameShape N (length img) r) (within N (sizeOf N img) (action s r)) e)))

@@ -10,7 +10,6 @@ use Rattle.flash.specs.Flash.{sizeIn, Step, program, erase, apply, sizeOf}
 use Rattle.flash.proofs.Image.{length-apply}
 use Rattle.frame.specs.declared.Host.{Host}
 use Rattle.frame.specs.Frame.{Frame}
-use Rattle.journal.specs.Block.{headerLen}
 use Rattle.wire.specs.declared.Answer.{Answer}
 use Rattle.wire.specs.declared.Answer.the-variants.{Done, More, Refused}
 use Rattle.wire.specs.declared.Refusal.{Refusal}
@@ -18,11 +17,11 @@ use Rattle.wire.specs.Answer.{numberOf}
 use Rattle.board.specs.declared.Phase.{Phase}
 use Rattle.board.specs.declared.Phase.the-variants.{Unmounted, Idle, Busy}
 use Rattle.board.specs.declared.Record.{Record}
-use Rattle.board.specs.Record.{Out, rest, idle}
+use Rattle.board.specs.Record.{Out}
 use Rattle.board.specs.Mount.{allFound, Store, needsTransfer}
 use Rattle.board.specs.Queue.{Held, needsRoom}
 use Rattle.board.specs.Exec.{Machine, Call, request, step, mount, format}
-use Rattle.board.specs.Plan.{Follows, programs, formatPlan, mountPlan, mountedAt, framePlan, framedAt}
+use Rattle.board.specs.Plan.{Follows, programs, formatPlan, mountPlan, mountedAt, framePlan, framedAt, formattedAt}
 use Rattle.board.specs.Table.{frameFor, InJob}
 use Rattle.board.specs.Demand1.{Unchanged, Short, Rests}
 use Rattle.board.specs.Demand2.{Accepted}
@@ -75,7 +74,7 @@ module _ {N : ℕ} {m : Machine} (p : Calls N m) (img : List ℕ) (by : Bytes im
       go : (f : Option Frame) → frameFor h msg x (y .asked) ≡ f → Answers f r (m img r c) → Finishes N m c (m img r c .image) (m img r c .board)
       go none g (n, b) = let w : _≡_ {A = Option ℕ} (some 0) none = sym n ∙ ap numberOf e in let v : _≡_ {A = ℕ} 0 1 = cc in absurd (omega arith)
       go (some f) g b =
-          job-finishes r c (framePlan N (needsRoom N img r f) (r .block) (r .end) x f) (framedAt N (needsRoom N img r f) (r .last) (r .block) (r .end) x f) bm
+          job-finishes r c (framePlan N (needsRoom N img r f) (r .rest) x f) (framedAt N (needsRoom N img r f) (r .rest) x f) bm
           (frame-job h msg reply x (y .asked) f (y .is-held) (y .is-asked) g) a (p .one-step img r c)
 
   -- a refused mount or format leaves no job
@@ -100,7 +99,7 @@ module _ {N : ℕ} {m : Machine} (p : Calls N m) (img : List ℕ) (by : Bytes im
   format-ends : (r : Record) → Ends N m format (m img r format .image) (m img r format .board)
   format-ends r =
       taken-ends r format
-      (λ a. job-finishes r format (formatPlan N img) (idle (rest N (length img - 1) 0 headerLen)) tt format-job a (p .one-step img r format))
+      (λ a. job-finishes r format (formatPlan N img) (formattedAt N (length img - 1)) tt format-job a (p .one-step img r format))
       (λ n k. k)
 
   -- one step fewer

@@ -21,9 +21,8 @@ use Rattle.journal.proofs.Blocks.{Layout}
 use Rattle.journal.proofs.States.{Contents, contents-valid}
 use Rattle.journal.proofs.Raising.{harmless-older}
 use Rattle.journal.proofs.Building.{Lands, below-build, made, making, lands}
-use Rattle.board.specs.Record.{rest, idle}
 use Rattle.board.specs.Mount.{numbersBut, formatOrder}
-use Rattle.board.specs.Plan.{onBlock, formatPlan}
+use Rattle.board.specs.Plan.{onBlock, formatPlan, formattedAt}
 use Rattle.board.specs.CutFormat.{Beside}
 use Rattle.board.proofs.Images.{Sized, size-of, sized-as, sized-last, apply-append, block-writes, other-writes, length-all-steps}
 use Rattle.board.proofs.Lengths.{length-format}
@@ -158,10 +157,11 @@ module _ {N : ℕ} {s : ℕ} {img : List ℕ} (z : Sized N s img) where
         others = λ j h n. other-writes s j 0 ws wiped n b ∙ wiped-blank j h;
       })
 
-  pub format-ends : After N s (applyAll s (formatPlan N img) img) (idle (rest N (length img - 1) 0 headerLen)) (state [] [])
+  pub format-ends : After N s (applyAll s (formatPlan N img) img) (formattedAt N (length img - 1)) (state [] [])
   unfolding total replayFrom isOpen
   format-ends =
-      alone-after (length img - 1) (state [] []) format-alone (length-all-steps s (formatPlan N img) img ∙ sized-last z) refl (omega (arith, z .low))
+      alone-after (formattedAt N (length img - 1) .rest) (state [] []) format-alone refl
+      (length-all-steps s (formatPlan N img) img ∙ sized-last z) refl (omega (arith, z .low))
 
 -- "On an image the store left, a cut format leaves the old settled objects, no store, or the empty store": after j of the steps.
 -- A mount finds the objects where an image is safe and no format is unfinished.

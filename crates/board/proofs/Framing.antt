@@ -16,7 +16,7 @@ use Rattle.journal.specs.Room.{claimed}
 use Rattle.journal.proofs.Replaying.{replay-framesOf, stands-replay}
 use Rattle.journal.proofs.Room.{frames-total}
 use Rattle.board.specs.declared.Record.{Record}
-use Rattle.board.specs.Record.{rest, idle}
+use Rattle.board.specs.Record.{landing, ending, idle}
 use Rattle.board.specs.Mount.{nextBlock, endOf}
 use Rattle.board.specs.Queue.{Held, needsRoom}
 use Rattle.board.specs.Plan.{transferPlan, appendPlan, framePlan, framedAt}
@@ -29,19 +29,19 @@ use Rattle.board.proofs.Transferring.{Moves, transfer-lands, transfer-g
 
 -- the image is as an idle record says, and what its block holds is this
 pub record AsRecorded (N : ℕ) (s : ℕ) (img : List ℕ) (r : Record) (x : Held) : Type 0 where
-  pub alone : Alone N s img (r .block) (x .time) (x .frames) clean
-  pub ends : endOf (x .frames) ≡ r .end
-  pub long : length img ≡ suc (r .last)
-  pub blocks : r .blocks ≡ N
+  pub alone : Alone N s img (r .rest .block) (x .time) (x .frames) clean
+  pub ends : endOf (x .frames) ≡ r .rest .end
+  pub long : length img ≡ suc (r .rest .last)
+  pub blocks : r .rest .blocks ≡ N
 
 pub ready-holds : {N : ℕ} {s : ℕ} {img : List ℕ} {r : Record} {x : Held} → Sized N s img → (y : Ready N s img r) → y .time ≡ x .time → y .frames ≡ x .frames
     → AsRecorded N s img r x
 ready-holds {N} {s} {img} {r} {x} z y t e =
     record {
-      alone = subst₃ (λ (k n : ℕ) (fs : List Frame). Alone N s img k n fs clean) (sym (ap (λ (q : Record). q .block) (y .is))) t e (ready-alone z y);
-      ends = sym (ap (λ (q : Record). q .end) (y .is) ∙ y .ends ∙ ap endOf e);
-      long = y .long ∙ ap suc (sym (ap (λ (q : Record). q .last) (y .is)));
-      blocks = ap (λ (q : Record). q .blocks) (y .is);
+      alone = subst₃ (λ (k n : ℕ) (fs : List Frame). Alone N s img k n fs clean) (sym (ap (λ (q : Record). q .rest .block) (y .is))) t e (ready-alone z y);
+      ends = sym (ap (λ (q : Record). q .rest .end) (y .is) ∙ y .ends ∙ ap endOf e);
+      long = y .long ∙ ap suc (sym (ap (λ (q : Record). q .rest .last) (y .is)));
+      blocks = ap (λ (q : Record). q .rest .blocks) (y .is) ∙ y .blocks;
     }
 
 -- a frame that a request may append
@@ -56,15 +56,15 @@ module _ {N : ℕ} {s : ℕ} {img : List ℕ} {r : Record} {x : Held} {f : Frame
   st = replay (x .frames)
 
   abbrev planned : Bool → List Step
-  planned b = framePlan N b (r .block) (r .end) x f
+  planned b = framePlan N b (r .rest) x f
 
   abbrev moved : List ℕ
-  moved = applyAll s (transferPlan N (r .block) (x .time) st) img
+  moved = applyAll s (transferPlan N (r .rest .block) (x .time) st) img
 
   -- no transfer: the frame fits where it goes
   here : needsRoom N img r f ≡ false → Fits s (x .frames) f
   here e =
-      let l : r .end + frameLen f ≤ sizeOf N img = ltb-false (sizeOf N img) (r .end + frameLen f) e in
+      let l : r .rest .end + frameLen f ≤ sizeOf N img = ltb-false (sizeOf N img) (r .rest .end + frameLen f) e in
       record { host = y .host; legal = y .legal; short = omega (arith, h .ends, size-of (h .alone .sized)) }
 
   -- a transfer: it fits after what was moved
@@ -74,49 +74,49 @@ module _ {N : ℕ} {s : ℕ} {img : List ℕ} {r : Record} {x : Held} {f : Frame
   after : Fits s (framesOf st) f
   after = record { host = y .host; legal = y .legal; short = omega (arith, y .fits, frames-total st) }
 
-  new : needsRoom N img r f ≡ true → Alone N s moved (nextBlock N (r .block)) (suc (x .time)) (framesOf st) clean
+  new : needsRoom N img r f ≡ true → Alone N s moved (nextBlock N (r .rest .block)) (suc (x .time)) (framesOf st) clean
   new e = transfer-alone (h .alone) st (moves e)
 
   -- what holds at every step, either way
-  each : (P : Step → List ℕ → Type 0) → (needsRoom N img r f ≡ false → Each s P (appendPlan (r .block) (endOf (x .frames)) f) img)
-      → (needsRoom N img r f ≡ true → Each s P (transferPlan N (r .block) (x .time) st) img)
-      → (needsRoom N img r f ≡ true → Each s P (appendPlan (nextBlock N (r .block)) (endOf (framesOf st)) f) moved)
+  each : (P : Step → List ℕ → Type 0) → (needsRoom N img r f ≡ false → Each s P (appendPlan (r .rest .block) (endOf (x .frames)) f) img)
+      → (needsRoom N img r f ≡ true → Each s P (transferPlan N (r .rest .block) (x .time) st) img)
+      → (needsRoom N img r f ≡ true → Each s P (appendPlan (nextBlock N (r .rest .block)) (endOf (framesOf st)) f) moved)
       → Each s P (planned (needsRoom N img r f)) img
   each P one first second = go (needsRoom N img r f) refl
     where
       go : (b : Bool) → needsRoom N img r f ≡ b → Each s P (planned b) img
-      go false e = subst (λ (n : ℕ). Each s P (appendPlan (r .block) n f) img) (h .ends) (one e)
+      go false e = subst (λ (n : ℕ). Each s P (appendPlan (r .rest .block) n f) img) (h .ends) (one e)
       go true e =
-          each-append s P (transferPlan N (r .block) (x .time) st) (appendPlan (nextBlock N (r .block)) (claimed st) f) img (first e)
-          (subst (λ (n : ℕ). Each s P (appendPlan (nextBlock N (r .block)) n f) moved) (frames-total st) (second e))
+          each-append s P (transferPlan N (r .rest .block) (x .time) st) (appendPlan (nextBlock N (r .rest .block)) (claimed st) f) img (first e)
+          (subst (λ (n : ℕ). Each s P (appendPlan (nextBlock N (r .rest .block)) n f) moved) (frames-total st) (second e))
 
-  pub frame-lands : Each s (StepLands s) (framePlan N (needsRoom N img r f) (r .block) (r .end) x f) img
+  pub frame-lands : Each s (StepLands s) (framePlan N (needsRoom N img r f) (r .rest) x f) img
   frame-lands =
       each (StepLands s) (λ e. append-lands (h .alone) f (here e)) (λ e. transfer-lands (h .alone) st (moves e)) (λ e. append-lands (new e) f after)
 
   pub frame-guard : {os : List Object} (u : Bool) → Keeps s (replay (x .frames)) os
-      → Each s (Guard N s os u) (framePlan N (needsRoom N img r f) (r .block) (r .end) x f) img
+      → Each s (Guard N s os u) (framePlan N (needsRoom N img r f) (r .rest) x f) img
   frame-guard {os} u p =
       each (Guard N s os u) (λ e. append-guard (h .alone) f (here e) u p) (λ e. transfer-guard (h .alone) st (moves e) u p p)
       (λ e. append-guard (new e) f after u (subst (λ (z : State). Keeps s z os) (sym (replay-framesOf st)) p))
 
   pub frame-ends : Roomy s (nextState (replay (x .frames)) f)
-      → After N s (applyAll s (framePlan N (needsRoom N img r f) (r .block) (r .end) x f) img)
-      (framedAt N (needsRoom N img r f) (r .last) (r .block) (r .end) x f)
+      → After N s (applyAll s (framePlan N (needsRoom N img r f) (r .rest) x f) img)
+      (framedAt N (needsRoom N img r f) (r .rest) x f)
       (nextState (replay (x .frames)) f)
   frame-ends room = go (needsRoom N img r f) refl
     where
-      go : (b : Bool) → needsRoom N img r f ≡ b → After N s (applyAll s (planned b) img) (framedAt N b (r .last) (r .block) (r .end) x f) (nextState st f)
+      go : (b : Bool) → needsRoom N img r f ≡ b → After N s (applyAll s (planned b) img) (framedAt N b (r .rest) x f) (nextState st f)
       go false e =
-          subst (λ (n : ℕ). After N s (applyAll s (appendPlan (r .block) n f) img) (idle (rest N (r .last) (r .block) (n + frameLen f))) (nextState st f))
+          subst (λ (n : ℕ). After N s (applyAll s (appendPlan (r .rest .block) n f) img) (idle (ending (r .rest) (n + frameLen f))) (nextState st f))
           (h .ends)
-          (append-ends (h .alone) f (here e) (r .last) (h .long) room)
+          (append-ends (h .alone) f (here e) (r .rest) (h .blocks) (h .long) room)
       go true e =
-          let k : ℕ = nextBlock N (r .block) in
-          let long : length moved ≡ suc (r .last) = length-all-steps s (transferPlan N (r .block) (x .time) st) img ∙ h .long in
-          subst (λ (i : List ℕ). After N s i (idle (rest N (r .last) k (claimed st + frameLen f))) (nextState st f))
-          (sym (apply-append s (transferPlan N (r .block) (x .time) st) (appendPlan k (claimed st) f) img))
-          (subst₂ (λ (n : ℕ) (z : State). After N s (applyAll s (appendPlan k n f) moved) (idle (rest N (r .last) k (n + frameLen f))) (nextState z f))
+          let k : ℕ = nextBlock N (r .rest .block) in
+          let long : length moved ≡ suc (r .rest .last) = length-all-steps s (transferPlan N (r .rest .block) (x .time) st) img ∙ h .long in
+          subst (λ (i : List ℕ). After N s i (idle (landing (r .rest) k (claimed st + frameLen f))) (nextState st f))
+          (sym (apply-append s (transferPlan N (r .rest .block) (x .time) st) (appendPlan k (claimed st) f) img))
+          (subst₂ (λ (n : ℕ) (z : State). After N s (applyAll s (appendPlan k n f) moved) (idle (landing (r .rest) k (n + frameLen f))) (nextState z f))
           (frames-total st)
           (replay-framesOf st)
-          (append-ends (new e) f after (r .last) long (subst (λ (z : State). Roomy s (nextState z f)) (sym (replay-framesOf st)) room)))
+          (append-ends (new e) f after (r .rest) (h .blocks) long (subst (λ (z : State). Roomy s (nextState z f)) (sym (replay-framesOf st)) room)))

@@ -22,7 +22,7 @@ use Rattle.journal.specs.Sentences.{BlankBlock}
 use Rattle.journal.specs.Room.{claimed, openHosts}
 use Rattle.journal.proofs.Sentences.{states-exact}
 use Rattle.board.specs.declared.Record.{Record}
-use Rattle.board.specs.Record.{allowed, restOf, idle}
+use Rattle.board.specs.Record.{allowed, idle}
 use Rattle.board.specs.Step.{sameShape}
 use Rattle.board.specs.Mount.{endOf}
 use Rattle.board.specs.Queue.{Held, held, heldIf, heldIn, heldBy, fitsRecord, othersBlank, sameImage}
@@ -38,11 +38,11 @@ blank-means : (l : List ℕ) → Blank l → allFF l ≡ true
 blank-means l e = is-ff l e
 
 held-here : (N : ℕ) (img : List ℕ) (r : Record) (x : Held) → sameImage N img r ≡ true
-    → blockState (block (sizeOf N img) (r .block) img) ≡ valid (x .time) (x .frames) clean → fitsRecord (sizeOf N img) (r .end) (x .frames) ≡ true
+    → blockState (block (sizeOf N img) (r .rest .block) img) ≡ valid (x .time) (x .frames) clean → fitsRecord (sizeOf N img) (r .rest .end) (x .frames) ≡ true
     → held N img r ≡ some x
 unfolding held
 held-here N img r x a v f =
-    ap (λ (b : Bool). heldBy N b img r) a ∙ ap (λ (b : BlockState). heldIn (sizeOf N img) (r .end) b) v
+    ap (λ (b : Bool). heldBy N b img r) a ∙ ap (λ (b : BlockState). heldIn (sizeOf N img) (r .rest .end) b) v
     ∙ ap (λ (b : Bool). heldIf b (x .time) (x .frames)) f
 
 module _ (N : ℕ) (img : List ℕ) (r : Record) (x : Held) (by : Bytes img) (ok : allowed N (length img) ≡ true) where
@@ -57,43 +57,45 @@ module _ (N : ℕ) (img : List ℕ) (r : Record) (x : Held) (by : Bytes img) (ok
 
   held-fresh : held N img r ≡ some x → Fresh N img r x
   held-fresh e =
-      let v : (w : Ready N s img (idle (restOf r))) × (w .time ≡ x .time) × (w .frames ≡ x .frames) = held-inv r sized by e in
+      let v : (w : Ready N s img (idle (r .rest))) × (w .time ≡ x .time) × (w .frames ≡ x .frames) = held-inv r sized by e in
       let p : Passed N s img r x = passed sized e in
-      let beside : Bool = ltb (r .block) N && othersBlank N (r .block) img (blockNumbers N) in
+      let beside : Bool = ltb (r .rest .block) N && othersBlank N (r .rest .block) img (blockNumbers N) in
       let shape : sameShape N (length img) r ≡ true = and-left (sameShape N (length img) r) beside (p .same) in
       let rest : beside ≡ true = and-right (sameShape N (length img) r) beside (p .same) in
-      let there : r .block < N = ltb-true (r .block) N (and-left (ltb (r .block) N) (othersBlank N (r .block) img (blockNumbers N)) rest) in
+      let there : r .rest .block < N =
+      ltb-true (r .rest .block) N (and-left (ltb (r .rest .block) N) (othersBlank N (r .rest .block) img (blockNumbers N)) rest) in
       let c : Bool = leb (claimed (replay (x .frames)) + endLen * openHosts (replay (x .frames) .pending)) s in
       record {
-        length-is = eqb-true (length img) (suc (r .last)) (and-left (eqb (length img) (suc (r .last))) (eqb N (r .blocks)) shape);
-        blocks-are = eqb-true N (r .blocks) (and-right (eqb (length img) (suc (r .last))) (eqb N (r .blocks)) shape);
+        length-is = eqb-true (length img) (suc (r .rest .last)) (and-left (eqb (length img) (suc (r .rest .last))) (eqb N (r .rest .blocks)) shape);
+        blocks-are = eqb-true N (r .rest .blocks) (and-right (eqb (length img) (suc (r .rest .last))) (eqb N (r .rest .blocks)) shape);
         there = there;
-        is-valid = states-exact .is-valid (block s (r .block) img) (x .time) (x .frames) clean (bytes-block s (r .block) img by)
-            (long-block (r .block) there) .0
+        is-valid = states-exact .is-valid (block s (r .rest .block) img) (x .time) (x .frames) clean (bytes-block s (r .rest .block) img by)
+            (long-block (r .rest .block) there) .0
             (p .is-valid);
-        ends = eqb-true (endOf (x .frames)) (r .end) (and-left (eqb (endOf (x .frames)) (r .end)) c (p .fits));
+        ends = eqb-true (endOf (x .frames)) (r .rest .end) (and-left (eqb (endOf (x .frames)) (r .rest .end)) c (p .fits));
         others-blank = λ j h n. blank-there j h n (othersOf (v .0) j h n);
         room = leb-true (claimed (replay (x .frames)) + endLen * openHosts (replay (x .frames) .pending)) s
-            (and-right (eqb (endOf (x .frames)) (r .end)) c (p .fits));
+            (and-right (eqb (endOf (x .frames)) (r .rest .end)) c (p .fits));
       }
     where
-      blank-there : (j : ℕ) → j < N → (j ≡ r .block → ⊥) → block s j img ≡ replicate s 255 → BlankBlock (block s j img)
+      blank-there : (j : ℕ) → j < N → (j ≡ r .rest .block → ⊥) → block s j img ≡ replicate s 255 → BlankBlock (block s j img)
       blank-there j h n e = e ∙ ap (λ (w : ℕ). replicate w 255) (sym (length-block s j img (sized-block j sized h)))
 
-      othersOf : (w : Ready N s img (idle (restOf r))) (j : ℕ) → j < N → (j ≡ r .block → ⊥) → block s j img ≡ replicate s 255
-      othersOf w j h n = w .others j h (λ e. n (e ∙ sym (ap (λ (q : Record). q .block) (w .is))))
+      othersOf : (w : Ready N s img (idle (r .rest))) (j : ℕ) → j < N → (j ≡ r .rest .block → ⊥) → block s j img ≡ replicate s 255
+      othersOf w j h n = w .others j h (λ e. n (e ∙ sym (ap (λ (q : Record). q .rest .block) (w .is))))
 
   fresh-held : Fresh N img r x → held N img r ≡ some x
   fresh-held y =
       held-here N img r x
-      (and-both (sameShape N (length img) r) (ltb (r .block) N && othersBlank N (r .block) img (blockNumbers N))
+      (and-both (sameShape N (length img) r) (ltb (r .rest .block) N && othersBlank N (r .rest .block) img (blockNumbers N))
       (same-shape (length img) r (y .length-is) (y .blocks-are))
-      (and-both (ltb (r .block) N) (othersBlank N (r .block) img (blockNumbers N)) (lt-ltb (r .block) N (y .there))
-      (others-are N (r .block) img (λ j h n. blank-means (block s j img) (y .others-blank j h n)))))
-      (states-exact .is-valid (block s (r .block) img) (x .time) (x .frames) clean (bytes-block s (r .block) img by) (long-block (r .block) (y .there)) .1
+      (and-both (ltb (r .rest .block) N) (othersBlank N (r .rest .block) img (blockNumbers N)) (lt-ltb (r .rest .block) N (y .there))
+      (others-are N (r .rest .block) img (λ j h n. blank-means (block s j img) (y .others-blank j h n)))))
+      (states-exact .is-valid (block s (r .rest .block) img) (x .time) (x .frames) clean (bytes-block s (r .rest .block) img by)
+      (long-block (r .rest .block) (y .there)) .1
       (y .is-valid))
-      (and-both (eqb (endOf (x .frames)) (r .end)) (leb (claimed (replay (x .frames)) + endLen * openHosts (replay (x .frames) .pending)) s)
-      (eq-eqb (endOf (x .frames)) (r .end) (y .ends))
+      (and-both (eqb (endOf (x .frames)) (r .rest .end)) (leb (claimed (replay (x .frames)) + endLen * openHosts (replay (x .frames) .pending)) s)
+      (eq-eqb (endOf (x .frames)) (r .rest .end) (y .ends))
       (le-leb (claimed (replay (x .frames)) + endLen * openHosts (replay (x .frames) .pending)) s (y .room)))
 
 pub fresh-exact : FreshExact
@@ -101,7 +103,7 @@ unfolding FreshExact
 fresh-exact N img r x by ok = (held-fresh N img r x by ok, fresh-held N img r x by ok)
 
 pub fresh-valid : (N : ℕ) (img : List ℕ) (r : Record) (x : Held) → Bytes img → allowed N (length img) ≡ true → Fresh N img r x
-    → blockState (block (sizeOf N img) (r .block) img) ≡ valid (x .time) (x .frames) clean
+    → blockState (block (sizeOf N img) (r .rest .block) img) ≡ valid (x .time) (x .frames) clean
 fresh-valid N img r x by ok y = passed (sized-of N img ok) (fresh-held N img r x by ok y) .is-valid
 
 pub ready-fresh : {N : ℕ} {s : ℕ} {img : List ℕ} {r : Record} → Sized N s img → Bytes img → (y : Ready N s img r) → Fresh N img r (heldOf y)

@@ -20,7 +20,7 @@ use Rattle.journal.specs.Block.{BlockState, blank, inProgress, valid, foreign, 
 use Rattle.journal.specs.Room.{claimed, openHosts}
 use Rattle.journal.proofs.States.{valid-inv}
 use Rattle.board.specs.declared.Record.{Record}
-use Rattle.board.specs.Record.{rest, restOf, idle}
+use Rattle.board.specs.Record.{idle}
 use Rattle.board.specs.Step.{sameShape}
 use Rattle.board.specs.Mount.{endOf}
 use Rattle.board.specs.Queue.{Held, held, heldBy, heldIn, heldIf, fitsRecord, sameImage, othersBlank}
@@ -31,8 +31,8 @@ use Rattle.board.proofs.Invariant.{Others, Ready}
 -- what a check that passed has seen
 pub record Passed (N : ℕ) (s : ℕ) (img : List ℕ) (r : Record) (x : Held) : Type 0 where
   pub same : sameImage N img r ≡ true
-  pub is-valid : blockState (block s (r .block) img) ≡ valid (x .time) (x .frames) clean
-  pub fits : fitsRecord s (r .end) (x .frames) ≡ true
+  pub is-valid : blockState (block s (r .rest .block) img) ≡ valid (x .time) (x .frames) clean
+  pub fits : fitsRecord s (r .rest .end) (x .frames) ≡ true
 
 held-if : (b : Bool) (t : ℕ) (fs : List Frame) (x : Held) → heldIf b t fs ≡ some x → (b ≡ true) × (record { time = t; frames = fs } ≡ x)
 held-if true t fs x e = (refl, cc)
@@ -56,45 +56,44 @@ held-in s e (valid t fs (bad f)) x q = let z : _≡_ {A = ℕ} 0 1 = cc in absur
 held-in s e (foreign f) x q = let z : _≡_ {A = ℕ} 0 1 = cc in absurd (omega arith)
 
 held-by : (N : ℕ) (b : Bool) (img : List ℕ) (r : Record) (x : Held) → heldBy N b img r ≡ some x
-    → (b ≡ true) × Inside (sizeOf N img) (r .end) (blockState (block (sizeOf N img) (r .block) img)) x
-held-by N true img r x e = (refl, held-in (sizeOf N img) (r .end) (blockState (block (sizeOf N img) (r .block) img)) x e)
+    → (b ≡ true) × Inside (sizeOf N img) (r .rest .end) (blockState (block (sizeOf N img) (r .rest .block) img)) x
+held-by N true img r x e = (refl, held-in (sizeOf N img) (r .rest .end) (blockState (block (sizeOf N img) (r .rest .block) img)) x e)
 held-by N false img r x e = let z : _≡_ {A = ℕ} 0 1 = cc in absurd (omega arith)
 
 pub passed : {N : ℕ} {s : ℕ} {img : List ℕ} {r : Record} {x : Held} → Sized N s img → held N img r ≡ some x → Passed N s img r x
 unfolding held
 passed {N} {s} {img} {r} {x} z e =
-    let y : (sameImage N img r ≡ true) × Inside (sizeOf N img) (r .end) (blockState (block (sizeOf N img) (r .block) img)) x =
+    let y : (sameImage N img r ≡ true) × Inside (sizeOf N img) (r .rest .end) (blockState (block (sizeOf N img) (r .rest .block) img)) x =
     held-by N (sameImage N img r) img r x e in
-    let i : Inside s (r .end) (blockState (block s (r .block) img)) x =
-    subst (λ (n : ℕ). Inside n (r .end) (blockState (block n (r .block) img)) x) (size-of z) (y .1) in
+    let i : Inside s (r .rest .end) (blockState (block s (r .rest .block) img)) x =
+    subst (λ (n : ℕ). Inside n (r .rest .end) (blockState (block n (r .rest .block) img)) x) (size-of z) (y .1) in
     record { same = y .0; is-valid = i .is-valid; fits = i .fits }
 
 pub held-inv : {N : ℕ} {s : ℕ} {img : List ℕ} {x : Held} (r : Record) → Sized N s img → Bytes img → held N img r ≡ some x
-    → (y : Ready N s img (idle (restOf r))) × (y .time ≡ x .time) × (y .frames ≡ x .frames)
+    → (y : Ready N s img (idle (r .rest))) × (y .time ≡ x .time) × (y .frames ≡ x .frames)
 held-inv {N} {s} {img} {x} r z b e =
     let p : Passed N s img r x = passed z e in
-    let k : ℕ = r .block in
+    let k : ℕ = r .rest .block in
     let shape : sameShape N (length img) r ≡ true =
     and-left (sameShape N (length img) r) (ltb k N && othersBlank N k img (blockNumbers N)) (p .same) in
-    let blocks : N ≡ r .blocks = eqb-true N (r .blocks) (and-right (eqb (length img) (suc (r .last))) (eqb N (r .blocks)) shape) in
+    let blocks : N ≡ r .rest .blocks = eqb-true N (r .rest .blocks) (and-right (eqb (length img) (suc (r .rest .last))) (eqb N (r .rest .blocks)) shape) in
     let beside : (ltb k N && othersBlank N k img (blockNumbers N)) ≡ true =
     and-right (sameShape N (length img) r) (ltb k N && othersBlank N k img (blockNumbers N)) (p .same) in
     let there : k < N = ltb-true k N (and-left (ltb k N) (othersBlank N k img (blockNumbers N)) beside) in
     let others : othersBlank N k img (blockNumbers N) ≡ true = and-right (ltb k N) (othersBlank N k img (blockNumbers N)) beside in
     let n : length (block s k img) ≡ s = length-block s k img (sized-block k z there) in
     let room : leb (claimed (replay (x .frames)) + endLen * openHosts (replay (x .frames) .pending)) s ≡ true =
-    and-right (eqb (endOf (x .frames)) (r .end)) (leb (claimed (replay (x .frames)) + endLen * openHosts (replay (x .frames) .pending)) s) (p .fits) in (
+    and-right (eqb (endOf (x .frames)) (r .rest .end)) (leb (claimed (replay (x .frames)) + endLen * openHosts (replay (x .frames) .pending)) s) (p .fits) in (
       record {
-        last = r .last;
-        number = k;
-        end = r .end;
-        is = ap (λ (n : ℕ). idle (rest n (r .last) k (r .end))) (sym blocks);
-        long = eqb-true (length img) (suc (r .last)) (and-left (eqb (length img) (suc (r .last))) (eqb N (r .blocks)) shape);
+        stands = r .rest;
+        is = refl;
+        blocks = sym blocks;
+        long = eqb-true (length img) (suc (r .rest .last)) (and-left (eqb (length img) (suc (r .rest .last))) (eqb N (r .rest .blocks)) shape);
         there = there;
         time = x .time;
         frames = x .frames;
         contents = valid-inv (block s k img) (x .time) (x .frames) clean (bytes-block s k img b) (omega (arith, z .low)) (p .is-valid);
-        ends = sym (eqb-true (endOf (x .frames)) (r .end) (and-left (eqb (endOf (x .frames)) (r .end))
+        ends = sym (eqb-true (endOf (x .frames)) (r .rest .end) (and-left (eqb (endOf (x .frames)) (r .rest .end))
             (leb (claimed (replay (x .frames)) + endLen * openHosts (replay (x .frames) .pending)) s) (p .fits)));
         room = leb-true (claimed (replay (x .frames)) + endLen * openHosts (replay (x .frames) .pending)) s room;
         others = blanks k others;

@@ -19,8 +19,9 @@ use Rattle.journal.proofs.Room.{kept}
 use Rattle.journal.proofs.Building.{Lands}
 use Rattle.board.specs.declared.Phase.{Phase}
 use Rattle.board.specs.declared.Phase.the-variants.{Unmounted, Idle, Busy}
+use Rattle.board.specs.declared.Rest.{Rest}
 use Rattle.board.specs.declared.Record.{Record}
-use Rattle.board.specs.Record.{rest, idle}
+use Rattle.board.specs.Record.{idle}
 use Rattle.board.specs.Mount.{endOf}
 use Rattle.board.specs.Exec.{exec}
 use Rattle.board.specs.Plan.{Follows}
@@ -82,18 +83,17 @@ GuardIn N s os u w x img = Safe N s img os u × ((w ≡ formatting → ⊥) → 
 
 -- the image is as the record says, the book apart
 pub record Ready (N : ℕ) (s : ℕ) (img : List ℕ) (r : Record) : Type 0 where
-  pub last : ℕ
-  pub number : ℕ
-  pub end : ℕ
-  pub is : r ≡ idle (rest N last number end)
-  pub long : length img ≡ suc last
-  pub there : number < N
+  pub stands : Rest
+  pub is : r ≡ idle stands
+  pub blocks : stands .blocks ≡ N
+  pub long : length img ≡ suc (stands .last)
+  pub there : stands .block < N
   pub time : ℕ
   pub frames : List Frame
-  pub contents : Contents (block s number img) time frames clean
-  pub ends : end ≡ endOf frames
+  pub contents : Contents (block s (stands .block) img) time frames clean
+  pub ends : stands .end ≡ endOf frames
   pub room : claimed (replay frames) + endLen * openHosts (replay frames .pending) ≤ s
-  pub others : Others N (λ j. block s j img ≡ replicate s 255) number
+  pub others : Others N (λ j. block s j img ≡ replicate s 255) (stands .block)
 
 abbrev pub Lists : List Entry → Book → Type 0
 Lists ps b = (h : Host) → h .0 ≤ hostMax → listOf h ps ≡ b .lists h

@@ -14,6 +14,7 @@ use Rattle.journal.specs.Block.{build}
 use Rattle.journal.specs.Room.{used, claimed}
 use Rattle.journal.proofs.Room.{frames-total, claimed-settled}
 use Rattle.journal.proofs.Building.{length-build}
+use Rattle.board.specs.declared.Rest.{Rest}
 use Rattle.board.specs.Mount.{nextBlock, Found, Store, wipeList, needsTransfer, formatOrder}
 use Rattle.board.specs.Queue.{Held}
 use Rattle.board.specs.Plan.{onBlock, transferPlan, formatPlan, appendPlan, programs, transferIf, mountPlan, framePlan}
@@ -47,14 +48,19 @@ format-some N img = go (formatPlan N img) refl
     go [] e = let z : length (formatPlan N img) ≡ 0 = ap length e in absurd (omega (arith, length-format N img))
     go (x ∷ xs) e = (x, xs, e)
 
-pub length-frame-moved : (N : ℕ) (k end : ℕ) (x : Held) (f : Frame) → length (framePlan N true k end x f) + 5 ≡ claimed (replay (x .frames)) + frameLen f
-length-frame-moved N k end x f =
-    let ts : List Step = transferPlan N k (x .time) (replay (x .frames)) in
-    let ys : List Step = appendPlan (nextBlock N k) (claimed (replay (x .frames))) f in
-    omega (arith, length-append ts ys, length-transfer N k (x .time) (replay (x .frames)), length-plan-append (nextBlock N k) (claimed (replay (x .frames))) f)
+pub length-frame-moved : (N : ℕ) (z : Rest) (x : Held) (f : Frame) → length (framePlan N true z x f) + 5 ≡ claimed (replay (x .frames)) + frameLen f
+length-frame-moved N z x f =
+    let ts : List Step = transferPlan N (z .block) (x .time) (replay (x .frames)) in
+    let ys : List Step = appendPlan (nextBlock N (z .block)) (claimed (replay (x .frames))) f in
+    omega (
+      arith,
+      length-append ts ys,
+      length-transfer N (z .block) (x .time) (replay (x .frames)),
+      length-plan-append (nextBlock N (z .block)) (claimed (replay (x .frames))) f,
+    )
 
-pub length-frame-stayed : (N : ℕ) (k end : ℕ) (x : Held) (f : Frame) → length (framePlan N false k end x f) ≡ frameLen f
-length-frame-stayed N k end x f = length-plan-append k end f
+pub length-frame-stayed : (N : ℕ) (z : Rest) (x : Held) (f : Frame) → length (framePlan N false z x f) ≡ frameLen f
+length-frame-stayed N z x f = length-plan-append (z .block) (z .end) f
 
 -- a mount's wipes, with a transfer of the settled objects or without
 pub length-mount-moved : (N : ℕ) (xs : List Found) (x : Store) → needsTransfer (x .frames) (x .tail) ≡ true

@@ -108,11 +108,11 @@ module _ {N : ℕ} (img : List ℕ) (r : Record) (h : Host) (msg reply : List �
   full-change (for-put w j f k l) = subst IsChange (sym (asks-one (Put j) k)) tt
   full-change (for-delete w j f k l) = subst IsChange (sym (asks-one (Delete j) k)) tt
 
-  worn-out : (f : Frame) → frameFor h msg x q ≡ some f → Worn N img r h msg → (sizeOf N img < r .end + frameLen f) × (x .time ≡ 4294967295)
+  worn-out : (f : Frame) → frameFor h msg x q ≡ some f → Worn N img r h msg → (sizeOf N img < r .rest .end + frameLen f) × (x .time ≡ 4294967295)
   worn-out f e w =
       let g : w .frame ≡ f =
       the-frame (sym (w .is-frame) ∙ ap₂ (frameFor h msg) (same (w .holding) (w .is-held)) (sym (asks-one (w .asked) (w .is-asked))) ∙ e) in (
-        subst (λ (n : Frame). sizeOf N img < r .end + frameLen n) g (w .exceeds),
+        subst (λ (n : Frame). sizeOf N img < r .rest .end + frameLen n) g (w .exceeds),
         sym (ap (λ (v : Held). v .time) (same (w .holding) (w .is-held))) ∙ w .last-time,
       )
 

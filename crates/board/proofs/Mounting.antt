@@ -12,8 +12,8 @@ use Rattle.frame.specs.Reader.{Tail, clean, cut, bad}
 use Rattle.journal.specs.Replay.{Object, Entry, State, state, replay, settledOnly}
 use Rattle.journal.specs.Block.{lastTime}
 use Rattle.journal.proofs.Room.{claimed-settled}
-use Rattle.board.specs.Record.{rest, idle}
-use Rattle.board.specs.Mount.{Store, allFound, wipeList, nextBlock, anyPending, needsTransfer}
+use Rattle.board.specs.Record.{landing, idle}
+use Rattle.board.specs.Mount.{Store, allFound, wipeList, nextBlock, anyPending, needsTransfer, storeAt}
 use Rattle.board.specs.Plan.{transferIf, programs, mountPlan, mountedAt}
 use Rattle.board.proofs.Blocks.{wiped-besides}
 use Rattle.board.proofs.Images.{Sized, sized-last, apply-append, length-all-steps}
@@ -92,12 +92,12 @@ module _ {N : ℕ} {s : ℕ} {img : List ℕ} (x : Store) (z : Sized N s img) (h
       go : (b : Bool) → needs ≡ b → After N s (applyAll s (transferIf N b (x .number) (x .time) st) wiped) (mountedAt N b (length img - 1) x) st
       go true e =
           let after : List ℕ = applyAll s (transferIf N true (x .number) (x .time) st) wiped in
-          subst (λ (n : ℕ). After N s after (idle (rest N (length img - 1) (nextBlock N (x .number)) n)) st)
+          subst (λ (n : ℕ). After N s after (idle (landing (storeAt N (length img - 1) x) (nextBlock N (x .number)) n)) st)
           (claimed-settled (replay (x .frames)))
-          (transferred alone st (moves-settled alone (t e)) (length img - 1) long (roomy-settled alone))
+          (transferred alone st (moves-settled alone (t e)) (storeAt N (length img - 1) x) refl long (roomy-settled alone))
       go false e =
-          alone-after (length img - 1) st
-          (subst (λ (c : Tail). Alone N s wiped (x .number) (x .time) (x .frames) c) (needs-clean (x .frames) (x .tail) e) alone) long
+          alone-after (storeAt N (length img - 1) x) st
+          (subst (λ (c : Tail). Alone N s wiped (x .number) (x .time) (x .frames) c) (needs-clean (x .frames) (x .tail) e) alone) refl long
           (needs-none (x .frames) (x .tail) e) (roomy-settled alone)
 
   -- K14: "Demand 1's bound leaves a mount's erases aside": at most S steps without them, and of them at most N

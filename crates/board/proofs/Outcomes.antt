@@ -26,7 +26,7 @@ use Rattle.board.specs.declared.Stage.the-variants.{Wipe, Open, Copy, Se
 use Rattle.board.specs.declared.Phase.{Phase}
 use Rattle.board.specs.declared.Phase.the-variants.{Unmounted, Idle, Busy}
 use Rattle.board.specs.declared.Record.{Record}
-use Rattle.board.specs.Record.{allowed, unmounted, rest, restOf, idle, inStage, out, refuse}
+use Rattle.board.specs.Record.{allowed, unmounted, ending, idle, inStage, out, refuse}
 use Rattle.board.specs.Step.{enter, enterAppend, landed, enterDrop, loaded, enterCopy, enterOpen, enterWipe, begin, action}
 use Rattle.board.specs.Step.{nextIndex, nextByte, pastFrame, advance, sameShape, stepped, stepBusy, stepIn, stepOn}
 use Rattle.board.specs.Mount.{allFound, Found, Store, stores, equalTimes, newest, wipeList, needsTransfer, mountJob}
@@ -230,7 +230,7 @@ unfolding enterOpen
 open-skips r e = rw (e, enterOpen)
 
 abbrev pub nextFor : ℕ → List ℕ → Record → Option Load
-nextFor N img r = nextLoad (block (sizeOf N img) (r .block) img) (r .end) (r .places) (r .job .since) (r .cursor .id) (r .cursor .source)
+nextFor N img r = nextLoad (block (sizeOf N img) (r .rest .block) img) (r .rest .end) (r .places) (r .job .since) (r .cursor .id) (r .cursor .source)
 
 pub copy-loads : (N : ℕ) (img : List ℕ) (r : Record) (u : Load) → nextFor N img r ≡ some u → enterCopy N img r ≡ loaded r u
 unfolding enterCopy
@@ -252,7 +252,7 @@ pub append-enters : (r : Record) → ltb 0 (r .job .size) ≡ true → enterAppe
 unfolding enterAppend
 append-enters r e = rw (e, enterAppend)
 
-pub append-skips : (r : Record) → ltb 0 (r .job .size) ≡ false → enterAppend r ≡ idle (restOf r)
+pub append-skips : (r : Record) → ltb 0 (r .job .size) ≡ false → enterAppend r ≡ idle (r .rest)
 unfolding enterAppend
 append-skips r e = rw (e, enterAppend)
 
@@ -301,6 +301,6 @@ module _ (N : ℕ) (img : List ℕ) (r : Record) where
   append-next e = rw e
 
   pub append-last : ltb (suc (r .cursor .index)) (r .job .size) ≡ false
-      → advance N Append img r ≡ idle (rest (r .blocks) (r .last) (r .block) (r .end + r .job .size))
+      → advance N Append img r ≡ idle (ending (r .rest) (r .rest .end + r .job .size))
   unfolding advance
   append-last e = rw e

@@ -15,8 +15,9 @@ use Rattle.wire.specs.declared.Refusal.the-variants as refusal
 use Rattle.board.specs.declared.Stage.{Stage}
 use Rattle.board.specs.declared.Phase.{Phase}
 use Rattle.board.specs.declared.Phase.the-variants.{Busy}
+use Rattle.board.specs.declared.Rest.{Rest}
 use Rattle.board.specs.declared.Record.{Record}
-use Rattle.board.specs.Record.{Out, out, refuse, answerIn, answerOf}
+use Rattle.board.specs.Record.{landing, Out, out, refuse, answerIn, answerOf}
 use Rattle.board.specs.Step.{action, advance, sameShape, stepped, stepIn, stepBusy, stepOn}
 use Rattle.board.specs.Exec.{exec}
 use Rattle.board.specs.Plan.{Follows}
@@ -36,13 +37,18 @@ other-block N s k (erase j) img n w = other-erase s k j img n
 
 -- ---- one step
 
--- an image of N blocks of s bytes, by its length less one
-pub record Shape (N l s : ℕ) : Type 0 where
+-- a record that stands there is of an image of N blocks of s bytes
+pub record Shape (N : ℕ) (z : Rest) (s : ℕ) : Type 0 where
   pub count : isCount N ≡ true
-  pub size : sizeIn N (suc l) ≡ s
+  pub blocks : z .blocks ≡ N
+  pub size : sizeIn N (suc (z .last)) ≡ s
 
-pub same-shape : {N : ℕ} (n : ℕ) (r : Record) → n ≡ suc (r .last) → N ≡ r .blocks → sameShape N n r ≡ true
-same-shape {N} n r l b = and-both (eqb n (suc (r .last))) (eqb N (r .blocks)) (eq-eqb n (suc (r .last)) l) (eq-eqb N (r .blocks) b)
+-- another block of the same image
+pub shape-landing : {N s : ℕ} {z : Rest} (k e : ℕ) → Shape N z s → Shape N (landing z k e) s
+shape-landing k e x = record { count = x .count; blocks = x .blocks; size = x .size }
+
+pub same-shape : {N : ℕ} (n : ℕ) (r : Record) → n ≡ suc (r .rest .last) → N ≡ r .rest .blocks → sameShape N n r ≡ true
+same-shape {N} n r l b = and-both (eqb n (suc (r .rest .last))) (eqb N (r .rest .blocks)) (eq-eqb n (suc (r .rest .last)) l) (eq-eqb N (r .rest .blocks) b)
 
 -- what a step call in a job does, by its test
 abbrev stepIf : ℕ → Stage → List ℕ → Record → Bool → ℕ → Step → Out
@@ -74,42 +80,42 @@ follows-step N s st img r next x xs z q p l a w n f = (
 -- ---- a stage
 
 -- record i of a stage is about to do step i of its list; after the last step comes another record
-pub record Runs (N : ℕ) (l s : ℕ) (st : Stage) (at : ℕ → Record) (after : List ℕ → Record) (xs : List Step) (d : Step) : Type 0 where
+pub record Runs (N : ℕ) (z : Rest) (s : ℕ) (st : Stage) (at : ℕ → Record) (after : List ℕ → Record) (xs : List Step) (d : Step) : Type 0 where
   pub phase : (i : ℕ) → at i .phase ≡ Busy st
-  pub blocks : (i : ℕ) → at i .blocks ≡ N
-  pub last : (i : ℕ) → at i .last ≡ l
+  pub stands : (i : ℕ) → at i .rest ≡ z
   pub acts : (i : ℕ) → i < length xs → action st (at i) ≡ getD xs i d
   pub inside : (i : ℕ) → i < length xs → within N s (getD xs i d) ≡ true
   pub goes : (i : ℕ) (img : List ℕ) → suc i < length xs → advance N st img (at i) ≡ at (suc i)
   pub ends : (i : ℕ) (img : List ℕ) → suc i ≡ length xs → advance N st img (at i) ≡ after img
 
-module _ {N : ℕ} (l s : ℕ) (st : Stage) (at : ℕ → Record) (after : List ℕ → Record) (xs : List Step) (d : Step) (shape : Shape N l s)
-    (c : Runs N l s st at after xs d) (tail : List Step) (z : Record) where
-  one-step : (i : ℕ) (img : List ℕ) (next : Record) → i < length xs → length img ≡ suc l → advance N st (apply s (getD xs i d) img) (at i) ≡ next
-      → Follows N (exec N) (apply s (getD xs i d) img) next (drop (suc i) xs ++ tail) z → Follows N (exec N) img (at i) (drop i xs ++ tail) z
+module _ {N : ℕ} (z : Rest) (s : ℕ) (st : Stage) (at : ℕ → Record) (after : List ℕ → Record) (xs : List Step) (d : Step) (shape : Shape N z s)
+    (c : Runs N z s st at after xs d) (tail : List Step) (done : Record) where
+  one-step : (i : ℕ) (img : List ℕ) (next : Record) → i < length xs → length img ≡ suc (z .last) → advance N st (apply s (getD xs i d) img) (at i) ≡ next
+      → Follows N (exec N) (apply s (getD xs i d) img) next (drop (suc i) xs ++ tail) done → Follows N (exec N) img (at i) (drop i xs ++ tail) done
   one-step i img next h e n f =
-      subst (λ (ys : List Step). Follows N (exec N) img (at i) (ys ++ tail) z) (sym (drop-cons xs i d h))
-      (follows-step N s st img (at i) next (getD xs i d) (drop (suc i) xs ++ tail) z (ap (sizeIn N) e ∙ shape .size) (c .phase i)
-      (same-shape (length img) (at i) (e ∙ ap suc (sym (c .last i))) (sym (c .blocks i))) (c .acts i h) (c .inside i h) n f)
+      subst (λ (ys : List Step). Follows N (exec N) img (at i) (ys ++ tail) done) (sym (drop-cons xs i d h))
+      (follows-step N s st img (at i) next (getD xs i d) (drop (suc i) xs ++ tail) done (ap (sizeIn N) e ∙ shape .size) (c .phase i)
+      (same-shape (length img) (at i) (e ∙ ap (λ (y : Rest). suc (y .last)) (sym (c .stands i)))
+      (sym (ap (λ (y : Rest). y .blocks) (c .stands i) ∙ shape .blocks))) (c .acts i h) (c .inside i h) n f)
 
-  run-from : (n i : ℕ) (img : List ℕ) → i + suc n ≡ length xs → length img ≡ suc l
-      → Follows N (exec N) (applyAll s (drop i xs) img) (after (applyAll s (drop i xs) img)) tail z → Follows N (exec N) img (at i) (drop i xs ++ tail) z
+  run-from : (n i : ℕ) (img : List ℕ) → i + suc n ≡ length xs → length img ≡ suc (z .last)
+      → Follows N (exec N) (applyAll s (drop i xs) img) (after (applyAll s (drop i xs) img)) tail done → Follows N (exec N) img (at i) (drop i xs ++ tail) done
   unfolding applyAll
   run-from zero i img q e f =
       let x : Step = getD xs i d in
       let none : drop (suc i) xs ≡ [] = drop-of-length-le xs {i = suc i} (omega arith) in
       let split : drop i xs ≡ x ∷ [] = drop-cons xs i d (omega arith) ∙ ap (λ (ys : List Step). x ∷ ys) none in
       one-step i img (after (apply s x img)) (omega arith) e (c .ends i (apply s x img) (omega arith))
-      (subst (λ (ys : List Step). Follows N (exec N) (apply s x img) (after (apply s x img)) (ys ++ tail) z) (sym none)
-      (subst (λ (ys : List Step). Follows N (exec N) (applyAll s ys img) (after (applyAll s ys img)) tail z) split f))
+      (subst (λ (ys : List Step). Follows N (exec N) (apply s x img) (after (apply s x img)) (ys ++ tail) done) (sym none)
+      (subst (λ (ys : List Step). Follows N (exec N) (applyAll s ys img) (after (applyAll s ys img)) tail done) split f))
   run-from (suc n) i img q e f =
       let x : Step = getD xs i d in
       one-step i img (at (suc i)) (omega arith) e (c .goes i (apply s x img) (omega arith))
       (run-from n (suc i) (apply s x img) (omega arith) (length-apply s x img ∙ e)
-      (subst (λ (ys : List Step). Follows N (exec N) (applyAll s ys img) (after (applyAll s ys img)) tail z) (drop-cons xs i d (omega arith)) f))
+      (subst (λ (ys : List Step). Follows N (exec N) (applyAll s ys img) (after (applyAll s ys img)) tail done) (drop-cons xs i d (omega arith)) f))
 
-  pub follows-stage : (n : ℕ) (img : List ℕ) → suc n ≡ length xs → length img ≡ suc l
-      → Follows N (exec N) (applyAll s xs img) (after (applyAll s xs img)) tail z → Follows N (exec N) img (at 0) (xs ++ tail) z
+  pub follows-stage : (n : ℕ) (img : List ℕ) → suc n ≡ length xs → length img ≡ suc (z .last)
+      → Follows N (exec N) (applyAll s xs img) (after (applyAll s xs img)) tail done → Follows N (exec N) img (at 0) (xs ++ tail) done
   follows-stage n img q e f = run-from n 0 img (omega arith) e f
 
 -- the stage's steps keep a block that none of them is on

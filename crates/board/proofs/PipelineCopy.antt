@@ -17,8 +17,9 @@ use Rattle.journal.proofs.Loading.{Yields}
 use Rattle.board.specs.declared.Stage.{Stage}
 use Rattle.board.specs.declared.Stage.the-variants.{Open, Copy}
 use Rattle.board.specs.declared.Job.{Job}
+use Rattle.board.specs.declared.Rest.{Rest}
 use Rattle.board.specs.declared.Record.{Record}
-use Rattle.board.specs.Record.{buffer, cursor, rest, idle}
+use Rattle.board.specs.Record.{buffer, cursor, landing, idle}
 use Rattle.board.specs.Step.{enter, loadOr, enterCopy, advance}
 use Rattle.board.specs.Exec.{exec}
 use Rattle.board.specs.Plan.{Follows, onBlock}
@@ -68,30 +69,29 @@ total-cons : (f : Frame) (fs : List Frame) → total (f ∷ fs) ≡ frameLen f +
 unfolding total
 total-cons f fs = refl
 
-module _ {N : ℕ} (l s : ℕ) (shape : Shape N l s) (k e : ℕ) (places : List ℕ) (j : Job) (bytes : List ℕ) (size : j .size ≡ length bytes) (here : k < N)
-    (there : j .target < N) (apart : j .target ≡ k → ⊥) (header : headerLen ≤ s) where
+module _ {N : ℕ} (s : ℕ) (home : Rest) (shape : Shape N home s) (places : List ℕ) (j : Job) (bytes : List ℕ) (size : j .size ≡ length bytes)
+    (here : home .block < N) (there : j .target < N) (apart : j .target ≡ home .block → ⊥) (header : headerLen ≤ s) where
   abbrev at : Stage → ℕ → ℕ → ℕ → ℕ → ℕ → ℕ → List ℕ → Record
-  at st i a d so z o u = jobAt N l k e places j (buffer bytes) st (cursor i a d so z o) u
+  at st i a d so z o u = jobAt home places j (buffer bytes) st (cursor i a d so z o) u
 
   -- the next frame to copy, as the record finds it
-  next-frame : (b img : List ℕ) (st : Stage) (i a d so z o : ℕ) (u : List ℕ) (x : Option Load) → length img ≡ suc l → block s k img ≡ b
-      → nextLoad b e places (j .since) d so ≡ x → enterCopy N img (at st i a d so z o u) ≡ loadOr (at st i a d so z o u) x
+  next-frame : (b img : List ℕ) (st : Stage) (i a d so z o : ℕ) (u : List ℕ) (x : Option Load) → length img ≡ suc (home .last) → block s (home .block) img ≡ b
+      → nextLoad b (home .end) places (j .since) d so ≡ x → enterCopy N img (at st i a d so z o u) ≡ loadOr (at st i a d so z o u) x
   unfolding enterCopy
   next-frame b img st i a d so z o u x q h n =
       let r : Record = at st i a d so z o u in
-      ap (λ (m : ℕ). loadOr r (nextLoad (block (sizeIn N m) k img) e places (j .since) d so)) q
-      ∙ ap (λ (m : ℕ). loadOr r (nextLoad (block m k img) e places (j .since) d so)) (shape .size)
-      ∙ ap (λ (y : List ℕ). loadOr r (nextLoad y e places (j .since) d so)) h ∙ ap (loadOr r) n
+      ap (λ (m : ℕ). loadOr r (nextLoad (block (sizeIn N m) (home .block) img) (home .end) places (j .since) d so)) q
+      ∙ ap (λ (m : ℕ). loadOr r (nextLoad (block m (home .block) img) (home .end) places (j .since) d so)) (shape .size)
+      ∙ ap (λ (y : List ℕ). loadOr r (nextLoad y (home .end) places (j .since) d so)) h ∙ ap (loadOr r) n
 
   copies : (bs : List ℕ) (a d so n : ℕ) → length bs ≡ n → a + n ≤ s
-      → Runs N l s Copy (λ o. at Copy 0 (a + o) d so n o (buffer bs)) (λ img. enterCopy N img (at Copy 0 (a + n) d so n 0 (buffer bs)))
+      → Runs N home s Copy (λ o. at Copy 0 (a + o) d so n o (buffer bs)) (λ img. enterCopy N img (at Copy 0 (a + n) d so n 0 (buffer bs)))
       (onBlock (j .target) (writes a bs)) (program (j .target) 0 0)
   unfolding advance
   copies bs a d so n q room =
       record {
         phase = λ i. refl;
-        blocks = λ i. refl;
-        last = λ i. refl;
+        stands = λ i. refl;
         acts = λ i h. buffered (j .target) a bs i h;
         inside = step-inside s (j .target) a bs (shape .count) there (omega arith);
         goes = λ i img h.
@@ -110,49 +110,52 @@ module _ {N : ℕ} (l s : ℕ) (shape : Shape N l s) (k e : ℕ) (places : List 
 
   -- the copying leaves the block that is copied
   source-kept : (ws : List Write) (w : Write) (img : List ℕ) → ((i : ℕ) → i < length (onBlock (j .target) ws)
-      → within N s (getD (onBlock (j .target) ws) i (writeStep (j .target) w)) ≡ true) → block s k (applyAll s (onBlock (j .target) ws) img) ≡ block s k img
+      → within N s (getD (onBlock (j .target) ws) i (writeStep (j .target) w)) ≡ true)
+      → block s (home .block) (applyAll s (onBlock (j .target) ws) img) ≡ block s (home .block) img
   source-kept ws w img h =
-      kept-stage N s (onBlock (j .target) ws) (writeStep (j .target) w) h k (λ i q. apart (sym (q ∙ on-block (j .target) ws i w))) img
+      kept-stage N s (onBlock (j .target) ws) (writeStep (j .target) w) h (home .block) (λ i q. apart (sym (q ∙ on-block (j .target) ws i w))) img
 
-  copy-one : (b bs : List ℕ) (a d so n : ℕ) (img : List ℕ) (tail : List Step) (z : Record) → length img ≡ suc l → block s k img ≡ b → length bs ≡ n → 0 < n
+  copy-one : (b bs : List ℕ) (a d so n : ℕ) (img : List ℕ) (tail : List Step) (z : Record) → length img ≡ suc (home .last)
+      → block s (home .block) img ≡ b → length bs ≡ n → 0 < n
       → a + n ≤ s
-      → ((img′ : List ℕ) → length img′ ≡ suc l → block s k img′ ≡ b → Follows N (exec N) img′
+      → ((img′ : List ℕ) → length img′ ≡ suc (home .last) → block s (home .block) img′ ≡ b → Follows N (exec N) img′
       (enterCopy N img′ (at Copy 0 (a + n) d so n 0 (buffer bs))) tail z)
       → Follows N (exec N) img (at Copy 0 a d so n 0 (buffer bs)) (onBlock (j .target) (writes a bs) ++ tail) z
   copy-one b bs a d so n img tail z q h w p room f =
       let xs : List Step = onBlock (j .target) (writes a bs) in
       let a′ : a + 0 ≡ a = omega arith in
       subst (λ (m : ℕ). Follows N (exec N) img (at Copy 0 m d so n 0 (buffer bs)) (xs ++ tail) z) a′
-      (follows-stage l s Copy (λ o. at Copy 0 (a + o) d so n o (buffer bs)) (λ img′. enterCopy N img′ (at Copy 0 (a + n) d so n 0 (buffer bs))) xs
+      (follows-stage home s Copy (λ o. at Copy 0 (a + o) d so n o (buffer bs)) (λ img′. enterCopy N img′ (at Copy 0 (a + n) d so n 0 (buffer bs))) xs
       (program (j .target) 0 0) shape (copies bs a d so n w room) tail z (n - 1) img (omega (arith, length-steps (j .target) a bs)) q
       (f (applyAll s xs img) (length-all-steps s xs img ∙ q)
       (source-kept (writes a bs) (write 0 0) img (copies bs a d so n w room .inside) ∙ h)))
 
-  follows-copy : (b : List ℕ) (fs : List Frame) (st : Stage) (i a d so z o : ℕ) (u img : List ℕ) → length img ≡ suc l → block s k img ≡ b
-      → Yields b e places (j .since) d so fs → a + total fs + length bytes ≤ s
-      → Follows N (exec N) img (enterCopy N img (at st i a d so z o u)) (onBlock (j .target) (writes a (encodeAll fs)) ++ sealing j k bytes (a + total fs))
-      (idle (rest N l (j .target) (a + total fs + length bytes)))
+  follows-copy : (b : List ℕ) (fs : List Frame) (st : Stage) (i a d so z o : ℕ) (u img : List ℕ) → length img ≡ suc (home .last) → block s (home .block) img ≡ b
+      → Yields b (home .end) places (j .since) d so fs → a + total fs + length bytes ≤ s
+      → Follows N (exec N) img (enterCopy N img (at st i a d so z o u))
+      (onBlock (j .target) (writes a (encodeAll fs)) ++ sealing j (home .block) bytes (a + total fs))
+      (idle (landing home (j .target) (a + total fs + length bytes)))
   follows-copy b [] st i a d so z o u img q h y room =
       let t : a ≡ a + total [] = omega (arith, total-nil) in
       let r : Record = at st i a d so z o u in
-      subst (λ (xs : List Step). Follows N (exec N) img (enterCopy N img r) xs (idle (rest N l (j .target) (a + total [] + length bytes))))
-      (sym (copy-nil (j .target) a (sealing j k bytes (a + total []))))
-      (subst (λ (n : ℕ). Follows N (exec N) img (enterCopy N img r) (sealing j k bytes n) (idle (rest N l (j .target) (n + length bytes)))) t
-      (subst (λ (x : Record). Follows N (exec N) img x (sealing j k bytes a) (idle (rest N l (j .target) (a + length bytes))))
+      subst (λ (xs : List Step). Follows N (exec N) img (enterCopy N img r) xs (idle (landing home (j .target) (a + total [] + length bytes))))
+      (sym (copy-nil (j .target) a (sealing j (home .block) bytes (a + total []))))
+      (subst (λ (n : ℕ). Follows N (exec N) img (enterCopy N img r) (sealing j (home .block) bytes n) (idle (landing home (j .target) (n + length bytes)))) t
+      (subst (λ (x : Record). Follows N (exec N) img x (sealing j (home .block) bytes a) (idle (landing home (j .target) (a + length bytes))))
       (sym (next-frame b img st i a d so z o u none q h y))
-      (follows-seal l s shape k e places j bytes size here there st i a d so z o u img q header (omega arith))))
+      (follows-seal s home shape places j bytes size here there st i a d so z o u img q header (omega arith))))
   follows-copy b (f ∷ fs) st i a d so z o u img q h (d′, so′, n, low, end, y) room =
       let m : ℕ = frameLen f in
       let t : a + m + total fs ≡ a + total (f ∷ fs) = omega (arith, total-cons f fs) in
       let r : Record = at st i a d so z o u in
-      let tail : List Step = onBlock (j .target) (writes (a + m) (encodeAll fs)) ++ sealing j k bytes (a + m + total fs) in
-      let done : Record = idle (rest N l (j .target) (a + m + total fs + length bytes)) in
+      let tail : List Step = onBlock (j .target) (writes (a + m) (encodeAll fs)) ++ sealing j (home .block) bytes (a + m + total fs) in
+      let done : Record = idle (landing home (j .target) (a + m + total fs + length bytes)) in
       subst
       (λ (x : ℕ).
-      Follows N (exec N) img (enterCopy N img r) (onBlock (j .target) (writes a (encodeAll (f ∷ fs))) ++ sealing j k bytes x)
-      (idle (rest N l (j .target) (x + length bytes)))) t
+      Follows N (exec N) img (enterCopy N img r) (onBlock (j .target) (writes a (encodeAll (f ∷ fs))) ++ sealing j (home .block) bytes x)
+      (idle (landing home (j .target) (x + length bytes)))) t
       (subst (λ (xs : List Step). Follows N (exec N) img (enterCopy N img r) xs done) (sym (copy-cons (j .target) a f fs
-      (sealing j k bytes (a + m + total fs))))
+      (sealing j (home .block) bytes (a + m + total fs))))
       (subst (λ (x : Record). Follows N (exec N) img x (onBlock (j .target) (writes a (encode f)) ++ tail) done)
       (sym (next-frame b img st i a d so z o u (some (load f d′ so′)) q h n))
       (copy-one b (encode f) a d′ so′ m img tail done q h (length-encode f) (omega arith) (omega arith)
@@ -161,15 +164,14 @@ module _ {N : ℕ} (l s : ℕ) (shape : Shape N l s) (k e : ℕ) (places : List 
   -- ---- the block opened
 
   opens : (a d so z o : ℕ) (u : List ℕ)
-      → Runs N l s Open (λ i. at Open i a d so z o u) (λ img. enterCopy N img (at Open 4 a d so z o u)) (onBlock (j .target) openWrites)
+      → Runs N home s Open (λ i. at Open i a d so z o u) (λ img. enterCopy N img (at Open 4 a d so z o u)) (onBlock (j .target) openWrites)
       (writeStep (j .target) (write stateAt inTransfer))
   unfolding advance
   opens a d so z o u =
       let r : ℕ → Record = λ i. at Open i a d so z o u in
       record {
         phase = λ i. refl;
-        blocks = λ i. refl;
-        last = λ i. refl;
+        stands = λ i. refl;
         acts = λ i h. sym (List·getD-map (writeStep (j .target)) openWrites i (write stateAt inTransfer));
         inside = marks-inside s (j .target) openWrites (write stateAt inTransfer) (shape .count) there
             (λ i h. omega (arith, open-at i (omega (arith, length-map openWrites (writeStep (j .target)), length-open (j .target)))));
@@ -179,16 +181,18 @@ module _ {N : ℕ} (l s : ℕ) (shape : Shape N l s) (k e : ℕ) (places : List 
             onward-off Open markWrites (r i) (enterCopy N img (r i)) (omega arith) ∙ ap (λ (m : ℕ). enterCopy N img (r m)) n;
       }
 
-  pub follows-open : (b : List ℕ) (fs : List Frame) (st : Stage) (i a d so z o : ℕ) (u img : List ℕ) → length img ≡ suc l → block s k img ≡ b
-      → Yields b e places (j .since) d so fs → a + total fs + length bytes ≤ s
+  pub follows-open : (b : List ℕ) (fs : List Frame) (st : Stage) (i a d so z o : ℕ) (u img : List ℕ) → length img ≡ suc (home .last)
+      → block s (home .block) img ≡ b
+      → Yields b (home .end) places (j .since) d so fs → a + total fs + length bytes ≤ s
       → Follows N (exec N) img (enter Open (at st i a d so z o u))
-      (onBlock (j .target) openWrites ++ (onBlock (j .target) (writes a (encodeAll fs)) ++ sealing j k bytes (a + total fs)))
-      (idle (rest N l (j .target) (a + total fs + length bytes)))
+      (onBlock (j .target) openWrites ++ (onBlock (j .target) (writes a (encodeAll fs)) ++ sealing j (home .block) bytes (a + total fs)))
+      (idle (landing home (j .target) (a + total fs + length bytes)))
   follows-open b fs st i a d so z o u img q h y room =
       let xs : List Step = onBlock (j .target) openWrites in
-      follows-stage l s Open (λ n. at Open n a d so z o u) (λ img′. enterCopy N img′ (at Open 4 a d so z o u)) xs
+      follows-stage home s Open (λ n. at Open n a d so z o u) (λ img′. enterCopy N img′ (at Open 4 a d so z o u)) xs
       (writeStep (j .target) (write stateAt inTransfer)) shape (opens a d so z o u)
-      (onBlock (j .target) (writes a (encodeAll fs)) ++ sealing j k bytes (a + total fs)) (idle (rest N l (j .target) (a + total fs + length bytes))) 4 img
+      (onBlock (j .target) (writes a (encodeAll fs)) ++ sealing j (home .block) bytes (a + total fs))
+      (idle (landing home (j .target) (a + total fs + length bytes))) 4 img
       (sym (length-open (j .target))) q
       (follows-copy b fs Open 4 a d so z o u (applyAll s xs img) (length-all-steps s xs img ∙ q)
       (source-kept openWrites (write stateAt inTransfer) img (opens a d so z o u .inside) ∙ h) y room)

@@ -18,18 +18,19 @@ use Rattle.board.specs.declared.Stage.the-variants.{Seal, Drop, Append}
 use Rattle.board.specs.declared.Phase.the-variants.{Busy}
 use Rattle.board.specs.declared.Job.{Job}
 use Rattle.board.specs.declared.Cursor.{Cursor}
+use Rattle.board.specs.declared.Rest.{Rest}
 use Rattle.board.specs.declared.Record.{Record}
-use Rattle.board.specs.Record.{buffer, cursor, rest, idle, inStage}
+use Rattle.board.specs.Record.{buffer, cursor, landing, ending, idle, inStage}
 use Rattle.board.specs.Step.{enter, enterAppend, enterDrop, landed, onward, nextIndex, advance}
 use Rattle.board.specs.Exec.{exec}
 use Rattle.board.specs.Plan.{Follows, onBlock}
 use Rattle.board.proofs.Images.{length-all-steps}
-use Rattle.board.proofs.Pipeline.{inside-yes, Shape, same-shape, follows-step, Runs, follows-stage}
+use Rattle.board.proofs.Pipeline.{inside-yes, Shape, shape-landing, same-shape, follows-step, Runs, follows-stage}
 
 -- a record in a job
-abbrev pub jobAt : ℕ → ℕ → ℕ → ℕ → List ℕ → Job → List ℕ → Stage → Cursor → List ℕ → Record
-jobAt N l k e places j frame st c u =
-    record { phase = Busy st; blocks = N; last = l; block = k; end = e; places = places; job = j; cursor = c; unit = u; frame = frame }
+abbrev pub jobAt : Rest → List ℕ → Job → List ℕ → Stage → Cursor → List ℕ → Record
+jobAt home places j frame st c u =
+    record { phase = Busy st; rest = home; places = places; job = j; cursor = c; unit = u; frame = frame }
 
 -- the erase of the old block
 abbrev pub dropped : Job → ℕ → List Step
@@ -95,108 +96,109 @@ pub length-seal : (k time : ℕ) → length (onBlock k (sealWrites time)) ≡ ma
 unfolding writes
 length-seal k time = refl
 
-module _ {N : ℕ} (l s : ℕ) (shape : Shape N l s) where
-  -- ---- the frame appended
+-- ---- the frame appended
 
-  module _ (k e : ℕ) (places : List ℕ) (j : Job) (bytes : List ℕ) (size : j .size ≡ length bytes) (here : k < N) (room : e + length bytes ≤ s) where
-    appends : (a d so z o : ℕ) (u : List ℕ)
-        → Runs N l s Append (λ i. jobAt N l k e places j (buffer bytes) Append (cursor i a d so z o) u) (λ img. idle (rest N l k (e + length bytes)))
-        (onBlock k (writes e bytes)) (program k 0 0)
-    unfolding advance
-    appends a d so z o u =
-        record {
-          phase = λ i. refl;
-          blocks = λ i. refl;
-          last = λ i. refl;
-          acts = λ i h. buffered k e bytes i h;
-          inside = step-inside s k e bytes (shape .count) here room;
-          goes = λ i img h.
-              onward-on Append (j .size) (jobAt N l k e places j (buffer bytes) Append (cursor i a d so z o) u) (idle (rest N l k (e + j .size)))
-              (omega (arith, length-steps k e bytes));
-          ends = λ i img h.
-              onward-off Append (j .size) (jobAt N l k e places j (buffer bytes) Append (cursor i a d so z o) u) (idle (rest N l k (e + j .size)))
-              (omega (arith, length-steps k e bytes)) ∙ ap (λ (n : ℕ). idle (rest N l k (e + n))) size;
-        }
+module _ {N : ℕ} (s : ℕ) (home : Rest) (shape : Shape N home s) (places : List ℕ) (j : Job) (bytes : List ℕ) (size : j .size ≡ length bytes)
+    (here : home .block < N) (room : home .end + length bytes ≤ s) where
+  appends : (a d so z o : ℕ) (u : List ℕ)
+      → Runs N home s Append (λ i. jobAt home places j (buffer bytes) Append (cursor i a d so z o) u) (λ img. idle (ending home (home .end + length bytes)))
+      (onBlock (home .block) (writes (home .end) bytes)) (program (home .block) 0 0)
+  unfolding advance
+  appends a d so z o u =
+      record {
+        phase = λ i. refl;
+        stands = λ i. refl;
+        acts = λ i h. buffered (home .block) (home .end) bytes i h;
+        inside = step-inside s (home .block) (home .end) bytes (shape .count) here room;
+        goes = λ i img h.
+            onward-on Append (j .size) (jobAt home places j (buffer bytes) Append (cursor i a d so z o) u) (idle (ending home (home .end + j .size)))
+            (omega (arith, length-steps (home .block) (home .end) bytes));
+        ends = λ i img h.
+            onward-off Append (j .size) (jobAt home places j (buffer bytes) Append (cursor i a d so z o) u) (idle (ending home (home .end + j .size)))
+            (omega (arith, length-steps (home .block) (home .end) bytes)) ∙ ap (λ (n : ℕ). idle (ending home (home .end + n))) size;
+      }
 
-    pub follows-append : (st : Stage) (c : Cursor) (u img : List ℕ) → length img ≡ suc l
-        → Follows N (exec N) img (enterAppend (jobAt N l k e places j (buffer bytes) st c u)) (onBlock k (writes e bytes))
-        (idle (rest N l k (e + length bytes)))
-    unfolding enterAppend
-    follows-append st c u img q =
-        let r : Record = jobAt N l k e places j (buffer bytes) st c u in
-        let steps : List Step = onBlock k (writes e bytes) in
-        let done : Record = idle (rest N l k (e + length bytes)) in
-        on-test (ltb 0 (j .size))
-        (λ t.
-        subst (λ (b : Bool). Follows N (exec N) img (cond b (enter Append r) (idle (rest N l k e))) steps done) (sym t)
-        (subst (λ (xs : List Step). Follows N (exec N) img (enter Append r) xs done) (append-nil steps)
-        (follows-stage l s Append (λ i. jobAt N l k e places j (buffer bytes) Append (cursor i (c .at) (c .id) (c .source) (c .size) (c .off)) u)
-        (λ i. done) steps
-        (program k 0 0) shape (appends (c .at) (c .id) (c .source) (c .size) (c .off) u) [] done (length bytes - 1) img
-        (omega (arith, length-steps k e bytes, ltb-true 0 (j .size) t)) q refl)))
-        (λ t.
-        let n : length bytes ≡ 0 = omega (arith, ltb-false 0 (j .size) t) in
-        let z : e ≡ e + length bytes = omega arith in
-        subst (λ (b : Bool). Follows N (exec N) img (cond b (enter Append r) (idle (rest N l k e))) steps done) (sym t)
-        (subst (λ (xs : List Step). Follows N (exec N) img (idle (rest N l k e)) xs done) (sym (no-steps k e bytes n)) (ap (λ (n : ℕ). idle (rest N l k n)) z)))
+  pub follows-append : (st : Stage) (c : Cursor) (u img : List ℕ) → length img ≡ suc (home .last)
+      → Follows N (exec N) img (enterAppend (jobAt home places j (buffer bytes) st c u)) (onBlock (home .block) (writes (home .end) bytes))
+      (idle (ending home (home .end + length bytes)))
+  unfolding enterAppend
+  follows-append st c u img q =
+      let r : Record = jobAt home places j (buffer bytes) st c u in
+      let steps : List Step = onBlock (home .block) (writes (home .end) bytes) in
+      let done : Record = idle (ending home (home .end + length bytes)) in
+      on-test (ltb 0 (j .size))
+      (λ t.
+      subst (λ (b : Bool). Follows N (exec N) img (cond b (enter Append r) (idle home)) steps done) (sym t)
+      (subst (λ (xs : List Step). Follows N (exec N) img (enter Append r) xs done) (append-nil steps)
+      (follows-stage home s Append (λ i. jobAt home places j (buffer bytes) Append (cursor i (c .at) (c .id) (c .source) (c .size) (c .off)) u)
+      (λ i. done) steps
+      (program (home .block) 0 0) shape (appends (c .at) (c .id) (c .source) (c .size) (c .off) u) [] done (length bytes - 1) img
+      (omega (arith, length-steps (home .block) (home .end) bytes, ltb-true 0 (j .size) t)) q refl)))
+      (λ t.
+      let n : length bytes ≡ 0 = omega (arith, ltb-false 0 (j .size) t) in
+      let z : home .end ≡ home .end + length bytes = omega arith in
+      subst (λ (b : Bool). Follows N (exec N) img (cond b (enter Append r) (idle home)) steps done) (sym t)
+      (subst (λ (xs : List Step). Follows N (exec N) img (idle home) xs done) (sym (no-steps (home .block) (home .end) bytes n))
+      (ap (λ (n : ℕ). idle (ending home n)) z)))
 
-  -- ---- the old block erased, the new one sealed
+-- ---- the old block erased, the new one sealed
 
-  module _ (k e : ℕ) (places : List ℕ) (j : Job) (bytes : List ℕ) (size : j .size ≡ length bytes) (here : k < N) (there : j .target < N) where
-    follows-drop : (st : Stage) (i a d so z o : ℕ) (u img : List ℕ) → length img ≡ suc l → 0 < s → a + length bytes ≤ s
-        → Follows N (exec N) img (enterDrop (jobAt N l k e places j (buffer bytes) st (cursor i a d so z o) u))
-        (dropped j k ++ onBlock (j .target) (writes a bytes))
-        (idle (rest N l (j .target) (a + length bytes)))
-    unfolding enterDrop advance
-    follows-drop st i a d so z o u img q p room =
-        let r : Record = jobAt N l k e places j (buffer bytes) st (cursor i a d so z o) u in
-        let steps : List Step = onBlock (j .target) (writes a bytes) in
-        let done : Record = idle (rest N l (j .target) (a + length bytes)) in
-        let app : (s′ : Stage) (c′ : Cursor) (img′ : List ℕ) → length img′ ≡ suc l
-        → Follows N (exec N) img′ (enterAppend (jobAt N l (j .target) a places j (buffer bytes) s′ c′ u)) steps done =
-        λ s′ c′ img′ q′. follows-append (j .target) a places j bytes size there room s′ c′ u img′ q′ in
-        on-test (j .drops)
-        (λ t.
-        subst (λ (b : Bool). Follows N (exec N) img (cond b (enter Drop r) (enterAppend (landed r))) (cond b (erase k ∷ []) [] ++ steps) done) (sym t)
-        (follows-step N s Drop img (enter Drop r) (enterAppend (jobAt N l (j .target) a places j (buffer bytes) Drop (cursor 0 a d so z o) u))
-        (erase k) steps done
-        (ap (sizeIn N) q ∙ shape .size) refl (same-shape (length img) (enter Drop r) q refl) refl (inside-yes s (erase k) (shape .count) here p) refl
-        (app Drop (cursor 0 a d so z o) (apply s (erase k) img) (length-apply s (erase k) img ∙ q))))
-        (λ t.
-        subst (λ (b : Bool). Follows N (exec N) img (cond b (enter Drop r) (enterAppend (landed r))) (cond b (erase k ∷ []) [] ++ steps) done) (sym t)
-        (app st (cursor i a d so z o) img q))
+module _ {N : ℕ} (s : ℕ) (home : Rest) (shape : Shape N home s) (places : List ℕ) (j : Job) (bytes : List ℕ) (size : j .size ≡ length bytes)
+    (here : home .block < N) (there : j .target < N) where
+  follows-drop : (st : Stage) (i a d so z o : ℕ) (u img : List ℕ) → length img ≡ suc (home .last) → 0 < s → a + length bytes ≤ s
+      → Follows N (exec N) img (enterDrop (jobAt home places j (buffer bytes) st (cursor i a d so z o) u))
+      (dropped j (home .block) ++ onBlock (j .target) (writes a bytes))
+      (idle (landing home (j .target) (a + length bytes)))
+  unfolding enterDrop advance
+  follows-drop st i a d so z o u img q p room =
+      let r : Record = jobAt home places j (buffer bytes) st (cursor i a d so z o) u in
+      let steps : List Step = onBlock (j .target) (writes a bytes) in
+      let done : Record = idle (landing home (j .target) (a + length bytes)) in
+      let app : (s′ : Stage) (c′ : Cursor) (img′ : List ℕ) → length img′ ≡ suc (home .last)
+      → Follows N (exec N) img′ (enterAppend (jobAt (landing home (j .target) a) places j (buffer bytes) s′ c′ u)) steps done =
+      λ s′ c′ img′ q′. follows-append s (landing home (j .target) a) (shape-landing (j .target) a shape) places j bytes size there room s′ c′ u img′ q′ in
+      on-test (j .drops)
+      (λ t.
+      subst (λ (b : Bool). Follows N (exec N) img (cond b (enter Drop r) (enterAppend (landed r))) (cond b (erase (home .block) ∷ []) [] ++ steps) done) (sym t)
+      (follows-step N s Drop img (enter Drop r) (enterAppend (jobAt (landing home (j .target) a) places j (buffer bytes) Drop (cursor 0 a d so z o) u))
+      (erase (home .block)) steps done
+      (ap (sizeIn N) q ∙ shape .size) refl (same-shape (length img) (enter Drop r) q (sym (shape .blocks))) refl
+      (inside-yes s (erase (home .block)) (shape .count) here p) refl
+      (app Drop (cursor 0 a d so z o) (apply s (erase (home .block)) img) (length-apply s (erase (home .block)) img ∙ q))))
+      (λ t.
+      subst (λ (b : Bool). Follows N (exec N) img (cond b (enter Drop r) (enterAppend (landed r))) (cond b (erase (home .block) ∷ []) [] ++ steps) done) (sym t)
+      (app st (cursor i a d so z o) img q))
 
-    seals : (a d so z o : ℕ) (u : List ℕ) → headerLen ≤ s
-        → Runs N l s Seal (λ i. jobAt N l k e places j (buffer bytes) Seal (cursor i a d so z o) u)
-        (λ img. enterDrop (jobAt N l k e places j (buffer bytes) Seal (cursor 4 a d so z o) u)) (onBlock (j .target) (sealWrites (j .time)))
-        (writeStep (j .target) (write stateAt validData))
-    unfolding advance
-    seals a d so z o u p =
-        let r : ℕ → Record = λ i. jobAt N l k e places j (buffer bytes) Seal (cursor i a d so z o) u in
-        record {
-          phase = λ i. refl;
-          blocks = λ i. refl;
-          last = λ i. refl;
-          acts = λ i h. sym (List·getD-map (writeStep (j .target)) (sealWrites (j .time)) i (write stateAt validData));
-          inside = marks-inside s (j .target) (sealWrites (j .time)) (write stateAt validData) (shape .count) there
-              (λ i h. omega (
-                arith,
-                seal-at (j .time) i (omega
-                    (arith, length-map (sealWrites (j .time)) (writeStep (j .target)), length-seal (j .target) (j .time))),
-              ));
-          goes = λ i img h. onward-on Seal markWrites (r i) (enterDrop (r i)) (omega (arith, length-seal (j .target) (j .time)));
-          ends = λ i img h.
-              let n : i ≡ 4 = omega (arith, length-seal (j .target) (j .time)) in
-              onward-off Seal markWrites (r i) (enterDrop (r i)) (omega arith) ∙ ap (λ (m : ℕ). enterDrop (r m)) n;
-        }
+  seals : (a d so z o : ℕ) (u : List ℕ) → headerLen ≤ s
+      → Runs N home s Seal (λ i. jobAt home places j (buffer bytes) Seal (cursor i a d so z o) u)
+      (λ img. enterDrop (jobAt home places j (buffer bytes) Seal (cursor 4 a d so z o) u)) (onBlock (j .target) (sealWrites (j .time)))
+      (writeStep (j .target) (write stateAt validData))
+  unfolding advance
+  seals a d so z o u p =
+      let r : ℕ → Record = λ i. jobAt home places j (buffer bytes) Seal (cursor i a d so z o) u in
+      record {
+        phase = λ i. refl;
+        stands = λ i. refl;
+        acts = λ i h. sym (List·getD-map (writeStep (j .target)) (sealWrites (j .time)) i (write stateAt validData));
+        inside = marks-inside s (j .target) (sealWrites (j .time)) (write stateAt validData) (shape .count) there
+            (λ i h. omega (
+              arith,
+              seal-at (j .time) i (omega
+                  (arith, length-map (sealWrites (j .time)) (writeStep (j .target)), length-seal (j .target) (j .time))),
+            ));
+        goes = λ i img h. onward-on Seal markWrites (r i) (enterDrop (r i)) (omega (arith, length-seal (j .target) (j .time)));
+        ends = λ i img h.
+            let n : i ≡ 4 = omega (arith, length-seal (j .target) (j .time)) in
+            onward-off Seal markWrites (r i) (enterDrop (r i)) (omega arith) ∙ ap (λ (m : ℕ). enterDrop (r m)) n;
+      }
 
-    pub follows-seal : (st : Stage) (i a d so z o : ℕ) (u img : List ℕ) → length img ≡ suc l → headerLen ≤ s → a + length bytes ≤ s
-        → Follows N (exec N) img (enter Seal (jobAt N l k e places j (buffer bytes) st (cursor i a d so z o) u)) (sealing j k bytes a)
-        (idle (rest N l (j .target) (a + length bytes)))
-    follows-seal st i a d so z o u img q p room =
-        let steps : List Step = onBlock (j .target) (sealWrites (j .time)) in
-        follows-stage l s Seal (λ n. jobAt N l k e places j (buffer bytes) Seal (cursor n a d so z o) u)
-        (λ img′. enterDrop (jobAt N l k e places j (buffer bytes) Seal (cursor 4 a d so z o) u)) steps (writeStep (j .target) (write stateAt validData)) shape
-        (seals a d so z o u p) (dropped j k ++ onBlock (j .target) (writes a bytes)) (idle (rest N l (j .target) (a + length bytes))) 4 img
-        (sym (length-seal (j .target) (j .time))) q
-        (follows-drop Seal 4 a d so z o u (applyAll s steps img) (length-all-steps s steps img ∙ q) (omega arith) room)
+  pub follows-seal : (st : Stage) (i a d so z o : ℕ) (u img : List ℕ) → length img ≡ suc (home .last) → headerLen ≤ s → a + length bytes ≤ s
+      → Follows N (exec N) img (enter Seal (jobAt home places j (buffer bytes) st (cursor i a d so z o) u)) (sealing j (home .block) bytes a)
+      (idle (landing home (j .target) (a + length bytes)))
+  follows-seal st i a d so z o u img q p room =
+      let steps : List Step = onBlock (j .target) (sealWrites (j .time)) in
+      follows-stage home s Seal (λ n. jobAt home places j (buffer bytes) Seal (cursor n a d so z o) u)
+      (λ img′. enterDrop (jobAt home places j (buffer bytes) Seal (cursor 4 a d so z o) u)) steps (writeStep (j .target) (write stateAt validData)) shape
+      (seals a d so z o u p) (dropped j (home .block) ++ onBlock (j .target) (writes a bytes)) (idle (landing home (j .target) (a + length bytes))) 4 img
+      (sym (length-seal (j .target) (j .time))) q
+      (follows-drop Seal 4 a d so z o u (applyAll s steps img) (length-all-steps s steps img ∙ q) (omega arith) room)

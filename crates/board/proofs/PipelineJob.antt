@@ -14,8 +14,9 @@ use Rattle.journal.specs.Block.{openWrites, sealWrites, build, headerLen}
 use Rattle.journal.proofs.Loading.{Yields}
 use Rattle.board.specs.declared.Stage.the-variants.{Wipe, Open}
 use Rattle.board.specs.declared.Job.{Job}
+use Rattle.board.specs.declared.Rest.{Rest}
 use Rattle.board.specs.declared.Record.{Record}
-use Rattle.board.specs.Record.{noFrame, buffer, cursor, rest, starting, idle, busy}
+use Rattle.board.specs.Record.{noFrame, buffer, cursor, landing, ending, starting, idle, busy}
 use Rattle.board.specs.Step.{enter, enterAppend, enterOpen, enterWipe, advance}
 use Rattle.board.specs.Mount.{wipeArray}
 use Rattle.board.specs.Exec.{exec}
@@ -32,20 +33,19 @@ no-wipes (k ∷ ks) h = absurd (omega arith)
 
 -- ---- the wipes
 
-module _ (N : ℕ) (l s : ℕ) (shape : Shape N l s) (ks : List ℕ) (there : Blocks N ks) (some-room : 0 < s) (k e : ℕ) (places : List ℕ) (j : Job) (frame : List ℕ)
+module _ (N s : ℕ) (home : Rest) (shape : Shape N home s) (ks : List ℕ) (there : Blocks N ks) (some-room : 0 < s) (places : List ℕ) (j : Job) (frame : List ℕ)
     (array : j .wipe ≡ wipeArray ks) (count : j .wipes ≡ length ks) where
   abbrev wiping : ℕ → ℕ → ℕ → ℕ → ℕ → ℕ → List ℕ → Record
-  wiping a d so z o i u = jobAt N l k e places j frame Wipe (cursor i a d so z o) u
+  wiping a d so z o i u = jobAt home places j frame Wipe (cursor i a d so z o) u
 
   wipes : (a d so z o : ℕ) (u : List ℕ)
-      → Runs N l s Wipe (λ i. wiping a d so z o i u) (λ img. enterOpen (wiping a d so z o (length ks - 1) u)) (map erase ks) (erase 0)
+      → Runs N home s Wipe (λ i. wiping a d so z o i u) (λ img. enterOpen (wiping a d so z o (length ks - 1) u)) (map erase ks) (erase 0)
   unfolding advance
   wipes a d so z o u =
       let r : ℕ → Record = λ i. wiping a d so z o i u in
       record {
         phase = λ i. refl;
-        blocks = λ i. refl;
-        last = λ i. refl;
+        stands = λ i. refl;
         acts = λ i h.
             ap (λ (x : List ℕ). erase (getD x i 0)) array
             ∙ ap erase (List·getD-append ks (replicate (maxBlocks - length ks) 0) 0 i (omega (arith, length-map ks erase))) ∙ sym (List·getD-map erase ks i 0);
@@ -58,8 +58,8 @@ module _ (N : ℕ) (l s : ℕ) (shape : Shape N l s) (ks : List ℕ) (there : Bl
             onward-off Wipe (j .wipes) (r i) (enterOpen (r i)) (omega (arith, length-map ks erase)) ∙ ap (λ (m : ℕ). enterOpen (r m)) n;
       }
 
-  pub follows-wipe : (a d so z o : ℕ) (u img : List ℕ) (tail : List Step) (done : Record) → length img ≡ suc l
-      → ((n : ℕ) (img′ : List ℕ) → length img′ ≡ suc l → img′ ≡ applyAll s (map erase ks) img → Follows N (exec N) img′
+  pub follows-wipe : (a d so z o : ℕ) (u img : List ℕ) (tail : List Step) (done : Record) → length img ≡ suc (home .last)
+      → ((n : ℕ) (img′ : List ℕ) → length img′ ≡ suc (home .last) → img′ ≡ applyAll s (map erase ks) img → Follows N (exec N) img′
       (enterOpen (wiping a d so z o n u)) tail done)
       → Follows N (exec N) img (enterWipe (wiping a d so z o 0 u)) (map erase ks ++ tail) done
   unfolding enterWipe applyAll
@@ -69,7 +69,7 @@ module _ (N : ℕ) (l s : ℕ) (shape : Shape N l s) (ks : List ℕ) (there : Bl
       on-test (ltb 0 (j .wipes))
       (λ t.
       subst (λ (b : Bool). Follows N (exec N) img (cond b (enter Wipe r) (enterOpen r)) (xs ++ tail) done) (sym t)
-      (follows-stage l s Wipe (λ i. wiping a d so z o i u) (λ img. enterOpen (wiping a d so z o (length ks - 1) u)) xs (erase 0) shape
+      (follows-stage home s Wipe (λ i. wiping a d so z o i u) (λ img. enterOpen (wiping a d so z o (length ks - 1) u)) xs (erase 0) shape
       (wipes a d so z o u) tail done
       (length ks - 1) img (omega (arith, length-map ks erase, ltb-true 0 (j .wipes) t)) q
       (f (length ks - 1) (applyAll s xs img) (length-all-steps s xs img ∙ q) refl)))
@@ -97,41 +97,42 @@ built : (k time : ℕ) (fs : List Frame) (xs ys : List Step)
     (onBlock k (writes headerLen (encodeAll fs)) ++ (onBlock k (sealWrites time) ++ (xs ++ ys)))
 built k time fs xs ys = map-three (writeStep k) openWrites (writes headerLen (encodeAll fs)) (sealWrites time) xs ys
 
-module _ {N : ℕ} (img : List ℕ) (l k e : ℕ) (places : List ℕ) (j : Job) (id source : ℕ) (bytes ks : List ℕ) (long : length img ≡ suc l)
-    (some-blocks : isCount N ≡ true) (there : Blocks N ks)
-    (has : Has j ks bytes) (here : k < N) (header : headerLen ≤ sizeOf N img) where
-  shape : Shape N l (sizeOf N img)
-  shape = record { count = some-blocks; size = ap (sizeIn N) (sym long) }
+module _ {N : ℕ} (img : List ℕ) (home : Rest) (places : List ℕ) (j : Job) (id source : ℕ) (bytes ks : List ℕ) (long : length img ≡ suc (home .last))
+    (some-blocks : isCount N ≡ true) (blocks : home .blocks ≡ N) (there : Blocks N ks)
+    (has : Has j ks bytes) (here : home .block < N) (header : headerLen ≤ sizeOf N img) where
+  shape : Shape N home (sizeOf N img)
+  shape = record { count = some-blocks; blocks = blocks; size = ap (sizeIn N) (sym long) }
 
-  pub follows-staying : j .moves ≡ false → e + length bytes ≤ sizeOf N img
-      → Follows N (exec N) img (enterWipe (busy (rest N l k e) places j (starting id source) bytes)) (map erase ks ++ onBlock k (writes e bytes))
-      (idle (rest N l k (e + length bytes)))
+  pub follows-staying : j .moves ≡ false → home .end + length bytes ≤ sizeOf N img
+      → Follows N (exec N) img (enterWipe (busy home places j (starting id source) bytes)) (map erase ks ++ onBlock (home .block) (writes (home .end) bytes))
+      (idle (ending home (home .end + length bytes)))
   unfolding enterOpen
   follows-staying t room =
-      follows-wipe N l (sizeOf N img) shape ks there (omega arith) k e places j (buffer bytes) (has .wipe) (has .wipes) headerLen id source 0 0 noFrame img
-      (onBlock k (writes e bytes)) (idle (rest N l k (e + length bytes))) long
+      follows-wipe N (sizeOf N img) home shape ks there (omega arith) places j (buffer bytes) (has .wipe) (has .wipes) headerLen id source 0 0 noFrame img
+      (onBlock (home .block) (writes (home .end) bytes)) (idle (ending home (home .end + length bytes))) long
       (λ n img′ q′ p.
-      let r : Record = jobAt N l k e places j (buffer bytes) Wipe (cursor n headerLen id source 0 0) noFrame in
-      subst (λ (b : Bool). Follows N (exec N) img′ (cond b (enter Open r) (enterAppend r)) (onBlock k (writes e bytes))
-      (idle (rest N l k (e + length bytes)))) (sym t)
-      (follows-append l (sizeOf N img) shape k e places j bytes (has .size) here room Wipe (cursor n headerLen id source 0 0) noFrame img′ q′))
+      let r : Record = jobAt home places j (buffer bytes) Wipe (cursor n headerLen id source 0 0) noFrame in
+      subst (λ (b : Bool). Follows N (exec N) img′ (cond b (enter Open r) (enterAppend r)) (onBlock (home .block) (writes (home .end) bytes))
+      (idle (ending home (home .end + length bytes)))) (sym t)
+      (follows-append (sizeOf N img) home shape places j bytes (has .size) here room Wipe (cursor n headerLen id source 0 0) noFrame img′ q′))
 
-  pub follows-moving : (fs : List Frame) → j .moves ≡ true → j .target < N → (j .target ≡ k → ⊥) → headerLen + total fs + length bytes ≤ sizeOf N img
-      → Yields (block (sizeOf N img) k (applyAll (sizeOf N img) (map erase ks) img)) e places (j .since) id source fs
-      → Follows N (exec N) img (enterWipe (busy (rest N l k e) places j (starting id source) bytes))
-      (map erase ks ++ ((onBlock (j .target) (build (j .time) fs) ++ dropped j k) ++ onBlock (j .target) (writes (headerLen + total fs) bytes)))
-      (idle (rest N l (j .target) (headerLen + total fs + length bytes)))
+  pub follows-moving : (fs : List Frame) → j .moves ≡ true → j .target < N → (j .target ≡ home .block → ⊥) → headerLen + total fs + length bytes ≤ sizeOf N img
+      → Yields (block (sizeOf N img) (home .block) (applyAll (sizeOf N img) (map erase ks) img)) (home .end) places (j .since) id source fs
+      → Follows N (exec N) img (enterWipe (busy home places j (starting id source) bytes))
+      (map erase ks ++ ((onBlock (j .target) (build (j .time) fs) ++ dropped j (home .block)) ++ onBlock (j .target) (writes (headerLen + total fs) bytes)))
+      (idle (landing home (j .target) (headerLen + total fs + length bytes)))
   unfolding enterOpen
   follows-moving fs t target apart room y =
       let s : ℕ = sizeOf N img in
-      let tail : List Step = (onBlock (j .target) (build (j .time) fs) ++ dropped j k) ++ onBlock (j .target) (writes (headerLen + total fs) bytes) in
-      let done : Record = idle (rest N l (j .target) (headerLen + total fs + length bytes)) in
-      follows-wipe N l s shape ks there (omega arith) k e places j (buffer bytes) (has .wipe) (has .wipes) headerLen id source 0 0 noFrame img tail done long
+      let tail : List Step =
+      (onBlock (j .target) (build (j .time) fs) ++ dropped j (home .block)) ++ onBlock (j .target) (writes (headerLen + total fs) bytes) in
+      let done : Record = idle (landing home (j .target) (headerLen + total fs + length bytes)) in
+      follows-wipe N s home shape ks there (omega arith) places j (buffer bytes) (has .wipe) (has .wipes) headerLen id source 0 0 noFrame img tail done long
       (λ n img′ q′ p.
-      let r : Record = jobAt N l k e places j (buffer bytes) Wipe (cursor n headerLen id source 0 0) noFrame in
+      let r : Record = jobAt home places j (buffer bytes) Wipe (cursor n headerLen id source 0 0) noFrame in
       subst (λ (b : Bool). Follows N (exec N) img′ (cond b (enter Open r) (enterAppend r)) tail done) (sym t)
       (subst (λ (xs : List Step). Follows N (exec N) img′ (enter Open r) xs done)
-      (sym (built (j .target) (j .time) fs (dropped j k) (onBlock (j .target) (writes (headerLen + total fs) bytes))))
-      (follows-open l s shape k e places j bytes (has .size) here target apart header
-      (block s k (applyAll s (map erase ks) img)) fs Wipe n headerLen id source 0 0 noFrame
-      img′ q′ (ap (block s k) p) y room)))
+      (sym (built (j .target) (j .time) fs (dropped j (home .block)) (onBlock (j .target) (writes (headerLen + total fs) bytes))))
+      (follows-open s home shape places j bytes (has .size) here target apart header
+      (block s (home .block) (applyAll s (map erase ks) img)) fs Wipe n headerLen id source 0 0 noFrame
+      img′ q′ (ap (block s (home .block)) p) y room)))

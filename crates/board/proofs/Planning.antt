@@ -31,7 +31,7 @@ use Rattle.wire.specs.Message.{parse, valueIn, pageLen}
 use Rattle.board.specs.declared.Phase.{Phase}
 use Rattle.board.specs.declared.Phase.the-variants.{Unmounted, Idle, Busy}
 use Rattle.board.specs.declared.Record.{Record}
-use Rattle.board.specs.Record.{allowed, restOf, idle, Out, out, refuse, answerOf}
+use Rattle.board.specs.Record.{allowed, idle, Out, out, refuse, answerOf}
 use Rattle.board.specs.Step.{enterWipe}
 use Rattle.board.specs.Queue.{Held, held, needsRoom, appendJob, append, serve, serveChange, serveEnd, serveParsed, serveHeld, requestIn, requestOn}
 use Rattle.board.specs.Exec.{request, exec}
@@ -222,9 +222,9 @@ pub record Appends (N : ℕ) (img : List ℕ) (r : Record) (h : Host) (msg : Lis
   pub is-held : Fresh N img r holding
   pub is-asked : Means msg asked
   pub is-frame : frameFor h msg holding asked ≡ some frame
-  pub follows : Follows N (exec N) img (o .board) (framePlan N (needsRoom N img r frame) (r .block) (r .end) holding frame)
-      (framedAt N (needsRoom N img r frame) (r .last) (r .block) (r .end) holding frame)
-  pub short : length (framePlan N (needsRoom N img r frame) (r .block) (r .end) holding frame) ≤ sizeOf N img
+  pub follows : Follows N (exec N) img (o .board) (framePlan N (needsRoom N img r frame) (r .rest) holding frame)
+      (framedAt N (needsRoom N img r frame) (r .rest) holding frame)
+  pub short : length (framePlan N (needsRoom N img r frame) (r .rest) holding frame) ≤ sizeOf N img
 
 module _ {N : ℕ} {s : ℕ} {img : List ℕ} {r : Record} {h : Host} {m : List ℕ} (z : Sized N s img) (by : Bytes img) (bm : Bytes m) (y : Asked N img r h m) where
   abbrev x : Held
@@ -235,13 +235,13 @@ module _ {N : ℕ} {s : ℕ} {img : List ℕ} {r : Record} {h : Host} {m : List 
 
   holds : AsRecorded N s img r x
   holds =
-      let v : (w : Ready N s img (idle (restOf r))) × (w .time ≡ x .time) × (w .frames ≡ x .frames) = held-inv r z by (y .is-held) in
-      let w : AsRecorded N s img (idle (restOf r)) x = ready-holds z (v .0) (v .1) (v .2) in
+      let v : (w : Ready N s img (idle (r .rest))) × (w .time ≡ x .time) × (w .frames ≡ x .frames) = held-inv r z by (y .is-held) in
+      let w : AsRecorded N s img (idle (r .rest)) x = ready-holds z (v .0) (v .1) (v .2) in
       record { alone = w .alone; ends = w .ends; long = w .long; blocks = w .blocks }
 
   roomy : Roomy s (replay (x .frames))
   roomy =
-      let v : (w : Ready N s img (idle (restOf r))) × (w .time ≡ x .time) × (w .frames ≡ x .frames) = held-inv r z by (y .is-held) in
+      let v : (w : Ready N s img (idle (r .rest))) × (w .time ≡ x .time) × (w .frames ≡ x .frames) = held-inv r z by (y .is-held) in
       subst (λ (fs : List Frame). Roomy s (replay fs)) (v .2) (v .0 .room)
 
   fitting : Fitting s (replay (x .frames)) f
@@ -264,8 +264,8 @@ module _ {N : ℕ} {s : ℕ} {img : List ℕ} {r : Record} {h : Host} {m : List 
   pub frame-appends : (reply : List ℕ) → Appends N img r h m (out (answerOf (jobOf y)) img (jobOf y) reply)
   unfolding FreshExact MessagesExact
   frame-appends reply =
-      let j : Journal (block (sizeOf N img) (r .block) img) (x .frames) =
-      subst (λ (n : ℕ). Journal (block n (r .block) img) (x .frames)) (sym (size-of z)) (journal-of (holds .alone .contents)) in
+      let j : Journal (block (sizeOf N img) (r .rest .block) img) (x .frames) =
+      subst (λ (n : ℕ). Journal (block n (r .rest .block) img) (x .frames)) (sym (size-of z)) (journal-of (holds .alone .contents)) in
       record {
         holding = x;
         asked = y .asked;
@@ -275,14 +275,14 @@ module _ {N : ℕ} {s : ℕ} {img : List ℕ} {r : Record} {h : Host} {m : List 
         is-frame = y .is-frame;
         follows = follows-frame img r x f (z .count) (holds .long) (holds .blocks) (holds .alone .there) j (sym (holds .ends))
             (omega (arith, fitting .fits, size-of z));
-        short = frame-short N (needsRoom N img r f) (sizeOf N img) (r .block) (r .end) x f (omega (arith, fitting .fits, size-of z));
+        short = frame-short N (needsRoom N img r f) (sizeOf N img) (r .rest) x f (omega (arith, fitting .fits, size-of z));
       }
 
   -- the job is begun: each step lands, and it ends idle
   pub frame-begins : (answerOf (jobOf y) ≡ More) × InJob N s (StepLands s) (Ready N s) img (jobOf y)
   frame-begins =
-      let a : After N s (applyAll s (framePlan N (needsRoom N img r f) (r .block) (r .end) x f) img)
-      (framedAt N (needsRoom N img r f) (r .last) (r .block) (r .end) x f) (nextState (replay (x .frames)) f) = frame-ends holds appendable (fitting .room) in
+      let a : After N s (applyAll s (framePlan N (needsRoom N img r f) (r .rest) x f) img)
+      (framedAt N (needsRoom N img r f) (r .rest) x f) (nextState (replay (x .frames)) f) = frame-ends holds appendable (fitting .room) in
       frame-starts r x f z holds appendable (frame-lands holds appendable) (a .ready) (ready-idle (a .ready))
 
 -- ---- on any record and image

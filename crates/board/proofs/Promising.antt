@@ -16,7 +16,7 @@ use Rattle.frame.specs.declared.ObjectId.{ObjectId}
 use Rattle.frame.specs.Frame.{hostMax, Change, put, delete, Frame, change, commit, abort}
 use Rattle.frame.specs.Reader.{clean}
 use Rattle.journal.specs.Replay.{replay, lookup, isOpen}
-use Rattle.journal.specs.Block.{lastTime, headerLen}
+use Rattle.journal.specs.Block.{lastTime}
 use Rattle.journal.specs.Room.{noRoom}
 use Rattle.wire.specs.declared.Answer.the-variants.{Done, More}
 use Rattle.wire.specs.declared.Refusal.{Refusal}
@@ -30,11 +30,11 @@ use Rattle.wire.specs.Message.{parse, valueIn, pageLen}
 use Rattle.board.specs.declared.Phase.{Phase}
 use Rattle.board.specs.declared.Phase.the-variants.{Unmounted, Idle, Busy}
 use Rattle.board.specs.declared.Record.{Record}
-use Rattle.board.specs.Record.{allowed, rest, idle, Stretch, noStretch, Out, out, refuse, answerOf}
+use Rattle.board.specs.Record.{allowed, Stretch, noStretch, Out, out, refuse, answerOf}
 use Rattle.board.specs.Mount.{allFound, Store, needsTransfer, mountOn, formatOn}
 use Rattle.board.specs.Queue.{Held, held, needsRoom, placeOf, append, serve, serveChange, serveEnd, requestOn}
 use Rattle.board.specs.Exec.{Call, request, step, mount, format, exec}
-use Rattle.board.specs.Plan.{Follows, formatPlan, mountPlan, mountedAt, framePlan, framedAt}
+use Rattle.board.specs.Plan.{Follows, formatPlan, mountPlan, mountedAt, framePlan, framedAt, formattedAt}
 use Rattle.board.specs.Table.{frameFor, frameIf, Fresh, FreshExact, Exactly, linesOf}
 use Rattle.board.specs.Demand1.{Short}
 use Rattle.board.specs.Demand2.{Accepted, Mounts, OneStore}
@@ -202,7 +202,7 @@ Does N img c r plan z = Follows N (exec N) img r plan z × Short N (sizeOf N img
 -- the frame that a job appends is the one asked for
 abbrev Plans : ℕ → List ℕ → Record → Call → Out → Held → Frame → Type 0
 Plans N img r c o x f =
-    Does N img c (o .board) (framePlan N (needsRoom N img r f) (r .block) (r .end) x f) (framedAt N (needsRoom N img r f) (r .last) (r .block) (r .end) x f)
+    Does N img c (o .board) (framePlan N (needsRoom N img r f) (r .rest) x f) (framedAt N (needsRoom N img r f) (r .rest) x f)
 
 module _ (N : ℕ) (img : List ℕ) (r : Record) (by : Bytes img) where
   frame-does : (h : Host) (m reply : List ℕ) (x : Held) (q : Request) (f : Frame) → Bytes m → Fresh N img r x → Means m q → frameFor h m x q ≡ some f
@@ -232,11 +232,11 @@ module _ (N : ℕ) (img : List ℕ) (r : Record) (by : Bytes img) where
       (subst (Follows N (exec N) img (mountOn N img .board) (mountPlan N (allFound N img) (y .store))) (y .is-last) (y .follows), (y .short, y .erases)))
       (λ no. absurd (subst (λ (o : Out). Accepted (o .answer)) (mount-length N img no) a))
 
-  format-does : Accepted (formatOn N img .answer) → Does N img format (formatOn N img .board) (formatPlan N img) (idle (rest N (length img - 1) 0 headerLen))
+  format-does : Accepted (formatOn N img .answer) → Does N img format (formatOn N img .board) (formatPlan N img) (formattedAt N (length img - 1))
   format-does a =
       on-test (allowed N (length img))
       (λ ok. (
-        subst (λ (o : Out). Follows N (exec N) img (o .board) (formatPlan N img) (idle (rest N (length img - 1) 0 headerLen))) (sym (format-begins N img ok))
+        subst (λ (o : Out). Follows N (exec N) img (o .board) (formatPlan N img) (formattedAt N (length img - 1))) (sym (format-begins N img ok))
             (follows-format N img ok),
         omega (arith, length-format N img, sized-of N img ok .low, sized-of N img ok .most),
       ))

@@ -30,7 +30,7 @@ use Rattle.wire.specs.declared.Request.{Request}
 use Rattle.wire.specs.declared.Request.the-variants.{Read, Log}
 use Rattle.wire.specs.Message.{pageLen}
 use Rattle.board.specs.declared.Record.{Record}
-use Rattle.board.specs.Record.{Out, rest, idle, Stretch}
+use Rattle.board.specs.Record.{Out, idle, Stretch}
 use Rattle.board.specs.Step.{sameShape}
 use Rattle.board.specs.Mount.{endOf}
 use Rattle.board.specs.Queue.{Held, held, heldBy, heldIn, heldIf, fitsRecord, sameImage, othersBlank, stretchOf, placeOf, serve}
@@ -53,21 +53,21 @@ heldOf y = record { time = y .time; frames = y .frames }
 pub held-ready : {N : ℕ} {s : ℕ} {img : List ℕ} {r : Record} → Sized N s img → (y : Ready N s img r) → held N img r ≡ some (heldOf y)
 unfolding held
 held-ready {N} {s} {img} {r} z y =
-    ap (held N img) (y .is) ∙ ap (λ (b : Bool). heldBy N b img (idle (rest N (y .last) (y .number) (y .end)))) same
-    ∙ ap (λ (n : ℕ). heldIn n (y .end) (blockState (block n (y .number) img))) (size-of z)
-    ∙ ap (heldIn s (y .end)) (contents-valid (y .contents)) ∙ ap (λ (b : Bool). heldIf b (y .time) (y .frames)) fit
+    ap (held N img) (y .is) ∙ ap (λ (b : Bool). heldBy N b img (idle (y .stands))) same
+    ∙ ap (λ (n : ℕ). heldIn n (y .stands .end) (blockState (block n (y .stands .block) img))) (size-of z)
+    ∙ ap (heldIn s (y .stands .end)) (contents-valid (y .contents)) ∙ ap (λ (b : Bool). heldIf b (y .time) (y .frames)) fit
   where
-    same : sameImage N img (idle (rest N (y .last) (y .number) (y .end))) ≡ true
+    same : sameImage N img (idle (y .stands)) ≡ true
     same =
-        and-both (sameShape N (length img) (idle (rest N (y .last) (y .number) (y .end)))) (ltb (y .number) N && othersBlank N (y .number) img (blockNumbers N))
-        (same-shape (length img) (idle (rest N (y .last) (y .number) (y .end))) (y .long) refl)
-        (and-both (ltb (y .number) N) (othersBlank N (y .number) img (blockNumbers N)) (lt-ltb (y .number) N (y .there))
-        (blank-beside s (y .number) img (size-of z) (y .others)))
+        and-both (sameShape N (length img) (idle (y .stands))) (ltb (y .stands .block) N && othersBlank N (y .stands .block) img (blockNumbers N))
+        (same-shape (length img) (idle (y .stands)) (y .long) (sym (y .blocks)))
+        (and-both (ltb (y .stands .block) N) (othersBlank N (y .stands .block) img (blockNumbers N)) (lt-ltb (y .stands .block) N (y .there))
+        (blank-beside s (y .stands .block) img (size-of z) (y .others)))
 
-    fit : fitsRecord s (y .end) (y .frames) ≡ true
+    fit : fitsRecord s (y .stands .end) (y .frames) ≡ true
     fit =
-        and-both (eqb (endOf (y .frames)) (y .end)) (leb (claimed (replay (y .frames)) + endLen * openHosts (replay (y .frames) .pending)) s)
-        (eq-eqb (endOf (y .frames)) (y .end) (sym (y .ends)))
+        and-both (eqb (endOf (y .frames)) (y .stands .end)) (leb (claimed (replay (y .frames)) + endLen * openHosts (replay (y .frames) .pending)) s)
+        (eq-eqb (endOf (y .frames)) (y .stands .end) (sym (y .ends)))
         (le-leb (claimed (replay (y .frames)) + endLen * openHosts (replay (y .frames) .pending)) s (y .room))
 
 -- ---- reads
@@ -89,7 +89,7 @@ module _ {N : ℕ} {s : ℕ} {img : List ℕ} {r : Record} (z : Sized N s img) (
       go : (o : Option (List ℕ)) → lookup i (replay (y .frames) .objects) ≡ o → ReadSays (served (Read i)) o
       go none e = ap (λ (o : Out). o .answer) (read-none N img r reply h m (heldOf y) i e)
       go (some v) e =
-          let k : ℕ = y .number in
+          let k : ℕ = y .stands .block in
           let b : List ℕ = block s k img in
           let x : ValueStands b i (getD (placesOf (y .frames)) (i .0) 0) v = place-law b (y .frames) i v (journal-of (y .contents)) l e in
           let n : length b ≡ s = length-block s k img (sized-block k z (y .there)) in

@@ -64,8 +64,8 @@ unfolding NeedsExact
 needs-exact N img s r f h e =
     let l : length (encode f) ≡ frameLen f = length-encode f in
     let z : sizeOf N img ≡ s = ap (sizeIn N) e ∙ size-is N s h in (
-      λ t. omega (arith, ltb-true (sizeOf N img) (r .end + frameLen f) t),
-      λ h. lt-ltb (sizeOf N img) (r .end + frameLen f) (omega arith),
+      λ t. omega (arith, ltb-true (sizeOf N img) (r .rest .end + frameLen f) t),
+      λ h. lt-ltb (sizeOf N img) (r .rest .end + frameLen f) (omega arith),
     )
 
 -- ---- steps
@@ -179,14 +179,14 @@ format-exact =
 pub append-exact : AppendExact
 append-exact =
     record {
-      stays = λ N k end x f. programs k end (encode f);
-      moves = λ N k j end x f e.
+      stays = λ N z x f. programs (z .block) (z .end) (encode f);
+      moves = λ N j z x f e.
           let st : State = replay (x .frames) in
           let o : ℕ = 16 + length (encodeAll (framesOf st)) in
-          let xs : List Step = appendPlan (nextBlock N k) (claimed st) f in
+          let xs : List Step = appendPlan (nextBlock N (z .block)) (claimed st) f in
           let c : claimed st ≡ o = omega (arith, frames-total st, length-all (framesOf st)) in
-          let p : Programs (nextBlock N k) o (encode f) xs =
-          subst (λ (n : ℕ). Programs (nextBlock N k) n (encode f) xs) c (programs (nextBlock N k) (claimed st) (encode f)) in
+          let p : Programs (nextBlock N (z .block)) o (encode f) xs =
+          subst (λ (n : ℕ). Programs (nextBlock N (z .block)) n (encode f) xs) c (programs (nextBlock N (z .block)) (claimed st) (encode f)) in
           (xs, refl, subst (λ (n : ℕ). Programs n o (encode f) xs) (next-of e) p);
     }
 
@@ -237,5 +237,5 @@ mount-exact N img x =
 pub stretch-exact : StretchExact
 unfolding StretchExact
 stretch-exact N img r x c i v y h s =
-    let p = place-exact .found (block (sizeOf N img) (r .block) img) (x .time) (x .frames) c i v y h s in
-    (p .0, ap (stretchOf (r .block * sizeOf N img)) (p .1), p .2)
+    let p = place-exact .found (block (sizeOf N img) (r .rest .block) img) (x .time) (x .frames) c i v y h s in
+    (p .0, ap (stretchOf (r .rest .block * sizeOf N img)) (p .1), p .2)

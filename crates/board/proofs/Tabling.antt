@@ -242,7 +242,7 @@ module _ (N : ℕ) (img : List ℕ) (r : Record) (by : Bytes img) (ok : allowed 
                 is-held = fresh;
                 is-asked = means;
                 is-frame = e;
-                exceeds = ltb-true (sizeOf N img) (r .end + frameLen f) (and-left (needsRoom N img r f) (eqb (x .time) lastTime) t);
+                exceeds = ltb-true (sizeOf N img) (r .rest .end + frameLen f) (and-left (needsRoom N img r f) (eqb (x .time) lastTime) t);
                 last-time = eqb-true (x .time) lastTime (and-right (needsRoom N img r f) (eqb (x .time) lastTime) t);
               }
 
@@ -251,7 +251,8 @@ module _ (N : ℕ) (img : List ℕ) (r : Record) (by : Bytes img) (ok : allowed 
               ap₂ (λ (z : Held) (s : Request). worn N img r z (frameFor h msg z s)) (same-held x (y .holding) fresh (y .is-held))
               (same-request msg q (y .asked) means (y .is-asked))
               ∙ ap (worn N img r (y .holding)) (y .is-frame)
-              ∙ and-both (needsRoom N img r (y .frame)) (eqb (y .holding .time) lastTime) (lt-ltb (sizeOf N img) (r .end + frameLen (y .frame)) (y .exceeds))
+              ∙ and-both (needsRoom N img r (y .frame)) (eqb (y .holding .time) lastTime)
+              (lt-ltb (sizeOf N img) (r .rest .end + frameLen (y .frame)) (y .exceeds))
               (eq-eqb (y .holding .time) lastTime (y .last-time))
 
       held-rows : Rows (heldChecks N img r h msg reply x q)
@@ -305,10 +306,10 @@ step-test {N} img r (Busy s) e = record { yes = λ t. record { stage = s; is-bus
     shape = sameShape N (length img) r
 
     long : Bool
-    long = eqb (length img) (suc (r .last))
+    long = eqb (length img) (suc (r .rest .last))
 
     same : Bool
-    same = eqb N (r .blocks)
+    same = eqb N (r .rest .blocks)
 
     there : Bool
     there = ltb (blockOf x) N
@@ -320,7 +321,7 @@ step-test {N} img r (Busy s) e = record { yes = λ t. record { stage = s; is-bus
     fits = shape && within N (sizeOf N img) x
 
     Misfit : Stage → Type 0
-    Misfit g = (length img ≡ suc (r .last) → ⊥) ⊎ ((N ≡ r .blocks → ⊥) ⊎ Outside N img (action g r))
+    Misfit g = (length img ≡ suc (r .rest .last) → ⊥) ⊎ ((N ≡ r .rest .blocks → ⊥) ⊎ Outside N img (action g r))
 
     no-count : isCount N ≡ false → Outside N img x
     no-count c =
@@ -346,8 +347,8 @@ step-test {N} img r (Busy s) e = record { yes = λ t. record { stage = s; is-bus
         (λ e. inr (inr (inr (inr (inr (ltb-false (offsetOf x) (sizeOf N img) e)))))))
         (λ d. inr (inr (inr (inr (inl (ltb-false (blockOf x) N d)))))))
         (λ c. inr (inr (no-count c))))
-        (λ b. inr (inl (eqb-false N (r .blocks) b))))
-        (λ a. inl (eqb-false (length img) (suc (r .last)) a))
+        (λ b. inr (inl (eqb-false N (r .rest .blocks) b))))
+        (λ a. inl (eqb-false (length img) (suc (r .rest .last)) a))
 
     same-stage : {a b : Stage} → Busy a ≡ Busy b → a ≡ b
     same-stage q = cc
@@ -356,8 +357,8 @@ step-test {N} img r (Busy s) e = record { yes = λ t. record { stage = s; is-bus
     at-stage y = subst Misfit (same-stage (sym (y .is-busy) ∙ e)) (y .misfits)
 
     hit : Misfit s → fits ≡ true → ⊥
-    hit (inl f) t = f (eqb-true (length img) (suc (r .last)) (and-left long same (and-left shape (within N (sizeOf N img) x) t)))
-    hit (inr (inl f)) t = f (eqb-true N (r .blocks) (and-right long same (and-left shape (within N (sizeOf N img) x) t)))
+    hit (inl f) t = f (eqb-true (length img) (suc (r .rest .last)) (and-left long same (and-left shape (within N (sizeOf N img) x) t)))
+    hit (inr (inl f)) t = f (eqb-true N (r .rest .blocks) (and-right long same (and-left shape (within N (sizeOf N img) x) t)))
     hit (inr (inr o)) t =
         let w : within N (sizeOf N img) x ≡ true = and-right shape (within N (sizeOf N img) x) t in
         let c : isCount N ≡ true = and-left (isCount N) (there && inside) w in

@@ -22,7 +22,7 @@ use Rattle.board.specs.declared.Stage.the-variants.{Wipe, Open, Copy, Se
 use Rattle.board.specs.declared.Phase.{Phase}
 use Rattle.board.specs.declared.Phase.the-variants.{Unmounted, Idle, Busy}
 use Rattle.board.specs.declared.Record.{Record}
-use Rattle.board.specs.Record.{allowed, restOf, idle, inStage, noStretch, Out, out, refuse, answerIn, answerOf}
+use Rattle.board.specs.Record.{allowed, idle, inStage, noStretch, Out, out, refuse, answerIn, answerOf}
 use Rattle.board.specs.Step.{sameShape, enter, landed, loadOr, enterAppend, enterDrop, enterCopy, enterOpen, enterWipe, action, nextIndex}
 use Rattle.board.specs.Step.{nextByte, pastFrame, advance, stepOn}
 use Rattle.board.specs.Mount.{allFound, Store, stores, equalTimes, newest, needsTransfer, wipeList, mountJob}
@@ -54,7 +54,7 @@ up-cond false x y a c = c
 
 up-append : (r : Record) → Up (enterAppend r)
 unfolding enterAppend
-up-append r = up-cond (ltb 0 (r .job .size)) (enter Append r) (idle (restOf r)) tt tt
+up-append r = up-cond (ltb 0 (r .job .size)) (enter Append r) (idle (r .rest)) tt tt
 
 up-drop : (r : Record) → Up (enterDrop r)
 unfolding enterDrop
@@ -66,7 +66,8 @@ up-load r (some u) = tt
 
 up-copy : (N : ℕ) (img : List ℕ) (r : Record) → Up (enterCopy N img r)
 unfolding enterCopy
-up-copy N img r = up-load r (nextLoad (block (sizeOf N img) (r .block) img) (r .end) (r .places) (r .job .since) (r .cursor .id) (r .cursor .source))
+up-copy N img r =
+    up-load r (nextLoad (block (sizeOf N img) (r .rest .block) img) (r .rest .end) (r .places) (r .job .since) (r .cursor .id) (r .cursor .source))
 
 up-open : (r : Record) → Up (enterOpen r)
 unfolding enterOpen

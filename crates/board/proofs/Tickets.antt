@@ -204,8 +204,8 @@ book-steps {N} {m} p i bi w h msg reply bm e b k = go (frameFor h msg x q) refl 
     go : (f : Option Frame) → frameFor h msg x q ≡ f → Answers f w o → BookSteps N m o b h k
     go none g a = done-more (o .answer) (a .0) e
     go (some f) g a =
-        let plan : List Step = framePlan N (needsRoom N i w f) (w .block) (w .end) x f in
-        let z : Record = framedAt N (needsRoom N i w f) (w .last) (w .block) (w .end) x f in
+        let plan : List Step = framePlan N (needsRoom N i w f) (w .rest) x f in
+        let z : Record = framedAt N (needsRoom N i w f) (w .rest) x f in
         let job : Job N i w (request h msg reply) plan z = frame-job h msg reply x q f (y .is-held) (y .is-asked) g in
         plan-book (p .calls) i o plan z (p .steps i w (request h msg reply) plan z bi bm job taken) (job-idle job) e b h k
 
@@ -273,7 +273,8 @@ module _ {N : ℕ} {m : Machine} (p : Promise N m) (i : List ℕ) (bi : Bytes i)
         done = steps q a .done;
         time = idle-agrees .time;
         frames = idle-agrees .frames;
-        is-valid = ap₂ (λ (l : List ℕ) (v : Record). blockState (block (sizeOf N l) (v .block) l)) (image-after q a) (steps q a .last) ∙ idle-agrees .is-valid;
+        is-valid = ap₂ (λ (l : List ℕ) (v : Record). blockState (block (sizeOf N l) (v .rest .block) l)) (image-after q a) (steps q a .last)
+            ∙ idle-agrees .is-valid;
         objects = idle-agrees .objects;
         nothing-pending = none-pending;
       }

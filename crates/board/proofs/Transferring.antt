@@ -23,7 +23,8 @@ use Rattle.journal.proofs.Raising.{Harmless, blank-harmless, progress-harmless,
 use Rattle.journal.proofs.Building.{Lands, below-build, built, making, lands}
 use Rattle.journal.proofs.Replaying.{replay-framesOf, stands-settled}
 use Rattle.journal.proofs.Room.{frames-total, used-claimed, claimed-settled, claimed-replay}
-use Rattle.board.specs.Record.{rest, idle}
+use Rattle.board.specs.declared.Rest.{Rest}
+use Rattle.board.specs.Record.{rest, landing, idle}
 use Rattle.board.specs.Mount.{nextBlock}
 use Rattle.board.specs.Plan.{onBlock, transferPlan}
 use Rattle.board.proofs.Numbers.{next-there, next-other}
@@ -196,8 +197,8 @@ module _ {N : ℕ} {s k t : ℕ} {img : List ℕ} {fs : List Frame} {c : Tail} (
             others = blank;
           }
 
-  pub transferred : (l : ℕ) → length img ≡ suc l → Roomy s st
-      → After N s (applyAll s (transferPlan N k t st) img) (idle (rest N l (nextBlock N k) (claimed st))) st
-  transferred l e room =
-      subst (λ (n : ℕ). After N s (applyAll s (transferPlan N k t st) img) (idle (rest N l (nextBlock N k) n)) st) (frames-total st)
-      (alone-after l st transfer-alone (length-all-steps s (transferPlan N k t st) img ∙ e) (replay-framesOf st) room)
+  pub transferred : (z : Rest) → z .blocks ≡ N → length img ≡ suc (z .last) → Roomy s st
+      → After N s (applyAll s (transferPlan N k t st) img) (idle (landing z (nextBlock N k) (claimed st))) st
+  transferred z b e room =
+      subst (λ (n : ℕ). After N s (applyAll s (transferPlan N k t st) img) (idle (landing z (nextBlock N k) n)) st) (frames-total st)
+      (alone-after z st transfer-alone b (length-all-steps s (transferPlan N k t st) img ∙ e) (replay-framesOf st) room)

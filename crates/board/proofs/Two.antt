@@ -20,7 +20,7 @@ use Rattle.wire.specs.declared.Refusal.the-variants as refusal
 use Rattle.board.specs.declared.Phase.{Phase}
 use Rattle.board.specs.declared.Phase.the-variants.{Unmounted, Idle, Busy}
 use Rattle.board.specs.declared.Record.{Record}
-use Rattle.board.specs.Record.{allowed, rest, idle, Out, refuse}
+use Rattle.board.specs.Record.{allowed, landing, ending, idle, Out, refuse}
 use Rattle.board.specs.Step.{action, advance, stepped, stepIn, stepBusy, stepOn}
 use Rattle.board.specs.Mount.{nextBlock}
 use Rattle.board.specs.Queue.{Held, held, heldBy, heldIn, sameImage, othersBlank, needsRoom}
@@ -74,57 +74,57 @@ others-beside (suc zero) img = and-true (allFF (block (sizeOf 2 img) 0 img))
 others-beside (suc (suc k)) img =
     on-test (ltb (suc (suc k)) 2) (λ t. let h : suc (suc k) < 2 = ltb-true (suc (suc k)) 2 t in absurd (omega arith)) (λ t. rw t)
 
-same-two : (img : List ℕ) (r : Record) → r .blocks ≡ 2
-    → sameImage 2 img r ≡ (eqb (length img) (suc (r .last)) && (ltb (r .block) 2 && allFF (block (sizeTwo img) (beside (r .block)) img)))
+same-two : (img : List ℕ) (r : Record) → r .rest .blocks ≡ 2
+    → sameImage 2 img r ≡ (eqb (length img) (suc (r .rest .last)) && (ltb (r .rest .block) 2 && allFF (block (sizeTwo img) (beside (r .rest .block)) img)))
 same-two img r e =
-    let long : Bool = eqb (length img) (suc (r .last)) in
-    ap₂ (λ (a b : Bool). (long && a) && b) (eq-eqb 2 (r .blocks) (sym e)) (others-beside (r .block) img)
-    ∙ ap₂ (λ (a : Bool) (n : ℕ). a && (ltb (r .block) 2 && allFF (block n (beside (r .block)) img))) (and-true long) (two-sizes img)
+    let long : Bool = eqb (length img) (suc (r .rest .last)) in
+    ap₂ (λ (a b : Bool). (long && a) && b) (eq-eqb 2 (r .rest .blocks) (sym e)) (others-beside (r .rest .block) img)
+    ∙ ap₂ (λ (a : Bool) (n : ℕ). a && (ltb (r .rest .block) 2 && allFF (block n (beside (r .rest .block)) img))) (and-true long) (two-sizes img)
 
-pub two-fresh : (img : List ℕ) (r : Record) → r .blocks ≡ 2 → held 2 img r ≡ heldTwo img r
+pub two-fresh : (img : List ℕ) (r : Record) → r .rest .blocks ≡ 2 → held 2 img r ≡ heldTwo img r
 unfolding held
 two-fresh img r e =
     ap (λ (b : Bool). heldBy 2 b img r) (same-two img r e)
-    ∙ by (eqb (length img) (suc (r .last)) && (ltb (r .block) 2 && allFF (block (sizeTwo img) (beside (r .block)) img)))
+    ∙ by (eqb (length img) (suc (r .rest .last)) && (ltb (r .rest .block) 2 && allFF (block (sizeTwo img) (beside (r .rest .block)) img)))
   where
-    by : (b : Bool) → heldBy 2 b img r ≡ cond b (heldIn (sizeTwo img) (r .end) (stateTwo img (r .block))) none
-    by true = ap (λ (n : ℕ). heldIn n (r .end) (blockState (block n (r .block) img))) (two-sizes img)
+    by : (b : Bool) → heldBy 2 b img r ≡ cond b (heldIn (sizeTwo img) (r .rest .end) (stateTwo img (r .rest .block))) none
+    by true = ap (λ (n : ℕ). heldIn n (r .rest .end) (blockState (block n (r .rest .block) img))) (two-sizes img)
     by false = refl
 
 -- ---- a frame appended
 
-needs-two : (img : List ℕ) (r : Record) (f : Frame) → needsRoom 2 img r f ≡ ltb (sizeTwo img) (r .end + frameLen f)
-needs-two img r f = ap (λ (n : ℕ). ltb n (r .end + frameLen f)) (two-sizes img)
+needs-two : (img : List ℕ) (r : Record) (f : Frame) → needsRoom 2 img r f ≡ ltb (sizeTwo img) (r .rest .end + frameLen f)
+needs-two img r f = ap (λ (n : ℕ). ltb n (r .rest .end + frameLen f)) (two-sizes img)
 
-pub two-frame : (img : List ℕ) (r : Record) (x : Held) (f : Frame) → r .block < 2
-    → framePlan 2 (needsRoom 2 img r f) (r .block) (r .end) x f ≡ frameTwo img r x f
+pub two-frame : (img : List ℕ) (r : Record) (x : Held) (f : Frame) → r .rest .block < 2
+    → framePlan 2 (needsRoom 2 img r f) (r .rest) x f ≡ frameTwo img r x f
 two-frame img r x f h =
-    ap (λ (b : Bool). framePlan 2 b (r .block) (r .end) x f) (needs-two img r f) ∙ by (ltb (sizeTwo img) (r .end + frameLen f))
+    ap (λ (b : Bool). framePlan 2 b (r .rest) x f) (needs-two img r f) ∙ by (ltb (sizeTwo img) (r .rest .end + frameLen f))
   where
-    by : (b : Bool) → framePlan 2 b (r .block) (r .end) x f
-        ≡ cond b (transferTwo (r .block) (x .time) (replay (x .frames)) ++ appendPlan (beside (r .block)) (claimed (replay (x .frames))) f)
-        (appendPlan (r .block) (r .end) f)
+    by : (b : Bool) → framePlan 2 b (r .rest) x f
+        ≡ cond b (transferTwo (r .rest .block) (x .time) (replay (x .frames)) ++ appendPlan (beside (r .rest .block)) (claimed (replay (x .frames))) f)
+        (appendPlan (r .rest .block) (r .rest .end) f)
     by true =
         ap
         (λ (k : ℕ).
-        (onBlock k (build (suc (x .time)) (framesOf (replay (x .frames)))) ++ (erase (r .block) ∷ [])) ++ appendPlan k (claimed (replay (x .frames))) f)
-        (next-beside (r .block) h)
+        (onBlock k (build (suc (x .time)) (framesOf (replay (x .frames)))) ++ (erase (r .rest .block) ∷ [])) ++ appendPlan k (claimed (replay (x .frames))) f)
+        (next-beside (r .rest .block) h)
     by false = refl
 
-pub two-framed : (img : List ℕ) (r : Record) (x : Held) (f : Frame) → r .block < 2
-    → framedAt 2 (needsRoom 2 img r f) (r .last) (r .block) (r .end) x f ≡ framedTwo img r x f
+pub two-framed : (img : List ℕ) (r : Record) (x : Held) (f : Frame) → r .rest .block < 2
+    → framedAt 2 (needsRoom 2 img r f) (r .rest) x f ≡ framedTwo img r x f
 two-framed img r x f h =
-    ap (λ (b : Bool). framedAt 2 b (r .last) (r .block) (r .end) x f) (needs-two img r f) ∙ by (ltb (sizeTwo img) (r .end + frameLen f))
+    ap (λ (b : Bool). framedAt 2 b (r .rest) x f) (needs-two img r f) ∙ by (ltb (sizeTwo img) (r .rest .end + frameLen f))
   where
-    by : (b : Bool) → framedAt 2 b (r .last) (r .block) (r .end) x f
-        ≡ cond b (idle (rest 2 (r .last) (beside (r .block)) (claimed (replay (x .frames)) + frameLen f)))
-        (idle (rest 2 (r .last) (r .block) (r .end + frameLen f)))
-    by true = ap (λ (k : ℕ). idle (rest 2 (r .last) k (claimed (replay (x .frames)) + frameLen f))) (next-beside (r .block) h)
+    by : (b : Bool) → framedAt 2 b (r .rest) x f
+        ≡ cond b (idle (landing (r .rest) (beside (r .rest .block)) (claimed (replay (x .frames)) + frameLen f)))
+        (idle (ending (r .rest) (r .rest .end + frameLen f)))
+    by true = ap (λ (k : ℕ). idle (landing (r .rest) k (claimed (replay (x .frames)) + frameLen f))) (next-beside (r .rest .block) h)
     by false = refl
 
 -- ---- a step
 
-pub two-step : (img : List ℕ) (r : Record) → r .blocks ≡ 2 → stepOn 2 img r ≡ stepTwo (r .phase) img r
+pub two-step : (img : List ℕ) (r : Record) → r .rest .blocks ≡ 2 → stepOn 2 img r ≡ stepTwo (r .phase) img r
 unfolding stepOn stepBusy
 two-step img r e = go (r .phase)
   where
@@ -133,7 +133,7 @@ two-step img r e = go (r .phase)
     go Idle = refl
     go (Busy s) =
         let x : Step = action s r in
-        let long : Bool = eqb (length img) (suc (r .last)) in
+        let long : Bool = eqb (length img) (suc (r .rest .last)) in
         let goes : Bool → ℕ → Out = λ b n. cond b (stepped (apply n x img) (advance 2 s (apply n x img) r)) (refuse refusal.Stale img r []) in
-        ap₂ (λ (a : Bool) (n : ℕ). goes ((long && a) && (ltb (blockOf x) 2 && ltb (offsetOf x) n)) n) (eq-eqb 2 (r .blocks) (sym e)) (two-sizes img)
+        ap₂ (λ (a : Bool) (n : ℕ). goes ((long && a) && (ltb (blockOf x) 2 && ltb (offsetOf x) n)) n) (eq-eqb 2 (r .rest .blocks) (sym e)) (two-sizes img)
         ∙ ap (λ (a : Bool). goes (a && (ltb (blockOf x) 2 && ltb (offsetOf x) (sizeTwo img))) (sizeTwo img)) (and-true long)

@@ -14,7 +14,7 @@ use Rattle.flash.proofs.Image.{bytes-block}
 use Rattle.frame.specs.Frame.{Frame}
 use Rattle.frame.specs.Reader.{Tail}
 use Rattle.journal.specs.Replay.{State, replay, framesOf, settledOnly}
-use Rattle.journal.specs.Block.{BlockState, blank, inProgress, valid, foreign, blockState, build, headerLen, lastTime}
+use Rattle.journal.specs.Block.{BlockState, blank, inProgress, valid, foreign, blockState, build, lastTime}
 use Rattle.journal.specs.Room.{used}
 use Rattle.journal.proofs.Places.{Journal}
 use Rattle.journal.proofs.States.{valid-inv}
@@ -25,7 +25,7 @@ use Rattle.board.specs.Record.{allowed, unmounted, rest, idle, Out, refu
 use Rattle.board.specs.Mount.{endOf, Found, allFound, isBlank, Store, stores, wipeList, needsTransfer, mountAt, mountStores, mountOn}
 use Rattle.board.specs.Mount.{orderFor, formatOrder, formatOn}
 use Rattle.board.specs.Exec.{exec}
-use Rattle.board.specs.Plan.{Follows, onBlock, formatPlan, transferIf, mountPlan, mountedAt}
+use Rattle.board.specs.Plan.{Follows, onBlock, formatPlan, transferIf, mountPlan, mountedAt, formattedAt}
 use Rattle.board.specs.Two.{Choice, takes, refuses, allowedTwo, stateTwo, beside, chooseTwo, transferTwo, mountTwo, mountedTwo}
 use Rattle.board.specs.Two.{lastTwo, formatTwo, TwoBlocks}
 use Rattle.board.proofs.Images.{Sized, sized-of}
@@ -173,9 +173,9 @@ module _ (img : List ℕ) (t : allowedTwo (length img) ≡ true) where
   order-two =
       ap (λ (xs : List Found). orderFor 2 (stores xs)) (all-two img) ∙ decides img (stateTwo img) (stateTwo img 0) (stateTwo img 1) refl refl .1
 
-  two-formats : Follows 2 (exec 2) img (formatOn 2 img .board) (formatTwo img) (idle (rest 2 (length img - 1) 0 headerLen))
+  two-formats : Follows 2 (exec 2) img (formatOn 2 img .board) (formatTwo img) (formattedAt 2 (length img - 1))
   two-formats =
-      let z : Record = idle (rest 2 (length img - 1) 0 headerLen) in
+      let z : Record = formattedAt 2 (length img - 1) in
       subst (λ (ks : List ℕ). Follows 2 (exec 2) img (formatOn 2 img .board) (map erase ks ++ onBlock 0 (build 1 [])) z) order-two
       (subst (λ (o : Out). Follows 2 (exec 2) img (o .board) (formatPlan 2 img) z) (sym (format-begins 2 img ok)) (follows-format 2 img ok))
 

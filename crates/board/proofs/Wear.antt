@@ -22,6 +22,7 @@ use Rattle.journal.specs.Room.{claimed}
 use Rattle.journal.specs.Sentences.{ValidBlock}
 use Rattle.journal.proofs.Blocks.{blank-block}
 use Rattle.journal.proofs.Sentences.{states-exact}
+use Rattle.board.specs.declared.Rest.{Rest}
 use Rattle.board.specs.declared.Record.{Record}
 use Rattle.board.specs.Mount.{allFound, nextBlock, needsTransfer, Store, wipeList}
 use Rattle.board.specs.Queue.{Held, needsRoom}
@@ -143,18 +144,19 @@ module _ {N : ℕ} where
   leads-transfer : {k : ℕ} {xs : List Step} (t : ℕ) (st : State) → Level N xs k → Leads N xs (transferPlan N k t st) (nextBlock N k)
   leads-transfer {k} t st l = leads-on (nextBlock N k) (nextBlock N k) (build (suc t) (framesOf st)) (erase k ∷ []) l (λ zs h. ((k, h), level-next h))
 
-  leads-frame : {k : ℕ} {xs : List Step} (c : Bool) (n end : ℕ) (x : Held) (f : Frame) → Level N xs k
-      → Leads N xs (framePlan N c k end x f) (framedAt N c n k end x f .block)
-  leads-frame {k} {xs} true n end x f l =
+  leads-frame : {xs : List Step} (c : Bool) (z : Rest) (x : Held) (f : Frame) → Level N xs (z .block)
+      → Leads N xs (framePlan N c z x f) (framedAt N c z x f .rest .block)
+  leads-frame {xs} true z x f l =
+      let k : ℕ = z .block in
       let j : ℕ = nextBlock N k in
       let ws : List Write = build (suc (x .time)) (framesOf (replay (x .frames))) in
       let us : List Write = writes (claimed (replay (x .frames))) (encode f) in
       subst (λ (p : List Step). Leads N xs p j) (sym (append-assoc (onBlock j ws) (erase k ∷ []) (onBlock j us)))
       (leads-on j j ws (erase k ∷ onBlock j us) l (λ zs h. ((k, h), leads-writes j us (level-next h))))
-  leads-frame {k} false n end x f l = leads-writes k (writes end (encode f)) l
+  leads-frame false z x f l = leads-writes (z .block) (writes (z .end) (encode f)) l
 
   leads-mount : {xs : List Step} (c : Bool) (n : ℕ) (x : Store) (st : State) → Level N xs (x .number)
-      → Leads N xs (transferIf N c (x .number) (x .time) st) (mountedAt N c n x .block)
+      → Leads N xs (transferIf N c (x .number) (x .time) st) (mountedAt N c n x .rest .block)
   leads-mount true n x st l = leads-transfer (x .time) st l
   leads-mount false n x st l = l
 
@@ -162,14 +164,14 @@ module _ {N : ℕ} where
 
 -- one block is valid, and the steps done are level there
 abbrev pub Here : ℕ → ℕ → List ℕ → List Step → Type 0
-Here N s img xs = (q : Record) × Ready N s img q × Level N xs (q .block)
+Here N s img xs = (q : Record) × Ready N s img q × Level N xs (q .rest .block)
 
 -- a valid block of such an image is the current one
 only-valid : {N s t : ℕ} {img : List ℕ} {q : Record} {fs : List Frame} {c : Tail} (k : ℕ) → Ready N s img q → k < N
-    → blockState (block s k img) ≡ valid t fs c → q .block ≡ k
+    → blockState (block s k img) ≡ valid t fs c → q .rest .block ≡ k
 only-valid {N} {s} {t} {img} {q} k y h v =
-    on-test (eqb k (y .number)) (λ e. ap (λ (x : Record). x .block) (y .is) ∙ sym (eqb-true k (y .number) e))
-    (λ e. absurd (subst Quiet v (blank-quiet s (block s k img) (y .others k h (eqb-false k (y .number) e)))))
+    on-test (eqb k (y .stands .block)) (λ e. ap (λ (x : Record). x .rest .block) (y .is) ∙ sym (eqb-true k (y .stands .block) e))
+    (λ e. absurd (subst Quiet v (blank-quiet s (block s k img) (y .others k h (eqb-false k (y .stands .block) e)))))
 
 -- a request or a mount
 abbrev pub Begin : Call → Type 0
@@ -180,7 +182,7 @@ Begin format = ⊥
 
 module _ {N s : ℕ} {img : List ℕ} {xs : List Step} (z : Sized N s img) (by : Bytes img) (y : Here N s img xs) where
   -- it is the block that a job's sentences name
-  same-block : {t : ℕ} {fs : List Frame} {c : Tail} (k : ℕ) → k < N → ValidBlock (block (sizeOf N img) k img) t fs c → y .0 .block ≡ k
+  same-block : {t : ℕ} {fs : List Frame} {c : Tail} (k : ℕ) → k < N → ValidBlock (block (sizeOf N img) k img) t fs c → y .0 .rest .block ≡ k
   same-block {t} {fs} {c} k h v =
       let b : List ℕ = block s k img in
       let long : length b ≡ s = length-block s k img (sized-block k z h) in
@@ -189,7 +191,7 @@ module _ {N s : ℕ} {img : List ℕ} {xs : List Step} (z : Sized N s img) (by :
       (subst (λ (n : ℕ). ValidBlock (block n k img) t fs c) (size-of z) v))
 
   -- every other block is blank, so that a mount erases none
-  wipes-none : (n : ℕ) → y .0 .block ≡ n → wipeList n (allFound N img) ≡ []
+  wipes-none : (n : ℕ) → y .0 .rest .block ≡ n → wipeList n (allFound N img) ≡ []
   wipes-none n e = go (wipeList n (allFound N img)) refl
     where
       go : (ks : List ℕ) → wipeList n (allFound N img) ≡ ks → ks ≡ []
@@ -197,13 +199,13 @@ module _ {N s : ℕ} {img : List ℕ} {xs : List Step} (z : Sized N s img) (by :
       go (k ∷ ks) p =
           let i = wipes-exact N n img k .0 (subst (In k) (sym p) (inl refl)) in
           absurd (i .2 (ap (λ (m : ℕ). blockState (block m k img)) (size-of z)
-          ∙ ap blockState (y .1 .others k (i .0) (λ d. i .1 (d ∙ sym (ap (λ (x : Record). x .block) (y .1 .is)) ∙ e))) ∙ blank-block s))
+          ∙ ap blockState (y .1 .others k (i .0) (λ d. i .1 (d ∙ sym (ap (λ (x : Record). x .rest .block) (y .1 .is)) ∙ e))) ∙ blank-block s))
 
-  pub job-leads : {r : Record} {c : Call} {plan : List Step} {last : Record} → Begin c → Job N img r c plan last → Leads N xs plan (last .block)
+  pub job-leads : {r : Record} {c : Call} {plan : List Step} {last : Record} → Begin c → Job N img r c plan last → Leads N xs plan (last .rest .block)
   job-leads {r} n (frame-job h msg reply x q f v k g) =
-      leads-frame (needsRoom N img r f) (r .last) (r .end) x f (subst (Level N xs) (same-block (r .block) (v .there) (v .is-valid)) (y .2))
+      leads-frame (needsRoom N img r f) (r .rest) x f (subst (Level N xs) (same-block (r .rest .block) (v .there) (v .is-valid)) (y .2))
   job-leads n (mount-job x v) =
-      let e : y .0 .block ≡ x .number = same-block (x .number) (v .is-valid .0) (v .is-valid .1) in
+      let e : y .0 .rest .block ≡ x .number = same-block (x .number) (v .is-valid .0) (v .is-valid .1) in
       rw (wipes-none (x .number) e)
       (leads-mount (needsTransfer (x .frames) (x .tail)) (length img - 1) x _ (subst (Level N xs) e (y .2)))
   job-leads n format-job = absurd n

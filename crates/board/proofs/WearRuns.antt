@@ -9,7 +9,6 @@ use Rattle.flash.specs.Bytes.{Bytes}
 use Rattle.flash.specs.Flash.{Step, apply, applyAll, sizeOf}
 use Rattle.frame.specs.declared.Host.{Host}
 use Rattle.frame.specs.Frame.{Frame}
-use Rattle.journal.specs.Block.{headerLen}
 use Rattle.wire.specs.declared.Answer.{Answer}
 use Rattle.wire.specs.declared.Answer.the-variants.{Done, More, Refused}
 use Rattle.wire.specs.declared.Refusal.{Refusal}
@@ -17,11 +16,11 @@ use Rattle.wire.specs.declared.Request.{Request}
 use Rattle.board.specs.declared.Phase.{Phase}
 use Rattle.board.specs.declared.Phase.the-variants.{Unmounted, Idle, Busy}
 use Rattle.board.specs.declared.Record.{Record}
-use Rattle.board.specs.Record.{rest, idle, Out, out, answerIn, answerOf}
+use Rattle.board.specs.Record.{Out, out, answerIn, answerOf}
 use Rattle.board.specs.Mount.{allFound, needsTransfer, Store}
 use Rattle.board.specs.Queue.{Held, needsRoom}
 use Rattle.board.specs.Exec.{Machine, Call, request, step, mount, format, exec}
-use Rattle.board.specs.Plan.{framePlan, framedAt, mountPlan, mountedAt, formatPlan, Follows}
+use Rattle.board.specs.Plan.{framePlan, framedAt, mountPlan, mountedAt, formatPlan, Follows, formattedAt}
 use Rattle.board.specs.Table.{frameFor}
 use Rattle.board.specs.Demand1.{Rests}
 use Rattle.board.specs.Demand2.{Accepted}
@@ -48,15 +47,15 @@ use Rattle.board.proofs.Wear.{Level, level-even, Leads, Here, Begin, jo
 abbrev Going : ℕ → ℕ → Machine → List ℕ → Record → Record → List Step → List Step → Type 0
 Going N s m img r q xs [] = Rests (q .phase) × (r ≡ q) × Here N s img xs
 Going N s m img r q xs (x ∷ ys) =
-    (z : Record) × (z .phase ≡ Idle) × Follows N m img r (x ∷ ys) z × Follows N (exec N) img q (x ∷ ys) z × Leads N xs (x ∷ ys) (z .block)
+    (z : Record) × (z .phase ≡ Idle) × Follows N m img r (x ∷ ys) z × Follows N (exec N) img q (x ∷ ys) z × Leads N xs (x ∷ ys) (z .rest .block)
 
 going-plan : {N s : ℕ} {img : List ℕ} {q : Record} (m : Machine) (r : Record) (xs plan : List Step) (z : Record) → z .phase ≡ Idle → Steady N s img q
-    → Follows N m img r plan z → Follows N (exec N) img q plan z → Leads N xs plan (z .block) → Going N s m img r q xs plan
+    → Follows N m img r plan z → Follows N (exec N) img q plan z → Leads N xs plan (z .rest .block) → Going N s m img r q xs plan
 going-plan {N} {s} {img} {q} m r xs [] z i v f g l =
     let e : q .phase ≡ Idle = ap (λ (k : Record). k .phase) g ∙ i in (
       subst Rests (sym e) tt,
       f ∙ sym g,
-      (q, subst (λ (p : Phase). Sound N p s img q) e (v .phase), subst (Level N xs) (sym (ap (λ (k : Record). k .block) g)) l),
+      (q, subst (λ (p : Phase). Sound N p s img q) e (v .phase), subst (Level N xs) (sym (ap (λ (k : Record). k .rest .block) g)) l),
     )
 going-plan m r xs (x ∷ ys) z i v f g l = (z, i, f, g, l)
 
@@ -165,8 +164,8 @@ module _ {N : ℕ} {m : Machine} (p : Calls N m) (img : List ℕ) (by : Bytes im
           framed : (f : Option Frame) → frameFor g msg x k ≡ f → Answers f q (m img q c) → (after : List Step) × LeavesToDo N m img q [] c after
           framed none d (w, _) = let f : Done ≡ More = sym (number-done (m img q c .answer) w) ∙ e in let z : _≡_ {A = ℕ} 0 1 = cc in absurd (omega arith)
           framed (some f) d w = (
-            framePlan N (needsRoom N img q f) (q .block) (q .end) x f,
-            begins (framedAt N (needsRoom N img q f) (q .last) (q .block) (q .end) x f) e (frame-job g msg reply x k f (y .is-held) (y .is-asked) d),
+            framePlan N (needsRoom N img q f) (q .rest) x f,
+            begins (framedAt N (needsRoom N img q f) (q .rest) x f) e (frame-job g msg reply x k f (y .is-held) (y .is-asked) d),
           )
 
   mount-some : (after : List Step) × LeavesToDo N m img q [] mount after
@@ -195,7 +194,7 @@ abbrev Runs : ℕ → ℕ → Machine → List ℕ → Record → List Step → 
 Runs N s m img r left cs xs = ((ys : List Step) × Does N m img r left cs ys) × ((ys : List Step) → Does N m img r left cs ys → Ran N s m img r cs xs ys)
 
 going-level : {N : ℕ} (s : ℕ) (m : Machine) (img : List ℕ) (r q : Record) (xs left : List Step) → Going N s m img r q xs left → (k : ℕ) × Level N xs k
-going-level s m img r q xs [] (h, e, (k, y, l)) = (k .block, l)
+going-level s m img r q xs [] (h, e, (k, y, l)) = (k .rest .block, l)
 going-level s m img r q xs (x ∷ ys) (z, i, f, g, l) = l .0
 
 -- nothing more is called
@@ -325,7 +324,7 @@ even-wear N m pm img r cs by ok u =
     let s : ℕ = sizeOf N img in
     let z : Sized N s img = sized-of N img ok in
     let i : List ℕ = applyAll s (formatPlan N img) img in
-    let b : Record = idle (rest N (length img - 1) 0 headerLen) in
+    let b : Record = formattedAt N (length img - 1) in
     let o : Out = formatted N m img r in
     let zi : Sized N s i = sized-as i (length-all-steps s (formatPlan N img) img) z in
     let v : Steady N s i b = steady-idle zi (bytes-all-steps s (formatPlan N img) img by) b (format-ends z .ready) in

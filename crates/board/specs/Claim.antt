@@ -42,7 +42,7 @@ use Rattle.board.specs.Book.{Book, UnderWay, nothing, committing, format
 pub record IdleAgrees (N : ℕ) (img : List ℕ) (r : Record) (b : Book) : Type 0 where
   pub time : ℕ
   pub frames : List Frame
-  pub is-valid : blockState (block (sizeOf N img) (r .block) img) ≡ valid time frames clean
+  pub is-valid : blockState (block (sizeOf N img) (r .rest .block) img) ≡ valid time frames clean
   pub objects : replay frames .objects ≡ b .objects
   pub lists : (h : Host) → h .0 ≤ hostMax → listOf h (replay frames .pending) ≡ b .lists h
   -- when nothing is pending there is room for a delete and its commit

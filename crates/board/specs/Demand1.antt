@@ -48,7 +48,7 @@ Short N s plan format = length plan ≤ s
 
 -- the numbers of a record are those its fields can hold
 pub record Declared (r : Record) : Type 0 where
-  pub last : r .last < 65536
+  pub last : r .rest .last < 65536
   pub wipes : r .job .wipes < 256
   pub append : r .job .size < 256
   pub copy : r .cursor .size < 256

@@ -127,4 +127,4 @@ unfoldable pub WearExact : ℕ → Machine → Type 0
 WearExact N m =
     (img : List ℕ) (r : Record) (h : Host) (msg reply : List ℕ) (x : Held) (q : Request) (f : Frame) → Asks N img r h msg x q
     → frameFor h msg x q ≡ some f → (numberOf (m img r (request h msg reply) .answer) ≡ some 7 → ⊥)
-    → (numberOf (m img r (request h msg reply) .answer) ≡ some 6) ↔ ((sizeOf N img < r .end + frameLen f) × (x .time ≡ 4294967295))
+    → (numberOf (m img r (request h msg reply) .answer) ≡ some 6) ↔ ((sizeOf N img < r .rest .end + frameLen f) × (x .time ≡ 4294967295))

@@ -13,6 +13,7 @@ use Rattle.journal.specs.Block.{BlockState, blank, inProgress, valid, foreign, 
 use Rattle.journal.specs.Index.{placesOf}
 use Rattle.wire.specs.declared.Refusal.{Refusal}
 use Rattle.wire.specs.declared.Refusal.the-variants as refusal
+use Rattle.board.specs.declared.Rest.{Rest}
 use Rattle.board.specs.declared.Record.{Record}
 use Rattle.board.specs.Record.{allowed, noPlaces, noMarks, rest, starting, unmounted, busy, Out, refuse}
 use Rattle.board.specs.Step.{begin}
@@ -114,10 +115,14 @@ needsTransfer fs (bad e) = true
 
 -- ---- mount
 
+-- where its record stands, on an image whose length less one is l
+abbrev pub storeAt : ℕ → ℕ → Store → Rest
+storeAt N l x = rest N l (x .number) (endOf (x .frames))
+
 -- a transfer copies no pending frame: it starts to look for them at the end
 abbrev pub mountJob : ℕ → List ℕ → Store → List ℕ → Record
 mountJob N img x ks =
-    busy (rest N (length img - 1) (x .number) (endOf (x .frames))) (placesOf (x .frames))
+    busy (storeAt N (length img - 1) x) (placesOf (x .frames))
     (record {
       wipe = wipeArray ks;
       wipes = length ks;

@@ -6,12 +6,13 @@ use Prim.Native.Nat.{ℕ, suc, _+_}
 use Rattle.flash.specs.Flash.{Step, program, erase, apply, sizeOf, Write, writeStep, writes}
 use Rattle.frame.specs.Frame.{Frame, encode, frameLen}
 use Rattle.journal.specs.Replay.{State, framesOf, replay, settledOnly}
-use Rattle.journal.specs.Block.{build}
+use Rattle.journal.specs.Block.{build, headerLen}
 use Rattle.journal.specs.Room.{used, claimed}
 use Rattle.wire.specs.declared.Answer.the-variants.{More}
+use Rattle.board.specs.declared.Rest.{Rest}
 use Rattle.board.specs.declared.Record.{Record}
-use Rattle.board.specs.Record.{answerOf, out, rest, idle}
-use Rattle.board.specs.Mount.{nextBlock, endOf, formatOrder, Found, Store, wipeList, needsTransfer}
+use Rattle.board.specs.Record.{answerOf, out, rest, landing, ending, idle}
+use Rattle.board.specs.Mount.{nextBlock, formatOrder, Found, Store, storeAt, wipeList, needsTransfer}
 use Rattle.board.specs.Queue.{Held}
 use Rattle.board.specs.Exec.{Machine, step}
 
@@ -27,6 +28,10 @@ transferPlan N k time st = onBlock (nextBlock N k) (build (suc time) (framesOf s
 -- "Format: erase half 0, erase half 1, then half 0's header at time 1 in the same order": of all blocks, in K14's order
 abbrev pub formatPlan : ℕ → List ℕ → List Step
 formatPlan N img = map erase (formatOrder N img) ++ onBlock 0 (build 1 [])
+
+-- the record after it, on an image whose length less one is l
+abbrev pub formattedAt : ℕ → ℕ → Record
+formattedAt N l = idle (rest N l 0 headerLen)
 
 -- "Put, delete, commit, abort: one frame of n bytes": at an offset of block k
 abbrev pub appendPlan : ℕ → ℕ → Frame → List Step
@@ -61,16 +66,16 @@ mountPlan N xs x =
 
 -- the record after it
 abbrev pub mountedAt : ℕ → Bool → ℕ → Store → Record
-mountedAt N true l x = idle (rest N l (nextBlock N (x .number)) (used (replay (x .frames))))
-mountedAt N false l x = idle (rest N l (x .number) (endOf (x .frames)))
+mountedAt N true l x = idle (landing (storeAt N l x) (nextBlock N (x .number)) (used (replay (x .frames))))
+mountedAt N false l x = idle (storeAt N l x)
 
--- "one frame of n bytes, after a transfer if end + n exceeds S": on block k whose frames run to `end`
-abbrev pub framePlan : ℕ → Bool → ℕ → ℕ → Held → Frame → List Step
-framePlan N true k end x f =
-    transferPlan N k (x .time) (replay (x .frames)) ++ appendPlan (nextBlock N k) (claimed (replay (x .frames))) f
-framePlan N false k end x f = appendPlan k end f
+-- "one frame of n bytes, after a transfer if end + n exceeds S": where the record stands
+abbrev pub framePlan : ℕ → Bool → Rest → Held → Frame → List Step
+framePlan N true z x f =
+    transferPlan N (z .block) (x .time) (replay (x .frames)) ++ appendPlan (nextBlock N (z .block)) (claimed (replay (x .frames))) f
+framePlan N false z x f = appendPlan (z .block) (z .end) f
 
 -- the record after it
-abbrev pub framedAt : ℕ → Bool → ℕ → ℕ → ℕ → Held → Frame → Record
-framedAt N true l k end x f = idle (rest N l (nextBlock N k) (claimed (replay (x .frames)) + frameLen f))
-framedAt N false l k end x f = idle (rest N l k (end + frameLen f))
+abbrev pub framedAt : ℕ → Bool → Rest → Held → Frame → Record
+framedAt N true z x f = idle (landing z (nextBlock N (z .block)) (claimed (replay (x .frames)) + frameLen f))
+framedAt N false z x f = idle (ending z (z .end + frameLen f))

@@ -14,7 +14,6 @@ use Rattle.frame.specs.declared.ObjectId.{ObjectId}
 use Rattle.frame.specs.Frame.{Frame}
 use Rattle.frame.specs.Reader.{Tail}
 use Rattle.journal.specs.Replay.{replay}
-use Rattle.journal.specs.Block.{headerLen}
 use Rattle.journal.specs.Room.{used}
 use Rattle.journal.specs.Laws.{TakenFrom}
 use Rattle.wire.specs.declared.Answer.{Answer}
@@ -28,12 +27,12 @@ use Rattle.wire.specs.Answer.{numberOf}
 use Rattle.board.specs.declared.Phase.{Phase}
 use Rattle.board.specs.declared.Phase.the-variants.{Unmounted, Idle, Busy}
 use Rattle.board.specs.declared.Record.{Record}
-use Rattle.board.specs.Record.{rest, idle, Stretch, noStretch, Out, out}
+use Rattle.board.specs.Record.{Stretch, noStretch, Out, out}
 use Rattle.board.specs.Mount.{allFound, Store, needsTransfer}
 use Rattle.board.specs.Queue.{Held, needsRoom}
 pub use Rattle.board.specs.Exec.{Machine, Family}
 use Rattle.board.specs.Exec.{Call, request, step, mount, format}
-use Rattle.board.specs.Plan.{Follows, formatPlan, mountPlan, mountedAt, framePlan, framedAt}
+use Rattle.board.specs.Plan.{Follows, formatPlan, formattedAt, mountPlan, mountedAt, framePlan, framedAt}
 use Rattle.board.specs.Table.{frameFor, Exactly, InJob, Fresh, ValidAt, Names, linesOf}
 use Rattle.board.specs.Demand1.{Unchanged, ImageAfter, Short, Declared, Rests, EndsWithin}
 use Rattle.board.specs.Demand2.{Accepted, OneStore, UsableFrom, LandsFrom, RoomExact, WearExact}
@@ -93,7 +92,7 @@ pub record Stands (N : ℕ) (img : List ℕ) (r : Record) (x : Held) (i : Object
   pub value : List ℕ
   pub at : ℕ
   pub from : TakenFrom (x .frames) i value at
-  pub is : st ≡ record { at = r .block * sizeOf N img + at; size = length value }
+  pub is : st ≡ record { at = r .rest .block * sizeOf N img + at; size = length value }
 
 abbrev pub HandsBack : ℕ → List ℕ → Record → Held → Request → Stretch → Type 0
 HandsBack N img r x (Put i) st = st ≡ noStretch
@@ -120,14 +119,14 @@ pub record Current (N : ℕ) (img : List ℕ) (x : Store) : Type 0 where
 pub data Job (N : ℕ) (img : List ℕ) (r : Record) : Call → List Step → Record → Type 0 where
   -- "one frame of n bytes, after a transfer if end + n exceeds S"
   frame-job : (h : Host) (msg reply : List ℕ) (x : Held) (q : Request) (f : Frame) → Fresh N img r x → Means msg q → frameFor h msg x q ≡ some f
-      → Job N img r (request h msg reply) (framePlan N (needsRoom N img r f) (r .block) (r .end) x f)
-      (framedAt N (needsRoom N img r f) (r .last) (r .block) (r .end) x f)
+      → Job N img r (request h msg reply) (framePlan N (needsRoom N img r f) (r .rest) x f)
+      (framedAt N (needsRoom N img r f) (r .rest) x f)
   -- K14: "mount erases every other that isn't blank, by number". "If the current one has a torn tail or anything pending, a transfer of the
   -- settled objects alone follows."
   mount-job : (x : Store) → Current N img x
       → Job N img r mount (mountPlan N (allFound N img) x) (mountedAt N (needsTransfer (x .frames) (x .tail)) (length img - 1) x)
   -- K14: "Format erases all in number order, but the current block last if there is one, then writes block 0"
-  format-job : Job N img r format (formatPlan N img) (idle (rest N (length img - 1) 0 headerLen))
+  format-job : Job N img r format (formatPlan N img) (formattedAt N (length img - 1))
 
 -- "each step call then does the next step, and the last one answers 0 with the record idle": of a call's outcome, all by the number of
 -- step calls after it

@@ -27,7 +27,7 @@ use Rattle.wire.specs.Message.{parse, valueIn, pageLen, logPage, withPage}
 use Rattle.board.specs.declared.Phase.{Phase}
 use Rattle.board.specs.declared.Phase.the-variants.{Unmounted, Idle, Busy}
 use Rattle.board.specs.declared.Record.{Record}
-use Rattle.board.specs.Record.{allowed, noWipes, restOf, starting, busy, Stretch, noStretch, Out, out, refuse}
+use Rattle.board.specs.Record.{allowed, noWipes, starting, busy, Stretch, noStretch, Out, out, refuse}
 use Rattle.board.specs.Step.{begin, sameShape}
 use Rattle.board.specs.Mount.{nextBlock, newTime, endOf}
 
@@ -62,10 +62,10 @@ othersBlank N k img (j ∷ js) = (eqb k j || allFF (block (sizeOf N img) j img))
 
 -- "idle record: its length differs", K14: or its N, "or the image read afresh isn't: recorded half valid, .."
 abbrev pub sameImage : ℕ → List ℕ → Record → Bool
-sameImage N img r = sameShape N (length img) r && (ltb (r .block) N && othersBlank N (r .block) img (blockNumbers N))
+sameImage N img r = sameShape N (length img) r && (ltb (r .rest .block) N && othersBlank N (r .rest .block) img (blockNumbers N))
 
 abbrev pub heldBy : ℕ → Bool → List ℕ → Record → Option Held
-heldBy N true img r = heldIn (sizeOf N img) (r .end) (blockState (block (sizeOf N img) (r .block) img))
+heldBy N true img r = heldIn (sizeOf N img) (r .rest .end) (blockState (block (sizeOf N img) (r .rest .block) img))
 heldBy N false img r = none
 
 -- what the recorded block holds; none where 11 is given
@@ -75,18 +75,18 @@ held N img r = heldBy N (sameImage N img r) img r
 -- ---- a frame is appended, "after a transfer if end + n exceeds S"
 
 abbrev pub needsRoom : ℕ → List ℕ → Record → Frame → Bool
-needsRoom N img r f = ltb (sizeOf N img) (r .end + frameLen f)
+needsRoom N img r f = ltb (sizeOf N img) (r .rest .end + frameLen f)
 
 -- a transfer copies from the first id and from the header on
 abbrev pub appendJob : ℕ → List ℕ → Record → Held → Frame → Record
 appendJob N img r x f =
-    busy (restOf r) (placesOf (x .frames))
+    busy (r .rest) (placesOf (x .frames))
     (record {
       wipe = noWipes;
       wipes = 0;
       moves = needsRoom N img r f;
       drops = true;
-      target = nextBlock N (r .block);
+      target = nextBlock N (r .rest .block);
       time = newTime (needsRoom N img r f) (x .time);
       since = sinceOf (x .frames);
       size = frameLen f;
@@ -117,7 +117,7 @@ stretchOf start (some x) = record { at = start + x .at; size = length (x .bytes)
 -- "A read that finds its object hands back that stretch of the caller's own flash image": where replay took the value from
 abbrev pub placeOf : ℕ → List ℕ → Record → Held → ObjectId → Stretch
 placeOf N img r x i =
-    stretchOf (r .block * sizeOf N img) (valueAt (block (sizeOf N img) (r .block) img) i (getD (placesOf (x .frames)) (i .0) 0))
+    stretchOf (r .rest .block * sizeOf N img) (valueAt (block (sizeOf N img) (r .rest .block) img) i (getD (placesOf (x .frames)) (i .0) 0))
 
 -- "Reads see settled objects only"; 8: "no such settled object"
 abbrev pub serveRead : ℕ → List ℕ → Record → List ℕ → Held → ObjectId → Option (List ℕ) → Out

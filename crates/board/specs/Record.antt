@@ -55,19 +55,19 @@ starting id source = cursor 0 headerLen id source 0 0
 abbrev pub rest : ℕ → ℕ → ℕ → ℕ → Rest
 rest N l k e = record { blocks = N; last = l; block = k; end = e }
 
--- where a record stands
-abbrev pub restOf : Record → Rest
-restOf r = rest (r .blocks) (r .last) (r .block) (r .end)
+-- the same image with another current block, or the same block with another end
+abbrev pub landing : Rest → ℕ → ℕ → Rest
+landing z k e = record { blocks = z .blocks; last = z .last; block = k; end = e }
+
+abbrev pub ending : Rest → ℕ → Rest
+ending z e = landing z (z .block) e
 
 -- a record in no job
 abbrev pub resting : Phase → Rest → Record
 resting p z =
     record {
       phase = p;
-      blocks = z .blocks;
-      last = z .last;
-      block = z .block;
-      end = z .end;
+      rest = z;
       places = noPlaces;
       job = noJob;
       cursor = cursor 0 0 0 0 0 0;
@@ -87,10 +87,7 @@ abbrev pub busyWith : Rest → List ℕ → Job → Cursor → List ℕ → Reco
 busyWith z places j c frame =
     record {
       phase = Busy Wipe;
-      blocks = z .blocks;
-      last = z .last;
-      block = z .block;
-      end = z .end;
+      rest = z;
       places = places;
       job = j;
       cursor = c;
@@ -107,10 +104,7 @@ abbrev pub inStage : Stage → Cursor → Record → Record
 inStage s c r =
     record {
       phase = Busy s;
-      blocks = r .blocks;
-      last = r .last;
-      block = r .block;
-      end = r .end;
+      rest = r .rest;
       places = r .places;
       job = r .job;
       cursor = c;

@@ -21,6 +21,7 @@ use Rattle.journal.specs.Laws.{objectsAfter, pendingAfter, TakenFrom}
 use Rattle.wire.specs.declared.Page.{Page}
 use Rattle.wire.specs.declared.Request.the-variants.{Put, Delete, Commit, Abort, Read, Log}
 use Rattle.wire.specs.Sentences.{Means}
+use Rattle.board.specs.declared.Rest.{Rest}
 use Rattle.board.specs.declared.Record.{Record}
 use Rattle.board.specs.Mount.{Store, allFound}
 use Rattle.board.specs.Queue.{Held, needsRoom, placeOf}
@@ -50,7 +51,7 @@ pub record FrameExact : Type 0 where
 unfoldable pub NeedsExact : Type 0
 NeedsExact =
     (N : ℕ) (img : List ℕ) (s : ℕ) (r : Record) (f : Frame) → 1 ≤ N → length img ≡ N * s
-    → (needsRoom N img r f ≡ true) ↔ (s < r .end + length (encode f))
+    → (needsRoom N img r f ≡ true) ↔ (s < r .rest .end + length (encode f))
 
 -- ---- the steps of each job
 
@@ -115,9 +116,9 @@ pub record FormatExact : Type 0 where
 
 -- "one frame of n bytes, after a transfer if end + n exceeds S": at the recorded end, or in the next block past what was copied there
 pub record AppendExact : Type 0 where
-  pub stays : (N k end : ℕ) (x : Held) (f : Frame) → Programs k end (encode f) (framePlan N false k end x f)
-  pub moves : (N k j end : ℕ) (x : Held) (f : Frame) → NextOf N k j
-      → (appended : List Step) × (framePlan N true k end x f ≡ transferPlan N k (x .time) (replay (x .frames)) ++ appended)
+  pub stays : (N : ℕ) (z : Rest) (x : Held) (f : Frame) → Programs (z .block) (z .end) (encode f) (framePlan N false z x f)
+  pub moves : (N j : ℕ) (z : Rest) (x : Held) (f : Frame) → NextOf N (z .block) j
+      → (appended : List Step) × (framePlan N true z x f ≡ transferPlan N (z .block) (x .time) (replay (x .frames)) ++ appended)
       × Programs j (16 + length (encodeAll (framesOf (replay (x .frames))))) (encode f) appended
 
 -- a number stands in a list
@@ -146,5 +147,5 @@ MountExact = (N : ℕ) (img : List ℕ) (x : Store) → MountSteps N img x
 unfoldable pub StretchExact : Type 0
 StretchExact =
     (N : ℕ) (img : List ℕ) (r : Record) (x : Held) (c : Tail) (i : ObjectId) (v : List ℕ)
-    → ValidBlock (block (sizeOf N img) (r .block) img) (x .time) (x .frames) c → i .0 ≤ 255 → lookup i (objectsAfter (x .frames)) ≡ some v
-    → (at : ℕ) × (placeOf N img r x i ≡ record { at = r .block * sizeOf N img + at; size = length v }) × TakenFrom (x .frames) i v at
+    → ValidBlock (block (sizeOf N img) (r .rest .block) img) (x .time) (x .frames) c → i .0 ≤ 255 → lookup i (objectsAfter (x .frames)) ≡ some v
+    → (at : ℕ) × (placeOf N img r x i ≡ record { at = r .rest .block * sizeOf N img + at; size = length v }) × TakenFrom (x .frames) i v at

@@ -17,7 +17,7 @@ use Rattle.board.specs.declared.Phase.{Phase}
 use Rattle.board.specs.declared.Phase.the-variants.{Unmounted, Idle, Busy}
 use Rattle.board.specs.declared.Cursor.{Cursor}
 use Rattle.board.specs.declared.Record.{Record}
-use Rattle.board.specs.Record.{rest, restOf, idle, cursor, inStage, buffer, Out, out, refuse, answerOf}
+use Rattle.board.specs.Record.{landing, ending, idle, cursor, inStage, buffer, Out, out, refuse, answerOf}
 
 -- ---- entering a stage: the first from there on that has a step; the record idle where none has
 
@@ -31,17 +31,14 @@ enter s r = inStage s (first (r .cursor)) r
 
 -- the frame to append, if there is one; else the job is over
 unfoldable pub enterAppend : Record → Record
-enterAppend r = cond (ltb 0 (r .job .size)) (enter Append r) (idle (restOf r))
+enterAppend r = cond (ltb 0 (r .job .size)) (enter Append r) (idle (r .rest))
 
 -- the block that was made is the current one
 abbrev pub landed : Record → Record
 landed r =
     record {
       phase = r .phase;
-      blocks = r .blocks;
-      last = r .last;
-      block = r .job .target;
-      end = r .cursor .at;
+      rest = landing (r .rest) (r .job .target) (r .cursor .at);
       places = r .places;
       job = r .job;
       cursor = r .cursor;
@@ -58,10 +55,7 @@ abbrev pub loaded : Record → Load → Record
 loaded r u =
     record {
       phase = Busy Copy;
-      blocks = r .blocks;
-      last = r .last;
-      block = r .block;
-      end = r .end;
+      rest = r .rest;
       places = r .places;
       job = r .job;
       cursor = cursor 0 (r .cursor .at) (u .id) (u .source) (frameLen (u .frame)) 0;
@@ -76,7 +70,7 @@ loadOr r none = enter Seal r
 -- "settled frames by rising id, pending frames in their order": the next one, read from the current block
 unfoldable pub enterCopy : ℕ → List ℕ → Record → Record
 enterCopy N img r =
-    loadOr r (nextLoad (block (sizeOf N img) (r .block) img) (r .end) (r .places) (r .job .since) (r .cursor .id) (r .cursor .source))
+    loadOr r (nextLoad (block (sizeOf N img) (r .rest .block) img) (r .rest .end) (r .places) (r .job .since) (r .cursor .id) (r .cursor .source))
 
 -- a job that makes no block goes on to its frame
 unfoldable pub enterOpen : Record → Record
@@ -98,8 +92,8 @@ action Wipe r = erase (getD (r .job .wipe) (r .cursor .index) 0)
 action Open r = writeStep (r .job .target) (openWrite (r .cursor .index))
 action Copy r = program (r .job .target) (r .cursor .at) (getD (r .unit) (r .cursor .off) 0)
 action Seal r = writeStep (r .job .target) (sealWrite (r .job .time) (r .cursor .index))
-action Drop r = erase (r .block)
-action Append r = program (r .block) (r .end + r .cursor .index) (getD (r .frame) (r .cursor .index) 0)
+action Drop r = erase (r .rest .block)
+action Append r = program (r .rest .block) (r .rest .end + r .cursor .index) (getD (r .frame) (r .cursor .index) 0)
 
 -- the cursor past a step, and past a byte that is copied
 abbrev pub nextIndex : Cursor → Cursor
@@ -125,7 +119,7 @@ advance N Copy img r =
     (enterCopy N img (inStage Copy (pastFrame (r .cursor)) r))
 advance N Seal img r = onward Seal markWrites r (enterDrop r)
 advance N Drop img r = enterAppend (landed r)
-advance N Append img r = onward Append (r .job .size) r (idle (rest (r .blocks) (r .last) (r .block) (r .end + r .job .size)))
+advance N Append img r = onward Append (r .job .size) r (idle (ending (r .rest) (r .rest .end + r .job .size)))
 
 -- "the last one answers 0 with the record idle", any other more
 abbrev pub stepped : List ℕ → Record → Out
@@ -133,7 +127,7 @@ stepped img r = out (answerOf r) img r []
 
 -- the record is of an image of N blocks and so many bytes. K14: "A record of another N gets 11, in a job's step too."
 abbrev pub sameShape : ℕ → ℕ → Record → Bool
-sameShape N n r = eqb n (suc (r .last)) && eqb N (r .blocks)
+sameShape N n r = eqb n (suc (r .rest .last)) && eqb N (r .rest .blocks)
 
 -- "in a job, 11 is given exactly if the image length isn't the record's or the job's next place lies outside it"
 unfoldable pub stepBusy : ℕ → Stage → List ℕ → Record → Out

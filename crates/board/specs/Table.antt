@@ -85,12 +85,12 @@ InJob (Busy s) = Unit {0}
 -- 11: "idle record: its length differs, or the image read afresh isn't: recorded half valid, its last whole frame (or the header, if
 -- none) ending exactly at the recorded end with only 0xFF after it, other half blank, C + 6·open at most S"; K14: "A record of another N gets 11"
 pub record Fresh (N : ℕ) (img : List ℕ) (r : Record) (x : Held) : Type 0 where
-  pub length-is : length img ≡ suc (r .last)
-  pub blocks-are : N ≡ r .blocks
-  pub there : r .block < N
-  pub is-valid : ValidBlock (block (sizeOf N img) (r .block) img) (x .time) (x .frames) clean
-  pub ends : headerLen + total (x .frames) ≡ r .end
-  pub others-blank : (j : ℕ) → j < N → (j ≡ r .block → ⊥) → BlankBlock (block (sizeOf N img) j img)
+  pub length-is : length img ≡ suc (r .rest .last)
+  pub blocks-are : N ≡ r .rest .blocks
+  pub there : r .rest .block < N
+  pub is-valid : ValidBlock (block (sizeOf N img) (r .rest .block) img) (x .time) (x .frames) clean
+  pub ends : headerLen + total (x .frames) ≡ r .rest .end
+  pub others-blank : (j : ℕ) → j < N → (j ≡ r .rest .block → ⊥) → BlankBlock (block (sizeOf N img) j img)
   pub room : claimed (replay (x .frames)) + 6 * openHosts (replay (x .frames) .pending) ≤ sizeOf N img
 
 -- `held` finds exactly this
@@ -131,7 +131,7 @@ pub record Worn (N : ℕ) (img : List ℕ) (r : Record) (h : Host) (msg : List �
   pub is-held : Fresh N img r holding
   pub is-asked : Means msg asked
   pub is-frame : frameFor h msg holding asked ≡ some frame
-  pub exceeds : sizeOf N img < r .end + frameLen frame
+  pub exceeds : sizeOf N img < r .rest .end + frameLen frame
   pub last-time : holding .time ≡ 4294967295
 
 abbrev pub requestLines : ℕ → List ℕ → Record → Host → List ℕ → List ℕ → List Line
@@ -210,7 +210,7 @@ Outside N img x = (N < 2) ⊎ ((16 < N) ⊎ ((N ≤ blockOf x) ⊎ (sizeOf N img
 pub record Misplaced (N : ℕ) (img : List ℕ) (r : Record) : Type 0 where
   pub stage : Stage
   pub is-busy : r .phase ≡ Busy stage
-  pub misfits : (length img ≡ suc (r .last) → ⊥) ⊎ ((N ≡ r .blocks → ⊥) ⊎ Outside N img (action stage r))
+  pub misfits : (length img ≡ suc (r .rest .last) → ⊥) ⊎ ((N ≡ r .rest .blocks → ⊥) ⊎ Outside N img (action stage r))
 
 -- ---- the table
 

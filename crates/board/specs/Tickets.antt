@@ -74,7 +74,7 @@ pub record Restores (N : ℕ) (m : Machine) (o : Out) (os : List Object) : Type 
   pub done : numberOf (stepsOn m count o .answer) ≡ some 0
   pub time : ℕ
   pub frames : List Frame
-  pub is-valid : let z : Out = stepsOn m count o in blockState (block (sizeOf N (z .image)) (z .board .block) (z .image)) ≡ valid time frames clean
+  pub is-valid : let z : Out = stepsOn m count o in blockState (block (sizeOf N (z .image)) (z .board .rest .block) (z .image)) ≡ valid time frames clean
   pub objects : replay frames .objects ≡ os
   pub nothing-pending : replay frames .pending ≡ []
 

@@ -22,7 +22,7 @@ use Rattle.wire.specs.declared.Refusal.the-variants as refusal
 use Rattle.board.specs.declared.Phase.{Phase}
 use Rattle.board.specs.declared.Phase.the-variants.{Unmounted, Idle, Busy}
 use Rattle.board.specs.declared.Record.{Record}
-use Rattle.board.specs.Record.{allowed, unmounted, rest, idle, Out, out, refuse}
+use Rattle.board.specs.Record.{allowed, unmounted, rest, landing, ending, idle, Out, out, refuse}
 use Rattle.board.specs.Step.{action, advance, stepped, stepOn}
 use Rattle.board.specs.Mount.{isBlank, needsTransfer, tiedTimes, endOf, mountOn, formatOn}
 use Rattle.board.specs.Queue.{Held, held, heldIn, needsRoom}
@@ -105,20 +105,20 @@ formatTwo img = let k : ℕ = lastTwo (stateTwo img 0) (stateTwo img 1) in erase
 -- 11: "its length differs, or the image read afresh isn't: recorded half valid, .., other half blank, .."
 abbrev pub heldTwo : List ℕ → Record → Option Held
 heldTwo img r =
-    cond (eqb (length img) (suc (r .last)) && (ltb (r .block) 2 && allFF (block (sizeTwo img) (beside (r .block)) img)))
-    (heldIn (sizeTwo img) (r .end) (stateTwo img (r .block))) none
+    cond (eqb (length img) (suc (r .rest .last)) && (ltb (r .rest .block) 2 && allFF (block (sizeTwo img) (beside (r .rest .block)) img)))
+    (heldIn (sizeTwo img) (r .rest .end) (stateTwo img (r .rest .block))) none
 
 -- "one frame of n bytes, after a transfer if end + n exceeds S"
 abbrev pub frameTwo : List ℕ → Record → Held → Frame → List Step
 frameTwo img r x f =
-    cond (ltb (sizeTwo img) (r .end + frameLen f))
-    (transferTwo (r .block) (x .time) (replay (x .frames)) ++ appendPlan (beside (r .block)) (claimed (replay (x .frames))) f)
-    (appendPlan (r .block) (r .end) f)
+    cond (ltb (sizeTwo img) (r .rest .end + frameLen f))
+    (transferTwo (r .rest .block) (x .time) (replay (x .frames)) ++ appendPlan (beside (r .rest .block)) (claimed (replay (x .frames))) f)
+    (appendPlan (r .rest .block) (r .rest .end) f)
 
 abbrev pub framedTwo : List ℕ → Record → Held → Frame → Record
 framedTwo img r x f =
-    cond (ltb (sizeTwo img) (r .end + frameLen f)) (idle (rest 2 (r .last) (beside (r .block)) (claimed (replay (x .frames)) + frameLen f)))
-    (idle (rest 2 (r .last) (r .block) (r .end + frameLen f)))
+    cond (ltb (sizeTwo img) (r .rest .end + frameLen f)) (idle (landing (r .rest) (beside (r .rest .block)) (claimed (replay (x .frames)) + frameLen f)))
+    (idle (ending (r .rest) (r .rest .end + frameLen f)))
 
 -- "in a job, 11 is given exactly if the image length isn't the record's or the job's next place lies outside it"
 abbrev pub stepTwo : Phase → List ℕ → Record → Out
@@ -127,7 +127,7 @@ stepTwo Idle img r = out Done img r []
 stepTwo (Busy s) img r =
     let x : Step = action s r in
     let after : List ℕ = apply (sizeTwo img) x img in
-    cond (eqb (length img) (suc (r .last)) && (ltb (blockOf x) 2 && ltb (offsetOf x) (sizeTwo img))) (stepped after (advance 2 s after r))
+    cond (eqb (length img) (suc (r .rest .last)) && (ltb (blockOf x) 2 && ltb (offsetOf x) (sizeTwo img))) (stepped after (advance 2 s after r))
     (refuse refusal.Stale img r [])
 
 -- ---- "N = 2 gives the same bytes and steps as before": those of the two halves above
@@ -147,9 +147,9 @@ pub record TwoBlocks : Type 0 where
   pub format-steps : (img : List ℕ) → allowedTwo (length img) ≡ true
       → Follows 2 (exec 2) img (formatOn 2 img .board) (formatTwo img) (idle (rest 2 (length img - 1) 0 headerLen))
   -- requests: the image read afresh, the steps, the record after them
-  pub fresh : (img : List ℕ) (r : Record) → r .blocks ≡ 2 → held 2 img r ≡ heldTwo img r
-  pub frame-steps : (img : List ℕ) (r : Record) (x : Held) (f : Frame) → r .block < 2
-      → framePlan 2 (needsRoom 2 img r f) (r .block) (r .end) x f ≡ frameTwo img r x f
-  pub frame-record : (img : List ℕ) (r : Record) (x : Held) (f : Frame) → r .block < 2
-      → framedAt 2 (needsRoom 2 img r f) (r .last) (r .block) (r .end) x f ≡ framedTwo img r x f
-  pub steps : (img : List ℕ) (r : Record) → r .blocks ≡ 2 → stepOn 2 img r ≡ stepTwo (r .phase) img r
+  pub fresh : (img : List ℕ) (r : Record) → r .rest .blocks ≡ 2 → held 2 img r ≡ heldTwo img r
+  pub frame-steps : (img : List ℕ) (r : Record) (x : Held) (f : Frame) → r .rest .block < 2
+      → framePlan 2 (needsRoom 2 img r f) (r .rest) x f ≡ frameTwo img r x f
+  pub frame-record : (img : List ℕ) (r : Record) (x : Held) (f : Frame) → r .rest .block < 2
+      → framedAt 2 (needsRoom 2 img r f) (r .rest) x f ≡ framedTwo img r x f
+  pub steps : (img : List ℕ) (r : Record) → r .rest .blocks ≡ 2 → stepOn 2 img r ≡ stepTwo (r .phase) img r

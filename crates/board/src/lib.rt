@@ -49,7 +49,7 @@ pub struct Cursor {
     pub off: u8,
 }
 
-// Where a record in no job stands: a further field of such a record goes here.
+// Where a record stands, in a job or not: a further field of a record in no job goes here.
 pub struct Rest {
     // how many blocks the image has, and its length less one
     pub blocks: u8,
@@ -62,12 +62,7 @@ pub struct Rest {
 // The board record.
 pub struct Record {
     pub phase: Phase,
-    // how many blocks the image has, and its length less one
-    pub blocks: u8,
-    pub last: u16,
-    // the current block, and where its whole frames end
-    pub block: u8,
-    pub end: u16,
+    pub rest: Rest,
     // for every id the offset of its settled value's frame, 0 for none; only while a job runs
     pub places: [u16; 256],
     pub job: Job,

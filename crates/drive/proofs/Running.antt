@@ -135,16 +135,16 @@ module _ (N : ℕ) (img : List ℕ) (q : Record) (c : Cursor) (size : ℕ) (is :
       ∙ ap (λ (k : ℕ). stepped (programAt img (place k) byte) (inStage Copy (nextByte c) q)) is
 
   -- a byte of the frame to append, but its last
-  append-byte : q .block < N → q .end + c .index < size → suc (c .index) < q .job .size
+  append-byte : q .rest .block < N → q .rest .end + c .index < size → suc (c .index) < q .job .size
       → stepOn N img (inStage Append c q)
-      ≡ stepped (programAt img (q .block * size + (q .end + c .index)) (getD (q .frame) (c .index) 0)) (inStage Append (nextIndex c) q)
+      ≡ stepped (programAt img (q .rest .block * size + (q .rest .end + c .index)) (getD (q .frame) (c .index) 0)) (inStage Append (nextIndex c) q)
   append-byte t a o =
       let byte : ℕ = getD (q .frame) (c .index) 0 in
-      let place : ℕ → ℕ = λ k. q .block * k + (q .end + c .index) in
+      let place : ℕ → ℕ = λ k. q .rest .block * k + (q .rest .end + c .index) in
       let x : Step = action Append (inStage Append c q) in
       step-goes N img (inStage Append c q) Append refl
       (and-both (sameShape N (length img) q) (within N (sizeOf N img) x) same
-      (inside-yes (sizeOf N img) x count t (subst (λ (k : ℕ). q .end + c .index < k) (sym is) a)))
+      (inside-yes (sizeOf N img) x count t (subst (λ (k : ℕ). q .rest .end + c .index < k) (sym is) a)))
       ∙ ap (stepped (programAt img (place (sizeOf N img)) byte))
       (append-next N (programAt img (place (sizeOf N img)) byte) (inStage Append c q) (lt-ltb _ _ o))
       ∙ ap (λ (k : ℕ). stepped (programAt img (place k) byte) (inStage Append (nextIndex c) q)) is

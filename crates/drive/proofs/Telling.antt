@@ -13,7 +13,6 @@ use Rattle.board.specs.declared.Phase.the-variants.{Busy}
 use Rattle.board.specs.declared.Record.{Record}
 use Rattle.board.specs.declared.Rest.{Rest}
 use Rattle.board.specs.declared.Next.the-variants as next
-use Rattle.board.specs.Record.{restOf}
 use Rattle.board.specs.Step.{action}
 use Rattle.board.specs.Drive.{placed, nextIn}
 use Rattle.job.specs.Code.{takes}
@@ -23,11 +22,11 @@ use Rattle.drive.specs.Code.{Short}
 
 -- ---- what is next in a job, by whether its place lies in the image
 
-pub next-is : (N len : ℕ) (r : Record) (st : Stage) (x : Step) (b : Bool) → x ≡ action st r → takes N len (restOf r) x ≡ b
+pub next-is : (N len : ℕ) (r : Record) (st : Stage) (x : Step) (b : Bool) → x ≡ action st r → takes N len (r .rest) x ≡ b
     → cond b (placed (sizeIn N len) x) (next.Refused refusal.Stale) ≡ nextIn N (Busy st) len r
 next-is N len r st x b e t =
     ap (λ (c : Bool). cond c (placed (sizeIn N len) x) (next.Refused refusal.Stale)) (sym t)
-    ∙ ap (λ (y : Step). cond (takes N len (restOf r) y) (placed (sizeIn N len) y) (next.Refused refusal.Stale)) e
+    ∙ ap (λ (y : Step). cond (takes N len (r .rest) y) (placed (sizeIn N len) y) (next.Refused refusal.Stale)) e
 
 -- ---- bytes programmed
 

@@ -60,10 +60,10 @@ load-leaves b x n fits small e z bytes end made size p u f =
 
 -- ---- what was found is what the record has next
 
-module _ (N : ℕ) (img : List ℕ) (r : Record) (b : List ℕ) (same : b ≡ block (sizeOf N img) (r .block) img) (x : Fetched)
-    (found : loadOf b x ≡ nextLoad b (r .end) (r .places) (r .job .since) (r .cursor .id) (r .cursor .source)) where
+module _ (N : ℕ) (img : List ℕ) (r : Record) (b : List ℕ) (same : b ≡ block (sizeOf N img) (r .rest .block) img) (x : Fetched)
+    (found : loadOf b x ≡ nextLoad b (r .rest .end) (r .places) (r .job .since) (r .cursor .id) (r .cursor .source)) where
   next-is : nextFor N img r ≡ loadOf b x
-  next-is = ap (λ (y : List ℕ). nextLoad y (r .end) (r .places) (r .job .since) (r .cursor .id) (r .cursor .source)) (sym same) ∙ sym found
+  next-is = ap (λ (y : List ℕ). nextLoad y (r .rest .end) (r .places) (r .job .since) (r .cursor .id) (r .cursor .source)) (sym same) ∙ sym found
 
   pub frame-found : (y : Fetch) → x ≡ fetched.Frame y → loaded r (loadIn b y) ≡ enterCopy N img r
   frame-found y e = sym (copy-loads N img r (loadIn b y) (next-is ∙ ap (loadOf b) e))

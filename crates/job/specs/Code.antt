@@ -17,7 +17,7 @@ use Rattle.board.specs.declared.Job.{Job}
 use Rattle.board.specs.declared.Cursor.{Cursor}
 use Rattle.board.specs.declared.Record.{Record}
 use Rattle.board.specs.declared.Rest.{Rest}
-use Rattle.board.specs.Record.{noPlaces, noFrame, noJob, cursor, rest, restOf, idle, answerOf, Out}
+use Rattle.board.specs.Record.{noPlaces, noFrame, noJob, cursor, landing, idle, answerOf, Out}
 use Rattle.board.specs.Step.{first, enterCopy, sameShape}
 use Rattle.job.specs.declared.Outcome.{Outcome}
 use Rattle.job.specs.declared.records.Numbers.{Numbers}
@@ -29,16 +29,13 @@ use Rattle.job.specs.declared.actions.Action.the-variants as action
 -- ---- a record apart
 
 abbrev pub numbersOf : Record → Numbers
-numbersOf r = record { phase = r .phase; rest = restOf r; job = r .job; cursor = r .cursor }
+numbersOf r = record { phase = r .phase; rest = r .rest; job = r .job; cursor = r .cursor }
 
 abbrev pub assemble : Numbers → List ℕ → List ℕ → List ℕ → Record
 assemble n places unit frame =
     record {
       phase = n .phase;
-      blocks = n .rest .blocks;
-      last = n .rest .last;
-      block = n .rest .block;
-      end = n .rest .end;
+      rest = n .rest;
       places = places;
       job = n .job;
       cursor = n .cursor;
@@ -51,10 +48,7 @@ abbrev pub placed : Phase → Rest → Record → Record
 placed p z r =
     record {
       phase = p;
-      blocks = z .blocks;
-      last = z .last;
-      block = z .block;
-      end = z .end;
+      rest = z;
       places = r .places;
       job = r .job;
       cursor = r .cursor;
@@ -113,7 +107,7 @@ goAppend n = cond (ltb 0 (n .job .size)) (going Append (first (n .cursor)) n) (o
 -- the block that was made is the current one
 abbrev pub landedOn : Numbers → Numbers
 landedOn n =
-    record { phase = n .phase; rest = rest (n .rest .blocks) (n .rest .last) (n .job .target) (n .cursor .at); job = n .job; cursor = n .cursor }
+    record { phase = n .phase; rest = landing (n .rest) (n .job .target) (n .cursor .at); job = n .job; cursor = n .cursor }
 
 unfoldable pub goDrop : Numbers → Stepped
 goDrop n = cond (n .job .drops) (going Drop (first (n .cursor)) n) (goAppend (landedOn n))

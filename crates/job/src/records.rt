@@ -1,6 +1,7 @@
 // Board records: each kind is built in one place. A record's numbers go by themselves, its arrays apart.
 ghost use mathlib.Core.Path.{_≡_};
-ghost use Rattle.board.specs.Record.{noPlaces, noFrame, noJob, cursor, starting, restOf, resting, unmounted, idle};
+ghost use Rattle.board.specs.Record.{noPlaces, noFrame, noJob, cursor, starting, resting, unmounted, idle};
+ghost use Rattle.board.specs.Record as boards;
 ghost use Rattle.board.specs.Step.{first};
 ghost use Rattle.job.specs.Code.{numbersOf, assemble, going, atRest, over, staying, leaves, outcome, goAppend, landedOn, goDrop, goOpen, goWipe, begins};
 use crate::Outcome;
@@ -78,14 +79,14 @@ fn no_cursor() -> Cursor
 }
 
 // Where a record stands.
-pub fn rest_of(board: Record) -> Rest
-    ensures { λ r. ⌜ r ≡ restOf board ⌝ }
+pub fn standing(blocks: u8, last: u16, block: u8, end: u16) -> Rest
+    ensures { λ r. ⌜ r ≡ boards.rest blocks last block end ⌝ }
 {
     Rest {
-        blocks: board.blocks,
-        last: board.last,
-        block: board.block,
-        end: board.end,
+        blocks: blocks,
+        last: last,
+        block: block,
+        end: end,
     }
 }
 
@@ -105,13 +106,7 @@ fn resting(phase: Phase, rest: Rest) -> Record
 pub fn unmounted() -> Record
     ensures { λ r. ⌜ r ≡ unmounted ⌝ }
 {
-    let rest = Rest {
-        blocks: 0,
-        last: 0,
-        block: 0,
-        end: 0,
-    };
-    resting(Phase::Unmounted, rest)
+    resting(Phase::Unmounted, standing(0, 0, 0, 0))
 }
 
 pub fn idle(rest: Rest) -> Record
@@ -140,11 +135,12 @@ pub fn numbers_of(board: Record) -> Numbers
     ensures { λ r. ⌜ r ≡ numbersOf board ⌝ }
 {
     let phase = board.phase;
+    let rest = board.rest;
     let job = board.job;
     let cursor = board.cursor;
     Numbers {
         phase: phase,
-        rest: rest_of(board),
+        rest: rest,
         job: job,
         cursor: cursor,
     }
@@ -164,10 +160,7 @@ pub fn assemble(
     let cursor = n.cursor;
     Record {
         phase: phase,
-        blocks: rest.blocks,
-        last: rest.last,
-        block: rest.block,
-        end: rest.end,
+        rest: rest,
         places: places,
         job: job,
         cursor: cursor,

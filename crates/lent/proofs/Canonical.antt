@@ -148,10 +148,7 @@ module _ (b : List ℕ) (size : length b ≡ recordSize) (ok : (i : ℕ) → get
       sym (take-at p (cursorBytes (r .cursor) ++ uf) cursorAt n) ∙ ap (take cursorAt) (sym (parts (cursorBytes (r .cursor) ++ uf)) ∙ own) in
       (λ i. recordBytes (record {
         phase = sym e i;
-        blocks = r .blocks;
-        last = r .last;
-        block = r .block;
-        end = r .end;
+        rest = r .rest;
         places = r .places;
         job = r .job;
         cursor = c;

@@ -10,18 +10,19 @@ use Rattle.flash.specs.Bytes.{Bytes, u32le}
 use Rattle.flash.proofs.Blank.{bytes-append, le16-u16, le32-u32}
 use Rattle.flash.specs.Flash.{maxBlocks}
 use Rattle.frame.specs.Frame.{maxFrame}
-use Rattle.wire.specs.Message.{wordAt}
 use Rattle.board.specs.declared.Stage.the-variants.{Wipe, Open, Copy, Seal, Drop, Append}
 use Rattle.board.specs.declared.Phase.{Phase}
 use Rattle.board.specs.declared.Phase.the-variants.{Unmounted, Idle, Busy}
 use Rattle.board.specs.declared.Job.{Job}
 use Rattle.board.specs.declared.Cursor.{Cursor}
+use Rattle.board.specs.declared.Rest.{Rest}
 use Rattle.board.specs.declared.Record.{Record}
-use Rattle.lent.specs.Layout.{cursorSize, sinceSize, planSize, lastAt, blockAt, endAt, blocksAt, placesAt, placesSize, jobAt, planAt}
+use Rattle.board.specs.Record.{rest}
+use Rattle.lent.specs.Layout.{cursorSize, sinceSize, planSize, placesAt, placesSize, jobAt, planAt}
 use Rattle.lent.specs.Layout.{cursorAt, unitAt, frameAt, recordSize}
-use Rattle.lent.specs.Layout.{phaseIn, bytesIn, wordsIn, flagIn, planIn, jobIn, cursorIn, recordIn}
-use Rattle.lent.specs.Layout.{phaseByte, wordBytes, flagByte, headBytes, planBytes, cursorBytes, recordBytes}
-use Rattle.lent.specs.Layout.{Words, JobFits, CursorFits, RecordFits, BytesBack}
+use Rattle.lent.specs.Layout.{phaseIn, bytesIn, wordsIn, flagIn, planIn, jobIn, cursorIn, restIn, recordIn}
+use Rattle.lent.specs.Layout.{phaseByte, wordBytes, flagByte, restBytes, headBytes, planBytes, cursorBytes, recordBytes}
+use Rattle.lent.specs.Layout.{Words, JobFits, CursorFits, RestFits, RecordFits, BytesBack}
 use Rattle.lent.proofs.Words.{length-word-bytes, length-plan}
 
 -- ---- the parts, read back
@@ -73,12 +74,15 @@ job-back j x p q =
     ∙ ap (planIn (j .wipe)) (drop-at (j .wipe) rest maxBlocks p)
     ∙ plan-back j x q
 
-parts-back : (l : List ℕ) (r : Record) → phaseIn (getD l 0 0) ≡ r .phase → wordAt l lastAt ≡ r .last → getD l blockAt 0 ≡ r .block
-    → wordAt l endAt ≡ r .end → getD l blocksAt 0 ≡ r .blocks → wordsIn 256 (drop placesAt l) ≡ r .places → jobIn (drop jobAt l) ≡ r .job
+rest-back : (p : ℕ) (z : Rest) (x : List ℕ) → restIn (p ∷ (restBytes z ++ x)) ≡ z
+rest-back p z x = λ i. rest (z .blocks) (le16-u16 (z .last) i) (z .block) (le16-u16 (z .end) i)
+
+parts-back : (l : List ℕ) (r : Record) → phaseIn (getD l 0 0) ≡ r .phase → restIn l ≡ r .rest
+    → wordsIn 256 (drop placesAt l) ≡ r .places → jobIn (drop jobAt l) ≡ r .job
     → cursorIn (drop cursorAt l) ≡ r .cursor → bytesIn maxFrame (drop unitAt l) ≡ r .unit → bytesIn maxFrame (drop frameAt l) ≡ r .frame → recordIn l ≡ r
 unfolding recordIn
-parts-back l r p a b e n w j c u f =
-    λ i. record { phase = p i; blocks = n i; last = a i; block = b i; end = e i; places = w i; job = j i; cursor = c i; unit = u i; frame = f i }
+parts-back l r p z w j c u f =
+    λ i. record { phase = p i; rest = z i; places = w i; job = j i; cursor = c i; unit = u i; frame = f i }
 
 -- ---- the parts are bytes
 
@@ -101,11 +105,14 @@ unfolding wordBytes
 word-bytes [] h = tt
 word-bytes (w ∷ ws) h = (omega arith, (omega arith, word-bytes ws (h .1)))
 
-head-bytes : (r : Record) → RecordFits r → Bytes (headBytes r)
-head-bytes r h =
+rest-bytes : (z : Rest) → RestFits z → Bytes (restBytes z)
+rest-bytes z h =
     let a = h .last in
     let b = h .end in
-    (phase-byte (r .phase), (omega arith, (omega arith, (h .block, (omega arith, (omega arith, (h .blocks, tt)))))))
+    (omega arith, (omega arith, (h .block, (omega arith, (omega arith, (h .blocks, tt))))))
+
+head-bytes : (r : Record) → RecordFits r → Bytes (headBytes r)
+head-bytes r h = (phase-byte (r .phase), rest-bytes (r .rest) (h .rest))
 
 cursor-bytes : (c : Cursor) → CursorFits c → Bytes (cursorBytes c)
 cursor-bytes c h = (h .index, (omega arith, (omega arith, (omega arith, (omega arith, (omega arith, (omega arith, (h .size, (h .off, tt)))))))))
@@ -184,7 +191,8 @@ module _ (r : Record) (h : Sized r) where
   pub record-back : recordIn (recordBytes r) ≡ r
   unfolding recordBytes
   record-back =
-      parts-back (recordBytes r) r (phase-back (r .phase)) (le16-u16 (r .last)) refl (le16-u16 (r .end)) refl
+      parts-back (recordBytes r) r (phase-back (r .phase))
+      (rest-back (phaseByte (r .phase)) (r .rest) (W r ++ EPCUF r))
       (words-back (r .places) (EPCUF r) 256 (h .places))
       (ap jobIn from-job ∙ job-back (r .job) (CUF r) (h .wipe) (h .since))
       (ap cursorIn from-cursor ∙ cursor-back (r .cursor) (UF r))

@@ -15,8 +15,9 @@ use Rattle.board.specs.declared.Phase.{Phase}
 use Rattle.board.specs.declared.Phase.the-variants.{Unmounted, Idle, Busy}
 use Rattle.board.specs.declared.Job.{Job}
 use Rattle.board.specs.declared.Cursor.{Cursor}
+use Rattle.board.specs.declared.Rest.{Rest}
 use Rattle.board.specs.declared.Record.{Record}
-use Rattle.board.specs.Record.{cursor}
+use Rattle.board.specs.Record.{cursor, rest}
 
 -- ---- places: each field stands right after the one before it
 
@@ -145,14 +146,14 @@ jobIn l = planIn (bytesIn maxBlocks l) (drop maxBlocks l)
 abbrev pub cursorIn : List ℕ → Cursor
 cursorIn l = cursor (getD l 0 0) (wordAt l madeAt) (wordAt l idAt) (wordAt l sourceAt) (getD l copyAt 0) (getD l offAt 0)
 
+abbrev pub restIn : List ℕ → Rest
+restIn l = rest (getD l blocksAt 0) (wordAt l lastAt) (getD l blockAt 0) (wordAt l endAt)
+
 unfoldable pub recordIn : List ℕ → Record
 recordIn l =
     record {
       phase = phaseIn (getD l 0 0);
-      blocks = getD l blocksAt 0;
-      last = wordAt l lastAt;
-      block = getD l blockAt 0;
-      end = wordAt l endAt;
+      rest = restIn l;
       places = wordsIn 256 (drop placesAt l);
       job = jobIn (drop jobAt l);
       cursor = cursorIn (drop cursorAt l);
@@ -184,9 +185,12 @@ wordBytes (w ∷ ws) = u16le w ++ wordBytes ws
 abbrev pub flagByte : Bool → ℕ
 flagByte b = cond b 1 0
 
--- the bytes before the places, of the plan, of the cursor, and of the whole record: each field where it is read
+-- the bytes of where a record stands, of all before the places, of the plan, of the cursor, and of the whole record: each field where it is read
+abbrev pub restBytes : Rest → List ℕ
+restBytes z = u16le (z .last) ++ (z .block ∷ (u16le (z .end) ++ (z .blocks ∷ [])))
+
 abbrev pub headBytes : Record → List ℕ
-headBytes r = phaseByte (r .phase) ∷ (u16le (r .last) ++ (r .block ∷ (u16le (r .end) ++ (r .blocks ∷ []))))
+headBytes r = phaseByte (r .phase) ∷ restBytes (r .rest)
 
 abbrev pub planBytes : Job → List ℕ
 planBytes j =
@@ -233,11 +237,14 @@ pub record CursorFits (c : Cursor) : Type 0 where
   pub size : c .size < 256
   pub off : c .off < 256
 
+pub record RestFits (z : Rest) : Type 0 where
+  pub blocks : z .blocks < 256
+  pub last : z .last < 65536
+  pub block : z .block < 256
+  pub end : z .end < 65536
+
 pub record RecordFits (r : Record) : Type 0 where
-  pub blocks : r .blocks < 256
-  pub last : r .last < 65536
-  pub block : r .block < 256
-  pub end : r .end < 65536
+  pub rest : RestFits (r .rest)
   pub places : SomeWords 256 (r .places)
   pub job : JobFits (r .job)
   pub cursor : CursorFits (r .cursor)

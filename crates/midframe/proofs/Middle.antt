@@ -90,19 +90,19 @@ module _ (b : List ℕ) where
   unfolding recordIn
   phase-is p e = ap phaseIn e
 
-  last-is : (n : ℕ) → n ≡ suc (wordAt b lastAt) → n ≡ suc (recordIn b .last)
+  last-is : (n : ℕ) → n ≡ suc (wordAt b lastAt) → n ≡ suc (recordIn b .rest .last)
   unfolding recordIn
   last-is n e = e
 
-  count-is : (N : ℕ) → N ≡ getD b blocksAt 0 → N ≡ recordIn b .blocks
+  count-is : (N : ℕ) → N ≡ getD b blocksAt 0 → N ≡ recordIn b .rest .blocks
   unfolding recordIn
   count-is N e = e
 
-  block-is : recordIn b .block ≡ getD b blockAt 0
+  block-is : recordIn b .rest .block ≡ getD b blockAt 0
   unfolding recordIn
   block-is = refl
 
-  end-is : recordIn b .end ≡ wordAt b endAt
+  end-is : recordIn b .rest .end ≡ wordAt b endAt
   unfolding recordIn
   end-is = refl
 
@@ -172,8 +172,8 @@ module _ (N : ℕ) (img b img′ b′ : List ℕ) (size : length b ≡ recordSiz
         let p = phase-is b 7 (s .phase) in
         let fi : c .index ≡ index = index-is b ∙ sym ei in
         let fn : r .job .size ≡ n = append-is b ∙ sym en in
-        let fk : r .block ≡ block = block-is b ∙ sym ek in
-        let fa : r .end + c .index ≡ at = (λ j. end-is b j + fi j) ∙ sym ea in
+        let fk : r .rest .block ≡ block = block-is b ∙ sym ek in
+        let fa : r .rest .end + c .index ≡ at = (λ j. end-is b j + fi j) ∙ sym ea in
         let a : action Append r ≡ program block at v = (λ j. program (fk j) (fa j) (getD (r .frame) (fi j) 0)) ∙ ap (program block at) (sym ev) in
         let ei′ : index + 1 ≡ suc (c .index) = omega (arith, fi) in
         goes-on Append (nextIndex c) (program block at v) p (same 7 s) a w (λ after. append-on N r after (omega (arith, fi, fn))) i

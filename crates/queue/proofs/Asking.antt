@@ -29,7 +29,7 @@ use Rattle.wire.specs.Message.{parse}
 use Rattle.board.specs.declared.Phase.{Phase}
 use Rattle.board.specs.declared.Phase.the-variants.{Unmounted, Idle, Busy}
 use Rattle.board.specs.declared.Record.{Record}
-use Rattle.board.specs.Record.{allowed, restOf, refuse}
+use Rattle.board.specs.Record.{allowed, refuse}
 use Rattle.board.specs.Mount.{endOf}
 use Rattle.board.specs.Queue.{Held, sameImage, held, heldBy, heldIn, heldIf, fitsRecord, serve, requestOn}
 use Rattle.board.proofs.Outcomes.{request-length, request-host, request-busy, request-unmounted, request-stale, request-malformed, request-served}
@@ -66,17 +66,17 @@ same-why : (a why : Refusal) → gate.Shut a ≡ gate.Shut why → a ≡ why
 same-why a why e = cc
 
 module _ (N : ℕ) (img : List ℕ) (r : Record) (h : Host) where
-  phase-open : (p : Phase) → gateIn N p img (restOf r) ≡ gate.Open → (p ≡ Idle) × (sameImage N img r ≡ true)
+  phase-open : (p : Phase) → gateIn N p img (r .rest) ≡ gate.Open → (p ≡ Idle) × (sameImage N img r ≡ true)
   phase-open (Busy s) e = absurd (open-not refusal.Busy e)
   phase-open Unmounted e = absurd (open-not refusal.NoStore e)
   phase-open Idle e = (refl, open-if (sameImage N img r) e)
 
-  pub passed : gateOf N img (r .phase) (restOf r) h ≡ gate.Open → Passed N img r h
+  pub passed : gateOf N img (r .phase) (r .rest) h ≡ gate.Open → Passed N img r h
   unfolding gateOf
   passed e =
       on-test (allowed N (length img))
       (λ a. on-test (leb (h .0) hostMax)
-      (λ b. let q : gateIn N (r .phase) img (restOf r) ≡ gate.Open = rw (a, b, gateOf) at e in
+      (λ b. let q : gateIn N (r .phase) img (r .rest) ≡ gate.Open = rw (a, b, gateOf) at e in
       let p = phase-open (r .phase) q in record { ok = a; host = b; idle = p .0; same = p .1 })
       (λ b. absurd (open-not refusal.HostRange (rw (a, b, gateOf) at e))))
       (λ a. absurd (open-not refusal.ImageLength (rw (a, gateOf) at e)))
@@ -85,7 +85,7 @@ module _ (N : ℕ) (img : List ℕ) (r : Record) (h : Host) where
     abbrev Refuses : Refusal → Type 0
     Refuses n = requestOn N img r reply h m ≡ refuse n img r reply
 
-    phase-shut : (p : Phase) → r .phase ≡ p → allowed N (length img) ≡ true → leb (h .0) hostMax ≡ true → gateIn N p img (restOf r) ≡ gate.Shut why
+    phase-shut : (p : Phase) → r .phase ≡ p → allowed N (length img) ≡ true → leb (h .0) hostMax ≡ true → gateIn N p img (r .rest) ≡ gate.Shut why
         → Refuses why
     unfolding held
     phase-shut (Busy s) i a b e = rw (← same-why refusal.Busy why e) (request-busy N img r reply h m a b s i)
@@ -94,7 +94,7 @@ module _ (N : ℕ) (img : List ℕ) (r : Record) (h : Host) where
         let p : (sameImage N img r ≡ false) × (refusal.Stale ≡ why) = shut-if (sameImage N img r) why e in
         rw (← p .1) (request-stale N img r reply h m a b i (ap (λ (t : Bool). heldBy N t img r) (p .0)))
 
-    pub shut : gateOf N img (r .phase) (restOf r) h ≡ gate.Shut why → Refuses why
+    pub shut : gateOf N img (r .phase) (r .rest) h ≡ gate.Shut why → Refuses why
     unfolding gateOf
     shut e =
         on-test (allowed N (length img))
@@ -159,32 +159,32 @@ module _ (size end : ℕ) (s : Survey) (m : List ℕ) where
 pub record Served (N : ℕ) (img : List ℕ) (r : Record) (h : Host) (m : List ℕ) (q : Request) : Type 0 where
   pub held : Held
   pub serves : (reply : List ℕ) → requestOn N img r reply h m ≡ serve N img r reply h m held q
-  pub contents : Contents (block (sizeOf N img) (r .block) img) (held .time) (held .frames) clean
-  pub state : blockState (block (sizeOf N img) (r .block) img) ≡ valid (held .time) (held .frames) clean
+  pub contents : Contents (block (sizeOf N img) (r .rest .block) img) (held .time) (held .frames) clean
+  pub state : blockState (block (sizeOf N img) (r .rest .block) img) ≡ valid (held .time) (held .frames) clean
   pub says : parse m ≡ Is q
 
 module _ (N : ℕ) (img : List ℕ) (r : Record) (h : Host) (m : List ℕ) (y : Bytes img) (p : Passed N img r h) where
-  held-is : (o : Option Held) → heldIn (sizeOf N img) (r .end) (blockState (block (sizeOf N img) (r .block) img)) ≡ o → held N img r ≡ o
+  held-is : (o : Option Held) → heldIn (sizeOf N img) (r .rest .end) (blockState (block (sizeOf N img) (r .rest .block) img)) ≡ o → held N img r ≡ o
   unfolding held
   held-is o e = ap (λ (t : Bool). heldBy N t img r) (p .same) ∙ e
 
-  looks : (headerLen ≤ length (block (sizeOf N img) (r .block) img)) × (length (block (sizeOf N img) (r .block) img) ≤ 32768)
-  looks = block-fits N img (r .block) (p .ok) (same-inside N img r (p .same))
+  looks : (headerLen ≤ length (block (sizeOf N img) (r .rest .block) img)) × (length (block (sizeOf N img) (r .rest .block) img) ≤ 32768)
+  looks = block-fits N img (r .rest .block) (p .ok) (same-inside N img r (p .same))
 
   -- what a survey of the block tells of
-  pub state-is : {size : ℕ} (b : List ℕ) → size ≡ sizeOf N img → b ≡ block size (r .block) img
-      → stateOf b ≡ blockState (block (sizeOf N img) (r .block) img)
+  pub state-is : {size : ℕ} (b : List ℕ) → size ≡ sizeOf N img → b ≡ block size (r .rest .block) img
+      → stateOf b ≡ blockState (block (sizeOf N img) (r .rest .block) img)
   state-is b e q =
-      let z : b ≡ block (sizeOf N img) (r .block) img = q ∙ ap (λ (s : ℕ). block s (r .block) img) e in
+      let z : b ≡ block (sizeOf N img) (r .rest .block) img = q ∙ ap (λ (s : ℕ). block s (r .rest .block) img) e in
       half-fits b (rw z looks) ∙ ap blockState z
 
-  here-holds : Holding (sizeOf N img) (r .end) (blockState (block (sizeOf N img) (r .block) img))
+  here-holds : Holding (sizeOf N img) (r .rest .end) (blockState (block (sizeOf N img) (r .rest .block) img))
   here-holds =
-      holding (sizeOf N img) (r .end) (block (sizeOf N img) (r .block) img) (blockState (block (sizeOf N img) (r .block) img)) refl
-      (bytes-block (sizeOf N img) (r .block) img y) (looks .0)
+      holding (sizeOf N img) (r .rest .end) (block (sizeOf N img) (r .rest .block) img) (blockState (block (sizeOf N img) (r .rest .block) img)) refl
+      (bytes-block (sizeOf N img) (r .rest .block) img y) (looks .0)
 
   abbrev Asks : Ask → Type 0
-  Asks a = askOf (sizeOf N img) (r .end) (surveyOf (blockState (block (sizeOf N img) (r .block) img))) m ≡ a
+  Asks a = askOf (sizeOf N img) (r .rest .end) (surveyOf (blockState (block (sizeOf N img) (r .rest .block) img))) m ≡ a
 
   pub unheard : (reply : List ℕ) (why : Refusal) → Asks (ask.Refused why) → requestOn N img r reply h m ≡ refuse why img r reply
   unfolding askOf
@@ -197,7 +197,7 @@ module _ (N : ℕ) (img : List ℕ) (r : Record) (h : Host) (m : List ℕ) (y : 
           let n : refusal.Malformed ≡ why = cc in
           rw (← n) (request-malformed N img r reply h m (p .ok) (p .host) x (p .idle) w s)
 
-      go : Holding (sizeOf N img) (r .end) (blockState (block (sizeOf N img) (r .block) img)) → requestOn N img r reply h m ≡ refuse why img r reply
+      go : Holding (sizeOf N img) (r .rest .end) (blockState (block (sizeOf N img) (r .rest .block) img)) → requestOn N img r reply h m ≡ refuse why img r reply
       go (holds-not f n) =
           let z : ask.Refused refusal.Stale ≡ ask.Refused why = rw (f, askOf) at e in
           let w : refusal.Stale ≡ why = cc in
@@ -208,20 +208,20 @@ module _ (N : ℕ) (img : List ℕ) (r : Record) (h : Host) (m : List ℕ) (y : 
   unfolding askOf
   heard q e = go here-holds
     where
-      on-message : (x : Held) (s : Parsed) → held N img r ≡ some x → blockState (block (sizeOf N img) (r .block) img) ≡ valid (x .time) (x .frames) clean
+      on-message : (x : Held) (s : Parsed) → held N img r ≡ some x → blockState (block (sizeOf N img) (r .rest .block) img) ≡ valid (x .time) (x .frames) clean
           → parse m ≡ s → askIf s ≡ ask.Serve q → Served N img r h m q
       on-message x (Is a) w v s z =
           let n : a ≡ q = cc in
           record {
             held = x;
             serves = λ reply. request-served N img r reply h m (p .ok) (p .host) x q (p .idle) w (s ∙ ap Is n);
-            contents = valid-inv (block (sizeOf N img) (r .block) img) (x .time) (x .frames) clean
-                (bytes-block (sizeOf N img) (r .block) img y) (looks .0) v;
+            contents = valid-inv (block (sizeOf N img) (r .rest .block) img) (x .time) (x .frames) clean
+                (bytes-block (sizeOf N img) (r .rest .block) img y) (looks .0) v;
             state = v;
             says = s ∙ ap Is n;
           }
       on-message x Malformed w v s z = absurd (serve-not q refusal.Malformed z)
 
-      go : Holding (sizeOf N img) (r .end) (blockState (block (sizeOf N img) (r .block) img)) → Served N img r h m q
+      go : Holding (sizeOf N img) (r .rest .end) (blockState (block (sizeOf N img) (r .rest .block) img)) → Served N img r h m q
       go (holds-not f n) = absurd (serve-not q refusal.Stale (rw (f, askOf) at e))
       go (holds-so x f n v) = on-message x (parse m) (held-is (some x) n) v refl (rw (f, askOf) at e)

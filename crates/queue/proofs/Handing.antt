@@ -38,7 +38,7 @@ use Rattle.wire.specs.declared.Request.the-variants.{Put, Delete, Commit, Abort
 use Rattle.wire.specs.Message.{parse, valueIn, pageLen}
 use Rattle.wire.proofs.Parsing.{InRange, in-range}
 use Rattle.board.specs.declared.Record.{Record}
-use Rattle.board.specs.Record.{allowed, noPlaces, noFrame, restOf, Stretch, noStretch, Out, refuse}
+use Rattle.board.specs.Record.{allowed, noPlaces, noFrame, Stretch, noStretch, Out, refuse}
 use Rattle.board.proofs.Images.{Sized, sized-of, sized-block}
 use Rattle.board.specs.Queue.{Held, needsRoom, append, serveChange, serveEnd, serveRead, serveLog, serve, stretchOf, requestOn, readOn}
 use Rattle.queue.specs.declared.requests.Ask.{Ask}
@@ -59,7 +59,7 @@ stretch-of start none = refl
 stretch-of start (some x) = refl
 
 module _ (N : ℕ) (img : List ℕ) (r : Record) (reply : List ℕ) (h : Host) (x : Held)
-    (w : Contents (block (sizeOf N img) (r .block) img) (x .time) (x .frames) clean) where
+    (w : Contents (block (sizeOf N img) (r .rest .block) img) (x .time) (x .frames) clean) where
   cond-none : (t : Bool) (a b : Out) → a .stretch ≡ noStretch → b .stretch ≡ noStretch → cond t a b .stretch ≡ noStretch
   cond-none true a b p q = p
   cond-none false a b p q = q
@@ -82,16 +82,17 @@ module _ (N : ℕ) (img : List ℕ) (r : Record) (reply : List ℕ) (h : Host) (
 
   read-found : (i : ObjectId) → i .0 ≤ idMax → (o : Option (List ℕ)) → lookup i (replay (x .frames) .objects) ≡ o
       → serveRead N img r reply x i o .stretch
-      ≡ stretchAt (r .block * sizeOf N img) (foundFor (block (sizeOf N img) (r .block) img) (placesOf (x .frames)) (Read i))
+      ≡ stretchAt (r .rest .block * sizeOf N img) (foundFor (block (sizeOf N img) (r .rest .block) img) (placesOf (x .frames)) (Read i))
   read-found i l none e =
-      let q : valueAt (block (sizeOf N img) (r .block) img) i (getD (placesOf (x .frames)) (i .0) 0) ≡ none =
-      ap (valueAt (block (sizeOf N img) (r .block) img) i) (no-place (x .frames) i l e) ∙ value-zero (block (sizeOf N img) (r .block) img) i in
-      sym (ap (λ (v : Option Value). stretchAt (r .block * sizeOf N img) (foundOf v)) q)
-  read-found i l (some v) e = stretch-of (r .block * sizeOf N img)
-      (valueAt (block (sizeOf N img) (r .block) img) i (getD (placesOf (x .frames)) (i .0) 0))
+      let q : valueAt (block (sizeOf N img) (r .rest .block) img) i (getD (placesOf (x .frames)) (i .0) 0) ≡ none =
+      ap (valueAt (block (sizeOf N img) (r .rest .block) img) i) (no-place (x .frames) i l e) ∙ value-zero (block (sizeOf N img) (r .rest .block) img) i in
+      sym (ap (λ (v : Option Value). stretchAt (r .rest .block * sizeOf N img) (foundOf v)) q)
+  read-found i l (some v) e = stretch-of (r .rest .block * sizeOf N img)
+      (valueAt (block (sizeOf N img) (r .rest .block) img) i (getD (placesOf (x .frames)) (i .0) 0))
 
   stretch-is : (m : List ℕ) (q : Request) → InRange m q
-      → serve N img r reply h m x q .stretch ≡ stretchAt (r .block * sizeOf N img) (foundFor (block (sizeOf N img) (r .block) img) (placesOf (x .frames)) q)
+      → serve N img r reply h m x q .stretch ≡ stretchAt (r .rest .block * sizeOf N img)
+      (foundFor (block (sizeOf N img) (r .rest .block) img) (placesOf (x .frames)) q)
   unfolding serve
   stretch-is m (Put i) k = change-none (put i (valueIn m))
   stretch-is m (Delete i) k = change-none (delete i)
@@ -102,20 +103,20 @@ module _ (N : ℕ) (img : List ℕ) (r : Record) (reply : List ℕ) (h : Host) (
 
   -- what was found says how a read is answered
   read-answers : (i : ObjectId) → i .0 ≤ idMax → (o : Option (List ℕ)) → lookup i (replay (x .frames) .objects) ≡ o → (g : Found)
-      → foundFor (block (sizeOf N img) (r .block) img) (placesOf (x .frames)) (Read i) ≡ g → answerTo (Read i) g ≡ serveRead N img r reply x i o .answer
+      → foundFor (block (sizeOf N img) (r .rest .block) img) (placesOf (x .frames)) (Read i) ≡ g → answerTo (Read i) g ≡ serveRead N img r reply x i o .answer
   read-answers i l none e g q =
-      let z : valueAt (block (sizeOf N img) (r .block) img) i (getD (placesOf (x .frames)) (i .0) 0) ≡ none =
-      ap (valueAt (block (sizeOf N img) (r .block) img) i) (no-place (x .frames) i l e) ∙ value-zero (block (sizeOf N img) (r .block) img) i in
+      let z : valueAt (block (sizeOf N img) (r .rest .block) img) i (getD (placesOf (x .frames)) (i .0) 0) ≡ none =
+      ap (valueAt (block (sizeOf N img) (r .rest .block) img) i) (no-place (x .frames) i l e) ∙ value-zero (block (sizeOf N img) (r .rest .block) img) i in
       ap (answerTo (Read i)) (sym q ∙ ap foundOf z)
   read-answers i l (some v) e g q =
-      let z : ValueStands (block (sizeOf N img) (r .block) img) i (getD (placesOf (x .frames)) (i .0) 0) v =
-      place-law (block (sizeOf N img) (r .block) img) (x .frames) i v (journal w) l e in
+      let z : ValueStands (block (sizeOf N img) (r .rest .block) img) i (getD (placesOf (x .frames)) (i .0) 0) v =
+      place-law (block (sizeOf N img) (r .rest .block) img) (x .frames) i v (journal w) l e in
       ap (answerTo (Read i)) (sym q ∙ ap foundOf (z .found))
 
   -- by what the message itself comes to, and the empty one
   answers-is : (m : List ℕ) (q : Request) → InRange m q → requestOn N img r reply h m .answer ≡ serve N img r reply h m x q .answer
       → requestOn N img r reply h [] .answer ≡ Refused refusal.Malformed → (g : Found)
-      → foundFor (block (sizeOf N img) (r .block) img) (placesOf (x .frames)) q ≡ g
+      → foundFor (block (sizeOf N img) (r .rest .block) img) (placesOf (x .frames)) q ≡ g
       → answerTo q g ≡ requestOn N img r reply h (readAs (Is q) m) .answer
   unfolding serve
   answers-is m (Put i) k s n g e = ap (answerTo (Put i)) (sym e) ∙ sym n
@@ -127,24 +128,25 @@ module _ (N : ℕ) (img : List ℕ) (r : Record) (reply : List ℕ) (h : Host) (
 
   -- what is found lies in the block
   found-in : (i : ObjectId) → i .0 ≤ idMax → (p n : ℕ) (o : Option (List ℕ)) → lookup i (replay (x .frames) .objects) ≡ o
-      → foundFor (block (sizeOf N img) (r .block) img) (placesOf (x .frames)) (Read i) ≡ found.At p n → p + n ≤ length
-      (block (sizeOf N img) (r .block) img)
+      → foundFor (block (sizeOf N img) (r .rest .block) img) (placesOf (x .frames)) (Read i) ≡ found.At p n → p + n ≤ length
+      (block (sizeOf N img) (r .rest .block) img)
   found-in i l p n none e q =
-      let z : valueAt (block (sizeOf N img) (r .block) img) i (getD (placesOf (x .frames)) (i .0) 0) ≡ none =
-      ap (valueAt (block (sizeOf N img) (r .block) img) i) (no-place (x .frames) i l e) ∙ value-zero (block (sizeOf N img) (r .block) img) i in
+      let z : valueAt (block (sizeOf N img) (r .rest .block) img) i (getD (placesOf (x .frames)) (i .0) 0) ≡ none =
+      ap (valueAt (block (sizeOf N img) (r .rest .block) img) i) (no-place (x .frames) i l e) ∙ value-zero (block (sizeOf N img) (r .rest .block) img) i in
       let y : found.Nothing ≡ found.At p n = sym (ap foundOf z) ∙ q in
       let u : _≡_ {A = ℕ} 0 1 = cc in
       absurd (omega arith)
   found-in i l p n (some v) e q =
-      let z : ValueStands (block (sizeOf N img) (r .block) img) i (getD (placesOf (x .frames)) (i .0) 0) v =
-      place-law (block (sizeOf N img) (r .block) img) (x .frames) i v (journal w) l e in
+      let z : ValueStands (block (sizeOf N img) (r .rest .block) img) i (getD (placesOf (x .frames)) (i .0) 0) v =
+      place-law (block (sizeOf N img) (r .rest .block) img) (x .frames) i v (journal w) l e in
       let y : found.At (z .at) (length v) ≡ found.At p n = sym (ap foundOf (z .found)) ∙ q in
       let a : z .at ≡ p = cc in
       let b : length v ≡ n = cc in
       omega (arith, z .fits)
 
   found-inside : (m : List ℕ) (q : Request) (p n : ℕ) → InRange m q
-      → foundFor (block (sizeOf N img) (r .block) img) (placesOf (x .frames)) q ≡ found.At p n → p + n ≤ length (block (sizeOf N img) (r .block) img)
+      → foundFor (block (sizeOf N img) (r .rest .block) img) (placesOf (x .frames)) q ≡ found.At p n
+      → p + n ≤ length (block (sizeOf N img) (r .rest .block) img)
   found-inside m (Put i) p n k e = let u : _≡_ {A = ℕ} 0 1 = cc in absurd (omega arith)
   found-inside m (Delete i) p n k e = let u : _≡_ {A = ℕ} 0 1 = cc in absurd (omega arith)
   found-inside m Commit p n k e = let u : _≡_ {A = ℕ} 0 1 = cc in absurd (omega arith)
@@ -154,7 +156,7 @@ module _ (N : ℕ) (img : List ℕ) (r : Record) (reply : List ℕ) (h : Host) (
 
 -- a refused request, and a refused read
 pub refused-all : (N : ℕ) (img : List ℕ) (r : Record) (h : Host) (m reply p f : List ℕ) (why : Refusal) (s : Stepped)
-    → requestOn N img r reply h m ≡ refuse why img r reply → s ≡ refused why (restOf r)
+    → requestOn N img r reply h m ≡ refuse why img r reply → s ≡ refused why (r .rest)
     → let o : Out = requestOn N img r reply h m in Asks r p f s o × (reply ≡ o .reply)
 refused-all N img r h m reply p f why s e q = rw (e, q) (record { answers = refl; gives = refl; rests = refl }, refl)
 
@@ -175,7 +177,7 @@ dropped t nothing kept p e w = e ∙ ap (λ (b : Bool). cond b nothing kept) w
 
 module _ {r : Record} {q g p f : List ℕ} (s : Stepped) {o : Out} (a : Asks r q g s o) (ep : p ≡ cond (s .ended) noPlaces q)
     (ef : f ≡ cond (s .ended) noFrame g) where
-  job-arrays : (x : Answer) → s ≡ began x (restOf r) (s .next) → keptOr x r (s .next) p f ≡ keptOr x r (s .next) q g
+  job-arrays : (x : Answer) → s ≡ began x (r .rest) (s .next) → keptOr x r (s .next) p f ≡ keptOr x r (s .next) q g
   job-arrays Done e = refl
   job-arrays More e =
       let t : s .ended ≡ false = ap (λ (y : Stepped). y .ended) e in
@@ -186,7 +188,7 @@ module _ {r : Record} {q g p f : List ℕ} (s : Stepped) {o : Out} (a : Asks r q
   cleared =
       record {
         answers = a .answers;
-        gives = job-arrays (s .answer) (a .rests ∙ ap (λ (x : Answer). began x (restOf r) (s .next)) (sym (a .answers))) ∙ a .gives;
+        gives = job-arrays (s .answer) (a .rests ∙ ap (λ (x : Answer). began x (r .rest) (s .next)) (sym (a .answers))) ∙ a .gives;
         rests = a .rests;
       }
 
@@ -202,12 +204,12 @@ pub record Looked (N : ℕ) (img : List ℕ) (r : Record) (h : Host) (m : List �
   pub bytes : Bytes img
   pub passed : Passed N img r h
   pub sized : size ≡ sizeOf N img
-  pub survey : s ≡ surveyOf (blockState (block (sizeOf N img) (r .block) img))
-  pub asks : a ≡ askOf size (r .end) s m
+  pub survey : s ≡ surveyOf (blockState (block (sizeOf N img) (r .rest .block) img))
+  pub asks : a ≡ askOf size (r .rest .end) s m
 
 module _ {N : ℕ} {img : List ℕ} {r : Record} {h : Host} {m : List ℕ} {size : ℕ} {s : Survey} {a : Ask} (l : Looked N img r h m size s a) where
-  asked : (b : Ask) → a ≡ b → askOf (sizeOf N img) (r .end) (surveyOf (blockState (block (sizeOf N img) (r .block) img))) m ≡ b
-  asked b e = ap₂ (λ (n : ℕ) (x : Survey). askOf n (r .end) x m) (sym (l .sized)) (sym (l .survey)) ∙ sym (l .asks) ∙ e
+  asked : (b : Ask) → a ≡ b → askOf (sizeOf N img) (r .rest .end) (surveyOf (blockState (block (sizeOf N img) (r .rest .block) img))) m ≡ b
+  asked b e = ap₂ (λ (n : ℕ) (x : Survey). askOf n (r .rest .end) x m) (sym (l .sized)) (sym (l .survey)) ∙ sym (l .asks) ∙ e
 
   pub not-served : (reply : List ℕ) (why : Refusal) → a ≡ ask.Refused why → requestOn N img r reply h m ≡ refuse why img r reply
   not-served reply why e = unheard N img r h m (l .bytes) (l .passed) reply why (asked (ask.Refused why) e)
@@ -226,7 +228,7 @@ module _ {N : ℕ} {img : List ℕ} {r : Record} {h : Host} {m : List ℕ} {size
     range : InRange m q
     range = in-range m q (served .says)
 
-    here : N ≡ r .blocks
+    here : N ≡ r .rest .blocks
     here = same-count N img r (l .passed .same)
 
     low : h .0 ≤ hostMax
@@ -240,36 +242,36 @@ module _ {N : ℕ} {img : List ℕ} {r : Record} {h : Host} {m : List ℕ} {size
         ap₂ (λ (n : ℕ) (x : Survey). replyIn n x reply q) (l .sized) survey-now
         ∙ sym (reply-is N img r reply h (served .held) here (served .contents) m q) ∙ sym (ap (λ (o : Out). o .reply) (served .serves reply))
 
-    module _ (places : List ℕ) (ep : places ≡ placesIn (blockState (block (sizeOf N img) (r .block) img))) where
+    module _ (places : List ℕ) (ep : places ≡ placesIn (blockState (block (sizeOf N img) (r .rest .block) img))) where
       places-now : places ≡ placesOf (served .held .frames)
       places-now = ep ∙ ap placesIn (served .state)
 
-      pub served-asks : (reply g f : List ℕ) (y : Stepped) → y ≡ serveIn size (restOf r) reply h m s places q → f ≡ frameIn h m q g
+      pub served-asks : (reply g f : List ℕ) (y : Stepped) → y ≡ serveIn size (r .rest) reply h m s places q → f ≡ frameIn h m q g
           → Asks r places f y (requestOn N img r reply h m)
       served-asks reply g f y ey ef =
           rw (ey, ef, l .sized, survey-now, places-now, served .serves reply)
           (serve-is N img r reply h (served .held) here (served .contents) m q g range low)
 
-      module _ (b : List ℕ) (eb : b ≡ block size (r .block) img) (f : Found) (ef : f ≡ foundFor b places q) where
-        found-here : f ≡ foundFor (block (sizeOf N img) (r .block) img) places q
-        found-here = ef ∙ ap (λ (x : List ℕ). foundFor x places q) (eb ∙ ap (λ (n : ℕ). block n (r .block) img) (l .sized))
+      module _ (b : List ℕ) (eb : b ≡ block size (r .rest .block) img) (f : Found) (ef : f ≡ foundFor b places q) where
+        found-here : f ≡ foundFor (block (sizeOf N img) (r .rest .block) img) places q
+        found-here = ef ∙ ap (λ (x : List ℕ). foundFor x places q) (eb ∙ ap (λ (n : ℕ). block n (r .rest .block) img) (l .sized))
 
-        read-stretch : (g : Found) → f ≡ g → readOn N img r h m ≡ stretchAt (r .block * sizeOf N img) g
+        read-stretch : (g : Found) → f ≡ g → readOn N img r h m ≡ stretchAt (r .rest .block * sizeOf N img) g
         read-stretch g eg =
             ap (λ (o : Out). o .stretch) (served .serves []) ∙ stretch-is N img r [] h (served .held) (served .contents) m q range
-            ∙ ap (λ (b : List ℕ). stretchAt (r .block * sizeOf N img) (foundFor (block (sizeOf N img) (r .block) img) b q)) (sym places-now)
-            ∙ ap (stretchAt (r .block * sizeOf N img)) (sym found-here ∙ eg)
+            ∙ ap (λ (b : List ℕ). stretchAt (r .rest .block * sizeOf N img) (foundFor (block (sizeOf N img) (r .rest .block) img) b q)) (sym places-now)
+            ∙ ap (stretchAt (r .rest .block * sizeOf N img)) (sym found-here ∙ eg)
 
         -- it lies in the image
-        pub read-inside : (at n : ℕ) → f ≡ found.At at n → (r .block * size + at + n ≤ length img) × (length img ≤ 65536)
+        pub read-inside : (at n : ℕ) → f ≡ found.At at n → (r .rest .block * size + at + n ≤ length img) × (length img ≤ 65536)
         read-inside at n eg =
             let ok : allowed N (length img) ≡ true = l .passed .ok in
-            let there : r .block < N = same-inside N img r (l .passed .same) in
+            let there : r .rest .block < N = same-inside N img r (l .passed .same) in
             let z : Sized N (sizeOf N img) img = sized-of N img ok in
-            let i : at + n ≤ length (block (sizeOf N img) (r .block) img) =
+            let i : at + n ≤ length (block (sizeOf N img) (r .rest .block) img) =
             found-inside N img r [] h (served .held) (served .contents) m q at n range
-            (ap (λ (b : List ℕ). foundFor (block (sizeOf N img) (r .block) img) b q) (sym places-now) ∙ sym found-here ∙ eg) in
-            rw (l .sized) (omega (arith, i, block-length N img (r .block) ok there, sized-block (r .block) z there, z .short))
+            (ap (λ (b : List ℕ). foundFor (block (sizeOf N img) (r .rest .block) img) b q) (sym places-now) ∙ sym found-here ∙ eg) in
+            rw (l .sized) (omega (arith, i, block-length N img (r .rest .block) ok there, sized-block (r .rest .block) z there, z .short))
 
         -- its answer
         read-answer : (g : Found) → f ≡ g → answerTo q g ≡ requestOn N img r [] h (readAs (parse m) m) .answer
@@ -277,7 +279,7 @@ module _ {N : ℕ} {img : List ℕ} {r : Record} {h : Host} {m : List ℕ} {size
             answers-is N img r [] h (served .held) (served .contents) m q range (ap (λ (o : Out). o .answer) (served .serves []))
             (ap (λ (o : Out). o .answer)
             (unheard N img r h [] (l .bytes) (l .passed) [] refusal.Malformed (empty-as _ _ _ m q (asked (ask.Serve q) e)))) g
-            (ap (λ (b : List ℕ). foundFor (block (sizeOf N img) (r .block) img) b q) (sym places-now) ∙ sym found-here ∙ eg)
+            (ap (λ (b : List ℕ). foundFor (block (sizeOf N img) (r .rest .block) img) b q) (sym places-now) ∙ sym found-here ∙ eg)
             ∙ sym (ap (λ (x : Parsed). requestOn N img r [] h (readAs x m) .answer) (served .says))
 
         pub read-none : f ≡ found.Nothing → (x : Located) → x ≡ nothing (noneFor q) → Finds N img r h m x
@@ -291,12 +293,12 @@ module _ {N : ℕ} {img : List ℕ} {r : Record} {h : Host} {m : List ℕ} {size
             })
 
         pub read-found-at : (at n : ℕ) → f ≡ found.At at n
-            → Finds N img r h m (record { answer = Done; at = r .block * size + at; size = n })
+            → Finds N img r h m (record { answer = Done; at = r .rest .block * size + at; size = n })
         read-found-at at n eg =
             let z = read-stretch (found.At at n) eg in
             record {
               answers = read-answer (found.At at n) eg;
-              at = ap (λ (k : ℕ). r .block * k + at) (l .sized) ∙ sym (ap (λ (s : Stretch). s .at) z);
+              at = ap (λ (k : ℕ). r .rest .block * k + at) (l .sized) ∙ sym (ap (λ (s : Stretch). s .at) z);
               size = sym (ap (λ (s : Stretch). s .size) z);
               inside = read-inside at n eg .0;
             }

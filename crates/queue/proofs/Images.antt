@@ -37,9 +37,9 @@ module _ (N k : ℕ) (img : List ℕ) where
 -- ---- what an image that is the record's says
 
 module _ (N : ℕ) (img : List ℕ) (r : Record) (e : sameImage N img r ≡ true) where
-  pub same-count : N ≡ r .blocks
-  same-count = eqb-true N (r .blocks)
-      (and-right (eqb (length img) (suc (r .last))) (eqb N (r .blocks)) (and-left (sameShape N (length img) r) _ e))
+  pub same-count : N ≡ r .rest .blocks
+  same-count = eqb-true N (r .rest .blocks)
+      (and-right (eqb (length img) (suc (r .rest .last))) (eqb N (r .rest .blocks)) (and-left (sameShape N (length img) r) _ e))
 
-  pub same-inside : r .block < N
-  same-inside = ltb-true (r .block) N (and-left (ltb (r .block) N) _ (and-right (sameShape N (length img) r) _ e))
+  pub same-inside : r .rest .block < N
+  same-inside = ltb-true (r .rest .block) N (and-left (ltb (r .rest .block) N) _ (and-right (sameShape N (length img) r) _ e))

@@ -113,7 +113,8 @@ pub fn locate(image: &[u8], blocks: u8, board: Record, host: Host, message: &[u8
         × (r .at + r .size ≤ length (now (image .entry))) ⌝ }
 {
     let phase = board.phase;
-    let found = find(image, blocks, phase, records::rest_of(board), host, message);
+    let rest = board.rest;
+    let found = find(image, blocks, phase, rest, host, message);
     Stretch {
         at: found.at,
         size: found.size,

@@ -251,7 +251,7 @@ pub fn request(
     let mut places = records::no_places();
     let mut frame = records::no_frame();
     let phase = board.phase;
-    let rest = records::rest_of(board);
+    let rest = board.rest;
     let s = request_core(
         image,
         blocks,

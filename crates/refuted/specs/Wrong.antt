@@ -107,11 +107,11 @@ refusesHighIds =
 unfoldable pub ownFormatsOnly : Wrongly
 ownFormatsOnly =
     requests
-    (λ N img r h m reply o. accepted o (cond (eqb (createdAt (block (sizeOf N img) (r .block) img)) 1) o (refuse refusal.Stale img r reply)))
+    (λ N img r h m reply o. accepted o (cond (eqb (createdAt (block (sizeOf N img) (r .rest .block) img)) 1) o (refuse refusal.Stale img r reply)))
 
 -- 11: "recorded half valid": given for the second half too
 unfoldable pub firstHalfOnly : Wrongly
-firstHalfOnly = requests (λ N img r h m reply o. accepted o (cond (eqb (r .block) 0) o (refuse refusal.Stale img r reply)))
+firstHalfOnly = requests (λ N img r h m reply o. accepted o (cond (eqb (r .rest .block) 0) o (refuse refusal.Stale img r reply)))
 
 -- "Checked in this order": 10 before 4
 unfoldable pub hostFirst : Wrongly
@@ -191,7 +191,7 @@ programsNothing = steps (λ N img r o. onImage img o)
 
 -- all of a job's frame programmed
 abbrev pub framed : ℕ → List ℕ → Record → List ℕ
-framed N img r = applyAll (sizeOf N img) (onBlock (r .block) (writes (r .end) (take (r .job .size) (r .frame)))) img
+framed N img r = applyAll (sizeOf N img) (onBlock (r .rest .block) (writes (r .rest .end) (take (r .job .size) (r .frame)))) img
 
 -- "one that programs a whole frame in the first step and idles after": to program a byte again changes nothing
 unfoldable pub wholeFrame : Wrongly
@@ -214,7 +214,7 @@ abbrev pub saysValid : ℕ → List ℕ → Record → List ℕ
 saysValid N img r = apply (sizeOf N img) (program (r .job .target) stateAt validData) img
 
 abbrev pub erased : ℕ → List ℕ → Record → List ℕ
-erased N img r = apply (sizeOf N img) (erase (r .block)) img
+erased N img r = apply (sizeOf N img) (erase (r .rest .block)) img
 
 abbrev pub atLast : Record → Bool
 atLast r = r .job .drops && eqb (r .cursor .index) (markWrites - 1)
@@ -320,10 +320,7 @@ abbrev pub withJob : Job → Record → Record
 withJob j r =
     record {
       phase = r .phase;
-      blocks = r .blocks;
-      last = r .last;
-      block = r .block;
-      end = r .end;
+      rest = r .rest;
       places = r .places;
       job = j;
       cursor = r .cursor;
@@ -343,7 +340,7 @@ backToFirst r =
       wipes = j .wipes;
       moves = j .moves;
       drops = j .drops;
-      target = cond (eqb (r .block) 0) (j .target) 0;
+      target = cond (eqb (r .rest .block) 0) (j .target) 0;
       time = j .time;
       since = j .since;
       size = j .size;
@@ -383,7 +380,7 @@ erasesBlank = mounts (λ N img o. accepted o (allOthers N img o (stores (allFoun
 
 -- K14: "A record of another N gets 11, in a job's step too": a step goes by the record's
 unfoldable pub ignoresCount : Wrongly
-ignoresCount = steps (λ N img r o. exec (r .blocks) img r step)
+ignoresCount = steps (λ N img r o. exec (r .rest .blocks) img r step)
 
 -- K14: "The image is N blocks": of an odd number the last is left out
 unfoldable pub evenOnly : Wrongly

@@ -72,10 +72,11 @@ pub fn tell_run(what: &[u8], r: Ran) {
     result(r.answer, r.steps);
     if r.answer != 255 {
         let board = r.board;
+        let rest = board.rest;
         say(b"; block ");
-        number(board.block as usize);
+        number(rest.block as usize);
         say(b", end ");
-        number(board.end as usize);
+        number(rest.end as usize);
     }
     say(b"\n");
 }

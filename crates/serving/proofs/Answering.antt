@@ -41,7 +41,7 @@ use Rattle.board.specs.declared.Job.{Job}
 use Rattle.board.specs.declared.Cursor.{Cursor}
 use Rattle.board.specs.declared.Rest.{Rest}
 use Rattle.board.specs.declared.Record.{Record}
-use Rattle.board.specs.Record.{noFrame, restOf, starting, Out, out, refuse, answerOf}
+use Rattle.board.specs.Record.{noFrame, starting, Out, out, refuse, answerOf}
 use Rattle.board.specs.Queue.{Held, needsRoom, append, serveChange, serveEnd, serveRead, serveLog, serve}
 use Rattle.job.specs.declared.records.Stepped.{Stepped}
 use Rattle.job.specs.Code.{leavesIf, LeadsTo, goAppend, goOpen, goWipe, begins}
@@ -57,10 +57,10 @@ module _ (r : Record) (p f : List ℕ) where
   asks-if true a b = a
   asks-if false a b = b
 
-  refusing : (img reply : List ℕ) (why : Refusal) → Asks r p f (refused why (restOf r)) (refuse why img r reply)
+  refusing : (img reply : List ℕ) (why : Refusal) → Asks r p f (refused why (r .rest)) (refuse why img r reply)
   refusing img reply why = record { answers = refl; gives = refl; rests = refl }
 
-  doing : (img reply : List ℕ) → Asks r p f (done (restOf r)) (out Done img r reply)
+  doing : (img reply : List ℕ) → Asks r p f (done (r .rest)) (out Done img r reply)
   doing img reply = record { answers = refl; gives = refl; rests = refl }
 
   begun : (img reply : List ℕ) (s : Stepped) (q : Record) → s .answer ≡ More → s .ended ≡ false → LeadsTo p noFrame f s q
@@ -71,7 +71,7 @@ module _ (r : Record) (p f : List ℕ) where
         gives = ap (λ (x : Answer). keptOr x r (s .next) p f) a ∙ sym (ap (λ (t : Bool). leavesIf t (s .next) p noFrame f) e) ∙ l .gives;
         rests =
             ap₂ (λ (x : Answer) (t : Bool). record { answer = x; next = s .next; ended = t }) a e
-            ∙ ap (λ (x : Answer). began x (restOf r) (s .next)) (sym a ∙ l .answers);
+            ∙ ap (λ (x : Answer). began x (r .rest) (s .next)) (sym a ∙ l .answers);
       }
 
 -- a job that appends a frame has a step
@@ -92,19 +92,19 @@ journal {t = t} w =
       stand = w .layout .stands;
     }
 
-module _ (N : ℕ) (img : List ℕ) (r : Record) (reply : List ℕ) (h : Host) (x : Held) (same : N ≡ r .blocks)
-    (w : Contents (block (sizeOf N img) (r .block) img) (x .time) (x .frames) clean) where
+module _ (N : ℕ) (img : List ℕ) (r : Record) (reply : List ℕ) (h : Host) (x : Held) (same : N ≡ r .rest .blocks)
+    (w : Contents (block (sizeOf N img) (r .rest .block) img) (x .time) (x .frames) clean) where
   abbrev survey : Survey
   survey = surveyOf (valid (x .time) (x .frames) clean)
 
   abbrev places : List ℕ
   places = placesOf (x .frames)
 
-  append-is : (f : Frame) → Asks r places (bytesOf f) (appendIn (sizeOf N img) (restOf r) survey (frameLen f)) (append N img r reply x f)
+  append-is : (f : Frame) → Asks r places (bytesOf f) (appendIn (sizeOf N img) (r .rest) survey (frameLen f)) (append N img r reply x f)
   unfolding append appendIn surveyOf
   append-is f =
-      let m : Bool = needsRoom (r .blocks) img r f in
-      let z : Rest = restOf r in
+      let m : Bool = needsRoom (r .rest .blocks) img r f in
+      let z : Rest = r .rest in
       let j : Job = appendPlan z survey m (frameLen f) in
       let g = goes z survey m (frameLen f) (starting 0 headerLen) (omega arith) in
       subst (λ (k : ℕ). Asks r places (bytesOf f) (appendIn (sizeOf k img) z survey (frameLen f)) (append k img r reply x f)) (sym same)
@@ -113,7 +113,7 @@ module _ (N : ℕ) (img : List ℕ) (r : Record) (reply : List ℕ) (h : Host) (
       (wipe-leaves places noFrame (bytesOf f) (record { phase = Busy Wipe; rest = z; job = j; cursor = starting 0 headerLen }))))
 
   change-is : (c : Change) → Asks r places (bytesOf (change h c))
-      (changeIn (sizeOf N img) (restOf r) survey h (frameLen (change h c)) (spare c)) (serveChange N img r reply h x c)
+      (changeIn (sizeOf N img) (r .rest) survey h (frameLen (change h c)) (spare c)) (serveChange N img r reply h x c)
   unfolding serveChange changeIn
   change-is c =
       rw (← no-room-is w (sizeOf N img) h c) (asks-if r _ _ (noRoom (sizeOf N img) (replay (x .frames)) h c)
@@ -124,27 +124,27 @@ module _ (N : ℕ) (img : List ℕ) (r : Record) (reply : List ℕ) (h : Host) (
   open-is l = open-bytes h (replay (x .frames) .pending) ∙ ap (ltb 0) (sym (per-at (λ g. pendingBytes g (replay (x .frames) .pending)) h l))
 
   end-is : (f : Frame) → frameLen f ≡ endLen → h .0 ≤ hostMax
-      → Asks r places (bytesOf f) (endIn (sizeOf N img) (restOf r) survey h) (serveEnd N img r reply h x f)
+      → Asks r places (bytesOf f) (endIn (sizeOf N img) (r .rest) survey h) (serveEnd N img r reply h x f)
   unfolding serveEnd endIn
   end-is f e l =
       rw (← open-is l, ← e) (asks-if r _ _ (isOpen h (replay (x .frames) .pending)) (append-is f) (doing r _ _ img reply))
 
   read-is : (f : List ℕ) (i : ObjectId) → i .0 ≤ idMax → (o : Option (List ℕ)) → lookup i (replay (x .frames) .objects) ≡ o
-      → Asks r places f (readIn (restOf r) places i) (serveRead N img r reply x i o)
+      → Asks r places f (readIn (r .rest) places i) (serveRead N img r reply x i o)
   unfolding readIn
   read-is f i l none e = rw (no-place (x .frames) i l e) (refusing r _ _ img reply refusal.NoObject)
   read-is f i l (some v) e =
-      let z : ValueStands (block (sizeOf N img) (r .block) img) i (getD (placesOf (x .frames)) (i .0) 0) v =
-      place-law (block (sizeOf N img) (r .block) img) (x .frames) i v (journal w) l e in
+      let z : ValueStands (block (sizeOf N img) (r .rest .block) img) i (getD (placesOf (x .frames)) (i .0) 0) v =
+      place-law (block (sizeOf N img) (r .rest .block) img) (x .frames) i v (journal w) l e in
       rw (ne-eqb (getD (placesOf (x .frames)) (i .0) 0) 0 (λ q. omega (arith, z .past))) (record { answers = refl; gives = refl; rests = refl })
 
-  log-is : (f : List ℕ) (p : Page) → Asks r places f (logIn (restOf r) reply) (serveLog N img r reply x p)
+  log-is : (f : List ℕ) (p : Page) → Asks r places f (logIn (r .rest) reply) (serveLog N img r reply x p)
   unfolding serveLog logIn
   log-is f Summary =
       asks-if r _ _ (ltb (length reply) pageLen) (refusing r _ _ img reply refusal.ShortReply) (record { answers = refl; gives = refl; rests = refl })
 
   pub serve-is : (m : List ℕ) (q : Request) (g : List ℕ) → InRange m q → h .0 ≤ hostMax
-      → Asks r places (frameIn h m q g) (serveIn (sizeOf N img) (restOf r) reply h m survey places q) (serve N img r reply h m x q)
+      → Asks r places (frameIn h m q g) (serveIn (sizeOf N img) (r .rest) reply h m survey places q) (serve N img r reply h m x q)
   unfolding serve
   serve-is m (Put i) g k l = rw (take-all valueMax (valueIn m) (k .1)) (change-is (put i (valueIn m)))
   serve-is m (Delete i) g k l = change-is (delete i)

@@ -23,7 +23,7 @@ use Rattle.board.specs.declared.Phase.the-variants.{Idle}
 use Rattle.board.specs.declared.Job.{Job}
 use Rattle.board.specs.declared.Rest.{Rest}
 use Rattle.board.specs.declared.Record.{Record}
-use Rattle.board.specs.Record.{noWipes, noFrame, restOf, starting, Out}
+use Rattle.board.specs.Record.{noWipes, noFrame, starting, Out}
 use Rattle.board.specs.Mount.{nextBlock, newTime}
 use Rattle.job.specs.declared.records.Numbers.{Numbers}
 use Rattle.job.specs.declared.records.Stepped.{Stepped}
@@ -55,7 +55,7 @@ began (Refused w) z n = refused w z
 pub record Asks (r : Record) (places frame : List ℕ) (s : Stepped) (o : Out) : Type 0 where
   pub answers : s .answer ≡ o .answer
   pub gives : keptOr (s .answer) r (s .next) places frame ≡ o .board
-  pub rests : s ≡ began (o .answer) (restOf r) (s .next)
+  pub rests : s ≡ began (o .answer) (r .rest) (s .next)
 
 -- ---- what a survey tells of the room in its block
 

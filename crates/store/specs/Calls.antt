@@ -7,7 +7,7 @@ use Rattle.wire.specs.declared.Answer.{Answer}
 use Rattle.wire.specs.declared.Answer.the-variants.{Done, More, Refused}
 use Rattle.wire.specs.declared.Refusal.{Refusal}
 use Rattle.board.specs.declared.Phase.the-variants.{Unmounted}
-use Rattle.board.specs.Record.{noFrame, rest, Out}
+use Rattle.board.specs.Record.{noFrame, unmounted, Out}
 use Rattle.job.specs.declared.Outcome.{Outcome}
 use Rattle.job.specs.declared.records.Stepped.{Stepped}
 use Rattle.job.specs.Code.{assemble, atRest, outcome}
@@ -30,4 +30,4 @@ pub record Gives (places : List ℕ) (s : Stepped) (o : Out) : Type 0 where
 
 -- a refusal: the record is unmounted
 abbrev pub refused : Refusal → Stepped
-refused n = atRest (Refused n) Unmounted (rest 0 0 0 0)
+refused n = atRest (Refused n) Unmounted (unmounted .rest)

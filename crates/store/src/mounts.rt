@@ -11,7 +11,6 @@ ghost use Rattle.store.specs.Calls.{Gives, made, refused};
 ghost use Rattle.store.specs.Mounts.{mountIn, mountSeen, lastErased, orderBy};
 use board::Job;
 use board::Phase;
-use board::Rest;
 use flash::MAX_BLOCKS;
 use frame::Fault;
 use frame::Field;
@@ -36,12 +35,7 @@ const PAST_IDS: u16 = ID_MAX as u16 + 1;
 fn refused(why: Refusal) -> Stepped
     ensures { λ r. ⌜ r ≡ refused why ⌝ }
 {
-    let rest = Rest {
-        blocks: 0,
-        last: 0,
-        block: 0,
-        end: 0,
-    };
+    let rest = records::standing(0, 0, 0, 0);
     records::at_rest(Answer::Refused(why), Phase::Unmounted, rest)
 }
 
@@ -90,12 +84,7 @@ fn mount_at(blocks: u8, last: u16, w: Newest, list: Erases) -> Stepped
         since: [0; 4],
         size: 0,
     };
-    let rest = Rest {
-        blocks: blocks,
-        last: last,
-        block: w.number,
-        end: w.end,
-    };
+    let rest = records::standing(blocks, last, w.number, w.end);
     records::begin(rest, job, records::starting(0, w.end))
 }
 
@@ -201,12 +190,8 @@ pub fn format_core(image: &[u8], blocks: u8) -> Stepped
         since: [0; 4],
         size: 0,
     };
-    let rest = Rest {
-        blocks: blocks,
-        last: (image.len() - 1) as u16,
-        block: image::next_block(blocks, 0),
-        end: records::START,
-    };
+    let last = (image.len() - 1) as u16;
+    let rest = records::standing(blocks, last, image::next_block(blocks, 0), records::START);
     records::begin(rest, job, records::starting(PAST_IDS, records::START))
 }
 

@@ -1,6 +1,5 @@
 // Where a record stands: all that a request or a read looks at.
 ghost use mathlib.Core.Path.{_≡_};
-ghost use Rattle.board.specs.Record.{restOf};
 ghost use Rattle.lent.specs.Layout.{recordIn};
 use crate::phase_in;
 use crate::word_in;
@@ -15,7 +14,7 @@ pub fn phase_of(bytes: &[u8]) -> Phase
 }
 
 pub fn rest_of(bytes: &[u8]) -> Rest
-    ensures { λ r. ⌜ r ≡ restOf (recordIn (now (bytes .entry))) ⌝ }
+    ensures { λ r. ⌜ r ≡ recordIn (now (bytes .entry)) .rest ⌝ }
 {
     Rest {
         blocks: byte_at(bytes, lent::BLOCKS_AT),

@@ -182,10 +182,7 @@ pub fn decode(bytes: &[u8]) -> Record
     let frame = frame_in(tail(bytes, lent::FRAME_AT));
     Record {
         phase: phase_in(byte_at(bytes, 0)),
-        blocks: byte_at(bytes, lent::BLOCKS_AT),
-        last: word_in(bytes, lent::LAST_AT),
-        block: byte_at(bytes, lent::BLOCK_AT),
-        end: word_in(bytes, lent::END_AT),
+        rest: rest_of(bytes),
         places: places,
         job: job,
         cursor: cursor,

@@ -22,11 +22,9 @@ decode-spec =
     (λ c κs. search needs)
     (λ c κs. search needs)
     (λ c κs. search needs)
-    (λ c κs. search needs)
-    (λ c κs. search needs)
-    (λ c κs. search needs)
     (λ c.
-    let c3 = c .before .before .before in
+    let c2 = c .before .before in
+    let c3 = c2 .before in
     let c4 = c3 .before in
     let c5 = c4 .before in
     let c6 = c5 .before in
@@ -36,24 +34,18 @@ decode-spec =
     let c10 = c9 .before in
     let c11 = c10 .before in
     let c12 = c11 .before in
-    let c13 = c12 .before in
-    let c14 = c13 .before in
-    let c15 = c14 .before in
     rw (
-      c4 .phase-in .ensures,
-      c5 .byte-at .ensures,
-      c3 .byte-at2 .ensures,
-      c .before .before .word-in .ensures,
-      c .before .byte-at3 .ensures,
-      c .word-in2 .ensures,
-      c14 .places-in .ensures,
-      c15 .tail .ensures,
-      c12 .job-in .ensures,
-      c13 .tail2 .ensures,
-      c10 .cursor-in .ensures,
-      c11 .tail3 .ensures,
-      c8 .frame-in .ensures,
-      c9 .tail4 .ensures,
-      c6 .frame-in2 .ensures,
-      c7 .tail5 .ensures,
+      c .before .phase-in .ensures,
+      c2 .byte-at .ensures,
+      c .rest-of .ensures,
+      c11 .places-in .ensures,
+      c12 .tail .ensures,
+      c9 .job-in .ensures,
+      c10 .tail2 .ensures,
+      c7 .cursor-in .ensures,
+      c8 .tail3 .ensures,
+      c5 .frame-in .ensures,
+      c6 .tail4 .ensures,
+      c3 .frame-in2 .ensures,
+      c4 .tail5 .ensures,
     )))

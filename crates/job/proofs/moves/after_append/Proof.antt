@@ -1,7 +1,7 @@
 -- After a byte appended.
 use Prim.Native.Nat.{suc, _+_}
 use Rattle.job.specs.Code.{assemble, over}
-use Rattle.board.specs.Record.{rest, idle}
+use Rattle.board.specs.Record.{ending, idle}
 use Rattle.board.specs.Step.{advance}
 use Rattle.board.specs.declared.Stage.the-variants.{Append}
 use Rattle.job.proofs.Advancing.{on-leaves, off-leaves}
@@ -27,7 +27,7 @@ after-append-spec =
     let args′ = c .before .before .before .before .before .args in
     let n = args′ .n in
     λ N i p u f. rw (c .next-step .ensures) (on-leaves p u f Append (n .job .size) n
-    (idle (rest (n .rest .blocks) (n .rest .last) (n .rest .block) (n .rest .end + n .job .size)))
+    (idle (ending (n .rest) (n .rest .end + n .job .size)))
     (sym (c .before .before .has-next .ensures) ∙ c .before .if1 .taken)))
     (λ c. search needs)
     (λ c. search needs)
@@ -36,6 +36,6 @@ after-append-spec =
     let has-next′ = c .before .before .before .before .before .has-next in
     let args′ = c .before .before .before .before .before .before .before .before .args in
     let n = args′ .n in
-    let z = rest (n .rest .blocks) (n .rest .last) (n .rest .block) (n .rest .end + n .job .size) in
+    let z = ending (n .rest) (n .rest .end + n .job .size) in
     λ N i p u f. rw (c .over .ensures) (off-leaves p u f Append (n .job .size) (assemble n p u f) (over z) (idle z)
     (sym (has-next′ .ensures) ∙ c .before .before .before .before .if1 .left) (over-leaves p u f z))))

@@ -6,7 +6,6 @@ use Rattle.queue.proofs.reads.locate.Tie as tie
 pub locate-spec : {M : Type 1} → statement M
 locate-spec = tie.close (tie.spec
     (λ c κs. search needs)
-    (λ c κs. search needs)
     (λ c.
     let args′ = c .before .before .before .before .args in
-    let f = rw (c .before .rest-of .ensures) at (c .find .ensures (args′ .board)) in (f .at, f .size, f .inside)))
+    let f = c .find .ensures (args′ .board) in (f .at, f .size, f .inside)))

@@ -14,12 +14,9 @@ request-spec =
     (λ c κs. search needs)
     (λ c κs. search needs)
     (λ c κs. search needs)
-    (λ c κs. search needs)
     (λ c. search needs)
     (λ c.
-    let c7 = c .before .before .before .before .before .before .before in
-    let c13 = c7 .before .before .before .before .before .before in
-    let rest-of′ = c7 .rest-of in
-    let args′ = c13 .args in
+    let c6 = c .before .before .before .before .before .before in
+    let args′ = c6 .before .before .before .before .before .before .before .args in
     by-value (c .kept-or .result) (requestOn (args′ .blocks) (now (args′ .image)) (args′ .board) (now (args′ .reply)) (args′ .host) (now (args′ .message)))
-    (c .kept-or .ensures) (rw (rest-of′ .ensures) at (c .before .before .before .request-core .ensures .asked (args′ .board)))))
+    (c .kept-or .ensures) (c .before .before .before .request-core .ensures .asked (args′ .board))))

@@ -41,11 +41,12 @@ format-core-spec =
     (λ c κs. search needs)
     (λ c κs. search needs)
     (λ c κs. search needs)
+    (λ c κs. search needs)
     (λ c.
-    let format-order′ = c .before .before .before .before .format-order in
-    let if1′ = c .before .before .before .before .before .if1 in
-    let is-allowed′ = c .before .before .before .before .before .before .is-allowed in
-    let args′ = c .before .before .before .before .before .before .before .before .args in
-    rw (c .begin .ensures, c .before .starting .ensures, c .before .before .next-block .ensures)
+    let format-order′ = c .before .before .before .before .before .format-order in
+    let if1′ = c .before .before .before .before .before .before .if1 in
+    let is-allowed′ = c .before .before .before .before .before .before .before .is-allowed in
+    let args′ = c .before .before .before .before .before .before .before .before .before .args in
+    rw (c .begin .ensures, c .before .starting .ensures, c .before .before .standing .ensures, c .before .before .before .next-block .ensures)
     (format-is (args′ .blocks) (now (args′ .image)) (format-order′ .result)
     (sym (is-allowed′ .ensures) ∙ not-false (is-allowed′ .result) (if1′ .left)) (format-order′ .ensures))))

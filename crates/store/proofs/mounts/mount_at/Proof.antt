@@ -20,14 +20,16 @@ mount-at-spec =
     (λ c κs. search needs)
     (λ c κs. search needs)
     (λ c κs. search needs)
+    (λ c κs. search needs)
     (λ c.
-    let if1′ = c .before .before .before .before .before .if1 in
-    let is-worn′ = c .before .before .before .before .before .before .is-worn in
-    let args′ = c .before .before .before .before .before .before .before .args in
+    let if1′ = c .before .before .before .before .before .before .if1 in
+    let is-worn′ = c .before .before .before .before .before .before .before .is-worn in
+    let args′ = c .before .before .before .before .before .before .before .before .args in
     c .begin .ensures
     ∙ rw (
-      c .before .before .before .next-block .ensures,
-      c .before .before .new-time .ensures,
+      c .before .before .before .before .next-block .ensures,
+      c .before .before .before .new-time .ensures,
+      c .before .before .standing .ensures,
       sym (is-worn′ .ensures) ∙ if1′ .left,
       c .before .starting .ensures,
     ) (mount-begun (args′ .blocks) (args′ .last) (args′ .w) (args′ .list) (is-worn′ .result) (is-worn′ .ensures) (if1′ .left))))
