@@ -20,7 +20,7 @@ use Rattle.wire.specs.declared.Refusal.the-variants as refusal
 use Rattle.board.specs.declared.Phase.{Phase}
 use Rattle.board.specs.declared.Phase.the-variants.{Unmounted, Idle, Busy}
 use Rattle.board.specs.declared.Record.{Record}
-use Rattle.board.specs.Record.{allowed, landing, ending, idle, Out, refuse}
+use Rattle.board.specs.Record.{allowed, rest, landing, idle, Out, refuse}
 use Rattle.board.specs.Step.{action, advance, stepped, stepIn, stepBusy, stepOn}
 use Rattle.board.specs.Mount.{nextBlock}
 use Rattle.board.specs.Queue.{Held, held, heldBy, heldIn, sameImage, othersBlank, needsRoom}
@@ -111,16 +111,18 @@ two-frame img r x f h =
         (next-beside (r .rest .block) h)
     by false = refl
 
-pub two-framed : (img : List ℕ) (r : Record) (x : Held) (f : Frame) → r .rest .block < 2
+pub two-framed : (img : List ℕ) (r : Record) (x : Held) (f : Frame) → r .rest .blocks ≡ 2 → r .rest .block < 2
     → framedAt 2 (needsRoom 2 img r f) (r .rest) x f ≡ framedTwo img r x f
-two-framed img r x f h =
+two-framed img r x f e h =
     ap (λ (b : Bool). framedAt 2 b (r .rest) x f) (needs-two img r f) ∙ by (ltb (sizeTwo img) (r .rest .end + frameLen f))
   where
     by : (b : Bool) → framedAt 2 b (r .rest) x f
-        ≡ cond b (idle (landing (r .rest) (beside (r .rest .block)) (claimed (replay (x .frames)) + frameLen f)))
-        (idle (ending (r .rest) (r .rest .end + frameLen f)))
-    by true = ap (λ (k : ℕ). idle (landing (r .rest) k (claimed (replay (x .frames)) + frameLen f))) (next-beside (r .rest .block) h)
-    by false = refl
+        ≡ cond b (idle (rest 2 (r .rest .last) (beside (r .rest .block)) (claimed (replay (x .frames)) + frameLen f)))
+        (idle (rest 2 (r .rest .last) (r .rest .block) (r .rest .end + frameLen f)))
+    by true =
+        ap (λ (k : ℕ). idle (landing (r .rest) k (claimed (replay (x .frames)) + frameLen f))) (next-beside (r .rest .block) h)
+        ∙ ap (λ (n : ℕ). idle (rest n (r .rest .last) (beside (r .rest .block)) (claimed (replay (x .frames)) + frameLen f))) e
+    by false = ap (λ (n : ℕ). idle (rest n (r .rest .last) (r .rest .block) (r .rest .end + frameLen f))) e
 
 -- ---- a step
 

@@ -22,7 +22,7 @@ use Rattle.wire.specs.declared.Refusal.the-variants as refusal
 use Rattle.board.specs.declared.Phase.{Phase}
 use Rattle.board.specs.declared.Phase.the-variants.{Unmounted, Idle, Busy}
 use Rattle.board.specs.declared.Record.{Record}
-use Rattle.board.specs.Record.{allowed, unmounted, rest, landing, ending, idle, Out, out, refuse}
+use Rattle.board.specs.Record.{allowed, unmounted, rest, idle, Out, out, refuse}
 use Rattle.board.specs.Step.{action, advance, stepped, stepOn}
 use Rattle.board.specs.Mount.{isBlank, needsTransfer, tiedTimes, endOf, mountOn, formatOn}
 use Rattle.board.specs.Queue.{Held, held, heldIn, needsRoom}
@@ -117,8 +117,9 @@ frameTwo img r x f =
 
 abbrev pub framedTwo : List ℕ → Record → Held → Frame → Record
 framedTwo img r x f =
-    cond (ltb (sizeTwo img) (r .rest .end + frameLen f)) (idle (landing (r .rest) (beside (r .rest .block)) (claimed (replay (x .frames)) + frameLen f)))
-    (idle (ending (r .rest) (r .rest .end + frameLen f)))
+    cond (ltb (sizeTwo img) (r .rest .end + frameLen f))
+    (idle (rest 2 (r .rest .last) (beside (r .rest .block)) (claimed (replay (x .frames)) + frameLen f)))
+    (idle (rest 2 (r .rest .last) (r .rest .block) (r .rest .end + frameLen f)))
 
 -- "in a job, 11 is given exactly if the image length isn't the record's or the job's next place lies outside it"
 abbrev pub stepTwo : Phase → List ℕ → Record → Out
@@ -150,6 +151,6 @@ pub record TwoBlocks : Type 0 where
   pub fresh : (img : List ℕ) (r : Record) → r .rest .blocks ≡ 2 → held 2 img r ≡ heldTwo img r
   pub frame-steps : (img : List ℕ) (r : Record) (x : Held) (f : Frame) → r .rest .block < 2
       → framePlan 2 (needsRoom 2 img r f) (r .rest) x f ≡ frameTwo img r x f
-  pub frame-record : (img : List ℕ) (r : Record) (x : Held) (f : Frame) → r .rest .block < 2
+  pub frame-record : (img : List ℕ) (r : Record) (x : Held) (f : Frame) → r .rest .blocks ≡ 2 → r .rest .block < 2
       → framedAt 2 (needsRoom 2 img r f) (r .rest) x f ≡ framedTwo img r x f
   pub steps : (img : List ℕ) (r : Record) → r .rest .blocks ≡ 2 → stepOn 2 img r ≡ stepTwo (r .phase) img r
