@@ -1,25 +1,24 @@
 -- A buffer whose phase and flags are written as they are read holds the bytes of its record; one cursor in the place of another.
 use mathlib.Core.Path.{_≡_, refl, sym, ap, _∙_}
 use mathlib.Core.List.{List, [], _∷_, _++_, append-assoc}
-use Prim.Native.Nat.{ℕ, zero, suc, _+_, _*_, _/_, _%_, _≤_, _<_}
+use Prim.Native.Nat.{ℕ, zero, suc, _+_, _/_, _%_, _≤_, _<_}
 use native.Mathlib.Omega.{arith}
 use native.Mathlib.Nat.{zero-add}
-use native.Mathlib.Numerals.{add-one}
 use lib.ListN.{length, getD, take, drop, set, length-append, length-drop, take-append-drop}
-use lib.Seq.{take-at, drop-cons, drop-drop, getD-drop, length-take-le}
-use Rattle.flash.specs.Bytes.{u16le, u32le, le32}
+use lib.Seq.{take-at, drop-drop, getD-drop, length-take-le}
+use Rattle.flash.specs.Bytes.{u32le, le32}
 use Rattle.flash.specs.Flash.{maxBlocks}
-use Rattle.wire.specs.Message.{wordAt}
 use Rattle.board.specs.declared.Stage.{Stage}
 use Rattle.board.specs.declared.Phase.the-variants.{Busy}
 use Rattle.board.specs.declared.Cursor.{Cursor}
 use Rattle.board.specs.Record.{inStage}
 use Rattle.board.specs.Step.{nextIndex, nextByte}
 use Rattle.lent.specs.Layout.{madeAt, idAt, sourceAt, copyAt, offAt, movesAt, dropsAt, targetAt, timeAt, sinceAt, sinceSize, appendAt}
-use Rattle.lent.specs.Layout.{lastAt, blockAt, endAt, blocksAt, placesAt, placesSize, jobAt, planAt, cursorAt, unitAt, recordSize}
+use Rattle.lent.specs.Layout.{placesAt, placesSize, jobAt, planAt, cursorAt, unitAt, recordSize}
 use Rattle.lent.specs.Layout.{phaseIn, flagIn, wordsIn, numberIn, jobIn, cursorIn, recordIn}
 use Rattle.lent.specs.Layout.{phaseByte, flagByte, wordBytes, headBytes, planBytes, cursorBytes, recordBytes}
 use Rattle.lent.proofs.Words.{length-word-bytes}
+use Rattle.lent.proofs.Rests.{one, some, two, rest-own}
 use Rattle.lent.proofs.Own.{own-sized, words-own, bytes-own, places-own, frames-own}
 
 phase-own : (n : ℕ) → n < 8 → phaseByte (phaseIn n) ≡ n
@@ -45,22 +44,8 @@ set-past p t n i v e = rw (← e) (go p)
     go [] = rw zero-add
     go (x ∷ p) = let f : suc (length p) + i ≡ suc (length p + i) = omega arith in rw f (ap (λ (l : List ℕ). x ∷ l) (go p))
 
--- parts that are a buffer's own, from the last one on
+-- four bytes that are a buffer's own
 module _ (b : List ℕ) (ok : (i : ℕ) → getD b i 0 < 256) where
-  one : (at x : ℕ) (t : List ℕ) → at < length b → x ≡ getD b at 0 → t ≡ drop (at + 1) b → x ∷ t ≡ drop at b
-  one at x t h e f = rw (e, f, add-one) (sym (drop-cons b at 0 h))
-
-  some : (at n : ℕ) (s t : List ℕ) → s ≡ take n (drop at b) → t ≡ drop (at + n) b → s ++ t ≡ drop at b
-  some at n s t e f = rw (e, f) (ap (λ (x : List ℕ). take n (drop at b) ++ x) (sym (drop-drop n at b)) ∙ take-append-drop n (drop at b))
-
-  two : (at k i : ℕ) (t : List ℕ) → k + i ≡ at → at + 2 ≤ length b → t ≡ drop (at + 2) b → u16le (wordAt (drop k b) i) ++ t ≡ drop at b
-  two at k i t e h f =
-      let x = ok at in
-      let w : wordAt (drop k b) i ≡ getD b at 0 + getD b (at + 1) 0 * 256 =
-      (let g : k + (i + 1) ≡ at + 1 = omega arith in rw (getD-drop k b i 0, getD-drop k b (i + 1) 0, e, g)) in
-      one at (wordAt (drop k b) i % 256) (wordAt (drop k b) i / 256 ∷ t) (omega arith) (omega (arith, w))
-      (one (at + 1) (wordAt (drop k b) i / 256) t (omega arith) (omega (arith, w)) (let g : at + 1 + 1 ≡ at + 2 = omega arith in rw g f))
-
   four : (at : ℕ) (t : List ℕ) → at + 4 ≤ length b → t ≡ drop (at + 4) b → u32le (numberIn (drop at b)) ++ t ≡ drop at b
   four at t h f =
       let n = numberIn (drop at b) in
@@ -72,10 +57,10 @@ module _ (b : List ℕ) (ok : (i : ℕ) → getD b i 0 < 256) where
       let g₁ : at + 1 + 1 ≡ at + 2 = omega arith in
       let g₂ : at + 2 + 1 ≡ at + 3 = omega arith in
       let g₃ : at + 3 + 1 ≡ at + 4 = omega arith in
-      one at (n % 256) (n / 256 % 256 ∷ n / 65536 % 256 ∷ n / 16777216 ∷ t) (omega arith) (omega (arith, e))
-      (one (at + 1) (n / 256 % 256) (n / 65536 % 256 ∷ n / 16777216 ∷ t) (omega arith) (omega (arith, e))
-      (rw g₁ (one (at + 2) (n / 65536 % 256) (n / 16777216 ∷ t) (omega arith) (omega (arith, e))
-      (rw g₂ (one (at + 3) (n / 16777216) t (omega arith) (omega (arith, e)) (rw g₃ f))))))
+      one b ok at (n % 256) (n / 256 % 256 ∷ n / 65536 % 256 ∷ n / 16777216 ∷ t) (omega arith) (omega (arith, e))
+      (one b ok (at + 1) (n / 256 % 256) (n / 65536 % 256 ∷ n / 16777216 ∷ t) (omega arith) (omega (arith, e))
+      (rw g₁ (one b ok (at + 2) (n / 65536 % 256) (n / 16777216 ∷ t) (omega arith) (omega (arith, e))
+      (rw g₂ (one b ok (at + 3) (n / 16777216) t (omega arith) (omega (arith, e)) (rw g₃ f))))))
 
 -- phase and flags as they are written
 pub record Canonical (b : List ℕ) : Type 0 where
@@ -120,13 +105,10 @@ module _ (b : List ℕ) (size : length b ≡ recordSize) (ok : (i : ℕ) → get
   unfolding recordIn recordBytes
   own =
       one b ok 0 _ _ (omega arith) (phase-own (getD b 0 0) (canon .phase))
-      (two b ok lastAt 0 lastAt _ refl (omega arith)
-      (one b ok blockAt _ _ (omega arith) refl
-      (two b ok endAt 0 endAt _ refl (omega arith)
-      (one b ok blocksAt _ _ (omega arith) refl
+      (rest-own b ok _ (omega arith)
       (some b ok placesAt placesSize _ _ (places-own b size ok)
       (some b ok jobAt maxBlocks _ _ (bytes-own maxBlocks (drop jobAt b) (simp length-drop (omega arith)))
-      (plan-own _ (cursor-own _ (frames-own b size)))))))))
+      (plan-own _ (cursor-own _ (frames-own b size))))))
 
   -- the bytes before the cursor and after it
   abbrev around : List ℕ → List ℕ

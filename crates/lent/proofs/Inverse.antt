@@ -15,14 +15,13 @@ use Rattle.board.specs.declared.Phase.{Phase}
 use Rattle.board.specs.declared.Phase.the-variants.{Unmounted, Idle, Busy}
 use Rattle.board.specs.declared.Job.{Job}
 use Rattle.board.specs.declared.Cursor.{Cursor}
-use Rattle.board.specs.declared.Rest.{Rest}
 use Rattle.board.specs.declared.Record.{Record}
-use Rattle.board.specs.Record.{rest}
 use Rattle.lent.specs.Layout.{cursorSize, sinceSize, planSize, placesAt, placesSize, jobAt, planAt}
 use Rattle.lent.specs.Layout.{cursorAt, unitAt, frameAt, recordSize}
 use Rattle.lent.specs.Layout.{phaseIn, bytesIn, wordsIn, flagIn, planIn, jobIn, cursorIn, restIn, recordIn}
-use Rattle.lent.specs.Layout.{phaseByte, wordBytes, flagByte, restBytes, headBytes, planBytes, cursorBytes, recordBytes}
-use Rattle.lent.specs.Layout.{Words, JobFits, CursorFits, RestFits, RecordFits, BytesBack}
+use Rattle.lent.specs.Layout.{phaseByte, wordBytes, flagByte, headBytes, planBytes, cursorBytes, recordBytes}
+use Rattle.lent.specs.Layout.{Words, JobFits, CursorFits, RecordFits, BytesBack}
+use Rattle.lent.proofs.Rests.{rest-back, rest-bytes}
 use Rattle.lent.proofs.Words.{length-word-bytes, length-plan}
 
 -- ---- the parts, read back
@@ -74,9 +73,6 @@ job-back j x p q =
     ∙ ap (planIn (j .wipe)) (drop-at (j .wipe) rest maxBlocks p)
     ∙ plan-back j x q
 
-rest-back : (p : ℕ) (z : Rest) (x : List ℕ) → restIn (p ∷ (restBytes z ++ x)) ≡ z
-rest-back p z x = λ i. rest (z .blocks) (le16-u16 (z .last) i) (z .block) (le16-u16 (z .end) i)
-
 parts-back : (l : List ℕ) (r : Record) → phaseIn (getD l 0 0) ≡ r .phase → restIn l ≡ r .rest
     → wordsIn 256 (drop placesAt l) ≡ r .places → jobIn (drop jobAt l) ≡ r .job
     → cursorIn (drop cursorAt l) ≡ r .cursor → bytesIn maxFrame (drop unitAt l) ≡ r .unit → bytesIn maxFrame (drop frameAt l) ≡ r .frame → recordIn l ≡ r
@@ -104,12 +100,6 @@ word-bytes : (ws : List ℕ) → Words ws → Bytes (wordBytes ws)
 unfolding wordBytes
 word-bytes [] h = tt
 word-bytes (w ∷ ws) h = (omega arith, (omega arith, word-bytes ws (h .1)))
-
-rest-bytes : (z : Rest) → RestFits z → Bytes (restBytes z)
-rest-bytes z h =
-    let a = h .last in
-    let b = h .end in
-    (omega arith, (omega arith, (h .block, (omega arith, (omega arith, (h .blocks, tt))))))
 
 head-bytes : (r : Record) → RecordFits r → Bytes (headBytes r)
 head-bytes r h = (phase-byte (r .phase), rest-bytes (r .rest) (h .rest))
