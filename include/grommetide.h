@@ -128,7 +128,7 @@
  *     grommetide_mount           3,072       3,328
  *     grommetide_fault           3,072       3,072
  *     grommetide_format          2,816       3,328
- *     grommetide_request         2,304       2,816
+ *     grommetide_request         2,304       2,560
  *     grommetide_read            1,792       1,792
  *     grommetide_next              576         512
  *     grommetide_made            2,816       2,816
