@@ -22,13 +22,14 @@ use Rattle.board.specs.declared.Rest.{Rest}
 use Rattle.board.specs.declared.Record.{Record}
 use Rattle.board.specs.Record.{allowed, noPlaces, noMarks, landing, ending, idle}
 use Rattle.board.specs.Step.{enterWipe}
-use Rattle.board.specs.Mount.{nextBlock, newTime, endOf, Store, needsTransfer, mountJob, formatOrder, formatJob}
+use Rattle.board.specs.Mount.{nextBlock, newTime, endOf, Store, Upkeep, moves, upkeep, transfers, mountJob, formatOrder, formatJob}
 use Rattle.board.specs.Queue.{Held, needsRoom, appendJob}
 use Rattle.board.specs.Exec.{exec}
 use Rattle.board.specs.Plan.{Follows, onBlock, formatPlan, transferIf, mountedAt, framePlan, framedAt, formattedAt}
 use Rattle.board.proofs.Numbers.{next-there, next-other}
 use Rattle.board.proofs.Images.{Sized, sized-of, sized-last}
 use Rattle.board.proofs.Blocks.{Besides, besides-blocks, besides-kept}
+use Rattle.board.proofs.Upkeep.{on-upkeep}
 use Rattle.board.proofs.Order.{order-blocks}
 use Rattle.board.proofs.PipelineJob.{Has, follows-staying, follows-moving}
 
@@ -63,45 +64,44 @@ no-append k e xs ys = ap (λ (zs : List Step). xs ++ zs) (append-nil ys)
 pub follows-mount : {N : ℕ} (img : List ℕ) (x : Store) (ks : List ℕ) → allowed N (length img) ≡ true → x .number < N → Besides N (x .number) ks
     → Journal (block (sizeOf N img) (x .number) img) (x .frames)
     → Follows N (exec N) img (enterWipe (mountJob N img x ks))
-    (map erase ks ++ transferIf N (needsTransfer (x .frames) (x .tail)) (x .number) (x .time) (settledOnly (replay (x .frames))))
-    (mountedAt N (needsTransfer (x .frames) (x .tail)) (length img - 1) x)
+    (map erase ks ++ transferIf N (upkeep x) (x .number) (x .time) (settledOnly (replay (x .frames))))
+    (mountedAt N (upkeep x) (length img - 1) x)
 follows-mount {N} img x ks h here others g =
     let k : ℕ = x .number in
     let s : ℕ = sizeOf N img in
     let l : ℕ = length img - 1 in
     let e : ℕ = endOf (x .frames) in
-    let moves : Bool = needsTransfer (x .frames) (x .tail) in
     let st : State = settledOnly (replay (x .frames)) in
     let r : Record = mountJob N img x ks in
     let z : Rest = r .rest in
     let sized : Sized N (sizeOf N img) img = sized-of N img h in
     let fits : e ≤ s = journal-fits s k img (x .frames) g in
     let has : Has (r .job) ks [] = record { wipe = refl; wipes = refl; size = refl } in
-    on-test moves
+    on-upkeep (upkeep x)
     (λ t.
     let same : block s k (applyAll s (map erase ks) img) ≡ block s k img = besides-kept N s k ks img others in
     let total-is : headerLen + total (framesOf st) ≡ used (replay (x .frames)) = frames-total st ∙ claimed-settled (replay (x .frames)) in
     let end-is : headerLen + total (framesOf st) + 0 ≡ used (replay (x .frames)) = omega arith in
-    subst (λ (b : Bool). Follows N (exec N) img (enterWipe r) (map erase ks ++ transferIf N b k (x .time) st) (mountedAt N b l x)) (sym t)
+    subst (λ (u : Upkeep). Follows N (exec N) img (enterWipe r) (map erase ks ++ transferIf N u k (x .time) st) (mountedAt N u l x)) (sym t)
     (subst (λ (n : ℕ). Follows N (exec N) img (enterWipe r) (map erase ks ++ (onBlock (nextBlock N k) (build n (framesOf st)) ++ (erase k ∷ [])))
-    (mountedAt N true l x))
-    (ap (λ (b : Bool). newTime b (x .time)) t)
+    (mountedAt N moves l x))
+    (ap (λ (u : Upkeep). newTime (transfers u) (x .time)) t)
     (subst (λ (n : ℕ). Follows N (exec N) img (enterWipe r) (map erase ks ++ (onBlock (nextBlock N k) (build (r .job .time) (framesOf st)) ++ (erase k ∷ [])))
     (idle (landing z (nextBlock N k) n))) end-is
     (subst (λ (ys : List Step). Follows N (exec N) img (enterWipe r) ys (idle (landing z (nextBlock N k) (headerLen + total (framesOf st) + 0))))
     (no-append (nextBlock N k) (headerLen + total (framesOf st)) (map erase ks)
     (onBlock (nextBlock N k) (build (r .job .time) (framesOf st)) ++ (erase k ∷ [])))
     (follows-moving img z (placesOf (x .frames)) (r .job) 0 e [] ks (sized-last sized) (sized .count) refl (besides-blocks N k ks others) has here (omega arith)
-    (framesOf st) t (next-there k here) (next-other k (sized .few) here)
+    (framesOf st) (ap transfers t) (next-there k here) (next-other k (sized .few) here)
     (omega (arith, used-claimed (replay (x .frames)), claimed-replay (x .frames)))
     (subst (λ (b : List ℕ). Yields b e (placesOf (x .frames)) noMarks 0 e (framesOf st)) (sym same) (yields-settled (block s k img) (x .frames) noMarks g)))))))
     (λ t.
     let end-is : e + 0 ≡ e = omega arith in
-    subst (λ (b : Bool). Follows N (exec N) img (enterWipe r) (map erase ks ++ transferIf N b k (x .time) st) (mountedAt N b l x)) (sym t)
+    subst (λ (u : Upkeep). Follows N (exec N) img (enterWipe r) (map erase ks ++ transferIf N u k (x .time) st) (mountedAt N u l x)) (sym t)
     (subst (λ (n : ℕ). Follows N (exec N) img (enterWipe r) (map erase ks ++ []) (idle (ending z n))) end-is
     (subst (λ (ys : List Step). Follows N (exec N) img (enterWipe r) ys (idle (ending z (e + 0)))) (no-append k e (map erase ks) [])
     (follows-staying img z (placesOf (x .frames)) (r .job) 0 e [] ks (sized-last sized) (sized .count) refl (besides-blocks N k ks others) has here
-    (omega arith) t (omega arith)))))
+    (omega arith) (ap transfers t) (omega arith)))))
 
 -- ---- a queue request's frame
 

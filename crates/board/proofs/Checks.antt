@@ -25,7 +25,7 @@ use Rattle.board.specs.declared.Phase.the-variants.{Unmounted, Idle, Bus
 use Rattle.board.specs.declared.Record.{Record}
 use Rattle.board.specs.Record.{allowed}
 use Rattle.board.specs.Step.{sameShape, action}
-use Rattle.board.specs.Mount.{allFound, anyForeign, stores, Store, equalTimes, newest, needsTransfer, Found, noneValid, lowestTied, tiedTimes}
+use Rattle.board.specs.Mount.{allFound, anyForeign, stores, Store, equalTimes, newest, upkeep, transfers, Found, noneValid, lowestTied, tiedTimes}
 use Rattle.board.specs.Queue.{Held, held, needsRoom}
 use Rattle.board.specs.Exec.{Call, request, step, mount, format}
 use Rattle.board.specs.Table.{isNone, isBusy, frameFor}
@@ -127,7 +127,7 @@ unclear xs (y ∷ ys) = tiedTimes (lowestTied (y ∷ ys))
 -- 6, "by a mount too": of the valid halves the newest is current
 abbrev pub wornStore : List Store → Bool
 wornStore [] = false
-wornStore (x ∷ xs) = let y : Store = newest x xs in needsTransfer (y .frames) (y .tail) && eqb (y .time) lastTime
+wornStore (x ∷ xs) = let y : Store = newest x xs in transfers (upkeep y) && eqb (y .time) lastTime
 
 -- 4, 2, 3, 6
 abbrev pub mountChecks : ℕ → List ℕ → List Check

@@ -23,7 +23,7 @@ use Rattle.board.specs.declared.Phase.the-variants.{Unmounted, Idle, Bus
 use Rattle.board.specs.declared.Record.{Record}
 use Rattle.board.specs.Record.{Out, out, refuse, unmounted, answerOf, allowed}
 use Rattle.board.specs.Step.{enterWipe, begin}
-use Rattle.board.specs.Mount.{Store, allFound, wipeList, needsTransfer, mountJob, mountOn, formatJob, formatOn}
+use Rattle.board.specs.Mount.{Store, allFound, wipeList, upkeep, mountJob, mountOn, formatJob, formatOn}
 use Rattle.board.specs.Exec.{Call, request, step, mount, format, exec}
 use Rattle.board.specs.Plan.{formatPlan, mountPlan, mountedAt, formattedAt}
 use Rattle.board.specs.Table.{InJob as JobPhase}
@@ -156,7 +156,7 @@ module _ {N : ℕ} {s : ℕ} {img : List ℕ} (b : Book) {u : Bool} (v : Bare N 
   mount-begun x y h k f t =
       let ks : List ℕ = wipeList (x .number) (allFound N img) in
       let g : Record = enterWipe (mountJob N img x ks) in
-      let last : Record = mountedAt N (needsTransfer (x .frames) (x .tail)) (length img - 1) x in
+      let last : Record = mountedAt N (upkeep x) (length img - 1) x in
       let a : After N s (applyAll s (mountPlan N (allFound N img) x) img) last (settledOnly (replay (x .frames))) = mount-ends x (v .sized) (y .there) h t in
       finish g (job-begins img g (mountPlan N (allFound N img) x) last
       (follows-mount img x ks (v .sized .ok) (y .there) (wiped-besides N (x .number) img)

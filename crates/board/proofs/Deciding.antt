@@ -21,11 +21,12 @@ use Rattle.wire.specs.declared.Refusal.{Refusal}
 use Rattle.wire.specs.declared.Refusal.the-variants as refusal
 use Rattle.board.specs.Record.{Out, unmounted, refuse}
 use Rattle.board.specs.Step.{begin}
-use Rattle.board.specs.Mount.{allFound, isForeign, Store, stores, equalTimes, newest, wipeList, needsTransfer, mountJob, mountAt, mountOn, noneValid}
+use Rattle.board.specs.Mount.{allFound, isForeign, Store, stores, equalTimes, newest, wipeList, moves, upkeep, transfers, mountJob, mountAt, mountOn, noneValid}
 use Rattle.board.specs.Mount.{tiedTimes}
 use Rattle.board.specs.Claim.{WornOut}
 use Rattle.board.specs.CutFormat.{Beside}
 use Rattle.board.specs.Demand2.{Accepted}
+use Rattle.board.proofs.Upkeep.{is-moves}
 use Rattle.board.proofs.Images.{Sized, size-of}
 use Rattle.board.proofs.Invariant.{Quiet, Others, Lessers, Safe, no-valid, some-valid}
 use Rattle.board.proofs.Found.{Among, Rising, same-number, newest-among, Pair, untied-one, newest-strict, unequal-untied}
@@ -175,7 +176,7 @@ module _ {N : ℕ} {s : ℕ} {img : List ℕ} {x : Store} (z : Sized N s img) (y
 
 -- a transfer is not due at the last time
 abbrev pub InTime : Store → Type 0
-InTime x = needsTransfer (x .frames) (x .tail) ≡ true → x .time < lastTime
+InTime x = upkeep x ≡ moves → x .time < lastTime
 
 pub data Outcome (N : ℕ) (img : List ℕ) (x : Store) : Type 0 where
   worn-out : WornOut N img → mountOn N img ≡ refuse refusal.Worn img unmounted [] → Outcome N img x
@@ -187,7 +188,7 @@ StoreThere s img x = Contents (block s (x .number) img) (x .time) (x .frames) (x
 
 pub mount-outcome : {N : ℕ} {s : ℕ} {img : List ℕ} (x : Store) → Sized N s img → Taken N s img x → StoreThere s img x → Outcome N img x
 mount-outcome {N} {s} {img} x z k y =
-    let n : Bool = needsTransfer (x .frames) (x .tail) in
+    let n : Bool = transfers (upkeep x) in
     let e : Bool = eqb (x .time) lastTime in
     on-test (n && e)
     (λ t. worn-out
@@ -199,11 +200,11 @@ mount-outcome {N} {s} {img} x z k y =
       is-valid =
           ap (λ (m : ℕ). blockState (block m (x .number) img)) (size-of z)
           ∙ k .is-valid ∙ ap (λ (m : ℕ). valid m (x .frames) (x .tail)) (eqb-true (x .time) lastTime (and-right n e t));
-      due = and-left n e t;
+      due = is-moves (upkeep x) (and-left n e t);
     })
     (k .decides ∙ mount-worn N img (allFound N img) x t))
     (λ t. begins
-    (λ d. on-test e (λ a. clash (n && e) (and-both n e d a) t) (λ a. omega (arith, eqb-false (x .time) lastTime a, y .layout .time-hi)))
+    (λ d. on-test e (λ a. clash (n && e) (and-both n e (ap transfers d) a) t) (λ a. omega (arith, eqb-false (x .time) lastTime a, y .layout .time-hi)))
     (k .decides ∙ mount-begins N img (allFound N img) x t))
 
 -- ---- on any image

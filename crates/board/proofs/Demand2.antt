@@ -26,7 +26,7 @@ use Rattle.board.specs.declared.Phase.the-variants.{Unmounted, Idle, Bus
 use Rattle.board.specs.declared.Record.{Record}
 use Rattle.board.specs.Record.{Out, out, unmounted, answerOf}
 use Rattle.board.specs.Step.{stepOn, enterWipe}
-use Rattle.board.specs.Mount.{Store, allFound, wipeList, needsTransfer, mountJob, mountOn, formatJob, formatOn}
+use Rattle.board.specs.Mount.{Store, allFound, wipeList, upkeep, mountJob, mountOn, formatJob, formatOn}
 use Rattle.board.specs.Queue.{Held, requestOn}
 use Rattle.board.specs.Exec.{Call, request, step, mount, format, exec}
 use Rattle.board.specs.Plan.{Follows, formatPlan, mountPlan, mountedAt, formattedAt}
@@ -62,7 +62,7 @@ module _ {N : ℕ} {s : ℕ} {img : List ℕ} (z : Sized N s img) (y : Begins N 
   x = y .store
 
   abbrev last : Record
-  last = mountedAt N (needsTransfer (x .frames) (x .tail)) (length img - 1) x
+  last = mountedAt N (upkeep x) (length img - 1) x
 
   abbrev job : Record
   job = enterWipe (mountJob N img x (wipeList (x .number) (allFound N img)))

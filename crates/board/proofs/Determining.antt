@@ -25,7 +25,7 @@ use Rattle.board.specs.declared.Phase.the-variants.{Unmounted, Idle, Bus
 use Rattle.board.specs.declared.Rest.{Rest}
 use Rattle.board.specs.declared.Record.{Record}
 use Rattle.board.specs.Record.{allowed, unmounted, Stretch, noStretch, Out, out, answerIn, answerOf}
-use Rattle.board.specs.Mount.{allFound, Store, needsTransfer, mountOn}
+use Rattle.board.specs.Mount.{allFound, Store, Upkeep, rests, moves, upkeep, mountOn}
 use Rattle.board.specs.Queue.{Held, held, needsRoom}
 use Rattle.board.specs.Exec.{Call, request, step, mount, format}
 use Rattle.board.specs.Plan.{Follows, formatPlan, mountPlan, mountedAt, framePlan, framedAt, formattedAt}
@@ -99,13 +99,13 @@ framed-idle : (N : ℕ) (b : Bool) (z : Rest) (x : Held) (f : Frame) → framedA
 framed-idle N true z x f = refl
 framed-idle N false z x f = refl
 
-pub mounted-idle : (N : ℕ) (b : Bool) (l : ℕ) (x : Store) → mountedAt N b l x .phase ≡ Idle
-mounted-idle N true l x = refl
-mounted-idle N false l x = refl
+pub mounted-idle : (N : ℕ) (u : Upkeep) (l : ℕ) (x : Store) → mountedAt N u l x .phase ≡ Idle
+mounted-idle N rests l x = refl
+mounted-idle N moves l x = refl
 
 pub job-idle : {N : ℕ} {img : List ℕ} {r : Record} {c : Call} {plan : List Step} {z : Record} → Job N img r c plan z → z .phase ≡ Idle
 job-idle {N} {img} {r} (frame-job h msg reply x q f v k g) = framed-idle N (needsRoom N img r f) (r .rest) x f
-job-idle {N} {img} (mount-job x v) = mounted-idle N (needsTransfer (x .frames) (x .tail)) (length img - 1) x
+job-idle {N} {img} (mount-job x v) = mounted-idle N (upkeep x) (length img - 1) x
 job-idle format-job = refl
 
 -- past the first lines a request has an image and a message that can be told
@@ -297,7 +297,7 @@ module _ {N : ℕ} {m n : Machine} (pm : Calls N m) (pn : Calls N n) (img : List
           let y : Mountable N img = mount-takes pm img by r a in
           let x : Store = y .store in
           agree-takes (m img r mount) (n img q mount) (takes-mount pm img by r a) (takes-mount pn img by q b)
-          (job-alike r q mount (mountPlan N (allFound N img) x) (mountedAt N (needsTransfer (x .frames) (x .tail)) (length img - 1) x) tt
+          (job-alike r q mount (mountPlan N (allFound N img) x) (mountedAt N (upkeep x) (length img - 1) x) tt
           (mount-job x (y .current))
           (mount-job x (y .current)) a b)
 

@@ -18,7 +18,7 @@ use Rattle.board.specs.declared.Phase.{Phase}
 use Rattle.board.specs.declared.Phase.the-variants.{Unmounted, Idle, Busy}
 use Rattle.board.specs.declared.Record.{Record}
 use Rattle.board.specs.Record.{Out}
-use Rattle.board.specs.Mount.{allFound, Store, needsTransfer}
+use Rattle.board.specs.Mount.{allFound, Store, upkeep}
 use Rattle.board.specs.Queue.{Held, needsRoom}
 use Rattle.board.specs.Exec.{Machine, Call, request, step, mount, format}
 use Rattle.board.specs.Plan.{Follows, programs, formatPlan, mountPlan, mountedAt, framePlan, framedAt, formattedAt}
@@ -92,7 +92,7 @@ module _ {N : ℕ} {m : Machine} (p : Calls N m) (img : List ℕ) (by : Bytes im
       taken-ends r mount
       (λ a. let y : Mountable N img = mount-takes p img by r a in
       let x : Store = y .store in
-      job-finishes r mount (mountPlan N (allFound N img) x) (mountedAt N (needsTransfer (x .frames) (x .tail)) (length img - 1) x) tt
+      job-finishes r mount (mountPlan N (allFound N img) x) (mountedAt N (upkeep x) (length img - 1) x) tt
       (mount-job x (y .current)) a (p .one-step img r mount))
       (λ n k. k)
 

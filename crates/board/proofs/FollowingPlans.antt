@@ -9,7 +9,7 @@ use Rattle.flash.specs.Flash.{sizeOf, withBlock}
 use Rattle.wire.specs.Answer.{numberOf}
 use Rattle.board.specs.declared.Record.{Record}
 use Rattle.board.specs.Record.{Out}
-use Rattle.board.specs.Mount.{allFound, Store, needsTransfer}
+use Rattle.board.specs.Mount.{allFound, Store, upkeep}
 use Rattle.board.specs.Exec.{Machine, mount, format, exec}
 use Rattle.board.specs.Plan.{Follows, mountPlan, mountedAt}
 use Rattle.board.specs.Demand2.{Accepted, Mounts, OneStore, EachCall, FromAny, NotStale, UsableFrom, StepLands, LandsFrom}
@@ -28,7 +28,7 @@ module _ {N : ℕ} {m : Machine} (p : Calls N m) where
   mounts-over : (img : List ℕ) (r : Record) (x : Out) → Bytes img → Accepted (m img r mount .answer) → Mounts N (exec N) img x → Mounts N m img (m img r mount)
   mounts-over img r x by a y =
       let s : Store = y .store in
-      let last : Record = mountedAt N (needsTransfer (s .frames) (s .tail)) (length img - 1) s in
+      let last : Record = mountedAt N (upkeep s) (length img - 1) s in
       let f : Follows N m img (m img r mount .board) (mountPlan N (allFound N img) s) last =
       p .jobs img r mount (mountPlan N (allFound N img) s) last by tt (mount-job s (mounts-current img by (mount-allowed p img by r a) x y)) a .0 in
       record {

@@ -1,7 +1,7 @@
 -- How many steps each plan has.
 use mathlib.Core.Path.{_≡_, refl, ap, _∙_}
 use mathlib.Core.List.{List, [], _∷_, _++_, map}
-use mathlib.Core.Bool.{Bool, true, false}
+use mathlib.Core.Bool.{true, false}
 use Prim.Native.Nat.{ℕ, suc, _+_}
 use native.Mathlib.Omega.{arith}
 use lib.ListN.{length, length-append, length-map}
@@ -15,7 +15,7 @@ use Rattle.journal.specs.Room.{used, claimed}
 use Rattle.journal.proofs.Room.{frames-total, claimed-settled}
 use Rattle.journal.proofs.Building.{length-build}
 use Rattle.board.specs.declared.Rest.{Rest}
-use Rattle.board.specs.Mount.{nextBlock, Found, Store, wipeList, needsTransfer, formatOrder}
+use Rattle.board.specs.Mount.{nextBlock, Found, Store, wipeList, Upkeep, rests, moves, upkeep, formatOrder}
 use Rattle.board.specs.Queue.{Held}
 use Rattle.board.specs.Plan.{onBlock, transferPlan, formatPlan, appendPlan, programs, transferIf, mountPlan, framePlan}
 use Rattle.board.proofs.Order.{length-order}
@@ -63,20 +63,20 @@ pub length-frame-stayed : (N : ℕ) (z : Rest) (x : Held) (f : Frame) → length
 length-frame-stayed N z x f = length-plan-append (z .block) (z .end) f
 
 -- a mount's wipes, with a transfer of the settled objects or without
-pub length-mount-moved : (N : ℕ) (xs : List Found) (x : Store) → needsTransfer (x .frames) (x .tail) ≡ true
+pub length-mount-moved : (N : ℕ) (xs : List Found) (x : Store) → upkeep x ≡ moves
     → length (mountPlan N xs x) + 5 ≡ length (wipeList (x .number) xs) + used (replay (x .frames))
 length-mount-moved N xs x t =
     let ks : List ℕ = wipeList (x .number) xs in
     let st : State = settledOnly (replay (x .frames)) in
     let e : length (mountPlan N xs x) ≡ length (map erase ks ++ transferPlan N (x .number) (x .time) st) =
-    ap (λ (b : Bool). length (map erase ks ++ transferIf N b (x .number) (x .time) st)) t in
+    ap (λ (u : Upkeep). length (map erase ks ++ transferIf N u (x .number) (x .time) st)) t in
     omega (arith, wipes-then ks (transferPlan N (x .number) (x .time) st), length-transfer N (x .number) (x .time) st, claimed-settled (replay (x .frames)))
 
-pub length-mount-stayed : (N : ℕ) (xs : List Found) (x : Store) → needsTransfer (x .frames) (x .tail) ≡ false
+pub length-mount-stayed : (N : ℕ) (xs : List Found) (x : Store) → upkeep x ≡ rests
     → length (mountPlan N xs x) ≡ length (wipeList (x .number) xs)
 length-mount-stayed N xs x t =
     let ks : List ℕ = wipeList (x .number) xs in
-    ap (λ (b : Bool). length (map erase ks ++ transferIf N b (x .number) (x .time) (settledOnly (replay (x .frames))))) t ∙ wipes-then ks [] ∙ omega arith
+    ap (λ (u : Upkeep). length (map erase ks ++ transferIf N u (x .number) (x .time) (settledOnly (replay (x .frames))))) t ∙ wipes-then ks [] ∙ omega arith
 
 -- ---- without the erases
 
@@ -100,21 +100,21 @@ programs-transfer N k time st =
     ap (λ (xs : List Step). length xs) (programs-writes n ws (erase k ∷ [])) ∙ length-append (onBlock n ws) [] in
     omega (arith, e, length-append (onBlock n ws) (erase k ∷ []))
 
-pub programs-mount-moved : (N : ℕ) (xs : List Found) (x : Store) → needsTransfer (x .frames) (x .tail) ≡ true
+pub programs-mount-moved : (N : ℕ) (xs : List Found) (x : Store) → upkeep x ≡ moves
     → length (programs (mountPlan N xs x)) + 6 ≡ used (replay (x .frames))
 programs-mount-moved N xs x t =
     let ks : List ℕ = wipeList (x .number) xs in
     let st : State = settledOnly (replay (x .frames)) in
     let ts : List Step = transferPlan N (x .number) (x .time) st in
     let e : length (programs (mountPlan N xs x)) ≡ length (programs ts) =
-    ap (λ (b : Bool). length (programs (map erase ks ++ transferIf N b (x .number) (x .time) st))) t
+    ap (λ (u : Upkeep). length (programs (map erase ks ++ transferIf N u (x .number) (x .time) st))) t
     ∙ ap (λ (ys : List Step). length ys) (programs-wipes ks ts) in
     omega (arith, e, programs-transfer N (x .number) (x .time) st, length-transfer N (x .number) (x .time) st, claimed-settled (replay (x .frames)))
 
-pub programs-mount-stayed : (N : ℕ) (xs : List Found) (x : Store) → needsTransfer (x .frames) (x .tail) ≡ false
+pub programs-mount-stayed : (N : ℕ) (xs : List Found) (x : Store) → upkeep x ≡ rests
     → length (programs (mountPlan N xs x)) ≡ 0
 unfolding programs
 programs-mount-stayed N xs x t =
     let ks : List ℕ = wipeList (x .number) xs in
-    ap (λ (b : Bool). length (programs (map erase ks ++ transferIf N b (x .number) (x .time) (settledOnly (replay (x .frames)))))) t
+    ap (λ (u : Upkeep). length (programs (map erase ks ++ transferIf N u (x .number) (x .time) (settledOnly (replay (x .frames)))))) t
     ∙ ap (λ (ys : List Step). length ys) (programs-wipes ks [])

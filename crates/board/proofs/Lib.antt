@@ -5,6 +5,7 @@ pub mod Numbers  -- of blocks: the one that a transfer goes to, all, all but one
 pub mod Images  -- allowed lengths, and what steps do to each block
 pub mod Blocks  -- lists of block numbers
 pub mod Found  -- the valid blocks, the newest of them, those of one time, the lowest foreign block
+pub mod Upkeep  -- what a mount does after its erases
 pub mod Order  -- the order in which a format erases the blocks
 pub mod Prefixes  -- what holds at every step of a list of steps
 pub mod Invariant  -- what holds of image, record and book between the calls of a run: stated for every group below

@@ -1,20 +1,19 @@
 -- What an accepted mount does: each step lands, every prefix keeps what a mount finds, and it ends with the settled objects alone.
-use mathlib.Core.Path.{_≡_, refl, sym, ap, subst, _∙_}
-use mathlib.Core.List.{List, [], _∷_, map}
-use mathlib.Core.Bool.{Bool, true, false, false≢true}
+use mathlib.Core.Path.{_≡_, refl, sym, subst, _∙_}
+use mathlib.Core.List.{List, map}
+use mathlib.Core.Bool.{Bool}
 use Prim.Native.Nat.{ℕ, suc, _+_, _-_, _≤_, _<_}
 use native.Mathlib.Omega.{arith}
 use lib.ListN.{length}
 use Rattle.flash.specs.Flash.{erase, applyAll}
-use Rattle.flash.proofs.Cases.{on-test}
-use Rattle.frame.specs.Frame.{Frame}
-use Rattle.frame.specs.Reader.{Tail, clean, cut, bad}
-use Rattle.journal.specs.Replay.{Object, Entry, State, state, replay, settledOnly}
+use Rattle.frame.specs.Reader.{Tail}
+use Rattle.journal.specs.Replay.{Object, State, replay, settledOnly}
 use Rattle.journal.specs.Block.{lastTime}
 use Rattle.journal.proofs.Room.{claimed-settled}
 use Rattle.board.specs.Record.{landing, idle}
-use Rattle.board.specs.Mount.{Store, allFound, wipeList, nextBlock, anyPending, needsTransfer, storeAt}
+use Rattle.board.specs.Mount.{Store, allFound, wipeList, nextBlock, Upkeep, rests, moves, upkeep, storeAt}
 use Rattle.board.specs.Plan.{transferIf, programs, mountPlan, mountedAt}
+use Rattle.board.proofs.Upkeep.{on-upkeep, rests-clean, rests-settled}
 use Rattle.board.proofs.Blocks.{wiped-besides}
 use Rattle.board.proofs.Images.{Sized, sized-last, apply-append, length-all-steps}
 use Rattle.board.proofs.Lengths.{length-mount-moved, length-mount-stayed, programs-mount-moved, programs-mount-stayed}
@@ -25,22 +24,6 @@ use Rattle.board.proofs.Erasing.{erases-land, erases-guard, erases-alon
 use Rattle.board.proofs.Transferring.{transfer-lands, transfer-guard, transferred, moves-settled, roomy-settled}
 use Rattle.board.proofs.Deciding.{StoreThere, InTime}
 use Rattle.board.proofs.Wiping.{wipes-others, wipes-few}
-
--- ---- where no transfer is due
-
-needs-clean : (fs : List Frame) (c : Tail) → needsTransfer fs c ≡ false → c ≡ clean
-needs-clean fs clean e = refl
-needs-clean fs (cut n) e = absurd (false≢true (sym e))
-needs-clean fs (bad f) e = absurd (false≢true (sym e))
-
-no-pending : (ps : List Entry) → anyPending ps ≡ false → ps ≡ []
-no-pending [] e = refl
-no-pending (p ∷ ps) e = absurd (false≢true (sym e))
-
-needs-none : (fs : List Frame) (c : Tail) → needsTransfer fs c ≡ false → replay fs ≡ settledOnly (replay fs)
-needs-none fs clean e = ap (λ (ps : List Entry). state (replay fs .objects) ps) (no-pending (replay fs .pending) e)
-needs-none fs (cut n) e = absurd (false≢true (sym e))
-needs-none fs (bad f) e = absurd (false≢true (sym e))
 
 -- ---- the plan
 
@@ -60,56 +43,53 @@ module _ {N : ℕ} {s : ℕ} {img : List ℕ} (x : Store) (z : Sized N s img) (h
 
   pub mount-lands : Each s (StepLands s) (mountPlan N (allFound N img) x) img
   mount-lands =
-      each-append s (StepLands s) (map erase ks) (transferIf N (needsTransfer (x .frames) (x .tail)) (x .number) (x .time) st) img (erases-land s ks img)
-      (go (needsTransfer (x .frames) (x .tail)) t)
+      each-append s (StepLands s) (map erase ks) (transferIf N (upkeep x) (x .number) (x .time) st) img (erases-land s ks img)
+      (go (upkeep x) t)
     where
-      go : (b : Bool) → (b ≡ true → x .time < lastTime) → Each s (StepLands s) (transferIf N b (x .number) (x .time) st) wiped
-      go true l = transfer-lands alone st (moves-settled alone (l refl))
-      go false l = λ j k. absurd (omega arith)
+      go : (u : Upkeep) → (u ≡ moves → x .time < lastTime) → Each s (StepLands s) (transferIf N u (x .number) (x .time) st) wiped
+      go moves l = transfer-lands alone st (moves-settled alone (l refl))
+      go rests l = λ j k. absurd (omega arith)
 
   pub mount-keeps : {os : List Object} (u : Bool) → Keeps s (replay (x .frames)) os → Lessers N s img (x .time) (x .number)
       → Each s (Guard N s os u) (mountPlan N (allFound N img) x) img
   mount-keeps {os} u p q =
-      each-append s (Guard N s os u) (map erase ks) (transferIf N (needsTransfer (x .frames) (x .tail)) (x .number) (x .time) st) img
-      (erases-guard u (x .number) ks img z h (wiped-besides N (x .number) img) (valid-of y p) q) (go (needsTransfer (x .frames) (x .tail)) t)
+      each-append s (Guard N s os u) (map erase ks) (transferIf N (upkeep x) (x .number) (x .time) st) img
+      (erases-guard u (x .number) ks img z h (wiped-besides N (x .number) img) (valid-of y p) q) (go (upkeep x) t)
     where
-      go : (b : Bool) → (b ≡ true → x .time < lastTime) → Each s (Guard N s os u) (transferIf N b (x .number) (x .time) st) wiped
-      go true l = transfer-guard alone st (moves-settled alone (l refl)) u p (keeps-settled p)
-      go false l = λ j k. absurd (omega arith)
+      go : (v : Upkeep) → (v ≡ moves → x .time < lastTime) → Each s (Guard N s os u) (transferIf N v (x .number) (x .time) st) wiped
+      go moves l = transfer-guard alone st (moves-settled alone (l refl)) u p (keeps-settled p)
+      go rests l = λ j k. absurd (omega arith)
 
-  pub mount-ends : After N s (applyAll s (mountPlan N (allFound N img) x) img) (mountedAt N (needsTransfer (x .frames) (x .tail)) (length img - 1) x) st
+  pub mount-ends : After N s (applyAll s (mountPlan N (allFound N img) x) img) (mountedAt N (upkeep x) (length img - 1) x) st
   unfolding applyAll
   mount-ends =
-      subst (λ (i : List ℕ). After N s i (mountedAt N needs (length img - 1) x) st)
-      (sym (apply-append s (map erase ks) (transferIf N needs (x .number) (x .time) st) img)) (go needs refl)
+      subst (λ (i : List ℕ). After N s i (mountedAt N (upkeep x) (length img - 1) x) st)
+      (sym (apply-append s (map erase ks) (transferIf N (upkeep x) (x .number) (x .time) st) img)) (go (upkeep x) refl)
     where
-      needs : Bool
-      needs = needsTransfer (x .frames) (x .tail)
-
       long : length wiped ≡ suc (length img - 1)
       long = length-all-steps s (map erase ks) img ∙ sized-last z
 
-      go : (b : Bool) → needs ≡ b → After N s (applyAll s (transferIf N b (x .number) (x .time) st) wiped) (mountedAt N b (length img - 1) x) st
-      go true e =
-          let after : List ℕ = applyAll s (transferIf N true (x .number) (x .time) st) wiped in
+      go : (u : Upkeep) → upkeep x ≡ u → After N s (applyAll s (transferIf N u (x .number) (x .time) st) wiped) (mountedAt N u (length img - 1) x) st
+      go moves e =
+          let after : List ℕ = applyAll s (transferIf N moves (x .number) (x .time) st) wiped in
           subst (λ (n : ℕ). After N s after (idle (landing (storeAt N (length img - 1) x) (nextBlock N (x .number)) n)) st)
           (claimed-settled (replay (x .frames)))
           (transferred alone st (moves-settled alone (t e)) (storeAt N (length img - 1) x) refl long (roomy-settled alone))
-      go false e =
+      go rests e =
           alone-after (storeAt N (length img - 1) x) st
-          (subst (λ (c : Tail). Alone N s wiped (x .number) (x .time) (x .frames) c) (needs-clean (x .frames) (x .tail) e) alone) refl long
-          (needs-none (x .frames) (x .tail) e) (roomy-settled alone)
+          (subst (λ (c : Tail). Alone N s wiped (x .number) (x .time) (x .frames) c) (rests-clean (x .frames) (x .tail) e) alone) refl long
+          (rests-settled (x .frames) (x .tail) e) (roomy-settled alone)
 
   -- K14: "Demand 1's bound leaves a mount's erases aside": at most S steps without them, and of them at most N
   pub mount-short : length (programs (mountPlan N (allFound N img) x)) ≤ s
   mount-short =
-      on-test (needsTransfer (x .frames) (x .tail))
+      on-upkeep (upkeep x)
       (λ e. omega (arith, programs-mount-moved N (allFound N img) x e, roomy-settled alone, claimed-settled (replay (x .frames))))
       (λ e. omega (arith, programs-mount-stayed N (allFound N img) x e))
 
   pub mount-erases : length (mountPlan N (allFound N img) x) ≤ length (programs (mountPlan N (allFound N img) x)) + N
   mount-erases =
       let few : length ks < N = wipes-few N (x .number) img h in
-      on-test (needsTransfer (x .frames) (x .tail))
+      on-upkeep (upkeep x)
       (λ e. omega (arith, few, length-mount-moved N (allFound N img) x e, programs-mount-moved N (allFound N img) x e))
       (λ e. omega (arith, few, length-mount-stayed N (allFound N img) x e))

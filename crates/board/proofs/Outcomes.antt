@@ -29,7 +29,7 @@ use Rattle.board.specs.declared.Record.{Record}
 use Rattle.board.specs.Record.{allowed, unmounted, ending, idle, inStage, out, refuse}
 use Rattle.board.specs.Step.{enter, enterAppend, landed, enterDrop, loaded, enterCopy, enterOpen, enterWipe, begin, action}
 use Rattle.board.specs.Step.{nextIndex, nextByte, pastFrame, advance, sameShape, stepped, stepBusy, stepIn, stepOn}
-use Rattle.board.specs.Mount.{allFound, Found, Store, stores, equalTimes, newest, wipeList, needsTransfer, mountJob}
+use Rattle.board.specs.Mount.{allFound, Found, Store, stores, equalTimes, newest, wipeList, upkeep, transfers, mountJob}
 use Rattle.board.specs.Mount.{noneValid, lowestTied, tiedTimes, mountAt, mountStores, mountFound, mountOn, formatJob, formatOn}
 use Rattle.board.specs.Queue.{Held, held, needsRoom, appendJob, append, serveChange, serveEnd, placeOf, serveLog, serve}
 use Rattle.board.specs.Queue.{serveParsed, serveHeld, requestIn, requestOn}
@@ -169,12 +169,12 @@ module _ (N : ℕ) (img : List ℕ) (a : allowed N (length img) ≡ true) where
       → mountOn N img ≡ mountAt N img (allFound N img) (newest y ys)
   mount-at y ys e t = mount-stores ∙ ap (mountStores N img (allFound N img)) e ∙ rw t
 
-pub mount-worn : (N : ℕ) (img : List ℕ) (xs : List Found) (x : Store) → (needsTransfer (x .frames) (x .tail) && eqb (x .time) lastTime) ≡ true
+pub mount-worn : (N : ℕ) (img : List ℕ) (xs : List Found) (x : Store) → (transfers (upkeep x) && eqb (x .time) lastTime) ≡ true
     → mountAt N img xs x ≡ refuse refusal.Worn img unmounted []
 unfolding mountAt
 mount-worn N img xs x e = rw (e, mountAt)
 
-pub mount-begins : (N : ℕ) (img : List ℕ) (xs : List Found) (x : Store) → (needsTransfer (x .frames) (x .tail) && eqb (x .time) lastTime) ≡ false
+pub mount-begins : (N : ℕ) (img : List ℕ) (xs : List Found) (x : Store) → (transfers (upkeep x) && eqb (x .time) lastTime) ≡ false
     → mountAt N img xs x ≡ begin img [] (mountJob N img x (wipeList (x .number) xs))
 unfolding mountAt
 mount-begins N img xs x e = rw (e, mountAt)

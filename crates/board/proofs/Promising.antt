@@ -31,7 +31,7 @@ use Rattle.board.specs.declared.Phase.{Phase}
 use Rattle.board.specs.declared.Phase.the-variants.{Unmounted, Idle, Busy}
 use Rattle.board.specs.declared.Record.{Record}
 use Rattle.board.specs.Record.{allowed, Stretch, noStretch, Out, out, refuse, answerOf}
-use Rattle.board.specs.Mount.{allFound, Store, needsTransfer, mountOn, formatOn}
+use Rattle.board.specs.Mount.{allFound, Store, upkeep, mountOn, formatOn}
 use Rattle.board.specs.Queue.{Held, held, needsRoom, placeOf, append, serve, serveChange, serveEnd, requestOn}
 use Rattle.board.specs.Exec.{Call, request, step, mount, format, exec}
 use Rattle.board.specs.Plan.{Follows, formatPlan, mountPlan, mountedAt, framePlan, framedAt, formattedAt}
@@ -220,7 +220,7 @@ module _ (N : ℕ) (img : List ℕ) (r : Record) (by : Bytes img) where
       subst₂ (Plans N img r (request h m reply) o) c e (w .follows, w .short)
 
   mount-does : (x : Store) → Current N img x → Accepted (mountOn N img .answer)
-      → Does N img mount (mountOn N img .board) (mountPlan N (allFound N img) x) (mountedAt N (needsTransfer (x .frames) (x .tail)) (length img - 1) x)
+      → Does N img mount (mountOn N img .board) (mountPlan N (allFound N img) x) (mountedAt N (upkeep x) (length img - 1) x)
   unfolding OneStore
   mount-does x v a =
       on-test (allowed N (length img))
@@ -228,7 +228,7 @@ module _ (N : ℕ) (img : List ℕ) (r : Record) (by : Bytes img) where
       let y : Mounts N (exec N) img (mountOn N img) = one-store N img r by ok a in
       let e : y .store ≡ x = same-store img by ok (y .store) x (mounts-current img by ok (mountOn N img) y) v in
       subst (λ (s : Store). Does N img mount (mountOn N img .board) (mountPlan N (allFound N img) s)
-      (mountedAt N (needsTransfer (s .frames) (s .tail)) (length img - 1) s)) e
+      (mountedAt N (upkeep s) (length img - 1) s)) e
       (subst (Follows N (exec N) img (mountOn N img .board) (mountPlan N (allFound N img) (y .store))) (y .is-last) (y .follows), (y .short, y .erases)))
       (λ no. absurd (subst (λ (o : Out). Accepted (o .answer)) (mount-length N img no) a))
 

@@ -32,7 +32,7 @@ use Rattle.board.specs.declared.Phase.the-variants.{Unmounted, Idle, Bus
 use Rattle.board.specs.declared.Record.{Record}
 use Rattle.board.specs.Record.{allowed, unmounted, Out, refuse, answerIn}
 use Rattle.board.specs.Step.{sameShape, enterWipe, action, advance, stepOn}
-use Rattle.board.specs.Mount.{allFound, anyForeign, Found, Store, stores, equalTimes, newest, wipeList, needsTransfer, mountJob}
+use Rattle.board.specs.Mount.{allFound, anyForeign, Found, Store, stores, equalTimes, newest, wipeList, upkeep, transfers, mountJob}
 use Rattle.board.specs.Mount.{isForeign, orForeign, noneValid, mountAt, mountStores, mountOn, formatJob, formatOn}
 use Rattle.board.specs.Queue.{Held, held, needsRoom, appendJob, append, serveChange, serveEnd, serve, serveParsed, serveHeld, requestIn, requestOn}
 use Rattle.board.specs.Exec.{Call, request, step, mount, format, exec}
@@ -177,9 +177,9 @@ abbrev Made : List ℕ → List Check → Out → Type 0
 Made img cs o = Follows (Same img) img unmounted [] cs o
 
 at-made : (N : ℕ) (img : List ℕ) (xs : List Found) (x : Store)
-    → Made img (check refusal.Worn (needsTransfer (x .frames) (x .tail) && eqb (x .time) lastTime) ∷ []) (mountAt N img xs x)
+    → Made img (check refusal.Worn (transfers (upkeep x) && eqb (x .time) lastTime) ∷ []) (mountAt N img xs x)
 at-made N img xs x =
-    on-test (needsTransfer (x .frames) (x .tail) && eqb (x .time) lastTime)
+    on-test (transfers (upkeep x) && eqb (x .time) lastTime)
     (λ e. stops refl e (mount-worn N img xs x e))
     (λ e. over (mount-begins N img xs x e) (passes e (accepted (begin-accepts (enterWipe (mountJob N img x (wipeList (x .number) xs)) .phase)) refl)))
 

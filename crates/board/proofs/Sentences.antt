@@ -24,7 +24,7 @@ use Rattle.journal.proofs.Lists.{open-none}
 use Rattle.journal.proofs.Room.{frames-total}
 use Rattle.journal.proofs.ReplayLaws.{order-laws}
 use Rattle.journal.proofs.Sources.{place-exact}
-use Rattle.board.specs.Mount.{nextBlock, allFound, wipeList, anyPending, needsTransfer, numbersBut, formatOrder}
+use Rattle.board.specs.Mount.{nextBlock, allFound, wipeList, forPending, Upkeep, upkeepOf, upkeep, numbersBut, formatOrder}
 use Rattle.board.specs.Record.{allowed}
 use Rattle.board.specs.Queue.{stretchOf}
 use Rattle.board.specs.Table.{frameIf}
@@ -33,6 +33,7 @@ use Rattle.board.specs.CutFormat.{Beside}
 use Rattle.board.specs.Sentences.{FrameExact, NeedsExact, Programs, NextOf, following, round, TransferExact, AppendExact, StretchExact}
 use Rattle.board.specs.Sentences.{firstHeader, ByNumber, LastIs, NewestAt, FormatExact, Member, MountExact}
 use Rattle.board.proofs.Numbers.{next-up, next-round, length-numbers, number-at, length-but, but-below, but-above}
+use Rattle.board.proofs.Upkeep.{pending-moves}
 use Rattle.board.proofs.Lengths.{length-transfer, length-format}
 use Rattle.board.proofs.Order.{beside-of, StateOf, Newest, order-last, order-rises}
 use Rattle.board.proofs.Erasing.{In}
@@ -208,10 +209,6 @@ member-in j [] i h e = absurd (omega arith)
 member-in j (n ∷ ns) zero h e = inl (sym e)
 member-in j (n ∷ ns) (suc i) h e = inr (member-in j ns i (omega arith) e)
 
-some-pending : (es : List Entry) → (es ≡ [] → ⊥) → anyPending es ≡ true
-some-pending [] n = absurd (n refl)
-some-pending (e ∷ es) n = refl
-
 pub mount-exact : MountExact
 unfolding MountExact
 mount-exact N img x =
@@ -219,17 +216,17 @@ mount-exact N img x =
     let ks : List ℕ = wipeList (x .number) (allFound N img) in
     record {
       erased = ks;
-      moves = transferIf N (needsTransfer (x .frames) (x .tail)) (x .number) (x .time) st;
+      moves = transferIf N (upkeep x) (x .number) (x .time) st;
       steps = refl;
       by-number = rising-at 0 ks (wipes-rise N (x .number) img);
       every = λ j. let w = wipes-exact N (x .number) img j in (λ (i, h, e). w .0 (member-in j ks i h e), λ y. in-member j ks (w .1 y));
-      torn = λ n q. ap (λ (t : Tail). transferIf N (needsTransfer (x .frames) t) (x .number) (x .time) st) q;
+      torn = λ n q. ap (λ (t : Tail). transferIf N (upkeepOf (x .frames) t) (x .number) (x .time) st) q;
       pending = λ q n.
-          ap (λ (t : Tail). transferIf N (needsTransfer (x .frames) t) (x .number) (x .time) st) q
-          ∙ ap (λ (b : Bool). transferIf N b (x .number) (x .time) st) (some-pending (replay (x .frames) .pending) n);
+          ap (λ (t : Tail). transferIf N (upkeepOf (x .frames) t) (x .number) (x .time) st) q
+          ∙ ap (λ (u : Upkeep). transferIf N u (x .number) (x .time) st) (pending-moves (replay (x .frames) .pending) n);
       at-rest = λ q n.
-          ap (λ (t : Tail). transferIf N (needsTransfer (x .frames) t) (x .number) (x .time) st) q
-          ∙ ap (λ (es : List Entry). transferIf N (anyPending es) (x .number) (x .time) st) n;
+          ap (λ (t : Tail). transferIf N (upkeepOf (x .frames) t) (x .number) (x .time) st) q
+          ∙ ap (λ (es : List Entry). transferIf N (forPending es) (x .number) (x .time) st) n;
     }
 
 -- ---- a read's stretch

@@ -29,7 +29,7 @@ use Rattle.board.specs.declared.Phase.the-variants.{Unmounted, Idle, Bus
 use Rattle.board.specs.declared.Record.{Record}
 use Rattle.board.specs.Record.{allowed, unmounted, Out, refuse, answerIn}
 use Rattle.board.specs.Step.{enterWipe}
-use Rattle.board.specs.Mount.{Store, needsTransfer, anyPending, allFound, wipeList, mountJob, mountOn}
+use Rattle.board.specs.Mount.{Store, moves, upkeepOf, upkeep, forPending, allFound, wipeList, mountJob, mountOn}
 use Rattle.board.specs.Demand2.{Accepted, Mounts}
 use Rattle.board.specs.Table.{line, Exactly, ValidAt, ForeignAt, NothingThere, Unclear, foreign-only, equal-times, TiedAt, tied-with}
 use Rattle.board.specs.Table.{Unsettled, MountWorn, mountLines, Names, names-foreign, names-equal}
@@ -42,7 +42,8 @@ use Rattle.board.proofs.Erasing.{SameValid, same-valid}
 use Rattle.board.proofs.Deciding as deciding
 use Rattle.board.proofs.Deciding.{Taken, SameTimes, Decided, Outcome, InTime, worn-out, begins, foreign-block, none-valid, at-store}
 use Rattle.board.proofs.Deciding.{mount-decides, mount-outcome, mount-accepted, taken-holds, taken-newest}
-use Rattle.board.proofs.Tabling.{false-true, allowed-is, is-allowed, allowed-not}
+use Rattle.board.proofs.Upkeep.{not-both, pending-moves}
+use Rattle.board.proofs.Tabling.{allowed-is, is-allowed, allowed-not}
 use Rattle.journal.specs.Faults.{FaultIn}
 use Rattle.wire.specs.declared.Answer.{Answer}
 use Rattle.board.proofs.Answering.{SameNamed, Both, same-lines}
@@ -54,24 +55,17 @@ begun (Busy g) = tt
 
 -- ---- a transfer is due
 
-pending-some : (fs : List Frame) → (replay fs .pending ≡ [] → ⊥) → anyPending (replay fs .pending) ≡ true
-pending-some fs n = go (replay fs .pending) n
-  where
-    go : (ps : List Entry) → (ps ≡ [] → ⊥) → anyPending ps ≡ true
-    go [] f = absurd (f refl)
-    go (p ∷ ps) f = refl
-
-some-pending : (ps : List Entry) → anyPending ps ≡ true → ps ≡ [] → ⊥
-some-pending ps t e = false-true (sym (ap anyPending e) ∙ t)
+some-pending : (ps : List Entry) → forPending ps ≡ moves → ps ≡ [] → ⊥
+some-pending ps t e = not-both (sym t ∙ ap forPending e)
 
 -- "has a torn tail or anything pending"
-unsettled-due : (fs : List Frame) (c : Tail) → Unsettled fs c → needsTransfer fs c ≡ true
+unsettled-due : (fs : List Frame) (c : Tail) → Unsettled fs c → upkeepOf fs c ≡ moves
 unsettled-due fs clean (inl n) = absurd (n refl)
-unsettled-due fs clean (inr n) = pending-some fs n
+unsettled-due fs clean (inr n) = pending-moves (replay fs .pending) n
 unsettled-due fs (cut k) u = refl
 unsettled-due fs (bad e) u = refl
 
-due-unsettled : (fs : List Frame) (c : Tail) → needsTransfer fs c ≡ true → Unsettled fs c
+due-unsettled : (fs : List Frame) (c : Tail) → upkeepOf fs c ≡ moves → Unsettled fs c
 due-unsettled fs clean t = inr (some-pending (replay fs .pending) t)
 due-unsettled fs (cut k) t = inl (λ e. let w : _≡_ {A = ℕ} 0 1 = cc in omega arith)
 due-unsettled fs (bad e) t = inl (λ e. let w : _≡_ {A = ℕ} 0 1 = cc in omega arith)
@@ -140,8 +134,8 @@ module _ {N : ℕ} (img : List ℕ) (by : Bytes img) (ok : allowed N (length img
         on-test (eqb (w .number) (x .number))
         (λ p.
         let e : SameValid lastTime (w .frames) (w .tail) (x .time) (x .frames) (x .tail) = at-number (w .is-valid) (eqb-true (w .number) (x .number) p) in
-        let d : needsTransfer (x .frames) (x .tail) ≡ true =
-        ap₂ needsTransfer (sym (e .frames)) (sym (e .tail)) ∙ unsettled-due (w .frames) (w .tail) (w .unsettled) in
+        let d : upkeep x ≡ moves =
+        ap₂ upkeepOf (sym (e .frames)) (sym (e .tail)) ∙ unsettled-due (w .frames) (w .tail) (w .unsettled) in
         omega (arith, e .time, t d))
         (λ p. omega (
           arith,

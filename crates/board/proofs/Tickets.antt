@@ -29,7 +29,7 @@ use Rattle.board.specs.declared.Phase.{Phase}
 use Rattle.board.specs.declared.Phase.the-variants.{Idle}
 use Rattle.board.specs.declared.Record.{Record}
 use Rattle.board.specs.Record.{allowed, Out, out, Accepted}
-use Rattle.board.specs.Mount.{allFound, Store, needsTransfer}
+use Rattle.board.specs.Mount.{allFound, Store, upkeep}
 use Rattle.board.specs.Queue.{Held, needsRoom}
 use Rattle.board.specs.Exec.{Machine, Call, request, step, mount, format}
 use Rattle.board.specs.Plan.{mountPlan, mountedAt, framePlan, framedAt}
@@ -222,7 +222,7 @@ module _ {N : ℕ} {m : Machine} (p : Promise N m) (i : List ℕ) (bi : Bytes i)
   plan = mountPlan N (allFound N i) (store .store)
 
   abbrev z : Record
-  z = mountedAt N (needsTransfer (store .store .frames) (store .store .tail)) (length i - 1) (store .store)
+  z = mountedAt N (upkeep (store .store)) (length i - 1) (store .store)
 
   abbrev after : List ℕ
   after = applyAll (sizeOf N i) plan i
@@ -245,7 +245,7 @@ module _ {N : ℕ} {m : Machine} (p : Promise N m) (i : List ℕ) (bi : Bytes i)
   idle-agrees : IdleAgrees N after z (book os noLists nothing)
   idle-agrees =
       subst (λ (h : Phase). AgreesIn N m mount h after z (book os noLists nothing))
-      (mounted-idle N (needsTransfer (store .store .frames) (store .store .tail)) (length i - 1) (store .store))
+      (mounted-idle N (upkeep (store .store)) (length i - 1) (store .store))
       (subst₂ (λ (l : List ℕ) (v : Record). Agrees N m mount l v (book os noLists nothing)) (image-after w accepted-too) (steps w accepted-too .last)
       (agrees (length plan)))
 
@@ -255,7 +255,7 @@ module _ {N : ℕ} {m : Machine} (p : Promise N m) (i : List ℕ) (bi : Bytes i)
       let ok : allowed N (length i) ≡ true = mount-allowed (p .calls) i bi q a in
       let y : Mounts N m i (m i q mount) = p .one-store i q bi ok a in
       let e : y .store ≡ store .store = same-store i bi ok (y .store) (store .store) (mounts-current i bi ok (m i q mount) y) (store .current) in
-      let f : y .last ≡ z = y .is-last ∙ ap (λ (s : Store). mountedAt N (needsTransfer (s .frames) (s .tail)) (length i - 1) s) e in
+      let f : y .last ≡ z = y .is-last ∙ ap (λ (s : Store). mountedAt N (upkeep s) (length i - 1) s) e in
       let fresh : Fresh N after z (y .holding) =
       subst₂ (λ (s : Store) (v : Record). Fresh N (applyAll (sizeOf N i) (mountPlan N (allFound N i) s) i) v (y .holding)) e f (y .is-fresh) in
       let g : SameValid (y .holding .time) (y .holding .frames) clean (idle-agrees .time) (idle-agrees .frames) clean =

@@ -1,7 +1,7 @@
 -- Two blocks: a mount takes the half that it took before and erases the other, a format erases the two in the same order; and the whole comparison.
 use mathlib.Core.Path.{_≡_, refl, sym, ap, ap₂, subst, subst₂, _∙_}
 use mathlib.Core.List.{List, [], _∷_, _++_, map}
-use mathlib.Core.Bool.{Bool, true, false, _&&_, cond}
+use mathlib.Core.Bool.{true, false, _&&_, cond}
 use Prim.Native.Nat.{ℕ, zero, suc, _-_, _<_}
 use native.Mathlib.Omega.{arith}
 use lib.Dec.{eqb, ltb}
@@ -22,7 +22,7 @@ use Rattle.wire.specs.declared.Refusal.{Refusal}
 use Rattle.wire.specs.declared.Refusal.the-variants as refusal
 use Rattle.board.specs.declared.Record.{Record}
 use Rattle.board.specs.Record.{allowed, unmounted, rest, idle, Out, refuse}
-use Rattle.board.specs.Mount.{endOf, Found, allFound, isBlank, Store, stores, wipeList, needsTransfer, mountAt, mountStores, mountOn}
+use Rattle.board.specs.Mount.{endOf, Found, allFound, isBlank, Store, stores, wipeList, Upkeep, rests, moves, upkeepOf, transfers, mountAt, mountStores, mountOn}
 use Rattle.board.specs.Mount.{orderFor, formatOrder, formatOn}
 use Rattle.board.specs.Exec.{exec}
 use Rattle.board.specs.Plan.{Follows, onBlock, formatPlan, transferIf, mountPlan, mountedAt, formattedAt}
@@ -112,14 +112,14 @@ wipes-beside zero f h = on-test (isBlank (f 1)) (λ t. rw t) (λ t. rw t)
 wipes-beside (suc zero) f h = on-test (isBlank (f 0)) (λ t. rw t) (λ t. rw t)
 wipes-beside (suc (suc k)) f h = absurd (omega arith)
 
-moves-beside : (b : Bool) (k t : ℕ) (st : State) → k < 2 → transferIf 2 b k t st ≡ cond b (transferTwo k t st) []
-moves-beside true k t st h = ap (λ (j : ℕ). onBlock j (build (suc t) (framesOf st)) ++ (erase k ∷ [])) (next-beside k h)
-moves-beside false k t st h = refl
+moves-beside : (u : Upkeep) (k t : ℕ) (st : State) → k < 2 → transferIf 2 u k t st ≡ cond (transfers u) (transferTwo k t st) []
+moves-beside moves k t st h = ap (λ (j : ℕ). onBlock j (build (suc t) (framesOf st)) ++ (erase k ∷ [])) (next-beside k h)
+moves-beside rests k t st h = refl
 
-mounted-beside : (b : Bool) (l k t : ℕ) (fs : List Frame) (c : Tail) → k < 2
-    → mountedAt 2 b l (store k t fs c) ≡ cond b (idle (rest 2 l (beside k) (used (replay fs)))) (idle (rest 2 l k (endOf fs)))
-mounted-beside true l k t fs c h = ap (λ (j : ℕ). idle (rest 2 l j (used (replay fs)))) (next-beside k h)
-mounted-beside false l k t fs c h = refl
+mounted-beside : (u : Upkeep) (l k t : ℕ) (fs : List Frame) (c : Tail) → k < 2
+    → mountedAt 2 u l (store k t fs c) ≡ cond (transfers u) (idle (rest 2 l (beside k) (used (replay fs)))) (idle (rest 2 l k (endOf fs)))
+mounted-beside moves l k t fs c h = ap (λ (j : ℕ). idle (rest 2 l j (used (replay fs)))) (next-beside k h)
+mounted-beside rests l k t fs c h = refl
 
 -- ---- a call
 
@@ -151,19 +151,19 @@ module _ (img : List ℕ) (t : allowedTwo (length img) ≡ true) where
         let v : blockState (block s k img) ≡ valid u fs c = ap (λ (n : ℕ). blockState (block n k img)) (two-sizes img) ∙ chosen e .1 in
         journal-of (valid-inv (block s k img) u fs c (bytes-block s k img by) (omega (arith, block-long k z (chosen e .0), z .low)) v)
 
-    two-worn : u ≡ lastTime → needsTransfer fs c ≡ true → mountOn 2 img ≡ refuse refusal.Worn img unmounted []
-    two-worn l n = two-takes ∙ mount-worn 2 img states (store k u fs c) (and-both (needsTransfer fs c) (eqb u lastTime) n (eq-eqb u lastTime l))
+    two-worn : u ≡ lastTime → upkeepOf fs c ≡ moves → mountOn 2 img ≡ refuse refusal.Worn img unmounted []
+    two-worn l n = two-takes ∙ mount-worn 2 img states (store k u fs c) (and-both (transfers (upkeepOf fs c)) (eqb u lastTime) (ap transfers n) (eq-eqb u lastTime l))
 
-    two-mounts : Bytes img → (needsTransfer fs c && eqb u lastTime) ≡ false
+    two-mounts : Bytes img → (transfers (upkeepOf fs c) && eqb u lastTime) ≡ false
         → Follows 2 (exec 2) img (mountOn 2 img .board) (mountTwo img k u fs c) (mountedTwo img k fs c)
     two-mounts by n =
         let x : Store = store k u fs c in
-        let moves : Bool = needsTransfer fs c in
+        let kept : Upkeep = upkeepOf fs c in
         let here : k < 2 = chosen e .0 in
         subst₂ (Follows 2 (exec 2) img (mountOn 2 img .board))
-        (ap₂ _++_ (wipes-beside k (stateTwo img) here) (moves-beside moves k u (settledOnly (replay fs)) here))
-        (mounted-beside moves (length img - 1) k u fs c here)
-        (subst (λ (o : Out). Follows 2 (exec 2) img (o .board) (mountPlan 2 states x) (mountedAt 2 moves (length img - 1) x))
+        (ap₂ _++_ (wipes-beside k (stateTwo img) here) (moves-beside kept k u (settledOnly (replay fs)) here))
+        (mounted-beside kept (length img - 1) k u fs c here)
+        (subst (λ (o : Out). Follows 2 (exec 2) img (o .board) (mountPlan 2 states x) (mountedAt 2 kept (length img - 1) x))
         (sym (two-takes ∙ mount-begins 2 img states x n))
         (follows-mount img x (wipeList k states) ok here
         (subst (λ (xs : List Found). Besides 2 k (wipeList k xs)) (all-two img) (wiped-besides 2 k img)) (two-journal by)))

@@ -24,7 +24,7 @@ use Rattle.journal.proofs.Blocks.{blank-block}
 use Rattle.journal.proofs.Sentences.{states-exact}
 use Rattle.board.specs.declared.Rest.{Rest}
 use Rattle.board.specs.declared.Record.{Record}
-use Rattle.board.specs.Mount.{allFound, nextBlock, needsTransfer, Store, wipeList}
+use Rattle.board.specs.Mount.{allFound, nextBlock, Upkeep, rests, moves, upkeep, Store, wipeList}
 use Rattle.board.specs.Queue.{Held, needsRoom}
 use Rattle.board.specs.Exec.{Call, request, step, mount, format}
 use Rattle.board.specs.Plan.{onBlock, transferPlan, transferIf, framePlan, framedAt, mountedAt}
@@ -155,10 +155,10 @@ module _ {N : ℕ} where
       (leads-on j j ws (erase k ∷ onBlock j us) l (λ zs h. ((k, h), leads-writes j us (level-next h))))
   leads-frame false z x f l = leads-writes (z .block) (writes (z .end) (encode f)) l
 
-  leads-mount : {xs : List Step} (c : Bool) (n : ℕ) (x : Store) (st : State) → Level N xs (x .number)
-      → Leads N xs (transferIf N c (x .number) (x .time) st) (mountedAt N c n x .rest .block)
-  leads-mount true n x st l = leads-transfer (x .time) st l
-  leads-mount false n x st l = l
+  leads-mount : {xs : List Step} (u : Upkeep) (n : ℕ) (x : Store) (st : State) → Level N xs (x .number)
+      → Leads N xs (transferIf N u (x .number) (x .time) st) (mountedAt N u n x .rest .block)
+  leads-mount moves n x st l = leads-transfer (x .time) st l
+  leads-mount rests n x st l = l
 
 -- ---- the image between jobs
 
@@ -207,5 +207,5 @@ module _ {N s : ℕ} {img : List ℕ} {xs : List Step} (z : Sized N s img) (by :
   job-leads n (mount-job x v) =
       let e : y .0 .rest .block ≡ x .number = same-block (x .number) (v .is-valid .0) (v .is-valid .1) in
       rw (wipes-none (x .number) e)
-      (leads-mount (needsTransfer (x .frames) (x .tail)) (length img - 1) x _ (subst (Level N xs) e (y .2)))
+      (leads-mount (upkeep x) (length img - 1) x _ (subst (Level N xs) e (y .2)))
   job-leads n format-job = absurd n

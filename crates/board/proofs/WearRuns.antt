@@ -17,7 +17,7 @@ use Rattle.board.specs.declared.Phase.{Phase}
 use Rattle.board.specs.declared.Phase.the-variants.{Unmounted, Idle, Busy}
 use Rattle.board.specs.declared.Record.{Record}
 use Rattle.board.specs.Record.{Out, out, answerIn, answerOf}
-use Rattle.board.specs.Mount.{allFound, needsTransfer, Store}
+use Rattle.board.specs.Mount.{allFound, upkeep, Store}
 use Rattle.board.specs.Queue.{Held, needsRoom}
 use Rattle.board.specs.Exec.{Machine, Call, request, step, mount, format, exec}
 use Rattle.board.specs.Plan.{framePlan, framedAt, mountPlan, mountedAt, formatPlan, Follows, formattedAt}
@@ -178,7 +178,7 @@ module _ {N : ℕ} {m : Machine} (p : Calls N m) (img : List ℕ) (by : Bytes im
           let y : Mountable N img = mount-takes p img by q (subst Accepted (sym e) tt) in
           let x : Store = y .store in (
             mountPlan N (allFound N img) x,
-            begins (mountedAt N (needsTransfer (x .frames) (x .tail)) (length img - 1) x) e (mount-job x (y .current)),
+            begins (mountedAt N (upkeep x) (length img - 1) x) e (mount-job x (y .current)),
           )
 
 -- ---- every run

@@ -29,7 +29,7 @@ use Rattle.board.specs.declared.Phase.{Phase}
 use Rattle.board.specs.declared.Phase.the-variants.{Unmounted, Idle, Busy}
 use Rattle.board.specs.declared.Record.{Record}
 use Rattle.board.specs.Record.{allowed, Out}
-use Rattle.board.specs.Mount.{needsTransfer}
+use Rattle.board.specs.Mount.{moves, upkeepOf}
 use Rattle.board.specs.Exec.{Call, request, step, mount, format, Machine}
 use Rattle.board.specs.Plan.{Follows}
 use Rattle.board.specs.Table.{InJob}
@@ -102,7 +102,7 @@ pub record WornOut (N : ℕ) (img : List ℕ) : Type 0 where
   pub tail : Tail
   pub there : number < N
   pub is-valid : blockState (block (sizeOf N img) number img) ≡ valid lastTime frames tail
-  pub due : needsTransfer frames tail ≡ true
+  pub due : upkeepOf frames tail ≡ moves
 
 -- `unfinished`: a format was accepted and has since neither finished nor been followed by an accepted mount
 pub record MountSays (N : ℕ) (img : List ℕ) (unfinished : Bool) (o : Out) : Type 0 where

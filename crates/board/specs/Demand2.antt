@@ -24,7 +24,7 @@ use Rattle.board.specs.declared.Phase.the-variants.{Idle}
 use Rattle.board.specs.declared.Record.{Record}
 pub use Rattle.board.specs.Record.{Accepted}
 use Rattle.board.specs.Record.{Out, allowed}
-use Rattle.board.specs.Mount.{allFound, Store, needsTransfer}
+use Rattle.board.specs.Mount.{allFound, Store, upkeep}
 use Rattle.board.specs.Queue.{Held}
 use Rattle.board.specs.Exec.{request, mount, format, Machine}
 use Rattle.board.specs.Plan.{Follows, programs, mountPlan, mountedAt}
@@ -44,7 +44,7 @@ pub record Mounts (N : ℕ) (m : Machine) (img : List ℕ) (o : Out) : Type 0 wh
   pub newest : (k t : ℕ) (fs : List Frame) (c : Tail) → k < N → (k ≡ store .number → ⊥)
       → blockState (block (sizeOf N img) k img) ≡ valid t fs c → t < store .time
   pub last : Record
-  pub is-last : last ≡ mountedAt N (needsTransfer (store .frames) (store .tail)) (length img - 1) store
+  pub is-last : last ≡ mountedAt N (upkeep store) (length img - 1) store
   pub follows : Follows N m img (o .board) (mountPlan N (allFound N img) store) last
   -- K14: "Demand 1's bound leaves a mount's erases aside"; of those there are at most N
   pub short : length (programs (mountPlan N (allFound N img) store)) ≤ sizeOf N img

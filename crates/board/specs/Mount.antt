@@ -103,15 +103,28 @@ wipeList k (x ∷ xs) = cond (eqb k (x .number) || isBlank (x .state)) (wipeList
 abbrev pub wipeArray : List ℕ → List ℕ
 wipeArray ks = ks ++ replicate (maxBlocks - length ks) 0
 
--- "If the current one has a torn tail or anything pending, a transfer of the settled objects alone follows."
-abbrev pub anyPending : List Entry → Bool
-anyPending [] = false
-anyPending (e ∷ es) = true
+-- what a mount does with the current block after its erases
+pub data Upkeep : Type 0 where
+  rests : Upkeep
+  moves : Upkeep
 
-abbrev pub needsTransfer : List Frame → Tail → Bool
-needsTransfer fs clean = anyPending (replay fs .pending)
-needsTransfer fs (cut n) = true
-needsTransfer fs (bad e) = true
+-- "If the current one has a torn tail or anything pending, a transfer of the settled objects alone follows."
+abbrev pub forPending : List Entry → Upkeep
+forPending [] = rests
+forPending (e ∷ es) = moves
+
+abbrev pub upkeepOf : List Frame → Tail → Upkeep
+upkeepOf fs clean = forPending (replay fs .pending)
+upkeepOf fs (cut n) = moves
+upkeepOf fs (bad e) = moves
+
+abbrev pub upkeep : Store → Upkeep
+upkeep x = upkeepOf (x .frames) (x .tail)
+
+-- it makes a block
+abbrev pub transfers : Upkeep → Bool
+transfers rests = false
+transfers moves = true
 
 -- ---- mount
 
@@ -126,10 +139,10 @@ mountJob N img x ks =
     (record {
       wipe = wipeArray ks;
       wipes = length ks;
-      moves = needsTransfer (x .frames) (x .tail);
+      moves = transfers (upkeep x);
       drops = true;
       target = nextBlock N (x .number);
-      time = newTime (needsTransfer (x .frames) (x .tail)) (x .time);
+      time = newTime (transfers (upkeep x)) (x .time);
       since = noMarks;
       size = 0;
     })
@@ -138,7 +151,7 @@ mountJob N img x ks =
 -- 6: "a transfer is needed, by a mount too, at time 4,294,967,295"
 unfoldable pub mountAt : ℕ → List ℕ → List Found → Store → Out
 mountAt N img xs x =
-    cond (needsTransfer (x .frames) (x .tail) && eqb (x .time) lastTime) (refuse refusal.Worn img unmounted [])
+    cond (transfers (upkeep x) && eqb (x .time) lastTime) (refuse refusal.Worn img unmounted [])
     (begin img [] (mountJob N img x (wipeList (x .number) xs)))
 
 -- with no valid block, 3 "names the foreign half (0 first) and, within it, the fault and its place" (K5); 2: "no valid half and none foreign"

@@ -12,7 +12,7 @@ use Rattle.wire.specs.declared.Answer.the-variants.{More}
 use Rattle.board.specs.declared.Rest.{Rest}
 use Rattle.board.specs.declared.Record.{Record}
 use Rattle.board.specs.Record.{answerOf, out, rest, landing, ending, idle}
-use Rattle.board.specs.Mount.{nextBlock, formatOrder, Found, Store, storeAt, wipeList, needsTransfer}
+use Rattle.board.specs.Mount.{nextBlock, formatOrder, Found, Store, storeAt, wipeList, Upkeep, rests, moves, upkeep}
 use Rattle.board.specs.Queue.{Held}
 use Rattle.board.specs.Exec.{Machine, step}
 
@@ -55,19 +55,19 @@ programs (erase k ∷ xs) = programs xs
 
 -- K14: "mount erases every other that isn't blank, by number". "If the current one has a torn tail or anything pending, a transfer of the
 -- settled objects alone follows."
-abbrev pub transferIf : ℕ → Bool → ℕ → ℕ → State → List Step
-transferIf N true k time st = transferPlan N k time st
-transferIf N false k time st = []
+abbrev pub transferIf : ℕ → Upkeep → ℕ → ℕ → State → List Step
+transferIf N moves k time st = transferPlan N k time st
+transferIf N rests k time st = []
 
 abbrev pub mountPlan : ℕ → List Found → Store → List Step
 mountPlan N xs x =
     map erase (wipeList (x .number) xs)
-    ++ transferIf N (needsTransfer (x .frames) (x .tail)) (x .number) (x .time) (settledOnly (replay (x .frames)))
+    ++ transferIf N (upkeep x) (x .number) (x .time) (settledOnly (replay (x .frames)))
 
 -- the record after it
-abbrev pub mountedAt : ℕ → Bool → ℕ → Store → Record
-mountedAt N true l x = idle (landing (storeAt N l x) (nextBlock N (x .number)) (used (replay (x .frames))))
-mountedAt N false l x = idle (storeAt N l x)
+abbrev pub mountedAt : ℕ → Upkeep → ℕ → Store → Record
+mountedAt N moves l x = idle (landing (storeAt N l x) (nextBlock N (x .number)) (used (replay (x .frames))))
+mountedAt N rests l x = idle (storeAt N l x)
 
 -- "one frame of n bytes, after a transfer if end + n exceeds S": where the record stands
 abbrev pub framePlan : ℕ → Bool → Rest → Held → Frame → List Step

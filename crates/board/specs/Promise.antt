@@ -28,7 +28,7 @@ use Rattle.board.specs.declared.Phase.{Phase}
 use Rattle.board.specs.declared.Phase.the-variants.{Unmounted, Idle, Busy}
 use Rattle.board.specs.declared.Record.{Record}
 use Rattle.board.specs.Record.{Stretch, noStretch, Out, out}
-use Rattle.board.specs.Mount.{allFound, Store, needsTransfer}
+use Rattle.board.specs.Mount.{allFound, Store, upkeep}
 use Rattle.board.specs.Queue.{Held, needsRoom}
 pub use Rattle.board.specs.Exec.{Machine, Family}
 use Rattle.board.specs.Exec.{Call, request, step, mount, format}
@@ -124,7 +124,7 @@ pub data Job (N : ℕ) (img : List ℕ) (r : Record) : Call → List Step → Re
   -- K14: "mount erases every other that isn't blank, by number". "If the current one has a torn tail or anything pending, a transfer of the
   -- settled objects alone follows."
   mount-job : (x : Store) → Current N img x
-      → Job N img r mount (mountPlan N (allFound N img) x) (mountedAt N (needsTransfer (x .frames) (x .tail)) (length img - 1) x)
+      → Job N img r mount (mountPlan N (allFound N img) x) (mountedAt N (upkeep x) (length img - 1) x)
   -- K14: "Format erases all in number order, but the current block last if there is one, then writes block 0"
   format-job : Job N img r format (formatPlan N img) (formattedAt N (length img - 1))
 

@@ -24,7 +24,7 @@ use Rattle.board.specs.declared.Phase.the-variants.{Unmounted, Idle, Bus
 use Rattle.board.specs.declared.Record.{Record}
 use Rattle.board.specs.Record.{allowed, unmounted, rest, idle, Out, out, refuse}
 use Rattle.board.specs.Step.{action, advance, stepped, stepOn}
-use Rattle.board.specs.Mount.{isBlank, needsTransfer, tiedTimes, endOf, mountOn, formatOn}
+use Rattle.board.specs.Mount.{isBlank, moves, upkeepOf, transfers, tiedTimes, endOf, mountOn, formatOn}
 use Rattle.board.specs.Queue.{Held, held, heldIn, needsRoom}
 use Rattle.board.specs.Exec.{exec}
 use Rattle.board.specs.Plan.{onBlock, appendPlan, framePlan, framedAt, Follows}
@@ -79,11 +79,11 @@ transferTwo k time st = onBlock (beside k) (build (suc time) (framesOf st)) ++ (
 abbrev pub mountTwo : List ℕ → ℕ → ℕ → List Frame → Tail → List Step
 mountTwo img k t fs c =
     cond (isBlank (stateTwo img (beside k))) [] (erase (beside k) ∷ [])
-    ++ cond (needsTransfer fs c) (transferTwo k t (settledOnly (replay fs))) []
+    ++ cond (transfers (upkeepOf fs c)) (transferTwo k t (settledOnly (replay fs))) []
 
 abbrev pub mountedTwo : List ℕ → ℕ → List Frame → Tail → Record
 mountedTwo img k fs c =
-    cond (needsTransfer fs c) (idle (rest 2 (length img - 1) (beside k) (used (replay fs)))) (idle (rest 2 (length img - 1) k (endOf fs)))
+    cond (transfers (upkeepOf fs c)) (idle (rest 2 (length img - 1) (beside k) (used (replay fs)))) (idle (rest 2 (length img - 1) k (endOf fs)))
 
 -- ---- format
 
@@ -140,10 +140,10 @@ pub record TwoBlocks : Type 0 where
   pub mount-refused : (img : List ℕ) (n : Refusal) → allowedTwo (length img) ≡ true → chooseTwo (stateTwo img 0) (stateTwo img 1) ≡ refuses n
       → mountOn 2 img ≡ refuse n img unmounted []
   pub mount-worn : (img : List ℕ) (k : ℕ) (fs : List Frame) (c : Tail) → allowedTwo (length img) ≡ true
-      → chooseTwo (stateTwo img 0) (stateTwo img 1) ≡ takes k lastTime fs c → needsTransfer fs c ≡ true
+      → chooseTwo (stateTwo img 0) (stateTwo img 1) ≡ takes k lastTime fs c → upkeepOf fs c ≡ moves
       → mountOn 2 img ≡ refuse refusal.Worn img unmounted []
   pub mount-steps : (img : List ℕ) (k t : ℕ) (fs : List Frame) (c : Tail) → Bytes img → allowedTwo (length img) ≡ true
-      → chooseTwo (stateTwo img 0) (stateTwo img 1) ≡ takes k t fs c → (needsTransfer fs c && eqb t lastTime) ≡ false
+      → chooseTwo (stateTwo img 0) (stateTwo img 1) ≡ takes k t fs c → (transfers (upkeepOf fs c) && eqb t lastTime) ≡ false
       → Follows 2 (exec 2) img (mountOn 2 img .board) (mountTwo img k t fs c) (mountedTwo img k fs c)
   pub format-steps : (img : List ℕ) → allowedTwo (length img) ≡ true
       → Follows 2 (exec 2) img (formatOn 2 img .board) (formatTwo img) (idle (rest 2 (length img - 1) 0 headerLen))

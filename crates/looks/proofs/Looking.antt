@@ -16,7 +16,7 @@ use Rattle.journal.specs.Block.{BlockState, blank, inProgress, valid, foreign, 
 use Rattle.journal.specs.Index.{placesOf}
 use Rattle.survey.specs.Survey.{kindIn, surveyOf, placesIn}
 use Rattle.wire.specs.declared.Refusal.{Refusal}
-use Rattle.board.specs.Mount.{Found, isBlank, Store, storeIn, stores, sameTime, newest, tied, wipeList, endOf, needsTransfer}
+use Rattle.board.specs.Mount.{Found, isBlank, Store, storeIn, stores, sameTime, newest, tied, wipeList, endOf, upkeepOf, upkeep, transfers}
 use Rattle.board.specs.Mount.{orForeign, noneValid}
 use Rattle.looks.specs.declared.looks.Newest.{Newest}
 use Rattle.looks.specs.declared.looks.Tie.{Tie}
@@ -50,7 +50,7 @@ kept x same =
       number = x .number;
       time = x .time;
       end = endOf (x .frames);
-      moves = needsTransfer (x .frames) (x .tail);
+      moves = transfers (upkeep x);
       shared = same;
     }
 
@@ -68,7 +68,7 @@ newest-more x (y ∷ ys) = go (newest y ys) (newest x (y ∷ ys)) (newest-cons x
         (λ t. rw (t, le-leb (w .time) (x .time) (ltb-false (x .time) (w .time) t), eq-eqb (x .time) (x .time) refl)))
 
 -- the same by what was kept so far
-newer-is : (x : Store) (xs : List Store) {w : Newest} {m same : Bool} → w ≡ newestIn xs → m ≡ needsTransfer (x .frames) (x .tail)
+newer-is : (x : Store) (xs : List Store) {w : Newest} {m same : Bool} → w ≡ newestIn xs → m ≡ transfers (upkeep x)
     → same ≡ sameTime (x .time) xs
     → cond (leb (w .time) (x .time)) (record { valid = true; number = x .number; time = x .time; end = endOf (x .frames); moves = m; shared = same }) w
     ≡ newestIn (x ∷ xs)
@@ -143,7 +143,7 @@ why-more k (foreign f) e = refl
 
 -- what the bytes of a block say of a valid one: a survey tells whether a transfer is needed, and its time isn't 0
 pub record Told (t : ℕ) (fs : List Frame) (c : Tail) : Type 0 where
-  pub needs : needsTransfer fs c ≡ needsIn (surveyOf (valid t fs c))
+  pub needs : transfers (upkeepOf fs c) ≡ needsIn (surveyOf (valid t fs c))
   pub some : 0 < t
 
 abbrev pub Tells : BlockState → Type 0

@@ -16,10 +16,10 @@ use Rattle.survey.specs.Survey.{pendingOf, surveyOf}
 use Rattle.survey.proofs.PerHost.{bytes-total}
 use Rattle.journal.proofs.Replaying.{LegalEntries, sound-replay}
 use Rattle.journal.proofs.States.{Contents}
-use Rattle.board.specs.Mount.{anyPending, needsTransfer}
+use Rattle.board.specs.Mount.{forPending, upkeepOf, transfers}
 use Rattle.looks.specs.Surveys.{sumOf, needsIn}
 
-any-bytes : (es : List Entry) → anyPending es ≡ ltb 0 (total (map pendingFrame es))
+any-bytes : (es : List Entry) → transfers (forPending es) ≡ ltb 0 (total (map pendingFrame es))
 unfolding total
 any-bytes [] = refl
 any-bytes (e ∷ es) = sym (lt-ltb 0 (frameLen (pendingFrame e) + total (map pendingFrame es)) (omega arith))
@@ -28,7 +28,7 @@ module _ {b : List ℕ} {t : ℕ} {fs : List Frame} {c : Tail} (x : Contents b t
   legal-now : LegalEntries (replay fs .pending)
   legal-now = sound-replay fs (x .layout .stands) .entries
 
-  any-is : anyPending (replay fs .pending) ≡ ltb 0 (sumOf (pendingOf fs))
+  any-is : transfers (forPending (replay fs .pending)) ≡ ltb 0 (sumOf (pendingOf fs))
   any-is = any-bytes (replay fs .pending) ∙ ap (ltb 0) (bytes-total (replay fs .pending) legal-now)
 
 torn-some : {b : List ℕ} {t : ℕ} {fs : List Frame} {n : ℕ} → Contents b t fs (cut n) → 0 < n
@@ -42,7 +42,7 @@ cut-some {n = n} x = lt-ltb 0 n (torn-some x)
 pub cut-not : {b : List ℕ} {t : ℕ} {fs : List Frame} {n : ℕ} → Contents b t fs (cut n) → n ≡ 0 → ⊥
 cut-not x e = let l = torn-some x in omega arith
 
-pub needs-is : (b : List ℕ) (t : ℕ) (fs : List Frame) (c : Tail) → Contents b t fs c → needsTransfer fs c ≡ needsIn (surveyOf (valid t fs c))
+pub needs-is : (b : List ℕ) (t : ℕ) (fs : List Frame) (c : Tail) → Contents b t fs c → transfers (upkeepOf fs c) ≡ needsIn (surveyOf (valid t fs c))
 unfolding surveyOf
 needs-is b t fs clean x = any-is x
 needs-is b t fs (cut n) x = sym (rw (cut-some x))

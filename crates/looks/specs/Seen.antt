@@ -9,7 +9,7 @@ use Rattle.flash.specs.Flash.{maxBlocks, blockNumbers}
 use Rattle.survey.specs.declared.Survey.{Survey}
 use Rattle.journal.specs.Index.{placesOf}
 use Rattle.wire.specs.declared.Refusal.the-variants as refusal
-use Rattle.board.specs.Mount.{allFound, Store, stores, equalTimes, lowestTied, newest, tied, wipeList, wipeArray, endOf, needsTransfer, noneValid}
+use Rattle.board.specs.Mount.{allFound, Store, stores, equalTimes, lowestTied, newest, tied, wipeList, wipeArray, endOf, upkeep, transfers, noneValid}
 use Rattle.looks.specs.declared.lists.Erases.{Erases}
 use Rattle.looks.specs.declared.looks.Newest.{Newest}
 use Rattle.looks.specs.declared.looks.Tie.{Tie}
@@ -43,7 +43,7 @@ newestIn (y ∷ ys) =
       number = x .number;
       time = x .time;
       end = endOf (x .frames);
-      moves = needsTransfer (x .frames) (x .tail);
+      moves = transfers (upkeep x);
       shared = tied (x .time) (y ∷ ys);
     }
 

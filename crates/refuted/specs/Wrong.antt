@@ -24,7 +24,7 @@ use Rattle.board.specs.declared.Cursor.{Cursor}
 use Rattle.board.specs.declared.Record.{Record}
 use Rattle.board.specs.Record.{allowed, unmounted, cursor, inStage, Stretch, Out, out, refuse, answerOf}
 use Rattle.board.specs.Step.{begin}
-use Rattle.board.specs.Mount.{allFound, anyForeign, Store, stores, newest, equalTimes, noneValid, tiedTimes, mountJob, mountAt, numbersBut, found}
+use Rattle.board.specs.Mount.{allFound, anyForeign, Store, stores, newest, equalTimes, noneValid, tiedTimes, rests, mountJob, mountAt, numbersBut, found}
 use Rattle.board.specs.Queue.{held}
 use Rattle.board.specs.Table.{isNone}
 use Rattle.board.specs.Exec.{Call, request, step, mount, format, Family, exec}
@@ -246,7 +246,7 @@ losesAll = mounts (λ N img o. byAnswer (o .answer) o (refuse refusal.NoStore im
 abbrev pub asItIs : ℕ → List ℕ → Out → List Store → Out
 asItIs N img o [] = o
 asItIs N img o (x ∷ []) =
-    let r : Record = mountedAt N false (length img - 1) x in cond (isNone (held N img r)) o (out Done img r [])
+    let r : Record = mountedAt N rests (length img - 1) x in cond (isNone (held N img r)) o (out Done img r [])
 asItIs N img o (x ∷ y ∷ ys) = o
 
 -- "A mount drops all pending changes, as a cut does"

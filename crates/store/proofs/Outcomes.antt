@@ -20,7 +20,7 @@ use Rattle.board.specs.declared.Cursor.{Cursor}
 use Rattle.board.specs.declared.Rest.{Rest}
 use Rattle.board.specs.Record.{allowed, noPlaces, noMarks, noFrame, unmounted, rest, starting, busyWith, Out, refuse}
 use Rattle.board.specs.Step.{first, begin}
-use Rattle.board.specs.Mount.{nextBlock, Found, allFound, Store, stores, equalTimes, newest, tied, wipeList, needsTransfer, noneValid, lowestTied}
+use Rattle.board.specs.Mount.{nextBlock, Found, allFound, Store, stores, equalTimes, newest, tied, wipeList, upkeep, transfers, noneValid, lowestTied}
 use Rattle.board.specs.Mount.{tiedTimes, mountAt, mountStores, mountOn, numbersBut, orderFor, formatOrder, formatOn}
 use Rattle.board.proofs.Images.{Sized, sized-of, sized-block}
 use Rattle.board.proofs.Found.{Among, newest-among, among-holds}
@@ -116,7 +116,7 @@ module _ (N : ℕ) (img p : List ℕ) where
   unfolding mountIn mountAt noFrame
   mount-with xs y ys =
       let x : Store = newest y ys in
-      came-if (placesOf (x .frames)) (needsTransfer (x .frames) (x .tail) && eqb (x .time) lastTime) (refusing img _ refusal.Worn)
+      came-if (placesOf (x .frames)) (transfers (upkeep x) && eqb (x .time) lastTime) (refusing img _ refusal.Worn)
       (beginning img (placesOf (x .frames)) _ _ _)
 
   mounts-stores : (xs : List Found) (ys : List Store) (others : ℕ → List ℕ) → ((c : ℕ) → others c ≡ wipeList c xs)
