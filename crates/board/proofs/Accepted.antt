@@ -7,7 +7,7 @@ use native.Mathlib.Omega.{arith}
 use lib.ListN.{length, drop, length-append, length-take}
 use borrow.Author.Tests.{ltb-false}
 use Rattle.flash.specs.Flash.{maxBlocks, isCount, Step, erase, block, sizeOf, applyAll, writes}
-use Rattle.flash.proofs.Cases.{on-test, between}
+use Rattle.flash.proofs.Cases.{between}
 use Rattle.frame.specs.Frame.{Frame, encode, encodeAll, frameLen, total}
 use Rattle.frame.proofs.First.{length-encode, length-all}
 use Rattle.journal.specs.Replay.{State, framesOf, replay, settledOnly}
@@ -23,13 +23,14 @@ use Rattle.board.specs.declared.Record.{Record}
 use Rattle.board.specs.Record.{allowed, noPlaces, noMarks, landing, ending, idle}
 use Rattle.board.specs.Step.{enterWipe}
 use Rattle.board.specs.Mount.{nextBlock, newTime, endOf, Store, Upkeep, moves, upkeep, transfers, mountJob, formatOrder, formatJob}
-use Rattle.board.specs.Queue.{Held, needsRoom, appendJob}
+use Rattle.board.specs.Queue.{Held, appendJob}
 use Rattle.board.specs.Exec.{exec}
-use Rattle.board.specs.Plan.{Follows, onBlock, formatPlan, transferIf, mountedAt, framePlan, framedAt, formattedAt}
+use Rattle.board.specs.Plan.{Follows, Work, Performs, onBlock, formatWork, upkeepWork, mountIn, frameWork}
 use Rattle.board.proofs.Numbers.{next-there, next-other}
 use Rattle.board.proofs.Images.{Sized, sized-of, sized-last}
 use Rattle.board.proofs.Blocks.{Besides, besides-blocks, besides-kept}
 use Rattle.board.proofs.Upkeep.{on-upkeep}
+use Rattle.board.proofs.Lengths.{frame-cases}
 use Rattle.board.proofs.Order.{order-blocks}
 use Rattle.board.proofs.PipelineJob.{Has, follows-staying, follows-moving}
 
@@ -44,7 +45,7 @@ journal-fits s k img fs g =
 -- ---- format
 
 pub follows-format : (N : ℕ) (img : List ℕ) → allowed N (length img) ≡ true
-    → Follows N (exec N) img (enterWipe (formatJob N img)) (formatPlan N img) (formattedAt N (length img - 1))
+    → Performs N (exec N) img (enterWipe (formatJob N img)) (formatWork N img)
 unfolding writes encodeAll total
 follows-format N img h =
     let j : Job = formatJob N img .job in
@@ -63,17 +64,15 @@ no-append k e xs ys = ap (λ (zs : List Step). xs ++ zs) (append-nil ys)
 
 pub follows-mount : {N : ℕ} (img : List ℕ) (x : Store) (ks : List ℕ) → allowed N (length img) ≡ true → x .number < N → Besides N (x .number) ks
     → Journal (block (sizeOf N img) (x .number) img) (x .frames)
-    → Follows N (exec N) img (enterWipe (mountJob N img x ks))
-    (map erase ks ++ transferIf N (upkeep x) (x .number) (x .time) (settledOnly (replay (x .frames))))
-    (mountedAt N (upkeep x) (length img - 1) x)
+    → Performs N (exec N) img (enterWipe (mountJob N img x ks)) (mountIn N (length img - 1) ks (nextBlock N (x .number)) x)
 follows-mount {N} img x ks h here others g =
     let k : ℕ = x .number in
     let s : ℕ = sizeOf N img in
-    let l : ℕ = length img - 1 in
     let e : ℕ = endOf (x .frames) in
     let st : State = settledOnly (replay (x .frames)) in
     let r : Record = mountJob N img x ks in
     let z : Rest = r .rest in
+    let kept : Upkeep → Work = λ u. upkeepWork u (nextBlock N k) z x in
     let sized : Sized N (sizeOf N img) img = sized-of N img h in
     let fits : e ≤ s = journal-fits s k img (x .frames) g in
     let has : Has (r .job) ks [] = record { wipe = refl; wipes = refl; size = refl } in
@@ -82,9 +81,9 @@ follows-mount {N} img x ks h here others g =
     let same : block s k (applyAll s (map erase ks) img) ≡ block s k img = besides-kept N s k ks img others in
     let total-is : headerLen + total (framesOf st) ≡ used (replay (x .frames)) = frames-total st ∙ claimed-settled (replay (x .frames)) in
     let end-is : headerLen + total (framesOf st) + 0 ≡ used (replay (x .frames)) = omega arith in
-    subst (λ (u : Upkeep). Follows N (exec N) img (enterWipe r) (map erase ks ++ transferIf N u k (x .time) st) (mountedAt N u l x)) (sym t)
+    subst (λ (u : Upkeep). Follows N (exec N) img (enterWipe r) (map erase ks ++ kept u .steps) (kept u .last)) (sym t)
     (subst (λ (n : ℕ). Follows N (exec N) img (enterWipe r) (map erase ks ++ (onBlock (nextBlock N k) (build n (framesOf st)) ++ (erase k ∷ [])))
-    (mountedAt N moves l x))
+    (kept moves .last))
     (ap (λ (u : Upkeep). newTime (transfers u) (x .time)) t)
     (subst (λ (n : ℕ). Follows N (exec N) img (enterWipe r) (map erase ks ++ (onBlock (nextBlock N k) (build (r .job .time) (framesOf st)) ++ (erase k ∷ [])))
     (idle (landing z (nextBlock N k) n))) end-is
@@ -97,7 +96,7 @@ follows-mount {N} img x ks h here others g =
     (subst (λ (b : List ℕ). Yields b e (placesOf (x .frames)) noMarks 0 e (framesOf st)) (sym same) (yields-settled (block s k img) (x .frames) noMarks g)))))))
     (λ t.
     let end-is : e + 0 ≡ e = omega arith in
-    subst (λ (u : Upkeep). Follows N (exec N) img (enterWipe r) (map erase ks ++ transferIf N u k (x .time) st) (mountedAt N u l x)) (sym t)
+    subst (λ (u : Upkeep). Follows N (exec N) img (enterWipe r) (map erase ks ++ kept u .steps) (kept u .last)) (sym t)
     (subst (λ (n : ℕ). Follows N (exec N) img (enterWipe r) (map erase ks ++ []) (idle (ending z n))) end-is
     (subst (λ (ys : List Step). Follows N (exec N) img (enterWipe r) ys (idle (ending z (e + 0)))) (no-append k e (map erase ks) [])
     (follows-staying img z (placesOf (x .frames)) (r .job) 0 e [] ks (sized-last sized) (sized .count) refl (besides-blocks N k ks others) has here
@@ -108,8 +107,7 @@ follows-mount {N} img x ks h here others g =
 pub follows-frame : {N : ℕ} (img : List ℕ) (r : Record) (x : Held) (f : Frame) → isCount N ≡ true → length img ≡ suc (r .rest .last)
     → r .rest .blocks ≡ N → r .rest .block < N → Journal (block (sizeOf N img) (r .rest .block) img) (x .frames) → r .rest .end ≡ endOf (x .frames)
     → claimed (replay (x .frames)) + frameLen f ≤ sizeOf N img
-    → Follows N (exec N) img (enterWipe (appendJob N img r x f)) (framePlan N (needsRoom N img r f) (r .rest) x f)
-    (framedAt N (needsRoom N img r f) (r .rest) x f)
+    → Performs N (exec N) img (enterWipe (appendJob N img r x f)) (frameWork N img r x f)
 unfolding applyAll
 follows-frame {N} img r x f count long blocks here g end room =
     let k : ℕ = r .rest .block in
@@ -121,11 +119,10 @@ follows-frame {N} img r x f count long blocks here g end room =
     let header : headerLen ≤ s = omega (arith, journal-fits s k img (x .frames) g) in
     let has : Has (a .job) [] (encode f) = record { wipe = refl; wipes = refl; size = sym (length-encode f) } in
     let begun : Record = enterWipe a in
-    on-test (needsRoom N img r f)
+    frame-cases (λ w. Performs N (exec N) img begun w) s (nextBlock N k) z x f
     (λ t.
     let total-is : headerLen + total fs ≡ claimed st = frames-total st in
-    subst (λ (b : Bool). Follows N (exec N) img begun (framePlan N b z x f) (framedAt N b z x f)) (sym t)
-    (subst
+    subst
     (λ (n : ℕ).
     Follows N (exec N) img begun ((onBlock (nextBlock N k) (build n fs) ++ (erase k ∷ [])) ++ onBlock (nextBlock N k) (writes (claimed st) (encode f)))
     (idle (landing z (nextBlock N k) (claimed st + frameLen f))))
@@ -138,9 +135,8 @@ follows-frame {N} img r x f count long blocks here g end room =
     (follows-moving img z (placesOf (x .frames)) (a .job) 0 headerLen (encode f) [] long count blocks tt has here header fs t (next-there k here)
     (next-other k (between 2 N maxBlocks count .0) here) (omega (arith, length-encode f))
     (subst (λ (n : ℕ). Yields (block s k img) n (placesOf (x .frames)) (sinceOf (x .frames)) 0 headerLen fs) (sym end)
-    (yields-all (block s k img) (x .frames) g))))))
+    (yields-all (block s k img) (x .frames) g)))))
     (λ t.
-    subst (λ (b : Bool). Follows N (exec N) img begun (framePlan N b z x f) (framedAt N b z x f)) (sym t)
-    (subst (λ (m : ℕ). Follows N (exec N) img begun (onBlock k (writes (z .end) (encode f))) (idle (ending z (z .end + m)))) (length-encode f)
+    subst (λ (m : ℕ). Follows N (exec N) img begun (onBlock k (writes (z .end) (encode f))) (idle (ending z (z .end + m)))) (length-encode f)
     (follows-staying img z (placesOf (x .frames)) (a .job) 0 headerLen (encode f) [] long count blocks tt has here header t
-    (omega (arith, length-encode f, ltb-false (sizeOf N img) (r .rest .end + frameLen f) t)))))
+    (omega (arith, length-encode f, ltb-false (sizeOf N img) (r .rest .end + frameLen f) t))))

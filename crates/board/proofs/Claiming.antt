@@ -3,7 +3,7 @@ use mathlib.Core.Path.{_≡_, refl, sym, ap, subst, _∙_}
 use mathlib.Core.List.{List, [], _∷_}
 use mathlib.Core.Logic.{_⊎_, inl, inr}
 use mathlib.Core.Bool.{Bool, true, false}
-use Prim.Native.Nat.{ℕ, _+_, _-_, _≤_}
+use Prim.Native.Nat.{ℕ, _+_, _≤_}
 use native.Mathlib.Omega.{arith}
 use lib.ListN.{length}
 use Rattle.flash.specs.Bytes.{Bytes}
@@ -23,9 +23,9 @@ use Rattle.board.specs.declared.Phase.the-variants.{Unmounted, Idle, Bus
 use Rattle.board.specs.declared.Record.{Record}
 use Rattle.board.specs.Record.{Out, out, refuse, unmounted, answerOf, allowed}
 use Rattle.board.specs.Step.{enterWipe, begin}
-use Rattle.board.specs.Mount.{Store, allFound, wipeList, upkeep, mountJob, mountOn, formatJob, formatOn}
+use Rattle.board.specs.Mount.{Store, allFound, wipeList, mountJob, mountOn, formatJob, formatOn}
 use Rattle.board.specs.Exec.{Call, request, step, mount, format, exec}
-use Rattle.board.specs.Plan.{formatPlan, mountPlan, mountedAt, formattedAt}
+use Rattle.board.specs.Plan.{formatWork, mountWork}
 use Rattle.board.specs.Table.{InJob as JobPhase}
 use Rattle.board.specs.Book.{Book, book, nothing, formatting, noLists, firstBook, enterCall, enterFormat}
 use Rattle.board.specs.Claim.{IdleAgrees, Finishes, AgreesIn, Agrees, WornOut, MountSays, Says, trackMount, trackFormat, track, begunBy, Run}
@@ -93,8 +93,8 @@ empty-book {N} {s} {img} {r} h a =
 format-works : {N : ℕ} {s : ℕ} {img : List ℕ} (os : List Object) {u : Bool} → Sized N s img → Safe N s img os u
     → (answerOf (enterWipe (formatJob N img)) ≡ More) × Working N s img (enterWipe (formatJob N img)) (book os noLists formatting) true
 format-works {N} {s} {img} os z f =
-    let a : After N s (applyAll s (formatPlan N img) img) (formattedAt N (length img - 1)) (state [] []) = format-ends z in
-    job-starts img (enterWipe (formatJob N img)) (formatPlan N img) (formattedAt N (length img - 1)) (follows-format N img (z .ok))
+    let a : After N s (applyAll s (formatWork N img .steps) img) (formatWork N img .last) (state [] []) = format-ends z in
+    job-starts img (enterWipe (formatJob N img)) (formatWork N img .steps) (formatWork N img .last) (follows-format N img (z .ok))
     (omega (arith, length-format N img)) (λ j h. (format-safe z f j h, λ n. absurd (n refl))) (empty-book (z .low) a) (ready-idle (a .ready))
 
 format-call : {N : ℕ} {s : ℕ} {img : List ℕ} (b : Book) {u : Bool} → Bare N s img (b .objects) u → FormatKeeps N s b u (formatOn N img)
@@ -156,9 +156,9 @@ module _ {N : ℕ} {s : ℕ} {img : List ℕ} (b : Book) {u : Bool} (v : Bare N 
   mount-begun x y h k f t =
       let ks : List ℕ = wipeList (x .number) (allFound N img) in
       let g : Record = enterWipe (mountJob N img x ks) in
-      let last : Record = mountedAt N (upkeep x) (length img - 1) x in
-      let a : After N s (applyAll s (mountPlan N (allFound N img) x) img) last (settledOnly (replay (x .frames))) = mount-ends x (v .sized) (y .there) h t in
-      finish g (job-begins img g (mountPlan N (allFound N img) x) last
+      let last : Record = mountWork N img x .last in
+      let a : After N s (applyAll s (mountWork N img x .steps) img) last (settledOnly (replay (x .frames))) = mount-ends x (v .sized) (y .there) h t in
+      finish g (job-begins img g (mountWork N img x .steps) last
       (follows-mount img x ks (v .sized .ok) (y .there) (wiped-besides N (x .number) img)
       (subst (λ (n : ℕ). Journal (block n (x .number) img) (x .frames)) (sym (size-of (v .sized))) (journal-of h)))
       (λ n l. let g = mount-keeps x (v .sized) (y .there) h t false k f n l in (g .0, λ d. g .1)) (settled-book k a) (ready-idle (a .ready)))
@@ -235,13 +235,13 @@ run-holds a v d (cutErase k new q ∷ cutErase j more p ∷ es) (x, n, h) = absu
 -- ---- from a finished format on
 
 pub format-done : {N : ℕ} {s : ℕ} {img : List ℕ} (r : Record) → Sized N s img
-    → formatted N (exec N) img r ≡ out Done (applyAll s (formatPlan N img) img) (formattedAt N (length img - 1)) []
+    → formatted N (exec N) img r ≡ out Done (applyAll s (formatWork N img .steps) img) (formatWork N img .last) []
 format-done {N} {s} {img} r z =
     let first = format-some N img in
     ap (stepsOn (exec N) (N + 10)) (format-begins N img (z .ok))
     ∙ ap (λ (n : ℕ). stepsOn (exec N) n (begin img [] (formatJob N img))) (sym (length-format N img))
-    ∙ follows-steps N (exec N) (formatPlan N img) (first .0) (first .1) (first .2) s (begin img [] (formatJob N img))
-    (formattedAt N (length img - 1)) (size-of z)
+    ∙ follows-steps N (exec N) (formatWork N img .steps) (first .0) (first .1) (first .2) s (begin img [] (formatJob N img))
+    (formatWork N img .last) (size-of z)
     (follows-format N img (z .ok))
 
 -- the invariant after a finished format
@@ -249,15 +249,15 @@ pub formatted-inv : {N : ℕ} (img : List ℕ) (r : Record) → Bytes img → al
     → Inv N (sizeOf N img) (formatted N (exec N) img r .image) (formatted N (exec N) img r .board) firstBook false
 formatted-inv {N} img r by ok =
     let z : Sized N (sizeOf N img) img = sized-of N img ok in
-    let i : List ℕ = applyAll (sizeOf N img) (formatPlan N img) img in
+    let i : List ℕ = applyAll (sizeOf N img) (formatWork N img .steps) img in
     subst (λ (o : Out). Inv N (sizeOf N img) (o .image) (o .board) firstBook false) (sym (format-done r z))
-    (inv-idle (formattedAt N (length img - 1)) (sized-as i (length-all-steps (sizeOf N img) (formatPlan N img) img) z)
-    (bytes-all-steps (sizeOf N img) (formatPlan N img) img by) (empty-book (z .low) (format-ends z)))
+    (inv-idle (formatWork N img .last) (sized-as i (length-all-steps (sizeOf N img) (formatWork N img .steps) img) z)
+    (bytes-all-steps (sizeOf N img) (formatWork N img .steps) img by) (empty-book (z .low) (format-ends z)))
 
 pub claim : (N : ℕ) → Claim N (exec N)
 unfolding Claim
 claim N img r by ok =
-    let e : formatted N (exec N) img r ≡ out Done (applyAll (sizeOf N img) (formatPlan N img) img) (formattedAt N (length img - 1)) [] =
+    let e : formatted N (exec N) img r ≡ out Done (applyAll (sizeOf N img) (formatWork N img .steps) img) (formatWork N img .last) [] =
     format-done r (sized-of N img ok) in
     let v : Inv N (sizeOf N img) (formatted N (exec N) img r .image) (formatted N (exec N) img r .board) firstBook false = formatted-inv img r by ok in
     let i : formatted N (exec N) img r .board .phase ≡ Idle = ap (λ (o : Out). o .board .phase) e in

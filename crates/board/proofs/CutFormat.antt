@@ -2,10 +2,10 @@
 use mathlib.Core.Path.{_≡_, sym, ap, subst, _∙_}
 use mathlib.Core.List.{List, [], _∷_}
 use mathlib.Core.Bool.{Bool, false, false≢true}
-use Prim.Native.Nat.{ℕ, _+_, _-_, _≤_}
+use Prim.Native.Nat.{ℕ, _+_, _≤_}
 use native.Mathlib.Omega.{arith}
 use lib.Dec.{eqb}
-use lib.ListN.{length, take}
+use lib.ListN.{take}
 use borrow.Author.Tests.{eqb-true, eqb-false}
 use Rattle.flash.specs.Flash.{applyAll, block, sizeOf}
 use Rattle.flash.proofs.Cases.{on-test}
@@ -19,7 +19,7 @@ use Rattle.board.specs.Record.{Out}
 use Rattle.board.specs.Step.{begin}
 use Rattle.board.specs.Mount.{Store, formatJob, formatOn}
 use Rattle.board.specs.Exec.{exec}
-use Rattle.board.specs.Plan.{formatPlan, formattedAt}
+use Rattle.board.specs.Plan.{formatWork}
 use Rattle.board.specs.Book.{Book}
 use Rattle.board.specs.Claim.{stepsOn, Event, call, cutErase, Happens}
 use Rattle.board.specs.CutFormat.{Left, afterAll, leftBy, Beside, OldObjects, Empty, NoStore as Nothing, EmptyStore, CutFormat}
@@ -55,10 +55,10 @@ run-ends v (cutErase k new q ∷ cutErase j more p ∷ es) (x, n, h) = absurd n
 -- ---- some steps of a plan, made
 
 format-part : {N : ℕ} {s : ℕ} {img : List ℕ} (j : ℕ) → Sized N s img → j ≤ N + 10
-    → stepsOn (exec N) j (formatOn N img) .image ≡ applyAll s (take j (formatPlan N img)) img
+    → stepsOn (exec N) j (formatOn N img) .image ≡ applyAll s (take j (formatWork N img .steps)) img
 format-part {N} {s} {img} j z h =
     ap (λ (o : Out). stepsOn (exec N) j o .image) (format-begins N img (z .ok))
-    ∙ follows-part N (exec N) s j (formatPlan N img) (begin img [] (formatJob N img)) (formattedAt N (length img - 1)) (size-of z)
+    ∙ follows-part N (exec N) s j (formatWork N img .steps) (begin img [] (formatJob N img)) (formatWork N img .last) (size-of z)
     (omega (arith, length-format N img))
     (follows-format N img (z .ok))
 
@@ -131,9 +131,9 @@ cut-leaves j z w (FormatCut.empty-store e y) = empty-store e (alone-empty w y)
 format-leaves : {N : ℕ} {s : ℕ} {img : List ℕ} {os : List Object} {u : Bool} (j : ℕ) → Sized N s img → Safe N s img os u → j ≤ N + 10
     → Leaves N os img j (stepsOn (exec N) j (formatOn N img) .image)
 format-leaves {N} {s} {img} {os} {u} j z f h =
-    let i : List ℕ = applyAll s (take j (formatPlan N img)) img in
+    let i : List ℕ = applyAll s (take j (formatWork N img .steps)) img in
     subst (Leaves N os img j) (sym (format-part j z h))
-    (cut-leaves j z (sized-as i (length-all-steps s (take j (formatPlan N img)) img) z) (format-cut z f j h))
+    (cut-leaves j z (sized-as i (length-all-steps s (take j (formatWork N img .steps)) img) z) (format-cut z f j h))
 
 pub cut-format : (N : ℕ) → CutFormat N (exec N)
 unfolding CutFormat

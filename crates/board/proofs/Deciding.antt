@@ -21,8 +21,8 @@ use Rattle.wire.specs.declared.Refusal.{Refusal}
 use Rattle.wire.specs.declared.Refusal.the-variants as refusal
 use Rattle.board.specs.Record.{Out, unmounted, refuse}
 use Rattle.board.specs.Step.{begin}
-use Rattle.board.specs.Mount.{allFound, isForeign, Store, stores, equalTimes, newest, wipeList, moves, upkeep, transfers, mountJob, mountAt, mountOn, noneValid}
-use Rattle.board.specs.Mount.{tiedTimes}
+use Rattle.board.specs.Mount.{allFound, isForeign, Store, stores, equalTimes, newest, wipeList, moves, upkeep, transfers}
+use Rattle.board.specs.Mount.{mountJob, mountAt, mountOn, noneValid, tiedTimes}
 use Rattle.board.specs.Claim.{WornOut}
 use Rattle.board.specs.CutFormat.{Beside}
 use Rattle.board.specs.Demand2.{Accepted}

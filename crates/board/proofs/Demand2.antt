@@ -3,7 +3,7 @@ use mathlib.Core.Path.{_≡_, refl, sym, ap, subst, _∙_}
 use mathlib.Core.List.{List, [], _∷_}
 use mathlib.Core.Logic.{_⊎_, inl, inr}
 use mathlib.Core.Option.{Option, some}
-use Prim.Native.Nat.{ℕ, _+_, _-_, _*_, _≤_, _<_}
+use Prim.Native.Nat.{ℕ, _+_, _*_, _≤_, _<_}
 use native.Mathlib.Omega.{arith}
 use lib.Dec.{ltb}
 use lib.ListN.{length, getD, drop, length-take, List·getD-eq-default}
@@ -26,10 +26,10 @@ use Rattle.board.specs.declared.Phase.the-variants.{Unmounted, Idle, Bus
 use Rattle.board.specs.declared.Record.{Record}
 use Rattle.board.specs.Record.{Out, out, unmounted, answerOf}
 use Rattle.board.specs.Step.{stepOn, enterWipe}
-use Rattle.board.specs.Mount.{Store, allFound, wipeList, upkeep, mountJob, mountOn, formatJob, formatOn}
+use Rattle.board.specs.Mount.{Store, allFound, wipeList, mountJob, mountOn, formatJob, formatOn}
 use Rattle.board.specs.Queue.{Held, requestOn}
 use Rattle.board.specs.Exec.{Call, request, step, mount, format, exec}
-use Rattle.board.specs.Plan.{Follows, formatPlan, mountPlan, mountedAt, formattedAt}
+use Rattle.board.specs.Plan.{Follows, formatWork, mountWork}
 use Rattle.board.specs.Table.{InJob as JobPhase, Fresh, Exactly, requestLines, mountLines, linesOf}
 use Rattle.board.specs.Demand1.{Rests}
 use Rattle.board.specs.Book.{Book, enterCall}
@@ -62,23 +62,23 @@ module _ {N : ℕ} {s : ℕ} {img : List ℕ} (z : Sized N s img) (y : Begins N 
   x = y .store
 
   abbrev last : Record
-  last = mountedAt N (upkeep x) (length img - 1) x
+  last = mountWork N img x .last
 
   abbrev job : Record
   job = enterWipe (mountJob N img x (wipeList (x .number) (allFound N img)))
 
-  mount-follows : Follows N (exec N) img job (mountPlan N (allFound N img) x) last
+  mount-follows : Follows N (exec N) img job (mountWork N img x .steps) last
   mount-follows =
       follows-mount img x (wipeList (x .number) (allFound N img)) (z .ok) (y .taken .there) (wiped-besides N (x .number) img)
       (subst (λ (n : ℕ). Journal (block n (x .number) img) (x .frames)) (sym (size-of z)) (journal-of (y .holds)))
 
-  after : After N s (applyAll s (mountPlan N (allFound N img) x) img) last (settledOnly (replay (x .frames)))
+  after : After N s (applyAll s (mountWork N img x .steps) img) last (settledOnly (replay (x .frames)))
   after = mount-ends x z (y .taken .there) (y .holds) (y .in-time)
 
   -- the job is begun, or there is none
   mount-begun : Begun N s (StepLands s) (Ready N s) img job
   mount-begun =
-      job-begins img job (mountPlan N (allFound N img) x) last mount-follows
+      job-begins img job (mountWork N img x .steps) last mount-follows
       (mount-lands x z (y .taken .there) (y .holds) (y .in-time)) (after .ready) (ready-idle (after .ready))
 
 pub one-store : (N : ℕ) → OneStore N (exec N)
@@ -88,22 +88,20 @@ one-store N img r by ok a =
     let z : Sized N s img = sized-of N img ok in
     let y : Begins N s img = mount-accepted z by a in
     let x : Store = y .store in
-    let after-image : List ℕ = applyAll s (mountPlan N (allFound N img) x) img in
-    let e : After N s (applyAll s (mountPlan N (allFound N img) x) img) (last z y) (settledOnly (replay (x .frames))) = after z y in
+    let after-image : List ℕ = applyAll s (mountWork N img x .steps) img in
+    let e : After N s (applyAll s (mountWork N img x .steps) img) (last z y) (settledOnly (replay (x .frames))) = after z y in
     subst (Mounts N (exec N) img) (sym (y .begins))
     (record {
       store = x;
       there = y .taken .there;
       is-valid = y .taken .is-valid;
       newest = taken-newest z (y .taken);
-      last = last z y;
-      is-last = refl;
       follows = mount-follows z y;
       short = mount-short x z (y .taken .there) (y .holds) (y .in-time);
       erases = mount-erases x z (y .taken .there) (y .holds) (y .in-time);
       holding = heldOf (e .ready);
-      is-fresh = ready-fresh (sized-as after-image (length-all-steps s (mountPlan N (allFound N img) x) img) z)
-          (bytes-all-steps s (mountPlan N (allFound N img) x) img by) (e .ready);
+      is-fresh = ready-fresh (sized-as after-image (length-all-steps s (mountWork N img x .steps) img) z)
+          (bytes-all-steps s (mountWork N img x .steps) img by) (e .ready);
       holds = e .state;
     })
 
@@ -211,9 +209,9 @@ mount-kept {N} {s} {img} z by = go (mountOn N img .answer) refl
 
 format-kept : {N : ℕ} {s : ℕ} {img : List ℕ} → Sized N s img → Bytes img → Steady N s img (formatOn N img .board)
 format-kept {N} {s} {img} z by =
-    let a : After N s (applyAll s (formatPlan N img) img) (formattedAt N (length img - 1)) (state [] []) = format-ends z in
+    let a : After N s (applyAll s (formatWork N img .steps) img) (formatWork N img .last) (state [] []) = format-ends z in
     let j : (answerOf (enterWipe (formatJob N img)) ≡ More) × InJob N s (StepLands s) (Ready N s) img (enterWipe (formatJob N img)) =
-    job-starts img (enterWipe (formatJob N img)) (formatPlan N img) (formattedAt N (length img - 1)) (follows-format N img (z .ok))
+    job-starts img (enterWipe (formatJob N img)) (formatWork N img .steps) (formatWork N img .last) (follows-format N img (z .ok))
     (omega (arith, length-format N img)) (format-lands z) (a .ready) (ready-idle (a .ready)) in
     subst (λ (o : Out). Steady N s img (o .board)) (sym (format-begins N img (z .ok))) (steady-busy z by (enterWipe (formatJob N img)) (j .0) (j .1))
 

@@ -3,7 +3,7 @@ use mathlib.Core.Path.{_≡_, refl, sym, ap, ap₂, subst, subst₂, _∙_}
 use mathlib.Core.List.{List, [], _∷_}
 use mathlib.Core.Logic.{inl, inr}
 use mathlib.Core.Option.{Option, none, some}
-use mathlib.Core.Bool.{Bool, true, false}
+use mathlib.Core.Bool.{true}
 use Prim.Native.Nat.{ℕ, _-_, _<_}
 use native.Mathlib.Omega.{arith}
 use lib.ListN.{length}
@@ -25,10 +25,10 @@ use Rattle.board.specs.declared.Phase.the-variants.{Unmounted, Idle, Bus
 use Rattle.board.specs.declared.Rest.{Rest}
 use Rattle.board.specs.declared.Record.{Record}
 use Rattle.board.specs.Record.{allowed, unmounted, Stretch, noStretch, Out, out, answerIn, answerOf}
-use Rattle.board.specs.Mount.{allFound, Store, Upkeep, rests, moves, upkeep, mountOn}
-use Rattle.board.specs.Queue.{Held, held, needsRoom}
+use Rattle.board.specs.Mount.{Store, Upkeep, rests, moves, upkeep, mountOn, nextBlock, storeAt}
+use Rattle.board.specs.Queue.{Held, held}
 use Rattle.board.specs.Exec.{Call, request, step, mount, format}
-use Rattle.board.specs.Plan.{Follows, formatPlan, mountPlan, mountedAt, framePlan, framedAt, formattedAt}
+use Rattle.board.specs.Plan.{Follows, Work, formatWork, upkeepWork, mountWork, frameWork}
 use Rattle.board.specs.Table.{frameFor, Line, line, Exactly, Allowed, InJob, Fresh, FreshExact, requestLines, mountLines, linesOf}
 use Rattle.board.specs.Demand1.{Rests}
 use Rattle.board.specs.Demand2.{Accepted}
@@ -36,6 +36,7 @@ use Rattle.board.specs.Claim.{ByteCall, Begins, Event, call, cutErase}
 use Rattle.wire.specs.Sentences.{Means, MessagesExact, MalformedExact}
 use Rattle.board.specs.Promise.{Machine, replyFor, Answers, Serves, Job, frame-job, mount-job, format-job, Calls, Shown, restingIn}
 use Rattle.board.specs.Promise.{shownRecord, shown, trace, ByteEvents, PromiseDetermines, PromiseDeterminesFrom, PromiseDeterminesCall}
+use Rattle.board.proofs.Lengths.{frame-cases}
 use Rattle.board.proofs.Answering.{number-done, number-accepted, Both, both-taken, both-refused, same-numbered, told-answer}
 use Rattle.board.proofs.Answering.{whole, whole-is, in-job, same-stretch}
 use Rattle.board.proofs.Tabling.{allowed-not}
@@ -95,17 +96,17 @@ module _ {N : ℕ} {m n : Machine} where
 -- ---- what a machine that keeps the promise gives back
 
 -- a plan's last record is idle
-framed-idle : (N : ℕ) (b : Bool) (z : Rest) (x : Held) (f : Frame) → framedAt N b z x f .phase ≡ Idle
-framed-idle N true z x f = refl
-framed-idle N false z x f = refl
+kept-idle : (u : Upkeep) (j : ℕ) (z : Rest) (x : Store) → upkeepWork u j z x .last .phase ≡ Idle
+kept-idle rests j z x = refl
+kept-idle moves j z x = refl
 
-pub mounted-idle : (N : ℕ) (u : Upkeep) (l : ℕ) (x : Store) → mountedAt N u l x .phase ≡ Idle
-mounted-idle N rests l x = refl
-mounted-idle N moves l x = refl
+pub mounted-idle : (N : ℕ) (img : List ℕ) (x : Store) → mountWork N img x .last .phase ≡ Idle
+mounted-idle N img x = kept-idle (upkeep x) (nextBlock N (x .number)) (storeAt N (length img - 1) x) x
 
-pub job-idle : {N : ℕ} {img : List ℕ} {r : Record} {c : Call} {plan : List Step} {z : Record} → Job N img r c plan z → z .phase ≡ Idle
-job-idle {N} {img} {r} (frame-job h msg reply x q f v k g) = framed-idle N (needsRoom N img r f) (r .rest) x f
-job-idle {N} {img} (mount-job x v) = mounted-idle N (upkeep x) (length img - 1) x
+pub job-idle : {N : ℕ} {img : List ℕ} {r : Record} {c : Call} {w : Work} → Job N img r c w → w .last .phase ≡ Idle
+job-idle {N} {img} {r} (frame-job h msg reply x q f v k g) =
+    frame-cases (λ w. w .last .phase ≡ Idle) (sizeOf N img) (nextBlock N (r .rest .block)) (r .rest) x f (λ e. refl) (λ e. refl)
+job-idle {N} {img} (mount-job x v) = mounted-idle N img x
 job-idle format-job = refl
 
 -- past the first lines a request has an image and a message that can be told
@@ -191,10 +192,9 @@ module _ {N : ℕ} {m n : Machine} (pm : Calls N m) (pn : Calls N n) (img : List
       (agree-whole More More img (o .board) (p .board) (replyFor N img reply x q) (o .stretch) refl by (v f refl))
 
   -- the same job
-  job-alike : (r q : Record) (c : Call) (plan : List Step) (z : Record) → ByteCall c → Job N img r c plan z → Job N img q c plan z
+  job-alike : (r q : Record) (c : Call) (w : Work) → ByteCall c → Job N img r c w → Job N img q c w
       → Accepted (m img r c .answer) → Accepted (n img q c .answer) → Alike N m n img (m img r c .board) (n img q c .board)
-  job-alike r q c plan z bc j k a b =
-      alike-plan plan z (job-idle j) (pm .jobs img r c plan z by bc j a .0) (pn .jobs img q c plan z by bc k b .0)
+  job-alike r q c w bc j k a b = alike-plan (w .steps) (w .last) (job-idle j) (pm .jobs img r c w by bc j a .0) (pn .jobs img q c w by bc k b .0)
 
   request-agrees : (r : Record) (h : Host) (msg reply : List ℕ) → Bytes msg → Rests (r .phase)
       → Agree N m n (m img r (request h msg reply)) (n img r (request h msg reply))
@@ -220,13 +220,10 @@ module _ {N : ℕ} {m n : Machine} (pm : Calls N m) (pn : Calls N n) (img : List
           let q : Request = y .asked in
           let s : Serves N img r h msg reply x q o = pm .serves img r h msg reply x q by bm (y .is-held) (y .is-asked) a in
           let t : Serves N img r h msg reply x q p = pn .serves img r h msg reply x q by bm (y .is-held) (y .is-asked) b in
-          let job : (f : Frame) → frameFor h msg x q ≡ some f
-          → Job N img r c (framePlan N (needsRoom N img r f) (r .rest) x f) (framedAt N (needsRoom N img r f) (r .rest) x f) =
+          let job : (f : Frame) → frameFor h msg x q ≡ some f → Job N img r c (frameWork N img r x f) =
           λ f e. frame-job h msg reply x q f (y .is-held) (y .is-asked) e in
           does-agree r h msg reply x q (frameFor h msg x q) o p k (pm .one-step img r c) (pn .one-step img r c) (s .answers) (t .answers) s t
-          (λ f e. job-alike r r c (framePlan N (needsRoom N img r f) (r .rest) x f)
-          (framedAt N (needsRoom N img r f) (r .rest) x f) bm
-          (job f e) (job f e) a b)
+          (λ f e. job-alike r r c (frameWork N img r x f) bm (job f e) (job f e) a b)
 
   -- 4, 10 or 5, whatever the record holds
   abbrev pub busyLines : Host → List Line
@@ -297,9 +294,7 @@ module _ {N : ℕ} {m n : Machine} (pm : Calls N m) (pn : Calls N n) (img : List
           let y : Mountable N img = mount-takes pm img by r a in
           let x : Store = y .store in
           agree-takes (m img r mount) (n img q mount) (takes-mount pm img by r a) (takes-mount pn img by q b)
-          (job-alike r q mount (mountPlan N (allFound N img) x) (mountedAt N (upkeep x) (length img - 1) x) tt
-          (mount-job x (y .current))
-          (mount-job x (y .current)) a b)
+          (job-alike r q mount (mountWork N img x) tt (mount-job x (y .current)) (mount-job x (y .current)) a b)
 
   -- ---- a format
 
@@ -314,7 +309,7 @@ module _ {N : ℕ} {m n : Machine} (pm : Calls N m) (pn : Calls N n) (img : List
           (agree-whole (Refused w) (Refused w) img unmounted unmounted [] noStretch refl by (resting tt refl))
       go (both-taken a b) =
           agree-takes (m img r format) (n img q format) (takes-format pm img by r a) (takes-format pn img by q b)
-          (job-alike r q format (formatPlan N img) (formattedAt N (length img - 1)) tt format-job format-job a b)
+          (job-alike r q format (formatWork N img) tt format-job format-job a b)
 
   pub call-agrees : (r q : Record) → Alike N m n img r q → (c : Call) → ByteCall c → Agree N m n (m img r c) (n img q c)
   call-agrees r q (resting h e) (request g msg reply) bm =

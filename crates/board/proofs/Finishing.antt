@@ -2,9 +2,8 @@
 use mathlib.Core.Path.{_≡_, refl, sym, ap, subst, _∙_}
 use mathlib.Core.List.{List, [], _∷_}
 use mathlib.Core.Option.{Option, none, some}
-use Prim.Native.Nat.{ℕ, _-_}
+use Prim.Native.Nat.{ℕ}
 use native.Mathlib.Omega.{arith}
-use lib.ListN.{length}
 use Rattle.flash.specs.Bytes.{Bytes}
 use Rattle.flash.specs.Flash.{sizeIn, Step, program, erase, apply, sizeOf}
 use Rattle.flash.proofs.Image.{length-apply}
@@ -18,10 +17,10 @@ use Rattle.board.specs.declared.Phase.{Phase}
 use Rattle.board.specs.declared.Phase.the-variants.{Unmounted, Idle, Busy}
 use Rattle.board.specs.declared.Record.{Record}
 use Rattle.board.specs.Record.{Out}
-use Rattle.board.specs.Mount.{allFound, Store, upkeep}
-use Rattle.board.specs.Queue.{Held, needsRoom}
+use Rattle.board.specs.Mount.{Store}
+use Rattle.board.specs.Queue.{Held}
 use Rattle.board.specs.Exec.{Machine, Call, request, step, mount, format}
-use Rattle.board.specs.Plan.{Follows, programs, formatPlan, mountPlan, mountedAt, framePlan, framedAt, formattedAt}
+use Rattle.board.specs.Plan.{Follows, programs, Work, formatWork, mountWork, frameWork}
 use Rattle.board.specs.Table.{frameFor, InJob}
 use Rattle.board.specs.Demand1.{Unchanged, Short, Rests}
 use Rattle.board.specs.Demand2.{Accepted}
@@ -47,11 +46,11 @@ idle-ends e j = absurd (subst InJob e j)
 
 module _ {N : ℕ} {m : Machine} (p : Calls N m) (img : List ℕ) (by : Bytes img) where
   -- the job of an accepted call
-  job-finishes : (r : Record) (c : Call) (plan : List Step) (z : Record) → ByteCall c → Job N img r c plan z → Accepted (m img r c .answer)
+  job-finishes : (r : Record) (c : Call) (w : Work) → ByteCall c → Job N img r c w → Accepted (m img r c .answer)
       → m img r c .image ≡ img → Finishes N m c (m img r c .image) (m img r c .board)
-  job-finishes r c plan z bc j a i =
-      let f = p .jobs img r c plan z by bc j a in
-      subst (λ (l : List ℕ). Finishes N m c l (m img r c .board)) (sym i) (record { plan = plan; last = z; follows = f .0; rests = job-idle j; short = f .1 })
+  job-finishes r c w bc j a i =
+      let f = p .jobs img r c w by bc j a in
+      subst (λ (l : List ℕ). Finishes N m c l (m img r c .board)) (sym i) (record { work = w; follows = f .0; rests = job-idle j; short = f .1 })
 
   -- of a request that is answered more
   request-ends : (r : Record) (h : Host) (msg reply : List ℕ) → Bytes msg → m img r (request h msg reply) .answer ≡ More
@@ -74,7 +73,7 @@ module _ {N : ℕ} {m : Machine} (p : Calls N m) (img : List ℕ) (by : Bytes im
       go : (f : Option Frame) → frameFor h msg x (y .asked) ≡ f → Answers f r (m img r c) → Finishes N m c (m img r c .image) (m img r c .board)
       go none g (n, b) = let w : _≡_ {A = Option ℕ} (some 0) none = sym n ∙ ap numberOf e in let v : _≡_ {A = ℕ} 0 1 = cc in absurd (omega arith)
       go (some f) g b =
-          job-finishes r c (framePlan N (needsRoom N img r f) (r .rest) x f) (framedAt N (needsRoom N img r f) (r .rest) x f) bm
+          job-finishes r c (frameWork N img r x f) bm
           (frame-job h msg reply x (y .asked) f (y .is-held) (y .is-asked) g) a (p .one-step img r c)
 
   -- a refused mount or format leaves no job
@@ -92,14 +91,14 @@ module _ {N : ℕ} {m : Machine} (p : Calls N m) (img : List ℕ) (by : Bytes im
       taken-ends r mount
       (λ a. let y : Mountable N img = mount-takes p img by r a in
       let x : Store = y .store in
-      job-finishes r mount (mountPlan N (allFound N img) x) (mountedAt N (upkeep x) (length img - 1) x) tt
+      job-finishes r mount (mountWork N img x) tt
       (mount-job x (y .current)) a (p .one-step img r mount))
       (λ n k. k)
 
   format-ends : (r : Record) → Ends N m format (m img r format .image) (m img r format .board)
   format-ends r =
       taken-ends r format
-      (λ a. job-finishes r format (formatPlan N img) (formattedAt N (length img - 1)) tt format-job a (p .one-step img r format))
+      (λ a. job-finishes r format (formatWork N img) tt format-job a (p .one-step img r format))
       (λ n k. k)
 
   -- one step fewer
@@ -116,14 +115,19 @@ module _ {N : ℕ} {m : Machine} (p : Calls N m) (img : List ℕ) (by : Bytes im
           let s : ℕ = sizeOf N img in
           let e : sizeOf N (apply s x img) ≡ s = ap (sizeIn N) (length-apply s x img) in
           subst (λ (o : Out). Finishes N m a (o .image) (o .board)) (sym g)
-          (record { plan = xs; last = z; follows = h; rests = i; short = subst (λ (k : ℕ). Short N k xs a) (sym e) (short-rest N s x xs a l) })
+          (record {
+            work = record { steps = xs; last = z };
+            follows = h;
+            rests = i;
+            short = subst (λ (k : ℕ). Short N k xs a) (sym e) (short-rest N s x xs a l);
+          })
 
       go : (q : Phase) → r .phase ≡ q → Ends N m a (m img r step .image) (m img r step .board)
       go Unmounted e = rests (subst Rests (sym e) tt)
       go Idle e = rests (subst Rests (sym e) tt)
       go (Busy s) e =
           let y : Finishes N m a img r = f (subst InJob (sym e) tt) in
-          λ j. goes (y .plan) (y .last) (y .follows) (y .rests) (y .short) (subst InJob (sym e) tt)
+          λ j. goes (y .work .steps) (y .work .last) (y .follows) (y .rests) (y .short) (subst InJob (sym e) tt)
 
   pub call-ends : (a : Call) (r : Record) → Ends N m a img r → (c : Call) → ByteCall c
       → Ends N m (begunBy a c (m img r c .answer)) (m img r c .image) (m img r c .board)

@@ -23,7 +23,7 @@ use Rattle.board.specs.declared.Phase.the-variants.{Unmounted, Idle, Bus
 use Rattle.board.specs.declared.Record.{Record}
 use Rattle.board.specs.Record.{Out, answerIn, answerOf}
 use Rattle.board.specs.Exec.{Machine, Call, request, step, mount, format, exec}
-use Rattle.board.specs.Plan.{Follows}
+use Rattle.board.specs.Plan.{Follows, Work, Performs}
 use Rattle.board.specs.Demand1.{Rests}
 use Rattle.board.specs.Demand2.{Accepted}
 use Rattle.board.specs.Book.{Book, firstBook, enterCall}
@@ -47,9 +47,10 @@ done-idle : (z : Record) → z .phase ≡ Idle → numberOf (answerOf z) ≡ som
 done-idle z e = ap (λ (p : Phase). numberOf (answerIn p)) e
 
 -- a plan's steps, made by the calls that follow an outcome that tells its record
-plan-steps : {N : ℕ} (m : Machine) (img : List ℕ) (o : Out) (plan : List Step) (z : Record) → o .image ≡ img → o .answer ≡ answerOf (o .board) → z .phase ≡ Idle
-    → Follows N m img (o .board) plan z → StepsOf N m img o plan z
-plan-steps {N} m img o plan z i a e f =
+plan-steps : {N : ℕ} (m : Machine) (img : List ℕ) (o : Out) (w : Work) → o .image ≡ img → o .answer ≡ answerOf (o .board) → w .last .phase ≡ Idle
+    → Performs N m img (o .board) w → StepsOf N m img o w
+plan-steps {N} m img o w i a e f =
+    let plan : List Step = w .steps in
     let g : Follows N m (o .image) (o .board) plan z = subst (λ (x : List ℕ). Follows N m x (o .board) plan z) (sym i) f in
     record {
       images = λ n l. follows-part N m (sizeOf N img) n plan o z (ap (sizeOf N) i) l g ∙ ap (applyAll (sizeOf N img) (take n plan)) i;
@@ -58,6 +59,9 @@ plan-steps {N} m img o plan z i a e f =
       last = lasts plan g;
     }
   where
+    z : Record
+    z = w .last
+
     ends : (xs : List Step) → Follows N m (o .image) (o .board) xs z → numberOf (stepsOn m (length xs) o .answer) ≡ some 0
     ends [] g = ap numberOf (a ∙ ap answerOf g) ∙ done-idle z e
     ends (x ∷ xs) g = ap (λ (q : Out). numberOf (q .answer)) (follows-steps N m (x ∷ xs) x xs refl (sizeOf N img) o z (ap (sizeOf N) i) g) ∙ done-idle z e
@@ -68,21 +72,21 @@ plan-steps {N} m img o plan z i a e f =
 
 module _ {N : ℕ} {m : Machine} (p : Calls N m) where
   -- a job is no step's
-  job-image : {img : List ℕ} {r : Record} {c : Call} {plan : List Step} {z : Record} → Job N img r c plan z → m img r c .image ≡ img
+  job-image : {img : List ℕ} {r : Record} {c : Call} {w : Work} → Job N img r c w → m img r c .image ≡ img
   job-image {img} {r} (frame-job h msg reply x q f v k g) = p .one-step img r (request h msg reply)
   job-image {img} {r} (mount-job x v) = p .one-step img r mount
   job-image {img} {r} format-job = p .one-step img r format
 
-  job-tells : {img : List ℕ} {r : Record} {c : Call} {plan : List Step} {z : Record} → Job N img r c plan z → Accepted (m img r c .answer)
+  job-tells : {img : List ℕ} {r : Record} {c : Call} {w : Work} → Job N img r c w → Accepted (m img r c .answer)
       → m img r c .answer ≡ answerOf (m img r c .board)
   job-tells {img} {r} {c} (frame-job h msg reply x q f v k g) a = told-answer (m img r c) (p .told img r c a (λ _. tt)) a
   job-tells {img} {r} {c} (mount-job x v) a = told-answer (m img r c) (p .told img r c a (λ _. tt)) a
   job-tells {img} {r} {c} format-job a = told-answer (m img r c) (p .told img r c a (λ _. tt)) a
 
-  pub job-steps : (img : List ℕ) (r : Record) (c : Call) (plan : List Step) (z : Record) → Bytes img → ByteCall c → Job N img r c plan z
-      → Accepted (m img r c .answer) → StepsOf N m img (m img r c) plan z
-  job-steps img r c plan z by bc j a =
-      plan-steps m img (m img r c) plan z (job-image j) (job-tells j a) (job-idle j) (p .jobs img r c plan z by bc j a .0)
+  pub job-steps : (img : List ℕ) (r : Record) (c : Call) (w : Work) → Bytes img → ByteCall c → Job N img r c w
+      → Accepted (m img r c .answer) → StepsOf N m img (m img r c) w
+  job-steps img r c w by bc j a =
+      plan-steps m img (m img r c) w (job-image j) (job-tells j a) (job-idle j) (p .jobs img r c w by bc j a .0)
 
 -- ---- what a call says is what it shows
 

@@ -2,16 +2,15 @@
 use mathlib.Core.Path.{_≡_, sym, ap, subst, _∙_}
 use mathlib.Core.List.{List, [], _∷_}
 use mathlib.Core.Logic.{inl, inr}
-use Prim.Native.Nat.{ℕ, _-_}
-use lib.ListN.{length}
+use Prim.Native.Nat.{ℕ}
 use Rattle.flash.specs.Bytes.{Bytes}
 use Rattle.flash.specs.Flash.{sizeOf, withBlock}
 use Rattle.wire.specs.Answer.{numberOf}
 use Rattle.board.specs.declared.Record.{Record}
 use Rattle.board.specs.Record.{Out}
-use Rattle.board.specs.Mount.{allFound, Store, upkeep}
+use Rattle.board.specs.Mount.{Store}
 use Rattle.board.specs.Exec.{Machine, mount, format, exec}
-use Rattle.board.specs.Plan.{Follows, mountPlan, mountedAt}
+use Rattle.board.specs.Plan.{mountWork}
 use Rattle.board.specs.Demand2.{Accepted, Mounts, OneStore, EachCall, FromAny, NotStale, UsableFrom, StepLands, LandsFrom}
 use Rattle.board.specs.Book.{Book, enterCall}
 use Rattle.board.specs.Claim.{Event, call, cutErase, Happens}
@@ -28,17 +27,12 @@ module _ {N : ℕ} {m : Machine} (p : Calls N m) where
   mounts-over : (img : List ℕ) (r : Record) (x : Out) → Bytes img → Accepted (m img r mount .answer) → Mounts N (exec N) img x → Mounts N m img (m img r mount)
   mounts-over img r x by a y =
       let s : Store = y .store in
-      let last : Record = mountedAt N (upkeep s) (length img - 1) s in
-      let f : Follows N m img (m img r mount .board) (mountPlan N (allFound N img) s) last =
-      p .jobs img r mount (mountPlan N (allFound N img) s) last by tt (mount-job s (mounts-current img by (mount-allowed p img by r a) x y)) a .0 in
       record {
         store = s;
         there = y .there;
         is-valid = y .is-valid;
         newest = y .newest;
-        last = y .last;
-        is-last = y .is-last;
-        follows = subst (Follows N m img (m img r mount .board) (mountPlan N (allFound N img) s)) (sym (y .is-last)) f;
+        follows = p .jobs img r mount (mountWork N img s) by tt (mount-job s (mounts-current img by (mount-allowed p img by r a) x y)) a .0;
         short = y .short;
         erases = y .erases;
         holding = y .holding;

@@ -22,7 +22,7 @@ use Rattle.journal.proofs.States.{Contents, contents-valid}
 use Rattle.journal.proofs.Raising.{harmless-older}
 use Rattle.journal.proofs.Building.{Lands, below-build, made, making, lands}
 use Rattle.board.specs.Mount.{numbersBut, formatOrder}
-use Rattle.board.specs.Plan.{onBlock, formatPlan, formattedAt}
+use Rattle.board.specs.Plan.{onBlock, formatWork}
 use Rattle.board.specs.CutFormat.{Beside}
 use Rattle.board.proofs.Images.{Sized, size-of, sized-as, sized-last, apply-append, block-writes, other-writes, length-all-steps}
 use Rattle.board.proofs.Lengths.{length-format}
@@ -99,7 +99,7 @@ module _ {N : ℕ} {s : ℕ} {img : List ℕ} (z : Sized N s img) where
   part-empty j h zero g = part-quiet s 0 wiped (wiped-blank 0 g) 1 [] (none-fit z) j h
   part-empty j h (suc i) g = blank-quiet s (block s (suc i) (part j)) (part-other (suc i) j g (λ e. omega arith))
 
-  pub format-lands : Each s (StepLands s) (formatPlan N img) img
+  pub format-lands : Each s (StepLands s) (formatWork N img .steps) img
   format-lands =
       each-append s (StepLands s) (map erase (formatOrder N img)) (onBlock 0 (build 1 [])) img (erases-land s (formatOrder N img) img)
       (part-lands s 0 wiped (wiped-blank 0 (omega (arith, z .few))) 1 [] (none-fit z) tt)
@@ -141,7 +141,7 @@ module _ {N : ℕ} {s : ℕ} {img : List ℕ} (z : Sized N s img) where
       inl (subst (λ (ks : List ℕ). Each s (λ y i. Safe N s i os false) (map erase ks) img) (sym (order-last (safe-newest k l v q))) (erases-last k l v q) j h)
 
   -- the empty store: one block, of time 1 and no frames
-  format-alone : Alone N s (applyAll s (formatPlan N img) img) 0 1 [] clean
+  format-alone : Alone N s (applyAll s (formatWork N img .steps) img) 0 1 [] clean
   format-alone =
       let ws : List Write = build 1 [] in
       let b : Below s ws = below-build s 1 [] (none-fit z) in
@@ -157,11 +157,11 @@ module _ {N : ℕ} {s : ℕ} {img : List ℕ} (z : Sized N s img) where
         others = λ j h n. other-writes s j 0 ws wiped n b ∙ wiped-blank j h;
       })
 
-  pub format-ends : After N s (applyAll s (formatPlan N img) img) (formattedAt N (length img - 1)) (state [] [])
+  pub format-ends : After N s (applyAll s (formatWork N img .steps) img) (formatWork N img .last) (state [] [])
   unfolding total replayFrom isOpen
   format-ends =
-      alone-after (formattedAt N (length img - 1) .rest) (state [] []) format-alone refl
-      (length-all-steps s (formatPlan N img) img ∙ sized-last z) refl (omega (arith, z .low))
+      alone-after (formatWork N img .last .rest) (state [] []) format-alone refl
+      (length-all-steps s (formatWork N img .steps) img ∙ sized-last z) refl (omega (arith, z .low))
 
 -- "On an image the store left, a cut format leaves the old settled objects, no store, or the empty store": after j of the steps.
 -- A mount finds the objects where an image is safe and no format is unfinished.
@@ -189,7 +189,7 @@ module _ {N : ℕ} {s : ℕ} {img : List ℕ} {os : List Object} {u : Bool} (z :
   Cut j i = FormatCut N s img os j i
 
   -- before the last erase
-  cut-early : (j : ℕ) → j < N → Cut j (applyAll s (take j (formatPlan N img)) img)
+  cut-early : (j : ℕ) → j < N → Cut j (applyAll s (take j (formatWork N img .steps)) img)
   cut-early j h =
       subst (λ (p : List Step). Cut j (applyAll s p img)) (sym (take-append-le j erases writing (omega (arith, length-erases))))
       (go (erases-leave z f j (omega (arith, length-erases))))
@@ -200,29 +200,29 @@ module _ {N : ℕ} {s : ℕ} {img : List ℕ} {os : List Object} {u : Bool} (z :
       go (inr (p, q)) = still-none h p q
 
   -- after it
-  cut-late : (n : ℕ) → n < 10 → Cut (N + n) (applyAll s (take (N + n) (formatPlan N img)) img)
+  cut-late : (n : ℕ) → n < 10 → Cut (N + n) (applyAll s (take (N + n) (formatWork N img .steps)) img)
   cut-late n h =
       subst (Cut (N + n))
-      (sym (ap (λ (k : ℕ). applyAll s (take (k + n) (formatPlan N img)) img) (sym length-erases)
+      (sym (ap (λ (k : ℕ). applyAll s (take (k + n) (formatWork N img .steps)) img) (sym length-erases)
       ∙ ap (λ (p : List Step). applyAll s p img) (take-append-add erases writing n ∙ ap (λ (p : List Step). erases ++ p) (take-on 0 n (build 1 [])))
       ∙ apply-append s erases (onBlock 0 (take n (build 1 []))) img))
       (no-store (omega arith) (omega arith) (part-empty z n (omega (arith, length-writing))))
 
-  pub format-cut : (j : ℕ) → j ≤ N + 10 → Cut j (applyAll s (take j (formatPlan N img)) img)
+  pub format-cut : (j : ℕ) → j ≤ N + 10 → Cut j (applyAll s (take j (formatWork N img .steps)) img)
   format-cut j h =
       on-test (ltb j N)
       (λ t. cut-early j (ltb-true j N t))
       (λ t. on-test (ltb j (N + 10))
       (λ w. let e : N + (j - N) ≡ j = omega (arith, ltb-false j N t) in
-      subst (λ (k : ℕ). Cut k (applyAll s (take k (formatPlan N img)) img)) e (cut-late (j - N) (omega (arith, ltb-true j (N + 10) w, ltb-false j N t))))
+      subst (λ (k : ℕ). Cut k (applyAll s (take k (formatWork N img .steps)) img)) e (cut-late (j - N) (omega (arith, ltb-true j (N + 10) w, ltb-false j N t))))
       (λ w. empty-store (omega (arith, ltb-false j (N + 10) w))
       (subst (λ (p : List Step). Alone N s (applyAll s p img) 0 1 [] clean)
-      (sym (take-all j (formatPlan N img) (omega (arith, length-format N img, ltb-false j (N + 10) w)))) (format-alone z))))
+      (sym (take-all j (formatWork N img .steps) (omega (arith, length-format N img, ltb-false j (N + 10) w)))) (format-alone z))))
 
-  pub format-safe : Each s (λ y i. Safe N s i os true) (formatPlan N img) img
+  pub format-safe : Each s (λ y i. Safe N s i os true) (formatWork N img .steps) img
   format-safe j h = go (format-cut j (omega (arith, length-format N img)))
     where
-      go : Cut j (applyAll s (take j (formatPlan N img)) img) → Safe N s (applyAll s (take j (formatPlan N img)) img) os true
+      go : Cut j (applyAll s (take j (formatWork N img .steps)) img) → Safe N s (applyAll s (take j (formatWork N img .steps)) img) os true
       go (old-objects l x) = safe-more true x
       go (still-none l p q) = no-valid refl q
       go (no-store l k q) = no-valid refl q

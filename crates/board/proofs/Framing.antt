@@ -1,6 +1,6 @@
 -- The job of a put, delete, commit or abort, with a transfer first or without: each step lands, every prefix keeps what a mount finds,
 -- and the record is then idle with the frame in its block.
-use mathlib.Core.Path.{_≡_, refl, sym, ap, subst, subst₂, subst₃, _∙_}
+use mathlib.Core.Path.{_≡_, sym, ap, subst, subst₂, subst₃, _∙_}
 use mathlib.Core.List.{List}
 use mathlib.Core.Bool.{Bool, true, false}
 use Prim.Native.Nat.{ℕ, suc, _+_, _≤_, _<_}
@@ -19,9 +19,10 @@ use Rattle.board.specs.declared.Record.{Record}
 use Rattle.board.specs.Record.{landing, ending, idle}
 use Rattle.board.specs.Mount.{nextBlock, endOf}
 use Rattle.board.specs.Queue.{Held, needsRoom}
-use Rattle.board.specs.Plan.{transferPlan, appendPlan, framePlan, framedAt}
+use Rattle.board.specs.Plan.{transferPlan, appendPlan, Work, appendWork, movedWork, frameWork}
 use Rattle.board.proofs.Images.{Sized, size-of, apply-append, length-all-steps}
 use Rattle.board.proofs.Invariant.{StepLands, Guard, Ready}
+use Rattle.board.proofs.Lengths.{frame-cases}
 use Rattle.board.proofs.Prefixes.{Each, each-append}
 use Rattle.board.proofs.Current.{Alone, After, Roomy, Keeps, ready-alone}
 use Rattle.board.proofs.Appending.{Fits, append-lands, append-guard, append-ends}
@@ -55,9 +56,6 @@ module _ {N : ℕ} {s : ℕ} {img : List ℕ} {r : Record} {x : Held} {f : Frame
   abbrev st : State
   st = replay (x .frames)
 
-  abbrev planned : Bool → List Step
-  planned b = framePlan N b (r .rest) x f
-
   abbrev moved : List ℕ
   moved = applyAll s (transferPlan N (r .rest .block) (x .time) st) img
 
@@ -81,37 +79,39 @@ module _ {N : ℕ} {s : ℕ} {img : List ℕ} {r : Record} {x : Held} {f : Frame
   each : (P : Step → List ℕ → Type 0) → (needsRoom N img r f ≡ false → Each s P (appendPlan (r .rest .block) (endOf (x .frames)) f) img)
       → (needsRoom N img r f ≡ true → Each s P (transferPlan N (r .rest .block) (x .time) st) img)
       → (needsRoom N img r f ≡ true → Each s P (appendPlan (nextBlock N (r .rest .block)) (endOf (framesOf st)) f) moved)
-      → Each s P (planned (needsRoom N img r f)) img
-  each P one first second = go (needsRoom N img r f) refl
-    where
-      go : (b : Bool) → needsRoom N img r f ≡ b → Each s P (planned b) img
-      go false e = subst (λ (n : ℕ). Each s P (appendPlan (r .rest .block) n f) img) (h .ends) (one e)
-      go true e =
-          each-append s P (transferPlan N (r .rest .block) (x .time) st) (appendPlan (nextBlock N (r .rest .block)) (claimed st) f) img (first e)
-          (subst (λ (n : ℕ). Each s P (appendPlan (nextBlock N (r .rest .block)) n f) moved) (frames-total st) (second e))
+      → Each s P (frameWork N img r x f .steps) img
+  each P one first second =
+      let k : ℕ = nextBlock N (r .rest .block) in
+      frame-cases (λ w. Each s P (w .steps) img) (sizeOf N img) k (r .rest) x f
+      (λ e. each-append s P (transferPlan N (r .rest .block) (x .time) st) (appendPlan k (claimed st) f) img (first e)
+      (subst (λ (n : ℕ). Each s P (appendPlan k n f) moved) (frames-total st) (second e)))
+      (λ e. subst (λ (n : ℕ). Each s P (appendPlan (r .rest .block) n f) img) (h .ends) (one e))
 
-  pub frame-lands : Each s (StepLands s) (framePlan N (needsRoom N img r f) (r .rest) x f) img
+  pub frame-lands : Each s (StepLands s) (frameWork N img r x f .steps) img
   frame-lands =
       each (StepLands s) (λ e. append-lands (h .alone) f (here e)) (λ e. transfer-lands (h .alone) st (moves e)) (λ e. append-lands (new e) f after)
 
   pub frame-guard : {os : List Object} (u : Bool) → Keeps s (replay (x .frames)) os
-      → Each s (Guard N s os u) (framePlan N (needsRoom N img r f) (r .rest) x f) img
+      → Each s (Guard N s os u) (frameWork N img r x f .steps) img
   frame-guard {os} u p =
       each (Guard N s os u) (λ e. append-guard (h .alone) f (here e) u p) (λ e. transfer-guard (h .alone) st (moves e) u p p)
       (λ e. append-guard (new e) f after u (subst (λ (z : State). Keeps s z os) (sym (replay-framesOf st)) p))
 
   pub frame-ends : Roomy s (nextState (replay (x .frames)) f)
-      → After N s (applyAll s (framePlan N (needsRoom N img r f) (r .rest) x f) img)
-      (framedAt N (needsRoom N img r f) (r .rest) x f)
-      (nextState (replay (x .frames)) f)
-  frame-ends room = go (needsRoom N img r f) refl
+      → After N s (applyAll s (frameWork N img r x f .steps) img) (frameWork N img r x f .last) (nextState (replay (x .frames)) f)
+  frame-ends room =
+      frame-cases (λ w. After N s (applyAll s (w .steps) img) (w .last) (nextState st f)) (sizeOf N img) (nextBlock N (r .rest .block)) (r .rest) x f
+      went stayed
     where
-      go : (b : Bool) → needsRoom N img r f ≡ b → After N s (applyAll s (planned b) img) (framedAt N b (r .rest) x f) (nextState st f)
-      go false e =
+      stayed : needsRoom N img r f ≡ false → After N s (applyAll s (appendWork (r .rest) f .steps) img) (appendWork (r .rest) f .last) (nextState st f)
+      stayed e =
           subst (λ (n : ℕ). After N s (applyAll s (appendPlan (r .rest .block) n f) img) (idle (ending (r .rest) (n + frameLen f))) (nextState st f))
           (h .ends)
           (append-ends (h .alone) f (here e) (r .rest) (h .blocks) (h .long) room)
-      go true e =
+
+      went : needsRoom N img r f ≡ true
+          → let w : Work = movedWork (nextBlock N (r .rest .block)) (r .rest) x f in After N s (applyAll s (w .steps) img) (w .last) (nextState st f)
+      went e =
           let k : ℕ = nextBlock N (r .rest .block) in
           let long : length moved ≡ suc (r .rest .last) = length-all-steps s (transferPlan N (r .rest .block) (x .time) st) img ∙ h .long in
           subst (λ (i : List ℕ). After N s i (idle (landing (r .rest) k (claimed st + frameLen f))) (nextState st f))

@@ -1,9 +1,10 @@
 -- How many steps each plan has.
 use mathlib.Core.Path.{_≡_, refl, ap, _∙_}
 use mathlib.Core.List.{List, [], _∷_, _++_, map}
-use mathlib.Core.Bool.{true, false}
-use Prim.Native.Nat.{ℕ, suc, _+_}
+use mathlib.Core.Bool.{Bool, true, false, cond}
+use Prim.Native.Nat.{ℕ, suc, _+_, _≤_, _<_}
 use native.Mathlib.Omega.{arith}
+use lib.Dec.{ltb}
 use lib.ListN.{length, length-append, length-map}
 use Rattle.flash.specs.Flash.{Step, erase, Write, writeStep, writes}
 use Rattle.flash.proofs.Programming.{length-writes}
@@ -15,17 +16,17 @@ use Rattle.journal.specs.Room.{used, claimed}
 use Rattle.journal.proofs.Room.{frames-total, claimed-settled}
 use Rattle.journal.proofs.Building.{length-build}
 use Rattle.board.specs.declared.Rest.{Rest}
-use Rattle.board.specs.Mount.{nextBlock, Found, Store, wipeList, Upkeep, rests, moves, upkeep, formatOrder}
+use Rattle.board.specs.Mount.{Store, storeAt, Upkeep, rests, moves, upkeep, formatOrder}
 use Rattle.board.specs.Queue.{Held}
-use Rattle.board.specs.Plan.{onBlock, transferPlan, formatPlan, appendPlan, programs, transferIf, mountPlan, framePlan}
+use Rattle.board.specs.Plan.{onBlock, transferTo, appendPlan, programs, Work, formatWork, upkeepWork, mountIn, appendWork, movedWork, frameIn}
 use Rattle.board.proofs.Order.{length-order}
 
 -- "C - 5 steps"
-pub length-transfer : (N : ℕ) (k time : ℕ) (st : State) → length (transferPlan N k time st) + 5 ≡ claimed st
-length-transfer N k time st =
+pub length-transfer : (j k time : ℕ) (st : State) → length (transferTo j k time st) + 5 ≡ claimed st
+length-transfer j k time st =
     let ws : List Write = build (suc time) (framesOf st) in
-    let e : length (transferPlan N k time st) ≡ length ws + 1 =
-    length-append (onBlock (nextBlock N k) ws) (erase k ∷ []) ∙ ap (λ (n : ℕ). n + 1) (length-map ws (writeStep (nextBlock N k))) in
+    let e : length (transferTo j k time st) ≡ length ws + 1 =
+    length-append (onBlock j ws) (erase k ∷ []) ∙ ap (λ (n : ℕ). n + 1) (length-map ws (writeStep j)) in
     omega (arith, length-build (suc time) (framesOf st), frames-total st)
 
 pub length-plan-append : (k end : ℕ) (f : Frame) → length (appendPlan k end f) ≡ frameLen f
@@ -36,47 +37,46 @@ wipes-then : (ks : List ℕ) (xs : List Step) → length (map erase ks ++ xs) �
 wipes-then ks xs = length-append (map erase ks) xs ∙ ap (λ (n : ℕ). n + length xs) (length-map ks erase)
 
 -- a step for each block and ten for block 0's header
-pub length-format : (N : ℕ) (img : List ℕ) → length (formatPlan N img) ≡ N + 10
+pub length-format : (N : ℕ) (img : List ℕ) → length (formatWork N img .steps) ≡ N + 10
 unfolding writes encodeAll
 length-format N img = wipes-then (formatOrder N img) (onBlock 0 (build 1 [])) ∙ ap (λ (n : ℕ). n + 10) (length-order N img)
 
 -- there is a first step
-pub format-some : (N : ℕ) (img : List ℕ) → (x : Step) × (xs : List Step) × (formatPlan N img ≡ x ∷ xs)
-format-some N img = go (formatPlan N img) refl
+pub format-some : (N : ℕ) (img : List ℕ) → (x : Step) × (xs : List Step) × (formatWork N img .steps ≡ x ∷ xs)
+format-some N img = go (formatWork N img .steps) refl
   where
-    go : (p : List Step) → formatPlan N img ≡ p → (x : Step) × (xs : List Step) × (formatPlan N img ≡ x ∷ xs)
-    go [] e = let z : length (formatPlan N img) ≡ 0 = ap length e in absurd (omega (arith, length-format N img))
+    go : (p : List Step) → formatWork N img .steps ≡ p → (x : Step) × (xs : List Step) × (formatWork N img .steps ≡ x ∷ xs)
+    go [] e = let z : length (formatWork N img .steps) ≡ 0 = ap length e in absurd (omega (arith, length-format N img))
     go (x ∷ xs) e = (x, xs, e)
 
-pub length-frame-moved : (N : ℕ) (z : Rest) (x : Held) (f : Frame) → length (framePlan N true z x f) + 5 ≡ claimed (replay (x .frames)) + frameLen f
-length-frame-moved N z x f =
-    let ts : List Step = transferPlan N (z .block) (x .time) (replay (x .frames)) in
-    let ys : List Step = appendPlan (nextBlock N (z .block)) (claimed (replay (x .frames))) f in
+-- a frame's work, after a transfer or without one
+pub frame-cases : (Q : Work → Type 0) (s j : ℕ) (z : Rest) (x : Held) (f : Frame) → (ltb s (z .end + frameLen f) ≡ true → Q (movedWork j z x f))
+    → (ltb s (z .end + frameLen f) ≡ false → Q (appendWork z f)) → Q (frameIn s j z x f)
+frame-cases Q s j z x f moved stayed = go (ltb s (z .end + frameLen f)) refl
+  where
+    go : (b : Bool) → ltb s (z .end + frameLen f) ≡ b → Q (cond b (movedWork j z x f) (appendWork z f))
+    go true e = moved e
+    go false e = stayed e
+
+length-moved : (j : ℕ) (z : Rest) (x : Held) (f : Frame) → length (movedWork j z x f .steps) + 5 ≡ claimed (replay (x .frames)) + frameLen f
+length-moved j z x f =
+    let st : State = replay (x .frames) in
     omega (
       arith,
-      length-append ts ys,
-      length-transfer N (z .block) (x .time) (replay (x .frames)),
-      length-plan-append (nextBlock N (z .block)) (claimed (replay (x .frames))) f,
+      length-append (transferTo j (z .block) (x .time) st) (appendPlan j (claimed st) f),
+      length-transfer j (z .block) (x .time) st,
+      length-plan-append j (claimed st) f,
     )
 
-pub length-frame-stayed : (N : ℕ) (z : Rest) (x : Held) (f : Frame) → length (framePlan N false z x f) ≡ frameLen f
-length-frame-stayed N z x f = length-plan-append (z .block) (z .end) f
+pub frame-short : (s j : ℕ) (z : Rest) (x : Held) (f : Frame) → claimed (replay (x .frames)) + frameLen f ≤ s → length (frameIn s j z x f .steps) ≤ s
+frame-short s j z x f h =
+    frame-cases (λ w. length (w .steps) ≤ s) s j z x f (λ e. omega (arith, length-moved j z x f))
+    (λ e. omega (arith, length-plan-append (z .block) (z .end) f))
 
--- a mount's wipes, with a transfer of the settled objects or without
-pub length-mount-moved : (N : ℕ) (xs : List Found) (x : Store) → upkeep x ≡ moves
-    → length (mountPlan N xs x) + 5 ≡ length (wipeList (x .number) xs) + used (replay (x .frames))
-length-mount-moved N xs x t =
-    let ks : List ℕ = wipeList (x .number) xs in
-    let st : State = settledOnly (replay (x .frames)) in
-    let e : length (mountPlan N xs x) ≡ length (map erase ks ++ transferPlan N (x .number) (x .time) st) =
-    ap (λ (u : Upkeep). length (map erase ks ++ transferIf N u (x .number) (x .time) st)) t in
-    omega (arith, wipes-then ks (transferPlan N (x .number) (x .time) st), length-transfer N (x .number) (x .time) st, claimed-settled (replay (x .frames)))
-
-pub length-mount-stayed : (N : ℕ) (xs : List Found) (x : Store) → upkeep x ≡ rests
-    → length (mountPlan N xs x) ≡ length (wipeList (x .number) xs)
-length-mount-stayed N xs x t =
-    let ks : List ℕ = wipeList (x .number) xs in
-    ap (λ (u : Upkeep). length (map erase ks ++ transferIf N u (x .number) (x .time) (settledOnly (replay (x .frames))))) t ∙ wipes-then ks [] ∙ omega arith
+pub frame-some : (s j : ℕ) (z : Rest) (x : Held) (f : Frame) → 0 < length (frameIn s j z x f .steps)
+frame-some s j z x f =
+    frame-cases (λ w. 0 < length (w .steps)) s j z x f (λ e. omega (arith, length-moved j z x f))
+    (λ e. omega (arith, length-plan-append (z .block) (z .end) f))
 
 -- ---- without the erases
 
@@ -91,30 +91,35 @@ programs-writes k [] xs = refl
 programs-writes k (w ∷ ws) xs = ap (λ (ys : List Step). writeStep k w ∷ ys) (programs-writes k ws xs)
 
 -- a transfer has one erase
-programs-transfer : (N : ℕ) (k time : ℕ) (st : State) → length (transferPlan N k time st) ≡ suc (length (programs (transferPlan N k time st)))
+programs-transfer : (j k time : ℕ) (st : State) → length (transferTo j k time st) ≡ suc (length (programs (transferTo j k time st)))
 unfolding programs
-programs-transfer N k time st =
+programs-transfer j k time st =
     let ws : List Write = build (suc time) (framesOf st) in
-    let n : ℕ = nextBlock N k in
-    let e : length (programs (transferPlan N k time st)) ≡ length (onBlock n ws) + 0 =
-    ap (λ (xs : List Step). length xs) (programs-writes n ws (erase k ∷ [])) ∙ length-append (onBlock n ws) [] in
-    omega (arith, e, length-append (onBlock n ws) (erase k ∷ []))
+    let e : length (programs (transferTo j k time st)) ≡ length (onBlock j ws) + 0 =
+    ap (λ (xs : List Step). length xs) (programs-writes j ws (erase k ∷ [])) ∙ length-append (onBlock j ws) [] in
+    omega (arith, e, length-append (onBlock j ws) (erase k ∷ []))
 
-pub programs-mount-moved : (N : ℕ) (xs : List Found) (x : Store) → upkeep x ≡ moves
-    → length (programs (mountPlan N xs x)) + 6 ≡ used (replay (x .frames))
-programs-mount-moved N xs x t =
-    let ks : List ℕ = wipeList (x .number) xs in
-    let st : State = settledOnly (replay (x .frames)) in
-    let ts : List Step = transferPlan N (x .number) (x .time) st in
-    let e : length (programs (mountPlan N xs x)) ≡ length (programs ts) =
-    ap (λ (u : Upkeep). length (programs (map erase ks ++ transferIf N u (x .number) (x .time) st))) t
-    ∙ ap (λ (ys : List Step). length ys) (programs-wipes ks ts) in
-    omega (arith, e, programs-transfer N (x .number) (x .time) st, length-transfer N (x .number) (x .time) st, claimed-settled (replay (x .frames)))
+-- ---- a mount
 
-pub programs-mount-stayed : (N : ℕ) (xs : List Found) (x : Store) → upkeep x ≡ rests
-    → length (programs (mountPlan N xs x)) ≡ 0
+-- its steps but the first erases program what a transfer does, or nothing; one erase more is the transfer's
+pub record UpkeepSteps (x : Store) (xs : List Step) : Type 0 where
+  pub programmed : length (programs xs) ≤ used (replay (x .frames))
+  pub erased : length xs ≤ suc (length (programs xs))
+
+pub upkeep-steps : (u : Upkeep) (j : ℕ) (z : Rest) (x : Store) → UpkeepSteps x (upkeepWork u j z x .steps)
 unfolding programs
-programs-mount-stayed N xs x t =
-    let ks : List ℕ = wipeList (x .number) xs in
-    ap (λ (u : Upkeep). length (programs (map erase ks ++ transferIf N u (x .number) (x .time) (settledOnly (replay (x .frames)))))) t
-    ∙ ap (λ (ys : List Step). length ys) (programs-wipes ks [])
+upkeep-steps rests j z x = record { programmed = omega arith; erased = omega arith }
+upkeep-steps moves j z x =
+    let st : State = settledOnly (replay (x .frames)) in
+    let n = programs-transfer j (x .number) (x .time) st in
+    record { programmed = omega (arith, n, length-transfer j (x .number) (x .time) st, claimed-settled (replay (x .frames))); erased = omega (arith, n) }
+
+-- the same with the erases before it
+pub mount-steps : (N l : ℕ) (ks : List ℕ) (j : ℕ) (x : Store)
+    → (length (programs (mountIn N l ks j x .steps)) ≤ used (replay (x .frames)))
+    × (length (mountIn N l ks j x .steps) ≤ length (programs (mountIn N l ks j x .steps)) + suc (length ks))
+mount-steps N l ks j x =
+    let xs : List Step = upkeepWork (upkeep x) j (storeAt N l x) x .steps in
+    let y : UpkeepSteps x xs = upkeep-steps (upkeep x) j (storeAt N l x) x in
+    let e : length (programs (map erase ks ++ xs)) ≡ length (programs xs) = ap (λ (ys : List Step). length ys) (programs-wipes ks xs) in
+    (omega (arith, e, y .programmed), omega (arith, e, y .erased, wipes-then ks xs))

@@ -12,11 +12,11 @@ use Rattle.journal.specs.Block.{lastTime}
 use Rattle.journal.proofs.Room.{claimed-settled}
 use Rattle.board.specs.Record.{landing, idle}
 use Rattle.board.specs.Mount.{Store, allFound, wipeList, nextBlock, Upkeep, rests, moves, upkeep, storeAt}
-use Rattle.board.specs.Plan.{transferIf, programs, mountPlan, mountedAt}
-use Rattle.board.proofs.Upkeep.{on-upkeep, rests-clean, rests-settled}
+use Rattle.board.specs.Plan.{programs, Work, upkeepWork, mountWork}
+use Rattle.board.proofs.Upkeep.{rests-clean, rests-settled}
 use Rattle.board.proofs.Blocks.{wiped-besides}
 use Rattle.board.proofs.Images.{Sized, sized-last, apply-append, length-all-steps}
-use Rattle.board.proofs.Lengths.{length-mount-moved, length-mount-stayed, programs-mount-moved, programs-mount-stayed}
+use Rattle.board.proofs.Lengths.{mount-steps}
 use Rattle.board.proofs.Invariant.{Lessers, Guard, StepLands}
 use Rattle.board.proofs.Prefixes.{Each, each-append}
 use Rattle.board.proofs.Current.{Alone, After, Keeps, alone-after, valid-of, keeps-settled}
@@ -34,6 +34,9 @@ module _ {N : ℕ} {s : ℕ} {img : List ℕ} (x : Store) (z : Sized N s img) (h
   abbrev st : State
   st = settledOnly (replay (x .frames))
 
+  abbrev kept : Upkeep → Work
+  kept u = upkeepWork u (nextBlock N (x .number)) (storeAt N (length img - 1) x) x
+
   -- the other blocks erased
   abbrev wiped : List ℕ
   wiped = applyAll s (map erase ks) img
@@ -41,37 +44,37 @@ module _ {N : ℕ} {s : ℕ} {img : List ℕ} (x : Store) (z : Sized N s img) (h
   alone : Alone N s wiped (x .number) (x .time) (x .frames) (x .tail)
   alone = erases-alone ks img z h y (wiped-besides N (x .number) img) (wipes-others z (x .number))
 
-  pub mount-lands : Each s (StepLands s) (mountPlan N (allFound N img) x) img
+  pub mount-lands : Each s (StepLands s) (mountWork N img x .steps) img
   mount-lands =
-      each-append s (StepLands s) (map erase ks) (transferIf N (upkeep x) (x .number) (x .time) st) img (erases-land s ks img)
+      each-append s (StepLands s) (map erase ks) (kept (upkeep x) .steps) img (erases-land s ks img)
       (go (upkeep x) t)
     where
-      go : (u : Upkeep) → (u ≡ moves → x .time < lastTime) → Each s (StepLands s) (transferIf N u (x .number) (x .time) st) wiped
+      go : (u : Upkeep) → (u ≡ moves → x .time < lastTime) → Each s (StepLands s) (kept u .steps) wiped
       go moves l = transfer-lands alone st (moves-settled alone (l refl))
       go rests l = λ j k. absurd (omega arith)
 
   pub mount-keeps : {os : List Object} (u : Bool) → Keeps s (replay (x .frames)) os → Lessers N s img (x .time) (x .number)
-      → Each s (Guard N s os u) (mountPlan N (allFound N img) x) img
+      → Each s (Guard N s os u) (mountWork N img x .steps) img
   mount-keeps {os} u p q =
-      each-append s (Guard N s os u) (map erase ks) (transferIf N (upkeep x) (x .number) (x .time) st) img
+      each-append s (Guard N s os u) (map erase ks) (kept (upkeep x) .steps) img
       (erases-guard u (x .number) ks img z h (wiped-besides N (x .number) img) (valid-of y p) q) (go (upkeep x) t)
     where
-      go : (v : Upkeep) → (v ≡ moves → x .time < lastTime) → Each s (Guard N s os u) (transferIf N v (x .number) (x .time) st) wiped
+      go : (v : Upkeep) → (v ≡ moves → x .time < lastTime) → Each s (Guard N s os u) (kept v .steps) wiped
       go moves l = transfer-guard alone st (moves-settled alone (l refl)) u p (keeps-settled p)
       go rests l = λ j k. absurd (omega arith)
 
-  pub mount-ends : After N s (applyAll s (mountPlan N (allFound N img) x) img) (mountedAt N (upkeep x) (length img - 1) x) st
+  pub mount-ends : After N s (applyAll s (mountWork N img x .steps) img) (mountWork N img x .last) st
   unfolding applyAll
   mount-ends =
-      subst (λ (i : List ℕ). After N s i (mountedAt N (upkeep x) (length img - 1) x) st)
-      (sym (apply-append s (map erase ks) (transferIf N (upkeep x) (x .number) (x .time) st) img)) (go (upkeep x) refl)
+      subst (λ (i : List ℕ). After N s i (mountWork N img x .last) st)
+      (sym (apply-append s (map erase ks) (kept (upkeep x) .steps) img)) (go (upkeep x) refl)
     where
       long : length wiped ≡ suc (length img - 1)
       long = length-all-steps s (map erase ks) img ∙ sized-last z
 
-      go : (u : Upkeep) → upkeep x ≡ u → After N s (applyAll s (transferIf N u (x .number) (x .time) st) wiped) (mountedAt N u (length img - 1) x) st
+      go : (u : Upkeep) → upkeep x ≡ u → After N s (applyAll s (kept u .steps) wiped) (kept u .last) st
       go moves e =
-          let after : List ℕ = applyAll s (transferIf N moves (x .number) (x .time) st) wiped in
+          let after : List ℕ = applyAll s (kept moves .steps) wiped in
           subst (λ (n : ℕ). After N s after (idle (landing (storeAt N (length img - 1) x) (nextBlock N (x .number)) n)) st)
           (claimed-settled (replay (x .frames)))
           (transferred alone st (moves-settled alone (t e)) (storeAt N (length img - 1) x) refl long (roomy-settled alone))
@@ -81,15 +84,15 @@ module _ {N : ℕ} {s : ℕ} {img : List ℕ} (x : Store) (z : Sized N s img) (h
           (rests-settled (x .frames) (x .tail) e) (roomy-settled alone)
 
   -- K14: "Demand 1's bound leaves a mount's erases aside": at most S steps without them, and of them at most N
-  pub mount-short : length (programs (mountPlan N (allFound N img) x)) ≤ s
+  pub mount-short : length (programs (mountWork N img x .steps)) ≤ s
   mount-short =
-      on-upkeep (upkeep x)
-      (λ e. omega (arith, programs-mount-moved N (allFound N img) x e, roomy-settled alone, claimed-settled (replay (x .frames))))
-      (λ e. omega (arith, programs-mount-stayed N (allFound N img) x e))
+      omega (
+        arith,
+        mount-steps N (length img - 1) ks (nextBlock N (x .number)) x .0,
+        roomy-settled alone,
+        claimed-settled (replay (x .frames)),
+      )
 
-  pub mount-erases : length (mountPlan N (allFound N img) x) ≤ length (programs (mountPlan N (allFound N img) x)) + N
+  pub mount-erases : length (mountWork N img x .steps) ≤ length (programs (mountWork N img x .steps)) + N
   mount-erases =
-      let few : length ks < N = wipes-few N (x .number) img h in
-      on-upkeep (upkeep x)
-      (λ e. omega (arith, few, length-mount-moved N (allFound N img) x e, programs-mount-moved N (allFound N img) x e))
-      (λ e. omega (arith, few, length-mount-stayed N (allFound N img) x e))
+      omega (arith, wipes-few N (x .number) img h, mount-steps N (length img - 1) ks (nextBlock N (x .number)) x .1)

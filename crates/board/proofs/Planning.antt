@@ -28,6 +28,7 @@ use Rattle.wire.specs.declared.Request.the-variants.{Put, Delete, Commit, Abort
 use Rattle.wire.specs.declared.Parsed.{Parsed}
 use Rattle.wire.specs.declared.Parsed.the-variants.{Is, Malformed}
 use Rattle.wire.specs.Message.{parse, valueIn, pageLen}
+use Rattle.board.specs.Mount.{nextBlock}
 use Rattle.board.specs.declared.Phase.{Phase}
 use Rattle.board.specs.declared.Phase.the-variants.{Unmounted, Idle, Busy}
 use Rattle.board.specs.declared.Record.{Record}
@@ -35,7 +36,7 @@ use Rattle.board.specs.Record.{allowed, idle, Out, out, refuse, answerOf
 use Rattle.board.specs.Step.{enterWipe}
 use Rattle.board.specs.Queue.{Held, held, needsRoom, appendJob, append, serve, serveChange, serveEnd, serveParsed, serveHeld, requestIn, requestOn}
 use Rattle.board.specs.Exec.{request, exec}
-use Rattle.board.specs.Plan.{Follows, framePlan, framedAt}
+use Rattle.board.specs.Plan.{Performs, frameWork}
 use Rattle.board.specs.Table.{frameFor, frameIf, FreshExact, Fresh}
 use Rattle.wire.specs.Sentences.{Means, MessagesExact}
 use Rattle.board.proofs.Checks.{roomRule}
@@ -53,7 +54,8 @@ use Rattle.board.proofs.Holding.{held-inv}
 use Rattle.board.proofs.Accepted.{follows-frame}
 use Rattle.board.proofs.Framing.{AsRecorded, ready-holds, Appendable, frame-lands, frame-ends}
 use Rattle.board.proofs.Requests.{legal}
-use Rattle.board.proofs.Serving.{Legal, frame-short, frame-starts}
+use Rattle.board.proofs.Lengths.{frame-short}
+use Rattle.board.proofs.Serving.{Legal, frame-starts}
 
 -- ---- what a request meets
 
@@ -222,9 +224,8 @@ pub record Appends (N : ℕ) (img : List ℕ) (r : Record) (h : Host) (msg : Lis
   pub is-held : Fresh N img r holding
   pub is-asked : Means msg asked
   pub is-frame : frameFor h msg holding asked ≡ some frame
-  pub follows : Follows N (exec N) img (o .board) (framePlan N (needsRoom N img r frame) (r .rest) holding frame)
-      (framedAt N (needsRoom N img r frame) (r .rest) holding frame)
-  pub short : length (framePlan N (needsRoom N img r frame) (r .rest) holding frame) ≤ sizeOf N img
+  pub follows : Performs N (exec N) img (o .board) (frameWork N img r holding frame)
+  pub short : length (frameWork N img r holding frame .steps) ≤ sizeOf N img
 
 module _ {N : ℕ} {s : ℕ} {img : List ℕ} {r : Record} {h : Host} {m : List ℕ} (z : Sized N s img) (by : Bytes img) (bm : Bytes m) (y : Asked N img r h m) where
   abbrev x : Held
@@ -275,14 +276,14 @@ module _ {N : ℕ} {s : ℕ} {img : List ℕ} {r : Record} {h : Host} {m : List 
         is-frame = y .is-frame;
         follows = follows-frame img r x f (z .count) (holds .long) (holds .blocks) (holds .alone .there) j (sym (holds .ends))
             (omega (arith, fitting .fits, size-of z));
-        short = frame-short N (needsRoom N img r f) (sizeOf N img) (r .rest) x f (omega (arith, fitting .fits, size-of z));
+        short = frame-short (sizeOf N img) (nextBlock N (r .rest .block)) (r .rest) x f (omega (arith, fitting .fits, size-of z));
       }
 
   -- the job is begun: each step lands, and it ends idle
   pub frame-begins : (answerOf (jobOf y) ≡ More) × InJob N s (StepLands s) (Ready N s) img (jobOf y)
   frame-begins =
-      let a : After N s (applyAll s (framePlan N (needsRoom N img r f) (r .rest) x f) img)
-      (framedAt N (needsRoom N img r f) (r .rest) x f) (nextState (replay (x .frames)) f) = frame-ends holds appendable (fitting .room) in
+      let a : After N s (applyAll s (frameWork N img r x f .steps) img)
+      (frameWork N img r x f .last) (nextState (replay (x .frames)) f) = frame-ends holds appendable (fitting .room) in
       frame-starts r x f z holds appendable (frame-lands holds appendable) (a .ready) (ready-idle (a .ready))
 
 -- ---- on any record and image

@@ -3,13 +3,13 @@ use mathlib.Core.Path.{_≡_, refl, sym, ap, ap₂, subst, subst₂, _∙_}
 use mathlib.Core.List.{List}
 use mathlib.Core.Option.{Option, none, some}
 use mathlib.Core.Bool.{Bool, true, false, _&&_}
-use Prim.Native.Nat.{ℕ, _-_, _≤_}
+use Prim.Native.Nat.{ℕ, _≤_}
 use native.Mathlib.Omega.{arith}
 use lib.Dec.{eqb, ltb, leb}
 use lib.ListN.{length}
 use borrow.Author.Tests.{leb-true}
 use Rattle.flash.specs.Bytes.{Bytes}
-use Rattle.flash.specs.Flash.{Step, sizeOf}
+use Rattle.flash.specs.Flash.{sizeOf}
 use Rattle.flash.proofs.Cases.{on-test}
 use Rattle.frame.specs.declared.Host.{Host}
 use Rattle.frame.specs.declared.ObjectId.{ObjectId}
@@ -31,10 +31,10 @@ use Rattle.board.specs.declared.Phase.{Phase}
 use Rattle.board.specs.declared.Phase.the-variants.{Unmounted, Idle, Busy}
 use Rattle.board.specs.declared.Record.{Record}
 use Rattle.board.specs.Record.{allowed, Stretch, noStretch, Out, out, refuse, answerOf}
-use Rattle.board.specs.Mount.{allFound, Store, upkeep, mountOn, formatOn}
+use Rattle.board.specs.Mount.{Store, mountOn, formatOn}
 use Rattle.board.specs.Queue.{Held, held, needsRoom, placeOf, append, serve, serveChange, serveEnd, requestOn}
 use Rattle.board.specs.Exec.{Call, request, step, mount, format, exec}
-use Rattle.board.specs.Plan.{Follows, formatPlan, mountPlan, mountedAt, framePlan, framedAt, formattedAt}
+use Rattle.board.specs.Plan.{Work, Performs, formatWork, mountWork, frameWork}
 use Rattle.board.specs.Table.{frameFor, frameIf, Fresh, FreshExact, Exactly, linesOf}
 use Rattle.board.specs.Demand1.{Short}
 use Rattle.board.specs.Demand2.{Accepted, Mounts, OneStore}
@@ -196,13 +196,12 @@ serves {N} img r h m reply x q by bm f k a =
 -- ---- jobs
 
 -- the steps of a job, and how many
-abbrev Does : ℕ → List ℕ → Call → Record → List Step → Record → Type 0
-Does N img c r plan z = Follows N (exec N) img r plan z × Short N (sizeOf N img) plan c
+abbrev Does : ℕ → List ℕ → Call → Record → Work → Type 0
+Does N img c r w = Performs N (exec N) img r w × Short N (sizeOf N img) (w .steps) c
 
 -- the frame that a job appends is the one asked for
 abbrev Plans : ℕ → List ℕ → Record → Call → Out → Held → Frame → Type 0
-Plans N img r c o x f =
-    Does N img c (o .board) (framePlan N (needsRoom N img r f) (r .rest) x f) (framedAt N (needsRoom N img r f) (r .rest) x f)
+Plans N img r c o x f = Does N img c (o .board) (frameWork N img r x f)
 
 module _ (N : ℕ) (img : List ℕ) (r : Record) (by : Bytes img) where
   frame-does : (h : Host) (m reply : List ℕ) (x : Held) (q : Request) (f : Frame) → Bytes m → Fresh N img r x → Means m q → frameFor h m x q ≡ some f
@@ -220,33 +219,31 @@ module _ (N : ℕ) (img : List ℕ) (r : Record) (by : Bytes img) where
       subst₂ (Plans N img r (request h m reply) o) c e (w .follows, w .short)
 
   mount-does : (x : Store) → Current N img x → Accepted (mountOn N img .answer)
-      → Does N img mount (mountOn N img .board) (mountPlan N (allFound N img) x) (mountedAt N (upkeep x) (length img - 1) x)
+      → Does N img mount (mountOn N img .board) (mountWork N img x)
   unfolding OneStore
   mount-does x v a =
       on-test (allowed N (length img))
       (λ ok.
       let y : Mounts N (exec N) img (mountOn N img) = one-store N img r by ok a in
       let e : y .store ≡ x = same-store img by ok (y .store) x (mounts-current img by ok (mountOn N img) y) v in
-      subst (λ (s : Store). Does N img mount (mountOn N img .board) (mountPlan N (allFound N img) s)
-      (mountedAt N (upkeep s) (length img - 1) s)) e
-      (subst (Follows N (exec N) img (mountOn N img .board) (mountPlan N (allFound N img) (y .store))) (y .is-last) (y .follows), (y .short, y .erases)))
+      subst (λ (s : Store). Does N img mount (mountOn N img .board) (mountWork N img s)) e (y .follows, (y .short, y .erases)))
       (λ no. absurd (subst (λ (o : Out). Accepted (o .answer)) (mount-length N img no) a))
 
-  format-does : Accepted (formatOn N img .answer) → Does N img format (formatOn N img .board) (formatPlan N img) (formattedAt N (length img - 1))
+  format-does : Accepted (formatOn N img .answer) → Does N img format (formatOn N img .board) (formatWork N img)
   format-does a =
       on-test (allowed N (length img))
       (λ ok. (
-        subst (λ (o : Out). Follows N (exec N) img (o .board) (formatPlan N img) (formattedAt N (length img - 1))) (sym (format-begins N img ok))
+        subst (λ (o : Out). Performs N (exec N) img (o .board) (formatWork N img)) (sym (format-begins N img ok))
             (follows-format N img ok),
         omega (arith, length-format N img, sized-of N img ok .low, sized-of N img ok .most),
       ))
       (λ no. absurd (subst (λ (o : Out). Accepted (o .answer)) (format-length N img no) a))
 
-  job-does : (c : Call) (plan : List Step) (z : Record) → ByteCall c → Job N img r c plan z → Accepted (exec N img r c .answer)
-      → Does N img c (exec N img r c .board) plan z
-  job-does c plan z bc (frame-job h m reply x q f v k g) a = frame-does h m reply x q f bc v k g a
-  job-does c plan z bc (mount-job x v) a = mount-does x v a
-  job-does c plan z bc format-job a = format-does a
+  job-does : (c : Call) (w : Work) → ByteCall c → Job N img r c w → Accepted (exec N img r c .answer)
+      → Does N img c (exec N img r c .board) w
+  job-does c w bc (frame-job h m reply x q f v k g) a = frame-does h m reply x q f bc v k g a
+  job-does c w bc (mount-job x v) a = mount-does x v a
+  job-does c w bc format-job a = format-does a
 
 -- ---- every call
 
@@ -267,6 +264,6 @@ calls {N} =
       one-step = at-most-one-step N;
       silent = silent N;
       serves = serves;
-      jobs = λ img r c plan z by bc j a. job-does N img r by c plan z bc j a;
+      jobs = λ img r c w by bc j a. job-does N img r by c w bc j a;
       ends = forged-ends N;
     }

@@ -8,7 +8,7 @@ use Prim.Native.Nat.{ℕ, zero, suc, _+_, _-_, _*_, _/_, _%_, _≤_, _<_}
 use native.Mathlib.Omega.{arith}
 use lib.ListN.{length, getD, drop, length-append, length-drop, length-map, List·getD-append}
 use lib.Seq.{getD-at}
-use borrow.Author.Tests.{ltb-true, lt-ltb}
+use borrow.Author.Tests.{ltb-true, lt-ltb, le-ltb}
 use Rattle.flash.specs.Bytes.{Bytes}
 use Rattle.flash.specs.Flash.{blockNumbers, sizeIn, Step, program, erase, block, sizeOf, Write, write, writeStep, writes}
 use Rattle.flash.proofs.Blank.{bytes-drop}
@@ -17,18 +17,18 @@ use Rattle.flash.proofs.Programming.{length-writes, writes-at}
 use Rattle.frame.specs.Frame.{valueMax, put, delete, change, commit, abort, encode, encodeAll, frameLen}
 use Rattle.frame.specs.Reader.{Tail}
 use Rattle.frame.proofs.First.{encode-plain, length-encode, length-all}
-use Rattle.journal.specs.Replay.{Entry, State, replay, framesOf, settledOnly}
+use Rattle.journal.specs.Replay.{Entry, State, replay, framesOf}
 use Rattle.journal.specs.Block.{headerLen, lastTime, sealWrites, build}
 use Rattle.journal.specs.Room.{claimed}
 use Rattle.journal.proofs.Lists.{open-none}
 use Rattle.journal.proofs.Room.{frames-total}
 use Rattle.journal.proofs.ReplayLaws.{order-laws}
 use Rattle.journal.proofs.Sources.{place-exact}
-use Rattle.board.specs.Mount.{nextBlock, allFound, wipeList, forPending, Upkeep, upkeepOf, upkeep, numbersBut, formatOrder}
+use Rattle.board.specs.Mount.{nextBlock, allFound, wipeList, forPending, Upkeep, upkeepOf, upkeep, numbersBut, formatOrder, storeAt}
 use Rattle.board.specs.Record.{allowed}
 use Rattle.board.specs.Queue.{stretchOf}
 use Rattle.board.specs.Table.{frameIf}
-use Rattle.board.specs.Plan.{onBlock, transferPlan, formatPlan, appendPlan, transferIf}
+use Rattle.board.specs.Plan.{onBlock, transferPlan, formatWork, appendPlan, upkeepWork}
 use Rattle.board.specs.CutFormat.{Beside}
 use Rattle.board.specs.Sentences.{FrameExact, NeedsExact, Programs, NextOf, following, round, TransferExact, AppendExact, StretchExact}
 use Rattle.board.specs.Sentences.{firstHeader, ByNumber, LastIs, NewestAt, FormatExact, Member, MountExact}
@@ -117,12 +117,12 @@ transfer-exact N k j time st e h =
       copied = onBlock j (writes headerLen bs);
       steps = transfer-is N k j time st (next-of e) ∙ rw (v .0, v .1, v .2, v .3) refl;
       frames = programs j headerLen bs;
-      count = length-transfer N k time st;
+      count = length-transfer (nextBlock N k) k time st;
     }
 
 -- ---- format
 
-format-steps : (N : ℕ) (img order : List ℕ) → formatOrder N img ≡ order → formatPlan N img ≡ map erase order ++ firstHeader
+format-steps : (N : ℕ) (img order : List ℕ) → formatOrder N img ≡ order → formatWork N img .steps ≡ map erase order ++ firstHeader
 unfolding writes encodeAll
 format-steps N img order e = ap (λ (l : List ℕ). map erase l ++ firstHeader) e
 
@@ -180,15 +180,19 @@ format-exact =
 pub append-exact : AppendExact
 append-exact =
     record {
-      stays = λ N z x f. programs (z .block) (z .end) (encode f);
-      moves = λ N j z x f e.
+      stays = λ N img r x f h.
+          rw (le-ltb (sizeOf N img) (r .rest .end + frameLen f) (omega (arith, length-encode f))) (programs (r .rest .block) (r .rest .end) (encode f));
+      moves = λ N j img r x f e h.
           let st : State = replay (x .frames) in
+          let k : ℕ = nextBlock N (r .rest .block) in
           let o : ℕ = 16 + length (encodeAll (framesOf st)) in
-          let xs : List Step = appendPlan (nextBlock N (z .block)) (claimed st) f in
+          let xs : List Step = appendPlan k (claimed st) f in
           let c : claimed st ≡ o = omega (arith, frames-total st, length-all (framesOf st)) in
-          let p : Programs (nextBlock N (z .block)) o (encode f) xs =
-          subst (λ (n : ℕ). Programs (nextBlock N (z .block)) n (encode f) xs) c (programs (nextBlock N (z .block)) (claimed st) (encode f)) in
-          (xs, refl, subst (λ (n : ℕ). Programs n o (encode f) xs) (next-of e) p);
+          let p : Programs k o (encode f) xs = subst (λ (n : ℕ). Programs k n (encode f) xs) c (programs k (claimed st) (encode f)) in (
+            xs,
+            rw (lt-ltb (sizeOf N img) (r .rest .end + frameLen f) (omega (arith, length-encode f))) refl,
+            subst (λ (n : ℕ). Programs n o (encode f) xs) (next-of e) p,
+          );
     }
 
 -- ---- mount
@@ -212,21 +216,21 @@ member-in j (n ∷ ns) (suc i) h e = inr (member-in j ns i (omega arith) e)
 pub mount-exact : MountExact
 unfolding MountExact
 mount-exact N img x =
-    let st : State = settledOnly (replay (x .frames)) in
     let ks : List ℕ = wipeList (x .number) (allFound N img) in
+    let kept : Upkeep → List Step = λ u. upkeepWork u (nextBlock N (x .number)) (storeAt N (length img - 1) x) x .steps in
     record {
       erased = ks;
-      moves = transferIf N (upkeep x) (x .number) (x .time) st;
+      moves = kept (upkeep x);
       steps = refl;
       by-number = rising-at 0 ks (wipes-rise N (x .number) img);
       every = λ j. let w = wipes-exact N (x .number) img j in (λ (i, h, e). w .0 (member-in j ks i h e), λ y. in-member j ks (w .1 y));
-      torn = λ n q. ap (λ (t : Tail). transferIf N (upkeepOf (x .frames) t) (x .number) (x .time) st) q;
+      torn = λ n q. ap (λ (t : Tail). kept (upkeepOf (x .frames) t)) q;
       pending = λ q n.
-          ap (λ (t : Tail). transferIf N (upkeepOf (x .frames) t) (x .number) (x .time) st) q
-          ∙ ap (λ (u : Upkeep). transferIf N u (x .number) (x .time) st) (pending-moves (replay (x .frames) .pending) n);
+          ap (λ (t : Tail). kept (upkeepOf (x .frames) t)) q
+          ∙ ap kept (pending-moves (replay (x .frames) .pending) n);
       at-rest = λ q n.
-          ap (λ (t : Tail). transferIf N (upkeepOf (x .frames) t) (x .number) (x .time) st) q
-          ∙ ap (λ (es : List Entry). transferIf N (forPending es) (x .number) (x .time) st) n;
+          ap (λ (t : Tail). kept (upkeepOf (x .frames) t)) q
+          ∙ ap (λ (es : List Entry). kept (forPending es)) n;
     }
 
 -- ---- a read's stretch

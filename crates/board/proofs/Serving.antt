@@ -3,7 +3,7 @@ use mathlib.Core.Path.{_≡_, refl, sym, ap, subst, _∙_}
 use mathlib.Core.List.{List, []}
 use mathlib.Core.Option.{Option, none, some}
 use mathlib.Core.Bool.{Bool, true, false, _&&_}
-use Prim.Native.Nat.{ℕ, _+_, _≤_, _<_}
+use Prim.Native.Nat.{ℕ, _≤_}
 use native.Mathlib.Omega.{arith}
 use lib.Dec.{eqb, ltb}
 use lib.ListN.{length}
@@ -12,10 +12,10 @@ use Rattle.flash.specs.Bytes.{Bytes}
 use Rattle.flash.specs.Flash.{Step, applyAll, block, sizeOf}
 use Rattle.flash.proofs.Cases.{on-test}
 use Rattle.frame.specs.declared.Host.{Host}
-use Rattle.frame.specs.Frame.{hostMax, Change, put, delete, Frame, change, commit, abort, frameLen, OfHost, MayStand}
+use Rattle.frame.specs.Frame.{hostMax, Change, put, delete, Frame, change, commit, abort, OfHost, MayStand}
 use Rattle.journal.specs.Replay.{State, replay, lookup, nextState, isOpen}
 use Rattle.journal.specs.Block.{lastTime}
-use Rattle.journal.specs.Room.{claimed, used, noRoom}
+use Rattle.journal.specs.Room.{used, noRoom}
 use Rattle.journal.proofs.Places.{Journal}
 use Rattle.wire.specs.declared.Answer.{Answer}
 use Rattle.wire.specs.declared.Answer.the-variants.{Done, More, Refused}
@@ -25,13 +25,13 @@ use Rattle.wire.specs.declared.Page.the-variants.{Summary}
 use Rattle.wire.specs.declared.Request.{Request}
 use Rattle.wire.specs.declared.Request.the-variants.{Put, Delete, Commit, Abort, Read, Log}
 use Rattle.wire.specs.Message.{valueIn, pageLen, logPage, withPage}
-use Rattle.board.specs.declared.Rest.{Rest}
+use Rattle.board.specs.Mount.{nextBlock}
 use Rattle.board.specs.declared.Record.{Record}
 use Rattle.board.specs.declared.Phase.the-variants.{Idle}
 use Rattle.board.specs.Record.{Out, out, refuse, answerOf}
 use Rattle.board.specs.Step.{enterWipe, begin}
 use Rattle.board.specs.Queue.{Held, placeOf, needsRoom, appendJob, append, serve, serveEnd, serveChange}
-use Rattle.board.specs.Plan.{framePlan, framedAt}
+use Rattle.board.specs.Plan.{frameWork}
 use Rattle.board.specs.Book.{Book, book, withList, join, accept}
 use Rattle.board.specs.Claim.{Never}
 use Rattle.board.proofs.Images.{Sized, size-of}
@@ -45,33 +45,24 @@ use Rattle.board.proofs.Keeping.{Working, inv-idle, inv-busy, ready-idl
 use Rattle.board.proofs.Replies.{heldOf, journal-of}
 use Rattle.board.proofs.Books.{Entered, idle-book, BookFits, entered-change, entered-commit, entered-abort, lists-none}
 use Rattle.board.proofs.Accepted.{follows-frame}
-use Rattle.board.proofs.Lengths.{length-frame-moved, length-frame-stayed}
+use Rattle.board.proofs.Lengths.{frame-some}
 use Rattle.board.proofs.Framing.{AsRecorded, ready-holds, Appendable, frame-guard, frame-ends}
 
 -- ---- a frame job is begun
 
-pub frame-short : (N : ℕ) (needs : Bool) (s : ℕ) (w : Rest) (x : Held) (f : Frame) → claimed (replay (x .frames)) + frameLen f ≤ s
-    → length (framePlan N needs w x f) ≤ s
-frame-short N true s w x f h = omega (arith, length-frame-moved N w x f)
-frame-short N false s w x f h = omega (arith, length-frame-stayed N w x f)
-
-frame-some : (N : ℕ) (needs : Bool) (w : Rest) (x : Held) (f : Frame) → 0 < length (framePlan N needs w x f)
-frame-some N true w x f = omega (arith, length-frame-moved N w x f)
-frame-some N false w x f = omega (arith, length-frame-stayed N w x f)
-
 -- whatever holds of each step and of the end: the job of a frame is begun
 pub frame-starts : {N : ℕ} {s : ℕ} {P : Step → List ℕ → Type 0} {Q : List ℕ → Record → Type 0} {img : List ℕ} (r : Record) (x : Held) (f : Frame)
-    → Sized N s img → AsRecorded N s img r x → Appendable N s img r x f → Each s P (framePlan N (needsRoom N img r f) (r .rest) x f) img
-    → Q (applyAll s (framePlan N (needsRoom N img r f) (r .rest) x f) img) (framedAt N (needsRoom N img r f) (r .rest) x f)
-    → framedAt N (needsRoom N img r f) (r .rest) x f .phase ≡ Idle
+    → Sized N s img → AsRecorded N s img r x → Appendable N s img r x f → Each s P (frameWork N img r x f .steps) img
+    → Q (applyAll s (frameWork N img r x f .steps) img) (frameWork N img r x f .last)
+    → frameWork N img r x f .last .phase ≡ Idle
     → (answerOf (enterWipe (appendJob N img r x f)) ≡ More) × InJob N s P Q img (enterWipe (appendJob N img r x f))
 frame-starts {N} {s} {P} {Q} {img} r x f z h y each ends idle =
     let j : Journal (block (sizeOf N img) (r .rest .block) img) (x .frames) =
     subst (λ (n : ℕ). Journal (block n (r .rest .block) img) (x .frames)) (sym (size-of z)) (journal-of (h .alone .contents)) in
-    job-starts img (enterWipe (appendJob N img r x f)) (framePlan N (needsRoom N img r f) (r .rest) x f)
-    (framedAt N (needsRoom N img r f) (r .rest) x f)
+    job-starts img (enterWipe (appendJob N img r x f)) (frameWork N img r x f .steps)
+    (frameWork N img r x f .last)
     (follows-frame img r x f (z .count) (h .long) (h .blocks) (h .alone .there) j (sym (h .ends)) (omega (arith, y .fits, size-of z)))
-    (frame-some N (needsRoom N img r f) (r .rest) x f) each ends idle
+    (frame-some (sizeOf N img) (nextBlock N (r .rest .block)) (r .rest) x f) each ends idle
 
 -- ---- serving one request on an idle record of a run
 
@@ -124,8 +115,8 @@ module _ {N : ℕ} {s : ℕ} {img : List ℕ} {r : Record} {b : Book} (u : Bool)
         young = λ n. let v : eqb (y .ready .time) lastTime ≡ false = rw n at t in omega
             (arith, eqb-false (y .ready .time) lastTime v, y .ready .contents .layout .time-hi);
       } in
-      let after : After N s (applyAll s (framePlan N (needsRoom N img r f) (r .rest) x f) img)
-      (framedAt N (needsRoom N img r f) (r .rest) x f) (nextState st f) = frame-ends hold fit (e .room) in
+      let after : After N s (applyAll s (frameWork N img r x f .steps) img)
+      (frameWork N img r x f .last) (nextState st f) = frame-ends hold fit (e .room) in
       let keeps : Keeps s st (b′ .objects) = record { room = y .spare; same = y .objects ∙ sym os } in
       let j : (answerOf (enterWipe (appendJob N img r x f)) ≡ More) × Working N s img (enterWipe (appendJob N img r x f)) b′ u =
       frame-starts r x f z hold fit (λ n l. let g = frame-guard hold fit u keeps n l in (g .0, λ d. g .1)) (idle-book e after) (ready-idle (after .ready)) in (

@@ -4,7 +4,7 @@ use mathlib.Core.List.{List, [], _∷_, _++_}
 use mathlib.Core.Bool.{Bool, true, false}
 use mathlib.Core.Logic.{_⊎_, inl, inr}
 use mathlib.Core.Option.{Option, none, some}
-use Prim.Native.Nat.{ℕ, zero, suc, _+_, _-_, _≤_, _<_}
+use Prim.Native.Nat.{ℕ, zero, suc, _+_, _≤_, _<_}
 use native.Mathlib.Nat.{le-refl}
 use native.Mathlib.Omega.{arith}
 use lib.Dec.{ltb}
@@ -29,10 +29,10 @@ use Rattle.board.specs.declared.Phase.{Phase}
 use Rattle.board.specs.declared.Phase.the-variants.{Idle}
 use Rattle.board.specs.declared.Record.{Record}
 use Rattle.board.specs.Record.{allowed, Out, out, Accepted}
-use Rattle.board.specs.Mount.{allFound, Store, upkeep}
-use Rattle.board.specs.Queue.{Held, needsRoom}
+use Rattle.board.specs.Mount.{Store}
+use Rattle.board.specs.Queue.{Held}
 use Rattle.board.specs.Exec.{Machine, Call, request, step, mount, format}
-use Rattle.board.specs.Plan.{mountPlan, mountedAt, framePlan, framedAt}
+use Rattle.board.specs.Plan.{Work, mountWork, frameWork}
 use Rattle.board.specs.Table.{frameFor, Fresh}
 use Rattle.board.specs.Demand1.{Unchanged, Rests}
 use Rattle.board.specs.Demand2.{Mounts, OneStore}
@@ -160,8 +160,8 @@ BookSteps N m o b h k =
     ((numberOf (stepsOn m k o .answer) ≡ some 0) × (afterAll N m (o .image) (o .board) (begun b h) (stepping k) .book ≡ settled b h))
     ⊎ ((stepsOn m k o .answer ≡ More) × (afterAll N m (o .image) (o .board) (begun b h) (stepping k) .book ≡ begun b h))
 
-plan-book : {N : ℕ} {m : Machine} → Calls N m → (i : List ℕ) (o : Out) (plan : List Step) (z : Record) → StepsOf N m i o plan z → z .phase ≡ Idle
-    → o .answer ≡ More
+plan-book : {N : ℕ} {m : Machine} → Calls N m → (i : List ℕ) (o : Out) (plan : List Step) (z : Record)
+    → StepsOf N m i o (record { steps = plan; last = z }) → z .phase ≡ Idle → o .answer ≡ More
     → (b : Book) (h : Host) (k : ℕ) → BookSteps N m o b h k
 plan-book p i o [] z st e a b h k = done-more (o .answer) (st .done) a
 plan-book {N} {m} p i o (x ∷ xs) z st e a b h k =
@@ -204,10 +204,9 @@ book-steps {N} {m} p i bi w h msg reply bm e b k = go (frameFor h msg x q) refl 
     go : (f : Option Frame) → frameFor h msg x q ≡ f → Answers f w o → BookSteps N m o b h k
     go none g a = done-more (o .answer) (a .0) e
     go (some f) g a =
-        let plan : List Step = framePlan N (needsRoom N i w f) (w .rest) x f in
-        let z : Record = framedAt N (needsRoom N i w f) (w .rest) x f in
-        let job : Job N i w (request h msg reply) plan z = frame-job h msg reply x q f (y .is-held) (y .is-asked) g in
-        plan-book (p .calls) i o plan z (p .steps i w (request h msg reply) plan z bi bm job taken) (job-idle job) e b h k
+        let v : Work = frameWork N i w x f in
+        let job : Job N i w (request h msg reply) v = frame-job h msg reply x q f (y .is-held) (y .is-asked) g in
+        plan-book (p .calls) i o (v .steps) (v .last) (p .steps i w (request h msg reply) v bi bm job taken) (job-idle job) e b h k
 
 -- ---- 2
 
@@ -218,20 +217,23 @@ module _ {N : ℕ} {m : Machine} (p : Promise N m) (i : List ℕ) (bi : Bytes i)
   store : Mountable N i
   store = mount-takes (p .calls) i bi q a
 
+  abbrev work : Work
+  work = mountWork N i (store .store)
+
   abbrev plan : List Step
-  plan = mountPlan N (allFound N i) (store .store)
+  plan = work .steps
 
   abbrev z : Record
-  z = mountedAt N (upkeep (store .store)) (length i - 1) (store .store)
+  z = work .last
 
   abbrev after : List ℕ
   after = applyAll (sizeOf N i) plan i
 
-  job : (v : Record) → Job N i v mount plan z
+  job : (v : Record) → Job N i v mount work
   job v = mount-job (store .store) (store .current)
 
-  steps : (v : Record) → Accepted (m i v mount .answer) → StepsOf N m i (m i v mount) plan z
-  steps v b = p .steps i v mount plan z bi tt (job v) b
+  steps : (v : Record) → Accepted (m i v mount .answer) → StepsOf N m i (m i v mount) work
+  steps v b = p .steps i v mount work bi tt (job v) b
 
   image-after : (v : Record) → Accepted (m i v mount .answer) → stepsOn m (length plan) (m i v mount) .image ≡ after
   image-after v b =
@@ -245,7 +247,7 @@ module _ {N : ℕ} {m : Machine} (p : Promise N m) (i : List ℕ) (bi : Bytes i)
   idle-agrees : IdleAgrees N after z (book os noLists nothing)
   idle-agrees =
       subst (λ (h : Phase). AgreesIn N m mount h after z (book os noLists nothing))
-      (mounted-idle N (upkeep (store .store)) (length i - 1) (store .store))
+      (mounted-idle N i (store .store))
       (subst₂ (λ (l : List ℕ) (v : Record). Agrees N m mount l v (book os noLists nothing)) (image-after w accepted-too) (steps w accepted-too .last)
       (agrees (length plan)))
 
@@ -255,9 +257,8 @@ module _ {N : ℕ} {m : Machine} (p : Promise N m) (i : List ℕ) (bi : Bytes i)
       let ok : allowed N (length i) ≡ true = mount-allowed (p .calls) i bi q a in
       let y : Mounts N m i (m i q mount) = p .one-store i q bi ok a in
       let e : y .store ≡ store .store = same-store i bi ok (y .store) (store .store) (mounts-current i bi ok (m i q mount) y) (store .current) in
-      let f : y .last ≡ z = y .is-last ∙ ap (λ (s : Store). mountedAt N (upkeep s) (length i - 1) s) e in
       let fresh : Fresh N after z (y .holding) =
-      subst₂ (λ (s : Store) (v : Record). Fresh N (applyAll (sizeOf N i) (mountPlan N (allFound N i) s) i) v (y .holding)) e f (y .is-fresh) in
+      subst (λ (s : Store). Fresh N (applyAll (sizeOf N i) (mountWork N i s .steps) i) (mountWork N i s .last) (y .holding)) e (y .is-fresh) in
       let g : SameValid (y .holding .time) (y .holding .frames) clean (idle-agrees .time) (idle-agrees .frames) clean =
       same-valid (sym (fresh-valid N after z (y .holding) (bytes-all-steps (sizeOf N i) plan i bi)
       (ap (allowed N) (length-all-steps (sizeOf N i) plan i) ∙ ok) fresh) ∙ idle-agrees .is-valid) in
@@ -268,7 +269,7 @@ module _ {N : ℕ} {m : Machine} (p : Promise N m) (i : List ℕ) (bi : Bytes i)
       record {
         count = length plan;
         short = subst (λ (l : List ℕ). length plan ≤ sizeOf N l + N) (sym (p .calls .one-step i q mount))
-            (let l = p .calls .jobs i q mount plan z bi tt (job q) a .1 in omega (arith, l .0, l .1));
+            (let l = p .calls .jobs i q mount work bi tt (job q) a .1 in omega (arith, l .0, l .1));
         more = steps q a .more;
         done = steps q a .done;
         time = idle-agrees .time;

@@ -1,6 +1,6 @@
 -- Two blocks: what the definitions over N say of N = 2 is what was said of two halves.
 use mathlib.Core.Path.{_≡_, refl, sym, ap, ap₂, _∙_}
-use mathlib.Core.List.{List, [], _∷_, _++_}
+use mathlib.Core.List.{List, []}
 use mathlib.Core.Option.{none}
 use mathlib.Core.Bool.{Bool, true, false, _&&_, cond}
 use Prim.Native.Nat.{ℕ, zero, suc, _+_, _/_, _%_, _≤_, _<_}
@@ -9,23 +9,22 @@ use lib.Dec.{eqb, ltb, leb}
 use lib.ListN.{length}
 use borrow.Author.Tests.{eqb-true, eq-eqb, leb-true, le-leb, ltb-true}
 use Rattle.flash.specs.Bytes.{allFF}
-use Rattle.flash.specs.Flash.{numbersFrom, blockNumbers, sizeOf, block, Step, erase, blockOf, offsetOf, apply}
+use Rattle.flash.specs.Flash.{numbersFrom, blockNumbers, sizeOf, block, Step, blockOf, offsetOf, apply}
 use Rattle.flash.proofs.Cases.{on-test, clash, and-left, and-right, and-both}
 use Rattle.flash.proofs.Sizes.{size-some}
 use Rattle.frame.specs.Frame.{Frame, frameLen}
-use Rattle.journal.specs.Replay.{replay, framesOf}
-use Rattle.journal.specs.Block.{blockState, build}
-use Rattle.journal.specs.Room.{claimed}
+use Rattle.journal.specs.Block.{blockState}
 use Rattle.wire.specs.declared.Refusal.the-variants as refusal
 use Rattle.board.specs.declared.Phase.{Phase}
 use Rattle.board.specs.declared.Phase.the-variants.{Unmounted, Idle, Busy}
+use Rattle.board.specs.declared.Rest.{Rest}
 use Rattle.board.specs.declared.Record.{Record}
-use Rattle.board.specs.Record.{allowed, rest, landing, idle, Out, refuse}
+use Rattle.board.specs.Record.{allowed, rest, Out, refuse}
 use Rattle.board.specs.Step.{action, advance, stepped, stepIn, stepBusy, stepOn}
 use Rattle.board.specs.Mount.{nextBlock}
-use Rattle.board.specs.Queue.{Held, held, heldBy, heldIn, sameImage, othersBlank, needsRoom}
-use Rattle.board.specs.Plan.{onBlock, appendPlan, framePlan, framedAt}
-use Rattle.board.specs.Two.{allowedTwo, sizeTwo, stateTwo, beside, transferTwo, heldTwo, frameTwo, framedTwo, stepTwo}
+use Rattle.board.specs.Queue.{Held, held, heldBy, heldIn, sameImage, othersBlank}
+use Rattle.board.specs.Plan.{Work, appendWork, movedWork, frameIn, frameWork}
+use Rattle.board.specs.Two.{allowedTwo, sizeTwo, stateTwo, beside, heldTwo, frameTwo, stepTwo}
 use Rattle.board.proofs.Images.{AllowedAs, allowed-tests, allowed-from}
 
 -- ---- the image
@@ -93,36 +92,27 @@ two-fresh img r e =
 
 -- ---- a frame appended
 
-needs-two : (img : List ℕ) (r : Record) (f : Frame) → needsRoom 2 img r f ≡ ltb (sizeTwo img) (r .rest .end + frameLen f)
-needs-two img r f = ap (λ (n : ℕ). ltb n (r .rest .end + frameLen f)) (two-sizes img)
+-- the same but for the block that a transfer goes to
+frame-beside : (img : List ℕ) (r : Record) (x : Held) (f : Frame) → r .rest .block < 2
+    → frameWork 2 img r x f ≡ frameIn (sizeTwo img) (beside (r .rest .block)) (r .rest) x f
+frame-beside img r x f h = ap₂ (λ (n k : ℕ). frameIn n k (r .rest) x f) (two-sizes img) (next-beside (r .rest .block) h)
 
-pub two-frame : (img : List ℕ) (r : Record) (x : Held) (f : Frame) → r .rest .block < 2
-    → framePlan 2 (needsRoom 2 img r f) (r .rest) x f ≡ frameTwo img r x f
-two-frame img r x f h =
-    ap (λ (b : Bool). framePlan 2 b (r .rest) x f) (needs-two img r f) ∙ by (ltb (sizeTwo img) (r .rest .end + frameLen f))
+pub two-frame : (img : List ℕ) (r : Record) (x : Held) (f : Frame) → r .rest .block < 2 → frameWork 2 img r x f .steps ≡ frameTwo img r x f .steps
+two-frame img r x f h = ap (λ (w : Work). w .steps) (frame-beside img r x f h) ∙ by (ltb (sizeTwo img) (r .rest .end + frameLen f))
   where
-    by : (b : Bool) → framePlan 2 b (r .rest) x f
-        ≡ cond b (transferTwo (r .rest .block) (x .time) (replay (x .frames)) ++ appendPlan (beside (r .rest .block)) (claimed (replay (x .frames))) f)
-        (appendPlan (r .rest .block) (r .rest .end) f)
-    by true =
-        ap
-        (λ (k : ℕ).
-        (onBlock k (build (suc (x .time)) (framesOf (replay (x .frames)))) ++ (erase (r .rest .block) ∷ [])) ++ appendPlan k (claimed (replay (x .frames))) f)
-        (next-beside (r .rest .block) h)
+    z : Rest
+    z = rest 2 (r .rest .last) (r .rest .block) (r .rest .end)
+
+    by : (b : Bool) → cond b (movedWork (beside (r .rest .block)) (r .rest) x f) (appendWork (r .rest) f) .steps
+        ≡ cond b (movedWork (beside (r .rest .block)) z x f) (appendWork z f) .steps
+    by true = refl
     by false = refl
 
 pub two-framed : (img : List ℕ) (r : Record) (x : Held) (f : Frame) → r .rest .blocks ≡ 2 → r .rest .block < 2
-    → framedAt 2 (needsRoom 2 img r f) (r .rest) x f ≡ framedTwo img r x f
+    → frameWork 2 img r x f .last ≡ frameTwo img r x f .last
 two-framed img r x f e h =
-    ap (λ (b : Bool). framedAt 2 b (r .rest) x f) (needs-two img r f) ∙ by (ltb (sizeTwo img) (r .rest .end + frameLen f))
-  where
-    by : (b : Bool) → framedAt 2 b (r .rest) x f
-        ≡ cond b (idle (rest 2 (r .rest .last) (beside (r .rest .block)) (claimed (replay (x .frames)) + frameLen f)))
-        (idle (rest 2 (r .rest .last) (r .rest .block) (r .rest .end + frameLen f)))
-    by true =
-        ap (λ (k : ℕ). idle (landing (r .rest) k (claimed (replay (x .frames)) + frameLen f))) (next-beside (r .rest .block) h)
-        ∙ ap (λ (n : ℕ). idle (rest n (r .rest .last) (beside (r .rest .block)) (claimed (replay (x .frames)) + frameLen f))) e
-    by false = ap (λ (n : ℕ). idle (rest n (r .rest .last) (r .rest .block) (r .rest .end + frameLen f))) e
+    ap (λ (w : Work). w .last) (frame-beside img r x f h)
+    ∙ ap (λ (n : ℕ). frameIn (sizeTwo img) (beside (r .rest .block)) (rest n (r .rest .last) (r .rest .block) (r .rest .end)) x f .last) e
 
 -- ---- a step
 

@@ -1,6 +1,6 @@
 -- Two blocks: a mount takes the half that it took before and erases the other, a format erases the two in the same order; and the whole comparison.
-use mathlib.Core.Path.{_≡_, refl, sym, ap, ap₂, subst, subst₂, _∙_}
-use mathlib.Core.List.{List, [], _∷_, _++_, map}
+use mathlib.Core.Path.{_≡_, refl, sym, ap, subst, subst₂, _∙_}
+use mathlib.Core.List.{List, [], _∷_}
 use mathlib.Core.Bool.{true, false, _&&_, cond}
 use Prim.Native.Nat.{ℕ, zero, suc, _-_, _<_}
 use native.Mathlib.Omega.{arith}
@@ -8,25 +8,22 @@ use lib.Dec.{eqb, ltb}
 use lib.ListN.{length}
 use borrow.Author.Tests.{eq-eqb, ne-eqb, lt-ltb, le-ltb}
 use Rattle.flash.specs.Bytes.{Bytes}
-use Rattle.flash.specs.Flash.{numbersFrom, erase, block, sizeOf}
+use Rattle.flash.specs.Flash.{numbersFrom, block, sizeOf}
 use Rattle.flash.proofs.Cases.{on-test, on-order, and-both}
 use Rattle.flash.proofs.Image.{bytes-block}
 use Rattle.frame.specs.Frame.{Frame}
 use Rattle.frame.specs.Reader.{Tail}
-use Rattle.journal.specs.Replay.{State, replay, framesOf, settledOnly}
-use Rattle.journal.specs.Block.{BlockState, blank, inProgress, valid, foreign, blockState, build, lastTime}
-use Rattle.journal.specs.Room.{used}
+use Rattle.journal.specs.Block.{BlockState, blank, inProgress, valid, foreign, blockState, lastTime}
 use Rattle.journal.proofs.Places.{Journal}
 use Rattle.journal.proofs.States.{valid-inv}
 use Rattle.wire.specs.declared.Refusal.{Refusal}
 use Rattle.wire.specs.declared.Refusal.the-variants as refusal
-use Rattle.board.specs.declared.Record.{Record}
-use Rattle.board.specs.Record.{allowed, unmounted, rest, idle, Out, refuse}
-use Rattle.board.specs.Mount.{endOf, Found, allFound, isBlank, Store, stores, wipeList, Upkeep, rests, moves, upkeepOf, transfers, mountAt, mountStores, mountOn}
+use Rattle.board.specs.Record.{allowed, unmounted, Out, refuse}
+use Rattle.board.specs.Mount.{nextBlock, Found, allFound, isBlank, Store, stores, wipeList, moves, upkeepOf, transfers, mountAt, mountStores, mountOn}
 use Rattle.board.specs.Mount.{orderFor, formatOrder, formatOn}
 use Rattle.board.specs.Exec.{exec}
-use Rattle.board.specs.Plan.{Follows, onBlock, formatPlan, transferIf, mountPlan, mountedAt, formattedAt}
-use Rattle.board.specs.Two.{Choice, takes, refuses, allowedTwo, stateTwo, beside, chooseTwo, transferTwo, mountTwo, mountedTwo}
+use Rattle.board.specs.Plan.{Work, Performs, formatIn, formatWork, mountIn}
+use Rattle.board.specs.Two.{Choice, takes, refuses, allowedTwo, stateTwo, beside, chooseTwo, mountTwo}
 use Rattle.board.specs.Two.{lastTwo, formatTwo, TwoBlocks}
 use Rattle.board.proofs.Images.{Sized, sized-of}
 use Rattle.board.proofs.Blocks.{Besides, wiped-besides}
@@ -107,19 +104,10 @@ module _ (img : List ℕ) (f : ℕ → BlockState) where
 
 -- the block beside, if it isn't blank
 wipes-beside : (k : ℕ) (f : ℕ → BlockState) → k < 2
-    → map erase (wipeList k (both (f 0) (f 1))) ≡ cond (isBlank (f (beside k))) [] (erase (beside k) ∷ [])
+    → wipeList k (both (f 0) (f 1)) ≡ cond (isBlank (f (beside k))) [] (beside k ∷ [])
 wipes-beside zero f h = on-test (isBlank (f 1)) (λ t. rw t) (λ t. rw t)
 wipes-beside (suc zero) f h = on-test (isBlank (f 0)) (λ t. rw t) (λ t. rw t)
 wipes-beside (suc (suc k)) f h = absurd (omega arith)
-
-moves-beside : (u : Upkeep) (k t : ℕ) (st : State) → k < 2 → transferIf 2 u k t st ≡ cond (transfers u) (transferTwo k t st) []
-moves-beside moves k t st h = ap (λ (j : ℕ). onBlock j (build (suc t) (framesOf st)) ++ (erase k ∷ [])) (next-beside k h)
-moves-beside rests k t st h = refl
-
-mounted-beside : (u : Upkeep) (l k t : ℕ) (fs : List Frame) (c : Tail) → k < 2
-    → mountedAt 2 u l (store k t fs c) ≡ cond (transfers u) (idle (rest 2 l (beside k) (used (replay fs)))) (idle (rest 2 l k (endOf fs)))
-mounted-beside moves l k t fs c h = ap (λ (j : ℕ). idle (rest 2 l j (used (replay fs)))) (next-beside k h)
-mounted-beside rests l k t fs c h = refl
 
 -- ---- a call
 
@@ -152,18 +140,19 @@ module _ (img : List ℕ) (t : allowedTwo (length img) ≡ true) where
         journal-of (valid-inv (block s k img) u fs c (bytes-block s k img by) (omega (arith, block-long k z (chosen e .0), z .low)) v)
 
     two-worn : u ≡ lastTime → upkeepOf fs c ≡ moves → mountOn 2 img ≡ refuse refusal.Worn img unmounted []
-    two-worn l n = two-takes ∙ mount-worn 2 img states (store k u fs c) (and-both (transfers (upkeepOf fs c)) (eqb u lastTime) (ap transfers n) (eq-eqb u lastTime l))
+    two-worn l n =
+        two-takes
+        ∙ mount-worn 2 img states (store k u fs c) (and-both (transfers (upkeepOf fs c)) (eqb u lastTime) (ap transfers n) (eq-eqb u lastTime l))
 
     two-mounts : Bytes img → (transfers (upkeepOf fs c) && eqb u lastTime) ≡ false
-        → Follows 2 (exec 2) img (mountOn 2 img .board) (mountTwo img k u fs c) (mountedTwo img k fs c)
+        → Performs 2 (exec 2) img (mountOn 2 img .board) (mountTwo img k u fs c)
     two-mounts by n =
         let x : Store = store k u fs c in
-        let kept : Upkeep = upkeepOf fs c in
         let here : k < 2 = chosen e .0 in
-        subst₂ (Follows 2 (exec 2) img (mountOn 2 img .board))
-        (ap₂ _++_ (wipes-beside k (stateTwo img) here) (moves-beside kept k u (settledOnly (replay fs)) here))
-        (mounted-beside kept (length img - 1) k u fs c here)
-        (subst (λ (o : Out). Follows 2 (exec 2) img (o .board) (mountPlan 2 states x) (mountedAt 2 kept (length img - 1) x))
+        let does : List ℕ → ℕ → Work = λ ks j. mountIn 2 (length img - 1) ks j x in
+        subst₂ (λ (ks : List ℕ) (j : ℕ). Performs 2 (exec 2) img (mountOn 2 img .board) (does ks j))
+        (wipes-beside k (stateTwo img) here) (next-beside k here)
+        (subst (λ (o : Out). Performs 2 (exec 2) img (o .board) (does (wipeList k states) (nextBlock 2 k)))
         (sym (two-takes ∙ mount-begins 2 img states x n))
         (follows-mount img x (wipeList k states) ok here
         (subst (λ (xs : List Found). Besides 2 k (wipeList k xs)) (all-two img) (wiped-besides 2 k img)) (two-journal by)))
@@ -173,11 +162,11 @@ module _ (img : List ℕ) (t : allowedTwo (length img) ≡ true) where
   order-two =
       ap (λ (xs : List Found). orderFor 2 (stores xs)) (all-two img) ∙ decides img (stateTwo img) (stateTwo img 0) (stateTwo img 1) refl refl .1
 
-  two-formats : Follows 2 (exec 2) img (formatOn 2 img .board) (formatTwo img) (formattedAt 2 (length img - 1))
+  two-formats : Performs 2 (exec 2) img (formatOn 2 img .board) (formatTwo img)
   two-formats =
-      let z : Record = formattedAt 2 (length img - 1) in
-      subst (λ (ks : List ℕ). Follows 2 (exec 2) img (formatOn 2 img .board) (map erase ks ++ onBlock 0 (build 1 [])) z) order-two
-      (subst (λ (o : Out). Follows 2 (exec 2) img (o .board) (formatPlan 2 img) z) (sym (format-begins 2 img ok)) (follows-format 2 img ok))
+      let does : List ℕ → Work = formatIn 2 (length img - 1) in
+      subst (λ (ks : List ℕ). Performs 2 (exec 2) img (formatOn 2 img .board) (does ks)) order-two
+      (subst (λ (o : Out). Performs 2 (exec 2) img (o .board) (formatWork 2 img)) (sym (format-begins 2 img ok)) (follows-format 2 img ok))
 
 -- ---- "N = 2 gives the same bytes and steps as before"
 

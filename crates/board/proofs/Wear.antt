@@ -4,7 +4,7 @@ use mathlib.Core.Path.{_≡_, refl, sym, ap, subst, _∙_}
 use mathlib.Core.List.{List, [], _∷_, _++_, append-assoc}
 use mathlib.Core.Logic.{inl}
 use mathlib.Core.Option.{none}
-use mathlib.Core.Bool.{Bool, true, false}
+use mathlib.Core.Bool.{true, false}
 use Prim.Native.Nat.{ℕ, suc, _+_, _-_, _≤_, _<_}
 use native.Mathlib.Omega.{arith}
 use lib.Dec.{eqb, ltb}
@@ -16,7 +16,7 @@ use Rattle.flash.proofs.Cases.{on-test}
 use Rattle.flash.proofs.Image.{length-block, bytes-block}
 use Rattle.frame.specs.Frame.{Frame, encode}
 use Rattle.frame.specs.Reader.{Tail}
-use Rattle.journal.specs.Replay.{State, framesOf, replay}
+use Rattle.journal.specs.Replay.{State, framesOf, replay, settledOnly}
 use Rattle.journal.specs.Block.{build, valid, blockState}
 use Rattle.journal.specs.Room.{claimed}
 use Rattle.journal.specs.Sentences.{ValidBlock}
@@ -24,12 +24,13 @@ use Rattle.journal.proofs.Blocks.{blank-block}
 use Rattle.journal.proofs.Sentences.{states-exact}
 use Rattle.board.specs.declared.Rest.{Rest}
 use Rattle.board.specs.declared.Record.{Record}
-use Rattle.board.specs.Mount.{allFound, nextBlock, Upkeep, rests, moves, upkeep, Store, wipeList}
-use Rattle.board.specs.Queue.{Held, needsRoom}
+use Rattle.board.specs.Mount.{allFound, nextBlock, Upkeep, rests, moves, upkeep, Store, wipeList, storeAt}
+use Rattle.board.specs.Queue.{Held}
 use Rattle.board.specs.Exec.{Call, request, step, mount, format}
-use Rattle.board.specs.Plan.{onBlock, transferPlan, transferIf, framePlan, framedAt, mountedAt}
+use Rattle.board.specs.Plan.{onBlock, transferPlan, Work, upkeepWork, frameIn}
 use Rattle.board.specs.Promise.{Job, frame-job, mount-job, format-job}
 use Rattle.board.specs.Wear.{erasesOf, ErasesExact}
+use Rattle.board.proofs.Lengths.{frame-cases}
 use Rattle.board.proofs.Numbers.{next-up, next-round}
 use Rattle.board.proofs.Images.{Sized, size-of, sized-block}
 use Rattle.board.proofs.Invariant.{Quiet, Ready}
@@ -129,6 +130,10 @@ abbrev pub Leads : ℕ → List Step → List Step → ℕ → Type 0
 Leads N xs [] b = Level N xs b
 Leads N xs (x ∷ ys) b = ((k : ℕ) × Level N xs k) × Leads N (xs ++ (x ∷ [])) ys b
 
+-- the work of a job leads to the block where its record ends
+abbrev pub WorkLeads : ℕ → List Step → Work → Type 0
+WorkLeads N xs w = Leads N xs (w .steps) (w .last .rest .block)
+
 module _ {N : ℕ} where
   -- bytes programmed, and then the rest
   leads-on : {k : ℕ} {xs : List Step} (j b : ℕ) (ws : List Write) (ys : List Step) → Level N xs k → ((zs : List Step) → Level N zs k → Leads N zs ys b)
@@ -144,21 +149,22 @@ module _ {N : ℕ} where
   leads-transfer : {k : ℕ} {xs : List Step} (t : ℕ) (st : State) → Level N xs k → Leads N xs (transferPlan N k t st) (nextBlock N k)
   leads-transfer {k} t st l = leads-on (nextBlock N k) (nextBlock N k) (build (suc t) (framesOf st)) (erase k ∷ []) l (λ zs h. ((k, h), level-next h))
 
-  leads-frame : {xs : List Step} (c : Bool) (z : Rest) (x : Held) (f : Frame) → Level N xs (z .block)
-      → Leads N xs (framePlan N c z x f) (framedAt N c z x f .rest .block)
-  leads-frame {xs} true z x f l =
+  leads-frame : {xs : List Step} (s : ℕ) (z : Rest) (x : Held) (f : Frame) → Level N xs (z .block)
+      → WorkLeads N xs (frameIn s (nextBlock N (z .block)) z x f)
+  leads-frame {xs} s z x f l =
       let k : ℕ = z .block in
       let j : ℕ = nextBlock N k in
       let ws : List Write = build (suc (x .time)) (framesOf (replay (x .frames))) in
       let us : List Write = writes (claimed (replay (x .frames))) (encode f) in
-      subst (λ (p : List Step). Leads N xs p j) (sym (append-assoc (onBlock j ws) (erase k ∷ []) (onBlock j us)))
-      (leads-on j j ws (erase k ∷ onBlock j us) l (λ zs h. ((k, h), leads-writes j us (level-next h))))
-  leads-frame false z x f l = leads-writes (z .block) (writes (z .end) (encode f)) l
+      frame-cases (WorkLeads N xs) s j z x f
+      (λ e. subst (λ (p : List Step). Leads N xs p j) (sym (append-assoc (onBlock j ws) (erase k ∷ []) (onBlock j us)))
+      (leads-on j j ws (erase k ∷ onBlock j us) l (λ zs h. ((k, h), leads-writes j us (level-next h)))))
+      (λ e. leads-writes k (writes (z .end) (encode f)) l)
 
-  leads-mount : {xs : List Step} (u : Upkeep) (n : ℕ) (x : Store) (st : State) → Level N xs (x .number)
-      → Leads N xs (transferIf N u (x .number) (x .time) st) (mountedAt N u n x .rest .block)
-  leads-mount moves n x st l = leads-transfer (x .time) st l
-  leads-mount rests n x st l = l
+  leads-upkeep : {xs : List Step} (u : Upkeep) (n : ℕ) (x : Store) → Level N xs (x .number)
+      → WorkLeads N xs (upkeepWork u (nextBlock N (x .number)) (storeAt N n x) x)
+  leads-upkeep moves n x l = leads-transfer (x .time) (settledOnly (replay (x .frames))) l
+  leads-upkeep rests n x l = l
 
 -- ---- the image between jobs
 
@@ -201,11 +207,11 @@ module _ {N s : ℕ} {img : List ℕ} {xs : List Step} (z : Sized N s img) (by :
           absurd (i .2 (ap (λ (m : ℕ). blockState (block m k img)) (size-of z)
           ∙ ap blockState (y .1 .others k (i .0) (λ d. i .1 (d ∙ sym (ap (λ (x : Record). x .rest .block) (y .1 .is)) ∙ e))) ∙ blank-block s))
 
-  pub job-leads : {r : Record} {c : Call} {plan : List Step} {last : Record} → Begin c → Job N img r c plan last → Leads N xs plan (last .rest .block)
+  pub job-leads : {r : Record} {c : Call} {w : Work} → Begin c → Job N img r c w → WorkLeads N xs w
   job-leads {r} n (frame-job h msg reply x q f v k g) =
-      leads-frame (needsRoom N img r f) (r .rest) x f (subst (Level N xs) (same-block (r .rest .block) (v .there) (v .is-valid)) (y .2))
+      leads-frame (sizeOf N img) (r .rest) x f (subst (Level N xs) (same-block (r .rest .block) (v .there) (v .is-valid)) (y .2))
   job-leads n (mount-job x v) =
       let e : y .0 .rest .block ≡ x .number = same-block (x .number) (v .is-valid .0) (v .is-valid .1) in
       rw (wipes-none (x .number) e)
-      (leads-mount (upkeep x) (length img - 1) x _ (subst (Level N xs) e (y .2)))
+      (leads-upkeep (upkeep x) (length img - 1) x (subst (Level N xs) e (y .2)))
   job-leads n format-job = absurd n

@@ -2,7 +2,7 @@
 use mathlib.Core.Path.{_≡_, refl, sym, ap, subst, _∙_}
 use mathlib.Core.List.{List, [], _∷_, _++_, append-assoc, append-nil}
 use mathlib.Core.Option.{Option, none, some}
-use Prim.Native.Nat.{ℕ, _-_}
+use Prim.Native.Nat.{ℕ}
 use native.Mathlib.Omega.{arith}
 use lib.ListN.{length}
 use Rattle.flash.specs.Bytes.{Bytes}
@@ -17,10 +17,10 @@ use Rattle.board.specs.declared.Phase.{Phase}
 use Rattle.board.specs.declared.Phase.the-variants.{Unmounted, Idle, Busy}
 use Rattle.board.specs.declared.Record.{Record}
 use Rattle.board.specs.Record.{Out, out, answerIn, answerOf}
-use Rattle.board.specs.Mount.{allFound, upkeep, Store}
-use Rattle.board.specs.Queue.{Held, needsRoom}
+use Rattle.board.specs.Mount.{Store}
+use Rattle.board.specs.Queue.{Held}
 use Rattle.board.specs.Exec.{Machine, Call, request, step, mount, format, exec}
-use Rattle.board.specs.Plan.{framePlan, framedAt, mountPlan, mountedAt, formatPlan, Follows, formattedAt}
+use Rattle.board.specs.Plan.{frameWork, mountWork, formatWork, Follows}
 use Rattle.board.specs.Table.{frameFor}
 use Rattle.board.specs.Demand1.{Rests}
 use Rattle.board.specs.Demand2.{Accepted}
@@ -126,13 +126,11 @@ module _ {N : ℕ} {m : Machine} (p : Calls N m) (img : List ℕ) (by : Bytes im
 
   rest-leaves : {s : ℕ} (xs : List Step) (c : Call) (after : List Step) → Begin c → ByteCall c → Sized N s img → Here N s img xs
       → Steady N s img (exec N img q c .board) → LeavesToDo N m img q [] c after → Going N s m img (m img q c .board) (exec N img q c .board) xs after
-  rest-leaves xs c after b bc z y v (begins last a j) =
+  rest-leaves xs c after b bc z y v (begins w a j) =
       let d : exec N img q c .answer ≡ More = sym (ap (λ (k : Shown). k .answer) (agreed c bc .same)) ∙ a in
-      going-plan m (m img q c .board) xs after last (job-idle j) v (p .jobs img q c after last by bc j (subst Accepted (sym a) tt) .0)
-      (calls .jobs img q c after last by bc j (subst Accepted (sym d) tt) .0) (job-leads z by y b j)
-  rest-leaves {s} xs c after b bc z y v (goes-on n e) =
-      let w = settles c b bc n in
-      subst (Going N s m img (m img q c .board) (exec N img q c .board) xs) (sym e) (w .0, w .1, y)
+      going-plan m (m img q c .board) xs (w .steps) (w .last) (job-idle j) v (p .jobs img q c w by bc j (subst Accepted (sym a) tt) .0)
+      (calls .jobs img q c w by bc j (subst Accepted (sym d) tt) .0) (job-leads z by y b j)
+  rest-leaves {s} xs c after b bc z y v (goes-on n) = let w = settles c b bc n in (w .0, w .1, y)
 
   -- what is left to do is told by the answer
   request-some : (g : Host) (msg reply : List ℕ) → Bytes msg → (after : List Step) × LeavesToDo N m img q [] (request g msg reply) after
@@ -142,8 +140,8 @@ module _ {N : ℕ} {m : Machine} (p : Calls N m) (img : List ℕ) (by : Bytes im
       c = request g msg reply
 
       go : (a : Answer) → m img q c .answer ≡ a → (after : List Step) × LeavesToDo N m img q [] c after
-      go Done e = ([], goes-on (λ f. let w : Done ≡ More = sym e ∙ f in let z : _≡_ {A = ℕ} 0 1 = cc in omega arith) refl)
-      go (Refused n) e = ([], goes-on (λ f. let w : Refused n ≡ More = sym e ∙ f in let z : _≡_ {A = ℕ} 0 1 = cc in omega arith) refl)
+      go Done e = ([], goes-on (λ f. let w : Done ≡ More = sym e ∙ f in let z : _≡_ {A = ℕ} 0 1 = cc in omega arith))
+      go (Refused n) e = ([], goes-on (λ f. let w : Refused n ≡ More = sym e ∙ f in let z : _≡_ {A = ℕ} 0 1 = cc in omega arith))
       go More e = framed (frameFor g msg x k) refl (t .answers)
         where
           a : Accepted (m img q c .answer)
@@ -164,21 +162,21 @@ module _ {N : ℕ} {m : Machine} (p : Calls N m) (img : List ℕ) (by : Bytes im
           framed : (f : Option Frame) → frameFor g msg x k ≡ f → Answers f q (m img q c) → (after : List Step) × LeavesToDo N m img q [] c after
           framed none d (w, _) = let f : Done ≡ More = sym (number-done (m img q c .answer) w) ∙ e in let z : _≡_ {A = ℕ} 0 1 = cc in absurd (omega arith)
           framed (some f) d w = (
-            framePlan N (needsRoom N img q f) (q .rest) x f,
-            begins (framedAt N (needsRoom N img q f) (q .rest) x f) e (frame-job g msg reply x k f (y .is-held) (y .is-asked) d),
+            frameWork N img q x f .steps,
+            begins (frameWork N img q x f) e (frame-job g msg reply x k f (y .is-held) (y .is-asked) d),
           )
 
   mount-some : (after : List Step) × LeavesToDo N m img q [] mount after
   mount-some = go (m img q mount .answer) refl
     where
       go : (a : Answer) → m img q mount .answer ≡ a → (after : List Step) × LeavesToDo N m img q [] mount after
-      go Done e = ([], goes-on (λ f. let w : Done ≡ More = sym e ∙ f in let z : _≡_ {A = ℕ} 0 1 = cc in omega arith) refl)
-      go (Refused n) e = ([], goes-on (λ f. let w : Refused n ≡ More = sym e ∙ f in let z : _≡_ {A = ℕ} 0 1 = cc in omega arith) refl)
+      go Done e = ([], goes-on (λ f. let w : Done ≡ More = sym e ∙ f in let z : _≡_ {A = ℕ} 0 1 = cc in omega arith))
+      go (Refused n) e = ([], goes-on (λ f. let w : Refused n ≡ More = sym e ∙ f in let z : _≡_ {A = ℕ} 0 1 = cc in omega arith))
       go More e =
           let y : Mountable N img = mount-takes p img by q (subst Accepted (sym e) tt) in
           let x : Store = y .store in (
-            mountPlan N (allFound N img) x,
-            begins (mountedAt N (upkeep x) (length img - 1) x) e (mount-job x (y .current)),
+            mountWork N img x .steps,
+            begins (mountWork N img x) e (mount-job x (y .current)),
           )
 
 -- ---- every run
@@ -229,12 +227,11 @@ module _ {N : ℕ} {m : Machine} (p : Calls N m) (s : ℕ) where
       let c : Call = request h msg reply in
       subst (λ (t : Record). Going N s m img (m img t c .board) (exec N img q c .board) xs after) (sym e)
       (rest-leaves p img (v .bytes) q k xs c after tt bm (v .sized) y w (subst (λ (t : Record). LeavesToDo N m img t [] c after) e d))
-  call-leaves img r q xs (x ∷ ys) after h msg reply bm v w (z, i, f, g, l) (begins last a j) =
+  call-leaves img r q xs (x ∷ ys) after h msg reply bm v w (z, i, f, g, l) (begins b a j) =
       absurd (busy-stays p img (v .bytes) r h msg reply (f .0) .0 a)
-  call-leaves img r q xs (x ∷ ys) after h msg reply bm v w (z, i, f, g, l) (goes-on n e) =
+  call-leaves img r q xs (x ∷ ys) after h msg reply bm v w (z, i, f, g, l) (goes-on n) =
       let a = busy-stays p img (v .bytes) r h msg reply (f .0) .1 in
-      let b = busy-stays calls img (v .bytes) q h msg reply (g .0) .1 in
-      subst (Going N s m img (m img r (request h msg reply) .board) (exec N img q (request h msg reply) .board) xs) (sym e) (
+      let b = busy-stays calls img (v .bytes) q h msg reply (g .0) .1 in (
         z,
         i,
         subst (λ (t : Record). Follows N m img t (x ∷ ys) z) (sym a) f,
@@ -255,7 +252,7 @@ module _ {N : ℕ} {m : Machine} (p : Calls N m) (s : ℕ) where
       → (after : List Step) × LeavesToDo N m img r left (request h msg reply) after
   call-some img r q xs [] h msg reply by bm (k, e, y) =
       subst (λ (t : Record). (after : List Step) × LeavesToDo N m img t [] (request h msg reply) after) (sym e) (request-some p img by q k h msg reply bm)
-  call-some img r q xs (x ∷ ys) h msg reply by bm (z, i, f, g, l) = (x ∷ ys, goes-on (busy-stays p img by r h msg reply (f .0) .0) refl)
+  call-some img r q xs (x ∷ ys) h msg reply by bm (z, i, f, g, l) = (x ∷ ys, goes-on (busy-stays p img by r h msg reply (f .0) .0))
 
   mount-left : (img : List ℕ) (r q : Record) (xs left : List Step) → Bytes img → Rests (r .phase) → Going N s m img r q xs left
       → (after : List Step) × LeavesToDo N m img r left mount after
@@ -323,11 +320,11 @@ unfolding EvenWear erasesOf
 even-wear N m pm img r cs by ok u =
     let s : ℕ = sizeOf N img in
     let z : Sized N s img = sized-of N img ok in
-    let i : List ℕ = applyAll s (formatPlan N img) img in
-    let b : Record = formattedAt N (length img - 1) in
+    let i : List ℕ = applyAll s (formatWork N img .steps) img in
+    let b : Record = formatWork N img .last in
     let o : Out = formatted N m img r in
-    let zi : Sized N s i = sized-as i (length-all-steps s (formatPlan N img) img) z in
-    let v : Steady N s i b = steady-idle zi (bytes-all-steps s (formatPlan N img) img by) b (format-ends z .ready) in
+    let zi : Sized N s i = sized-as i (length-all-steps s (formatWork N img .steps) img) z in
+    let v : Steady N s i b = steady-idle zi (bytes-all-steps s (formatWork N img .steps) img by) b (format-ends z .ready) in
     let l : Level N [] 0 =
     record { there = omega (arith, z .few); rounds = 0; below = λ j h. absurd (omega arith); others = λ j l h. refl } in
     let w : Agree N m (exec N) o (out Done i b []) = subst (Agree N m (exec N) o) (format-done r z) (formatted-over (pm .calls) img r by) in

@@ -8,7 +8,7 @@ use mathlib.Core.Path.{_≡_}
 use Prim.Native.Nat.{ℕ, zero, suc, _+_, _≤_, _<_}
 use lib.ListN.{length, take, drop}
 use Rattle.flash.specs.Bytes.{Bytes, u16le}
-use Rattle.flash.specs.Flash.{Step, block, sizeOf, withBlock, eraseBlock}
+use Rattle.flash.specs.Flash.{block, sizeOf, withBlock, eraseBlock}
 use Rattle.flash.specs.Raised.{Raised}
 use Rattle.frame.specs.declared.Host.{Host}
 use Rattle.frame.specs.Frame.{Frame, hostMax, deleteLen, endLen}
@@ -31,7 +31,7 @@ use Rattle.board.specs.declared.Record.{Record}
 use Rattle.board.specs.Record.{allowed, Out}
 use Rattle.board.specs.Mount.{moves, upkeepOf}
 use Rattle.board.specs.Exec.{Call, request, step, mount, format, Machine}
-use Rattle.board.specs.Plan.{Follows}
+use Rattle.board.specs.Plan.{Work, Performs}
 use Rattle.board.specs.Table.{InJob}
 use Rattle.board.specs.Demand1.{Short}
 use Rattle.board.specs.Book.{Book, UnderWay, nothing, committing, formatting, firstBook, enterCall}
@@ -51,11 +51,10 @@ pub record IdleAgrees (N : ℕ) (img : List ℕ) (r : Record) (b : Book) : Type 
 -- a job that call c began ends idle once its steps are all made, and they are few: a request's and a format's at most S, a mount's at most S
 -- and its erases
 pub record Finishes (N : ℕ) (m : Machine) (c : Call) (img : List ℕ) (r : Record) : Type 0 where
-  pub plan : List Step
-  pub last : Record
-  pub follows : Follows N m img r plan last
-  pub rests : last .phase ≡ Idle
-  pub short : Short N (sizeOf N img) plan c
+  pub work : Work
+  pub follows : Performs N m img r work
+  pub rests : work .last .phase ≡ Idle
+  pub short : Short N (sizeOf N img) (work .steps) c
 
 -- "after each call in it that gives back an idle record"; beyond the letter, a job under way, which call c began, can be finished
 abbrev pub AgreesIn : ℕ → Machine → Call → Phase → List ℕ → Record → Book → Type 0

@@ -5,7 +5,7 @@ use mathlib.Core.Logic.{_⊎_, _↔_}
 use mathlib.Core.Option.{some}
 use mathlib.Core.Bool.{true}
 use mathlib.Core.Path.{_≡_}
-use Prim.Native.Nat.{ℕ, _+_, _-_, _*_, _≤_, _<_}
+use Prim.Native.Nat.{ℕ, _+_, _*_, _≤_, _<_}
 use lib.ListN.{length, getD}
 use Rattle.flash.specs.Bytes.{Bytes}
 use Rattle.flash.specs.Flash.{Step, program, erase, apply, applyAll, block, sizeOf, withBlock}
@@ -24,10 +24,10 @@ use Rattle.board.specs.declared.Phase.the-variants.{Idle}
 use Rattle.board.specs.declared.Record.{Record}
 pub use Rattle.board.specs.Record.{Accepted}
 use Rattle.board.specs.Record.{Out, allowed}
-use Rattle.board.specs.Mount.{allFound, Store, upkeep}
+use Rattle.board.specs.Mount.{Store}
 use Rattle.board.specs.Queue.{Held}
 use Rattle.board.specs.Exec.{request, mount, format, Machine}
-use Rattle.board.specs.Plan.{Follows, programs, mountPlan, mountedAt}
+use Rattle.board.specs.Plan.{Performs, programs, mountWork}
 use Rattle.board.specs.Table.{frameFor, Allowed, Fresh}
 use Rattle.wire.specs.Sentences.{Means}
 use Rattle.board.specs.Book.{Book}
@@ -43,14 +43,12 @@ pub record Mounts (N : ℕ) (m : Machine) (img : List ℕ) (o : Out) : Type 0 wh
   pub is-valid : blockState (block (sizeOf N img) (store .number) img) ≡ valid (store .time) (store .frames) (store .tail)
   pub newest : (k t : ℕ) (fs : List Frame) (c : Tail) → k < N → (k ≡ store .number → ⊥)
       → blockState (block (sizeOf N img) k img) ≡ valid t fs c → t < store .time
-  pub last : Record
-  pub is-last : last ≡ mountedAt N (upkeep store) (length img - 1) store
-  pub follows : Follows N m img (o .board) (mountPlan N (allFound N img) store) last
+  pub follows : Performs N m img (o .board) (mountWork N img store)
   -- K14: "Demand 1's bound leaves a mount's erases aside"; of those there are at most N
-  pub short : length (programs (mountPlan N (allFound N img) store)) ≤ sizeOf N img
-  pub erases : length (mountPlan N (allFound N img) store) ≤ length (programs (mountPlan N (allFound N img) store)) + N
+  pub short : length (programs (mountWork N img store .steps)) ≤ sizeOf N img
+  pub erases : length (mountWork N img store .steps) ≤ length (programs (mountWork N img store .steps)) + N
   pub holding : Held
-  pub is-fresh : Fresh N (applyAll (sizeOf N img) (mountPlan N (allFound N img) store) img) last holding
+  pub is-fresh : Fresh N (applyAll (sizeOf N img) (mountWork N img store .steps) img) (mountWork N img store .last) holding
   pub holds : replay (holding .frames) ≡ settledOnly (replay (store .frames))
 
 -- the refusals of a mount, and their exact conditions, are the table's lines

@@ -1,8 +1,10 @@
--- Plans: document 01's list of flash steps for each job.
+-- Plans: document 01's list of flash steps for each job, and the record after it.
 use mathlib.Core.List.{List, [], _∷_, _++_, map}
-use mathlib.Core.Bool.{Bool, true, false}
+use mathlib.Core.Bool.{cond}
 use mathlib.Core.Path.{_≡_}
-use Prim.Native.Nat.{ℕ, suc, _+_}
+use Prim.Native.Nat.{ℕ, suc, _+_, _-_}
+use lib.Dec.{ltb}
+use lib.ListN.{length}
 use Rattle.flash.specs.Flash.{Step, program, erase, apply, sizeOf, Write, writeStep, writes}
 use Rattle.frame.specs.Frame.{Frame, encode, frameLen}
 use Rattle.journal.specs.Replay.{State, framesOf, replay, settledOnly}
@@ -12,7 +14,7 @@ use Rattle.wire.specs.declared.Answer.the-variants.{More}
 use Rattle.board.specs.declared.Rest.{Rest}
 use Rattle.board.specs.declared.Record.{Record}
 use Rattle.board.specs.Record.{answerOf, out, rest, landing, ending, idle}
-use Rattle.board.specs.Mount.{nextBlock, formatOrder, Found, Store, storeAt, wipeList, Upkeep, rests, moves, upkeep}
+use Rattle.board.specs.Mount.{nextBlock, formatOrder, allFound, Store, storeAt, wipeList, Upkeep, rests, moves, upkeep}
 use Rattle.board.specs.Queue.{Held}
 use Rattle.board.specs.Exec.{Machine, step}
 
@@ -21,17 +23,13 @@ abbrev pub onBlock : ℕ → List Write → List Step
 onBlock k ws = map (writeStep k) ws
 
 -- "Transfer, into the blank half: byte 8 to 0xFE, header bytes 0-3, settled frames by rising id, pending frames in their order,
--- inverse of (time + 1), byte 8 to 0xFC, erase of the old half." Of block k, made at a time, with a state, into the next in number (K14).
+-- inverse of (time + 1), byte 8 to 0xFC, erase of the old half." Of block k, made at a time, with a state, into block j
+abbrev pub transferTo : ℕ → ℕ → ℕ → State → List Step
+transferTo j k time st = onBlock j (build (suc time) (framesOf st)) ++ (erase k ∷ [])
+
+-- into the next in number (K14)
 abbrev pub transferPlan : ℕ → ℕ → ℕ → State → List Step
-transferPlan N k time st = onBlock (nextBlock N k) (build (suc time) (framesOf st)) ++ (erase k ∷ [])
-
--- "Format: erase half 0, erase half 1, then half 0's header at time 1 in the same order": of all blocks, in K14's order
-abbrev pub formatPlan : ℕ → List ℕ → List Step
-formatPlan N img = map erase (formatOrder N img) ++ onBlock 0 (build 1 [])
-
--- the record after it, on an image whose length less one is l
-abbrev pub formattedAt : ℕ → ℕ → Record
-formattedAt N l = idle (rest N l 0 headerLen)
+transferPlan N k time st = transferTo (nextBlock N k) k time st
 
 -- "Put, delete, commit, abort: one frame of n bytes": at an offset of block k
 abbrev pub appendPlan : ℕ → ℕ → Frame → List Step
@@ -51,31 +49,59 @@ programs [] = []
 programs (program k o v ∷ xs) = program k o v ∷ programs xs
 programs (erase k ∷ xs) = programs xs
 
--- ---- the plan of each accepted call
+-- ---- the work of each accepted call
+
+-- what a job does: its flash steps, and the record after the last
+pub record Work : Type 0 where
+  pub steps : List Step
+  pub last : Record
+
+-- the record's step calls do this work
+abbrev pub Performs : ℕ → Machine → List ℕ → Record → Work → Type 0
+Performs N m img r w = Follows N m img r (w .steps) (w .last)
+
+-- the work with these steps before it
+abbrev pub afterSteps : List Step → Work → Work
+afterSteps xs w = record { steps = xs ++ w .steps; last = w .last }
+
+-- "Format: erase half 0, erase half 1, then half 0's header at time 1 in the same order": of blocks ks, on an image whose length less one is l
+abbrev pub formatIn : ℕ → ℕ → List ℕ → Work
+formatIn N l ks = afterSteps (map erase ks) (record { steps = onBlock 0 (build 1 []); last = idle (rest N l 0 headerLen) })
+
+-- of all blocks, in K14's order
+abbrev pub formatWork : ℕ → List ℕ → Work
+formatWork N img = formatIn N (length img - 1) (formatOrder N img)
+
+-- what a mount does after its erases with store x, whose record stands at z; a transfer goes to block j
+abbrev pub upkeepWork : Upkeep → ℕ → Rest → Store → Work
+upkeepWork rests j z x = record { steps = []; last = idle z }
+upkeepWork moves j z x =
+    record {
+      steps = transferTo j (x .number) (x .time) (settledOnly (replay (x .frames)));
+      last = idle (landing z j (used (replay (x .frames))));
+    }
+
+-- the erases of blocks ks, and that
+abbrev pub mountIn : ℕ → ℕ → List ℕ → ℕ → Store → Work
+mountIn N l ks j x = afterSteps (map erase ks) (upkeepWork (upkeep x) j (storeAt N l x) x)
 
 -- K14: "mount erases every other that isn't blank, by number". "If the current one has a torn tail or anything pending, a transfer of the
 -- settled objects alone follows."
-abbrev pub transferIf : ℕ → Upkeep → ℕ → ℕ → State → List Step
-transferIf N moves k time st = transferPlan N k time st
-transferIf N rests k time st = []
+abbrev pub mountWork : ℕ → List ℕ → Store → Work
+mountWork N img x = mountIn N (length img - 1) (wipeList (x .number) (allFound N img)) (nextBlock N (x .number)) x
 
-abbrev pub mountPlan : ℕ → List Found → Store → List Step
-mountPlan N xs x =
-    map erase (wipeList (x .number) xs)
-    ++ transferIf N (upkeep x) (x .number) (x .time) (settledOnly (replay (x .frames)))
+-- "Put, delete, commit, abort: one frame of n bytes": where the record stands
+abbrev pub appendWork : Rest → Frame → Work
+appendWork z f = record { steps = appendPlan (z .block) (z .end) f; last = idle (ending z (z .end + frameLen f)) }
 
--- the record after it
-abbrev pub mountedAt : ℕ → Upkeep → ℕ → Store → Record
-mountedAt N moves l x = idle (landing (storeAt N l x) (nextBlock N (x .number)) (used (replay (x .frames))))
-mountedAt N rests l x = idle (storeAt N l x)
+-- the same after a transfer, to block j
+abbrev pub movedWork : ℕ → Rest → Held → Frame → Work
+movedWork j z x f =
+    afterSteps (transferTo j (z .block) (x .time) (replay (x .frames))) (appendWork (landing z j (claimed (replay (x .frames)))) f)
 
--- "one frame of n bytes, after a transfer if end + n exceeds S": where the record stands
-abbrev pub framePlan : ℕ → Bool → Rest → Held → Frame → List Step
-framePlan N true z x f =
-    transferPlan N (z .block) (x .time) (replay (x .frames)) ++ appendPlan (nextBlock N (z .block)) (claimed (replay (x .frames))) f
-framePlan N false z x f = appendPlan (z .block) (z .end) f
+-- "after a transfer if end + n exceeds S": in blocks of s bytes
+abbrev pub frameIn : ℕ → ℕ → Rest → Held → Frame → Work
+frameIn s j z x f = cond (ltb s (z .end + frameLen f)) (movedWork j z x f) (appendWork z f)
 
--- the record after it
-abbrev pub framedAt : ℕ → Bool → Rest → Held → Frame → Record
-framedAt N true z x f = idle (landing z (nextBlock N (z .block)) (claimed (replay (x .frames)) + frameLen f))
-framedAt N false z x f = idle (ending z (z .end + frameLen f))
+abbrev pub frameWork : ℕ → List ℕ → Record → Held → Frame → Work
+frameWork N img r x f = frameIn (sizeOf N img) (nextBlock N (r .rest .block)) (r .rest) x f

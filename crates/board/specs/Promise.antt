@@ -4,11 +4,11 @@ use mathlib.Core.List.{List, [], _∷_, _++_}
 use mathlib.Core.Option.{Option, none, some}
 use mathlib.Core.Logic.{_⊎_, _↔_}
 use mathlib.Core.Path.{_≡_}
-use Prim.Native.Nat.{ℕ, _+_, _-_, _*_, _≤_, _<_}
+use Prim.Native.Nat.{ℕ, _+_, _*_, _≤_, _<_}
 use lib.Bits.{bitAnd}
 use lib.ListN.{length, getD, take, drop}
 use Rattle.flash.specs.Bytes.{Bytes, u16le, u32le}
-use Rattle.flash.specs.Flash.{Step, applyAll, withBlock, eraseBlock, sizeOf}
+use Rattle.flash.specs.Flash.{applyAll, withBlock, eraseBlock, sizeOf}
 use Rattle.frame.specs.declared.Host.{Host}
 use Rattle.frame.specs.declared.ObjectId.{ObjectId}
 use Rattle.frame.specs.Frame.{Frame}
@@ -28,11 +28,11 @@ use Rattle.board.specs.declared.Phase.{Phase}
 use Rattle.board.specs.declared.Phase.the-variants.{Unmounted, Idle, Busy}
 use Rattle.board.specs.declared.Record.{Record}
 use Rattle.board.specs.Record.{Stretch, noStretch, Out, out}
-use Rattle.board.specs.Mount.{allFound, Store, upkeep}
-use Rattle.board.specs.Queue.{Held, needsRoom}
+use Rattle.board.specs.Mount.{Store}
+use Rattle.board.specs.Queue.{Held}
 pub use Rattle.board.specs.Exec.{Machine, Family}
 use Rattle.board.specs.Exec.{Call, request, step, mount, format}
-use Rattle.board.specs.Plan.{Follows, formatPlan, formattedAt, mountPlan, mountedAt, framePlan, framedAt}
+use Rattle.board.specs.Plan.{Work, Performs, formatWork, mountWork, frameWork}
 use Rattle.board.specs.Table.{frameFor, Exactly, InJob, Fresh, ValidAt, Names, linesOf}
 use Rattle.board.specs.Demand1.{Unchanged, ImageAfter, Short, Declared, Rests, EndsWithin}
 use Rattle.board.specs.Demand2.{Accepted, OneStore, UsableFrom, LandsFrom, RoomExact, WearExact}
@@ -116,25 +116,24 @@ pub record Current (N : ℕ) (img : List ℕ) (x : Store) : Type 0 where
   pub newest : (k t : ℕ) (fs : List Frame) (c : Tail) → (k ≡ x .number → ⊥) → ValidAt N img k t fs c → t < x .time
 
 -- the steps that an accepted call has to do, and the idle record after the last
-pub data Job (N : ℕ) (img : List ℕ) (r : Record) : Call → List Step → Record → Type 0 where
+pub data Job (N : ℕ) (img : List ℕ) (r : Record) : Call → Work → Type 0 where
   -- "one frame of n bytes, after a transfer if end + n exceeds S"
   frame-job : (h : Host) (msg reply : List ℕ) (x : Held) (q : Request) (f : Frame) → Fresh N img r x → Means msg q → frameFor h msg x q ≡ some f
-      → Job N img r (request h msg reply) (framePlan N (needsRoom N img r f) (r .rest) x f)
-      (framedAt N (needsRoom N img r f) (r .rest) x f)
+      → Job N img r (request h msg reply) (frameWork N img r x f)
   -- K14: "mount erases every other that isn't blank, by number". "If the current one has a torn tail or anything pending, a transfer of the
   -- settled objects alone follows."
   mount-job : (x : Store) → Current N img x
-      → Job N img r mount (mountPlan N (allFound N img) x) (mountedAt N (upkeep x) (length img - 1) x)
+      → Job N img r mount (mountWork N img x)
   -- K14: "Format erases all in number order, but the current block last if there is one, then writes block 0"
-  format-job : Job N img r format (formatPlan N img) (formattedAt N (length img - 1))
+  format-job : Job N img r format (formatWork N img)
 
 -- "each step call then does the next step, and the last one answers 0 with the record idle": of a call's outcome, all by the number of
 -- step calls after it
-pub record StepsOf (N : ℕ) (m : Machine) (img : List ℕ) (o : Out) (plan : List Step) (z : Record) : Type 0 where
-  pub images : (n : ℕ) → n ≤ length plan → stepsOn m n o .image ≡ applyAll (sizeOf N img) (take n plan) img
-  pub more : (n : ℕ) → n < length plan → stepsOn m n o .answer ≡ More
-  pub done : numberOf (stepsOn m (length plan) o .answer) ≡ some 0
-  pub last : stepsOn m (length plan) o .board ≡ z
+pub record StepsOf (N : ℕ) (m : Machine) (img : List ℕ) (o : Out) (w : Work) : Type 0 where
+  pub images : (n : ℕ) → n ≤ length (w .steps) → stepsOn m n o .image ≡ applyAll (sizeOf N img) (take n (w .steps)) img
+  pub more : (n : ℕ) → n < length (w .steps) → stepsOn m n o .answer ≡ More
+  pub done : numberOf (stepsOn m (length (w .steps)) o .answer) ≡ some 0
+  pub last : stepsOn m (length (w .steps)) o .board ≡ w .last
 
 -- ---- the promise
 
@@ -156,8 +155,8 @@ pub record Calls (N : ℕ) (m : Machine) : Type 0 where
   pub serves : (img : List ℕ) (r : Record) (h : Host) (msg reply : List ℕ) (x : Held) (q : Request) → Bytes img → Bytes msg → Fresh N img r x
       → Means msg q → Accepted (m img r (request h msg reply) .answer) → Serves N img r h msg reply x q (m img r (request h msg reply))
   -- the steps of an accepted call are its job's, and so many
-  pub jobs : (img : List ℕ) (r : Record) (c : Call) (plan : List Step) (z : Record) → Bytes img → ByteCall c → Job N img r c plan z
-      → Accepted (m img r c .answer) → Follows N m img (m img r c .board) plan z × Short N (sizeOf N img) plan c
+  pub jobs : (img : List ℕ) (r : Record) (c : Call) (w : Work) → Bytes img → ByteCall c → Job N img r c w
+      → Accepted (m img r c .answer) → Performs N m img (m img r c .board) w × Short N (sizeOf N img) (w .steps) c
   -- "A record forged otherwise does at most one step a call .. and ends or gets 11 within 65,536 step calls."
   pub ends : (img : List ℕ) (r : Record) → Declared r → EndsWithin m 65536 img r
 
@@ -165,8 +164,8 @@ pub record Calls (N : ℕ) (m : Machine) : Type 0 where
 pub record Promise (N : ℕ) (m : Machine) : Type 0 where
   pub calls : Calls N m
   -- the k-th step call of an accepted call's job does the k-th step of its plan
-  pub steps : (img : List ℕ) (r : Record) (c : Call) (plan : List Step) (z : Record) → Bytes img → ByteCall c → Job N img r c plan z
-      → Accepted (m img r c .answer) → StepsOf N m img (m img r c) plan z
+  pub steps : (img : List ℕ) (r : Record) (c : Call) (w : Work) → Bytes img → ByteCall c → Job N img r c w
+      → Accepted (m img r c .answer) → StepsOf N m img (m img r c) w
   -- programming only clears bits
   pub clears : (img : List ℕ) (r : Record) (c : Call) → OnlyClears N img (m img r c .image)
   -- demand 2: every image reads as one store, which a mount takes and leaves with its settled objects and nothing pending

@@ -3,7 +3,7 @@
 use mathlib.Core.List.{List, [], _∷_, _++_, map}
 use mathlib.Core.Logic.{_↔_}
 use mathlib.Core.Option.{none, some, Option·map}
-use mathlib.Core.Bool.{true, false}
+use mathlib.Core.Bool.{true}
 use mathlib.Core.Path.{_≡_}
 use Prim.Native.Nat.{ℕ, suc, _+_, _-_, _*_, _/_, _%_, _≤_, _<_}
 use lib.ListN.{length, getD, drop}
@@ -21,12 +21,11 @@ use Rattle.journal.specs.Laws.{objectsAfter, pendingAfter, TakenFrom}
 use Rattle.wire.specs.declared.Page.{Page}
 use Rattle.wire.specs.declared.Request.the-variants.{Put, Delete, Commit, Abort, Read, Log}
 use Rattle.wire.specs.Sentences.{Means}
-use Rattle.board.specs.declared.Rest.{Rest}
 use Rattle.board.specs.declared.Record.{Record}
-use Rattle.board.specs.Mount.{Store, allFound}
+use Rattle.board.specs.Mount.{Store}
 use Rattle.board.specs.Queue.{Held, needsRoom, placeOf}
 use Rattle.board.specs.Table.{frameFor, Allowed, ValidAt}
-use Rattle.board.specs.Plan.{transferPlan, formatPlan, framePlan, mountPlan}
+use Rattle.board.specs.Plan.{transferPlan, formatWork, frameWork, mountWork}
 
 -- ---- which requests append a frame, and its bytes
 
@@ -99,7 +98,7 @@ pub record LastIs (k N : ℕ) (order : List ℕ) : Type 0 where
 
 pub record FormatSteps (N : ℕ) (img : List ℕ) (Ordered : ℕ → List ℕ → Type 0) : Type 0 where
   pub order : List ℕ
-  pub steps : formatPlan N img ≡ map erase order ++ firstHeader
+  pub steps : formatWork N img .steps ≡ map erase order ++ firstHeader
   pub ordered : Ordered N order
 
 -- block k is valid, and every other valid one has a smaller time
@@ -112,13 +111,14 @@ NewestAt N img k =
 pub record FormatExact : Type 0 where
   pub current : (N : ℕ) (img : List ℕ) (k : ℕ) → Bytes img → Allowed N (length img) → NewestAt N img k → FormatSteps N img (LastIs k)
   pub no-current : (N : ℕ) (img : List ℕ) → Bytes img → Allowed N (length img) → ((k : ℕ) → NewestAt N img k → ⊥) → FormatSteps N img ByNumber
-  pub count : (N : ℕ) (img : List ℕ) → length (formatPlan N img) ≡ N + 10
+  pub count : (N : ℕ) (img : List ℕ) → length (formatWork N img .steps) ≡ N + 10
 
 -- "one frame of n bytes, after a transfer if end + n exceeds S": at the recorded end, or in the next block past what was copied there
 pub record AppendExact : Type 0 where
-  pub stays : (N : ℕ) (z : Rest) (x : Held) (f : Frame) → Programs (z .block) (z .end) (encode f) (framePlan N false z x f)
-  pub moves : (N j : ℕ) (z : Rest) (x : Held) (f : Frame) → NextOf N (z .block) j
-      → (appended : List Step) × (framePlan N true z x f ≡ transferPlan N (z .block) (x .time) (replay (x .frames)) ++ appended)
+  pub stays : (N : ℕ) (img : List ℕ) (r : Record) (x : Held) (f : Frame) → r .rest .end + length (encode f) ≤ sizeOf N img
+      → Programs (r .rest .block) (r .rest .end) (encode f) (frameWork N img r x f .steps)
+  pub moves : (N j : ℕ) (img : List ℕ) (r : Record) (x : Held) (f : Frame) → NextOf N (r .rest .block) j → sizeOf N img < r .rest .end + length (encode f)
+      → (appended : List Step) × (frameWork N img r x f .steps ≡ transferPlan N (r .rest .block) (x .time) (replay (x .frames)) ++ appended)
       × Programs j (16 + length (encodeAll (framesOf (replay (x .frames))))) (encode f) appended
 
 -- a number stands in a list
@@ -130,7 +130,7 @@ Member j l = (i : ℕ) × (i < length l) × (getD l i 0 ≡ j)
 pub record MountSteps (N : ℕ) (img : List ℕ) (x : Store) : Type 0 where
   pub erased : List ℕ
   pub moves : List Step
-  pub steps : mountPlan N (allFound N img) x ≡ map erase erased ++ moves
+  pub steps : mountWork N img x .steps ≡ map erase erased ++ moves
   pub by-number : (i : ℕ) → suc i < length erased → getD erased i 0 < getD erased (suc i) 0
   pub every : (j : ℕ) → Member j erased ↔ ((j < N) × (j ≡ x .number → ⊥) × (blockState (block (sizeOf N img) j img) ≡ blank → ⊥))
   pub torn : (n : ℕ) → x .tail ≡ cut n → moves ≡ transferPlan N (x .number) (x .time) (state (objectsAfter (x .frames)) [])

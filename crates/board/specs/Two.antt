@@ -1,33 +1,32 @@
 -- Two blocks, document 02, K14: "N = 2 gives the same bytes and steps as before". What documents 01 and 02 say of two halves is written down here a
--- second time, by the states of the two, for this comparison alone. Most of it is not what stood in the definitions before K14: those went by lists of
--- blocks, as today's do. What the lines below take from today's pages is shared: the states of a block, replay, sums, the plan of an append, a job's
--- next step and where the record goes on.
-use mathlib.Core.List.{List, [], _∷_, _++_}
+-- second time, by the states of the two, for this comparison alone: which half is current, which are erased, where a transfer goes, what is refused.
+-- Most of it is not what stood in the definitions before K14: those went by lists of blocks, as today's do. What the lines below take from today's pages
+-- is shared: the states of a block, the work of each job once its blocks are chosen, a job's next step and where the record goes on.
+use mathlib.Core.List.{List, [], _∷_}
 use mathlib.Core.Option.{Option, none}
 use mathlib.Core.Bool.{Bool, true, false, _&&_, cond}
 use mathlib.Core.Path.{_≡_}
-use Prim.Native.Nat.{ℕ, suc, _+_, _-_, _/_, _%_, _<_}
+use Prim.Native.Nat.{ℕ, suc, _-_, _/_, _%_, _<_}
 use lib.Dec.{eqb, ltb, leb}
 use lib.ListN.{length}
 use Rattle.flash.specs.Bytes.{Bytes, allFF}
-use Rattle.flash.specs.Flash.{Step, erase, apply, block, sizeOf, blockOf, offsetOf}
-use Rattle.frame.specs.Frame.{Frame, frameLen}
+use Rattle.flash.specs.Flash.{Step, apply, block, sizeOf, blockOf, offsetOf}
+use Rattle.frame.specs.Frame.{Frame}
 use Rattle.frame.specs.Reader.{Tail}
-use Rattle.journal.specs.Replay.{State, framesOf, replay, settledOnly}
-use Rattle.journal.specs.Block.{BlockState, blank, inProgress, valid, foreign, blockState, build, headerLen, lastTime}
-use Rattle.journal.specs.Room.{used, claimed}
+use Rattle.journal.specs.Block.{BlockState, blank, inProgress, valid, foreign, blockState, lastTime}
 use Rattle.wire.specs.declared.Answer.the-variants.{Done}
 use Rattle.wire.specs.declared.Refusal.{Refusal}
 use Rattle.wire.specs.declared.Refusal.the-variants as refusal
 use Rattle.board.specs.declared.Phase.{Phase}
 use Rattle.board.specs.declared.Phase.the-variants.{Unmounted, Idle, Busy}
+use Rattle.board.specs.declared.Rest.{Rest}
 use Rattle.board.specs.declared.Record.{Record}
-use Rattle.board.specs.Record.{allowed, unmounted, rest, idle, Out, out, refuse}
+use Rattle.board.specs.Record.{allowed, unmounted, rest, Out, out, refuse}
 use Rattle.board.specs.Step.{action, advance, stepped, stepOn}
-use Rattle.board.specs.Mount.{isBlank, moves, upkeepOf, transfers, tiedTimes, endOf, mountOn, formatOn}
-use Rattle.board.specs.Queue.{Held, held, heldIn, needsRoom}
+use Rattle.board.specs.Mount.{isBlank, moves, upkeepOf, transfers, tiedTimes, mountOn, formatOn}
+use Rattle.board.specs.Queue.{Held, held, heldIn}
 use Rattle.board.specs.Exec.{exec}
-use Rattle.board.specs.Plan.{onBlock, appendPlan, framePlan, framedAt, Follows}
+use Rattle.board.specs.Plan.{Work, Performs, formatIn, mountIn, frameIn, frameWork}
 
 -- ---- the image
 
@@ -71,19 +70,11 @@ chooseTwo blank inProgress = refuses refusal.NoStore
 chooseTwo inProgress blank = refuses refusal.NoStore
 chooseTwo inProgress inProgress = refuses refusal.NoStore
 
--- "Transfer, into the blank half: .., erase of the old half."
-abbrev pub transferTwo : ℕ → ℕ → State → List Step
-transferTwo k time st = onBlock (beside k) (build (suc time) (framesOf st)) ++ (erase k ∷ [])
-
--- "The other is erased if it isn't blank. If the current one has a torn tail or anything pending, a transfer of the settled objects alone follows."
-abbrev pub mountTwo : List ℕ → ℕ → ℕ → List Frame → Tail → List Step
+-- "The other is erased if it isn't blank." A transfer goes "into the blank half"
+abbrev pub mountTwo : List ℕ → ℕ → ℕ → List Frame → Tail → Work
 mountTwo img k t fs c =
-    cond (isBlank (stateTwo img (beside k))) [] (erase (beside k) ∷ [])
-    ++ cond (transfers (upkeepOf fs c)) (transferTwo k t (settledOnly (replay fs))) []
-
-abbrev pub mountedTwo : List ℕ → ℕ → List Frame → Tail → Record
-mountedTwo img k fs c =
-    cond (transfers (upkeepOf fs c)) (idle (rest 2 (length img - 1) (beside k) (used (replay fs)))) (idle (rest 2 (length img - 1) k (endOf fs)))
+    mountIn 2 (length img - 1) (cond (isBlank (stateTwo img (beside k))) [] (beside k ∷ [])) (beside k)
+    (record { number = k; time = t; frames = fs; tail = c })
 
 -- ---- format
 
@@ -97,8 +88,8 @@ lastTwo blank b = 1
 lastTwo inProgress b = 1
 lastTwo (foreign e) b = 1
 
-abbrev pub formatTwo : List ℕ → List Step
-formatTwo img = let k : ℕ = lastTwo (stateTwo img 0) (stateTwo img 1) in erase (beside k) ∷ erase k ∷ onBlock 0 (build 1 [])
+abbrev pub formatTwo : List ℕ → Work
+formatTwo img = let k : ℕ = lastTwo (stateTwo img 0) (stateTwo img 1) in formatIn 2 (length img - 1) (beside k ∷ k ∷ [])
 
 -- ---- requests and steps
 
@@ -108,18 +99,10 @@ heldTwo img r =
     cond (eqb (length img) (suc (r .rest .last)) && (ltb (r .rest .block) 2 && allFF (block (sizeTwo img) (beside (r .rest .block)) img)))
     (heldIn (sizeTwo img) (r .rest .end) (stateTwo img (r .rest .block))) none
 
--- "one frame of n bytes, after a transfer if end + n exceeds S"
-abbrev pub frameTwo : List ℕ → Record → Held → Frame → List Step
+-- "after a transfer if end + n exceeds S", "into the blank half"
+abbrev pub frameTwo : List ℕ → Record → Held → Frame → Work
 frameTwo img r x f =
-    cond (ltb (sizeTwo img) (r .rest .end + frameLen f))
-    (transferTwo (r .rest .block) (x .time) (replay (x .frames)) ++ appendPlan (beside (r .rest .block)) (claimed (replay (x .frames))) f)
-    (appendPlan (r .rest .block) (r .rest .end) f)
-
-abbrev pub framedTwo : List ℕ → Record → Held → Frame → Record
-framedTwo img r x f =
-    cond (ltb (sizeTwo img) (r .rest .end + frameLen f))
-    (idle (rest 2 (r .rest .last) (beside (r .rest .block)) (claimed (replay (x .frames)) + frameLen f)))
-    (idle (rest 2 (r .rest .last) (r .rest .block) (r .rest .end + frameLen f)))
+    let z : Rest = r .rest in frameIn (sizeTwo img) (beside (z .block)) (rest 2 (z .last) (z .block) (z .end)) x f
 
 -- "in a job, 11 is given exactly if the image length isn't the record's or the job's next place lies outside it"
 abbrev pub stepTwo : Phase → List ℕ → Record → Out
@@ -144,13 +127,13 @@ pub record TwoBlocks : Type 0 where
       → mountOn 2 img ≡ refuse refusal.Worn img unmounted []
   pub mount-steps : (img : List ℕ) (k t : ℕ) (fs : List Frame) (c : Tail) → Bytes img → allowedTwo (length img) ≡ true
       → chooseTwo (stateTwo img 0) (stateTwo img 1) ≡ takes k t fs c → (transfers (upkeepOf fs c) && eqb t lastTime) ≡ false
-      → Follows 2 (exec 2) img (mountOn 2 img .board) (mountTwo img k t fs c) (mountedTwo img k fs c)
+      → Performs 2 (exec 2) img (mountOn 2 img .board) (mountTwo img k t fs c)
   pub format-steps : (img : List ℕ) → allowedTwo (length img) ≡ true
-      → Follows 2 (exec 2) img (formatOn 2 img .board) (formatTwo img) (idle (rest 2 (length img - 1) 0 headerLen))
+      → Performs 2 (exec 2) img (formatOn 2 img .board) (formatTwo img)
   -- requests: the image read afresh, the steps, the record after them
   pub fresh : (img : List ℕ) (r : Record) → r .rest .blocks ≡ 2 → held 2 img r ≡ heldTwo img r
   pub frame-steps : (img : List ℕ) (r : Record) (x : Held) (f : Frame) → r .rest .block < 2
-      → framePlan 2 (needsRoom 2 img r f) (r .rest) x f ≡ frameTwo img r x f
+      → frameWork 2 img r x f .steps ≡ frameTwo img r x f .steps
   pub frame-record : (img : List ℕ) (r : Record) (x : Held) (f : Frame) → r .rest .blocks ≡ 2 → r .rest .block < 2
-      → framedAt 2 (needsRoom 2 img r f) (r .rest) x f ≡ framedTwo img r x f
+      → frameWork 2 img r x f .last ≡ frameTwo img r x f .last
   pub steps : (img : List ℕ) (r : Record) → r .rest .blocks ≡ 2 → stepOn 2 img r ≡ stepTwo (r .phase) img r

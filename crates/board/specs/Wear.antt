@@ -14,6 +14,7 @@ use Rattle.board.specs.declared.Phase.the-variants.{Unmounted, Idle, Bus
 use Rattle.board.specs.declared.Record.{Record}
 use Rattle.board.specs.Record.{allowed, Out}
 use Rattle.board.specs.Exec.{Machine, Call, request, step, mount, format}
+use Rattle.board.specs.Plan.{Work}
 use Rattle.board.specs.Claim.{formatted}
 use Rattle.board.specs.Demand1.{Rests}
 use Rattle.board.specs.Promise.{Job, Promise}
@@ -22,9 +23,9 @@ use Rattle.board.specs.Promise.{Job, Promise}
 
 -- what is left to do after a request or a mount: a call that answers more has its job's steps to do; any other leaves what was left, nothing where a
 -- mount is begun in no job
-pub data LeavesToDo (N : ℕ) (m : Machine) (img : List ℕ) (r : Record) (left : List Step) (c : Call) (after : List Step) : Type 0 where
-  begins : (z : Record) → m img r c .answer ≡ More → Job N img r c after z → LeavesToDo N m img r left c after
-  goes-on : (m img r c .answer ≡ More → ⊥) → after ≡ left → LeavesToDo N m img r left c after
+pub data LeavesToDo (N : ℕ) (m : Machine) (img : List ℕ) (r : Record) (left : List Step) (c : Call) : List Step → Type 0 where
+  begins : (w : Work) → m img r c .answer ≡ More → Job N img r c w → LeavesToDo N m img r left c (w .steps)
+  goes-on : (m img r c .answer ≡ More → ⊥) → LeavesToDo N m img r left c left
 
 -- the calls, each given what the last gave back, do the steps xs: "each step call then does the next step"; a step call with nothing left to do and
 -- every other call do none. A format ends the run.

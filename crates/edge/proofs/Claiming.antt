@@ -111,7 +111,8 @@ agree N a img b k u l q = by (recordIn b .phase) refl
           idle = λ i. let d : Busy s ≡ Idle = sym e ∙ i in let z : _≡_ {A = ℕ} 0 1 = cc in absurd (omega arith);
           in-job = λ j.
               subst (Ended N (enterStep k Done)) (sym (run-exact N img b n 0 l))
-              (ends N n (f .plan) img b k u a (f .last) l (f .follows) (f .rests) (short-most N (sizeOf N img) (f .plan) a (f .short)) (ap answerIn e) q);
+              (ends N n (f .work .steps) img b k u a (f .work .last) l (f .follows) (f .rests)
+              (short-most N (sizeOf N img) (f .work .steps) a (f .short)) (ap answerIn e) q);
         }
 
 -- ---- what can happen

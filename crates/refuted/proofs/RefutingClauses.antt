@@ -97,8 +97,8 @@ waits-long p =
   where
     go : Finishes 2 late (putEmpty 7) (putting .image) (putting .board) → ⊥
     go y =
-        unfinished 2 late 384 (putting .image) (putting .board) (y .plan) (y .last) (late-put .busy) (y .follows) (y .rests)
-        (subst (λ (n : ℕ). length (y .plan) ≤ n) (late-put .size) (y .short))
+        unfinished 2 late 384 (putting .image) (putting .board) (y .work .steps) (y .work .last) (late-put .busy) (y .follows) (y .rests)
+        (subst (λ (n : ℕ). length (y .work .steps) ≤ n) (late-put .size) (y .short))
 
 -- ---- a format that erases the store's block first
 

@@ -1,7 +1,7 @@
 -- Wrong stores. Each differs from the machine in one thing, and only on images that the bench doesn't have, so that no row
 -- sees it. None keeps the promise: page Refuted. The runs that tell are in WrongRuns.
 use mathlib.Core.List.{List, [], _∷_, _++_}
-use mathlib.Core.Bool.{Bool, false, _&&_, _||_, cond}
+use mathlib.Core.Bool.{Bool, _&&_, _||_, cond}
 use Prim.Native.Nat.{ℕ, suc, _+_, _-_, _%_}
 use lib.Dec.{eqb, ltb, leb}
 use lib.ListN.{length, take, drop, getD, set, replicate}
@@ -22,13 +22,13 @@ use Rattle.board.specs.declared.Phase.the-variants.{Unmounted, Idle, Busy}
 use Rattle.board.specs.declared.Job.{Job}
 use Rattle.board.specs.declared.Cursor.{Cursor}
 use Rattle.board.specs.declared.Record.{Record}
-use Rattle.board.specs.Record.{allowed, unmounted, cursor, inStage, Stretch, Out, out, refuse, answerOf}
+use Rattle.board.specs.Record.{allowed, unmounted, idle, cursor, inStage, Stretch, Out, out, refuse, answerOf}
 use Rattle.board.specs.Step.{begin}
-use Rattle.board.specs.Mount.{allFound, anyForeign, Store, stores, newest, equalTimes, noneValid, tiedTimes, rests, mountJob, mountAt, numbersBut, found}
+use Rattle.board.specs.Mount.{allFound, anyForeign, Store, stores, newest, equalTimes, noneValid, tiedTimes, storeAt, mountJob, mountAt, numbersBut, found}
 use Rattle.board.specs.Queue.{held}
 use Rattle.board.specs.Table.{isNone}
 use Rattle.board.specs.Exec.{Call, request, step, mount, format, Family, exec}
-use Rattle.board.specs.Plan.{onBlock, mountedAt}
+use Rattle.board.specs.Plan.{onBlock}
 
 -- ---- how a store is made wrong
 
@@ -246,7 +246,7 @@ losesAll = mounts (λ N img o. byAnswer (o .answer) o (refuse refusal.NoStore im
 abbrev pub asItIs : ℕ → List ℕ → Out → List Store → Out
 asItIs N img o [] = o
 asItIs N img o (x ∷ []) =
-    let r : Record = mountedAt N rests (length img - 1) x in cond (isNone (held N img r)) o (out Done img r [])
+    let r : Record = idle (storeAt N (length img - 1) x) in cond (isNone (held N img r)) o (out Done img r [])
 asItIs N img o (x ∷ y ∷ ys) = o
 
 -- "A mount drops all pending changes, as a cut does"
