@@ -11,6 +11,7 @@ use Rattle.frame.specs.declared.Fault.{Fault}
 use Rattle.frame.specs.declared.ObjectId.{ObjectId}
 use Rattle.frame.specs.Frame.{Frame}
 use Rattle.journal.specs.Replay.{lookup, replay}
+use Rattle.journal.specs.Block.{Journal}
 use Rattle.journal.specs.Laws.{TakenFrom}
 use Rattle.journal.proofs.Sources.{place-exact}
 use Rattle.wire.specs.declared.Answer.{Answer}
@@ -25,7 +26,6 @@ use Rattle.board.specs.declared.Phase.the-variants.{Unmounted, Idle, Bus
 use Rattle.board.specs.declared.Record.{Record}
 use Rattle.board.specs.Record.{Stretch, Out, answerIn, answerOf}
 use Rattle.board.specs.Demand2.{Accepted}
-use Rattle.board.specs.Queue.{Held}
 use Rattle.board.specs.Table.{Line, Exactly, InJob}
 use Rattle.board.specs.Promise.{Tells, Stands, HandsBack}
 
@@ -173,7 +173,7 @@ some-value e = cc
 taken-value : {fs : List Frame} {i : ObjectId} {v : List ℕ} {at : ℕ} → TakenFrom fs i v at → lookup i (replay fs .objects) ≡ some v
 taken-value {fs} {i} {v} y = ap (λ (gs : List Frame). lookup i (replay gs .objects)) (y .stands) ∙ y .taken v
 
-same-stands : {N : ℕ} (img : List ℕ) (r : Record) (x : Held) (i : ObjectId) (st su : Stretch) → Stands N img r x i st → Stands N img r x i su → st ≡ su
+same-stands : {N : ℕ} (img : List ℕ) (r : Record) (x : Journal) (i : ObjectId) (st su : Stretch) → Stands N img r x i st → Stands N img r x i su → st ≡ su
 same-stands {N} img r x i st su y z =
     let e : y .value ≡ z .value = some-value (sym (taken-value (y .from)) ∙ taken-value (z .from)) in
     let g : TakenFrom (x .frames) i (z .value) (y .at) = subst (λ (v : List ℕ). TakenFrom (x .frames) i v (y .at)) e (y .from) in
@@ -183,7 +183,7 @@ same-stands {N} img r x i st su y z =
     stretchAt : ℕ → ℕ → Stretch
     stretchAt a n = record { at = a; size = n }
 
-pub same-stretch : (N : ℕ) (img : List ℕ) (r : Record) (x : Held) (q : Request) (st su : Stretch) → HandsBack N img r x q st → HandsBack N img r x q su
+pub same-stretch : (N : ℕ) (img : List ℕ) (r : Record) (x : Journal) (q : Request) (st su : Stretch) → HandsBack N img r x q st → HandsBack N img r x q su
     → st ≡ su
 same-stretch N img r x (Put i) st su e f = e ∙ sym f
 same-stretch N img r x (Delete i) st su e f = e ∙ sym f

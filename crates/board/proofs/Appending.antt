@@ -17,15 +17,15 @@ use Rattle.flash.proofs.Offsets.{Below, below-writes, Given, given-writes, give
 use Rattle.frame.specs.Frame.{Frame, encode, frameLen, encodeAll, MayStand, OfHost, nextOf}
 use Rattle.frame.specs.Reader.{clean, cut}
 use Rattle.frame.proofs.First.{length-encode, length-all, bytes-encode, stands-any, stands-append, encode-snoc, total-snoc, scan-blank, scan-cut}
-use Rattle.journal.specs.Block.{validData, header}
-use Rattle.journal.specs.Replay.{Object, nextState, replay}
+use Rattle.journal.specs.Block.{Journal, validData, header, journal}
+use Rattle.journal.specs.Replay.{Object, nextState}
 use Rattle.journal.proofs.Blocks.{layout-size}
 use Rattle.journal.proofs.Replaying.{replay-snoc}
 use Rattle.journal.proofs.States.{Contents}
 use Rattle.journal.proofs.Building.{Lands}
 use Rattle.board.specs.declared.Rest.{Rest}
 use Rattle.board.specs.Record.{landing, idle}
-use Rattle.board.specs.Mount.{endOf}
+use Rattle.board.specs.Mount.{endOf, replayOf}
 use Rattle.board.specs.Plan.{onBlock, appendPlan}
 use Rattle.board.proofs.Invariant.{StepLands, Safe, Guard}
 use Rattle.board.proofs.Images.{length-all-steps, block-writes}
@@ -34,84 +34,89 @@ use Rattle.board.proofs.Current.{Alone, After, Roomy, Keeps, block-long
 
 -- ---- bytes after the last frame
 
-front-of : ℕ → List Frame → List ℕ
-front-of t fs = header t validData ++ encodeAll fs
+front-of : Journal → List ℕ
+front-of w = header (w .time) validData ++ encodeAll (w .frames)
 
-length-front : (t : ℕ) (fs : List Frame) → length (front-of t fs) ≡ endOf fs
+length-front : (w : Journal) → length (front-of w) ≡ endOf w
 unfolding front-of
-length-front t fs = omega (arith, length-all fs)
+length-front w = omega (arith, length-all (w .frames))
 
 -- a block with a clean tail
-clean-block : {b : List ℕ} {t : ℕ} {fs : List Frame} → Contents b t fs clean → b ≡ front-of t fs ++ replicate (length b - endOf fs) 255
+clean-block : {b : List ℕ} {w : Journal} → Contents b w → w .tail ≡ clean → b ≡ front-of w ++ replicate (length b - endOf w) 255
 unfolding front-of
-clean-block {b} {t} {fs} y =
-    let m : length (y .rest) ≡ length b - endOf fs = omega (arith, layout-size (y .layout)) in
+clean-block {b} {w} y c =
+    let m : length (y .rest) ≡ length b - endOf w = omega (arith, layout-size (y .layout)) in
     y .layout .is
-    ∙ ap (λ (l : List ℕ). header t validData ++ (encodeAll fs ++ l)) (y .clean-is refl ∙ ap (λ (n : ℕ). replicate n 255) m)
+    ∙ ap (λ (l : List ℕ). header (w .time) validData ++ (encodeAll (w .frames) ++ l)) (y .clean-is c ∙ ap (λ (n : ℕ). replicate n 255) m)
 
-tail-ff : {b : List ℕ} {t : ℕ} {fs : List Frame} → Contents b t fs clean → (i : ℕ) → endOf fs + i < length b → getD b (endOf fs + i) 0 ≡ 255
-tail-ff {b} {t} {fs} y i h =
-    let m : ℕ = length b - endOf fs in
-    let e : endOf fs + i ≡ length (front-of t fs) + i = omega (arith, length-front t fs) in
-    ap₂ (λ (l : List ℕ) (n : ℕ). getD l n 0) (clean-block y) e ∙ getD-append-add (front-of t fs) (replicate m 255) i 0 ∙ getD-replicate m i 255 0 (omega arith)
+tail-ff : {b : List ℕ} {w : Journal} → Contents b w → w .tail ≡ clean → (i : ℕ) → endOf w + i < length b → getD b (endOf w + i) 0 ≡ 255
+tail-ff {b} {w} y c i h =
+    let m : ℕ = length b - endOf w in
+    let e : endOf w + i ≡ length (front-of w) + i = omega (arith, length-front w) in
+    ap₂ (λ (l : List ℕ) (n : ℕ). getD l n 0) (clean-block y c) e ∙ getD-append-add (front-of w) (replicate m 255) i 0 ∙ getD-replicate m i 255 0 (omega arith)
 
-written : {b : List ℕ} {t : ℕ} {fs : List Frame} → Contents b t fs clean → (bs : List ℕ) → Bytes bs → endOf fs + length bs ≤ length b
-    → writeAll b (writes (endOf fs) bs) ≡ header t validData ++ (encodeAll fs ++ (bs ++ replicate (length b - (endOf fs + length bs)) 255))
+written : {b : List ℕ} {w : Journal} → Contents b w → w .tail ≡ clean → (bs : List ℕ) → Bytes bs → endOf w + length bs ≤ length b
+    → writeAll b (writes (endOf w) bs) ≡ header (w .time) validData ++ (encodeAll (w .frames) ++ (bs ++ replicate (length b - (endOf w + length bs)) 255))
 unfolding front-of
-written {b} {t} {fs} y bs g h =
-    let n : ℕ = length b - (endOf fs + length bs) in
-    let e : length b - endOf fs ≡ length bs + n = omega arith in
-    let is : b ≡ front-of t fs ++ (replicate (length bs + n) 255 ++ []) =
-    clean-block y ∙ ap (λ (m : ℕ). front-of t fs ++ replicate m 255) e ∙ simp append-nil in
-    ap (λ (l : List ℕ). writeAll l (writes (endOf fs) bs)) is
-    ∙ write-bytes (endOf fs) (front-of t fs) [] n bs (sym (length-front t fs)) g ∙ simp (append-nil, append-assoc)
+written {b} {w} y c bs g h =
+    let n : ℕ = length b - (endOf w + length bs) in
+    let e : length b - endOf w ≡ length bs + n = omega arith in
+    let is : b ≡ front-of w ++ (replicate (length bs + n) 255 ++ []) =
+    clean-block y c ∙ ap (λ (m : ℕ). front-of w ++ replicate m 255) e ∙ simp append-nil in
+    ap (λ (l : List ℕ). writeAll l (writes (endOf w) bs)) is
+    ∙ write-bytes (endOf w) (front-of w) [] n bs (sym (length-front w)) g ∙ simp (append-nil, append-assoc)
 
 -- ---- what the block holds meanwhile and after
 
 -- the frame and where it goes: at the end of a block of s bytes
-pub record Fits (s : ℕ) (fs : List Frame) (f : Frame) : Type 0 where
+pub record Fits (s : ℕ) (w : Journal) (f : Frame) : Type 0 where
   pub host : OfHost f
   pub legal : MayStand 256 f
-  pub short : endOf fs + frameLen f ≤ s
+  pub short : endOf w + frameLen f ≤ s
 
 -- some of its bytes: the tail is torn
-torn-contents : {b : List ℕ} {t : ℕ} {fs : List Frame} → Contents b t fs clean → (f : Frame) → Fits (length b) fs f → (j : ℕ) → 1 ≤ j → j < frameLen f
-    → Contents (writeAll b (writes (endOf fs) (take j (encode f)))) t fs (cut (frameLen f))
-torn-contents {b} {t} {fs} y f x j lo hi =
+torn-contents : {b : List ℕ} {w : Journal} → Contents b w → w .tail ≡ clean → (f : Frame) → Fits (length b) w f → (j : ℕ) → 1 ≤ j → j < frameLen f
+    → Contents (writeAll b (writes (endOf w) (take j (encode f)))) (journal (w .time) (w .frames) (cut (frameLen f)))
+torn-contents {b} {w} y c f x j lo hi =
     let bs : List ℕ = take j (encode f) in
     let e : length bs ≡ j = length-take-le j (encode f) (omega (arith, length-encode f)) in
-    let n : ℕ = length b - (endOf fs + length bs) in
+    let n : ℕ = length b - (endOf w + length bs) in
     record {
       rest = bs ++ replicate n 255;
       layout = record {
-        is = written y bs (bytes-take j (encode f) (bytes-encode 256 f (x .legal))) (omega (arith, x .short));
+        is = written y c bs (bytes-take j (encode f) (bytes-encode 256 f (x .legal))) (omega (arith, x .short));
         stands = y .layout .stands;
         time-lo = y .layout .time-lo;
         time-hi = y .layout .time-hi;
         size = refl;
       };
-      reads = scan-cut (nextOf 0 fs) (endOf fs) f j n (x .host) (stands-any 256 (nextOf 0 fs) f (x .host) (x .legal)) lo hi (omega (arith, x .short));
+      reads = scan-cut (nextOf 0 (w .frames)) (endOf w) f j n (x .host) (stands-any 256 (nextOf 0 (w .frames)) f (x .host) (x .legal)) lo hi
+          (omega (arith, x .short));
       okay = tt;
       clean-is = λ q. let z : _≡_ {A = ℕ} 0 1 = cc in absurd (omega arith);
     }
 
 -- all of them: one frame more
-whole-contents : {b : List ℕ} {t : ℕ} {fs : List Frame} → Contents b t fs clean → (f : Frame) → Fits (length b) fs f
-    → Contents (writeAll b (writes (endOf fs) (encode f))) t (fs ++ (f ∷ [])) clean
-whole-contents {b} {t} {fs} y f x =
-    let n : ℕ = length b - (endOf fs + length (encode f)) in
+abbrev with-frame : Journal → Frame → Journal
+with-frame w f = journal (w .time) (w .frames ++ (f ∷ [])) clean
+
+whole-contents : {b : List ℕ} {w : Journal} → Contents b w → w .tail ≡ clean → (f : Frame) → Fits (length b) w f
+    → Contents (writeAll b (writes (endOf w) (encode f))) (with-frame w f)
+whole-contents {b} {w} y c f x =
+    let fs : List Frame = w .frames in
+    let n : ℕ = length b - (endOf w + length (encode f)) in
     record {
       rest = replicate n 255;
       layout = record {
-        is = written y (encode f) (bytes-encode 256 f (x .legal)) (omega (arith, x .short, length-encode f))
-            ∙ ap (λ (l : List ℕ). header t validData ++ l) (sym (append-assoc (encodeAll fs) (encode f) (replicate n 255))
+        is = written y c (encode f) (bytes-encode 256 f (x .legal)) (omega (arith, x .short, length-encode f))
+            ∙ ap (λ (l : List ℕ). header (w .time) validData ++ l) (sym (append-assoc (encodeAll fs) (encode f) (replicate n 255))
             ∙ ap (λ (l : List ℕ). l ++ replicate n 255) (sym (encode-snoc fs f)));
         stands = stands-append 0 fs (f ∷ []) (y .layout .stands) (stands-any 256 (nextOf 0 fs) f (x .host) (x .legal), tt);
         time-lo = y .layout .time-lo;
         time-hi = y .layout .time-hi;
         size = refl;
       };
-      reads = scan-blank (nextOf 0 (fs ++ (f ∷ []))) (endOf (fs ++ (f ∷ []))) n;
+      reads = scan-blank (nextOf 0 (fs ++ (f ∷ []))) (endOf (with-frame w f)) n;
       okay = tt;
       clean-is = λ q. ap (λ (m : ℕ). replicate m 255) (sym (length-replicate n 255));
     }
@@ -129,59 +134,59 @@ lands-fresh l ws q d f g h e =
       after = program-same (writeAll l (take q ws)) (w .at) (w .byte) ∙ ap (λ (x : ℕ). bitAnd x (w .byte)) was ∙ and-ff (w .byte) (given-at ws q d g h);
     }
 
-abbrev frameWrites : List Frame → Frame → List Write
-frameWrites fs f = writes (endOf fs) (encode f)
+abbrev frameWrites : Journal → Frame → List Write
+frameWrites w f = writes (endOf w) (encode f)
 
-module _ {N : ℕ} {s k t : ℕ} {img : List ℕ} {fs : List Frame} (a : Alone N s img k t fs clean) (f : Frame) (x : Fits s fs f) where
+module _ {N : ℕ} {s k : ℕ} {img : List ℕ} {w : Journal} (a : Alone N s img k w) (c : w .tail ≡ clean) (f : Frame) (x : Fits s w f) where
   long : length (block s k img) ≡ s
   long = block-long k (a .sized) (a .there)
 
-  fits : Fits (length (block s k img)) fs f
-  fits = subst (λ (n : ℕ). Fits n fs f) (sym long) x
+  fits : Fits (length (block s k img)) w f
+  fits = subst (λ (n : ℕ). Fits n w f) (sym long) x
 
-  below : (j : ℕ) → Below s (writes (endOf fs) (take j (encode f)))
+  below : (j : ℕ) → Below s (writes (endOf w) (take j (encode f)))
   below j =
-      below-writes s (endOf fs) (take j (encode f)) (omega (arith, length-take j (encode f), length-encode f, x .short))
+      below-writes s (endOf w) (take j (encode f)) (omega (arith, length-take j (encode f), length-encode f, x .short))
 
   -- the image with j bytes of the frame
-  part-is : (j : ℕ) → onBlock k (take j (frameWrites fs f)) ≡ onBlock k (writes (endOf fs) (take j (encode f)))
-  part-is j = ap (onBlock k) (take-writes (endOf fs) j (encode f))
+  part-is : (j : ℕ) → onBlock k (take j (frameWrites w f)) ≡ onBlock k (writes (endOf w) (take j (encode f)))
+  part-is j = ap (onBlock k) (take-writes (endOf w) j (encode f))
 
-  pub append-lands : Each s (StepLands s) (appendPlan k (endOf fs) f) img
-  append-lands = each-writes s k (StepLands s) (frameWrites fs f) (write 0 0) img go
+  pub append-lands : Each s (StepLands s) (appendPlan k (endOf w) f) img
+  append-lands = each-writes s k (StepLands s) (frameWrites w f) (write 0 0) img go
     where
-      go : (j : ℕ) → j < length (frameWrites fs f)
-          → Lands (block s k (applyAll s (onBlock k (take j (frameWrites fs f))) img)) (getD (frameWrites fs f) j (write 0 0))
+      go : (j : ℕ) → j < length (frameWrites w f)
+          → Lands (block s k (applyAll s (onBlock k (take j (frameWrites w f))) img)) (getD (frameWrites w f) j (write 0 0))
       go j h =
-          let l : j < length (encode f) = omega (arith, length-writes (endOf fs) (encode f)) in
-          let place : getD (frameWrites fs f) j (write 0 0) .at ≡ endOf fs + j = ap (λ (w : Write). w .at) (writes-at (endOf fs) (encode f) j (write 0 0) l) in
-          let was : getD (block s k img) (endOf fs + j) 0 ≡ 255 = tail-ff (a .contents) j (omega (arith, fits .short, length-encode f)) in
-          subst (λ (b : List ℕ). Lands b (getD (frameWrites fs f) j (write 0 0)))
+          let l : j < length (encode f) = omega (arith, length-writes (endOf w) (encode f)) in
+          let place : getD (frameWrites w f) j (write 0 0) .at ≡ endOf w + j = ap (λ (q : Write). q .at) (writes-at (endOf w) (encode f) j (write 0 0) l) in
+          let was : getD (block s k img) (endOf w + j) 0 ≡ 255 = tail-ff (a .contents) c j (omega (arith, fits .short, length-encode f)) in
+          subst (λ (b : List ℕ). Lands b (getD (frameWrites w f) j (write 0 0)))
           (sym
           (ap (λ (q : List Step). block s k (applyAll s q img)) (part-is j)
-          ∙ block-writes s k (writes (endOf fs) (take j (encode f))) img (below j)
-          ∙ ap (writeAll (block s k img)) (sym (take-writes (endOf fs) j (encode f)))))
-          (lands-fresh (block s k img) (frameWrites fs f) j (write 0 0) (fresh-stretch (endOf fs) (encode f))
-          (given-writes (endOf fs) (encode f) (bytes-encode 256 f (x .legal))) h (ap (λ (n : ℕ). getD (block s k img) n 0) place ∙ was))
+          ∙ block-writes s k (writes (endOf w) (take j (encode f))) img (below j)
+          ∙ ap (writeAll (block s k img)) (sym (take-writes (endOf w) j (encode f)))))
+          (lands-fresh (block s k img) (frameWrites w f) j (write 0 0) (fresh-stretch (endOf w) (encode f))
+          (given-writes (endOf w) (encode f) (bytes-encode 256 f (x .legal))) h (ap (λ (n : ℕ). getD (block s k img) n 0) place ∙ was))
 
-  pub append-guard : {os : List Object} (u : Bool) → Keeps s (replay fs) os → Each s (Guard N s os u) (appendPlan k (endOf fs) f) img
+  pub append-guard : {os : List Object} (u : Bool) → Keeps s (replayOf w) os → Each s (Guard N s os u) (appendPlan k (endOf w) f) img
   unfolding applyAll
-  append-guard {os} u p = each-writes s k (Guard N s os u) (frameWrites fs f) (write 0 0) img (λ j h. (go j h, tt))
+  append-guard {os} u p = each-writes s k (Guard N s os u) (frameWrites w f) (write 0 0) img (λ j h. (go j h, tt))
     where
-      go : (j : ℕ) → j < length (frameWrites fs f) → Safe N s (applyAll s (onBlock k (take j (frameWrites fs f))) img) os u
+      go : (j : ℕ) → j < length (frameWrites w f) → Safe N s (applyAll s (onBlock k (take j (frameWrites w f))) img) os u
       go zero h = alone-safe u a p
       go (suc j) h =
           subst (λ (q : List Step). Safe N s (applyAll s q img) os u) (sym (part-is (suc j)))
-          (alone-safe u (alone-written (writes (endOf fs) (take (suc j) (encode f))) a (below (suc j))
-          (torn-contents (a .contents) f fits (suc j) (omega arith) (omega (arith, length-writes (endOf fs) (encode f), length-encode f)))) p)
+          (alone-safe u (alone-written (writes (endOf w) (take (suc j) (encode f))) a (below (suc j))
+          (torn-contents (a .contents) c f fits (suc j) (omega arith) (omega (arith, length-writes (endOf w) (encode f), length-encode f)))) p)
 
-  pub append-alone : Alone N s (applyAll s (appendPlan k (endOf fs) f) img) k t (fs ++ (f ∷ [])) clean
+  pub append-alone : Alone N s (applyAll s (appendPlan k (endOf w) f) img) k (with-frame w f)
   append-alone =
-      alone-written (frameWrites fs f) a (below-writes s (endOf fs) (encode f) (omega (arith, length-encode f, x .short))) (whole-contents (a .contents) f fits)
+      alone-written (frameWrites w f) a (below-writes s (endOf w) (encode f) (omega (arith, length-encode f, x .short))) (whole-contents (a .contents) c f fits)
 
-  pub append-ends : (z : Rest) → z .blocks ≡ N → length img ≡ suc (z .last) → Roomy s (nextState (replay fs) f)
-      → After N s (applyAll s (appendPlan k (endOf fs) f) img) (idle (landing z k (endOf fs + frameLen f))) (nextState (replay fs) f)
+  pub append-ends : (z : Rest) → z .blocks ≡ N → length img ≡ suc (z .last) → Roomy s (nextState (replayOf w) f)
+      → After N s (applyAll s (appendPlan k (endOf w) f) img) (idle (landing z k (endOf w + frameLen f))) (nextState (replayOf w) f)
   append-ends z b e room =
-      let end : endOf (fs ++ (f ∷ [])) ≡ endOf fs + frameLen f = omega (arith, total-snoc fs f) in
-      subst (λ (n : ℕ). After N s (applyAll s (appendPlan k (endOf fs) f) img) (idle (landing z k n)) (nextState (replay fs) f)) end
-      (alone-after z (nextState (replay fs) f) append-alone b (length-all-steps s (appendPlan k (endOf fs) f) img ∙ e) (replay-snoc fs f) room)
+      let end : endOf (with-frame w f) ≡ endOf w + frameLen f = omega (arith, total-snoc (w .frames) f) in
+      subst (λ (n : ℕ). After N s (applyAll s (appendPlan k (endOf w) f) img) (idle (landing z k n)) (nextState (replayOf w) f)) end
+      (alone-after z (nextState (replayOf w) f) append-alone refl b (length-all-steps s (appendPlan k (endOf w) f) img ∙ e) (replay-snoc (w .frames) f) room)

@@ -8,8 +8,8 @@ use lib.ListN.{length}
 use Rattle.flash.specs.Flash.{sizeOf, within}
 use Rattle.frame.specs.declared.Host.{Host}
 use Rattle.frame.specs.Frame.{hostMax, put, delete, Frame}
-use Rattle.journal.specs.Replay.{replay, lookup}
-use Rattle.journal.specs.Block.{lastTime}
+use Rattle.journal.specs.Replay.{lookup}
+use Rattle.journal.specs.Block.{Journal, lastTime}
 use Rattle.journal.specs.Room.{noRoom}
 use Rattle.wire.specs.declared.Answer.{Answer}
 use Rattle.wire.specs.declared.Answer.the-variants.{Done, More, Refused}
@@ -26,7 +26,8 @@ use Rattle.board.specs.declared.Record.{Record}
 use Rattle.board.specs.Record.{allowed}
 use Rattle.board.specs.Step.{sameShape, action}
 use Rattle.board.specs.Mount.{allFound, anyForeign, stores, Store, equalTimes, newest, upkeep, transfers, Found, noneValid, lowestTied, tiedTimes}
-use Rattle.board.specs.Queue.{Held, held, needsRoom}
+use Rattle.board.specs.Mount.{replayOf, timeOf}
+use Rattle.board.specs.Queue.{held, needsRoom}
 use Rattle.board.specs.Exec.{Call, request, step, mount, format}
 use Rattle.board.specs.Table.{isNone, isBusy, frameFor}
 
@@ -57,12 +58,12 @@ isMalformed Malformed = true
 isMalformed (Is q) = false
 
 -- 8: "read: no such settled object"; 9: "log: reply under 14 bytes"
-abbrev pub noObject : Held → Request → Bool
+abbrev pub noObject : Journal → Request → Bool
 noObject x (Put i) = false
 noObject x (Delete i) = false
 noObject x Commit = false
 noObject x Abort = false
-noObject x (Read i) = isNone (lookup i (replay (x .frames) .objects))
+noObject x (Read i) = isNone (lookup i (replayOf x .objects))
 noObject x (Log p) = false
 
 abbrev pub shortReply : List ℕ → Request → Bool
@@ -74,27 +75,27 @@ shortReply reply (Read i) = false
 shortReply reply (Log p) = ltb (length reply) pageLen
 
 -- 7: "the room rule". "Commit and abort are never refused for room."
-abbrev pub roomRule : ℕ → Host → List ℕ → Held → Request → Bool
-roomRule size h m x (Put i) = noRoom size (replay (x .frames)) h (put i (valueIn m))
-roomRule size h m x (Delete i) = noRoom size (replay (x .frames)) h (delete i)
+abbrev pub roomRule : ℕ → Host → List ℕ → Journal → Request → Bool
+roomRule size h m x (Put i) = noRoom size (replayOf x) h (put i (valueIn m))
+roomRule size h m x (Delete i) = noRoom size (replayOf x) h (delete i)
 roomRule size h m x Commit = false
 roomRule size h m x Abort = false
 roomRule size h m x (Read i) = false
 roomRule size h m x (Log p) = false
 
 -- 6: "a transfer is needed .. at time 4,294,967,295"
-abbrev pub worn : ℕ → List ℕ → Record → Held → Option Frame → Bool
+abbrev pub worn : ℕ → List ℕ → Record → Journal → Option Frame → Bool
 worn N img r x none = false
 worn N img r x (some f) = needsRoom N img r f && eqb (x .time) lastTime
 
 -- 8, 9, 7, 6
-abbrev pub heldChecks : ℕ → List ℕ → Record → Host → List ℕ → List ℕ → Held → Request → List Check
+abbrev pub heldChecks : ℕ → List ℕ → Record → Host → List ℕ → List ℕ → Journal → Request → List Check
 heldChecks N img r h m reply x q =
     check refusal.NoObject (noObject x q) ∷ check refusal.ShortReply (shortReply reply q)
     ∷ check refusal.NoRoom (roomRule (sizeOf N img) h m x q) ∷ check refusal.Worn (worn N img r x (frameFor h m x q)) ∷ []
 
 -- where 11 or 1 holds no later line can be the first
-abbrev pub laterChecks : ℕ → List ℕ → Record → Host → List ℕ → List ℕ → Option Held → Parsed → List Check
+abbrev pub laterChecks : ℕ → List ℕ → Record → Host → List ℕ → List ℕ → Option Journal → Parsed → List Check
 laterChecks N img r h m reply none p = []
 laterChecks N img r h m reply (some x) Malformed = []
 laterChecks N img r h m reply (some x) (Is q) = heldChecks N img r h m reply x q
@@ -127,7 +128,7 @@ unclear xs (y ∷ ys) = tiedTimes (lowestTied (y ∷ ys))
 -- 6, "by a mount too": of the valid halves the newest is current
 abbrev pub wornStore : List Store → Bool
 wornStore [] = false
-wornStore (x ∷ xs) = let y : Store = newest x xs in transfers (upkeep y) && eqb (y .time) lastTime
+wornStore (x ∷ xs) = let y : Store = newest x xs in transfers (upkeep y) && eqb (timeOf y) lastTime
 
 -- 4, 2, 3, 6
 abbrev pub mountChecks : ℕ → List ℕ → List Check

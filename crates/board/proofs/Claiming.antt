@@ -9,10 +9,10 @@ use lib.ListN.{length}
 use Rattle.flash.specs.Bytes.{Bytes}
 use Rattle.flash.specs.Flash.{applyAll, block, sizeOf, withBlock}
 use Rattle.frame.specs.Frame.{deleteLen, endLen, total}
-use Rattle.journal.specs.Replay.{Object, State, state, replay, listOf, settledOnly}
+use Rattle.journal.specs.Replay.{Object, State, state, listOf, settledOnly}
 use Rattle.journal.specs.Block.{blockState}
 use Rattle.journal.proofs.Room.{kept, kept-none, used-kept}
-use Rattle.journal.proofs.Places.{Journal}
+use Rattle.journal.proofs.Places.{Standing}
 use Rattle.journal.proofs.States.{contents-valid}
 use Rattle.wire.specs.declared.Answer.{Answer}
 use Rattle.wire.specs.declared.Answer.the-variants.{Done, More, Refused}
@@ -23,7 +23,7 @@ use Rattle.board.specs.declared.Phase.the-variants.{Unmounted, Idle, Bus
 use Rattle.board.specs.declared.Record.{Record}
 use Rattle.board.specs.Record.{Out, out, refuse, unmounted, answerOf, allowed}
 use Rattle.board.specs.Step.{enterWipe, begin}
-use Rattle.board.specs.Mount.{Store, allFound, wipeList, mountJob, mountOn, formatJob, formatOn}
+use Rattle.board.specs.Mount.{Store, allFound, wipeList, mountJob, mountOn, formatJob, formatOn, replayOf, timeOf}
 use Rattle.board.specs.Exec.{Call, request, step, mount, format, exec}
 use Rattle.board.specs.Plan.{formatWork, mountWork}
 use Rattle.board.specs.Table.{InJob as JobPhase}
@@ -40,7 +40,7 @@ use Rattle.board.proofs.Keeping.{Working, inv-unmounted, inv-idle, inv-
 use Rattle.board.proofs.Accepted.{follows-format, follows-mount}
 use Rattle.board.proofs.Blocks.{wiped-besides}
 use Rattle.board.proofs.Lengths.{length-format, format-some}
-use Rattle.board.proofs.Replies.{journal-of}
+use Rattle.board.proofs.Replies.{standing-of}
 use Rattle.board.proofs.Formatting.{format-safe, format-ends}
 use Rattle.board.proofs.Deciding.{Taken, StoreThere, InTime, Outcome, worn-out, begins, mount-outcome, MountSafe, nothing-there, store-there, mount-safe}
 use Rattle.board.proofs.Mounting.{mount-keeps, mount-ends}
@@ -54,13 +54,13 @@ use Rattle.frame.specs.declared.Fault.{Fault}
 idle-agrees : {N : ℕ} {s : ℕ} {img : List ℕ} {r : Record} {b : Book} → Sized N s img → IdleBook N s img r b → IdleAgrees N img r b
 idle-agrees {N} {s} {img} {r} {b} z y =
     record {
-      time = y .ready .time;
-      frames = y .ready .frames;
+      journal = y .ready .journal;
       is-valid = ap (λ (n : ℕ). blockState (block n (r .rest .block) img)) (size-of z)
           ∙ ap (λ (q : Record). blockState (block s (q .rest .block) img)) (y .ready .is) ∙ contents-valid (y .ready .contents);
+      is-clean = y .ready .is-clean;
       objects = y .objects;
       lists = y .lists;
-      room = λ e. omega (arith, size-of z, y .spare, kept-none (replay (y .ready .frames)) e);
+      room = λ e. omega (arith, size-of z, y .spare, kept-none (replayOf (y .ready .journal)) e);
     }
 
 agrees : {N : ℕ} {s : ℕ} {img : List ℕ} {r : Record} {b : Book} {u : Bool} (a : Call) → Inv N s img r b u → Ends N (exec N) a img r
@@ -151,16 +151,16 @@ accepted-says o (inr e) =
     }
 
 module _ {N : ℕ} {s : ℕ} {img : List ℕ} (b : Book) {u : Bool} (v : Bare N s img (b .objects) u) where
-  mount-begun : (x : Store) → Taken N s img x → StoreThere s img x → Keeps s (replay (x .frames)) (b .objects) → Lessers N s img (x .time) (x .number)
+  mount-begun : (x : Store) → Taken N s img x → StoreThere s img x → Keeps s (replayOf (x .journal)) (b .objects) → Lessers N s img (timeOf x) (x .number)
       → InTime x → MountKeeps N s img b u (begin img [] (mountJob N img x (wipeList (x .number) (allFound N img))))
   mount-begun x y h k f t =
       let ks : List ℕ = wipeList (x .number) (allFound N img) in
       let g : Record = enterWipe (mountJob N img x ks) in
       let last : Record = mountWork N img x .last in
-      let a : After N s (applyAll s (mountWork N img x .steps) img) last (settledOnly (replay (x .frames))) = mount-ends x (v .sized) (y .there) h t in
+      let a : After N s (applyAll s (mountWork N img x .steps) img) last (settledOnly (replayOf (x .journal))) = mount-ends x (v .sized) (y .there) h t in
       finish g (job-begins img g (mountWork N img x .steps) last
       (follows-mount img x ks (v .sized .ok) (y .there) (wiped-besides N (x .number) img)
-      (subst (λ (n : ℕ). Journal (block n (x .number) img) (x .frames)) (sym (size-of (v .sized))) (journal-of h)))
+      (subst (λ (n : ℕ). Standing (block n (x .number) img) (x .journal .frames)) (sym (size-of (v .sized))) (standing-of h)))
       (λ n l. let g = mount-keeps x (v .sized) (y .there) h t false k f n l in (g .0, λ d. g .1)) (settled-book k a) (ready-idle (a .ready)))
     where
       finish : (g : Record) → Begun N s (GuardIn N s (b .objects) false nothing) (λ i q. IdleBook N s i q (book (b .objects) noLists nothing)) img g
@@ -174,7 +174,7 @@ module _ {N : ℕ} {s : ℕ} {img : List ℕ} (b : Book) {u : Bool} (v : Bare N 
         accepted-says (out (answerOf g) img g []) (inr d),
       )
 
-  mount-found : (x : Store) → Taken N s img x → StoreThere s img x → Keeps s (replay (x .frames)) (b .objects) → Lessers N s img (x .time) (x .number)
+  mount-found : (x : Store) → Taken N s img x → StoreThere s img x → Keeps s (replayOf (x .journal)) (b .objects) → Lessers N s img (timeOf x) (x .number)
       → Outcome N img x → MountKeeps N s img b u (mountOn N img)
   mount-found x y h k f (worn-out w e) =
       subst (MountKeeps N s img b u) (sym e)

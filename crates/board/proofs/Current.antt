@@ -8,10 +8,10 @@ use lib.ListN.{length, replicate}
 use Rattle.flash.specs.Flash.{applyAll, block, Write, writeAll}
 use Rattle.flash.proofs.Image.{length-block}
 use Rattle.flash.proofs.Offsets.{Below}
-use Rattle.frame.specs.Frame.{Frame, deleteLen, endLen}
-use Rattle.frame.specs.Reader.{Tail, clean}
-use Rattle.journal.specs.Replay.{Object, State, replay, settledOnly}
-use Rattle.journal.specs.Block.{blockState}
+use Rattle.frame.specs.Frame.{deleteLen, endLen}
+use Rattle.frame.specs.Reader.{clean}
+use Rattle.journal.specs.Replay.{Object, State, settledOnly}
+use Rattle.journal.specs.Block.{Journal, blockState}
 use Rattle.journal.specs.Room.{claimed, openHosts}
 use Rattle.journal.proofs.Blocks.{blank-block}
 use Rattle.journal.proofs.States.{Contents}
@@ -20,46 +20,47 @@ use Rattle.journal.proofs.Room.{kept, used-kept, kept-none}
 use Rattle.board.specs.declared.Rest.{Rest}
 use Rattle.board.specs.declared.Record.{Record}
 use Rattle.board.specs.Record.{landing, idle}
-use Rattle.board.specs.Mount.{endOf}
+use Rattle.board.specs.Mount.{replayOf, endOf}
 use Rattle.board.specs.Plan.{onBlock}
 use Rattle.board.proofs.Images.{Sized, sized-as, sized-block, length-all-steps, block-writes, other-writes}
 use Rattle.board.proofs.Invariant.{Valid, Quiet, Others, Lesser, Lessers, Safe, some-valid, Ready}
 
-pub record Alone (N : ℕ) (s : ℕ) (img : List ℕ) (k t : ℕ) (fs : List Frame) (c : Tail) : Type 0 where
+-- block k has the journal w, and every other is blank
+pub record Alone (N : ℕ) (s : ℕ) (img : List ℕ) (k : ℕ) (w : Journal) : Type 0 where
   pub sized : Sized N s img
   pub there : k < N
-  pub contents : Contents (block s k img) t fs c
+  pub contents : Contents (block s k img) w
   pub others : Others N (λ j. block s j img ≡ replicate s 255) k
 
 -- an idle record whose block replays to a state
 pub record After (N : ℕ) (s : ℕ) (img : List ℕ) (r : Record) (st : State) : Type 0 where
   pub ready : Ready N s img r
-  pub state : replay (ready .frames) ≡ st
+  pub state : replayOf (ready .journal) ≡ st
 
 pub block-long : {N : ℕ} {s : ℕ} {img : List ℕ} (k : ℕ) → Sized N s img → k < N → length (block s k img) ≡ s
 block-long {N} {s} {img} k z h = length-block s k img (sized-block k z h)
 
 pub ready-alone : {N : ℕ} {s : ℕ} {img : List ℕ} {r : Record} → Sized N s img → (y : Ready N s img r)
-    → Alone N s img (y .stands .block) (y .time) (y .frames) clean
+    → Alone N s img (y .stands .block) (y .journal)
 ready-alone z y = record { sized = z; there = y .there; contents = y .contents; others = y .others }
 
 -- the room that an idle record's block leaves
 abbrev pub Roomy : ℕ → State → Type 0
 Roomy s st = claimed st + endLen * openHosts (st .pending) ≤ s
 
-pub alone-after : {N : ℕ} {s k t : ℕ} {img : List ℕ} {fs : List Frame} (z : Rest) (st : State) → Alone N s img k t fs clean → z .blocks ≡ N
-    → length img ≡ suc (z .last) → replay fs ≡ st → Roomy s st → After N s img (idle (landing z k (endOf fs))) st
-alone-after {N} {s} {k} {t} {img} {fs} z st x blocks long e room =
+pub alone-after : {N : ℕ} {s k : ℕ} {img : List ℕ} {w : Journal} (z : Rest) (st : State) → Alone N s img k w → w .tail ≡ clean → z .blocks ≡ N
+    → length img ≡ suc (z .last) → replayOf w ≡ st → Roomy s st → After N s img (idle (landing z k (endOf w))) st
+alone-after {N} {s} {k} {img} {w} z st x c blocks long e room =
     record {
       ready = record {
-        stands = landing z k (endOf fs);
+        stands = landing z k (endOf w);
         is = refl;
         blocks = blocks;
         long = long;
         there = x .there;
-        time = t;
-        frames = fs;
+        journal = w;
         contents = x .contents;
+        is-clean = c;
         ends = refl;
         room = subst (Roomy s) (sym e) room;
         others = x .others;
@@ -77,9 +78,9 @@ pub record Keeps (s : ℕ) (st : State) (os : List Object) : Type 0 where
 pub keeps-settled : {s : ℕ} {st : State} {os : List Object} → Keeps s st os → Keeps s (settledOnly st) os
 keeps-settled {s} {st} p = record { room = omega (arith, p .room, used-kept st, kept-none (settledOnly st) refl); same = p .same }
 
-abbrev pub valid-of : {s k t : ℕ} {img : List ℕ} {fs : List Frame} {c : Tail} {os : List Object} → Contents (block s k img) t fs c → Keeps s (replay fs) os
+abbrev pub valid-of : {s k : ℕ} {img : List ℕ} {w : Journal} {os : List Object} → Contents (block s k img) w → Keeps s (replayOf w) os
     → Valid s img k os
-valid-of {s} {k} {t} {img} {fs} {c} x p = record { time = t; frames = fs; tail = c; contents = x; room = p .room; same = p .same }
+valid-of {s} {k} {img} {w} x p = record { journal = w; contents = x; room = p .room; same = p .same }
 
 pub blank-quiet : (s : ℕ) (b : List ℕ) → b ≡ replicate s 255 → Quiet (blockState b)
 blank-quiet s b e = subst Quiet (sym (ap blockState e ∙ blank-block s)) tt
@@ -90,18 +91,18 @@ blank-lesser {N} {s} {img} z t j e = blank-harmless s t (block s j img) (omega (
 pub blank-lessers : {N : ℕ} {s k : ℕ} {img : List ℕ} → Sized N s img → (t : ℕ) → Others N (λ j. block s j img ≡ replicate s 255) k → Lessers N s img t k
 blank-lessers {k = k} z t o = record { older = λ j h n. blank-lesser z t j (o j h n); one = k; blanks = λ j h n _. o j h n }
 
-pub alone-safe : {N : ℕ} {s k t : ℕ} {img : List ℕ} {fs : List Frame} {c : Tail} {os : List Object} (u : Bool) → Alone N s img k t fs c → Keeps s (replay fs) os
+pub alone-safe : {N : ℕ} {s k : ℕ} {img : List ℕ} {w : Journal} {os : List Object} (u : Bool) → Alone N s img k w → Keeps s (replayOf w) os
     → Safe N s img os u
-alone-safe {N} {s} {k} {t} {img} u x p = some-valid k (x .there) (valid-of (x .contents) p) (blank-lessers (x .sized) t (x .others))
+alone-safe {N} {s} {k} {img} {w} u x p = some-valid k (x .there) (valid-of (x .contents) p) (blank-lessers (x .sized) (w .time) (x .others))
 
 -- ---- the block written to
 
-pub alone-written : {N : ℕ} {s k t t′ : ℕ} {img : List ℕ} {fs fs′ : List Frame} {c c′ : Tail} (ws : List Write) → Alone N s img k t fs c → Below s ws
-    → Contents (writeAll (block s k img) ws) t′ fs′ c′ → Alone N s (applyAll s (onBlock k ws) img) k t′ fs′ c′
-alone-written {N} {s} {k} {t} {t′} {img} {fs} {fs′} {c} {c′} ws x b y =
+pub alone-written : {N : ℕ} {s k : ℕ} {img : List ℕ} {w w′ : Journal} (ws : List Write) → Alone N s img k w → Below s ws
+    → Contents (writeAll (block s k img) ws) w′ → Alone N s (applyAll s (onBlock k ws) img) k w′
+alone-written {N} {s} {k} {img} {w} {w′} ws x b y =
     record {
       sized = sized-as (applyAll s (onBlock k ws) img) (length-all-steps s (onBlock k ws) img) (x .sized);
       there = x .there;
-      contents = subst (λ (l : List ℕ). Contents l t′ fs′ c′) (sym (block-writes s k ws img b)) y;
+      contents = subst (λ (l : List ℕ). Contents l w′) (sym (block-writes s k ws img b)) y;
       others = λ j h n. other-writes s j k ws img n b ∙ x .others j h n;
     }

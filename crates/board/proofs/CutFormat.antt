@@ -10,14 +10,14 @@ use borrow.Author.Tests.{eqb-true, eqb-false}
 use Rattle.flash.specs.Flash.{applyAll, block, sizeOf}
 use Rattle.flash.proofs.Cases.{on-test}
 use Rattle.frame.specs.Reader.{clean}
-use Rattle.journal.specs.Replay.{Object, replay}
-use Rattle.journal.specs.Block.{BlockState, blank, inProgress, valid, foreign, blockState}
+use Rattle.journal.specs.Replay.{Object}
+use Rattle.journal.specs.Block.{BlockState, blank, inProgress, valid, foreign, blockState, journal}
 use Rattle.journal.proofs.Blocks.{blank-block}
 use Rattle.journal.proofs.States.{contents-valid}
 use Rattle.board.specs.declared.Record.{Record}
 use Rattle.board.specs.Record.{Out}
 use Rattle.board.specs.Step.{begin}
-use Rattle.board.specs.Mount.{Store, formatJob, formatOn}
+use Rattle.board.specs.Mount.{Store, formatJob, formatOn, replayOf, timeOf}
 use Rattle.board.specs.Exec.{exec}
 use Rattle.board.specs.Plan.{formatWork}
 use Rattle.board.specs.Book.{Book}
@@ -68,36 +68,32 @@ module _ {N : ℕ} {s : ℕ} {img : List ℕ} (z : Sized N s img) where
   quiet-empty : (a : BlockState) → Quiet a → Empty a
   quiet-empty blank q = tt
   quiet-empty inProgress q = tt
-  quiet-empty (valid t fs c) q = absurd q
+  quiet-empty (valid w) q = absurd q
   quiet-empty (foreign e) q = absurd q
 
   -- what a mount takes
-  taken-old : {os : List Object} (x : Store) → Taken N s img x → Keeps s (replay (x .frames)) os → OldObjects N img os
+  taken-old : {os : List Object} (x : Store) → Taken N s img x → Keeps s (replayOf (x .journal)) os → OldObjects N img os
   taken-old x y k =
       record {
         number = x .number;
-        time = x .time;
-        frames = x .frames;
-        tail = x .tail;
+        journal = x .journal;
         there = y .there;
-        is-valid = at-size z (λ a. a ≡ valid (x .time) (x .frames) (x .tail)) (x .number) (y .is-valid);
+        is-valid = at-size z (λ a. a ≡ valid (x .journal)) (x .number) (y .is-valid);
         objects = k .same;
-        others = λ j h n. at-size z (Beside (x .time)) j (y .others j h n);
-        apart = λ i j t fs gs c d h l p q.
+        others = λ j h n. at-size z (Beside (timeOf x)) j (y .others j h n);
+        apart = λ i j w v h l p q t.
             on-test (eqb i j) (eqb-true i j)
             (λ e.
             absurd (y .untied i j
             (record {
-              time = t;
-              frames = fs;
-              tail = c;
-              frames′ = gs;
-              tail′ = d;
+              journal = w;
+              journal′ = v;
+              same = t;
               there = h;
               there′ = l;
               apart = eqb-false i j e;
-              is-valid = at-s i (valid t fs c) p;
-              is-valid′ = at-s j (valid t gs d) q;
+              is-valid = at-s i (valid w) p;
+              is-valid′ = at-s j (valid v) q;
             })));
       }
     where
@@ -111,10 +107,10 @@ module _ {N : ℕ} {s : ℕ} {img : List ℕ} (z : Sized N s img) where
       go (nothing-there e r) = absurd (false≢true e)
       go (store-there x y h k q) = taken-old x y k
 
-  alone-empty : Alone N s img 0 1 [] clean → EmptyStore N img
+  alone-empty : Alone N s img 0 (journal 1 [] clean) → EmptyStore N img
   alone-empty y =
       record {
-        first = at-size z (λ a. a ≡ valid 1 [] clean) 0 (contents-valid (y .contents));
+        first = at-size z (λ a. a ≡ valid (journal 1 [] clean)) 0 (contents-valid (y .contents));
         others = λ j h n. at-size z (λ a. a ≡ blank) j (ap blockState (y .others j h n) ∙ blank-block s);
       }
 

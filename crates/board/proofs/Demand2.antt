@@ -15,9 +15,9 @@ use Rattle.flash.proofs.Cases.{on-test}
 use Rattle.flash.proofs.Image.{length-apply, bytes-apply, block-program}
 use Rattle.flash.proofs.Raising.{length-with, bytes-with}
 use Rattle.frame.specs.declared.Host.{Host}
-use Rattle.journal.specs.Replay.{state, replay, settledOnly}
-use Rattle.journal.specs.Block.{stateAt, inTransfer}
-use Rattle.journal.proofs.Places.{Journal}
+use Rattle.journal.specs.Replay.{state, settledOnly}
+use Rattle.journal.specs.Block.{Journal, stateAt, inTransfer}
+use Rattle.journal.proofs.Places.{Standing}
 use Rattle.wire.specs.declared.Answer.{Answer}
 use Rattle.wire.specs.declared.Answer.the-variants.{Done, More, Refused}
 use Rattle.wire.specs.Answer.{numberOf}
@@ -26,8 +26,8 @@ use Rattle.board.specs.declared.Phase.the-variants.{Unmounted, Idle, Bus
 use Rattle.board.specs.declared.Record.{Record}
 use Rattle.board.specs.Record.{Out, out, unmounted, answerOf}
 use Rattle.board.specs.Step.{stepOn, enterWipe}
-use Rattle.board.specs.Mount.{Store, allFound, wipeList, mountJob, mountOn, formatJob, formatOn}
-use Rattle.board.specs.Queue.{Held, requestOn}
+use Rattle.board.specs.Mount.{Store, allFound, wipeList, mountJob, mountOn, formatJob, formatOn, replayOf}
+use Rattle.board.specs.Queue.{requestOn}
 use Rattle.board.specs.Exec.{Call, request, step, mount, format, exec}
 use Rattle.board.specs.Plan.{Follows, formatWork, mountWork}
 use Rattle.board.specs.Table.{InJob as JobPhase, Fresh, Exactly, requestLines, mountLines, linesOf}
@@ -44,7 +44,7 @@ use Rattle.board.proofs.Keeping.{more-busy, ready-idle}
 use Rattle.board.proofs.Accepted.{follows-format, follows-mount}
 use Rattle.board.proofs.Blocks.{wiped-besides}
 use Rattle.board.proofs.Lengths.{length-format}
-use Rattle.board.proofs.Replies.{journal-of, heldOf}
+use Rattle.board.proofs.Replies.{standing-of}
 use Rattle.board.proofs.Freshness.{ready-fresh}
 use Rattle.board.proofs.Answering.{number-accepted, not-numbered}
 use Rattle.board.proofs.Tabling.{request-lines, format-lines}
@@ -70,9 +70,9 @@ module _ {N : ℕ} {s : ℕ} {img : List ℕ} (z : Sized N s img) (y : Begins N 
   mount-follows : Follows N (exec N) img job (mountWork N img x .steps) last
   mount-follows =
       follows-mount img x (wipeList (x .number) (allFound N img)) (z .ok) (y .taken .there) (wiped-besides N (x .number) img)
-      (subst (λ (n : ℕ). Journal (block n (x .number) img) (x .frames)) (sym (size-of z)) (journal-of (y .holds)))
+      (subst (λ (n : ℕ). Standing (block n (x .number) img) (x .journal .frames)) (sym (size-of z)) (standing-of (y .holds)))
 
-  after : After N s (applyAll s (mountWork N img x .steps) img) last (settledOnly (replay (x .frames)))
+  after : After N s (applyAll s (mountWork N img x .steps) img) last (settledOnly (replayOf (x .journal)))
   after = mount-ends x z (y .taken .there) (y .holds) (y .in-time)
 
   -- the job is begun, or there is none
@@ -89,7 +89,7 @@ one-store N img r by ok a =
     let y : Begins N s img = mount-accepted z by a in
     let x : Store = y .store in
     let after-image : List ℕ = applyAll s (mountWork N img x .steps) img in
-    let e : After N s (applyAll s (mountWork N img x .steps) img) (last z y) (settledOnly (replay (x .frames))) = after z y in
+    let e : After N s (applyAll s (mountWork N img x .steps) img) (last z y) (settledOnly (replayOf (x .journal))) = after z y in
     subst (Mounts N (exec N) img) (sym (y .begins))
     (record {
       store = x;
@@ -99,7 +99,7 @@ one-store N img r by ok a =
       follows = mount-follows z y;
       short = mount-short x z (y .taken .there) (y .holds) (y .in-time);
       erases = mount-erases x z (y .taken .there) (y .holds) (y .in-time);
-      holding = heldOf (e .ready);
+      holding = e .ready .journal;
       is-fresh = ready-fresh (sized-as after-image (length-all-steps s (mountWork N img x .steps) img) z)
           (bytes-all-steps s (mountWork N img x .steps) img by) (e .ready);
       holds = e .state;
@@ -251,9 +251,9 @@ request-fits {N} {s} {img} {r} v h m reply e = go (request-lines img r h m reply
     a : Answer
     a = requestOn N img r reply h m .answer
 
-    fits : (p : Phase) → Sound N p s img r → (JobPhase p → ⊥) → (p ≡ Unmounted → ⊥) → ((x : Held) → Fresh N img r x → ⊥) → ⊥
+    fits : (p : Phase) → Sound N p s img r → (JobPhase p → ⊥) → (p ≡ Unmounted → ⊥) → ((x : Journal) → Fresh N img r x → ⊥) → ⊥
     fits Unmounted y j u f = u refl
-    fits Idle y j u f = f (heldOf y) (ready-fresh (v .sized) (v .bytes) y)
+    fits Idle y j u f = f (y .journal) (ready-fresh (v .sized) (v .bytes) y)
     fits (Busy g) y j u f = j tt
 
     go : Exactly (requestLines N img r h m reply) a → ⊥

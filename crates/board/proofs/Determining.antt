@@ -13,6 +13,7 @@ use Rattle.flash.proofs.Image.{bytes-apply}
 use Rattle.flash.proofs.Raising.{bytes-with}
 use Rattle.frame.specs.declared.Host.{Host}
 use Rattle.frame.specs.Frame.{Frame}
+use Rattle.journal.specs.Block.{Journal}
 use Rattle.wire.specs.declared.Answer.{Answer}
 use Rattle.wire.specs.declared.Answer.the-variants.{Done, More, Refused}
 use Rattle.wire.specs.declared.Request.{Request}
@@ -26,7 +27,7 @@ use Rattle.board.specs.declared.Rest.{Rest}
 use Rattle.board.specs.declared.Record.{Record}
 use Rattle.board.specs.Record.{allowed, unmounted, Stretch, noStretch, Out, out, answerIn, answerOf}
 use Rattle.board.specs.Mount.{Store, Upkeep, rests, moves, upkeep, mountOn, nextBlock, storeAt}
-use Rattle.board.specs.Queue.{Held, held}
+use Rattle.board.specs.Queue.{held}
 use Rattle.board.specs.Exec.{Call, request, step, mount, format}
 use Rattle.board.specs.Plan.{Follows, Work, formatWork, upkeepWork, mountWork, frameWork}
 use Rattle.board.specs.Table.{frameFor, Line, line, Exactly, Allowed, InJob, Fresh, FreshExact, requestLines, mountLines, linesOf}
@@ -112,7 +113,7 @@ job-idle format-job = refl
 -- past the first lines a request has an image and a message that can be told
 pub record Asked (N : ℕ) (img : List ℕ) (r : Record) (msg : List ℕ) : Type 0 where
   pub length-ok : allowed N (length img) ≡ true
-  pub holding : Held
+  pub holding : Journal
   pub asked : Request
   pub is-held : Fresh N img r holding
   pub is-asked : Means msg asked
@@ -125,14 +126,14 @@ module _ {N : ℕ} {m : Machine} (p : Calls N m) (img : List ℕ) (by : Bytes im
       ans : Answer
       ans = m img r (request h msg reply) .answer
 
-      parsed : (ok : allowed N (length img) ≡ true) (x : Held) → held N img r ≡ some x → (((q : Request) → Means msg q → ⊥) → ⊥) → (w : Parsed)
+      parsed : (ok : allowed N (length img) ≡ true) (x : Journal) → held N img r ≡ some x → (((q : Request) → Means msg q → ⊥) → ⊥) → (w : Parsed)
           → parse msg ≡ w → Asked N img r msg
       parsed ok x e g Malformed w = absurd (g (malformed-exact msg .0 w))
       parsed ok x e g (Is q) w =
           record { length-ok = ok; holding = x; asked = q; is-held = fresh-exact N img r x by ok .0 e; is-asked = messages-exact msg q .0 w }
 
-      found : (ok : allowed N (length img) ≡ true) → (((x : Held) → Fresh N img r x → ⊥) → ⊥) → (((q : Request) → Means msg q → ⊥) → ⊥)
-          → (o : Option Held) → held N img r ≡ o → Asked N img r msg
+      found : (ok : allowed N (length img) ≡ true) → (((x : Journal) → Fresh N img r x → ⊥) → ⊥) → (((q : Request) → Means msg q → ⊥) → ⊥)
+          → (o : Option Journal) → held N img r ≡ o → Asked N img r msg
       found ok f g none e =
           absurd (f (λ x y. let w : some x ≡ none = sym (fresh-exact N img r x by ok .1 y) ∙ e in let z : _≡_ {A = ℕ} 0 1 = cc in omega arith))
       found ok f g (some x) e = parsed ok x e g (parse msg) refl
@@ -179,7 +180,7 @@ module _ {N : ℕ} {m : Machine} (p : Calls N m) (img : List ℕ) (by : Bytes im
 module _ {N : ℕ} {m n : Machine} (pm : Calls N m) (pn : Calls N n) (img : List ℕ) (by : Bytes img) where
   -- ---- a request
 
-  does-agree : (r : Record) (h : Host) (msg reply : List ℕ) (x : Held) (q : Request) (f : Option Frame) (o p : Out) → Rests (r .phase)
+  does-agree : (r : Record) (h : Host) (msg reply : List ℕ) (x : Journal) (q : Request) (f : Option Frame) (o p : Out) → Rests (r .phase)
       → o .image ≡ img → p .image ≡ img → Answers f r o → Answers f r p → Serves N img r h msg reply x q o → Serves N img r h msg reply x q p
       → ((g : Frame) → f ≡ some g → Alike N m n img (o .board) (p .board)) → Agree N m n o p
   does-agree r h msg reply x q none o p k i j (a, b) (c, d) s t v =
@@ -216,7 +217,7 @@ module _ {N : ℕ} {m n : Machine} (pm : Calls N m) (pn : Calls N n) (img : List
           (agree-whole (Refused w) (Refused w) img r r reply noStretch refl by (resting k refl))
       go (both-taken a b) =
           let y : Asked N img r msg = request-asks pm img by r h msg reply a in
-          let x : Held = y .holding in
+          let x : Journal = y .holding in
           let q : Request = y .asked in
           let s : Serves N img r h msg reply x q o = pm .serves img r h msg reply x q by bm (y .is-held) (y .is-asked) a in
           let t : Serves N img r h msg reply x q p = pn .serves img r h msg reply x q by bm (y .is-held) (y .is-asked) b in

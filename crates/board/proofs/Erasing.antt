@@ -13,10 +13,8 @@ use Rattle.flash.specs.Raised.{Raised}
 use Rattle.flash.proofs.Cases.{on-test}
 use Rattle.flash.proofs.Image.{length-erase, block-erase, other-erase}
 use Rattle.flash.proofs.Raising.{block-with, other-with, raised-blank}
-use Rattle.frame.specs.Frame.{Frame}
-use Rattle.frame.specs.Reader.{Tail}
 use Rattle.journal.specs.Replay.{Object}
-use Rattle.journal.specs.Block.{valid, blockState}
+use Rattle.journal.specs.Block.{Journal, valid, blockState}
 use Rattle.journal.proofs.States.{Contents}
 use Rattle.journal.proofs.Raising.{Harmless, harmless-raised, blank-harmless}
 use Rattle.board.proofs.Blocks.{Blocks, Besides, besides-blocks, besides-kept}
@@ -31,10 +29,8 @@ abbrev pub valid-kept : {s : ℕ} {img : List ℕ} {k : ℕ} {os : List Object} 
     → Valid s img k os → Valid s after k os
 valid-kept after e v =
     record {
-      time = v .time;
-      frames = v .frames;
-      tail = v .tail;
-      contents = subst (λ (b : List ℕ). Contents b (v .time) (v .frames) (v .tail)) (sym e) (v .contents);
+      journal = v .journal;
+      contents = subst (λ (b : List ℕ). Contents b (v .journal)) (sym e) (v .contents);
       room = v .room;
       same = v .same;
     }
@@ -52,14 +48,11 @@ pub safe-more : {N : ℕ} {s : ℕ} {img : List ℕ} {os : List Object} (u : Boo
 safe-more u (no-valid e q) = absurd (false≢true e)
 safe-more u (some-valid k h v q) = some-valid k h v q
 
--- a valid state's parts
-pub record SameValid (t : ℕ) (fs : List Frame) (c : Tail) (t′ : ℕ) (fs′ : List Frame) (c′ : Tail) : Type 0 where
-  pub time : t ≡ t′
-  pub frames : fs ≡ fs′
-  pub tail : c ≡ c′
+pub same-valid : {w w′ : Journal} → valid w ≡ valid w′ → w ≡ w′
+same-valid e = cc
 
-pub same-valid : {t t′ : ℕ} {fs fs′ : List Frame} {c c′ : Tail} → valid t fs c ≡ valid t′ fs′ c′ → SameValid t fs c t′ fs′ c′
-same-valid e = record { time = cc; frames = cc; tail = cc }
+pub same-time : {w w′ : Journal} → valid w ≡ valid w′ → w .time ≡ w′ .time
+same-time e = ap (λ (i : Journal). i .time) (same-valid e)
 
 -- ---- one erase
 
@@ -82,7 +75,7 @@ module _ {N : ℕ} {s : ℕ} {img : List ℕ} (z : Sized N s img) (k : ℕ) (h :
 
 -- m is the current block, and k is not
 module _ {N : ℕ} {s : ℕ} {img : List ℕ} {os : List Object} (z : Sized N s img) (m k : ℕ) (l : m < N) (h : k < N) (d : m ≡ k → ⊥) (v : Valid s img m os)
-    (q : Lessers N s img (v .time) m) (new : List ℕ) (long : length new ≡ s) (y : Harmless (v .time) new)
+    (q : Lessers N s img (v .journal .time) m) (new : List ℕ) (long : length new ≡ s) (y : Harmless (v .journal .time) new)
     (b : block s k img ≡ replicate s 255 → new ≡ replicate s 255) where
   abbrev pub still : Valid s (withBlock s k new img) m os
   still = valid-kept (withBlock s k new img) (other-with s k new img (sized-block k z h) long m d) v
@@ -95,10 +88,10 @@ module _ {N : ℕ} {s : ℕ} {img : List ℕ} {os : List Object} (z : Sized N s 
       subst P (sym (ap (λ (i : ℕ). block s i (withBlock s k new img)) e ∙ block-with s k new img (sized-block k z h) long)) (f e))
       (λ t. subst P (sym (other-with s k new img (sized-block k z h) long j (eqb-false j k t))) p)
 
-  pub still-lessers : Lessers N s (withBlock s k new img) (v .time) m
+  pub still-lessers : Lessers N s (withBlock s k new img) (v .journal .time) m
   still-lessers =
       record {
-        older = λ j g n. each-block (Harmless (v .time)) j (λ _. y) (q .older j g n);
+        older = λ j g n. each-block (Harmless (v .journal .time)) j (λ _. y) (q .older j g n);
         one = q .one;
         blanks = λ j g n o.
             each-block (λ (l : List ℕ). l ≡ replicate s 255) j (λ e. b (ap (λ (i : ℕ). block s i img) (sym e) ∙ q .blanks j g n o)) (q .blanks j g n o);
@@ -108,11 +101,11 @@ module _ {N : ℕ} {s : ℕ} {img : List ℕ} {os : List Object} (z : Sized N s 
   still-safe u = some-valid m l still still-lessers
 
 module _ {N : ℕ} {s : ℕ} {img : List ℕ} {os : List Object} (z : Sized N s img) (m k : ℕ) (l : m < N) (h : k < N) (d : m ≡ k → ⊥) (v : Valid s img m os)
-    (q : Lessers N s img (v .time) m) where
+    (q : Lessers N s img (v .journal .time) m) where
   -- its erase is cut
   pub cut-safe : (u : Bool) → CutSafe N s os u (erase k) img
   cut-safe u new r =
-      still-safe z m k l h d v q new (r .long ∙ block-long k z h) (harmless-raised (v .time) (block s k img) new r (q .older k h (λ e. d (sym e))))
+      still-safe z m k l h d v q new (r .long ∙ block-long k z h) (harmless-raised (v .journal .time) (block s k img) new r (q .older k h (λ e. d (sym e))))
       (λ e. raised-blank s new (subst (λ (l : List ℕ). Raised l new) e r)) u
 
   ones : List ℕ
@@ -126,11 +119,11 @@ module _ {N : ℕ} {s : ℕ} {img : List ℕ} {os : List Object} (z : Sized N s 
   unfolding ones
   ones-blank = ap (λ (n : ℕ). replicate n 255) (block-long k z h)
 
-  ones-harmless : Harmless (v .time) ones
-  ones-harmless = blank-harmless s (v .time) ones (omega (arith, z .low)) ones-blank
+  ones-harmless : Harmless (v .journal .time) ones
+  ones-harmless = blank-harmless s (v .journal .time) ones (omega (arith, z .low)) ones-blank
 
   -- it is erased
-  pub erase-lessers : Lessers N s (eraseBlock s k img) (v .time) m
+  pub erase-lessers : Lessers N s (eraseBlock s k img) (v .journal .time) m
   unfolding ones
   erase-lessers = still-lessers z m k l h d v q ones ones-long ones-harmless (λ _. ones-blank)
 
@@ -163,7 +156,7 @@ erases-land s (k ∷ ks) img (suc j) h = erases-land s ks (eraseBlock s k img) j
 
 -- others than the current one: cut or not, each keeps what a mount finds
 pub erases-guard : {N : ℕ} {s : ℕ} {os : List Object} (u : Bool) (n : ℕ) (ks : List ℕ) (img : List ℕ) → Sized N s img → n < N → Besides N n ks
-    → (v : Valid s img n os) → Lessers N s img (v .time) n → Each s (Guard N s os u) (map erase ks) img
+    → (v : Valid s img n os) → Lessers N s img (v .journal .time) n → Each s (Guard N s os u) (map erase ks) img
 unfolding applyAll
 erases-guard u n [] img z l b v q j h = absurd (omega arith)
 erases-guard u n (k ∷ ks) img z l (g, d, b) v q zero h = (some-valid n l v q, cut-safe z n k l g d v q u)
@@ -172,13 +165,13 @@ erases-guard {N} {s} u n (k ∷ ks) img z l (g, d, b) v q (suc j) h =
     (erase-lessers z n k l g d v q) j (omega arith)
 
 -- the valid block is then alone
-pub erases-alone : {N : ℕ} {s : ℕ} {n t : ℕ} {fs : List Frame} {c : Tail} (ks : List ℕ) (img : List ℕ) → Sized N s img → n < N
-    → Contents (block s n img) t fs c → Besides N n ks
-    → Others N (λ j. (block s j img ≡ replicate s 255) ⊎ In j ks) n → Alone N s (applyAll s (map erase ks) img) n t fs c
-erases-alone {N} {s} {n} {t} {fs} {c} ks img z l x b o =
+pub erases-alone : {N : ℕ} {s : ℕ} {n : ℕ} {w : Journal} (ks : List ℕ) (img : List ℕ) → Sized N s img → n < N
+    → Contents (block s n img) w → Besides N n ks
+    → Others N (λ j. (block s j img ≡ replicate s 255) ⊎ In j ks) n → Alone N s (applyAll s (map erase ks) img) n w
+erases-alone {N} {s} {n} {w} ks img z l x b o =
     record {
       sized = sized-as (applyAll s (map erase ks) img) (length-all-steps s (map erase ks) img) z;
       there = l;
-      contents = subst (λ (y : List ℕ). Contents y t fs c) (sym (besides-kept N s n ks img b)) x;
+      contents = subst (λ (y : List ℕ). Contents y w) (sym (besides-kept N s n ks img b)) x;
       others = λ j h d. erases-blank j ks img z (besides-blocks N n ks b) (o j h d);
     }

@@ -9,6 +9,7 @@ use Rattle.flash.specs.Flash.{sizeIn, Step, program, erase, apply, sizeOf}
 use Rattle.flash.proofs.Image.{length-apply}
 use Rattle.frame.specs.declared.Host.{Host}
 use Rattle.frame.specs.Frame.{Frame}
+use Rattle.journal.specs.Block.{Journal}
 use Rattle.wire.specs.declared.Answer.{Answer}
 use Rattle.wire.specs.declared.Answer.the-variants.{Done, More, Refused}
 use Rattle.wire.specs.declared.Refusal.{Refusal}
@@ -18,7 +19,6 @@ use Rattle.board.specs.declared.Phase.the-variants.{Unmounted, Idle, Bus
 use Rattle.board.specs.declared.Record.{Record}
 use Rattle.board.specs.Record.{Out}
 use Rattle.board.specs.Mount.{Store}
-use Rattle.board.specs.Queue.{Held}
 use Rattle.board.specs.Exec.{Machine, Call, request, step, mount, format}
 use Rattle.board.specs.Plan.{Follows, programs, Work, formatWork, mountWork, frameWork}
 use Rattle.board.specs.Table.{frameFor, InJob}
@@ -67,7 +67,7 @@ module _ {N : ℕ} {m : Machine} (p : Calls N m) (img : List ℕ) (by : Bytes im
       y : Asked N img r msg
       y = request-asks p img by r h msg reply (subst Accepted (sym e) tt)
 
-      x : Held
+      x : Journal
       x = y .holding
 
       go : (f : Option Frame) → frameFor h msg x (y .asked) ≡ f → Answers f r (m img r c) → Finishes N m c (m img r c .image) (m img r c .board)

@@ -16,7 +16,7 @@ use Rattle.frame.specs.Frame.{Frame, total, encodeAll, AllMayStand, nextOf}
 use Rattle.frame.specs.Reader.{clean}
 use Rattle.frame.proofs.First.{scan-blank}
 use Rattle.journal.specs.Replay.{Object, state, replayFrom, isOpen}
-use Rattle.journal.specs.Block.{headerLen, lastTime, BlockState, valid, blockState, build}
+use Rattle.journal.specs.Block.{headerLen, lastTime, BlockState, valid, blockState, build, journal}
 use Rattle.journal.proofs.Blocks.{Layout}
 use Rattle.journal.proofs.States.{Contents, contents-valid}
 use Rattle.journal.proofs.Raising.{harmless-older}
@@ -52,13 +52,13 @@ module _ (s k : ℕ) (img : List ℕ) (bl : block s k img ≡ replicate s 255) (
       (λ j h. subst (λ (l : List ℕ). Lands l (getD (build t fs) j (write 0 0))) (sym (part-made j)) (lands s t j fs (write 0 0) fit g h))
 
 made-contents : (s t : ℕ) (fs : List Frame) → headerLen + total fs ≤ s → AllMayStand 0 fs → 0 < t → t ≤ lastTime
-    → Contents (writeAll (replicate s 255) (build t fs)) t fs clean
+    → Contents (writeAll (replicate s 255) (build t fs)) (journal t fs clean)
 made-contents s t fs h g lo hi =
     let m : ℕ = s - (headerLen + total fs) in
-    let y : Layout s (writeAll (replicate s 255) (build t fs)) t fs (replicate m 255) = made s t fs h g lo hi in
+    let y : Layout s (writeAll (replicate s 255) (build t fs)) (journal t fs clean) (replicate m 255) = made s t fs h g lo hi in
     record {
       rest = replicate m 255;
-      layout = subst (λ (n : ℕ). Layout n (writeAll (replicate s 255) (build t fs)) t fs (replicate m 255)) (sym (y .size)) y;
+      layout = subst (λ (n : ℕ). Layout n (writeAll (replicate s 255) (build t fs)) (journal t fs clean) (replicate m 255)) (sym (y .size)) y;
       reads = scan-blank (nextOf 0 fs) (headerLen + total fs) m;
       okay = tt;
       clean-is = λ e. ap (λ (n : ℕ). replicate n 255) (sym (length-replicate m 255));
@@ -108,24 +108,22 @@ module _ {N : ℕ} {s : ℕ} {img : List ℕ} (z : Sized N s img) where
   at-size P j x = subst (λ (n : ℕ). P (blockState (block n j img))) (sym (size-of z)) x
 
   -- what a safe image holds is the current block
-  safe-newest : {os : List Object} (k : ℕ) → k < N → (v : Valid s img k os) → Lessers N s img (v .time) k → Newest N img k
+  safe-newest : {os : List Object} (k : ℕ) → k < N → (v : Valid s img k os) → Lessers N s img (v .journal .time) k → Newest N img k
   safe-newest k l v q =
       record {
-        time = v .time;
-        frames = v .frames;
-        tail = v .tail;
+        journal = v .journal;
         there = l;
-        is-valid = at-size (λ a. a ≡ valid (v .time) (v .frames) (v .tail)) k (contents-valid (v .contents));
+        is-valid = at-size (λ a. a ≡ valid (v .journal)) k (contents-valid (v .contents));
         others = λ j h d.
-            at-size (Beside (v .time)) j (beside-of (blockState (block s j img)) (λ t fs c. harmless-older (block s j img) (q .older j h d)));
+            at-size (Beside (v .journal .time)) j (beside-of (blockState (block s j img)) (λ w. harmless-older (block s j img) (q .older j h d)));
       }
 
   -- the current block is the last to be erased
-  erases-last : {os : List Object} (k : ℕ) → k < N → (v : Valid s img k os) → Lessers N s img (v .time) k
+  erases-last : {os : List Object} (k : ℕ) → k < N → (v : Valid s img k os) → Lessers N s img (v .journal .time) k
       → Each s (λ y i. Safe N s i os false) (map erase (numbersBut k (blockNumbers N) ++ (k ∷ []))) img
   erases-last {os} k l v q =
       let ks : List ℕ = numbersBut k (blockNumbers N) in
-      let alone : Alone N s (applyAll s (map erase ks) img) k (v .time) (v .frames) (v .tail) =
+      let alone : Alone N s (applyAll s (map erase ks) img) k (v .journal) =
       erases-alone ks img z l (v .contents) (but-besides N k) (λ j h d. inr (but-every N k j h d)) in
       subst (λ (p : List Step). Each s (λ y i. Safe N s i os false) p img) (sym (map-append erase ks (k ∷ [])))
       (each-append s (λ y i. Safe N s i os false) (map erase ks) (erase k ∷ []) img
@@ -141,17 +139,17 @@ module _ {N : ℕ} {s : ℕ} {img : List ℕ} (z : Sized N s img) where
       inl (subst (λ (ks : List ℕ). Each s (λ y i. Safe N s i os false) (map erase ks) img) (sym (order-last (safe-newest k l v q))) (erases-last k l v q) j h)
 
   -- the empty store: one block, of time 1 and no frames
-  format-alone : Alone N s (applyAll s (formatWork N img .steps) img) 0 1 [] clean
+  format-alone : Alone N s (applyAll s (formatWork N img .steps) img) 0 (journal 1 [] clean)
   format-alone =
       let ws : List Write = build 1 [] in
       let b : Below s ws = below-build s 1 [] (none-fit z) in
       let i : List ℕ = applyAll s (onBlock 0 ws) wiped in
-      subst (λ (l : List ℕ). Alone N s l 0 1 [] clean) (sym (apply-append s (map erase (formatOrder N img)) (onBlock 0 ws) img))
+      subst (λ (l : List ℕ). Alone N s l 0 (journal 1 [] clean)) (sym (apply-append s (map erase (formatOrder N img)) (onBlock 0 ws) img))
       (record {
         sized = sized-as i (length-all-steps s (onBlock 0 ws) wiped ∙ length-all-steps s (map erase (formatOrder N img)) img) z;
         there = omega (arith, z .few);
         contents =
-            subst (λ (l : List ℕ). Contents l 1 [] clean)
+            subst (λ (l : List ℕ). Contents l (journal 1 [] clean))
             (sym (block-writes s 0 ws wiped b ∙ ap (λ (l : List ℕ). writeAll l ws) (wiped-blank 0 (omega (arith, z .few)))))
             (made-contents s 1 [] (none-fit z) tt (omega arith) (omega arith));
         others = λ j h n. other-writes s j 0 ws wiped n b ∙ wiped-blank j h;
@@ -160,7 +158,7 @@ module _ {N : ℕ} {s : ℕ} {img : List ℕ} (z : Sized N s img) where
   pub format-ends : After N s (applyAll s (formatWork N img .steps) img) (formatWork N img .last) (state [] [])
   unfolding total replayFrom isOpen
   format-ends =
-      alone-after (formatWork N img .last .rest) (state [] []) format-alone refl
+      alone-after (formatWork N img .last .rest) (state [] []) format-alone refl refl
       (length-all-steps s (formatWork N img .steps) img ∙ sized-last z) refl (omega (arith, z .low))
 
 -- "On an image the store left, a cut format leaves the old settled objects, no store, or the empty store": after j of the steps.
@@ -169,7 +167,7 @@ pub data FormatCut (N : ℕ) (s : ℕ) (img : List ℕ) (os : List Object) (j : 
   old-objects : j < N → Safe N s after os false → FormatCut N s img os j after
   still-none : j < N → NoStore N s img → NoStore N s after → FormatCut N s img os j after
   no-store : N ≤ j → j < N + 10 → NoStore N s after → FormatCut N s img os j after
-  empty-store : j ≡ N + 10 → Alone N s after 0 1 [] clean → FormatCut N s img os j after
+  empty-store : j ≡ N + 10 → Alone N s after 0 (journal 1 [] clean) → FormatCut N s img os j after
 
 module _ {N : ℕ} {s : ℕ} {img : List ℕ} {os : List Object} {u : Bool} (z : Sized N s img) (f : Safe N s img os u) where
   abbrev erases : List Step
@@ -216,7 +214,7 @@ module _ {N : ℕ} {s : ℕ} {img : List ℕ} {os : List Object} {u : Bool} (z :
       (λ w. let e : N + (j - N) ≡ j = omega (arith, ltb-false j N t) in
       subst (λ (k : ℕ). Cut k (applyAll s (take k (formatWork N img .steps)) img)) e (cut-late (j - N) (omega (arith, ltb-true j (N + 10) w, ltb-false j N t))))
       (λ w. empty-store (omega (arith, ltb-false j (N + 10) w))
-      (subst (λ (p : List Step). Alone N s (applyAll s p img) 0 1 [] clean)
+      (subst (λ (p : List Step). Alone N s (applyAll s p img) 0 (journal 1 [] clean))
       (sym (take-all j (formatWork N img .steps) (omega (arith, length-format N img, ltb-false j (N + 10) w)))) (format-alone z))))
 
   pub format-safe : Each s (λ y i. Safe N s i os true) (formatWork N img .steps) img

@@ -1,6 +1,6 @@
 -- The job of a put, delete, commit or abort, with a transfer first or without: each step lands, every prefix keeps what a mount finds,
 -- and the record is then idle with the frame in its block.
-use mathlib.Core.Path.{_≡_, sym, ap, subst, subst₂, subst₃, _∙_}
+use mathlib.Core.Path.{_≡_, refl, sym, ap, subst, subst₂, _∙_}
 use mathlib.Core.List.{List}
 use mathlib.Core.Bool.{Bool, true, false}
 use Prim.Native.Nat.{ℕ, suc, _+_, _≤_, _<_}
@@ -10,15 +10,15 @@ use borrow.Author.Tests.{ltb-false}
 use Rattle.flash.specs.Flash.{Step, applyAll, sizeOf}
 use Rattle.frame.specs.Frame.{Frame, frameLen, MayStand, OfHost}
 use Rattle.frame.specs.Reader.{clean}
-use Rattle.journal.specs.Block.{lastTime}
-use Rattle.journal.specs.Replay.{Object, State, nextState, replay, framesOf}
+use Rattle.journal.specs.Block.{Journal, lastTime}
+use Rattle.journal.specs.Replay.{Object, State, nextState}
 use Rattle.journal.specs.Room.{claimed}
 use Rattle.journal.proofs.Replaying.{replay-framesOf, stands-replay}
 use Rattle.journal.proofs.Room.{frames-total}
 use Rattle.board.specs.declared.Record.{Record}
 use Rattle.board.specs.Record.{landing, ending, idle}
-use Rattle.board.specs.Mount.{nextBlock, endOf}
-use Rattle.board.specs.Queue.{Held, needsRoom}
+use Rattle.board.specs.Mount.{nextBlock, endOf, replayOf, claimedOf}
+use Rattle.board.specs.Queue.{needsRoom}
 use Rattle.board.specs.Plan.{transferPlan, appendPlan, Work, appendWork, movedWork, frameWork}
 use Rattle.board.proofs.Images.{Sized, size-of, apply-append, length-all-steps}
 use Rattle.board.proofs.Invariant.{StepLands, Guard, Ready}
@@ -26,79 +26,81 @@ use Rattle.board.proofs.Lengths.{frame-cases}
 use Rattle.board.proofs.Prefixes.{Each, each-append}
 use Rattle.board.proofs.Current.{Alone, After, Roomy, Keeps, ready-alone}
 use Rattle.board.proofs.Appending.{Fits, append-lands, append-guard, append-ends}
-use Rattle.board.proofs.Transferring.{Moves, transfer-lands, transfer-guard, transfer-alone}
+use Rattle.board.proofs.Transferring.{next-journal, Moves, transfer-lands, transfer-guard, transfer-alone}
 
 -- the image is as an idle record says, and what its block holds is this
-pub record AsRecorded (N : ℕ) (s : ℕ) (img : List ℕ) (r : Record) (x : Held) : Type 0 where
-  pub alone : Alone N s img (r .rest .block) (x .time) (x .frames) clean
-  pub ends : endOf (x .frames) ≡ r .rest .end
+pub record AsRecorded (N : ℕ) (s : ℕ) (img : List ℕ) (r : Record) (x : Journal) : Type 0 where
+  pub alone : Alone N s img (r .rest .block) x
+  pub is-clean : x .tail ≡ clean
+  pub ends : endOf x ≡ r .rest .end
   pub long : length img ≡ suc (r .rest .last)
   pub blocks : r .rest .blocks ≡ N
 
-pub ready-holds : {N : ℕ} {s : ℕ} {img : List ℕ} {r : Record} {x : Held} → Sized N s img → (y : Ready N s img r) → y .time ≡ x .time → y .frames ≡ x .frames
-    → AsRecorded N s img r x
-ready-holds {N} {s} {img} {r} {x} z y t e =
+pub ready-holds : {N : ℕ} {s : ℕ} {img : List ℕ} {r : Record} {x : Journal} → Sized N s img → (y : Ready N s img r) → y .journal ≡ x → AsRecorded N s img r x
+ready-holds {N} {s} {img} {r} {x} z y e =
     record {
-      alone = subst₃ (λ (k n : ℕ) (fs : List Frame). Alone N s img k n fs clean) (sym (ap (λ (q : Record). q .rest .block) (y .is))) t e (ready-alone z y);
+      alone = subst₂ (Alone N s img) (sym (ap (λ (q : Record). q .rest .block) (y .is))) e (ready-alone z y);
+      is-clean = ap (λ (w : Journal). w .tail) (sym e) ∙ y .is-clean;
       ends = sym (ap (λ (q : Record). q .rest .end) (y .is) ∙ y .ends ∙ ap endOf e);
       long = y .long ∙ ap suc (sym (ap (λ (q : Record). q .rest .last) (y .is)));
       blocks = ap (λ (q : Record). q .rest .blocks) (y .is) ∙ y .blocks;
     }
 
 -- a frame that a request may append
-pub record Appendable (N : ℕ) (s : ℕ) (img : List ℕ) (r : Record) (x : Held) (f : Frame) : Type 0 where
+pub record Appendable (N : ℕ) (s : ℕ) (img : List ℕ) (r : Record) (x : Journal) (f : Frame) : Type 0 where
   pub host : OfHost f
   pub legal : MayStand 256 f
-  pub fits : claimed (replay (x .frames)) + frameLen f ≤ s
+  pub fits : claimedOf x + frameLen f ≤ s
   pub young : needsRoom N img r f ≡ true → x .time < lastTime
 
-module _ {N : ℕ} {s : ℕ} {img : List ℕ} {r : Record} {x : Held} {f : Frame} (h : AsRecorded N s img r x) (y : Appendable N s img r x f) where
+module _ {N : ℕ} {s : ℕ} {img : List ℕ} {r : Record} {x : Journal} {f : Frame} (h : AsRecorded N s img r x) (y : Appendable N s img r x f) where
   abbrev st : State
-  st = replay (x .frames)
+  st = replayOf x
 
   abbrev moved : List ℕ
-  moved = applyAll s (transferPlan N (r .rest .block) (x .time) st) img
+  moved = applyAll s (transferPlan N (r .rest .block) x st) img
 
   -- no transfer: the frame fits where it goes
-  here : needsRoom N img r f ≡ false → Fits s (x .frames) f
+  here : needsRoom N img r f ≡ false → Fits s x f
   here e =
       let l : r .rest .end + frameLen f ≤ sizeOf N img = ltb-false (sizeOf N img) (r .rest .end + frameLen f) e in
       record { host = y .host; legal = y .legal; short = omega (arith, h .ends, size-of (h .alone .sized)) }
 
   -- a transfer: it fits after what was moved
-  moves : needsRoom N img r f ≡ true → Moves s (x .time) st
+  moves : needsRoom N img r f ≡ true → Moves s x st
   moves e = record { young = y .young e; stands = stands-replay (x .frames) (h .alone .contents .layout .stands); short = omega (arith, y .fits) }
 
-  after : Fits s (framesOf st) f
+  after : Fits s (next-journal x st) f
   after = record { host = y .host; legal = y .legal; short = omega (arith, y .fits, frames-total st) }
 
-  new : needsRoom N img r f ≡ true → Alone N s moved (nextBlock N (r .rest .block)) (suc (x .time)) (framesOf st) clean
+  new : needsRoom N img r f ≡ true → Alone N s moved (nextBlock N (r .rest .block)) (next-journal x st)
   new e = transfer-alone (h .alone) st (moves e)
 
   -- what holds at every step, either way
-  each : (P : Step → List ℕ → Type 0) → (needsRoom N img r f ≡ false → Each s P (appendPlan (r .rest .block) (endOf (x .frames)) f) img)
-      → (needsRoom N img r f ≡ true → Each s P (transferPlan N (r .rest .block) (x .time) st) img)
-      → (needsRoom N img r f ≡ true → Each s P (appendPlan (nextBlock N (r .rest .block)) (endOf (framesOf st)) f) moved)
+  each : (P : Step → List ℕ → Type 0) → (needsRoom N img r f ≡ false → Each s P (appendPlan (r .rest .block) (endOf x) f) img)
+      → (needsRoom N img r f ≡ true → Each s P (transferPlan N (r .rest .block) x st) img)
+      → (needsRoom N img r f ≡ true → Each s P (appendPlan (nextBlock N (r .rest .block)) (endOf (next-journal x st)) f) moved)
       → Each s P (frameWork N img r x f .steps) img
   each P one first second =
       let k : ℕ = nextBlock N (r .rest .block) in
       frame-cases (λ w. Each s P (w .steps) img) (sizeOf N img) k (r .rest) x f
-      (λ e. each-append s P (transferPlan N (r .rest .block) (x .time) st) (appendPlan k (claimed st) f) img (first e)
+      (λ e. each-append s P (transferPlan N (r .rest .block) x st) (appendPlan k (claimed st) f) img (first e)
       (subst (λ (n : ℕ). Each s P (appendPlan k n f) moved) (frames-total st) (second e)))
       (λ e. subst (λ (n : ℕ). Each s P (appendPlan (r .rest .block) n f) img) (h .ends) (one e))
 
   pub frame-lands : Each s (StepLands s) (frameWork N img r x f .steps) img
   frame-lands =
-      each (StepLands s) (λ e. append-lands (h .alone) f (here e)) (λ e. transfer-lands (h .alone) st (moves e)) (λ e. append-lands (new e) f after)
+      each (StepLands s) (λ e. append-lands (h .alone) (h .is-clean) f (here e)) (λ e. transfer-lands (h .alone) st (moves e))
+      (λ e. append-lands (new e) refl f after)
 
-  pub frame-guard : {os : List Object} (u : Bool) → Keeps s (replay (x .frames)) os
+  pub frame-guard : {os : List Object} (u : Bool) → Keeps s (replayOf x) os
       → Each s (Guard N s os u) (frameWork N img r x f .steps) img
   frame-guard {os} u p =
-      each (Guard N s os u) (λ e. append-guard (h .alone) f (here e) u p) (λ e. transfer-guard (h .alone) st (moves e) u p p)
-      (λ e. append-guard (new e) f after u (subst (λ (z : State). Keeps s z os) (sym (replay-framesOf st)) p))
+      each (Guard N s os u) (λ e. append-guard (h .alone) (h .is-clean) f (here e) u p) (λ e. transfer-guard (h .alone) st (moves e) u p p)
+      (λ e. append-guard (new e) refl f after u (subst (λ (z : State). Keeps s z os) (sym (replay-framesOf st)) p))
 
-  pub frame-ends : Roomy s (nextState (replay (x .frames)) f)
-      → After N s (applyAll s (frameWork N img r x f .steps) img) (frameWork N img r x f .last) (nextState (replay (x .frames)) f)
+  pub frame-ends : Roomy s (nextState (replayOf x) f)
+      → After N s (applyAll s (frameWork N img r x f .steps) img) (frameWork N img r x f .last) (nextState (replayOf x) f)
   frame-ends room =
       frame-cases (λ w. After N s (applyAll s (w .steps) img) (w .last) (nextState st f)) (sizeOf N img) (nextBlock N (r .rest .block)) (r .rest) x f
       went stayed
@@ -107,16 +109,16 @@ module _ {N : ℕ} {s : ℕ} {img : List ℕ} {r : Record} {x : Held} {f : Frame
       stayed e =
           subst (λ (n : ℕ). After N s (applyAll s (appendPlan (r .rest .block) n f) img) (idle (ending (r .rest) (n + frameLen f))) (nextState st f))
           (h .ends)
-          (append-ends (h .alone) f (here e) (r .rest) (h .blocks) (h .long) room)
+          (append-ends (h .alone) (h .is-clean) f (here e) (r .rest) (h .blocks) (h .long) room)
 
       went : needsRoom N img r f ≡ true
           → let w : Work = movedWork (nextBlock N (r .rest .block)) (r .rest) x f in After N s (applyAll s (w .steps) img) (w .last) (nextState st f)
       went e =
           let k : ℕ = nextBlock N (r .rest .block) in
-          let long : length moved ≡ suc (r .rest .last) = length-all-steps s (transferPlan N (r .rest .block) (x .time) st) img ∙ h .long in
+          let long : length moved ≡ suc (r .rest .last) = length-all-steps s (transferPlan N (r .rest .block) x st) img ∙ h .long in
           subst (λ (i : List ℕ). After N s i (idle (landing (r .rest) k (claimed st + frameLen f))) (nextState st f))
-          (sym (apply-append s (transferPlan N (r .rest .block) (x .time) st) (appendPlan k (claimed st) f) img))
+          (sym (apply-append s (transferPlan N (r .rest .block) x st) (appendPlan k (claimed st) f) img))
           (subst₂ (λ (n : ℕ) (z : State). After N s (applyAll s (appendPlan k n f) moved) (idle (landing (r .rest) k (n + frameLen f))) (nextState z f))
           (frames-total st)
           (replay-framesOf st)
-          (append-ends (new e) f after (r .rest) (h .blocks) long (subst (λ (z : State). Roomy s (nextState z f)) (sym (replay-framesOf st)) room)))
+          (append-ends (new e) refl f after (r .rest) (h .blocks) long (subst (λ (z : State). Roomy s (nextState z f)) (sym (replay-framesOf st)) room)))

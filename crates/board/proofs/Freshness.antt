@@ -1,5 +1,5 @@
 -- Refusal 11: `held` finds exactly what document 01 asks for.
-use mathlib.Core.Path.{_≡_, sym, ap, _∙_}
+use mathlib.Core.Path.{_≡_, sym, ap, ap₂, _∙_}
 use mathlib.Core.List.{List}
 use mathlib.Core.Option.{some}
 use mathlib.Core.Bool.{Bool, true, _&&_}
@@ -14,38 +14,37 @@ use Rattle.flash.proofs.Cases.{and-both, and-left, and-right}
 use Rattle.flash.proofs.Blank.{is-ff}
 use Rattle.flash.proofs.Image.{length-block, bytes-block}
 use Rattle.frame.specs.Frame.{endLen}
-use Rattle.frame.specs.Reader.{clean}
 use Rattle.frame.specs.Sentences.{Blank}
-use Rattle.journal.specs.Replay.{replay}
-use Rattle.journal.specs.Block.{BlockState, valid, blockState, headerLen}
+use Rattle.frame.specs.Reader.{Tail, clean}
+use Rattle.journal.specs.Block.{Journal, BlockState, valid, blockState, headerLen}
 use Rattle.journal.specs.Sentences.{BlankBlock}
-use Rattle.journal.specs.Room.{claimed, openHosts}
+use Rattle.journal.specs.Room.{openHosts}
 use Rattle.journal.proofs.Sentences.{states-exact}
 use Rattle.board.specs.declared.Record.{Record}
 use Rattle.board.specs.Record.{allowed, idle}
 use Rattle.board.specs.Step.{sameShape}
-use Rattle.board.specs.Mount.{endOf}
-use Rattle.board.specs.Queue.{Held, held, heldIf, heldIn, heldBy, fitsRecord, othersBlank, sameImage}
+use Rattle.board.specs.Mount.{endOf, replayOf, claimedOf}
+use Rattle.board.specs.Queue.{held, heldIf, heldIn, heldBy, fitsRecord, othersBlank, sameImage}
 use Rattle.board.specs.Table.{Fresh, FreshExact}
 use Rattle.board.proofs.Images.{Sized, sized-of, sized-block}
 use Rattle.board.proofs.Blocks.{others-are}
 use Rattle.board.proofs.Pipeline.{same-shape}
 use Rattle.board.proofs.Invariant.{Ready}
 use Rattle.board.proofs.Holding.{Passed, passed, held-inv}
-use Rattle.board.proofs.Replies.{heldOf, held-ready}
+use Rattle.board.proofs.Replies.{held-ready}
 
 blank-means : (l : List ℕ) → Blank l → allFF l ≡ true
 blank-means l e = is-ff l e
 
-held-here : (N : ℕ) (img : List ℕ) (r : Record) (x : Held) → sameImage N img r ≡ true
-    → blockState (block (sizeOf N img) (r .rest .block) img) ≡ valid (x .time) (x .frames) clean → fitsRecord (sizeOf N img) (r .rest .end) (x .frames) ≡ true
+held-here : (N : ℕ) (img : List ℕ) (r : Record) (x : Journal) → sameImage N img r ≡ true
+    → blockState (block (sizeOf N img) (r .rest .block) img) ≡ valid x → x .tail ≡ clean → fitsRecord (sizeOf N img) (r .rest .end) x ≡ true
     → held N img r ≡ some x
 unfolding held
-held-here N img r x a v f =
+held-here N img r x a v c f =
     ap (λ (b : Bool). heldBy N b img r) a ∙ ap (λ (b : BlockState). heldIn (sizeOf N img) (r .rest .end) b) v
-    ∙ ap (λ (b : Bool). heldIf b (x .time) (x .frames)) f
+    ∙ ap₂ (λ (b : Bool) (c : Tail). heldIf b c x) f c
 
-module _ (N : ℕ) (img : List ℕ) (r : Record) (x : Held) (by : Bytes img) (ok : allowed N (length img) ≡ true) where
+module _ (N : ℕ) (img : List ℕ) (r : Record) (x : Journal) (by : Bytes img) (ok : allowed N (length img) ≡ true) where
   abbrev s : ℕ
   s = sizeOf N img
 
@@ -57,25 +56,26 @@ module _ (N : ℕ) (img : List ℕ) (r : Record) (x : Held) (by : Bytes img) (ok
 
   held-fresh : held N img r ≡ some x → Fresh N img r x
   held-fresh e =
-      let v : (w : Ready N s img (idle (r .rest))) × (w .time ≡ x .time) × (w .frames ≡ x .frames) = held-inv r sized by e in
+      let v : (w : Ready N s img (idle (r .rest))) × (w .journal ≡ x) = held-inv r sized by e in
       let p : Passed N s img r x = passed sized e in
       let beside : Bool = ltb (r .rest .block) N && othersBlank N (r .rest .block) img (blockNumbers N) in
       let shape : sameShape N (length img) r ≡ true = and-left (sameShape N (length img) r) beside (p .same) in
       let rest : beside ≡ true = and-right (sameShape N (length img) r) beside (p .same) in
       let there : r .rest .block < N =
       ltb-true (r .rest .block) N (and-left (ltb (r .rest .block) N) (othersBlank N (r .rest .block) img (blockNumbers N)) rest) in
-      let c : Bool = leb (claimed (replay (x .frames)) + endLen * openHosts (replay (x .frames) .pending)) s in
+      let c : Bool = leb (claimedOf x + endLen * openHosts (replayOf x .pending)) s in
       record {
         length-is = eqb-true (length img) (suc (r .rest .last)) (and-left (eqb (length img) (suc (r .rest .last))) (eqb N (r .rest .blocks)) shape);
         blocks-are = eqb-true N (r .rest .blocks) (and-right (eqb (length img) (suc (r .rest .last))) (eqb N (r .rest .blocks)) shape);
         there = there;
-        is-valid = states-exact .is-valid (block s (r .rest .block) img) (x .time) (x .frames) clean (bytes-block s (r .rest .block) img by)
+        is-valid = states-exact .is-valid (block s (r .rest .block) img) x (bytes-block s (r .rest .block) img by)
             (long-block (r .rest .block) there) .0
             (p .is-valid);
-        ends = eqb-true (endOf (x .frames)) (r .rest .end) (and-left (eqb (endOf (x .frames)) (r .rest .end)) c (p .fits));
+        is-clean = p .is-clean;
+        ends = eqb-true (endOf x) (r .rest .end) (and-left (eqb (endOf x) (r .rest .end)) c (p .fits));
         others-blank = λ j h n. blank-there j h n (othersOf (v .0) j h n);
-        room = leb-true (claimed (replay (x .frames)) + endLen * openHosts (replay (x .frames) .pending)) s
-            (and-right (eqb (endOf (x .frames)) (r .rest .end)) c (p .fits));
+        room = leb-true (claimedOf x + endLen * openHosts (replayOf x .pending)) s
+            (and-right (eqb (endOf x) (r .rest .end)) c (p .fits));
       }
     where
       blank-there : (j : ℕ) → j < N → (j ≡ r .rest .block → ⊥) → block s j img ≡ replicate s 255 → BlankBlock (block s j img)
@@ -91,20 +91,21 @@ module _ (N : ℕ) (img : List ℕ) (r : Record) (x : Held) (by : Bytes img) (ok
       (same-shape (length img) r (y .length-is) (y .blocks-are))
       (and-both (ltb (r .rest .block) N) (othersBlank N (r .rest .block) img (blockNumbers N)) (lt-ltb (r .rest .block) N (y .there))
       (others-are N (r .rest .block) img (λ j h n. blank-means (block s j img) (y .others-blank j h n)))))
-      (states-exact .is-valid (block s (r .rest .block) img) (x .time) (x .frames) clean (bytes-block s (r .rest .block) img by)
+      (states-exact .is-valid (block s (r .rest .block) img) x (bytes-block s (r .rest .block) img by)
       (long-block (r .rest .block) (y .there)) .1
       (y .is-valid))
-      (and-both (eqb (endOf (x .frames)) (r .rest .end)) (leb (claimed (replay (x .frames)) + endLen * openHosts (replay (x .frames) .pending)) s)
-      (eq-eqb (endOf (x .frames)) (r .rest .end) (y .ends))
-      (le-leb (claimed (replay (x .frames)) + endLen * openHosts (replay (x .frames) .pending)) s (y .room)))
+      (y .is-clean)
+      (and-both (eqb (endOf x) (r .rest .end)) (leb (claimedOf x + endLen * openHosts (replayOf x .pending)) s)
+      (eq-eqb (endOf x) (r .rest .end) (y .ends))
+      (le-leb (claimedOf x + endLen * openHosts (replayOf x .pending)) s (y .room)))
 
 pub fresh-exact : FreshExact
 unfolding FreshExact
 fresh-exact N img r x by ok = (held-fresh N img r x by ok, fresh-held N img r x by ok)
 
-pub fresh-valid : (N : ℕ) (img : List ℕ) (r : Record) (x : Held) → Bytes img → allowed N (length img) ≡ true → Fresh N img r x
-    → blockState (block (sizeOf N img) (r .rest .block) img) ≡ valid (x .time) (x .frames) clean
+pub fresh-valid : (N : ℕ) (img : List ℕ) (r : Record) (x : Journal) → Bytes img → allowed N (length img) ≡ true → Fresh N img r x
+    → blockState (block (sizeOf N img) (r .rest .block) img) ≡ valid x
 fresh-valid N img r x by ok y = passed (sized-of N img ok) (fresh-held N img r x by ok y) .is-valid
 
-pub ready-fresh : {N : ℕ} {s : ℕ} {img : List ℕ} {r : Record} → Sized N s img → Bytes img → (y : Ready N s img r) → Fresh N img r (heldOf y)
-ready-fresh {N} {s} {img} {r} z by y = held-fresh N img r (heldOf y) by (z .ok) (held-ready z y)
+pub ready-fresh : {N : ℕ} {s : ℕ} {img : List ℕ} {r : Record} → Sized N s img → Bytes img → (y : Ready N s img r) → Fresh N img r (y .journal)
+ready-fresh {N} {s} {img} {r} z by y = held-fresh N img r (y .journal) by (z .ok) (held-ready z y)

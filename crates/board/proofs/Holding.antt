@@ -13,64 +13,65 @@ use Rattle.flash.specs.Flash.{blockNumbers, block, sizeOf}
 use Rattle.flash.proofs.Cases.{on-test, and-left, and-right}
 use Rattle.flash.proofs.Blank.{all-ff}
 use Rattle.flash.proofs.Image.{length-block, bytes-block}
-use Rattle.frame.specs.Frame.{Frame, endLen}
-use Rattle.frame.specs.Reader.{clean, cut, bad}
-use Rattle.journal.specs.Replay.{replay}
-use Rattle.journal.specs.Block.{BlockState, blank, inProgress, valid, foreign, blockState}
-use Rattle.journal.specs.Room.{claimed, openHosts}
+use Rattle.frame.specs.Frame.{endLen}
+use Rattle.frame.specs.Reader.{clean, cut, bad, Tail}
+use Rattle.journal.specs.Block.{Journal, BlockState, blank, inProgress, valid, foreign, blockState}
+use Rattle.journal.specs.Room.{openHosts}
 use Rattle.journal.proofs.States.{valid-inv}
 use Rattle.board.specs.declared.Record.{Record}
 use Rattle.board.specs.Record.{idle}
 use Rattle.board.specs.Step.{sameShape}
-use Rattle.board.specs.Mount.{endOf}
-use Rattle.board.specs.Queue.{Held, held, heldBy, heldIn, heldIf, fitsRecord, sameImage, othersBlank}
+use Rattle.board.specs.Mount.{endOf, replayOf, claimedOf}
+use Rattle.board.specs.Queue.{held, heldBy, heldIn, heldIf, fitsRecord, sameImage, othersBlank}
 use Rattle.board.proofs.Images.{Sized, size-of, sized-block}
 use Rattle.board.proofs.Blocks.{others-blank}
 use Rattle.board.proofs.Invariant.{Others, Ready}
 
 -- what a check that passed has seen
-pub record Passed (N : ℕ) (s : ℕ) (img : List ℕ) (r : Record) (x : Held) : Type 0 where
+pub record Passed (N : ℕ) (s : ℕ) (img : List ℕ) (r : Record) (x : Journal) : Type 0 where
   pub same : sameImage N img r ≡ true
-  pub is-valid : blockState (block s (r .rest .block) img) ≡ valid (x .time) (x .frames) clean
-  pub fits : fitsRecord s (r .rest .end) (x .frames) ≡ true
+  pub is-valid : blockState (block s (r .rest .block) img) ≡ valid x
+  pub is-clean : x .tail ≡ clean
+  pub fits : fitsRecord s (r .rest .end) x ≡ true
 
-held-if : (b : Bool) (t : ℕ) (fs : List Frame) (x : Held) → heldIf b t fs ≡ some x → (b ≡ true) × (record { time = t; frames = fs } ≡ x)
-held-if true t fs x e = (refl, cc)
-held-if false t fs x e = let z : _≡_ {A = ℕ} 0 1 = cc in absurd (omega arith)
+record Inside (s e : ℕ) (b : BlockState) (x : Journal) : Type 0 where
+  is-valid : b ≡ valid x
+  is-clean : x .tail ≡ clean
+  fits : fitsRecord s e x ≡ true
 
-record Inside (s e : ℕ) (b : BlockState) (x : Held) : Type 0 where
-  is-valid : b ≡ valid (x .time) (x .frames) clean
-  fits : fitsRecord s e (x .frames) ≡ true
+held-if : (b : Bool) (c : Tail) (w x : Journal) → heldIf b c w ≡ some x → (b ≡ true) × (c ≡ clean) × (w ≡ x)
+held-if true clean w x e = (refl, refl, cc)
+held-if false clean w x e = let z : _≡_ {A = ℕ} 0 1 = cc in absurd (omega arith)
+held-if b (cut n) w x e = let z : _≡_ {A = ℕ} 0 1 = cc in absurd (omega arith)
+held-if b (bad f) w x e = let z : _≡_ {A = ℕ} 0 1 = cc in absurd (omega arith)
 
-inside-clean : (s e t : ℕ) (fs : List Frame) (x : Held) → heldIf (fitsRecord s e fs) t fs ≡ some x → Inside s e (valid t fs clean) x
-inside-clean s e t fs x q =
-    let y : (fitsRecord s e fs ≡ true) × (record { time = t; frames = fs } ≡ x) = held-if (fitsRecord s e fs) t fs x q in
-    subst (λ (w : Held). Inside s e (valid t fs clean) w) (y .1) (record { is-valid = refl; fits = y .0 })
+inside : (s e : ℕ) (w x : Journal) → heldIf (fitsRecord s e w) (w .tail) w ≡ some x → Inside s e (valid w) x
+inside s e w x q =
+    let y = held-if (fitsRecord s e w) (w .tail) w x q in
+    subst (Inside s e (valid w)) (y .2) (record { is-valid = refl; is-clean = y .1; fits = y .0 })
 
-held-in : (s e : ℕ) (b : BlockState) (x : Held) → heldIn s e b ≡ some x → Inside s e b x
+held-in : (s e : ℕ) (b : BlockState) (x : Journal) → heldIn s e b ≡ some x → Inside s e b x
 held-in s e blank x q = let z : _≡_ {A = ℕ} 0 1 = cc in absurd (omega arith)
 held-in s e inProgress x q = let z : _≡_ {A = ℕ} 0 1 = cc in absurd (omega arith)
-held-in s e (valid t fs clean) x q = inside-clean s e t fs x q
-held-in s e (valid t fs (cut n)) x q = let z : _≡_ {A = ℕ} 0 1 = cc in absurd (omega arith)
-held-in s e (valid t fs (bad f)) x q = let z : _≡_ {A = ℕ} 0 1 = cc in absurd (omega arith)
+held-in s e (valid w) x q = inside s e w x q
 held-in s e (foreign f) x q = let z : _≡_ {A = ℕ} 0 1 = cc in absurd (omega arith)
 
-held-by : (N : ℕ) (b : Bool) (img : List ℕ) (r : Record) (x : Held) → heldBy N b img r ≡ some x
+held-by : (N : ℕ) (b : Bool) (img : List ℕ) (r : Record) (x : Journal) → heldBy N b img r ≡ some x
     → (b ≡ true) × Inside (sizeOf N img) (r .rest .end) (blockState (block (sizeOf N img) (r .rest .block) img)) x
 held-by N true img r x e = (refl, held-in (sizeOf N img) (r .rest .end) (blockState (block (sizeOf N img) (r .rest .block) img)) x e)
 held-by N false img r x e = let z : _≡_ {A = ℕ} 0 1 = cc in absurd (omega arith)
 
-pub passed : {N : ℕ} {s : ℕ} {img : List ℕ} {r : Record} {x : Held} → Sized N s img → held N img r ≡ some x → Passed N s img r x
+pub passed : {N : ℕ} {s : ℕ} {img : List ℕ} {r : Record} {x : Journal} → Sized N s img → held N img r ≡ some x → Passed N s img r x
 unfolding held
 passed {N} {s} {img} {r} {x} z e =
     let y : (sameImage N img r ≡ true) × Inside (sizeOf N img) (r .rest .end) (blockState (block (sizeOf N img) (r .rest .block) img)) x =
     held-by N (sameImage N img r) img r x e in
     let i : Inside s (r .rest .end) (blockState (block s (r .rest .block) img)) x =
     subst (λ (n : ℕ). Inside n (r .rest .end) (blockState (block n (r .rest .block) img)) x) (size-of z) (y .1) in
-    record { same = y .0; is-valid = i .is-valid; fits = i .fits }
+    record { same = y .0; is-valid = i .is-valid; is-clean = i .is-clean; fits = i .fits }
 
-pub held-inv : {N : ℕ} {s : ℕ} {img : List ℕ} {x : Held} (r : Record) → Sized N s img → Bytes img → held N img r ≡ some x
-    → (y : Ready N s img (idle (r .rest))) × (y .time ≡ x .time) × (y .frames ≡ x .frames)
+pub held-inv : {N : ℕ} {s : ℕ} {img : List ℕ} {x : Journal} (r : Record) → Sized N s img → Bytes img → held N img r ≡ some x
+    → (y : Ready N s img (idle (r .rest))) × (y .journal ≡ x)
 held-inv {N} {s} {img} {x} r z b e =
     let p : Passed N s img r x = passed z e in
     let k : ℕ = r .rest .block in
@@ -82,23 +83,22 @@ held-inv {N} {s} {img} {x} r z b e =
     let there : k < N = ltb-true k N (and-left (ltb k N) (othersBlank N k img (blockNumbers N)) beside) in
     let others : othersBlank N k img (blockNumbers N) ≡ true = and-right (ltb k N) (othersBlank N k img (blockNumbers N)) beside in
     let n : length (block s k img) ≡ s = length-block s k img (sized-block k z there) in
-    let room : leb (claimed (replay (x .frames)) + endLen * openHosts (replay (x .frames) .pending)) s ≡ true =
-    and-right (eqb (endOf (x .frames)) (r .rest .end)) (leb (claimed (replay (x .frames)) + endLen * openHosts (replay (x .frames) .pending)) s) (p .fits) in (
+    let room : leb (claimedOf x + endLen * openHosts (replayOf x .pending)) s ≡ true =
+    and-right (eqb (endOf x) (r .rest .end)) (leb (claimedOf x + endLen * openHosts (replayOf x .pending)) s) (p .fits) in (
       record {
         stands = r .rest;
         is = refl;
         blocks = sym blocks;
         long = eqb-true (length img) (suc (r .rest .last)) (and-left (eqb (length img) (suc (r .rest .last))) (eqb N (r .rest .blocks)) shape);
         there = there;
-        time = x .time;
-        frames = x .frames;
-        contents = valid-inv (block s k img) (x .time) (x .frames) clean (bytes-block s k img b) (omega (arith, z .low)) (p .is-valid);
-        ends = sym (eqb-true (endOf (x .frames)) (r .rest .end) (and-left (eqb (endOf (x .frames)) (r .rest .end))
-            (leb (claimed (replay (x .frames)) + endLen * openHosts (replay (x .frames) .pending)) s) (p .fits)));
-        room = leb-true (claimed (replay (x .frames)) + endLen * openHosts (replay (x .frames) .pending)) s room;
+        journal = x;
+        is-clean = p .is-clean;
+        contents = valid-inv (block s k img) x (bytes-block s k img b) (omega (arith, z .low)) (p .is-valid);
+        ends = sym (eqb-true (endOf x) (r .rest .end) (and-left (eqb (endOf x) (r .rest .end))
+            (leb (claimedOf x + endLen * openHosts (replayOf x .pending)) s) (p .fits)));
+        room = leb-true (claimedOf x + endLen * openHosts (replayOf x .pending)) s room;
         others = blanks k others;
       },
-      refl,
       refl,
     )
   where

@@ -8,11 +8,11 @@ use Rattle.flash.specs.Bytes.{Bytes}
 use Rattle.flash.specs.Flash.{Step, program, erase, applyAll, block, withBlock, write}
 use Rattle.flash.specs.Raised.{Raised}
 use Rattle.frame.specs.declared.Host.{Host}
-use Rattle.frame.specs.Frame.{Frame, hostMax, deleteLen, endLen}
-use Rattle.frame.specs.Reader.{Tail, clean}
-use Rattle.journal.specs.Replay.{Object, Entry, replay, listOf}
-use Rattle.journal.specs.Block.{BlockState, blank, inProgress, valid, foreign, blockState}
-use Rattle.journal.specs.Room.{claimed, openHosts}
+use Rattle.frame.specs.Frame.{hostMax, deleteLen, endLen}
+use Rattle.frame.specs.Reader.{clean}
+use Rattle.journal.specs.Replay.{Object, Entry, listOf}
+use Rattle.journal.specs.Block.{Journal, BlockState, blank, inProgress, valid, foreign, blockState}
+use Rattle.journal.specs.Room.{openHosts}
 use Rattle.journal.proofs.States.{Contents}
 use Rattle.journal.proofs.Raising.{Harmless}
 use Rattle.journal.proofs.Room.{kept}
@@ -22,7 +22,7 @@ use Rattle.board.specs.declared.Phase.the-variants.{Unmounted, Idle, Bus
 use Rattle.board.specs.declared.Rest.{Rest}
 use Rattle.board.specs.declared.Record.{Record}
 use Rattle.board.specs.Record.{idle}
-use Rattle.board.specs.Mount.{endOf}
+use Rattle.board.specs.Mount.{replayOf, endOf, claimedOf}
 use Rattle.board.specs.Exec.{exec}
 use Rattle.board.specs.Plan.{Follows}
 use Rattle.board.specs.Book.{Book, UnderWay, nothing, formatting, finishing}
@@ -32,18 +32,16 @@ use Rattle.board.proofs.Images.{Sized}
 
 -- block k is valid and holds the objects, with room for a delete and its commit
 pub record Valid (s : ℕ) (img : List ℕ) (k : ℕ) (os : List Object) : Type 0 where
-  pub time : ℕ
-  pub frames : List Frame
-  pub tail : Tail
-  pub contents : Contents (block s k img) time frames tail
-  pub room : kept (replay frames) + (deleteLen + endLen) ≤ s
-  pub same : replay frames .objects ≡ os
+  pub journal : Journal
+  pub contents : Contents (block s k img) journal
+  pub room : kept (replayOf journal) + (deleteLen + endLen) ≤ s
+  pub same : replayOf journal .objects ≡ os
 
 -- a block that a mount erases: blank or in progress
 abbrev pub Quiet : BlockState → Type 0
 Quiet blank = Unit {0}
 Quiet inProgress = Unit {0}
-Quiet (valid t fs c) = ⊥
+Quiet (valid w) = ⊥
 Quiet (foreign e) = ⊥
 
 -- every block but these
@@ -64,7 +62,7 @@ pub record Lessers (N : ℕ) (s : ℕ) (img : List ℕ) (t k : ℕ) : Type 0 whe
 -- unfinished
 pub data Safe (N : ℕ) (s : ℕ) (img : List ℕ) (os : List Object) (unfinished : Bool) : Type 0 where
   no-valid : unfinished ≡ true → ((j : ℕ) → j < N → Quiet (blockState (block s j img))) → Safe N s img os unfinished
-  some-valid : (k : ℕ) → k < N → (v : Valid s img k os) → Lessers N s img (v .time) k → Safe N s img os unfinished
+  some-valid : (k : ℕ) → k < N → (v : Valid s img k os) → Lessers N s img (v .journal .time) k → Safe N s img os unfinished
 
 -- a mount finds them too where the step is an erase and is cut
 abbrev pub CutSafe : ℕ → ℕ → List Object → Bool → Step → List ℕ → Type 0
@@ -88,11 +86,11 @@ pub record Ready (N : ℕ) (s : ℕ) (img : List ℕ) (r : Record) : Type 0 wher
   pub blocks : stands .blocks ≡ N
   pub long : length img ≡ suc (stands .last)
   pub there : stands .block < N
-  pub time : ℕ
-  pub frames : List Frame
-  pub contents : Contents (block s (stands .block) img) time frames clean
-  pub ends : stands .end ≡ endOf frames
-  pub room : claimed (replay frames) + endLen * openHosts (replay frames .pending) ≤ s
+  pub journal : Journal
+  pub contents : Contents (block s (stands .block) img) journal
+  pub is-clean : journal .tail ≡ clean
+  pub ends : stands .end ≡ endOf journal
+  pub room : claimedOf journal + endLen * openHosts (replayOf journal .pending) ≤ s
   pub others : Others N (λ j. block s j img ≡ replicate s 255) (stands .block)
 
 abbrev pub Lists : List Entry → Book → Type 0
@@ -100,9 +98,9 @@ Lists ps b = (h : Host) → h .0 ≤ hostMax → listOf h ps ≡ b .lists h
 
 pub record IdleBook (N : ℕ) (s : ℕ) (img : List ℕ) (r : Record) (b : Book) : Type 0 where
   pub ready : Ready N s img r
-  pub spare : kept (replay (ready .frames)) + (deleteLen + endLen) ≤ s
-  pub objects : replay (ready .frames) .objects ≡ b .objects
-  pub lists : Lists (replay (ready .frames) .pending) b
+  pub spare : kept (replayOf (ready .journal)) + (deleteLen + endLen) ≤ s
+  pub objects : replayOf (ready .journal) .objects ≡ b .objects
+  pub lists : Lists (replayOf (ready .journal) .pending) b
   pub under : b .under ≡ nothing
 
 -- ---- a record in a job: `count` steps of a plan are done on the image it began with; P holds of every step still to be done

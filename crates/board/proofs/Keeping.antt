@@ -11,7 +11,6 @@ use Rattle.flash.specs.Flash.{Step, erase, apply, block, sizeOf, withBlock, era
 use Rattle.flash.specs.Raised.{Raised}
 use Rattle.flash.proofs.Image.{length-apply, bytes-apply}
 use Rattle.flash.proofs.Raising.{raised-blank, length-with, bytes-with, with-same, as-erase}
-use Rattle.frame.specs.Reader.{clean}
 use Rattle.journal.specs.Replay.{Object}
 use Rattle.wire.specs.declared.Answer.{Answer}
 use Rattle.wire.specs.declared.Answer.the-variants.{Done, More}
@@ -81,11 +80,11 @@ on-phase {N} {C} {s} {img} {r} {b} {u} v f g h = go (r .phase) refl (v .phase)
 
 abbrev pub idle-valid : {N s : ℕ} {img : List ℕ} {r : Record} {b : Book} (y : IdleBook N s img r b) → Valid s img (y .ready .stands .block) (b .objects)
 idle-valid y =
-    record { time = y .ready .time; frames = y .ready .frames; tail = clean; contents = y .ready .contents; room = y .spare; same = y .objects }
+    record { journal = y .ready .journal; contents = y .ready .contents; room = y .spare; same = y .objects }
 
 pub safe-idle : {N : ℕ} {s : ℕ} {img : List ℕ} {r : Record} {b : Book} {u : Bool} → Sized N s img → IdleBook N s img r b → Safe N s img (b .objects) u
 safe-idle {N} z y =
-    some-valid (y .ready .stands .block) (y .ready .there) (idle-valid y) (blank-lessers z (y .ready .time) (y .ready .others))
+    some-valid (y .ready .stands .block) (y .ready .there) (idle-valid y) (blank-lessers z (y .ready .journal .time) (y .ready .others))
 
 pub safe-of : {N : ℕ} {s : ℕ} {img : List ℕ} {r : Record} {b : Book} {u : Bool} → Inv N s img r b u → Safe N s img (b .objects) u
 safe-of {N} {s} {img} {r} {b} {u} v =

@@ -10,24 +10,23 @@ use Rattle.flash.specs.Flash.{Step, erase, Write, writeStep, writes}
 use Rattle.flash.proofs.Programming.{length-writes}
 use Rattle.frame.specs.Frame.{Frame, encode, encodeAll, frameLen}
 use Rattle.frame.proofs.First.{length-encode}
-use Rattle.journal.specs.Replay.{State, framesOf, settledOnly, replay}
-use Rattle.journal.specs.Block.{build}
-use Rattle.journal.specs.Room.{used, claimed}
+use Rattle.journal.specs.Replay.{State, framesOf, settledOnly}
+use Rattle.journal.specs.Block.{Journal, build}
+use Rattle.journal.specs.Room.{claimed}
 use Rattle.journal.proofs.Room.{frames-total, claimed-settled}
 use Rattle.journal.proofs.Building.{length-build}
 use Rattle.board.specs.declared.Rest.{Rest}
-use Rattle.board.specs.Mount.{Store, storeAt, Upkeep, rests, moves, upkeep, formatOrder}
-use Rattle.board.specs.Queue.{Held}
+use Rattle.board.specs.Mount.{Store, storeAt, Upkeep, rests, moves, upkeep, formatOrder, replayOf, usedOf, claimedOf}
 use Rattle.board.specs.Plan.{onBlock, transferTo, appendPlan, programs, Work, formatWork, upkeepWork, mountIn, appendWork, movedWork, frameIn}
 use Rattle.board.proofs.Order.{length-order}
 
 -- "C - 5 steps"
-pub length-transfer : (j k time : ℕ) (st : State) → length (transferTo j k time st) + 5 ≡ claimed st
-length-transfer j k time st =
-    let ws : List Write = build (suc time) (framesOf st) in
-    let e : length (transferTo j k time st) ≡ length ws + 1 =
+pub length-transfer : (j k : ℕ) (w : Journal) (st : State) → length (transferTo j k w st) + 5 ≡ claimed st
+length-transfer j k w st =
+    let ws : List Write = build (suc (w .time)) (framesOf st) in
+    let e : length (transferTo j k w st) ≡ length ws + 1 =
     length-append (onBlock j ws) (erase k ∷ []) ∙ ap (λ (n : ℕ). n + 1) (length-map ws (writeStep j)) in
-    omega (arith, length-build (suc time) (framesOf st), frames-total st)
+    omega (arith, length-build (suc (w .time)) (framesOf st), frames-total st)
 
 pub length-plan-append : (k end : ℕ) (f : Frame) → length (appendPlan k end f) ≡ frameLen f
 length-plan-append k end f = length-map (writes end (encode f)) (writeStep k) ∙ length-writes end (encode f) ∙ length-encode f
@@ -50,7 +49,7 @@ format-some N img = go (formatWork N img .steps) refl
     go (x ∷ xs) e = (x, xs, e)
 
 -- a frame's work, after a transfer or without one
-pub frame-cases : (Q : Work → Type 0) (s j : ℕ) (z : Rest) (x : Held) (f : Frame) → (ltb s (z .end + frameLen f) ≡ true → Q (movedWork j z x f))
+pub frame-cases : (Q : Work → Type 0) (s j : ℕ) (z : Rest) (x : Journal) (f : Frame) → (ltb s (z .end + frameLen f) ≡ true → Q (movedWork j z x f))
     → (ltb s (z .end + frameLen f) ≡ false → Q (appendWork z f)) → Q (frameIn s j z x f)
 frame-cases Q s j z x f moved stayed = go (ltb s (z .end + frameLen f)) refl
   where
@@ -58,22 +57,22 @@ frame-cases Q s j z x f moved stayed = go (ltb s (z .end + frameLen f)) refl
     go true e = moved e
     go false e = stayed e
 
-length-moved : (j : ℕ) (z : Rest) (x : Held) (f : Frame) → length (movedWork j z x f .steps) + 5 ≡ claimed (replay (x .frames)) + frameLen f
+length-moved : (j : ℕ) (z : Rest) (x : Journal) (f : Frame) → length (movedWork j z x f .steps) + 5 ≡ claimedOf x + frameLen f
 length-moved j z x f =
-    let st : State = replay (x .frames) in
+    let st : State = replayOf x in
     omega (
       arith,
-      length-append (transferTo j (z .block) (x .time) st) (appendPlan j (claimed st) f),
-      length-transfer j (z .block) (x .time) st,
+      length-append (transferTo j (z .block) x st) (appendPlan j (claimed st) f),
+      length-transfer j (z .block) x st,
       length-plan-append j (claimed st) f,
     )
 
-pub frame-short : (s j : ℕ) (z : Rest) (x : Held) (f : Frame) → claimed (replay (x .frames)) + frameLen f ≤ s → length (frameIn s j z x f .steps) ≤ s
+pub frame-short : (s j : ℕ) (z : Rest) (x : Journal) (f : Frame) → claimedOf x + frameLen f ≤ s → length (frameIn s j z x f .steps) ≤ s
 frame-short s j z x f h =
     frame-cases (λ w. length (w .steps) ≤ s) s j z x f (λ e. omega (arith, length-moved j z x f))
     (λ e. omega (arith, length-plan-append (z .block) (z .end) f))
 
-pub frame-some : (s j : ℕ) (z : Rest) (x : Held) (f : Frame) → 0 < length (frameIn s j z x f .steps)
+pub frame-some : (s j : ℕ) (z : Rest) (x : Journal) (f : Frame) → 0 < length (frameIn s j z x f .steps)
 frame-some s j z x f =
     frame-cases (λ w. 0 < length (w .steps)) s j z x f (λ e. omega (arith, length-moved j z x f))
     (λ e. omega (arith, length-plan-append (z .block) (z .end) f))
@@ -91,11 +90,11 @@ programs-writes k [] xs = refl
 programs-writes k (w ∷ ws) xs = ap (λ (ys : List Step). writeStep k w ∷ ys) (programs-writes k ws xs)
 
 -- a transfer has one erase
-programs-transfer : (j k time : ℕ) (st : State) → length (transferTo j k time st) ≡ suc (length (programs (transferTo j k time st)))
+programs-transfer : (j k : ℕ) (w : Journal) (st : State) → length (transferTo j k w st) ≡ suc (length (programs (transferTo j k w st)))
 unfolding programs
-programs-transfer j k time st =
-    let ws : List Write = build (suc time) (framesOf st) in
-    let e : length (programs (transferTo j k time st)) ≡ length (onBlock j ws) + 0 =
+programs-transfer j k w st =
+    let ws : List Write = build (suc (w .time)) (framesOf st) in
+    let e : length (programs (transferTo j k w st)) ≡ length (onBlock j ws) + 0 =
     ap (λ (xs : List Step). length xs) (programs-writes j ws (erase k ∷ [])) ∙ length-append (onBlock j ws) [] in
     omega (arith, e, length-append (onBlock j ws) (erase k ∷ []))
 
@@ -103,20 +102,20 @@ programs-transfer j k time st =
 
 -- its steps but the first erases program what a transfer does, or nothing; one erase more is the transfer's
 pub record UpkeepSteps (x : Store) (xs : List Step) : Type 0 where
-  pub programmed : length (programs xs) ≤ used (replay (x .frames))
+  pub programmed : length (programs xs) ≤ usedOf (x .journal)
   pub erased : length xs ≤ suc (length (programs xs))
 
 pub upkeep-steps : (u : Upkeep) (j : ℕ) (z : Rest) (x : Store) → UpkeepSteps x (upkeepWork u j z x .steps)
 unfolding programs
 upkeep-steps rests j z x = record { programmed = omega arith; erased = omega arith }
 upkeep-steps moves j z x =
-    let st : State = settledOnly (replay (x .frames)) in
-    let n = programs-transfer j (x .number) (x .time) st in
-    record { programmed = omega (arith, n, length-transfer j (x .number) (x .time) st, claimed-settled (replay (x .frames))); erased = omega (arith, n) }
+    let st : State = settledOnly (replayOf (x .journal)) in
+    let n = programs-transfer j (x .number) (x .journal) st in
+    record { programmed = omega (arith, n, length-transfer j (x .number) (x .journal) st, claimed-settled (replayOf (x .journal))); erased = omega (arith, n) }
 
 -- the same with the erases before it
 pub mount-steps : (N l : ℕ) (ks : List ℕ) (j : ℕ) (x : Store)
-    → (length (programs (mountIn N l ks j x .steps)) ≤ used (replay (x .frames)))
+    → (length (programs (mountIn N l ks j x .steps)) ≤ usedOf (x .journal))
     × (length (mountIn N l ks j x .steps) ≤ length (programs (mountIn N l ks j x .steps)) + suc (length ks))
 mount-steps N l ks j x =
     let xs : List Step = upkeepWork (upkeep x) j (storeAt N l x) x .steps in

@@ -10,8 +10,9 @@ use Rattle.flash.specs.Flash.{sizeOf}
 use Rattle.frame.specs.declared.Host.{Host}
 use Rattle.frame.specs.declared.ObjectId.{ObjectId}
 use Rattle.frame.specs.Frame.{Frame, put, delete, frameLen}
-use Rattle.journal.specs.Replay.{replay, entry}
-use Rattle.journal.specs.Room.{claimed, openHosts}
+use Rattle.journal.specs.Replay.{entry}
+use Rattle.journal.specs.Block.{Journal}
+use Rattle.journal.specs.Room.{openHosts}
 use Rattle.wire.specs.declared.Answer.{Answer}
 use Rattle.wire.specs.declared.Request.{Request}
 use Rattle.wire.specs.declared.Request.the-variants.{Put, Delete, Commit, Abort, Read, Log}
@@ -19,7 +20,7 @@ use Rattle.wire.specs.Answer.{numberOf}
 use Rattle.wire.specs.Message.{valueIn}
 use Rattle.board.specs.declared.Phase.the-variants.{Unmounted, Idle}
 use Rattle.board.specs.declared.Record.{Record}
-use Rattle.board.specs.Queue.{Held}
+use Rattle.board.specs.Mount.{replayOf, claimedOf}
 use Rattle.board.specs.Exec.{Machine, request}
 use Rattle.board.specs.Table.{frameFor, Line, line, Exactly, InJob, Fresh, NoObject, ShortReply, NoRoom, for-put, for-delete, Worn, requestLines}
 use Rattle.board.specs.Demand2.{Asks, RoomExact, WearExact}
@@ -57,19 +58,19 @@ same-delete : {i j : ObjectId} → Delete i ≡ Delete j → i ≡ j
 same-delete e = cc
 
 -- the sums of the room rule
-abbrev putNeeds : Host → List ℕ → Held → ObjectId → ℕ
+abbrev putNeeds : Host → List ℕ → Journal → ObjectId → ℕ
 putNeeds h msg x i =
-    claimed (replay (x .frames)) + (8 + length (valueIn msg)) + 6 * openHosts (replay (x .frames) .pending ++ (entry h (put i (valueIn msg)) ∷ [])) + 14
+    claimedOf x + (8 + length (valueIn msg)) + 6 * openHosts (replayOf x .pending ++ (entry h (put i (valueIn msg)) ∷ [])) + 14
 
-abbrev deleteNeeds : Host → Held → ObjectId → ℕ
-deleteNeeds h x i = claimed (replay (x .frames)) + 8 + 6 * openHosts (replay (x .frames) .pending ++ (entry h (delete i) ∷ []))
+abbrev deleteNeeds : Host → Journal → ObjectId → ℕ
+deleteNeeds h x i = claimedOf x + 8 + 6 * openHosts (replayOf x .pending ++ (entry h (delete i) ∷ []))
 
-module _ {N : ℕ} (img : List ℕ) (r : Record) (h : Host) (msg reply : List ℕ) (x : Held) (q : Request) (y : Asks N img r h msg x q) where
+module _ {N : ℕ} (img : List ℕ) (r : Record) (h : Host) (msg reply : List ℕ) (x : Journal) (q : Request) (y : Asks N img r h msg x q) where
   abbrev afterMalformed : List Line
   afterMalformed =
       line 8 (NoObject N img r msg) ∷ line 9 (ShortReply msg reply) ∷ line 7 (NoRoom N img r h msg) ∷ line 6 (Worn N img r h msg) ∷ []
 
-  same : (w : Held) → Fresh N img r w → w ≡ x
+  same : (w : Journal) → Fresh N img r w → w ≡ x
   same w f = same-held N img r (y .bytes) (is-allowed N (length img) (y .length-ok)) w x f (y .is-held)
 
   past : (a : Answer) → Exactly (requestLines N img r h msg reply) a → Exactly afterMalformed a
@@ -95,14 +96,14 @@ module _ {N : ℕ} (img : List ℕ) (r : Record) (h : Host) (msg reply : List �
   full-put : (i : ObjectId) → q ≡ Put i → NoRoom N img r h msg → sizeOf N img < putNeeds h msg x i
   full-put i e (for-put w j f k l) =
       let g : Put i ≡ Put j = sym e ∙ asks-one (Put j) k in
-      subst₂ (λ (v : Held) (n : ObjectId). sizeOf N img < putNeeds h msg v n) (same w f) (sym (same-put g)) l
+      subst₂ (λ (v : Journal) (n : ObjectId). sizeOf N img < putNeeds h msg v n) (same w f) (sym (same-put g)) l
   full-put i e (for-delete w j f k l) = let g : Put i ≡ Delete j = sym e ∙ asks-one (Delete j) k in let v : _≡_ {A = ℕ} 0 1 = cc in absurd (omega arith)
 
   full-delete : (i : ObjectId) → q ≡ Delete i → NoRoom N img r h msg → sizeOf N img < deleteNeeds h x i
   full-delete i e (for-put w j f k l) = let g : Delete i ≡ Put j = sym e ∙ asks-one (Put j) k in let v : _≡_ {A = ℕ} 0 1 = cc in absurd (omega arith)
   full-delete i e (for-delete w j f k l) =
       let g : Delete i ≡ Delete j = sym e ∙ asks-one (Delete j) k in
-      subst₂ (λ (v : Held) (n : ObjectId). sizeOf N img < deleteNeeds h v n) (same w f) (sym (same-delete g)) l
+      subst₂ (λ (v : Journal) (n : ObjectId). sizeOf N img < deleteNeeds h v n) (same w f) (sym (same-delete g)) l
 
   full-change : NoRoom N img r h msg → IsChange q
   full-change (for-put w j f k l) = subst IsChange (sym (asks-one (Put j) k)) tt
@@ -113,7 +114,7 @@ module _ {N : ℕ} (img : List ℕ) (r : Record) (h : Host) (msg reply : List �
       let g : w .frame ≡ f =
       the-frame (sym (w .is-frame) ∙ ap₂ (frameFor h msg) (same (w .holding) (w .is-held)) (sym (asks-one (w .asked) (w .is-asked))) ∙ e) in (
         subst (λ (n : Frame). sizeOf N img < r .rest .end + frameLen n) g (w .exceeds),
-        sym (ap (λ (v : Held). v .time) (same (w .holding) (w .is-held))) ∙ w .last-time,
+        sym (ap (λ (v : Journal). v .time) (same (w .holding) (w .is-held))) ∙ w .last-time,
       )
 
 -- the first line that holds of the last two
@@ -131,13 +132,13 @@ module _ {R W : Type 0} (a : Answer) where
 -- ---- every machine that keeps the table
 
 module _ {N : ℕ} {m : Machine} (p : Calls N m) where
-  rest-lines : (img : List ℕ) (r : Record) (h : Host) (msg reply : List ℕ) (x : Held) (q : Request) → Asks N img r h msg x q → Changes q
+  rest-lines : (img : List ℕ) (r : Record) (h : Host) (msg reply : List ℕ) (x : Journal) (q : Request) → Asks N img r h msg x q → Changes q
       → Exactly (line 7 (NoRoom N img r h msg) ∷ line 6 (Worn N img r h msg) ∷ []) (m img r (request h msg reply) .answer)
   rest-lines img r h msg reply x q y k =
       let a : Answer = m img r (request h msg reply) .answer in
       later img r h msg reply x q y k a (past img r h msg reply x q y a (p .table img r (request h msg reply) (y .bytes)))
 
-  room-exactly : (img : List ℕ) (r : Record) (h : Host) (msg reply : List ℕ) (x : Held) (q : Request) → Asks N img r h msg x q → Changes q
+  room-exactly : (img : List ℕ) (r : Record) (h : Host) (msg reply : List ℕ) (x : Journal) (q : Request) → Asks N img r h msg x q → Changes q
       → (numberOf (m img r (request h msg reply) .answer) ≡ some 7) ↔ NoRoom N img r h msg
   room-exactly img r h msg reply x q y k = room-line (m img r (request h msg reply) .answer) (rest-lines img r h msg reply x q y k)
 

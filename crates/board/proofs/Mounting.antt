@@ -6,12 +6,11 @@ use Prim.Native.Nat.{ℕ, suc, _+_, _-_, _≤_, _<_}
 use native.Mathlib.Omega.{arith}
 use lib.ListN.{length}
 use Rattle.flash.specs.Flash.{erase, applyAll}
-use Rattle.frame.specs.Reader.{Tail}
-use Rattle.journal.specs.Replay.{Object, State, replay, settledOnly}
+use Rattle.journal.specs.Replay.{Object, State, settledOnly}
 use Rattle.journal.specs.Block.{lastTime}
 use Rattle.journal.proofs.Room.{claimed-settled}
 use Rattle.board.specs.Record.{landing, idle}
-use Rattle.board.specs.Mount.{Store, allFound, wipeList, nextBlock, Upkeep, rests, moves, upkeep, storeAt}
+use Rattle.board.specs.Mount.{Store, allFound, wipeList, nextBlock, Upkeep, rests, moves, upkeep, storeAt, replayOf, timeOf}
 use Rattle.board.specs.Plan.{programs, Work, upkeepWork, mountWork}
 use Rattle.board.proofs.Upkeep.{rests-clean, rests-settled}
 use Rattle.board.proofs.Blocks.{wiped-besides}
@@ -32,7 +31,7 @@ module _ {N : ℕ} {s : ℕ} {img : List ℕ} (x : Store) (z : Sized N s img) (h
   ks = wipeList (x .number) (allFound N img)
 
   abbrev st : State
-  st = settledOnly (replay (x .frames))
+  st = settledOnly (replayOf (x .journal))
 
   abbrev kept : Upkeep → Work
   kept u = upkeepWork u (nextBlock N (x .number)) (storeAt N (length img - 1) x) x
@@ -41,7 +40,7 @@ module _ {N : ℕ} {s : ℕ} {img : List ℕ} (x : Store) (z : Sized N s img) (h
   abbrev wiped : List ℕ
   wiped = applyAll s (map erase ks) img
 
-  alone : Alone N s wiped (x .number) (x .time) (x .frames) (x .tail)
+  alone : Alone N s wiped (x .number) (x .journal)
   alone = erases-alone ks img z h y (wiped-besides N (x .number) img) (wipes-others z (x .number))
 
   pub mount-lands : Each s (StepLands s) (mountWork N img x .steps) img
@@ -49,17 +48,17 @@ module _ {N : ℕ} {s : ℕ} {img : List ℕ} (x : Store) (z : Sized N s img) (h
       each-append s (StepLands s) (map erase ks) (kept (upkeep x) .steps) img (erases-land s ks img)
       (go (upkeep x) t)
     where
-      go : (u : Upkeep) → (u ≡ moves → x .time < lastTime) → Each s (StepLands s) (kept u .steps) wiped
+      go : (u : Upkeep) → (u ≡ moves → timeOf x < lastTime) → Each s (StepLands s) (kept u .steps) wiped
       go moves l = transfer-lands alone st (moves-settled alone (l refl))
       go rests l = λ j k. absurd (omega arith)
 
-  pub mount-keeps : {os : List Object} (u : Bool) → Keeps s (replay (x .frames)) os → Lessers N s img (x .time) (x .number)
+  pub mount-keeps : {os : List Object} (u : Bool) → Keeps s (replayOf (x .journal)) os → Lessers N s img (timeOf x) (x .number)
       → Each s (Guard N s os u) (mountWork N img x .steps) img
   mount-keeps {os} u p q =
       each-append s (Guard N s os u) (map erase ks) (kept (upkeep x) .steps) img
       (erases-guard u (x .number) ks img z h (wiped-besides N (x .number) img) (valid-of y p) q) (go (upkeep x) t)
     where
-      go : (v : Upkeep) → (v ≡ moves → x .time < lastTime) → Each s (Guard N s os u) (kept v .steps) wiped
+      go : (v : Upkeep) → (v ≡ moves → timeOf x < lastTime) → Each s (Guard N s os u) (kept v .steps) wiped
       go moves l = transfer-guard alone st (moves-settled alone (l refl)) u p (keeps-settled p)
       go rests l = λ j k. absurd (omega arith)
 
@@ -76,12 +75,10 @@ module _ {N : ℕ} {s : ℕ} {img : List ℕ} (x : Store) (z : Sized N s img) (h
       go moves e =
           let after : List ℕ = applyAll s (kept moves .steps) wiped in
           subst (λ (n : ℕ). After N s after (idle (landing (storeAt N (length img - 1) x) (nextBlock N (x .number)) n)) st)
-          (claimed-settled (replay (x .frames)))
+          (claimed-settled (replayOf (x .journal)))
           (transferred alone st (moves-settled alone (t e)) (storeAt N (length img - 1) x) refl long (roomy-settled alone))
       go rests e =
-          alone-after (storeAt N (length img - 1) x) st
-          (subst (λ (c : Tail). Alone N s wiped (x .number) (x .time) (x .frames) c) (rests-clean (x .frames) (x .tail) e) alone) refl long
-          (rests-settled (x .frames) (x .tail) e) (roomy-settled alone)
+          alone-after (storeAt N (length img - 1) x) st alone (rests-clean (x .journal) e) refl long (rests-settled (x .journal) e) (roomy-settled alone)
 
   -- K14: "Demand 1's bound leaves a mount's erases aside": at most S steps without them, and of them at most N
   pub mount-short : length (programs (mountWork N img x .steps)) ≤ s
@@ -90,7 +87,7 @@ module _ {N : ℕ} {s : ℕ} {img : List ℕ} (x : Store) (z : Sized N s img) (h
         arith,
         mount-steps N (length img - 1) ks (nextBlock N (x .number)) x .0,
         roomy-settled alone,
-        claimed-settled (replay (x .frames)),
+        claimed-settled (replayOf (x .journal)),
       )
 
   pub mount-erases : length (mountWork N img x .steps) ≤ length (programs (mountWork N img x .steps)) + N

@@ -10,10 +10,8 @@ use lib.ListN.{length, length-append}
 use borrow.Author.Tests.{eqb-true, eqb-false}
 use Rattle.flash.specs.Flash.{numbersFrom, blockNumbers, block, sizeOf}
 use Rattle.flash.proofs.Cases.{on-test}
-use Rattle.frame.specs.Frame.{Frame}
-use Rattle.frame.specs.Reader.{Tail}
-use Rattle.journal.specs.Block.{BlockState, blank, inProgress, valid, foreign, blockState}
-use Rattle.board.specs.Mount.{Store, allFound, stores, newest, numbersBut, tied, orderFor, formatOrder}
+use Rattle.journal.specs.Block.{Journal, BlockState, blank, inProgress, valid, foreign, blockState, journal}
+use Rattle.board.specs.Mount.{Store, allFound, stores, newest, numbersBut, tied, orderFor, formatOrder, timeOf}
 use Rattle.board.specs.CutFormat.{Beside}
 use Rattle.board.proofs.Numbers.{length-numbers, length-but}
 use Rattle.board.proofs.Blocks.{Blocks, Besides, besides-blocks}
@@ -22,10 +20,10 @@ use Rattle.board.proofs.Found.{Among, Rising, newest-among, newest-most
 use Rattle.board.proofs.Found.{stores-rise, stores-none}
 
 -- what is valid only with a smaller time
-pub beside-of : {t : ℕ} (a : BlockState) → ((u : ℕ) (fs : List Frame) (c : Tail) → a ≡ valid u fs c → u < t) → Beside t a
+pub beside-of : {t : ℕ} (a : BlockState) → ((w : Journal) → a ≡ valid w → w .time < t) → Beside t a
 beside-of blank f = tt
 beside-of inProgress f = tt
-beside-of (valid u fs c) f = f u fs c refl
+beside-of (valid w) f = f w refl
 beside-of (foreign e) f = tt
 
 -- ---- lists of numbers
@@ -64,12 +62,10 @@ StateOf N img k = blockState (block (sizeOf N img) k img)
 
 -- block k is the current one: valid, and every other valid one has a smaller time
 pub record Newest (N : ℕ) (img : List ℕ) (k : ℕ) : Type 0 where
-  pub time : ℕ
-  pub frames : List Frame
-  pub tail : Tail
+  pub journal : Journal
   pub there : k < N
-  pub is-valid : StateOf N img k ≡ valid time frames tail
-  pub others : (j : ℕ) → j < N → (j ≡ k → ⊥) → Beside time (StateOf N img j)
+  pub is-valid : StateOf N img k ≡ valid journal
+  pub others : (j : ℕ) → j < N → (j ≡ k → ⊥) → Beside (journal .time) (StateOf N img j)
 
 -- K14: "Format erases all in number order, but the current block last if there is one"
 pub data Order (N : ℕ) (img : List ℕ) : Type 0 where
@@ -88,45 +84,43 @@ module _ (N : ℕ) (img : List ℕ) where
     holds : (p : Store) → Among p (y ∷ ys) → Holds (StateOf N img) 0 N p
     holds p i = among-holds (StateOf N img) 0 N p (subst (Among p) (sym e) i)
 
-    among : (j t : ℕ) (fs : List Frame) (c : Tail) → j < N → StateOf N img j ≡ valid t fs c → Among (store j t fs c) (y ∷ ys)
-    among j t fs c h v = subst (Among (store j t fs c)) e (holds-among (StateOf N img) 0 N j t fs c (omega arith) (omega arith) v)
+    among : (j : ℕ) (w : Journal) → j < N → StateOf N img j ≡ valid w → Among (store j w) (y ∷ ys)
+    among j w h v = subst (Among (store j w)) e (holds-among (StateOf N img) 0 N j w (omega arith) (omega arith) v)
 
     -- no other has its time
-    newest-there : tied (x .time) (y ∷ ys) ≡ false → Newest N img (x .number)
+    newest-there : tied (timeOf x) (y ∷ ys) ≡ false → Newest N img (x .number)
     newest-there t =
         let h : Holds (StateOf N img) 0 N x = holds x (newest-among y ys) in
         record {
-          time = x .time;
-          frames = x .frames;
-          tail = x .tail;
+          journal = x .journal;
           there = omega (arith, h .below);
           is-valid = h .is-valid;
-          others = λ j l d. beside-of (StateOf N img j) (λ u fs c v. newest-strict y ys t (store j u fs c) (among j u fs c l v) d);
+          others = λ j l d. beside-of (StateOf N img j) (λ w v. newest-strict y ys t (store j w) (among j w l v) d);
         }
 
     -- one of two that have it is not k
-    newest-not : tied (x .time) (y ∷ ys) ≡ true → (k : ℕ) → Newest N img k → ⊥
+    newest-not : tied (timeOf x) (y ∷ ys) ≡ true → (k : ℕ) → Newest N img k → ⊥
     newest-not t k n =
-        let p : Pair (x .time) (y ∷ ys) = tied-pair (x .time) (y ∷ ys) (subst Rising e (stores-rise (StateOf N img) 0 N)) t in
+        let p : Pair (timeOf x) (y ∷ ys) = tied-pair (timeOf x) (y ∷ ys) (subst Rising e (stores-rise (StateOf N img) 0 N)) t in
         on-test (eqb (p .low .number) k)
         (λ a. other (p .high) (p .high-in) (p .high-time) (λ b. omega (arith, p .rises, eqb-true (p .low .number) k a)))
         (λ a. other (p .low) (p .low-in) (p .low-time) (eqb-false (p .low .number) k a))
       where
-        other : (q : Store) → Among q (y ∷ ys) → q .time ≡ x .time → (q .number ≡ k → ⊥) → ⊥
+        other : (q : Store) → Among q (y ∷ ys) → timeOf q ≡ timeOf x → (q .number ≡ k → ⊥) → ⊥
         other q i a d =
             let h : Holds (StateOf N img) 0 N q = holds q i in
-            let less : q .time < n .time = subst (Beside (n .time)) (h .is-valid) (n .others (q .number) (omega (arith, h .below)) d) in
-            omega (arith, newest-most y ys (store k (n .time) (n .frames) (n .tail)) (among k (n .time) (n .frames) (n .tail) (n .there) (n .is-valid)))
+            let less : timeOf q < n .journal .time = subst (Beside (n .journal .time)) (h .is-valid) (n .others (q .number) (omega (arith, h .below)) d) in
+            omega (arith, newest-most y ys (store k (n .journal)) (among k (n .journal) (n .there) (n .is-valid)))
 
   pub order-of : Order N img
   order-of = go (stores (allFound N img)) refl
     where
       go : (xs : List Store) → stores (allFound N img) ≡ xs → Order N img
       go [] e =
-          by-number (λ k n. stores-none (StateOf N img) 0 N e k (n .time) (n .frames) (n .tail) (omega arith) (omega (arith, n .there)) (n .is-valid))
+          by-number (λ k n. stores-none (StateOf N img) 0 N e k (n .journal) (omega arith) (omega (arith, n .there)) (n .is-valid))
           (order-is e)
       go (y ∷ ys) e =
-          on-test (tied (newest y ys .time) (y ∷ ys)) (λ t. by-number (newest-not e t) (order-is e ∙ rw t))
+          on-test (tied (timeOf (newest y ys)) (y ∷ ys)) (λ t. by-number (newest-not e t) (order-is e ∙ rw t))
           (λ t. last-is (newest y ys .number) (newest-there e t) (order-is e ∙ rw t))
 
 -- ---- one block at most is the current one
@@ -136,8 +130,8 @@ newest-one {N} {k} {j} a b = on-test (eqb k j) (eqb-true k j) (λ t. absurd (cla
   where
     clash : (k ≡ j → ⊥) → ⊥
     clash d =
-        let up : b .time < a .time = subst (Beside (a .time)) (b .is-valid) (a .others j (b .there) (λ e. d (sym e))) in
-        let down : a .time < b .time = subst (Beside (b .time)) (a .is-valid) (b .others k (a .there) d) in
+        let up : b .journal .time < a .journal .time = subst (Beside (a .journal .time)) (b .is-valid) (a .others j (b .there) (λ e. d (sym e))) in
+        let down : a .journal .time < b .journal .time = subst (Beside (b .journal .time)) (a .is-valid) (b .others k (a .there) d) in
         omega arith
 
 pub order-last : {N k : ℕ} {img : List ℕ} → Newest N img k → formatOrder N img ≡ numbersBut k (blockNumbers N) ++ (k ∷ [])

@@ -10,9 +10,9 @@ use Rattle.flash.specs.Flash.{apply, block, sizeOf, within}
 use Rattle.frame.specs.declared.Host.{Host}
 use Rattle.frame.specs.declared.ObjectId.{ObjectId}
 use Rattle.frame.specs.Frame.{hostMax, Change, put, delete, Frame, change, commit, abort}
-use Rattle.journal.specs.Replay.{replay, lookup, isOpen}
-use Rattle.journal.specs.Block.{lastTime, markWrites}
-use Rattle.journal.specs.Room.{used, noRoom}
+use Rattle.journal.specs.Replay.{lookup, isOpen}
+use Rattle.journal.specs.Block.{Journal, lastTime, markWrites}
+use Rattle.journal.specs.Room.{noRoom}
 use Rattle.journal.specs.Index.{Load, nextLoad}
 use Rattle.wire.specs.declared.Answer.the-variants.{Done}
 use Rattle.wire.specs.declared.Refusal.the-variants as refusal
@@ -29,59 +29,59 @@ use Rattle.board.specs.declared.Record.{Record}
 use Rattle.board.specs.Record.{allowed, unmounted, ending, idle, inStage, out, refuse}
 use Rattle.board.specs.Step.{enter, enterAppend, landed, enterDrop, loaded, enterCopy, enterOpen, enterWipe, begin, action}
 use Rattle.board.specs.Step.{nextIndex, nextByte, pastFrame, advance, sameShape, stepped, stepBusy, stepIn, stepOn}
-use Rattle.board.specs.Mount.{allFound, Found, Store, stores, equalTimes, newest, wipeList, upkeep, transfers, mountJob}
+use Rattle.board.specs.Mount.{allFound, Found, Store, stores, equalTimes, newest, wipeList, upkeep, transfers, mountJob, replayOf, usedOf, timeOf}
 use Rattle.board.specs.Mount.{noneValid, lowestTied, tiedTimes, mountAt, mountStores, mountFound, mountOn, formatJob, formatOn}
-use Rattle.board.specs.Queue.{Held, held, needsRoom, appendJob, append, serveChange, serveEnd, placeOf, serveLog, serve}
+use Rattle.board.specs.Queue.{held, needsRoom, appendJob, append, serveChange, serveEnd, placeOf, serveLog, serve}
 use Rattle.board.specs.Queue.{serveParsed, serveHeld, requestIn, requestOn}
 use Rattle.board.specs.Demand1.{Rests}
 
 -- ---- a frame appended
 
-pub append-worn : (N : ℕ) (img : List ℕ) (r : Record) (reply : List ℕ) (x : Held) (f : Frame) → (needsRoom N img r f && eqb (x .time) lastTime) ≡ true
+pub append-worn : (N : ℕ) (img : List ℕ) (r : Record) (reply : List ℕ) (x : Journal) (f : Frame) → (needsRoom N img r f && eqb (x .time) lastTime) ≡ true
     → append N img r reply x f ≡ refuse refusal.Worn img r reply
 unfolding append
 append-worn N img r reply x f e = rw (e, append)
 
-pub append-begins : (N : ℕ) (img : List ℕ) (r : Record) (reply : List ℕ) (x : Held) (f : Frame) → (needsRoom N img r f && eqb (x .time) lastTime) ≡ false
+pub append-begins : (N : ℕ) (img : List ℕ) (r : Record) (reply : List ℕ) (x : Journal) (f : Frame) → (needsRoom N img r f && eqb (x .time) lastTime) ≡ false
     → append N img r reply x f ≡ begin img reply (appendJob N img r x f)
 unfolding append
 append-begins N img r reply x f e = rw (e, append)
 
-pub change-refused : (N : ℕ) (img : List ℕ) (r : Record) (reply : List ℕ) (h : Host) (x : Held) (c : Change)
-    → noRoom (sizeOf N img) (replay (x .frames)) h c ≡ true → serveChange N img r reply h x c ≡ refuse refusal.NoRoom img r reply
+pub change-refused : (N : ℕ) (img : List ℕ) (r : Record) (reply : List ℕ) (h : Host) (x : Journal) (c : Change)
+    → noRoom (sizeOf N img) (replayOf x) h c ≡ true → serveChange N img r reply h x c ≡ refuse refusal.NoRoom img r reply
 unfolding serveChange
 change-refused N img r reply h x c e = rw (e, serveChange)
 
-pub change-goes : (N : ℕ) (img : List ℕ) (r : Record) (reply : List ℕ) (h : Host) (x : Held) (c : Change)
-    → noRoom (sizeOf N img) (replay (x .frames)) h c ≡ false → serveChange N img r reply h x c ≡ append N img r reply x (change h c)
+pub change-goes : (N : ℕ) (img : List ℕ) (r : Record) (reply : List ℕ) (h : Host) (x : Journal) (c : Change)
+    → noRoom (sizeOf N img) (replayOf x) h c ≡ false → serveChange N img r reply h x c ≡ append N img r reply x (change h c)
 unfolding serveChange
 change-goes N img r reply h x c e = rw (e, serveChange)
 
-pub end-goes : (N : ℕ) (img : List ℕ) (r : Record) (reply : List ℕ) (h : Host) (x : Held) (f : Frame)
-    → isOpen h (replay (x .frames) .pending) ≡ true → serveEnd N img r reply h x f ≡ append N img r reply x f
+pub end-goes : (N : ℕ) (img : List ℕ) (r : Record) (reply : List ℕ) (h : Host) (x : Journal) (f : Frame)
+    → isOpen h (replayOf x .pending) ≡ true → serveEnd N img r reply h x f ≡ append N img r reply x f
 unfolding serveEnd
 end-goes N img r reply h x f e = rw (e, serveEnd)
 
-pub end-idle : (N : ℕ) (img : List ℕ) (r : Record) (reply : List ℕ) (h : Host) (x : Held) (f : Frame)
-    → isOpen h (replay (x .frames) .pending) ≡ false → serveEnd N img r reply h x f ≡ out Done img r reply
+pub end-idle : (N : ℕ) (img : List ℕ) (r : Record) (reply : List ℕ) (h : Host) (x : Journal) (f : Frame)
+    → isOpen h (replayOf x .pending) ≡ false → serveEnd N img r reply h x f ≡ out Done img r reply
 unfolding serveEnd
 end-idle N img r reply h x f e = rw (e, serveEnd)
 
 -- ---- the requests
 
-pub log-short : (N : ℕ) (img : List ℕ) (r : Record) (reply : List ℕ) (x : Held) → ltb (length reply) pageLen ≡ true
+pub log-short : (N : ℕ) (img : List ℕ) (r : Record) (reply : List ℕ) (x : Journal) → ltb (length reply) pageLen ≡ true
     → serveLog N img r reply x Summary ≡ refuse refusal.ShortReply img r reply
 unfolding serveLog
 log-short N img r reply x e = rw (e, serveLog)
 
-pub log-done : (N : ℕ) (img : List ℕ) (r : Record) (reply : List ℕ) (x : Held) → ltb (length reply) pageLen ≡ false
+pub log-done : (N : ℕ) (img : List ℕ) (r : Record) (reply : List ℕ) (x : Journal) → ltb (length reply) pageLen ≡ false
     → serveLog N img r reply x Summary
     ≡ out Done img r
-    (withPage (logPage (x .time) (length (replay (x .frames) .objects)) (used (replay (x .frames))) (sizeOf N img)) reply)
+    (withPage (logPage (x .time) (length (replayOf x .objects)) (usedOf x) (sizeOf N img)) reply)
 unfolding serveLog
 log-done N img r reply x e = rw (e, serveLog)
 
-module _ (N : ℕ) (img : List ℕ) (r : Record) (reply : List ℕ) (h : Host) (m : List ℕ) (x : Held) where
+module _ (N : ℕ) (img : List ℕ) (r : Record) (reply : List ℕ) (h : Host) (m : List ℕ) (x : Journal) where
   pub serve-put : (i : ObjectId) → serve N img r reply h m x (Put i) ≡ serveChange N img r reply h x (put i (valueIn m))
   unfolding serve
   serve-put i = refl
@@ -102,12 +102,12 @@ module _ (N : ℕ) (img : List ℕ) (r : Record) (reply : List ℕ) (h : Host) (
   unfolding serve
   serve-log = refl
 
-  pub read-none : (i : ObjectId) → lookup i (replay (x .frames) .objects) ≡ none
+  pub read-none : (i : ObjectId) → lookup i (replayOf x .objects) ≡ none
       → serve N img r reply h m x (Read i) ≡ refuse refusal.NoObject img r reply
   unfolding serve
   read-none i e = rw (e, serve)
 
-  pub read-some : (i : ObjectId) (v : List ℕ) → lookup i (replay (x .frames) .objects) ≡ some v
+  pub read-some : (i : ObjectId) (v : List ℕ) → lookup i (replayOf x .objects) ≡ some v
       → serve N img r reply h m x (Read i) ≡ record { answer = Done; image = img; board = r; reply = reply; stretch = placeOf N img r x i }
   unfolding serve
   read-some i v e = rw (e, serve)
@@ -139,11 +139,11 @@ module _ (N : ℕ) (img : List ℕ) (r : Record) (reply : List ℕ) (h : Host) (
     pub request-stale : r .phase ≡ Idle → held N img r ≡ none → requestOn N img r reply h m ≡ refuse refusal.Stale img r reply
     request-stale p q = request-in a e ∙ in-phase p ∙ ap (serveHeld N img r reply h m) q
 
-    pub request-malformed : (x : Held) → r .phase ≡ Idle → held N img r ≡ some x → parse m ≡ Malformed
+    pub request-malformed : (x : Journal) → r .phase ≡ Idle → held N img r ≡ some x → parse m ≡ Malformed
         → requestOn N img r reply h m ≡ refuse refusal.Malformed img r reply
     request-malformed x p q z = request-in a e ∙ in-phase p ∙ ap (serveHeld N img r reply h m) q ∙ ap (serveParsed N img r reply h m x) z
 
-    pub request-served : (x : Held) (q : Request) → r .phase ≡ Idle → held N img r ≡ some x → parse m ≡ Is q
+    pub request-served : (x : Journal) (q : Request) → r .phase ≡ Idle → held N img r ≡ some x → parse m ≡ Is q
         → requestOn N img r reply h m ≡ serve N img r reply h m x q
     request-served x q p y z = request-in a e ∙ in-phase p ∙ ap (serveHeld N img r reply h m) y ∙ ap (serveParsed N img r reply h m x) z
 
@@ -169,12 +169,12 @@ module _ (N : ℕ) (img : List ℕ) (a : allowed N (length img) ≡ true) where
       → mountOn N img ≡ mountAt N img (allFound N img) (newest y ys)
   mount-at y ys e t = mount-stores ∙ ap (mountStores N img (allFound N img)) e ∙ rw t
 
-pub mount-worn : (N : ℕ) (img : List ℕ) (xs : List Found) (x : Store) → (transfers (upkeep x) && eqb (x .time) lastTime) ≡ true
+pub mount-worn : (N : ℕ) (img : List ℕ) (xs : List Found) (x : Store) → (transfers (upkeep x) && eqb (timeOf x) lastTime) ≡ true
     → mountAt N img xs x ≡ refuse refusal.Worn img unmounted []
 unfolding mountAt
 mount-worn N img xs x e = rw (e, mountAt)
 
-pub mount-begins : (N : ℕ) (img : List ℕ) (xs : List Found) (x : Store) → (transfers (upkeep x) && eqb (x .time) lastTime) ≡ false
+pub mount-begins : (N : ℕ) (img : List ℕ) (xs : List Found) (x : Store) → (transfers (upkeep x) && eqb (timeOf x) lastTime) ≡ false
     → mountAt N img xs x ≡ begin img [] (mountJob N img x (wipeList (x .number) xs))
 unfolding mountAt
 mount-begins N img xs x e = rw (e, mountAt)

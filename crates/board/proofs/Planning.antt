@@ -14,10 +14,10 @@ use Rattle.flash.proofs.Cases.{on-test}
 use Rattle.frame.specs.declared.Host.{Host}
 use Rattle.frame.specs.declared.ObjectId.{ObjectId}
 use Rattle.frame.specs.Frame.{hostMax, Change, put, delete, Frame, change, commit, abort, frameLen, endLen, OfHost, MayStand}
-use Rattle.journal.specs.Replay.{State, entry, replay, lookup, nextState, isOpen}
-use Rattle.journal.specs.Block.{lastTime}
+use Rattle.journal.specs.Replay.{State, entry, lookup, nextState, isOpen}
+use Rattle.journal.specs.Block.{Journal, lastTime}
 use Rattle.journal.specs.Room.{claimed, openHosts, noRoom, spare}
-use Rattle.journal.proofs.Places.{Journal}
+use Rattle.journal.proofs.Places.{Standing}
 use Rattle.journal.proofs.Room.{change-room, commit-room, abort-room, fewer-without, open-pos}
 use Rattle.wire.specs.declared.Answer.the-variants.{Done, More, Refused}
 use Rattle.wire.specs.declared.Refusal.{Refusal}
@@ -28,13 +28,13 @@ use Rattle.wire.specs.declared.Request.the-variants.{Put, Delete, Commit, Abort
 use Rattle.wire.specs.declared.Parsed.{Parsed}
 use Rattle.wire.specs.declared.Parsed.the-variants.{Is, Malformed}
 use Rattle.wire.specs.Message.{parse, valueIn, pageLen}
-use Rattle.board.specs.Mount.{nextBlock}
+use Rattle.board.specs.Mount.{nextBlock, replayOf}
 use Rattle.board.specs.declared.Phase.{Phase}
 use Rattle.board.specs.declared.Phase.the-variants.{Unmounted, Idle, Busy}
 use Rattle.board.specs.declared.Record.{Record}
 use Rattle.board.specs.Record.{allowed, idle, Out, out, refuse, answerOf}
 use Rattle.board.specs.Step.{enterWipe}
-use Rattle.board.specs.Queue.{Held, held, needsRoom, appendJob, append, serve, serveChange, serveEnd, serveParsed, serveHeld, requestIn, requestOn}
+use Rattle.board.specs.Queue.{held, needsRoom, appendJob, append, serve, serveChange, serveEnd, serveParsed, serveHeld, requestIn, requestOn}
 use Rattle.board.specs.Exec.{request, exec}
 use Rattle.board.specs.Plan.{Performs, frameWork}
 use Rattle.board.specs.Table.{frameFor, frameIf, FreshExact, Fresh}
@@ -49,7 +49,7 @@ use Rattle.board.proofs.Outcomes.{serve-put, serve-delete, serve-commit
 use Rattle.board.proofs.Outcomes.{request-length, request-host, request-in}
 use Rattle.board.proofs.Current.{Roomy, After}
 use Rattle.board.proofs.Keeping.{ready-idle}
-use Rattle.board.proofs.Replies.{journal-of}
+use Rattle.board.proofs.Replies.{standing-of}
 use Rattle.board.proofs.Holding.{held-inv}
 use Rattle.board.proofs.Accepted.{follows-frame}
 use Rattle.board.proofs.Framing.{AsRecorded, ready-holds, Appendable, frame-lands, frame-ends}
@@ -61,7 +61,7 @@ use Rattle.board.proofs.Serving.{Legal, frame-starts}
 
 -- past every check: the frame that it appends
 pub record Asked (N : ℕ) (img : List ℕ) (r : Record) (h : Host) (m : List ℕ) : Type 0 where
-  pub holding : Held
+  pub holding : Journal
   pub asked : Request
   pub frame : Frame
   pub length-ok : allowed N (length img) ≡ true
@@ -87,7 +87,7 @@ module _ (N : ℕ) (img : List ℕ) (r : Record) (reply : List ℕ) (h : Host) (
   over : {o o′ : Out} → o ≡ o′ → Meets o′ → Meets o
   over e x = subst Meets (sym e) x
 
-  module _ (a : allowed N (length img) ≡ true) (k : h .0 ≤ hostMax) (x : Held) (e : held N img r ≡ some x) (q : Request) (p : parse m ≡ Is q) where
+  module _ (a : allowed N (length img) ≡ true) (k : h .0 ≤ hostMax) (x : Journal) (e : held N img r ≡ some x) (q : Request) (p : parse m ≡ Is q) where
     append-met : (f : Frame) → frameFor h m x q ≡ some f → roomRule (sizeOf N img) h m x q ≡ false → Meets (append N img r reply x f)
     append-met f g n =
         on-test (needsRoom N img r f && eqb (x .time) lastTime)
@@ -107,22 +107,22 @@ module _ (N : ℕ) (img : List ℕ) (r : Record) (reply : List ℕ) (h : Host) (
         })
         (append-begins N img r reply x f t))
 
-    change-met : (c : Change) → frameFor h m x q ≡ some (change h c) → roomRule (sizeOf N img) h m x q ≡ noRoom (sizeOf N img) (replay (x .frames)) h c
+    change-met : (c : Change) → frameFor h m x q ≡ some (change h c) → roomRule (sizeOf N img) h m x q ≡ noRoom (sizeOf N img) (replayOf x) h c
         → Meets (serveChange N img r reply h x c)
     change-met c g n =
-        on-test (noRoom (sizeOf N img) (replay (x .frames)) h c)
+        on-test (noRoom (sizeOf N img) (replayOf x) h c)
         (λ t. refused refusal.NoRoom (change-refused N img r reply h x c t))
         (λ t. over (change-goes N img r reply h x c t) (append-met (change h c) g (n ∙ t)))
 
-    end-met : (f : Frame) → frameFor h m x q ≡ frameIf (isOpen h (replay (x .frames) .pending)) f → roomRule (sizeOf N img) h m x q ≡ false
+    end-met : (f : Frame) → frameFor h m x q ≡ frameIf (isOpen h (replayOf x .pending)) f → roomRule (sizeOf N img) h m x q ≡ false
         → Meets (serveEnd N img r reply h x f)
     end-met f g n =
-        on-test (isOpen h (replay (x .frames) .pending))
+        on-test (isOpen h (replayOf x .pending))
         (λ t. over (end-goes N img r reply h x f t) (append-met f (g ∙ ap (λ (b : Bool). frameIf b f) t) n))
         (λ t. over (end-idle N img r reply h x f t) (done refl refl refl))
 
-  module _ (a : allowed N (length img) ≡ true) (k : h .0 ≤ hostMax) (x : Held) (e : held N img r ≡ some x) where
-    read-met : (i : ObjectId) (v : Option (List ℕ)) → lookup i (replay (x .frames) .objects) ≡ v → Meets (serve N img r reply h m x (Read i))
+  module _ (a : allowed N (length img) ≡ true) (k : h .0 ≤ hostMax) (x : Journal) (e : held N img r ≡ some x) where
+    read-met : (i : ObjectId) (v : Option (List ℕ)) → lookup i (replayOf x .objects) ≡ v → Meets (serve N img r reply h m x (Read i))
     read-met i none l = refused refusal.NoObject (read-none N img r reply h m x i l)
     read-met i (some v) l = over (read-some N img r reply h m x i v l) (done refl refl refl)
 
@@ -131,7 +131,7 @@ module _ (N : ℕ) (img : List ℕ) (r : Record) (reply : List ℕ) (h : Host) (
     serve-met (Delete i) p = over (serve-delete N img r reply h m x i) (change-met a k x e (Delete i) p (delete i) refl refl)
     serve-met Commit p = over (serve-commit N img r reply h m x) (end-met a k x e Commit p (commit h) refl refl)
     serve-met Abort p = over (serve-abort N img r reply h m x) (end-met a k x e Abort p (abort h) refl refl)
-    serve-met (Read i) p = read-met i (lookup i (replay (x .frames) .objects)) refl
+    serve-met (Read i) p = read-met i (lookup i (replayOf x .objects)) refl
     serve-met (Log Summary) p =
         over (serve-log N img r reply h m x)
         (on-test (ltb (length reply) pageLen)
@@ -142,7 +142,7 @@ module _ (N : ℕ) (img : List ℕ) (r : Record) (reply : List ℕ) (h : Host) (
     parsed-met Malformed p = refused refusal.Malformed refl
     parsed-met (Is q) p = serve-met q p
 
-  held-met : allowed N (length img) ≡ true → h .0 ≤ hostMax → (x : Option Held) → held N img r ≡ x → Meets (serveHeld N img r reply h m x)
+  held-met : allowed N (length img) ≡ true → h .0 ≤ hostMax → (x : Option Journal) → held N img r ≡ x → Meets (serveHeld N img r reply h m x)
   held-met a k none e = refused refusal.Stale refl
   held-met a k (some x) e = parsed-met a k x e (parse m) refl
 
@@ -203,14 +203,14 @@ frame-if : {s : ℕ} {st : State} {f : Frame} (b : Bool) (g : Frame) → (b ≡ 
 frame-if {s} {st} true g y e = subst (Fitting s st) (the-frame e) (y refl)
 frame-if false g y e = no-frame e
 
-frame-fits : (s : ℕ) (h : Host) (m : List ℕ) (x : Held) (q : Request) (f : Frame) → Roomy s (replay (x .frames)) → h .0 ≤ hostMax → Legal h m q
-    → roomRule s h m x q ≡ false → frameFor h m x q ≡ some f → Fitting s (replay (x .frames)) f
+frame-fits : (s : ℕ) (h : Host) (m : List ℕ) (x : Journal) (q : Request) (f : Frame) → Roomy s (replayOf x) → h .0 ≤ hostMax → Legal h m q
+    → roomRule s h m x q ≡ false → frameFor h m x q ≡ some f → Fitting s (replayOf x) f
 frame-fits s h m x (Put i) f l k g t e =
-    subst (Fitting s (replay (x .frames))) (the-frame e) (change-fits s (replay (x .frames)) h (put i (valueIn m)) g t)
+    subst (Fitting s (replayOf x)) (the-frame e) (change-fits s (replayOf x) h (put i (valueIn m)) g t)
 frame-fits s h m x (Delete i) f l k g t e =
-    subst (Fitting s (replay (x .frames))) (the-frame e) (change-fits s (replay (x .frames)) h (delete i) g t)
-frame-fits s h m x Commit f l k g t e = frame-if (isOpen h (replay (x .frames) .pending)) (commit h) (commit-fits s (replay (x .frames)) h k l) e
-frame-fits s h m x Abort f l k g t e = frame-if (isOpen h (replay (x .frames) .pending)) (abort h) (abort-fits s (replay (x .frames)) h k l) e
+    subst (Fitting s (replayOf x)) (the-frame e) (change-fits s (replayOf x) h (delete i) g t)
+frame-fits s h m x Commit f l k g t e = frame-if (isOpen h (replayOf x .pending)) (commit h) (commit-fits s (replayOf x) h k l) e
+frame-fits s h m x Abort f l k g t e = frame-if (isOpen h (replayOf x .pending)) (abort h) (abort-fits s (replayOf x) h k l) e
 frame-fits s h m x (Read i) f l k g t e = no-frame e
 frame-fits s h m x (Log p) f l k g t e = no-frame e
 
@@ -218,7 +218,7 @@ frame-fits s h m x (Log p) f l k g t e = no-frame e
 
 -- an accepted request with steps to do appends document 01's frame, after a transfer if it must, in at most S steps
 pub record Appends (N : ℕ) (img : List ℕ) (r : Record) (h : Host) (msg : List ℕ) (o : Out) : Type 0 where
-  pub holding : Held
+  pub holding : Journal
   pub asked : Request
   pub frame : Frame
   pub is-held : Fresh N img r holding
@@ -228,7 +228,7 @@ pub record Appends (N : ℕ) (img : List ℕ) (r : Record) (h : Host) (msg : Lis
   pub short : length (frameWork N img r holding frame .steps) ≤ sizeOf N img
 
 module _ {N : ℕ} {s : ℕ} {img : List ℕ} {r : Record} {h : Host} {m : List ℕ} (z : Sized N s img) (by : Bytes img) (bm : Bytes m) (y : Asked N img r h m) where
-  abbrev x : Held
+  abbrev x : Journal
   x = y .holding
 
   abbrev f : Frame
@@ -236,16 +236,16 @@ module _ {N : ℕ} {s : ℕ} {img : List ℕ} {r : Record} {h : Host} {m : List 
 
   holds : AsRecorded N s img r x
   holds =
-      let v : (w : Ready N s img (idle (r .rest))) × (w .time ≡ x .time) × (w .frames ≡ x .frames) = held-inv r z by (y .is-held) in
-      let w : AsRecorded N s img (idle (r .rest)) x = ready-holds z (v .0) (v .1) (v .2) in
-      record { alone = w .alone; ends = w .ends; long = w .long; blocks = w .blocks }
+      let v : (w : Ready N s img (idle (r .rest))) × (w .journal ≡ x) = held-inv r z by (y .is-held) in
+      let w : AsRecorded N s img (idle (r .rest)) x = ready-holds z (v .0) (v .1) in
+      record { alone = w .alone; is-clean = w .is-clean; ends = w .ends; long = w .long; blocks = w .blocks }
 
-  roomy : Roomy s (replay (x .frames))
+  roomy : Roomy s (replayOf x)
   roomy =
-      let v : (w : Ready N s img (idle (r .rest))) × (w .time ≡ x .time) × (w .frames ≡ x .frames) = held-inv r z by (y .is-held) in
-      subst (λ (fs : List Frame). Roomy s (replay fs)) (v .2) (v .0 .room)
+      let v : (w : Ready N s img (idle (r .rest))) × (w .journal ≡ x) = held-inv r z by (y .is-held) in
+      subst (λ (w : Journal). Roomy s (replayOf w)) (v .1) (v .0 .room)
 
-  fitting : Fitting s (replay (x .frames)) f
+  fitting : Fitting s (replayOf x) f
   fitting =
       frame-fits s h m x (y .asked) f roomy (y .host-ok) (legal h m (y .asked) (y .host-ok) bm (y .is-asked))
       (subst (λ (n : ℕ). roomRule n h m x (y .asked) ≡ false) (size-of z) (y .has-room)) (y .is-frame)
@@ -265,8 +265,8 @@ module _ {N : ℕ} {s : ℕ} {img : List ℕ} {r : Record} {h : Host} {m : List 
   pub frame-appends : (reply : List ℕ) → Appends N img r h m (out (answerOf (jobOf y)) img (jobOf y) reply)
   unfolding FreshExact MessagesExact
   frame-appends reply =
-      let j : Journal (block (sizeOf N img) (r .rest .block) img) (x .frames) =
-      subst (λ (n : ℕ). Journal (block n (r .rest .block) img) (x .frames)) (sym (size-of z)) (journal-of (holds .alone .contents)) in
+      let j : Standing (block (sizeOf N img) (r .rest .block) img) (x .frames) =
+      subst (λ (n : ℕ). Standing (block n (r .rest .block) img) (x .frames)) (sym (size-of z)) (standing-of (holds .alone .contents)) in
       record {
         holding = x;
         asked = y .asked;
@@ -283,7 +283,7 @@ module _ {N : ℕ} {s : ℕ} {img : List ℕ} {r : Record} {h : Host} {m : List 
   pub frame-begins : (answerOf (jobOf y) ≡ More) × InJob N s (StepLands s) (Ready N s) img (jobOf y)
   frame-begins =
       let a : After N s (applyAll s (frameWork N img r x f .steps) img)
-      (frameWork N img r x f .last) (nextState (replay (x .frames)) f) = frame-ends holds appendable (fitting .room) in
+      (frameWork N img r x f .last) (nextState (replayOf x) f) = frame-ends holds appendable (fitting .room) in
       frame-starts r x f z holds appendable (frame-lands holds appendable) (a .ready) (ready-idle (a .ready))
 
 -- ---- on any record and image

@@ -14,9 +14,8 @@ use Rattle.flash.proofs.Cases.{on-test}
 use Rattle.frame.specs.declared.Host.{Host}
 use Rattle.frame.specs.declared.ObjectId.{ObjectId}
 use Rattle.frame.specs.Frame.{hostMax, Change, put, delete, Frame, change, commit, abort}
-use Rattle.frame.specs.Reader.{clean}
-use Rattle.journal.specs.Replay.{replay, lookup, isOpen}
-use Rattle.journal.specs.Block.{lastTime}
+use Rattle.journal.specs.Replay.{lookup, isOpen}
+use Rattle.journal.specs.Block.{Journal, lastTime}
 use Rattle.journal.specs.Room.{noRoom}
 use Rattle.wire.specs.declared.Answer.the-variants.{Done, More}
 use Rattle.wire.specs.declared.Refusal.{Refusal}
@@ -31,8 +30,8 @@ use Rattle.board.specs.declared.Phase.{Phase}
 use Rattle.board.specs.declared.Phase.the-variants.{Unmounted, Idle, Busy}
 use Rattle.board.specs.declared.Record.{Record}
 use Rattle.board.specs.Record.{allowed, Stretch, noStretch, Out, out, refuse, answerOf}
-use Rattle.board.specs.Mount.{Store, mountOn, formatOn}
-use Rattle.board.specs.Queue.{Held, held, needsRoom, placeOf, append, serve, serveChange, serveEnd, requestOn}
+use Rattle.board.specs.Mount.{Store, mountOn, formatOn, replayOf}
+use Rattle.board.specs.Queue.{held, needsRoom, placeOf, append, serve, serveChange, serveEnd, requestOn}
 use Rattle.board.specs.Exec.{Call, request, step, mount, format, exec}
 use Rattle.board.specs.Plan.{Work, Performs, formatWork, mountWork, frameWork}
 use Rattle.board.specs.Table.{frameFor, frameIf, Fresh, FreshExact, Exactly, linesOf}
@@ -64,7 +63,7 @@ use Rattle.board.proofs.Telling.{told, silent}
 
 -- ---- accepted requests
 
-module _ (N : ℕ) (img : List ℕ) (r : Record) (h : Host) (m reply : List ℕ) (by : Bytes img) (bm : Bytes m) (x : Held) (e : held N img r ≡ some x)
+module _ (N : ℕ) (img : List ℕ) (r : Record) (h : Host) (m reply : List ℕ) (by : Bytes img) (bm : Bytes m) (x : Journal) (e : held N img r ≡ some x)
     (q : Request) (p : parse m ≡ Is q) where
   abbrev Meets : Out → Type 0
   Meets o = Accepted (o .answer) → Serves N img r h m reply x q o
@@ -114,34 +113,34 @@ module _ (N : ℕ) (img : List ℕ) (r : Record) (h : Host) (m reply : List ℕ)
         })
         (append-begins N img r reply x f t) f g u v)
 
-    change-met : (c : Change) → frameFor h m x q ≡ some (change h c) → roomRule (sizeOf N img) h m x q ≡ noRoom (sizeOf N img) (replay (x .frames)) h c
+    change-met : (c : Change) → frameFor h m x q ≡ some (change h c) → roomRule (sizeOf N img) h m x q ≡ noRoom (sizeOf N img) (replayOf x) h c
         → reply ≡ replyFor N img reply x q → HandsBack N img r x q noStretch → Meets (serveChange N img r reply h x c)
     change-met c g n u v =
-        on-test (noRoom (sizeOf N img) (replay (x .frames)) h c)
+        on-test (noRoom (sizeOf N img) (replayOf x) h c)
         (λ t. turned-down refusal.NoRoom (change-refused N img r reply h x c t))
         (λ t. over (change-goes N img r reply h x c t) (append-met (change h c) g (n ∙ t) u v))
 
-    end-met : (f : Frame) → frameFor h m x q ≡ frameIf (isOpen h (replay (x .frames) .pending)) f → roomRule (sizeOf N img) h m x q ≡ false
+    end-met : (f : Frame) → frameFor h m x q ≡ frameIf (isOpen h (replayOf x .pending)) f → roomRule (sizeOf N img) h m x q ≡ false
         → reply ≡ replyFor N img reply x q → HandsBack N img r x q noStretch → Meets (serveEnd N img r reply h x f)
     end-met f g n u v =
-        on-test (isOpen h (replay (x .frames) .pending))
+        on-test (isOpen h (replayOf x .pending))
         (λ t. over (end-goes N img r reply h x f t) (append-met f (g ∙ ap (λ (b : Bool). frameIf b f) t) n u v))
         (λ t. at-once (serveEnd N img r reply h x f) noStretch (end-idle N img r reply h x f t ∙ ap (λ (y : List ℕ). whole Done img r y noStretch) u) v
         (g ∙ ap (λ (b : Bool). frameIf b f) t))
 
-module _ (N : ℕ) (img : List ℕ) (r : Record) (h : Host) (m reply : List ℕ) (by : Bytes img) (bm : Bytes m) (x : Held) (e : held N img r ≡ some x) where
+module _ (N : ℕ) (img : List ℕ) (r : Record) (h : Host) (m reply : List ℕ) (by : Bytes img) (bm : Bytes m) (x : Journal) (e : held N img r ≡ some x) where
   abbrev Met : Request → Out → Type 0
   Met q o = Accepted (o .answer) → Serves N img r h m reply x q o
 
   -- where the value stands
-  stands : allowed N (length img) ≡ true → (i : ObjectId) → parse m ≡ Is (Read i) → (v : List ℕ) → lookup i (replay (x .frames) .objects) ≡ some v
+  stands : allowed N (length img) ≡ true → (i : ObjectId) → parse m ≡ Is (Read i) → (v : List ℕ) → lookup i (replayOf x .objects) ≡ some v
       → Stands N img r x i (placeOf N img r x i)
   unfolding FreshExact MessagesExact StretchExact
   stands ok i p v l =
-      let y = stretch-exact N img r x clean i v (fresh-exact N img r x by ok .0 e .is-valid) (messages-exact m (Read i) .0 p .3) l in
+      let y = stretch-exact N img r x i v (fresh-exact N img r x by ok .0 e .is-valid) (messages-exact m (Read i) .0 p .3) l in
       record { value = v; at = y .0; from = y .2; is = y .1 }
 
-  read-met : allowed N (length img) ≡ true → (i : ObjectId) → parse m ≡ Is (Read i) → (v : Option (List ℕ)) → lookup i (replay (x .frames) .objects) ≡ v
+  read-met : allowed N (length img) ≡ true → (i : ObjectId) → parse m ≡ Is (Read i) → (v : Option (List ℕ)) → lookup i (replayOf x .objects) ≡ v
       → Met (Read i) (serve N img r reply h m x (Read i))
   read-met ok i p none l = turned-down N img r h m reply by bm x e (Read i) p refusal.NoObject (read-none N img r reply h m x i l)
   read-met ok i p (some v) l =
@@ -167,7 +166,7 @@ module _ (N : ℕ) (img : List ℕ) (r : Record) (h : Host) (m reply : List ℕ)
       (commit h) refl refl refl refl)
   serve-met a k Abort p =
       over N img r h m reply by bm x e Abort p (serve-abort N img r reply h m x) (end-met N img r h m reply by bm x e Abort p a k (abort h) refl refl refl refl)
-  serve-met a k (Read i) p = read-met a i p (lookup i (replay (x .frames) .objects)) refl
+  serve-met a k (Read i) p = read-met a i p (lookup i (replayOf x .objects)) refl
   serve-met a k (Log Summary) p = log-met p
 
   request-met : (q : Request) → parse m ≡ Is q → Met q (requestOn N img r reply h m)
@@ -185,7 +184,7 @@ module _ (N : ℕ) (img : List ℕ) (r : Record) (h : Host) (m reply : List ℕ)
       phased a k Idle d =
           over N img r h m reply by bm x e q p (request-served N img r reply h m a k x q d e p) (serve-met a (leb-true (h .0) hostMax k) q p)
 
-serves : {N : ℕ} (img : List ℕ) (r : Record) (h : Host) (m reply : List ℕ) (x : Held) (q : Request) → Bytes img → Bytes m → Fresh N img r x → Means m q
+serves : {N : ℕ} (img : List ℕ) (r : Record) (h : Host) (m reply : List ℕ) (x : Journal) (q : Request) → Bytes img → Bytes m → Fresh N img r x → Means m q
     → Accepted (exec N img r (request h m reply) .answer) → Serves N img r h m reply x q (exec N img r (request h m reply))
 unfolding FreshExact MessagesExact
 serves {N} img r h m reply x q by bm f k a =
@@ -200,11 +199,11 @@ abbrev Does : ℕ → List ℕ → Call → Record → Work → Type 0
 Does N img c r w = Performs N (exec N) img r w × Short N (sizeOf N img) (w .steps) c
 
 -- the frame that a job appends is the one asked for
-abbrev Plans : ℕ → List ℕ → Record → Call → Out → Held → Frame → Type 0
+abbrev Plans : ℕ → List ℕ → Record → Call → Out → Journal → Frame → Type 0
 Plans N img r c o x f = Does N img c (o .board) (frameWork N img r x f)
 
 module _ (N : ℕ) (img : List ℕ) (r : Record) (by : Bytes img) where
-  frame-does : (h : Host) (m reply : List ℕ) (x : Held) (q : Request) (f : Frame) → Bytes m → Fresh N img r x → Means m q → frameFor h m x q ≡ some f
+  frame-does : (h : Host) (m reply : List ℕ) (x : Journal) (q : Request) (f : Frame) → Bytes m → Fresh N img r x → Means m q → frameFor h m x q ≡ some f
       → Accepted (exec N img r (request h m reply) .answer) → Plans N img r (request h m reply) (exec N img r (request h m reply)) x f
   frame-does h m reply x q f bm v k g a =
       let o : Out = exec N img r (request h m reply) in

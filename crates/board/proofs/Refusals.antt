@@ -14,8 +14,8 @@ use Rattle.flash.proofs.Cases.{on-test, or-left, or-no-left, or-no-right}
 use Rattle.frame.specs.declared.Host.{Host}
 use Rattle.frame.specs.declared.ObjectId.{ObjectId}
 use Rattle.frame.specs.Frame.{hostMax, Change, put, delete, Frame, change, commit, abort}
-use Rattle.journal.specs.Replay.{replay, lookup, isOpen}
-use Rattle.journal.specs.Block.{lastTime, BlockState, blank, inProgress, valid, foreign}
+use Rattle.journal.specs.Replay.{lookup, isOpen}
+use Rattle.journal.specs.Block.{Journal, lastTime, BlockState, blank, inProgress, valid, foreign}
 use Rattle.journal.specs.Room.{noRoom}
 use Rattle.wire.specs.declared.Answer.{Answer}
 use Rattle.wire.specs.declared.Answer.the-variants.{Refused}
@@ -32,9 +32,9 @@ use Rattle.board.specs.declared.Phase.the-variants.{Unmounted, Idle, Bus
 use Rattle.board.specs.declared.Record.{Record}
 use Rattle.board.specs.Record.{allowed, unmounted, Out, refuse, answerIn}
 use Rattle.board.specs.Step.{sameShape, enterWipe, action, advance, stepOn}
-use Rattle.board.specs.Mount.{allFound, anyForeign, Found, Store, stores, equalTimes, newest, wipeList, upkeep, transfers, mountJob}
+use Rattle.board.specs.Mount.{allFound, anyForeign, Found, Store, stores, equalTimes, newest, wipeList, upkeep, transfers, mountJob, replayOf, timeOf}
 use Rattle.board.specs.Mount.{isForeign, orForeign, noneValid, mountAt, mountStores, mountOn, formatJob, formatOn}
-use Rattle.board.specs.Queue.{Held, held, needsRoom, appendJob, append, serveChange, serveEnd, serve, serveParsed, serveHeld, requestIn, requestOn}
+use Rattle.board.specs.Queue.{held, needsRoom, appendJob, append, serveChange, serveEnd, serve, serveParsed, serveHeld, requestIn, requestOn}
 use Rattle.board.specs.Exec.{Call, request, step, mount, format, exec}
 use Rattle.board.specs.Table.{isBusy, isNone, frameIf}
 use Rattle.board.specs.Demand1.{Unchanged, OneStep, ImageAfter, Rests}
@@ -100,34 +100,34 @@ module _ (N : ℕ) (img : List ℕ) (r : Record) (reply : List ℕ) where
   abbrev Asked : List Check → Out → Type 0
   Asked cs o = Follows (Same img) img r reply cs o
 
-  append-asked : (x : Held) (f : Frame) → Asked (check refusal.Worn (needsRoom N img r f && eqb (x .time) lastTime) ∷ []) (append N img r reply x f)
+  append-asked : (x : Journal) (f : Frame) → Asked (check refusal.Worn (needsRoom N img r f && eqb (x .time) lastTime) ∷ []) (append N img r reply x f)
   append-asked x f =
       on-test (needsRoom N img r f && eqb (x .time) lastTime)
       (λ e. stops refl e (append-worn N img r reply x f e))
       (λ e. over (append-begins N img r reply x f e) (passes e (accepted (begin-accepts (enterWipe (appendJob N img r x f) .phase)) refl)))
 
-  change-asked : (h : Host) (x : Held) (c : Change)
-      → Asked (check refusal.NoRoom (noRoom (sizeOf N img) (replay (x .frames)) h c) ∷ check refusal.Worn (worn N img r x (some (change h c))) ∷ [])
+  change-asked : (h : Host) (x : Journal) (c : Change)
+      → Asked (check refusal.NoRoom (noRoom (sizeOf N img) (replayOf x) h c) ∷ check refusal.Worn (worn N img r x (some (change h c))) ∷ [])
       (serveChange N img r reply h x c)
   change-asked h x c =
-      on-test (noRoom (sizeOf N img) (replay (x .frames)) h c)
+      on-test (noRoom (sizeOf N img) (replayOf x) h c)
       (λ e. stops refl e (change-refused N img r reply h x c e))
       (λ e. over (change-goes N img r reply h x c e) (passes e (append-asked x (change h c))))
 
-  end-asked : (h : Host) (x : Held) (f : Frame)
-      → Asked (check refusal.Worn (worn N img r x (frameIf (isOpen h (replay (x .frames) .pending)) f)) ∷ []) (serveEnd N img r reply h x f)
+  end-asked : (h : Host) (x : Journal) (f : Frame)
+      → Asked (check refusal.Worn (worn N img r x (frameIf (isOpen h (replayOf x .pending)) f)) ∷ []) (serveEnd N img r reply h x f)
   end-asked h x f =
-      on-test (isOpen h (replay (x .frames) .pending))
+      on-test (isOpen h (replayOf x .pending))
       (λ e. over (end-goes N img r reply h x f e) (rw e (append-asked x f)))
       (λ e. over (end-idle N img r reply h x f e) (passes (rw e) (accepted refl refl)))
 
-  read-asked : (h : Host) (m : List ℕ) (x : Held) (i : ObjectId) (v : Option (List ℕ)) → lookup i (replay (x .frames) .objects) ≡ v
+  read-asked : (h : Host) (m : List ℕ) (x : Journal) (i : ObjectId) (v : Option (List ℕ)) → lookup i (replayOf x .objects) ≡ v
       → Asked (heldChecks N img r h m reply x (Read i)) (serve N img r reply h m x (Read i))
   read-asked h m x i none e = stops refl (rw e) (read-none N img r reply h m x i e)
   read-asked h m x i (some v) e =
       over (read-some N img r reply h m x i v e) (passes (rw e) (passes refl (passes refl (passes refl (accepted refl refl)))))
 
-  log-asked : (h : Host) (m : List ℕ) (x : Held) → Asked (heldChecks N img r h m reply x (Log Summary)) (serve N img r reply h m x (Log Summary))
+  log-asked : (h : Host) (m : List ℕ) (x : Journal) → Asked (heldChecks N img r h m reply x (Log Summary)) (serve N img r reply h m x (Log Summary))
   log-asked h m x =
       over (serve-log N img r reply h m x)
       (passes refl
@@ -135,20 +135,20 @@ module _ (N : ℕ) (img : List ℕ) (r : Record) (reply : List ℕ) where
       (λ e. stops refl e (log-short N img r reply x e))
       (λ e. over (log-done N img r reply x e) (passes e (passes refl (passes refl (accepted refl refl)))))))
 
-  serve-asked : (h : Host) (m : List ℕ) (x : Held) (q : Request) → Asked (heldChecks N img r h m reply x q) (serve N img r reply h m x q)
+  serve-asked : (h : Host) (m : List ℕ) (x : Journal) (q : Request) → Asked (heldChecks N img r h m reply x q) (serve N img r reply h m x q)
   serve-asked h m x (Put i) = over (serve-put N img r reply h m x i) (passes refl (passes refl (change-asked h x (put i (valueIn m)))))
   serve-asked h m x (Delete i) = over (serve-delete N img r reply h m x i) (passes refl (passes refl (change-asked h x (delete i))))
   serve-asked h m x Commit = over (serve-commit N img r reply h m x) (passes refl (passes refl (passes refl (end-asked h x (commit h)))))
   serve-asked h m x Abort = over (serve-abort N img r reply h m x) (passes refl (passes refl (passes refl (end-asked h x (abort h)))))
-  serve-asked h m x (Read i) = read-asked h m x i (lookup i (replay (x .frames) .objects)) refl
+  serve-asked h m x (Read i) = read-asked h m x i (lookup i (replayOf x .objects)) refl
   serve-asked h m x (Log Summary) = log-asked h m x
 
-  parsed-asked : (h : Host) (m : List ℕ) (x : Held) (p : Parsed)
+  parsed-asked : (h : Host) (m : List ℕ) (x : Journal) (p : Parsed)
       → Asked (check refusal.Malformed (isMalformed p) ∷ laterChecks N img r h m reply (some x) p) (serveParsed N img r reply h m x p)
   parsed-asked h m x Malformed = stops refl refl refl
   parsed-asked h m x (Is q) = passes refl (serve-asked h m x q)
 
-  held-asked : (h : Host) (m : List ℕ) (x : Option Held)
+  held-asked : (h : Host) (m : List ℕ) (x : Option Journal)
       → Asked (check refusal.Stale (isNone x) ∷ check refusal.Malformed (isMalformed (parse m)) ∷ laterChecks N img r h m reply x (parse m))
       (serveHeld N img r reply h m x)
   held-asked h m none = stops refl refl refl
@@ -177,9 +177,9 @@ abbrev Made : List ℕ → List Check → Out → Type 0
 Made img cs o = Follows (Same img) img unmounted [] cs o
 
 at-made : (N : ℕ) (img : List ℕ) (xs : List Found) (x : Store)
-    → Made img (check refusal.Worn (transfers (upkeep x) && eqb (x .time) lastTime) ∷ []) (mountAt N img xs x)
+    → Made img (check refusal.Worn (transfers (upkeep x) && eqb (timeOf x) lastTime) ∷ []) (mountAt N img xs x)
 at-made N img xs x =
-    on-test (transfers (upkeep x) && eqb (x .time) lastTime)
+    on-test (transfers (upkeep x) && eqb (timeOf x) lastTime)
     (λ e. stops refl e (mount-worn N img xs x e))
     (λ e. over (mount-begins N img xs x e) (passes e (accepted (begin-accepts (enterWipe (mountJob N img x (wipeList (x .number) xs)) .phase)) refl)))
 
@@ -191,7 +191,7 @@ none-foreign (x ∷ xs) e =
     go : (a : BlockState) → isForeign a ≡ false → noneValid xs ≡ refusal.NoStore → orForeign (x .number) a (noneValid xs) ≡ refusal.NoStore
     go blank f y = y
     go inProgress f y = y
-    go (valid t fs c) f y = y
+    go (valid w) f y = y
     go (foreign w) f y = let z : _≡_ {A = ℕ} 0 1 = cc in absurd (omega arith)
 
 stores-made : (N : ℕ) (img : List ℕ) (xs : List Found) (ys : List Store)

@@ -1,5 +1,5 @@
 -- What an idle record of a run is found to hold, and what reads and the log say of it.
-use mathlib.Core.Path.{_≡_, refl, sym, ap, subst, _∙_}
+use mathlib.Core.Path.{_≡_, refl, sym, ap, ap₂, subst, _∙_}
 use mathlib.Core.List.{List, _++_}
 use mathlib.Core.Option.{Option, none, some}
 use mathlib.Core.Bool.{Bool, true, _&&_, _||_}
@@ -16,14 +16,14 @@ use Rattle.flash.proofs.Blank.{allFF-all}
 use Rattle.flash.proofs.Image.{take-drop-take, length-block}
 use Rattle.frame.specs.declared.Host.{Host}
 use Rattle.frame.specs.declared.ObjectId.{ObjectId}
-use Rattle.frame.specs.Frame.{Frame, idMax, endLen}
+use Rattle.frame.specs.Frame.{idMax, endLen}
 use Rattle.frame.specs.Reader.{Tail}
-use Rattle.journal.specs.Replay.{Object, replay, lookup}
-use Rattle.journal.specs.Block.{blockState, header, validData}
-use Rattle.journal.specs.Room.{claimed, openHosts, usedBy}
+use Rattle.journal.specs.Replay.{Object, lookup}
+use Rattle.journal.specs.Block.{Journal, blockState, header, validData}
+use Rattle.journal.specs.Room.{openHosts, usedBy}
 use Rattle.journal.specs.Index.{placesOf, valueAt}
 use Rattle.journal.proofs.States.{Contents, contents-valid}
-use Rattle.journal.proofs.Places.{Journal, ValueStands, place-law}
+use Rattle.journal.proofs.Places.{Standing, ValueStands, place-law}
 use Rattle.wire.specs.declared.Answer.the-variants.{Done}
 use Rattle.wire.specs.declared.Page.the-variants.{Summary}
 use Rattle.wire.specs.declared.Request.{Request}
@@ -32,8 +32,8 @@ use Rattle.wire.specs.Message.{pageLen}
 use Rattle.board.specs.declared.Record.{Record}
 use Rattle.board.specs.Record.{Out, idle, Stretch}
 use Rattle.board.specs.Step.{sameShape}
-use Rattle.board.specs.Mount.{endOf}
-use Rattle.board.specs.Queue.{Held, held, heldBy, heldIn, heldIf, fitsRecord, sameImage, othersBlank, stretchOf, placeOf, serve}
+use Rattle.board.specs.Mount.{endOf, replayOf, claimedOf}
+use Rattle.board.specs.Queue.{held, heldBy, heldIn, heldIf, fitsRecord, sameImage, othersBlank, stretchOf, placeOf, serve}
 use Rattle.board.specs.Claim.{ReadSays, LogSays}
 use Rattle.board.proofs.Images.{Sized, size-of, sized-block}
 use Rattle.board.proofs.Blocks.{others-are}
@@ -47,15 +47,12 @@ blank-beside : {N : ℕ} (s k : ℕ) (img : List ℕ) → sizeOf N img ≡ s →
     → othersBlank N k img (blockNumbers N) ≡ true
 blank-beside {N} s k img e o = others-are N k img (λ j h n. ap (λ (w : ℕ). allFF (block w j img)) e ∙ ap allFF (o j h n) ∙ allFF-all s)
 
-abbrev pub heldOf : {N s : ℕ} {img : List ℕ} {r : Record} → Ready N s img r → Held
-heldOf y = record { time = y .time; frames = y .frames }
-
-pub held-ready : {N : ℕ} {s : ℕ} {img : List ℕ} {r : Record} → Sized N s img → (y : Ready N s img r) → held N img r ≡ some (heldOf y)
+pub held-ready : {N : ℕ} {s : ℕ} {img : List ℕ} {r : Record} → Sized N s img → (y : Ready N s img r) → held N img r ≡ some (y .journal)
 unfolding held
 held-ready {N} {s} {img} {r} z y =
     ap (held N img) (y .is) ∙ ap (λ (b : Bool). heldBy N b img (idle (y .stands))) same
     ∙ ap (λ (n : ℕ). heldIn n (y .stands .end) (blockState (block n (y .stands .block) img))) (size-of z)
-    ∙ ap (heldIn s (y .stands .end)) (contents-valid (y .contents)) ∙ ap (λ (b : Bool). heldIf b (y .time) (y .frames)) fit
+    ∙ ap (heldIn s (y .stands .end)) (contents-valid (y .contents)) ∙ ap₂ (λ (b : Bool) (c : Tail). heldIf b c (y .journal)) fit (y .is-clean)
   where
     same : sameImage N img (idle (y .stands)) ≡ true
     same =
@@ -64,11 +61,11 @@ held-ready {N} {s} {img} {r} z y =
         (and-both (ltb (y .stands .block) N) (othersBlank N (y .stands .block) img (blockNumbers N)) (lt-ltb (y .stands .block) N (y .there))
         (blank-beside s (y .stands .block) img (size-of z) (y .others)))
 
-    fit : fitsRecord s (y .stands .end) (y .frames) ≡ true
+    fit : fitsRecord s (y .stands .end) (y .journal) ≡ true
     fit =
-        and-both (eqb (endOf (y .frames)) (y .stands .end)) (leb (claimed (replay (y .frames)) + endLen * openHosts (replay (y .frames) .pending)) s)
-        (eq-eqb (endOf (y .frames)) (y .stands .end) (sym (y .ends)))
-        (le-leb (claimed (replay (y .frames)) + endLen * openHosts (replay (y .frames) .pending)) s (y .room))
+        and-both (eqb (endOf (y .journal)) (y .stands .end)) (leb (claimedOf (y .journal) + endLen * openHosts (replayOf (y .journal) .pending)) s)
+        (eq-eqb (endOf (y .journal)) (y .stands .end) (sym (y .ends)))
+        (le-leb (claimedOf (y .journal) + endLen * openHosts (replayOf (y .journal) .pending)) s (y .room))
 
 -- ---- reads
 
@@ -76,41 +73,41 @@ held-ready {N} {s} {img} {r} z y =
 stretch : (s k p n : ℕ) (img : List ℕ) → p + n ≤ s → take n (drop (k * s + p) img) ≡ take n (drop p (block s k img))
 stretch s k p n img h = sym (ap (take n) (drop-drop p (k * s) img)) ∙ sym (take-drop-take n p s (drop (k * s) img) h)
 
-pub journal-of : {b : List ℕ} {t : ℕ} {fs : List Frame} {c : Tail} → Contents b t fs c → Journal b fs
-journal-of {b} {t} x = record { head = header t validData; rest = x .rest; split = x .layout .is; long = refl; stand = x .layout .stands }
+pub standing-of : {b : List ℕ} {w : Journal} → Contents b w → Standing b (w .frames)
+standing-of {b} {w} x = record { head = header (w .time) validData; rest = x .rest; split = x .layout .is; long = refl; stand = x .layout .stands }
 
 module _ {N : ℕ} {s : ℕ} {img : List ℕ} {r : Record} (z : Sized N s img) (y : Ready N s img r) (reply : List ℕ) (h : Host) (m : List ℕ) where
   abbrev served : Request → Out
-  served q = serve N img r reply h m (heldOf y) q
+  served q = serve N img r reply h m (y .journal) q
 
-  pub read-says : (i : ObjectId) → i .0 ≤ idMax → ReadSays (served (Read i)) (lookup i (replay (y .frames) .objects))
-  read-says i l = go (lookup i (replay (y .frames) .objects)) refl
+  pub read-says : (i : ObjectId) → i .0 ≤ idMax → ReadSays (served (Read i)) (lookup i (replayOf (y .journal) .objects))
+  read-says i l = go (lookup i (replayOf (y .journal) .objects)) refl
     where
-      go : (o : Option (List ℕ)) → lookup i (replay (y .frames) .objects) ≡ o → ReadSays (served (Read i)) o
-      go none e = ap (λ (o : Out). o .answer) (read-none N img r reply h m (heldOf y) i e)
+      go : (o : Option (List ℕ)) → lookup i (replayOf (y .journal) .objects) ≡ o → ReadSays (served (Read i)) o
+      go none e = ap (λ (o : Out). o .answer) (read-none N img r reply h m (y .journal) i e)
       go (some v) e =
           let k : ℕ = y .stands .block in
           let b : List ℕ = block s k img in
-          let x : ValueStands b i (getD (placesOf (y .frames)) (i .0) 0) v = place-law b (y .frames) i v (journal-of (y .contents)) l e in
+          let x : ValueStands b i (getD (placesOf (y .journal .frames)) (i .0) 0) v = place-law b (y .journal .frames) i v (standing-of (y .contents)) l e in
           let n : length b ≡ s = length-block s k img (sized-block k z (y .there)) in
-          let at : placeOf N img r (heldOf y) i ≡ record { at = k * s + x .at; size = length v } =
-          ap (λ (q : Record). placeOf N img q (heldOf y) i) (y .is)
-          ∙ ap (λ (w : ℕ). stretchOf (k * w) (valueAt (block w k img) i (getD (placesOf (y .frames)) (i .0) 0))) (size-of z)
+          let at : placeOf N img r (y .journal) i ≡ record { at = k * s + x .at; size = length v } =
+          ap (λ (q : Record). placeOf N img q (y .journal) i) (y .is)
+          ∙ ap (λ (w : ℕ). stretchOf (k * w) (valueAt (block w k img) i (getD (placesOf (y .journal .frames)) (i .0) 0))) (size-of z)
           ∙ ap (stretchOf (k * s)) (x .found) in
           let f : served (Read i) ≡ record { answer = Done; image = img; board = r; reply = reply; stretch = record { at = k * s + x .at; size = length v } } =
-          read-some N img r reply h m (heldOf y) i v e
+          read-some N img r reply h m (y .journal) i v e
           ∙ ap (λ (t : Stretch). record { answer = Done; image = img; board = r; reply = reply; stretch = t }) at in (
             ap (λ (o : Out). o .answer) f,
             subst (λ (o : Out). take (o .stretch .size) (drop (o .stretch .at) (o .image)) ≡ v) (sym f)
                 (stretch s k (x .at) (length v) img (omega (arith, x .fits)) ∙ x .same),
           )
 
-  pub log-says : (os : List Object) → replay (y .frames) .objects ≡ os → LogSays (served (Log Summary)) reply os
+  pub log-says : (os : List Object) → replayOf (y .journal) .objects ≡ os → LogSays (served (Log Summary)) reply os
   log-says os e l =
       subst (λ (x : List Object). (served (Log Summary) .answer ≡ Done) ×
       (take 4 (drop 8 (served (Log Summary) .reply)) ≡ u16le (length x) ++ u16le (usedBy x))) e
       (on-test (ltb (length reply) pageLen)
       (λ t. absurd (omega (arith, ltb-true (length reply) pageLen t)))
-      (λ t. subst (λ (o : Out). (o .answer ≡ Done) × (take 4 (drop 8 (o .reply)) ≡ u16le (length (replay (y .frames) .objects)) ++ u16le
-      (usedBy (replay (y .frames) .objects))))
-      (sym (serve-log N img r reply h m (heldOf y) ∙ log-done N img r reply (heldOf y) t)) (refl, refl)))
+      (λ t. subst (λ (o : Out). (o .answer ≡ Done) × (take 4 (drop 8 (o .reply)) ≡ u16le (length (replayOf (y .journal) .objects)) ++ u16le
+      (usedBy (replayOf (y .journal) .objects))))
+      (sym (serve-log N img r reply h m (y .journal) ∙ log-done N img r reply (y .journal) t)) (refl, refl)))

@@ -11,6 +11,7 @@ use Rattle.flash.proofs.Cases.{on-test}
 use Rattle.frame.specs.declared.Host.{Host}
 use Rattle.frame.specs.Frame.{hostMax}
 use Rattle.journal.specs.Replay.{Object, lookup}
+use Rattle.journal.specs.Block.{Journal}
 use Rattle.wire.specs.declared.Answer.{Answer}
 use Rattle.wire.specs.declared.Answer.the-variants.{Done, More, Refused}
 use Rattle.wire.specs.declared.Refusal.{Refusal}
@@ -26,13 +27,13 @@ use Rattle.board.specs.declared.Phase.{Phase}
 use Rattle.board.specs.declared.Phase.the-variants.{Unmounted, Idle, Busy}
 use Rattle.board.specs.declared.Record.{Record}
 use Rattle.board.specs.Record.{Out, refuse}
-use Rattle.board.specs.Queue.{Held, serve, requestOn}
+use Rattle.board.specs.Queue.{serve, requestOn}
 use Rattle.board.specs.Book.{Book, enterRequest, enterParsed}
 use Rattle.board.specs.Claim.{Never, RequestSays, ReadSays}
 use Rattle.board.proofs.Invariant.{IdleBook, Inv}
 use Rattle.board.proofs.Outcomes.{request-host, request-busy, request-unmounted, request-malformed, request-served}
 use Rattle.board.proofs.Keeping.{on-phase}
-use Rattle.board.proofs.Replies.{heldOf, held-ready, read-says, log-says}
+use Rattle.board.proofs.Replies.{held-ready, read-says, log-says}
 use Rattle.board.proofs.Serving.{entered, Served, Legal, served}
 
 abbrev pub RequestKeeps : ℕ → ℕ → Book → Bool → Host → List ℕ → Out → Type 0
@@ -66,36 +67,36 @@ module _ {N : ℕ} {s : ℕ} {img : List ℕ} {r : Record} {b : Book} {u : Bool}
       → (r .phase ≡ Idle → h .0 ≤ hostMax → ⊥) → Is-had (refuse n img r reply)
   turned-away n a c f = ((v, a, c), λ e k. absurd (f e k))
 
-  idle-says : (y : IdleBook N s img r b) (q : Request) → parse m ≡ Is q → RequestSays (Is q) reply (serve N img r reply h m (heldOf (y .ready)) q) b
+  idle-says : (y : IdleBook N s img r b) (q : Request) → parse m ≡ Is q → RequestSays (Is q) reply (serve N img r reply h m (y .ready .journal) q) b
   idle-says y (Put i) e = tt
   idle-says y (Delete i) e = tt
   idle-says y Commit e = tt
   idle-says y Abort e = tt
   idle-says y (Read i) e =
-      subst (λ (os : List Object). ReadSays (serve N img r reply h m (heldOf (y .ready)) (Read i)) (lookup i os)) (y .objects)
+      subst (λ (os : List Object). ReadSays (serve N img r reply h m (y .ready .journal) (Read i)) (lookup i os)) (y .objects)
       (read-says (v .sized) (y .ready) reply h m i (read-parsed m i e))
   idle-says y (Log Summary) e = log-says (v .sized) (y .ready) reply h m (b .objects) (y .objects)
 
   on-idle : leb (h .0) hostMax ≡ true → r .phase ≡ Idle → IdleBook N s img r b → Is-had (requestOn N img r reply h m)
   on-idle t e y = go (parse m) refl
     where
-      x : Held
-      x = heldOf (y .ready)
+      x : Journal
+      x = y .ready .journal
 
       k : h .0 ≤ hostMax
       k = leb-true (h .0) hostMax t
 
       go : (p : Parsed) → parse m ≡ p → Is-had (requestOn N img r reply h m)
       go Malformed q =
-          subst Is-had (sym (request-malformed N img r reply h m (v .sized .ok) t (heldOf (y .ready)) e (held-ready (v .sized) (y .ready)) q)) (
+          subst Is-had (sym (request-malformed N img r reply h m (v .sized .ok) t (y .ready .journal) e (held-ready (v .sized) (y .ready)) q)) (
             (v, λ c. (let w : _≡_ {A = ℕ} 0 1 = cc in omega arith), λ c. (let w : _≡_ {A = ℕ} 0 1 = cc in omega arith)),
             λ i j. subst (λ (p : Parsed). RequestSays p reply (refuse refusal.Malformed img r reply) b) (sym q) refl,
           )
       go (Is a) q =
-          let o : Out = serve N img r reply h m (heldOf (y .ready)) a in
+          let o : Out = serve N img r reply h m (y .ready .journal) a in
           let w : Served N s b u h m a o = served u (v .sized) (v .bytes) y reply h (leb-true (h .0) hostMax t) m a
           (legal h m a (leb-true (h .0) hostMax t) by q) in
-          subst Is-had (sym (request-served N img r reply h m (v .sized .ok) t (heldOf (y .ready)) a e (held-ready (v .sized) (y .ready)) q)) (
+          subst Is-had (sym (request-served N img r reply h m (v .sized .ok) t (y .ready .journal) a e (held-ready (v .sized) (y .ready)) q)) (
             (subst (λ (c : Book). Inv N s (o .image) (o .board) c u) (entered-is b h m a (o .answer) q) (w .0), w .1, w .2),
             λ i j. subst (λ (p : Parsed). RequestSays p reply o b) (sym q) (idle-says y a q),
           )

@@ -17,14 +17,14 @@ use Rattle.flash.proofs.Programming.{length-writes, writes-at}
 use Rattle.frame.specs.Frame.{valueMax, put, delete, change, commit, abort, encode, encodeAll, frameLen}
 use Rattle.frame.specs.Reader.{Tail}
 use Rattle.frame.proofs.First.{encode-plain, length-encode, length-all}
-use Rattle.journal.specs.Replay.{Entry, State, replay, framesOf}
-use Rattle.journal.specs.Block.{headerLen, lastTime, sealWrites, build}
+use Rattle.journal.specs.Replay.{Entry, State, framesOf}
+use Rattle.journal.specs.Block.{Journal, headerLen, lastTime, sealWrites, build}
 use Rattle.journal.specs.Room.{claimed}
 use Rattle.journal.proofs.Lists.{open-none}
 use Rattle.journal.proofs.Room.{frames-total}
 use Rattle.journal.proofs.ReplayLaws.{order-laws}
 use Rattle.journal.proofs.Sources.{place-exact}
-use Rattle.board.specs.Mount.{nextBlock, allFound, wipeList, forPending, Upkeep, upkeepOf, upkeep, numbersBut, formatOrder, storeAt}
+use Rattle.board.specs.Mount.{nextBlock, allFound, wipeList, forPending, Upkeep, upkeepBy, upkeep, numbersBut, formatOrder, storeAt, replayOf}
 use Rattle.board.specs.Record.{allowed}
 use Rattle.board.specs.Queue.{stretchOf}
 use Rattle.board.specs.Table.{frameIf}
@@ -51,11 +51,11 @@ frame-exact =
           ap some (encode-plain 0 (change h (put i (drop 6 m))) (hh, y .4, (k, bytes-drop 6 m b)));
       of-delete = λ h m x i hh y. ap some (encode-plain 0 (change h (delete i)) (hh, y .3));
       of-commit = λ h m x n.
-          ap (λ (b : Bool). Option·map encode (frameIf b (commit h))) (order-laws .is-open h (replay (x .frames) .pending) .1 n);
-      commit-nothing = λ h m x e. ap (λ (b : Bool). frameIf b (commit h)) (open-none h (replay (x .frames) .pending) e);
+          ap (λ (b : Bool). Option·map encode (frameIf b (commit h))) (order-laws .is-open h (replayOf x .pending) .1 n);
+      commit-nothing = λ h m x e. ap (λ (b : Bool). frameIf b (commit h)) (open-none h (replayOf x .pending) e);
       of-abort = λ h m x n.
-          ap (λ (b : Bool). Option·map encode (frameIf b (abort h))) (order-laws .is-open h (replay (x .frames) .pending) .1 n);
-      abort-nothing = λ h m x e. ap (λ (b : Bool). frameIf b (abort h)) (open-none h (replay (x .frames) .pending) e);
+          ap (λ (b : Bool). Option·map encode (frameIf b (abort h))) (order-laws .is-open h (replayOf x .pending) .1 n);
+      abort-nothing = λ h m x e. ap (λ (b : Bool). frameIf b (abort h)) (open-none h (replayOf x .pending) e);
       of-read = λ h m x i. refl;
       of-log = λ h m x p. refl;
     }
@@ -98,26 +98,26 @@ inverse t h = (omega arith, omega arith, omega arith, omega arith)
 abbrev opened : ℕ → List Step → List Step
 opened j xs = program j 8 0xFE ∷ program j 0 16 ∷ program j 1 0 ∷ program j 2 0x01 ∷ program j 3 0x4A ∷ xs
 
-transfer-is : (N k j time : ℕ) (st : State) → nextBlock N k ≡ j
-    → transferPlan N k time st
-    ≡ opened j (onBlock j (writes headerLen (encodeAll (framesOf st))) ++ (onBlock j (sealWrites (suc time)) ++ (erase k ∷ [])))
+transfer-is : (N k j : ℕ) (x : Journal) (st : State) → nextBlock N k ≡ j
+    → transferPlan N k x st
+    ≡ opened j (onBlock j (writes headerLen (encodeAll (framesOf st))) ++ (onBlock j (sealWrites (suc (x .time))) ++ (erase k ∷ [])))
 unfolding writes
-transfer-is N k j time st e =
+transfer-is N k j x st e =
     let ws : List Write = writes headerLen (encodeAll (framesOf st)) in
-    ap (λ (n : ℕ). onBlock n (build (suc time) (framesOf st)) ++ (erase k ∷ [])) e
-    ∙ ap (λ (xs : List Step). opened j (xs ++ (erase k ∷ []))) (map-append (writeStep j) ws (sealWrites (suc time)))
-    ∙ ap (opened j) (append-assoc (onBlock j ws) (onBlock j (sealWrites (suc time))) (erase k ∷ []))
+    ap (λ (n : ℕ). onBlock n (build (suc (x .time)) (framesOf st)) ++ (erase k ∷ [])) e
+    ∙ ap (λ (xs : List Step). opened j (xs ++ (erase k ∷ []))) (map-append (writeStep j) ws (sealWrites (suc (x .time))))
+    ∙ ap (opened j) (append-assoc (onBlock j ws) (onBlock j (sealWrites (suc (x .time)))) (erase k ∷ []))
 
 pub transfer-exact : TransferExact
 unfolding TransferExact writes
-transfer-exact N k j time st e h =
+transfer-exact N k j x st e h =
     let bs : List ℕ = encodeAll (framesOf st) in
-    let v = inverse (suc time) h in
+    let v = inverse (suc (x .time)) h in
     record {
       copied = onBlock j (writes headerLen bs);
-      steps = transfer-is N k j time st (next-of e) ∙ rw (v .0, v .1, v .2, v .3) refl;
+      steps = transfer-is N k j x st (next-of e) ∙ rw (v .0, v .1, v .2, v .3) refl;
       frames = programs j headerLen bs;
-      count = length-transfer (nextBlock N k) k time st;
+      count = length-transfer (nextBlock N k) k x st;
     }
 
 -- ---- format
@@ -142,23 +142,19 @@ but-last N k h =
 
 module _ (N : ℕ) (img : List ℕ) (by : Bytes img) (ok : allowed N (length img) ≡ true) where
   newest-in : {k : ℕ} → NewestAt N img k → Newest N img k
-  newest-in (t, fs, c, v, o) =
+  newest-in (x, v, o) =
       record {
-        time = t;
-        frames = fs;
-        tail = c;
+        journal = x;
         there = v .0;
         is-valid = at-valid img by ok v;
-        others = λ j h d. beside-of (StateOf N img j) (λ u gs b q. o j u gs b d (valid-at img by ok h q));
+        others = λ j h d. beside-of (StateOf N img j) (λ y q. o j y d (valid-at img by ok h q));
       }
 
   newest-at : {k : ℕ} → Newest N img k → NewestAt N img k
   newest-at n = (
-    n .time,
-    n .frames,
-    n .tail,
+    n .journal,
     valid-at img by ok (n .there) (n .is-valid),
-    λ j u gs d a w. subst (Beside (n .time)) (at-valid img by ok w) (n .others j (w .0) a),
+    λ j y a w. subst (Beside (n .journal .time)) (at-valid img by ok w) (n .others j (w .0) a),
   )
 
 pub format-exact : FormatExact
@@ -183,7 +179,7 @@ append-exact =
       stays = λ N img r x f h.
           rw (le-ltb (sizeOf N img) (r .rest .end + frameLen f) (omega (arith, length-encode f))) (programs (r .rest .block) (r .rest .end) (encode f));
       moves = λ N j img r x f e h.
-          let st : State = replay (x .frames) in
+          let st : State = replayOf x in
           let k : ℕ = nextBlock N (r .rest .block) in
           let o : ℕ = 16 + length (encodeAll (framesOf st)) in
           let xs : List Step = appendPlan k (claimed st) f in
@@ -224,12 +220,12 @@ mount-exact N img x =
       steps = refl;
       by-number = rising-at 0 ks (wipes-rise N (x .number) img);
       every = λ j. let w = wipes-exact N (x .number) img j in (λ (i, h, e). w .0 (member-in j ks i h e), λ y. in-member j ks (w .1 y));
-      torn = λ n q. ap (λ (t : Tail). kept (upkeepOf (x .frames) t)) q;
+      torn = λ n q. ap (λ (t : Tail). kept (upkeepBy (x .journal) t)) q;
       pending = λ q n.
-          ap (λ (t : Tail). kept (upkeepOf (x .frames) t)) q
-          ∙ ap kept (pending-moves (replay (x .frames) .pending) n);
+          ap (λ (t : Tail). kept (upkeepBy (x .journal) t)) q
+          ∙ ap kept (pending-moves (replayOf (x .journal) .pending) n);
       at-rest = λ q n.
-          ap (λ (t : Tail). kept (upkeepOf (x .frames) t)) q
+          ap (λ (t : Tail). kept (upkeepBy (x .journal) t)) q
           ∙ ap (λ (es : List Entry). kept (forPending es)) n;
     }
 
@@ -237,6 +233,6 @@ mount-exact N img x =
 
 pub stretch-exact : StretchExact
 unfolding StretchExact
-stretch-exact N img r x c i v y h s =
-    let p = place-exact .found (block (sizeOf N img) (r .rest .block) img) (x .time) (x .frames) c i v y h s in
+stretch-exact N img r x i v y h s =
+    let p = place-exact .found (block (sizeOf N img) (r .rest .block) img) x i v y h s in
     (p .0, ap (stretchOf (r .rest .block * sizeOf N img)) (p .1), p .2)

@@ -13,10 +13,10 @@ use Rattle.flash.specs.Flash.{Step, applyAll, block, sizeOf}
 use Rattle.flash.proofs.Cases.{on-test}
 use Rattle.frame.specs.declared.Host.{Host}
 use Rattle.frame.specs.Frame.{hostMax, Change, put, delete, Frame, change, commit, abort, OfHost, MayStand}
-use Rattle.journal.specs.Replay.{State, replay, lookup, nextState, isOpen}
-use Rattle.journal.specs.Block.{lastTime}
+use Rattle.journal.specs.Replay.{State, lookup, nextState, isOpen}
+use Rattle.journal.specs.Block.{Journal, lastTime}
 use Rattle.journal.specs.Room.{used, noRoom}
-use Rattle.journal.proofs.Places.{Journal}
+use Rattle.journal.proofs.Places.{Standing}
 use Rattle.wire.specs.declared.Answer.{Answer}
 use Rattle.wire.specs.declared.Answer.the-variants.{Done, More, Refused}
 use Rattle.wire.specs.declared.Refusal.{Refusal}
@@ -25,12 +25,12 @@ use Rattle.wire.specs.declared.Page.the-variants.{Summary}
 use Rattle.wire.specs.declared.Request.{Request}
 use Rattle.wire.specs.declared.Request.the-variants.{Put, Delete, Commit, Abort, Read, Log}
 use Rattle.wire.specs.Message.{valueIn, pageLen, logPage, withPage}
-use Rattle.board.specs.Mount.{nextBlock}
+use Rattle.board.specs.Mount.{nextBlock, replayOf}
 use Rattle.board.specs.declared.Record.{Record}
 use Rattle.board.specs.declared.Phase.the-variants.{Idle}
 use Rattle.board.specs.Record.{Out, out, refuse, answerOf}
 use Rattle.board.specs.Step.{enterWipe, begin}
-use Rattle.board.specs.Queue.{Held, placeOf, needsRoom, appendJob, append, serve, serveEnd, serveChange}
+use Rattle.board.specs.Queue.{placeOf, needsRoom, appendJob, append, serve, serveEnd, serveChange}
 use Rattle.board.specs.Plan.{frameWork}
 use Rattle.board.specs.Book.{Book, book, withList, join, accept}
 use Rattle.board.specs.Claim.{Never}
@@ -42,7 +42,7 @@ use Rattle.board.proofs.Prefixes.{Each}
 use Rattle.board.proofs.Current.{After, Keeps}
 use Rattle.board.proofs.Jobs.{job-starts}
 use Rattle.board.proofs.Keeping.{Working, inv-idle, inv-busy, ready-idle}
-use Rattle.board.proofs.Replies.{heldOf, journal-of}
+use Rattle.board.proofs.Replies.{standing-of}
 use Rattle.board.proofs.Books.{Entered, idle-book, BookFits, entered-change, entered-commit, entered-abort, lists-none}
 use Rattle.board.proofs.Accepted.{follows-frame}
 use Rattle.board.proofs.Lengths.{frame-some}
@@ -51,14 +51,14 @@ use Rattle.board.proofs.Framing.{AsRecorded, ready-holds, Appendable, f
 -- ---- a frame job is begun
 
 -- whatever holds of each step and of the end: the job of a frame is begun
-pub frame-starts : {N : ℕ} {s : ℕ} {P : Step → List ℕ → Type 0} {Q : List ℕ → Record → Type 0} {img : List ℕ} (r : Record) (x : Held) (f : Frame)
+pub frame-starts : {N : ℕ} {s : ℕ} {P : Step → List ℕ → Type 0} {Q : List ℕ → Record → Type 0} {img : List ℕ} (r : Record) (x : Journal) (f : Frame)
     → Sized N s img → AsRecorded N s img r x → Appendable N s img r x f → Each s P (frameWork N img r x f .steps) img
     → Q (applyAll s (frameWork N img r x f .steps) img) (frameWork N img r x f .last)
     → frameWork N img r x f .last .phase ≡ Idle
     → (answerOf (enterWipe (appendJob N img r x f)) ≡ More) × InJob N s P Q img (enterWipe (appendJob N img r x f))
 frame-starts {N} {s} {P} {Q} {img} r x f z h y each ends idle =
-    let j : Journal (block (sizeOf N img) (r .rest .block) img) (x .frames) =
-    subst (λ (n : ℕ). Journal (block n (r .rest .block) img) (x .frames)) (sym (size-of z)) (journal-of (h .alone .contents)) in
+    let j : Standing (block (sizeOf N img) (r .rest .block) img) (x .frames) =
+    subst (λ (n : ℕ). Standing (block n (r .rest .block) img) (x .frames)) (sym (size-of z)) (standing-of (h .alone .contents)) in
     job-starts img (enterWipe (appendJob N img r x f)) (frameWork N img r x f .steps)
     (frameWork N img r x f .last)
     (follows-frame img r x f (z .count) (h .long) (h .blocks) (h .alone .there) j (sym (h .ends)) (omega (arith, y .fits, size-of z)))
@@ -87,33 +87,33 @@ Legal h m (Read i) = Unit {0}
 Legal h m (Log p) = Unit {0}
 
 -- what is known of an idle record
-pub found : {N : ℕ} {s : ℕ} {img : List ℕ} {r : Record} {b : Book} (y : IdleBook N s img r b) → BookFits s (replay (y .ready .frames)) b
+pub found : {N : ℕ} {s : ℕ} {img : List ℕ} {r : Record} {b : Book} (y : IdleBook N s img r b) → BookFits s (replayOf (y .ready .journal)) b
 found y = record { room = y .ready .room; spare = y .spare; objects = y .objects; lists = y .lists; under = y .under }
 
 module _ {N : ℕ} {s : ℕ} {img : List ℕ} {r : Record} {b : Book} (u : Bool) (z : Sized N s img) (by : Bytes img) (y : IdleBook N s img r b) (reply : List ℕ)
     (h : Host)
     (k : h .0 ≤ hostMax) (m : List ℕ) where
-  abbrev x : Held
-  x = heldOf (y .ready)
+  abbrev x : Journal
+  x = y .ready .journal
 
   abbrev st : State
-  st = replay (y .ready .frames)
+  st = replayOf (y .ready .journal)
 
   same : Inv N s img r b u
   same = inv-idle r z by y
 
   begun : (q : Request) (f : Frame) → OfHost f → MayStand 256 f → Entered s st f (accept b h m q More) → accept b h m q More .objects ≡ b .objects
-      → (needsRoom N img r f && eqb (y .ready .time) lastTime) ≡ false → Served N s b u h m q (begin img reply (appendJob N img r x f))
+      → (needsRoom N img r f && eqb (y .ready .journal .time) lastTime) ≡ false → Served N s b u h m q (begin img reply (appendJob N img r x f))
   begun q f o g e os t =
       let b′ : Book = accept b h m q More in
-      let hold : AsRecorded N s img r x = ready-holds z (y .ready) refl refl in
+      let hold : AsRecorded N s img r x = ready-holds z (y .ready) refl in
       let fit : Appendable N s img r x f =
       record {
         host = o;
         legal = g;
         fits = e .fits;
-        young = λ n. let v : eqb (y .ready .time) lastTime ≡ false = rw n at t in omega
-            (arith, eqb-false (y .ready .time) lastTime v, y .ready .contents .layout .time-hi);
+        young = λ n. let v : eqb (y .ready .journal .time) lastTime ≡ false = rw n at t in omega
+            (arith, eqb-false (y .ready .journal .time) lastTime v, y .ready .contents .layout .time-hi);
       } in
       let after : After N s (applyAll s (frameWork N img r x f .steps) img)
       (frameWork N img r x f .last) (nextState st f) = frame-ends hold fit (e .room) in
@@ -147,7 +147,7 @@ module _ {N : ℕ} {s : ℕ} {img : List ℕ} {r : Record} {b : Book} (u : Bool)
   appended : (q : Request) (f : Frame) → OfHost f → MayStand 256 f → Entered s st f (accept b h m q More) → accept b h m q More .objects ≡ b .objects
       → Served N s b u h m q (append N img r reply x f)
   appended q f o g e os =
-      on-test (needsRoom N img r f && eqb (y .ready .time) lastTime)
+      on-test (needsRoom N img r f && eqb (y .ready .journal .time) lastTime)
       (λ t. subst (Served N s b u h m q) (sym (append-worn N img r reply x f t))
       (refused q refusal.Worn (λ c. let w : _≡_ {A = ℕ} 0 1 = cc in omega arith) (λ c. let w : _≡_ {A = ℕ} 0 1 = cc in omega arith)))
       (λ t. subst (Served N s b u h m q) (sym (append-begins N img r reply x f t)) (begun q f o g e os t))
@@ -197,4 +197,4 @@ module _ {N : ℕ} {s : ℕ} {img : List ℕ} {r : Record} {b : Book} (u : Bool)
       (λ t. subst (Served N s b u h m (Log Summary)) (sym (serve-log N img r reply h m x ∙ log-short N img r reply x t))
       (refused (Log Summary) refusal.ShortReply (λ c. let w : _≡_ {A = ℕ} 0 1 = cc in omega arith) (λ c. let w : _≡_ {A = ℕ} 0 1 = cc in omega arith)))
       (λ t. subst (Served N s b u h m (Log Summary)) (sym (serve-log N img r reply h m x ∙ log-done N img r reply x t))
-      (done (Log Summary) (out Done img r (withPage (logPage (y .ready .time) (length (st .objects)) (used st) (sizeOf N img)) reply)) refl refl refl y))
+      (done (Log Summary) (out Done img r (withPage (logPage (x .time) (length (st .objects)) (used st) (sizeOf N img)) reply)) refl refl refl y))

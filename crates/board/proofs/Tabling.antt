@@ -14,8 +14,8 @@ use Rattle.flash.specs.Flash.{maxBlocks, sizeIn, isCount, Step, sizeOf, blockOf
 use Rattle.flash.proofs.Cases.{on-test, clash, and-both, and-left, and-right}
 use Rattle.frame.specs.declared.Host.{Host}
 use Rattle.frame.specs.Frame.{Frame, frameLen, hostMax}
-use Rattle.journal.specs.Replay.{replay, lookup}
-use Rattle.journal.specs.Block.{lastTime}
+use Rattle.journal.specs.Replay.{lookup}
+use Rattle.journal.specs.Block.{Journal, lastTime}
 use Rattle.journal.specs.Room.{noRoom}
 use Rattle.wire.specs.declared.Answer.{Answer}
 use Rattle.wire.specs.declared.Answer.the-variants.{Done, More, Refused}
@@ -33,7 +33,8 @@ use Rattle.board.specs.declared.Phase.the-variants.{Unmounted, Idle, Bus
 use Rattle.board.specs.declared.Record.{Record}
 use Rattle.board.specs.Record.{allowed}
 use Rattle.board.specs.Step.{sameShape, action}
-use Rattle.board.specs.Queue.{Held, held, needsRoom}
+use Rattle.board.specs.Mount.{replayOf}
+use Rattle.board.specs.Queue.{held, needsRoom}
 use Rattle.board.specs.Exec.{request, step, format, exec}
 use Rattle.board.specs.Table.{isBusy, isNone, frameFor, Line, line, Exactly, Allowed, InJob, Fresh, FreshExact, NoObject}
 use Rattle.board.specs.Table.{ShortReply, NoRoom, for-put, for-delete, Worn, requestLines, Outside, Misplaced, linesOf}
@@ -146,7 +147,7 @@ unmounted-test (Busy s) = record { yes = λ e. false-true e; no = λ y. let w : 
 none-some : {A : Type 0} {P : Type 0} {x : A} → none ≡ some x → P
 none-some e = let w : _≡_ {A = ℕ} 0 1 = cc in absurd (omega arith)
 
-some-held : {x y : Held} → some x ≡ some y → x ≡ y
+some-held : {x y : Journal} → some x ≡ some y → x ≡ y
 some-held e = cc
 
 is-request : {x y : Request} → Is x ≡ Is y → x ≡ y
@@ -158,11 +159,11 @@ unfolding MessagesExact
 same-request msg q s a b = is-request (sym (messages-exact msg q .1 a) ∙ messages-exact msg s .1 b)
 
 module _ (N : ℕ) (img : List ℕ) (r : Record) (by : Bytes img) (ok : allowed N (length img) ≡ true) where
-  pub same-held : (x y : Held) → Fresh N img r x → Fresh N img r y → x ≡ y
+  pub same-held : (x y : Journal) → Fresh N img r x → Fresh N img r y → x ≡ y
   unfolding FreshExact
   same-held x y a b = some-held (sym (fresh-exact N img r x by ok .1 a) ∙ fresh-exact N img r y by ok .1 b)
 
-  stale-test : (o : Option Held) → held N img r ≡ o → Tests (isNone o) ((x : Held) → Fresh N img r x → ⊥)
+  stale-test : (o : Option Journal) → held N img r ≡ o → Tests (isNone o) ((x : Journal) → Fresh N img r x → ⊥)
   unfolding FreshExact
   stale-test none e = record { yes = λ t x y. none-some (sym e ∙ fresh-exact N img r x by ok .1 y); no = λ f. refl }
   stale-test (some x) e = record { yes = λ t. false-true t; no = λ f. absurd (f x (fresh-exact N img r x by ok .0 e)) }
@@ -173,7 +174,7 @@ module _ (N : ℕ) (img : List ℕ) (r : Record) (by : Bytes img) (ok : allowed 
     malformed-test Malformed e = record { yes = λ t. malformed-exact msg .0 e; no = λ f. refl }
     malformed-test (Is q) e = record { yes = λ t. false-true t; no = λ f. absurd (f q (messages-exact msg q .0 e)) }
 
-    module _ (x : Held) (q : Request) (fresh : Fresh N img r x) (means : Means msg q) where
+    module _ (x : Journal) (q : Request) (fresh : Fresh N img r x) (means : Means msg q) where
       object-test : Tests (noObject x q) (NoObject N img r msg)
       object-test =
           record {
@@ -193,7 +194,7 @@ module _ (N : ℕ) (img : List ℕ) (r : Record) (by : Bytes img) (ok : allowed 
           there Commit a t = false-true t
           there Abort a t = false-true t
           there (Read i) a t =
-              record { holding = x; id = i; is-held = fresh; is-asked = a; none-there = lacks (lookup i (replay (x .frames) .objects)) t }
+              record { holding = x; id = i; is-held = fresh; is-asked = a; none-there = lacks (lookup i (replayOf x .objects)) t }
           there (Log p) a t = false-true t
 
       short-test : Tests (shortReply reply q) (ShortReply msg reply)
@@ -248,7 +249,7 @@ module _ (N : ℕ) (img : List ℕ) (r : Record) (by : Bytes img) (ok : allowed 
 
           due : Worn N img r h msg → worn N img r x (frameFor h msg x q) ≡ true
           due y =
-              ap₂ (λ (z : Held) (s : Request). worn N img r z (frameFor h msg z s)) (same-held x (y .holding) fresh (y .is-held))
+              ap₂ (λ (z : Journal) (s : Request). worn N img r z (frameFor h msg z s)) (same-held x (y .holding) fresh (y .is-held))
               (same-request msg q (y .asked) means (y .is-asked))
               ∙ ap (worn N img r (y .holding)) (y .is-frame)
               ∙ and-both (needsRoom N img r (y .frame)) (eqb (y .holding .time) lastTime)
@@ -268,15 +269,15 @@ module _ (N : ℕ) (img : List ℕ) (r : Record) (by : Bytes img) (ok : allowed 
         line 1 ((q : Request) → Means msg q → ⊥) ∷ line 8 (NoObject N img r msg) ∷ line 9 (ShortReply msg reply) ∷ line 7 (NoRoom N img r h msg)
         ∷ line 6 (Worn N img r h msg) ∷ []
 
-    parsed-rows : (x : Held) → Fresh N img r x → (p : Parsed) → parse msg ≡ p
+    parsed-rows : (x : Journal) → Fresh N img r x → (p : Parsed) → parse msg ≡ p
         → Rows (check refusal.Malformed (isMalformed p) ∷ laterChecks N img r h msg reply (some x) p) lastLines
     unfolding MessagesExact
     parsed-rows x f Malformed e = row refusal.Malformed (malformed-test Malformed e) (λ t. false-true (sym t))
     parsed-rows x f (Is q) e = row refusal.Malformed (malformed-test (Is q) e) (λ _. held-rows x q f (messages-exact msg q .0 e))
 
-    stale-rows : (o : Option Held) → held N img r ≡ o
+    stale-rows : (o : Option Journal) → held N img r ≡ o
         → Rows (check refusal.Stale (isNone o) ∷ check refusal.Malformed (isMalformed (parse msg)) ∷ laterChecks N img r h msg reply o (parse msg))
-        (line 11 ((x : Held) → Fresh N img r x → ⊥) ∷ lastLines)
+        (line 11 ((x : Journal) → Fresh N img r x → ⊥) ∷ lastLines)
     unfolding FreshExact
     stale-rows none e = row refusal.Stale (stale-test none e) (λ t. false-true (sym t))
     stale-rows (some x) e = row refusal.Stale (stale-test (some x) e) (λ _. parsed-rows x (fresh-exact N img r x by ok .0 e) (parse msg) refl)

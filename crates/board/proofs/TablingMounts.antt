@@ -1,7 +1,7 @@
 -- A mount is refused exactly as the table's lines say; the states of blocks in words.
 use mathlib.Core.Path.{_≡_, refl, sym, ap, ap₂, subst, _∙_, subst₂}
 use mathlib.Core.List.{List, [], _∷_}
-use mathlib.Core.Logic.{inl, inr}
+use mathlib.Core.Logic.{_⊎_, inl, inr}
 use mathlib.Core.Option.{some, Option}
 use mathlib.Core.Bool.{true, false}
 use Prim.Native.Nat.{ℕ, _≤_, _<_}
@@ -14,10 +14,9 @@ use Rattle.flash.specs.Flash.{block, sizeOf}
 use Rattle.flash.proofs.Cases.{on-test, on-order, clash}
 use Rattle.flash.proofs.Image.{bytes-block}
 use Rattle.frame.specs.declared.Fault.{Fault}
-use Rattle.frame.specs.Frame.{Frame}
 use Rattle.frame.specs.Reader.{Tail, clean, cut, bad, fault}
-use Rattle.journal.specs.Replay.{Entry, replay}
-use Rattle.journal.specs.Block.{valid, foreign, blockState, lastTime, headerLen}
+use Rattle.journal.specs.Replay.{Entry}
+use Rattle.journal.specs.Block.{Journal, valid, foreign, blockState, headerLen}
 use Rattle.journal.proofs.Sentences.{states-exact}
 use Rattle.wire.specs.declared.Refusal.{Refusal}
 use Rattle.wire.specs.declared.Refusal.the-variants as refusal
@@ -29,16 +28,17 @@ use Rattle.board.specs.declared.Phase.the-variants.{Unmounted, Idle, Bus
 use Rattle.board.specs.declared.Record.{Record}
 use Rattle.board.specs.Record.{allowed, unmounted, Out, refuse, answerIn}
 use Rattle.board.specs.Step.{enterWipe}
-use Rattle.board.specs.Mount.{Store, moves, upkeepOf, upkeep, forPending, allFound, wipeList, mountJob, mountOn}
+use Rattle.board.specs.Mount.{Store, moves, upkeepBy, upkeepOf, upkeep, forPending, allFound, wipeList, mountJob, mountOn, replayOf}
 use Rattle.board.specs.Demand2.{Accepted, Mounts}
 use Rattle.board.specs.Table.{line, Exactly, ValidAt, ForeignAt, NothingThere, Unclear, foreign-only, equal-times, TiedAt, tied-with}
-use Rattle.board.specs.Table.{Unsettled, MountWorn, mountLines, Names, names-foreign, names-equal}
+use Rattle.board.specs.Table.{MountWorn, mountLines, Names, names-foreign, names-equal}
 use Rattle.board.specs.Promise.{Machine, Current}
 use Rattle.board.proofs.Images.{Sized, sized-of}
 use Rattle.board.proofs.Invariant.{Quiet}
 use Rattle.board.proofs.Current.{block-long}
 use Rattle.board.proofs.Outcomes.{mount-length}
-use Rattle.board.proofs.Erasing.{SameValid, same-valid}
+use Rattle.board.proofs.Found.{store}
+use Rattle.board.proofs.Erasing.{same-valid}
 use Rattle.board.proofs.Deciding as deciding
 use Rattle.board.proofs.Deciding.{Taken, SameTimes, Decided, Outcome, InTime, worn-out, begins, foreign-block, none-valid, at-store}
 use Rattle.board.proofs.Deciding.{mount-decides, mount-outcome, mount-accepted, taken-holds, taken-newest}
@@ -59,16 +59,19 @@ some-pending : (ps : List Entry) → forPending ps ≡ moves → ps ≡ [] → �
 some-pending ps t e = not-both (sym t ∙ ap forPending e)
 
 -- "has a torn tail or anything pending"
-unsettled-due : (fs : List Frame) (c : Tail) → Unsettled fs c → upkeepOf fs c ≡ moves
-unsettled-due fs clean (inl n) = absurd (n refl)
-unsettled-due fs clean (inr n) = pending-moves (replay fs .pending) n
-unsettled-due fs (cut k) u = refl
-unsettled-due fs (bad e) u = refl
+abbrev UnsettledBy : Journal → Tail → Type 0
+UnsettledBy w c = (c ≡ clean → ⊥) ⊎ (replayOf w .pending ≡ [] → ⊥)
 
-due-unsettled : (fs : List Frame) (c : Tail) → upkeepOf fs c ≡ moves → Unsettled fs c
-due-unsettled fs clean t = inr (some-pending (replay fs .pending) t)
-due-unsettled fs (cut k) t = inl (λ e. let w : _≡_ {A = ℕ} 0 1 = cc in omega arith)
-due-unsettled fs (bad e) t = inl (λ e. let w : _≡_ {A = ℕ} 0 1 = cc in omega arith)
+unsettled-due : (w : Journal) (c : Tail) → UnsettledBy w c → upkeepBy w c ≡ moves
+unsettled-due w clean (inl n) = absurd (n refl)
+unsettled-due w clean (inr n) = pending-moves (replayOf w .pending) n
+unsettled-due w (cut k) u = refl
+unsettled-due w (bad e) u = refl
+
+due-unsettled : (w : Journal) (c : Tail) → upkeepBy w c ≡ moves → UnsettledBy w c
+due-unsettled w clean t = inr (some-pending (replayOf w .pending) t)
+due-unsettled w (cut k) t = inl (λ e. let z : _≡_ {A = ℕ} 0 1 = cc in omega arith)
+due-unsettled w (bad e) t = inl (λ e. let z : _≡_ {A = ℕ} 0 1 = cc in omega arith)
 
 answer : {n : Refusal} (N : ℕ) (img : List ℕ) → mountOn N img ≡ refuse n img unmounted [] → numberOf (mountOn N img .answer) ≡ some (refusalNumber n)
 answer N img e = ap (λ (o : Out). numberOf (o .answer)) e
@@ -86,11 +89,11 @@ module _ {N : ℕ} (img : List ℕ) (by : Bytes img) (ok : allowed N (length img
 
   -- ---- a block's state in words, and back
 
-  pub valid-at : {k t : ℕ} {fs : List Frame} {c : Tail} → k < N → blockState (block (sizeOf N img) k img) ≡ valid t fs c → ValidAt N img k t fs c
-  valid-at {k} {t} {fs} {c} h e = (h, states-exact .is-valid (block (sizeOf N img) k img) t fs c (bytes-block (sizeOf N img) k img by) (long k h) .0 e)
+  pub valid-at : {k : ℕ} {w : Journal} → k < N → blockState (block (sizeOf N img) k img) ≡ valid w → ValidAt N img k w
+  valid-at {k} {w} h e = (h, states-exact .is-valid (block (sizeOf N img) k img) w (bytes-block (sizeOf N img) k img by) (long k h) .0 e)
 
-  pub at-valid : {k t : ℕ} {fs : List Frame} {c : Tail} → ValidAt N img k t fs c → blockState (block (sizeOf N img) k img) ≡ valid t fs c
-  at-valid {k} {t} {fs} {c} (h, v) = states-exact .is-valid (block (sizeOf N img) k img) t fs c (bytes-block (sizeOf N img) k img by) (long k h) .1 v
+  pub at-valid : {k : ℕ} {w : Journal} → ValidAt N img k w → blockState (block (sizeOf N img) k img) ≡ valid w
+  at-valid {k} {w} (h, v) = states-exact .is-valid (block (sizeOf N img) k img) w (bytes-block (sizeOf N img) k img by) (long k h) .1 v
 
   foreign-at : {k : ℕ} {e : Fault} → k < N → blockState (block (sizeOf N img) k img) ≡ foreign e → ForeignAt N img k
   foreign-at {k} {e} h p = (h, states-exact .is-foreign (block (sizeOf N img) k img) (bytes-block (sizeOf N img) k img by) (long k h) .0 (e, p))
@@ -101,18 +104,16 @@ module _ {N : ℕ} (img : List ℕ) (by : Bytes img) (ok : allowed N (length img
   -- two blocks of one time in words, and back
   tied-same : {j : ℕ} (k : ℕ) → SameTimes N (sizeOf N img) img j k → TiedAt N img j
   tied-same k p =
-      tied-with k (p .time) (p .frames′) (p .frames) (p .tail′) (p .tail) (λ e. p .apart (sym e)) (valid-at (p .there′) (p .is-valid′))
-      (valid-at (p .there) (p .is-valid))
+      tied-with k (p .journal′) (p .journal) (λ e. p .apart (sym e)) (valid-at (p .there′) (p .is-valid′)) (valid-at (p .there) (p .is-valid))
+      (sym (p .same))
 
   same-tied : {j : ℕ} → TiedAt N img j → (k : ℕ) × SameTimes N (sizeOf N img) img j k
-  same-tied {j} (tied-with k t fs gs c d n a b) = (
+  same-tied {j} (tied-with k x y n a b t) = (
     k,
     record {
-      time = t;
-      frames = gs;
-      tail = d;
-      frames′ = fs;
-      tail′ = c;
+      journal = y;
+      journal′ = x;
+      same = sym t;
       there = b .0;
       there′ = a .0;
       apart = λ e. n (sym e);
@@ -122,40 +123,39 @@ module _ {N : ℕ} (img : List ℕ) (by : Bytes img) (ok : allowed N (length img
   )
 
   module _ (x : Store) (y : Taken N (sizeOf N img) img x) where
-    at-number : {k t : ℕ} {fs : List Frame} {c : Tail} → ValidAt N img k t fs c → k ≡ x .number → SameValid t fs c (x .time) (x .frames) (x .tail)
+    at-number : {k : ℕ} {w : Journal} → ValidAt N img k w → k ≡ x .number → w ≡ x .journal
     at-number a e = same-valid (sym (at-valid a) ∙ ap (λ (n : ℕ). blockState (block (sizeOf N img) n img)) e ∙ y .is-valid)
 
     clear : Unclear N img → ⊥
-    clear (foreign-only k f n) = n (x .number) (x .time) (x .frames) (x .tail) (valid-at (y .there) (y .is-valid))
+    clear (foreign-only k f n) = n (x .number) (x .journal) (valid-at (y .there) (y .is-valid))
     clear (equal-times k w) = let p = same-tied w in y .untied k (p .0) (p .1)
 
     not-worn : InTime x → MountWorn N img → ⊥
     not-worn t w =
         on-test (eqb (w .number) (x .number))
         (λ p.
-        let e : SameValid lastTime (w .frames) (w .tail) (x .time) (x .frames) (x .tail) = at-number (w .is-valid) (eqb-true (w .number) (x .number) p) in
-        let d : upkeep x ≡ moves =
-        ap₂ upkeepOf (sym (e .frames)) (sym (e .tail)) ∙ unsettled-due (w .frames) (w .tail) (w .unsettled) in
-        omega (arith, e .time, t d))
+        let e : w .journal ≡ x .journal = at-number (w .is-valid) (eqb-true (w .number) (x .number) p) in
+        let d : upkeep x ≡ moves = ap upkeepOf (sym e) ∙ unsettled-due (w .journal) (w .journal .tail) (w .unsettled) in
+        omega (arith, ap (λ (i : Journal). i .time) e, w .last-time, t d))
         (λ p. omega (
           arith,
           taken-holds x z by y .layout .time-hi,
-          taken-newest z y (w .number) lastTime (w .frames) (w .tail) (w .is-valid .0)
-              (eqb-false (w .number) (x .number) p) (at-valid (w .is-valid)),
+          w .last-time,
+          taken-newest z y (w .number) (w .journal) (w .is-valid .0) (eqb-false (w .number) (x .number) p) (at-valid (w .is-valid)),
         ))
 
     taken-lines : Outcome N img x → Left N img
-    taken-lines o = inr ((λ n. n .none-valid (x .number) (x .time) (x .frames) (x .tail) (valid-at (y .there) (y .is-valid))), inr (clear, last o))
+    taken-lines o = inr ((λ n. n .none-valid (x .number) (x .journal) (valid-at (y .there) (y .is-valid))), inr (clear, last o))
       where
         last : Outcome N img x → Exactly (line 6 (MountWorn N img) ∷ []) (mountOn N img .answer)
         last (worn-out w e) =
             inl (
               record {
                 number = w .number;
-                frames = w .frames;
-                tail = w .tail;
+                journal = w .journal;
                 is-valid = valid-at (w .there) (w .is-valid);
-                unsettled = due-unsettled (w .frames) (w .tail) (w .due);
+                last-time = w .last-time;
+                unsettled = due-unsettled (w .journal) (w .journal .tail) (w .due);
               },
               answer N img e,
             )
@@ -165,23 +165,23 @@ module _ {N : ℕ} (img : List ℕ) (by : Bytes img) (ok : allowed N (length img
 
   current-of : (x : Store) → Taken N (sizeOf N img) img x → Current N img x
   current-of x y =
-      record { is-valid = valid-at (y .there) (y .is-valid); newest = λ k t fs c n v. taken-newest z y k t fs c (v .0) n (at-valid v) }
+      record { is-valid = valid-at (y .there) (y .is-valid); newest = λ k w n v. taken-newest z y k w (v .0) n (at-valid v) }
 
   decided-lines : Decided N (sizeOf N img) img → Left N img
   decided-lines (foreign-block j h e p o b r) =
       inr (
         (λ n. n .none-foreign j (foreign-at h p)),
-        inl (foreign-only j (foreign-at h p) (λ k t fs c a. o k t fs c (a .0) (at-valid a)), answer N img r),
+        inl (foreign-only j (foreign-at h p) (λ k w a. o k w (a .0) (at-valid a)), answer N img r),
       )
   decided-lines (deciding.equal-times j k p o r) =
       inr (
-        (λ n. n .none-valid j (p .time) (p .frames) (p .tail) (valid-at (p .there) (p .is-valid))),
+        (λ n. n .none-valid j (p .journal) (valid-at (p .there) (p .is-valid))),
         inl (equal-times j (tied-same k p), answer N img r),
       )
   decided-lines (none-valid n r) =
       inl (
         record {
-          none-valid = λ k t fs c a. subst Quiet (at-valid a) (n k (a .0));
+          none-valid = λ k w a. subst Quiet (at-valid a) (n k (a .0));
           none-foreign = λ k f. let p = at-foreign f in subst Quiet (p .1) (n k (f .0));
         },
         answer N img r,
@@ -201,15 +201,12 @@ accepted-takes {N} img by a =
     record { store = y .store; current = current-of img by ok (y .store) (y .taken) })
     (λ no. absurd (subst (λ (o : Out). Accepted (o .answer)) (mount-length N img no) a))
 
-abbrev storeOf : ℕ → ℕ → List Frame → Tail → Store
-storeOf k t fs c = record { number = k; time = t; frames = fs; tail = c }
-
 pub mounts-current : {N : ℕ} {m : Machine} (img : List ℕ) → Bytes img → allowed N (length img) ≡ true → (o : Out) → (y : Mounts N m img o)
     → Current N img (y .store)
 mounts-current img by ok o y =
     record {
       is-valid = valid-at img by ok (y .there) (y .is-valid);
-      newest = λ k t fs c n v. y .newest k t fs c (v .0) n (at-valid img by ok v);
+      newest = λ k w n v. y .newest k w (v .0) n (at-valid img by ok v);
     }
 
 -- the image settles which block is current
@@ -221,16 +218,15 @@ same-store {N} img by ok x y a b = on-test (eqb (x .number) (y .number)) (λ t. 
         let d : x .number ≡ y .number → ⊥ = eqb-false (x .number) (y .number) t in
         absurd (omega (
           arith,
-          b .newest (x .number) (x .time) (x .frames) (x .tail) d (a .is-valid),
-          a .newest (y .number) (y .time) (y .frames) (y .tail) (λ e. d (sym e)) (b .is-valid),
+          b .newest (x .number) (x .journal) d (a .is-valid),
+          a .newest (y .number) (y .journal) (λ e. d (sym e)) (b .is-valid),
         ))
 
     alike : x .number ≡ y .number → x ≡ y
     alike e =
-        let s : SameValid (x .time) (x .frames) (x .tail) (y .time) (y .frames) (y .tail) =
+        let s : x .journal ≡ y .journal =
         same-valid (sym (at-valid img by ok (a .is-valid)) ∙ ap (λ (k : ℕ). blockState (block (sizeOf N img) k img)) e ∙ at-valid img by ok (b .is-valid)) in
-        ap₂ (λ (k t : ℕ). storeOf k t (x .frames) (x .tail)) e (s .time)
-        ∙ ap₂ (λ (fs : List Frame) (c : Tail). storeOf (y .number) (y .time) fs c) (s .frames) (s .tail)
+        ap₂ store e s
 
 pub mount-lines : {N : ℕ} (img : List ℕ) → Bytes img → Exactly (mountLines N img) (mountOn N img .answer)
 mount-lines {N} img by =
@@ -262,7 +258,7 @@ mount-names {N} img by k e q =
         let fe : f ≡ e = cc in
         let w = fault-at img by ok j f h p in
         subst₂ (Names N img) jk fe
-        (names-foreign (λ i t fs c a. o i t fs c (a .0) (at-valid img by ok a)) (w .0) (w .1)
+        (names-foreign (λ i w a. o i w (a .0) (at-valid img by ok a)) (w .0) (w .1)
         (λ i l y. let z = at-foreign img by ok y in subst Quiet (z .1) (b i l)))
     go ok (deciding.equal-times j i p o r) =
         let w = told r in
@@ -292,8 +288,8 @@ names-one {N} img by ok k j e f (names-foreign n a b c) (names-foreign n′ a′
   where
     at-fault : (n : ℕ) (g : Fault) → ForeignAt N img n → FaultIn (block (sizeOf N img) n img) g → blockState (block (sizeOf N img) n img) ≡ foreign g
     at-fault n g (h, y) z = states-exact .is-foreign-at (block (sizeOf N img) n img) g (bytes-block (sizeOf N img) n img by) (long img by ok n h) .1 (y, z)
-names-one img by ok k j e f (names-foreign n a b c) (names-equal (tied-with i t fs gs u v d x y) q m) = absurd (n i t fs u x)
-names-one img by ok k j e f (names-equal (tied-with i t fs gs u v d x y) q m) (names-foreign n a b c) = absurd (n i t fs u x)
+names-one img by ok k j e f (names-foreign n a b c) (names-equal (tied-with i x w d y z t) q m) = absurd (n i x y)
+names-one img by ok k j e f (names-equal (tied-with i x w d y z t) q m) (names-foreign n a b c) = absurd (n i x y)
 names-one {N} img by ok k j e f (names-equal x q m) (names-equal x′ q′ m′) = (lowest-one {P = TiedAt N img} k j x x′ m m′, q ∙ sym q′)
 
 -- what a mount may answer: by the table, and naming what 3 names

@@ -25,7 +25,7 @@ use Rattle.board.specs.declared.Record.{Record}
 use Rattle.board.specs.Record.{allowed, idle, inStage, noStretch, Out, out, refuse, answerIn, answerOf}
 use Rattle.board.specs.Step.{sameShape, enter, landed, loadOr, enterAppend, enterDrop, enterCopy, enterOpen, enterWipe, action, nextIndex}
 use Rattle.board.specs.Step.{nextByte, pastFrame, advance, stepOn}
-use Rattle.board.specs.Mount.{allFound, Store, stores, equalTimes, newest, upkeep, transfers, wipeList, mountJob}
+use Rattle.board.specs.Mount.{allFound, Store, stores, equalTimes, newest, upkeep, transfers, wipeList, mountJob, timeOf}
 use Rattle.board.specs.Mount.{noneValid, lowestTied, tiedTimes, mountAt, mountOn, formatJob, formatOn}
 use Rattle.board.specs.Queue.{requestOn}
 use Rattle.board.specs.Exec.{Call, request, step, mount, format, exec}
@@ -126,7 +126,7 @@ plain-silent (begun-plain img g u e) = (ap (λ (x : Out). x .reply) e, ap (λ (x
 
 at-plain : (N : ℕ) (img : List ℕ) (x : Store) → Plain (mountAt N img (allFound N img) x)
 at-plain N img x =
-    on-test (transfers (upkeep x) && eqb (x .time) lastTime)
+    on-test (transfers (upkeep x) && eqb (timeOf x) lastTime)
     (λ t. refused-plain refusal.Worn img _ (mount-worn N img (allFound N img) x t))
     (λ t. let j : Record = mountJob N img x (wipeList (x .number) (allFound N img)) in
     begun-plain img (enterWipe j) (up-wipe j) (mount-begins N img (allFound N img) x t))

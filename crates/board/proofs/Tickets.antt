@@ -16,9 +16,8 @@ use Rattle.flash.specs.Flash.{Step, applyAll, block, sizeOf}
 use Rattle.flash.proofs.Cases.{on-test}
 use Rattle.frame.specs.declared.Host.{Host}
 use Rattle.frame.specs.Frame.{Frame, Change}
-use Rattle.frame.specs.Reader.{clean}
-use Rattle.journal.specs.Replay.{Object, State, replay, changeAll}
-use Rattle.journal.specs.Block.{blockState}
+use Rattle.journal.specs.Replay.{Object, State, changeAll}
+use Rattle.journal.specs.Block.{Journal, blockState}
 use Rattle.wire.specs.declared.Answer.{Answer}
 use Rattle.wire.specs.declared.Answer.the-variants.{Done, More, Refused}
 use Rattle.wire.specs.declared.Request.{Request}
@@ -29,8 +28,7 @@ use Rattle.board.specs.declared.Phase.{Phase}
 use Rattle.board.specs.declared.Phase.the-variants.{Idle}
 use Rattle.board.specs.declared.Record.{Record}
 use Rattle.board.specs.Record.{allowed, Out, out, Accepted}
-use Rattle.board.specs.Mount.{Store}
-use Rattle.board.specs.Queue.{Held}
+use Rattle.board.specs.Mount.{Store, replayOf}
 use Rattle.board.specs.Exec.{Machine, Call, request, step, mount, format}
 use Rattle.board.specs.Plan.{Work, mountWork, frameWork}
 use Rattle.board.specs.Table.{frameFor, Fresh}
@@ -44,7 +42,7 @@ use Rattle.wire.specs.Sentences.{Means, MessagesExact}
 use Rattle.board.specs.Promise.{Answers, Serves, Job, frame-job, mount-job, StepsOf, Calls, Promise, Shown}
 use Rattle.board.specs.Tickets.{outcomes, strike, IsRefused, MarksRefused, Restores, committing, TicketsSettled}
 use Rattle.wire.proofs.Sentences.{messages-exact}
-use Rattle.board.proofs.Erasing.{SameValid, same-valid}
+use Rattle.board.proofs.Erasing.{same-valid}
 use Rattle.board.proofs.Images.{length-all-steps, bytes-all-steps}
 use Rattle.board.proofs.Freshness.{fresh-valid}
 use Rattle.board.proofs.Demand2.{one-store}
@@ -192,7 +190,7 @@ book-steps {N} {m} p i bi w h msg reply bm e b k = go (frameFor h msg x q) refl 
     y : Asked N i w msg
     y = request-asks (p .calls) i bi w h msg reply taken
 
-    x : Held
+    x : Journal
     x = y .holding
 
     q : Request
@@ -251,7 +249,7 @@ module _ {N : ℕ} {m : Machine} (p : Promise N m) (i : List ℕ) (bi : Bytes i)
       (subst₂ (λ (l : List ℕ) (v : Record). Agrees N m mount l v (book os noLists nothing)) (image-after w accepted-too) (steps w accepted-too .last)
       (agrees (length plan)))
 
-  none-pending : replay (idle-agrees .frames) .pending ≡ []
+  none-pending : replayOf (idle-agrees .journal) .pending ≡ []
   unfolding OneStore
   none-pending =
       let ok : allowed N (length i) ≡ true = mount-allowed (p .calls) i bi q a in
@@ -259,10 +257,10 @@ module _ {N : ℕ} {m : Machine} (p : Promise N m) (i : List ℕ) (bi : Bytes i)
       let e : y .store ≡ store .store = same-store i bi ok (y .store) (store .store) (mounts-current i bi ok (m i q mount) y) (store .current) in
       let fresh : Fresh N after z (y .holding) =
       subst (λ (s : Store). Fresh N (applyAll (sizeOf N i) (mountWork N i s .steps) i) (mountWork N i s .last) (y .holding)) e (y .is-fresh) in
-      let g : SameValid (y .holding .time) (y .holding .frames) clean (idle-agrees .time) (idle-agrees .frames) clean =
+      let g : y .holding ≡ idle-agrees .journal =
       same-valid (sym (fresh-valid N after z (y .holding) (bytes-all-steps (sizeOf N i) plan i bi)
       (ap (allowed N) (length-all-steps (sizeOf N i) plan i) ∙ ok) fresh) ∙ idle-agrees .is-valid) in
-      sym (ap (λ (fs : List Frame). replay fs .pending) (g .frames)) ∙ ap (λ (s : State). s .pending) (y .holds)
+      sym (ap (λ (w : Journal). replayOf w .pending) g) ∙ ap (λ (s : State). s .pending) (y .holds)
 
   mount-restores : Restores N m (m i q mount) os
   mount-restores =
@@ -272,10 +270,10 @@ module _ {N : ℕ} {m : Machine} (p : Promise N m) (i : List ℕ) (bi : Bytes i)
             (let l = p .calls .jobs i q mount work bi tt (job q) a .1 in omega (arith, l .0, l .1));
         more = steps q a .more;
         done = steps q a .done;
-        time = idle-agrees .time;
-        frames = idle-agrees .frames;
+        journal = idle-agrees .journal;
         is-valid = ap₂ (λ (l : List ℕ) (v : Record). blockState (block (sizeOf N l) (v .rest .block) l)) (image-after q a) (steps q a .last)
             ∙ idle-agrees .is-valid;
+        is-clean = idle-agrees .is-clean;
         objects = idle-agrees .objects;
         nothing-pending = none-pending;
       }

@@ -13,7 +13,7 @@ use Rattle.flash.specs.Flash.{numbersFrom, blockNumbers, sizeOf, block, Step, b
 use Rattle.flash.proofs.Cases.{on-test, clash, and-left, and-right, and-both}
 use Rattle.flash.proofs.Sizes.{size-some}
 use Rattle.frame.specs.Frame.{Frame, frameLen}
-use Rattle.journal.specs.Block.{blockState}
+use Rattle.journal.specs.Block.{Journal, blockState}
 use Rattle.wire.specs.declared.Refusal.the-variants as refusal
 use Rattle.board.specs.declared.Phase.{Phase}
 use Rattle.board.specs.declared.Phase.the-variants.{Unmounted, Idle, Busy}
@@ -22,7 +22,7 @@ use Rattle.board.specs.declared.Record.{Record}
 use Rattle.board.specs.Record.{allowed, rest, Out, refuse}
 use Rattle.board.specs.Step.{action, advance, stepped, stepIn, stepBusy, stepOn}
 use Rattle.board.specs.Mount.{nextBlock}
-use Rattle.board.specs.Queue.{Held, held, heldBy, heldIn, sameImage, othersBlank}
+use Rattle.board.specs.Queue.{held, heldBy, heldIn, sameImage, othersBlank}
 use Rattle.board.specs.Plan.{Work, appendWork, movedWork, frameIn, frameWork}
 use Rattle.board.specs.Two.{allowedTwo, sizeTwo, stateTwo, beside, heldTwo, frameTwo, stepTwo}
 use Rattle.board.proofs.Images.{AllowedAs, allowed-tests, allowed-from}
@@ -93,11 +93,11 @@ two-fresh img r e =
 -- ---- a frame appended
 
 -- the same but for the block that a transfer goes to
-frame-beside : (img : List ℕ) (r : Record) (x : Held) (f : Frame) → r .rest .block < 2
+frame-beside : (img : List ℕ) (r : Record) (x : Journal) (f : Frame) → r .rest .block < 2
     → frameWork 2 img r x f ≡ frameIn (sizeTwo img) (beside (r .rest .block)) (r .rest) x f
 frame-beside img r x f h = ap₂ (λ (n k : ℕ). frameIn n k (r .rest) x f) (two-sizes img) (next-beside (r .rest .block) h)
 
-pub two-frame : (img : List ℕ) (r : Record) (x : Held) (f : Frame) → r .rest .block < 2 → frameWork 2 img r x f .steps ≡ frameTwo img r x f .steps
+pub two-frame : (img : List ℕ) (r : Record) (x : Journal) (f : Frame) → r .rest .block < 2 → frameWork 2 img r x f .steps ≡ frameTwo img r x f .steps
 two-frame img r x f h = ap (λ (w : Work). w .steps) (frame-beside img r x f h) ∙ by (ltb (sizeTwo img) (r .rest .end + frameLen f))
   where
     z : Rest
@@ -108,7 +108,7 @@ two-frame img r x f h = ap (λ (w : Work). w .steps) (frame-beside img r x f h) 
     by true = refl
     by false = refl
 
-pub two-framed : (img : List ℕ) (r : Record) (x : Held) (f : Frame) → r .rest .blocks ≡ 2 → r .rest .block < 2
+pub two-framed : (img : List ℕ) (r : Record) (x : Journal) (f : Frame) → r .rest .blocks ≡ 2 → r .rest .block < 2
     → frameWork 2 img r x f .last ≡ frameTwo img r x f .last
 two-framed img r x f e h =
     ap (λ (w : Work). w .last) (frame-beside img r x f h)

@@ -11,10 +11,8 @@ use Rattle.flash.specs.Bytes.{Bytes}
 use Rattle.flash.specs.Flash.{numbersFrom, block, sizeOf}
 use Rattle.flash.proofs.Cases.{on-test, on-order, and-both}
 use Rattle.flash.proofs.Image.{bytes-block}
-use Rattle.frame.specs.Frame.{Frame}
-use Rattle.frame.specs.Reader.{Tail}
-use Rattle.journal.specs.Block.{BlockState, blank, inProgress, valid, foreign, blockState, lastTime}
-use Rattle.journal.proofs.Places.{Journal}
+use Rattle.journal.specs.Block.{Journal, BlockState, blank, inProgress, valid, foreign, blockState, lastTime}
+use Rattle.journal.proofs.Places.{Standing}
 use Rattle.journal.proofs.States.{valid-inv}
 use Rattle.wire.specs.declared.Refusal.{Refusal}
 use Rattle.wire.specs.declared.Refusal.the-variants as refusal
@@ -29,7 +27,7 @@ use Rattle.board.proofs.Images.{Sized, sized-of}
 use Rattle.board.proofs.Blocks.{Besides, wiped-besides}
 use Rattle.board.proofs.Found.{found-all, store}
 use Rattle.board.proofs.Current.{block-long}
-use Rattle.board.proofs.Replies.{journal-of}
+use Rattle.board.proofs.Replies.{standing-of}
 use Rattle.board.proofs.Outcomes.{mount-stores, mount-worn, mount-begins, format-begins}
 use Rattle.board.proofs.Accepted.{follows-format, follows-mount}
 use Rattle.board.proofs.Two.{two-lengths, two-sizes, two-fresh, two-frame, two-framed, two-step, next-beside}
@@ -45,8 +43,8 @@ all-two img = found-all 2 img (two-sizes img)
 
 -- a mount of blocks with the states f does what was chosen
 abbrev Chooses : List ℕ → (ℕ → BlockState) → List Found → Choice → Type 0
-Chooses img f xs (takes k t fs c) =
-    (k < 2) × (f k ≡ valid t fs c) × (mountStores 2 img xs (stores xs) ≡ mountAt 2 img xs (store k t fs c))
+Chooses img f xs (takes k w) =
+    (k < 2) × (f k ≡ valid w) × (mountStores 2 img xs (stores xs) ≡ mountAt 2 img xs (store k w))
 Chooses img f xs (refuses n) = mountStores 2 img xs (stores xs) ≡ refuse n img unmounted []
 
 -- a format erases this block last
@@ -54,42 +52,43 @@ abbrev Erases : List Found → ℕ → Type 0
 Erases xs k = orderFor 2 (stores xs) ≡ beside k ∷ k ∷ []
 
 -- one valid block
-erases-low : (t : ℕ) (fs : List Frame) (c : Tail) → orderFor 2 (store 0 t fs c ∷ []) ≡ 1 ∷ 0 ∷ []
+erases-low : (w : Journal) → orderFor 2 (store 0 w ∷ []) ≡ 1 ∷ 0 ∷ []
 unfolding numbersFrom
-erases-low t fs c = rw (eq-eqb t t refl)
+erases-low w = rw (eq-eqb (w .time) (w .time) refl)
 
-erases-high : (t : ℕ) (fs : List Frame) (c : Tail) → orderFor 2 (store 1 t fs c ∷ []) ≡ 0 ∷ 1 ∷ []
+erases-high : (w : Journal) → orderFor 2 (store 1 w ∷ []) ≡ 0 ∷ 1 ∷ []
 unfolding numbersFrom
-erases-high t fs c = rw (eq-eqb t t refl)
+erases-high w = rw (eq-eqb (w .time) (w .time) refl)
 
 erases-none : orderFor 2 [] ≡ 0 ∷ 1 ∷ []
 unfolding numbersFrom
 erases-none = refl
 
 -- two
-erases-later : (t u : ℕ) (fs gs : List Frame) (c d : Tail)
-    → Erases (both (valid t fs c) (valid u gs d)) (lastTwo (valid t fs c) (valid u gs d))
+erases-later : (w v : Journal) → Erases (both (valid w) (valid v)) (lastTwo (valid w) (valid v))
 unfolding numbersFrom
-erases-later t u fs gs c d =
+erases-later w v =
+    let t : ℕ = w .time in
+    let u : ℕ = v .time in
     on-order t u (λ _ h. rw (lt-ltb t u h, ne-eqb u t (λ e. omega arith), eq-eqb u u refl, le-ltb u t (omega arith)))
     (λ _ h. rw (le-ltb t u (omega arith), eq-eqb t t refl, eq-eqb t u h, le-ltb u t (omega arith)))
     (λ _ h. rw (le-ltb t u (omega arith), eq-eqb t t refl, ne-eqb t u (λ e. omega arith), lt-ltb u t h))
 
 module _ (img : List ℕ) (f : ℕ → BlockState) where
-  chooses-later : (t u : ℕ) (fs gs : List Frame) (c d : Tail) → f 0 ≡ valid t fs c → f 1 ≡ valid u gs d
-      → Chooses img f (both (valid t fs c) (valid u gs d)) (chooseTwo (valid t fs c) (valid u gs d))
-  chooses-later t u fs gs c d p q =
-      on-test (eqb t u) (λ e. rw e (rw e))
-      (λ e. on-test (ltb t u) (λ l. rw (e, l) (omega arith, q, rw (e, l))) (λ l. rw (e, l) (omega arith, p, rw (e, l))))
+  chooses-later : (w v : Journal) → f 0 ≡ valid w → f 1 ≡ valid v
+      → Chooses img f (both (valid w) (valid v)) (chooseTwo (valid w) (valid v))
+  chooses-later w v p q =
+      on-test (eqb (w .time) (v .time)) (λ e. rw e (rw e))
+      (λ e. on-test (ltb (w .time) (v .time)) (λ l. rw (e, l) (omega arith, q, rw (e, l))) (λ l. rw (e, l) (omega arith, p, rw (e, l))))
 
   decides : (a b : BlockState) → f 0 ≡ a → f 1 ≡ b → Chooses img f (both a b) (chooseTwo a b) × Erases (both a b) (lastTwo a b)
-  decides (valid t fs c) (valid u gs d) p q = (chooses-later t u fs gs c d p q, erases-later t u fs gs c d)
-  decides (valid t fs c) blank p q = ((omega arith, p, refl), erases-low t fs c)
-  decides (valid t fs c) inProgress p q = ((omega arith, p, refl), erases-low t fs c)
-  decides (valid t fs c) (foreign e) p q = ((omega arith, p, refl), erases-low t fs c)
-  decides blank (valid t fs c) p q = ((omega arith, q, refl), erases-high t fs c)
-  decides inProgress (valid t fs c) p q = ((omega arith, q, refl), erases-high t fs c)
-  decides (foreign e) (valid t fs c) p q = ((omega arith, q, refl), erases-high t fs c)
+  decides (valid w) (valid v) p q = (chooses-later w v p q, erases-later w v)
+  decides (valid w) blank p q = ((omega arith, p, refl), erases-low w)
+  decides (valid w) inProgress p q = ((omega arith, p, refl), erases-low w)
+  decides (valid w) (foreign e) p q = ((omega arith, p, refl), erases-low w)
+  decides blank (valid w) p q = ((omega arith, q, refl), erases-high w)
+  decides inProgress (valid w) p q = ((omega arith, q, refl), erases-high w)
+  decides (foreign e) (valid w) p q = ((omega arith, q, refl), erases-high w)
   decides blank blank p q = (refl, erases-none)
   decides blank inProgress p q = (refl, erases-none)
   decides blank (foreign e) p q = (refl, erases-none)
@@ -127,27 +126,27 @@ module _ (img : List ℕ) (t : allowedTwo (length img) ≡ true) where
   two-refused : (n : Refusal) → chooseTwo (stateTwo img 0) (stateTwo img 1) ≡ refuses n → mountOn 2 img ≡ refuse n img unmounted []
   two-refused n e = mount-two ∙ chosen e
 
-  module _ (k u : ℕ) (fs : List Frame) (c : Tail) (e : chooseTwo (stateTwo img 0) (stateTwo img 1) ≡ takes k u fs c) where
-    two-takes : mountOn 2 img ≡ mountAt 2 img states (store k u fs c)
+  module _ (k : ℕ) (w : Journal) (e : chooseTwo (stateTwo img 0) (stateTwo img 1) ≡ takes k w) where
+    two-takes : mountOn 2 img ≡ mountAt 2 img states (store k w)
     two-takes = mount-two ∙ chosen e .2
 
     -- the block that is taken holds its frames
-    two-journal : Bytes img → Journal (block (sizeOf 2 img) k img) fs
+    two-journal : Bytes img → Standing (block (sizeOf 2 img) k img) (w .frames)
     two-journal by =
         let s : ℕ = sizeOf 2 img in
         let z : Sized 2 s img = sized-of 2 img ok in
-        let v : blockState (block s k img) ≡ valid u fs c = ap (λ (n : ℕ). blockState (block n k img)) (two-sizes img) ∙ chosen e .1 in
-        journal-of (valid-inv (block s k img) u fs c (bytes-block s k img by) (omega (arith, block-long k z (chosen e .0), z .low)) v)
+        let v : blockState (block s k img) ≡ valid w = ap (λ (n : ℕ). blockState (block n k img)) (two-sizes img) ∙ chosen e .1 in
+        standing-of (valid-inv (block s k img) w (bytes-block s k img by) (omega (arith, block-long k z (chosen e .0), z .low)) v)
 
-    two-worn : u ≡ lastTime → upkeepOf fs c ≡ moves → mountOn 2 img ≡ refuse refusal.Worn img unmounted []
+    two-worn : w .time ≡ lastTime → upkeepOf w ≡ moves → mountOn 2 img ≡ refuse refusal.Worn img unmounted []
     two-worn l n =
         two-takes
-        ∙ mount-worn 2 img states (store k u fs c) (and-both (transfers (upkeepOf fs c)) (eqb u lastTime) (ap transfers n) (eq-eqb u lastTime l))
+        ∙ mount-worn 2 img states (store k w) (and-both (transfers (upkeepOf w)) (eqb (w .time) lastTime) (ap transfers n) (eq-eqb (w .time) lastTime l))
 
-    two-mounts : Bytes img → (transfers (upkeepOf fs c) && eqb u lastTime) ≡ false
-        → Performs 2 (exec 2) img (mountOn 2 img .board) (mountTwo img k u fs c)
+    two-mounts : Bytes img → (transfers (upkeepOf w) && eqb (w .time) lastTime) ≡ false
+        → Performs 2 (exec 2) img (mountOn 2 img .board) (mountTwo img k w)
     two-mounts by n =
-        let x : Store = store k u fs c in
+        let x : Store = store k w in
         let here : k < 2 = chosen e .0 in
         let does : List ℕ → ℕ → Work = λ ks j. mountIn 2 (length img - 1) ks j x in
         subst₂ (λ (ks : List ℕ) (j : ℕ). Performs 2 (exec 2) img (mountOn 2 img .board) (does ks j))
@@ -176,8 +175,8 @@ two-blocks =
       lengths = two-lengths;
       sizes = two-sizes;
       mount-refused = λ img n t e. two-refused img t n e;
-      mount-worn = λ img k fs c t e n. two-worn img t k lastTime fs c e refl n;
-      mount-steps = λ img k u fs c by t e n. two-mounts img t k u fs c e by n;
+      mount-worn = λ img k w t e l n. two-worn img t k w e l n;
+      mount-steps = λ img k w by t e n. two-mounts img t k w e by n;
       format-steps = two-formats;
       fresh = two-fresh;
       frame-steps = two-frame;

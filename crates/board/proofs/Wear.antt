@@ -15,17 +15,14 @@ use Rattle.flash.specs.Flash.{Step, program, erase, block, sizeOf, Write, write
 use Rattle.flash.proofs.Cases.{on-test}
 use Rattle.flash.proofs.Image.{length-block, bytes-block}
 use Rattle.frame.specs.Frame.{Frame, encode}
-use Rattle.frame.specs.Reader.{Tail}
-use Rattle.journal.specs.Replay.{State, framesOf, replay, settledOnly}
-use Rattle.journal.specs.Block.{build, valid, blockState}
-use Rattle.journal.specs.Room.{claimed}
+use Rattle.journal.specs.Replay.{State, framesOf, settledOnly}
+use Rattle.journal.specs.Block.{Journal, build, valid, blockState}
 use Rattle.journal.specs.Sentences.{ValidBlock}
 use Rattle.journal.proofs.Blocks.{blank-block}
 use Rattle.journal.proofs.Sentences.{states-exact}
 use Rattle.board.specs.declared.Rest.{Rest}
 use Rattle.board.specs.declared.Record.{Record}
-use Rattle.board.specs.Mount.{allFound, nextBlock, Upkeep, rests, moves, upkeep, Store, wipeList, storeAt}
-use Rattle.board.specs.Queue.{Held}
+use Rattle.board.specs.Mount.{allFound, nextBlock, Upkeep, rests, moves, upkeep, Store, wipeList, storeAt, replayOf, claimedOf}
 use Rattle.board.specs.Exec.{Call, request, step, mount, format}
 use Rattle.board.specs.Plan.{onBlock, transferPlan, Work, upkeepWork, frameIn}
 use Rattle.board.specs.Promise.{Job, frame-job, mount-job, format-job}
@@ -146,16 +143,16 @@ module _ {N : ℕ} where
   leads-writes {b} j (w ∷ ws) l = ((b, l), leads-writes j ws (level-program j (w .at) (w .byte) l))
 
   -- a transfer ends with the erase of the block that it leaves
-  leads-transfer : {k : ℕ} {xs : List Step} (t : ℕ) (st : State) → Level N xs k → Leads N xs (transferPlan N k t st) (nextBlock N k)
-  leads-transfer {k} t st l = leads-on (nextBlock N k) (nextBlock N k) (build (suc t) (framesOf st)) (erase k ∷ []) l (λ zs h. ((k, h), level-next h))
+  leads-transfer : {k : ℕ} {xs : List Step} (w : Journal) (st : State) → Level N xs k → Leads N xs (transferPlan N k w st) (nextBlock N k)
+  leads-transfer {k} w st l = leads-on (nextBlock N k) (nextBlock N k) (build (suc (w .time)) (framesOf st)) (erase k ∷ []) l (λ zs h. ((k, h), level-next h))
 
-  leads-frame : {xs : List Step} (s : ℕ) (z : Rest) (x : Held) (f : Frame) → Level N xs (z .block)
+  leads-frame : {xs : List Step} (s : ℕ) (z : Rest) (x : Journal) (f : Frame) → Level N xs (z .block)
       → WorkLeads N xs (frameIn s (nextBlock N (z .block)) z x f)
   leads-frame {xs} s z x f l =
       let k : ℕ = z .block in
       let j : ℕ = nextBlock N k in
-      let ws : List Write = build (suc (x .time)) (framesOf (replay (x .frames))) in
-      let us : List Write = writes (claimed (replay (x .frames))) (encode f) in
+      let ws : List Write = build (suc (x .time)) (framesOf (replayOf x)) in
+      let us : List Write = writes (claimedOf x) (encode f) in
       frame-cases (WorkLeads N xs) s j z x f
       (λ e. subst (λ (p : List Step). Leads N xs p j) (sym (append-assoc (onBlock j ws) (erase k ∷ []) (onBlock j us)))
       (leads-on j j ws (erase k ∷ onBlock j us) l (λ zs h. ((k, h), leads-writes j us (level-next h)))))
@@ -163,7 +160,7 @@ module _ {N : ℕ} where
 
   leads-upkeep : {xs : List Step} (u : Upkeep) (n : ℕ) (x : Store) → Level N xs (x .number)
       → WorkLeads N xs (upkeepWork u (nextBlock N (x .number)) (storeAt N n x) x)
-  leads-upkeep moves n x l = leads-transfer (x .time) (settledOnly (replay (x .frames))) l
+  leads-upkeep moves n x l = leads-transfer (x .journal) (settledOnly (replayOf (x .journal))) l
   leads-upkeep rests n x l = l
 
 -- ---- the image between jobs
@@ -173,9 +170,9 @@ abbrev pub Here : ℕ → ℕ → List ℕ → List Step → Type 0
 Here N s img xs = (q : Record) × Ready N s img q × Level N xs (q .rest .block)
 
 -- a valid block of such an image is the current one
-only-valid : {N s t : ℕ} {img : List ℕ} {q : Record} {fs : List Frame} {c : Tail} (k : ℕ) → Ready N s img q → k < N
-    → blockState (block s k img) ≡ valid t fs c → q .rest .block ≡ k
-only-valid {N} {s} {t} {img} {q} k y h v =
+only-valid : {N s : ℕ} {img : List ℕ} {q : Record} {w : Journal} (k : ℕ) → Ready N s img q → k < N
+    → blockState (block s k img) ≡ valid w → q .rest .block ≡ k
+only-valid {N} {s} {img} {q} k y h v =
     on-test (eqb k (y .stands .block)) (λ e. ap (λ (x : Record). x .rest .block) (y .is) ∙ sym (eqb-true k (y .stands .block) e))
     (λ e. absurd (subst Quiet v (blank-quiet s (block s k img) (y .others k h (eqb-false k (y .stands .block) e)))))
 
@@ -188,13 +185,13 @@ Begin format = ⊥
 
 module _ {N s : ℕ} {img : List ℕ} {xs : List Step} (z : Sized N s img) (by : Bytes img) (y : Here N s img xs) where
   -- it is the block that a job's sentences name
-  same-block : {t : ℕ} {fs : List Frame} {c : Tail} (k : ℕ) → k < N → ValidBlock (block (sizeOf N img) k img) t fs c → y .0 .rest .block ≡ k
-  same-block {t} {fs} {c} k h v =
+  same-block : {w : Journal} (k : ℕ) → k < N → ValidBlock (block (sizeOf N img) k img) w → y .0 .rest .block ≡ k
+  same-block {w} k h v =
       let b : List ℕ = block s k img in
       let long : length b ≡ s = length-block s k img (sized-block k z h) in
       only-valid k (y .1) h
-      (states-exact .is-valid b t fs c (bytes-block s k img by) (omega (arith, z .low)) .1
-      (subst (λ (n : ℕ). ValidBlock (block n k img) t fs c) (size-of z) v))
+      (states-exact .is-valid b w (bytes-block s k img by) (omega (arith, z .low)) .1
+      (subst (λ (n : ℕ). ValidBlock (block n k img) w) (size-of z) v))
 
   -- every other block is blank, so that a mount erases none
   wipes-none : (n : ℕ) → y .0 .rest .block ≡ n → wipeList n (allFound N img) ≡ []

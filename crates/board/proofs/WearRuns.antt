@@ -9,6 +9,7 @@ use Rattle.flash.specs.Bytes.{Bytes}
 use Rattle.flash.specs.Flash.{Step, apply, applyAll, sizeOf}
 use Rattle.frame.specs.declared.Host.{Host}
 use Rattle.frame.specs.Frame.{Frame}
+use Rattle.journal.specs.Block.{Journal}
 use Rattle.wire.specs.declared.Answer.{Answer}
 use Rattle.wire.specs.declared.Answer.the-variants.{Done, More, Refused}
 use Rattle.wire.specs.declared.Refusal.{Refusal}
@@ -18,7 +19,6 @@ use Rattle.board.specs.declared.Phase.the-variants.{Unmounted, Idle, Bus
 use Rattle.board.specs.declared.Record.{Record}
 use Rattle.board.specs.Record.{Out, out, answerIn, answerOf}
 use Rattle.board.specs.Mount.{Store}
-use Rattle.board.specs.Queue.{Held}
 use Rattle.board.specs.Exec.{Machine, Call, request, step, mount, format, exec}
 use Rattle.board.specs.Plan.{frameWork, mountWork, formatWork, Follows}
 use Rattle.board.specs.Table.{frameFor}
@@ -150,7 +150,7 @@ module _ {N : ℕ} {m : Machine} (p : Calls N m) (img : List ℕ) (by : Bytes im
           y : Asked N img q msg
           y = request-asks p img by q g msg reply a
 
-          x : Held
+          x : Journal
           x = y .holding
 
           k : Request

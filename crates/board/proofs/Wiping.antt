@@ -32,7 +32,7 @@ rising-from a (n ∷ ns) (h, r) = (omega arith, r)
 blank-state : (a : BlockState) → isBlank a ≡ true → a ≡ blank
 blank-state blank e = refl
 blank-state inProgress e = absurd (false≢true e)
-blank-state (valid t fs c) e = absurd (false≢true e)
+blank-state (valid w) e = absurd (false≢true e)
 blank-state (foreign f) e = absurd (false≢true e)
 
 not-blank : (a : BlockState) → (a ≡ blank → ⊥) → isBlank a ≡ false

@@ -11,11 +11,11 @@ use Rattle.flash.specs.Bytes.{Bytes, u16le}
 use Rattle.flash.specs.Flash.{block, sizeOf, withBlock, eraseBlock}
 use Rattle.flash.specs.Raised.{Raised}
 use Rattle.frame.specs.declared.Host.{Host}
-use Rattle.frame.specs.Frame.{Frame, hostMax, deleteLen, endLen}
-use Rattle.frame.specs.Reader.{Tail, clean}
-use Rattle.journal.specs.Replay.{Object, replay, lookup, listOf}
-use Rattle.journal.specs.Block.{valid, blockState, lastTime}
-use Rattle.journal.specs.Room.{used, usedBy}
+use Rattle.frame.specs.Frame.{hostMax, deleteLen, endLen}
+use Rattle.frame.specs.Reader.{clean}
+use Rattle.journal.specs.Replay.{Object, lookup, listOf}
+use Rattle.journal.specs.Block.{Journal, valid, blockState, lastTime}
+use Rattle.journal.specs.Room.{usedBy}
 use Rattle.wire.specs.declared.Answer.{Answer}
 use Rattle.wire.specs.declared.Answer.the-variants.{Done, More, Refused}
 use Rattle.frame.specs.declared.Fault.{Fault}
@@ -29,7 +29,7 @@ use Rattle.board.specs.declared.Phase.{Phase}
 use Rattle.board.specs.declared.Phase.the-variants.{Unmounted, Idle, Busy}
 use Rattle.board.specs.declared.Record.{Record}
 use Rattle.board.specs.Record.{allowed, Out}
-use Rattle.board.specs.Mount.{moves, upkeepOf}
+use Rattle.board.specs.Mount.{moves, upkeepOf, replayOf, usedOf}
 use Rattle.board.specs.Exec.{Call, request, step, mount, format, Machine}
 use Rattle.board.specs.Plan.{Work, Performs}
 use Rattle.board.specs.Table.{InJob}
@@ -40,13 +40,13 @@ use Rattle.board.specs.Book.{Book, UnderWay, nothing, committing, format
 
 -- "replay of the record's half gives exactly the book's objects and, for each host, the book's list"
 pub record IdleAgrees (N : ℕ) (img : List ℕ) (r : Record) (b : Book) : Type 0 where
-  pub time : ℕ
-  pub frames : List Frame
-  pub is-valid : blockState (block (sizeOf N img) (r .rest .block) img) ≡ valid time frames clean
-  pub objects : replay frames .objects ≡ b .objects
-  pub lists : (h : Host) → h .0 ≤ hostMax → listOf h (replay frames .pending) ≡ b .lists h
+  pub journal : Journal
+  pub is-valid : blockState (block (sizeOf N img) (r .rest .block) img) ≡ valid journal
+  pub is-clean : journal .tail ≡ clean
+  pub objects : replayOf journal .objects ≡ b .objects
+  pub lists : (h : Host) → h .0 ≤ hostMax → listOf h (replayOf journal .pending) ≡ b .lists h
   -- when nothing is pending there is room for a delete and its commit
-  pub room : replay frames .pending ≡ [] → used (replay frames) + (deleteLen + endLen) ≤ sizeOf N img
+  pub room : replayOf journal .pending ≡ [] → usedOf journal + (deleteLen + endLen) ≤ sizeOf N img
 
 -- a job that call c began ends idle once its steps are all made, and they are few: a request's and a format's at most S, a mount's at most S
 -- and its erases
@@ -97,11 +97,11 @@ Never n o = o .answer ≡ Refused n → ⊥
 -- the current block's time is the last and a transfer is due
 pub record WornOut (N : ℕ) (img : List ℕ) : Type 0 where
   pub number : ℕ
-  pub frames : List Frame
-  pub tail : Tail
+  pub journal : Journal
   pub there : number < N
-  pub is-valid : blockState (block (sizeOf N img) number img) ≡ valid lastTime frames tail
-  pub due : upkeepOf frames tail ≡ moves
+  pub is-valid : blockState (block (sizeOf N img) number img) ≡ valid journal
+  pub last-time : journal .time ≡ lastTime
+  pub due : upkeepOf journal ≡ moves
 
 -- `unfinished`: a format was accepted and has since neither finished nor been followed by an accepted mount
 pub record MountSays (N : ℕ) (img : List ℕ) (unfinished : Bool) (o : Out) : Type 0 where

@@ -7,12 +7,12 @@ use Prim.Native.Nat.{ℕ, _+_, _≤_, _<_}
 use lib.ListN.{length}
 use Rattle.flash.specs.Bytes.{Bytes}
 use Rattle.flash.specs.Flash.{block, sizeOf, withBlock}
-use Rattle.frame.specs.Frame.{Frame}
-use Rattle.frame.specs.Reader.{Tail, clean}
-use Rattle.journal.specs.Replay.{Object, replay}
-use Rattle.journal.specs.Block.{BlockState, blank, inProgress, valid, foreign, blockState}
+use Rattle.frame.specs.Reader.{clean}
+use Rattle.journal.specs.Replay.{Object}
+use Rattle.journal.specs.Block.{Journal, journal, BlockState, blank, inProgress, valid, foreign, blockState}
 use Rattle.board.specs.declared.Record.{Record}
 use Rattle.board.specs.Record.{Out, allowed}
+use Rattle.board.specs.Mount.{replayOf}
 use Rattle.board.specs.Exec.{format, Machine}
 use Rattle.board.specs.Book.{Book, firstBook, enterCall}
 use Rattle.board.specs.Claim.{stepsOn, formatted, Event, call, cutErase, HappensFrom}
@@ -41,27 +41,25 @@ leftBy N m img r es = afterAll N m (formatted N m img r .image) (formatted N m i
 abbrev pub Beside : ℕ → BlockState → Type 0
 Beside t blank = Unit {0}
 Beside t inProgress = Unit {0}
-Beside t (valid u fs c) = u < t
+Beside t (valid x) = x .time < t
 Beside t (foreign e) = Unit {0}
 
 -- "the old settled objects": a mount finds them. K14: "equal times among valid blocks are 3", so that no two have one time
 pub record OldObjects (N : ℕ) (img : List ℕ) (os : List Object) : Type 0 where
   pub number : ℕ
-  pub time : ℕ
-  pub frames : List Frame
-  pub tail : Tail
+  pub journal : Journal
   pub there : number < N
-  pub is-valid : blockState (block (sizeOf N img) number img) ≡ valid time frames tail
-  pub objects : replay frames .objects ≡ os
-  pub others : (j : ℕ) → j < N → (j ≡ number → ⊥) → Beside time (blockState (block (sizeOf N img) j img))
-  pub apart : (i j t : ℕ) (fs gs : List Frame) (c d : Tail) → i < N → j < N → blockState (block (sizeOf N img) i img) ≡ valid t fs c
-      → blockState (block (sizeOf N img) j img) ≡ valid t gs d → i ≡ j
+  pub is-valid : blockState (block (sizeOf N img) number img) ≡ valid journal
+  pub objects : replayOf journal .objects ≡ os
+  pub others : (j : ℕ) → j < N → (j ≡ number → ⊥) → Beside (journal .time) (blockState (block (sizeOf N img) j img))
+  pub apart : (i j : ℕ) (x y : Journal) → i < N → j < N → blockState (block (sizeOf N img) i img) ≡ valid x
+      → blockState (block (sizeOf N img) j img) ≡ valid y → x .time ≡ y .time → i ≡ j
 
 -- "no store": a mount answers 2
 abbrev pub Empty : BlockState → Type 0
 Empty blank = Unit {0}
 Empty inProgress = Unit {0}
-Empty (valid t fs c) = ⊥
+Empty (valid x) = ⊥
 Empty (foreign e) = ⊥
 
 abbrev pub NoStore : ℕ → List ℕ → Type 0
@@ -69,7 +67,7 @@ NoStore N img = (j : ℕ) → j < N → Empty (blockState (block (sizeOf N img) 
 
 -- "the empty store"
 pub record EmptyStore (N : ℕ) (img : List ℕ) : Type 0 where
-  pub first : blockState (block (sizeOf N img) 0 img) ≡ valid 1 [] clean
+  pub first : blockState (block (sizeOf N img) 0 img) ≡ valid (journal 1 [] clean)
   pub others : (j : ℕ) → j < N → (j ≡ 0 → ⊥) → blockState (block (sizeOf N img) j img) ≡ blank
 
 -- after j of a format's N + 10 steps, N erases and ten for the header, on an image that held these objects: the objects before the last erase,

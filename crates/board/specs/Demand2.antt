@@ -12,10 +12,9 @@ use Rattle.flash.specs.Flash.{Step, program, erase, apply, applyAll, block, siz
 use Rattle.frame.specs.declared.Host.{Host}
 use Rattle.frame.specs.declared.ObjectId.{ObjectId}
 use Rattle.frame.specs.Frame.{Frame, frameLen, put, delete}
-use Rattle.frame.specs.Reader.{Tail}
-use Rattle.journal.specs.Replay.{replay, entry, settledOnly}
-use Rattle.journal.specs.Block.{valid, blockState, stateAt, inTransfer}
-use Rattle.journal.specs.Room.{claimed, openHosts}
+use Rattle.journal.specs.Replay.{entry, settledOnly}
+use Rattle.journal.specs.Block.{Journal, valid, blockState, stateAt, inTransfer}
+use Rattle.journal.specs.Room.{openHosts}
 use Rattle.wire.specs.declared.Request.the-variants.{Put, Delete, Commit, Abort}
 use Rattle.wire.specs.declared.Request.{Request}
 use Rattle.wire.specs.Answer.{numberOf}
@@ -24,8 +23,7 @@ use Rattle.board.specs.declared.Phase.the-variants.{Idle}
 use Rattle.board.specs.declared.Record.{Record}
 pub use Rattle.board.specs.Record.{Accepted}
 use Rattle.board.specs.Record.{Out, allowed}
-use Rattle.board.specs.Mount.{Store}
-use Rattle.board.specs.Queue.{Held}
+use Rattle.board.specs.Mount.{Store, replayOf, claimedOf, timeOf}
 use Rattle.board.specs.Exec.{request, mount, format, Machine}
 use Rattle.board.specs.Plan.{Performs, programs, mountWork}
 use Rattle.board.specs.Table.{frameFor, Allowed, Fresh}
@@ -40,16 +38,16 @@ use Rattle.board.specs.Claim.{Event, call, cutErase, Happens}
 pub record Mounts (N : ℕ) (m : Machine) (img : List ℕ) (o : Out) : Type 0 where
   pub store : Store
   pub there : store .number < N
-  pub is-valid : blockState (block (sizeOf N img) (store .number) img) ≡ valid (store .time) (store .frames) (store .tail)
-  pub newest : (k t : ℕ) (fs : List Frame) (c : Tail) → k < N → (k ≡ store .number → ⊥)
-      → blockState (block (sizeOf N img) k img) ≡ valid t fs c → t < store .time
+  pub is-valid : blockState (block (sizeOf N img) (store .number) img) ≡ valid (store .journal)
+  pub newest : (k : ℕ) (x : Journal) → k < N → (k ≡ store .number → ⊥)
+      → blockState (block (sizeOf N img) k img) ≡ valid x → x .time < timeOf store
   pub follows : Performs N m img (o .board) (mountWork N img store)
   -- K14: "Demand 1's bound leaves a mount's erases aside"; of those there are at most N
   pub short : length (programs (mountWork N img store .steps)) ≤ sizeOf N img
   pub erases : length (mountWork N img store .steps) ≤ length (programs (mountWork N img store .steps)) + N
-  pub holding : Held
+  pub holding : Journal
   pub is-fresh : Fresh N (applyAll (sizeOf N img) (mountWork N img store .steps) img) (mountWork N img store .last) holding
-  pub holds : replay (holding .frames) ≡ settledOnly (replay (store .frames))
+  pub holds : replayOf holding ≡ settledOnly (replayOf (store .journal))
 
 -- the refusals of a mount, and their exact conditions, are the table's lines
 unfoldable pub OneStore : ℕ → Machine → Type 0
@@ -97,7 +95,7 @@ LandsFrom N m = FromAny N m (StepLands N)
 -- ---- room and wear
 
 -- a request that no line of the table before 8 refuses, where the image read afresh holds x and the message means q
-pub record Asks (N : ℕ) (img : List ℕ) (r : Record) (h : Host) (msg : List ℕ) (x : Held) (q : Request) : Type 0 where
+pub record Asks (N : ℕ) (img : List ℕ) (r : Record) (h : Host) (msg : List ℕ) (x : Journal) (q : Request) : Type 0 where
   pub bytes : Bytes img
   pub length-ok : Allowed N (length img)
   pub host-ok : h .0 ≤ 3
@@ -107,22 +105,22 @@ pub record Asks (N : ℕ) (img : List ℕ) (r : Record) (h : Host) (msg : List �
 
 -- "a put is refused exactly if C + n + 6·open + 14 > S, a delete exactly if C + 8 + 6·open > S. Commit and abort are never refused for room."
 pub record RoomExact (N : ℕ) (m : Machine) : Type 0 where
-  pub of-put : (img : List ℕ) (r : Record) (h : Host) (msg reply : List ℕ) (x : Held) (i : ObjectId) → Asks N img r h msg x (Put i)
+  pub of-put : (img : List ℕ) (r : Record) (h : Host) (msg reply : List ℕ) (x : Journal) (i : ObjectId) → Asks N img r h msg x (Put i)
       → (numberOf (m img r (request h msg reply) .answer) ≡ some 7)
       ↔ (sizeOf N img
-      < claimed (replay (x .frames)) + (8 + length (valueIn msg))
-      + 6 * openHosts (replay (x .frames) .pending ++ (entry h (put i (valueIn msg)) ∷ [])) + 14)
-  pub of-delete : (img : List ℕ) (r : Record) (h : Host) (msg reply : List ℕ) (x : Held) (i : ObjectId)
+      < claimedOf x + (8 + length (valueIn msg))
+      + 6 * openHosts (replayOf x .pending ++ (entry h (put i (valueIn msg)) ∷ [])) + 14)
+  pub of-delete : (img : List ℕ) (r : Record) (h : Host) (msg reply : List ℕ) (x : Journal) (i : ObjectId)
       → Asks N img r h msg x (Delete i) → (numberOf (m img r (request h msg reply) .answer) ≡ some 7)
-      ↔ (sizeOf N img < claimed (replay (x .frames)) + 8 + 6 * openHosts (replay (x .frames) .pending ++ (entry h (delete i) ∷ [])))
-  pub of-commit : (img : List ℕ) (r : Record) (h : Host) (msg reply : List ℕ) (x : Held) → Asks N img r h msg x Commit
+      ↔ (sizeOf N img < claimedOf x + 8 + 6 * openHosts (replayOf x .pending ++ (entry h (delete i) ∷ [])))
+  pub of-commit : (img : List ℕ) (r : Record) (h : Host) (msg reply : List ℕ) (x : Journal) → Asks N img r h msg x Commit
       → numberOf (m img r (request h msg reply) .answer) ≡ some 7 → ⊥
-  pub of-abort : (img : List ℕ) (r : Record) (h : Host) (msg reply : List ℕ) (x : Held) → Asks N img r h msg x Abort
+  pub of-abort : (img : List ℕ) (r : Record) (h : Host) (msg reply : List ℕ) (x : Journal) → Asks N img r h msg x Abort
       → numberOf (m img r (request h msg reply) .answer) ≡ some 7 → ⊥
 
 -- past the room rule too, 6 exactly if the frame needs a transfer at the last time
 unfoldable pub WearExact : ℕ → Machine → Type 0
 WearExact N m =
-    (img : List ℕ) (r : Record) (h : Host) (msg reply : List ℕ) (x : Held) (q : Request) (f : Frame) → Asks N img r h msg x q
+    (img : List ℕ) (r : Record) (h : Host) (msg reply : List ℕ) (x : Journal) (q : Request) (f : Frame) → Asks N img r h msg x q
     → frameFor h msg x q ≡ some f → (numberOf (m img r (request h msg reply) .answer) ≡ some 7 → ⊥)
     → (numberOf (m img r (request h msg reply) .answer) ≡ some 6) ↔ ((sizeOf N img < r .rest .end + frameLen f) × (x .time ≡ 4294967295))

@@ -5,11 +5,12 @@ use Prim.Native.Nat.{ℕ, suc, _+_, _-_}
 use lib.Dec.{eqb, ltb}
 use lib.ListN.{length, replicate}
 use Rattle.flash.specs.Flash.{maxBlocks, blockNumbers, block, sizeOf}
-use Rattle.frame.specs.Frame.{Frame, total}
+use Rattle.frame.specs.Frame.{total}
 use Rattle.frame.specs.Reader.{fault, Tail, clean, cut, bad}
 use Rattle.frame.specs.declared.Field.the-variants as field
-use Rattle.journal.specs.Replay.{Entry, replay}
-use Rattle.journal.specs.Block.{BlockState, blank, inProgress, valid, foreign, blockState, headerLen, timeAt, lastTime}
+use Rattle.journal.specs.Replay.{Entry, State, replay}
+use Rattle.journal.specs.Block.{Journal, BlockState, blank, inProgress, valid, foreign, blockState, headerLen, timeAt, lastTime}
+use Rattle.journal.specs.Room.{used, claimed}
 use Rattle.journal.specs.Index.{placesOf}
 use Rattle.wire.specs.declared.Refusal.{Refusal}
 use Rattle.wire.specs.declared.Refusal.the-variants as refusal
@@ -27,9 +28,21 @@ abbrev pub newTime : Bool → ℕ → ℕ
 newTime true t = suc t
 newTime false t = 0
 
+-- ---- of a journal
+
 -- the offset at which the whole frames end
-abbrev pub endOf : List Frame → ℕ
-endOf fs = headerLen + total fs
+abbrev pub endOf : Journal → ℕ
+endOf x = headerLen + total (x .frames)
+
+abbrev pub replayOf : Journal → State
+replayOf x = replay (x .frames)
+
+-- U and C of what it replays to
+abbrev pub usedOf : Journal → ℕ
+usedOf x = used (replayOf x)
+
+abbrev pub claimedOf : Journal → ℕ
+claimedOf x = claimed (replayOf x)
 
 -- ---- the blocks of an image
 
@@ -49,13 +62,13 @@ allFound N img = map (found N img) (blockNumbers N)
 abbrev pub isForeign : BlockState → Bool
 isForeign blank = false
 isForeign inProgress = false
-isForeign (valid t fs c) = false
+isForeign (valid x) = false
 isForeign (foreign e) = true
 
 abbrev pub isBlank : BlockState → Bool
 isBlank blank = true
 isBlank inProgress = false
-isBlank (valid t fs c) = false
+isBlank (valid x) = false
 isBlank (foreign e) = false
 
 abbrev pub anyForeign : List Found → Bool
@@ -65,15 +78,16 @@ anyForeign (x ∷ xs) = isForeign (x .state) || anyForeign xs
 -- a valid block
 pub record Store : Type 0 where
   pub number : ℕ
-  pub time : ℕ
-  pub frames : List Frame
-  pub tail : Tail
+  pub journal : Journal
+
+abbrev pub timeOf : Store → ℕ
+timeOf x = x .journal .time
 
 -- the valid blocks, in the order of their numbers
 abbrev pub storeIn : ℕ → BlockState → List Store → List Store
 storeIn k blank xs = xs
 storeIn k inProgress xs = xs
-storeIn k (valid t fs c) xs = record { number = k; time = t; frames = fs; tail = c } ∷ xs
+storeIn k (valid x) xs = record { number = k; journal = x } ∷ xs
 storeIn k (foreign e) xs = xs
 
 abbrev pub stores : List Found → List Store
@@ -83,16 +97,16 @@ stores (x ∷ xs) = storeIn (x .number) (x .state) (stores xs)
 -- 3, K14: "equal times among valid blocks", below the largest too
 abbrev pub sameTime : ℕ → List Store → Bool
 sameTime t [] = false
-sameTime t (x ∷ xs) = eqb t (x .time) || sameTime t xs
+sameTime t (x ∷ xs) = eqb t (timeOf x) || sameTime t xs
 
 abbrev pub equalTimes : List Store → Bool
 equalTimes [] = false
-equalTimes (x ∷ xs) = sameTime (x .time) xs || equalTimes xs
+equalTimes (x ∷ xs) = sameTime (timeOf x) xs || equalTimes xs
 
 -- K14: "The valid block with the largest time is current"
 abbrev pub newest : Store → List Store → Store
 newest x [] = x
-newest x (y ∷ ys) = cond (ltb (x .time) (y .time)) (newest y ys) (newest x ys)
+newest x (y ∷ ys) = cond (ltb (timeOf x) (timeOf y)) (newest y ys) (newest x ys)
 
 -- K14: "mount erases every other that isn't blank, by number". K4: "Where one half is valid, the other, if foreign, is erased on mount."
 abbrev pub wipeList : ℕ → List Found → List ℕ
@@ -113,13 +127,16 @@ abbrev pub forPending : List Entry → Upkeep
 forPending [] = rests
 forPending (e ∷ es) = moves
 
-abbrev pub upkeepOf : List Frame → Tail → Upkeep
-upkeepOf fs clean = forPending (replay fs .pending)
-upkeepOf fs (cut n) = moves
-upkeepOf fs (bad e) = moves
+abbrev pub upkeepBy : Journal → Tail → Upkeep
+upkeepBy x clean = forPending (replayOf x .pending)
+upkeepBy x (cut n) = moves
+upkeepBy x (bad e) = moves
+
+abbrev pub upkeepOf : Journal → Upkeep
+upkeepOf x = upkeepBy x (x .tail)
 
 abbrev pub upkeep : Store → Upkeep
-upkeep x = upkeepOf (x .frames) (x .tail)
+upkeep x = upkeepOf (x .journal)
 
 -- it makes a block
 abbrev pub transfers : Upkeep → Bool
@@ -130,35 +147,35 @@ transfers moves = true
 
 -- where its record stands, on an image whose length less one is l
 abbrev pub storeAt : ℕ → ℕ → Store → Rest
-storeAt N l x = rest N l (x .number) (endOf (x .frames))
+storeAt N l x = rest N l (x .number) (endOf (x .journal))
 
 -- a transfer copies no pending frame: it starts to look for them at the end
 abbrev pub mountJob : ℕ → List ℕ → Store → List ℕ → Record
 mountJob N img x ks =
-    busy (storeAt N (length img - 1) x) (placesOf (x .frames))
+    busy (storeAt N (length img - 1) x) (placesOf (x .journal .frames))
     (record {
       wipe = wipeArray ks;
       wipes = length ks;
       moves = transfers (upkeep x);
       drops = true;
       target = nextBlock N (x .number);
-      time = newTime (transfers (upkeep x)) (x .time);
+      time = newTime (transfers (upkeep x)) (timeOf x);
       since = noMarks;
       size = 0;
     })
-    (starting 0 (endOf (x .frames))) []
+    (starting 0 (endOf (x .journal))) []
 
 -- 6: "a transfer is needed, by a mount too, at time 4,294,967,295"
 unfoldable pub mountAt : ℕ → List ℕ → List Found → Store → Out
 mountAt N img xs x =
-    cond (transfers (upkeep x) && eqb (x .time) lastTime) (refuse refusal.Worn img unmounted [])
+    cond (transfers (upkeep x) && eqb (timeOf x) lastTime) (refuse refusal.Worn img unmounted [])
     (begin img [] (mountJob N img x (wipeList (x .number) xs)))
 
 -- with no valid block, 3 "names the foreign half (0 first) and, within it, the fault and its place" (K5); 2: "no valid half and none foreign"
 abbrev pub orForeign : ℕ → BlockState → Refusal → Refusal
 orForeign k blank n = n
 orForeign k inProgress n = n
-orForeign k (valid t fs c) n = n
+orForeign k (valid x) n = n
 orForeign k (foreign e) n = refusal.Foreign k e
 
 abbrev pub noneValid : List Found → Refusal
@@ -168,7 +185,7 @@ noneValid (x ∷ xs) = orForeign (x .number) (x .state) (noneValid xs)
 -- the lowest of the blocks whose times are equal: the first whose time a later one has
 abbrev pub lowestTied : List Store → ℕ
 lowestTied [] = 0
-lowestTied (x ∷ xs) = cond (sameTime (x .time) xs) (x .number) (lowestTied xs)
+lowestTied (x ∷ xs) = cond (sameTime (timeOf x) xs) (x .number) (lowestTied xs)
 
 -- K5: "equal times name half 0, place 4"; K14: "naming the lowest of them"
 abbrev pub tiedTimes : ℕ → Refusal
@@ -197,7 +214,7 @@ numbersBut k (n ∷ ns) = cond (eqb k n) (numbersBut k ns) (n ∷ numbersBut k n
 -- two valid blocks have this time
 abbrev pub tied : ℕ → List Store → Bool
 tied t [] = false
-tied t (x ∷ xs) = cond (eqb t (x .time)) (sameTime t xs) (tied t xs)
+tied t (x ∷ xs) = cond (eqb t (timeOf x)) (sameTime t xs) (tied t xs)
 
 -- the order in which a format erases the blocks of an image. K14: "Format erases all in number order, but the current block last if there is
 -- one": the valid block whose time is larger than any other's
@@ -205,7 +222,7 @@ abbrev pub orderFor : ℕ → List Store → List ℕ
 orderFor N [] = blockNumbers N
 orderFor N (y ∷ ys) =
     let x : Store = newest y ys in
-    cond (tied (x .time) (y ∷ ys)) (blockNumbers N) (numbersBut (x .number) (blockNumbers N) ++ (x .number ∷ []))
+    cond (tied (timeOf x) (y ∷ ys)) (blockNumbers N) (numbersBut (x .number) (blockNumbers N) ++ (x .number ∷ []))
 
 unfoldable pub formatOrder : ℕ → List ℕ → List ℕ
 formatOrder N img = orderFor N (stores (allFound N img))

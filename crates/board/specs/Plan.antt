@@ -7,15 +7,13 @@ use lib.Dec.{ltb}
 use lib.ListN.{length}
 use Rattle.flash.specs.Flash.{Step, program, erase, apply, sizeOf, Write, writeStep, writes}
 use Rattle.frame.specs.Frame.{Frame, encode, frameLen}
-use Rattle.journal.specs.Replay.{State, framesOf, replay, settledOnly}
-use Rattle.journal.specs.Block.{build, headerLen}
-use Rattle.journal.specs.Room.{used, claimed}
+use Rattle.journal.specs.Replay.{State, framesOf, settledOnly}
+use Rattle.journal.specs.Block.{Journal, build, headerLen}
 use Rattle.wire.specs.declared.Answer.the-variants.{More}
 use Rattle.board.specs.declared.Rest.{Rest}
 use Rattle.board.specs.declared.Record.{Record}
 use Rattle.board.specs.Record.{answerOf, out, rest, landing, ending, idle}
-use Rattle.board.specs.Mount.{nextBlock, formatOrder, allFound, Store, storeAt, wipeList, Upkeep, rests, moves, upkeep}
-use Rattle.board.specs.Queue.{Held}
+use Rattle.board.specs.Mount.{nextBlock, formatOrder, allFound, Store, storeAt, wipeList, Upkeep, rests, moves, upkeep, replayOf, usedOf, claimedOf}
 use Rattle.board.specs.Exec.{Machine, step}
 
 -- writes to block k, a step each
@@ -23,13 +21,13 @@ abbrev pub onBlock : ℕ → List Write → List Step
 onBlock k ws = map (writeStep k) ws
 
 -- "Transfer, into the blank half: byte 8 to 0xFE, header bytes 0-3, settled frames by rising id, pending frames in their order,
--- inverse of (time + 1), byte 8 to 0xFC, erase of the old half." Of block k, made at a time, with a state, into block j
-abbrev pub transferTo : ℕ → ℕ → ℕ → State → List Step
-transferTo j k time st = onBlock j (build (suc time) (framesOf st)) ++ (erase k ∷ [])
+-- inverse of (time + 1), byte 8 to 0xFC, erase of the old half." Of block k, which holds journal x, with a state, into block j
+abbrev pub transferTo : ℕ → ℕ → Journal → State → List Step
+transferTo j k x st = onBlock j (build (suc (x .time)) (framesOf st)) ++ (erase k ∷ [])
 
 -- into the next in number (K14)
-abbrev pub transferPlan : ℕ → ℕ → ℕ → State → List Step
-transferPlan N k time st = transferTo (nextBlock N k) k time st
+abbrev pub transferPlan : ℕ → ℕ → Journal → State → List Step
+transferPlan N k x st = transferTo (nextBlock N k) k x st
 
 -- "Put, delete, commit, abort: one frame of n bytes": at an offset of block k
 abbrev pub appendPlan : ℕ → ℕ → Frame → List Step
@@ -77,8 +75,8 @@ abbrev pub upkeepWork : Upkeep → ℕ → Rest → Store → Work
 upkeepWork rests j z x = record { steps = []; last = idle z }
 upkeepWork moves j z x =
     record {
-      steps = transferTo j (x .number) (x .time) (settledOnly (replay (x .frames)));
-      last = idle (landing z j (used (replay (x .frames))));
+      steps = transferTo j (x .number) (x .journal) (settledOnly (replayOf (x .journal)));
+      last = idle (landing z j (usedOf (x .journal)));
     }
 
 -- the erases of blocks ks, and that
@@ -95,13 +93,13 @@ abbrev pub appendWork : Rest → Frame → Work
 appendWork z f = record { steps = appendPlan (z .block) (z .end) f; last = idle (ending z (z .end + frameLen f)) }
 
 -- the same after a transfer, to block j
-abbrev pub movedWork : ℕ → Rest → Held → Frame → Work
+abbrev pub movedWork : ℕ → Rest → Journal → Frame → Work
 movedWork j z x f =
-    afterSteps (transferTo j (z .block) (x .time) (replay (x .frames))) (appendWork (landing z j (claimed (replay (x .frames)))) f)
+    afterSteps (transferTo j (z .block) x (replayOf x)) (appendWork (landing z j (claimedOf x)) f)
 
 -- "after a transfer if end + n exceeds S": in blocks of s bytes
-abbrev pub frameIn : ℕ → ℕ → Rest → Held → Frame → Work
+abbrev pub frameIn : ℕ → ℕ → Rest → Journal → Frame → Work
 frameIn s j z x f = cond (ltb s (z .end + frameLen f)) (movedWork j z x f) (appendWork z f)
 
-abbrev pub frameWork : ℕ → List ℕ → Record → Held → Frame → Work
+abbrev pub frameWork : ℕ → List ℕ → Record → Journal → Frame → Work
 frameWork N img r x f = frameIn (sizeOf N img) (nextBlock N (r .rest .block)) (r .rest) x f

@@ -12,9 +12,7 @@ use Rattle.flash.specs.Flash.{applyAll, withBlock, eraseBlock, sizeOf}
 use Rattle.frame.specs.declared.Host.{Host}
 use Rattle.frame.specs.declared.ObjectId.{ObjectId}
 use Rattle.frame.specs.Frame.{Frame}
-use Rattle.frame.specs.Reader.{Tail}
-use Rattle.journal.specs.Replay.{replay}
-use Rattle.journal.specs.Room.{used}
+use Rattle.journal.specs.Block.{Journal}
 use Rattle.journal.specs.Laws.{TakenFrom}
 use Rattle.wire.specs.declared.Answer.{Answer}
 use Rattle.wire.specs.declared.Answer.the-variants.{Done, More, Refused}
@@ -28,8 +26,7 @@ use Rattle.board.specs.declared.Phase.{Phase}
 use Rattle.board.specs.declared.Phase.the-variants.{Unmounted, Idle, Busy}
 use Rattle.board.specs.declared.Record.{Record}
 use Rattle.board.specs.Record.{Stretch, noStretch, Out, out}
-use Rattle.board.specs.Mount.{Store}
-use Rattle.board.specs.Queue.{Held}
+use Rattle.board.specs.Mount.{Store, replayOf, usedOf, timeOf}
 pub use Rattle.board.specs.Exec.{Machine, Family}
 use Rattle.board.specs.Exec.{Call, request, step, mount, format}
 use Rattle.board.specs.Plan.{Work, Performs, formatWork, mountWork, frameWork}
@@ -75,26 +72,26 @@ Answers (some f) r o = o .answer ≡ More
 
 -- "Log page 1 writes 14 bytes to the lent reply: length 14 (2), kind 0x0201 (2), creation time (4), settled count (2), U (2), S (2);
 -- later reply bytes stay. Nothing else writes to the reply."
-abbrev pub replyFor : ℕ → List ℕ → List ℕ → Held → Request → List ℕ
+abbrev pub replyFor : ℕ → List ℕ → List ℕ → Journal → Request → List ℕ
 replyFor N img reply x (Put i) = reply
 replyFor N img reply x (Delete i) = reply
 replyFor N img reply x Commit = reply
 replyFor N img reply x Abort = reply
 replyFor N img reply x (Read i) = reply
 replyFor N img reply x (Log p) =
-    (u16le 14 ++ (u16le 0x0201 ++ (u32le (x .time) ++ (u16le (length (replay (x .frames) .objects))
-    ++ (u16le (used (replay (x .frames))) ++ u16le (sizeOf N img))))))
+    (u16le 14 ++ (u16le 0x0201 ++ (u32le (x .time) ++ (u16le (length (replayOf x .objects))
+    ++ (u16le (usedOf x) ++ u16le (sizeOf N img))))))
     ++ drop 14 reply
 
 -- "A read that finds its object hands back that stretch of the caller's own flash image": where the recorded half's replay took the
 -- value from
-pub record Stands (N : ℕ) (img : List ℕ) (r : Record) (x : Held) (i : ObjectId) (st : Stretch) : Type 0 where
+pub record Stands (N : ℕ) (img : List ℕ) (r : Record) (x : Journal) (i : ObjectId) (st : Stretch) : Type 0 where
   pub value : List ℕ
   pub at : ℕ
   pub from : TakenFrom (x .frames) i value at
   pub is : st ≡ record { at = r .rest .block * sizeOf N img + at; size = length value }
 
-abbrev pub HandsBack : ℕ → List ℕ → Record → Held → Request → Stretch → Type 0
+abbrev pub HandsBack : ℕ → List ℕ → Record → Journal → Request → Stretch → Type 0
 HandsBack N img r x (Put i) st = st ≡ noStretch
 HandsBack N img r x (Delete i) st = st ≡ noStretch
 HandsBack N img r x Commit st = st ≡ noStretch
@@ -103,7 +100,7 @@ HandsBack N img r x (Read i) st = Stands N img r x i st
 HandsBack N img r x (Log p) st = st ≡ noStretch
 
 -- an accepted request q of host h, where the image read afresh holds x
-pub record Serves (N : ℕ) (img : List ℕ) (r : Record) (h : Host) (msg reply : List ℕ) (x : Held) (q : Request) (o : Out) : Type 0 where
+pub record Serves (N : ℕ) (img : List ℕ) (r : Record) (h : Host) (msg reply : List ℕ) (x : Journal) (q : Request) (o : Out) : Type 0 where
   pub answers : Answers (frameFor h msg x q) r o
   pub writes : o .reply ≡ replyFor N img reply x q
   pub hands-back : HandsBack N img r x q (o .stretch)
@@ -112,13 +109,13 @@ pub record Serves (N : ℕ) (img : List ℕ) (r : Record) (h : Host) (msg reply 
 
 -- K14: "The valid block with the largest time is current"
 pub record Current (N : ℕ) (img : List ℕ) (x : Store) : Type 0 where
-  pub is-valid : ValidAt N img (x .number) (x .time) (x .frames) (x .tail)
-  pub newest : (k t : ℕ) (fs : List Frame) (c : Tail) → (k ≡ x .number → ⊥) → ValidAt N img k t fs c → t < x .time
+  pub is-valid : ValidAt N img (x .number) (x .journal)
+  pub newest : (k : ℕ) (y : Journal) → (k ≡ x .number → ⊥) → ValidAt N img k y → y .time < timeOf x
 
 -- the steps that an accepted call has to do, and the idle record after the last
 pub data Job (N : ℕ) (img : List ℕ) (r : Record) : Call → Work → Type 0 where
   -- "one frame of n bytes, after a transfer if end + n exceeds S"
-  frame-job : (h : Host) (msg reply : List ℕ) (x : Held) (q : Request) (f : Frame) → Fresh N img r x → Means msg q → frameFor h msg x q ≡ some f
+  frame-job : (h : Host) (msg reply : List ℕ) (x : Journal) (q : Request) (f : Frame) → Fresh N img r x → Means msg q → frameFor h msg x q ≡ some f
       → Job N img r (request h msg reply) (frameWork N img r x f)
   -- K14: "mount erases every other that isn't blank, by number". "If the current one has a torn tail or anything pending, a transfer of the
   -- settled objects alone follows."
@@ -152,7 +149,7 @@ pub record Calls (N : ℕ) (m : Machine) : Type 0 where
   pub one-step : (img : List ℕ) (r : Record) (c : Call) → ImageAfter N m img r c
   pub silent : (img : List ℕ) (r : Record) (c : Call) → Silent c (m img r c)
   -- on any record, forged ones too
-  pub serves : (img : List ℕ) (r : Record) (h : Host) (msg reply : List ℕ) (x : Held) (q : Request) → Bytes img → Bytes msg → Fresh N img r x
+  pub serves : (img : List ℕ) (r : Record) (h : Host) (msg reply : List ℕ) (x : Journal) (q : Request) → Bytes img → Bytes msg → Fresh N img r x
       → Means msg q → Accepted (m img r (request h msg reply) .answer) → Serves N img r h msg reply x q (m img r (request h msg reply))
   -- the steps of an accepted call are its job's, and so many
   pub jobs : (img : List ℕ) (r : Record) (c : Call) (w : Work) → Bytes img → ByteCall c → Job N img r c w

@@ -10,11 +10,11 @@ use Rattle.flash.specs.Flash.{blockNumbers, block, sizeOf}
 use Rattle.frame.specs.declared.Host.{Host}
 use Rattle.frame.specs.declared.ObjectId.{ObjectId}
 use Rattle.frame.specs.Frame.{hostMax, Change, put, delete, Frame, change, commit, abort, frameLen, encode, endLen}
-use Rattle.frame.specs.Reader.{clean, cut, bad}
-use Rattle.journal.specs.Replay.{State, replay, lookup, isOpen}
-use Rattle.journal.specs.Block.{BlockState, blank, inProgress, valid, foreign, blockState, headerLen, lastTime}
-use Rattle.journal.specs.Room.{used, claimed, openHosts, noRoom}
-use Rattle.journal.specs.Index.{placesOf, sinceOf, Value, valueAt}
+use Rattle.frame.specs.Reader.{Tail, clean, cut, bad}
+use Rattle.journal.specs.Replay.{lookup, isOpen}
+use Rattle.journal.specs.Block.{Journal, BlockState, blank, inProgress, valid, foreign, blockState, headerLen, lastTime}
+use Rattle.journal.specs.Room.{openHosts, noRoom}
+use Rattle.journal.specs.Index.{placesOf, sinceOf, Value, valueAt, onlyIf}
 use Rattle.wire.specs.declared.Answer.the-variants.{Done}
 use Rattle.wire.specs.declared.Refusal.the-variants as refusal
 use Rattle.wire.specs.declared.Page.{Page}
@@ -29,30 +29,25 @@ use Rattle.board.specs.declared.Phase.the-variants.{Unmounted, Idle, Bus
 use Rattle.board.specs.declared.Record.{Record}
 use Rattle.board.specs.Record.{allowed, noWipes, starting, busy, Stretch, noStretch, Out, out, refuse}
 use Rattle.board.specs.Step.{begin, sameShape}
-use Rattle.board.specs.Mount.{nextBlock, newTime, endOf}
+use Rattle.board.specs.Mount.{nextBlock, newTime, endOf, replayOf, usedOf, claimedOf}
 
 -- ---- 11: the image read afresh
 
--- what the recorded block holds
-pub record Held : Type 0 where
-  pub time : ℕ
-  pub frames : List Frame
-
-abbrev pub heldIf : Bool → ℕ → List Frame → Option Held
-heldIf true t fs = some (record { time = t; frames = fs })
-heldIf false t fs = none
-
 -- "its last whole frame (or the header, if none) ending exactly at the recorded end with only 0xFF after it, .. C + 6·open at most S"
-abbrev pub fitsRecord : ℕ → ℕ → List Frame → Bool
-fitsRecord size end fs = eqb (endOf fs) end && leb (claimed (replay fs) + endLen * openHosts (replay fs .pending)) size
+abbrev pub fitsRecord : ℕ → ℕ → Journal → Bool
+fitsRecord size end x = eqb (endOf x) end && leb (claimedOf x + endLen * openHosts (replayOf x .pending)) size
 
--- "recorded half valid", and its tail all 0xFF
-abbrev pub heldIn : ℕ → ℕ → BlockState → Option Held
+-- "with only 0xFF after it"
+abbrev pub heldIf : Bool → Tail → Journal → Option Journal
+heldIf b clean x = onlyIf b x
+heldIf b (cut n) x = none
+heldIf b (bad e) x = none
+
+-- "recorded half valid"
+abbrev pub heldIn : ℕ → ℕ → BlockState → Option Journal
 heldIn size end blank = none
 heldIn size end inProgress = none
-heldIn size end (valid t fs clean) = heldIf (fitsRecord size end fs) t fs
-heldIn size end (valid t fs (cut n)) = none
-heldIn size end (valid t fs (bad e)) = none
+heldIn size end (valid x) = heldIf (fitsRecord size end x) (x .tail) x
 heldIn size end (foreign e) = none
 
 -- "other half blank"; K14: "the others stay blank"
@@ -64,12 +59,12 @@ othersBlank N k img (j ∷ js) = (eqb k j || allFF (block (sizeOf N img) j img))
 abbrev pub sameImage : ℕ → List ℕ → Record → Bool
 sameImage N img r = sameShape N (length img) r && (ltb (r .rest .block) N && othersBlank N (r .rest .block) img (blockNumbers N))
 
-abbrev pub heldBy : ℕ → Bool → List ℕ → Record → Option Held
+abbrev pub heldBy : ℕ → Bool → List ℕ → Record → Option Journal
 heldBy N true img r = heldIn (sizeOf N img) (r .rest .end) (blockState (block (sizeOf N img) (r .rest .block) img))
 heldBy N false img r = none
 
 -- what the recorded block holds; none where 11 is given
-unfoldable pub held : ℕ → List ℕ → Record → Option Held
+unfoldable pub held : ℕ → List ℕ → Record → Option Journal
 held N img r = heldBy N (sameImage N img r) img r
 
 -- ---- a frame is appended, "after a transfer if end + n exceeds S"
@@ -78,7 +73,7 @@ abbrev pub needsRoom : ℕ → List ℕ → Record → Frame → Bool
 needsRoom N img r f = ltb (sizeOf N img) (r .rest .end + frameLen f)
 
 -- a transfer copies from the first id and from the header on
-abbrev pub appendJob : ℕ → List ℕ → Record → Held → Frame → Record
+abbrev pub appendJob : ℕ → List ℕ → Record → Journal → Frame → Record
 appendJob N img r x f =
     busy (r .rest) (placesOf (x .frames))
     (record {
@@ -94,20 +89,20 @@ appendJob N img r x f =
     (starting 0 headerLen) (encode f)
 
 -- 6: "a transfer is needed .. at time 4,294,967,295"
-unfoldable pub append : ℕ → List ℕ → Record → List ℕ → Held → Frame → Out
+unfoldable pub append : ℕ → List ℕ → Record → List ℕ → Journal → Frame → Out
 append N img r reply x f =
     cond (needsRoom N img r f && eqb (x .time) lastTime) (refuse refusal.Worn img r reply) (begin img reply (appendJob N img r x f))
 
 -- ---- the requests
 
 -- a put or delete; 7: the room rule
-unfoldable pub serveChange : ℕ → List ℕ → Record → List ℕ → Host → Held → Change → Out
+unfoldable pub serveChange : ℕ → List ℕ → Record → List ℕ → Host → Journal → Change → Out
 serveChange N img r reply h x c =
-    cond (noRoom (sizeOf N img) (replay (x .frames)) h c) (refuse refusal.NoRoom img r reply) (append N img r reply x (change h c))
+    cond (noRoom (sizeOf N img) (replayOf x) h c) (refuse refusal.NoRoom img r reply) (append N img r reply x (change h c))
 
 -- "Commit or abort with nothing pending is done in 0 steps."
-unfoldable pub serveEnd : ℕ → List ℕ → Record → List ℕ → Host → Held → Frame → Out
-serveEnd N img r reply h x f = cond (isOpen h (replay (x .frames) .pending)) (append N img r reply x f) (out Done img r reply)
+unfoldable pub serveEnd : ℕ → List ℕ → Record → List ℕ → Host → Journal → Frame → Out
+serveEnd N img r reply h x f = cond (isOpen h (replayOf x .pending)) (append N img r reply x f) (out Done img r reply)
 
 -- counted from the image's first byte
 abbrev pub stretchOf : ℕ → Option Value → Stretch
@@ -115,39 +110,38 @@ stretchOf start none = noStretch
 stretchOf start (some x) = record { at = start + x .at; size = length (x .bytes) }
 
 -- "A read that finds its object hands back that stretch of the caller's own flash image": where replay took the value from
-abbrev pub placeOf : ℕ → List ℕ → Record → Held → ObjectId → Stretch
+abbrev pub placeOf : ℕ → List ℕ → Record → Journal → ObjectId → Stretch
 placeOf N img r x i =
     stretchOf (r .rest .block * sizeOf N img) (valueAt (block (sizeOf N img) (r .rest .block) img) i (getD (placesOf (x .frames)) (i .0) 0))
 
 -- "Reads see settled objects only"; 8: "no such settled object"
-abbrev pub serveRead : ℕ → List ℕ → Record → List ℕ → Held → ObjectId → Option (List ℕ) → Out
+abbrev pub serveRead : ℕ → List ℕ → Record → List ℕ → Journal → ObjectId → Option (List ℕ) → Out
 serveRead N img r reply x i none = refuse refusal.NoObject img r reply
 serveRead N img r reply x i (some v) =
     record { answer = Done; image = img; board = r; reply = reply; stretch = placeOf N img r x i }
 
 -- 9: "log: reply under 14 bytes"
-unfoldable pub serveLog : ℕ → List ℕ → Record → List ℕ → Held → Page → Out
+unfoldable pub serveLog : ℕ → List ℕ → Record → List ℕ → Journal → Page → Out
 serveLog N img r reply x Summary =
-    let st : State = replay (x .frames) in
     cond (ltb (length reply) pageLen) (refuse refusal.ShortReply img r reply)
-    (out Done img r (withPage (logPage (x .time) (length (st .objects)) (used st) (sizeOf N img)) reply))
+    (out Done img r (withPage (logPage (x .time) (length (replayOf x .objects)) (usedOf x) (sizeOf N img)) reply))
 
 -- "A request is one of six kinds"
-unfoldable pub serve : ℕ → List ℕ → Record → List ℕ → Host → List ℕ → Held → Request → Out
+unfoldable pub serve : ℕ → List ℕ → Record → List ℕ → Host → List ℕ → Journal → Request → Out
 serve N img r reply h m x (Put i) = serveChange N img r reply h x (put i (valueIn m))
 serve N img r reply h m x (Delete i) = serveChange N img r reply h x (delete i)
 serve N img r reply h m x Commit = serveEnd N img r reply h x (commit h)
 serve N img r reply h m x Abort = serveEnd N img r reply h x (abort h)
-serve N img r reply h m x (Read i) = serveRead N img r reply x i (lookup i (replay (x .frames) .objects))
+serve N img r reply h m x (Read i) = serveRead N img r reply x i (lookup i (replayOf x .objects))
 serve N img r reply h m x (Log p) = serveLog N img r reply x p
 
 -- 1, after 11
-abbrev pub serveParsed : ℕ → List ℕ → Record → List ℕ → Host → List ℕ → Held → Parsed → Out
+abbrev pub serveParsed : ℕ → List ℕ → Record → List ℕ → Host → List ℕ → Journal → Parsed → Out
 serveParsed N img r reply h m x Malformed = refuse refusal.Malformed img r reply
 serveParsed N img r reply h m x (Is q) = serve N img r reply h m x q
 
 -- 11
-abbrev pub serveHeld : ℕ → List ℕ → Record → List ℕ → Host → List ℕ → Option Held → Out
+abbrev pub serveHeld : ℕ → List ℕ → Record → List ℕ → Host → List ℕ → Option Journal → Out
 serveHeld N img r reply h m none = refuse refusal.Stale img r reply
 serveHeld N img r reply h m (some x) = serveParsed N img r reply h m x (parse m)
 

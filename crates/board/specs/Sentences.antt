@@ -12,9 +12,9 @@ use Rattle.flash.specs.Flash.{Step, program, erase, block, sizeOf}
 use Rattle.frame.specs.declared.Host.{Host}
 use Rattle.frame.specs.declared.ObjectId.{ObjectId}
 use Rattle.frame.specs.Frame.{Frame, encode, encodeAll}
-use Rattle.frame.specs.Reader.{Tail, clean, cut}
-use Rattle.journal.specs.Replay.{State, state, lookup, replay, framesOf}
-use Rattle.journal.specs.Block.{blank, blockState}
+use Rattle.frame.specs.Reader.{clean, cut}
+use Rattle.journal.specs.Replay.{State, state, lookup, framesOf}
+use Rattle.journal.specs.Block.{Journal, blank, blockState}
 use Rattle.journal.specs.Room.{claimed}
 use Rattle.journal.specs.Sentences.{ValidBlock}
 use Rattle.journal.specs.Laws.{objectsAfter, pendingAfter, TakenFrom}
@@ -22,8 +22,8 @@ use Rattle.wire.specs.declared.Page.{Page}
 use Rattle.wire.specs.declared.Request.the-variants.{Put, Delete, Commit, Abort, Read, Log}
 use Rattle.wire.specs.Sentences.{Means}
 use Rattle.board.specs.declared.Record.{Record}
-use Rattle.board.specs.Mount.{Store}
-use Rattle.board.specs.Queue.{Held, needsRoom, placeOf}
+use Rattle.board.specs.Mount.{Store, replayOf}
+use Rattle.board.specs.Queue.{needsRoom, placeOf}
 use Rattle.board.specs.Table.{frameFor, Allowed, ValidAt}
 use Rattle.board.specs.Plan.{transferPlan, formatWork, frameWork, mountWork}
 
@@ -32,19 +32,19 @@ use Rattle.board.specs.Plan.{transferPlan, formatWork, frameWork, mountW
 -- "Length (2, whole frame), kind (2), body, finish byte 0xFE": "1 put: host 1, id 2, value v", "2 delete: host 1, id 2", "3 commit: host 1",
 -- "4 abort: host 1". "Commit or abort with nothing pending is done in 0 steps." A read and a log append none
 pub record FrameExact : Type 0 where
-  pub of-put : (h : Host) (m : List ℕ) (x : Held) (i : ObjectId) → h .0 ≤ 3 → Bytes m → Means m (Put i)
+  pub of-put : (h : Host) (m : List ℕ) (x : Journal) (i : ObjectId) → h .0 ≤ 3 → Bytes m → Means m (Put i)
       → Option·map encode (frameFor h m x (Put i))
       ≡ some ((8 + length (drop 6 m)) ∷ 0 ∷ 1 ∷ 0 ∷ h .0 ∷ i .0 ∷ 0 ∷ (drop 6 m ++ (0xFE ∷ [])))
-  pub of-delete : (h : Host) (m : List ℕ) (x : Held) (i : ObjectId) → h .0 ≤ 3 → Means m (Delete i)
+  pub of-delete : (h : Host) (m : List ℕ) (x : Journal) (i : ObjectId) → h .0 ≤ 3 → Means m (Delete i)
       → Option·map encode (frameFor h m x (Delete i)) ≡ some (8 ∷ 0 ∷ 2 ∷ 0 ∷ h .0 ∷ i .0 ∷ 0 ∷ 0xFE ∷ [])
-  pub of-commit : (h : Host) (m : List ℕ) (x : Held) → (pendingAfter h (x .frames) ≡ [] → ⊥)
+  pub of-commit : (h : Host) (m : List ℕ) (x : Journal) → (pendingAfter h (x .frames) ≡ [] → ⊥)
       → Option·map encode (frameFor h m x Commit) ≡ some (6 ∷ 0 ∷ 3 ∷ 0 ∷ h .0 ∷ 0xFE ∷ [])
-  pub commit-nothing : (h : Host) (m : List ℕ) (x : Held) → pendingAfter h (x .frames) ≡ [] → frameFor h m x Commit ≡ none
-  pub of-abort : (h : Host) (m : List ℕ) (x : Held) → (pendingAfter h (x .frames) ≡ [] → ⊥)
+  pub commit-nothing : (h : Host) (m : List ℕ) (x : Journal) → pendingAfter h (x .frames) ≡ [] → frameFor h m x Commit ≡ none
+  pub of-abort : (h : Host) (m : List ℕ) (x : Journal) → (pendingAfter h (x .frames) ≡ [] → ⊥)
       → Option·map encode (frameFor h m x Abort) ≡ some (6 ∷ 0 ∷ 4 ∷ 0 ∷ h .0 ∷ 0xFE ∷ [])
-  pub abort-nothing : (h : Host) (m : List ℕ) (x : Held) → pendingAfter h (x .frames) ≡ [] → frameFor h m x Abort ≡ none
-  pub of-read : (h : Host) (m : List ℕ) (x : Held) (i : ObjectId) → frameFor h m x (Read i) ≡ none
-  pub of-log : (h : Host) (m : List ℕ) (x : Held) (p : Page) → frameFor h m x (Log p) ≡ none
+  pub abort-nothing : (h : Host) (m : List ℕ) (x : Journal) → pendingAfter h (x .frames) ≡ [] → frameFor h m x Abort ≡ none
+  pub of-read : (h : Host) (m : List ℕ) (x : Journal) (i : ObjectId) → frameFor h m x (Read i) ≡ none
+  pub of-log : (h : Host) (m : List ℕ) (x : Journal) (p : Page) → frameFor h m x (Log p) ≡ none
 
 -- "after a transfer if end + n exceeds S"; document 02, K14: "The image is N blocks of S bytes"
 unfoldable pub NeedsExact : Type 0
@@ -66,18 +66,18 @@ pub data NextOf (N k : ℕ) : ℕ → Type 0 where
 
 -- "Transfer, into the blank half: byte 8 to 0xFE, header bytes 0-3, settled frames by rising id, pending frames in their order, inverse of
 -- (time + 1), byte 8 to 0xFC, erase of the old half. C-5 steps." Of block k into block j; "length, 16", "kind, 0x4A01"
-pub record TransferSteps (N k j time : ℕ) (st : State) : Type 0 where
+pub record TransferSteps (N k j : ℕ) (x : Journal) (st : State) : Type 0 where
   pub copied : List Step
-  pub steps : transferPlan N k time st
+  pub steps : transferPlan N k x st
       ≡ program j 8 0xFE ∷ program j 0 16 ∷ program j 1 0 ∷ program j 2 0x01 ∷ program j 3 0x4A
       ∷ (copied
-      ++ (program j 4 (255 - suc time % 256) ∷ program j 5 (255 - suc time / 256 % 256) ∷ program j 6 (255 - suc time / 65536 % 256)
-      ∷ program j 7 (255 - suc time / 16777216) ∷ program j 8 0xFC ∷ erase k ∷ []))
+      ++ (program j 4 (255 - suc (x .time) % 256) ∷ program j 5 (255 - suc (x .time) / 256 % 256) ∷ program j 6 (255 - suc (x .time) / 65536 % 256)
+      ∷ program j 7 (255 - suc (x .time) / 16777216) ∷ program j 8 0xFC ∷ erase k ∷ []))
   pub frames : Programs j 16 (encodeAll (framesOf st)) copied
-  pub count : length (transferPlan N k time st) + 5 ≡ claimed st
+  pub count : length (transferPlan N k x st) + 5 ≡ claimed st
 
 unfoldable pub TransferExact : Type 0
-TransferExact = (N k j time : ℕ) (st : State) → NextOf N k j → suc time ≤ 4294967295 → TransferSteps N k j time st
+TransferExact = (N k j : ℕ) (x : Journal) (st : State) → NextOf N k j → suc (x .time) ≤ 4294967295 → TransferSteps N k j x st
 
 -- "then half 0's header at time 1 in the same order"
 abbrev pub firstHeader : List Step
@@ -104,8 +104,7 @@ pub record FormatSteps (N : ℕ) (img : List ℕ) (Ordered : ℕ → List ℕ �
 -- block k is valid, and every other valid one has a smaller time
 abbrev pub NewestAt : ℕ → List ℕ → ℕ → Type 0
 NewestAt N img k =
-    (t : ℕ) × (fs : List Frame) × (c : Tail) × ValidAt N img k t fs c
-    × ((j u : ℕ) (gs : List Frame) (d : Tail) → (j ≡ k → ⊥) → ValidAt N img j u gs d → u < t)
+    (x : Journal) × ValidAt N img k x × ((j : ℕ) (y : Journal) → (j ≡ k → ⊥) → ValidAt N img j y → y .time < x .time)
 
 -- K14: "Format erases all in number order, but the current block last if there is one, then writes block 0."
 pub record FormatExact : Type 0 where
@@ -115,11 +114,11 @@ pub record FormatExact : Type 0 where
 
 -- "one frame of n bytes, after a transfer if end + n exceeds S": at the recorded end, or in the next block past what was copied there
 pub record AppendExact : Type 0 where
-  pub stays : (N : ℕ) (img : List ℕ) (r : Record) (x : Held) (f : Frame) → r .rest .end + length (encode f) ≤ sizeOf N img
+  pub stays : (N : ℕ) (img : List ℕ) (r : Record) (x : Journal) (f : Frame) → r .rest .end + length (encode f) ≤ sizeOf N img
       → Programs (r .rest .block) (r .rest .end) (encode f) (frameWork N img r x f .steps)
-  pub moves : (N j : ℕ) (img : List ℕ) (r : Record) (x : Held) (f : Frame) → NextOf N (r .rest .block) j → sizeOf N img < r .rest .end + length (encode f)
-      → (appended : List Step) × (frameWork N img r x f .steps ≡ transferPlan N (r .rest .block) (x .time) (replay (x .frames)) ++ appended)
-      × Programs j (16 + length (encodeAll (framesOf (replay (x .frames))))) (encode f) appended
+  pub moves : (N j : ℕ) (img : List ℕ) (r : Record) (x : Journal) (f : Frame) → NextOf N (r .rest .block) j → sizeOf N img < r .rest .end + length (encode f)
+      → (appended : List Step) × (frameWork N img r x f .steps ≡ transferPlan N (r .rest .block) x (replayOf x) ++ appended)
+      × Programs j (16 + length (encodeAll (framesOf (replayOf x)))) (encode f) appended
 
 -- a number stands in a list
 abbrev pub Member : ℕ → List ℕ → Type 0
@@ -133,10 +132,10 @@ pub record MountSteps (N : ℕ) (img : List ℕ) (x : Store) : Type 0 where
   pub steps : mountWork N img x .steps ≡ map erase erased ++ moves
   pub by-number : (i : ℕ) → suc i < length erased → getD erased i 0 < getD erased (suc i) 0
   pub every : (j : ℕ) → Member j erased ↔ ((j < N) × (j ≡ x .number → ⊥) × (blockState (block (sizeOf N img) j img) ≡ blank → ⊥))
-  pub torn : (n : ℕ) → x .tail ≡ cut n → moves ≡ transferPlan N (x .number) (x .time) (state (objectsAfter (x .frames)) [])
-  pub pending : x .tail ≡ clean → (replay (x .frames) .pending ≡ [] → ⊥)
-      → moves ≡ transferPlan N (x .number) (x .time) (state (objectsAfter (x .frames)) [])
-  pub at-rest : x .tail ≡ clean → replay (x .frames) .pending ≡ [] → moves ≡ []
+  pub torn : (n : ℕ) → x .journal .tail ≡ cut n → moves ≡ transferPlan N (x .number) (x .journal) (state (objectsAfter (x .journal .frames)) [])
+  pub pending : x .journal .tail ≡ clean → (replayOf (x .journal) .pending ≡ [] → ⊥)
+      → moves ≡ transferPlan N (x .number) (x .journal) (state (objectsAfter (x .journal .frames)) [])
+  pub at-rest : x .journal .tail ≡ clean → replayOf (x .journal) .pending ≡ [] → moves ≡ []
 
 unfoldable pub MountExact : Type 0
 MountExact = (N : ℕ) (img : List ℕ) (x : Store) → MountSteps N img x
@@ -146,6 +145,6 @@ MountExact = (N : ℕ) (img : List ℕ) (x : Store) → MountSteps N img x
 -- "hands back that stretch of the caller's own flash image": where in the recorded half the value was put, counted from the image's start
 unfoldable pub StretchExact : Type 0
 StretchExact =
-    (N : ℕ) (img : List ℕ) (r : Record) (x : Held) (c : Tail) (i : ObjectId) (v : List ℕ)
-    → ValidBlock (block (sizeOf N img) (r .rest .block) img) (x .time) (x .frames) c → i .0 ≤ 255 → lookup i (objectsAfter (x .frames)) ≡ some v
+    (N : ℕ) (img : List ℕ) (r : Record) (x : Journal) (i : ObjectId) (v : List ℕ)
+    → ValidBlock (block (sizeOf N img) (r .rest .block) img) x → i .0 ≤ 255 → lookup i (objectsAfter (x .frames)) ≡ some v
     → (at : ℕ) × (placeOf N img r x i ≡ record { at = r .rest .block * sizeOf N img + at; size = length v }) × TakenFrom (x .frames) i v at

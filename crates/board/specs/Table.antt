@@ -11,14 +11,14 @@ use Rattle.flash.specs.Flash.{Step, block, sizeOf, blockOf, offsetOf}
 use Rattle.frame.specs.declared.Host.{Host}
 use Rattle.frame.specs.declared.ObjectId.{ObjectId}
 use Rattle.frame.specs.Frame.{Frame, put, delete, frameLen, total, change, commit, abort}
-use Rattle.frame.specs.Reader.{fault, Tail, clean}
+use Rattle.frame.specs.Reader.{fault, clean}
 use Rattle.frame.specs.declared.Fault.{Fault}
 use Rattle.frame.specs.declared.Field.the-variants as field
-use Rattle.journal.specs.Replay.{entry, replay, lookup, isOpen}
-use Rattle.journal.specs.Block.{headerLen}
+use Rattle.journal.specs.Replay.{entry, lookup, isOpen}
+use Rattle.journal.specs.Block.{Journal, headerLen}
 use Rattle.journal.specs.Faults.{FaultIn}
 use Rattle.journal.specs.Sentences.{BlankBlock, ValidBlock, ForeignBlock}
-use Rattle.journal.specs.Room.{claimed, openHosts}
+use Rattle.journal.specs.Room.{openHosts}
 use Rattle.wire.specs.declared.Answer.{Answer}
 use Rattle.wire.specs.declared.Page.{Page}
 use Rattle.wire.specs.declared.Request.{Request}
@@ -31,7 +31,8 @@ use Rattle.board.specs.declared.Phase.the-variants.{Unmounted, Idle, Bus
 use Rattle.board.specs.declared.Record.{Record}
 use Rattle.board.specs.Record.{allowed, Accepted}
 use Rattle.board.specs.Step.{action}
-use Rattle.board.specs.Queue.{Held, held}
+use Rattle.board.specs.Mount.{replayOf, claimedOf}
+use Rattle.board.specs.Queue.{held}
 use Rattle.board.specs.Exec.{Call, request, step, mount, format}
 use Rattle.wire.specs.Sentences.{Means}
 
@@ -42,11 +43,11 @@ abbrev pub frameIf : Bool → Frame → Option Frame
 frameIf true f = some f
 frameIf false f = none
 
-abbrev pub frameFor : Host → List ℕ → Held → Request → Option Frame
+abbrev pub frameFor : Host → List ℕ → Journal → Request → Option Frame
 frameFor h m x (Put i) = some (change h (put i (valueIn m)))
 frameFor h m x (Delete i) = some (change h (delete i))
-frameFor h m x Commit = frameIf (isOpen h (replay (x .frames) .pending)) (commit h)
-frameFor h m x Abort = frameIf (isOpen h (replay (x .frames) .pending)) (abort h)
+frameFor h m x Commit = frameIf (isOpen h (replayOf x .pending)) (commit h)
+frameFor h m x Abort = frameIf (isOpen h (replayOf x .pending)) (abort h)
 frameFor h m x (Read i) = none
 frameFor h m x (Log p) = none
 
@@ -84,26 +85,27 @@ InJob (Busy s) = Unit {0}
 
 -- 11: "idle record: its length differs, or the image read afresh isn't: recorded half valid, its last whole frame (or the header, if
 -- none) ending exactly at the recorded end with only 0xFF after it, other half blank, C + 6·open at most S"; K14: "A record of another N gets 11"
-pub record Fresh (N : ℕ) (img : List ℕ) (r : Record) (x : Held) : Type 0 where
+pub record Fresh (N : ℕ) (img : List ℕ) (r : Record) (x : Journal) : Type 0 where
   pub length-is : length img ≡ suc (r .rest .last)
   pub blocks-are : N ≡ r .rest .blocks
   pub there : r .rest .block < N
-  pub is-valid : ValidBlock (block (sizeOf N img) (r .rest .block) img) (x .time) (x .frames) clean
+  pub is-valid : ValidBlock (block (sizeOf N img) (r .rest .block) img) x
+  pub is-clean : x .tail ≡ clean
   pub ends : headerLen + total (x .frames) ≡ r .rest .end
   pub others-blank : (j : ℕ) → j < N → (j ≡ r .rest .block → ⊥) → BlankBlock (block (sizeOf N img) j img)
-  pub room : claimed (replay (x .frames)) + 6 * openHosts (replay (x .frames) .pending) ≤ sizeOf N img
+  pub room : claimedOf x + 6 * openHosts (replayOf x .pending) ≤ sizeOf N img
 
 -- `held` finds exactly this
 unfoldable pub FreshExact : Type 0
-FreshExact = (N : ℕ) (img : List ℕ) (r : Record) (x : Held) → Bytes img → allowed N (length img) ≡ true → (held N img r ≡ some x) ↔ Fresh N img r x
+FreshExact = (N : ℕ) (img : List ℕ) (r : Record) (x : Journal) → Bytes img → allowed N (length img) ≡ true → (held N img r ≡ some x) ↔ Fresh N img r x
 
 -- 8: "read: no such settled object"
 pub record NoObject (N : ℕ) (img : List ℕ) (r : Record) (msg : List ℕ) : Type 0 where
-  pub holding : Held
+  pub holding : Journal
   pub id : ObjectId
   pub is-held : Fresh N img r holding
   pub is-asked : Means msg (Read id)
-  pub none-there : lookup id (replay (holding .frames) .objects) ≡ none
+  pub none-there : lookup id (replayOf holding .objects) ≡ none
 
 -- 9: "log: reply under 14 bytes"
 pub record ShortReply (msg reply : List ℕ) : Type 0 where
@@ -114,18 +116,18 @@ pub record ShortReply (msg reply : List ℕ) : Type 0 where
 -- 7: "with `open` the hosts that would then have something pending, a put is refused exactly if C + n + 6·open + 14 > S, a delete
 -- exactly if C + 8 + 6·open > S"
 pub data NoRoom (N : ℕ) (img : List ℕ) (r : Record) (h : Host) (msg : List ℕ) : Type 0 where
-  for-put : (x : Held) (i : ObjectId) → Fresh N img r x → Means msg (Put i)
+  for-put : (x : Journal) (i : ObjectId) → Fresh N img r x → Means msg (Put i)
       → sizeOf N img
-      < claimed (replay (x .frames)) + (8 + length (valueIn msg))
-      + 6 * openHosts (replay (x .frames) .pending ++ (entry h (put i (valueIn msg)) ∷ [])) + 14
+      < claimedOf x + (8 + length (valueIn msg))
+      + 6 * openHosts (replayOf x .pending ++ (entry h (put i (valueIn msg)) ∷ [])) + 14
       → NoRoom N img r h msg
-  for-delete : (x : Held) (i : ObjectId) → Fresh N img r x → Means msg (Delete i)
-      → sizeOf N img < claimed (replay (x .frames)) + 8 + 6 * openHosts (replay (x .frames) .pending ++ (entry h (delete i) ∷ []))
+  for-delete : (x : Journal) (i : ObjectId) → Fresh N img r x → Means msg (Delete i)
+      → sizeOf N img < claimedOf x + 8 + 6 * openHosts (replayOf x .pending ++ (entry h (delete i) ∷ []))
       → NoRoom N img r h msg
 
 -- 6: "a transfer is needed, .. at time 4,294,967,295": "if end + n exceeds S"
 pub record Worn (N : ℕ) (img : List ℕ) (r : Record) (h : Host) (msg : List ℕ) : Type 0 where
-  pub holding : Held
+  pub holding : Journal
   pub asked : Request
   pub frame : Frame
   pub is-held : Fresh N img r holding
@@ -140,7 +142,7 @@ requestLines N img r h msg reply =
     ∷ line 10 (3 < h .0)
     ∷ line 5 (InJob (r .phase))
     ∷ line 2 (r .phase ≡ Unmounted)
-    ∷ line 11 ((x : Held) → Fresh N img r x → ⊥)
+    ∷ line 11 ((x : Journal) → Fresh N img r x → ⊥)
     ∷ line 1 ((q : Request) → Means msg q → ⊥)
     ∷ line 8 (NoObject N img r msg)
     ∷ line 9 (ShortReply msg reply)
@@ -151,18 +153,18 @@ requestLines N img r h msg reply =
 -- ---- mounts
 
 -- block k is valid; block k is foreign
-abbrev pub ValidAt : ℕ → List ℕ → ℕ → ℕ → List Frame → Tail → Type 0
-ValidAt N img k t fs c = (k < N) × ValidBlock (block (sizeOf N img) k img) t fs c
+abbrev pub ValidAt : ℕ → List ℕ → ℕ → Journal → Type 0
+ValidAt N img k x = (k < N) × ValidBlock (block (sizeOf N img) k img) x
 
 abbrev pub ForeignAt : ℕ → List ℕ → ℕ → Type 0
 ForeignAt N img k = (k < N) × ForeignBlock (block (sizeOf N img) k img)
 
 -- no block is valid; block k is valid and another has its time
 abbrev pub NoneValid : ℕ → List ℕ → Type 0
-NoneValid N img = (k t : ℕ) (fs : List Frame) (c : Tail) → ValidAt N img k t fs c → ⊥
+NoneValid N img = (k : ℕ) (x : Journal) → ValidAt N img k x → ⊥
 
 pub data TiedAt (N : ℕ) (img : List ℕ) (k : ℕ) : Type 0 where
-  tied-with : (j t : ℕ) (fs gs : List Frame) (c d : Tail) → (j ≡ k → ⊥) → ValidAt N img j t fs c → ValidAt N img k t gs d → TiedAt N img k
+  tied-with : (j : ℕ) (x y : Journal) → (j ≡ k → ⊥) → ValidAt N img j x → ValidAt N img k y → x .time ≡ y .time → TiedAt N img k
 
 -- 2: "for mount, no valid half and none foreign"
 pub record NothingThere (N : ℕ) (img : List ℕ) : Type 0 where
@@ -181,16 +183,16 @@ pub data Names (N : ℕ) (img : List ℕ) (k : ℕ) (e : Fault) : Type 0 where
   names-equal : TiedAt N img k → e ≡ fault field.Created 4 → ((j : ℕ) → j < k → TiedAt N img j → ⊥) → Names N img k e
 
 -- "has a torn tail or anything pending"
-abbrev pub Unsettled : List Frame → Tail → Type 0
-Unsettled fs c = (c ≡ clean → ⊥) ⊎ (replay fs .pending ≡ [] → ⊥)
+abbrev pub Unsettled : Journal → Type 0
+Unsettled x = (x .tail ≡ clean → ⊥) ⊎ (replayOf x .pending ≡ [] → ⊥)
 
 -- 6: "a transfer is needed, by a mount too, at time 4,294,967,295": no time is larger, so that this half is the current one
 pub record MountWorn (N : ℕ) (img : List ℕ) : Type 0 where
   pub number : ℕ
-  pub frames : List Frame
-  pub tail : Tail
-  pub is-valid : ValidAt N img number 4294967295 frames tail
-  pub unsettled : Unsettled frames tail
+  pub journal : Journal
+  pub is-valid : ValidAt N img number journal
+  pub last-time : journal .time ≡ 4294967295
+  pub unsettled : Unsettled journal
 
 abbrev pub mountLines : ℕ → List ℕ → List Line
 mountLines N img =

@@ -9,10 +9,9 @@ use lib.ListN.{length, replicate}
 use Rattle.flash.specs.Bytes.{Bytes}
 use Rattle.flash.specs.Flash.{block, sizeOf}
 use Rattle.frame.specs.declared.Host.{Host}
-use Rattle.frame.specs.Frame.{Frame}
 use Rattle.frame.specs.Reader.{clean}
-use Rattle.journal.specs.Replay.{Object, replay, changeAll}
-use Rattle.journal.specs.Block.{valid, blockState}
+use Rattle.journal.specs.Replay.{Object, changeAll}
+use Rattle.journal.specs.Block.{Journal, valid, blockState}
 use Rattle.wire.specs.declared.Answer.{Answer}
 use Rattle.wire.specs.declared.Answer.the-variants.{More, Refused}
 use Rattle.wire.specs.declared.Refusal.{Refusal}
@@ -21,6 +20,7 @@ use Rattle.wire.specs.declared.Request.the-variants.{Commit}
 use Rattle.wire.specs.Answer.{numberOf}
 use Rattle.board.specs.declared.Record.{Record}
 use Rattle.board.specs.Record.{allowed, Out, Accepted}
+use Rattle.board.specs.Mount.{replayOf}
 use Rattle.board.specs.Exec.{Machine, Call, request, step, mount, format}
 use Rattle.wire.specs.Sentences.{Means}
 use Rattle.board.specs.Claim.{stepsOn, Event, call, HappensFrom}
@@ -72,11 +72,11 @@ pub record Restores (N : ℕ) (m : Machine) (o : Out) (os : List Object) : Type 
   pub short : count ≤ sizeOf N (o .image) + N
   pub more : (n : ℕ) → n < count → stepsOn m n o .answer ≡ More
   pub done : numberOf (stepsOn m count o .answer) ≡ some 0
-  pub time : ℕ
-  pub frames : List Frame
-  pub is-valid : let z : Out = stepsOn m count o in blockState (block (sizeOf N (z .image)) (z .board .rest .block) (z .image)) ≡ valid time frames clean
-  pub objects : replay frames .objects ≡ os
-  pub nothing-pending : replay frames .pending ≡ []
+  pub journal : Journal
+  pub is-valid : let z : Out = stepsOn m count o in blockState (block (sizeOf N (z .image)) (z .board .rest .block) (z .image)) ≡ valid journal
+  pub is-clean : journal .tail ≡ clean
+  pub objects : replayOf journal .objects ≡ os
+  pub nothing-pending : replayOf journal .pending ≡ []
 
 -- a run, then a host's commit and k of its steps
 abbrev pub committing : List Event → Host → List ℕ → List ℕ → ℕ → List Event

@@ -12,8 +12,7 @@ use lib.ListN.{length}
 use Rattle.flash.specs.Bytes.{Bytes, allFF}
 use Rattle.flash.specs.Flash.{Step, apply, block, sizeOf, blockOf, offsetOf}
 use Rattle.frame.specs.Frame.{Frame}
-use Rattle.frame.specs.Reader.{Tail}
-use Rattle.journal.specs.Block.{BlockState, blank, inProgress, valid, foreign, blockState, lastTime}
+use Rattle.journal.specs.Block.{Journal, BlockState, blank, inProgress, valid, foreign, blockState, lastTime}
 use Rattle.wire.specs.declared.Answer.the-variants.{Done}
 use Rattle.wire.specs.declared.Refusal.{Refusal}
 use Rattle.wire.specs.declared.Refusal.the-variants as refusal
@@ -24,7 +23,7 @@ use Rattle.board.specs.declared.Record.{Record}
 use Rattle.board.specs.Record.{allowed, unmounted, rest, Out, out, refuse}
 use Rattle.board.specs.Step.{action, advance, stepped, stepOn}
 use Rattle.board.specs.Mount.{isBlank, moves, upkeepOf, transfers, tiedTimes, mountOn, formatOn}
-use Rattle.board.specs.Queue.{Held, held, heldIn}
+use Rattle.board.specs.Queue.{held, heldIn}
 use Rattle.board.specs.Exec.{exec}
 use Rattle.board.specs.Plan.{Work, Performs, formatIn, mountIn, frameIn, frameWork}
 
@@ -48,18 +47,18 @@ beside k = cond (eqb k 0) 1 0
 
 -- "the valid half is current; of two, the one with the larger time"; refusals 2 and 3, K4 and K5
 pub data Choice : Type 0 where
-  takes : ℕ → ℕ → List Frame → Tail → Choice
+  takes : ℕ → Journal → Choice
   refuses : Refusal → Choice
 
 abbrev pub chooseTwo : BlockState → BlockState → Choice
-chooseTwo (valid t fs c) (valid u gs d) =
-    cond (eqb t u) (refuses (tiedTimes 0)) (cond (ltb t u) (takes 1 u gs d) (takes 0 t fs c))
-chooseTwo (valid t fs c) blank = takes 0 t fs c
-chooseTwo (valid t fs c) inProgress = takes 0 t fs c
-chooseTwo (valid t fs c) (foreign e) = takes 0 t fs c
-chooseTwo blank (valid u gs d) = takes 1 u gs d
-chooseTwo inProgress (valid u gs d) = takes 1 u gs d
-chooseTwo (foreign e) (valid u gs d) = takes 1 u gs d
+chooseTwo (valid x) (valid y) =
+    cond (eqb (x .time) (y .time)) (refuses (tiedTimes 0)) (cond (ltb (x .time) (y .time)) (takes 1 y) (takes 0 x))
+chooseTwo (valid x) blank = takes 0 x
+chooseTwo (valid x) inProgress = takes 0 x
+chooseTwo (valid x) (foreign e) = takes 0 x
+chooseTwo blank (valid y) = takes 1 y
+chooseTwo inProgress (valid y) = takes 1 y
+chooseTwo (foreign e) (valid y) = takes 1 y
 chooseTwo (foreign e) blank = refuses (refusal.Foreign 0 e)
 chooseTwo (foreign e) inProgress = refuses (refusal.Foreign 0 e)
 chooseTwo (foreign e) (foreign f) = refuses (refusal.Foreign 0 e)
@@ -71,19 +70,19 @@ chooseTwo inProgress blank = refuses refusal.NoStore
 chooseTwo inProgress inProgress = refuses refusal.NoStore
 
 -- "The other is erased if it isn't blank." A transfer goes "into the blank half"
-abbrev pub mountTwo : List ℕ → ℕ → ℕ → List Frame → Tail → Work
-mountTwo img k t fs c =
+abbrev pub mountTwo : List ℕ → ℕ → Journal → Work
+mountTwo img k x =
     mountIn 2 (length img - 1) (cond (isBlank (stateTwo img (beside k))) [] (beside k ∷ [])) (beside k)
-    (record { number = k; time = t; frames = fs; tail = c })
+    (record { number = k; journal = x })
 
 -- ---- format
 
 -- K4: "Format now erases last the valid half, of two the one with the larger time (half 1 if there is none or the times are equal)."
 abbrev pub lastTwo : BlockState → BlockState → ℕ
-lastTwo (valid t fs c) (valid u gs d) = cond (ltb u t) 0 1
-lastTwo (valid t fs c) blank = 0
-lastTwo (valid t fs c) inProgress = 0
-lastTwo (valid t fs c) (foreign e) = 0
+lastTwo (valid x) (valid y) = cond (ltb (y .time) (x .time)) 0 1
+lastTwo (valid x) blank = 0
+lastTwo (valid x) inProgress = 0
+lastTwo (valid x) (foreign e) = 0
 lastTwo blank b = 1
 lastTwo inProgress b = 1
 lastTwo (foreign e) b = 1
@@ -94,13 +93,13 @@ formatTwo img = let k : ℕ = lastTwo (stateTwo img 0) (stateTwo img 1) in forma
 -- ---- requests and steps
 
 -- 11: "its length differs, or the image read afresh isn't: recorded half valid, .., other half blank, .."
-abbrev pub heldTwo : List ℕ → Record → Option Held
+abbrev pub heldTwo : List ℕ → Record → Option Journal
 heldTwo img r =
     cond (eqb (length img) (suc (r .rest .last)) && (ltb (r .rest .block) 2 && allFF (block (sizeTwo img) (beside (r .rest .block)) img)))
     (heldIn (sizeTwo img) (r .rest .end) (stateTwo img (r .rest .block))) none
 
 -- "after a transfer if end + n exceeds S", "into the blank half"
-abbrev pub frameTwo : List ℕ → Record → Held → Frame → Work
+abbrev pub frameTwo : List ℕ → Record → Journal → Frame → Work
 frameTwo img r x f =
     let z : Rest = r .rest in frameIn (sizeTwo img) (beside (z .block)) (rest 2 (z .last) (z .block) (z .end)) x f
 
@@ -122,18 +121,18 @@ pub record TwoBlocks : Type 0 where
   -- a mount refused, for its halves or for its time, and accepted
   pub mount-refused : (img : List ℕ) (n : Refusal) → allowedTwo (length img) ≡ true → chooseTwo (stateTwo img 0) (stateTwo img 1) ≡ refuses n
       → mountOn 2 img ≡ refuse n img unmounted []
-  pub mount-worn : (img : List ℕ) (k : ℕ) (fs : List Frame) (c : Tail) → allowedTwo (length img) ≡ true
-      → chooseTwo (stateTwo img 0) (stateTwo img 1) ≡ takes k lastTime fs c → upkeepOf fs c ≡ moves
+  pub mount-worn : (img : List ℕ) (k : ℕ) (x : Journal) → allowedTwo (length img) ≡ true
+      → chooseTwo (stateTwo img 0) (stateTwo img 1) ≡ takes k x → x .time ≡ lastTime → upkeepOf x ≡ moves
       → mountOn 2 img ≡ refuse refusal.Worn img unmounted []
-  pub mount-steps : (img : List ℕ) (k t : ℕ) (fs : List Frame) (c : Tail) → Bytes img → allowedTwo (length img) ≡ true
-      → chooseTwo (stateTwo img 0) (stateTwo img 1) ≡ takes k t fs c → (transfers (upkeepOf fs c) && eqb t lastTime) ≡ false
-      → Performs 2 (exec 2) img (mountOn 2 img .board) (mountTwo img k t fs c)
+  pub mount-steps : (img : List ℕ) (k : ℕ) (x : Journal) → Bytes img → allowedTwo (length img) ≡ true
+      → chooseTwo (stateTwo img 0) (stateTwo img 1) ≡ takes k x → (transfers (upkeepOf x) && eqb (x .time) lastTime) ≡ false
+      → Performs 2 (exec 2) img (mountOn 2 img .board) (mountTwo img k x)
   pub format-steps : (img : List ℕ) → allowedTwo (length img) ≡ true
       → Performs 2 (exec 2) img (formatOn 2 img .board) (formatTwo img)
   -- requests: the image read afresh, the steps, the record after them
   pub fresh : (img : List ℕ) (r : Record) → r .rest .blocks ≡ 2 → held 2 img r ≡ heldTwo img r
-  pub frame-steps : (img : List ℕ) (r : Record) (x : Held) (f : Frame) → r .rest .block < 2
+  pub frame-steps : (img : List ℕ) (r : Record) (x : Journal) (f : Frame) → r .rest .block < 2
       → frameWork 2 img r x f .steps ≡ frameTwo img r x f .steps
-  pub frame-record : (img : List ℕ) (r : Record) (x : Held) (f : Frame) → r .rest .blocks ≡ 2 → r .rest .block < 2
+  pub frame-record : (img : List ℕ) (r : Record) (x : Journal) (f : Frame) → r .rest .blocks ≡ 2 → r .rest .block < 2
       → frameWork 2 img r x f .last ≡ frameTwo img r x f .last
   pub steps : (img : List ℕ) (r : Record) → r .rest .blocks ≡ 2 → stepOn 2 img r ≡ stepTwo (r .phase) img r

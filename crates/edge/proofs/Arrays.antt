@@ -31,7 +31,7 @@ use Rattle.board.specs.declared.Record.{Record}
 use Rattle.board.specs.Record.{allowed, noPlaces, noFrame, resting, inStage, Out, answerIn}
 use Rattle.board.specs.Step.{enterAppend, landed, enterDrop, loaded, enterCopy, enterOpen, enterWipe, begin, action}
 use Rattle.board.specs.Step.{advance, sameShape, stepOn}
-use Rattle.board.specs.Mount.{Found, Store, allFound, found, stores, equalTimes, newest, isBlank, wipeList, wipeArray, upkeep, transfers, mountJob, mountOn}
+use Rattle.board.specs.Mount.{Found, Store, allFound, found, stores, equalTimes, newest, isBlank, wipeList, wipeArray, upkeep, transfers, mountJob, mountOn, timeOf}
 use Rattle.board.specs.Mount.{formatOrder, formatJob, formatOn}
 use Rattle.board.specs.Demand1.{Rests}
 use Rattle.board.proofs.Images.{allowed-tests}
@@ -223,7 +223,7 @@ array-sized ks h =
 mount-job-sized : (N : ℕ) (img : List ℕ) (x : Store) (ks : List ℕ) → length ks ≤ maxBlocks → Sized (mountJob N img x ks)
 unfolding noFrame
 mount-job-sized N img x ks h =
-    record { places = length-places (x .frames); wipe = array-sized ks h; since = refl; unit = refl; frame = refl }
+    record { places = length-places (x .journal .frames); wipe = array-sized ks h; since = refl; unit = refl; frame = refl }
 
 abbrev pub Left : Out → Type 0
 Left o = Sized (o .board)
@@ -246,7 +246,7 @@ mount-sized N img = on-test (allowed N (length img)) goes (λ t. subst Left (sym
             (λ q.
             let x : Store = newest y ys in
             let m = outcome.mount-at N img t y ys e q in
-            on-test (transfers (upkeep x) && eqb (x .time) lastTime)
+            on-test (transfers (upkeep x) && eqb (timeOf x) lastTime)
             (λ w. subst Left (sym (m ∙ outcome.mount-worn N img (allFound N img) x w)) (rests-sized Unmounted _))
             (λ w. subst Left (sym (m ∙ outcome.mount-begins N img (allFound N img) x w))
             (wipe-sized _ (mount-job-sized N img x (wipeList (x .number) (allFound N img)) (few t (x .number))))))

@@ -12,8 +12,8 @@ use Rattle.flash.specs.Flash.{sizeOf}
 use Rattle.flash.proofs.Cases.{on-test}
 use Rattle.frame.specs.declared.Host.{Host}
 use Rattle.frame.specs.Frame.{hostMax, Change, put, delete, Frame, change, commit, abort, settled, frameLen}
-use Rattle.journal.specs.Replay.{replay, lookup, isOpen}
-use Rattle.journal.specs.Block.{lastTime}
+use Rattle.journal.specs.Replay.{lookup, isOpen}
+use Rattle.journal.specs.Block.{Journal, lastTime}
 use Rattle.journal.specs.Room.{noRoom}
 use Rattle.journal.proofs.Places.{length-places}
 use Rattle.wire.specs.declared.Answer.{Answer}
@@ -31,7 +31,8 @@ use Rattle.board.specs.declared.Phase.the-variants.{Unmounted, Idle, Busy}
 use Rattle.board.specs.declared.Record.{Record}
 use Rattle.board.specs.Record.{allowed, noFrame, noStretch, Out, out, answerOf}
 use Rattle.board.specs.Step.{enterWipe}
-use Rattle.board.specs.Queue.{Held, held, needsRoom, appendJob, append, serveChange, serveEnd, serve, requestOn}
+use Rattle.board.specs.Mount.{replayOf}
+use Rattle.board.specs.Queue.{held, needsRoom, appendJob, append, serveChange, serveEnd, serve, requestOn}
 use Rattle.board.proofs.Outcomes as outcome
 use Rattle.lent.proofs.Inverse.{Sized}
 use Rattle.edge.specs.Edge.{isRead, asRead}
@@ -85,22 +86,22 @@ module _ (N : ℕ) (img : List ℕ) (r : Record) (reply : List ℕ) (h : Host) (
   kept : (a : Answer) → Plain a → Serves (out a img r reply)
   kept a n = record { leaves = (s, n); done = λ _. refl; place = λ _. refl; read = λ _. (refl, refl) }
 
-  abbrev job : Held → Frame → Record
+  abbrev job : Journal → Frame → Record
   job x f = appendJob N img r x f
 
-  job-sized : (x : Held) (f : Frame) → Short f → Sized (job x f)
+  job-sized : (x : Journal) (f : Frame) → Short f → Sized (job x f)
   unfolding noFrame
   job-sized x f k = record { places = length-places (x .frames); wipe = refl; since = refl; unit = refl; frame = buffer-sized f k }
 
   -- a frame to append is a job
-  job-more : (x : Held) (f : Frame) → answerOf (enterWipe (job x f)) ≡ More
+  job-more : (x : Journal) (f : Frame) → answerOf (enterWipe (job x f)) ≡ More
   job-more x f =
       let w = outcome.wipe-skips (job x f) refl in
       on-test (needsRoom N img r f)
       (λ t. ap answerOf (w ∙ outcome.open-enters (job x f) t))
       (λ t. ap answerOf (w ∙ outcome.open-skips (job x f) t ∙ outcome.append-enters (job x f) (some-bytes f)))
 
-  appended : (AsksRead (parse m) → ⊥) → (x : Held) (f : Frame) → Short f → Serves (append N img r reply x f)
+  appended : (AsksRead (parse m) → ⊥) → (x : Journal) (f : Frame) → Short f → Serves (append N img r reply x f)
   appended not x f k =
       on-test (needsRoom N img r f && eqb (x .time) lastTime)
       (λ t. subst Serves (sym (outcome.append-worn N img r reply x f t)) (kept _ tt))
@@ -111,28 +112,28 @@ module _ (N : ℕ) (img : List ℕ) (r : Record) (reply : List ℕ) (h : Host) (
         read = λ y. absurd (not y);
       }))
 
-  changed : (AsksRead (parse m) → ⊥) → (x : Held) (c : Change) → Short (change h c) → Serves (serveChange N img r reply h x c)
+  changed : (AsksRead (parse m) → ⊥) → (x : Journal) (c : Change) → Short (change h c) → Serves (serveChange N img r reply h x c)
   changed not x c k =
-      on-test (noRoom (sizeOf N img) (replay (x .frames)) h c)
+      on-test (noRoom (sizeOf N img) (replayOf x) h c)
       (λ t. subst Serves (sym (outcome.change-refused N img r reply h x c t)) (kept _ tt))
       (λ t. subst Serves (sym (outcome.change-goes N img r reply h x c t)) (appended not x (change h c) k))
 
-  ended : (AsksRead (parse m) → ⊥) → (x : Held) (f : Frame) → Short f → Serves (serveEnd N img r reply h x f)
+  ended : (AsksRead (parse m) → ⊥) → (x : Journal) (f : Frame) → Short f → Serves (serveEnd N img r reply h x f)
   ended not x f k =
-      on-test (isOpen h (replay (x .frames) .pending))
+      on-test (isOpen h (replayOf x .pending))
       (λ t. subst Serves (sym (outcome.end-goes N img r reply h x f t)) (appended not x f k))
       (λ t. subst Serves (sym (outcome.end-idle N img r reply h x f t)) (kept _ tt))
 
   -- a put's value is at most the longest
-  served : (x : Held) (q : Request) → parse m ≡ Is q → Means m q → Serves (serve N img r reply h m x q)
+  served : (x : Journal) (q : Request) → parse m ≡ Is q → Means m q → Serves (serve N img r reply h m x q)
   served x (Put i) z w =
       subst Serves (sym (outcome.serve-put N img r reply h m x i)) (changed (subst AsksRead z) x (put i (valueIn m)) (omega (arith, w .2, length-drop 6 m)))
   served x (Delete i) z w = subst Serves (sym (outcome.serve-delete N img r reply h m x i)) (changed (subst AsksRead z) x (delete i) (omega arith))
   served x Commit z w = subst Serves (sym (outcome.serve-commit N img r reply h m x)) (ended (subst AsksRead z) x (commit h) (omega arith))
   served x Abort z w = subst Serves (sym (outcome.serve-abort N img r reply h m x)) (ended (subst AsksRead z) x (abort h) (omega arith))
-  served x (Read i) z w = by (lookup i (replay (x .frames) .objects)) refl
+  served x (Read i) z w = by (lookup i (replayOf x .objects)) refl
     where
-      by : (o : Option (List ℕ)) → lookup i (replay (x .frames) .objects) ≡ o → Serves (serve N img r reply h m x (Read i))
+      by : (o : Option (List ℕ)) → lookup i (replayOf x .objects) ≡ o → Serves (serve N img r reply h m x (Read i))
       by none e = subst Serves (sym (outcome.read-none N img r reply h m x i e)) (kept _ tt)
       by (some v) e =
           subst Serves (sym (outcome.read-some N img r reply h m x i v e))
@@ -150,11 +151,11 @@ module _ (N : ℕ) (img : List ℕ) (r : Record) (reply : List ℕ) (h : Host) (
   asked : allowed N (length img) ≡ true → leb (h .0) hostMax ≡ true → Serves (requestOn N img r reply h m)
   asked a e = by (r .phase) refl
     where
-      of : (x : Held) → r .phase ≡ Idle → held N img r ≡ some x → (p : Parsed) → parse m ≡ p → Serves (requestOn N img r reply h m)
+      of : (x : Journal) → r .phase ≡ Idle → held N img r ≡ some x → (p : Parsed) → parse m ≡ p → Serves (requestOn N img r reply h m)
       of x i y Malformed z = subst Serves (sym (outcome.request-malformed N img r reply h m a e x i y z)) (kept _ tt)
       of x i y (Is q) z = subst Serves (sym (outcome.request-served N img r reply h m a e x q i y z)) (served x q z (means q z))
 
-      in-idle : r .phase ≡ Idle → (o : Option Held) → held N img r ≡ o → Serves (requestOn N img r reply h m)
+      in-idle : r .phase ≡ Idle → (o : Option Journal) → held N img r ≡ o → Serves (requestOn N img r reply h m)
       in-idle i none y = subst Serves (sym (outcome.request-stale N img r reply h m a e i y)) (kept _ tt)
       in-idle i (some x) y = of x i y (parse m) refl
 

@@ -15,7 +15,8 @@ use Rattle.frame.specs.declared.Host.{Host}
 use Rattle.frame.specs.declared.ObjectId.{ObjectId}
 use Rattle.frame.specs.Frame.{hostMax}
 use Rattle.frame.specs.Reader.{fault}
-use Rattle.journal.specs.Replay.{replay, lookup}
+use Rattle.journal.specs.Replay.{lookup}
+use Rattle.journal.specs.Block.{Journal}
 use Rattle.wire.specs.declared.Answer.{Answer}
 use Rattle.wire.specs.declared.Answer.the-variants.{Done, More, Refused}
 use Rattle.wire.specs.declared.Refusal.the-variants as refusal
@@ -29,8 +30,8 @@ use Rattle.board.specs.declared.Phase.the-variants.{Unmounted, Idle, Busy}
 use Rattle.board.specs.declared.Record.{Record}
 use Rattle.board.specs.Record.{allowed, Stretch, Out}
 use Rattle.board.specs.Step.{stepOn}
-use Rattle.board.specs.Mount.{mountOn, formatOn}
-use Rattle.board.specs.Queue.{Held, held, requestOn}
+use Rattle.board.specs.Mount.{mountOn, formatOn, replayOf}
+use Rattle.board.specs.Queue.{held, requestOn}
 use Rattle.board.specs.Exec.{Call, request, step, mount, format, exec}
 use Rattle.board.specs.Promise.{Shown, shown, trace, PromiseDetermines}
 use Rattle.board.proofs.Outcomes as outcome
@@ -117,7 +118,7 @@ module _ (N : ℕ) (img : List ℕ) (r : Record) (h : Host) (m : List ℕ) (i : 
   same-asked : allowed N (length img) ≡ true → leb (h .0) hostMax ≡ true → at p ≡ at q
   same-asked a e = by (r .phase) refl
     where
-      of : (x : Held) → r .phase ≡ Idle → held N img r ≡ some x → (o : Option (List ℕ)) → lookup i (replay (x .frames) .objects) ≡ o → at p ≡ at q
+      of : (x : Journal) → r .phase ≡ Idle → held N img r ≡ some x → (o : Option (List ℕ)) → lookup i (replayOf x .objects) ≡ o → at p ≡ at q
       of x d y none w =
           both (outcome.request-served N img r p h m a e x (Read i) d y z ∙ outcome.read-none N img r p h m x i w)
           (outcome.request-served N img r q h m a e x (Read i) d y z ∙ outcome.read-none N img r q h m x i w) refl
@@ -125,9 +126,9 @@ module _ (N : ℕ) (img : List ℕ) (r : Record) (h : Host) (m : List ℕ) (i : 
           both (outcome.request-served N img r p h m a e x (Read i) d y z ∙ outcome.read-some N img r p h m x i v w)
           (outcome.request-served N img r q h m a e x (Read i) d y z ∙ outcome.read-some N img r q h m x i v w) refl
 
-      in-idle : r .phase ≡ Idle → (o : Option Held) → held N img r ≡ o → at p ≡ at q
+      in-idle : r .phase ≡ Idle → (o : Option Journal) → held N img r ≡ o → at p ≡ at q
       in-idle d none y = both (outcome.request-stale N img r p h m a e d y) (outcome.request-stale N img r q h m a e d y) refl
-      in-idle d (some x) y = of x d y (lookup i (replay (x .frames) .objects)) refl
+      in-idle d (some x) y = of x d y (lookup i (replayOf x .objects)) refl
 
       by : (x : Phase) → r .phase ≡ x → at p ≡ at q
       by Unmounted d = both (outcome.request-unmounted N img r p h m a e d) (outcome.request-unmounted N img r q h m a e d) refl

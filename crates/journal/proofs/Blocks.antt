@@ -10,24 +10,24 @@ use lib.ListN.{length, getD, take, drop, replicate, length-append}
 use borrow.Author.Tests.{ne-eqb}
 use Rattle.flash.specs.Bytes.{u16le, allFF, sameBytes}
 use Rattle.flash.proofs.Blank.{allFF-no, allFF-all, allFF-at, same-refl, le32-u32}
-use Rattle.frame.specs.Frame.{Frame, encodeAll, total, AllMayStand, nextOf}
+use Rattle.frame.specs.Frame.{encodeAll, total, AllMayStand, nextOf}
 use Rattle.frame.specs.Reader.{Tail, clean, cut, bad, Scan, scan, ends}
 use Rattle.frame.proofs.First.{length-all, scan-with}
 use Rattle.journal.specs.Block.{headerLen, headerKind, lastTime, stateAt, inTransfer, validData, header, createdAt, headerFault}
-use Rattle.journal.specs.Block.{BlockState, blank, inProgress, valid, ofTail, blockState}
+use Rattle.journal.specs.Block.{Journal, journal, blank, inProgress, valid, ofTail, ofJournal, blockState}
 
 -- a block of s bytes: header, frames, and what follows them
-pub record Layout (s : ℕ) (b : List ℕ) (t : ℕ) (fs : List Frame) (rest : List ℕ) : Type 0 where
-  pub is : b ≡ header t validData ++ (encodeAll fs ++ rest)
-  pub stands : AllMayStand 0 fs
-  pub time-lo : 0 < t
-  pub time-hi : t ≤ lastTime
+pub record Layout (s : ℕ) (b : List ℕ) (j : Journal) (rest : List ℕ) : Type 0 where
+  pub is : b ≡ header (j .time) validData ++ (encodeAll (j .frames) ++ rest)
+  pub stands : AllMayStand 0 (j .frames)
+  pub time-lo : 0 < j .time
+  pub time-hi : j .time ≤ lastTime
   pub size : length b ≡ s
 
-pub layout-size : {s : ℕ} {b : List ℕ} {t : ℕ} {fs : List Frame} {rest : List ℕ} → Layout s b t fs rest → s ≡ headerLen + total fs + length rest
-layout-size {s} {b} {t} {fs} {rest} y =
-    let e : length b ≡ headerLen + length (encodeAll fs ++ rest) = ap length (y .is) ∙ omega arith in
-    omega (arith, y .size, length-append (encodeAll fs) rest, length-all fs)
+pub layout-size : {s : ℕ} {b : List ℕ} {j : Journal} {rest : List ℕ} → Layout s b j rest → s ≡ headerLen + total (j .frames) + length rest
+layout-size {s} {b} {j} {rest} y =
+    let e : length b ≡ headerLen + length (encodeAll (j .frames) ++ rest) = ap length (y .is) ∙ omega arith in
+    omega (arith, y .size, length-append (encodeAll (j .frames)) rest, length-all (j .frames))
 
 -- ---- the header
 
@@ -64,32 +64,33 @@ Okay clean = Unit {0}
 Okay (cut n) = Unit {0}
 Okay (bad e) = ⊥
 
-okay-tail : (t : ℕ) (fs : List Frame) (c : Tail) → Okay c → ofTail t fs c ≡ valid t fs c
-okay-tail t fs clean o = refl
-okay-tail t fs (cut n) o = refl
-okay-tail t fs (bad e) o = absurd o
+okay-tail : (j : Journal) (c : Tail) → Okay c → ofTail j c ≡ valid j
+okay-tail j clean o = refl
+okay-tail j (cut n) o = refl
+okay-tail j (bad e) o = absurd o
 
-abbrev pub ofScan : ℕ → Scan → BlockState
-ofScan t s = ofTail t (s .frames) (s .tail)
+abbrev pub scanned : ℕ → Scan → Journal
+scanned t s = journal t (s .frames) (s .tail)
 
 valid-step : (b : List ℕ) → allFF b ≡ false → eqb (getD b stateAt 0) inTransfer ≡ false → headerFault b ≡ none
-    → blockState b ≡ ofScan (createdAt b) (scan 0 headerLen 0 (drop headerLen b))
+    → blockState b ≡ ofJournal (scanned (createdAt b) (scan 0 headerLen 0 (drop headerLen b)))
 unfolding blockState
 valid-step b p q e = rw (p, q, e, blockState)
 
 -- a right header and frames, whatever follows them
-pub headed-block : {s : ℕ} {b : List ℕ} {t : ℕ} {fs : List Frame} {rest : List ℕ} (c : Tail) → Layout s b t fs rest
-    → scan (nextOf 0 fs) (headerLen + total fs) 0 rest ≡ ends c → blockState b ≡ ofTail t fs c
-headed-block {s} {b} {t} {fs} {rest} c y reads =
-    let r : List ℕ = encodeAll fs ++ rest in
+pub headed-block : {s : ℕ} {b rest : List ℕ} (j : Journal) → Layout s b j rest
+    → scan (nextOf 0 (j .frames)) (headerLen + total (j .frames)) 0 rest ≡ ends (j .tail) → blockState b ≡ ofJournal j
+headed-block {s} {b} {rest} j y reads =
+    let h : List ℕ = header (j .time) validData in
+    let r : List ℕ = encodeAll (j .frames) ++ rest in
     ap blockState (y .is)
-    ∙ valid-step (header t validData ++ r) (allFF-no headerLen _ (omega arith)) refl
-    (header-none (header t validData ++ r) (header-is t r (y .time-lo) (y .time-hi)))
-    ∙ ap₂ ofScan (time-back t validData r (y .time-hi)) (scan-with 0 headerLen fs rest c (y .stands) reads)
+    ∙ valid-step (h ++ r) (allFF-no headerLen _ (omega arith)) refl (header-none (h ++ r) (header-is (j .time) r (y .time-lo) (y .time-hi)))
+    ∙ ap₂ (λ (t : ℕ) (s : Scan). ofJournal (scanned t s)) (time-back (j .time) validData r (y .time-hi))
+    (scan-with 0 headerLen (j .frames) rest (j .tail) (y .stands) reads)
 
-pub valid-block : {s : ℕ} {b : List ℕ} {t : ℕ} {fs : List Frame} {rest : List ℕ} (c : Tail) → Layout s b t fs rest
-    → scan (nextOf 0 fs) (headerLen + total fs) 0 rest ≡ ends c → Okay c → blockState b ≡ valid t fs c
-valid-block {s} {b} {t} {fs} {rest} c y reads o = headed-block c y reads ∙ okay-tail t fs c o
+pub valid-block : {s : ℕ} {b rest : List ℕ} (j : Journal) → Layout s b j rest
+    → scan (nextOf 0 (j .frames)) (headerLen + total (j .frames)) 0 rest ≡ ends (j .tail) → Okay (j .tail) → blockState b ≡ valid j
+valid-block j y reads o = headed-block j y reads ∙ okay-tail j (j .tail) o
 
 -- ---- blank and in progress
 

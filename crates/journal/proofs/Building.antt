@@ -20,7 +20,7 @@ use Rattle.flash.proofs.Offsets.{off-take, off-writes, untouched, Fresh, fresh-
 use Rattle.frame.specs.Frame.{Frame, encodeAll, total, AllMayStand, nextOf}
 use Rattle.frame.specs.Reader.{clean}
 use Rattle.frame.proofs.First.{bytes-all, length-all, scan-blank}
-use Rattle.journal.specs.Block.{headerLen, headerKind, lastTime, stateAt, inTransfer, validData, header, inProgress, valid}
+use Rattle.journal.specs.Block.{headerLen, headerKind, lastTime, stateAt, inTransfer, validData, header, journal, inProgress, valid}
 use Rattle.journal.specs.Block.{blockState, sealWrites, build}
 use Rattle.journal.proofs.Blocks.{Layout, valid-block, progress-block}
 
@@ -150,14 +150,14 @@ built s t fs h g =
     ∙ built-on t m fs (bytes-all 0 fs g)
 
 pub made : (s t : ℕ) (fs : List Frame) → headerLen + total fs ≤ s → AllMayStand 0 fs → 0 < t → t ≤ lastTime
-    → Layout s (writeAll (replicate s 255) (build t fs)) t fs (replicate (s - (headerLen + total fs)) 255)
+    → Layout s (writeAll (replicate s 255) (build t fs)) (journal t fs clean) (replicate (s - (headerLen + total fs)) 255)
 made s t fs h g lo hi =
     record { is = built s t fs h g; stands = g; time-lo = lo; time-hi = hi; size = length-write (replicate s 255) (build t fs) ∙ length-replicate s 255 }
 
 pub made-valid : (s t : ℕ) (fs : List Frame) → headerLen + total fs ≤ s → AllMayStand 0 fs → 0 < t → t ≤ lastTime
-    → blockState (writeAll (replicate s 255) (build t fs)) ≡ valid t fs clean
+    → blockState (writeAll (replicate s 255) (build t fs)) ≡ valid (journal t fs clean)
 made-valid s t fs h g lo hi =
-    valid-block clean (made s t fs h g lo hi) (scan-blank (nextOf 0 fs) (headerLen + total fs) (s - (headerLen + total fs))) tt
+    valid-block (journal t fs clean) (made s t fs h g lo hi) (scan-blank (nextOf 0 fs) (headerLen + total fs) (s - (headerLen + total fs))) tt
 
 -- ---- some of them written
 

@@ -23,9 +23,9 @@ use Rattle.frame.specs.Sentences.{Span, span, Among, WrongAt}
 use Rattle.frame.proofs.First.{scan-read-wrong, Scanned, scan-inv, tail-bad, wrong-at-sound, wrong-at-reads}
 use Rattle.frame.proofs.Fields.{Ordered, among-from, overlap, overlapping}
 use Rattle.journal.specs.Block.{headerLen, headerKind, lastTime, stateAt, inTransfer, validData, header, createdAt, headerFault}
-use Rattle.journal.specs.Block.{blank, inProgress, foreign, ofTail, ofHeader, blockState}
+use Rattle.journal.specs.Block.{Journal, journal, blank, inProgress, foreign, ofTail, ofHeader, blockState}
 use Rattle.journal.specs.Faults.{headerFields, HeaderTo, BadHeader, BadFrame, FaultIn}
-use Rattle.journal.proofs.Blocks.{Header, time-back, headed-block}
+use Rattle.journal.proofs.Blocks.{Header, time-back, scanned, headed-block}
 use Rattle.journal.proofs.States.{header-inv, header-bytes, time-bytes}
 
 -- ---- the header, up to a field
@@ -144,10 +144,10 @@ not-both b d e x y =
 
 -- ---- the frames
 
-tail-of : (t : ℕ) (fs : List Frame) (c : Tail) (e : Fault) → ofTail t fs c ≡ foreign e → c ≡ bad e
-tail-of t fs clean e q = let z : _≡_ {A = ℕ} 0 1 = cc in absurd (omega arith)
-tail-of t fs (cut n) e q = let z : _≡_ {A = ℕ} 0 1 = cc in absurd (omega arith)
-tail-of t fs (bad f) e q = let r : f ≡ e = cc in ap bad r
+tail-of : (j : Journal) (c : Tail) (e : Fault) → ofTail j c ≡ foreign e → c ≡ bad e
+tail-of j clean e q = let z : _≡_ {A = ℕ} 0 1 = cc in absurd (omega arith)
+tail-of j (cut n) e q = let z : _≡_ {A = ℕ} 0 1 = cc in absurd (omega arith)
+tail-of j (bad f) e q = let r : f ≡ e = cc in ap bad r
 
 scan-wrong : (next at : ℕ) (l : List ℕ) (e : Fault) → Bytes l → WrongAt next at l e → scan next at 0 l ≡ ends (bad e)
 scan-wrong next at [] e y w = absurd (w .wrong .not-blank refl)
@@ -158,7 +158,8 @@ frame-state b e y x =
     let fs : List Frame = x .frames in
     let r : Bytes (x .rest) =
     bytes-right (encodeAll fs) (x .rest) (bytes-right (header (x .time) validData) (encodeAll fs ++ x .rest) (subst (λ (l : List ℕ). Bytes l) (x .bytes) y)) in
-    headed-block {s = length b} (bad e) (record { is = x .bytes; stands = x .stand; time-lo = x .time-lo; time-hi = x .time-hi; size = refl })
+    headed-block {s = length b} (journal (x .time) fs (bad e))
+    (record { is = x .bytes; stands = x .stand; time-lo = x .time-lo; time-hi = x .time-hi; size = refl })
     (scan-wrong (nextOf 0 fs) (headerLen + total fs) (x .rest) e r (x .wrong))
 
 -- ---- both
@@ -178,7 +179,7 @@ fault-in b e y h q =
         let s : Scan = scan 0 headerLen 0 (drop headerLen b) in
         let x : Header b = header-inv b g in
         let z : Scanned 0 headerLen (drop headerLen b) s = scan-inv 0 headerLen (drop headerLen b) in
-        let l : s .tail ≡ bad e = tail-of (createdAt b) (s .frames) (s .tail) e (rw g at r) in
+        let l : s .tail ≡ bad e = tail-of (scanned (createdAt b) s) (s .tail) e (rw g at r) in
         let n : ℕ = nextOf 0 (s .frames) in
         let at : ℕ = headerLen + total (s .frames) in
         let rest : Bytes (z .rest) = bytes-right (encodeAll (s .frames)) (z .rest) (subst (λ (u : List ℕ). Bytes u) (z .is) (bytes-drop headerLen b y)) in

@@ -19,7 +19,7 @@ use Rattle.journal.specs.Replay.{Object, Entry, entry, lookup, replay, s
 use Rattle.journal.specs.Index.{placesOf, sinceOf, Value, valueAt, Load, load, nextSettled, isPending, nextPending, orElse, nextLoad}
 use Rattle.journal.proofs.Lookups.{lookup-yes, lookup-no}
 use Rattle.journal.proofs.Replaying.{Rising, below-none, rising-from, rising-to, Sound, sound-replay}
-use Rattle.journal.proofs.Places.{Journal, stands-zero, bytesOf, place-value}
+use Rattle.journal.proofs.Places.{Standing, stands-zero, bytesOf, place-value}
 use Rattle.journal.proofs.Pending.{entriesOf, changeAt, bytesThere, change-plain, sinceIn, change-yes, change-no, pending-since, since-at}
 
 -- from a cursor on exactly these frames are left to copy
@@ -186,8 +186,8 @@ module _ (b : List ℕ) (end : ℕ) (places since : List ℕ) where
 objects-rise : (fs : List Frame) → AllMayStand 0 fs → Rising 0 (replay fs .objects) 256
 objects-rise fs g = let k : Sound (nextOf 0 fs) (replay fs) = sound-replay fs g in rising-to 0 (replay fs .objects) (nextOf 0 fs) 256 (k .low) (k .rising)
 
-journal-bytes : (b : List ℕ) (fs : List Frame) → Journal b fs → drop headerLen (take (headerLen + total fs) b) ≡ encodeAll fs
-journal-bytes b fs j =
+standing-bytes : (b : List ℕ) (fs : List Frame) → Standing b fs → drop headerLen (take (headerLen + total fs) b) ≡ encodeAll fs
+standing-bytes b fs j =
     let hd : List ℕ = j .head in
     let q : headerLen + total fs ≡ length hd + total fs = omega (arith, j .long) in
     ap₂ (λ (n : ℕ) (x : List ℕ). drop headerLen (take n x)) q (j .split)
@@ -196,16 +196,16 @@ journal-bytes b fs j =
     ∙ drop-at hd (encodeAll fs) headerLen (j .long)
 
 -- a transfer that keeps what is pending
-pub yields-all : (b : List ℕ) (fs : List Frame) → Journal b fs → Yields b (headerLen + total fs) (placesOf fs) (sinceOf fs) 0 headerLen (framesOf (replay fs))
+pub yields-all : (b : List ℕ) (fs : List Frame) → Standing b fs → Yields b (headerLen + total fs) (placesOf fs) (sinceOf fs) 0 headerLen (framesOf (replay fs))
 yields-all b fs j =
     let end : ℕ = headerLen + total fs in
     yields-objects b end (placesOf fs) (sinceOf fs) 256 0 headerLen (replay fs .objects) (map pendingFrame (replay fs .pending)) (omega arith) (omega arith)
     (objects-rise fs (j .stand)) (λ i u w. place-value b fs (idOf i) j w)
     (subst (λ (x : List Entry). Yields b end (placesOf fs) (sinceOf fs) 256 headerLen (map pendingFrame x)) (sym (pending-since fs))
-    (yields-pending b end (placesOf fs) (sinceOf fs) (sinceIn fs) (since-at fs) headerLen 0 fs (j .stand) (journal-bytes b fs j) refl))
+    (yields-pending b end (placesOf fs) (sinceOf fs) (sinceIn fs) (since-at fs) headerLen 0 fs (j .stand) (standing-bytes b fs j) refl))
 
 -- a mount's, which drops it
-pub yields-settled : (b : List ℕ) (fs : List Frame) (since : List ℕ) → Journal b fs
+pub yields-settled : (b : List ℕ) (fs : List Frame) (since : List ℕ) → Standing b fs
     → Yields b (headerLen + total fs) (placesOf fs) since 0 (headerLen + total fs) (framesOf (settledOnly (replay fs)))
 yields-settled b fs since j =
     let end : ℕ = headerLen + total fs in

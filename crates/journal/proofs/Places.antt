@@ -163,14 +163,14 @@ unfolding valueAt
 value-zero b i = refl
 
 -- a block whose journal starts with these frames
-pub record Journal (b : List ℕ) (fs : List Frame) : Type 0 where
+pub record Standing (b : List ℕ) (fs : List Frame) : Type 0 where
   pub head : List ℕ
   pub rest : List ℕ
   pub split : b ≡ head ++ (encodeAll fs ++ rest)
   pub long : length head ≡ headerLen
   pub stand : AllMayStand 0 fs
 
-pub place-law : (b : List ℕ) (fs : List Frame) (i : ObjectId) (v : List ℕ) → Journal b fs → i .0 ≤ idMax → lookup i (replay fs .objects) ≡ some v
+pub place-law : (b : List ℕ) (fs : List Frame) (i : ObjectId) (v : List ℕ) → Standing b fs → i .0 ≤ idMax → lookup i (replay fs .objects) ≡ some v
     → ValueStands b i (getD (placesOf fs) (i .0) 0) v
 place-law b fs i v j h s =
     subst (λ (p : ℕ). ValueStands b i p v) (sym (place-at fs i h ∙ ap orZero (sited-lookup fs i)))
@@ -194,7 +194,7 @@ bytesOf none = none
 bytesOf (some x) = some (x .bytes)
 
 -- what stands at an id's place is the object that replay finds
-pub place-value : (b : List ℕ) (fs : List Frame) (i : ObjectId) → Journal b fs → i .0 ≤ idMax
+pub place-value : (b : List ℕ) (fs : List Frame) (i : ObjectId) → Standing b fs → i .0 ≤ idMax
     → bytesOf (valueAt b i (getD (placesOf fs) (i .0) 0)) ≡ lookup i (replay fs .objects)
 place-value b fs i j h = go (lookup i (replay fs .objects)) refl
   where

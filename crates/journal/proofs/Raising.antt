@@ -7,9 +7,7 @@ use native.Mathlib.Omega.{arith}
 use lib.ListN.{getD, replicate, getD-replicate}
 use Rattle.flash.specs.Raised.{Raised}
 use Rattle.flash.proofs.Raising.{byte-up, low-bits}
-use Rattle.frame.specs.Frame.{Frame}
-use Rattle.frame.specs.Reader.{Tail}
-use Rattle.journal.specs.Block.{stateAt, timeAt, inTransfer, createdAt, inProgress, valid, blockState}
+use Rattle.journal.specs.Block.{stateAt, timeAt, inTransfer, createdAt, Journal, inProgress, valid, blockState}
 use Rattle.journal.specs.Sentences.{NeverNewer}
 use Rattle.journal.proofs.States.{Stamped, valid-stamped}
 use Rattle.journal.proofs.Sentences.{progress-is}
@@ -30,7 +28,7 @@ harmless-raised t old new r (inl h) = inl (low-bits old new stateAt r h)
 harmless-raised t old new r (inr h) = inr (omega (arith, not-later old new r))
 
 -- it isn't valid with this time or a larger one
-pub harmless-older : {t u : ℕ} (b : List ℕ) {fs : List Frame} {c : Tail} → Harmless t b → blockState b ≡ valid u fs c → u < t
+pub harmless-older : {t : ℕ} {j : Journal} (b : List ℕ) → Harmless t b → blockState b ≡ valid j → j .time < t
 harmless-older b (inl h) e = let y : Stamped b _ = valid-stamped e in absurd (omega (arith, y .state))
 harmless-older b (inr h) e = let y : Stamped b _ = valid-stamped e in omega (arith, y .created)
 
@@ -42,14 +40,13 @@ blank-harmless s t b h e =
 pub progress-harmless : (t : ℕ) (b : List ℕ) → blockState b ≡ inProgress → Harmless t b
 progress-harmless t b e = let f : getD b stateAt 0 ≡ inTransfer = progress-is b e in inl (omega arith)
 
-pub valid-harmless : {t u : ℕ} (b : List ℕ) {fs : List Frame} {c : Tail} → blockState b ≡ valid u fs c → u < t → Harmless t b
+pub valid-harmless : {t : ℕ} {j : Journal} (b : List ℕ) → blockState b ≡ valid j → j .time < t → Harmless t b
 valid-harmless b e h = let y : Stamped b _ = valid-stamped e in inr (omega (arith, y .created))
 
 pub never-newer : NeverNewer
 never-newer =
     record {
-      of-valid = λ old new t u fs gs c d r p q.
-          omega (arith, not-later old new r, valid-stamped p .created, valid-stamped q .created);
+      of-valid = λ old new j i r p q. omega (arith, not-later old new r, valid-stamped p .created, valid-stamped q .created);
       of-any = not-later;
-      stays-out = λ old new u gs d r h q. omega (arith, low-bits old new stateAt r h, valid-stamped q .state);
+      stays-out = λ old new j r h q. omega (arith, low-bits old new stateAt r h, valid-stamped q .state);
     }

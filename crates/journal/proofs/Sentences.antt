@@ -9,11 +9,11 @@ use borrow.Author.Tests.{eqb-true}
 use Rattle.flash.specs.Bytes.{Bytes, allFF}
 use Rattle.flash.proofs.Cases.{on-test}
 use Rattle.frame.specs.declared.Fault.{Fault}
-use Rattle.frame.specs.Frame.{Frame, total, nextOf}
+use Rattle.frame.specs.Frame.{total, nextOf}
 use Rattle.frame.specs.Reader.{Tail, clean, cut, bad, scan, ends}
 use Rattle.frame.specs.Sentences.{Torn}
 use Rattle.frame.proofs.First.{torn-reads, scan-read-torn, scan-blank, tail-clean, tail-cut}
-use Rattle.journal.specs.Block.{headerLen, stateAt, inTransfer, headerFault, BlockState, blank, inProgress, valid, foreign, ofHeader, blockState}
+use Rattle.journal.specs.Block.{headerLen, stateAt, inTransfer, headerFault, Journal, BlockState, blank, inProgress, valid, foreign, ofHeader, blockState}
 use Rattle.journal.specs.Sentences.{BlankBlock, InProgressBlock, TailIs, ValidBlock, ForeignBlock, StatesExact}
 use Rattle.journal.proofs.Blocks.{Okay, valid-block, blank-block, progress-block}
 use Rattle.journal.proofs.Faults.{fault-in, fault-state}
@@ -53,20 +53,21 @@ tail-is next at l clean o e = tail-clean next at l e
 tail-is next at l (cut n) o e = tail-cut next at l n e
 tail-is next at l (bad f) o e = o
 
-valid-state : (b : List ℕ) (t : ℕ) (fs : List Frame) (c : Tail) → ValidBlock b t fs c → blockState b ≡ valid t fs c
-valid-state b t fs c y =
-    valid-block {s = length b} c (record { is = y .bytes; stands = y .frames; time-lo = y .time-lo; time-hi = y .time-hi; size = refl })
-    (tail-scan (nextOf 0 fs) (headerLen + total fs) (y .rest) c (y .tail)) (tail-okay (nextOf 0 fs) (y .rest) c (y .tail))
+valid-state : (b : List ℕ) (j : Journal) → ValidBlock b j → blockState b ≡ valid j
+valid-state b j y =
+    let n : ℕ = nextOf 0 (j .frames) in
+    valid-block {s = length b} j (record { is = y .bytes; stands = y .frames; time-lo = y .time-lo; time-hi = y .time-hi; size = refl })
+    (tail-scan n (headerLen + total (j .frames)) (y .rest) (j .tail) (y .tail)) (tail-okay n (y .rest) (j .tail) (y .tail))
 
-valid-is : (b : List ℕ) (t : ℕ) (fs : List Frame) (c : Tail) → Contents b t fs c → ValidBlock b t fs c
-valid-is b t fs c x =
+valid-is : (b : List ℕ) (j : Journal) → Contents b j → ValidBlock b j
+valid-is b j x =
     record {
       rest = x .rest;
       bytes = x .layout .is;
       time-lo = x .layout .time-lo;
       time-hi = x .layout .time-hi;
       frames = x .layout .stands;
-      tail = tail-is (nextOf 0 fs) (headerLen + total fs) (x .rest) c (x .okay) (x .reads);
+      tail = tail-is (nextOf 0 (j .frames)) (headerLen + total (j .frames)) (x .rest) (j .tail) (x .okay) (x .reads);
     }
 
 -- ---- all four
@@ -76,7 +77,7 @@ foreign-is b e h q =
     record {
       not-blank = λ y. let r : blank ≡ foreign e = sym (blank-state b y) ∙ q in let z : _≡_ {A = ℕ} 0 1 = cc in omega arith;
       not-in-progress = λ y. let r : inProgress ≡ foreign e = sym (progress-block b (omega arith) y) ∙ q in let z : _≡_ {A = ℕ} 0 1 = cc in omega arith;
-      not-valid = λ t fs c y. let r : valid t fs c ≡ foreign e = sym (valid-state b t fs c y) ∙ q in let z : _≡_ {A = ℕ} 0 1 = cc in omega arith;
+      not-valid = λ j y. let r : valid j ≡ foreign e = sym (valid-state b j y) ∙ q in let z : _≡_ {A = ℕ} 0 1 = cc in omega arith;
     }
 
 foreign-state : (b : List ℕ) → Bytes b → headerLen ≤ length b → ForeignBlock b → (e : Fault) × (blockState b ≡ foreign e)
@@ -85,7 +86,7 @@ foreign-state b y h x = go (blockState b) refl
     go : (a : BlockState) → blockState b ≡ a → (e : Fault) × (blockState b ≡ foreign e)
     go blank q = absurd (x .not-blank (blank-is b q))
     go inProgress q = absurd (x .not-in-progress (progress-is b q))
-    go (valid t fs c) q = absurd (x .not-valid t fs c (valid-is b t fs c (valid-inv b t fs c y h q)))
+    go (valid j) q = absurd (x .not-valid j (valid-is b j (valid-inv b j y h q)))
     go (foreign e) q = (e, q)
 
 pub states-exact : StatesExact
@@ -93,7 +94,7 @@ states-exact =
     record {
       is-blank = λ b y h. (blank-is b, blank-state b);
       is-in-progress = λ b y h. (progress-is b, progress-block b (omega arith));
-      is-valid = λ b t fs c y h. ((λ q. valid-is b t fs c (valid-inv b t fs c y h q)), valid-state b t fs c);
+      is-valid = λ b j y h. ((λ q. valid-is b j (valid-inv b j y h q)), valid-state b j);
       is-foreign-at = λ b e y h. (
         (λ q. (foreign-is b e h q, fault-in b e y h q)),
         (λ p. let z = foreign-state b y h (p .0) in fault-state b (z .0) e y h (z .1) (p .1)),

@@ -13,9 +13,9 @@ use Rattle.flash.proofs.Cases.{on-test}
 use Rattle.frame.specs.declared.ObjectId.{ObjectId}
 use Rattle.frame.specs.Frame.{put, delete, Frame, change, commit, abort, settled, mapFrame, encode, encodeAll, frameLen, total, MayStand}
 use Rattle.frame.specs.Frame.{AllMayStand, nextAfter}
-use Rattle.frame.specs.Reader.{Tail, whole, readFrame}
+use Rattle.frame.specs.Reader.{whole, readFrame}
 use Rattle.frame.proofs.First.{length-all, total-snoc, encode-append, read-back}
-use Rattle.journal.specs.Block.{headerLen, header, validData}
+use Rattle.journal.specs.Block.{headerLen, Journal, header, validData}
 use Rattle.journal.specs.Replay.{lookup, replay}
 use Rattle.journal.specs.Index.{orZero, placesOf, valueAt}
 use Rattle.journal.specs.Sentences.{ValidBlock}
@@ -112,8 +112,10 @@ module _ (fs : List Frame) (i : ObjectId) (v : List ℕ) (s : lookup i (objectsA
 apart : (h p f n r : List ℕ) → h ++ ((p ++ (f ++ n)) ++ r) ≡ (h ++ p) ++ (f ++ (n ++ r))
 apart h p f n r = simp append-assoc
 
-module _ (b : List ℕ) (t : ℕ) (fs : List Frame) (c : Tail) (i : ObjectId) (v : List ℕ) (y : ValidBlock b t fs c) (h : i .0 ≤ 255)
-    (s : lookup i (objectsAfter fs) ≡ some v) where
+module _ (b : List ℕ) (j : Journal) (i : ObjectId) (v : List ℕ) (y : ValidBlock b j) (h : i .0 ≤ 255) (s : lookup i (objectsAfter (j .frames)) ≡ some v) where
+  abbrev fs : List Frame
+  fs = j .frames
+
   abbrev Found : Type 0
   Found = (at : ℕ) × (valueAt b i (getD (placesOf fs) (i .0) 0) ≡ some (record { at = at; bytes = v })) × TakenFrom fs i v at
 
@@ -139,15 +141,15 @@ module _ (b : List ℕ) (t : ℕ) (fs : List Frame) (c : Tail) (i : ObjectId) (v
     unfolding encodeAll
     read z =
         let f : Frame = holding (z .holder) i v in
-        let pre : List ℕ = header t validData ++ encodeAll (z .before) in
+        let pre : List ℕ = header (j .time) validData ++ encodeAll (z .before) in
         let post : List ℕ = encodeAll (z .after) ++ y .rest in
         let e : encodeAll fs ≡ encodeAll (z .before) ++ (encode f ++ encodeAll (z .after)) =
         ap encodeAll (z .stands) ∙ encode-append (z .before) (f ∷ z .after) in
         let e′ : b ≡ pre ++ (encode f ++ post) =
-        y .bytes ∙ ap (λ (l : List ℕ). header t validData ++ (l ++ y .rest)) e
-        ∙ apart (header t validData) (encodeAll (z .before)) (encode f) (encodeAll (z .after)) (y .rest) in
+        y .bytes ∙ ap (λ (l : List ℕ). header (j .time) validData ++ (l ++ y .rest)) e
+        ∙ apart (header (j .time) validData) (encodeAll (z .before)) (encode f) (encodeAll (z .after)) (y .rest) in
         let l : length pre ≡ x .place =
-        length-append (header t validData) (encodeAll (z .before)) ∙ omega (arith, z .place, length-all (z .before)) in
+        length-append (header (j .time) validData) (encodeAll (z .before)) ∙ omega (arith, z .place, length-all (z .before)) in
         ap (λ (d : List ℕ). readFrame 0 (x .place) (drop (x .place) d)) e′
         ∙ ap (readFrame 0 (x .place)) (drop-at pre (encode f ++ post) (x .place) l)
         ∙ read-back 0 (x .place) f post (stands-there 0 (z .before) (z .after) f (subst (AllMayStand 0) (z .stands) (y .frames)))

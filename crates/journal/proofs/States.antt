@@ -1,5 +1,5 @@
 -- What a block's state says of its bytes.
-use mathlib.Core.Path.{_≡_, refl, sym, ap, ap₂, subst, subst₃, _∙_}
+use mathlib.Core.Path.{_≡_, refl, sym, ap, ap₂, subst, _∙_}
 use mathlib.Core.List.{List, [], _∷_, _++_}
 use mathlib.Core.Option.{Option, none, some}
 use Prim.Native.Nat.{ℕ, _+_, _-_, _*_, _/_, _%_, _≤_, _<_}
@@ -12,12 +12,12 @@ use Rattle.flash.specs.Bytes.{Bytes, u16le, u32le, le32, allFF, sameBytes}
 use Rattle.flash.proofs.Cases.{on-test}
 use Rattle.flash.proofs.Blank.{all-ff, same-is, le32-small, byte-at}
 use Rattle.frame.specs.declared.Fault.{Fault}
-use Rattle.frame.specs.Frame.{Frame, total, nextOf}
+use Rattle.frame.specs.Frame.{total, nextOf}
 use Rattle.frame.specs.Reader.{Tail, clean, cut, bad, Scan, scan, ends}
 use Rattle.frame.proofs.First.{Scanned, scan-inv, scan-clean}
 use Rattle.journal.specs.Block.{headerLen, headerKind, lastTime, stateAt, inTransfer, validData, header, createdAt, headerFault}
-use Rattle.journal.specs.Block.{BlockState, blank, inProgress, valid, foreign, ofTail, ofHeader, blockState}
-use Rattle.journal.proofs.Blocks.{Layout, Header, Okay, ofScan, valid-block}
+use Rattle.journal.specs.Block.{Journal, BlockState, blank, inProgress, valid, foreign, ofTail, ofJournal, ofHeader, blockState}
+use Rattle.journal.proofs.Blocks.{Layout, Header, Okay, scanned, valid-block}
 
 some-none : {A : Type 0} {a : A} → some a ≡ none → ⊥
 some-none e = let z : _≡_ {A = ℕ} 0 1 = cc in omega arith
@@ -96,16 +96,16 @@ header-bytes b y h x =
 abbrev pub Headed : BlockState → Type 0
 Headed blank = ⊥
 Headed inProgress = ⊥
-Headed (valid t fs c) = Unit {0}
+Headed (valid j) = Unit {0}
 Headed (foreign e) = Unit {0}
 
-tail-headed : (t : ℕ) (fs : List Frame) (c : Tail) → Headed (ofTail t fs c)
-tail-headed t fs clean = tt
-tail-headed t fs (cut n) = tt
-tail-headed t fs (bad e) = tt
+tail-headed : (j : Journal) (c : Tail) → Headed (ofTail j c)
+tail-headed j clean = tt
+tail-headed j (cut n) = tt
+tail-headed j (bad e) = tt
 
 pub header-headed : (b : List ℕ) (o : Option Fault) → Headed (ofHeader b o)
-header-headed b none = let s : Scan = scan 0 headerLen 0 (drop headerLen b) in tail-headed (createdAt b) (s .frames) (s .tail)
+header-headed b none = let s : Scan = scan 0 headerLen 0 (drop headerLen b) in tail-headed (scanned (createdAt b) s) (s .tail)
 header-headed b (some e) = tt
 
 pub blank-is : (b : List ℕ) → blockState b ≡ blank → b ≡ replicate (length b) 255
@@ -118,28 +118,21 @@ blank-is b e =
 
 -- ---- valid
 
--- a block of this time, these frames and this tail, whatever its bytes past the frames are
-pub record Contents (b : List ℕ) (t : ℕ) (fs : List Frame) (c : Tail) : Type 0 where
+-- a block of this journal, whatever its bytes past the frames are
+pub record Contents (b : List ℕ) (j : Journal) : Type 0 where
   pub rest : List ℕ
-  pub layout : Layout (length b) b t fs rest
-  pub reads : scan (nextOf 0 fs) (headerLen + total fs) 0 rest ≡ ends c
-  pub okay : Okay c
-  pub clean-is : c ≡ clean → rest ≡ replicate (length rest) 255
+  pub layout : Layout (length b) b j rest
+  pub reads : scan (nextOf 0 (j .frames)) (headerLen + total (j .frames)) 0 rest ≡ ends (j .tail)
+  pub okay : Okay (j .tail)
+  pub clean-is : j .tail ≡ clean → rest ≡ replicate (length rest) 255
 
--- what a valid state is made of
-record Parts (t : ℕ) (fs : List Frame) (c : Tail) (t′ : ℕ) (fs′ : List Frame) (c′ : Tail) : Type 0 where
-  time : t ≡ t′
-  frames : fs ≡ fs′
-  tail : c ≡ c′
-  okay : Okay c
-
-parts : (t t′ : ℕ) (fs fs′ : List Frame) (c c′ : Tail) → ofTail t fs c ≡ valid t′ fs′ c′ → Parts t fs c t′ fs′ c′
-parts t t′ fs fs′ clean c′ e = record { time = cc; frames = cc; tail = cc; okay = tt }
-parts t t′ fs fs′ (cut n) c′ e = record { time = cc; frames = cc; tail = cc; okay = tt }
-parts t t′ fs fs′ (bad f) c′ e = let z : _≡_ {A = ℕ} 0 1 = cc in absurd (omega arith)
+tail-valid : (i j : Journal) (c : Tail) → ofTail i c ≡ valid j → (i ≡ j) × Okay c
+tail-valid i j clean e = (cc, tt)
+tail-valid i j (cut n) e = (cc, tt)
+tail-valid i j (bad f) e = let z : _≡_ {A = ℕ} 0 1 = cc in absurd (omega arith)
 
 contents : (b : List ℕ) → Bytes b → headerLen ≤ length b → Header b
-    → let s : Scan = scan 0 headerLen 0 (drop headerLen b) in Okay (s .tail) → Contents b (createdAt b) (s .frames) (s .tail)
+    → let s : Scan = scan 0 headerLen 0 (drop headerLen b) in Okay (s .tail) → Contents b (scanned (createdAt b) s)
 contents b y h x o =
     let s : Scan = scan 0 headerLen 0 (drop headerLen b) in
     let z : Scanned 0 headerLen (drop headerLen b) s = scan-inv 0 headerLen (drop headerLen b) in
@@ -157,47 +150,47 @@ contents b y h x o =
       clean-is = scan-clean 0 headerLen (drop headerLen b) s z;
     }
 
-pub valid-inv : (b : List ℕ) (t : ℕ) (fs : List Frame) (c : Tail) → Bytes b → headerLen ≤ length b → blockState b ≡ valid t fs c → Contents b t fs c
+pub valid-inv : (b : List ℕ) (j : Journal) → Bytes b → headerLen ≤ length b → blockState b ≡ valid j → Contents b j
 unfolding blockState
-valid-inv b t fs c y h e =
+valid-inv b j y h e =
     on-test (allFF b)
-    (λ a. let q : blank ≡ valid t fs c = rw (a, blockState) at e in let z : _≡_ {A = ℕ} 0 1 = cc in absurd (omega arith))
+    (λ a. let q : blank ≡ valid j = rw (a, blockState) at e in let z : _≡_ {A = ℕ} 0 1 = cc in absurd (omega arith))
     (λ a. on-test (eqb (getD b stateAt 0) inTransfer)
-    (λ p. let q : inProgress ≡ valid t fs c = rw (a, p, blockState) at e in let z : _≡_ {A = ℕ} 0 1 = cc in absurd (omega arith))
+    (λ p. let q : inProgress ≡ valid j = rw (a, p, blockState) at e in let z : _≡_ {A = ℕ} 0 1 = cc in absurd (omega arith))
     (λ p. go (headerFault b) refl (rw (a, p, blockState) at e)))
   where
-    go : (o : Option Fault) → headerFault b ≡ o → ofHeader b (headerFault b) ≡ valid t fs c → Contents b t fs c
-    go (some f) g q = let r : foreign f ≡ valid t fs c = rw g at q in let z : _≡_ {A = ℕ} 0 1 = cc in absurd (omega arith)
+    go : (o : Option Fault) → headerFault b ≡ o → ofHeader b (headerFault b) ≡ valid j → Contents b j
+    go (some f) g q = let r : foreign f ≡ valid j = rw g at q in let z : _≡_ {A = ℕ} 0 1 = cc in absurd (omega arith)
     go none g q =
         let s : Scan = scan 0 headerLen 0 (drop headerLen b) in
-        let r : ofScan (createdAt b) s ≡ valid t fs c = rw g at q in
-        let x : Parts (createdAt b) (s .frames) (s .tail) t fs c = parts (createdAt b) t (s .frames) fs (s .tail) c r in
-        subst₃ (Contents b) (x .time) (x .frames) (x .tail) (contents b y h (header-inv b g) (x .okay))
+        let r : ofJournal (scanned (createdAt b) s) ≡ valid j = rw g at q in
+        let x = tail-valid (scanned (createdAt b) s) j (s .tail) r in
+        subst (Contents b) (x .0) (contents b y h (header-inv b g) (x .1))
 
 -- what a valid block's header says, whatever else the block holds
 pub record Stamped (b : List ℕ) (t : ℕ) : Type 0 where
   pub created : createdAt b ≡ t
   pub state : getD b stateAt 0 ≡ validData
 
-pub valid-stamped : {b : List ℕ} {t : ℕ} {fs : List Frame} {c : Tail} → blockState b ≡ valid t fs c → Stamped b t
+pub valid-stamped : {b : List ℕ} {j : Journal} → blockState b ≡ valid j → Stamped b (j .time)
 unfolding blockState
-valid-stamped {b} {t} {fs} {c} e =
+valid-stamped {b} {j} e =
     on-test (allFF b)
-    (λ a. let q : blank ≡ valid t fs c = rw (a, blockState) at e in let z : _≡_ {A = ℕ} 0 1 = cc in absurd (omega arith))
+    (λ a. let q : blank ≡ valid j = rw (a, blockState) at e in let z : _≡_ {A = ℕ} 0 1 = cc in absurd (omega arith))
     (λ a. on-test (eqb (getD b stateAt 0) inTransfer)
-    (λ p. let q : inProgress ≡ valid t fs c = rw (a, p, blockState) at e in let z : _≡_ {A = ℕ} 0 1 = cc in absurd (omega arith))
+    (λ p. let q : inProgress ≡ valid j = rw (a, p, blockState) at e in let z : _≡_ {A = ℕ} 0 1 = cc in absurd (omega arith))
     (λ p. go (headerFault b) refl (rw (a, p, blockState) at e)))
   where
-    go : (o : Option Fault) → headerFault b ≡ o → ofHeader b (headerFault b) ≡ valid t fs c → Stamped b t
-    go (some f) g q = let r : foreign f ≡ valid t fs c = rw g at q in let z : _≡_ {A = ℕ} 0 1 = cc in absurd (omega arith)
+    go : (o : Option Fault) → headerFault b ≡ o → ofHeader b (headerFault b) ≡ valid j → Stamped b (j .time)
+    go (some f) g q = let r : foreign f ≡ valid j = rw g at q in let z : _≡_ {A = ℕ} 0 1 = cc in absurd (omega arith)
     go none g q =
         let s : Scan = scan 0 headerLen 0 (drop headerLen b) in
-        let r : ofScan (createdAt b) s ≡ valid t fs c = rw g at q in
+        let r : ofJournal (scanned (createdAt b) s) ≡ valid j = rw g at q in
         record {
-          created = parts (createdAt b) t (s .frames) fs (s .tail) c r .time;
+          created = ap (λ (i : Journal). i .time) (tail-valid (scanned (createdAt b) s) j (s .tail) r .0);
           state = eqb-true (getD b stateAt 0) validData (header-inv b g .state);
         }
 
 -- and back
-pub contents-valid : {b : List ℕ} {t : ℕ} {fs : List Frame} {c : Tail} → Contents b t fs c → blockState b ≡ valid t fs c
-contents-valid {b} {t} {fs} {c} x = valid-block c (x .layout) (x .reads) (x .okay)
+pub contents-valid : {b : List ℕ} {j : Journal} → Contents b j → blockState b ≡ valid j
+contents-valid {b} {j} x = valid-block j (x .layout) (x .reads) (x .okay)

@@ -71,24 +71,36 @@ headerFault b =
       ]
     ]
 
+-- what stands in a valid block, as one value
+pub record Journal : Type 0 where
+  pub time : ℕ  -- its creation time
+  pub frames : List Frame
+  pub tail : Tail
+
+abbrev pub journal : ℕ → List Frame → Tail → Journal
+journal t fs c = record { time = t; frames = fs; tail = c }
+
 -- "A half is blank if every byte is 0xFF; in progress if byte 8 is 0xFE; valid if byte 8 is 0xFC, the header is as above, and
 -- whole legal frames, the settled ones placed as said above, run to a tail that is all 0xFF or torn. .. Any other half is foreign."
 pub data BlockState : Type 0 where
   blank : BlockState
   inProgress : BlockState
-  valid : ℕ → List Frame → Tail → BlockState  -- creation time, frames, tail
+  valid : Journal → BlockState
   foreign : Fault → BlockState
 
 -- "a tail that is all 0xFF or torn": with any other the half is foreign
-abbrev pub ofTail : ℕ → List Frame → Tail → BlockState
-ofTail time fs clean = valid time fs clean
-ofTail time fs (cut n) = valid time fs (cut n)
-ofTail time fs (bad e) = foreign e
+abbrev pub ofTail : Journal → Tail → BlockState
+ofTail j clean = valid j
+ofTail j (cut n) = valid j
+ofTail j (bad e) = foreign e
+
+abbrev pub ofJournal : Journal → BlockState
+ofJournal j = ofTail j (j .tail)
 
 -- "the header is as above", and the frames run from its end
 abbrev pub ofHeader : List ℕ → Option Fault → BlockState
 ofHeader b (some e) = foreign e
-ofHeader b none = let s : Scan = scan 0 headerLen 0 (drop headerLen b) in ofTail (createdAt b) (s .frames) (s .tail)
+ofHeader b none = let s : Scan = scan 0 headerLen 0 (drop headerLen b) in ofJournal (journal (createdAt b) (s .frames) (s .tail))
 
 -- every block has exactly one state; byte 8 alone says in progress, whatever else stands there
 unfoldable pub blockState : List ℕ → BlockState
@@ -102,13 +114,13 @@ blockState b =
 abbrev pub framesIn : BlockState → List Frame
 framesIn blank = []
 framesIn inProgress = []
-framesIn (valid time fs t) = fs
+framesIn (valid j) = j .frames
 framesIn (foreign e) = []
 
 abbrev pub timeIn : BlockState → ℕ
 timeIn blank = 0
 timeIn inProgress = 0
-timeIn (valid time fs t) = time
+timeIn (valid j) = j .time
 timeIn (foreign e) = 0
 
 -- ---- a block made, document 01, "Transfer": "byte 8 to 0xFE, header bytes 0-3, .., inverse of (time + 1), byte 8 to 0xFC"

@@ -10,7 +10,7 @@ use Rattle.flash.specs.Raised.{Raised}
 use Rattle.frame.specs.Frame.{hostOf, idOf, Frame, change, commit, put}
 use Rattle.frame.specs.Reader.{clean}
 use Rattle.journal.specs.Replay.{State, state, object, entry, replay, settledOnly}
-use Rattle.journal.specs.Block.{validData, header, build, valid, blockState}
+use Rattle.journal.specs.Block.{validData, header, build, journal, valid, blockState}
 use Rattle.journal.specs.Room.{claimed, noRoom}
 
 -- ids 1 and 2 with 64 bytes and id 3 with n
@@ -36,5 +36,5 @@ pub record Examples : Type 0 where
   pub mount-drops : settledOnly (replay both) ≡ state (object (idOf 4) (0x10 ∷ []) ∷ object (idOf 9) (0x11 ∷ []) ∷ []) []
   -- K4: "A half-erased old half can still read as valid": one of time 3 as one of time 2
   pub half-erased : Raised (header 3 validData) (header 2 validData)
-  pub was-valid : blockState (header 3 validData) ≡ valid 3 [] clean
-  pub reads-valid : blockState (header 2 validData) ≡ valid 2 [] clean
+  pub was-valid : blockState (header 3 validData) ≡ valid (journal 3 [] clean)
+  pub reads-valid : blockState (header 2 validData) ≡ valid (journal 2 [] clean)

@@ -9,10 +9,10 @@ use lib.ListN.{length, getD}
 use Rattle.frame.specs.declared.Host.{Host}
 use Rattle.frame.specs.declared.ObjectId.{ObjectId}
 use Rattle.frame.specs.Frame.{Change, put, delete, Frame, change, commit, abort, settled, encodeAll, AllMayStand}
-use Rattle.frame.specs.Reader.{Tail}
 use Rattle.journal.specs.Replay.{Object, object, Entry, entry, State, state, insert, remove, lookup, changeAll, listOf, without, isOpen, replay, framesOf}
 use Rattle.journal.specs.Room.{used, claimed, openHosts}
 use Rattle.journal.specs.Index.{placesOf, valueAt}
+use Rattle.journal.specs.Block.{Journal}
 use Rattle.journal.specs.Sentences.{ValidBlock}
 
 -- ---- objects
@@ -169,9 +169,8 @@ pub record TakenFrom (fs : List Frame) (i : ObjectId) (v : List ℕ) (at : ℕ) 
 
 -- in a valid block, by the place that the table has for the id
 pub record PlaceExact : Type 0 where
-  pub found : (b : List ℕ) (t : ℕ) (fs : List Frame) (c : Tail) (i : ObjectId) (v : List ℕ) → ValidBlock b t fs c → i .0 ≤ 255
-      → lookup i (objectsAfter fs) ≡ some v
-      → (at : ℕ) × (valueAt b i (getD (placesOf fs) (i .0) 0) ≡ some (record { at = at; bytes = v })) × TakenFrom fs i v at
+  pub found : (b : List ℕ) (j : Journal) (i : ObjectId) (v : List ℕ) → ValidBlock b j → i .0 ≤ 255 → lookup i (objectsAfter (j .frames)) ≡ some v
+      → (at : ℕ) × (valueAt b i (getD (placesOf (j .frames)) (i .0) 0) ≡ some (record { at = at; bytes = v })) × TakenFrom (j .frames) i v at
   pub absent : (b : List ℕ) (fs : List Frame) (i : ObjectId) → i .0 ≤ 255 → lookup i (objectsAfter fs) ≡ none
       → valueAt b i (getD (placesOf fs) (i .0) 0) ≡ none
   -- the words settle the place

@@ -8,12 +8,12 @@ use lib.ListN.{length, getD}
 use Rattle.flash.specs.Bytes.{Bytes}
 use Rattle.flash.specs.Raised.{Raised}
 use Rattle.frame.specs.declared.Fault.{Fault}
-use Rattle.frame.specs.Frame.{Frame, encodeAll, AllMayStand, nextOf}
+use Rattle.frame.specs.Frame.{encodeAll, AllMayStand, nextOf}
 use Rattle.frame.specs.Reader.{Tail, clean, cut, bad}
 use Rattle.journal.specs.Faults.{FaultIn}
 use Rattle.frame.specs.Sentences.{Blank, Torn}
 use Rattle.journal.specs.Block.{headerLen, lastTime, stateAt, inTransfer, validData, header, createdAt}
-use Rattle.journal.specs.Block.{blank, inProgress, valid, foreign, blockState}
+use Rattle.journal.specs.Block.{Journal, blank, inProgress, valid, foreign, blockState}
 
 -- "A half is blank if every byte is 0xFF"
 abbrev pub BlankBlock : List ℕ → Type 0
@@ -31,36 +31,33 @@ TailIs next t (bad e) = ⊥
 
 -- "valid if byte 8 is 0xFC, the header is as above, and whole legal frames, the settled ones placed as said above, run to a tail that
 -- is all 0xFF or torn"; `header` has 0xFC in byte 8
-pub record ValidBlock (b : List ℕ) (t : ℕ) (fs : List Frame) (c : Tail) : Type 0 where
+pub record ValidBlock (b : List ℕ) (j : Journal) : Type 0 where
   pub rest : List ℕ
-  pub bytes : b ≡ header t validData ++ (encodeAll fs ++ rest)
-  pub time-lo : 1 ≤ t
-  pub time-hi : t ≤ lastTime
-  pub frames : AllMayStand 0 fs
-  pub tail : TailIs (nextOf 0 fs) rest c
+  pub bytes : b ≡ header (j .time) validData ++ (encodeAll (j .frames) ++ rest)
+  pub time-lo : 1 ≤ j .time
+  pub time-hi : j .time ≤ lastTime
+  pub frames : AllMayStand 0 (j .frames)
+  pub tail : TailIs (nextOf 0 (j .frames)) rest (j .tail)
 
 -- "Any other half is foreign."
 pub record ForeignBlock (b : List ℕ) : Type 0 where
   pub not-blank : BlankBlock b → ⊥
   pub not-in-progress : InProgressBlock b → ⊥
-  pub not-valid : (t : ℕ) (fs : List Frame) (c : Tail) → ValidBlock b t fs c → ⊥
+  pub not-valid : (j : Journal) → ValidBlock b j → ⊥
 
 -- every block of bytes that has a header is blank, in progress, valid or foreign exactly as the sentence says; its state being one,
 -- they exclude each other; a foreign one has the fault that document 02, K5, names
 pub record StatesExact : Type 0 where
   pub is-blank : (b : List ℕ) → Bytes b → headerLen ≤ length b → (blockState b ≡ blank) ↔ BlankBlock b
   pub is-in-progress : (b : List ℕ) → Bytes b → headerLen ≤ length b → (blockState b ≡ inProgress) ↔ InProgressBlock b
-  pub is-valid : (b : List ℕ) (t : ℕ) (fs : List Frame) (c : Tail) → Bytes b → headerLen ≤ length b
-      → (blockState b ≡ valid t fs c) ↔ ValidBlock b t fs c
+  pub is-valid : (b : List ℕ) (j : Journal) → Bytes b → headerLen ≤ length b → (blockState b ≡ valid j) ↔ ValidBlock b j
   pub is-foreign-at : (b : List ℕ) (e : Fault) → Bytes b → headerLen ≤ length b → (blockState b ≡ foreign e) ↔ (ForeignBlock b × FaultIn b e)
   pub is-foreign : (b : List ℕ) → Bytes b → headerLen ≤ length b → ((e : Fault) × (blockState b ≡ foreign e)) ↔ ForeignBlock b
 
 -- K4: "A half-erased old half can still read as valid, but its inverted time has only gained ones, so it never looks newer; show that."
 pub record NeverNewer : Type 0 where
-  pub of-valid : (old new : List ℕ) (t u : ℕ) (fs gs : List Frame) (c d : Tail) → Raised old new → blockState old ≡ valid t fs c
-      → blockState new ≡ valid u gs d → u ≤ t
+  pub of-valid : (old new : List ℕ) (j i : Journal) → Raised old new → blockState old ≡ valid j → blockState new ≡ valid i → i .time ≤ j .time
   -- by the bytes alone, whatever the half reads as
   pub of-any : (old new : List ℕ) → Raised old new → createdAt new ≤ createdAt old
   -- 0xFC has neither of its two low bits: with one of them in byte 8 a half isn't valid and never becomes so
-  pub stays-out : (old new : List ℕ) (u : ℕ) (gs : List Frame) (d : Tail) → Raised old new → 0 < getD old stateAt 0 % 4
-      → blockState new ≡ valid u gs d → ⊥
+  pub stays-out : (old new : List ℕ) (j : Journal) → Raised old new → 0 < getD old stateAt 0 % 4 → blockState new ≡ valid j → ⊥

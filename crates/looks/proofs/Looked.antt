@@ -33,10 +33,10 @@ told N img k a y h = go (stateAt N img k) refl
     go blank e = tt
     go inProgress e = tt
     go (foreign f) e = tt
-    go (valid t fs c) e =
+    go (valid w) e =
         let b : List ℕ = block (sizeOf N img) k img in
-        let x : Contents b t fs c = valid-inv b t fs c (bytes-block (sizeOf N img) k img y) (block-fits N img k a h .0) e in
-        record { needs = needs-is b t fs c x; some = x .layout .time-lo }
+        let x : Contents b w = valid-inv b w (bytes-block (sizeOf N img) k img y) (block-fits N img k a h .0) e in
+        record { needs = needs-is b w x; some = x .layout .time-lo }
 
 -- the state that a survey of block k tells of
 pub state-is : (N : ℕ) (img : List ℕ) (k s : ℕ) (b : List ℕ) → allowed N (length img) ≡ true → k < N → s ≡ sizeOf N img → b ≡ block s k img

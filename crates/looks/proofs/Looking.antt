@@ -10,13 +10,11 @@ use lib.Seq.{drop-cons, getD-set-same, getD-set-other}
 use borrow.Author.Tests.{eq-eqb, ne-eqb, lt-ltb, le-ltb, le-leb, lt-leb, ltb-true, ltb-false}
 use Rattle.flash.specs.Flash.{maxBlocks, numbersFrom}
 use Rattle.flash.proofs.Cases.{on-test}
-use Rattle.frame.specs.Frame.{Frame}
-use Rattle.frame.specs.Reader.{Tail}
-use Rattle.journal.specs.Block.{BlockState, blank, inProgress, valid, foreign, timeIn}
+use Rattle.journal.specs.Block.{Journal, BlockState, blank, inProgress, valid, foreign, timeIn}
 use Rattle.journal.specs.Index.{placesOf}
 use Rattle.survey.specs.Survey.{kindIn, surveyOf, placesIn}
 use Rattle.wire.specs.declared.Refusal.{Refusal}
-use Rattle.board.specs.Mount.{Found, isBlank, Store, storeIn, stores, sameTime, newest, tied, wipeList, endOf, upkeepOf, upkeep, transfers}
+use Rattle.board.specs.Mount.{Found, isBlank, Store, storeIn, stores, sameTime, newest, tied, wipeList, endOf, upkeepOf, upkeep, transfers, timeOf}
 use Rattle.board.specs.Mount.{orForeign, noneValid}
 use Rattle.looks.specs.declared.looks.Newest.{Newest}
 use Rattle.looks.specs.declared.looks.Tie.{Tie}
@@ -27,18 +25,18 @@ use Rattle.looks.specs.Seen.{othersIn, newestIn, tieIn, placesFor, noneS
 -- ---- the newest, with one more in front
 
 -- b is the newest of y and m, a that of x and m
-newer-of : (x y m a b : Store) → a ≡ cond (ltb (x .time) (m .time)) m x → b ≡ cond (ltb (y .time) (m .time)) m y
-    → cond (ltb (x .time) (y .time)) b a ≡ cond (ltb (x .time) (b .time)) b x
+newer-of : (x y m a b : Store) → a ≡ cond (ltb (timeOf x) (timeOf m)) m x → b ≡ cond (ltb (timeOf y) (timeOf m)) m y
+    → cond (ltb (timeOf x) (timeOf y)) b a ≡ cond (ltb (timeOf x) (timeOf b)) b x
 newer-of x y m a b p q =
-    rw (p, q) (on-test (ltb (y .time) (m .time))
-    (λ t. on-test (ltb (x .time) (y .time))
-    (λ u. rw (t, u, lt-ltb (x .time) (m .time) (omega (arith, ltb-true (y .time) (m .time) t, ltb-true (x .time) (y .time) u))))
+    rw (p, q) (on-test (ltb (timeOf y) (timeOf m))
+    (λ t. on-test (ltb (timeOf x) (timeOf y))
+    (λ u. rw (t, u, lt-ltb (timeOf x) (timeOf m) (omega (arith, ltb-true (timeOf y) (timeOf m) t, ltb-true (timeOf x) (timeOf y) u))))
     (λ u. rw (t, u)))
-    (λ t. on-test (ltb (x .time) (y .time))
+    (λ t. on-test (ltb (timeOf x) (timeOf y))
     (λ u. rw (t, u))
-    (λ u. rw (t, u, le-ltb (x .time) (m .time) (omega (arith, ltb-false (y .time) (m .time) t, ltb-false (x .time) (y .time) u))))))
+    (λ u. rw (t, u, le-ltb (timeOf x) (timeOf m) (omega (arith, ltb-false (timeOf y) (timeOf m) t, ltb-false (timeOf x) (timeOf y) u))))))
 
-newest-cons : (x y : Store) (ys : List Store) → newest x (y ∷ ys) ≡ cond (ltb (x .time) (newest y ys .time)) (newest y ys) x
+newest-cons : (x y : Store) (ys : List Store) → newest x (y ∷ ys) ≡ cond (ltb (timeOf x) (timeOf (newest y ys))) (newest y ys) x
 newest-cons x y [] = refl
 newest-cons x y (z ∷ zs) =
     newer-of x y (newest z zs) (newest x (z ∷ zs)) (newest y (z ∷ zs)) (newest-cons x z zs) (newest-cons y z zs)
@@ -48,52 +46,52 @@ kept x same =
     record {
       valid = true;
       number = x .number;
-      time = x .time;
-      end = endOf (x .frames);
+      time = timeOf x;
+      end = endOf (x .journal);
       moves = transfers (upkeep x);
       shared = same;
     }
 
 newest-more : (x : Store) (xs : List Store)
-    → cond (leb (newestIn xs .time) (x .time)) (kept x (sameTime (x .time) xs)) (newestIn xs) ≡ newestIn (x ∷ xs)
-newest-more x [] = rw (le-leb 0 (x .time) (omega arith), eq-eqb (x .time) (x .time) refl)
+    → cond (leb (newestIn xs .time) (timeOf x)) (kept x (sameTime (timeOf x) xs)) (newestIn xs) ≡ newestIn (x ∷ xs)
+newest-more x [] = rw (le-leb 0 (timeOf x) (omega arith), eq-eqb (timeOf x) (timeOf x) refl)
 newest-more x (y ∷ ys) = go (newest y ys) (newest x (y ∷ ys)) (newest-cons x y ys)
   where
-    go : (w v : Store) → v ≡ cond (ltb (x .time) (w .time)) w x
-        → cond (leb (w .time) (x .time)) (kept x (sameTime (x .time) (y ∷ ys))) (kept w (tied (w .time) (y ∷ ys))) ≡ kept v (tied (v .time) (x ∷ y ∷ ys))
+    go : (w v : Store) → v ≡ cond (ltb (timeOf x) (timeOf w)) w x
+        → cond (leb (timeOf w) (timeOf x)) (kept x (sameTime (timeOf x) (y ∷ ys))) (kept w (tied (timeOf w) (y ∷ ys))) ≡ kept v (tied (timeOf v) (x ∷ y ∷ ys))
     go w v e =
-        rw e (on-test (ltb (x .time) (w .time))
-        (λ t. let l = ltb-true (x .time) (w .time) t in
-        rw (t, lt-leb (w .time) (x .time) l, ne-eqb (w .time) (x .time) (λ q. omega arith)))
-        (λ t. rw (t, le-leb (w .time) (x .time) (ltb-false (x .time) (w .time) t), eq-eqb (x .time) (x .time) refl)))
+        rw e (on-test (ltb (timeOf x) (timeOf w))
+        (λ t. let l = ltb-true (timeOf x) (timeOf w) t in
+        rw (t, lt-leb (timeOf w) (timeOf x) l, ne-eqb (timeOf w) (timeOf x) (λ q. omega arith)))
+        (λ t. rw (t, le-leb (timeOf w) (timeOf x) (ltb-false (timeOf x) (timeOf w) t), eq-eqb (timeOf x) (timeOf x) refl)))
 
 -- the same by what was kept so far
 newer-is : (x : Store) (xs : List Store) {w : Newest} {m same : Bool} → w ≡ newestIn xs → m ≡ transfers (upkeep x)
-    → same ≡ sameTime (x .time) xs
-    → cond (leb (w .time) (x .time)) (record { valid = true; number = x .number; time = x .time; end = endOf (x .frames); moves = m; shared = same }) w
+    → same ≡ sameTime (timeOf x) xs
+    → cond (leb (w .time) (timeOf x)) (record { valid = true; number = x .number; time = timeOf x; end = endOf (x .journal); moves = m; shared = same }) w
     ≡ newestIn (x ∷ xs)
 newer-is x xs e f g = rw (e, f, g) (newest-more x xs)
 
 places-more : (p : List ℕ) (x : Store) (xs : List Store)
-    → cond (leb (newestIn xs .time) (x .time)) (placesOf (x .frames)) (placesFor p xs) ≡ placesFor p (x ∷ xs)
-places-more p x [] = rw (le-leb 0 (x .time) (omega arith))
+    → cond (leb (newestIn xs .time) (timeOf x)) (placesOf (x .journal .frames)) (placesFor p xs) ≡ placesFor p (x ∷ xs)
+places-more p x [] = rw (le-leb 0 (timeOf x) (omega arith))
 places-more p x (y ∷ ys) = go (newest y ys) (newest x (y ∷ ys)) (newest-cons x y ys)
   where
-    go : (w v : Store) → v ≡ cond (ltb (x .time) (w .time)) w x
-        → cond (leb (w .time) (x .time)) (placesOf (x .frames)) (placesOf (w .frames)) ≡ placesOf (v .frames)
+    go : (w v : Store) → v ≡ cond (ltb (timeOf x) (timeOf w)) w x
+        → cond (leb (timeOf w) (timeOf x)) (placesOf (x .journal .frames)) (placesOf (w .journal .frames)) ≡ placesOf (v .journal .frames)
     go w v e =
-        rw e (on-test (ltb (x .time) (w .time))
-        (λ t. rw (t, lt-leb (w .time) (x .time) (ltb-true (x .time) (w .time) t)))
-        (λ t. rw (t, le-leb (w .time) (x .time) (ltb-false (x .time) (w .time) t))))
+        rw e (on-test (ltb (timeOf x) (timeOf w))
+        (λ t. rw (t, lt-leb (timeOf w) (timeOf x) (ltb-true (timeOf x) (timeOf w) t)))
+        (λ t. rw (t, le-leb (timeOf w) (timeOf x) (ltb-false (timeOf x) (timeOf w) t))))
 
 places-is : (p : List ℕ) (x : Store) (xs : List Store) {w : Newest} {q : List ℕ} → w ≡ newestIn xs → q ≡ placesFor p xs
-    → cond (leb (w .time) (x .time)) (placesOf (x .frames)) q ≡ placesFor p (x ∷ xs)
+    → cond (leb (w .time) (timeOf x)) (placesOf (x .journal .frames)) q ≡ placesFor p (x ∷ xs)
 places-is p x xs e f = rw (e, f) (places-more p x xs)
 
-tie-more : (x : Store) (xs : List Store) (q : Tie) (same : Bool) → q ≡ tieIn xs → same ≡ sameTime (x .time) xs
+tie-more : (x : Store) (xs : List Store) (q : Tie) (same : Bool) → q ≡ tieIn xs → same ≡ sameTime (timeOf x) xs
     → tying q (x .number) same ≡ tieIn (x ∷ xs)
 unfolding tying
-tie-more x xs q same e f = rw (e, f) (on-test (sameTime (x .time) xs) (λ t. rw t) (λ t. rw t))
+tie-more x xs q same e f = rw (e, f) (on-test (sameTime (timeOf x) xs) (λ t. rw t) (λ t. rw t))
 
 -- ---- the arrays
 
@@ -130,26 +128,26 @@ others-above c j b skips k (suc n) h =
 kind-blank : (a : BlockState) → isBlankKind (kindIn a) ≡ isBlank a
 kind-blank blank = refl
 kind-blank inProgress = refl
-kind-blank (valid t fs c) = refl
+kind-blank (valid w) = refl
 kind-blank (foreign e) = refl
 
 why-more : (k : ℕ) (a : BlockState) {w n : Refusal} → w ≡ n → orForeignKind k (kindIn a) w ≡ orForeign k a n
 why-more k blank e = e
 why-more k inProgress e = e
-why-more k (valid t fs c) e = e
+why-more k (valid w) e = e
 why-more k (foreign f) e = refl
 
 -- ---- the blocks from k on, n of them
 
 -- what the bytes of a block say of a valid one: a survey tells whether a transfer is needed, and its time isn't 0
-pub record Told (t : ℕ) (fs : List Frame) (c : Tail) : Type 0 where
-  pub needs : transfers (upkeepOf fs c) ≡ needsIn (surveyOf (valid t fs c))
-  pub some : 0 < t
+pub record Told (w : Journal) : Type 0 where
+  pub needs : transfers (upkeepOf w) ≡ needsIn (surveyOf (valid w))
+  pub some : 0 < w .time
 
 abbrev pub Tells : BlockState → Type 0
 Tells blank = Unit {0}
 Tells inProgress = Unit {0}
-Tells (valid t fs c) = Told t fs c
+Tells (valid w) = Told w
 Tells (foreign e) = Unit {0}
 
 pub record Seeing (k n : ℕ) (xs : List Found) (p : List ℕ) (z : Seen) (q : List ℕ) : Type 0 where
@@ -217,8 +215,8 @@ module _ {k n : ℕ} {xs : List Found} {p : List ℕ} {z : Seen} {q : List ℕ} 
   seen-next blank d = seen-by blank (x .newest) (x .tie) (x .places) untimed
   seen-next inProgress d = seen-by inProgress (x .newest) (x .tie) (x .places) untimed
   seen-next (foreign e) d = seen-by (foreign e) (x .newest) (x .tie) (x .places) untimed
-  seen-next (valid t fs c) d =
-      let s : Store = record { number = k; time = t; frames = fs; tail = c } in
-      seen-by (valid t fs c) (newer-is s (stores xs) (x .newest) (sym (d .needs)) (x .times t (d .some)))
-      (tie-more s (stores xs) (z .tie) (hasTime t (drop (suc k) (z .times))) (x .tie) (x .times t (d .some)))
+  seen-next (valid w) d =
+      let s : Store = record { number = k; journal = w } in
+      seen-by (valid w) (newer-is s (stores xs) (x .newest) (sym (d .needs)) (x .times (w .time) (d .some)))
+      (tie-more s (stores xs) (z .tie) (hasTime (w .time) (drop (suc k) (z .times))) (x .tie) (x .times (w .time) (d .some)))
       (places-is p s (stores xs) (x .newest) (x .places)) (λ u l. refl)

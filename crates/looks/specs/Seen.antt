@@ -9,7 +9,7 @@ use Rattle.flash.specs.Flash.{maxBlocks, blockNumbers}
 use Rattle.survey.specs.declared.Survey.{Survey}
 use Rattle.journal.specs.Index.{placesOf}
 use Rattle.wire.specs.declared.Refusal.the-variants as refusal
-use Rattle.board.specs.Mount.{allFound, Store, stores, equalTimes, lowestTied, newest, tied, wipeList, wipeArray, endOf, upkeep, transfers, noneValid}
+use Rattle.board.specs.Mount.{allFound, Store, stores, equalTimes, lowestTied, newest, tied, wipeList, wipeArray, endOf, upkeep, transfers, noneValid, timeOf}
 use Rattle.looks.specs.declared.lists.Erases.{Erases}
 use Rattle.looks.specs.declared.looks.Newest.{Newest}
 use Rattle.looks.specs.declared.looks.Tie.{Tie}
@@ -41,10 +41,10 @@ newestIn (y ∷ ys) =
     record {
       valid = true;
       number = x .number;
-      time = x .time;
-      end = endOf (x .frames);
+      time = timeOf x;
+      end = endOf (x .journal);
       moves = transfers (upkeep x);
-      shared = tied (x .time) (y ∷ ys);
+      shared = tied (timeOf x) (y ∷ ys);
     }
 
 abbrev pub tieIn : List Store → Tie
@@ -53,7 +53,7 @@ tieIn xs = record { equal = equalTimes xs; lowest = lowestTied xs }
 -- its places; with no valid block they stay
 abbrev pub placesFor : List ℕ → List Store → List ℕ
 placesFor p [] = p
-placesFor p (y ∷ ys) = placesOf (newest y ys .frames)
+placesFor p (y ∷ ys) = placesOf (newest y ys .journal .frames)
 
 -- all that mount and format ask about the blocks of an image: p and q are the places before and after
 pub record Sees (N : ℕ) (img p : List ℕ) (z : Seen) (q : List ℕ) : Type 0 where

@@ -13,12 +13,13 @@ use Rattle.flash.specs.Flash.{block, sizeOf}
 use Rattle.flash.proofs.Cases.{on-test}
 use Rattle.flash.proofs.Image.{bytes-block}
 use Rattle.frame.specs.declared.Host.{Host}
-use Rattle.frame.specs.Frame.{Frame, hostMax, endLen}
-use Rattle.frame.specs.Reader.{clean, cut, bad}
-use Rattle.journal.specs.Block.{headerLen, BlockState, blank, inProgress, valid, foreign, blockState}
+use Rattle.frame.specs.Frame.{hostMax, endLen}
+use Rattle.frame.specs.Reader.{Tail, clean, cut, bad}
+use Rattle.journal.specs.Block.{Journal, headerLen, BlockState, blank, inProgress, valid, foreign, blockState}
 use Rattle.survey.specs.declared.Survey.{Survey}
-use Rattle.survey.specs.Survey.{surveyOf, stateOf}
+use Rattle.survey.specs.Survey.{tornLen, surveyOf, stateOf}
 use Rattle.survey.proofs.Surveying.{half-fits}
+use Rattle.journal.proofs.Blocks.{Okay}
 use Rattle.journal.proofs.States.{Contents, valid-inv}
 use Rattle.wire.specs.declared.Refusal.{Refusal}
 use Rattle.wire.specs.declared.Refusal.the-variants as refusal
@@ -31,7 +32,7 @@ use Rattle.board.specs.declared.Phase.the-variants.{Unmounted, Idle, Busy}
 use Rattle.board.specs.declared.Record.{Record}
 use Rattle.board.specs.Record.{allowed, refuse}
 use Rattle.board.specs.Mount.{endOf}
-use Rattle.board.specs.Queue.{Held, sameImage, held, heldBy, heldIn, heldIf, fitsRecord, serve, requestOn}
+use Rattle.board.specs.Queue.{sameImage, held, heldBy, heldIn, heldIf, fitsRecord, serve, requestOn}
 use Rattle.board.proofs.Outcomes.{request-length, request-host, request-busy, request-unmounted, request-stale, request-malformed, request-served}
 use Rattle.queue.specs.declared.requests.Gate.the-variants as gate
 use Rattle.queue.specs.declared.requests.Ask.{Ask}
@@ -40,6 +41,7 @@ use Rattle.queue.specs.Calls.{openIf, gateIn, gateOf, asRecorded, askIf,
 use Rattle.looks.proofs.Images.{block-fits}
 use Rattle.queue.proofs.Images.{same-inside}
 use Rattle.looks.proofs.Transfers.{cut-not}
+use Rattle.serving.specs.Calls.{openIn, claimedIn}
 use Rattle.serving.proofs.Rooms.{claimed-is, open-is}
 
 -- ---- the gate
@@ -108,26 +110,36 @@ module _ (N : ℕ) (img : List ℕ) (r : Record) (h : Host) where
 -- by its state: what the survey's test says
 data Holding (size end : ℕ) (s : BlockState) : Type 0 where
   holds-not : asRecorded size end (surveyOf s) ≡ false → heldIn size end s ≡ none → Holding size end s
-  holds-so : (x : Held) → asRecorded size end (surveyOf s) ≡ true → heldIn size end s ≡ some x → s ≡ valid (x .time) (x .frames) clean
+  holds-so : (x : Journal) → asRecorded size end (surveyOf s) ≡ true → heldIn size end s ≡ some x → s ≡ valid x
       → Holding size end s
 
-fits-is : {b : List ℕ} {t : ℕ} {fs : List Frame} (size end : ℕ) → Contents b t fs clean
-    → asRecorded size end (surveyOf (valid t fs clean)) ≡ fitsRecord size end fs
-unfolding asRecorded surveyOf
-fits-is {b} {t} {fs} size end x =
-    ap₂ (λ (n o : ℕ). eqb (endOf fs) end && leb (n + endLen * o) size) (sym (claimed-is x)) (sym (open-is x))
+-- of a valid block
+module _ {b : List ℕ} {w : Journal} (size end : ℕ) (x : Contents b w) where
+  abbrev survey : Survey
+  survey = surveyOf (valid w)
+
+  torn-is : (c : Tail) → w .tail ≡ c
+      → asRecorded size end survey ≡ (eqb (tornLen c) 0 && (eqb (endOf w) end && leb (claimedIn survey + endLen * openIn (survey .pending)) size))
+  unfolding asRecorded surveyOf
+  torn-is c e =
+      ap (λ (d : Tail). eqb (tornLen d) 0 && (eqb (endOf w) end && leb (claimedIn survey + endLen * openIn (survey .pending)) size)) e
+
+  fits-is : w .tail ≡ clean → asRecorded size end survey ≡ fitsRecord size end w
+  fits-is e = torn-is clean e ∙ ap₂ (λ (n o : ℕ). eqb (endOf w) end && leb (n + endLen * o) size) (sym (claimed-is x)) (sym (open-is x))
+
+  holding-valid : (c : Tail) → w .tail ≡ c → Okay c → Holding size end (valid w)
+  holding-valid clean e o =
+      on-test (fitsRecord size end w) (λ f. holds-so w (fits-is e ∙ f) (ap₂ (λ (t : Bool) (c : Tail). heldIf t c w) f e) refl)
+      (λ f. holds-not (fits-is e ∙ f) (ap₂ (λ (t : Bool) (c : Tail). heldIf t c w) f e))
+  holding-valid (cut n) e o =
+      holds-not (torn-is (cut n) e ∙ rw (ne-eqb n 0 (cut-not x e))) (ap (λ (c : Tail). heldIf (fitsRecord size end w) c w) e)
+  holding-valid (bad f) e o = absurd o
 
 holding : (size end : ℕ) (b : List ℕ) (s : BlockState) → blockState b ≡ s → Bytes b → headerLen ≤ length b → Holding size end s
 unfolding asRecorded surveyOf
 holding size end b blank e y l = holds-not refl refl
 holding size end b inProgress e y l = holds-not refl refl
-holding size end b (valid t fs clean) e y l =
-    let q : asRecorded size end (surveyOf (valid t fs clean)) ≡ fitsRecord size end fs = fits-is size end (valid-inv b t fs clean y l e) in
-    on-test (fitsRecord size end fs)
-    (λ f. holds-so (record { time = t; frames = fs }) (q ∙ f) (ap (λ (w : Bool). heldIf w t fs) f) refl)
-    (λ f. holds-not (q ∙ f) (ap (λ (w : Bool). heldIf w t fs) f))
-holding size end b (valid t fs (cut n)) e y l = holds-not (rw (ne-eqb n 0 (cut-not (valid-inv b t fs (cut n) y l e)))) refl
-holding size end b (valid t fs (bad w)) e y l = absurd (valid-inv b t fs (bad w) y l e .okay)
+holding size end b (valid w) e y l = let x : Contents b w = valid-inv b w y l e in holding-valid size end x (w .tail) refl (x .okay)
 holding size end b (foreign w) e y l = holds-not refl refl
 
 -- ---- the message
@@ -157,14 +169,14 @@ module _ (size end : ℕ) (s : Survey) (m : List ℕ) where
 
 -- a request that is served
 pub record Served (N : ℕ) (img : List ℕ) (r : Record) (h : Host) (m : List ℕ) (q : Request) : Type 0 where
-  pub held : Held
+  pub held : Journal
   pub serves : (reply : List ℕ) → requestOn N img r reply h m ≡ serve N img r reply h m held q
-  pub contents : Contents (block (sizeOf N img) (r .rest .block) img) (held .time) (held .frames) clean
-  pub state : blockState (block (sizeOf N img) (r .rest .block) img) ≡ valid (held .time) (held .frames) clean
+  pub contents : Contents (block (sizeOf N img) (r .rest .block) img) held
+  pub state : blockState (block (sizeOf N img) (r .rest .block) img) ≡ valid held
   pub says : parse m ≡ Is q
 
 module _ (N : ℕ) (img : List ℕ) (r : Record) (h : Host) (m : List ℕ) (y : Bytes img) (p : Passed N img r h) where
-  held-is : (o : Option Held) → heldIn (sizeOf N img) (r .rest .end) (blockState (block (sizeOf N img) (r .rest .block) img)) ≡ o → held N img r ≡ o
+  held-is : (o : Option Journal) → heldIn (sizeOf N img) (r .rest .end) (blockState (block (sizeOf N img) (r .rest .block) img)) ≡ o → held N img r ≡ o
   unfolding held
   held-is o e = ap (λ (t : Bool). heldBy N t img r) (p .same) ∙ e
 
@@ -190,7 +202,7 @@ module _ (N : ℕ) (img : List ℕ) (r : Record) (h : Host) (m : List ℕ) (y : 
   unfolding askOf
   unheard reply why e = go here-holds
     where
-      on-message : (x : Held) (s : Parsed) → held N img r ≡ some x → parse m ≡ s → askIf s ≡ ask.Refused why
+      on-message : (x : Journal) (s : Parsed) → held N img r ≡ some x → parse m ≡ s → askIf s ≡ ask.Refused why
           → requestOn N img r reply h m ≡ refuse why img r reply
       on-message x (Is q) w s z = absurd (ask-not q why z)
       on-message x Malformed w s z =
@@ -208,14 +220,14 @@ module _ (N : ℕ) (img : List ℕ) (r : Record) (h : Host) (m : List ℕ) (y : 
   unfolding askOf
   heard q e = go here-holds
     where
-      on-message : (x : Held) (s : Parsed) → held N img r ≡ some x → blockState (block (sizeOf N img) (r .rest .block) img) ≡ valid (x .time) (x .frames) clean
+      on-message : (x : Journal) (s : Parsed) → held N img r ≡ some x → blockState (block (sizeOf N img) (r .rest .block) img) ≡ valid x
           → parse m ≡ s → askIf s ≡ ask.Serve q → Served N img r h m q
       on-message x (Is a) w v s z =
           let n : a ≡ q = cc in
           record {
             held = x;
             serves = λ reply. request-served N img r reply h m (p .ok) (p .host) x q (p .idle) w (s ∙ ap Is n);
-            contents = valid-inv (block (sizeOf N img) (r .rest .block) img) (x .time) (x .frames) clean
+            contents = valid-inv (block (sizeOf N img) (r .rest .block) img) x
                 (bytes-block (sizeOf N img) (r .rest .block) img y) (looks .0) v;
             state = v;
             says = s ∙ ap Is n;

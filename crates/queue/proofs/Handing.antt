@@ -13,12 +13,11 @@ use Rattle.flash.specs.Flash.{block, sizeOf}
 use Rattle.frame.specs.declared.Host.{Host}
 use Rattle.frame.specs.declared.ObjectId.{ObjectId}
 use Rattle.frame.specs.Frame.{hostMax, idMax, Change, put, delete, Frame, change, commit, abort}
-use Rattle.frame.specs.Reader.{clean}
 use Rattle.survey.specs.declared.Survey.{Survey}
 use Rattle.fetch.specs.declared.Found.{Found}
 use Rattle.fetch.specs.declared.Found.the-variants as found
-use Rattle.journal.specs.Block.{valid, blockState, lastTime}
-use Rattle.journal.specs.Replay.{replay, lookup, isOpen}
+use Rattle.journal.specs.Block.{Journal, valid, blockState, lastTime}
+use Rattle.journal.specs.Replay.{lookup, isOpen}
 use Rattle.journal.specs.Room.{noRoom}
 use Rattle.journal.specs.Index.{placesOf, Value, valueAt}
 use Rattle.survey.specs.Survey.{surveyOf, placesIn}
@@ -39,8 +38,10 @@ use Rattle.wire.specs.Message.{parse, valueIn, pageLen}
 use Rattle.wire.proofs.Parsing.{InRange, in-range}
 use Rattle.board.specs.declared.Record.{Record}
 use Rattle.board.specs.Record.{allowed, noPlaces, noFrame, Stretch, noStretch, Out, refuse}
+use Rattle.board.specs.Mount.{replayOf}
 use Rattle.board.proofs.Images.{Sized, sized-of, sized-block}
-use Rattle.board.specs.Queue.{Held, needsRoom, append, serveChange, serveEnd, serveRead, serveLog, serve, stretchOf, requestOn, readOn}
+use Rattle.board.proofs.Replies.{standing-of}
+use Rattle.board.specs.Queue.{needsRoom, append, serveChange, serveEnd, serveRead, serveLog, serve, stretchOf, requestOn, readOn}
 use Rattle.queue.specs.declared.requests.Ask.{Ask}
 use Rattle.queue.specs.declared.requests.Ask.the-variants as ask
 use Rattle.job.specs.declared.Outcome.{Outcome}
@@ -52,14 +53,14 @@ use Rattle.serving.specs.Calls.{refused, keptOr, began, Asks, serveIn, replyIn,
 use Rattle.looks.proofs.Images.{block-length}
 use Rattle.queue.proofs.Images.{same-count, same-inside}
 use Rattle.queue.proofs.Asking.{Passed, Served, unheard, heard, refused-as, empty-as}
-use Rattle.serving.proofs.Answering.{journal, serve-is, reply-is}
+use Rattle.serving.proofs.Answering.{serve-is, reply-is}
 
 stretch-of : (start : ℕ) (o : Option Value) → stretchOf start o ≡ stretchAt start (foundOf o)
 stretch-of start none = refl
 stretch-of start (some x) = refl
 
-module _ (N : ℕ) (img : List ℕ) (r : Record) (reply : List ℕ) (h : Host) (x : Held)
-    (w : Contents (block (sizeOf N img) (r .rest .block) img) (x .time) (x .frames) clean) where
+module _ (N : ℕ) (img : List ℕ) (r : Record) (reply : List ℕ) (h : Host) (x : Journal)
+    (w : Contents (block (sizeOf N img) (r .rest .block) img) x) where
   cond-none : (t : Bool) (a b : Out) → a .stretch ≡ noStretch → b .stretch ≡ noStretch → cond t a b .stretch ≡ noStretch
   cond-none true a b p q = p
   cond-none false a b p q = q
@@ -70,17 +71,17 @@ module _ (N : ℕ) (img : List ℕ) (r : Record) (reply : List ℕ) (h : Host) (
 
   change-none : (c : Change) → serveChange N img r reply h x c .stretch ≡ noStretch
   unfolding serveChange
-  change-none c = cond-none (noRoom (sizeOf N img) (replay (x .frames)) h c) _ _ refl (append-none (change h c))
+  change-none c = cond-none (noRoom (sizeOf N img) (replayOf x) h c) _ _ refl (append-none (change h c))
 
   end-none : (f : Frame) → serveEnd N img r reply h x f .stretch ≡ noStretch
   unfolding serveEnd
-  end-none f = cond-none (isOpen h (replay (x .frames) .pending)) _ _ (append-none f) refl
+  end-none f = cond-none (isOpen h (replayOf x .pending)) _ _ (append-none f) refl
 
   log-none : (p : Page) → serveLog N img r reply x p .stretch ≡ noStretch
   unfolding serveLog
   log-none Summary = cond-none (ltb (length reply) pageLen) _ _ refl refl
 
-  read-found : (i : ObjectId) → i .0 ≤ idMax → (o : Option (List ℕ)) → lookup i (replay (x .frames) .objects) ≡ o
+  read-found : (i : ObjectId) → i .0 ≤ idMax → (o : Option (List ℕ)) → lookup i (replayOf x .objects) ≡ o
       → serveRead N img r reply x i o .stretch
       ≡ stretchAt (r .rest .block * sizeOf N img) (foundFor (block (sizeOf N img) (r .rest .block) img) (placesOf (x .frames)) (Read i))
   read-found i l none e =
@@ -98,11 +99,11 @@ module _ (N : ℕ) (img : List ℕ) (r : Record) (reply : List ℕ) (h : Host) (
   stretch-is m (Delete i) k = change-none (delete i)
   stretch-is m Commit k = end-none (commit h)
   stretch-is m Abort k = end-none (abort h)
-  stretch-is m (Read i) k = read-found i k (lookup i (replay (x .frames) .objects)) refl
+  stretch-is m (Read i) k = read-found i k (lookup i (replayOf x .objects)) refl
   stretch-is m (Log p) k = log-none p
 
   -- what was found says how a read is answered
-  read-answers : (i : ObjectId) → i .0 ≤ idMax → (o : Option (List ℕ)) → lookup i (replay (x .frames) .objects) ≡ o → (g : Found)
+  read-answers : (i : ObjectId) → i .0 ≤ idMax → (o : Option (List ℕ)) → lookup i (replayOf x .objects) ≡ o → (g : Found)
       → foundFor (block (sizeOf N img) (r .rest .block) img) (placesOf (x .frames)) (Read i) ≡ g → answerTo (Read i) g ≡ serveRead N img r reply x i o .answer
   read-answers i l none e g q =
       let z : valueAt (block (sizeOf N img) (r .rest .block) img) i (getD (placesOf (x .frames)) (i .0) 0) ≡ none =
@@ -110,7 +111,7 @@ module _ (N : ℕ) (img : List ℕ) (r : Record) (reply : List ℕ) (h : Host) (
       ap (answerTo (Read i)) (sym q ∙ ap foundOf z)
   read-answers i l (some v) e g q =
       let z : ValueStands (block (sizeOf N img) (r .rest .block) img) i (getD (placesOf (x .frames)) (i .0) 0) v =
-      place-law (block (sizeOf N img) (r .rest .block) img) (x .frames) i v (journal w) l e in
+      place-law (block (sizeOf N img) (r .rest .block) img) (x .frames) i v (standing-of w) l e in
       ap (answerTo (Read i)) (sym q ∙ ap foundOf (z .found))
 
   -- by what the message itself comes to, and the empty one
@@ -123,11 +124,11 @@ module _ (N : ℕ) (img : List ℕ) (r : Record) (reply : List ℕ) (h : Host) (
   answers-is m (Delete i) k s n g e = ap (answerTo (Delete i)) (sym e) ∙ sym n
   answers-is m Commit k s n g e = ap (answerTo Commit) (sym e) ∙ sym n
   answers-is m Abort k s n g e = ap (answerTo Abort) (sym e) ∙ sym n
-  answers-is m (Read i) k s n g e = read-answers i k (lookup i (replay (x .frames) .objects)) refl g e ∙ sym s
+  answers-is m (Read i) k s n g e = read-answers i k (lookup i (replayOf x .objects)) refl g e ∙ sym s
   answers-is m (Log p) k s n g e = ap (answerTo (Log p)) (sym e) ∙ sym n
 
   -- what is found lies in the block
-  found-in : (i : ObjectId) → i .0 ≤ idMax → (p n : ℕ) (o : Option (List ℕ)) → lookup i (replay (x .frames) .objects) ≡ o
+  found-in : (i : ObjectId) → i .0 ≤ idMax → (p n : ℕ) (o : Option (List ℕ)) → lookup i (replayOf x .objects) ≡ o
       → foundFor (block (sizeOf N img) (r .rest .block) img) (placesOf (x .frames)) (Read i) ≡ found.At p n → p + n ≤ length
       (block (sizeOf N img) (r .rest .block) img)
   found-in i l p n none e q =
@@ -138,7 +139,7 @@ module _ (N : ℕ) (img : List ℕ) (r : Record) (reply : List ℕ) (h : Host) (
       absurd (omega arith)
   found-in i l p n (some v) e q =
       let z : ValueStands (block (sizeOf N img) (r .rest .block) img) i (getD (placesOf (x .frames)) (i .0) 0) v =
-      place-law (block (sizeOf N img) (r .rest .block) img) (x .frames) i v (journal w) l e in
+      place-law (block (sizeOf N img) (r .rest .block) img) (x .frames) i v (standing-of w) l e in
       let y : found.At (z .at) (length v) ≡ found.At p n = sym (ap foundOf (z .found)) ∙ q in
       let a : z .at ≡ p = cc in
       let b : length v ≡ n = cc in
@@ -151,7 +152,7 @@ module _ (N : ℕ) (img : List ℕ) (r : Record) (reply : List ℕ) (h : Host) (
   found-inside m (Delete i) p n k e = let u : _≡_ {A = ℕ} 0 1 = cc in absurd (omega arith)
   found-inside m Commit p n k e = let u : _≡_ {A = ℕ} 0 1 = cc in absurd (omega arith)
   found-inside m Abort p n k e = let u : _≡_ {A = ℕ} 0 1 = cc in absurd (omega arith)
-  found-inside m (Read i) p n k e = found-in i k p n (lookup i (replay (x .frames) .objects)) refl e
+  found-inside m (Read i) p n k e = found-in i k p n (lookup i (replayOf x .objects)) refl e
   found-inside m (Log g) p n k e = let u : _≡_ {A = ℕ} 0 1 = cc in absurd (omega arith)
 
 -- a refused request, and a refused read
@@ -234,7 +235,7 @@ module _ {N : ℕ} {img : List ℕ} {r : Record} {h : Host} {m : List ℕ} {size
     low : h .0 ≤ hostMax
     low = leb-true (h .0) hostMax (l .passed .host)
 
-    survey-now : s ≡ surveyOf (valid (served .held .time) (served .held .frames) clean)
+    survey-now : s ≡ surveyOf (valid (served .held))
     survey-now = l .survey ∙ ap surveyOf (served .state)
 
     pub served-reply : (reply : List ℕ) → replyIn size s reply q ≡ requestOn N img r reply h m .reply

@@ -11,10 +11,10 @@ use Rattle.flash.specs.Bytes.{allFF, sameBytes}
 use Rattle.flash.specs.Flash.{numbersFrom, sizeIn, Step, applyAll, writes, block, sizeOf}
 use Rattle.flash.proofs.Blank.{bytes-replicate}
 use Rattle.flash.proofs.Cases.{and-left, and-right, clash}
-use Rattle.frame.specs.Frame.{Frame, encodeAll, total}
-use Rattle.frame.specs.Reader.{Tail, clean, match, readFrame, scan}
+use Rattle.frame.specs.Frame.{encodeAll, total}
+use Rattle.frame.specs.Reader.{clean, match, readFrame, scan}
 use Rattle.journal.specs.Replay.{insert, remove, lookup, changeAll, listOf, without, isOpen, replayFrom}
-use Rattle.journal.specs.Block.{BlockState, blank, valid, headerFault, blockState}
+use Rattle.journal.specs.Block.{Journal, journal, BlockState, blank, valid, headerFault, blockState}
 use Rattle.journal.specs.Room.{noRoom}
 use Rattle.journal.specs.Index.{sited, placesFrom, sinceFrom, valueAt, nextSettled, nextPending, nextLoad}
 use Rattle.wire.specs.declared.Answer.{Answer}
@@ -111,7 +111,7 @@ record Blindly : Type 0 where
   erased-is : stepsOn blindly 1 (blindly (empty .image) (empty .board) format) .image ≡ img
   first-blank : blockState (block (sizeOf 2 img) 0 img) ≡ blank
   second-blank : blockState (block (sizeOf 2 img) 1 img) ≡ blank
-  was-valid : blockState (block (sizeOf 2 (half 1 [] ++ blankHalf)) 0 (half 1 [] ++ blankHalf)) ≡ valid 1 [] clean
+  was-valid : blockState (block (sizeOf 2 (half 1 [] ++ blankHalf)) 0 (half 1 [] ++ blankHalf)) ≡ valid (journal 1 [] clean)
   allowed-length : allowed 2 (length img) ≡ true
 
 blindly-done : Blindly
@@ -128,16 +128,16 @@ formats-blindly p =
     (subst (λ (o : Out). Leaves 2 [] (o .image) 1 (stepsOn blindly 1 (blindly (o .image) (o .board) format) .image)) (blindly-done .formatted-is)
     (p img unmounted [] 1 (bytes-replicate 768) (blindly-done .allowed-length) tt (omega arith))))
   where
-    no-valid : {b : BlockState} {t : ℕ} {fs : List Frame} {c : Tail} → b ≡ blank → b ≡ valid t fs c → ⊥
+    no-valid : {b : BlockState} {x : Journal} → b ≡ blank → b ≡ valid x → ⊥
     no-valid e f = let w : _≡_ {A = ℕ} 0 1 = cc in omega arith
 
-    none : (k t : ℕ) (fs : List Frame) (c : Tail) → k < 2 → blockState (block (sizeOf 2 img) k img) ≡ valid t fs c → ⊥
-    none zero t fs c h e = no-valid (blindly-done .first-blank) e
-    none (suc zero) t fs c h e = no-valid (blindly-done .second-blank) e
-    none (suc (suc k)) t fs c h e = omega arith
+    none : (k : ℕ) (x : Journal) → k < 2 → blockState (block (sizeOf 2 img) k img) ≡ valid x → ⊥
+    none zero x h e = no-valid (blindly-done .first-blank) e
+    none (suc zero) x h e = no-valid (blindly-done .second-blank) e
+    none (suc (suc k)) x h e = omega arith
 
     go : Leaves 2 [] (empty .image) 1 img → ⊥
-    go (old-objects h y) = none (y .number) (y .time) (y .frames) (y .tail) (y .there) (y .is-valid)
+    go (old-objects h y) = none (y .number) (y .journal) (y .there) (y .is-valid)
     go (still-none h q n) = subst Empty (blindly-done .was-valid) (q 0 (omega arith))
     go (no-store l h n) = omega arith
     go (empty-store e y) = omega arith

@@ -9,10 +9,10 @@ use Rattle.flash.specs.Bytes.{allFF, sameBytes}
 use Rattle.flash.specs.Flash.{numbersFrom, sizeIn, applyAll, writes, block, sizeOf, withBlock, eraseBlock}
 use Rattle.flash.specs.Raised.{Raised}
 use Rattle.flash.proofs.Raising.{raises-raised}
-use Rattle.frame.specs.Frame.{Frame, idOf, settled, encodeAll, total}
+use Rattle.frame.specs.Frame.{idOf, settled, encodeAll, total}
 use Rattle.frame.specs.Reader.{clean, match, readFrame, scan}
-use Rattle.journal.specs.Replay.{Object, object, insert, remove, lookup, changeAll, listOf, without, isOpen, replay, replayFrom}
-use Rattle.journal.specs.Block.{valid, headerFault, blockState}
+use Rattle.journal.specs.Replay.{Object, object, insert, remove, lookup, changeAll, listOf, without, isOpen, replayFrom}
+use Rattle.journal.specs.Block.{Journal, journal, valid, headerFault, blockState}
 use Rattle.journal.specs.Room.{noRoom}
 use Rattle.journal.specs.Index.{sited, placesFrom, sinceFrom, valueAt, nextSettled, nextPending, nextLoad}
 use Rattle.wire.specs.declared.Answer.{Answer}
@@ -21,7 +21,7 @@ use Rattle.wire.specs.Message.{parse}
 use Rattle.board.specs.declared.Record.{Record}
 use Rattle.board.specs.Record.{allowed, unmounted, Out, rest, idle, noPlaces, noFrame}
 use Rattle.board.specs.Step.{enterAppend, enterDrop, enterCopy, enterOpen, enterWipe, advance, stepBusy, stepOn}
-use Rattle.board.specs.Mount.{mountAt, mountFound, mountOn, formatOrder, formatOn}
+use Rattle.board.specs.Mount.{mountAt, mountFound, mountOn, formatOrder, formatOn, replayOf}
 use Rattle.board.specs.Queue.{held, append, serveChange, serveEnd, serveLog, serve, requestOn}
 use Rattle.board.specs.Exec.{Call, step, mount, format, Machine}
 use Rattle.board.specs.Book.{Book, book, nothing, noLists, firstBook, enterCall}
@@ -30,7 +30,7 @@ use Rattle.board.specs.Claim.{Event, call, cutErase, Happens, Run, IdleAgrees, 
 use Rattle.board.specs.CutFormat.{Left, afterAll}
 use Rattle.refuted.specs.Wrong.{offBench, takesHalfErased}
 use Rattle.refuted.specs.WrongRuns.{half, blankHalf, putEmpty, commits, stepping}
-use Rattle.board.proofs.Erasing.{SameValid, same-valid}
+use Rattle.board.proofs.Erasing.{same-valid}
 use Rattle.board.proofs.Runs.{HappensAfter, run-rest}
 use Rattle.refuted.proofs.Refuting.{bytes-in}
 use Rattle.refuted.proofs.RefutingCut.{calls-then, img, empty, claimed-of, cut-at}
@@ -112,7 +112,7 @@ in-drop = tt
 record Mounted : Type 0 where
   image-is : m (mounted copied .image) (mounted copied .board) step .image ≡ fading ++ blankHalf
   board-is : m (mounted copied .image) (mounted copied .board) step .board ≡ idle (rest 2 767 0 16)
-  reads-as : blockState (block (sizeOf 2 (fading ++ blankHalf)) 0 (fading ++ blankHalf)) ≡ valid 2 [] clean
+  reads-as : blockState (block (sizeOf 2 (fading ++ blankHalf)) 0 (fading ++ blankHalf)) ≡ valid (journal 2 [] clean)
   size-is : sizeOf 2 copied ≡ 384
 
 taken : Mounted
@@ -154,8 +154,8 @@ happens =
 disagrees : {b : Book} → b .objects ≡ os → IdleAgrees 2 (fading ++ blankHalf) (idle (rest 2 767 0 16)) b → ⊥
 unfolding replayFrom
 disagrees {b} e y =
-    let v : SameValid (y .time) (y .frames) clean 2 [] clean = same-valid (sym (y .is-valid) ∙ taken .reads-as) in
-    let w : _≡_ {A = List Object} [] os = ap (λ (fs : List Frame). replay fs .objects) (sym (v .frames)) ∙ y .objects ∙ e in
+    let v : y .journal ≡ journal 2 [] clean = same-valid (sym (y .is-valid) ∙ taken .reads-as) in
+    let w : _≡_ {A = List Object} [] os = ap (λ (x : Journal). replayOf x .objects) (sym v) ∙ y .objects ∙ e in
     let n : _≡_ {A = ℕ} 0 1 = ap (λ (l : List Object). length l) w in omega arith
 
 -- a mount's step enters nothing

@@ -24,7 +24,8 @@ use Rattle.board.specs.declared.Cursor.{Cursor}
 use Rattle.board.specs.declared.Record.{Record}
 use Rattle.board.specs.Record.{allowed, unmounted, idle, cursor, inStage, Stretch, Out, out, refuse, answerOf}
 use Rattle.board.specs.Step.{begin}
-use Rattle.board.specs.Mount.{allFound, anyForeign, Store, stores, newest, equalTimes, noneValid, tiedTimes, storeAt, mountJob, mountAt, numbersBut, found}
+use Rattle.board.specs.Mount.{allFound, anyForeign, Store, stores, newest, equalTimes, noneValid, tiedTimes, storeAt, mountJob, mountAt, numbersBut}
+use Rattle.board.specs.Mount.{found, timeOf}
 use Rattle.board.specs.Queue.{held}
 use Rattle.board.specs.Table.{isNone}
 use Rattle.board.specs.Exec.{Call, request, step, mount, format, Family, exec}
@@ -258,7 +259,7 @@ abbrev pub lookAlike : List ℕ → Out → List Store → Out
 lookAlike img o [] = o
 lookAlike img o (x ∷ []) = o
 lookAlike img o (x ∷ y ∷ ys) =
-    cond (sameBytes (encodeAll (x .frames)) (encodeAll (y .frames))) (refuse (tiedTimes 0) img unmounted []) o
+    cond (sameBytes (encodeAll (x .journal .frames)) (encodeAll (y .journal .frames))) (refuse (tiedTimes 0) img unmounted []) o
 
 -- 3: "two valid halves of equal time": given for equal content too
 unfoldable pub refusesAlike : Wrongly
@@ -298,7 +299,7 @@ refusesHalfErased = mounts (λ N img o. accepted o (cond (anyForeign (allFound N
 abbrev pub nextInTime : ℕ → List ℕ → Out → List Store → Out
 nextInTime N img o [] = o
 nextInTime N img o (x ∷ []) = o
-nextInTime N img o (x ∷ y ∷ ys) = mountAt N img (allFound N img) (cond (eqb (y .time) (x .time + 1)) y x)
+nextInTime N img o (x ∷ y ∷ ys) = mountAt N img (allFound N img) (cond (eqb (timeOf y) (timeOf x + 1)) y x)
 
 -- K4: "its inverted time has only gained ones, so it never looks newer": a store that takes a half-erased half for the current one. In a
 -- run with no cut inside an erase two valid halves follow each other in time, and no call shows the difference

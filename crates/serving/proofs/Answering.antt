@@ -14,16 +14,15 @@ use Rattle.flash.proofs.Cases.{on-test}
 use Rattle.frame.specs.declared.Host.{Host}
 use Rattle.frame.specs.declared.ObjectId.{ObjectId}
 use Rattle.frame.specs.Frame.{hostMax, idMax, valueMax, Change, put, delete, Frame, change, commit, abort, frameLen, endLen}
-use Rattle.frame.specs.Reader.{clean}
 use Rattle.survey.specs.declared.Survey.{Survey}
-use Rattle.journal.specs.Block.{valid, headerLen, lastTime, header, validData}
-use Rattle.journal.specs.Replay.{replay, lookup, isOpen}
+use Rattle.journal.specs.Block.{Journal, valid, headerLen, lastTime}
+use Rattle.journal.specs.Replay.{lookup, isOpen}
 use Rattle.journal.specs.Room.{noRoom, spare}
 use Rattle.journal.specs.Index.{placesOf}
 use Rattle.survey.specs.Survey.{pendingBytes, surveyOf}
 use Rattle.survey.proofs.PerHost.{per-at, open-bytes}
 use Rattle.journal.proofs.States.{Contents}
-use Rattle.journal.proofs.Places.{Journal, ValueStands, place-law, no-place}
+use Rattle.journal.proofs.Places.{ValueStands, place-law, no-place}
 use Rattle.wire.specs.declared.Answer.{Answer}
 use Rattle.wire.specs.declared.Answer.the-variants.{Done, More}
 use Rattle.wire.specs.declared.Refusal.{Refusal}
@@ -42,7 +41,9 @@ use Rattle.board.specs.declared.Cursor.{Cursor}
 use Rattle.board.specs.declared.Rest.{Rest}
 use Rattle.board.specs.declared.Record.{Record}
 use Rattle.board.specs.Record.{noFrame, starting, Out, out, refuse, answerOf}
-use Rattle.board.specs.Queue.{Held, needsRoom, append, serveChange, serveEnd, serveRead, serveLog, serve}
+use Rattle.board.specs.Mount.{replayOf}
+use Rattle.board.specs.Queue.{needsRoom, append, serveChange, serveEnd, serveRead, serveLog, serve}
+use Rattle.board.proofs.Replies.{standing-of}
 use Rattle.job.specs.declared.records.Stepped.{Stepped}
 use Rattle.job.specs.Code.{leavesIf, LeadsTo, goAppend, goOpen, goWipe, begins}
 use Rattle.job.proofs.Entering.{wipe-leaves}
@@ -81,21 +82,10 @@ unfolding goWipe goOpen goAppend
 goes z s true n c l = (refl, refl)
 goes z s false n c l = rw (lt-ltb 0 n l) (refl, refl)
 
--- the frames of a valid block
-pub journal : {b : List ℕ} {t : ℕ} {fs : List Frame} → Contents b t fs clean → Journal b fs
-journal {t = t} w =
-    record {
-      head = header t validData;
-      rest = w .rest;
-      split = w .layout .is;
-      long = refl;
-      stand = w .layout .stands;
-    }
-
-module _ (N : ℕ) (img : List ℕ) (r : Record) (reply : List ℕ) (h : Host) (x : Held) (same : N ≡ r .rest .blocks)
-    (w : Contents (block (sizeOf N img) (r .rest .block) img) (x .time) (x .frames) clean) where
+module _ (N : ℕ) (img : List ℕ) (r : Record) (reply : List ℕ) (h : Host) (x : Journal) (same : N ≡ r .rest .blocks)
+    (w : Contents (block (sizeOf N img) (r .rest .block) img) x) where
   abbrev survey : Survey
-  survey = surveyOf (valid (x .time) (x .frames) clean)
+  survey = surveyOf (valid x)
 
   abbrev places : List ℕ
   places = placesOf (x .frames)
@@ -116,26 +106,26 @@ module _ (N : ℕ) (img : List ℕ) (r : Record) (reply : List ℕ) (h : Host) (
       (changeIn (sizeOf N img) (r .rest) survey h (frameLen (change h c)) (spare c)) (serveChange N img r reply h x c)
   unfolding serveChange changeIn
   change-is c =
-      rw (← no-room-is w (sizeOf N img) h c) (asks-if r _ _ (noRoom (sizeOf N img) (replay (x .frames)) h c)
+      rw (← no-room-is w (sizeOf N img) h c) (asks-if r _ _ (noRoom (sizeOf N img) (replayOf x) h c)
       (refusing r _ _ img reply refusal.NoRoom) (append-is (change h c)))
 
-  open-is : h .0 ≤ hostMax → isOpen h (replay (x .frames) .pending) ≡ ltb 0 (getD (survey .pending) (h .0) 0)
+  open-is : h .0 ≤ hostMax → isOpen h (replayOf x .pending) ≡ ltb 0 (getD (survey .pending) (h .0) 0)
   unfolding surveyOf
-  open-is l = open-bytes h (replay (x .frames) .pending) ∙ ap (ltb 0) (sym (per-at (λ g. pendingBytes g (replay (x .frames) .pending)) h l))
+  open-is l = open-bytes h (replayOf x .pending) ∙ ap (ltb 0) (sym (per-at (λ g. pendingBytes g (replayOf x .pending)) h l))
 
   end-is : (f : Frame) → frameLen f ≡ endLen → h .0 ≤ hostMax
       → Asks r places (bytesOf f) (endIn (sizeOf N img) (r .rest) survey h) (serveEnd N img r reply h x f)
   unfolding serveEnd endIn
   end-is f e l =
-      rw (← open-is l, ← e) (asks-if r _ _ (isOpen h (replay (x .frames) .pending)) (append-is f) (doing r _ _ img reply))
+      rw (← open-is l, ← e) (asks-if r _ _ (isOpen h (replayOf x .pending)) (append-is f) (doing r _ _ img reply))
 
-  read-is : (f : List ℕ) (i : ObjectId) → i .0 ≤ idMax → (o : Option (List ℕ)) → lookup i (replay (x .frames) .objects) ≡ o
+  read-is : (f : List ℕ) (i : ObjectId) → i .0 ≤ idMax → (o : Option (List ℕ)) → lookup i (replayOf x .objects) ≡ o
       → Asks r places f (readIn (r .rest) places i) (serveRead N img r reply x i o)
   unfolding readIn
   read-is f i l none e = rw (no-place (x .frames) i l e) (refusing r _ _ img reply refusal.NoObject)
   read-is f i l (some v) e =
       let z : ValueStands (block (sizeOf N img) (r .rest .block) img) i (getD (placesOf (x .frames)) (i .0) 0) v =
-      place-law (block (sizeOf N img) (r .rest .block) img) (x .frames) i v (journal w) l e in
+      place-law (block (sizeOf N img) (r .rest .block) img) (x .frames) i v (standing-of w) l e in
       rw (ne-eqb (getD (placesOf (x .frames)) (i .0) 0) 0 (λ q. omega (arith, z .past))) (record { answers = refl; gives = refl; rests = refl })
 
   log-is : (f : List ℕ) (p : Page) → Asks r places f (logIn (r .rest) reply) (serveLog N img r reply x p)
@@ -150,7 +140,7 @@ module _ (N : ℕ) (img : List ℕ) (r : Record) (reply : List ℕ) (h : Host) (
   serve-is m (Delete i) g k l = change-is (delete i)
   serve-is m Commit g k l = end-is (commit h) refl l
   serve-is m Abort g k l = end-is (abort h) refl l
-  serve-is m (Read i) g k l = read-is g i k (lookup i (replay (x .frames) .objects)) refl
+  serve-is m (Read i) g k l = read-is g i k (lookup i (replayOf x .objects)) refl
   serve-is m (Log p) g k l = log-is g p
 
   -- ---- the reply
@@ -165,11 +155,11 @@ module _ (N : ℕ) (img : List ℕ) (r : Record) (reply : List ℕ) (h : Host) (
 
   change-reply : (c : Change) → serveChange N img r reply h x c .reply ≡ reply
   unfolding serveChange
-  change-reply c = cond-reply (noRoom (sizeOf N img) (replay (x .frames)) h c) _ _ refl (append-reply (change h c))
+  change-reply c = cond-reply (noRoom (sizeOf N img) (replayOf x) h c) _ _ refl (append-reply (change h c))
 
   end-reply : (f : Frame) → serveEnd N img r reply h x f .reply ≡ reply
   unfolding serveEnd
-  end-reply f = cond-reply (isOpen h (replay (x .frames) .pending)) _ _ (append-reply f) refl
+  end-reply f = cond-reply (isOpen h (replayOf x .pending)) _ _ (append-reply f) refl
 
   read-reply : (i : ObjectId) (o : Option (List ℕ)) → serveRead N img r reply x i o .reply ≡ reply
   read-reply i none = refl
@@ -185,5 +175,5 @@ module _ (N : ℕ) (img : List ℕ) (r : Record) (reply : List ℕ) (h : Host) (
   reply-is m (Delete i) = change-reply (delete i)
   reply-is m Commit = end-reply (commit h)
   reply-is m Abort = end-reply (abort h)
-  reply-is m (Read i) = read-reply i (lookup i (replay (x .frames) .objects))
+  reply-is m (Read i) = read-reply i (lookup i (replayOf x .objects))
   reply-is m (Log p) = log-reply p

@@ -7,11 +7,11 @@ use lib.Dec.{eqb, ltb}
 use borrow.Author.Tests.{eqb-true, eqb-false}
 use Rattle.flash.proofs.Cases.{on-test}
 use Rattle.frame.specs.declared.Host.{Host}
-use Rattle.frame.specs.Frame.{hostOf, Change, Frame, change, frameLen, endLen}
-use Rattle.frame.specs.Reader.{Tail}
-use Rattle.journal.specs.Replay.{Entry, entry, replay, isOpen}
-use Rattle.journal.specs.Block.{valid}
-use Rattle.journal.specs.Room.{claimed, openHosts, spare, noRoom}
+use Rattle.frame.specs.Frame.{hostOf, Change, change, frameLen, endLen}
+use Rattle.board.specs.Mount.{replayOf, claimedOf}
+use Rattle.journal.specs.Replay.{Entry, entry, isOpen}
+use Rattle.journal.specs.Block.{Journal, valid}
+use Rattle.journal.specs.Room.{openHosts, spare, noRoom}
 use Rattle.survey.specs.Survey.{pendingBytes, perHost, surveyOf}
 use Rattle.survey.proofs.PerHost.{open-bytes, open-count, claimed-bytes}
 use Rattle.journal.proofs.Lists.{open-snoc, open-snoc-other}
@@ -40,17 +40,17 @@ open-with h es c = cc (open-more h (hostOf 0) es c, open-more h (hostOf 1) es c,
 
 -- ---- a valid block
 
-module _ {b : List ℕ} {t : ℕ} {fs : List Frame} {c : Tail} (x : Contents b t fs c) where
-  pub claimed-is : claimed (replay fs) ≡ claimedIn (surveyOf (valid t fs c))
+module _ {b : List ℕ} {w : Journal} (x : Contents b w) where
+  pub claimed-is : claimedOf w ≡ claimedIn (surveyOf (valid w))
   unfolding surveyOf
-  claimed-is = claimed-bytes fs (x .layout .stands)
+  claimed-is = claimed-bytes (w .frames) (x .layout .stands)
 
-  pub open-is : openHosts (replay fs .pending) ≡ openIn (surveyOf (valid t fs c) .pending)
+  pub open-is : openHosts (replayOf w .pending) ≡ openIn (surveyOf (valid w) .pending)
   unfolding surveyOf
-  open-is = open-hosts (replay fs .pending)
+  open-is = open-hosts (replayOf w .pending)
 
   pub no-room-is : (size : ℕ) (h : Host) (d : Change)
-      → noRoom size (replay fs) h d ≡ noRoomIn size (surveyOf (valid t fs c)) h (frameLen (change h d)) (spare d)
+      → noRoom size (replayOf w) h d ≡ noRoomIn size (surveyOf (valid w)) h (frameLen (change h d)) (spare d)
   unfolding noRoom noRoomIn surveyOf
   no-room-is size h d =
-      ap₂ (λ (n o : ℕ). ltb size (n + frameLen (change h d) + endLen * o + spare d)) claimed-is (open-with h (replay fs .pending) d)
+      ap₂ (λ (n o : ℕ). ltb size (n + frameLen (change h d) + endLen * o + spare d)) claimed-is (open-with h (replayOf w .pending) d)

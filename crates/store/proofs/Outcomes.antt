@@ -20,7 +20,7 @@ use Rattle.board.specs.declared.Cursor.{Cursor}
 use Rattle.board.specs.declared.Rest.{Rest}
 use Rattle.board.specs.Record.{allowed, noPlaces, noMarks, noFrame, unmounted, rest, starting, busyWith, Out, refuse}
 use Rattle.board.specs.Step.{first, begin}
-use Rattle.board.specs.Mount.{nextBlock, Found, allFound, Store, stores, equalTimes, newest, tied, wipeList, upkeep, transfers, noneValid, lowestTied}
+use Rattle.board.specs.Mount.{nextBlock, Found, allFound, Store, stores, equalTimes, newest, tied, wipeList, upkeep, transfers, noneValid, lowestTied, timeOf}
 use Rattle.board.specs.Mount.{tiedTimes, mountAt, mountStores, mountOn, numbersBut, orderFor, formatOrder, formatOn}
 use Rattle.board.proofs.Images.{Sized, sized-of, sized-block}
 use Rattle.board.proofs.Found.{Among, newest-among, among-holds}
@@ -111,19 +111,19 @@ module _ (N : ℕ) (img p : List ℕ) where
       cond (w .valid) (cond (t .equal) (refused (tiedTimes (t .lowest))) (mountIn N l w (erasesOf (others (w .number))))) (refused why)
 
   mount-with : (xs : List Found) (y : Store) (ys : List Store)
-      → Came (placesOf (newest y ys .frames)) (mountIn N l (newestIn (y ∷ ys)) (erasesOf (wipeList (newest y ys .number) xs)))
+      → Came (placesOf (newest y ys .journal .frames)) (mountIn N l (newestIn (y ∷ ys)) (erasesOf (wipeList (newest y ys .number) xs)))
       (mountAt N img xs (newest y ys))
   unfolding mountIn mountAt noFrame
   mount-with xs y ys =
       let x : Store = newest y ys in
-      came-if (placesOf (x .frames)) (transfers (upkeep x) && eqb (x .time) lastTime) (refusing img _ refusal.Worn)
-      (beginning img (placesOf (x .frames)) _ _ _)
+      came-if (placesOf (x .journal .frames)) (transfers (upkeep x) && eqb (timeOf x) lastTime) (refusing img _ refusal.Worn)
+      (beginning img (placesOf (x .journal .frames)) _ _ _)
 
   mounts-stores : (xs : List Found) (ys : List Store) (others : ℕ → List ℕ) → ((c : ℕ) → others c ≡ wipeList c xs)
       → Came (placesFor p ys) (kept (newestIn ys) (tieIn ys) (noneValid xs) others) (mountStores N img xs ys)
   mounts-stores xs [] others e = refusing img p (noneValid xs)
   mounts-stores xs (y ∷ ys) others e =
-      rw (e (newest y ys .number)) (came-if (placesOf (newest y ys .frames)) (equalTimes (y ∷ ys)) (refusing img _ (tiedTimes (lowestTied (y ∷ ys))))
+      rw (e (newest y ys .number)) (came-if (placesOf (newest y ys .journal .frames)) (equalTimes (y ∷ ys)) (refusing img _ (tiedTimes (lowestTied (y ∷ ys))))
       (mount-with xs y ys))
 
   pub mount-is : {z : Seen} {q : List ℕ} → allowed N (length img) ≡ true → Sees N img p z q
@@ -161,7 +161,7 @@ order-none N = rw (le-ltb N N (omega arith)) (append-nil (numbersBut N (blockNum
 order-stores : (N : ℕ) (ys : List Store) → ((x : Store) → Among x ys → x .number < N) → orderFor N ys ≡ orderBy N (lastErased N (newestIn ys))
 order-stores N [] h = sym (order-none N)
 order-stores N (y ∷ ys) h =
-    on-test (tied (newest y ys .time) (y ∷ ys))
+    on-test (tied (timeOf (newest y ys)) (y ∷ ys))
     (λ t. rw t (sym (order-none N)))
     (λ t. rw (t, lt-ltb (newest y ys .number) N (h (newest y ys) (newest-among y ys))))
 

@@ -24,13 +24,13 @@ use Rattle.survey.specs.declared.BlockKind.{BlockKind}
 use Rattle.survey.specs.declared.BlockKind.the-variants as kind
 use Rattle.survey.specs.declared.Survey.{Survey}
 use Rattle.journal.specs.Replay.{Object, lookup, listOf, replay, replayFrom, settledFrame}
-use Rattle.journal.specs.Block.{headerLen, blockMax, stateAt, inTransfer, createdAt, headerFault, BlockState, blank, inProgress, valid, foreign, ofTail}
-use Rattle.journal.specs.Block.{ofHeader, blockState}
+use Rattle.journal.specs.Block.{headerLen, blockMax, stateAt, inTransfer, createdAt, headerFault, Journal, journal, BlockState, blank, inProgress, valid}
+use Rattle.journal.specs.Block.{foreign, ofJournal, ofHeader, blockState}
 use Rattle.journal.specs.Index.{sited, placesFrom, placesOf, sinceFrom, sinceOf}
 use Rattle.survey.specs.Survey.{pendingOf, tornLen, surveyOf, placesIn, stateOf}
 use Rattle.survey.specs.Pass.{headerOf, progressOf, tailOf, walkOf, settledAt, emptySurvey, foundSurvey}
 use Rattle.journal.proofs.Replaying.{rising-to, Sound, sound-replay}
-use Rattle.journal.proofs.Places.{Journal, place-value}
+use Rattle.journal.proofs.Places.{Standing, place-value}
 use Rattle.survey.proofs.Collecting.{collect}
 
 -- ---- no frames
@@ -134,26 +134,29 @@ module _ (b : List ℕ) (h : headerLen ≤ length b) where
   abbrev fs : List Frame
   fs = frames-scan .frames
 
-  scanned : Scanned 0 headerLen (drop headerLen b) frames-scan
-  scanned = scan-inv 0 headerLen (drop headerLen b)
+  whole : Scanned 0 headerLen (drop headerLen b) frames-scan
+  whole = scan-inv 0 headerLen (drop headerLen b)
 
-  journal : Journal b fs
-  journal =
+  standing : Standing b fs
+  standing =
       record {
         head = take headerLen b;
-        rest = scanned .rest;
-        split = sym (take-append-drop headerLen b) ∙ ap (λ (x : List ℕ). take headerLen b ++ x) (scanned .is);
+        rest = whole .rest;
+        split = sym (take-append-drop headerLen b) ∙ ap (λ (x : List ℕ). take headerLen b ++ x) (whole .is);
         long = length-take-le headerLen b h;
-        stand = scanned .stands;
+        stand = whole .stands;
       }
 
   settled-all : settledAt b (placesOf fs) 256 0 ≡ map settledFrame (replay fs .objects)
   settled-all =
-      let k : Sound (nextOf 0 fs) (replay fs) = sound-replay fs (scanned .stands) in
+      let k : Sound (nextOf 0 fs) (replay fs) = sound-replay fs (whole .stands) in
       collect b (placesOf fs) 256 0 (replay fs .objects) (omega arith) (rising-to 0 (replay fs .objects) (nextOf 0 fs) 256 (k .low) (k .rising))
-      (λ j u w. place-value b fs (record { 0 = j }) journal w)
+      (λ j u w. place-value b fs (record { 0 = j }) standing w)
 
-  survey-found : (c : Tail) → foundSurvey b (placesOf fs) (progressOf fs) (tornLen c) ≡ surveyOf (valid (createdAt b) fs c)
+  abbrev read : Tail → Journal
+  read c = journal (createdAt b) fs c
+
+  survey-found : (c : Tail) → foundSurvey b (placesOf fs) (progressOf fs) (tornLen c) ≡ surveyOf (valid (read c))
   unfolding foundSurvey surveyOf
   survey-found c =
       ap₂
@@ -173,10 +176,10 @@ module _ (b : List ℕ) (h : headerLen ≤ length b) where
     tail-is : tailOf (frames-scan .tail) ≡ w .tail
     tail-is = ap (λ (x : Walk). x .tail) (sym e)
 
-    right-valid : (c : Tail) → frames-scan .tail ≡ c → ofTail (createdAt b) fs c ≡ valid (createdAt b) fs c → r ≡ foundSurvey b t (w .progress) (tornLen c)
+    right-valid : (c : Tail) → frames-scan .tail ≡ c → ofJournal (read c) ≡ valid (read c) → r ≡ foundSurvey b t (w .progress) (tornLen c)
         → Right (ofHeader b none) r t
     right-valid c q o u =
-        subst (λ (s : BlockState). Right s r t) (sym (ap (ofTail (createdAt b) fs) q ∙ o))
+        subst (λ (s : BlockState). Right s r t) (sym (ap (λ (x : Tail). ofJournal (read x)) q ∙ o))
         (u ∙ ap₂ (λ (x : List ℕ) (y : Progress). foundSurvey b x y (tornLen c)) p (ap (λ (x : Walk). x .progress) e) ∙ survey-found c, p)
 
     pub right-clean : w .tail ≡ tail.Clean → r ≡ foundSurvey b t (w .progress) 0 → Right (ofHeader b none) r t
@@ -198,13 +201,13 @@ module _ (b : List ℕ) (h : headerLen ≤ length b) where
     -- a torn frame would fit
     pub cut-fits : (n : ℕ) → w .tail ≡ tail.Cut n → n ≤ length b
     cut-fits n q =
-        let y : Torn (nextOf 0 fs) (scanned .rest) n =
-        tail-cut (nextOf 0 fs) (headerLen + total fs) (scanned .rest) n (scanned .tail ∙ ap ends (cut-is n (frames-scan .tail) (tail-is ∙ q))) in
-        omega (arith, y .would-fit, y .long, scan-length 0 headerLen (drop headerLen b) frames-scan scanned, length-drop headerLen b)
+        let y : Torn (nextOf 0 fs) (whole .rest) n =
+        tail-cut (nextOf 0 fs) (headerLen + total fs) (whole .rest) n (whole .tail ∙ ap ends (cut-is n (frames-scan .tail) (tail-is ∙ q))) in
+        omega (arith, y .would-fit, y .long, scan-length 0 headerLen (drop headerLen b) frames-scan whole, length-drop headerLen b)
 
     -- the table is cleared again
     pub right-bad : (x : Fault) (u : List ℕ) → w .tail ≡ tail.Bad x → r ≡ emptySurvey (kind.Foreign x) → u ≡ placesOf [] → Right (ofHeader b none) r u
-    right-bad x u q v z = empty-right (empty-foreign x) (ap (ofTail (createdAt b) fs) (go (frames-scan .tail) (tail-is ∙ q))) v z
+    right-bad x u q v z = empty-right (empty-foreign x) (ap (λ (c : Tail). ofJournal (read c)) (go (frames-scan .tail) (tail-is ∙ q))) v z
       where
         go : (c : Tail) → tailOf c ≡ tail.Bad x → c ≡ bad x
         go clean z = let y : _≡_ {A = ℕ} 0 1 = cc in absurd (omega arith)

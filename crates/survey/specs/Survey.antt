@@ -31,7 +31,7 @@ pendingOf fs = perHost (λ h. pendingBytes h (replay fs .pending))
 abbrev pub kindIn : BlockState → BlockKind
 kindIn blank = kind.Blank
 kindIn inProgress = kind.InProgress
-kindIn (valid t fs c) = kind.Valid
+kindIn (valid x) = kind.Valid
 kindIn (foreign e) = kind.Foreign e
 
 abbrev pub tornLen : Tail → ℕ
@@ -42,7 +42,7 @@ tornLen (bad e) = 0
 abbrev pub tornIn : BlockState → ℕ
 tornIn blank = 0
 tornIn inProgress = 0
-tornIn (valid t fs c) = tornLen c
+tornIn (valid x) = tornLen (x .tail)
 tornIn (foreign e) = 0
 
 -- a block that isn't valid has no frames
