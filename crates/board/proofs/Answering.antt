@@ -6,7 +6,6 @@ use mathlib.Core.Option.{Option, none, some}
 use Prim.Native.Nat.{ℕ, suc, _+_, _*_}
 use native.Mathlib.Omega.{arith}
 use lib.ListN.{length, getD}
-use Rattle.flash.specs.Flash.{sizeOf}
 use Rattle.frame.specs.declared.Fault.{Fault}
 use Rattle.frame.specs.declared.ObjectId.{ObjectId}
 use Rattle.frame.specs.Frame.{Frame}
@@ -26,6 +25,7 @@ use Rattle.board.specs.declared.Phase.the-variants.{Unmounted, Idle, Bus
 use Rattle.board.specs.declared.Record.{Record}
 use Rattle.board.specs.Record.{Stretch, Out, answerIn, answerOf}
 use Rattle.board.specs.Demand2.{Accepted}
+use Rattle.board.specs.Queue.{Asking, sizeFor}
 use Rattle.board.specs.Table.{Line, Exactly, InJob}
 use Rattle.board.specs.Promise.{Tells, Stands, HandsBack}
 
@@ -173,21 +173,20 @@ some-value e = cc
 taken-value : {fs : List Frame} {i : ObjectId} {v : List ℕ} {at : ℕ} → TakenFrom fs i v at → lookup i (replay fs .objects) ≡ some v
 taken-value {fs} {i} {v} y = ap (λ (gs : List Frame). lookup i (replay gs .objects)) (y .stands) ∙ y .taken v
 
-same-stands : {N : ℕ} (img : List ℕ) (r : Record) (x : Journal) (i : ObjectId) (st su : Stretch) → Stands N img r x i st → Stands N img r x i su → st ≡ su
-same-stands {N} img r x i st su y z =
+same-stands : (a : Asking) (x : Journal) (i : ObjectId) (st su : Stretch) → Stands a x i st → Stands a x i su → st ≡ su
+same-stands a x i st su y z =
     let e : y .value ≡ z .value = some-value (sym (taken-value (y .from)) ∙ taken-value (z .from)) in
     let g : TakenFrom (x .frames) i (z .value) (y .at) = subst (λ (v : List ℕ). TakenFrom (x .frames) i v (y .at)) e (y .from) in
     let f : y .at ≡ z .at = place-exact .once (x .frames) i (z .value) (y .at) (z .at) g (z .from) in
-    y .is ∙ ap₂ (λ (a : ℕ) (v : List ℕ). stretchAt (r .rest .block * sizeOf N img + a) (length v)) f e ∙ sym (z .is)
+    y .is ∙ ap₂ (λ (n : ℕ) (v : List ℕ). stretchAt (a .board .rest .block * sizeFor a + n) (length v)) f e ∙ sym (z .is)
   where
     stretchAt : ℕ → ℕ → Stretch
     stretchAt a n = record { at = a; size = n }
 
-pub same-stretch : (N : ℕ) (img : List ℕ) (r : Record) (x : Journal) (q : Request) (st su : Stretch) → HandsBack N img r x q st → HandsBack N img r x q su
-    → st ≡ su
-same-stretch N img r x (Put i) st su e f = e ∙ sym f
-same-stretch N img r x (Delete i) st su e f = e ∙ sym f
-same-stretch N img r x Commit st su e f = e ∙ sym f
-same-stretch N img r x Abort st su e f = e ∙ sym f
-same-stretch N img r x (Read i) st su e f = same-stands img r x i st su e f
-same-stretch N img r x (Log p) st su e f = e ∙ sym f
+pub same-stretch : (a : Asking) (x : Journal) (q : Request) (st su : Stretch) → HandsBack a x q st → HandsBack a x q su → st ≡ su
+same-stretch a x (Put i) st su e f = e ∙ sym f
+same-stretch a x (Delete i) st su e f = e ∙ sym f
+same-stretch a x Commit st su e f = e ∙ sym f
+same-stretch a x Abort st su e f = e ∙ sym f
+same-stretch a x (Read i) st su e f = same-stands a x i st su e f
+same-stretch a x (Log p) st su e f = e ∙ sym f

@@ -2,7 +2,7 @@
 use mathlib.Core.List.{List, [], _∷_}
 use mathlib.Core.Option.{Option, none, some}
 use mathlib.Core.Bool.{Bool, true, false, _&&_, _||_, not}
-use Prim.Native.Nat.{ℕ, suc}
+use Prim.Native.Nat.{ℕ}
 use lib.Dec.{eqb, ltb}
 use lib.ListN.{length}
 use Rattle.flash.specs.Flash.{sizeOf, within}
@@ -25,9 +25,8 @@ use Rattle.board.specs.declared.Phase.the-variants.{Unmounted, Idle, Bus
 use Rattle.board.specs.declared.Record.{Record}
 use Rattle.board.specs.Record.{allowed}
 use Rattle.board.specs.Step.{sameShape, action}
-use Rattle.board.specs.Mount.{allFound, anyForeign, stores, Store, equalTimes, newest, upkeep, transfers, Found, noneValid, lowestTied, tiedTimes}
-use Rattle.board.specs.Mount.{replayOf, timeOf}
-use Rattle.board.specs.Queue.{held, needsRoom}
+use Rattle.board.specs.Mount.{allFound, anyForeign, stores, Store, equalTimes, newest, upkeep, transfers, Found, noneValid, lowestTied, tiedTimes, replayOf, timeOf}
+use Rattle.board.specs.Queue.{Asking, asking, sizeFor, heldFor, movesFor}
 use Rattle.board.specs.Exec.{Call, request, step, mount, format}
 use Rattle.board.specs.Table.{isNone, isBusy, frameFor}
 
@@ -66,13 +65,13 @@ noObject x Abort = false
 noObject x (Read i) = isNone (lookup i (replayOf x .objects))
 noObject x (Log p) = false
 
-abbrev pub shortReply : List ℕ → Request → Bool
-shortReply reply (Put i) = false
-shortReply reply (Delete i) = false
-shortReply reply Commit = false
-shortReply reply Abort = false
-shortReply reply (Read i) = false
-shortReply reply (Log p) = ltb (length reply) pageLen
+abbrev pub shortReply : Asking → Request → Bool
+shortReply a (Put i) = false
+shortReply a (Delete i) = false
+shortReply a Commit = false
+shortReply a Abort = false
+shortReply a (Read i) = false
+shortReply a (Log p) = ltb (length (a .reply)) pageLen
 
 -- 7: "the room rule". "Commit and abort are never refused for room."
 abbrev pub roomRule : ℕ → Host → List ℕ → Journal → Request → Bool
@@ -83,29 +82,32 @@ roomRule size h m x Abort = false
 roomRule size h m x (Read i) = false
 roomRule size h m x (Log p) = false
 
+abbrev pub noRoomFor : Asking → Journal → Request → Bool
+noRoomFor a x q = roomRule (sizeFor a) (a .host) (a .message) x q
+
 -- 6: "a transfer is needed .. at time 4,294,967,295"
-abbrev pub worn : ℕ → List ℕ → Record → Journal → Option Frame → Bool
-worn N img r x none = false
-worn N img r x (some f) = needsRoom N img r f && eqb (x .time) lastTime
+abbrev pub worn : Asking → Journal → Option Frame → Bool
+worn a x none = false
+worn a x (some f) = movesFor a f && eqb (x .time) lastTime
 
 -- 8, 9, 7, 6
-abbrev pub heldChecks : ℕ → List ℕ → Record → Host → List ℕ → List ℕ → Journal → Request → List Check
-heldChecks N img r h m reply x q =
-    check refusal.NoObject (noObject x q) ∷ check refusal.ShortReply (shortReply reply q)
-    ∷ check refusal.NoRoom (roomRule (sizeOf N img) h m x q) ∷ check refusal.Worn (worn N img r x (frameFor h m x q)) ∷ []
+abbrev pub heldChecks : Asking → Journal → Request → List Check
+heldChecks a x q =
+    check refusal.NoObject (noObject x q) ∷ check refusal.ShortReply (shortReply a q) ∷ check refusal.NoRoom (noRoomFor a x q)
+    ∷ check refusal.Worn (worn a x (frameFor (a .host) (a .message) x q)) ∷ []
 
 -- where 11 or 1 holds no later line can be the first
-abbrev pub laterChecks : ℕ → List ℕ → Record → Host → List ℕ → List ℕ → Option Journal → Parsed → List Check
-laterChecks N img r h m reply none p = []
-laterChecks N img r h m reply (some x) Malformed = []
-laterChecks N img r h m reply (some x) (Is q) = heldChecks N img r h m reply x q
+abbrev pub laterChecks : Asking → Option Journal → Parsed → List Check
+laterChecks a none p = []
+laterChecks a (some x) Malformed = []
+laterChecks a (some x) (Is q) = heldChecks a x q
 
 -- 4, 10, 5, 2, 11, 1, 8, 9, 7, 6
-abbrev pub requestChecks : ℕ → List ℕ → Record → Host → List ℕ → List ℕ → List Check
-requestChecks N img r h m reply =
-    check refusal.ImageLength (not (allowed N (length img))) ∷ check refusal.HostRange (ltb hostMax (h .0))
-    ∷ check refusal.Busy (isBusy (r .phase)) ∷ check refusal.NoStore (isUnmounted (r .phase)) ∷ check refusal.Stale (isNone (held N img r))
-    ∷ check refusal.Malformed (isMalformed (parse m)) ∷ laterChecks N img r h m reply (held N img r) (parse m)
+abbrev pub requestChecks : Asking → List Check
+requestChecks a =
+    check refusal.ImageLength (not (allowed (a .blocks) (length (a .image)))) ∷ check refusal.HostRange (ltb hostMax (a .host .0))
+    ∷ check refusal.Busy (isBusy (a .board .phase)) ∷ check refusal.NoStore (isUnmounted (a .board .phase)) ∷ check refusal.Stale (isNone (heldFor a))
+    ∷ check refusal.Malformed (isMalformed (parse (a .message))) ∷ laterChecks a (heldFor a) (parse (a .message))
 
 -- ---- steps, mounts and formats
 
@@ -141,7 +143,7 @@ mountChecks N img =
 
 -- the lines that concern each call: 11 alone concerns a step, 4 alone a format
 abbrev pub checks : ℕ → List ℕ → Record → Call → List Check
-checks N img r (request h m reply) = requestChecks N img r h m reply
+checks N img r (request h m reply) = requestChecks (asking N img r h m reply)
 checks N img r step = check refusal.Stale (outside N (r .phase) img r) ∷ []
 checks N img r mount = mountChecks N img
 checks N img r format = check refusal.ImageLength (not (allowed N (length img))) ∷ []

@@ -24,6 +24,7 @@ use Rattle.board.specs.declared.Phase.{Phase}
 use Rattle.board.specs.declared.Phase.the-variants.{Unmounted, Idle, Busy}
 use Rattle.board.specs.declared.Record.{Record}
 use Rattle.board.specs.Record.{Out, out}
+use Rattle.board.specs.Queue.{asking}
 use Rattle.board.specs.Exec.{Machine, Call, request, step, format}
 use Rattle.board.specs.Table.{Exactly, InJob, requestLines, linesOf}
 use Rattle.board.specs.Book.{Book, firstBook, enterCall}
@@ -80,7 +81,7 @@ module _ {N : ℕ} {m : Machine} (p : Calls N m) (img : List ℕ) (r : Record) (
       says : Never refusal.ImageLength (m img r c) × Never refusal.Stale (m img r c)
       says = let y = f .2 (call c ∷ []) (tt, tt) .0 in (y .0, y .1)
 
-      go : Exactly (requestLines N img r (hostOf 0) [] []) (m img r c .answer) → N ≡ r .rest .blocks
+      go : Exactly (requestLines (asking N img r (hostOf 0) [] [])) (m img r c .answer) → N ≡ r .rest .blocks
       go (inl (_, n)) = absurd (says .0 (number-refused (m img r c .answer) refusal.ImageLength 4 refl (omega arith) n))
       go (inr (_, inl (l, _))) = absurd (omega arith)
       go (inr (_, inr (_, inl (j, _)))) = absurd (subst InJob e j)
@@ -118,7 +119,7 @@ module _ {M : ℕ} {m : Machine} (p : Calls M m) (img : List ℕ) (r : Record) (
       × (r .phase ≡ Idle → h .0 ≤ 3 → (suc k ≡ 4) ⊎ (suc k ≡ 11))
   turned h msg reply = go (p .table img r (request h msg reply) by)
     where
-      go : Exactly (requestLines M img r h msg reply) (m img r (request h msg reply) .answer)
+      go : Exactly (requestLines (asking M img r h msg reply)) (m img r (request h msg reply) .answer)
           → (k : ℕ) × (numberOf (m img r (request h msg reply) .answer) ≡ some (suc k)) × (r .phase ≡ Idle → h .0 ≤ 3 → (suc k ≡ 4) ⊎ (suc k ≡ 11))
       go (inl (_, e)) = (3, e, λ i l. inl refl)
       go (inr (_, inl (g, e))) = (9, e, λ i l. absurd (omega arith))

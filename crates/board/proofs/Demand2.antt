@@ -27,7 +27,7 @@ use Rattle.board.specs.declared.Record.{Record}
 use Rattle.board.specs.Record.{Out, out, unmounted, answerOf}
 use Rattle.board.specs.Step.{stepOn, enterWipe}
 use Rattle.board.specs.Mount.{Store, allFound, wipeList, mountJob, mountOn, formatJob, formatOn, replayOf}
-use Rattle.board.specs.Queue.{requestOn}
+use Rattle.board.specs.Queue.{requestOn, Asking, asking}
 use Rattle.board.specs.Exec.{Call, request, step, mount, format, exec}
 use Rattle.board.specs.Plan.{Follows, formatWork, mountWork}
 use Rattle.board.specs.Table.{InJob as JobPhase, Fresh, Exactly, requestLines, mountLines, linesOf}
@@ -158,12 +158,15 @@ abbrev Kept : ℕ → ℕ → Out → Type 0
 Kept N s o = Steady N s (o .image) (o .board)
 
 pub request-kept : {N : ℕ} {s : ℕ} {img : List ℕ} {r : Record} → Steady N s img r → (h : Host) (m reply : List ℕ) → Bytes m
-    → Kept N s (requestOn N img r reply h m)
-request-kept {N} {s} {img} {r} v h m reply bm = go (request-met N img r reply h m)
+    → Kept N s (requestOn (asking N img r h m reply))
+request-kept {N} {s} {img} {r} v h m reply bm = go (request-met a)
   where
-    go : Met N img r reply h m (requestOn N img r reply h m) → Kept N s (requestOn N img r reply h m)
+    a : Asking
+    a = asking N img r h m reply
+
+    go : Met a (requestOn a) → Kept N s (requestOn a)
     go (refused n p) = subst (Kept N s) (sym p) v
-    go (done d i b) = subst (λ (l : List ℕ). Steady N s l (requestOn N img r reply h m .board)) (sym i) (subst (Steady N s img) (sym b) v)
+    go (done d i b) = subst (λ (l : List ℕ). Steady N s l (requestOn a .board)) (sym i) (subst (Steady N s img) (sym b) v)
     go (begun y p) =
         let j = frame-begins (v .sized) (v .bytes) bm y in
         subst (Kept N s) (sym p) (steady-busy (v .sized) (v .bytes) (jobOf y) (j .0) (j .1))
@@ -245,24 +248,24 @@ cut-sized {N} {s} {img} k new v c =
 number-apart : {a : Option ℕ} (j k : ℕ) → (j ≡ k → ⊥) → a ≡ some j → a ≡ some k → ⊥
 number-apart j k n e f = let w : some j ≡ some k = sym e ∙ f in let v : j ≡ k = cc in n v
 
-request-fits : {N : ℕ} {s : ℕ} {img : List ℕ} {r : Record} → Steady N s img r → (h : Host) (m reply : List ℕ) → NotStale (requestOn N img r reply h m)
-request-fits {N} {s} {img} {r} v h m reply e = go (request-lines img r h m reply (v .bytes))
+request-fits : {N : ℕ} {s : ℕ} {img : List ℕ} {r : Record} → Steady N s img r → (h : Host) (m reply : List ℕ) → NotStale (requestOn (asking N img r h m reply))
+request-fits {N} {s} {img} {r} v h m reply e = go (request-lines (asking N img r h m reply) (v .bytes))
   where
     a : Answer
-    a = requestOn N img r reply h m .answer
+    a = requestOn (asking N img r h m reply) .answer
 
     fits : (p : Phase) → Sound N p s img r → (JobPhase p → ⊥) → (p ≡ Unmounted → ⊥) → ((x : Journal) → Fresh N img r x → ⊥) → ⊥
     fits Unmounted y j u f = u refl
     fits Idle y j u f = f (y .journal) (ready-fresh (v .sized) (v .bytes) y)
     fits (Busy g) y j u f = j tt
 
-    go : Exactly (requestLines N img r h m reply) a → ⊥
+    go : Exactly (requestLines (asking N img r h m reply)) a → ⊥
     go (inl (_, f)) = number-apart 4 11 (omega arith) f e
     go (inr (_, inl (_, f))) = number-apart 10 11 (omega arith) f e
     go (inr (_, inr (_, inl (_, f)))) = number-apart 5 11 (omega arith) f e
     go (inr (_, inr (_, inr (_, inl (_, f))))) = number-apart 2 11 (omega arith) f e
     go (inr (_, inr (_, inr (u, inr (w, inl (f, _)))))) = fits (r .phase) (v .phase) u w f
-    go (inr (_, inr (_, inr (_, inr (_, inr (_, x)))))) = not-numbered 10 (drop 5 (requestLines N img r h m reply)) a (omega arith) x e
+    go (inr (_, inr (_, inr (_, inr (_, inr (_, x)))))) = not-numbered 10 (drop 5 (requestLines (asking N img r h m reply))) a (omega arith) x e
 
 step-fits : {N : ℕ} {s : ℕ} {img : List ℕ} {r : Record} → Steady N s img r → NotStale (stepOn N img r)
 step-fits {N} {s} {img} {r} v = go (r .phase) refl (v .phase)

@@ -8,7 +8,7 @@ use Prim.Native.Nat.{ℕ, _-_, _<_}
 use native.Mathlib.Omega.{arith}
 use lib.ListN.{length}
 use Rattle.flash.specs.Bytes.{Bytes}
-use Rattle.flash.specs.Flash.{Step, apply, block, sizeOf, withBlock}
+use Rattle.flash.specs.Flash.{Step, apply, sizeOf, withBlock}
 use Rattle.flash.proofs.Image.{bytes-apply}
 use Rattle.flash.proofs.Raising.{bytes-with}
 use Rattle.frame.specs.declared.Host.{Host}
@@ -27,7 +27,7 @@ use Rattle.board.specs.declared.Rest.{Rest}
 use Rattle.board.specs.declared.Record.{Record}
 use Rattle.board.specs.Record.{allowed, unmounted, Stretch, noStretch, Out, out, answerIn, answerOf}
 use Rattle.board.specs.Mount.{Store, Upkeep, rests, moves, upkeep, mountOn, nextBlock, storeAt}
-use Rattle.board.specs.Queue.{held}
+use Rattle.board.specs.Queue.{held, Asking, asking}
 use Rattle.board.specs.Exec.{Call, request, step, mount, format}
 use Rattle.board.specs.Plan.{Follows, Work, formatWork, upkeepWork, mountWork, frameWork}
 use Rattle.board.specs.Table.{frameFor, Line, line, Exactly, Allowed, InJob, Fresh, FreshExact, requestLines, mountLines, linesOf}
@@ -138,7 +138,7 @@ module _ {N : ℕ} {m : Machine} (p : Calls N m) (img : List ℕ) (by : Bytes im
           absurd (f (λ x y. let w : some x ≡ none = sym (fresh-exact N img r x by ok .1 y) ∙ e in let z : _≡_ {A = ℕ} 0 1 = cc in omega arith))
       found ok f g (some x) e = parsed ok x e g (parse msg) refl
 
-      go : Exactly (requestLines N img r h msg reply) ans → Asked N img r msg
+      go : Exactly (requestLines (asking N img r h msg reply)) ans → Asked N img r msg
       go (inl (_, e)) = absurd (number-accepted ans 3 e a)
       go (inr (_, inl (_, e))) = absurd (number-accepted ans 9 e a)
       go (inr (_, inr (_, inl (_, e)))) = absurd (number-accepted ans 4 e a)
@@ -180,17 +180,17 @@ module _ {N : ℕ} {m : Machine} (p : Calls N m) (img : List ℕ) (by : Bytes im
 module _ {N : ℕ} {m n : Machine} (pm : Calls N m) (pn : Calls N n) (img : List ℕ) (by : Bytes img) where
   -- ---- a request
 
-  does-agree : (r : Record) (h : Host) (msg reply : List ℕ) (x : Journal) (q : Request) (f : Option Frame) (o p : Out) → Rests (r .phase)
-      → o .image ≡ img → p .image ≡ img → Answers f r o → Answers f r p → Serves N img r h msg reply x q o → Serves N img r h msg reply x q p
+  does-agree : (a : Asking) (x : Journal) (q : Request) (f : Option Frame) (o p : Out) → Rests (a .board .phase) → o .image ≡ img → p .image ≡ img
+      → Answers f (a .board) o → Answers f (a .board) p → Serves a x q o → Serves a x q p
       → ((g : Frame) → f ≡ some g → Alike N m n img (o .board) (p .board)) → Agree N m n o p
-  does-agree r h msg reply x q none o p k i j (a, b) (c, d) s t v =
-      agree-by (whole-is o (number-done (o .answer) a) i b (s .writes) refl)
-      (whole-is p (number-done (p .answer) c) j d (t .writes) (same-stretch N img r x q (p .stretch) (o .stretch) (t .hands-back) (s .hands-back)))
-      (agree-whole Done Done img r r (replyFor N img reply x q) (o .stretch) refl by (resting k refl))
-  does-agree r h msg reply x q (some f) o p k i j a b s t v =
-      agree-by (whole-is o a i refl (s .writes) refl)
-      (whole-is p b j refl (t .writes) (same-stretch N img r x q (p .stretch) (o .stretch) (t .hands-back) (s .hands-back)))
-      (agree-whole More More img (o .board) (p .board) (replyFor N img reply x q) (o .stretch) refl by (v f refl))
+  does-agree a x q none o p k i j (d, b) (e, c) s t v =
+      agree-by (whole-is o (number-done (o .answer) d) i b (s .writes) refl)
+      (whole-is p (number-done (p .answer) e) j c (t .writes) (same-stretch a x q (p .stretch) (o .stretch) (t .hands-back) (s .hands-back)))
+      (agree-whole Done Done img (a .board) (a .board) (replyFor a x q) (o .stretch) refl by (resting k refl))
+  does-agree a x q (some f) o p k i j d e s t v =
+      agree-by (whole-is o d i refl (s .writes) refl)
+      (whole-is p e j refl (t .writes) (same-stretch a x q (p .stretch) (o .stretch) (t .hands-back) (s .hands-back)))
+      (agree-whole More More img (o .board) (p .board) (replyFor a x q) (o .stretch) refl by (v f refl))
 
   -- the same job
   job-alike : (r q : Record) (c : Call) (w : Work) → ByteCall c → Job N img r c w → Job N img q c w
@@ -200,7 +200,7 @@ module _ {N : ℕ} {m n : Machine} (pm : Calls N m) (pn : Calls N n) (img : List
   request-agrees : (r : Record) (h : Host) (msg reply : List ℕ) → Bytes msg → Rests (r .phase)
       → Agree N m n (m img r (request h msg reply)) (n img r (request h msg reply))
   request-agrees r h msg reply bm k =
-      go (same-numbered (requestLines N img r h msg reply) (o .answer) (p .answer) (omega arith) (pm .table img r c by) (pn .table img r c by))
+      go (same-numbered (requestLines (asking N img r h msg reply)) (o .answer) (p .answer) (omega arith) (pm .table img r c by) (pn .table img r c by))
     where
       c : Call
       c = request h msg reply
@@ -219,18 +219,19 @@ module _ {N : ℕ} {m n : Machine} (pm : Calls N m) (pn : Calls N n) (img : List
           let y : Asked N img r msg = request-asks pm img by r h msg reply a in
           let x : Journal = y .holding in
           let q : Request = y .asked in
-          let s : Serves N img r h msg reply x q o = pm .serves img r h msg reply x q by bm (y .is-held) (y .is-asked) a in
-          let t : Serves N img r h msg reply x q p = pn .serves img r h msg reply x q by bm (y .is-held) (y .is-asked) b in
+          let w : Asking = asking N img r h msg reply in
+          let s : Serves w x q o = pm .serves img r h msg reply x q by bm (y .is-held) (y .is-asked) a in
+          let t : Serves w x q p = pn .serves img r h msg reply x q by bm (y .is-held) (y .is-asked) b in
           let job : (f : Frame) → frameFor h msg x q ≡ some f → Job N img r c (frameWork N img r x f) =
           λ f e. frame-job h msg reply x q f (y .is-held) (y .is-asked) e in
-          does-agree r h msg reply x q (frameFor h msg x q) o p k (pm .one-step img r c) (pn .one-step img r c) (s .answers) (t .answers) s t
+          does-agree w x q (frameFor h msg x q) o p k (pm .one-step img r c) (pn .one-step img r c) (s .answers) (t .answers) s t
           (λ f e. job-alike r r c (frameWork N img r x f) bm (job f e) (job f e) a b)
 
   -- 4, 10 or 5, whatever the record holds
   abbrev pub busyLines : Host → List Line
   busyLines h = line 4 (Allowed N (length img) → ⊥) ∷ line 10 (3 < h .0) ∷ line 5 (Unit {0}) ∷ []
 
-  pub while-busy : (r : Record) (h : Host) (msg reply : List ℕ) (a : Answer) → InJob (r .phase) → Exactly (requestLines N img r h msg reply) a
+  pub while-busy : (r : Record) (h : Host) (msg reply : List ℕ) (a : Answer) → InJob (r .phase) → Exactly (requestLines (asking N img r h msg reply)) a
       → Exactly (busyLines h) a
   while-busy r h msg reply a j (inl x) = inl x
   while-busy r h msg reply a j (inr (f, inl x)) = inr (f, inl x)
@@ -368,7 +369,7 @@ module _ {N : ℕ} {m n : Machine} (pm : Calls N m) (pn : Calls N n) where
       go Unmounted e = rested (subst Rests (sym e) tt)
       go Idle e = rested (subst Rests (sym e) tt)
       go (Busy s) e =
-          busy s e (same-numbered (requestLines N img r h msg reply) (m img r (request h msg reply) .answer) (n img r (request h msg reply) .answer)
+          busy s e (same-numbered (requestLines (asking N img r h msg reply)) (m img r (request h msg reply) .answer) (n img r (request h msg reply) .answer)
           (omega arith)
           (pm .table img r (request h msg reply) by) (pn .table img r (request h msg reply) by))
 

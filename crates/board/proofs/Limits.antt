@@ -1,18 +1,16 @@
 -- Demand 2, room and wear: past the earlier lines 7 is given exactly if the room rule says so, and then 6 exactly at the last time.
 use mathlib.Core.Path.{_≡_, refl, sym, ap, ap₂, subst, subst₂, _∙_}
-use mathlib.Core.List.{List, [], _∷_, _++_}
+use mathlib.Core.List.{List, [], _∷_}
 use mathlib.Core.Logic.{_↔_, inl, inr}
 use mathlib.Core.Option.{some}
-use Prim.Native.Nat.{ℕ, _+_, _*_, _<_}
+use Prim.Native.Nat.{ℕ, _+_, _<_}
 use native.Mathlib.Omega.{arith}
 use lib.ListN.{length}
-use Rattle.flash.specs.Flash.{sizeOf}
 use Rattle.frame.specs.declared.Host.{Host}
 use Rattle.frame.specs.declared.ObjectId.{ObjectId}
-use Rattle.frame.specs.Frame.{Frame, put, delete, frameLen}
-use Rattle.journal.specs.Replay.{entry}
+use Rattle.frame.specs.Frame.{Frame, frameLen}
+use Rattle.journal.specs.Replay.{replay}
 use Rattle.journal.specs.Block.{Journal}
-use Rattle.journal.specs.Room.{openHosts}
 use Rattle.wire.specs.declared.Answer.{Answer}
 use Rattle.wire.specs.declared.Request.{Request}
 use Rattle.wire.specs.declared.Request.the-variants.{Put, Delete, Commit, Abort, Read, Log}
@@ -20,9 +18,11 @@ use Rattle.wire.specs.Answer.{numberOf}
 use Rattle.wire.specs.Message.{valueIn}
 use Rattle.board.specs.declared.Phase.the-variants.{Unmounted, Idle}
 use Rattle.board.specs.declared.Record.{Record}
-use Rattle.board.specs.Mount.{replayOf, claimedOf}
+use Rattle.board.specs.Mount.{replayOf}
+use Rattle.board.specs.Queue.{Asking, asking, sizeFor}
 use Rattle.board.specs.Exec.{Machine, request}
-use Rattle.board.specs.Table.{frameFor, Line, line, Exactly, InJob, Fresh, NoObject, ShortReply, NoRoom, for-put, for-delete, Worn, requestLines}
+use Rattle.board.specs.Table.{frameFor, Line, line, Exactly, InJob, FreshFor, NoObject, ShortReply, NoRoom, for-put, for-delete, putNeeds, deleteNeeds}
+use Rattle.board.specs.Table.{Worn, requestLines}
 use Rattle.board.specs.Demand2.{Asks, RoomExact, WearExact}
 use Rattle.wire.specs.Sentences.{Means}
 use Rattle.board.specs.Promise.{Calls}
@@ -57,63 +57,55 @@ same-put e = cc
 same-delete : {i j : ObjectId} → Delete i ≡ Delete j → i ≡ j
 same-delete e = cc
 
--- the sums of the room rule
-abbrev putNeeds : Host → List ℕ → Journal → ObjectId → ℕ
-putNeeds h msg x i =
-    claimedOf x + (8 + length (valueIn msg)) + 6 * openHosts (replayOf x .pending ++ (entry h (put i (valueIn msg)) ∷ [])) + 14
-
-abbrev deleteNeeds : Host → Journal → ObjectId → ℕ
-deleteNeeds h x i = claimedOf x + 8 + 6 * openHosts (replayOf x .pending ++ (entry h (delete i) ∷ []))
-
-module _ {N : ℕ} (img : List ℕ) (r : Record) (h : Host) (msg reply : List ℕ) (x : Journal) (q : Request) (y : Asks N img r h msg x q) where
+module _ (a : Asking) (x : Journal) (q : Request) (y : Asks a x q) where
   abbrev afterMalformed : List Line
   afterMalformed =
-      line 8 (NoObject N img r msg) ∷ line 9 (ShortReply msg reply) ∷ line 7 (NoRoom N img r h msg) ∷ line 6 (Worn N img r h msg) ∷ []
+      line 8 (NoObject a) ∷ line 9 (ShortReply a) ∷ line 7 (NoRoom a) ∷ line 6 (Worn a) ∷ []
 
-  same : (w : Journal) → Fresh N img r w → w ≡ x
-  same w f = same-held N img r (y .bytes) (is-allowed N (length img) (y .length-ok)) w x f (y .is-held)
+  same : (w : Journal) → FreshFor a w → w ≡ x
+  same w f = same-held (a .blocks) (a .image) (a .board) (y .bytes) (is-allowed (a .blocks) (length (a .image)) (y .length-ok)) w x f (y .is-held)
 
-  past : (a : Answer) → Exactly (requestLines N img r h msg reply) a → Exactly afterMalformed a
-  past a (inl (n, _)) = absurd (n (y .length-ok))
-  past a (inr (_, inl (l, _))) = absurd (omega (arith, l, y .host-ok))
-  past a (inr (_, inr (_, inl (j, _)))) = absurd (subst InJob (y .is-idle) j)
-  past a (inr (_, inr (_, inr (_, inl (e, _))))) =
-      let w : Unmounted ≡ Idle = sym e ∙ y .is-idle in let v : _≡_ {A = ℕ} 0 1 = cc in absurd (omega arith)
-  past a (inr (_, inr (_, inr (_, inr (_, inl (f, _)))))) = absurd (f x (y .is-held))
-  past a (inr (_, inr (_, inr (_, inr (_, inr (_, inl (f, _))))))) = absurd (f q (y .is-asked))
-  past a (inr (_, inr (_, inr (_, inr (_, inr (_, inr (_, z))))))) = z
+  past : (w : Answer) → Exactly (requestLines a) w → Exactly afterMalformed w
+  past w (inl (n, _)) = absurd (n (y .length-ok))
+  past w (inr (_, inl (l, _))) = absurd (omega (arith, l, y .host-ok))
+  past w (inr (_, inr (_, inl (j, _)))) = absurd (subst InJob (y .is-idle) j)
+  past w (inr (_, inr (_, inr (_, inl (e, _))))) =
+      let u : Unmounted ≡ Idle = sym e ∙ y .is-idle in let v : _≡_ {A = ℕ} 0 1 = cc in absurd (omega arith)
+  past w (inr (_, inr (_, inr (_, inr (_, inl (f, _)))))) = absurd (f x (y .is-held))
+  past w (inr (_, inr (_, inr (_, inr (_, inr (_, inl (f, _))))))) = absurd (f q (y .is-asked))
+  past w (inr (_, inr (_, inr (_, inr (_, inr (_, inr (_, z))))))) = z
 
-  asks-one : (s : Request) → Means msg s → q ≡ s
-  asks-one s k = same-request msg q s (y .is-asked) k
+  asks-one : (s : Request) → Means (a .message) s → q ≡ s
+  asks-one s k = same-request (a .message) q s (y .is-asked) k
 
   -- of a request that is no read and no log 7 and 6 alone are left
-  later : Changes q → (a : Answer) → Exactly afterMalformed a → Exactly (line 7 (NoRoom N img r h msg) ∷ line 6 (Worn N img r h msg) ∷ []) a
-  later k a (inl (n, _)) = absurd (subst Changes (asks-one (Read (n .id)) (n .is-asked)) k)
-  later k a (inr (_, inl (n, _))) = absurd (subst Changes (asks-one (Log (n .page)) (n .is-asked)) k)
-  later k a (inr (_, inr (_, z))) = z
+  later : Changes q → (w : Answer) → Exactly afterMalformed w → Exactly (line 7 (NoRoom a) ∷ line 6 (Worn a) ∷ []) w
+  later k w (inl (n, _)) = absurd (subst Changes (asks-one (Read (n .id)) (n .is-asked)) k)
+  later k w (inr (_, inl (n, _))) = absurd (subst Changes (asks-one (Log (n .page)) (n .is-asked)) k)
+  later k w (inr (_, inr (_, z))) = z
 
   -- what each line says of this request
-  full-put : (i : ObjectId) → q ≡ Put i → NoRoom N img r h msg → sizeOf N img < putNeeds h msg x i
+  full-put : (i : ObjectId) → q ≡ Put i → NoRoom a → sizeFor a < putNeeds (replay (x .frames)) (a .host) i (valueIn (a .message))
   full-put i e (for-put w j f k l) =
       let g : Put i ≡ Put j = sym e ∙ asks-one (Put j) k in
-      subst₂ (λ (v : Journal) (n : ObjectId). sizeOf N img < putNeeds h msg v n) (same w f) (sym (same-put g)) l
+      subst₂ (λ (v : Journal) (n : ObjectId). sizeFor a < putNeeds (replayOf v) (a .host) n (valueIn (a .message))) (same w f) (sym (same-put g)) l
   full-put i e (for-delete w j f k l) = let g : Put i ≡ Delete j = sym e ∙ asks-one (Delete j) k in let v : _≡_ {A = ℕ} 0 1 = cc in absurd (omega arith)
 
-  full-delete : (i : ObjectId) → q ≡ Delete i → NoRoom N img r h msg → sizeOf N img < deleteNeeds h x i
+  full-delete : (i : ObjectId) → q ≡ Delete i → NoRoom a → sizeFor a < deleteNeeds (replay (x .frames)) (a .host) i
   full-delete i e (for-put w j f k l) = let g : Delete i ≡ Put j = sym e ∙ asks-one (Put j) k in let v : _≡_ {A = ℕ} 0 1 = cc in absurd (omega arith)
   full-delete i e (for-delete w j f k l) =
       let g : Delete i ≡ Delete j = sym e ∙ asks-one (Delete j) k in
-      subst₂ (λ (v : Journal) (n : ObjectId). sizeOf N img < deleteNeeds h v n) (same w f) (sym (same-delete g)) l
+      subst₂ (λ (v : Journal) (n : ObjectId). sizeFor a < deleteNeeds (replayOf v) (a .host) n) (same w f) (sym (same-delete g)) l
 
-  full-change : NoRoom N img r h msg → IsChange q
+  full-change : NoRoom a → IsChange q
   full-change (for-put w j f k l) = subst IsChange (sym (asks-one (Put j) k)) tt
   full-change (for-delete w j f k l) = subst IsChange (sym (asks-one (Delete j) k)) tt
 
-  worn-out : (f : Frame) → frameFor h msg x q ≡ some f → Worn N img r h msg → (sizeOf N img < r .rest .end + frameLen f) × (x .time ≡ 4294967295)
+  worn-out : (f : Frame) → frameFor (a .host) (a .message) x q ≡ some f → Worn a → (sizeFor a < a .board .rest .end + frameLen f) × (x .time ≡ 4294967295)
   worn-out f e w =
       let g : w .frame ≡ f =
-      the-frame (sym (w .is-frame) ∙ ap₂ (frameFor h msg) (same (w .holding) (w .is-held)) (sym (asks-one (w .asked) (w .is-asked))) ∙ e) in (
-        subst (λ (n : Frame). sizeOf N img < r .rest .end + frameLen n) g (w .exceeds),
+      the-frame (sym (w .is-frame) ∙ ap₂ (frameFor (a .host) (a .message)) (same (w .holding) (w .is-held)) (sym (asks-one (w .asked) (w .is-asked))) ∙ e) in (
+        subst (λ (n : Frame). sizeFor a < a .board .rest .end + frameLen n) g (w .exceeds),
         sym (ap (λ (v : Journal). v .time) (same (w .holding) (w .is-held))) ∙ w .last-time,
       )
 
@@ -131,35 +123,38 @@ module _ {R W : Type 0} (a : Answer) where
 
 -- ---- every machine that keeps the table
 
+module _ {N : ℕ} {m : Machine} (p : Calls N m) (img : List ℕ) (r : Record) (h : Host) (msg reply : List ℕ) where
+  abbrev asked : Asking
+  asked = asking N img r h msg reply
+
+  abbrev answer : Answer
+  answer = m img r (request h msg reply) .answer
+
+  rest-lines : (x : Journal) (q : Request) → Asks asked x q → Changes q → Exactly (line 7 (NoRoom asked) ∷ line 6 (Worn asked) ∷ []) answer
+  rest-lines x q y k = later asked x q y k answer (past asked x q y answer (p .table img r (request h msg reply) (y .bytes)))
+
+  room-exactly : (x : Journal) (q : Request) → Asks asked x q → Changes q → (numberOf answer ≡ some 7) ↔ NoRoom asked
+  room-exactly x q y k = room-line answer (rest-lines x q y k)
+
 module _ {N : ℕ} {m : Machine} (p : Calls N m) where
-  rest-lines : (img : List ℕ) (r : Record) (h : Host) (msg reply : List ℕ) (x : Journal) (q : Request) → Asks N img r h msg x q → Changes q
-      → Exactly (line 7 (NoRoom N img r h msg) ∷ line 6 (Worn N img r h msg) ∷ []) (m img r (request h msg reply) .answer)
-  rest-lines img r h msg reply x q y k =
-      let a : Answer = m img r (request h msg reply) .answer in
-      later img r h msg reply x q y k a (past img r h msg reply x q y a (p .table img r (request h msg reply) (y .bytes)))
-
-  room-exactly : (img : List ℕ) (r : Record) (h : Host) (msg reply : List ℕ) (x : Journal) (q : Request) → Asks N img r h msg x q → Changes q
-      → (numberOf (m img r (request h msg reply) .answer) ≡ some 7) ↔ NoRoom N img r h msg
-  room-exactly img r h msg reply x q y k = room-line (m img r (request h msg reply) .answer) (rest-lines img r h msg reply x q y k)
-
   pub room-exact : RoomExact N m
   room-exact =
       record {
         of-put = λ img r h msg reply x i y.
-            let e = room-exactly img r h msg reply x (Put i) y tt in
-            ((λ f. full-put img r h msg reply x (Put i) y i refl (e .0 f)), (λ l. e .1 (for-put x i (y .is-held) (y .is-asked) l)));
+            let e = room-exactly p img r h msg reply x (Put i) y tt in
+            ((λ f. full-put _ x (Put i) y i refl (e .0 f)), (λ l. e .1 (for-put x i (y .is-held) (y .is-asked) l)));
         of-delete = λ img r h msg reply x i y.
-            let e = room-exactly img r h msg reply x (Delete i) y tt in
-            ((λ f. full-delete img r h msg reply x (Delete i) y i refl (e .0 f)), (λ l. e .1 (for-delete x i (y .is-held) (y .is-asked) l)));
-        of-commit = λ img r h msg reply x y f. full-change img r h msg reply x Commit y (room-exactly img r h msg reply x Commit y tt .0 f);
-        of-abort = λ img r h msg reply x y f. full-change img r h msg reply x Abort y (room-exactly img r h msg reply x Abort y tt .0 f);
+            let e = room-exactly p img r h msg reply x (Delete i) y tt in
+            ((λ f. full-delete _ x (Delete i) y i refl (e .0 f)), (λ l. e .1 (for-delete x i (y .is-held) (y .is-asked) l)));
+        of-commit = λ img r h msg reply x y f. full-change _ x Commit y (room-exactly p img r h msg reply x Commit y tt .0 f);
+        of-abort = λ img r h msg reply x y f. full-change _ x Abort y (room-exactly p img r h msg reply x Abort y tt .0 f);
       }
 
   pub wear-exact : WearExact N m
   unfolding WearExact
   wear-exact img r h msg reply x q f y e n =
-      let w = wear-line (m img r (request h msg reply) .answer) (rest-lines img r h msg reply x q y (framed q e)) n in (
-        (λ g. worn-out img r h msg reply x q y f e (w .0 g)),
+      let w = wear-line (m img r (request h msg reply) .answer) (rest-lines p img r h msg reply x q y (framed q e)) n in (
+        (λ g. worn-out (asking N img r h msg reply) x q y f e (w .0 g)),
         (λ k. w .1
             (record {
               holding = x;

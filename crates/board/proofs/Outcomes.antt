@@ -7,7 +7,6 @@ use Prim.Native.Nat.{ℕ, suc, _+_}
 use lib.Dec.{eqb, ltb, leb}
 use lib.ListN.{length}
 use Rattle.flash.specs.Flash.{apply, block, sizeOf, within}
-use Rattle.frame.specs.declared.Host.{Host}
 use Rattle.frame.specs.declared.ObjectId.{ObjectId}
 use Rattle.frame.specs.Frame.{hostMax, Change, put, delete, Frame, change, commit, abort}
 use Rattle.journal.specs.Replay.{lookup, isOpen}
@@ -26,126 +25,111 @@ use Rattle.board.specs.declared.Stage.the-variants.{Wipe, Open, Copy, Se
 use Rattle.board.specs.declared.Phase.{Phase}
 use Rattle.board.specs.declared.Phase.the-variants.{Unmounted, Idle, Busy}
 use Rattle.board.specs.declared.Record.{Record}
-use Rattle.board.specs.Record.{allowed, unmounted, ending, idle, inStage, out, refuse}
+use Rattle.board.specs.Record.{allowed, unmounted, ending, idle, inStage, noStretch, out, refuse}
 use Rattle.board.specs.Step.{enter, enterAppend, landed, enterDrop, loaded, enterCopy, enterOpen, enterWipe, begin, action}
 use Rattle.board.specs.Step.{nextIndex, nextByte, pastFrame, advance, sameShape, stepped, stepBusy, stepIn, stepOn}
 use Rattle.board.specs.Mount.{allFound, Found, Store, stores, equalTimes, newest, wipeList, upkeep, transfers, mountJob, replayOf, usedOf, timeOf}
 use Rattle.board.specs.Mount.{noneValid, lowestTied, tiedTimes, mountAt, mountStores, mountFound, mountOn, formatJob, formatOn}
-use Rattle.board.specs.Queue.{held, needsRoom, appendJob, append, serveChange, serveEnd, placeOf, serveLog, serve}
-use Rattle.board.specs.Queue.{serveParsed, serveHeld, requestIn, requestOn}
+use Rattle.board.specs.Queue.{appendJob, append, serveChange, serveEnd, placeOf, serveLog, serve, serveParsed, serveHeld, requestIn, requestOn, Asking, sizeFor, heldFor, movesFor, refuseTo, doneAt}
 use Rattle.board.specs.Demand1.{Rests}
 
 -- ---- a frame appended
 
-pub append-worn : (N : ℕ) (img : List ℕ) (r : Record) (reply : List ℕ) (x : Journal) (f : Frame) → (needsRoom N img r f && eqb (x .time) lastTime) ≡ true
-    → append N img r reply x f ≡ refuse refusal.Worn img r reply
-unfolding append
-append-worn N img r reply x f e = rw (e, append)
+module _ (a : Asking) (x : Journal) (f : Frame) where
+  pub append-worn : (movesFor a f && eqb (x .time) lastTime) ≡ true → append a x f ≡ refuseTo a refusal.Worn
+  unfolding append
+  append-worn e = rw (e, append)
 
-pub append-begins : (N : ℕ) (img : List ℕ) (r : Record) (reply : List ℕ) (x : Journal) (f : Frame) → (needsRoom N img r f && eqb (x .time) lastTime) ≡ false
-    → append N img r reply x f ≡ begin img reply (appendJob N img r x f)
-unfolding append
-append-begins N img r reply x f e = rw (e, append)
+  pub append-begins : (movesFor a f && eqb (x .time) lastTime) ≡ false
+      → append a x f ≡ begin (a .image) (a .reply) (appendJob (a .blocks) (a .image) (a .board) x f)
+  unfolding append
+  append-begins e = rw (e, append)
 
-pub change-refused : (N : ℕ) (img : List ℕ) (r : Record) (reply : List ℕ) (h : Host) (x : Journal) (c : Change)
-    → noRoom (sizeOf N img) (replayOf x) h c ≡ true → serveChange N img r reply h x c ≡ refuse refusal.NoRoom img r reply
-unfolding serveChange
-change-refused N img r reply h x c e = rw (e, serveChange)
+  pub end-goes : isOpen (a .host) (replayOf x .pending) ≡ true → serveEnd a x f ≡ append a x f
+  unfolding serveEnd
+  end-goes e = rw (e, serveEnd)
 
-pub change-goes : (N : ℕ) (img : List ℕ) (r : Record) (reply : List ℕ) (h : Host) (x : Journal) (c : Change)
-    → noRoom (sizeOf N img) (replayOf x) h c ≡ false → serveChange N img r reply h x c ≡ append N img r reply x (change h c)
-unfolding serveChange
-change-goes N img r reply h x c e = rw (e, serveChange)
+  pub end-idle : isOpen (a .host) (replayOf x .pending) ≡ false → serveEnd a x f ≡ doneAt a (a .reply) noStretch
+  unfolding serveEnd
+  end-idle e = rw (e, serveEnd)
 
-pub end-goes : (N : ℕ) (img : List ℕ) (r : Record) (reply : List ℕ) (h : Host) (x : Journal) (f : Frame)
-    → isOpen h (replayOf x .pending) ≡ true → serveEnd N img r reply h x f ≡ append N img r reply x f
-unfolding serveEnd
-end-goes N img r reply h x f e = rw (e, serveEnd)
+module _ (a : Asking) (x : Journal) (c : Change) where
+  pub change-refused : noRoom (sizeFor a) (replayOf x) (a .host) c ≡ true → serveChange a x c ≡ refuseTo a refusal.NoRoom
+  unfolding serveChange
+  change-refused e = rw (e, serveChange)
 
-pub end-idle : (N : ℕ) (img : List ℕ) (r : Record) (reply : List ℕ) (h : Host) (x : Journal) (f : Frame)
-    → isOpen h (replayOf x .pending) ≡ false → serveEnd N img r reply h x f ≡ out Done img r reply
-unfolding serveEnd
-end-idle N img r reply h x f e = rw (e, serveEnd)
+  pub change-goes : noRoom (sizeFor a) (replayOf x) (a .host) c ≡ false → serveChange a x c ≡ append a x (change (a .host) c)
+  unfolding serveChange
+  change-goes e = rw (e, serveChange)
 
 -- ---- the requests
 
-pub log-short : (N : ℕ) (img : List ℕ) (r : Record) (reply : List ℕ) (x : Journal) → ltb (length reply) pageLen ≡ true
-    → serveLog N img r reply x Summary ≡ refuse refusal.ShortReply img r reply
-unfolding serveLog
-log-short N img r reply x e = rw (e, serveLog)
+module _ (a : Asking) (x : Journal) where
+  pub log-short : ltb (length (a .reply)) pageLen ≡ true → serveLog a x Summary ≡ refuseTo a refusal.ShortReply
+  unfolding serveLog
+  log-short e = rw (e, serveLog)
 
-pub log-done : (N : ℕ) (img : List ℕ) (r : Record) (reply : List ℕ) (x : Journal) → ltb (length reply) pageLen ≡ false
-    → serveLog N img r reply x Summary
-    ≡ out Done img r
-    (withPage (logPage (x .time) (length (replayOf x .objects)) (usedOf x) (sizeOf N img)) reply)
-unfolding serveLog
-log-done N img r reply x e = rw (e, serveLog)
+  pub log-done : ltb (length (a .reply)) pageLen ≡ false
+      → serveLog a x Summary
+      ≡ doneAt a (withPage (logPage (x .time) (length (replayOf x .objects)) (usedOf x) (sizeFor a)) (a .reply)) noStretch
+  unfolding serveLog
+  log-done e = rw (e, serveLog)
 
-module _ (N : ℕ) (img : List ℕ) (r : Record) (reply : List ℕ) (h : Host) (m : List ℕ) (x : Journal) where
-  pub serve-put : (i : ObjectId) → serve N img r reply h m x (Put i) ≡ serveChange N img r reply h x (put i (valueIn m))
+  pub serve-put : (i : ObjectId) → serve a x (Put i) ≡ serveChange a x (put i (valueIn (a .message)))
   unfolding serve
   serve-put i = refl
 
-  pub serve-delete : (i : ObjectId) → serve N img r reply h m x (Delete i) ≡ serveChange N img r reply h x (delete i)
+  pub serve-delete : (i : ObjectId) → serve a x (Delete i) ≡ serveChange a x (delete i)
   unfolding serve
   serve-delete i = refl
 
-  pub serve-commit : serve N img r reply h m x Commit ≡ serveEnd N img r reply h x (commit h)
+  pub serve-commit : serve a x Commit ≡ serveEnd a x (commit (a .host))
   unfolding serve
   serve-commit = refl
 
-  pub serve-abort : serve N img r reply h m x Abort ≡ serveEnd N img r reply h x (abort h)
+  pub serve-abort : serve a x Abort ≡ serveEnd a x (abort (a .host))
   unfolding serve
   serve-abort = refl
 
-  pub serve-log : serve N img r reply h m x (Log Summary) ≡ serveLog N img r reply x Summary
+  pub serve-log : serve a x (Log Summary) ≡ serveLog a x Summary
   unfolding serve
   serve-log = refl
 
-  pub read-none : (i : ObjectId) → lookup i (replayOf x .objects) ≡ none
-      → serve N img r reply h m x (Read i) ≡ refuse refusal.NoObject img r reply
+  pub read-none : (i : ObjectId) → lookup i (replayOf x .objects) ≡ none → serve a x (Read i) ≡ refuseTo a refusal.NoObject
   unfolding serve
   read-none i e = rw (e, serve)
 
   pub read-some : (i : ObjectId) (v : List ℕ) → lookup i (replayOf x .objects) ≡ some v
-      → serve N img r reply h m x (Read i) ≡ record { answer = Done; image = img; board = r; reply = reply; stretch = placeOf N img r x i }
+      → serve a x (Read i) ≡ doneAt a (a .reply) (placeOf (a .blocks) (a .image) (a .board) x i)
   unfolding serve
   read-some i v e = rw (e, serve)
 
-module _ (N : ℕ) (img : List ℕ) (r : Record) (reply : List ℕ) (h : Host) (m : List ℕ) where
-  pub request-length : allowed N (length img) ≡ false → requestOn N img r reply h m ≡ refuse refusal.ImageLength img r reply
+module _ (a : Asking) where
+  pub request-length : allowed (a .blocks) (length (a .image)) ≡ false → requestOn a ≡ refuseTo a refusal.ImageLength
   unfolding requestOn
   request-length e = rw (e, requestOn)
 
-  pub request-host : allowed N (length img) ≡ true → leb (h .0) hostMax ≡ false → requestOn N img r reply h m ≡ refuse refusal.HostRange img r reply
-  unfolding requestOn
-  request-host a e = rw (a, e, requestOn)
+  module _ (ok : allowed (a .blocks) (length (a .image)) ≡ true) where
+    pub request-host : leb (a .host .0) hostMax ≡ false → requestOn a ≡ refuseTo a refusal.HostRange
+    unfolding requestOn
+    request-host e = rw (ok, e, requestOn)
 
-  -- the length is allowed and there is such a host
-  pub request-in : allowed N (length img) ≡ true → leb (h .0) hostMax ≡ true → requestOn N img r reply h m ≡ requestIn N (r .phase) img r reply h m
-  unfolding requestOn
-  request-in a e = rw (a, e, requestOn)
+    module _ (e : leb (a .host .0) hostMax ≡ true) where
+      -- the length is allowed and there is such a host
+      pub request-in : {p : Phase} → a .board .phase ≡ p → requestOn a ≡ requestIn a p
+      unfolding requestOn
+      request-in p = rw (ok, e, requestOn) (ap (requestIn a) p)
 
-  in-phase : {x : Phase} → r .phase ≡ x → requestIn N (r .phase) img r reply h m ≡ requestIn N x img r reply h m
-  in-phase p = ap (λ (y : Phase). requestIn N y img r reply h m) p
+      pub request-stale : a .board .phase ≡ Idle → heldFor a ≡ none → requestOn a ≡ refuseTo a refusal.Stale
+      request-stale p q = request-in p ∙ ap (serveHeld a) q
 
-  module _ (a : allowed N (length img) ≡ true) (e : leb (h .0) hostMax ≡ true) where
-    pub request-busy : (s : Stage) → r .phase ≡ Busy s → requestOn N img r reply h m ≡ refuse refusal.Busy img r reply
-    request-busy s p = request-in a e ∙ in-phase p
+      pub request-malformed : (x : Journal) → a .board .phase ≡ Idle → heldFor a ≡ some x → parse (a .message) ≡ Malformed
+          → requestOn a ≡ refuseTo a refusal.Malformed
+      request-malformed x p q z = request-in p ∙ ap (serveHeld a) q ∙ ap (serveParsed a x) z
 
-    pub request-unmounted : r .phase ≡ Unmounted → requestOn N img r reply h m ≡ refuse refusal.NoStore img r reply
-    request-unmounted p = request-in a e ∙ in-phase p
-
-    pub request-stale : r .phase ≡ Idle → held N img r ≡ none → requestOn N img r reply h m ≡ refuse refusal.Stale img r reply
-    request-stale p q = request-in a e ∙ in-phase p ∙ ap (serveHeld N img r reply h m) q
-
-    pub request-malformed : (x : Journal) → r .phase ≡ Idle → held N img r ≡ some x → parse m ≡ Malformed
-        → requestOn N img r reply h m ≡ refuse refusal.Malformed img r reply
-    request-malformed x p q z = request-in a e ∙ in-phase p ∙ ap (serveHeld N img r reply h m) q ∙ ap (serveParsed N img r reply h m x) z
-
-    pub request-served : (x : Journal) (q : Request) → r .phase ≡ Idle → held N img r ≡ some x → parse m ≡ Is q
-        → requestOn N img r reply h m ≡ serve N img r reply h m x q
-    request-served x q p y z = request-in a e ∙ in-phase p ∙ ap (serveHeld N img r reply h m) y ∙ ap (serveParsed N img r reply h m x) z
+      pub request-served : (x : Journal) (q : Request) → a .board .phase ≡ Idle → heldFor a ≡ some x → parse (a .message) ≡ Is q
+          → requestOn a ≡ serve a x q
+      request-served x q p y z = request-in p ∙ ap (serveHeld a) y ∙ ap (serveParsed a x) z
 
 -- ---- mount
 

@@ -32,14 +32,14 @@ use Rattle.board.specs.Mount.{nextBlock, replayOf}
 use Rattle.board.specs.declared.Phase.{Phase}
 use Rattle.board.specs.declared.Phase.the-variants.{Unmounted, Idle, Busy}
 use Rattle.board.specs.declared.Record.{Record}
-use Rattle.board.specs.Record.{allowed, idle, Out, out, refuse, answerOf}
+use Rattle.board.specs.Record.{allowed, idle, Out, out, answerOf}
 use Rattle.board.specs.Step.{enterWipe}
-use Rattle.board.specs.Queue.{held, needsRoom, appendJob, append, serve, serveChange, serveEnd, serveParsed, serveHeld, requestIn, requestOn}
-use Rattle.board.specs.Exec.{request, exec}
+use Rattle.board.specs.Queue.{appendJob, append, serve, serveChange, serveEnd, serveParsed, serveHeld, requestIn, requestOn, Asking, sizeFor, heldFor, movesFor, refuseTo}
+use Rattle.board.specs.Exec.{exec}
 use Rattle.board.specs.Plan.{Performs, frameWork}
-use Rattle.board.specs.Table.{frameFor, frameIf, FreshExact, Fresh}
+use Rattle.board.specs.Table.{frameFor, frameIf, FreshExact, FreshFor}
 use Rattle.wire.specs.Sentences.{Means, MessagesExact}
-use Rattle.board.proofs.Checks.{roomRule}
+use Rattle.board.proofs.Checks.{roomRule, noRoomFor}
 use Rattle.wire.proofs.Sentences.{messages-exact}
 use Rattle.board.proofs.Freshness.{fresh-exact}
 use Rattle.board.proofs.Images.{Sized, size-of, sized-of}
@@ -60,104 +60,106 @@ use Rattle.board.proofs.Serving.{Legal, frame-starts}
 -- ---- what a request meets
 
 -- past every check: the frame that it appends
-pub record Asked (N : ℕ) (img : List ℕ) (r : Record) (h : Host) (m : List ℕ) : Type 0 where
+pub record Asked (a : Asking) : Type 0 where
   pub holding : Journal
   pub asked : Request
   pub frame : Frame
-  pub length-ok : allowed N (length img) ≡ true
-  pub host-ok : h .0 ≤ hostMax
-  pub is-held : held N img r ≡ some holding
-  pub is-asked : parse m ≡ Is asked
-  pub is-frame : frameFor h m holding asked ≡ some frame
-  pub has-room : roomRule (sizeOf N img) h m holding asked ≡ false
-  pub not-worn : (needsRoom N img r frame && eqb (holding .time) lastTime) ≡ false
+  pub length-ok : allowed (a .blocks) (length (a .image)) ≡ true
+  pub host-ok : a .host .0 ≤ hostMax
+  pub is-held : heldFor a ≡ some holding
+  pub is-asked : parse (a .message) ≡ Is asked
+  pub is-frame : frameFor (a .host) (a .message) holding asked ≡ some frame
+  pub has-room : noRoomFor a holding asked ≡ false
+  pub not-worn : (movesFor a frame && eqb (holding .time) lastTime) ≡ false
 
-abbrev pub jobOf : {N : ℕ} {img : List ℕ} {r : Record} {h : Host} {m : List ℕ} → Asked N img r h m → Record
-jobOf {N} {img} {r} y = enterWipe (appendJob N img r (y .holding) (y .frame))
+abbrev pub jobOf : {a : Asking} → Asked a → Record
+jobOf {a} y = enterWipe (appendJob (a .blocks) (a .image) (a .board) (y .holding) (y .frame))
 
-pub data Met (N : ℕ) (img : List ℕ) (r : Record) (reply : List ℕ) (h : Host) (m : List ℕ) (o : Out) : Type 0 where
-  refused : (n : Refusal) → o ≡ refuse n img r reply → Met N img r reply h m o
-  done : o .answer ≡ Done → o .image ≡ img → o .board ≡ r → Met N img r reply h m o
-  begun : (y : Asked N img r h m) → o ≡ out (answerOf (jobOf y)) img (jobOf y) reply → Met N img r reply h m o
+-- the job is begun
+abbrev pub begunBy : {a : Asking} → Asked a → Out
+begunBy {a} y = out (answerOf (jobOf y)) (a .image) (jobOf y) (a .reply)
 
-module _ (N : ℕ) (img : List ℕ) (r : Record) (reply : List ℕ) (h : Host) (m : List ℕ) where
-  abbrev Meets : Out → Type 0
-  Meets o = Met N img r reply h m o
+pub data Met (a : Asking) (o : Out) : Type 0 where
+  refused : (n : Refusal) → o ≡ refuseTo a n → Met a o
+  done : o .answer ≡ Done → o .image ≡ a .image → o .board ≡ a .board → Met a o
+  begun : (y : Asked a) → o ≡ begunBy y → Met a o
 
-  over : {o o′ : Out} → o ≡ o′ → Meets o′ → Meets o
-  over e x = subst Meets (sym e) x
+module _ (a : Asking) where
+  over : {o o′ : Out} → o ≡ o′ → Met a o′ → Met a o
+  over e x = subst (Met a) (sym e) x
 
-  module _ (a : allowed N (length img) ≡ true) (k : h .0 ≤ hostMax) (x : Journal) (e : held N img r ≡ some x) (q : Request) (p : parse m ≡ Is q) where
-    append-met : (f : Frame) → frameFor h m x q ≡ some f → roomRule (sizeOf N img) h m x q ≡ false → Meets (append N img r reply x f)
-    append-met f g n =
-        on-test (needsRoom N img r f && eqb (x .time) lastTime)
-        (λ t. refused refusal.Worn (append-worn N img r reply x f t))
-        (λ t. begun
-        (record {
-          holding = x;
-          asked = q;
-          frame = f;
-          length-ok = a;
-          host-ok = k;
-          is-held = e;
-          is-asked = p;
-          is-frame = g;
-          has-room = n;
-          not-worn = t;
-        })
-        (append-begins N img r reply x f t))
+  module _ (ok : allowed (a .blocks) (length (a .image)) ≡ true) (k : a .host .0 ≤ hostMax) (x : Journal) (e : heldFor a ≡ some x) where
+    module _ (q : Request) (p : parse (a .message) ≡ Is q) where
+      append-met : (f : Frame) → frameFor (a .host) (a .message) x q ≡ some f → noRoomFor a x q ≡ false → Met a (append a x f)
+      append-met f g n =
+          on-test (movesFor a f && eqb (x .time) lastTime)
+          (λ t. refused refusal.Worn (append-worn a x f t))
+          (λ t. begun
+          (record {
+            holding = x;
+            asked = q;
+            frame = f;
+            length-ok = ok;
+            host-ok = k;
+            is-held = e;
+            is-asked = p;
+            is-frame = g;
+            has-room = n;
+            not-worn = t;
+          })
+          (append-begins a x f t))
 
-    change-met : (c : Change) → frameFor h m x q ≡ some (change h c) → roomRule (sizeOf N img) h m x q ≡ noRoom (sizeOf N img) (replayOf x) h c
-        → Meets (serveChange N img r reply h x c)
-    change-met c g n =
-        on-test (noRoom (sizeOf N img) (replayOf x) h c)
-        (λ t. refused refusal.NoRoom (change-refused N img r reply h x c t))
-        (λ t. over (change-goes N img r reply h x c t) (append-met (change h c) g (n ∙ t)))
+      change-met : (c : Change) → frameFor (a .host) (a .message) x q ≡ some (change (a .host) c)
+          → noRoomFor a x q ≡ noRoom (sizeFor a) (replayOf x) (a .host) c → Met a (serveChange a x c)
+      change-met c g n =
+          on-test (noRoom (sizeFor a) (replayOf x) (a .host) c)
+          (λ t. refused refusal.NoRoom (change-refused a x c t))
+          (λ t. over (change-goes a x c t) (append-met (change (a .host) c) g (n ∙ t)))
 
-    end-met : (f : Frame) → frameFor h m x q ≡ frameIf (isOpen h (replayOf x .pending)) f → roomRule (sizeOf N img) h m x q ≡ false
-        → Meets (serveEnd N img r reply h x f)
-    end-met f g n =
-        on-test (isOpen h (replayOf x .pending))
-        (λ t. over (end-goes N img r reply h x f t) (append-met f (g ∙ ap (λ (b : Bool). frameIf b f) t) n))
-        (λ t. over (end-idle N img r reply h x f t) (done refl refl refl))
+      end-met : (f : Frame) → frameFor (a .host) (a .message) x q ≡ frameIf (isOpen (a .host) (replayOf x .pending)) f → noRoomFor a x q ≡ false
+          → Met a (serveEnd a x f)
+      end-met f g n =
+          on-test (isOpen (a .host) (replayOf x .pending))
+          (λ t. over (end-goes a x f t) (append-met f (g ∙ ap (λ (b : Bool). frameIf b f) t) n))
+          (λ t. over (end-idle a x f t) (done refl refl refl))
 
-  module _ (a : allowed N (length img) ≡ true) (k : h .0 ≤ hostMax) (x : Journal) (e : held N img r ≡ some x) where
-    read-met : (i : ObjectId) (v : Option (List ℕ)) → lookup i (replayOf x .objects) ≡ v → Meets (serve N img r reply h m x (Read i))
-    read-met i none l = refused refusal.NoObject (read-none N img r reply h m x i l)
-    read-met i (some v) l = over (read-some N img r reply h m x i v l) (done refl refl refl)
+    read-met : (i : ObjectId) (v : Option (List ℕ)) → lookup i (replayOf x .objects) ≡ v → Met a (serve a x (Read i))
+    read-met i none l = refused refusal.NoObject (read-none a x i l)
+    read-met i (some v) l = over (read-some a x i v l) (done refl refl refl)
 
-    serve-met : (q : Request) → parse m ≡ Is q → Meets (serve N img r reply h m x q)
-    serve-met (Put i) p = over (serve-put N img r reply h m x i) (change-met a k x e (Put i) p (put i (valueIn m)) refl refl)
-    serve-met (Delete i) p = over (serve-delete N img r reply h m x i) (change-met a k x e (Delete i) p (delete i) refl refl)
-    serve-met Commit p = over (serve-commit N img r reply h m x) (end-met a k x e Commit p (commit h) refl refl)
-    serve-met Abort p = over (serve-abort N img r reply h m x) (end-met a k x e Abort p (abort h) refl refl)
+    serve-met : (q : Request) → parse (a .message) ≡ Is q → Met a (serve a x q)
+    serve-met (Put i) p = over (serve-put a x i) (change-met (Put i) p (put i (valueIn (a .message))) refl refl)
+    serve-met (Delete i) p = over (serve-delete a x i) (change-met (Delete i) p (delete i) refl refl)
+    serve-met Commit p = over (serve-commit a x) (end-met Commit p (commit (a .host)) refl refl)
+    serve-met Abort p = over (serve-abort a x) (end-met Abort p (abort (a .host)) refl refl)
     serve-met (Read i) p = read-met i (lookup i (replayOf x .objects)) refl
     serve-met (Log Summary) p =
-        over (serve-log N img r reply h m x)
-        (on-test (ltb (length reply) pageLen)
-        (λ t. refused refusal.ShortReply (log-short N img r reply x t))
-        (λ t. over (log-done N img r reply x t) (done refl refl refl)))
+        over (serve-log a x)
+        (on-test (ltb (length (a .reply)) pageLen)
+        (λ t. refused refusal.ShortReply (log-short a x t))
+        (λ t. over (log-done a x t) (done refl refl refl)))
 
-    parsed-met : (p : Parsed) → parse m ≡ p → Meets (serveParsed N img r reply h m x p)
+    parsed-met : (p : Parsed) → parse (a .message) ≡ p → Met a (serveParsed a x p)
     parsed-met Malformed p = refused refusal.Malformed refl
     parsed-met (Is q) p = serve-met q p
 
-  held-met : allowed N (length img) ≡ true → h .0 ≤ hostMax → (x : Option Journal) → held N img r ≡ x → Meets (serveHeld N img r reply h m x)
-  held-met a k none e = refused refusal.Stale refl
-  held-met a k (some x) e = parsed-met a k x e (parse m) refl
+  module _ (ok : allowed (a .blocks) (length (a .image)) ≡ true) (k : a .host .0 ≤ hostMax) where
+    held-met : (x : Option Journal) → heldFor a ≡ x → Met a (serveHeld a x)
+    held-met none e = refused refusal.Stale refl
+    held-met (some x) e = parsed-met ok k x e (parse (a .message)) refl
 
-  phase-met : allowed N (length img) ≡ true → h .0 ≤ hostMax → (p : Phase) → Meets (requestIn N p img r reply h m)
-  phase-met a k (Busy s) = refused refusal.Busy refl
-  phase-met a k Unmounted = refused refusal.NoStore refl
-  phase-met a k Idle = held-met a k (held N img r) refl
+    phase-met : (p : Phase) → Met a (requestIn a p)
+    phase-met (Busy s) = refused refusal.Busy refl
+    phase-met Unmounted = refused refusal.NoStore refl
+    phase-met Idle = held-met (heldFor a) refl
 
-  pub request-met : Meets (requestOn N img r reply h m)
+  pub request-met : Met a (requestOn a)
   request-met =
-      on-test (allowed N (length img))
-      (λ a. on-test (leb (h .0) hostMax)
-      (λ k. over (request-in N img r reply h m a k) (phase-met a (leb-true (h .0) hostMax k) (r .phase)))
-      (λ k. refused refusal.HostRange (request-host N img r reply h m a k)))
-      (λ a. refused refusal.ImageLength (request-length N img r reply h m a))
+      on-test (allowed (a .blocks) (length (a .image)))
+      (λ ok. on-test (leb (a .host .0) hostMax)
+      (λ k. over (request-in a ok k refl) (phase-met ok (leb-true (a .host .0) hostMax k) (a .board .phase)))
+      (λ k. refused refusal.HostRange (request-host a ok k)))
+      (λ no. refused refusal.ImageLength (request-length a no))
 
 -- ---- the frame fits
 
@@ -217,17 +219,26 @@ frame-fits s h m x (Log p) f l k g t e = no-frame e
 -- ---- its plan
 
 -- an accepted request with steps to do appends document 01's frame, after a transfer if it must, in at most S steps
-pub record Appends (N : ℕ) (img : List ℕ) (r : Record) (h : Host) (msg : List ℕ) (o : Out) : Type 0 where
+pub record Appends (a : Asking) (o : Out) : Type 0 where
   pub holding : Journal
   pub asked : Request
   pub frame : Frame
-  pub is-held : Fresh N img r holding
-  pub is-asked : Means msg asked
-  pub is-frame : frameFor h msg holding asked ≡ some frame
-  pub follows : Performs N (exec N) img (o .board) (frameWork N img r holding frame)
-  pub short : length (frameWork N img r holding frame .steps) ≤ sizeOf N img
+  pub is-held : FreshFor a holding
+  pub is-asked : Means (a .message) asked
+  pub is-frame : frameFor (a .host) (a .message) holding asked ≡ some frame
+  pub follows : Performs (a .blocks) (exec (a .blocks)) (a .image) (o .board) (frameWork (a .blocks) (a .image) (a .board) holding frame)
+  pub short : length (frameWork (a .blocks) (a .image) (a .board) holding frame .steps) ≤ sizeFor a
 
-module _ {N : ℕ} {s : ℕ} {img : List ℕ} {r : Record} {h : Host} {m : List ℕ} (z : Sized N s img) (by : Bytes img) (bm : Bytes m) (y : Asked N img r h m) where
+module _ {s : ℕ} {a : Asking} (z : Sized (a .blocks) s (a .image)) (by : Bytes (a .image)) (bm : Bytes (a .message)) (y : Asked a) where
+  abbrev N : ℕ
+  N = a .blocks
+
+  abbrev img : List ℕ
+  img = a .image
+
+  abbrev r : Record
+  r = a .board
+
   abbrev x : Journal
   x = y .holding
 
@@ -247,8 +258,8 @@ module _ {N : ℕ} {s : ℕ} {img : List ℕ} {r : Record} {h : Host} {m : List 
 
   fitting : Fitting s (replayOf x) f
   fitting =
-      frame-fits s h m x (y .asked) f roomy (y .host-ok) (legal h m (y .asked) (y .host-ok) bm (y .is-asked))
-      (subst (λ (n : ℕ). roomRule n h m x (y .asked) ≡ false) (size-of z) (y .has-room)) (y .is-frame)
+      frame-fits s (a .host) (a .message) x (y .asked) f roomy (y .host-ok) (legal (a .host) (a .message) (y .asked) (y .host-ok) bm (y .is-asked))
+      (subst (λ (n : ℕ). roomRule n (a .host) (a .message) x (y .asked) ≡ false) (size-of z) (y .has-room)) (y .is-frame)
 
   appendable : Appendable N s img r x f
   appendable =
@@ -257,14 +268,14 @@ module _ {N : ℕ} {s : ℕ} {img : List ℕ} {r : Record} {h : Host} {m : List 
         legal = fitting .legal;
         fits = fitting .fits;
         young = λ n.
-            let t : (needsRoom N img r f && eqb (x .time) lastTime) ≡ false = y .not-worn in
+            let t : (movesFor a f && eqb (x .time) lastTime) ≡ false = y .not-worn in
             let v : eqb (x .time) lastTime ≡ false = rw n at t in
             omega (arith, eqb-false (x .time) lastTime v, holds .alone .contents .layout .time-hi);
       }
 
-  pub frame-appends : (reply : List ℕ) → Appends N img r h m (out (answerOf (jobOf y)) img (jobOf y) reply)
+  pub frame-appends : Appends a (begunBy y)
   unfolding FreshExact MessagesExact
-  frame-appends reply =
+  frame-appends =
       let j : Standing (block (sizeOf N img) (r .rest .block) img) (x .frames) =
       subst (λ (n : ℕ). Standing (block n (r .rest .block) img) (x .frames)) (sym (size-of z)) (standing-of (holds .alone .contents)) in
       record {
@@ -272,7 +283,7 @@ module _ {N : ℕ} {s : ℕ} {img : List ℕ} {r : Record} {h : Host} {m : List 
         asked = y .asked;
         frame = f;
         is-held = fresh-exact N img r x by (z .ok) .0 (y .is-held);
-        is-asked = messages-exact m (y .asked) .0 (y .is-asked);
+        is-asked = messages-exact (a .message) (y .asked) .0 (y .is-asked);
         is-frame = y .is-frame;
         follows = follows-frame img r x f (z .count) (holds .long) (holds .blocks) (holds .alone .there) j (sym (holds .ends))
             (omega (arith, fitting .fits, size-of z));
@@ -288,11 +299,10 @@ module _ {N : ℕ} {s : ℕ} {img : List ℕ} {r : Record} {h : Host} {m : List 
 
 -- ---- on any record and image
 
-pub requests-planned : {N : ℕ} (img : List ℕ) (r : Record) (h : Host) (m reply : List ℕ) → Bytes img → Bytes m → exec N img r (request h m reply) .answer ≡ More
-    → Appends N img r h m (exec N img r (request h m reply))
-requests-planned {N} img r h m reply by bm e = go (request-met N img r reply h m)
+pub requests-planned : (a : Asking) → Bytes (a .image) → Bytes (a .message) → requestOn a .answer ≡ More → Appends a (requestOn a)
+requests-planned a by bm e = go (request-met a)
   where
-    go : Met N img r reply h m (requestOn N img r reply h m) → Appends N img r h m (requestOn N img r reply h m)
+    go : Met a (requestOn a) → Appends a (requestOn a)
     go (refused n p) = let q : Refused n ≡ More = sym (ap (λ (o : Out). o .answer) p) ∙ e in let z : _≡_ {A = ℕ} 0 1 = cc in absurd (omega arith)
     go (done d i b) = let q : Done ≡ More = sym d ∙ e in let z : _≡_ {A = ℕ} 0 1 = cc in absurd (omega arith)
-    go (begun y p) = subst (Appends N img r h m) (sym p) (frame-appends (sized-of N img (y .length-ok)) by bm y reply)
+    go (begun y p) = subst (Appends a) (sym p) (frame-appends (sized-of (a .blocks) (a .image) (y .length-ok)) by bm y)

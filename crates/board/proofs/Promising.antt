@@ -17,7 +17,7 @@ use Rattle.frame.specs.Frame.{hostMax, Change, put, delete, Frame, change, comm
 use Rattle.journal.specs.Replay.{lookup, isOpen}
 use Rattle.journal.specs.Block.{Journal, lastTime}
 use Rattle.journal.specs.Room.{noRoom}
-use Rattle.wire.specs.declared.Answer.the-variants.{Done, More}
+use Rattle.wire.specs.declared.Answer.the-variants.{More}
 use Rattle.wire.specs.declared.Refusal.{Refusal}
 use Rattle.wire.specs.declared.Refusal.the-variants as refusal
 use Rattle.wire.specs.declared.Page.the-variants.{Summary}
@@ -29,19 +29,19 @@ use Rattle.wire.specs.Message.{parse, valueIn, pageLen}
 use Rattle.board.specs.declared.Phase.{Phase}
 use Rattle.board.specs.declared.Phase.the-variants.{Unmounted, Idle, Busy}
 use Rattle.board.specs.declared.Record.{Record}
-use Rattle.board.specs.Record.{allowed, Stretch, noStretch, Out, out, refuse, answerOf}
+use Rattle.board.specs.Record.{allowed, Stretch, noStretch, Out}
 use Rattle.board.specs.Mount.{Store, mountOn, formatOn, replayOf}
-use Rattle.board.specs.Queue.{held, needsRoom, placeOf, append, serve, serveChange, serveEnd, requestOn}
+use Rattle.board.specs.Queue.{placeOf, append, serve, serveChange, serveEnd, requestOn, Asking, asking, sizeFor, heldFor, movesFor, refuseTo, doneAt}
 use Rattle.board.specs.Exec.{Call, request, step, mount, format, exec}
 use Rattle.board.specs.Plan.{Work, Performs, formatWork, mountWork, frameWork}
-use Rattle.board.specs.Table.{frameFor, frameIf, Fresh, FreshExact, Exactly, linesOf}
+use Rattle.board.specs.Table.{frameFor, frameIf, Fresh, FreshExact, Exactly, linesOf, FreshFor}
 use Rattle.board.specs.Demand1.{Short}
 use Rattle.board.specs.Demand2.{Accepted, Mounts, OneStore}
 use Rattle.board.specs.Claim.{ByteCall}
 use Rattle.wire.specs.Sentences.{Means, MessagesExact}
 use Rattle.board.specs.Sentences.{StretchExact}
 use Rattle.board.specs.Promise.{Answers, replyFor, Stands, HandsBack, Serves, Current, Job, frame-job, mount-job, format-job, Calls}
-use Rattle.board.proofs.Checks.{roomRule}
+use Rattle.board.proofs.Checks.{noRoomFor}
 use Rattle.board.proofs.Images.{sized-of}
 use Rattle.board.proofs.Refusals.{refusals-untouched, at-most-one-step}
 use Rattle.board.proofs.Ending.{forged-ends}
@@ -49,148 +49,136 @@ use Rattle.board.proofs.Demand2.{one-store}
 use Rattle.board.proofs.Accepted.{follows-format}
 use Rattle.board.proofs.Outcomes.{append-worn, append-begins, change-refused, change-goes, end-goes, end-idle, log-short, log-done}
 use Rattle.board.proofs.Outcomes.{serve-put, serve-delete, serve-commit, serve-abort, serve-log, read-none, read-some}
-use Rattle.board.proofs.Outcomes.{request-length, request-host, request-busy, request-unmounted, request-served, mount-length}
+use Rattle.board.proofs.Outcomes.{request-length, request-host, request-in, request-served, mount-length}
 use Rattle.board.proofs.Outcomes.{format-length, format-begins, step-resting}
-use Rattle.board.proofs.Planning.{Appends, Asked, jobOf, frame-begins, requests-planned, the-frame}
+use Rattle.board.proofs.Planning.{Appends, Asked, begunBy, frame-begins, requests-planned, the-frame}
 use Rattle.board.proofs.Lengths.{length-format}
 use Rattle.wire.proofs.Sentences.{messages-exact}
 use Rattle.board.proofs.Freshness.{fresh-exact}
 use Rattle.board.proofs.Sentences.{stretch-exact}
 use Rattle.board.proofs.Tabling.{request-lines, step-lines, format-lines, same-request, same-held}
 use Rattle.board.proofs.TablingMounts.{mount-lines, same-store, mounts-current, mount-names}
-use Rattle.board.proofs.Answering.{whole}
 use Rattle.board.proofs.Telling.{told, silent}
 
 -- ---- accepted requests
 
-module _ (N : ℕ) (img : List ℕ) (r : Record) (h : Host) (m reply : List ℕ) (by : Bytes img) (bm : Bytes m) (x : Journal) (e : held N img r ≡ some x)
-    (q : Request) (p : parse m ≡ Is q) where
-  abbrev Meets : Out → Type 0
-  Meets o = Accepted (o .answer) → Serves N img r h m reply x q o
-
-  over : {o o′ : Out} → o ≡ o′ → Meets o′ → Meets o
-  over d y = subst Meets (sym d) y
-
-  turned-down : {o : Out} (n : Refusal) → o ≡ refuse n img r reply → Meets o
-  turned-down n d a = absurd (subst Accepted (ap (λ (o : Out). o .answer) d) a)
-
-  at-once : (o : Out) (st : Stretch) → o ≡ whole Done img r (replyFor N img reply x q) st → HandsBack N img r x q st → frameFor h m x q ≡ none → Meets o
-  at-once o st d v n a =
-      record {
-        answers = subst (λ (f : Option Frame). Answers f r o) (sym n) (ap (λ (y : Out). numberOf (y .answer)) d, ap (λ (y : Out). y .board) d);
-        writes = ap (λ (y : Out). y .reply) d;
-        hands-back = subst (λ (y : Out). HandsBack N img r x q (y .stretch)) (sym d) v;
-      }
-
-  begun : (o : Out) (y : Asked N img r h m) → o ≡ out (answerOf (jobOf y)) img (jobOf y) reply → (f : Frame) → frameFor h m x q ≡ some f
-      → reply ≡ replyFor N img reply x q → HandsBack N img r x q noStretch → Meets o
-  begun o y d f g u v a =
-      record {
-        answers = subst (λ (k : Option Frame). Answers k r o) (sym g)
-            (ap (λ (k : Out). k .answer) d ∙ frame-begins (sized-of N img (y .length-ok)) by bm y .0);
-        writes = ap (λ (k : Out). k .reply) d ∙ u;
-        hands-back = subst (λ (k : Out). HandsBack N img r x q (k .stretch)) (sym d) v;
-      }
-
-  module _ (a : allowed N (length img) ≡ true) (k : h .0 ≤ hostMax) where
-    append-met : (f : Frame) → frameFor h m x q ≡ some f → roomRule (sizeOf N img) h m x q ≡ false → reply ≡ replyFor N img reply x q
-        → HandsBack N img r x q noStretch → Meets (append N img r reply x f)
-    append-met f g n u v =
-        on-test (needsRoom N img r f && eqb (x .time) lastTime)
-        (λ t. turned-down refusal.Worn (append-worn N img r reply x f t))
-        (λ t. begun (append N img r reply x f)
-        (record {
-          holding = x;
-          asked = q;
-          frame = f;
-          length-ok = a;
-          host-ok = k;
-          is-held = e;
-          is-asked = p;
-          is-frame = g;
-          has-room = n;
-          not-worn = t;
-        })
-        (append-begins N img r reply x f t) f g u v)
-
-    change-met : (c : Change) → frameFor h m x q ≡ some (change h c) → roomRule (sizeOf N img) h m x q ≡ noRoom (sizeOf N img) (replayOf x) h c
-        → reply ≡ replyFor N img reply x q → HandsBack N img r x q noStretch → Meets (serveChange N img r reply h x c)
-    change-met c g n u v =
-        on-test (noRoom (sizeOf N img) (replayOf x) h c)
-        (λ t. turned-down refusal.NoRoom (change-refused N img r reply h x c t))
-        (λ t. over (change-goes N img r reply h x c t) (append-met (change h c) g (n ∙ t) u v))
-
-    end-met : (f : Frame) → frameFor h m x q ≡ frameIf (isOpen h (replayOf x .pending)) f → roomRule (sizeOf N img) h m x q ≡ false
-        → reply ≡ replyFor N img reply x q → HandsBack N img r x q noStretch → Meets (serveEnd N img r reply h x f)
-    end-met f g n u v =
-        on-test (isOpen h (replayOf x .pending))
-        (λ t. over (end-goes N img r reply h x f t) (append-met f (g ∙ ap (λ (b : Bool). frameIf b f) t) n u v))
-        (λ t. at-once (serveEnd N img r reply h x f) noStretch (end-idle N img r reply h x f t ∙ ap (λ (y : List ℕ). whole Done img r y noStretch) u) v
-        (g ∙ ap (λ (b : Bool). frameIf b f) t))
-
-module _ (N : ℕ) (img : List ℕ) (r : Record) (h : Host) (m reply : List ℕ) (by : Bytes img) (bm : Bytes m) (x : Journal) (e : held N img r ≡ some x) where
+module _ (a : Asking) (by : Bytes (a .image)) (bm : Bytes (a .message)) (x : Journal) (e : heldFor a ≡ some x) where
   abbrev Met : Request → Out → Type 0
-  Met q o = Accepted (o .answer) → Serves N img r h m reply x q o
+  Met q o = Accepted (o .answer) → Serves a x q o
 
-  -- where the value stands
-  stands : allowed N (length img) ≡ true → (i : ObjectId) → parse m ≡ Is (Read i) → (v : List ℕ) → lookup i (replayOf x .objects) ≡ some v
-      → Stands N img r x i (placeOf N img r x i)
-  unfolding FreshExact MessagesExact StretchExact
-  stands ok i p v l =
-      let y = stretch-exact N img r x i v (fresh-exact N img r x by ok .0 e .is-valid) (messages-exact m (Read i) .0 p .3) l in
-      record { value = v; at = y .0; from = y .2; is = y .1 }
+  over : (q : Request) {o o′ : Out} → o ≡ o′ → Met q o′ → Met q o
+  over q d y = subst (Met q) (sym d) y
 
-  read-met : allowed N (length img) ≡ true → (i : ObjectId) → parse m ≡ Is (Read i) → (v : Option (List ℕ)) → lookup i (replayOf x .objects) ≡ v
-      → Met (Read i) (serve N img r reply h m x (Read i))
-  read-met ok i p none l = turned-down N img r h m reply by bm x e (Read i) p refusal.NoObject (read-none N img r reply h m x i l)
-  read-met ok i p (some v) l =
-      at-once N img r h m reply by bm x e (Read i) p (serve N img r reply h m x (Read i)) (placeOf N img r x i) (read-some N img r reply h m x i v l)
-      (stands ok i p v l) refl
+  turned-down : (q : Request) {o : Out} (n : Refusal) → o ≡ refuseTo a n → Met q o
+  turned-down q n d t = absurd (subst Accepted (ap (λ (o : Out). o .answer) d) t)
 
-  log-met : parse m ≡ Is (Log Summary) → Met (Log Summary) (serve N img r reply h m x (Log Summary))
-  log-met p =
-      over N img r h m reply by bm x e (Log Summary) p (serve-log N img r reply h m x)
-      (on-test (ltb (length reply) pageLen)
-      (λ t. turned-down N img r h m reply by bm x e (Log Summary) p refusal.ShortReply (log-short N img r reply x t))
-      (λ t. at-once N img r h m reply by bm x e (Log Summary) p _ noStretch (log-done N img r reply x t) refl refl))
+  at-once : (q : Request) (o : Out) (st : Stretch) → o ≡ doneAt a (replyFor a x q) st → HandsBack a x q st → frameFor (a .host) (a .message) x q ≡ none
+      → Met q o
+  at-once q o st d v n t =
+      record {
+        answers = subst (λ (f : Option Frame). Answers f (a .board) o) (sym n) (ap (λ (y : Out). numberOf (y .answer)) d, ap (λ (y : Out). y .board) d);
+        writes = ap (λ (y : Out). y .reply) d;
+        hands-back = subst (λ (y : Out). HandsBack a x q (y .stretch)) (sym d) v;
+      }
 
-  serve-met : allowed N (length img) ≡ true → h .0 ≤ hostMax → (q : Request) → parse m ≡ Is q → Met q (serve N img r reply h m x q)
-  serve-met a k (Put i) p =
-      over N img r h m reply by bm x e (Put i) p (serve-put N img r reply h m x i)
-      (change-met N img r h m reply by bm x e (Put i) p a k (put i (valueIn m)) refl refl refl refl)
-  serve-met a k (Delete i) p =
-      over N img r h m reply by bm x e (Delete i) p (serve-delete N img r reply h m x i)
-      (change-met N img r h m reply by bm x e (Delete i) p a k (delete i) refl refl refl refl)
-  serve-met a k Commit p =
-      over N img r h m reply by bm x e Commit p (serve-commit N img r reply h m x) (end-met N img r h m reply by bm x e Commit p a k
-      (commit h) refl refl refl refl)
-  serve-met a k Abort p =
-      over N img r h m reply by bm x e Abort p (serve-abort N img r reply h m x) (end-met N img r h m reply by bm x e Abort p a k (abort h) refl refl refl refl)
-  serve-met a k (Read i) p = read-met a i p (lookup i (replayOf x .objects)) refl
-  serve-met a k (Log Summary) p = log-met p
+  module _ (q : Request) (p : parse (a .message) ≡ Is q) (u : a .reply ≡ replyFor a x q) (v : HandsBack a x q noStretch) where
+    begun : (o : Out) (y : Asked a) → o ≡ begunBy y → (f : Frame) → frameFor (a .host) (a .message) x q ≡ some f → Met q o
+    begun o y d f g t =
+        record {
+          answers = subst (λ (k : Option Frame). Answers k (a .board) o) (sym g)
+              (ap (λ (k : Out). k .answer) d ∙ frame-begins (sized-of (a .blocks) (a .image) (y .length-ok)) by bm y .0);
+          writes = ap (λ (k : Out). k .reply) d ∙ u;
+          hands-back = subst (λ (k : Out). HandsBack a x q (k .stretch)) (sym d) v;
+        }
 
-  request-met : (q : Request) → parse m ≡ Is q → Met q (requestOn N img r reply h m)
-  request-met q p =
-      on-test (allowed N (length img))
-      (λ a. on-test (leb (h .0) hostMax) (λ k. phased a k (r .phase) refl) (λ k. turned refusal.HostRange (request-host N img r reply h m a k)))
-      (λ a. turned refusal.ImageLength (request-length N img r reply h m a))
-    where
-      turned : (n : Refusal) → requestOn N img r reply h m ≡ refuse n img r reply → Met q (requestOn N img r reply h m)
-      turned n d = turned-down N img r h m reply by bm x e q p n d
+    module _ (ok : allowed (a .blocks) (length (a .image)) ≡ true) (k : a .host .0 ≤ hostMax) where
+      append-met : (f : Frame) → frameFor (a .host) (a .message) x q ≡ some f → noRoomFor a x q ≡ false → Met q (append a x f)
+      append-met f g n =
+          on-test (movesFor a f && eqb (x .time) lastTime)
+          (λ t. turned-down q refusal.Worn (append-worn a x f t))
+          (λ t. begun (append a x f)
+          (record {
+            holding = x;
+            asked = q;
+            frame = f;
+            length-ok = ok;
+            host-ok = k;
+            is-held = e;
+            is-asked = p;
+            is-frame = g;
+            has-room = n;
+            not-worn = t;
+          })
+          (append-begins a x f t) f g)
 
-      phased : allowed N (length img) ≡ true → leb (h .0) hostMax ≡ true → (s : Phase) → r .phase ≡ s → Met q (requestOn N img r reply h m)
-      phased a k (Busy s) d = turned refusal.Busy (request-busy N img r reply h m a k s d)
-      phased a k Unmounted d = turned refusal.NoStore (request-unmounted N img r reply h m a k d)
-      phased a k Idle d =
-          over N img r h m reply by bm x e q p (request-served N img r reply h m a k x q d e p) (serve-met a (leb-true (h .0) hostMax k) q p)
+      change-met : (c : Change) → frameFor (a .host) (a .message) x q ≡ some (change (a .host) c)
+          → noRoomFor a x q ≡ noRoom (sizeFor a) (replayOf x) (a .host) c → Met q (serveChange a x c)
+      change-met c g n =
+          on-test (noRoom (sizeFor a) (replayOf x) (a .host) c)
+          (λ t. turned-down q refusal.NoRoom (change-refused a x c t))
+          (λ t. over q (change-goes a x c t) (append-met (change (a .host) c) g (n ∙ t)))
 
-serves : {N : ℕ} (img : List ℕ) (r : Record) (h : Host) (m reply : List ℕ) (x : Journal) (q : Request) → Bytes img → Bytes m → Fresh N img r x → Means m q
-    → Accepted (exec N img r (request h m reply) .answer) → Serves N img r h m reply x q (exec N img r (request h m reply))
+      end-met : (f : Frame) → frameFor (a .host) (a .message) x q ≡ frameIf (isOpen (a .host) (replayOf x .pending)) f → noRoomFor a x q ≡ false
+          → Met q (serveEnd a x f)
+      end-met f g n =
+          on-test (isOpen (a .host) (replayOf x .pending))
+          (λ t. over q (end-goes a x f t) (append-met f (g ∙ ap (λ (b : Bool). frameIf b f) t) n))
+          (λ t. at-once q (serveEnd a x f) noStretch (end-idle a x f t ∙ ap (λ (y : List ℕ). doneAt a y noStretch) u) v
+          (g ∙ ap (λ (b : Bool). frameIf b f) t))
+
+  module _ (ok : allowed (a .blocks) (length (a .image)) ≡ true) where
+    -- where the value stands
+    stands : (i : ObjectId) → parse (a .message) ≡ Is (Read i) → (v : List ℕ) → lookup i (replayOf x .objects) ≡ some v
+        → Stands a x i (placeOf (a .blocks) (a .image) (a .board) x i)
+    unfolding FreshExact MessagesExact StretchExact
+    stands i p v l =
+        let f : FreshFor a x = fresh-exact (a .blocks) (a .image) (a .board) x by ok .0 e in
+        let y = stretch-exact (a .blocks) (a .image) (a .board) x i v (f .is-valid) (messages-exact (a .message) (Read i) .0 p .3) l in
+        record { value = v; at = y .0; from = y .2; is = y .1 }
+
+    read-met : (i : ObjectId) → parse (a .message) ≡ Is (Read i) → (v : Option (List ℕ)) → lookup i (replayOf x .objects) ≡ v
+        → Met (Read i) (serve a x (Read i))
+    read-met i p none l = turned-down (Read i) refusal.NoObject (read-none a x i l)
+    read-met i p (some v) l =
+        at-once (Read i) (serve a x (Read i)) (placeOf (a .blocks) (a .image) (a .board) x i) (read-some a x i v l) (stands i p v l) refl
+
+    log-met : Met (Log Summary) (serve a x (Log Summary))
+    log-met =
+        over (Log Summary) (serve-log a x)
+        (on-test (ltb (length (a .reply)) pageLen)
+        (λ t. turned-down (Log Summary) refusal.ShortReply (log-short a x t))
+        (λ t. at-once (Log Summary) _ noStretch (log-done a x t) refl refl))
+
+    serve-met : a .host .0 ≤ hostMax → (q : Request) → parse (a .message) ≡ Is q → Met q (serve a x q)
+    serve-met k (Put i) p = over (Put i) (serve-put a x i) (change-met (Put i) p refl refl ok k (put i (valueIn (a .message))) refl refl)
+    serve-met k (Delete i) p = over (Delete i) (serve-delete a x i) (change-met (Delete i) p refl refl ok k (delete i) refl refl)
+    serve-met k Commit p = over Commit (serve-commit a x) (end-met Commit p refl refl ok k (commit (a .host)) refl refl)
+    serve-met k Abort p = over Abort (serve-abort a x) (end-met Abort p refl refl ok k (abort (a .host)) refl refl)
+    serve-met k (Read i) p = read-met i p (lookup i (replayOf x .objects)) refl
+    serve-met k (Log Summary) p = log-met
+
+    phase-met : leb (a .host .0) hostMax ≡ true → (q : Request) → parse (a .message) ≡ Is q → (s : Phase) → a .board .phase ≡ s → Met q (requestOn a)
+    phase-met k q p (Busy s) d = turned-down q refusal.Busy (request-in a ok k d)
+    phase-met k q p Unmounted d = turned-down q refusal.NoStore (request-in a ok k d)
+    phase-met k q p Idle d = over q (request-served a ok k x q d e p) (serve-met (leb-true (a .host .0) hostMax k) q p)
+
+    request-met : (q : Request) → parse (a .message) ≡ Is q → Met q (requestOn a)
+    request-met q p =
+        on-test (leb (a .host .0) hostMax)
+        (λ k. phase-met k q p (a .board .phase) refl)
+        (λ k. turned-down q refusal.HostRange (request-host a ok k))
+
+length-accepted : (a : Asking) → Accepted (requestOn a .answer) → allowed (a .blocks) (length (a .image)) ≡ true
+length-accepted a t =
+    on-test (allowed (a .blocks) (length (a .image))) (λ ok. ok)
+    (λ no. absurd (subst Accepted (ap (λ (o : Out). o .answer) (request-length a no)) t))
+
+serves : (a : Asking) (x : Journal) (q : Request) → Bytes (a .image) → Bytes (a .message) → FreshFor a x → Means (a .message) q
+    → Accepted (requestOn a .answer) → Serves a x q (requestOn a)
 unfolding FreshExact MessagesExact
-serves {N} img r h m reply x q by bm f k a =
-    on-test (allowed N (length img))
-    (λ ok. request-met N img r h m reply by bm x (fresh-exact N img r x by ok .1 f) q (messages-exact m q .1 k) a)
-    (λ no. absurd (subst Accepted (ap (λ (o : Out). o .answer) (request-length N img r reply h m no)) a))
+serves a x q by bm f k t =
+    let ok : allowed (a .blocks) (length (a .image)) ≡ true = length-accepted a t in
+    request-met a by bm x (fresh-exact (a .blocks) (a .image) (a .board) x by ok .1 f) ok q (messages-exact (a .message) q .1 k) t
 
 -- ---- jobs
 
@@ -207,12 +195,10 @@ module _ (N : ℕ) (img : List ℕ) (r : Record) (by : Bytes img) where
       → Accepted (exec N img r (request h m reply) .answer) → Plans N img r (request h m reply) (exec N img r (request h m reply)) x f
   frame-does h m reply x q f bm v k g a =
       let o : Out = exec N img r (request h m reply) in
-      let t : o .answer ≡ More = subst (λ (n : Option Frame). Answers n r o) g (serves img r h m reply x q by bm v k a .answers) in
-      let w : Appends N img r h m o = requests-planned img r h m reply by bm t in
-      let c : w .holding ≡ x =
-      on-test (allowed N (length img))
-      (λ ok. same-held N img r by ok (w .holding) x (w .is-held) v)
-      (λ no. absurd (subst Accepted (ap (λ (y : Out). y .answer) (request-length N img r reply h m no)) a)) in
+      let b : Asking = asking N img r h m reply in
+      let t : o .answer ≡ More = subst (λ (n : Option Frame). Answers n r o) g (serves b x q by bm v k a .answers) in
+      let w : Appends b o = requests-planned b by bm t in
+      let c : w .holding ≡ x = same-held N img r by (length-accepted b a) (w .holding) x (w .is-held) v in
       let d : w .asked ≡ q = same-request m (w .asked) q (w .is-asked) k in
       let e : w .frame ≡ f = the-frame (sym (w .is-frame) ∙ ap₂ (frameFor h m) c d ∙ g) in
       subst₂ (Plans N img r (request h m reply) o) c e (w .follows, w .short)
@@ -247,7 +233,7 @@ module _ (N : ℕ) (img : List ℕ) (r : Record) (by : Bytes img) where
 -- ---- every call
 
 by-lines : (N : ℕ) (img : List ℕ) (r : Record) (c : Call) → Bytes img → Exactly (linesOf N img r c) (exec N img r c .answer)
-by-lines N img r (request h msg reply) by = request-lines img r h msg reply by
+by-lines N img r (request h msg reply) by = request-lines (asking N img r h msg reply) by
 by-lines N img r step by = step-lines img r
 by-lines N img r mount by = mount-lines img by
 by-lines N img r format by = format-lines img r
@@ -262,7 +248,7 @@ calls {N} =
       rests = step-resting N;
       one-step = at-most-one-step N;
       silent = silent N;
-      serves = serves;
+      serves = λ img r h m reply. serves (asking N img r h m reply);
       jobs = λ img r c w by bc j a. job-does N img r by c w bc j a;
       ends = forged-ends N;
     }

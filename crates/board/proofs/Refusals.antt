@@ -4,14 +4,13 @@ use mathlib.Core.List.{List, [], _∷_}
 use mathlib.Core.Logic.{inl, inr}
 use mathlib.Core.Option.{Option, none, some}
 use mathlib.Core.Bool.{Bool, true, false, _&&_, _||_, not}
-use Prim.Native.Nat.{ℕ, suc}
+use Prim.Native.Nat.{ℕ}
 use native.Mathlib.Omega.{arith}
 use lib.Dec.{eqb, ltb, leb}
 use lib.ListN.{length}
 use borrow.Author.Tests.{leb-true, leb-false, lt-ltb, le-ltb}
 use Rattle.flash.specs.Flash.{apply, sizeOf, within}
 use Rattle.flash.proofs.Cases.{on-test, or-left, or-no-left, or-no-right}
-use Rattle.frame.specs.declared.Host.{Host}
 use Rattle.frame.specs.declared.ObjectId.{ObjectId}
 use Rattle.frame.specs.Frame.{hostMax, Change, put, delete, Frame, change, commit, abort}
 use Rattle.journal.specs.Replay.{lookup, isOpen}
@@ -34,7 +33,7 @@ use Rattle.board.specs.Record.{allowed, unmounted, Out, refuse, answerIn
 use Rattle.board.specs.Step.{sameShape, enterWipe, action, advance, stepOn}
 use Rattle.board.specs.Mount.{allFound, anyForeign, Found, Store, stores, equalTimes, newest, wipeList, upkeep, transfers, mountJob, replayOf, timeOf}
 use Rattle.board.specs.Mount.{isForeign, orForeign, noneValid, mountAt, mountStores, mountOn, formatJob, formatOn}
-use Rattle.board.specs.Queue.{held, needsRoom, appendJob, append, serveChange, serveEnd, serve, serveParsed, serveHeld, requestIn, requestOn}
+use Rattle.board.specs.Queue.{appendJob, append, serveChange, serveEnd, serve, serveParsed, serveHeld, requestIn, requestOn, Asking, asking, sizeFor, heldFor, movesFor}
 use Rattle.board.specs.Exec.{Call, request, step, mount, format, exec}
 use Rattle.board.specs.Table.{isBusy, isNone, frameIf}
 use Rattle.board.specs.Demand1.{Unchanged, OneStep, ImageAfter, Rests}
@@ -96,80 +95,77 @@ over {K} {img} {b} {reply} {cs} e f = subst (λ (x : Out). Follows K img b reply
 abbrev Same : List ℕ → List ℕ → Type 0
 Same img i = i ≡ img
 
-module _ (N : ℕ) (img : List ℕ) (r : Record) (reply : List ℕ) where
+module _ (a : Asking) where
   abbrev Asked : List Check → Out → Type 0
-  Asked cs o = Follows (Same img) img r reply cs o
+  Asked cs o = Follows (Same (a .image)) (a .image) (a .board) (a .reply) cs o
 
-  append-asked : (x : Journal) (f : Frame) → Asked (check refusal.Worn (needsRoom N img r f && eqb (x .time) lastTime) ∷ []) (append N img r reply x f)
+  append-asked : (x : Journal) (f : Frame) → Asked (check refusal.Worn (movesFor a f && eqb (x .time) lastTime) ∷ []) (append a x f)
   append-asked x f =
-      on-test (needsRoom N img r f && eqb (x .time) lastTime)
-      (λ e. stops refl e (append-worn N img r reply x f e))
-      (λ e. over (append-begins N img r reply x f e) (passes e (accepted (begin-accepts (enterWipe (appendJob N img r x f) .phase)) refl)))
+      on-test (movesFor a f && eqb (x .time) lastTime)
+      (λ e. stops refl e (append-worn a x f e))
+      (λ e. over (append-begins a x f e)
+      (passes e (accepted (begin-accepts (enterWipe (appendJob (a .blocks) (a .image) (a .board) x f) .phase)) refl)))
 
-  change-asked : (h : Host) (x : Journal) (c : Change)
-      → Asked (check refusal.NoRoom (noRoom (sizeOf N img) (replayOf x) h c) ∷ check refusal.Worn (worn N img r x (some (change h c))) ∷ [])
-      (serveChange N img r reply h x c)
-  change-asked h x c =
-      on-test (noRoom (sizeOf N img) (replayOf x) h c)
-      (λ e. stops refl e (change-refused N img r reply h x c e))
-      (λ e. over (change-goes N img r reply h x c e) (passes e (append-asked x (change h c))))
+  change-asked : (x : Journal) (c : Change)
+      → Asked (check refusal.NoRoom (noRoom (sizeFor a) (replayOf x) (a .host) c) ∷ check refusal.Worn (worn a x (some (change (a .host) c))) ∷ [])
+      (serveChange a x c)
+  change-asked x c =
+      on-test (noRoom (sizeFor a) (replayOf x) (a .host) c)
+      (λ e. stops refl e (change-refused a x c e))
+      (λ e. over (change-goes a x c e) (passes e (append-asked x (change (a .host) c))))
 
-  end-asked : (h : Host) (x : Journal) (f : Frame)
-      → Asked (check refusal.Worn (worn N img r x (frameIf (isOpen h (replayOf x .pending)) f)) ∷ []) (serveEnd N img r reply h x f)
-  end-asked h x f =
-      on-test (isOpen h (replayOf x .pending))
-      (λ e. over (end-goes N img r reply h x f e) (rw e (append-asked x f)))
-      (λ e. over (end-idle N img r reply h x f e) (passes (rw e) (accepted refl refl)))
+  end-asked : (x : Journal) (f : Frame)
+      → Asked (check refusal.Worn (worn a x (frameIf (isOpen (a .host) (replayOf x .pending)) f)) ∷ []) (serveEnd a x f)
+  end-asked x f =
+      on-test (isOpen (a .host) (replayOf x .pending))
+      (λ e. over (end-goes a x f e) (rw e (append-asked x f)))
+      (λ e. over (end-idle a x f e) (passes (rw e) (accepted refl refl)))
 
-  read-asked : (h : Host) (m : List ℕ) (x : Journal) (i : ObjectId) (v : Option (List ℕ)) → lookup i (replayOf x .objects) ≡ v
-      → Asked (heldChecks N img r h m reply x (Read i)) (serve N img r reply h m x (Read i))
-  read-asked h m x i none e = stops refl (rw e) (read-none N img r reply h m x i e)
-  read-asked h m x i (some v) e =
-      over (read-some N img r reply h m x i v e) (passes (rw e) (passes refl (passes refl (passes refl (accepted refl refl)))))
+  read-asked : (x : Journal) (i : ObjectId) (v : Option (List ℕ)) → lookup i (replayOf x .objects) ≡ v
+      → Asked (heldChecks a x (Read i)) (serve a x (Read i))
+  read-asked x i none e = stops refl (rw e) (read-none a x i e)
+  read-asked x i (some v) e = over (read-some a x i v e) (passes (rw e) (passes refl (passes refl (passes refl (accepted refl refl)))))
 
-  log-asked : (h : Host) (m : List ℕ) (x : Journal) → Asked (heldChecks N img r h m reply x (Log Summary)) (serve N img r reply h m x (Log Summary))
-  log-asked h m x =
-      over (serve-log N img r reply h m x)
+  log-asked : (x : Journal) → Asked (heldChecks a x (Log Summary)) (serve a x (Log Summary))
+  log-asked x =
+      over (serve-log a x)
       (passes refl
-      (on-test (ltb (length reply) pageLen)
-      (λ e. stops refl e (log-short N img r reply x e))
-      (λ e. over (log-done N img r reply x e) (passes e (passes refl (passes refl (accepted refl refl)))))))
+      (on-test (ltb (length (a .reply)) pageLen)
+      (λ e. stops refl e (log-short a x e))
+      (λ e. over (log-done a x e) (passes e (passes refl (passes refl (accepted refl refl)))))))
 
-  serve-asked : (h : Host) (m : List ℕ) (x : Journal) (q : Request) → Asked (heldChecks N img r h m reply x q) (serve N img r reply h m x q)
-  serve-asked h m x (Put i) = over (serve-put N img r reply h m x i) (passes refl (passes refl (change-asked h x (put i (valueIn m)))))
-  serve-asked h m x (Delete i) = over (serve-delete N img r reply h m x i) (passes refl (passes refl (change-asked h x (delete i))))
-  serve-asked h m x Commit = over (serve-commit N img r reply h m x) (passes refl (passes refl (passes refl (end-asked h x (commit h)))))
-  serve-asked h m x Abort = over (serve-abort N img r reply h m x) (passes refl (passes refl (passes refl (end-asked h x (abort h)))))
-  serve-asked h m x (Read i) = read-asked h m x i (lookup i (replayOf x .objects)) refl
-  serve-asked h m x (Log Summary) = log-asked h m x
+  serve-asked : (x : Journal) (q : Request) → Asked (heldChecks a x q) (serve a x q)
+  serve-asked x (Put i) = over (serve-put a x i) (passes refl (passes refl (change-asked x (put i (valueIn (a .message))))))
+  serve-asked x (Delete i) = over (serve-delete a x i) (passes refl (passes refl (change-asked x (delete i))))
+  serve-asked x Commit = over (serve-commit a x) (passes refl (passes refl (passes refl (end-asked x (commit (a .host))))))
+  serve-asked x Abort = over (serve-abort a x) (passes refl (passes refl (passes refl (end-asked x (abort (a .host))))))
+  serve-asked x (Read i) = read-asked x i (lookup i (replayOf x .objects)) refl
+  serve-asked x (Log Summary) = log-asked x
 
-  parsed-asked : (h : Host) (m : List ℕ) (x : Journal) (p : Parsed)
-      → Asked (check refusal.Malformed (isMalformed p) ∷ laterChecks N img r h m reply (some x) p) (serveParsed N img r reply h m x p)
-  parsed-asked h m x Malformed = stops refl refl refl
-  parsed-asked h m x (Is q) = passes refl (serve-asked h m x q)
+  parsed-asked : (x : Journal) (p : Parsed) → Asked (check refusal.Malformed (isMalformed p) ∷ laterChecks a (some x) p) (serveParsed a x p)
+  parsed-asked x Malformed = stops refl refl refl
+  parsed-asked x (Is q) = passes refl (serve-asked x q)
 
-  held-asked : (h : Host) (m : List ℕ) (x : Option Journal)
-      → Asked (check refusal.Stale (isNone x) ∷ check refusal.Malformed (isMalformed (parse m)) ∷ laterChecks N img r h m reply x (parse m))
-      (serveHeld N img r reply h m x)
-  held-asked h m none = stops refl refl refl
-  held-asked h m (some x) = passes refl (parsed-asked h m x (parse m))
+  abbrev fromStale : Option Journal → List Check
+  fromStale x = check refusal.Stale (isNone x) ∷ check refusal.Malformed (isMalformed (parse (a .message))) ∷ laterChecks a x (parse (a .message))
 
-  phase-asked : (h : Host) (m : List ℕ) (p : Phase)
-      → Asked (check refusal.Busy (isBusy p) ∷ check refusal.NoStore (isUnmounted p) ∷ check refusal.Stale (isNone (held N img r))
-      ∷ check refusal.Malformed (isMalformed (parse m)) ∷ laterChecks N img r h m reply (held N img r) (parse m))
-      (requestIn N p img r reply h m)
-  phase-asked h m (Busy s) = stops refl refl refl
-  phase-asked h m Unmounted = passes refl (stops refl refl refl)
-  phase-asked h m Idle = passes refl (passes refl (held-asked h m (held N img r)))
+  held-asked : (x : Option Journal) → Asked (fromStale x) (serveHeld a x)
+  held-asked none = stops refl refl refl
+  held-asked (some x) = passes refl (parsed-asked x (parse (a .message)))
 
-  request-asked : (h : Host) (m : List ℕ) → Asked (requestChecks N img r h m reply) (requestOn N img r reply h m)
-  request-asked h m =
-      on-test (allowed N (length img))
-      (λ a. passes (ap not a)
-      (on-test (leb (h .0) hostMax)
-      (λ e. over (request-in N img r reply h m a e) (passes (le-ltb hostMax (h .0) (leb-true (h .0) hostMax e)) (phase-asked h m (r .phase))))
-      (λ e. stops refl (lt-ltb hostMax (h .0) (leb-false (h .0) hostMax e)) (request-host N img r reply h m a e))))
-      (λ a. stops refl (ap not a) (request-length N img r reply h m a))
+  phase-asked : (p : Phase) → Asked (check refusal.Busy (isBusy p) ∷ check refusal.NoStore (isUnmounted p) ∷ fromStale (heldFor a)) (requestIn a p)
+  phase-asked (Busy s) = stops refl refl refl
+  phase-asked Unmounted = passes refl (stops refl refl refl)
+  phase-asked Idle = passes refl (passes refl (held-asked (heldFor a)))
+
+  request-asked : Asked (requestChecks a) (requestOn a)
+  request-asked =
+      on-test (allowed (a .blocks) (length (a .image)))
+      (λ ok. passes (ap not ok)
+      (on-test (leb (a .host .0) hostMax)
+      (λ e. over (request-in a ok e refl) (passes (le-ltb hostMax (a .host .0) (leb-true (a .host .0) hostMax e)) (phase-asked (a .board .phase))))
+      (λ e. stops refl (lt-ltb hostMax (a .host .0) (leb-false (a .host .0) hostMax e)) (request-host a ok e))))
+      (λ no. stops refl (ap not no) (request-length a no))
 
 -- ---- mount and format
 
@@ -234,20 +230,20 @@ step-follows N img r (Busy s) e =
 -- ---- demand 1
 
 pub refused-by-table : (N : ℕ) (img : List ℕ) (r : Record) (c : Call) → refusalIn (exec N img r c .answer) ≡ firstOf (checks N img r c)
-refused-by-table N img r (request h m reply) = request-asked N img r reply h m .table
+refused-by-table N img r (request h m reply) = request-asked (asking N img r h m reply) .table
 refused-by-table N img r step = step-follows N img r (r .phase) refl .table
 refused-by-table N img r mount = mount-made N img .table
 refused-by-table N img r format = format-made N img .table
 
 pub refusals-untouched : (N : ℕ) (img : List ℕ) (r : Record) (c : Call) (n : Refusal) → exec N img r c .answer ≡ Refused n
     → exec N img r c ≡ Unchanged img r c n
-refusals-untouched N img r (request h m reply) n e = request-asked N img r reply h m .untouched n e
+refusals-untouched N img r (request h m reply) n e = request-asked (asking N img r h m reply) .untouched n e
 refusals-untouched N img r step n e = step-follows N img r (r .phase) refl .untouched n e
 refusals-untouched N img r mount n e = mount-made N img .untouched n e
 refusals-untouched N img r format n e = format-made N img .untouched n e
 
 pub at-most-one-step : (N : ℕ) (img : List ℕ) (r : Record) (c : Call) → ImageAfter N (exec N) img r c
-at-most-one-step N img r (request h m reply) = request-asked N img r reply h m .kept
+at-most-one-step N img r (request h m reply) = request-asked (asking N img r h m reply) .kept
 at-most-one-step N img r step = step-follows N img r (r .phase) refl .kept
 at-most-one-step N img r mount = mount-made N img .kept
 at-most-one-step N img r format = format-made N img .kept

@@ -2,16 +2,16 @@
 use mathlib.Core.Path.{_≡_, refl, sym, ap, ap₂, subst, _∙_}
 use mathlib.Core.List.{List, _++_}
 use mathlib.Core.Option.{Option, none, some}
-use mathlib.Core.Bool.{Bool, true, _&&_, _||_}
-use Prim.Native.Nat.{ℕ, suc, _+_, _*_, _≤_, _<_}
+use mathlib.Core.Bool.{Bool, true, _&&_}
+use Prim.Native.Nat.{ℕ, _+_, _*_, _≤_}
 use native.Mathlib.Omega.{arith}
 use lib.Dec.{eqb, ltb, leb}
 use lib.ListN.{length, getD, take, drop, replicate}
 use lib.Seq.{drop-drop}
-use borrow.Author.Tests.{eq-eqb, le-leb, lt-ltb, eqb-false, ltb-true}
+use borrow.Author.Tests.{eq-eqb, le-leb, lt-ltb, ltb-true}
 use Rattle.flash.specs.Bytes.{allFF, u16le}
 use Rattle.flash.specs.Flash.{blockNumbers, block, sizeOf}
-use Rattle.flash.proofs.Cases.{on-test, and-both, or-left, or-right}
+use Rattle.flash.proofs.Cases.{on-test, and-both}
 use Rattle.flash.proofs.Blank.{allFF-all}
 use Rattle.flash.proofs.Image.{take-drop-take, length-block}
 use Rattle.frame.specs.declared.Host.{Host}
@@ -30,10 +30,10 @@ use Rattle.wire.specs.declared.Request.{Request}
 use Rattle.wire.specs.declared.Request.the-variants.{Read, Log}
 use Rattle.wire.specs.Message.{pageLen}
 use Rattle.board.specs.declared.Record.{Record}
-use Rattle.board.specs.Record.{Out, idle, Stretch}
+use Rattle.board.specs.Record.{Out, idle}
 use Rattle.board.specs.Step.{sameShape}
 use Rattle.board.specs.Mount.{endOf, replayOf, claimedOf}
-use Rattle.board.specs.Queue.{held, heldBy, heldIn, heldIf, fitsRecord, sameImage, othersBlank, stretchOf, placeOf, serve}
+use Rattle.board.specs.Queue.{held, heldBy, heldIn, heldIf, fitsRecord, sameImage, othersBlank, stretchOf, placeOf, serve, Asking, asking, doneAt}
 use Rattle.board.specs.Claim.{ReadSays, LogSays}
 use Rattle.board.proofs.Images.{Sized, size-of, sized-block}
 use Rattle.board.proofs.Blocks.{others-are}
@@ -76,15 +76,18 @@ stretch s k p n img h = sym (ap (take n) (drop-drop p (k * s) img)) ∙ sym (tak
 pub standing-of : {b : List ℕ} {w : Journal} → Contents b w → Standing b (w .frames)
 standing-of {b} {w} x = record { head = header (w .time) validData; rest = x .rest; split = x .layout .is; long = refl; stand = x .layout .stands }
 
-module _ {N : ℕ} {s : ℕ} {img : List ℕ} {r : Record} (z : Sized N s img) (y : Ready N s img r) (reply : List ℕ) (h : Host) (m : List ℕ) where
+module _ {N : ℕ} {s : ℕ} {img : List ℕ} {r : Record} (z : Sized N s img) (y : Ready N s img r) (h : Host) (m reply : List ℕ) where
+  abbrev a : Asking
+  a = asking N img r h m reply
+
   abbrev served : Request → Out
-  served q = serve N img r reply h m (y .journal) q
+  served q = serve a (y .journal) q
 
   pub read-says : (i : ObjectId) → i .0 ≤ idMax → ReadSays (served (Read i)) (lookup i (replayOf (y .journal) .objects))
   read-says i l = go (lookup i (replayOf (y .journal) .objects)) refl
     where
       go : (o : Option (List ℕ)) → lookup i (replayOf (y .journal) .objects) ≡ o → ReadSays (served (Read i)) o
-      go none e = ap (λ (o : Out). o .answer) (read-none N img r reply h m (y .journal) i e)
+      go none e = ap (λ (o : Out). o .answer) (read-none a (y .journal) i e)
       go (some v) e =
           let k : ℕ = y .stands .block in
           let b : List ℕ = block s k img in
@@ -94,9 +97,8 @@ module _ {N : ℕ} {s : ℕ} {img : List ℕ} {r : Record} (z : Sized N s img) (
           ap (λ (q : Record). placeOf N img q (y .journal) i) (y .is)
           ∙ ap (λ (w : ℕ). stretchOf (k * w) (valueAt (block w k img) i (getD (placesOf (y .journal .frames)) (i .0) 0))) (size-of z)
           ∙ ap (stretchOf (k * s)) (x .found) in
-          let f : served (Read i) ≡ record { answer = Done; image = img; board = r; reply = reply; stretch = record { at = k * s + x .at; size = length v } } =
-          read-some N img r reply h m (y .journal) i v e
-          ∙ ap (λ (t : Stretch). record { answer = Done; image = img; board = r; reply = reply; stretch = t }) at in (
+          let f : served (Read i) ≡ doneAt a reply (record { at = k * s + x .at; size = length v }) =
+          read-some a (y .journal) i v e ∙ ap (doneAt a reply) at in (
             ap (λ (o : Out). o .answer) f,
             subst (λ (o : Out). take (o .stretch .size) (drop (o .stretch .at) (o .image)) ≡ v) (sym f)
                 (stretch s k (x .at) (length v) img (omega (arith, x .fits)) ∙ x .same),
@@ -110,4 +112,4 @@ module _ {N : ℕ} {s : ℕ} {img : List ℕ} {r : Record} (z : Sized N s img) (
       (λ t. absurd (omega (arith, ltb-true (length reply) pageLen t)))
       (λ t. subst (λ (o : Out). (o .answer ≡ Done) × (take 4 (drop 8 (o .reply)) ≡ u16le (length (replayOf (y .journal) .objects)) ++ u16le
       (usedBy (replayOf (y .journal) .objects))))
-      (sym (serve-log N img r reply h m (y .journal) ∙ log-done N img r reply (y .journal) t)) (refl, refl)))
+      (sym (serve-log a (y .journal) ∙ log-done a (y .journal) t)) (refl, refl)))

@@ -26,12 +26,12 @@ use Rattle.wire.proofs.Parsing.{put-parsed, delete-parsed, read-parsed}
 use Rattle.board.specs.declared.Phase.{Phase}
 use Rattle.board.specs.declared.Phase.the-variants.{Unmounted, Idle, Busy}
 use Rattle.board.specs.declared.Record.{Record}
-use Rattle.board.specs.Record.{Out, refuse}
-use Rattle.board.specs.Queue.{serve, requestOn}
+use Rattle.board.specs.Record.{Out}
+use Rattle.board.specs.Queue.{serve, requestOn, Asking, asking, refuseTo}
 use Rattle.board.specs.Book.{Book, enterRequest, enterParsed}
 use Rattle.board.specs.Claim.{Never, RequestSays, ReadSays}
 use Rattle.board.proofs.Invariant.{IdleBook, Inv}
-use Rattle.board.proofs.Outcomes.{request-host, request-busy, request-unmounted, request-malformed, request-served}
+use Rattle.board.proofs.Outcomes.{request-host, request-in, request-malformed, request-served}
 use Rattle.board.proofs.Keeping.{on-phase}
 use Rattle.board.proofs.Replies.{held-ready, read-says, log-says}
 use Rattle.board.proofs.Serving.{entered, Served, Legal, served}
@@ -59,25 +59,28 @@ legal h m (Read i) k b e = tt
 legal h m (Log p) k b e = tt
 
 module _ {N : ℕ} {s : ℕ} {img : List ℕ} {r : Record} {b : Book} {u : Bool} (v : Inv N s img r b u) (h : Host) (m reply : List ℕ) (by : Bytes m) where
+  abbrev a : Asking
+  a = asking N img r h m reply
+
   abbrev Is-had : Out → Type 0
   Is-had o = Requested N s img r b u h m reply o
 
   -- a refusal before the record is looked into
   turned-away : (n : Refusal) → (Refused n ≡ Refused refusal.ImageLength → ⊥) → (Refused n ≡ Refused refusal.Stale → ⊥)
-      → (r .phase ≡ Idle → h .0 ≤ hostMax → ⊥) → Is-had (refuse n img r reply)
-  turned-away n a c f = ((v, a, c), λ e k. absurd (f e k))
+      → (r .phase ≡ Idle → h .0 ≤ hostMax → ⊥) → Is-had (refuseTo a n)
+  turned-away n i c f = ((v, i, c), λ e k. absurd (f e k))
 
-  idle-says : (y : IdleBook N s img r b) (q : Request) → parse m ≡ Is q → RequestSays (Is q) reply (serve N img r reply h m (y .ready .journal) q) b
+  idle-says : (y : IdleBook N s img r b) (q : Request) → parse m ≡ Is q → RequestSays (Is q) reply (serve a (y .ready .journal) q) b
   idle-says y (Put i) e = tt
   idle-says y (Delete i) e = tt
   idle-says y Commit e = tt
   idle-says y Abort e = tt
   idle-says y (Read i) e =
-      subst (λ (os : List Object). ReadSays (serve N img r reply h m (y .ready .journal) (Read i)) (lookup i os)) (y .objects)
-      (read-says (v .sized) (y .ready) reply h m i (read-parsed m i e))
-  idle-says y (Log Summary) e = log-says (v .sized) (y .ready) reply h m (b .objects) (y .objects)
+      subst (λ (os : List Object). ReadSays (serve a (y .ready .journal) (Read i)) (lookup i os)) (y .objects)
+      (read-says (v .sized) (y .ready) h m reply i (read-parsed m i e))
+  idle-says y (Log Summary) e = log-says (v .sized) (y .ready) h m reply (b .objects) (y .objects)
 
-  on-idle : leb (h .0) hostMax ≡ true → r .phase ≡ Idle → IdleBook N s img r b → Is-had (requestOn N img r reply h m)
+  on-idle : leb (h .0) hostMax ≡ true → r .phase ≡ Idle → IdleBook N s img r b → Is-had (requestOn a)
   on-idle t e y = go (parse m) refl
     where
       x : Journal
@@ -86,38 +89,38 @@ module _ {N : ℕ} {s : ℕ} {img : List ℕ} {r : Record} {b : Book} {u : Bool}
       k : h .0 ≤ hostMax
       k = leb-true (h .0) hostMax t
 
-      go : (p : Parsed) → parse m ≡ p → Is-had (requestOn N img r reply h m)
+      go : (p : Parsed) → parse m ≡ p → Is-had (requestOn a)
       go Malformed q =
-          subst Is-had (sym (request-malformed N img r reply h m (v .sized .ok) t (y .ready .journal) e (held-ready (v .sized) (y .ready)) q)) (
+          subst Is-had (sym (request-malformed a (v .sized .ok) t (y .ready .journal) e (held-ready (v .sized) (y .ready)) q)) (
             (v, λ c. (let w : _≡_ {A = ℕ} 0 1 = cc in omega arith), λ c. (let w : _≡_ {A = ℕ} 0 1 = cc in omega arith)),
-            λ i j. subst (λ (p : Parsed). RequestSays p reply (refuse refusal.Malformed img r reply) b) (sym q) refl,
+            λ i j. subst (λ (p : Parsed). RequestSays p reply (refuseTo a refusal.Malformed) b) (sym q) refl,
           )
-      go (Is a) q =
-          let o : Out = serve N img r reply h m (y .ready .journal) a in
-          let w : Served N s b u h m a o = served u (v .sized) (v .bytes) y reply h (leb-true (h .0) hostMax t) m a
-          (legal h m a (leb-true (h .0) hostMax t) by q) in
-          subst Is-had (sym (request-served N img r reply h m (v .sized .ok) t (y .ready .journal) a e (held-ready (v .sized) (y .ready)) q)) (
-            (subst (λ (c : Book). Inv N s (o .image) (o .board) c u) (entered-is b h m a (o .answer) q) (w .0), w .1, w .2),
-            λ i j. subst (λ (p : Parsed). RequestSays p reply o b) (sym q) (idle-says y a q),
+      go (Is w) q =
+          let o : Out = serve a (y .ready .journal) w in
+          let z : Served N s b u h m w o = served u (v .sized) (v .bytes) y reply h (leb-true (h .0) hostMax t) m w
+          (legal h m w (leb-true (h .0) hostMax t) by q) in
+          subst Is-had (sym (request-served a (v .sized .ok) t (y .ready .journal) w e (held-ready (v .sized) (y .ready)) q)) (
+            (subst (λ (c : Book). Inv N s (o .image) (o .board) c u) (entered-is b h m w (o .answer) q) (z .0), z .1, z .2),
+            λ i j. subst (λ (p : Parsed). RequestSays p reply o b) (sym q) (idle-says y w q),
           )
 
-  in-range : leb (h .0) hostMax ≡ true → Is-had (requestOn N img r reply h m)
+  in-range : leb (h .0) hostMax ≡ true → Is-had (requestOn a)
   in-range t =
       on-phase v
-      (λ e f n. subst Is-had (sym (request-unmounted N img r reply h m (v .sized .ok) t e))
+      (λ e f n. subst Is-had (sym (request-in a (v .sized .ok) t e))
       (turned-away refusal.NoStore (λ c. let w : _≡_ {A = ℕ} 0 1 = cc in omega arith) (λ c. let w : _≡_ {A = ℕ} 0 1 = cc in omega arith)
       (λ i j. not-idle Unmounted e i (λ c. let w : _≡_ {A = ℕ} 0 1 = cc in omega arith))))
       (λ e y. on-idle t e y)
-      (λ g j. subst Is-had (sym (request-busy N img r reply h m (v .sized .ok) t (g .stage) (g .is)))
+      (λ g j. subst Is-had (sym (request-in a (v .sized .ok) t (g .is)))
       (turned-away refusal.Busy (λ c. let w : _≡_ {A = ℕ} 0 1 = cc in omega arith) (λ c. let w : _≡_ {A = ℕ} 0 1 = cc in omega arith)
       (λ i k. not-idle (Busy (g .stage)) (g .is) i (λ c. let w : _≡_ {A = ℕ} 0 1 = cc in omega arith))))
     where
       not-idle : (p : Phase) → r .phase ≡ p → r .phase ≡ Idle → (p ≡ Idle → ⊥) → ⊥
-      not-idle p a c f = f (sym a ∙ c)
+      not-idle p d c f = f (sym d ∙ c)
 
-  pub request-keeps : Is-had (requestOn N img r reply h m)
+  pub request-keeps : Is-had (requestOn a)
   request-keeps =
       on-test (leb (h .0) hostMax) in-range
-      (λ t. subst Is-had (sym (request-host N img r reply h m (v .sized .ok) t))
+      (λ t. subst Is-had (sym (request-host a (v .sized .ok) t))
       (turned-away refusal.HostRange (λ c. let w : _≡_ {A = ℕ} 0 1 = cc in omega arith) (λ c. let w : _≡_ {A = ℕ} 0 1 = cc in omega arith)
       (λ i k. omega (arith, leb-false (h .0) hostMax t))))

@@ -28,9 +28,9 @@ use Rattle.wire.specs.Message.{valueIn, pageLen, logPage, withPage}
 use Rattle.board.specs.Mount.{nextBlock, replayOf}
 use Rattle.board.specs.declared.Record.{Record}
 use Rattle.board.specs.declared.Phase.the-variants.{Idle}
-use Rattle.board.specs.Record.{Out, out, refuse, answerOf}
+use Rattle.board.specs.Record.{noStretch, Out, answerOf}
 use Rattle.board.specs.Step.{enterWipe, begin}
-use Rattle.board.specs.Queue.{placeOf, needsRoom, appendJob, append, serve, serveEnd, serveChange}
+use Rattle.board.specs.Queue.{placeOf, needsRoom, appendJob, append, serve, serveEnd, serveChange, Asking, asking, refuseTo, doneAt}
 use Rattle.board.specs.Plan.{frameWork}
 use Rattle.board.specs.Book.{Book, book, withList, join, accept}
 use Rattle.board.specs.Claim.{Never}
@@ -93,8 +93,11 @@ found y = record { room = y .ready .room; spare = y .spare; objects = y .objects
 module _ {N : ℕ} {s : ℕ} {img : List ℕ} {r : Record} {b : Book} (u : Bool) (z : Sized N s img) (by : Bytes img) (y : IdleBook N s img r b) (reply : List ℕ)
     (h : Host)
     (k : h .0 ≤ hostMax) (m : List ℕ) where
+  abbrev a : Asking
+  a = asking N img r h m reply
+
   abbrev x : Journal
-  x = y .ready .journal
+  x = (y .ready .journal)
 
   abbrev st : State
   st = replayOf (y .ready .journal)
@@ -131,8 +134,8 @@ module _ {N : ℕ} {s : ℕ} {img : List ℕ} {r : Record} {b : Book} (u : Bool)
 
   -- a refusal changes nothing
   refused : (q : Request) (n : Refusal) → (Refused n ≡ Refused refusal.ImageLength → ⊥) → (Refused n ≡ Refused refusal.Stale → ⊥)
-      → Served N s b u h m q (refuse n img r reply)
-  refused q n a c = (same, a, c)
+      → Served N s b u h m q (refuseTo a n)
+  refused q n i c = (same, i, c)
 
   -- an answer of 0 on the record as it is, with another reply or a stretch
   done : (q : Request) (o : Out) → o .answer ≡ Done → o .image ≡ img → o .board ≡ r → IdleBook N s img r (accept b h m q Done) → Served N s b u h m q o
@@ -145,56 +148,56 @@ module _ {N : ℕ} {s : ℕ} {img : List ℕ} {r : Record} {b : Book} (u : Bool)
   )
 
   appended : (q : Request) (f : Frame) → OfHost f → MayStand 256 f → Entered s st f (accept b h m q More) → accept b h m q More .objects ≡ b .objects
-      → Served N s b u h m q (append N img r reply x f)
+      → Served N s b u h m q (append a x f)
   appended q f o g e os =
       on-test (needsRoom N img r f && eqb (y .ready .journal .time) lastTime)
-      (λ t. subst (Served N s b u h m q) (sym (append-worn N img r reply x f t))
+      (λ t. subst (Served N s b u h m q) (sym (append-worn a x f t))
       (refused q refusal.Worn (λ c. let w : _≡_ {A = ℕ} 0 1 = cc in omega arith) (λ c. let w : _≡_ {A = ℕ} 0 1 = cc in omega arith)))
-      (λ t. subst (Served N s b u h m q) (sym (append-begins N img r reply x f t)) (begun q f o g e os t))
+      (λ t. subst (Served N s b u h m q) (sym (append-begins a x f t)) (begun q f o g e os t))
 
-  changed : (q : Request) (c : Change) → accept b h m q More ≡ join b h c → MayStand 256 (change h c) → Served N s b u h m q (serveChange N img r reply h x c)
+  changed : (q : Request) (c : Change) → accept b h m q More ≡ join b h c → MayStand 256 (change h c) → Served N s b u h m q (serveChange a x c)
   changed q c e g =
       on-test (noRoom (sizeOf N img) st h c)
-      (λ t. subst (Served N s b u h m q) (sym (change-refused N img r reply h x c t))
+      (λ t. subst (Served N s b u h m q) (sym (change-refused a x c t))
       (refused q refusal.NoRoom (λ c. let w : _≡_ {A = ℕ} 0 1 = cc in omega arith) (λ c. let w : _≡_ {A = ℕ} 0 1 = cc in omega arith)))
-      (λ t. subst (Served N s b u h m q) (sym (change-goes N img r reply h x c t))
+      (λ t. subst (Served N s b u h m q) (sym (change-goes a x c t))
       (appended q (change h c) tt g
       (subst (Entered s st (change h c)) (sym e) (entered-change (found y) h k c (subst (λ (n : ℕ). noRoom n st h c ≡ false) (size-of z) t)))
       (ap (λ (w : Book). w .objects) e)))
 
   ended : (q : Request) (f : Frame) → OfHost f → MayStand 256 f → (isOpen h (st .pending) ≡ true → Entered s st f (accept b h m q More))
       → accept b h m q More .objects ≡ b .objects → (isOpen h (st .pending) ≡ false → IdleBook N s img r (accept b h m q Done))
-      → Served N s b u h m q (serveEnd N img r reply h x f)
+      → Served N s b u h m q (serveEnd a x f)
   ended q f o g e os n =
       on-test (isOpen h (st .pending))
-      (λ t. subst (Served N s b u h m q) (sym (end-goes N img r reply h x f t)) (appended q f o g (e t) os))
-      (λ t. subst (Served N s b u h m q) (sym (end-idle N img r reply h x f t)) (done q (out Done img r reply) refl refl refl (n t)))
+      (λ t. subst (Served N s b u h m q) (sym (end-goes a x f t)) (appended q f o g (e t) os))
+      (λ t. subst (Served N s b u h m q) (sym (end-idle a x f t)) (done q (doneAt a reply noStretch) refl refl refl (n t)))
 
   -- an abort with nothing pending leaves the book as it is, but for an empty list
   abort-none : isOpen h (st .pending) ≡ false → IdleBook N s img r (book (b .objects) (withList (b .lists) h []) (b .under))
   abort-none t = record { ready = y .ready; spare = y .spare; objects = y .objects; lists = lists-none (st .pending) b h t (y .lists); under = y .under }
 
-  pub served : (q : Request) → Legal h m q → Served N s b u h m q (serve N img r reply h m x q)
-  served (Put i) g = subst (Served N s b u h m (Put i)) (sym (serve-put N img r reply h m x i)) (changed (Put i) (put i (valueIn m)) refl g)
-  served (Delete i) g = subst (Served N s b u h m (Delete i)) (sym (serve-delete N img r reply h m x i)) (changed (Delete i) (delete i) refl g)
+  pub served : (q : Request) → Legal h m q → Served N s b u h m q (serve a x q)
+  served (Put i) g = subst (Served N s b u h m (Put i)) (sym (serve-put a x i)) (changed (Put i) (put i (valueIn m)) refl g)
+  served (Delete i) g = subst (Served N s b u h m (Delete i)) (sym (serve-delete a x i)) (changed (Delete i) (delete i) refl g)
   served Commit g =
-      subst (Served N s b u h m Commit) (sym (serve-commit N img r reply h m x))
+      subst (Served N s b u h m Commit) (sym (serve-commit a x))
       (ended Commit (commit h) tt k (entered-commit (found y) h k) refl (λ t. y))
   served Abort g =
-      subst (Served N s b u h m Abort) (sym (serve-abort N img r reply h m x)) (ended Abort (abort h) tt k (entered-abort (found y) h k) refl abort-none)
+      subst (Served N s b u h m Abort) (sym (serve-abort a x)) (ended Abort (abort h) tt k (entered-abort (found y) h k) refl abort-none)
   served (Read i) g = go (lookup i (st .objects)) refl
     where
-      go : (v : Option (List ℕ)) → lookup i (st .objects) ≡ v → Served N s b u h m (Read i) (serve N img r reply h m x (Read i))
+      go : (v : Option (List ℕ)) → lookup i (st .objects) ≡ v → Served N s b u h m (Read i) (serve a x (Read i))
       go none e =
-          subst (Served N s b u h m (Read i)) (sym (read-none N img r reply h m x i e))
+          subst (Served N s b u h m (Read i)) (sym (read-none a x i e))
           (refused (Read i) refusal.NoObject (λ c. let w : _≡_ {A = ℕ} 0 1 = cc in omega arith) (λ c. let w : _≡_ {A = ℕ} 0 1 = cc in omega arith))
       go (some v) e =
-          let o : Out = serve N img r reply h m x (Read i) in
-          let f : o ≡ record { answer = Done; image = img; board = r; reply = reply; stretch = placeOf N img r x i } = read-some N img r reply h m x i v e in
+          let o : Out = serve a x (Read i) in
+          let f : o ≡ doneAt a reply (placeOf N img r x i) = read-some a x i v e in
           done (Read i) o (ap (λ (w : Out). w .answer) f) (ap (λ (w : Out). w .image) f) (ap (λ (w : Out). w .board) f) y
   served (Log Summary) g =
       on-test (ltb (length reply) pageLen)
-      (λ t. subst (Served N s b u h m (Log Summary)) (sym (serve-log N img r reply h m x ∙ log-short N img r reply x t))
+      (λ t. subst (Served N s b u h m (Log Summary)) (sym (serve-log a x ∙ log-short a x t))
       (refused (Log Summary) refusal.ShortReply (λ c. let w : _≡_ {A = ℕ} 0 1 = cc in omega arith) (λ c. let w : _≡_ {A = ℕ} 0 1 = cc in omega arith)))
-      (λ t. subst (Served N s b u h m (Log Summary)) (sym (serve-log N img r reply h m x ∙ log-done N img r reply x t))
-      (done (Log Summary) (out Done img r (withPage (logPage (x .time) (length (st .objects)) (used st) (sizeOf N img)) reply)) refl refl refl y))
+      (λ t. subst (Served N s b u h m (Log Summary)) (sym (serve-log a x ∙ log-done a x t))
+      (done (Log Summary) (doneAt a (withPage (logPage (y .ready .journal .time) (length (st .objects)) (used st) (sizeOf N img)) reply) noStretch) refl refl refl y))

@@ -1,7 +1,7 @@
 -- The machine refuses exactly as the table's lines say.
 use mathlib.Core.Path.{_≡_, refl, sym, ap, ap₂, subst, _∙_}
 use mathlib.Core.List.{List, [], _∷_}
-use mathlib.Core.Logic.{_⊎_, inl, inr}
+use mathlib.Core.Logic.{_⊎_, _↔_, inl, inr}
 use mathlib.Core.Option.{Option, none, some}
 use mathlib.Core.Bool.{Bool, true, false, _&&_, not}
 use Prim.Native.Nat.{ℕ, suc, _+_, _≤_, _<_}
@@ -34,13 +34,13 @@ use Rattle.board.specs.declared.Record.{Record}
 use Rattle.board.specs.Record.{allowed}
 use Rattle.board.specs.Step.{sameShape, action}
 use Rattle.board.specs.Mount.{replayOf}
-use Rattle.board.specs.Queue.{held, needsRoom}
+use Rattle.board.specs.Queue.{Asking, heldFor, movesFor, sizeFor, requestOn}
 use Rattle.board.specs.Exec.{request, step, format, exec}
-use Rattle.board.specs.Table.{isBusy, isNone, frameFor, Line, line, Exactly, Allowed, InJob, Fresh, FreshExact, NoObject}
+use Rattle.board.specs.Table.{isBusy, isNone, frameFor, Line, line, Exactly, Allowed, InJob, Fresh, FreshFor, FreshExact, NoObject}
 use Rattle.board.specs.Table.{ShortReply, NoRoom, for-put, for-delete, Worn, requestLines, Outside, Misplaced, linesOf}
 use Rattle.board.specs.Demand2.{Accepted}
 use Rattle.wire.specs.Sentences.{Means, MessagesExact, MalformedExact}
-use Rattle.board.proofs.Checks.{Check, check, firstOf, isUnmounted, isMalformed, noObject, shortReply, roomRule, worn, laterChecks}
+use Rattle.board.proofs.Checks.{Check, check, firstOf, isUnmounted, isMalformed, noObject, shortReply, noRoomFor, worn, laterChecks}
 use Rattle.board.proofs.Checks.{heldChecks, requestChecks, outside, refusalIn}
 use Rattle.wire.proofs.Sentences.{messages-exact, malformed-exact}
 use Rattle.board.proofs.Images.{AllowedAs, allowed-tests, allowed-from}
@@ -163,133 +163,137 @@ module _ (N : ℕ) (img : List ℕ) (r : Record) (by : Bytes img) (ok : allowed 
   unfolding FreshExact
   same-held x y a b = some-held (sym (fresh-exact N img r x by ok .1 a) ∙ fresh-exact N img r y by ok .1 b)
 
-  stale-test : (o : Option Journal) → held N img r ≡ o → Tests (isNone o) ((x : Journal) → Fresh N img r x → ⊥)
+module _ (a : Asking) (by : Bytes (a .image)) (ok : allowed (a .blocks) (length (a .image)) ≡ true) where
+  same-for : (x y : Journal) → FreshFor a x → FreshFor a y → x ≡ y
+  same-for = same-held (a .blocks) (a .image) (a .board) by ok
+
+  fresh-for : (x : Journal) → (heldFor a ≡ some x) ↔ FreshFor a x
   unfolding FreshExact
-  stale-test none e = record { yes = λ t x y. none-some (sym e ∙ fresh-exact N img r x by ok .1 y); no = λ f. refl }
-  stale-test (some x) e = record { yes = λ t. false-true t; no = λ f. absurd (f x (fresh-exact N img r x by ok .0 e)) }
+  fresh-for x = fresh-exact (a .blocks) (a .image) (a .board) x by ok
 
-  module _ (h : Host) (msg reply : List ℕ) where
-    malformed-test : (p : Parsed) → parse msg ≡ p → Tests (isMalformed p) ((q : Request) → Means msg q → ⊥)
-    unfolding MessagesExact MalformedExact
-    malformed-test Malformed e = record { yes = λ t. malformed-exact msg .0 e; no = λ f. refl }
-    malformed-test (Is q) e = record { yes = λ t. false-true t; no = λ f. absurd (f q (messages-exact msg q .0 e)) }
+  stale-test : (o : Option Journal) → heldFor a ≡ o → Tests (isNone o) ((x : Journal) → FreshFor a x → ⊥)
+  stale-test none e = record { yes = λ t x y. none-some (sym e ∙ fresh-for x .1 y); no = λ f. refl }
+  stale-test (some x) e = record { yes = λ t. false-true t; no = λ f. absurd (f x (fresh-for x .0 e)) }
 
-    module _ (x : Journal) (q : Request) (fresh : Fresh N img r x) (means : Means msg q) where
-      object-test : Tests (noObject x q) (NoObject N img r msg)
-      object-test =
-          record {
-            yes = λ t. there q means t;
-            no = λ y.
-                ap₂ noObject (same-held x (y .holding) fresh (y .is-held)) (same-request msg q (Read (y .id)) means (y .is-asked))
-                ∙ ap (λ (v : Option (List ℕ)). isNone v) (y .none-there);
-          }
-        where
-          lacks : (v : Option (List ℕ)) → isNone v ≡ true → v ≡ none
-          lacks none e = refl
-          lacks (some v) e = false-true e
+  malformed-test : (p : Parsed) → parse (a .message) ≡ p → Tests (isMalformed p) ((q : Request) → Means (a .message) q → ⊥)
+  unfolding MessagesExact MalformedExact
+  malformed-test Malformed e = record { yes = λ t. malformed-exact (a .message) .0 e; no = λ f. refl }
+  malformed-test (Is q) e = record { yes = λ t. false-true t; no = λ f. absurd (f q (messages-exact (a .message) q .0 e)) }
 
-          there : (s : Request) → Means msg s → noObject x s ≡ true → NoObject N img r msg
-          there (Put i) a t = false-true t
-          there (Delete i) a t = false-true t
-          there Commit a t = false-true t
-          there Abort a t = false-true t
-          there (Read i) a t =
-              record { holding = x; id = i; is-held = fresh; is-asked = a; none-there = lacks (lookup i (replayOf x .objects)) t }
-          there (Log p) a t = false-true t
+  module _ (x : Journal) (q : Request) (fresh : FreshFor a x) (means : Means (a .message) q) where
+    object-test : Tests (noObject x q) (NoObject a)
+    object-test =
+        record {
+          yes = λ t. there q means t;
+          no = λ y.
+              ap₂ noObject (same-for x (y .holding) fresh (y .is-held)) (same-request (a .message) q (Read (y .id)) means (y .is-asked))
+              ∙ ap (λ (v : Option (List ℕ)). isNone v) (y .none-there);
+        }
+      where
+        lacks : (v : Option (List ℕ)) → isNone v ≡ true → v ≡ none
+        lacks none e = refl
+        lacks (some v) e = false-true e
 
-      short-test : Tests (shortReply reply q) (ShortReply msg reply)
-      short-test =
-          record {
-            yes = λ t. there q means t;
-            no = λ y. ap (shortReply reply) (same-request msg q (Log (y .page)) means (y .is-asked)) ∙ lt-ltb (length reply) pageLen (y .short);
-          }
-        where
-          there : (s : Request) → Means msg s → shortReply reply s ≡ true → ShortReply msg reply
-          there (Put i) a t = false-true t
-          there (Delete i) a t = false-true t
-          there Commit a t = false-true t
-          there Abort a t = false-true t
-          there (Read i) a t = false-true t
-          there (Log p) a t = record { page = p; is-asked = a; short = ltb-true (length reply) pageLen t }
+        there : (s : Request) → Means (a .message) s → noObject x s ≡ true → NoObject a
+        there (Put i) k t = false-true t
+        there (Delete i) k t = false-true t
+        there Commit k t = false-true t
+        there Abort k t = false-true t
+        there (Read i) k t =
+            record { holding = x; id = i; is-held = fresh; is-asked = k; none-there = lacks (lookup i (replayOf x .objects)) t }
+        there (Log p) k t = false-true t
 
-      room-test : Tests (roomRule (sizeOf N img) h msg x q) (NoRoom N img r h msg)
-      unfolding noRoom
-      room-test = record { yes = λ t. full q means t; no = λ y. asks y }
-        where
-          full : (s : Request) → Means msg s → roomRule (sizeOf N img) h msg x s ≡ true → NoRoom N img r h msg
-          full (Put i) a t = for-put x i fresh a (omega (arith, ltb-true (sizeOf N img) _ t))
-          full (Delete i) a t = for-delete x i fresh a (omega (arith, ltb-true (sizeOf N img) _ t))
-          full Commit a t = false-true t
-          full Abort a t = false-true t
-          full (Read i) a t = false-true t
-          full (Log p) a t = false-true t
+    short-test : Tests (shortReply a q) (ShortReply a)
+    short-test =
+        record {
+          yes = λ t. there q means t;
+          no = λ y. ap (shortReply a) (same-request (a .message) q (Log (y .page)) means (y .is-asked)) ∙ lt-ltb (length (a .reply)) pageLen (y .short);
+        }
+      where
+        there : (s : Request) → Means (a .message) s → shortReply a s ≡ true → ShortReply a
+        there (Put i) k t = false-true t
+        there (Delete i) k t = false-true t
+        there Commit k t = false-true t
+        there Abort k t = false-true t
+        there (Read i) k t = false-true t
+        there (Log p) k t = record { page = p; is-asked = k; short = ltb-true (length (a .reply)) pageLen t }
 
-          asks : NoRoom N img r h msg → roomRule (sizeOf N img) h msg x q ≡ true
-          asks (for-put y i f a l) =
-              ap₂ (roomRule (sizeOf N img) h msg) (same-held x y fresh f) (same-request msg q (Put i) means a) ∙ lt-ltb (sizeOf N img) _ (omega arith)
-          asks (for-delete y i f a l) =
-              ap₂ (roomRule (sizeOf N img) h msg) (same-held x y fresh f) (same-request msg q (Delete i) means a) ∙ lt-ltb (sizeOf N img) _ (omega arith)
+    room-test : Tests (noRoomFor a x q) (NoRoom a)
+    unfolding noRoom
+    room-test = record { yes = λ t. full q means t; no = λ y. asks y }
+      where
+        full : (s : Request) → Means (a .message) s → noRoomFor a x s ≡ true → NoRoom a
+        full (Put i) k t = for-put x i fresh k (omega (arith, ltb-true (sizeFor a) _ t))
+        full (Delete i) k t = for-delete x i fresh k (omega (arith, ltb-true (sizeFor a) _ t))
+        full Commit k t = false-true t
+        full Abort k t = false-true t
+        full (Read i) k t = false-true t
+        full (Log p) k t = false-true t
 
-      worn-test : Tests (worn N img r x (frameFor h msg x q)) (Worn N img r h msg)
-      worn-test = record { yes = λ t. over (frameFor h msg x q) refl t; no = λ y. due y }
-        where
-          over : (f : Option Frame) → frameFor h msg x q ≡ f → worn N img r x f ≡ true → Worn N img r h msg
-          over none e t = false-true t
-          over (some f) e t =
-              record {
-                holding = x;
-                asked = q;
-                frame = f;
-                is-held = fresh;
-                is-asked = means;
-                is-frame = e;
-                exceeds = ltb-true (sizeOf N img) (r .rest .end + frameLen f) (and-left (needsRoom N img r f) (eqb (x .time) lastTime) t);
-                last-time = eqb-true (x .time) lastTime (and-right (needsRoom N img r f) (eqb (x .time) lastTime) t);
-              }
+        asks : NoRoom a → noRoomFor a x q ≡ true
+        asks (for-put y i f k l) =
+            ap₂ (noRoomFor a) (same-for x y fresh f) (same-request (a .message) q (Put i) means k) ∙ lt-ltb (sizeFor a) _ (omega arith)
+        asks (for-delete y i f k l) =
+            ap₂ (noRoomFor a) (same-for x y fresh f) (same-request (a .message) q (Delete i) means k) ∙ lt-ltb (sizeFor a) _ (omega arith)
 
-          due : Worn N img r h msg → worn N img r x (frameFor h msg x q) ≡ true
-          due y =
-              ap₂ (λ (z : Journal) (s : Request). worn N img r z (frameFor h msg z s)) (same-held x (y .holding) fresh (y .is-held))
-              (same-request msg q (y .asked) means (y .is-asked))
-              ∙ ap (worn N img r (y .holding)) (y .is-frame)
-              ∙ and-both (needsRoom N img r (y .frame)) (eqb (y .holding .time) lastTime)
-              (lt-ltb (sizeOf N img) (r .rest .end + frameLen (y .frame)) (y .exceeds))
-              (eq-eqb (y .holding .time) lastTime (y .last-time))
+    worn-test : Tests (worn a x (frameFor (a .host) (a .message) x q)) (Worn a)
+    worn-test = record { yes = λ t. over (frameFor (a .host) (a .message) x q) refl t; no = λ y. due y }
+      where
+        over : (f : Option Frame) → frameFor (a .host) (a .message) x q ≡ f → worn a x f ≡ true → Worn a
+        over none e t = false-true t
+        over (some f) e t =
+            record {
+              holding = x;
+              asked = q;
+              frame = f;
+              is-held = fresh;
+              is-asked = means;
+              is-frame = e;
+              exceeds = ltb-true (sizeFor a) (a .board .rest .end + frameLen f) (and-left (movesFor a f) (eqb (x .time) lastTime) t);
+              last-time = eqb-true (x .time) lastTime (and-right (movesFor a f) (eqb (x .time) lastTime) t);
+            }
 
-      held-rows : Rows (heldChecks N img r h msg reply x q)
-          (line 8 (NoObject N img r msg) ∷ line 9 (ShortReply msg reply) ∷ line 7 (NoRoom N img r h msg) ∷ line 6 (Worn N img r h msg) ∷ [])
-      held-rows =
-          row refusal.NoObject object-test (λ _.
-          row refusal.ShortReply short-test (λ _.
-          row refusal.NoRoom room-test (λ _.
-          row refusal.Worn worn-test (λ _. end))))
+        due : Worn a → worn a x (frameFor (a .host) (a .message) x q) ≡ true
+        due y =
+            ap₂ (λ (z : Journal) (s : Request). worn a z (frameFor (a .host) (a .message) z s)) (same-for x (y .holding) fresh (y .is-held))
+            (same-request (a .message) q (y .asked) means (y .is-asked))
+            ∙ ap (worn a (y .holding)) (y .is-frame)
+            ∙ and-both (movesFor a (y .frame)) (eqb (y .holding .time) lastTime)
+            (lt-ltb (sizeFor a) (a .board .rest .end + frameLen (y .frame)) (y .exceeds))
+            (eq-eqb (y .holding .time) lastTime (y .last-time))
 
-    abbrev lastLines : List Line
-    lastLines =
-        line 1 ((q : Request) → Means msg q → ⊥) ∷ line 8 (NoObject N img r msg) ∷ line 9 (ShortReply msg reply) ∷ line 7 (NoRoom N img r h msg)
-        ∷ line 6 (Worn N img r h msg) ∷ []
+    held-rows : Rows (heldChecks a x q)
+        (line 8 (NoObject a) ∷ line 9 (ShortReply a) ∷ line 7 (NoRoom a) ∷ line 6 (Worn a) ∷ [])
+    held-rows =
+        row refusal.NoObject object-test (λ _.
+        row refusal.ShortReply short-test (λ _.
+        row refusal.NoRoom room-test (λ _.
+        row refusal.Worn worn-test (λ _. end))))
 
-    parsed-rows : (x : Journal) → Fresh N img r x → (p : Parsed) → parse msg ≡ p
-        → Rows (check refusal.Malformed (isMalformed p) ∷ laterChecks N img r h msg reply (some x) p) lastLines
-    unfolding MessagesExact
-    parsed-rows x f Malformed e = row refusal.Malformed (malformed-test Malformed e) (λ t. false-true (sym t))
-    parsed-rows x f (Is q) e = row refusal.Malformed (malformed-test (Is q) e) (λ _. held-rows x q f (messages-exact msg q .0 e))
+  abbrev lastLines : List Line
+  lastLines =
+      line 1 ((q : Request) → Means (a .message) q → ⊥) ∷ line 8 (NoObject a) ∷ line 9 (ShortReply a) ∷ line 7 (NoRoom a)
+      ∷ line 6 (Worn a) ∷ []
 
-    stale-rows : (o : Option Journal) → held N img r ≡ o
-        → Rows (check refusal.Stale (isNone o) ∷ check refusal.Malformed (isMalformed (parse msg)) ∷ laterChecks N img r h msg reply o (parse msg))
-        (line 11 ((x : Journal) → Fresh N img r x → ⊥) ∷ lastLines)
-    unfolding FreshExact
-    stale-rows none e = row refusal.Stale (stale-test none e) (λ t. false-true (sym t))
-    stale-rows (some x) e = row refusal.Stale (stale-test (some x) e) (λ _. parsed-rows x (fresh-exact N img r x by ok .0 e) (parse msg) refl)
+  parsed-rows : (x : Journal) → FreshFor a x → (p : Parsed) → parse (a .message) ≡ p
+      → Rows (check refusal.Malformed (isMalformed p) ∷ laterChecks a (some x) p) lastLines
+  unfolding MessagesExact
+  parsed-rows x f Malformed e = row refusal.Malformed (malformed-test Malformed e) (λ t. false-true (sym t))
+  parsed-rows x f (Is q) e = row refusal.Malformed (malformed-test (Is q) e) (λ _. held-rows x q f (messages-exact (a .message) q .0 e))
 
-request-rows : {N : ℕ} (img : List ℕ) (r : Record) (h : Host) (msg reply : List ℕ) → Bytes img
-    → Rows (requestChecks N img r h msg reply) (requestLines N img r h msg reply)
-request-rows {N} img r h msg reply by =
-    row refusal.ImageLength (length-test N (length img)) (λ n.
-    row refusal.HostRange (host-test h) (λ _.
-    row refusal.Busy (busy-test (r .phase)) (λ _.
-    row refusal.NoStore (unmounted-test (r .phase)) (λ _.
-    stale-rows N img r by (not-not (allowed N (length img)) n) h msg reply (held N img r) refl))))
+  stale-rows : (o : Option Journal) → heldFor a ≡ o
+      → Rows (check refusal.Stale (isNone o) ∷ check refusal.Malformed (isMalformed (parse (a .message))) ∷ laterChecks a o (parse (a .message)))
+      (line 11 ((x : Journal) → FreshFor a x → ⊥) ∷ lastLines)
+  stale-rows none e = row refusal.Stale (stale-test none e) (λ t. false-true (sym t))
+  stale-rows (some x) e = row refusal.Stale (stale-test (some x) e) (λ _. parsed-rows x (fresh-for x .0 e) (parse (a .message)) refl)
+
+request-rows : (a : Asking) → Bytes (a .image) → Rows (requestChecks a) (requestLines a)
+request-rows a by =
+    row refusal.ImageLength (length-test (a .blocks) (length (a .image))) (λ n.
+    row refusal.HostRange (host-test (a .host)) (λ _.
+    row refusal.Busy (busy-test (a .board .phase)) (λ _.
+    row refusal.NoStore (unmounted-test (a .board .phase)) (λ _.
+    stale-rows a by (not-not (allowed (a .blocks) (length (a .image))) n) (heldFor a) refl))))
 
 -- ---- steps and formats
 
@@ -373,10 +377,10 @@ step-test {N} img r (Busy s) e = record { yes = λ t. record { stage = s; is-bus
         out-hit (inr (inr (inl l))) a b c d = omega arith
         out-hit (inr (inr (inr l))) a b c d = omega arith
 
-pub request-lines : {N : ℕ} (img : List ℕ) (r : Record) (h : Host) (msg reply : List ℕ) → Bytes img
-    → Exactly (requestLines N img r h msg reply) (exec N img r (request h msg reply) .answer)
-request-lines {N} img r h msg reply by =
-    exactly (request-rows img r h msg reply by) (exec N img r (request h msg reply) .answer) (refused-by-table N img r (request h msg reply))
+pub request-lines : (a : Asking) → Bytes (a .image) → Exactly (requestLines a) (requestOn a .answer)
+request-lines a by =
+    exactly (request-rows a by) (requestOn a .answer)
+    (refused-by-table (a .blocks) (a .image) (a .board) (request (a .host) (a .message) (a .reply)))
 
 pub step-lines : {N : ℕ} (img : List ℕ) (r : Record) → Exactly (linesOf N img r step) (exec N img r step .answer)
 step-lines {N} img r = exactly (row refusal.Stale (step-test img r (r .phase) refl) (λ _. end)) (exec N img r step .answer) (refused-by-table N img r step)

@@ -9,7 +9,6 @@ use lib.Dec.{eqb, ltb, leb}
 use lib.ListN.{length}
 use Rattle.flash.specs.Flash.{apply, block, sizeOf, within}
 use Rattle.flash.proofs.Cases.{on-test}
-use Rattle.frame.specs.declared.Host.{Host}
 use Rattle.frame.specs.Frame.{hostMax}
 use Rattle.journal.specs.Block.{lastTime, markWrites}
 use Rattle.journal.specs.Index.{Load, nextLoad}
@@ -27,13 +26,13 @@ use Rattle.board.specs.Step.{sameShape, enter, landed, loadOr, enterAppe
 use Rattle.board.specs.Step.{nextByte, pastFrame, advance, stepOn}
 use Rattle.board.specs.Mount.{allFound, Store, stores, equalTimes, newest, upkeep, transfers, wipeList, mountJob, timeOf}
 use Rattle.board.specs.Mount.{noneValid, lowestTied, tiedTimes, mountAt, mountOn, formatJob, formatOn}
-use Rattle.board.specs.Queue.{requestOn}
+use Rattle.board.specs.Queue.{Asking, asking, refuseTo, requestOn}
 use Rattle.board.specs.Exec.{Call, request, step, mount, format, exec}
 use Rattle.board.specs.Demand1.{Rests}
 use Rattle.board.specs.Demand2.{Accepted}
 use Rattle.board.specs.Table.{InJob}
 use Rattle.board.specs.Promise.{NoStep, Tells, Silent}
-use Rattle.board.proofs.Outcomes.{request-length, request-host, request-busy, request-unmounted, mount-length}
+use Rattle.board.proofs.Outcomes.{request-length, request-host, request-in, mount-length}
 use Rattle.board.proofs.Outcomes.{mount-none, mount-equal, mount-at, mount-worn, mount-begins, format-length, format-begins}
 use Rattle.board.proofs.Outcomes.{step-resting, step-outside, step-goes}
 use Rattle.board.proofs.Planning.{Met, refused, done, begun, request-met}
@@ -180,33 +179,32 @@ step-silent N img r = go (r .phase) refl
 
 -- ---- requests
 
-request-told : (N : ℕ) (img : List ℕ) (r : Record) (h : Host) (m reply : List ℕ) → Accepted (requestOn N img r reply h m .answer)
-    → Tells (requestOn N img r reply h m)
-request-told N img r h m reply a = go (request-met N img r reply h m) (r .phase) refl
+request-told : (a : Asking) → Accepted (requestOn a .answer) → Tells (requestOn a)
+request-told a t = go (request-met a) (a .board .phase) refl
   where
     o : Out
-    o = requestOn N img r reply h m
+    o = requestOn a
 
-    turned : (n : Refusal) → o ≡ refuse n img r reply → Tells o
-    turned n e = absurd (subst Accepted (ap (λ (x : Out). x .answer) e) a)
+    turned : (n : Refusal) → o ≡ refuseTo a n → Tells o
+    turned n e = absurd (subst Accepted (ap (λ (x : Out). x .answer) e) t)
 
-    past : (allowed N (length img) ≡ true → leb (h .0) hostMax ≡ true → Tells o) → Tells o
+    past : (allowed (a .blocks) (length (a .image)) ≡ true → leb (a .host .0) hostMax ≡ true → Tells o) → Tells o
     past f =
-        on-test (allowed N (length img))
-        (λ b. on-test (leb (h .0) hostMax) (f b) (λ k. turned refusal.HostRange (request-host N img r reply h m b k)))
-        (λ b. turned refusal.ImageLength (request-length N img r reply h m b))
+        on-test (allowed (a .blocks) (length (a .image)))
+        (λ ok. on-test (leb (a .host .0) hostMax) (f ok) (λ k. turned refusal.HostRange (request-host a ok k)))
+        (λ no. turned refusal.ImageLength (request-length a no))
 
-    go : Met N img r reply h m o → (p : Phase) → r .phase ≡ p → Tells o
+    go : Met a o → (p : Phase) → a .board .phase ≡ p → Tells o
     go (refused n e) p q = turned n e
-    go (begun y e) p q = tells-begun img reply _ (up-wipe _) e
-    go (done d i b) (Busy s) q = past (λ c k. turned refusal.Busy (request-busy N img r reply h m c k s q))
-    go (done d i b) Unmounted q = past (λ c k. turned refusal.NoStore (request-unmounted N img r reply h m c k q))
+    go (begun y e) p q = tells-begun (a .image) (a .reply) _ (up-wipe _) e
+    go (done d i b) (Busy s) q = past (λ ok k. turned refusal.Busy (request-in a ok k q))
+    go (done d i b) Unmounted q = past (λ ok k. turned refusal.NoStore (request-in a ok k q))
     go (done d i b) Idle q = tells-of o Idle (ap (λ (x : Record). x .phase) b ∙ q) d tt
 
 -- ---- every call
 
 pub told : (N : ℕ) (img : List ℕ) (r : Record) (c : Call) → Accepted (exec N img r c .answer) → (r .phase ≡ Unmounted → NoStep c) → Tells (exec N img r c)
-told N img r (request h m reply) a n = request-told N img r h m reply a
+told N img r (request h m reply) a n = request-told (asking N img r h m reply) a
 told N img r step a n = step-told N img r n a
 told N img r mount a n = plain-tells (mountOn N img) (mount-plain N img) a
 told N img r format a n = plain-tells (formatOn N img) (format-plain N img) a

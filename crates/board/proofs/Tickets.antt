@@ -29,6 +29,7 @@ use Rattle.board.specs.declared.Phase.the-variants.{Idle}
 use Rattle.board.specs.declared.Record.{Record}
 use Rattle.board.specs.Record.{allowed, Out, out, Accepted}
 use Rattle.board.specs.Mount.{Store, replayOf}
+use Rattle.board.specs.Queue.{asking}
 use Rattle.board.specs.Exec.{Machine, Call, request, step, mount, format}
 use Rattle.board.specs.Plan.{Work, mountWork, frameWork}
 use Rattle.board.specs.Table.{frameFor, Fresh}
@@ -196,7 +197,7 @@ book-steps {N} {m} p i bi w h msg reply bm e b k = go (frameFor h msg x q) refl 
     q : Request
     q = y .asked
 
-    serves : Serves N i w h msg reply x q o
+    serves : Serves (asking N i w h msg reply) x q o
     serves = p .calls .serves i w h msg reply x q bi bm (y .is-held) (y .is-asked) taken
 
     go : (f : Option Frame) → frameFor h msg x q ≡ f → Answers f w o → BookSteps N m o b h k

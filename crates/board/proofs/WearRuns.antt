@@ -19,6 +19,7 @@ use Rattle.board.specs.declared.Phase.the-variants.{Unmounted, Idle, Bus
 use Rattle.board.specs.declared.Record.{Record}
 use Rattle.board.specs.Record.{Out, out, answerIn, answerOf}
 use Rattle.board.specs.Mount.{Store}
+use Rattle.board.specs.Queue.{asking}
 use Rattle.board.specs.Exec.{Machine, Call, request, step, mount, format, exec}
 use Rattle.board.specs.Plan.{frameWork, mountWork, formatWork, Follows}
 use Rattle.board.specs.Table.{frameFor}
@@ -156,7 +157,7 @@ module _ {N : ℕ} {m : Machine} (p : Calls N m) (img : List ℕ) (by : Bytes im
           k : Request
           k = y .asked
 
-          t : Serves N img q g msg reply x k (m img q c)
+          t : Serves (asking N img q g msg reply) x k (m img q c)
           t = p .serves img q g msg reply x k by bm (y .is-held) (y .is-asked) a
 
           framed : (f : Option Frame) → frameFor g msg x k ≡ f → Answers f q (m img q c) → (after : List Step) × LeavesToDo N m img q [] c after

@@ -1,6 +1,6 @@
 -- Demand 2: every image reads as one store or is refused by number; every programmed byte is the one the rules call for; programming
 -- only clears bits; refusals for room and wear are exact.
-use mathlib.Core.List.{List, [], _∷_, _++_}
+use mathlib.Core.List.{List, [], _∷_}
 use mathlib.Core.Logic.{_⊎_, _↔_}
 use mathlib.Core.Option.{some}
 use mathlib.Core.Bool.{true}
@@ -11,10 +11,9 @@ use Rattle.flash.specs.Bytes.{Bytes}
 use Rattle.flash.specs.Flash.{Step, program, erase, apply, applyAll, block, sizeOf, withBlock}
 use Rattle.frame.specs.declared.Host.{Host}
 use Rattle.frame.specs.declared.ObjectId.{ObjectId}
-use Rattle.frame.specs.Frame.{Frame, frameLen, put, delete}
-use Rattle.journal.specs.Replay.{entry, settledOnly}
+use Rattle.frame.specs.Frame.{Frame, frameLen}
+use Rattle.journal.specs.Replay.{settledOnly}
 use Rattle.journal.specs.Block.{Journal, valid, blockState, stateAt, inTransfer}
-use Rattle.journal.specs.Room.{openHosts}
 use Rattle.wire.specs.declared.Request.the-variants.{Put, Delete, Commit, Abort}
 use Rattle.wire.specs.declared.Request.{Request}
 use Rattle.wire.specs.Answer.{numberOf}
@@ -23,10 +22,11 @@ use Rattle.board.specs.declared.Phase.the-variants.{Idle}
 use Rattle.board.specs.declared.Record.{Record}
 pub use Rattle.board.specs.Record.{Accepted}
 use Rattle.board.specs.Record.{Out, allowed}
-use Rattle.board.specs.Mount.{Store, replayOf, claimedOf, timeOf}
+use Rattle.board.specs.Mount.{Store, replayOf, timeOf}
+use Rattle.board.specs.Queue.{Asking, asking}
 use Rattle.board.specs.Exec.{request, mount, format, Machine}
 use Rattle.board.specs.Plan.{Performs, programs, mountWork}
-use Rattle.board.specs.Table.{frameFor, Allowed, Fresh}
+use Rattle.board.specs.Table.{frameFor, Allowed, Fresh, FreshFor, putNeeds, deleteNeeds}
 use Rattle.wire.specs.Sentences.{Means}
 use Rattle.board.specs.Book.{Book}
 use Rattle.board.specs.Claim.{Event, call, cutErase, Happens}
@@ -95,32 +95,30 @@ LandsFrom N m = FromAny N m (StepLands N)
 -- ---- room and wear
 
 -- a request that no line of the table before 8 refuses, where the image read afresh holds x and the message means q
-pub record Asks (N : ℕ) (img : List ℕ) (r : Record) (h : Host) (msg : List ℕ) (x : Journal) (q : Request) : Type 0 where
-  pub bytes : Bytes img
-  pub length-ok : Allowed N (length img)
-  pub host-ok : h .0 ≤ 3
-  pub is-idle : r .phase ≡ Idle
-  pub is-held : Fresh N img r x
-  pub is-asked : Means msg q
+pub record Asks (a : Asking) (x : Journal) (q : Request) : Type 0 where
+  pub bytes : Bytes (a .image)
+  pub length-ok : Allowed (a .blocks) (length (a .image))
+  pub host-ok : a .host .0 ≤ 3
+  pub is-idle : a .board .phase ≡ Idle
+  pub is-held : FreshFor a x
+  pub is-asked : Means (a .message) q
 
 -- "a put is refused exactly if C + n + 6·open + 14 > S, a delete exactly if C + 8 + 6·open > S. Commit and abort are never refused for room."
 pub record RoomExact (N : ℕ) (m : Machine) : Type 0 where
-  pub of-put : (img : List ℕ) (r : Record) (h : Host) (msg reply : List ℕ) (x : Journal) (i : ObjectId) → Asks N img r h msg x (Put i)
+  pub of-put : (img : List ℕ) (r : Record) (h : Host) (msg reply : List ℕ) (x : Journal) (i : ObjectId) → Asks (asking N img r h msg reply) x (Put i)
       → (numberOf (m img r (request h msg reply) .answer) ≡ some 7)
-      ↔ (sizeOf N img
-      < claimedOf x + (8 + length (valueIn msg))
-      + 6 * openHosts (replayOf x .pending ++ (entry h (put i (valueIn msg)) ∷ [])) + 14)
+      ↔ (sizeOf N img < putNeeds (replayOf x) h i (valueIn msg))
   pub of-delete : (img : List ℕ) (r : Record) (h : Host) (msg reply : List ℕ) (x : Journal) (i : ObjectId)
-      → Asks N img r h msg x (Delete i) → (numberOf (m img r (request h msg reply) .answer) ≡ some 7)
-      ↔ (sizeOf N img < claimedOf x + 8 + 6 * openHosts (replayOf x .pending ++ (entry h (delete i) ∷ [])))
-  pub of-commit : (img : List ℕ) (r : Record) (h : Host) (msg reply : List ℕ) (x : Journal) → Asks N img r h msg x Commit
+      → Asks (asking N img r h msg reply) x (Delete i) → (numberOf (m img r (request h msg reply) .answer) ≡ some 7)
+      ↔ (sizeOf N img < deleteNeeds (replayOf x) h i)
+  pub of-commit : (img : List ℕ) (r : Record) (h : Host) (msg reply : List ℕ) (x : Journal) → Asks (asking N img r h msg reply) x Commit
       → numberOf (m img r (request h msg reply) .answer) ≡ some 7 → ⊥
-  pub of-abort : (img : List ℕ) (r : Record) (h : Host) (msg reply : List ℕ) (x : Journal) → Asks N img r h msg x Abort
+  pub of-abort : (img : List ℕ) (r : Record) (h : Host) (msg reply : List ℕ) (x : Journal) → Asks (asking N img r h msg reply) x Abort
       → numberOf (m img r (request h msg reply) .answer) ≡ some 7 → ⊥
 
 -- past the room rule too, 6 exactly if the frame needs a transfer at the last time
 unfoldable pub WearExact : ℕ → Machine → Type 0
 WearExact N m =
-    (img : List ℕ) (r : Record) (h : Host) (msg reply : List ℕ) (x : Journal) (q : Request) (f : Frame) → Asks N img r h msg x q
+    (img : List ℕ) (r : Record) (h : Host) (msg reply : List ℕ) (x : Journal) (q : Request) (f : Frame) → Asks (asking N img r h msg reply) x q
     → frameFor h msg x q ≡ some f → (numberOf (m img r (request h msg reply) .answer) ≡ some 7 → ⊥)
     → (numberOf (m img r (request h msg reply) .answer) ≡ some 6) ↔ ((sizeOf N img < r .rest .end + frameLen f) × (x .time ≡ 4294967295))

@@ -6,7 +6,7 @@ use Rattle.board.specs.declared.Record.{Record}
 use Rattle.board.specs.Record.{Out}
 use Rattle.board.specs.Step.{stepOn}
 use Rattle.board.specs.Mount.{mountOn, formatOn}
-use Rattle.board.specs.Queue.{requestOn}
+use Rattle.board.specs.Queue.{asking, requestOn}
 
 -- "queue requests (any host number, message and reply buffer), steps, mounts and formats"
 pub data Call : Type 0 where
@@ -25,7 +25,7 @@ Family = ℕ → Machine
 
 -- the papers'. "Mount and format take no record."
 abbrev pub exec : Family
-exec N img r (request h m reply) = requestOn N img r reply h m
+exec N img r (request h m reply) = requestOn (asking N img r h m reply)
 exec N img r step = stepOn N img r
 exec N img r mount = mountOn N img
 exec N img r format = formatOn N img

@@ -27,6 +27,7 @@ use Rattle.board.specs.declared.Phase.the-variants.{Unmounted, Idle, Bus
 use Rattle.board.specs.declared.Record.{Record}
 use Rattle.board.specs.Record.{Stretch, noStretch, Out, out}
 use Rattle.board.specs.Mount.{Store, replayOf, usedOf, timeOf}
+use Rattle.board.specs.Queue.{Asking, asking, sizeFor}
 pub use Rattle.board.specs.Exec.{Machine, Family}
 use Rattle.board.specs.Exec.{Call, request, step, mount, format}
 use Rattle.board.specs.Plan.{Work, Performs, formatWork, mountWork, frameWork}
@@ -72,38 +73,38 @@ Answers (some f) r o = o .answer ≡ More
 
 -- "Log page 1 writes 14 bytes to the lent reply: length 14 (2), kind 0x0201 (2), creation time (4), settled count (2), U (2), S (2);
 -- later reply bytes stay. Nothing else writes to the reply."
-abbrev pub replyFor : ℕ → List ℕ → List ℕ → Journal → Request → List ℕ
-replyFor N img reply x (Put i) = reply
-replyFor N img reply x (Delete i) = reply
-replyFor N img reply x Commit = reply
-replyFor N img reply x Abort = reply
-replyFor N img reply x (Read i) = reply
-replyFor N img reply x (Log p) =
+abbrev pub replyFor : Asking → Journal → Request → List ℕ
+replyFor a x (Put i) = a .reply
+replyFor a x (Delete i) = a .reply
+replyFor a x Commit = a .reply
+replyFor a x Abort = a .reply
+replyFor a x (Read i) = a .reply
+replyFor a x (Log p) =
     (u16le 14 ++ (u16le 0x0201 ++ (u32le (x .time) ++ (u16le (length (replayOf x .objects))
-    ++ (u16le (usedOf x) ++ u16le (sizeOf N img))))))
-    ++ drop 14 reply
+    ++ (u16le (usedOf x) ++ u16le (sizeFor a))))))
+    ++ drop 14 (a .reply)
 
 -- "A read that finds its object hands back that stretch of the caller's own flash image": where the recorded half's replay took the
 -- value from
-pub record Stands (N : ℕ) (img : List ℕ) (r : Record) (x : Journal) (i : ObjectId) (st : Stretch) : Type 0 where
+pub record Stands (a : Asking) (x : Journal) (i : ObjectId) (st : Stretch) : Type 0 where
   pub value : List ℕ
   pub at : ℕ
   pub from : TakenFrom (x .frames) i value at
-  pub is : st ≡ record { at = r .rest .block * sizeOf N img + at; size = length value }
+  pub is : st ≡ record { at = a .board .rest .block * sizeFor a + at; size = length value }
 
-abbrev pub HandsBack : ℕ → List ℕ → Record → Journal → Request → Stretch → Type 0
-HandsBack N img r x (Put i) st = st ≡ noStretch
-HandsBack N img r x (Delete i) st = st ≡ noStretch
-HandsBack N img r x Commit st = st ≡ noStretch
-HandsBack N img r x Abort st = st ≡ noStretch
-HandsBack N img r x (Read i) st = Stands N img r x i st
-HandsBack N img r x (Log p) st = st ≡ noStretch
+abbrev pub HandsBack : Asking → Journal → Request → Stretch → Type 0
+HandsBack a x (Put i) st = st ≡ noStretch
+HandsBack a x (Delete i) st = st ≡ noStretch
+HandsBack a x Commit st = st ≡ noStretch
+HandsBack a x Abort st = st ≡ noStretch
+HandsBack a x (Read i) st = Stands a x i st
+HandsBack a x (Log p) st = st ≡ noStretch
 
--- an accepted request q of host h, where the image read afresh holds x
-pub record Serves (N : ℕ) (img : List ℕ) (r : Record) (h : Host) (msg reply : List ℕ) (x : Journal) (q : Request) (o : Out) : Type 0 where
-  pub answers : Answers (frameFor h msg x q) r o
-  pub writes : o .reply ≡ replyFor N img reply x q
-  pub hands-back : HandsBack N img r x q (o .stretch)
+-- an accepted request q, where the image read afresh holds x
+pub record Serves (a : Asking) (x : Journal) (q : Request) (o : Out) : Type 0 where
+  pub answers : Answers (frameFor (a .host) (a .message) x q) (a .board) o
+  pub writes : o .reply ≡ replyFor a x q
+  pub hands-back : HandsBack a x q (o .stretch)
 
 -- ---- jobs
 
@@ -150,7 +151,7 @@ pub record Calls (N : ℕ) (m : Machine) : Type 0 where
   pub silent : (img : List ℕ) (r : Record) (c : Call) → Silent c (m img r c)
   -- on any record, forged ones too
   pub serves : (img : List ℕ) (r : Record) (h : Host) (msg reply : List ℕ) (x : Journal) (q : Request) → Bytes img → Bytes msg → Fresh N img r x
-      → Means msg q → Accepted (m img r (request h msg reply) .answer) → Serves N img r h msg reply x q (m img r (request h msg reply))
+      → Means msg q → Accepted (m img r (request h msg reply) .answer) → Serves (asking N img r h msg reply) x q (m img r (request h msg reply))
   -- the steps of an accepted call are its job's, and so many
   pub jobs : (img : List ℕ) (r : Record) (c : Call) (w : Work) → Bytes img → ByteCall c → Job N img r c w
       → Accepted (m img r c .answer) → Performs N m img (m img r c .board) w × Short N (sizeOf N img) (w .steps) c

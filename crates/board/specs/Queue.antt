@@ -2,7 +2,7 @@
 use mathlib.Core.List.{List, [], _∷_}
 use mathlib.Core.Option.{Option, none, some}
 use mathlib.Core.Bool.{Bool, true, false, _&&_, _||_, cond}
-use Prim.Native.Nat.{ℕ, suc, _+_, _*_}
+use Prim.Native.Nat.{ℕ, _+_, _*_}
 use lib.Dec.{eqb, ltb, leb}
 use lib.ListN.{length, getD}
 use Rattle.flash.specs.Bytes.{allFF}
@@ -16,6 +16,7 @@ use Rattle.journal.specs.Block.{Journal, BlockState, blank, inProgress, valid, 
 use Rattle.journal.specs.Room.{openHosts, noRoom}
 use Rattle.journal.specs.Index.{placesOf, sinceOf, Value, valueAt, onlyIf}
 use Rattle.wire.specs.declared.Answer.the-variants.{Done}
+use Rattle.wire.specs.declared.Refusal.{Refusal}
 use Rattle.wire.specs.declared.Refusal.the-variants as refusal
 use Rattle.wire.specs.declared.Page.{Page}
 use Rattle.wire.specs.declared.Page.the-variants.{Summary}
@@ -27,7 +28,7 @@ use Rattle.wire.specs.Message.{parse, valueIn, pageLen, logPage, withPage}
 use Rattle.board.specs.declared.Phase.{Phase}
 use Rattle.board.specs.declared.Phase.the-variants.{Unmounted, Idle, Busy}
 use Rattle.board.specs.declared.Record.{Record}
-use Rattle.board.specs.Record.{allowed, noWipes, starting, busy, Stretch, noStretch, Out, out, refuse}
+use Rattle.board.specs.Record.{allowed, noWipes, starting, busy, Stretch, noStretch, Out, refuse}
 use Rattle.board.specs.Step.{begin, sameShape}
 use Rattle.board.specs.Mount.{nextBlock, newTime, endOf, replayOf, usedOf, claimedOf}
 
@@ -88,21 +89,50 @@ appendJob N img r x f =
     })
     (starting 0 headerLen) (encode f)
 
--- 6: "a transfer is needed .. at time 4,294,967,295"
-unfoldable pub append : ℕ → List ℕ → Record → List ℕ → Journal → Frame → Out
-append N img r reply x f =
-    cond (needsRoom N img r f && eqb (x .time) lastTime) (refuse refusal.Worn img r reply) (begin img reply (appendJob N img r x f))
-
 -- ---- the requests
 
+-- "queue requests (any host number, message and reply buffer)", with what they are asked of: number of blocks, image and board record
+pub record Asking : Type 0 where
+  pub blocks : ℕ
+  pub image : List ℕ
+  pub board : Record
+  pub host : Host
+  pub message : List ℕ
+  pub reply : List ℕ
+
+abbrev pub asking : ℕ → List ℕ → Record → Host → List ℕ → List ℕ → Asking
+asking N img r h m reply = record { blocks = N; image = img; board = r; host = h; message = m; reply = reply }
+
+-- S; what the recorded block holds; whether a frame goes past its end
+abbrev pub sizeFor : Asking → ℕ
+sizeFor a = sizeOf (a .blocks) (a .image)
+
+abbrev pub heldFor : Asking → Option Journal
+heldFor a = held (a .blocks) (a .image) (a .board)
+
+abbrev pub movesFor : Asking → Frame → Bool
+movesFor a f = needsRoom (a .blocks) (a .image) (a .board) f
+
+-- refused, or done at once: image and record stay
+abbrev pub refuseTo : Asking → Refusal → Out
+refuseTo a n = refuse n (a .image) (a .board) (a .reply)
+
+abbrev pub doneAt : Asking → List ℕ → Stretch → Out
+doneAt a reply st = record { answer = Done; image = a .image; board = a .board; reply = reply; stretch = st }
+
+-- 6: "a transfer is needed .. at time 4,294,967,295"
+unfoldable pub append : Asking → Journal → Frame → Out
+append a x f =
+    cond (movesFor a f && eqb (x .time) lastTime) (refuseTo a refusal.Worn)
+    (begin (a .image) (a .reply) (appendJob (a .blocks) (a .image) (a .board) x f))
+
 -- a put or delete; 7: the room rule
-unfoldable pub serveChange : ℕ → List ℕ → Record → List ℕ → Host → Journal → Change → Out
-serveChange N img r reply h x c =
-    cond (noRoom (sizeOf N img) (replayOf x) h c) (refuse refusal.NoRoom img r reply) (append N img r reply x (change h c))
+unfoldable pub serveChange : Asking → Journal → Change → Out
+serveChange a x c = cond (noRoom (sizeFor a) (replayOf x) (a .host) c) (refuseTo a refusal.NoRoom) (append a x (change (a .host) c))
 
 -- "Commit or abort with nothing pending is done in 0 steps."
-unfoldable pub serveEnd : ℕ → List ℕ → Record → List ℕ → Host → Journal → Frame → Out
-serveEnd N img r reply h x f = cond (isOpen h (replayOf x .pending)) (append N img r reply x f) (out Done img r reply)
+unfoldable pub serveEnd : Asking → Journal → Frame → Out
+serveEnd a x f = cond (isOpen (a .host) (replayOf x .pending)) (append a x f) (doneAt a (a .reply) noStretch)
 
 -- counted from the image's first byte
 abbrev pub stretchOf : ℕ → Option Value → Stretch
@@ -115,49 +145,48 @@ placeOf N img r x i =
     stretchOf (r .rest .block * sizeOf N img) (valueAt (block (sizeOf N img) (r .rest .block) img) i (getD (placesOf (x .frames)) (i .0) 0))
 
 -- "Reads see settled objects only"; 8: "no such settled object"
-abbrev pub serveRead : ℕ → List ℕ → Record → List ℕ → Journal → ObjectId → Option (List ℕ) → Out
-serveRead N img r reply x i none = refuse refusal.NoObject img r reply
-serveRead N img r reply x i (some v) =
-    record { answer = Done; image = img; board = r; reply = reply; stretch = placeOf N img r x i }
+abbrev pub serveRead : Asking → Journal → ObjectId → Option (List ℕ) → Out
+serveRead a x i none = refuseTo a refusal.NoObject
+serveRead a x i (some v) = doneAt a (a .reply) (placeOf (a .blocks) (a .image) (a .board) x i)
 
 -- 9: "log: reply under 14 bytes"
-unfoldable pub serveLog : ℕ → List ℕ → Record → List ℕ → Journal → Page → Out
-serveLog N img r reply x Summary =
-    cond (ltb (length reply) pageLen) (refuse refusal.ShortReply img r reply)
-    (out Done img r (withPage (logPage (x .time) (length (replayOf x .objects)) (usedOf x) (sizeOf N img)) reply))
+unfoldable pub serveLog : Asking → Journal → Page → Out
+serveLog a x Summary =
+    cond (ltb (length (a .reply)) pageLen) (refuseTo a refusal.ShortReply)
+    (doneAt a (withPage (logPage (x .time) (length (replayOf x .objects)) (usedOf x) (sizeFor a)) (a .reply)) noStretch)
 
 -- "A request is one of six kinds"
-unfoldable pub serve : ℕ → List ℕ → Record → List ℕ → Host → List ℕ → Journal → Request → Out
-serve N img r reply h m x (Put i) = serveChange N img r reply h x (put i (valueIn m))
-serve N img r reply h m x (Delete i) = serveChange N img r reply h x (delete i)
-serve N img r reply h m x Commit = serveEnd N img r reply h x (commit h)
-serve N img r reply h m x Abort = serveEnd N img r reply h x (abort h)
-serve N img r reply h m x (Read i) = serveRead N img r reply x i (lookup i (replayOf x .objects))
-serve N img r reply h m x (Log p) = serveLog N img r reply x p
+unfoldable pub serve : Asking → Journal → Request → Out
+serve a x (Put i) = serveChange a x (put i (valueIn (a .message)))
+serve a x (Delete i) = serveChange a x (delete i)
+serve a x Commit = serveEnd a x (commit (a .host))
+serve a x Abort = serveEnd a x (abort (a .host))
+serve a x (Read i) = serveRead a x i (lookup i (replayOf x .objects))
+serve a x (Log p) = serveLog a x p
 
 -- 1, after 11
-abbrev pub serveParsed : ℕ → List ℕ → Record → List ℕ → Host → List ℕ → Journal → Parsed → Out
-serveParsed N img r reply h m x Malformed = refuse refusal.Malformed img r reply
-serveParsed N img r reply h m x (Is q) = serve N img r reply h m x q
+abbrev pub serveParsed : Asking → Journal → Parsed → Out
+serveParsed a x Malformed = refuseTo a refusal.Malformed
+serveParsed a x (Is q) = serve a x q
 
 -- 11
-abbrev pub serveHeld : ℕ → List ℕ → Record → List ℕ → Host → List ℕ → Option Journal → Out
-serveHeld N img r reply h m none = refuse refusal.Stale img r reply
-serveHeld N img r reply h m (some x) = serveParsed N img r reply h m x (parse m)
+abbrev pub serveHeld : Asking → Option Journal → Out
+serveHeld a none = refuseTo a refusal.Stale
+serveHeld a (some x) = serveParsed a x (parse (a .message))
 
 -- 5, then 2, then 11
-abbrev pub requestIn : ℕ → Phase → List ℕ → Record → List ℕ → Host → List ℕ → Out
-requestIn N (Busy s) img r reply h m = refuse refusal.Busy img r reply
-requestIn N Unmounted img r reply h m = refuse refusal.NoStore img r reply
-requestIn N Idle img r reply h m = serveHeld N img r reply h m (held N img r)
+abbrev pub requestIn : Asking → Phase → Out
+requestIn a (Busy s) = refuseTo a refusal.Busy
+requestIn a Unmounted = refuseTo a refusal.NoStore
+requestIn a Idle = serveHeld a (heldFor a)
 
 -- 4, then 10
-unfoldable pub requestOn : ℕ → List ℕ → Record → List ℕ → Host → List ℕ → Out
-requestOn N img r reply h m =
-    cond (allowed N (length img))
-    (cond (leb (h .0) hostMax) (requestIn N (r .phase) img r reply h m) (refuse refusal.HostRange img r reply))
-    (refuse refusal.ImageLength img r reply)
+unfoldable pub requestOn : Asking → Out
+requestOn a =
+    cond (allowed (a .blocks) (length (a .image)))
+    (cond (leb (a .host .0) hostMax) (requestIn a (a .board .phase)) (refuseTo a refusal.HostRange))
+    (refuseTo a refusal.ImageLength)
 
 -- the stretch of a read alone; "A refused read hands back an empty stretch", and so does a message that is no read
 abbrev pub readOn : ℕ → List ℕ → Record → Host → List ℕ → Stretch
-readOn N img r h m = requestOn N img r [] h m .stretch
+readOn N img r h m = requestOn (asking N img r h m []) .stretch

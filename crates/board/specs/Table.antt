@@ -14,11 +14,11 @@ use Rattle.frame.specs.Frame.{Frame, put, delete, frameLen, total, change, comm
 use Rattle.frame.specs.Reader.{fault, clean}
 use Rattle.frame.specs.declared.Fault.{Fault}
 use Rattle.frame.specs.declared.Field.the-variants as field
-use Rattle.journal.specs.Replay.{entry, lookup, isOpen}
+use Rattle.journal.specs.Replay.{entry, lookup, isOpen, State}
 use Rattle.journal.specs.Block.{Journal, headerLen}
 use Rattle.journal.specs.Faults.{FaultIn}
 use Rattle.journal.specs.Sentences.{BlankBlock, ValidBlock, ForeignBlock}
-use Rattle.journal.specs.Room.{openHosts}
+use Rattle.journal.specs.Room.{openHosts, claimed}
 use Rattle.wire.specs.declared.Answer.{Answer}
 use Rattle.wire.specs.declared.Page.{Page}
 use Rattle.wire.specs.declared.Request.{Request}
@@ -32,7 +32,7 @@ use Rattle.board.specs.declared.Record.{Record}
 use Rattle.board.specs.Record.{allowed, Accepted}
 use Rattle.board.specs.Step.{action}
 use Rattle.board.specs.Mount.{replayOf, claimedOf}
-use Rattle.board.specs.Queue.{held}
+use Rattle.board.specs.Queue.{held, Asking, asking, sizeFor}
 use Rattle.board.specs.Exec.{Call, request, step, mount, format}
 use Rattle.wire.specs.Sentences.{Means}
 
@@ -99,55 +99,61 @@ pub record Fresh (N : ℕ) (img : List ℕ) (r : Record) (x : Journal) : Type 0 
 unfoldable pub FreshExact : Type 0
 FreshExact = (N : ℕ) (img : List ℕ) (r : Record) (x : Journal) → Bytes img → allowed N (length img) ≡ true → (held N img r ≡ some x) ↔ Fresh N img r x
 
+abbrev pub FreshFor : Asking → Journal → Type 0
+FreshFor a x = Fresh (a .blocks) (a .image) (a .board) x
+
 -- 8: "read: no such settled object"
-pub record NoObject (N : ℕ) (img : List ℕ) (r : Record) (msg : List ℕ) : Type 0 where
+pub record NoObject (a : Asking) : Type 0 where
   pub holding : Journal
   pub id : ObjectId
-  pub is-held : Fresh N img r holding
-  pub is-asked : Means msg (Read id)
+  pub is-held : FreshFor a holding
+  pub is-asked : Means (a .message) (Read id)
   pub none-there : lookup id (replayOf holding .objects) ≡ none
 
 -- 9: "log: reply under 14 bytes"
-pub record ShortReply (msg reply : List ℕ) : Type 0 where
+pub record ShortReply (a : Asking) : Type 0 where
   pub page : Page
-  pub is-asked : Means msg (Log page)
-  pub short : length reply < 14
+  pub is-asked : Means (a .message) (Log page)
+  pub short : length (a .reply) < 14
 
--- 7: "with `open` the hosts that would then have something pending, a put is refused exactly if C + n + 6·open + 14 > S, a delete
--- exactly if C + 8 + 6·open > S"
-pub data NoRoom (N : ℕ) (img : List ℕ) (r : Record) (h : Host) (msg : List ℕ) : Type 0 where
-  for-put : (x : Journal) (i : ObjectId) → Fresh N img r x → Means msg (Put i)
-      → sizeOf N img
-      < claimedOf x + (8 + length (valueIn msg))
-      + 6 * openHosts (replayOf x .pending ++ (entry h (put i (valueIn msg)) ∷ [])) + 14
-      → NoRoom N img r h msg
-  for-delete : (x : Journal) (i : ObjectId) → Fresh N img r x → Means msg (Delete i)
-      → sizeOf N img < claimedOf x + 8 + 6 * openHosts (replayOf x .pending ++ (entry h (delete i) ∷ []))
-      → NoRoom N img r h msg
+-- "with `open` the hosts that would then have something pending": what a put of a value would need, "C + n + 6·open + 14", and what a delete,
+-- "C + 8 + 6·open". They judge `journal/Room: noRoom` and share no sum with it
+abbrev pub putNeeds : State → Host → ObjectId → List ℕ → ℕ
+putNeeds s h i v = claimed s + (8 + length v) + 6 * openHosts (s .pending ++ (entry h (put i v) ∷ [])) + 14
+
+abbrev pub deleteNeeds : State → Host → ObjectId → ℕ
+deleteNeeds s h i = claimed s + 8 + 6 * openHosts (s .pending ++ (entry h (delete i) ∷ []))
+
+-- 7: "a put is refused exactly if C + n + 6·open + 14 > S, a delete exactly if C + 8 + 6·open > S"
+pub data NoRoom (a : Asking) : Type 0 where
+  for-put : (x : Journal) (i : ObjectId) → FreshFor a x → Means (a .message) (Put i)
+      → sizeFor a < putNeeds (replayOf x) (a .host) i (valueIn (a .message)) → NoRoom a
+  for-delete : (x : Journal) (i : ObjectId) → FreshFor a x → Means (a .message) (Delete i)
+      → sizeFor a < deleteNeeds (replayOf x) (a .host) i → NoRoom a
 
 -- 6: "a transfer is needed, .. at time 4,294,967,295": "if end + n exceeds S"
-pub record Worn (N : ℕ) (img : List ℕ) (r : Record) (h : Host) (msg : List ℕ) : Type 0 where
+pub record Worn (a : Asking) : Type 0 where
   pub holding : Journal
   pub asked : Request
   pub frame : Frame
-  pub is-held : Fresh N img r holding
-  pub is-asked : Means msg asked
-  pub is-frame : frameFor h msg holding asked ≡ some frame
-  pub exceeds : sizeOf N img < r .rest .end + frameLen frame
+  pub is-held : FreshFor a holding
+  pub is-asked : Means (a .message) asked
+  pub is-frame : frameFor (a .host) (a .message) holding asked ≡ some frame
+  pub exceeds : sizeFor a < a .board .rest .end + frameLen frame
   pub last-time : holding .time ≡ 4294967295
 
-abbrev pub requestLines : ℕ → List ℕ → Record → Host → List ℕ → List ℕ → List Line
-requestLines N img r h msg reply =
-    line 4 (Allowed N (length img) → ⊥)
-    ∷ line 10 (3 < h .0)
-    ∷ line 5 (InJob (r .phase))
-    ∷ line 2 (r .phase ≡ Unmounted)
-    ∷ line 11 ((x : Journal) → Fresh N img r x → ⊥)
-    ∷ line 1 ((q : Request) → Means msg q → ⊥)
-    ∷ line 8 (NoObject N img r msg)
-    ∷ line 9 (ShortReply msg reply)
-    ∷ line 7 (NoRoom N img r h msg)
-    ∷ line 6 (Worn N img r h msg)
+abbrev pub requestLines : Asking → List Line
+requestLines a =
+    line 4 (Allowed (a .blocks) (length (a .image)) → ⊥)
+    ∷ line 10 (3 < a .host .0)
+    ∷ line 5 (InJob (a .board .phase))
+    ∷ line 2 (a .board .phase ≡ Unmounted)
+    ∷ line 11 ((x : Journal) → FreshFor a x → ⊥)
+    ∷ line 1 ((q : Request) → Means (a .message) q → ⊥)
+    ∷ line 8 (NoObject a)
+    ∷ line 9 (ShortReply a)
+    ∷ line 7 (NoRoom a)
+    ∷ line 6 (Worn a)
     ∷ []
 
 -- ---- mounts
@@ -217,7 +223,7 @@ pub record Misplaced (N : ℕ) (img : List ℕ) (r : Record) : Type 0 where
 -- ---- the table
 
 abbrev pub linesOf : ℕ → List ℕ → Record → Call → List Line
-linesOf N img r (request h msg reply) = requestLines N img r h msg reply
+linesOf N img r (request h msg reply) = requestLines (asking N img r h msg reply)
 linesOf N img r step = line 11 (Misplaced N img r) ∷ []
 linesOf N img r mount = mountLines N img
 linesOf N img r format = line 4 (Allowed N (length img) → ⊥) ∷ []

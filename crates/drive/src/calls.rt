@@ -4,6 +4,7 @@ ghost use mathlib.Core.List.{List};
 ghost use Prim.Native.Nat.{ℕ, _+_, _*_, _<_};
 ghost use Rattle.flash.specs.Flash.{blockOf, offsetOf};
 ghost use Rattle.board.specs.declared.Phase.the-variants.{Busy};
+ghost use Rattle.board.specs.Record.{Out};
 ghost use Rattle.board.specs.Drive.{placed, nextIn, nextOn, madeOn};
 ghost use Rattle.job.specs.Code.{assemble, flashStep, HandsAt, Hands};
 use board::Next;
@@ -67,7 +68,7 @@ pub fn next(len: usize, blocks: u8, board: Record) -> Next
 
 // A made call: the image is read as it is now, never written.
 pub fn made(image: &[u8], blocks: u8, board: Record) -> Outcome
-    ensures { λ r. ⌜ (r .answer ≡ madeOn blocks (now (image .entry)) board .answer) × (r .board ≡ madeOn blocks (now (image .entry)) board .board) ⌝ }
+    ensures { λ r. ⌜ (let o : Out = madeOn blocks (now (image .entry)) board in (r .answer ≡ o .answer) × (r .board ≡ o .board)) ⌝ }
 {
     let places = board.places;
     let mut unit = board.unit;

@@ -8,7 +8,6 @@ use lib.Dec.{leb}
 use lib.ListN.{length}
 use borrow.Author.Tests.{eq-eqb}
 use Rattle.flash.proofs.Cases.{on-test}
-use Rattle.frame.specs.declared.Host.{Host}
 use Rattle.frame.specs.Frame.{hostMax}
 use Rattle.wire.specs.declared.Answer.{Answer}
 use Rattle.wire.specs.declared.Answer.the-variants.{Done, More, Refused}
@@ -21,11 +20,10 @@ use Rattle.wire.specs.Answer.{edgeNumber}
 use Rattle.wire.specs.Message.{parse}
 use Rattle.board.specs.declared.Phase.{Phase}
 use Rattle.board.specs.declared.Phase.the-variants.{Unmounted, Idle, Busy}
-use Rattle.board.specs.declared.Record.{Record}
-use Rattle.board.specs.Record.{allowed, noFrame, Out, refuse}
-use Rattle.board.specs.Queue.{requestOn}
+use Rattle.board.specs.Record.{allowed, noFrame, Out}
+use Rattle.board.specs.Queue.{Asking, refuseTo, requestOn}
 use Rattle.board.specs.Table.{isBusy}
-use Rattle.board.proofs.Outcomes.{request-length, request-host, request-busy}
+use Rattle.board.proofs.Outcomes.{request-length, request-host, request-in}
 use Rattle.lent.specs.Layout.{recordSize, recordIn, recordBytes, recordInto}
 use Rattle.job.specs.declared.records.Stepped.{Stepped}
 use Rattle.job.specs.Code.{assemble}
@@ -71,22 +69,21 @@ begun-is b after p f n s o l q r h =
     ((h .0 .0 ∙ ap edgeNumber (q .answers), z .0), z .1)
 
 -- a record in a job is refused
-pub done-rests : (N : ℕ) (img : List ℕ) (r : Record) (reply : List ℕ) (h : Host) (m : List ℕ) → requestOn N img r reply h m .answer ≡ Done
-    → isBusy (r .phase) ≡ false
-done-rests N img r reply h m d = by (r .phase) refl
+pub done-rests : (a : Asking) → requestOn a .answer ≡ Done → isBusy (a .board .phase) ≡ false
+done-rests a d = by (a .board .phase) refl
   where
-    no : (why : Refusal) → requestOn N img r reply h m ≡ refuse why img r reply → isBusy (r .phase) ≡ false
+    no : (why : Refusal) → requestOn a ≡ refuseTo a why → isBusy (a .board .phase) ≡ false
     no why e = let w : Refused why ≡ Done = sym (ap (λ (o : Out). o .answer) e) ∙ d in let z : _≡_ {A = ℕ} 0 1 = cc in absurd (omega arith)
 
-    by : (p : Phase) → r .phase ≡ p → isBusy (r .phase) ≡ false
+    by : (p : Phase) → a .board .phase ≡ p → isBusy (a .board .phase) ≡ false
     by Unmounted e = ap isBusy e
     by Idle e = ap isBusy e
     by (Busy s) e =
-        on-test (allowed N (length img))
-        (λ a. on-test (leb (h .0) hostMax)
-        (λ b. no refusal.Busy (request-busy N img r reply h m a b s e))
-        (λ b. no refusal.HostRange (request-host N img r reply h m a b)))
-        (λ a. no refusal.ImageLength (request-length N img r reply h m a))
+        on-test (allowed (a .blocks) (length (a .image)))
+        (λ ok. on-test (leb (a .host .0) hostMax)
+        (λ k. no refusal.Busy (request-in a ok k e))
+        (λ k. no refusal.HostRange (request-host a ok k)))
+        (λ n. no refusal.ImageLength (request-length a n))
 
 -- ---- a read's message counts as itself
 

@@ -31,7 +31,7 @@ use Rattle.board.specs.declared.Record.{Record}
 use Rattle.board.specs.Record.{allowed, Stretch, Out}
 use Rattle.board.specs.Step.{stepOn}
 use Rattle.board.specs.Mount.{mountOn, formatOn, replayOf}
-use Rattle.board.specs.Queue.{held, requestOn}
+use Rattle.board.specs.Queue.{held, requestOn, Asking, asking}
 use Rattle.board.specs.Exec.{Call, request, step, mount, format, exec}
 use Rattle.board.specs.Promise.{Shown, shown, trace, PromiseDetermines}
 use Rattle.board.proofs.Outcomes as outcome
@@ -109,73 +109,79 @@ fault-is N img = refl
 
 -- it does not depend on the reply
 module _ (N : ℕ) (img : List ℕ) (r : Record) (h : Host) (m : List ℕ) (i : ObjectId) (z : parse m ≡ Is (Read i)) (p q : List ℕ) where
-  abbrev at : List ℕ → Stretch
-  at reply = requestOn N img r reply h m .stretch
+  abbrev c : Asking
+  c = asking N img r h m p
 
-  both : {x y : Out} → requestOn N img r p h m ≡ x → requestOn N img r q h m ≡ y → x .stretch ≡ y .stretch → at p ≡ at q
+  abbrev d : Asking
+  d = asking N img r h m q
+
+  abbrev Same : Type 0
+  Same = requestOn c .stretch ≡ requestOn d .stretch
+
+  both : {x y : Out} → requestOn c ≡ x → requestOn d ≡ y → x .stretch ≡ y .stretch → Same
   both e f s = ap (λ (o : Out). o .stretch) e ∙ s ∙ sym (ap (λ (o : Out). o .stretch) f)
 
-  same-asked : allowed N (length img) ≡ true → leb (h .0) hostMax ≡ true → at p ≡ at q
+  same-asked : allowed N (length img) ≡ true → leb (h .0) hostMax ≡ true → Same
   same-asked a e = by (r .phase) refl
     where
-      of : (x : Journal) → r .phase ≡ Idle → held N img r ≡ some x → (o : Option (List ℕ)) → lookup i (replayOf x .objects) ≡ o → at p ≡ at q
-      of x d y none w =
-          both (outcome.request-served N img r p h m a e x (Read i) d y z ∙ outcome.read-none N img r p h m x i w)
-          (outcome.request-served N img r q h m a e x (Read i) d y z ∙ outcome.read-none N img r q h m x i w) refl
-      of x d y (some v) w =
-          both (outcome.request-served N img r p h m a e x (Read i) d y z ∙ outcome.read-some N img r p h m x i v w)
-          (outcome.request-served N img r q h m a e x (Read i) d y z ∙ outcome.read-some N img r q h m x i v w) refl
+      of : (x : Journal) → r .phase ≡ Idle → held N img r ≡ some x → (o : Option (List ℕ)) → lookup i (replayOf x .objects) ≡ o → Same
+      of x k y none w =
+          both (outcome.request-served c a e x (Read i) k y z ∙ outcome.read-none c x i w)
+          (outcome.request-served d a e x (Read i) k y z ∙ outcome.read-none d x i w) refl
+      of x k y (some v) w =
+          both (outcome.request-served c a e x (Read i) k y z ∙ outcome.read-some c x i v w)
+          (outcome.request-served d a e x (Read i) k y z ∙ outcome.read-some d x i v w) refl
 
-      in-idle : r .phase ≡ Idle → (o : Option Journal) → held N img r ≡ o → at p ≡ at q
-      in-idle d none y = both (outcome.request-stale N img r p h m a e d y) (outcome.request-stale N img r q h m a e d y) refl
-      in-idle d (some x) y = of x d y (lookup i (replayOf x .objects)) refl
+      in-idle : r .phase ≡ Idle → (o : Option Journal) → held N img r ≡ o → Same
+      in-idle k none y = both (outcome.request-stale c a e k y) (outcome.request-stale d a e k y) refl
+      in-idle k (some x) y = of x k y (lookup i (replayOf x .objects)) refl
 
-      by : (x : Phase) → r .phase ≡ x → at p ≡ at q
-      by Unmounted d = both (outcome.request-unmounted N img r p h m a e d) (outcome.request-unmounted N img r q h m a e d) refl
-      by Idle d = in-idle d (held N img r) refl
-      by (Busy g) d = both (outcome.request-busy N img r p h m a e g d) (outcome.request-busy N img r q h m a e g d) refl
+      by : (x : Phase) → r .phase ≡ x → Same
+      by Unmounted k = both (outcome.request-in c a e k) (outcome.request-in d a e k) refl
+      by Idle k = in-idle k (held N img r) refl
+      by (Busy g) k = both (outcome.request-in c a e k) (outcome.request-in d a e k) refl
 
-  same-place : at p ≡ at q
+  same-place : Same
   same-place =
       on-test (allowed N (length img))
       (λ a. on-test (leb (h .0) hostMax) (same-asked a)
-      (λ e. both (outcome.request-host N img r p h m a e) (outcome.request-host N img r q h m a e) refl))
-      (λ a. both (outcome.request-length N img r p h m a) (outcome.request-length N img r q h m a) refl)
+      (λ e. both (outcome.request-host c a e) (outcome.request-host d a e) refl))
+      (λ a. both (outcome.request-length c a) (outcome.request-length d a) refl)
 
 -- a message that is no read has none
 module _ (N : ℕ) (img : List ℕ) (r : Record) (s : Sized r) (h : Host) (m reply : List ℕ) where
   abbrev readAt : Stretch
-  readAt = requestOn N img r [] h (asRead m) .stretch
+  readAt = requestOn (asking N img r h (asRead m) []) .stretch
 
-  no-place : isRead (parse m) ≡ false → readAt ≡ requestOn N img r reply h m .stretch
+  no-place : isRead (parse m) ≡ false → readAt ≡ requestOn (asking N img r h m reply) .stretch
   unfolding parse
   no-place f =
-      ap (λ (b : Bool). requestOn N img r [] h (cond b m []) .stretch) f ∙ serves N img r [] h [] s .place refl
-      ∙ sym (serves N img r reply h m s .place f)
+      ap (λ (b : Bool). requestOn (asking N img r h (cond b m []) []) .stretch) f ∙ serves (asking N img r h [] []) s .place refl
+      ∙ sym (serves (asking N img r h m reply) s .place f)
 
-  read-place : readAt ≡ requestOn N img r reply h m .stretch
+  read-place : readAt ≡ requestOn (asking N img r h m reply) .stretch
   read-place = by (parse m) refl
     where
-      none-of : (p : Parsed) → parse m ≡ p → isRead p ≡ false → readAt ≡ requestOn N img r reply h m .stretch
+      none-of : (p : Parsed) → parse m ≡ p → isRead p ≡ false → readAt ≡ requestOn (asking N img r h m reply) .stretch
       none-of p e f = no-place (ap isRead e ∙ f)
 
-      by : (p : Parsed) → parse m ≡ p → readAt ≡ requestOn N img r reply h m .stretch
+      by : (p : Parsed) → parse m ≡ p → readAt ≡ requestOn (asking N img r h m reply) .stretch
       by Malformed e = none-of Malformed e refl
       by (Is (Put i)) e = none-of (Is (Put i)) e refl
       by (Is (Delete i)) e = none-of (Is (Delete i)) e refl
       by (Is Commit) e = none-of (Is Commit) e refl
       by (Is Abort) e = none-of (Is Abort) e refl
       by (Is (Read i)) e =
-          ap (λ (b : Bool). requestOn N img r [] h (cond b m []) .stretch) (ap isRead e) ∙ same-place N img r h m i e [] reply
+          ap (λ (b : Bool). requestOn (asking N img r h (cond b m []) []) .stretch) (ap isRead e) ∙ same-place N img r h m i e [] reply
       by (Is (Log x)) e = none-of (Is (Log x)) e refl
 
 -- ---- one call
 
-request-keeps : (N : ℕ) (img : List ℕ) (r : Record) → Sized r → (h : Host) (m reply : List ℕ) → Keeps r (requestOn N img r reply h m)
-request-keeps N img r s h m reply = by (requestOn N img r reply h m .answer) refl
+request-keeps : (N : ℕ) (img : List ℕ) (r : Record) → Sized r → (h : Host) (m reply : List ℕ) → Keeps r (requestOn (asking N img r h m reply))
+request-keeps N img r s h m reply = by (requestOn (asking N img r h m reply) .answer) refl
   where
-    by : (a : Answer) → requestOn N img r reply h m .answer ≡ a → Keeps r (requestOn N img r reply h m)
-    by Done e w = serves N img r reply h m s .done e
+    by : (a : Answer) → requestOn (asking N img r h m reply) .answer ≡ a → Keeps r (requestOn (asking N img r h m reply))
+    by Done e w = serves (asking N img r h m reply) s .done e
     by More e w = absurd (true≢false (sym (ap (changes (r .phase)) e) ∙ w))
     by (Refused n) e w = ap (λ (o : Out). o .board) (refusals-untouched N img r (request h m reply) n e)
 
@@ -203,12 +209,12 @@ module _ (N : ℕ) (img b : List ℕ) (l : length b ≡ recordSize) where
       on-test (changes (r .phase) (o .answer)) (λ t. rw t (bytes-after o s)) (λ t. rw t (sym (k t), l))
 
   is-request : (h : Host) (m reply : List ℕ)
-      → let o : Out = requestOn N img r reply h m in
+      → let o : Out = requestOn (asking N img r h m reply) in
       edgeRequest N img b (h .0) m reply ≡ edge (edgeNumber (o .answer)) (o .image) (written b o) (o .reply)
   unfolding edgeRequest
   is-request h m reply = rw (eq-eqb (length b) recordSize l)
 
-  is-place : (h : Host) (m reply : List ℕ) → plainStretch N img b (request h m reply) ≡ requestOn N img r [] h (asRead m) .stretch
+  is-place : (h : Host) (m reply : List ℕ) → plainStretch N img b (request h m reply) ≡ requestOn (asking N img r h (asRead m) []) .stretch
   unfolding edgeRead
   is-place h m reply = rw (eq-eqb (length b) recordSize l)
 
@@ -226,8 +232,8 @@ module _ (N : ℕ) (img b : List ℕ) (l : length b ≡ recordSize) where
 
   meets-plain : (c : Call) → Meets N img b (plain c) (exec N img r c)
   meets-plain (request h m reply) =
-      let o = requestOn N img r reply h m in
-      let s = serves N img r reply h m (own-sized b) .leaves in
+      let o = requestOn (asking N img r h m reply) in
+      let s = serves (asking N img r h m reply) (own-sized b) .leaves in
       let a = written-after o (s .0) (request-keeps N img r (own-sized b) h m reply) in
       record {
         after = written b o;
@@ -275,18 +281,18 @@ module _ (N : ℕ) (img b : List ℕ) (l : length b ≡ recordSize) where
 
   -- a read changes nothing
   is-read : (h : ℕ) (m : List ℕ) (at size : ℕ)
-      → let o : Out = requestOn N img r [] (record { 0 = h }) (asRead m) in
+      → let o : Out = requestOn (asking N img r (record { 0 = h }) (asRead m) []) in
       edgeRead N img b h m at size ≡ place (edgeNumber (o .answer)) (o .stretch .at) (o .stretch .size)
   unfolding edgeRead
   is-read h m at size = rw (eq-eqb (length b) recordSize l)
 
   meets-read : (h : ℕ) (m : List ℕ) (at size : ℕ)
-      → Meets N img b (reads h m at size) (requestOn N img r [] (record { 0 = h }) (asRead m))
+      → Meets N img b (reads h m at size) (requestOn (asking N img r (record { 0 = h }) (asRead m) []))
   meets-read h m at size =
       let g : Host = record { 0 = h } in
-      let s = serves N img r [] g (asRead m) (own-sized b) in
+      let s = serves (asking N img r g (asRead m) []) (own-sized b) in
       let k = s .read (reads-only m) in
-      let o = requestOn N img r [] g (asRead m) in
+      let o = requestOn (asking N img r g (asRead m) []) in
       let e = is-read h m at size in
       let i : o .image ≡ img = at-most-one-step N img r (request g (asRead m) []) in
       record {

@@ -16,7 +16,7 @@ use Rattle.board.specs.declared.Phase.the-variants.{Unmounted, Idle, Busy}
 use Rattle.board.specs.Record.{Out, out, refuse, answerIn}
 use Rattle.board.specs.Step.{advance}
 use Rattle.board.specs.Drive.{madeOn}
-use Rattle.board.specs.Queue.{requestOn}
+use Rattle.board.specs.Queue.{asking, requestOn}
 use Rattle.board.specs.Exec.{request, step}
 use Rattle.board.proofs.Refusals.{refusals-untouched}
 use Rattle.lent.specs.Layout.{recordSize, recordIn}
@@ -68,5 +68,5 @@ unfolding RefusedReadEmpty edgeRead
 refused-read-empty N img b h m at size l =
     rw (eq-eqb (length b) recordSize l)
     (λ f.
-    let x = is-refused (requestOn N img (recordIn b) [] (record { 0 = h }) (asRead m) .answer) f in
+    let x = is-refused (requestOn (asking N img (recordIn b) (record { 0 = h }) (asRead m) []) .answer) f in
     rw (refusals-untouched N img (recordIn b) (request (record { 0 = h }) (asRead m) []) (x .0) (x .1)))

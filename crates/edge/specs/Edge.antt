@@ -19,7 +19,7 @@ use Rattle.board.specs.Record.{Out}
 use Rattle.board.specs.Step.{stepOn}
 use Rattle.board.specs.Drive.{Drove, nextOn, flashed, madeOn, runOn}
 use Rattle.board.specs.Mount.{mountOn, formatOn}
-use Rattle.board.specs.Queue.{requestOn}
+use Rattle.board.specs.Queue.{asking, requestOn}
 use Rattle.lent.specs.Layout.{recordSize, recordIn, recordBytes}
 use Rattle.pack.specs.Code.{changes}
 
@@ -51,7 +51,7 @@ written b o = cond (changes (recordIn b .phase) (o .answer)) (recordBytes (o .bo
 -- a request, and a step, which is lent no reply
 unfoldable pub edgeRequest : ℕ → List ℕ → List ℕ → ℕ → List ℕ → List ℕ → Edge
 edgeRequest N img b h m reply =
-    let o : Out = requestOn N img (recordIn b) reply (record { 0 = h }) m in
+    let o : Out = requestOn (asking N img (recordIn b) (record { 0 = h }) m reply) in
     guarded img b reply o (written b o)
 
 unfoldable pub edgeStep : ℕ → List ℕ → List ℕ → Edge
@@ -100,7 +100,7 @@ asRead m = cond (isRead (parse m)) m []
 -- with a record buffer of any other size the numbers stay as they were
 unfoldable pub edgeRead : ℕ → List ℕ → List ℕ → ℕ → List ℕ → ℕ → ℕ → Place
 edgeRead N img b h m at size =
-    let o : Out = requestOn N img (recordIn b) [] (record { 0 = h }) (asRead m) in
+    let o : Out = requestOn (asking N img (recordIn b) (record { 0 = h }) (asRead m) []) in
     cond (holdsRecord b) (place (edgeNumber (o .answer)) (o .stretch .at) (o .stretch .size)) (place 254 at size)
 
 -- ---- the next flash step, told in numbers

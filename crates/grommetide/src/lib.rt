@@ -4,9 +4,9 @@ mod steps;
 
 ghost use mathlib.Core.Path.{_≡_};
 ghost use Rattle.board.specs.Mount.{mountOn, formatOn};
-ghost use Rattle.board.specs.Queue.{requestOn};
+ghost use Rattle.board.specs.Queue.{asking, requestOn};
 ghost use Rattle.lent.specs.Layout.{recordSize, recordIn};
-ghost use Rattle.edge.specs.Edge.{edgeMount, edgeFormat, edgeRequest, ReadsBack};
+ghost use Rattle.edge.specs.Edge.{Edge, edgeMount, edgeFormat, edgeRequest, ReadsBack};
 ghost use Rattle.edge.specs.Edge.{place, edgeRead, broken, edgeFault};
 use edge::WRONG_RECORD;
 use edge::as_read;
@@ -27,8 +27,8 @@ pub extern "C" fn grommetide_record_size() -> usize
 
 #[no_mangle]
 pub extern "C" fn grommetide_mount(image: &[u8], blocks: u8, board: &mut [u8]) -> u8
-    ensures { λ r. ⌜ (r ≡ edgeMount blocks (now (image .entry)) (now (board .entry)) .answer)
-        × (now (board .exit) ≡ edgeMount blocks (now (image .entry)) (now (board .entry)) .board) ⌝ }
+    ensures { λ r. ⌜ (let e : Edge = edgeMount blocks (now (image .entry)) (now (board .entry)) in
+        (r ≡ e .answer) × (now (board .exit) ≡ e .board)) ⌝ }
     ensures back { λ r. ⌜ ReadsBack (now (board .entry)) (now (board .exit)) (mountOn blocks (now (image .entry)) .board) ⌝ }
 {
     if board.len() != RECORD_SIZE {
@@ -62,8 +62,8 @@ pub extern "C" fn grommetide_fault(
 
 #[no_mangle]
 pub extern "C" fn grommetide_format(image: &[u8], blocks: u8, board: &mut [u8]) -> u8
-    ensures { λ r. ⌜ (r ≡ edgeFormat blocks (now (image .entry)) (now (board .entry)) .answer)
-        × (now (board .exit) ≡ edgeFormat blocks (now (image .entry)) (now (board .entry)) .board) ⌝ }
+    ensures { λ r. ⌜ (let e : Edge = edgeFormat blocks (now (image .entry)) (now (board .entry)) in
+        (r ≡ e .answer) × (now (board .exit) ≡ e .board)) ⌝ }
     ensures back { λ r. ⌜ ReadsBack (now (board .entry)) (now (board .exit)) (formatOn blocks (now (image .entry)) .board) ⌝ }
 {
     if board.len() != RECORD_SIZE {
@@ -83,15 +83,11 @@ pub extern "C" fn grommetide_request(
     message: &[u8],
     reply: &mut [u8],
 ) -> u8
-    ensures { λ r. ⌜ (r
-        ≡ edgeRequest blocks (now (image .entry)) (now (board .entry)) host (now (message .entry)) (now (reply .entry)) .answer)
-        × (now (board .exit)
-        ≡ edgeRequest blocks (now (image .entry)) (now (board .entry)) host (now (message .entry)) (now (reply .entry)) .board)
-        × (now (reply .exit)
-        ≡ edgeRequest blocks (now (image .entry)) (now (board .entry)) host (now (message .entry)) (now (reply .entry)) .reply) ⌝ }
+    ensures { λ r. ⌜ (let e : Edge = edgeRequest blocks (now (image .entry)) (now (board .entry)) host (now (message .entry)) (now (reply .entry)) in
+        (r ≡ e .answer) × (now (board .exit) ≡ e .board) × (now (reply .exit) ≡ e .reply)) ⌝ }
     ensures back { λ r. ⌜ ReadsBack (now (board .entry)) (now (board .exit))
-        (requestOn blocks (now (image .entry)) (recordIn (now (board .entry))) (now (reply .entry))
-        (record { 0 = host }) (now (message .entry)) .board) ⌝ }
+        (requestOn (asking blocks (now (image .entry)) (recordIn (now (board .entry))) (record { 0 = host })
+        (now (message .entry)) (now (reply .entry))) .board) ⌝ }
 {
     if board.len() != RECORD_SIZE {
         return WRONG_RECORD;

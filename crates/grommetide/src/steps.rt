@@ -3,16 +3,15 @@ ghost use mathlib.Core.Path.{_≡_};
 ghost use Rattle.board.specs.Step.{stepOn};
 ghost use Rattle.board.specs.Drive.{madeOn, runOn};
 ghost use Rattle.lent.specs.Layout.{recordIn};
-ghost use Rattle.edge.specs.Edge.{edgeStep, edgeMade, run, edgeRun, ReadsBack};
+ghost use Rattle.edge.specs.Edge.{Edge, edgeStep, edgeMade, run, edgeRun, ReadsBack};
 use edge::WRONG_RECORD;
 use lent::RECORD_SIZE;
 use wire::Answer;
 
 #[no_mangle]
 pub extern "C" fn grommetide_step(image: &mut [u8], blocks: u8, board: &mut [u8]) -> u8
-    ensures { λ r. ⌜ (r ≡ edgeStep blocks (now (image .entry)) (now (board .entry)) .answer)
-        × (now (image .exit) ≡ edgeStep blocks (now (image .entry)) (now (board .entry)) .image)
-        × (now (board .exit) ≡ edgeStep blocks (now (image .entry)) (now (board .entry)) .board) ⌝ }
+    ensures { λ r. ⌜ (let e : Edge = edgeStep blocks (now (image .entry)) (now (board .entry)) in
+        (r ≡ e .answer) × (now (image .exit) ≡ e .image) × (now (board .exit) ≡ e .board)) ⌝ }
     ensures back { λ r. ⌜ ReadsBack (now (board .entry)) (now (board .exit))
         (stepOn blocks (now (image .entry)) (recordIn (now (board .entry))) .board) ⌝ }
 {
@@ -24,8 +23,8 @@ pub extern "C" fn grommetide_step(image: &mut [u8], blocks: u8, board: &mut [u8]
 
 #[no_mangle]
 pub extern "C" fn grommetide_made(image: &[u8], blocks: u8, board: &mut [u8]) -> u8
-    ensures { λ r. ⌜ (r ≡ edgeMade blocks (now (image .entry)) (now (board .entry)) .answer)
-        × (now (board .exit) ≡ edgeMade blocks (now (image .entry)) (now (board .entry)) .board) ⌝ }
+    ensures { λ r. ⌜ (let e : Edge = edgeMade blocks (now (image .entry)) (now (board .entry)) in
+        (r ≡ e .answer) × (now (board .exit) ≡ e .board)) ⌝ }
     ensures back { λ r. ⌜ ReadsBack (now (board .entry)) (now (board .exit))
         (madeOn blocks (now (image .entry)) (recordIn (now (board .entry))) .board) ⌝ }
 {

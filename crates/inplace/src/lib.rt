@@ -1,7 +1,8 @@
 // The store's calls over a board record that is lent and changed in place.
 ghost use mathlib.Core.Path.{_≡_};
+ghost use Rattle.board.specs.Record.{Out};
 ghost use Rattle.board.specs.Step.{stepOn};
-ghost use Rattle.board.specs.Queue.{requestOn};
+ghost use Rattle.board.specs.Queue.{asking, requestOn};
 ghost use Rattle.board.specs.Mount.{mountOn, formatOn};
 use board::Record;
 use frame::Host;
@@ -10,9 +11,8 @@ use wire::Answer;
 
 // A step call.
 pub fn step_in_place(image: &mut [u8], blocks: u8, board: &mut Record) -> Answer
-    ensures { λ r. ⌜ (now (image .exit) ≡ stepOn blocks (now (image .entry)) (now (board .entry)) .image)
-        × (r ≡ stepOn blocks (now (image .entry)) (now (board .entry)) .answer)
-        × (now (board .exit) ≡ stepOn blocks (now (image .entry)) (now (board .entry)) .board) ⌝ }
+    ensures { λ r. ⌜ (let o : Out = stepOn blocks (now (image .entry)) (now (board .entry)) in
+        (now (image .exit) ≡ o .image) × (r ≡ o .answer) × (now (board .exit) ≡ o .board)) ⌝ }
 {
     let out = job::step(image, blocks, *board);
     *board = out.board;
@@ -28,9 +28,8 @@ pub fn request_in_place(
     message: &[u8],
     reply: &mut [u8],
 ) -> Answer
-    ensures { λ r. ⌜ (r ≡ requestOn blocks (now (image .entry)) (now (board .entry)) (now (reply .entry)) host (now (message .entry)) .answer)
-        × (now (board .exit) ≡ requestOn blocks (now (image .entry)) (now (board .entry)) (now (reply .entry)) host (now (message .entry)) .board)
-        × (now (reply .exit) ≡ requestOn blocks (now (image .entry)) (now (board .entry)) (now (reply .entry)) host (now (message .entry)) .reply) ⌝ }
+    ensures { λ r. ⌜ (let o : Out = requestOn (asking blocks (now (image .entry)) (now (board .entry)) host (now (message .entry)) (now (reply .entry))) in
+        (r ≡ o .answer) × (now (board .exit) ≡ o .board) × (now (reply .exit) ≡ o .reply)) ⌝ }
 {
     let out = queue::request(image, blocks, *board, host, message, reply);
     *board = out.board;
@@ -39,7 +38,7 @@ pub fn request_in_place(
 
 // A mount: what stood in the record is lost, also where the mount is refused.
 pub fn mount_in_place(image: &[u8], blocks: u8, board: &mut Record) -> Answer
-    ensures { λ r. ⌜ (r ≡ mountOn blocks (now (image .entry)) .answer) × (now (board .exit) ≡ mountOn blocks (now (image .entry)) .board) ⌝ }
+    ensures { λ r. ⌜ (let o : Out = mountOn blocks (now (image .entry)) in (r ≡ o .answer) × (now (board .exit) ≡ o .board)) ⌝ }
 {
     let out = store::mount(image, blocks);
     *board = out.board;
@@ -48,7 +47,7 @@ pub fn mount_in_place(image: &[u8], blocks: u8, board: &mut Record) -> Answer
 
 // A format, likewise.
 pub fn format_in_place(image: &[u8], blocks: u8, board: &mut Record) -> Answer
-    ensures { λ r. ⌜ (r ≡ formatOn blocks (now (image .entry)) .answer) × (now (board .exit) ≡ formatOn blocks (now (image .entry)) .board) ⌝ }
+    ensures { λ r. ⌜ (let o : Out = formatOn blocks (now (image .entry)) in (r ≡ o .answer) × (now (board .exit) ≡ o .board)) ⌝ }
 {
     let out = store::format(image, blocks);
     *board = out.board;
@@ -58,8 +57,8 @@ pub fn format_in_place(image: &[u8], blocks: u8, board: &mut Record) -> Answer
 // ---- for callers that hold the record by value: the record stands in a local, which is lent
 
 pub fn step_lent(image: &mut [u8], blocks: u8, board: Record) -> Outcome
-    ensures { λ r. ⌜ (now (image .exit) ≡ stepOn blocks (now (image .entry)) board .image)
-        × (r .answer ≡ stepOn blocks (now (image .entry)) board .answer) × (r .board ≡ stepOn blocks (now (image .entry)) board .board) ⌝ }
+    ensures { λ r. ⌜ (let o : Out = stepOn blocks (now (image .entry)) board in
+        (now (image .exit) ≡ o .image) × (r .answer ≡ o .answer) × (r .board ≡ o .board)) ⌝ }
 {
     let mut held = board;
     let answer = step_in_place(image, blocks, &mut held);
@@ -77,9 +76,8 @@ pub fn request_lent(
     message: &[u8],
     reply: &mut [u8],
 ) -> Outcome
-    ensures { λ r. ⌜ (r .answer ≡ requestOn blocks (now (image .entry)) board (now (reply .entry)) host (now (message .entry)) .answer)
-        × (r .board ≡ requestOn blocks (now (image .entry)) board (now (reply .entry)) host (now (message .entry)) .board)
-        × (now (reply .exit) ≡ requestOn blocks (now (image .entry)) board (now (reply .entry)) host (now (message .entry)) .reply) ⌝ }
+    ensures { λ r. ⌜ (let o : Out = requestOn (asking blocks (now (image .entry)) board host (now (message .entry)) (now (reply .entry))) in
+        (r .answer ≡ o .answer) × (r .board ≡ o .board) × (now (reply .exit) ≡ o .reply)) ⌝ }
 {
     let mut kept = board;
     let answer = request_in_place(image, blocks, &mut kept, host, message, reply);

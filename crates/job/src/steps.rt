@@ -9,6 +9,7 @@ ghost use Rattle.fetch.specs.Fetch.{loadIn};
 ghost use Rattle.wire.specs.declared.Answer.the-variants.{Done, Refused};
 ghost use Rattle.wire.specs.declared.Refusal.the-variants as refusal;
 ghost use Rattle.board.specs.declared.Phase.the-variants.{Busy};
+ghost use Rattle.board.specs.Record.{Out};
 ghost use Rattle.board.specs.Drive.{madeIn, madeOn};
 ghost use Rattle.board.specs.Step.{loaded, enterCopy, stepBusy, stepOn};
 ghost use Rattle.job.specs.Code.{assemble, LeadsTo, staying, still, inHand, HandsAt, Hands, leaves, reached, answered, Loads, Steps};
@@ -206,8 +207,8 @@ pub fn step_core(
 
 // A step call.
 pub fn step(image: &mut [u8], blocks: u8, board: Record) -> Outcome
-    ensures { λ r. ⌜ (now (image .exit) ≡ stepOn blocks (now (image .entry)) board .image)
-        × (r .answer ≡ stepOn blocks (now (image .entry)) board .answer) × (r .board ≡ stepOn blocks (now (image .entry)) board .board) ⌝ }
+    ensures { λ r. ⌜ (let o : Out = stepOn blocks (now (image .entry)) board in
+        (now (image .exit) ≡ o .image) × (r .answer ≡ o .answer) × (r .board ≡ o .board)) ⌝ }
 {
     let places = board.places;
     let mut unit = board.unit;

@@ -30,10 +30,10 @@ use Rattle.wire.specs.Message.{parse}
 use Rattle.board.specs.declared.Phase.{Phase}
 use Rattle.board.specs.declared.Phase.the-variants.{Unmounted, Idle, Busy}
 use Rattle.board.specs.declared.Record.{Record}
-use Rattle.board.specs.Record.{allowed, refuse}
+use Rattle.board.specs.Record.{allowed}
 use Rattle.board.specs.Mount.{endOf}
-use Rattle.board.specs.Queue.{sameImage, held, heldBy, heldIn, heldIf, fitsRecord, serve, requestOn}
-use Rattle.board.proofs.Outcomes.{request-length, request-host, request-busy, request-unmounted, request-stale, request-malformed, request-served}
+use Rattle.board.specs.Queue.{sameImage, held, heldBy, heldIn, heldIf, fitsRecord, serve, requestOn, Asking, asking, refuseTo}
+use Rattle.board.proofs.Outcomes.{request-length, request-host, request-stale, request-malformed, request-served, request-in}
 use Rattle.queue.specs.declared.requests.Gate.the-variants as gate
 use Rattle.queue.specs.declared.requests.Ask.{Ask}
 use Rattle.queue.specs.declared.requests.Ask.the-variants as ask
@@ -85,16 +85,16 @@ module _ (N : ℕ) (img : List ℕ) (r : Record) (h : Host) where
 
   module _ (reply m : List ℕ) (why : Refusal) where
     abbrev Refuses : Refusal → Type 0
-    Refuses n = requestOn N img r reply h m ≡ refuse n img r reply
+    Refuses n = requestOn (asking N img r h m reply) ≡ refuseTo (asking N img r h m reply) n
 
     phase-shut : (p : Phase) → r .phase ≡ p → allowed N (length img) ≡ true → leb (h .0) hostMax ≡ true → gateIn N p img (r .rest) ≡ gate.Shut why
         → Refuses why
     unfolding held
-    phase-shut (Busy s) i a b e = rw (← same-why refusal.Busy why e) (request-busy N img r reply h m a b s i)
-    phase-shut Unmounted i a b e = rw (← same-why refusal.NoStore why e) (request-unmounted N img r reply h m a b i)
+    phase-shut (Busy s) i a b e = rw (← same-why refusal.Busy why e) (request-in (asking N img r h m reply) a b i)
+    phase-shut Unmounted i a b e = rw (← same-why refusal.NoStore why e) (request-in (asking N img r h m reply) a b i)
     phase-shut Idle i a b e =
         let p : (sameImage N img r ≡ false) × (refusal.Stale ≡ why) = shut-if (sameImage N img r) why e in
-        rw (← p .1) (request-stale N img r reply h m a b i (ap (λ (t : Bool). heldBy N t img r) (p .0)))
+        rw (← p .1) (request-stale (asking N img r h m reply) a b i (ap (λ (t : Bool). heldBy N t img r) (p .0)))
 
     pub shut : gateOf N img (r .phase) (r .rest) h ≡ gate.Shut why → Refuses why
     unfolding gateOf
@@ -102,8 +102,8 @@ module _ (N : ℕ) (img : List ℕ) (r : Record) (h : Host) where
         on-test (allowed N (length img))
         (λ a. on-test (leb (h .0) hostMax)
         (λ b. phase-shut (r .phase) refl a b (rw (a, b, gateOf) at e))
-        (λ b. rw (← same-why refusal.HostRange why (rw (a, b, gateOf) at e)) (request-host N img r reply h m a b)))
-        (λ a. rw (← same-why refusal.ImageLength why (rw (a, gateOf) at e)) (request-length N img r reply h m a))
+        (λ b. rw (← same-why refusal.HostRange why (rw (a, b, gateOf) at e)) (request-host (asking N img r h m reply) a b)))
+        (λ a. rw (← same-why refusal.ImageLength why (rw (a, gateOf) at e)) (request-length (asking N img r h m reply) a))
 
 -- ---- the block itself
 
@@ -170,7 +170,7 @@ module _ (size end : ℕ) (s : Survey) (m : List ℕ) where
 -- a request that is served
 pub record Served (N : ℕ) (img : List ℕ) (r : Record) (h : Host) (m : List ℕ) (q : Request) : Type 0 where
   pub held : Journal
-  pub serves : (reply : List ℕ) → requestOn N img r reply h m ≡ serve N img r reply h m held q
+  pub serves : (reply : List ℕ) → requestOn (asking N img r h m reply) ≡ serve (asking N img r h m reply) held q
   pub contents : Contents (block (sizeOf N img) (r .rest .block) img) held
   pub state : blockState (block (sizeOf N img) (r .rest .block) img) ≡ valid held
   pub says : parse m ≡ Is q
@@ -198,22 +198,25 @@ module _ (N : ℕ) (img : List ℕ) (r : Record) (h : Host) (m : List ℕ) (y : 
   abbrev Asks : Ask → Type 0
   Asks a = askOf (sizeOf N img) (r .rest .end) (surveyOf (blockState (block (sizeOf N img) (r .rest .block) img))) m ≡ a
 
-  pub unheard : (reply : List ℕ) (why : Refusal) → Asks (ask.Refused why) → requestOn N img r reply h m ≡ refuse why img r reply
+  pub unheard : (reply : List ℕ) (why : Refusal) → Asks (ask.Refused why) → requestOn (asking N img r h m reply) ≡ refuseTo (asking N img r h m reply) why
   unfolding askOf
   unheard reply why e = go here-holds
     where
+      a : Asking
+      a = asking N img r h m reply
+
       on-message : (x : Journal) (s : Parsed) → held N img r ≡ some x → parse m ≡ s → askIf s ≡ ask.Refused why
-          → requestOn N img r reply h m ≡ refuse why img r reply
+          → requestOn a ≡ refuseTo a why
       on-message x (Is q) w s z = absurd (ask-not q why z)
       on-message x Malformed w s z =
           let n : refusal.Malformed ≡ why = cc in
-          rw (← n) (request-malformed N img r reply h m (p .ok) (p .host) x (p .idle) w s)
+          rw (← n) (request-malformed a (p .ok) (p .host) x (p .idle) w s)
 
-      go : Holding (sizeOf N img) (r .rest .end) (blockState (block (sizeOf N img) (r .rest .block) img)) → requestOn N img r reply h m ≡ refuse why img r reply
+      go : Holding (sizeOf N img) (r .rest .end) (blockState (block (sizeOf N img) (r .rest .block) img)) → requestOn a ≡ refuseTo a why
       go (holds-not f n) =
           let z : ask.Refused refusal.Stale ≡ ask.Refused why = rw (f, askOf) at e in
           let w : refusal.Stale ≡ why = cc in
-          rw (← w) (request-stale N img r reply h m (p .ok) (p .host) (p .idle) (held-is none n))
+          rw (← w) (request-stale a (p .ok) (p .host) (p .idle) (held-is none n))
       go (holds-so x f n v) = on-message x (parse m) (held-is (some x) n) refl (rw (f, askOf) at e)
 
   pub heard : (q : Request) → Asks (ask.Serve q) → Served N img r h m q
@@ -226,7 +229,7 @@ module _ (N : ℕ) (img : List ℕ) (r : Record) (h : Host) (m : List ℕ) (y : 
           let n : a ≡ q = cc in
           record {
             held = x;
-            serves = λ reply. request-served N img r reply h m (p .ok) (p .host) x q (p .idle) w (s ∙ ap Is n);
+            serves = λ reply. request-served (asking N img r h m reply) (p .ok) (p .host) x q (p .idle) w (s ∙ ap Is n);
             contents = valid-inv (block (sizeOf N img) (r .rest .block) img) x
                 (bytes-block (sizeOf N img) (r .rest .block) img y) (looks .0) v;
             state = v;

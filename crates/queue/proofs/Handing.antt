@@ -41,14 +41,14 @@ use Rattle.board.specs.Record.{allowed, noPlaces, noFrame, Stretch, noStretch, 
 use Rattle.board.specs.Mount.{replayOf}
 use Rattle.board.proofs.Images.{Sized, sized-of, sized-block}
 use Rattle.board.proofs.Replies.{standing-of}
-use Rattle.board.specs.Queue.{needsRoom, append, serveChange, serveEnd, serveRead, serveLog, serve, stretchOf, requestOn, readOn}
+use Rattle.board.specs.Queue.{append, serveChange, serveEnd, serveRead, serveLog, serve, stretchOf, requestOn, readOn, Asking, asking, sizeFor, movesFor, refuseTo}
 use Rattle.queue.specs.declared.requests.Ask.{Ask}
 use Rattle.queue.specs.declared.requests.Ask.the-variants as ask
 use Rattle.job.specs.declared.Outcome.{Outcome}
 use Rattle.job.specs.declared.records.Stepped.{Stepped}
 use Rattle.job.specs.Code.{outcome}
 use Rattle.queue.specs.declared.reads.Located.{Located}
-use Rattle.queue.specs.Calls.{askOf, stretchAt, foundFor, readAs, noneFor, answerTo, nothing, Finds}
+use Rattle.queue.specs.Calls.{askOf, stretchAt, foundFor, readAs, noneFor, answerTo, nothing, telling, Finds}
 use Rattle.serving.specs.Calls.{refused, keptOr, began, Asks, serveIn, replyIn, frameIn}
 use Rattle.looks.proofs.Images.{block-length}
 use Rattle.queue.proofs.Images.{same-count, same-inside}
@@ -59,111 +59,115 @@ stretch-of : (start : ℕ) (o : Option Value) → stretchOf start o ≡ stretchA
 stretch-of start none = refl
 stretch-of start (some x) = refl
 
-module _ (N : ℕ) (img : List ℕ) (r : Record) (reply : List ℕ) (h : Host) (x : Journal)
-    (w : Contents (block (sizeOf N img) (r .rest .block) img) x) where
-  cond-none : (t : Bool) (a b : Out) → a .stretch ≡ noStretch → b .stretch ≡ noStretch → cond t a b .stretch ≡ noStretch
-  cond-none true a b p q = p
-  cond-none false a b p q = q
+module _ (a : Asking) (x : Journal) (w : Contents (block (sizeFor a) (a .board .rest .block) (a .image)) x) where
+  abbrev current : List ℕ
+  current = block (sizeFor a) (a .board .rest .block) (a .image)
 
-  append-none : (f : Frame) → append N img r reply x f .stretch ≡ noStretch
+  abbrev start : ℕ
+  start = a .board .rest .block * sizeFor a
+
+  cond-none : (t : Bool) (o v : Out) → o .stretch ≡ noStretch → v .stretch ≡ noStretch → cond t o v .stretch ≡ noStretch
+  cond-none true o v p q = p
+  cond-none false o v p q = q
+
+  append-none : (f : Frame) → append a x f .stretch ≡ noStretch
   unfolding append
-  append-none f = cond-none (needsRoom N img r f && eqb (x .time) lastTime) _ _ refl refl
+  append-none f = cond-none (movesFor a f && eqb (x .time) lastTime) _ _ refl refl
 
-  change-none : (c : Change) → serveChange N img r reply h x c .stretch ≡ noStretch
+  change-none : (c : Change) → serveChange a x c .stretch ≡ noStretch
   unfolding serveChange
-  change-none c = cond-none (noRoom (sizeOf N img) (replayOf x) h c) _ _ refl (append-none (change h c))
+  change-none c = cond-none (noRoom (sizeFor a) (replayOf x) (a .host) c) _ _ refl (append-none (change (a .host) c))
 
-  end-none : (f : Frame) → serveEnd N img r reply h x f .stretch ≡ noStretch
+  end-none : (f : Frame) → serveEnd a x f .stretch ≡ noStretch
   unfolding serveEnd
-  end-none f = cond-none (isOpen h (replayOf x .pending)) _ _ (append-none f) refl
+  end-none f = cond-none (isOpen (a .host) (replayOf x .pending)) _ _ (append-none f) refl
 
-  log-none : (p : Page) → serveLog N img r reply x p .stretch ≡ noStretch
+  log-none : (p : Page) → serveLog a x p .stretch ≡ noStretch
   unfolding serveLog
-  log-none Summary = cond-none (ltb (length reply) pageLen) _ _ refl refl
+  log-none Summary = cond-none (ltb (length (a .reply)) pageLen) _ _ refl refl
 
   read-found : (i : ObjectId) → i .0 ≤ idMax → (o : Option (List ℕ)) → lookup i (replayOf x .objects) ≡ o
-      → serveRead N img r reply x i o .stretch
-      ≡ stretchAt (r .rest .block * sizeOf N img) (foundFor (block (sizeOf N img) (r .rest .block) img) (placesOf (x .frames)) (Read i))
+      → serveRead a x i o .stretch
+      ≡ stretchAt start (foundFor current (placesOf (x .frames)) (Read i))
   read-found i l none e =
-      let q : valueAt (block (sizeOf N img) (r .rest .block) img) i (getD (placesOf (x .frames)) (i .0) 0) ≡ none =
-      ap (valueAt (block (sizeOf N img) (r .rest .block) img) i) (no-place (x .frames) i l e) ∙ value-zero (block (sizeOf N img) (r .rest .block) img) i in
-      sym (ap (λ (v : Option Value). stretchAt (r .rest .block * sizeOf N img) (foundOf v)) q)
-  read-found i l (some v) e = stretch-of (r .rest .block * sizeOf N img)
-      (valueAt (block (sizeOf N img) (r .rest .block) img) i (getD (placesOf (x .frames)) (i .0) 0))
+      let q : valueAt current i (getD (placesOf (x .frames)) (i .0) 0) ≡ none =
+      ap (valueAt current i) (no-place (x .frames) i l e) ∙ value-zero current i in
+      sym (ap (λ (v : Option Value). stretchAt start (foundOf v)) q)
+  read-found i l (some v) e = stretch-of start
+      (valueAt current i (getD (placesOf (x .frames)) (i .0) 0))
 
-  stretch-is : (m : List ℕ) (q : Request) → InRange m q
-      → serve N img r reply h m x q .stretch ≡ stretchAt (r .rest .block * sizeOf N img)
-      (foundFor (block (sizeOf N img) (r .rest .block) img) (placesOf (x .frames)) q)
+  stretch-is : (q : Request) → InRange (a .message) q
+      → serve a x q .stretch ≡ stretchAt start
+      (foundFor current (placesOf (x .frames)) q)
   unfolding serve
-  stretch-is m (Put i) k = change-none (put i (valueIn m))
-  stretch-is m (Delete i) k = change-none (delete i)
-  stretch-is m Commit k = end-none (commit h)
-  stretch-is m Abort k = end-none (abort h)
-  stretch-is m (Read i) k = read-found i k (lookup i (replayOf x .objects)) refl
-  stretch-is m (Log p) k = log-none p
+  stretch-is (Put i) k = change-none (put i (valueIn (a .message)))
+  stretch-is (Delete i) k = change-none (delete i)
+  stretch-is Commit k = end-none (commit (a .host))
+  stretch-is Abort k = end-none (abort (a .host))
+  stretch-is (Read i) k = read-found i k (lookup i (replayOf x .objects)) refl
+  stretch-is (Log p) k = log-none p
 
   -- what was found says how a read is answered
   read-answers : (i : ObjectId) → i .0 ≤ idMax → (o : Option (List ℕ)) → lookup i (replayOf x .objects) ≡ o → (g : Found)
-      → foundFor (block (sizeOf N img) (r .rest .block) img) (placesOf (x .frames)) (Read i) ≡ g → answerTo (Read i) g ≡ serveRead N img r reply x i o .answer
+      → foundFor current (placesOf (x .frames)) (Read i) ≡ g → answerTo (Read i) g ≡ serveRead a x i o .answer
   read-answers i l none e g q =
-      let z : valueAt (block (sizeOf N img) (r .rest .block) img) i (getD (placesOf (x .frames)) (i .0) 0) ≡ none =
-      ap (valueAt (block (sizeOf N img) (r .rest .block) img) i) (no-place (x .frames) i l e) ∙ value-zero (block (sizeOf N img) (r .rest .block) img) i in
+      let z : valueAt current i (getD (placesOf (x .frames)) (i .0) 0) ≡ none =
+      ap (valueAt current i) (no-place (x .frames) i l e) ∙ value-zero current i in
       ap (answerTo (Read i)) (sym q ∙ ap foundOf z)
   read-answers i l (some v) e g q =
-      let z : ValueStands (block (sizeOf N img) (r .rest .block) img) i (getD (placesOf (x .frames)) (i .0) 0) v =
-      place-law (block (sizeOf N img) (r .rest .block) img) (x .frames) i v (standing-of w) l e in
+      let z : ValueStands current i (getD (placesOf (x .frames)) (i .0) 0) v =
+      place-law current (x .frames) i v (standing-of w) l e in
       ap (answerTo (Read i)) (sym q ∙ ap foundOf (z .found))
 
   -- by what the message itself comes to, and the empty one
-  answers-is : (m : List ℕ) (q : Request) → InRange m q → requestOn N img r reply h m .answer ≡ serve N img r reply h m x q .answer
-      → requestOn N img r reply h [] .answer ≡ Refused refusal.Malformed → (g : Found)
-      → foundFor (block (sizeOf N img) (r .rest .block) img) (placesOf (x .frames)) q ≡ g
-      → answerTo q g ≡ requestOn N img r reply h (readAs (Is q) m) .answer
+  answers-is : (q : Request) → InRange (a .message) q → requestOn a .answer ≡ serve a x q .answer
+      → requestOn (telling a []) .answer ≡ Refused refusal.Malformed → (g : Found)
+      → foundFor current (placesOf (x .frames)) q ≡ g
+      → answerTo q g ≡ requestOn (telling a (readAs (Is q) (a .message))) .answer
   unfolding serve
-  answers-is m (Put i) k s n g e = ap (answerTo (Put i)) (sym e) ∙ sym n
-  answers-is m (Delete i) k s n g e = ap (answerTo (Delete i)) (sym e) ∙ sym n
-  answers-is m Commit k s n g e = ap (answerTo Commit) (sym e) ∙ sym n
-  answers-is m Abort k s n g e = ap (answerTo Abort) (sym e) ∙ sym n
-  answers-is m (Read i) k s n g e = read-answers i k (lookup i (replayOf x .objects)) refl g e ∙ sym s
-  answers-is m (Log p) k s n g e = ap (answerTo (Log p)) (sym e) ∙ sym n
+  answers-is (Put i) k s n g e = ap (answerTo (Put i)) (sym e) ∙ sym n
+  answers-is (Delete i) k s n g e = ap (answerTo (Delete i)) (sym e) ∙ sym n
+  answers-is Commit k s n g e = ap (answerTo Commit) (sym e) ∙ sym n
+  answers-is Abort k s n g e = ap (answerTo Abort) (sym e) ∙ sym n
+  answers-is (Read i) k s n g e = read-answers i k (lookup i (replayOf x .objects)) refl g e ∙ sym s
+  answers-is (Log p) k s n g e = ap (answerTo (Log p)) (sym e) ∙ sym n
 
   -- what is found lies in the block
   found-in : (i : ObjectId) → i .0 ≤ idMax → (p n : ℕ) (o : Option (List ℕ)) → lookup i (replayOf x .objects) ≡ o
-      → foundFor (block (sizeOf N img) (r .rest .block) img) (placesOf (x .frames)) (Read i) ≡ found.At p n → p + n ≤ length
-      (block (sizeOf N img) (r .rest .block) img)
+      → foundFor current (placesOf (x .frames)) (Read i) ≡ found.At p n → p + n ≤ length
+      current
   found-in i l p n none e q =
-      let z : valueAt (block (sizeOf N img) (r .rest .block) img) i (getD (placesOf (x .frames)) (i .0) 0) ≡ none =
-      ap (valueAt (block (sizeOf N img) (r .rest .block) img) i) (no-place (x .frames) i l e) ∙ value-zero (block (sizeOf N img) (r .rest .block) img) i in
+      let z : valueAt current i (getD (placesOf (x .frames)) (i .0) 0) ≡ none =
+      ap (valueAt current i) (no-place (x .frames) i l e) ∙ value-zero current i in
       let y : found.Nothing ≡ found.At p n = sym (ap foundOf z) ∙ q in
       let u : _≡_ {A = ℕ} 0 1 = cc in
       absurd (omega arith)
   found-in i l p n (some v) e q =
-      let z : ValueStands (block (sizeOf N img) (r .rest .block) img) i (getD (placesOf (x .frames)) (i .0) 0) v =
-      place-law (block (sizeOf N img) (r .rest .block) img) (x .frames) i v (standing-of w) l e in
+      let z : ValueStands current i (getD (placesOf (x .frames)) (i .0) 0) v =
+      place-law current (x .frames) i v (standing-of w) l e in
       let y : found.At (z .at) (length v) ≡ found.At p n = sym (ap foundOf (z .found)) ∙ q in
       let a : z .at ≡ p = cc in
       let b : length v ≡ n = cc in
       omega (arith, z .fits)
 
-  found-inside : (m : List ℕ) (q : Request) (p n : ℕ) → InRange m q
-      → foundFor (block (sizeOf N img) (r .rest .block) img) (placesOf (x .frames)) q ≡ found.At p n
-      → p + n ≤ length (block (sizeOf N img) (r .rest .block) img)
-  found-inside m (Put i) p n k e = let u : _≡_ {A = ℕ} 0 1 = cc in absurd (omega arith)
-  found-inside m (Delete i) p n k e = let u : _≡_ {A = ℕ} 0 1 = cc in absurd (omega arith)
-  found-inside m Commit p n k e = let u : _≡_ {A = ℕ} 0 1 = cc in absurd (omega arith)
-  found-inside m Abort p n k e = let u : _≡_ {A = ℕ} 0 1 = cc in absurd (omega arith)
-  found-inside m (Read i) p n k e = found-in i k p n (lookup i (replayOf x .objects)) refl e
-  found-inside m (Log g) p n k e = let u : _≡_ {A = ℕ} 0 1 = cc in absurd (omega arith)
+  found-inside : (q : Request) (p n : ℕ) → InRange (a .message) q
+      → foundFor current (placesOf (x .frames)) q ≡ found.At p n
+      → p + n ≤ length current
+  found-inside (Put i) p n k e = let u : _≡_ {A = ℕ} 0 1 = cc in absurd (omega arith)
+  found-inside (Delete i) p n k e = let u : _≡_ {A = ℕ} 0 1 = cc in absurd (omega arith)
+  found-inside Commit p n k e = let u : _≡_ {A = ℕ} 0 1 = cc in absurd (omega arith)
+  found-inside Abort p n k e = let u : _≡_ {A = ℕ} 0 1 = cc in absurd (omega arith)
+  found-inside (Read i) p n k e = found-in i k p n (lookup i (replayOf x .objects)) refl e
+  found-inside (Log g) p n k e = let u : _≡_ {A = ℕ} 0 1 = cc in absurd (omega arith)
 
 -- a refused request, and a refused read
-pub refused-all : (N : ℕ) (img : List ℕ) (r : Record) (h : Host) (m reply p f : List ℕ) (why : Refusal) (s : Stepped)
-    → requestOn N img r reply h m ≡ refuse why img r reply → s ≡ refused why (r .rest)
-    → let o : Out = requestOn N img r reply h m in Asks r p f s o × (reply ≡ o .reply)
-refused-all N img r h m reply p f why s e q = rw (e, q) (record { answers = refl; gives = refl; rests = refl }, refl)
+pub refused-all : (a : Asking) (p f : List ℕ) (why : Refusal) (s : Stepped) → requestOn a ≡ refuseTo a why → s ≡ refused why (a .board .rest)
+    → let o : Out = requestOn a in Asks (a .board) p f s o × (a .reply ≡ o .reply)
+refused-all a p f why s e q = rw (e, q) (record { answers = refl; gives = refl; rests = refl }, refl)
 
 pub none-read : (N : ℕ) (img : List ℕ) (r : Record) (h : Host) (m : List ℕ) (why : Refusal) (l : Located)
-    → requestOn N img r [] h m ≡ refuse why img r [] → requestOn N img r [] h (readAs (parse m) m) ≡ refuse why img r [] → l ≡ nothing why
-    → Finds N img r h m l
+    → requestOn (asking N img r h m []) ≡ refuse why img r [] → requestOn (asking N img r h (readAs (parse m) m) []) ≡ refuse why img r []
+    → l ≡ nothing why → Finds (asking N img r h m []) l
 none-read N img r h m why l e a q =
     rw q (record {
       answers = sym (ap (λ (o : Out). o .answer) a);
@@ -212,10 +216,10 @@ module _ {N : ℕ} {img : List ℕ} {r : Record} {h : Host} {m : List ℕ} {size
   asked : (b : Ask) → a ≡ b → askOf (sizeOf N img) (r .rest .end) (surveyOf (blockState (block (sizeOf N img) (r .rest .block) img))) m ≡ b
   asked b e = ap₂ (λ (n : ℕ) (x : Survey). askOf n (r .rest .end) x m) (sym (l .sized)) (sym (l .survey)) ∙ sym (l .asks) ∙ e
 
-  pub not-served : (reply : List ℕ) (why : Refusal) → a ≡ ask.Refused why → requestOn N img r reply h m ≡ refuse why img r reply
+  pub not-served : (reply : List ℕ) (why : Refusal) → a ≡ ask.Refused why → requestOn (asking N img r h m reply) ≡ refuseTo (asking N img r h m reply) why
   not-served reply why e = unheard N img r h m (l .bytes) (l .passed) reply why (asked (ask.Refused why) e)
 
-  pub no-read : (why : Refusal) → a ≡ ask.Refused why → requestOn N img r [] h (readAs (parse m) m) ≡ refuse why img r []
+  pub no-read : (why : Refusal) → a ≡ ask.Refused why → requestOn (asking N img r h (readAs (parse m) m) []) ≡ refuse why img r []
   no-read why e =
       unheard N img r h (readAs (parse m) m) (l .bytes) (l .passed) [] why (refused-as _ _ _ m why (asked (ask.Refused why) e))
 
@@ -238,20 +242,20 @@ module _ {N : ℕ} {img : List ℕ} {r : Record} {h : Host} {m : List ℕ} {size
     survey-now : s ≡ surveyOf (valid (served .held))
     survey-now = l .survey ∙ ap surveyOf (served .state)
 
-    pub served-reply : (reply : List ℕ) → replyIn size s reply q ≡ requestOn N img r reply h m .reply
+    pub served-reply : (reply : List ℕ) → replyIn size s reply q ≡ requestOn (asking N img r h m reply) .reply
     served-reply reply =
         ap₂ (λ (n : ℕ) (x : Survey). replyIn n x reply q) (l .sized) survey-now
-        ∙ sym (reply-is N img r reply h (served .held) here (served .contents) m q) ∙ sym (ap (λ (o : Out). o .reply) (served .serves reply))
+        ∙ sym (reply-is (asking N img r h m reply) (served .held) here (served .contents) q) ∙ sym (ap (λ (o : Out). o .reply) (served .serves reply))
 
     module _ (places : List ℕ) (ep : places ≡ placesIn (blockState (block (sizeOf N img) (r .rest .block) img))) where
       places-now : places ≡ placesOf (served .held .frames)
       places-now = ep ∙ ap placesIn (served .state)
 
       pub served-asks : (reply g f : List ℕ) (y : Stepped) → y ≡ serveIn size (r .rest) reply h m s places q → f ≡ frameIn h m q g
-          → Asks r places f y (requestOn N img r reply h m)
+          → Asks r places f y (requestOn (asking N img r h m reply))
       served-asks reply g f y ey ef =
           rw (ey, ef, l .sized, survey-now, places-now, served .serves reply)
-          (serve-is N img r reply h (served .held) here (served .contents) m q g range low)
+          (serve-is (asking N img r h m reply) (served .held) here (served .contents) q g range low)
 
       module _ (b : List ℕ) (eb : b ≡ block size (r .rest .block) img) (f : Found) (ef : f ≡ foundFor b places q) where
         found-here : f ≡ foundFor (block (sizeOf N img) (r .rest .block) img) places q
@@ -259,7 +263,7 @@ module _ {N : ℕ} {img : List ℕ} {r : Record} {h : Host} {m : List ℕ} {size
 
         read-stretch : (g : Found) → f ≡ g → readOn N img r h m ≡ stretchAt (r .rest .block * sizeOf N img) g
         read-stretch g eg =
-            ap (λ (o : Out). o .stretch) (served .serves []) ∙ stretch-is N img r [] h (served .held) (served .contents) m q range
+            ap (λ (o : Out). o .stretch) (served .serves []) ∙ stretch-is (asking N img r h m []) (served .held) (served .contents) q range
             ∙ ap (λ (b : List ℕ). stretchAt (r .rest .block * sizeOf N img) (foundFor (block (sizeOf N img) (r .rest .block) img) b q)) (sym places-now)
             ∙ ap (stretchAt (r .rest .block * sizeOf N img)) (sym found-here ∙ eg)
 
@@ -270,20 +274,20 @@ module _ {N : ℕ} {img : List ℕ} {r : Record} {h : Host} {m : List ℕ} {size
             let there : r .rest .block < N = same-inside N img r (l .passed .same) in
             let z : Sized N (sizeOf N img) img = sized-of N img ok in
             let i : at + n ≤ length (block (sizeOf N img) (r .rest .block) img) =
-            found-inside N img r [] h (served .held) (served .contents) m q at n range
+            found-inside (asking N img r h m []) (served .held) (served .contents) q at n range
             (ap (λ (b : List ℕ). foundFor (block (sizeOf N img) (r .rest .block) img) b q) (sym places-now) ∙ sym found-here ∙ eg) in
             rw (l .sized) (omega (arith, i, block-length N img (r .rest .block) ok there, sized-block (r .rest .block) z there, z .short))
 
         -- its answer
-        read-answer : (g : Found) → f ≡ g → answerTo q g ≡ requestOn N img r [] h (readAs (parse m) m) .answer
+        read-answer : (g : Found) → f ≡ g → answerTo q g ≡ requestOn (asking N img r h (readAs (parse m) m) []) .answer
         read-answer g eg =
-            answers-is N img r [] h (served .held) (served .contents) m q range (ap (λ (o : Out). o .answer) (served .serves []))
+            answers-is (asking N img r h m []) (served .held) (served .contents) q range (ap (λ (o : Out). o .answer) (served .serves []))
             (ap (λ (o : Out). o .answer)
             (unheard N img r h [] (l .bytes) (l .passed) [] refusal.Malformed (empty-as _ _ _ m q (asked (ask.Serve q) e)))) g
             (ap (λ (b : List ℕ). foundFor (block (sizeOf N img) (r .rest .block) img) b q) (sym places-now) ∙ sym found-here ∙ eg)
-            ∙ sym (ap (λ (x : Parsed). requestOn N img r [] h (readAs x m) .answer) (served .says))
+            ∙ sym (ap (λ (x : Parsed). requestOn (asking N img r h (readAs x m) []) .answer) (served .says))
 
-        pub read-none : f ≡ found.Nothing → (x : Located) → x ≡ nothing (noneFor q) → Finds N img r h m x
+        pub read-none : f ≡ found.Nothing → (x : Located) → x ≡ nothing (noneFor q) → Finds (asking N img r h m []) x
         read-none eg x ex =
             let z = read-stretch found.Nothing eg in
             rw ex (record {
@@ -294,7 +298,7 @@ module _ {N : ℕ} {img : List ℕ} {r : Record} {h : Host} {m : List ℕ} {size
             })
 
         pub read-found-at : (at n : ℕ) → f ≡ found.At at n
-            → Finds N img r h m (record { answer = Done; at = r .rest .block * size + at; size = n })
+            → Finds (asking N img r h m []) (record { answer = Done; at = r .rest .block * size + at; size = n })
         read-found-at at n eg =
             let z = read-stretch (found.At at n) eg in
             record {

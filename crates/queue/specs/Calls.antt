@@ -26,7 +26,7 @@ use Rattle.board.specs.declared.Phase.the-variants.{Unmounted, Idle, Busy}
 use Rattle.board.specs.declared.Rest.{Rest}
 use Rattle.board.specs.declared.Record.{Record}
 use Rattle.board.specs.Record.{allowed, noPlaces, noFrame, idle, Stretch, noStretch, Out}
-use Rattle.board.specs.Queue.{sameImage, requestOn, readOn}
+use Rattle.board.specs.Queue.{sameImage, Asking, asking, requestOn}
 use Rattle.job.specs.declared.records.Stepped.{Stepped}
 use Rattle.job.specs.Code.{placed}
 use Rattle.queue.specs.declared.reads.Located.{Located}
@@ -69,17 +69,28 @@ askOf size end s m = cond (asRecorded size end s) (askIf (parse m)) (ask.Refused
 
 -- ---- a request
 
--- what it came to, for every record that stands there; the job's arrays and the reply after it
-abbrev pub Asked : ℕ → List ℕ → Phase → Rest → List ℕ → Host → List ℕ → Stepped → List ℕ → List ℕ → List ℕ → Type 0
-Asked N img p z reply h m s places frame after =
-    (b : Record) → let o : Out = requestOn N img (placed p z b) reply h m in Asks (placed p z b) places frame s o × (after ≡ o .reply)
+-- the arrays that it was lent, after it
+pub record Left : Type 0 where
+  pub places : List ℕ
+  pub frame : List ℕ
+  pub reply : List ℕ
+
+abbrev pub left : List ℕ → List ℕ → List ℕ → Left
+left places frame reply = record { places = places; frame = frame; reply = reply }
+
+-- the same asked of any record that stands where this one does
+abbrev pub askedOf : Asking → Record → Asking
+askedOf a b = asking (a .blocks) (a .image) (placed (a .board .phase) (a .board .rest) b) (a .host) (a .message) (a .reply)
+
+-- what it came to, for every record that stands there
+abbrev pub Asked : Asking → Stepped → Left → Type 0
+Asked a s l = (b : Record) → let o : Out = requestOn (askedOf a b) in Asks (askedOf a b .board) (l .places) (l .frame) s o × (l .reply ≡ o .reply)
 
 -- the same, and where no job began the arrays hold nothing
-pub record Requested (N : ℕ) (img : List ℕ) (p : Phase) (z : Rest) (reply : List ℕ) (h : Host) (m : List ℕ) (s : Stepped)
-    (places frame after : List ℕ) : Type 0 where
-  pub asked : Asked N img p z reply h m s places frame after
-  pub no-places : s .ended ≡ true → places ≡ noPlaces
-  pub no-frame : s .ended ≡ true → frame ≡ noFrame
+pub record Requested (a : Asking) (s : Stepped) (l : Left) : Type 0 where
+  pub asked : Asked a s l
+  pub no-places : s .ended ≡ true → l .places ≡ noPlaces
+  pub no-frame : s .ended ≡ true → l .frame ≡ noFrame
 
 -- ---- a read
 
@@ -93,12 +104,15 @@ readAs (Is Abort) m = []
 readAs (Is (Read i)) m = m
 readAs (Is (Log p)) m = []
 
+abbrev pub telling : Asking → List ℕ → Asking
+telling a m = asking (a .blocks) (a .image) (a .board) (a .host) m (a .reply)
+
 -- the request's stretch, and a read's answer
-pub record Finds (N : ℕ) (img : List ℕ) (r : Record) (h : Host) (m : List ℕ) (l : Located) : Type 0 where
-  pub answers : l .answer ≡ requestOn N img r [] h (readAs (parse m) m) .answer
-  pub at : l .at ≡ readOn N img r h m .at
-  pub size : l .size ≡ readOn N img r h m .size
-  pub inside : l .at + l .size ≤ length img
+pub record Finds (a : Asking) (l : Located) : Type 0 where
+  pub answers : l .answer ≡ requestOn (telling a (readAs (parse (a .message)) (a .message))) .answer
+  pub at : l .at ≡ requestOn a .stretch .at
+  pub size : l .size ≡ requestOn a .stretch .size
+  pub inside : l .at + l .size ≤ length (a .image)
 
 abbrev pub nothing : Refusal → Located
 nothing why = record { answer = Refused why; at = 0; size = 0 }

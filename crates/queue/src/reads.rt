@@ -1,9 +1,11 @@
 // Reads: where a settled value stands in the caller's own image.
 ghost use mathlib.Core.Path.{_≡_};
+ghost use mathlib.Core.List.{[]};
 ghost use Prim.Native.Nat.{_+_, _≤_};
 ghost use lib.ListN.{length, take, drop};
 ghost use denote.Ref.{ptr};
-ghost use Rattle.board.specs.Queue.{readOn};
+ghost use Rattle.board.specs.Record as outcome;
+ghost use Rattle.board.specs.Queue.{asking, readOn};
 ghost use Rattle.board.specs.declared.Record.{Record};
 ghost use Rattle.job.specs.Code.{placed};
 ghost use Rattle.queue.specs.Calls.{nothing, noneFor, foundFor, Finds};
@@ -80,7 +82,7 @@ pub fn find(
     host: Host,
     message: &[u8],
 ) -> Located
-    ensures { λ r. ⌜ ((b : Record) → Finds blocks (now (image .entry)) (placed phase rest b) host (now (message .entry)) r) ⌝ }
+    ensures { λ r. ⌜ ((b : Record) → Finds (asking blocks (now (image .entry)) (placed phase rest b) host (now (message .entry)) []) r) ⌝ }
 {
     match requests::check(image, blocks, phase, rest, host) {
         Gate::Shut(why) => return nothing(why),
@@ -108,9 +110,8 @@ pub fn find(
 
 // Where a read's value stands, and its size: both 0 where it is refused.
 pub fn locate(image: &[u8], blocks: u8, board: Record, host: Host, message: &[u8]) -> Stretch
-    ensures { λ r. ⌜ (r .at ≡ readOn blocks (now (image .entry)) board host (now (message .entry)) .at)
-        × (r .size ≡ readOn blocks (now (image .entry)) board host (now (message .entry)) .size)
-        × (r .at + r .size ≤ length (now (image .entry))) ⌝ }
+    ensures { λ r. ⌜ (let s : outcome.Stretch = readOn blocks (now (image .entry)) board host (now (message .entry)) in
+        (r .at ≡ s .at) × (r .size ≡ s .size) × (r .at + r .size ≤ length (now (image .entry)))) ⌝ }
 {
     let phase = board.phase;
     let rest = board.rest;
@@ -123,8 +124,8 @@ pub fn locate(image: &[u8], blocks: u8, board: Record, host: Host, message: &[u8
 
 // The stretch of the image that a read hands back, empty where it is refused.
 pub fn read<'a>(image: &'a [u8], blocks: u8, board: Record, host: Host, message: &[u8]) -> &'a [u8]
-    ensures value { λ r. ⌜ now r ≡ take (readOn blocks (now (image .entry)) board host (now (message .entry)) .size)
-        (drop (readOn blocks (now (image .entry)) board host (now (message .entry)) .at) (now (image .entry))) ⌝ }
+    ensures value { λ r. ⌜ (let s : outcome.Stretch = readOn blocks (now (image .entry)) board host (now (message .entry)) in
+        now r ≡ take (s .size) (drop (s .at) (now (image .entry)))) ⌝ }
     ensures place { λ r. ⌜ (ptr r .0 ≡ ptr (image .entry) .0)
         × (ptr r .1 ≡ readOn blocks (now (image .entry)) board host (now (message .entry)) .at + ptr (image .entry) .1) ⌝ }
 {

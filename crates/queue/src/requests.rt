@@ -4,11 +4,11 @@ ghost use mathlib.Core.Bool.{_||_, cond};
 ghost use lib.Dec.{eqb};
 ghost use Rattle.flash.specs.Bytes.{allFF};
 ghost use Rattle.flash.specs.Flash.{block, blockNumbers};
-ghost use Rattle.board.specs.Record.{noPlaces, noFrame, idle};
-ghost use Rattle.board.specs.Queue.{othersBlank, sameImage, requestOn};
+ghost use Rattle.board.specs.Record.{noPlaces, noFrame, resting, idle, Out};
+ghost use Rattle.board.specs.Queue.{othersBlank, sameImage, asking, requestOn};
 ghost use Rattle.job.specs.Code.{outcome};
 ghost use Rattle.serving.specs.Calls.{keptOr};
-ghost use Rattle.queue.specs.Calls.{gateOf, gateIn, asRecorded, askOf, Asked, Requested};
+ghost use Rattle.queue.specs.Calls.{gateOf, gateIn, asRecorded, askOf, left, Asked, Requested};
 use board::Phase;
 use board::Record;
 use board::Rest;
@@ -168,8 +168,9 @@ fn request_at(
     places: &mut [u16; 256],
     frame: &mut [u8; MAX_FRAME],
 ) -> Stepped
-    ensures { λ r. ⌜ Asked blocks (now (image .entry)) phase rest (now (reply .entry)) host (now (message .entry))
-        r (now (places .exit)) (now (frame .exit)) (now (reply .exit)) ⌝ }
+    ensures { λ r. ⌜ Asked
+        (asking blocks (now (image .entry)) (resting phase rest) host (now (message .entry)) (now (reply .entry)))
+        r (left (now (places .exit)) (now (frame .exit)) (now (reply .exit))) ⌝ }
 {
     match check(image, blocks, phase, rest, host) {
         Gate::Shut(why) => return serving::refused(why, rest),
@@ -218,8 +219,9 @@ pub fn request_core(
     places: &mut [u16; 256],
     frame: &mut [u8; MAX_FRAME],
 ) -> Stepped
-    ensures { λ r. ⌜ Requested blocks (now (image .entry)) phase rest (now (reply .entry)) host (now (message .entry))
-        r (now (places .exit)) (now (frame .exit)) (now (reply .exit)) ⌝ }
+    ensures { λ r. ⌜ Requested
+        (asking blocks (now (image .entry)) (resting phase rest) host (now (message .entry)) (now (reply .entry)))
+        r (left (now (places .exit)) (now (frame .exit)) (now (reply .exit))) ⌝ }
 {
     let s = request_at(
         image,
@@ -244,9 +246,8 @@ pub fn request(
     message: &[u8],
     reply: &mut [u8],
 ) -> Outcome
-    ensures { λ r. ⌜ (r .answer ≡ requestOn blocks (now (image .entry)) board (now (reply .entry)) host (now (message .entry)) .answer)
-        × (r .board ≡ requestOn blocks (now (image .entry)) board (now (reply .entry)) host (now (message .entry)) .board)
-        × (now (reply .exit) ≡ requestOn blocks (now (image .entry)) board (now (reply .entry)) host (now (message .entry)) .reply) ⌝ }
+    ensures { λ r. ⌜ (let o : Out = requestOn (asking blocks (now (image .entry)) board host (now (message .entry)) (now (reply .entry))) in
+        (r .answer ≡ o .answer) × (r .board ≡ o .board) × (now (reply .exit) ≡ o .reply)) ⌝ }
 {
     let mut places = records::no_places();
     let mut frame = records::no_frame();

@@ -8,7 +8,7 @@ use Rattle.wire.specs.Answer.{edgeNumber}
 use Rattle.board.specs.declared.Record.{Record}
 use Rattle.board.specs.Record.{Out, unmounted}
 use Rattle.board.specs.Step.{stepOn}
-use Rattle.board.specs.Queue.{requestOn}
+use Rattle.board.specs.Queue.{asking, requestOn}
 use Rattle.job.specs.declared.Outcome.{Outcome}
 use Rattle.scene.specs.declared.Bench.{Bench}
 
@@ -78,7 +78,7 @@ newBench value size N =
 -- a request, and at most so many of its steps
 abbrev pub askOn : Bench → ℕ → List ℕ → ℕ → Bench
 askOn d h m most =
-    let o : Out = requestOn (d .blocks) (imageOf d) (d .board) fresh (record { 0 = h }) m in
+    let o : Out = requestOn (asking (d .blocks) (imageOf d) (d .board) (record { 0 = h }) m fresh) in
     callOn d most o (o .reply)
 
 -- a put of so many bytes of one value

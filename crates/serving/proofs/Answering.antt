@@ -11,7 +11,6 @@ use lib.Seq.{take-all}
 use borrow.Author.Tests.{lt-ltb, ne-eqb}
 use Rattle.flash.specs.Flash.{block, sizeOf}
 use Rattle.flash.proofs.Cases.{on-test}
-use Rattle.frame.specs.declared.Host.{Host}
 use Rattle.frame.specs.declared.ObjectId.{ObjectId}
 use Rattle.frame.specs.Frame.{hostMax, idMax, valueMax, Change, put, delete, Frame, change, commit, abort, frameLen, endLen}
 use Rattle.survey.specs.declared.Survey.{Survey}
@@ -42,7 +41,7 @@ use Rattle.board.specs.declared.Rest.{Rest}
 use Rattle.board.specs.declared.Record.{Record}
 use Rattle.board.specs.Record.{noFrame, starting, Out, out, refuse, answerOf}
 use Rattle.board.specs.Mount.{replayOf}
-use Rattle.board.specs.Queue.{needsRoom, append, serveChange, serveEnd, serveRead, serveLog, serve}
+use Rattle.board.specs.Queue.{needsRoom, append, serveChange, serveEnd, serveRead, serveLog, serve, Asking, asking, sizeFor, movesFor, refuseTo}
 use Rattle.board.proofs.Replies.{standing-of}
 use Rattle.job.specs.declared.records.Stepped.{Stepped}
 use Rattle.job.specs.Code.{leavesIf, LeadsTo, goAppend, goOpen, goWipe, begins}
@@ -82,98 +81,108 @@ unfolding goWipe goOpen goAppend
 goes z s true n c l = (refl, refl)
 goes z s false n c l = rw (lt-ltb 0 n l) (refl, refl)
 
-module _ (N : ℕ) (img : List ℕ) (r : Record) (reply : List ℕ) (h : Host) (x : Journal) (same : N ≡ r .rest .blocks)
-    (w : Contents (block (sizeOf N img) (r .rest .block) img) x) where
+module _ (a : Asking) (x : Journal) (same : a .blocks ≡ a .board .rest .blocks)
+    (w : Contents (block (sizeFor a) (a .board .rest .block) (a .image)) x) where
+  abbrev r : Record
+  r = a .board
+
   abbrev survey : Survey
   survey = surveyOf (valid x)
 
   abbrev places : List ℕ
   places = placesOf (x .frames)
 
-  append-is : (f : Frame) → Asks r places (bytesOf f) (appendIn (sizeOf N img) (r .rest) survey (frameLen f)) (append N img r reply x f)
+  no : (f : List ℕ) (why : Refusal) → Asks r places f (refused why (r .rest)) (refuseTo a why)
+  no f why = refusing r places f (a .image) (a .reply) why
+
+  append-is : (f : Frame) → Asks r places (bytesOf f) (appendIn (sizeFor a) (r .rest) survey (frameLen f)) (append a x f)
   unfolding append appendIn surveyOf
   append-is f =
-      let m : Bool = needsRoom (r .rest .blocks) img r f in
+      let m : Bool = needsRoom (r .rest .blocks) (a .image) r f in
       let z : Rest = r .rest in
       let j : Job = appendPlan z survey m (frameLen f) in
       let g = goes z survey m (frameLen f) (starting 0 headerLen) (omega arith) in
-      subst (λ (k : ℕ). Asks r places (bytesOf f) (appendIn (sizeOf k img) z survey (frameLen f)) (append k img r reply x f)) (sym same)
-      (asks-if r places (bytesOf f) (m && eqb (x .time) lastTime) (refusing r _ _ img reply refusal.Worn)
-      (begun r _ _ img reply _ _ (g .0) (g .1)
+      subst (λ (k : ℕ). Asks r places (bytesOf f) (appendIn (sizeOf k (a .image)) z survey (frameLen f))
+      (append (asking k (a .image) r (a .host) (a .message) (a .reply)) x f)) (sym same)
+      (asks-if r places (bytesOf f) (m && eqb (x .time) lastTime) (no (bytesOf f) refusal.Worn)
+      (begun r _ _ (a .image) (a .reply) _ _ (g .0) (g .1)
       (wipe-leaves places noFrame (bytesOf f) (record { phase = Busy Wipe; rest = z; job = j; cursor = starting 0 headerLen }))))
 
-  change-is : (c : Change) → Asks r places (bytesOf (change h c))
-      (changeIn (sizeOf N img) (r .rest) survey h (frameLen (change h c)) (spare c)) (serveChange N img r reply h x c)
+  change-is : (c : Change) → Asks r places (bytesOf (change (a .host) c))
+      (changeIn (sizeFor a) (r .rest) survey (a .host) (frameLen (change (a .host) c)) (spare c)) (serveChange a x c)
   unfolding serveChange changeIn
   change-is c =
-      rw (← no-room-is w (sizeOf N img) h c) (asks-if r _ _ (noRoom (sizeOf N img) (replayOf x) h c)
-      (refusing r _ _ img reply refusal.NoRoom) (append-is (change h c)))
+      rw (← no-room-is w (sizeFor a) (a .host) c) (asks-if r _ _ (noRoom (sizeFor a) (replayOf x) (a .host) c)
+      (no _ refusal.NoRoom) (append-is (change (a .host) c)))
 
-  open-is : h .0 ≤ hostMax → isOpen h (replayOf x .pending) ≡ ltb 0 (getD (survey .pending) (h .0) 0)
+  open-is : a .host .0 ≤ hostMax → isOpen (a .host) (replayOf x .pending) ≡ ltb 0 (getD (survey .pending) (a .host .0) 0)
   unfolding surveyOf
-  open-is l = open-bytes h (replayOf x .pending) ∙ ap (ltb 0) (sym (per-at (λ g. pendingBytes g (replayOf x .pending)) h l))
+  open-is l =
+      open-bytes (a .host) (replayOf x .pending)
+      ∙ ap (ltb 0) (sym (per-at (λ g. pendingBytes g (replayOf x .pending)) (a .host) l))
 
-  end-is : (f : Frame) → frameLen f ≡ endLen → h .0 ≤ hostMax
-      → Asks r places (bytesOf f) (endIn (sizeOf N img) (r .rest) survey h) (serveEnd N img r reply h x f)
+  end-is : (f : Frame) → frameLen f ≡ endLen → a .host .0 ≤ hostMax
+      → Asks r places (bytesOf f) (endIn (sizeFor a) (r .rest) survey (a .host)) (serveEnd a x f)
   unfolding serveEnd endIn
   end-is f e l =
-      rw (← open-is l, ← e) (asks-if r _ _ (isOpen h (replayOf x .pending)) (append-is f) (doing r _ _ img reply))
+      rw (← open-is l, ← e) (asks-if r _ _ (isOpen (a .host) (replayOf x .pending)) (append-is f) (doing r _ _ (a .image) (a .reply)))
 
   read-is : (f : List ℕ) (i : ObjectId) → i .0 ≤ idMax → (o : Option (List ℕ)) → lookup i (replayOf x .objects) ≡ o
-      → Asks r places f (readIn (r .rest) places i) (serveRead N img r reply x i o)
+      → Asks r places f (readIn (r .rest) places i) (serveRead a x i o)
   unfolding readIn
-  read-is f i l none e = rw (no-place (x .frames) i l e) (refusing r _ _ img reply refusal.NoObject)
+  read-is f i l none e = rw (no-place (x .frames) i l e) (no f refusal.NoObject)
   read-is f i l (some v) e =
-      let z : ValueStands (block (sizeOf N img) (r .rest .block) img) i (getD (placesOf (x .frames)) (i .0) 0) v =
-      place-law (block (sizeOf N img) (r .rest .block) img) (x .frames) i v (standing-of w) l e in
+      let z : ValueStands (block (sizeFor a) (r .rest .block) (a .image)) i (getD (placesOf (x .frames)) (i .0) 0) v =
+      place-law (block (sizeFor a) (r .rest .block) (a .image)) (x .frames) i v (standing-of w) l e in
       rw (ne-eqb (getD (placesOf (x .frames)) (i .0) 0) 0 (λ q. omega (arith, z .past))) (record { answers = refl; gives = refl; rests = refl })
 
-  log-is : (f : List ℕ) (p : Page) → Asks r places f (logIn (r .rest) reply) (serveLog N img r reply x p)
+  log-is : (f : List ℕ) (p : Page) → Asks r places f (logIn (r .rest) (a .reply)) (serveLog a x p)
   unfolding serveLog logIn
   log-is f Summary =
-      asks-if r _ _ (ltb (length reply) pageLen) (refusing r _ _ img reply refusal.ShortReply) (record { answers = refl; gives = refl; rests = refl })
+      asks-if r _ _ (ltb (length (a .reply)) pageLen) (no f refusal.ShortReply) (record { answers = refl; gives = refl; rests = refl })
 
-  pub serve-is : (m : List ℕ) (q : Request) (g : List ℕ) → InRange m q → h .0 ≤ hostMax
-      → Asks r places (frameIn h m q g) (serveIn (sizeOf N img) (r .rest) reply h m survey places q) (serve N img r reply h m x q)
+  pub serve-is : (q : Request) (g : List ℕ) → InRange (a .message) q → a .host .0 ≤ hostMax
+      → Asks r places (frameIn (a .host) (a .message) q g)
+      (serveIn (sizeFor a) (r .rest) (a .reply) (a .host) (a .message) survey places q) (serve a x q)
   unfolding serve
-  serve-is m (Put i) g k l = rw (take-all valueMax (valueIn m) (k .1)) (change-is (put i (valueIn m)))
-  serve-is m (Delete i) g k l = change-is (delete i)
-  serve-is m Commit g k l = end-is (commit h) refl l
-  serve-is m Abort g k l = end-is (abort h) refl l
-  serve-is m (Read i) g k l = read-is g i k (lookup i (replayOf x .objects)) refl
-  serve-is m (Log p) g k l = log-is g p
+  serve-is (Put i) g k l = rw (take-all valueMax (valueIn (a .message)) (k .1)) (change-is (put i (valueIn (a .message))))
+  serve-is (Delete i) g k l = change-is (delete i)
+  serve-is Commit g k l = end-is (commit (a .host)) refl l
+  serve-is Abort g k l = end-is (abort (a .host)) refl l
+  serve-is (Read i) g k l = read-is g i k (lookup i (replayOf x .objects)) refl
+  serve-is (Log p) g k l = log-is g p
 
   -- ---- the reply
 
-  cond-reply : (t : Bool) (a b : Out) → a .reply ≡ reply → b .reply ≡ reply → cond t a b .reply ≡ reply
-  cond-reply true a b p q = p
-  cond-reply false a b p q = q
+  cond-reply : (t : Bool) (o v : Out) → o .reply ≡ a .reply → v .reply ≡ a .reply → cond t o v .reply ≡ a .reply
+  cond-reply true o v p q = p
+  cond-reply false o v p q = q
 
-  append-reply : (f : Frame) → append N img r reply x f .reply ≡ reply
+  append-reply : (f : Frame) → append a x f .reply ≡ a .reply
   unfolding append
-  append-reply f = cond-reply (needsRoom N img r f && eqb (x .time) lastTime) _ _ refl refl
+  append-reply f = cond-reply (movesFor a f && eqb (x .time) lastTime) _ _ refl refl
 
-  change-reply : (c : Change) → serveChange N img r reply h x c .reply ≡ reply
+  change-reply : (c : Change) → serveChange a x c .reply ≡ a .reply
   unfolding serveChange
-  change-reply c = cond-reply (noRoom (sizeOf N img) (replayOf x) h c) _ _ refl (append-reply (change h c))
+  change-reply c = cond-reply (noRoom (sizeFor a) (replayOf x) (a .host) c) _ _ refl (append-reply (change (a .host) c))
 
-  end-reply : (f : Frame) → serveEnd N img r reply h x f .reply ≡ reply
+  end-reply : (f : Frame) → serveEnd a x f .reply ≡ a .reply
   unfolding serveEnd
-  end-reply f = cond-reply (isOpen h (replayOf x .pending)) _ _ (append-reply f) refl
+  end-reply f = cond-reply (isOpen (a .host) (replayOf x .pending)) _ _ (append-reply f) refl
 
-  read-reply : (i : ObjectId) (o : Option (List ℕ)) → serveRead N img r reply x i o .reply ≡ reply
+  read-reply : (i : ObjectId) (o : Option (List ℕ)) → serveRead a x i o .reply ≡ a .reply
   read-reply i none = refl
   read-reply i (some v) = refl
 
-  log-reply : (p : Page) → serveLog N img r reply x p .reply ≡ replyIn (sizeOf N img) survey reply (Log p)
+  log-reply : (p : Page) → serveLog a x p .reply ≡ replyIn (sizeFor a) survey (a .reply) (Log p)
   unfolding serveLog pageInto surveyOf
-  log-reply Summary = on-test (ltb (length reply) pageLen) (λ t. rw (t, pageInto)) (λ t. rw (t, pageInto))
+  log-reply Summary = on-test (ltb (length (a .reply)) pageLen) (λ t. rw (t, pageInto)) (λ t. rw (t, pageInto))
 
-  pub reply-is : (m : List ℕ) (q : Request) → serve N img r reply h m x q .reply ≡ replyIn (sizeOf N img) survey reply q
+  pub reply-is : (q : Request) → serve a x q .reply ≡ replyIn (sizeFor a) survey (a .reply) q
   unfolding serve
-  reply-is m (Put i) = change-reply (put i (valueIn m))
-  reply-is m (Delete i) = change-reply (delete i)
-  reply-is m Commit = end-reply (commit h)
-  reply-is m Abort = end-reply (abort h)
-  reply-is m (Read i) = read-reply i (lookup i (replayOf x .objects))
-  reply-is m (Log p) = log-reply p
+  reply-is (Put i) = change-reply (put i (valueIn (a .message)))
+  reply-is (Delete i) = change-reply (delete i)
+  reply-is Commit = end-reply (commit (a .host))
+  reply-is Abort = end-reply (abort (a .host))
+  reply-is (Read i) = read-reply i (lookup i (replayOf x .objects))
+  reply-is (Log p) = log-reply p

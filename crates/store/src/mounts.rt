@@ -4,7 +4,7 @@ ghost use mathlib.Core.Bool.{true, cond};
 ghost use Prim.Native.Nat.{_≤_};
 ghost use lib.ListN.{length};
 ghost use Rattle.flash.specs.Flash.{maxBlocks};
-ghost use Rattle.board.specs.Record.{allowed, noPlaces};
+ghost use Rattle.board.specs.Record.{allowed, noPlaces, Out};
 ghost use Rattle.board.specs.Mount.{tiedTimes, mountOn, formatOrder, formatOn};
 ghost use Rattle.looks.specs.Seen.{erasesOf};
 ghost use Rattle.store.specs.Calls.{Gives, made, refused};
@@ -129,7 +129,7 @@ pub fn mount_core(image: &[u8], blocks: u8, places: &mut [u16; 256]) -> Stepped
 }
 
 pub fn mount(image: &[u8], blocks: u8) -> Outcome
-    ensures { λ r. ⌜ (r .answer ≡ mountOn blocks (now (image .entry)) .answer) × (r .board ≡ mountOn blocks (now (image .entry)) .board) ⌝ }
+    ensures { λ r. ⌜ (let o : Out = mountOn blocks (now (image .entry)) in (r .answer ≡ o .answer) × (r .board ≡ o .board)) ⌝ }
 {
     let mut places = records::no_places();
     let s = mount_core(image, blocks, &mut places);
@@ -196,7 +196,7 @@ pub fn format_core(image: &[u8], blocks: u8) -> Stepped
 }
 
 pub fn format(image: &[u8], blocks: u8) -> Outcome
-    ensures { λ r. ⌜ (r .answer ≡ formatOn blocks (now (image .entry)) .answer) × (r .board ≡ formatOn blocks (now (image .entry)) .board) ⌝ }
+    ensures { λ r. ⌜ (let o : Out = formatOn blocks (now (image .entry)) in (r .answer ≡ o .answer) × (r .board ≡ o .board)) ⌝ }
 {
     made(format_core(image, blocks), records::no_places())
 }

@@ -5,7 +5,7 @@ use Prim.Native.Nat.{ℕ}
 use denote.Ref.{now}
 use borrow.Author.Tests.{eq-eqb, ne-eqb}
 use Rattle.wire.specs.Answer.{edgeNumber}
-use Rattle.board.specs.Queue.{requestOn}
+use Rattle.board.specs.Queue.{asking, requestOn}
 use Rattle.lent.specs.Layout.{recordIn}
 use Rattle.edge.specs.Edge.{place, edgeRead}
 use Rattle.edge.proofs.Begun.{asks-read}
@@ -31,6 +31,7 @@ grommetide-read-spec =
     let args′ = c9 .args in
     let f = rw (phase-of′ .ensures, c .before .before .before .rest-of .ensures, c .before .before .as-read .ensures) at
     (c .before .find .ensures (recordIn (now (args′ .board)))) in let n = c .number .ensures
-    ∙ ap edgeNumber (f .answers ∙ ap (λ (m : List ℕ). requestOn (args′ .blocks) (now (args′ .image)) (recordIn (now (args′ .board))) []
-    (record { 0 = args′ .host }) m .answer) (asks-read (now (args′ .message)))) in rw (eq-eqb _ _ (if1′ .left))
+    ∙ ap edgeNumber (f .answers
+    ∙ ap (λ (m : List ℕ). requestOn (asking (args′ .blocks) (now (args′ .image)) (recordIn (now (args′ .board))) (record { 0 = args′ .host }) m []) .answer)
+    (asks-read (now (args′ .message)))) in rw (eq-eqb _ _ (if1′ .left))
     (λ i. place (n i) (f .at i) (f .size i))))

@@ -1,7 +1,7 @@
 -- A request: by where the record in the buffer stands.
 use denote.Ref.{now}
 use borrow.Author.Tests.{eq-eqb, ne-eqb}
-use Rattle.board.specs.Queue.{requestOn}
+use Rattle.board.specs.Queue.{asking, requestOn}
 use Rattle.lent.specs.Layout.{recordIn}
 use Rattle.edge.specs.Edge.{edgeRequest}
 use Rattle.edge.proofs.Begun.{begun-is, done-rests}
@@ -34,8 +34,9 @@ grommetide-request-spec =
     let phase-of′ = c16 .phase-of in
     let if1′ = c18 .if1 in
     let args′ = c23 .args in
-    let b = now (args′ .board) in let o = requestOn (args′ .blocks) (now (args′ .image)) (recordIn b) (now (args′ .reply))
-    (record { 0 = args′ .host }) (now (args′ .message)) in let q = rw (phase-of′ .ensures, rest-of′ .ensures) at
-    (request-core′ .ensures .asked (recordIn b)) in let z = begun-is b _ _ _ _ (request-core′ .result) o (if1′ .left) (q .0)
-    (done-rests _ _ _ _ _ _) (c .before .before .begun .ensures) in
+    let b = now (args′ .board) in
+    let a = asking (args′ .blocks) (now (args′ .image)) (recordIn b) (record { 0 = args′ .host }) (now (args′ .message)) (now (args′ .reply)) in
+    let q = rw (phase-of′ .ensures, rest-of′ .ensures) at (request-core′ .ensures .asked (recordIn b)) in
+    let z = begun-is b _ _ _ _ (request-core′ .result) (requestOn a) (if1′ .left) (q .0)
+    (done-rests a) (c .before .before .begun .ensures) in
     (rw (eq-eqb _ _ (if1′ .left)) (z .0 .0, z .0 .1, q .1), λ _. z .1)))

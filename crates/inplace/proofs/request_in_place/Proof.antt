@@ -43,7 +43,8 @@ use denote.Triple.Walked.{ends-at, walked}
 use denote.Signature.{Slot, plain, shrSliceOf}
 use Rattle.frame.specs.declared.Host.{Host}
 use Rattle.board.specs.declared.Record.{Record}
-use Rattle.board.specs.Queue.{requestOn}
+use Rattle.board.specs.Record.{Out}
+use Rattle.board.specs.Queue.{asking, requestOn}
 use Rattle.job.specs.declared.Outcome.{Outcome}
 use Rattle.frame.proofs.Host as P
 use Rattle.frame.proofs.Host.Laws as P′
@@ -84,9 +85,8 @@ stayed = (
 )
 
 -- what `request` says of the outcome r and the last reply zs
-abbrev Said : ℕ → List ℕ → Record → List ℕ → Host → List ℕ → Outcome → List ℕ → Type 0
-Said N is h ys n ms r zs =
-    (r .answer ≡ requestOn N is h ys n ms .answer) × (r .board ≡ requestOn N is h ys n ms .board) × (zs ≡ requestOn N is h ys n ms .reply)
+abbrev Said : Out → Outcome → List ℕ → Type 0
+Said o r zs = (r .answer ≡ o .answer) × (r .board ≡ o .board) × (zs ≡ o .reply)
 
 abbrev slice : RefT (List ℕ) → Val
 slice x = sliceVal (x .ptr) (length (x .now))
@@ -142,7 +142,7 @@ module _ {M : Type 1} (𝓤 : URA M) (H : Heap 𝓤) (A : Atoms 𝓤) (W : Given
     left k zs = ‵ (fobs (y .name) (R .coded .code k)) ∷ ‵ (fbor κ₁ (Body (mem R) (y .ptr .0) (y .ptr .1) (y .name))) ∷ ‵ (flft κ₁ q₁) ∷
         tokens ∷ ‵ (finally u8 (x .name) zs) ∷ []
 
-    exits : (r : Outcome) (zs : List ℕ) → Said N (i .now) h (x .now) n (m .now) r zs → length zs ≡ length (x .now)
+    exits : (r : Outcome) (zs : List ℕ) → Said (requestOn (asking N (i .now) h n (m .now) (x .now))) r zs → length zs ≡ length (x .now)
         → IsAnswer (r .answer) → ent 𝓤 (⋆ 𝓤 H A (left (r .board) zs)) (Post (answer (r .answer)))
     exits r zs e l is =
         qed W (left (r .board) zs) ∵
@@ -200,7 +200,7 @@ module _ {M : Type 1} (𝓤 : URA M) (H : Heap 𝓤) (A : Atoms 𝓤) (W : Given
           (and-then ! (in-local ! 9 refl)
           (and-then ! (in-local ! 17 refl) (and-then ! (in-local ! 15 refl) (and-then ! (in-local ! 5 refl) (no-more !))))))) (λ w.
           told callee.ended (callee.clauses 𝓤 H A at-mem run) to-callee ! tt w
-          (λ r zs. Said N (i .now) h (x .now) n (m .now) r (zs .1 .1 .1 .1 .1 .0)) (λ r zs. id⊢ 𝓤 _) (λ r zs e.
+          (λ r zs. Said (requestOn (asking N (i .now) h n (m .now) (x .now))) r (zs .1 .1 .1 .1 .1 .0)) (λ r zs. id⊢ 𝓤 _) (λ r zs e.
           fsplit ! $ drop ! $ fsplit ! $ drop ! $ fsplit ! $ drop ! $ fsplit ! $ drop ! $ fsplit ! $ drop ! $ fsplit ! $ fsplit ! $
           move ! (1 ∷ []) $ feqL ! (λ l.
           -- [the last reply; true; the tokens; the outcome; the record's cell; the open borrow; obs; auth; _10; …; _9; …; _8; …; _7; …;

@@ -40,7 +40,8 @@ use denote.Signature.{Slot, plain, shrSliceOf}
 use Rattle.frame.specs.declared.Host.{Host}
 use Rattle.wire.specs.declared.Answer.{Answer}
 use Rattle.board.specs.declared.Record.{Record}
-use Rattle.board.specs.Queue.{requestOn}
+use Rattle.board.specs.Record.{Out}
+use Rattle.board.specs.Queue.{asking, requestOn}
 use Rattle.job.specs.declared.Outcome.{Outcome}
 use Rattle.frame.proofs.Host as P
 use Rattle.frame.proofs.Host.Laws as P′
@@ -81,9 +82,8 @@ stayed = (
 )
 
 -- what `request_in_place` says of the answer c, the last record k and the last reply zs
-abbrev Said : ℕ → List ℕ → Record → List ℕ → Host → List ℕ → Answer → Record → List ℕ → Type 0
-Said N is h ys n ms c k zs =
-    (c ≡ requestOn N is h ys n ms .answer) × (k ≡ requestOn N is h ys n ms .board) × (zs ≡ requestOn N is h ys n ms .reply)
+abbrev Said : Out → Answer → Record → List ℕ → Type 0
+Said o c k zs = (c ≡ o .answer) × (k ≡ o .board) × (zs ≡ o .reply)
 
 abbrev slice : RefT (List ℕ) → Val
 slice x = sliceVal (x .ptr) (length (x .now))
@@ -134,7 +134,7 @@ module _ {M : Type 1} (𝓤 : URA M) (H : Heap 𝓤) (A : Atoms 𝓤) (W : Given
         ‵ (owns (ShrSlice (named 0) κ₀ u8 ∷ u8 ∷ MutRef (named 1) (ν ∷ []) R ∷ P.the-row ∷ ShrSlice (named 2) κ₁ u8 ∷
         MutSlice (named 3) κ₂ u8 ∷ []) (args l δ) (passed l)) ∷ []) ∵ join ! $ frame ! $ done !
 
-    exits : (r : Outcome) (zs : List ℕ) → Said N (i .now) h (x .now) n (m .now) (r .answer) (r .board) zs → length zs ≡ length (x .now)
+    exits : (r : Outcome) (zs : List ℕ) → Said (requestOn (asking N (i .now) h n (m .now) (x .now))) (r .answer) (r .board) zs → length zs ≡ length (x .now)
         → IsOutcome r → ent 𝓤 (⋆ 𝓤 H A (tokens ∷ ‵ (finally u8 (x .name) zs) ∷ [])) (Post (outcome r))
     exits r zs e l is =
         qed W (tokens ∷ ‵ (finally u8 (x .name) zs) ∷ []) ∵
@@ -185,7 +185,7 @@ module _ {M : Type 1} (𝓤 : URA M) (H : Heap 𝓤) (A : Atoms 𝓤) (W : Given
           (and-then ! (in-local ! 8 refl)
           (and-then ! (in-local ! 17 refl) (and-then ! (in-local ! 15 refl) (and-then ! (in-local ! 4 refl) (no-more !))))))) (λ w.
           told callee.ended (callee.clauses 𝓤 H A at-mem run) (to-callee ν l₇ δ) ! tt w
-          (λ c zs. Said N (i .now) h (x .now) n (m .now) c (zs .1 .1 .0) (zs .1 .1 .1 .1 .1 .0)) (λ c zs. id⊢ 𝓤 _) (λ c zs e.
+          (λ c zs. Said (requestOn (asking N (i .now) h n (m .now) (x .now))) c (zs .1 .1 .0) (zs .1 .1 .1 .1 .1 .0)) (λ c zs. id⊢ 𝓤 _) (λ c zs e.
           fsplit ! $ drop ! $ fsplit ! $ drop ! $ fsplit ! $ move ! (1 ∷ []) $ fsplit ! $ drop ! $ fsplit ! $ drop ! $ fsplit ! $ fsplit ! $
           move ! (1 ∷ []) $ feqL ! (λ l.
           move ! (3 ∷ []) $ use1 W (tokens-with ν) (id⊢ 𝓤 _) $ split ! $ move ! (1 ∷ []) $ split ! $ move ! (2 ∷ 1 ∷ []) $ join ! $

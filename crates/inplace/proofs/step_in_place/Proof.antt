@@ -41,6 +41,7 @@ use denote.Triple.Call.{calls-at}
 use denote.Triple.Walked.{says, Stays, stay-ref, gave-slice, stay-dropped, walkOf, goes-ref, goes-gave-slice, goes-dropped, Walks}
 use denote.Triple.Walked.{ends-at, walked}
 use denote.Signature.{Slot, plain}
+use Rattle.board.specs.Record.{Out}
 use Rattle.board.specs.Step.{stepOn}
 use Rattle.board.specs.declared.Record.{Record}
 use Rattle.job.specs.declared.Outcome.{Outcome}
@@ -66,8 +67,8 @@ abbrev stayed : Stays (self.ended .signature .params) (self.ended .kept)
 stayed = (gave-slice (0 ∷ []) tt ByteS, (stay-dropped ByteS yes, (stay-ref (1 ∷ []) tt RecordS, tt)))
 
 -- what `step` says of the last image zs and the outcome r
-abbrev Said : ℕ → List ℕ → Record → List ℕ → Outcome → Type 0
-Said N ys h zs r = (zs ≡ stepOn N ys h .image) × (r .answer ≡ stepOn N ys h .answer) × (r .board ≡ stepOn N ys h .board)
+abbrev Said : Out → List ℕ → Outcome → Type 0
+Said o zs r = (zs ≡ o .image) × (r .answer ≡ o .answer) × (r .board ≡ o .board)
 
 module _ {M : Type 1} (𝓤 : URA M) (H : Heap 𝓤) (A : Atoms 𝓤) (W : Given 𝓤 H A) (at-mem : Memory → SProp 𝓤) (run : Routine → Fun 𝓤) where
   abbrev Callee : Contract 𝓤
@@ -113,7 +114,7 @@ module _ {M : Type 1} (𝓤 : URA M) (H : Heap 𝓤) (A : Atoms 𝓤) (W : Given
     left k zs = ‵ (fobs (y .name) (R .coded .code k)) ∷ ‵ (fbor κ′ (Body (mem R) (y .ptr .0) (y .ptr .1) (y .name))) ∷ ‵ (flft κ′ q′) ∷
         (‵ (flft κ q) ⊛ ‵ ftrue) ∷ ‵ (finally u8 (x .name) zs) ∷ []
 
-    exits : (r : Outcome) (zs : List ℕ) → Said N (x .now) h zs r → length zs ≡ length (x .now) → IsAnswer (r .answer)
+    exits : (r : Outcome) (zs : List ℕ) → Said (stepOn N (x .now) h) zs r → length zs ≡ length (x .now) → IsAnswer (r .answer)
         → ent 𝓤 (⋆ 𝓤 H A (left (r .board) zs)) (Post (answer (r .answer)))
     exits r zs e l is =
         qed W (left (r .board) zs) ∵
@@ -152,7 +153,7 @@ module _ {M : Type 1} (𝓤 : URA M) (H : Heap 𝓤) (A : Atoms 𝓤) (W : Given
           move ! (5 ∷ 7 ∷ []) $ use2 W (raw (Callee .pre to-callee)) (goes is-blocks g) $
           calls-at ! fm Callee known to-callee
           (and-then ! (in-local ! 9 refl) (and-then ! (in-local ! 17 refl) (and-then ! (in-local ! 7 refl) (no-more !)))) (λ w.
-          told callee.ended (callee.clauses 𝓤 H A at-mem run) to-callee ! tt w (λ r zs. Said N (x .now) h (zs .0) r) (λ r zs. id⊢ 𝓤 _)
+          told callee.ended (callee.clauses 𝓤 H A at-mem run) to-callee ! tt w (λ r zs. Said (stepOn N (x .now) h) (zs .0) r) (λ r zs. id⊢ 𝓤 _)
           (λ r zs e.
           fsplit ! $ fsplit ! $ move ! (1 ∷ []) $ feqL ! (λ l.
           -- [the last image; true; κ's token; the outcome; the record's cell; the open borrow; obs; auth; true; true; _7; …; _6; …; _5;

@@ -39,6 +39,7 @@ use denote.Triple.Walked.{says, Stays, gave-slice, stay-dropped, walkOf, goes-ga
 use denote.Signature.{Slot, plain}
 use Rattle.wire.specs.declared.Answer.{Answer}
 use Rattle.board.specs.declared.Record.{Record}
+use Rattle.board.specs.Record.{Out}
 use Rattle.board.specs.Step.{stepOn}
 use Rattle.job.specs.declared.Outcome.{Outcome}
 use Rattle.board.proofs.Record as B
@@ -63,8 +64,8 @@ abbrev stayed : Stays (self.ended .signature .params) (self.ended .kept)
 stayed = (gave-slice (0 ∷ []) tt ByteS, (stay-dropped ByteS yes, (stay-dropped RecordS yes, tt)))
 
 -- what `step_in_place` says of the last image zs, the answer n and the last record k
-abbrev Said : ℕ → List ℕ → Record → List ℕ → Answer → Record → Type 0
-Said N ys h zs n k = (zs ≡ stepOn N ys h .image) × (n ≡ stepOn N ys h .answer) × (k ≡ stepOn N ys h .board)
+abbrev Said : Out → List ℕ → Answer → Record → Type 0
+Said o zs n k = (zs ≡ o .image) × (n ≡ o .answer) × (k ≡ o .board)
 
 module _ {M : Type 1} (𝓤 : URA M) (H : Heap 𝓤) (A : Atoms 𝓤) (W : Given 𝓤 H A) (at-mem : Memory → SProp 𝓤) (run : Routine → Fun 𝓤) where
   abbrev Callee : Contract 𝓤
@@ -102,7 +103,7 @@ module _ {M : Type 1} (𝓤 : URA M) (H : Heap 𝓤) (A : Atoms 𝓤) (W : Given
     asked ν l δ = qed W ((‵ (flft κ q) ⊛ ‵ (flft (ν ∷ []) fullShare) ⊛ ‵ ftrue) ∷
         ‵ (owns (MutSlice (named 0) κ u8 ∷ u8 ∷ MutRef (named 1) (ν ∷ []) R ∷ []) (args l δ) (passed l)) ∷ []) ∵ join ! $ frame ! $ done !
 
-    exits : (r : Outcome) (zs : List ℕ) → Said N (x .now) h zs (r .answer) (r .board) → length zs ≡ length (x .now) → IsOutcome r
+    exits : (r : Outcome) (zs : List ℕ) → Said (stepOn N (x .now) h) zs (r .answer) (r .board) → length zs ≡ length (x .now) → IsOutcome r
         → ent 𝓤 (⋆ 𝓤 H A (‵ (flft κ q) ∷ ‵ (finally u8 (x .name) zs) ∷ [])) (Post (outcome r))
     exits r zs e l is =
         qed W (‵ (flft κ q) ∷ ‵ (finally u8 (x .name) zs) ∷ []) ∵
@@ -142,7 +143,7 @@ module _ {M : Type 1} (𝓤 : URA M) (H : Heap 𝓤) (A : Atoms 𝓤) (W : Given
           (and-then ! (in-local ! 7 refl) (and-then ! (in-local ! 16 refl) (and-then ! (in-local ! 5 refl) (no-more !))))
           (λ w.
           told callee.ended (callee.clauses 𝓤 H A at-mem run) (to-callee ν l₄ δ) ! tt w
-          (λ n zs. Said N (x .now) h (zs .0) n (zs .1 .1 .0))
+          (λ n zs. Said (stepOn N (x .now) h) (zs .0) n (zs .1 .1 .0))
           (λ n zs. id⊢ 𝓤 _) (λ n zs e.
           fsplit ! $ fsplit ! $ move ! (1 ∷ []) $ feqL ! (λ l. move ! (1 ∷ []) $ fsplit ! $ drop ! $ fsplit ! $
           move ! (3 ∷ []) $ use1 W (‵ (flft κ q) ⊛ ‵ (flft (ν ∷ []) fullShare) ⊛ ‵ ftrue) (id⊢ 𝓤 _) $ split ! $ move ! (1 ∷ []) $

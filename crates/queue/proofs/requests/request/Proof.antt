@@ -1,6 +1,6 @@
 -- A request by value.
 use denote.Ref.{now}
-use Rattle.board.specs.Queue.{requestOn}
+use Rattle.board.specs.Queue.{asking, requestOn}
 use Rattle.queue.proofs.Handing.{by-value}
 use borrow.Author.Needs.{needs}
 use Rattle.queue.proofs.requests.request.Statement.{statement}
@@ -18,5 +18,6 @@ request-spec =
     (λ c.
     let c6 = c .before .before .before .before .before .before in
     let args′ = c6 .before .before .before .before .before .before .before .args in
-    by-value (c .kept-or .result) (requestOn (args′ .blocks) (now (args′ .image)) (args′ .board) (now (args′ .reply)) (args′ .host) (now (args′ .message)))
+    by-value (c .kept-or .result)
+    (requestOn (asking (args′ .blocks) (now (args′ .image)) (args′ .board) (args′ .host) (now (args′ .message)) (now (args′ .reply))))
     (c .kept-or .ensures) (c .before .before .before .request-core .ensures .asked (args′ .board))))

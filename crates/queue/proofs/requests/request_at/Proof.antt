@@ -12,6 +12,7 @@ use Rattle.job.specs.Code.{placed}
 use Rattle.queue.proofs.Asking.{Passed, passed, state-is, shut}
 use Rattle.board.proofs.Images.{sized-of}
 use Rattle.board.specs.Record.{unmounted}
+use Rattle.board.specs.Queue.{asking}
 use Rattle.queue.proofs.Handing.{Looked, refused-all, not-served, served-says, served-asks, served-reply}
 use borrow.Author.Needs.{needs}
 use Rattle.queue.proofs.requests.request_at.Statement.{statement}
@@ -65,7 +66,7 @@ request-at-spec =
     let c8 = c .before .before .before .before .before .before .before .before in
     let check′ = c .before .before .before .before .check in
     let args′ = c8 .args in
-    λ b. refused-all (args′ .blocks) (now (args′ .image)) (placed (args′ .phase) (args′ .rest) b) _ _ _ _ _ _ _
+    λ b. refused-all (asking (args′ .blocks) (now (args′ .image)) (placed (args′ .phase) (args′ .rest) b) _ _ _) _ _ _ _
     (shut (args′ .blocks) (now (args′ .image)) (placed (args′ .phase) (args′ .rest) b) _ _ _ _ (sym (check′ .ensures) ∙ c .before .before .why .given .1))
     (c .refused .ensures))
     (λ c. search needs)
@@ -78,7 +79,7 @@ request-at-spec =
     (λ c.
     let c15 = c .before .before .before .before .before .before .before .before .before .before .before .before .before .before .before in
     let args′ = c15 .args in
-    λ b. refused-all (args′ .blocks) (now (args′ .image)) (placed (args′ .phase) (args′ .rest) b) _ _ _ _ _ _ _
+    λ b. refused-all (asking (args′ .blocks) (now (args′ .image)) (placed (args′ .phase) (args′ .rest) b) _ _ _) _ _ _ _
     (not-served (looked (c .before .before .before .before) b) _ _ (c .before .before .why2 .given .1)) (c .refused2 .ensures))
     (λ c. search needs)
     (λ c.
