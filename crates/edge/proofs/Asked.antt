@@ -9,7 +9,7 @@ use lib.Dec.{eqb, ltb, leb}
 use lib.ListN.{length, length-drop}
 use borrow.Author.Tests.{lt-ltb}
 use Rattle.flash.proofs.Cases.{on-test}
-use Rattle.frame.specs.Frame.{hostMax, Change, put, delete, Frame, change, commit, abort, settled, frameLen}
+use Rattle.frame.specs.Frame.{hostMax, Change, put, delete, Frame, change, commit, abort, frameLen}
 use Rattle.journal.specs.Replay.{lookup, isOpen}
 use Rattle.journal.specs.Block.{Journal, lastTime}
 use Rattle.journal.specs.Room.{noRoom}
@@ -68,11 +68,7 @@ reads-only m = by (parse m) refl
 
 -- every frame has bytes
 some-bytes : (f : Frame) → ltb 0 (frameLen f) ≡ true
-some-bytes (change h (put i v)) = lt-ltb 0 (frameLen (change h (put i v))) (omega arith)
-some-bytes (change h (delete i)) = refl
-some-bytes (commit h) = refl
-some-bytes (abort h) = refl
-some-bytes (settled i v) = lt-ltb 0 (frameLen (settled i v)) (omega arith)
+some-bytes f = lt-ltb 0 (frameLen f) (omega arith)
 
 module _ (a : Asking) (s : Sized (a .board)) where
   pub record Serves (o : Out) : Type 0 where

@@ -9,12 +9,12 @@ use lib.Seq.{drop-at, drop-drop, take-take, take-nil}
 use Rattle.frame.specs.declared.Head.{Head}
 use Rattle.frame.specs.declared.FrameRead.the-variants as read
 use Rattle.frame.specs.declared.Fault.{Fault}
-use Rattle.frame.specs.Frame.{Frame, change, commit, abort, settled, put, delete, valueMax, encode, frameLen, MayStand, nextAfter}
+use Rattle.frame.specs.Frame.{Frame, valueMax, encode, frameLen, MayStand, nextAfter}
 use Rattle.frame.specs.Reader.{Read, blank, whole, torn, wrong, readFrame, clean, cut, bad, push, ends, scan}
 use Rattle.frame.specs.Sentences.{Whole}
 use Rattle.frame.specs.Code.{headOf, valueOf, readOf, headLen, valueLen, valueStart}
 use Rattle.frame.proofs.First.{length-encode, whole-sound, read-blank, head-len, value-stands, scan-nil, scan-skip, scan-read-blank, scan-read-whole}
-use Rattle.frame.proofs.First.{scan-read-torn, scan-read-wrong}
+use Rattle.frame.proofs.First.{scan-read-torn, scan-read-wrong, value-end, value-small}
 
 -- ---- what the code read
 
@@ -105,20 +105,6 @@ drop-take (suc m) (suc e) (x ∷ l) = let z : suc e - suc m ≡ e - m = omega ar
 pub part-same : (m n e : ℕ) (b : List ℕ) → m + n ≤ e → take n (drop m (take e b)) ≡ take n (drop m b)
 part-same m n e b h = rw (drop-take m e b) (take-take n (e - m) (drop m b) (omega arith))
 
-value-end : (f : Frame) → valueStart (headOf f) + valueLen (headOf f) ≤ frameLen f
-value-end (change h (put i v)) = omega arith
-value-end (change h (delete i)) = omega arith
-value-end (commit h) = omega arith
-value-end (abort h) = omega arith
-value-end (settled i v) = omega arith
-
-value-small : (n : ℕ) (f : Frame) → MayStand n f → valueLen (headOf f) ≤ valueMax
-value-small n (change h (put i v)) (a, b, (c, d)) = c
-value-small n (change h (delete i)) g = omega arith
-value-small n (commit h) g = omega arith
-value-small n (abort h) g = omega arith
-value-small n (settled i v) (a, b, (c, d)) = c
-
 -- a frame at offset `at` of a block cut off at e
 module _ (next at o e : ℕ) (b : List ℕ) (f : Frame) (r : readFrame next o (drop at (take e b)) ≡ whole f) where
   room : at + frameLen f ≤ length (take e b)
@@ -127,13 +113,16 @@ module _ (next at o e : ℕ) (b : List ℕ) (f : Frame) (r : readFrame next o (d
   pub frame-inside : at + frameLen f ≤ min e (length b)
   frame-inside = omega (arith, room, length-take e b)
 
+  value-in-frame : valueStart (headOf f) + valueLen (headOf f) ≤ frameLen f
+  value-in-frame = omega (arith, value-end (headOf f), head-len f)
+
   pub value-there : take (valueLen (headOf f)) (drop (at + valueStart (headOf f)) b) ≡ valueOf f
   value-there =
       let n : ℕ = valueLen (headOf f) in
       let s : ℕ = valueStart (headOf f) in
-      sym (part-same (at + s) n e b (omega (arith, frame-inside, value-end f)))
+      sym (part-same (at + s) n e b (omega (arith, frame-inside, value-in-frame)))
       ∙ ap (take n) (sym (drop-drop s at (take e b)))
       ∙ value-stands next o (drop at (take e b)) f r
 
   pub value-inside : (at + valueStart (headOf f) + valueLen (headOf f) ≤ length b) × (valueLen (headOf f) ≤ valueMax)
-  value-inside = (omega (arith, frame-inside, value-end f), value-small next f (whole-stands next o (drop at (take e b)) f r))
+  value-inside = (omega (arith, frame-inside, value-in-frame), value-small next f (whole-stands next o (drop at (take e b)) f r))

@@ -3,7 +3,7 @@ use mathlib.Core.Path.{_≡_, sym, ap, ap₂, subst, _∙_}
 use mathlib.Core.List.{List}
 use mathlib.Core.Option.{none, some}
 use mathlib.Core.Bool.{true, false}
-use Prim.Native.Nat.{ℕ, _+_, _-_, _≤_}
+use Prim.Native.Nat.{ℕ, _+_}
 use native.Mathlib.Omega.{arith}
 use lib.ListN.{length, getD, drop}
 use lib.Seq.{drop-drop}
@@ -55,13 +55,6 @@ pub fetch-settled : (b places : List ℕ) (i v n s : ℕ) (x : Value) → valueA
 unfolding fetchedOf
 fetch-settled b places i v n s x e q r =
     ap₂ (λ (m o : ℕ). fetched.Frame (fetch (head.Settled (idOf i) m) o (i + 1) s)) (sym r) (sym (ap orStart e ∙ q))
-
-pub start-inside : (h : Head) → valueStart h ≤ headLen h
-start-inside (head.Put h i n) = omega arith
-start-inside (head.Delete h i) = omega arith
-start-inside (head.Commit h) = omega arith
-start-inside (head.Abort h) = omega arith
-start-inside (head.Settled i n) = omega arith
 
 module _ (since : List ℕ) (at : ℕ) (l : List ℕ) where
   abbrev here : List ℕ

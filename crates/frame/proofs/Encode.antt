@@ -60,6 +60,13 @@ stands-any e a b (commit h) u g = g
 stands-any e a b (abort h) u g = g
 stands-any e a b (settled i v) u g = absurd u
 
+-- what may stand somewhere may stand first
+pub stands-zero : (e : Edition) (n : ℕ) (f : Frame) → MayStandIn e n f → MayStandIn e 0 f
+stands-zero e n (change h c) g = stands-any e n 0 (change h c) tt g
+stands-zero e n (commit h) g = g
+stands-zero e n (abort h) g = g
+stands-zero e n (settled i v) (a, b, c) = (omega arith, b, c)
+
 -- ---- one frame
 
 -- a frame's length is one byte, and not 0xFF

@@ -8,11 +8,12 @@ use Rattle.flash.specs.Bytes.{Bytes, allFF}
 use mathlib.Core.Bool.{true}
 use Rattle.frame.specs.declared.Edition.the-variants as edition
 use Rattle.frame.specs.declared.Fault.{Fault}
-use Rattle.frame.specs.Frame.{Frame, change, commit, abort, settled, put, delete, finish, OfHost, nextAfter, nextOf}
+use Rattle.frame.specs.declared.Head.{Head}
+use Rattle.frame.specs.Frame.{Frame, change, commit, abort, settled, put, delete, valueMax, finish, OfHost, nextAfter, nextOf}
 use Rattle.frame.specs.Frame.{frameLen, encode, putLen, deleteLen, endLen, settledLen, maxFrame, MayStand, encodeAll, total, AllMayStand}
 use Rattle.frame.specs.Reader.{blank, whole, torn, wrong, readFrameIn, readFrame, Tail, clean, cut, bad, Scan, push, ends, scan}
 use Rattle.frame.specs.Sentences.{Whole, Torn, Blank, WrongAt}
-use Rattle.frame.specs.Code.{headOf, valueOf, headLen, valueLen, valueStart}
+use Rattle.frame.specs.Code.{headOf, valueOf, frameOf, headLen, valueLen, valueStart}
 use Rattle.frame.proofs.Encode as E
 use Rattle.frame.proofs.Exact as X
 use Rattle.frame.proofs.Faults as F
@@ -61,6 +62,9 @@ bytes-encode next f g = E.bytes-encode edition.First next f g
 
 pub stands-any : (a b : ℕ) (f : Frame) → OfHost f → MayStand a f → MayStand b f
 stands-any a b f u g = E.stands-any edition.First a b f u g
+
+pub stands-zero : (n : ℕ) (f : Frame) → MayStand n f → MayStand 0 f
+stands-zero n f g = E.stands-zero edition.First n f g
 
 pub length-all : (fs : List Frame) → length (encodeAll fs) ≡ total fs
 unfolding encodeAll total
@@ -125,6 +129,18 @@ wrong-at-reads next at t e by y = F.wrong-at-reads edition.First next at t e by 
 
 pub head-len : (f : Frame) → headLen (headOf f) ≡ frameLen f
 head-len f = H.head-len edition.First f
+
+pub len-of : (h : Head) (v : List ℕ) → length v ≡ valueLen h → headLen h ≡ frameLen (frameOf h v)
+len-of h v e = H.len-of edition.First h v e
+
+pub head-short : (h : Head) → valueLen h ≤ valueMax → headLen h ≤ maxFrame
+head-short h l = H.head-short edition.First h l
+
+pub value-end : (h : Head) → valueStart h + valueLen h ≤ headLen h
+value-end h = H.value-end edition.First h
+
+pub value-small : (next : ℕ) (f : Frame) → MayStand next f → valueLen (headOf f) ≤ valueMax
+value-small next f g = H.value-small edition.First next f g
 
 pub value-stands : (next at : ℕ) (t : List ℕ) (f : Frame) → readFrame next at t ≡ whole f
     → take (valueLen (headOf f)) (drop (valueStart (headOf f)) t) ≡ valueOf f

@@ -1,11 +1,14 @@
--- Heads: a frame is its head and its value, and where in its bytes the value stands.
+-- Heads and values: a frame is its head and its value, where in its bytes the value stands, and another value in its place.
 use mathlib.Core.Path.{_≡_, refl}
 use mathlib.Core.List.{List, [], _∷_, _++_}
-use Prim.Native.Nat.{ℕ}
+use Prim.Native.Nat.{ℕ, _+_, _≤_}
 use native.Mathlib.Omega.{arith}
 use lib.ListN.{length, take, drop}
 use Rattle.frame.specs.declared.Edition.{Edition}
+use Rattle.frame.specs.declared.Head.{Head}
+use Rattle.frame.specs.declared.Head.the-variants as head
 use Rattle.frame.specs.Frame.{Frame, change, commit, abort, settled, put, delete, check, finish, front, encodeIn, frameLenIn}
+use Rattle.frame.specs.Frame.{FrameOf, mapFrame, valueMax, maxFrameIn, MayStandIn}
 use Rattle.frame.specs.Reader.{whole, readFrameIn}
 use Rattle.frame.specs.Sentences.{WholeIn}
 use Rattle.frame.specs.Code.{headOf, valueOf, frameOf, headLenIn, valueLen, valueStart}
@@ -33,6 +36,36 @@ value-len (commit h) = refl
 value-len (abort h) = refl
 value-len (settled i v) = refl
 
+-- a head by itself
+pub len-of : (e : Edition) (h : Head) (v : List ℕ) → length v ≡ valueLen h → headLenIn e h ≡ frameLenIn e (frameOf h v)
+len-of e (head.Put g i n) v q = omega arith
+len-of e (head.Delete g i) v q = omega arith
+len-of e (head.Commit g) v q = omega arith
+len-of e (head.Abort g) v q = omega arith
+len-of e (head.Settled i n) v q = omega arith
+
+pub head-short : (e : Edition) (h : Head) → valueLen h ≤ valueMax → headLenIn e h ≤ maxFrameIn e
+head-short e (head.Put g i n) l = omega arith
+head-short e (head.Delete g i) l = omega arith
+head-short e (head.Commit g) l = omega arith
+head-short e (head.Abort g) l = omega arith
+head-short e (head.Settled i n) l = omega arith
+
+pub value-end : (e : Edition) (h : Head) → valueStart h + valueLen h ≤ headLenIn e h
+value-end e (head.Put g i n) = omega arith
+value-end e (head.Delete g i) = omega arith
+value-end e (head.Commit g) = omega arith
+value-end e (head.Abort g) = omega arith
+value-end e (head.Settled i n) = omega arith
+
+-- the value of a frame that may stand
+pub value-small : (e : Edition) (next : ℕ) (f : Frame) → MayStandIn e next f → valueLen (headOf f) ≤ valueMax
+value-small e next (change h (put i v)) (a, b, (c, d)) = c
+value-small e next (change h (delete i)) g = omega arith
+value-small e next (commit h) g = omega arith
+value-small e next (abort h) g = omega arith
+value-small e next (settled i v) (a, b, (c, d)) = c
+
 value-in : (e : Edition) (f : Frame) (rest : List ℕ) → take (length (valueOf f)) (drop (valueStart (headOf f)) (encodeIn e f ++ rest)) ≡ valueOf f
 value-in e (change h (put i v)) rest = value-back v (check e (front e (change h (put i v))) ++ (finish ∷ [])) rest (length v) refl
 value-in e (change h (delete i)) rest = refl
@@ -46,3 +79,19 @@ pub value-stands : (e : Edition) (next at : ℕ) (t : List ℕ) (f : Frame) → 
 value-stands e next at t f q =
     let w : WholeIn e next t f = whole-sound e next at t f q in
     rw (value-len f, w .bytes) (value-in e f (w .rest))
+
+-- ---- another value
+
+pub map-twice : {A B C : Type 0} (g : B → C) (f : A → B) (x : FrameOf A) → mapFrame g (mapFrame f x) ≡ mapFrame (λ v. g (f v)) x
+map-twice g f (change h (put i v)) = refl
+map-twice g f (change h (delete i)) = refl
+map-twice g f (commit h) = refl
+map-twice g f (abort h) = refl
+map-twice g f (settled i v) = refl
+
+pub map-plain : {A : Type 0} (x : FrameOf A) → mapFrame (λ v. v) x ≡ x
+map-plain (change h (put i v)) = refl
+map-plain (change h (delete i)) = refl
+map-plain (commit h) = refl
+map-plain (abort h) = refl
+map-plain (settled i v) = refl

@@ -1,15 +1,14 @@
 -- The next frame to copy: where it lies, its bytes in the buffer, and the record that has it.
 use mathlib.Core.Path.{_≡_, refl, sym, ap, ap₂, _∙_}
 use mathlib.Core.List.{List}
-use Prim.Native.Nat.{ℕ, _+_, _-_, _≤_, _<_}
+use Prim.Native.Nat.{ℕ, _+_, _-_, _≤_}
 use native.Mathlib.Omega.{arith}
 use lib.ListN.{length, take, drop, length-take, length-drop}
 use lib.Seq.{take-all}
 use Rattle.flash.specs.Flash.{block, sizeOf}
-use Rattle.frame.specs.declared.Head.{Head}
-use Rattle.frame.specs.declared.Head.the-variants as head
-use Rattle.frame.specs.Frame.{valueMax, frameLen, encode, buffer}
+use Rattle.frame.specs.Frame.{valueMax, encode, buffer}
 use Rattle.frame.specs.Code.{frameOf, headLen, valueLen}
+use Rattle.frame.proofs.First.{len-of}
 use Rattle.fetch.specs.declared.Fetch.{Fetch}
 use Rattle.fetch.specs.declared.Fetched.{Fetched}
 use Rattle.fetch.specs.declared.Fetched.the-variants as fetched
@@ -24,20 +23,6 @@ use Rattle.job.specs.declared.records.Numbers.{Numbers}
 use Rattle.job.specs.Code.{assemble, staged, going, LeadsTo}
 
 -- ---- a frame by its head
-
-pub head-short : (h : Head) → valueLen h ≤ valueMax → headLen h < 256
-head-short (head.Put g i n) v = omega arith
-head-short (head.Delete g i) v = omega arith
-head-short (head.Commit g) v = omega arith
-head-short (head.Abort g) v = omega arith
-head-short (head.Settled i n) v = omega arith
-
-frame-len : (h : Head) (v : List ℕ) → length v ≡ valueLen h → headLen h ≡ frameLen (frameOf h v)
-frame-len (head.Put g i n) v e = omega arith
-frame-len (head.Delete g i) v e = refl
-frame-len (head.Commit g) v e = refl
-frame-len (head.Abort g) v e = refl
-frame-len (head.Settled i n) v e = omega arith
 
 pub load-leaves : (b : List ℕ) (x : Fetch) (n : Numbers) → x .value + valueLen (x .head) ≤ length b → valueLen (x .head) ≤ valueMax →
     (e z : ℕ) (bytes : List ℕ)
@@ -55,7 +40,7 @@ load-leaves b x n fits small e z bytes end made size p u f =
       answers = refl;
       goes = λ e. refl;
       gives = ap₂ (λ (i : ℕ) (y : List ℕ). assemble (staged Copy (cursor 0 (n .cursor .at) (x .id) (x .source) i 0) n) p y f)
-          (size ∙ frame-len (x .head) v l) w;
+          (size ∙ len-of (x .head) v l) w;
     }
 
 -- ---- what was found is what the record has next

@@ -13,13 +13,13 @@ use Rattle.flash.proofs.Cases.{on-test}
 use Rattle.frame.specs.declared.Host.{Host}
 use Rattle.frame.specs.Frame.{hostMax, idOf, Change, put, delete, Frame, change, commit, abort, settled, encode, encodeAll, frameLen, total}
 use Rattle.frame.specs.Frame.{MayStand, AllMayStand, nextAfter, nextOf}
-use Rattle.frame.proofs.First.{length-encode, length-all, read-back}
+use Rattle.frame.proofs.First.{length-encode, length-all, read-back, stands-zero}
 use Rattle.journal.specs.Block.{headerLen}
 use Rattle.journal.specs.Replay.{Object, Entry, entry, lookup, replay, settledFrame, pendingFrame, framesOf, settledOnly}
 use Rattle.journal.specs.Index.{placesOf, sinceOf, Value, valueAt, Load, load, nextSettled, isPending, nextPending, orElse, nextLoad}
 use Rattle.journal.proofs.Lookups.{lookup-yes, lookup-no}
 use Rattle.journal.proofs.Replaying.{Rising, below-none, rising-from, rising-to, Sound, sound-replay}
-use Rattle.journal.proofs.Places.{Standing, stands-zero, bytesOf, place-value}
+use Rattle.journal.proofs.Places.{Standing, bytesOf, place-value}
 use Rattle.journal.proofs.Pending.{entriesOf, changeAt, bytesThere, change-plain, sinceIn, change-yes, change-no, pending-since, since-at}
 
 -- from a cursor on exactly these frames are left to copy

@@ -10,9 +10,11 @@ use Rattle.flash.proofs.Cases.{on-test, on-order}
 use Rattle.frame.specs.declared.Host.{Host}
 use Rattle.frame.specs.declared.ObjectId.{ObjectId}
 use Rattle.frame.specs.Frame.{idOf, ChangeOf, put, delete, FrameOf, Frame, change, commit, abort, settled, mapChange, mapFrame, frameLen, total}
+use Rattle.frame.proofs.Heads.{map-twice, map-plain}
 use Rattle.journal.specs.Replay.{ObjectOf, object, EntryOf, entry, StateOf, state, insert, remove, lookup, change1, changeAll, listOf}
 use Rattle.journal.specs.Replay.{without, nextState, replayFrom, replay}
 use Rattle.journal.specs.Index.{sited}
+use Rattle.journal.specs.Laws.{Holder, putBy, settledAs, holding}
 use Rattle.journal.proofs.Lookups.{insert-lt, insert-eq, insert-gt}
 
 map-snoc : {A B : Type 0} (f : A → B) (l : List A) (a : A) → map f l ++ (f a ∷ []) ≡ map f (l ++ (a ∷ []))
@@ -193,21 +195,16 @@ module _ {A : Type 0} (P : ObjectId → A → Type 0) where
       subst (P i) r (subst (λ (j : ObjectId). P j (o .value)) s p))
       (λ t. let q : lookup i os ≡ some w = rw (t, lookup) at e in all-lookup i os w a q)
 
+-- of one frame, by what holds its value: all other kinds hold none
+pub by-holder : {A : Type 0} (H : Frame → Type 0) (P : Frame → ObjectId → A → Type 0) (val : List ℕ → A)
+    → ((x : Holder) (i : ObjectId) (v : List ℕ) → H (holding x i v) → P (holding x i v) i (val v)) → (f : Frame) → H f → OfFrame (P f) (mapFrame val f)
+by-holder H P val y (change h (put i v)) k = y (putBy h) i v k
+by-holder H P val y (change h (delete i)) k = tt
+by-holder H P val y (commit h) k = tt
+by-holder H P val y (abort h) k = tt
+by-holder H P val y (settled i v) k = y settledAs i v k
+
 -- ---- frames whose values are made of their offset and bytes
-
-map-twice : {A B C : Type 0} (g : B → C) (f : A → B) (x : FrameOf A) → mapFrame g (mapFrame f x) ≡ mapFrame (λ v. g (f v)) x
-map-twice g f (change h (put i v)) = refl
-map-twice g f (change h (delete i)) = refl
-map-twice g f (commit h) = refl
-map-twice g f (abort h) = refl
-map-twice g f (settled i v) = refl
-
-pub map-plain : {A : Type 0} (x : FrameOf A) → mapFrame (λ v. v) x ≡ x
-map-plain (change h (put i v)) = refl
-map-plain (change h (delete i)) = refl
-map-plain (commit h) = refl
-map-plain (abort h) = refl
-map-plain (settled i v) = refl
 
 unfoldable pub located : {A : Type 0} → (ℕ → List ℕ → A) → ℕ → List Frame → List (FrameOf A)
 located val o [] = []

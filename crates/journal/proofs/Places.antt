@@ -9,15 +9,16 @@ use lib.ListN.{length, getD, take, drop, length-append}
 use lib.Seq.{drop-append-add, take-at, drop-at}
 use borrow.Author.Tests.{eq-eqb, ne-eqb}
 use Rattle.frame.specs.declared.ObjectId.{ObjectId}
-use Rattle.frame.specs.Frame.{idMax, idOf, put, delete, FrameOf, Frame, change, commit, abort, settled, mapFrame, encode, encodeAll}
+use Rattle.frame.specs.Frame.{idMax, idOf, put, FrameOf, Frame, change, settled, mapFrame, encode, encodeAll}
 use Rattle.frame.specs.Frame.{frameLen, MayStand, AllMayStand, nextAfter}
 use Rattle.frame.specs.Reader.{whole, readFrame}
-use Rattle.frame.proofs.First.{length-encode, stands-any, read-back}
+use Rattle.frame.proofs.First.{length-encode, stands-zero, read-back}
 use Rattle.journal.specs.Block.{headerLen}
 use Rattle.journal.specs.Replay.{ObjectOf, StateOf, lookup, replay}
+use Rattle.journal.specs.Laws.{Holder, putBy, settledAs, holding}
 use Rattle.journal.specs.Index.{sited, orZero, placesFrom, placesOf, Value, onlyIf, frameValue, valueAt}
 use Rattle.journal.proofs.Mapping.{located, located-sited, located-plain, located-map, map-lookup, map-replay, OfFrame, AllFrames}
-use Rattle.journal.proofs.Mapping.{all-replay, all-lookup}
+use Rattle.journal.proofs.Mapping.{by-holder, all-replay, all-lookup}
 
 -- a value and the offset of its frame
 pub record Spot : Type 0 where
@@ -58,12 +59,6 @@ slice pre front v back o n l k =
 slice-in : (pre front v back : List ℕ) (o n : ℕ) → length pre ≡ o → length front ≡ n → o + n + length v ≤ length (pre ++ (front ++ (v ++ back)))
 slice-in pre front v back o n l k = simp length-append (omega arith)
 
-pub stands-zero : (n : ℕ) (f : Frame) → MayStand n f → MayStand 0 f
-stands-zero n (change h c) g = stands-any n 0 (change h c) tt g
-stands-zero n (commit h) g = g
-stands-zero n (abort h) g = g
-stands-zero n (settled i v) (a, b, c) = (omega arith, b, c)
-
 -- a frame whose value v stands n bytes in
 value-placed : (pre front v back rest : List ℕ) (i : ObjectId) (o n m : ℕ) (f : Frame) → length pre ≡ o → length front ≡ n → headerLen ≤ o → MayStand m f
     → encode f ++ rest ≡ front ++ (v ++ back) → 1 ≤ n → frameValue i o f ≡ some (record { at = o + n; bytes = v })
@@ -84,15 +79,12 @@ value-placed pre front v back rest i o n m f l k h g e s q =
 abbrev SpotStands : List ℕ → ObjectId → Spot → Type 0
 SpotStands b i x = ValueStands b i (x .place) (x .bytes)
 
-spot-stands : (pre rest : List ℕ) (o m : ℕ) (f : Frame) → length pre ≡ o → headerLen ≤ o → MayStand m f
-    → OfFrame (SpotStands (pre ++ (encode f ++ rest))) (mapFrame (spot o) f)
-spot-stands pre rest o m (change h (put i v)) l k g =
+spot-stands : (pre rest : List ℕ) (o m : ℕ) → length pre ≡ o → headerLen ≤ o → (x : Holder) (i : ObjectId) (v : List ℕ) → MayStand m (holding x i v)
+    → SpotStands (pre ++ (encode (holding x i v) ++ rest)) i (spot o v)
+spot-stands pre rest o m l k (putBy h) i v g =
     value-placed pre (take 7 (encode (change h (put i v)))) v (254 ∷ rest) rest i o 7 m (change h (put i v)) l refl k g (simp append-assoc)
     (omega arith) (own i _)
-spot-stands pre rest o m (change h (delete i)) l k g = tt
-spot-stands pre rest o m (commit h) l k g = tt
-spot-stands pre rest o m (abort h) l k g = tt
-spot-stands pre rest o m (settled i v) l k g =
+spot-stands pre rest o m l k settledAs i v g =
     value-placed pre (take 6 (encode (settled i v))) v (254 ∷ rest) rest i o 6 m (settled i v) l refl k g (simp append-assoc) (omega arith) (own i _)
 
 spots-hold : (b pre : List ℕ) (o m : ℕ) (fs : List Frame) (rest : List ℕ) → length pre ≡ o → headerLen ≤ o → AllMayStand m fs
@@ -102,7 +94,9 @@ unfolding located encodeAll
 spots-hold b pre o m [] rest l k g e = tt
 spots-hold b pre o m (f ∷ fs) rest l k (g, gs) e =
     let e′ : b ≡ pre ++ (encode f ++ (encodeAll fs ++ rest)) = e ∙ ap (λ (x : List ℕ). pre ++ x) (append-assoc (encode f) (encodeAll fs) rest) in (
-      subst (λ (x : List ℕ). OfFrame (SpotStands x) (mapFrame (spot o) f)) (sym e′) (spot-stands pre (encodeAll fs ++ rest) o m f l k g),
+      subst (λ (x : List ℕ). OfFrame (SpotStands x) (mapFrame (spot o) f)) (sym e′)
+          (by-holder (MayStand m) (λ y. SpotStands (pre ++ (encode y ++ (encodeAll fs ++ rest)))) (spot o)
+          (spot-stands pre (encodeAll fs ++ rest) o m l k) f g),
       spots-hold b (pre ++ encode f) (o + frameLen f) (nextAfter f) fs rest (length-append pre (encode f) ∙ omega (arith, length-encode f)) (omega arith) gs
           (e′ ∙ sym (append-assoc pre (encode f) (encodeAll fs ++ rest))),
     )

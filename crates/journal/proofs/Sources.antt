@@ -11,17 +11,18 @@ use lib.Seq.{drop-at}
 use borrow.Author.Tests.{eq-eqb, ne-eqb, eqb-true}
 use Rattle.flash.proofs.Cases.{on-test}
 use Rattle.frame.specs.declared.ObjectId.{ObjectId}
-use Rattle.frame.specs.Frame.{put, delete, Frame, change, commit, abort, settled, mapFrame, encode, encodeAll, frameLen, total, MayStand}
+use Rattle.frame.specs.Frame.{Frame, mapFrame, encode, encodeAll, frameLen, total, MayStand}
 use Rattle.frame.specs.Frame.{AllMayStand, nextAfter}
 use Rattle.frame.specs.Reader.{whole, readFrame}
-use Rattle.frame.proofs.First.{length-all, total-snoc, encode-append, read-back}
+use Rattle.frame.proofs.First.{length-all, total-snoc, encode-append, read-back, stands-zero}
 use Rattle.journal.specs.Block.{headerLen, Journal, header, validData}
+use Rattle.frame.proofs.Heads.{map-plain}
 use Rattle.journal.specs.Replay.{lookup, replay}
 use Rattle.journal.specs.Index.{orZero, placesOf, valueAt}
 use Rattle.journal.specs.Sentences.{ValidBlock}
 use Rattle.journal.specs.Laws.{Holder, putBy, settledAs, holding, front, objectsAfter, TakenFrom, PlaceExact}
-use Rattle.journal.proofs.Mapping.{map-plain, located, OfFrame, AllFrames, all-replay, all-lookup}
-use Rattle.journal.proofs.Places.{Spot, spot, spots, spots-lookup, sited-lookup, bytes-lookup, stands-zero, place-at, no-place, value-zero}
+use Rattle.journal.proofs.Mapping.{by-holder, located, OfFrame, AllFrames, all-replay, all-lookup}
+use Rattle.journal.proofs.Places.{Spot, spot, spots, spots-lookup, sited-lookup, bytes-lookup, place-at, no-place, value-zero}
 
 -- ---- the frame at a place
 
@@ -37,11 +38,9 @@ SplitAt fs i x = Split fs i (x .place) (x .bytes)
 
 split-one : (fs xs ys : List Frame) (f : Frame) (o : ℕ) → fs ≡ xs ++ (f ∷ ys) → o ≡ headerLen + total xs
     → OfFrame (SplitAt fs) (mapFrame (spot o) f)
-split-one fs xs ys (change h (put i v)) o e q = record { before = xs; holder = putBy h; after = ys; stands = e; place = q }
-split-one fs xs ys (change h (delete i)) o e q = tt
-split-one fs xs ys (commit h) o e q = tt
-split-one fs xs ys (abort h) o e q = tt
-split-one fs xs ys (settled i v) o e q = record { before = xs; holder = settledAs; after = ys; stands = e; place = q }
+split-one fs xs ys f o e q =
+    by-holder (λ g. fs ≡ xs ++ (g ∷ ys)) (λ g. SplitAt fs) (spot o)
+    (λ x i v k. record { before = xs; holder = x; after = ys; stands = k; place = q }) f e
 
 split-all : (fs xs ys : List Frame) (o : ℕ) → fs ≡ xs ++ ys → o ≡ headerLen + total xs
     → AllFrames (SplitAt fs) (spots o ys)

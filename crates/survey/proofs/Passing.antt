@@ -13,7 +13,7 @@ use Rattle.frame.specs.Frame.{hostMax, put, delete, Frame, change, commit, abor
 use Rattle.frame.specs.Frame.{AllMayStand, nextAfter, nextOf}
 use Rattle.frame.specs.Reader.{whole, readFrame, clean, Scan, push, scan}
 use Rattle.frame.specs.Code.{headOf}
-use Rattle.frame.proofs.First.{length-all, encode-append, encode-snoc, total-snoc, stands-append, scan-nil, scan-with}
+use Rattle.frame.proofs.First.{length-all, encode-append, encode-snoc, total-snoc, stands-append, stands-zero, scan-nil, scan-with}
 use Rattle.frame.proofs.Encode.{next-append}
 use Rattle.frame.proofs.Scanning.{pushAll}
 use Rattle.survey.specs.declared.Progress.{Progress}
@@ -23,7 +23,6 @@ use Rattle.journal.specs.Index.{placesOf, isEnd, pick, sinceHost, sinceOf}
 use Rattle.survey.specs.Survey.{pendingBytes, pendingOf}
 use Rattle.survey.specs.Pass.{commitPlaces, recommit, progress, progressOf, grown, closed, passed, tookFrame, tookPlaces}
 use Rattle.journal.proofs.Replaying.{replay-snoc}
-use Rattle.journal.proofs.Places.{stands-zero}
 use Rattle.journal.proofs.Pending.{since-snoc, since-at}
 use Rattle.survey.proofs.Indexing.{places-change, places-abort, places-commit, places-settled, Boundary, boundary, commit-from}
 use Rattle.survey.proofs.PerHost.{per-set, per-same, per-at, bytes-own, bytes-other, bytes-ended, bytes-kept}

@@ -1,5 +1,5 @@
 -- The next pending frame: from where the loop stands it is the same as from the source on.
-use Rattle.fetch.proofs.HeadLaws.{start-inside}
+use Rattle.frame.proofs.First.{value-end}
 use mathlib.Core.Path.{_≡_, refl, sym, ap, _∙_}
 use native.Mathlib.Omega.{arith}
 use Prim.Native.Nat.{_-_}
@@ -19,18 +19,12 @@ Inv-loop part since source at₀ at = nextPending since at 0 (drop at part) ≡ 
 abbrev μ-loop : tie.MeasureT-loop
 μ-loop part since source at₀ at = length part - at
 
-pub next-pending-spec : {M : Type 1} → statement M
+loop-holds : tie.Need-loop-holds Inv-loop μ-loop
 unfolding fetchedOf
-next-pending-spec =
-    tie.close
-    (tie.spec
-    Inv-loop
-    μ-loop
-    (λ c. refl)
-    (λ c κs. search needs)
-    (λ c. search needs)
-    (λ c κs. search needs)
-    (λ c.
+loop-holds c = refl
+
+add-next : tie.Need-add-next Inv-loop μ-loop
+add-next c =
     let read-frame′ = c .before .before .before .before .read-frame in
     let loop′ = c .before .before .before .before .before .loop in
     let args′ = c .before .before .before .before .before .before .before .args in
@@ -41,10 +35,10 @@ next-pending-spec =
           (sym (read-frame′ .ensures) ∙ c .before .before .head .given .1),
       c .frame-len .ensures,
       pre′,
-    ))
-    (λ c κs. search needs)
-    (λ c κs. search needs)
-    (λ c.
+    )
+
+add-t11 : tie.Need-add-t11 Inv-loop μ-loop
+add-t11 c =
     let head′ = c .before .before .before .before .before .head in
     let read-frame′ = c .before .before .before .before .before .before .before .read-frame in
     let loop′ = c .before .before .before .before .before .before .before .before .loop in
@@ -55,10 +49,12 @@ next-pending-spec =
       read-inside 0 (loop′ .at) (now (args′ .part)) _
           (sym (read-frame′ .ensures) ∙ head′ .given .1),
       c .value-offset .ensures,
-      start-inside (head′ .given .0 .0),
+      value-end (head′ .given .0 .0),
       pre′,
-    ))
-    (λ c.
+    )
+
+cast-t12 : tie.Need-cast-t12 Inv-loop μ-loop
+cast-t12 c =
     let head′ = c .before .before .before .before .before .head in
     let read-frame′ = c .before .before .before .before .before .before .before .read-frame in
     let loop′ = c .before .before .before .before .before .before .before .before .loop in
@@ -70,43 +66,63 @@ next-pending-spec =
           (sym (read-frame′ .ensures) ∙ head′ .given .1),
       c .before .before .before .frame-len .ensures,
       pre′,
-    ))
-    (λ c.
+    )
+
+returns : tie.Need-returns Inv-loop μ-loop
+unfolding fetchedOf
+returns c =
     let head′ = c .before .before .before .before .before .head in
     let read-frame′ = c .before .before .before .before .before .before .before .read-frame in
     let loop′ = c .before .before .before .before .before .before .before .before .loop in
     let args′ = c .before .before .before .before .before .before .before .before .before .before .args in
     λ b places. rw (c .value-offset .ensures, c .before .before .before .frame-len .ensures)
     (fetch-pending (args′ .since) (loop′ .at) (now (args′ .part)) _ (sym (read-frame′ .ensures) ∙ head′ .given .1)
-    (sym (c .before .before .is-pending .ensures) ∙ c .before .if1 .taken) b places ∙ ap (fetchedOf b places) (loop′ .inv)))
-    (λ c.
+    (sym (c .before .before .is-pending .ensures) ∙ c .before .if1 .taken) b places ∙ ap (fetchedOf b places) (loop′ .inv))
+
+loop-less : tie.Need-loop-less Inv-loop μ-loop
+unfolding fetchedOf
+loop-less c =
     let head′ = c .before .before .before .before .head in
     let read-frame′ = c .before .before .before .before .before .before .read-frame in
     let loop′ = c .before .before .before .before .before .before .before .loop in
     let args′ = c .before .before .before .before .before .before .before .before .before .args in
-    omega (arith, read-inside 0 (loop′ .at) (now (args′ .part)) _ (sym (read-frame′ .ensures) ∙ head′ .given .1), c .before .before .frame-len .ensures))
-    (λ c.
+    omega (arith, read-inside 0 (loop′ .at) (now (args′ .part)) _ (sym (read-frame′ .ensures) ∙ head′ .given .1), c .before .before .frame-len .ensures)
+
+loop-again : tie.Need-loop-again Inv-loop μ-loop
+unfolding fetchedOf
+loop-again c =
     let head′ = c .before .before .before .before .head in
     let read-frame′ = c .before .before .before .before .before .before .read-frame in
     let loop′ = c .before .before .before .before .before .before .before .loop in
     let args′ = c .before .before .before .before .before .before .before .before .before .args in
     rw (c .before .before .frame-len .ensures) (sym (skip-pending (args′ .since) (loop′ .at) (now (args′ .part)) _
-    (sym (read-frame′ .ensures) ∙ head′ .given .1) (sym (c .before .is-pending .ensures) ∙ c .if1 .left)) ∙ loop′ .inv))
-    (λ c. search needs)
-    (λ c.
+    (sym (read-frame′ .ensures) ∙ head′ .given .1) (sym (c .before .is-pending .ensures) ∙ c .if1 .left)) ∙ loop′ .inv)
+
+returns-2 : tie.Need-returns-2 Inv-loop μ-loop
+unfolding fetchedOf
+returns-2 c =
     let loop′ = c .before .before .before .loop in
     let args′ = c .before .before .before .before .before .args in
     λ b places. ap (fetchedOf b places) (sym (no-blank (args′ .since) (loop′ .at) (now (args′ .part))
-    (sym (c .before .before .read-frame .ensures) ∙ c .enum-told .given .1)) ∙ loop′ .inv))
-    (λ c. search needs)
-    (λ c.
+    (sym (c .before .before .read-frame .ensures) ∙ c .enum-told .given .1)) ∙ loop′ .inv)
+
+returns-3 : tie.Need-returns-3 Inv-loop μ-loop
+unfolding fetchedOf
+returns-3 c =
     let loop′ = c .before .before .before .loop in
     let args′ = c .before .before .before .before .before .args in
     λ b places. ap (fetchedOf b places) (sym (no-torn (args′ .since) (loop′ .at) (now (args′ .part)) _
-    (sym (c .before .before .read-frame .ensures) ∙ c .enum-told2 .given .1)) ∙ loop′ .inv))
-    (λ c. search needs)
-    (λ c.
+    (sym (c .before .before .read-frame .ensures) ∙ c .enum-told2 .given .1)) ∙ loop′ .inv)
+
+returns-4 : tie.Need-returns-4 Inv-loop μ-loop
+unfolding fetchedOf
+returns-4 c =
     let loop′ = c .before .before .before .loop in
     let args′ = c .before .before .before .before .before .args in
     λ b places. ap (fetchedOf b places) (sym (no-wrong (args′ .since) (loop′ .at) (now (args′ .part)) _
-    (sym (c .before .before .read-frame .ensures) ∙ c .enum-told3 .given .1)) ∙ loop′ .inv)))
+    (sym (c .before .before .read-frame .ensures) ∙ c .enum-told3 .given .1)) ∙ loop′ .inv)
+
+pub next-pending-spec : {M : Type 1} → statement M
+next-pending-spec = tie.close (tie.spec
+    Inv-loop μ-loop loop-holds (λ c κs. search needs) (λ c. search needs) (λ c κs. search needs) add-next (λ c κs. search needs) (λ c κs. search needs) add-t11
+    cast-t12 returns loop-less loop-again (λ c. search needs) returns-2 (λ c. search needs) returns-3 (λ c. search needs) returns-4)

@@ -5,18 +5,13 @@ use Rattle.flash.proofs.Stretches.{block-part}
 use Rattle.flash.proofs.block_of.Statement.{statement}
 use Rattle.flash.proofs.block_of.Tie as tie
 
-pub block-of-spec : {M : Type 1} → statement M
-block-of-spec =
-    tie.close
-    (tie.spec
-    (λ c κs. search needs)
-    (λ c κs. search needs)
-    (λ c. search needs)
-    (λ c. search needs)
-    (λ c. search needs)
-    (λ c.
+returns : tie.Need-returns
+returns c =
     let reach′ = c .before .reach in
     let start-of′ = c .before .before .start-of in
     let args′ = c .before .before .before .before .args in
     let img = now (args′ .image) in block-part (args′ .size) (args′ .number) (start-of′ .result) (reach′ .result) img (start-of′ .ensures)
-    (reach′ .ensures)))
+    (reach′ .ensures)
+
+pub block-of-spec : {M : Type 1} → statement M
+block-of-spec = tie.close (tie.spec (λ c κs. search needs) (λ c κs. search needs) (λ c. search needs) (λ c. search needs) (λ c. search needs) returns)

@@ -7,18 +7,8 @@ use borrow.Author.Needs.{needs}
 use Rattle.flash.proofs.erase_block.Statement.{statement}
 use Rattle.flash.proofs.erase_block.Tie as tie
 
-pub erase-block-spec : {M : Type 1} → statement M
-erase-block-spec =
-    tie.close
-    (tie.spec
-    (λ c κs. search needs)
-    (λ c κs. search needs)
-    (λ c. search needs)
-    (λ c. search needs)
-    (λ c. search needs)
-    (λ c κs. search needs)
-    (λ c. search needs)
-    (λ c.
+returns : tie.Need-returns
+returns c =
     let reach′ = c .before .before .before .before .reach in
     let start-of′ = c .before .before .before .before .before .start-of in
     let args′ = c .before .before .before .before .before .before .before .args in
@@ -27,4 +17,9 @@ erase-block-spec =
       mid-len a e img (omega (arith, start-of′ .ensures, reach′ .ensures)),
       post-is a e img
           (omega (arith, reach′ .ensures)),
-    ) (erase-part (args′ .size) (args′ .number) a e img (start-of′ .ensures) (reach′ .ensures))))
+    ) (erase-part (args′ .size) (args′ .number) a e img (start-of′ .ensures) (reach′ .ensures))
+
+pub erase-block-spec : {M : Type 1} → statement M
+erase-block-spec = tie.close (tie.spec
+    (λ c κs. search needs) (λ c κs. search needs) (λ c. search needs) (λ c. search needs) (λ c. search needs) (λ c κs. search needs) (λ c. search needs)
+    returns)

@@ -15,20 +15,30 @@ Inv-loop s from i₀ i = allFF (drop i s) ≡ allFF (drop from s)
 abbrev μ-loop : tie.MeasureT-loop
 μ-loop s from i₀ i = length s - i
 
+loop-holds : tie.Need-loop-holds Inv-loop μ-loop
+loop-holds c = refl
+
+shared-slice-read-if1 : tie.Need-shared-slice-read-if1 Inv-loop μ-loop
+shared-slice-read-if1 c = omega arith
+
+returns : tie.Need-returns Inv-loop μ-loop
+returns c =
+    let loop′ = c .before .before .before .loop in
+    sym (allFF-stop (now (c .before .before .before .before .args .s)) (loop′ .i) (c .before .before .loop-test .taken) (c .if1 .taken)) ∙ loop′ .inv
+
+add-i : tie.Need-add-i Inv-loop μ-loop
+add-i c = omega arith
+
+loop-less : tie.Need-loop-less Inv-loop μ-loop
+loop-less c = omega arith
+
+loop-again : tie.Need-loop-again Inv-loop μ-loop
+loop-again c =
+    let loop′ = c .before .before .before .loop in
+    sym (allFF-on (now (c .before .before .before .before .args .s)) (loop′ .i) (c .before .before .loop-test .taken) (c .if1 .left)) ∙ loop′ .inv
+
+returns-2 : tie.Need-returns-2 Inv-loop μ-loop
+returns-2 c = sym (allFF-end (now (c .before .before .args .s)) (c .before .loop .i) (c .loop-test .left)) ∙ c .before .loop .inv
+
 pub rest-blank-spec : {M : Type 1} → statement M
-rest-blank-spec =
-    tie.close
-    (tie.spec
-    Inv-loop
-    μ-loop
-    (λ c. refl)
-    (λ c. omega arith)
-    (λ c.
-    let loop′ = c .before .before .before .loop in
-    sym (allFF-stop (now (c .before .before .before .before .args .s)) (loop′ .i) (c .before .before .loop-test .taken) (c .if1 .taken)) ∙ loop′ .inv)
-    (λ c. omega arith)
-    (λ c. omega arith)
-    (λ c.
-    let loop′ = c .before .before .before .loop in
-    sym (allFF-on (now (c .before .before .before .before .args .s)) (loop′ .i) (c .before .before .loop-test .taken) (c .if1 .left)) ∙ loop′ .inv)
-    (λ c. sym (allFF-end (now (c .before .before .args .s)) (c .before .loop .i) (c .loop-test .left)) ∙ c .before .loop .inv))
+rest-blank-spec = tie.close (tie.spec Inv-loop μ-loop loop-holds shared-slice-read-if1 returns add-i loop-less loop-again returns-2)

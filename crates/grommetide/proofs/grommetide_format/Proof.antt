@@ -8,18 +8,13 @@ use borrow.Author.Needs.{needs}
 use Rattle.grommetide.proofs.grommetide_format.Statement.{statement}
 use Rattle.grommetide.proofs.grommetide_format.Tie as tie
 
-pub grommetide-format-spec : {M : Type 1} → statement M
+returns : tie.Need-returns
 unfolding edgeFormat
-grommetide-format-spec =
-    tie.close
-    (tie.spec
-    (λ c. let t = ne-eqb _ _ (c .if1 .taken) in ((rw t, rw t), λ l. absurd (c .if1 .taken l)))
-    (λ c κs. search needs)
-    (λ c κs. search needs)
-    (λ c κs. search needs)
-    (λ c κs. search needs)
-    (λ c. search needs)
-    (λ c.
+returns c = let t = ne-eqb _ _ (c .if1 .taken) in ((rw t, rw t), λ l. absurd (c .if1 .taken l))
+
+returns-2 : tie.Need-returns-2
+unfolding edgeFormat
+returns-2 c =
     let c6 = c .before .before .before .before .before .before in
     let c7 = c6 .before in
     let c8 = c7 .before in
@@ -31,4 +26,8 @@ grommetide-format-spec =
     let if1′ = c9 .if1 in
     let args′ = c12 .args in
     replaced _ _ _ _ _ _ (format-core′ .result) (formatOn (args′ .blocks) (now (args′ .image))) (if1′ .left) (format-core′ .ensures)
-    (no-frame′ .ensures) (rw (no-places′ .ensures) at (c .before .before .new-record .ensures))))
+    (no-frame′ .ensures) (rw (no-places′ .ensures) at (c .before .before .new-record .ensures))
+
+pub grommetide-format-spec : {M : Type 1} → statement M
+grommetide-format-spec = tie.close (tie.spec
+    returns (λ c κs. search needs) (λ c κs. search needs) (λ c κs. search needs) (λ c κs. search needs) (λ c. search needs) returns-2)

@@ -8,18 +8,13 @@ use borrow.Author.Needs.{needs}
 use Rattle.grommetide.proofs.grommetide_mount.Statement.{statement}
 use Rattle.grommetide.proofs.grommetide_mount.Tie as tie
 
-pub grommetide-mount-spec : {M : Type 1} → statement M
+returns : tie.Need-returns
 unfolding edgeMount
-grommetide-mount-spec =
-    tie.close
-    (tie.spec
-    (λ c. let t = ne-eqb _ _ (c .if1 .taken) in ((rw t, rw t), λ l. absurd (c .if1 .taken l)))
-    (λ c κs. search needs)
-    (λ c κs. search needs)
-    (λ c κs. search needs)
-    (λ c κs. search needs)
-    (λ c. search needs)
-    (λ c.
+returns c = let t = ne-eqb _ _ (c .if1 .taken) in ((rw t, rw t), λ l. absurd (c .if1 .taken l))
+
+returns-2 : tie.Need-returns-2
+unfolding edgeMount
+returns-2 c =
     let c6 = c .before .before .before .before .before .before in
     let c7 = c6 .before in
     let c10 = c7 .before .before .before in
@@ -29,4 +24,8 @@ grommetide-mount-spec =
     let if1′ = c10 .if1 in
     let args′ = c13 .args in
     replaced _ _ _ _ _ _ (mount-core′ .result) (mountOn (args′ .blocks) (now (args′ .image))) (if1′ .left) (mount-core′ .ensures)
-    (no-frame′ .ensures) (c .before .before .new-record .ensures)))
+    (no-frame′ .ensures) (c .before .before .new-record .ensures)
+
+pub grommetide-mount-spec : {M : Type 1} → statement M
+grommetide-mount-spec = tie.close (tie.spec
+    returns (λ c κs. search needs) (λ c κs. search needs) (λ c κs. search needs) (λ c κs. search needs) (λ c. search needs) returns-2)

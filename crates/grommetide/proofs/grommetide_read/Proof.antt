@@ -13,18 +13,13 @@ use borrow.Author.Needs.{needs}
 use Rattle.grommetide.proofs.grommetide_read.Statement.{statement}
 use Rattle.grommetide.proofs.grommetide_read.Tie as tie
 
-pub grommetide-read-spec : {M : Type 1} → statement M
+returns : tie.Need-returns
 unfolding edgeRead
-grommetide-read-spec =
-    tie.close
-    (tie.spec
-    (λ c. rw (ne-eqb _ _ (c .if1 .taken)))
-    (λ c κs. search needs)
-    (λ c κs. search needs)
-    (λ c κs. search needs)
-    (λ c κs. search needs)
-    (λ c κs. search needs)
-    (λ c.
+returns c = rw (ne-eqb _ _ (c .if1 .taken))
+
+returns-2 : tie.Need-returns-2
+unfolding edgeRead
+returns-2 c =
     let c9 = c .before .before .before .before .before .before .before .before .before in
     let phase-of′ = c .before .before .before .before .phase-of in
     let if1′ = c .before .before .before .before .before .if1 in
@@ -34,4 +29,8 @@ grommetide-read-spec =
     ∙ ap edgeNumber (f .answers
     ∙ ap (λ (m : List ℕ). requestOn (asking (args′ .blocks) (now (args′ .image)) (recordIn (now (args′ .board))) (record { 0 = args′ .host }) m []) .answer)
     (asks-read (now (args′ .message)))) in rw (eq-eqb _ _ (if1′ .left))
-    (λ i. place (n i) (f .at i) (f .size i))))
+    (λ i. place (n i) (f .at i) (f .size i))
+
+pub grommetide-read-spec : {M : Type 1} → statement M
+grommetide-read-spec = tie.close (tie.spec
+    returns (λ c κs. search needs) (λ c κs. search needs) (λ c κs. search needs) (λ c κs. search needs) (λ c κs. search needs) returns-2)

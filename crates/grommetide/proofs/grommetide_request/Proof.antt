@@ -9,21 +9,13 @@ use borrow.Author.Needs.{needs}
 use Rattle.grommetide.proofs.grommetide_request.Statement.{statement}
 use Rattle.grommetide.proofs.grommetide_request.Tie as tie
 
-pub grommetide-request-spec : {M : Type 1} → statement M
+returns : tie.Need-returns
 unfolding edgeRequest
-grommetide-request-spec =
-    tie.close
-    (tie.spec
-    (λ c. let t = ne-eqb _ _ (c .if1 .taken) in ((rw t, rw t, rw t), λ l. absurd (c .if1 .taken l)))
-    (λ c κs. search needs)
-    (λ c κs. search needs)
-    (λ c κs. search needs)
-    (λ c κs. search needs)
-    (λ c κs. search needs)
-    (λ c κs. search needs)
-    (λ c. search needs)
-    (λ c. search needs)
-    (λ c.
+returns c = let t = ne-eqb _ _ (c .if1 .taken) in ((rw t, rw t, rw t), λ l. absurd (c .if1 .taken l))
+
+returns-2 : tie.Need-returns-2
+unfolding edgeRequest
+returns-2 c =
     let c8 = c .before .before .before .before .before .before .before .before in
     let c14 = c8 .before .before .before .before .before .before in
     let c16 = c14 .before .before in
@@ -39,4 +31,9 @@ grommetide-request-spec =
     let q = rw (phase-of′ .ensures, rest-of′ .ensures) at (request-core′ .ensures .asked (recordIn b)) in
     let z = begun-is b _ _ _ _ (request-core′ .result) (requestOn a) (if1′ .left) (q .0)
     (done-rests a) (c .before .before .begun .ensures) in
-    (rw (eq-eqb _ _ (if1′ .left)) (z .0 .0, z .0 .1, q .1), λ _. z .1)))
+    (rw (eq-eqb _ _ (if1′ .left)) (z .0 .0, z .0 .1, q .1), λ _. z .1)
+
+pub grommetide-request-spec : {M : Type 1} → statement M
+grommetide-request-spec = tie.close (tie.spec
+    returns (λ c κs. search needs) (λ c κs. search needs) (λ c κs. search needs) (λ c κs. search needs) (λ c κs. search needs) (λ c κs. search needs)
+    (λ c. search needs) (λ c. search needs) returns-2)

@@ -9,27 +9,11 @@ use borrow.Author.Needs.{needs}
 use Rattle.midframe.proofs.copy_byte.Statement.{statement}
 use Rattle.midframe.proofs.copy_byte.Tie as tie
 
-pub copy-byte-spec : {M : Type 1} → statement M
-copy-byte-spec =
-    tie.close
-    (tie.spec
-    (λ c. search needs)
-    (λ c κs. search needs)
-    (λ c. search needs)
-    (λ c κs. search needs)
-    (λ c. search needs)
-    (λ c. search needs)
-    (λ c. search needs)
-    (λ c. search needs)
-    (λ c. nothing _ _ _ _ _ refl refl)
-    (λ c. search needs)
-    (λ c κs. search needs)
-    (λ c. search needs)
-    (λ c κs. search needs)
-    (λ c. search needs)
-    (λ c κs. search needs)
-    (λ c κs. search needs)
-    (λ c.
+returns : tie.Need-returns
+returns c = nothing _ _ _ _ _ refl refl
+
+add-next : tie.Need-add-next
+add-next c =
     let unit-byte′ = c .before .before .before .before .unit-byte in
     let byte-at3′ = c .before .before .before .before .before .before .before .byte-at3 in
     let word-in′ = c .before .before .before .before .before .before .before .before .before .word-in in
@@ -41,28 +25,24 @@ copy-byte-spec =
     let pre′ = c18 .pre in
     let h : word-in′ .result < 32768 = counts-on (args′ .blocks) (now (args′ .image)) (now (args′ .board)) (byte-at3′ .result) (word-in′ .result)
     (unit-byte′ .result) (λ i. slice-known2′ .given i .fits) (pre′ .1 .fits)
-    (sym (c .before .before .before .program-in .ensures .0) ∙ c .if2 .taken) in omega (arith, h))
-    (λ c κs. search needs)
-    (λ c. search needs)
-    (λ c. search needs)
-    (λ c κs. search needs)
-    (λ c. search needs)
-    (λ c. search needs)
-    (λ c.
+    (sym (c .before .before .before .program-in .ensures .0) ∙ c .if2 .taken) in omega (arith, h)
+
+slice-write-board-2 : tie.Need-slice-write-board-2
+slice-write-board-2 c =
     let c14 = c .before .before .before .before .before .before .before .before .before .before .before .before .before .before in
     let c20 = c14 .before .before .before .before .before .before in
     let pre′ = c20 .pre in
-    simp length-set (omega (arith, pre′ .0)))
-    (λ c. search needs)
-    (λ c. search needs)
-    (λ c.
+    simp length-set (omega (arith, pre′ .0))
+
+slice-write-board-3 : tie.Need-slice-write-board-3
+slice-write-board-3 c =
     let c14 = c .before .before .before .before .before .before .before .before .before .before .before .before .before .before in
     let c20 = c14 .before .before .before .before .before .before in
     let pre′ = c20 .pre in
-    simp length-set (omega (arith, pre′ .0)))
-    (λ c. search needs)
-    (λ c. search needs)
-    (λ c.
+    simp length-set (omega (arith, pre′ .0))
+
+returns-2 : tie.Need-returns-2
+returns-2 c =
     let program-in′ = c .before .before .before .before .before .program-in in
     let unit-byte′ = c .before .before .before .before .before .before .unit-byte in
     let byte-at3′ = c .before .before .before .before .before .before .before .before .before .byte-at3 in
@@ -82,9 +62,17 @@ copy-byte-spec =
     done _ _ _ _ _
     (copied (args′ .blocks) (now (args′ .image)) (now (args′ .board)) _ _ (pre′ .0) (λ i. slice-known2′ .given i .fits) (pre′ .1) _ _ _ _ _ _ _
     (byte-at′ .ensures) (byte-at2′ .ensures) (omega (arith, if1′ .left)) (word-in′ .ensures) (byte-at3′ .ensures) (unit-byte′ .ensures)
-    (sym (program-in′ .ensures .0) ∙ c .before .before .if2 .taken) (program-in′ .ensures .1) (c .before .low .ensures) (c .high .ensures) refl))
-    (λ c. search needs)
-    (λ c. search needs)
-    (λ c.
+    (sym (program-in′ .ensures .0) ∙ c .before .before .if2 .taken) (program-in′ .ensures .1) (c .before .low .ensures) (c .high .ensures) refl)
+
+returns-3 : tie.Need-returns-3
+returns-3 c =
     let program-in′ = c .before .before .before .program-in in
-    nothing _ _ _ _ _ (not-done _ _ _ _ _ (program-in′ .ensures .0) (program-in′ .ensures .1) (c .if2 .left)) refl))
+    nothing _ _ _ _ _ (not-done _ _ _ _ _ (program-in′ .ensures .0) (program-in′ .ensures .1) (c .if2 .left)) refl
+
+pub copy-byte-spec : {M : Type 1} → statement M
+copy-byte-spec = tie.close (tie.spec
+    (λ c. search needs) (λ c κs. search needs) (λ c. search needs) (λ c κs. search needs) (λ c. search needs) (λ c. search needs) (λ c. search needs)
+    (λ c. search needs) returns (λ c. search needs) (λ c κs. search needs) (λ c. search needs) (λ c κs. search needs) (λ c. search needs)
+    (λ c κs. search needs) (λ c κs. search needs) add-next (λ c κs. search needs) (λ c. search needs) (λ c. search needs) (λ c κs. search needs)
+    (λ c. search needs) (λ c. search needs) slice-write-board-2 (λ c. search needs) (λ c. search needs) slice-write-board-3 (λ c. search needs)
+    (λ c. search needs) returns-2 (λ c. search needs) (λ c. search needs) returns-3)

@@ -12,33 +12,21 @@ use borrow.Author.Needs.{needs}
 use Rattle.pack.proofs.encode_parts.Statement.{statement}
 use Rattle.pack.proofs.encode_parts.Tie as tie
 
-pub encode-parts-spec : {M : Type 1} → statement M
+returns : tie.Need-returns
 unfolding recordInto
-encode-parts-spec =
-    tie.close
-    (tie.spec
-    (λ c. (rw (ne-eqb _ _ (c .if1 .taken)), λ l. absurd (c .if1 .taken l)))
-    (λ c κs. search needs)
-    (λ c κs. search needs)
-    (λ c κs. search needs)
-    (λ c. search needs)
-    (λ c κs. search needs)
-    (λ c κs. search needs)
-    (λ c.
+returns c = (rw (ne-eqb _ _ (c .if1 .taken)), λ l. absurd (c .if1 .taken l))
+
+slice-aggregate-lay-at-2 : tie.Need-slice-aggregate-lay-at-2
+slice-aggregate-lay-at-2 c =
     let c10 = c .before .before .before .before .before .before .before .before .before .before in
     let c20 = c10 .before .before .before .before .before .before .before .before .before .before in
     let args′ = c20 .args in
     let good′ = c20 .good in
-    let k : length (args′ .n .job .wipe) ≡ maxBlocks = search (needs, good′ .0 .1 .1 .1 .1 .0 .1 .1 .0) in sym k)
-    (λ c κs. search needs)
-    (λ c. search needs)
-    (λ c κs. search needs)
-    (λ c. search needs)
-    (λ c κs. search needs)
-    (λ c κs. search needs)
-    (λ c κs. search needs)
-    (λ c. search needs)
-    (λ c.
+    let k : length (args′ .n .job .wipe) ≡ maxBlocks = search (needs, good′ .0 .1 .1 .1 .1 .0 .1 .1 .0) in sym k
+
+returns-2 : tie.Need-returns-2
+unfolding recordInto
+returns-2 c =
     let c7 = c .before .before .before .before .before .before .before in
     let c8 = c7 .before in
     let c12 = c8 .before .before .before .before in
@@ -82,4 +70,10 @@ encode-parts-spec =
     (head-bytes′ .result) (plan-bytes′ .result) (cursor-bytes′ .result) (head-bytes′ .ensures) (plan-bytes′ .ensures)
     (cursor-bytes′ .ensures) (lay-at′ .ensures) (lay-words′ .ensures) (lay-at2′ .ensures) (lay-at3′ .ensures)
     (lay-at4′ .ensures) (lay-at5′ .ensures) (lay-at6′ .ensures) sized (search (needs, plan-bytes′ .ok)) (if1′ .left) in
-    (rw (eq-eqb _ _ (if1′ .left)) (z .0), λ l. z .1)))
+    (rw (eq-eqb _ _ (if1′ .left)) (z .0), λ l. z .1)
+
+pub encode-parts-spec : {M : Type 1} → statement M
+encode-parts-spec = tie.close (tie.spec
+    returns (λ c κs. search needs) (λ c κs. search needs) (λ c κs. search needs) (λ c. search needs) (λ c κs. search needs) (λ c κs. search needs)
+    slice-aggregate-lay-at-2 (λ c κs. search needs) (λ c. search needs) (λ c κs. search needs) (λ c. search needs) (λ c κs. search needs)
+    (λ c κs. search needs) (λ c κs. search needs) (λ c. search needs) returns-2)

@@ -3,16 +3,8 @@ use borrow.Author.Needs.{needs}
 use Rattle.pack.proofs.head_bytes.Statement.{statement}
 use Rattle.pack.proofs.head_bytes.Tie as tie
 
-pub head-bytes-spec : {M : Type 1} → statement M
-head-bytes-spec =
-    tie.close
-    (tie.spec
-    (λ c κs. search needs)
-    (λ c κs. search needs)
-    (λ c κs. search needs)
-    (λ c κs. search needs)
-    (λ c κs. search needs)
-    (λ c.
+returns : tie.Need-returns
+returns c =
     let phase-byte′ = c .before .before .before .before .phase-byte in
     rw (
       phase-byte′ .ensures,
@@ -20,4 +12,8 @@ head-bytes-spec =
       c .before .before .high .ensures,
       c .before .low2 .ensures,
       c .high2 .ensures,
-    )))
+    )
+
+pub head-bytes-spec : {M : Type 1} → statement M
+head-bytes-spec = tie.close (tie.spec
+    (λ c κs. search needs) (λ c κs. search needs) (λ c κs. search needs) (λ c κs. search needs) (λ c κs. search needs) returns)

@@ -15,30 +15,29 @@ Inv-loop bytes₀ at words i₀ bytes i = (bytes ≡ wordsTo at words bytes₀ i
 abbrev μ-loop : tie.MeasureT-loop
 μ-loop bytes₀ at words i₀ bytes i = length words - i
 
-pub lay-words-spec : {M : Type 1} → statement M
-lay-words-spec =
-    tie.close
-    (tie.spec
-    Inv-loop
-    μ-loop
-    (λ c.
+loop-holds : tie.Need-loop-holds Inv-loop μ-loop
+loop-holds c =
     let args′ = c .before .before .args in
-    (no-words (args′ .at) (now (args′ .words)) (now (args′ .bytes)), search needs, search needs))
-    (λ c. omega (arith, c .before .before .before .before .good))
-    (λ c. search needs)
-    (λ c κs. search needs)
-    (λ c κs. search needs)
-    (λ c. omega (arith, c .before .before .before .before .before .before .before .before .good))
-    (λ c. omega (
-      arith,
-      c .before .before .before .before .before .before .before .before .pre,
-      c .before .before .before .before .before .before .before .before .good,
-    ))
-    (λ c. search needs)
-    (λ c κs. search needs)
-    (λ c. omega (arith, c .before .before .before .before .before .before .before .before .before .before .before .before .good))
-    (λ c. search needs)
-    (λ c.
+    (no-words (args′ .at) (now (args′ .words)) (now (args′ .bytes)), search needs, search needs)
+
+mul-w : tie.Need-mul-w Inv-loop μ-loop
+mul-w c = omega (arith, c .before .before .before .before .good)
+
+mul-lay-at : tie.Need-mul-lay-at Inv-loop μ-loop
+mul-lay-at c = omega (arith, c .before .before .before .before .before .before .before .before .good)
+
+add-lay-at : tie.Need-add-lay-at Inv-loop μ-loop
+add-lay-at c = omega (
+  arith,
+  c .before .before .before .before .before .before .before .before .pre,
+  c .before .before .before .before .before .before .before .before .good,
+)
+
+add-i : tie.Need-add-i Inv-loop μ-loop
+add-i c = omega (arith, c .before .before .before .before .before .before .before .before .before .before .before .before .good)
+
+loop-again : tie.Need-loop-again Inv-loop μ-loop
+loop-again c =
     let c5 = c .before .before .before .before .before in
     let c6 = c5 .before in
     let c9 = c6 .before .before .before in
@@ -47,9 +46,15 @@ lay-words-spec =
           (now (c12 .args .words)) (now (c12 .args .bytes)) (c9 .loop .i) (omega arith) (omega (arith, c12 .pre))),
       omega arith,
       c .before .before .lay-at .kept .0 ∙ c9 .loop .inv .2,
-    ))
-    (λ c. search needs)
-    (λ c.
+    )
+
+returns : tie.Need-returns Inv-loop μ-loop
+returns c =
     let loop′ = c .before .loop in
     let c4 = c .before .before .before .before in
-    loop′ .inv .0 ∙ words-all (c4 .args .at) (now (c4 .args .words)) (now (c4 .args .bytes)) (loop′ .i) (omega arith) (omega (arith, c4 .pre))))
+    loop′ .inv .0 ∙ words-all (c4 .args .at) (now (c4 .args .words)) (now (c4 .args .bytes)) (loop′ .i) (omega arith) (omega (arith, c4 .pre))
+
+pub lay-words-spec : {M : Type 1} → statement M
+lay-words-spec = tie.close (tie.spec
+    Inv-loop μ-loop loop-holds mul-w (λ c. search needs) (λ c κs. search needs) (λ c κs. search needs) mul-lay-at add-lay-at (λ c. search needs)
+    (λ c κs. search needs) add-i (λ c. search needs) loop-again (λ c. search needs) returns)

@@ -8,17 +8,8 @@ use borrow.Author.Needs.{needs}
 use Rattle.reader.proofs.end_misfit.Statement.{statement}
 use Rattle.reader.proofs.end_misfit.Tie as tie
 
-pub end-misfit-spec : {M : Type 1} → statement M
-end-misfit-spec =
-    tie.close
-    (tie.spec
-    (λ c κs. search needs)
-    (λ c κs. search needs)
-    (λ c. search needs)
-    (λ c κs. search needs)
-    (λ c κs. search needs)
-    (λ c κs. search needs)
-    (λ c.
+returns : tie.Need-returns
+returns c =
     let front-misfit′ = c .before .before .before .before .front-misfit in
     let shared-slice-known′ = c .before .before .before .before .before .shared-slice-known in
     let args′ = c .before .before .before .before .before .before .args in
@@ -30,4 +21,8 @@ end-misfit-spec =
       c .before .before .before .test-byte .ensures,
       c .before .before .seal-misfit .ensures,
     ) (sym (end-is (args′ .edition) (args′ .n) (now (args′ .t)) (pre′ .0) (pre′ .2)
-    (bytes-of (now (args′ .t)) (λ i. omega (arith, shared-slice-known′ .given i))) (pre′ .1)))))
+    (bytes-of (now (args′ .t)) (λ i. omega (arith, shared-slice-known′ .given i))) (pre′ .1)))
+
+pub end-misfit-spec : {M : Type 1} → statement M
+end-misfit-spec = tie.close (tie.spec
+    (λ c κs. search needs) (λ c κs. search needs) (λ c. search needs) (λ c κs. search needs) (λ c κs. search needs) (λ c κs. search needs) returns)

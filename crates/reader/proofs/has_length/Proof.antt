@@ -6,31 +6,41 @@ use borrow.Author.Needs.{needs}
 use Rattle.reader.proofs.has_length.Statement.{statement}
 use Rattle.reader.proofs.has_length.Tie as tie
 
-pub has-length-spec : {M : Type 1} → statement M
-has-length-spec =
-    tie.close
-    (tie.spec
-    (λ c κs. search needs)
-    (λ c. omega (arith, c .check-len .ensures, check-short (c .before .args .edition)))
-    (λ c.
+add-if1 : tie.Need-add-if1
+add-if1 c = omega (arith, c .check-len .ensures, check-short (c .before .args .edition))
+
+returns : tie.Need-returns
+returns c =
     let check-len′ = c .before .check-len in
     let args′ = c .before .before .args in
-    is-end (args′ .edition) (args′ .next) (args′ .n) (check-len′ .result) (check-len′ .ensures) (c .if1 .taken))
-    (λ c. omega (arith, c .before .check-len .ensures, check-short (c .before .before .args .edition)))
-    (λ c. search needs)
-    (λ c. search needs)
-    (λ c.
+    is-end (args′ .edition) (args′ .next) (args′ .n) (check-len′ .result) (check-len′ .ensures) (c .if1 .taken)
+
+add-if2 : tie.Need-add-if2
+add-if2 c = omega (arith, c .before .check-len .ensures, check-short (c .before .before .args .edition))
+
+returns-2 : tie.Need-returns-2
+returns-2 c =
     let check-len′ = c .before .before .check-len in
     let args′ = c .before .before .before .args in
-    is-put (args′ .edition) (args′ .next) (args′ .n) (check-len′ .result) (check-len′ .ensures) (c .if2 .taken))
-    (λ c.
+    is-put (args′ .edition) (args′ .next) (args′ .n) (check-len′ .result) (check-len′ .ensures) (c .if2 .taken)
+
+returns-3 : tie.Need-returns-3
+returns-3 c =
     let check-len′ = c .before .before .before .check-len in
     let args′ = c .before .before .before .before .args in
     is-none (args′ .edition) (args′ .next) (args′ .n) (check-len′ .result) (check-len′ .ensures) (c .before .before .if1 .left)
-    (c .before .if2 .left) (c .if3 .taken))
-    (λ c. omega (arith, c .before .before .before .check-len .ensures, check-short (c .before .before .before .before .args .edition)))
-    (λ c.
+    (c .before .if2 .left) (c .if3 .taken)
+
+add-result-2 : tie.Need-add-result-2
+add-result-2 c = omega (arith, c .before .before .before .check-len .ensures, check-short (c .before .before .before .before .args .edition))
+
+returns-4 : tie.Need-returns-4
+returns-4 c =
     let check-len′ = c .before .before .before .check-len in
     let args′ = c .before .before .before .before .args in
     is-settled (args′ .edition) (args′ .next) (args′ .n) (check-len′ .result) (check-len′ .ensures) (c .before .before .if1 .left)
-    (c .before .if2 .left) (c .if3 .left)))
+    (c .before .if2 .left) (c .if3 .left)
+
+pub has-length-spec : {M : Type 1} → statement M
+has-length-spec = tie.close (tie.spec
+    (λ c κs. search needs) add-if1 returns add-if2 (λ c. search needs) (λ c. search needs) returns-2 returns-3 add-result-2 returns-4)

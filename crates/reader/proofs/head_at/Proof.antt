@@ -8,33 +8,23 @@ use borrow.Author.Needs.{needs}
 use Rattle.reader.proofs.head_at.Statement.{statement}
 use Rattle.reader.proofs.head_at.Tie as tie
 
-pub head-at-spec : {M : Type 1} → statement M
-head-at-spec =
-    tie.close
-    (tie.spec
-    (λ c κs. search needs)
-    (λ c κs. search needs)
-    (λ c κs. search needs)
-    (λ c κs. search needs)
-    (λ c κs. search needs)
-    (λ c.
+add-less : tie.Need-add-less
+add-less c =
     let check-len′ = c .before .before .before .before .before .check-len in
     let args′ = c .before .before .before .before .before .before .before .args in
-    omega (arith, check-len′ .ensures, check-short (args′ .edition)))
-    (λ c κs. search needs)
-    (λ c κs. search needs)
-    (λ c κs. search needs)
-    (λ c κs. search needs)
-    (λ c κs. search needs)
-    (λ c κs. search needs)
-    (λ c κs. search needs)
-    (λ c.
+    omega (arith, check-len′ .ensures, check-short (args′ .edition))
+
+add-less-2 : tie.Need-add-less-2
+add-less-2 c =
     let check-len′ = c .before .before .before .before .before .check-len in
     let args′ = c .before .before .before .before .before .before .before .args in
-    omega (arith, check-len′ .ensures, check-short (args′ .edition)))
-    (λ c κs. search needs)
-    (λ c. rw (c .match .keys1, c .before .byte-at .ensures))
-    (λ c.
+    omega (arith, check-len′ .ensures, check-short (args′ .edition))
+
+returns : tie.Need-returns
+returns c = rw (c .match .keys1, c .before .byte-at .ensures)
+
+returns-2 : tie.Need-returns-2
+returns-2 c =
     let match′ = c .before .before .before .before .match in
     let byte-at′ = c .before .before .before .before .before .byte-at in
     let check-len′ = c .before .before .before .before .before .before .check-len in
@@ -49,8 +39,10 @@ head-at-spec =
       (c .before .before .byte-at3 .ensures),
       (check-len′ .ensures),
       put-length (args′ .edition) (args′ .n) (now (args′ .t)) (pre′),
-    ))
-    (λ c.
+    )
+
+returns-3 : tie.Need-returns-3
+returns-3 c =
     let byte-at′ = c .before .before .before .before .byte-at in
     rw (
       c .before .before .before .match .keys3,
@@ -58,10 +50,16 @@ head-at-spec =
       (byte-at′ .ensures),
       (c .before .before .byte-at4 .ensures),
       (c .before .byte-at5 .ensures),
-    ))
-    (λ c. rw (c .match .keys4, c .before .byte-at .ensures))
-    (λ c. rw (c .match .keys5, c .before .byte-at .ensures))
-    (λ c.
+    )
+
+returns-4 : tie.Need-returns-4
+returns-4 c = rw (c .match .keys4, c .before .byte-at .ensures)
+
+returns-5 : tie.Need-returns-5
+returns-5 c = rw (c .match .keys5, c .before .byte-at .ensures)
+
+returns-6 : tie.Need-returns-6
+returns-6 c =
     let check-len′ = c .before .before .before .before .before .before .check-len in
     let args′ = c .before .before .before .before .before .before .before .before .args in
     let pre′ = c .before .before .before .before .before .before .before .before .pre in
@@ -74,4 +72,10 @@ head-at-spec =
       (check-len′ .ensures),
       settled-length (args′ .edition)
           (args′ .n) (now (args′ .t)) (pre′),
-    )))
+    )
+
+pub head-at-spec : {M : Type 1} → statement M
+head-at-spec = tie.close (tie.spec
+    (λ c κs. search needs) (λ c κs. search needs) (λ c κs. search needs) (λ c κs. search needs) (λ c κs. search needs) add-less (λ c κs. search needs)
+    (λ c κs. search needs) (λ c κs. search needs) (λ c κs. search needs) (λ c κs. search needs) (λ c κs. search needs) (λ c κs. search needs) add-less-2
+    (λ c κs. search needs) returns returns-2 returns-3 returns-4 returns-5 returns-6)

@@ -14,17 +14,8 @@ use Rattle.reader.proofs.Answers.{shiftRead, shift-first, wrong-read}
 use Rattle.reader.proofs.read_frame.Statement.{statement}
 use Rattle.reader.proofs.read_frame.Tie as tie
 
-pub read-frame-spec : {M : Type 1} → statement M
-read-frame-spec =
-    tie.close
-    (tie.spec
-    (λ c κs. search needs)
-    (λ c κs. search needs)
-    (λ c. search needs)
-    (λ c. search needs)
-    (λ c. search needs)
-    (λ c. search needs)
-    (λ c.
+add-t12 : tie.Need-add-t12
+add-t12 c =
     let e′ = c .before .before .e in
     let read-front′ = c .before .before .before .before .read-front in
     let rest′ = c .before .before .before .before .before .rest in
@@ -34,28 +25,41 @@ read-frame-spec =
     (drop (args′ .at) (now (args′ .block))) (e′ .given .0 .0)
     (wrong-read (readFrameIn edition.First (args′ .next) 0 (drop (args′ .at) (now (args′ .block)))) (e′ .given .0 .0)
     (ap (λ (x : List ℕ). readOf (readFrameIn edition.First (args′ .next) 0 x)) (sym (rest′ .ensures)) ∙ sym (read-front′ .ensures) ∙ e′ .given .1)) in omega
-    (arith, q .1, length-drop (args′ .at) (now (args′ .block)), good′))
-    (λ c.
+    (arith, q .1, length-drop (args′ .at) (now (args′ .block)), good′)
+
+returns : tie.Need-returns
+returns c =
     let args′ = c .before .before .before .before .before .args in
     sym (shift-first (args′ .next) (args′ .at) (drop (args′ .at) (now (args′ .block)))
     ∙ ap (shiftRead (args′ .at)) (ap (λ (x : List ℕ). readOf (readFrameIn edition.First (args′ .next) 0 x)) (sym (c .before .before .before .rest .ensures))
-    ∙ sym (c .before .before .read-front .ensures) ∙ c .enum-told .given .1)))
-    (λ c.
+    ∙ sym (c .before .before .read-front .ensures) ∙ c .enum-told .given .1))
+
+returns-2 : tie.Need-returns-2
+returns-2 c =
     let rest′ = c .before .before .before .before .rest in
     let args′ = c .before .before .before .before .before .before .args in
     sym (shift-first (args′ .next) (args′ .at) (drop (args′ .at) (now (args′ .block)))
     ∙ ap (shiftRead (args′ .at)) (ap (λ (x : List ℕ). readOf (readFrameIn edition.First (args′ .next) 0 x)) (sym (rest′ .ensures))
-    ∙ sym (c .before .before .before .read-front .ensures) ∙ c .before .h .given .1)))
-    (λ c.
+    ∙ sym (c .before .before .before .read-front .ensures) ∙ c .before .h .given .1))
+
+returns-3 : tie.Need-returns-3
+returns-3 c =
     let rest′ = c .before .before .before .before .rest in
     let args′ = c .before .before .before .before .before .before .args in
     sym (shift-first (args′ .next) (args′ .at) (drop (args′ .at) (now (args′ .block)))
     ∙ ap (shiftRead (args′ .at)) (ap (λ (x : List ℕ). readOf (readFrameIn edition.First (args′ .next) 0 x)) (sym (rest′ .ensures))
-    ∙ sym (c .before .before .before .read-front .ensures) ∙ c .before .n .given .1)))
-    (λ c.
+    ∙ sym (c .before .before .before .read-front .ensures) ∙ c .before .n .given .1))
+
+returns-4 : tie.Need-returns-4
+returns-4 c =
     let read-front′ = c .before .before .before .before .read-front in
     let rest′ = c .before .before .before .before .before .rest in
     let args′ = c .before .before .before .before .before .before .before .args in
     sym (shift-first (args′ .next) (args′ .at) (drop (args′ .at) (now (args′ .block)))
     ∙ ap (shiftRead (args′ .at)) (ap (λ (x : List ℕ). readOf (readFrameIn edition.First (args′ .next) 0 x)) (sym (rest′ .ensures))
-    ∙ sym (read-front′ .ensures) ∙ c .before .before .e .given .1))))
+    ∙ sym (read-front′ .ensures) ∙ c .before .before .e .given .1))
+
+pub read-frame-spec : {M : Type 1} → statement M
+read-frame-spec = tie.close (tie.spec
+    (λ c κs. search needs) (λ c κs. search needs) (λ c. search needs) (λ c. search needs) (λ c. search needs) (λ c. search needs) add-t12 returns returns-2
+    returns-3 returns-4)

@@ -8,31 +8,11 @@ use borrow.Author.Needs.{needs}
 use Rattle.reader.proofs.second_misfit.Statement.{statement}
 use Rattle.reader.proofs.second_misfit.Tie as tie
 
-pub second-misfit-spec : {M : Type 1} → statement M
-second-misfit-spec =
-    tie.close
-    (tie.spec
-    (λ c. simp length-take (omega arith))
-    (λ c κs. search needs)
-    (λ c. search needs)
-    (λ c. search needs)
-    (λ c. search needs)
-    (λ c. search needs)
-    (λ c κs. search needs)
-    (λ c. search needs)
-    (λ c κs. search needs)
-    (λ c. search needs)
-    (λ c κs. search needs)
-    (λ c. search needs)
-    (λ c κs. search needs)
-    (λ c. search needs)
-    (λ c. search needs)
-    (λ c κs. search needs)
-    (λ c κs. search needs)
-    (λ c κs. search needs)
-    (λ c κs. search needs)
-    (λ c κs. search needs)
-    (λ c.
+slice-aggregate-crc32 : tie.Need-slice-aggregate-crc32
+slice-aggregate-crc32 c = simp length-take (omega arith)
+
+returns : tie.Need-returns
+returns c =
     let test-byte5′ = c .before .before .before .before .test-byte5 in
     let test-byte4′ = c .before .before .before .before .before .test-byte4 in
     let test-byte3′ = c .before .before .before .before .before .before .test-byte3 in
@@ -51,4 +31,10 @@ second-misfit-spec =
       test-byte3′ .ensures,
       test-byte2′ .ensures,
       test-byte′ .ensures,
-    ) (sym (second-is (args′ .m) (crc32′ .result) (now (args′ .t)) (crc32′ .ensures) (pre′)))))
+    ) (sym (second-is (args′ .m) (crc32′ .result) (now (args′ .t)) (crc32′ .ensures) (pre′)))
+
+pub second-misfit-spec : {M : Type 1} → statement M
+second-misfit-spec = tie.close (tie.spec
+    slice-aggregate-crc32 (λ c κs. search needs) (λ c. search needs) (λ c. search needs) (λ c. search needs) (λ c. search needs) (λ c κs. search needs)
+    (λ c. search needs) (λ c κs. search needs) (λ c. search needs) (λ c κs. search needs) (λ c. search needs) (λ c κs. search needs) (λ c. search needs)
+    (λ c. search needs) (λ c κs. search needs) (λ c κs. search needs) (λ c κs. search needs) (λ c κs. search needs) (λ c κs. search needs) returns)

@@ -19,30 +19,41 @@ Inv-loop image₀ blocks most board₀ answer₀ steps₀ image board answer ste
 abbrev μ-loop : tie.MeasureT-loop
 μ-loop image₀ blocks most board₀ answer₀ steps₀ image board answer steps = most - steps
 
-pub run-spec : {M : Type 1} → statement M
-run-spec =
-    tie.close
-    (tie.spec
-    Inv-loop
-    μ-loop
-    (λ c κs. search needs)
-    (λ c. (refl, omega arith, rw sub-zero))
-    (λ c κs. search needs)
-    (λ c κs. search needs)
-    (λ c. omega arith)
-    (λ c. omega arith)
-    (λ c.
+loop-holds : tie.Need-loop-holds Inv-loop μ-loop
+loop-holds c = (refl, omega arith, rw sub-zero)
+
+add-steps : tie.Need-add-steps Inv-loop μ-loop
+add-steps c = omega arith
+
+loop-less : tie.Need-loop-less Inv-loop μ-loop
+loop-less c = omega arith
+
+loop-again : tie.Need-loop-again Inv-loop μ-loop
+loop-again c =
     let c4 = c .before .before .before .before in
     let c8 = c4 .before .before .before .before in (
       c4 .step .kept .0 ∙ c8 .loop .inv .0,
       omega arith,
       one-more _ _ _ _ _ _ _ _ _ _ _ (c4 .before .before .before .loop-test .taken) (c4 .before .before .if1 .left) (c4 .step .ensures)
           (c .number2 .ensures) (c8 .loop .inv .2),
-    ))
-    (λ c. c .before .loop .inv .0)
-    (λ c.
-    ended _ _ _ _ _ _ _ _ _ _ _ (all-done _ _ _ _ _ _ (c .loop-test .left)) (c .before .loop .inv .2) (c .before .before .number .ensures))
-    (λ c. c .before .before .loop .inv .0)
-    (λ c.
+    )
+
+same-length : tie.Need-same-length Inv-loop μ-loop
+same-length c = c .before .loop .inv .0
+
+returns : tie.Need-returns Inv-loop μ-loop
+returns c =
+    ended _ _ _ _ _ _ _ _ _ _ _ (all-done _ _ _ _ _ _ (c .loop-test .left)) (c .before .loop .inv .2) (c .before .before .number .ensures)
+
+same-length-2 : tie.Need-same-length-2 Inv-loop μ-loop
+same-length-2 c = c .before .before .loop .inv .0
+
+returns-2 : tie.Need-returns-2 Inv-loop μ-loop
+returns-2 c =
     ended _ _ _ _ _ _ _ _ _ _ _ (no-more _ _ _ _ _ _ (ne-eqb _ _ (c .if1 .taken))) (c .before .before .loop .inv .2)
-    (c .before .before .before .number .ensures)))
+    (c .before .before .before .number .ensures)
+
+pub run-spec : {M : Type 1} → statement M
+run-spec = tie.close (tie.spec
+    Inv-loop μ-loop (λ c κs. search needs) loop-holds (λ c κs. search needs) (λ c κs. search needs) add-steps loop-less loop-again same-length returns
+    same-length-2 returns-2)

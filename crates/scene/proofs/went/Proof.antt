@@ -5,13 +5,11 @@ use Rattle.scene.proofs.Stepping.{bench-is}
 use Rattle.scene.proofs.went.Statement.{statement}
 use Rattle.scene.proofs.went.Tie as tie
 
-pub went-spec : {M : Type 1} → statement M
-went-spec =
-    tie.close
-    (tie.spec
-    (λ c. search needs)
-    (λ c κs. search needs)
-    (λ c.
+returns : tie.Need-returns
+returns c =
     let args′ = c .before .before .before .before .before .args in
     let d = args′ .d in
-    bench-is d (runOn (d .blocks) (args′ .most) (imageOf d) (args′ .begun)) _ _ _ _ _ (c .before .before .run-front .ensures)))
+    bench-is d (runOn (d .blocks) (args′ .most) (imageOf d) (args′ .begun)) _ _ _ _ _ (c .before .before .run-front .ensures)
+
+pub went-spec : {M : Type 1} → statement M
+went-spec = tie.close (tie.spec (λ c. search needs) (λ c κs. search needs) returns)

@@ -5,25 +5,16 @@ use borrow.Author.Needs.{needs}
 use Rattle.serving.proofs.append.Statement.{statement}
 use Rattle.serving.proofs.append.Tie as tie
 
-pub append-spec : {M : Type 1} → statement M
-append-spec =
-    tie.close
-    (tie.spec
-    (λ c. search needs)
-    (λ c. search needs)
-    (λ c κs. search needs)
-    (λ c κs. search needs)
-    (λ c.
+returns : tie.Need-returns
+returns c =
     let is-worn′ = c .before .before .is-worn in
     let args′ = c .before .before .before .before .args in
     c .refused .ensures
     ∙ append-worn (args′ .size) (args′ .rest) (args′ .s) (args′ .n) (is-worn′ .result) (is-worn′ .ensures)
-    (c .before .if1 .taken))
-    (λ c κs. search needs)
-    (λ c κs. search needs)
-    (λ c κs. search needs)
-    (λ c κs. search needs)
-    (λ c.
+    (c .before .if1 .taken)
+
+returns-2 : tie.Need-returns-2
+returns-2 c =
     let c6 = c .before .before .before .before .before .before in
     let c8 = c6 .before .before in
     let if1′ = c .before .before .before .before .before .if1 in
@@ -36,4 +27,9 @@ append-spec =
       sym (is-worn′ .ensures) ∙ if1′ .left,
       c .before .starting .ensures,
     ) (append-begun (args′ .size) (args′ .rest) (args′ .s) (args′ .n) (is-worn′ .result) (is-worn′ .ensures)
-    (if1′ .left))))
+    (if1′ .left))
+
+pub append-spec : {M : Type 1} → statement M
+append-spec = tie.close (tie.spec
+    (λ c. search needs) (λ c. search needs) (λ c κs. search needs) (λ c κs. search needs) returns (λ c κs. search needs) (λ c κs. search needs)
+    (λ c κs. search needs) (λ c κs. search needs) returns-2)

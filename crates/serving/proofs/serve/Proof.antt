@@ -14,14 +14,8 @@ use borrow.Author.Needs.{needs}
 use Rattle.serving.proofs.serve.Statement.{statement}
 use Rattle.serving.proofs.serve.Tie as tie
 
-pub serve-spec : {M : Type 1} → statement M
-serve-spec =
-    tie.close
-    (tie.spec
-    (λ c κs. search needs)
-    (λ c. search needs)
-    (λ c κs. search needs)
-    (λ c.
+cast-n : tie.Need-cast-n
+cast-n c =
     let c7 = c .before .before .before .before .before .before .before in
     let enum-told′ = c .before .enum-told in
     let args′ = c7 .args in
@@ -31,8 +25,10 @@ serve-spec =
       ap length (c .value .ensures .0),
       in-range (now (args′ .message)) (Put (enum-told′ .given .0 .0))
           (pre′ ∙ ap Is (enum-told′ .given .1)) .1,
-    ))
-    (λ c.
+    )
+
+add-n : tie.Need-add-n
+add-n c =
     let c7 = c .before .before .before .before .before .before .before in
     let enum-told′ = c .before .enum-told in
     let args′ = c7 .args in
@@ -42,9 +38,10 @@ serve-spec =
       ap length (c .value .ensures .0),
       in-range (now (args′ .message)) (Put (enum-told′ .given .0 .0))
           (pre′ ∙ ap Is (enum-told′ .given .1)) .1,
-    ))
-    (λ c κs. search needs)
-    (λ c.
+    )
+
+returns : tie.Need-returns
+returns c =
     let c8 = c .before .before .before .before .before .before .before .before in
     let value′ = c .before .value in
     let enum-told′ = c .before .before .enum-told in
@@ -57,44 +54,49 @@ serve-spec =
       refl,
       rw
           (enum-told′ .given .1) at (lay-frame′ .ensures),
-    ))
-    (λ c. search needs)
-    (λ c κs. search needs)
-    (λ c.
+    )
+
+returns-2 : tie.Need-returns-2
+returns-2 c =
     let enum-told2′ = c .before .enum-told2 in
     rw (enum-told2′ .given .1) (
       c .serve-change2 .ensures,
       refl,
       rw (enum-told2′ .given .1) at
           (c .before .before .before .lay-frame .ensures),
-    ))
-    (λ c. search needs)
-    (λ c κs. search needs)
-    (λ c.
+    )
+
+returns-3 : tie.Need-returns-3
+returns-3 c =
     let enum-told3′ = c .before .enum-told3 in
-    rw (enum-told3′ .given .1) (c .serve-end .ensures, refl, rw (enum-told3′ .given .1) at (c .before .before .before .lay-frame .ensures)))
-    (λ c. search needs)
-    (λ c κs. search needs)
-    (λ c.
+    rw (enum-told3′ .given .1) (c .serve-end .ensures, refl, rw (enum-told3′ .given .1) at (c .before .before .before .lay-frame .ensures))
+
+returns-4 : tie.Need-returns-4
+returns-4 c =
     let enum-told4′ = c .before .enum-told4 in
     rw (enum-told4′ .given .1) (
       c .serve-end2 .ensures,
       refl,
       rw (enum-told4′ .given .1) at
           (c .before .before .before .lay-frame .ensures),
-    ))
-    (λ c. search needs)
-    (λ c κs. search needs)
-    (λ c.
+    )
+
+returns-5 : tie.Need-returns-5
+returns-5 c =
     let ask′ = c .before .before .ask in
     let lay-frame′ = c .before .before .before .before .lay-frame in
-    rw (ask′ .given .1) (c .serve-read .ensures, refl, rw (ask′ .given .1) at (lay-frame′ .ensures)))
-    (λ c. search needs)
-    (λ c κs. search needs)
-    (λ c. search needs)
-    (λ c.
+    rw (ask′ .given .1) (c .serve-read .ensures, refl, rw (ask′ .given .1) at (lay-frame′ .ensures))
+
+returns-6 : tie.Need-returns-6
+returns-6 c =
     let c7 = c .before .before .before .before .before .before .before in
     let serve-log′ = c .before .before .serve-log in
     let ask2′ = c .before .before .before .before .before .ask2 in
     let lay-frame′ = c7 .lay-frame in
-    rw (ask2′ .given .1) (serve-log′ .ensures .0, serve-log′ .ensures .1, rw (ask2′ .given .1) at (lay-frame′ .ensures))))
+    rw (ask2′ .given .1) (serve-log′ .ensures .0, serve-log′ .ensures .1, rw (ask2′ .given .1) at (lay-frame′ .ensures))
+
+pub serve-spec : {M : Type 1} → statement M
+serve-spec = tie.close (tie.spec
+    (λ c κs. search needs) (λ c. search needs) (λ c κs. search needs) cast-n add-n (λ c κs. search needs) returns (λ c. search needs) (λ c κs. search needs)
+    returns-2 (λ c. search needs) (λ c κs. search needs) returns-3 (λ c. search needs) (λ c κs. search needs) returns-4 (λ c. search needs)
+    (λ c κs. search needs) returns-5 (λ c. search needs) (λ c κs. search needs) (λ c. search needs) returns-6)

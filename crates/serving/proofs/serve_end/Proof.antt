@@ -10,20 +10,21 @@ use borrow.Author.Needs.{needs}
 use Rattle.serving.proofs.serve_end.Statement.{statement}
 use Rattle.serving.proofs.serve_end.Tie as tie
 
-pub serve-end-spec : {M : Type 1} → statement M
+returns : tie.Need-returns
 unfolding endIn
-serve-end-spec =
-    tie.close (tie.spec
-    (λ c κs. search needs)
-    (λ c κs. search needs)
-    (λ c.
+returns c =
     let args′ = c .before .before .before .before .args in
     let a = args′ in let t : ltb 0 (getD (a .s .pending) (a .host .0) 0) ≡ false = le-ltb 0
     (getD (a .s .pending) (a .host .0) 0) (omega (arith, c .before .before .of-host .ensures, c .before .if1 .taken)) in c .done .ensures
-    ∙ sym (rw (t, endIn)))
-    (λ c κs. search needs)
-    (λ c.
+    ∙ sym (rw (t, endIn))
+
+returns-2 : tie.Need-returns-2
+unfolding endIn
+returns-2 c =
     let args′ = c .before .before .before .before .args in
     let a = args′ in let t : ltb 0 (getD (a .s .pending) (a .host .0) 0) ≡ true = lt-ltb 0 (getD (a .s .pending) (a .host .0) 0)
     (omega (arith, c .before .before .of-host .ensures, c .before .if1 .left)) in c .append .ensures
-    ∙ sym (rw (t, endIn))))
+    ∙ sym (rw (t, endIn))
+
+pub serve-end-spec : {M : Type 1} → statement M
+serve-end-spec = tie.close (tie.spec (λ c κs. search needs) (λ c κs. search needs) returns (λ c κs. search needs) returns-2)

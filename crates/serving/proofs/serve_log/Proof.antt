@@ -11,21 +11,20 @@ use borrow.Author.Needs.{needs}
 use Rattle.serving.proofs.serve_log.Statement.{statement}
 use Rattle.serving.proofs.serve_log.Tie as tie
 
-pub serve-log-spec : {M : Type 1} → statement M
+returns : tie.Need-returns
 unfolding logIn pageInto
-serve-log-spec =
-    tie.close
-    (tie.spec
-    (λ c κs. search needs)
-    (λ c.
+returns c =
     let args′ = c .before .before .before .args in
     let t : ltb (length (now (args′ .reply))) 14 ≡ true = lt-ltb (length (now (args′ .reply))) 14 (c .before .if1 .taken) in
-    (c .refused .ensures ∙ sym (rw (t, logIn)), sym (rw (t, pageInto))))
-    (λ c κs. search needs)
-    (λ c κs. search needs)
-    (λ c. search needs)
-    (λ c.
+    (c .refused .ensures ∙ sym (rw (t, logIn)), sym (rw (t, pageInto)))
+
+returns-2 : tie.Need-returns-2
+unfolding logIn pageInto
+returns-2 c =
     let if1′ = c .before .before .before .before .before .if1 in
     let args′ = c .before .before .before .before .before .before .before .args in
     let t : ltb (length (now (args′ .reply))) 14 ≡ false = le-ltb (length (now (args′ .reply))) 14 (if1′ .left) in
-    (c .done .ensures ∙ sym (rw (t, logIn)), c .before .before .before .write-page .ensures)))
+    (c .done .ensures ∙ sym (rw (t, logIn)), c .before .before .before .write-page .ensures)
+
+pub serve-log-spec : {M : Type 1} → statement M
+serve-log-spec = tie.close (tie.spec (λ c κs. search needs) returns (λ c κs. search needs) (λ c κs. search needs) (λ c. search needs) returns-2)

@@ -4,25 +4,9 @@ use Rattle.lent.specs.Layout.{recordIn}
 use Rattle.unpack.proofs.decode.Statement.{statement}
 use Rattle.unpack.proofs.decode.Tie as tie
 
-pub decode-spec : {M : Type 1} → statement M
+returns : tie.Need-returns
 unfolding recordIn
-decode-spec =
-    tie.close
-    (tie.spec
-    (λ c κs. search needs)
-    (λ c κs. search needs)
-    (λ c κs. search needs)
-    (λ c κs. search needs)
-    (λ c κs. search needs)
-    (λ c κs. search needs)
-    (λ c κs. search needs)
-    (λ c κs. search needs)
-    (λ c κs. search needs)
-    (λ c κs. search needs)
-    (λ c κs. search needs)
-    (λ c κs. search needs)
-    (λ c κs. search needs)
-    (λ c.
+returns c =
     let c2 = c .before .before in
     let c3 = c2 .before in
     let c4 = c3 .before in
@@ -48,4 +32,10 @@ decode-spec =
       c6 .tail4 .ensures,
       c3 .frame-in2 .ensures,
       c4 .tail5 .ensures,
-    )))
+    )
+
+pub decode-spec : {M : Type 1} → statement M
+decode-spec = tie.close (tie.spec
+    (λ c κs. search needs) (λ c κs. search needs) (λ c κs. search needs) (λ c κs. search needs) (λ c κs. search needs) (λ c κs. search needs)
+    (λ c κs. search needs) (λ c κs. search needs) (λ c κs. search needs) (λ c κs. search needs) (λ c κs. search needs) (λ c κs. search needs)
+    (λ c κs. search needs) returns)

@@ -3,24 +3,8 @@ use borrow.Author.Needs.{needs}
 use Rattle.unpack.proofs.job_in.Statement.{statement}
 use Rattle.unpack.proofs.job_in.Tie as tie
 
-pub job-in-spec : {M : Type 1} → statement M
-job-in-spec =
-    tie.close
-    (tie.spec
-    (λ c κs. search needs)
-    (λ c κs. search needs)
-    (λ c κs. search needs)
-    (λ c κs. search needs)
-    (λ c κs. search needs)
-    (λ c κs. search needs)
-    (λ c κs. search needs)
-    (λ c κs. search needs)
-    (λ c κs. search needs)
-    (λ c κs. search needs)
-    (λ c κs. search needs)
-    (λ c κs. search needs)
-    (λ c κs. search needs)
-    (λ c.
+returns : tie.Need-returns
+returns c =
     let c3 = c .before .before .before in
     let c4 = c3 .before in
     let c5 = c4 .before in
@@ -45,4 +29,10 @@ job-in-spec =
       c10 .tail2 .ensures,
       c .byte-at5 .ensures,
       c11 .tail .ensures,
-    )))
+    )
+
+pub job-in-spec : {M : Type 1} → statement M
+job-in-spec = tie.close (tie.spec
+    (λ c κs. search needs) (λ c κs. search needs) (λ c κs. search needs) (λ c κs. search needs) (λ c κs. search needs) (λ c κs. search needs)
+    (λ c κs. search needs) (λ c κs. search needs) (λ c κs. search needs) (λ c κs. search needs) (λ c κs. search needs) (λ c κs. search needs)
+    (λ c κs. search needs) returns)

@@ -16,39 +16,43 @@ Inv-loop bytes words₀ i₀ words i = (take i words ≡ wordsIn i bytes) × (i 
 abbrev μ-loop : tie.MeasureT-loop
 μ-loop bytes words₀ i₀ words i = 256 - i
 
-pub places-in-spec : {M : Type 1} → statement M
+loop-holds : tie.Need-loop-holds Inv-loop μ-loop
 unfolding wordsIn
-places-in-spec =
-    tie.close
-    (tie.spec
-    Inv-loop
-    μ-loop
-    (λ c κs. search needs)
-    (λ c. search needs)
-    (λ c. (refl, omega arith, refl))
-    (λ c. search needs)
-    (λ c. search needs)
-    (λ c. let i = c .before .before .loop .i in search (needs, c .shared-slice-known2 .given (2 * i)))
-    (λ c. search needs)
-    (λ c. search needs)
-    (λ c. search needs)
-    (λ c. let i = c .before .before .before .loop .i in search (needs, c .shared-slice-known3 .given (2 * i + 1)))
-    (λ c. let i = c .before .before .before .loop .i in omega (arith, c .shared-slice-known3 .given (2 * i + 1) .fits))
-    (λ c.
+loop-holds c = (refl, omega arith, refl)
+
+cast-words : tie.Need-cast-words Inv-loop μ-loop
+cast-words c = let i = c .before .before .loop .i in search (needs, c .shared-slice-known2 .given (2 * i))
+
+cast-words-2 : tie.Need-cast-words-2 Inv-loop μ-loop
+cast-words-2 c = let i = c .before .before .before .loop .i in search (needs, c .shared-slice-known3 .given (2 * i + 1))
+
+mul-words-3 : tie.Need-mul-words-3 Inv-loop μ-loop
+mul-words-3 c = let i = c .before .before .before .loop .i in omega (arith, c .shared-slice-known3 .given (2 * i + 1) .fits)
+
+add-words-2 : tie.Need-add-words-2 Inv-loop μ-loop
+add-words-2 c =
     let i = c .before .before .before .loop .i in omega
-    (arith, c .before .shared-slice-known2 .given (2 * i) .fits, c .shared-slice-known3 .given (2 * i + 1) .fits))
-    (λ c. search needs)
-    (λ c. search needs)
-    (λ c. search needs)
-    (λ c. search needs)
-    (λ c.
+    (arith, c .before .shared-slice-known2 .given (2 * i) .fits, c .shared-slice-known3 .given (2 * i + 1) .fits)
+
+loop-again : tie.Need-loop-again Inv-loop μ-loop
+unfolding wordsIn
+loop-again c =
     let c3 = c .before .before .before in
     let l = now (c3 .before .before .before .args .bytes) in (
       read-more l (c3 .loop .words) (c3 .loop .i) _ (c3 .loop .inv .0) (omega arith) (word-there l (c3 .loop .i)),
       omega arith,
       simp length-set (omega arith),
-    ))
-    (λ c.
+    )
+
+returns-2 : tie.Need-returns-2 Inv-loop μ-loop
+unfolding wordsIn
+returns-2 c =
     let loop′ = c .before .loop in
     let args′ = c .before .before .before .before .args in
-    read-all (now (args′ .bytes)) (loop′ .words) (loop′ .i) (loop′ .inv .0) (omega arith) (loop′ .inv .2)))
+    read-all (now (args′ .bytes)) (loop′ .words) (loop′ .i) (loop′ .inv .0) (omega arith) (loop′ .inv .2)
+
+pub places-in-spec : {M : Type 1} → statement M
+places-in-spec = tie.close (tie.spec
+    Inv-loop μ-loop (λ c κs. search needs) (λ c. search needs) loop-holds (λ c. search needs) (λ c. search needs) cast-words (λ c. search needs)
+    (λ c. search needs) (λ c. search needs) cast-words-2 mul-words-3 add-words-2 (λ c. search needs) (λ c. search needs) (λ c. search needs)
+    (λ c. search needs) loop-again returns-2)

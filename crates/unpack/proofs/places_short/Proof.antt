@@ -16,28 +16,27 @@ Inv-loop bytes words₀ i₀ words i = (take i words ≡ wordsIn i bytes) × (i 
 abbrev μ-loop : tie.MeasureT-loop
 μ-loop bytes words₀ i₀ words i = 256 - i
 
-pub places-short-spec : {M : Type 1} → statement M
+loop-holds : tie.Need-loop-holds Inv-loop μ-loop
 unfolding wordsIn
-places-short-spec =
-    tie.close
-    (tie.spec
-    Inv-loop
-    μ-loop
-    (λ c. (refl, omega arith, refl))
-    (λ c. search needs)
-    (λ c κs. search needs)
-    (λ c κs. search needs)
-    (λ c. search needs)
-    (λ c. search needs)
-    (λ c. search needs)
-    (λ c. search needs)
-    (λ c.
+loop-holds c = (refl, omega arith, refl)
+
+loop-again : tie.Need-loop-again Inv-loop μ-loop
+unfolding wordsIn
+loop-again c =
     let c3 = c .before .before .before in
     let c5 = c3 .before .before in (
       read-more (now (c5 .args .bytes)) (c3 .loop .words) (c3 .loop .i) (c .word-at .result) (c3 .loop .inv .0) (omega arith) (rw
           (c .before .tail .ensures) at (c .word-at .ensures)),
       omega arith,
       simp length-set (omega arith),
-    ))
-    (λ c. read-all (now (c .before .before .before .args .bytes)) (c .before .loop .words) (c .before .loop .i) (c .before .loop .inv .0)
-    (omega arith) (c .before .loop .inv .2)))
+    )
+
+returns : tie.Need-returns Inv-loop μ-loop
+unfolding wordsIn
+returns c = read-all (now (c .before .before .before .args .bytes)) (c .before .loop .words) (c .before .loop .i) (c .before .loop .inv .0)
+    (omega arith) (c .before .loop .inv .2)
+
+pub places-short-spec : {M : Type 1} → statement M
+places-short-spec = tie.close (tie.spec
+    Inv-loop μ-loop loop-holds (λ c. search needs) (λ c κs. search needs) (λ c κs. search needs) (λ c. search needs) (λ c. search needs) (λ c. search needs)
+    (λ c. search needs) loop-again returns)

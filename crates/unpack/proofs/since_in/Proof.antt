@@ -5,10 +5,11 @@ use Rattle.lent.specs.Layout.{wordsIn}
 use Rattle.unpack.proofs.since_in.Statement.{statement}
 use Rattle.unpack.proofs.since_in.Tie as tie
 
-pub since-in-spec : {M : Type 1} → statement M
+returns : tie.Need-returns
 unfolding wordsIn
-since-in-spec =
-    tie.close
-    (tie.spec (λ c κs. search needs) (λ c κs. search needs) (λ c κs. search needs) (λ c κs. search needs) (λ c. rw
+returns c = rw
     (c .before .before .before .word-at .ensures, c .before .before .word-at2 .ensures, c .before .word-at3 .ensures, c .word-at4 .ensures)
-    (simp getD-drop)))
+    (simp getD-drop)
+
+pub since-in-spec : {M : Type 1} → statement M
+since-in-spec = tie.close (tie.spec (λ c κs. search needs) (λ c κs. search needs) (λ c κs. search needs) (λ c κs. search needs) returns)

@@ -19,26 +19,29 @@ Inv-loop bytes₀ source i₀ bytes i = (bytes ≡ take i source ++ drop i bytes
 abbrev μ-loop : tie.MeasureT-loop
 μ-loop bytes₀ source i₀ bytes i = length source - i
 
-pub lay-spec : {M : Type 1} → statement M
+returns : tie.Need-returns Inv-loop μ-loop
 unfolding overlay
-lay-spec =
-    tie.close
-    (tie.spec
-    Inv-loop
-    μ-loop
-    (λ c. rw (lt-ltb (length (now (c .before .args .bytes))) (length (now (c .before .args .source))) (omega arith), overlay))
-    (λ c. search needs)
-    (λ c. search needs)
-    (λ c. omega (arith, c .before .before .before .if1 .left))
-    (λ c. search needs)
-    (λ c. search needs)
-    (λ c.
+returns c = rw (lt-ltb (length (now (c .before .args .bytes))) (length (now (c .before .args .source))) (omega arith), overlay)
+
+slice-write-bytes : tie.Need-slice-write-bytes Inv-loop μ-loop
+slice-write-bytes c = omega (arith, c .before .before .before .if1 .left)
+
+loop-again : tie.Need-loop-again Inv-loop μ-loop
+unfolding overlay
+loop-again c =
     let loop′ = c .before .before .loop in
     let args′ = c .before .before .before .before .args in
     let s = now (args′ .source) in let b = now (args′ .bytes) in let i = loop′ .i in let l : loop′ .i < length
     (now (args′ .bytes)) = omega (arith, c .before .before .before .if1 .left) in
-    (rw (loop′ .inv .0) (copy-more s b i (c .before .loop-test .taken) l), omega arith, simp length-set (omega arith)))
-    (λ c. search needs)
-    (λ c.
+    (rw (loop′ .inv .0) (copy-more s b i (c .before .loop-test .taken) l), omega arith, simp length-set (omega arith))
+
+returns-2 : tie.Need-returns-2 Inv-loop μ-loop
+unfolding overlay
+returns-2 c =
     let z : c .before .loop .i ≡ length (now (c .before .before .before .args .source)) = omega arith in
-    rw (le-ltb _ _ (c .before .before .if1 .left), overlay) (rw (z, take-length) at (c .before .loop .inv .0))))
+    rw (le-ltb _ _ (c .before .before .if1 .left), overlay) (rw (z, take-length) at (c .before .loop .inv .0))
+
+pub lay-spec : {M : Type 1} → statement M
+lay-spec = tie.close (tie.spec
+    Inv-loop μ-loop returns (λ c. search needs) (λ c. search needs) slice-write-bytes (λ c. search needs) (λ c. search needs) loop-again (λ c. search needs)
+    returns-2)

@@ -4,22 +4,11 @@ use Rattle.wire.specs.Code.{overlay, pageInto}
 use Rattle.wire.proofs.write_page.Statement.{statement}
 use Rattle.wire.proofs.write_page.Tie as tie
 
-pub write-page-spec : {M : Type 1} → statement M
+returns : tie.Need-returns
 unfolding overlay pageInto
-write-page-spec =
-    tie.close
-    (tie.spec
-    (λ c. search needs)
-    (λ c. search needs)
-    (λ c. search needs)
-    (λ c. search needs)
-    (λ c. search needs)
-    (λ c. search needs)
-    (λ c. search needs)
-    (λ c. search needs)
-    (λ c. search needs)
-    (λ c. search needs)
-    (λ c. search needs)
-    (λ c κs. search needs)
-    (λ c. search needs)
-    (λ c. c .before .before .lay .ensures))
+returns c = c .before .before .lay .ensures
+
+pub write-page-spec : {M : Type 1} → statement M
+write-page-spec = tie.close (tie.spec
+    (λ c. search needs) (λ c. search needs) (λ c. search needs) (λ c. search needs) (λ c. search needs) (λ c. search needs) (λ c. search needs)
+    (λ c. search needs) (λ c. search needs) (λ c. search needs) (λ c. search needs) (λ c κs. search needs) (λ c. search needs) returns)

@@ -11,40 +11,42 @@ use borrow.Author.Needs.{needs}
 use Rattle.drive.proofs.bursts.lay.Statement.{statement}
 use Rattle.drive.proofs.bursts.lay.Tie as tie
 
-pub lay-spec : {M : Type 1} → statement M
-lay-spec =
-    tie.close
-    (tie.spec
-    (λ c κs. search needs)
-    (λ c. (omega arith, λ h. absurd (omega arith), λ h. absurd (omega arith), λ e. refl))
-    (λ c. search needs)
-    (λ c κs. search needs)
-    (λ c. search needs)
-    (λ c.
+returns : tie.Need-returns
+returns c = (omega arith, λ h. absurd (omega arith), λ h. absurd (omega arith), λ e. refl)
+
+mul-at : tie.Need-mul-at
+mul-at c =
     let burst-len′ = c .before .before .before .before .burst-len in
     let h : 0 < burst-len′ .result = omega (arith, c .before .before .before .if1 .left) in
-    omega (arith, lane-ends _ _ _ _ _ _ (c .before .size-of .ensures) (burst-len′ .ensures .1 h)))
-    (λ c.
+    omega (arith, lane-ends _ _ _ _ _ _ (c .before .size-of .ensures) (burst-len′ .ensures .1 h))
+
+add-at : tie.Need-add-at
+add-at c =
     let burst-len′ = c .before .before .before .before .before .burst-len in
     let h : 0 < burst-len′ .result = omega (arith, c .before .before .before .before .if1 .left) in
-    omega (arith, lane-ends _ _ _ _ _ _ (c .before .before .size-of .ensures) (burst-len′ .ensures .1 h)))
-    (λ c.
+    omega (arith, lane-ends _ _ _ _ _ _ (c .before .before .size-of .ensures) (burst-len′ .ensures .1 h))
+
+add-program-all : tie.Need-add-program-all
+add-program-all c =
     let burst-len′ = c .before .before .before .before .before .before .before .burst-len in
     let h : 0 < burst-len′ .result = omega (arith, c .before .before .before .before .before .before .if1 .left) in
-    omega (arith, burst-len′ .ensures .1 h .held))
-    (λ c. search needs)
-    (λ c. search needs)
-    (λ c.
+    omega (arith, burst-len′ .ensures .1 h .held)
+
+part-program-all-end : tie.Need-part-program-all-end
+part-program-all-end c =
     let burst-len′ = c .before .before .before .before .before .before .before .burst-len in
     let h : 0 < burst-len′ .result = omega (arith, c .before .before .before .before .before .before .if1 .left) in
-    let s = burst-len′ .ensures .1 h in let t = s .held in search needs)
-    (λ c κs.
+    let s = burst-len′ .ensures .1 h in let t = s .held in search needs
+
+program-all-requires : tie.Need-program-all-requires
+program-all-requires c κs =
     let burst-len′ = c .before .before .before .before .before .before .before .before .burst-len in
     let h : 0 < burst-len′ .result = omega (arith, c .before .before .before .before .before .before .before .if1 .left) in
     let t = lane-ends _ _ _ _ _ _ (c .before .before .before .before .before .size-of .ensures) (burst-len′ .ensures .1 h) in
-    simp (length-take, length-drop) (omega arith))
-    (λ c. search needs)
-    (λ c.
+    simp (length-take, length-drop) (omega arith)
+
+returns-2 : tie.Need-returns-2
+returns-2 c =
     let size-of′ = c .before .before .before .before .before .before .before .before .size-of in
     let if1′ = c .before .before .before .before .before .before .before .before .before .before .if1 in
     let burst-len′ = c .before .before .before .before .before .before .before .before .before .before .before .burst-len in
@@ -61,4 +63,9 @@ lay-spec =
         omega (arith, s .held),
       ),
       λ e. absurd (omega (arith, if1′ .left)),
-    )))
+    )
+
+pub lay-spec : {M : Type 1} → statement M
+lay-spec = tie.close (tie.spec
+    (λ c κs. search needs) returns (λ c. search needs) (λ c κs. search needs) (λ c. search needs) mul-at add-at add-program-all (λ c. search needs)
+    (λ c. search needs) part-program-all-end program-all-requires (λ c. search needs) returns-2)

@@ -17,31 +17,27 @@ Inv-loop image₀ at bytes i₀ image i =
 abbrev μ-loop : tie.MeasureT-loop
 μ-loop image₀ at bytes i₀ image i = length bytes - i
 
-pub program-all-spec : {M : Type 1} → statement M
-program-all-spec =
-    tie.close
-    (tie.spec
-    Inv-loop
-    μ-loop
-    (λ c. (write-first (now (c .args .image)) (c .args .at) (now (c .args .bytes)), omega arith, refl))
-    (λ c. search needs)
-    (λ c. search needs)
-    (λ c. search needs)
-    (λ c. search needs)
-    (λ c. search needs)
-    (λ c. search needs)
-    (λ c. search needs)
-    (λ c.
+loop-holds : tie.Need-loop-holds Inv-loop μ-loop
+loop-holds c = (write-first (now (c .args .image)) (c .args .at) (now (c .args .bytes)), omega arith, refl)
+
+loop-again : tie.Need-loop-again Inv-loop μ-loop
+loop-again c =
     let loop′ = c .before .before .before .loop in
     let args′ = c .before .before .before .before .args in (
       sym (write-one (loop′ .image) (args′ .at) (now (args′ .bytes)) (loop′ .i)
           (c .before .before .loop-test .taken)) ∙ loop′ .inv .0,
       omega arith,
       simp length-set (omega arith),
-    ))
-    (λ c. search needs)
-    (λ c.
+    )
+
+returns : tie.Need-returns Inv-loop μ-loop
+returns c =
     let loop′ = c .before .loop in
     let args′ = c .before .before .args in
     sym (write-last (loop′ .image) (args′ .at) (now (args′ .bytes)) (loop′ .i) (omega arith))
-    ∙ loop′ .inv .0))
+    ∙ loop′ .inv .0
+
+pub program-all-spec : {M : Type 1} → statement M
+program-all-spec = tie.close (tie.spec
+    Inv-loop μ-loop loop-holds (λ c. search needs) (λ c. search needs) (λ c. search needs) (λ c. search needs) (λ c. search needs) (λ c. search needs)
+    (λ c. search needs) loop-again (λ c. search needs) returns)

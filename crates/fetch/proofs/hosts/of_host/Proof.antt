@@ -7,13 +7,11 @@ use borrow.Author.Needs.{needs}
 use Rattle.fetch.proofs.hosts.of_host.Statement.{statement}
 use Rattle.fetch.proofs.hosts.of_host.Tie as tie
 
-pub of-host-spec : {M : Type 1} → statement M
-of-host-spec = tie.close (tie.spec
-    (λ c. search needs)
-    (λ c. search needs)
-    (λ c. search needs)
-    (λ c. search needs)
-    (λ c.
+returns-2 : tie.Need-returns-2
+returns-2 c =
     let args′ = c .before .before .args in
     let l : length (args′ .t1) ≡ 4 = search needs in let k : length (args′ .t1) ≤ args′ .host .0 = omega arith in sym
-    (List·getD-eq-default (args′ .t1) 0 k)))
+    (List·getD-eq-default (args′ .t1) 0 k)
+
+pub of-host-spec : {M : Type 1} → statement M
+of-host-spec = tie.close (tie.spec (λ c. search needs) (λ c. search needs) (λ c. search needs) (λ c. search needs) returns-2)

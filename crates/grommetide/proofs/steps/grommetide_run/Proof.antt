@@ -8,21 +8,13 @@ use borrow.Author.Needs.{needs}
 use Rattle.grommetide.proofs.steps.grommetide_run.Statement.{statement}
 use Rattle.grommetide.proofs.steps.grommetide_run.Tie as tie
 
-pub grommetide-run-spec : {M : Type 1} → statement M
+returns : tie.Need-returns
 unfolding edgeRun
-grommetide-run-spec =
-    tie.close
-    (tie.spec
-    (λ c. let t = ne-eqb _ _ (c .if1 .taken) in (rw t, λ l. absurd (c .if1 .taken l)))
-    (λ c κs. search needs)
-    (λ c κs. search needs)
-    (λ c κs. search needs)
-    (λ c κs. search needs)
-    (λ c κs. search needs)
-    (λ c κs. search needs)
-    (λ c. search needs)
-    (λ c. search needs)
-    (λ c.
+returns c = let t = ne-eqb _ _ (c .if1 .taken) in (rw t, λ l. absurd (c .if1 .taken l))
+
+returns-2 : tie.Need-returns-2
+unfolding edgeRun
+returns-2 c =
     let run-core′ = c .before .before .before .before .before .before .run-core in
     let c11 = c .before .before .before .before .before .before .before .before .before .before .before in
     let numbers′ = c11 .numbers in
@@ -39,12 +31,11 @@ grommetide-run-spec =
     let b = now (args′ .board) in let l = if1′ .left in let q = rw
     (numbers′ .ensures, places′ .ensures, unit′ .ensures, append′ .ensures) at (run-core′ .ensures) in let z = ran-none
     (args′ .blocks) (now (args′ .image)) _ b _ _ _ (args′ .most) (run-core′ .result) l q (c .number .ensures) (c .before .if2 .taken) refl in
-    (rw (eq-eqb _ _ l) (z .0), λ _. z .1))
-    (λ c κs. search needs)
-    (λ c κs. search needs)
-    (λ c. search needs)
-    (λ c. search needs)
-    (λ c.
+    (rw (eq-eqb _ _ l) (z .0), λ _. z .1)
+
+returns-3 : tie.Need-returns-3
+unfolding edgeRun
+returns-3 c =
     let if2′ = c .before .before .before .before .before .before .if2 in
     let c11 = c .before .before .before .before .before .before .before .before .before .before .before in
     let run-core′ = c11 .run-core in
@@ -63,4 +54,9 @@ grommetide-run-spec =
     let b = now (args′ .board) in let l = if1′ .left in let q = rw
     (numbers′ .ensures, places′ .ensures, unit′ .ensures, append′ .ensures) at (run-core′ .ensures) in let z = ran-some
     (args′ .blocks) (now (args′ .image)) _ b _ _ _ (args′ .most) (run-core′ .result) l q (c .number2 .ensures) (if2′ .left)
-    (c .before .before .before .write-loaded .ensures) in (rw (eq-eqb _ _ l) (z .0), λ _. z .1)))
+    (c .before .before .before .write-loaded .ensures) in (rw (eq-eqb _ _ l) (z .0), λ _. z .1)
+
+pub grommetide-run-spec : {M : Type 1} → statement M
+grommetide-run-spec = tie.close (tie.spec
+    returns (λ c κs. search needs) (λ c κs. search needs) (λ c κs. search needs) (λ c κs. search needs) (λ c κs. search needs) (λ c κs. search needs)
+    (λ c. search needs) (λ c. search needs) returns-2 (λ c κs. search needs) (λ c κs. search needs) (λ c. search needs) (λ c. search needs) returns-3)

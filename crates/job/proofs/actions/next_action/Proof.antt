@@ -3,26 +3,26 @@ use borrow.Author.Needs.{needs}
 use Rattle.job.proofs.actions.next_action.Statement.{statement}
 use Rattle.job.proofs.actions.next_action.Tie as tie
 
+returns : tie.Need-returns
+returns c = rw (c .before .before .enum-told .given .1, c .wiped .ensures)
+
+returns-2 : tie.Need-returns-2
+returns-2 c = rw (c .before .enum-told2 .given .1) (c .open-action .ensures)
+
+returns-3 : tie.Need-returns-3
+returns-3 c = rw (c .before .enum-told3 .given .1)
+
+returns-4 : tie.Need-returns-4
+returns-4 c = rw (c .before .enum-told4 .given .1) (c .seal-action .ensures)
+
+returns-5 : tie.Need-returns-5
+returns-5 c = rw (c .enum-told5 .given .1)
+
+returns-6 : tie.Need-returns-6
+returns-6 c = rw (c .before .before .enum-told6 .given .1)
+
 pub next-action-spec : {M : Type 1} → statement M
-next-action-spec =
-    tie.close
-    (tie.spec
-    (λ c. search needs)
-    (λ c κs. search needs)
-    (λ c. rw (c .before .before .enum-told .given .1, c .wiped .ensures))
-    (λ c. search needs)
-    (λ c κs. search needs)
-    (λ c. rw (c .before .enum-told2 .given .1) (c .open-action .ensures))
-    (λ c. search needs)
-    (λ c. search needs)
-    (λ c. rw (c .before .enum-told3 .given .1))
-    (λ c. search needs)
-    (λ c κs. search needs)
-    (λ c. rw (c .before .enum-told4 .given .1) (c .seal-action .ensures))
-    (λ c. search needs)
-    (λ c. rw (c .enum-told5 .given .1))
-    (λ c. search needs)
-    (λ c. search needs)
-    (λ c. search needs)
-    (λ c. search needs)
-    (λ c. rw (c .before .before .enum-told6 .given .1)))
+next-action-spec = tie.close (tie.spec
+    (λ c. search needs) (λ c κs. search needs) returns (λ c. search needs) (λ c κs. search needs) returns-2 (λ c. search needs) (λ c. search needs) returns-3
+    (λ c. search needs) (λ c κs. search needs) returns-4 (λ c. search needs) returns-5 (λ c. search needs) (λ c. search needs) (λ c. search needs)
+    (λ c. search needs) returns-6)

@@ -5,13 +5,27 @@ use Rattle.flash.specs.Flash.{writes, writeStep}
 use Rattle.job.proofs.actions.open_action.Statement.{statement}
 use Rattle.job.proofs.actions.open_action.Tie as tie
 
-pub open-action-spec : {M : Type 1} → statement M
+returns : tie.Need-returns
 unfolding writes
-open-action-spec = tie.close (tie.spec
-    (λ c. rw (c .match .keys1))
-    (λ c. rw (c .match .keys2))
-    (λ c. rw (c .match .keys3))
-    (λ c. rw (c .match .keys4))
-    (λ c.
+returns c = rw (c .match .keys1)
+
+returns-2 : tie.Need-returns-2
+unfolding writes
+returns-2 c = rw (c .match .keys2)
+
+returns-3 : tie.Need-returns-3
+unfolding writes
+returns-3 c = rw (c .match .keys3)
+
+returns-4 : tie.Need-returns-4
+unfolding writes
+returns-4 c = rw (c .match .keys4)
+
+returns-5 : tie.Need-returns-5
+unfolding writes
+returns-5 c =
     let args′ = c .before .args in
-    let n = c .match .rest in ap (writeStep (args′ .target)) (open-rest (args′ .i) (n .0 .0 .0 .1) (n .0 .0 .1) (n .0 .1) (n .1))))
+    let n = c .match .rest in ap (writeStep (args′ .target)) (open-rest (args′ .i) (n .0 .0 .0 .1) (n .0 .0 .1) (n .0 .1) (n .1))
+
+pub open-action-spec : {M : Type 1} → statement M
+open-action-spec = tie.close (tie.spec returns returns-2 returns-3 returns-4 returns-5)

@@ -11,35 +11,34 @@ use borrow.Author.Needs.{needs}
 use Rattle.job.proofs.actions.program_in.Statement.{statement}
 use Rattle.job.proofs.actions.program_in.Tie as tie
 
-pub program-in-spec : {M : Type 1} → statement M
-program-in-spec =
-    tie.close
-    (tie.spec
-    (λ c κs. search needs)
-    (λ c κs. search needs)
-    (λ c.
+returns : tie.Need-returns
+returns c =
     let args′ = c .before .before .before .before .args in
     did-not (args′ .blocks) (program (args′ .block) (args′ .at) (args′ .byte)) (now (args′ .image))
-    (rw (c .before .before .size-of .ensures) at (sym (c .before .lies-in .ensures) ∙ not-true _ (c .if1 .taken))))
-    (λ c.
+    (rw (c .before .before .size-of .ensures) at (sym (c .before .lies-in .ensures) ∙ not-true _ (c .if1 .taken)))
+
+mul-program : tie.Need-mul-program
+mul-program c =
     let size-of′ = c .before .before .before .size-of in
     let args′ = c .before .before .before .before .before .args in
     omega (
       arith,
       place-low (args′ .blocks) (length (now (args′ .image))) (size-of′ .result) (program (args′ .block) (args′ .at) (args′ .byte))
           (size-of′ .ensures) (sym (c .before .before .lies-in .ensures) ∙ not-false _ (c .before .if1 .left)),
-    ))
-    (λ c.
+    )
+
+add-program : tie.Need-add-program
+add-program c =
     let size-of′ = c .before .before .before .size-of in
     let args′ = c .before .before .before .before .before .args in
     omega (
       arith,
       place-low (args′ .blocks) (length (now (args′ .image))) (size-of′ .result) (program (args′ .block) (args′ .at) (args′ .byte))
           (size-of′ .ensures) (sym (c .before .before .lies-in .ensures) ∙ not-false _ (c .before .if1 .left)),
-    ))
-    (λ c κs. search needs)
-    (λ c. search needs)
-    (λ c.
+    )
+
+returns-2 : tie.Need-returns-2
+returns-2 c =
     let if1′ = c .before .before .before .before .if1 in
     let lies-in′ = c .before .before .before .before .before .lies-in in
     let size-of′ = c .before .before .before .before .before .before .size-of in
@@ -49,4 +48,8 @@ program-in-spec =
       d .0,
       c .before .before .program .ensures ∙ ap (λ (s : ℕ). programAt (now (args′ .image)) (args′ .block * s + args′ .at) (args′ .byte))
           (size-of′ .ensures) ∙ d .1,
-    )))
+    )
+
+pub program-in-spec : {M : Type 1} → statement M
+program-in-spec = tie.close (tie.spec
+    (λ c κs. search needs) (λ c κs. search needs) returns mul-program add-program (λ c κs. search needs) (λ c. search needs) returns-2)

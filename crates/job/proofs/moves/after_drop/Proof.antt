@@ -6,10 +6,10 @@ use borrow.Author.Needs.{needs}
 use Rattle.job.proofs.moves.after_drop.Statement.{statement}
 use Rattle.job.proofs.moves.after_drop.Tie as tie
 
-pub after-drop-spec : {M : Type 1} → statement M
+returns : tie.Need-returns
 unfolding advance
-after-drop-spec = tie.close (tie.spec
-    (λ c κs. search needs)
-    (λ c κs. search needs)
-    (λ c.
-    λ N i p u f. rw (c .enter-append .ensures, c .before .landed .ensures) (append-leaves p u f (landedOn (c .before .before .args .n)))))
+returns c =
+    λ N i p u f. rw (c .enter-append .ensures, c .before .landed .ensures) (append-leaves p u f (landedOn (c .before .before .args .n)))
+
+pub after-drop-spec : {M : Type 1} → statement M
+after-drop-spec = tie.close (tie.spec (λ c κs. search needs) (λ c κs. search needs) returns)

@@ -12,21 +12,25 @@ use borrow.Author.Needs.{needs}
 use Rattle.job.proofs.moves.after_wipe.Statement.{statement}
 use Rattle.job.proofs.moves.after_wipe.Tie as tie
 
-pub after-wipe-spec : {M : Type 1} → statement M
-unfolding advance
-after-wipe-spec =
-    tie.close (tie.spec
-    (λ c κs. search needs)
-    (λ c κs.
+next-step-requires : tie.Need-next-step-requires
+next-step-requires c κs =
     let args′ = c .before .before .before .before .args in
     let good′ = c .before .before .before .before .good in
-    omega (arith, ltb-true (suc (args′ .n .cursor .index)) (args′ .n .job .wipes) (sym (c .before .has-next .ensures) ∙ c .if1 .taken), good′))
-    (λ c.
+    omega (arith, ltb-true (suc (args′ .n .cursor .index)) (args′ .n .job .wipes) (sym (c .before .has-next .ensures) ∙ c .if1 .taken), good′)
+
+returns : tie.Need-returns
+unfolding advance
+returns c =
     let args′ = c .before .before .before .before .before .args in
     λ N i p u f. rw (c .next-step .ensures) (on-leaves p u f Wipe (args′ .n .job .wipes) (args′ .n) (enterOpen (assemble (args′ .n) p u f))
-    (sym (c .before .before .has-next .ensures) ∙ c .before .if1 .taken)))
-    (λ c κs. search needs)
-    (λ c.
+    (sym (c .before .before .has-next .ensures) ∙ c .before .if1 .taken))
+
+returns-2 : tie.Need-returns-2
+unfolding advance
+returns-2 c =
     let args′ = c .before .before .before .before .before .args in
     λ N i p u f. rw (c .enter-open .ensures) (off-leaves p u f Wipe (args′ .n .job .wipes) (assemble (args′ .n) p u f) (goOpen (args′ .n))
-    (enterOpen (assemble (args′ .n) p u f)) (sym (c .before .before .has-next .ensures) ∙ c .before .if1 .left) (open-leaves p u f (args′ .n)))))
+    (enterOpen (assemble (args′ .n) p u f)) (sym (c .before .before .has-next .ensures) ∙ c .before .if1 .left) (open-leaves p u f (args′ .n)))
+
+pub after-wipe-spec : {M : Type 1} → statement M
+after-wipe-spec = tie.close (tie.spec (λ c κs. search needs) next-step-requires returns (λ c κs. search needs) returns-2)

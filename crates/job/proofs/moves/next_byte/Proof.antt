@@ -9,12 +9,11 @@ use Rattle.job.specs.Code.{staged}
 use Rattle.job.proofs.moves.next_byte.Statement.{statement}
 use Rattle.job.proofs.moves.next_byte.Tie as tie
 
-pub next-byte-spec : {M : Type 1} → statement M
-next-byte-spec =
-    tie.close
-    (tie.spec
-    (λ c κs. search needs)
-    (λ c. search needs)
-    (λ c. let n = c .before .before .before .before .before .args .n in
+returns : tie.Need-returns
+returns c =
+    let n = c .before .before .before .before .before .args .n in
     ap₂ (λ (m o : ℕ). staged Copy (cursor (n .cursor .index) m (n .cursor .id) (n .cursor .source) (n .cursor .size) o) n)
-    (add-one (n .cursor .at)) (c .before .past .ensures)))
+    (add-one (n .cursor .at)) (c .before .past .ensures)
+
+pub next-byte-spec : {M : Type 1} → statement M
+next-byte-spec = tie.close (tie.spec (λ c κs. search needs) (λ c. search needs) returns)

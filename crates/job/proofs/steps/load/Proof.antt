@@ -1,6 +1,7 @@
 -- A frame to copy, put into the buffer.
 use Prim.Native.Nat.{ℕ, _+_}
-use Rattle.job.proofs.Loading.{head-short, load-leaves}
+use Rattle.frame.proofs.First.{head-short}
+use Rattle.job.proofs.Loading.{load-leaves}
 use denote.Ref.{now}
 use native.Mathlib.Omega.{arith}
 use mathlib.Core.Path.{ap}
@@ -8,23 +9,14 @@ use borrow.Author.Needs.{needs}
 use Rattle.job.proofs.steps.load.Statement.{statement}
 use Rattle.job.proofs.steps.load.Tie as tie
 
-pub load-spec : {M : Type 1} → statement M
-load-spec =
-    tie.close
-    (tie.spec
-    (λ c κs. search needs)
-    (λ c. search needs)
-    (λ c. search needs)
-    (λ c. search needs)
-    (λ c. search needs)
-    (λ c κs. search needs)
-    (λ c κs. search needs)
-    (λ c.
+cast-t15 : tie.Need-cast-t15
+cast-t15 c =
     let args′ = c .before .before .before .before .before .before .args in
     let pre′ = c .before .before .before .before .before .before .pre in
-    omega (arith, c .frame-len .ensures, head-short (args′ .fetch .head) (pre′ .1)))
-    (λ c κs. search needs)
-    (λ c.
+    omega (arith, c .frame-len .ensures, head-short (args′ .fetch .head) (pre′ .1))
+
+returns : tie.Need-returns
+returns c =
     let frame-len′ = c .before .frame-len in
     let encode-frame′ = c .before .before .before .encode-frame in
     let value-len′ = c .before .before .before .before .before .value-len in
@@ -32,4 +24,9 @@ load-spec =
     let pre′ = c .before .before .before .before .before .before .before .pre in
     λ p f. rw (c .going .ensures) (load-leaves (now (args′ .source)) (args′ .fetch) (args′ .n) (pre′ .0) (pre′ .1)
     (args′ .fetch .value + value-len′ .result) (frame-len′ .result) (encode-frame′ .result)
-    (ap (λ (k : ℕ). args′ .fetch .value + k) (value-len′ .ensures)) (encode-frame′ .ensures) (frame-len′ .ensures) p (now (args′ .unit)) f)))
+    (ap (λ (k : ℕ). args′ .fetch .value + k) (value-len′ .ensures)) (encode-frame′ .ensures) (frame-len′ .ensures) p (now (args′ .unit)) f)
+
+pub load-spec : {M : Type 1} → statement M
+load-spec = tie.close (tie.spec
+    (λ c κs. search needs) (λ c. search needs) (λ c. search needs) (λ c. search needs) (λ c. search needs) (λ c κs. search needs) (λ c κs. search needs)
+    cast-t15 (λ c κs. search needs) returns)

@@ -10,16 +10,21 @@ use borrow.Author.Needs.{needs}
 use Rattle.looks.proofs.image.next_block.Statement.{statement}
 use Rattle.looks.proofs.image.next_block.Tie as tie
 
-pub next-block-spec : {M : Type 1} → statement M
-next-block-spec = tie.close (tie.spec
-    (λ c.
+returns : tie.Need-returns
+returns c =
     let args′ = c .before .args in
-    let e : ltb (suc (args′ .number)) (args′ .blocks) ≡ false = le-ltb (suc (args′ .number)) (args′ .blocks) (omega arith) in rw e)
-    (λ c. search needs)
-    (λ c.
+    let e : ltb (suc (args′ .number)) (args′ .blocks) ≡ false = le-ltb (suc (args′ .number)) (args′ .blocks) (omega arith) in rw e
+
+returns-2 : tie.Need-returns-2
+returns-2 c =
     let args′ = c .before .before .args in
     let e : ltb (suc (args′ .number)) (args′ .blocks) ≡ true = lt-ltb (suc (args′ .number)) (args′ .blocks) (omega arith) in rw e
-    (add-one (args′ .number)))
-    (λ c.
+    (add-one (args′ .number))
+
+returns-3 : tie.Need-returns-3
+returns-3 c =
     let args′ = c .before .before .args in
-    let e : ltb (suc (args′ .number)) (args′ .blocks) ≡ false = le-ltb (suc (args′ .number)) (args′ .blocks) (omega arith) in rw e))
+    let e : ltb (suc (args′ .number)) (args′ .blocks) ≡ false = le-ltb (suc (args′ .number)) (args′ .blocks) (omega arith) in rw e
+
+pub next-block-spec : {M : Type 1} → statement M
+next-block-spec = tie.close (tie.spec returns (λ c. search needs) returns-2 returns-3)

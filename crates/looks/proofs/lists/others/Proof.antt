@@ -15,28 +15,37 @@ Inv-loop blocks current skips list₀ k₀ list k = Listed blocks current skips 
 abbrev μ-loop : tie.MeasureT-loop
 μ-loop blocks current skips list₀ k₀ list k = blocks - k
 
-pub others-spec : {M : Type 1} → statement M
-others-spec =
-    tie.close
-    (tie.spec
-    Inv-loop
-    μ-loop
-    (λ c κs. search needs)
-    (λ c. (rw (c .none .ensures) (listed-none _ _ _), omega arith))
-    (λ c. search needs)
-    (λ c. omega (arith, c .before .before .before .pre))
-    (λ c κs. search needs)
-    (λ c κs.
+loop-holds : tie.Need-loop-holds Inv-loop μ-loop
+loop-holds c = (rw (c .none .ensures) (listed-none _ _ _), omega arith)
+
+array-read-is-due : tie.Need-array-read-is-due Inv-loop μ-loop
+array-read-is-due c = omega (arith, c .before .before .before .pre)
+
+note-requires : tie.Need-note-requires Inv-loop μ-loop
+note-requires c κs =
     let loop′ = c .before .before .loop in
     let pre′ = c .before .before .before .before .pre in
-    λ e. omega (arith, pre′, ap (λ (l : Erases). l .count) (loop′ .inv .0 .is), loop′ .inv .0 .few))
-    (λ c. omega (arith, c .before .before .before .before .before .pre))
-    (λ c. omega arith)
-    (λ c.
+    λ e. omega (arith, pre′, ap (λ (l : Erases). l .count) (loop′ .inv .0 .is), loop′ .inv .0 .few)
+
+add-k : tie.Need-add-k Inv-loop μ-loop
+add-k c = omega (arith, c .before .before .before .before .before .pre)
+
+loop-less : tie.Need-loop-less Inv-loop μ-loop
+loop-less c = omega arith
+
+loop-again : tie.Need-loop-again Inv-loop μ-loop
+loop-again c =
     let loop′ = c .before .before .before .loop in
     let pre′ = c .before .before .before .before .before .pre in (
       rw (c .note .ensures, c .before .is-due .ensures, add-one)
           (listed-next _ _ _ (loop′ .k) (loop′ .list) (c .before .before .loop-test .taken) (omega (arith, pre′)) (loop′ .inv .0)),
       omega arith,
-    ))
-    (λ c. listed-all _ _ _ (c .before .loop .k) _ (c .loop-test .left) (c .before .loop .inv .0)))
+    )
+
+returns : tie.Need-returns Inv-loop μ-loop
+returns c = listed-all _ _ _ (c .before .loop .k) _ (c .loop-test .left) (c .before .loop .inv .0)
+
+pub others-spec : {M : Type 1} → statement M
+others-spec = tie.close (tie.spec
+    Inv-loop μ-loop (λ c κs. search needs) loop-holds (λ c. search needs) array-read-is-due (λ c κs. search needs) note-requires add-k loop-less loop-again
+    returns)

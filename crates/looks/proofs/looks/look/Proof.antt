@@ -17,31 +17,27 @@ Inv-loop image blocks places₀ size table₀ seen₀ k₀ places table seen k =
 abbrev μ-loop : tie.MeasureT-loop
 μ-loop image blocks places₀ size table₀ seen₀ k₀ places table seen k = k
 
-pub look-spec : {M : Type 1} → statement M
-look-spec =
-    tie.close
-    (tie.spec
-    Inv-loop
-    μ-loop
-    (λ c κs. search needs)
-    (λ c κs. search needs)
-    (λ c κs. search needs)
-    (λ c.
+loop-holds : tie.Need-loop-holds Inv-loop μ-loop
+loop-holds c =
     let args′ = c .before .before .before .before .args in
-    (rw (c .nothing .ensures) (looked-none (args′ .blocks) (now (args′ .image)) (now (args′ .places))), omega arith))
-    (λ c. omega arith)
-    (λ c κs. search needs)
-    (λ c κs. search needs)
-    (λ c κs. search needs)
-    (λ c κs. search needs)
-    (λ c κs.
+    (rw (c .nothing .ensures) (looked-none (args′ .blocks) (now (args′ .image)) (now (args′ .places))), omega arith)
+
+sub-k : tie.Need-sub-k Inv-loop μ-loop
+sub-k c = omega arith
+
+with-block-requires : tie.Need-with-block-requires Inv-loop μ-loop
+with-block-requires c κs =
     let loop-test′ = c .before .before .before .before .before .before .before .before .loop-test in
     let loop′ = c .before .before .before .before .before .before .before .before .before .loop in
     let args′ = c .before .before .before .before .before .before .before .before .before .before .before .before .before .before .args in
     let pre′ = c .before .before .before .before .before .before .before .before .before .before .before .before .before .before .pre in
-    omega (arith, loop′ .inv .1, loop-test′ .taken, sized-of (args′ .blocks) (now (args′ .image)) pre′ .most))
-    (λ c. omega (arith, c .before .before .before .before .before .before .before .before .before .loop-test .taken))
-    (λ c.
+    omega (arith, loop′ .inv .1, loop-test′ .taken, sized-of (args′ .blocks) (now (args′ .image)) pre′ .most)
+
+loop-less : tie.Need-loop-less Inv-loop μ-loop
+loop-less c = omega (arith, c .before .before .before .before .before .before .before .before .before .loop-test .taken)
+
+loop-again : tie.Need-loop-again Inv-loop μ-loop
+loop-again c =
     let takes-over′ = c .before .before .before .before .takes-over in
     let survey-block′ = c .before .before .before .before .before .before .survey-block in
     let block-of′ = c .before .before .before .before .before .before .before .before .block-of in
@@ -59,8 +55,15 @@ look-spec =
           (bytes-of (now (args′ .image)) (λ i. shared-slice-known′ .given i .fits)) (survey-block′ .ensures .0 ∙ ap surveyOf s)
           (survey-block′ .ensures .1 ∙ ap placesIn s) (loop′ .inv .0)),
       omega (arith, loop′ .inv .1),
-    ))
-    (λ c.
+    )
+
+returns : tie.Need-returns Inv-loop μ-loop
+returns c =
     let loop′ = c .before .loop in
     let args′ = c .before .before .before .before .before .before .args in
-    looked-all (args′ .blocks) (now (args′ .image)) (now (args′ .places)) (loop′ .k) (c .loop-test .left) (loop′ .inv .0)))
+    looked-all (args′ .blocks) (now (args′ .image)) (now (args′ .places)) (loop′ .k) (c .loop-test .left) (loop′ .inv .0)
+
+pub look-spec : {M : Type 1} → statement M
+look-spec = tie.close (tie.spec
+    Inv-loop μ-loop (λ c κs. search needs) (λ c κs. search needs) (λ c κs. search needs) loop-holds sub-k (λ c κs. search needs) (λ c κs. search needs)
+    (λ c κs. search needs) (λ c κs. search needs) with-block-requires loop-less loop-again returns)

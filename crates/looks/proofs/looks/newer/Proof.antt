@@ -6,12 +6,15 @@ use borrow.Author.Needs.{needs}
 use Rattle.looks.proofs.looks.newer.Statement.{statement}
 use Rattle.looks.proofs.looks.newer.Tie as tie
 
-pub newer-spec : {M : Type 1} → statement M
+returns : tie.Need-returns
 unfolding newer
-newer-spec = tie.close (tie.spec
-    (λ c κs. search needs)
-    (λ c. rw (sym (c .before .takes-over .ensures) ∙ not-true (c .before .takes-over .result) (c .if1 .taken)))
-    (λ c κs. search needs)
-    (λ c.
+returns c = rw (sym (c .before .takes-over .ensures) ∙ not-true (c .before .takes-over .result) (c .if1 .taken))
+
+returns-2 : tie.Need-returns-2
+unfolding newer
+returns-2 c =
     let takes-over′ = c .before .before .takes-over in
-    rw (sym (takes-over′ .ensures) ∙ not-false (takes-over′ .result) (c .before .if1 .left), c .needs-transfer .ensures)))
+    rw (sym (takes-over′ .ensures) ∙ not-false (takes-over′ .result) (c .before .if1 .left), c .needs-transfer .ensures)
+
+pub newer-spec : {M : Type 1} → statement M
+newer-spec = tie.close (tie.spec (λ c κs. search needs) returns (λ c κs. search needs) returns-2)

@@ -5,24 +5,9 @@ use borrow.Author.Needs.{needs}
 use Rattle.looks.proofs.looks.with_block.Statement.{statement}
 use Rattle.looks.proofs.looks.with_block.Tie as tie
 
-pub with-block-spec : {M : Type 1} → statement M
+returns : tie.Need-returns
 unfolding seeing
-with-block-spec =
-    tie.close
-    (tie.spec
-    (λ c κs. search needs)
-    (λ c. search needs)
-    (λ c. search needs)
-    (λ c κs. search needs)
-    (λ c κs. search needs)
-    (λ c. search needs)
-    (λ c. search needs)
-    (λ c κs. search needs)
-    (λ c. search needs)
-    (λ c κs. search needs)
-    (λ c κs. search needs)
-    (λ c κs. search needs)
-    (λ c.
+returns c =
     let both′ = c .before .before .before .before .both in
     let has-time′ = c .before .before .before .before .before .has-time in
     let is-valid′ = c .before .before .before .before .before .before .before .is-valid in
@@ -36,4 +21,9 @@ with-block-spec =
       is-valid′ .ensures,
       add-one,
       seeing,
-    )))
+    )
+
+pub with-block-spec : {M : Type 1} → statement M
+with-block-spec = tie.close (tie.spec
+    (λ c κs. search needs) (λ c. search needs) (λ c. search needs) (λ c κs. search needs) (λ c κs. search needs) (λ c. search needs) (λ c. search needs)
+    (λ c κs. search needs) (λ c. search needs) (λ c κs. search needs) (λ c κs. search needs) (λ c κs. search needs) returns)

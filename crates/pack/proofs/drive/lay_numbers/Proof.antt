@@ -5,24 +5,9 @@ use borrow.Author.Needs.{needs}
 use Rattle.pack.proofs.drive.lay_numbers.Statement.{statement}
 use Rattle.pack.proofs.drive.lay_numbers.Tie as tie
 
-pub lay-numbers-spec : {M : Type 1} → statement M
+returns : tie.Need-returns
 unfolding numbersInto
-lay-numbers-spec =
-    tie.close
-    (tie.spec
-    (λ c κs. search needs)
-    (λ c κs. search needs)
-    (λ c κs. search needs)
-    (λ c. search needs)
-    (λ c κs. search needs)
-    (λ c. search needs)
-    (λ c κs. search needs)
-    (λ c. search needs)
-    (λ c κs. search needs)
-    (λ c. search needs)
-    (λ c κs. search needs)
-    (λ c. search needs)
-    (λ c.
+returns c =
     let lay-at3′ = c .before .before .before .before .before .before .before .lay-at3 in
     let c12 = c .before .before .before .before .before .before .before .before .before .before .before .before in
     let lay-at2′ = c12 .lay-at2 in
@@ -35,4 +20,9 @@ lay-numbers-spec =
     let c23 = c21 .before .before in
     let head-bytes′ = c23 .head-bytes in
     c .before .before .lay-at4 .ensures
-    ∙ rw (lay-at3′ .ensures, lay-at2′ .ensures, lay-at′ .ensures, head-bytes′ .ensures, plan-bytes′ .ensures, cursor-bytes′ .ensures)))
+    ∙ rw (lay-at3′ .ensures, lay-at2′ .ensures, lay-at′ .ensures, head-bytes′ .ensures, plan-bytes′ .ensures, cursor-bytes′ .ensures)
+
+pub lay-numbers-spec : {M : Type 1} → statement M
+lay-numbers-spec = tie.close (tie.spec
+    (λ c κs. search needs) (λ c κs. search needs) (λ c κs. search needs) (λ c. search needs) (λ c κs. search needs) (λ c. search needs) (λ c κs. search needs)
+    (λ c. search needs) (λ c κs. search needs) (λ c. search needs) (λ c κs. search needs) (λ c. search needs) returns)

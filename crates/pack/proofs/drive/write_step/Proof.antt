@@ -5,15 +5,11 @@ use borrow.Author.Needs.{needs}
 use Rattle.pack.proofs.drive.write_step.Statement.{statement}
 use Rattle.pack.proofs.drive.write_step.Tie as tie
 
-pub write-step-spec : {M : Type 1} → statement M
-write-step-spec =
-    tie.close
-    (tie.spec
-    (λ c. other-size _ _ (c .if1 .taken))
-    (λ c κs. search needs)
-    (λ c κs. search needs)
-    (λ c. search needs)
-    (λ c.
+returns : tie.Need-returns
+returns c = other-size _ _ (c .if1 .taken)
+
+returns-2 : tie.Need-returns-2
+returns-2 c =
     let clear′ = c .before .before .before .before .before .before .clear in
     let if2′ = c .before .before .before .before .before .before .before .before .if2 in
     let if1′ = c .before .before .before .before .before .before .before .before .before .before .if1 in
@@ -22,10 +18,10 @@ write-step-spec =
     let good′ = c12 .good in
     ended (args′ .s) (now (args′ .bytes)) _ (if1′ .left) (search (needs, good′ .0 .1 .1 .1 .0 .1 .1 .1 .1 .0 .1 .1 .0))
     (search (needs, good′ .0 .1 .1 .1 .0 .1 .1 .1 .1 .0 .1 .1 .1 .1 .1 .1 .1 .1 .0)) _ (clear′ .ensures) (if2′ .taken)
-    (c .before .before .lay-numbers .ensures))
-    (λ c κs. search needs)
-    (λ c. search needs)
-    (λ c.
+    (c .before .before .lay-numbers .ensures)
+
+returns-3 : tie.Need-returns-3
+returns-3 c =
     let if2′ = c .before .before .before .before .if2 in
     let if1′ = c .before .before .before .before .before .before .if1 in
     let slice-known′ = c .before .before .before .before .before .before .before .slice-known in
@@ -33,4 +29,8 @@ write-step-spec =
     let good′ = c .before .before .before .before .before .before .before .before .good in
     went-on (args′ .s) (now (args′ .bytes)) _ (if1′ .left) (search (needs, good′ .0 .1 .1 .1 .0 .1 .1 .1 .1 .0 .1 .1 .0))
     (search (needs, good′ .0 .1 .1 .1 .0 .1 .1 .1 .1 .0 .1 .1 .1 .1 .1 .1 .1 .1 .0)) (λ i. slice-known′ .given i .fits) (if2′ .left)
-    (c .before .before .lay-numbers2 .ensures)))
+    (c .before .before .lay-numbers2 .ensures)
+
+pub write-step-spec : {M : Type 1} → statement M
+write-step-spec = tie.close (tie.spec
+    returns (λ c κs. search needs) (λ c κs. search needs) (λ c. search needs) returns-2 (λ c κs. search needs) (λ c. search needs) returns-3)

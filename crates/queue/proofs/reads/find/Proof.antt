@@ -73,41 +73,26 @@ inside c =
     (c10 .block-of .ensures) (find′ .result) (find′ .ensures)
     (at′ .given .0 .0) (at′ .given .0 .1 .0) (at′ .given .1)
 
-pub find-spec : {M : Type 1} → statement M
-find-spec =
-    tie.close
-    (tie.spec
-    (λ c κs. search needs)
-    (λ c. search needs)
-    (λ c κs. search needs)
-    (λ c.
+returns : tie.Need-returns
+returns c =
     let c7 = c .before .before .before .before .before .before .before in
     let check′ = c .before .before .before .before .check in
     let args′ = c7 .args in
     λ b. none-read (args′ .blocks) (now (args′ .image)) (placed (args′ .phase) (args′ .rest) b) _ _ _ _
     (shut (args′ .blocks) (now (args′ .image)) (placed (args′ .phase) (args′ .rest) b) _ _ _ _ (sym (check′ .ensures) ∙ c .before .before .why .given .1))
     (shut (args′ .blocks) (now (args′ .image)) (placed (args′ .phase) (args′ .rest) b) _ _ _ _ (sym (check′ .ensures) ∙ c .before .before .why .given .1))
-    (c .nothing .ensures))
-    (λ c. search needs)
-    (λ c κs. search needs)
-    (λ c κs. search needs)
-    (λ c κs. search needs)
-    (λ c κs. search needs)
-    (λ c κs. search needs)
-    (λ c. search needs)
-    (λ c κs. search needs)
-    (λ c.
+    (c .nothing .ensures)
+
+returns-2 : tie.Need-returns-2
+returns-2 c =
     let c15 = c .before .before .before .before .before .before .before .before .before .before .before .before .before .before .before in
     let args′ = c15 .args in
     λ b. none-read (args′ .blocks) (now (args′ .image)) (placed (args′ .phase) (args′ .rest) b) _ _ _ _
     (not-served (looked (c .before .before .before .before) b) _ _ (c .before .before .why2 .given .1))
-    (no-read (looked (c .before .before .before .before) b) _ (c .before .before .why2 .given .1)) (c .nothing2 .ensures))
-    (λ c. search needs)
-    (λ c κs. search needs)
-    (λ c. search needs)
-    (λ c κs. search needs)
-    (λ c κs. search needs)
-    (λ c.
+    (no-read (looked (c .before .before .before .before) b) _ (c .before .before .why2 .given .1)) (c .nothing2 .ensures)
+
+returns-3 : tie.Need-returns-3
+returns-3 c =
     let c7 = c .before .before .before .before .before .before .before in
     let c8 = c7 .before .before in
     let c9 = c8 .before in
@@ -119,13 +104,16 @@ find-spec =
     λ b. read-none (looked c8 b) (ask′ .given .0 .0) (ask′ .given .1) _
     (survey-block′ .ensures .1 ∙ ap placesIn (surveyed c11)) (now (block-of′ .result)) (block-of′ .ensures)
     (value-for′ .result) (value-for′ .ensures) (c .before .before .enum-told2 .given .1) _
-    (c .nothing3 .ensures ∙ ap nothing (c .before .none-for .ensures)))
-    (λ c. search needs)
-    (λ c. search needs)
-    (λ c. let k = inside (c .before .before) in omega arith)
-    (λ c. let k = inside (c .before .before) in omega arith)
-    (λ c. search needs)
-    (λ c.
+    (c .nothing3 .ensures ∙ ap nothing (c .before .none-for .ensures))
+
+mul-t26 : tie.Need-mul-t26
+mul-t26 c = let k = inside (c .before .before) in omega arith
+
+add-t27 : tie.Need-add-t27
+add-t27 c = let k = inside (c .before .before) in omega arith
+
+returns-4 : tie.Need-returns-4
+returns-4 c =
     let c7 = c .before .before .before .before .before .before .before in
     let c9 = c7 .before .before in
     let c10 = c9 .before in
@@ -137,4 +125,11 @@ find-spec =
     let block-of′ = c12 .block-of in
     λ b. read-found-at (looked c9 b) (ask′ .given .0 .0) (ask′ .given .1) _
     (survey-block′ .ensures .1 ∙ ap placesIn (surveyed c12)) (now (block-of′ .result)) (block-of′ .ensures)
-    (value-for′ .result) (value-for′ .ensures) (at′ .given .0 .0) (at′ .given .0 .1 .0) (at′ .given .1)))
+    (value-for′ .result) (value-for′ .ensures) (at′ .given .0 .0) (at′ .given .0 .1 .0) (at′ .given .1)
+
+pub find-spec : {M : Type 1} → statement M
+find-spec = tie.close (tie.spec
+    (λ c κs. search needs) (λ c. search needs) (λ c κs. search needs) returns (λ c. search needs) (λ c κs. search needs) (λ c κs. search needs)
+    (λ c κs. search needs) (λ c κs. search needs) (λ c κs. search needs) (λ c. search needs) (λ c κs. search needs) returns-2 (λ c. search needs)
+    (λ c κs. search needs) (λ c. search needs) (λ c κs. search needs) (λ c κs. search needs) returns-3 (λ c. search needs) (λ c. search needs) mul-t26 add-t27
+    (λ c. search needs) returns-4)

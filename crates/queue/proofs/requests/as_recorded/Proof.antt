@@ -8,17 +8,19 @@ use borrow.Author.Needs.{needs}
 use Rattle.queue.proofs.requests.as_recorded.Statement.{statement}
 use Rattle.queue.proofs.requests.as_recorded.Tie as tie
 
-pub as-recorded-spec : {M : Type 1} → statement M
+returns : tie.Need-returns
 unfolding asRecorded
-as-recorded-spec =
-    tie.close
-    (tie.spec
-    (λ c κs. search needs)
-    (λ c. rw (sym (c .before .is-valid .ensures) ∙ not-true (c .before .is-valid .result) (c .if1 .taken), asRecorded))
-    (λ c.
+returns c = rw (sym (c .before .is-valid .ensures) ∙ not-true (c .before .is-valid .result) (c .if1 .taken), asRecorded)
+
+returns-2 : tie.Need-returns-2
+unfolding asRecorded
+returns-2 c =
     let is-valid′ = c .before .before .before .is-valid in
-    rw (sym (is-valid′ .ensures) ∙ not-false (is-valid′ .result) (c .before .before .if1 .left), ne-eqb _ _ (c .if2 .taken), asRecorded))
-    (λ c.
+    rw (sym (is-valid′ .ensures) ∙ not-false (is-valid′ .result) (c .before .before .if1 .left), ne-eqb _ _ (c .if2 .taken), asRecorded)
+
+returns-3 : tie.Need-returns-3
+unfolding asRecorded
+returns-3 c =
     let if1′ = c .before .before .before .before .if1 in
     let is-valid′ = c .before .before .before .before .before .is-valid in
     rw (
@@ -27,12 +29,11 @@ as-recorded-spec =
       ne-eqb _ _
           (c .if3 .taken),
       asRecorded,
-    ))
-    (λ c κs. search needs)
-    (λ c κs. search needs)
-    (λ c. search needs)
-    (λ c. search needs)
-    (λ c.
+    )
+
+returns-4 : tie.Need-returns-4
+unfolding asRecorded
+returns-4 c =
     let if2′ = c .before .before .before .before .before .if2 in
     let if1′ = c .before .before .before .before .before .before .before .if1 in
     let is-valid′ = c .before .before .before .before .before .before .before .before .is-valid in
@@ -44,4 +45,8 @@ as-recorded-spec =
           (c .before .before .before .if3 .left),
       asRecorded,
     )
-    (ap₂ (λ (n o : ℕ). leb (n + 6 * o) (args′ .size)) (c .before .claimed .ensures .0) (c .open-hosts .ensures .0))))
+    (ap₂ (λ (n o : ℕ). leb (n + 6 * o) (args′ .size)) (c .before .claimed .ensures .0) (c .open-hosts .ensures .0))
+
+pub as-recorded-spec : {M : Type 1} → statement M
+as-recorded-spec = tie.close (tie.spec
+    (λ c κs. search needs) returns returns-2 returns-3 (λ c κs. search needs) (λ c κs. search needs) (λ c. search needs) (λ c. search needs) returns-4)

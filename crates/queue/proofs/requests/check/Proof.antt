@@ -6,13 +6,13 @@ use borrow.Author.Needs.{needs}
 use Rattle.queue.proofs.requests.check.Statement.{statement}
 use Rattle.queue.proofs.requests.check.Tie as tie
 
-pub check-spec : {M : Type 1} → statement M
+returns : tie.Need-returns
 unfolding gateOf
-check-spec =
-    tie.close (tie.spec
-    (λ c κs. search needs)
-    (λ c. rw (sym (c .before .is-allowed .ensures) ∙ not-true (c .before .is-allowed .result) (c .if1 .taken), gateOf))
-    (λ c.
+returns c = rw (sym (c .before .is-allowed .ensures) ∙ not-true (c .before .is-allowed .result) (c .if1 .taken), gateOf)
+
+returns-2 : tie.Need-returns-2
+unfolding gateOf
+returns-2 c =
     let is-allowed′ = c .before .before .before .is-allowed in
     let args′ = c .before .before .before .before .before .args in
     rw (
@@ -20,13 +20,18 @@ check-spec =
       lt-leb (args′ .host .0) 3
           (c .if2 .taken),
       gateOf,
-    ))
-    (λ c κs. search needs)
-    (λ c.
+    )
+
+returns-3 : tie.Need-returns-3
+unfolding gateOf
+returns-3 c =
     let is-allowed′ = c .before .before .before .before .is-allowed in
     rw (
       (sym (is-allowed′ .ensures) ∙ not-false (is-allowed′ .result) (c .before .before .before .if1 .left)),
       le-leb _ _
           (c .before .if2 .left),
       gateOf,
-    ) (c .check-phase .ensures)))
+    ) (c .check-phase .ensures)
+
+pub check-spec : {M : Type 1} → statement M
+check-spec = tie.close (tie.spec (λ c κs. search needs) returns returns-2 (λ c κs. search needs) returns-3)

@@ -6,18 +6,13 @@ use borrow.Author.Needs.{needs}
 use Rattle.queue.proofs.requests.request.Statement.{statement}
 use Rattle.queue.proofs.requests.request.Tie as tie
 
-pub request-spec : {M : Type 1} → statement M
-request-spec =
-    tie.close
-    (tie.spec
-    (λ c κs. search needs)
-    (λ c κs. search needs)
-    (λ c κs. search needs)
-    (λ c κs. search needs)
-    (λ c. search needs)
-    (λ c.
+returns : tie.Need-returns
+returns c =
     let c6 = c .before .before .before .before .before .before in
     let args′ = c6 .before .before .before .before .before .before .before .args in
     by-value (c .kept-or .result)
     (requestOn (asking (args′ .blocks) (now (args′ .image)) (args′ .board) (args′ .host) (now (args′ .message)) (now (args′ .reply))))
-    (c .kept-or .ensures) (c .before .before .before .request-core .ensures .asked (args′ .board))))
+    (c .kept-or .ensures) (c .before .before .before .request-core .ensures .asked (args′ .board))
+
+pub request-spec : {M : Type 1} → statement M
+request-spec = tie.close (tie.spec (λ c κs. search needs) (λ c κs. search needs) (λ c κs. search needs) (λ c κs. search needs) (λ c. search needs) returns)

@@ -55,45 +55,38 @@ looked c b =
       asks = c .hear .ensures;
     }
 
-pub request-at-spec : {M : Type 1} → statement M
-request-at-spec =
-    tie.close
-    (tie.spec
-    (λ c κs. search needs)
-    (λ c. search needs)
-    (λ c κs. search needs)
-    (λ c.
+returns : tie.Need-returns
+returns c =
     let c8 = c .before .before .before .before .before .before .before .before in
     let check′ = c .before .before .before .before .check in
     let args′ = c8 .args in
     λ b. refused-all (asking (args′ .blocks) (now (args′ .image)) (placed (args′ .phase) (args′ .rest) b) _ _ _) _ _ _ _
     (shut (args′ .blocks) (now (args′ .image)) (placed (args′ .phase) (args′ .rest) b) _ _ _ _ (sym (check′ .ensures) ∙ c .before .before .why .given .1))
-    (c .refused .ensures))
-    (λ c. search needs)
-    (λ c κs. search needs)
-    (λ c κs. search needs)
-    (λ c κs. search needs)
-    (λ c κs. search needs)
-    (λ c. search needs)
-    (λ c κs. search needs)
-    (λ c.
+    (c .refused .ensures)
+
+returns-2 : tie.Need-returns-2
+returns-2 c =
     let c15 = c .before .before .before .before .before .before .before .before .before .before .before .before .before .before .before in
     let args′ = c15 .args in
     λ b. refused-all (asking (args′ .blocks) (now (args′ .image)) (placed (args′ .phase) (args′ .rest) b) _ _ _) _ _ _ _
-    (not-served (looked (c .before .before .before .before) b) _ _ (c .before .before .why2 .given .1)) (c .refused2 .ensures))
-    (λ c. search needs)
-    (λ c.
+    (not-served (looked (c .before .before .before .before) b) _ _ (c .before .before .why2 .given .1)) (c .refused2 .ensures)
+
+cast-serve : tie.Need-cast-serve
+cast-serve c =
     let c7 = c .before .before .before .before .before .before .before in
     let c14 = c7 .before .before .before .before .before .before .before in
     let args′ = c14 .args in
     let z = sized-of (args′ .blocks) (now (args′ .image)) ((opened (c7 .before) unmounted) .ok) in
-    omega (arith, c7 .size-of .ensures, z .high))
-    (λ c κs.
+    omega (arith, c7 .size-of .ensures, z .high)
+
+serve-requires : tie.Need-serve-requires
+serve-requires c κs =
     let c6 = c .before .before .before .before .before .before in
     let ask′ = c .before .before .before .before .ask in
-    served-says (looked c6 unmounted) _ (ask′ .given .1))
-    (λ c. search needs)
-    (λ c.
+    served-says (looked c6 unmounted) _ (ask′ .given .1)
+
+returns-3 : tie.Need-returns-3
+returns-3 c =
     let c7 = c .before .before .before .before .before .before .before in
     let c9 = c7 .before .before in
     let c10 = c9 .before in
@@ -105,4 +98,10 @@ request-at-spec =
       served-asks (looked c9 b) _ (ask′ .given .1) _ (survey-block′ .ensures .1 ∙ ap placesIn (surveyed c12)) _ _ _ _
           (serve′ .ensures .0) (serve′ .ensures .2),
       serve′ .ensures .1 ∙ served-reply (looked c9 b) _ (ask′ .given .1) _,
-    )))
+    )
+
+pub request-at-spec : {M : Type 1} → statement M
+request-at-spec = tie.close (tie.spec
+    (λ c κs. search needs) (λ c. search needs) (λ c κs. search needs) returns (λ c. search needs) (λ c κs. search needs) (λ c κs. search needs)
+    (λ c κs. search needs) (λ c κs. search needs) (λ c. search needs) (λ c κs. search needs) returns-2 (λ c. search needs) cast-serve serve-requires
+    (λ c. search needs) returns-3)

@@ -7,17 +7,12 @@ use borrow.Author.Needs.{needs}
 use Rattle.serving.proofs.room.no_room.Statement.{statement}
 use Rattle.serving.proofs.room.no_room.Tie as tie
 
-pub no-room-spec : {M : Type 1} → statement M
+returns : tie.Need-returns
 unfolding noRoomIn
-no-room-spec =
-    tie.close
-    (tie.spec
-    (λ c κs. search needs)
-    (λ c. search needs)
-    (λ c κs. search needs)
-    (λ c. search needs)
-    (λ c. search needs)
-    (λ c. search needs)
-    (λ c.
+returns c =
     let args′ = c .before .before .before .args in
-    ap₂ (λ (a o : ℕ). ltb (args′ .size) (a + args′ .n + 6 * o + args′ .spare)) (c .before .claimed .ensures .0) (c .open-with .ensures .0)))
+    ap₂ (λ (a o : ℕ). ltb (args′ .size) (a + args′ .n + 6 * o + args′ .spare)) (c .before .claimed .ensures .0) (c .open-with .ensures .0)
+
+pub no-room-spec : {M : Type 1} → statement M
+no-room-spec = tie.close (tie.spec
+    (λ c κs. search needs) (λ c. search needs) (λ c κs. search needs) (λ c. search needs) (λ c. search needs) (λ c. search needs) returns)

@@ -8,12 +8,11 @@ use borrow.Author.Needs.{needs}
 use Rattle.store.proofs.mounts.format.Statement.{statement}
 use Rattle.store.proofs.mounts.format.Tie as tie
 
-pub format-spec : {M : Type 1} → statement M
-format-spec = tie.close (tie.spec
-    (λ c κs. search needs)
-    (λ c κs. search needs)
-    (λ c κs. search needs)
-    (λ c.
+returns : tie.Need-returns
+returns c =
     let format-core′ = c .before .before .format-core in
     made-is (c .made .ensures ∙ ap (λ (p : List ℕ). made p (format-core′ .result)) (c .before .no-places .ensures))
-    (format-core′ .ensures)))
+    (format-core′ .ensures)
+
+pub format-spec : {M : Type 1} → statement M
+format-spec = tie.close (tie.spec (λ c κs. search needs) (λ c κs. search needs) (λ c κs. search needs) returns)

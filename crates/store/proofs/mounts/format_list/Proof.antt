@@ -13,10 +13,8 @@ use borrow.Author.Needs.{needs}
 use Rattle.store.proofs.mounts.format_list.Statement.{statement}
 use Rattle.store.proofs.mounts.format_list.Tie as tie
 
-pub format-list-spec : {M : Type 1} → statement M
-format-list-spec = tie.close (tie.spec
-    (λ c κs. search needs)
-    (λ c κs.
+note-requires : tie.Need-note-requires
+note-requires c κs =
     let args′ = c .before .args in
     λ e. omega (
       arith,
@@ -24,9 +22,14 @@ format-list-spec = tie.close (tie.spec
       ap (λ (l : Erases). l .count) (c .others .ensures),
       others-less (args′ .last) (replicate maxBlocks false) 0 (args′ .blocks) (omega arith)
           (omega (arith, ltb-true (args′ .last) (args′ .blocks) e)),
-    ))
-    (λ c.
+    )
+
+returns : tie.Need-returns
+returns c =
     let args′ = c .before .before .args in
     c .note .ensures
     ∙ ap (λ (l : Erases). noted l (args′ .last) (ltb (args′ .last) (args′ .blocks))) (c .before .others .ensures)
-    ∙ format-listed (args′ .blocks) (args′ .last) (c .before .before .pre)))
+    ∙ format-listed (args′ .blocks) (args′ .last) (c .before .before .pre)
+
+pub format-list-spec : {M : Type 1} → statement M
+format-list-spec = tie.close (tie.spec (λ c κs. search needs) note-requires returns)

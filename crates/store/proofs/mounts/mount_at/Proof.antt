@@ -5,23 +5,15 @@ use borrow.Author.Needs.{needs}
 use Rattle.store.proofs.mounts.mount_at.Statement.{statement}
 use Rattle.store.proofs.mounts.mount_at.Tie as tie
 
-pub mount-at-spec : {M : Type 1} → statement M
-mount-at-spec =
-    tie.close
-    (tie.spec
-    (λ c κs. search needs)
-    (λ c κs. search needs)
-    (λ c.
+returns : tie.Need-returns
+returns c =
     let is-worn′ = c .before .before .is-worn in
     let args′ = c .before .before .before .args in
     c .refused .ensures
-    ∙ mount-worn (args′ .blocks) (args′ .last) (args′ .w) (args′ .list) (is-worn′ .result) (is-worn′ .ensures) (c .before .if1 .taken))
-    (λ c κs. search needs)
-    (λ c κs. search needs)
-    (λ c κs. search needs)
-    (λ c κs. search needs)
-    (λ c κs. search needs)
-    (λ c.
+    ∙ mount-worn (args′ .blocks) (args′ .last) (args′ .w) (args′ .list) (is-worn′ .result) (is-worn′ .ensures) (c .before .if1 .taken)
+
+returns-2 : tie.Need-returns-2
+returns-2 c =
     let if1′ = c .before .before .before .before .before .before .if1 in
     let is-worn′ = c .before .before .before .before .before .before .before .is-worn in
     let args′ = c .before .before .before .before .before .before .before .before .args in
@@ -32,4 +24,9 @@ mount-at-spec =
       c .before .before .standing .ensures,
       sym (is-worn′ .ensures) ∙ if1′ .left,
       c .before .starting .ensures,
-    ) (mount-begun (args′ .blocks) (args′ .last) (args′ .w) (args′ .list) (is-worn′ .result) (is-worn′ .ensures) (if1′ .left))))
+    ) (mount-begun (args′ .blocks) (args′ .last) (args′ .w) (args′ .list) (is-worn′ .result) (is-worn′ .ensures) (if1′ .left))
+
+pub mount-at-spec : {M : Type 1} → statement M
+mount-at-spec = tie.close (tie.spec
+    (λ c κs. search needs) (λ c κs. search needs) returns (λ c κs. search needs) (λ c κs. search needs) (λ c κs. search needs) (λ c κs. search needs)
+    (λ c κs. search needs) returns-2)

@@ -9,21 +9,16 @@ use borrow.Author.Needs.{needs}
 use Rattle.survey.proofs.block.survey_frames.Statement.{statement}
 use Rattle.survey.proofs.block.survey_frames.Tie as tie
 
-pub survey-frames-spec : {M : Type 1} → statement M
-survey-frames-spec =
-    tie.close
-    (tie.spec
-    (λ c κs. search needs)
-    (λ c. search needs)
-    (λ c κs. search needs)
-    (λ c.
+returns : tie.Need-returns
+returns c =
     let walk′ = c .before .before .before .before .before .walk in
     let args′ = c .before .before .before .before .before .before .before .before .args in
     let pre′ = c .before .before .before .before .before .before .before .before .pre in
     right-clean (now (args′ .block)) (pre′ .0) (walk′ .result) _ _ (walk′ .ensures .0) (walk′ .ensures .1)
-    (c .before .before .enum-told .given .1) (c .found .ensures))
-    (λ c. search needs)
-    (λ c.
+    (c .before .before .enum-told .given .1) (c .found .ensures)
+
+cast-found : tie.Need-cast-found
+cast-found c =
     let walk′ = c .before .before .before .before .before .walk in
     let args′ = c .before .before .before .before .before .before .before .before .args in
     let pre′ = c .before .before .before .before .before .before .before .before .pre in
@@ -32,21 +27,26 @@ survey-frames-spec =
       cut-fits (now (args′ .block)) (pre′ .0) (walk′ .result) _ (emptySurvey kind.Blank) (walk′ .ensures .0)
           (walk′ .ensures .1) _ (c .before .before .tail .given .1),
       pre′,
-    ))
-    (λ c κs. search needs)
-    (λ c.
+    )
+
+returns-2 : tie.Need-returns-2
+returns-2 c =
     let walk′ = c .before .before .before .before .before .before .walk in
     let args′ = c .before .before .before .before .before .before .before .before .before .args in
     let pre′ = c .before .before .before .before .before .before .before .before .before .pre in
     right-cut (now (args′ .block)) (pre′ .0) (walk′ .result) _ _ (walk′ .ensures .0) (walk′ .ensures .1) _
-    (c .before .before .before .tail .given .1) (c .found2 .ensures))
-    (λ c. search needs)
-    (λ c κs. search needs)
-    (λ c κs. search needs)
-    (λ c.
+    (c .before .before .before .tail .given .1) (c .found2 .ensures)
+
+returns-3 : tie.Need-returns-3
+returns-3 c =
     let tail2′ = c .before .before .before .before .tail2 in
     let walk′ = c .before .before .before .before .before .before .before .walk in
     let args′ = c .before .before .before .before .before .before .before .before .before .before .args in
     let pre′ = c .before .before .before .before .before .before .before .before .before .before .pre in
     right-bad (now (args′ .block)) (pre′ .0) (walk′ .result) _ _ (walk′ .ensures .0) (walk′ .ensures .1) _ _ (tail2′ .given .1)
-    (c .empty .ensures) (c .before .clear .ensures ∙ no-places-of _ (c .before .before .clear-arg .given .0 .1))))
+    (c .empty .ensures) (c .before .clear .ensures ∙ no-places-of _ (c .before .before .clear-arg .given .0 .1))
+
+pub survey-frames-spec : {M : Type 1} → statement M
+survey-frames-spec = tie.close (tie.spec
+    (λ c κs. search needs) (λ c. search needs) (λ c κs. search needs) returns (λ c. search needs) cast-found (λ c κs. search needs) returns-2
+    (λ c. search needs) (λ c κs. search needs) (λ c κs. search needs) returns-3)

@@ -23,21 +23,11 @@ Inv-loop block places i₀ count₀ used₀ i count used =
 abbrev μ-loop : tie.MeasureT-loop
 μ-loop block places i₀ count₀ used₀ i count used = 256 - i
 
-pub tally-spec : {M : Type 1} → statement M
-tally-spec =
-    tie.close
-    (tie.spec
-    Inv-loop
-    μ-loop
-    (λ c. (omega arith, omega arith, omega arith, omega arith, omega arith))
-    (λ c. search needs)
-    (λ c. search needs)
-    (λ c. search needs)
-    (λ c κs. search needs)
-    (λ c. search needs)
-    (λ c. search needs)
-    (λ c. search needs)
-    (λ c.
+loop-holds : tie.Need-loop-holds Inv-loop μ-loop
+loop-holds c = (omega arith, omega arith, omega arith, omega arith, omega arith)
+
+add-used : tie.Need-add-used Inv-loop μ-loop
+add-used c =
     let loop-test′ = c .before .before .before .before .before .loop-test in
     let loop′ = c .before .before .before .before .before .before .loop in
     let args′ = c .before .before .before .before .before .before .before .before .args in
@@ -45,8 +35,10 @@ tally-spec =
       arith,
       tally-yes (now (args′ .block)) (now (args′ .places)) (loop′ .i) (loop-test′ .taken) _ _
           (sym (c .before .before .before .value-at .ensures) ∙ c .before .n .given .1),
-    ))
-    (λ c.
+    )
+
+cast-used : tie.Need-cast-used Inv-loop μ-loop
+cast-used c =
     let loop-test′ = c .before .before .before .before .before .loop-test in
     let loop′ = c .before .before .before .before .before .before .loop in
     let args′ = c .before .before .before .before .before .before .before .before .args in
@@ -54,8 +46,10 @@ tally-spec =
       arith,
       tally-yes (now (args′ .block)) (now (args′ .places)) (loop′ .i) (loop-test′ .taken) _ _
           (sym (c .before .before .before .value-at .ensures) ∙ c .before .n .given .1),
-    ))
-    (λ c.
+    )
+
+add-used-2 : tie.Need-add-used-2 Inv-loop μ-loop
+add-used-2 c =
     let loop-test′ = c .before .before .before .before .before .loop-test in
     let loop′ = c .before .before .before .before .before .before .loop in
     let args′ = c .before .before .before .before .before .before .before .before .args in
@@ -63,28 +57,36 @@ tally-spec =
       arith,
       tally-yes (now (args′ .block)) (now (args′ .places)) (loop′ .i) (loop-test′ .taken) _ _
           (sym (c .before .before .before .value-at .ensures) ∙ c .before .n .given .1),
-    ))
-    (λ c. search needs)
-    (λ c.
+    )
+
+loop-again : tie.Need-loop-again Inv-loop μ-loop
+loop-again c =
     let loop-test′ = c .before .before .before .before .before .loop-test in
     let loop′ = c .before .before .before .before .before .before .loop in
     let args′ = c .before .before .before .before .before .before .before .before .args in
     let z = tally-yes (now (args′ .block)) (now (args′ .places)) (loop′ .i) (loop-test′ .taken) _ _
     (sym (c .before .before .before .value-at .ensures) ∙ c .before .n .given .1) in
-    (omega (arith, z .count), omega (arith, z .used), omega arith, omega arith, omega (arith, z .small)))
-    (λ c. search needs)
-    (λ c. search needs)
-    (λ c. search needs)
-    (λ c.
+    (omega (arith, z .count), omega (arith, z .used), omega arith, omega arith, omega (arith, z .small))
+
+loop-again-2 : tie.Need-loop-again-2 Inv-loop μ-loop
+loop-again-2 c =
     let loop-test′ = c .before .before .before .before .loop-test in
     let loop′ = c .before .before .before .before .before .loop in
     let args′ = c .before .before .before .before .before .before .before .args in
     let z = tally-no (now (args′ .block)) (now (args′ .places)) (loop′ .i) (loop-test′ .taken)
     (sym (c .before .before .value-at .ensures) ∙ c .enum-told .given .1) in
-    (omega (arith, ap length z), omega (arith, ap total z), omega arith, omega arith, omega arith))
-    (λ c.
+    (omega (arith, ap length z), omega (arith, ap total z), omega arith, omega arith, omega arith)
+
+returns : tie.Need-returns Inv-loop μ-loop
+returns c =
     let loop′ = c .before .loop in
     let args′ = c .before .before .before .args in
     let z : (settledAt (now (args′ .block)) (now (args′ .places)) (256 - loop′ .i) (loop′ .i)) ≡ [] = settled-none (now (args′ .block))
     (now (args′ .places)) (loop′ .i) (c .loop-test .left) in same-tally _ _ _ (omega (arith, ap length z))
-    (omega (arith, no-frames (settledAt (now (args′ .block)) (now (args′ .places)) (256 - loop′ .i) (loop′ .i)) z))))
+    (omega (arith, no-frames (settledAt (now (args′ .block)) (now (args′ .places)) (256 - loop′ .i) (loop′ .i)) z))
+
+pub tally-spec : {M : Type 1} → statement M
+tally-spec = tie.close (tie.spec
+    Inv-loop μ-loop loop-holds (λ c. search needs) (λ c. search needs) (λ c. search needs) (λ c κs. search needs) (λ c. search needs) (λ c. search needs)
+    (λ c. search needs) add-used cast-used add-used-2 (λ c. search needs) loop-again (λ c. search needs) (λ c. search needs) (λ c. search needs) loop-again-2
+    returns)

@@ -17,18 +17,11 @@ Inv-loop block places₀ p₀ places p = Reached block places p
 abbrev μ-loop : tie.MeasureT-loop
 μ-loop block places₀ p₀ places p = length block - p .end
 
-pub walk-spec : {M : Type 1} → statement M
-walk-spec =
-    tie.close
-    (tie.spec
-    Inv-loop
-    μ-loop
-    (λ c κs. search needs)
-    (λ c. reached-none _ _ _ (c .before .before .pre .1) (c .begin .ensures))
-    (λ c. search needs)
-    (λ c κs. search needs)
-    (λ c. search needs)
-    (λ c κs.
+loop-holds : tie.Need-loop-holds Inv-loop μ-loop
+loop-holds c = reached-none _ _ _ (c .before .before .pre .1) (c .begin .ensures)
+
+take-frame-requires : tie.Need-take-frame-requires Inv-loop μ-loop
+take-frame-requires c κs =
     let read-frame′ = c .before .before .before .before .read-frame in
     let loop′ = c .before .before .before .before .before .before .loop in
     let args′ = c .before .before .before .before .before .before .before .before .before .args in
@@ -37,8 +30,10 @@ walk-spec =
           (sym (read-frame′ .ensures) ∙ c .before .before .head .given .1) .0,
       pre′ .0,
       reached-pending (loop′ .inv),
-    ))
-    (λ c.
+    )
+
+loop-less : tie.Need-loop-less Inv-loop μ-loop
+loop-less c =
     let read-frame′ = c .before .before .before .before .before .read-frame in
     let loop′ = c .before .before .before .before .before .before .before .loop in
     let args′ = c .before .before .before .before .before .before .before .before .before .before .args in
@@ -47,19 +42,29 @@ walk-spec =
       taken-end _ _ _ (c .take-frame .ensures .0),
       read-inside (loop′ .p .next) (loop′ .p .end) (now (args′ .block)) _
           (sym (read-frame′ .ensures) ∙ c .before .before .before .head .given .1),
-    ))
-    (λ c.
+    )
+
+loop-again : tie.Need-loop-again Inv-loop μ-loop
+loop-again c =
     let read-frame′ = c .before .before .before .before .before .read-frame in
     let loop′ = c .before .before .before .before .before .before .before .loop in
     reached-more (loop′ .inv) _ _ _ (sym (read-frame′ .ensures) ∙ c .before .before .before .head .given .1) (c .take-frame .ensures .0)
-    (c .take-frame .ensures .1))
-    (λ c. search needs)
-    (λ c. ends-blank (c .before .before .before .before .loop .inv) (sym (c .before .before .read-frame .ensures) ∙ c .enum-told .given .1))
-    (λ c. search needs)
-    (λ c.
+    (c .take-frame .ensures .1)
+
+returns : tie.Need-returns Inv-loop μ-loop
+returns c = ends-blank (c .before .before .before .before .loop .inv) (sym (c .before .before .read-frame .ensures) ∙ c .enum-told .given .1)
+
+returns-2 : tie.Need-returns-2 Inv-loop μ-loop
+returns-2 c =
     let loop′ = c .before .before .before .before .before .loop in
-    ends-torn (loop′ .inv) _ (sym (c .before .before .before .read-frame .ensures) ∙ c .before .n .given .1))
-    (λ c. search needs)
-    (λ c.
+    ends-torn (loop′ .inv) _ (sym (c .before .before .before .read-frame .ensures) ∙ c .before .n .given .1)
+
+returns-3 : tie.Need-returns-3 Inv-loop μ-loop
+returns-3 c =
     let loop′ = c .before .before .before .before .before .loop in
-    ends-wrong (loop′ .inv) _ (sym (c .before .before .before .read-frame .ensures) ∙ c .before .fault .given .1)))
+    ends-wrong (loop′ .inv) _ (sym (c .before .before .before .read-frame .ensures) ∙ c .before .fault .given .1)
+
+pub walk-spec : {M : Type 1} → statement M
+walk-spec = tie.close (tie.spec
+    Inv-loop μ-loop (λ c κs. search needs) loop-holds (λ c. search needs) (λ c κs. search needs) (λ c. search needs) take-frame-requires loop-less loop-again
+    (λ c. search needs) returns (λ c. search needs) returns-2 (λ c. search needs) returns-3)

@@ -10,32 +10,31 @@ use borrow.Author.Needs.{needs}
 use Rattle.survey.proofs.header.header_fault.Statement.{statement}
 use Rattle.survey.proofs.header.header_fault.Tie as tie
 
-pub header-fault-spec : {M : Type 1} → statement M
-header-fault-spec =
-    tie.close
-    (tie.spec
-    (λ c κs. search needs)
-    (λ c.
+returns : tie.Need-returns
+returns c =
     let stands′ = c .before .stands in
-    sym (ap headerOf (fault-length (now (c .before .before .before .args .block)) (sym (stands′ .ensures) ∙ not-true (stands′ .result) (c .if1 .taken)))))
-    (λ c κs. search needs)
-    (λ c.
+    sym (ap headerOf (fault-length (now (c .before .before .before .args .block)) (sym (stands′ .ensures) ∙ not-true (stands′ .result) (c .if1 .taken))))
+
+returns-2 : tie.Need-returns-2
+returns-2 c =
     let stands2′ = c .before .stands2 in
     let stands′ = c .before .before .before .stands in
     let args′ = c .before .before .before .before .before .args in
     sym (ap headerOf (fault-kind (now (args′ .block)) (sym (stands′ .ensures) ∙ not-false (stands′ .result) (c .before .before .if1 .left))
-    (sym (stands2′ .ensures) ∙ not-true (stands2′ .result) (c .if2 .taken)))))
-    (λ c κs. search needs)
-    (λ c.
+    (sym (stands2′ .ensures) ∙ not-true (stands2′ .result) (c .if2 .taken))))
+
+returns-3 : tie.Need-returns-3
+returns-3 c =
     let stands2′ = c .before .before .before .stands2 in
     let if1′ = c .before .before .before .before .if1 in
     let stands′ = c .before .before .before .before .before .stands in
     let args′ = c .before .before .before .before .before .before .before .args in
     sym (ap headerOf (fault-created (now (args′ .block)) (sym (stands′ .ensures) ∙ not-false (stands′ .result) (if1′ .left))
     (sym (stands2′ .ensures) ∙ not-false (stands2′ .result) (c .before .before .if2 .left))
-    (ap (λ (x : ℕ). eqb x 0) (sym (c .before .created .ensures)) ∙ eq-eqb _ _ (c .if3 .taken)))))
-    (λ c κs. search needs)
-    (λ c.
+    (ap (λ (x : ℕ). eqb x 0) (sym (c .before .created .ensures)) ∙ eq-eqb _ _ (c .if3 .taken))))
+
+returns-4 : tie.Need-returns-4
+returns-4 c =
     let if2′ = c .before .before .before .before .if2 in
     let stands2′ = c .before .before .before .before .before .stands2 in
     let if1′ = c .before .before .before .before .before .before .if1 in
@@ -44,9 +43,10 @@ header-fault-spec =
     sym (ap headerOf (fault-state (now (args′ .block)) (sym (stands′ .ensures) ∙ not-false (stands′ .result) (if1′ .left))
     (sym (stands2′ .ensures) ∙ not-false (stands2′ .result) (if2′ .left))
     (ap (λ (x : ℕ). eqb x 0) (sym (c .before .before .before .created .ensures)) ∙ ne-eqb _ _ (c .before .before .if3 .left))
-    (ap (λ (x : ℕ). eqb x 252) (sym (c .before .byte-at .ensures)) ∙ ne-eqb _ _ (c .if4 .taken)))))
-    (λ c κs. search needs)
-    (λ c.
+    (ap (λ (x : ℕ). eqb x 252) (sym (c .before .byte-at .ensures)) ∙ ne-eqb _ _ (c .if4 .taken))))
+
+returns-5 : tie.Need-returns-5
+returns-5 c =
     let spare-blank′ = c .before .spare-blank in
     let if3′ = c .before .before .before .before .if3 in
     let created′ = c .before .before .before .before .before .created in
@@ -59,8 +59,10 @@ header-fault-spec =
     (sym (stands2′ .ensures) ∙ not-false (stands2′ .result) (if2′ .left))
     (ap (λ (x : ℕ). eqb x 0) (sym (created′ .ensures)) ∙ ne-eqb _ _ (if3′ .left))
     (ap (λ (x : ℕ). eqb x 252) (sym (c .before .before .before .byte-at .ensures)) ∙ eq-eqb _ _ (c .before .before .if4 .left))
-    (sym (spare-blank′ .ensures) ∙ not-true (spare-blank′ .result) (c .if5 .taken)))))
-    (λ c.
+    (sym (spare-blank′ .ensures) ∙ not-true (spare-blank′ .result) (c .if5 .taken))))
+
+returns-6 : tie.Need-returns-6
+returns-6 c =
     let spare-blank′ = c .before .spare-blank in
     let if3′ = c .before .before .before .before .if3 in
     let created′ = c .before .before .before .before .before .created in
@@ -73,4 +75,9 @@ header-fault-spec =
     (sym (stands2′ .ensures) ∙ not-false (stands2′ .result) (if2′ .left))
     (ap (λ (x : ℕ). eqb x 0) (sym (created′ .ensures)) ∙ ne-eqb _ _ (if3′ .left))
     (ap (λ (x : ℕ). eqb x 252) (sym (c .before .before .before .byte-at .ensures)) ∙ eq-eqb _ _ (c .before .before .if4 .left))
-    (sym (spare-blank′ .ensures) ∙ not-false (spare-blank′ .result) (c .if5 .left))))))
+    (sym (spare-blank′ .ensures) ∙ not-false (spare-blank′ .result) (c .if5 .left))))
+
+pub header-fault-spec : {M : Type 1} → statement M
+header-fault-spec = tie.close (tie.spec
+    (λ c κs. search needs) returns (λ c κs. search needs) returns-2 (λ c κs. search needs) returns-3 (λ c κs. search needs) returns-4 (λ c κs. search needs)
+    returns-5 returns-6)

@@ -12,53 +12,56 @@ use borrow.Author.Needs.{needs}
 use Rattle.survey.proofs.pass.take_frame.Statement.{statement}
 use Rattle.survey.proofs.pass.take_frame.Tie as tie
 
-pub take-frame-spec : {M : Type 1} → statement M
-unfolding tookFrame tookPlaces
-take-frame-spec =
-    tie.close
-    (tie.spec
-    (λ c κs. search needs)
-    (λ c. search needs)
-    (λ c. search needs)
-    (λ c κs.
+grow-requires : tie.Need-grow-requires
+grow-requires c κs =
     let pre′ = c .before .before .before .before .before .pre in
-    (omega (arith, c .before .before .before .frame-len .ensures, pre′), pre′ .2 _))
-    (λ c. search needs)
-    (λ c κs.
+    (omega (arith, c .before .before .before .frame-len .ensures, pre′), pre′ .2 _)
+
+grow-requires-2 : tie.Need-grow-requires-2
+grow-requires-2 c κs =
     let pre′ = c .before .before .before .before .before .pre in
-    (omega (arith, c .before .before .before .frame-len .ensures, pre′), pre′ .2 _))
-    (λ c. search needs)
-    (λ c κs. search needs)
-    (λ c. search needs)
-    (λ c. search needs)
-    (λ c.
+    (omega (arith, c .before .before .before .frame-len .ensures, pre′), pre′ .2 _)
+
+slice-aggregate-commit-own : tie.Need-slice-aggregate-commit-own
+slice-aggregate-commit-own c =
     let args′ = c .before .before .before .before .before .before .before .before .args in
     let pre′ = c .before .before .before .before .before .before .before .before .pre in
-    sym (length-take-le (args′ .p .end) (now (args′ .block)) (omega (arith, pre′))))
-    (λ c κs.
+    sym (length-take-le (args′ .p .end) (now (args′ .block)) (omega (arith, pre′)))
+
+commit-own-requires : tie.Need-commit-own-requires
+commit-own-requires c κs =
     let args′ = c .before .before .before .before .before .before .before .before .before .args in
     let pre′ = c .before .before .before .before .before .before .before .before .before .pre in
-    omega (arith, length-take (args′ .p .end) (now (args′ .block)), pre′))
-    (λ c κs.
+    omega (arith, length-take (args′ .p .end) (now (args′ .block)), pre′)
+
+close-requires : tie.Need-close-requires
+close-requires c κs =
     let head3′ = c .before .before .before .before .before .before .head3 in
     let pre′ = c .before .before .before .before .before .before .before .before .before .before .pre in
-    omega (arith, pre′, ap headLen (head3′ .given .1)))
-    (λ c. search needs)
-    (λ c κs. omega (arith, c .before .before .before .before .before .pre, ap headLen (c .before .head4 .given .1)))
-    (λ c. search needs)
-    (λ c κs. search needs)
-    (λ c κs. search needs)
-    (λ c.
+    omega (arith, pre′, ap headLen (head3′ .given .1))
+
+close-requires-2 : tie.Need-close-requires-2
+close-requires-2 c κs = omega (arith, c .before .before .before .before .before .pre, ap headLen (c .before .head4 .given .1))
+
+returns : tie.Need-returns
+unfolding tookFrame tookPlaces
+returns c =
     let head′ = c .before .before .head in
     let frame-len′ = c .before .before .before .before .frame-len in
     let args′ = c .before .before .before .before .before .before .args in
-    (rw (head′ .given .1) (c .grow .ensures ∙ ap (grown (args′ .p) _) (frame-len′ .ensures ∙ ap headLen (head′ .given .1))), rw (head′ .given .1)))
-    (λ c.
+    (rw (head′ .given .1) (c .grow .ensures ∙ ap (grown (args′ .p) _) (frame-len′ .ensures ∙ ap headLen (head′ .given .1))), rw (head′ .given .1))
+
+returns-2 : tie.Need-returns-2
+unfolding tookFrame tookPlaces
+returns-2 c =
     let head2′ = c .before .before .head2 in
     let frame-len′ = c .before .before .before .before .frame-len in
     let args′ = c .before .before .before .before .before .before .args in
-    (rw (head2′ .given .1) (c .grow2 .ensures ∙ ap (grown (args′ .p) _) (frame-len′ .ensures ∙ ap headLen (head2′ .given .1))), rw (head2′ .given .1)))
-    (λ c.
+    (rw (head2′ .given .1) (c .grow2 .ensures ∙ ap (grown (args′ .p) _) (frame-len′ .ensures ∙ ap headLen (head2′ .given .1))), rw (head2′ .given .1))
+
+returns-3 : tie.Need-returns-3
+unfolding tookFrame tookPlaces
+returns-3 c =
     let of-host′ = c .before .before .before .before .of-host in
     let head3′ = c .before .before .before .before .before .before .before .head3 in
     let args′ = c .before .before .before .before .before .before .before .before .before .before .before .args in (
@@ -66,12 +69,24 @@ take-frame-spec =
       rw (head3′ .given .1)
           (c .before .commit-own .ensures ∙ ap (λ (m : ℕ). recommit (take (args′ .p .end) (now (args′ .block))) (head3′ .given .0 .0) m
           (now (args′ .places))) (of-host′ .ensures)),
-    ))
-    (λ c. (rw (c .before .before .head4 .given .1) (c .close2 .ensures), rw (c .before .before .head4 .given .1)))
-    (λ c.
+    )
+
+returns-4 : tie.Need-returns-4
+unfolding tookFrame tookPlaces
+returns-4 c = (rw (c .before .before .head4 .given .1) (c .close2 .ensures), rw (c .before .before .head4 .given .1))
+
+returns-5 : tie.Need-returns-5
+unfolding tookFrame tookPlaces
+returns-5 c =
     let head5′ = c .before .before .before .before .head5 in
     let frame-len′ = c .before .before .before .before .before .before .frame-len in
     let args′ = c .before .before .before .before .before .before .before .before .args in (
       rw (head5′ .given .1) (c .settle .ensures ∙ ap (passed (args′ .p) _) (frame-len′ .ensures ∙ ap headLen (head5′ .given .1))),
       rw (head5′ .given .1) (c .before .store .ensures),
-    )))
+    )
+
+pub take-frame-spec : {M : Type 1} → statement M
+take-frame-spec = tie.close (tie.spec
+    (λ c κs. search needs) (λ c. search needs) (λ c. search needs) grow-requires (λ c. search needs) grow-requires-2 (λ c. search needs) (λ c κs. search needs)
+    (λ c. search needs) (λ c. search needs) slice-aggregate-commit-own commit-own-requires close-requires (λ c. search needs) close-requires-2
+    (λ c. search needs) (λ c κs. search needs) (λ c κs. search needs) returns returns-2 returns-3 returns-4 returns-5)

@@ -9,14 +9,16 @@ use Rattle.unpack.proofs.Parts.{byte-in, byte-past}
 use Rattle.unpack.proofs.drive.frame_byte.Statement.{statement}
 use Rattle.unpack.proofs.drive.frame_byte.Tie as tie
 
-pub frame-byte-spec : {M : Type 1} → statement M
-frame-byte-spec = tie.close (tie.spec
-    (λ c κs. search needs)
-    (λ c κs. search needs)
-    (λ c.
+returns : tie.Need-returns
+returns c =
     let args′ = c .before .before .before .before .args in
     c .byte-at .ensures
-    ∙ rw (c .before .tail .ensures) (sym (byte-in maxFrame (args′ .i) (drop (args′ .at) (now (args′ .bytes))) (omega arith))))
-    (λ c.
+    ∙ rw (c .before .tail .ensures) (sym (byte-in maxFrame (args′ .i) (drop (args′ .at) (now (args′ .bytes))) (omega arith)))
+
+returns-2 : tie.Need-returns-2
+returns-2 c =
     let args′ = c .before .before .args in
-    sym (byte-past maxFrame (args′ .i) (drop (args′ .at) (now (args′ .bytes))) (omega arith))))
+    sym (byte-past maxFrame (args′ .i) (drop (args′ .at) (now (args′ .bytes))) (omega arith))
+
+pub frame-byte-spec : {M : Type 1} → statement M
+frame-byte-spec = tie.close (tie.spec (λ c κs. search needs) (λ c κs. search needs) returns returns-2)
