@@ -28,8 +28,8 @@
  *   told another may not see the store, or take it wrongly and lose it.
  *
  *   A flash step programs one byte (new = old AND given, so bits are only cleared) or erases one block (all its bytes become
- *   0xFF). Programming 0xFF is a step too, which changes nothing. With S = 256 there is room for values of up to 212 bytes,
- *   from S = 384 on for all (docs/STORE.md, Room).
+ *   0xFF). Programming 0xFF is a step too, which changes nothing. What one host has pending may come to half a block: with
+ *   S = 256 values may have up to 120 bytes, with S = 384 up to 184, from S = 512 on all may be put (docs/STORE.md, Room).
  *
  *   At rest one block holds the store and the others are blank. When it is full, what counts moves to the next block in
  *   number, after the last one to block 0, and the old block is erased: the blocks wear in turn. With more of them each is
@@ -89,16 +89,17 @@
  *     3      current block, from 0 on
  *     4-5    where the current block's frames end, counted from its start
  *     6      number of blocks
- *     7-1056 the library's own: 7-518 places of values, 519-560 the job, 561-808 and 809-1056 frames in hand
+ *     7-14   pending bytes of hosts 0 to 3, two bytes each
+ *     15-1064 the library's own: 15-526 places of values, 527-568 the job, 569-816 and 817-1064 frames in hand
  *
- *   Bytes 1 to 6 mean this in an idle record. An unmounted or idle record that the library hands out has zeros in all
+ *   Bytes 1 to 14 mean this in an idle record. An unmounted or idle record that the library hands out has zeros in all
  *   bytes it does not use. A record that does not belong to the image is noticed (GROMMETIDE_STALE), or, in a job, does
  *   one flash step at a time and ends, or is noticed, within 65,536 steps.
  *
  * Rules for all calls
  *
  *   No pointer may be NULL, also where its length is 0. Buffers and numbers that a call writes to overlap no others. A
- *   refusal, which is any answer from 1 to 11 and 254, leaves image, record and reply as they are; only a mount or format
+ *   refusal, which is any answer from 1 to 12 and 254, leaves image, record and reply as they are; only a mount or format
  *   refused with 2, 3, 4 or 6 makes the record an unmounted one, and a run may make steps before it is refused. Nothing is
  *   kept between calls, so calls on different buffers may run at the same time in different threads; calls that share a
  *   buffer which one of them writes to may not.
@@ -128,7 +129,7 @@
  *     grommetide_mount           3,072       3,328
  *     grommetide_fault           3,072       3,072
  *     grommetide_format          2,816       3,328
- *     grommetide_request         2,304       2,560
+ *     grommetide_request         2,304       2,816
  *     grommetide_read            1,792       1,792
  *     grommetide_next              576         512
  *     grommetide_made            2,816       2,816
@@ -155,6 +156,9 @@ typedef uint64_t grommetide_size;
 /*
  * This header's version. A record is of use only to the version that wrote it; the flash may outlive versions.
  *
+ *   0.8  a host's pending changes come to half a block at most: a put or delete beyond that, which 0.7 takes or answers
+ *        GROMMETIDE_NO_ROOM, gets GROMMETIDE_HOST_FULL. So a record of 1,065 bytes, which says what each host has pending. The
+ *        flash is that of 0.7.
  *   0.7  other processors than x86-64: lengths and offsets are grommetide_size, which on x86-64 is size_t as before. Record and
  *        flash are those of 0.6.
  *   0.6  two to sixteen blocks: each call that takes an image is told their number, and so a record of 1,057 bytes. With two
@@ -168,7 +172,7 @@ typedef uint64_t grommetide_size;
  *   0.1  values of up to 64 bytes, a record of 690 bytes. It finds flash in which a longer value stands foreign.
  */
 #define GROMMETIDE_VERSION_MAJOR 0
-#define GROMMETIDE_VERSION_MINOR 7
+#define GROMMETIDE_VERSION_MINOR 8
 #define GROMMETIDE_VERSION_PATCH 0
 
 /*
@@ -178,7 +182,7 @@ typedef uint64_t grommetide_size;
  */
 #define GROMMETIDE_BLOCK_KIND 0x4A01
 
-#define GROMMETIDE_RECORD_BYTES 1057
+#define GROMMETIDE_RECORD_BYTES 1065
 
 /* The most blocks of an image. The fewest are two. */
 #define GROMMETIDE_BLOCKS_MAX 16
@@ -186,7 +190,7 @@ typedef uint64_t grommetide_size;
 /* The most bytes of a value. The message that puts it has six more. */
 #define GROMMETIDE_VALUE_MAX 240
 
-/* Answers. If more than one refusal applies, the first in this order is given: 4, 10, 5, 2, 3, 11, 1, 8, 9, 7, 6. */
+/* Answers. If more than one refusal applies, the first in this order is given: 4, 10, 5, 2, 3, 11, 1, 8, 9, 12, 7, 6. */
 enum {
     GROMMETIDE_DONE = 0,             /* finished, or nothing to do */
     GROMMETIDE_MALFORMED = 1,        /* the message's length, kind, id, value length or page */
@@ -200,6 +204,7 @@ enum {
     GROMMETIDE_SHORT_REPLY = 9,      /* log: the reply buffer has fewer than 14 bytes */
     GROMMETIDE_HOST_RANGE = 10,      /* the host is above 3 */
     GROMMETIDE_STALE = 11,           /* the record belongs to another image or number of blocks */
+    GROMMETIDE_HOST_FULL = 12,       /* put or delete: this host's pending changes would come to more than half a block */
     GROMMETIDE_PROGRAM = 252,        /* next: a byte is to be programmed */
     GROMMETIDE_ERASE = 253,          /* next: a block is to be erased */
     GROMMETIDE_WRONG_RECORD = 254,   /* record_len is not GROMMETIDE_RECORD_BYTES; nothing was done */

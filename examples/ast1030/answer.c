@@ -5,8 +5,8 @@
 
 static const char *name_of(uint8_t answer)
 {
-    static const char *const names[] = {"done",  "malformed", "no store",  "foreign",     "image length", "busy",
-                                        "worn",  "no room",   "no object", "short reply", "host range",   "stale"};
+    static const char *const names[] = {"done",    "malformed", "no store",    "foreign",    "image length", "busy",     "worn",
+                                        "no room", "no object", "short reply", "host range", "stale",        "host full"};
     if (answer < sizeof names / sizeof names[0])
         return names[answer];
     return answer == GROMMETIDE_WRONG_RECORD ? "wrong record" : "unknown";
@@ -24,6 +24,8 @@ static const char *advice_on(uint8_t answer)
         return "the creation time can't rise any more; read-only: commit or abort what is pending, then copy the objects";
     case GROMMETIDE_NO_ROOM:
         return "commit or abort what is pending, or delete objects and commit; deletes need less room";
+    case GROMMETIDE_HOST_FULL:
+        return "this host may have half a block pending: commit or abort first";
     case GROMMETIDE_NO_OBJECT:
         return "no settled object has this id";
     case GROMMETIDE_HOST_RANGE:

@@ -106,52 +106,58 @@ fn rows_g_h(b: Bench) {
     objects(h);
 }
 
-// Nothing is settled, so C is the end: 16 and three frames of 72.
+// A put of host 0's, and its commit.
+fn settle(what: &[u8], d: Bench, id: u16, value: u8, count: u8) -> Bench {
+    let pending = put(d, 0, id, value, count);
+    let settled = commit(pending, 0);
+    tell(what, pending);
+    tell(b"   commit", settled);
+    settled
+}
+
+// Two frames of 72 would be more than S/2, so each gets its commit. C is then U: 16 + 3 * 71 = 229.
 fn row_i(a: Bench) -> Bench {
-    let one = put(a, 0, 1, 11, 64);
-    let two = put(one, 0, 2, 22, 64);
-    let i = put(two, 0, 3, 33, 64);
-    tell(b"i  host 0 puts 64 bytes to 1", one);
-    tell(b"   to 2", two);
-    tell(b"   to 3", i);
+    let one = settle(b"i  host 0 puts 64 bytes to 1", a, 1, 11, 64);
+    let two = settle(b"   to 2", one, 2, 22, 64);
+    let i = settle(b"   to 3", two, 3, 33, 64);
     log(i);
+    let again = put(a, 0, 1, 11, 64);
+    tell(b"   to 2, without 1's commit", put(again, 0, 2, 22, 64));
     i
 }
 
-// U is 16 + 3 * 71 = 229, and 229 + 8 + 6 + 14 = 257; with 63 bytes in 3 it is 256.
+// 229 + 8 + 6 + 14 = 257; with 63 bytes in 3 it is 256. Then a frame of 8 goes past 249, after a transfer of 228 - 5 steps.
 fn rows_j_k(a: Bench, i: Bench) {
     tell(b"j  put of an empty value to 4", put(i, 0, 4, 0, 0));
     let k = commit(i, 0);
     tell(b"k  commit", k);
     log(k);
     tell(b"   put of an empty value to 4", put(k, 0, 4, 0, 0));
-    let three = put(put(put(a, 0, 1, 11, 64), 0, 2, 22, 64), 0, 3, 33, 63);
-    tell(b"   with 63 bytes in 3", three);
-    let settled = commit(three, 0);
-    tell(b"   commit", settled);
+    let two = commit(put(commit(put(a, 0, 1, 11, 64), 0), 0, 2, 22, 64), 0);
+    let settled = settle(b"   with 63 bytes in 3", two, 3, 33, 63);
     log(settled);
     tell(b"   put of an empty value to 4", put(settled, 0, 4, 0, 0));
 }
 
-// U is 16 + 2 * 71 = 158: the transfer has 153 steps, the put's frame 8 and stands at 256 + 158.
+// 250 + 8 goes past S: the delete's transfer has 229 - 5 = 224 steps, its frame 8. The put's frame stands at 256 + 243.
 fn row_l(i: Bench) -> Bench {
-    let k = commit(i, 0);
-    let gone = ask(k, 0, &[6, 0, 2, 1, 1, 0]);
-    let before = commit(gone, 0);
-    tell(b"l  commit", k);
+    let before = commit(i, 0);
+    let gone = ask(before, 0, &[6, 0, 2, 1, 1, 0]);
+    let settled = commit(gone, 0);
+    tell(b"l  commit", before);
     tell(b"   delete 1", gone);
-    tell(b"   commit", before);
-    let l = put(before, 0, 4, 0, 0);
+    tell(b"   commit", settled);
+    let l = put(settled, 0, 4, 0, 0);
     tell(b"   put of an empty value to 4", l);
-    bytes(l, 414, 422);
+    bytes(l, 499, 507);
     objects(l);
     before
 }
 
-// Step 152 makes the new block valid, step 153 erases the old one.
+// Step 223 makes the new block valid, step 224 erases the old one.
 fn row_m(before: Bench, most: usize) {
-    let cut = ask_some(before, 0, &[6, 0, 1, 1, 4, 0], most);
-    tell(b"m  in that put, cut", cut);
+    let cut = ask_some(before, 0, &[6, 0, 2, 1, 1, 0], most);
+    tell(b"m  in that delete, cut", cut);
     let m = mount(cut);
     tell(b"   mount", m);
     objects(m);
@@ -172,7 +178,7 @@ fn put_on_1024(what: &[u8], message: &[u8]) {
     tell_run(what, run(&mut image, BLOCKS, asked, 65536));
 }
 
-// A frame of 248 bytes has no room where S is 256. Where S is 512: 16 + 248 + 6 + 14 = 284, and it ends at 16 + 248 = 264.
+// A frame of 248 bytes is at most S/2 where S is 512: 16 + 248 + 6 + 14 = 284, and it ends at 16 + 248 = 264.
 fn long_values() {
     let mut longest = [7u8; 246];
     wire::lay(&mut longest, &[246, 0, 1, 1, 9, 0]);
@@ -185,6 +191,7 @@ fn long_values() {
 fn row_o(a: Bench) {
     tell(b"o  put of 2 bytes to 255", put(a, 0, 255, 7, 2));
     tell(b"   to 256", put(a, 0, 256, 7, 2));
+    tell(b"   of 240 bytes, S = 256", put(a, 0, 9, 7, 240));
     long_values();
     tell(b"   by host 3", put(a, 3, 9, 7, 2));
     tell(b"   by host 4", put(a, 4, 9, 7, 2));
@@ -240,8 +247,8 @@ fn main() {
     let i = row_i(a);
     rows_j_k(a, i);
     let before = row_l(i);
-    row_m(before, 151);
-    row_m(before, 152);
+    row_m(before, 222);
+    row_m(before, 223);
     row_n(a);
     row_o(a);
     lengths();

@@ -24,7 +24,7 @@ use Rattle.board.specs.Record.{allowed, noPlaces, noMarks, landing, endi
 use Rattle.board.specs.Step.{enterWipe}
 use Rattle.board.specs.Mount.{nextBlock, newTime, endOf, Store, Upkeep, moves, upkeep, transfers, mountJob, formatOrder, formatJob, replayOf, usedOf}
 use Rattle.board.specs.Mount.{claimedOf, timeOf}
-use Rattle.board.specs.Queue.{appendJob}
+use Rattle.board.specs.Queue.{appendJob, counted}
 use Rattle.board.specs.Exec.{exec}
 use Rattle.board.specs.Plan.{Follows, Work, Performs, onBlock, formatWork, upkeepWork, mountIn, frameWork}
 use Rattle.board.proofs.Numbers.{next-there, next-other}
@@ -114,7 +114,7 @@ unfolding applyAll
 follows-frame {N} img r x f count long blocks here g end room =
     let k : ℕ = r .rest .block in
     let s : ℕ = sizeOf N img in
-    let z : Rest = r .rest in
+    let z : Rest = counted (r .rest) x f in
     let st : State = replayOf x in
     let fs : List Frame = framesOf st in
     let a : Record = appendJob N img r x f in

@@ -38,7 +38,7 @@ numbered (some n) =
     getD
     (Done ∷ Refused refusal.Malformed ∷ Refused refusal.NoStore ∷ Done ∷ Refused refusal.ImageLength ∷ Refused refusal.Busy
     ∷ Refused refusal.Worn ∷ Refused refusal.NoRoom ∷ Refused refusal.NoObject ∷ Refused refusal.ShortReply ∷ Refused refusal.HostRange
-    ∷ Refused refusal.Stale ∷ [])
+    ∷ Refused refusal.Stale ∷ Refused refusal.HostFull ∷ [])
     n Done
 
 -- an answer is 3 with what it names, or its number's
@@ -63,6 +63,7 @@ kind (Refused refusal.NoObject) = plain refl (not-three 8 (omega arith))
 kind (Refused refusal.ShortReply) = plain refl (not-three 9 (omega arith))
 kind (Refused refusal.HostRange) = plain refl (not-three 10 (omega arith))
 kind (Refused refusal.Stale) = plain refl (not-three 11 (omega arith))
+kind (Refused refusal.HostFull) = plain refl (not-three 12 (omega arith))
 
 -- what both name where both are 3
 abbrev pub SameNamed : Answer → Answer → Type 0

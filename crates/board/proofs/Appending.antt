@@ -23,6 +23,7 @@ use Rattle.journal.proofs.Blocks.{layout-size}
 use Rattle.journal.proofs.Replaying.{replay-snoc}
 use Rattle.journal.proofs.States.{Contents}
 use Rattle.journal.proofs.Building.{Lands}
+use Rattle.journal.specs.Room.{countsIn}
 use Rattle.board.specs.declared.Rest.{Rest}
 use Rattle.board.specs.Record.{landing, idle}
 use Rattle.board.specs.Mount.{endOf, replayOf}
@@ -184,9 +185,11 @@ module _ {N : ℕ} {s k : ℕ} {img : List ℕ} {w : Journal} (a : Alone N s img
   append-alone =
       alone-written (frameWrites w f) a (below-writes s (endOf w) (encode f) (omega (arith, length-encode f, x .short))) (whole-contents (a .contents) c f fits)
 
-  pub append-ends : (z : Rest) → z .blocks ≡ N → length img ≡ suc (z .last) → Roomy s (nextState (replayOf w) f)
+  pub append-ends : (z : Rest) → z .blocks ≡ N → length img ≡ suc (z .last) → z .pending ≡ countsIn (nextState (replayOf w) f)
+      → Roomy s (nextState (replayOf w) f)
       → After N s (applyAll s (appendPlan k (endOf w) f) img) (idle (landing z k (endOf w + frameLen f))) (nextState (replayOf w) f)
-  append-ends z b e room =
+  append-ends z b e counts room =
       let end : endOf (with-frame w f) ≡ endOf w + frameLen f = omega (arith, total-snoc (w .frames) f) in
       subst (λ (n : ℕ). After N s (applyAll s (appendPlan k (endOf w) f) img) (idle (landing z k n)) (nextState (replayOf w) f)) end
-      (alone-after z (nextState (replayOf w) f) append-alone refl b (length-all-steps s (appendPlan k (endOf w) f) img ∙ e) (replay-snoc (w .frames) f) room)
+      (alone-after z (nextState (replayOf w) f) append-alone refl b (length-all-steps s (appendPlan k (endOf w) f) img ∙ e) (replay-snoc (w .frames) f) counts
+      room)

@@ -5,18 +5,19 @@ use mathlib.Core.Bool.{true, false}
 use Prim.Native.Nat.{ℕ, _+_, _*_, _≤_}
 use native.Mathlib.Omega.{arith}
 use lib.Dec.{eqb}
-use borrow.Author.Tests.{eqb-false, ltb-false}
+use borrow.Author.Tests.{eqb-false, ltb-false, eqb-true}
 use Rattle.flash.proofs.Cases.{on-test}
 use Rattle.frame.specs.declared.Host.{Host}
-use Rattle.frame.specs.Frame.{hostMax, Change, put, delete, Frame, change, commit, abort, frameLen, deleteLen, endLen}
+use Rattle.frame.specs.Frame.{hostMax, Change, put, delete, Frame, change, commit, abort, frameLen, deleteLen, endLen, hostOf, total}
 use Rattle.journal.specs.Replay.{Entry, entry, State, nextState, listOf, without, isOpen, changeAll}
-use Rattle.journal.specs.Room.{claimed, openHosts, noRoom, spare}
+use Rattle.journal.specs.Room.{claimed, openHosts, noRoom, spare, hostFull, pendingFor}
 use Rattle.journal.proofs.Lists.{list-own, list-other, list-snoc, list-snoc-other, not-open}
 use Rattle.journal.proofs.Room.{host-is, kept, commit-room, abort-room, change-room, kept-change, kept-commit, kept-abort, kept-claimed}
 use Rattle.journal.proofs.Room.{fewer-without, open-pos}
+use Rattle.journal.proofs.PerHost.{bytes-other, bytes-ended, bytes-kept}
 use Rattle.board.specs.declared.Record.{Record}
 use Rattle.board.specs.Book.{Book, book, UnderWay, nothing, committing, withList, join, finishing}
-use Rattle.board.proofs.Invariant.{Lists, IdleBook}
+use Rattle.board.proofs.Invariant.{Lists, IdleBook, Shares}
 use Rattle.board.proofs.Current.{After}
 
 -- ---- the hosts' lists
@@ -49,6 +50,25 @@ pub lists-none : (ps : List Entry) (b : Book) (h : Host) → isOpen h ps ≡ fal
     → Lists ps (book (b .objects) (withList (b .lists) h []) (b .under))
 lists-none ps b h t l = lists-with ps ps b h [] (b .under) l (not-open h ps t) (λ g n. refl)
 
+-- ---- each host's share
+
+shares-join : {s : ℕ} (ps : List Entry) (h : Host) (c : Change) → Shares s ps → 2 * pendingFor h (ps ++ (entry h c ∷ [])) ≤ s
+    → Shares s (ps ++ (entry h c ∷ []))
+shares-join {s} ps h c y l g k =
+    on-test (eqb (h .0) (g .0))
+    (λ t. subst (λ (n : ℕ). 2 * pendingFor (hostOf n) (ps ++ (entry h c ∷ [])) ≤ s) (eqb-true (h .0) (g .0) t) l)
+    (λ t. omega (arith, bytes-other g h ps c (eqb-false (h .0) (g .0) t), y g k))
+
+shares-without : {s : ℕ} (ps : List Entry) (h : Host) → Shares s ps → Shares s (without h ps)
+shares-without {s} ps h y g k =
+    on-test (eqb (h .0) (g .0))
+    (λ t. subst (λ (n : ℕ). 2 * pendingFor (hostOf n) (without h ps) ≤ s) (eqb-true (h .0) (g .0) t) (omega (arith, bytes-ended h ps)))
+    (λ t. omega (arith, bytes-kept g h ps (eqb-false (h .0) (g .0) t), y g k))
+
+pub shares-none : (s : ℕ) → Shares s []
+unfolding listOf total
+shares-none s g k = omega arith
+
 -- ---- a frame and the book that is entered for it
 
 -- once the frame f is in a journal of state st, replay agrees with what finishes the book
@@ -56,6 +76,7 @@ pub record Entered (s : ℕ) (st : State) (f : Frame) (b : Book) : Type 0 where
   pub fits : claimed st + frameLen f ≤ s
   pub room : claimed (nextState st f) + endLen * openHosts (nextState st f .pending) ≤ s
   pub spare : kept (nextState st f) + (deleteLen + endLen) ≤ s
+  pub shares : Shares s (nextState st f .pending)
   pub objects : nextState st f .objects ≡ finishing b (b .under) .objects
   pub lists : Lists (nextState st f .pending) (finishing b (b .under))
   pub under : finishing b (b .under) .under ≡ nothing
@@ -66,6 +87,7 @@ idle-book {N} {s} {img} {r} {st} {f} {b} e a =
     record {
       ready = a .ready;
       spare = subst (λ (x : State). kept x + (deleteLen + endLen) ≤ s) (sym (a .state)) (e .spare);
+      shares = subst (λ (x : State). Shares s (x .pending)) (sym (a .state)) (e .shares);
       objects = ap (λ (x : State). x .objects) (a .state) ∙ e .objects;
       lists = subst (λ (x : State). Lists (x .pending) (finishing b (b .under))) (sym (a .state)) (e .lists);
       under = e .under;
@@ -75,6 +97,7 @@ idle-book {N} {s} {img} {r} {st} {f} {b} e a =
 pub record BookFits (s : ℕ) (st : State) (b : Book) : Type 0 where
   pub room : claimed st + endLen * openHosts (st .pending) ≤ s
   pub spare : kept st + (deleteLen + endLen) ≤ s
+  pub shares : Shares s (st .pending)
   pub objects : st .objects ≡ b .objects
   pub lists : Lists (st .pending) b
   pub under : b .under ≡ nothing
@@ -89,15 +112,16 @@ module _ {s : ℕ} {st : State} {b : Book} (y : BookFits s st b) (h : Host) (k :
   change-spare (put i v) l = omega (arith, kept-change st h (put i v), kept-claimed st)
   change-spare (delete i) l = omega (arith, kept-change st h (delete i), y .spare)
 
-  pub entered-change : (c : Change) → noRoom s st h c ≡ false → Entered s st (change h c) (join b h c)
-  unfolding noRoom
-  entered-change c t =
+  pub entered-change : (c : Change) → hostFull s st h c ≡ false → noRoom s st h c ≡ false → Entered s st (change h c) (join b h c)
+  unfolding hostFull noRoom
+  entered-change c q t =
       let l : claimed st + frameLen (change h c) + endLen * openHosts (st .pending ++ (entry h c ∷ [])) + spare c ≤ s =
       ltb-false s (claimed st + frameLen (change h c) + endLen * openHosts (st .pending ++ (entry h c ∷ [])) + spare c) t in
       record {
         fits = omega arith;
         room = omega (arith, change-room st h c);
         spare = change-spare c l;
+        shares = shares-join (st .pending) h c (y .shares) (ltb-false s (2 * pendingFor h (st .pending ++ (entry h c ∷ []))) q);
         objects = under-none (λ x. st .objects ≡ x .objects) (join b h c) (y .under) (y .objects);
         lists = under-none (λ x. Lists (st .pending ++ (entry h c ∷ [])) x) (join b h c) (y .under) (lists-join (st .pending) b h c k (y .lists));
         under = under-none (λ x. x .under ≡ nothing) (join b h c) (y .under) (y .under);
@@ -112,6 +136,7 @@ module _ {s : ℕ} {st : State} {b : Book} (y : BookFits s st b) (h : Host) (k :
         fits = omega (arith, y .room, open-pos h (st .pending) k t);
         room = omega (arith, y .room, commit-room st h, fewer-without h (st .pending));
         spare = omega (arith, y .spare, kept-commit st h);
+        shares = shares-without (st .pending) h (y .shares);
         objects = ap (λ (cs : List Change). changeAll cs (st .objects)) (y .lists h k) ∙ ap (changeAll (b .lists h)) (y .objects);
         lists = lists-without (st .pending) (book (changeAll (b .lists h) (b .objects)) (b .lists) nothing) h nothing (y .lists);
         under = refl;
@@ -126,6 +151,7 @@ module _ {s : ℕ} {st : State} {b : Book} (y : BookFits s st b) (h : Host) (k :
         fits = omega (arith, y .room, open-pos h (st .pending) k t);
         room = omega (arith, y .room, abort-room st h, fewer-without h (st .pending));
         spare = omega (arith, y .spare, kept-abort st h);
+        shares = shares-without (st .pending) h (y .shares);
         objects = under-none (λ x. st .objects ≡ x .objects) aborted (y .under) (y .objects);
         lists = under-none (λ x. Lists (without h (st .pending)) x) aborted (y .under) (lists-without (st .pending) b h (b .under) (y .lists));
         under = under-none (λ x. x .under ≡ nothing) aborted (y .under) (y .under);

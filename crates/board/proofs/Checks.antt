@@ -10,7 +10,7 @@ use Rattle.frame.specs.declared.Host.{Host}
 use Rattle.frame.specs.Frame.{hostMax, put, delete, Frame}
 use Rattle.journal.specs.Replay.{lookup}
 use Rattle.journal.specs.Block.{Journal, lastTime}
-use Rattle.journal.specs.Room.{noRoom}
+use Rattle.journal.specs.Room.{noRoom, hostFull}
 use Rattle.wire.specs.declared.Answer.{Answer}
 use Rattle.wire.specs.declared.Answer.the-variants.{Done, More, Refused}
 use Rattle.wire.specs.declared.Refusal.{Refusal}
@@ -25,7 +25,8 @@ use Rattle.board.specs.declared.Phase.the-variants.{Unmounted, Idle, Bus
 use Rattle.board.specs.declared.Record.{Record}
 use Rattle.board.specs.Record.{allowed}
 use Rattle.board.specs.Step.{sameShape, action}
-use Rattle.board.specs.Mount.{allFound, anyForeign, stores, Store, equalTimes, newest, upkeep, transfers, Found, noneValid, lowestTied, tiedTimes, replayOf, timeOf}
+use Rattle.board.specs.Mount.{allFound, anyForeign, stores, Store, equalTimes, newest, upkeep, transfers, Found, noneValid, lowestTied}
+use Rattle.board.specs.Mount.{tiedTimes, replayOf, timeOf}
 use Rattle.board.specs.Queue.{Asking, asking, sizeFor, heldFor, movesFor}
 use Rattle.board.specs.Exec.{Call, request, step, mount, format}
 use Rattle.board.specs.Table.{isNone, isBusy, frameFor}
@@ -73,6 +74,18 @@ shortReply a Abort = false
 shortReply a (Read i) = false
 shortReply a (Log p) = ltb (length (a .reply)) pageLen
 
+-- 12: K7, of a put or delete alone
+abbrev pub shareRule : ℕ → Host → List ℕ → Journal → Request → Bool
+shareRule size h m x (Put i) = hostFull size (replayOf x) h (put i (valueIn m))
+shareRule size h m x (Delete i) = hostFull size (replayOf x) h (delete i)
+shareRule size h m x Commit = false
+shareRule size h m x Abort = false
+shareRule size h m x (Read i) = false
+shareRule size h m x (Log p) = false
+
+abbrev pub hostFullFor : Asking → Journal → Request → Bool
+hostFullFor a x q = shareRule (sizeFor a) (a .host) (a .message) x q
+
 -- 7: "the room rule". "Commit and abort are never refused for room."
 abbrev pub roomRule : ℕ → Host → List ℕ → Journal → Request → Bool
 roomRule size h m x (Put i) = noRoom size (replayOf x) h (put i (valueIn m))
@@ -90,11 +103,11 @@ abbrev pub worn : Asking → Journal → Option Frame → Bool
 worn a x none = false
 worn a x (some f) = movesFor a f && eqb (x .time) lastTime
 
--- 8, 9, 7, 6
+-- 8, 9, 12, 7, 6
 abbrev pub heldChecks : Asking → Journal → Request → List Check
 heldChecks a x q =
-    check refusal.NoObject (noObject x q) ∷ check refusal.ShortReply (shortReply a q) ∷ check refusal.NoRoom (noRoomFor a x q)
-    ∷ check refusal.Worn (worn a x (frameFor (a .host) (a .message) x q)) ∷ []
+    check refusal.NoObject (noObject x q) ∷ check refusal.ShortReply (shortReply a q) ∷ check refusal.HostFull (hostFullFor a x q)
+    ∷ check refusal.NoRoom (noRoomFor a x q) ∷ check refusal.Worn (worn a x (frameFor (a .host) (a .message) x q)) ∷ []
 
 -- where 11 or 1 holds no later line can be the first
 abbrev pub laterChecks : Asking → Option Journal → Parsed → List Check
@@ -102,7 +115,7 @@ laterChecks a none p = []
 laterChecks a (some x) Malformed = []
 laterChecks a (some x) (Is q) = heldChecks a x q
 
--- 4, 10, 5, 2, 11, 1, 8, 9, 7, 6
+-- 4, 10, 5, 2, 11, 1, 8, 9, 12, 7, 6
 abbrev pub requestChecks : Asking → List Check
 requestChecks a =
     check refusal.ImageLength (not (allowed (a .blocks) (length (a .image)))) ∷ check refusal.HostRange (ltb hostMax (a .host .0))

@@ -3,17 +3,19 @@ use mathlib.Core.Path.{_≡_, refl, sym, ap, subst, _∙_}
 use mathlib.Core.List.{List, [], _∷_}
 use mathlib.Core.Logic.{_⊎_, inl, inr}
 use mathlib.Core.Bool.{Bool, true, false}
-use Prim.Native.Nat.{ℕ, _+_, _≤_}
+use Prim.Native.Nat.{ℕ, _+_, _≤_, _/_}
 use native.Mathlib.Omega.{arith}
-use lib.ListN.{length}
+use lib.ListN.{length, getD}
 use Rattle.flash.specs.Bytes.{Bytes}
 use Rattle.flash.specs.Flash.{applyAll, block, sizeOf, withBlock}
-use Rattle.frame.specs.Frame.{deleteLen, endLen, total}
+use Rattle.frame.specs.Frame.{deleteLen, endLen, total, Change}
 use Rattle.journal.specs.Replay.{Object, State, state, listOf, settledOnly}
 use Rattle.journal.specs.Block.{blockState}
 use Rattle.journal.proofs.Room.{kept, kept-none, used-kept}
 use Rattle.journal.proofs.Places.{Standing}
 use Rattle.journal.proofs.States.{contents-valid}
+use Rattle.journal.specs.Laws.{changesBytes}
+use Rattle.journal.proofs.ReplayLaws.{changes-total, pending-exact}
 use Rattle.wire.specs.declared.Answer.{Answer}
 use Rattle.wire.specs.declared.Answer.the-variants.{Done, More, Refused}
 use Rattle.wire.specs.declared.Refusal.{Refusal}
@@ -31,7 +33,7 @@ use Rattle.board.specs.Book.{Book, book, nothing, formatting, noLists, f
 use Rattle.board.specs.Claim.{IdleAgrees, Finishes, AgreesIn, Agrees, WornOut, MountSays, Says, trackMount, trackFormat, track, begunBy, Run}
 use Rattle.board.specs.Claim.{stepsOn, formatted, ByteCall, Begins, Event, call, cutErase, Happens, Claim}
 use Rattle.board.proofs.Images.{Sized, size-of, sized-of, sized-as, length-all-steps, bytes-all-steps}
-use Rattle.board.proofs.Invariant.{Lessers, Safe, GuardIn, IdleBook, InPhase, Inv}
+use Rattle.board.proofs.Invariant.{Lessers, Safe, GuardIn, IdleBook, InPhase, Inv, Shares}
 use Rattle.board.proofs.Outcomes.{format-begins}
 use Rattle.board.proofs.Current.{After, Keeps}
 use Rattle.board.proofs.Jobs.{Begun, job-starts, job-begins}
@@ -42,11 +44,13 @@ use Rattle.board.proofs.Blocks.{wiped-besides}
 use Rattle.board.proofs.Lengths.{length-format, format-some}
 use Rattle.board.proofs.Replies.{standing-of}
 use Rattle.board.proofs.Formatting.{format-safe, format-ends}
-use Rattle.board.proofs.Deciding.{Taken, StoreThere, InTime, Outcome, worn-out, begins, mount-outcome, MountSafe, nothing-there, store-there, mount-safe}
+use Rattle.board.proofs.Deciding.{Taken, StoreThere, InTime, Outcome, worn-out, begins, mount-outcome, MountSafe, nothing-there, store-there}
+use Rattle.board.proofs.Deciding.{mount-safe}
 use Rattle.board.proofs.Mounting.{mount-keeps, mount-ends}
 use Rattle.board.proofs.Requests.{Requested, request-keeps}
 use Rattle.board.proofs.Promising.{calls}
 use Rattle.board.proofs.Finishing.{Ends, idle-ends, call-ends, restart-ends}
+use Rattle.board.proofs.Books.{shares-none}
 use Rattle.frame.specs.declared.Fault.{Fault}
 
 -- ---- what the invariant gives between calls
@@ -60,6 +64,12 @@ idle-agrees {N} {s} {img} {r} {b} z y =
       is-clean = y .ready .is-clean;
       objects = y .objects;
       lists = y .lists;
+      shares = λ h k. subst (λ (cs : List Change). changesBytes cs ≤ sizeOf N img / 2) (y .lists h k)
+          (omega (arith, size-of z, y .shares h k, changes-total h (listOf h (replayOf (y .ready .journal) .pending))));
+      counts = λ h k. ap (λ (q : Record). getD (q .rest .pending) (h .0) 0) (y .ready .is)
+          ∙ ap (λ (ps : List ℕ). getD ps (h .0) 0) (y .ready .counts)
+          ∙ pending-exact .are (y .ready .journal .frames) .each h k
+          ∙ ap changesBytes (y .lists h k);
       room = λ e. omega (arith, size-of z, y .spare, kept-none (replayOf (y .ready .journal)) e);
     }
 
@@ -85,6 +95,7 @@ empty-book {N} {s} {img} {r} h a =
     record {
       ready = a .ready;
       spare = subst (λ (x : State). kept x + (deleteLen + endLen) ≤ s) (sym (a .state)) (omega (arith, kept-none empty refl));
+      shares = subst (λ (x : State). Shares s (x .pending)) (sym (a .state)) (shares-none s);
       objects = ap (λ (x : State). x .objects) (a .state);
       lists = λ g k. ap (λ (x : State). listOf g (x .pending)) (a .state);
       under = refl;
@@ -129,6 +140,7 @@ settled-book {N} {s} {img} {r} {st} {os} k a =
     record {
       ready = a .ready;
       spare = subst (λ (x : State). kept x + (deleteLen + endLen) ≤ s) (sym (a .state)) (omega (arith, k .room, used-kept st, kept-none (settledOnly st) refl));
+      shares = subst (λ (x : State). Shares s (x .pending)) (sym (a .state)) (shares-none s);
       objects = ap (λ (x : State). x .objects) (a .state) ∙ k .same;
       lists = λ g h. ap (λ (x : State). listOf g (x .pending)) (a .state);
       under = refl;

@@ -12,7 +12,7 @@ use Rattle.frame.specs.Frame.{deleteLen, endLen}
 use Rattle.frame.specs.Reader.{clean}
 use Rattle.journal.specs.Replay.{Object, State, settledOnly}
 use Rattle.journal.specs.Block.{Journal, blockState}
-use Rattle.journal.specs.Room.{claimed, openHosts}
+use Rattle.journal.specs.Room.{claimed, openHosts, countsIn}
 use Rattle.journal.proofs.Blocks.{blank-block}
 use Rattle.journal.proofs.States.{Contents}
 use Rattle.journal.proofs.Raising.{blank-harmless}
@@ -49,8 +49,8 @@ abbrev pub Roomy : ℕ → State → Type 0
 Roomy s st = claimed st + endLen * openHosts (st .pending) ≤ s
 
 pub alone-after : {N : ℕ} {s k : ℕ} {img : List ℕ} {w : Journal} (z : Rest) (st : State) → Alone N s img k w → w .tail ≡ clean → z .blocks ≡ N
-    → length img ≡ suc (z .last) → replayOf w ≡ st → Roomy s st → After N s img (idle (landing z k (endOf w))) st
-alone-after {N} {s} {k} {img} {w} z st x c blocks long e room =
+    → length img ≡ suc (z .last) → replayOf w ≡ st → z .pending ≡ countsIn st → Roomy s st → After N s img (idle (landing z k (endOf w))) st
+alone-after {N} {s} {k} {img} {w} z st x c blocks long e counts room =
     record {
       ready = record {
         stands = landing z k (endOf w);
@@ -62,6 +62,7 @@ alone-after {N} {s} {k} {img} {w} z st x c blocks long e room =
         contents = x .contents;
         is-clean = c;
         ends = refl;
+        counts = counts ∙ ap countsIn (sym e);
         room = subst (Roomy s) (sym e) room;
         others = x .others;
       };

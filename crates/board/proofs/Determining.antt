@@ -27,7 +27,7 @@ use Rattle.board.specs.declared.Rest.{Rest}
 use Rattle.board.specs.declared.Record.{Record}
 use Rattle.board.specs.Record.{allowed, unmounted, Stretch, noStretch, Out, out, answerIn, answerOf}
 use Rattle.board.specs.Mount.{Store, Upkeep, rests, moves, upkeep, mountOn, nextBlock, storeAt}
-use Rattle.board.specs.Queue.{held, Asking, asking}
+use Rattle.board.specs.Queue.{held, Asking, asking, counted}
 use Rattle.board.specs.Exec.{Call, request, step, mount, format}
 use Rattle.board.specs.Plan.{Follows, Work, formatWork, upkeepWork, mountWork, frameWork}
 use Rattle.board.specs.Table.{frameFor, Line, line, Exactly, Allowed, InJob, Fresh, FreshExact, requestLines, mountLines, linesOf}
@@ -106,7 +106,8 @@ mounted-idle N img x = kept-idle (upkeep x) (nextBlock N (x .number)) (storeAt N
 
 pub job-idle : {N : ℕ} {img : List ℕ} {r : Record} {c : Call} {w : Work} → Job N img r c w → w .last .phase ≡ Idle
 job-idle {N} {img} {r} (frame-job h msg reply x q f v k g) =
-    frame-cases (λ w. w .last .phase ≡ Idle) (sizeOf N img) (nextBlock N (r .rest .block)) (r .rest) x f (λ e. refl) (λ e. refl)
+    frame-cases (λ w. w .last .phase ≡ Idle) (sizeOf N img) (nextBlock N (r .rest .block)) (counted (r .rest) x f) x f (λ e. refl)
+    (λ e. refl)
 job-idle {N} {img} (mount-job x v) = mounted-idle N img x
 job-idle format-job = refl
 

@@ -20,7 +20,7 @@ use Rattle.board.proofs.Determining.{Alike, Agree, mount-allowed, call-
 use Rattle.board.proofs.TablingMounts.{mounts-current}
 use Rattle.board.proofs.Promising.{calls}
 use Rattle.board.proofs.Clearing.{only-clears}
-use Rattle.board.proofs.Limits.{room-exact, wear-exact}
+use Rattle.board.proofs.Limits.{room-exact, wear-exact, share-exact}
 use Rattle.board.proofs.Following.{job-steps, cut-bytes, happens-over, claim-of, cut-format-of}
 
 module _ {N : ℕ} {m : Machine} (p : Calls N m) where
@@ -115,6 +115,7 @@ from-calls p =
       clears = only-clears p;
       one-store = one-store-of p;
       usable = usable-of p;
+      share = share-exact p;
       room = room-exact p;
       wear = wear-exact p;
       lands = lands-of p;

@@ -21,6 +21,7 @@ use Rattle.journal.proofs.Blocks.{Layout}
 use Rattle.journal.proofs.States.{Contents, contents-valid}
 use Rattle.journal.proofs.Raising.{harmless-older}
 use Rattle.journal.proofs.Building.{Lands, below-build, made, making, lands}
+use Rattle.journal.proofs.PerHost.{counts-none}
 use Rattle.board.specs.Mount.{numbersBut, formatOrder}
 use Rattle.board.specs.Plan.{onBlock, formatWork}
 use Rattle.board.specs.CutFormat.{Beside}
@@ -159,7 +160,7 @@ module _ {N : ℕ} {s : ℕ} {img : List ℕ} (z : Sized N s img) where
   unfolding total replayFrom isOpen
   format-ends =
       alone-after (formatWork N img .last .rest) (state [] []) format-alone refl refl
-      (length-all-steps s (formatWork N img .steps) img ∙ sized-last z) refl (omega (arith, z .low))
+      (length-all-steps s (formatWork N img .steps) img ∙ sized-last z) refl (sym (counts-none [])) (omega (arith, z .low))
 
 -- "On an image the store left, a cut format leaves the old settled objects, no store, or the empty store": after j of the steps.
 -- A mount finds the objects where an image is safe and no format is unfinished.

@@ -12,13 +12,14 @@ use Rattle.frame.specs.Frame.{Frame, frameLen, MayStand, OfHost}
 use Rattle.frame.specs.Reader.{clean}
 use Rattle.journal.specs.Block.{Journal, lastTime}
 use Rattle.journal.specs.Replay.{Object, State, nextState}
-use Rattle.journal.specs.Room.{claimed}
-use Rattle.journal.proofs.Replaying.{replay-framesOf, stands-replay}
+use Rattle.journal.specs.Room.{claimed, countsIn}
+use Rattle.journal.proofs.Replaying.{replay-framesOf, stands-replay, replay-snoc}
 use Rattle.journal.proofs.Room.{frames-total}
+use Rattle.board.specs.declared.Rest.{Rest}
 use Rattle.board.specs.declared.Record.{Record}
 use Rattle.board.specs.Record.{landing, ending, idle}
 use Rattle.board.specs.Mount.{nextBlock, endOf, replayOf, claimedOf}
-use Rattle.board.specs.Queue.{needsRoom}
+use Rattle.board.specs.Queue.{needsRoom, counted}
 use Rattle.board.specs.Plan.{transferPlan, appendPlan, Work, appendWork, movedWork, frameWork}
 use Rattle.board.proofs.Images.{Sized, size-of, apply-append, length-all-steps}
 use Rattle.board.proofs.Invariant.{StepLands, Guard, Ready}
@@ -83,7 +84,7 @@ module _ {N : ℕ} {s : ℕ} {img : List ℕ} {r : Record} {x : Journal} {f : Fr
       → Each s P (frameWork N img r x f .steps) img
   each P one first second =
       let k : ℕ = nextBlock N (r .rest .block) in
-      frame-cases (λ w. Each s P (w .steps) img) (sizeOf N img) k (r .rest) x f
+      frame-cases (λ w. Each s P (w .steps) img) (sizeOf N img) k (counted (r .rest) x f) x f
       (λ e. each-append s P (transferPlan N (r .rest .block) x st) (appendPlan k (claimed st) f) img (first e)
       (subst (λ (n : ℕ). Each s P (appendPlan k n f) moved) (frames-total st) (second e)))
       (λ e. subst (λ (n : ℕ). Each s P (appendPlan (r .rest .block) n f) img) (h .ends) (one e))
@@ -102,23 +103,30 @@ module _ {N : ℕ} {s : ℕ} {img : List ℕ} {r : Record} {x : Journal} {f : Fr
   pub frame-ends : Roomy s (nextState (replayOf x) f)
       → After N s (applyAll s (frameWork N img r x f .steps) img) (frameWork N img r x f .last) (nextState (replayOf x) f)
   frame-ends room =
-      frame-cases (λ w. After N s (applyAll s (w .steps) img) (w .last) (nextState st f)) (sizeOf N img) (nextBlock N (r .rest .block)) (r .rest) x f
+      frame-cases (λ w. After N s (applyAll s (w .steps) img) (w .last) (nextState st f)) (sizeOf N img) (nextBlock N (r .rest .block)) z x f
       went stayed
     where
-      stayed : needsRoom N img r f ≡ false → After N s (applyAll s (appendWork (r .rest) f .steps) img) (appendWork (r .rest) f .last) (nextState st f)
+      z : Rest
+      z = counted (r .rest) x f
+
+      counts : z .pending ≡ countsIn (nextState st f)
+      counts = ap countsIn (replay-snoc (x .frames) f)
+
+      stayed : needsRoom N img r f ≡ false → After N s (applyAll s (appendWork z f .steps) img) (appendWork z f .last) (nextState st f)
       stayed e =
-          subst (λ (n : ℕ). After N s (applyAll s (appendPlan (r .rest .block) n f) img) (idle (ending (r .rest) (n + frameLen f))) (nextState st f))
+          subst (λ (n : ℕ). After N s (applyAll s (appendPlan (r .rest .block) n f) img) (idle (ending z (n + frameLen f))) (nextState st f))
           (h .ends)
-          (append-ends (h .alone) (h .is-clean) f (here e) (r .rest) (h .blocks) (h .long) room)
+          (append-ends (h .alone) (h .is-clean) f (here e) z (h .blocks) (h .long) counts room)
 
       went : needsRoom N img r f ≡ true
-          → let w : Work = movedWork (nextBlock N (r .rest .block)) (r .rest) x f in After N s (applyAll s (w .steps) img) (w .last) (nextState st f)
+          → let w : Work = movedWork (nextBlock N (r .rest .block)) z x f in After N s (applyAll s (w .steps) img) (w .last) (nextState st f)
       went e =
           let k : ℕ = nextBlock N (r .rest .block) in
           let long : length moved ≡ suc (r .rest .last) = length-all-steps s (transferPlan N (r .rest .block) x st) img ∙ h .long in
-          subst (λ (i : List ℕ). After N s i (idle (landing (r .rest) k (claimed st + frameLen f))) (nextState st f))
+          subst (λ (i : List ℕ). After N s i (idle (landing z k (claimed st + frameLen f))) (nextState st f))
           (sym (apply-append s (transferPlan N (r .rest .block) x st) (appendPlan k (claimed st) f) img))
-          (subst₂ (λ (n : ℕ) (z : State). After N s (applyAll s (appendPlan k n f) moved) (idle (landing (r .rest) k (n + frameLen f))) (nextState z f))
+          (subst₂ (λ (n : ℕ) (w : State). After N s (applyAll s (appendPlan k n f) moved) (idle (landing z k (n + frameLen f))) (nextState w f))
           (frames-total st)
           (replay-framesOf st)
-          (append-ends (new e) refl f after (r .rest) (h .blocks) long (subst (λ (z : State). Roomy s (nextState z f)) (sym (replay-framesOf st)) room)))
+          (append-ends (new e) refl f after z (h .blocks) long (counts ∙ ap (λ (w : State). countsIn (nextState w f)) (sym (replay-framesOf st)))
+          (subst (λ (w : State). Roomy s (nextState w f)) (sym (replay-framesOf st)) room)))

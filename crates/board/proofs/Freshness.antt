@@ -1,47 +1,46 @@
 -- Refusal 11: `held` finds exactly what document 01 asks for.
-use mathlib.Core.Path.{_≡_, sym, ap, ap₂, _∙_}
+use mathlib.Core.Path.{_≡_, sym, ap, ap₂, _∙_, subst}
 use mathlib.Core.List.{List}
 use mathlib.Core.Option.{some}
 use mathlib.Core.Bool.{Bool, true, _&&_}
-use Prim.Native.Nat.{ℕ, suc, _+_, _*_, _≤_, _<_}
+use Prim.Native.Nat.{ℕ, suc, _≤_, _<_}
 use native.Mathlib.Omega.{arith}
-use lib.Dec.{eqb, ltb, leb}
+use lib.Dec.{eqb, ltb}
 use lib.ListN.{length, replicate}
-use borrow.Author.Tests.{eqb-true, eq-eqb, leb-true, le-leb, ltb-true, lt-ltb}
+use borrow.Author.Tests.{eqb-true, ltb-true, lt-ltb}
 use Rattle.flash.specs.Bytes.{Bytes, allFF}
 use Rattle.flash.specs.Flash.{blockNumbers, block, sizeOf}
 use Rattle.flash.proofs.Cases.{and-both, and-left, and-right}
 use Rattle.flash.proofs.Blank.{is-ff}
 use Rattle.flash.proofs.Image.{length-block, bytes-block}
-use Rattle.frame.specs.Frame.{endLen}
 use Rattle.frame.specs.Sentences.{Blank}
 use Rattle.frame.specs.Reader.{Tail, clean}
 use Rattle.journal.specs.Block.{Journal, BlockState, valid, blockState, headerLen}
 use Rattle.journal.specs.Sentences.{BlankBlock}
-use Rattle.journal.specs.Room.{openHosts}
 use Rattle.journal.proofs.Sentences.{states-exact}
+use Rattle.journal.specs.Laws.{CountsAre}
+use Rattle.journal.proofs.ReplayLaws.{pending-exact}
 use Rattle.board.specs.declared.Record.{Record}
 use Rattle.board.specs.Record.{allowed, idle}
 use Rattle.board.specs.Step.{sameShape}
-use Rattle.board.specs.Mount.{endOf, replayOf, claimedOf}
 use Rattle.board.specs.Queue.{held, heldIf, heldIn, heldBy, fitsRecord, othersBlank, sameImage}
 use Rattle.board.specs.Table.{Fresh, FreshExact}
 use Rattle.board.proofs.Images.{Sized, sized-of, sized-block}
 use Rattle.board.proofs.Blocks.{others-are}
 use Rattle.board.proofs.Pipeline.{same-shape}
 use Rattle.board.proofs.Invariant.{Ready}
-use Rattle.board.proofs.Holding.{Passed, passed, held-inv}
+use Rattle.board.proofs.Holding.{Passed, passed, held-inv, RecordFits, record-fits, fits-record}
 use Rattle.board.proofs.Replies.{held-ready}
 
 blank-means : (l : List ℕ) → Blank l → allFF l ≡ true
 blank-means l e = is-ff l e
 
 held-here : (N : ℕ) (img : List ℕ) (r : Record) (x : Journal) → sameImage N img r ≡ true
-    → blockState (block (sizeOf N img) (r .rest .block) img) ≡ valid x → x .tail ≡ clean → fitsRecord (sizeOf N img) (r .rest .end) x ≡ true
+    → blockState (block (sizeOf N img) (r .rest .block) img) ≡ valid x → x .tail ≡ clean → fitsRecord (sizeOf N img) (r .rest) x ≡ true
     → held N img r ≡ some x
 unfolding held
 held-here N img r x a v c f =
-    ap (λ (b : Bool). heldBy N b img r) a ∙ ap (λ (b : BlockState). heldIn (sizeOf N img) (r .rest .end) b) v
+    ap (λ (b : Bool). heldBy N b img r) a ∙ ap (λ (b : BlockState). heldIn (sizeOf N img) (r .rest) b) v
     ∙ ap₂ (λ (b : Bool) (c : Tail). heldIf b c x) f c
 
 module _ (N : ℕ) (img : List ℕ) (r : Record) (x : Journal) (by : Bytes img) (ok : allowed N (length img) ≡ true) where
@@ -63,7 +62,7 @@ module _ (N : ℕ) (img : List ℕ) (r : Record) (x : Journal) (by : Bytes img) 
       let rest : beside ≡ true = and-right (sameShape N (length img) r) beside (p .same) in
       let there : r .rest .block < N =
       ltb-true (r .rest .block) N (and-left (ltb (r .rest .block) N) (othersBlank N (r .rest .block) img (blockNumbers N)) rest) in
-      let c : Bool = leb (claimedOf x + endLen * openHosts (replayOf x .pending)) s in
+      let f : RecordFits s (r .rest) x = record-fits (p .fits) in
       record {
         length-is = eqb-true (length img) (suc (r .rest .last)) (and-left (eqb (length img) (suc (r .rest .last))) (eqb N (r .rest .blocks)) shape);
         blocks-are = eqb-true N (r .rest .blocks) (and-right (eqb (length img) (suc (r .rest .last))) (eqb N (r .rest .blocks)) shape);
@@ -72,10 +71,10 @@ module _ (N : ℕ) (img : List ℕ) (r : Record) (x : Journal) (by : Bytes img) 
             (long-block (r .rest .block) there) .0
             (p .is-valid);
         is-clean = p .is-clean;
-        ends = eqb-true (endOf x) (r .rest .end) (and-left (eqb (endOf x) (r .rest .end)) c (p .fits));
+        ends = f .ends;
+        pending = subst (λ (ps : List ℕ). CountsAre ps (x .frames)) (f .counts) (pending-exact .are (x .frames));
         others-blank = λ j h n. blank-there j h n (othersOf (v .0) j h n);
-        room = leb-true (claimedOf x + endLen * openHosts (replayOf x .pending)) s
-            (and-right (eqb (endOf x) (r .rest .end)) c (p .fits));
+        room = f .room;
       }
     where
       blank-there : (j : ℕ) → j < N → (j ≡ r .rest .block → ⊥) → block s j img ≡ replicate s 255 → BlankBlock (block s j img)
@@ -95,9 +94,7 @@ module _ (N : ℕ) (img : List ℕ) (r : Record) (x : Journal) (by : Bytes img) 
       (long-block (r .rest .block) (y .there)) .1
       (y .is-valid))
       (y .is-clean)
-      (and-both (eqb (endOf x) (r .rest .end)) (leb (claimedOf x + endLen * openHosts (replayOf x .pending)) s)
-      (eq-eqb (endOf x) (r .rest .end) (y .ends))
-      (le-leb (claimedOf x + endLen * openHosts (replayOf x .pending)) s (y .room)))
+      (fits-record (record { ends = y .ends; counts = sym (pending-exact .only (r .rest .pending) (x .frames) (y .pending)); room = y .room }))
 
 pub fresh-exact : FreshExact
 unfolding FreshExact

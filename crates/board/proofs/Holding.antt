@@ -2,16 +2,16 @@
 use mathlib.Core.Path.{_≡_, refl, sym, ap, subst, _∙_}
 use mathlib.Core.List.{List}
 use mathlib.Core.Option.{some}
-use mathlib.Core.Bool.{Bool, true, false, _&&_, _||_}
-use Prim.Native.Nat.{ℕ, zero, suc, _+_, _*_, _<_}
+use mathlib.Core.Bool.{Bool, true, false, _&&_}
+use Prim.Native.Nat.{ℕ, suc, _+_, _*_, _<_, _≤_}
 use native.Mathlib.Omega.{arith}
 use lib.Dec.{eqb, ltb, leb}
 use lib.ListN.{length, replicate}
-use borrow.Author.Tests.{eqb-true, leb-true, ltb-true}
-use Rattle.flash.specs.Bytes.{Bytes, allFF}
+use borrow.Author.Tests.{eqb-true, leb-true, ltb-true, eq-eqb, le-leb}
+use Rattle.flash.specs.Bytes.{Bytes, allFF, sameBytes}
 use Rattle.flash.specs.Flash.{blockNumbers, block, sizeOf}
-use Rattle.flash.proofs.Cases.{on-test, and-left, and-right}
-use Rattle.flash.proofs.Blank.{all-ff}
+use Rattle.flash.proofs.Cases.{and-left, and-right, and-both}
+use Rattle.flash.proofs.Blank.{all-ff, same-is, same-refl}
 use Rattle.flash.proofs.Image.{length-block, bytes-block}
 use Rattle.frame.specs.Frame.{endLen}
 use Rattle.frame.specs.Reader.{clean, cut, bad, Tail}
@@ -21,8 +21,9 @@ use Rattle.journal.proofs.States.{valid-inv}
 use Rattle.board.specs.declared.Record.{Record}
 use Rattle.board.specs.Record.{idle}
 use Rattle.board.specs.Step.{sameShape}
-use Rattle.board.specs.Mount.{endOf, replayOf, claimedOf}
+use Rattle.board.specs.Mount.{endOf, replayOf, claimedOf, countsOf}
 use Rattle.board.specs.Queue.{held, heldBy, heldIn, heldIf, fitsRecord, sameImage, othersBlank}
+use Rattle.board.specs.declared.Rest.{Rest}
 use Rattle.board.proofs.Images.{Sized, size-of, sized-block}
 use Rattle.board.proofs.Blocks.{others-blank}
 use Rattle.board.proofs.Invariant.{Others, Ready}
@@ -32,9 +33,38 @@ pub record Passed (N : ℕ) (s : ℕ) (img : List ℕ) (r : Record) (x : Journal
   pub same : sameImage N img r ≡ true
   pub is-valid : blockState (block s (r .rest .block) img) ≡ valid x
   pub is-clean : x .tail ≡ clean
-  pub fits : fitsRecord s (r .rest .end) x ≡ true
+  pub fits : fitsRecord s (r .rest) x ≡ true
 
-record Inside (s e : ℕ) (b : BlockState) (x : Journal) : Type 0 where
+-- the three tests of a record that fits
+pub record RecordFits (s : ℕ) (z : Rest) (x : Journal) : Type 0 where
+  pub ends : endOf x ≡ z .end
+  pub counts : countsOf x ≡ z .pending
+  pub room : claimedOf x + endLen * openHosts (replayOf x .pending) ≤ s
+
+pub record-fits : {s : ℕ} {z : Rest} {x : Journal} → fitsRecord s z x ≡ true → RecordFits s z x
+unfolding fitsRecord
+record-fits {s} {z} {x} t =
+    let l : Bool = leb (claimedOf x + endLen * openHosts (replayOf x .pending)) s in
+    let e : Bool = eqb (endOf x) (z .end) in
+    let c : Bool = sameBytes (countsOf x) (z .pending) in
+    let ec : (e && c) ≡ true = and-left (e && c) l t in
+    record {
+      ends = eqb-true (endOf x) (z .end) (and-left e c ec);
+      counts = same-is (countsOf x) (z .pending) (and-right e c ec);
+      room = leb-true (claimedOf x + endLen * openHosts (replayOf x .pending)) s (and-right (e && c) l t);
+    }
+
+pub fits-record : {s : ℕ} {z : Rest} {x : Journal} → RecordFits s z x → fitsRecord s z x ≡ true
+unfolding fitsRecord
+fits-record {s} {z} {x} y =
+    let l : Bool = leb (claimedOf x + endLen * openHosts (replayOf x .pending)) s in
+    let e : Bool = eqb (endOf x) (z .end) in
+    let c : Bool = sameBytes (countsOf x) (z .pending) in
+    and-both (e && c) l
+    (and-both e c (eq-eqb (endOf x) (z .end) (y .ends)) (subst (λ (p : List ℕ). sameBytes (countsOf x) p ≡ true) (y .counts) (same-refl (countsOf x))))
+    (le-leb (claimedOf x + endLen * openHosts (replayOf x .pending)) s (y .room))
+
+record Inside (s : ℕ) (e : Rest) (b : BlockState) (x : Journal) : Type 0 where
   is-valid : b ≡ valid x
   is-clean : x .tail ≡ clean
   fits : fitsRecord s e x ≡ true
@@ -45,29 +75,29 @@ held-if false clean w x e = let z : _≡_ {A = ℕ} 0 1 = cc in absurd (omega ar
 held-if b (cut n) w x e = let z : _≡_ {A = ℕ} 0 1 = cc in absurd (omega arith)
 held-if b (bad f) w x e = let z : _≡_ {A = ℕ} 0 1 = cc in absurd (omega arith)
 
-inside : (s e : ℕ) (w x : Journal) → heldIf (fitsRecord s e w) (w .tail) w ≡ some x → Inside s e (valid w) x
+inside : (s : ℕ) (e : Rest) (w x : Journal) → heldIf (fitsRecord s e w) (w .tail) w ≡ some x → Inside s e (valid w) x
 inside s e w x q =
     let y = held-if (fitsRecord s e w) (w .tail) w x q in
     subst (Inside s e (valid w)) (y .2) (record { is-valid = refl; is-clean = y .1; fits = y .0 })
 
-held-in : (s e : ℕ) (b : BlockState) (x : Journal) → heldIn s e b ≡ some x → Inside s e b x
+held-in : (s : ℕ) (e : Rest) (b : BlockState) (x : Journal) → heldIn s e b ≡ some x → Inside s e b x
 held-in s e blank x q = let z : _≡_ {A = ℕ} 0 1 = cc in absurd (omega arith)
 held-in s e inProgress x q = let z : _≡_ {A = ℕ} 0 1 = cc in absurd (omega arith)
 held-in s e (valid w) x q = inside s e w x q
 held-in s e (foreign f) x q = let z : _≡_ {A = ℕ} 0 1 = cc in absurd (omega arith)
 
 held-by : (N : ℕ) (b : Bool) (img : List ℕ) (r : Record) (x : Journal) → heldBy N b img r ≡ some x
-    → (b ≡ true) × Inside (sizeOf N img) (r .rest .end) (blockState (block (sizeOf N img) (r .rest .block) img)) x
-held-by N true img r x e = (refl, held-in (sizeOf N img) (r .rest .end) (blockState (block (sizeOf N img) (r .rest .block) img)) x e)
+    → (b ≡ true) × Inside (sizeOf N img) (r .rest) (blockState (block (sizeOf N img) (r .rest .block) img)) x
+held-by N true img r x e = (refl, held-in (sizeOf N img) (r .rest) (blockState (block (sizeOf N img) (r .rest .block) img)) x e)
 held-by N false img r x e = let z : _≡_ {A = ℕ} 0 1 = cc in absurd (omega arith)
 
 pub passed : {N : ℕ} {s : ℕ} {img : List ℕ} {r : Record} {x : Journal} → Sized N s img → held N img r ≡ some x → Passed N s img r x
 unfolding held
 passed {N} {s} {img} {r} {x} z e =
-    let y : (sameImage N img r ≡ true) × Inside (sizeOf N img) (r .rest .end) (blockState (block (sizeOf N img) (r .rest .block) img)) x =
+    let y : (sameImage N img r ≡ true) × Inside (sizeOf N img) (r .rest) (blockState (block (sizeOf N img) (r .rest .block) img)) x =
     held-by N (sameImage N img r) img r x e in
-    let i : Inside s (r .rest .end) (blockState (block s (r .rest .block) img)) x =
-    subst (λ (n : ℕ). Inside n (r .rest .end) (blockState (block n (r .rest .block) img)) x) (size-of z) (y .1) in
+    let i : Inside s (r .rest) (blockState (block s (r .rest .block) img)) x =
+    subst (λ (n : ℕ). Inside n (r .rest) (blockState (block n (r .rest .block) img)) x) (size-of z) (y .1) in
     record { same = y .0; is-valid = i .is-valid; is-clean = i .is-clean; fits = i .fits }
 
 pub held-inv : {N : ℕ} {s : ℕ} {img : List ℕ} {x : Journal} (r : Record) → Sized N s img → Bytes img → held N img r ≡ some x
@@ -83,8 +113,7 @@ held-inv {N} {s} {img} {x} r z b e =
     let there : k < N = ltb-true k N (and-left (ltb k N) (othersBlank N k img (blockNumbers N)) beside) in
     let others : othersBlank N k img (blockNumbers N) ≡ true = and-right (ltb k N) (othersBlank N k img (blockNumbers N)) beside in
     let n : length (block s k img) ≡ s = length-block s k img (sized-block k z there) in
-    let room : leb (claimedOf x + endLen * openHosts (replayOf x .pending)) s ≡ true =
-    and-right (eqb (endOf x) (r .rest .end)) (leb (claimedOf x + endLen * openHosts (replayOf x .pending)) s) (p .fits) in (
+    let f : RecordFits s (r .rest) x = record-fits (p .fits) in (
       record {
         stands = r .rest;
         is = refl;
@@ -94,9 +123,9 @@ held-inv {N} {s} {img} {x} r z b e =
         journal = x;
         is-clean = p .is-clean;
         contents = valid-inv (block s k img) x (bytes-block s k img b) (omega (arith, z .low)) (p .is-valid);
-        ends = sym (eqb-true (endOf x) (r .rest .end) (and-left (eqb (endOf x) (r .rest .end))
-            (leb (claimedOf x + endLen * openHosts (replayOf x .pending)) s) (p .fits)));
-        room = leb-true (claimedOf x + endLen * openHosts (replayOf x .pending)) s room;
+        ends = sym (f .ends);
+        counts = sym (f .counts);
+        room = f .room;
         others = blanks k others;
       },
       refl,

@@ -12,7 +12,7 @@ use Rattle.frame.specs.Frame.{hostMax, deleteLen, endLen}
 use Rattle.frame.specs.Reader.{clean}
 use Rattle.journal.specs.Replay.{Object, Entry, listOf}
 use Rattle.journal.specs.Block.{Journal, BlockState, blank, inProgress, valid, foreign, blockState}
-use Rattle.journal.specs.Room.{openHosts}
+use Rattle.journal.specs.Room.{openHosts, pendingFor}
 use Rattle.journal.proofs.States.{Contents}
 use Rattle.journal.proofs.Raising.{Harmless}
 use Rattle.journal.proofs.Room.{kept}
@@ -22,7 +22,7 @@ use Rattle.board.specs.declared.Phase.the-variants.{Unmounted, Idle, Bus
 use Rattle.board.specs.declared.Rest.{Rest}
 use Rattle.board.specs.declared.Record.{Record}
 use Rattle.board.specs.Record.{idle}
-use Rattle.board.specs.Mount.{replayOf, endOf, claimedOf}
+use Rattle.board.specs.Mount.{replayOf, endOf, countsOf, claimedOf}
 use Rattle.board.specs.Exec.{exec}
 use Rattle.board.specs.Plan.{Follows}
 use Rattle.board.specs.Book.{Book, UnderWay, nothing, formatting, finishing}
@@ -90,8 +90,13 @@ pub record Ready (N : ℕ) (s : ℕ) (img : List ℕ) (r : Record) : Type 0 wher
   pub contents : Contents (block s (stands .block) img) journal
   pub is-clean : journal .tail ≡ clean
   pub ends : stands .end ≡ endOf journal
+  pub counts : stands .pending ≡ countsOf journal
   pub room : claimedOf journal + endLen * openHosts (replayOf journal .pending) ≤ s
   pub others : Others N (λ j. block s j img ≡ replicate s 255) (stands .block)
+
+-- K7: no host's pending frames come to more than S/2 bytes
+abbrev pub Shares : ℕ → List Entry → Type 0
+Shares s ps = (h : Host) → h .0 ≤ hostMax → 2 * pendingFor h ps ≤ s
 
 abbrev pub Lists : List Entry → Book → Type 0
 Lists ps b = (h : Host) → h .0 ≤ hostMax → listOf h ps ≡ b .lists h
@@ -99,6 +104,7 @@ Lists ps b = (h : Host) → h .0 ≤ hostMax → listOf h ps ≡ b .lists h
 pub record IdleBook (N : ℕ) (s : ℕ) (img : List ℕ) (r : Record) (b : Book) : Type 0 where
   pub ready : Ready N s img r
   pub spare : kept (replayOf (ready .journal)) + (deleteLen + endLen) ≤ s
+  pub shares : Shares s (replayOf (ready .journal) .pending)
   pub objects : replayOf (ready .journal) .objects ≡ b .objects
   pub lists : Lists (replayOf (ready .journal) .pending) b
   pub under : b .under ≡ nothing

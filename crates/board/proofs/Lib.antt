@@ -50,6 +50,7 @@ pub mod WearRuns  -- K14, erase counts of every run: to read
 -- ---- the promise
 pub mod Sentences  -- frames, plans and places, which the promise uses, are as document 01 words them
 pub mod Freshness  -- and so is refusal 11
+pub mod Lines  -- from tests to the table's lines: for Tabling
 pub mod Tabling  -- requests, steps and formats are refused by the table's lines
 pub mod TablingMounts  -- mounts are
 pub mod Answering  -- answers: numbers, lines, what they tell

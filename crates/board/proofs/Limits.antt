@@ -3,7 +3,7 @@ use mathlib.Core.Path.{_≡_, refl, sym, ap, ap₂, subst, subst₂, _∙_}
 use mathlib.Core.List.{List, [], _∷_}
 use mathlib.Core.Logic.{_↔_, inl, inr}
 use mathlib.Core.Option.{some}
-use Prim.Native.Nat.{ℕ, _+_, _<_}
+use Prim.Native.Nat.{ℕ, _+_, _<_, _/_}
 use native.Mathlib.Omega.{arith}
 use lib.ListN.{length}
 use Rattle.frame.specs.declared.Host.{Host}
@@ -21,9 +21,10 @@ use Rattle.board.specs.declared.Record.{Record}
 use Rattle.board.specs.Mount.{replayOf}
 use Rattle.board.specs.Queue.{Asking, asking, sizeFor}
 use Rattle.board.specs.Exec.{Machine, request}
-use Rattle.board.specs.Table.{frameFor, Line, line, Exactly, InJob, FreshFor, NoObject, ShortReply, NoRoom, for-put, for-delete, putNeeds, deleteNeeds}
+use Rattle.board.specs.Table.{frameFor, Line, line, Exactly, InJob, FreshFor, NoObject, ShortReply, NoRoom, for-put, for-delete, putNeeds}
+use Rattle.board.specs.Table.{deleteNeeds, HostFull, put-over, delete-over, putShare, deleteShare}
 use Rattle.board.specs.Table.{Worn, requestLines}
-use Rattle.board.specs.Demand2.{Asks, RoomExact, WearExact}
+use Rattle.board.specs.Demand2.{Asks, RoomExact, WearExact, ShareExact}
 use Rattle.wire.specs.Sentences.{Means}
 use Rattle.board.specs.Promise.{Calls}
 use Rattle.board.proofs.Answering.{number-accepted}
@@ -60,7 +61,7 @@ same-delete e = cc
 module _ (a : Asking) (x : Journal) (q : Request) (y : Asks a x q) where
   abbrev afterMalformed : List Line
   afterMalformed =
-      line 8 (NoObject a) ∷ line 9 (ShortReply a) ∷ line 7 (NoRoom a) ∷ line 6 (Worn a) ∷ []
+      line 8 (NoObject a) ∷ line 9 (ShortReply a) ∷ line 12 (HostFull a) ∷ line 7 (NoRoom a) ∷ line 6 (Worn a) ∷ []
 
   same : (w : Journal) → FreshFor a w → w ≡ x
   same w f = same-held (a .blocks) (a .image) (a .board) (y .bytes) (is-allowed (a .blocks) (length (a .image)) (y .length-ok)) w x f (y .is-held)
@@ -78,13 +79,25 @@ module _ (a : Asking) (x : Journal) (q : Request) (y : Asks a x q) where
   asks-one : (s : Request) → Means (a .message) s → q ≡ s
   asks-one s k = same-request (a .message) q s (y .is-asked) k
 
-  -- of a request that is no read and no log 7 and 6 alone are left
-  later : Changes q → (w : Answer) → Exactly afterMalformed w → Exactly (line 7 (NoRoom a) ∷ line 6 (Worn a) ∷ []) w
+  -- of a request that is no read and no log 12, 7 and 6 alone are left
+  later : Changes q → (w : Answer) → Exactly afterMalformed w → Exactly (line 12 (HostFull a) ∷ line 7 (NoRoom a) ∷ line 6 (Worn a) ∷ []) w
   later k w (inl (n, _)) = absurd (subst Changes (asks-one (Read (n .id)) (n .is-asked)) k)
   later k w (inr (_, inl (n, _))) = absurd (subst Changes (asks-one (Log (n .page)) (n .is-asked)) k)
   later k w (inr (_, inr (_, z))) = z
 
   -- what each line says of this request
+  over-put : (i : ObjectId) → q ≡ Put i → HostFull a → sizeFor a / 2 < putShare (replayOf x) (a .host) (valueIn (a .message))
+  over-put i e (put-over w j f k l) = subst (λ (v : Journal). sizeFor a / 2 < putShare (replayOf v) (a .host) (valueIn (a .message))) (same w f) l
+  over-put i e (delete-over w j f k l) = let g : Put i ≡ Delete j = sym e ∙ asks-one (Delete j) k in let v : _≡_ {A = ℕ} 0 1 = cc in absurd (omega arith)
+
+  over-delete : (i : ObjectId) → q ≡ Delete i → HostFull a → sizeFor a / 2 < deleteShare (replayOf x) (a .host)
+  over-delete i e (put-over w j f k l) = let g : Delete i ≡ Put j = sym e ∙ asks-one (Put j) k in let v : _≡_ {A = ℕ} 0 1 = cc in absurd (omega arith)
+  over-delete i e (delete-over w j f k l) = subst (λ (v : Journal). sizeFor a / 2 < deleteShare (replayOf v) (a .host)) (same w f) l
+
+  over-change : HostFull a → IsChange q
+  over-change (put-over w j f k l) = subst IsChange (sym (asks-one (Put j) k)) tt
+  over-change (delete-over w j f k l) = subst IsChange (sym (asks-one (Delete j) k)) tt
+
   full-put : (i : ObjectId) → q ≡ Put i → NoRoom a → sizeFor a < putNeeds (replay (x .frames)) (a .host) i (valueIn (a .message))
   full-put i e (for-put w j f k l) =
       let g : Put i ≡ Put j = sym e ∙ asks-one (Put j) k in
@@ -109,7 +122,19 @@ module _ (a : Asking) (x : Journal) (q : Request) (y : Asks a x q) where
         sym (ap (λ (v : Journal). v .time) (same (w .holding) (w .is-held))) ∙ w .last-time,
       )
 
--- the first line that holds of the last two
+-- the first line that holds of the last three
+module _ {H R W : Type 0} (a : Answer) where
+  share-line : Exactly (line 12 H ∷ line 7 R ∷ line 6 W ∷ []) a → (numberOf a ≡ some 12) ↔ H
+  share-line (inl (n, f)) = ((λ e. n), (λ _. f))
+  share-line (inr (g, inl (w, f))) = ((λ e. other-number a 7 12 (λ v. omega arith) f e), (λ n. absurd (g n)))
+  share-line (inr (g, inr (_, inl (w, f)))) = ((λ e. other-number a 6 12 (λ v. omega arith) f e), (λ n. absurd (g n)))
+  share-line (inr (g, inr (_, inr (_, z)))) = ((λ e. absurd (number-accepted a 11 e z)), (λ n. absurd (g n)))
+
+  past-share : Exactly (line 12 H ∷ line 7 R ∷ line 6 W ∷ []) a → (numberOf a ≡ some 12 → ⊥) → Exactly (line 7 R ∷ line 6 W ∷ []) a
+  past-share (inl (n, f)) g = absurd (g f)
+  past-share (inr (_, z)) g = z
+
+-- and of the last two
 module _ {R W : Type 0} (a : Answer) where
   room-line : Exactly (line 7 R ∷ line 6 W ∷ []) a → (numberOf a ≡ some 7) ↔ R
   room-line (inl (n, f)) = ((λ e. n), (λ _. f))
@@ -130,30 +155,54 @@ module _ {N : ℕ} {m : Machine} (p : Calls N m) (img : List ℕ) (r : Record) (
   abbrev answer : Answer
   answer = m img r (request h msg reply) .answer
 
-  rest-lines : (x : Journal) (q : Request) → Asks asked x q → Changes q → Exactly (line 7 (NoRoom asked) ∷ line 6 (Worn asked) ∷ []) answer
+  rest-lines : (x : Journal) (q : Request) → Asks asked x q → Changes q
+      → Exactly (line 12 (HostFull asked) ∷ line 7 (NoRoom asked) ∷ line 6 (Worn asked) ∷ []) answer
   rest-lines x q y k = later asked x q y k answer (past asked x q y answer (p .table img r (request h msg reply) (y .bytes)))
 
-  room-exactly : (x : Journal) (q : Request) → Asks asked x q → Changes q → (numberOf answer ≡ some 7) ↔ NoRoom asked
-  room-exactly x q y k = room-line answer (rest-lines x q y k)
+  share-exactly : (x : Journal) (q : Request) → Asks asked x q → Changes q → (numberOf answer ≡ some 12) ↔ HostFull asked
+  share-exactly x q y k = share-line answer (rest-lines x q y k)
+
+  room-exactly : (x : Journal) (q : Request) → Asks asked x q → Changes q → (numberOf answer ≡ some 12 → ⊥) → (numberOf answer ≡ some 7) ↔ NoRoom asked
+  room-exactly x q y k n = room-line answer (past-share answer (rest-lines x q y k) n)
+
+  -- a commit or abort is not refused with 12
+  never-over : (x : Journal) (q : Request) → Asks asked x q → Changes q → (IsChange q → ⊥) → numberOf answer ≡ some 12 → ⊥
+  never-over x q y k n f = n (over-change asked x q y (share-exactly x q y k .0 f))
 
 module _ {N : ℕ} {m : Machine} (p : Calls N m) where
+  pub share-exact : ShareExact N m
+  share-exact =
+      record {
+        of-put = λ img r h msg reply x i y.
+            let e = share-exactly p img r h msg reply x (Put i) y tt in
+            ((λ f. over-put _ x (Put i) y i refl (e .0 f)), (λ l. e .1 (put-over x i (y .is-held) (y .is-asked) l)));
+        of-delete = λ img r h msg reply x i y.
+            let e = share-exactly p img r h msg reply x (Delete i) y tt in
+            ((λ f. over-delete _ x (Delete i) y i refl (e .0 f)), (λ l. e .1 (delete-over x i (y .is-held) (y .is-asked) l)));
+        of-commit = λ img r h msg reply x y. never-over p img r h msg reply x Commit y tt (λ z. z);
+        of-abort = λ img r h msg reply x y. never-over p img r h msg reply x Abort y tt (λ z. z);
+      }
+
   pub room-exact : RoomExact N m
   room-exact =
       record {
-        of-put = λ img r h msg reply x i y.
-            let e = room-exactly p img r h msg reply x (Put i) y tt in
+        of-put = λ img r h msg reply x i y n.
+            let e = room-exactly p img r h msg reply x (Put i) y tt n in
             ((λ f. full-put _ x (Put i) y i refl (e .0 f)), (λ l. e .1 (for-put x i (y .is-held) (y .is-asked) l)));
-        of-delete = λ img r h msg reply x i y.
-            let e = room-exactly p img r h msg reply x (Delete i) y tt in
+        of-delete = λ img r h msg reply x i y n.
+            let e = room-exactly p img r h msg reply x (Delete i) y tt n in
             ((λ f. full-delete _ x (Delete i) y i refl (e .0 f)), (λ l. e .1 (for-delete x i (y .is-held) (y .is-asked) l)));
-        of-commit = λ img r h msg reply x y f. full-change _ x Commit y (room-exactly p img r h msg reply x Commit y tt .0 f);
-        of-abort = λ img r h msg reply x y f. full-change _ x Abort y (room-exactly p img r h msg reply x Abort y tt .0 f);
+        of-commit = λ img r h msg reply x y f.
+            full-change _ x Commit y (room-exactly p img r h msg reply x Commit y tt (never-over p img r h msg reply x Commit y tt (λ z. z)) .0 f);
+        of-abort = λ img r h msg reply x y f.
+            full-change _ x Abort y (room-exactly p img r h msg reply x Abort y tt (never-over p img r h msg reply x Abort y tt (λ z. z)) .0 f);
       }
 
   pub wear-exact : WearExact N m
   unfolding WearExact
-  wear-exact img r h msg reply x q f y e n =
-      let w = wear-line (m img r (request h msg reply) .answer) (rest-lines p img r h msg reply x q y (framed q e)) n in (
+  wear-exact img r h msg reply x q f y e d n =
+      let a : Answer = m img r (request h msg reply) .answer in
+      let w = wear-line a (past-share a (rest-lines p img r h msg reply x q y (framed q e)) d) n in (
         (λ g. worn-out (asking N img r h msg reply) x q y f e (w .0 g)),
         (λ k. w .1
             (record {

@@ -9,6 +9,7 @@ use Rattle.flash.specs.Flash.{erase, applyAll}
 use Rattle.journal.specs.Replay.{Object, State, settledOnly}
 use Rattle.journal.specs.Block.{lastTime}
 use Rattle.journal.proofs.Room.{claimed-settled}
+use Rattle.journal.proofs.PerHost.{counts-none}
 use Rattle.board.specs.Record.{landing, idle}
 use Rattle.board.specs.Mount.{Store, allFound, wipeList, nextBlock, Upkeep, rests, moves, upkeep, storeAt, replayOf, timeOf}
 use Rattle.board.specs.Plan.{programs, Work, upkeepWork, mountWork}
@@ -76,9 +77,10 @@ module _ {N : ℕ} {s : ℕ} {img : List ℕ} (x : Store) (z : Sized N s img) (h
           let after : List ℕ = applyAll s (kept moves .steps) wiped in
           subst (λ (n : ℕ). After N s after (idle (landing (storeAt N (length img - 1) x) (nextBlock N (x .number)) n)) st)
           (claimed-settled (replayOf (x .journal)))
-          (transferred alone st (moves-settled alone (t e)) (storeAt N (length img - 1) x) refl long (roomy-settled alone))
+          (transferred alone st (moves-settled alone (t e)) (storeAt N (length img - 1) x) refl long (sym (counts-none (st .objects))) (roomy-settled alone))
       go rests e =
-          alone-after (storeAt N (length img - 1) x) st alone (rests-clean (x .journal) e) refl long (rests-settled (x .journal) e) (roomy-settled alone)
+          alone-after (storeAt N (length img - 1) x) st alone (rests-clean (x .journal) e) refl long (rests-settled (x .journal) e)
+          (sym (counts-none (st .objects))) (roomy-settled alone)
 
   -- K14: "Demand 1's bound leaves a mount's erases aside": at most S steps without them, and of them at most N
   pub mount-short : length (programs (mountWork N img x .steps)) ≤ s

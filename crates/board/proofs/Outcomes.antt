@@ -11,7 +11,7 @@ use Rattle.frame.specs.declared.ObjectId.{ObjectId}
 use Rattle.frame.specs.Frame.{hostMax, Change, put, delete, Frame, change, commit, abort}
 use Rattle.journal.specs.Replay.{lookup, isOpen}
 use Rattle.journal.specs.Block.{Journal, lastTime, markWrites}
-use Rattle.journal.specs.Room.{noRoom}
+use Rattle.journal.specs.Room.{noRoom, hostFull}
 use Rattle.journal.specs.Index.{Load, nextLoad}
 use Rattle.wire.specs.declared.Answer.the-variants.{Done}
 use Rattle.wire.specs.declared.Refusal.the-variants as refusal
@@ -30,7 +30,8 @@ use Rattle.board.specs.Step.{enter, enterAppend, landed, enterDrop, load
 use Rattle.board.specs.Step.{nextIndex, nextByte, pastFrame, advance, sameShape, stepped, stepBusy, stepIn, stepOn}
 use Rattle.board.specs.Mount.{allFound, Found, Store, stores, equalTimes, newest, wipeList, upkeep, transfers, mountJob, replayOf, usedOf, timeOf}
 use Rattle.board.specs.Mount.{noneValid, lowestTied, tiedTimes, mountAt, mountStores, mountFound, mountOn, formatJob, formatOn}
-use Rattle.board.specs.Queue.{appendJob, append, serveChange, serveEnd, placeOf, serveLog, serve, serveParsed, serveHeld, requestIn, requestOn, Asking, sizeFor, heldFor, movesFor, refuseTo, doneAt}
+use Rattle.board.specs.Queue.{appendJob, append, serveChange, serveEnd, placeOf, serveLog, serve, serveParsed, serveHeld, requestIn, requestOn}
+use Rattle.board.specs.Queue.{Asking, sizeFor, heldFor, movesFor, refuseTo, doneAt}
 use Rattle.board.specs.Demand1.{Rests}
 
 -- ---- a frame appended
@@ -54,13 +55,19 @@ module _ (a : Asking) (x : Journal) (f : Frame) where
   end-idle e = rw (e, serveEnd)
 
 module _ (a : Asking) (x : Journal) (c : Change) where
-  pub change-refused : noRoom (sizeFor a) (replayOf x) (a .host) c ≡ true → serveChange a x c ≡ refuseTo a refusal.NoRoom
+  pub change-over : hostFull (sizeFor a) (replayOf x) (a .host) c ≡ true → serveChange a x c ≡ refuseTo a refusal.HostFull
   unfolding serveChange
-  change-refused e = rw (e, serveChange)
+  change-over e = rw (e, serveChange)
 
-  pub change-goes : noRoom (sizeFor a) (replayOf x) (a .host) c ≡ false → serveChange a x c ≡ append a x (change (a .host) c)
+  pub change-refused : hostFull (sizeFor a) (replayOf x) (a .host) c ≡ false → noRoom (sizeFor a) (replayOf x) (a .host) c ≡ true
+      → serveChange a x c ≡ refuseTo a refusal.NoRoom
   unfolding serveChange
-  change-goes e = rw (e, serveChange)
+  change-refused d e = rw (d, e, serveChange)
+
+  pub change-goes : hostFull (sizeFor a) (replayOf x) (a .host) c ≡ false → noRoom (sizeFor a) (replayOf x) (a .host) c ≡ false
+      → serveChange a x c ≡ append a x (change (a .host) c)
+  unfolding serveChange
+  change-goes d e = rw (d, e, serveChange)
 
 -- ---- the requests
 

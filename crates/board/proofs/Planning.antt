@@ -16,7 +16,7 @@ use Rattle.frame.specs.declared.ObjectId.{ObjectId}
 use Rattle.frame.specs.Frame.{hostMax, Change, put, delete, Frame, change, commit, abort, frameLen, endLen, OfHost, MayStand}
 use Rattle.journal.specs.Replay.{State, entry, lookup, nextState, isOpen}
 use Rattle.journal.specs.Block.{Journal, lastTime}
-use Rattle.journal.specs.Room.{claimed, openHosts, noRoom, spare}
+use Rattle.journal.specs.Room.{claimed, openHosts, noRoom, spare, hostFull}
 use Rattle.journal.proofs.Places.{Standing}
 use Rattle.journal.proofs.Room.{change-room, commit-room, abort-room, fewer-without, open-pos}
 use Rattle.wire.specs.declared.Answer.the-variants.{Done, More, Refused}
@@ -34,7 +34,8 @@ use Rattle.board.specs.declared.Phase.the-variants.{Unmounted, Idle, Bus
 use Rattle.board.specs.declared.Record.{Record}
 use Rattle.board.specs.Record.{allowed, idle, Out, out, answerOf}
 use Rattle.board.specs.Step.{enterWipe}
-use Rattle.board.specs.Queue.{appendJob, append, serve, serveChange, serveEnd, serveParsed, serveHeld, requestIn, requestOn, Asking, sizeFor, heldFor, movesFor, refuseTo}
+use Rattle.board.specs.Queue.{appendJob, append, serve, serveChange, serveEnd, serveParsed, serveHeld, requestIn, requestOn, Asking, sizeFor}
+use Rattle.board.specs.Queue.{heldFor, movesFor, refuseTo, counted}
 use Rattle.board.specs.Exec.{exec}
 use Rattle.board.specs.Plan.{Performs, frameWork}
 use Rattle.board.specs.Table.{frameFor, frameIf, FreshExact, FreshFor}
@@ -44,7 +45,7 @@ use Rattle.wire.proofs.Sentences.{messages-exact}
 use Rattle.board.proofs.Freshness.{fresh-exact}
 use Rattle.board.proofs.Images.{Sized, size-of, sized-of}
 use Rattle.board.proofs.Invariant.{StepLands, Ready, InJob}
-use Rattle.board.proofs.Outcomes.{append-worn, append-begins, change-refused, change-goes, end-goes, end-idle, log-short, log-done}
+use Rattle.board.proofs.Outcomes.{append-worn, append-begins, change-refused, change-goes, end-goes, end-idle, log-short, log-done, change-over}
 use Rattle.board.proofs.Outcomes.{serve-put, serve-delete, serve-commit, serve-abort, serve-log, read-none, read-some}
 use Rattle.board.proofs.Outcomes.{request-length, request-host, request-in}
 use Rattle.board.proofs.Current.{Roomy, After}
@@ -112,9 +113,11 @@ module _ (a : Asking) where
       change-met : (c : Change) → frameFor (a .host) (a .message) x q ≡ some (change (a .host) c)
           → noRoomFor a x q ≡ noRoom (sizeFor a) (replayOf x) (a .host) c → Met a (serveChange a x c)
       change-met c g n =
-          on-test (noRoom (sizeFor a) (replayOf x) (a .host) c)
-          (λ t. refused refusal.NoRoom (change-refused a x c t))
-          (λ t. over (change-goes a x c t) (append-met (change (a .host) c) g (n ∙ t)))
+          on-test (hostFull (sizeFor a) (replayOf x) (a .host) c)
+          (λ d. refused refusal.HostFull (change-over a x c d))
+          (λ d. on-test (noRoom (sizeFor a) (replayOf x) (a .host) c)
+          (λ t. refused refusal.NoRoom (change-refused a x c d t))
+          (λ t. over (change-goes a x c d t) (append-met (change (a .host) c) g (n ∙ t))))
 
       end-met : (f : Frame) → frameFor (a .host) (a .message) x q ≡ frameIf (isOpen (a .host) (replayOf x .pending)) f → noRoomFor a x q ≡ false
           → Met a (serveEnd a x f)
@@ -287,7 +290,7 @@ module _ {s : ℕ} {a : Asking} (z : Sized (a .blocks) s (a .image)) (by : Bytes
         is-frame = y .is-frame;
         follows = follows-frame img r x f (z .count) (holds .long) (holds .blocks) (holds .alone .there) j (sym (holds .ends))
             (omega (arith, fitting .fits, size-of z));
-        short = frame-short (sizeOf N img) (nextBlock N (r .rest .block)) (r .rest) x f (omega (arith, fitting .fits, size-of z));
+        short = frame-short (sizeOf N img) (nextBlock N (r .rest .block)) (counted (r .rest) x f) x f (omega (arith, fitting .fits, size-of z));
       }
 
   -- the job is begun: each step lands, and it ends idle

@@ -16,7 +16,7 @@ use Rattle.frame.specs.declared.ObjectId.{ObjectId}
 use Rattle.frame.specs.Frame.{hostMax, Change, put, delete, Frame, change, commit, abort}
 use Rattle.journal.specs.Replay.{lookup, isOpen}
 use Rattle.journal.specs.Block.{Journal, lastTime}
-use Rattle.journal.specs.Room.{noRoom}
+use Rattle.journal.specs.Room.{noRoom, hostFull}
 use Rattle.wire.specs.declared.Answer.the-variants.{More}
 use Rattle.wire.specs.declared.Refusal.{Refusal}
 use Rattle.wire.specs.declared.Refusal.the-variants as refusal
@@ -47,7 +47,7 @@ use Rattle.board.proofs.Refusals.{refusals-untouched, at-most-one-step}
 use Rattle.board.proofs.Ending.{forged-ends}
 use Rattle.board.proofs.Demand2.{one-store}
 use Rattle.board.proofs.Accepted.{follows-format}
-use Rattle.board.proofs.Outcomes.{append-worn, append-begins, change-refused, change-goes, end-goes, end-idle, log-short, log-done}
+use Rattle.board.proofs.Outcomes.{append-worn, append-begins, change-refused, change-goes, end-goes, end-idle, log-short, log-done, change-over}
 use Rattle.board.proofs.Outcomes.{serve-put, serve-delete, serve-commit, serve-abort, serve-log, read-none, read-some}
 use Rattle.board.proofs.Outcomes.{request-length, request-host, request-in, request-served, mount-length}
 use Rattle.board.proofs.Outcomes.{format-length, format-begins, step-resting}
@@ -114,9 +114,11 @@ module _ (a : Asking) (by : Bytes (a .image)) (bm : Bytes (a .message)) (x : Jou
       change-met : (c : Change) → frameFor (a .host) (a .message) x q ≡ some (change (a .host) c)
           → noRoomFor a x q ≡ noRoom (sizeFor a) (replayOf x) (a .host) c → Met q (serveChange a x c)
       change-met c g n =
-          on-test (noRoom (sizeFor a) (replayOf x) (a .host) c)
-          (λ t. turned-down q refusal.NoRoom (change-refused a x c t))
-          (λ t. over q (change-goes a x c t) (append-met (change (a .host) c) g (n ∙ t)))
+          on-test (hostFull (sizeFor a) (replayOf x) (a .host) c)
+          (λ d. turned-down q refusal.HostFull (change-over a x c d))
+          (λ d. on-test (noRoom (sizeFor a) (replayOf x) (a .host) c)
+          (λ t. turned-down q refusal.NoRoom (change-refused a x c d t))
+          (λ t. over q (change-goes a x c d t) (append-met (change (a .host) c) g (n ∙ t))))
 
       end-met : (f : Frame) → frameFor (a .host) (a .message) x q ≡ frameIf (isOpen (a .host) (replayOf x .pending)) f → noRoomFor a x q ≡ false
           → Met q (serveEnd a x f)

@@ -15,7 +15,7 @@ use Rattle.frame.specs.declared.ObjectId.{ObjectId}
 use Rattle.frame.specs.Frame.{hostMax, Change, put, delete, Frame, change, commit, abort}
 use Rattle.journal.specs.Replay.{lookup, isOpen}
 use Rattle.journal.specs.Block.{Journal, lastTime, BlockState, blank, inProgress, valid, foreign}
-use Rattle.journal.specs.Room.{noRoom}
+use Rattle.journal.specs.Room.{noRoom, hostFull}
 use Rattle.wire.specs.declared.Answer.{Answer}
 use Rattle.wire.specs.declared.Answer.the-variants.{Refused}
 use Rattle.wire.specs.declared.Refusal.{Refusal}
@@ -33,13 +33,14 @@ use Rattle.board.specs.Record.{allowed, unmounted, Out, refuse, answerIn
 use Rattle.board.specs.Step.{sameShape, enterWipe, action, advance, stepOn}
 use Rattle.board.specs.Mount.{allFound, anyForeign, Found, Store, stores, equalTimes, newest, wipeList, upkeep, transfers, mountJob, replayOf, timeOf}
 use Rattle.board.specs.Mount.{isForeign, orForeign, noneValid, mountAt, mountStores, mountOn, formatJob, formatOn}
-use Rattle.board.specs.Queue.{appendJob, append, serveChange, serveEnd, serve, serveParsed, serveHeld, requestIn, requestOn, Asking, asking, sizeFor, heldFor, movesFor}
+use Rattle.board.specs.Queue.{appendJob, append, serveChange, serveEnd, serve, serveParsed, serveHeld, requestIn, requestOn, Asking, asking}
+use Rattle.board.specs.Queue.{sizeFor, heldFor, movesFor}
 use Rattle.board.specs.Exec.{Call, request, step, mount, format, exec}
 use Rattle.board.specs.Table.{isBusy, isNone, frameIf}
 use Rattle.board.specs.Demand1.{Unchanged, OneStep, ImageAfter, Rests}
 use Rattle.board.proofs.Checks.{Check, check, firstOf, isUnmounted, isMalformed, worn, heldChecks, laterChecks, requestChecks, unclear}
 use Rattle.board.proofs.Checks.{outside, noStore, wornStore, mountChecks, checks, refusalIn}
-use Rattle.board.proofs.Outcomes.{append-worn, append-begins, change-refused, change-goes, end-goes, end-idle, log-short, log-done}
+use Rattle.board.proofs.Outcomes.{append-worn, append-begins, change-refused, change-goes, end-goes, end-idle, log-short, log-done, change-over}
 use Rattle.board.proofs.Outcomes.{serve-put, serve-delete, serve-commit, serve-abort, serve-log, read-none, read-some}
 use Rattle.board.proofs.Outcomes.{request-length, request-host, request-in, mount-length, mount-stores, mount-worn}
 use Rattle.board.proofs.Outcomes.{mount-begins, format-length, format-begins, step-resting, step-outside, step-goes}
@@ -107,12 +108,14 @@ module _ (a : Asking) where
       (passes e (accepted (begin-accepts (enterWipe (appendJob (a .blocks) (a .image) (a .board) x f) .phase)) refl)))
 
   change-asked : (x : Journal) (c : Change)
-      → Asked (check refusal.NoRoom (noRoom (sizeFor a) (replayOf x) (a .host) c) ∷ check refusal.Worn (worn a x (some (change (a .host) c))) ∷ [])
-      (serveChange a x c)
+      → Asked (check refusal.HostFull (hostFull (sizeFor a) (replayOf x) (a .host) c) ∷ check refusal.NoRoom (noRoom (sizeFor a) (replayOf x) (a .host) c)
+      ∷ check refusal.Worn (worn a x (some (change (a .host) c))) ∷ []) (serveChange a x c)
   change-asked x c =
-      on-test (noRoom (sizeFor a) (replayOf x) (a .host) c)
-      (λ e. stops refl e (change-refused a x c e))
-      (λ e. over (change-goes a x c e) (passes e (append-asked x (change (a .host) c))))
+      on-test (hostFull (sizeFor a) (replayOf x) (a .host) c)
+      (λ d. stops refl d (change-over a x c d))
+      (λ d. on-test (noRoom (sizeFor a) (replayOf x) (a .host) c)
+      (λ e. passes d (stops refl e (change-refused a x c d e)))
+      (λ e. over (change-goes a x c d e) (passes d (passes e (append-asked x (change (a .host) c))))))
 
   end-asked : (x : Journal) (f : Frame)
       → Asked (check refusal.Worn (worn a x (frameIf (isOpen (a .host) (replayOf x .pending)) f)) ∷ []) (serveEnd a x f)
@@ -124,7 +127,7 @@ module _ (a : Asking) where
   read-asked : (x : Journal) (i : ObjectId) (v : Option (List ℕ)) → lookup i (replayOf x .objects) ≡ v
       → Asked (heldChecks a x (Read i)) (serve a x (Read i))
   read-asked x i none e = stops refl (rw e) (read-none a x i e)
-  read-asked x i (some v) e = over (read-some a x i v e) (passes (rw e) (passes refl (passes refl (passes refl (accepted refl refl)))))
+  read-asked x i (some v) e = over (read-some a x i v e) (passes (rw e) (passes refl (passes refl (passes refl (passes refl (accepted refl refl))))))
 
   log-asked : (x : Journal) → Asked (heldChecks a x (Log Summary)) (serve a x (Log Summary))
   log-asked x =
@@ -132,13 +135,13 @@ module _ (a : Asking) where
       (passes refl
       (on-test (ltb (length (a .reply)) pageLen)
       (λ e. stops refl e (log-short a x e))
-      (λ e. over (log-done a x e) (passes e (passes refl (passes refl (accepted refl refl)))))))
+      (λ e. over (log-done a x e) (passes e (passes refl (passes refl (passes refl (accepted refl refl))))))))
 
   serve-asked : (x : Journal) (q : Request) → Asked (heldChecks a x q) (serve a x q)
   serve-asked x (Put i) = over (serve-put a x i) (passes refl (passes refl (change-asked x (put i (valueIn (a .message))))))
   serve-asked x (Delete i) = over (serve-delete a x i) (passes refl (passes refl (change-asked x (delete i))))
-  serve-asked x Commit = over (serve-commit a x) (passes refl (passes refl (passes refl (end-asked x (commit (a .host))))))
-  serve-asked x Abort = over (serve-abort a x) (passes refl (passes refl (passes refl (end-asked x (abort (a .host))))))
+  serve-asked x Commit = over (serve-commit a x) (passes refl (passes refl (passes refl (passes refl (end-asked x (commit (a .host)))))))
+  serve-asked x Abort = over (serve-abort a x) (passes refl (passes refl (passes refl (passes refl (end-asked x (abort (a .host)))))))
   serve-asked x (Read i) = read-asked x i (lookup i (replayOf x .objects)) refl
   serve-asked x (Log Summary) = log-asked x
 

@@ -5,10 +5,10 @@ use mathlib.Core.Option.{Option, none, some}
 use mathlib.Core.Bool.{Bool, true, _&&_}
 use Prim.Native.Nat.{ℕ, _+_, _*_, _≤_}
 use native.Mathlib.Omega.{arith}
-use lib.Dec.{eqb, ltb, leb}
+use lib.Dec.{ltb}
 use lib.ListN.{length, getD, take, drop, replicate}
 use lib.Seq.{drop-drop}
-use borrow.Author.Tests.{eq-eqb, le-leb, lt-ltb, ltb-true}
+use borrow.Author.Tests.{lt-ltb, ltb-true}
 use Rattle.flash.specs.Bytes.{allFF, u16le}
 use Rattle.flash.specs.Flash.{blockNumbers, block, sizeOf}
 use Rattle.flash.proofs.Cases.{on-test, and-both}
@@ -16,11 +16,11 @@ use Rattle.flash.proofs.Blank.{allFF-all}
 use Rattle.flash.proofs.Image.{take-drop-take, length-block}
 use Rattle.frame.specs.declared.Host.{Host}
 use Rattle.frame.specs.declared.ObjectId.{ObjectId}
-use Rattle.frame.specs.Frame.{idMax, endLen}
+use Rattle.frame.specs.Frame.{idMax}
 use Rattle.frame.specs.Reader.{Tail}
 use Rattle.journal.specs.Replay.{Object, lookup}
 use Rattle.journal.specs.Block.{Journal, blockState, header, validData}
-use Rattle.journal.specs.Room.{openHosts, usedBy}
+use Rattle.journal.specs.Room.{usedBy}
 use Rattle.journal.specs.Index.{placesOf, valueAt}
 use Rattle.journal.proofs.States.{Contents, contents-valid}
 use Rattle.journal.proofs.Places.{Standing, ValueStands, place-law}
@@ -32,7 +32,7 @@ use Rattle.wire.specs.Message.{pageLen}
 use Rattle.board.specs.declared.Record.{Record}
 use Rattle.board.specs.Record.{Out, idle}
 use Rattle.board.specs.Step.{sameShape}
-use Rattle.board.specs.Mount.{endOf, replayOf, claimedOf}
+use Rattle.board.specs.Mount.{replayOf}
 use Rattle.board.specs.Queue.{held, heldBy, heldIn, heldIf, fitsRecord, sameImage, othersBlank, stretchOf, placeOf, serve, Asking, asking, doneAt}
 use Rattle.board.specs.Claim.{ReadSays, LogSays}
 use Rattle.board.proofs.Images.{Sized, size-of, sized-block}
@@ -40,6 +40,7 @@ use Rattle.board.proofs.Blocks.{others-are}
 use Rattle.board.proofs.Pipeline.{same-shape}
 use Rattle.board.proofs.Invariant.{Others, Ready}
 use Rattle.board.proofs.Outcomes.{read-none, read-some, serve-log, log-done}
+use Rattle.board.proofs.Holding.{fits-record}
 
 -- ---- the image fits the record
 
@@ -51,8 +52,8 @@ pub held-ready : {N : ℕ} {s : ℕ} {img : List ℕ} {r : Record} → Sized N s
 unfolding held
 held-ready {N} {s} {img} {r} z y =
     ap (held N img) (y .is) ∙ ap (λ (b : Bool). heldBy N b img (idle (y .stands))) same
-    ∙ ap (λ (n : ℕ). heldIn n (y .stands .end) (blockState (block n (y .stands .block) img))) (size-of z)
-    ∙ ap (heldIn s (y .stands .end)) (contents-valid (y .contents)) ∙ ap₂ (λ (b : Bool) (c : Tail). heldIf b c (y .journal)) fit (y .is-clean)
+    ∙ ap (λ (n : ℕ). heldIn n (y .stands) (blockState (block n (y .stands .block) img))) (size-of z)
+    ∙ ap (heldIn s (y .stands)) (contents-valid (y .contents)) ∙ ap₂ (λ (b : Bool) (c : Tail). heldIf b c (y .journal)) fit (y .is-clean)
   where
     same : sameImage N img (idle (y .stands)) ≡ true
     same =
@@ -61,11 +62,8 @@ held-ready {N} {s} {img} {r} z y =
         (and-both (ltb (y .stands .block) N) (othersBlank N (y .stands .block) img (blockNumbers N)) (lt-ltb (y .stands .block) N (y .there))
         (blank-beside s (y .stands .block) img (size-of z) (y .others)))
 
-    fit : fitsRecord s (y .stands .end) (y .journal) ≡ true
-    fit =
-        and-both (eqb (endOf (y .journal)) (y .stands .end)) (leb (claimedOf (y .journal) + endLen * openHosts (replayOf (y .journal) .pending)) s)
-        (eq-eqb (endOf (y .journal)) (y .stands .end) (sym (y .ends)))
-        (le-leb (claimedOf (y .journal) + endLen * openHosts (replayOf (y .journal) .pending)) s (y .room))
+    fit : fitsRecord s (y .stands) (y .journal) ≡ true
+    fit = fits-record (record { ends = sym (y .ends); counts = sym (y .counts); room = y .room })
 
 -- ---- reads
 

@@ -15,7 +15,7 @@ use Rattle.frame.specs.declared.Host.{Host}
 use Rattle.frame.specs.Frame.{hostMax, Change, put, delete, Frame, change, commit, abort, OfHost, MayStand}
 use Rattle.journal.specs.Replay.{State, lookup, nextState, isOpen}
 use Rattle.journal.specs.Block.{Journal, lastTime}
-use Rattle.journal.specs.Room.{used, noRoom}
+use Rattle.journal.specs.Room.{used, noRoom, hostFull}
 use Rattle.journal.proofs.Places.{Standing}
 use Rattle.wire.specs.declared.Answer.{Answer}
 use Rattle.wire.specs.declared.Answer.the-variants.{Done, More, Refused}
@@ -30,13 +30,13 @@ use Rattle.board.specs.declared.Record.{Record}
 use Rattle.board.specs.declared.Phase.the-variants.{Idle}
 use Rattle.board.specs.Record.{noStretch, Out, answerOf}
 use Rattle.board.specs.Step.{enterWipe, begin}
-use Rattle.board.specs.Queue.{placeOf, needsRoom, appendJob, append, serve, serveEnd, serveChange, Asking, asking, refuseTo, doneAt}
+use Rattle.board.specs.Queue.{placeOf, needsRoom, appendJob, append, serve, serveEnd, serveChange, Asking, asking, refuseTo, doneAt, counted}
 use Rattle.board.specs.Plan.{frameWork}
 use Rattle.board.specs.Book.{Book, book, withList, join, accept}
 use Rattle.board.specs.Claim.{Never}
 use Rattle.board.proofs.Images.{Sized, size-of}
 use Rattle.board.proofs.Invariant.{IdleBook, InJob, Inv}
-use Rattle.board.proofs.Outcomes.{append-worn, append-begins, change-refused, change-goes, end-goes, end-idle, log-short, log-done}
+use Rattle.board.proofs.Outcomes.{append-worn, append-begins, change-refused, change-goes, end-goes, end-idle, log-short, log-done, change-over}
 use Rattle.board.proofs.Outcomes.{serve-put, serve-delete, serve-commit, serve-abort, serve-log, read-none, read-some}
 use Rattle.board.proofs.Prefixes.{Each}
 use Rattle.board.proofs.Current.{After, Keeps}
@@ -62,7 +62,7 @@ frame-starts {N} {s} {P} {Q} {img} r x f z h y each ends idle =
     job-starts img (enterWipe (appendJob N img r x f)) (frameWork N img r x f .steps)
     (frameWork N img r x f .last)
     (follows-frame img r x f (z .count) (h .long) (h .blocks) (h .alone .there) j (sym (h .ends)) (omega (arith, y .fits, size-of z)))
-    (frame-some (sizeOf N img) (nextBlock N (r .rest .block)) (r .rest) x f) each ends idle
+    (frame-some (sizeOf N img) (nextBlock N (r .rest .block)) (counted (r .rest) x f) x f) each ends idle
 
 -- ---- serving one request on an idle record of a run
 
@@ -88,7 +88,7 @@ Legal h m (Log p) = Unit {0}
 
 -- what is known of an idle record
 pub found : {N : ℕ} {s : ℕ} {img : List ℕ} {r : Record} {b : Book} (y : IdleBook N s img r b) → BookFits s (replayOf (y .ready .journal)) b
-found y = record { room = y .ready .room; spare = y .spare; objects = y .objects; lists = y .lists; under = y .under }
+found y = record { room = y .ready .room; spare = y .spare; shares = y .shares; objects = y .objects; lists = y .lists; under = y .under }
 
 module _ {N : ℕ} {s : ℕ} {img : List ℕ} {r : Record} {b : Book} (u : Bool) (z : Sized N s img) (by : Bytes img) (y : IdleBook N s img r b) (reply : List ℕ)
     (h : Host)
@@ -157,13 +157,17 @@ module _ {N : ℕ} {s : ℕ} {img : List ℕ} {r : Record} {b : Book} (u : Bool)
 
   changed : (q : Request) (c : Change) → accept b h m q More ≡ join b h c → MayStand 256 (change h c) → Served N s b u h m q (serveChange a x c)
   changed q c e g =
-      on-test (noRoom (sizeOf N img) st h c)
-      (λ t. subst (Served N s b u h m q) (sym (change-refused a x c t))
+      on-test (hostFull (sizeOf N img) st h c)
+      (λ d. subst (Served N s b u h m q) (sym (change-over a x c d))
+      (refused q refusal.HostFull (λ c. let w : _≡_ {A = ℕ} 0 1 = cc in omega arith) (λ c. let w : _≡_ {A = ℕ} 0 1 = cc in omega arith)))
+      (λ d. on-test (noRoom (sizeOf N img) st h c)
+      (λ t. subst (Served N s b u h m q) (sym (change-refused a x c d t))
       (refused q refusal.NoRoom (λ c. let w : _≡_ {A = ℕ} 0 1 = cc in omega arith) (λ c. let w : _≡_ {A = ℕ} 0 1 = cc in omega arith)))
-      (λ t. subst (Served N s b u h m q) (sym (change-goes a x c t))
+      (λ t. subst (Served N s b u h m q) (sym (change-goes a x c d t))
       (appended q (change h c) tt g
-      (subst (Entered s st (change h c)) (sym e) (entered-change (found y) h k c (subst (λ (n : ℕ). noRoom n st h c ≡ false) (size-of z) t)))
-      (ap (λ (w : Book). w .objects) e)))
+      (subst (Entered s st (change h c)) (sym e)
+      (entered-change (found y) h k c (subst (λ (n : ℕ). hostFull n st h c ≡ false) (size-of z) d) (subst (λ (n : ℕ). noRoom n st h c ≡ false) (size-of z) t)))
+      (ap (λ (w : Book). w .objects) e))))
 
   ended : (q : Request) (f : Frame) → OfHost f → MayStand 256 f → (isOpen h (st .pending) ≡ true → Entered s st f (accept b h m q More))
       → accept b h m q More .objects ≡ b .objects → (isOpen h (st .pending) ≡ false → IdleBook N s img r (accept b h m q Done))
@@ -175,7 +179,15 @@ module _ {N : ℕ} {s : ℕ} {img : List ℕ} {r : Record} {b : Book} (u : Bool)
 
   -- an abort with nothing pending leaves the book as it is, but for an empty list
   abort-none : isOpen h (st .pending) ≡ false → IdleBook N s img r (book (b .objects) (withList (b .lists) h []) (b .under))
-  abort-none t = record { ready = y .ready; spare = y .spare; objects = y .objects; lists = lists-none (st .pending) b h t (y .lists); under = y .under }
+  abort-none t =
+      record {
+        ready = y .ready;
+        spare = y .spare;
+        shares = y .shares;
+        objects = y .objects;
+        lists = lists-none (st .pending) b h t (y .lists);
+        under = y .under;
+      }
 
   pub served : (q : Request) → Legal h m q → Served N s b u h m q (serve a x q)
   served (Put i) g = subst (Served N s b u h m (Put i)) (sym (serve-put a x i)) (changed (Put i) (put i (valueIn m)) refl g)
@@ -200,4 +212,5 @@ module _ {N : ℕ} {s : ℕ} {img : List ℕ} {r : Record} {b : Book} (u : Bool)
       (λ t. subst (Served N s b u h m (Log Summary)) (sym (serve-log a x ∙ log-short a x t))
       (refused (Log Summary) refusal.ShortReply (λ c. let w : _≡_ {A = ℕ} 0 1 = cc in omega arith) (λ c. let w : _≡_ {A = ℕ} 0 1 = cc in omega arith)))
       (λ t. subst (Served N s b u h m (Log Summary)) (sym (serve-log a x ∙ log-done a x t))
-      (done (Log Summary) (doneAt a (withPage (logPage (y .ready .journal .time) (length (st .objects)) (used st) (sizeOf N img)) reply) noStretch) refl refl refl y))
+      (done (Log Summary) (doneAt a (withPage (logPage (y .ready .journal .time) (length (st .objects)) (used st) (sizeOf N img)) reply) noStretch)
+      refl refl refl y))

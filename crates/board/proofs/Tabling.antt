@@ -13,20 +13,17 @@ use Rattle.flash.specs.Bytes.{Bytes}
 use Rattle.flash.specs.Flash.{maxBlocks, sizeIn, isCount, Step, sizeOf, blockOf, offsetOf, within}
 use Rattle.flash.proofs.Cases.{on-test, clash, and-both, and-left, and-right}
 use Rattle.frame.specs.declared.Host.{Host}
-use Rattle.frame.specs.Frame.{Frame, frameLen, hostMax}
+use Rattle.frame.specs.Frame.{Frame, frameLen, hostMax, put, delete}
 use Rattle.journal.specs.Replay.{lookup}
 use Rattle.journal.specs.Block.{Journal, lastTime}
 use Rattle.journal.specs.Room.{noRoom}
-use Rattle.wire.specs.declared.Answer.{Answer}
-use Rattle.wire.specs.declared.Answer.the-variants.{Done, More, Refused}
-use Rattle.wire.specs.declared.Refusal.{Refusal}
+use Rattle.journal.proofs.ReplayLaws.{pending-exact}
 use Rattle.wire.specs.declared.Refusal.the-variants as refusal
 use Rattle.wire.specs.declared.Request.{Request}
 use Rattle.wire.specs.declared.Request.the-variants.{Put, Delete, Commit, Abort, Read, Log}
 use Rattle.wire.specs.declared.Parsed.{Parsed}
 use Rattle.wire.specs.declared.Parsed.the-variants.{Is, Malformed}
-use Rattle.wire.specs.Answer.{numberOf, refusalNumber}
-use Rattle.wire.specs.Message.{parse, pageLen}
+use Rattle.wire.specs.Message.{parse, pageLen, valueIn}
 use Rattle.board.specs.declared.Stage.{Stage}
 use Rattle.board.specs.declared.Phase.{Phase}
 use Rattle.board.specs.declared.Phase.the-variants.{Unmounted, Idle, Busy}
@@ -36,61 +33,17 @@ use Rattle.board.specs.Step.{sameShape, action}
 use Rattle.board.specs.Mount.{replayOf}
 use Rattle.board.specs.Queue.{Asking, heldFor, movesFor, sizeFor, requestOn}
 use Rattle.board.specs.Exec.{request, step, format, exec}
-use Rattle.board.specs.Table.{isBusy, isNone, frameFor, Line, line, Exactly, Allowed, InJob, Fresh, FreshFor, FreshExact, NoObject}
+use Rattle.board.specs.Table.{isBusy, isNone, frameFor, Line, line, Exactly, Allowed, InJob, Fresh, FreshFor, FreshExact, NoObject, HostFull}
+use Rattle.board.specs.Table.{put-over, delete-over}
 use Rattle.board.specs.Table.{ShortReply, NoRoom, for-put, for-delete, Worn, requestLines, Outside, Misplaced, linesOf}
-use Rattle.board.specs.Demand2.{Accepted}
 use Rattle.wire.specs.Sentences.{Means, MessagesExact, MalformedExact}
-use Rattle.board.proofs.Checks.{Check, check, firstOf, isUnmounted, isMalformed, noObject, shortReply, noRoomFor, worn, laterChecks}
-use Rattle.board.proofs.Checks.{heldChecks, requestChecks, outside, refusalIn}
+use Rattle.board.proofs.Checks.{check, isUnmounted, isMalformed, noObject, shortReply, noRoomFor, worn, laterChecks, hostFullFor}
+use Rattle.board.proofs.Checks.{heldChecks, requestChecks, outside}
 use Rattle.wire.proofs.Sentences.{messages-exact, malformed-exact}
+use Rattle.board.proofs.Lines.{Tests, Rows, end, row, exactly, false-true}
 use Rattle.board.proofs.Images.{AllowedAs, allowed-tests, allowed-from}
 use Rattle.board.proofs.Freshness.{fresh-exact}
 use Rattle.board.proofs.Refusals.{refused-by-table}
-
--- ---- from tests to lines
-
--- the first line that holds
-pub first-stop : (k : Refusal) (b : Bool) (cs : List Check) → b ≡ true → firstOf (check k b ∷ cs) ≡ some k
-unfolding firstOf
-first-stop k true cs e = refl
-first-stop k false cs e = let w : _≡_ {A = ℕ} 0 1 = cc in absurd (omega arith)
-
-pub first-skip : (k : Refusal) (b : Bool) (cs : List Check) → b ≡ false → firstOf (check k b ∷ cs) ≡ firstOf cs
-unfolding firstOf
-first-skip k true cs e = let w : _≡_ {A = ℕ} 0 1 = cc in absurd (omega arith)
-first-skip k false cs e = refl
-
-refusal-is : (a : Answer) (k : Refusal) → refusalIn a ≡ some k → a ≡ Refused k
-refusal-is Done k e = let w : _≡_ {A = ℕ} 0 1 = cc in absurd (omega arith)
-refusal-is More k e = let w : _≡_ {A = ℕ} 0 1 = cc in absurd (omega arith)
-refusal-is (Refused n) k e = cc
-
-none-refused : (a : Answer) → refusalIn a ≡ firstOf [] → Accepted a
-unfolding firstOf
-none-refused Done e = tt
-none-refused More e = tt
-none-refused (Refused n) e = let w : _≡_ {A = ℕ} 0 1 = cc in absurd (omega arith)
-
--- a test says whether a line holds
-record Tests (b : Bool) (P : Type 0) : Type 0 where
-  yes : b ≡ true → P
-  no : P → b ≡ true
-
--- the tests of a call, in order, and the lines that they are of; a test is asked where those before it failed
-data Rows : List Check → List Line → Type 1 where
-  end : Rows [] []
-  row : (n : Refusal) {b : Bool} {P : Type 0} {cs : List Check} {ls : List Line} → Tests b P → (b ≡ false → Rows cs ls)
-      → Rows (check n b ∷ cs) (line (refusalNumber n) P ∷ ls)
-
-exactly : {cs : List Check} {ls : List Line} → Rows cs ls → (a : Answer) → refusalIn a ≡ firstOf cs → Exactly ls a
-exactly end a e = none-refused a e
-exactly (row n {b} {P} {cs} {ls} t f) a e =
-    on-test b
-    (λ y. inl (t .yes y, ap numberOf (refusal-is a n (e ∙ first-stop n b cs y))))
-    (λ y. inr ((λ p. clash b (t .no p) y), exactly (f y) a (e ∙ first-skip n b cs y)))
-
-pub false-true {ℓ} : {P : Type ℓ} → false ≡ true → P
-false-true e = let w : _≡_ {A = ℕ} 0 1 = cc in absurd (omega arith)
 
 -- ---- 4, 10, 5, 2
 
@@ -236,6 +189,25 @@ module _ (a : Asking) (by : Bytes (a .image)) (ok : allowed (a .blocks) (length 
         asks (for-delete y i f k l) =
             ap₂ (noRoomFor a) (same-for x y fresh f) (same-request (a .message) q (Delete i) means k) ∙ lt-ltb (sizeFor a) _ (omega arith)
 
+    share-test : Tests (hostFullFor a x q) (HostFull a)
+    share-test = record { yes = λ t. over q means t; no = λ y. asks y }
+      where
+        over : (s : Request) → Means (a .message) s → hostFullFor a x s ≡ true → HostFull a
+        over (Put i) k t = put-over x i fresh k (pending-exact .full-is (sizeFor a) (x .frames) (a .host) (put i (valueIn (a .message))) .0 t)
+        over (Delete i) k t = delete-over x i fresh k (pending-exact .full-is (sizeFor a) (x .frames) (a .host) (delete i) .0 t)
+        over Commit k t = false-true t
+        over Abort k t = false-true t
+        over (Read i) k t = false-true t
+        over (Log p) k t = false-true t
+
+        asks : HostFull a → hostFullFor a x q ≡ true
+        asks (put-over y i f k l) =
+            ap₂ (hostFullFor a) (same-for x y fresh f) (same-request (a .message) q (Put i) means k)
+            ∙ pending-exact .full-is (sizeFor a) (y .frames) (a .host) (put i (valueIn (a .message))) .1 l
+        asks (delete-over y i f k l) =
+            ap₂ (hostFullFor a) (same-for x y fresh f) (same-request (a .message) q (Delete i) means k)
+            ∙ pending-exact .full-is (sizeFor a) (y .frames) (a .host) (delete i) .1 l
+
     worn-test : Tests (worn a x (frameFor (a .host) (a .message) x q)) (Worn a)
     worn-test = record { yes = λ t. over (frameFor (a .host) (a .message) x q) refl t; no = λ y. due y }
       where
@@ -263,17 +235,18 @@ module _ (a : Asking) (by : Bytes (a .image)) (ok : allowed (a .blocks) (length 
             (eq-eqb (y .holding .time) lastTime (y .last-time))
 
     held-rows : Rows (heldChecks a x q)
-        (line 8 (NoObject a) ∷ line 9 (ShortReply a) ∷ line 7 (NoRoom a) ∷ line 6 (Worn a) ∷ [])
+        (line 8 (NoObject a) ∷ line 9 (ShortReply a) ∷ line 12 (HostFull a) ∷ line 7 (NoRoom a) ∷ line 6 (Worn a) ∷ [])
     held-rows =
         row refusal.NoObject object-test (λ _.
         row refusal.ShortReply short-test (λ _.
+        row refusal.HostFull share-test (λ _.
         row refusal.NoRoom room-test (λ _.
-        row refusal.Worn worn-test (λ _. end))))
+        row refusal.Worn worn-test (λ _. end)))))
 
   abbrev lastLines : List Line
   lastLines =
-      line 1 ((q : Request) → Means (a .message) q → ⊥) ∷ line 8 (NoObject a) ∷ line 9 (ShortReply a) ∷ line 7 (NoRoom a)
-      ∷ line 6 (Worn a) ∷ []
+      line 1 ((q : Request) → Means (a .message) q → ⊥) ∷ line 8 (NoObject a) ∷ line 9 (ShortReply a) ∷ line 12 (HostFull a)
+      ∷ line 7 (NoRoom a) ∷ line 6 (Worn a) ∷ []
 
   parsed-rows : (x : Journal) → FreshFor a x → (p : Parsed) → parse (a .message) ≡ p
       → Rows (check refusal.Malformed (isMalformed p) ∷ laterChecks a (some x) p) lastLines

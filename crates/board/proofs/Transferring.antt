@@ -16,7 +16,7 @@ use Rattle.frame.specs.Reader.{clean}
 use Rattle.frame.proofs.First.{scan-blank}
 use Rattle.journal.specs.Block.{Journal, headerLen, lastTime, blockState, build, journal}
 use Rattle.journal.specs.Replay.{Object, State, isOpen, framesOf, settledOnly}
-use Rattle.journal.specs.Room.{claimed}
+use Rattle.journal.specs.Room.{claimed, countsIn}
 use Rattle.journal.proofs.Blocks.{layout-size}
 use Rattle.journal.proofs.States.{Contents, contents-valid}
 use Rattle.journal.proofs.Raising.{Harmless, blank-harmless, progress-harmless, valid-harmless}
@@ -207,8 +207,8 @@ module _ {N : ℕ} {s k : ℕ} {img : List ℕ} {w : Journal} (a : Alone N s img
             others = blank;
           }
 
-  pub transferred : (z : Rest) → z .blocks ≡ N → length img ≡ suc (z .last) → Roomy s st
+  pub transferred : (z : Rest) → z .blocks ≡ N → length img ≡ suc (z .last) → z .pending ≡ countsIn st → Roomy s st
       → After N s (applyAll s (transferPlan N k w st) img) (idle (landing z (nextBlock N k) (claimed st))) st
-  transferred z b e room =
+  transferred z b e counts room =
       subst (λ (n : ℕ). After N s (applyAll s (transferPlan N k w st) img) (idle (landing z (nextBlock N k) n)) st) (frames-total st)
-      (alone-after z st transfer-alone refl b (length-all-steps s (transferPlan N k w st) img ∙ e) (replay-framesOf st) room)
+      (alone-after z st transfer-alone refl b (length-all-steps s (transferPlan N k w st) img ∙ e) (replay-framesOf st) counts room)

@@ -22,7 +22,7 @@ use Rattle.board.specs.declared.Record.{Record}
 use Rattle.board.specs.Record.{allowed, rest, Out, refuse}
 use Rattle.board.specs.Step.{action, advance, stepped, stepIn, stepBusy, stepOn}
 use Rattle.board.specs.Mount.{nextBlock}
-use Rattle.board.specs.Queue.{held, heldBy, heldIn, sameImage, othersBlank}
+use Rattle.board.specs.Queue.{held, heldBy, heldIn, sameImage, othersBlank, counted}
 use Rattle.board.specs.Plan.{Work, appendWork, movedWork, frameIn, frameWork}
 use Rattle.board.specs.Two.{allowedTwo, sizeTwo, stateTwo, beside, heldTwo, frameTwo, stepTwo}
 use Rattle.board.proofs.Images.{AllowedAs, allowed-tests, allowed-from}
@@ -86,24 +86,24 @@ two-fresh img r e =
     ap (λ (b : Bool). heldBy 2 b img r) (same-two img r e)
     ∙ by (eqb (length img) (suc (r .rest .last)) && (ltb (r .rest .block) 2 && allFF (block (sizeTwo img) (beside (r .rest .block)) img)))
   where
-    by : (b : Bool) → heldBy 2 b img r ≡ cond b (heldIn (sizeTwo img) (r .rest .end) (stateTwo img (r .rest .block))) none
-    by true = ap (λ (n : ℕ). heldIn n (r .rest .end) (blockState (block n (r .rest .block) img))) (two-sizes img)
+    by : (b : Bool) → heldBy 2 b img r ≡ cond b (heldIn (sizeTwo img) (r .rest) (stateTwo img (r .rest .block))) none
+    by true = ap (λ (n : ℕ). heldIn n (r .rest) (blockState (block n (r .rest .block) img))) (two-sizes img)
     by false = refl
 
 -- ---- a frame appended
 
 -- the same but for the block that a transfer goes to
 frame-beside : (img : List ℕ) (r : Record) (x : Journal) (f : Frame) → r .rest .block < 2
-    → frameWork 2 img r x f ≡ frameIn (sizeTwo img) (beside (r .rest .block)) (r .rest) x f
-frame-beside img r x f h = ap₂ (λ (n k : ℕ). frameIn n k (r .rest) x f) (two-sizes img) (next-beside (r .rest .block) h)
+    → frameWork 2 img r x f ≡ frameIn (sizeTwo img) (beside (r .rest .block)) (counted (r .rest) x f) x f
+frame-beside img r x f h = ap₂ (λ (n k : ℕ). frameIn n k (counted (r .rest) x f) x f) (two-sizes img) (next-beside (r .rest .block) h)
 
 pub two-frame : (img : List ℕ) (r : Record) (x : Journal) (f : Frame) → r .rest .block < 2 → frameWork 2 img r x f .steps ≡ frameTwo img r x f .steps
 two-frame img r x f h = ap (λ (w : Work). w .steps) (frame-beside img r x f h) ∙ by (ltb (sizeTwo img) (r .rest .end + frameLen f))
   where
     z : Rest
-    z = rest 2 (r .rest .last) (r .rest .block) (r .rest .end)
+    z = counted (rest 2 (r .rest .last) (r .rest .block) (r .rest .end)) x f
 
-    by : (b : Bool) → cond b (movedWork (beside (r .rest .block)) (r .rest) x f) (appendWork (r .rest) f) .steps
+    by : (b : Bool) → cond b (movedWork (beside (r .rest .block)) (counted (r .rest) x f) x f) (appendWork (counted (r .rest) x f) f) .steps
         ≡ cond b (movedWork (beside (r .rest .block)) z x f) (appendWork z f) .steps
     by true = refl
     by false = refl
@@ -112,7 +112,7 @@ pub two-framed : (img : List ℕ) (r : Record) (x : Journal) (f : Frame) → r .
     → frameWork 2 img r x f .last ≡ frameTwo img r x f .last
 two-framed img r x f e h =
     ap (λ (w : Work). w .last) (frame-beside img r x f h)
-    ∙ ap (λ (n : ℕ). frameIn (sizeTwo img) (beside (r .rest .block)) (rest n (r .rest .last) (r .rest .block) (r .rest .end)) x f .last) e
+    ∙ ap (λ (n : ℕ). frameIn (sizeTwo img) (beside (r .rest .block)) (counted (rest n (r .rest .last) (r .rest .block) (r .rest .end)) x f) x f .last) e
 
 -- ---- a step
 

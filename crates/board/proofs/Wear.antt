@@ -27,6 +27,7 @@ use Rattle.board.specs.Exec.{Call, request, step, mount, format}
 use Rattle.board.specs.Plan.{onBlock, transferPlan, Work, upkeepWork, frameIn}
 use Rattle.board.specs.Promise.{Job, frame-job, mount-job, format-job}
 use Rattle.board.specs.Wear.{erasesOf, ErasesExact}
+use Rattle.board.specs.Queue.{counted}
 use Rattle.board.proofs.Lengths.{frame-cases}
 use Rattle.board.proofs.Numbers.{next-up, next-round}
 use Rattle.board.proofs.Images.{Sized, size-of, sized-block}
@@ -206,7 +207,7 @@ module _ {N s : ℕ} {img : List ℕ} {xs : List Step} (z : Sized N s img) (by :
 
   pub job-leads : {r : Record} {c : Call} {w : Work} → Begin c → Job N img r c w → WorkLeads N xs w
   job-leads {r} n (frame-job h msg reply x q f v k g) =
-      leads-frame (sizeOf N img) (r .rest) x f (subst (Level N xs) (same-block (r .rest .block) (v .there) (v .is-valid)) (y .2))
+      leads-frame (sizeOf N img) (counted (r .rest) x f) x f (subst (Level N xs) (same-block (r .rest .block) (v .there) (v .is-valid)) (y .2))
   job-leads n (mount-job x v) =
       let e : y .0 .rest .block ≡ x .number = same-block (x .number) (v .is-valid .0) (v .is-valid .1) in
       rw (wipes-none (x .number) e)

@@ -5,8 +5,8 @@ use mathlib.Core.List.{List, [], _∷_, _++_}
 use mathlib.Core.Option.{Option, none, some}
 use mathlib.Core.Bool.{Bool, true, false}
 use mathlib.Core.Path.{_≡_}
-use Prim.Native.Nat.{ℕ, zero, suc, _+_, _≤_, _<_}
-use lib.ListN.{length, take, drop}
+use Prim.Native.Nat.{ℕ, zero, suc, _+_, _≤_, _<_, _/_}
+use lib.ListN.{length, take, drop, getD}
 use Rattle.flash.specs.Bytes.{Bytes, u16le}
 use Rattle.flash.specs.Flash.{block, sizeOf, withBlock, eraseBlock}
 use Rattle.flash.specs.Raised.{Raised}
@@ -16,6 +16,7 @@ use Rattle.frame.specs.Reader.{clean}
 use Rattle.journal.specs.Replay.{Object, lookup, listOf}
 use Rattle.journal.specs.Block.{Journal, valid, blockState, lastTime}
 use Rattle.journal.specs.Room.{usedBy}
+use Rattle.journal.specs.Laws.{changesBytes}
 use Rattle.wire.specs.declared.Answer.{Answer}
 use Rattle.wire.specs.declared.Answer.the-variants.{Done, More, Refused}
 use Rattle.frame.specs.declared.Fault.{Fault}
@@ -45,6 +46,9 @@ pub record IdleAgrees (N : ℕ) (img : List ℕ) (r : Record) (b : Book) : Type 
   pub is-clean : journal .tail ≡ clean
   pub objects : replayOf journal .objects ≡ b .objects
   pub lists : (h : Host) → h .0 ≤ hostMax → listOf h (replayOf journal .pending) ≡ b .lists h
+  -- K7: each host's pending bytes are at most S/2, and the record's
+  pub shares : (h : Host) → h .0 ≤ hostMax → changesBytes (b .lists h) ≤ sizeOf N img / 2
+  pub counts : (h : Host) → h .0 ≤ hostMax → getD (r .rest .pending) (h .0) 0 ≡ changesBytes (b .lists h)
   -- when nothing is pending there is room for a delete and its commit
   pub room : replayOf journal .pending ≡ [] → usedOf journal + (deleteLen + endLen) ≤ sizeOf N img
 

@@ -5,7 +5,7 @@ use mathlib.Core.Logic.{_⊎_, _↔_}
 use mathlib.Core.Option.{some}
 use mathlib.Core.Bool.{true}
 use mathlib.Core.Path.{_≡_}
-use Prim.Native.Nat.{ℕ, _+_, _*_, _≤_, _<_}
+use Prim.Native.Nat.{ℕ, _+_, _*_, _≤_, _<_, _/_}
 use lib.ListN.{length, getD}
 use Rattle.flash.specs.Bytes.{Bytes}
 use Rattle.flash.specs.Flash.{Step, program, erase, apply, applyAll, block, sizeOf, withBlock}
@@ -26,7 +26,7 @@ use Rattle.board.specs.Mount.{Store, replayOf, timeOf}
 use Rattle.board.specs.Queue.{Asking, asking}
 use Rattle.board.specs.Exec.{request, mount, format, Machine}
 use Rattle.board.specs.Plan.{Performs, programs, mountWork}
-use Rattle.board.specs.Table.{frameFor, Allowed, Fresh, FreshFor, putNeeds, deleteNeeds}
+use Rattle.board.specs.Table.{frameFor, Allowed, Fresh, FreshFor, putNeeds, deleteNeeds, putShare, deleteShare}
 use Rattle.wire.specs.Sentences.{Means}
 use Rattle.board.specs.Book.{Book}
 use Rattle.board.specs.Claim.{Event, call, cutErase, Happens}
@@ -103,13 +103,27 @@ pub record Asks (a : Asking) (x : Journal) (q : Request) : Type 0 where
   pub is-held : FreshFor a x
   pub is-asked : Means (a .message) q
 
--- "a put is refused exactly if C + n + 6·open + 14 > S, a delete exactly if C + 8 + 6·open > S. Commit and abort are never refused for room."
+-- K7: 12 "exactly if that host's pending frames would come to more than S/2 bytes"; of a put or delete alone
+pub record ShareExact (N : ℕ) (m : Machine) : Type 0 where
+  pub of-put : (img : List ℕ) (r : Record) (h : Host) (msg reply : List ℕ) (x : Journal) (i : ObjectId) → Asks (asking N img r h msg reply) x (Put i)
+      → (numberOf (m img r (request h msg reply) .answer) ≡ some 12)
+      ↔ (sizeOf N img / 2 < putShare (replayOf x) h (valueIn msg))
+  pub of-delete : (img : List ℕ) (r : Record) (h : Host) (msg reply : List ℕ) (x : Journal) (i : ObjectId)
+      → Asks (asking N img r h msg reply) x (Delete i) → (numberOf (m img r (request h msg reply) .answer) ≡ some 12)
+      ↔ (sizeOf N img / 2 < deleteShare (replayOf x) h)
+  pub of-commit : (img : List ℕ) (r : Record) (h : Host) (msg reply : List ℕ) (x : Journal) → Asks (asking N img r h msg reply) x Commit
+      → numberOf (m img r (request h msg reply) .answer) ≡ some 12 → ⊥
+  pub of-abort : (img : List ℕ) (r : Record) (h : Host) (msg reply : List ℕ) (x : Journal) → Asks (asking N img r h msg reply) x Abort
+      → numberOf (m img r (request h msg reply) .answer) ≡ some 12 → ⊥
+
+-- past 12: "a put is refused exactly if C + n + 6·open + 14 > S, a delete exactly if C + 8 + 6·open > S. Commit and abort are never refused for room."
 pub record RoomExact (N : ℕ) (m : Machine) : Type 0 where
   pub of-put : (img : List ℕ) (r : Record) (h : Host) (msg reply : List ℕ) (x : Journal) (i : ObjectId) → Asks (asking N img r h msg reply) x (Put i)
-      → (numberOf (m img r (request h msg reply) .answer) ≡ some 7)
+      → (numberOf (m img r (request h msg reply) .answer) ≡ some 12 → ⊥) → (numberOf (m img r (request h msg reply) .answer) ≡ some 7)
       ↔ (sizeOf N img < putNeeds (replayOf x) h i (valueIn msg))
   pub of-delete : (img : List ℕ) (r : Record) (h : Host) (msg reply : List ℕ) (x : Journal) (i : ObjectId)
-      → Asks (asking N img r h msg reply) x (Delete i) → (numberOf (m img r (request h msg reply) .answer) ≡ some 7)
+      → Asks (asking N img r h msg reply) x (Delete i) → (numberOf (m img r (request h msg reply) .answer) ≡ some 12 → ⊥)
+      → (numberOf (m img r (request h msg reply) .answer) ≡ some 7)
       ↔ (sizeOf N img < deleteNeeds (replayOf x) h i)
   pub of-commit : (img : List ℕ) (r : Record) (h : Host) (msg reply : List ℕ) (x : Journal) → Asks (asking N img r h msg reply) x Commit
       → numberOf (m img r (request h msg reply) .answer) ≡ some 7 → ⊥
@@ -120,5 +134,6 @@ pub record RoomExact (N : ℕ) (m : Machine) : Type 0 where
 unfoldable pub WearExact : ℕ → Machine → Type 0
 WearExact N m =
     (img : List ℕ) (r : Record) (h : Host) (msg reply : List ℕ) (x : Journal) (q : Request) (f : Frame) → Asks (asking N img r h msg reply) x q
-    → frameFor h msg x q ≡ some f → (numberOf (m img r (request h msg reply) .answer) ≡ some 7 → ⊥)
+    → frameFor h msg x q ≡ some f → (numberOf (m img r (request h msg reply) .answer) ≡ some 12 → ⊥)
+    → (numberOf (m img r (request h msg reply) .answer) ≡ some 7 → ⊥)
     → (numberOf (m img r (request h msg reply) .answer) ≡ some 6) ↔ ((sizeOf N img < r .rest .end + frameLen f) × (x .time ≡ 4294967295))

@@ -10,7 +10,7 @@ use Rattle.frame.specs.Reader.{fault, Tail, clean, cut, bad}
 use Rattle.frame.specs.declared.Field.the-variants as field
 use Rattle.journal.specs.Replay.{Entry, State, replay}
 use Rattle.journal.specs.Block.{Journal, BlockState, blank, inProgress, valid, foreign, blockState, headerLen, timeAt, lastTime}
-use Rattle.journal.specs.Room.{used, claimed}
+use Rattle.journal.specs.Room.{used, claimed, countsIn}
 use Rattle.journal.specs.Index.{placesOf}
 use Rattle.wire.specs.declared.Refusal.{Refusal}
 use Rattle.wire.specs.declared.Refusal.the-variants as refusal
@@ -40,6 +40,10 @@ replayOf x = replay (x .frames)
 -- U and C of what it replays to
 abbrev pub usedOf : Journal → ℕ
 usedOf x = used (replayOf x)
+
+-- K7: "each host's pending bytes as replay gives them"
+abbrev pub countsOf : Journal → List ℕ
+countsOf x = countsIn (replayOf x)
 
 abbrev pub claimedOf : Journal → ℕ
 claimedOf x = claimed (replayOf x)

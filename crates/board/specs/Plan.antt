@@ -14,6 +14,7 @@ use Rattle.board.specs.declared.Rest.{Rest}
 use Rattle.board.specs.declared.Record.{Record}
 use Rattle.board.specs.Record.{answerOf, out, rest, landing, ending, idle}
 use Rattle.board.specs.Mount.{nextBlock, formatOrder, allFound, Store, storeAt, wipeList, Upkeep, rests, moves, upkeep, replayOf, usedOf, claimedOf}
+use Rattle.board.specs.Queue.{counted}
 use Rattle.board.specs.Exec.{Machine, step}
 
 -- writes to block k, a step each
@@ -102,4 +103,4 @@ abbrev pub frameIn : ℕ → ℕ → Rest → Journal → Frame → Work
 frameIn s j z x f = cond (ltb s (z .end + frameLen f)) (movedWork j z x f) (appendWork z f)
 
 abbrev pub frameWork : ℕ → List ℕ → Record → Journal → Frame → Work
-frameWork N img r x f = frameIn (sizeOf N img) (nextBlock N (r .rest .block)) (r .rest) x f
+frameWork N img r x f = frameIn (sizeOf N img) (nextBlock N (r .rest .block)) (counted (r .rest) x f) x f

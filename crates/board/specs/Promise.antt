@@ -33,7 +33,7 @@ use Rattle.board.specs.Exec.{Call, request, step, mount, format}
 use Rattle.board.specs.Plan.{Work, Performs, formatWork, mountWork, frameWork}
 use Rattle.board.specs.Table.{frameFor, Exactly, InJob, Fresh, ValidAt, Names, linesOf}
 use Rattle.board.specs.Demand1.{Unchanged, ImageAfter, Short, Declared, Rests, EndsWithin}
-use Rattle.board.specs.Demand2.{Accepted, OneStore, UsableFrom, LandsFrom, RoomExact, WearExact}
+use Rattle.board.specs.Demand2.{Accepted, OneStore, UsableFrom, LandsFrom, RoomExact, WearExact, ShareExact}
 use Rattle.wire.specs.Sentences.{Means}
 use Rattle.board.specs.Claim.{stepsOn, ByteCall, Begins, Event, call, cutErase, Restarts, Claim}
 use Rattle.board.specs.CutFormat.{CutFormat}
@@ -171,6 +171,7 @@ pub record Promise (N : ℕ) (m : Machine) : Type 0 where
   -- and which can then be used: in a run from a mount or format on, of any image, no call gets 11
   pub usable : UsableFrom N m
   -- demand 2: "refusals for room and wear are exact"
+  pub share : ShareExact N m
   pub room : RoomExact N m
   pub wear : WearExact N m
   -- demand 2: in a run every programmed byte lands as given, where 0xFF was or byte 8 goes on

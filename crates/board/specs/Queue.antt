@@ -1,11 +1,11 @@
 -- Queue requests, document 01, "What hosts send" and "When the queue says no".
-use mathlib.Core.List.{List, [], _∷_}
+use mathlib.Core.List.{List, [], _∷_, _++_}
 use mathlib.Core.Option.{Option, none, some}
 use mathlib.Core.Bool.{Bool, true, false, _&&_, _||_, cond}
 use Prim.Native.Nat.{ℕ, _+_, _*_}
 use lib.Dec.{eqb, ltb, leb}
 use lib.ListN.{length, getD}
-use Rattle.flash.specs.Bytes.{allFF}
+use Rattle.flash.specs.Bytes.{allFF, sameBytes}
 use Rattle.flash.specs.Flash.{blockNumbers, block, sizeOf}
 use Rattle.frame.specs.declared.Host.{Host}
 use Rattle.frame.specs.declared.ObjectId.{ObjectId}
@@ -13,7 +13,7 @@ use Rattle.frame.specs.Frame.{hostMax, Change, put, delete, Frame, change, comm
 use Rattle.frame.specs.Reader.{Tail, clean, cut, bad}
 use Rattle.journal.specs.Replay.{lookup, isOpen}
 use Rattle.journal.specs.Block.{Journal, BlockState, blank, inProgress, valid, foreign, blockState, headerLen, lastTime}
-use Rattle.journal.specs.Room.{openHosts, noRoom}
+use Rattle.journal.specs.Room.{openHosts, noRoom, hostFull, pendingOf}
 use Rattle.journal.specs.Index.{placesOf, sinceOf, Value, valueAt, onlyIf}
 use Rattle.wire.specs.declared.Answer.the-variants.{Done}
 use Rattle.wire.specs.declared.Refusal.{Refusal}
@@ -27,16 +27,19 @@ use Rattle.wire.specs.declared.Parsed.the-variants.{Is, Malformed}
 use Rattle.wire.specs.Message.{parse, valueIn, pageLen, logPage, withPage}
 use Rattle.board.specs.declared.Phase.{Phase}
 use Rattle.board.specs.declared.Phase.the-variants.{Unmounted, Idle, Busy}
+use Rattle.board.specs.declared.Rest.{Rest}
 use Rattle.board.specs.declared.Record.{Record}
-use Rattle.board.specs.Record.{allowed, noWipes, starting, busy, Stretch, noStretch, Out, refuse}
+use Rattle.board.specs.Record.{allowed, noWipes, starting, busy, Stretch, noStretch, Out, refuse, counting}
 use Rattle.board.specs.Step.{begin, sameShape}
-use Rattle.board.specs.Mount.{nextBlock, newTime, endOf, replayOf, usedOf, claimedOf}
+use Rattle.board.specs.Mount.{nextBlock, newTime, endOf, replayOf, usedOf, countsOf, claimedOf}
 
 -- ---- 11: the image read afresh
 
--- "its last whole frame (or the header, if none) ending exactly at the recorded end with only 0xFF after it, .. C + 6·open at most S"
-abbrev pub fitsRecord : ℕ → ℕ → Journal → Bool
-fitsRecord size end x = eqb (endOf x) end && leb (claimedOf x + endLen * openHosts (replayOf x .pending)) size
+-- "its last whole frame (or the header, if none) ending exactly at the recorded end with only 0xFF after it, .. C + 6·open at most S"; K7: "The
+-- board record carries each host's pending bytes as replay gives them; refusal 11 covers any other."
+unfoldable pub fitsRecord : ℕ → Rest → Journal → Bool
+fitsRecord size z x =
+    (eqb (endOf x) (z .end) && sameBytes (countsOf x) (z .pending)) && leb (claimedOf x + endLen * openHosts (replayOf x .pending)) size
 
 -- "with only 0xFF after it"
 abbrev pub heldIf : Bool → Tail → Journal → Option Journal
@@ -45,11 +48,11 @@ heldIf b (cut n) x = none
 heldIf b (bad e) x = none
 
 -- "recorded half valid"
-abbrev pub heldIn : ℕ → ℕ → BlockState → Option Journal
-heldIn size end blank = none
-heldIn size end inProgress = none
-heldIn size end (valid x) = heldIf (fitsRecord size end x) (x .tail) x
-heldIn size end (foreign e) = none
+abbrev pub heldIn : ℕ → Rest → BlockState → Option Journal
+heldIn size z blank = none
+heldIn size z inProgress = none
+heldIn size z (valid x) = heldIf (fitsRecord size z x) (x .tail) x
+heldIn size z (foreign e) = none
 
 -- "other half blank"; K14: "the others stay blank"
 abbrev pub othersBlank : ℕ → ℕ → List ℕ → List ℕ → Bool
@@ -61,7 +64,7 @@ abbrev pub sameImage : ℕ → List ℕ → Record → Bool
 sameImage N img r = sameShape N (length img) r && (ltb (r .rest .block) N && othersBlank N (r .rest .block) img (blockNumbers N))
 
 abbrev pub heldBy : ℕ → Bool → List ℕ → Record → Option Journal
-heldBy N true img r = heldIn (sizeOf N img) (r .rest .end) (blockState (block (sizeOf N img) (r .rest .block) img))
+heldBy N true img r = heldIn (sizeOf N img) (r .rest) (blockState (block (sizeOf N img) (r .rest .block) img))
 heldBy N false img r = none
 
 -- what the recorded block holds; none where 11 is given
@@ -73,10 +76,14 @@ held N img r = heldBy N (sameImage N img r) img r
 abbrev pub needsRoom : ℕ → List ℕ → Record → Frame → Bool
 needsRoom N img r f = ltb (sizeOf N img) (r .rest .end + frameLen f)
 
+-- where the record stands then, but for its end: K7, "a put or delete" adds to its host's pending bytes, commit and abort clear them
+abbrev pub counted : Rest → Journal → Frame → Rest
+counted z x f = counting z (pendingOf (x .frames ++ (f ∷ [])))
+
 -- a transfer copies from the first id and from the header on
 abbrev pub appendJob : ℕ → List ℕ → Record → Journal → Frame → Record
 appendJob N img r x f =
-    busy (r .rest) (placesOf (x .frames))
+    busy (counted (r .rest) x f) (placesOf (x .frames))
     (record {
       wipe = noWipes;
       wipes = 0;
@@ -126,9 +133,11 @@ append a x f =
     cond (movesFor a f && eqb (x .time) lastTime) (refuseTo a refusal.Worn)
     (begin (a .image) (a .reply) (appendJob (a .blocks) (a .image) (a .board) x f))
 
--- a put or delete; 7: the room rule
+-- a put or delete; 12, "before 7": K7; 7: the room rule
 unfoldable pub serveChange : Asking → Journal → Change → Out
-serveChange a x c = cond (noRoom (sizeFor a) (replayOf x) (a .host) c) (refuseTo a refusal.NoRoom) (append a x (change (a .host) c))
+serveChange a x c =
+    cond (hostFull (sizeFor a) (replayOf x) (a .host) c) (refuseTo a refusal.HostFull)
+    (cond (noRoom (sizeFor a) (replayOf x) (a .host) c) (refuseTo a refusal.NoRoom) (append a x (change (a .host) c)))
 
 -- "Commit or abort with nothing pending is done in 0 steps."
 unfoldable pub serveEnd : Asking → Journal → Frame → Out

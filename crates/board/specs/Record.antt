@@ -34,6 +34,7 @@ noPlaces = replicate 256 0
 unfoldable pub noFrame : List ℕ
 noFrame = replicate maxFrame 0
 
+-- of each host
 abbrev pub noMarks : List ℕ
 noMarks = 0 ∷ 0 ∷ 0 ∷ 0 ∷ []
 
@@ -51,16 +52,20 @@ cursor i a d s z o = record { index = i; at = a; id = d; source = s; size = z; o
 abbrev pub starting : ℕ → ℕ → Cursor
 starting id source = cursor 0 headerLen id source 0 0
 
--- number of blocks, image length less one, current block, end of its whole frames
+-- number of blocks, image length less one, current block, end of its whole frames; nothing pending
 abbrev pub rest : ℕ → ℕ → ℕ → ℕ → Rest
-rest N l k e = record { blocks = N; last = l; block = k; end = e }
+rest N l k e = record { blocks = N; last = l; block = k; end = e; pending = noMarks }
 
 -- the same image with another current block, or the same block with another end
 abbrev pub landing : Rest → ℕ → ℕ → Rest
-landing z k e = record { blocks = z .blocks; last = z .last; block = k; end = e }
+landing z k e = record { blocks = z .blocks; last = z .last; block = k; end = e; pending = z .pending }
 
 abbrev pub ending : Rest → ℕ → Rest
 ending z e = landing z (z .block) e
+
+-- the same place with these bytes pending, a number for each host
+abbrev pub counting : Rest → List ℕ → Rest
+counting z ps = record { blocks = z .blocks; last = z .last; block = z .block; end = z .end; pending = ps }
 
 -- a record in no job
 abbrev pub resting : Phase → Rest → Record

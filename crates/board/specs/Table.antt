@@ -4,7 +4,7 @@ use mathlib.Core.Logic.{_⊎_, _↔_}
 use mathlib.Core.Option.{none, some, Option}
 use mathlib.Core.Bool.{true, Bool, false}
 use mathlib.Core.Path.{_≡_}
-use Prim.Native.Nat.{ℕ, suc, _+_, _*_, _%_, _≤_, _<_}
+use Prim.Native.Nat.{ℕ, suc, _+_, _*_, _%_, _≤_, _<_, _/_}
 use lib.ListN.{length}
 use Rattle.flash.specs.Bytes.{Bytes}
 use Rattle.flash.specs.Flash.{Step, block, sizeOf, blockOf, offsetOf}
@@ -14,11 +14,12 @@ use Rattle.frame.specs.Frame.{Frame, put, delete, frameLen, total, change, comm
 use Rattle.frame.specs.Reader.{fault, clean}
 use Rattle.frame.specs.declared.Fault.{Fault}
 use Rattle.frame.specs.declared.Field.the-variants as field
-use Rattle.journal.specs.Replay.{entry, lookup, isOpen, State}
+use Rattle.journal.specs.Replay.{entry, lookup, isOpen, State, listOf}
 use Rattle.journal.specs.Block.{Journal, headerLen}
 use Rattle.journal.specs.Faults.{FaultIn}
 use Rattle.journal.specs.Sentences.{BlankBlock, ValidBlock, ForeignBlock}
 use Rattle.journal.specs.Room.{openHosts, claimed}
+use Rattle.journal.specs.Laws.{CountsAre, changesBytes}
 use Rattle.wire.specs.declared.Answer.{Answer}
 use Rattle.wire.specs.declared.Page.{Page}
 use Rattle.wire.specs.declared.Request.{Request}
@@ -84,7 +85,8 @@ InJob (Busy s) = Unit {0}
 -- ---- requests
 
 -- 11: "idle record: its length differs, or the image read afresh isn't: recorded half valid, its last whole frame (or the header, if
--- none) ending exactly at the recorded end with only 0xFF after it, other half blank, C + 6·open at most S"; K14: "A record of another N gets 11"
+-- none) ending exactly at the recorded end with only 0xFF after it, other half blank, C + 6·open at most S"; K14: "A record of another N gets 11";
+-- K7: "each host's pending bytes as replay gives them; refusal 11 covers any other"
 pub record Fresh (N : ℕ) (img : List ℕ) (r : Record) (x : Journal) : Type 0 where
   pub length-is : length img ≡ suc (r .rest .last)
   pub blocks-are : N ≡ r .rest .blocks
@@ -92,6 +94,7 @@ pub record Fresh (N : ℕ) (img : List ℕ) (r : Record) (x : Journal) : Type 0 
   pub is-valid : ValidBlock (block (sizeOf N img) (r .rest .block) img) x
   pub is-clean : x .tail ≡ clean
   pub ends : headerLen + total (x .frames) ≡ r .rest .end
+  pub pending : CountsAre (r .rest .pending) (x .frames)
   pub others-blank : (j : ℕ) → j < N → (j ≡ r .rest .block → ⊥) → BlankBlock (block (sizeOf N img) j img)
   pub room : claimedOf x + 6 * openHosts (replayOf x .pending) ≤ sizeOf N img
 
@@ -124,6 +127,20 @@ putNeeds s h i v = claimed s + (8 + length v) + 6 * openHosts (s .pending ++ (en
 abbrev pub deleteNeeds : State → Host → ObjectId → ℕ
 deleteNeeds s h i = claimed s + 8 + 6 * openHosts (s .pending ++ (entry h (delete i) ∷ []))
 
+-- what a host's pending frames would come to with a put of a value, "8+v" bytes, and with a delete, "8". They judge `journal/Room: hostFull`
+abbrev pub putShare : State → Host → List ℕ → ℕ
+putShare s h v = changesBytes (listOf h (s .pending)) + (8 + length v)
+
+abbrev pub deleteShare : State → Host → ℕ
+deleteShare s h = changesBytes (listOf h (s .pending)) + 8
+
+-- 12, K7: "Refuse a put or delete with a new 12, before 7, exactly if that host's pending frames would come to more than S/2 bytes."
+pub data HostFull (a : Asking) : Type 0 where
+  put-over : (x : Journal) (i : ObjectId) → FreshFor a x → Means (a .message) (Put i)
+      → sizeFor a / 2 < putShare (replayOf x) (a .host) (valueIn (a .message)) → HostFull a
+  delete-over : (x : Journal) (i : ObjectId) → FreshFor a x → Means (a .message) (Delete i)
+      → sizeFor a / 2 < deleteShare (replayOf x) (a .host) → HostFull a
+
 -- 7: "a put is refused exactly if C + n + 6·open + 14 > S, a delete exactly if C + 8 + 6·open > S"
 pub data NoRoom (a : Asking) : Type 0 where
   for-put : (x : Journal) (i : ObjectId) → FreshFor a x → Means (a .message) (Put i)
@@ -152,6 +169,7 @@ requestLines a =
     ∷ line 1 ((q : Request) → Means (a .message) q → ⊥)
     ∷ line 8 (NoObject a)
     ∷ line 9 (ShortReply a)
+    ∷ line 12 (HostFull a)
     ∷ line 7 (NoRoom a)
     ∷ line 6 (Worn a)
     ∷ []

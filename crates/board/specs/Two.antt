@@ -23,7 +23,7 @@ use Rattle.board.specs.declared.Record.{Record}
 use Rattle.board.specs.Record.{allowed, unmounted, rest, Out, out, refuse}
 use Rattle.board.specs.Step.{action, advance, stepped, stepOn}
 use Rattle.board.specs.Mount.{isBlank, moves, upkeepOf, transfers, tiedTimes, mountOn, formatOn}
-use Rattle.board.specs.Queue.{held, heldIn}
+use Rattle.board.specs.Queue.{held, heldIn, counted}
 use Rattle.board.specs.Exec.{exec}
 use Rattle.board.specs.Plan.{Work, Performs, formatIn, mountIn, frameIn, frameWork}
 
@@ -96,12 +96,12 @@ formatTwo img = let k : ℕ = lastTwo (stateTwo img 0) (stateTwo img 1) in forma
 abbrev pub heldTwo : List ℕ → Record → Option Journal
 heldTwo img r =
     cond (eqb (length img) (suc (r .rest .last)) && (ltb (r .rest .block) 2 && allFF (block (sizeTwo img) (beside (r .rest .block)) img)))
-    (heldIn (sizeTwo img) (r .rest .end) (stateTwo img (r .rest .block))) none
+    (heldIn (sizeTwo img) (r .rest) (stateTwo img (r .rest .block))) none
 
 -- "after a transfer if end + n exceeds S", "into the blank half"
 abbrev pub frameTwo : List ℕ → Record → Journal → Frame → Work
 frameTwo img r x f =
-    let z : Rest = r .rest in frameIn (sizeTwo img) (beside (z .block)) (rest 2 (z .last) (z .block) (z .end)) x f
+    let z : Rest = r .rest in frameIn (sizeTwo img) (beside (z .block)) (counted (rest 2 (z .last) (z .block) (z .end)) x f) x f
 
 -- "in a job, 11 is given exactly if the image length isn't the record's or the job's next place lies outside it"
 abbrev pub stepTwo : Phase → List ℕ → Record → Out

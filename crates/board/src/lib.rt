@@ -57,6 +57,8 @@ pub struct Rest {
     // the current block, and where its whole frames end
     pub block: u8,
     pub end: u16,
+    // each host's pending bytes; in a job, what they will be at its end
+    pub pending: [u16; 4],
 }
 
 // The board record.

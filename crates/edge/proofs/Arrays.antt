@@ -31,7 +31,8 @@ use Rattle.board.specs.declared.Record.{Record}
 use Rattle.board.specs.Record.{allowed, noPlaces, noFrame, resting, inStage, Out, answerIn}
 use Rattle.board.specs.Step.{enterAppend, landed, enterDrop, loaded, enterCopy, enterOpen, enterWipe, begin, action}
 use Rattle.board.specs.Step.{advance, sameShape, stepOn}
-use Rattle.board.specs.Mount.{Found, Store, allFound, found, stores, equalTimes, newest, isBlank, wipeList, wipeArray, upkeep, transfers, mountJob, mountOn, timeOf}
+use Rattle.board.specs.Mount.{Found, Store, allFound, found, stores, equalTimes, newest, isBlank, wipeList, wipeArray, upkeep, transfers, mountJob}
+use Rattle.board.specs.Mount.{mountOn, timeOf}
 use Rattle.board.specs.Mount.{formatOrder, formatJob, formatOn}
 use Rattle.board.specs.Demand1.{Rests}
 use Rattle.board.proofs.Images.{allowed-tests}
@@ -42,15 +43,15 @@ use Rattle.lent.proofs.Inverse.{Sized}
 
 -- ---- a record in no job, in a stage, with the block that was made
 
-pub rests-sized : (p : Phase) (z : Rest) → Sized (resting p z)
+pub rests-sized : (p : Phase) (z : Rest) → length (z .pending) ≡ 4 → Sized (resting p z)
 unfolding noPlaces noFrame
-rests-sized p z = record { places = refl; wipe = refl; since = refl; unit = refl; frame = refl }
+rests-sized p z h = record { pending = h; places = refl; wipe = refl; since = refl; unit = refl; frame = refl }
 
 stage-sized : (s : Stage) (c : Cursor) (r : Record) → Sized r → Sized (inStage s c r)
-stage-sized s c r h = record { places = h .places; wipe = h .wipe; since = h .since; unit = h .unit; frame = h .frame }
+stage-sized s c r h = record { pending = h .pending; places = h .places; wipe = h .wipe; since = h .since; unit = h .unit; frame = h .frame }
 
 landed-sized : (r : Record) → Sized r → Sized (landed r)
-landed-sized r h = record { places = h .places; wipe = h .wipe; since = h .since; unit = h .unit; frame = h .frame }
+landed-sized r h = record { pending = h .pending; places = h .places; wipe = h .wipe; since = h .since; unit = h .unit; frame = h .frame }
 
 -- ---- a frame to copy fits its buffer
 
@@ -112,7 +113,7 @@ append-sized : (r : Record) → Sized r → Sized (enterAppend r)
 append-sized r h =
     on-test (ltb 0 (r .job .size))
     (λ t. subst Sized (sym (outcome.append-enters r t)) (stage-sized Append _ r h))
-    (λ t. subst Sized (sym (outcome.append-skips r t)) (rests-sized Idle _))
+    (λ t. subst Sized (sym (outcome.append-skips r t)) (rests-sized Idle _ (h .pending)))
 
 drop-sized : (r : Record) → Sized r → Sized (enterDrop r)
 drop-sized r h =
@@ -122,7 +123,7 @@ drop-sized r h =
 
 loaded-sized : (r : Record) (u : Load) → Short (u .frame) → Sized r → Sized (loaded r u)
 loaded-sized r u s h =
-    record { places = h .places; wipe = h .wipe; since = h .since; unit = buffer-sized (u .frame) s; frame = h .frame }
+    record { pending = h .pending; places = h .places; wipe = h .wipe; since = h .since; unit = buffer-sized (u .frame) s; frame = h .frame }
 
 copy-sized : (N : ℕ) (img : List ℕ) (r : Record) → Sized r → Sized (enterCopy N img r)
 copy-sized N img r h = go (outcome.nextFor N img r) refl
@@ -166,7 +167,7 @@ advance-sized N Drop img r h = subst Sized (sym (outcome.drop-last N img r)) (ap
 advance-sized N Append img r h =
     on-test (ltb (suc (r .cursor .index)) (r .job .size))
     (λ t. subst Sized (sym (outcome.append-next N img r t)) (stage-sized Append _ r h))
-    (λ t. subst Sized (sym (outcome.append-last N img r t)) (rests-sized Idle _))
+    (λ t. subst Sized (sym (outcome.append-last N img r t)) (rests-sized Idle _ (h .pending)))
 
 -- ---- and no refusal but a mount's names a block
 
@@ -184,6 +185,7 @@ Plain (Refused refusal.NoObject) = Unit {0}
 Plain (Refused refusal.ShortReply) = Unit {0}
 Plain (Refused refusal.HostRange) = Unit {0}
 Plain (Refused refusal.Stale) = Unit {0}
+Plain (Refused refusal.HostFull) = Unit {0}
 
 plain-in : (p : Phase) → Plain (answerIn p)
 plain-in Unmounted = tt
@@ -223,13 +225,13 @@ array-sized ks h =
 mount-job-sized : (N : ℕ) (img : List ℕ) (x : Store) (ks : List ℕ) → length ks ≤ maxBlocks → Sized (mountJob N img x ks)
 unfolding noFrame
 mount-job-sized N img x ks h =
-    record { places = length-places (x .journal .frames); wipe = array-sized ks h; since = refl; unit = refl; frame = refl }
+    record { pending = refl; places = length-places (x .journal .frames); wipe = array-sized ks h; since = refl; unit = refl; frame = refl }
 
 abbrev pub Left : Out → Type 0
 Left o = Sized (o .board)
 
 pub mount-sized : (N : ℕ) (img : List ℕ) → Left (mountOn N img)
-mount-sized N img = on-test (allowed N (length img)) goes (λ t. subst Left (sym (outcome.mount-length N img t)) (rests-sized Unmounted _))
+mount-sized N img = on-test (allowed N (length img)) goes (λ t. subst Left (sym (outcome.mount-length N img t)) (rests-sized Unmounted _ refl))
   where
     few : allowed N (length img) ≡ true → (k : ℕ) → length (wipeList k (allFound N img)) ≤ maxBlocks
     few t k =
@@ -239,15 +241,15 @@ mount-sized N img = on-test (allowed N (length img)) goes (λ t. subst Left (sym
     goes t = by (stores (allFound N img)) refl
       where
         by : (ys : List Store) → stores (allFound N img) ≡ ys → Left (mountOn N img)
-        by [] e = subst Left (sym (outcome.mount-none N img t e)) (rests-sized Unmounted _)
+        by [] e = subst Left (sym (outcome.mount-none N img t e)) (rests-sized Unmounted _ refl)
         by (y ∷ ys) e =
             on-test (equalTimes (y ∷ ys))
-            (λ q. subst Left (sym (outcome.mount-equal N img t y ys e q)) (rests-sized Unmounted _))
+            (λ q. subst Left (sym (outcome.mount-equal N img t y ys e q)) (rests-sized Unmounted _ refl))
             (λ q.
             let x : Store = newest y ys in
             let m = outcome.mount-at N img t y ys e q in
             on-test (transfers (upkeep x) && eqb (timeOf x) lastTime)
-            (λ w. subst Left (sym (m ∙ outcome.mount-worn N img (allFound N img) x w)) (rests-sized Unmounted _))
+            (λ w. subst Left (sym (m ∙ outcome.mount-worn N img (allFound N img) x w)) (rests-sized Unmounted _ refl))
             (λ w. subst Left (sym (m ∙ outcome.mount-begins N img (allFound N img) x w))
             (wipe-sized _ (mount-job-sized N img x (wipeList (x .number) (allFound N img)) (few t (x .number))))))
 
@@ -257,6 +259,13 @@ format-sized N img =
     on-test (allowed N (length img))
     (λ t.
     let h : length (formatOrder N img) ≤ maxBlocks = omega (arith, length-order N img, allowed-tests N (length img) t .most) in
-    let s : Sized (formatJob N img) = record { places = refl; wipe = array-sized (formatOrder N img) h; since = refl; unit = refl; frame = refl } in
+    let s : Sized (formatJob N img) = record {
+      pending = refl;
+      places = refl;
+      wipe = array-sized (formatOrder N img) h;
+      since = refl;
+      unit = refl;
+      frame = refl;
+    } in
     subst Leaves (sym (outcome.format-begins N img t)) (begun img [] (formatJob N img) s))
-    (λ t. subst Leaves (sym (outcome.format-length N img t)) (rests-sized Unmounted _, tt))
+    (λ t. subst Leaves (sym (outcome.format-length N img t)) (rests-sized Unmounted _ refl, tt))

@@ -12,7 +12,7 @@ use Rattle.flash.proofs.Cases.{on-test}
 use Rattle.frame.specs.Frame.{hostMax, Change, put, delete, Frame, change, commit, abort, frameLen}
 use Rattle.journal.specs.Replay.{lookup, isOpen}
 use Rattle.journal.specs.Block.{Journal, lastTime}
-use Rattle.journal.specs.Room.{noRoom}
+use Rattle.journal.specs.Room.{noRoom, hostFull}
 use Rattle.journal.proofs.Places.{length-places}
 use Rattle.wire.specs.declared.Answer.{Answer}
 use Rattle.wire.specs.declared.Answer.the-variants.{Done, More}
@@ -85,7 +85,8 @@ module _ (a : Asking) (s : Sized (a .board)) where
 
   job-sized : (x : Journal) (f : Frame) → Short f → Sized (job x f)
   unfolding noFrame
-  job-sized x f k = record { places = length-places (x .frames); wipe = refl; since = refl; unit = refl; frame = buffer-sized f k }
+  job-sized x f k =
+      record { pending = refl; places = length-places (x .frames); wipe = refl; since = refl; unit = refl; frame = buffer-sized f k }
 
   -- a frame to append is a job
   job-more : (x : Journal) (f : Frame) → answerOf (enterWipe (job x f)) ≡ More
@@ -108,9 +109,11 @@ module _ (a : Asking) (s : Sized (a .board)) where
 
   changed : (AsksRead (parse (a .message)) → ⊥) → (x : Journal) (c : Change) → Short (change (a .host) c) → Serves (serveChange a x c)
   changed not x c k =
-      on-test (noRoom (sizeFor a) (replayOf x) (a .host) c)
-      (λ t. subst Serves (sym (outcome.change-refused a x c t)) (kept _ tt))
-      (λ t. subst Serves (sym (outcome.change-goes a x c t)) (appended not x (change (a .host) c) k))
+      on-test (hostFull (sizeFor a) (replayOf x) (a .host) c)
+      (λ u. subst Serves (sym (outcome.change-over a x c u)) (kept _ tt))
+      (λ u. on-test (noRoom (sizeFor a) (replayOf x) (a .host) c)
+      (λ t. subst Serves (sym (outcome.change-refused a x c u t)) (kept _ tt))
+      (λ t. subst Serves (sym (outcome.change-goes a x c u t)) (appended not x (change (a .host) c) k)))
 
   ended : (AsksRead (parse (a .message)) → ⊥) → (x : Journal) (f : Frame) → Short f → Serves (serveEnd a x f)
   ended not x f k =

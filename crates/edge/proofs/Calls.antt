@@ -81,6 +81,7 @@ plain-back (Refused refusal.NoObject) f h = refl
 plain-back (Refused refusal.ShortReply) f h = refl
 plain-back (Refused refusal.HostRange) f h = refl
 plain-back (Refused refusal.Stale) f h = refl
+plain-back (Refused refusal.HostFull) f h = refl
 
 -- what a mount's 3 names, told by its own numbers
 abbrev named : Answer → Broken
@@ -100,6 +101,7 @@ mount-back (Refused refusal.NoObject) = refl
 mount-back (Refused refusal.ShortReply) = refl
 mount-back (Refused refusal.HostRange) = refl
 mount-back (Refused refusal.Stale) = refl
+mount-back (Refused refusal.HostFull) = refl
 
 fault-is : (N : ℕ) (img : List ℕ) → edgeFault N img ≡ named (mountOn N img .answer)
 unfolding edgeFault

@@ -46,6 +46,7 @@ told-nothing refusal.NoObject img = refl
 told-nothing refusal.ShortReply img = refl
 told-nothing refusal.HostRange img = refl
 told-nothing refusal.Stale img = refl
+told-nothing refusal.HostFull img = refl
 
 told-flashes : (x : Next) (img : List ℕ) → flashedBy (tells x) img ≡ flashed x img
 told-flashes (next.Program at v) img = refl

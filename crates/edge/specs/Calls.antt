@@ -51,6 +51,7 @@ answerAt n f =
     ∷ Refused refusal.ShortReply
     ∷ Refused refusal.HostRange
     ∷ Refused refusal.Stale
+    ∷ Refused refusal.HostFull
     ∷ []) n More
 
 -- what a caller in C asks for, image and record aside: one of the machine's calls; grommetide_read with a host, a message and what stood in the

@@ -78,7 +78,7 @@ fn no_cursor() -> Cursor
     }
 }
 
-// Where a record stands.
+// Where a record stands, with nothing pending.
 pub fn standing(blocks: u8, last: u16, block: u8, end: u16) -> Rest
     ensures { λ r. ⌜ r ≡ boards.rest blocks last block end ⌝ }
 {
@@ -87,6 +87,7 @@ pub fn standing(blocks: u8, last: u16, block: u8, end: u16) -> Rest
         last: last,
         block: block,
         end: end,
+        pending: [0; 4],
     }
 }
 

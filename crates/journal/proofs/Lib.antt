@@ -6,6 +6,7 @@ pub mod Lists  -- pending lists after a frame: for Room, PerHost, board, store
 pub mod Replaying  -- one frame more, and the frames of a state: for all below, board, store
 pub mod Mapping  -- replay of frames with something else for the values: for Places, Pending, Indexing
 pub mod Room  -- what a state takes of a block: for board
+pub mod PerHost  -- each host's pending bytes: for board, survey, serving
 -- ---- blocks: header, state, making
 pub mod Blocks  -- what shapes of a block read as: for States, Building, board
 pub mod Faults  -- where a foreign block is wrong: for Sentences

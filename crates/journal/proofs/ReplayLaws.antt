@@ -1,25 +1,27 @@
 -- Replay, U, C and a state's frames are as document 01 words them.
-use mathlib.Core.Path.{_≡_, refl, sym, ap, subst, _∙_}
+use mathlib.Core.Path.{_≡_, refl, sym, ap, ap₂, subst, _∙_}
 use mathlib.Core.List.{List, [], _∷_, _++_, map}
 use mathlib.Core.Option.{none, some}
 use mathlib.Core.Bool.{true, false}
-use Prim.Native.Nat.{ℕ, zero, suc, _+_, _≤_}
+use Prim.Native.Nat.{ℕ, zero, suc, _+_, _*_, _≤_}
 use native.Mathlib.Omega.{arith}
 use lib.Dec.{eqb}
 use lib.ListN.{length, getD, length-append, length-map}
 use lib.Seq.{getD-append-add}
-use borrow.Author.Tests.{eq-eqb, ne-eqb, eqb-true, eqb-false}
+use borrow.Author.Tests.{eq-eqb, ne-eqb, eqb-true, eqb-false, ltb-true, lt-ltb}
 use Rattle.flash.proofs.Cases.{on-test, clash}
 use Rattle.frame.specs.declared.Host.{Host}
 use Rattle.frame.specs.declared.ObjectId.{ObjectId}
-use Rattle.frame.specs.Frame.{hostOf, Change, put, delete, Frame, change, commit, abort, settled, MayStand, AllMayStand, nextAfter, nextOf, total}
+use Rattle.frame.specs.Frame.{hostOf, Change, put, delete, Frame, change, commit, abort, settled, MayStand, AllMayStand, nextAfter, nextOf, frameLen, total}
 use Rattle.journal.specs.Replay.{Object, object, Entry, entry, State, state, lookup, changeAll, listOf, without, isOpen, replayFrom}
 use Rattle.journal.specs.Replay.{replay, settledFrame, pendingFrame, framesOf}
-use Rattle.journal.specs.Room.{one, openHosts}
-use Rattle.journal.specs.Laws.{RisesFrom, Applied, then, ReplayLaws, OrderLaws, settledBytes, changeBytes, pendingBytes, UsedExact, FramesExact}
+use Rattle.journal.specs.Room.{one, openHosts, pendingFor, hostFull}
+use Rattle.journal.specs.Laws.{RisesFrom, Applied, then, ReplayLaws, OrderLaws, settledBytes, changeBytes, pendingBytes, changesBytes}
+use Rattle.journal.specs.Laws.{UsedExact, PendingExact, FramesExact}
 use Rattle.journal.proofs.Lookups.{lookup-yes, lookup-no}
 use Rattle.journal.proofs.Lists.{list-own, list-other, list-snoc, list-snoc-other, not-open, open-none, without-none, open-snoc, open-snoc-other}
 use Rattle.journal.proofs.Replaying.{Rising, above-none, sound-replay, replay-snoc, replay-framesOf}
+use Rattle.journal.proofs.PerHost.{per-at, per-list, bytes-own}
 use Rattle.journal.proofs.ObjectLaws.{applied}
 
 -- ---- settled frames
@@ -145,6 +147,10 @@ unfolding total
 objects-total [] = refl
 objects-total (o ∷ os) = omega (arith, objects-total os)
 
+frame-len : (h : Host) (c : Change) → frameLen (change h c) ≡ changeBytes c
+frame-len h (put i v) = omega arith
+frame-len h (delete i) = refl
+
 change-len : (h : Host) (c : Change) → total (change h c ∷ []) ≡ changeBytes c
 unfolding total
 change-len h (put i v) = omega arith
@@ -194,6 +200,31 @@ used-exact =
       open-again = λ h es c n.
           let t : isOpen h es ≡ true = on-test (isOpen h es) (λ q. q) (λ q. absurd (n (not-open h es q))) in
           omega (arith, again es c (h .0) 0 t, again es c (h .0) 1 t, again es c (h .0) 2 t, again es c (h .0) 3 t);
+    }
+
+-- ---- each host's pending bytes
+
+pub changes-total : (h : Host) (cs : List Change) → total (map (change h) cs) ≡ changesBytes cs
+unfolding total
+changes-total h [] = refl
+changes-total h (c ∷ cs) = omega (arith, change-len h c, changes-total h cs)
+
+pub pending-exact : PendingExact
+unfolding hostFull
+pending-exact =
+    record {
+      are = λ fs.
+          record {
+            four = refl;
+            each = λ h l. per-at (λ g. pendingFor g (replay fs .pending)) h l ∙ changes-total h (listOf h (replay fs .pending));
+          };
+      only = λ ps fs y.
+          per-list ps (λ g. pendingFor g (replay fs .pending)) (y .four) (λ h l. y .each h l ∙ sym (changes-total h (listOf h (replay fs .pending))));
+      full-is = λ size fs h c.
+          let e : pendingFor h (replay fs .pending ++ (entry h c ∷ [])) ≡ changesBytes (listOf h (replay fs .pending)) + changeBytes c =
+          bytes-own h (replay fs .pending) c ∙ ap₂ (λ (m n : ℕ). m + n) (changes-total h (listOf h (replay fs .pending))) (frame-len h c) in
+          let n : ℕ = 2 * pendingFor h (replay fs .pending ++ (entry h c ∷ [])) in
+          (λ t. let l = ltb-true size n t in omega (arith, l, e), λ l. lt-ltb size n (omega (arith, l, e)));
     }
 
 -- ---- a state's frames

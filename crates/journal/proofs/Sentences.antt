@@ -13,7 +13,8 @@ use Rattle.frame.specs.Frame.{total, nextOf}
 use Rattle.frame.specs.Reader.{Tail, clean, cut, bad, scan, ends}
 use Rattle.frame.specs.Sentences.{Torn}
 use Rattle.frame.proofs.First.{torn-reads, scan-read-torn, scan-blank, tail-clean, tail-cut}
-use Rattle.journal.specs.Block.{headerLen, stateAt, inTransfer, headerFault, Journal, BlockState, blank, inProgress, valid, foreign, ofHeader, blockState}
+use Rattle.journal.specs.Block.{headerLen, stateAt, inTransfer, headerFault, Journal, BlockState, blank, inProgress, valid, foreign, ofHeader}
+use Rattle.journal.specs.Block.{blockState}
 use Rattle.journal.specs.Sentences.{BlankBlock, InProgressBlock, TailIs, ValidBlock, ForeignBlock, StatesExact}
 use Rattle.journal.proofs.Blocks.{Okay, valid-block, blank-block, progress-block}
 use Rattle.journal.proofs.Faults.{fault-in, fault-state}

@@ -4,13 +4,14 @@ use mathlib.Core.Logic.{_↔_}
 use mathlib.Core.Option.{none, some}
 use mathlib.Core.Bool.{true}
 use mathlib.Core.Path.{_≡_}
-use Prim.Native.Nat.{ℕ, suc, _+_, _≤_}
+use Prim.Native.Nat.{ℕ, suc, _+_, _/_, _≤_, _<_}
 use lib.ListN.{length, getD}
 use Rattle.frame.specs.declared.Host.{Host}
 use Rattle.frame.specs.declared.ObjectId.{ObjectId}
 use Rattle.frame.specs.Frame.{Change, put, delete, Frame, change, commit, abort, settled, encodeAll, AllMayStand}
-use Rattle.journal.specs.Replay.{Object, object, Entry, entry, State, state, insert, remove, lookup, changeAll, listOf, without, isOpen, replay, framesOf}
-use Rattle.journal.specs.Room.{used, claimed, openHosts}
+use Rattle.journal.specs.Replay.{Object, object, Entry, entry, State, state, insert, remove, lookup, changeAll, listOf, without, isOpen, replay}
+use Rattle.journal.specs.Replay.{framesOf}
+use Rattle.journal.specs.Room.{used, claimed, openHosts, hostFull, pendingOf}
 use Rattle.journal.specs.Index.{placesOf, valueAt}
 use Rattle.journal.specs.Block.{Journal}
 use Rattle.journal.specs.Sentences.{ValidBlock}
@@ -129,6 +130,22 @@ pub record UsedExact : Type 0 where
   pub open-first : (h : Host) (es : List Entry) (c : Change) → h .0 ≤ 3 → listOf h es ≡ []
       → openHosts (es ++ (entry h c ∷ [])) ≡ openHosts es + 1
   pub open-again : (h : Host) (es : List Entry) (c : Change) → (listOf h es ≡ [] → ⊥) → openHosts (es ++ (entry h c ∷ [])) ≡ openHosts es
+
+-- K7, "that host's pending frames": the bytes of a list of changes
+abbrev pub changesBytes : List Change → ℕ
+changesBytes [] = 0
+changesBytes (c ∷ cs) = changeBytes c + changesBytes cs
+
+-- "each host's pending bytes as replay gives them": hosts 0 to 3, each those of its list
+pub record CountsAre (ps : List ℕ) (fs : List Frame) : Type 0 where
+  pub four : length ps ≡ 4
+  pub each : (h : Host) → h .0 ≤ 3 → getD ps (h .0) 0 ≡ changesBytes (pendingAfter h fs)
+
+pub record PendingExact : Type 0 where
+  pub are : (fs : List Frame) → CountsAre (pendingOf fs) fs
+  pub only : (ps : List ℕ) (fs : List Frame) → CountsAre ps fs → ps ≡ pendingOf fs
+  pub full-is : (size : ℕ) (fs : List Frame) (h : Host) (c : Change)
+      → (hostFull size (replay fs) h c ≡ true) ↔ (size / 2 < changesBytes (pendingAfter h fs) + changeBytes c)
 
 -- ---- the frames that a transfer writes
 

@@ -4,8 +4,8 @@ use mathlib.Core.Bool.{Bool, true, false}
 use Prim.Native.Nat.{ℕ, _+_, _*_}
 use lib.Dec.{ltb}
 use Rattle.frame.specs.declared.Host.{Host}
-use Rattle.frame.specs.Frame.{hostOf, Change, put, delete, change, frameLen, deleteLen, endLen, total}
-use Rattle.journal.specs.Replay.{Object, Entry, entry, State, isOpen, settledFrame, pendingFrame}
+use Rattle.frame.specs.Frame.{hostOf, Change, put, delete, Frame, change, frameLen, deleteLen, endLen, total}
+use Rattle.journal.specs.Replay.{Object, Entry, entry, State, listOf, isOpen, replay, settledFrame, pendingFrame}
 use Rattle.journal.specs.Block.{headerLen}
 
 -- "U is 16 plus the length of one settled frame for each settled object, whether or not such frames stand in the half."
@@ -36,3 +36,23 @@ spare (delete i) = 0
 -- "a put is refused exactly if C + n + 6·open + 14 > S, a delete exactly if C + 8 + 6·open > S"
 unfoldable pub noRoom : ℕ → State → Host → Change → Bool
 noRoom size s h c = ltb size (claimed s + frameLen (change h c) + endLen * openHosts (s .pending ++ (entry h c ∷ [])) + spare c)
+
+-- ---- each host's pending bytes
+
+-- the bytes of a host's pending frames
+abbrev pub pendingFor : Host → List Entry → ℕ
+pendingFor h es = total (map (change h) (listOf h es))
+
+abbrev pub perHost : (Host → ℕ) → List ℕ
+perHost f = f (hostOf 0) ∷ f (hostOf 1) ∷ f (hostOf 2) ∷ f (hostOf 3) ∷ []
+
+-- document 02, K7: a put or delete is refused "exactly if that host's pending frames would come to more than S/2 bytes"
+unfoldable pub hostFull : ℕ → State → Host → Change → Bool
+hostFull size s h c = ltb size (2 * pendingFor h (s .pending ++ (entry h c ∷ [])))
+
+-- "each host's pending bytes as replay gives them"
+abbrev pub countsIn : State → List ℕ
+countsIn s = perHost (λ h. pendingFor h (s .pending))
+
+abbrev pub pendingOf : List Frame → List ℕ
+pendingOf fs = countsIn (replay fs)

@@ -17,9 +17,9 @@ use Rattle.lent.specs.Layout.{madeAt, idAt, sourceAt, copyAt, offAt, mov
 use Rattle.lent.specs.Layout.{placesAt, placesSize, jobAt, planAt, cursorAt, unitAt, recordSize}
 use Rattle.lent.specs.Layout.{phaseIn, flagIn, wordsIn, numberIn, jobIn, cursorIn, recordIn}
 use Rattle.lent.specs.Layout.{phaseByte, flagByte, wordBytes, headBytes, planBytes, cursorBytes, recordBytes}
-use Rattle.lent.proofs.Words.{length-word-bytes}
+use Rattle.lent.proofs.Words.{length-word-bytes, words-own}
 use Rattle.lent.proofs.Rests.{one, some, two, rest-own}
-use Rattle.lent.proofs.Own.{own-sized, words-own, bytes-own, places-own, frames-own}
+use Rattle.lent.proofs.Own.{own-sized, bytes-own, places-own, frames-own}
 
 phase-own : (n : ℕ) → n < 8 → phaseByte (phaseIn n) ≡ n
 phase-own zero h = refl
@@ -124,7 +124,16 @@ module _ (b : List ℕ) (size : length b ≡ recordSize) (ok : (i : ℕ) → get
       let p = headBytes r ++ (w ++ (r .job .wipe ++ planBytes (r .job))) in
       let parts : (t : List ℕ) → headBytes r ++ (w ++ (r .job .wipe ++ (planBytes (r .job) ++ t))) ≡ p ++ t = λ t. simp append-assoc in
       let n : length p ≡ cursorAt =
-      simp length-append (omega (arith, length-word-bytes (r .places), length-word-bytes (r .job .since), z .places, z .wipe, z .since)) in
+      simp length-append (omega (
+        arith,
+        length-word-bytes (r .rest .pending),
+        length-word-bytes (r .places),
+        length-word-bytes (r .job .since),
+        z .pending,
+        z .places,
+        z .wipe,
+        z .since,
+      )) in
       let uf = r .unit ++ r .frame in
       let front : p ≡ take cursorAt b =
       sym (take-at p (cursorBytes (r .cursor) ++ uf) cursorAt n) ∙ ap (take cursorAt) (sym (parts (cursorBytes (r .cursor) ++ uf)) ∙ own) in

@@ -2,7 +2,7 @@
 use mathlib.Core.Path.{_≡_, refl, sym, ap, _∙_}
 use mathlib.Core.List.{List, [], _∷_, _++_, append-assoc, append-nil}
 use mathlib.Core.Bool.{Bool, true, false}
-use Prim.Native.Nat.{ℕ, zero, suc, _+_, _-_, _<_}
+use Prim.Native.Nat.{ℕ, _+_, _-_, _<_}
 use native.Mathlib.Omega.{arith}
 use lib.ListN.{length, getD, drop, length-append}
 use lib.Seq.{take-at, getD-at, drop-at, drop-drop}
@@ -20,9 +20,9 @@ use Rattle.lent.specs.Layout.{cursorSize, sinceSize, planSize, placesAt,
 use Rattle.lent.specs.Layout.{cursorAt, unitAt, frameAt, recordSize}
 use Rattle.lent.specs.Layout.{phaseIn, bytesIn, wordsIn, flagIn, planIn, jobIn, cursorIn, restIn, recordIn}
 use Rattle.lent.specs.Layout.{phaseByte, wordBytes, flagByte, headBytes, planBytes, cursorBytes, recordBytes}
-use Rattle.lent.specs.Layout.{Words, JobFits, CursorFits, RecordFits, BytesBack}
+use Rattle.lent.specs.Layout.{JobFits, CursorFits, RecordFits, BytesBack}
 use Rattle.lent.proofs.Rests.{rest-back, rest-bytes}
-use Rattle.lent.proofs.Words.{length-word-bytes, length-plan}
+use Rattle.lent.proofs.Words.{length-word-bytes, length-plan, words-back, word-bytes}
 
 -- ---- the parts, read back
 
@@ -39,13 +39,6 @@ phase-back (Busy Append) = refl
 flag-back : (b : Bool) → flagIn (flagByte b) ≡ b
 flag-back true = refl
 flag-back false = refl
-
-words-back : (ws t : List ℕ) (n : ℕ) → length ws ≡ n → wordsIn n (wordBytes ws ++ t) ≡ ws
-unfolding wordBytes wordsIn
-words-back [] t zero e = refl
-words-back [] t (suc n) e = absurd (omega arith)
-words-back (w ∷ ws) t zero e = absurd (omega arith)
-words-back (w ∷ ws) t (suc n) e = rw (le16-u16 w, words-back ws t n (omega arith))
 
 pub array-back : (n : ℕ) (f t : List ℕ) → length f ≡ n → bytesIn n (f ++ t) ≡ f
 array-back n f t e = let z : n - length f ≡ 0 = omega arith in rw (take-at f t n e, z, append-nil)
@@ -96,11 +89,6 @@ flag-byte : (b : Bool) → flagByte b < 256
 flag-byte true = omega arith
 flag-byte false = omega arith
 
-word-bytes : (ws : List ℕ) → Words ws → Bytes (wordBytes ws)
-unfolding wordBytes
-word-bytes [] h = tt
-word-bytes (w ∷ ws) h = (omega arith, (omega arith, word-bytes ws (h .1)))
-
 head-bytes : (r : Record) → RecordFits r → Bytes (headBytes r)
 head-bytes r h = (phase-byte (r .phase), rest-bytes (r .rest) (h .rest))
 
@@ -121,8 +109,12 @@ plan-bytes j h =
 past : (at n : ℕ) (l p q : List ℕ) → drop at l ≡ p ++ q → length p ≡ n → drop (at + n) l ≡ q
 past at n l p q e h = sym (drop-drop n at l) ∙ ap (drop n) e ∙ drop-at p q n h
 
+pub length-head : (r : Record) → length (r .rest .pending) ≡ 4 → length (headBytes r) ≡ placesAt
+length-head r q = omega (arith, length-word-bytes (r .rest .pending), q)
+
 -- each array has its length
 pub record Sized (r : Record) : Type 0 where
+  pub pending : length (r .rest .pending) ≡ 4
   pub places : length (r .places) ≡ 256
   pub wipe : length (r .job .wipe) ≡ maxBlocks
   pub since : length (r .job .since) ≡ 4
@@ -162,9 +154,12 @@ module _ (r : Record) (h : Sized r) where
   length-P : length (P r) ≡ planSize
   length-P = length-plan (r .job) (h .since)
 
-  from-job : drop jobAt (recordBytes r) ≡ EPCUF r
+  from-places : drop placesAt (recordBytes r) ≡ W r ++ EPCUF r
   unfolding recordBytes
-  from-job = past placesAt placesSize (recordBytes r) (W r) (EPCUF r) refl length-W
+  from-places = past 0 placesAt (recordBytes r) (headBytes r) (W r ++ EPCUF r) refl (length-head r (h .pending))
+
+  from-job : drop jobAt (recordBytes r) ≡ EPCUF r
+  from-job = past placesAt placesSize (recordBytes r) (W r) (EPCUF r) from-places length-W
 
   from-plan : drop planAt (recordBytes r) ≡ PCUF r
   from-plan = past jobAt maxBlocks (recordBytes r) (E r) (PCUF r) from-job (h .wipe)
@@ -182,8 +177,8 @@ module _ (r : Record) (h : Sized r) where
   unfolding recordBytes
   record-back =
       parts-back (recordBytes r) r (phase-back (r .phase))
-      (rest-back (phaseByte (r .phase)) (r .rest) (W r ++ EPCUF r))
-      (words-back (r .places) (EPCUF r) 256 (h .places))
+      (rest-back (phaseByte (r .phase)) (r .rest) (W r ++ EPCUF r) (h .pending))
+      (ap (wordsIn 256) from-places ∙ words-back (r .places) (EPCUF r) 256 (h .places))
       (ap jobIn from-job ∙ job-back (r .job) (CUF r) (h .wipe) (h .since))
       (ap cursorIn from-cursor ∙ cursor-back (r .cursor) (UF r))
       (ap (bytesIn maxFrame) from-unit ∙ array-back maxFrame (r .unit) (r .frame) (h .unit))
@@ -192,11 +187,22 @@ module _ (r : Record) (h : Sized r) where
   pub length-bytes-of : length (recordBytes r) ≡ recordSize
   unfolding recordBytes
   length-bytes-of =
-      simp length-append (omega (arith, length-W, length-word-bytes (r .job .since), h .wipe, h .since, h .unit, h .frame))
+      simp length-append (omega (
+        arith,
+        length-W,
+        length-word-bytes (r .rest .pending),
+        h .pending,
+        length-word-bytes (r .job .since),
+        h .wipe,
+        h .since,
+        h .unit,
+        h .frame,
+      ))
 
 pub sized : (r : Record) → RecordFits r → Sized r
 sized r h =
     record {
+      pending = h .rest .pending .0;
       places = h .places .0;
       wipe = h .job .wipe .0;
       since = h .job .since .0;

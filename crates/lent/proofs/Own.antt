@@ -7,7 +7,8 @@ use lib.ListN.{length, getD, take, drop, length-append, length-take, length-drop
 use lib.Seq.{take-all, drop-at, drop-drop, drop-append-le, getD-drop, length-take-le}
 use Rattle.flash.specs.Flash.{maxBlocks}
 use Rattle.frame.specs.Frame.{maxFrame}
-use Rattle.lent.specs.Layout.{sinceAt, placesAt, placesSize, jobAt, unitAt, frameAt, recordSize, bytesIn, wordsIn, recordIn, wordBytes}
+use Rattle.lent.specs.Layout.{sinceAt, pendingAt, placesAt, placesSize, jobAt, unitAt, frameAt, recordSize, bytesIn, wordsIn, recordIn, wordBytes}
+use Rattle.lent.proofs.Words.{words-own}
 use Rattle.lent.proofs.Inverse.{Sized, array-back}
 
 -- ---- lengths
@@ -24,6 +25,7 @@ pub own-sized : (l : List ℕ) → Sized (recordIn l)
 unfolding recordIn
 own-sized l =
     record {
+      pending = length-words-in 4 (drop pendingAt l);
       places = length-words-in 256 (drop placesAt l);
       wipe = length-bytes-in maxBlocks (drop jobAt l);
       since = length-words-in 4 (drop sinceAt (drop maxBlocks (drop jobAt l)));
@@ -32,17 +34,6 @@ own-sized l =
     }
 
 -- ---- a part that is all there
-
-pub words-own : (n : ℕ) (l : List ℕ) → ((i : ℕ) → getD l i 0 < 256) → 2 * n ≤ length l → wordBytes (wordsIn n l) ≡ take (2 * n) l
-unfolding wordsIn wordBytes
-words-own zero l b h = refl
-words-own (suc n) [] b h = absurd (omega arith)
-words-own (suc n) (x ∷ []) b h = absurd (omega arith)
-words-own (suc n) (x ∷ y ∷ l) b h =
-    let low : (x + y * 256) % 256 ≡ x = omega (arith, b 0) in
-    let high : (x + y * 256) / 256 ≡ y = omega (arith, b 0) in
-    let e : 2 * suc n ≡ suc (suc (2 * n)) = omega arith in
-    rw (low, high, words-own n l (λ i. b (suc (suc i))) (omega arith)) (ap (λ (k : ℕ). take k (x ∷ y ∷ l)) (sym e))
 
 pub bytes-own : (n : ℕ) (l : List ℕ) → n ≤ length l → bytesIn n l ≡ take n l
 bytes-own n l h = let z : n - length (take n l) ≡ 0 = simp length-take (omega arith) in rw (z, append-nil)

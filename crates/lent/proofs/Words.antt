@@ -1,16 +1,18 @@
 -- Words read from bytes one after the other, and words as bytes.
-use mathlib.Core.Path.{_≡_, refl, ap, _∙_}
-use mathlib.Core.List.{List, [], _∷_, _++_}
-use Prim.Native.Nat.{ℕ, zero, suc, _+_, _*_, _/_, _%_, _<_}
+use mathlib.Core.Path.{_≡_, refl, sym, ap, _∙_}
+use mathlib.Core.List.{List, [], _∷_, _++_, append-nil}
+use Prim.Native.Nat.{ℕ, zero, suc, _+_, _*_, _/_, _%_, _≤_, _<_}
 use native.Mathlib.Omega.{arith}
 use native.Mathlib.Nat.{add-zero}
 use native.Mathlib.Numerals.{add-one}
 use lib.ListN.{length, getD, take, drop, set, length-append}
 use lib.Seq.{take-suc-set, take-all, drop-drop, getD-drop}
-use Rattle.flash.specs.Bytes.{u16le, u32le}
+use Rattle.flash.specs.Bytes.{Bytes, u16le, u32le}
+use Rattle.flash.proofs.Blank.{le16-u16}
 use Rattle.wire.specs.Message.{wordAt}
 use Rattle.board.specs.declared.Job.{Job}
-use Rattle.lent.specs.Layout.{planSize, wordsIn, wordBytes, flagByte, planBytes}
+use Rattle.board.specs.declared.Record.{Record}
+use Rattle.lent.specs.Layout.{planSize, wordsIn, phaseByte, wordBytes, flagByte, headBytes, planBytes, Words}
 
 -- one word more, at the end
 next-word : (n : ℕ) (l : List ℕ) → wordsIn (suc n) l ≡ wordsIn n l ++ (wordAt (drop (2 * n) l) 0 ∷ [])
@@ -43,15 +45,25 @@ next-word-bytes [] w = refl
 next-word-bytes (v ∷ ws) w = ap (λ (t : List ℕ). u16le v ++ t) (next-word-bytes ws w)
 
 -- four words by their bytes
-pub since-then : (s t : List ℕ) → length s ≡ 4
+pub four-words : (s t : List ℕ) → length s ≡ 4
     → u16le (getD s 0 0) ++ (u16le (getD s 1 0) ++ (u16le (getD s 2 0) ++ (u16le (getD s 3 0) ++ t))) ≡ wordBytes s ++ t
 unfolding wordBytes
-since-then [] t e = absurd (omega arith)
-since-then (a ∷ []) t e = absurd (omega arith)
-since-then (a ∷ b ∷ []) t e = absurd (omega arith)
-since-then (a ∷ b ∷ c ∷ []) t e = absurd (omega arith)
-since-then (a ∷ b ∷ c ∷ d ∷ []) t e = refl
-since-then (a ∷ b ∷ c ∷ d ∷ x ∷ s) t e = absurd (omega arith)
+four-words [] t e = absurd (omega arith)
+four-words (a ∷ []) t e = absurd (omega arith)
+four-words (a ∷ b ∷ []) t e = absurd (omega arith)
+four-words (a ∷ b ∷ c ∷ []) t e = absurd (omega arith)
+four-words (a ∷ b ∷ c ∷ d ∷ []) t e = refl
+four-words (a ∷ b ∷ c ∷ d ∷ x ∷ s) t e = absurd (omega arith)
+
+-- the bytes before the places, one by one
+pub head-is : (r : Record) → length (r .rest .pending) ≡ 4 → (p l₀ l₁ e₀ e₁ a₀ b₀ a₁ b₁ a₂ b₂ a₃ b₃ : ℕ) → p ≡ phaseByte (r .phase)
+    → l₀ ≡ r .rest .last % 256 → l₁ ≡ r .rest .last / 256 → e₀ ≡ r .rest .end % 256 → e₁ ≡ r .rest .end / 256
+    → a₀ ≡ getD (r .rest .pending) 0 0 % 256 → b₀ ≡ getD (r .rest .pending) 0 0 / 256 → a₁ ≡ getD (r .rest .pending) 1 0 % 256
+    → b₁ ≡ getD (r .rest .pending) 1 0 / 256 → a₂ ≡ getD (r .rest .pending) 2 0 % 256 → b₂ ≡ getD (r .rest .pending) 2 0 / 256
+    → a₃ ≡ getD (r .rest .pending) 3 0 % 256 → b₃ ≡ getD (r .rest .pending) 3 0 / 256
+    → p ∷ l₀ ∷ l₁ ∷ r .rest .block ∷ e₀ ∷ e₁ ∷ r .rest .blocks ∷ a₀ ∷ b₀ ∷ a₁ ∷ b₁ ∷ a₂ ∷ b₂ ∷ a₃ ∷ b₃ ∷ [] ≡ headBytes r
+head-is r q p l₀ l₁ e₀ e₁ a₀ b₀ a₁ b₁ a₂ b₂ a₃ b₃ ep f₀ f₁ g₀ g₁ h₀ k₀ h₁ k₁ h₂ k₂ h₃ k₃ =
+    rw (ep, f₀, f₁, g₀, g₁, h₀, k₀, h₁, k₁, h₂, k₂, h₃, k₃, ← append-nil (wordBytes (r .rest .pending)), ← four-words (r .rest .pending) [] q)
 
 -- a plan's bytes, one by one
 pub plan-is : (j : Job) → length (j .since) ≡ 4 → (m d a₀ b₀ a₁ b₁ a₂ b₂ a₃ b₃ : ℕ) → m ≡ flagByte (j .moves) → d ≡ flagByte (j .drops)
@@ -59,7 +71,32 @@ pub plan-is : (j : Job) → length (j .since) ≡ 4 → (m d a₀ b₀ a₁ b₁
     → a₂ ≡ getD (j .since) 2 0 % 256 → b₂ ≡ getD (j .since) 2 0 / 256 → a₃ ≡ getD (j .since) 3 0 % 256 → b₃ ≡ getD (j .since) 3 0 / 256
     → j .wipes ∷ m ∷ d ∷ j .target ∷ (u32le (j .time) ++ (a₀ ∷ b₀ ∷ a₁ ∷ b₁ ∷ a₂ ∷ b₂ ∷ a₃ ∷ b₃ ∷ j .size ∷ [])) ≡ planBytes j
 plan-is j q m d a₀ b₀ a₁ b₁ a₂ b₂ a₃ b₃ em ed e₀ f₀ e₁ f₁ e₂ f₂ e₃ f₃ =
-    rw (em, ed, e₀, f₀, e₁, f₁, e₂, f₂, e₃, f₃, ← since-then (j .since) (j .size ∷ []) q)
+    rw (em, ed, e₀, f₀, e₁, f₁, e₂, f₂, e₃, f₃, ← four-words (j .since) (j .size ∷ []) q)
 
 pub length-plan : (j : Job) → length (j .since) ≡ 4 → length (planBytes j) ≡ planSize
 length-plan j q = simp (length-append, length-word-bytes) (omega arith)
+
+-- ---- words and their bytes, there and back
+
+pub words-back : (ws t : List ℕ) (n : ℕ) → length ws ≡ n → wordsIn n (wordBytes ws ++ t) ≡ ws
+unfolding wordBytes wordsIn
+words-back [] t zero e = refl
+words-back [] t (suc n) e = absurd (omega arith)
+words-back (w ∷ ws) t zero e = absurd (omega arith)
+words-back (w ∷ ws) t (suc n) e = rw (le16-u16 w, words-back ws t n (omega arith))
+
+pub word-bytes : (ws : List ℕ) → Words ws → Bytes (wordBytes ws)
+unfolding wordBytes
+word-bytes [] h = tt
+word-bytes (w ∷ ws) h = (omega arith, (omega arith, word-bytes ws (h .1)))
+
+pub words-own : (n : ℕ) (l : List ℕ) → ((i : ℕ) → getD l i 0 < 256) → 2 * n ≤ length l → wordBytes (wordsIn n l) ≡ take (2 * n) l
+unfolding wordsIn wordBytes
+words-own zero l b h = refl
+words-own (suc n) [] b h = absurd (omega arith)
+words-own (suc n) (x ∷ []) b h = absurd (omega arith)
+words-own (suc n) (x ∷ y ∷ l) b h =
+    let low : (x + y * 256) % 256 ≡ x = omega (arith, b 0) in
+    let high : (x + y * 256) / 256 ≡ y = omega (arith, b 0) in
+    let e : 2 * suc n ≡ suc (suc (2 * n)) = omega arith in
+    rw (low, high, words-own n l (λ i. b (suc (suc i))) (omega arith)) (ap (λ (k : ℕ). take k (x ∷ y ∷ l)) (sym e))

@@ -17,7 +17,7 @@ use Rattle.board.specs.declared.Job.{Job}
 use Rattle.board.specs.declared.Cursor.{Cursor}
 use Rattle.board.specs.declared.Rest.{Rest}
 use Rattle.board.specs.declared.Record.{Record}
-use Rattle.board.specs.Record.{cursor, rest}
+use Rattle.board.specs.Record.{cursor, rest, counting}
 
 -- ---- places: each field stands right after the one before it
 
@@ -66,7 +66,7 @@ appendAt = sinceAt + sinceSize
 abbrev pub planSize : ℕ
 planSize = appendAt + 1
 
--- in the record: phase 1, last 2, block 1, end 2, blocks 1, each place 2, the job, the cursor, two frame buffers
+-- in the record: phase 1, last 2, block 1, end 2, blocks 1, each host's pending bytes 2, each place 2, the job, the cursor, two frame buffers
 abbrev pub lastAt : ℕ
 lastAt = 1
 
@@ -79,8 +79,14 @@ endAt = blockAt + 1
 abbrev pub blocksAt : ℕ
 blocksAt = endAt + 2
 
+abbrev pub pendingAt : ℕ
+pendingAt = blocksAt + 1
+
+abbrev pub pendingSize : ℕ
+pendingSize = 2 * 4
+
 abbrev pub placesAt : ℕ
-placesAt = blocksAt + 1
+placesAt = pendingAt + pendingSize
 
 abbrev pub placesSize : ℕ
 placesSize = 2 * 256
@@ -147,7 +153,7 @@ abbrev pub cursorIn : List ℕ → Cursor
 cursorIn l = cursor (getD l 0 0) (wordAt l madeAt) (wordAt l idAt) (wordAt l sourceAt) (getD l copyAt 0) (getD l offAt 0)
 
 abbrev pub restIn : List ℕ → Rest
-restIn l = rest (getD l blocksAt 0) (wordAt l lastAt) (getD l blockAt 0) (wordAt l endAt)
+restIn l = counting (rest (getD l blocksAt 0) (wordAt l lastAt) (getD l blockAt 0) (wordAt l endAt)) (wordsIn 4 (drop pendingAt l))
 
 unfoldable pub recordIn : List ℕ → Record
 recordIn l =
@@ -187,7 +193,7 @@ flagByte b = cond b 1 0
 
 -- the bytes of where a record stands, of all before the places, of the plan, of the cursor, and of the whole record: each field where it is read
 abbrev pub restBytes : Rest → List ℕ
-restBytes z = u16le (z .last) ++ (z .block ∷ (u16le (z .end) ++ (z .blocks ∷ [])))
+restBytes z = u16le (z .last) ++ (z .block ∷ (u16le (z .end) ++ (z .blocks ∷ wordBytes (z .pending))))
 
 abbrev pub headBytes : Record → List ℕ
 headBytes r = phaseByte (r .phase) ∷ restBytes (r .rest)
@@ -242,6 +248,7 @@ pub record RestFits (z : Rest) : Type 0 where
   pub last : z .last < 65536
   pub block : z .block < 256
   pub end : z .end < 65536
+  pub pending : SomeWords 4 (z .pending)
 
 pub record RecordFits (r : Record) : Type 0 where
   pub rest : RestFits (r .rest)

@@ -12,7 +12,9 @@ pub const END_AT: usize = BLOCK_AT + 1;
 
 pub const BLOCKS_AT: usize = END_AT + 2;
 
-pub const PLACES_AT: usize = BLOCKS_AT + 1;
+pub const PENDING_AT: usize = BLOCKS_AT + 1;
+
+pub const PLACES_AT: usize = PENDING_AT + 2 * 4;
 
 pub const PLACES_SIZE: usize = 2 * 256;
 

@@ -12,8 +12,9 @@ use Rattle.frame.specs.Sentences.{Torn}
 use Rattle.frame.proofs.First.{tail-cut}
 use Rattle.journal.specs.Replay.{Entry, pendingFrame}
 use Rattle.journal.specs.Block.{Journal, headerLen, valid}
-use Rattle.survey.specs.Survey.{pendingOf, tornLen, surveyOf}
-use Rattle.survey.proofs.PerHost.{bytes-total}
+use Rattle.journal.specs.Room.{pendingOf}
+use Rattle.survey.specs.Survey.{tornLen, surveyOf}
+use Rattle.journal.proofs.PerHost.{bytes-total}
 use Rattle.journal.proofs.Replaying.{LegalEntries, sound-replay}
 use Rattle.journal.proofs.Blocks.{Okay}
 use Rattle.journal.proofs.States.{Contents}

@@ -116,7 +116,14 @@ module _ (N : ℕ) (img b img′ b′ : List ℕ) (size : length b ≡ recordSiz
   goes-on s c x p n a w v i e =
       let r = recordIn b in
       let z = own-sized b in
-      let sz : Sized (inStage s c r) = record { places = z .places; wipe = z .wipe; since = z .since; unit = z .unit; frame = z .frame } in
+      let sz : Sized (inStage s c r) = record {
+        pending = z .pending;
+        places = z .places;
+        wipe = z .wipe;
+        since = z .since;
+        unit = z .unit;
+        frame = z .frame;
+      } in
       let q : stepOn N img r ≡ stepped (apply (sizeOf N img) x img) (inStage s c r) =
       step-goes N img r s p (and-both _ _ n (ap (within N (sizeOf N img)) a ∙ w))
       ∙ ap (λ (y : Step). stepped (apply (sizeOf N img) y img) (advance N s (apply (sizeOf N img) y img) r)) a

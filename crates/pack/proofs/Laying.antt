@@ -15,7 +15,7 @@ use Rattle.frame.specs.Frame.{maxFrame}
 use Rattle.board.specs.declared.Record.{Record}
 use Rattle.lent.specs.Layout.{cursorSize, planSize, placesAt, placesSize, jobAt, planAt, cursorAt, unitAt, frameAt, recordSize}
 use Rattle.lent.specs.Layout.{wordBytes, headBytes, planBytes, cursorBytes, recordBytes, recordIn}
-use Rattle.lent.proofs.Inverse.{Sized, record-back}
+use Rattle.lent.proofs.Inverse.{Sized, length-head, record-back}
 use Rattle.pack.specs.Code.{laidAt}
 use Rattle.lent.proofs.Words.{length-word-bytes, next-word-bytes}
 
@@ -108,7 +108,7 @@ module _ (r : Record) (l x₁ x₂ x₃ x₄ x₅ x₆ x₇ h p c : List ℕ) (e
   unfolding recordBytes
   laid-whole n nq nl =
       let u₀ : Upto 0 [] l l = record { written = refl; size = refl } in
-      let u₁ = next 0 placesAt h u₀ e₁ (ap length eh) (omega (arith, nl)) in
+      let u₁ = next 0 placesAt h u₀ e₁ (ap length eh ∙ length-head r (n .pending)) (omega (arith, nl)) in
       let u₂ = next placesAt placesSize (wordBytes (r .places)) u₁ e₂ (length-word-bytes (r .places) ∙ rw (n .places)) (omega (arith, nl)) in
       let u₃ = next jobAt maxBlocks (r .job .wipe) u₂ e₃ (n .wipe) (omega (arith, nl)) in
       let u₄ = next planAt planSize p u₃ e₄ nq (omega (arith, nl)) in

@@ -17,7 +17,7 @@ use Rattle.job.specs.Code.{assemble, leavesIf}
 use Rattle.lent.specs.Layout.{cursorSize, planSize, placesAt, placesSize, jobAt, planAt, cursorAt, unitAt, frameAt, recordSize}
 use Rattle.lent.specs.Layout.{recordIn, wordBytes, headBytes, planBytes, cursorBytes, recordBytes, recordInto}
 use Rattle.lent.proofs.Words.{length-plan}
-use Rattle.lent.proofs.Inverse.{Sized, record-back}
+use Rattle.lent.proofs.Inverse.{Sized, length-head, record-back}
 use Rattle.lent.proofs.Own.{length-words-in, length-bytes-in, places-own, frames-own, places-stay, unit-laid, frame-stays}
 use Rattle.pack.specs.Code.{laidAt, numbersInto, loadedIn, leftIn, Holds}
 use Rattle.pack.proofs.Laying.{Upto, next, laid-here}
@@ -35,7 +35,13 @@ keep at n {p} {l} {x} u k =
 flat : (a b c d e f : List ℕ) → ((((a ++ b) ++ c) ++ d) ++ e) ++ f ≡ a ++ (b ++ (c ++ (d ++ (e ++ f))))
 flat a b c d e f = simp append-assoc
 
-module _ (n : Numbers) (wipe : length (n .job .wipe) ≡ maxBlocks) (since : length (n .job .since) ≡ 4) where
+-- a record's arrays but for places and frames have their lengths
+pub record Lengths (n : Numbers) : Type 0 where
+  pub pending : length (n .rest .pending) ≡ 4
+  pub wipe : length (n .job .wipe) ≡ maxBlocks
+  pub since : length (n .job .since) ≡ 4
+
+module _ (n : Numbers) (z : Lengths n) where
   numbers-laid : (l p u f : List ℕ) → length l ≡ recordSize → wordBytes p ≡ take placesSize (drop placesAt l) → u ++ f ≡ drop unitAt l
       → numbersInto n l ≡ recordBytes (assemble n p u f)
   unfolding numbersInto recordBytes
@@ -44,10 +50,10 @@ module _ (n : Numbers) (wipe : length (n .job .wipe) ≡ maxBlocks) (since : len
       let q = planBytes (n .job) in
       let c = cursorBytes (n .cursor) in
       let u₀ : Upto 0 [] l l = record { written = refl; size = refl } in
-      let u₁ = next 0 placesAt h u₀ refl refl (omega (arith, size)) in
+      let u₁ = next 0 placesAt h u₀ refl (length-head (assemble n [] [] []) (z .pending)) (omega (arith, size)) in
       let u₂ = keep placesAt placesSize u₁ (omega (arith, size)) in
-      let u₃ = next jobAt maxBlocks (n .job .wipe) u₂ refl wipe (omega (arith, size)) in
-      let u₄ = next planAt planSize q u₃ refl (length-plan (n .job) since) (omega (arith, size)) in
+      let u₃ = next jobAt maxBlocks (n .job .wipe) u₂ refl (z .wipe) (omega (arith, size)) in
+      let u₄ = next planAt planSize q u₃ refl (length-plan (n .job) (z .since)) (omega (arith, size)) in
       let u₅ = next cursorAt cursorSize c u₄ refl refl (omega (arith, size)) in
       u₅ .written ∙ flat h (take placesSize (drop placesAt l)) (n .job .wipe) q c (drop unitAt l) ∙ rw (← ep, ← ef)
 
@@ -55,16 +61,17 @@ module _ (n : Numbers) (wipe : length (n .job .wipe) ≡ maxBlocks) (since : len
   unfolding recordIn
   own-sizes b =
       record {
+        pending = z .pending;
         places = length-words-in 256 (drop placesAt b);
-        wipe = wipe;
-        since = since;
+        wipe = z .wipe;
+        since = z .since;
         unit = length-bytes-in maxFrame (drop unitAt b);
         frame = length-bytes-in maxFrame (drop frameAt b);
       }
 
   no-sizes : Sized (assemble n noPlaces noFrame noFrame)
   unfolding noPlaces noFrame
-  no-sizes = record { places = refl; wipe = wipe; since = since; unit = refl; frame = refl }
+  no-sizes = record { pending = z .pending; places = refl; wipe = z .wipe; since = z .since; unit = refl; frame = refl }
 
   -- over zeros: a job that ended
   ended-laid : numbersInto n (replicate recordSize 0) ≡ recordBytes (assemble n noPlaces noFrame noFrame)
@@ -82,22 +89,21 @@ held : (r : Record) (b after : List ℕ) → length b ≡ recordSize → Sized r
 unfolding recordInto
 held r b after l z e = record { bytes = rw (eq-eqb _ _ l) e; back = λ _. ap recordIn e ∙ record-back r z }
 
-module _ (s : Stepped) (b after : List ℕ) (l : length b ≡ recordSize) (wipe : length (s .next .job .wipe) ≡ maxBlocks)
-    (since : length (s .next .job .since) ≡ 4) where
+module _ (s : Stepped) (b after : List ℕ) (l : length b ≡ recordSize) (n : Lengths (s .next)) where
   -- the job went on
   pub went-on : ((i : ℕ) → getD b i 0 < 256) → s .ended ≡ false → after ≡ numbersInto (s .next) b → Holds (leftIn s b) b after
   went-on ok t e =
       let r = recordIn b in
       subst (λ (x : Record). Holds x b after) (sym (ap (λ (d : Bool). leavesIf d (s .next) (r .places) (r .unit) (r .frame)) t))
-      (held (assemble (s .next) (r .places) (r .unit) (r .frame)) b after l (own-sizes (s .next) wipe since b)
-      (e ∙ numbers-laid (s .next) wipe since b (r .places) (r .unit) (r .frame) l (places-own b l ok) (frames-own b l)))
+      (held (assemble (s .next) (r .places) (r .unit) (r .frame)) b after l (own-sizes (s .next) n b)
+      (e ∙ numbers-laid (s .next) n b (r .places) (r .unit) (r .frame) l (places-own b l ok) (frames-own b l)))
 
   -- it ended: the buffer was cleared
   pub ended : (z : List ℕ) → z ≡ replicate (length b) 0 → s .ended ≡ true → after ≡ numbersInto (s .next) z → Holds (leftIn s b) b after
   ended z c t e =
       let r = recordIn b in
       subst (λ (x : Record). Holds x b after) (sym (ap (λ (d : Bool). leavesIf d (s .next) (r .places) (r .unit) (r .frame)) t))
-      (held (assemble (s .next) noPlaces noFrame noFrame) b after l (no-sizes (s .next) wipe since) (e ∙ rw (c, l) (ended-laid (s .next) wipe since)))
+      (held (assemble (s .next) noPlaces noFrame noFrame) b after l (no-sizes (s .next) n) (e ∙ rw (c, l) (ended-laid (s .next) n)))
 
 -- another frame that is copied was laid first: x is the buffer then
 pub loaded : (s : Stepped) (u b x after : List ℕ) → length b ≡ recordSize → length u ≡ maxFrame → x ≡ laidAt unitAt u b

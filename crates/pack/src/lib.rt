@@ -73,6 +73,7 @@ fn head_bytes(n: Numbers) -> [u8; lent::PLACES_AT]
     let rest = n.rest;
     let last = rest.last;
     let end = rest.end;
+    let p = rest.pending;
     [
         phase_byte(phase),
         low(last),
@@ -81,6 +82,14 @@ fn head_bytes(n: Numbers) -> [u8; lent::PLACES_AT]
         low(end),
         high(end),
         rest.blocks,
+        low(p[0]),
+        high(p[0]),
+        low(p[1]),
+        high(p[1]),
+        low(p[2]),
+        high(p[2]),
+        low(p[3]),
+        high(p[3]),
     ]
 }
 

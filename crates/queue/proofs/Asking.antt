@@ -8,7 +8,7 @@ use native.Mathlib.Omega.{arith}
 use lib.Dec.{eqb, leb}
 use lib.ListN.{length}
 use borrow.Author.Tests.{ne-eqb}
-use Rattle.flash.specs.Bytes.{Bytes}
+use Rattle.flash.specs.Bytes.{Bytes, sameBytes}
 use Rattle.flash.specs.Flash.{block, sizeOf}
 use Rattle.flash.proofs.Cases.{on-test}
 use Rattle.flash.proofs.Image.{bytes-block}
@@ -29,9 +29,10 @@ use Rattle.wire.specs.declared.Parsed.the-variants.{Is, Malformed}
 use Rattle.wire.specs.Message.{parse}
 use Rattle.board.specs.declared.Phase.{Phase}
 use Rattle.board.specs.declared.Phase.the-variants.{Unmounted, Idle, Busy}
+use Rattle.board.specs.declared.Rest.{Rest}
 use Rattle.board.specs.declared.Record.{Record}
 use Rattle.board.specs.Record.{allowed}
-use Rattle.board.specs.Mount.{endOf}
+use Rattle.board.specs.Mount.{endOf, countsOf}
 use Rattle.board.specs.Queue.{sameImage, held, heldBy, heldIn, heldIf, fitsRecord, serve, requestOn, Asking, asking, refuseTo}
 use Rattle.board.proofs.Outcomes.{request-length, request-host, request-stale, request-malformed, request-served, request-in}
 use Rattle.queue.specs.declared.requests.Gate.the-variants as gate
@@ -108,39 +109,43 @@ module _ (N : ℕ) (img : List ℕ) (r : Record) (h : Host) where
 -- ---- the block itself
 
 -- by its state: what the survey's test says
-data Holding (size end : ℕ) (s : BlockState) : Type 0 where
-  holds-not : asRecorded size end (surveyOf s) ≡ false → heldIn size end s ≡ none → Holding size end s
-  holds-so : (x : Journal) → asRecorded size end (surveyOf s) ≡ true → heldIn size end s ≡ some x → s ≡ valid x
-      → Holding size end s
+data Holding (size : ℕ) (z : Rest) (s : BlockState) : Type 0 where
+  holds-not : asRecorded size z (surveyOf s) ≡ false → heldIn size z s ≡ none → Holding size z s
+  holds-so : (x : Journal) → asRecorded size z (surveyOf s) ≡ true → heldIn size z s ≡ some x → s ≡ valid x
+      → Holding size z s
 
 -- of a valid block
-module _ {b : List ℕ} {w : Journal} (size end : ℕ) (x : Contents b w) where
+module _ {b : List ℕ} {w : Journal} (size : ℕ) (z : Rest) (x : Contents b w) where
   abbrev survey : Survey
   survey = surveyOf (valid w)
 
+  -- its end and counts are the record's
+  abbrev ends : Bool
+  ends = eqb (endOf w) (z .end) && sameBytes (countsOf w) (z .pending)
+
   torn-is : (c : Tail) → w .tail ≡ c
-      → asRecorded size end survey ≡ (eqb (tornLen c) 0 && (eqb (endOf w) end && leb (claimedIn survey + endLen * openIn (survey .pending)) size))
+      → asRecorded size z survey ≡ (eqb (tornLen c) 0 && (ends && leb (claimedIn survey + endLen * openIn (survey .pending)) size))
   unfolding asRecorded surveyOf
-  torn-is c e =
-      ap (λ (d : Tail). eqb (tornLen d) 0 && (eqb (endOf w) end && leb (claimedIn survey + endLen * openIn (survey .pending)) size)) e
+  torn-is c e = ap (λ (d : Tail). eqb (tornLen d) 0 && (ends && leb (claimedIn survey + endLen * openIn (survey .pending)) size)) e
 
-  fits-is : w .tail ≡ clean → asRecorded size end survey ≡ fitsRecord size end w
-  fits-is e = torn-is clean e ∙ ap₂ (λ (n o : ℕ). eqb (endOf w) end && leb (n + endLen * o) size) (sym (claimed-is x)) (sym (open-is x))
+  fits-is : w .tail ≡ clean → asRecorded size z survey ≡ fitsRecord size z w
+  unfolding fitsRecord
+  fits-is e = torn-is clean e ∙ ap₂ (λ (n o : ℕ). ends && leb (n + endLen * o) size) (sym (claimed-is x)) (sym (open-is x))
 
-  holding-valid : (c : Tail) → w .tail ≡ c → Okay c → Holding size end (valid w)
+  holding-valid : (c : Tail) → w .tail ≡ c → Okay c → Holding size z (valid w)
   holding-valid clean e o =
-      on-test (fitsRecord size end w) (λ f. holds-so w (fits-is e ∙ f) (ap₂ (λ (t : Bool) (c : Tail). heldIf t c w) f e) refl)
+      on-test (fitsRecord size z w) (λ f. holds-so w (fits-is e ∙ f) (ap₂ (λ (t : Bool) (c : Tail). heldIf t c w) f e) refl)
       (λ f. holds-not (fits-is e ∙ f) (ap₂ (λ (t : Bool) (c : Tail). heldIf t c w) f e))
   holding-valid (cut n) e o =
-      holds-not (torn-is (cut n) e ∙ rw (ne-eqb n 0 (cut-not x e))) (ap (λ (c : Tail). heldIf (fitsRecord size end w) c w) e)
+      holds-not (torn-is (cut n) e ∙ rw (ne-eqb n 0 (cut-not x e))) (ap (λ (c : Tail). heldIf (fitsRecord size z w) c w) e)
   holding-valid (bad f) e o = absurd o
 
-holding : (size end : ℕ) (b : List ℕ) (s : BlockState) → blockState b ≡ s → Bytes b → headerLen ≤ length b → Holding size end s
+holding : (size : ℕ) (z : Rest) (b : List ℕ) (s : BlockState) → blockState b ≡ s → Bytes b → headerLen ≤ length b → Holding size z s
 unfolding asRecorded surveyOf
-holding size end b blank e y l = holds-not refl refl
-holding size end b inProgress e y l = holds-not refl refl
-holding size end b (valid w) e y l = let x : Contents b w = valid-inv b w y l e in holding-valid size end x (w .tail) refl (x .okay)
-holding size end b (foreign w) e y l = holds-not refl refl
+holding size z b blank e y l = holds-not refl refl
+holding size z b inProgress e y l = holds-not refl refl
+holding size z b (valid w) e y l = let x : Contents b w = valid-inv b w y l e in holding-valid size z x (w .tail) refl (x .okay)
+holding size z b (foreign w) e y l = holds-not refl refl
 
 -- ---- the message
 
@@ -150,22 +155,22 @@ ask-not q why e = let z : _≡_ {A = ℕ} 0 1 = cc in omega arith
 serve-not : (q : Request) (why : Refusal) → ask.Refused why ≡ ask.Serve q → ⊥
 serve-not q why e = let z : _≡_ {A = ℕ} 0 1 = cc in omega arith
 
-module _ (size end : ℕ) (s : Survey) (m : List ℕ) where
+module _ (size : ℕ) (z : Rest) (s : Survey) (m : List ℕ) where
   -- refused, a message that is no read is refused as the empty one
-  pub refused-as : (why : Refusal) → askOf size end s m ≡ ask.Refused why → askOf size end s (readAs (parse m) m) ≡ ask.Refused why
+  pub refused-as : (why : Refusal) → askOf size z s m ≡ ask.Refused why → askOf size z s (readAs (parse m) m) ≡ ask.Refused why
   unfolding askOf parse
   refused-as why e =
-      on-test (asRecorded size end s) (λ t. rw (t, askOf) (by (parse m) refl (rw (t, askOf) at e))) (λ t. rw (t, askOf) (rw (t, askOf) at e))
+      on-test (asRecorded size z s) (λ t. rw (t, askOf) (by (parse m) refl (rw (t, askOf) at e))) (λ t. rw (t, askOf) (rw (t, askOf) at e))
     where
       by : (x : Parsed) → parse m ≡ x → askIf x ≡ ask.Refused why → askIf (parse (readAs (parse m) m)) ≡ ask.Refused why
       by (Is q) w z = absurd (ask-not q why z)
       by Malformed w z = rw w z
 
   -- where a message is heard, the empty one is malformed
-  pub empty-as : (q : Request) → askOf size end s m ≡ ask.Serve q → askOf size end s [] ≡ ask.Refused refusal.Malformed
+  pub empty-as : (q : Request) → askOf size z s m ≡ ask.Serve q → askOf size z s [] ≡ ask.Refused refusal.Malformed
   unfolding askOf parse
   empty-as q e =
-      on-test (asRecorded size end s) (λ t. rw (t, askOf)) (λ t. absurd (serve-not q refusal.Stale (rw (t, askOf) at e)))
+      on-test (asRecorded size z s) (λ t. rw (t, askOf)) (λ t. absurd (serve-not q refusal.Stale (rw (t, askOf) at e)))
 
 -- a request that is served
 pub record Served (N : ℕ) (img : List ℕ) (r : Record) (h : Host) (m : List ℕ) (q : Request) : Type 0 where
@@ -176,7 +181,7 @@ pub record Served (N : ℕ) (img : List ℕ) (r : Record) (h : Host) (m : List �
   pub says : parse m ≡ Is q
 
 module _ (N : ℕ) (img : List ℕ) (r : Record) (h : Host) (m : List ℕ) (y : Bytes img) (p : Passed N img r h) where
-  held-is : (o : Option Journal) → heldIn (sizeOf N img) (r .rest .end) (blockState (block (sizeOf N img) (r .rest .block) img)) ≡ o → held N img r ≡ o
+  held-is : (o : Option Journal) → heldIn (sizeOf N img) (r .rest) (blockState (block (sizeOf N img) (r .rest .block) img)) ≡ o → held N img r ≡ o
   unfolding held
   held-is o e = ap (λ (t : Bool). heldBy N t img r) (p .same) ∙ e
 
@@ -190,13 +195,13 @@ module _ (N : ℕ) (img : List ℕ) (r : Record) (h : Host) (m : List ℕ) (y : 
       let z : b ≡ block (sizeOf N img) (r .rest .block) img = q ∙ ap (λ (s : ℕ). block s (r .rest .block) img) e in
       half-fits b (rw z looks) ∙ ap blockState z
 
-  here-holds : Holding (sizeOf N img) (r .rest .end) (blockState (block (sizeOf N img) (r .rest .block) img))
+  here-holds : Holding (sizeOf N img) (r .rest) (blockState (block (sizeOf N img) (r .rest .block) img))
   here-holds =
-      holding (sizeOf N img) (r .rest .end) (block (sizeOf N img) (r .rest .block) img) (blockState (block (sizeOf N img) (r .rest .block) img)) refl
+      holding (sizeOf N img) (r .rest) (block (sizeOf N img) (r .rest .block) img) (blockState (block (sizeOf N img) (r .rest .block) img)) refl
       (bytes-block (sizeOf N img) (r .rest .block) img y) (looks .0)
 
   abbrev Asks : Ask → Type 0
-  Asks a = askOf (sizeOf N img) (r .rest .end) (surveyOf (blockState (block (sizeOf N img) (r .rest .block) img))) m ≡ a
+  Asks a = askOf (sizeOf N img) (r .rest) (surveyOf (blockState (block (sizeOf N img) (r .rest .block) img))) m ≡ a
 
   pub unheard : (reply : List ℕ) (why : Refusal) → Asks (ask.Refused why) → requestOn (asking N img r h m reply) ≡ refuseTo (asking N img r h m reply) why
   unfolding askOf
@@ -212,7 +217,7 @@ module _ (N : ℕ) (img : List ℕ) (r : Record) (h : Host) (m : List ℕ) (y : 
           let n : refusal.Malformed ≡ why = cc in
           rw (← n) (request-malformed a (p .ok) (p .host) x (p .idle) w s)
 
-      go : Holding (sizeOf N img) (r .rest .end) (blockState (block (sizeOf N img) (r .rest .block) img)) → requestOn a ≡ refuseTo a why
+      go : Holding (sizeOf N img) (r .rest) (blockState (block (sizeOf N img) (r .rest .block) img)) → requestOn a ≡ refuseTo a why
       go (holds-not f n) =
           let z : ask.Refused refusal.Stale ≡ ask.Refused why = rw (f, askOf) at e in
           let w : refusal.Stale ≡ why = cc in
@@ -237,6 +242,6 @@ module _ (N : ℕ) (img : List ℕ) (r : Record) (h : Host) (m : List ℕ) (y : 
           }
       on-message x Malformed w v s z = absurd (serve-not q refusal.Malformed z)
 
-      go : Holding (sizeOf N img) (r .rest .end) (blockState (block (sizeOf N img) (r .rest .block) img)) → Served N img r h m q
+      go : Holding (sizeOf N img) (r .rest) (blockState (block (sizeOf N img) (r .rest .block) img)) → Served N img r h m q
       go (holds-not f n) = absurd (serve-not q refusal.Stale (rw (f, askOf) at e))
       go (holds-so x f n v) = on-message x (parse m) (held-is (some x) n) v refl (rw (f, askOf) at e)

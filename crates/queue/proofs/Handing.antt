@@ -18,7 +18,7 @@ use Rattle.fetch.specs.declared.Found.{Found}
 use Rattle.fetch.specs.declared.Found.the-variants as found
 use Rattle.journal.specs.Block.{Journal, valid, blockState, lastTime}
 use Rattle.journal.specs.Replay.{lookup, isOpen}
-use Rattle.journal.specs.Room.{noRoom}
+use Rattle.journal.specs.Room.{noRoom, hostFull}
 use Rattle.journal.specs.Index.{placesOf, Value, valueAt}
 use Rattle.survey.specs.Survey.{surveyOf, placesIn}
 use Rattle.fetch.specs.Fetch.{foundOf}
@@ -41,7 +41,8 @@ use Rattle.board.specs.Record.{allowed, noPlaces, noFrame, Stretch, noStretch, 
 use Rattle.board.specs.Mount.{replayOf}
 use Rattle.board.proofs.Images.{Sized, sized-of, sized-block}
 use Rattle.board.proofs.Replies.{standing-of}
-use Rattle.board.specs.Queue.{append, serveChange, serveEnd, serveRead, serveLog, serve, stretchOf, requestOn, readOn, Asking, asking, sizeFor, movesFor, refuseTo}
+use Rattle.board.specs.Queue.{append, serveChange, serveEnd, serveRead, serveLog, serve, stretchOf, requestOn, readOn, Asking, asking, sizeFor}
+use Rattle.board.specs.Queue.{movesFor, refuseTo}
 use Rattle.queue.specs.declared.requests.Ask.{Ask}
 use Rattle.queue.specs.declared.requests.Ask.the-variants as ask
 use Rattle.job.specs.declared.Outcome.{Outcome}
@@ -76,7 +77,9 @@ module _ (a : Asking) (x : Journal) (w : Contents (block (sizeFor a) (a .board .
 
   change-none : (c : Change) → serveChange a x c .stretch ≡ noStretch
   unfolding serveChange
-  change-none c = cond-none (noRoom (sizeFor a) (replayOf x) (a .host) c) _ _ refl (append-none (change (a .host) c))
+  change-none c =
+      cond-none (hostFull (sizeFor a) (replayOf x) (a .host) c) _ _ refl
+      (cond-none (noRoom (sizeFor a) (replayOf x) (a .host) c) _ _ refl (append-none (change (a .host) c)))
 
   end-none : (f : Frame) → serveEnd a x f .stretch ≡ noStretch
   unfolding serveEnd
@@ -210,11 +213,11 @@ pub record Looked (N : ℕ) (img : List ℕ) (r : Record) (h : Host) (m : List �
   pub passed : Passed N img r h
   pub sized : size ≡ sizeOf N img
   pub survey : s ≡ surveyOf (blockState (block (sizeOf N img) (r .rest .block) img))
-  pub asks : a ≡ askOf size (r .rest .end) s m
+  pub asks : a ≡ askOf size (r .rest) s m
 
 module _ {N : ℕ} {img : List ℕ} {r : Record} {h : Host} {m : List ℕ} {size : ℕ} {s : Survey} {a : Ask} (l : Looked N img r h m size s a) where
-  asked : (b : Ask) → a ≡ b → askOf (sizeOf N img) (r .rest .end) (surveyOf (blockState (block (sizeOf N img) (r .rest .block) img))) m ≡ b
-  asked b e = ap₂ (λ (n : ℕ) (x : Survey). askOf n (r .rest .end) x m) (sym (l .sized)) (sym (l .survey)) ∙ sym (l .asks) ∙ e
+  asked : (b : Ask) → a ≡ b → askOf (sizeOf N img) (r .rest) (surveyOf (blockState (block (sizeOf N img) (r .rest .block) img))) m ≡ b
+  asked b e = ap₂ (λ (n : ℕ) (x : Survey). askOf n (r .rest) x m) (sym (l .sized)) (sym (l .survey)) ∙ sym (l .asks) ∙ e
 
   pub not-served : (reply : List ℕ) (why : Refusal) → a ≡ ask.Refused why → requestOn (asking N img r h m reply) ≡ refuseTo (asking N img r h m reply) why
   not-served reply why e = unheard N img r h m (l .bytes) (l .passed) reply why (asked (ask.Refused why) e)

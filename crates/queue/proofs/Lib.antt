@@ -1,3 +1,4 @@
 pub mod Images
 pub mod Asking
+pub mod Counts
 pub mod Handing

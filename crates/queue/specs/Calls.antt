@@ -5,6 +5,7 @@ use mathlib.Core.Bool.{Bool, true, false, _&&_, cond}
 use Prim.Native.Nat.{ℕ, _+_, _*_, _≤_}
 use lib.Dec.{eqb, leb}
 use lib.ListN.{length, getD}
+use Rattle.flash.specs.Bytes.{sameBytes}
 use Rattle.frame.specs.declared.Host.{Host}
 use Rattle.frame.specs.Frame.{hostMax, endLen}
 use Rattle.survey.specs.declared.Survey.{Survey}
@@ -55,17 +56,18 @@ gateOf N img p z h =
     (gate.Shut refusal.ImageLength)
 
 -- the block is as an idle record has it
-unfoldable pub asRecorded : ℕ → ℕ → Survey → Bool
-asRecorded size end s =
-    isValid (s .kind) && (eqb (s .torn) 0 && (eqb (s .end) end && leb (claimedIn s + endLen * openIn (s .pending)) size))
+unfoldable pub asRecorded : ℕ → Rest → Survey → Bool
+asRecorded size z s =
+    isValid (s .kind) && (eqb (s .torn) 0
+    && ((eqb (s .end) (z .end) && sameBytes (s .pending) (z .pending)) && leb (claimedIn s + endLen * openIn (s .pending)) size))
 
 abbrev pub askIf : Parsed → Ask
 askIf (Is q) = ask.Serve q
 askIf Malformed = ask.Refused refusal.Malformed
 
 -- 11, then 1
-unfoldable pub askOf : ℕ → ℕ → Survey → List ℕ → Ask
-askOf size end s m = cond (asRecorded size end s) (askIf (parse m)) (ask.Refused refusal.Stale)
+unfoldable pub askOf : ℕ → Rest → Survey → List ℕ → Ask
+askOf size z s m = cond (asRecorded size z s) (askIf (parse m)) (ask.Refused refusal.Stale)
 
 -- ---- a request
 

@@ -91,7 +91,7 @@ pub fn find(
             let mut places = records::no_places();
             let block = flash::block_of(image, size, rest.block);
             let s = survey::survey_block(block, &mut places);
-            match requests::hear(size, rest.end, s, message) {
+            match requests::hear(size, rest, s, message) {
                 Ask::Refused(why) => return nothing(why),
                 Ask::Serve(ask) => match value_for(block, &places, ask) {
                     Found::Nothing => return nothing(none_for(ask)),

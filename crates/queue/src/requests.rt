@@ -2,7 +2,7 @@
 ghost use mathlib.Core.Path.{_≡_};
 ghost use mathlib.Core.Bool.{_||_, cond};
 ghost use lib.Dec.{eqb};
-ghost use Rattle.flash.specs.Bytes.{allFF};
+ghost use Rattle.flash.specs.Bytes.{allFF, sameBytes};
 ghost use Rattle.flash.specs.Flash.{block, blockNumbers};
 ghost use Rattle.board.specs.Record.{noPlaces, noFrame, resting, idle, Out};
 ghost use Rattle.board.specs.Queue.{othersBlank, sameImage, asking, requestOn};
@@ -104,9 +104,25 @@ pub fn check(image: &[u8], blocks: u8, phase: Phase, rest: Rest, host: Host) -> 
     check_phase(image, blocks, phase, rest)
 }
 
+// The same number for each host.
+fn same_counts(counts: [u16; 4], others: [u16; 4]) -> bool
+    ensures { λ r. ⌜ r ≡ sameBytes counts others ⌝ }
+{
+    if counts[0] != others[0] {
+        return false;
+    }
+    if counts[1] != others[1] {
+        return false;
+    }
+    if counts[2] != others[2] {
+        return false;
+    }
+    counts[3] == others[3]
+}
+
 // The current block is as an idle record has it.
-fn as_recorded(size: usize, end: u16, s: Survey) -> bool
-    ensures { λ r. ⌜ r ≡ asRecorded size end s ⌝ }
+fn as_recorded(size: usize, rest: Rest, s: Survey) -> bool
+    ensures { λ r. ⌜ r ≡ asRecorded size rest s ⌝ }
 {
     let kind = s.kind;
     if !surveys::is_valid(kind) {
@@ -115,17 +131,21 @@ fn as_recorded(size: usize, end: u16, s: Survey) -> bool
     if s.torn != 0 {
         return false;
     }
-    if s.end != end {
+    if s.end != rest.end {
         return false;
     }
     let p = s.pending;
+    let q = rest.pending;
+    if !same_counts(p, q) {
+        return false;
+    }
     room::claimed(s) + room::END * room::open_hosts(p) <= size
 }
 
-pub fn hear(size: usize, end: u16, s: Survey, message: &[u8]) -> Ask
-    ensures { λ r. ⌜ r ≡ askOf size end s (now (message .entry)) ⌝ }
+pub fn hear(size: usize, rest: Rest, s: Survey, message: &[u8]) -> Ask
+    ensures { λ r. ⌜ r ≡ askOf size rest s (now (message .entry)) ⌝ }
 {
-    if !as_recorded(size, end, s) {
+    if !as_recorded(size, rest, s) {
         return Ask::Refused(Refusal::Stale);
     }
     match wire::parse(message) {
@@ -177,7 +197,7 @@ fn request_at(
         Gate::Open => {
             let size = flash::size_of(blocks, image.len());
             let s = survey::survey_block(flash::block_of(image, size, rest.block), places);
-            match hear(size, rest.end, s, message) {
+            match hear(size, rest, s, message) {
                 Ask::Refused(why) => return serving::refused(why, rest),
                 Ask::Serve(ask) => return serving::serve(
                     size as u16,

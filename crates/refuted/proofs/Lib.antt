@@ -4,5 +4,6 @@ pub mod RefutingRuns  -- the runs that tell, computed
 pub mod Refuting  -- none of them keeps the promise
 pub mod RefutingCut  -- demand 3 sees one that refuses a half-erased half
 pub mod RefutingOlder  -- demand 3 sees one that takes it for the current one
+pub mod RefutingShares  -- demand 3 sees one whose hosts may have more than S/2 bytes pending
 pub mod RefutingClauses  -- other clauses that see one alone
 pub mod RefutingRows  -- and yet all are right in every row

@@ -12,26 +12,29 @@ use Rattle.flash.specs.Bytes.{Bytes, allFF, sameBytes}
 use Rattle.flash.specs.Flash.{numbersFrom, sizeIn}
 use Rattle.frame.specs.Frame.{encodeAll, total}
 use Rattle.frame.specs.Reader.{match, readFrame, scan}
-use Rattle.journal.specs.Replay.{insert, changeAll, without, isOpen, replayFrom}
+use Rattle.journal.specs.Replay.{insert, lookup, changeAll, listOf, without, isOpen, replayFrom}
 use Rattle.flash.proofs.Cases.{and-left, and-right, clash}
 use Rattle.journal.specs.Block.{headerFault, blockState}
-use Rattle.journal.specs.Index.{placesFrom}
+use Rattle.journal.specs.Index.{sited, placesFrom, valueAt}
+use Rattle.wire.specs.Message.{parse}
 use Rattle.wire.specs.declared.Answer.the-variants.{More}
 use Rattle.board.specs.declared.Stage.the-variants.{Wipe}
 use Rattle.board.specs.declared.Phase.the-variants.{Unmounted, Idle, Busy}
 use Rattle.board.specs.declared.Record.{Record}
-use Rattle.board.specs.Record.{allowed, noPlaces, noFrame, unmounted, cursor, inStage}
+use Rattle.board.specs.Record.{allowed, noPlaces, noFrame, unmounted, rest, counting, idle, cursor, inStage}
 use Rattle.board.specs.Step.{advance, enterAppend, enterOpen, enterWipe, stepBusy, stepOn}
 use Rattle.board.specs.Mount.{mountAt, mountFound, mountOn, formatOrder, formatOn}
+use Rattle.board.specs.Queue.{fitsRecord, held, serve, requestOn}
 use Rattle.board.specs.Table.{Exactly, Misplaced, linesOf}
 use Rattle.board.specs.Demand1.{Declared, EndsWithin}
 use Rattle.board.specs.Exec.{Call, request, step, mount, format, Machine, exec}
 use Rattle.board.specs.Claim.{call}
-use Rattle.board.specs.Promise.{Promise, Kept, Shown, trace, ByteEvents, PromiseDetermines}
+use Rattle.board.specs.Promise.{Promise, Kept, Shown, trace, ByteEvents, PromiseDetermines, PromiseDeterminesFrom}
 use Rattle.refuted.specs.Wrong.{Wrongly, onBench, offBench, outsideIsDone, forgedWaits, erasesBlank, ignoresCount}
+use Rattle.refuted.specs.WrongShares.{takesAnyCounts}
 use Rattle.refuted.specs.Refuted.{RightOnBench, Refuted}
-use Rattle.refuted.specs.WrongRuns.{nothing, lastFrom, allBytes, bytesIn, begins, Differs, answered, half, blankHalf, stored}
-use Rattle.board.proofs.Determining.{promise-determines}
+use Rattle.refuted.specs.WrongRuns.{nothing, lastFrom, allBytes, bytesIn, begins, Differs, answered, half, blankHalf, stored, reads}
+use Rattle.board.proofs.Determining.{promise-determines, promise-determines-from}
 use Rattle.board.proofs.FollowingPlans.{promise}
 use Rattle.refuted.proofs.RefutingRuns.{runs}
 
@@ -137,6 +140,31 @@ stuck-declared = record { last = omega arith; wipes = omega arith; append = omeg
 forged-waits : Kept (offBench forgedWaits) → ⊥
 forged-waits p = never-ends 65536 (p 2 .calls .ends long stuck stuck-declared)
 
+-- host 0's bytes are said to be 1 where nothing is pending
+abbrev miscounted : Record
+miscounted = idle (counting (rest 2 767 0 32) (1 ∷ 0 ∷ 0 ∷ 0 ∷ []))
+
+abbrev seenOf : List Shown → ℕ
+seenOf xs = answered (lastFrom nothing xs)
+
+record Miscounted : Type 0 where
+  is-bytes : allBytes stored ≡ true
+  taken : seenOf (trace 2 (offBench takesAnyCounts 2) stored miscounted (call reads ∷ [])) ≡ 0
+  stale : seenOf (trace 2 (exec 2) stored miscounted (call reads ∷ [])) ≡ 11
+
+miscounted-read : Miscounted
+unfolding takesAnyCounts numbersFrom sizeIn allowed allFF sameBytes encodeAll total match readFrame scan insert lookup changeAll listOf without isOpen
+    replayFrom headerFault blockState placesFrom valueAt sited parse fitsRecord held serve requestOn noPlaces noFrame half blankHalf stored
+miscounted-read = record { is-bytes = refl; taken = refl; stale = refl }
+
+takes-any-counts : Kept (offBench takesAnyCounts) → ⊥
+unfolding PromiseDeterminesFrom
+takes-any-counts p =
+    let same : trace 2 (offBench takesAnyCounts 2) stored miscounted (call reads ∷ []) ≡ trace 2 (exec 2) stored miscounted (call reads ∷ []) =
+    promise-determines-from 2 (offBench takesAnyCounts 2) (exec 2) (p 2) promise stored miscounted (call reads ∷ [])
+    (bytes-all stored (miscounted-read .is-bytes)) tt (bytes-in (reads ∷ []) refl) in
+    eqb-false 0 11 refl (sym (miscounted-read .taken) ∙ ap seenOf same ∙ miscounted-read .stale)
+
 pub refuted : Refuted
 refuted =
     record {
@@ -177,4 +205,15 @@ refuted =
       erases-blank = differs erases-blank;
       ignores-count = ignores-count;
       even-only = differs (runs .even-only);
+      full-at-half = differs (runs .full-at-half);
+      full-by-all = differs (runs .full-by-all);
+      full-by-values = differs (runs .full-by-values);
+      full-by-image = differs (runs .full-by-image);
+      full-by-two = differs (runs .full-by-two);
+      deletes-pass = differs (runs .deletes-pass);
+      room-first = differs (runs .room-first);
+      abort-keeps = differs (runs .abort-keeps);
+      transfer-clears = differs (runs .transfer-clears);
+      mount-keeps = differs (runs .mount-keeps);
+      takes-any-counts = takes-any-counts;
     }

@@ -15,7 +15,7 @@ use Rattle.frame.specs.Frame.{encodeAll, total}
 use Rattle.frame.specs.Reader.{clean, match, readFrame, scan}
 use Rattle.journal.specs.Replay.{insert, remove, lookup, changeAll, listOf, without, isOpen, replayFrom}
 use Rattle.journal.specs.Block.{Journal, journal, BlockState, blank, valid, headerFault, blockState}
-use Rattle.journal.specs.Room.{noRoom}
+use Rattle.journal.specs.Room.{noRoom, hostFull}
 use Rattle.journal.specs.Index.{sited, placesFrom, sinceFrom, valueAt, nextSettled, nextPending, nextLoad}
 use Rattle.wire.specs.declared.Answer.{Answer}
 use Rattle.wire.specs.declared.Answer.the-variants.{More}
@@ -28,7 +28,7 @@ use Rattle.board.specs.declared.Record.{Record}
 use Rattle.board.specs.Record.{allowed, unmounted, Out, noPlaces, noFrame}
 use Rattle.board.specs.Step.{enterAppend, enterDrop, enterCopy, enterOpen, enterWipe, advance, stepBusy, stepOn}
 use Rattle.board.specs.Mount.{mountAt, mountFound, mountOn, formatOrder, formatOn}
-use Rattle.board.specs.Queue.{held, append, serveChange, serveEnd, serveLog, serve, requestOn}
+use Rattle.board.specs.Queue.{fitsRecord, held, append, serveChange, serveEnd, serveLog, serve, requestOn}
 use Rattle.board.specs.Exec.{step, mount, format, Machine}
 use Rattle.board.specs.Plan.{Follows}
 use Rattle.board.specs.Table.{isBusy}
@@ -42,6 +42,7 @@ use Rattle.refuted.specs.Seen.{Seen}
 use Rattle.refuted.proofs.Refuting.{bytes-all, bytes-in}
 use Rattle.refuted.proofs.RefutingCut.{img, empty, claimed-of, refuses-half-erased}
 use Rattle.refuted.proofs.RefutingOlder.{takes-half-erased}
+use Rattle.refuted.proofs.RefutingShares.{full-by-image}
 
 -- ---- a request of S + 1 steps
 
@@ -83,9 +84,9 @@ record Late : Type 0 where
 
 late-put : Late
 unfolding numbersFrom sizeIn allowed waitsLong allFF sameBytes applyAll writes encodeAll total match readFrame scan insert
-    remove lookup changeAll listOf without isOpen replayFrom headerFault blockState noRoom sited placesFrom sinceFrom valueAt nextSettled
+    remove lookup changeAll listOf without isOpen replayFrom headerFault blockState noRoom hostFull sited placesFrom sinceFrom valueAt nextSettled
     nextPending nextLoad parse noPlaces noFrame enterAppend enterDrop enterCopy enterOpen enterWipe advance stepBusy stepOn
-    held append serveChange serve requestOn half blankHalf
+    fitsRecord held append serveChange serve requestOn half blankHalf
 late-put = record { more = refl; phase = refl; size = refl; busy = refl }
 
 waits-long : Claim 2 late → ⊥
@@ -157,9 +158,9 @@ record Sparing : Type 0 where
 
 sparing-done : Sparing
 unfolding numbersFrom sizeIn allowed erasesOne allFF sameBytes applyAll writes encodeAll total match readFrame scan insert
-    remove lookup changeAll listOf without isOpen replayFrom headerFault blockState noRoom sited placesFrom sinceFrom valueAt nextSettled
+    remove lookup changeAll listOf without isOpen replayFrom headerFault blockState noRoom hostFull sited placesFrom sinceFrom valueAt nextSettled
     nextPending nextLoad parse noPlaces noFrame enterAppend enterDrop enterCopy enterOpen enterWipe advance stepBusy stepOn mountAt
-    mountFound mountOn held append serveChange serveEnd serveLog serve requestOn half blankHalf begun begunTwice
+    mountFound mountOn fitsRecord held append serveChange serveEnd serveLog serve requestOn half blankHalf begun begunTwice
 sparing-done = record { is-bytes = refl; allowed-length = refl; stale = refl }
 
 erases-one : UsableFrom 3 sparing → ⊥
@@ -174,6 +175,7 @@ seen =
       refuses-half-erased = refuses-half-erased;
       takes-half-erased = takes-half-erased;
       waits-long = waits-long;
+      full-by-image = full-by-image;
       formats-blindly = formats-blindly;
       erases-one = erases-one;
     }

@@ -15,15 +15,15 @@ use Rattle.frame.specs.declared.Field.the-variants as field
 use Rattle.frame.specs.Reader.{match, readFrame, scan, fault}
 use Rattle.journal.specs.Replay.{insert, remove, lookup, changeAll, listOf, without, isOpen, replayFrom}
 use Rattle.journal.specs.Block.{headerFault, blockState}
-use Rattle.journal.specs.Room.{noRoom}
+use Rattle.journal.specs.Room.{noRoom, hostFull}
 use Rattle.journal.specs.Index.{sited, placesFrom, sinceFrom, valueAt, nextSettled, nextPending, nextLoad}
 use Rattle.wire.specs.declared.Answer.the-variants.{Done, Refused}
 use Rattle.wire.specs.Message.{parse}
 use Rattle.board.specs.declared.Record.{Record}
-use Rattle.board.specs.Record.{allowed, unmounted, Out, out, rest, idle, noPlaces, noFrame}
+use Rattle.board.specs.Record.{allowed, unmounted, Out, out, rest, counting, idle, noPlaces, noFrame}
 use Rattle.board.specs.Step.{enterAppend, enterDrop, enterCopy, enterOpen, enterWipe, advance, stepBusy, stepOn}
 use Rattle.board.specs.Mount.{mountAt, mountFound, mountOn, formatOrder, formatOn, tiedTimes}
-use Rattle.board.specs.Queue.{held, append, serveChange, serveEnd, serveLog, serve, requestOn}
+use Rattle.board.specs.Queue.{fitsRecord, held, append, serveChange, serveEnd, serveLog, serve, requestOn}
 use Rattle.board.specs.Exec.{Call, step, mount, format, Machine}
 use Rattle.board.specs.Book.{Book, book, nothing, firstBook, join, enterCall}
 use Rattle.board.specs.Table.{InJob}
@@ -86,7 +86,7 @@ abbrev holding : Left
 holding =
     record {
       image = half 1 (change (hostOf 2) (put (idOf 7) []) ∷ []) ++ blankHalf;
-      board = idle (rest 2 767 0 24);
+      board = idle (counting (rest 2 767 0 24) (0 ∷ 0 ∷ 8 ∷ 0 ∷ []));
       book = join firstBook (hostOf 2) (put (idOf 7) []);
     }
 
@@ -116,9 +116,9 @@ record Computed : Type 0 where
 
 computed : Computed
 unfolding numbersFrom sizeIn allowed refusesHalfErased allFF sameBytes applyAll writes encodeAll total match readFrame scan insert
-    remove lookup changeAll listOf without isOpen replayFrom headerFault blockState noRoom sited placesFrom sinceFrom valueAt nextSettled
+    remove lookup changeAll listOf without isOpen replayFrom headerFault blockState noRoom hostFull sited placesFrom sinceFrom valueAt nextSettled
     nextPending nextLoad parse noPlaces noFrame enterAppend enterDrop enterCopy enterOpen enterWipe advance stepBusy stepOn mountAt
-    mountFound mountOn formatOrder formatOn held append serveChange serveEnd serveLog serve requestOn half blankHalf fading
+    mountFound mountOn formatOrder formatOn fitsRecord held append serveChange serveEnd serveLog serve requestOn half blankHalf fading
 computed =
     record {
       formatted-is = refl;

@@ -17,13 +17,16 @@ use Rattle.board.specs.Record.{unmounted, Out, out}
 use Rattle.board.specs.Exec.{Call, request, step, mount, format, exec}
 use Rattle.board.specs.Demand1.{OneStep}
 use Rattle.refuted.specs.Rows.{Ran, ran, drive, returned, ask, asked, cutIn, mounted, replayed, timed, part, rowA, rowB, rowC, rowD, rowE}
-use Rattle.refuted.specs.Rows.{rowF, rowG, rowH, rowI, rowK, rowLBefore, rowL, rowALong, rowO, commitMessage, putMessage, formatAnswer, Rows}
+use Rattle.refuted.specs.Rows.{rowF, rowG, rowH, stores, rowI, rowK, rowLDelete, rowL, rowM, rowALong, rowO, commitMessage, putMessage, deleteMessage}
+use Rattle.refuted.specs.Rows.{formatAnswer, Rows}
 use Rattle.refuted.specs.Wrong.{Wrongly, onBench, offBench, byAnswer, onImage}
 use Rattle.refuted.specs.Wrong.{refusesAll, refusesPuts, refusesHighIds, ownFormatsOnly, firstHalfOnly, hostFirst, refusalClears}
 use Rattle.refuted.specs.Wrong.{refusedLogWrites, readsAlike, inventsCount, neverCommits, abortsNothing, takesOthers, keepsOld}
 use Rattle.refuted.specs.Wrong.{programsNothing, wholeFrame, waitsLong, inventsStep, erasesFirst, outsideIsDone, forgedWaits, hurriedMount}
 use Rattle.refuted.specs.Wrong.{losesAll, keepsPending, refusesAlike, overlooksForeign, namesSecond, tiesAtStart, refusesHalfErased}
 use Rattle.refuted.specs.Wrong.{takesHalfErased, formatsAtOnce, formatsBlindly, goesBack, erasesOne, erasesBlank, ignoresCount, evenOnly}
+use Rattle.refuted.specs.WrongShares.{fullAtHalf, fullByAll, fullByValues, fullByImage, fullByTwo, deletesPass, roomFirst, abortKeeps}
+use Rattle.refuted.specs.WrongShares.{transferClears, mountKeeps, takesAnyCounts}
 use Rattle.refuted.specs.WrongRows.{RightInRows}
 use Rattle.board.proofs.Refusals.{at-most-one-step}
 use Rattle.refuted.proofs.Bench.{rows}
@@ -136,21 +139,29 @@ same-h : (w : Wrongly) → rowH (offBench w 2) ≡ rowH (exec 2)
 unfolding rowH
 same-h w = same-cut w (same-b w) 2 commitMessage 6 .same
 
+same-stores : {x y : Ran} (w : Wrongly) → Same x y → (i n : ℕ) → Same (stores (offBench w 2) x i n) (stores (exec 2) y i n)
+unfolding stores
+same-stores w z i n = same-asked w (same-asked w z 0 (putMessage i n)) 0 commitMessage
+
 same-i : (w : Wrongly) (n : ℕ) → Same (rowI (offBench w 2) n) (rowI (exec 2) n)
 unfolding rowI
-same-i w n = same-asked w (same-asked w (same-asked w (same-a w) 0 (putMessage 1 64)) 0 (putMessage 2 64)) 0 (putMessage 3 n)
+same-i w n = same-stores w (same-stores w (same-stores w (same-a w) 1 64) 2 64) 3 n
 
 same-k : (w : Wrongly) (n : ℕ) → Same (rowK (offBench w 2) n) (rowK (exec 2) n)
 unfolding rowK
 same-k w n = same-asked w (same-i w n) 0 commitMessage
 
-same-l-before : (w : Wrongly) → Same (rowLBefore (offBench w 2)) (rowLBefore (exec 2))
-unfolding rowLBefore
-same-l-before w = same-asked w (same-asked w (same-k w 64) 0 (0x06 ∷ 0x00 ∷ 0x02 ∷ 0x01 ∷ 0x01 ∷ 0x00 ∷ [])) 0 commitMessage
+same-l-delete : (w : Wrongly) → Same (rowLDelete (offBench w 2)) (rowLDelete (exec 2))
+unfolding rowLDelete
+same-l-delete w = same-asked w (same-k w 64) 0 deleteMessage
 
 same-l : (w : Wrongly) → rowL (offBench w 2) ≡ rowL (exec 2)
 unfolding rowL
-same-l w = same-asked w (same-l-before w) 0 (putMessage 4 0) .same
+same-l w = same-asked w (same-asked w (same-l-delete w) 0 commitMessage) 0 (putMessage 4 0) .same
+
+same-m : (w : Wrongly) (n : ℕ) → rowM (offBench w 2) n ≡ rowM (exec 2) n
+unfolding rowM
+same-m w n = same-cut w (same-k w 64) 0 deleteMessage n .same
 
 same-a-long : (w : Wrongly) → Same (rowALong (offBench w 2)) (rowALong (exec 2))
 unfolding rowALong
@@ -207,22 +218,35 @@ rows-kept w f =
       i-done = ap (λ (x : Ran). x .board) (same-i w 64 .same) ∙ rows .i-done;
       i-claimed = ap (λ (x : Ran). claimed (replayed 0 x)) (same-i w 64 .same) ∙ rows .i-claimed;
       j = ap (λ (x : Out). x .answer) (same-ask w (same-i w 64) 0 (putMessage 4 0)) ∙ rows .j;
+      k-commit = ap (λ (x : Ran). x .steps) (same-k w 64 .same) ∙ rows .k-commit;
       k-refused = ap (λ (x : Out). x .answer) (same-ask w (same-k w 64) 0 (putMessage 4 0)) ∙ rows .k-refused;
       k-accepted = ap (λ (x : Out). x .answer) (same-ask w (same-k w 63) 0 (putMessage 4 0)) ∙ rows .k-accepted;
-      l-end = ap (λ (x : Ran). x .board) (same-l-before w .same) ∙ rows .l-end;
+      l-transfer = ap (λ (x : Ran). x .steps) (same-l-delete w .same) ∙ rows .l-transfer;
+      l-pending = ap (λ (x : Ran). x .board) (same-l-delete w .same) ∙ rows .l-pending;
       l-steps = ap (λ (x : Ran). x .steps) (same-l w) ∙ rows .l-steps;
       l-done = ap (λ (x : Ran). x .board) (same-l w) ∙ rows .l-done;
       l-old = ap (λ (x : Ran). part 0 256 (x .image)) (same-l w) ∙ rows .l-old;
       l-header = ap (λ (x : Ran). part 256 16 (x .image)) (same-l w) ∙ rows .l-header;
-      l-settled-2 = ap (λ (x : Ran). part 272 71 (x .image)) (same-l w) ∙ rows .l-settled-2;
-      l-settled-3 = ap (λ (x : Ran). part 343 71 (x .image)) (same-l w) ∙ rows .l-settled-3;
-      l-put = ap (λ (x : Ran). part 414 8 (x .image)) (same-l w) ∙ rows .l-put;
-      l-rest = ap (λ (x : Ran). drop 422 (x .image)) (same-l w) ∙ rows .l-rest;
+      l-settled-1 = ap (λ (x : Ran). part 272 71 (x .image)) (same-l w) ∙ rows .l-settled-1;
+      l-settled-2 = ap (λ (x : Ran). part 343 71 (x .image)) (same-l w) ∙ rows .l-settled-2;
+      l-settled-3 = ap (λ (x : Ran). part 414 71 (x .image)) (same-l w) ∙ rows .l-settled-3;
+      l-delete = ap (λ (x : Ran). part 485 8 (x .image)) (same-l w) ∙ rows .l-delete;
+      l-commit = ap (λ (x : Ran). part 493 6 (x .image)) (same-l w) ∙ rows .l-commit;
+      l-put = ap (λ (x : Ran). part 499 8 (x .image)) (same-l w) ∙ rows .l-put;
+      l-rest = ap (λ (x : Ran). drop 507 (x .image)) (same-l w) ∙ rows .l-rest;
+      m-222-steps = ap (λ (x : Ran). x .steps) (same-m w 222) ∙ rows .m-222-steps;
+      m-222-done = ap (λ (x : Ran). x .board) (same-m w 222) ∙ rows .m-222-done;
+      m-222-holds = ap (λ (x : Ran). replayed 0 x) (same-m w 222) ∙ rows .m-222-holds;
+      m-223-steps = ap (λ (x : Ran). x .steps) (same-m w 223) ∙ rows .m-223-steps;
+      m-223-done = ap (λ (x : Ran). x .board) (same-m w 223) ∙ rows .m-223-done;
+      m-223-holds = ap (λ (x : Ran). replayed 1 x) (same-m w 223) ∙ rows .m-223-holds;
       n = ap (λ (x : Out). x .answer) (same-ask w (same-a w) 0 (0x05 ∷ 0x00 ∷ 0x03 ∷ 0x01 ∷ [])) ∙ rows .n;
       o-240-steps = ap (λ (x : Ran). x .steps) (same-o w 240) ∙ rows .o-240-steps;
       o-240-done = ap (λ (x : Ran). x .board) (same-o w 240) ∙ rows .o-240-done;
       o-241 = ap (λ (x : Ran). x .answer) (same-o w 241) ∙ rows .o-241;
       o-240-short = ap (λ (x : Out). x .answer) (same-ask w (same-a w) 0 (putMessage 9 240)) ∙ rows .o-240-short;
+      o-120-short = ap (λ (x : Out). x .answer) (same-ask w (same-a w) 0 (putMessage 9 120)) ∙ rows .o-120-short;
+      o-121-short = ap (λ (x : Out). x .answer) (same-ask w (same-a w) 0 (putMessage 9 121)) ∙ rows .o-121-short;
       p-512 = same-format w f 512 ∙ rows .p-512;
       p-768 = same-format w f 768 ∙ rows .p-768;
       p-65536 = same-format w f 65536 ∙ rows .p-65536;
@@ -246,10 +270,10 @@ formats-blindly img r o =
     accepted-answer (o .answer) o (out (o .answer) img (exec 2 (replicate (length img) 0xFF) unmounted format .board) []) refl
 
 pub right-in-rows : RightInRows
-unfolding refusesAll refusesPuts refusesHighIds ownFormatsOnly firstHalfOnly hostFirst refusalClears refusedLogWrites readsAlike
-    inventsCount neverCommits abortsNothing takesOthers keepsOld programsNothing wholeFrame waitsLong inventsStep erasesFirst outsideIsDone
-    forgedWaits hurriedMount losesAll keepsPending refusesAlike overlooksForeign namesSecond tiesAtStart refusesHalfErased takesHalfErased
-    goesBack erasesOne erasesBlank ignoresCount evenOnly
+unfolding refusesAll refusesPuts refusesHighIds ownFormatsOnly firstHalfOnly hostFirst refusalClears refusedLogWrites readsAlike inventsCount neverCommits
+    abortsNothing takesOthers keepsOld programsNothing wholeFrame waitsLong inventsStep erasesFirst outsideIsDone forgedWaits hurriedMount losesAll
+    keepsPending refusesAlike overlooksForeign namesSecond tiesAtStart refusesHalfErased takesHalfErased goesBack erasesOne erasesBlank ignoresCount
+    evenOnly fullAtHalf fullByAll fullByValues fullByImage fullByTwo deletesPass roomFirst abortKeeps transferClears mountKeeps takesAnyCounts
 right-in-rows =
     record {
       refuses-all = rows-kept refusesAll (λ img r o. refl);
@@ -289,4 +313,15 @@ right-in-rows =
       erases-blank = rows-kept erasesBlank (λ img r o. refl);
       ignores-count = rows-kept ignoresCount (λ img r o. refl);
       even-only = rows-kept evenOnly (λ img r o. refl);
+      full-at-half = rows-kept fullAtHalf (λ img r o. refl);
+      full-by-all = rows-kept fullByAll (λ img r o. refl);
+      full-by-values = rows-kept fullByValues (λ img r o. refl);
+      full-by-image = rows-kept fullByImage (λ img r o. refl);
+      full-by-two = rows-kept fullByTwo (λ img r o. refl);
+      deletes-pass = rows-kept deletesPass (λ img r o. refl);
+      room-first = rows-kept roomFirst (λ img r o. refl);
+      abort-keeps = rows-kept abortKeeps (λ img r o. refl);
+      transfer-clears = rows-kept transferClears (λ img r o. refl);
+      mount-keeps = rows-kept mountKeeps (λ img r o. refl);
+      takes-any-counts = rows-kept takesAnyCounts (λ img r o. refl);
     }

@@ -6,31 +6,33 @@ use Rattle.frame.specs.Frame.{encodeAll, total}
 use Rattle.frame.specs.Reader.{match, readFrame, scan}
 use Rattle.journal.specs.Replay.{insert, remove, lookup, changeAll, listOf, without, isOpen, replayFrom}
 use Rattle.journal.specs.Block.{headerFault, blockState}
-use Rattle.journal.specs.Room.{noRoom}
+use Rattle.journal.specs.Room.{noRoom, hostFull}
 use Rattle.journal.specs.Index.{sited, placesFrom, sinceFrom, valueAt, nextSettled, nextPending, nextLoad}
 use Rattle.wire.specs.Message.{parse}
 use Rattle.board.specs.Record.{allowed, noPlaces, noFrame}
 use Rattle.board.specs.Step.{enterAppend, enterDrop, enterCopy, enterOpen, enterWipe, advance, stepBusy, stepOn}
 use Rattle.board.specs.Mount.{mountAt, mountFound, mountOn, formatOrder, formatOn}
-use Rattle.board.specs.Queue.{held, append, serveChange, serveEnd, serveLog, serve, requestOn}
+use Rattle.board.specs.Queue.{fitsRecord, held, append, serveChange, serveEnd, serveLog, serve, requestOn}
 use Rattle.refuted.specs.Wrong.{refusesAll, refusesPuts, refusesHighIds, ownFormatsOnly, firstHalfOnly, hostFirst, refusalClears}
 use Rattle.refuted.specs.Wrong.{refusedLogWrites, readsAlike, inventsCount, neverCommits, abortsNothing, takesOthers, keepsOld}
 use Rattle.refuted.specs.Wrong.{programsNothing, wholeFrame, waitsLong, inventsStep, erasesFirst, hurriedMount, losesAll, keepsPending}
 use Rattle.refuted.specs.Wrong.{refusesAlike, overlooksForeign, namesSecond, tiesAtStart, refusesHalfErased, takesHalfErased, formatsAtOnce}
 use Rattle.refuted.specs.Wrong.{formatsBlindly, goesBack, erasesOne, evenOnly}
+use Rattle.refuted.specs.WrongShares.{fullAtHalf, fullByAll, fullByValues, fullByImage, fullByTwo, deletesPass, roomFirst, abortKeeps}
+use Rattle.refuted.specs.WrongShares.{transferClears, mountKeeps}
 use Rattle.refuted.specs.WrongRuns.{half, blankHalf, stored, pending, later, second, begun, twice, tiedHalves, bothStrange, strange}
-use Rattle.refuted.specs.WrongRuns.{halfErased, seemsEmpty, inMiddle, begunTwice, storedFirst, Runs}
+use Rattle.refuted.specs.WrongRuns.{halfErased, seemsEmpty, heavy, nearlyFull, inMiddle, begunTwice, storedFirst, Runs}
 
 pub runs : Runs
 unfolding numbersFrom sizeIn allowed refusesAll refusesPuts refusesHighIds ownFormatsOnly firstHalfOnly hostFirst refusalClears refusedLogWrites readsAlike
     inventsCount neverCommits abortsNothing takesOthers keepsOld programsNothing wholeFrame waitsLong inventsStep erasesFirst hurriedMount losesAll
     keepsPending refusesAlike overlooksForeign namesSecond tiesAtStart refusesHalfErased takesHalfErased formatsAtOnce formatsBlindly goesBack erasesOne
-    evenOnly
-    allFF sameBytes applyAll writes encodeAll total match readFrame scan insert
-    remove lookup changeAll listOf without isOpen replayFrom headerFault blockState noRoom sited placesFrom sinceFrom valueAt nextSettled
-    nextPending nextLoad parse noPlaces noFrame enterAppend enterDrop enterCopy enterOpen enterWipe advance stepBusy stepOn mountAt
-    mountFound mountOn formatOrder formatOn held append serveChange serveEnd serveLog serve requestOn half blankHalf stored pending later second begun
-    twice tiedHalves bothStrange strange halfErased seemsEmpty inMiddle begunTwice storedFirst
+    evenOnly allFF sameBytes applyAll writes encodeAll total match readFrame scan insert remove lookup changeAll listOf without isOpen replayFrom
+    headerFault blockState noRoom hostFull sited placesFrom sinceFrom valueAt nextSettled nextPending nextLoad parse noPlaces noFrame enterAppend enterDrop
+    enterCopy enterOpen enterWipe advance stepBusy stepOn mountAt mountFound mountOn formatOrder formatOn fitsRecord held append serveChange serveEnd
+    serveLog serve requestOn half blankHalf stored pending later second begun twice tiedHalves bothStrange strange halfErased seemsEmpty inMiddle
+    begunTwice storedFirst heavy nearlyFull fullAtHalf fullByAll fullByValues fullByImage fullByTwo deletesPass roomFirst abortKeeps transferClears
+    mountKeeps
 runs =
     record {
       refuses-all = record { is-run = refl; shows-wrong = refl; shows-right = refl; apart = refl };
@@ -66,4 +68,14 @@ runs =
       goes-back = record { is-run = refl; shows-wrong = refl; shows-right = refl; apart = refl };
       erases-one = record { is-run = refl; shows-wrong = refl; shows-right = refl; apart = refl };
       even-only = record { is-run = refl; shows-wrong = refl; shows-right = refl; apart = refl };
+      full-at-half = record { is-run = refl; shows-wrong = refl; shows-right = refl; apart = refl };
+      full-by-all = record { is-run = refl; shows-wrong = refl; shows-right = refl; apart = refl };
+      full-by-values = record { is-run = refl; shows-wrong = refl; shows-right = refl; apart = refl };
+      full-by-image = record { is-run = refl; shows-wrong = refl; shows-right = refl; apart = refl };
+      full-by-two = record { is-run = refl; shows-wrong = refl; shows-right = refl; apart = refl };
+      deletes-pass = record { is-run = refl; shows-wrong = refl; shows-right = refl; apart = refl };
+      room-first = record { is-run = refl; shows-wrong = refl; shows-right = refl; apart = refl };
+      abort-keeps = record { is-run = refl; shows-wrong = refl; shows-right = refl; apart = refl };
+      transfer-clears = record { is-run = refl; shows-wrong = refl; shows-right = refl; apart = refl };
+      mount-keeps = record { is-run = refl; shows-wrong = refl; shows-right = refl; apart = refl };
     }

@@ -1,5 +1,6 @@
 pub mod Rows
 pub mod Wrong
+pub mod WrongShares
 pub mod Refuted
 pub mod WrongRuns
 pub mod Seen

@@ -12,6 +12,8 @@ use Rattle.refuted.specs.Wrong.{refusalClears, refusedLogWrites, readsAl
 use Rattle.refuted.specs.Wrong.{keepsOld, programsNothing, wholeFrame, waitsLong, inventsStep, erasesFirst, outsideIsDone, forgedWaits, hurriedMount}
 use Rattle.refuted.specs.Wrong.{losesAll, keepsPending, refusesAlike, overlooksForeign, namesSecond, tiesAtStart, refusesHalfErased}
 use Rattle.refuted.specs.Wrong.{takesHalfErased, formatsAtOnce, formatsBlindly, goesBack, erasesOne, erasesBlank, ignoresCount, evenOnly}
+use Rattle.refuted.specs.WrongShares.{fullAtHalf, fullByAll, fullByValues, fullByImage, fullByTwo, deletesPass, roomFirst, abortKeeps}
+use Rattle.refuted.specs.WrongShares.{transferClears, mountKeeps, takesAnyCounts}
 
 -- on the bench's images, whatever is done off it; for the rows one by one see WrongRows
 unfoldable pub RightOnBench : Type 0
@@ -56,3 +58,14 @@ pub record Refuted : Type 0 where
   pub erases-blank : Kept (offBench erasesBlank) → ⊥
   pub ignores-count : Kept (offBench ignoresCount) → ⊥
   pub even-only : Kept (offBench evenOnly) → ⊥
+  pub full-at-half : Kept (offBench fullAtHalf) → ⊥
+  pub full-by-all : Kept (offBench fullByAll) → ⊥
+  pub full-by-values : Kept (offBench fullByValues) → ⊥
+  pub full-by-image : Kept (offBench fullByImage) → ⊥
+  pub full-by-two : Kept (offBench fullByTwo) → ⊥
+  pub deletes-pass : Kept (offBench deletesPass) → ⊥
+  pub room-first : Kept (offBench roomFirst) → ⊥
+  pub abort-keeps : Kept (offBench abortKeeps) → ⊥
+  pub transfer-clears : Kept (offBench transferClears) → ⊥
+  pub mount-keeps : Kept (offBench mountKeeps) → ⊥
+  pub takes-any-counts : Kept (offBench takesAnyCounts) → ⊥

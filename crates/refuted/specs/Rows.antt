@@ -1,19 +1,19 @@
--- Document 01's starred bench rows, S = 256, rows l and p, and row o's values as document 02, K2 has them: one table over a machine of
--- two blocks.
+-- Document 01's starred bench rows, S = 256, rows l, m and p; rows i to m as document 02, K7 has them, row o's values as K2 has them: one
+-- table over a machine of two blocks.
 use mathlib.Core.List.{List, [], _∷_, _++_}
 use mathlib.Core.Path.{_≡_}
 use Prim.Native.Nat.{ℕ, zero, suc, _+_}
 use lib.ListN.{take, drop, replicate}
 use Rattle.flash.specs.Flash.{block}
 use Rattle.frame.specs.Frame.{hostOf, idOf}
-use Rattle.journal.specs.Replay.{State, state, object, replay}
+use Rattle.journal.specs.Replay.{Object, State, state, object, replay}
 use Rattle.journal.specs.Block.{blockState, framesIn, timeIn}
 use Rattle.journal.specs.Room.{claimed}
 use Rattle.wire.specs.declared.Answer.{Answer}
 use Rattle.wire.specs.declared.Answer.the-variants.{Done, More, Refused}
 use Rattle.wire.specs.declared.Refusal.the-variants as refusal
 use Rattle.board.specs.declared.Record.{Record}
-use Rattle.board.specs.Record.{unmounted, rest, idle, Out}
+use Rattle.board.specs.Record.{unmounted, rest, counting, idle, Out}
 use Rattle.board.specs.Exec.{request, step, mount, format, Machine}
 
 -- what a call and its steps give, and how many step calls it took
@@ -101,18 +101,33 @@ rowH m = mounted m (cutIn m (rowB m) 2 commitMessage 6)
 unfoldable pub putMessage : ℕ → ℕ → List ℕ
 putMessage i n = (6 + n) ∷ 0x00 ∷ 0x01 ∷ 0x01 ∷ i ∷ 0x00 ∷ replicate n 0x41
 
+-- host 0 puts n bytes to an id. K7: "each put of i gets a commit"
+unfoldable pub stores : Machine → Ran → ℕ → ℕ → Ran
+stores m r i n = asked m (asked m r 0 (putMessage i n)) 0 commitMessage
+
 unfoldable pub rowI : Machine → ℕ → Ran
-rowI m last = asked m (asked m (asked m (rowA m) 0 (putMessage 1 64)) 0 (putMessage 2 64)) 0 (putMessage 3 last)
+rowI m last = stores m (stores m (stores m (rowA m) 1 64) 2 64) 3 last
 
 unfoldable pub rowK : Machine → ℕ → Ran
 rowK m last = asked m (rowI m last) 0 commitMessage
 
--- row l before its last put: "after i, commit, delete 1, commit"
-unfoldable pub rowLBefore : Machine → Ran
-rowLBefore m = asked m (asked m (rowK m 64) 0 (0x06 ∷ 0x00 ∷ 0x02 ∷ 0x01 ∷ 0x01 ∷ 0x00 ∷ [])) 0 commitMessage
+-- row l in parts: "after i, commit, delete 1", "commit", "same put"
+unfoldable pub deleteMessage : List ℕ
+deleteMessage = 0x06 ∷ 0x00 ∷ 0x02 ∷ 0x01 ∷ 0x01 ∷ 0x00 ∷ []
+
+unfoldable pub rowLDelete : Machine → Ran
+rowLDelete m = asked m (rowK m 64) 0 deleteMessage
 
 unfoldable pub rowL : Machine → Ran
-rowL m = asked m (rowLBefore m) 0 (putMessage 4 0)
+rowL m = asked m (asked m (rowLDelete m) 0 commitMessage) 0 (putMessage 4 0)
+
+-- K7: "m cuts that delete after 222 or 223 steps"
+unfoldable pub rowM : Machine → ℕ → Ran
+rowM m n = mounted m (cutIn m (rowK m 64) 0 deleteMessage n)
+
+-- ids 1, 2 and 3, with 64 bytes each
+unfoldable pub three : List Object
+three = object (idOf 1) (replicate 64 0x41) ∷ object (idOf 2) (replicate 64 0x41) ∷ object (idOf 3) (replicate 64 0x41) ∷ []
 
 -- "Row o's value cases become 240 and 241 on a 1,024-byte image": row a there, and a put of n bytes
 unfoldable pub rowALong : Machine → Ran
@@ -134,7 +149,8 @@ pub record Rows (m : Machine) : Type 0 where
       ≡ 0x10 ∷ 0x00 ∷ 0x01 ∷ 0x4A ∷ 0xFE ∷ 0xFF ∷ 0xFF ∷ 0xFF ∷ 0xFC ∷ 0xFF ∷ 0xFF ∷ 0xFF ∷ 0xFF ∷ 0xFF ∷ 0xFF ∷ 0xFF ∷ []
   pub a-rest : drop 16 (rowA m .image) ≡ replicate 496 0xFF
   pub b-steps : rowB m .steps ≡ 10
-  pub b-done : rowB m .board ≡ idle (rest 2 511 0 26)
+  -- the put's ten bytes are pending, host 2's
+  pub b-done : rowB m .board ≡ idle (counting (rest 2 511 0 26) (0 ∷ 0 ∷ 10 ∷ 0 ∷ []))
   pub b-frame : part 16 10 (rowB m .image) ≡ 0x0A ∷ 0x00 ∷ 0x01 ∷ 0x00 ∷ 0x02 ∷ 0x05 ∷ 0x00 ∷ 0x41 ∷ 0x42 ∷ 0xFE ∷ []
   pub c-steps : rowC m .steps ≡ 6
   pub c-frame : part 26 6 (rowC m .image) ≡ 0x06 ∷ 0x00 ∷ 0x03 ∷ 0x00 ∷ 0x02 ∷ 0xFE ∷ []
@@ -155,30 +171,47 @@ pub record Rows (m : Machine) : Type 0 where
   pub h-steps : rowH m .steps ≡ 0
   pub h-done : rowH m .board ≡ idle (rest 2 511 0 32)
   pub h-holds : replayed 0 (rowH m) ≡ state (object (idOf 5) (0x41 ∷ 0x42 ∷ []) ∷ []) []
+  -- three puts of 72 bytes and three commits of 6 after the header's 16; C = U = 16 + 3·71
   pub i-accepted : ask m (rowA m) 0 (putMessage 1 64) .answer ≡ More
-  pub i-done : rowI m 64 .board ≡ idle (rest 2 511 0 232)
-  pub i-claimed : claimed (replayed 0 (rowI m 64)) ≡ 232
+  pub i-done : rowI m 64 .board ≡ idle (rest 2 511 0 250)
+  pub i-claimed : claimed (replayed 0 (rowI m 64)) ≡ 229
+  -- 229 + 8 + 6 + 14 = 257; with 63 bytes in id 3 256. The commit of row k has nothing pending
   pub j : ask m (rowI m 64) 0 (putMessage 4 0) .answer ≡ Refused refusal.NoRoom
+  pub k-commit : rowK m 64 .steps ≡ 0
   pub k-refused : ask m (rowK m 64) 0 (putMessage 4 0) .answer ≡ Refused refusal.NoRoom
   pub k-accepted : ask m (rowK m 63) 0 (putMessage 4 0) .answer ≡ More
-  pub l-end : rowLBefore m .board ≡ idle (rest 2 511 0 252)
-  pub l-steps : rowL m .steps ≡ 161
-  -- beyond row l: what the transfer leaves, byte for byte. The old half blank; the new one's header at time 2, the settled frames of ids 2 and 3,
-  -- 71 bytes each, then the put
-  pub l-done : rowL m .board ≡ idle (rest 2 511 1 166)
+  -- 250 + 8 > 256: C - 5 = 224 steps, then the delete's 8. Its frame ends at 229 + 8 and is pending
+  pub l-transfer : rowLDelete m .steps ≡ 232
+  pub l-pending : rowLDelete m .board ≡ idle (counting (rest 2 511 1 237) (8 ∷ 0 ∷ 0 ∷ 0 ∷ []))
+  pub l-steps : rowL m .steps ≡ 8
+  -- beyond row l: what it leaves, byte for byte. The old half blank; the new one's header at time 2, the settled frames of ids 1, 2 and 3, 71
+  -- bytes each, then delete, commit and put
+  pub l-done : rowL m .board ≡ idle (counting (rest 2 511 1 251) (8 ∷ 0 ∷ 0 ∷ 0 ∷ []))
   pub l-old : part 0 256 (rowL m .image) ≡ replicate 256 0xFF
   pub l-header : part 256 16 (rowL m .image)
       ≡ 0x10 ∷ 0x00 ∷ 0x01 ∷ 0x4A ∷ 0xFD ∷ 0xFF ∷ 0xFF ∷ 0xFF ∷ 0xFC ∷ 0xFF ∷ 0xFF ∷ 0xFF ∷ 0xFF ∷ 0xFF ∷ 0xFF ∷ 0xFF ∷ []
-  pub l-settled-2 : part 272 71 (rowL m .image) ≡ 0x47 ∷ 0x00 ∷ 0x05 ∷ 0x00 ∷ 0x02 ∷ 0x00 ∷ (replicate 64 0x41 ++ (0xFE ∷ []))
-  pub l-settled-3 : part 343 71 (rowL m .image) ≡ 0x47 ∷ 0x00 ∷ 0x05 ∷ 0x00 ∷ 0x03 ∷ 0x00 ∷ (replicate 64 0x41 ++ (0xFE ∷ []))
-  pub l-put : part 414 8 (rowL m .image) ≡ 0x08 ∷ 0x00 ∷ 0x01 ∷ 0x00 ∷ 0x00 ∷ 0x04 ∷ 0x00 ∷ 0xFE ∷ []
-  pub l-rest : drop 422 (rowL m .image) ≡ replicate 90 0xFF
+  pub l-settled-1 : part 272 71 (rowL m .image) ≡ 0x47 ∷ 0x00 ∷ 0x05 ∷ 0x00 ∷ 0x01 ∷ 0x00 ∷ (replicate 64 0x41 ++ (0xFE ∷ []))
+  pub l-settled-2 : part 343 71 (rowL m .image) ≡ 0x47 ∷ 0x00 ∷ 0x05 ∷ 0x00 ∷ 0x02 ∷ 0x00 ∷ (replicate 64 0x41 ++ (0xFE ∷ []))
+  pub l-settled-3 : part 414 71 (rowL m .image) ≡ 0x47 ∷ 0x00 ∷ 0x05 ∷ 0x00 ∷ 0x03 ∷ 0x00 ∷ (replicate 64 0x41 ++ (0xFE ∷ []))
+  pub l-delete : part 485 8 (rowL m .image) ≡ 0x08 ∷ 0x00 ∷ 0x02 ∷ 0x00 ∷ 0x00 ∷ 0x01 ∷ 0x00 ∷ 0xFE ∷ []
+  pub l-commit : part 493 6 (rowL m .image) ≡ 0x06 ∷ 0x00 ∷ 0x03 ∷ 0x00 ∷ 0x00 ∷ 0xFE ∷ []
+  pub l-put : part 499 8 (rowL m .image) ≡ 0x08 ∷ 0x00 ∷ 0x01 ∷ 0x00 ∷ 0x00 ∷ 0x04 ∷ 0x00 ∷ 0xFE ∷ []
+  pub l-rest : drop 507 (rowL m .image) ≡ replicate 5 0xFF
+  -- the 223rd step says 0xFC: before it the old half is current, after it the new one. The mount erases the other
+  pub m-222-steps : rowM m 222 .steps ≡ 1
+  pub m-222-done : rowM m 222 .board ≡ idle (rest 2 511 0 250)
+  pub m-222-holds : replayed 0 (rowM m 222) ≡ state three []
+  pub m-223-steps : rowM m 223 .steps ≡ 1
+  pub m-223-done : rowM m 223 .board ≡ idle (rest 2 511 1 229)
+  pub m-223-holds : replayed 1 (rowM m 223) ≡ state three []
   pub n : ask m (rowA m) 0 (0x05 ∷ 0x00 ∷ 0x03 ∷ 0x01 ∷ []) .answer ≡ Refused refusal.Malformed
   pub o-240-steps : rowO m 240 .steps ≡ 248
-  pub o-240-done : rowO m 240 .board ≡ idle (rest 2 1023 0 264)
+  pub o-240-done : rowO m 240 .board ≡ idle (counting (rest 2 1023 0 264) (248 ∷ 0 ∷ 0 ∷ 0 ∷ []))
   pub o-241 : rowO m 241 .answer ≡ Refused refusal.Malformed
-  -- beyond row o: where S is 256 there is no room for the longest value
-  pub o-240-short : ask m (rowA m) 0 (putMessage 9 240) .answer ≡ Refused refusal.NoRoom
+  -- beyond row o, K7: where S is 256 a host's pending frames come to 128 bytes at most, so a value has 120 at most
+  pub o-240-short : ask m (rowA m) 0 (putMessage 9 240) .answer ≡ Refused refusal.HostFull
+  pub o-120-short : ask m (rowA m) 0 (putMessage 9 120) .answer ≡ More
+  pub o-121-short : ask m (rowA m) 0 (putMessage 9 121) .answer ≡ Refused refusal.HostFull
   pub p-512 : formatAnswer m 512 ≡ More
   pub p-768 : formatAnswer m 768 ≡ More
   pub p-65536 : formatAnswer m 65536 ≡ More

@@ -5,6 +5,8 @@ use Rattle.refuted.specs.Wrong.{refusalClears, refusedLogWrites, readsAl
 use Rattle.refuted.specs.Wrong.{keepsOld, programsNothing, wholeFrame, waitsLong, inventsStep, erasesFirst, outsideIsDone, forgedWaits}
 use Rattle.refuted.specs.Wrong.{hurriedMount, losesAll, keepsPending, refusesAlike, overlooksForeign, namesSecond, tiesAtStart, refusesHalfErased}
 use Rattle.refuted.specs.Wrong.{takesHalfErased, formatsAtOnce, formatsBlindly, goesBack, erasesOne, erasesBlank, ignoresCount, evenOnly}
+use Rattle.refuted.specs.WrongShares.{fullAtHalf, fullByAll, fullByValues, fullByImage, fullByTwo, deletesPass, roomFirst, abortKeeps}
+use Rattle.refuted.specs.WrongShares.{transferClears, mountKeeps, takesAnyCounts}
 
 pub record RightInRows : Type 0 where
   pub refuses-all : Rows (offBench refusesAll 2)
@@ -44,3 +46,14 @@ pub record RightInRows : Type 0 where
   pub erases-blank : Rows (offBench erasesBlank 2)
   pub ignores-count : Rows (offBench ignoresCount 2)
   pub even-only : Rows (offBench evenOnly 2)
+  pub full-at-half : Rows (offBench fullAtHalf 2)
+  pub full-by-all : Rows (offBench fullByAll 2)
+  pub full-by-values : Rows (offBench fullByValues 2)
+  pub full-by-image : Rows (offBench fullByImage 2)
+  pub full-by-two : Rows (offBench fullByTwo 2)
+  pub deletes-pass : Rows (offBench deletesPass 2)
+  pub room-first : Rows (offBench roomFirst 2)
+  pub abort-keeps : Rows (offBench abortKeeps 2)
+  pub transfer-clears : Rows (offBench transferClears 2)
+  pub mount-keeps : Rows (offBench mountKeeps 2)
+  pub takes-any-counts : Rows (offBench takesAnyCounts 2)

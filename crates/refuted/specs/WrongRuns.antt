@@ -3,10 +3,10 @@ use mathlib.Core.List.{List, [], _∷_, _++_, map}
 use mathlib.Core.Option.{none}
 use mathlib.Core.Bool.{Bool, true, false, _&&_}
 use mathlib.Core.Path.{_≡_}
-use Prim.Native.Nat.{ℕ, zero, suc, _-_}
+use Prim.Native.Nat.{ℕ, zero, suc, _+_, _-_}
 use lib.Dec.{eqb, ltb}
 use lib.ListN.{length, getD, drop, replicate}
-use Rattle.frame.specs.Frame.{hostOf, idOf, put, change, commit, Frame, encodeAll}
+use Rattle.frame.specs.Frame.{hostOf, idOf, put, change, commit, abort, settled, Frame, encodeAll}
 use Rattle.journal.specs.Block.{header, inTransfer, validData}
 use Rattle.wire.specs.declared.Answer.the-variants.{Refused}
 use Rattle.wire.specs.declared.Refusal.the-variants as refusal
@@ -21,6 +21,8 @@ use Rattle.refuted.specs.Wrong.{refusedLogWrites, readsAlike, inventsCou
 use Rattle.refuted.specs.Wrong.{programsNothing, wholeFrame, waitsLong, inventsStep, erasesFirst, hurriedMount, losesAll, keepsPending}
 use Rattle.refuted.specs.Wrong.{refusesAlike, overlooksForeign, namesSecond, tiesAtStart, refusesHalfErased, takesHalfErased, formatsAtOnce}
 use Rattle.refuted.specs.Wrong.{formatsBlindly, goesBack, erasesOne, evenOnly}
+use Rattle.refuted.specs.WrongShares.{fullAtHalf, fullByAll, fullByValues, fullByImage, fullByTwo, deletesPass, roomFirst, abortKeeps}
+use Rattle.refuted.specs.WrongShares.{transferClears, mountKeeps}
 
 -- ---- runs
 
@@ -135,6 +137,17 @@ halfErased = replicate 8 0xFF ++ (drop 8 (committed 3) ++ committed 4)
 unfoldable pub seemsEmpty : List ℕ
 seemsEmpty = half 2 [] ++ committed 4
 
+-- one settled object of 101 bytes: U = 124
+unfoldable pub heavy : List ℕ
+heavy = half 1 (settled (idOf 1) (replicate 101 0x41) ∷ []) ++ blankHalf
+
+-- two puts of 166 bytes, each aborted: 16 + 2·(174 + 6) = 376, so that eight bytes are left
+abbrev pub aborted : List Frame
+aborted = change (hostOf 2) (put (idOf 5) (replicate 166 0x41)) ∷ abort (hostOf 2) ∷ []
+
+unfoldable pub nearlyFull : List ℕ
+nearlyFull = half 1 (aborted ++ aborted) ++ blankHalf
+
 -- ---- images of 1,152 bytes: three blocks
 
 -- the second block is current, and a transfer is due; the first is, beside two cut transfers; the first is, and nothing is due
@@ -163,6 +176,13 @@ putCD = asks (0x08 ∷ 0x00 ∷ 0x01 ∷ 0x01 ∷ 0x05 ∷ 0x00 ∷ 0x43 ∷ 0x4
 
 abbrev pub putEmpty : ℕ → Call
 putEmpty i = asks (0x06 ∷ 0x00 ∷ 0x01 ∷ 0x01 ∷ i ∷ 0x00 ∷ [])
+
+-- a host puts n bytes to id 9
+abbrev pub puts : ℕ → ℕ → Call
+puts h n = request (hostOf h) ((6 + n) ∷ 0x00 ∷ 0x01 ∷ 0x01 ∷ 0x09 ∷ 0x00 ∷ replicate n 0x41) []
+
+abbrev pub deletes : Call
+deletes = asks (0x06 ∷ 0x00 ∷ 0x02 ∷ 0x01 ∷ 0x05 ∷ 0x00 ∷ [])
 
 abbrev pub commitMessage : List ℕ
 commitMessage = 0x04 ∷ 0x00 ∷ 0x03 ∷ 0x01 ∷ []
@@ -232,3 +252,18 @@ pub record Runs : Type 0 where
   pub goes-back : Differs 3 goesBack inMiddle (mount ∷ step ∷ []) (byteAt 776) 0xFF 0xFE
   pub erases-one : Differs 3 erasesOne begunTwice (mount ∷ step ∷ []) answered 0 255
   pub even-only : Differs 3 evenOnly storedFirst (mount ∷ []) answered 4 0
+  -- K7, S/2 = 192: a frame of 192 bytes; one of 8 and another host's of 192; frames of 193
+  pub full-at-half : Differs 2 fullAtHalf stored (mount ∷ puts 2 184 ∷ []) answered 12 255
+  pub full-by-all : Differs 2 fullByAll stored (mount ∷ puts 1 0 ∷ stepping 8 (puts 2 184 ∷ [])) answered 12 255
+  pub full-by-values : Differs 2 fullByValues stored (mount ∷ puts 2 185 ∷ []) answered 255 12
+  pub full-by-image : Differs 2 fullByImage stored (mount ∷ puts 2 185 ∷ []) answered 255 12
+  pub full-by-two : Differs 3 fullByTwo storedFirst (mount ∷ puts 2 185 ∷ []) answered 255 12
+  -- a frame of 192 bytes is pending
+  pub deletes-pass : Differs 2 deletesPass stored (mount ∷ puts 2 184 ∷ stepping 192 (deletes ∷ [])) answered 255 12
+  -- 248 > 192, and 124 + 248 + 6 + 14 > 384
+  pub room-first : Differs 2 roomFirst heavy (mount ∷ puts 2 240 ∷ []) answered 7 12
+  -- the commit after it finds the record stale
+  pub abort-keeps : Differs 2 abortKeeps stored (afterPut (aborts ∷ stepping 6 (commits ∷ []))) answered 11 0
+  -- C = 24: a transfer of 19 steps, and the frame's 8
+  pub transfer-clears : Differs 2 transferClears nearlyFull (afterPut (putEmpty 8 ∷ stepping 27 (commits ∷ []))) answered 11 255
+  pub mount-keeps : Differs 2 mountKeeps pending (mount ∷ stepping 11 (commits ∷ [])) answered 11 0

@@ -1,6 +1,6 @@
 -- The requests by surveys and places are the definitions' requests.
 use mathlib.Core.Path.{_≡_, refl, sym, ap, ap₂, subst, _∙_}
-use mathlib.Core.List.{List}
+use mathlib.Core.List.{List, [], _∷_, _++_}
 use mathlib.Core.Option.{Option, none, some}
 use mathlib.Core.Bool.{Bool, true, false, _&&_, cond}
 use Prim.Native.Nat.{ℕ, _≤_, _<_}
@@ -15,11 +15,12 @@ use Rattle.frame.specs.declared.ObjectId.{ObjectId}
 use Rattle.frame.specs.Frame.{hostMax, idMax, valueMax, Change, put, delete, Frame, change, commit, abort, frameLen, endLen}
 use Rattle.survey.specs.declared.Survey.{Survey}
 use Rattle.journal.specs.Block.{Journal, valid, headerLen, lastTime}
-use Rattle.journal.specs.Replay.{lookup, isOpen}
-use Rattle.journal.specs.Room.{noRoom, spare}
+use Rattle.journal.specs.Replay.{State, lookup, isOpen, nextState}
+use Rattle.journal.specs.Room.{noRoom, hostFull, spare, pendingFor, pendingOf}
 use Rattle.journal.specs.Index.{placesOf}
-use Rattle.survey.specs.Survey.{pendingBytes, surveyOf}
-use Rattle.survey.proofs.PerHost.{per-at, open-bytes}
+use Rattle.survey.specs.Survey.{surveyOf}
+use Rattle.journal.proofs.PerHost.{per-at, open-bytes}
+use Rattle.survey.proofs.Passing.{pending-grows, pending-ends}
 use Rattle.journal.proofs.States.{Contents}
 use Rattle.journal.proofs.Places.{ValueStands, place-law, no-place}
 use Rattle.wire.specs.declared.Answer.{Answer}
@@ -39,7 +40,7 @@ use Rattle.board.specs.declared.Job.{Job}
 use Rattle.board.specs.declared.Cursor.{Cursor}
 use Rattle.board.specs.declared.Rest.{Rest}
 use Rattle.board.specs.declared.Record.{Record}
-use Rattle.board.specs.Record.{noFrame, starting, Out, out, refuse, answerOf}
+use Rattle.board.specs.Record.{noFrame, starting, counting, Out, out, refuse, answerOf}
 use Rattle.board.specs.Mount.{replayOf}
 use Rattle.board.specs.Queue.{needsRoom, append, serveChange, serveEnd, serveRead, serveLog, serve, Asking, asking, sizeFor, movesFor, refuseTo}
 use Rattle.board.proofs.Replies.{standing-of}
@@ -48,7 +49,7 @@ use Rattle.job.specs.Code.{leavesIf, LeadsTo, goAppend, goOpen, goWipe, begins}
 use Rattle.job.proofs.Entering.{wipe-leaves}
 use Rattle.serving.specs.Calls.{done, refused, keptOr, began, Asks, bytesOf, appendPlan, appendIn, changeIn, endIn, readIn, logIn}
 use Rattle.serving.specs.Calls.{serveIn, frameIn, replyIn}
-use Rattle.serving.proofs.Rooms.{no-room-is}
+use Rattle.serving.proofs.Rooms.{no-room-is, full-is}
 
 -- ---- what a request came to, put together
 
@@ -75,11 +76,11 @@ module _ (r : Record) (p f : List ℕ) where
       }
 
 -- a job that appends a frame has a step
-goes : (z : Rest) (s : Survey) (m : Bool) (n : ℕ) (c : Cursor) → 0 < n
-    → let x : Stepped = begins z (appendPlan z s m n) c in (x .answer ≡ More) × (x .ended ≡ false)
+goes : (y z : Rest) (s : Survey) (m : Bool) (n : ℕ) (c : Cursor) → 0 < n
+    → let x : Stepped = begins y (appendPlan z s m n) c in (x .answer ≡ More) × (x .ended ≡ false)
 unfolding goWipe goOpen goAppend
-goes z s true n c l = (refl, refl)
-goes z s false n c l = rw (lt-ltb 0 n l) (refl, refl)
+goes y z s true n c l = (refl, refl)
+goes y z s false n c l = rw (lt-ltb 0 n l) (refl, refl)
 
 module _ (a : Asking) (x : Journal) (same : a .blocks ≡ a .board .rest .blocks)
     (w : Contents (block (sizeFor a) (a .board .rest .block) (a .image)) x) where
@@ -95,37 +96,45 @@ module _ (a : Asking) (x : Journal) (same : a .blocks ≡ a .board .rest .blocks
   no : (f : List ℕ) (why : Refusal) → Asks r places f (refused why (r .rest)) (refuseTo a why)
   no f why = refusing r places f (a .image) (a .reply) why
 
-  append-is : (f : Frame) → Asks r places (bytesOf f) (appendIn (sizeFor a) (r .rest) survey (frameLen f)) (append a x f)
+  append-is : (f : Frame) (ps : List ℕ) → pendingOf (x .frames ++ (f ∷ [])) ≡ ps
+      → Asks r places (bytesOf f) (appendIn (sizeFor a) (r .rest) survey (frameLen f) ps) (append a x f)
   unfolding append appendIn surveyOf
-  append-is f =
+  append-is f ps e =
       let m : Bool = needsRoom (r .rest .blocks) (a .image) r f in
       let z : Rest = r .rest in
       let j : Job = appendPlan z survey m (frameLen f) in
-      let g = goes z survey m (frameLen f) (starting 0 headerLen) (omega arith) in
-      subst (λ (k : ℕ). Asks r places (bytesOf f) (appendIn (sizeOf k (a .image)) z survey (frameLen f))
+      let y : Rest = counting z (pendingOf (x .frames ++ (f ∷ []))) in
+      let g = goes y z survey m (frameLen f) (starting 0 headerLen) (omega arith) in
+      subst (λ (qs : List ℕ). Asks r places (bytesOf f) (appendIn (sizeFor a) z survey (frameLen f) qs) (append a x f)) e
+      (subst (λ (k : ℕ). Asks r places (bytesOf f) (appendIn (sizeOf k (a .image)) z survey (frameLen f) (y .pending))
       (append (asking k (a .image) r (a .host) (a .message) (a .reply)) x f)) (sym same)
       (asks-if r places (bytesOf f) (m && eqb (x .time) lastTime) (no (bytesOf f) refusal.Worn)
       (begun r _ _ (a .image) (a .reply) _ _ (g .0) (g .1)
-      (wipe-leaves places noFrame (bytesOf f) (record { phase = Busy Wipe; rest = z; job = j; cursor = starting 0 headerLen }))))
+      (wipe-leaves places noFrame (bytesOf f) (record { phase = Busy Wipe; rest = y; job = j; cursor = starting 0 headerLen })))))
 
-  change-is : (c : Change) → Asks r places (bytesOf (change (a .host) c))
+  change-is : (c : Change) → a .host .0 ≤ hostMax → Asks r places (bytesOf (change (a .host) c))
       (changeIn (sizeFor a) (r .rest) survey (a .host) (frameLen (change (a .host) c)) (spare c)) (serveChange a x c)
-  unfolding serveChange changeIn
-  change-is c =
-      rw (← no-room-is w (sizeFor a) (a .host) c) (asks-if r _ _ (noRoom (sizeFor a) (replayOf x) (a .host) c)
-      (no _ refusal.NoRoom) (append-is (change (a .host) c)))
+  unfolding serveChange changeIn surveyOf
+  change-is c l =
+      rw (← full-is w (sizeFor a) (a .host) c l, ← no-room-is w (sizeFor a) (a .host) c)
+      (asks-if r _ _ (hostFull (sizeFor a) (replayOf x) (a .host) c) (no _ refusal.HostFull)
+      (asks-if r _ _ (noRoom (sizeFor a) (replayOf x) (a .host) c) (no _ refusal.NoRoom)
+      (append-is (change (a .host) c) _ (pending-grows (x .frames) (a .host) c l))))
 
   open-is : a .host .0 ≤ hostMax → isOpen (a .host) (replayOf x .pending) ≡ ltb 0 (getD (survey .pending) (a .host .0) 0)
   unfolding surveyOf
   open-is l =
       open-bytes (a .host) (replayOf x .pending)
-      ∙ ap (ltb 0) (sym (per-at (λ g. pendingBytes g (replayOf x .pending)) (a .host) l))
+      ∙ ap (ltb 0) (sym (per-at (λ g. pendingFor g (replayOf x .pending)) (a .host) l))
 
   end-is : (f : Frame) → frameLen f ≡ endLen → a .host .0 ≤ hostMax
+      → ((s : State) → nextState s f .pending ≡ nextState s (abort (a .host)) .pending)
       → Asks r places (bytesOf f) (endIn (sizeFor a) (r .rest) survey (a .host)) (serveEnd a x f)
-  unfolding serveEnd endIn
-  end-is f e l =
-      rw (← open-is l, ← e) (asks-if r _ _ (isOpen (a .host) (replayOf x .pending)) (append-is f) (doing r _ _ (a .image) (a .reply)))
+  unfolding serveEnd endIn surveyOf
+  end-is f e l n =
+      rw (← open-is l, ← e)
+      (asks-if r _ _ (isOpen (a .host) (replayOf x .pending)) (append-is f _ (pending-ends (x .frames) f (a .host) l n))
+      (doing r _ _ (a .image) (a .reply)))
 
   read-is : (f : List ℕ) (i : ObjectId) → i .0 ≤ idMax → (o : Option (List ℕ)) → lookup i (replayOf x .objects) ≡ o
       → Asks r places f (readIn (r .rest) places i) (serveRead a x i o)
@@ -145,10 +154,10 @@ module _ (a : Asking) (x : Journal) (same : a .blocks ≡ a .board .rest .blocks
       → Asks r places (frameIn (a .host) (a .message) q g)
       (serveIn (sizeFor a) (r .rest) (a .reply) (a .host) (a .message) survey places q) (serve a x q)
   unfolding serve
-  serve-is (Put i) g k l = rw (take-all valueMax (valueIn (a .message)) (k .1)) (change-is (put i (valueIn (a .message))))
-  serve-is (Delete i) g k l = change-is (delete i)
-  serve-is Commit g k l = end-is (commit (a .host)) refl l
-  serve-is Abort g k l = end-is (abort (a .host)) refl l
+  serve-is (Put i) g k l = rw (take-all valueMax (valueIn (a .message)) (k .1)) (change-is (put i (valueIn (a .message))) l)
+  serve-is (Delete i) g k l = change-is (delete i) l
+  serve-is Commit g k l = end-is (commit (a .host)) refl l (λ s. refl)
+  serve-is Abort g k l = end-is (abort (a .host)) refl l (λ s. refl)
   serve-is (Read i) g k l = read-is g i k (lookup i (replayOf x .objects)) refl
   serve-is (Log p) g k l = log-is g p
 
@@ -164,7 +173,9 @@ module _ (a : Asking) (x : Journal) (same : a .blocks ≡ a .board .rest .blocks
 
   change-reply : (c : Change) → serveChange a x c .reply ≡ a .reply
   unfolding serveChange
-  change-reply c = cond-reply (noRoom (sizeFor a) (replayOf x) (a .host) c) _ _ refl (append-reply (change (a .host) c))
+  change-reply c =
+      cond-reply (hostFull (sizeFor a) (replayOf x) (a .host) c) _ _ refl
+      (cond-reply (noRoom (sizeFor a) (replayOf x) (a .host) c) _ _ refl (append-reply (change (a .host) c)))
 
   end-reply : (f : Frame) → serveEnd a x f .reply ≡ a .reply
   unfolding serveEnd

@@ -2,25 +2,25 @@
 use mathlib.Core.Path.{_≡_, sym, ap, ap₂, _∙_}
 use mathlib.Core.List.{List, [], _∷_, _++_}
 use mathlib.Core.Bool.{_||_}
-use Prim.Native.Nat.{ℕ, _+_, _*_}
+use Prim.Native.Nat.{ℕ, _+_, _*_, _≤_}
 use lib.Dec.{eqb, ltb}
 use borrow.Author.Tests.{eqb-true, eqb-false}
 use Rattle.flash.proofs.Cases.{on-test}
 use Rattle.frame.specs.declared.Host.{Host}
-use Rattle.frame.specs.Frame.{hostOf, Change, change, frameLen, endLen}
+use Rattle.frame.specs.Frame.{hostOf, hostMax, Change, change, frameLen, endLen}
 use Rattle.board.specs.Mount.{replayOf, claimedOf}
 use Rattle.journal.specs.Replay.{Entry, entry, isOpen}
 use Rattle.journal.specs.Block.{Journal, valid}
-use Rattle.journal.specs.Room.{openHosts, spare, noRoom}
-use Rattle.survey.specs.Survey.{pendingBytes, perHost, surveyOf}
-use Rattle.survey.proofs.PerHost.{open-bytes, open-count, claimed-bytes}
+use Rattle.journal.specs.Room.{openHosts, spare, noRoom, hostFull, pendingFor, perHost}
+use Rattle.survey.specs.Survey.{surveyOf}
+use Rattle.journal.proofs.PerHost.{per-at, bytes-own, open-bytes, open-count, claimed-bytes}
 use Rattle.journal.proofs.Lists.{open-snoc, open-snoc-other}
 use Rattle.journal.proofs.States.{Contents}
-use Rattle.serving.specs.Calls.{openIn, openWith, claimedIn, noRoomIn}
+use Rattle.serving.specs.Calls.{openIn, openWith, claimedIn, noRoomIn, bytesWith}
 
 -- the four hosts' pending bytes
 abbrev bytesIn : List Entry → List ℕ
-bytesIn es = perHost (λ h. pendingBytes h es)
+bytesIn es = perHost (λ h. pendingFor h es)
 
 -- ---- all hosts
 
@@ -28,7 +28,7 @@ pub open-hosts : (es : List Entry) → openHosts es ≡ openIn (bytesIn es)
 unfolding openIn
 open-hosts es = open-count es
 
-open-more : (h g : Host) (es : List Entry) (c : Change) → isOpen g (es ++ (entry h c ∷ [])) ≡ (eqb (h .0) (g .0) || ltb 0 (pendingBytes g es))
+open-more : (h g : Host) (es : List Entry) (c : Change) → isOpen g (es ++ (entry h c ∷ [])) ≡ (eqb (h .0) (g .0) || ltb 0 (pendingFor g es))
 open-more h g es c =
     on-test (eqb (h .0) (g .0))
     (λ t. ap (λ (n : ℕ). isOpen (hostOf n) (es ++ (entry h c ∷ []))) (sym (eqb-true (h .0) (g .0) t)) ∙ open-snoc h es c ∙ rw t)
@@ -54,3 +54,11 @@ module _ {b : List ℕ} {w : Journal} (x : Contents b w) where
   unfolding noRoom noRoomIn surveyOf
   no-room-is size h d =
       ap₂ (λ (n o : ℕ). ltb size (n + frameLen (change h d) + endLen * o + spare d)) claimed-is (open-with h (replayOf w .pending) d)
+
+  pub full-is : (size : ℕ) (h : Host) (d : Change) → h .0 ≤ hostMax
+      → hostFull size (replayOf w) h d ≡ ltb size (2 * bytesWith (surveyOf (valid w)) h (frameLen (change h d)))
+  unfolding hostFull surveyOf
+  full-is size h d l =
+      ap (λ (n : ℕ). ltb size (2 * n))
+      (bytes-own h (replayOf w .pending) d
+      ∙ ap (λ (n : ℕ). n + frameLen (change h d)) (sym (per-at (λ g. pendingFor g (replayOf w .pending)) h l)))

@@ -4,7 +4,7 @@ use mathlib.Core.List.{List}
 use mathlib.Core.Bool.{Bool, true, _&&_, _||_, cond}
 use Prim.Native.Nat.{ℕ, _+_, _*_}
 use lib.Dec.{eqb, ltb}
-use lib.ListN.{length, getD, take}
+use lib.ListN.{length, getD, set, take}
 use Rattle.frame.specs.declared.Host.{Host}
 use Rattle.frame.specs.declared.ObjectId.{ObjectId}
 use Rattle.frame.specs.Frame.{valueMax, put, delete, Frame, change, commit, abort, frameLen, deleteLen, endLen, encode, buffer}
@@ -23,7 +23,7 @@ use Rattle.board.specs.declared.Phase.the-variants.{Idle}
 use Rattle.board.specs.declared.Job.{Job}
 use Rattle.board.specs.declared.Rest.{Rest}
 use Rattle.board.specs.declared.Record.{Record}
-use Rattle.board.specs.Record.{noWipes, noFrame, starting, Out}
+use Rattle.board.specs.Record.{noWipes, noFrame, starting, counting, Out}
 use Rattle.board.specs.Mount.{nextBlock, newTime}
 use Rattle.job.specs.declared.records.Numbers.{Numbers}
 use Rattle.job.specs.declared.records.Stepped.{Stepped}
@@ -93,17 +93,25 @@ appendPlan z s moves n =
       size = n;
     }
 
--- a frame of n bytes
-unfoldable pub appendIn : ℕ → Rest → Survey → ℕ → Stepped
-appendIn size z s n =
+-- a frame of n bytes, with which each host has so much pending
+unfoldable pub appendIn : ℕ → Rest → Survey → ℕ → List ℕ → Stepped
+appendIn size z s n ps =
     let moves : Bool = ltb size (z .end + n) in
-    cond (moves && eqb (s .time) lastTime) (refused refusal.Worn z) (begins z (appendPlan z s moves n) (starting 0 headerLen))
+    cond (moves && eqb (s .time) lastTime) (refused refusal.Worn z)
+    (begins (counting z ps) (appendPlan z s moves n) (starting 0 headerLen))
 
+-- a host's pending bytes with n more
+abbrev pub bytesWith : Survey → Host → ℕ → ℕ
+bytesWith s h n = getD (s .pending) (h .0) 0 + n
+
+-- 12: they are more than S/2; then 7
 unfoldable pub changeIn : ℕ → Rest → Survey → Host → ℕ → ℕ → Stepped
-changeIn size z s h n spare = cond (noRoomIn size s h n spare) (refused refusal.NoRoom z) (appendIn size z s n)
+changeIn size z s h n spare =
+    cond (ltb size (2 * bytesWith s h n)) (refused refusal.HostFull z)
+    (cond (noRoomIn size s h n spare) (refused refusal.NoRoom z) (appendIn size z s n (set (s .pending) (h .0) (bytesWith s h n))))
 
 unfoldable pub endIn : ℕ → Rest → Survey → Host → Stepped
-endIn size z s h = cond (ltb 0 (getD (s .pending) (h .0) 0)) (appendIn size z s endLen) (done z)
+endIn size z s h = cond (ltb 0 (getD (s .pending) (h .0) 0)) (appendIn size z s endLen (set (s .pending) (h .0) 0)) (done z)
 
 unfoldable pub readIn : Rest → List ℕ → ObjectId → Stepped
 readIn z places i = cond (eqb (getD places (i .0) 0) 0) (refused refusal.NoObject z) (done z)

@@ -3,6 +3,7 @@ ghost use mathlib.Core.Path.{_≡_};
 ghost use lib.ListN.{getD};
 ghost use Rattle.wire.specs.declared.Parsed.the-variants.{Is};
 ghost use Rattle.wire.specs.Message.{parse};
+ghost use Rattle.board.specs.Record.{counting};
 ghost use Rattle.serving.specs.Calls.{done, refused, appendIn, changeIn, endIn, readIn, logIn, serveIn, replyIn, replyLog, frameIn};
 
 pub mod room;
@@ -55,9 +56,22 @@ pub fn place_of(places: &[u16], id: ObjectId) -> u16
     0
 }
 
-// A frame of n bytes appended, after a transfer if it goes past the block's end.
-fn append(size: usize, rest: Rest, s: Survey, n: u8) -> Stepped
-    ensures { λ r. ⌜ r ≡ appendIn size rest s n ⌝ }
+// The same place, with so much pending.
+fn counting(rest: Rest, pending: [u16; 4]) -> Rest
+    ensures { λ r. ⌜ r ≡ counting rest pending ⌝ }
+{
+    Rest {
+        blocks: rest.blocks,
+        last: rest.last,
+        block: rest.block,
+        end: rest.end,
+        pending: pending,
+    }
+}
+
+// A frame of n bytes appended, after a transfer if it goes past the block's end. With it the hosts have so much pending.
+fn append(size: usize, rest: Rest, s: Survey, n: u8, pending: [u16; 4]) -> Stepped
+    ensures { λ r. ⌜ r ≡ appendIn size rest s n pending ⌝ }
 {
     let moves = size < rest.end as usize + n as usize;
     if surveys::is_worn(moves, s.time) {
@@ -74,17 +88,27 @@ fn append(size: usize, rest: Rest, s: Survey, n: u8) -> Stepped
         since: since,
         size: n,
     };
-    records::begin(rest, job, records::starting(0, records::START))
+    records::begin(
+        counting(rest, pending),
+        job,
+        records::starting(0, records::START),
+    )
 }
 
 // A put or delete, which leaves so much besides.
-fn serve_change(size: usize, rest: Rest, s: Survey, host: Host, n: u8, spare: u8) -> Stepped
+fn serve_change(size: u16, rest: Rest, s: Survey, host: Host, n: u8, spare: u8) -> Stepped
     ensures { λ r. ⌜ r ≡ changeIn size rest s host n spare ⌝ }
 {
-    if room::no_room(size, s, host, n, spare) {
+    let room = size as usize;
+    let p = s.pending;
+    let bytes = fetch::of_host(p, host) as usize + n as usize;
+    if room < 2 * bytes {
+        return refused(Refusal::HostFull, rest);
+    }
+    if room::no_room(room, s, host, n, spare) {
         return refused(Refusal::NoRoom, rest);
     }
-    append(size, rest, s, n)
+    append(room, rest, s, n, fetch::with_host(p, host, bytes as u16))
 }
 
 // A commit or an abort: with nothing pending it is done at once.
@@ -95,7 +119,7 @@ fn serve_end(size: usize, rest: Rest, s: Survey, host: Host) -> Stepped
     if fetch::of_host(p, host) == 0 {
         return done(rest);
     }
-    append(size, rest, s, END_LEN)
+    append(size, rest, s, END_LEN, fetch::with_host(p, host, 0))
 }
 
 fn serve_read(rest: Rest, places: &[u16; 256], id: ObjectId) -> Stepped
@@ -158,9 +182,9 @@ pub fn serve(
     match ask {
         Request::Put(_) => {
             let n = PUT_LEN + wire::value(message).len() as u8;
-            return serve_change(room, rest, s, host, n, SPARE);
+            return serve_change(size, rest, s, host, n, SPARE);
         }
-        Request::Delete(_) => return serve_change(room, rest, s, host, DELETE_LEN, 0),
+        Request::Delete(_) => return serve_change(size, rest, s, host, DELETE_LEN, 0),
         Request::Commit => return serve_end(room, rest, s, host),
         Request::Abort => return serve_end(room, rest, s, host),
         Request::Read(id) => return serve_read(rest, places, id),

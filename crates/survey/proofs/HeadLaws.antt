@@ -27,7 +27,7 @@ use Rattle.journal.specs.Index.{placesOf, Value, valueAt}
 use Rattle.fetch.specs.Fetch.{foundOf}
 use Rattle.survey.specs.Pass.{placeFrame, commitPlaces, placeHead, nextHead, grown, closed}
 use Rattle.survey.specs.Pass.{passed, tookFrame, tookPlaces, tailOf, walkOf, settledWith, settledAt, tallyOf}
-use Rattle.survey.proofs.PerHost.{pending-most}
+use Rattle.journal.proofs.PerHost.{pending-most}
 use Rattle.fetch.proofs.FrameReads.{whole-is, blank-is, torn-is, scan-blank-at, scan-torn-at, scan-wrong-at, scan-whole-at}
 use Rattle.fetch.proofs.Fetching.{InBlock, in-block, found-none, found-at}
 use Rattle.survey.proofs.Passing.{Reached, reached-on}

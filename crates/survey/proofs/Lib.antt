@@ -1,6 +1,5 @@
 -- The code reads what the definitions say, by subject. Each file's first line says what it proves; here who needs it.
 
-pub mod PerHost  -- each host's pending bytes: for Passing, store
 pub mod Headers  -- a header's tests: for src/header
 pub mod Indexing  -- places and `since` frame after frame: for Passing
 pub mod Passing  -- one frame of the pass: for HeadLaws and src/block

@@ -20,12 +20,12 @@ use Rattle.survey.specs.declared.Progress.{Progress}
 use Rattle.journal.specs.Block.{headerLen}
 use Rattle.journal.specs.Replay.{Entry, State, nextState, replay}
 use Rattle.journal.specs.Index.{placesOf, isEnd, pick, sinceHost, sinceOf}
-use Rattle.survey.specs.Survey.{pendingBytes, pendingOf}
+use Rattle.journal.specs.Room.{pendingFor, pendingOf}
 use Rattle.survey.specs.Pass.{commitPlaces, recommit, progress, progressOf, grown, closed, passed, tookFrame, tookPlaces}
 use Rattle.journal.proofs.Replaying.{replay-snoc}
 use Rattle.journal.proofs.Pending.{since-snoc, since-at}
 use Rattle.survey.proofs.Indexing.{places-change, places-abort, places-commit, places-settled, Boundary, boundary, commit-from}
-use Rattle.survey.proofs.PerHost.{per-set, per-same, per-at, bytes-own, bytes-other, bytes-ended, bytes-kept}
+use Rattle.journal.proofs.PerHost.{per-set, per-same, per-at, bytes-own, bytes-other, bytes-ended, bytes-kept}
 use Rattle.fetch.proofs.FrameReads.{whole-stands, whole-bytes, scan-whole-at, drop-take}
 
 -- ---- `since` and the pending bytes after one frame more
@@ -44,23 +44,23 @@ since-moves fs f h l n =
     (at h true (n h ∙ eq-eqb (h .0) (h .0) refl)) (λ g d. at g false (n g ∙ ne-eqb (g .0) (h .0) (λ q. d (sym q))))
 
 -- by what is pending before and after
-pending-grows : (fs : List Frame) (h : Host) (c : Change) → h .0 ≤ hostMax
+pub pending-grows : (fs : List Frame) (h : Host) (c : Change) → h .0 ≤ hostMax
     → pendingOf (fs ++ (change h c ∷ [])) ≡ set (pendingOf fs) (h .0) (getD (pendingOf fs) (h .0) 0 + frameLen (change h c))
 pending-grows fs h c l =
     let es : List Entry = replay fs .pending in
-    let e : (g : Host) → pendingBytes g (replay (fs ++ (change h c ∷ [])) .pending) ≡ pendingBytes g (nextState (replay fs) (change h c) .pending) =
-    λ g. ap (λ (s : State). pendingBytes g (s .pending)) (replay-snoc fs (change h c)) in
-    per-set (λ g. pendingBytes g es) (λ g. pendingBytes g (replay (fs ++ (change h c ∷ [])) .pending)) h _ l
-    (e h ∙ bytes-own h es c ∙ ap (λ (x : ℕ). x + frameLen (change h c)) (sym (per-at (λ g. pendingBytes g es) h l)))
+    let e : (g : Host) → pendingFor g (replay (fs ++ (change h c ∷ [])) .pending) ≡ pendingFor g (nextState (replay fs) (change h c) .pending) =
+    λ g. ap (λ (s : State). pendingFor g (s .pending)) (replay-snoc fs (change h c)) in
+    per-set (λ g. pendingFor g es) (λ g. pendingFor g (replay (fs ++ (change h c ∷ [])) .pending)) h _ l
+    (e h ∙ bytes-own h es c ∙ ap (λ (x : ℕ). x + frameLen (change h c)) (sym (per-at (λ g. pendingFor g es) h l)))
     (λ g d. e g ∙ bytes-other g h es c d)
 
-pending-ends : (fs : List Frame) (f : Frame) (h : Host) → h .0 ≤ hostMax → ((s : State) → nextState s f .pending ≡ nextState s (abort h) .pending)
+pub pending-ends : (fs : List Frame) (f : Frame) (h : Host) → h .0 ≤ hostMax → ((s : State) → nextState s f .pending ≡ nextState s (abort h) .pending)
     → pendingOf (fs ++ (f ∷ [])) ≡ set (pendingOf fs) (h .0) 0
 pending-ends fs f h l n =
     let es : List Entry = replay fs .pending in
-    let e : (g : Host) → pendingBytes g (replay (fs ++ (f ∷ [])) .pending) ≡ pendingBytes g (nextState (replay fs) (abort h) .pending) =
-    λ g. ap (λ (s : State). pendingBytes g (s .pending)) (replay-snoc fs f) ∙ ap (pendingBytes g) (n (replay fs)) in
-    per-set (λ g. pendingBytes g es) (λ g. pendingBytes g (replay (fs ++ (f ∷ [])) .pending)) h 0 l (e h ∙ bytes-ended h es)
+    let e : (g : Host) → pendingFor g (replay (fs ++ (f ∷ [])) .pending) ≡ pendingFor g (nextState (replay fs) (abort h) .pending) =
+    λ g. ap (λ (s : State). pendingFor g (s .pending)) (replay-snoc fs f) ∙ ap (pendingFor g) (n (replay fs)) in
+    per-set (λ g. pendingFor g es) (λ g. pendingFor g (replay (fs ++ (f ∷ [])) .pending)) h 0 l (e h ∙ bytes-ended h es)
     (λ g d. e g ∙ bytes-kept g h es d)
 
 same : {a a′ b b′ : ℕ} {s s′ p p′ : List ℕ} → a ≡ a′ → b ≡ b′ → s ≡ s′ → p ≡ p′ → progress a b s p ≡ progress a′ b′ s′ p′
@@ -91,8 +91,8 @@ progress-step fs (abort h) a =
 progress-step fs (settled i v) a =
     let f : Frame = settled i v in
     same (end-snoc fs f ∙ omega arith) (next-snoc fs f) (since-stays fs f (λ g. refl))
-    (per-same (λ g. pendingBytes g (replay fs .pending)) (λ g. pendingBytes g (replay (fs ++ (f ∷ [])) .pending))
-    (λ g. ap (λ (s : State). pendingBytes g (s .pending)) (replay-snoc fs f)))
+    (per-same (λ g. pendingFor g (replay fs .pending)) (λ g. pendingFor g (replay (fs ++ (f ∷ [])) .pending))
+    (λ g. ap (λ (s : State). pendingFor g (s .pending)) (replay-snoc fs f)))
 
 -- ---- a commit reads its host's part again
 

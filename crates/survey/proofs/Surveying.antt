@@ -27,7 +27,8 @@ use Rattle.journal.specs.Replay.{Object, lookup, listOf, replay, replayFrom, se
 use Rattle.journal.specs.Block.{headerLen, blockMax, stateAt, inTransfer, createdAt, headerFault, Journal, journal, BlockState, blank, inProgress, valid}
 use Rattle.journal.specs.Block.{foreign, ofJournal, ofHeader, blockState}
 use Rattle.journal.specs.Index.{sited, placesFrom, placesOf, sinceFrom, sinceOf}
-use Rattle.survey.specs.Survey.{pendingOf, tornLen, surveyOf, placesIn, stateOf}
+use Rattle.journal.specs.Room.{pendingOf}
+use Rattle.survey.specs.Survey.{tornLen, surveyOf, placesIn, stateOf}
 use Rattle.survey.specs.Pass.{headerOf, progressOf, tailOf, walkOf, settledAt, emptySurvey, foundSurvey}
 use Rattle.journal.proofs.Replaying.{rising-to, Sound, sound-replay}
 use Rattle.journal.proofs.Places.{Standing, place-value}

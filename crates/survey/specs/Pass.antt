@@ -26,7 +26,7 @@ use Rattle.survey.specs.declared.Tally.{Tally}
 use Rattle.survey.specs.declared.Survey.{Survey}
 use Rattle.journal.specs.Block.{headerLen, createdAt}
 use Rattle.journal.specs.Index.{sinceOf, Value, valueAt}
-use Rattle.survey.specs.Survey.{perHost, pendingOf}
+use Rattle.journal.specs.Room.{perHost, pendingOf}
 
 -- the header's first fault, if it has one
 abbrev pub headerOf : Option Fault → HeaderCheck

@@ -1,32 +1,21 @@
 -- What a survey says of a block, and what the code's answers stand for.
-use mathlib.Core.List.{List, [], _∷_, map}
+use mathlib.Core.List.{List}
 use mathlib.Core.Bool.{Bool, true, false, _&&_}
 use Prim.Native.Nat.{ℕ, _+_}
 use lib.Dec.{leb}
 use lib.ListN.{length}
-use Rattle.frame.specs.declared.Host.{Host}
 use Rattle.frame.specs.declared.Field.the-variants as field
-use Rattle.frame.specs.Frame.{hostOf, Frame, change, total}
+use Rattle.frame.specs.Frame.{Frame, total}
 use Rattle.frame.specs.Reader.{fault, Tail, clean, cut, bad}
 use Rattle.survey.specs.declared.BlockKind.{BlockKind}
 use Rattle.survey.specs.declared.BlockKind.the-variants as kind
 use Rattle.survey.specs.declared.Survey.{Survey}
-use Rattle.journal.specs.Replay.{Entry, listOf, replay}
+use Rattle.journal.specs.Replay.{replay}
 use Rattle.journal.specs.Block.{headerLen, blockMax, BlockState, blank, inProgress, valid, foreign, blockState, framesIn, timeIn}
-use Rattle.journal.specs.Room.{used}
+use Rattle.journal.specs.Room.{used, pendingOf}
 use Rattle.journal.specs.Index.{placesOf, sinceOf}
 
 -- ---- a block
-
--- the bytes of a host's pending frames
-abbrev pub pendingBytes : Host → List Entry → ℕ
-pendingBytes h es = total (map (change h) (listOf h es))
-
-abbrev pub perHost : (Host → ℕ) → List ℕ
-perHost f = f (hostOf 0) ∷ f (hostOf 1) ∷ f (hostOf 2) ∷ f (hostOf 3) ∷ []
-
-abbrev pub pendingOf : List Frame → List ℕ
-pendingOf fs = perHost (λ h. pendingBytes h (replay fs .pending))
 
 abbrev pub kindIn : BlockState → BlockKind
 kindIn blank = kind.Blank

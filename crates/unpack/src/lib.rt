@@ -100,7 +100,8 @@ fn places_in(bytes: &[u8]) -> [u16; 256]
     words
 }
 
-fn since_in(bytes: &[u8]) -> [u16; 4]
+// A number for each host.
+fn hosts_in(bytes: &[u8]) -> [u16; 4]
     ensures { λ r. ⌜ r ≡ wordsIn 4 (now (bytes .entry)) ⌝ }
 {
     [
@@ -137,7 +138,7 @@ fn job_in(bytes: &[u8]) -> Job
 {
     let wipe = wipe_in(bytes);
     let plan = tail(bytes, MAX_BLOCKS);
-    let since = since_in(tail(plan, lent::SINCE_AT));
+    let since = hosts_in(tail(plan, lent::SINCE_AT));
     Job {
         wipe: wipe,
         wipes: byte_at(plan, 0),

@@ -17,6 +17,7 @@ answers-exact =
       short-reply = refl;
       host-range = refl;
       stale = refl;
+      host-full = refl;
       more = refl;
     }
 

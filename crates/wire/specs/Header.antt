@@ -22,6 +22,7 @@ pub record AnswersExact : Type 0 where
   pub short-reply : edgeNumber (Refused refusal.ShortReply) ≡ 9
   pub host-range : edgeNumber (Refused refusal.HostRange) ≡ 10
   pub stale : edgeNumber (Refused refusal.Stale) ≡ 11
+  pub host-full : edgeNumber (Refused refusal.HostFull) ≡ 12
   pub more : edgeNumber More ≡ 255
 
 -- grommetide_fault: "IMAGE_LENGTH, NO_STORE, WORN: so does a mount answer. DONE: a mount is accepted."

@@ -48,6 +48,7 @@ pub enum Refusal {
     ShortReply,
     HostRange,
     Stale,
+    HostFull,
 }
 
 // What a call answers.
@@ -192,6 +193,7 @@ fn refusal_number(why: Refusal) -> u8
         Refusal::ShortReply => 9,
         Refusal::HostRange => 10,
         Refusal::Stale => 11,
+        Refusal::HostFull => 12,
     }
 }
 
@@ -270,6 +272,7 @@ fn refusal_spot(why: Refusal) -> Spot
         Refusal::ShortReply => none,
         Refusal::HostRange => none,
         Refusal::Stale => none,
+        Refusal::HostFull => none,
     }
 }
 

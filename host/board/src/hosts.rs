@@ -48,12 +48,14 @@ impl Request {
 
     /// How the board's answer must begin, by the book alone.
     pub fn expected(&self, book: &Book) -> String {
-        let room = |host: &usize, more: usize| {
-            if book.claimed() + more + 6 * book.open(*host) > BLOCK { "7 no room: " } else { "0 done" }
+        let room = |host: &usize, frame: usize, spare: usize| match () {
+            _ if book.pending(*host) + frame > BLOCK / 2 => "12 host full: ",
+            _ if book.claimed() + frame + spare + 6 * book.open(*host) > BLOCK => "7 no room: ",
+            _ => "0 done",
         };
         match self {
-            Request::Put(host, _, value) => room(host, 8 + value.len() + 14).to_string(),
-            Request::Delete(host, _) => room(host, 8).to_string(),
+            Request::Put(host, _, value) => room(host, 8 + value.len(), 14).to_string(),
+            Request::Delete(host, _) => room(host, 8, 0).to_string(),
             Request::Commit(_) | Request::Abort(_) => "0 done".to_string(),
             Request::Get(id) => match book.objects.get(id) {
                 Some(value) => format!("0 done: {}", shown(value)),

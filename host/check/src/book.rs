@@ -96,7 +96,12 @@ impl Book {
 
     /// Document 01's C.
     pub fn claimed(&self) -> usize {
-        self.used() + self.lists.iter().flatten().map(Change::length).sum::<usize>()
+        self.used() + (0..4).map(|host| self.pending(host)).sum::<usize>()
+    }
+
+    /// The bytes of the host's pending frames.
+    pub fn pending(&self, host: usize) -> usize {
+        self.lists[host].iter().map(Change::length).sum()
     }
 
     /// Hosts with something pending once `also` has.

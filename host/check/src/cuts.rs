@@ -144,6 +144,7 @@ impl<M: Modelled, L: Drive, P: Store> Cuts<M, L, P> {
         let idle = self.twin.idle().expect("a mount whose steps are all made ends idle");
         let (objects, lists) = found(self.twin.block(usize::from(idle.block)));
         assert_eq!(lists, Lists::default(), "something is pending after a mount");
+        assert_eq!(idle.pending, [0; 4], "the record says that something is");
         let (Allowed::Exactly(expected) | Allowed::OrGone(expected)) = allowed;
         assert_eq!(objects, *expected, "a mount found other objects");
         expected

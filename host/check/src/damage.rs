@@ -2,6 +2,7 @@
 
 use crate::blocks;
 use crate::generate::{self, Manner, Wish};
+use crate::pending;
 use crate::raise;
 use crate::rng::Rng;
 use crate::twin::{Call, Twin};
@@ -23,6 +24,9 @@ pub fn try_image(twin: &mut Twin, rng: &mut Rng, image: &[u8]) {
     for idle in forged(rng, image, twin.blocks) {
         twin.load(image);
         twin.forge(idle);
+        if twin.ask(0, &message::log()) == Answer::DONE {
+            pending::mislead(twin, rng, idle);
+        }
         ask(twin, rng);
         ask(twin, rng);
     }
@@ -91,12 +95,14 @@ fn forged(rng: &mut Rng, image: &[u8], blocks: u8) -> Vec<Idle> {
             _ => 16,
         };
         let near = rng.pick(&[end - 1, end + 1, end + 6, 0, 16, size, size + 1, 65_535]);
-        let right = Idle { length, block: block as u8, end: end as u16, blocks };
+        let pending = pending::of_block(cut[block]);
+        let right = Idle { length, block: block as u8, end: end as u16, blocks, pending };
         records.extend([right, Idle { end: near.min(65_535) as u16, ..right }]);
         if rng.once_in(4) {
             records.push(Idle { length: rng.pick(&[length - 1, size, 1, 65_536]), ..right });
             records.push(Idle { block: rng.pick(&[right.block + blocks, blocks, 255]), ..right });
             records.push(Idle { blocks: blocks::other(rng, blocks), ..right });
+            records.push(Idle { pending: pending::other(rng, pending), ..right });
         }
     }
     records

@@ -1,7 +1,7 @@
 //! A step of a job whose record holds any bytes, as the definition says (docs/STORE.md, "A step"; DECISIONS 35, 77 and 111):
 //! over the record's bytes as the header lays them out, written apart from the library. Frames are read by the model.
 
-use library::{JOB, RECORD_SIZE, Record};
+use library::{JOB, PENDING, RECORD_SIZE, Record};
 use model::frame::{self, Body, Frame, Host, Id, LONGEST};
 use model::job::Step;
 use std::ops::Range;
@@ -19,7 +19,7 @@ const LENGTH: usize = 1;
 const BLOCK: usize = 3;
 const END: usize = 4;
 const BLOCKS: usize = 6;
-const PLACES: usize = 7;
+const PLACES: usize = PENDING.end;
 /// Which blocks are erased first, and how many; whether a block is made, and the old one erased after; the block made, its
 /// time, from where on each host's changes are pending, the length of the frame to append.
 const LIST: Range<usize> = JOB.start..JOB.start + 16;
@@ -130,7 +130,7 @@ fn enter_append(record: &mut Record) {
     if record[SIZE] > 0 { enter(APPEND, record) } else { rest(record, short(record, END)) }
 }
 
-/// Idle: the record says block, end, length and number of blocks, and nothing else.
+/// Idle: the record says block, end, length, number of blocks and what is pending, which it said all along, and nothing else.
 fn rest(record: &mut Record, end: usize) {
     record[0] = 1;
     set_short(record, END, end);

@@ -36,7 +36,7 @@ pub struct Manner {
 }
 
 impl Manner {
-    /// Hosts of a store in blocks of this size. Below 512 bytes the longest values leave no room for others.
+    /// Hosts of a store in blocks of this size. Below 512 bytes the longest values are more than a host may have pending.
     pub fn new(rng: &mut Rng, size: usize) -> Manner {
         let long = if size < 512 { 64 } else { VALUE_LIMIT };
         Manner {

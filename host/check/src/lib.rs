@@ -9,6 +9,7 @@ pub mod fault;
 pub mod forged;
 pub mod generate;
 pub mod nor;
+pub mod pending;
 pub mod raise;
 pub mod rng;
 pub mod rounds;

@@ -64,7 +64,7 @@ const MORE: [Kind; 18] = [
 ];
 
 /// Calls for each block of runs in which no power is lost inside a job.
-const CALM: usize = 500;
+const CALM: usize = 600;
 
 /// Number of blocks, length and number of damaged images.
 const IMAGES_OF_TWO: [(u8, usize, usize); 6] =

@@ -16,8 +16,8 @@ impl fmt::Display for Setting {
     fn fmt(&self, f: &mut fmt::Formatter) -> fmt::Result {
         writeln!(f, "image {} {}", hex::show(&self.image), self.blocks)?;
         match self.head {
-            Head::Idle(Idle { length, block, end, blocks }) => {
-                writeln!(f, "idle {length} {block} {end} blocks={blocks}")
+            Head::Idle(Idle { length, block, end, blocks, pending: [a, b, c, d] }) => {
+                writeln!(f, "idle {length} {block} {end} blocks={blocks} pending={a},{b},{c},{d}")
             }
             _ => Ok(()),
         }

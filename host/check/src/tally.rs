@@ -5,13 +5,14 @@ use std::collections::BTreeMap;
 use std::fmt;
 use store::{Answer, Fault, Field, message};
 
-/// How often each call got each answer, how often with a value of each length (the one put, or the one found), and how often
-/// each block was said to have broken in each field.
+/// How often each call got each answer, how often with a value of each length (the one put, or the one found), how often
+/// each block was said to have broken in each field, and how many records were refused for their pending bytes alone.
 #[derive(Default)]
 pub struct Tally {
     answers: BTreeMap<(&'static str, u8), u64>,
     values: BTreeMap<(&'static str, u8, usize), u64>,
     faults: BTreeMap<(usize, Field), u64>,
+    pub pending: u64,
 }
 
 impl Tally {
@@ -29,7 +30,12 @@ impl Tally {
         }
     }
 
+    pub fn count_pending(&mut self) {
+        self.pending += 1;
+    }
+
     pub fn add(&mut self, other: &Tally) {
+        self.pending += other.pending;
         for (key, count) in &other.answers {
             *self.answers.entry(*key).or_default() += count;
         }
@@ -80,6 +86,6 @@ impl fmt::Display for Tally {
         for ((block, field), count) in &self.faults {
             writeln!(f, "  block {block}: {field:6}  {count}")?;
         }
-        Ok(())
+        writeln!(f, "  11 for pending bytes  {}", self.pending)
     }
 }

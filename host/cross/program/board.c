@@ -145,6 +145,14 @@ void is_idle(uint8_t block, uint32_t end)
     must(same(here.record, head, sizeof head));
 }
 
+void is_pending(uint8_t host, uint32_t bytes)
+{
+    uint8_t counts[8] = {0};
+    counts[2 * host] = (uint8_t)bytes;
+    counts[2 * host + 1] = (uint8_t)(bytes >> 8);
+    must(same(here.record + 7, counts, sizeof counts));
+}
+
 void holds(uint8_t id, const char *text)
 {
     const struct message read = message_of(READ, id, NULL, 0);

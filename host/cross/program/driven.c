@@ -20,7 +20,7 @@ static void ask_beside(uint8_t host, const struct message *message)
 /* Puts, deletes, commits and aborts until the store has moved on to the next block, with something pending on the way. */
 static void fill_block(uint32_t size)
 {
-    const struct message commit = bare(COMMIT), abort = bare(ABORT);
+    static const struct message commit = {{0x04, 0x00, 0x03, 0x01}, 4}, abort = {{0x04, 0x00, 0x04, 0x01}, 4};
     uint8_t value[40];
     for (uint8_t id = 0; all(here.image + size, 0xFF, size); id++) {
         const struct message delete = message_of(DELETE, id, NULL, 0);

@@ -88,6 +88,22 @@ static uint32_t journal(uint8_t *block, uint32_t size)
     return at;
 }
 
+void count_pending(const uint8_t *block, uint32_t end, uint8_t *counts)
+{
+    uint32_t bytes[4] = {0, 0, 0, 0};
+    for (uint32_t at = HEADER; at + 5 <= end && block[at] != 0; at += block[at]) {
+        const uint8_t kind = block[at + 2], host = block[at + 4] & 3;
+        if (kind == PUT || kind == DELETE)
+            bytes[host] += block[at];
+        else if (kind == COMMIT || kind == ABORT)
+            bytes[host] = 0;
+    }
+    for (uint32_t host = 0; host < 4; host++) {
+        counts[2 * host] = (uint8_t)bytes[host];
+        counts[2 * host + 1] = (uint8_t)(bytes[host] >> 8);
+    }
+}
+
 uint32_t craft(const struct board *board, uint32_t full)
 {
     const uint32_t size = board->len / board->blocks, alone = one_in(2);

@@ -103,6 +103,8 @@ void serve(uint8_t host, const struct message *message, uint32_t steps);
 void mounts(uint32_t steps);
 void formats(uint32_t steps);
 void is_idle(uint8_t block, uint32_t end);
+/* Nothing is pending, but so many bytes of this host. */
+void is_pending(uint8_t host, uint32_t bytes);
 void holds(uint8_t id, const char *text);
 void holds_none(uint8_t id);
 void log_says(uint32_t time, uint32_t count, uint32_t used);
@@ -114,6 +116,8 @@ int one_in(uint32_t n);
 
 /* journal.c: flash with a journal in block `full`, and in others perhaps, foreign by a little or not; where its frames end. */
 uint32_t craft(const struct board *board, uint32_t full);
+/* What each host has pending in a journal whose frames end there: eight bytes of a record. */
+void count_pending(const uint8_t *block, uint32_t end, uint8_t *counts);
 
 /* The parts of the run. */
 void rows(void);

@@ -134,7 +134,7 @@ static void forge(void)
     if (!one_in(3))
         into_job();
     for (uint32_t i = 1 + below(4); i != 0; i--) {
-        const uint32_t at = one_in(3) ? below(GROMMETIDE_RECORD_BYTES) : one_in(2) ? below(7) : 519 + below(42);
+        const uint32_t at = one_in(3) ? below(GROMMETIDE_RECORD_BYTES) : one_in(2) ? below(15) : 527 + below(42);
         here.record[at] = (uint8_t)(one_in(2) ? below(9) : any());
     }
     event("a record forged");
@@ -174,6 +174,9 @@ static void by_hand(void)
     const uint8_t head[] = {1, (uint8_t)last, (uint8_t)(last >> 8), (uint8_t)block, (uint8_t)end, (uint8_t)(end >> 8), here.blocks};
     fill(here.record, 0, GROMMETIDE_RECORD_BYTES);
     copy(here.record, head, sizeof head);
+    count_pending(here.image + here.len / here.blocks * block, end, here.record + sizeof head);
+    if (one_in(8))
+        here.record[sizeof head + below(8)] ^= (uint8_t)(1u << below(8));
     event("journals written by hand");
     for (uint32_t i = below(5); i != 0; i--)
         one_in(3) ? any_read() : any_request();
@@ -275,7 +278,7 @@ static void begin_round(uint32_t limit, int wide)
 static void every_answer(void)
 {
     for (uint32_t answer = 0; answer < 256; answer++)
-        must(was_seen((uint8_t)answer) == (answer <= 11 || answer >= 252));
+        must(was_seen((uint8_t)answer) == (answer <= 12 || answer >= 252));
 }
 
 void at_random(uint32_t rounds, uint32_t limit)

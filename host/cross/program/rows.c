@@ -1,4 +1,4 @@
-/* Document 01's bench rows a to p: S = 256, each value as its table has it. */
+/* Document 01's bench rows a to p: S = 256, each value as its table has it; rows i to m as document 02's K7 has them. */
 #include "program.h"
 
 #define S 256
@@ -55,10 +55,12 @@ static void rows_a_b_c(void)
     block_is(0, b, sizeof b);
     block_is(1, b, 0);
     is_idle(0, 26);
+    is_pending(2, 10);
     after_c();
     block_is(0, c, sizeof c);
     block_is(1, c, 0);
     is_idle(0, 32);
+    is_pending(2, 0);
 }
 
 static void rows_d_e(void)
@@ -110,19 +112,23 @@ static void after_puts(uint32_t last)
         const uint32_t len = id == 3 ? last : 64;
         const struct message put = long_put(id, len);
         serve(0, &put, 8 + len);
+        if (id < 3)
+            must(ask(0, &put) == 12);
+        serve(0, &commit_c, 6);
     }
 }
 
 static void rows_i_j_k(void)
 {
-    const struct message commit = bare(COMMIT), empty = long_put(4, 0);
+    const struct message empty = long_put(4, 0);
     after_puts(64);
-    is_idle(0, 232);
+    is_idle(0, 250);
+    log_says(1, 3, 229);
     must(ask(0, &empty) == 7);
-    serve(0, &commit, 6);
+    serve(0, &commit_c, 0);
     must(ask(0, &empty) == 7);
     after_puts(63);
-    serve(0, &commit, 6);
+    serve(0, &commit_c, 0);
     must(ask(0, &empty) == GROMMETIDE_MORE);
 }
 
@@ -137,34 +143,39 @@ static void holds_64(uint8_t id)
 
 static void before_l(void)
 {
-    const struct message commit = bare(COMMIT), delete = message_of(DELETE, 1, NULL, 0);
     after_puts(64);
-    serve(0, &commit, 6);
-    serve(0, &delete, 8);
-    serve(0, &commit, 6);
-    is_idle(0, 252);
+    serve(0, &commit_c, 0);
+    is_idle(0, 250);
 }
 
 static void rows_l_m(void)
 {
-    static const uint8_t header[] = {HEADER_2, REST}, two[] = {0x47, 0, 5, 0, 2, 0}, three[] = {0x47, 0, 5, 0, 3, 0};
-    static const uint8_t four[] = {8, 0, 1, 0, 0, 4, 0, 0xFE};
-    const struct message empty = long_put(4, 0);
+    static const uint8_t header[] = {HEADER_2, REST};
+    static const uint8_t after[] = {8, 0, 2, 0, 0, 1, 0, 0xFE, 6, 0, 3, 0, 0, 0xFE, 8, 0, 1, 0, 0, 4, 0, 0xFE};
+    static const struct message delete = {{0x06, 0x00, 0x02, 0x01, 0x01, 0x00}, 6};
+    static const struct message empty = {{0x06, 0x00, 0x01, 0x01, 0x04, 0x00}, 6};
     const uint8_t *b = here.image + S;
     before_l();
-    serve(0, &empty, 161);
-    is_idle(1, 166);
+    serve(0, &delete, 232);
+    is_idle(1, 237);
+    is_pending(0, 8);
+    serve(0, &commit_c, 6);
+    serve(0, &empty, 8);
+    is_idle(1, 251);
     must(all(here.image, 0xFF, S) && same(b, header, 16));
-    must(same(b + 16, two, 6) && all(b + 22, 2, 64) && b[86] == 0xFE);
-    must(same(b + 87, three, 6) && all(b + 93, 3, 64) && b[157] == 0xFE);
-    must(same(b + 158, four, 8) && all(b + 166, 0xFF, S - 166));
-    for (uint32_t cut = 151; cut <= 152; cut++) {
+    for (uint8_t id = 1; id <= 3; id++) {
+        const uint8_t settled[] = {0x47, 0, 5, 0, id, 0};
+        const uint8_t *frame = b + 16 + 71 * (id - 1);
+        must(same(frame, settled, 6) && all(frame + 6, id, 64) && frame[70] == 0xFE);
+    }
+    must(same(b + 229, after, sizeof after) && all(b + 251, 0xFF, S - 251));
+    for (uint32_t cut = 222; cut <= 223; cut++) {
         before_l();
-        must(ask(0, &empty) == GROMMETIDE_MORE);
+        must(ask(0, &delete) == GROMMETIDE_MORE);
         goes_on(cut);
         mounts(1);
-        log_says(cut - 150, 2, 158);
-        holds_none(1);
+        log_says(cut - 221, 3, 229);
+        holds_64(1);
         holds_64(2);
         holds_64(3);
     }
@@ -190,6 +201,9 @@ static void rows_n_o(void)
     must(put_answer(0, 256) == 1);
     must(put_answer(3, 1) == GROMMETIDE_MORE);
     must(put_answer(4, 1) == 10);
+    after_a();
+    must(ask(0, &longest) == 12);
+    must(ask(0, &longer) == 1);
     clear(&here, 1024, 2);
     formats(12);
     must(ask(0, &longer) == 1);

@@ -8,7 +8,7 @@ use store::{Answer, Field, hex};
 const REPEATED: usize = 100;
 
 /// Refusals as include/grommetide.h names them.
-const NAMES: [(Answer, &str); 12] = [
+const NAMES: [(Answer, &str); 13] = [
     (Answer::MALFORMED, "malformed"),
     (Answer::NO_STORE, "no store"),
     (Answer::FOREIGN, "foreign"),
@@ -20,6 +20,7 @@ const NAMES: [(Answer, &str); 12] = [
     (Answer::SHORT_REPLY, "short reply"),
     (Answer::HOST_RANGE, "host range"),
     (Answer::STALE, "stale"),
+    (Answer::HOST_FULL, "host full"),
     (Answer::WRONG_RECORD, "wrong record"),
 ];
 

@@ -171,6 +171,10 @@ fn pending(side: &Side, replay: &Replay, out: &mut impl Write) -> io::Result<()>
             change(&format!("  {label:6}  "), side, frame, out)?;
             label.clear();
         }
+        if label.is_empty() {
+            let (bytes, half) = (replay.pending_bytes(host), side.bytes.len() / 2);
+            writeln!(out, "          {bytes} of {half} bytes used")?;
+        }
     }
     writeln!(out)
 }

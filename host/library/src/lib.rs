@@ -14,8 +14,10 @@ pub const VALUE_LIMIT: usize = 240;
 /// Length of the longest frame, a put of the longest value.
 const LONGEST: usize = 8 + VALUE_LIMIT;
 
-/// Where the job stands in a record: after the seven bytes that anyone may know and the places of 256 values.
-pub const JOB: Range<usize> = 519..561;
+/// Where a record says what each host has pending.
+pub const PENDING: Range<usize> = 7..15;
+/// Where the job stands: after the bytes that anyone may know and the places of 256 values.
+pub const JOB: Range<usize> = 527..569;
 /// After the job there are two frames in hand.
 pub const RECORD_SIZE: usize = JOB.end + 2 * LONGEST;
 
@@ -87,6 +89,9 @@ impl Store for Library {
         record[3] = idle.block;
         record[4..6].copy_from_slice(&idle.end.to_le_bytes());
         record[6] = idle.blocks;
+        for (at, bytes) in PENDING.step_by(2).zip(idle.pending) {
+            record[at..at + 2].copy_from_slice(&bytes.to_le_bytes());
+        }
         record
     }
 
@@ -98,6 +103,7 @@ impl Store for Library {
                 block: record[3],
                 end: short(4),
                 blocks: record[6],
+                pending: [0, 1, 2, 3].map(|host| short(PENDING.start + 2 * host)),
             }),
             stage if JOB_STAGES.contains(&stage) => Head::Job,
             _ => Head::Unmounted,

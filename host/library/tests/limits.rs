@@ -1,7 +1,7 @@
 //! The longest value, the most blocks, the record's layout and the fields' numbers: what the library does, what the header
 //! says and what this wrapper knows are one.
 
-use library::{JOB, Library, RECORD_SIZE, Record, VALUE_LIMIT};
+use library::{JOB, Library, PENDING, RECORD_SIZE, Record, VALUE_LIMIT};
 use std::fs;
 use store::{Answer, Field, Head, Idle, Store, message};
 
@@ -85,6 +85,7 @@ fn the_answers_have_the_laws_numbers() {
         ("short_reply", 9),
         ("host_range", 10),
         ("stale", 11),
+        ("host_full", 12),
     ];
     let others = [("program", 252), ("erase", 253), ("wrong_record", 254), ("more", 255)];
     let stated = enumerated();
@@ -111,17 +112,41 @@ fn idle_records_are_what_the_header_says() {
     let library = Library::linked();
     for blocks in 2..=16 {
         let (image, record) = formatted(&library, blocks);
-        let idle = Idle { length: image.len(), block: 0, end: 16, blocks };
+        let idle = Idle { length: image.len(), block: 0, end: 16, blocks, pending: [0; 4] };
         assert_eq!((library.head(&record), record), (Head::Idle(idle), library.idle(idle)));
         let last = ((image.len() - 1) as u16).to_le_bytes();
         assert_eq!(record[..7], [1, last[0], last[1], 0, 16, 0, blocks]);
+        assert_eq!(record[7..], [0; RECORD_SIZE - 7]);
     }
     let header = header();
-    for line in
-        ["3      current block,", "4-5    where the current block's frames end,", "6      number of blocks"]
-    {
+    for line in [
+        "3      current block,",
+        "4-5    where the current block's frames end,",
+        "6      number of blocks",
+        "7-14   pending bytes of hosts 0 to 3, two bytes each",
+    ] {
         assert!(header.contains(&format!(" *     {line}")), "{line}");
     }
+}
+
+/// Each host's pending bytes, low byte first: puts of 240 and 100 bytes make 248 and 108, a delete 8. A mount drops them.
+#[test]
+fn pending_bytes_are_where_the_header_says() {
+    let library = Library::linked();
+    let (mut image, mut record) = formatted(&library, 2);
+    let (longest, long, delete) = (message::put(5, &[7; 240]), message::put(5, &[7; 100]), message::delete(5));
+    for (host, message) in [(3, &longest), (1, &delete), (1, &delete), (0, &long), (3, &delete)] {
+        assert_eq!(library.request(&image, 2, &mut record, host, message, &mut []), Answer::MORE);
+        while library.step(&mut image, 2, &mut record) == Answer::MORE {}
+    }
+    assert_eq!(record[PENDING], [108, 0, 16, 0, 0, 0, 0, 1]);
+    assert_eq!(record[PENDING.end..], [0; RECORD_SIZE - PENDING.end]);
+    let (_, mut mounted) = library.mount(&image, 2);
+    while library.step(&mut image, 2, &mut mounted) == Answer::MORE {}
+    assert_eq!(mounted[PENDING.start..], [0; RECORD_SIZE - PENDING.start]);
+    assert_eq!(library.unmounted(), [0; RECORD_SIZE]);
+    // a refused mount gives back an unmounted record, zeros throughout
+    assert_eq!(library.mount(&[0xFF; 512], 2), (Answer::NO_STORE, library.unmounted()));
 }
 
 #[test]
@@ -141,7 +166,7 @@ fn frames_in_hand_are_where_the_header_says() {
     let second = JOB.end + frame.len();
     assert_eq!(RECORD_SIZE, second + frame.len());
     assert_eq!(put(VALUE_LIMIT).1[second..], frame);
-    let own = format!("7-{} ", RECORD_SIZE - 1);
+    let own = format!("{}-{} the library's own", PENDING.end, RECORD_SIZE - 1);
     let job = format!("{}-{} the job", JOB.start, JOB.end - 1);
     let frames = format!("{}-{} and {second}-{} frames in hand", JOB.end, second - 1, RECORD_SIZE - 1);
     let header = header();

@@ -127,6 +127,11 @@ impl Replay {
         self.pending.iter().any(|frame| belongs(frame, host))
     }
 
+    /// The bytes of the host's pending frames (K7).
+    pub fn pending_bytes(&self, host: Host) -> usize {
+        self.pending.iter().filter(|frame| belongs(frame, host)).map(|frame| frame.place.len()).sum()
+    }
+
     /// Document 01's U.
     pub fn used(&self) -> usize {
         HEADER + self.objects().map(|(_, value)| frame::SETTLED + value.len()).sum::<usize>()

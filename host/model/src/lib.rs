@@ -1,4 +1,4 @@
-//! Document 01 with K2, K4, K5 and K14 of document 02, implemented straightforwardly and on its own: nothing here is
+//! Document 01 with K2, K4, K5, K7 and K14 of document 02, implemented straightforwardly and on its own: nothing here is
 //! shared with the proved library.
 
 pub mod block;
@@ -156,7 +156,8 @@ fn format(image: &[u8], blocks: u8) -> Result<Record, Answer> {
     let others = (0..read.len()).filter(|block| Some(*block) != current);
     let mut work: Vec<Work> = others.chain(current).map(|block| Work::erase(block, size)).collect();
     work.extend(write_block(0, 1, Vec::new()));
-    Ok(job::begin(work, Idle { length: image.len(), block: 0, end: block::HEADER as u16, blocks }))
+    let idle = Idle { length: image.len(), block: 0, end: block::HEADER as u16, blocks, pending: [0; 4] };
+    Ok(job::begin(work, idle))
 }
 
 /// Writes a block that starts at `base`: the state byte says "in progress" first and "valid" last.
@@ -207,8 +208,8 @@ fn serve(
         Request::Put(id, value) => board.change(host, frame::put(host, id, value), 14),
         Request::Delete(id) => board.change(host, frame::delete(host, id), 0),
         Request::Commit | Request::Abort if !board.replay.has_pending(host) => Ok(record.clone()),
-        Request::Commit => board.append(frame::commit(host)),
-        Request::Abort => board.append(frame::abort(host)),
+        Request::Commit => board.append(host, frame::commit(host), 0),
+        Request::Abort => board.append(host, frame::abort(host), 0),
     }
 }
 
@@ -240,7 +241,9 @@ impl<'a> Board<'a> {
         let board = Board::new(image, blocks, block, block::read(others.remove(block)))?;
         let room = board.replay.claimed() + frame::MARK * board.replay.open(None) <= board.size();
         let ends = board.journal.end == usize::from(idle.end) && !board.journal.torn;
-        (ends && room && others.into_iter().all(|other| block::read(other) == Block::Blank)).then_some(board)
+        let counts = idle.pending == board.pending();
+        (ends && room && counts && others.into_iter().all(|other| block::read(other) == Block::Blank))
+            .then_some(board)
     }
 
     fn size(&self) -> usize {
@@ -257,7 +260,13 @@ impl<'a> Board<'a> {
     }
 
     fn idle(&self, block: usize, end: usize) -> Idle {
-        Idle { length: self.image.len(), block: block as u8, end: end as u16, blocks: self.blocks }
+        let (length, blocks) = (self.image.len(), self.blocks);
+        Idle { length, block: block as u8, end: end as u16, blocks, pending: self.pending() }
+    }
+
+    /// What the record says of each host (K7).
+    fn pending(&self) -> [u16; 4] {
+        [0, 1, 2, 3].map(|host| self.replay.pending_bytes(Host(host)) as u16)
     }
 
     fn find(&self, id: Id) -> Option<Stretch> {
@@ -277,22 +286,29 @@ impl<'a> Board<'a> {
         page
     }
 
-    /// A put or delete, by the room rule; `spare` is what must stay free beyond it.
+    /// A put or delete: the host's pending frames have half a block at most (K7), then the room rule; `spare` is what must
+    /// stay free beyond it.
     fn change(&self, host: Host, frame: Vec<u8>, spare: usize) -> Result<Record, Answer> {
+        let pending = self.replay.pending_bytes(host) + frame.len();
+        if pending > self.size() / 2 {
+            return Err(Answer::HOST_FULL);
+        }
         let marks = frame::MARK * self.replay.open(Some(host));
         if self.replay.claimed() + frame.len() + marks + spare > self.size() {
             return Err(Answer::NO_ROOM);
         }
-        self.append(frame)
+        self.append(host, frame, pending)
     }
 
-    fn append(&self, frame: Vec<u8>) -> Result<Record, Answer> {
+    /// A frame of this host, which then has so many bytes pending.
+    fn append(&self, host: Host, frame: Vec<u8>, pending: usize) -> Result<Record, Answer> {
         let (mut work, block, at) = if self.journal.end + frame.len() > self.size() {
             (self.transfer()?, self.next(), self.replay.claimed())
         } else {
             (Vec::new(), self.block, self.journal.end)
         };
-        let idle = self.idle(block, at + frame.len());
+        let mut idle = self.idle(block, at + frame.len());
+        idle.pending[usize::from(host.0)] = pending as u16;
         work.push(Work::program(block * self.size() + at, frame));
         Ok(job::begin(work, idle))
     }

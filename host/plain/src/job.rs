@@ -29,6 +29,8 @@ pub struct Record {
     pub blocks: u8,
     pub block: u8,
     pub end: u16,
+    /// By host, the bytes of its pending frames; in a job, what they are when it ends.
+    pub pending: [u16; 4],
     /// The bytes of a block.
     size: u16,
     /// How many blocks are erased first, and which, in this order.
@@ -59,6 +61,7 @@ impl Record {
         blocks: 0,
         block: 0,
         end: 0,
+        pending: [0; 4],
         size: 0,
         wipes: 0,
         wipe: [0; MOST],
@@ -76,10 +79,10 @@ impl Record {
     };
 
     /// A record that names a block of an image, with nothing to do.
-    pub fn rest(&mut self, Idle { length, block, end, blocks }: Idle) {
+    pub fn rest(&mut self, Idle { length, block, end, blocks, pending }: Idle) {
         self.phase = Phase::Idle;
         self.length = length as u32;
-        (self.blocks, self.block, self.end) = (blocks, block, end);
+        (self.blocks, self.block, self.end, self.pending) = (blocks, block, end, pending);
         (self.wipes, self.index) = (0, 0);
         (self.makes, self.drops) = (false, false);
         self.frame[0] = 0;
@@ -87,7 +90,8 @@ impl Record {
 
     /// What it names.
     pub fn idle(&self) -> Idle {
-        Idle { length: self.length as usize, block: self.block, end: self.end, blocks: self.blocks }
+        let (length, pending) = (self.length as usize, self.pending);
+        Idle { length, block: self.block, end: self.end, blocks: self.blocks, pending }
     }
 
     /// Erases this block after those asked for before.
@@ -117,11 +121,14 @@ impl Record {
         }
     }
 
+    /// A frame is written: a change adds to what its host has pending, a commit or abort ends that.
     pub fn append(&mut self, head: &[u8], value: &[u8]) {
         let finish = head.len() + value.len();
         self.frame[..head.len()].copy_from_slice(head);
         self.frame[head.len()..finish].copy_from_slice(value);
         self.frame[finish] = FINISH;
+        let pending = &mut self.pending[usize::from(head[4])];
+        *pending = if head[2] <= DELETE { *pending + finish as u16 + 1 } else { 0 };
     }
 
     /// Takes up what was asked for above.

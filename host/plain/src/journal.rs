@@ -49,7 +49,7 @@ pub struct Journal {
     pub used: usize,
     /// By host, its first pending frame and the bytes of all of them.
     pub since: [u16; 4],
-    pub pending: [usize; 4],
+    pub pending: [u16; 4],
 }
 
 impl Journal {
@@ -111,7 +111,7 @@ impl Journal {
                     if self.pending[host] == 0 {
                         self.since[host] = at as u16;
                     }
-                    self.pending[host] += length;
+                    self.pending[host] += length as u16;
                 }
             }
             least = if kind == SETTLED { u16::from(number) + 1 } else { 256 };
@@ -159,7 +159,7 @@ impl Journal {
 
     /// Document 01's C.
     pub fn claimed(&self) -> usize {
-        self.used + self.pending.iter().sum::<usize>()
+        self.used + self.pending.iter().map(|bytes| usize::from(*bytes)).sum::<usize>()
     }
 
     /// How many hosts have something pending once `also` has.

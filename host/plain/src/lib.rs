@@ -38,7 +38,8 @@ fn begin_mount(image: &[u8], blocks: u8, record: &mut Record) -> Result<Answer, 
     if dirty && look.journal.time == u32::MAX {
         return Err(Answer::WORN);
     }
-    record.rest(Idle { length: image.len(), block: block as u8, end: look.journal.end as u16, blocks });
+    let (length, end, pending) = (image.len(), look.journal.end as u16, [0; 4]);
+    record.rest(Idle { length, block: block as u8, end, blocks, pending });
     for other in (0..MOST).filter(|other| *other != block && look.used[*other]) {
         record.wipe(other);
     }
@@ -68,7 +69,7 @@ pub fn format(image: &[u8], blocks: u8, record: &mut Record) -> Answer {
         Err(refusal) => return refusal,
     };
     let current = Look::at(image, size).current();
-    record.rest(Idle { length: image.len(), block: 0, end: HEADER as u16, blocks });
+    record.rest(Idle { length: image.len(), block: 0, end: HEADER as u16, blocks, pending: [0; 4] });
     for block in (0..usize::from(blocks)).filter(|block| Some(*block) != current) {
         record.wipe(block);
     }
@@ -106,10 +107,12 @@ fn serve(
     match (kind, body) {
         (1, [id, 0, value @ ..]) if value.len() <= VALUE_LIMIT => {
             let length = 8 + value.len();
+            half(size, record, host, length)?;
             room(size, &journal, host, length + MARK + 8)?;
             append(image, size, record, &journal, &[length as u8, 0, PUT, 0, host, *id, 0], value)
         }
         (2, [id, 0]) => {
+            half(size, record, host, 8)?;
             room(size, &journal, host, 8)?;
             append(image, size, record, &journal, &[8, 0, DELETE, 0, host, *id, 0], &[])
         }
@@ -164,12 +167,14 @@ fn fresh(image: &[u8], blocks: u8, record: &Record, host: u8, journal: &mut Jour
     if stale { Err(Answer::STALE) } else { Ok(size) }
 }
 
-/// Whether the record's block is valid up to the recorded end, with room to settle, and all others are blank.
+/// Whether the record's block is valid up to the recorded end, with what the record says pending and room to settle, and all
+/// others are blank.
 fn rests(image: &[u8], size: usize, record: &Record, journal: &mut Journal) -> bool {
     let (before, rest) = image.split_at(size * usize::from(record.block));
     let (block, after) = rest.split_at(size);
     journal.read(block) == State::Valid
         && journal.end == usize::from(record.end)
+        && journal.pending == record.pending
         && !journal.torn
         && blank(before)
         && blank(after)
@@ -191,6 +196,12 @@ fn settled(journal: &Journal, id: u8) -> Result<usize, Answer> {
         0 => Err(Answer::NO_OBJECT),
         place => Ok(usize::from(place)),
     }
+}
+
+/// A host may have half a block pending.
+fn half(size: usize, record: &Record, host: u8, bytes: usize) -> Result<(), Answer> {
+    let pending = usize::from(record.pending[usize::from(host)]) + bytes;
+    if pending > size / 2 { Err(Answer::HOST_FULL) } else { Ok(()) }
 }
 
 fn room(size: usize, journal: &Journal, host: u8, bytes: usize) -> Result<(), Answer> {

@@ -24,6 +24,7 @@ impl Answer {
     pub const SHORT_REPLY: Answer = Answer(9);
     pub const HOST_RANGE: Answer = Answer(10);
     pub const STALE: Answer = Answer(11);
+    pub const HOST_FULL: Answer = Answer(12);
     pub const PROGRAM: Answer = Answer(252);
     pub const ERASE: Answer = Answer(253);
     pub const WRONG_RECORD: Answer = Answer(254);
@@ -54,6 +55,8 @@ pub struct Idle {
     pub end: u16,
     /// How many blocks the image was said to be.
     pub blocks: u8,
+    /// By host, the bytes of its pending frames.
+    pub pending: [u16; 4],
 }
 
 /// What anyone may know of a record; a job's inside is its store's own.

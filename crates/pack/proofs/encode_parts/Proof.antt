@@ -59,6 +59,7 @@ returns-2 c =
     let r = assemble (args′ .n) (now (args′ .places)) (now (args′ .unit)) (now (args′ .frame)) in
     let sized : Sized r =
     record {
+      pending = search (needs, good′ .0 .1 .1 .1 .0 .1 .1 .1 .1 .1 .1 .0);
       places = search (needs, lay-words-arg2′ .given);
       wipe = search (needs, good′ .0 .1 .1 .1 .1 .0 .1 .1 .0);
       since = search (needs, good′ .0 .1 .1 .1 .1 .0 .1 .1 .1 .1 .1 .1 .1 .1 .0);

@@ -10,26 +10,23 @@ returns c =
     let is-worn′ = c .before .before .is-worn in
     let args′ = c .before .before .before .before .args in
     c .refused .ensures
-    ∙ append-worn (args′ .size) (args′ .rest) (args′ .s) (args′ .n) (is-worn′ .result) (is-worn′ .ensures)
-    (c .before .if1 .taken)
+    ∙ append-worn (args′ .size) (args′ .rest) (args′ .s) (args′ .n) (args′ .pending) (is-worn′ .result) (is-worn′ .ensures) (c .before .if1 .taken)
 
 returns-2 : tie.Need-returns-2
 returns-2 c =
-    let c6 = c .before .before .before .before .before .before in
-    let c8 = c6 .before .before in
-    let if1′ = c .before .before .before .before .before .if1 in
-    let is-worn′ = c6 .is-worn in
-    let args′ = c8 .args in
+    let if1′ = c .before .before .before .before .before .before .if1 in
+    let is-worn′ = c .before .before .before .before .before .before .before .is-worn in
+    let args′ = c .before .before .before .before .before .before .before .before .before .args in
     c .begin .ensures
     ∙ rw (
-      c .before .before .before .next-block .ensures,
-      c .before .before .new-time .ensures,
+      c .before .before .before .before .next-block .ensures,
+      c .before .before .before .new-time .ensures,
       sym (is-worn′ .ensures) ∙ if1′ .left,
+      c .before .before .counting .ensures,
       c .before .starting .ensures,
-    ) (append-begun (args′ .size) (args′ .rest) (args′ .s) (args′ .n) (is-worn′ .result) (is-worn′ .ensures)
-    (if1′ .left))
+    ) (append-begun (args′ .size) (args′ .rest) (args′ .s) (args′ .n) (args′ .pending) (is-worn′ .result) (is-worn′ .ensures) (if1′ .left))
 
 pub append-spec : {M : Type 1} → statement M
 append-spec = tie.close (tie.spec
     (λ c. search needs) (λ c. search needs) (λ c κs. search needs) (λ c κs. search needs) returns (λ c κs. search needs) (λ c κs. search needs)
-    (λ c κs. search needs) (λ c κs. search needs) returns-2)
+    (λ c κs. search needs) (λ c κs. search needs) (λ c κs. search needs) returns-2)

@@ -25,7 +25,7 @@ returns c =
       c3 .byte-at4 .ensures,
       c .before .number-in .ensures,
       c .before .before .tail3 .ensures,
-      c9 .since-in .ensures,
+      c9 .hosts-in .ensures,
       c10 .tail2 .ensures,
       c .byte-at5 .ensures,
       c11 .tail .ensures,

@@ -119,6 +119,32 @@ fn worn_under_way() {
     machine.cut();
 }
 
+/// Eight puts of 240 bytes are 8 * 248 = 1984 bytes of the 2,048 that are half a block; 56 bytes of value make it full.
+#[test]
+fn a_host_that_is_full() {
+    let chip = chip("host-full", &[]);
+    let mut machine = start(&chip, &[BLANK, FORMATTED]);
+    let value = "ab".repeat(240);
+    for id in 0..8 {
+        check(&mut machine, &[(&format!("put 1 {id} {value}"), "0 done, 248 steps")]);
+    }
+    let full = "12 host full: this host may have half a block pending: commit or abort first";
+    check(
+        &mut machine,
+        &[
+            (&format!("put 1 8 {value}"), full),
+            (&format!("put 1 8 {}", "cd".repeat(57)), full),
+            (&format!("put 1 8 {}", "cd".repeat(56)), "0 done, 64 steps"),
+            ("delete 1 8", full),
+            (&format!("put 2 9 {value}"), "0 done, 248 steps"),
+            ("commit 1", "0 done, 6 steps"),
+            ("delete 1 8", "0 done, 8 steps"),
+            ("log", "0 done: time 1, 9 objects, 2055 of 4096 bytes used"),
+        ],
+    );
+    machine.cut();
+}
+
 /// Each object of 240 bytes needs 247, its put 248 + 6 + 14: after sixteen, 16 + 16 * 247 + 268 is more than 4,096. Frames
 /// then end at 16 + 16 * 254 = 4080. A delete and its commit fit behind them, and the next put comes with a transfer:
 /// 16 + 15 * 247 - 5 + 248 = 3964 steps.

@@ -34,6 +34,11 @@ impl<M: Modelled, L: Drive, P: Store> Run<M, L, P> {
             Wish::Put(_, value) => (8 + value.len(), taken + 8 + value.len() + 14 <= self.twin.size()),
             Wish::Delete(_) => (8, taken + 8 <= self.twin.size()),
         };
+        if matches!(wish, Wish::Put(..) | Wish::Delete(_))
+            && self.book.pending(host) + frame > self.twin.size() / 2
+        {
+            return (Answer::HOST_FULL, 0);
+        }
         let transfer = usize::from(idle.end) + frame > self.twin.size();
         if !room {
             (Answer::NO_ROOM, 0)
@@ -106,6 +111,9 @@ impl<M: Modelled, L: Drive, P: Store> Run<M, L, P> {
         let (objects, lists) = found(self.twin.block(usize::from(idle.block)));
         assert_eq!(objects, self.book.objects, "replay's objects are not the book's");
         assert_eq!(lists, self.book.lists, "replay's lists are not the book's");
+        let pending = [0, 1, 2, 3].map(|host| self.book.pending(host));
+        assert_eq!(idle.pending.map(usize::from), pending, "the record's pending bytes are not the book's");
+        assert!(pending.iter().all(|bytes| *bytes <= self.twin.size() / 2), "a host has more than half a block");
         if lists == Lists::default() {
             assert!(self.book.used() + 14 <= self.twin.size(), "U + 14 exceeds S though nothing is pending");
         }

@@ -6,6 +6,7 @@ use crate::blocks::{self, Wear};
 use crate::book::Book;
 use crate::cuts::{Allowed, Cuts, Start, newest};
 use crate::generate::{self, Manner, Wish};
+use crate::pending;
 use crate::raise;
 use crate::rng::Rng;
 use crate::side::{Modelled, Stores};
@@ -142,8 +143,10 @@ impl<M: Modelled, L: Drive, P: Store> Run<M, L, P> {
             (Head::Job, 90..=92) => self.any_request(),
             (Head::Job, _) => self.cut_short(),
             (Head::Idle(_), 0..=1) => self.steps(1),
-            (Head::Idle(_), 2..=13) => self.put_at_the_limit(),
-            (Head::Idle(_), 14..=96) => self.any_request(),
+            (Head::Idle(_), 2..=9) => self.put_at_the_limit(),
+            (Head::Idle(_), 10..=17) => self.put_at_the_hosts_limit(),
+            (Head::Idle(idle), 18..=20) => pending::mislead(&mut self.twin, &mut self.rng, idle),
+            (Head::Idle(_), 21..=96) => self.any_request(),
             (Head::Unmounted, 0..=19) => self.any_request(),
             (Head::Unmounted, 20..=24) => self.steps(1),
             _ => self.restart(),
@@ -222,8 +225,24 @@ impl<M: Modelled, L: Drive, P: Store> Run<M, L, P> {
     fn put_at_the_limit(&mut self) {
         let host = self.rng.below(4);
         let taken = self.book.claimed() + 8 + 6 * self.book.open(host) + 14;
-        let free = self.twin.size().saturating_sub(taken).min(VALUE_LIMIT) + self.rng.below(2);
-        let value = generate::value(&mut self.rng, free);
+        self.put_of_about(host, self.twin.size().saturating_sub(taken));
+    }
+
+    /// The longest put that makes half a block with what its host has pending, or the next longer one; or a delete.
+    fn put_at_the_hosts_limit(&mut self) {
+        let host = self.rng.below(4);
+        let free = (self.twin.size() / 2).saturating_sub(self.book.pending(host) + 8);
+        if free < 8 && self.rng.once_in(2) {
+            let id = self.manner.id(&mut self.rng);
+            return self.wish(host as u8, &Wish::Delete(id));
+        }
+        self.put_of_about(host, free);
+    }
+
+    /// A put of so many bytes, of the longest value if these are more, or of one byte more than that.
+    fn put_of_about(&mut self, host: usize, free: usize) {
+        let size = free.min(VALUE_LIMIT) + self.rng.below(2);
+        let value = generate::value(&mut self.rng, size);
         let id = self.manner.id(&mut self.rng);
         self.wish(host as u8, &Wish::Put(id, value));
     }

@@ -10,7 +10,7 @@ use model::{Model, Record};
 use store::{Answer, Store, Stretch, message};
 
 /// A run of two blocks, or of three in which no power is lost.
-fn run(store: Altered, blocks: u8) -> Made {
+pub fn run(store: Altered, blocks: u8) -> Made {
     let (length, calm) = (256 * usize::from(blocks), blocks > 2);
     let (cut_jobs, most_cuts) = (0, 0);
     let plan = Plan { seed: 7, blocks, length, calls: 3_000, time: 1, cut_jobs, most_cuts, filled: false, calm };

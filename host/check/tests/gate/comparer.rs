@@ -126,6 +126,20 @@ fn a_record() {
     });
 }
 
+/// The same with other bytes pending.
+#[test]
+#[should_panic(expected = "end: 16, blocks: 2, pending: [0, 0, 1, 0] }), the model's Idle(")]
+fn a_record_of_other_pending_bytes() {
+    in_plain(Altered {
+        format: |image, blocks| {
+            let (answer, record) = Model.format(image, blocks);
+            let (steps, idle) = steps(&record).expect("a job");
+            (answer, job(steps, Idle { pending: [0, 0, 1, 0], ..idle }))
+        },
+        ..RIGHT
+    });
+}
+
 /// A step that harms the image's last byte beside what it does.
 const HARMS: Altered = Altered {
     step: |image, blocks, record| {

@@ -181,7 +181,7 @@ fn frames_of_the_longest_value() {
 fn frames_to_the_very_end() {
     let last = [frame::put(Host(0), Id(2), b"last"), frame::commit(Host(0))].concat();
     let mut twin = with_tail(&last, last.len());
-    twin.forge(Idle { length: LONG, block: 0, end: S as u16, blocks: 2 });
+    twin.forge(Idle { length: LONG, block: 0, end: S as u16, blocks: 2, pending: [0; 4] });
     assert_eq!(twin.ask(1, &message::commit()), Answer::DONE);
     assert_eq!(twin.whole(&Call::Mount), (Answer::DONE, 0));
     assert_eq!(twin.ids(), [1, 2]);
@@ -270,7 +270,10 @@ fn a_foreign_block_is_erased_beside_a_valid_one() {
             blocks.rotate_left(block);
             let mut twin = Twin::new(&blocks.concat());
             assert_eq!(twin.whole(&Call::Mount), (Answer::DONE, 1), "byte {at}");
-            assert_eq!(twin.idle(), Some(Idle { length: LONG, block: block as u8, end: 27, blocks: 2 }));
+            assert_eq!(
+                twin.idle(),
+                Some(Idle { length: LONG, block: block as u8, end: 27, blocks: 2, pending: [0; 4] })
+            );
             assert_eq!(twin.image()[(1 - block) * S..][..S], [0xFF; S]);
             assert_eq!(twin.value(1), Some(b"kept".to_vec()));
         }

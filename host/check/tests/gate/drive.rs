@@ -5,7 +5,7 @@
 use check::forged;
 use check::rng::Rng;
 use check::twin::Twin;
-use library::{Driven, JOB, Library, RECORD_SIZE, Record, Told};
+use library::{Driven, JOB, Library, PENDING, RECORD_SIZE, Record, Told};
 use std::collections::BTreeMap;
 use store::{Answer, Head, Store, message};
 
@@ -41,9 +41,12 @@ const BYTES: [(usize, &[u8]); 12] = [
     (JOB.start + 41, &[0, 1, 6, 246, 247, 248, 254, 255]),
 ];
 
-/// Two-byte fields: end, then in the job each host's mark, next offset, next id, next frame to copy.
-const WORDS: [usize; 8] = [
+/// Two-byte fields: end, what the first and the last host have pending, then in the job each host's mark, next offset, next
+/// id, next frame to copy.
+const WORDS: [usize; 10] = [
     4,
+    PENDING.start,
+    PENDING.end - 2,
     JOB.start + 24,
     JOB.start + 26,
     JOB.start + 28,

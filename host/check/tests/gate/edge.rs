@@ -1,7 +1,7 @@
 //! The edge to C: buffers of wrong sizes, forged records in no job, nothing kept between calls.
 
 use check::rng::Rng;
-use library::{Library, RECORD_SIZE, Record, Told, UNCOUNTED};
+use library::{Library, PENDING, RECORD_SIZE, Record, Told, UNCOUNTED};
 use store::{Answer, Head, Store, Stretch, message};
 
 const LENGTH: usize = 512;
@@ -69,7 +69,7 @@ fn records_of_no_phase() {
     }
 }
 
-/// An idle record's first seven bytes decide, whatever the others are.
+/// An idle record's first fifteen bytes decide, whatever the others are.
 #[test]
 fn idle_records_with_other_bytes_set() {
     let library = Library::linked();
@@ -77,7 +77,7 @@ fn idle_records_with_other_bytes_set() {
     let mut rng = Rng::new(2);
     for _ in 0..100 {
         let mut record: Record = rng.bytes(RECORD_SIZE).try_into().expect("a record's bytes");
-        record[..7].copy_from_slice(&tidy[..7]);
+        record[..PENDING.end].copy_from_slice(&tidy[..PENDING.end]);
         let kept = record;
         no_steps(&library, &mut image, &mut record);
         assert_eq!(library.request(&image, 2, &mut record, 0, &message::read(1), &mut []), Answer::NO_OBJECT);
@@ -96,7 +96,7 @@ fn nothing_is_kept_between_calls() {
     let message = |board: usize, id: u8| message::put(id, &[board as u8; 30]);
     let serve = |boards: &mut [(Vec<u8>, Record)], number: usize, id: u8| {
         let (image, record) = &mut boards[number];
-        library.request(image, 2, record, 0, &message(number, id), &mut [])
+        library.request(image, 2, record, id % 4, &message(number, id), &mut [])
     };
     let mut together = [formatted(&library), formatted(&library)];
     let mut apart = [formatted(&library), formatted(&library)];

@@ -156,6 +156,7 @@ fn the_longest_jobs() {
                 block: target,
                 end: (16 + 256 * (7 + value) + 255) as u16,
                 blocks,
+                pending: [0; 4],
             })
         );
     }

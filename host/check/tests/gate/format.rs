@@ -75,7 +75,10 @@ fn the_order_of_the_erases() {
             }
             assert_eq!(twin.finish(), (Answer::DONE, 10));
             assert_eq!(twin.image(), [block(&FORMATTED), block(&[])].concat());
-            assert_eq!(twin.head(), Head::Idle(Idle { length: LENGTH, block: 0, end: 16, blocks: 2 }));
+            assert_eq!(
+                twin.head(),
+                Head::Idle(Idle { length: LENGTH, block: 0, end: 16, blocks: 2, pending: [0; 4] })
+            );
             seen[order[1]] += 1;
         }
     }

@@ -1,6 +1,7 @@
 //! Limits that random runs reach by chance or not at all: each has a case of its own.
 
 use super::blocks::{NUMBERS, Part, image, twin};
+use check::pending::of_block;
 use check::twin::{Call, Twin};
 use store::{Answer, Fault, Field, Idle, message};
 
@@ -31,7 +32,8 @@ fn recorded(size: usize, time: u32, frames: &[Vec<u8>]) -> Twin {
     assert!(end <= size);
     image.resize(2 * size, 0xFF);
     let mut twin = Twin::new(&image);
-    twin.forge(Idle { length: 2 * size, block: 0, end: end as u16, blocks: 2 });
+    let pending = of_block(&image[..size]);
+    twin.forge(Idle { length: 2 * size, block: 0, end: end as u16, blocks: 2, pending });
     twin
 }
 
@@ -59,7 +61,8 @@ fn objects_of_every_id() {
     assert_eq!(twin.log()[8..], [0, 1, 0x10, 8, 0, 16]);
 }
 
-/// C is 16 + 72 + 72 + 66 + 8 + 8 + 8 = 250, all of it host 0's: one mark fits, and is the last frame.
+/// C is 16 + 72 + 72 + 66 + 8 + 8 + 8 = 250, all of it host 0's, as a store of before K7 may leave it: one mark fits, and is the
+/// last frame.
 fn one_mark_left(before: &[Vec<u8>]) -> Twin {
     let puts = [put(0, 1, &[1; 64]), put(0, 2, &[2; 64]), put(0, 3, &[3; 58]), put(0, 4, &[])];
     recorded(S, 1, &[before, &puts, &[delete(0, 1), delete(0, 2)]].concat())
@@ -71,14 +74,15 @@ fn a_mark_where_c_and_six_are_s() {
     let idle_mark = vec![6, 0, 3, 0, 3, 0xFE];
     for (message, kind, ids) in [(message::abort(), 4, vec![]), (message::commit(), 3, vec![3, 4])] {
         let mut twin = one_mark_left(&[]);
-        assert_eq!(twin.ask(0, &message::delete(3)), Answer::NO_ROOM);
+        assert_eq!(twin.ask(0, &message::delete(3)), Answer::HOST_FULL);
+        assert_eq!(twin.ask(1, &message::delete(3)), Answer::NO_ROOM);
         assert_eq!(twin.serve(0, &message), done(6));
-        assert_eq!(twin.idle(), Some(Idle { length: LENGTH, block: 0, end: 256, blocks: 2 }));
+        assert_eq!(twin.idle(), Some(Idle { length: LENGTH, block: 0, end: 256, blocks: 2, pending: [0; 4] }));
         assert_eq!(twin.ids(), ids);
 
         let mut twin = one_mark_left(std::slice::from_ref(&idle_mark));
         assert_eq!(twin.serve(0, &message), done(250 - 5 + 6));
-        assert_eq!(twin.idle(), Some(Idle { length: LENGTH, block: 1, end: 256, blocks: 2 }));
+        assert_eq!(twin.idle(), Some(Idle { length: LENGTH, block: 1, end: 256, blocks: 2, pending: [0; 4] }));
         assert_eq!(twin.image()[LENGTH - 6..], [6, 0, kind, 0, 0, 0xFE]);
         assert_eq!(twin.ids(), ids);
     }

@@ -19,7 +19,7 @@ fn done(steps: usize) -> (Answer, usize) {
 }
 
 fn idle(block: u8, end: usize) -> Head {
-    Head::Idle(Idle { length: LENGTH, block, end: end as u16, blocks: 2 })
+    Head::Idle(Idle { length: LENGTH, block, end: end as u16, blocks: 2, pending: [0; 4] })
 }
 
 fn request(host: u8, message: Vec<u8>) -> Call {
@@ -71,31 +71,37 @@ fn values_of_every_length() {
     }
 }
 
-/// An empty store has C = 16, and one host is open: a put of 240 bytes makes 16 + 248 + 6 + 14 = 284, one of 212 makes
-/// 256. 1 goes before 7.
+/// A put may have half a block: of 256 bytes 8 + 120, of 384 bytes 8 + 184, of 512 more than the longest has. An empty store
+/// has room for each of them. 1 goes before 12, and 12 before 7: 16 + 248 + 6 + 14 = 284.
 #[test]
 fn room_in_small_blocks() {
     let answer = |length: usize, size: usize| Twin::formatted(length).ask(0, &message::put(1, &vec![0; size]));
-    assert_eq!(answer(512, 240), Answer::NO_ROOM);
-    assert_eq!(answer(512, 213), Answer::NO_ROOM);
-    assert_eq!(answer(512, 212), Answer::MORE);
-    assert_eq!(answer(512, 241), Answer::MALFORMED);
-    assert_eq!(answer(768, 240), Answer::MORE);
-    assert_eq!(answer(768, 241), Answer::MALFORMED);
+    for (length, most) in [(512, 120), (768, 184), (1_024, 240)] {
+        for size in 0..=most {
+            assert_eq!(answer(length, size), Answer::MORE, "{size} bytes");
+        }
+        for size in most + 1..=240 {
+            assert_eq!(answer(length, size), Answer::HOST_FULL, "{size} bytes");
+        }
+        assert_eq!(answer(length, 241), Answer::MALFORMED);
+    }
 }
 
-/// Pending, a value of 240 bytes makes C = 264: with 8 + 220 + 6 + 14 for its host, or 8 + 214 + 12 + 14 for another, that
-/// is 512. Settled, it makes U = 263, and a value of 221 bytes fits.
+/// Pending, a value of 240 bytes leaves its host 8 bytes of half a block, an empty value. It makes C = 264: with 8 + 214 + 12
+/// + 14 for another host that is 512. Settled, it makes U = 263, and a value of 221 bytes fits.
 #[test]
 fn room_beside_a_long_value() {
-    for (host, commits, most) in [(0, false, 220), (1, false, 214), (1, true, 221)] {
+    let hosts_own = (0, false, 0, Answer::HOST_FULL);
+    for (host, commits, most, refusal) in
+        [hosts_own, (1, false, 214, Answer::NO_ROOM), (1, true, 221, Answer::NO_ROOM)]
+    {
         let mut twin = Twin::formatted(LENGTH);
         assert_eq!(twin.serve(0, &message::put(1, &[7; LONGEST_VALUE])), done(LONGEST_FRAME));
         if commits {
             assert_eq!(twin.serve(0, &message::commit()), done(6));
             assert_eq!(twin.log()[8..14], [1, 0, 7, 1, 0, 2]);
         }
-        assert_eq!(twin.ask(host, &message::put(2, &vec![0; most + 1])), Answer::NO_ROOM);
+        assert_eq!(twin.ask(host, &message::put(2, &vec![0; most + 1])), refusal);
         assert_eq!(twin.ask(host, &message::put(2, &vec![0; most])), Answer::MORE);
     }
 }
@@ -185,7 +191,8 @@ fn before_a_transfer() -> Twin {
     assert_eq!(twin.serve(0, &put(4)), done(LONGEST_FRAME));
     assert_eq!(twin.serve(0, &message::commit()), done(6));
     assert_eq!(twin.serve(3, &put(7)), done(LONGEST_FRAME));
-    assert_eq!(twin.idle(), Some(Idle { length: 2 * LENGTH, block: 0, end: 1_020, blocks: 2 }));
+    let pending = [0, 0, 0, 248];
+    assert_eq!(twin.idle(), Some(Idle { length: 2 * LENGTH, block: 0, end: 1_020, blocks: 2, pending }));
     twin
 }
 
@@ -194,7 +201,7 @@ fn before_a_transfer() -> Twin {
 fn a_transfer_of_long_values() {
     let mut twin = before_a_transfer();
     assert_eq!(twin.serve(3, &message::commit()), done(753 + 6));
-    assert_eq!(twin.idle(), Some(Idle { length: 2 * LENGTH, block: 1, end: 764, blocks: 2 }));
+    assert_eq!(twin.idle(), Some(Idle { length: 2 * LENGTH, block: 1, end: 764, blocks: 2, pending: [0; 4] }));
     let value = |id: u8| vec![id; LONGEST_VALUE];
     let settled = |id: u8| [&[0xF7, 0, 5, 0, id, 0][..], &value(id), &[0xFE]].concat();
     let put = [&[0xF8, 0, 1, 0, 3, 7, 0][..], &value(7), &[0xFE]].concat();

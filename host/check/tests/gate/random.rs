@@ -28,6 +28,13 @@ fn seen_values(sum: &Sum) {
     assert!(sum.tally.with_value("request", Answer::MALFORMED, 241) > 0, "no put of 241 bytes was tried");
 }
 
+/// Hosts were full, there was no room though they were not, and counts of pending bytes were wrong, not just a few times.
+fn seen_pending(tally: &Tally) {
+    let [full, room] = [Answer::HOST_FULL, Answer::NO_ROOM].map(|answer| tally.of("request", answer));
+    assert!(full > 100 && room > 100, "{full} hosts were full, {room} times there was no room");
+    assert!(tally.pending > 100, "{} counts were wrong", tally.pending);
+}
+
 /// Each block up to this one was found broken in each field.
 fn seen_faults(sum: &Sum, last: usize) {
     for (block, field) in (0..=last).flat_map(|block| Field::ALL.map(|field| (block, field))) {
@@ -41,7 +48,8 @@ fn seen_runs(sum: &Sum) {
     assert!(sum.own_inside > 50, "{} of them in runs themselves", sum.own_inside);
     assert_eq!(sum.tally.of("mount", Answer::FOREIGN), 0);
     seen(&sum.own, "mount", &[0, 2, 6, 255].map(Answer));
-    seen(&sum.own, "request", &[0, 1, 2, 4, 5, 6, 7, 8, 9, 10, 11, 255].map(Answer));
+    seen(&sum.own, "request", &[0, 1, 2, 4, 5, 6, 7, 8, 9, 10, 11, 12, 255].map(Answer));
+    seen_pending(&sum.own);
     seen(&sum.own, "step", &[0, 11, 255].map(Answer));
     seen(&sum.own, "run", &[0, 11, 255].map(Answer));
     seen(&sum.own, "read", &[0, 4, 5, 8, 10, 11].map(Answer));
@@ -82,7 +90,8 @@ fn runs_of_more_blocks() {
 
 fn seen_images(sum: &Sum) {
     seen(&sum.tally, "mount", &[0, 2, 3, 6, 255].map(Answer));
-    seen(&sum.tally, "request", &[0, 1, 2, 6, 7, 8, 9, 10, 11, 255].map(Answer));
+    seen(&sum.tally, "request", &[0, 1, 2, 6, 7, 8, 9, 10, 11, 12, 255].map(Answer));
+    seen_pending(&sum.tally);
     seen(&sum.tally, "read", &[0, 1, 2, 8, 10, 11].map(Answer));
 }
 

@@ -1,5 +1,6 @@
 //! Each refusal of document 01's table, and that an earlier one goes before a later one.
 
+use check::pending::of_block;
 use check::twin::{Call, Outcome, Twin, UNWRITTEN};
 use store::{Answer, Head, Idle, Stretch, message};
 
@@ -27,7 +28,7 @@ fn in_a_job() -> Twin {
 /// A record that the image does not bear out.
 fn misplaced() -> Twin {
     let mut twin = formatted();
-    twin.forge(Idle { length: LENGTH, block: 0, end: 17, blocks: 2 });
+    twin.forge(Idle { length: LENGTH, block: 0, end: 17, blocks: 2, pending: [0; 4] });
     twin
 }
 
@@ -92,7 +93,7 @@ fn unmounted() {
 fn a_record_that_is_not_the_images_goes_before_the_message() {
     let messages =
         [message::put(2, b"y"), message::read(1), message::log(), message::commit(), MALFORMED.to_vec()];
-    let record = |length, block, end| Idle { length, block, end, blocks: 2 };
+    let record = |length, block, end| Idle { length, block, end, blocks: 2, pending: [0; 4] };
     let wrong = [
         record(768, 0, 16),
         record(511, 0, 16),
@@ -152,7 +153,8 @@ fn an_image_without_room_for_the_commits() {
         let frames = [put(0, 64), put(0, 64), put(second_host, 64), put(0, 7)].concat();
         image[16..16 + frames.len()].copy_from_slice(&frames);
         let mut twin = Twin::new(&image);
-        twin.forge(Idle { length: LENGTH, block: 0, end: 16 + frames.len() as u16, blocks: 2 });
+        let pending = of_block(&image[..LENGTH / 2]);
+        twin.forge(Idle { length: LENGTH, block: 0, end: 16 + frames.len() as u16, blocks: 2, pending });
         assert_eq!(twin.ask(0, &message::commit()), expected);
     }
 }
@@ -254,20 +256,28 @@ fn a_transfer_at_the_last_time() {
     for id in [1, 2] {
         assert_eq!(twin.serve(0, &message::put(id, &[])), (Answer::DONE, 8));
     }
-    assert_eq!(twin.head(), Head::Idle(Idle { length: LENGTH, block: 0, end: 248, blocks: 2 }));
+    let pending = [16, 0, 0, 0];
+    assert_eq!(twin.head(), Head::Idle(Idle { length: LENGTH, block: 0, end: 248, blocks: 2, pending }));
     assert_eq!(twin.serve(0, &message::commit()), (Answer::DONE, 6));
     assert_eq!(refusal(&mut twin, 0, &message::delete(1), 0), Answer::WORN);
     assert_eq!(refusal(&mut twin, 0, &message::put(1, &[7; 64]), 0), Answer::WORN);
     assert_eq!(twin.ask(0, &message::commit()), Answer::DONE);
 }
 
+/// Host 0 settles two values of 64 bytes and has a third pending: C is 16 + 2 * 71 + 72 = 230, and frames end at 244.
+fn full_at_244(twin: &mut Twin) {
+    for message in [message::put(1, &[1; 64]), message::put(2, &[2; 64])] {
+        assert_eq!(twin.serve(0, &message), (Answer::DONE, 72));
+        assert_eq!(twin.serve(0, &message::commit()), (Answer::DONE, 6));
+    }
+    assert_eq!(twin.serve(0, &message::put(3, &[3; 64])), (Answer::DONE, 72));
+}
+
 #[test]
 fn room_goes_before_the_last_time() {
     let mut twin = formatted_at(u32::MAX);
-    for id in 1..=3 {
-        assert_eq!(twin.serve(0, &message::put(id, &[id; 64])), (Answer::DONE, 72));
-    }
-    assert_eq!(refusal(&mut twin, 0, &message::put(4, &[7; 64]), 0), Answer::NO_ROOM);
+    full_at_244(&mut twin);
+    assert_eq!(refusal(&mut twin, 2, &message::put(4, &[7; 64]), 0), Answer::NO_ROOM);
 }
 
 #[test]

@@ -1,4 +1,4 @@
-//! Document 01's bench rows: S = 256, each value as the table has it.
+//! Document 01's bench rows: S = 256, each value as the table has it; rows i to m as document 02's K7 has them.
 
 use check::twin::{Call, Outcome, Twin, UNWRITTEN};
 use store::{Answer, Head, Idle, Stretch, hex, message};
@@ -34,6 +34,7 @@ fn after_puts(last: usize) -> Twin {
     let mut twin = after_a();
     for (id, size) in [(1, 64), (2, 64), (3, last)] {
         assert_eq!(twin.serve(0, &message::put(id, &vec![id; size])), done(8 + size));
+        assert_eq!(twin.serve(0, &message::commit()), done(6));
     }
     twin
 }
@@ -42,12 +43,10 @@ fn after_i() -> Twin {
     after_puts(64)
 }
 
-/// Row l up to its put.
+/// Row l up to its delete.
 fn before_l() -> Twin {
     let mut twin = after_i();
-    assert_eq!(twin.serve(0, &message::commit()), done(6));
-    assert_eq!(twin.serve(0, &message::delete(1)), done(8));
-    assert_eq!(twin.serve(0, &message::commit()), done(6));
+    assert_eq!(twin.serve(0, &message::commit()), done(0));
     twin
 }
 
@@ -55,8 +54,13 @@ fn empty_put_to_4() -> Vec<u8> {
     message::put(4, &[])
 }
 
+/// Nothing is pending.
 fn idle(block: u8, end: u16) -> Head {
-    Head::Idle(Idle { length: 2 * S, block, end, blocks: 2 })
+    pending(block, end, [0; 4])
+}
+
+fn pending(block: u8, end: u16, pending: [u16; 4]) -> Head {
+    Head::Idle(Idle { length: 2 * S, block, end, blocks: 2, pending })
 }
 
 /// A block that begins with these bytes and is 0xFF after them.
@@ -94,7 +98,7 @@ fn a_format() {
 fn b_put() {
     let twin = after_b();
     assert_eq!(twin.image(), [block(WITH_B), block("")].concat());
-    assert_eq!(twin.head(), idle(0, 26));
+    assert_eq!(twin.head(), pending(0, 26, [0, 0, 10, 0]));
 }
 
 #[test]
@@ -151,14 +155,25 @@ fn h_cut_after_the_finish_byte() {
     assert_eq!(twin.value(5), Some(b"AB".to_vec()));
 }
 
-/// All frames are pending, so C is where they end. A delete still fits at C = 232 and 240 (254), not at 248 (262).
+/// C is 16 and three settled frames of 71 bytes, 229; the puts and commits end at 250. Deletes fit at C = 229, with a transfer,
+/// and at 237 (251), not at 245 (259).
 #[test]
 fn i_three_long_values() {
     let mut twin = after_i();
-    assert_eq!(twin.head(), idle(0, 232));
-    assert_eq!(twin.serve(0, &message::delete(9)), done(8));
+    assert_eq!(twin.head(), idle(0, 250));
+    assert_eq!(twin.log()[8..], [3, 0, 229, 0, 0, 1]);
+    assert_eq!(twin.serve(0, &message::delete(9)), done(229 - 5 + 8));
     assert_eq!(twin.serve(0, &message::delete(9)), done(8));
     assert_eq!(twin.ask(0, &message::delete(9)), Answer::NO_ROOM);
+}
+
+/// Why each put gets a commit: the second would make 144 bytes of 128.
+#[test]
+fn i_without_commits() {
+    let mut twin = after_a();
+    assert_eq!(twin.serve(0, &message::put(1, &[1; 64])), done(72));
+    assert_eq!(twin.ask(0, &message::put(2, &[2; 64])), Answer::HOST_FULL);
+    assert_eq!(twin.head(), pending(0, 88, [72, 0, 0, 0]));
 }
 
 #[test]
@@ -166,41 +181,46 @@ fn j_no_room() {
     assert_eq!(after_i().ask(0, &empty_put_to_4()), Answer::NO_ROOM);
 }
 
+/// 229 + 8 + 6 + 14 is 257.
 #[test]
 fn k_no_room_by_one_byte() {
     let mut twin = after_i();
-    assert_eq!(twin.serve(0, &message::commit()), done(6));
+    assert_eq!(twin.serve(0, &message::commit()), done(0));
     assert_eq!(twin.ask(0, &empty_put_to_4()), Answer::NO_ROOM);
 
     let mut twin = after_puts(63);
-    assert_eq!(twin.serve(0, &message::commit()), done(6));
+    assert_eq!(twin.serve(0, &message::commit()), done(0));
     assert_eq!(twin.ask(0, &empty_put_to_4()), Answer::MORE);
 }
 
 #[test]
-fn l_put_with_a_transfer() {
+fn l_delete_with_a_transfer() {
     let mut twin = before_l();
-    assert_eq!(twin.head(), idle(0, 252));
-    assert_eq!(twin.serve(0, &empty_put_to_4()), done(161));
-    assert_eq!(twin.head(), idle(1, 166));
+    assert_eq!(twin.head(), idle(0, 250));
+    assert_eq!(twin.serve(0, &message::delete(1)), done(232));
+    assert_eq!(twin.head(), pending(1, 237, [8, 0, 0, 0]));
+    assert_eq!(twin.serve(0, &message::commit()), done(6));
+    assert_eq!(twin.serve(0, &empty_put_to_4()), done(8));
+    assert_eq!(twin.head(), pending(1, 251, [8, 0, 0, 0]));
 
     let settled = |id: u8| [vec![0x47, 0, 5, 0, id, 0], vec![id; 64], vec![0xFE]].concat();
     let header = bytes("10 00 01 4A FD FF FF FF FC FF FF FF FF FF FF FF");
-    let mut written = [header, settled(2), settled(3), bytes("08 00 01 00 00 04 00 FE")].concat();
+    let changes = bytes("08 00 02 00 00 01 00 FE 06 00 03 00 00 FE 08 00 01 00 00 04 00 FE");
+    let mut written = [header, settled(1), settled(2), settled(3), changes].concat();
     written.resize(S, 0xFF);
     assert_eq!(twin.image(), [block(""), written].concat());
 }
 
 #[test]
 fn m_cut_before_and_after_the_new_block_counts() {
-    for cut in [151, 152] {
+    for cut in [222, 223] {
         let mut twin = before_l();
-        assert_eq!(twin.ask(0, &empty_put_to_4()), Answer::MORE);
+        assert_eq!(twin.ask(0, &message::delete(1)), Answer::MORE);
         for _ in 0..cut {
             assert_eq!(twin.step(), Answer::MORE);
         }
         assert_eq!(cut_and_mount(&mut twin), done(1));
-        assert_eq!(twin.ids(), [2, 3]);
+        assert_eq!(twin.ids(), [1, 2, 3]);
     }
 }
 
@@ -218,6 +238,9 @@ fn o_limits() {
     assert_eq!(answer(0, &put(256, 2)), Answer::MALFORMED);
     assert_eq!(answer(3, &put(1, 2)), Answer::MORE);
     assert_eq!(answer(4, &put(1, 2)), Answer::HOST_RANGE);
+    // at S = 256 the longest value is more than half a block
+    assert_eq!(answer(0, &put(1, 240)), Answer::HOST_FULL);
+    assert_eq!(answer(0, &put(1, 241)), Answer::MALFORMED);
 }
 
 /// The row's value cases as K2 has them, on 1,024 bytes: a frame of 248 bytes from 16 on.
@@ -227,7 +250,8 @@ fn o_value_limits() {
     let mut twin = Twin::formatted(1_024);
     assert_eq!(twin.ask(0, &message::put(9, &value)), Answer::MORE);
     assert_eq!(twin.finish(), done(248));
-    assert_eq!(twin.head(), Head::Idle(Idle { length: 1_024, block: 0, end: 264, blocks: 2 }));
+    let pending = [248, 0, 0, 0];
+    assert_eq!(twin.head(), Head::Idle(Idle { length: 1_024, block: 0, end: 264, blocks: 2, pending }));
     let frame = [&bytes("F8 00 01 00 00 09 00")[..], &value, &[0xFE]].concat();
     assert_eq!(twin.image()[16..264], frame);
 

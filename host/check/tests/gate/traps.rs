@@ -126,7 +126,7 @@ fn the_time_is_inverted() {
     older[5] = 0xFF;
     twin.load(&image);
     assert_eq!(twin.whole(&Call::Mount), done(1));
-    assert_eq!(twin.idle(), Some(Idle { length: LENGTH, block: 1, end: 16, blocks: 2 }));
+    assert_eq!(twin.idle(), Some(Idle { length: LENGTH, block: 1, end: 16, blocks: 2, pending: [0; 4] }));
 }
 
 #[test]
@@ -182,7 +182,8 @@ fn an_empty_value() {
 fn pending_changes_go_over_a_transfer() {
     let mut twin = before_a_transfer();
     assert_eq!(twin.serve(0, &message::put(1, &[2; 64])), done(71 + 72));
-    assert_eq!(twin.idle(), Some(Idle { length: LENGTH, block: 1, end: 148, blocks: 2 }));
+    let pending = [28 + 72, 0, 0, 13];
+    assert_eq!(twin.idle(), Some(Idle { length: LENGTH, block: 1, end: 148, blocks: 2, pending }));
 
     let settled_7 = [&[0x0C, 0, 5, 0, 7, 0][..], b"seven", &[0xFE]].concat();
     let settled_9 = vec![0x07, 0, 5, 0, 9, 0, 0xFE];
@@ -195,30 +196,35 @@ fn pending_changes_go_over_a_transfer() {
     assert_eq!(twin.value(8), Some(b"eight".to_vec()));
 }
 
-/// Room for a delete is C + 8 + 6·open; with two hosts' changes pending that is 16 + 3·72 + 8 + 12 = 252, then 260.
+/// Room for a delete is C + 8 + 6·open; with two hosts' changes pending that is 16 + 2·71 + 72 + 8 + 12 = 250, then 258. The
+/// first commit would end at 258 too, and comes with a transfer.
 #[test]
 fn a_refused_delete() {
     let mut twin = Twin::formatted(LENGTH);
     for id in 1..=3 {
         put(&mut twin, 0, id, &[id; 64]);
+        if id < 3 {
+            commit(&mut twin, 0);
+        }
     }
-    assert_eq!(twin.serve(1, &message::delete(1)), done(8));
-    assert_eq!(twin.ask(1, &message::delete(1)), Answer::NO_ROOM);
-    assert_eq!(twin.ask(2, &message::delete(1)), Answer::NO_ROOM);
-    assert_eq!(twin.serve(1, &message::commit()), done(6));
+    assert_eq!(twin.serve(1, &message::delete(3)), done(8));
+    assert_eq!(twin.ask(1, &message::delete(3)), Answer::NO_ROOM);
+    assert_eq!(twin.ask(2, &message::delete(3)), Answer::NO_ROOM);
+    assert_eq!(twin.serve(1, &message::commit()), done(238 - 5 + 6));
     assert_eq!(twin.serve(0, &message::commit()), done(6));
     assert_eq!(twin.ids(), [1, 2, 3]);
 }
 
-/// Exactly: with C = 242 a delete makes 242 + 8 + 6 = 256, with 243 one more.
+/// Exactly: with C = 16 + 71 + 71 + 76 + 8 = 242 a delete makes 242 + 8 + 6 = 256, with 243 one more.
 #[test]
 fn a_delete_at_the_limit() {
-    for (size, expected) in [(58, Answer::MORE), (59, Answer::NO_ROOM)] {
+    for (size, expected) in [(69, Answer::MORE), (70, Answer::NO_ROOM)] {
         let mut twin = Twin::formatted(LENGTH);
-        for (id, size) in [(1, 64), (2, 64), (3, size), (4, 0)] {
+        for (id, size) in [(1, 64), (2, 64), (3, size)] {
             put(&mut twin, 0, id, &vec![id; size]);
+            commit(&mut twin, 0);
         }
-        assert_eq!(twin.serve(0, &message::delete(1)), done(8));
+        assert_eq!(twin.serve(0, &message::delete(1)).0, Answer::DONE);
         assert_eq!(twin.ask(0, &message::delete(2)), expected);
     }
 }
@@ -249,6 +255,6 @@ fn a_format_cut_anywhere() {
         let mut cuts = Cuts::everywhere(LENGTH);
         cuts.of_job(&start, Allowed::OrGone(&objects), &Default::default());
         assert_eq!(cuts.twin.tally.of("mount", Answer::NO_STORE), 7);
-        assert_eq!(twin.serve(0, &message::put(1, &[2; 64])).0, Answer::DONE);
+        assert_eq!(twin.serve(current, &message::put(1, &[2; 64])).0, Answer::DONE);
     }
 }

@@ -40,7 +40,7 @@ impl<S: Store> Call<S> {
         Call { name: "log", takes: "HOST", make: log },
         Call { name: "dump", takes: "", make: dump },
         Call { name: "record", takes: "", make: record },
-        Call { name: "idle", takes: "LEN HALF END [blocks=BLOCKS]", make: idle },
+        Call { name: "idle", takes: "LEN HALF END [blocks=BLOCKS] [pending=A,B,C,D]", make: idle },
         Call { name: "unmount", takes: "", make: unmount },
         Call { name: "poke", takes: "OFFSET HEX", make: poke },
     ];
@@ -191,23 +191,31 @@ fn dump<S: Store>(board: &mut Board<S>, _: &[Word]) -> Made {
 fn record<S: Store>(board: &mut Board<S>, _: &[Word]) -> Made {
     Ok(Back::Plain(match board.head() {
         Head::Unmounted => "unmounted".to_string(),
-        Head::Idle(Idle { length, block, end, blocks }) => {
-            format!("idle len={length} half={block} end={end} blocks={blocks}")
+        Head::Idle(Idle { length, block, end, blocks, pending: [a, b, c, d] }) => {
+            format!("idle len={length} half={block} end={end} blocks={blocks} pending={a},{b},{c},{d}")
         }
         Head::Job => "job".to_string(),
     }))
 }
 
-/// Without its field the record has the board's number of blocks.
+/// Fields that are not given are as after a format of this board: its number of blocks, nothing pending.
 fn idle<S: Store>(board: &mut Board<S>, words: &[Word]) -> Made {
     let (length, block, end) = (words[0].number(1, 65_536)?, words[1].byte()?, words[2].short()?);
-    let blocks = match words.get(3) {
-        None => board.blocks,
-        Some(word) => {
-            word.field("blocks").ok_or_else(|| format!("{} is no field of a record", word.said()))?.byte()?
+    let (mut blocks, mut pending) = (None, None);
+    for word in &words[3..] {
+        let again = if let Some(number) = word.field("blocks") {
+            blocks.replace(number.byte()?).is_some()
+        } else if let Some(numbers) = word.field("pending") {
+            pending.replace(numbers.four()?).is_some()
+        } else {
+            return Err(format!("{} is no field of a record", word.said()));
+        };
+        if again {
+            return Err(format!("{} is there twice", word.said()));
         }
-    };
-    board.record = board.store.idle(Idle { length, block, end, blocks });
+    }
+    let (blocks, pending) = (blocks.unwrap_or(board.blocks), pending.unwrap_or_default());
+    board.record = board.store.idle(Idle { length, block, end, blocks, pending });
     Ok(Back::Ok)
 }
 

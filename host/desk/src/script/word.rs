@@ -34,6 +34,15 @@ impl Word<'_> {
         self.number(0, 65_535).map(|number| number as u16)
     }
 
+    /// Four such numbers with commas between them.
+    pub fn four(&self) -> Result<[u16; 4], String> {
+        let wrong = || format!("{} is not four numbers with commas between them", self.said());
+        let Word::Plain(word) = self else { return Err(wrong()) };
+        let numbers: Vec<u16> =
+            word.split(',').map(|number| Word::Plain(number).short()).collect::<Result<_, _>>()?;
+        numbers.try_into().map_err(|_| wrong())
+    }
+
     /// What stands behind `name=` in this word, if anything does.
     pub fn field(&self, name: &str) -> Option<Word<'_>> {
         match self {

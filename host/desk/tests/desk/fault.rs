@@ -24,7 +24,7 @@ fn what_mount_says_of_a_poked_image() {
         ("poke 260 fd", "ok"),
         ("mount", "more"),
         ("run", "0 steps=1"),
-        ("record", "idle len=512 half=1 end=16 blocks=2"),
+        ("record", "idle len=512 half=1 end=16 blocks=2 pending=0,0,0,0"),
     ]);
 }
 

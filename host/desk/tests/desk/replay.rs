@@ -25,7 +25,7 @@ fn rows_a_to_h() {
         ("req 2 04000301 0", "more"),
         ("run", "0 steps=6"),
         ("dump", &image(&format!("{header}{put}0600030002fe"))),
-        ("record", "idle len=512 half=0 end=32 blocks=2"),
+        ("record", "idle len=512 half=0 end=32 blocks=2 pending=0,0,0,0"),
         ("read 1 060005010500", "0 at=23 len=2"),
         ("req 1 0500060101 14", "0 reply=0e00010201000000010019000001"),
         ("mount", "0"),
@@ -35,7 +35,7 @@ fn rows_a_to_h() {
         ("mount", "more"),
         ("run", "0 steps=11"),
         ("read 1 060005010500", "8"),
-        ("record", "idle len=512 half=1 end=16 blocks=2"),
+        ("record", "idle len=512 half=1 end=16 blocks=2 pending=0,0,0,0"),
         (&image(&format!("{header}{put}0600030002")).replace('=', " "), "ok"),
         ("mount", "more"),
         ("run", "0 steps=11"),
@@ -43,41 +43,98 @@ fn rows_a_to_h() {
     ]);
 }
 
+/// As K7 has them: each put gets a commit, and the second would be refused without the first's.
 #[test]
 fn rows_i_to_m() {
     let (first, second, third) = (put_of(1, 64), put_of(2, 64), put_of(3, 64));
-    let before_l = [
+    let commit = [("req 0 04000301 0", "more"), ("run", "0 steps=6")];
+    let formatted = [("new 512", "ok"), ("format", "more"), ("run", "0 steps=12")];
+    let full = [
+        (&first[..], "more"),
+        ("run", "0 steps=72"),
+        (&second, "12"),
+        ("record", "idle len=512 half=0 end=88 blocks=2 pending=72,0,0,0"),
+    ];
+    let [second, third] = [&second, &third].map(|put| [(&put[..], "more"), ("run", "0 steps=72")]);
+    let delete = [
+        ("record", "idle len=512 half=0 end=250 blocks=2 pending=0,0,0,0"),
+        ("req 0 060001010400 0", "7"),
+        ("req 0 04000301 0", "0"),
+        ("req 0 060001010400 0", "7"),
+        ("req 0 060002010100 0", "more"),
+    ];
+    let before = [&formatted[..], &full, &commit, &second, &commit, &third, &commit, &delete].concat();
+    let deleted = [("run", "0 steps=232"), ("record", "idle len=512 half=1 end=237 blocks=2 pending=8,0,0,0")];
+    let put = [
+        ("req 0 060001010400 0", "more"),
+        ("run", "0 steps=8"),
+        ("record", "idle len=512 half=1 end=251 blocks=2 pending=8,0,0,0"),
+    ];
+    check(&[&before[..], &deleted, &commit, &put].concat());
+    let old = ("step 222", "idle len=512 half=0 end=250 blocks=2 pending=0,0,0,0", ["23", "101", "179"]);
+    let new = ("step 223", "idle len=512 half=1 end=229 blocks=2 pending=0,0,0,0", ["278", "349", "420"]);
+    for (cut, record, places) in [old, new] {
+        let mount = [(cut, "more"), ("mount", "more"), ("run", "0 steps=1"), ("record", record)];
+        let [one, two, three] = places.map(|place| format!("0 at={place} len=64"));
+        let reads: [(&str, &str); 3] =
+            [("read 0 060005010100", &one), ("read 0 060005010200", &two), ("read 0 060005010300", &three)];
+        check(&[&before[..], &mount, &reads].concat());
+    }
+}
+
+/// The desk's own example: a second put of 72 bytes is too much for host 2 and not for host 1; a record that says one byte less.
+#[test]
+fn a_host_that_is_full() {
+    let value: String = (0..64).map(|byte| format!("{byte:02x}")).collect();
+    let [put_2, put_1] = [2, 1].map(|host| format!("req {host} 460001010900{value} 0"));
+    check(&[
         ("new 512", "ok"),
         ("format", "more"),
         ("run", "0 steps=12"),
-        (&first, "more"),
+        (&put_2, "more"),
         ("run", "0 steps=72"),
-        (&second, "more"),
-        ("run", "0 steps=72"),
-        (&third, "more"),
-        ("run", "0 steps=72"),
-        ("record", "idle len=512 half=0 end=232 blocks=2"),
-        ("req 0 060001010400 0", "7"),
-        ("req 0 04000301 0", "more"),
-        ("run", "0 steps=6"),
-        ("req 0 060001010400 0", "7"),
-        ("req 0 060002010100 0", "more"),
+        ("record", "idle len=512 half=0 end=88 blocks=2 pending=0,0,72,0"),
+        (&put_2, "12"),
+        (&put_1, "more"),
+        ("idle 512 0 88 pending=0,0,71,0", "ok"),
+        ("req 2 04000301 0", "11"),
+        ("idle 512 0 88 pending=0,0,72,0", "ok"),
+        ("req 2 04000301 0", "more"),
+    ]);
+}
+
+/// Without the field nothing is pending, whatever the image holds; blocks= and pending= in any order.
+#[test]
+fn records_with_and_without_pending() {
+    check(&[
+        ("new 512", "ok"),
+        ("format", "more"),
+        ("run", "0 steps=12"),
+        ("idle 512 0 16", "ok"),
+        ("req 1 04000301 0", "0"),
+        ("idle 512 0 16 pending=0,0,0,0", "ok"),
+        ("req 1 060002010500 0", "more"),
+        ("record", "job"),
         ("run", "0 steps=8"),
-        ("req 0 04000301 0", "more"),
+        ("record", "idle len=512 half=0 end=24 blocks=2 pending=0,8,0,0"),
+        ("idle 512 0 24", "ok"),
+        ("record", "idle len=512 half=0 end=24 blocks=2 pending=0,0,0,0"),
+        ("req 1 04000301 0", "11"),
+        ("read 1 060005010500", "11"),
+        ("idle 512 0 24 pending=0,8,0,0 blocks=2", "ok"),
+        ("read 1 060005010500", "8"),
+        ("idle 512 0 24 blocks=3 pending=65535,0,00001,65534", "ok"),
+        ("record", "idle len=512 half=0 end=24 blocks=3 pending=65535,0,1,65534"),
+        ("idle 512 0 24 blocks=2 pending=0,8,0,0", "ok"),
+        ("req 1 04000301 0", "more"),
         ("run", "0 steps=6"),
-        ("record", "idle len=512 half=0 end=252 blocks=2"),
-        ("req 0 060001010400 0", "more"),
-    ];
-    check(
-        &[&before_l[..], &[("run", "0 steps=161"), ("record", "idle len=512 half=1 end=166 blocks=2")]].concat(),
-    );
-    let old = ("step 151", "idle len=512 half=0 end=252 blocks=2", "0 at=95 len=64");
-    let new = ("step 152", "idle len=512 half=1 end=158 blocks=2", "0 at=278 len=64");
-    for (cut, record, place) in [old, new] {
-        let mount = [(cut, "more"), ("mount", "more"), ("run", "0 steps=1"), ("record", record)];
-        let reads = [("read 0 060005010100", "8"), ("read 0 060005010200", place)];
-        check(&[&before_l[..], &mount, &reads].concat());
-    }
+        ("record", "idle len=512 half=0 end=30 blocks=2 pending=0,0,0,0"),
+        ("put 3 1 -", "more"),
+        ("run", "0 steps=8"),
+        ("mount", "more"),
+        ("run", "0 steps=11"),
+        ("record", "idle len=512 half=1 end=16 blocks=2 pending=0,0,0,0"),
+    ]);
 }
 
 #[test]
@@ -120,7 +177,7 @@ fn row_o_at_1024_bytes() {
     ]);
 }
 
-/// The same in words: at 512 bytes the longest value finds no room, at 1,024 it comes back as it was put.
+/// The same in words: at 512 bytes the longest value is more than half a block, at 1,024 it comes back as it was put.
 #[test]
 fn the_longest_values_in_words() {
     let (value, too_many) = ("7e".repeat(240), format!("put 1 9 {}", "7e".repeat(241)));
@@ -132,7 +189,7 @@ fn the_longest_values_in_words() {
             ("new 512", "ok"),
             ("format", "more"),
             ("run", "0 steps=12"),
-            (&put, "7 no room"),
+            (&put, "12 host full"),
             (&too_many, "1 malformed"),
             ("new 1024", "ok"),
             ("format", "more"),
@@ -167,9 +224,9 @@ fn lines_that_cannot_be_read() {
         ("poke 18446744073709551615 00", "? line 14: the image has only 0 bytes"),
         ("idle 0 0 0", "? line 15: 0 is less than 1"),
         ("idle 65536 255 65535", "ok"),
-        ("record", "idle len=65536 half=255 end=65535 blocks=2"),
+        ("record", "idle len=65536 half=255 end=65535 blocks=2 pending=0,0,0,0"),
         ("idle 65537 0 0", "? line 18: 65537 is more than 65536"),
-        ("record", "idle len=65536 half=255 end=65535 blocks=2"),
+        ("record", "idle len=65536 half=255 end=65535 blocks=2 pending=0,0,0,0"),
         ("unmount", "ok"),
         ("record", "unmounted"),
     ]);
@@ -220,7 +277,7 @@ fn pokes_and_forged_records() {
 fn calls_and_fields_that_are_not_there_yet() {
     check(&[
         ("idle 512 0 16 edition=1", "? line 1: edition=1 is no field of a record"),
-        ("idle 512 0 16 pending=0,0,0,0", "? line 2: pending=0,0,0,0 is no field of a record"),
+        ("idle 512 0 16 pending=0,0,0,0 edition=1", "? line 2: edition=1 is no field of a record"),
         ("idle 512 0 16 place=5:16", "? line 3: place=5:16 is no field of a record"),
         ("log-open", "? line 4: no call is named log-open"),
         ("boot-read", "? line 5: no call is named boot-read"),

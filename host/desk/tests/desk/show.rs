@@ -54,7 +54,9 @@ Settled in half 0: 1 object; 25 of 256 bytes used
 
 Pending in half 0: 2 changes, which a mount drops
   host 1  put 6 = ff
+          9 of 128 bytes used
   host 3  delete 5
+          8 of 128 bytes used
 
 mount answers more (255 in C), and 0, done, after 20 steps.
 Half 1 is then current.

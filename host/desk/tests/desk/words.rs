@@ -108,19 +108,24 @@ const REFUSED: [(&str, &str, &str); 16] = [
     ("req 0 0500060101 13", "9", "9 short reply"),
     ("put 4 1 -", "10", "10 host range"),
     ("nothing", "? line 15: no call is named nothing", "? line 15: no call is named nothing"),
-    ("record", "idle len=512 half=0 end=16 blocks=2", "idle len=512 half=0 end=16 blocks=2"),
+    (
+        "record",
+        "idle len=512 half=0 end=16 blocks=2 pending=0,0,0,0",
+        "idle len=512 half=0 end=16 blocks=2 pending=0,0,0,0",
+    ),
 ];
 
 #[test]
 fn refusals_by_name() {
     check(&REFUSED.map(|(line, answer, _)| (line, answer)));
     check_with(&["--words"], &REFUSED.map(|(line, _, named)| (line, named)));
-    let full = format!("put 0 1 {}", "aa".repeat(64));
-    let puts = [(&full[..], "more"), ("run", "0 steps=72")].repeat(3);
+    let [first, second, third] = [1, 2, 3].map(|id| format!("put 0 {id} {}", "aa".repeat(64)));
+    let commit = [("commit 0", "more"), ("run", "0 steps=6")];
+    let [one, two, three] = [&first, &second, &third].map(|put| [(&put[..], "more"), ("run", "0 steps=72")]);
+    let full = [(&second[..], "12 host full")];
     let after = [
         // Row j.
         ("put 0 4 -", "7 no room"),
-        ("commit 0", "more"),
         ("idle 512 0 17", "ok"),
         ("commit 0", "11 stale"),
         ("new 512", "ok"),
@@ -129,7 +134,8 @@ fn refusals_by_name() {
         ("poke 16 08000100000100fe", "ok"),
         ("mount", "6 worn"),
     ];
-    check_with(&["--words"], &[&FORMATTED[..], &puts, &after].concat());
+    let begin = [&FORMATTED[..], &one, &full, &commit, &two, &commit].concat();
+    check_with(&["--words"], &[&begin[..], &three, &commit, &after].concat());
 }
 
 #[test]
@@ -181,7 +187,7 @@ fn words_that_cannot_be_read() {
         lines.push((line.to_string(), format!("? line {}: {why}", lines.len() + 1)));
     }
     lines.push((most, "1".to_string()));
-    lines.push(("record".to_string(), "idle len=512 half=0 end=16 blocks=2".to_string()));
+    lines.push(("record".to_string(), "idle len=512 half=0 end=16 blocks=2 pending=0,0,0,0".to_string()));
     check(&lines.iter().map(|(line, answer)| (&line[..], &answer[..])).collect::<Vec<_>>());
 }
 

@@ -16,8 +16,12 @@ returns-2 c =
     let c12 = c .before .before .before .before .before .before .before .before .before .before .before .before in
     let args′ = c12 .args in
     let good′ = c12 .good in
-    ended (args′ .s) (now (args′ .bytes)) _ (if1′ .left) (search (needs, good′ .0 .1 .1 .1 .0 .1 .1 .1 .1 .0 .1 .1 .0))
-    (search (needs, good′ .0 .1 .1 .1 .0 .1 .1 .1 .1 .0 .1 .1 .1 .1 .1 .1 .1 .1 .0)) _ (clear′ .ensures) (if2′ .taken)
+    ended (args′ .s) (now (args′ .bytes)) _ (if1′ .left)
+    (record {
+      pending = search (needs, good′ .0 .1 .1 .1 .0 .1 .1 .1 .0 .1 .1 .1 .1 .1 .1 .0);
+      wipe = search (needs, good′ .0 .1 .1 .1 .0 .1 .1 .1 .1 .0 .1 .1 .0);
+      since = search (needs, good′ .0 .1 .1 .1 .0 .1 .1 .1 .1 .0 .1 .1 .1 .1 .1 .1 .1 .1 .0);
+    }) _ (clear′ .ensures) (if2′ .taken)
     (c .before .before .lay-numbers .ensures)
 
 returns-3 : tie.Need-returns-3
@@ -27,8 +31,12 @@ returns-3 c =
     let slice-known′ = c .before .before .before .before .before .before .before .slice-known in
     let args′ = c .before .before .before .before .before .before .before .before .args in
     let good′ = c .before .before .before .before .before .before .before .before .good in
-    went-on (args′ .s) (now (args′ .bytes)) _ (if1′ .left) (search (needs, good′ .0 .1 .1 .1 .0 .1 .1 .1 .1 .0 .1 .1 .0))
-    (search (needs, good′ .0 .1 .1 .1 .0 .1 .1 .1 .1 .0 .1 .1 .1 .1 .1 .1 .1 .1 .0)) (λ i. slice-known′ .given i .fits) (if2′ .left)
+    went-on (args′ .s) (now (args′ .bytes)) _ (if1′ .left)
+    (record {
+      pending = search (needs, good′ .0 .1 .1 .1 .0 .1 .1 .1 .0 .1 .1 .1 .1 .1 .1 .0);
+      wipe = search (needs, good′ .0 .1 .1 .1 .0 .1 .1 .1 .1 .0 .1 .1 .0);
+      since = search (needs, good′ .0 .1 .1 .1 .0 .1 .1 .1 .1 .0 .1 .1 .1 .1 .1 .1 .1 .1 .0);
+    }) (λ i. slice-known′ .given i .fits) (if2′ .left)
     (c .before .before .lay-numbers2 .ensures)
 
 pub write-step-spec : {M : Type 1} → statement M

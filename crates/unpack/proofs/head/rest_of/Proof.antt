@@ -1,4 +1,4 @@
--- The six bytes after it.
+-- The fourteen bytes after it.
 use Rattle.lent.specs.Layout.{recordIn}
 use borrow.Author.Needs.{needs}
 use Rattle.unpack.proofs.head.rest_of.Statement.{statement}
@@ -11,4 +11,13 @@ rest-of-spec = tie.close (tie.spec
     (λ c κs. search needs)
     (λ c κs. search needs)
     (λ c κs. search needs)
-    (λ c. rw (c .before .before .before .byte-at .ensures, c .before .before .word-in .ensures, c .before .byte-at2 .ensures, c .word-in2 .ensures)))
+    (λ c κs. search needs)
+    (λ c κs. search needs)
+    (λ c. rw (
+      c .before .before .before .before .hosts-in .ensures,
+      c .before .before .before .before .before .tail .ensures,
+      c .before .before .before .byte-at .ensures,
+      c .before .before .word-in .ensures,
+      c .before .byte-at2 .ensures,
+      c .word-in2 .ensures,
+    )))
