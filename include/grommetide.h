@@ -29,7 +29,8 @@
  *
  *   A flash step programs one byte (new = old AND given, so bits are only cleared) or erases one block (all its bytes become
  *   0xFF). Programming 0xFF is a step too, which changes nothing. What one host has pending may come to half a block: with
- *   S = 256 values may have up to 120 bytes, with S = 384 up to 184, from S = 512 on all may be put (docs/STORE.md, Room).
+ *   S = 256 values may have up to 120 bytes, with S = 384 up to 184, from S = 512 on all may be put; in edition 2 it is 116,
+ *   180 and again all (docs/STORE.md, Room).
  *
  *   At rest one block holds the store and the others are blank. When it is full, what counts moves to the next block in
  *   number, after the last one to block 0, and the old block is erased: the blocks wear in turn. With more of them each is
@@ -77,7 +78,39 @@
  *     format again.
  *   - Times run out in the end: a block made at time 4,294,967,295 is the last. A mount of it that finds something pending
  *     or a torn frame, after a power cut, is refused with GROMMETIDE_WORN.
- *   - Flash reads back what was programmed. There is no checksum: damage that leaves legal frames goes unnoticed.
+ *   - Flash reads back what was programmed. What damage is noticed goes by the block's edition, see below.
+ *
+ * The two editions of the flash format
+ *
+ *   Edition 1 has no checksum: damage that leaves legal frames goes unnoticed. In edition 2 each frame has a CRC-32 over all
+ *   that precedes it in the frame, so damage to a frame is noticed: always if its length stands and all that changed lies in
+ *   four bytes one after the other, otherwise in all but about one of 4,294,967,296 cases (what is known of every CRC-32,
+ *   and not proved here; that our bytes are a CRC-32's is). A mount then answers GROMMETIDE_FOREIGN, and grommetide_fault
+ *   names GROMMETIDE_FIELD_CRC or another field of that frame; a request on a mounted store gets GROMMETIDE_STALE. Not told
+ *   in either edition: damage that leaves just what a power cut could have left (the last frame ends in 0xFF, or is gone; a
+ *   block's byte 8 is 0xFE), and another time in a block's header, which has no checksum.
+ *
+ *   A block's edition is told by its header's kind (GROMMETIDE_BLOCK_KIND, GROMMETIDE_BLOCK_KIND_2), that of the mounted
+ *   store by byte 15 of the record. A format writes edition 1. A store of edition 1 stays so until a host sends a convert,
+ *   the message 04 00 08 01. The store then moves to the next block in edition 2: U - 5 steps, the last of them an erase,
+ *   where U is what the objects need in edition 2, 16 bytes, and 11 and the value for each. A convert changes no object. A
+ *   power cut in it, between steps or inside its erase, leaves the store in edition 1 or in edition 2, whole: mount, and
+ *   convert again if byte 15 is 1.
+ *
+ *   A convert is refused with GROMMETIDE_PENDING if any host has something pending, then with GROMMETIDE_NO_ROOM exactly if
+ *   U in edition 2 is more than S, then with GROMMETIDE_WORN at the last time. In edition 2 it is GROMMETIDE_DONE at once,
+ *   unless something is pending. Only a format leads back to edition 1, and it loses all objects.
+ *
+ *   Tight stores. A convert asks only whether the objects fit. Where U in edition 2 is more than S - 22, no put or delete
+ *   has room any more after it (GROMMETIDE_NO_ROOM; GROMMETIDE_HOST_FULL if a value alone is over half a block); read, log,
+ *   commit, abort and mount work as ever. So with S = 256 and two values of 101 bytes: U is 232 before and 240 after. The
+ *   way out is to read all objects, format, and put them again.
+ *   Better look before: U in edition 2 is the log page's U and 4 more for each of its objects. If that is more than S - 22,
+ *   delete something first, or stay in edition 1.
+ *
+ *   After a convert never go back to a library before 0.9. To it a block of edition 2 is foreign, at its kind: a mount
+ *   answers GROMMETIDE_FOREIGN. And if the convert's erase was cut, so that the old block of edition 1 still reads as valid,
+ *   a library of 0.4 to 0.8 keeps that one and erases the good block of edition 2.
  *
  * The record
  *
@@ -90,16 +123,17 @@
  *     4-5    where the current block's frames end, counted from its start
  *     6      number of blocks
  *     7-14   pending bytes of hosts 0 to 3, two bytes each
- *     15-1064 the library's own: 15-526 places of values, 527-568 the job, 569-816 and 817-1064 frames in hand
+ *     15     edition of the current block, 1 or 2
+ *     16-1074 the library's own: 16-527 places of values, 528-570 the job, 571-822 and 823-1074 frames in hand
  *
- *   Bytes 1 to 14 mean this in an idle record. An unmounted or idle record that the library hands out has zeros in all
+ *   Bytes 1 to 15 mean this in an idle record. An unmounted or idle record that the library hands out has zeros in all
  *   bytes it does not use. A record that does not belong to the image is noticed (GROMMETIDE_STALE), or, in a job, does
  *   one flash step at a time and ends, or is noticed, within 65,536 steps.
  *
  * Rules for all calls
  *
  *   No pointer may be NULL, also where its length is 0. Buffers and numbers that a call writes to overlap no others. A
- *   refusal, which is any answer from 1 to 12 and 254, leaves image, record and reply as they are; only a mount or format
+ *   refusal, which is any answer from 1 to 16 or 254, leaves image, record and reply as they are; only a mount or format
  *   refused with 2, 3, 4 or 6 makes the record an unmounted one, and a run may make steps before it is refused. Nothing is
  *   kept between calls, so calls on different buffers may run at the same time in different threads; calls that share a
  *   buffer which one of them writes to may not.
@@ -128,13 +162,13 @@
  *                               x86-64   Cortex-M3
  *     grommetide_mount           3,072       3,328
  *     grommetide_fault           3,072       3,072
- *     grommetide_format          2,816       3,328
- *     grommetide_request         2,304       2,816
+ *     grommetide_format          3,328       3,584
+ *     grommetide_request         3,072       2,816
  *     grommetide_read            1,792       1,792
  *     grommetide_next              576         512
- *     grommetide_made            2,816       2,816
- *     grommetide_step            2,560       2,560
- *     grommetide_run             3,072       3,072
+ *     grommetide_made            3,840       3,328
+ *     grommetide_step            3,584       3,072
+ *     grommetide_run             4,096       3,584
  */
 #ifndef GROMMETIDE_H
 #define GROMMETIDE_H
@@ -156,6 +190,9 @@ typedef uint64_t grommetide_size;
 /*
  * This header's version. A record is of use only to the version that wrote it; the flash may outlive versions.
  *
+ *   0.9  a second edition of the flash format, with a CRC-32 in each frame, which a host's convert (0x0108) takes a store to;
+ *        GROMMETIDE_PENDING, GROMMETIDE_FIELD_CRC; a record of 1,075 bytes, which says the edition. A store that is not
+ *        converted has the flash of 0.8 and is served as by 0.8. See "The two editions" before you go back.
  *   0.8  a host's pending changes come to half a block at most: a put or delete beyond that, which 0.7 takes or answers
  *        GROMMETIDE_NO_ROOM, gets GROMMETIDE_HOST_FULL. So a record of 1,065 bytes, which says what each host has pending. The
  *        flash is that of 0.7.
@@ -172,17 +209,19 @@ typedef uint64_t grommetide_size;
  *   0.1  values of up to 64 bytes, a record of 690 bytes. It finds flash in which a longer value stands foreign.
  */
 #define GROMMETIDE_VERSION_MAJOR 0
-#define GROMMETIDE_VERSION_MINOR 8
+#define GROMMETIDE_VERSION_MINOR 9
 #define GROMMETIDE_VERSION_PATCH 0
 
 /*
- * What tells formats of the flash apart: bytes 2 and 3 of a block's header. A block that says it is valid (byte 8 is 0xFC)
- * and has another kind is foreign: if no block is valid, mount answers GROMMETIDE_FOREIGN and changes nothing; if one is,
- * the foreign one is erased. In a block that is in progress (byte 8 is 0xFE) the kind is not looked at.
+ * What tells formats of the flash apart: bytes 2 and 3 of a block's header, in edition 1 and in edition 2. A block that says
+ * it is valid (byte 8 is 0xFC) and has another kind is foreign: if no block is valid, mount answers GROMMETIDE_FOREIGN and
+ * changes nothing; if one is, the foreign one is erased. In a block that is in progress (byte 8 is 0xFE) the kind is not
+ * looked at.
  */
 #define GROMMETIDE_BLOCK_KIND 0x4A01
+#define GROMMETIDE_BLOCK_KIND_2 0x4A02
 
-#define GROMMETIDE_RECORD_BYTES 1065
+#define GROMMETIDE_RECORD_BYTES 1075
 
 /* The most blocks of an image. The fewest are two. */
 #define GROMMETIDE_BLOCKS_MAX 16
@@ -190,7 +229,7 @@ typedef uint64_t grommetide_size;
 /* The most bytes of a value. The message that puts it has six more. */
 #define GROMMETIDE_VALUE_MAX 240
 
-/* Answers. If more than one refusal applies, the first in this order is given: 4, 10, 5, 2, 3, 11, 1, 8, 9, 12, 7, 6. */
+/* Answers. If more than one refusal applies, the first in this order is given: 4, 10, 5, 2, 3, 11, 1, 8, 9, 16, 12, 7, 6. */
 enum {
     GROMMETIDE_DONE = 0,             /* finished, or nothing to do */
     GROMMETIDE_MALFORMED = 1,        /* the message's length, kind, id, value length or page */
@@ -199,12 +238,14 @@ enum {
     GROMMETIDE_IMAGE_LENGTH = 4,     /* image_len or blocks is not allowed */
     GROMMETIDE_BUSY = 5,             /* a job has steps left */
     GROMMETIDE_WORN = 6,             /* a transfer is needed, but the creation time cannot rise any more */
-    GROMMETIDE_NO_ROOM = 7,          /* put or delete: commits must always fit, and this would leave too little room */
+    GROMMETIDE_NO_ROOM = 7,          /* put or delete: commits must always fit, and this would leave too little room;
+                                        convert: the objects need more than a block in edition 2 */
     GROMMETIDE_NO_OBJECT = 8,        /* read: there is no settled object of this id */
     GROMMETIDE_SHORT_REPLY = 9,      /* log: the reply buffer has fewer than 14 bytes */
     GROMMETIDE_HOST_RANGE = 10,      /* the host is above 3 */
-    GROMMETIDE_STALE = 11,           /* the record belongs to another image or number of blocks */
+    GROMMETIDE_STALE = 11,           /* the record belongs to another image, number of blocks or edition */
     GROMMETIDE_HOST_FULL = 12,       /* put or delete: this host's pending changes would come to more than half a block */
+    GROMMETIDE_PENDING = 16,         /* convert: something is pending */
     GROMMETIDE_PROGRAM = 252,        /* next: a byte is to be programmed */
     GROMMETIDE_ERASE = 253,          /* next: a block is to be erased */
     GROMMETIDE_WRONG_RECORD = 254,   /* record_len is not GROMMETIDE_RECORD_BYTES; nothing was done */
@@ -220,7 +261,8 @@ enum {
     GROMMETIDE_FIELD_FINISH = 5,     /* a frame's last byte, which is 0xFE */
     GROMMETIDE_FIELD_TIME = 6,       /* of the header (place 4): never programmed, or another valid block has the same */
     GROMMETIDE_FIELD_STATE = 7,      /* of the header (place 8) */
-    GROMMETIDE_FIELD_REST = 8        /* of the header (place 9): bytes 9 to 15, which are 0xFF */
+    GROMMETIDE_FIELD_REST = 8,       /* of the header (place 9): bytes 9 to 15, which are 0xFF */
+    GROMMETIDE_FIELD_CRC = 9         /* of a frame of edition 2: the four bytes before its last */
 };
 
 /* GROMMETIDE_RECORD_BYTES, as the library was built. */
@@ -261,6 +303,7 @@ uint8_t grommetide_format(const uint8_t *image, grommetide_size image_len, uint8
  *   0x0105 read    id (2)                    only answers whether the object is there; see grommetide_read
  *   0x0106 log     page (1), which is 1      writes 14 bytes to the reply: length 14 (2), kind 0x0201 (2), creation
  *                                            time (4), settled objects (2), bytes they need (2), bytes of a block (2)
+ *   0x0108 convert                           takes the store to edition 2 ("The two editions of the flash format")
  *
  * Numbers are little-endian. Only log writes to the reply, and only if it answers DONE; bytes after the 14 stay.
  * DONE: finished, without a step. MORE: accepted, steps are left. Refused: any but FOREIGN.

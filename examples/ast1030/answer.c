@@ -9,6 +9,8 @@ static const char *name_of(uint8_t answer)
                                         "no room", "no object", "short reply", "host range", "stale",        "host full"};
     if (answer < sizeof names / sizeof names[0])
         return names[answer];
+    if (answer == GROMMETIDE_PENDING)
+        return "pending";
     return answer == GROMMETIDE_WRONG_RECORD ? "wrong record" : "unknown";
 }
 
@@ -26,6 +28,8 @@ static const char *advice_on(uint8_t answer)
         return "commit or abort what is pending, or delete objects and commit; deletes need less room";
     case GROMMETIDE_HOST_FULL:
         return "this host may have half a block pending: commit or abort first";
+    case GROMMETIDE_PENDING:
+        return "a host has changes pending: commit or abort them first";
     case GROMMETIDE_NO_OBJECT:
         return "no settled object has this id";
     case GROMMETIDE_HOST_RANGE:
@@ -57,7 +61,7 @@ void say_result(uint8_t answer, uint32_t steps)
 
 static void say_fault(void)
 {
-    static const char *const fields[] = {"-", "length", "kind", "host", "id", "finish", "time", "state", "rest"};
+    static const char *const fields[] = {"-", "length", "kind", "host", "id", "finish", "time", "state", "rest", "crc"};
     struct store_fault fault;
     if (store_fault(&fault) != GROMMETIDE_FOREIGN || fault.field >= sizeof fields / sizeof fields[0])
         return;

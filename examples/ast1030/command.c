@@ -6,7 +6,7 @@
 #include "store.h"
 #include "words.h"
 
-enum { PUT = 1, DELETE = 2, COMMIT = 3, ABORT = 4 };
+enum { PUT = 1, DELETE = 2, COMMIT = 3, ABORT = 4, CONVERT = 8 };
 
 /* What the last mount or format ended with. */
 static uint8_t mounted;
@@ -40,7 +40,7 @@ static void ask(uint32_t host, uint8_t kind, uint8_t *message, uint32_t body)
     message[1] = (uint8_t)(len >> 8);
     message[2] = kind;
     message[3] = 1;
-    if (kind == COMMIT || kind == ABORT || !store_is_worn())
+    if ((kind != PUT && kind != DELETE) || !store_is_worn())
         answer = store_request((uint8_t)host, message, len);
     say_result(answer, answer == GROMMETIDE_DONE ? store_steps() : 0);
 }
@@ -49,7 +49,7 @@ static int change(const char *rest, uint8_t kind)
 {
     static uint8_t message[6 + VALUE_BYTES];
     uint32_t host, id = 0, len = 0;
-    const int whole = kind == COMMIT || kind == ABORT;
+    const int whole = kind != PUT && kind != DELETE;
     if (!read_number(&rest, 255, &host) || (!whole && !read_number(&rest, 65535, &id)))
         return 0;
     if ((kind == PUT && !read_value(&rest, message + 6, &len)) || !read_end(&rest))
@@ -78,6 +78,11 @@ static int commit(const char *rest)
 static int abort_changes(const char *rest)
 {
     return change(rest, ABORT);
+}
+
+static int convert(const char *rest)
+{
+    return change(rest, CONVERT);
 }
 
 static int get(const char *rest)
@@ -202,6 +207,7 @@ static const struct command {
     {"delete", "HOST ID", "likewise", delete},
     {"commit", "HOST", "the host's pending changes become settled, all or none", commit},
     {"abort", "HOST", "the host's pending changes are dropped", abort_changes},
+    {"convert", "HOST", "the store goes over to edition 2, whose frames have checksums; no way back except format", convert},
     {"get", "ID", "a settled value", get},
     {"list", "", "all settled values", list},
     {"log", "", "creation time, number of objects, bytes used", log_page},

@@ -11,7 +11,7 @@ enum { BLOCKS = 2 };
 static uint8_t image[512], record[GROMMETIDE_RECORD_BYTES];
 
 /* By GROMMETIDE_FIELD_LENGTH and so on; 0 is none. */
-static const char *const fields[] = {"-", "length", "kind", "host", "id", "finish", "time", "state", "rest"};
+static const char *const fields[] = {"-", "length", "kind", "host", "id", "finish", "time", "state", "rest", "crc"};
 
 static void finish(uint8_t answer)
 {

@@ -8,6 +8,7 @@ use native.Mathlib.Omega.{arith}
 use lib.ListN.{length, getD}
 use Rattle.frame.specs.declared.Fault.{Fault}
 use Rattle.frame.specs.declared.ObjectId.{ObjectId}
+use Rattle.frame.specs.declared.Edition.{Edition}
 use Rattle.frame.specs.Frame.{Frame}
 use Rattle.journal.specs.Replay.{lookup, replay}
 use Rattle.journal.specs.Block.{Journal}
@@ -18,7 +19,7 @@ use Rattle.wire.specs.declared.Answer.the-variants.{Done, More, Refused}
 use Rattle.wire.specs.declared.Refusal.{Refusal}
 use Rattle.wire.specs.declared.Refusal.the-variants as refusal
 use Rattle.wire.specs.declared.Request.{Request}
-use Rattle.wire.specs.declared.Request.the-variants.{Put, Delete, Commit, Abort, Read, Log}
+use Rattle.wire.specs.declared.Request.the-variants.{Put, Delete, Commit, Abort, Read, Log, Convert}
 use Rattle.wire.specs.Answer.{numberOf}
 use Rattle.board.specs.declared.Phase.{Phase}
 use Rattle.board.specs.declared.Phase.the-variants.{Unmounted, Idle, Busy}
@@ -38,7 +39,7 @@ numbered (some n) =
     getD
     (Done ∷ Refused refusal.Malformed ∷ Refused refusal.NoStore ∷ Done ∷ Refused refusal.ImageLength ∷ Refused refusal.Busy
     ∷ Refused refusal.Worn ∷ Refused refusal.NoRoom ∷ Refused refusal.NoObject ∷ Refused refusal.ShortReply ∷ Refused refusal.HostRange
-    ∷ Refused refusal.Stale ∷ Refused refusal.HostFull ∷ [])
+    ∷ Refused refusal.Stale ∷ Refused refusal.HostFull ∷ Done ∷ Done ∷ Done ∷ Refused refusal.Pending ∷ [])
     n Done
 
 -- an answer is 3 with what it names, or its number's
@@ -64,6 +65,7 @@ kind (Refused refusal.ShortReply) = plain refl (not-three 9 (omega arith))
 kind (Refused refusal.HostRange) = plain refl (not-three 10 (omega arith))
 kind (Refused refusal.Stale) = plain refl (not-three 11 (omega arith))
 kind (Refused refusal.HostFull) = plain refl (not-three 12 (omega arith))
+kind (Refused refusal.Pending) = plain refl (not-three 16 (omega arith))
 
 -- what both name where both are 3
 abbrev pub SameNamed : Answer → Answer → Type 0
@@ -92,6 +94,10 @@ pub number-accepted : (a : Answer) (k : ℕ) → numberOf a ≡ some (suc k) →
 number-accepted Done k e y = let w : _≡_ {A = ℕ} 0 (suc k) = cc in omega arith
 number-accepted More k e y = let w : _≡_ {A = ℕ} 0 1 = cc in omega arith
 number-accepted (Refused n) k e y = y
+
+-- two numbers of one answer
+pub other-number : {P : Type 0} (a : Answer) (i j : ℕ) → (i ≡ j → ⊥) → numberOf a ≡ some i → numberOf a ≡ some j → P
+other-number a i j n e f = let w : some i ≡ some j = sym e ∙ f in let v : i ≡ j = cc in absurd (n v)
 
 -- ---- two answers by the same lines
 
@@ -171,14 +177,14 @@ whole-is o {a} {img} {r} {reply} {st} e i b p s =
 some-value : {v w : List ℕ} → some v ≡ some w → v ≡ w
 some-value e = cc
 
-taken-value : {fs : List Frame} {i : ObjectId} {v : List ℕ} {at : ℕ} → TakenFrom fs i v at → lookup i (replay fs .objects) ≡ some v
-taken-value {fs} {i} {v} y = ap (λ (gs : List Frame). lookup i (replay gs .objects)) (y .stands) ∙ y .taken v
+taken-value : {ed : Edition} {fs : List Frame} {i : ObjectId} {v : List ℕ} {at : ℕ} → TakenFrom ed fs i v at → lookup i (replay fs .objects) ≡ some v
+taken-value {fs = fs} {i} {v} y = ap (λ (gs : List Frame). lookup i (replay gs .objects)) (y .stands) ∙ y .taken v
 
 same-stands : (a : Asking) (x : Journal) (i : ObjectId) (st su : Stretch) → Stands a x i st → Stands a x i su → st ≡ su
 same-stands a x i st su y z =
     let e : y .value ≡ z .value = some-value (sym (taken-value (y .from)) ∙ taken-value (z .from)) in
-    let g : TakenFrom (x .frames) i (z .value) (y .at) = subst (λ (v : List ℕ). TakenFrom (x .frames) i v (y .at)) e (y .from) in
-    let f : y .at ≡ z .at = place-exact .once (x .frames) i (z .value) (y .at) (z .at) g (z .from) in
+    let g : TakenFrom (x .edition) (x .frames) i (z .value) (y .at) = subst (λ (v : List ℕ). TakenFrom (x .edition) (x .frames) i v (y .at)) e (y .from) in
+    let f : y .at ≡ z .at = place-exact .once (x .edition) (x .frames) i (z .value) (y .at) (z .at) g (z .from) in
     y .is ∙ ap₂ (λ (n : ℕ) (v : List ℕ). stretchAt (a .board .rest .block * sizeFor a + n) (length v)) f e ∙ sym (z .is)
   where
     stretchAt : ℕ → ℕ → Stretch
@@ -191,3 +197,4 @@ same-stretch a x Commit st su e f = e ∙ sym f
 same-stretch a x Abort st su e f = e ∙ sym f
 same-stretch a x (Read i) st su e f = same-stands a x i st su e f
 same-stretch a x (Log p) st su e f = e ∙ sym f
+same-stretch a x Convert st su e f = e ∙ sym f

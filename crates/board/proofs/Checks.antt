@@ -5,18 +5,19 @@ use mathlib.Core.Bool.{Bool, true, false, _&&_, _||_, not}
 use Prim.Native.Nat.{ℕ}
 use lib.Dec.{eqb, ltb}
 use lib.ListN.{length}
+use Rattle.frame.specs.declared.Edition.the-variants as edition
 use Rattle.flash.specs.Flash.{sizeOf, within}
 use Rattle.frame.specs.declared.Host.{Host}
-use Rattle.frame.specs.Frame.{hostMax, put, delete, Frame}
-use Rattle.journal.specs.Replay.{lookup}
+use Rattle.frame.specs.Frame.{hostMax, put, delete}
+use Rattle.journal.specs.Replay.{lookup, Entry}
 use Rattle.journal.specs.Block.{Journal, lastTime}
-use Rattle.journal.specs.Room.{noRoom, hostFull}
+use Rattle.journal.specs.Room.{noRoom, hostFull, used}
 use Rattle.wire.specs.declared.Answer.{Answer}
 use Rattle.wire.specs.declared.Answer.the-variants.{Done, More, Refused}
 use Rattle.wire.specs.declared.Refusal.{Refusal}
 use Rattle.wire.specs.declared.Refusal.the-variants as refusal
 use Rattle.wire.specs.declared.Request.{Request}
-use Rattle.wire.specs.declared.Request.the-variants.{Put, Delete, Commit, Abort, Read, Log}
+use Rattle.wire.specs.declared.Request.the-variants.{Put, Delete, Commit, Abort, Read, Log, Convert}
 use Rattle.wire.specs.declared.Parsed.{Parsed}
 use Rattle.wire.specs.declared.Parsed.the-variants.{Is, Malformed}
 use Rattle.wire.specs.Message.{parse, valueIn, pageLen}
@@ -29,7 +30,7 @@ use Rattle.board.specs.Mount.{allFound, anyForeign, stores, Store, equal
 use Rattle.board.specs.Mount.{tiedTimes, replayOf, timeOf}
 use Rattle.board.specs.Queue.{Asking, asking, sizeFor, heldFor, movesFor}
 use Rattle.board.specs.Exec.{Call, request, step, mount, format}
-use Rattle.board.specs.Table.{isNone, isBusy, frameFor}
+use Rattle.board.specs.Table.{isNone, isBusy, Task, idles, appends, converts, taskFor}
 
 -- a line of the table: the refusal, and whether its condition holds
 pub record Check : Type 0 where
@@ -65,6 +66,7 @@ noObject x Commit = false
 noObject x Abort = false
 noObject x (Read i) = isNone (lookup i (replayOf x .objects))
 noObject x (Log p) = false
+noObject x Convert = false
 
 abbrev pub shortReply : Asking → Request → Bool
 shortReply a (Put i) = false
@@ -73,41 +75,60 @@ shortReply a Commit = false
 shortReply a Abort = false
 shortReply a (Read i) = false
 shortReply a (Log p) = ltb (length (a .reply)) pageLen
+shortReply a Convert = false
+
+-- 16: K9, of a convert alone
+abbrev pub isSome : List Entry → Bool
+isSome [] = false
+isSome (e ∷ es) = true
+
+abbrev pub pendingRule : Journal → Request → Bool
+pendingRule x (Put i) = false
+pendingRule x (Delete i) = false
+pendingRule x Commit = false
+pendingRule x Abort = false
+pendingRule x (Read i) = false
+pendingRule x (Log p) = false
+pendingRule x Convert = isSome (replayOf x .pending)
 
 -- 12: K7, of a put or delete alone
 abbrev pub shareRule : ℕ → Host → List ℕ → Journal → Request → Bool
-shareRule size h m x (Put i) = hostFull size (replayOf x) h (put i (valueIn m))
-shareRule size h m x (Delete i) = hostFull size (replayOf x) h (delete i)
+shareRule size h m x (Put i) = hostFull (x .edition) size (replayOf x) h (put i (valueIn m))
+shareRule size h m x (Delete i) = hostFull (x .edition) size (replayOf x) h (delete i)
 shareRule size h m x Commit = false
 shareRule size h m x Abort = false
 shareRule size h m x (Read i) = false
 shareRule size h m x (Log p) = false
+shareRule size h m x Convert = false
 
 abbrev pub hostFullFor : Asking → Journal → Request → Bool
 hostFullFor a x q = shareRule (sizeFor a) (a .host) (a .message) x q
 
 -- 7: "the room rule". "Commit and abort are never refused for room."
 abbrev pub roomRule : ℕ → Host → List ℕ → Journal → Request → Bool
-roomRule size h m x (Put i) = noRoom size (replayOf x) h (put i (valueIn m))
-roomRule size h m x (Delete i) = noRoom size (replayOf x) h (delete i)
+roomRule size h m x (Put i) = noRoom (x .edition) size (replayOf x) h (put i (valueIn m))
+roomRule size h m x (Delete i) = noRoom (x .edition) size (replayOf x) h (delete i)
 roomRule size h m x Commit = false
 roomRule size h m x Abort = false
 roomRule size h m x (Read i) = false
 roomRule size h m x (Log p) = false
+roomRule size h m x Convert = ltb size (used edition.Second (replayOf x))
 
 abbrev pub noRoomFor : Asking → Journal → Request → Bool
 noRoomFor a x q = roomRule (sizeFor a) (a .host) (a .message) x q
 
 -- 6: "a transfer is needed .. at time 4,294,967,295"
-abbrev pub worn : Asking → Journal → Option Frame → Bool
-worn a x none = false
-worn a x (some f) = movesFor a f && eqb (x .time) lastTime
+abbrev pub worn : Asking → Journal → Task → Bool
+worn a x idles = false
+worn a x (appends f) = movesFor a x f && eqb (x .time) lastTime
+worn a x converts = eqb (x .time) lastTime
 
--- 8, 9, 12, 7, 6
+-- 8, 9, 16, 12, 7, 6
 abbrev pub heldChecks : Asking → Journal → Request → List Check
 heldChecks a x q =
-    check refusal.NoObject (noObject x q) ∷ check refusal.ShortReply (shortReply a q) ∷ check refusal.HostFull (hostFullFor a x q)
-    ∷ check refusal.NoRoom (noRoomFor a x q) ∷ check refusal.Worn (worn a x (frameFor (a .host) (a .message) x q)) ∷ []
+    check refusal.NoObject (noObject x q) ∷ check refusal.ShortReply (shortReply a q) ∷ check refusal.Pending (pendingRule x q)
+    ∷ check refusal.HostFull (hostFullFor a x q) ∷ check refusal.NoRoom (noRoomFor a x q)
+    ∷ check refusal.Worn (worn a x (taskFor (a .host) (a .message) x q)) ∷ []
 
 -- where 11 or 1 holds no later line can be the first
 abbrev pub laterChecks : Asking → Option Journal → Parsed → List Check
@@ -115,7 +136,7 @@ laterChecks a none p = []
 laterChecks a (some x) Malformed = []
 laterChecks a (some x) (Is q) = heldChecks a x q
 
--- 4, 10, 5, 2, 11, 1, 8, 9, 12, 7, 6
+-- 4, 10, 5, 2, 11, 1, 8, 9, 16, 12, 7, 6
 abbrev pub requestChecks : Asking → List Check
 requestChecks a =
     check refusal.ImageLength (not (allowed (a .blocks) (length (a .image)))) ∷ check refusal.HostRange (ltb hostMax (a .host .0))

@@ -1,17 +1,19 @@
 -- Demand 3: every run from a finished format agrees with the book, and the store stays available.
-use mathlib.Core.Path.{_≡_, refl, sym, ap, subst, _∙_}
+use mathlib.Core.Path.{_≡_, refl, sym, ap, subst, _∙_, subst₂}
 use mathlib.Core.List.{List, [], _∷_}
 use mathlib.Core.Logic.{_⊎_, inl, inr}
-use mathlib.Core.Bool.{Bool, true, false}
+use mathlib.Core.Bool.{true, false}
 use Prim.Native.Nat.{ℕ, _+_, _≤_, _/_}
 use native.Mathlib.Omega.{arith}
 use lib.ListN.{length, getD}
+use Rattle.frame.specs.declared.Edition.{Edition}
+use Rattle.frame.specs.declared.Edition.the-variants as edition
 use Rattle.flash.specs.Bytes.{Bytes}
 use Rattle.flash.specs.Flash.{applyAll, block, sizeOf, withBlock}
-use Rattle.frame.specs.Frame.{deleteLen, endLen, total, Change}
+use Rattle.frame.specs.Frame.{total, Change}
 use Rattle.journal.specs.Replay.{Object, State, state, listOf, settledOnly}
 use Rattle.journal.specs.Block.{blockState}
-use Rattle.journal.proofs.Room.{kept, kept-none, used-kept}
+use Rattle.journal.proofs.Room.{kept-none, used-claimed}
 use Rattle.journal.proofs.Places.{Standing}
 use Rattle.journal.proofs.States.{contents-valid}
 use Rattle.journal.specs.Laws.{changesBytes}
@@ -29,13 +31,14 @@ use Rattle.board.specs.Mount.{Store, allFound, wipeList, mountJob, mount
 use Rattle.board.specs.Exec.{Call, request, step, mount, format, exec}
 use Rattle.board.specs.Plan.{formatWork, mountWork}
 use Rattle.board.specs.Table.{InJob as JobPhase}
-use Rattle.board.specs.Book.{Book, book, nothing, formatting, noLists, firstBook, enterCall, enterFormat}
+use Rattle.board.specs.Book.{Book, book, nothing, formatting, noLists, firstBook, enterCall, enterFormat, enterRequest}
 use Rattle.board.specs.Claim.{IdleAgrees, Finishes, AgreesIn, Agrees, WornOut, MountSays, Says, trackMount, trackFormat, track, begunBy, Run}
-use Rattle.board.specs.Claim.{stepsOn, formatted, ByteCall, Begins, Event, call, cutErase, Happens, Claim}
+use Rattle.board.specs.Claim.{stepsOn, formatted, ByteCall, Begins, Event, call, cutErase, Happens, Claim, Track, RoomLeft, tracked, tight-left}
+use Rattle.board.specs.Claim.{roomy-left, trackRequest}
 use Rattle.board.proofs.Images.{Sized, size-of, sized-of, sized-as, length-all-steps, bytes-all-steps}
-use Rattle.board.proofs.Invariant.{Lessers, Safe, GuardIn, IdleBook, InPhase, Inv, Shares}
+use Rattle.board.proofs.Invariant.{Lessers, Safe, GuardIn, IdleBook, InPhase, Inv, Shares, Slack, roomy, tight}
 use Rattle.board.proofs.Outcomes.{format-begins}
-use Rattle.board.proofs.Current.{After, Keeps}
+use Rattle.board.proofs.Current.{After, Keeps, keeps-settled}
 use Rattle.board.proofs.Jobs.{Begun, job-starts, job-begins}
 use Rattle.board.proofs.Stepping.{follows-steps}
 use Rattle.board.proofs.Keeping.{Working, inv-unmounted, inv-idle, inv-busy, ready-idle, step-keeps, Bare, bare-of, cut-bare}
@@ -44,19 +47,19 @@ use Rattle.board.proofs.Blocks.{wiped-besides}
 use Rattle.board.proofs.Lengths.{length-format, format-some}
 use Rattle.board.proofs.Replies.{standing-of}
 use Rattle.board.proofs.Formatting.{format-safe, format-ends}
-use Rattle.board.proofs.Deciding.{Taken, StoreThere, InTime, Outcome, worn-out, begins, mount-outcome, MountSafe, nothing-there, store-there}
-use Rattle.board.proofs.Deciding.{mount-safe}
+use Rattle.board.proofs.Deciding.{Taken, StoreThere, InTime, Outcome, worn-out, begins, mount-outcome, MountSafe, nothing-there, store-there, mount-safe}
 use Rattle.board.proofs.Mounting.{mount-keeps, mount-ends}
 use Rattle.board.proofs.Requests.{Requested, request-keeps}
 use Rattle.board.proofs.Promising.{calls}
 use Rattle.board.proofs.Finishing.{Ends, idle-ends, call-ends, restart-ends}
 use Rattle.board.proofs.Books.{shares-none}
 use Rattle.frame.specs.declared.Fault.{Fault}
+use Rattle.board.proofs.Editions.{number-is, spare-is}
 
 -- ---- what the invariant gives between calls
 
-idle-agrees : {N : ℕ} {s : ℕ} {img : List ℕ} {r : Record} {b : Book} → Sized N s img → IdleBook N s img r b → IdleAgrees N img r b
-idle-agrees {N} {s} {img} {r} {b} z y =
+idle-agrees : {N : ℕ} {s : ℕ} {img : List ℕ} {r : Record} {b : Book} (u : Track) → Sized N s img → IdleBook N s u img r b → IdleAgrees N u img r b
+idle-agrees {N} {s} {img} {r} {b} u z y =
     record {
       journal = y .ready .journal;
       is-valid = ap (λ (n : ℕ). blockState (block n (r .rest .block) img)) (size-of z)
@@ -64,53 +67,74 @@ idle-agrees {N} {s} {img} {r} {b} z y =
       is-clean = y .ready .is-clean;
       objects = y .objects;
       lists = y .lists;
-      shares = λ h k. subst (λ (cs : List Change). changesBytes cs ≤ sizeOf N img / 2) (y .lists h k)
-          (omega (arith, size-of z, y .shares h k, changes-total h (listOf h (replayOf (y .ready .journal) .pending))));
+      shares = λ h k. subst (λ (cs : List Change). changesBytes ed cs ≤ sizeOf N img / 2) (y .lists h k)
+          (omega (arith, size-of z, y .shares h k, changes-total ed h (listOf h (replayOf (y .ready .journal) .pending))));
       counts = λ h k. ap (λ (q : Record). getD (q .rest .pending) (h .0) 0) (y .ready .is)
           ∙ ap (λ (ps : List ℕ). getD ps (h .0) 0) (y .ready .counts)
-          ∙ pending-exact .are (y .ready .journal .frames) .each h k
-          ∙ ap changesBytes (y .lists h k);
-      room = λ e. omega (arith, size-of z, y .spare, kept-none (replayOf (y .ready .journal)) e);
+          ∙ pending-exact .are ed (y .ready .journal .frames) .each h k
+          ∙ ap (changesBytes ed) (y .lists h k);
+      edition-is = ap (λ (q : Record). q .rest .edition) (y .ready .is) ∙ y .ready .edition-is ∙ number-is ed;
+      room = left (y .spare);
     }
+  where
+    ed : Edition
+    ed = y .ready .journal .edition
 
-agrees : {N : ℕ} {s : ℕ} {img : List ℕ} {r : Record} {b : Book} {u : Bool} (a : Call) → Inv N s img r b u → Ends N (exec N) a img r
-    → Agrees N (exec N) a img r b
+    left : Slack (u .tight) s (y .ready .journal .edition) (replayOf (y .ready .journal)) → RoomLeft (u .tight) (sizeOf N img) (y .ready .journal)
+    left (roomy l) =
+        roomy-left (λ e.
+        let n = kept-none (y .ready .journal .edition) (replayOf (y .ready .journal)) e in
+        omega (arith, size-of z, l, spare-is (y .ready .journal .edition), n))
+    left (tight t e p l) =
+        tight-left t e p
+        (omega (
+          arith,
+          size-of z,
+          used-claimed (y .ready .journal .edition) (replayOf (y .ready .journal)),
+          y .ready .room,
+        )) (omega (arith, size-of z, l))
+
+agrees : {N : ℕ} {s : ℕ} {img : List ℕ} {r : Record} {b : Book} {u : Track} (a : Call) → Inv N s img r b u → Ends N (exec N) a img r
+    → Agrees N (exec N) a u img r b
 agrees {N} {s} {img} {r} {b} {u} a v d = go (r .phase) (v .phase) d
   where
-    go : (p : Phase) → InPhase N p s img r b u → (JobPhase p → Finishes N (exec N) a img r) → AgreesIn N (exec N) a p img r b
+    go : (p : Phase) → InPhase N p s img r b u → (JobPhase p → Finishes N (exec N) a img r) → AgreesIn N (exec N) a u p img r b
     go Unmounted x f = tt
-    go Idle y f = idle-agrees (v .sized) y
+    go Idle y f = idle-agrees u (v .sized) y
     go (Busy g) j f = f tt
 
 -- ---- a format call
 
-abbrev FormatKeeps : ℕ → ℕ → Book → Bool → Out → Type 0
+abbrev FormatKeeps : ℕ → ℕ → Book → Track → Out → Type 0
 FormatKeeps N s b u o = Inv N s (o .image) (o .board) (enterFormat b (o .answer)) (trackFormat u (o .answer)) × (o .answer ≡ More)
 
 -- an empty store with an empty book
-empty-book : {N : ℕ} {s : ℕ} {img : List ℕ} {r : Record} → 256 ≤ s → After N s img r (state [] []) → IdleBook N s img r (book [] noLists nothing)
+empty-book : {N : ℕ} {s : ℕ} {img : List ℕ} {r : Record} (u : Track) → 256 ≤ s → After N s edition.First img r (state [] [])
+    → IdleBook N s u img r (book [] noLists nothing)
 unfolding total listOf
-empty-book {N} {s} {img} {r} h a =
+empty-book {N} {s} {img} {r} u h a =
     let empty : State = state [] [] in
     record {
       ready = a .ready;
-      spare = subst (λ (x : State). kept x + (deleteLen + endLen) ≤ s) (sym (a .state)) (omega (arith, kept-none empty refl));
-      shares = subst (λ (x : State). Shares s (x .pending)) (sym (a .state)) (shares-none s);
+      spare = subst₂ (Slack (u .tight) s) (sym (a .edition)) (sym (a .state)) (roomy (omega (arith, kept-none edition.First empty refl)));
+      shares = subst₂ (λ (d : Edition) (x : State). Shares s d (x .pending)) (sym (a .edition)) (sym (a .state)) (shares-none s edition.First);
       objects = ap (λ (x : State). x .objects) (a .state);
       lists = λ g k. ap (λ (x : State). listOf g (x .pending)) (a .state);
       under = refl;
     }
 
-format-works : {N : ℕ} {s : ℕ} {img : List ℕ} (os : List Object) {u : Bool} → Sized N s img → Safe N s img os u
-    → (answerOf (enterWipe (formatJob N img)) ≡ More) × Working N s img (enterWipe (formatJob N img)) (book os noLists formatting) true
-format-works {N} {s} {img} os z f =
-    let a : After N s (applyAll s (formatWork N img .steps) img) (formatWork N img .last) (state [] []) = format-ends z in
+format-works : {N : ℕ} {s : ℕ} {img : List ℕ} (os : List Object) {u : Track} → Sized N s img → Safe N s img os u
+    → (answerOf (enterWipe (formatJob N img)) ≡ More) × Working N s img (enterWipe (formatJob N img)) (book os noLists formatting) (tracked true (u .tight))
+format-works {N} {s} {img} os {u} z f =
+    let a : After N s edition.First (applyAll s (formatWork N img .steps) img) (formatWork N img .last) (state [] []) = format-ends z in
     job-starts img (enterWipe (formatJob N img)) (formatWork N img .steps) (formatWork N img .last) (follows-format N img (z .ok))
-    (omega (arith, length-format N img)) (λ j h. (format-safe z f j h, λ n. absurd (n refl))) (empty-book (z .low) a) (ready-idle (a .ready))
+    (omega (arith, length-format N img)) (λ j h. (format-safe z f j h, λ n. absurd (n refl))) (empty-book (tracked false false) (z .low) a)
+    (ready-idle (a .ready))
 
-format-call : {N : ℕ} {s : ℕ} {img : List ℕ} (b : Book) {u : Bool} → Bare N s img (b .objects) u → FormatKeeps N s b u (formatOn N img)
+format-call : {N : ℕ} {s : ℕ} {img : List ℕ} (b : Book) {u : Track} → Bare N s img (b .objects) u → FormatKeeps N s b u (formatOn N img)
 format-call {N} {s} {img} b {u} v =
-    let w : (answerOf (enterWipe (formatJob N img)) ≡ More) × Working N s img (enterWipe (formatJob N img)) (book (b .objects) noLists formatting) true =
+    let w : (answerOf (enterWipe (formatJob N img)) ≡ More)
+    × Working N s img (enterWipe (formatJob N img)) (book (b .objects) noLists formatting) (tracked true (u .tight)) =
     format-works (b .objects) (v .sized) (v .safe) in
     subst (FormatKeeps N s b u) (sym (format-begins N img (v .sized .ok))) (
       subst (λ (a : Answer). Inv N s img (enterWipe (formatJob N img)) (enterFormat b a) (trackFormat u a)) (sym (w .0))
@@ -120,33 +144,34 @@ format-call {N} {s} {img} b {u} v =
 
 -- ---- a mount call
 
-abbrev MountKeeps : ℕ → ℕ → List ℕ → Book → Bool → Out → Type 0
+abbrev MountKeeps : ℕ → ℕ → List ℕ → Book → Track → Out → Type 0
 MountKeeps N s img b u o = Inv N s (o .image) (o .board) (book (b .objects) noLists nothing) (trackMount u (o .answer)) × MountSays N img u o
 
 -- a refused mount
-turned-down : {N : ℕ} {s : ℕ} {img : List ℕ} (b : Book) {u : Bool} (n : Refusal) → Bare N s img (b .objects) u
+turned-down : {N : ℕ} {s : ℕ} {img : List ℕ} (b : Book) {u : Track} (n : Refusal) → Bare N s img (b .objects) u
     → ((k : ℕ) (f : Fault) → Refused n ≡ Refused (refusal.Foreign k f) → ⊥) → (Refused n ≡ Refused refusal.ImageLength → ⊥)
-    → (Refused n ≡ Refused refusal.NoStore → u ≡ true) → (Refused n ≡ Refused refusal.Worn → WornOut N img) → MountKeeps N s img b u (refuse n img unmounted [])
+    → (Refused n ≡ Refused refusal.NoStore → u .unfinished ≡ true) → (Refused n ≡ Refused refusal.Worn → WornOut N img)
+    → MountKeeps N s img b u (refuse n img unmounted [])
 turned-down b n v a c d e = (
   inv-unmounted unmounted (v .sized) (v .bytes) refl (v .safe) refl,
   record { never-foreign = a; never-length = c; no-store = d; worn = e },
 )
 
 -- the settled objects alone, in a book with no lists
-settled-book : {N : ℕ} {s : ℕ} {img : List ℕ} {r : Record} {st : State} {os : List Object} → Keeps s st os → After N s img r (settledOnly st)
-    → IdleBook N s img r (book os noLists nothing)
+settled-book : {N : ℕ} {s : ℕ} {ed : Edition} {img : List ℕ} {r : Record} {st : State} {os : List Object} (u : Track) → Keeps (u .tight) s ed st os
+    → After N s ed img r (settledOnly st) → IdleBook N s u img r (book os noLists nothing)
 unfolding listOf
-settled-book {N} {s} {img} {r} {st} {os} k a =
+settled-book {N} {s} {ed} {img} {r} {st} {os} u k a =
     record {
       ready = a .ready;
-      spare = subst (λ (x : State). kept x + (deleteLen + endLen) ≤ s) (sym (a .state)) (omega (arith, k .room, used-kept st, kept-none (settledOnly st) refl));
-      shares = subst (λ (x : State). Shares s (x .pending)) (sym (a .state)) (shares-none s);
+      spare = subst₂ (Slack (u .tight) s) (sym (a .edition)) (sym (a .state)) (keeps-settled k .room);
+      shares = subst₂ (λ (d : Edition) (x : State). Shares s d (x .pending)) (sym (a .edition)) (sym (a .state)) (shares-none s ed);
       objects = ap (λ (x : State). x .objects) (a .state) ∙ k .same;
       lists = λ g h. ap (λ (x : State). listOf g (x .pending)) (a .state);
       under = refl;
     }
 
-accepted-says : {N : ℕ} {img : List ℕ} {u : Bool} (o : Out) → (o .answer ≡ More) ⊎ (o .answer ≡ Done) → MountSays N img u o
+accepted-says : {N : ℕ} {img : List ℕ} {u : Track} (o : Out) → (o .answer ≡ More) ⊎ (o .answer ≡ Done) → MountSays N img u o
 accepted-says o (inl e) =
     record {
       never-foreign = λ k f c. (let w : _≡_ {A = ℕ} 0 1 = cc in omega arith);
@@ -162,20 +187,23 @@ accepted-says o (inr e) =
       worn = λ c. (let w : _≡_ {A = ℕ} 0 1 = cc in absurd (omega arith));
     }
 
-module _ {N : ℕ} {s : ℕ} {img : List ℕ} (b : Book) {u : Bool} (v : Bare N s img (b .objects) u) where
-  mount-begun : (x : Store) → Taken N s img x → StoreThere s img x → Keeps s (replayOf (x .journal)) (b .objects) → Lessers N s img (timeOf x) (x .number)
-      → InTime x → MountKeeps N s img b u (begin img [] (mountJob N img x (wipeList (x .number) (allFound N img))))
+module _ {N : ℕ} {s : ℕ} {img : List ℕ} (b : Book) {u : Track} (v : Bare N s img (b .objects) u) where
+  mount-begun : (x : Store) → Taken N s img x → StoreThere s img x → Keeps (u .tight) s (x .journal .edition) (replayOf (x .journal)) (b .objects)
+      → Lessers N s img (timeOf x) (x .number) → InTime x → MountKeeps N s img b u (begin img [] (mountJob N img x (wipeList (x .number) (allFound N img))))
   mount-begun x y h k f t =
       let ks : List ℕ = wipeList (x .number) (allFound N img) in
       let g : Record = enterWipe (mountJob N img x ks) in
       let last : Record = mountWork N img x .last in
-      let a : After N s (applyAll s (mountWork N img x .steps) img) last (settledOnly (replayOf (x .journal))) = mount-ends x (v .sized) (y .there) h t in
+      let a : After N s (x .journal .edition) (applyAll s (mountWork N img x .steps) img) last (settledOnly (replayOf (x .journal))) =
+      mount-ends x (v .sized) (y .there) h t in
       finish g (job-begins img g (mountWork N img x .steps) last
       (follows-mount img x ks (v .sized .ok) (y .there) (wiped-besides N (x .number) img)
-      (subst (λ (n : ℕ). Standing (block n (x .number) img) (x .journal .frames)) (sym (size-of (v .sized))) (standing-of h)))
-      (λ n l. let g = mount-keeps x (v .sized) (y .there) h t false k f n l in (g .0, λ d. g .1)) (settled-book k a) (ready-idle (a .ready)))
+      (subst (λ (n : ℕ). Standing (x .journal .edition) (block n (x .number) img) (x .journal .frames)) (sym (size-of (v .sized))) (standing-of h)))
+      (λ n l. let g = mount-keeps x (v .sized) (y .there) h t (tracked false (u .tight)) k f n l in (g .0, λ d. g .1))
+      (settled-book (tracked false (u .tight)) k a) (ready-idle (a .ready)))
     where
-      finish : (g : Record) → Begun N s (GuardIn N s (b .objects) false nothing) (λ i q. IdleBook N s i q (book (b .objects) noLists nothing)) img g
+      finish : (g : Record) → Begun N s (GuardIn N s (b .objects) (tracked false (u .tight)) nothing)
+          (λ i q. IdleBook N s (tracked false (u .tight)) i q (book (b .objects) noLists nothing)) img g
           → MountKeeps N s img b u (out (answerOf g) img g [])
       finish g (inl (m, j)) = (
         subst (λ (w : Answer). Inv N s img g (book (b .objects) noLists nothing) (trackMount u w)) (sym m) (inv-busy g (v .sized) (v .bytes) m j),
@@ -186,8 +214,8 @@ module _ {N : ℕ} {s : ℕ} {img : List ℕ} (b : Book) {u : Bool} (v : Bare N 
         accepted-says (out (answerOf g) img g []) (inr d),
       )
 
-  mount-found : (x : Store) → Taken N s img x → StoreThere s img x → Keeps s (replayOf (x .journal)) (b .objects) → Lessers N s img (timeOf x) (x .number)
-      → Outcome N img x → MountKeeps N s img b u (mountOn N img)
+  mount-found : (x : Store) → Taken N s img x → StoreThere s img x → Keeps (u .tight) s (x .journal .edition) (replayOf (x .journal)) (b .objects)
+      → Lessers N s img (timeOf x) (x .number) → Outcome N img x → MountKeeps N s img b u (mountOn N img)
   mount-found x y h k f (worn-out w e) =
       subst (MountKeeps N s img b u) (sym e)
       (turned-down b refusal.Worn v (λ k f c. let w : _≡_ {A = ℕ} 0 1 = cc in omega arith) (λ c. let w : _≡_ {A = ℕ} 0 1 = cc in omega arith)
@@ -207,28 +235,32 @@ module _ {N : ℕ} {s : ℕ} {img : List ℕ} (b : Book) {u : Bool} (v : Bare N 
 -- ---- every call, and every run
 
 -- what a call says, and the invariant after it
-abbrev CallKeeps : ℕ → ℕ → List ℕ → Record → Book → Bool → Call → Type 0
+abbrev CallKeeps : ℕ → ℕ → List ℕ → Record → Book → Track → Call → Type 0
 CallKeeps N s img r b u c =
     Says N img r b u c (exec N img r c)
-    × Inv N s (exec N img r c .image) (exec N img r c .board) (enterCall b c (exec N img r c .answer)) (track u b c (exec N img r c .answer))
+    × Inv N s (exec N img r c .image) (exec N img r c .board) (enterCall b c (exec N img r c .answer)) (track (sizeOf N img) u b c (exec N img r c .answer))
 
 -- a mount or a format, whatever the record
-pub begin-keeps : {N : ℕ} {s : ℕ} {img : List ℕ} (b : Book) {u : Bool} → Bare N s img (b .objects) u → (r : Record) (c : Call) → Begins c
+pub begin-keeps : {N : ℕ} {s : ℕ} {img : List ℕ} (b : Book) {u : Track} → Bare N s img (b .objects) u → (r : Record) (c : Call) → Begins c
     → CallKeeps N s img r b u c
 begin-keeps b v r (request h m reply) n = absurd n
 begin-keeps b v r step n = absurd n
 begin-keeps b v r mount n = let y = mount-call b v in (y .1, y .0)
 begin-keeps b v r format n = let y = format-call b v in (y .1, y .0)
 
-pub call-keeps : {N : ℕ} {s : ℕ} {img : List ℕ} {r : Record} {b : Book} {u : Bool} → Inv N s img r b u → (c : Call) → ByteCall c → CallKeeps N s img r b u c
+pub call-keeps : {N : ℕ} {s : ℕ} {img : List ℕ} {r : Record} {b : Book} {u : Track} → Inv N s img r b u → (c : Call) → ByteCall c → CallKeeps N s img r b u c
 call-keeps {N} {s} {img} {r} {b} {u} v (request h m reply) by =
-    let y : Requested N s img r b u h m reply (exec N img r (request h m reply)) = request-keeps v h m reply by in
-    ((y .0 .1, y .0 .2, y .1), y .0 .0)
+    let y : Requested N s img r b u h m reply (exec N img r (request h m reply)) = request-keeps v h m reply by in (
+      (y .0 .1, y .0 .2, y .1),
+      subst (λ (n : ℕ). Inv N s (exec N img r (request h m reply) .image) (exec N img r (request h m reply) .board)
+          (enterRequest b h m (exec N img r (request h m reply) .answer)) (trackRequest n u b m (exec N img r (request h m reply) .answer)))
+          (sym (size-of (v .sized))) (y .0 .0),
+    )
 call-keeps v step by = let y = step-keeps v in (y .1, y .0)
 call-keeps {N} {r = r} {b = b} v mount by = begin-keeps b (bare-of v) r mount tt
 call-keeps {N} {r = r} {b = b} v format by = begin-keeps b (bare-of v) r format tt
 
-pub run-holds : {N : ℕ} {s : ℕ} {img : List ℕ} {r : Record} {b : Book} {u : Bool} (a : Call) → Inv N s img r b u → Ends N (exec N) a img r → (es : List Event)
+pub run-holds : {N : ℕ} {s : ℕ} {img : List ℕ} {r : Record} {b : Book} {u : Track} (a : Call) → Inv N s img r b u → Ends N (exec N) a img r → (es : List Event)
     → Happens N (exec N) img r b es → Run N (exec N) img r b u a es
 run-holds a v d [] h = tt
 run-holds {N} {img = img} {r = r} a v d (call c ∷ es) (by, h) =
@@ -258,19 +290,20 @@ format-done {N} {s} {img} r z =
 
 -- the invariant after a finished format
 pub formatted-inv : {N : ℕ} (img : List ℕ) (r : Record) → Bytes img → allowed N (length img) ≡ true
-    → Inv N (sizeOf N img) (formatted N (exec N) img r .image) (formatted N (exec N) img r .board) firstBook false
+    → Inv N (sizeOf N img) (formatted N (exec N) img r .image) (formatted N (exec N) img r .board) firstBook (tracked false false)
 formatted-inv {N} img r by ok =
     let z : Sized N (sizeOf N img) img = sized-of N img ok in
     let i : List ℕ = applyAll (sizeOf N img) (formatWork N img .steps) img in
-    subst (λ (o : Out). Inv N (sizeOf N img) (o .image) (o .board) firstBook false) (sym (format-done r z))
+    subst (λ (o : Out). Inv N (sizeOf N img) (o .image) (o .board) firstBook (tracked false false)) (sym (format-done r z))
     (inv-idle (formatWork N img .last) (sized-as i (length-all-steps (sizeOf N img) (formatWork N img .steps) img) z)
-    (bytes-all-steps (sizeOf N img) (formatWork N img .steps) img by) (empty-book (z .low) (format-ends z)))
+    (bytes-all-steps (sizeOf N img) (formatWork N img .steps) img by) (empty-book (tracked false false) (z .low) (format-ends z)))
 
 pub claim : (N : ℕ) → Claim N (exec N)
 unfolding Claim
 claim N img r by ok =
     let e : formatted N (exec N) img r ≡ out Done (applyAll (sizeOf N img) (formatWork N img .steps) img) (formatWork N img .last) [] =
     format-done r (sized-of N img ok) in
-    let v : Inv N (sizeOf N img) (formatted N (exec N) img r .image) (formatted N (exec N) img r .board) firstBook false = formatted-inv img r by ok in
+    let v : Inv N (sizeOf N img) (formatted N (exec N) img r .image) (formatted N (exec N) img r .board) firstBook (tracked false false) =
+    formatted-inv img r by ok in
     let i : formatted N (exec N) img r .board .phase ≡ Idle = ap (λ (o : Out). o .board .phase) e in
     (ap (λ (o : Out). o .answer) e, i, agrees format v (idle-ends i), run-holds format v (idle-ends i))

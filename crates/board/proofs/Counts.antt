@@ -4,7 +4,7 @@ use mathlib.Core.Path.{_≡_, refl, sym, ap, subst, _∙_}
 use mathlib.Core.List.{List, [], _∷_, _++_}
 use mathlib.Core.Logic.{_⊎_, inl, inr}
 use mathlib.Core.Option.{some}
-use mathlib.Core.Bool.{Bool, false}
+use mathlib.Core.Bool.{false}
 use Prim.Native.Nat.{ℕ, suc, _≤_}
 use native.Mathlib.Omega.{arith}
 use lib.Dec.{eqb}
@@ -29,6 +29,7 @@ use Rattle.board.specs.Exec.{Machine, Call, request, step, format}
 use Rattle.board.specs.Table.{Exactly, InJob, requestLines, linesOf}
 use Rattle.board.specs.Book.{Book, firstBook, enterCall}
 use Rattle.board.specs.Claim.{Never, ByteCall, Begins, Event, call, cutErase, CutsErase, Happens, Run, track, begunBy, formatted, HappensFrom, Claim}
+use Rattle.board.specs.Claim.{Track, tracked}
 use Rattle.board.specs.CutFormat.{Left, afterAll, leftBy}
 use Rattle.board.specs.Promise.{Calls}
 use Rattle.board.specs.Counts.{Apart, OtherCounts}
@@ -38,18 +39,19 @@ use Rattle.board.proofs.Following.{left-by}
 -- ---- what the claim still says at a point of a run
 
 abbrev Upheld : ℕ → Machine → List ℕ → Record → Book → Type 0
-Upheld N m img r b = (u : Bool) × (a : Call) × ((es : List Event) → Happens N m img r b es → Run N m img r b u a es)
+Upheld N m img r b = (u : Track) × (a : Call) × ((es : List Event) → Happens N m img r b es → Run N m img r b u a es)
 
 module _ (N : ℕ) (m : Machine) (img : List ℕ) (r : Record) (b : Book) (f : Upheld N m img r b) where
   upheld-call : (c : Call) → ByteCall c → Upheld N m (m img r c .image) (m img r c .board) (enterCall b c (m img r c .answer))
   upheld-call c bc =
-      (track (f .0) b c (m img r c .answer), begunBy (f .1) c (m img r c .answer), λ es h. f .2 (call c ∷ es) (bc, h) .2)
+      (track (sizeOf N img) (f .0) b c (m img r c .answer), begunBy (f .1) c (m img r c .answer), λ es h. f .2 (call c ∷ es) (bc, h) .2)
 
   upheld-cut : (k : ℕ) (new : List ℕ) (q : Record) (c : Call) → CutsErase N m img r b k new → Begins c → ByteCall c
       → let o : Out = m (withBlock (sizeOf N img) k new img) q c in Upheld N m (o .image) (o .board) (enterCall b c (o .answer))
   upheld-cut k new q c x n bc =
-      let o : Out = m (withBlock (sizeOf N img) k new img) q c in
-      (track (f .0) b c (o .answer), begunBy (f .1) c (o .answer), λ es h. f .2 (cutErase k new q ∷ call c ∷ es) (x, n, (bc, h)) .2)
+      let i : List ℕ = withBlock (sizeOf N img) k new img in
+      let a : Answer = m i q c .answer in
+      (track (sizeOf N i) (f .0) b c a, begunBy (f .1) c a, λ es h. f .2 (cutErase k new q ∷ call c ∷ es) (x, n, (bc, h)) .2)
 
 upheld-after : (N : ℕ) (m : Machine) (img : List ℕ) (r : Record) (b : Book) → Upheld N m img r b → (es : List Event) (c : Call)
     → Happens N m img r b (es ++ (call c ∷ []))
@@ -159,7 +161,8 @@ module _ {M : ℕ} {m : Machine} (p : Calls M m) (img : List ℕ) (r : Record) (
 pub other-counts : OtherCounts
 unfolding OtherCounts Claim
 other-counts m kept N M n img r by ok =
-    let f : Upheld N (m N) (formatted N (m N) img r .image) (formatted N (m N) img r .board) firstBook = (false, format, kept N .claim img r by ok .3) in (
+    let f : Upheld N (m N) (formatted N (m N) img r .image) (formatted N (m N) img r .board) firstBook =
+    (tracked false false, format, kept N .claim img r by ok .3) in (
       at [] tt f,
       λ es c h. at (es ++ (call c ∷ [])) h
           (upheld-after N (m N) (formatted N (m N) img r .image) (formatted N (m N) img r .board) firstBook f es c h),

@@ -7,6 +7,7 @@ use native.Mathlib.Omega.{arith}
 use lib.Dec.{eqb}
 use lib.ListN.{take}
 use borrow.Author.Tests.{eqb-true, eqb-false}
+use Rattle.frame.specs.declared.Edition.the-variants as edition
 use Rattle.flash.specs.Flash.{applyAll, block, sizeOf}
 use Rattle.flash.proofs.Cases.{on-test}
 use Rattle.frame.specs.Reader.{clean}
@@ -21,7 +22,7 @@ use Rattle.board.specs.Mount.{Store, formatJob, formatOn, replayOf, time
 use Rattle.board.specs.Exec.{exec}
 use Rattle.board.specs.Plan.{formatWork}
 use Rattle.board.specs.Book.{Book}
-use Rattle.board.specs.Claim.{stepsOn, Event, call, cutErase, Happens}
+use Rattle.board.specs.Claim.{stepsOn, Event, call, cutErase, Happens, Track, tracked}
 use Rattle.board.specs.CutFormat.{Left, afterAll, leftBy, Beside, OldObjects, Empty, NoStore as Nothing, EmptyStore, CutFormat}
 use Rattle.board.specs.CutFormat.{Leaves, old-objects, still-none, no-store, empty-store}
 use Rattle.board.proofs.Images.{Sized, size-of, sized-as, length-all-steps}
@@ -39,16 +40,16 @@ use Rattle.board.proofs.Claiming.{begin-keeps, call-keeps, formatted-in
 
 -- ---- what a mount finds after all
 
--- at the end, whether a format is then unfinished
+-- at the end, what is then known of formats and converts
 pub record Ended (N : ℕ) (s : ℕ) (l : Left) : Type 0 where
-  pub unfinished : Bool
-  pub bare : Bare N s (l .image) (l .book .objects) unfinished
+  pub known : Track
+  pub bare : Bare N s (l .image) (l .book .objects) known
 
-pub run-ends : {N : ℕ} {s : ℕ} {img : List ℕ} {r : Record} {b : Book} {u : Bool} → Inv N s img r b u → (es : List Event) → Happens N (exec N) img r b es
+pub run-ends : {N : ℕ} {s : ℕ} {img : List ℕ} {r : Record} {b : Book} {u : Track} → Inv N s img r b u → (es : List Event) → Happens N (exec N) img r b es
     → Ended N s (afterAll N (exec N) img r b es)
-run-ends {N} {s} {img} {r} {b} {u} v [] h = record { unfinished = u; bare = bare-of v }
+run-ends {N} {s} {img} {r} {b} {u} v [] h = record { known = u; bare = bare-of v }
 run-ends v (call c ∷ es) (by, h) = run-ends (call-keeps v c by .1) es h
-run-ends {N} {u = u} v (cutErase k new q ∷ []) (x, n, h) = record { unfinished = u; bare = cut-bare k new v x }
+run-ends {N} {u = u} v (cutErase k new q ∷ []) (x, n, h) = record { known = u; bare = cut-bare k new v x }
 run-ends {N} {b = b} v (cutErase k new q ∷ call c ∷ es) (x, n, (by, h)) = run-ends (begin-keeps b (cut-bare k new v x) q c n .1) es h
 run-ends v (cutErase k new q ∷ cutErase j more p ∷ es) (x, n, h) = absurd n
 
@@ -72,7 +73,7 @@ module _ {N : ℕ} {s : ℕ} {img : List ℕ} (z : Sized N s img) where
   quiet-empty (foreign e) q = absurd q
 
   -- what a mount takes
-  taken-old : {os : List Object} (x : Store) → Taken N s img x → Keeps s (replayOf (x .journal)) os → OldObjects N img os
+  taken-old : {os : List Object} {t : Bool} (x : Store) → Taken N s img x → Keeps t s (x .journal .edition) (replayOf (x .journal)) os → OldObjects N img os
   taken-old x y k =
       record {
         number = x .number;
@@ -100,31 +101,31 @@ module _ {N : ℕ} {s : ℕ} {img : List ℕ} (z : Sized N s img) where
       at-s : (j : ℕ) (a : BlockState) → blockState (block (sizeOf N img) j img) ≡ a → blockState (block s j img) ≡ a
       at-s j a e = subst (λ (n : ℕ). blockState (block n j img) ≡ a) (size-of z) e
 
-  safe-old : {os : List Object} → Safe N s img os false → OldObjects N img os
-  safe-old {os} f = go (mount-safe z f)
+  safe-old : {os : List Object} {t : Bool} → Safe N s img os (tracked false t) → OldObjects N img os
+  safe-old {os} {t} f = go (mount-safe z f)
     where
-      go : MountSafe N s img os false → OldObjects N img os
+      go : MountSafe N s img os (tracked false t) → OldObjects N img os
       go (nothing-there e r) = absurd (false≢true e)
       go (store-there x y h k q) = taken-old x y k
 
-  alone-empty : Alone N s img 0 (journal 1 [] clean) → EmptyStore N img
+  alone-empty : Alone N s img 0 (journal edition.First 1 [] clean) → EmptyStore N img
   alone-empty y =
       record {
-        first = at-size z (λ a. a ≡ valid (journal 1 [] clean)) 0 (contents-valid (y .contents));
+        first = at-size z (λ a. a ≡ valid (journal edition.First 1 [] clean)) 0 (contents-valid (y .contents));
         others = λ j h n. at-size z (λ a. a ≡ blank) j (ap blockState (y .others j h n) ∙ blank-block s);
       }
 
   none-there : NoStore N s img → Nothing N img
   none-there q i l = at-size z Empty i (quiet-empty (blockState (block s i img)) (q i l))
 
-cut-leaves : {N : ℕ} {s : ℕ} {img after : List ℕ} {os : List Object} (j : ℕ) → Sized N s img → Sized N s after → FormatCut N s img os j after
+cut-leaves : {N : ℕ} {s : ℕ} {img after : List ℕ} {os : List Object} {t : Bool} (j : ℕ) → Sized N s img → Sized N s after → FormatCut N s img os t j after
     → Leaves N os img j after
 cut-leaves j z w (FormatCut.old-objects h f) = old-objects h (safe-old w f)
 cut-leaves j z w (FormatCut.still-none h p q) = still-none h (none-there z p) (none-there w q)
 cut-leaves j z w (FormatCut.no-store l h q) = no-store l h (none-there w q)
 cut-leaves j z w (FormatCut.empty-store e y) = empty-store e (alone-empty w y)
 
-format-leaves : {N : ℕ} {s : ℕ} {img : List ℕ} {os : List Object} {u : Bool} (j : ℕ) → Sized N s img → Safe N s img os u → j ≤ N + 10
+format-leaves : {N : ℕ} {s : ℕ} {img : List ℕ} {os : List Object} {u : Track} (j : ℕ) → Sized N s img → Safe N s img os u → j ≤ N + 10
     → Leaves N os img j (stepsOn (exec N) j (formatOn N img) .image)
 format-leaves {N} {s} {img} {os} {u} j z f h =
     let i : List ℕ = applyAll s (take j (formatWork N img .steps)) img in

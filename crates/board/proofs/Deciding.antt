@@ -21,7 +21,7 @@ use Rattle.board.specs.Record.{Out, unmounted, refuse}
 use Rattle.board.specs.Step.{begin}
 use Rattle.board.specs.Mount.{allFound, isForeign, Store, stores, equalTimes, newest, wipeList, moves, upkeep, transfers, replayOf, timeOf}
 use Rattle.board.specs.Mount.{mountJob, mountAt, mountOn, noneValid, tiedTimes}
-use Rattle.board.specs.Claim.{WornOut}
+use Rattle.board.specs.Claim.{WornOut, Track}
 use Rattle.board.specs.CutFormat.{Beside}
 use Rattle.board.specs.Demand2.{Accepted}
 use Rattle.board.proofs.Upkeep.{is-moves}
@@ -235,7 +235,7 @@ mount-accepted {N} {s} {img} z y f = go (mount-decides z)
 -- ---- on a safe image
 
 -- no two valid blocks have one time: beside the current one, which is newer, at most one is valid
-safe-untied : {N : ℕ} {s : ℕ} {img : List ℕ} {os : List Object} {u : Bool} → Safe N s img os u → (i j : ℕ) → SameTimes N s img i j → ⊥
+safe-untied : {N : ℕ} {s : ℕ} {img : List ℕ} {os : List Object} {u : Track} → Safe N s img os u → (i j : ℕ) → SameTimes N s img i j → ⊥
 safe-untied (no-valid e n) i j p = subst Quiet (p .is-valid) (n i (p .there))
 safe-untied {N} {s} {img} (some-valid k h v q) i j p =
     on-test (eqb i k)
@@ -257,12 +257,13 @@ safe-untied {N} {s} {img} (some-valid k h v q) i j p =
       harmless-older (block s m img) (q .older m l n) a,
     )
 
-pub data MountSafe (N : ℕ) (s : ℕ) (img : List ℕ) (os : List Object) (u : Bool) : Type 0 where
-  nothing-there : u ≡ true → mountOn N img ≡ refuse refusal.NoStore img unmounted [] → MountSafe N s img os u
-  store-there : (x : Store) → Taken N s img x → StoreThere s img x → Keeps s (replayOf (x .journal)) os → Lessers N s img (timeOf x) (x .number)
+pub data MountSafe (N : ℕ) (s : ℕ) (img : List ℕ) (os : List Object) (u : Track) : Type 0 where
+  nothing-there : u .unfinished ≡ true → mountOn N img ≡ refuse refusal.NoStore img unmounted [] → MountSafe N s img os u
+  store-there : (x : Store) → Taken N s img x → StoreThere s img x → Keeps (u .tight) s (x .journal .edition) (replayOf (x .journal)) os
+      → Lessers N s img (timeOf x) (x .number)
       → MountSafe N s img os u
 
-pub mount-safe : {N : ℕ} {s : ℕ} {img : List ℕ} {os : List Object} {u : Bool} → Sized N s img → Safe N s img os u → MountSafe N s img os u
+pub mount-safe : {N : ℕ} {s : ℕ} {img : List ℕ} {os : List Object} {u : Track} → Sized N s img → Safe N s img os u → MountSafe N s img os u
 mount-safe {N} {s} {img} {os} {u} z (no-valid e n) = go (mount-decides z)
   where
     go : Decided N s img → MountSafe N s img os u
@@ -283,7 +284,7 @@ mount-safe {N} {s} {img} {os} {u} z (some-valid k h v q) = go (mount-decides z)
         store-there x y
         (subst (λ (i : ℕ). Contents (block s i img) (x .journal)) (sym e)
         (subst (Contents (block s k img)) m (v .contents)))
-        (subst (λ (w : Journal). Keeps s (replayOf w) os) m (record { room = v .room; same = v .same }))
+        (subst (λ (w : Journal). Keeps (u .tight) s (w .edition) (replayOf w) os) m (record { room = v .room; same = v .same }))
         (subst₂ (λ (w : Journal) (i : ℕ). Lessers N s img (w .time) i) m (sym e) q)
 
     other : (x : Store) → Taken N s img x → (x .number ≡ k → ⊥) → MountSafe N s img os u

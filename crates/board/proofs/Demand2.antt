@@ -2,7 +2,7 @@
 use mathlib.Core.Path.{_≡_, refl, sym, ap, subst, _∙_}
 use mathlib.Core.List.{List, [], _∷_}
 use mathlib.Core.Logic.{_⊎_, inl, inr}
-use mathlib.Core.Option.{Option, some}
+use mathlib.Core.Option.{some}
 use Prim.Native.Nat.{ℕ, _+_, _*_, _≤_, _<_}
 use native.Mathlib.Omega.{arith}
 use lib.Dec.{ltb}
@@ -14,6 +14,7 @@ use Rattle.flash.specs.Flash.{Step, program, erase, apply, applyAll, block, siz
 use Rattle.flash.proofs.Cases.{on-test}
 use Rattle.flash.proofs.Image.{length-apply, bytes-apply, block-program}
 use Rattle.flash.proofs.Raising.{length-with, bytes-with}
+use Rattle.frame.specs.declared.Edition.the-variants as edition
 use Rattle.frame.specs.declared.Host.{Host}
 use Rattle.journal.specs.Replay.{state, settledOnly}
 use Rattle.journal.specs.Block.{Journal, stateAt, inTransfer}
@@ -46,14 +47,14 @@ use Rattle.board.proofs.Blocks.{wiped-besides}
 use Rattle.board.proofs.Lengths.{length-format}
 use Rattle.board.proofs.Replies.{standing-of}
 use Rattle.board.proofs.Freshness.{ready-fresh}
-use Rattle.board.proofs.Answering.{number-accepted, not-numbered}
+use Rattle.board.proofs.Answering.{number-accepted, other-number, not-numbered}
 use Rattle.board.proofs.Tabling.{request-lines, format-lines}
 use Rattle.board.proofs.TablingMounts.{mount-lines}
 use Rattle.board.proofs.Refusals.{refusals-untouched, at-most-one-step}
 use Rattle.board.proofs.Formatting.{format-lands, format-ends}
 use Rattle.board.proofs.Deciding.{Begins, mount-accepted, taken-newest}
 use Rattle.board.proofs.Mounting.{mount-lands, mount-ends, mount-short, mount-erases}
-use Rattle.board.proofs.Planning.{jobOf, Met, refused, done, begun, request-met, frame-begins}
+use Rattle.board.proofs.Planning.{jobOf, convertOf, Met, refused, done, begun, converting, request-met, frame-begins, convert-job-begins}
 
 -- ---- one store
 
@@ -70,9 +71,9 @@ module _ {N : ℕ} {s : ℕ} {img : List ℕ} (z : Sized N s img) (y : Begins N 
   mount-follows : Follows N (exec N) img job (mountWork N img x .steps) last
   mount-follows =
       follows-mount img x (wipeList (x .number) (allFound N img)) (z .ok) (y .taken .there) (wiped-besides N (x .number) img)
-      (subst (λ (n : ℕ). Standing (block n (x .number) img) (x .journal .frames)) (sym (size-of z)) (standing-of (y .holds)))
+      (subst (λ (n : ℕ). Standing (x .journal .edition) (block n (x .number) img) (x .journal .frames)) (sym (size-of z)) (standing-of (y .holds)))
 
-  after : After N s (applyAll s (mountWork N img x .steps) img) last (settledOnly (replayOf (x .journal)))
+  after : After N s (x .journal .edition) (applyAll s (mountWork N img x .steps) img) last (settledOnly (replayOf (x .journal)))
   after = mount-ends x z (y .taken .there) (y .holds) (y .in-time)
 
   -- the job is begun, or there is none
@@ -89,7 +90,7 @@ one-store N img r by ok a =
     let y : Begins N s img = mount-accepted z by a in
     let x : Store = y .store in
     let after-image : List ℕ = applyAll s (mountWork N img x .steps) img in
-    let e : After N s (applyAll s (mountWork N img x .steps) img) (last z y) (settledOnly (replayOf (x .journal))) = after z y in
+    let e : After N s (x .journal .edition) (applyAll s (mountWork N img x .steps) img) (last z y) (settledOnly (replayOf (x .journal))) = after z y in
     subst (Mounts N (exec N) img) (sym (y .begins))
     (record {
       store = x;
@@ -170,6 +171,9 @@ request-kept {N} {s} {img} {r} v h m reply bm = go (request-met a)
     go (begun y p) =
         let j = frame-begins (v .sized) (v .bytes) bm y in
         subst (Kept N s) (sym p) (steady-busy (v .sized) (v .bytes) (jobOf y) (j .0) (j .1))
+    go (converting y p) =
+        let j = convert-job-begins (v .sized) (v .bytes) y in
+        subst (Kept N s) (sym p) (steady-busy (v .sized) (v .bytes) (convertOf y) (j .0) (j .1))
 
 -- ---- a step
 
@@ -212,7 +216,7 @@ mount-kept {N} {s} {img} z by = go (mountOn N img .answer) refl
 
 format-kept : {N : ℕ} {s : ℕ} {img : List ℕ} → Sized N s img → Bytes img → Steady N s img (formatOn N img .board)
 format-kept {N} {s} {img} z by =
-    let a : After N s (applyAll s (formatWork N img .steps) img) (formatWork N img .last) (state [] []) = format-ends z in
+    let a : After N s edition.First (applyAll s (formatWork N img .steps) img) (formatWork N img .last) (state [] []) = format-ends z in
     let j : (answerOf (enterWipe (formatJob N img)) ≡ More) × InJob N s (StepLands s) (Ready N s) img (enterWipe (formatJob N img)) =
     job-starts img (enterWipe (formatJob N img)) (formatWork N img .steps) (formatWork N img .last) (follows-format N img (z .ok))
     (omega (arith, length-format N img)) (format-lands z) (a .ready) (ready-idle (a .ready)) in
@@ -245,9 +249,6 @@ cut-sized {N} {s} {img} k new v c =
 
 -- ---- no call gets 11
 
-number-apart : {a : Option ℕ} (j k : ℕ) → (j ≡ k → ⊥) → a ≡ some j → a ≡ some k → ⊥
-number-apart j k n e f = let w : some j ≡ some k = sym e ∙ f in let v : j ≡ k = cc in n v
-
 request-fits : {N : ℕ} {s : ℕ} {img : List ℕ} {r : Record} → Steady N s img r → (h : Host) (m reply : List ℕ) → NotStale (requestOn (asking N img r h m reply))
 request-fits {N} {s} {img} {r} v h m reply e = go (request-lines (asking N img r h m reply) (v .bytes))
   where
@@ -260,10 +261,10 @@ request-fits {N} {s} {img} {r} v h m reply e = go (request-lines (asking N img r
     fits (Busy g) y j u f = j tt
 
     go : Exactly (requestLines (asking N img r h m reply)) a → ⊥
-    go (inl (_, f)) = number-apart 4 11 (omega arith) f e
-    go (inr (_, inl (_, f))) = number-apart 10 11 (omega arith) f e
-    go (inr (_, inr (_, inl (_, f)))) = number-apart 5 11 (omega arith) f e
-    go (inr (_, inr (_, inr (_, inl (_, f))))) = number-apart 2 11 (omega arith) f e
+    go (inl (_, f)) = other-number a 4 11 (omega arith) f e
+    go (inr (_, inl (_, f))) = other-number a 10 11 (omega arith) f e
+    go (inr (_, inr (_, inl (_, f)))) = other-number a 5 11 (omega arith) f e
+    go (inr (_, inr (_, inr (_, inl (_, f))))) = other-number a 2 11 (omega arith) f e
     go (inr (_, inr (_, inr (u, inr (w, inl (f, _)))))) = fits (r .phase) (v .phase) u w f
     go (inr (_, inr (_, inr (_, inr (_, inr (_, x)))))) = not-numbered 10 (drop 5 (requestLines (asking N img r h m reply))) a (omega arith) x e
 

@@ -1,5 +1,5 @@
 -- Two machines that keep the promise show the same on every run. Nothing here looks into a machine.
-use mathlib.Core.Path.{_≡_, refl, sym, ap, ap₂, subst, subst₂, _∙_}
+use mathlib.Core.Path.{_≡_, refl, sym, ap, ap₂, subst, _∙_}
 use mathlib.Core.List.{List, [], _∷_}
 use mathlib.Core.Logic.{inl, inr}
 use mathlib.Core.Option.{Option, none, some}
@@ -8,11 +8,10 @@ use Prim.Native.Nat.{ℕ, _-_, _<_}
 use native.Mathlib.Omega.{arith}
 use lib.ListN.{length}
 use Rattle.flash.specs.Bytes.{Bytes}
-use Rattle.flash.specs.Flash.{Step, apply, sizeOf, withBlock}
+use Rattle.flash.specs.Flash.{apply, sizeOf, withBlock}
 use Rattle.flash.proofs.Image.{bytes-apply}
 use Rattle.flash.proofs.Raising.{bytes-with}
 use Rattle.frame.specs.declared.Host.{Host}
-use Rattle.frame.specs.Frame.{Frame}
 use Rattle.journal.specs.Block.{Journal}
 use Rattle.wire.specs.declared.Answer.{Answer}
 use Rattle.wire.specs.declared.Answer.the-variants.{Done, More, Refused}
@@ -20,79 +19,32 @@ use Rattle.wire.specs.declared.Request.{Request}
 use Rattle.wire.specs.declared.Parsed.{Parsed}
 use Rattle.wire.specs.declared.Parsed.the-variants.{Is, Malformed}
 use Rattle.wire.specs.Message.{parse}
+use Rattle.wire.specs.Sentences.{Means, MessagesExact, MalformedExact}
+use Rattle.wire.proofs.Sentences.{messages-exact, malformed-exact}
 use Rattle.board.specs.declared.Stage.{Stage}
 use Rattle.board.specs.declared.Phase.{Phase}
 use Rattle.board.specs.declared.Phase.the-variants.{Unmounted, Idle, Busy}
 use Rattle.board.specs.declared.Rest.{Rest}
 use Rattle.board.specs.declared.Record.{Record}
-use Rattle.board.specs.Record.{allowed, unmounted, Stretch, noStretch, Out, out, answerIn, answerOf}
+use Rattle.board.specs.Record.{allowed, unmounted, noStretch, Out, out, answerOf}
 use Rattle.board.specs.Mount.{Store, Upkeep, rests, moves, upkeep, mountOn, nextBlock, storeAt}
 use Rattle.board.specs.Queue.{held, Asking, asking, counted}
 use Rattle.board.specs.Exec.{Call, request, step, mount, format}
-use Rattle.board.specs.Plan.{Follows, Work, formatWork, upkeepWork, mountWork, frameWork}
-use Rattle.board.specs.Table.{frameFor, Line, line, Exactly, Allowed, InJob, Fresh, FreshExact, requestLines, mountLines, linesOf}
+use Rattle.board.specs.Plan.{Work, formatWork, upkeepWork, mountWork, frameWork, convertWork}
+use Rattle.board.specs.Table.{Task, idles, appends, converts, taskFor, Line, line, Exactly, Allowed, InJob, Fresh, FreshExact, requestLines, mountLines}
+use Rattle.board.specs.Table.{linesOf}
 use Rattle.board.specs.Demand1.{Rests}
 use Rattle.board.specs.Demand2.{Accepted}
 use Rattle.board.specs.Claim.{ByteCall, Begins, Event, call, cutErase}
-use Rattle.wire.specs.Sentences.{Means, MessagesExact, MalformedExact}
-use Rattle.board.specs.Promise.{Machine, replyFor, Answers, Serves, Job, frame-job, mount-job, format-job, Calls, Shown, restingIn}
-use Rattle.board.specs.Promise.{shownRecord, shown, trace, ByteEvents, PromiseDetermines, PromiseDeterminesFrom, PromiseDeterminesCall}
+use Rattle.board.specs.Promise.{Machine, replyFor, Answers, Serves, Job, frame-job, mount-job, format-job, Calls, Shown}
+use Rattle.board.specs.Promise.{shown, trace, ByteEvents, PromiseDetermines, PromiseDeterminesFrom, PromiseDeterminesCall, convert-job}
 use Rattle.board.proofs.Lengths.{frame-cases}
 use Rattle.board.proofs.Answering.{number-done, number-accepted, Both, both-taken, both-refused, same-numbered, told-answer}
-use Rattle.board.proofs.Answering.{whole, whole-is, in-job, same-stretch}
+use Rattle.board.proofs.Answering.{whole-is, in-job, same-stretch}
 use Rattle.board.proofs.Tabling.{allowed-not}
+use Rattle.board.proofs.Alike.{Alike, resting, working, Agree, alike-answer, alike-plan, agree-whole, agree-by}
 use Rattle.board.proofs.TablingMounts.{Mountable, mount-told, same-mounts, accepted-takes}
-use Rattle.wire.proofs.Sentences.{messages-exact, malformed-exact}
 use Rattle.board.proofs.Freshness.{fresh-exact}
-
--- ---- two machines between calls: the same record in no job, or the same steps to do and then the same idle record
-
-pub data Alike (N : ℕ) (m n : Machine) (img : List ℕ) (r q : Record) : Type 0 where
-  resting : Rests (q .phase) → r ≡ q → Alike N m n img r q
-  working : (x : Step) (xs : List Step) (z : Record) → z .phase ≡ Idle → Follows N m img r (x ∷ xs) z
-      → Follows N n img q (x ∷ xs) z → Alike N m n img r q
-
-more-none : (p : Phase) (r : Record) → answerIn p ≡ More → restingIn p r ≡ none
-more-none Unmounted r e = let w : _≡_ {A = ℕ} 0 1 = cc in absurd (omega arith)
-more-none Idle r e = let w : _≡_ {A = ℕ} 0 1 = cc in absurd (omega arith)
-more-none (Busy s) r e = refl
-
-module _ {N : ℕ} {m n : Machine} {img : List ℕ} {r q : Record} where
-  alike-shown : Alike N m n img r q → shownRecord r ≡ shownRecord q
-  alike-shown (resting h e) = ap shownRecord e
-  alike-shown (working x xs z h f g) = more-none (r .phase) r (f .0) ∙ sym (more-none (q .phase) q (g .0))
-
-  alike-answer : Alike N m n img r q → answerOf r ≡ answerOf q
-  alike-answer (resting h e) = ap answerOf e
-  alike-answer (working x xs z h f g) = f .0 ∙ sym (g .0)
-
--- a plan to follow, if it has steps; else the record after it
-alike-plan : {N : ℕ} {m n : Machine} {img : List ℕ} {r q : Record} (xs : List Step) (z : Record) → z .phase ≡ Idle
-    → Follows N m img r xs z → Follows N n img q xs z → Alike N m n img r q
-alike-plan [] z h f g = resting (subst (λ (y : Record). Rests (y .phase)) (sym g) (subst Rests (sym h) tt)) (f ∙ sym g)
-alike-plan (x ∷ xs) z h f g = working x xs z h f g
-
--- ---- two outcomes
-
-pub record Agree (N : ℕ) (m n : Machine) (o p : Out) : Type 0 where
-  pub same : shown o ≡ shown p
-  pub image : o .image ≡ p .image
-  pub next : Alike N m n (o .image) (o .board) (p .board)
-  pub bytes : Bytes (o .image)
-
-module _ {N : ℕ} {m n : Machine} where
-  agree-whole : (a b : Answer) (img : List ℕ) (r q : Record) (reply : List ℕ) (st : Stretch) → a ≡ b → Bytes img
-      → Alike N m n img r q → Agree N m n (whole a img r reply st) (whole b img q reply st)
-  agree-whole a b img r q reply st e by v =
-      record {
-        same = ap₂ (λ (w : Answer) (x : Option Record). record { answer = w; image = img; board = x; reply = reply; stretch = st }) e (alike-shown v);
-        image = refl;
-        next = v;
-        bytes = by;
-      }
-
-  agree-by : {o p o′ p′ : Out} → o ≡ o′ → p ≡ p′ → Agree N m n o′ p′ → Agree N m n o p
-  agree-by e f y = subst₂ (Agree N m n) (sym e) (sym f) y
 
 -- ---- what a machine that keeps the promise gives back
 
@@ -108,6 +60,7 @@ pub job-idle : {N : ℕ} {img : List ℕ} {r : Record} {c : Call} {w : Work} →
 job-idle {N} {img} {r} (frame-job h msg reply x q f v k g) =
     frame-cases (λ w. w .last .phase ≡ Idle) (sizeOf N img) (nextBlock N (r .rest .block)) (counted (r .rest) x f) x f (λ e. refl)
     (λ e. refl)
+job-idle (convert-job h msg reply x q v k g) = refl
 job-idle {N} {img} (mount-job x v) = mounted-idle N img x
 job-idle format-job = refl
 
@@ -181,17 +134,27 @@ module _ {N : ℕ} {m : Machine} (p : Calls N m) (img : List ℕ) (by : Bytes im
 module _ {N : ℕ} {m n : Machine} (pm : Calls N m) (pn : Calls N n) (img : List ℕ) (by : Bytes img) where
   -- ---- a request
 
-  does-agree : (a : Asking) (x : Journal) (q : Request) (f : Option Frame) (o p : Out) → Rests (a .board .phase) → o .image ≡ img → p .image ≡ img
+  does-agree : (a : Asking) (x : Journal) (q : Request) (f : Task) (o p : Out) → Rests (a .board .phase) → o .image ≡ img → p .image ≡ img
       → Answers f (a .board) o → Answers f (a .board) p → Serves a x q o → Serves a x q p
-      → ((g : Frame) → f ≡ some g → Alike N m n img (o .board) (p .board)) → Agree N m n o p
-  does-agree a x q none o p k i j (d, b) (e, c) s t v =
+      → ((f ≡ idles → ⊥) → Alike N m n img (o .board) (p .board)) → Agree N m n o p
+  does-agree a x q idles o p k i j (d, b) (e, c) s t v =
       agree-by (whole-is o (number-done (o .answer) d) i b (s .writes) refl)
       (whole-is p (number-done (p .answer) e) j c (t .writes) (same-stretch a x q (p .stretch) (o .stretch) (t .hands-back) (s .hands-back)))
       (agree-whole Done Done img (a .board) (a .board) (replyFor a x q) (o .stretch) refl by (resting k refl))
-  does-agree a x q (some f) o p k i j d e s t v =
+  does-agree a x q (appends f) o p k i j d e s t v =
       agree-by (whole-is o d i refl (s .writes) refl)
       (whole-is p e j refl (t .writes) (same-stretch a x q (p .stretch) (o .stretch) (t .hands-back) (s .hands-back)))
-      (agree-whole More More img (o .board) (p .board) (replyFor a x q) (o .stretch) refl by (v f refl))
+      (agree-whole More More img (o .board) (p .board) (replyFor a x q) (o .stretch) refl by (v not-idles))
+    where
+      not-idles : appends f ≡ idles → ⊥
+      not-idles z = let w : _≡_ {A = ℕ} 0 1 = cc in omega arith
+  does-agree a x q converts o p k i j d e s t v =
+      agree-by (whole-is o d i refl (s .writes) refl)
+      (whole-is p e j refl (t .writes) (same-stretch a x q (p .stretch) (o .stretch) (t .hands-back) (s .hands-back)))
+      (agree-whole More More img (o .board) (p .board) (replyFor a x q) (o .stretch) refl by (v not-idles))
+    where
+      not-idles : converts ≡ idles → ⊥
+      not-idles z = let w : _≡_ {A = ℕ} 0 1 = cc in omega arith
 
   -- the same job
   job-alike : (r q : Record) (c : Call) (w : Work) → ByteCall c → Job N img r c w → Job N img q c w
@@ -223,10 +186,14 @@ module _ {N : ℕ} {m n : Machine} (pm : Calls N m) (pn : Calls N n) (img : List
           let w : Asking = asking N img r h msg reply in
           let s : Serves w x q o = pm .serves img r h msg reply x q by bm (y .is-held) (y .is-asked) a in
           let t : Serves w x q p = pn .serves img r h msg reply x q by bm (y .is-held) (y .is-asked) b in
-          let job : (f : Frame) → frameFor h msg x q ≡ some f → Job N img r c (frameWork N img r x f) =
-          λ f e. frame-job h msg reply x q f (y .is-held) (y .is-asked) e in
-          does-agree w x q (frameFor h msg x q) o p k (pm .one-step img r c) (pn .one-step img r c) (s .answers) (t .answers) s t
-          (λ f e. job-alike r r c (frameWork N img r x f) bm (job f e) (job f e) a b)
+          let job : (f : Task) → taskFor h msg x q ≡ f → (f ≡ idles → ⊥) → (v : Work) × Job N img r c v =
+          λ f. elim f [
+            | idles ↦ λ e n. absurd (n refl)
+            | appends g ↦ λ e n. (frameWork N img r x g, frame-job h msg reply x q g (y .is-held) (y .is-asked) e)
+            | converts ↦ λ e n. (convertWork N img r x, convert-job h msg reply x q (y .is-held) (y .is-asked) e)
+          ] in
+          does-agree w x q (taskFor h msg x q) o p k (pm .one-step img r c) (pn .one-step img r c) (s .answers) (t .answers) s t
+          (λ n. let j = job (taskFor h msg x q) refl n in job-alike r r c (j .0) bm (j .1) (j .1) a b)
 
   -- 4, 10 or 5, whatever the record holds
   abbrev pub busyLines : Host → List Line

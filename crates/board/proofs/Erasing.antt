@@ -2,7 +2,7 @@
 use mathlib.Core.Path.{_≡_, sym, ap, subst, _∙_}
 use mathlib.Core.List.{List, [], _∷_, map}
 use mathlib.Core.Logic.{_⊎_, inl, inr}
-use mathlib.Core.Bool.{Bool, true, false, false≢true}
+use mathlib.Core.Bool.{Bool, false, false≢true}
 use Prim.Native.Nat.{ℕ, zero, suc, _<_}
 use native.Mathlib.Omega.{arith}
 use lib.Dec.{eqb}
@@ -17,6 +17,7 @@ use Rattle.journal.specs.Replay.{Object}
 use Rattle.journal.specs.Block.{Journal, valid, blockState}
 use Rattle.journal.proofs.States.{Contents}
 use Rattle.journal.proofs.Raising.{Harmless, harmless-raised, blank-harmless}
+use Rattle.board.specs.Claim.{Track, tracked}
 use Rattle.board.proofs.Blocks.{Blocks, Besides, besides-blocks, besides-kept}
 use Rattle.board.proofs.Images.{Sized, sized-as, sized-block, length-all-steps}
 use Rattle.board.proofs.Invariant.{Valid, Quiet, Others, Lessers, Safe, no-valid, some-valid, CutSafe, Guard, StepLands}
@@ -25,8 +26,8 @@ use Rattle.board.proofs.Current.{Alone, block-long, blank-quiet}
 
 -- ---- a block that stays
 
-abbrev pub valid-kept : {s : ℕ} {img : List ℕ} {k : ℕ} {os : List Object} (after : List ℕ) → block s k after ≡ block s k img
-    → Valid s img k os → Valid s after k os
+abbrev pub valid-kept : {t : Bool} {s : ℕ} {img : List ℕ} {k : ℕ} {os : List Object} (after : List ℕ) → block s k after ≡ block s k img
+    → Valid t s img k os → Valid t s after k os
 valid-kept after e v =
     record {
       journal = v .journal;
@@ -44,7 +45,7 @@ quiet-kept b after e q = subst (λ (x : List ℕ). Quiet (blockState x)) (sym e)
 abbrev pub NoStore : ℕ → ℕ → List ℕ → Type 0
 NoStore N s img = (j : ℕ) → j < N → Quiet (blockState (block s j img))
 
-pub safe-more : {N : ℕ} {s : ℕ} {img : List ℕ} {os : List Object} (u : Bool) → Safe N s img os false → Safe N s img os u
+pub safe-more : {N : ℕ} {s : ℕ} {img : List ℕ} {os : List Object} (u : Track) → Safe N s img os (tracked false (u .tight)) → Safe N s img os u
 safe-more u (no-valid e q) = absurd (false≢true e)
 safe-more u (some-valid k h v q) = some-valid k h v q
 
@@ -74,10 +75,10 @@ module _ {N : ℕ} {s : ℕ} {img : List ℕ} (z : Sized N s img) (k : ℕ) (h :
 -- ---- a block beside the current one gets other bytes
 
 -- m is the current block, and k is not
-module _ {N : ℕ} {s : ℕ} {img : List ℕ} {os : List Object} (z : Sized N s img) (m k : ℕ) (l : m < N) (h : k < N) (d : m ≡ k → ⊥) (v : Valid s img m os)
-    (q : Lessers N s img (v .journal .time) m) (new : List ℕ) (long : length new ≡ s) (y : Harmless (v .journal .time) new)
+module _ {N : ℕ} {s : ℕ} {img : List ℕ} {os : List Object} (u : Track) (z : Sized N s img) (m k : ℕ) (l : m < N) (h : k < N) (d : m ≡ k → ⊥)
+    (v : Valid (u .tight) s img m os) (q : Lessers N s img (v .journal .time) m) (new : List ℕ) (long : length new ≡ s) (y : Harmless (v .journal .time) new)
     (b : block s k img ≡ replicate s 255 → new ≡ replicate s 255) where
-  abbrev pub still : Valid s (withBlock s k new img) m os
+  abbrev pub still : Valid (u .tight) s (withBlock s k new img) m os
   still = valid-kept (withBlock s k new img) (other-with s k new img (sized-block k z h) long m d) v
 
   -- what holds of the new bytes where it held of the old ones
@@ -97,16 +98,16 @@ module _ {N : ℕ} {s : ℕ} {img : List ℕ} {os : List Object} (z : Sized N s 
             each-block (λ (l : List ℕ). l ≡ replicate s 255) j (λ e. b (ap (λ (i : ℕ). block s i img) (sym e) ∙ q .blanks j g n o)) (q .blanks j g n o);
       }
 
-  pub still-safe : (u : Bool) → Safe N s (withBlock s k new img) os u
-  still-safe u = some-valid m l still still-lessers
+  pub still-safe : Safe N s (withBlock s k new img) os u
+  still-safe = some-valid m l still still-lessers
 
-module _ {N : ℕ} {s : ℕ} {img : List ℕ} {os : List Object} (z : Sized N s img) (m k : ℕ) (l : m < N) (h : k < N) (d : m ≡ k → ⊥) (v : Valid s img m os)
-    (q : Lessers N s img (v .journal .time) m) where
+module _ {N : ℕ} {s : ℕ} {img : List ℕ} {os : List Object} (u : Track) (z : Sized N s img) (m k : ℕ) (l : m < N) (h : k < N) (d : m ≡ k → ⊥)
+    (v : Valid (u .tight) s img m os) (q : Lessers N s img (v .journal .time) m) where
   -- its erase is cut
-  pub cut-safe : (u : Bool) → CutSafe N s os u (erase k) img
-  cut-safe u new r =
-      still-safe z m k l h d v q new (r .long ∙ block-long k z h) (harmless-raised (v .journal .time) (block s k img) new r (q .older k h (λ e. d (sym e))))
-      (λ e. raised-blank s new (subst (λ (l : List ℕ). Raised l new) e r)) u
+  pub cut-safe : CutSafe N s os u (erase k) img
+  cut-safe new r =
+      still-safe u z m k l h d v q new (r .long ∙ block-long k z h) (harmless-raised (v .journal .time) (block s k img) new r (q .older k h (λ e. d (sym e))))
+      (λ e. raised-blank s new (subst (λ (l : List ℕ). Raised l new) e r))
 
   ones : List ℕ
   ones = replicate (length (block s k img)) 255
@@ -125,7 +126,7 @@ module _ {N : ℕ} {s : ℕ} {img : List ℕ} {os : List Object} (z : Sized N s 
   -- it is erased
   pub erase-lessers : Lessers N s (eraseBlock s k img) (v .journal .time) m
   unfolding ones
-  erase-lessers = still-lessers z m k l h d v q ones ones-long ones-harmless (λ _. ones-blank)
+  erase-lessers = still-lessers u z m k l h d v q ones ones-long ones-harmless (λ _. ones-blank)
 
 -- ---- erases of a list of blocks
 
@@ -155,14 +156,14 @@ erases-land s (k ∷ ks) img zero h = tt
 erases-land s (k ∷ ks) img (suc j) h = erases-land s ks (eraseBlock s k img) j (omega arith)
 
 -- others than the current one: cut or not, each keeps what a mount finds
-pub erases-guard : {N : ℕ} {s : ℕ} {os : List Object} (u : Bool) (n : ℕ) (ks : List ℕ) (img : List ℕ) → Sized N s img → n < N → Besides N n ks
-    → (v : Valid s img n os) → Lessers N s img (v .journal .time) n → Each s (Guard N s os u) (map erase ks) img
+pub erases-guard : {N : ℕ} {s : ℕ} {os : List Object} (u : Track) (n : ℕ) (ks : List ℕ) (img : List ℕ) → Sized N s img → n < N → Besides N n ks
+    → (v : Valid (u .tight) s img n os) → Lessers N s img (v .journal .time) n → Each s (Guard N s os u) (map erase ks) img
 unfolding applyAll
 erases-guard u n [] img z l b v q j h = absurd (omega arith)
-erases-guard u n (k ∷ ks) img z l (g, d, b) v q zero h = (some-valid n l v q, cut-safe z n k l g d v q u)
+erases-guard u n (k ∷ ks) img z l (g, d, b) v q zero h = (some-valid n l v q, cut-safe u z n k l g d v q)
 erases-guard {N} {s} u n (k ∷ ks) img z l (g, d, b) v q (suc j) h =
     erases-guard u n ks (eraseBlock s k img) (sized-erase z k g) l b (valid-kept (eraseBlock s k img) (other-erase s n k img d) v)
-    (erase-lessers z n k l g d v q) j (omega arith)
+    (erase-lessers u z n k l g d v q) j (omega arith)
 
 -- the valid block is then alone
 pub erases-alone : {N : ℕ} {s : ℕ} {n : ℕ} {w : Journal} (ks : List ℕ) (img : List ℕ) → Sized N s img → n < N

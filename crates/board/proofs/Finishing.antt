@@ -8,7 +8,6 @@ use Rattle.flash.specs.Bytes.{Bytes}
 use Rattle.flash.specs.Flash.{sizeIn, Step, program, erase, apply, sizeOf}
 use Rattle.flash.proofs.Image.{length-apply}
 use Rattle.frame.specs.declared.Host.{Host}
-use Rattle.frame.specs.Frame.{Frame}
 use Rattle.journal.specs.Block.{Journal}
 use Rattle.wire.specs.declared.Answer.{Answer}
 use Rattle.wire.specs.declared.Answer.the-variants.{Done, More, Refused}
@@ -20,12 +19,12 @@ use Rattle.board.specs.declared.Record.{Record}
 use Rattle.board.specs.Record.{Out}
 use Rattle.board.specs.Mount.{Store}
 use Rattle.board.specs.Exec.{Machine, Call, request, step, mount, format}
-use Rattle.board.specs.Plan.{Follows, programs, Work, formatWork, mountWork, frameWork}
-use Rattle.board.specs.Table.{frameFor, InJob}
+use Rattle.board.specs.Plan.{Follows, programs, Work, formatWork, mountWork, frameWork, convertWork}
+use Rattle.board.specs.Table.{Task, idles, appends, converts, taskFor, InJob}
 use Rattle.board.specs.Demand1.{Unchanged, Short, Rests}
 use Rattle.board.specs.Demand2.{Accepted}
 use Rattle.board.specs.Claim.{Finishes, begunBy, ByteCall, Begins}
-use Rattle.board.specs.Promise.{Answers, Job, frame-job, mount-job, format-job, Calls}
+use Rattle.board.specs.Promise.{Answers, Job, frame-job, mount-job, format-job, Calls, convert-job}
 use Rattle.board.proofs.TablingMounts.{Mountable}
 use Rattle.board.proofs.Determining.{job-idle, Asked, request-asks, mount-takes}
 
@@ -56,7 +55,7 @@ module _ {N : ℕ} {m : Machine} (p : Calls N m) (img : List ℕ) (by : Bytes im
   request-ends : (r : Record) (h : Host) (msg reply : List ℕ) → Bytes msg → m img r (request h msg reply) .answer ≡ More
       → Ends N m (request h msg reply) (m img r (request h msg reply) .image) (m img r (request h msg reply) .board)
   request-ends r h msg reply bm e j =
-      go (frameFor h msg x (y .asked)) refl (p .serves img r h msg reply x (y .asked) by bm (y .is-held) (y .is-asked) a .answers)
+      go (taskFor h msg x (y .asked)) refl (p .serves img r h msg reply x (y .asked) by bm (y .is-held) (y .is-asked) a .answers)
     where
       c : Call
       c = request h msg reply
@@ -70,11 +69,14 @@ module _ {N : ℕ} {m : Machine} (p : Calls N m) (img : List ℕ) (by : Bytes im
       x : Journal
       x = y .holding
 
-      go : (f : Option Frame) → frameFor h msg x (y .asked) ≡ f → Answers f r (m img r c) → Finishes N m c (m img r c .image) (m img r c .board)
-      go none g (n, b) = let w : _≡_ {A = Option ℕ} (some 0) none = sym n ∙ ap numberOf e in let v : _≡_ {A = ℕ} 0 1 = cc in absurd (omega arith)
-      go (some f) g b =
+      go : (f : Task) → taskFor h msg x (y .asked) ≡ f → Answers f r (m img r c) → Finishes N m c (m img r c .image) (m img r c .board)
+      go idles g (n, b) = let w : _≡_ {A = Option ℕ} (some 0) none = sym n ∙ ap numberOf e in let v : _≡_ {A = ℕ} 0 1 = cc in absurd (omega arith)
+      go (appends f) g b =
           job-finishes r c (frameWork N img r x f) bm
           (frame-job h msg reply x (y .asked) f (y .is-held) (y .is-asked) g) a (p .one-step img r c)
+      go converts g b =
+          job-finishes r c (convertWork N img r x) bm
+          (convert-job h msg reply x (y .asked) (y .is-held) (y .is-asked) g) a (p .one-step img r c)
 
   -- a refused mount or format leaves no job
   taken-ends : (r : Record) (c : Call) → (Accepted (m img r c .answer) → Finishes N m c (m img r c .image) (m img r c .board))

@@ -3,7 +3,7 @@
 use mathlib.Core.Path.{_≡_, refl, sym, ap, subst, subst₂, _∙_}
 use mathlib.Core.List.{List, [], _∷_}
 use mathlib.Core.Option.{Option, none, some}
-use mathlib.Core.Bool.{Bool, false}
+use mathlib.Core.Bool.{false}
 use Prim.Native.Nat.{ℕ, _+_, zero, suc}
 use native.Mathlib.Omega.{arith}
 use lib.ListN.{length, take}
@@ -13,7 +13,7 @@ use Rattle.flash.proofs.Raising.{bytes-with}
 use Rattle.journal.specs.Replay.{lookup}
 use Rattle.wire.specs.declared.Answer.{Answer}
 use Rattle.wire.specs.declared.Answer.the-variants.{Done, More}
-use Rattle.wire.specs.declared.Request.the-variants.{Put, Delete, Commit, Abort, Read, Log}
+use Rattle.wire.specs.declared.Request.the-variants.{Put, Delete, Commit, Abort, Read, Log, Convert}
 use Rattle.wire.specs.declared.Parsed.{Parsed}
 use Rattle.wire.specs.declared.Parsed.the-variants.{Is, Malformed}
 use Rattle.wire.specs.Answer.{numberOf}
@@ -29,15 +29,16 @@ use Rattle.board.specs.Demand2.{Accepted}
 use Rattle.board.specs.Book.{Book, firstBook, enterCall}
 use Rattle.board.specs.Table.{InJob}
 use Rattle.board.specs.Claim.{AgreesIn, Agrees, ReadSays, RequestSays, Says, track, ByteCall, Event, call, cutErase, CutsErase, Happens}
-use Rattle.board.specs.Claim.{begunBy, Run, stepsOn, formatted, HappensFrom, Claim}
+use Rattle.board.specs.Claim.{begunBy, Run, stepsOn, formatted, HappensFrom, Claim, Track, tracked}
 use Rattle.board.specs.CutFormat.{Left, afterAll, leftBy, Leaves, CutFormat}
-use Rattle.board.specs.Promise.{Job, frame-job, mount-job, format-job, StepsOf, Calls, Shown, shown}
+use Rattle.board.specs.Promise.{Job, frame-job, mount-job, format-job, StepsOf, Calls, Shown, shown, convert-job}
 use Rattle.board.proofs.Keeping.{more-busy}
 use Rattle.board.proofs.Claiming.{claim}
 use Rattle.board.proofs.CutFormat.{cut-format}
 use Rattle.board.proofs.Stepping.{follows-steps, follows-part, follows-more}
 use Rattle.board.proofs.Answering.{told-answer, in-job}
-use Rattle.board.proofs.Determining.{job-idle, Alike, resting, working, Agree, call-agrees, format-agrees, begun-agrees}
+use Rattle.board.proofs.Alike.{Alike, resting, working, Agree}
+use Rattle.board.proofs.Determining.{job-idle, call-agrees, format-agrees, begun-agrees}
 use Rattle.board.proofs.Finishing.{Ends, idle-ends, call-ends, restart-ends}
 use Rattle.board.proofs.Promising.{calls}
 
@@ -74,12 +75,14 @@ module _ {N : ℕ} {m : Machine} (p : Calls N m) where
   -- a job is no step's
   job-image : {img : List ℕ} {r : Record} {c : Call} {w : Work} → Job N img r c w → m img r c .image ≡ img
   job-image {img} {r} (frame-job h msg reply x q f v k g) = p .one-step img r (request h msg reply)
+  job-image {img} {r} (convert-job h msg reply x q v k g) = p .one-step img r (request h msg reply)
   job-image {img} {r} (mount-job x v) = p .one-step img r mount
   job-image {img} {r} format-job = p .one-step img r format
 
   job-tells : {img : List ℕ} {r : Record} {c : Call} {w : Work} → Job N img r c w → Accepted (m img r c .answer)
       → m img r c .answer ≡ answerOf (m img r c .board)
   job-tells {img} {r} {c} (frame-job h msg reply x q f v k g) a = told-answer (m img r c) (p .told img r c a (λ _. tt)) a
+  job-tells {img} {r} {c} (convert-job h msg reply x q v k g) a = told-answer (m img r c) (p .told img r c a (λ _. tt)) a
   job-tells {img} {r} {c} (mount-job x v) a = told-answer (m img r c) (p .told img r c a (λ _. tt)) a
   job-tells {img} {r} {c} format-job a = told-answer (m img r c) (p .told img r c a (λ _. tt)) a
 
@@ -97,24 +100,27 @@ read-shown : (s : Shown) (r q : Record) (v : Option (List ℕ)) → ReadSays (ou
 read-shown s r q none y = y
 read-shown s r q (some v) y = y
 
-request-shown : (w : Parsed) (reply : List ℕ) (s : Shown) (r q : Record) (b : Book) → RequestSays w reply (outOf s r) b → RequestSays w reply (outOf s q) b
-request-shown Malformed reply s r q b y = y
-request-shown (Is (Put i)) reply s r q b y = tt
-request-shown (Is (Delete i)) reply s r q b y = tt
-request-shown (Is Commit) reply s r q b y = tt
-request-shown (Is Abort) reply s r q b y = tt
-request-shown (Is (Read i)) reply s r q b y = read-shown s r q (lookup i (b .objects)) y
-request-shown (Is (Log g)) reply s r q b y = y
+request-shown : (z : Record) (w : Parsed) (reply : List ℕ) (s : Shown) (r q : Record) (b : Book) → RequestSays z w reply (outOf s r) b
+    → RequestSays z w reply (outOf s q) b
+request-shown z Malformed reply s r q b y = y
+request-shown z (Is (Put i)) reply s r q b y = tt
+request-shown z (Is (Delete i)) reply s r q b y = tt
+request-shown z (Is Commit) reply s r q b y = tt
+request-shown z (Is Abort) reply s r q b y = tt
+request-shown z (Is (Read i)) reply s r q b y = read-shown s r q (lookup i (b .objects)) y
+request-shown z (Is (Log g)) reply s r q b y = y
+request-shown z (Is Convert) reply s r q b y = record { some-pending = y .some-pending; none-pending = y .none-pending }
 
--- a record that is idle here is idle there
-says-over : (N : ℕ) (img : List ℕ) (r q : Record) (b : Book) (u : Bool) (c : Call) (o p : Out) → shown o ≡ shown p → (r .phase ≡ Idle → q .phase ≡ Idle)
+-- a record that is idle here is the same there
+says-over : (N : ℕ) (img : List ℕ) (r q : Record) (b : Book) (u : Track) (c : Call) (o p : Out) → shown o ≡ shown p → (r .phase ≡ Idle → r ≡ q)
     → Says N img q b u c p → Says N img r b u c o
 says-over N img r q b u (request h msg reply) o p e f (x, y, z) =
     let a : o .answer ≡ p .answer = ap (λ (s : Shown). s .answer) e in (
       (λ g. x (sym a ∙ g)),
       (λ g. y (sym a ∙ g)),
-      (λ i k. request-shown (parse msg) reply (shown o) (p .board) (o .board) b
-          (subst (λ (s : Shown). RequestSays (parse msg) reply (outOf s (p .board)) b) (sym e) (z (f i) k))),
+      (λ i k. request-shown r (parse msg) reply (shown o) (p .board) (o .board) b
+          (subst₂ (λ (x : Record) (s : Shown). RequestSays x (parse msg) reply (outOf s (p .board)) b) (sym (f i)) (sym e)
+          (z (sym (ap (λ (x : Record). x .phase) (f i)) ∙ i) k))),
     )
 says-over N img r q b u step o p e f y = λ n g. y n (sym (ap (λ (s : Shown). s .answer) e) ∙ g)
 says-over N img r q b u mount o p e f y =
@@ -136,24 +142,26 @@ module _ {N : ℕ} {m : Machine} (p : Calls N m) where
   abbrev Both : Out → Out → Type 0
   Both o x = Agree N m (exec N) o x
 
-  same-idle : {img : List ℕ} {r q : Record} → Same img r q → r .phase ≡ Idle → q .phase ≡ Idle
-  same-idle (resting h e) i = sym (ap (λ (x : Record). x .phase) e) ∙ i
+  same-idle : {img : List ℕ} {r q : Record} → Same img r q → r .phase ≡ Idle → r ≡ q
+  same-idle (resting h e) i = e
   same-idle (working x xs z h f g) i = let w : Done ≡ More = sym (ap answerIn i) ∙ f .0 in let v : _≡_ {A = ℕ} 0 1 = cc in absurd (omega arith)
 
   idle-same : {img : List ℕ} {r q : Record} → Same img r q → q .phase ≡ Idle → r .phase ≡ Idle
   idle-same (resting h e) i = ap (λ (x : Record). x .phase) e ∙ i
   idle-same (working x xs z h f g) i = let w : Done ≡ More = sym (ap answerIn i) ∙ g .0 in let v : _≡_ {A = ℕ} 0 1 = cc in absurd (omega arith)
 
-  at-rest : (s : Phase) (a : Call) (img : List ℕ) (q : Record) (b : Book) → Rests s → AgreesIn N (exec N) a s img q b → AgreesIn N m a s img q b
-  at-rest Unmounted a img q b h y = y
-  at-rest Idle a img q b h y = y
-  at-rest (Busy s) a img q b h y = absurd h
+  at-rest : (s : Phase) (a : Call) (u : Track) (img : List ℕ) (q : Record) (b : Book) → Rests s → AgreesIn N (exec N) a u s img q b
+      → AgreesIn N m a u s img q b
+  at-rest Unmounted a u img q b h y = y
+  at-rest Idle a u img q b h y = y
+  at-rest (Busy s) a u img q b h y = absurd h
 
-  agrees-over : (a : Call) (img : List ℕ) (r q : Record) (b : Book) → Same img r q → Ends N m a img r → Agrees N (exec N) a img q b → Agrees N m a img r b
-  agrees-over a img r q b (resting h e) d y = subst (λ (x : Record). Agrees N m a img x b) (sym e) (at-rest (q .phase) a img q b h y)
-  agrees-over a img r q b (working x xs z h f g) d y =
+  agrees-over : (a : Call) (u : Track) (img : List ℕ) (r q : Record) (b : Book) → Same img r q → Ends N m a img r → Agrees N (exec N) a u img q b
+      → Agrees N m a u img r b
+  agrees-over a u img r q b (resting h e) d y = subst (λ (x : Record). Agrees N m a u img x b) (sym e) (at-rest (q .phase) a u img q b h y)
+  agrees-over a u img r q b (working x xs z h f g) d y =
       let e : r .phase ≡ Busy (more-busy (r .phase) (f .0) .stage) = more-busy (r .phase) (f .0) .is in
-      subst (λ (s : Phase). AgreesIn N m a s img r b) (sym e) (d (subst InJob (sym e) tt))
+      subst (λ (s : Phase). AgreesIn N m a u s img r b) (sym e) (d (subst InJob (sym e) tt))
 
   answers-over : {o x : Out} → Both o x → o .answer ≡ x .answer
   answers-over y = ap (λ (s : Shown). s .answer) (y .same)
@@ -213,7 +221,7 @@ module _ {N : ℕ} {m : Machine} (p : Calls N m) where
   happens-over img r q b by v (cutErase k new g ∷ cutErase j more y ∷ es) (x, n, h) = absurd n
 
   -- a call that both answer alike says of the one what it says of the other, and so on from there
-  run-over : (img : List ℕ) (r q : Record) (b : Book) (u : Bool) (a : Call) → Bytes img → Same img r q → Ends N m a img r → (es : List Event)
+  run-over : (img : List ℕ) (r q : Record) (b : Book) (u : Track) (a : Call) → Bytes img → Same img r q → Ends N m a img r → (es : List Event)
       → Happens N m img r b es
       → Run N (exec N) img q b u a es → Run N m img r b u a es
   run-over img r q b u a by v t [] h y = tt
@@ -222,13 +230,14 @@ module _ {N : ℕ} {m : Machine} (p : Calls N m) where
       let x : Out = exec N img q c in
       let w : Both o x = call-agrees p calls img by r q v c bc in
       let b′ : Book = enterCall b c (o .answer) in
+      let u′ : Track = track (sizeOf N img) u b c (o .answer) in
       let a′ : Call = begunBy a c (o .answer) in
       let t′ : Ends N m a′ (o .image) (o .board) = call-ends p img by a r t c bc in (
         says-over N img r q b u c o x (w .same) (same-idle v) s,
-        agrees-over a′ (o .image) (o .board) (x .board) b′ (w .next) t′
-            (carry-back (λ i d. Agrees N (exec N) (begunBy a c d) i (x .board) (enterCall b c d)) w y),
-        run-over (o .image) (o .board) (x .board) b′ (track u b c (o .answer)) a′ (w .bytes) (w .next) t′ es h
-            (carry-back (λ i d. Run N (exec N) i (x .board) (enterCall b c d) (track u b c d) (begunBy a c d) es) w z),
+        agrees-over a′ u′ (o .image) (o .board) (x .board) b′ (w .next) t′
+            (carry-back (λ i d. Agrees N (exec N) (begunBy a c d) (track (sizeOf N img) u b c d) i (x .board) (enterCall b c d)) w y),
+        run-over (o .image) (o .board) (x .board) b′ u′ a′ (w .bytes) (w .next) t′ es h
+            (carry-back (λ i d. Run N (exec N) i (x .board) (enterCall b c d) (track (sizeOf N img) u b c d) (begunBy a c d) es) w z),
       )
   run-over img r q b u a by v t (cutErase k new g ∷ []) (x, n, h) y = tt
   run-over img r q b u a by v t (cutErase k new g ∷ call c ∷ es) (d, n, (bc, h)) (s, y, z) =
@@ -237,13 +246,14 @@ module _ {N : ℕ} {m : Machine} (p : Calls N m) where
       let x : Out = exec N i g c in
       let w : Both o x = begun-agrees p calls i g g c (cut-bytes by d) n in
       let b′ : Book = enterCall b c (o .answer) in
+      let u′ : Track = track (sizeOf N i) u b c (o .answer) in
       let a′ : Call = begunBy a c (o .answer) in
       let t′ : Ends N m a′ (o .image) (o .board) = restart-ends p i (cut-bytes by d) a g c n in (
-        says-over N i g g b u c o x (w .same) (λ e. e) s,
-        agrees-over a′ (o .image) (o .board) (x .board) b′ (w .next) t′
-            (carry-back (λ l d. Agrees N (exec N) (begunBy a c d) l (x .board) (enterCall b c d)) w y),
-        run-over (o .image) (o .board) (x .board) b′ (track u b c (o .answer)) a′ (w .bytes) (w .next) t′ es h
-            (carry-back (λ l d. Run N (exec N) l (x .board) (enterCall b c d) (track u b c d) (begunBy a c d) es) w z),
+        says-over N i g g b u c o x (w .same) (λ e. refl) s,
+        agrees-over a′ u′ (o .image) (o .board) (x .board) b′ (w .next) t′
+            (carry-back (λ l d. Agrees N (exec N) (begunBy a c d) (track (sizeOf N i) u b c d) l (x .board) (enterCall b c d)) w y),
+        run-over (o .image) (o .board) (x .board) b′ u′ a′ (w .bytes) (w .next) t′ es h
+            (carry-back (λ l d. Run N (exec N) l (x .board) (enterCall b c d) (track (sizeOf N i) u b c d) (begunBy a c d) es) w z),
       )
   run-over img r q b u a by v t (cutErase k new g ∷ cutErase j more f ∷ es) (x, n, h) y = absurd n
 
@@ -274,10 +284,11 @@ module _ {N : ℕ} {m : Machine} (p : Calls N m) where
       let t : Ends N m format (o .image) (o .board) = idle-ends i in (
         answers-over w ∙ y .0,
         i,
-        agrees-over format (o .image) (o .board) (x .board) firstBook (w .next) t
-            (subst (λ (i : List ℕ). Agrees N (exec N) format i (x .board) firstBook) (sym (w .image)) (y .2)),
-        (λ es h. run-over (o .image) (o .board) (x .board) firstBook false format (w .bytes) (w .next) t es h
-            (subst (λ (i : List ℕ). Run N (exec N) i (x .board) firstBook false format es) (sym (w .image)) (y .3 es (happens-from img r by es h)))),
+        agrees-over format (tracked false false) (o .image) (o .board) (x .board) firstBook (w .next) t
+            (subst (λ (i : List ℕ). Agrees N (exec N) format (tracked false false) i (x .board) firstBook) (sym (w .image)) (y .2)),
+        (λ es h. run-over (o .image) (o .board) (x .board) firstBook (tracked false false) format (w .bytes) (w .next) t es h
+            (subst (λ (i : List ℕ). Run N (exec N) i (x .board) firstBook (tracked false false) format es) (sym (w .image))
+            (y .3 es (happens-from img r by es h)))),
       )
 
   -- ---- what a run leaves

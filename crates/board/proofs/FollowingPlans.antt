@@ -16,11 +16,13 @@ use Rattle.board.specs.Book.{Book, enterCall}
 use Rattle.board.specs.Claim.{Event, call, cutErase, Happens}
 use Rattle.board.specs.Promise.{Kept, mount-job, Calls, Promise, Shown}
 use Rattle.board.proofs.Demand2.{one-store, usable-from, lands-from}
-use Rattle.board.proofs.Determining.{Alike, Agree, mount-allowed, call-agrees, mount-agrees, format-agrees, begun-agrees}
+use Rattle.board.proofs.Alike.{Alike, Agree}
+use Rattle.board.proofs.Determining.{mount-allowed, call-agrees, mount-agrees, format-agrees, begun-agrees}
 use Rattle.board.proofs.TablingMounts.{mounts-current}
 use Rattle.board.proofs.Promising.{calls}
 use Rattle.board.proofs.Clearing.{only-clears}
 use Rattle.board.proofs.Limits.{room-exact, wear-exact, share-exact}
+use Rattle.board.proofs.LimitsConverts.{convert-answers}
 use Rattle.board.proofs.Following.{job-steps, cut-bytes, happens-over, claim-of, cut-format-of}
 
 module _ {N : ℕ} {m : Machine} (p : Calls N m) where
@@ -118,6 +120,7 @@ from-calls p =
       share = share-exact p;
       room = room-exact p;
       wear = wear-exact p;
+      converting = convert-answers p;
       lands = lands-of p;
       claim = claim-of p;
       cut-format = cut-format-of p;

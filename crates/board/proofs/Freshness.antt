@@ -3,7 +3,7 @@ use mathlib.Core.Path.{_≡_, sym, ap, ap₂, _∙_, subst}
 use mathlib.Core.List.{List}
 use mathlib.Core.Option.{some}
 use mathlib.Core.Bool.{Bool, true, _&&_}
-use Prim.Native.Nat.{ℕ, suc, _≤_, _<_}
+use Prim.Native.Nat.{ℕ, suc, _≤_, _<_, _*_, _+_}
 use native.Mathlib.Omega.{arith}
 use lib.Dec.{eqb, ltb}
 use lib.ListN.{length, replicate}
@@ -17,6 +17,7 @@ use Rattle.frame.specs.Sentences.{Blank}
 use Rattle.frame.specs.Reader.{Tail, clean}
 use Rattle.journal.specs.Block.{Journal, BlockState, valid, blockState, headerLen}
 use Rattle.journal.specs.Sentences.{BlankBlock}
+use Rattle.journal.specs.Room.{openHosts}
 use Rattle.journal.proofs.Sentences.{states-exact}
 use Rattle.journal.specs.Laws.{CountsAre}
 use Rattle.journal.proofs.ReplayLaws.{pending-exact}
@@ -25,12 +26,14 @@ use Rattle.board.specs.Record.{allowed, idle}
 use Rattle.board.specs.Step.{sameShape}
 use Rattle.board.specs.Queue.{held, heldIf, heldIn, heldBy, fitsRecord, othersBlank, sameImage}
 use Rattle.board.specs.Table.{Fresh, FreshExact}
+use Rattle.board.specs.Mount.{replayOf, claimedOf}
 use Rattle.board.proofs.Images.{Sized, sized-of, sized-block}
 use Rattle.board.proofs.Blocks.{others-are}
 use Rattle.board.proofs.Pipeline.{same-shape}
 use Rattle.board.proofs.Invariant.{Ready}
 use Rattle.board.proofs.Holding.{Passed, passed, held-inv, RecordFits, record-fits, fits-record}
 use Rattle.board.proofs.Replies.{held-ready}
+use Rattle.board.proofs.Editions.{number-is, end-is}
 
 blank-means : (l : List ℕ) → Blank l → allFF l ≡ true
 blank-means l e = is-ff l e
@@ -72,9 +75,10 @@ module _ (N : ℕ) (img : List ℕ) (r : Record) (x : Journal) (by : Bytes img) 
             (p .is-valid);
         is-clean = p .is-clean;
         ends = f .ends;
-        pending = subst (λ (ps : List ℕ). CountsAre ps (x .frames)) (f .counts) (pending-exact .are (x .frames));
+        pending = subst (λ (ps : List ℕ). CountsAre (x .edition) ps (x .frames)) (f .counts) (pending-exact .are (x .edition) (x .frames));
+        edition-is = sym (f .edition-is) ∙ number-is (x .edition);
         others-blank = λ j h n. blank-there j h n (othersOf (v .0) j h n);
-        room = f .room;
+        room = subst (λ (n : ℕ). claimedOf x + n * openHosts (replayOf x .pending) ≤ s) (end-is (x .edition)) (f .room);
       }
     where
       blank-there : (j : ℕ) → j < N → (j ≡ r .rest .block → ⊥) → block s j img ≡ replicate s 255 → BlankBlock (block s j img)
@@ -94,7 +98,12 @@ module _ (N : ℕ) (img : List ℕ) (r : Record) (x : Journal) (by : Bytes img) 
       (long-block (r .rest .block) (y .there)) .1
       (y .is-valid))
       (y .is-clean)
-      (fits-record (record { ends = y .ends; counts = sym (pending-exact .only (r .rest .pending) (x .frames) (y .pending)); room = y .room }))
+      (fits-record (record {
+        edition-is = number-is (x .edition) ∙ sym (y .edition-is);
+        ends = y .ends;
+        counts = sym (pending-exact .only (x .edition) (r .rest .pending) (x .frames) (y .pending));
+        room = subst (λ (n : ℕ). claimedOf x + n * openHosts (replayOf x .pending) ≤ s) (sym (end-is (x .edition))) (y .room);
+      }))
 
 pub fresh-exact : FreshExact
 unfolding FreshExact

@@ -13,7 +13,7 @@ use Rattle.flash.specs.Flash.{blockNumbers, block, sizeOf}
 use Rattle.flash.proofs.Cases.{and-left, and-right, and-both}
 use Rattle.flash.proofs.Blank.{all-ff, same-is, same-refl}
 use Rattle.flash.proofs.Image.{length-block, bytes-block}
-use Rattle.frame.specs.Frame.{endLen}
+use Rattle.frame.specs.Frame.{endLen, editionNumber}
 use Rattle.frame.specs.Reader.{clean, cut, bad, Tail}
 use Rattle.journal.specs.Block.{Journal, BlockState, blank, inProgress, valid, foreign, blockState}
 use Rattle.journal.specs.Room.{openHosts}
@@ -35,34 +35,40 @@ pub record Passed (N : ℕ) (s : ℕ) (img : List ℕ) (r : Record) (x : Journal
   pub is-clean : x .tail ≡ clean
   pub fits : fitsRecord s (r .rest) x ≡ true
 
--- the three tests of a record that fits
+-- the four tests of a record that fits
 pub record RecordFits (s : ℕ) (z : Rest) (x : Journal) : Type 0 where
+  pub edition-is : editionNumber (x .edition) ≡ z .edition
   pub ends : endOf x ≡ z .end
   pub counts : countsOf x ≡ z .pending
-  pub room : claimedOf x + endLen * openHosts (replayOf x .pending) ≤ s
+  pub room : claimedOf x + endLen (x .edition) * openHosts (replayOf x .pending) ≤ s
 
 pub record-fits : {s : ℕ} {z : Rest} {x : Journal} → fitsRecord s z x ≡ true → RecordFits s z x
 unfolding fitsRecord
 record-fits {s} {z} {x} t =
-    let l : Bool = leb (claimedOf x + endLen * openHosts (replayOf x .pending)) s in
+    let l : Bool = leb (claimedOf x + endLen (x .edition) * openHosts (replayOf x .pending)) s in
     let e : Bool = eqb (endOf x) (z .end) in
     let c : Bool = sameBytes (countsOf x) (z .pending) in
-    let ec : (e && c) ≡ true = and-left (e && c) l t in
+    let n : Bool = eqb (editionNumber (x .edition)) (z .edition) in
+    let nec : (n && (e && c)) ≡ true = and-left (n && (e && c)) l t in
+    let ec : (e && c) ≡ true = and-right n (e && c) nec in
     record {
+      edition-is = eqb-true (editionNumber (x .edition)) (z .edition) (and-left n (e && c) nec);
       ends = eqb-true (endOf x) (z .end) (and-left e c ec);
       counts = same-is (countsOf x) (z .pending) (and-right e c ec);
-      room = leb-true (claimedOf x + endLen * openHosts (replayOf x .pending)) s (and-right (e && c) l t);
+      room = leb-true (claimedOf x + endLen (x .edition) * openHosts (replayOf x .pending)) s (and-right (n && (e && c)) l t);
     }
 
 pub fits-record : {s : ℕ} {z : Rest} {x : Journal} → RecordFits s z x → fitsRecord s z x ≡ true
 unfolding fitsRecord
 fits-record {s} {z} {x} y =
-    let l : Bool = leb (claimedOf x + endLen * openHosts (replayOf x .pending)) s in
+    let l : Bool = leb (claimedOf x + endLen (x .edition) * openHosts (replayOf x .pending)) s in
     let e : Bool = eqb (endOf x) (z .end) in
     let c : Bool = sameBytes (countsOf x) (z .pending) in
-    and-both (e && c) l
-    (and-both e c (eq-eqb (endOf x) (z .end) (y .ends)) (subst (λ (p : List ℕ). sameBytes (countsOf x) p ≡ true) (y .counts) (same-refl (countsOf x))))
-    (le-leb (claimedOf x + endLen * openHosts (replayOf x .pending)) s (y .room))
+    let n : Bool = eqb (editionNumber (x .edition)) (z .edition) in
+    and-both (n && (e && c)) l
+    (and-both n (e && c) (eq-eqb (editionNumber (x .edition)) (z .edition) (y .edition-is))
+    (and-both e c (eq-eqb (endOf x) (z .end) (y .ends)) (subst (λ (p : List ℕ). sameBytes (countsOf x) p ≡ true) (y .counts) (same-refl (countsOf x)))))
+    (le-leb (claimedOf x + endLen (x .edition) * openHosts (replayOf x .pending)) s (y .room))
 
 record Inside (s : ℕ) (e : Rest) (b : BlockState) (x : Journal) : Type 0 where
   is-valid : b ≡ valid x
@@ -125,6 +131,7 @@ held-inv {N} {s} {img} {x} r z b e =
         contents = valid-inv (block s k img) x (bytes-block s k img b) (omega (arith, z .low)) (p .is-valid);
         ends = sym (f .ends);
         counts = sym (f .counts);
+        edition-is = sym (f .edition-is);
         room = f .room;
         others = blanks k others;
       },

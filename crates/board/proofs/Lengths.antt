@@ -8,8 +8,10 @@ use lib.Dec.{ltb}
 use lib.ListN.{length, length-append, length-map}
 use Rattle.flash.specs.Flash.{Step, erase, Write, writeStep, writes}
 use Rattle.flash.proofs.Programming.{length-writes}
+use Rattle.frame.specs.declared.Edition.{Edition}
+use Rattle.frame.specs.declared.Edition.the-variants as edition
 use Rattle.frame.specs.Frame.{Frame, encode, encodeAll, frameLen}
-use Rattle.frame.proofs.First.{length-encode}
+use Rattle.frame.proofs.Encode.{length-encode}
 use Rattle.journal.specs.Replay.{State, framesOf, settledOnly}
 use Rattle.journal.specs.Block.{Journal, build}
 use Rattle.journal.specs.Room.{claimed}
@@ -21,15 +23,15 @@ use Rattle.board.specs.Plan.{onBlock, transferTo, appendPlan, programs, 
 use Rattle.board.proofs.Order.{length-order}
 
 -- "C - 5 steps"
-pub length-transfer : (j k : ℕ) (w : Journal) (st : State) → length (transferTo j k w st) + 5 ≡ claimed st
-length-transfer j k w st =
-    let ws : List Write = build (suc (w .time)) (framesOf st) in
-    let e : length (transferTo j k w st) ≡ length ws + 1 =
+pub length-transfer : (ed : Edition) (j k : ℕ) (w : Journal) (st : State) → length (transferTo ed j k w st) + 5 ≡ claimed ed st
+length-transfer ed j k w st =
+    let ws : List Write = build ed (suc (w .time)) (framesOf st) in
+    let e : length (transferTo ed j k w st) ≡ length ws + 1 =
     length-append (onBlock j ws) (erase k ∷ []) ∙ ap (λ (n : ℕ). n + 1) (length-map ws (writeStep j)) in
-    omega (arith, length-build (suc (w .time)) (framesOf st), frames-total st)
+    omega (arith, length-build ed (suc (w .time)) (framesOf st), frames-total ed st)
 
-pub length-plan-append : (k end : ℕ) (f : Frame) → length (appendPlan k end f) ≡ frameLen f
-length-plan-append k end f = length-map (writes end (encode f)) (writeStep k) ∙ length-writes end (encode f) ∙ length-encode f
+pub length-plan-append : (ed : Edition) (k end : ℕ) (f : Frame) → length (appendPlan ed k end f) ≡ frameLen ed f
+length-plan-append ed k end f = length-map (writes end (encode ed f)) (writeStep k) ∙ length-writes end (encode ed f) ∙ length-encode ed f
 
 -- wipes, and what follows them
 wipes-then : (ks : List ℕ) (xs : List Step) → length (map erase ks ++ xs) ≡ length ks + length xs
@@ -38,7 +40,7 @@ wipes-then ks xs = length-append (map erase ks) xs ∙ ap (λ (n : ℕ). n + len
 -- a step for each block and ten for block 0's header
 pub length-format : (N : ℕ) (img : List ℕ) → length (formatWork N img .steps) ≡ N + 10
 unfolding writes encodeAll
-length-format N img = wipes-then (formatOrder N img) (onBlock 0 (build 1 [])) ∙ ap (λ (n : ℕ). n + 10) (length-order N img)
+length-format N img = wipes-then (formatOrder N img) (onBlock 0 (build edition.First 1 [])) ∙ ap (λ (n : ℕ). n + 10) (length-order N img)
 
 -- there is a first step
 pub format-some : (N : ℕ) (img : List ℕ) → (x : Step) × (xs : List Step) × (formatWork N img .steps ≡ x ∷ xs)
@@ -49,33 +51,33 @@ format-some N img = go (formatWork N img .steps) refl
     go (x ∷ xs) e = (x, xs, e)
 
 -- a frame's work, after a transfer or without one
-pub frame-cases : (Q : Work → Type 0) (s j : ℕ) (z : Rest) (x : Journal) (f : Frame) → (ltb s (z .end + frameLen f) ≡ true → Q (movedWork j z x f))
-    → (ltb s (z .end + frameLen f) ≡ false → Q (appendWork z f)) → Q (frameIn s j z x f)
-frame-cases Q s j z x f moved stayed = go (ltb s (z .end + frameLen f)) refl
+pub frame-cases : (Q : Work → Type 0) (s j : ℕ) (z : Rest) (x : Journal) (f : Frame) → (ltb s (z .end + frameLen (x .edition) f) ≡ true → Q (movedWork j z x f))
+    → (ltb s (z .end + frameLen (x .edition) f) ≡ false → Q (appendWork (x .edition) z f)) → Q (frameIn s j z x f)
+frame-cases Q s j z x f moved stayed = go (ltb s (z .end + frameLen (x .edition) f)) refl
   where
-    go : (b : Bool) → ltb s (z .end + frameLen f) ≡ b → Q (cond b (movedWork j z x f) (appendWork z f))
+    go : (b : Bool) → ltb s (z .end + frameLen (x .edition) f) ≡ b → Q (cond b (movedWork j z x f) (appendWork (x .edition) z f))
     go true e = moved e
     go false e = stayed e
 
-length-moved : (j : ℕ) (z : Rest) (x : Journal) (f : Frame) → length (movedWork j z x f .steps) + 5 ≡ claimedOf x + frameLen f
+length-moved : (j : ℕ) (z : Rest) (x : Journal) (f : Frame) → length (movedWork j z x f .steps) + 5 ≡ claimedOf x + frameLen (x .edition) f
 length-moved j z x f =
     let st : State = replayOf x in
     omega (
       arith,
-      length-append (transferTo j (z .block) x st) (appendPlan j (claimed st) f),
-      length-transfer j (z .block) x st,
-      length-plan-append j (claimed st) f,
+      length-append (transferTo (x .edition) j (z .block) x st) (appendPlan (x .edition) j (claimedOf x) f),
+      length-transfer (x .edition) j (z .block) x st,
+      length-plan-append (x .edition) j (claimedOf x) f,
     )
 
-pub frame-short : (s j : ℕ) (z : Rest) (x : Journal) (f : Frame) → claimedOf x + frameLen f ≤ s → length (frameIn s j z x f .steps) ≤ s
+pub frame-short : (s j : ℕ) (z : Rest) (x : Journal) (f : Frame) → claimedOf x + frameLen (x .edition) f ≤ s → length (frameIn s j z x f .steps) ≤ s
 frame-short s j z x f h =
     frame-cases (λ w. length (w .steps) ≤ s) s j z x f (λ e. omega (arith, length-moved j z x f))
-    (λ e. omega (arith, length-plan-append (z .block) (z .end) f))
+    (λ e. omega (arith, length-plan-append (x .edition) (z .block) (z .end) f))
 
 pub frame-some : (s j : ℕ) (z : Rest) (x : Journal) (f : Frame) → 0 < length (frameIn s j z x f .steps)
 frame-some s j z x f =
     frame-cases (λ w. 0 < length (w .steps)) s j z x f (λ e. omega (arith, length-moved j z x f))
-    (λ e. omega (arith, length-plan-append (z .block) (z .end) f))
+    (λ e. omega (arith, length-plan-append (x .edition) (z .block) (z .end) f))
 
 -- ---- without the erases
 
@@ -90,11 +92,11 @@ programs-writes k [] xs = refl
 programs-writes k (w ∷ ws) xs = ap (λ (ys : List Step). writeStep k w ∷ ys) (programs-writes k ws xs)
 
 -- a transfer has one erase
-programs-transfer : (j k : ℕ) (w : Journal) (st : State) → length (transferTo j k w st) ≡ suc (length (programs (transferTo j k w st)))
+programs-transfer : (ed : Edition) (j k : ℕ) (w : Journal) (st : State) → length (transferTo ed j k w st) ≡ suc (length (programs (transferTo ed j k w st)))
 unfolding programs
-programs-transfer j k w st =
-    let ws : List Write = build (suc (w .time)) (framesOf st) in
-    let e : length (programs (transferTo j k w st)) ≡ length (onBlock j ws) + 0 =
+programs-transfer ed j k w st =
+    let ws : List Write = build ed (suc (w .time)) (framesOf st) in
+    let e : length (programs (transferTo ed j k w st)) ≡ length (onBlock j ws) + 0 =
     ap (λ (xs : List Step). length xs) (programs-writes j ws (erase k ∷ [])) ∙ length-append (onBlock j ws) [] in
     omega (arith, e, length-append (onBlock j ws) (erase k ∷ []))
 
@@ -110,8 +112,12 @@ unfolding programs
 upkeep-steps rests j z x = record { programmed = omega arith; erased = omega arith }
 upkeep-steps moves j z x =
     let st : State = settledOnly (replayOf (x .journal)) in
-    let n = programs-transfer j (x .number) (x .journal) st in
-    record { programmed = omega (arith, n, length-transfer j (x .number) (x .journal) st, claimed-settled (replayOf (x .journal))); erased = omega (arith, n) }
+    let ed : Edition = x .journal .edition in
+    let n = programs-transfer ed j (x .number) (x .journal) st in
+    record {
+      programmed = omega (arith, n, length-transfer ed j (x .number) (x .journal) st, claimed-settled ed (replayOf (x .journal)));
+      erased = omega (arith, n);
+    }
 
 -- the same with the erases before it
 pub mount-steps : (N l : ℕ) (ks : List ℕ) (j : ℕ) (x : Store)

@@ -1,6 +1,7 @@
 -- The laws and theorems of the board, by subject. Each file's first line says what it proves.
 
 -- ---- images and blocks: used by every group below
+pub mod Editions  -- the papers' numbers for each edition: for most below
 pub mod Numbers  -- of blocks: the one that a transfer goes to, all, all but one
 pub mod Images  -- allowed lengths, and what steps do to each block
 pub mod Blocks  -- lists of block numbers
@@ -35,12 +36,14 @@ pub mod Holding  -- an image that passes refusal 11
 pub mod Replies  -- what reads and the log say
 pub mod Books  -- the book beside replay
 pub mod Keeping  -- the invariant in each phase, and after a step
+pub mod Converting  -- a convert: for Serving, Planning, Promising
 pub mod Serving  -- the invariant after a request that is served
 pub mod Requests  -- the invariant after any request
 -- ---- the demands
 pub mod Checks  -- the table as the machine tests it
 pub mod Refusals  -- demand 1: refusals
 pub mod Ending  -- demand 1: forged records end
+pub mod Fitting  -- a request's frame fits: for Planning
 pub mod Planning  -- demand 2: requests follow their plans
 pub mod Demand2  -- demand 2: mounts, formats, runs
 pub mod Claiming  -- demand 3
@@ -50,19 +53,24 @@ pub mod WearRuns  -- K14, erase counts of every run: to read
 -- ---- the promise
 pub mod Sentences  -- frames, plans and places, which the promise uses, are as document 01 words them
 pub mod Freshness  -- and so is refusal 11
+pub mod Counting  -- and so are a record's pending counts after each job
 pub mod Lines  -- from tests to the table's lines: for Tabling
+pub mod TablingSteps  -- the test of a step: for Tabling
 pub mod Tabling  -- requests, steps and formats are refused by the table's lines
 pub mod TablingMounts  -- mounts are
 pub mod Answering  -- answers: numbers, lines, what they tell
 pub mod Telling  -- the answer tells the record
 pub mod Promising  -- the machine keeps each clause
+pub mod Alike  -- two machines between calls, two outcomes: for Determining
 pub mod Determining  -- the clauses settle all that a machine shows
 pub mod Finishing  -- the job that a call began can be finished, in so many steps
 pub mod Limits  -- demand 2 of any machine that keeps the table: room and wear
 pub mod Clearing  -- programming only clears bits
+pub mod LimitsConverts  -- demand 2 of converts
 pub mod Following  -- the k-th step, demand 3 and a cut format, of any machine that keeps the clauses
 pub mod FollowingPlans  -- demand 2 of it, and the whole promise
 pub mod Runs  -- runs in two parts
+pub mod Tight  -- a tight store, of any machine that keeps the promise
 pub mod Tickets  -- the customer's two tickets, of any machine that keeps the promise
 pub mod Counts  -- calls that are given another number of blocks
 pub mod Driving  -- what is next, done to the flash by the caller, then made, is a step call

@@ -1,9 +1,9 @@
 -- From tests in their order to the table's lines: the first test that holds gives its line's number.
-use mathlib.Core.Path.{_≡_, refl, ap, _∙_}
+use mathlib.Core.Path.{_≡_, refl, sym, ap, _∙_}
 use mathlib.Core.List.{List, [], _∷_}
 use mathlib.Core.Logic.{inl, inr}
 use mathlib.Core.Option.{some}
-use mathlib.Core.Bool.{Bool, true, false}
+use mathlib.Core.Bool.{Bool, true, false, not}
 use Prim.Native.Nat.{ℕ}
 use native.Mathlib.Omega.{arith}
 use Rattle.flash.proofs.Cases.{on-test, clash}
@@ -57,3 +57,15 @@ exactly (row n {b} {P} {cs} {ls} t f) a e =
 
 pub false-true {ℓ} : {P : Type ℓ} → false ≡ true → P
 false-true e = let w : _≡_ {A = ℕ} 0 1 = cc in absurd (omega arith)
+
+pub not-yes : (b : Bool) → not b ≡ true → b ≡ true → ⊥
+not-yes true e f = false-true e
+not-yes false e f = false-true f
+
+pub not-no : (b : Bool) → (b ≡ true → ⊥) → not b ≡ true
+not-no true f = absurd (f refl)
+not-no false f = refl
+
+pub not-not : (b : Bool) → not b ≡ false → b ≡ true
+not-not true e = refl
+not-not false e = false-true (sym e)

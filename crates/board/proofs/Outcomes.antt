@@ -2,22 +2,23 @@
 use mathlib.Core.Path.{_≡_, refl, ap, _∙_}
 use mathlib.Core.List.{List, [], _∷_}
 use mathlib.Core.Option.{Option, none, some}
-use mathlib.Core.Bool.{true, false, _&&_}
+use mathlib.Core.Bool.{true, false, _&&_, Bool, cond}
 use Prim.Native.Nat.{ℕ, suc, _+_}
 use lib.Dec.{eqb, ltb, leb}
 use lib.ListN.{length}
+use Rattle.frame.specs.declared.Edition.the-variants as edition
 use Rattle.flash.specs.Flash.{apply, block, sizeOf, within}
 use Rattle.frame.specs.declared.ObjectId.{ObjectId}
 use Rattle.frame.specs.Frame.{hostMax, Change, put, delete, Frame, change, commit, abort}
-use Rattle.journal.specs.Replay.{lookup, isOpen}
+use Rattle.journal.specs.Replay.{lookup, isOpen, Entry}
 use Rattle.journal.specs.Block.{Journal, lastTime, markWrites}
-use Rattle.journal.specs.Room.{noRoom, hostFull}
+use Rattle.journal.specs.Room.{noRoom, hostFull, used}
 use Rattle.journal.specs.Index.{Load, nextLoad}
 use Rattle.wire.specs.declared.Answer.the-variants.{Done}
 use Rattle.wire.specs.declared.Refusal.the-variants as refusal
 use Rattle.wire.specs.declared.Page.the-variants.{Summary}
 use Rattle.wire.specs.declared.Request.{Request}
-use Rattle.wire.specs.declared.Request.the-variants.{Put, Delete, Commit, Abort, Read, Log}
+use Rattle.wire.specs.declared.Request.the-variants.{Put, Delete, Commit, Abort, Read, Log, Convert}
 use Rattle.wire.specs.declared.Parsed.the-variants.{Is, Malformed}
 use Rattle.wire.specs.Message.{parse, valueIn, pageLen, logPage, withPage}
 use Rattle.board.specs.declared.Stage.{Stage}
@@ -25,23 +26,23 @@ use Rattle.board.specs.declared.Stage.the-variants.{Wipe, Open, Copy, Se
 use Rattle.board.specs.declared.Phase.{Phase}
 use Rattle.board.specs.declared.Phase.the-variants.{Unmounted, Idle, Busy}
 use Rattle.board.specs.declared.Record.{Record}
-use Rattle.board.specs.Record.{allowed, unmounted, ending, idle, inStage, noStretch, out, refuse}
+use Rattle.board.specs.Record.{allowed, unmounted, ending, idle, inStage, noStretch, out, refuse, readsIn}
 use Rattle.board.specs.Step.{enter, enterAppend, landed, enterDrop, loaded, enterCopy, enterOpen, enterWipe, begin, action}
 use Rattle.board.specs.Step.{nextIndex, nextByte, pastFrame, advance, sameShape, stepped, stepBusy, stepIn, stepOn}
 use Rattle.board.specs.Mount.{allFound, Found, Store, stores, equalTimes, newest, wipeList, upkeep, transfers, mountJob, replayOf, usedOf, timeOf}
 use Rattle.board.specs.Mount.{noneValid, lowestTied, tiedTimes, mountAt, mountStores, mountFound, mountOn, formatJob, formatOn}
 use Rattle.board.specs.Queue.{appendJob, append, serveChange, serveEnd, placeOf, serveLog, serve, serveParsed, serveHeld, requestIn, requestOn}
-use Rattle.board.specs.Queue.{Asking, sizeFor, heldFor, movesFor, refuseTo, doneAt}
+use Rattle.board.specs.Queue.{Asking, sizeFor, heldFor, movesFor, refuseTo, doneAt, convertJob, convert, convertWith, serveConvert}
 use Rattle.board.specs.Demand1.{Rests}
 
 -- ---- a frame appended
 
 module _ (a : Asking) (x : Journal) (f : Frame) where
-  pub append-worn : (movesFor a f && eqb (x .time) lastTime) ≡ true → append a x f ≡ refuseTo a refusal.Worn
+  pub append-worn : (movesFor a x f && eqb (x .time) lastTime) ≡ true → append a x f ≡ refuseTo a refusal.Worn
   unfolding append
   append-worn e = rw (e, append)
 
-  pub append-begins : (movesFor a f && eqb (x .time) lastTime) ≡ false
+  pub append-begins : (movesFor a x f && eqb (x .time) lastTime) ≡ false
       → append a x f ≡ begin (a .image) (a .reply) (appendJob (a .blocks) (a .image) (a .board) x f)
   unfolding append
   append-begins e = rw (e, append)
@@ -55,19 +56,49 @@ module _ (a : Asking) (x : Journal) (f : Frame) where
   end-idle e = rw (e, serveEnd)
 
 module _ (a : Asking) (x : Journal) (c : Change) where
-  pub change-over : hostFull (sizeFor a) (replayOf x) (a .host) c ≡ true → serveChange a x c ≡ refuseTo a refusal.HostFull
+  pub change-over : hostFull (x .edition) (sizeFor a) (replayOf x) (a .host) c ≡ true → serveChange a x c ≡ refuseTo a refusal.HostFull
   unfolding serveChange
   change-over e = rw (e, serveChange)
 
-  pub change-refused : hostFull (sizeFor a) (replayOf x) (a .host) c ≡ false → noRoom (sizeFor a) (replayOf x) (a .host) c ≡ true
+  pub change-refused : hostFull (x .edition) (sizeFor a) (replayOf x) (a .host) c ≡ false → noRoom (x .edition) (sizeFor a) (replayOf x) (a .host) c ≡ true
       → serveChange a x c ≡ refuseTo a refusal.NoRoom
   unfolding serveChange
   change-refused d e = rw (d, e, serveChange)
 
-  pub change-goes : hostFull (sizeFor a) (replayOf x) (a .host) c ≡ false → noRoom (sizeFor a) (replayOf x) (a .host) c ≡ false
+  pub change-goes : hostFull (x .edition) (sizeFor a) (replayOf x) (a .host) c ≡ false → noRoom (x .edition) (sizeFor a) (replayOf x) (a .host) c ≡ false
       → serveChange a x c ≡ append a x (change (a .host) c)
   unfolding serveChange
   change-goes d e = rw (d, e, serveChange)
+
+-- ---- a convert
+
+module _ (a : Asking) (x : Journal) where
+  pub convert-pending : (e : Entry) (es : List Entry) → replayOf x .pending ≡ e ∷ es → serveConvert a x ≡ refuseTo a refusal.Pending
+  unfolding serveConvert
+  convert-pending e es p = ap (convertWith a x) p
+
+  pub convert-refused : replayOf x .pending ≡ [] → ltb (sizeFor a) (used edition.Second (replayOf x)) ≡ true
+      → serveConvert a x ≡ refuseTo a refusal.NoRoom
+  unfolding serveConvert
+  convert-refused p e = ap (convertWith a x) p ∙ ap (λ (b : Bool). cond b (refuseTo a refusal.NoRoom) (convert a x (x .edition))) e
+
+  pub convert-goes : replayOf x .pending ≡ [] → ltb (sizeFor a) (used edition.Second (replayOf x)) ≡ false
+      → serveConvert a x ≡ convert a x (x .edition)
+  unfolding serveConvert
+  convert-goes p e = ap (convertWith a x) p ∙ ap (λ (b : Bool). cond b (refuseTo a refusal.NoRoom) (convert a x (x .edition))) e
+
+  pub convert-worn : eqb (x .time) lastTime ≡ true → convert a x edition.First ≡ refuseTo a refusal.Worn
+  unfolding convert
+  convert-worn e = rw (e, convert)
+
+  pub convert-begins : eqb (x .time) lastTime ≡ false
+      → convert a x edition.First ≡ begin (a .image) (a .reply) (convertJob (a .blocks) (a .image) (a .board) x)
+  unfolding convert
+  convert-begins e = rw (e, convert)
+
+  pub convert-there : convert a x edition.Second ≡ doneAt a (a .reply) noStretch
+  unfolding convert
+  convert-there = refl
 
 -- ---- the requests
 
@@ -93,6 +124,10 @@ module _ (a : Asking) (x : Journal) where
   pub serve-commit : serve a x Commit ≡ serveEnd a x (commit (a .host))
   unfolding serve
   serve-commit = refl
+
+  pub serve-convert : serve a x Convert ≡ serveConvert a x
+  unfolding serve
+  serve-convert = refl
 
   pub serve-abort : serve a x Abort ≡ serveEnd a x (abort (a .host))
   unfolding serve
@@ -221,7 +256,8 @@ unfolding enterOpen
 open-skips r e = rw (e, enterOpen)
 
 abbrev pub nextFor : ℕ → List ℕ → Record → Option Load
-nextFor N img r = nextLoad (block (sizeOf N img) (r .rest .block) img) (r .rest .end) (r .places) (r .job .since) (r .cursor .id) (r .cursor .source)
+nextFor N img r =
+    nextLoad (readsIn r) (block (sizeOf N img) (r .rest .block) img) (r .rest .end) (r .places) (r .job .since) (r .cursor .id) (r .cursor .source)
 
 pub copy-loads : (N : ℕ) (img : List ℕ) (r : Record) (u : Load) → nextFor N img r ≡ some u → enterCopy N img r ≡ loaded r u
 unfolding enterCopy

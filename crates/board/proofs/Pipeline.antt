@@ -2,7 +2,7 @@
 use mathlib.Core.Path.{_≡_, sym, ap, ap₂, subst, _∙_}
 use mathlib.Core.List.{List, [], _∷_, _++_}
 use mathlib.Core.Bool.{Bool, true, _&&_, cond}
-use Prim.Native.Nat.{ℕ, zero, suc, _+_, _/_, _<_}
+use Prim.Native.Nat.{ℕ, zero, suc, _+_, _<_}
 use native.Mathlib.Omega.{arith}
 use lib.Dec.{eqb, ltb}
 use lib.ListN.{length, getD, drop, drop-of-length-le}
@@ -44,8 +44,8 @@ pub record Shape (N : ℕ) (z : Rest) (s : ℕ) : Type 0 where
   pub size : sizeIn N (suc (z .last)) ≡ s
 
 -- another block of the same image
-pub shape-landing : {N s : ℕ} {z : Rest} (k e : ℕ) → Shape N z s → Shape N (landing z k e) s
-shape-landing k e x = record { count = x .count; blocks = x .blocks; size = x .size }
+pub shape-landing : {N s : ℕ} {z : Rest} (n k e : ℕ) → Shape N z s → Shape N (landing z n k e) s
+shape-landing n k e x = record { count = x .count; blocks = x .blocks; size = x .size }
 
 pub same-shape : {N : ℕ} (n : ℕ) (r : Record) → n ≡ suc (r .rest .last) → N ≡ r .rest .blocks → sameShape N n r ≡ true
 same-shape {N} n r l b = and-both (eqb n (suc (r .rest .last))) (eqb N (r .rest .blocks)) (eq-eqb n (suc (r .rest .last)) l) (eq-eqb N (r .rest .blocks) b)

@@ -3,14 +3,15 @@ use mathlib.Core.Path.{_≡_, refl, sym, ap, subst, _∙_}
 use mathlib.Core.List.{List, [], _∷_, _++_, append-assoc, map}
 use mathlib.Core.Option.{Option, none, some}
 use mathlib.Core.Bool.{Bool, true, cond}
-use Prim.Native.Nat.{ℕ, zero, suc, _+_, _-_, _/_, _≤_, _<_}
+use Prim.Native.Nat.{ℕ, zero, suc, _+_, _-_, _≤_, _<_}
 use native.Mathlib.Omega.{arith}
 use lib.ListN.{length, getD, length-map, List·getD-map}
 use borrow.Author.Tests.{lt-ltb, le-ltb}
 use Rattle.flash.specs.Flash.{sizeIn, Step, program, block, within, applyAll, Write, write, writeStep, writes}
 use Rattle.flash.proofs.Programming.{writes-append}
-use Rattle.frame.specs.Frame.{Frame, encode, encodeAll, frameLen, total}
-use Rattle.frame.proofs.First.{length-encode}
+use Rattle.frame.specs.declared.Edition.{Edition}
+use Rattle.frame.specs.Frame.{editionBy, Frame, encode, encodeAll, frameLen, total}
+use Rattle.frame.proofs.Encode.{length-encode}
 use Rattle.journal.specs.Block.{openWrites, openWrite, markWrites, stateAt, inTransfer, headerLen}
 use Rattle.journal.specs.Index.{Load, load, nextLoad}
 use Rattle.journal.proofs.Loading.{Yields}
@@ -31,18 +32,18 @@ pub map-append : {A B : Type 0} (f : A → B) (xs ys : List A) → map f (xs ++ 
 map-append f [] ys = refl
 map-append f (x ∷ xs) ys = ap (λ (zs : List _). f x ∷ zs) (map-append f xs ys)
 
-open-at : (i : ℕ) → i < markWrites → openWrite i .at < headerLen
+open-at : (ed : Edition) (i : ℕ) → i < markWrites → openWrite ed i .at < headerLen
 unfolding writes
-open-at zero h = omega arith
-open-at (suc zero) h = omega arith
-open-at (suc (suc zero)) h = omega arith
-open-at (suc (suc (suc zero))) h = omega arith
-open-at (suc (suc (suc (suc zero)))) h = omega arith
-open-at (suc (suc (suc (suc (suc i))))) h = absurd (omega arith)
+open-at ed zero h = omega arith
+open-at ed (suc zero) h = omega arith
+open-at ed (suc (suc zero)) h = omega arith
+open-at ed (suc (suc (suc zero))) h = omega arith
+open-at ed (suc (suc (suc (suc zero)))) h = omega arith
+open-at ed (suc (suc (suc (suc (suc i))))) h = absurd (omega arith)
 
-length-open : (k : ℕ) → length (onBlock k openWrites) ≡ markWrites
+length-open : (ed : Edition) (k : ℕ) → length (onBlock k (openWrites ed)) ≡ markWrites
 unfolding writes
-length-open k = refl
+length-open ed k = refl
 
 -- the steps that copy frames, with others behind them
 copy-append : (k a n : ℕ) (bs cs : List ℕ) (xs : List Step) → length bs ≡ n
@@ -52,37 +53,45 @@ copy-append k a n bs cs xs q =
     ∙ ap (λ (ys : List Step). ys ++ xs) (map-append (writeStep k) (writes a bs) (writes (a + n) cs))
     ∙ append-assoc (onBlock k (writes a bs)) (onBlock k (writes (a + n) cs)) xs
 
-copy-cons : (k a : ℕ) (f : Frame) (fs : List Frame) (xs : List Step)
-    → onBlock k (writes a (encodeAll (f ∷ fs))) ++ xs ≡ onBlock k (writes a (encode f)) ++ (onBlock k (writes (a + frameLen f) (encodeAll fs)) ++ xs)
+copy-cons : (ed : Edition) (k a : ℕ) (f : Frame) (fs : List Frame) (xs : List Step)
+    → onBlock k (writes a (encodeAll ed (f ∷ fs))) ++ xs
+    ≡ onBlock k (writes a (encode ed f)) ++ (onBlock k (writes (a + frameLen ed f) (encodeAll ed fs)) ++ xs)
 unfolding encodeAll
-copy-cons k a f fs xs = copy-append k a (frameLen f) (encode f) (encodeAll fs) xs (length-encode f)
+copy-cons ed k a f fs xs = copy-append k a (frameLen ed f) (encode ed f) (encodeAll ed fs) xs (length-encode ed f)
 
-copy-nil : (k a : ℕ) (xs : List Step) → onBlock k (writes a (encodeAll [])) ++ xs ≡ xs
+copy-nil : (ed : Edition) (k a : ℕ) (xs : List Step) → onBlock k (writes a (encodeAll ed [])) ++ xs ≡ xs
 unfolding encodeAll writes
-copy-nil k a xs = refl
+copy-nil ed k a xs = refl
 
-total-nil : total [] ≡ 0
+total-nil : (ed : Edition) → total ed [] ≡ 0
 unfolding total
-total-nil = refl
+total-nil ed = refl
 
-total-cons : (f : Frame) (fs : List Frame) → total (f ∷ fs) ≡ frameLen f + total fs
+total-cons : (ed : Edition) (f : Frame) (fs : List Frame) → total ed (f ∷ fs) ≡ frameLen ed f + total ed fs
 unfolding total
-total-cons f fs = refl
+total-cons ed f fs = refl
 
 module _ {N : ℕ} (s : ℕ) (home : Rest) (shape : Shape N home s) (places : List ℕ) (j : Job) (bytes : List ℕ) (size : j .size ≡ length bytes)
     (here : home .block < N) (there : j .target < N) (apart : j .target ≡ home .block → ⊥) (header : headerLen ≤ s) where
+  -- the edition that is made, and the one that is read
+  abbrev ed : Edition
+  ed = editionBy (j .edition)
+
+  abbrev was : Edition
+  was = editionBy (home .edition)
+
   abbrev at : Stage → ℕ → ℕ → ℕ → ℕ → ℕ → ℕ → List ℕ → Record
   at st i a d so z o u = jobAt home places j (buffer bytes) st (cursor i a d so z o) u
 
   -- the next frame to copy, as the record finds it
   next-frame : (b img : List ℕ) (st : Stage) (i a d so z o : ℕ) (u : List ℕ) (x : Option Load) → length img ≡ suc (home .last) → block s (home .block) img ≡ b
-      → nextLoad b (home .end) places (j .since) d so ≡ x → enterCopy N img (at st i a d so z o u) ≡ loadOr (at st i a d so z o u) x
+      → nextLoad was b (home .end) places (j .since) d so ≡ x → enterCopy N img (at st i a d so z o u) ≡ loadOr (at st i a d so z o u) x
   unfolding enterCopy
   next-frame b img st i a d so z o u x q h n =
       let r : Record = at st i a d so z o u in
-      ap (λ (m : ℕ). loadOr r (nextLoad (block (sizeIn N m) (home .block) img) (home .end) places (j .since) d so)) q
-      ∙ ap (λ (m : ℕ). loadOr r (nextLoad (block m (home .block) img) (home .end) places (j .since) d so)) (shape .size)
-      ∙ ap (λ (y : List ℕ). loadOr r (nextLoad y (home .end) places (j .since) d so)) h ∙ ap (loadOr r) n
+      ap (λ (m : ℕ). loadOr r (nextLoad was (block (sizeIn N m) (home .block) img) (home .end) places (j .since) d so)) q
+      ∙ ap (λ (m : ℕ). loadOr r (nextLoad was (block m (home .block) img) (home .end) places (j .since) d so)) (shape .size)
+      ∙ ap (λ (y : List ℕ). loadOr r (nextLoad was y (home .end) places (j .since) d so)) h ∙ ap (loadOr r) n
 
   copies : (bs : List ℕ) (a d so n : ℕ) → length bs ≡ n → a + n ≤ s
       → Runs N home s Copy (λ o. at Copy 0 (a + o) d so n o (buffer bs)) (λ img. enterCopy N img (at Copy 0 (a + n) d so n 0 (buffer bs)))
@@ -131,40 +140,41 @@ module _ {N : ℕ} (s : ℕ) (home : Rest) (shape : Shape N home s) (places : Li
       (source-kept (writes a bs) (write 0 0) img (copies bs a d so n w room .inside) ∙ h)))
 
   follows-copy : (b : List ℕ) (fs : List Frame) (st : Stage) (i a d so z o : ℕ) (u img : List ℕ) → length img ≡ suc (home .last) → block s (home .block) img ≡ b
-      → Yields b (home .end) places (j .since) d so fs → a + total fs + length bytes ≤ s
+      → Yields was b (home .end) places (j .since) d so fs → a + total ed fs + length bytes ≤ s
       → Follows N (exec N) img (enterCopy N img (at st i a d so z o u))
-      (onBlock (j .target) (writes a (encodeAll fs)) ++ sealing j (home .block) bytes (a + total fs))
-      (idle (landing home (j .target) (a + total fs + length bytes)))
+      (onBlock (j .target) (writes a (encodeAll ed fs)) ++ sealing j (home .block) bytes (a + total ed fs))
+      (idle (landing home (j .edition) (j .target) (a + total ed fs + length bytes)))
   follows-copy b [] st i a d so z o u img q h y room =
-      let t : a ≡ a + total [] = omega (arith, total-nil) in
+      let t : a ≡ a + total ed [] = omega (arith, total-nil ed) in
       let r : Record = at st i a d so z o u in
-      subst (λ (xs : List Step). Follows N (exec N) img (enterCopy N img r) xs (idle (landing home (j .target) (a + total [] + length bytes))))
-      (sym (copy-nil (j .target) a (sealing j (home .block) bytes (a + total []))))
-      (subst (λ (n : ℕ). Follows N (exec N) img (enterCopy N img r) (sealing j (home .block) bytes n) (idle (landing home (j .target) (n + length bytes)))) t
-      (subst (λ (x : Record). Follows N (exec N) img x (sealing j (home .block) bytes a) (idle (landing home (j .target) (a + length bytes))))
+      subst (λ (xs : List Step). Follows N (exec N) img (enterCopy N img r) xs (idle (landing home (j .edition) (j .target) (a + total ed [] + length bytes))))
+      (sym (copy-nil ed (j .target) a (sealing j (home .block) bytes (a + total ed []))))
+      (subst (λ (n : ℕ). Follows N (exec N) img (enterCopy N img r) (sealing j (home .block) bytes n)
+      (idle (landing home (j .edition) (j .target) (n + length bytes)))) t
+      (subst (λ (x : Record). Follows N (exec N) img x (sealing j (home .block) bytes a) (idle (landing home (j .edition) (j .target) (a + length bytes))))
       (sym (next-frame b img st i a d so z o u none q h y))
-      (follows-seal s home shape places j bytes size here there st i a d so z o u img q header (omega arith))))
+      (follows-seal s home shape places j bytes size here there st i a d so z o u img q (header) (omega arith))))
   follows-copy b (f ∷ fs) st i a d so z o u img q h (d′, so′, n, low, end, y) room =
-      let m : ℕ = frameLen f in
-      let t : a + m + total fs ≡ a + total (f ∷ fs) = omega (arith, total-cons f fs) in
+      let m : ℕ = frameLen ed f in
+      let t : a + m + total ed fs ≡ a + total ed (f ∷ fs) = omega (arith, total-cons ed f fs) in
       let r : Record = at st i a d so z o u in
-      let tail : List Step = onBlock (j .target) (writes (a + m) (encodeAll fs)) ++ sealing j (home .block) bytes (a + m + total fs) in
-      let done : Record = idle (landing home (j .target) (a + m + total fs + length bytes)) in
+      let tail : List Step = onBlock (j .target) (writes (a + m) (encodeAll ed fs)) ++ sealing j (home .block) bytes (a + m + total ed fs) in
+      let done : Record = idle (landing home (j .edition) (j .target) (a + m + total ed fs + length bytes)) in
       subst
       (λ (x : ℕ).
-      Follows N (exec N) img (enterCopy N img r) (onBlock (j .target) (writes a (encodeAll (f ∷ fs))) ++ sealing j (home .block) bytes x)
-      (idle (landing home (j .target) (x + length bytes)))) t
-      (subst (λ (xs : List Step). Follows N (exec N) img (enterCopy N img r) xs done) (sym (copy-cons (j .target) a f fs
-      (sealing j (home .block) bytes (a + m + total fs))))
-      (subst (λ (x : Record). Follows N (exec N) img x (onBlock (j .target) (writes a (encode f)) ++ tail) done)
+      Follows N (exec N) img (enterCopy N img r) (onBlock (j .target) (writes a (encodeAll ed (f ∷ fs))) ++ sealing j (home .block) bytes x)
+      (idle (landing home (j .edition) (j .target) (x + length bytes)))) t
+      (subst (λ (xs : List Step). Follows N (exec N) img (enterCopy N img r) xs done) (sym (copy-cons ed (j .target) a f fs
+      (sealing j (home .block) bytes (a + m + total ed fs))))
+      (subst (λ (x : Record). Follows N (exec N) img x (onBlock (j .target) (writes a (encode ed f)) ++ tail) done)
       (sym (next-frame b img st i a d so z o u (some (load f d′ so′)) q h n))
-      (copy-one b (encode f) a d′ so′ m img tail done q h (length-encode f) (omega arith) (omega arith)
-      (λ img′ q′ h′. follows-copy b fs Copy 0 (a + m) d′ so′ m 0 (buffer (encode f)) img′ q′ h′ y (omega arith)))))
+      (copy-one b (encode ed f) a d′ so′ m img tail done q h (length-encode ed f) (omega arith) (omega arith)
+      (λ img′ q′ h′. follows-copy b fs Copy 0 (a + m) d′ so′ m 0 (buffer (encode ed f)) img′ q′ h′ y (omega arith)))))
 
   -- ---- the block opened
 
   opens : (a d so z o : ℕ) (u : List ℕ)
-      → Runs N home s Open (λ i. at Open i a d so z o u) (λ img. enterCopy N img (at Open 4 a d so z o u)) (onBlock (j .target) openWrites)
+      → Runs N home s Open (λ i. at Open i a d so z o u) (λ img. enterCopy N img (at Open 4 a d so z o u)) (onBlock (j .target) (openWrites ed))
       (writeStep (j .target) (write stateAt inTransfer))
   unfolding advance
   opens a d so z o u =
@@ -172,27 +182,27 @@ module _ {N : ℕ} (s : ℕ) (home : Rest) (shape : Shape N home s) (places : Li
       record {
         phase = λ i. refl;
         stands = λ i. refl;
-        acts = λ i h. sym (List·getD-map (writeStep (j .target)) openWrites i (write stateAt inTransfer));
-        inside = marks-inside s (j .target) openWrites (write stateAt inTransfer) (shape .count) there
-            (λ i h. omega (arith, open-at i (omega (arith, length-map openWrites (writeStep (j .target)), length-open (j .target)))));
-        goes = λ i img h. onward-on Open markWrites (r i) (enterCopy N img (r i)) (omega (arith, length-open (j .target)));
+        acts = λ i h. sym (List·getD-map (writeStep (j .target)) (openWrites ed) i (write stateAt inTransfer));
+        inside = marks-inside s (j .target) (openWrites ed) (write stateAt inTransfer) (shape .count) there
+            (λ i h. omega (arith, open-at ed i (omega (arith, length-map (openWrites ed) (writeStep (j .target)), length-open ed (j .target)))));
+        goes = λ i img h. onward-on Open markWrites (r i) (enterCopy N img (r i)) (omega (arith, length-open ed (j .target)));
         ends = λ i img h.
-            let n : i ≡ 4 = omega (arith, length-open (j .target)) in
+            let n : i ≡ 4 = omega (arith, length-open ed (j .target)) in
             onward-off Open markWrites (r i) (enterCopy N img (r i)) (omega arith) ∙ ap (λ (m : ℕ). enterCopy N img (r m)) n;
       }
 
   pub follows-open : (b : List ℕ) (fs : List Frame) (st : Stage) (i a d so z o : ℕ) (u img : List ℕ) → length img ≡ suc (home .last)
       → block s (home .block) img ≡ b
-      → Yields b (home .end) places (j .since) d so fs → a + total fs + length bytes ≤ s
+      → Yields was b (home .end) places (j .since) d so fs → a + total ed fs + length bytes ≤ s
       → Follows N (exec N) img (enter Open (at st i a d so z o u))
-      (onBlock (j .target) openWrites ++ (onBlock (j .target) (writes a (encodeAll fs)) ++ sealing j (home .block) bytes (a + total fs)))
-      (idle (landing home (j .target) (a + total fs + length bytes)))
+      (onBlock (j .target) (openWrites ed) ++ (onBlock (j .target) (writes a (encodeAll ed fs)) ++ sealing j (home .block) bytes (a + total ed fs)))
+      (idle (landing home (j .edition) (j .target) (a + total ed fs + length bytes)))
   follows-open b fs st i a d so z o u img q h y room =
-      let xs : List Step = onBlock (j .target) openWrites in
+      let xs : List Step = onBlock (j .target) (openWrites ed) in
       follows-stage home s Open (λ n. at Open n a d so z o u) (λ img′. enterCopy N img′ (at Open 4 a d so z o u)) xs
       (writeStep (j .target) (write stateAt inTransfer)) shape (opens a d so z o u)
-      (onBlock (j .target) (writes a (encodeAll fs)) ++ sealing j (home .block) bytes (a + total fs))
-      (idle (landing home (j .target) (a + total fs + length bytes))) 4 img
-      (sym (length-open (j .target))) q
+      (onBlock (j .target) (writes a (encodeAll ed fs)) ++ sealing j (home .block) bytes (a + total ed fs))
+      (idle (landing home (j .edition) (j .target) (a + total ed fs + length bytes))) 4 img
+      (sym (length-open ed (j .target))) q
       (follows-copy b fs Open 4 a d so z o u (applyAll s xs img) (length-all-steps s xs img ∙ q)
-      (source-kept openWrites (write stateAt inTransfer) img (opens a d so z o u .inside) ∙ h) y room)
+      (source-kept (openWrites ed) (write stateAt inTransfer) img (opens a d so z o u .inside) ∙ h) y room)

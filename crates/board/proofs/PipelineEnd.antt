@@ -2,7 +2,7 @@
 use mathlib.Core.Path.{_≡_, refl, sym, ap, subst, _∙_}
 use mathlib.Core.List.{List, [], _∷_, _++_, append-nil}
 use mathlib.Core.Bool.{Bool, true, cond}
-use Prim.Native.Nat.{ℕ, zero, suc, _+_, _-_, _/_, _≤_, _<_}
+use Prim.Native.Nat.{ℕ, zero, suc, _+_, _-_, _≤_, _<_}
 use native.Mathlib.Omega.{arith}
 use lib.Dec.{ltb}
 use lib.ListN.{length, getD, length-map, List·getD-map, List·getD-append, replicate}
@@ -11,7 +11,7 @@ use Rattle.flash.specs.Flash.{sizeIn, isCount, Step, program, erase, blockOf, w
 use Rattle.flash.proofs.Cases.{on-test}
 use Rattle.flash.proofs.Image.{length-apply}
 use Rattle.flash.proofs.Programming.{length-writes, writes-at}
-use Rattle.frame.specs.Frame.{maxFrame}
+use Rattle.frame.specs.Frame.{bufferLen}
 use Rattle.journal.specs.Block.{sealWrites, sealWrite, markWrites, stateAt, validData, headerLen}
 use Rattle.board.specs.declared.Stage.{Stage}
 use Rattle.board.specs.declared.Stage.the-variants.{Seal, Drop, Append}
@@ -70,7 +70,7 @@ pub buffered : (k o : ℕ) (bs : List ℕ) (i : ℕ) → i < length (onBlock k (
     → program k (o + i) (getD (buffer bs) i 0) ≡ getD (onBlock k (writes o bs)) i (program k 0 0)
 buffered k o bs i h =
     let n : i < length bs = omega (arith, length-steps k o bs) in
-    ap (program k (o + i)) (List·getD-append bs (replicate (maxFrame - length bs) 0) 0 i n) ∙ sym (step-of k o bs i n)
+    ap (program k (o + i)) (List·getD-append bs (replicate (bufferLen - length bs) 0) 0 i n) ∙ sym (step-of k o bs i n)
 
 -- writes to a block, by number
 pub on-block : (k : ℕ) (ws : List Write) (i : ℕ) (w : Write) → blockOf (getD (onBlock k ws) i (writeStep k w)) ≡ k
@@ -148,19 +148,21 @@ module _ {N : ℕ} (s : ℕ) (home : Rest) (shape : Shape N home s) (places : Li
   follows-drop : (st : Stage) (i a d so z o : ℕ) (u img : List ℕ) → length img ≡ suc (home .last) → 0 < s → a + length bytes ≤ s
       → Follows N (exec N) img (enterDrop (jobAt home places j (buffer bytes) st (cursor i a d so z o) u))
       (dropped j (home .block) ++ onBlock (j .target) (writes a bytes))
-      (idle (landing home (j .target) (a + length bytes)))
+      (idle (landing home (j .edition) (j .target) (a + length bytes)))
   unfolding enterDrop advance
   follows-drop st i a d so z o u img q p room =
       let r : Record = jobAt home places j (buffer bytes) st (cursor i a d so z o) u in
       let steps : List Step = onBlock (j .target) (writes a bytes) in
-      let done : Record = idle (landing home (j .target) (a + length bytes)) in
+      let done : Record = idle (landing home (j .edition) (j .target) (a + length bytes)) in
       let app : (s′ : Stage) (c′ : Cursor) (img′ : List ℕ) → length img′ ≡ suc (home .last)
-      → Follows N (exec N) img′ (enterAppend (jobAt (landing home (j .target) a) places j (buffer bytes) s′ c′ u)) steps done =
-      λ s′ c′ img′ q′. follows-append s (landing home (j .target) a) (shape-landing (j .target) a shape) places j bytes size there room s′ c′ u img′ q′ in
+      → Follows N (exec N) img′ (enterAppend (jobAt (landing home (j .edition) (j .target) a) places j (buffer bytes) s′ c′ u)) steps done =
+      λ s′ c′ img′ q′. follows-append s (landing home (j .edition) (j .target) a) (shape-landing (j .edition) (j .target) a shape)
+      places j bytes size there room s′ c′ u img′ q′ in
       on-test (j .drops)
       (λ t.
       subst (λ (b : Bool). Follows N (exec N) img (cond b (enter Drop r) (enterAppend (landed r))) (cond b (erase (home .block) ∷ []) [] ++ steps) done) (sym t)
-      (follows-step N s Drop img (enter Drop r) (enterAppend (jobAt (landing home (j .target) a) places j (buffer bytes) Drop (cursor 0 a d so z o) u))
+      (follows-step N s Drop img (enter Drop r)
+      (enterAppend (jobAt (landing home (j .edition) (j .target) a) places j (buffer bytes) Drop (cursor 0 a d so z o) u))
       (erase (home .block)) steps done
       (ap (sizeIn N) q ∙ shape .size) refl (same-shape (length img) (enter Drop r) q (sym (shape .blocks))) refl
       (inside-yes s (erase (home .block)) (shape .count) here p) refl
@@ -194,11 +196,12 @@ module _ {N : ℕ} (s : ℕ) (home : Rest) (shape : Shape N home s) (places : Li
 
   pub follows-seal : (st : Stage) (i a d so z o : ℕ) (u img : List ℕ) → length img ≡ suc (home .last) → headerLen ≤ s → a + length bytes ≤ s
       → Follows N (exec N) img (enter Seal (jobAt home places j (buffer bytes) st (cursor i a d so z o) u)) (sealing j (home .block) bytes a)
-      (idle (landing home (j .target) (a + length bytes)))
+      (idle (landing home (j .edition) (j .target) (a + length bytes)))
   follows-seal st i a d so z o u img q p room =
       let steps : List Step = onBlock (j .target) (sealWrites (j .time)) in
       follows-stage home s Seal (λ n. jobAt home places j (buffer bytes) Seal (cursor n a d so z o) u)
       (λ img′. enterDrop (jobAt home places j (buffer bytes) Seal (cursor 4 a d so z o) u)) steps (writeStep (j .target) (write stateAt validData)) shape
-      (seals a d so z o u p) (dropped j (home .block) ++ onBlock (j .target) (writes a bytes)) (idle (landing home (j .target) (a + length bytes))) 4 img
+      (seals a d so z o u p) (dropped j (home .block) ++ onBlock (j .target) (writes a bytes))
+      (idle (landing home (j .edition) (j .target) (a + length bytes))) 4 img
       (sym (length-seal (j .target) (j .time))) q
       (follows-drop Seal 4 a d so z o u (applyAll s steps img) (length-all-steps s steps img ∙ q) (omega arith) room)

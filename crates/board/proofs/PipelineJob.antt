@@ -1,15 +1,16 @@
 -- A whole job: its step calls do the wipes, the transfer if it makes one, and the frame that it appends.
-use mathlib.Core.Path.{_≡_, refl, sym, ap, subst, _∙_}
+use mathlib.Core.Path.{_≡_, refl, sym, ap, subst, _∙_, subst₂}
 use mathlib.Core.List.{List, [], _∷_, _++_, append-assoc, map}
 use mathlib.Core.Bool.{Bool, true, false, cond}
-use Prim.Native.Nat.{ℕ, suc, _+_, _-_, _/_, _≤_, _<_}
+use Prim.Native.Nat.{ℕ, suc, _+_, _-_, _≤_, _<_}
 use native.Mathlib.Omega.{arith}
 use lib.Dec.{ltb}
 use lib.ListN.{length, getD, length-map, List·getD-map, List·getD-append, replicate}
 use borrow.Author.Tests.{ltb-true, ltb-false}
 use Rattle.flash.specs.Flash.{maxBlocks, sizeIn, isCount, Step, erase, block, sizeOf, within, applyAll, writeStep, writes}
 use Rattle.flash.proofs.Cases.{on-test}
-use Rattle.frame.specs.Frame.{Frame, encodeAll, total}
+use Rattle.frame.specs.declared.Edition.{Edition}
+use Rattle.frame.specs.Frame.{editionBy, Frame, encodeAll, total}
 use Rattle.journal.specs.Block.{openWrites, sealWrites, build, headerLen}
 use Rattle.journal.proofs.Loading.{Yields}
 use Rattle.board.specs.declared.Stage.the-variants.{Wipe, Open}
@@ -92,10 +93,10 @@ map-three : {A B : Type 0} (f : A → B) (ds bs cs : List A) (xs ys : List B)
     → (map f (ds ++ (bs ++ cs)) ++ xs) ++ ys ≡ map f ds ++ (map f bs ++ (map f cs ++ (xs ++ ys)))
 map-three f ds bs cs xs ys = simp (map-append, append-assoc)
 
-built : (k time : ℕ) (fs : List Frame) (xs ys : List Step)
-    → (onBlock k (build time fs) ++ xs) ++ ys ≡ onBlock k openWrites ++
-    (onBlock k (writes headerLen (encodeAll fs)) ++ (onBlock k (sealWrites time) ++ (xs ++ ys)))
-built k time fs xs ys = map-three (writeStep k) openWrites (writes headerLen (encodeAll fs)) (sealWrites time) xs ys
+built : (ed : Edition) (k time : ℕ) (fs : List Frame) (xs ys : List Step)
+    → (onBlock k (build ed time fs) ++ xs) ++ ys ≡ onBlock k (openWrites ed) ++
+    (onBlock k (writes headerLen (encodeAll ed fs)) ++ (onBlock k (sealWrites time) ++ (xs ++ ys)))
+built ed k time fs xs ys = map-three (writeStep k) (openWrites ed) (writes headerLen (encodeAll ed fs)) (sealWrites time) xs ys
 
 module _ {N : ℕ} (img : List ℕ) (home : Rest) (places : List ℕ) (j : Job) (id source : ℕ) (bytes ks : List ℕ) (long : length img ≡ suc (home .last))
     (some-blocks : isCount N ≡ true) (blocks : home .blocks ≡ N) (there : Blocks N ks)
@@ -116,23 +117,38 @@ module _ {N : ℕ} (img : List ℕ) (home : Rest) (places : List ℕ) (j : Job) 
       (idle (ending home (home .end + length bytes)))) (sym t)
       (follows-append (sizeOf N img) home shape places j bytes (has .size) here room Wipe (cursor n headerLen id source 0 0) noFrame img′ q′))
 
-  pub follows-moving : (fs : List Frame) → j .moves ≡ true → j .target < N → (j .target ≡ home .block → ⊥) → headerLen + total fs + length bytes ≤ sizeOf N img
-      → Yields (block (sizeOf N img) (home .block) (applyAll (sizeOf N img) (map erase ks) img)) (home .end) places (j .since) id source fs
+  -- the edition that is made, and the one that is read
+  abbrev ed : Edition
+  ed = editionBy (j .edition)
+
+  abbrev was : Edition
+  was = editionBy (home .edition)
+
+  -- a block is made, of edition d, from one of edition c
+  abbrev Moving : Edition → Edition → Type 0
+  Moving d c =
+      (fs : List Frame) → j .moves ≡ true → j .target < N → (j .target ≡ home .block → ⊥) → headerLen + total d fs + length bytes ≤ sizeOf N img
+      → Yields c (block (sizeOf N img) (home .block) (applyAll (sizeOf N img) (map erase ks) img)) (home .end) places (j .since) id source fs
       → Follows N (exec N) img (enterWipe (busy home places j (starting id source) bytes))
-      (map erase ks ++ ((onBlock (j .target) (build (j .time) fs) ++ dropped j (home .block)) ++ onBlock (j .target) (writes (headerLen + total fs) bytes)))
-      (idle (landing home (j .target) (headerLen + total fs + length bytes)))
+      (map erase ks ++ ((onBlock (j .target) (build d (j .time) fs) ++ dropped j (home .block)) ++ onBlock (j .target) (writes (headerLen + total d fs) bytes)))
+      (idle (landing home (j .edition) (j .target) (headerLen + total d fs + length bytes)))
+
+  moved : Moving ed was
   unfolding enterOpen
-  follows-moving fs t target apart room y =
+  moved fs t target apart room y =
       let s : ℕ = sizeOf N img in
       let tail : List Step =
-      (onBlock (j .target) (build (j .time) fs) ++ dropped j (home .block)) ++ onBlock (j .target) (writes (headerLen + total fs) bytes) in
-      let done : Record = idle (landing home (j .target) (headerLen + total fs + length bytes)) in
+      (onBlock (j .target) (build ed (j .time) fs) ++ dropped j (home .block)) ++ onBlock (j .target) (writes (headerLen + total ed fs) bytes) in
+      let done : Record = idle (landing home (j .edition) (j .target) (headerLen + total ed fs + length bytes)) in
       follows-wipe N s home shape ks there (omega arith) places j (buffer bytes) (has .wipe) (has .wipes) headerLen id source 0 0 noFrame img tail done long
       (λ n img′ q′ p.
       let r : Record = jobAt home places j (buffer bytes) Wipe (cursor n headerLen id source 0 0) noFrame in
       subst (λ (b : Bool). Follows N (exec N) img′ (cond b (enter Open r) (enterAppend r)) tail done) (sym t)
       (subst (λ (xs : List Step). Follows N (exec N) img′ (enter Open r) xs done)
-      (sym (built (j .target) (j .time) fs (dropped j (home .block)) (onBlock (j .target) (writes (headerLen + total fs) bytes))))
+      (sym (built ed (j .target) (j .time) fs (dropped j (home .block)) (onBlock (j .target) (writes (headerLen + total ed fs) bytes))))
       (follows-open s home shape places j bytes (has .size) here target apart header
       (block s (home .block) (applyAll s (map erase ks) img)) fs Wipe n headerLen id source 0 0 noFrame
       img′ q′ (ap (block s (home .block)) p) y room)))
+
+  pub follows-moving : (d c : Edition) → ed ≡ d → was ≡ c → Moving d c
+  follows-moving d c e w = subst₂ Moving e w moved

@@ -9,20 +9,22 @@ use native.Mathlib.Omega.{arith}
 use lib.Dec.{eqb, ltb, leb}
 use lib.ListN.{length}
 use borrow.Author.Tests.{leb-true, leb-false, lt-ltb, le-ltb}
+use Rattle.frame.specs.declared.Edition.{Edition}
+use Rattle.frame.specs.declared.Edition.the-variants as edition
 use Rattle.flash.specs.Flash.{apply, sizeOf, within}
 use Rattle.flash.proofs.Cases.{on-test, or-left, or-no-left, or-no-right}
 use Rattle.frame.specs.declared.ObjectId.{ObjectId}
 use Rattle.frame.specs.Frame.{hostMax, Change, put, delete, Frame, change, commit, abort}
-use Rattle.journal.specs.Replay.{lookup, isOpen}
+use Rattle.journal.specs.Replay.{lookup, isOpen, Entry}
 use Rattle.journal.specs.Block.{Journal, lastTime, BlockState, blank, inProgress, valid, foreign}
-use Rattle.journal.specs.Room.{noRoom, hostFull}
+use Rattle.journal.specs.Room.{noRoom, hostFull, used}
 use Rattle.wire.specs.declared.Answer.{Answer}
 use Rattle.wire.specs.declared.Answer.the-variants.{Refused}
 use Rattle.wire.specs.declared.Refusal.{Refusal}
 use Rattle.wire.specs.declared.Refusal.the-variants as refusal
 use Rattle.wire.specs.declared.Page.the-variants.{Summary}
 use Rattle.wire.specs.declared.Request.{Request}
-use Rattle.wire.specs.declared.Request.the-variants.{Put, Delete, Commit, Abort, Read, Log}
+use Rattle.wire.specs.declared.Request.the-variants.{Put, Delete, Commit, Abort, Read, Log, Convert}
 use Rattle.wire.specs.declared.Parsed.{Parsed}
 use Rattle.wire.specs.declared.Parsed.the-variants.{Is, Malformed}
 use Rattle.wire.specs.Message.{parse, valueIn, pageLen}
@@ -34,16 +36,17 @@ use Rattle.board.specs.Step.{sameShape, enterWipe, action, advance, step
 use Rattle.board.specs.Mount.{allFound, anyForeign, Found, Store, stores, equalTimes, newest, wipeList, upkeep, transfers, mountJob, replayOf, timeOf}
 use Rattle.board.specs.Mount.{isForeign, orForeign, noneValid, mountAt, mountStores, mountOn, formatJob, formatOn}
 use Rattle.board.specs.Queue.{appendJob, append, serveChange, serveEnd, serve, serveParsed, serveHeld, requestIn, requestOn, Asking, asking}
-use Rattle.board.specs.Queue.{sizeFor, heldFor, movesFor}
+use Rattle.board.specs.Queue.{sizeFor, heldFor, movesFor, convertJob, convert, serveConvert}
 use Rattle.board.specs.Exec.{Call, request, step, mount, format, exec}
-use Rattle.board.specs.Table.{isBusy, isNone, frameIf}
+use Rattle.board.specs.Table.{isBusy, isNone, appends, endTask, convertTask}
 use Rattle.board.specs.Demand1.{Unchanged, OneStep, ImageAfter, Rests}
 use Rattle.board.proofs.Checks.{Check, check, firstOf, isUnmounted, isMalformed, worn, heldChecks, laterChecks, requestChecks, unclear}
-use Rattle.board.proofs.Checks.{outside, noStore, wornStore, mountChecks, checks, refusalIn}
+use Rattle.board.proofs.Checks.{outside, noStore, wornStore, mountChecks, checks, refusalIn, isSome, pendingRule, hostFullFor, noRoomFor}
 use Rattle.board.proofs.Outcomes.{append-worn, append-begins, change-refused, change-goes, end-goes, end-idle, log-short, log-done, change-over}
 use Rattle.board.proofs.Outcomes.{serve-put, serve-delete, serve-commit, serve-abort, serve-log, read-none, read-some}
 use Rattle.board.proofs.Outcomes.{request-length, request-host, request-in, mount-length, mount-stores, mount-worn}
 use Rattle.board.proofs.Outcomes.{mount-begins, format-length, format-begins, step-resting, step-outside, step-goes}
+use Rattle.board.proofs.Outcomes.{serve-convert, convert-pending, convert-refused, convert-goes, convert-worn, convert-begins, convert-there}
 
 -- ---- what is claimed of a call's outcome, against the lines of the table that are left
 
@@ -100,25 +103,26 @@ module _ (a : Asking) where
   abbrev Asked : List Check → Out → Type 0
   Asked cs o = Follows (Same (a .image)) (a .image) (a .board) (a .reply) cs o
 
-  append-asked : (x : Journal) (f : Frame) → Asked (check refusal.Worn (movesFor a f && eqb (x .time) lastTime) ∷ []) (append a x f)
+  append-asked : (x : Journal) (f : Frame) → Asked (check refusal.Worn (movesFor a x f && eqb (x .time) lastTime) ∷ []) (append a x f)
   append-asked x f =
-      on-test (movesFor a f && eqb (x .time) lastTime)
+      on-test (movesFor a x f && eqb (x .time) lastTime)
       (λ e. stops refl e (append-worn a x f e))
       (λ e. over (append-begins a x f e)
       (passes e (accepted (begin-accepts (enterWipe (appendJob (a .blocks) (a .image) (a .board) x f) .phase)) refl)))
 
   change-asked : (x : Journal) (c : Change)
-      → Asked (check refusal.HostFull (hostFull (sizeFor a) (replayOf x) (a .host) c) ∷ check refusal.NoRoom (noRoom (sizeFor a) (replayOf x) (a .host) c)
-      ∷ check refusal.Worn (worn a x (some (change (a .host) c))) ∷ []) (serveChange a x c)
+      → Asked (check refusal.HostFull (hostFull (x .edition) (sizeFor a) (replayOf x) (a .host) c)
+      ∷ check refusal.NoRoom (noRoom (x .edition) (sizeFor a) (replayOf x) (a .host) c)
+      ∷ check refusal.Worn (worn a x (appends (change (a .host) c))) ∷ []) (serveChange a x c)
   change-asked x c =
-      on-test (hostFull (sizeFor a) (replayOf x) (a .host) c)
+      on-test (hostFull (x .edition) (sizeFor a) (replayOf x) (a .host) c)
       (λ d. stops refl d (change-over a x c d))
-      (λ d. on-test (noRoom (sizeFor a) (replayOf x) (a .host) c)
+      (λ d. on-test (noRoom (x .edition) (sizeFor a) (replayOf x) (a .host) c)
       (λ e. passes d (stops refl e (change-refused a x c d e)))
       (λ e. over (change-goes a x c d e) (passes d (passes e (append-asked x (change (a .host) c))))))
 
   end-asked : (x : Journal) (f : Frame)
-      → Asked (check refusal.Worn (worn a x (frameIf (isOpen (a .host) (replayOf x .pending)) f)) ∷ []) (serveEnd a x f)
+      → Asked (check refusal.Worn (worn a x (endTask (isOpen (a .host) (replayOf x .pending)) f)) ∷ []) (serveEnd a x f)
   end-asked x f =
       on-test (isOpen (a .host) (replayOf x .pending))
       (λ e. over (end-goes a x f e) (rw e (append-asked x f)))
@@ -127,7 +131,8 @@ module _ (a : Asking) where
   read-asked : (x : Journal) (i : ObjectId) (v : Option (List ℕ)) → lookup i (replayOf x .objects) ≡ v
       → Asked (heldChecks a x (Read i)) (serve a x (Read i))
   read-asked x i none e = stops refl (rw e) (read-none a x i e)
-  read-asked x i (some v) e = over (read-some a x i v e) (passes (rw e) (passes refl (passes refl (passes refl (passes refl (accepted refl refl))))))
+  read-asked x i (some v) e = over (read-some a x i v e)
+      (passes (rw e) (passes refl (passes refl (passes refl (passes refl (passes refl (accepted refl refl)))))))
 
   log-asked : (x : Journal) → Asked (heldChecks a x (Log Summary)) (serve a x (Log Summary))
   log-asked x =
@@ -135,15 +140,35 @@ module _ (a : Asking) where
       (passes refl
       (on-test (ltb (length (a .reply)) pageLen)
       (λ e. stops refl e (log-short a x e))
-      (λ e. over (log-done a x e) (passes e (passes refl (passes refl (passes refl (accepted refl refl))))))))
+      (λ e. over (log-done a x e) (passes e (passes refl (passes refl (passes refl (passes refl (accepted refl refl)))))))))
+
+  convert-in : (x : Journal) (d : Edition) → Asked (check refusal.Worn (worn a x (convertTask d)) ∷ []) (convert a x d)
+  convert-in x edition.First =
+      on-test (eqb (x .time) lastTime)
+      (λ e. stops refl e (convert-worn a x e))
+      (λ e. over (convert-begins a x e)
+      (passes e (accepted (begin-accepts (enterWipe (convertJob (a .blocks) (a .image) (a .board) x) .phase)) refl)))
+  convert-in x edition.Second = over (convert-there a x) (passes refl (accepted refl refl))
+
+  convert-asked : (x : Journal) (es : List Entry) → replayOf x .pending ≡ es
+      → Asked (check refusal.Pending (pendingRule x Convert) ∷ check refusal.HostFull (hostFullFor a x Convert) ∷ check refusal.NoRoom (noRoomFor a x Convert)
+      ∷ check refusal.Worn (worn a x (convertTask (x .edition))) ∷ []) (serveConvert a x)
+  convert-asked x (e ∷ es) p = stops refl (ap isSome p) (convert-pending a x e es p)
+  convert-asked x [] p =
+      passes (ap isSome p)
+      (passes refl
+      (on-test (ltb (sizeFor a) (used edition.Second (replayOf x)))
+      (λ t. stops refl t (convert-refused a x p t))
+      (λ t. over (convert-goes a x p t) (passes t (convert-in x (x .edition))))))
 
   serve-asked : (x : Journal) (q : Request) → Asked (heldChecks a x q) (serve a x q)
-  serve-asked x (Put i) = over (serve-put a x i) (passes refl (passes refl (change-asked x (put i (valueIn (a .message))))))
-  serve-asked x (Delete i) = over (serve-delete a x i) (passes refl (passes refl (change-asked x (delete i))))
-  serve-asked x Commit = over (serve-commit a x) (passes refl (passes refl (passes refl (passes refl (end-asked x (commit (a .host)))))))
-  serve-asked x Abort = over (serve-abort a x) (passes refl (passes refl (passes refl (passes refl (end-asked x (abort (a .host)))))))
+  serve-asked x (Put i) = over (serve-put a x i) (passes refl (passes refl (passes refl (change-asked x (put i (valueIn (a .message)))))))
+  serve-asked x (Delete i) = over (serve-delete a x i) (passes refl (passes refl (passes refl (change-asked x (delete i)))))
+  serve-asked x Commit = over (serve-commit a x) (passes refl (passes refl (passes refl (passes refl (passes refl (end-asked x (commit (a .host))))))))
+  serve-asked x Abort = over (serve-abort a x) (passes refl (passes refl (passes refl (passes refl (passes refl (end-asked x (abort (a .host))))))))
   serve-asked x (Read i) = read-asked x i (lookup i (replayOf x .objects)) refl
   serve-asked x (Log Summary) = log-asked x
+  serve-asked x Convert = over (serve-convert a x) (passes refl (passes refl (convert-asked x (replayOf x .pending) refl)))
 
   parsed-asked : (x : Journal) (p : Parsed) → Asked (check refusal.Malformed (isMalformed p) ∷ laterChecks a (some x) p) (serveParsed a x p)
   parsed-asked x Malformed = stops refl refl refl

@@ -1,5 +1,5 @@
 -- What an idle record of a run is found to hold, and what reads and the log say of it.
-use mathlib.Core.Path.{_≡_, refl, sym, ap, ap₂, subst, _∙_}
+use mathlib.Core.Path.{_≡_, refl, sym, ap, ap₂, subst, _∙_, subst₂}
 use mathlib.Core.List.{List, _++_}
 use mathlib.Core.Option.{Option, none, some}
 use mathlib.Core.Bool.{Bool, true, _&&_}
@@ -16,8 +16,10 @@ use Rattle.flash.proofs.Blank.{allFF-all}
 use Rattle.flash.proofs.Image.{take-drop-take, length-block}
 use Rattle.frame.specs.declared.Host.{Host}
 use Rattle.frame.specs.declared.ObjectId.{ObjectId}
-use Rattle.frame.specs.Frame.{idMax}
+use Rattle.frame.specs.declared.Edition.{Edition}
+use Rattle.frame.specs.Frame.{idMax, editionBy}
 use Rattle.frame.specs.Reader.{Tail}
+use Rattle.frame.proofs.Encode.{edition-back}
 use Rattle.journal.specs.Replay.{Object, lookup}
 use Rattle.journal.specs.Block.{Journal, blockState, header, validData}
 use Rattle.journal.specs.Room.{usedBy}
@@ -30,7 +32,7 @@ use Rattle.wire.specs.declared.Request.{Request}
 use Rattle.wire.specs.declared.Request.the-variants.{Read, Log}
 use Rattle.wire.specs.Message.{pageLen}
 use Rattle.board.specs.declared.Record.{Record}
-use Rattle.board.specs.Record.{Out, idle}
+use Rattle.board.specs.Record.{Out, idle, readsIn}
 use Rattle.board.specs.Step.{sameShape}
 use Rattle.board.specs.Mount.{replayOf}
 use Rattle.board.specs.Queue.{held, heldBy, heldIn, heldIf, fitsRecord, sameImage, othersBlank, stretchOf, placeOf, serve, Asking, asking, doneAt}
@@ -63,7 +65,7 @@ held-ready {N} {s} {img} {r} z y =
         (blank-beside s (y .stands .block) img (size-of z) (y .others)))
 
     fit : fitsRecord s (y .stands) (y .journal) ≡ true
-    fit = fits-record (record { ends = sym (y .ends); counts = sym (y .counts); room = y .room })
+    fit = fits-record (record { edition-is = sym (y .edition-is); ends = sym (y .ends); counts = sym (y .counts); room = y .room })
 
 -- ---- reads
 
@@ -71,12 +73,15 @@ held-ready {N} {s} {img} {r} z y =
 stretch : (s k p n : ℕ) (img : List ℕ) → p + n ≤ s → take n (drop (k * s + p) img) ≡ take n (drop p (block s k img))
 stretch s k p n img h = sym (ap (take n) (drop-drop p (k * s) img)) ∙ sym (take-drop-take n p s (drop (k * s) img) h)
 
-pub standing-of : {b : List ℕ} {w : Journal} → Contents b w → Standing b (w .frames)
-standing-of {b} {w} x = record { head = header (w .time) validData; rest = x .rest; split = x .layout .is; long = refl; stand = x .layout .stands }
+pub standing-of : {b : List ℕ} {w : Journal} → Contents b w → Standing (w .edition) b (w .frames)
+standing-of {b} {w} x = record { head = header (w .edition) (w .time) validData; rest = x .rest; split = x .layout .is; long = refl; stand = x .layout .stands }
 
 module _ {N : ℕ} {s : ℕ} {img : List ℕ} {r : Record} (z : Sized N s img) (y : Ready N s img r) (h : Host) (m reply : List ℕ) where
   abbrev a : Asking
   a = asking N img r h m reply
+
+  abbrev ed : Edition
+  ed = y .journal .edition
 
   abbrev served : Request → Out
   served q = serve a (y .journal) q
@@ -89,11 +94,12 @@ module _ {N : ℕ} {s : ℕ} {img : List ℕ} {r : Record} (z : Sized N s img) (
       go (some v) e =
           let k : ℕ = y .stands .block in
           let b : List ℕ = block s k img in
-          let x : ValueStands b i (getD (placesOf (y .journal .frames)) (i .0) 0) v = place-law b (y .journal .frames) i v (standing-of (y .contents)) l e in
+          let x : ValueStands ed b i (getD (placesOf ed (y .journal .frames)) (i .0) 0) v =
+          place-law ed b (y .journal .frames) i v (standing-of (y .contents)) l e in
           let n : length b ≡ s = length-block s k img (sized-block k z (y .there)) in
           let at : placeOf N img r (y .journal) i ≡ record { at = k * s + x .at; size = length v } =
           ap (λ (q : Record). placeOf N img q (y .journal) i) (y .is)
-          ∙ ap (λ (w : ℕ). stretchOf (k * w) (valueAt (block w k img) i (getD (placesOf (y .journal .frames)) (i .0) 0))) (size-of z)
+          ∙ ap (λ (w : ℕ). stretchOf (k * w) (valueAt ed (block w k img) i (getD (placesOf ed (y .journal .frames)) (i .0) 0))) (size-of z)
           ∙ ap (stretchOf (k * s)) (x .found) in
           let f : served (Read i) ≡ doneAt a reply (record { at = k * s + x .at; size = length v }) =
           read-some a (y .journal) i v e ∙ ap (doneAt a reply) at in (
@@ -102,12 +108,15 @@ module _ {N : ℕ} {s : ℕ} {img : List ℕ} {r : Record} (z : Sized N s img) (
                 (stretch s k (x .at) (length v) img (omega (arith, x .fits)) ∙ x .same),
           )
 
-  pub log-says : (os : List Object) → replayOf (y .journal) .objects ≡ os → LogSays (served (Log Summary)) reply os
+  pub log-says : (os : List Object) → replayOf (y .journal) .objects ≡ os → LogSays r (served (Log Summary)) reply os
   log-says os e l =
-      subst (λ (x : List Object). (served (Log Summary) .answer ≡ Done) ×
-      (take 4 (drop 8 (served (Log Summary) .reply)) ≡ u16le (length x) ++ u16le (usedBy x))) e
+      subst₂ (λ (d : Edition) (x : List Object). (served (Log Summary) .answer ≡ Done) ×
+      (take 4 (drop 8 (served (Log Summary) .reply)) ≡ u16le (length x) ++ u16le (usedBy d x))) (sym reads) e
       (on-test (ltb (length reply) pageLen)
       (λ t. absurd (omega (arith, ltb-true (length reply) pageLen t)))
       (λ t. subst (λ (o : Out). (o .answer ≡ Done) × (take 4 (drop 8 (o .reply)) ≡ u16le (length (replayOf (y .journal) .objects)) ++ u16le
-      (usedBy (replayOf (y .journal) .objects))))
+      (usedBy ed (replayOf (y .journal) .objects))))
       (sym (serve-log a (y .journal) ∙ log-done a (y .journal) t)) (refl, refl)))
+    where
+      reads : readsIn r ≡ ed
+      reads = ap (λ (q : Record). readsIn q) (y .is) ∙ ap editionBy (y .edition-is) ∙ edition-back ed

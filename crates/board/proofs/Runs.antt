@@ -1,7 +1,6 @@
 -- Runs in two parts: what happens, what is left and what is claimed of each.
 use mathlib.Core.Path.{_≡_, refl}
 use mathlib.Core.List.{List, [], _∷_, _++_}
-use mathlib.Core.Bool.{Bool}
 use Prim.Native.Nat.{ℕ, zero, suc}
 use lib.ListN.{replicate}
 use Rattle.flash.specs.Flash.{sizeOf, withBlock}
@@ -9,7 +8,7 @@ use Rattle.board.specs.declared.Record.{Record}
 use Rattle.board.specs.Record.{Out}
 use Rattle.board.specs.Exec.{Machine, Call, step}
 use Rattle.board.specs.Book.{Book, enterCall, enterStep}
-use Rattle.board.specs.Claim.{Agrees, track, begunBy, Event, call, cutErase, Restarts, Happens, Run}
+use Rattle.board.specs.Claim.{Agrees, track, begunBy, Event, call, cutErase, Restarts, Happens, Run, Track}
 use Rattle.board.specs.CutFormat.{Left, afterAll}
 
 -- n step calls
@@ -60,18 +59,18 @@ module _ (N : ℕ) (m : Machine) where
   steps-happen zero img r b = tt
   steps-happen (suc n) img r b = (tt, steps-happen n (m img r step .image) (m img r step .board) (enterStep b (m img r step .answer)))
 
-  pub run-rest : (img : List ℕ) (r : Record) (b : Book) (u : Bool) (a : Call) (es ds : List Event) → Run N m img r b u a (es ++ ds)
-      → (w : Bool) × (d : Call) × (let x : Left = afterAll N m img r b es in Run N m (x .image) (x .board) (x .book) w d ds)
+  pub run-rest : (img : List ℕ) (r : Record) (b : Book) (u : Track) (a : Call) (es ds : List Event) → Run N m img r b u a (es ++ ds)
+      → (w : Track) × (d : Call) × (let x : Left = afterAll N m img r b es in Run N m (x .image) (x .board) (x .book) w d ds)
   run-rest img r b u a [] ds y = (u, a, y)
   run-rest img r b u a (call c ∷ es) ds (s, e, y) =
       let o : Out = m img r c in
-      run-rest (o .image) (o .board) (enterCall b c (o .answer)) (track u b c (o .answer)) (begunBy a c (o .answer)) es ds y
+      run-rest (o .image) (o .board) (enterCall b c (o .answer)) (track (sizeOf N img) u b c (o .answer)) (begunBy a c (o .answer)) es ds y
   run-rest img r b u a (cutErase k new q ∷ es) ds y = run-rest (withBlock (sizeOf N img) k new img) q b u a es ds y
 
   -- after steps too the record agrees with the book
-  pub steps-agree : (n : ℕ) (img : List ℕ) (r : Record) (b : Book) (u : Bool) (a : Call) → Agrees N m a img r b → Run N m img r b u a (stepping n)
-      → let x : Left = afterAll N m img r b (stepping n) in Agrees N m a (x .image) (x .board) (x .book)
-  steps-agree zero img r b u a d y = d
+  pub steps-agree : (n : ℕ) (img : List ℕ) (r : Record) (b : Book) (u : Track) (a : Call) → Agrees N m a u img r b → Run N m img r b u a (stepping n)
+      → let x : Left = afterAll N m img r b (stepping n) in (w : Track) × Agrees N m a w (x .image) (x .board) (x .book)
+  steps-agree zero img r b u a d y = (u, d)
   steps-agree (suc n) img r b u a d (s, e, y) =
       let o : Out = m img r step in
-      steps-agree n (o .image) (o .board) (enterStep b (o .answer)) (track u b step (o .answer)) a e y
+      steps-agree n (o .image) (o .board) (enterStep b (o .answer)) (track (sizeOf N img) u b step (o .answer)) a e y

@@ -1,37 +1,41 @@
 -- The frame that a request appends, the steps of each job and a read's stretch are as document 01 words them.
-use mathlib.Core.Path.{_≡_, refl, sym, ap, subst, _∙_}
+use mathlib.Core.Path.{_≡_, refl, sym, ap, subst, _∙_, ap₂}
 use mathlib.Core.List.{List, [], _∷_, _++_, map, append-assoc, map-append}
 use mathlib.Core.Logic.{inl, inr}
-use mathlib.Core.Option.{some, Option·map}
+use mathlib.Core.Option.{some}
 use mathlib.Core.Bool.{Bool, true}
 use Prim.Native.Nat.{ℕ, zero, suc, _+_, _-_, _*_, _/_, _%_, _≤_, _<_}
 use native.Mathlib.Omega.{arith}
 use lib.ListN.{length, getD, drop, length-append, length-drop, length-map, List·getD-append}
 use lib.Seq.{getD-at}
 use borrow.Author.Tests.{ltb-true, lt-ltb, le-ltb}
+use Rattle.frame.specs.declared.Edition.{Edition}
+use Rattle.frame.specs.declared.Edition.the-variants as edition
+use Rattle.frame.specs.declared.Host.{Host}
 use Rattle.flash.specs.Bytes.{Bytes}
 use Rattle.flash.specs.Flash.{blockNumbers, sizeIn, Step, program, erase, block, sizeOf, Write, write, writeStep, writes}
-use Rattle.flash.proofs.Blank.{bytes-drop}
 use Rattle.flash.proofs.Sizes.{size-is}
 use Rattle.flash.proofs.Programming.{length-writes, writes-at}
-use Rattle.frame.specs.Frame.{valueMax, put, delete, change, commit, abort, encode, encodeAll, frameLen}
+use Rattle.frame.specs.Frame.{put, delete, change, commit, abort, encode, encodeAll, frameLen, Frame}
 use Rattle.frame.specs.Reader.{Tail}
-use Rattle.frame.proofs.First.{encode-plain, length-encode, length-all}
-use Rattle.journal.specs.Replay.{Entry, State, framesOf}
-use Rattle.journal.specs.Block.{Journal, headerLen, lastTime, sealWrites, build}
-use Rattle.journal.specs.Room.{claimed}
+use Rattle.frame.specs.ByKind.{withCrc}
+use Rattle.frame.proofs.ByKind as kinds
+use Rattle.frame.proofs.Encode.{length-encode, length-all}
+use Rattle.journal.specs.Replay.{Entry, State, framesOf, isOpen, settledOnly}
+use Rattle.journal.specs.Block.{Journal, headerLen, lastTime, sealWrites, build, openWrites}
+use Rattle.journal.specs.Laws.{byEdition, pendingAfter}
 use Rattle.journal.proofs.Lists.{open-none}
-use Rattle.journal.proofs.Room.{frames-total}
-use Rattle.journal.proofs.ReplayLaws.{order-laws}
+use Rattle.journal.proofs.Room.{frames-total, claimed-settled}
+use Rattle.journal.proofs.ReplayLaws.{order-laws, used-exact}
 use Rattle.journal.proofs.Sources.{place-exact}
-use Rattle.board.specs.Mount.{nextBlock, allFound, wipeList, forPending, Upkeep, upkeepBy, upkeep, numbersBut, formatOrder, storeAt, replayOf}
-use Rattle.board.specs.Record.{allowed}
+use Rattle.board.specs.Mount.{nextBlock, allFound, wipeList, forPending, Upkeep, upkeepBy, upkeep, numbersBut, formatOrder, storeAt, replayOf, claimedOf}
+use Rattle.board.specs.Record.{allowed, idle, landing}
 use Rattle.board.specs.Queue.{stretchOf}
-use Rattle.board.specs.Table.{frameIf}
+use Rattle.board.specs.Table.{endTask, convertTask, appends}
 use Rattle.board.specs.Plan.{onBlock, transferPlan, formatWork, appendPlan, upkeepWork}
 use Rattle.board.specs.CutFormat.{Beside}
 use Rattle.board.specs.Sentences.{FrameExact, NeedsExact, Programs, NextOf, following, round, TransferExact, AppendExact, StretchExact}
-use Rattle.board.specs.Sentences.{firstHeader, ByNumber, LastIs, NewestAt, FormatExact, Member, MountExact}
+use Rattle.board.specs.Sentences.{firstHeader, ByNumber, LastIs, NewestAt, FormatExact, Member, MountExact, taskBytes, ConvertExact}
 use Rattle.board.proofs.Numbers.{next-up, next-round, length-numbers, number-at, length-but, but-below, but-above}
 use Rattle.board.proofs.Upkeep.{pending-moves}
 use Rattle.board.proofs.Lengths.{length-transfer, length-format}
@@ -43,30 +47,65 @@ use Rattle.board.proofs.TablingMounts.{valid-at, at-valid}
 
 -- ---- frames
 
+-- in an edition
+in-edition : (x : Journal) (ed : Edition) (f : Frame) (bs : List ℕ) → x .edition ≡ ed → encode ed f ≡ bs → taskBytes x (appends f) ≡ some bs
+in-edition x ed f bs e q = ap (λ (d : Edition). some (encode d f)) e ∙ ap some q
+
+-- a byte's number
+low-byte : (n : ℕ) → n < 256 → (n % 256 ≡ n) × (n / 256 ≡ 0)
+low-byte n h = (omega arith, omega arith)
+
+put-front : (n i : ℕ) (P : ℕ → ℕ → ℕ → ℕ → List ℕ) → n < 256 → i < 256 → P (n % 256) (n / 256) (i % 256) (i / 256) ≡ P n 0 i 0
+put-front n i P h k =
+    let a = low-byte n h in
+    let b = low-byte i k in
+    ap₂ (λ (p q : ℕ). P p q (i % 256) (i / 256)) (a .0) (a .1) ∙ ap₂ (λ (p q : ℕ). P n 0 p q) (b .0) (b .1)
+
+-- a commit or an abort that has something to end
+ended : (x : Journal) (ed : Edition) (h : Host) (f : Frame) (bs : List ℕ) → (pendingAfter h (x .frames) ≡ [] → ⊥) → x .edition ≡ ed → encode ed f ≡ bs
+    → taskBytes x (endTask (isOpen h (replayOf x .pending)) f) ≡ some bs
+ended x ed h f bs n e q =
+    ap (λ (b : Bool). taskBytes x (endTask b f)) (order-laws .is-open h (replayOf x .pending) .1 n) ∙ in-edition x ed f bs e q
+
 pub frame-exact : FrameExact
 frame-exact =
     record {
-      of-put = λ h m x i hh b y.
-          let k : length (drop 6 m) ≤ valueMax = omega (arith, length-drop 6 m, y .2) in
-          ap some (encode-plain 0 (change h (put i (drop 6 m))) (hh, y .4, (k, bytes-drop 6 m b)));
-      of-delete = λ h m x i hh y. ap some (encode-plain 0 (change h (delete i)) (hh, y .3));
-      of-commit = λ h m x n.
-          ap (λ (b : Bool). Option·map encode (frameIf b (commit h))) (order-laws .is-open h (replayOf x .pending) .1 n);
-      commit-nothing = λ h m x e. ap (λ (b : Bool). frameIf b (commit h)) (open-none h (replayOf x .pending) e);
-      of-abort = λ h m x n.
-          ap (λ (b : Bool). Option·map encode (frameIf b (abort h))) (order-laws .is-open h (replayOf x .pending) .1 n);
-      abort-nothing = λ h m x e. ap (λ (b : Bool). frameIf b (abort h)) (open-none h (replayOf x .pending) e);
+      of-put = λ h m x i hh b y e.
+          in-edition x edition.First (change h (put i (drop 6 m))) _ e
+          (kinds.frame-exact .put-bytes h i (drop 6 m)
+          ∙ put-front (8 + length (drop 6 m)) (i .0) (λ p q c d. p ∷ q ∷ 1 ∷ 0 ∷ h .0 ∷ c ∷ d ∷ (drop 6 m ++ (0xFE ∷ [])))
+          (omega (arith, length-drop 6 m, y .2)) (omega (arith, y .4)));
+      of-delete = λ h m x i hh y e.
+          in-edition x edition.First (change h (delete i)) _ e
+          (kinds.frame-exact .delete-bytes h i ∙ put-front 8 (i .0) (λ p q c d. p ∷ q ∷ 2 ∷ 0 ∷ h .0 ∷ c ∷ d ∷ 0xFE ∷ []) (omega arith) (omega (arith, y .3)));
+      of-commit = λ h m x n e. ended x edition.First h (commit h) _ n e (kinds.frame-exact .commit-bytes h);
+      commit-nothing = λ h m x e. ap (λ (b : Bool). endTask b (commit h)) (open-none h (replayOf x .pending) e);
+      of-abort = λ h m x n e. ended x edition.First h (abort h) _ n e (kinds.frame-exact .abort-bytes h);
+      abort-nothing = λ h m x e. ap (λ (b : Bool). endTask b (abort h)) (open-none h (replayOf x .pending) e);
       of-read = λ h m x i. refl;
       of-log = λ h m x p. refl;
+      convert-first = λ h m x e. ap convertTask e;
+      convert-second = λ h m x e. ap convertTask e;
+      put-second = λ h m x i hh b y e.
+          in-edition x edition.Second (change h (put i (drop 6 m))) _ e
+          (kinds.frame-exact .put-second h i (drop 6 m)
+          ∙ put-front (12 + length (drop 6 m)) (i .0) (λ p q c d. withCrc (p ∷ q ∷ 1 ∷ 0 ∷ h .0 ∷ c ∷ d ∷ drop 6 m))
+          (omega (arith, length-drop 6 m, y .2)) (omega (arith, y .4)));
+      delete-second = λ h m x i hh y e.
+          in-edition x edition.Second (change h (delete i)) _ e
+          (kinds.frame-exact .delete-second h i
+          ∙ put-front 12 (i .0) (λ p q c d. withCrc (p ∷ q ∷ 2 ∷ 0 ∷ h .0 ∷ c ∷ d ∷ [])) (omega arith) (omega (arith, y .3)));
+      commit-second = λ h m x n e. ended x edition.Second h (commit h) _ n e (kinds.frame-exact .commit-second h);
+      abort-second = λ h m x n e. ended x edition.Second h (abort h) _ n e (kinds.frame-exact .abort-second h);
     }
 
 pub needs-exact : NeedsExact
 unfolding NeedsExact
-needs-exact N img s r f h e =
-    let l : length (encode f) ≡ frameLen f = length-encode f in
+needs-exact N img s r x f h e =
+    let l : length (encode (x .edition) f) ≡ frameLen (x .edition) f = length-encode (x .edition) f in
     let z : sizeOf N img ≡ s = ap (sizeIn N) e ∙ size-is N s h in (
-      λ t. omega (arith, ltb-true (sizeOf N img) (r .rest .end + frameLen f) t),
-      λ h. lt-ltb (sizeOf N img) (r .rest .end + frameLen f) (omega arith),
+      λ t. omega (arith, ltb-true (sizeOf N img) (r .rest .end + frameLen (x .edition) f) t),
+      λ h. lt-ltb (sizeOf N img) (r .rest .end + frameLen (x .edition) f) (omega arith),
     )
 
 -- ---- steps
@@ -95,29 +134,35 @@ inverse : (t : ℕ) → t ≤ 4294967295
 inverse t h = (omega arith, omega arith, omega arith, omega arith)
 
 -- the first five steps, then others
-abbrev opened : ℕ → List Step → List Step
-opened j xs = program j 8 0xFE ∷ program j 0 16 ∷ program j 1 0 ∷ program j 2 0x01 ∷ program j 3 0x4A ∷ xs
+abbrev opened : Edition → ℕ → List Step → List Step
+opened ed j xs = program j 8 0xFE ∷ program j 0 16 ∷ program j 1 0 ∷ program j 2 (byEdition ed 0x01 0x02) ∷ program j 3 0x4A ∷ xs
 
-transfer-is : (N k j : ℕ) (x : Journal) (st : State) → nextBlock N k ≡ j
-    → transferPlan N k x st
-    ≡ opened j (onBlock j (writes headerLen (encodeAll (framesOf st))) ++ (onBlock j (sealWrites (suc (x .time))) ++ (erase k ∷ [])))
+-- by the edition's number
+open-is : (ed : Edition) (j : ℕ) (ws : List Write) (xs : List Step) → onBlock j (openWrites ed ++ ws) ++ xs ≡ opened ed j (onBlock j ws ++ xs)
 unfolding writes
-transfer-is N k j x st e =
-    let ws : List Write = writes headerLen (encodeAll (framesOf st)) in
-    ap (λ (n : ℕ). onBlock n (build (suc (x .time)) (framesOf st)) ++ (erase k ∷ [])) e
-    ∙ ap (λ (xs : List Step). opened j (xs ++ (erase k ∷ []))) (map-append (writeStep j) ws (sealWrites (suc (x .time))))
-    ∙ ap (opened j) (append-assoc (onBlock j ws) (onBlock j (sealWrites (suc (x .time)))) (erase k ∷ []))
+open-is edition.First j ws xs = refl
+open-is edition.Second j ws xs = refl
+
+transfer-is : (ed : Edition) (N k j : ℕ) (x : Journal) (st : State) → nextBlock N k ≡ j
+    → transferPlan ed N k x st
+    ≡ opened ed j (onBlock j (writes headerLen (encodeAll ed (framesOf st))) ++ (onBlock j (sealWrites (suc (x .time))) ++ (erase k ∷ [])))
+transfer-is ed N k j x st e =
+    let ws : List Write = writes headerLen (encodeAll ed (framesOf st)) in
+    ap (λ (n : ℕ). onBlock n (build ed (suc (x .time)) (framesOf st)) ++ (erase k ∷ [])) e
+    ∙ open-is ed j (ws ++ sealWrites (suc (x .time))) (erase k ∷ [])
+    ∙ ap (λ (xs : List Step). opened ed j (xs ++ (erase k ∷ []))) (map-append (writeStep j) ws (sealWrites (suc (x .time))))
+    ∙ ap (opened ed j) (append-assoc (onBlock j ws) (onBlock j (sealWrites (suc (x .time)))) (erase k ∷ []))
 
 pub transfer-exact : TransferExact
 unfolding TransferExact writes
-transfer-exact N k j x st e h =
-    let bs : List ℕ = encodeAll (framesOf st) in
+transfer-exact ed N k j x st e h =
+    let bs : List ℕ = encodeAll ed (framesOf st) in
     let v = inverse (suc (x .time)) h in
     record {
       copied = onBlock j (writes headerLen bs);
-      steps = transfer-is N k j x st (next-of e) ∙ rw (v .0, v .1, v .2, v .3) refl;
+      steps = transfer-is ed N k j x st (next-of e) ∙ rw (v .0, v .1, v .2, v .3) refl;
       frames = programs j headerLen bs;
-      count = length-transfer (nextBlock N k) k x st;
+      count = length-transfer ed (nextBlock N k) k x st;
     }
 
 -- ---- format
@@ -177,18 +222,34 @@ pub append-exact : AppendExact
 append-exact =
     record {
       stays = λ N img r x f h.
-          rw (le-ltb (sizeOf N img) (r .rest .end + frameLen f) (omega (arith, length-encode f))) (programs (r .rest .block) (r .rest .end) (encode f));
+          rw (le-ltb (sizeOf N img) (r .rest .end + frameLen (x .edition) f) (omega (arith, length-encode (x .edition) f)))
+          (programs (r .rest .block) (r .rest .end) (encode (x .edition) f));
       moves = λ N j img r x f e h.
           let st : State = replayOf x in
           let k : ℕ = nextBlock N (r .rest .block) in
-          let o : ℕ = 16 + length (encodeAll (framesOf st)) in
-          let xs : List Step = appendPlan k (claimed st) f in
-          let c : claimed st ≡ o = omega (arith, frames-total st, length-all (framesOf st)) in
-          let p : Programs k o (encode f) xs = subst (λ (n : ℕ). Programs k n (encode f) xs) c (programs k (claimed st) (encode f)) in (
+          let o : ℕ = 16 + length (encodeAll (x .edition) (framesOf st)) in
+          let xs : List Step = appendPlan (x .edition) k (claimedOf x) f in
+          let c : claimedOf x ≡ o = omega (arith, frames-total (x .edition) st, length-all (x .edition) (framesOf st)) in
+          let p : Programs k o (encode (x .edition) f) xs =
+          subst (λ (n : ℕ). Programs k n (encode (x .edition) f) xs) c (programs k (claimedOf x) (encode (x .edition) f)) in (
             xs,
-            rw (lt-ltb (sizeOf N img) (r .rest .end + frameLen f) (omega (arith, length-encode f))) refl,
-            subst (λ (n : ℕ). Programs n o (encode f) xs) (next-of e) p,
+            rw (lt-ltb (sizeOf N img) (r .rest .end + frameLen (x .edition) f) (omega (arith, length-encode (x .edition) f))) refl,
+            subst (λ (n : ℕ). Programs n o (encode (x .edition) f) xs) (next-of e) p,
           );
+    }
+
+-- ---- convert
+
+pub convert-exact : ConvertExact
+unfolding TransferExact
+convert-exact =
+    record {
+      steps = λ N j img r x e h. transfer-exact edition.Second N (r .rest .block) j x (settledOnly (replayOf x)) e h;
+      work = λ N img r x. refl;
+      count = λ N img r x.
+          length-transfer edition.Second (nextBlock N (r .rest .block)) (r .rest .block) x (settledOnly (replayOf x))
+          ∙ claimed-settled edition.Second (replayOf x) ∙ used-exact .used-is edition.Second (replayOf x);
+      last = λ N j img r x e. ap₂ (λ (k n : ℕ). idle (landing (r .rest) 2 k n)) (next-of e) (used-exact .used-is edition.Second (replayOf x));
     }
 
 -- ---- mount

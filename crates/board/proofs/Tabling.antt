@@ -1,49 +1,50 @@
 -- The machine refuses exactly as the table's lines say.
-use mathlib.Core.Path.{_≡_, refl, sym, ap, ap₂, subst, _∙_}
-use mathlib.Core.List.{List, [], _∷_}
-use mathlib.Core.Logic.{_⊎_, _↔_, inl, inr}
+use mathlib.Core.Path.{_≡_, refl, sym, ap, ap₂, _∙_}
+use mathlib.Core.List.{List, [], _∷_, _++_}
+use mathlib.Core.Logic.{_↔_}
 use mathlib.Core.Option.{Option, none, some}
-use mathlib.Core.Bool.{Bool, true, false, _&&_, not}
-use Prim.Native.Nat.{ℕ, suc, _+_, _≤_, _<_}
+use mathlib.Core.Bool.{true, not}
+use Prim.Native.Nat.{ℕ, _+_, _<_}
 use native.Mathlib.Omega.{arith}
-use lib.Dec.{eqb, ltb, leb}
+use lib.Dec.{eqb, ltb}
 use lib.ListN.{length}
-use borrow.Author.Tests.{eqb-true, eqb-false, eq-eqb, leb-true, leb-false, ltb-true, ltb-false, lt-ltb}
+use borrow.Author.Tests.{eqb-true, eq-eqb, ltb-true, lt-ltb}
 use Rattle.flash.specs.Bytes.{Bytes}
-use Rattle.flash.specs.Flash.{maxBlocks, sizeIn, isCount, Step, sizeOf, blockOf, offsetOf, within}
+use Rattle.flash.specs.Flash.{sizeIn}
 use Rattle.flash.proofs.Cases.{on-test, clash, and-both, and-left, and-right}
+use Rattle.frame.specs.declared.Edition.the-variants as edition
 use Rattle.frame.specs.declared.Host.{Host}
-use Rattle.frame.specs.Frame.{Frame, frameLen, hostMax, put, delete}
-use Rattle.journal.specs.Replay.{lookup}
+use Rattle.frame.specs.Frame.{frameLen, hostMax, put, delete, Change}
+use Rattle.journal.specs.Replay.{lookup, Entry, entry}
 use Rattle.journal.specs.Block.{Journal, lastTime}
-use Rattle.journal.specs.Room.{noRoom}
-use Rattle.journal.proofs.ReplayLaws.{pending-exact}
+use Rattle.journal.specs.Room.{noRoom, openHosts}
+use Rattle.journal.proofs.ReplayLaws.{pending-exact, used-exact}
 use Rattle.wire.specs.declared.Refusal.the-variants as refusal
 use Rattle.wire.specs.declared.Request.{Request}
-use Rattle.wire.specs.declared.Request.the-variants.{Put, Delete, Commit, Abort, Read, Log}
+use Rattle.wire.specs.declared.Request.the-variants.{Put, Delete, Commit, Abort, Read, Log, Convert}
 use Rattle.wire.specs.declared.Parsed.{Parsed}
 use Rattle.wire.specs.declared.Parsed.the-variants.{Is, Malformed}
 use Rattle.wire.specs.Message.{parse, pageLen, valueIn}
-use Rattle.board.specs.declared.Stage.{Stage}
+use Rattle.wire.specs.Sentences.{Means, MessagesExact, MalformedExact}
+use Rattle.wire.proofs.Sentences.{messages-exact, malformed-exact}
 use Rattle.board.specs.declared.Phase.{Phase}
 use Rattle.board.specs.declared.Phase.the-variants.{Unmounted, Idle, Busy}
 use Rattle.board.specs.declared.Record.{Record}
 use Rattle.board.specs.Record.{allowed}
-use Rattle.board.specs.Step.{sameShape, action}
-use Rattle.board.specs.Mount.{replayOf}
+use Rattle.board.specs.Mount.{replayOf, claimedOf}
 use Rattle.board.specs.Queue.{Asking, heldFor, movesFor, sizeFor, requestOn}
 use Rattle.board.specs.Exec.{request, step, format, exec}
-use Rattle.board.specs.Table.{isBusy, isNone, frameFor, Line, line, Exactly, Allowed, InJob, Fresh, FreshFor, FreshExact, NoObject, HostFull}
-use Rattle.board.specs.Table.{put-over, delete-over}
-use Rattle.board.specs.Table.{ShortReply, NoRoom, for-put, for-delete, Worn, requestLines, Outside, Misplaced, linesOf}
-use Rattle.wire.specs.Sentences.{Means, MessagesExact, MalformedExact}
+use Rattle.board.specs.Table.{isBusy, isNone, Task, idles, appends, converts, taskFor, Line, line, Exactly, Allowed, InJob, Fresh, FreshFor, FreshExact}
+use Rattle.board.specs.Table.{NoObject, HostFull, put-over, delete-over, ShortReply, NoRoom, for-put, for-delete, for-convert, StillPending, Worn}
+use Rattle.board.specs.Table.{requestLines, linesOf, Moves}
 use Rattle.board.proofs.Checks.{check, isUnmounted, isMalformed, noObject, shortReply, noRoomFor, worn, laterChecks, hostFullFor}
-use Rattle.board.proofs.Checks.{heldChecks, requestChecks, outside}
-use Rattle.wire.proofs.Sentences.{messages-exact, malformed-exact}
-use Rattle.board.proofs.Lines.{Tests, Rows, end, row, exactly, false-true}
+use Rattle.board.proofs.Checks.{heldChecks, requestChecks, isSome, pendingRule}
+use Rattle.board.proofs.Lines.{Tests, Rows, end, row, exactly, false-true, not-yes, not-no, not-not}
+use Rattle.board.proofs.TablingSteps.{step-test}
 use Rattle.board.proofs.Images.{AllowedAs, allowed-tests, allowed-from}
 use Rattle.board.proofs.Freshness.{fresh-exact}
 use Rattle.board.proofs.Refusals.{refused-by-table}
+use Rattle.board.proofs.Editions.{put-sum, delete-sum}
 
 -- ---- 4, 10, 5, 2
 
@@ -65,18 +66,6 @@ is-allowed N n y = allowed-from N n (y .size) (y .at-least) (y .at-most) (y .lon
 
 pub allowed-not : (N n : ℕ) → ((Allowed N n → ⊥) → ⊥) → allowed N n ≡ true
 allowed-not N n f = on-test (allowed N n) (λ t. t) (λ t. absurd (f (λ y. clash (allowed N n) (is-allowed N n y) t)))
-
-not-yes : (b : Bool) → not b ≡ true → b ≡ true → ⊥
-not-yes true e f = false-true e
-not-yes false e f = false-true f
-
-not-no : (b : Bool) → (b ≡ true → ⊥) → not b ≡ true
-not-no true f = absurd (f refl)
-not-no false f = refl
-
-pub not-not : (b : Bool) → not b ≡ false → b ≡ true
-not-not true e = refl
-not-not false e = false-true (sym e)
 
 length-test : (N n : ℕ) → Tests (not (allowed N n)) (Allowed N n → ⊥)
 length-test N n =
@@ -155,6 +144,7 @@ module _ (a : Asking) (by : Bytes (a .image)) (ok : allowed (a .blocks) (length 
         there (Read i) k t =
             record { holding = x; id = i; is-held = fresh; is-asked = k; none-there = lacks (lookup i (replayOf x .objects)) t }
         there (Log p) k t = false-true t
+        there Convert k t = false-true t
 
     short-test : Tests (shortReply a q) (ShortReply a)
     short-test =
@@ -170,82 +160,130 @@ module _ (a : Asking) (by : Bytes (a .image)) (ok : allowed (a .blocks) (length 
         there Abort k t = false-true t
         there (Read i) k t = false-true t
         there (Log p) k t = record { page = p; is-asked = k; short = ltb-true (length (a .reply)) pageLen t }
+        there Convert k t = false-true t
+
+    pending-test : Tests (pendingRule x q) (StillPending a)
+    pending-test =
+        record {
+          yes = λ t. there q means t;
+          no = λ y.
+              ap₂ pendingRule (same-for x (y .holding) fresh (y .is-held)) (same-request (a .message) q Convert means (y .is-asked))
+              ∙ some-there (replayOf (y .holding) .pending) (y .some-pending);
+        }
+      where
+        some-there : (es : List Entry) → (es ≡ [] → ⊥) → isSome es ≡ true
+        some-there [] n = absurd (n refl)
+        some-there (e ∷ es) n = refl
+
+        there : (s : Request) → Means (a .message) s → pendingRule x s ≡ true → StillPending a
+        there (Put i) k t = false-true t
+        there (Delete i) k t = false-true t
+        there Commit k t = false-true t
+        there Abort k t = false-true t
+        there (Read i) k t = false-true t
+        there (Log p) k t = false-true t
+        there Convert k t =
+            record { holding = x; is-held = fresh; is-asked = k; some-pending = λ e. false-true (sym (ap isSome e) ∙ t) }
 
     room-test : Tests (noRoomFor a x q) (NoRoom a)
     unfolding noRoom
     room-test = record { yes = λ t. full q means t; no = λ y. asks y }
       where
+        opens : Journal → Change → ℕ
+        opens w c = openHosts (replayOf w .pending ++ (entry (a .host) c ∷ []))
+
+        v : List ℕ
+        v = valueIn (a .message)
+
         full : (s : Request) → Means (a .message) s → noRoomFor a x s ≡ true → NoRoom a
-        full (Put i) k t = for-put x i fresh k (omega (arith, ltb-true (sizeFor a) _ t))
-        full (Delete i) k t = for-delete x i fresh k (omega (arith, ltb-true (sizeFor a) _ t))
+        full (Put i) k t =
+            for-put x i fresh k (omega (arith, ltb-true (sizeFor a) _ t, put-sum (x .edition) (a .host) i v (claimedOf x) (opens x (put i v))))
+        full (Delete i) k t =
+            for-delete x i fresh k (omega (arith, ltb-true (sizeFor a) _ t, delete-sum (x .edition) (a .host) i (claimedOf x) (opens x (delete i))))
         full Commit k t = false-true t
         full Abort k t = false-true t
         full (Read i) k t = false-true t
         full (Log p) k t = false-true t
+        full Convert k t = for-convert x fresh k (omega (arith, ltb-true (sizeFor a) _ t, used-exact .used-is edition.Second (replayOf x)))
 
         asks : NoRoom a → noRoomFor a x q ≡ true
         asks (for-put y i f k l) =
-            ap₂ (noRoomFor a) (same-for x y fresh f) (same-request (a .message) q (Put i) means k) ∙ lt-ltb (sizeFor a) _ (omega arith)
+            ap₂ (noRoomFor a) (same-for x y fresh f) (same-request (a .message) q (Put i) means k)
+            ∙ lt-ltb (sizeFor a) _ (omega (arith, l, put-sum (y .edition) (a .host) i v (claimedOf y) (opens y (put i v))))
         asks (for-delete y i f k l) =
-            ap₂ (noRoomFor a) (same-for x y fresh f) (same-request (a .message) q (Delete i) means k) ∙ lt-ltb (sizeFor a) _ (omega arith)
+            ap₂ (noRoomFor a) (same-for x y fresh f) (same-request (a .message) q (Delete i) means k)
+            ∙ lt-ltb (sizeFor a) _ (omega (arith, l, delete-sum (y .edition) (a .host) i (claimedOf y) (opens y (delete i))))
+        asks (for-convert y f k l) =
+            ap₂ (noRoomFor a) (same-for x y fresh f) (same-request (a .message) q Convert means k)
+            ∙ lt-ltb (sizeFor a) _ (omega (arith, l, used-exact .used-is edition.Second (replayOf y)))
 
     share-test : Tests (hostFullFor a x q) (HostFull a)
     share-test = record { yes = λ t. over q means t; no = λ y. asks y }
       where
         over : (s : Request) → Means (a .message) s → hostFullFor a x s ≡ true → HostFull a
-        over (Put i) k t = put-over x i fresh k (pending-exact .full-is (sizeFor a) (x .frames) (a .host) (put i (valueIn (a .message))) .0 t)
-        over (Delete i) k t = delete-over x i fresh k (pending-exact .full-is (sizeFor a) (x .frames) (a .host) (delete i) .0 t)
+        over (Put i) k t = put-over x i fresh k (pending-exact .full-is (x .edition) (sizeFor a) (x .frames) (a .host) (put i (valueIn (a .message))) .0 t)
+        over (Delete i) k t = delete-over x i fresh k (pending-exact .full-is (x .edition) (sizeFor a) (x .frames) (a .host) (delete i) .0 t)
         over Commit k t = false-true t
         over Abort k t = false-true t
         over (Read i) k t = false-true t
         over (Log p) k t = false-true t
+        over Convert k t = false-true t
 
         asks : HostFull a → hostFullFor a x q ≡ true
         asks (put-over y i f k l) =
             ap₂ (hostFullFor a) (same-for x y fresh f) (same-request (a .message) q (Put i) means k)
-            ∙ pending-exact .full-is (sizeFor a) (y .frames) (a .host) (put i (valueIn (a .message))) .1 l
+            ∙ pending-exact .full-is (y .edition) (sizeFor a) (y .frames) (a .host) (put i (valueIn (a .message))) .1 l
         asks (delete-over y i f k l) =
             ap₂ (hostFullFor a) (same-for x y fresh f) (same-request (a .message) q (Delete i) means k)
-            ∙ pending-exact .full-is (sizeFor a) (y .frames) (a .host) (delete i) .1 l
+            ∙ pending-exact .full-is (y .edition) (sizeFor a) (y .frames) (a .host) (delete i) .1 l
 
-    worn-test : Tests (worn a x (frameFor (a .host) (a .message) x q)) (Worn a)
-    worn-test = record { yes = λ t. over (frameFor (a .host) (a .message) x q) refl t; no = λ y. due y }
+    worn-test : Tests (worn a x (taskFor (a .host) (a .message) x q)) (Worn a)
+    worn-test =
+        record {
+          yes = λ t.
+              record {
+                holding = x;
+                asked = q;
+                is-held = fresh;
+                is-asked = means;
+                moves = over (taskFor (a .host) (a .message) x q) t;
+                last-time = eqb-true (x .time) lastTime (last (taskFor (a .host) (a .message) x q) t);
+              };
+          no = λ y.
+              ap₂ (λ (z : Journal) (s : Request). worn a z (taskFor (a .host) (a .message) z s)) (same-for x (y .holding) fresh (y .is-held))
+              (same-request (a .message) q (y .asked) means (y .is-asked))
+              ∙ due (y .holding) (taskFor (a .host) (a .message) (y .holding) (y .asked)) (y .moves) (eq-eqb (y .holding .time) lastTime (y .last-time));
+        }
       where
-        over : (f : Option Frame) → frameFor (a .host) (a .message) x q ≡ f → worn a x f ≡ true → Worn a
-        over none e t = false-true t
-        over (some f) e t =
-            record {
-              holding = x;
-              asked = q;
-              frame = f;
-              is-held = fresh;
-              is-asked = means;
-              is-frame = e;
-              exceeds = ltb-true (sizeFor a) (a .board .rest .end + frameLen f) (and-left (movesFor a f) (eqb (x .time) lastTime) t);
-              last-time = eqb-true (x .time) lastTime (and-right (movesFor a f) (eqb (x .time) lastTime) t);
-            }
+        over : (t : Task) → worn a x t ≡ true → Moves a x t
+        over idles e = false-true e
+        over (appends f) e = ltb-true (sizeFor a) (a .board .rest .end + frameLen (x .edition) f) (and-left (movesFor a x f) (eqb (x .time) lastTime) e)
+        over converts e = tt
 
-        due : Worn a → worn a x (frameFor (a .host) (a .message) x q) ≡ true
-        due y =
-            ap₂ (λ (z : Journal) (s : Request). worn a z (frameFor (a .host) (a .message) z s)) (same-for x (y .holding) fresh (y .is-held))
-            (same-request (a .message) q (y .asked) means (y .is-asked))
-            ∙ ap (worn a (y .holding)) (y .is-frame)
-            ∙ and-both (movesFor a (y .frame)) (eqb (y .holding .time) lastTime)
-            (lt-ltb (sizeFor a) (a .board .rest .end + frameLen (y .frame)) (y .exceeds))
-            (eq-eqb (y .holding .time) lastTime (y .last-time))
+        last : (t : Task) → worn a x t ≡ true → eqb (x .time) lastTime ≡ true
+        last idles e = false-true e
+        last (appends f) e = and-right (movesFor a x f) (eqb (x .time) lastTime) e
+        last converts e = e
+
+        due : (w : Journal) (t : Task) → Moves a w t → eqb (w .time) lastTime ≡ true → worn a w t ≡ true
+        due w idles m e = absurd m
+        due w (appends f) m e =
+            and-both (movesFor a w f) (eqb (w .time) lastTime) (lt-ltb (sizeFor a) (a .board .rest .end + frameLen (w .edition) f) m) e
+        due w converts m e = e
 
     held-rows : Rows (heldChecks a x q)
-        (line 8 (NoObject a) ∷ line 9 (ShortReply a) ∷ line 12 (HostFull a) ∷ line 7 (NoRoom a) ∷ line 6 (Worn a) ∷ [])
+        (line 8 (NoObject a) ∷ line 9 (ShortReply a) ∷ line 16 (StillPending a) ∷ line 12 (HostFull a) ∷ line 7 (NoRoom a) ∷ line 6 (Worn a) ∷ [])
     held-rows =
         row refusal.NoObject object-test (λ _.
         row refusal.ShortReply short-test (λ _.
+        row refusal.Pending pending-test (λ _.
         row refusal.HostFull share-test (λ _.
         row refusal.NoRoom room-test (λ _.
-        row refusal.Worn worn-test (λ _. end)))))
+        row refusal.Worn worn-test (λ _. end))))))
 
   abbrev lastLines : List Line
   lastLines =
-      line 1 ((q : Request) → Means (a .message) q → ⊥) ∷ line 8 (NoObject a) ∷ line 9 (ShortReply a) ∷ line 12 (HostFull a)
+      line 1 ((q : Request) → Means (a .message) q → ⊥) ∷ line 8 (NoObject a) ∷ line 9 (ShortReply a) ∷ line 16 (StillPending a) ∷ line 12 (HostFull a)
       ∷ line 7 (NoRoom a) ∷ line 6 (Worn a) ∷ []
 
   parsed-rows : (x : Journal) → FreshFor a x → (p : Parsed) → parse (a .message) ≡ p
@@ -268,87 +306,7 @@ request-rows a by =
     row refusal.NoStore (unmounted-test (a .board .phase)) (λ _.
     stale-rows a by (not-not (allowed (a .blocks) (length (a .image))) n) (heldFor a) refl))))
 
--- ---- steps and formats
-
-step-test : {N : ℕ} (img : List ℕ) (r : Record) (p : Phase) → r .phase ≡ p → Tests (outside N p img r) (Misplaced N img r)
-step-test img r Unmounted e =
-    record { yes = λ t. false-true t; no = λ y. false-true (ap isBusy (sym e ∙ y .is-busy)) }
-step-test img r Idle e =
-    record { yes = λ t. false-true t; no = λ y. false-true (ap isBusy (sym e ∙ y .is-busy)) }
-step-test {N} img r (Busy s) e = record { yes = λ t. record { stage = s; is-busy = e; misfits = misfit t }; no = λ y. not-no fits (λ t. hit (at-stage y) t) }
-  where
-    x : Step
-    x = action s r
-
-    shape : Bool
-    shape = sameShape N (length img) r
-
-    long : Bool
-    long = eqb (length img) (suc (r .rest .last))
-
-    same : Bool
-    same = eqb N (r .rest .blocks)
-
-    there : Bool
-    there = ltb (blockOf x) N
-
-    inside : Bool
-    inside = ltb (offsetOf x) (sizeOf N img)
-
-    fits : Bool
-    fits = shape && within N (sizeOf N img) x
-
-    Misfit : Stage → Type 0
-    Misfit g = (length img ≡ suc (r .rest .last) → ⊥) ⊎ ((N ≡ r .rest .blocks → ⊥) ⊎ Outside N img (action g r))
-
-    no-count : isCount N ≡ false → Outside N img x
-    no-count c =
-        on-test (leb 2 N)
-        (λ a. on-test (leb N maxBlocks) (λ b. clash (isCount N) (and-both (leb 2 N) (leb N maxBlocks) a b) c)
-        (λ b. inr (inl (leb-false N maxBlocks b))))
-        (λ a. inl (leb-false 2 N a))
-
-    misfit : not fits ≡ true → Misfit s
-    misfit t =
-        on-test long
-        (λ a.
-        on-test same
-        (λ b.
-        on-test (isCount N)
-        (λ c.
-        on-test there
-        (λ d.
-        on-test inside
-        (λ e.
-        absurd (not-yes fits t (and-both shape (within N (sizeOf N img) x) (and-both long same a b)
-        (and-both (isCount N) (there && inside) c (and-both there inside d e)))))
-        (λ e. inr (inr (inr (inr (inr (ltb-false (offsetOf x) (sizeOf N img) e)))))))
-        (λ d. inr (inr (inr (inr (inl (ltb-false (blockOf x) N d)))))))
-        (λ c. inr (inr (no-count c))))
-        (λ b. inr (inl (eqb-false N (r .rest .blocks) b))))
-        (λ a. inl (eqb-false (length img) (suc (r .rest .last)) a))
-
-    same-stage : {a b : Stage} → Busy a ≡ Busy b → a ≡ b
-    same-stage q = cc
-
-    at-stage : Misplaced N img r → Misfit s
-    at-stage y = subst Misfit (same-stage (sym (y .is-busy) ∙ e)) (y .misfits)
-
-    hit : Misfit s → fits ≡ true → ⊥
-    hit (inl f) t = f (eqb-true (length img) (suc (r .rest .last)) (and-left long same (and-left shape (within N (sizeOf N img) x) t)))
-    hit (inr (inl f)) t = f (eqb-true N (r .rest .blocks) (and-right long same (and-left shape (within N (sizeOf N img) x) t)))
-    hit (inr (inr o)) t =
-        let w : within N (sizeOf N img) x ≡ true = and-right shape (within N (sizeOf N img) x) t in
-        let c : isCount N ≡ true = and-left (isCount N) (there && inside) w in
-        let d : (there && inside) ≡ true = and-right (isCount N) (there && inside) w in
-        out-hit o (leb-true 2 N (and-left (leb 2 N) (leb N maxBlocks) c)) (leb-true N maxBlocks (and-right (leb 2 N) (leb N maxBlocks) c))
-        (ltb-true (blockOf x) N (and-left there inside d)) (ltb-true (offsetOf x) (sizeOf N img) (and-right there inside d))
-      where
-        out-hit : Outside N img x → 2 ≤ N → N ≤ 16 → blockOf x < N → offsetOf x < sizeOf N img → ⊥
-        out-hit (inl l) a b c d = omega arith
-        out-hit (inr (inl l)) a b c d = omega arith
-        out-hit (inr (inr (inl l))) a b c d = omega arith
-        out-hit (inr (inr (inr l))) a b c d = omega arith
+-- ---- the lines
 
 pub request-lines : (a : Asking) → Bytes (a .image) → Exactly (requestLines a) (requestOn a .answer)
 request-lines a by =

@@ -21,7 +21,7 @@ use Rattle.board.specs.declared.Stage.the-variants.{Wipe, Open, Copy, Se
 use Rattle.board.specs.declared.Phase.{Phase}
 use Rattle.board.specs.declared.Phase.the-variants.{Unmounted, Idle, Busy}
 use Rattle.board.specs.declared.Record.{Record}
-use Rattle.board.specs.Record.{allowed, idle, inStage, noStretch, Out, out, refuse, answerIn, answerOf}
+use Rattle.board.specs.Record.{allowed, idle, inStage, noStretch, Out, out, refuse, answerIn, answerOf, readsIn}
 use Rattle.board.specs.Step.{sameShape, enter, landed, loadOr, enterAppend, enterDrop, enterCopy, enterOpen, enterWipe, action, nextIndex}
 use Rattle.board.specs.Step.{nextByte, pastFrame, advance, stepOn}
 use Rattle.board.specs.Mount.{allFound, Store, stores, equalTimes, newest, upkeep, transfers, wipeList, mountJob, timeOf}
@@ -32,10 +32,9 @@ use Rattle.board.specs.Demand1.{Rests}
 use Rattle.board.specs.Demand2.{Accepted}
 use Rattle.board.specs.Table.{InJob}
 use Rattle.board.specs.Promise.{NoStep, Tells, Silent}
-use Rattle.board.proofs.Outcomes.{request-length, request-host, request-in, mount-length}
-use Rattle.board.proofs.Outcomes.{mount-none, mount-equal, mount-at, mount-worn, mount-begins, format-length, format-begins}
-use Rattle.board.proofs.Outcomes.{step-resting, step-outside, step-goes}
-use Rattle.board.proofs.Planning.{Met, refused, done, begun, request-met}
+use Rattle.board.proofs.Outcomes.{request-length, request-host, request-in, mount-length, mount-none, mount-equal, mount-at, mount-worn, mount-begins}
+use Rattle.board.proofs.Outcomes.{format-length, format-begins, step-resting, step-outside, step-goes}
+use Rattle.board.proofs.Planning.{Met, refused, done, begun, converting, request-met}
 
 -- ---- a job leads to a record that is mounted
 
@@ -66,7 +65,8 @@ up-load r (some u) = tt
 up-copy : (N : ℕ) (img : List ℕ) (r : Record) → Up (enterCopy N img r)
 unfolding enterCopy
 up-copy N img r =
-    up-load r (nextLoad (block (sizeOf N img) (r .rest .block) img) (r .rest .end) (r .places) (r .job .since) (r .cursor .id) (r .cursor .source))
+    up-load r
+    (nextLoad (readsIn r) (block (sizeOf N img) (r .rest .block) img) (r .rest .end) (r .places) (r .job .since) (r .cursor .id) (r .cursor .source))
 
 up-open : (r : Record) → Up (enterOpen r)
 unfolding enterOpen
@@ -197,6 +197,7 @@ request-told a t = go (request-met a) (a .board .phase) refl
     go : Met a o → (p : Phase) → a .board .phase ≡ p → Tells o
     go (refused n e) p q = turned n e
     go (begun y e) p q = tells-begun (a .image) (a .reply) _ (up-wipe _) e
+    go (converting y e) p q = tells-begun (a .image) (a .reply) _ (up-wipe _) e
     go (done d i b) (Busy s) q = past (λ ok k. turned refusal.Busy (request-in a ok k q))
     go (done d i b) Unmounted q = past (λ ok k. turned refusal.NoStore (request-in a ok k q))
     go (done d i b) Idle q = tells-of o Idle (ap (λ (x : Record). x .phase) b ∙ q) d tt

@@ -15,7 +15,7 @@ use Rattle.flash.specs.Bytes.{Bytes}
 use Rattle.flash.specs.Flash.{Step, applyAll, block, sizeOf}
 use Rattle.flash.proofs.Cases.{on-test}
 use Rattle.frame.specs.declared.Host.{Host}
-use Rattle.frame.specs.Frame.{Frame, Change}
+use Rattle.frame.specs.Frame.{Change}
 use Rattle.journal.specs.Replay.{Object, State, changeAll}
 use Rattle.journal.specs.Block.{Journal, blockState}
 use Rattle.wire.specs.declared.Answer.{Answer}
@@ -31,22 +31,21 @@ use Rattle.board.specs.Record.{allowed, Out, out, Accepted}
 use Rattle.board.specs.Mount.{Store, replayOf}
 use Rattle.board.specs.Queue.{asking}
 use Rattle.board.specs.Exec.{Machine, Call, request, step, mount, format}
-use Rattle.board.specs.Plan.{Work, mountWork, frameWork}
-use Rattle.board.specs.Table.{frameFor, Fresh}
+use Rattle.board.specs.Plan.{Work, mountWork, frameWork, convertWork}
+use Rattle.board.specs.Table.{Task, idles, appends, converts, taskFor, Fresh}
 use Rattle.board.specs.Demand1.{Unchanged, Rests}
 use Rattle.board.specs.Demand2.{Mounts, OneStore}
 use Rattle.board.specs.Book.{Book, book, nothing, noLists, withList, firstBook, enterStep, enterRequest, enterParsed}
 use Rattle.board.specs.Book as books
-use Rattle.board.specs.Claim.{IdleAgrees, AgreesIn, Agrees, track, Event, call, stepsOn, formatted, HappensFrom, Claim}
+use Rattle.board.specs.Claim.{IdleAgrees, AgreesIn, Agrees, track, Event, call, stepsOn, formatted, HappensFrom, Claim, Track, tracked}
 use Rattle.board.specs.CutFormat.{Left, afterAll, leftBy}
 use Rattle.wire.specs.Sentences.{Means, MessagesExact}
-use Rattle.board.specs.Promise.{Answers, Serves, Job, frame-job, mount-job, StepsOf, Calls, Promise, Shown}
+use Rattle.board.specs.Promise.{Answers, Serves, Job, frame-job, mount-job, StepsOf, Calls, Promise, Shown, convert-job}
 use Rattle.board.specs.Tickets.{outcomes, strike, IsRefused, MarksRefused, Restores, committing, TicketsSettled}
 use Rattle.wire.proofs.Sentences.{messages-exact}
 use Rattle.board.proofs.Erasing.{same-valid}
 use Rattle.board.proofs.Images.{length-all-steps, bytes-all-steps}
 use Rattle.board.proofs.Freshness.{fresh-valid}
-use Rattle.board.proofs.Demand2.{one-store}
 use Rattle.board.proofs.Answering.{number-done}
 use Rattle.board.proofs.TablingMounts.{Mountable, mounts-current, same-store}
 use Rattle.board.proofs.Determining.{mounted-idle, job-idle, Asked, request-asks, mount-takes, mount-allowed, mount-agrees}
@@ -180,7 +179,7 @@ plan-book {N} {m} p i o (x ∷ xs) z st e a b h k =
 
 book-steps : {N : ℕ} {m : Machine} (p : Promise N m) (i : List ℕ) → Bytes i → (w : Record) (h : Host) (msg reply : List ℕ) → Bytes msg
     → m i w (request h msg reply) .answer ≡ More → (b : Book) (k : ℕ) → BookSteps N m (m i w (request h msg reply)) b h k
-book-steps {N} {m} p i bi w h msg reply bm e b k = go (frameFor h msg x q) refl (serves .answers)
+book-steps {N} {m} p i bi w h msg reply bm e b k = go (taskFor h msg x q) refl (serves .answers)
   where
     o : Out
     o = m i w (request h msg reply)
@@ -200,18 +199,22 @@ book-steps {N} {m} p i bi w h msg reply bm e b k = go (frameFor h msg x q) refl 
     serves : Serves (asking N i w h msg reply) x q o
     serves = p .calls .serves i w h msg reply x q bi bm (y .is-held) (y .is-asked) taken
 
-    go : (f : Option Frame) → frameFor h msg x q ≡ f → Answers f w o → BookSteps N m o b h k
-    go none g a = done-more (o .answer) (a .0) e
-    go (some f) g a =
+    go : (f : Task) → taskFor h msg x q ≡ f → Answers f w o → BookSteps N m o b h k
+    go idles g a = done-more (o .answer) (a .0) e
+    go (appends f) g a =
         let v : Work = frameWork N i w x f in
         let job : Job N i w (request h msg reply) v = frame-job h msg reply x q f (y .is-held) (y .is-asked) g in
+        plan-book (p .calls) i o (v .steps) (v .last) (p .steps i w (request h msg reply) v bi bm job taken) (job-idle job) e b h k
+    go converts g a =
+        let v : Work = convertWork N i w x in
+        let job : Job N i w (request h msg reply) v = convert-job h msg reply x q (y .is-held) (y .is-asked) g in
         plan-book (p .calls) i o (v .steps) (v .last) (p .steps i w (request h msg reply) v bi bm job taken) (job-idle job) e b h k
 
 -- ---- 2
 
 -- a mount of image i, whose steps leave a record that agrees with the objects os
 module _ {N : ℕ} {m : Machine} (p : Promise N m) (i : List ℕ) (bi : Bytes i) (w : Record) (os : List Object)
-    (agrees : (n : ℕ) → let o : Out = stepsOn m n (m i w mount) in Agrees N m mount (o .image) (o .board) (book os noLists nothing))
+    (agrees : (n : ℕ) → let o : Out = stepsOn m n (m i w mount) in (u : Track) × Agrees N m mount u (o .image) (o .board) (book os noLists nothing))
     (q : Record) (a : Accepted (m i q mount .answer)) where
   store : Mountable N i
   store = mount-takes (p .calls) i bi q a
@@ -243,12 +246,15 @@ module _ {N : ℕ} {m : Machine} (p : Promise N m) (i : List ℕ) (bi : Bytes i)
   accepted-too : Accepted (m i w mount .answer)
   accepted-too = subst Accepted (ap (λ (s : Shown). s .answer) (mount-agrees (p .calls) (p .calls) i bi q w .same)) a
 
-  idle-agrees : IdleAgrees N after z (book os noLists nothing)
+  abbrev known : Track
+  known = agrees (length plan) .0
+
+  idle-agrees : IdleAgrees N known after z (book os noLists nothing)
   idle-agrees =
-      subst (λ (h : Phase). AgreesIn N m mount h after z (book os noLists nothing))
+      subst (λ (h : Phase). AgreesIn N m mount known h after z (book os noLists nothing))
       (mounted-idle N i (store .store))
-      (subst₂ (λ (l : List ℕ) (v : Record). Agrees N m mount l v (book os noLists nothing)) (image-after w accepted-too) (steps w accepted-too .last)
-      (agrees (length plan)))
+      (subst₂ (λ (l : List ℕ) (v : Record). Agrees N m mount known l v (book os noLists nothing)) (image-after w accepted-too) (steps w accepted-too .last)
+      (agrees (length plan) .1))
 
   none-pending : replayOf (idle-agrees .journal) .pending ≡ []
   unfolding OneStore
@@ -283,7 +289,7 @@ module _ {N : ℕ} {m : Machine} (p : Promise N m) (img : List ℕ) (r : Record)
   -- a run that goes on with a mount and n of its steps
   mounted-agrees : (es : List Event) → HappensFrom N m img r es → (n : ℕ)
       → let x : Left = leftBy N m img r es in let o : Out = stepsOn m n (m (x .image) (x .board) mount) in
-      Agrees N m mount (o .image) (o .board) (book (x .book .objects) noLists nothing)
+      (u : Track) × Agrees N m mount u (o .image) (o .board) (book (x .book .objects) noLists nothing)
   unfolding Claim
   mounted-agrees es hs n =
       let x : Left = leftBy N m img r es in
@@ -292,9 +298,10 @@ module _ {N : ℕ} {m : Machine} (p : Promise N m) (img : List ℕ) (r : Record)
       let ds : List Event = call mount ∷ stepping n in
       let all : HappensFrom N m img r (es ++ ds) =
       happens-append N m (formatted N m img r .image) (formatted N m img r .board) firstBook es ds hs tt (tt, steps-happen N m n (o .image) (o .board) b) in
-      let y = run-rest N m (formatted N m img r .image) (formatted N m img r .board) firstBook false format es ds (p .claim img r by ok .3 (es ++ ds) all) in
-      subst (λ (l : Left). Agrees N m mount (l .image) (l .board) (l .book)) (quiet-steps N m n o (x .book .objects) noLists)
-      (steps-agree N m n (o .image) (o .board) b (track (y .0) (x .book) mount (o .answer)) mount (y .2 .1) (y .2 .2))
+      let y = run-rest N m (formatted N m img r .image) (formatted N m img r .board) firstBook (tracked false false) format es ds
+      (p .claim img r by ok .3 (es ++ ds) all) in
+      subst (λ (l : Left). (u : Track) × Agrees N m mount u (l .image) (l .board) (l .book)) (quiet-steps N m n o (x .book .objects) noLists)
+      (steps-agree N m n (o .image) (o .board) b (track (sizeOf N (x .image)) (y .0) (x .book) mount (o .answer)) mount (y .2 .1) (y .2 .2))
 
   restores : (es : List Event) → HappensFrom N m img r es → (q : Record) → let x : Left = leftBy N m img r es in
       Accepted (m (x .image) q mount .answer) → Restores N m (m (x .image) q mount) (x .book .objects)

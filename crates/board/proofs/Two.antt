@@ -98,13 +98,13 @@ frame-beside : (img : List ℕ) (r : Record) (x : Journal) (f : Frame) → r .re
 frame-beside img r x f h = ap₂ (λ (n k : ℕ). frameIn n k (counted (r .rest) x f) x f) (two-sizes img) (next-beside (r .rest .block) h)
 
 pub two-frame : (img : List ℕ) (r : Record) (x : Journal) (f : Frame) → r .rest .block < 2 → frameWork 2 img r x f .steps ≡ frameTwo img r x f .steps
-two-frame img r x f h = ap (λ (w : Work). w .steps) (frame-beside img r x f h) ∙ by (ltb (sizeTwo img) (r .rest .end + frameLen f))
+two-frame img r x f h = ap (λ (w : Work). w .steps) (frame-beside img r x f h) ∙ by (ltb (sizeTwo img) (r .rest .end + frameLen (x .edition) f))
   where
     z : Rest
-    z = counted (rest 2 (r .rest .last) (r .rest .block) (r .rest .end)) x f
+    z = counted (rest 2 (r .rest .last) (r .rest .block) (r .rest .end) (r .rest .edition)) x f
 
-    by : (b : Bool) → cond b (movedWork (beside (r .rest .block)) (counted (r .rest) x f) x f) (appendWork (counted (r .rest) x f) f) .steps
-        ≡ cond b (movedWork (beside (r .rest .block)) z x f) (appendWork z f) .steps
+    by : (b : Bool) → cond b (movedWork (beside (r .rest .block)) (counted (r .rest) x f) x f) (appendWork (x .edition) (counted (r .rest) x f) f) .steps
+        ≡ cond b (movedWork (beside (r .rest .block)) z x f) (appendWork (x .edition) z f) .steps
     by true = refl
     by false = refl
 
@@ -112,7 +112,8 @@ pub two-framed : (img : List ℕ) (r : Record) (x : Journal) (f : Frame) → r .
     → frameWork 2 img r x f .last ≡ frameTwo img r x f .last
 two-framed img r x f e h =
     ap (λ (w : Work). w .last) (frame-beside img r x f h)
-    ∙ ap (λ (n : ℕ). frameIn (sizeTwo img) (beside (r .rest .block)) (counted (rest n (r .rest .last) (r .rest .block) (r .rest .end)) x f) x f .last) e
+    ∙ ap (λ (n : ℕ). frameIn (sizeTwo img) (beside (r .rest .block))
+    (counted (rest n (r .rest .last) (r .rest .block) (r .rest .end) (r .rest .edition)) x f) x f .last) e
 
 -- ---- a step
 

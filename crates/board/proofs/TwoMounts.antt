@@ -20,9 +20,8 @@ use Rattle.board.specs.Record.{allowed, unmounted, Out, refuse}
 use Rattle.board.specs.Mount.{nextBlock, Found, allFound, isBlank, Store, stores, wipeList, moves, upkeepOf, transfers, mountAt, mountStores, mountOn}
 use Rattle.board.specs.Mount.{orderFor, formatOrder, formatOn}
 use Rattle.board.specs.Exec.{exec}
-use Rattle.board.specs.Plan.{Work, Performs, formatIn, formatWork, mountIn}
-use Rattle.board.specs.Two.{Choice, takes, refuses, allowedTwo, stateTwo, beside, chooseTwo, mountTwo}
-use Rattle.board.specs.Two.{lastTwo, formatTwo, TwoBlocks}
+use Rattle.board.specs.Plan.{Work, Performs, formatIn, formatWork, mountIn, convertIn}
+use Rattle.board.specs.Two.{Choice, takes, refuses, allowedTwo, stateTwo, beside, chooseTwo, mountTwo, lastTwo, formatTwo, TwoBlocks}
 use Rattle.board.proofs.Images.{Sized, sized-of}
 use Rattle.board.proofs.Blocks.{Besides, wiped-besides}
 use Rattle.board.proofs.Found.{found-all, store}
@@ -131,7 +130,7 @@ module _ (img : List ℕ) (t : allowedTwo (length img) ≡ true) where
     two-takes = mount-two ∙ chosen e .2
 
     -- the block that is taken holds its frames
-    two-journal : Bytes img → Standing (block (sizeOf 2 img) k img) (w .frames)
+    two-journal : Bytes img → Standing (w .edition) (block (sizeOf 2 img) k img) (w .frames)
     two-journal by =
         let s : ℕ = sizeOf 2 img in
         let z : Sized 2 s img = sized-of 2 img ok in
@@ -181,5 +180,6 @@ two-blocks =
       fresh = two-fresh;
       frame-steps = two-frame;
       frame-record = two-framed;
+      convert-work = λ img r x h. ap (λ (j : ℕ). convertIn j (r .rest) x) (next-beside (r .rest .block) h);
       steps = two-step;
     }

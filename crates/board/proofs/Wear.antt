@@ -3,13 +3,14 @@
 use mathlib.Core.Path.{_≡_, refl, sym, ap, subst, _∙_}
 use mathlib.Core.List.{List, [], _∷_, _++_, append-assoc}
 use mathlib.Core.Logic.{inl}
-use mathlib.Core.Option.{none}
 use mathlib.Core.Bool.{true, false}
 use Prim.Native.Nat.{ℕ, suc, _+_, _-_, _≤_, _<_}
 use native.Mathlib.Omega.{arith}
 use lib.Dec.{eqb, ltb}
 use lib.ListN.{length}
 use borrow.Author.Tests.{eqb-true, eqb-false, ltb-true, ltb-false, ne-eqb, eq-eqb}
+use Rattle.frame.specs.declared.Edition.{Edition}
+use Rattle.frame.specs.declared.Edition.the-variants as edition
 use Rattle.flash.specs.Bytes.{Bytes}
 use Rattle.flash.specs.Flash.{Step, program, erase, block, sizeOf, Write, writes}
 use Rattle.flash.proofs.Cases.{on-test}
@@ -25,7 +26,7 @@ use Rattle.board.specs.declared.Record.{Record}
 use Rattle.board.specs.Mount.{allFound, nextBlock, Upkeep, rests, moves, upkeep, Store, wipeList, storeAt, replayOf, claimedOf}
 use Rattle.board.specs.Exec.{Call, request, step, mount, format}
 use Rattle.board.specs.Plan.{onBlock, transferPlan, Work, upkeepWork, frameIn}
-use Rattle.board.specs.Promise.{Job, frame-job, mount-job, format-job}
+use Rattle.board.specs.Promise.{Job, frame-job, mount-job, format-job, convert-job}
 use Rattle.board.specs.Wear.{erasesOf, ErasesExact}
 use Rattle.board.specs.Queue.{counted}
 use Rattle.board.proofs.Lengths.{frame-cases}
@@ -144,24 +145,26 @@ module _ {N : ℕ} where
   leads-writes {b} j (w ∷ ws) l = ((b, l), leads-writes j ws (level-program j (w .at) (w .byte) l))
 
   -- a transfer ends with the erase of the block that it leaves
-  leads-transfer : {k : ℕ} {xs : List Step} (w : Journal) (st : State) → Level N xs k → Leads N xs (transferPlan N k w st) (nextBlock N k)
-  leads-transfer {k} w st l = leads-on (nextBlock N k) (nextBlock N k) (build (suc (w .time)) (framesOf st)) (erase k ∷ []) l (λ zs h. ((k, h), level-next h))
+  leads-transfer : {k : ℕ} {xs : List Step} (ed : Edition) (w : Journal) (st : State) → Level N xs k
+      → Leads N xs (transferPlan ed N k w st) (nextBlock N k)
+  leads-transfer {k} ed w st l = leads-on (nextBlock N k) (nextBlock N k) (build ed (suc (w .time)) (framesOf st))
+      (erase k ∷ []) l (λ zs h. ((k, h), level-next h))
 
   leads-frame : {xs : List Step} (s : ℕ) (z : Rest) (x : Journal) (f : Frame) → Level N xs (z .block)
       → WorkLeads N xs (frameIn s (nextBlock N (z .block)) z x f)
   leads-frame {xs} s z x f l =
       let k : ℕ = z .block in
       let j : ℕ = nextBlock N k in
-      let ws : List Write = build (suc (x .time)) (framesOf (replayOf x)) in
-      let us : List Write = writes (claimedOf x) (encode f) in
+      let ws : List Write = build (x .edition) (suc (x .time)) (framesOf (replayOf x)) in
+      let us : List Write = writes (claimedOf x) (encode (x .edition) f) in
       frame-cases (WorkLeads N xs) s j z x f
       (λ e. subst (λ (p : List Step). Leads N xs p j) (sym (append-assoc (onBlock j ws) (erase k ∷ []) (onBlock j us)))
       (leads-on j j ws (erase k ∷ onBlock j us) l (λ zs h. ((k, h), leads-writes j us (level-next h)))))
-      (λ e. leads-writes k (writes (z .end) (encode f)) l)
+      (λ e. leads-writes k (writes (z .end) (encode (x .edition) f)) l)
 
   leads-upkeep : {xs : List Step} (u : Upkeep) (n : ℕ) (x : Store) → Level N xs (x .number)
       → WorkLeads N xs (upkeepWork u (nextBlock N (x .number)) (storeAt N n x) x)
-  leads-upkeep moves n x l = leads-transfer (x .journal) (settledOnly (replayOf (x .journal))) l
+  leads-upkeep moves n x l = leads-transfer (x .journal .edition) (x .journal) (settledOnly (replayOf (x .journal))) l
   leads-upkeep rests n x l = l
 
 -- ---- the image between jobs
@@ -208,6 +211,8 @@ module _ {N s : ℕ} {img : List ℕ} {xs : List Step} (z : Sized N s img) (by :
   pub job-leads : {r : Record} {c : Call} {w : Work} → Begin c → Job N img r c w → WorkLeads N xs w
   job-leads {r} n (frame-job h msg reply x q f v k g) =
       leads-frame (sizeOf N img) (counted (r .rest) x f) x f (subst (Level N xs) (same-block (r .rest .block) (v .there) (v .is-valid)) (y .2))
+  job-leads {r} n (convert-job h msg reply x q v k g) =
+      leads-transfer edition.Second x (settledOnly (replayOf x)) (subst (Level N xs) (same-block (r .rest .block) (v .there) (v .is-valid)) (y .2))
   job-leads n (mount-job x v) =
       let e : y .0 .rest .block ≡ x .number = same-block (x .number) (v .is-valid .0) (v .is-valid .1) in
       rw (wipes-none (x .number) e)

@@ -1,14 +1,12 @@
 -- Erase counts in a run: every machine that keeps the promise does the steps of its jobs' plans one by one, so two blocks' counts differ by at most one.
 use mathlib.Core.Path.{_≡_, refl, sym, ap, subst, _∙_}
 use mathlib.Core.List.{List, [], _∷_, _++_, append-assoc, append-nil}
-use mathlib.Core.Option.{Option, none, some}
 use Prim.Native.Nat.{ℕ}
 use native.Mathlib.Omega.{arith}
 use lib.ListN.{length}
 use Rattle.flash.specs.Bytes.{Bytes}
 use Rattle.flash.specs.Flash.{Step, apply, applyAll, sizeOf}
 use Rattle.frame.specs.declared.Host.{Host}
-use Rattle.frame.specs.Frame.{Frame}
 use Rattle.journal.specs.Block.{Journal}
 use Rattle.wire.specs.declared.Answer.{Answer}
 use Rattle.wire.specs.declared.Answer.the-variants.{Done, More, Refused}
@@ -21,12 +19,12 @@ use Rattle.board.specs.Record.{Out, out, answerIn, answerOf}
 use Rattle.board.specs.Mount.{Store}
 use Rattle.board.specs.Queue.{asking}
 use Rattle.board.specs.Exec.{Machine, Call, request, step, mount, format, exec}
-use Rattle.board.specs.Plan.{frameWork, mountWork, formatWork, Follows}
-use Rattle.board.specs.Table.{frameFor}
+use Rattle.board.specs.Plan.{frameWork, mountWork, formatWork, Follows, convertWork}
+use Rattle.board.specs.Table.{Task, idles, appends, converts, taskFor}
 use Rattle.board.specs.Demand1.{Rests}
 use Rattle.board.specs.Demand2.{Accepted}
 use Rattle.board.specs.Claim.{ByteCall, formatted}
-use Rattle.board.specs.Promise.{NoStep, Calls, frame-job, mount-job, Answers, Serves, Shown}
+use Rattle.board.specs.Promise.{NoStep, Calls, frame-job, mount-job, Answers, Serves, Shown, convert-job}
 use Rattle.board.specs.Wear.{LeavesToDo, begins, goes-on, Does, imageAfter, madeIn, madeBy, stepsMade, erasesOf, Undisturbed, EvenWear}
 use Rattle.board.proofs.Images.{Sized, size-of, sized-of, sized-as, length-all-steps, bytes-all-steps}
 use Rattle.board.proofs.Invariant.{Ready, Sound}
@@ -36,7 +34,8 @@ use Rattle.board.proofs.Refusals.{at-most-one-step}
 use Rattle.board.proofs.Demand2.{Steady, steady-idle, request-kept, step-done, begun-kept}
 use Rattle.board.proofs.Claiming.{format-done}
 use Rattle.board.proofs.Answering.{number-done, told-answer, in-job}
-use Rattle.board.proofs.Determining.{Alike, resting, working, Agree, Asked, request-asks, mount-takes, while-busy, busy-refuses, call-agrees, job-idle}
+use Rattle.board.proofs.Alike.{Alike, resting, working, Agree}
+use Rattle.board.proofs.Determining.{Asked, request-asks, mount-takes, while-busy, busy-refuses, call-agrees, job-idle}
 use Rattle.board.proofs.TablingMounts.{Mountable}
 use Rattle.board.proofs.Following.{formatted-over}
 use Rattle.board.proofs.Promising.{calls}
@@ -143,7 +142,7 @@ module _ {N : ℕ} {m : Machine} (p : Calls N m) (img : List ℕ) (by : Bytes im
       go : (a : Answer) → m img q c .answer ≡ a → (after : List Step) × LeavesToDo N m img q [] c after
       go Done e = ([], goes-on (λ f. let w : Done ≡ More = sym e ∙ f in let z : _≡_ {A = ℕ} 0 1 = cc in omega arith))
       go (Refused n) e = ([], goes-on (λ f. let w : Refused n ≡ More = sym e ∙ f in let z : _≡_ {A = ℕ} 0 1 = cc in omega arith))
-      go More e = framed (frameFor g msg x k) refl (t .answers)
+      go More e = framed (taskFor g msg x k) refl (t .answers)
         where
           a : Accepted (m img q c .answer)
           a = subst Accepted (sym e) tt
@@ -160,11 +159,15 @@ module _ {N : ℕ} {m : Machine} (p : Calls N m) (img : List ℕ) (by : Bytes im
           t : Serves (asking N img q g msg reply) x k (m img q c)
           t = p .serves img q g msg reply x k by bm (y .is-held) (y .is-asked) a
 
-          framed : (f : Option Frame) → frameFor g msg x k ≡ f → Answers f q (m img q c) → (after : List Step) × LeavesToDo N m img q [] c after
-          framed none d (w, _) = let f : Done ≡ More = sym (number-done (m img q c .answer) w) ∙ e in let z : _≡_ {A = ℕ} 0 1 = cc in absurd (omega arith)
-          framed (some f) d w = (
+          framed : (f : Task) → taskFor g msg x k ≡ f → Answers f q (m img q c) → (after : List Step) × LeavesToDo N m img q [] c after
+          framed idles d (w, _) = let f : Done ≡ More = sym (number-done (m img q c .answer) w) ∙ e in let z : _≡_ {A = ℕ} 0 1 = cc in absurd (omega arith)
+          framed (appends f) d w = (
             frameWork N img q x f .steps,
             begins (frameWork N img q x f) e (frame-job g msg reply x k f (y .is-held) (y .is-asked) d),
+          )
+          framed converts d w = (
+            convertWork N img q x .steps,
+            begins (convertWork N img q x) e (convert-job g msg reply x k (y .is-held) (y .is-asked) d),
           )
 
   mount-some : (after : List Step) × LeavesToDo N m img q [] mount after

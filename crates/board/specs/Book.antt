@@ -9,7 +9,7 @@ use Rattle.journal.specs.Replay.{Object, changeAll}
 use Rattle.wire.specs.declared.Answer.{Answer}
 use Rattle.wire.specs.declared.Answer.the-variants.{Done, More, Refused}
 use Rattle.wire.specs.declared.Request.{Request}
-use Rattle.wire.specs.declared.Request.the-variants.{Put, Delete, Commit, Abort, Read, Log}
+use Rattle.wire.specs.declared.Request.the-variants.{Put, Delete, Commit, Abort, Read, Log, Convert}
 use Rattle.wire.specs.declared.Parsed.{Parsed}
 use Rattle.wire.specs.declared.Parsed.the-variants.{Is, Malformed}
 use Rattle.wire.specs.Message.{parse, valueIn}
@@ -55,6 +55,7 @@ accept b h m Commit (Refused n) = b
 accept b h m Abort a = book (b .objects) (withList (b .lists) h []) (b .under)
 accept b h m (Read i) a = b
 accept b h m (Log p) a = b
+accept b h m Convert a = b
 
 -- "Anything else, every other refusal too: no change."
 abbrev pub enterParsed : Book → Host → List ℕ → Parsed → Answer → Book

@@ -7,6 +7,7 @@ use Prim.Native.Nat.{ℕ, _+_, _≤_, _<_}
 use lib.ListN.{length}
 use Rattle.flash.specs.Bytes.{Bytes}
 use Rattle.flash.specs.Flash.{block, sizeOf, withBlock}
+use Rattle.frame.specs.declared.Edition.the-variants as edition
 use Rattle.frame.specs.Reader.{clean}
 use Rattle.journal.specs.Replay.{Object}
 use Rattle.journal.specs.Block.{Journal, journal, BlockState, blank, inProgress, valid, foreign, blockState}
@@ -67,7 +68,7 @@ NoStore N img = (j : ℕ) → j < N → Empty (blockState (block (sizeOf N img) 
 
 -- "the empty store"
 pub record EmptyStore (N : ℕ) (img : List ℕ) : Type 0 where
-  pub first : blockState (block (sizeOf N img) 0 img) ≡ valid (journal 1 [] clean)
+  pub first : blockState (block (sizeOf N img) 0 img) ≡ valid (journal edition.First 1 [] clean)
   pub others : (j : ℕ) → j < N → (j ≡ 0 → ⊥) → blockState (block (sizeOf N img) j img) ≡ blank
 
 -- after j of a format's N + 10 steps, N erases and ten for the header, on an image that held these objects: the objects before the last erase,

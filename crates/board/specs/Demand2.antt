@@ -9,24 +9,25 @@ use Prim.Native.Nat.{ℕ, _+_, _*_, _≤_, _<_, _/_}
 use lib.ListN.{length, getD}
 use Rattle.flash.specs.Bytes.{Bytes}
 use Rattle.flash.specs.Flash.{Step, program, erase, apply, applyAll, block, sizeOf, withBlock}
+use Rattle.frame.specs.declared.Edition.the-variants as edition
 use Rattle.frame.specs.declared.Host.{Host}
 use Rattle.frame.specs.declared.ObjectId.{ObjectId}
-use Rattle.frame.specs.Frame.{Frame, frameLen}
 use Rattle.journal.specs.Replay.{settledOnly}
 use Rattle.journal.specs.Block.{Journal, valid, blockState, stateAt, inTransfer}
-use Rattle.wire.specs.declared.Request.the-variants.{Put, Delete, Commit, Abort}
+use Rattle.wire.specs.declared.Request.the-variants.{Put, Delete, Commit, Abort, Convert}
 use Rattle.wire.specs.declared.Request.{Request}
+use Rattle.wire.specs.declared.Answer.the-variants.{Done, More}
 use Rattle.wire.specs.Answer.{numberOf}
 use Rattle.wire.specs.Message.{valueIn}
 use Rattle.board.specs.declared.Phase.the-variants.{Idle}
 use Rattle.board.specs.declared.Record.{Record}
 pub use Rattle.board.specs.Record.{Accepted}
-use Rattle.board.specs.Record.{Out, allowed}
+use Rattle.board.specs.Record.{Out, out, allowed}
 use Rattle.board.specs.Mount.{Store, replayOf, timeOf}
 use Rattle.board.specs.Queue.{Asking, asking}
 use Rattle.board.specs.Exec.{request, mount, format, Machine}
 use Rattle.board.specs.Plan.{Performs, programs, mountWork}
-use Rattle.board.specs.Table.{frameFor, Allowed, Fresh, FreshFor, putNeeds, deleteNeeds, putShare, deleteShare}
+use Rattle.board.specs.Table.{idles, taskFor, Moves, secondUsed, Allowed, Fresh, FreshFor, putNeeds, deleteNeeds, putShare, deleteShare}
 use Rattle.wire.specs.Sentences.{Means}
 use Rattle.board.specs.Book.{Book}
 use Rattle.board.specs.Claim.{Event, call, cutErase, Happens}
@@ -107,10 +108,10 @@ pub record Asks (a : Asking) (x : Journal) (q : Request) : Type 0 where
 pub record ShareExact (N : ℕ) (m : Machine) : Type 0 where
   pub of-put : (img : List ℕ) (r : Record) (h : Host) (msg reply : List ℕ) (x : Journal) (i : ObjectId) → Asks (asking N img r h msg reply) x (Put i)
       → (numberOf (m img r (request h msg reply) .answer) ≡ some 12)
-      ↔ (sizeOf N img / 2 < putShare (replayOf x) h (valueIn msg))
+      ↔ (sizeOf N img / 2 < putShare x h (valueIn msg))
   pub of-delete : (img : List ℕ) (r : Record) (h : Host) (msg reply : List ℕ) (x : Journal) (i : ObjectId)
       → Asks (asking N img r h msg reply) x (Delete i) → (numberOf (m img r (request h msg reply) .answer) ≡ some 12)
-      ↔ (sizeOf N img / 2 < deleteShare (replayOf x) h)
+      ↔ (sizeOf N img / 2 < deleteShare x h)
   pub of-commit : (img : List ℕ) (r : Record) (h : Host) (msg reply : List ℕ) (x : Journal) → Asks (asking N img r h msg reply) x Commit
       → numberOf (m img r (request h msg reply) .answer) ≡ some 12 → ⊥
   pub of-abort : (img : List ℕ) (r : Record) (h : Host) (msg reply : List ℕ) (x : Journal) → Asks (asking N img r h msg reply) x Abort
@@ -120,20 +121,37 @@ pub record ShareExact (N : ℕ) (m : Machine) : Type 0 where
 pub record RoomExact (N : ℕ) (m : Machine) : Type 0 where
   pub of-put : (img : List ℕ) (r : Record) (h : Host) (msg reply : List ℕ) (x : Journal) (i : ObjectId) → Asks (asking N img r h msg reply) x (Put i)
       → (numberOf (m img r (request h msg reply) .answer) ≡ some 12 → ⊥) → (numberOf (m img r (request h msg reply) .answer) ≡ some 7)
-      ↔ (sizeOf N img < putNeeds (replayOf x) h i (valueIn msg))
+      ↔ (sizeOf N img < putNeeds x h i (valueIn msg))
   pub of-delete : (img : List ℕ) (r : Record) (h : Host) (msg reply : List ℕ) (x : Journal) (i : ObjectId)
       → Asks (asking N img r h msg reply) x (Delete i) → (numberOf (m img r (request h msg reply) .answer) ≡ some 12 → ⊥)
       → (numberOf (m img r (request h msg reply) .answer) ≡ some 7)
-      ↔ (sizeOf N img < deleteNeeds (replayOf x) h i)
+      ↔ (sizeOf N img < deleteNeeds x h i)
   pub of-commit : (img : List ℕ) (r : Record) (h : Host) (msg reply : List ℕ) (x : Journal) → Asks (asking N img r h msg reply) x Commit
       → numberOf (m img r (request h msg reply) .answer) ≡ some 7 → ⊥
   pub of-abort : (img : List ℕ) (r : Record) (h : Host) (msg reply : List ℕ) (x : Journal) → Asks (asking N img r h msg reply) x Abort
       → numberOf (m img r (request h msg reply) .answer) ≡ some 7 → ⊥
 
--- past the room rule too, 6 exactly if the frame needs a transfer at the last time
+-- past 16, 12 and the room rule, 6 exactly if the request needs a transfer at the last time
 unfoldable pub WearExact : ℕ → Machine → Type 0
 WearExact N m =
-    (img : List ℕ) (r : Record) (h : Host) (msg reply : List ℕ) (x : Journal) (q : Request) (f : Frame) → Asks (asking N img r h msg reply) x q
-    → frameFor h msg x q ≡ some f → (numberOf (m img r (request h msg reply) .answer) ≡ some 12 → ⊥)
-    → (numberOf (m img r (request h msg reply) .answer) ≡ some 7 → ⊥)
-    → (numberOf (m img r (request h msg reply) .answer) ≡ some 6) ↔ ((sizeOf N img < r .rest .end + frameLen f) × (x .time ≡ 4294967295))
+    (img : List ℕ) (r : Record) (h : Host) (msg reply : List ℕ) (x : Journal) (q : Request) → Asks (asking N img r h msg reply) x q
+    → (taskFor h msg x q ≡ idles → ⊥) → (numberOf (m img r (request h msg reply) .answer) ≡ some 16 → ⊥)
+    → (numberOf (m img r (request h msg reply) .answer) ≡ some 12 → ⊥) → (numberOf (m img r (request h msg reply) .answer) ≡ some 7 → ⊥)
+    → (numberOf (m img r (request h msg reply) .answer) ≡ some 6) ↔ (Moves (asking N img r h msg reply) x (taskFor h msg x q) × (x .time ≡ 4294967295))
+
+-- ---- converts
+
+-- K9: "A convert request (0x0108, no body) gets a new 16 if anything is pending, then 7 exactly if U in edition 2 exceeds S; else a transfer takes the
+-- store to edition 2, or 0 steps do if it is there." 16 goes to nothing else
+pub record ConvertAnswers (N : ℕ) (m : Machine) : Type 0 where
+  pub pending : (img : List ℕ) (r : Record) (h : Host) (msg reply : List ℕ) (x : Journal) → Asks (asking N img r h msg reply) x Convert
+      → (numberOf (m img r (request h msg reply) .answer) ≡ some 16) ↔ (replayOf x .pending ≡ [] → ⊥)
+  pub room : (img : List ℕ) (r : Record) (h : Host) (msg reply : List ℕ) (x : Journal) → Asks (asking N img r h msg reply) x Convert
+      → replayOf x .pending ≡ [] → (numberOf (m img r (request h msg reply) .answer) ≡ some 7) ↔ (sizeOf N img < secondUsed x)
+  pub moves : (img : List ℕ) (r : Record) (h : Host) (msg reply : List ℕ) (x : Journal) → Asks (asking N img r h msg reply) x Convert → Bytes msg
+      → replayOf x .pending ≡ [] → secondUsed x ≤ sizeOf N img → x .edition ≡ edition.First → (x .time ≡ 4294967295 → ⊥)
+      → m img r (request h msg reply) .answer ≡ More
+  pub stays : (img : List ℕ) (r : Record) (h : Host) (msg reply : List ℕ) (x : Journal) → Asks (asking N img r h msg reply) x Convert → Bytes msg
+      → replayOf x .pending ≡ [] → x .edition ≡ edition.Second → m img r (request h msg reply) ≡ out Done img r reply
+  pub others : (img : List ℕ) (r : Record) (h : Host) (msg reply : List ℕ) (x : Journal) (q : Request) → Asks (asking N img r h msg reply) x q
+      → (q ≡ Convert → ⊥) → numberOf (m img r (request h msg reply) .answer) ≡ some 16 → ⊥

@@ -11,6 +11,7 @@ pub mod Demand1
 pub mod Demand2
 pub mod CutFormat
 pub mod Promise
+pub mod Tight
 pub mod Wear
 pub mod Counts
 pub mod Two

@@ -5,7 +5,7 @@ use Prim.Native.Nat.{ℕ, suc, _+_, _-_}
 use lib.Dec.{eqb, ltb}
 use lib.ListN.{length, replicate}
 use Rattle.flash.specs.Flash.{maxBlocks, blockNumbers, block, sizeOf}
-use Rattle.frame.specs.Frame.{total}
+use Rattle.frame.specs.Frame.{total, editionNumber}
 use Rattle.frame.specs.Reader.{fault, Tail, clean, cut, bad}
 use Rattle.frame.specs.declared.Field.the-variants as field
 use Rattle.journal.specs.Replay.{Entry, State, replay}
@@ -16,7 +16,7 @@ use Rattle.wire.specs.declared.Refusal.{Refusal}
 use Rattle.wire.specs.declared.Refusal.the-variants as refusal
 use Rattle.board.specs.declared.Rest.{Rest}
 use Rattle.board.specs.declared.Record.{Record}
-use Rattle.board.specs.Record.{allowed, noPlaces, noMarks, rest, starting, unmounted, busy, Out, refuse}
+use Rattle.board.specs.Record.{allowed, noPlaces, zeroEach, rest, starting, unmounted, busy, Out, refuse}
 use Rattle.board.specs.Step.{begin}
 
 -- K14: "A transfer goes to the next block in number, round to 0"
@@ -32,21 +32,21 @@ newTime false t = 0
 
 -- the offset at which the whole frames end
 abbrev pub endOf : Journal → ℕ
-endOf x = headerLen + total (x .frames)
+endOf x = headerLen + total (x .edition) (x .frames)
 
 abbrev pub replayOf : Journal → State
 replayOf x = replay (x .frames)
 
 -- U and C of what it replays to
 abbrev pub usedOf : Journal → ℕ
-usedOf x = used (replayOf x)
+usedOf x = used (x .edition) (replayOf x)
 
 -- K7: "each host's pending bytes as replay gives them"
 abbrev pub countsOf : Journal → List ℕ
-countsOf x = countsIn (replayOf x)
+countsOf x = countsIn (x .edition) (replayOf x)
 
 abbrev pub claimedOf : Journal → ℕ
-claimedOf x = claimed (replayOf x)
+claimedOf x = claimed (x .edition) (replayOf x)
 
 -- ---- the blocks of an image
 
@@ -151,12 +151,12 @@ transfers moves = true
 
 -- where its record stands, on an image whose length less one is l
 abbrev pub storeAt : ℕ → ℕ → Store → Rest
-storeAt N l x = rest N l (x .number) (endOf (x .journal))
+storeAt N l x = rest N l (x .number) (endOf (x .journal)) (editionNumber (x .journal .edition))
 
--- a transfer copies no pending frame: it starts to look for them at the end
+-- K9: "other transfers keep theirs". A transfer copies no pending frame: it starts to look for them at the end
 abbrev pub mountJob : ℕ → List ℕ → Store → List ℕ → Record
 mountJob N img x ks =
-    busy (storeAt N (length img - 1) x) (placesOf (x .journal .frames))
+    busy (storeAt N (length img - 1) x) (placesOf (x .journal .edition) (x .journal .frames))
     (record {
       wipe = wipeArray ks;
       wipes = length ks;
@@ -164,8 +164,9 @@ mountJob N img x ks =
       drops = true;
       target = nextBlock N (x .number);
       time = newTime (transfers (upkeep x)) (timeOf x);
-      since = noMarks;
+      since = zeroEach;
       size = 0;
+      edition = editionNumber (x .journal .edition);
     })
     (starting 0 (endOf (x .journal))) []
 
@@ -231,10 +232,10 @@ orderFor N (y ∷ ys) =
 unfoldable pub formatOrder : ℕ → List ℕ → List ℕ
 formatOrder N img = orderFor N (stores (allFound N img))
 
--- "then writes block 0", its header at time 1 in a transfer's order: no frame is copied, from no id and no offset on
+-- "then writes block 0", its header at time 1 in a transfer's order; K9: "format writes edition 1". No frame is copied, from no id and no offset on
 abbrev pub formatJob : ℕ → List ℕ → Record
 formatJob N img =
-    busy (rest N (length img - 1) (nextBlock N 0) headerLen) noPlaces
+    busy (rest N (length img - 1) (nextBlock N 0) headerLen 1) noPlaces
     (record {
       wipe = wipeArray (formatOrder N img);
       wipes = length (formatOrder N img);
@@ -242,8 +243,9 @@ formatJob N img =
       drops = false;
       target = 0;
       time = 1;
-      since = noMarks;
+      since = zeroEach;
       size = 0;
+      edition = 1;
     })
     (starting 256 headerLen) []
 

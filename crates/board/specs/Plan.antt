@@ -6,9 +6,12 @@ use Prim.Native.Nat.{ℕ, suc, _+_, _-_}
 use lib.Dec.{ltb}
 use lib.ListN.{length}
 use Rattle.flash.specs.Flash.{Step, program, erase, apply, sizeOf, Write, writeStep, writes}
+use Rattle.frame.specs.declared.Edition.{Edition}
+use Rattle.frame.specs.declared.Edition.the-variants as edition
 use Rattle.frame.specs.Frame.{Frame, encode, frameLen}
 use Rattle.journal.specs.Replay.{State, framesOf, settledOnly}
 use Rattle.journal.specs.Block.{Journal, build, headerLen}
+use Rattle.journal.specs.Room.{used}
 use Rattle.wire.specs.declared.Answer.the-variants.{More}
 use Rattle.board.specs.declared.Rest.{Rest}
 use Rattle.board.specs.declared.Record.{Record}
@@ -22,17 +25,17 @@ abbrev pub onBlock : ℕ → List Write → List Step
 onBlock k ws = map (writeStep k) ws
 
 -- "Transfer, into the blank half: byte 8 to 0xFE, header bytes 0-3, settled frames by rising id, pending frames in their order,
--- inverse of (time + 1), byte 8 to 0xFC, erase of the old half." Of block k, which holds journal x, with a state, into block j
-abbrev pub transferTo : ℕ → ℕ → Journal → State → List Step
-transferTo j k x st = onBlock j (build (suc (x .time)) (framesOf st)) ++ (erase k ∷ [])
+-- inverse of (time + 1), byte 8 to 0xFC, erase of the old half." Of block k, which holds journal x, with a state, into block j of an edition
+abbrev pub transferTo : Edition → ℕ → ℕ → Journal → State → List Step
+transferTo ed j k x st = onBlock j (build ed (suc (x .time)) (framesOf st)) ++ (erase k ∷ [])
 
 -- into the next in number (K14)
-abbrev pub transferPlan : ℕ → ℕ → Journal → State → List Step
-transferPlan N k x st = transferTo (nextBlock N k) k x st
+abbrev pub transferPlan : Edition → ℕ → ℕ → Journal → State → List Step
+transferPlan ed N k x st = transferTo ed (nextBlock N k) k x st
 
 -- "Put, delete, commit, abort: one frame of n bytes": at an offset of block k
-abbrev pub appendPlan : ℕ → ℕ → Frame → List Step
-appendPlan k end f = onBlock k (writes end (encode f))
+abbrev pub appendPlan : Edition → ℕ → ℕ → Frame → List Step
+appendPlan ed k end f = onBlock k (writes end (encode ed f))
 
 -- the record's step calls do exactly these steps, one each; it is in a job until the last is done, and then this record
 abbrev pub Follows : ℕ → Machine → List ℕ → Record → List Step → Record → Type 0
@@ -63,9 +66,10 @@ Performs N m img r w = Follows N m img r (w .steps) (w .last)
 abbrev pub afterSteps : List Step → Work → Work
 afterSteps xs w = record { steps = xs ++ w .steps; last = w .last }
 
--- "Format: erase half 0, erase half 1, then half 0's header at time 1 in the same order": of blocks ks, on an image whose length less one is l
+-- "Format: erase half 0, erase half 1, then half 0's header at time 1 in the same order": of blocks ks, on an image whose length less one is l;
+-- document 02, K9: "format writes edition 1, other transfers keep theirs"
 abbrev pub formatIn : ℕ → ℕ → List ℕ → Work
-formatIn N l ks = afterSteps (map erase ks) (record { steps = onBlock 0 (build 1 []); last = idle (rest N l 0 headerLen) })
+formatIn N l ks = afterSteps (map erase ks) (record { steps = onBlock 0 (build edition.First 1 []); last = idle (rest N l 0 headerLen 1) })
 
 -- of all blocks, in K14's order
 abbrev pub formatWork : ℕ → List ℕ → Work
@@ -76,8 +80,8 @@ abbrev pub upkeepWork : Upkeep → ℕ → Rest → Store → Work
 upkeepWork rests j z x = record { steps = []; last = idle z }
 upkeepWork moves j z x =
     record {
-      steps = transferTo j (x .number) (x .journal) (settledOnly (replayOf (x .journal)));
-      last = idle (landing z j (usedOf (x .journal)));
+      steps = transferTo (x .journal .edition) j (x .number) (x .journal) (settledOnly (replayOf (x .journal)));
+      last = idle (landing z (z .edition) j (usedOf (x .journal)));
     }
 
 -- the erases of blocks ks, and that
@@ -90,17 +94,28 @@ abbrev pub mountWork : ℕ → List ℕ → Store → Work
 mountWork N img x = mountIn N (length img - 1) (wipeList (x .number) (allFound N img)) (nextBlock N (x .number)) x
 
 -- "Put, delete, commit, abort: one frame of n bytes": where the record stands
-abbrev pub appendWork : Rest → Frame → Work
-appendWork z f = record { steps = appendPlan (z .block) (z .end) f; last = idle (ending z (z .end + frameLen f)) }
+abbrev pub appendWork : Edition → Rest → Frame → Work
+appendWork ed z f = record { steps = appendPlan ed (z .block) (z .end) f; last = idle (ending z (z .end + frameLen ed f)) }
 
 -- the same after a transfer, to block j
 abbrev pub movedWork : ℕ → Rest → Journal → Frame → Work
 movedWork j z x f =
-    afterSteps (transferTo j (z .block) x (replayOf x)) (appendWork (landing z j (claimedOf x)) f)
+    afterSteps (transferTo (x .edition) j (z .block) x (replayOf x)) (appendWork (x .edition) (landing z (z .edition) j (claimedOf x)) f)
 
 -- "after a transfer if end + n exceeds S": in blocks of s bytes
 abbrev pub frameIn : ℕ → ℕ → Rest → Journal → Frame → Work
-frameIn s j z x f = cond (ltb s (z .end + frameLen f)) (movedWork j z x f) (appendWork z f)
+frameIn s j z x f = cond (ltb s (z .end + frameLen (x .edition) f)) (movedWork j z x f) (appendWork (x .edition) z f)
 
 abbrev pub frameWork : ℕ → List ℕ → Record → Journal → Frame → Work
 frameWork N img r x f = frameIn (sizeOf N img) (nextBlock N (r .rest .block)) (counted (r .rest) x f) x f
+
+-- K9: "a transfer takes the store to edition 2", to block j; nothing is pending
+abbrev pub convertIn : ℕ → Rest → Journal → Work
+convertIn j z x =
+    record {
+      steps = transferTo edition.Second j (z .block) x (settledOnly (replayOf x));
+      last = idle (landing z 2 j (used edition.Second (replayOf x)));
+    }
+
+abbrev pub convertWork : ℕ → List ℕ → Record → Journal → Work
+convertWork N img r x = convertIn (nextBlock N (r .rest .block)) (r .rest) x

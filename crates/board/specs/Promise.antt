@@ -20,7 +20,7 @@ use Rattle.wire.specs.declared.Refusal.{Refusal}
 use Rattle.wire.specs.declared.Refusal.the-variants as refusal
 use Rattle.frame.specs.declared.Fault.{Fault}
 use Rattle.wire.specs.declared.Request.{Request}
-use Rattle.wire.specs.declared.Request.the-variants.{Put, Delete, Commit, Abort, Read, Log}
+use Rattle.wire.specs.declared.Request.the-variants.{Put, Delete, Commit, Abort, Read, Log, Convert}
 use Rattle.wire.specs.Answer.{numberOf}
 use Rattle.board.specs.declared.Phase.{Phase}
 use Rattle.board.specs.declared.Phase.the-variants.{Unmounted, Idle, Busy}
@@ -30,10 +30,10 @@ use Rattle.board.specs.Mount.{Store, replayOf, usedOf, timeOf}
 use Rattle.board.specs.Queue.{Asking, asking, sizeFor}
 pub use Rattle.board.specs.Exec.{Machine, Family}
 use Rattle.board.specs.Exec.{Call, request, step, mount, format}
-use Rattle.board.specs.Plan.{Work, Performs, formatWork, mountWork, frameWork}
-use Rattle.board.specs.Table.{frameFor, Exactly, InJob, Fresh, ValidAt, Names, linesOf}
+use Rattle.board.specs.Plan.{Work, Performs, formatWork, mountWork, frameWork, convertWork}
+use Rattle.board.specs.Table.{Task, idles, appends, converts, taskFor, Exactly, InJob, Fresh, ValidAt, Names, linesOf}
 use Rattle.board.specs.Demand1.{Unchanged, ImageAfter, Short, Declared, Rests, EndsWithin}
-use Rattle.board.specs.Demand2.{Accepted, OneStore, UsableFrom, LandsFrom, RoomExact, WearExact, ShareExact}
+use Rattle.board.specs.Demand2.{Accepted, OneStore, UsableFrom, LandsFrom, RoomExact, WearExact, ShareExact, ConvertAnswers}
 use Rattle.wire.specs.Sentences.{Means}
 use Rattle.board.specs.Claim.{stepsOn, ByteCall, Begins, Event, call, cutErase, Restarts, Claim}
 use Rattle.board.specs.CutFormat.{CutFormat}
@@ -66,10 +66,12 @@ OnlyClears N img after =
 
 -- ---- accepted requests
 
--- "else more with the job in the record": a frame to append is a job; any other request is done at once and leaves the record
-abbrev pub Answers : Option Frame → Record → Out → Type 0
-Answers none r o = (numberOf (o .answer) ≡ some 0) × (o .board ≡ r)
-Answers (some f) r o = o .answer ≡ More
+-- "else more with the job in the record": a frame to append is a job, and so is a transfer to edition 2; any other request is done at once and leaves
+-- the record
+abbrev pub Answers : Task → Record → Out → Type 0
+Answers idles r o = (numberOf (o .answer) ≡ some 0) × (o .board ≡ r)
+Answers (appends f) r o = o .answer ≡ More
+Answers converts r o = o .answer ≡ More
 
 -- "Log page 1 writes 14 bytes to the lent reply: length 14 (2), kind 0x0201 (2), creation time (4), settled count (2), U (2), S (2);
 -- later reply bytes stay. Nothing else writes to the reply."
@@ -79,6 +81,7 @@ replyFor a x (Delete i) = a .reply
 replyFor a x Commit = a .reply
 replyFor a x Abort = a .reply
 replyFor a x (Read i) = a .reply
+replyFor a x Convert = a .reply
 replyFor a x (Log p) =
     (u16le 14 ++ (u16le 0x0201 ++ (u32le (x .time) ++ (u16le (length (replayOf x .objects))
     ++ (u16le (usedOf x) ++ u16le (sizeFor a))))))
@@ -89,7 +92,7 @@ replyFor a x (Log p) =
 pub record Stands (a : Asking) (x : Journal) (i : ObjectId) (st : Stretch) : Type 0 where
   pub value : List ℕ
   pub at : ℕ
-  pub from : TakenFrom (x .frames) i value at
+  pub from : TakenFrom (x .edition) (x .frames) i value at
   pub is : st ≡ record { at = a .board .rest .block * sizeFor a + at; size = length value }
 
 abbrev pub HandsBack : Asking → Journal → Request → Stretch → Type 0
@@ -99,10 +102,11 @@ HandsBack a x Commit st = st ≡ noStretch
 HandsBack a x Abort st = st ≡ noStretch
 HandsBack a x (Read i) st = Stands a x i st
 HandsBack a x (Log p) st = st ≡ noStretch
+HandsBack a x Convert st = st ≡ noStretch
 
 -- an accepted request q, where the image read afresh holds x
 pub record Serves (a : Asking) (x : Journal) (q : Request) (o : Out) : Type 0 where
-  pub answers : Answers (frameFor (a .host) (a .message) x q) (a .board) o
+  pub answers : Answers (taskFor (a .host) (a .message) x q) (a .board) o
   pub writes : o .reply ≡ replyFor a x q
   pub hands-back : HandsBack a x q (o .stretch)
 
@@ -116,8 +120,11 @@ pub record Current (N : ℕ) (img : List ℕ) (x : Store) : Type 0 where
 -- the steps that an accepted call has to do, and the idle record after the last
 pub data Job (N : ℕ) (img : List ℕ) (r : Record) : Call → Work → Type 0 where
   -- "one frame of n bytes, after a transfer if end + n exceeds S"
-  frame-job : (h : Host) (msg reply : List ℕ) (x : Journal) (q : Request) (f : Frame) → Fresh N img r x → Means msg q → frameFor h msg x q ≡ some f
+  frame-job : (h : Host) (msg reply : List ℕ) (x : Journal) (q : Request) (f : Frame) → Fresh N img r x → Means msg q → taskFor h msg x q ≡ appends f
       → Job N img r (request h msg reply) (frameWork N img r x f)
+  -- K9: "else a transfer takes the store to edition 2"
+  convert-job : (h : Host) (msg reply : List ℕ) (x : Journal) (q : Request) → Fresh N img r x → Means msg q → taskFor h msg x q ≡ converts
+      → Job N img r (request h msg reply) (convertWork N img r x)
   -- K14: "mount erases every other that isn't blank, by number". "If the current one has a torn tail or anything pending, a transfer of the
   -- settled objects alone follows."
   mount-job : (x : Store) → Current N img x
@@ -174,6 +181,8 @@ pub record Promise (N : ℕ) (m : Machine) : Type 0 where
   pub share : ShareExact N m
   pub room : RoomExact N m
   pub wear : WearExact N m
+  -- K9: 16, 7 and 6 of a convert
+  pub converting : ConvertAnswers N m
   -- demand 2: in a run every programmed byte lands as given, where 0xFF was or byte 8 goes on
   pub lands : LandsFrom N m
   -- demand 3

@@ -7,13 +7,15 @@ use lib.Dec.{eqb, ltb, leb}
 use lib.ListN.{length, getD}
 use Rattle.flash.specs.Bytes.{allFF, sameBytes}
 use Rattle.flash.specs.Flash.{blockNumbers, block, sizeOf}
+use Rattle.frame.specs.declared.Edition.{Edition}
+use Rattle.frame.specs.declared.Edition.the-variants as edition
 use Rattle.frame.specs.declared.Host.{Host}
 use Rattle.frame.specs.declared.ObjectId.{ObjectId}
-use Rattle.frame.specs.Frame.{hostMax, Change, put, delete, Frame, change, commit, abort, frameLen, encode, endLen}
+use Rattle.frame.specs.Frame.{hostMax, Change, put, delete, Frame, change, commit, abort, frameLen, encode, endLen, editionNumber}
 use Rattle.frame.specs.Reader.{Tail, clean, cut, bad}
-use Rattle.journal.specs.Replay.{lookup, isOpen}
+use Rattle.journal.specs.Replay.{Entry, lookup, isOpen}
 use Rattle.journal.specs.Block.{Journal, BlockState, blank, inProgress, valid, foreign, blockState, headerLen, lastTime}
-use Rattle.journal.specs.Room.{openHosts, noRoom, hostFull, pendingOf}
+use Rattle.journal.specs.Room.{openHosts, used, noRoom, hostFull, pendingOf}
 use Rattle.journal.specs.Index.{placesOf, sinceOf, Value, valueAt, onlyIf}
 use Rattle.wire.specs.declared.Answer.the-variants.{Done}
 use Rattle.wire.specs.declared.Refusal.{Refusal}
@@ -21,7 +23,7 @@ use Rattle.wire.specs.declared.Refusal.the-variants as refusal
 use Rattle.wire.specs.declared.Page.{Page}
 use Rattle.wire.specs.declared.Page.the-variants.{Summary}
 use Rattle.wire.specs.declared.Request.{Request}
-use Rattle.wire.specs.declared.Request.the-variants.{Put, Delete, Commit, Abort, Read, Log}
+use Rattle.wire.specs.declared.Request.the-variants.{Put, Delete, Commit, Abort, Read, Log, Convert}
 use Rattle.wire.specs.declared.Parsed.{Parsed}
 use Rattle.wire.specs.declared.Parsed.the-variants.{Is, Malformed}
 use Rattle.wire.specs.Message.{parse, valueIn, pageLen, logPage, withPage}
@@ -29,17 +31,19 @@ use Rattle.board.specs.declared.Phase.{Phase}
 use Rattle.board.specs.declared.Phase.the-variants.{Unmounted, Idle, Busy}
 use Rattle.board.specs.declared.Rest.{Rest}
 use Rattle.board.specs.declared.Record.{Record}
-use Rattle.board.specs.Record.{allowed, noWipes, starting, busy, Stretch, noStretch, Out, refuse, counting}
+use Rattle.board.specs.Record.{allowed, zeroEach, noWipes, starting, busy, Stretch, noStretch, Out, refuse, counting}
 use Rattle.board.specs.Step.{begin, sameShape}
 use Rattle.board.specs.Mount.{nextBlock, newTime, endOf, replayOf, usedOf, countsOf, claimedOf}
 
 -- ---- 11: the image read afresh
 
 -- "its last whole frame (or the header, if none) ending exactly at the recorded end with only 0xFF after it, .. C + 6·open at most S"; K7: "The
--- board record carries each host's pending bytes as replay gives them; refusal 11 covers any other."
+-- board record carries each host's pending bytes as replay gives them; refusal 11 covers any other."; K9: "The record carries the edition ..; elsewhere
+-- 11 covers any other", "10 for each 6"
 unfoldable pub fitsRecord : ℕ → Rest → Journal → Bool
 fitsRecord size z x =
-    (eqb (endOf x) (z .end) && sameBytes (countsOf x) (z .pending)) && leb (claimedOf x + endLen * openHosts (replayOf x .pending)) size
+    (eqb (editionNumber (x .edition)) (z .edition) && (eqb (endOf x) (z .end) && sameBytes (countsOf x) (z .pending)))
+    && leb (claimedOf x + endLen (x .edition) * openHosts (replayOf x .pending)) size
 
 -- "with only 0xFF after it"
 abbrev pub heldIf : Bool → Tail → Journal → Option Journal
@@ -73,28 +77,46 @@ held N img r = heldBy N (sameImage N img r) img r
 
 -- ---- a frame is appended, "after a transfer if end + n exceeds S"
 
-abbrev pub needsRoom : ℕ → List ℕ → Record → Frame → Bool
-needsRoom N img r f = ltb (sizeOf N img) (r .rest .end + frameLen f)
+abbrev pub needsRoom : ℕ → List ℕ → Record → Journal → Frame → Bool
+needsRoom N img r x f = ltb (sizeOf N img) (r .rest .end + frameLen (x .edition) f)
 
 -- where the record stands then, but for its end: K7, "a put or delete" adds to its host's pending bytes, commit and abort clear them
 abbrev pub counted : Rest → Journal → Frame → Rest
-counted z x f = counting z (pendingOf (x .frames ++ (f ∷ [])))
+counted z x f = counting z (pendingOf (x .edition) (x .frames ++ (f ∷ [])))
 
 -- a transfer copies from the first id and from the header on
 abbrev pub appendJob : ℕ → List ℕ → Record → Journal → Frame → Record
 appendJob N img r x f =
-    busy (counted (r .rest) x f) (placesOf (x .frames))
+    busy (counted (r .rest) x f) (placesOf (x .edition) (x .frames))
     (record {
       wipe = noWipes;
       wipes = 0;
-      moves = needsRoom N img r f;
+      moves = needsRoom N img r x f;
       drops = true;
       target = nextBlock N (r .rest .block);
-      time = newTime (needsRoom N img r f) (x .time);
-      since = sinceOf (x .frames);
-      size = frameLen f;
+      time = newTime (needsRoom N img r x f) (x .time);
+      since = sinceOf (x .edition) (x .frames);
+      size = frameLen (x .edition) f;
+      edition = editionNumber (x .edition);
     })
-    (starting 0 headerLen) (encode f)
+    (starting 0 headerLen) (encode (x .edition) f)
+
+-- K9: "a transfer takes the store to edition 2". Nothing is pending: it starts to look for pending frames at the end
+abbrev pub convertJob : ℕ → List ℕ → Record → Journal → Record
+convertJob N img r x =
+    busy (r .rest) (placesOf (x .edition) (x .frames))
+    (record {
+      wipe = noWipes;
+      wipes = 0;
+      moves = true;
+      drops = true;
+      target = nextBlock N (r .rest .block);
+      time = newTime true (x .time);
+      since = zeroEach;
+      size = 0;
+      edition = 2;
+    })
+    (starting 0 (endOf x)) []
 
 -- ---- the requests
 
@@ -117,8 +139,8 @@ sizeFor a = sizeOf (a .blocks) (a .image)
 abbrev pub heldFor : Asking → Option Journal
 heldFor a = held (a .blocks) (a .image) (a .board)
 
-abbrev pub movesFor : Asking → Frame → Bool
-movesFor a f = needsRoom (a .blocks) (a .image) (a .board) f
+abbrev pub movesFor : Asking → Journal → Frame → Bool
+movesFor a x f = needsRoom (a .blocks) (a .image) (a .board) x f
 
 -- refused, or done at once: image and record stay
 abbrev pub refuseTo : Asking → Refusal → Out
@@ -130,18 +152,33 @@ doneAt a reply st = record { answer = Done; image = a .image; board = a .board; 
 -- 6: "a transfer is needed .. at time 4,294,967,295"
 unfoldable pub append : Asking → Journal → Frame → Out
 append a x f =
-    cond (movesFor a f && eqb (x .time) lastTime) (refuseTo a refusal.Worn)
+    cond (movesFor a x f && eqb (x .time) lastTime) (refuseTo a refusal.Worn)
     (begin (a .image) (a .reply) (appendJob (a .blocks) (a .image) (a .board) x f))
 
 -- a put or delete; 12, "before 7": K7; 7: the room rule
 unfoldable pub serveChange : Asking → Journal → Change → Out
 serveChange a x c =
-    cond (hostFull (sizeFor a) (replayOf x) (a .host) c) (refuseTo a refusal.HostFull)
-    (cond (noRoom (sizeFor a) (replayOf x) (a .host) c) (refuseTo a refusal.NoRoom) (append a x (change (a .host) c)))
+    cond (hostFull (x .edition) (sizeFor a) (replayOf x) (a .host) c) (refuseTo a refusal.HostFull)
+    (cond (noRoom (x .edition) (sizeFor a) (replayOf x) (a .host) c) (refuseTo a refusal.NoRoom) (append a x (change (a .host) c)))
 
 -- "Commit or abort with nothing pending is done in 0 steps."
 unfoldable pub serveEnd : Asking → Journal → Frame → Out
 serveEnd a x f = cond (isOpen (a .host) (replayOf x .pending)) (append a x f) (doneAt a (a .reply) noStretch)
+
+-- K9: "else a transfer takes the store to edition 2, or 0 steps do if it is there"; 6
+unfoldable pub convert : Asking → Journal → Edition → Out
+convert a x edition.First =
+    cond (eqb (x .time) lastTime) (refuseTo a refusal.Worn)
+    (begin (a .image) (a .reply) (convertJob (a .blocks) (a .image) (a .board) x))
+convert a x edition.Second = doneAt a (a .reply) noStretch
+
+-- "gets a new 16 if anything is pending, then 7 exactly if U in edition 2 exceeds S"
+abbrev pub convertWith : Asking → Journal → List Entry → Out
+convertWith a x [] = cond (ltb (sizeFor a) (used edition.Second (replayOf x))) (refuseTo a refusal.NoRoom) (convert a x (x .edition))
+convertWith a x (e ∷ es) = refuseTo a refusal.Pending
+
+unfoldable pub serveConvert : Asking → Journal → Out
+serveConvert a x = convertWith a x (replayOf x .pending)
 
 -- counted from the image's first byte
 abbrev pub stretchOf : ℕ → Option Value → Stretch
@@ -151,7 +188,8 @@ stretchOf start (some x) = record { at = start + x .at; size = length (x .bytes)
 -- "A read that finds its object hands back that stretch of the caller's own flash image": where replay took the value from
 abbrev pub placeOf : ℕ → List ℕ → Record → Journal → ObjectId → Stretch
 placeOf N img r x i =
-    stretchOf (r .rest .block * sizeOf N img) (valueAt (block (sizeOf N img) (r .rest .block) img) i (getD (placesOf (x .frames)) (i .0) 0))
+    stretchOf (r .rest .block * sizeOf N img)
+    (valueAt (x .edition) (block (sizeOf N img) (r .rest .block) img) i (getD (placesOf (x .edition) (x .frames)) (i .0) 0))
 
 -- "Reads see settled objects only"; 8: "no such settled object"
 abbrev pub serveRead : Asking → Journal → ObjectId → Option (List ℕ) → Out
@@ -164,7 +202,7 @@ serveLog a x Summary =
     cond (ltb (length (a .reply)) pageLen) (refuseTo a refusal.ShortReply)
     (doneAt a (withPage (logPage (x .time) (length (replayOf x .objects)) (usedOf x) (sizeFor a)) (a .reply)) noStretch)
 
--- "A request is one of six kinds"
+-- "A request is one of six kinds"; K9: "A convert request"
 unfoldable pub serve : Asking → Journal → Request → Out
 serve a x (Put i) = serveChange a x (put i (valueIn (a .message)))
 serve a x (Delete i) = serveChange a x (delete i)
@@ -172,6 +210,7 @@ serve a x Commit = serveEnd a x (commit (a .host))
 serve a x Abort = serveEnd a x (abort (a .host))
 serve a x (Read i) = serveRead a x i (lookup i (replayOf x .objects))
 serve a x (Log p) = serveLog a x p
+serve a x Convert = serveConvert a x
 
 -- 1, after 11
 abbrev pub serveParsed : Asking → Journal → Parsed → Out

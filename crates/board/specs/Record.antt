@@ -6,7 +6,8 @@ use lib.Dec.{eqb, leb}
 use lib.ListN.{replicate}
 use Rattle.flash.specs.Flash.{maxBlocks, sizeIn, isCount}
 pub use Rattle.frame.specs.Frame.{buffer}
-use Rattle.frame.specs.Frame.{maxFrame}
+use Rattle.frame.specs.declared.Edition.{Edition}
+use Rattle.frame.specs.Frame.{bufferLen, editionBy}
 use Rattle.journal.specs.Block.{headerLen}
 use Rattle.wire.specs.declared.Answer.{Answer}
 use Rattle.wire.specs.declared.Answer.the-variants.{Done, More, Refused}
@@ -32,17 +33,17 @@ unfoldable pub noPlaces : List ℕ
 noPlaces = replicate 256 0
 
 unfoldable pub noFrame : List ℕ
-noFrame = replicate maxFrame 0
+noFrame = replicate bufferLen 0
 
--- of each host
-abbrev pub noMarks : List ℕ
-noMarks = 0 ∷ 0 ∷ 0 ∷ 0 ∷ []
+-- zero for each host
+abbrev pub zeroEach : List ℕ
+zeroEach = 0 ∷ 0 ∷ 0 ∷ 0 ∷ []
 
 abbrev pub noWipes : List ℕ
 noWipes = replicate maxBlocks 0
 
 abbrev pub noJob : Job
-noJob = record { wipe = noWipes; wipes = 0; moves = false; drops = false; target = 0; time = 0; since = noMarks; size = 0 }
+noJob = record { wipe = noWipes; wipes = 0; moves = false; drops = false; target = 0; time = 0; since = zeroEach; size = 0; edition = 0 }
 
 -- step of the stage; next offset of the block made; next id and next journal offset to copy; copied frame's length and next byte
 abbrev pub cursor : ℕ → ℕ → ℕ → ℕ → ℕ → ℕ → Cursor
@@ -52,20 +53,20 @@ cursor i a d s z o = record { index = i; at = a; id = d; source = s; size = z; o
 abbrev pub starting : ℕ → ℕ → Cursor
 starting id source = cursor 0 headerLen id source 0 0
 
--- number of blocks, image length less one, current block, end of its whole frames; nothing pending
-abbrev pub rest : ℕ → ℕ → ℕ → ℕ → Rest
-rest N l k e = record { blocks = N; last = l; block = k; end = e; pending = noMarks }
+-- number of blocks, image length less one, current block, end of its whole frames, its edition's number; nothing pending
+abbrev pub rest : ℕ → ℕ → ℕ → ℕ → ℕ → Rest
+rest N l k e n = record { blocks = N; last = l; block = k; end = e; pending = zeroEach; edition = n }
 
--- the same image with another current block, or the same block with another end
-abbrev pub landing : Rest → ℕ → ℕ → Rest
-landing z k e = record { blocks = z .blocks; last = z .last; block = k; end = e; pending = z .pending }
+-- the same image with another current block, of an edition by its number, or the same block with another end
+abbrev pub landing : Rest → ℕ → ℕ → ℕ → Rest
+landing z n k e = record { blocks = z .blocks; last = z .last; block = k; end = e; pending = z .pending; edition = n }
 
 abbrev pub ending : Rest → ℕ → Rest
-ending z e = landing z (z .block) e
+ending z e = landing z (z .edition) (z .block) e
 
 -- the same place with these bytes pending, a number for each host
 abbrev pub counting : Rest → List ℕ → Rest
-counting z ps = record { blocks = z .blocks; last = z .last; block = z .block; end = z .end; pending = ps }
+counting z ps = record { blocks = z .blocks; last = z .last; block = z .block; end = z .end; pending = ps; edition = z .edition }
 
 -- a record in no job
 abbrev pub resting : Phase → Rest → Record
@@ -80,9 +81,16 @@ resting p z =
       frame = noFrame;
     }
 
+-- document 02, K9: "The record carries the edition by which a read goes", a job that of the block that it makes
+abbrev pub readsIn : Record → Edition
+readsIn r = editionBy (r .rest .edition)
+
+abbrev pub makesIn : Record → Edition
+makesIn r = editionBy (r .job .edition)
+
 -- "unmounted, idle, or in a job"
 abbrev pub unmounted : Record
-unmounted = resting Unmounted (rest 0 0 0 0)
+unmounted = resting Unmounted (rest 0 0 0 0 0)
 
 abbrev pub idle : Rest → Record
 idle z = resting Idle z

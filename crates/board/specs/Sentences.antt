@@ -1,8 +1,8 @@
 -- Document 01's sentences on the frame that a request appends, on the steps of each job and on a read's stretch, "Frames", "Jobs" and
--- "What hosts send", document 02's on a format's order, K4, and the statements that the definitions say exactly these.
+-- "What hosts send", document 02's on a format's order, K4, and on pending counts, K7, and the statements that the definitions say exactly these.
 use mathlib.Core.List.{List, [], _∷_, _++_, map}
 use mathlib.Core.Logic.{_↔_}
-use mathlib.Core.Option.{none, some, Option·map}
+use mathlib.Core.Option.{Option, none, some}
 use mathlib.Core.Bool.{true}
 use mathlib.Core.Path.{_≡_}
 use Prim.Native.Nat.{ℕ, suc, _+_, _-_, _*_, _/_, _%_, _≤_, _<_}
@@ -11,46 +11,69 @@ use Rattle.flash.specs.Bytes.{Bytes}
 use Rattle.flash.specs.Flash.{Step, program, erase, block, sizeOf}
 use Rattle.frame.specs.declared.Host.{Host}
 use Rattle.frame.specs.declared.ObjectId.{ObjectId}
-use Rattle.frame.specs.Frame.{Frame, encode, encodeAll}
+use Rattle.frame.specs.declared.Edition.{Edition}
+use Rattle.frame.specs.declared.Edition.the-variants as edition
+use Rattle.frame.specs.Frame.{Change, Frame, change, commit, abort, encode, encodeAll}
+use Rattle.frame.specs.ByKind.{withCrc}
 use Rattle.frame.specs.Reader.{clean, cut}
 use Rattle.journal.specs.Replay.{State, state, lookup, framesOf}
 use Rattle.journal.specs.Block.{Journal, blank, blockState}
 use Rattle.journal.specs.Room.{claimed}
 use Rattle.journal.specs.Sentences.{ValidBlock}
-use Rattle.journal.specs.Laws.{objectsAfter, pendingAfter, TakenFrom}
+use Rattle.journal.specs.Laws.{byEdition, objectsAfter, pendingAfter, changeBytes, CountsAre, TakenFrom}
 use Rattle.wire.specs.declared.Page.{Page}
-use Rattle.wire.specs.declared.Request.the-variants.{Put, Delete, Commit, Abort, Read, Log}
+use Rattle.wire.specs.declared.Request.the-variants.{Put, Delete, Commit, Abort, Read, Log, Convert}
 use Rattle.wire.specs.Sentences.{Means}
 use Rattle.board.specs.declared.Record.{Record}
+use Rattle.board.specs.Record.{idle}
 use Rattle.board.specs.Mount.{Store, replayOf}
 use Rattle.board.specs.Queue.{needsRoom, placeOf}
-use Rattle.board.specs.Table.{frameFor, Allowed, ValidAt}
-use Rattle.board.specs.Plan.{transferPlan, formatWork, frameWork, mountWork}
+use Rattle.board.specs.Table.{Task, idles, appends, converts, taskFor, secondUsed, Allowed, ValidAt}
+use Rattle.board.specs.Plan.{transferPlan, formatWork, frameWork, mountWork, convertWork}
 
 -- ---- which requests append a frame, and its bytes
 
+-- the bytes of the frame that is appended, if one is
+abbrev pub taskBytes : Journal → Task → Option (List ℕ)
+taskBytes x idles = none
+taskBytes x (appends f) = some (encode (x .edition) f)
+taskBytes x converts = none
+
 -- "Length (2, whole frame), kind (2), body, finish byte 0xFE": "1 put: host 1, id 2, value v", "2 delete: host 1, id 2", "3 commit: host 1",
--- "4 abort: host 1". "Commit or abort with nothing pending is done in 0 steps." A read and a log append none
+-- "4 abort: host 1". "Commit or abort with nothing pending is done in 0 steps." A read, a log and a convert append none
 pub record FrameExact : Type 0 where
-  pub of-put : (h : Host) (m : List ℕ) (x : Journal) (i : ObjectId) → h .0 ≤ 3 → Bytes m → Means m (Put i)
-      → Option·map encode (frameFor h m x (Put i))
+  pub of-put : (h : Host) (m : List ℕ) (x : Journal) (i : ObjectId) → h .0 ≤ 3 → Bytes m → Means m (Put i) → x .edition ≡ edition.First
+      → taskBytes x (taskFor h m x (Put i))
       ≡ some ((8 + length (drop 6 m)) ∷ 0 ∷ 1 ∷ 0 ∷ h .0 ∷ i .0 ∷ 0 ∷ (drop 6 m ++ (0xFE ∷ [])))
-  pub of-delete : (h : Host) (m : List ℕ) (x : Journal) (i : ObjectId) → h .0 ≤ 3 → Means m (Delete i)
-      → Option·map encode (frameFor h m x (Delete i)) ≡ some (8 ∷ 0 ∷ 2 ∷ 0 ∷ h .0 ∷ i .0 ∷ 0 ∷ 0xFE ∷ [])
-  pub of-commit : (h : Host) (m : List ℕ) (x : Journal) → (pendingAfter h (x .frames) ≡ [] → ⊥)
-      → Option·map encode (frameFor h m x Commit) ≡ some (6 ∷ 0 ∷ 3 ∷ 0 ∷ h .0 ∷ 0xFE ∷ [])
-  pub commit-nothing : (h : Host) (m : List ℕ) (x : Journal) → pendingAfter h (x .frames) ≡ [] → frameFor h m x Commit ≡ none
-  pub of-abort : (h : Host) (m : List ℕ) (x : Journal) → (pendingAfter h (x .frames) ≡ [] → ⊥)
-      → Option·map encode (frameFor h m x Abort) ≡ some (6 ∷ 0 ∷ 4 ∷ 0 ∷ h .0 ∷ 0xFE ∷ [])
-  pub abort-nothing : (h : Host) (m : List ℕ) (x : Journal) → pendingAfter h (x .frames) ≡ [] → frameFor h m x Abort ≡ none
-  pub of-read : (h : Host) (m : List ℕ) (x : Journal) (i : ObjectId) → frameFor h m x (Read i) ≡ none
-  pub of-log : (h : Host) (m : List ℕ) (x : Journal) (p : Page) → frameFor h m x (Log p) ≡ none
+  pub of-delete : (h : Host) (m : List ℕ) (x : Journal) (i : ObjectId) → h .0 ≤ 3 → Means m (Delete i) → x .edition ≡ edition.First
+      → taskBytes x (taskFor h m x (Delete i)) ≡ some (8 ∷ 0 ∷ 2 ∷ 0 ∷ h .0 ∷ i .0 ∷ 0 ∷ 0xFE ∷ [])
+  pub of-commit : (h : Host) (m : List ℕ) (x : Journal) → (pendingAfter h (x .frames) ≡ [] → ⊥) → x .edition ≡ edition.First
+      → taskBytes x (taskFor h m x Commit) ≡ some (6 ∷ 0 ∷ 3 ∷ 0 ∷ h .0 ∷ 0xFE ∷ [])
+  pub commit-nothing : (h : Host) (m : List ℕ) (x : Journal) → pendingAfter h (x .frames) ≡ [] → taskFor h m x Commit ≡ idles
+  pub of-abort : (h : Host) (m : List ℕ) (x : Journal) → (pendingAfter h (x .frames) ≡ [] → ⊥) → x .edition ≡ edition.First
+      → taskBytes x (taskFor h m x Abort) ≡ some (6 ∷ 0 ∷ 4 ∷ 0 ∷ h .0 ∷ 0xFE ∷ [])
+  pub abort-nothing : (h : Host) (m : List ℕ) (x : Journal) → pendingAfter h (x .frames) ≡ [] → taskFor h m x Abort ≡ idles
+  pub of-read : (h : Host) (m : List ℕ) (x : Journal) (i : ObjectId) → taskFor h m x (Read i) ≡ idles
+  pub of-log : (h : Host) (m : List ℕ) (x : Journal) (p : Page) → taskFor h m x (Log p) ≡ idles
+  -- K9: "else a transfer takes the store to edition 2, or 0 steps do if it is there"
+  pub convert-first : (h : Host) (m : List ℕ) (x : Journal) → x .edition ≡ edition.First → taskFor h m x Convert ≡ converts
+  pub convert-second : (h : Host) (m : List ℕ) (x : Journal) → x .edition ≡ edition.Second → taskFor h m x Convert ≡ idles
+  -- K9: "each frame has four bytes of CRC-32 .., over all that precedes them in the frame, before the finish byte"
+  pub put-second : (h : Host) (m : List ℕ) (x : Journal) (i : ObjectId) → h .0 ≤ 3 → Bytes m → Means m (Put i) → x .edition ≡ edition.Second
+      → taskBytes x (taskFor h m x (Put i))
+      ≡ some (withCrc ((12 + length (drop 6 m)) ∷ 0 ∷ 1 ∷ 0 ∷ h .0 ∷ i .0 ∷ 0 ∷ drop 6 m))
+  pub delete-second : (h : Host) (m : List ℕ) (x : Journal) (i : ObjectId) → h .0 ≤ 3 → Means m (Delete i) → x .edition ≡ edition.Second
+      → taskBytes x (taskFor h m x (Delete i)) ≡ some (withCrc (12 ∷ 0 ∷ 2 ∷ 0 ∷ h .0 ∷ i .0 ∷ 0 ∷ []))
+  pub commit-second : (h : Host) (m : List ℕ) (x : Journal) → (pendingAfter h (x .frames) ≡ [] → ⊥) → x .edition ≡ edition.Second
+      → taskBytes x (taskFor h m x Commit) ≡ some (withCrc (10 ∷ 0 ∷ 3 ∷ 0 ∷ h .0 ∷ []))
+  pub abort-second : (h : Host) (m : List ℕ) (x : Journal) → (pendingAfter h (x .frames) ≡ [] → ⊥) → x .edition ≡ edition.Second
+      → taskBytes x (taskFor h m x Abort) ≡ some (withCrc (10 ∷ 0 ∷ 4 ∷ 0 ∷ h .0 ∷ []))
 
 -- "after a transfer if end + n exceeds S"; document 02, K14: "The image is N blocks of S bytes"
 unfoldable pub NeedsExact : Type 0
 NeedsExact =
-    (N : ℕ) (img : List ℕ) (s : ℕ) (r : Record) (f : Frame) → 1 ≤ N → length img ≡ N * s
-    → (needsRoom N img r f ≡ true) ↔ (s < r .rest .end + length (encode f))
+    (N : ℕ) (img : List ℕ) (s : ℕ) (r : Record) (x : Journal) (f : Frame) → 1 ≤ N → length img ≡ N * s
+    → (needsRoom N img r x f ≡ true) ↔ (s < r .rest .end + length (encode (x .edition) f))
 
 -- ---- the steps of each job
 
@@ -65,19 +88,21 @@ pub data NextOf (N k : ℕ) : ℕ → Type 0 where
   round : suc k ≡ N → NextOf N k 0
 
 -- "Transfer, into the blank half: byte 8 to 0xFE, header bytes 0-3, settled frames by rising id, pending frames in their order, inverse of
--- (time + 1), byte 8 to 0xFC, erase of the old half. C-5 steps." Of block k into block j; "length, 16", "kind, 0x4A01"
-pub record TransferSteps (N k j : ℕ) (x : Journal) (st : State) : Type 0 where
+-- (time + 1), byte 8 to 0xFC, erase of the old half. C-5 steps." Of block k into block j; "length, 16", "kind, 0x4A01"; K9: "In edition 2 the header
+-- kind is 0x4A02"
+pub record TransferSteps (ed : Edition) (N k j : ℕ) (x : Journal) (st : State) : Type 0 where
   pub copied : List Step
-  pub steps : transferPlan N k x st
-      ≡ program j 8 0xFE ∷ program j 0 16 ∷ program j 1 0 ∷ program j 2 0x01 ∷ program j 3 0x4A
+  pub steps : transferPlan ed N k x st
+      ≡ program j 8 0xFE ∷ program j 0 16 ∷ program j 1 0 ∷ program j 2 (byEdition ed 0x01 0x02) ∷ program j 3 0x4A
       ∷ (copied
       ++ (program j 4 (255 - suc (x .time) % 256) ∷ program j 5 (255 - suc (x .time) / 256 % 256) ∷ program j 6 (255 - suc (x .time) / 65536 % 256)
       ∷ program j 7 (255 - suc (x .time) / 16777216) ∷ program j 8 0xFC ∷ erase k ∷ []))
-  pub frames : Programs j 16 (encodeAll (framesOf st)) copied
-  pub count : length (transferPlan N k x st) + 5 ≡ claimed st
+  pub frames : Programs j 16 (encodeAll ed (framesOf st)) copied
+  pub count : length (transferPlan ed N k x st) + 5 ≡ claimed ed st
 
 unfoldable pub TransferExact : Type 0
-TransferExact = (N k j : ℕ) (x : Journal) (st : State) → NextOf N k j → suc (x .time) ≤ 4294967295 → TransferSteps N k j x st
+TransferExact =
+    (ed : Edition) (N k j : ℕ) (x : Journal) (st : State) → NextOf N k j → suc (x .time) ≤ 4294967295 → TransferSteps ed N k j x st
 
 -- "then half 0's header at time 1 in the same order"
 abbrev pub firstHeader : List Step
@@ -114,11 +139,24 @@ pub record FormatExact : Type 0 where
 
 -- "one frame of n bytes, after a transfer if end + n exceeds S": at the recorded end, or in the next block past what was copied there
 pub record AppendExact : Type 0 where
-  pub stays : (N : ℕ) (img : List ℕ) (r : Record) (x : Journal) (f : Frame) → r .rest .end + length (encode f) ≤ sizeOf N img
-      → Programs (r .rest .block) (r .rest .end) (encode f) (frameWork N img r x f .steps)
-  pub moves : (N j : ℕ) (img : List ℕ) (r : Record) (x : Journal) (f : Frame) → NextOf N (r .rest .block) j → sizeOf N img < r .rest .end + length (encode f)
-      → (appended : List Step) × (frameWork N img r x f .steps ≡ transferPlan N (r .rest .block) x (replayOf x) ++ appended)
-      × Programs j (16 + length (encodeAll (framesOf (replayOf x)))) (encode f) appended
+  pub stays : (N : ℕ) (img : List ℕ) (r : Record) (x : Journal) (f : Frame) → r .rest .end + length (encode (x .edition) f) ≤ sizeOf N img
+      → Programs (r .rest .block) (r .rest .end) (encode (x .edition) f) (frameWork N img r x f .steps)
+  pub moves : (N j : ℕ) (img : List ℕ) (r : Record) (x : Journal) (f : Frame) → NextOf N (r .rest .block) j
+      → sizeOf N img < r .rest .end + length (encode (x .edition) f)
+      → (appended : List Step) × (frameWork N img r x f .steps ≡ transferPlan (x .edition) N (r .rest .block) x (replayOf x) ++ appended)
+      × Programs j (16 + length (encodeAll (x .edition) (framesOf (replayOf x)))) (encode (x .edition) f) appended
+
+-- K9: "a transfer takes the store to edition 2": the transfer's steps, U in edition 2 less 5 of them, then a record of the next block, of the end that
+-- U is, and of edition 2; blocks, length and counts stay
+pub record ConvertExact : Type 0 where
+  pub steps : (N j : ℕ) (img : List ℕ) (r : Record) (x : Journal) → NextOf N (r .rest .block) j → suc (x .time) ≤ 4294967295
+      → TransferSteps edition.Second N (r .rest .block) j x (state (objectsAfter (x .frames)) [])
+  pub work : (N : ℕ) (img : List ℕ) (r : Record) (x : Journal)
+      → convertWork N img r x .steps ≡ transferPlan edition.Second N (r .rest .block) x (state (objectsAfter (x .frames)) [])
+  pub count : (N : ℕ) (img : List ℕ) (r : Record) (x : Journal) → length (convertWork N img r x .steps) + 5 ≡ secondUsed x
+  pub last : (N j : ℕ) (img : List ℕ) (r : Record) (x : Journal) → NextOf N (r .rest .block) j
+      → convertWork N img r x .last
+      ≡ idle (record { blocks = r .rest .blocks; last = r .rest .last; block = j; end = secondUsed x; pending = r .rest .pending; edition = 2 })
 
 -- a number stands in a list
 abbrev pub Member : ℕ → List ℕ → Type 0
@@ -132,13 +170,40 @@ pub record MountSteps (N : ℕ) (img : List ℕ) (x : Store) : Type 0 where
   pub steps : mountWork N img x .steps ≡ map erase erased ++ moves
   pub by-number : (i : ℕ) → suc i < length erased → getD erased i 0 < getD erased (suc i) 0
   pub every : (j : ℕ) → Member j erased ↔ ((j < N) × (j ≡ x .number → ⊥) × (blockState (block (sizeOf N img) j img) ≡ blank → ⊥))
-  pub torn : (n : ℕ) → x .journal .tail ≡ cut n → moves ≡ transferPlan N (x .number) (x .journal) (state (objectsAfter (x .journal .frames)) [])
+  pub torn : (n : ℕ) → x .journal .tail ≡ cut n
+      → moves ≡ transferPlan (x .journal .edition) N (x .number) (x .journal) (state (objectsAfter (x .journal .frames)) [])
   pub pending : x .journal .tail ≡ clean → (replayOf (x .journal) .pending ≡ [] → ⊥)
-      → moves ≡ transferPlan N (x .number) (x .journal) (state (objectsAfter (x .journal .frames)) [])
+      → moves ≡ transferPlan (x .journal .edition) N (x .number) (x .journal) (state (objectsAfter (x .journal .frames)) [])
   pub at-rest : x .journal .tail ≡ clean → replayOf (x .journal) .pending ≡ [] → moves ≡ []
 
 unfoldable pub MountExact : Type 0
 MountExact = (N : ℕ) (img : List ℕ) (x : Store) → MountSteps N img x
+
+-- ---- the pending counts after each job
+
+-- a host's, in a record; and after the job of frame f, with a transfer or without
+abbrev pub countIn : Record → Host → ℕ
+countIn r g = getD (r .rest .pending) (g .0) 0
+
+abbrev pub countAfter : ℕ → List ℕ → Record → Journal → Frame → Host → ℕ
+countAfter N img r x f g = countIn (frameWork N img r x f .last) g
+
+-- document 02, K7: "The board record carries each host's pending bytes as replay gives them": a put or delete adds its frame's to its host's,
+-- a commit or abort clears its host's, other hosts' stay; a mount or format clears all
+pub record CountsExact : Type 0 where
+  pub four : (N : ℕ) (img : List ℕ) (r : Record) (x : Journal) (f : Frame) → length (frameWork N img r x f .last .rest .pending) ≡ 4
+  pub change-own : (N : ℕ) (img : List ℕ) (r : Record) (x : Journal) (h : Host) (c : Change) → h .0 ≤ 3 → CountsAre (x .edition) (r .rest .pending) (x .frames)
+      → countAfter N img r x (change h c) h ≡ countIn r h + changeBytes (x .edition) c
+  pub change-other : (N : ℕ) (img : List ℕ) (r : Record) (x : Journal) (g h : Host) (c : Change) → g .0 ≤ 3 → (g .0 ≡ h .0 → ⊥)
+      → CountsAre (x .edition) (r .rest .pending) (x .frames) → countAfter N img r x (change h c) g ≡ countIn r g
+  pub commit-own : (N : ℕ) (img : List ℕ) (r : Record) (x : Journal) (h : Host) → h .0 ≤ 3 → countAfter N img r x (commit h) h ≡ 0
+  pub commit-other : (N : ℕ) (img : List ℕ) (r : Record) (x : Journal) (g h : Host) → g .0 ≤ 3 → (g .0 ≡ h .0 → ⊥)
+      → CountsAre (x .edition) (r .rest .pending) (x .frames) → countAfter N img r x (commit h) g ≡ countIn r g
+  pub abort-own : (N : ℕ) (img : List ℕ) (r : Record) (x : Journal) (h : Host) → h .0 ≤ 3 → countAfter N img r x (abort h) h ≡ 0
+  pub abort-other : (N : ℕ) (img : List ℕ) (r : Record) (x : Journal) (g h : Host) → g .0 ≤ 3 → (g .0 ≡ h .0 → ⊥)
+      → CountsAre (x .edition) (r .rest .pending) (x .frames) → countAfter N img r x (abort h) g ≡ countIn r g
+  pub mounted : (N : ℕ) (img : List ℕ) (x : Store) → mountWork N img x .last .rest .pending ≡ 0 ∷ 0 ∷ 0 ∷ 0 ∷ []
+  pub formatted : (N : ℕ) (img : List ℕ) → formatWork N img .last .rest .pending ≡ 0 ∷ 0 ∷ 0 ∷ 0 ∷ []
 
 -- ---- a read's stretch
 
@@ -147,4 +212,4 @@ unfoldable pub StretchExact : Type 0
 StretchExact =
     (N : ℕ) (img : List ℕ) (r : Record) (x : Journal) (i : ObjectId) (v : List ℕ)
     → ValidBlock (block (sizeOf N img) (r .rest .block) img) x → i .0 ≤ 255 → lookup i (objectsAfter (x .frames)) ≡ some v
-    → (at : ℕ) × (placeOf N img r x i ≡ record { at = r .rest .block * sizeOf N img + at; size = length v }) × TakenFrom (x .frames) i v at
+    → (at : ℕ) × (placeOf N img r x i ≡ record { at = r .rest .block * sizeOf N img + at; size = length v }) × TakenFrom (x .edition) (x .frames) i v at

@@ -17,7 +17,7 @@ use Rattle.board.specs.declared.Phase.{Phase}
 use Rattle.board.specs.declared.Phase.the-variants.{Unmounted, Idle, Busy}
 use Rattle.board.specs.declared.Cursor.{Cursor}
 use Rattle.board.specs.declared.Record.{Record}
-use Rattle.board.specs.Record.{landing, ending, idle, cursor, inStage, buffer, Out, out, refuse, answerOf}
+use Rattle.board.specs.Record.{landing, ending, idle, cursor, inStage, readsIn, makesIn, buffer, Out, out, refuse, answerOf}
 
 -- ---- entering a stage: the first from there on that has a step; the record idle where none has
 
@@ -38,7 +38,7 @@ abbrev pub landed : Record → Record
 landed r =
     record {
       phase = r .phase;
-      rest = landing (r .rest) (r .job .target) (r .cursor .at);
+      rest = landing (r .rest) (r .job .edition) (r .job .target) (r .cursor .at);
       places = r .places;
       job = r .job;
       cursor = r .cursor;
@@ -50,7 +50,7 @@ landed r =
 unfoldable pub enterDrop : Record → Record
 enterDrop r = cond (r .job .drops) (enter Drop r) (enterAppend (landed r))
 
--- a frame to copy is put into the buffer; where none is left the block is sealed
+-- a frame to copy is put into the buffer, by the edition that is made; where none is left the block is sealed
 abbrev pub loaded : Record → Load → Record
 loaded r u =
     record {
@@ -58,8 +58,8 @@ loaded r u =
       rest = r .rest;
       places = r .places;
       job = r .job;
-      cursor = cursor 0 (r .cursor .at) (u .id) (u .source) (frameLen (u .frame)) 0;
-      unit = buffer (encode (u .frame));
+      cursor = cursor 0 (r .cursor .at) (u .id) (u .source) (frameLen (makesIn r) (u .frame)) 0;
+      unit = buffer (encode (makesIn r) (u .frame));
       frame = r .frame;
     }
 
@@ -70,7 +70,8 @@ loadOr r none = enter Seal r
 -- "settled frames by rising id, pending frames in their order": the next one, read from the current block
 unfoldable pub enterCopy : ℕ → List ℕ → Record → Record
 enterCopy N img r =
-    loadOr r (nextLoad (block (sizeOf N img) (r .rest .block) img) (r .rest .end) (r .places) (r .job .since) (r .cursor .id) (r .cursor .source))
+    loadOr r
+    (nextLoad (readsIn r) (block (sizeOf N img) (r .rest .block) img) (r .rest .end) (r .places) (r .job .since) (r .cursor .id) (r .cursor .source))
 
 -- a job that makes no block goes on to its frame
 unfoldable pub enterOpen : Record → Record
@@ -89,7 +90,7 @@ begin img reply r = out (answerOf (enterWipe r)) img (enterWipe r) reply
 -- the flash step that a job does next
 abbrev pub action : Stage → Record → Step
 action Wipe r = erase (getD (r .job .wipe) (r .cursor .index) 0)
-action Open r = writeStep (r .job .target) (openWrite (r .cursor .index))
+action Open r = writeStep (r .job .target) (openWrite (makesIn r) (r .cursor .index))
 action Copy r = program (r .job .target) (r .cursor .at) (getD (r .unit) (r .cursor .off) 0)
 action Seal r = writeStep (r .job .target) (sealWrite (r .job .time) (r .cursor .index))
 action Drop r = erase (r .rest .block)

@@ -8,22 +8,24 @@ use Prim.Native.Nat.{ℕ, suc, _+_, _*_, _%_, _≤_, _<_, _/_}
 use lib.ListN.{length}
 use Rattle.flash.specs.Bytes.{Bytes}
 use Rattle.flash.specs.Flash.{Step, block, sizeOf, blockOf, offsetOf}
+use Rattle.frame.specs.declared.Edition.{Edition}
+use Rattle.frame.specs.declared.Edition.the-variants as edition
 use Rattle.frame.specs.declared.Host.{Host}
 use Rattle.frame.specs.declared.ObjectId.{ObjectId}
 use Rattle.frame.specs.Frame.{Frame, put, delete, frameLen, total, change, commit, abort}
 use Rattle.frame.specs.Reader.{fault, clean}
 use Rattle.frame.specs.declared.Fault.{Fault}
 use Rattle.frame.specs.declared.Field.the-variants as field
-use Rattle.journal.specs.Replay.{entry, lookup, isOpen, State, listOf}
+use Rattle.journal.specs.Replay.{entry, lookup, isOpen, listOf}
 use Rattle.journal.specs.Block.{Journal, headerLen}
 use Rattle.journal.specs.Faults.{FaultIn}
 use Rattle.journal.specs.Sentences.{BlankBlock, ValidBlock, ForeignBlock}
-use Rattle.journal.specs.Room.{openHosts, claimed}
-use Rattle.journal.specs.Laws.{CountsAre, changesBytes}
+use Rattle.journal.specs.Room.{openHosts}
+use Rattle.journal.specs.Laws.{byEdition, settledBytes, CountsAre, changesBytes}
 use Rattle.wire.specs.declared.Answer.{Answer}
 use Rattle.wire.specs.declared.Page.{Page}
 use Rattle.wire.specs.declared.Request.{Request}
-use Rattle.wire.specs.declared.Request.the-variants.{Put, Delete, Read, Log, Commit, Abort}
+use Rattle.wire.specs.declared.Request.the-variants.{Put, Delete, Read, Log, Commit, Abort, Convert}
 use Rattle.wire.specs.Answer.{numberOf}
 use Rattle.wire.specs.Message.{valueIn}
 use Rattle.board.specs.declared.Stage.{Stage}
@@ -37,20 +39,32 @@ use Rattle.board.specs.Queue.{held, Asking, asking, sizeFor}
 use Rattle.board.specs.Exec.{Call, request, step, mount, format}
 use Rattle.wire.specs.Sentences.{Means}
 
--- ---- the frame that a request appends
+-- ---- what an accepted request is to do
 
--- "Put, delete, commit, abort: one frame of n bytes"; "Commit or abort with nothing pending is done in 0 steps."
-abbrev pub frameIf : Bool → Frame → Option Frame
-frameIf true f = some f
-frameIf false f = none
+-- nothing; "Put, delete, commit, abort: one frame of n bytes"; document 02, K9: "a transfer takes the store to edition 2"
+pub data Task : Type 0 where
+  idles : Task
+  appends : Frame → Task
+  converts : Task
 
-abbrev pub frameFor : Host → List ℕ → Journal → Request → Option Frame
-frameFor h m x (Put i) = some (change h (put i (valueIn m)))
-frameFor h m x (Delete i) = some (change h (delete i))
-frameFor h m x Commit = frameIf (isOpen h (replayOf x .pending)) (commit h)
-frameFor h m x Abort = frameIf (isOpen h (replayOf x .pending)) (abort h)
-frameFor h m x (Read i) = none
-frameFor h m x (Log p) = none
+-- "Commit or abort with nothing pending is done in 0 steps."
+abbrev pub endTask : Bool → Frame → Task
+endTask true f = appends f
+endTask false f = idles
+
+-- K9: "or 0 steps do if it is there"
+abbrev pub convertTask : Edition → Task
+convertTask edition.First = converts
+convertTask edition.Second = idles
+
+abbrev pub taskFor : Host → List ℕ → Journal → Request → Task
+taskFor h m x (Put i) = appends (change h (put i (valueIn m)))
+taskFor h m x (Delete i) = appends (change h (delete i))
+taskFor h m x Commit = endTask (isOpen h (replayOf x .pending)) (commit h)
+taskFor h m x Abort = endTask (isOpen h (replayOf x .pending)) (abort h)
+taskFor h m x (Read i) = idles
+taskFor h m x (Log p) = idles
+taskFor h m x Convert = convertTask (x .edition)
 
 -- ---- lines
 
@@ -86,17 +100,19 @@ InJob (Busy s) = Unit {0}
 
 -- 11: "idle record: its length differs, or the image read afresh isn't: recorded half valid, its last whole frame (or the header, if
 -- none) ending exactly at the recorded end with only 0xFF after it, other half blank, C + 6·open at most S"; K14: "A record of another N gets 11";
--- K7: "each host's pending bytes as replay gives them; refusal 11 covers any other"
+-- K7: "each host's pending bytes as replay gives them; refusal 11 covers any other"; K9: "The record carries the edition ..; elsewhere 11 covers any
+-- other", "10 for each 6"
 pub record Fresh (N : ℕ) (img : List ℕ) (r : Record) (x : Journal) : Type 0 where
   pub length-is : length img ≡ suc (r .rest .last)
   pub blocks-are : N ≡ r .rest .blocks
   pub there : r .rest .block < N
   pub is-valid : ValidBlock (block (sizeOf N img) (r .rest .block) img) x
   pub is-clean : x .tail ≡ clean
-  pub ends : headerLen + total (x .frames) ≡ r .rest .end
-  pub pending : CountsAre (r .rest .pending) (x .frames)
+  pub ends : headerLen + total (x .edition) (x .frames) ≡ r .rest .end
+  pub edition-is : r .rest .edition ≡ byEdition (x .edition) 1 2
+  pub pending : CountsAre (x .edition) (r .rest .pending) (x .frames)
   pub others-blank : (j : ℕ) → j < N → (j ≡ r .rest .block → ⊥) → BlankBlock (block (sizeOf N img) j img)
-  pub room : claimedOf x + 6 * openHosts (replayOf x .pending) ≤ sizeOf N img
+  pub room : claimedOf x + byEdition (x .edition) 6 10 * openHosts (replayOf x .pending) ≤ sizeOf N img
 
 -- `held` finds exactly this
 unfoldable pub FreshExact : Type 0
@@ -120,43 +136,65 @@ pub record ShortReply (a : Asking) : Type 0 where
   pub short : length (a .reply) < 14
 
 -- "with `open` the hosts that would then have something pending": what a put of a value would need, "C + n + 6·open + 14", and what a delete,
--- "C + 8 + 6·open". They judge `journal/Room: noRoom` and share no sum with it
-abbrev pub putNeeds : State → Host → ObjectId → List ℕ → ℕ
-putNeeds s h i v = claimed s + (8 + length v) + 6 * openHosts (s .pending ++ (entry h (put i v) ∷ [])) + 14
+-- "C + 8 + 6·open"; K9: "The room rule .. then have 12 for the delete, 10 for each 6 and 22 for 14". They judge `journal/Room: noRoom` and share no sum
+-- with it
+abbrev pub putNeeds : Journal → Host → ObjectId → List ℕ → ℕ
+putNeeds x h i v =
+    claimedOf x + (byEdition (x .edition) 8 12 + length v) + byEdition (x .edition) 6 10 * openHosts (replayOf x .pending ++ (entry h (put i v) ∷ []))
+    + byEdition (x .edition) 14 22
 
-abbrev pub deleteNeeds : State → Host → ObjectId → ℕ
-deleteNeeds s h i = claimed s + 8 + 6 * openHosts (s .pending ++ (entry h (delete i) ∷ []))
+abbrev pub deleteNeeds : Journal → Host → ObjectId → ℕ
+deleteNeeds x h i =
+    claimedOf x + byEdition (x .edition) 8 12 + byEdition (x .edition) 6 10 * openHosts (replayOf x .pending ++ (entry h (delete i) ∷ []))
 
--- what a host's pending frames would come to with a put of a value, "8+v" bytes, and with a delete, "8". They judge `journal/Room: hostFull`
-abbrev pub putShare : State → Host → List ℕ → ℕ
-putShare s h v = changesBytes (listOf h (s .pending)) + (8 + length v)
+-- what a host's pending frames would come to with a put of a value, "8+v" bytes, and with a delete, "8"; in edition 2 four more. They judge
+-- `journal/Room: hostFull`
+abbrev pub putShare : Journal → Host → List ℕ → ℕ
+putShare x h v = changesBytes (x .edition) (listOf h (replayOf x .pending)) + (byEdition (x .edition) 8 12 + length v)
 
-abbrev pub deleteShare : State → Host → ℕ
-deleteShare s h = changesBytes (listOf h (s .pending)) + 8
+abbrev pub deleteShare : Journal → Host → ℕ
+deleteShare x h = changesBytes (x .edition) (listOf h (replayOf x .pending)) + byEdition (x .edition) 8 12
+
+-- 16, K9: "A convert request .. gets a new 16 if anything is pending"
+pub record StillPending (a : Asking) : Type 0 where
+  pub holding : Journal
+  pub is-held : FreshFor a holding
+  pub is-asked : Means (a .message) Convert
+  pub some-pending : replayOf holding .pending ≡ [] → ⊥
+
+-- "U in edition 2": "16 plus the length of one settled frame for each settled object"
+abbrev pub secondUsed : Journal → ℕ
+secondUsed x = 16 + settledBytes edition.Second (replayOf x .objects)
 
 -- 12, K7: "Refuse a put or delete with a new 12, before 7, exactly if that host's pending frames would come to more than S/2 bytes."
 pub data HostFull (a : Asking) : Type 0 where
   put-over : (x : Journal) (i : ObjectId) → FreshFor a x → Means (a .message) (Put i)
-      → sizeFor a / 2 < putShare (replayOf x) (a .host) (valueIn (a .message)) → HostFull a
+      → sizeFor a / 2 < putShare x (a .host) (valueIn (a .message)) → HostFull a
   delete-over : (x : Journal) (i : ObjectId) → FreshFor a x → Means (a .message) (Delete i)
-      → sizeFor a / 2 < deleteShare (replayOf x) (a .host) → HostFull a
+      → sizeFor a / 2 < deleteShare x (a .host) → HostFull a
 
--- 7: "a put is refused exactly if C + n + 6·open + 14 > S, a delete exactly if C + 8 + 6·open > S"
+-- 7: "a put is refused exactly if C + n + 6·open + 14 > S, a delete exactly if C + 8 + 6·open > S"; K9, of a convert: "7 exactly if U in edition 2
+-- exceeds S"
 pub data NoRoom (a : Asking) : Type 0 where
   for-put : (x : Journal) (i : ObjectId) → FreshFor a x → Means (a .message) (Put i)
-      → sizeFor a < putNeeds (replayOf x) (a .host) i (valueIn (a .message)) → NoRoom a
+      → sizeFor a < putNeeds x (a .host) i (valueIn (a .message)) → NoRoom a
   for-delete : (x : Journal) (i : ObjectId) → FreshFor a x → Means (a .message) (Delete i)
-      → sizeFor a < deleteNeeds (replayOf x) (a .host) i → NoRoom a
+      → sizeFor a < deleteNeeds x (a .host) i → NoRoom a
+  for-convert : (x : Journal) → FreshFor a x → Means (a .message) Convert → sizeFor a < secondUsed x → NoRoom a
 
--- 6: "a transfer is needed, .. at time 4,294,967,295": "if end + n exceeds S"
+-- a transfer is needed: "if end + n exceeds S"; a convert is one
+abbrev pub Moves : Asking → Journal → Task → Type 0
+Moves a x idles = ⊥
+Moves a x (appends f) = sizeFor a < a .board .rest .end + frameLen (x .edition) f
+Moves a x converts = Unit {0}
+
+-- 6: "a transfer is needed, .. at time 4,294,967,295"
 pub record Worn (a : Asking) : Type 0 where
   pub holding : Journal
   pub asked : Request
-  pub frame : Frame
   pub is-held : FreshFor a holding
   pub is-asked : Means (a .message) asked
-  pub is-frame : frameFor (a .host) (a .message) holding asked ≡ some frame
-  pub exceeds : sizeFor a < a .board .rest .end + frameLen frame
+  pub moves : Moves a holding (taskFor (a .host) (a .message) holding asked)
   pub last-time : holding .time ≡ 4294967295
 
 abbrev pub requestLines : Asking → List Line
@@ -169,6 +207,7 @@ requestLines a =
     ∷ line 1 ((q : Request) → Means (a .message) q → ⊥)
     ∷ line 8 (NoObject a)
     ∷ line 9 (ShortReply a)
+    ∷ line 16 (StillPending a)
     ∷ line 12 (HostFull a)
     ∷ line 7 (NoRoom a)
     ∷ line 6 (Worn a)

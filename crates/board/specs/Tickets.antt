@@ -57,7 +57,7 @@ MarksRefused m img r (true ∷ bs) (c ∷ cs) =
 MarksRefused m img r (false ∷ bs) (c ∷ cs) = let o : Out = m img r c in MarksRefused m (o .image) (o .board) bs cs
 
 pub record BadLogLength (m : Machine) : Type 0 where
-  -- a message that is none of the six requests is refused, whatever image and record are
+  -- a message that is none of the seven requests is refused, whatever image and record are
   pub refused : (img : List ℕ) (r : Record) (h : Host) (msg reply : List ℕ) → Bytes img → ((q : Request) → Means msg q → ⊥)
       → IsRefused (request h msg reply) (m img r (request h msg reply) .answer)
   -- strike refused requests out of the list: every other call gets the same answer, image, record, reply and stretch

@@ -25,7 +25,7 @@ use Rattle.board.specs.Step.{action, advance, stepped, stepOn}
 use Rattle.board.specs.Mount.{isBlank, moves, upkeepOf, transfers, tiedTimes, mountOn, formatOn}
 use Rattle.board.specs.Queue.{held, heldIn, counted}
 use Rattle.board.specs.Exec.{exec}
-use Rattle.board.specs.Plan.{Work, Performs, formatIn, mountIn, frameIn, frameWork}
+use Rattle.board.specs.Plan.{Work, Performs, formatIn, mountIn, frameIn, frameWork, convertIn, convertWork}
 
 -- ---- the image
 
@@ -101,7 +101,7 @@ heldTwo img r =
 -- "after a transfer if end + n exceeds S", "into the blank half"
 abbrev pub frameTwo : List ℕ → Record → Journal → Frame → Work
 frameTwo img r x f =
-    let z : Rest = r .rest in frameIn (sizeTwo img) (beside (z .block)) (counted (rest 2 (z .last) (z .block) (z .end)) x f) x f
+    let z : Rest = r .rest in frameIn (sizeTwo img) (beside (z .block)) (counted (rest 2 (z .last) (z .block) (z .end) (z .edition)) x f) x f
 
 -- "in a job, 11 is given exactly if the image length isn't the record's or the job's next place lies outside it"
 abbrev pub stepTwo : Phase → List ℕ → Record → Out
@@ -135,4 +135,7 @@ pub record TwoBlocks : Type 0 where
       → frameWork 2 img r x f .steps ≡ frameTwo img r x f .steps
   pub frame-record : (img : List ℕ) (r : Record) (x : Journal) (f : Frame) → r .rest .blocks ≡ 2 → r .rest .block < 2
       → frameWork 2 img r x f .last ≡ frameTwo img r x f .last
+  -- K9: a convert's go "into the blank half" too
+  pub convert-work : (img : List ℕ) (r : Record) (x : Journal) → r .rest .block < 2
+      → convertWork 2 img r x ≡ convertIn (beside (r .rest .block)) (r .rest) x
   pub steps : (img : List ℕ) (r : Record) → r .rest .blocks ≡ 2 → stepOn 2 img r ≡ stepTwo (r .phase) img r

@@ -1,6 +1,6 @@
 // The board's types: what a record holds.
 use flash::MAX_BLOCKS;
-use frame::MAX_FRAME;
+use frame::BUFFER_LEN;
 use wire::Refusal;
 
 // The stages of a job, in their order. A stage with nothing to do is passed over.
@@ -33,6 +33,8 @@ pub struct Job {
     pub since: [u16; 4],
     // the length of the frame to append, 0 for none
     pub size: u8,
+    // the edition of the block that is made, by its number
+    pub edition: u8,
 }
 
 // How far a job has come.
@@ -59,6 +61,8 @@ pub struct Rest {
     pub end: u16,
     // each host's pending bytes; in a job, what they will be at its end
     pub pending: [u16; 4],
+    // the current block's edition, by its number; 0 in an unmounted record
+    pub edition: u8,
 }
 
 // The board record.
@@ -70,8 +74,8 @@ pub struct Record {
     pub job: Job,
     pub cursor: Cursor,
     // the frame that is copied, and the frame to append
-    pub unit: [u8; MAX_FRAME],
-    pub frame: [u8; MAX_FRAME],
+    pub unit: [u8; BUFFER_LEN],
+    pub frame: [u8; BUFFER_LEN],
 }
 
 // What a job's next flash step is: a byte to program at an offset of the image, or from an offset on so many bytes to erase; none;

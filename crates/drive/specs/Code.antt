@@ -5,7 +5,7 @@ use mathlib.Core.Bool.{true}
 use Prim.Native.Nat.{ℕ, _+_, _*_, _≤_, _<_}
 use lib.ListN.{take, drop}
 use Rattle.flash.specs.Flash.{isCount, sizeIn, sizeOf, writes, writeAll}
-use Rattle.frame.specs.Frame.{maxFrame}
+use Rattle.frame.specs.Frame.{bufferLen}
 use Rattle.board.specs.declared.Cursor.{Cursor}
 use Rattle.board.specs.declared.Record.{Record}
 use Rattle.board.specs.declared.Rest.{Rest}
@@ -39,7 +39,7 @@ pub record Short (N len : ℕ) (z : Rest) (l : Lane) (k : ℕ) : Type 0 where
   pub there : l .block < N
   pub room : k + l .at ≤ sizeIn N len
   pub inside : k + l .done < l .size
-  pub held : k + l .done < maxFrame
+  pub held : k + l .done < bufferLen
 
 -- the image with k bytes of a frame programmed
 abbrev pub laid : ℕ → Lane → List ℕ → ℕ → List ℕ → List ℕ

@@ -11,7 +11,7 @@ ghost use Rattle.drive.specs.Code.{onBy, stepsBy, Short, laid, Bursts};
 use board::Phase;
 use board::Rest;
 use board::Stage;
-use frame::MAX_FRAME;
+use frame::BUFFER_LEN;
 use job::records::Numbers;
 
 // The numbers after some steps, and how many there were.
@@ -69,7 +69,10 @@ fn burst_len(len: usize, blocks: u8, rest: Rest, lane: Lane, most: usize) -> usi
     if !job::lies_in(blocks, size, lane.block, lane.at) {
         return 0;
     }
-    let ahead = less(least(lane.size as usize, MAX_FRAME), lane.done as usize + 1);
+    let ahead = less(
+        least(lane.size as usize, BUFFER_LEN),
+        lane.done as usize + 1,
+    );
     least(least(most, size - lane.at), ahead)
 }
 
@@ -79,7 +82,7 @@ fn lay(
     blocks: u8,
     rest: Rest,
     lane: Lane,
-    frame: &[u8; MAX_FRAME],
+    frame: &[u8; BUFFER_LEN],
     most: usize,
 ) -> usize
     ensures { λ r. ⌜ (r ≤ most) × (0 < r → Short blocks (length (now (image .entry))) rest lane r)
@@ -144,7 +147,7 @@ fn burst_copy(
     image: &mut [u8],
     blocks: u8,
     n: Numbers,
-    unit: &[u8; MAX_FRAME],
+    unit: &[u8; BUFFER_LEN],
     most: usize,
 ) -> Stride
     requires { ⌜ n .phase ≡ Busy Copy ⌝ }
@@ -175,7 +178,7 @@ fn burst_append(
     image: &mut [u8],
     blocks: u8,
     n: Numbers,
-    frame: &[u8; MAX_FRAME],
+    frame: &[u8; BUFFER_LEN],
     most: usize,
 ) -> Stride
     requires { ⌜ n .phase ≡ Busy Append ⌝ }
@@ -206,8 +209,8 @@ pub fn burst(
     image: &mut [u8],
     blocks: u8,
     n: Numbers,
-    unit: &[u8; MAX_FRAME],
-    frame: &[u8; MAX_FRAME],
+    unit: &[u8; BUFFER_LEN],
+    frame: &[u8; BUFFER_LEN],
     most: usize,
 ) -> Stride
     ensures { λ r. ⌜ (r .steps ≤ most) × ((p : List ℕ) → Bursts blocks (r .steps) (now (image .entry))

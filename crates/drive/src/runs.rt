@@ -8,7 +8,7 @@ ghost use Rattle.drive.specs.Code.{Runs, Drives};
 use crate::bursts;
 use board::Phase;
 use board::Record;
-use frame::MAX_FRAME;
+use frame::BUFFER_LEN;
 use job::Outcome;
 use job::records;
 use job::records::Numbers;
@@ -26,8 +26,8 @@ fn run_busy(
     blocks: u8,
     n: Numbers,
     places: &[u16; 256],
-    unit: &mut [u8; MAX_FRAME],
-    frame: &[u8; MAX_FRAME],
+    unit: &mut [u8; BUFFER_LEN],
+    frame: &[u8; BUFFER_LEN],
     most: usize,
 ) -> Ran
     requires { ⌜ answerIn (n .phase) ≡ More ⌝ }
@@ -67,8 +67,8 @@ pub fn run_core(
     blocks: u8,
     n: Numbers,
     places: &[u16; 256],
-    unit: &mut [u8; MAX_FRAME],
-    frame: &[u8; MAX_FRAME],
+    unit: &mut [u8; BUFFER_LEN],
+    frame: &[u8; BUFFER_LEN],
     most: usize,
 ) -> Ran
     ensures { λ r. ⌜ Runs r (now (places .entry)) (now (unit .exit)) (now (frame .entry)) (now (image .exit))

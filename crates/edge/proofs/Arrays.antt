@@ -9,9 +9,12 @@ use lib.Dec.{eqb, ltb}
 use lib.ListN.{length, getD, take, drop, replicate, length-append, length-map, length-replicate}
 use Rattle.flash.specs.Flash.{maxBlocks, blockNumbers, apply, sizeOf, within}
 use Rattle.flash.proofs.Cases.{on-test}
-use Rattle.frame.specs.Frame.{maxFrame, idOf, Frame, settled, frameLen, encode, buffer}
+use Rattle.frame.specs.declared.Edition.{Edition}
+use Rattle.frame.specs.declared.Edition.the-variants as edition
+use Rattle.frame.specs.declared.ObjectId.{ObjectId}
+use Rattle.frame.specs.Frame.{valueMax, bufferLen, idOf, Frame, settled, frameLen, encode, buffer}
 use Rattle.frame.specs.Reader.{Read, blank, whole, torn, wrong, readFrame}
-use Rattle.frame.proofs.First.{length-encode, frame-short}
+use Rattle.frame.proofs.Encode.{length-encode, frame-fits}
 use Rattle.journal.specs.Block.{lastTime, markWrites}
 use Rattle.journal.specs.Index.{Value, valueAt, Load, load, nextSettled, isPending, nextPending, orElse, nextLoad}
 use Rattle.journal.proofs.Places.{length-places}
@@ -28,7 +31,7 @@ use Rattle.board.specs.declared.Phase.the-variants.{Unmounted, Idle, Busy}
 use Rattle.board.specs.declared.Cursor.{Cursor}
 use Rattle.board.specs.declared.Rest.{Rest}
 use Rattle.board.specs.declared.Record.{Record}
-use Rattle.board.specs.Record.{allowed, noPlaces, noFrame, resting, inStage, Out, answerIn}
+use Rattle.board.specs.Record.{allowed, noPlaces, noFrame, resting, inStage, makesIn, Out, answerIn}
 use Rattle.board.specs.Step.{enterAppend, landed, enterDrop, loaded, enterCopy, enterOpen, enterWipe, begin, action}
 use Rattle.board.specs.Step.{advance, sameShape, stepOn}
 use Rattle.board.specs.Mount.{Found, Store, allFound, found, stores, equalTimes, newest, isBlank, wipeList, wipeArray, upkeep, transfers, mountJob}
@@ -55,57 +58,64 @@ landed-sized r h = record { pending = h .pending; places = h .places; wipe = h .
 
 -- ---- a frame to copy fits its buffer
 
+-- whichever edition it is written in
 abbrev pub Short : Frame → Type 0
-Short f = frameLen f ≤ maxFrame
+Short f = (ed : Edition) → frameLen ed f ≤ bufferLen
 
-pub buffer-sized : (f : Frame) → Short f → length (buffer (encode f)) ≡ maxFrame
-buffer-sized f h =
-    length-append (encode f) (replicate (maxFrame - length (encode f)) 0)
-    ∙ omega (arith, length-encode f, length-replicate {A = ℕ} (maxFrame - length (encode f)) 0)
+pub buffer-sized : (ed : Edition) (f : Frame) → frameLen ed f ≤ bufferLen → length (buffer (encode ed f)) ≡ bufferLen
+buffer-sized ed f h =
+    length-append (encode ed f) (replicate (bufferLen - length (encode ed f)) 0)
+    ∙ omega (arith, length-encode ed f, length-replicate {A = ℕ} (bufferLen - length (encode ed f)) 0)
 
-settled-short : (b places : List ℕ) (source n i : ℕ) (u : Load) → nextSettled b places source n i ≡ some u → Short (u .frame)
+settled-fits : (ed : Edition) (i : ObjectId) (v : List ℕ) → length v ≤ valueMax → frameLen ed (settled i v) ≤ bufferLen
+settled-fits edition.First i v h = omega arith
+settled-fits edition.Second i v h = omega arith
+
+settled-short : (ed : Edition) (b places : List ℕ) (source n i : ℕ) (u : Load) → nextSettled ed b places source n i ≡ some u → Short (u .frame)
 unfolding nextSettled
-settled-short b places source zero i u e = let z : _≡_ {A = ℕ} 0 1 = cc in absurd (omega arith)
-settled-short b places source (suc n) i u e =
-    go (valueAt b (idOf i) (getD places i 0)) refl (λ q. settled-short b places source n (suc i) u q)
+settled-short ed b places source zero i u e = let z : _≡_ {A = ℕ} 0 1 = cc in absurd (omega arith)
+settled-short ed b places source (suc n) i u e =
+    go (valueAt ed b (idOf i) (getD places i 0)) refl (λ q. settled-short ed b places source n (suc i) u q)
   where
-    go : (o : Option Value) → valueAt b (idOf i) (getD places i 0) ≡ o → (nextSettled b places source n (suc i) ≡ some u → Short (u .frame)) → Short (u .frame)
+    go : (o : Option Value) → valueAt ed b (idOf i) (getD places i 0) ≡ o
+        → (nextSettled ed b places source n (suc i) ≡ some u → Short (u .frame)) → Short (u .frame)
     go none q f = f (rw (q, nextSettled) at e)
     go (some x) q f =
         let w : some (load (settled (idOf i) (x .bytes)) (suc i) source) ≡ some u = rw (q, nextSettled) at e in
         let y : settled (idOf i) (x .bytes) ≡ u .frame = cc in
-        let s = in-block b (idOf i) (getD places i 0) x q .small in
-        subst Short y (omega arith)
+        let s = in-block ed b (idOf i) (getD places i 0) x q .small in
+        subst Short y (λ d. settled-fits d (idOf i) (x .bytes) s)
 
-pending-short : (since : List ℕ) (at k : ℕ) (l : List ℕ) (u : Load) → nextPending since at k l ≡ some u → Short (u .frame)
+pending-short : (ed : Edition) (since : List ℕ) (at k : ℕ) (l : List ℕ) (u : Load) → nextPending ed since at k l ≡ some u → Short (u .frame)
 unfolding nextPending
-pending-short since at k [] u e = let z : _≡_ {A = ℕ} 0 1 = cc in absurd (omega arith)
-pending-short since at (suc k) (b ∷ t) u e = pending-short since (suc at) k t u e
-pending-short since at zero (b ∷ t) u e = go (readFrame 0 at (b ∷ t)) refl (λ k q. pending-short since (suc at) k t u q)
+pending-short ed since at k [] u e = let z : _≡_ {A = ℕ} 0 1 = cc in absurd (omega arith)
+pending-short ed since at (suc k) (b ∷ t) u e = pending-short ed since (suc at) k t u e
+pending-short ed since at zero (b ∷ t) u e = go (readFrame ed 0 at (b ∷ t)) refl (λ k q. pending-short ed since (suc at) k t u q)
   where
-    no : nextPending since at 0 (b ∷ t) ≡ none → Short (u .frame)
+    no : nextPending ed since at 0 (b ∷ t) ≡ none → Short (u .frame)
     no q = let z : none ≡ some u = sym q ∙ e in let y : _≡_ {A = ℕ} 0 1 = cc in absurd (omega arith)
 
-    go : (r : Read) → readFrame 0 at (b ∷ t) ≡ r → ((k : ℕ) → nextPending since (suc at) k t ≡ some u → Short (u .frame)) → Short (u .frame)
-    go blank q f = no (pending-blank since at (b ∷ t) q)
-    go (torn n) q f = no (pending-torn since at (b ∷ t) n q)
-    go (wrong w) q f = no (pending-wrong since at (b ∷ t) w q)
+    go : (r : Read) → readFrame ed 0 at (b ∷ t) ≡ r → ((k : ℕ) → nextPending ed since (suc at) k t ≡ some u → Short (u .frame)) → Short (u .frame)
+    go blank q f = no (pending-blank ed since at (b ∷ t) q)
+    go (torn n) q f = no (pending-torn ed since at (b ∷ t) n q)
+    go (wrong w) q f = no (pending-wrong ed since at (b ∷ t) w q)
     go (whole g) q f =
         on-test (isPending since at g)
         (λ p.
-        let w : some (load g 256 (at + frameLen g)) ≡ some u = sym (pending-yes since at (b ∷ t) g q p) ∙ e in
+        let w : some (load g 256 (at + frameLen ed g)) ≡ some u = sym (pending-yes ed since at (b ∷ t) g q p) ∙ e in
         let y : g ≡ u .frame = cc in
-        subst Short y (frame-short 0 g (whole-stands 0 at (b ∷ t) g q)))
-        (λ p. f (frameLen g - 1) (rw (q, p, nextPending) at e))
+        subst Short y (λ d. frame-fits ed d 0 g (whole-stands ed 0 at (b ∷ t) g q)))
+        (λ p. f (frameLen ed g - 1) (rw (q, p, nextPending) at e))
 
-load-short : (b : List ℕ) (end : ℕ) (places since : List ℕ) (id source : ℕ) (u : Load) → nextLoad b end places since id source ≡ some u → Short (u .frame)
+load-short : (ed : Edition) (b : List ℕ) (end : ℕ) (places since : List ℕ) (id source : ℕ) (u : Load)
+    → nextLoad ed b end places since id source ≡ some u → Short (u .frame)
 unfolding nextLoad
-load-short b end places since id source u e = go (nextSettled b places source (256 - id) id) refl e
+load-short ed b end places since id source u e = go (nextSettled ed b places source (256 - id) id) refl e
   where
-    go : (o : Option Load) → nextSettled b places source (256 - id) id ≡ o
-        → orElse o (nextPending since source 0 (drop source (take end b))) ≡ some u → Short (u .frame)
-    go none q f = pending-short since source 0 _ u f
-    go (some x) q f = settled-short b places source (256 - id) id u (q ∙ f)
+    go : (o : Option Load) → nextSettled ed b places source (256 - id) id ≡ o
+        → orElse o (nextPending ed since source 0 (drop source (take end b))) ≡ some u → Short (u .frame)
+    go none q f = pending-short ed since source 0 _ u f
+    go (some x) q f = settled-short ed b places source (256 - id) id u (q ∙ f)
 
 -- ---- entering a stage
 
@@ -123,14 +133,21 @@ drop-sized r h =
 
 loaded-sized : (r : Record) (u : Load) → Short (u .frame) → Sized r → Sized (loaded r u)
 loaded-sized r u s h =
-    record { pending = h .pending; places = h .places; wipe = h .wipe; since = h .since; unit = buffer-sized (u .frame) s; frame = h .frame }
+    record {
+      pending = h .pending;
+      places = h .places;
+      wipe = h .wipe;
+      since = h .since;
+      unit = buffer-sized (makesIn r) (u .frame) (s (makesIn r));
+      frame = h .frame;
+    }
 
 copy-sized : (N : ℕ) (img : List ℕ) (r : Record) → Sized r → Sized (enterCopy N img r)
 copy-sized N img r h = go (outcome.nextFor N img r) refl
   where
     go : (o : Option Load) → outcome.nextFor N img r ≡ o → Sized (enterCopy N img r)
     go none e = subst Sized (sym (outcome.copy-ends N img r e)) (stage-sized Seal _ r h)
-    go (some u) e = subst Sized (sym (outcome.copy-loads N img r u e)) (loaded-sized r u (load-short _ _ _ _ _ _ u e) h)
+    go (some u) e = subst Sized (sym (outcome.copy-loads N img r u e)) (loaded-sized r u (load-short _ _ _ _ _ _ _ u e) h)
 
 open-sized : (r : Record) → Sized r → Sized (enterOpen r)
 open-sized r h =
@@ -186,6 +203,7 @@ Plain (Refused refusal.ShortReply) = Unit {0}
 Plain (Refused refusal.HostRange) = Unit {0}
 Plain (Refused refusal.Stale) = Unit {0}
 Plain (Refused refusal.HostFull) = Unit {0}
+Plain (Refused refusal.Pending) = Unit {0}
 
 plain-in : (p : Phase) → Plain (answerIn p)
 plain-in Unmounted = tt
@@ -225,7 +243,14 @@ array-sized ks h =
 mount-job-sized : (N : ℕ) (img : List ℕ) (x : Store) (ks : List ℕ) → length ks ≤ maxBlocks → Sized (mountJob N img x ks)
 unfolding noFrame
 mount-job-sized N img x ks h =
-    record { pending = refl; places = length-places (x .journal .frames); wipe = array-sized ks h; since = refl; unit = refl; frame = refl }
+    record {
+      pending = refl;
+      places = length-places (x .journal .edition) (x .journal .frames);
+      wipe = array-sized ks h;
+      since = refl;
+      unit = refl;
+      frame = refl;
+    }
 
 abbrev pub Left : Out → Type 0
 Left o = Sized (o .board)

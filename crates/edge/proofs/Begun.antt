@@ -15,7 +15,7 @@ use Rattle.wire.specs.declared.Refusal.{Refusal}
 use Rattle.wire.specs.declared.Refusal.the-variants as refusal
 use Rattle.wire.specs.declared.Parsed.{Parsed}
 use Rattle.wire.specs.declared.Parsed.the-variants.{Is, Malformed}
-use Rattle.wire.specs.declared.Request.the-variants.{Put, Delete, Commit, Abort, Read, Log}
+use Rattle.wire.specs.declared.Request.the-variants.{Put, Delete, Commit, Abort, Read, Log, Convert}
 use Rattle.wire.specs.Answer.{edgeNumber}
 use Rattle.wire.specs.Message.{parse}
 use Rattle.board.specs.declared.Phase.{Phase}
@@ -102,3 +102,4 @@ asks-read m = by (parse m) refl
     by (Is Abort) e = none (ap isRead e)
     by (Is (Read i)) e = let t : isRead (parse m) ≡ true = ap isRead e in rw (t, e) refl
     by (Is (Log p)) e = none (ap isRead e)
+    by (Is Convert) e = none (ap isRead e)

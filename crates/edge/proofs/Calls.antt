@@ -22,7 +22,7 @@ use Rattle.wire.specs.declared.Answer.the-variants.{Done, More, Refused}
 use Rattle.wire.specs.declared.Refusal.the-variants as refusal
 use Rattle.wire.specs.declared.Parsed.{Parsed}
 use Rattle.wire.specs.declared.Parsed.the-variants.{Is, Malformed}
-use Rattle.wire.specs.declared.Request.the-variants.{Put, Delete, Commit, Abort, Read, Log}
+use Rattle.wire.specs.declared.Request.the-variants.{Put, Delete, Commit, Abort, Read, Log, Convert}
 use Rattle.wire.specs.Answer.{edgeNumber, refusedNumber, fieldNumber, spotOf}
 use Rattle.wire.specs.Message.{parse}
 use Rattle.board.specs.declared.Phase.{Phase}
@@ -82,6 +82,7 @@ plain-back (Refused refusal.ShortReply) f h = refl
 plain-back (Refused refusal.HostRange) f h = refl
 plain-back (Refused refusal.Stale) f h = refl
 plain-back (Refused refusal.HostFull) f h = refl
+plain-back (Refused refusal.Pending) f h = refl
 
 -- what a mount's 3 names, told by its own numbers
 abbrev named : Answer → Broken
@@ -102,6 +103,7 @@ mount-back (Refused refusal.ShortReply) = refl
 mount-back (Refused refusal.HostRange) = refl
 mount-back (Refused refusal.Stale) = refl
 mount-back (Refused refusal.HostFull) = refl
+mount-back (Refused refusal.Pending) = refl
 
 fault-is : (N : ℕ) (img : List ℕ) → edgeFault N img ≡ named (mountOn N img .answer)
 unfolding edgeFault
@@ -176,6 +178,7 @@ module _ (N : ℕ) (img : List ℕ) (r : Record) (s : Sized r) (h : Host) (m rep
       by (Is (Read i)) e =
           ap (λ (b : Bool). requestOn (asking N img r h (cond b m []) []) .stretch) (ap isRead e) ∙ same-place N img r h m i e [] reply
       by (Is (Log x)) e = none-of (Is (Log x)) e refl
+      by (Is Convert) e = none-of (Is Convert) e refl
 
 -- ---- one call
 

@@ -47,6 +47,7 @@ told-nothing refusal.ShortReply img = refl
 told-nothing refusal.HostRange img = refl
 told-nothing refusal.Stale img = refl
 told-nothing refusal.HostFull img = refl
+told-nothing refusal.Pending img = refl
 
 told-flashes : (x : Next) (img : List ℕ) → flashedBy (tells x) img ≡ flashed x img
 told-flashes (next.Program at v) img = refl

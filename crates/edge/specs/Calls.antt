@@ -22,7 +22,7 @@ use Rattle.board.specs.declared.Record.{Record}
 use Rattle.board.specs.Exec.{Call, request, step, mount, format, Machine, exec}
 use Rattle.board.specs.Table.{isBusy, InJob}
 use Rattle.board.specs.Book.{Book, formatting, firstBook, enterCall}
-use Rattle.board.specs.Claim.{IdleAgrees, Says, track, begunBy, ByteCall, Begins, Event, call, cutErase}
+use Rattle.board.specs.Claim.{IdleAgrees, Says, track, begunBy, ByteCall, Begins, Event, call, cutErase, Track, tracked}
 use Rattle.board.specs.Promise.{Promise, Shown, shown, trace, ByteEvents}
 use Rattle.lent.specs.Layout.{recordSize, recordIn}
 use Rattle.edge.specs.Edge.{Edge, edge, edgeRequest, edgeStep, edgeMade, edgeMount, edgeFormat, Place, asRead, edgeRead, edgeNext, flashedBy}
@@ -31,7 +31,7 @@ use Rattle.edge.specs.Edge.{Run, run, edgeRun, Broken, edgeFault}
 -- ---- one call
 
 -- the header's answers and fields by their numbers, in its order; what 3 names is told by grommetide_fault. 255 is more; no other number is an answer's.
--- After the header's fields comes crc, which no answer names yet
+-- After the header's fields comes crc
 abbrev pub fieldAt : ℕ → Field
 fieldAt n =
     getD (field.Length ∷ field.Kind ∷ field.Host ∷ field.Id ∷ field.Finish ∷ field.Created ∷ field.State ∷ field.Spare ∷ field.Crc ∷ [])
@@ -52,6 +52,8 @@ answerAt n f =
     ∷ Refused refusal.HostRange
     ∷ Refused refusal.Stale
     ∷ Refused refusal.HostFull
+    ∷ More ∷ More ∷ More  -- no answer has 13, 14 or 15
+    ∷ Refused refusal.Pending
     ∷ []) n More
 
 -- what a caller in C asks for, image and record aside: one of the machine's calls; grommetide_read with a host, a message and what stood in the
@@ -185,8 +187,8 @@ Happen N img b k (cuts j new d ∷ es) =
     (length d ≡ recordSize) × CutsIn N img b k j new × Resumes es × Happen N (withBlock (sizeOf N img) j new img) d k es
 
 -- a run that ended a job, and agrees with a book
-abbrev pub Ended : ℕ → Book → Run → Type 0
-Ended N k x = (x .answer ≡ 0) × (recordIn (x .board) .phase ≡ Idle) × IdleAgrees N (x .image) (recordIn (x .board)) k
+abbrev pub Ended : ℕ → Track → Book → Run → Type 0
+Ended N u k x = (x .answer ≡ 0) × (recordIn (x .board) .phase ≡ Idle) × IdleAgrees N u (x .image) (recordIn (x .board)) k
 
 -- the most steps of a job in blocks of s bytes, by the call that began it. K14: "Demand 1's bound leaves a mount's erases aside"
 abbrev pub mostSteps : ℕ → ℕ → Call → ℕ
@@ -197,20 +199,21 @@ mostSteps N s format = s
 
 -- "after each call in it that gives back an idle record"; a job under way, which call a began, is ended by one run of so many steps, the last of
 -- which answers 0
-pub record Agree (N : ℕ) (a : Call) (img b : List ℕ) (k : Book) : Type 0 where
-  pub idle : recordIn b .phase ≡ Idle → IdleAgrees N img (recordIn b) k
-  pub in-job : InJob (recordIn b .phase) → Ended N (enterCall k step Done) (edgeRun N img b (mostSteps N (sizeOf N img) a) 0)
+pub record Agree (N : ℕ) (a : Call) (u : Track) (img b : List ℕ) (k : Book) : Type 0 where
+  pub idle : recordIn b .phase ≡ Idle → IdleAgrees N u img (recordIn b) k
+  pub in-job : InJob (recordIn b .phase)
+      → Ended N (track (sizeOf N img) u k step Done) (enterCall k step Done) (edgeRun N img b (mostSteps N (sizeOf N img) a) 0)
 
 -- what each call says, and that after it the buffer agrees with the book; `u` and `a` as in board's claim
-abbrev pub Runs : ℕ → List ℕ → List ℕ → Book → Bool → Call → List Happening → Type 0
+abbrev pub Runs : ℕ → List ℕ → List ℕ → Book → Track → Call → List Happening → Type 0
 Runs N img b k u a [] = Unit {0}
 Runs N img b k u a (does c ∷ es) =
     let e : Edge = edgeCall N img b c in
     let o : Out = edgeOut N img b c in
     let k′ : Book = enterCall k (callOf c) (o .answer) in
+    let u′ : Track = track (sizeOf N img) u k (callOf c) (o .answer) in
     let a′ : Call = begunBy a (callOf c) (o .answer) in
-    Says N img (recordIn b) k u (callOf c) o × Agree N a′ (e .image) (e .board) k′
-    × Runs N (e .image) (e .board) k′ (track u k (callOf c) (o .answer)) a′ es
+    Says N img (recordIn b) k u (callOf c) o × Agree N a′ u′ (e .image) (e .board) k′ × Runs N (e .image) (e .board) k′ u′ a′ es
 Runs N img b k u a (loses d ∷ es) = Runs N img d k u a es
 Runs N img b k u a (cuts j new d ∷ es) = Runs N (withBlock (sizeOf N img) j new img) d k u a es
 
@@ -228,8 +231,8 @@ unfoldable pub EdgeClaim : Type 0
 EdgeClaim =
     (N : ℕ) (img b : List ℕ) → Bytes img → allowed N (length img) ≡ true → length b ≡ recordSize
     → let e : Edge = edgeFormatted N img b in
-    (e .answer ≡ 0) × (recordIn (e .board) .phase ≡ Idle) × Agree N format (e .image) (e .board) firstBook
-    × ((es : List Happening) → Happen N (e .image) (e .board) firstBook es → Runs N (e .image) (e .board) firstBook false format es)
+    (e .answer ≡ 0) × (recordIn (e .board) .phase ≡ Idle) × Agree N format (tracked false false) (e .image) (e .board) firstBook
+    × ((es : List Happening) → Happen N (e .image) (e .board) firstBook es → Runs N (e .image) (e .board) firstBook (tracked false false) format es)
 
 -- ---- many steps in one call
 

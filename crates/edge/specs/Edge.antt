@@ -5,7 +5,7 @@ use mathlib.Core.Bool.{Bool, true, false, cond}
 use Prim.Native.Nat.{ℕ, _<_}
 use lib.Dec.{eqb}
 use lib.ListN.{length}
-use Rattle.wire.specs.declared.Request.the-variants.{Put, Delete, Commit, Abort, Read, Log}
+use Rattle.wire.specs.declared.Request.the-variants.{Put, Delete, Commit, Abort, Read, Log, Convert}
 use Rattle.wire.specs.declared.Parsed.{Parsed}
 use Rattle.wire.specs.declared.Parsed.the-variants.{Is, Malformed}
 use Rattle.wire.specs.declared.Answer.{Answer}
@@ -92,6 +92,7 @@ isRead (Is Commit) = false
 isRead (Is Abort) = false
 isRead (Is (Read i)) = true
 isRead (Is (Log p)) = false
+isRead (Is Convert) = false
 
 -- a message that is no well-formed read counts as the empty one, which is malformed
 abbrev pub asRead : List ℕ → List ℕ

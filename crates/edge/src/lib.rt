@@ -26,6 +26,7 @@ fn is_read(parsed: Parsed) -> bool
             Request::Abort => false,
             Request::Read(_) => true,
             Request::Log(_) => false,
+            Request::Convert => false,
         },
     }
 }

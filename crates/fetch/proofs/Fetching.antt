@@ -10,13 +10,14 @@ use lib.ListN.{length, getD, take, drop}
 use lib.Seq.{take-length, take-all}
 use borrow.Author.Tests.{ne-eqb}
 use Rattle.flash.proofs.Cases.{on-test}
+use Rattle.frame.specs.declared.Edition.{Edition}
 use Rattle.frame.specs.declared.ObjectId.{ObjectId}
 use Rattle.frame.specs.declared.Fault.{Fault}
 use Rattle.frame.specs.Frame.{idOf, valueMax, put, delete, Frame, change, commit, abort, settled, frameLen}
 use Rattle.frame.specs.Reader.{Read, blank, whole, torn, wrong, readFrame}
-use Rattle.frame.specs.Code.{headOf, valueOf, valueLen, valueStart}
-use Rattle.frame.proofs.Heads.{value-len}
-use Rattle.frame.proofs.First.{read-blank}
+use Rattle.frame.specs.Code.{headOf, peekAt, valueOf, valueLen, valueStart}
+use Rattle.frame.proofs.Heads.{value-len, peek-whole}
+use Rattle.frame.proofs.Exact.{read-blank}
 use Rattle.fetch.specs.declared.Found.the-variants as found
 use Rattle.fetch.specs.declared.Fetch.{Fetch}
 use Rattle.fetch.specs.declared.Fetched.the-variants as fetched
@@ -45,8 +46,8 @@ pending-head since at (settled i v) = refl
 
 -- ---- a value at a place
 
-module _ (b : List ℕ) (i : ObjectId) (p : ℕ) (l : p ≡ 0 → ⊥) where
-  pub value-reads : (r : Read) → readFrame 0 p (drop p b) ≡ r → valueAt b i p ≡ valueRead i p r
+module _ (ed : Edition) (b : List ℕ) (i : ObjectId) (p : ℕ) (l : p ≡ 0 → ⊥) where
+  pub value-reads : (r : Read) → readFrame ed 0 p (drop p b) ≡ r → valueAt ed b i p ≡ valueRead i p r
   unfolding valueAt
   value-reads r e = rw (ne-eqb p 0 l, e, valueAt)
 
@@ -71,30 +72,46 @@ pub record InBlock (b : List ℕ) (x : Value) : Type 0 where
   pub inside : x .at + length (x .bytes) ≤ length b
   pub small : length (x .bytes) ≤ valueMax
 
-frame-in-block : (b : List ℕ) (i : ObjectId) (p : ℕ) (f : Frame) (x : Value) → readFrame 0 p (drop p b) ≡ whole f → frameValue i p f ≡ some x → InBlock b x
-frame-in-block b i p f x r e =
-    let q : readFrame 0 p (drop p (take (length b) b)) ≡ whole f = ap (λ (l : List ℕ). readFrame 0 p (drop p l)) (take-length b) ∙ r in
+frame-in-block : (ed : Edition) (b : List ℕ) (i : ObjectId) (p : ℕ) (f : Frame) (x : Value) → readFrame ed 0 p (drop p b) ≡ whole f → frameValue i p f ≡ some x
+    → InBlock b x
+frame-in-block ed b i p f x r e =
+    let q : readFrame ed 0 p (drop p (take (length b) b)) ≡ whole f = ap (λ (l : List ℕ). readFrame ed 0 p (drop p l)) (take-length b) ∙ r in
     let v : (x .at ≡ p + valueStart (headOf f)) × (x .bytes ≡ valueOf f) = value-of i p f x e in
     let n : length (x .bytes) ≡ valueLen (headOf f) = ap length (v .1) ∙ sym (value-len f) in
-    let w : (p + valueStart (headOf f) + valueLen (headOf f) ≤ length b) × (valueLen (headOf f) ≤ valueMax) = value-inside 0 p p (length b) b f q in
+    let w : (p + valueStart (headOf f) + valueLen (headOf f) ≤ length b) × (valueLen (headOf f) ≤ valueMax) = value-inside ed 0 p p (length b) b f q in
     record {
-      same = ap₂ (λ (m o : ℕ). take m (drop o b)) n (v .0) ∙ value-there 0 p p (length b) b f q ∙ sym (v .1);
+      same = ap₂ (λ (m o : ℕ). take m (drop o b)) n (v .0) ∙ value-there ed 0 p p (length b) b f q ∙ sym (v .1);
       inside = omega (arith, w .0, v .0, n);
       small = omega (arith, w .1, n);
     }
 
-pub in-block : (b : List ℕ) (i : ObjectId) (p : ℕ) (x : Value) → valueAt b i p ≡ some x → InBlock b x
-unfolding valueAt
-in-block b i p x e =
+-- such a value stands in a whole frame
+ValueIn : Edition → List ℕ → ObjectId → ℕ → Value → Type 0
+ValueIn ed b i p x = (f : Frame) × (readFrame ed 0 p (drop p b) ≡ whole f) × (frameValue i p f ≡ some x)
+
+value-frame : (ed : Edition) (b : List ℕ) (i : ObjectId) (p : ℕ) (x : Value) → valueAt ed b i p ≡ some x → ValueIn ed b i p x
+unfolding valueAt ValueIn
+value-frame ed b i p x e =
     on-test (eqb p 0)
     (λ t. let q : none ≡ some x = rw (t, valueAt) at e in let z : _≡_ {A = ℕ} 0 1 = cc in absurd (omega arith))
-    (λ t. go (readFrame 0 p (drop p b)) refl (rw (t, valueAt) at e))
+    (λ t. go (readFrame ed 0 p (drop p b)) refl (rw (t, valueAt) at e))
   where
-    go : (r : Read) → readFrame 0 p (drop p b) ≡ r → valueRead i p (readFrame 0 p (drop p b)) ≡ some x → InBlock b x
+    go : (r : Read) → readFrame ed 0 p (drop p b) ≡ r → valueRead i p (readFrame ed 0 p (drop p b)) ≡ some x → ValueIn ed b i p x
     go blank q s = let z : none ≡ some x = rw q at s in let y : _≡_ {A = ℕ} 0 1 = cc in absurd (omega arith)
-    go (whole f) q s = frame-in-block b i p f x q (rw q at s)
+    go (whole f) q s = (f, q, rw q at s)
     go (torn n) q s = let z : none ≡ some x = rw q at s in let y : _≡_ {A = ℕ} 0 1 = cc in absurd (omega arith)
     go (wrong w) q s = let z : none ≡ some x = rw q at s in let y : _≡_ {A = ℕ} 0 1 = cc in absurd (omega arith)
+
+pub in-block : (ed : Edition) (b : List ℕ) (i : ObjectId) (p : ℕ) (x : Value) → valueAt ed b i p ≡ some x → InBlock b x
+unfolding ValueIn
+in-block ed b i p x e = let w : ValueIn ed b i p x = value-frame ed b i p x e in frame-in-block ed b i p (w .0) x (w .1) (w .2)
+
+-- the head there tells its length
+pub value-peeked : (ed : Edition) (b : List ℕ) (i : ObjectId) (p : ℕ) (x : Value) → valueAt ed b i p ≡ some x → valueLen (peekAt ed b p) ≡ length (x .bytes)
+unfolding ValueIn
+value-peeked ed b i p x e =
+    let w : ValueIn ed b i p x = value-frame ed b i p x e in
+    ap valueLen (peek-whole ed 0 p b (w .0) (w .1)) ∙ value-len (w .0) ∙ sym (ap length (value-of i p (w .0) x (w .2) .1))
 
 -- what the code found
 pub found-none : (o : Option Value) → foundOf o ≡ found.Nothing → o ≡ none
@@ -107,8 +124,8 @@ found-at (some x) p n e = (x, refl, cc, cc)
 
 -- ---- the next settled frame
 
-module _ (b places : List ℕ) (source i : ℕ) where
-  pub settled-end : 256 ≤ i → nextSettled b places source (256 - i) i ≡ none
+module _ (ed : Edition) (b places : List ℕ) (source i : ℕ) where
+  pub settled-end : 256 ≤ i → nextSettled ed b places source (256 - i) i ≡ none
   unfolding nextSettled
   settled-end l = let e : 256 - i ≡ 0 = omega arith in rw e
 
@@ -119,109 +136,109 @@ module _ (b places : List ℕ) (source i : ℕ) where
     one-more : i + 1 ≡ suc i
     one-more = omega arith
 
-    pub settled-no : valueAt b (idOf i) (getD places i 0) ≡ none
-        → nextSettled b places source (256 - i) i ≡ nextSettled b places source (256 - (i + 1)) (i + 1)
+    pub settled-no : valueAt ed b (idOf i) (getD places i 0) ≡ none
+        → nextSettled ed b places source (256 - i) i ≡ nextSettled ed b places source (256 - (i + 1)) (i + 1)
     unfolding nextSettled
     settled-no e =
-        ap (λ (n : ℕ). nextSettled b places source n i) fuel ∙ rw (e, nextSettled) (ap (nextSettled b places source (256 - (i + 1))) (sym one-more))
+        ap (λ (n : ℕ). nextSettled ed b places source n i) fuel ∙ rw (e, nextSettled) (ap (nextSettled ed b places source (256 - (i + 1))) (sym one-more))
 
-    pub settled-yes : (x : Value) → valueAt b (idOf i) (getD places i 0) ≡ some x
-        → nextSettled b places source (256 - i) i ≡ some (load (settled (idOf i) (x .bytes)) (i + 1) source)
+    pub settled-yes : (x : Value) → valueAt ed b (idOf i) (getD places i 0) ≡ some x
+        → nextSettled ed b places source (256 - i) i ≡ some (load (settled (idOf i) (x .bytes)) (i + 1) source)
     unfolding nextSettled
     settled-yes x e =
-        ap (λ (n : ℕ). nextSettled b places source n i) fuel
+        ap (λ (n : ℕ). nextSettled ed b places source n i) fuel
         ∙ rw (e, nextSettled) (ap (λ (n : ℕ). some (load (settled (idOf i) (x .bytes)) n source)) (sym one-more))
 
 -- ---- the next pending frame
 
-pending-skip : (since : List ℕ) (at k : ℕ) (l : List ℕ) → nextPending since at k l ≡ nextPending since (at + k) 0 (drop k l)
+pending-skip : (ed : Edition) (since : List ℕ) (at k : ℕ) (l : List ℕ) → nextPending ed since at k l ≡ nextPending ed since (at + k) 0 (drop k l)
 unfolding nextPending
-pending-skip since at zero l = let e : at ≡ at + 0 = omega arith in ap (λ (n : ℕ). nextPending since n 0 l) e
-pending-skip since at (suc k) [] = refl
-pending-skip since at (suc k) (x ∷ l) =
-    let e : suc at + k ≡ at + suc k = omega arith in pending-skip since (suc at) k l ∙ ap (λ (n : ℕ). nextPending since n 0 (drop k l)) e
+pending-skip ed since at zero l = let e : at ≡ at + 0 = omega arith in ap (λ (n : ℕ). nextPending ed since n 0 l) e
+pending-skip ed since at (suc k) [] = refl
+pending-skip ed since at (suc k) (x ∷ l) =
+    let e : suc at + k ≡ at + suc k = omega arith in pending-skip ed since (suc at) k l ∙ ap (λ (n : ℕ). nextPending ed since n 0 (drop k l)) e
 
-module _ (since : List ℕ) (at : ℕ) (l : List ℕ) where
-  pub pending-blank : readFrame 0 at l ≡ blank → nextPending since at 0 l ≡ none
+module _ (ed : Edition) (since : List ℕ) (at : ℕ) (l : List ℕ) where
+  pub pending-blank : readFrame ed 0 at l ≡ blank → nextPending ed since at 0 l ≡ none
   unfolding nextPending
   pending-blank e = go l e
     where
-      go : (l : List ℕ) → readFrame 0 at l ≡ blank → nextPending since at 0 l ≡ none
+      go : (l : List ℕ) → readFrame ed 0 at l ≡ blank → nextPending ed since at 0 l ≡ none
       go [] e = refl
       go (x ∷ t) e = rw (e, nextPending)
 
-  pub pending-torn : (n : ℕ) → readFrame 0 at l ≡ torn n → nextPending since at 0 l ≡ none
+  pub pending-torn : (n : ℕ) → readFrame ed 0 at l ≡ torn n → nextPending ed since at 0 l ≡ none
   unfolding nextPending
   pending-torn n e = go l e
     where
-      go : (l : List ℕ) → readFrame 0 at l ≡ torn n → nextPending since at 0 l ≡ none
+      go : (l : List ℕ) → readFrame ed 0 at l ≡ torn n → nextPending ed since at 0 l ≡ none
       go [] e = refl
       go (x ∷ t) e = rw (e, nextPending)
 
-  pub pending-wrong : (w : Fault) → readFrame 0 at l ≡ wrong w → nextPending since at 0 l ≡ none
+  pub pending-wrong : (w : Fault) → readFrame ed 0 at l ≡ wrong w → nextPending ed since at 0 l ≡ none
   unfolding nextPending
   pending-wrong w e = go l e
     where
-      go : (l : List ℕ) → readFrame 0 at l ≡ wrong w → nextPending since at 0 l ≡ none
+      go : (l : List ℕ) → readFrame ed 0 at l ≡ wrong w → nextPending ed since at 0 l ≡ none
       go [] e = refl
       go (x ∷ t) e = rw (e, nextPending)
 
-no-frame : (at : ℕ) (f : Frame) → readFrame 0 at [] ≡ whole f → ⊥
-no-frame at f e = let q : blank ≡ whole f = sym (read-blank 0 at 0) ∙ e in let z : _≡_ {A = ℕ} 0 1 = cc in omega arith
+no-frame : (ed : Edition) (at : ℕ) (f : Frame) → readFrame ed 0 at [] ≡ whole f → ⊥
+no-frame ed at f e = let q : blank ≡ whole f = sym (read-blank ed 0 at 0) ∙ e in let z : _≡_ {A = ℕ} 0 1 = cc in omega arith
 
-pub pending-yes : (since : List ℕ) (at : ℕ) (l : List ℕ) (f : Frame) → readFrame 0 at l ≡ whole f → isPending since at f ≡ true
-    → nextPending since at 0 l ≡ some (load f 256 (at + frameLen f))
+pub pending-yes : (ed : Edition) (since : List ℕ) (at : ℕ) (l : List ℕ) (f : Frame) → readFrame ed 0 at l ≡ whole f → isPending since at f ≡ true
+    → nextPending ed since at 0 l ≡ some (load f 256 (at + frameLen ed f))
 unfolding nextPending
-pending-yes since at [] f e t = absurd (no-frame at f e)
-pending-yes since at (x ∷ l) f e t = rw (e, t, nextPending)
+pending-yes ed since at [] f e t = absurd (no-frame ed at f e)
+pending-yes ed since at (x ∷ l) f e t = rw (e, t, nextPending)
 
-pub pending-no : (since : List ℕ) (at : ℕ) (l : List ℕ) (f : Frame) → readFrame 0 at l ≡ whole f → isPending since at f ≡ false
-    → nextPending since at 0 l ≡ nextPending since (at + frameLen f) 0 (drop (frameLen f) l)
+pub pending-no : (ed : Edition) (since : List ℕ) (at : ℕ) (l : List ℕ) (f : Frame) → readFrame ed 0 at l ≡ whole f → isPending since at f ≡ false
+    → nextPending ed since at 0 l ≡ nextPending ed since (at + frameLen ed f) 0 (drop (frameLen ed f) l)
 unfolding nextPending
-pending-no since at [] f e t = absurd (no-frame at f e)
-pending-no since at (x ∷ l) f e t =
-    let p : suc at + (frameLen f - 1) ≡ at + frameLen f = omega arith in
-    let q : frameLen f ≡ suc (frameLen f - 1) = omega arith in
-    let first : nextPending since at 0 (x ∷ l) ≡ nextPending since (suc at) (frameLen f - 1) l = rw (e, t, nextPending) in
-    first ∙ pending-skip since (suc at) (frameLen f - 1) l ∙ ap (λ (n : ℕ). nextPending since n 0 (drop (frameLen f - 1) l)) p
-    ∙ ap (λ (n : ℕ). nextPending since (at + frameLen f) 0 (drop n (x ∷ l))) (sym q)
+pending-no ed since at [] f e t = absurd (no-frame ed at f e)
+pending-no ed since at (x ∷ l) f e t =
+    let p : suc at + (frameLen ed f - 1) ≡ at + frameLen ed f = omega arith in
+    let q : frameLen ed f ≡ suc (frameLen ed f - 1) = omega arith in
+    let first : nextPending ed since at 0 (x ∷ l) ≡ nextPending ed since (suc at) (frameLen ed f - 1) l = rw (e, t, nextPending) in
+    first ∙ pending-skip ed since (suc at) (frameLen ed f - 1) l ∙ ap (λ (n : ℕ). nextPending ed since n 0 (drop (frameLen ed f - 1) l)) p
+    ∙ ap (λ (n : ℕ). nextPending ed since (at + frameLen ed f) 0 (drop n (x ∷ l))) (sym q)
 
 -- a pending frame's value stands in the frame itself
-pub value-pending : (b places since : List ℕ) (at : ℕ) (f : Frame) → isPending since at f ≡ true
-    → valueFrom b places (at + frameLen f) f ≡ at + valueStart (headOf f)
-value-pending b places since at (change h (put i v)) t = omega arith
-value-pending b places since at (change h (delete i)) t = omega arith
-value-pending b places since at (commit h) t = omega arith
-value-pending b places since at (abort h) t = omega arith
-value-pending b places since at (settled i v) t = let z : _≡_ {A = ℕ} 0 1 = cc in absurd (omega arith)
+pub value-pending : (ed : Edition) (b places since : List ℕ) (at : ℕ) (f : Frame) → isPending since at f ≡ true
+    → valueFrom ed b places (at + frameLen ed f) f ≡ at + valueStart (headOf f)
+value-pending ed b places since at (change h (put i v)) t = omega arith
+value-pending ed b places since at (change h (delete i)) t = omega arith
+value-pending ed b places since at (commit h) t = omega arith
+value-pending ed b places since at (abort h) t = omega arith
+value-pending ed b places since at (settled i v) t = let z : _≡_ {A = ℕ} 0 1 = cc in absurd (omega arith)
 
 -- ---- the settled frames first, then the pending ones
 
-module _ (b : List ℕ) (end : ℕ) (places since : List ℕ) (id source : ℕ) where
+module _ (ed : Edition) (b : List ℕ) (end : ℕ) (places since : List ℕ) (id source : ℕ) where
   abbrev first : Option Load
-  first = nextSettled b places source (256 - id) id
+  first = nextSettled ed b places source (256 - id) id
 
   abbrev all : Option Load
-  all = nextLoad b end places since id source
+  all = nextLoad ed b end places since id source
 
   abbrev second : Option Load
-  second = nextPending since source 0 (drop source (take end b))
+  second = nextPending ed since source 0 (drop source (take end b))
 
-  pub load-first : (x : Fetch) → fetched.Frame x ≡ fetchedOf b places first → fetched.Frame x ≡ fetchedOf b places all
+  pub load-first : (x : Fetch) → fetched.Frame x ≡ fetchedOf ed b places first → fetched.Frame x ≡ fetchedOf ed b places all
   unfolding nextLoad fetchedOf
   load-first x e = go first e
     where
-      go : (o : Option Load) → fetched.Frame x ≡ fetchedOf b places o → fetched.Frame x ≡ fetchedOf b places (orElse o second)
+      go : (o : Option Load) → fetched.Frame x ≡ fetchedOf ed b places o → fetched.Frame x ≡ fetchedOf ed b places (orElse o second)
       go none q = let z : _≡_ {A = ℕ} 0 1 = cc in absurd (omega arith)
       go (some u) q = q
 
-  pub load-part-next : fetched.Nothing ≡ fetchedOf b places first → second ≡ all
+  pub load-part-next : fetched.Nothing ≡ fetchedOf ed b places first → second ≡ all
   unfolding nextLoad fetchedOf
   load-part-next e = go first e
     where
-      go : (o : Option Load) → fetched.Nothing ≡ fetchedOf b places o → second ≡ orElse o second
+      go : (o : Option Load) → fetched.Nothing ≡ fetchedOf ed b places o → second ≡ orElse o second
       go none q = refl
       go (some u) q = let z : _≡_ {A = ℕ} 0 1 = cc in absurd (omega arith)
 
-  pub load-next : fetched.Nothing ≡ fetchedOf b places first → length b ≤ end → nextPending since source 0 (drop source b) ≡ all
-  load-next e l = ap (λ (x : List ℕ). nextPending since source 0 (drop source x)) (sym (take-all end b l)) ∙ load-part-next e
+  pub load-next : fetched.Nothing ≡ fetchedOf ed b places first → length b ≤ end → nextPending ed since source 0 (drop source b) ≡ all
+  load-next e l = ap (λ (x : List ℕ). nextPending ed since source 0 (drop source x)) (sym (take-all end b l)) ∙ load-part-next e

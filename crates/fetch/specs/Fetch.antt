@@ -6,6 +6,7 @@ use mathlib.Core.Path.{_≡_}
 use Prim.Native.Nat.{ℕ, _+_, _-_, _≤_}
 use lib.Dec.{eqb, leb}
 use lib.ListN.{length, getD, take, drop}
+use Rattle.frame.specs.declared.Edition.{Edition}
 use Rattle.frame.specs.declared.ObjectId.{ObjectId}
 use Rattle.frame.specs.declared.Head.{Head}
 use Rattle.frame.specs.declared.Head.the-variants as head
@@ -29,20 +30,20 @@ abbrev pub orStart : Option Value → ℕ
 orStart none = 0
 orStart (some x) = x .at
 
-abbrev pub valueFrom : List ℕ → List ℕ → ℕ → Frame → ℕ
-valueFrom b places s (change h c) = s - frameLen (change h c) + valueStart (headOf (change h c))
-valueFrom b places s (commit h) = s - frameLen (commit h) + valueStart (headOf (commit h))
-valueFrom b places s (abort h) = s - frameLen (abort h) + valueStart (headOf (abort h))
-valueFrom b places s (settled i v) = orStart (valueAt b i (getD places (i .0) 0))
+abbrev pub valueFrom : Edition → List ℕ → List ℕ → ℕ → Frame → ℕ
+valueFrom ed b places s (change h c) = s - frameLen ed (change h c) + valueStart (headOf (change h c))
+valueFrom ed b places s (commit h) = s - frameLen ed (commit h) + valueStart (headOf (commit h))
+valueFrom ed b places s (abort h) = s - frameLen ed (abort h) + valueStart (headOf (abort h))
+valueFrom ed b places s (settled i v) = orStart (valueAt ed b i (getD places (i .0) 0))
 
-abbrev pub fetchOf : List ℕ → List ℕ → Load → Fetch
-fetchOf b places l =
-    record { head = headOf (l .frame); value = valueFrom b places (l .source) (l .frame); id = l .id; source = l .source }
+abbrev pub fetchOf : Edition → List ℕ → List ℕ → Load → Fetch
+fetchOf ed b places l =
+    record { head = headOf (l .frame); value = valueFrom ed b places (l .source) (l .frame); id = l .id; source = l .source }
 
 -- the answer of a search for a frame to copy from block b
-unfoldable pub fetchedOf : List ℕ → List ℕ → Option Load → Fetched
-fetchedOf b places none = fetched.Nothing
-fetchedOf b places (some l) = fetched.Frame (fetchOf b places l)
+unfoldable pub fetchedOf : Edition → List ℕ → List ℕ → Option Load → Fetched
+fetchedOf ed b places none = fetched.Nothing
+fetchedOf ed b places (some l) = fetched.Frame (fetchOf ed b places l)
 
 -- the frame that was found in block b, and the cursor after it
 abbrev pub loadIn : List ℕ → Fetch → Load

@@ -9,6 +9,7 @@ ghost use Rattle.fetch.specs.Fetch.{valueHead, pendingHead};
 
 mod hosts;
 
+use frame::Edition;
 use frame::FrameRead;
 use frame::Head;
 use frame::ObjectId;
@@ -60,13 +61,13 @@ fn value_in(id: ObjectId, place: u16, head: Head) -> Found
 }
 
 // The value of an id at a place of a block; place 0 is none.
-pub fn value_at(block: &[u8], id: ObjectId, place: u16) -> Found
-    ensures { λ r. ⌜ r ≡ foundOf (valueAt (now (block .entry)) id place) ⌝ }
+pub fn value_at(block: &[u8], edition: Edition, id: ObjectId, place: u16) -> Found
+    ensures { λ r. ⌜ r ≡ foundOf (valueAt edition (now (block .entry)) id place) ⌝ }
 {
     if place == 0 {
         return Found::Nothing;
     }
-    match reader::read_frame(block, place as usize, 0) {
+    match reader::read_frame(block, edition, place as usize, 0) {
         FrameRead::Whole(head) => return value_in(id, place, head),
         FrameRead::Blank => return Found::Nothing,
         FrameRead::Torn(_) => return Found::Nothing,
@@ -75,12 +76,19 @@ pub fn value_at(block: &[u8], id: ObjectId, place: u16) -> Found
 }
 
 // The settled frame of the first id from `id` on whose place holds its value.
-fn next_settled(block: &[u8], places: &[u16; 256], id: u16, source: u16) -> Fetched
-    ensures { λ r. ⌜ r ≡ fetchedOf (now (block .entry)) (now (places .entry)) (nextSettled (now (block .entry)) (now (places .entry)) source (256 - id) id) ⌝ }
+fn next_settled(
+    block: &[u8],
+    edition: Edition,
+    places: &[u16; 256],
+    id: u16,
+    source: u16,
+) -> Fetched
+    ensures { λ r. ⌜ r ≡ fetchedOf edition (now (block .entry)) (now (places .entry))
+        (nextSettled edition (now (block .entry)) (now (places .entry)) source (256 - id) id) ⌝ }
 {
     let mut i = id;
     while i < 256 {
-        match value_at(block, ObjectId(i), places[i as usize]) {
+        match value_at(block, edition, ObjectId(i), places[i as usize]) {
             Found::At(value, n) => {
                 return Fetched::Frame(Fetch {
                     head: Head::Settled(ObjectId(i), n),
@@ -111,15 +119,15 @@ fn is_pending(since: [u16; 4], at: usize, head: Head) -> bool
 }
 
 // The first pending frame of a journal that starts at `source`, wherever its settled values stand; an offset past it must fit a u16.
-fn next_pending(part: &[u8], since: [u16; 4], source: u16) -> Fetched
+fn next_pending(part: &[u8], edition: Edition, since: [u16; 4], source: u16) -> Fetched
     requires { ⌜ length (now part) < 65536 ⌝ }
-    ensures { λ r. ⌜ ((b places : List ℕ) → r ≡ fetchedOf b places (nextPending since source 0 (drop source (now (part .entry))))) ⌝ }
+    ensures { λ r. ⌜ ((b places : List ℕ) → r ≡ fetchedOf edition b places (nextPending edition since source 0 (drop source (now (part .entry))))) ⌝ }
 {
     let mut at = source as usize;
     loop {
-        match reader::read_frame(part, at, 0) {
+        match reader::read_frame(part, edition, at, 0) {
             FrameRead::Whole(head) => {
-                let next = at + frame::frame_len(head);
+                let next = at + frame::frame_len(edition, head);
                 if is_pending(since, at, head) {
                     return Fetched::Frame(Fetch {
                         head: head,
@@ -146,22 +154,24 @@ fn next_pending(part: &[u8], since: [u16; 4], source: u16) -> Fetched
 // The next frame that a transfer of a block writes, whose whole frames run to `end`.
 pub fn next_load(
     block: &[u8],
+    edition: Edition,
     end: u16,
     places: &[u16; 256],
     since: [u16; 4],
     id: u16,
     source: u16,
 ) -> Fetched
-    ensures { λ r. ⌜ r ≡ fetchedOf (now (block .entry)) (now (places .entry)) (nextLoad (now (block .entry)) end (now (places .entry)) since id source) ⌝ }
+    ensures { λ r. ⌜ r ≡ fetchedOf edition (now (block .entry)) (now (places .entry))
+        (nextLoad edition (now (block .entry)) end (now (places .entry)) since id source) ⌝ }
 {
     let e = end as usize;
-    match next_settled(block, places, id, source) {
+    match next_settled(block, edition, places, id, source) {
         Fetched::Frame(fetch) => return Fetched::Frame(fetch),
         Fetched::Nothing => {
             if block.len() <= e {
-                return next_pending(block, since, source);
+                return next_pending(block, edition, since, source);
             }
-            return next_pending(&block[..e], since, source);
+            return next_pending(&block[..e], edition, since, source);
         }
     }
 }

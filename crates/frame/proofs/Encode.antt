@@ -11,8 +11,13 @@ use Rattle.crc.proofs.Small.{crc32-small}
 use Rattle.frame.specs.declared.Edition.{Edition}
 use Rattle.frame.specs.declared.Edition.the-variants as edition
 use Rattle.frame.specs.Frame.{Frame, change, commit, abort, settled, put, delete, kindOf, body, check, checkLen, sealed, sealOf, finish}
-use Rattle.frame.specs.Frame.{front, encodeIn, frameLenIn, encodeAllIn, totalIn, maxFrameIn, MayStandIn, AllMayStandIn, OfHost, nextAfter, nextOf}
+use Rattle.frame.specs.Frame.{editionNumber, editionBy, bufferLen}
+use Rattle.frame.specs.Frame.{front, encode, frameLen, encodeAll, total, maxFrame, MayStand, AllMayStand, OfHost, nextAfter, nextOf}
 use Rattle.frame.specs.Sentences.{LengthShows}
+
+pub edition-back : (e : Edition) → editionBy (editionNumber e) ≡ e
+edition-back edition.First = refl
+edition-back edition.Second = refl
 
 -- ---- the check: all that is used of it is how many bytes it has
 
@@ -31,7 +36,7 @@ check-bytes edition.Second x y =
 
 -- ---- by kind
 
-pub frame-short : (e : Edition) (next : ℕ) (f : Frame) → MayStandIn e next f → frameLenIn e f ≤ maxFrameIn e
+pub frame-short : (e : Edition) (next : ℕ) (f : Frame) → MayStand e next f → frameLen e f ≤ maxFrame e
 frame-short e next (change h (put i v)) (hh, hi, (hv, hb)) = omega arith
 frame-short e next (change h (delete i)) g = omega arith
 frame-short e next (commit h) g = omega arith
@@ -45,7 +50,7 @@ kind-small (commit h) = omega arith
 kind-small (abort h) = omega arith
 kind-small (settled i v) = omega arith
 
-body-bytes : (e : Edition) (next : ℕ) (f : Frame) → MayStandIn e next f → Bytes (body f)
+body-bytes : (e : Edition) (next : ℕ) (f : Frame) → MayStand e next f → Bytes (body f)
 body-bytes e next (change h (put i v)) (hh, hi, (hv, hb)) = (omega arith, (omega arith, (omega arith, hb)))
 body-bytes e next (change h (delete i)) (hh, hi) = omega arith
 body-bytes e next (commit h) hh = omega arith
@@ -53,7 +58,7 @@ body-bytes e next (abort h) hh = omega arith
 body-bytes e next (settled i v) (hn, hi, (hv, hb)) = (omega arith, (omega arith, hb))
 
 -- frames of kinds 1 to 4 may stand anywhere
-pub stands-any : (e : Edition) (a b : ℕ) (f : Frame) → OfHost f → MayStandIn e a f → MayStandIn e b f
+pub stands-any : (e : Edition) (a b : ℕ) (f : Frame) → OfHost f → MayStand e a f → MayStand e b f
 stands-any e a b (change h (put i v)) u g = g
 stands-any e a b (change h (delete i)) u g = g
 stands-any e a b (commit h) u g = g
@@ -61,7 +66,7 @@ stands-any e a b (abort h) u g = g
 stands-any e a b (settled i v) u g = absurd u
 
 -- what may stand somewhere may stand first
-pub stands-zero : (e : Edition) (n : ℕ) (f : Frame) → MayStandIn e n f → MayStandIn e 0 f
+pub stands-zero : (e : Edition) (n : ℕ) (f : Frame) → MayStand e n f → MayStand e 0 f
 stands-zero e n (change h c) g = stands-any e n 0 (change h c) tt g
 stands-zero e n (commit h) g = g
 stands-zero e n (abort h) g = g
@@ -73,18 +78,18 @@ stands-zero e n (settled i v) (a, b, c) = (omega arith, b, c)
 pub length-shows : LengthShows
 length-shows e = omega (arith, check-short e)
 
-pub frame-small : (e : Edition) (next : ℕ) (f : Frame) → MayStandIn e next f → frameLenIn e f < 255
+pub frame-small : (e : Edition) (next : ℕ) (f : Frame) → MayStand e next f → frameLen e f < 255
 frame-small e next f g = omega (arith, frame-short e next f g, length-shows e)
 
 pub length-sealed : (s : Edition) (x : List ℕ) → length (sealed s x) ≡ length x + checkLen s + 1
 length-sealed s x = simp length-append (omega (arith, check-length s x))
 
-pub length-encode : (e : Edition) (f : Frame) → length (encodeIn e f) ≡ frameLenIn e f
+pub length-encode : (e : Edition) (f : Frame) → length (encode e f) ≡ frameLen e f
 length-encode e f = length-sealed (sealOf e f) (front e f) ∙ omega arith
 
-pub bytes-encode : (e : Edition) (next : ℕ) (f : Frame) → MayStandIn e next f → Bytes (encodeIn e f)
+pub bytes-encode : (e : Edition) (next : ℕ) (f : Frame) → MayStand e next f → Bytes (encode e f)
 bytes-encode e next f g =
-    let n : frameLenIn e f < 255 = frame-small e next f g in
+    let n : frameLen e f < 255 = frame-small e next f g in
     let k : kindOf f < 255 = kind-small f in
     let b : Bytes (front e f) = (omega arith, (omega arith, (omega arith, (omega arith, body-bytes e next f g)))) in
     bytes-append (front e f) (check (sealOf e f) (front e f) ++ (finish ∷ [])) b
@@ -92,40 +97,59 @@ bytes-encode e next f g =
 
 -- ---- frames one after the other
 
-pub length-all : (e : Edition) (fs : List Frame) → length (encodeAllIn e fs) ≡ totalIn e fs
-unfolding encodeAllIn totalIn
+pub length-all : (e : Edition) (fs : List Frame) → length (encodeAll e fs) ≡ total e fs
+unfolding encodeAll total
 length-all e [] = refl
-length-all e (f ∷ fs) = length-append (encodeIn e f) (encodeAllIn e fs) ∙ omega (arith, length-encode e f, length-all e fs)
+length-all e (f ∷ fs) = length-append (encode e f) (encodeAll e fs) ∙ omega (arith, length-encode e f, length-all e fs)
 
-pub bytes-all : (e : Edition) (next : ℕ) (fs : List Frame) → AllMayStandIn e next fs → Bytes (encodeAllIn e fs)
-unfolding encodeAllIn
+pub bytes-all : (e : Edition) (next : ℕ) (fs : List Frame) → AllMayStand e next fs → Bytes (encodeAll e fs)
+unfolding encodeAll
 bytes-all e next [] g = tt
-bytes-all e next (f ∷ fs) (g, gs) = bytes-append (encodeIn e f) (encodeAllIn e fs) (bytes-encode e next f g) (bytes-all e (nextAfter f) fs gs)
+bytes-all e next (f ∷ fs) (g, gs) = bytes-append (encode e f) (encodeAll e fs) (bytes-encode e next f g) (bytes-all e (nextAfter f) fs gs)
 
-pub encode-append : (e : Edition) (fs gs : List Frame) → encodeAllIn e (fs ++ gs) ≡ encodeAllIn e fs ++ encodeAllIn e gs
-unfolding encodeAllIn
+pub encode-append : (e : Edition) (fs gs : List Frame) → encodeAll e (fs ++ gs) ≡ encodeAll e fs ++ encodeAll e gs
+unfolding encodeAll
 encode-append e [] gs = refl
 encode-append e (f ∷ fs) gs =
-    ap (λ (x : List ℕ). encodeIn e f ++ x) (encode-append e fs gs) ∙ sym (append-assoc (encodeIn e f) (encodeAllIn e fs) (encodeAllIn e gs))
+    ap (λ (x : List ℕ). encode e f ++ x) (encode-append e fs gs) ∙ sym (append-assoc (encode e f) (encodeAll e fs) (encodeAll e gs))
 
-pub encode-snoc : (e : Edition) (fs : List Frame) (f : Frame) → encodeAllIn e (fs ++ (f ∷ [])) ≡ encodeAllIn e fs ++ encodeIn e f
-unfolding encodeAllIn
-encode-snoc e fs f = encode-append e fs (f ∷ []) ∙ ap (λ (x : List ℕ). encodeAllIn e fs ++ x) (append-nil (encodeIn e f))
+pub encode-snoc : (e : Edition) (fs : List Frame) (f : Frame) → encodeAll e (fs ++ (f ∷ [])) ≡ encodeAll e fs ++ encode e f
+unfolding encodeAll
+encode-snoc e fs f = encode-append e fs (f ∷ []) ∙ ap (λ (x : List ℕ). encodeAll e fs ++ x) (append-nil (encode e f))
 
-pub total-append : (e : Edition) (fs gs : List Frame) → totalIn e (fs ++ gs) ≡ totalIn e fs + totalIn e gs
-unfolding totalIn
+pub total-append : (e : Edition) (fs gs : List Frame) → total e (fs ++ gs) ≡ total e fs + total e gs
+unfolding total
 total-append e [] gs = omega arith
 total-append e (f ∷ fs) gs = omega (arith, total-append e fs gs)
 
-pub total-snoc : (e : Edition) (fs : List Frame) (f : Frame) → totalIn e (fs ++ (f ∷ [])) ≡ totalIn e fs + frameLenIn e f
-unfolding totalIn
+pub total-snoc : (e : Edition) (fs : List Frame) (f : Frame) → total e (fs ++ (f ∷ [])) ≡ total e fs + frameLen e f
+unfolding total
 total-snoc e fs f = omega (arith, total-append e fs (f ∷ []))
 
-pub stands-append : (e : Edition) (next : ℕ) (fs gs : List Frame) → AllMayStandIn e next fs → AllMayStandIn e (nextOf next fs) gs
-    → AllMayStandIn e next (fs ++ gs)
+pub stands-append : (e : Edition) (next : ℕ) (fs gs : List Frame) → AllMayStand e next fs → AllMayStand e (nextOf next fs) gs
+    → AllMayStand e next (fs ++ gs)
 stands-append e next [] gs u w = w
 stands-append e next (f ∷ fs) gs (g, u) w = (g, stands-append e (nextAfter f) fs gs u w)
 
 pub next-append : (next : ℕ) (fs gs : List Frame) → nextOf next (fs ++ gs) ≡ nextOf (nextOf next fs) gs
 next-append next [] gs = refl
 next-append next (f ∷ fs) gs = next-append (nextAfter f) fs gs
+
+-- ---- from one edition to another
+
+-- what is legal in one edition is so in any
+may-edition : (d e : Edition) (n : ℕ) (f : Frame) → MayStand d n f → MayStand e n f
+may-edition d e n (change h (put i v)) g = g
+may-edition d e n (change h (delete i)) g = g
+may-edition d e n (commit h) g = g
+may-edition d e n (abort h) g = g
+may-edition d e n (settled i v) g = g
+
+-- and so every frame that may stand fits a buffer, whichever edition it is then written in
+pub frame-fits : (d e : Edition) (n : ℕ) (f : Frame) → MayStand d n f → frameLen e f ≤ bufferLen
+frame-fits d edition.First n f g = omega (arith, frame-short edition.First n f (may-edition d edition.First n f g))
+frame-fits d edition.Second n f g = frame-short edition.Second n f (may-edition d edition.Second n f g)
+
+pub stands-edition : (d e : Edition) (n : ℕ) (fs : List Frame) → AllMayStand d n fs → AllMayStand e n fs
+stands-edition d e n [] g = tt
+stands-edition d e n (f ∷ fs) (g, gs) = (may-edition d e n f g, stands-edition d e (nextAfter f) fs gs)

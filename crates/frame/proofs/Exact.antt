@@ -14,10 +14,10 @@ use Rattle.flash.proofs.Blank.{allFF-all, allFF-at, all-ff, is-ff}
 use Rattle.frame.specs.declared.Edition.{Edition}
 use Rattle.frame.specs.declared.Fault.{Fault}
 use Rattle.frame.specs.declared.Field.the-variants as field
-use Rattle.frame.specs.Frame.{Frame, encodeIn, frameLenIn, MayStandIn, OfHost}
+use Rattle.frame.specs.Frame.{Frame, encode, frameLen, MayStand, OfHost}
 use Rattle.frame.specs.Reader.{Read, blank, whole, torn, wrong, fault, Slot, hasLength, layoutOf, Match, all, part, misfit, match, decode, ofMatch}
-use Rattle.frame.specs.Reader.{readLaid, readFrameIn}
-use Rattle.frame.specs.Sentences.{WholeIn, TornIn, Blank, Wrong}
+use Rattle.frame.specs.Reader.{readLaid, readFrame}
+use Rattle.frame.specs.Sentences.{Whole, Torn, Blank, Wrong}
 use Rattle.frame.proofs.Encode.{frame-small, length-encode}
 use Rattle.frame.proofs.Fit.{Fit, match-all, Partly, match-some, match-seen, Stopped, Blanks, Stuck, match-stuck}
 use Rattle.frame.proofs.Own.{own, unseen, has-length, decode-own}
@@ -25,11 +25,11 @@ use Rattle.frame.proofs.Layouts.{layoutAt, slotsAt, length-slots, close
 
 -- ---- the steps of the reader
 
-pub read-ff : (e : Edition) (next at : ℕ) (t : List ℕ) → allFF t ≡ true → readFrameIn e next at t ≡ blank
-unfolding readFrameIn
-read-ff e next at t p = rw (p, readFrameIn)
+pub read-ff : (e : Edition) (next at : ℕ) (t : List ℕ) → allFF t ≡ true → readFrame e next at t ≡ blank
+unfolding readFrame
+read-ff e next at t p = rw (p, readFrame)
 
-pub read-blank : (e : Edition) (next at m : ℕ) → readFrameIn e next at (replicate m 255) ≡ blank
+pub read-blank : (e : Edition) (next at m : ℕ) → readFrame e next at (replicate m 255) ≡ blank
 read-blank e next at m = read-ff e next at (replicate m 255) (allFF-all m)
 
 -- a length that some frame has, and that fits
@@ -37,17 +37,17 @@ abbrev pub lengthFits : Edition → ℕ → List ℕ → Bool
 lengthFits e next t = leb (getD t 0 0) (length t) && hasLength e next (getD t 0 0)
 
 pub read-laid : (e : Edition) (next at : ℕ) (t : List ℕ) → allFF t ≡ false → lengthFits e next t ≡ true
-    → readFrameIn e next at t ≡ readLaid e next at (getD t 0 0) (getD t 2 0) t
-unfolding readFrameIn
-read-laid e next at t p q = rw (p, q, readFrameIn)
+    → readFrame e next at t ≡ readLaid e next at (getD t 0 0) (getD t 2 0) t
+unfolding readFrame
+read-laid e next at t p q = rw (p, q, readFrame)
 
 pub read-short : (e : Edition) (next at : ℕ) (t : List ℕ) → allFF t ≡ false → lengthFits e next t ≡ false
-    → readFrameIn e next at t ≡ wrong (fault field.Length at)
-unfolding readFrameIn
-read-short e next at t p q = rw (p, q, readFrameIn)
+    → readFrame e next at t ≡ wrong (fault field.Length at)
+unfolding readFrame
+read-short e next at t p q = rw (p, q, readFrame)
 
 -- which of the three it takes
-pub on-read : {P : Type 0} (e : Edition) (next at : ℕ) (t : List ℕ) (x : Read) → readFrameIn e next at t ≡ x → (allFF t ≡ true → blank ≡ x → P)
+pub on-read : {P : Type 0} (e : Edition) (next at : ℕ) (t : List ℕ) (x : Read) → readFrame e next at t ≡ x → (allFF t ≡ true → blank ≡ x → P)
     → (allFF t ≡ false → lengthFits e next t ≡ false → wrong (fault field.Length at) ≡ x → P)
     → (allFF t ≡ false → getD t 0 0 ≤ length t → hasLength e next (getD t 0 0) ≡ true → readLaid e next at (getD t 0 0) (getD t 2 0) t ≡ x → P) → P
 on-read e next at t x q f g h =
@@ -61,50 +61,57 @@ on-read e next at t x q f g h =
 
 -- ---- bytes that begin a legal frame
 
-module _ (e : Edition) (next at : ℕ) (t : List ℕ) (j : ℕ) (f : Frame) (g : MayStandIn e next f) (q : take j t ≡ take j (encodeIn e f)) (h : 1 ≤ j)
-    (l : frameLenIn e f ≤ length t) where
-  pub begins-laid : readFrameIn e next at t ≡ readLaid e next at (getD t 0 0) (getD t 2 0) t
+module _ (e : Edition) (next at : ℕ) (t : List ℕ) (j : ℕ) (f : Frame) (g : MayStand e next f) (q : take j t ≡ take j (encode e f)) (h : 1 ≤ j)
+    (l : frameLen e f ≤ length t) where
+  pub begins-laid : readFrame e next at t ≡ readLaid e next at (getD t 0 0) (getD t 2 0) t
   begins-laid =
-      let n : getD t 0 0 ≡ frameLenIn e f = begins-length e next t j f g q h in
+      let n : getD t 0 0 ≡ frameLen e f = begins-length e next t j f g q h in
       read-laid e next at t (allFF-at t 0 (omega arith) (omega (arith, frame-small e next f g)))
       (and-both (leb (getD t 0 0) (length t)) (hasLength e next (getD t 0 0)) (le-leb (getD t 0 0) (length t) (omega arith))
       (ap (hasLength e next) n ∙ has-length e next f g))
 
-  pub begins-slots : length (slotsAt e next t) ≡ frameLenIn e f
+  pub begins-slots : length (slotsAt e next t) ≡ frameLen e f
   begins-slots =
-      let n : getD t 0 0 ≡ frameLenIn e f = begins-length e next t j f g q h in
+      let n : getD t 0 0 ≡ frameLen e f = begins-length e next t j f g q h in
       length-slots e next t (ap (hasLength e next) n ∙ has-length e next f g) ∙ n
 
 -- ---- whole
 
-pub read-back : (e : Edition) (next at : ℕ) (f : Frame) (rest : List ℕ) → MayStandIn e next f → readFrameIn e next at (encodeIn e f ++ rest) ≡ whole f
+pub read-back : (e : Edition) (next at : ℕ) (f : Frame) (rest : List ℕ) → MayStand e next f → readFrame e next at (encode e f ++ rest) ≡ whole f
 read-back e next at f rest g =
-    let t : List ℕ = encodeIn e f ++ rest in
-    let n : ℕ = frameLenIn e f in
-    let len : length (encodeIn e f) ≡ n = length-encode e f in
-    let q0 : take n t ≡ encodeIn e f = take-at (encodeIn e f) rest n len in
-    let q : take n t ≡ take n (encodeIn e f) = q0 ∙ sym (take-all n (encodeIn e f) (omega arith)) in
-    let l : n ≤ length t = omega (arith, length-append (encodeIn e f) rest) in
+    let t : List ℕ = encode e f ++ rest in
+    let n : ℕ = frameLen e f in
+    let len : length (encode e f) ≡ n = length-encode e f in
+    let q0 : take n t ≡ encode e f = take-at (encode e f) rest n len in
+    let q : take n t ≡ take n (encode e f) = q0 ∙ sym (take-all n (encode e f) (omega arith)) in
+    let l : n ≤ length t = omega (arith, length-append (encode e f) rest) in
     let ps : List Slot = slotsAt e next t in
     let size : length ps ≡ n = begins-slots e next at t n f g q (omega arith) l in
-    let fit : Fit ps (encodeIn e f) =
+    let fit : Fit ps (encode e f) =
     subst (Fit ps) q0
     (subst (λ (x : List Slot). Fit x (take n t)) (take-all n ps (omega arith)) (begins-fit e next t n f g q (omega arith))) in
     begins-laid e next at t n f g q (omega arith) l
     ∙ ap₂ (λ (x : Frame) (m : Match). ofMatch at (getD t 0 0) (layoutAt e next t .tears) x m)
     (ap₂ (λ (k m : ℕ). decode e k m t) (begins-kind e next t n f g q (omega arith)) (begins-length e next t n f g q (omega arith)) ∙ decode-own e f rest)
-    (match-all ps (encodeIn e f) rest fit)
+    (match-all ps (encode e f) rest fit)
 
-pub whole-reads : (e : Edition) (next at : ℕ) (t : List ℕ) (f : Frame) → WholeIn e next t f → readFrameIn e next at t ≡ whole f
-whole-reads e next at t f w = ap (readFrameIn e next at) (w .bytes) ∙ read-back e next at f (w .rest) (w .stands)
+pub whole-reads : (e : Edition) (next at : ℕ) (t : List ℕ) (f : Frame) → Whole e next t f → readFrame e next at t ≡ whole f
+whole-reads e next at t f w = ap (readFrame e next at) (w .bytes) ∙ read-back e next at f (w .rest) (w .stands)
 
-of-all : (at n : ℕ) (b : Bool) (g f : Frame) (m : Match) → ofMatch at n b g m ≡ whole f → m ≡ all
-of-all at n b g f all q = refl
+of-all : (at n : ℕ) (b : Bool) (g f : Frame) (m : Match) → ofMatch at n b g m ≡ whole f → (m ≡ all) × (g ≡ f)
+of-all at n b g f all q = (refl, cc)
 of-all at n true g f (part p) q = let z : _≡_ {A = ℕ} 0 1 = cc in absurd (omega arith)
 of-all at n false g f (part p) q = let z : _≡_ {A = ℕ} 0 1 = cc in absurd (omega arith)
 of-all at n b g f (misfit p) q = let z : _≡_ {A = ℕ} 0 1 = cc in absurd (omega arith)
 
-pub whole-sound : (e : Edition) (next at : ℕ) (t : List ℕ) (f : Frame) → readFrameIn e next at t ≡ whole f → WholeIn e next t f
+pub whole-decoded : (e : Edition) (next at : ℕ) (t : List ℕ) (f : Frame) → readFrame e next at t ≡ whole f → decode e (getD t 2 0) (getD t 0 0) t ≡ f
+whole-decoded e next at t f q =
+    on-read e next at t (whole f) q
+    (λ a r. let z : _≡_ {A = ℕ} 0 1 = cc in absurd (omega arith))
+    (λ a b r. let z : _≡_ {A = ℕ} 0 1 = cc in absurd (omega arith))
+    (λ a l b r. of-all at (getD t 0 0) (layoutAt e next t .tears) (decode e (getD t 2 0) (getD t 0 0) t) f (match (slotsAt e next t) t) r .1)
+
+pub whole-sound : (e : Edition) (next at : ℕ) (t : List ℕ) (f : Frame) → readFrame e next at t ≡ whole f → Whole e next t f
 whole-sound e next at t f q =
     let n : ℕ = getD t 0 0 in
     let ps : List Slot = slotsAt e next t in
@@ -112,19 +119,19 @@ whole-sound e next at t f q =
     (λ a r. let z : _≡_ {A = ℕ} 0 1 = cc in absurd (omega arith))
     (λ a b r. let z : _≡_ {A = ℕ} 0 1 = cc in absurd (omega arith))
     (λ a l b r.
-    let m : match ps t ≡ all = of-all at n (layoutAt e next t .tears) (decode e (getD t 2 0) n t) f (match ps t) r in
+    let m : match ps t ≡ all = of-all at n (layoutAt e next t .tears) (decode e (getD t 2 0) n t) f (match ps t) r .0 in
     let size : length ps ≡ n = length-slots e next t b in
     let fit : Fit (take (length ps) ps) (take (length ps) t) =
     subst (λ (x : List Slot). Fit x (take (length ps) t)) (sym (take-length ps)) (match-seen ps t m) in
     let y : Begun e next t (length ps) = complete e next t (length ps) b fit (omega arith) in
     let g : Frame = y .frame in
-    let g-is : encodeIn e g ≡ take (length ps) t =
-    sym (take-all (length ps) (encodeIn e g) (omega (arith, length-encode e g, y .size))) ∙ y .bytes in
-    let i : t ≡ encodeIn e g ++ drop (length ps) t =
+    let g-is : encode e g ≡ take (length ps) t =
+    sym (take-all (length ps) (encode e g) (omega (arith, length-encode e g, y .size))) ∙ y .bytes in
+    let i : t ≡ encode e g ++ drop (length ps) t =
     sym (take-append-drop (length ps) t) ∙ ap (λ (x : List ℕ). x ++ drop (length ps) t) (sym g-is) in
-    let same : whole g ≡ whole f = sym (ap (readFrameIn e next at) i ∙ read-back e next at g (drop (length ps) t) (y .stands)) ∙ q in
+    let same : whole g ≡ whole f = sym (ap (readFrame e next at) i ∙ read-back e next at g (drop (length ps) t) (y .stands)) ∙ q in
     let s : g ≡ f = cc in
-    subst (WholeIn e next t) s (record { rest = drop (length ps) t; stands = y .stands; bytes = i }))
+    subst (Whole e next t) s (record { rest = drop (length ps) t; stands = y .stands; bytes = i }))
 
 -- ---- torn
 
@@ -139,33 +146,33 @@ third (a ∷ []) m h l = getD-replicate m 1 255 0 (omega arith)
 third (a ∷ b ∷ []) m h l = getD-replicate m 0 255 0 (omega arith)
 third (a ∷ b ∷ c ∷ x) m h l = absurd (omega arith)
 
-pub read-torn : (e : Edition) (next at : ℕ) (f : Frame) (k m : ℕ) → OfHost f → MayStandIn e next f → 1 ≤ k → k < frameLenIn e f → frameLenIn e f ≤ k + m
-    → readFrameIn e next at (take k (encodeIn e f) ++ replicate m 255) ≡ torn (frameLenIn e f)
+pub read-torn : (e : Edition) (next at : ℕ) (f : Frame) (k m : ℕ) → OfHost f → MayStand e next f → 1 ≤ k → k < frameLen e f → frameLen e f ≤ k + m
+    → readFrame e next at (take k (encode e f) ++ replicate m 255) ≡ torn (frameLen e f)
 read-torn e next at f k m u g h lo hi =
-    let x : List ℕ = take k (encodeIn e f) in
+    let x : List ℕ = take k (encode e f) in
     let t : List ℕ = x ++ replicate m 255 in
-    let len : length x ≡ k = length-take-le k (encodeIn e f) (omega (arith, length-encode e f)) in
-    let q : take k t ≡ take k (encodeIn e f) = take-at x (replicate m 255) k len in
-    let l : length t ≡ k + m = length-cut k (encodeIn e f) m (omega (arith, length-encode e f)) in
-    let n : getD t 0 0 ≡ frameLenIn e f = begins-length e next t k f g q h in
+    let len : length x ≡ k = length-take-le k (encode e f) (omega (arith, length-encode e f)) in
+    let q : take k t ≡ take k (encode e f) = take-at x (replicate m 255) k len in
+    let l : length t ≡ k + m = length-cut k (encode e f) m (omega (arith, length-encode e f)) in
+    let n : getD t 0 0 ≡ frameLen e f = begins-length e next t k f g q h in
     let ps : List Slot = slotsAt e next t in
-    let size : length ps ≡ frameLenIn e f = begins-slots e next at t k f g q h (omega arith) in
+    let size : length ps ≡ frameLen e f = begins-slots e next at t k f g q h (omega arith) in
     let fit : Fit (take k ps) x = subst (Fit (take k ps)) q (begins-fit e next t k f g q h) in
     let p : Partly (match ps t) = match-some k ps x m fit (closed-slots e next t) (omega arith) (omega arith) in
     let tears : layoutAt e next t .tears ≡ true =
     ap (λ (z : ℕ). layoutOf e next z (getD t 2 0) .tears) n
     ∙ on-test (leb 3 k)
-    (λ b. ap (λ (z : ℕ). layoutOf e next (frameLenIn e f) z .tears) (begins-kind e next t k f g q (leb-true 3 k b)) ∙ own e next f g .tears u)
-    (λ b. ap (λ (z : ℕ). layoutOf e next (frameLenIn e f) z .tears) (third x m (omega (arith, leb-false 3 k b)) (omega arith)) ∙ unseen e next f u g) in
+    (λ b. ap (λ (z : ℕ). layoutOf e next (frameLen e f) z .tears) (begins-kind e next t k f g q (leb-true 3 k b)) ∙ own e next f g .tears u)
+    (λ b. ap (λ (z : ℕ). layoutOf e next (frameLen e f) z .tears) (third x m (omega (arith, leb-false 3 k b)) (omega arith)) ∙ unseen e next f u g) in
     begins-laid e next at t k f g q h (omega arith)
     ∙ ap₂ (λ (b : Bool) (y : Match). ofMatch at (getD t 0 0) b (decode e (getD t 2 0) (getD t 0 0) t) y) tears (p .is)
     ∙ ap torn n
 
-pub torn-reads : (e : Edition) (next at : ℕ) (t : List ℕ) (n : ℕ) → TornIn e next t n → readFrameIn e next at t ≡ torn n
+pub torn-reads : (e : Edition) (next at : ℕ) (t : List ℕ) (n : ℕ) → Torn e next t n → readFrame e next at t ≡ torn n
 torn-reads e next at t n y =
     let l : length t ≡ y .k + y .left =
-    ap length (y .bytes) ∙ length-cut (y .k) (encodeIn e (y .frame)) (y .left) (omega (arith, length-encode e (y .frame), y .not-all)) in
-    ap (readFrameIn e next at) (y .bytes)
+    ap length (y .bytes) ∙ length-cut (y .k) (encode e (y .frame)) (y .left) (omega (arith, length-encode e (y .frame), y .not-all)) in
+    ap (readFrame e next at) (y .bytes)
     ∙ read-torn e next at (y .frame) (y .k) (y .left) (y .of-host) (y .legal) (y .some) (y .not-all) (omega (arith, y .would-fit))
     ∙ ap torn (sym (y .long))
 
@@ -184,7 +191,7 @@ of-torn at n b g (misfit p) x q = let z : _≡_ {A = ℕ} 0 1 = cc in absurd (om
 pub stuck-before : (ps : List Slot) (t : List ℕ) (p : Slot) (y : Stuck ps t p) → y .place < length ps
 stuck-before ps t p y = omega (arith, length-drop (y .place) ps, ap length (y .is-slots))
 
-pub torn-sound : (e : Edition) (next at : ℕ) (t : List ℕ) (x : ℕ) → readFrameIn e next at t ≡ torn x → TornIn e next t x
+pub torn-sound : (e : Edition) (next at : ℕ) (t : List ℕ) (x : ℕ) → readFrame e next at t ≡ torn x → Torn e next t x
 torn-sound e next at t x q =
     let n : ℕ = getD t 0 0 in
     let ps : List Slot = slotsAt e next t in
@@ -226,27 +233,27 @@ of-blank at n true g (part p) q = let z : _≡_ {A = ℕ} 0 1 = cc in omega arit
 of-blank at n false g (part p) q = let z : _≡_ {A = ℕ} 0 1 = cc in omega arith
 of-blank at n b g (misfit p) q = let z : _≡_ {A = ℕ} 0 1 = cc in omega arith
 
-pub blank-sound : (e : Edition) (next at : ℕ) (t : List ℕ) → readFrameIn e next at t ≡ blank → Blank t
+pub blank-sound : (e : Edition) (next at : ℕ) (t : List ℕ) → readFrame e next at t ≡ blank → Blank t
 blank-sound e next at t q =
     on-read e next at t blank q
     (λ a r. all-ff t a)
     (λ a b r. let z : _≡_ {A = ℕ} 0 1 = cc in absurd (omega arith))
     (λ a l b r. absurd (of-blank at (getD t 0 0) (layoutAt e next t .tears) (decode e (getD t 2 0) (getD t 0 0) t) (match (slotsAt e next t) t) r))
 
-pub blank-reads : (e : Edition) (next at : ℕ) (t : List ℕ) → Blank t → readFrameIn e next at t ≡ blank
+pub blank-reads : (e : Edition) (next at : ℕ) (t : List ℕ) → Blank t → readFrame e next at t ≡ blank
 blank-reads e next at t b = read-ff e next at t (is-ff t b)
 
-pub wrong-sound : (e : Edition) (next at : ℕ) (t : List ℕ) (x : Fault) → readFrameIn e next at t ≡ wrong x → Wrong e next t
+pub wrong-sound : (e : Edition) (next at : ℕ) (t : List ℕ) (x : Fault) → readFrame e next at t ≡ wrong x → Wrong e next t
 wrong-sound e next at t x q = record {
   not-blank = λ b. let p : blank ≡ wrong x = sym (blank-reads e next at t b) ∙ q in let z : _≡_ {A = ℕ} 0 1 = cc in omega arith;
   not-whole = λ f w. let p : whole f ≡ wrong x = sym (whole-reads e next at t f w) ∙ q in let z : _≡_ {A = ℕ} 0 1 = cc in omega arith;
   not-torn = λ n y. let p : torn n ≡ wrong x = sym (torn-reads e next at t n y) ∙ q in let z : _≡_ {A = ℕ} 0 1 = cc in omega arith;
 }
 
-pub wrong-reads : (e : Edition) (next at : ℕ) (t : List ℕ) → Wrong e next t → (x : Fault) × (readFrameIn e next at t ≡ wrong x)
-wrong-reads e next at t w = go (readFrameIn e next at t) refl
+pub wrong-reads : (e : Edition) (next at : ℕ) (t : List ℕ) → Wrong e next t → (x : Fault) × (readFrame e next at t ≡ wrong x)
+wrong-reads e next at t w = go (readFrame e next at t) refl
   where
-    go : (r : Read) → readFrameIn e next at t ≡ r → (x : Fault) × (readFrameIn e next at t ≡ wrong x)
+    go : (r : Read) → readFrame e next at t ≡ r → (x : Fault) × (readFrame e next at t ≡ wrong x)
     go blank q = absurd (w .not-blank (blank-sound e next at t q))
     go (whole f) q = absurd (w .not-whole f (whole-sound e next at t f q))
     go (torn n) q = absurd (w .not-torn n (torn-sound e next at t n q))

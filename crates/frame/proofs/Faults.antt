@@ -16,10 +16,10 @@ use Rattle.flash.proofs.Blank.{byte-at}
 use Rattle.frame.specs.declared.Edition.{Edition}
 use Rattle.frame.specs.declared.Fault.{Fault}
 use Rattle.frame.specs.declared.Field.the-variants as field
-use Rattle.frame.specs.Frame.{Frame, commit, hostOf, encodeIn, frameLenIn}
-use Rattle.frame.specs.Reader.{wrong, fault, Slot, fits, hasLength, decode, readFrameIn}
+use Rattle.frame.specs.Frame.{Frame, commit, hostOf, encode, frameLen}
+use Rattle.frame.specs.Reader.{wrong, fault, Slot, fits, hasLength, decode, readFrame}
 use Rattle.frame.specs.Reader.{Match, all, part, misfit, match, faultAt, ofMatch}
-use Rattle.frame.specs.Sentences.{Wrong, Span, span, fieldsOf, WrongAtIn}
+use Rattle.frame.specs.Sentences.{Wrong, Span, span, fieldsOf, WrongAt}
 use Rattle.frame.proofs.Fit.{fit-at, Stopped, Stuck, match-stuck}
 use Rattle.frame.proofs.Own.{has-length}
 use Rattle.frame.proofs.Shape.{Covers, Covered}
@@ -72,7 +72,7 @@ stop e next t p q s =
     }
 
 module _ (e : Edition) (next at : ℕ) (t : List ℕ) (by : Bytes t) (w : Wrong e next t) where
-  length-bad : lengthFits e next t ≡ false → WrongAtIn e next at t (fault field.Length (at + 0))
+  length-bad : lengthFits e next t ≡ false → WrongAt e next at t (fault field.Length (at + 0))
   length-bad b = record {
     wrong = w;
     span = span field.Length 0 2;
@@ -81,7 +81,7 @@ module _ (e : Edition) (next at : ℕ) (t : List ℕ) (by : Bytes t) (w : Wrong 
       has = inl refl;
       before = λ h. absurd (omega arith);
       none = λ f y.
-          let n : getD t 0 0 ≡ frameLenIn e f = begins-length e next t 2 f (y .stands) (y .bytes) (omega arith) in
+          let n : getD t 0 0 ≡ frameLen e f = begins-length e next t 2 f (y .stands) (y .bytes) (omega arith) in
           clash (lengthFits e next t)
           (and-both (leb (getD t 0 0) (length t)) (hasLength e next (getD t 0 0)) (le-leb (getD t 0 0) (length t) (omega (arith, y .fits)))
           (ap (hasLength e next) n ∙ has-length e next f (y .stands))) b;
@@ -89,7 +89,7 @@ module _ (e : Edition) (next at : ℕ) (t : List ℕ) (by : Bytes t) (w : Wrong 
     is = refl;
   }
 
-  stuck-bad : (p : Slot) → getD t 0 0 ≤ length t → Stop e next t p → WrongAtIn e next at t (faultAt at p)
+  stuck-bad : (p : Slot) → getD t 0 0 ≤ length t → Stop e next t p → WrongAt e next at t (faultAt at p)
   stuck-bad p room s =
       let y : Stuck (slotsAt e next t) t p = s .stuck in
       let i : ℕ = y .place in
@@ -107,7 +107,7 @@ module _ (e : Edition) (next at : ℕ) (t : List ℕ) (by : Bytes t) (w : Wrong 
           before = λ o. record {
             stands = z .stands;
             fits = omega (arith, z .size);
-            bytes = sym (take-take (p .start) i t lo) ∙ ap (take (p .start)) (sym (z .bytes)) ∙ take-take (p .start) i (encodeIn e (z .frame)) lo;
+            bytes = sym (take-take (p .start) i t lo) ∙ ap (take (p .start)) (sym (z .bytes)) ∙ take-take (p .start) i (encode e (z .frame)) lo;
           };
           none = λ g q. clash (fits p (getD t i 0)) (fit-at i (a .0) (slotsAt e next t) (y .others) p t (y .is-slots) (a .2)
               (begins-fit e next t (a .0) g (q .stands) (q .bytes) (omega (arith, a .2)))) no;
@@ -116,23 +116,23 @@ module _ (e : Edition) (next at : ℕ) (t : List ℕ) (by : Bytes t) (w : Wrong 
       })
       (s .covers .1)
 
-pub wrong-at-sound : (e : Edition) (next at : ℕ) (t : List ℕ) (x : Fault) → Bytes t → readFrameIn e next at t ≡ wrong x → WrongAtIn e next at t x
+pub wrong-at-sound : (e : Edition) (next at : ℕ) (t : List ℕ) (x : Fault) → Bytes t → readFrame e next at t ≡ wrong x → WrongAt e next at t x
 wrong-at-sound e next at t x by q =
     let w : Wrong e next t = wrong-sound e next at t x q in
     on-read e next at t (wrong x) q
     (λ a r. let z : _≡_ {A = ℕ} 0 1 = cc in absurd (omega arith))
     (λ a b r.
     let s : fault field.Length (at + 0) ≡ x = ap (fault field.Length) (add-zero at) ∙ cc in
-    subst (WrongAtIn e next at t) s (length-bad e next at t by w b))
+    subst (WrongAt e next at t) s (length-bad e next at t by w b))
     (λ a l b r.
     let m : Match = match (slotsAt e next t) t in
     let y : Stops at m x = of-wrong at (getD t 0 0) (layoutAt e next t .tears) (decode e (getD t 2 0) (getD t 0 0) t) m x r in
-    subst (WrongAtIn e next at t) (y .is) (stuck-bad e next at t by w (y .slot-at) l (stop e next t (y .slot-at) b (y .stopped))))
+    subst (WrongAt e next at t) (y .is) (stuck-bad e next at t by w (y .slot-at) l (stop e next t (y .slot-at) b (y .stopped))))
 
-pub wrong-at-reads : (e : Edition) (next at : ℕ) (t : List ℕ) (x : Fault) → Bytes t → WrongAtIn e next at t x → readFrameIn e next at t ≡ wrong x
+pub wrong-at-reads : (e : Edition) (next at : ℕ) (t : List ℕ) (x : Fault) → Bytes t → WrongAt e next at t x → readFrame e next at t ≡ wrong x
 wrong-at-reads e next at t x by y =
-    let r : (d : Fault) × (readFrameIn e next at t ≡ wrong d) = wrong-reads e next at t (y .wrong) in
-    let z : WrongAtIn e next at t (r .0) = wrong-at-sound e next at t (r .0) by (r .1) in
+    let r : (d : Fault) × (readFrame e next at t ≡ wrong d) = wrong-reads e next at t (y .wrong) in
+    let z : WrongAt e next at t (r .0) = wrong-at-sound e next at t (r .0) by (r .1) in
     let same : z .span ≡ y .span = first-one e next t (z .span) (y .span) (z .bad) (y .bad) in
     r .1 ∙ ap wrong (z .is ∙ ap (λ (s : Span). fault (s .field) (at + s .start)) same ∙ sym (y .is))
 
@@ -147,7 +147,7 @@ unfolding allFF
 some [] a = let z : _≡_ {A = ℕ} 0 1 = cc in absurd (omega arith)
 some (b ∷ t) a = omega arith
 
-pub fault-placed : (e : Edition) (next at : ℕ) (t : List ℕ) (x : Fault) → readFrameIn e next at t ≡ wrong x → PlacedIn at (length t) x
+pub fault-placed : (e : Edition) (next at : ℕ) (t : List ℕ) (x : Fault) → readFrame e next at t ≡ wrong x → PlacedIn at (length t) x
 fault-placed e next at t x q =
     on-read e next at t (wrong x) q
     (λ a r. let z : _≡_ {A = ℕ} 0 1 = cc in absurd (omega arith))

@@ -13,7 +13,7 @@ use Rattle.flash.proofs.Cases.{on-test}
 use Rattle.frame.specs.declared.Edition.{Edition}
 use Rattle.frame.specs.declared.Edition.the-variants as edition
 use Rattle.frame.specs.declared.Field.the-variants as field
-use Rattle.frame.specs.Frame.{Frame, change, commit, abort, settled, put, delete, kindOf, body, checkLen, sealOf, bodyAt, encodeIn, frameLenIn}
+use Rattle.frame.specs.Frame.{Frame, change, commit, abort, settled, put, delete, kindOf, body, checkLen, sealOf, bodyAt, encode, frameLen}
 use Rattle.frame.specs.Sentences.{Span, span, Among, bodyFields, sealFields, fieldsOf, Begins, FirstBad}
 use Rattle.frame.proofs.Layouts.{begins-length, begins-kind}
 
@@ -92,11 +92,11 @@ ordered-fields e f = (omega arith, omega arith, (omega arith, omega arith, order
 abbrev fieldsBy : Edition → ℕ → ℕ → List Span
 fieldsBy e k n = span field.Length 0 2 ∷ span field.Kind 2 4 ∷ (bodyBy k ++ sealFields (sealBy e k) (n - 1 - checkLen (sealBy e k)))
 
-fields-by : (e : Edition) (f : Frame) → fieldsOf e f ≡ fieldsBy e (kindOf f) (frameLenIn e f)
+fields-by : (e : Edition) (f : Frame) → fieldsOf e f ≡ fieldsBy e (kindOf f) (frameLen e f)
 fields-by e f =
-    let o : bodyAt + length (body f) ≡ frameLenIn e f - 1 - checkLen (sealOf e f) = omega arith in
+    let o : bodyAt + length (body f) ≡ frameLen e f - 1 - checkLen (sealOf e f) = omega arith in
     ap₂ (λ (b s : List Span). span field.Length 0 2 ∷ span field.Kind 2 4 ∷ (b ++ s)) (body-by f)
-    (ap (sealFields (sealOf e f)) o ∙ ap (λ (s : Edition). sealFields s (frameLenIn e f - 1 - checkLen s)) (seal-by e f))
+    (ap (sealFields (sealOf e f)) o ∙ ap (λ (s : Edition). sealFields s (frameLen e f - 1 - checkLen s)) (seal-by e f))
 
 -- ---- frames that bytes begin
 
@@ -104,7 +104,7 @@ begins-less : (e : Edition) (next : ℕ) (t : List ℕ) (i j : ℕ) (f : Frame) 
 begins-less e next t i j f h y = record {
   stands = y .stands;
   fits = y .fits;
-  bytes = sym (take-take i j t h) ∙ ap (take i) (y .bytes) ∙ take-take i j (encodeIn e f) h;
+  bytes = sym (take-take i j t h) ∙ ap (take i) (y .bytes) ∙ take-take i j (encode e f) h;
 }
 
 -- ---- one first bad field
@@ -113,7 +113,7 @@ begins-fields : (e : Edition) (next : ℕ) (t : List ℕ) (f g : Frame) → Begi
 begins-fields e next t f g y z =
     let k : kindOf f ≡ kindOf g =
     sym (begins-kind e next t 4 f (y .stands) (y .bytes) (omega arith)) ∙ begins-kind e next t 4 g (z .stands) (z .bytes) (omega arith) in
-    let n : frameLenIn e f ≡ frameLenIn e g =
+    let n : frameLen e f ≡ frameLen e g =
     sym (begins-length e next t 4 f (y .stands) (y .bytes) (omega arith)) ∙ begins-length e next t 4 g (z .stands) (z .bytes) (omega arith) in
     fields-by e f ∙ ap₂ (fieldsBy e) k n ∙ sym (fields-by e g)
 

@@ -1,5 +1,5 @@
 -- Heads and values: a frame is its head and its value, where in its bytes the value stands, and another value in its place.
-use mathlib.Core.Path.{_≡_, refl}
+use mathlib.Core.Path.{_≡_, refl, ap}
 use mathlib.Core.List.{List, [], _∷_, _++_}
 use Prim.Native.Nat.{ℕ, _+_, _≤_}
 use native.Mathlib.Omega.{arith}
@@ -7,13 +7,13 @@ use lib.ListN.{length, take, drop}
 use Rattle.frame.specs.declared.Edition.{Edition}
 use Rattle.frame.specs.declared.Head.{Head}
 use Rattle.frame.specs.declared.Head.the-variants as head
-use Rattle.frame.specs.Frame.{Frame, change, commit, abort, settled, put, delete, check, finish, front, encodeIn, frameLenIn}
-use Rattle.frame.specs.Frame.{FrameOf, mapFrame, valueMax, maxFrameIn, MayStandIn}
-use Rattle.frame.specs.Reader.{whole, readFrameIn}
-use Rattle.frame.specs.Sentences.{WholeIn}
-use Rattle.frame.specs.Code.{headOf, valueOf, frameOf, headLenIn, valueLen, valueStart}
+use Rattle.frame.specs.Frame.{Frame, change, commit, abort, settled, put, delete, check, finish, front, encode, frameLen}
+use Rattle.frame.specs.Frame.{FrameOf, mapFrame, valueMax, maxFrame, MayStand}
+use Rattle.frame.specs.Reader.{whole, readFrame}
+use Rattle.frame.specs.Sentences.{Whole}
+use Rattle.frame.specs.Code.{headOf, peekAt, valueOf, frameOf, headLen, valueLen, valueStart}
 use Rattle.frame.proofs.Own.{value-back}
-use Rattle.frame.proofs.Exact.{whole-sound}
+use Rattle.frame.proofs.Exact.{whole-decoded, whole-sound}
 
 pub frame-of-head : (f : Frame) → frameOf (headOf f) (valueOf f) ≡ f
 frame-of-head (change h (put i v)) = refl
@@ -22,7 +22,7 @@ frame-of-head (commit h) = refl
 frame-of-head (abort h) = refl
 frame-of-head (settled i v) = refl
 
-pub head-len : (e : Edition) (f : Frame) → headLenIn e (headOf f) ≡ frameLenIn e f
+pub head-len : (e : Edition) (f : Frame) → headLen e (headOf f) ≡ frameLen e f
 head-len e (change h (put i v)) = omega arith
 head-len e (change h (delete i)) = omega arith
 head-len e (commit h) = omega arith
@@ -37,21 +37,21 @@ value-len (abort h) = refl
 value-len (settled i v) = refl
 
 -- a head by itself
-pub len-of : (e : Edition) (h : Head) (v : List ℕ) → length v ≡ valueLen h → headLenIn e h ≡ frameLenIn e (frameOf h v)
+pub len-of : (e : Edition) (h : Head) (v : List ℕ) → length v ≡ valueLen h → headLen e h ≡ frameLen e (frameOf h v)
 len-of e (head.Put g i n) v q = omega arith
 len-of e (head.Delete g i) v q = omega arith
 len-of e (head.Commit g) v q = omega arith
 len-of e (head.Abort g) v q = omega arith
 len-of e (head.Settled i n) v q = omega arith
 
-pub head-short : (e : Edition) (h : Head) → valueLen h ≤ valueMax → headLenIn e h ≤ maxFrameIn e
+pub head-short : (e : Edition) (h : Head) → valueLen h ≤ valueMax → headLen e h ≤ maxFrame e
 head-short e (head.Put g i n) l = omega arith
 head-short e (head.Delete g i) l = omega arith
 head-short e (head.Commit g) l = omega arith
 head-short e (head.Abort g) l = omega arith
 head-short e (head.Settled i n) l = omega arith
 
-pub value-end : (e : Edition) (h : Head) → valueStart h + valueLen h ≤ headLenIn e h
+pub value-end : (e : Edition) (h : Head) → valueStart h + valueLen h ≤ headLen e h
 value-end e (head.Put g i n) = omega arith
 value-end e (head.Delete g i) = omega arith
 value-end e (head.Commit g) = omega arith
@@ -59,14 +59,14 @@ value-end e (head.Abort g) = omega arith
 value-end e (head.Settled i n) = omega arith
 
 -- the value of a frame that may stand
-pub value-small : (e : Edition) (next : ℕ) (f : Frame) → MayStandIn e next f → valueLen (headOf f) ≤ valueMax
+pub value-small : (e : Edition) (next : ℕ) (f : Frame) → MayStand e next f → valueLen (headOf f) ≤ valueMax
 value-small e next (change h (put i v)) (a, b, (c, d)) = c
 value-small e next (change h (delete i)) g = omega arith
 value-small e next (commit h) g = omega arith
 value-small e next (abort h) g = omega arith
 value-small e next (settled i v) (a, b, (c, d)) = c
 
-value-in : (e : Edition) (f : Frame) (rest : List ℕ) → take (length (valueOf f)) (drop (valueStart (headOf f)) (encodeIn e f ++ rest)) ≡ valueOf f
+value-in : (e : Edition) (f : Frame) (rest : List ℕ) → take (length (valueOf f)) (drop (valueStart (headOf f)) (encode e f ++ rest)) ≡ valueOf f
 value-in e (change h (put i v)) rest = value-back v (check e (front e (change h (put i v))) ++ (finish ∷ [])) rest (length v) refl
 value-in e (change h (delete i)) rest = refl
 value-in e (commit h) rest = refl
@@ -74,11 +74,16 @@ value-in e (abort h) rest = refl
 value-in e (settled i v) rest = value-back v (check e (front e (settled i v)) ++ (finish ∷ [])) rest (length v) refl
 
 -- the value of a whole frame, by its head
-pub value-stands : (e : Edition) (next at : ℕ) (t : List ℕ) (f : Frame) → readFrameIn e next at t ≡ whole f
+pub value-stands : (e : Edition) (next at : ℕ) (t : List ℕ) (f : Frame) → readFrame e next at t ≡ whole f
     → take (valueLen (headOf f)) (drop (valueStart (headOf f)) t) ≡ valueOf f
 value-stands e next at t f q =
-    let w : WholeIn e next t f = whole-sound e next at t f q in
+    let w : Whole e next t f = whole-sound e next at t f q in
     rw (value-len f, w .bytes) (value-in e f (w .rest))
+
+-- and its head, with no test
+pub peek-whole : (e : Edition) (next at : ℕ) (b : List ℕ) (f : Frame) → readFrame e next at (drop at b) ≡ whole f → peekAt e b at ≡ headOf f
+unfolding peekAt
+peek-whole e next at b f q = ap headOf (whole-decoded e next at (drop at b) f q)
 
 -- ---- another value
 

@@ -14,7 +14,7 @@ use Rattle.flash.proofs.Cases.{on-test}
 use Rattle.frame.specs.declared.Edition.{Edition}
 use Rattle.frame.specs.declared.Edition.the-variants as edition
 use Rattle.frame.specs.declared.Field.the-variants as field
-use Rattle.frame.specs.Frame.{Frame, kindOf, body, check, checkLen, finish, sealOf, overhead, frameLenIn, front, encodeIn, bodyAt, MayStandIn, OfHost}
+use Rattle.frame.specs.Frame.{Frame, kindOf, body, check, checkLen, finish, sealOf, overhead, frameLen, front, encode, bodyAt, MayStand, OfHost}
 use Rattle.frame.specs.Reader.{Slot, slot, Layout, hasLength, layoutOf, frontSlots, checkSlots, finishSlot, sealSlots, laid}
 use Rattle.frame.specs.Sentences.{Span, span, Among, bodyFields, sealFields, fieldsOf}
 use Rattle.frame.proofs.Encode.{check-length, frame-small, kind-small}
@@ -86,10 +86,10 @@ fit-two (suc zero) m n ps xs q h l = (omega arith, omega arith, tt)
 fit-two (suc (suc zero)) m n ps xs q h l = (omega arith, omega arith, (omega arith, omega arith, tt))
 fit-two (suc (suc (suc j))) m n ps xs q h l = absurd (omega arith)
 
-module _ (e : Edition) (next : ℕ) (t : List ℕ) (j : ℕ) (f : Frame) (g : MayStandIn e next f) (q : take j t ≡ take j (encodeIn e f)) where
-  fit-own : Fit (take j (laid (frameLenIn e f) (layoutOf e next (frameLenIn e f) (kindOf f)) t)) (take j (encodeIn e f))
+module _ (e : Edition) (next : ℕ) (t : List ℕ) (j : ℕ) (f : Frame) (g : MayStand e next f) (q : take j t ≡ take j (encode e f)) where
+  fit-own : Fit (take j (laid (frameLen e f) (layoutOf e next (frameLen e f) (kindOf f)) t)) (take j (encode e f))
   fit-own =
-      let n : ℕ = frameLenIn e f in
+      let n : ℕ = frameLen e f in
       let l : Layout = layoutOf e next n (kindOf f) in
       let y : Own e f l = own e next f g in
       let m : ℕ = bodyAt + length (l .body) in
@@ -111,39 +111,39 @@ module _ (e : Edition) (next : ℕ) (t : List ℕ) (j : ℕ) (f : Frame) (g : Ma
       rw (r1, r2) (fit-take j a x fx))
       (λ h.
       let h1 : m < j = leb-false j m h in
-      let r : take m t ≡ x = sym (take-take m j t (omega arith)) ∙ ap (take m) q ∙ take-take m j (encodeIn e f) (omega arith) ∙ take-at x c m (omega arith) in
+      let r : take m t ≡ x = sym (take-take m j t (omega arith)) ∙ ap (take m) q ∙ take-take m j (encode e f) (omega arith) ∙ take-at x c m (omega arith) in
       let w : Fit (a ++ sealSlots s m x) (x ++ c) = fit-append a (sealSlots s m x) x c fx (fit-seal s m x) in
       let v : Fit (a ++ sealSlots (l .seal) m (take m t)) (x ++ c) =
       subst (λ (z : List ℕ). Fit (a ++ sealSlots (l .seal) m z) (x ++ c)) (sym r)
       (subst (λ (z : Edition). Fit (a ++ sealSlots z m x) (x ++ c)) (sym (y .seal)) w) in
       fit-take j (a ++ sealSlots (l .seal) m (take m t)) (x ++ c) v)
 
-  pub begins-length : 1 ≤ j → getD t 0 0 ≡ frameLenIn e f
+  pub begins-length : 1 ≤ j → getD t 0 0 ≡ frameLen e f
   begins-length h =
-      sym (getD-take j t 0 0 h) ∙ ap (λ (l : List ℕ). getD l 0 0) q ∙ getD-take j (encodeIn e f) 0 0 h ∙ omega (arith, frame-small e next f g)
+      sym (getD-take j t 0 0 h) ∙ ap (λ (l : List ℕ). getD l 0 0) q ∙ getD-take j (encode e f) 0 0 h ∙ omega (arith, frame-small e next f g)
 
   pub begins-kind : 3 ≤ j → getD t 2 0 ≡ kindOf f
   begins-kind h =
-      sym (getD-take j t 2 0 h) ∙ ap (λ (l : List ℕ). getD l 2 0) q ∙ getD-take j (encodeIn e f) 2 0 h ∙ omega (arith, kind-small f)
+      sym (getD-take j t 2 0 h) ∙ ap (λ (l : List ℕ). getD l 2 0) q ∙ getD-take j (encode e f) 2 0 h ∙ omega (arith, kind-small f)
 
   pub begins-fit : 1 ≤ j → Fit (take j (slotsAt e next t)) (take j t)
   begins-fit h =
-      let n : getD t 0 0 ≡ frameLenIn e f = begins-length h in
+      let n : getD t 0 0 ≡ frameLen e f = begins-length h in
       let l : Layout = layoutAt e next t in
       subst (λ (z : List ℕ). Fit (take j (slotsAt e next t)) z) (sym q)
       (on-test (leb j 2)
-      (λ r. fit-two j (getD t 0 0) (frameLenIn e f) (drop 2 (slotsAt e next t)) (drop 2 (encodeIn e f)) n (frame-small e next f g) (leb-true j 2 r))
+      (λ r. fit-two j (getD t 0 0) (frameLen e f) (drop 2 (slotsAt e next t)) (drop 2 (encode e f)) n (frame-small e next f g) (leb-true j 2 r))
       (λ r.
       let k : getD t 2 0 ≡ kindOf f = begins-kind (leb-false j 2 r) in
-      subst (λ (z : ℕ). Fit (take j (laid z (layoutOf e next z (getD t 2 0)) t)) (take j (encodeIn e f))) (sym n)
-      (subst (λ (z : ℕ). Fit (take j (laid (frameLenIn e f) (layoutOf e next (frameLenIn e f) z) t)) (take j (encodeIn e f))) (sym k) fit-own)))
+      subst (λ (z : ℕ). Fit (take j (laid z (layoutOf e next z (getD t 2 0)) t)) (take j (encode e f))) (sym n)
+      (subst (λ (z : ℕ). Fit (take j (laid (frameLen e f) (layoutOf e next (frameLen e f) z) t)) (take j (encode e f))) (sym k) fit-own)))
 
 -- ---- bytes that fit begin a frame
 
 record Fronted (e : Edition) (next n : ℕ) (l : Layout) (xs : List ℕ) : Type 0 where
   frame : Frame
-  stands : MayStandIn e next frame
-  size : frameLenIn e frame ≡ n
+  stands : MayStand e next frame
+  size : frameLen e frame ≡ n
   is-front : front e frame ≡ xs
   seal : sealOf e frame ≡ l .seal
   tears : l .tears ≡ true → OfHost frame
@@ -157,9 +157,9 @@ make-front : (e : Edition) (next n : ℕ) (l : Layout) (xs : List ℕ) → Shape
 make-front e next n l (a ∷ b ∷ k ∷ c ∷ xs) y (a1, a2, (b1, b2, (k1, k2, (c1, c2, r)))) =
     let z : Made e next l k xs = y .make k xs k1 k2 r in
     let f : Frame = z .frame in
-    let size : frameLenIn e f ≡ n =
+    let size : frameLen e f ≡ n =
     ap₂ (λ (s : Edition) (w : List ℕ). overhead s + length w) (z .seal) (z .is-body) ∙ omega (arith, y .size, fit-length (l .body) xs r) in
-    let small : frameLenIn e f < 255 = frame-small e next f (z .stands) in
+    let small : frameLen e f < 255 = frame-small e next f (z .stands) in
     let kind : kindOf f ≡ k = z .kind in
     let most : l .to < 255 = y .small in
     record {
@@ -236,9 +236,9 @@ cover-frame e next n l xs y x len =
 -- a frame of the bytes' own length that they begin, i bytes of it at least
 pub record Begun (e : Edition) (next : ℕ) (t : List ℕ) (i : ℕ) : Type 0 where
   pub frame : Frame
-  pub stands : MayStandIn e next frame
-  pub size : frameLenIn e frame ≡ getD t 0 0
-  pub bytes : take i (encodeIn e frame) ≡ take i t
+  pub stands : MayStand e next frame
+  pub size : frameLen e frame ≡ getD t 0 0
+  pub bytes : take i (encode e frame) ≡ take i t
   pub tears : layoutAt e next t .tears ≡ true → OfHost frame
   pub covered : Covered (fieldsOf e frame) 0 (slotsAt e next t)
 

@@ -16,7 +16,7 @@ use Rattle.flash.proofs.Blank.{le16-u16}
 use Rattle.frame.specs.declared.Edition.{Edition}
 use Rattle.frame.specs.declared.ObjectId.{ObjectId}
 use Rattle.frame.specs.Frame.{Frame, change, commit, abort, settled, put, delete, idOf, idMax, valueMax, kindOf, body, check, finish, sealOf}
-use Rattle.frame.specs.Frame.{frameLenIn, front, encodeIn, putLenIn, deleteLenIn, endLenIn, settledLenIn, MayStandIn, OfHost}
+use Rattle.frame.specs.Frame.{frameLen, front, encode, putLen, deleteLen, endLen, settledLen, MayStand, OfHost}
 use Rattle.frame.specs.Reader.{valueSlots, Layout, lastKind, changeLayout, endLayout, settledLayout, hostLayout, idLeft, hasLength, onlySettled}
 use Rattle.frame.specs.Reader.{layoutOf, decode}
 use Rattle.frame.proofs.Fit.{Fit}
@@ -38,23 +38,23 @@ fit-value o (suc n) (b ∷ v) q (h, r) = (omega arith, omega arith, fit-value (s
 
 -- ---- which layout
 
-only-no : (e : Edition) (next n k : ℕ) → (k ≡ 5 → ⊥) → (n ≡ settledLenIn e 0 → ⊥) → onlySettled e next n k ≡ false
+only-no : (e : Edition) (next n k : ℕ) → (k ≡ 5 → ⊥) → (n ≡ settledLen e 0 → ⊥) → onlySettled e next n k ≡ false
 only-no e next n k h l =
-    and-no-right (idLeft next && (leb (settledLenIn e 0) n && leb n (settledLenIn e valueMax))) (eqb k 5 || eqb n (settledLenIn e 0))
-    (or-neither (eqb k 5) (eqb n (settledLenIn e 0)) (ne-eqb k 5 h) (ne-eqb n (settledLenIn e 0) l))
+    and-no-right (idLeft next && (leb (settledLen e 0) n && leb n (settledLen e valueMax))) (eqb k 5 || eqb n (settledLen e 0))
+    (or-neither (eqb k 5) (eqb n (settledLen e 0)) (ne-eqb k 5 h) (ne-eqb n (settledLen e 0) l))
 
-pub only-yes : (e : Edition) (next n k : ℕ) → next ≤ idMax → settledLenIn e 0 ≤ n → n ≤ settledLenIn e valueMax
-    → (eqb k 5 || eqb n (settledLenIn e 0)) ≡ true → onlySettled e next n k ≡ true
+pub only-yes : (e : Edition) (next n k : ℕ) → next ≤ idMax → settledLen e 0 ≤ n → n ≤ settledLen e valueMax
+    → (eqb k 5 || eqb n (settledLen e 0)) ≡ true → onlySettled e next n k ≡ true
 only-yes e next n k h lo hi q =
-    let size : Bool = leb (settledLenIn e 0) n && leb n (settledLenIn e valueMax) in
-    and-both (idLeft next && size) (eqb k 5 || eqb n (settledLenIn e 0))
-    (and-both (idLeft next) size (le-leb next _ (omega arith)) (between-yes (settledLenIn e 0) n (settledLenIn e valueMax) lo hi)) q
+    let size : Bool = leb (settledLen e 0) n && leb n (settledLen e valueMax) in
+    and-both (idLeft next && size) (eqb k 5 || eqb n (settledLen e 0))
+    (and-both (idLeft next) size (le-leb next _ (omega arith)) (between-yes (settledLen e 0) n (settledLen e valueMax) lo hi)) q
 
-pub only-size : (e : Edition) (next n k : ℕ) → onlySettled e next n k ≡ true → (settledLenIn e 0 ≤ n) × (n ≤ settledLenIn e valueMax) × (next ≤ idMax)
+pub only-size : (e : Edition) (next n k : ℕ) → onlySettled e next n k ≡ true → (settledLen e 0 ≤ n) × (n ≤ settledLen e valueMax) × (next ≤ idMax)
 only-size e next n k q =
-    let size : Bool = leb (settledLenIn e 0) n && leb n (settledLenIn e valueMax) in
-    let r : (idLeft next && size) ≡ true = and-left (idLeft next && size) (eqb k 5 || eqb n (settledLenIn e 0)) q in
-    let w : (settledLenIn e 0 ≤ n) × (n ≤ settledLenIn e valueMax) = between (settledLenIn e 0) n (settledLenIn e valueMax) (and-right (idLeft next) size r) in
+    let size : Bool = leb (settledLen e 0) n && leb n (settledLen e valueMax) in
+    let r : (idLeft next && size) ≡ true = and-left (idLeft next && size) (eqb k 5 || eqb n (settledLen e 0)) q in
+    let w : (settledLen e 0 ≤ n) × (n ≤ settledLen e valueMax) = between (settledLen e 0) n (settledLen e valueMax) (and-right (idLeft next) size r) in
     (w .0, w .1, omega (arith, leb-true next _ (and-left (idLeft next) size r)))
 
 pub layout-settled : (e : Edition) (next n k : ℕ) → onlySettled e next n k ≡ true → layoutOf e next n k ≡ settledLayout e next n
@@ -65,23 +65,23 @@ layout-host : (e : Edition) (next n k : ℕ) → onlySettled e next n k ≡ fals
 unfolding layoutOf
 layout-host e next n k q = rw (q, layoutOf)
 
-host-end : (e : Edition) (n : ℕ) → n ≡ endLenIn e → hostLayout e n ≡ endLayout e
+host-end : (e : Edition) (n : ℕ) → n ≡ endLen e → hostLayout e n ≡ endLayout e
 unfolding hostLayout
-host-end e n h = rw (eq-eqb n (endLenIn e) h, hostLayout)
+host-end e n h = rw (eq-eqb n (endLen e) h, hostLayout)
 
-host-change : (e : Edition) (n : ℕ) → putLenIn e 0 ≤ n → hostLayout e n ≡ changeLayout e n
+host-change : (e : Edition) (n : ℕ) → putLen e 0 ≤ n → hostLayout e n ≡ changeLayout e n
 unfolding hostLayout
-host-change e n h = rw (ne-eqb n (endLenIn e) (omega arith), hostLayout)
+host-change e n h = rw (ne-eqb n (endLen e) (omega arith), hostLayout)
 
-pub layout-end : (e : Edition) (next n k : ℕ) → onlySettled e next n k ≡ false → n ≡ endLenIn e → layoutOf e next n k ≡ endLayout e
+pub layout-end : (e : Edition) (next n k : ℕ) → onlySettled e next n k ≡ false → n ≡ endLen e → layoutOf e next n k ≡ endLayout e
 layout-end e next n k q h = layout-host e next n k q ∙ host-end e n h
 
-pub layout-change : (e : Edition) (next n k : ℕ) → onlySettled e next n k ≡ false → putLenIn e 0 ≤ n → layoutOf e next n k ≡ changeLayout e n
+pub layout-change : (e : Edition) (next n k : ℕ) → onlySettled e next n k ≡ false → putLen e 0 ≤ n → layoutOf e next n k ≡ changeLayout e n
 layout-change e next n k q h = layout-host e next n k q ∙ host-change e n h
 
 host-may-tear : (e : Edition) (n : ℕ) → hostLayout e n .tears ≡ true
 unfolding hostLayout
-host-may-tear e n = on-test (eqb n (endLenIn e)) (λ q. rw (q, hostLayout)) (λ q. rw (q, hostLayout))
+host-may-tear e n = on-test (eqb n (endLen e)) (λ q. rw (q, hostLayout)) (λ q. rw (q, hostLayout))
 
 -- only settled frames are never torn
 pub tears-not : (e : Edition) (next n k : ℕ) → layoutOf e next n k .tears ≡ not (onlySettled e next n k)
@@ -99,48 +99,48 @@ last-kind false = omega arith
 
 -- a length of kinds 1 to 4, and none of settled frames alone
 abbrev pub HostLength : Edition → ℕ → Type 0
-HostLength e n = (n ≡ endLenIn e) ⊎ ((putLenIn e 0 ≤ n) × (n ≤ putLenIn e valueMax))
+HostLength e n = (n ≡ endLen e) ⊎ ((putLen e 0 ≤ n) × (n ≤ putLen e valueMax))
 
-pub host-other : (e : Edition) (n : ℕ) → HostLength e n → n ≡ settledLenIn e 0 → ⊥
+pub host-other : (e : Edition) (n : ℕ) → HostLength e n → n ≡ settledLen e 0 → ⊥
 host-other e n (inl h) q = omega arith
 host-other e n (inr h) q = omega arith
 
-pub own : (e : Edition) (next : ℕ) (f : Frame) → MayStandIn e next f → Own e f (layoutOf e next (frameLenIn e f) (kindOf f))
+pub own : (e : Edition) (next : ℕ) (f : Frame) → MayStand e next f → Own e f (layoutOf e next (frameLen e f) (kindOf f))
 own e next (change h (put i v)) (hh, hi, (hv, hb)) =
     let f : Frame = change h (put i v) in
-    let n : ℕ = frameLenIn e f in
+    let n : ℕ = frameLen e f in
     subst (Own e f) (sym (layout-change e next n 1 (only-no e next n 1 (omega arith) (omega arith)) (omega arith))) (record {
       from = omega arith;
-      to = last-kind (eqb n (deleteLenIn e));
-      fit = (omega arith, omega arith, (omega arith, omega arith, (omega arith, omega arith, fit-value 7 (n - putLenIn e 0) v (omega arith) hb)));
+      to = last-kind (eqb n (deleteLen e));
+      fit = (omega arith, omega arith, (omega arith, omega arith, (omega arith, omega arith, fit-value 7 (n - putLen e 0) v (omega arith) hb)));
       seal = refl;
       tears = λ u. refl;
     })
 own e next (change h (delete i)) (hh, hi) =
     let f : Frame = change h (delete i) in
-    let n : ℕ = frameLenIn e f in
+    let n : ℕ = frameLen e f in
     subst (Own e f) (sym (layout-change e next n 2 (only-no e next n 2 (omega arith) (omega arith)) (omega arith))) (record {
       from = omega arith;
-      to = rw (eq-eqb n (deleteLenIn e) (omega arith)) (omega arith);
-      fit = (omega arith, omega arith, (omega arith, omega arith, (omega arith, omega arith, fit-value 7 (n - putLenIn e 0) [] (omega arith) tt)));
+      to = rw (eq-eqb n (deleteLen e) (omega arith)) (omega arith);
+      fit = (omega arith, omega arith, (omega arith, omega arith, (omega arith, omega arith, fit-value 7 (n - putLen e 0) [] (omega arith) tt)));
       seal = refl;
       tears = λ u. refl;
     })
 own e next (commit h) hh =
-    let n : ℕ = frameLenIn e (commit h) in
+    let n : ℕ = frameLen e (commit h) in
     subst (Own e (commit h)) (sym (layout-end e next n 3 (only-no e next n 3 (omega arith) (omega arith)) (omega arith)))
     (record { from = omega arith; to = omega arith; fit = (omega arith, omega arith, tt); seal = refl; tears = λ u. refl })
 own e next (abort h) hh =
-    let n : ℕ = frameLenIn e (abort h) in
+    let n : ℕ = frameLen e (abort h) in
     subst (Own e (abort h)) (sym (layout-end e next n 4 (only-no e next n 4 (omega arith) (omega arith)) (omega arith)))
     (record { from = omega arith; to = omega arith; fit = (omega arith, omega arith, tt); seal = refl; tears = λ u. refl })
 own e next (settled i v) (hn, hi, (hv, hb)) =
     let f : Frame = settled i v in
-    let n : ℕ = frameLenIn e f in
+    let n : ℕ = frameLen e f in
     subst (Own e f) (sym (layout-settled e next n 5 (only-yes e next n 5 (omega arith) (omega arith) (omega arith) refl))) (record {
       from = omega arith;
       to = omega arith;
-      fit = (omega arith, omega arith, (omega arith, omega arith, fit-value 6 (n - settledLenIn e 0) v (omega arith) hb));
+      fit = (omega arith, omega arith, (omega arith, omega arith, fit-value 6 (n - settledLen e 0) v (omega arith) hb));
       seal = refl;
       tears = λ u. absurd u;
     })
@@ -150,30 +150,30 @@ host-tears : (e : Edition) (next n k : ℕ) → (k ≡ 5 → ⊥) → HostLength
 host-tears e next n k a (inl h) = ap (λ (l : Layout). l .tears) (layout-end e next n k (only-no e next n k a (omega arith)) h)
 host-tears e next n k a (inr (lo, hi)) = ap (λ (l : Layout). l .tears) (layout-change e next n k (only-no e next n k a (omega arith)) lo)
 
-pub unseen : (e : Edition) (next : ℕ) (f : Frame) → OfHost f → MayStandIn e next f → layoutOf e next (frameLenIn e f) 255 .tears ≡ true
+pub unseen : (e : Edition) (next : ℕ) (f : Frame) → OfHost f → MayStand e next f → layoutOf e next (frameLen e f) 255 .tears ≡ true
 unseen e next (change h (put i v)) u (hh, hi, (hv, hb)) =
-    host-tears e next (frameLenIn e (change h (put i v))) 255 (omega arith) (inr (omega arith, omega arith))
-unseen e next (change h (delete i)) u g = host-tears e next (frameLenIn e (change h (delete i))) 255 (omega arith) (inr (omega arith, omega arith))
-unseen e next (commit h) u g = host-tears e next (endLenIn e) 255 (omega arith) (inl refl)
-unseen e next (abort h) u g = host-tears e next (endLenIn e) 255 (omega arith) (inl refl)
+    host-tears e next (frameLen e (change h (put i v))) 255 (omega arith) (inr (omega arith, omega arith))
+unseen e next (change h (delete i)) u g = host-tears e next (frameLen e (change h (delete i))) 255 (omega arith) (inr (omega arith, omega arith))
+unseen e next (commit h) u g = host-tears e next (endLen e) 255 (omega arith) (inl refl)
+unseen e next (abort h) u g = host-tears e next (endLen e) 255 (omega arith) (inl refl)
 unseen e next (settled i v) u g = absurd u
 
 -- a settled frame that may stand is known by its kind, or by its length if it has no value
-pub settled-tears : (e : Edition) (next : ℕ) (i : ObjectId) (v : List ℕ) (k : ℕ) → MayStandIn e next (settled i v) → (k ≡ 5) ⊎ (v ≡ [])
-    → layoutOf e next (frameLenIn e (settled i v)) k .tears ≡ false
+pub settled-tears : (e : Edition) (next : ℕ) (i : ObjectId) (v : List ℕ) (k : ℕ) → MayStand e next (settled i v) → (k ≡ 5) ⊎ (v ≡ [])
+    → layoutOf e next (frameLen e (settled i v)) k .tears ≡ false
 settled-tears e next i v k (hn, hi, (hv, hb)) h =
-    let n : ℕ = frameLenIn e (settled i v) in
+    let n : ℕ = frameLen e (settled i v) in
     ap (λ (l : Layout). l .tears) (layout-settled e next n k (only-yes e next n k (omega arith) (omega arith) (omega arith) (⊎-elim
-    (λ q. or-left (eqb k 5) (eqb n (settledLenIn e 0)) (eq-eqb k 5 q))
-    (λ q. or-right (eqb k 5) (eqb n (settledLenIn e 0)) (eq-eqb n (settledLenIn e 0) (ap (λ (x : List ℕ). frameLenIn e (settled i x)) q ∙ omega arith)))
+    (λ q. or-left (eqb k 5) (eqb n (settledLen e 0)) (eq-eqb k 5 q))
+    (λ q. or-right (eqb k 5) (eqb n (settledLen e 0)) (eq-eqb n (settledLen e 0) (ap (λ (x : List ℕ). frameLen e (settled i x)) q ∙ omega arith)))
     h)))
 
-pub last-layout : (e : Edition) (next n : ℕ) → idMax < next → putLenIn e 0 ≤ n → layoutOf e next n 5 .to < 5
+pub last-layout : (e : Edition) (next n : ℕ) → idMax < next → putLen e 0 ≤ n → layoutOf e next n 5 .to < 5
 last-layout e next n h lo =
     let none : onlySettled e next n 5 ≡ false =
-    and-no-left (idLeft next && (leb (settledLenIn e 0) n && leb n (settledLenIn e valueMax))) (eqb 5 5 || eqb n (settledLenIn e 0))
-    (and-no-left (idLeft next) (leb (settledLenIn e 0) n && leb n (settledLenIn e valueMax)) (lt-leb next _ (omega arith))) in
-    subst (λ (l : Layout). l .to < 5) (sym (layout-change e next n 5 none (omega arith))) (last-below (eqb n (deleteLenIn e)))
+    and-no-left (idLeft next && (leb (settledLen e 0) n && leb n (settledLen e valueMax))) (eqb 5 5 || eqb n (settledLen e 0))
+    (and-no-left (idLeft next) (leb (settledLen e 0) n && leb n (settledLen e valueMax)) (lt-leb next _ (omega arith))) in
+    subst (λ (l : Layout). l .to < 5) (sym (layout-change e next n 5 none (omega arith))) (last-below (eqb n (deleteLen e)))
   where
     last-below : (b : Bool) → lastKind b < 5
     last-below true = omega arith
@@ -181,55 +181,43 @@ last-layout e next n h lo =
 
 -- ---- its length
 
-or-cases : (a b : Bool) → (a || b) ≡ true → (a ≡ true) ⊎ (b ≡ true)
-or-cases true b q = inl refl
-or-cases false b q = inr q
+on-or : {P : Type 0} (a b : Bool) → (a || b) ≡ true → (a ≡ true → P) → (b ≡ true → P) → P
+on-or true b q f g = f refl
+on-or false b q f g = g q
 
 -- or the shortest settled frame's
 abbrev pub SomeLength : Edition → ℕ → ℕ → Type 0
-SomeLength e next n = HostLength e n ⊎ ((next ≤ idMax) × (n ≡ settledLenIn e 0))
+SomeLength e next n = HostLength e n ⊎ ((next ≤ idMax) × (n ≡ settledLen e 0))
 
 pub length-inv : (e : Edition) (next n : ℕ) → hasLength e next n ≡ true → SomeLength e next n
 length-inv e next n q =
-    let c : Bool = leb (putLenIn e 0) n && leb n (putLenIn e valueMax) in
-    let d : Bool = idLeft next && eqb n (settledLenIn e 0) in
-    ⊎-elim
-    (λ a. inl (inl (eqb-true n (endLenIn e) a)))
-    (λ r. ⊎-elim
-    (λ a. inl (inr (between (putLenIn e 0) n (putLenIn e valueMax) a)))
+    on-or (eqb n (endLen e)) _ q
+    (λ a. inl (inl (eqb-true n (endLen e) a)))
+    (λ r. on-or (leb _ n && leb n _) _ r
+    (λ a. let w = between _ n _ a in inl (inr (omega (arith, w .0), omega (arith, w .1))))
     (λ a. inr (
-      omega (arith, leb-true next _ (and-left (idLeft next) (eqb n (settledLenIn e 0)) a)),
-      eqb-true n (settledLenIn e 0) (and-right (idLeft next) (eqb n (settledLenIn e 0)) a),
-    ))
-    (or-cases c d r))
-    (or-cases (eqb n (endLenIn e)) (c || d) q)
+      omega (arith, leb-true next _ (and-left (idLeft next) (eqb n (settledLen e 0)) a)),
+      eqb-true n (settledLen e 0) (and-right (idLeft next) (eqb n (settledLen e 0)) a),
+    )))
 
 pub length-of : (e : Edition) (next n : ℕ) → SomeLength e next n → hasLength e next n ≡ true
-length-of e next n s = go s
-  where
-    c : Bool
-    c = leb (putLenIn e 0) n && leb n (putLenIn e valueMax)
+length-of e next n (inl (inl h)) = or-left (eqb n (endLen e)) _ (eq-eqb n (endLen e) h)
+length-of e next n (inl (inr (lo, hi))) =
+    or-right (eqb n (endLen e)) _ (or-left (leb _ n && leb n _) _ (and-both _ _ (le-leb _ n (omega arith)) (le-leb n _ (omega arith))))
+length-of e next n (inr (lo, hi)) =
+    or-right (eqb n (endLen e)) _
+    (or-right (leb _ n && leb n _) _ (and-both (idLeft next) (eqb n (settledLen e 0)) (le-leb next _ (omega arith)) (eq-eqb n (settledLen e 0) hi)))
 
-    d : Bool
-    d = idLeft next && eqb n (settledLenIn e 0)
-
-    go : SomeLength e next n → hasLength e next n ≡ true
-    go (inl (inl h)) = or-left (eqb n (endLenIn e)) (c || d) (eq-eqb n (endLenIn e) h)
-    go (inl (inr (lo, hi))) = or-right (eqb n (endLenIn e)) (c || d) (or-left c d (between-yes (putLenIn e 0) n (putLenIn e valueMax) lo hi))
-    go (inr (lo, hi)) =
-        or-right (eqb n (endLenIn e)) (c || d)
-        (or-right c d (and-both (idLeft next) (eqb n (settledLenIn e 0)) (le-leb next _ (omega arith)) (eq-eqb n (settledLenIn e 0) hi)))
-
-pub has-length : (e : Edition) (next : ℕ) (f : Frame) → MayStandIn e next f → hasLength e next (frameLenIn e f) ≡ true
-has-length e next (change h (put i v)) (hh, hi, (hv, hb)) = length-of e next (frameLenIn e (change h (put i v))) (inl (inr (omega arith, omega arith)))
-has-length e next (change h (delete i)) g = length-of e next (frameLenIn e (change h (delete i))) (inl (inr (omega arith, omega arith)))
-has-length e next (commit h) g = length-of e next (endLenIn e) (inl (inl refl))
-has-length e next (abort h) g = length-of e next (endLenIn e) (inl (inl refl))
-has-length e next (settled i []) (hn, hi, (hv, hb)) = length-of e next (frameLenIn e (settled i [])) (inr (omega arith, omega arith))
-has-length e next (settled i (b ∷ v)) (hn, hi, (hv, hb)) = length-of e next (frameLenIn e (settled i (b ∷ v))) (inl (inr (omega arith, omega arith)))
+pub has-length : (e : Edition) (next : ℕ) (f : Frame) → MayStand e next f → hasLength e next (frameLen e f) ≡ true
+has-length e next (change h (put i v)) (hh, hi, (hv, hb)) = length-of e next (frameLen e (change h (put i v))) (inl (inr (omega arith, omega arith)))
+has-length e next (change h (delete i)) g = length-of e next (frameLen e (change h (delete i))) (inl (inr (omega arith, omega arith)))
+has-length e next (commit h) g = length-of e next (endLen e) (inl (inl refl))
+has-length e next (abort h) g = length-of e next (endLen e) (inl (inl refl))
+has-length e next (settled i []) (hn, hi, (hv, hb)) = length-of e next (frameLen e (settled i [])) (inr (omega arith, omega arith))
+has-length e next (settled i (b ∷ v)) (hn, hi, (hv, hb)) = length-of e next (frameLen e (settled i (b ∷ v))) (inl (inr (omega arith, omega arith)))
 
 -- where none may stand, its length or its kind is no frame's
-pub last-length : (e : Edition) (next n : ℕ) → idMax < next → n ≡ settledLenIn e 0 → hasLength e next n ≡ false
+pub last-length : (e : Edition) (next n : ℕ) → idMax < next → n ≡ settledLen e 0 → hasLength e next n ≡ false
 last-length e next n h q =
     on-test (hasLength e next n)
     (λ a. absurd (⊎-elim (λ b. host-other e n b q) (λ b. let c : next ≤ idMax = b .0 in omega arith) (length-inv e next n a)))
@@ -243,14 +231,14 @@ value-back v tail rest n q = ap (take n) (append-assoc v tail rest) ∙ take-at 
 id-back : (i : ObjectId) → idOf (le16 (i .0 % 256) (i .0 / 256)) ≡ i
 id-back i = ap idOf (le16-u16 (i .0))
 
-pub decode-own : (e : Edition) (f : Frame) (rest : List ℕ) → decode e (kindOf f) (frameLenIn e f) (encodeIn e f ++ rest) ≡ f
+pub decode-own : (e : Edition) (f : Frame) (rest : List ℕ) → decode e (kindOf f) (frameLen e f) (encode e f ++ rest) ≡ f
 decode-own e (change h (put i v)) rest =
     let f : Frame = change h (put i v) in
     ap₂ (λ (x : ObjectId) (y : List ℕ). change h (put x y)) (id-back i)
-    (value-back v (check e (front e f) ++ (finish ∷ [])) rest (frameLenIn e f - putLenIn e 0) (omega arith))
+    (value-back v (check e (front e f) ++ (finish ∷ [])) rest (frameLen e f - putLen e 0) (omega arith))
 decode-own e (change h (delete i)) rest = ap (λ (x : ObjectId). change h (delete x)) (id-back i)
 decode-own e (commit h) rest = refl
 decode-own e (abort h) rest = refl
 decode-own e (settled i v) rest =
     let f : Frame = settled i v in
-    ap₂ settled (id-back i) (value-back v (check e (front e f) ++ (finish ∷ [])) rest (frameLenIn e f - settledLenIn e 0) (omega arith))
+    ap₂ settled (id-back i) (value-back v (check e (front e f) ++ (finish ∷ [])) rest (frameLen e f - settledLen e 0) (omega arith))

@@ -15,9 +15,9 @@ use Rattle.frame.specs.declared.Edition.{Edition}
 use Rattle.frame.specs.declared.Fault.{Fault}
 use Rattle.frame.specs.declared.Field.the-variants as field
 use Rattle.frame.specs.declared.ObjectId.{ObjectId}
-use Rattle.frame.specs.Frame.{Frame, change, settled, put, hostOf, idOf, idMax, bodyAt, encodeIn, frameLenIn, LegalValue, MayStandIn}
+use Rattle.frame.specs.Frame.{Frame, change, settled, put, hostOf, idOf, idMax, bodyAt, encode, frameLen, LegalValue, MayStand}
 use Rattle.frame.specs.Reader.{wrong, Slot, slot, Layout, layoutOf, frontSlots, sealSlots, hasLength, Match, misfit, match, decode, faultAt}
-use Rattle.frame.specs.Reader.{ofMatch, readFrameIn}
+use Rattle.frame.specs.Reader.{ofMatch, readFrame}
 use Rattle.frame.specs.Sentences.{ReaderExact, SettledWrong, lastFault}
 use Rattle.frame.proofs.Encode.{frame-small, length-encode}
 use Rattle.frame.proofs.Fit.{Fit, Partly, match-go, match-misfit, match-some}
@@ -49,45 +49,45 @@ kind-bad l ps n a t q h =
     (allFF-no 5 t (omega arith))
 
 after-last : (e : Edition) (at : ℕ) (i : ObjectId) (v rest : List ℕ) → i .0 ≤ idMax → LegalValue v
-    → readFrameIn e 256 at (encodeIn e (settled i v) ++ rest) ≡ wrong (lastFault at v)
+    → readFrame e 256 at (encode e (settled i v) ++ rest) ≡ wrong (lastFault at v)
 after-last e at i [] rest hi hv =
     let f : Frame = settled i [] in
-    let n : ℕ = frameLenIn e f in
-    let t : List ℕ = encodeIn e f ++ rest in
+    let n : ℕ = frameLen e f in
+    let t : List ℕ = encode e f ++ rest in
     let small : n < 255 = frame-small e 0 f (omega arith, hi, hv) in
     read-short e 256 at t (allFF-no (n % 256) (drop 1 t) (omega arith))
     (and-no-right (leb (n % 256) (length t)) (hasLength e 256 (n % 256)) (last-length e 256 (n % 256) (omega arith) (omega arith)))
 after-last e at i (b ∷ v) rest hi (hv, (h, hb)) =
     let f : Frame = settled i (b ∷ v) in
     let g : Frame = change (hostOf 0) (put (idOf 0) v) in
-    let n : ℕ = frameLenIn e f in
-    let t : List ℕ = encodeIn e f ++ rest in
+    let n : ℕ = frameLen e f in
+    let t : List ℕ = encode e f ++ rest in
     let small : n < 255 = frame-small e 0 f (omega arith, hi, (hv, (h, hb))) in
-    let same : frameLenIn e g ≡ n % 256 = omega arith in
+    let same : frameLen e g ≡ n % 256 = omega arith in
     let l : Layout = layoutOf e 256 (n % 256) 5 in
     let m : ℕ = bodyAt + length (l .body) in
     read-laid e 256 at t (allFF-no (n % 256) (drop 1 t) (omega arith))
     (and-both (leb (n % 256) (length t)) (hasLength e 256 (n % 256))
-    (le-leb (n % 256) (length t) (omega (arith, length-append (encodeIn e f) rest, length-encode e f)))
+    (le-leb (n % 256) (length t) (omega (arith, length-append (encode e f) rest, length-encode e f)))
     (ap (hasLength e 256) (sym same) ∙ has-length e 256 g (omega arith, omega arith, (omega arith, hb))))
     ∙ ap (ofMatch at (n % 256) (l .tears) (decode e 5 (n % 256) t))
     (kind-bad l (sealSlots (l .seal) m (take m t)) (n % 256) (n / 256) (drop 3 t) (omega arith) (last-layout e 256 (n % 256) (omega arith) (omega arith)))
 
 -- ---- settled frames cut off
 
-cut-off : (e : Edition) (next at : ℕ) (i : ObjectId) (v : List ℕ) (k m : ℕ) → MayStandIn e next (settled i v) → (3 ≤ k) ⊎ ((1 ≤ k) × (v ≡ []))
-    → 1 ≤ k → k < frameLenIn e (settled i v) → frameLenIn e (settled i v) ≤ k + m
-    → (x : Fault) × (readFrameIn e next at (take k (encodeIn e (settled i v)) ++ replicate m 255) ≡ wrong x)
+cut-off : (e : Edition) (next at : ℕ) (i : ObjectId) (v : List ℕ) (k m : ℕ) → MayStand e next (settled i v) → (3 ≤ k) ⊎ ((1 ≤ k) × (v ≡ []))
+    → 1 ≤ k → k < frameLen e (settled i v) → frameLen e (settled i v) ≤ k + m
+    → (x : Fault) × (readFrame e next at (take k (encode e (settled i v)) ++ replicate m 255) ≡ wrong x)
 cut-off e next at i v k m g s h lo hi =
     let f : Frame = settled i v in
-    let x : List ℕ = take k (encodeIn e f) in
+    let x : List ℕ = take k (encode e f) in
     let t : List ℕ = x ++ replicate m 255 in
-    let len : length x ≡ k = length-take-le k (encodeIn e f) (omega (arith, length-encode e f)) in
-    let q : take k t ≡ take k (encodeIn e f) = take-at x (replicate m 255) k len in
-    let l : length t ≡ k + m = length-cut k (encodeIn e f) m (omega (arith, length-encode e f)) in
-    let n : getD t 0 0 ≡ frameLenIn e f = begins-length e next t k f g q h in
+    let len : length x ≡ k = length-take-le k (encode e f) (omega (arith, length-encode e f)) in
+    let q : take k t ≡ take k (encode e f) = take-at x (replicate m 255) k len in
+    let l : length t ≡ k + m = length-cut k (encode e f) m (omega (arith, length-encode e f)) in
+    let n : getD t 0 0 ≡ frameLen e f = begins-length e next t k f g q h in
     let ps : List Slot = slotsAt e next t in
-    let size : length ps ≡ frameLenIn e f = begins-slots e next at t k f g q h (omega arith) in
+    let size : length ps ≡ frameLen e f = begins-slots e next at t k f g q h (omega arith) in
     let fit : Fit (take k ps) x = subst (Fit (take k ps)) q (begins-fit e next t k f g q h) in
     let p : Partly (match ps t) = match-some k ps x m fit (closed-slots e next t) (omega arith) (omega arith) in
     let known : (getD t 2 0 ≡ 5) ⊎ (v ≡ []) = seen s (λ b. begins-kind e next t k f g q b) in

@@ -13,7 +13,7 @@ use Rattle.flash.proofs.Cases.{on-test, clash, or-right}
 use Rattle.frame.specs.declared.Edition.{Edition}
 use Rattle.frame.specs.declared.Field.the-variants as field
 use Rattle.frame.specs.Frame.{Frame, change, commit, abort, settled, put, delete, hostOf, idOf, idMax, valueMax, kindOf, body, sealOf}
-use Rattle.frame.specs.Frame.{overhead, putLenIn, deleteLenIn, endLenIn, settledLenIn, MayStandIn, OfHost}
+use Rattle.frame.specs.Frame.{overhead, putLen, deleteLen, endLen, settledLen, MayStand, OfHost}
 use Rattle.frame.specs.Reader.{Slot, valueSlots, Layout, lastKind, changeLayout, endLayout, settledLayout, hasLength, onlySettled, layoutOf}
 use Rattle.frame.specs.Sentences.{Span, span, Among, bodyFields}
 use Rattle.frame.proofs.Fit.{Fit, Wide}
@@ -34,7 +34,7 @@ Covered l i (p ∷ ps) = Covers l i p × Covered l (suc i) ps
 -- kind and body are some frame's
 pub record Made (e : Edition) (next : ℕ) (l : Layout) (k : ℕ) (b : List ℕ) : Type 0 where
   pub frame : Frame
-  pub stands : MayStandIn e next frame
+  pub stands : MayStand e next frame
   pub kind : kindOf frame ≡ k
   pub is-body : body frame ≡ b
   pub seal : sealOf e frame ≡ l .seal
@@ -76,10 +76,10 @@ last-small true = omega arith
 last-small false = omega arith
 
 -- only a frame of a delete's length has kind 2
-kind-2 : (e : Edition) (n k : ℕ) → k ≤ lastKind (eqb n (deleteLenIn e)) → 1 ≤ k → (k ≡ 1 → ⊥) → (k ≡ 2) × (n ≡ deleteLenIn e)
+kind-2 : (e : Edition) (n k : ℕ) → k ≤ lastKind (eqb n (deleteLen e)) → 1 ≤ k → (k ≡ 1 → ⊥) → (k ≡ 2) × (n ≡ deleteLen e)
 kind-2 e n k h l m =
-    on-test (eqb n (deleteLenIn e))
-    (λ q. let r : k ≤ lastKind true = rw q at h in (omega arith, eqb-true n (deleteLenIn e) q))
+    on-test (eqb n (deleteLen e))
+    (λ q. let r : k ≤ lastKind true = rw q at h in (omega arith, eqb-true n (deleteLen e) q))
     (λ q. let r : k ≤ lastKind false = rw q at h in absurd (m (omega arith)))
 
 no-value : (l : List ℕ) → length l ≡ 0 → l ≡ []
@@ -97,14 +97,14 @@ module _ (e : Edition) (next n : ℕ) where
         (omega arith, inr (5, inl refl, omega arith)),
         (
           (omega arith, inr (7, inr (inl refl), omega arith)),
-          ((omega arith, inr (7, inr (inl refl), omega arith)), cover-value l 7 7 (n - putLenIn e 0) (omega arith)),
+          ((omega arith, inr (7, inr (inl refl), omega arith)), cover-value l 7 7 (n - putLen e 0) (omega arith)),
         ),
       )
 
-  make-change : (k : ℕ) (b : List ℕ) → putLenIn e 0 ≤ n → n ≤ putLenIn e valueMax → 1 ≤ k → k ≤ lastKind (eqb n (deleteLenIn e))
+  make-change : (k : ℕ) (b : List ℕ) → putLen e 0 ≤ n → n ≤ putLen e valueMax → 1 ≤ k → k ≤ lastKind (eqb n (deleteLen e))
       → Fit (changeLayout e n .body) b → Made e next (changeLayout e n) k b
   make-change k (h ∷ i ∷ z ∷ v) lo hi k1 k2 ((h1, h2, (i1, i2, (z1, z2, r)))) =
-      let y : (length v ≡ n - putLenIn e 0) × Bytes v = value-bytes 7 (n - putLenIn e 0) v r in
+      let y : (length v ≡ n - putLen e 0) × Bytes v = value-bytes 7 (n - putLen e 0) v r in
       let q1 : i % 256 ≡ i = omega arith in
       let q2 : i / 256 ≡ z = omega arith in
       on-test (eqb k 1)
@@ -118,7 +118,7 @@ module _ (e : Edition) (next n : ℕ) where
         covered = cover-change f refl;
       })
       (λ q.
-      let w : (k ≡ 2) × (n ≡ deleteLenIn e) = kind-2 e n k k2 k1 (eqb-false k 1 q) in
+      let w : (k ≡ 2) × (n ≡ deleteLen e) = kind-2 e n k k2 k1 (eqb-false k 1 q) in
       let f : Frame = change (hostOf h) (delete (idOf i)) in record {
         frame = f;
         stands = (h2, i2);
@@ -156,10 +156,10 @@ module _ (e : Edition) (next n : ℕ) where
   make-end k [] k1 k2 r = absurd r
   make-end k (h ∷ x ∷ b) k1 k2 r = absurd (r .2)
 
-  make-settled : (k : ℕ) (b : List ℕ) → settledLenIn e 0 ≤ n → n ≤ settledLenIn e valueMax → 5 ≤ k → k ≤ 5
+  make-settled : (k : ℕ) (b : List ℕ) → settledLen e 0 ≤ n → n ≤ settledLen e valueMax → 5 ≤ k → k ≤ 5
       → Fit (settledLayout e next n .body) b → Made e next (settledLayout e next n) k b
   make-settled k (i ∷ z ∷ v) lo hi k1 k2 ((i1, i2, (z1, z2, r))) =
-      let y : (length v ≡ n - settledLenIn e 0) × Bytes v = value-bytes 6 (n - settledLenIn e 0) v r in
+      let y : (length v ≡ n - settledLen e 0) × Bytes v = value-bytes 6 (n - settledLen e 0) v r in
       let q1 : i % 256 ≡ i = omega arith in
       let q2 : i / 256 ≡ z = omega arith in
       record {
@@ -171,30 +171,30 @@ module _ (e : Edition) (next n : ℕ) where
         tears = λ u. clash true refl (sym u);
         covered = (
           (omega arith, inr (6, inl refl, omega arith)),
-          ((omega arith, inr (6, inl refl, omega arith)), cover-value (span field.Id 4 6 ∷ []) 6 6 (n - settledLenIn e 0) (omega arith)),
+          ((omega arith, inr (6, inl refl, omega arith)), cover-value (span field.Id 4 6 ∷ []) 6 6 (n - settledLen e 0) (omega arith)),
         );
       }
   make-settled k [] lo hi k1 k2 r = absurd r
   make-settled k (i ∷ []) lo hi k1 k2 r = absurd (r .2)
 
-  shape-change : putLenIn e 0 ≤ n → n ≤ putLenIn e valueMax → Shape e next n (changeLayout e n)
+  shape-change : putLen e 0 ≤ n → n ≤ putLen e valueMax → Shape e next n (changeLayout e n)
   shape-change lo hi = record {
-    kinds = last-kind (eqb n (deleteLenIn e));
-    small = last-small (eqb n (deleteLenIn e));
-    wide = (omega arith, (omega arith, (omega arith, wide-value 7 (n - putLenIn e 0))));
-    size = omega (arith, length-value 7 (n - putLenIn e 0));
+    kinds = last-kind (eqb n (deleteLen e));
+    small = last-small (eqb n (deleteLen e));
+    wide = (omega arith, (omega arith, (omega arith, wide-value 7 (n - putLen e 0))));
+    size = omega (arith, length-value 7 (n - putLen e 0));
     make = λ k b k1 k2 r. make-change k b lo hi k1 k2 r;
   }
 
-  shape-end : n ≡ endLenIn e → Shape e next n (endLayout e)
+  shape-end : n ≡ endLen e → Shape e next n (endLayout e)
   shape-end q = record { kinds = omega arith; small = omega arith; wide = omega arith; size = omega arith; make = make-end }
 
-  shape-settled : settledLenIn e 0 ≤ n → n ≤ settledLenIn e valueMax → next ≤ idMax → Shape e next n (settledLayout e next n)
+  shape-settled : settledLen e 0 ≤ n → n ≤ settledLen e valueMax → next ≤ idMax → Shape e next n (settledLayout e next n)
   shape-settled lo hi h = record {
     kinds = omega arith;
     small = omega arith;
-    wide = (h, (omega arith, wide-value 6 (n - settledLenIn e 0)));
-    size = omega (arith, length-value 6 (n - settledLenIn e 0));
+    wide = (h, (omega arith, wide-value 6 (n - settledLen e 0)));
+    size = omega (arith, length-value 6 (n - settledLen e 0));
     make = λ k b k1 k2 r. make-settled k b lo hi k1 k2 r;
   }
 
@@ -206,11 +206,11 @@ module _ (e : Edition) (next n : ℕ) where
   shape k q =
       on-test (onlySettled e next n k)
       (λ s.
-      let w : (settledLenIn e 0 ≤ n) × (n ≤ settledLenIn e valueMax) × (next ≤ idMax) = only-size e next n k s in
+      let w : (settledLen e 0 ≤ n) × (n ≤ settledLen e valueMax) × (next ≤ idMax) = only-size e next n k s in
       subst (Shape e next n) (sym (layout-settled e next n k s)) (shape-settled (w .0) (w .1) (w .2)))
       (λ s. ⊎-elim
       (shape-host k s)
       (λ h. clash (onlySettled e next n k)
       (only-yes e next n k (h .0) (omega (arith, h .1)) (omega (arith, h .1))
-      (or-right (eqb k 5) (eqb n (settledLenIn e 0)) (eq-eqb n (settledLenIn e 0) (h .1)))) s)
+      (or-right (eqb k 5) (eqb n (settledLen e 0)) (eq-eqb n (settledLen e 0) (h .1)))) s)
       (length-inv e next n q))

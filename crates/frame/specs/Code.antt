@@ -1,16 +1,16 @@
 -- Frames and reads as the code has them: without the value's bytes.
 use mathlib.Core.List.{List, []}
 use Prim.Native.Nat.{ℕ}
-use lib.ListN.{length}
+use lib.ListN.{length, getD, drop}
 use Rattle.frame.specs.declared.Edition.{Edition}
 use Rattle.frame.specs.declared.Edition.the-variants as edition
 use Rattle.frame.specs.declared.Head.{Head}
 use Rattle.frame.specs.declared.Head.the-variants as head
 use Rattle.frame.specs.declared.FrameRead.{FrameRead}
 use Rattle.frame.specs.declared.FrameRead.the-variants as read
-use Rattle.frame.specs.Frame.{Frame, change, commit, abort, settled, put, delete, putValueAt, settledValueAt, putLenIn}
-use Rattle.frame.specs.Frame.{deleteLenIn, endLenIn, settledLenIn}
-use Rattle.frame.specs.Reader.{Read, blank, whole, torn, wrong}
+use Rattle.frame.specs.Frame.{Frame, change, commit, abort, settled, put, delete, putValueAt, settledValueAt, kindAt, putLen}
+use Rattle.frame.specs.Frame.{deleteLen, endLen, settledLen}
+use Rattle.frame.specs.Reader.{Read, blank, whole, torn, wrong, decode}
 
 -- a frame without its value's bytes
 abbrev pub headOf : Frame → Head
@@ -19,6 +19,10 @@ headOf (change h (delete i)) = head.Delete h i
 headOf (commit h) = head.Commit h
 headOf (abort h) = head.Abort h
 headOf (settled i v) = head.Settled i (length v)
+
+-- the head of the frame at an offset of a block, by its bytes for length, kind, host and id: nothing is tested
+unfoldable pub peekAt : Edition → List ℕ → ℕ → Head
+peekAt e b at = headOf (decode e (getD (drop at b) kindAt 0) (getD (drop at b) 0 0) (drop at b))
 
 -- the value that a frame holds: none is empty
 abbrev pub valueOf : Frame → List ℕ
@@ -43,15 +47,12 @@ readOf (torn n) = read.Torn n
 readOf (wrong e) = read.Wrong e
 
 -- the length of a frame with this head
-abbrev pub headLenIn : Edition → Head → ℕ
-headLenIn e (head.Put h i n) = putLenIn e n
-headLenIn e (head.Delete h i) = deleteLenIn e
-headLenIn e (head.Commit h) = endLenIn e
-headLenIn e (head.Abort h) = endLenIn e
-headLenIn e (head.Settled i n) = settledLenIn e n
-
-abbrev pub headLen : Head → ℕ
-headLen h = headLenIn edition.First h
+abbrev pub headLen : Edition → Head → ℕ
+headLen e (head.Put h i n) = putLen e n
+headLen e (head.Delete h i) = deleteLen e
+headLen e (head.Commit h) = endLen e
+headLen e (head.Abort h) = endLen e
+headLen e (head.Settled i n) = settledLen e n
 
 -- how many bytes its value has, and where in the frame they start
 abbrev pub valueLen : Head → ℕ

@@ -1,7 +1,8 @@
 -- Frames, document 01, "Frames": what they say and their bytes, over the edition of document 02's K9.
--- A name that ends in "In" takes the edition. Without "In" it is the first edition's: these stand last on each page, and the crates above use them.
 use mathlib.Core.List.{List, [], _∷_, _++_}
+use mathlib.Core.Bool.{Bool, true, false}
 use Prim.Native.Nat.{ℕ, suc, _+_, _-_, _≤_}
+use lib.Dec.{eqb}
 use lib.ListN.{length, replicate}
 use Rattle.flash.specs.Bytes.{Bytes, u16le, u32le}
 use Rattle.crc.specs.Crc.{crc32Of}
@@ -57,6 +58,18 @@ mapFrame f (commit h) = commit h
 mapFrame f (abort h) = abort h
 mapFrame f (settled i v) = settled i (f v)
 
+-- the number of an edition; 2 is the second's, any other the first's
+abbrev pub editionNumber : Edition → ℕ
+editionNumber edition.First = 1
+editionNumber edition.Second = 2
+
+abbrev pub secondIf : Bool → Edition
+secondIf true = edition.Second
+secondIf false = edition.First
+
+abbrev pub editionBy : ℕ → Edition
+editionBy n = secondIf (eqb n 2)
+
 -- ---- the table of kinds
 
 -- the table's columns Kind and Body
@@ -102,15 +115,15 @@ sealOf e f = e
 abbrev pub overhead : Edition → ℕ
 overhead e = 5 + checkLen e
 
-abbrev pub frameLenIn : Edition → Frame → ℕ
-frameLenIn e f = overhead (sealOf e f) + length (body f)
+abbrev pub frameLen : Edition → Frame → ℕ
+frameLen e f = overhead (sealOf e f) + length (body f)
 
 -- what the check is over
 abbrev pub front : Edition → Frame → List ℕ
-front e f = u16le (frameLenIn e f) ++ (u16le (kindOf f) ++ body f)
+front e f = u16le (frameLen e f) ++ (u16le (kindOf f) ++ body f)
 
-abbrev pub encodeIn : Edition → Frame → List ℕ
-encodeIn e f = sealed (sealOf e f) (front e f)
+abbrev pub encode : Edition → Frame → List ℕ
+encode e f = sealed (sealOf e f) (front e f)
 
 -- the offsets in a frame: kind, body, and the value, a put's past its host and id, a settled frame's past its id
 abbrev pub kindAt : ℕ
@@ -126,21 +139,21 @@ abbrev pub settledValueAt : ℕ
 settledValueAt = bodyAt + 2
 
 -- the lengths by kind: 8+v, 8, 6, 6, 7+v, and in the second edition four more
-abbrev pub putLenIn : Edition → ℕ → ℕ
-putLenIn e v = overhead e + 3 + v
+abbrev pub putLen : Edition → ℕ → ℕ
+putLen e v = overhead e + 3 + v
 
-abbrev pub deleteLenIn : Edition → ℕ
-deleteLenIn e = overhead e + 3
+abbrev pub deleteLen : Edition → ℕ
+deleteLen e = overhead e + 3
 
-abbrev pub endLenIn : Edition → ℕ  -- a commit's or an abort's
-endLenIn e = overhead e + 1
+abbrev pub endLen : Edition → ℕ  -- a commit's or an abort's
+endLen e = overhead e + 1
 
-abbrev pub settledLenIn : Edition → ℕ → ℕ
-settledLenIn e v = overhead e + 2 + v
+abbrev pub settledLen : Edition → ℕ → ℕ
+settledLen e v = overhead e + 2 + v
 
 -- a put of the longest value: 248 or 252
-abbrev pub maxFrameIn : Edition → ℕ
-maxFrameIn e = putLenIn e valueMax
+abbrev pub maxFrame : Edition → ℕ
+maxFrame e = putLen e valueMax
 
 -- ---- legal frames
 
@@ -151,12 +164,12 @@ LegalValue v = (length v ≤ valueMax) × Bytes v
 -- "A frame is legal if its length fits its kind, its host is at most 3, its id at most 255, v at most 64 and its last byte 0xFE." (K2: 240.)
 -- Length and last byte are `encode`'s. "Settled frames stand first, ids strictly rising": a settled frame may stand where
 -- its id is at least `next`, which is 256 where none may stand.
-abbrev pub MayStandIn : Edition → ℕ → Frame → Type 0
-MayStandIn e next (change h (put i v)) = (h .0 ≤ hostMax) × (i .0 ≤ idMax) × LegalValue v
-MayStandIn e next (change h (delete i)) = (h .0 ≤ hostMax) × (i .0 ≤ idMax)
-MayStandIn e next (commit h) = h .0 ≤ hostMax
-MayStandIn e next (abort h) = h .0 ≤ hostMax
-MayStandIn e next (settled i v) = (next ≤ i .0) × (i .0 ≤ idMax) × LegalValue v
+abbrev pub MayStand : Edition → ℕ → Frame → Type 0
+MayStand e next (change h (put i v)) = (h .0 ≤ hostMax) × (i .0 ≤ idMax) × LegalValue v
+MayStand e next (change h (delete i)) = (h .0 ≤ hostMax) × (i .0 ≤ idMax)
+MayStand e next (commit h) = h .0 ≤ hostMax
+MayStand e next (abort h) = h .0 ≤ hostMax
+MayStand e next (settled i v) = (next ≤ i .0) × (i .0 ≤ idMax) × LegalValue v
 
 -- the least id that a settled frame may have after this frame
 abbrev pub nextAfter : Frame → ℕ
@@ -175,61 +188,27 @@ OfHost (settled i v) = ⊥
 -- ---- frames one after the other
 
 -- their bytes, and how many those are
-unfoldable pub encodeAllIn : Edition → List Frame → List ℕ
-encodeAllIn e [] = []
-encodeAllIn e (f ∷ fs) = encodeIn e f ++ encodeAllIn e fs
+unfoldable pub encodeAll : Edition → List Frame → List ℕ
+encodeAll e [] = []
+encodeAll e (f ∷ fs) = encode e f ++ encodeAll e fs
 
-unfoldable pub totalIn : Edition → List Frame → ℕ
-totalIn e [] = 0
-totalIn e (f ∷ fs) = frameLenIn e f + totalIn e fs
+unfoldable pub total : Edition → List Frame → ℕ
+total e [] = 0
+total e (f ∷ fs) = frameLen e f + total e fs
 
 -- each is legal where it stands, the settled ones placed as said
-abbrev pub AllMayStandIn : Edition → ℕ → List Frame → Type 0
-AllMayStandIn e next [] = Unit {0}
-AllMayStandIn e next (f ∷ fs) = MayStandIn e next f × AllMayStandIn e (nextAfter f) fs
+abbrev pub AllMayStand : Edition → ℕ → List Frame → Type 0
+AllMayStand e next [] = Unit {0}
+AllMayStand e next (f ∷ fs) = MayStand e next f × AllMayStand e (nextAfter f) fs
 
 -- the least id that a settled frame may have after these frames
 abbrev pub nextOf : ℕ → List Frame → ℕ
 nextOf next [] = next
 nextOf next (f ∷ fs) = nextOf (nextAfter f) fs
 
--- ---- the first edition, which every store is of
+-- bytes at the front of a frame buffer, which holds a frame of either edition, and zeros after them
+abbrev pub bufferLen : ℕ
+bufferLen = maxFrame edition.Second
 
-abbrev pub frameLen : Frame → ℕ
-frameLen f = frameLenIn edition.First f
-
-abbrev pub encode : Frame → List ℕ
-encode f = encodeIn edition.First f
-
-abbrev pub putLen : ℕ → ℕ
-putLen v = putLenIn edition.First v
-
-abbrev pub deleteLen : ℕ
-deleteLen = deleteLenIn edition.First
-
-abbrev pub endLen : ℕ
-endLen = endLenIn edition.First
-
-abbrev pub settledLen : ℕ → ℕ
-settledLen v = settledLenIn edition.First v
-
-abbrev pub maxFrame : ℕ
-maxFrame = maxFrameIn edition.First
-
--- bytes at the front of a frame buffer, zeros after them
 abbrev pub buffer : List ℕ → List ℕ
-buffer bs = bs ++ replicate (maxFrame - length bs) 0
-
-abbrev pub MayStand : ℕ → Frame → Type 0
-MayStand next f = MayStandIn edition.First next f
-
-unfoldable pub encodeAll : List Frame → List ℕ
-unfolding encodeAllIn
-encodeAll fs = encodeAllIn edition.First fs
-
-unfoldable pub total : List Frame → ℕ
-unfolding totalIn
-total fs = totalIn edition.First fs
-
-abbrev pub AllMayStand : ℕ → List Frame → Type 0
-AllMayStand next fs = AllMayStandIn edition.First next fs
+buffer bs = bs ++ replicate (bufferLen - length bs) 0

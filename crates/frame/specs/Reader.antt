@@ -13,7 +13,7 @@ use Rattle.frame.specs.declared.Fault.{Fault}
 use Rattle.frame.specs.declared.Field.{Field}
 use Rattle.frame.specs.declared.Field.the-variants as field
 use Rattle.frame.specs.Frame.{Frame, change, commit, abort, settled, put, delete, hostMax, idMax, valueMax, finish, check, checkLen}
-use Rattle.frame.specs.Frame.{kindAt, bodyAt, putValueAt, settledValueAt, frameLenIn, putLenIn, deleteLenIn, endLenIn, settledLenIn, nextAfter}
+use Rattle.frame.specs.Frame.{kindAt, bodyAt, putValueAt, settledValueAt, frameLen, putLen, deleteLen, endLen, settledLen, nextAfter}
 
 -- a bad field and its offset in the block
 abbrev pub fault : Field → ℕ → Fault
@@ -63,8 +63,8 @@ lastKind false = 1
 abbrev pub changeLayout : Edition → ℕ → Layout
 changeLayout e n = record {
   from = 1;
-  to = lastKind (eqb n (deleteLenIn e));
-  body = slot field.Host bodyAt 0 hostMax ∷ slot field.Id (bodyAt + 1) 0 idMax ∷ slot field.Id (bodyAt + 1) 0 0 ∷ valueSlots putValueAt (n - putLenIn e 0);
+  to = lastKind (eqb n (deleteLen e));
+  body = slot field.Host bodyAt 0 hostMax ∷ slot field.Id (bodyAt + 1) 0 idMax ∷ slot field.Id (bodyAt + 1) 0 0 ∷ valueSlots putValueAt (n - putLen e 0);
   seal = e;
   tears = true;
 }
@@ -78,7 +78,7 @@ abbrev pub settledLayout : Edition → ℕ → ℕ → Layout
 settledLayout e next n = record {
   from = 5;
   to = 5;
-  body = slot field.Id bodyAt next idMax ∷ slot field.Id bodyAt 0 0 ∷ valueSlots settledValueAt (n - settledLenIn e 0);
+  body = slot field.Id bodyAt next idMax ∷ slot field.Id bodyAt 0 0 ∷ valueSlots settledValueAt (n - settledLen e 0);
   seal = e;
   tears = false;
 }
@@ -89,15 +89,15 @@ idLeft next = leb next idMax
 
 -- some frame that may stand has n bytes
 abbrev pub hasLength : Edition → ℕ → ℕ → Bool
-hasLength e next n = eqb n (endLenIn e) || ((leb (putLenIn e 0) n && leb n (putLenIn e valueMax)) || (idLeft next && eqb n (settledLenIn e 0)))
+hasLength e next n = eqb n (endLen e) || ((leb (putLen e 0) n && leb n (putLen e valueMax)) || (idLeft next && eqb n (settledLen e 0)))
 
 -- the bytes can only be a settled frame's: by their kind, or by a length that no other kind has
 abbrev pub onlySettled : Edition → ℕ → ℕ → ℕ → Bool
-onlySettled e next n k = idLeft next && (leb (settledLenIn e 0) n && leb n (settledLenIn e valueMax)) && (eqb k 5 || eqb n (settledLenIn e 0))
+onlySettled e next n k = idLeft next && (leb (settledLen e 0) n && leb n (settledLen e valueMax)) && (eqb k 5 || eqb n (settledLen e 0))
 
 -- kinds 1 to 4: the length tells commit and abort from put and delete
 unfoldable pub hostLayout : Edition → ℕ → Layout
-hostLayout e n = elim (eqb n (endLenIn e)) [ true ↦ endLayout e | false ↦ changeLayout e n ]
+hostLayout e n = elim (eqb n (endLen e)) [ true ↦ endLayout e | false ↦ changeLayout e n ]
 
 -- the layout of frames of n bytes, where the kind's low byte is k
 unfoldable pub layoutOf : Edition → ℕ → ℕ → ℕ → Layout
@@ -146,11 +146,11 @@ idAt t i = record { 0 = le16 (getD t i 0) (getD t (suc i) 0) }
 -- the frame that bytes are, by their low kind byte and their length; used only where they fit its layout, so kind 0 never is
 abbrev pub decode : Edition → ℕ → ℕ → List ℕ → Frame
 decode e zero n t = commit (hostAt t bodyAt)
-decode e (suc zero) n t = change (hostAt t bodyAt) (put (idAt t (bodyAt + 1)) (take (n - putLenIn e 0) (drop putValueAt t)))
+decode e (suc zero) n t = change (hostAt t bodyAt) (put (idAt t (bodyAt + 1)) (take (n - putLen e 0) (drop putValueAt t)))
 decode e (suc (suc zero)) n t = change (hostAt t bodyAt) (delete (idAt t (bodyAt + 1)))
 decode e (suc (suc (suc zero))) n t = commit (hostAt t bodyAt)
 decode e (suc (suc (suc (suc zero)))) n t = abort (hostAt t bodyAt)
-decode e (suc (suc (suc (suc (suc k))))) n t = settled (idAt t bodyAt) (take (n - settledLenIn e 0) (drop settledValueAt t))
+decode e (suc (suc (suc (suc (suc k))))) n t = settled (idAt t bodyAt) (take (n - settledLen e 0) (drop settledValueAt t))
 
 -- a bad slot of a frame that starts at an offset of the block
 abbrev pub faultAt : ℕ → Slot → Fault
@@ -169,8 +169,8 @@ readLaid e next at n k t = ofMatch at n (layoutOf e next n k .tears) (decode e k
 
 -- the frame at the front of t, which runs to the block's end and starts at offset `at` of it; settled ids from `next` on.
 -- A frame longer than t would not fit: it is neither whole nor torn.
-unfoldable pub readFrameIn : Edition → ℕ → ℕ → List ℕ → Read
-readFrameIn e next at t =
+unfoldable pub readFrame : Edition → ℕ → ℕ → List ℕ → Read
+readFrame e next at t =
     elim (allFF t) [
       | true ↦ blank
       | false ↦ elim (leb (getD t 0 0) (length t) && hasLength e next (getD t 0 0)) [
@@ -199,23 +199,13 @@ abbrev pub ends : Tail → Scan
 ends t = record { frames = []; tail = t }
 
 -- "whole legal frames .. run to a tail"; the first k bytes belong to a frame that was read already
-unfoldable pub scanIn : Edition → ℕ → ℕ → ℕ → List ℕ → Scan
-scanIn e next at k [] = ends clean
-scanIn e next at zero (b ∷ t) =
-    elim (readFrameIn e next at (b ∷ t)) [
+unfoldable pub scan : Edition → ℕ → ℕ → ℕ → List ℕ → Scan
+scan e next at k [] = ends clean
+scan e next at zero (b ∷ t) =
+    elim (readFrame e next at (b ∷ t)) [
       | blank ↦ ends clean
-      | whole f ↦ push f (scanIn e (nextAfter f) (suc at) (frameLenIn e f - 1) t)
+      | whole f ↦ push f (scan e (nextAfter f) (suc at) (frameLen e f - 1) t)
       | torn n ↦ ends (cut n)
       | wrong x ↦ ends (bad x)
     ]
-scanIn e next at (suc k) (b ∷ t) = scanIn e next (suc at) k t
-
--- ---- the first edition
-
-unfoldable pub readFrame : ℕ → ℕ → List ℕ → Read
-unfolding readFrameIn layoutOf hostLayout
-readFrame next at t = readFrameIn edition.First next at t
-
-unfoldable pub scan : ℕ → ℕ → ℕ → List ℕ → Scan
-unfolding scanIn
-scan next at k t = scanIn edition.First next at k t
+scan e next at (suc k) (b ∷ t) = scan e next (suc at) k t

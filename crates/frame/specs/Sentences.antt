@@ -8,31 +8,31 @@ use Rattle.flash.specs.Bytes.{Bytes}
 use Rattle.frame.specs.declared.Edition.{Edition}
 use Rattle.frame.specs.declared.Edition.the-variants as edition
 use Rattle.frame.specs.Frame.{Frame, change, commit, abort, settled, idOf, idMax, body, checkLen, sealOf, bodyAt}
-use Rattle.frame.specs.Frame.{LegalValue, encodeIn, frameLenIn, maxFrameIn, MayStandIn, OfHost, nextAfter}
-use Rattle.frame.specs.Reader.{blank, whole, torn, wrong, fault, readFrameIn}
+use Rattle.frame.specs.Frame.{LegalValue, encode, frameLen, maxFrame, MayStand, OfHost, nextAfter}
+use Rattle.frame.specs.Reader.{blank, whole, torn, wrong, fault, readFrame}
 use Rattle.frame.specs.declared.Fault.{Fault}
 use Rattle.frame.specs.declared.Field.{Field}
 use Rattle.frame.specs.declared.Field.the-variants as field
 use Rattle.frame.specs.declared.ObjectId.{ObjectId}
 
 -- a legal frame that may stand there stands there, whatever follows
-pub record WholeIn (e : Edition) (next : ℕ) (t : List ℕ) (f : Frame) : Type 0 where
+pub record Whole (e : Edition) (next : ℕ) (t : List ℕ) (f : Frame) : Type 0 where
   pub rest : List ℕ
-  pub stands : MayStandIn e next f
-  pub bytes : t ≡ encodeIn e f ++ rest
+  pub stands : MayStand e next f
+  pub bytes : t ≡ encode e f ++ rest
 
 -- "Torn means: the first k bytes, k at least 1 and fewer than all, of some legal frame of kinds 1 to 4 that would fit, then 0xFF only."
-pub record TornIn (e : Edition) (next : ℕ) (t : List ℕ) (n : ℕ) : Type 0 where
+pub record Torn (e : Edition) (next : ℕ) (t : List ℕ) (n : ℕ) : Type 0 where
   pub frame : Frame
   pub k : ℕ
   pub left : ℕ
   pub of-host : OfHost frame
-  pub legal : MayStandIn e next frame
+  pub legal : MayStand e next frame
   pub some : 1 ≤ k
-  pub not-all : k < frameLenIn e frame
-  pub would-fit : frameLenIn e frame ≤ length t
-  pub bytes : t ≡ take k (encodeIn e frame) ++ replicate left 255
-  pub long : n ≡ frameLenIn e frame
+  pub not-all : k < frameLen e frame
+  pub would-fit : frameLen e frame ≤ length t
+  pub bytes : t ≡ take k (encode e frame) ++ replicate left 255
+  pub long : n ≡ frameLen e frame
 
 -- "all 0xFF"
 abbrev pub Blank : List ℕ → Type 0
@@ -42,13 +42,13 @@ Blank t = t ≡ replicate (length t) 255
 -- as in blank flash: programming it leaves no trace, so a tail of 0xFF only would be blank and, with this one byte programmed, torn too.
 -- A limit on values that is raised too far breaks this law.
 abbrev pub LengthShows : Type 0
-LengthShows = (e : Edition) → maxFrameIn e < 255
+LengthShows = (e : Edition) → maxFrame e < 255
 
 -- none of the three
 pub record Wrong (e : Edition) (next : ℕ) (t : List ℕ) : Type 0 where
   pub not-blank : Blank t → ⊥
-  pub not-whole : (f : Frame) → WholeIn e next t f → ⊥
-  pub not-torn : (n : ℕ) → TornIn e next t n → ⊥
+  pub not-whole : (f : Frame) → Whole e next t f → ⊥
+  pub not-torn : (n : ℕ) → Torn e next t n → ⊥
 
 -- ---- where it is wrong: "the first bad field, up to whose end the bytes begin no legal frame that may stand there" (document 02, K5)
 
@@ -86,9 +86,9 @@ fieldsOf e f = span field.Length 0 2 ∷ span field.Kind 2 4 ∷ (bodyFields f +
 
 -- the bytes up to j begin this legal frame, which may stand there and fits
 pub record Begins (e : Edition) (next : ℕ) (t : List ℕ) (j : ℕ) (f : Frame) : Type 0 where
-  pub stands : MayStandIn e next f
-  pub fits : frameLenIn e f ≤ length t
-  pub bytes : take j t ≡ take j (encodeIn e f)
+  pub stands : MayStand e next f
+  pub fits : frameLen e f ≤ length t
+  pub bytes : take j t ≡ take j (encode e f)
 
 -- the first bad field: up to its end the bytes begin no frame; up to its start, where the field before it ends, they begin one that has it.
 -- Before the length there is no field.
@@ -99,7 +99,7 @@ pub record FirstBad (e : Edition) (next : ℕ) (t : List ℕ) (s : Span) : Type 
   pub none : (f : Frame) → Begins e next t (s .end) f → ⊥
 
 -- wrong, with this fault, at offset `at` of the half: "Its place is its offset in the half." What is torn is not wrong, whatever field is bad.
-pub record WrongAtIn (e : Edition) (next at : ℕ) (t : List ℕ) (x : Fault) : Type 0 where
+pub record WrongAt (e : Edition) (next at : ℕ) (t : List ℕ) (x : Fault) : Type 0 where
   pub wrong : Wrong e next t
   pub span : Span
   pub bad : FirstBad e next t span
@@ -107,11 +107,11 @@ pub record WrongAtIn (e : Edition) (next at : ℕ) (t : List ℕ) (x : Fault) : 
 
 -- the reader says blank, whole, torn or wrong exactly as the sentences do; its answer being one, they exclude each other
 pub record ReaderExact (e : Edition) : Type 0 where
-  pub is-blank : (next at : ℕ) (t : List ℕ) → (readFrameIn e next at t ≡ blank) ↔ Blank t
-  pub is-whole : (next at : ℕ) (t : List ℕ) (f : Frame) → (readFrameIn e next at t ≡ whole f) ↔ WholeIn e next t f
-  pub is-torn : (next at : ℕ) (t : List ℕ) (n : ℕ) → (readFrameIn e next at t ≡ torn n) ↔ TornIn e next t n
-  pub is-wrong : (next at : ℕ) (t : List ℕ) → ((x : Fault) × (readFrameIn e next at t ≡ wrong x)) ↔ Wrong e next t
-  pub is-wrong-at : (next at : ℕ) (t : List ℕ) (x : Fault) → Bytes t → (readFrameIn e next at t ≡ wrong x) ↔ WrongAtIn e next at t x
+  pub is-blank : (next at : ℕ) (t : List ℕ) → (readFrame e next at t ≡ blank) ↔ Blank t
+  pub is-whole : (next at : ℕ) (t : List ℕ) (f : Frame) → (readFrame e next at t ≡ whole f) ↔ Whole e next t f
+  pub is-torn : (next at : ℕ) (t : List ℕ) (n : ℕ) → (readFrame e next at t ≡ torn n) ↔ Torn e next t n
+  pub is-wrong : (next at : ℕ) (t : List ℕ) → ((x : Fault) × (readFrame e next at t ≡ wrong x)) ↔ Wrong e next t
+  pub is-wrong-at : (next at : ℕ) (t : List ℕ) (x : Fault) → Bytes t → (readFrame e next at t ≡ wrong x) ↔ WrongAt e next at t x
 
 -- "Settled frames stand first, ids strictly rising", and after id 255 no further id rises: a settled frame there is wrong at its kind, or at its
 -- length if that is 7 (in the second edition 11), which no other kind has
@@ -122,18 +122,7 @@ lastFault at (b ∷ v) = fault field.Kind (at + 2)
 -- and "of kinds 1 to 4" alone are torn: a cut settled frame is wrong once its kind can be seen, or its length 7 (11)
 pub record SettledWrong (e : Edition) : Type 0 where
   pub after-last : (at : ℕ) (i : ObjectId) (v w rest : List ℕ) → i .0 ≤ idMax → LegalValue v
-      → readFrameIn e (nextAfter (settled (idOf idMax) w)) at (encodeIn e (settled i v) ++ rest) ≡ wrong (lastFault at v)
-  pub cut : (next at : ℕ) (i : ObjectId) (v : List ℕ) (k left : ℕ) → MayStandIn e next (settled i v) → (3 ≤ k) ⊎ ((1 ≤ k) × (v ≡ []))
-      → k < frameLenIn e (settled i v) → frameLenIn e (settled i v) ≤ k + left
-      → (x : Fault) × (readFrameIn e next at (take k (encodeIn e (settled i v)) ++ replicate left 255) ≡ wrong x)
-
--- ---- the first edition
-
-abbrev pub Whole : ℕ → List ℕ → Frame → Type 0
-Whole next t f = WholeIn edition.First next t f
-
-abbrev pub Torn : ℕ → List ℕ → ℕ → Type 0
-Torn next t n = TornIn edition.First next t n
-
-abbrev pub WrongAt : ℕ → ℕ → List ℕ → Fault → Type 0
-WrongAt next at t x = WrongAtIn edition.First next at t x
+      → readFrame e (nextAfter (settled (idOf idMax) w)) at (encode e (settled i v) ++ rest) ≡ wrong (lastFault at v)
+  pub cut : (next at : ℕ) (i : ObjectId) (v : List ℕ) (k left : ℕ) → MayStand e next (settled i v) → (3 ≤ k) ⊎ ((1 ≤ k) × (v ≡ []))
+      → k < frameLen e (settled i v) → frameLen e (settled i v) ≤ k + left
+      → (x : Fault) × (readFrame e next at (take k (encode e (settled i v)) ++ replicate left 255) ≡ wrong x)

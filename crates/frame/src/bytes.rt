@@ -1,20 +1,23 @@
 // A frame's bytes.
 ghost use mathlib.Core.Path.{_≡_};
-ghost use mathlib.Core.List.{[], _∷_, _++_};
+ghost use mathlib.Core.List.{_++_};
 ghost use Prim.Native.Nat.{_+_, _≤_, _<_};
 ghost use lib.ListN.{length, take, drop};
-ghost use Rattle.frame.specs.Frame.{change, commit, abort, settled, put, delete, valueMax, maxFrame, finish, buffer, encode};
+ghost use Rattle.frame.specs.Frame.{change, commit, abort, settled, put, delete, valueMax, bufferLen, checkLen, sealed, buffer, encode};
 ghost use Rattle.frame.specs.Code.{frameOf};
+use crate::BUFFER_LEN;
 use crate::DELETE_LEN;
 use crate::END_LEN;
+use crate::Edition;
 use crate::FINISH;
 use crate::Head;
 use crate::Host;
-use crate::MAX_FRAME;
 use crate::ObjectId;
 use crate::PUT_LEN;
 use crate::SETTLED_LEN;
 use crate::VALUE_MAX;
+use crate::check_len;
+use crc::crc32;
 
 // Copies src to the front of dst.
 fn copy_front(dst: &mut [u8], src: &[u8])
@@ -28,18 +31,40 @@ fn copy_front(dst: &mut [u8], src: &[u8])
     }
 }
 
-// A front, a value and the finish byte, and zeros after them.
-fn assemble(front: &[u8], value: &[u8]) -> [u8; MAX_FRAME]
-    requires { ⌜ length (now front) + length (now value) < maxFrame ⌝ }
-    ensures { λ r. ⌜ r ≡ buffer (now (front .entry) ++ (now (value .entry) ++ (finish ∷ []))) ⌝ }
+// The check and the finish byte after m bytes.
+fn seal(f: [u8; BUFFER_LEN], edition: Edition, m: usize) -> [u8; BUFFER_LEN]
+    requires { ⌜ m + checkLen edition < bufferLen ⌝ }
+    ensures { λ r. ⌜ r ≡ sealed edition (take m f) ++ drop (m + checkLen edition + 1) f ⌝ }
+{
+    let mut g = f;
+    match edition {
+        Edition::First => {
+            g[m] = FINISH;
+            g
+        }
+        Edition::Second => {
+            let c = crc32(&f[..m]);
+            g[m] = (c % 256) as u8;
+            g[m + 1] = (c / 256 % 256) as u8;
+            g[m + 2] = (c / 65536 % 256) as u8;
+            g[m + 3] = (c / 16777216) as u8;
+            g[m + 4] = FINISH;
+            g
+        }
+    }
+}
+
+// A front and a value, their seal, and zeros after it.
+fn assemble(edition: Edition, front: &[u8], value: &[u8]) -> [u8; BUFFER_LEN]
+    requires { ⌜ length (now front) + length (now value) + checkLen edition < bufferLen ⌝ }
+    ensures { λ r. ⌜ r ≡ buffer (sealed edition (now (front .entry) ++ now (value .entry))) ⌝ }
 {
     let a = front.len();
     let n = value.len();
-    let mut f = [0u8; MAX_FRAME];
+    let mut f = [0u8; BUFFER_LEN];
     copy_front(&mut f[..], front);
     copy_front(&mut f[a..], value);
-    f[a + n] = FINISH;
-    f
+    seal(f, edition, a + n)
 }
 
 // As much of a value as a frame holds.
@@ -53,81 +78,61 @@ fn cut(value: &[u8]) -> &[u8]
 }
 
 // A put's bytes.
-fn put_bytes(h: Host, i: ObjectId, v: &[u8]) -> [u8; MAX_FRAME]
+fn put_bytes(edition: Edition, h: Host, i: ObjectId, v: &[u8]) -> [u8; BUFFER_LEN]
     requires { ⌜ length (now v) ≤ valueMax ⌝ }
-    ensures { λ r. ⌜ r ≡ buffer (encode (change h (put i (now (v .entry))))) ⌝ }
+    ensures { λ r. ⌜ r ≡ buffer (encode edition (change h (put i (now (v .entry))))) ⌝ }
 {
-    let front = [
-        PUT_LEN + v.len() as u8,
-        0,
-        1,
-        0,
-        h.0,
-        (i.0 % 256) as u8,
-        (i.0 / 256) as u8,
-    ];
-    assemble(&front, v)
+    let n = PUT_LEN + check_len(edition) + v.len() as u8;
+    let front = [n, 0, 1, 0, h.0, (i.0 % 256) as u8, (i.0 / 256) as u8];
+    assemble(edition, &front, v)
 }
 
 // A delete's bytes. Frames without a value take none of v.
-fn delete_bytes(h: Host, i: ObjectId, v: &[u8]) -> [u8; MAX_FRAME]
-    ensures { λ r. ⌜ r ≡ buffer (encode (change h (delete i))) ⌝ }
+fn delete_bytes(edition: Edition, h: Host, i: ObjectId, v: &[u8]) -> [u8; BUFFER_LEN]
+    ensures { λ r. ⌜ r ≡ buffer (encode edition (change h (delete i))) ⌝ }
 {
-    let front = [
-        DELETE_LEN,
-        0,
-        2,
-        0,
-        h.0,
-        (i.0 % 256) as u8,
-        (i.0 / 256) as u8,
-    ];
-    assemble(&front, &v[..0])
+    let n = DELETE_LEN + check_len(edition);
+    let front = [n, 0, 2, 0, h.0, (i.0 % 256) as u8, (i.0 / 256) as u8];
+    assemble(edition, &front, &v[..0])
 }
 
 // A commit's bytes.
-fn commit_bytes(h: Host, v: &[u8]) -> [u8; MAX_FRAME]
-    ensures { λ r. ⌜ r ≡ buffer (encode (commit h)) ⌝ }
+fn commit_bytes(edition: Edition, h: Host, v: &[u8]) -> [u8; BUFFER_LEN]
+    ensures { λ r. ⌜ r ≡ buffer (encode edition (commit h)) ⌝ }
 {
-    let front = [END_LEN, 0, 3, 0, h.0];
-    assemble(&front, &v[..0])
+    let front = [END_LEN + check_len(edition), 0, 3, 0, h.0];
+    assemble(edition, &front, &v[..0])
 }
 
 // An abort's bytes.
-fn abort_bytes(h: Host, v: &[u8]) -> [u8; MAX_FRAME]
-    ensures { λ r. ⌜ r ≡ buffer (encode (abort h)) ⌝ }
+fn abort_bytes(edition: Edition, h: Host, v: &[u8]) -> [u8; BUFFER_LEN]
+    ensures { λ r. ⌜ r ≡ buffer (encode edition (abort h)) ⌝ }
 {
-    let front = [END_LEN, 0, 4, 0, h.0];
-    assemble(&front, &v[..0])
+    let front = [END_LEN + check_len(edition), 0, 4, 0, h.0];
+    assemble(edition, &front, &v[..0])
 }
 
 // A settled frame's bytes.
-fn settled_bytes(i: ObjectId, v: &[u8]) -> [u8; MAX_FRAME]
+fn settled_bytes(edition: Edition, i: ObjectId, v: &[u8]) -> [u8; BUFFER_LEN]
     requires { ⌜ length (now v) ≤ valueMax ⌝ }
-    ensures { λ r. ⌜ r ≡ buffer (encode (settled i (now (v .entry)))) ⌝ }
+    ensures { λ r. ⌜ r ≡ buffer (encode edition (settled i (now (v .entry)))) ⌝ }
 {
-    let front = [
-        SETTLED_LEN + v.len() as u8,
-        0,
-        5,
-        0,
-        (i.0 % 256) as u8,
-        (i.0 / 256) as u8,
-    ];
-    assemble(&front, v)
+    let n = SETTLED_LEN + check_len(edition) + v.len() as u8;
+    let front = [n, 0, 5, 0, (i.0 % 256) as u8, (i.0 / 256) as u8];
+    assemble(edition, &front, v)
 }
 
 // The frame with this head and this value, of which at most VALUE_MAX bytes are taken, and zeros after it.
 // The head's own count is not looked at.
-pub fn encode_frame(head: Head, value: &[u8]) -> [u8; MAX_FRAME]
-    ensures { λ r. ⌜ r ≡ buffer (encode (frameOf head (take valueMax (now (value .entry))))) ⌝ }
+pub fn encode_frame(edition: Edition, head: Head, value: &[u8]) -> [u8; BUFFER_LEN]
+    ensures { λ r. ⌜ r ≡ buffer (encode edition (frameOf head (take valueMax (now (value .entry))))) ⌝ }
 {
     let v = cut(value);
     match head {
-        Head::Put(h, i, _) => put_bytes(h, i, v),
-        Head::Delete(h, i) => delete_bytes(h, i, v),
-        Head::Commit(h) => commit_bytes(h, v),
-        Head::Abort(h) => abort_bytes(h, v),
-        Head::Settled(i, _) => settled_bytes(i, v),
+        Head::Put(h, i, _) => put_bytes(edition, h, i, v),
+        Head::Delete(h, i) => delete_bytes(edition, h, i, v),
+        Head::Commit(h) => commit_bytes(edition, h, v),
+        Head::Abort(h) => abort_bytes(edition, h, v),
+        Head::Settled(i, _) => settled_bytes(edition, i, v),
     }
 }

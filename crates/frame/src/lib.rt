@@ -1,6 +1,6 @@
 // Frames: what a journal is made of.
 ghost use mathlib.Core.Path.{_≡_};
-ghost use Rattle.frame.specs.Frame.{checkLen};
+ghost use Rattle.frame.specs.Frame.{editionNumber, editionBy, checkLen};
 ghost use Rattle.frame.specs.Code.{headLen, valueLen, valueStart};
 
 mod bytes;
@@ -58,7 +58,7 @@ pub const SETTLED_VALUE_AT: usize = BODY_AT + 2;
 // A frame's last byte.
 pub const FINISH: u8 = 254;
 
-// The lengths by kind, without the value; a commit and an abort are ends.
+// The lengths by kind, without the check and the value; a commit and an abort are ends.
 pub const PUT_LEN: u8 = 8;
 
 pub const DELETE_LEN: u8 = 8;
@@ -67,8 +67,8 @@ pub const END_LEN: u8 = 6;
 
 pub const SETTLED_LEN: u8 = 7;
 
-// The longest frame: a put of the longest value.
-pub const MAX_FRAME: usize = PUT_LEN as usize + VALUE_MAX;
+// The longest frame: a put of the longest value, in the second edition.
+pub const BUFFER_LEN: usize = PUT_LEN as usize + 4 + VALUE_MAX;
 
 // A frame without its value's bytes: how many there are.
 pub enum Head {
@@ -97,16 +97,37 @@ pub fn check_len(edition: Edition) -> u8
     }
 }
 
-// The length of a frame.
-pub fn frame_len(head: Head) -> usize
-    ensures { λ r. ⌜ r ≡ headLen head ⌝ }
+// An edition's number.
+pub fn edition_number(edition: Edition) -> u8
+    ensures { λ r. ⌜ r ≡ editionNumber edition ⌝ }
 {
+    match edition {
+        Edition::First => 1,
+        Edition::Second => 2,
+    }
+}
+
+// The edition that has a number: 2 is the second's, any other the first's.
+pub fn edition_by(n: u8) -> Edition
+    ensures { λ r. ⌜ r ≡ editionBy n ⌝ }
+{
+    if n == 2 {
+        return Edition::Second;
+    }
+    Edition::First
+}
+
+// The length of a frame.
+pub fn frame_len(edition: Edition, head: Head) -> usize
+    ensures { λ r. ⌜ r ≡ headLen edition head ⌝ }
+{
+    let check = check_len(edition) as usize;
     match head {
-        Head::Put(_, _, n) => PUT_LEN as usize + n as usize,
-        Head::Delete(_, _) => DELETE_LEN as usize,
-        Head::Commit(_) => END_LEN as usize,
-        Head::Abort(_) => END_LEN as usize,
-        Head::Settled(_, n) => SETTLED_LEN as usize + n as usize,
+        Head::Put(_, _, n) => PUT_LEN as usize + check + n as usize,
+        Head::Delete(_, _) => DELETE_LEN as usize + check,
+        Head::Commit(_) => END_LEN as usize + check,
+        Head::Abort(_) => END_LEN as usize + check,
+        Head::Settled(_, n) => SETTLED_LEN as usize + check + n as usize,
     }
 }
 

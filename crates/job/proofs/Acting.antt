@@ -4,13 +4,14 @@ use mathlib.Core.List.{List}
 use mathlib.Core.Bool.{Bool, true, false, _&&_, cond}
 use Prim.Native.Nat.{ℕ, zero, suc, _+_, _*_, _<_, _≤_}
 use native.Mathlib.Omega.{arith}
-use native.Mathlib.Nat.{mul-le-mul-right}
 use lib.Dec.{eqb, ltb}
 use borrow.Author.Tests.{eqb-true, ltb-true}
 use Rattle.flash.specs.Flash.{Step, apply, maxBlocks, isCount, sizeIn, sizeOf, within, blockOf, offsetOf, write, writes}
 use Rattle.flash.proofs.Cases.{and-left, and-right, between}
 use Rattle.flash.proofs.Image.{blocks-le}
 use Rattle.flash.proofs.Sizes.{size-within, size-half}
+use Rattle.frame.specs.declared.Edition.{Edition}
+use Rattle.frame.specs.declared.Edition.the-variants as edition
 use Rattle.journal.specs.Block.{openWrite, sealWrite, stateAt, inTransfer, validData}
 use Rattle.board.specs.declared.Rest.{Rest}
 use Rattle.board.specs.Record.{idle}
@@ -66,14 +67,20 @@ did-it N x img e = (sym e, sym (ap (λ (b : Bool). cond b (apply (sizeOf N img) 
 
 -- ---- the writes of a header
 
-pub open-rest : (i : ℕ) → (i ≡ 1 → ⊥) → (i ≡ 2 → ⊥) → (i ≡ 3 → ⊥) → (i ≡ 4 → ⊥) → write stateAt inTransfer ≡ openWrite i
+-- the kind's high byte is that of either edition
+pub open-high : (ed : Edition) → write 3 0x4A ≡ openWrite ed 4
 unfolding writes
-open-rest zero a b c d = refl
-open-rest (suc zero) a b c d = absurd (a refl)
-open-rest (suc (suc zero)) a b c d = absurd (b refl)
-open-rest (suc (suc (suc zero))) a b c d = absurd (c refl)
-open-rest (suc (suc (suc (suc zero)))) a b c d = absurd (d refl)
-open-rest (suc (suc (suc (suc (suc i))))) a b c d = refl
+open-high edition.First = refl
+open-high edition.Second = refl
+
+pub open-rest : (ed : Edition) (i : ℕ) → (i ≡ 1 → ⊥) → (i ≡ 2 → ⊥) → (i ≡ 3 → ⊥) → (i ≡ 4 → ⊥) → write stateAt inTransfer ≡ openWrite ed i
+unfolding writes
+open-rest ed zero a b c d = refl
+open-rest ed (suc zero) a b c d = absurd (a refl)
+open-rest ed (suc (suc zero)) a b c d = absurd (b refl)
+open-rest ed (suc (suc (suc zero))) a b c d = absurd (c refl)
+open-rest ed (suc (suc (suc (suc zero)))) a b c d = absurd (d refl)
+open-rest ed (suc (suc (suc (suc (suc i))))) a b c d = refl
 
 pub seal-rest : (time i : ℕ) → (i ≡ 0 → ⊥) → (i ≡ 1 → ⊥) → (i ≡ 2 → ⊥) → (i ≡ 3 → ⊥) → write stateAt validData ≡ sealWrite time i
 unfolding writes

@@ -6,9 +6,10 @@ use native.Mathlib.Omega.{arith}
 use lib.ListN.{length, take, drop, length-take, length-drop}
 use lib.Seq.{take-all}
 use Rattle.flash.specs.Flash.{block, sizeOf}
-use Rattle.frame.specs.Frame.{valueMax, encode, buffer}
+use Rattle.frame.specs.declared.Edition.{Edition}
+use Rattle.frame.specs.Frame.{valueMax, editionBy, encode, buffer}
 use Rattle.frame.specs.Code.{frameOf, headLen, valueLen}
-use Rattle.frame.proofs.First.{len-of}
+use Rattle.frame.proofs.Heads.{len-of}
 use Rattle.fetch.specs.declared.Fetch.{Fetch}
 use Rattle.fetch.specs.declared.Fetched.{Fetched}
 use Rattle.fetch.specs.declared.Fetched.the-variants as fetched
@@ -16,7 +17,7 @@ use Rattle.journal.specs.Index.{nextLoad}
 use Rattle.fetch.specs.Fetch.{loadIn, loadOf}
 use Rattle.board.specs.declared.Stage.the-variants.{Copy, Seal}
 use Rattle.board.specs.declared.Record.{Record}
-use Rattle.board.specs.Record.{cursor}
+use Rattle.board.specs.Record.{cursor, readsIn}
 use Rattle.board.specs.Step.{enter, loaded, enterCopy}
 use Rattle.board.proofs.Outcomes.{nextFor, copy-loads, copy-ends}
 use Rattle.job.specs.declared.records.Numbers.{Numbers}
@@ -25,30 +26,33 @@ use Rattle.job.specs.Code.{assemble, staged, going, LeadsTo}
 -- ---- a frame by its head
 
 pub load-leaves : (b : List ℕ) (x : Fetch) (n : Numbers) → x .value + valueLen (x .head) ≤ length b → valueLen (x .head) ≤ valueMax →
-    (e z : ℕ) (bytes : List ℕ)
-    → e ≡ x .value + valueLen (x .head) → bytes ≡ buffer (encode (frameOf (x .head) (take valueMax (take (e - x .value) (drop (x .value) b)))))
-    → z ≡ headLen (x .head) → (p u f : List ℕ)
+    (ed : Edition) (e z : ℕ) (bytes : List ℕ) → ed ≡ editionBy (n .job .edition)
+    → e ≡ x .value + valueLen (x .head) → bytes ≡ buffer (encode ed (frameOf (x .head) (take valueMax (take (e - x .value) (drop (x .value) b)))))
+    → z ≡ headLen ed (x .head) → (p u f : List ℕ)
     → LeadsTo p bytes f (going Copy (cursor 0 (n .cursor .at) (x .id) (x .source) z 0) n) (loaded (assemble n p u f) (loadIn b x))
-load-leaves b x n fits small e z bytes end made size p u f =
+load-leaves b x n fits small ed e z bytes is end made size p u f =
     let k : e - x .value ≡ valueLen (x .head) = omega arith in
     let v : List ℕ = take (valueLen (x .head)) (drop (x .value) b) in
     let l : length v ≡ valueLen (x .head) = simp (length-take, length-drop) (omega arith) in
-    let w : bytes ≡ buffer (encode (frameOf (x .head) v)) =
-    made ∙ ap (λ (i : ℕ). buffer (encode (frameOf (x .head) (take valueMax (take i (drop (x .value) b)))))) k
-    ∙ ap (λ (y : List ℕ). buffer (encode (frameOf (x .head) y))) (take-all valueMax v (omega arith)) in
+    let w : bytes ≡ buffer (encode (editionBy (n .job .edition)) (frameOf (x .head) v)) =
+    made ∙ ap₂ (λ (d : Edition) (i : ℕ). buffer (encode d (frameOf (x .head) (take valueMax (take i (drop (x .value) b)))))) is k
+    ∙ ap (λ (y : List ℕ). buffer (encode (editionBy (n .job .edition)) (frameOf (x .head) y))) (take-all valueMax v (omega arith)) in
     record {
       answers = refl;
       goes = λ e. refl;
       gives = ap₂ (λ (i : ℕ) (y : List ℕ). assemble (staged Copy (cursor 0 (n .cursor .at) (x .id) (x .source) i 0) n) p y f)
-          (size ∙ len-of (x .head) v l) w;
+          (size ∙ ap (λ (d : Edition). headLen d (x .head)) is ∙ len-of (editionBy (n .job .edition)) (x .head) v l) w;
     }
 
 -- ---- what was found is what the record has next
 
-module _ (N : ℕ) (img : List ℕ) (r : Record) (b : List ℕ) (same : b ≡ block (sizeOf N img) (r .rest .block) img) (x : Fetched)
-    (found : loadOf b x ≡ nextLoad b (r .rest .end) (r .places) (r .job .since) (r .cursor .id) (r .cursor .source)) where
+module _ (N : ℕ) (img : List ℕ) (r : Record) (b : List ℕ) (same : b ≡ block (sizeOf N img) (r .rest .block) img) (ed : Edition)
+    (is : ed ≡ readsIn r) (x : Fetched)
+    (found : loadOf b x ≡ nextLoad ed b (r .rest .end) (r .places) (r .job .since) (r .cursor .id) (r .cursor .source)) where
   next-is : nextFor N img r ≡ loadOf b x
-  next-is = ap (λ (y : List ℕ). nextLoad y (r .rest .end) (r .places) (r .job .since) (r .cursor .id) (r .cursor .source)) (sym same) ∙ sym found
+  next-is =
+      ap₂ (λ (d : Edition) (y : List ℕ). nextLoad d y (r .rest .end) (r .places) (r .job .since) (r .cursor .id) (r .cursor .source)) (sym is) (sym same)
+      ∙ sym found
 
   pub frame-found : (y : Fetch) → x ≡ fetched.Frame y → loaded r (loadIn b y) ≡ enterCopy N img r
   frame-found y e = sym (copy-loads N img r (loadIn b y) (next-is ∙ ap (loadOf b) e))

@@ -6,6 +6,7 @@ use Prim.Native.Nat.{ℕ, suc, _+_}
 use lib.Dec.{ltb}
 use lib.ListN.{getD}
 use Rattle.flash.specs.Flash.{Step, program, erase, apply, sizeIn, sizeOf, within, writeStep}
+use Rattle.frame.specs.Frame.{editionBy}
 use Rattle.journal.specs.Block.{openWrite, sealWrite}
 use Rattle.wire.specs.declared.Answer.{Answer}
 use Rattle.wire.specs.declared.Answer.the-variants.{Done, More}
@@ -107,7 +108,7 @@ goAppend n = cond (ltb 0 (n .job .size)) (going Append (first (n .cursor)) n) (o
 -- the block that was made is the current one
 abbrev pub landedOn : Numbers → Numbers
 landedOn n =
-    record { phase = n .phase; rest = landing (n .rest) (n .job .target) (n .cursor .at); job = n .job; cursor = n .cursor }
+    record { phase = n .phase; rest = landing (n .rest) (n .job .edition) (n .job .target) (n .cursor .at); job = n .job; cursor = n .cursor }
 
 unfoldable pub goDrop : Numbers → Stepped
 goDrop n = cond (n .job .drops) (going Drop (first (n .cursor)) n) (goAppend (landedOn n))
@@ -136,7 +137,7 @@ flashStep (action.Erase k) = erase k
 -- the flash step that a job does next, by the byte in hand
 abbrev pub actionBy : Stage → Numbers → ℕ → Step
 actionBy Wipe n b = erase (getD (n .job .wipe) (n .cursor .index) 0)
-actionBy Open n b = writeStep (n .job .target) (openWrite (n .cursor .index))
+actionBy Open n b = writeStep (n .job .target) (openWrite (editionBy (n .job .edition)) (n .cursor .index))
 actionBy Copy n b = program (n .job .target) (n .cursor .at) b
 actionBy Seal n b = writeStep (n .job .target) (sealWrite (n .job .time) (n .cursor .index))
 actionBy Drop n b = erase (n .rest .block)

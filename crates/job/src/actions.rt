@@ -4,7 +4,8 @@ ghost use mathlib.Core.Bool.{_&&_};
 ghost use lib.Dec.{ltb};
 ghost use lib.ListN.{getD};
 ghost use Rattle.flash.specs.Flash.{program, erase, isCount, sizeOf, within, writeStep};
-ghost use Rattle.journal.specs.Block.{openWrite, sealWrite};
+ghost use Rattle.journal.specs.Block.{headerKind, openWrite, sealWrite};
+ghost use Prim.Native.Nat.{_%_};
 ghost use Rattle.board.specs.Record.{idle};
 ghost use Rattle.board.specs.Step.{sameShape};
 ghost use Rattle.job.specs.Code.{actionBy, flashStep, takes, did};
@@ -14,6 +15,7 @@ use crate::records::Numbers;
 use board::Rest;
 use board::Stage;
 use flash::MAX_BLOCKS;
+use frame::Edition;
 use journal::IN_TRANSFER;
 use journal::STATE_AT;
 use journal::TIME_AT;
@@ -36,14 +38,24 @@ fn wiped(wipe: [u8; MAX_BLOCKS], i: u8) -> u8
     0
 }
 
+// The low byte of a header's kind.
+fn kind_low(edition: Edition) -> u8
+    ensures { λ r. ⌜ r ≡ headerKind edition % 256 ⌝ }
+{
+    match edition {
+        Edition::First => 0x01,
+        Edition::Second => 0x02,
+    }
+}
+
 // A write that opens a block: its state byte, then the header's first four.
-fn open_action(target: u8, i: u8) -> Action
-    ensures { λ r. ⌜ flashStep r ≡ writeStep target (openWrite i) ⌝ }
+fn open_action(edition: Edition, target: u8, i: u8) -> Action
+    ensures { λ r. ⌜ flashStep r ≡ writeStep target (openWrite edition i) ⌝ }
 {
     match i {
         1 => return Action::Program(target, 0, header::LENGTH),
         2 => return Action::Program(target, 1, 0x00),
-        3 => return Action::Program(target, frame::KIND_AT, 0x01),
+        3 => return Action::Program(target, frame::KIND_AT, kind_low(edition)),
         4 => return Action::Program(target, header::KIND_HIGH_AT, 0x4A),
         _ => return Action::Program(target, STATE_AT, IN_TRANSFER),
     }
@@ -75,7 +87,9 @@ pub fn next_action(stage: Stage, n: Numbers, byte: u8) -> Action
             let wipe = job.wipe;
             return Action::Erase(wiped(wipe, cursor.index));
         }
-        Stage::Open => return open_action(job.target, cursor.index),
+        Stage::Open => {
+            return open_action(frame::edition_by(job.edition), job.target, cursor.index);
+        }
         Stage::Copy => return Action::Program(job.target, cursor.at as usize, byte),
         Stage::Seal => return seal_action(job.target, job.time, cursor.index),
         Stage::Drop => return Action::Erase(rest.block),

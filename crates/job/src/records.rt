@@ -12,7 +12,7 @@ use board::Record;
 use board::Rest;
 use board::Stage;
 use flash::MAX_BLOCKS;
-use frame::MAX_FRAME;
+use frame::BUFFER_LEN;
 use journal::HEADER_LEN;
 use wire::Answer;
 
@@ -44,10 +44,10 @@ pub fn no_places() -> [u16; 256]
     [0; 256]
 }
 
-pub fn no_frame() -> [u8; MAX_FRAME]
+pub fn no_frame() -> [u8; BUFFER_LEN]
     ensures { λ r. ⌜ r ≡ noFrame ⌝ }
 {
-    [0; MAX_FRAME]
+    [0; BUFFER_LEN]
 }
 
 pub fn no_job() -> Job
@@ -62,6 +62,7 @@ pub fn no_job() -> Job
         time: 0,
         since: [0; 4],
         size: 0,
+        edition: 0,
     }
 }
 
@@ -79,8 +80,8 @@ fn no_cursor() -> Cursor
 }
 
 // Where a record stands, with nothing pending.
-pub fn standing(blocks: u8, last: u16, block: u8, end: u16) -> Rest
-    ensures { λ r. ⌜ r ≡ boards.rest blocks last block end ⌝ }
+pub fn standing(blocks: u8, last: u16, block: u8, end: u16, edition: u8) -> Rest
+    ensures { λ r. ⌜ r ≡ boards.rest blocks last block end edition ⌝ }
 {
     Rest {
         blocks: blocks,
@@ -88,6 +89,7 @@ pub fn standing(blocks: u8, last: u16, block: u8, end: u16) -> Rest
         block: block,
         end: end,
         pending: [0; 4],
+        edition: edition,
     }
 }
 
@@ -107,7 +109,7 @@ fn resting(phase: Phase, rest: Rest) -> Record
 pub fn unmounted() -> Record
     ensures { λ r. ⌜ r ≡ unmounted ⌝ }
 {
-    resting(Phase::Unmounted, standing(0, 0, 0, 0))
+    resting(Phase::Unmounted, standing(0, 0, 0, 0, 0))
 }
 
 pub fn idle(rest: Rest) -> Record
@@ -150,8 +152,8 @@ pub fn numbers_of(board: Record) -> Numbers
 pub fn assemble(
     n: Numbers,
     places: [u16; 256],
-    unit: [u8; MAX_FRAME],
-    frame: [u8; MAX_FRAME],
+    unit: [u8; BUFFER_LEN],
+    frame: [u8; BUFFER_LEN],
 ) -> Record
     ensures { λ r. ⌜ r ≡ assemble n places unit frame ⌝ }
 {
@@ -174,8 +176,8 @@ pub fn assemble(
 pub fn give_back(
     s: Stepped,
     places: [u16; 256],
-    unit: [u8; MAX_FRAME],
-    frame: [u8; MAX_FRAME],
+    unit: [u8; BUFFER_LEN],
+    frame: [u8; BUFFER_LEN],
 ) -> Outcome
     ensures { λ r. ⌜ r ≡ outcome (s .answer) (leaves s places unit frame) ⌝ }
 {
@@ -293,6 +295,7 @@ pub fn landed(n: Numbers) -> Numbers
     let mut rest = n.rest;
     rest.block = job.target;
     rest.end = cursor.at;
+    rest.edition = job.edition;
     Numbers {
         phase: phase,
         rest: rest,

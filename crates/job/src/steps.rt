@@ -26,12 +26,12 @@ use board::Record;
 use board::Stage;
 use fetch::Fetch;
 use fetch::Fetched;
-use frame::MAX_FRAME;
+use frame::BUFFER_LEN;
 use wire::Answer;
 use wire::Refusal;
 
 // A frame to copy is put into the buffer.
-fn load(source: &[u8], fetch: Fetch, n: Numbers, unit: &mut [u8; MAX_FRAME]) -> Stepped
+fn load(source: &[u8], fetch: Fetch, n: Numbers, unit: &mut [u8; BUFFER_LEN]) -> Stepped
     requires { ⌜ (fetch .value + valueLen (fetch .head) ≤ length (now source)) × (valueLen (fetch .head) ≤ valueMax) ⌝ }
     ensures { λ r. ⌜ ((p f : List ℕ) → LeadsTo p (now (unit .exit)) f r
         (loaded (assemble n p (now (unit .entry)) f) (loadIn (now (source .entry)) fetch))) ⌝ }
@@ -39,7 +39,9 @@ fn load(source: &[u8], fetch: Fetch, n: Numbers, unit: &mut [u8; MAX_FRAME]) -> 
     let head = fetch.head;
     let start = fetch.value;
     let end = start + frame::value_len(head);
-    let bytes = frame::encode_frame(head, &source[start..end]);
+    let job = n.job;
+    let edition = frame::edition_by(job.edition);
+    let bytes = frame::encode_frame(edition, head, &source[start..end]);
     *unit = bytes;
     let c = n.cursor;
     let next = Cursor {
@@ -47,7 +49,7 @@ fn load(source: &[u8], fetch: Fetch, n: Numbers, unit: &mut [u8; MAX_FRAME]) -> 
         at: c.at,
         id: fetch.id,
         source: fetch.source,
-        size: frame::frame_len(head) as u8,
+        size: frame::frame_len(edition, head) as u8,
         off: 0,
     };
     records::going(Stage::Copy, next, n)
@@ -59,7 +61,7 @@ pub fn enter_copy(
     blocks: u8,
     n: Numbers,
     places: &[u16; 256],
-    unit: &mut [u8; MAX_FRAME],
+    unit: &mut [u8; BUFFER_LEN],
 ) -> Stepped
     ensures { λ r. ⌜ ((f : List ℕ) → LeadsTo (now (places .entry)) (now (unit .exit)) f r
         (enterCopy blocks (now (image .entry)) (assemble n (now (places .entry)) (now (unit .entry)) f))) ⌝ }
@@ -70,7 +72,16 @@ pub fn enter_copy(
     let rest = n.rest;
     let size = flash::size_of(blocks, image.len());
     let source = flash::block_of(image, size, rest.block);
-    match fetch::next_load(source, rest.end, places, since, cursor.id, cursor.source) {
+    let edition = frame::edition_by(rest.edition);
+    match fetch::next_load(
+        source,
+        edition,
+        rest.end,
+        places,
+        since,
+        cursor.id,
+        cursor.source,
+    ) {
         Fetched::Frame(fetch) => return load(source, fetch, n, unit),
         Fetched::Nothing => return records::enter(Stage::Seal, n),
     }
@@ -151,7 +162,7 @@ pub fn made_of(len: usize, blocks: u8, n: Numbers) -> Moved
 // ---- with the record's arrays
 
 // The byte that the next step programs, of the frame that is copied or appended.
-pub fn in_hand(n: Numbers, unit: &[u8; MAX_FRAME], frame: &[u8; MAX_FRAME]) -> u8
+pub fn in_hand(n: Numbers, unit: &[u8; BUFFER_LEN], frame: &[u8; BUFFER_LEN]) -> u8
     ensures { λ r. ⌜ r ≡ inHand n (now (unit .entry)) (now (frame .entry)) ⌝ }
 {
     let phase = n.phase;
@@ -176,7 +187,7 @@ pub fn load_due(
     blocks: u8,
     m: Moved,
     places: &[u16; 256],
-    unit: &mut [u8; MAX_FRAME],
+    unit: &mut [u8; BUFFER_LEN],
 ) -> Stepped
     ensures { λ r. ⌜ Loads blocks (now (image .entry)) (now (places .entry)) (now (unit .entry)) m r (now (unit .exit)) ⌝ }
 {
@@ -194,8 +205,8 @@ pub fn step_core(
     blocks: u8,
     n: Numbers,
     places: &[u16; 256],
-    unit: &mut [u8; MAX_FRAME],
-    frame: &[u8; MAX_FRAME],
+    unit: &mut [u8; BUFFER_LEN],
+    frame: &[u8; BUFFER_LEN],
 ) -> Stepped
     ensures { λ r. ⌜ Steps (r .answer) (r .ended) (leaves r (now (places .entry)) (now (unit .exit)) (now (frame .entry))) (now (image .exit))
         (stepOn blocks (now (image .entry)) (assemble n (now (places .entry)) (now (unit .entry)) (now (frame .entry)))) ⌝ }

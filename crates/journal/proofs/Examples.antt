@@ -3,16 +3,17 @@ use mathlib.Core.Path.{refl}
 use Rattle.flash.specs.Bytes.{allFF, sameBytes}
 use Rattle.flash.specs.Flash.{writes, writeAll}
 use Rattle.flash.proofs.Raising.{raises-raised}
+use Rattle.frame.specs.declared.Edition.the-variants as edition
 use Rattle.frame.specs.Frame.{encodeAll, total}
-use Rattle.frame.specs.Reader.{match, readFrame, scan}
+use Rattle.frame.specs.Reader.{match, hostLayout, layoutOf, readFrame, scan}
 use Rattle.journal.specs.Replay.{insert, remove, lookup, changeAll, listOf, without, isOpen, replayFrom}
-use Rattle.journal.specs.Block.{validData, header, headerFault, blockState}
+use Rattle.journal.specs.Block.{validData, header, editionIn, headerFault, blockState}
 use Rattle.journal.specs.Room.{noRoom}
 use Rattle.journal.specs.Examples.{three, Examples}
 
 pub examples : Examples
 unfolding three writes writeAll encodeAll total insert remove lookup changeAll listOf without isOpen replayFrom noRoom
-    allFF sameBytes match readFrame scan headerFault blockState
+    allFF sameBytes match hostLayout layoutOf readFrame scan editionIn headerFault blockState
 examples =
     record {
       row-a = refl;
@@ -21,7 +22,7 @@ examples =
       row-k-accepted = refl;
       one-commit = refl;
       mount-drops = refl;
-      half-erased = raises-raised (header 3 validData) (header 2 validData) refl;
+      half-erased = raises-raised (header edition.First 3 validData) (header edition.First 2 validData) refl;
       was-valid = refl;
       reads-valid = refl;
     }

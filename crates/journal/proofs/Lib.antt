@@ -13,6 +13,7 @@ pub mod Faults  -- where a foreign block is wrong: for Sentences
 pub mod States  -- what a block's state says of its bytes: for board, store
 pub mod Sentences  -- document 01's sentence on the states of a half, a theorem to read: for Raising
 pub mod Raising  -- document 02's sentence on a half whose erase was cut, and what stays harmless: for board
+pub mod Before  -- the store before K9 and blocks of edition 2, a theorem to read
 pub mod Building  -- a block made write by write: for board
 -- ---- places: where values and pending frames stand
 pub mod Places  -- a place holds its value: for the files below, board, store

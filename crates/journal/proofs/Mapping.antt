@@ -7,6 +7,7 @@ use native.Mathlib.Omega.{arith}
 use lib.Dec.{eqb}
 use borrow.Author.Tests.{eqb-true}
 use Rattle.flash.proofs.Cases.{on-test, on-order}
+use Rattle.frame.specs.declared.Edition.{Edition}
 use Rattle.frame.specs.declared.Host.{Host}
 use Rattle.frame.specs.declared.ObjectId.{ObjectId}
 use Rattle.frame.specs.Frame.{idOf, ChangeOf, put, delete, FrameOf, Frame, change, commit, abort, settled, mapChange, mapFrame, frameLen, total}
@@ -206,32 +207,32 @@ by-holder H P val y (settled i v) k = y settledAs i v k
 
 -- ---- frames whose values are made of their offset and bytes
 
-unfoldable pub located : {A : Type 0} → (ℕ → List ℕ → A) → ℕ → List Frame → List (FrameOf A)
-located val o [] = []
-located val o (f ∷ fs) = mapFrame (val o) f ∷ located val (o + frameLen f) fs
+unfoldable pub located : (ed : Edition) {A : Type 0} → (ℕ → List ℕ → A) → ℕ → List Frame → List (FrameOf A)
+located ed val o [] = []
+located ed val o (f ∷ fs) = mapFrame (val o) f ∷ located ed val (o + frameLen ed f) fs
 
-pub located-sited : (o : ℕ) (fs : List Frame) → sited o fs ≡ located (λ p v. p) o fs
+pub located-sited : (ed : Edition) (o : ℕ) (fs : List Frame) → sited ed o fs ≡ located ed (λ p v. p) o fs
 unfolding sited located
-located-sited o [] = refl
-located-sited o (f ∷ fs) = ap (λ (x : List (FrameOf ℕ)). mapFrame (λ v. o) f ∷ x) (located-sited (o + frameLen f) fs)
+located-sited ed o [] = refl
+located-sited ed o (f ∷ fs) = ap (λ (x : List (FrameOf ℕ)). mapFrame (λ v. o) f ∷ x) (located-sited ed (o + frameLen ed f) fs)
 
-pub located-plain : (o : ℕ) (fs : List Frame) → fs ≡ located (λ p v. v) o fs
+pub located-plain : (ed : Edition) (o : ℕ) (fs : List Frame) → fs ≡ located ed (λ p v. v) o fs
 unfolding located
-located-plain o [] = refl
-located-plain o (f ∷ fs) = ap₂ (λ (x : Frame) (y : List Frame). x ∷ y) (sym (map-plain f)) (located-plain (o + frameLen f) fs)
+located-plain ed o [] = refl
+located-plain ed o (f ∷ fs) = ap₂ (λ (x : Frame) (y : List Frame). x ∷ y) (sym (map-plain f)) (located-plain ed (o + frameLen ed f) fs)
 
-pub located-map : {A B : Type 0} (g : A → B) (val : ℕ → List ℕ → A) (o : ℕ) (fs : List Frame)
-    → located (λ p v. g (val p v)) o fs ≡ map (mapFrame g) (located val o fs)
+pub located-map : (ed : Edition) {A B : Type 0} (g : A → B) (val : ℕ → List ℕ → A) (o : ℕ) (fs : List Frame)
+    → located ed (λ p v. g (val p v)) o fs ≡ map (mapFrame g) (located ed val o fs)
 unfolding located
-located-map g val o [] = refl
-located-map {B} g val o (f ∷ fs) =
-    ap₂ (λ (x : FrameOf B) (y : List (FrameOf B)). x ∷ y) (sym (map-twice g (val o) f)) (located-map g val (o + frameLen f) fs)
+located-map ed g val o [] = refl
+located-map ed {B} g val o (f ∷ fs) =
+    ap₂ (λ (x : FrameOf B) (y : List (FrameOf B)). x ∷ y) (sym (map-twice g (val o) f)) (located-map ed g val (o + frameLen ed f) fs)
 
-pub located-snoc : {A : Type 0} (val : ℕ → List ℕ → A) (o : ℕ) (fs : List Frame) (f : Frame)
-    → located val o (fs ++ (f ∷ [])) ≡ located val o fs ++ (mapFrame (val (o + total fs)) f ∷ [])
+pub located-snoc : (ed : Edition) {A : Type 0} (val : ℕ → List ℕ → A) (o : ℕ) (fs : List Frame) (f : Frame)
+    → located ed val o (fs ++ (f ∷ [])) ≡ located ed val o fs ++ (mapFrame (val (o + total ed fs)) f ∷ [])
 unfolding located total
-located-snoc {A} val o [] f = let e : o ≡ o + 0 = omega arith in ap (λ (x : ℕ). mapFrame (val x) f ∷ []) e
-located-snoc {A} val o (g ∷ fs) f =
-    let e : o + frameLen g + total fs ≡ o + (frameLen g + total fs) = omega arith in
+located-snoc ed {A} val o [] f = let e : o ≡ o + 0 = omega arith in ap (λ (x : ℕ). mapFrame (val x) f ∷ []) e
+located-snoc ed {A} val o (g ∷ fs) f =
+    let e : o + frameLen ed g + total ed fs ≡ o + (frameLen ed g + total ed fs) = omega arith in
     ap (λ (x : List (FrameOf A)). mapFrame (val o) g ∷ x)
-    (located-snoc val (o + frameLen g) fs f ∙ ap (λ (x : ℕ). located val (o + frameLen g) fs ++ (mapFrame (val x) f ∷ [])) e)
+    (located-snoc ed val (o + frameLen ed g) fs f ∙ ap (λ (x : ℕ). located ed val (o + frameLen ed g) fs ++ (mapFrame (val x) f ∷ [])) e)

@@ -10,13 +10,16 @@ use lib.ListN.{length, getD, length-append, length-map}
 use lib.Seq.{getD-append-add}
 use borrow.Author.Tests.{eq-eqb, ne-eqb, eqb-true, eqb-false, ltb-true, lt-ltb}
 use Rattle.flash.proofs.Cases.{on-test, clash}
+use Rattle.frame.specs.declared.Edition.{Edition}
+use Rattle.frame.specs.declared.Edition.the-variants as edition
 use Rattle.frame.specs.declared.Host.{Host}
 use Rattle.frame.specs.declared.ObjectId.{ObjectId}
-use Rattle.frame.specs.Frame.{hostOf, Change, put, delete, Frame, change, commit, abort, settled, MayStand, AllMayStand, nextAfter, nextOf, frameLen, total}
+use Rattle.frame.specs.Frame.{hostOf, Change, put, delete, Frame, change, commit, abort, settled, MayStand, AllMayStand, nextAfter, nextOf}
+use Rattle.frame.specs.Frame.{checkLen, frameLen, total}
 use Rattle.journal.specs.Replay.{Object, object, Entry, entry, State, state, lookup, changeAll, listOf, without, isOpen, replayFrom}
 use Rattle.journal.specs.Replay.{replay, settledFrame, pendingFrame, framesOf}
 use Rattle.journal.specs.Room.{one, openHosts, pendingFor, hostFull}
-use Rattle.journal.specs.Laws.{RisesFrom, Applied, then, ReplayLaws, OrderLaws, settledBytes, changeBytes, pendingBytes, changesBytes}
+use Rattle.journal.specs.Laws.{RisesFrom, Applied, then, ReplayLaws, OrderLaws, byEdition, settledBytes, changeBytes, pendingBytes, changesBytes}
 use Rattle.journal.specs.Laws.{UsedExact, PendingExact, FramesExact}
 use Rattle.journal.proofs.Lookups.{lookup-yes, lookup-no}
 use Rattle.journal.proofs.Lists.{list-own, list-other, list-snoc, list-snoc-other, not-open, open-none, without-none, open-snoc, open-snoc-other}
@@ -26,9 +29,9 @@ use Rattle.journal.proofs.ObjectLaws.{applied}
 
 -- ---- settled frames
 
-rising-rises : (n : ℕ) (os : List Object) (hi : ℕ) → Rising n os hi → RisesFrom n os
-rising-rises n [] hi r = tt
-rising-rises n (o ∷ os) hi ((a, b, c), r) = (a, rising-rises (suc (o .id .0)) os hi r)
+rising-rises : (ed : Edition) (n : ℕ) (os : List Object) (hi : ℕ) → Rising ed n os hi → RisesFrom n os
+rising-rises ed n [] hi r = tt
+rising-rises ed n (o ∷ os) hi ((a, b, c), r) = (a, rising-rises ed (suc (o .id .0)) os hi r)
 
 lookup-last : (i : ObjectId) (v : List ℕ) (os : List Object) → lookup i os ≡ none → lookup i (os ++ (object i v ∷ [])) ≡ some v
 unfolding lookup
@@ -47,18 +50,18 @@ lookup-before i j v (o ∷ os) n =
     (λ t. lookup-no i o (os ++ (object j v ∷ [])) t ∙ lookup-before i j v os n ∙ sym (lookup-no i o os t))
 
 -- legal frames and one more: those before it, and where it stands
-stands-before : (n : ℕ) (fs : List Frame) (f : Frame) → AllMayStand n (then fs f) → AllMayStand n fs
-stands-before n [] f g = tt
-stands-before n (x ∷ fs) f (g, gs) = (g, stands-before (nextAfter x) fs f gs)
+stands-before : (ed : Edition) (n : ℕ) (fs : List Frame) (f : Frame) → AllMayStand ed n (then fs f) → AllMayStand ed n fs
+stands-before ed n [] f g = tt
+stands-before ed n (x ∷ fs) f (g, gs) = (g, stands-before ed (nextAfter x) fs f gs)
 
-stands-last : (n : ℕ) (fs : List Frame) (f : Frame) → AllMayStand n (then fs f) → MayStand (nextOf n fs) f
-stands-last n [] f (g, gs) = g
-stands-last n (x ∷ fs) f (g, gs) = stands-last (nextAfter x) fs f gs
+stands-last : (ed : Edition) (n : ℕ) (fs : List Frame) (f : Frame) → AllMayStand ed n (then fs f) → MayStand ed (nextOf n fs) f
+stands-last ed n [] f (g, gs) = g
+stands-last ed n (x ∷ fs) f (g, gs) = stands-last ed (nextAfter x) fs f gs
 
-settled-new : (fs : List Frame) (i : ObjectId) (v : List ℕ) → AllMayStand 0 (then fs (settled i v)) → lookup i (replay fs .objects) ≡ none
-settled-new fs i v g =
-    above-none i 0 (replay fs .objects) (nextOf 0 fs) (stands-last 0 fs (settled i v) g .0)
-    (sound-replay fs (stands-before 0 fs (settled i v) g) .rising)
+settled-new : (ed : Edition) (fs : List Frame) (i : ObjectId) (v : List ℕ) → AllMayStand ed 0 (then fs (settled i v)) → lookup i (replay fs .objects) ≡ none
+settled-new ed fs i v g =
+    above-none ed i 0 (replay fs .objects) (nextOf 0 fs) (stands-last ed 0 fs (settled i v) g .0)
+    (sound-replay ed fs (stands-before ed 0 fs (settled i v) g) .rising)
 
 -- ---- one frame more
 
@@ -95,9 +98,9 @@ unfolding replayFrom
 replay-laws =
     record {
       nothing = refl;
-      rises = λ fs g. rising-rises 0 (replay fs .objects) (nextOf 0 fs) (sound-replay fs g .rising);
-      settled-own = λ fs i v g.
-          ap (λ (s : State). lookup i (s .objects)) (after-settled fs i v) ∙ lookup-last i v (replay fs .objects) (settled-new fs i v g);
+      rises = λ ed fs g. rising-rises ed 0 (replay fs .objects) (nextOf 0 fs) (sound-replay ed fs g .rising);
+      settled-own = λ ed fs i v g.
+          ap (λ (s : State). lookup i (s .objects)) (after-settled fs i v) ∙ lookup-last i v (replay fs .objects) (settled-new ed fs i v g);
       settled-other = λ fs i j v n. ap (λ (s : State). lookup i (s .objects)) (after-settled fs j v) ∙ lookup-before i j v (replay fs .objects) n;
       settled-pending = λ fs h i v. ap (λ (s : State). listOf h (s .pending)) (after-settled fs i v);
       change-objects = λ fs h c. ap (λ (s : State). s .objects) (after-change fs h c);
@@ -142,24 +145,29 @@ order-laws =
 
 -- ---- U, C and open
 
-objects-total : (os : List Object) → total (map settledFrame os) ≡ settledBytes os
-unfolding total
-objects-total [] = refl
-objects-total (o ∷ os) = omega (arith, objects-total os)
+-- the papers' numbers, by the length of a check
+lens : (ed : Edition) → (byEdition ed 7 11 ≡ 7 + checkLen ed) × (byEdition ed 8 12 ≡ 8 + checkLen ed)
+lens edition.First = (refl, refl)
+lens edition.Second = (refl, refl)
 
-frame-len : (h : Host) (c : Change) → frameLen (change h c) ≡ changeBytes c
-frame-len h (put i v) = omega arith
-frame-len h (delete i) = refl
-
-change-len : (h : Host) (c : Change) → total (change h c ∷ []) ≡ changeBytes c
+objects-total : (ed : Edition) (os : List Object) → total ed (map settledFrame os) ≡ settledBytes ed os
 unfolding total
-change-len h (put i v) = omega arith
-change-len h (delete i) = refl
+objects-total ed [] = refl
+objects-total ed (o ∷ os) = omega (arith, lens ed, objects-total ed os)
 
-entries-total : (es : List Entry) → total (map pendingFrame es) ≡ pendingBytes es
+frame-len : (ed : Edition) (h : Host) (c : Change) → frameLen ed (change h c) ≡ changeBytes ed c
+frame-len ed h (put i v) = omega (arith, lens ed)
+frame-len ed h (delete i) = omega (arith, lens ed)
+
+change-len : (ed : Edition) (h : Host) (c : Change) → total ed (change h c ∷ []) ≡ changeBytes ed c
 unfolding total
-entries-total [] = refl
-entries-total (e ∷ es) = omega (arith, change-len (e .host) (e .what), entries-total es)
+change-len ed h (put i v) = omega (arith, lens ed)
+change-len ed h (delete i) = omega (arith, lens ed)
+
+entries-total : (ed : Edition) (es : List Entry) → total ed (map pendingFrame es) ≡ pendingBytes ed es
+unfolding total
+entries-total ed [] = refl
+entries-total ed (e ∷ es) = omega (arith, change-len ed (e .host) (e .what), entries-total ed es)
 
 module _ (es : List Entry) (c : Change) where
   -- whether host m counts, after a change of host k and before
@@ -193,8 +201,8 @@ pub used-exact : UsedExact
 unfolding isOpen
 used-exact =
     record {
-      used-is = λ s. ap (λ (n : ℕ). 16 + n) (objects-total (s .objects));
-      claimed-is = λ s. omega (arith, objects-total (s .objects), entries-total (s .pending));
+      used-is = λ ed s. ap (λ (n : ℕ). 16 + n) (objects-total ed (s .objects));
+      claimed-is = λ ed s. omega (arith, objects-total ed (s .objects), entries-total ed (s .pending));
       open-none = refl;
       open-first = λ h es c k e. first es c (h .0) k (ap one (open-none h es e));
       open-again = λ h es c n.
@@ -204,26 +212,26 @@ used-exact =
 
 -- ---- each host's pending bytes
 
-pub changes-total : (h : Host) (cs : List Change) → total (map (change h) cs) ≡ changesBytes cs
+pub changes-total : (ed : Edition) (h : Host) (cs : List Change) → total ed (map (change h) cs) ≡ changesBytes ed cs
 unfolding total
-changes-total h [] = refl
-changes-total h (c ∷ cs) = omega (arith, change-len h c, changes-total h cs)
+changes-total ed h [] = refl
+changes-total ed h (c ∷ cs) = omega (arith, change-len ed h c, changes-total ed h cs)
 
 pub pending-exact : PendingExact
 unfolding hostFull
 pending-exact =
     record {
-      are = λ fs.
+      are = λ ed fs.
           record {
             four = refl;
-            each = λ h l. per-at (λ g. pendingFor g (replay fs .pending)) h l ∙ changes-total h (listOf h (replay fs .pending));
+            each = λ h l. per-at (λ g. pendingFor ed g (replay fs .pending)) h l ∙ changes-total ed h (listOf h (replay fs .pending));
           };
-      only = λ ps fs y.
-          per-list ps (λ g. pendingFor g (replay fs .pending)) (y .four) (λ h l. y .each h l ∙ sym (changes-total h (listOf h (replay fs .pending))));
-      full-is = λ size fs h c.
-          let e : pendingFor h (replay fs .pending ++ (entry h c ∷ [])) ≡ changesBytes (listOf h (replay fs .pending)) + changeBytes c =
-          bytes-own h (replay fs .pending) c ∙ ap₂ (λ (m n : ℕ). m + n) (changes-total h (listOf h (replay fs .pending))) (frame-len h c) in
-          let n : ℕ = 2 * pendingFor h (replay fs .pending ++ (entry h c ∷ [])) in
+      only = λ ed ps fs y.
+          per-list ps (λ g. pendingFor ed g (replay fs .pending)) (y .four) (λ h l. y .each h l ∙ sym (changes-total ed h (listOf h (replay fs .pending))));
+      full-is = λ ed size fs h c.
+          let e : pendingFor ed h (replay fs .pending ++ (entry h c ∷ [])) ≡ changesBytes ed (listOf h (replay fs .pending)) + changeBytes ed c =
+          bytes-own ed h (replay fs .pending) c ∙ ap₂ (λ (m n : ℕ). m + n) (changes-total ed h (listOf h (replay fs .pending))) (frame-len ed h c) in
+          let n : ℕ = 2 * pendingFor ed h (replay fs .pending ++ (entry h c ∷ [])) in
           (λ t. let l = ltb-true size n t in omega (arith, l, e), λ l. lt-ltb size n (omega (arith, l, e)));
     }
 

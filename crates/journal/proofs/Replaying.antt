@@ -7,13 +7,13 @@ use native.Mathlib.Omega.{arith}
 use lib.Dec.{eqb}
 use borrow.Author.Tests.{ne-eqb}
 use Rattle.flash.proofs.Cases.{on-test, on-order}
+use Rattle.frame.specs.declared.Edition.{Edition}
 use Rattle.frame.specs.declared.Host.{Host}
 use Rattle.frame.specs.declared.ObjectId.{ObjectId}
 use Rattle.frame.specs.Frame.{hostOf, Change, put, delete, FrameOf, Frame, change, commit, abort, settled, MayStand, AllMayStand, nextAfter, nextOf}
-use Rattle.frame.proofs.First.{stands-any, stands-append}
-use Rattle.journal.specs.Replay.{ObjectOf, object, EntryOf, entry, StateOf, state, Object, Entry, State, insert, remove, lookup}
-use Rattle.journal.specs.Replay.{change1, changeAll, listOf, without, nextState, replayFrom, replay, settledFrame, pendingFrame}
-use Rattle.journal.specs.Replay.{framesOf, settledOnly}
+use Rattle.frame.proofs.Encode.{stands-any, stands-append}
+use Rattle.journal.specs.Replay.{ObjectOf, object, EntryOf, entry, StateOf, state, Object, Entry, State, insert, remove, lookup, change1, changeAll}
+use Rattle.journal.specs.Replay.{listOf, without, nextState, replayFrom, replay, settledFrame, pendingFrame, framesOf, settledOnly}
 use Rattle.journal.proofs.Lookups.{lookup-no, insert-lt, insert-eq, insert-gt}
 
 module _ {A : Type 0} where
@@ -47,153 +47,155 @@ module _ {A : Type 0} where
 -- ---- the frames of a state may stand in a block
 
 -- ids rise from lo on and stay below hi, and the values are legal
-abbrev pub Rising : ℕ → List Object → ℕ → Type 0
-Rising lo [] hi = lo ≤ hi
-Rising lo (o ∷ os) hi = MayStand lo (settledFrame o) × Rising (suc (o .id .0)) os hi
+abbrev pub Rising : (ed : Edition) → ℕ → List Object → ℕ → Type 0
+Rising ed lo [] hi = lo ≤ hi
+Rising ed lo (o ∷ os) hi = MayStand ed lo (settledFrame o) × Rising ed (suc (o .id .0)) os hi
 
 -- a frame may hold the change
-abbrev pub LegalChange : Change → Type 0
-LegalChange c = MayStand 256 (change (hostOf 0) c)
+abbrev pub LegalChange : (ed : Edition) → Change → Type 0
+LegalChange ed c = MayStand ed 256 (change (hostOf 0) c)
 
-abbrev pub LegalEntries : List Entry → Type 0
-LegalEntries [] = Unit {0}
-LegalEntries (e ∷ es) = MayStand 256 (pendingFrame e) × LegalEntries es
+abbrev pub LegalEntries : (ed : Edition) → List Entry → Type 0
+LegalEntries ed [] = Unit {0}
+LegalEntries ed (e ∷ es) = MayStand ed 256 (pendingFrame e) × LegalEntries ed es
 
-pub rising-from : (lo lo′ : ℕ) (os : List Object) (hi : ℕ) → lo′ ≤ lo → Rising lo os hi → Rising lo′ os hi
-rising-from lo lo′ [] hi h r = omega arith
-rising-from lo lo′ (o ∷ os) hi h ((a, b, c), r) = ((omega arith, b, c), r)
+pub rising-from : (ed : Edition) (lo lo′ : ℕ) (os : List Object) (hi : ℕ) → lo′ ≤ lo → Rising ed lo os hi → Rising ed lo′ os hi
+rising-from ed lo lo′ [] hi h r = omega arith
+rising-from ed lo lo′ (o ∷ os) hi h ((a, b, c), r) = ((omega arith, b, c), r)
 
-pub rising-to : (lo : ℕ) (os : List Object) (hi hi′ : ℕ) → hi ≤ hi′ → Rising lo os hi → Rising lo os hi′
-rising-to lo [] hi hi′ h r = omega arith
-rising-to lo (o ∷ os) hi hi′ h (g, r) = (g, rising-to (suc (o .id .0)) os hi hi′ h r)
+pub rising-to : (ed : Edition) (lo : ℕ) (os : List Object) (hi hi′ : ℕ) → hi ≤ hi′ → Rising ed lo os hi → Rising ed lo os hi′
+rising-to ed lo [] hi hi′ h r = omega arith
+rising-to ed lo (o ∷ os) hi hi′ h (g, r) = (g, rising-to ed (suc (o .id .0)) os hi hi′ h r)
 
-rising-bound : (lo : ℕ) (os : List Object) (hi : ℕ) → Rising lo os hi → lo ≤ hi
-rising-bound lo [] hi r = r
-rising-bound lo (o ∷ os) hi ((a, b, c), r) = omega (arith, rising-bound (suc (o .id .0)) os hi r)
+rising-bound : (ed : Edition) (lo : ℕ) (os : List Object) (hi : ℕ) → Rising ed lo os hi → lo ≤ hi
+rising-bound ed lo [] hi r = r
+rising-bound ed lo (o ∷ os) hi ((a, b, c), r) = omega (arith, rising-bound ed (suc (o .id .0)) os hi r)
 
 -- no id outside the range has an object
-pub below-none : (i : ObjectId) (lo : ℕ) (os : List Object) (hi : ℕ) → i .0 < lo → Rising lo os hi → lookup i os ≡ none
+pub below-none : (ed : Edition) (i : ObjectId) (lo : ℕ) (os : List Object) (hi : ℕ) → i .0 < lo → Rising ed lo os hi → lookup i os ≡ none
 unfolding lookup
-below-none i lo [] hi l r = refl
-below-none i lo (o ∷ os) hi l ((a, b, c), r) = lookup-no i o os (ne-eqb (i .0) (o .id .0) (omega arith)) ∙ below-none i (suc (o .id .0)) os hi (omega arith) r
+below-none ed i lo [] hi l r = refl
+below-none ed i lo (o ∷ os) hi l ((a, b, c), r) = lookup-no i o os (ne-eqb (i .0) (o .id .0) (omega arith))
+    ∙ below-none ed i (suc (o .id .0)) os hi (omega arith) r
 
-pub above-none : (i : ObjectId) (lo : ℕ) (os : List Object) (hi : ℕ) → hi ≤ i .0 → Rising lo os hi → lookup i os ≡ none
+pub above-none : (ed : Edition) (i : ObjectId) (lo : ℕ) (os : List Object) (hi : ℕ) → hi ≤ i .0 → Rising ed lo os hi → lookup i os ≡ none
 unfolding lookup
-above-none i lo [] hi l r = refl
-above-none i lo (o ∷ os) hi l (g, r) =
-    lookup-no i o os (ne-eqb (i .0) (o .id .0) (omega (arith, rising-bound (suc (o .id .0)) os hi r))) ∙ above-none i (suc (o .id .0)) os hi l r
+above-none ed i lo [] hi l r = refl
+above-none ed i lo (o ∷ os) hi l (g, r) =
+    lookup-no i o os (ne-eqb (i .0) (o .id .0) (omega (arith, rising-bound ed (suc (o .id .0)) os hi r))) ∙ above-none ed i (suc (o .id .0)) os hi l r
 
-rising-snoc : (lo : ℕ) (os : List Object) (hi : ℕ) (i : ObjectId) (v : List ℕ) → MayStand hi (settled i v) → Rising lo os hi
-    → Rising lo (os ++ (object i v ∷ [])) (suc (i .0))
-rising-snoc lo [] hi i v (a, b, c) r = ((omega arith, b, c), omega arith)
-rising-snoc lo (o ∷ os) hi i v g (x, r) = (x, rising-snoc (suc (o .id .0)) os hi i v g r)
+rising-snoc : (ed : Edition) (lo : ℕ) (os : List Object) (hi : ℕ) (i : ObjectId) (v : List ℕ) → MayStand ed hi (settled i v) → Rising ed lo os hi
+    → Rising ed lo (os ++ (object i v ∷ [])) (suc (i .0))
+rising-snoc ed lo [] hi i v (a, b, c) r = ((omega arith, b, c), omega arith)
+rising-snoc ed lo (o ∷ os) hi i v g (x, r) = (x, rising-snoc ed (suc (o .id .0)) os hi i v g r)
 
-rising-insert : (lo : ℕ) (i : ObjectId) (v : List ℕ) (os : List Object) → MayStand lo (settled i v) → Rising lo os 256 → Rising lo (insert i v os) 256
+rising-insert : (ed : Edition) (lo : ℕ) (i : ObjectId) (v : List ℕ) (os : List Object) → MayStand ed lo (settled i v) → Rising ed lo os 256
+    → Rising ed lo (insert i v os) 256
 unfolding insert
-rising-insert lo i v [] g r = (g, omega arith)
-rising-insert lo i v (o ∷ os) (a, b, c) ((a′, b′, c′), r) =
+rising-insert ed lo i v [] g r = (g, omega arith)
+rising-insert ed lo i v (o ∷ os) (a, b, c) ((a′, b′, c′), r) =
     on-order (i .0) (o .id .0)
     (λ e l. rw (insert-lt i v o os e) ((a, b, c), ((omega arith, b′, c′), r)))
-    (λ e l. rw (insert-eq i v o os e) ((a, b, c), rising-from (suc (o .id .0)) (suc (i .0)) os 256 (omega arith) r))
-    (λ e l. rw (insert-gt i v o os e) ((a′, b′, c′), rising-insert (suc (o .id .0)) i v os (l, b, c) r))
+    (λ e l. rw (insert-eq i v o os e) ((a, b, c), rising-from ed (suc (o .id .0)) (suc (i .0)) os 256 (omega arith) r))
+    (λ e l. rw (insert-gt i v o os e) ((a′, b′, c′), rising-insert ed (suc (o .id .0)) i v os (l, b, c) r))
 
-rising-remove : (lo : ℕ) (i : ObjectId) (os : List Object) → Rising lo os 256 → Rising lo (remove i os) 256
+rising-remove : (ed : Edition) (lo : ℕ) (i : ObjectId) (os : List Object) → Rising ed lo os 256 → Rising ed lo (remove i os) 256
 unfolding remove
-rising-remove lo i [] r = r
-rising-remove lo i (o ∷ os) ((a, b, c), r) =
+rising-remove ed lo i [] r = r
+rising-remove ed lo i (o ∷ os) ((a, b, c), r) =
     on-test (eqb (i .0) (o .id .0))
-    (λ e. rw (e, remove) (rising-from (suc (o .id .0)) lo (remove i os) 256 (omega arith) (rising-remove (suc (o .id .0)) i os r)))
-    (λ e. rw (e, remove) ((a, b, c), rising-remove (suc (o .id .0)) i os r))
+    (λ e. rw (e, remove) (rising-from ed (suc (o .id .0)) lo (remove i os) 256 (omega arith) (rising-remove ed (suc (o .id .0)) i os r)))
+    (λ e. rw (e, remove) ((a, b, c), rising-remove ed (suc (o .id .0)) i os r))
 
-abbrev pub LegalChanges : List Change → Type 0
-LegalChanges [] = Unit {0}
-LegalChanges (c ∷ cs) = LegalChange c × LegalChanges cs
+abbrev pub LegalChanges : (ed : Edition) → List Change → Type 0
+LegalChanges ed [] = Unit {0}
+LegalChanges ed (c ∷ cs) = LegalChange ed c × LegalChanges ed cs
 
-rising-change : (c : Change) (os : List Object) → LegalChange c → Rising 0 os 256 → Rising 0 (change1 c os) 256
-rising-change (put i v) os (h, a, b) r = rising-insert 0 i v os (omega arith, a, b) r
-rising-change (delete i) os g r = rising-remove 0 i os r
+rising-change : (ed : Edition) (c : Change) (os : List Object) → LegalChange ed c → Rising ed 0 os 256 → Rising ed 0 (change1 c os) 256
+rising-change ed (put i v) os (h, a, b) r = rising-insert ed 0 i v os (omega arith, a, b) r
+rising-change ed (delete i) os g r = rising-remove ed 0 i os r
 
-pub rising-changes : (cs : List Change) (os : List Object) → LegalChanges cs → Rising 0 os 256 → Rising 0 (changeAll cs os) 256
+pub rising-changes : (ed : Edition) (cs : List Change) (os : List Object) → LegalChanges ed cs → Rising ed 0 os 256 → Rising ed 0 (changeAll cs os) 256
 unfolding changeAll
-rising-changes [] os g r = r
-rising-changes (c ∷ cs) os (g, gs) r = rising-changes cs (change1 c os) gs (rising-change c os g r)
+rising-changes ed [] os g r = r
+rising-changes ed (c ∷ cs) os (g, gs) r = rising-changes ed cs (change1 c os) gs (rising-change ed c os g r)
 
-legal-change : (h : Host) (c : Change) → MayStand 256 (change h c) → LegalChange c
-legal-change h (put i v) (a, b, c) = (omega arith, b, c)
-legal-change h (delete i) (a, b) = (omega arith, b)
+legal-change : (ed : Edition) (h : Host) (c : Change) → MayStand ed 256 (change h c) → LegalChange ed c
+legal-change ed h (put i v) (a, b, c) = (omega arith, b, c)
+legal-change ed h (delete i) (a, b) = (omega arith, b)
 
-pub legal-list : (h : Host) (es : List Entry) → LegalEntries es → LegalChanges (listOf h es)
+pub legal-list : (ed : Edition) (h : Host) (es : List Entry) → LegalEntries ed es → LegalChanges ed (listOf h es)
 unfolding listOf
-legal-list h [] g = tt
-legal-list h (e ∷ es) (g, gs) =
+legal-list ed h [] g = tt
+legal-list ed h (e ∷ es) (g, gs) =
     on-test (eqb (h .0) (e .host .0))
-    (λ t. rw (t, listOf) (legal-change (e .host) (e .what) g, legal-list h es gs))
-    (λ t. rw (t, listOf) (legal-list h es gs))
+    (λ t. rw (t, listOf) (legal-change ed (e .host) (e .what) g, legal-list ed h es gs))
+    (λ t. rw (t, listOf) (legal-list ed h es gs))
 
-pub legal-without : (h : Host) (es : List Entry) → LegalEntries es → LegalEntries (without h es)
+pub legal-without : (ed : Edition) (h : Host) (es : List Entry) → LegalEntries ed es → LegalEntries ed (without h es)
 unfolding without
-legal-without h [] g = tt
-legal-without h (e ∷ es) (g, gs) =
-    on-test (eqb (h .0) (e .host .0)) (λ t. rw (t, without) (legal-without h es gs)) (λ t. rw (t, without) (g, legal-without h es gs))
+legal-without ed h [] g = tt
+legal-without ed h (e ∷ es) (g, gs) =
+    on-test (eqb (h .0) (e .host .0)) (λ t. rw (t, without) (legal-without ed h es gs)) (λ t. rw (t, without) (g, legal-without ed h es gs))
 
-legal-snoc : (es : List Entry) (e : Entry) → MayStand 256 (pendingFrame e) → LegalEntries es → LegalEntries (es ++ (e ∷ []))
-legal-snoc [] e g gs = (g, tt)
-legal-snoc (x ∷ es) e g (a, gs) = (a, legal-snoc es e g gs)
+legal-snoc : (ed : Edition) (es : List Entry) (e : Entry) → MayStand ed 256 (pendingFrame e) → LegalEntries ed es → LegalEntries ed (es ++ (e ∷ []))
+legal-snoc ed [] e g gs = (g, tt)
+legal-snoc ed (x ∷ es) e g (a, gs) = (a, legal-snoc ed es e g gs)
 
 -- what replay makes of frames that may stand in a block, after which settled ones may come from n on
-pub record Sound (n : ℕ) (s : State) : Type 0 where
-  pub rising : Rising 0 (s .objects) n
+pub record Sound (ed : Edition) (n : ℕ) (s : State) : Type 0 where
+  pub rising : Rising ed 0 (s .objects) n
   pub low : n ≤ 256
-  pub entries : LegalEntries (s .pending)
+  pub entries : LegalEntries ed (s .pending)
 
-sound-next : (n : ℕ) (s : State) (f : Frame) → MayStand n f → Sound n s → Sound (nextAfter f) (nextState s f)
-sound-next n s (change h c) g k =
+sound-next : (ed : Edition) (n : ℕ) (s : State) (f : Frame) → MayStand ed n f → Sound ed n s → Sound ed (nextAfter f) (nextState s f)
+sound-next ed n s (change h c) g k =
     record {
-      rising = rising-to 0 (s .objects) n 256 (k .low) (k .rising);
+      rising = rising-to ed 0 (s .objects) n 256 (k .low) (k .rising);
       low = omega arith;
-      entries = legal-snoc (s .pending) (entry h c)
-          (stands-any n 256 (change h c) tt g) (k .entries);
+      entries = legal-snoc ed (s .pending) (entry h c)
+          (stands-any ed n 256 (change h c) tt g) (k .entries);
     }
-sound-next n s (commit h) g k =
+sound-next ed n s (commit h) g k =
     record {
       rising =
-          rising-changes (listOf h (s .pending)) (s .objects) (legal-list h (s .pending) (k .entries))
-          (rising-to 0 (s .objects) n 256 (k .low) (k .rising));
+          rising-changes ed (listOf h (s .pending)) (s .objects) (legal-list ed h (s .pending) (k .entries))
+          (rising-to ed 0 (s .objects) n 256 (k .low) (k .rising));
       low = omega arith;
-      entries = legal-without h (s .pending) (k .entries);
+      entries = legal-without ed h (s .pending) (k .entries);
     }
-sound-next n s (abort h) g k =
-    record { rising = rising-to 0 (s .objects) n 256 (k .low) (k .rising); low = omega arith; entries = legal-without h (s .pending) (k .entries) }
-sound-next n s (settled i v) g k = record { rising = rising-snoc 0 (s .objects) n i v g (k .rising); low = omega arith; entries = k .entries }
+sound-next ed n s (abort h) g k =
+    record { rising = rising-to ed 0 (s .objects) n 256 (k .low) (k .rising); low = omega arith; entries = legal-without ed h (s .pending) (k .entries) }
+sound-next ed n s (settled i v) g k = record { rising = rising-snoc ed 0 (s .objects) n i v g (k .rising); low = omega arith; entries = k .entries }
 
-sound-from : (n : ℕ) (s : State) (fs : List Frame) → AllMayStand n fs → Sound n s → Sound (nextOf n fs) (replayFrom s fs)
+sound-from : (ed : Edition) (n : ℕ) (s : State) (fs : List Frame) → AllMayStand ed n fs → Sound ed n s → Sound ed (nextOf n fs) (replayFrom s fs)
 unfolding replayFrom
-sound-from n s [] g k = k
-sound-from n s (f ∷ fs) (g, gs) k = sound-from (nextAfter f) (nextState s f) fs gs (sound-next n s f g k)
+sound-from ed n s [] g k = k
+sound-from ed n s (f ∷ fs) (g, gs) k = sound-from ed (nextAfter f) (nextState s f) fs gs (sound-next ed n s f g k)
 
-pub sound-replay : (fs : List Frame) → AllMayStand 0 fs → Sound (nextOf 0 fs) (replay fs)
-sound-replay fs g = sound-from 0 (state [] []) fs g (record { rising = omega arith; low = omega arith; entries = tt })
+pub sound-replay : (ed : Edition) (fs : List Frame) → AllMayStand ed 0 fs → Sound ed (nextOf 0 fs) (replay fs)
+sound-replay ed fs g = sound-from ed 0 (state [] []) fs g (record { rising = omega arith; low = omega arith; entries = tt })
 
-pub sound-settled : (n : ℕ) (s : State) → Sound n s → Sound n (settledOnly s)
-sound-settled n s k = record { rising = k .rising; low = k .low; entries = tt }
+pub sound-settled : (ed : Edition) (n : ℕ) (s : State) → Sound ed n s → Sound ed n (settledOnly s)
+sound-settled ed n s k = record { rising = k .rising; low = k .low; entries = tt }
 
-stands-objects : (n : ℕ) (os : List Object) (hi : ℕ) → Rising n os hi → AllMayStand n (map settledFrame os)
-stands-objects n [] hi r = tt
-stands-objects n (o ∷ os) hi (g, r) = (g, stands-objects (suc (o .id .0)) os hi r)
+stands-objects : (ed : Edition) (n : ℕ) (os : List Object) (hi : ℕ) → Rising ed n os hi → AllMayStand ed n (map settledFrame os)
+stands-objects ed n [] hi r = tt
+stands-objects ed n (o ∷ os) hi (g, r) = (g, stands-objects ed (suc (o .id .0)) os hi r)
 
-stands-entries : (n : ℕ) (es : List Entry) → LegalEntries es → AllMayStand n (map pendingFrame es)
-stands-entries n [] g = tt
-stands-entries n (e ∷ es) (g, gs) = (stands-any 256 n (pendingFrame e) tt g, stands-entries 256 es gs)
+stands-entries : (ed : Edition) (n : ℕ) (es : List Entry) → LegalEntries ed es → AllMayStand ed n (map pendingFrame es)
+stands-entries ed n [] g = tt
+stands-entries ed n (e ∷ es) (g, gs) = (stands-any ed 256 n (pendingFrame e) tt g, stands-entries ed 256 es gs)
 
 -- the frames that a transfer writes may stand in a block
-pub stands-framesOf : (n : ℕ) (s : State) → Sound n s → AllMayStand 0 (framesOf s)
-stands-framesOf n s k =
-    stands-append 0 (map settledFrame (s .objects)) (map pendingFrame (s .pending)) (stands-objects 0 (s .objects) n (k .rising))
-    (stands-entries _ (s .pending) (k .entries))
+pub stands-framesOf : (ed : Edition) (n : ℕ) (s : State) → Sound ed n s → AllMayStand ed 0 (framesOf s)
+stands-framesOf ed n s k =
+    stands-append ed 0 (map settledFrame (s .objects)) (map pendingFrame (s .pending)) (stands-objects ed 0 (s .objects) n (k .rising))
+    (stands-entries ed _ (s .pending) (k .entries))
 
 -- the same for frames that a replay amounts to, with and without what is pending
-pub stands-replay : (fs : List Frame) → AllMayStand 0 fs → AllMayStand 0 (framesOf (replay fs))
-stands-replay fs g = stands-framesOf (nextOf 0 fs) (replay fs) (sound-replay fs g)
+pub stands-replay : (ed : Edition) (fs : List Frame) → AllMayStand ed 0 fs → AllMayStand ed 0 (framesOf (replay fs))
+stands-replay ed fs g = stands-framesOf ed (nextOf 0 fs) (replay fs) (sound-replay ed fs g)
 
-pub stands-settled : (fs : List Frame) → AllMayStand 0 fs → AllMayStand 0 (framesOf (settledOnly (replay fs)))
-stands-settled fs g = stands-framesOf (nextOf 0 fs) (settledOnly (replay fs)) (sound-settled (nextOf 0 fs) (replay fs) (sound-replay fs g))
+pub stands-settled : (ed : Edition) (fs : List Frame) → AllMayStand ed 0 fs → AllMayStand ed 0 (framesOf (settledOnly (replay fs)))
+stands-settled ed fs g = stands-framesOf ed (nextOf 0 fs) (settledOnly (replay fs)) (sound-settled ed (nextOf 0 fs) (replay fs) (sound-replay ed fs g))

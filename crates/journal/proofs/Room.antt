@@ -2,16 +2,18 @@
 use mathlib.Core.Path.{_≡_, refl, sym, ap, _∙_}
 use mathlib.Core.List.{List, [], _∷_, _++_, map}
 use mathlib.Core.Bool.{true, false}
-use Prim.Native.Nat.{ℕ, zero, suc, _+_, _≤_}
+use Prim.Native.Nat.{ℕ, zero, suc, _+_, _*_, _≤_}
 use native.Mathlib.Omega.{arith}
 use lib.Dec.{eqb}
 use lib.ListN.{length}
 use borrow.Author.Tests.{eqb-true, eqb-false}
 use Rattle.flash.proofs.Cases.{on-test, on-order}
+use Rattle.frame.specs.declared.Edition.{Edition}
+use Rattle.frame.specs.declared.Edition.the-variants as edition
 use Rattle.frame.specs.declared.Host.{Host}
 use Rattle.frame.specs.declared.ObjectId.{ObjectId}
 use Rattle.frame.specs.Frame.{hostOf, hostMax, Change, put, delete, Frame, change, commit, abort, settled, frameLen, putLen, total}
-use Rattle.frame.proofs.First.{total-append}
+use Rattle.frame.proofs.Encode.{total-append}
 use Rattle.journal.specs.Block.{headerLen}
 use Rattle.journal.specs.Replay.{Object, object, Entry, entry, State, state, insert, remove, change1, changeAll, listOf, without}
 use Rattle.journal.specs.Replay.{isOpen, nextState, replayFrom, replay, settledFrame, pendingFrame, framesOf, settledOnly}
@@ -20,141 +22,155 @@ use Rattle.journal.proofs.Lookups.{insert-lt, insert-eq, insert-gt}
 use Rattle.journal.proofs.Lists.{open-own, open-other}
 
 -- what a change adds to the settled frames at most: a put's frame, and for a delete nothing
-abbrev pub putPart : Change → ℕ
-putPart (put i v) = putLen (length v)
-putPart (delete i) = 0
+abbrev pub putPart : (ed : Edition) → Change → ℕ
+putPart ed (put i v) = putLen ed (length v)
+putPart ed (delete i) = 0
 
-unfoldable pub putParts : List Change → ℕ
-putParts [] = 0
-putParts (c ∷ cs) = putPart c + putParts cs
+unfoldable pub putParts : (ed : Edition) → List Change → ℕ
+putParts ed [] = 0
+putParts ed (c ∷ cs) = putPart ed c + putParts ed cs
 
-insert-total : (i : ObjectId) (v : List ℕ) (os : List Object) → total (map settledFrame (insert i v os)) ≤ putLen (length v) + total (map settledFrame os)
+insert-total : (ed : Edition) (i : ObjectId) (v : List ℕ) (os : List Object)
+    → total ed (map settledFrame (insert i v os)) ≤ putLen ed (length v) + total ed (map settledFrame os)
 unfolding insert total
-insert-total i v [] = omega arith
-insert-total i v (o ∷ os) =
+insert-total ed i v [] = omega arith
+insert-total ed i v (o ∷ os) =
     on-order (i .0) (o .id .0)
     (λ e l. rw (insert-lt i v o os e) (omega arith))
     (λ e l. rw (insert-eq i v o os e) (omega arith))
-    (λ e l. rw (insert-gt i v o os e) (omega (arith, insert-total i v os)))
+    (λ e l. rw (insert-gt i v o os e) (omega (arith, insert-total ed i v os)))
 
-remove-total : (i : ObjectId) (os : List Object) → total (map settledFrame (remove i os)) ≤ total (map settledFrame os)
+remove-total : (ed : Edition) (i : ObjectId) (os : List Object) → total ed (map settledFrame (remove i os)) ≤ total ed (map settledFrame os)
 unfolding remove total
-remove-total i [] = omega arith
-remove-total i (o ∷ os) =
-    on-test (eqb (i .0) (o .id .0)) (λ e. rw (e, remove) (omega (arith, remove-total i os))) (λ e. rw (e, remove) (omega (arith, remove-total i os)))
+remove-total ed i [] = omega arith
+remove-total ed i (o ∷ os) =
+    on-test (eqb (i .0) (o .id .0)) (λ e. rw (e, remove) (omega (arith, remove-total ed i os))) (λ e. rw (e, remove) (omega (arith, remove-total ed i os)))
 
-change-total : (c : Change) (os : List Object) → total (map settledFrame (change1 c os)) ≤ putPart c + total (map settledFrame os)
-change-total (put i v) os = insert-total i v os
-change-total (delete i) os = omega (arith, remove-total i os)
+change-total : (ed : Edition) (c : Change) (os : List Object) → total ed (map settledFrame (change1 c os)) ≤ putPart ed c + total ed (map settledFrame os)
+change-total ed (put i v) os = insert-total ed i v os
+change-total ed (delete i) os = omega (arith, remove-total ed i os)
 
-changes-total : (cs : List Change) (os : List Object) → total (map settledFrame (changeAll cs os)) ≤ putParts cs + total (map settledFrame os)
+changes-total : (ed : Edition) (cs : List Change) (os : List Object)
+    → total ed (map settledFrame (changeAll cs os)) ≤ putParts ed cs + total ed (map settledFrame os)
 unfolding changeAll putParts
-changes-total [] os = omega arith
-changes-total (c ∷ cs) os = omega (arith, changes-total cs (change1 c os), change-total c os)
+changes-total ed [] os = omega arith
+changes-total ed (c ∷ cs) os = omega (arith, changes-total ed cs (change1 c os), change-total ed c os)
 
-put-part : (h : Host) (c : Change) → putPart c ≤ frameLen (change h c)
-put-part h (put i v) = omega arith
-put-part h (delete i) = omega arith
+put-part : (ed : Edition) (h : Host) (c : Change) → putPart ed c ≤ frameLen ed (change h c)
+put-part ed h (put i v) = omega arith
+put-part ed h (delete i) = omega arith
 
-without-total : (h : Host) (es : List Entry) → putParts (listOf h es) + total (map pendingFrame (without h es)) ≤ total (map pendingFrame es)
+without-total : (ed : Edition) (h : Host) (es : List Entry)
+    → putParts ed (listOf h es) + total ed (map pendingFrame (without h es)) ≤ total ed (map pendingFrame es)
 unfolding listOf without total putParts
-without-total h [] = omega arith
-without-total h (e ∷ es) =
+without-total ed h [] = omega arith
+without-total ed h (e ∷ es) =
     on-test (eqb (h .0) (e .host .0))
-    (λ t. rw (t, listOf, without) (omega (arith, without-total h es, put-part (e .host) (e .what))))
-    (λ t. rw (t, listOf, without) (omega (arith, without-total h es)))
+    (λ t. rw (t, listOf, without) (omega (arith, without-total ed h es, put-part ed (e .host) (e .what))))
+    (λ t. rw (t, listOf, without) (omega (arith, without-total ed h es)))
 
 -- a commit or an abort makes no state larger
-pub commit-room : (s : State) (h : Host) → claimed (nextState s (commit h)) ≤ claimed s
-commit-room s h = omega (arith, changes-total (listOf h (s .pending)) (s .objects), without-total h (s .pending))
+pub commit-room : (ed : Edition) (s : State) (h : Host) → claimed ed (nextState s (commit h)) ≤ claimed ed s
+commit-room ed s h = omega (arith, changes-total ed (listOf h (s .pending)) (s .objects), without-total ed h (s .pending))
 
-pub abort-room : (s : State) (h : Host) → claimed (nextState s (abort h)) ≤ claimed s
-abort-room s h = omega (arith, without-total h (s .pending))
+pub abort-room : (ed : Edition) (s : State) (h : Host) → claimed ed (nextState s (abort h)) ≤ claimed ed s
+abort-room ed s h = omega (arith, without-total ed h (s .pending))
 
-entries-snoc : (es : List Entry) (e : Entry) → total (map pendingFrame (es ++ (e ∷ []))) ≡ total (map pendingFrame es) + frameLen (pendingFrame e)
+entries-snoc : (ed : Edition) (es : List Entry) (e : Entry)
+    → total ed (map pendingFrame (es ++ (e ∷ []))) ≡ total ed (map pendingFrame es) + frameLen ed (pendingFrame e)
 unfolding total
-entries-snoc [] e = omega arith
-entries-snoc (x ∷ es) e = omega (arith, entries-snoc es e)
+entries-snoc ed [] e = omega arith
+entries-snoc ed (x ∷ es) e = omega (arith, entries-snoc ed es e)
 
-objects-snoc : (os : List Object) (o : Object) → total (map settledFrame (os ++ (o ∷ []))) ≡ total (map settledFrame os) + frameLen (settledFrame o)
+objects-snoc : (ed : Edition) (os : List Object) (o : Object)
+    → total ed (map settledFrame (os ++ (o ∷ []))) ≡ total ed (map settledFrame os) + frameLen ed (settledFrame o)
 unfolding total
-objects-snoc [] o = omega arith
-objects-snoc (x ∷ os) o = omega (arith, objects-snoc os o)
+objects-snoc ed [] o = omega arith
+objects-snoc ed (x ∷ os) o = omega (arith, objects-snoc ed os o)
 
-pub change-room : (s : State) (h : Host) (c : Change) → claimed (nextState s (change h c)) ≡ claimed s + frameLen (change h c)
-change-room s h c = omega (arith, entries-snoc (s .pending) (entry h c))
+pub change-room : (ed : Edition) (s : State) (h : Host) (c : Change) → claimed ed (nextState s (change h c)) ≡ claimed ed s + frameLen ed (change h c)
+change-room ed s h c = omega (arith, entries-snoc ed (s .pending) (entry h c))
 
 -- the frames that a transfer writes are C bytes with the header
-pub frames-total : (s : State) → headerLen + total (framesOf s) ≡ claimed s
-frames-total s = omega (arith, total-append (map settledFrame (s .objects)) (map pendingFrame (s .pending)))
+pub frames-total : (ed : Edition) (s : State) → headerLen + total ed (framesOf s) ≡ claimed ed s
+frames-total ed s = omega (arith, total-append ed (map settledFrame (s .objects)) (map pendingFrame (s .pending)))
 
-pub used-claimed : (s : State) → used s ≤ claimed s
-used-claimed s = omega arith
+pub used-claimed : (ed : Edition) (s : State) → used ed s ≤ claimed ed s
+used-claimed ed s = omega arith
 
-pub claimed-settled : (s : State) → claimed (settledOnly s) ≡ used s
+pub claimed-settled : (ed : Edition) (s : State) → claimed ed (settledOnly s) ≡ used ed s
 unfolding total
-claimed-settled s = omega arith
+claimed-settled ed s = omega arith
 
-room-next : (s : State) (f : Frame) → claimed (nextState s f) ≤ claimed s + frameLen f
-room-next s (change h c) = omega (arith, change-room s h c)
-room-next s (commit h) = omega (arith, commit-room s h)
-room-next s (abort h) = omega (arith, abort-room s h)
-room-next s (settled i v) = omega (arith, objects-snoc (s .objects) (object i v))
+room-next : (ed : Edition) (s : State) (f : Frame) → claimed ed (nextState s f) ≤ claimed ed s + frameLen ed f
+room-next ed s (change h c) = omega (arith, change-room ed s h c)
+room-next ed s (commit h) = omega (arith, commit-room ed s h)
+room-next ed s (abort h) = omega (arith, abort-room ed s h)
+room-next ed s (settled i v) = omega (arith, objects-snoc ed (s .objects) (object i v))
 
-room-from : (s : State) (fs : List Frame) → claimed (replayFrom s fs) ≤ claimed s + total fs
+room-from : (ed : Edition) (s : State) (fs : List Frame) → claimed ed (replayFrom s fs) ≤ claimed ed s + total ed fs
 unfolding replayFrom total
-room-from s [] = omega arith
-room-from s (f ∷ fs) = omega (arith, room-from (nextState s f) fs, room-next s f)
+room-from ed s [] = omega arith
+room-from ed s (f ∷ fs) = omega (arith, room-from ed (nextState s f) fs, room-next ed s f)
 
-pub claimed-replay : (fs : List Frame) → claimed (replay fs) ≤ headerLen + total fs
+pub claimed-replay : (ed : Edition) (fs : List Frame) → claimed ed (replay fs) ≤ headerLen + total ed fs
 unfolding total
-claimed-replay fs = omega (arith, room-from (state [] []) fs)
+claimed-replay ed fs = omega (arith, room-from ed (state [] []) fs)
+
+-- the second edition's check is four bytes of each settled frame
+checks-total : (os : List Object) → total edition.Second (map settledFrame os) ≡ total edition.First (map settledFrame os) + 4 * length os
+unfolding total
+checks-total [] = refl
+checks-total (o ∷ os) = omega (arith, checks-total os)
+
+pub used-second : (s : State) → used edition.Second s ≡ used edition.First s + 4 * length (s .objects)
+used-second s = omega (arith, checks-total (s .objects))
 
 -- ---- U and the pending puts: with nothing pending it is U, and only a put makes it larger
 
-unfoldable pub putsOf : List Entry → ℕ
-putsOf [] = 0
-putsOf (e ∷ es) = putPart (e .what) + putsOf es
+unfoldable pub putsOf : (ed : Edition) → List Entry → ℕ
+putsOf ed [] = 0
+putsOf ed (e ∷ es) = putPart ed (e .what) + putsOf ed es
 
-abbrev pub kept : State → ℕ
-kept s = used s + putsOf (s .pending)
+abbrev pub kept : (ed : Edition) → State → ℕ
+kept ed s = used ed s + putsOf ed (s .pending)
 
-puts-snoc : (es : List Entry) (e : Entry) → putsOf (es ++ (e ∷ [])) ≡ putsOf es + putPart (e .what)
+puts-snoc : (ed : Edition) (es : List Entry) (e : Entry) → putsOf ed (es ++ (e ∷ [])) ≡ putsOf ed es + putPart ed (e .what)
 unfolding putsOf
-puts-snoc [] e = omega arith
-puts-snoc (x ∷ es) e = omega (arith, puts-snoc es e)
+puts-snoc ed [] e = omega arith
+puts-snoc ed (x ∷ es) e = omega (arith, puts-snoc ed es e)
 
-without-puts : (h : Host) (es : List Entry) → putParts (listOf h es) + putsOf (without h es) ≡ putsOf es
+without-puts : (ed : Edition) (h : Host) (es : List Entry) → putParts ed (listOf h es) + putsOf ed (without h es) ≡ putsOf ed es
 unfolding listOf without putsOf putParts
-without-puts h [] = refl
-without-puts h (e ∷ es) =
+without-puts ed h [] = refl
+without-puts ed h (e ∷ es) =
     on-test (eqb (h .0) (e .host .0))
-    (λ t. rw (t, listOf, without) (omega (arith, without-puts h es)))
-    (λ t. rw (t, listOf, without) (omega (arith, without-puts h es)))
+    (λ t. rw (t, listOf, without) (omega (arith, without-puts ed h es)))
+    (λ t. rw (t, listOf, without) (omega (arith, without-puts ed h es)))
 
-puts-total : (es : List Entry) → putsOf es ≤ total (map pendingFrame es)
+puts-total : (ed : Edition) (es : List Entry) → putsOf ed es ≤ total ed (map pendingFrame es)
 unfolding putsOf total
-puts-total [] = omega arith
-puts-total (e ∷ es) = omega (arith, puts-total es, put-part (e .host) (e .what))
+puts-total ed [] = omega arith
+puts-total ed (e ∷ es) = omega (arith, puts-total ed es, put-part ed (e .host) (e .what))
 
-pub kept-change : (s : State) (h : Host) (c : Change) → kept (nextState s (change h c)) ≡ kept s + putPart c
-kept-change s h c = omega (arith, puts-snoc (s .pending) (entry h c))
+pub kept-change : (ed : Edition) (s : State) (h : Host) (c : Change) → kept ed (nextState s (change h c)) ≡ kept ed s + putPart ed c
+kept-change ed s h c = omega (arith, puts-snoc ed (s .pending) (entry h c))
 
-pub kept-commit : (s : State) (h : Host) → kept (nextState s (commit h)) ≤ kept s
-kept-commit s h = omega (arith, changes-total (listOf h (s .pending)) (s .objects), without-puts h (s .pending))
+pub kept-commit : (ed : Edition) (s : State) (h : Host) → kept ed (nextState s (commit h)) ≤ kept ed s
+kept-commit ed s h = omega (arith, changes-total ed (listOf h (s .pending)) (s .objects), without-puts ed h (s .pending))
 
-pub kept-abort : (s : State) (h : Host) → kept (nextState s (abort h)) ≤ kept s
-kept-abort s h = omega (arith, without-puts h (s .pending))
+pub kept-abort : (ed : Edition) (s : State) (h : Host) → kept ed (nextState s (abort h)) ≤ kept ed s
+kept-abort ed s h = omega (arith, without-puts ed h (s .pending))
 
-pub used-kept : (s : State) → used s ≤ kept s
-used-kept s = omega arith
+pub used-kept : (ed : Edition) (s : State) → used ed s ≤ kept ed s
+used-kept ed s = omega arith
 
-pub kept-claimed : (s : State) → kept s ≤ claimed s
-kept-claimed s = omega (arith, puts-total (s .pending))
+pub kept-claimed : (ed : Edition) (s : State) → kept ed s ≤ claimed ed s
+kept-claimed ed s = omega (arith, puts-total ed (s .pending))
 
-pub kept-none : (s : State) → s .pending ≡ [] → kept s ≡ used s
+pub kept-none : (ed : Edition) (s : State) → s .pending ≡ [] → kept ed s ≡ used ed s
 unfolding putsOf
-kept-none s e = let q : putsOf (s .pending) ≡ 0 = ap putsOf e in omega arith
+kept-none ed s e = let q : putsOf ed (s .pending) ≡ 0 = ap (putsOf ed) e in omega arith
 
 -- ---- how many hosts have something pending
 

@@ -8,13 +8,15 @@ use lib.ListN.{length, getD}
 use borrow.Author.Tests.{eqb-true}
 use Rattle.flash.specs.Bytes.{Bytes, allFF}
 use Rattle.flash.proofs.Cases.{on-test}
+use Rattle.frame.specs.declared.Edition.{Edition}
 use Rattle.frame.specs.declared.Fault.{Fault}
 use Rattle.frame.specs.Frame.{total, nextOf}
 use Rattle.frame.specs.Reader.{Tail, clean, cut, bad, scan, ends}
 use Rattle.frame.specs.Sentences.{Torn}
-use Rattle.frame.proofs.First.{torn-reads, scan-read-torn, scan-blank, tail-clean, tail-cut}
-use Rattle.journal.specs.Block.{headerLen, stateAt, inTransfer, headerFault, Journal, BlockState, blank, inProgress, valid, foreign, ofHeader}
-use Rattle.journal.specs.Block.{blockState}
+use Rattle.frame.proofs.Exact.{torn-reads}
+use Rattle.frame.proofs.Scanning.{scan-read-torn, scan-blank}
+use Rattle.frame.proofs.Scanned.{tail-clean, tail-cut}
+use Rattle.journal.specs.Block.{headerLen, stateAt, inTransfer, headerFault, Journal, BlockState, blank, inProgress, valid, foreign, ofHeader, blockState}
 use Rattle.journal.specs.Sentences.{BlankBlock, InProgressBlock, TailIs, ValidBlock, ForeignBlock, StatesExact}
 use Rattle.journal.proofs.Blocks.{Okay, valid-block, blank-block, progress-block}
 use Rattle.journal.proofs.Faults.{fault-in, fault-state}
@@ -35,30 +37,31 @@ progress-is b e =
 
 -- ---- valid
 
-scan-torn : (next at : ℕ) (l : List ℕ) (n : ℕ) → Torn next l n → scan next at 0 l ≡ ends (cut n)
-scan-torn next at [] n y = absurd (omega (arith, y .would-fit))
-scan-torn next at (b ∷ l) n y = scan-read-torn next at b l n (torn-reads next at (b ∷ l) n y)
+scan-torn : (ed : Edition) (next at : ℕ) (l : List ℕ) (n : ℕ) → Torn ed next l n → scan ed next at 0 l ≡ ends (cut n)
+scan-torn ed next at [] n y = absurd (omega (arith, y .would-fit))
+scan-torn ed next at (b ∷ l) n y = scan-read-torn ed next at b l n (torn-reads ed next at (b ∷ l) n y)
 
-tail-okay : (next : ℕ) (l : List ℕ) (c : Tail) → TailIs next l c → Okay c
-tail-okay next l clean y = tt
-tail-okay next l (cut n) y = tt
-tail-okay next l (bad e) y = y
+tail-okay : (ed : Edition) (next : ℕ) (l : List ℕ) (c : Tail) → TailIs ed next l c → Okay c
+tail-okay ed next l clean y = tt
+tail-okay ed next l (cut n) y = tt
+tail-okay ed next l (bad e) y = y
 
-tail-scan : (next at : ℕ) (l : List ℕ) (c : Tail) → TailIs next l c → scan next at 0 l ≡ ends c
-tail-scan next at l clean y = ap (scan next at 0) y ∙ scan-blank next at (length l)
-tail-scan next at l (cut n) y = scan-torn next at l n y
-tail-scan next at l (bad e) y = absurd y
+tail-scan : (ed : Edition) (next at : ℕ) (l : List ℕ) (c : Tail) → TailIs ed next l c → scan ed next at 0 l ≡ ends c
+tail-scan ed next at l clean y = ap (scan ed next at 0) y ∙ scan-blank ed next at (length l)
+tail-scan ed next at l (cut n) y = scan-torn ed next at l n y
+tail-scan ed next at l (bad e) y = absurd y
 
-tail-is : (next at : ℕ) (l : List ℕ) (c : Tail) → Okay c → scan next at 0 l ≡ ends c → TailIs next l c
-tail-is next at l clean o e = tail-clean next at l e
-tail-is next at l (cut n) o e = tail-cut next at l n e
-tail-is next at l (bad f) o e = o
+tail-is : (ed : Edition) (next at : ℕ) (l : List ℕ) (c : Tail) → Okay c → scan ed next at 0 l ≡ ends c → TailIs ed next l c
+tail-is ed next at l clean o e = tail-clean ed next at l e
+tail-is ed next at l (cut n) o e = tail-cut ed next at l n e
+tail-is ed next at l (bad f) o e = o
 
 valid-state : (b : List ℕ) (j : Journal) → ValidBlock b j → blockState b ≡ valid j
 valid-state b j y =
     let n : ℕ = nextOf 0 (j .frames) in
     valid-block {s = length b} j (record { is = y .bytes; stands = y .frames; time-lo = y .time-lo; time-hi = y .time-hi; size = refl })
-    (tail-scan n (headerLen + total (j .frames)) (y .rest) (j .tail) (y .tail)) (tail-okay n (y .rest) (j .tail) (y .tail))
+    (tail-scan (j .edition) n (headerLen + total (j .edition) (j .frames)) (y .rest) (j .tail) (y .tail))
+    (tail-okay (j .edition) n (y .rest) (j .tail) (y .tail))
 
 valid-is : (b : List ℕ) (j : Journal) → Contents b j → ValidBlock b j
 valid-is b j x =
@@ -68,7 +71,7 @@ valid-is b j x =
       time-lo = x .layout .time-lo;
       time-hi = x .layout .time-hi;
       frames = x .layout .stands;
-      tail = tail-is (nextOf 0 (j .frames)) (headerLen + total (j .frames)) (x .rest) (j .tail) (x .okay) (x .reads);
+      tail = tail-is (j .edition) (nextOf 0 (j .frames)) (headerLen + total (j .edition) (j .frames)) (x .rest) (j .tail) (x .okay) (x .reads);
     }
 
 -- ---- all four

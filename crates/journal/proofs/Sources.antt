@@ -10,11 +10,12 @@ use lib.ListN.{length, getD, drop, length-append}
 use lib.Seq.{drop-at}
 use borrow.Author.Tests.{eq-eqb, ne-eqb, eqb-true}
 use Rattle.flash.proofs.Cases.{on-test}
+use Rattle.frame.specs.declared.Edition.{Edition}
 use Rattle.frame.specs.declared.ObjectId.{ObjectId}
-use Rattle.frame.specs.Frame.{Frame, mapFrame, encode, encodeAll, frameLen, total, MayStand}
-use Rattle.frame.specs.Frame.{AllMayStand, nextAfter}
+use Rattle.frame.specs.Frame.{Frame, mapFrame, encode, encodeAll, frameLen, total, MayStand, AllMayStand, nextAfter}
 use Rattle.frame.specs.Reader.{whole, readFrame}
-use Rattle.frame.proofs.First.{length-all, total-snoc, encode-append, read-back, stands-zero}
+use Rattle.frame.proofs.Encode.{length-all, total-snoc, encode-append, stands-zero}
+use Rattle.frame.proofs.Exact.{read-back}
 use Rattle.journal.specs.Block.{headerLen, Journal, header, validData}
 use Rattle.frame.proofs.Heads.{map-plain}
 use Rattle.journal.specs.Replay.{lookup, replay}
@@ -26,34 +27,34 @@ use Rattle.journal.proofs.Places.{Spot, spot, spots, spots-lookup, site
 
 -- ---- the frame at a place
 
-record Split (fs : List Frame) (i : ObjectId) (p : ℕ) (v : List ℕ) : Type 0 where
+record Split (ed : Edition) (fs : List Frame) (i : ObjectId) (p : ℕ) (v : List ℕ) : Type 0 where
   before : List Frame
   holder : Holder
   after : List Frame
   stands : fs ≡ before ++ (holding holder i v ∷ after)
-  place : p ≡ headerLen + total before
+  place : p ≡ headerLen + total ed before
 
-abbrev SplitAt : List Frame → ObjectId → Spot → Type 0
-SplitAt fs i x = Split fs i (x .place) (x .bytes)
+abbrev SplitAt : (ed : Edition) → List Frame → ObjectId → Spot → Type 0
+SplitAt ed fs i x = Split ed fs i (x .place) (x .bytes)
 
-split-one : (fs xs ys : List Frame) (f : Frame) (o : ℕ) → fs ≡ xs ++ (f ∷ ys) → o ≡ headerLen + total xs
-    → OfFrame (SplitAt fs) (mapFrame (spot o) f)
-split-one fs xs ys f o e q =
-    by-holder (λ g. fs ≡ xs ++ (g ∷ ys)) (λ g. SplitAt fs) (spot o)
+split-one : (ed : Edition) (fs xs ys : List Frame) (f : Frame) (o : ℕ) → fs ≡ xs ++ (f ∷ ys) → o ≡ headerLen + total ed xs
+    → OfFrame (SplitAt ed fs) (mapFrame (spot o) f)
+split-one ed fs xs ys f o e q =
+    by-holder (λ g. fs ≡ xs ++ (g ∷ ys)) (λ g. SplitAt ed fs) (spot o)
     (λ x i v k. record { before = xs; holder = x; after = ys; stands = k; place = q }) f e
 
-split-all : (fs xs ys : List Frame) (o : ℕ) → fs ≡ xs ++ ys → o ≡ headerLen + total xs
-    → AllFrames (SplitAt fs) (spots o ys)
+split-all : (ed : Edition) (fs xs ys : List Frame) (o : ℕ) → fs ≡ xs ++ ys → o ≡ headerLen + total ed xs
+    → AllFrames (SplitAt ed fs) (spots ed o ys)
 unfolding located
-split-all fs xs [] o e q = tt
-split-all fs xs (f ∷ ys) o e q = (
-  split-one fs xs ys f o e q,
-  split-all fs (xs ++ (f ∷ [])) ys (o + frameLen f) (e ∙ sym (append-assoc xs (f ∷ []) ys)) (omega (arith, total-snoc xs f)),
+split-all ed fs xs [] o e q = tt
+split-all ed fs xs (f ∷ ys) o e q = (
+  split-one ed fs xs ys f o e q,
+  split-all ed fs (xs ++ (f ∷ [])) ys (o + frameLen ed f) (e ∙ sym (append-assoc xs (f ∷ []) ys)) (omega (arith, total-snoc ed xs f)),
 )
 
-no-frames : headerLen ≡ headerLen + total []
+no-frames : (ed : Edition) → headerLen ≡ headerLen + total ed []
 unfolding total
-no-frames = refl
+no-frames ed = refl
 
 -- ---- another value in that frame
 
@@ -63,50 +64,50 @@ swap q w p v = cond (eqb p q) w v
 swap-other : (q : ℕ) (w : List ℕ) (o : ℕ) (f : Frame) → (o ≡ q → ⊥) → mapFrame (swap q w o) f ≡ f
 swap-other q w o f n = ap (λ (b : Bool). mapFrame (λ (v : List ℕ). cond b w v) f) (ne-eqb o q n) ∙ map-plain f
 
-swap-later : (q : ℕ) (w : List ℕ) (o : ℕ) (fs : List Frame) → q < o → located (swap q w) o fs ≡ fs
+swap-later : (ed : Edition) (q : ℕ) (w : List ℕ) (o : ℕ) (fs : List Frame) → q < o → located ed (swap q w) o fs ≡ fs
 unfolding located
-swap-later q w o [] l = refl
-swap-later q w o (f ∷ fs) l =
-    ap₂ (λ (x : Frame) (xs : List Frame). x ∷ xs) (swap-other q w o f (λ e. omega arith)) (swap-later q w (o + frameLen f) fs (omega arith))
+swap-later ed q w o [] l = refl
+swap-later ed q w o (f ∷ fs) l =
+    ap₂ (λ (x : Frame) (xs : List Frame). x ∷ xs) (swap-other q w o f (λ e. omega arith)) (swap-later ed q w (o + frameLen ed f) fs (omega arith))
 
 swap-own : (q : ℕ) (w : List ℕ) (k : Holder) (i : ObjectId) (v : List ℕ) → mapFrame (swap q w q) (holding k i v) ≡ holding k i w
 swap-own q w (putBy h) i v = rw (eq-eqb q q refl) refl
 swap-own q w settledAs i v = rw (eq-eqb q q refl) refl
 
-swapped : (q : ℕ) (w : List ℕ) (o : ℕ) (xs : List Frame) (k : Holder) (i : ObjectId) (v : List ℕ) (ys : List Frame) → q ≡ o + total xs
-    → located (swap q w) o (xs ++ (holding k i v ∷ ys)) ≡ xs ++ (holding k i w ∷ ys)
+swapped : (ed : Edition) (q : ℕ) (w : List ℕ) (o : ℕ) (xs : List Frame) (k : Holder) (i : ObjectId) (v : List ℕ) (ys : List Frame) → q ≡ o + total ed xs
+    → located ed (swap q w) o (xs ++ (holding k i v ∷ ys)) ≡ xs ++ (holding k i w ∷ ys)
 unfolding located total
-swapped q w o [] k i v ys e =
+swapped ed q w o [] k i v ys e =
     let z : o ≡ q = omega arith in
     ap₂ (λ (x : Frame) (l : List Frame). x ∷ l)
     (subst (λ (p : ℕ). mapFrame (swap q w p) (holding k i v) ≡ holding k i w) (sym z) (swap-own q w k i v))
-    (swap-later q w (o + frameLen (holding k i v)) ys (omega arith))
-swapped q w o (f ∷ xs) k i v ys e =
-    ap₂ (λ (x : Frame) (l : List Frame). x ∷ l) (swap-other q w o f (λ z. omega arith)) (swapped q w (o + frameLen f) xs k i v ys (omega arith))
+    (swap-later ed q w (o + frameLen ed (holding k i v)) ys (omega arith))
+swapped ed q w o (f ∷ xs) k i v ys e =
+    ap₂ (λ (x : Frame) (l : List Frame). x ∷ l) (swap-other q w o f (λ z. omega arith)) (swapped ed q w (o + frameLen ed f) xs k i v ys (omega arith))
 
 -- ---- the value in the block's bytes
 
-stands-there : (n : ℕ) (xs ys : List Frame) (f : Frame) → AllMayStand n (xs ++ (f ∷ ys)) → MayStand 0 f
-stands-there n [] ys f (g, gs) = stands-zero n f g
-stands-there n (x ∷ xs) ys f (g, gs) = stands-there (nextAfter x) xs ys f gs
+stands-there : (ed : Edition) (n : ℕ) (xs ys : List Frame) (f : Frame) → AllMayStand ed n (xs ++ (f ∷ ys)) → MayStand ed 0 f
+stands-there ed n [] ys f (g, gs) = stands-zero ed n f g
+stands-there ed n (x ∷ xs) ys f (g, gs) = stands-there ed (nextAfter x) xs ys f gs
 
-value-there : (b : List ℕ) (k : Holder) (i : ObjectId) (v : List ℕ) (p : ℕ) → headerLen ≤ p
-    → readFrame 0 p (drop p b) ≡ whole (holding k i v) → valueAt b i p ≡ some (record { at = p + front k; bytes = v })
+value-there : (ed : Edition) (b : List ℕ) (k : Holder) (i : ObjectId) (v : List ℕ) (p : ℕ) → headerLen ≤ p
+    → readFrame ed 0 p (drop p b) ≡ whole (holding k i v) → valueAt ed b i p ≡ some (record { at = p + front k; bytes = v })
 unfolding valueAt
-value-there b (putBy h) i v p l e = rw (ne-eqb p 0 (omega arith), e, eq-eqb (i .0) (i .0) refl, valueAt) refl
-value-there b settledAs i v p l e = rw (ne-eqb p 0 (omega arith), e, eq-eqb (i .0) (i .0) refl, valueAt) refl
+value-there ed b (putBy h) i v p l e = rw (ne-eqb p 0 (omega arith), e, eq-eqb (i .0) (i .0) refl, valueAt) refl
+value-there ed b settledAs i v p l e = rw (ne-eqb p 0 (omega arith), e, eq-eqb (i .0) (i .0) refl, valueAt) refl
 
 -- ---- what replay of the spots finds
 
-module _ (fs : List Frame) (i : ObjectId) (v : List ℕ) (s : lookup i (objectsAfter fs) ≡ some v) where
-  no-spot : {P : Type 0} → lookup i (replay (spots headerLen fs) .objects) ≡ none → P
+module _ (ed : Edition) (fs : List Frame) (i : ObjectId) (v : List ℕ) (s : lookup i (objectsAfter fs) ≡ some v) where
+  no-spot : {P : Type 0} → lookup i (replay (spots ed headerLen fs) .objects) ≡ none → P
   no-spot q =
-      let z : none ≡ some v = sym (bytes-lookup fs i ∙ ap (Option·map (λ (u : Spot). u .bytes)) q) ∙ s in
+      let z : none ≡ some v = sym (bytes-lookup ed fs i ∙ ap (Option·map (λ (u : Spot). u .bytes)) q) ∙ s in
       let d : _≡_ {A = ℕ} 0 1 = cc in
       absurd (omega arith)
 
-  bytes-are : (x : Spot) → lookup i (replay (spots headerLen fs) .objects) ≡ some x → x .bytes ≡ v
-  bytes-are x q = let z : some (x .bytes) ≡ some v = sym (bytes-lookup fs i ∙ ap (Option·map (λ (u : Spot). u .bytes)) q) ∙ s in cc
+  bytes-are : (x : Spot) → lookup i (replay (spots ed headerLen fs) .objects) ≡ some x → x .bytes ≡ v
+  bytes-are x q = let z : some (x .bytes) ≡ some v = sym (bytes-lookup ed fs i ∙ ap (Option·map (λ (u : Spot). u .bytes)) q) ∙ s in cc
 
 apart : (h p f n r : List ℕ) → h ++ ((p ++ (f ++ n)) ++ r) ≡ (h ++ p) ++ (f ++ (n ++ r))
 apart h p f n r = simp append-assoc
@@ -116,76 +117,83 @@ module _ (b : List ℕ) (j : Journal) (i : ObjectId) (v : List ℕ) (y : ValidBl
   fs = j .frames
 
   abbrev Found : Type 0
-  Found = (at : ℕ) × (valueAt b i (getD (placesOf fs) (i .0) 0) ≡ some (record { at = at; bytes = v })) × TakenFrom fs i v at
+  Found = (at : ℕ) × (valueAt (j .edition) b i (getD (placesOf (j .edition) fs) (i .0) 0) ≡ some (record { at = at; bytes = v }))
+      × TakenFrom (j .edition) fs i v at
 
-  module _ (x : Spot) (q : lookup i (replay (spots headerLen fs) .objects) ≡ some x) where
-    place-is : getD (placesOf fs) (i .0) 0 ≡ x .place
-    place-is = place-at fs i h ∙ ap orZero (sited-lookup fs i ∙ ap (Option·map (λ (u : Spot). u .place)) q)
+  module _ (x : Spot) (q : lookup i (replay (spots (j .edition) headerLen fs) .objects) ≡ some x) where
+    place-is : getD (placesOf (j .edition) fs) (i .0) 0 ≡ x .place
+    place-is = place-at (j .edition) fs i h ∙ ap orZero (sited-lookup (j .edition) fs i ∙ ap (Option·map (λ (u : Spot). u .place)) q)
 
-    split : Split fs i (x .place) v
+    split : Split (j .edition) fs i (x .place) v
     split =
-        let a : AllFrames (SplitAt fs) (spots headerLen fs) = split-all fs [] fs headerLen refl no-frames in
-        subst (Split fs i (x .place)) (bytes-are fs i v s x q)
-        (all-lookup (SplitAt fs) i (replay (spots headerLen fs) .objects) x (all-replay (SplitAt fs) (spots headerLen fs) a .0) q)
+        let a : AllFrames (SplitAt (j .edition) fs) (spots (j .edition) headerLen fs) =
+        split-all (j .edition) fs [] fs headerLen refl (no-frames (j .edition)) in
+        subst (Split (j .edition) fs i (x .place)) (bytes-are (j .edition) fs i v s x q)
+        (all-lookup (SplitAt (j .edition) fs) i (replay (spots (j .edition) headerLen fs) .objects) x
+        (all-replay (SplitAt (j .edition) fs) (spots (j .edition) headerLen fs) a .0) q)
 
-    taken : (z : Split fs i (x .place) v) (w : List ℕ) → lookup i (objectsAfter (z .before ++ (holding (z .holder) i w ∷ z .after))) ≡ some w
+    taken : (z : Split (j .edition) fs i (x .place) v) (w : List ℕ) → lookup i (objectsAfter (z .before ++ (holding (z .holder) i w ∷ z .after))) ≡ some w
     taken z w =
         let g : Spot → List ℕ = λ u. swap (x .place) w (u .place) (u .bytes) in
-        let e : located (swap (x .place) w) headerLen fs ≡ z .before ++ (holding (z .holder) i w ∷ z .after) =
-        ap (located (swap (x .place) w) headerLen) (z .stands) ∙ swapped (x .place) w headerLen (z .before) (z .holder) i v (z .after) (z .place) in
-        ap (λ (l : List Frame). lookup i (replay l .objects)) (sym e) ∙ spots-lookup g fs i ∙ ap (Option·map g) q
+        let e : located (j .edition) (swap (x .place) w) headerLen fs ≡ z .before ++ (holding (z .holder) i w ∷ z .after) =
+        ap (located (j .edition) (swap (x .place) w) headerLen) (z .stands)
+        ∙ swapped (j .edition) (x .place) w headerLen (z .before) (z .holder) i v (z .after) (z .place) in
+        ap (λ (l : List Frame). lookup i (replay l .objects)) (sym e) ∙ spots-lookup (j .edition) g fs i ∙ ap (Option·map g) q
         ∙ ap (λ (d : Bool). some (cond d w (x .bytes))) (eq-eqb (x .place) (x .place) refl)
 
-    read : (z : Split fs i (x .place) v) → readFrame 0 (x .place) (drop (x .place) b) ≡ whole (holding (z .holder) i v)
+    read : (z : Split (j .edition) fs i (x .place) v) → readFrame (j .edition) 0 (x .place) (drop (x .place) b) ≡ whole (holding (z .holder) i v)
     unfolding encodeAll
     read z =
         let f : Frame = holding (z .holder) i v in
-        let pre : List ℕ = header (j .time) validData ++ encodeAll (z .before) in
-        let post : List ℕ = encodeAll (z .after) ++ y .rest in
-        let e : encodeAll fs ≡ encodeAll (z .before) ++ (encode f ++ encodeAll (z .after)) =
-        ap encodeAll (z .stands) ∙ encode-append (z .before) (f ∷ z .after) in
-        let e′ : b ≡ pre ++ (encode f ++ post) =
-        y .bytes ∙ ap (λ (l : List ℕ). header (j .time) validData ++ (l ++ y .rest)) e
-        ∙ apart (header (j .time) validData) (encodeAll (z .before)) (encode f) (encodeAll (z .after)) (y .rest) in
+        let pre : List ℕ = header (j .edition) (j .time) validData ++ encodeAll (j .edition) (z .before) in
+        let post : List ℕ = encodeAll (j .edition) (z .after) ++ y .rest in
+        let e : encodeAll (j .edition) fs ≡ encodeAll (j .edition) (z .before) ++ (encode (j .edition) f ++ encodeAll (j .edition) (z .after)) =
+        ap (encodeAll (j .edition)) (z .stands) ∙ encode-append (j .edition) (z .before) (f ∷ z .after) in
+        let e′ : b ≡ pre ++ (encode (j .edition) f ++ post) =
+        y .bytes ∙ ap (λ (l : List ℕ). header (j .edition) (j .time) validData ++ (l ++ y .rest)) e
+        ∙ apart (header (j .edition) (j .time) validData) (encodeAll (j .edition) (z .before)) (encode (j .edition) f)
+        (encodeAll (j .edition) (z .after)) (y .rest) in
         let l : length pre ≡ x .place =
-        length-append (header (j .time) validData) (encodeAll (z .before)) ∙ omega (arith, z .place, length-all (z .before)) in
-        ap (λ (d : List ℕ). readFrame 0 (x .place) (drop (x .place) d)) e′
-        ∙ ap (readFrame 0 (x .place)) (drop-at pre (encode f ++ post) (x .place) l)
-        ∙ read-back 0 (x .place) f post (stands-there 0 (z .before) (z .after) f (subst (AllMayStand 0) (z .stands) (y .frames)))
+        length-append (header (j .edition) (j .time) validData) (encodeAll (j .edition) (z .before))
+        ∙ omega (arith, z .place, length-all (j .edition) (z .before)) in
+        ap (λ (d : List ℕ). readFrame (j .edition) 0 (x .place) (drop (x .place) d)) e′
+        ∙ ap (readFrame (j .edition) 0 (x .place)) (drop-at pre (encode (j .edition) f ++ post) (x .place) l)
+        ∙ read-back (j .edition) 0 (x .place) f post
+        (stands-there (j .edition) 0 (z .before) (z .after) f (subst (AllMayStand (j .edition) 0) (z .stands) (y .frames)))
 
-    found : Split fs i (x .place) v → Found
+    found : Split (j .edition) fs i (x .place) v → Found
     found z = (
       x .place + front (z .holder),
-      ap (valueAt b i) place-is ∙ value-there b (z .holder) i v (x .place) (omega (arith, z .place)) (read z),
+      ap (valueAt (j .edition) b i) place-is ∙ value-there (j .edition) b (z .holder) i v (x .place) (omega (arith, z .place)) (read z),
       record {
         before = z .before;
         holder = z .holder;
         after = z .after;
         stands = z .stands;
         taken = taken z;
-        at-is = omega (arith, z .place, length-all (z .before));
+        at-is = omega (arith, z .place, length-all (j .edition) (z .before));
       },
     )
 
   found-some : Found
-  found-some = go (lookup i (replay (spots headerLen fs) .objects)) refl
+  found-some = go (lookup i (replay (spots (j .edition) headerLen fs) .objects)) refl
     where
-      go : (o : Option Spot) → lookup i (replay (spots headerLen fs) .objects) ≡ o → Found
-      go none q = no-spot fs i v s q
+      go : (o : Option Spot) → lookup i (replay (spots (j .edition) headerLen fs) .objects) ≡ o → Found
+      go none q = no-spot (j .edition) fs i v s q
       go (some x) q = found x q (split x q)
 
 -- ---- the words settle the place
 
-same-frame : (xs ys : List Frame) (f g : Frame) (us ws : List Frame) → total xs ≡ total ys → xs ++ (f ∷ us) ≡ ys ++ (g ∷ ws) → f ≡ g
+same-frame : (ed : Edition) (xs ys : List Frame) (f g : Frame) (us ws : List Frame) → total ed xs ≡ total ed ys → xs ++ (f ∷ us) ≡ ys ++ (g ∷ ws) → f ≡ g
 unfolding total
-same-frame [] [] f g us ws n e = cc
-same-frame [] (y ∷ ys) f g us ws n e = absurd (omega arith)
-same-frame (x ∷ xs) [] f g us ws n e = absurd (omega arith)
-same-frame (x ∷ xs) (y ∷ ys) f g us ws n e =
+same-frame ed [] [] f g us ws n e = cc
+same-frame ed [] (y ∷ ys) f g us ws n e = absurd (omega arith)
+same-frame ed (x ∷ xs) [] f g us ws n e = absurd (omega arith)
+same-frame ed (x ∷ xs) (y ∷ ys) f g us ws n e =
     let h : x ≡ y = cc in
     let t : xs ++ (f ∷ us) ≡ ys ++ (g ∷ ws) = cc in
-    let l : frameLen x ≡ frameLen y = ap frameLen h in
-    same-frame xs ys f g us ws (omega arith) t
+    let l : frameLen ed x ≡ frameLen ed y = ap (frameLen ed) h in
+    same-frame ed xs ys f g us ws (omega arith) t
 
 same-front : (k j : Holder) (i : ObjectId) (v : List ℕ) → holding k i v ≡ holding j i v → front k ≡ front j
 same-front (putBy h) (putBy g) i v e = refl
@@ -193,45 +201,45 @@ same-front (putBy h) settledAs i v e = let z : _≡_ {A = ℕ} 0 1 = cc in absur
 same-front settledAs (putBy g) i v e = let z : _≡_ {A = ℕ} 0 1 = cc in absurd (omega arith)
 same-front settledAs settledAs i v e = refl
 
-module _ (fs : List Frame) (i : ObjectId) (v : List ℕ) where
-  has : (at : ℕ) → TakenFrom fs i v at → lookup i (objectsAfter fs) ≡ some v
+module _ (ed : Edition) (fs : List Frame) (i : ObjectId) (v : List ℕ) where
+  has : (at : ℕ) → TakenFrom ed fs i v at → lookup i (objectsAfter fs) ≡ some v
   has at z = ap (λ (l : List Frame). lookup i (objectsAfter l)) (z .stands) ∙ z .taken v
 
   -- a longer value in the frame is found, so the frame is the one that replay took the value from
-  at-frame : (at : ℕ) (z : TakenFrom fs i v at) (x : Spot) → lookup i (replay (spots headerLen fs) .objects) ≡ some x
-      → x .place ≡ headerLen + total (z .before)
+  at-frame : (at : ℕ) (z : TakenFrom ed fs i v at) (x : Spot) → lookup i (replay (spots ed headerLen fs) .objects) ≡ some x
+      → x .place ≡ headerLen + total ed (z .before)
   at-frame at z x q =
-      let p : ℕ = headerLen + total (z .before) in
+      let p : ℕ = headerLen + total ed (z .before) in
       let w : List ℕ = 0 ∷ v in
       let g : Spot → List ℕ = λ u. swap p w (u .place) (u .bytes) in
-      let e : located (swap p w) headerLen fs ≡ z .before ++ (holding (z .holder) i w ∷ z .after) =
-      ap (located (swap p w) headerLen) (z .stands) ∙ swapped p w headerLen (z .before) (z .holder) i v (z .after) refl in
+      let e : located ed (swap p w) headerLen fs ≡ z .before ++ (holding (z .holder) i w ∷ z .after) =
+      ap (located ed (swap p w) headerLen) (z .stands) ∙ swapped ed p w headerLen (z .before) (z .holder) i v (z .after) refl in
       let a : some (g x) ≡ some w =
-      sym (ap (Option·map g) q) ∙ sym (spots-lookup g fs i) ∙ ap (λ (l : List Frame). lookup i (replay l .objects)) e ∙ z .taken w in
+      sym (ap (Option·map g) q) ∙ sym (spots-lookup ed g fs i) ∙ ap (λ (l : List Frame). lookup i (replay l .objects)) e ∙ z .taken w in
       let b : g x ≡ w = cc in
       on-test (eqb (x .place) p) (λ t. eqb-true (x .place) p t)
       (λ t.
       let c : x .bytes ≡ w = sym (ap (λ (d : Bool). cond d w (x .bytes)) t) ∙ b in
-      let l : length v ≡ length w = ap length (sym (bytes-are fs i v (has at z) x q) ∙ c) in
+      let l : length v ≡ length w = ap length (sym (bytes-are ed fs i v (has at z) x q) ∙ c) in
       absurd (omega arith))
 
-  once : (at at′ : ℕ) → TakenFrom fs i v at → TakenFrom fs i v at′ → at ≡ at′
-  once at at′ z z′ = go (lookup i (replay (spots headerLen fs) .objects)) refl
+  once : (at at′ : ℕ) → TakenFrom ed fs i v at → TakenFrom ed fs i v at′ → at ≡ at′
+  once at at′ z z′ = go (lookup i (replay (spots ed headerLen fs) .objects)) refl
     where
-      go : (o : Option Spot) → lookup i (replay (spots headerLen fs) .objects) ≡ o → at ≡ at′
-      go none q = no-spot fs i v (has at z) q
+      go : (o : Option Spot) → lookup i (replay (spots ed headerLen fs) .objects) ≡ o → at ≡ at′
+      go none q = no-spot ed fs i v (has at z) q
       go (some x) q =
-          let n : total (z .before) ≡ total (z′ .before) = omega (arith, at-frame at z x q, at-frame at′ z′ x q) in
+          let n : total ed (z .before) ≡ total ed (z′ .before) = omega (arith, at-frame at z x q, at-frame at′ z′ x q) in
           let f : front (z .holder) ≡ front (z′ .holder) =
           same-front (z .holder) (z′ .holder) i v
-          (same-frame (z .before) (z′ .before) (holding (z .holder) i v) (holding (z′ .holder) i v) (z .after) (z′ .after) n
+          (same-frame ed (z .before) (z′ .before) (holding (z .holder) i v) (holding (z′ .holder) i v) (z .after) (z′ .after) n
           (sym (z .stands) ∙ z′ .stands)) in
-          omega (arith, z .at-is, z′ .at-is, length-all (z .before), length-all (z′ .before))
+          omega (arith, z .at-is, z′ .at-is, length-all ed (z .before), length-all ed (z′ .before))
 
 pub place-exact : PlaceExact
 place-exact =
     record {
       found = found-some;
-      absent = λ b fs i h n. ap (valueAt b i) (no-place fs i h n) ∙ value-zero b i;
+      absent = λ ed b fs i h n. ap (valueAt ed b i) (no-place ed fs i h n) ∙ value-zero ed b i;
       once = once;
     }

@@ -11,13 +11,14 @@ use borrow.Author.Tests.{eqb-true, eqb-false}
 use Rattle.flash.specs.Bytes.{Bytes, u16le, u32le, le32, allFF, sameBytes}
 use Rattle.flash.proofs.Cases.{on-test}
 use Rattle.flash.proofs.Blank.{all-ff, same-is, le32-small, byte-at}
+use Rattle.frame.specs.declared.Edition.{Edition}
 use Rattle.frame.specs.declared.Fault.{Fault}
 use Rattle.frame.specs.Frame.{total, nextOf}
 use Rattle.frame.specs.Reader.{Tail, clean, cut, bad, Scan, scan, ends}
-use Rattle.frame.proofs.First.{Scanned, scan-inv, scan-clean}
-use Rattle.journal.specs.Block.{headerLen, headerKind, lastTime, stateAt, inTransfer, validData, header, createdAt, headerFault}
+use Rattle.frame.proofs.Scanned.{Scanned, scan-inv, scan-clean}
+use Rattle.journal.specs.Block.{headerLen, headerKind, lastTime, stateAt, inTransfer, validData, header, createdAt, editionIn, headerFault}
 use Rattle.journal.specs.Block.{Journal, BlockState, blank, inProgress, valid, foreign, ofTail, ofJournal, ofHeader, blockState}
-use Rattle.journal.proofs.Blocks.{Layout, Header, Okay, scanned, valid-block}
+use Rattle.journal.proofs.Blocks.{Layout, Header, Okay, scanOf, scanned, valid-block}
 
 some-none : {A : Type 0} {a : A} → some a ≡ none → ⊥
 some-none e = let z : _≡_ {A = ℕ} 0 1 = cc in omega arith
@@ -28,7 +29,7 @@ pub header-inv : (b : List ℕ) → headerFault b ≡ none → Header b
 unfolding headerFault
 header-inv b e =
     on-test (sameBytes (take 2 b) (u16le headerLen))
-    (λ p. on-test (sameBytes (take 2 (drop 2 b)) (u16le headerKind))
+    (λ p. on-test (sameBytes (take 2 (drop 2 b)) (u16le (headerKind (editionIn b))))
     (λ q. on-test (eqb (createdAt b) 0)
     (λ r. absurd (some-none (rw (p, q, r, headerFault) at e)))
     (λ r. on-test (eqb (getD b stateAt 0) validData)
@@ -76,7 +77,7 @@ time-bytes b y h =
     ∙ ap u32le e
 
 -- the first sixteen bytes of a block whose header is without fault
-pub header-bytes : (b : List ℕ) → Bytes b → headerLen ≤ length b → Header b → b ≡ header (createdAt b) validData ++ drop headerLen b
+pub header-bytes : (b : List ℕ) → Bytes b → headerLen ≤ length b → Header b → b ≡ header (editionIn b) (createdAt b) validData ++ drop headerLen b
 header-bytes b y h x =
     let join : List ℕ → List ℕ → List ℕ = λ u v. u ++ v in
     let mark : take 1 (drop 8 b) ≡ validData ∷ [] =
@@ -86,7 +87,7 @@ header-bytes b y h x =
     part 0 2 b
     ∙ ap₂ join (same-is (take 2 b) (u16le headerLen) (x .long))
     (part 2 2 b
-    ∙ ap₂ join (same-is (take 2 (drop 2 b)) (u16le headerKind) (x .kind))
+    ∙ ap₂ join (same-is (take 2 (drop 2 b)) (u16le (headerKind (editionIn b))) (x .kind))
     (part 4 4 b
     ∙ ap₂ join (time-bytes b y (omega arith)) (part 8 1 b ∙ ap₂ join mark (part 9 7 b ∙ ap (λ (u : List ℕ). u ++ drop 16 b) spare))))
 
@@ -105,7 +106,7 @@ tail-headed j (cut n) = tt
 tail-headed j (bad e) = tt
 
 pub header-headed : (b : List ℕ) (o : Option Fault) → Headed (ofHeader b o)
-header-headed b none = let s : Scan = scan 0 headerLen 0 (drop headerLen b) in tail-headed (scanned (createdAt b) s) (s .tail)
+header-headed b none = let s : Scan = scanOf b (editionIn b) in tail-headed (scanned (editionIn b) (createdAt b) s) (s .tail)
 header-headed b (some e) = tt
 
 pub blank-is : (b : List ℕ) → blockState b ≡ blank → b ≡ replicate (length b) 255
@@ -122,7 +123,7 @@ blank-is b e =
 pub record Contents (b : List ℕ) (j : Journal) : Type 0 where
   pub rest : List ℕ
   pub layout : Layout (length b) b j rest
-  pub reads : scan (nextOf 0 (j .frames)) (headerLen + total (j .frames)) 0 rest ≡ ends (j .tail)
+  pub reads : scan (j .edition) (nextOf 0 (j .frames)) (headerLen + total (j .edition) (j .frames)) 0 rest ≡ ends (j .tail)
   pub okay : Okay (j .tail)
   pub clean-is : j .tail ≡ clean → rest ≡ replicate (length rest) 255
 
@@ -132,14 +133,14 @@ tail-valid i j (cut n) e = (cc, tt)
 tail-valid i j (bad f) e = let z : _≡_ {A = ℕ} 0 1 = cc in absurd (omega arith)
 
 contents : (b : List ℕ) → Bytes b → headerLen ≤ length b → Header b
-    → let s : Scan = scan 0 headerLen 0 (drop headerLen b) in Okay (s .tail) → Contents b (scanned (createdAt b) s)
+    → let s : Scan = scanOf b (editionIn b) in Okay (s .tail) → Contents b (scanned (editionIn b) (createdAt b) s)
 contents b y h x o =
-    let s : Scan = scan 0 headerLen 0 (drop headerLen b) in
-    let z : Scanned 0 headerLen (drop headerLen b) s = scan-inv 0 headerLen (drop headerLen b) in
+    let s : Scan = scanOf b (editionIn b) in
+    let z : Scanned (editionIn b) 0 headerLen (drop headerLen b) s = scan-inv (editionIn b) 0 headerLen (drop headerLen b) in
     record {
       rest = z .rest;
       layout = record {
-        is = header-bytes b y h x ∙ ap (λ (l : List ℕ). header (createdAt b) validData ++ l) (z .is);
+        is = header-bytes b y h x ∙ ap (λ (l : List ℕ). header (editionIn b) (createdAt b) validData ++ l) (z .is);
         stands = z .stands;
         time-lo = omega (arith, eqb-false (createdAt b) 0 (x .created));
         time-hi = omega arith;
@@ -147,7 +148,7 @@ contents b y h x o =
       };
       reads = z .tail;
       okay = o;
-      clean-is = scan-clean 0 headerLen (drop headerLen b) s z;
+      clean-is = scan-clean (editionIn b) 0 headerLen (drop headerLen b) s z;
     }
 
 pub valid-inv : (b : List ℕ) (j : Journal) → Bytes b → headerLen ≤ length b → blockState b ≡ valid j → Contents b j
@@ -162,17 +163,19 @@ valid-inv b j y h e =
     go : (o : Option Fault) → headerFault b ≡ o → ofHeader b (headerFault b) ≡ valid j → Contents b j
     go (some f) g q = let r : foreign f ≡ valid j = rw g at q in let z : _≡_ {A = ℕ} 0 1 = cc in absurd (omega arith)
     go none g q =
-        let s : Scan = scan 0 headerLen 0 (drop headerLen b) in
-        let r : ofJournal (scanned (createdAt b) s) ≡ valid j = rw g at q in
-        let x = tail-valid (scanned (createdAt b) s) j (s .tail) r in
+        let s : Scan = scanOf b (editionIn b) in
+        let r : ofJournal (scanned (editionIn b) (createdAt b) s) ≡ valid j = rw g at q in
+        let x = tail-valid (scanned (editionIn b) (createdAt b) s) j (s .tail) r in
         subst (Contents b) (x .0) (contents b y h (header-inv b g) (x .1))
 
 -- what a valid block's header says, whatever else the block holds
-pub record Stamped (b : List ℕ) (t : ℕ) : Type 0 where
+pub record Stamped (b : List ℕ) (ed : Edition) (t : ℕ) : Type 0 where
+  pub edition : editionIn b ≡ ed
+  pub kind : take 2 (drop 2 b) ≡ u16le (headerKind ed)
   pub created : createdAt b ≡ t
   pub state : getD b stateAt 0 ≡ validData
 
-pub valid-stamped : {b : List ℕ} {j : Journal} → blockState b ≡ valid j → Stamped b (j .time)
+pub valid-stamped : {b : List ℕ} {j : Journal} → blockState b ≡ valid j → Stamped b (j .edition) (j .time)
 unfolding blockState
 valid-stamped {b} {j} e =
     on-test (allFF b)
@@ -181,13 +184,18 @@ valid-stamped {b} {j} e =
     (λ p. let q : inProgress ≡ valid j = rw (a, p, blockState) at e in let z : _≡_ {A = ℕ} 0 1 = cc in absurd (omega arith))
     (λ p. go (headerFault b) refl (rw (a, p, blockState) at e)))
   where
-    go : (o : Option Fault) → headerFault b ≡ o → ofHeader b (headerFault b) ≡ valid j → Stamped b (j .time)
+    go : (o : Option Fault) → headerFault b ≡ o → ofHeader b (headerFault b) ≡ valid j → Stamped b (j .edition) (j .time)
     go (some f) g q = let r : foreign f ≡ valid j = rw g at q in let z : _≡_ {A = ℕ} 0 1 = cc in absurd (omega arith)
     go none g q =
-        let s : Scan = scan 0 headerLen 0 (drop headerLen b) in
-        let r : ofJournal (scanned (createdAt b) s) ≡ valid j = rw g at q in
+        let s : Scan = scanOf b (editionIn b) in
+        let r : ofJournal (scanned (editionIn b) (createdAt b) s) ≡ valid j = rw g at q in
+        let is : scanned (editionIn b) (createdAt b) s ≡ j = tail-valid (scanned (editionIn b) (createdAt b) s) j (s .tail) r .0 in
         record {
-          created = ap (λ (i : Journal). i .time) (tail-valid (scanned (createdAt b) s) j (s .tail) r .0);
+          edition = ap (λ (i : Journal). i .edition) is;
+          kind =
+              same-is (take 2 (drop 2 b)) (u16le (headerKind (editionIn b))) (header-inv b g .kind)
+              ∙ ap (λ (i : Journal). u16le (headerKind (i .edition))) is;
+          created = ap (λ (i : Journal). i .time) is;
           state = eqb-true (getD b stateAt 0) validData (header-inv b g .state);
         }
 

@@ -7,6 +7,7 @@ use Prim.Native.Nat.{ℕ}
 use lib.ListN.{replicate}
 use Rattle.flash.specs.Flash.{writeAll}
 use Rattle.flash.specs.Raised.{Raised}
+use Rattle.frame.specs.declared.Edition.the-variants as edition
 use Rattle.frame.specs.Frame.{hostOf, idOf, Frame, change, commit, put}
 use Rattle.frame.specs.Reader.{clean}
 use Rattle.journal.specs.Replay.{State, state, object, entry, replay, settledOnly}
@@ -25,16 +26,16 @@ both =
     ∷ change (hostOf 1) (put (idOf 9) (0x21 ∷ [])) ∷ change (hostOf 0) (put (idOf 9) (0x11 ∷ [])) ∷ commit (hostOf 0) ∷ []
 
 pub record Examples : Type 0 where
-  pub row-a : writeAll (replicate 16 0xFF) (build 1 [])
+  pub row-a : writeAll (replicate 16 0xFF) (build edition.First 1 [])
       ≡ 0x10 ∷ 0x00 ∷ 0x01 ∷ 0x4A ∷ 0xFE ∷ 0xFF ∷ 0xFF ∷ 0xFF ∷ 0xFC ∷ 0xFF ∷ 0xFF ∷ 0xFF ∷ 0xFF ∷ 0xFF ∷ 0xFF ∷ 0xFF ∷ []
-  pub row-k-claimed : claimed (three 64) ≡ 229
-  pub row-k-refused : noRoom 256 (three 64) (hostOf 0) (put (idOf 4) []) ≡ true
-  pub row-k-accepted : noRoom 256 (three 63) (hostOf 0) (put (idOf 4) []) ≡ false
+  pub row-k-claimed : claimed edition.First (three 64) ≡ 229
+  pub row-k-refused : noRoom edition.First 256 (three 64) (hostOf 0) (put (idOf 4) []) ≡ true
+  pub row-k-accepted : noRoom edition.First 256 (three 63) (hostOf 0) (put (idOf 4) []) ≡ false
   pub one-commit : replay both
       ≡ state (object (idOf 4) (0x10 ∷ []) ∷ object (idOf 9) (0x11 ∷ []) ∷ [])
       (entry (hostOf 1) (put (idOf 5) (0x20 ∷ [])) ∷ entry (hostOf 1) (put (idOf 9) (0x21 ∷ [])) ∷ [])
   pub mount-drops : settledOnly (replay both) ≡ state (object (idOf 4) (0x10 ∷ []) ∷ object (idOf 9) (0x11 ∷ []) ∷ []) []
   -- K4: "A half-erased old half can still read as valid": one of time 3 as one of time 2
-  pub half-erased : Raised (header 3 validData) (header 2 validData)
-  pub was-valid : blockState (header 3 validData) ≡ valid (journal 3 [] clean)
-  pub reads-valid : blockState (header 2 validData) ≡ valid (journal 2 [] clean)
+  pub half-erased : Raised (header edition.First 3 validData) (header edition.First 2 validData)
+  pub was-valid : blockState (header edition.First 3 validData) ≡ valid (journal edition.First 3 [] clean)
+  pub reads-valid : blockState (header edition.First 2 validData) ≡ valid (journal edition.First 2 [] clean)

@@ -5,6 +5,7 @@ use mathlib.Core.Bool.{Bool, true, false}
 use Prim.Native.Nat.{ℕ, zero, suc, _+_, _-_}
 use lib.Dec.{eqb, leb}
 use lib.ListN.{getD, take, drop}
+use Rattle.frame.specs.declared.Edition.{Edition}
 use Rattle.frame.specs.declared.Host.{Host}
 use Rattle.frame.specs.declared.ObjectId.{ObjectId}
 use Rattle.frame.specs.Frame.{hostOf, idOf, put, delete, FrameOf, Frame, change, commit, abort, settled, mapFrame, frameLen, putValueAt, settledValueAt}
@@ -13,9 +14,9 @@ use Rattle.journal.specs.Replay.{ObjectOf, lookup, replay}
 use Rattle.journal.specs.Block.{headerLen}
 
 -- the frames with each value's frame's offset for the value: replay of them finds where each settled object stands
-unfoldable pub sited : ℕ → List Frame → List (FrameOf ℕ)
-sited o [] = []
-sited o (f ∷ fs) = mapFrame (λ v. o) f ∷ sited (o + frameLen f) fs
+unfoldable pub sited : Edition → ℕ → List Frame → List (FrameOf ℕ)
+sited ed o [] = []
+sited ed o (f ∷ fs) = mapFrame (λ v. o) f ∷ sited ed (o + frameLen ed f) fs
 
 -- 0, in the header, is no frame's place
 abbrev pub orZero : Option ℕ → ℕ
@@ -28,8 +29,8 @@ placesFrom zero i os = []
 placesFrom (suc n) i os = orZero (lookup (idOf i) os) ∷ placesFrom n (suc i) os
 
 -- for every id the offset of the frame that its settled value stands in; 0 where it has none
-abbrev pub placesOf : List Frame → List ℕ
-placesOf fs = placesFrom 256 0 (replay (sited headerLen fs) .objects)
+abbrev pub placesOf : Edition → List Frame → List ℕ
+placesOf ed fs = placesFrom 256 0 (replay (sited ed headerLen fs) .objects)
 
 -- the frame ends a host's pending list
 abbrev pub isEnd : Host → Frame → Bool
@@ -43,16 +44,16 @@ pick true a b = a
 pick false a b = b
 
 -- the offset past a host's last commit or abort, of frames that start at o; d where there is none
-unfoldable pub sinceFrom : Host → ℕ → ℕ → List Frame → ℕ
-sinceFrom h o d [] = d
-sinceFrom h o d (f ∷ fs) = sinceFrom h (o + frameLen f) (pick (isEnd h f) (o + frameLen f) d) fs
+unfoldable pub sinceFrom : Edition → Host → ℕ → ℕ → List Frame → ℕ
+sinceFrom ed h o d [] = d
+sinceFrom ed h o d (f ∷ fs) = sinceFrom ed h (o + frameLen ed f) (pick (isEnd h f) (o + frameLen ed f) d) fs
 
-abbrev pub sinceHost : Host → List Frame → ℕ
-sinceHost h fs = sinceFrom h headerLen headerLen fs
+abbrev pub sinceHost : Edition → Host → List Frame → ℕ
+sinceHost ed h fs = sinceFrom ed h headerLen headerLen fs
 
 -- one such offset for each host: what stands below it of that host's is no longer pending
-abbrev pub sinceOf : List Frame → List ℕ
-sinceOf fs = sinceHost (hostOf 0) fs ∷ sinceHost (hostOf 1) fs ∷ sinceHost (hostOf 2) fs ∷ sinceHost (hostOf 3) fs ∷ []
+abbrev pub sinceOf : Edition → List Frame → List ℕ
+sinceOf ed fs = sinceHost ed (hostOf 0) fs ∷ sinceHost ed (hostOf 1) fs ∷ sinceHost ed (hostOf 2) fs ∷ sinceHost ed (hostOf 3) fs ∷ []
 
 -- ---- a value by its place
 
@@ -81,8 +82,8 @@ valueRead i p (torn n) = none
 valueRead i p (wrong e) = none
 
 -- the value of an id at a place of a block; place 0, in the header, is none
-unfoldable pub valueAt : List ℕ → ObjectId → ℕ → Option Value
-valueAt b i p = elim (eqb p 0) [ true ↦ none | false ↦ valueRead i p (readFrame 0 p (drop p b)) ]
+unfoldable pub valueAt : Edition → List ℕ → ObjectId → ℕ → Option Value
+valueAt ed b i p = elim (eqb p 0) [ true ↦ none | false ↦ valueRead i p (readFrame ed 0 p (drop p b)) ]
 
 -- ---- the frames of a state, one at a time: what is left from a cursor on
 
@@ -96,12 +97,12 @@ abbrev pub load : Frame → ℕ → ℕ → Load
 load f i s = record { frame = f; id = i; source = s }
 
 -- the settled frame of the first of n ids from i on whose place holds its value
-unfoldable pub nextSettled : List ℕ → List ℕ → ℕ → ℕ → ℕ → Option Load
-nextSettled b places source zero i = none
-nextSettled b places source (suc n) i =
-    elim (valueAt b (idOf i) (getD places i 0)) [
+unfoldable pub nextSettled : Edition → List ℕ → List ℕ → ℕ → ℕ → ℕ → Option Load
+nextSettled ed b places source zero i = none
+nextSettled ed b places source (suc n) i =
+    elim (valueAt ed b (idOf i) (getD places i 0)) [
       | some x ↦ some (load (settled (idOf i) (x .bytes)) (suc i) source)
-      | none ↦ nextSettled b places source n (suc i)
+      | none ↦ nextSettled ed b places source n (suc i)
     ]
 
 -- a put or delete at or past its host's `since`
@@ -112,19 +113,19 @@ isPending since at (abort h) = false
 isPending since at (settled i v) = false
 
 -- the first pending frame of a journal's bytes, which start at offset `at` of the block; k as in `scan`; settled frames are passed over
-unfoldable pub nextPending : List ℕ → ℕ → ℕ → List ℕ → Option Load
-nextPending since at k [] = none
-nextPending since at zero (b ∷ t) =
-    elim (readFrame 0 at (b ∷ t)) [
+unfoldable pub nextPending : Edition → List ℕ → ℕ → ℕ → List ℕ → Option Load
+nextPending ed since at k [] = none
+nextPending ed since at zero (b ∷ t) =
+    elim (readFrame ed 0 at (b ∷ t)) [
       | blank ↦ none
       | whole f ↦ elim (isPending since at f) [
-        | true ↦ some (load f 256 (at + frameLen f))
-        | false ↦ nextPending since (suc at) (frameLen f - 1) t
+        | true ↦ some (load f 256 (at + frameLen ed f))
+        | false ↦ nextPending ed since (suc at) (frameLen ed f - 1) t
       ]
       | torn n ↦ none
       | wrong e ↦ none
     ]
-nextPending since at (suc k) (b ∷ t) = nextPending since (suc at) k t
+nextPending ed since at (suc k) (b ∷ t) = nextPending ed since (suc at) k t
 
 -- settled frames go before pending ones
 abbrev pub orElse : Option Load → Option Load → Option Load
@@ -132,6 +133,6 @@ orElse (some u) o = some u
 orElse none o = o
 
 -- the next frame that a transfer of block b writes, whose whole frames run to `end`
-unfoldable pub nextLoad : List ℕ → ℕ → List ℕ → List ℕ → ℕ → ℕ → Option Load
-nextLoad b end places since id source =
-    orElse (nextSettled b places source (256 - id) id) (nextPending since source 0 (drop source (take end b)))
+unfoldable pub nextLoad : Edition → List ℕ → ℕ → List ℕ → List ℕ → ℕ → ℕ → Option Load
+nextLoad ed b end places since id source =
+    orElse (nextSettled ed b places source (256 - id) id) (nextPending ed since source 0 (drop source (take end b)))

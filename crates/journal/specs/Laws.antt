@@ -6,11 +6,12 @@ use mathlib.Core.Bool.{true}
 use mathlib.Core.Path.{_≡_}
 use Prim.Native.Nat.{ℕ, suc, _+_, _/_, _≤_, _<_}
 use lib.ListN.{length, getD}
+use Rattle.frame.specs.declared.Edition.{Edition}
+use Rattle.frame.specs.declared.Edition.the-variants as edition
 use Rattle.frame.specs.declared.Host.{Host}
 use Rattle.frame.specs.declared.ObjectId.{ObjectId}
 use Rattle.frame.specs.Frame.{Change, put, delete, Frame, change, commit, abort, settled, encodeAll, AllMayStand}
-use Rattle.journal.specs.Replay.{Object, object, Entry, entry, State, state, insert, remove, lookup, changeAll, listOf, without, isOpen, replay}
-use Rattle.journal.specs.Replay.{framesOf}
+use Rattle.journal.specs.Replay.{Object, object, Entry, entry, State, state, insert, remove, lookup, changeAll, listOf, without, isOpen, replay, framesOf}
 use Rattle.journal.specs.Room.{used, claimed, openHosts, hostFull, pendingOf}
 use Rattle.journal.specs.Index.{placesOf, valueAt}
 use Rattle.journal.specs.Block.{Journal}
@@ -70,9 +71,9 @@ then fs f = fs ++ (f ∷ [])
 
 pub record ReplayLaws : Type 0 where
   pub nothing : replay {A = List ℕ} [] ≡ state [] []
-  pub rises : (fs : List Frame) → AllMayStand 0 fs → RisesFrom 0 (objectsAfter fs)
+  pub rises : (ed : Edition) (fs : List Frame) → AllMayStand ed 0 fs → RisesFrom 0 (objectsAfter fs)
   -- "settled frames give the settled objects"
-  pub settled-own : (fs : List Frame) (i : ObjectId) (v : List ℕ) → AllMayStand 0 (then fs (settled i v))
+  pub settled-own : (ed : Edition) (fs : List Frame) (i : ObjectId) (v : List ℕ) → AllMayStand ed 0 (then fs (settled i v))
       → lookup i (objectsAfter (then fs (settled i v))) ≡ some v
   pub settled-other : (fs : List Frame) (i j : ObjectId) (v : List ℕ) → (i .0 ≡ j .0 → ⊥)
       → lookup i (objectsAfter (then fs (settled j v))) ≡ lookup i (objectsAfter fs)
@@ -107,24 +108,29 @@ pub record OrderLaws : Type 0 where
 
 -- ---- U, C and open
 
--- "settled: 7+v"; "put: 8+v", "delete: 8"
-abbrev pub settledBytes : List Object → ℕ
-settledBytes [] = 0
-settledBytes (o ∷ os) = 7 + length (o .value) + settledBytes os
+-- the papers' number for the first edition, and for the second, document 02, K9
+abbrev pub byEdition : Edition → ℕ → ℕ → ℕ
+byEdition edition.First a b = a
+byEdition edition.Second a b = b
 
-abbrev pub changeBytes : Change → ℕ
-changeBytes (put i v) = 8 + length v
-changeBytes (delete i) = 8
+-- "settled: 7+v"; "put: 8+v", "delete: 8"; "each frame has four bytes of CRC-32"
+abbrev pub settledBytes : Edition → List Object → ℕ
+settledBytes ed [] = 0
+settledBytes ed (o ∷ os) = byEdition ed 7 11 + length (o .value) + settledBytes ed os
 
-abbrev pub pendingBytes : List Entry → ℕ
-pendingBytes [] = 0
-pendingBytes (e ∷ es) = changeBytes (e .what) + pendingBytes es
+abbrev pub changeBytes : Edition → Change → ℕ
+changeBytes ed (put i v) = byEdition ed 8 12 + length v
+changeBytes ed (delete i) = byEdition ed 8 12
+
+abbrev pub pendingBytes : Edition → List Entry → ℕ
+pendingBytes ed [] = 0
+pendingBytes ed (e ∷ es) = changeBytes ed (e .what) + pendingBytes ed es
 
 pub record UsedExact : Type 0 where
   -- "U is 16 plus the length of one settled frame for each settled object"
-  pub used-is : (s : State) → used s ≡ 16 + settledBytes (s .objects)
+  pub used-is : (ed : Edition) (s : State) → used ed s ≡ 16 + settledBytes ed (s .objects)
   -- "C is U plus the pending frames' lengths."
-  pub claimed-is : (s : State) → claimed s ≡ 16 + settledBytes (s .objects) + pendingBytes (s .pending)
+  pub claimed-is : (ed : Edition) (s : State) → claimed ed s ≡ 16 + settledBytes ed (s .objects) + pendingBytes ed (s .pending)
   -- "`open` the hosts that would then have something pending": a host counts from its first change on, and once
   pub open-none : openHosts [] ≡ 0
   pub open-first : (h : Host) (es : List Entry) (c : Change) → h .0 ≤ 3 → listOf h es ≡ []
@@ -132,20 +138,20 @@ pub record UsedExact : Type 0 where
   pub open-again : (h : Host) (es : List Entry) (c : Change) → (listOf h es ≡ [] → ⊥) → openHosts (es ++ (entry h c ∷ [])) ≡ openHosts es
 
 -- K7, "that host's pending frames": the bytes of a list of changes
-abbrev pub changesBytes : List Change → ℕ
-changesBytes [] = 0
-changesBytes (c ∷ cs) = changeBytes c + changesBytes cs
+abbrev pub changesBytes : Edition → List Change → ℕ
+changesBytes ed [] = 0
+changesBytes ed (c ∷ cs) = changeBytes ed c + changesBytes ed cs
 
 -- "each host's pending bytes as replay gives them": hosts 0 to 3, each those of its list
-pub record CountsAre (ps : List ℕ) (fs : List Frame) : Type 0 where
+pub record CountsAre (ed : Edition) (ps : List ℕ) (fs : List Frame) : Type 0 where
   pub four : length ps ≡ 4
-  pub each : (h : Host) → h .0 ≤ 3 → getD ps (h .0) 0 ≡ changesBytes (pendingAfter h fs)
+  pub each : (h : Host) → h .0 ≤ 3 → getD ps (h .0) 0 ≡ changesBytes ed (pendingAfter h fs)
 
 pub record PendingExact : Type 0 where
-  pub are : (fs : List Frame) → CountsAre (pendingOf fs) fs
-  pub only : (ps : List ℕ) (fs : List Frame) → CountsAre ps fs → ps ≡ pendingOf fs
-  pub full-is : (size : ℕ) (fs : List Frame) (h : Host) (c : Change)
-      → (hostFull size (replay fs) h c ≡ true) ↔ (size / 2 < changesBytes (pendingAfter h fs) + changeBytes c)
+  pub are : (ed : Edition) (fs : List Frame) → CountsAre ed (pendingOf ed fs) fs
+  pub only : (ed : Edition) (ps : List ℕ) (fs : List Frame) → CountsAre ed ps fs → ps ≡ pendingOf ed fs
+  pub full-is : (ed : Edition) (size : ℕ) (fs : List Frame) (h : Host) (c : Change)
+      → (hostFull ed size (replay fs) h c ≡ true) ↔ (size / 2 < changesBytes ed (pendingAfter h fs) + changeBytes ed c)
 
 -- ---- the frames that a transfer writes
 
@@ -176,19 +182,20 @@ front settledAs = 6
 
 -- "hands back that stretch": the value v of an id stands at this offset of the block in a frame of the journal, and it is the frame that
 -- replay took it from: were any other value w in that frame, the id would have w
-pub record TakenFrom (fs : List Frame) (i : ObjectId) (v : List ℕ) (at : ℕ) : Type 0 where
+pub record TakenFrom (ed : Edition) (fs : List Frame) (i : ObjectId) (v : List ℕ) (at : ℕ) : Type 0 where
   pub before : List Frame
   pub holder : Holder
   pub after : List Frame
   pub stands : fs ≡ before ++ (holding holder i v ∷ after)
   pub taken : (w : List ℕ) → lookup i (objectsAfter (before ++ (holding holder i w ∷ after))) ≡ some w
-  pub at-is : at ≡ 16 + length (encodeAll before) + front holder
+  pub at-is : at ≡ 16 + length (encodeAll ed before) + front holder
 
 -- in a valid block, by the place that the table has for the id
 pub record PlaceExact : Type 0 where
   pub found : (b : List ℕ) (j : Journal) (i : ObjectId) (v : List ℕ) → ValidBlock b j → i .0 ≤ 255 → lookup i (objectsAfter (j .frames)) ≡ some v
-      → (at : ℕ) × (valueAt b i (getD (placesOf (j .frames)) (i .0) 0) ≡ some (record { at = at; bytes = v })) × TakenFrom (j .frames) i v at
-  pub absent : (b : List ℕ) (fs : List Frame) (i : ObjectId) → i .0 ≤ 255 → lookup i (objectsAfter fs) ≡ none
-      → valueAt b i (getD (placesOf fs) (i .0) 0) ≡ none
+      → (at : ℕ) × (valueAt (j .edition) b i (getD (placesOf (j .edition) (j .frames)) (i .0) 0) ≡ some (record { at = at; bytes = v }))
+      × TakenFrom (j .edition) (j .frames) i v at
+  pub absent : (ed : Edition) (b : List ℕ) (fs : List Frame) (i : ObjectId) → i .0 ≤ 255 → lookup i (objectsAfter fs) ≡ none
+      → valueAt ed b i (getD (placesOf ed fs) (i .0) 0) ≡ none
   -- the words settle the place
-  pub once : (fs : List Frame) (i : ObjectId) (v : List ℕ) (at at′ : ℕ) → TakenFrom fs i v at → TakenFrom fs i v at′ → at ≡ at′
+  pub once : (ed : Edition) (fs : List Frame) (i : ObjectId) (v : List ℕ) (at at′ : ℕ) → TakenFrom ed fs i v at → TakenFrom ed fs i v at′ → at ≡ at′

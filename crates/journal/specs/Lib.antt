@@ -6,3 +6,4 @@ pub mod Index
 pub mod Examples
 pub mod Sentences
 pub mod Laws
+pub mod Before

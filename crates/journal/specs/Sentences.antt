@@ -7,6 +7,7 @@ use Prim.Native.Nat.{ℕ, _%_, _≤_, _<_}
 use lib.ListN.{length, getD}
 use Rattle.flash.specs.Bytes.{Bytes}
 use Rattle.flash.specs.Raised.{Raised}
+use Rattle.frame.specs.declared.Edition.{Edition}
 use Rattle.frame.specs.declared.Fault.{Fault}
 use Rattle.frame.specs.Frame.{encodeAll, AllMayStand, nextOf}
 use Rattle.frame.specs.Reader.{Tail, clean, cut, bad}
@@ -24,20 +25,20 @@ abbrev pub InProgressBlock : List ℕ → Type 0
 InProgressBlock b = getD b stateAt 0 ≡ inTransfer
 
 -- "a tail that is all 0xFF or torn": the bytes after the frames, up to the block's end
-abbrev pub TailIs : ℕ → List ℕ → Tail → Type 0
-TailIs next t clean = Blank t
-TailIs next t (cut n) = Torn next t n
-TailIs next t (bad e) = ⊥
+abbrev pub TailIs : Edition → ℕ → List ℕ → Tail → Type 0
+TailIs ed next t clean = Blank t
+TailIs ed next t (cut n) = Torn ed next t n
+TailIs ed next t (bad e) = ⊥
 
 -- "valid if byte 8 is 0xFC, the header is as above, and whole legal frames, the settled ones placed as said above, run to a tail that
 -- is all 0xFF or torn"; `header` has 0xFC in byte 8
 pub record ValidBlock (b : List ℕ) (j : Journal) : Type 0 where
   pub rest : List ℕ
-  pub bytes : b ≡ header (j .time) validData ++ (encodeAll (j .frames) ++ rest)
+  pub bytes : b ≡ header (j .edition) (j .time) validData ++ (encodeAll (j .edition) (j .frames) ++ rest)
   pub time-lo : 1 ≤ j .time
   pub time-hi : j .time ≤ lastTime
-  pub frames : AllMayStand 0 (j .frames)
-  pub tail : TailIs (nextOf 0 (j .frames)) rest (j .tail)
+  pub frames : AllMayStand (j .edition) 0 (j .frames)
+  pub tail : TailIs (j .edition) (nextOf 0 (j .frames)) rest (j .tail)
 
 -- "Any other half is foreign."
 pub record ForeignBlock (b : List ℕ) : Type 0 where
@@ -57,6 +58,8 @@ pub record StatesExact : Type 0 where
 -- K4: "A half-erased old half can still read as valid, but its inverted time has only gained ones, so it never looks newer; show that."
 pub record NeverNewer : Type 0 where
   pub of-valid : (old new : List ℕ) (j i : Journal) → Raised old new → blockState old ≡ valid j → blockState new ≡ valid i → i .time ≤ j .time
+  -- and K9: it never changes its edition, as 0x4A01 and 0x4A02 each need a bit cleared to become the other
+  pub same-edition : (old new : List ℕ) (j i : Journal) → Raised old new → blockState old ≡ valid j → blockState new ≡ valid i → i .edition ≡ j .edition
   -- by the bytes alone, whatever the half reads as
   pub of-any : (old new : List ℕ) → Raised old new → createdAt new ≤ createdAt old
   -- 0xFC has neither of its two low bits: with one of them in byte 8 a half isn't valid and never becomes so

@@ -13,7 +13,7 @@ use Rattle.board.specs.declared.Phase.the-variants.{Busy}
 use Rattle.board.specs.declared.Cursor.{Cursor}
 use Rattle.board.specs.Record.{inStage}
 use Rattle.board.specs.Step.{nextIndex, nextByte}
-use Rattle.lent.specs.Layout.{madeAt, idAt, sourceAt, copyAt, offAt, movesAt, dropsAt, targetAt, timeAt, sinceAt, sinceSize, appendAt}
+use Rattle.lent.specs.Layout.{madeAt, idAt, sourceAt, copyAt, offAt, movesAt, dropsAt, targetAt, timeAt, sinceAt, sinceSize, appendAt, makesAt}
 use Rattle.lent.specs.Layout.{placesAt, placesSize, jobAt, planAt, cursorAt, unitAt, recordSize}
 use Rattle.lent.specs.Layout.{phaseIn, flagIn, wordsIn, numberIn, jobIn, cursorIn, recordIn}
 use Rattle.lent.specs.Layout.{phaseByte, flagByte, wordBytes, headBytes, planBytes, cursorBytes, recordBytes}
@@ -79,18 +79,21 @@ module _ (b : List ℕ) (size : length b ≡ recordSize) (ok : (i : ℕ) → get
       let flag : (i : ℕ) → getD b (planAt + i) 0 < 2 → flagByte (flagIn (getD (drop maxBlocks (drop jobAt b)) i 0)) ≡ getD b (planAt + i) 0 =
       λ i h. ap (λ (n : ℕ). flagByte (flagIn n)) (at-plan i) ∙ flag-own (getD b (planAt + i) 0) h in
       let since = jobIn (drop jobAt b) .since in
-      let last = getD (drop maxBlocks (drop jobAt b)) appendAt 0 in
+      let long = getD (drop maxBlocks (drop jobAt b)) appendAt 0 in
+      let makes = getD (drop maxBlocks (drop jobAt b)) makesAt 0 in
+      let last : List ℕ = long ∷ makes ∷ [] in
       one b ok planAt _ _ (omega arith) (at-plan 0)
       (one b ok (planAt + movesAt) _ _ (omega arith) (flag movesAt (canon .moves))
       (one b ok (planAt + dropsAt) _ _ (omega arith) (flag dropsAt (canon .drops))
       (one b ok (planAt + targetAt) _ _ (omega arith) (at-plan targetAt)
-      (ap (λ (l : List ℕ). u32le (numberIn l) ++ ((wordBytes since ++ (last ∷ [])) ++ t)) (from timeAt)
-      ∙ four b ok (planAt + timeAt) ((wordBytes since ++ (last ∷ [])) ++ t) (omega arith)
-      (append-assoc (wordBytes since) (last ∷ []) t
-      ∙ some b ok (planAt + sinceAt) sinceSize (wordBytes since) (last ∷ t)
+      (ap (λ (l : List ℕ). u32le (numberIn l) ++ ((wordBytes since ++ last) ++ t)) (from timeAt)
+      ∙ four b ok (planAt + timeAt) ((wordBytes since ++ last) ++ t) (omega arith)
+      (append-assoc (wordBytes since) last t
+      ∙ some b ok (planAt + sinceAt) sinceSize (wordBytes since) (long ∷ makes ∷ t)
       (ap (λ (l : List ℕ). wordBytes (wordsIn 4 l)) (from sinceAt)
       ∙ words-own 4 (drop (planAt + sinceAt) b) (λ i. rw getD-drop (ok (planAt + sinceAt + i))) (simp length-drop (omega arith)))
-      (one b ok (planAt + appendAt) _ _ (omega arith) (at-plan appendAt) f))))))
+      (one b ok (planAt + appendAt) _ _ (omega arith) (at-plan appendAt)
+      (one b ok (planAt + makesAt) _ _ (omega arith) (at-plan makesAt) f)))))))
 
   cursor-own : (t : List ℕ) → t ≡ drop unitAt b → cursorBytes (cursorIn (drop cursorAt b)) ++ t ≡ drop cursorAt b
   cursor-own t f =

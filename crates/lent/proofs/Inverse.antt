@@ -2,14 +2,14 @@
 use mathlib.Core.Path.{_≡_, refl, sym, ap, _∙_}
 use mathlib.Core.List.{List, [], _∷_, _++_, append-assoc, append-nil}
 use mathlib.Core.Bool.{Bool, true, false}
-use Prim.Native.Nat.{ℕ, _+_, _-_, _<_}
+use Prim.Native.Nat.{ℕ, suc, _+_, _-_, _<_}
 use native.Mathlib.Omega.{arith}
 use lib.ListN.{length, getD, drop, length-append}
-use lib.Seq.{take-at, getD-at, drop-at, drop-drop}
+use lib.Seq.{take-at, getD-at, getD-append-add, drop-at, drop-drop}
 use Rattle.flash.specs.Bytes.{Bytes, u32le}
 use Rattle.flash.proofs.Blank.{bytes-append, le16-u16, le32-u32}
 use Rattle.flash.specs.Flash.{maxBlocks}
-use Rattle.frame.specs.Frame.{maxFrame}
+use Rattle.frame.specs.Frame.{bufferLen}
 use Rattle.board.specs.declared.Stage.the-variants.{Wipe, Open, Copy, Seal, Drop, Append}
 use Rattle.board.specs.declared.Phase.{Phase}
 use Rattle.board.specs.declared.Phase.the-variants.{Unmounted, Idle, Busy}
@@ -49,11 +49,15 @@ cursor-back c t = rw (le16-u16 (c .at), le16-u16 (c .id), le16-u16 (c .source))
 plan-back : (j : Job) (x : List ℕ) → length (j .since) ≡ 4 → planIn (j .wipe) (planBytes j ++ x) ≡ j
 plan-back j x q =
     let s = wordBytes (j .since) in
-    let n : length (wordBytes (j .since)) ≡ sinceSize = length-word-bytes (j .since) ∙ rw q in
+    let n : length s ≡ sinceSize = length-word-bytes (j .since) ∙ rw q in
+    let last : getD (s ++ (j .size ∷ j .edition ∷ x)) (suc sinceSize) 0 ≡ j .edition =
+    (let e : suc sinceSize ≡ length s + 1 = omega (arith, n) in
+    ap (λ (i : ℕ). getD (s ++ (j .size ∷ j .edition ∷ x)) i 0) e ∙ getD-append-add s (j .size ∷ j .edition ∷ x) 1 0) in
     rw (
-      append-assoc s (j .size ∷ []) x,
-      words-back (j .since) (j .size ∷ x) 4 q,
-      getD-at s (j .size) x 0 sinceSize n,
+      append-assoc s (j .size ∷ j .edition ∷ []) x,
+      words-back (j .since) (j .size ∷ j .edition ∷ x) 4 q,
+      getD-at s (j .size) (j .edition ∷ x) 0 sinceSize n,
+      last,
       flag-back (j .moves),
       flag-back (j .drops),
       le32-u32 (j .time),
@@ -68,7 +72,7 @@ job-back j x p q =
 
 parts-back : (l : List ℕ) (r : Record) → phaseIn (getD l 0 0) ≡ r .phase → restIn l ≡ r .rest
     → wordsIn 256 (drop placesAt l) ≡ r .places → jobIn (drop jobAt l) ≡ r .job
-    → cursorIn (drop cursorAt l) ≡ r .cursor → bytesIn maxFrame (drop unitAt l) ≡ r .unit → bytesIn maxFrame (drop frameAt l) ≡ r .frame → recordIn l ≡ r
+    → cursorIn (drop cursorAt l) ≡ r .cursor → bytesIn bufferLen (drop unitAt l) ≡ r .unit → bytesIn bufferLen (drop frameAt l) ≡ r .frame → recordIn l ≡ r
 unfolding recordIn
 parts-back l r p z w j c u f =
     λ i. record { phase = p i; rest = z i; places = w i; job = j i; cursor = c i; unit = u i; frame = f i }
@@ -97,9 +101,9 @@ cursor-bytes c h = (h .index, (omega arith, (omega arith, (omega arith, (omega a
 
 plan-bytes : (j : Job) → JobFits j → Bytes (planBytes j)
 plan-bytes j h =
-    let since = bytes-append (wordBytes (j .since)) (j .size ∷ []) (word-bytes (j .since) (h .since .1)) (h .size, tt) in
+    let since = bytes-append (wordBytes (j .since)) (j .size ∷ j .edition ∷ []) (word-bytes (j .since) (h .since .1)) (h .size, (h .edition, tt)) in
     let t = h .time in
-    let time : Bytes (u32le (j .time) ++ (wordBytes (j .since) ++ (j .size ∷ []))) =
+    let time : Bytes (u32le (j .time) ++ (wordBytes (j .since) ++ (j .size ∷ j .edition ∷ []))) =
     (omega (arith, t), (omega (arith, t), (omega (arith, t), (omega (arith, t), since)))) in
     (h .wipes, (flag-byte (j .moves), (flag-byte (j .drops), (h .target, time))))
 
@@ -110,7 +114,7 @@ past : (at n : ℕ) (l p q : List ℕ) → drop at l ≡ p ++ q → length p ≡
 past at n l p q e h = sym (drop-drop n at l) ∙ ap (drop n) e ∙ drop-at p q n h
 
 pub length-head : (r : Record) → length (r .rest .pending) ≡ 4 → length (headBytes r) ≡ placesAt
-length-head r q = omega (arith, length-word-bytes (r .rest .pending), q)
+length-head r q = simp length-append (omega (arith, length-word-bytes (r .rest .pending), q))
 
 -- each array has its length
 pub record Sized (r : Record) : Type 0 where
@@ -118,8 +122,8 @@ pub record Sized (r : Record) : Type 0 where
   pub places : length (r .places) ≡ 256
   pub wipe : length (r .job .wipe) ≡ maxBlocks
   pub since : length (r .job .since) ≡ 4
-  pub unit : length (r .unit) ≡ maxFrame
-  pub frame : length (r .frame) ≡ maxFrame
+  pub unit : length (r .unit) ≡ bufferLen
+  pub frame : length (r .frame) ≡ bufferLen
 
 module _ (r : Record) where
   abbrev W : List ℕ
@@ -171,7 +175,7 @@ module _ (r : Record) (h : Sized r) where
   from-unit = past cursorAt cursorSize (recordBytes r) (C r) (UF r) from-cursor refl
 
   from-frame : drop frameAt (recordBytes r) ≡ r .frame ++ []
-  from-frame = past unitAt maxFrame (recordBytes r) (r .unit) (r .frame) from-unit (h .unit) ∙ sym (append-nil (r .frame))
+  from-frame = past unitAt bufferLen (recordBytes r) (r .unit) (r .frame) from-unit (h .unit) ∙ sym (append-nil (r .frame))
 
   pub record-back : recordIn (recordBytes r) ≡ r
   unfolding recordBytes
@@ -181,8 +185,8 @@ module _ (r : Record) (h : Sized r) where
       (ap (wordsIn 256) from-places ∙ words-back (r .places) (EPCUF r) 256 (h .places))
       (ap jobIn from-job ∙ job-back (r .job) (CUF r) (h .wipe) (h .since))
       (ap cursorIn from-cursor ∙ cursor-back (r .cursor) (UF r))
-      (ap (bytesIn maxFrame) from-unit ∙ array-back maxFrame (r .unit) (r .frame) (h .unit))
-      (ap (bytesIn maxFrame) from-frame ∙ array-back maxFrame (r .frame) [] (h .frame))
+      (ap (bytesIn bufferLen) from-unit ∙ array-back bufferLen (r .unit) (r .frame) (h .unit))
+      (ap (bytesIn bufferLen) from-frame ∙ array-back bufferLen (r .frame) [] (h .frame))
 
   pub length-bytes-of : length (recordBytes r) ≡ recordSize
   unfolding recordBytes

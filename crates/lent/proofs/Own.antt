@@ -1,12 +1,12 @@
 -- What a record read from a buffer of its size has of the buffer: places and frames come back as the bytes that they were.
 use mathlib.Core.Path.{_≡_, refl, sym, ap, _∙_}
 use mathlib.Core.List.{List, [], _∷_, _++_, append-assoc, append-nil}
-use Prim.Native.Nat.{ℕ, zero, suc, _+_, _-_, _*_, _/_, _%_, _≤_, _<_}
+use Prim.Native.Nat.{ℕ, zero, suc, _+_, _-_, _*_, _≤_, _<_}
 use native.Mathlib.Omega.{arith}
 use lib.ListN.{length, getD, take, drop, length-append, length-take, length-drop, length-replicate, take-append-drop}
 use lib.Seq.{take-all, drop-at, drop-drop, drop-append-le, getD-drop, length-take-le}
 use Rattle.flash.specs.Flash.{maxBlocks}
-use Rattle.frame.specs.Frame.{maxFrame}
+use Rattle.frame.specs.Frame.{bufferLen}
 use Rattle.lent.specs.Layout.{sinceAt, pendingAt, placesAt, placesSize, jobAt, unitAt, frameAt, recordSize, bytesIn, wordsIn, recordIn, wordBytes}
 use Rattle.lent.proofs.Words.{words-own}
 use Rattle.lent.proofs.Inverse.{Sized, array-back}
@@ -29,8 +29,8 @@ own-sized l =
       places = length-words-in 256 (drop placesAt l);
       wipe = length-bytes-in maxBlocks (drop jobAt l);
       since = length-words-in 4 (drop sinceAt (drop maxBlocks (drop jobAt l)));
-      unit = length-bytes-in maxFrame (drop unitAt l);
-      frame = length-bytes-in maxFrame (drop frameAt l);
+      unit = length-bytes-in bufferLen (drop unitAt l);
+      frame = length-bytes-in bufferLen (drop frameAt l);
     }
 
 -- ---- a part that is all there
@@ -56,13 +56,13 @@ module _ (l : List ℕ) (size : length l ≡ recordSize) where
   pub frames-own : recordIn l .unit ++ recordIn l .frame ≡ drop unitAt l
   unfolding recordIn
   frames-own =
-      let u : maxFrame ≤ length (drop unitAt l) = simp length-drop (omega arith) in
-      let f : length (drop frameAt l) ≡ maxFrame = simp length-drop (omega arith) in
-      rw (bytes-own maxFrame (drop unitAt l) u, bytes-own maxFrame (drop frameAt l) (omega arith), take-all maxFrame (drop frameAt l) (omega arith))
-      (ap (λ (t : List ℕ). take maxFrame (drop unitAt l) ++ t) (sym (drop-drop maxFrame unitAt l)) ∙ take-append-drop maxFrame (drop unitAt l))
+      let u : bufferLen ≤ length (drop unitAt l) = simp length-drop (omega arith) in
+      let f : length (drop frameAt l) ≡ bufferLen = simp length-drop (omega arith) in
+      rw (bytes-own bufferLen (drop unitAt l) u, bytes-own bufferLen (drop frameAt l) (omega arith), take-all bufferLen (drop frameAt l) (omega arith))
+      (ap (λ (t : List ℕ). take bufferLen (drop unitAt l) ++ t) (sym (drop-drop bufferLen unitAt l)) ∙ take-append-drop bufferLen (drop unitAt l))
 
   -- another frame in the place of the one that is copied: x is the buffer then
-  module _ (u x : List ℕ) (n : length u ≡ maxFrame) (e : x ≡ (take unitAt l ++ u) ++ drop frameAt l) where
+  module _ (u x : List ℕ) (n : length u ≡ bufferLen) (e : x ≡ (take unitAt l ++ u) ++ drop frameAt l) where
     front : length (take unitAt l) ≡ unitAt
     front = length-take-le unitAt l (omega arith)
 
@@ -86,12 +86,12 @@ module _ (l : List ℕ) (size : length l ≡ recordSize) where
     pub unit-laid : recordIn x .unit ≡ u
     unfolding recordIn
     unit-laid =
-        ap (λ (t : List ℕ). bytesIn maxFrame (drop unitAt t)) apart
-        ∙ ap (bytesIn maxFrame) (drop-at (take unitAt l) (u ++ drop frameAt l) unitAt front)
-        ∙ array-back maxFrame u (drop frameAt l) n
+        ap (λ (t : List ℕ). bytesIn bufferLen (drop unitAt t)) apart
+        ∙ ap (bytesIn bufferLen) (drop-at (take unitAt l) (u ++ drop frameAt l) unitAt front)
+        ∙ array-back bufferLen u (drop frameAt l) n
 
     pub frame-stays : recordIn x .frame ≡ recordIn l .frame
     unfolding recordIn
     frame-stays =
-        ap (λ (t : List ℕ). bytesIn maxFrame (drop frameAt t)) e
-        ∙ ap (bytesIn maxFrame) (drop-at (take unitAt l ++ u) (drop frameAt l) frameAt (length-append (take unitAt l) u ∙ rw (front, n)))
+        ap (λ (t : List ℕ). bytesIn bufferLen (drop frameAt t)) e
+        ∙ ap (bytesIn bufferLen) (drop-at (take unitAt l ++ u) (drop frameAt l) frameAt (length-append (take unitAt l) u ∙ rw (front, n)))

@@ -1,28 +1,37 @@
 -- The bytes of where a record stands: read back, bytes, and a buffer's own.
 use mathlib.Core.Path.{_≡_, refl, sym, ap, _∙_}
-use mathlib.Core.List.{List, _∷_, _++_}
+use mathlib.Core.List.{List, [], _∷_, _++_, append-assoc}
 use Prim.Native.Nat.{ℕ, _+_, _*_, _/_, _%_, _≤_, _<_}
 use native.Mathlib.Omega.{arith}
 use native.Mathlib.Numerals.{add-one}
 use lib.ListN.{length, getD, take, drop, take-append-drop, length-drop}
-use lib.Seq.{drop-cons, drop-drop, getD-drop}
+use lib.Seq.{drop-cons, drop-drop, getD-at, getD-drop}
 use Rattle.flash.specs.Bytes.{Bytes, u16le}
-use Rattle.flash.proofs.Blank.{le16-u16}
+use Rattle.flash.proofs.Blank.{bytes-append, le16-u16}
 use Rattle.wire.specs.Message.{wordAt}
 use Rattle.board.specs.declared.Rest.{Rest}
-use Rattle.board.specs.Record.{rest, counting}
-use Rattle.lent.specs.Layout.{lastAt, blockAt, endAt, blocksAt, pendingAt, pendingSize, placesAt, wordsIn, wordBytes, restIn, restBytes, RestFits}
-use Rattle.lent.proofs.Words.{words-back, word-bytes, words-own}
+use Rattle.lent.specs.Layout.{lastAt, blockAt, endAt, blocksAt, pendingAt, pendingSize, editionAt, placesAt}
+use Rattle.lent.specs.Layout.{wordsIn, wordBytes, restIn, restBytes, RestFits}
+use Rattle.lent.proofs.Words.{length-word-bytes, words-back, word-bytes, words-own}
 
 pub rest-back : (p : ℕ) (z : Rest) (x : List ℕ) → length (z .pending) ≡ 4 → restIn (p ∷ (restBytes z ++ x)) ≡ z
 rest-back p z x q =
-    λ i. counting (rest (z .blocks) (le16-u16 (z .last) i) (z .block) (le16-u16 (z .end) i)) (words-back (z .pending) x 4 q i)
+    let s = wordBytes (z .pending) in
+    let n : length s ≡ pendingSize = length-word-bytes (z .pending) ∙ rw q in
+    rw (
+      append-assoc s (z .edition ∷ []) x,
+      words-back (z .pending) (z .edition ∷ x) 4 q,
+      getD-at s (z .edition) x 0 pendingSize n,
+      le16-u16 (z .last),
+      le16-u16 (z .end),
+    )
 
 pub rest-bytes : (z : Rest) → RestFits z → Bytes (restBytes z)
 rest-bytes z h =
     let a = h .last in
     let b = h .end in
-    (omega arith, (omega arith, (h .block, (omega arith, (omega arith, (h .blocks, word-bytes (z .pending) (h .pending .1)))))))
+    let last = bytes-append (wordBytes (z .pending)) (z .edition ∷ []) (word-bytes (z .pending) (h .pending .1)) (h .edition, tt) in
+    (omega arith, (omega arith, (h .block, (omega arith, (omega arith, (h .blocks, last))))))
 
 -- parts that are a buffer's own, from the last one on
 module _ (b : List ℕ) (ok : (i : ℕ) → getD b i 0 < 256) where
@@ -46,5 +55,7 @@ pub rest-own : (b : List ℕ) (ok : (i : ℕ) → getD b i 0 < 256) (t : List �
 rest-own b ok t h f =
     two b ok lastAt 0 lastAt _ refl (omega arith)
     (one b ok blockAt _ _ (omega arith) refl (two b ok endAt 0 endAt _ refl (omega arith) (one b ok blocksAt _ _ (omega arith) refl
-    (some b ok pendingAt pendingSize (wordBytes (wordsIn 4 (drop pendingAt b))) t
-    (words-own 4 (drop pendingAt b) (λ i. rw getD-drop (ok (pendingAt + i))) (simp length-drop (omega arith))) f))))
+    (append-assoc (wordBytes (wordsIn 4 (drop pendingAt b))) (getD b editionAt 0 ∷ []) t
+    ∙ some b ok pendingAt pendingSize (wordBytes (wordsIn 4 (drop pendingAt b))) (getD b editionAt 0 ∷ t)
+    (words-own 4 (drop pendingAt b) (λ i. rw getD-drop (ok (pendingAt + i))) (simp length-drop (omega arith)))
+    (one b ok editionAt _ _ (omega arith) refl f)))))

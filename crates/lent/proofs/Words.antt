@@ -1,6 +1,6 @@
 -- Words read from bytes one after the other, and words as bytes.
 use mathlib.Core.Path.{_≡_, refl, sym, ap, _∙_}
-use mathlib.Core.List.{List, [], _∷_, _++_, append-nil}
+use mathlib.Core.List.{List, [], _∷_, _++_}
 use Prim.Native.Nat.{ℕ, zero, suc, _+_, _*_, _/_, _%_, _≤_, _<_}
 use native.Mathlib.Omega.{arith}
 use native.Mathlib.Nat.{add-zero}
@@ -61,17 +61,17 @@ pub head-is : (r : Record) → length (r .rest .pending) ≡ 4 → (p l₀ l₁ 
     → a₀ ≡ getD (r .rest .pending) 0 0 % 256 → b₀ ≡ getD (r .rest .pending) 0 0 / 256 → a₁ ≡ getD (r .rest .pending) 1 0 % 256
     → b₁ ≡ getD (r .rest .pending) 1 0 / 256 → a₂ ≡ getD (r .rest .pending) 2 0 % 256 → b₂ ≡ getD (r .rest .pending) 2 0 / 256
     → a₃ ≡ getD (r .rest .pending) 3 0 % 256 → b₃ ≡ getD (r .rest .pending) 3 0 / 256
-    → p ∷ l₀ ∷ l₁ ∷ r .rest .block ∷ e₀ ∷ e₁ ∷ r .rest .blocks ∷ a₀ ∷ b₀ ∷ a₁ ∷ b₁ ∷ a₂ ∷ b₂ ∷ a₃ ∷ b₃ ∷ [] ≡ headBytes r
+    → p ∷ l₀ ∷ l₁ ∷ r .rest .block ∷ e₀ ∷ e₁ ∷ r .rest .blocks ∷ a₀ ∷ b₀ ∷ a₁ ∷ b₁ ∷ a₂ ∷ b₂ ∷ a₃ ∷ b₃ ∷ r .rest .edition ∷ [] ≡ headBytes r
 head-is r q p l₀ l₁ e₀ e₁ a₀ b₀ a₁ b₁ a₂ b₂ a₃ b₃ ep f₀ f₁ g₀ g₁ h₀ k₀ h₁ k₁ h₂ k₂ h₃ k₃ =
-    rw (ep, f₀, f₁, g₀, g₁, h₀, k₀, h₁, k₁, h₂, k₂, h₃, k₃, ← append-nil (wordBytes (r .rest .pending)), ← four-words (r .rest .pending) [] q)
+    rw (ep, f₀, f₁, g₀, g₁, h₀, k₀, h₁, k₁, h₂, k₂, h₃, k₃, ← four-words (r .rest .pending) (r .rest .edition ∷ []) q)
 
 -- a plan's bytes, one by one
 pub plan-is : (j : Job) → length (j .since) ≡ 4 → (m d a₀ b₀ a₁ b₁ a₂ b₂ a₃ b₃ : ℕ) → m ≡ flagByte (j .moves) → d ≡ flagByte (j .drops)
     → a₀ ≡ getD (j .since) 0 0 % 256 → b₀ ≡ getD (j .since) 0 0 / 256 → a₁ ≡ getD (j .since) 1 0 % 256 → b₁ ≡ getD (j .since) 1 0 / 256
     → a₂ ≡ getD (j .since) 2 0 % 256 → b₂ ≡ getD (j .since) 2 0 / 256 → a₃ ≡ getD (j .since) 3 0 % 256 → b₃ ≡ getD (j .since) 3 0 / 256
-    → j .wipes ∷ m ∷ d ∷ j .target ∷ (u32le (j .time) ++ (a₀ ∷ b₀ ∷ a₁ ∷ b₁ ∷ a₂ ∷ b₂ ∷ a₃ ∷ b₃ ∷ j .size ∷ [])) ≡ planBytes j
+    → j .wipes ∷ m ∷ d ∷ j .target ∷ (u32le (j .time) ++ (a₀ ∷ b₀ ∷ a₁ ∷ b₁ ∷ a₂ ∷ b₂ ∷ a₃ ∷ b₃ ∷ j .size ∷ j .edition ∷ [])) ≡ planBytes j
 plan-is j q m d a₀ b₀ a₁ b₁ a₂ b₂ a₃ b₃ em ed e₀ f₀ e₁ f₁ e₂ f₂ e₃ f₃ =
-    rw (em, ed, e₀, f₀, e₁, f₁, e₂, f₂, e₃, f₃, ← four-words (j .since) (j .size ∷ []) q)
+    rw (em, ed, e₀, f₀, e₁, f₁, e₂, f₂, e₃, f₃, ← four-words (j .since) (j .size ∷ j .edition ∷ []) q)
 
 pub length-plan : (j : Job) → length (j .since) ≡ 4 → length (planBytes j) ≡ planSize
 length-plan j q = simp (length-append, length-word-bytes) (omega arith)

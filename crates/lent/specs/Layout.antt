@@ -7,7 +7,7 @@ use lib.Dec.{eqb}
 use lib.ListN.{length, getD, take, drop, replicate}
 use Rattle.flash.specs.Bytes.{Bytes, u16le, u32le, le32}
 use Rattle.flash.specs.Flash.{maxBlocks}
-use Rattle.frame.specs.Frame.{maxFrame}
+use Rattle.frame.specs.Frame.{bufferLen}
 use Rattle.wire.specs.Message.{wordAt}
 use Rattle.board.specs.declared.Stage.{Stage}
 use Rattle.board.specs.declared.Stage.the-variants.{Wipe, Open, Copy, Seal, Drop, Append}
@@ -41,7 +41,7 @@ abbrev pub cursorSize : ℕ
 cursorSize = offAt + 1
 
 -- in a job's plan, which is what follows its blocks to erase: how many of them 1, two flags 1 each, target 1, time 4, each host's mark 2,
--- length of the frame to append 1
+-- length of the frame to append 1, number of the edition of the block that is made 1
 abbrev pub movesAt : ℕ
 movesAt = 1
 
@@ -63,10 +63,14 @@ sinceSize = 2 * 4
 abbrev pub appendAt : ℕ
 appendAt = sinceAt + sinceSize
 
-abbrev pub planSize : ℕ
-planSize = appendAt + 1
+abbrev pub makesAt : ℕ
+makesAt = appendAt + 1
 
--- in the record: phase 1, last 2, block 1, end 2, blocks 1, each host's pending bytes 2, each place 2, the job, the cursor, two frame buffers
+abbrev pub planSize : ℕ
+planSize = makesAt + 1
+
+-- in the record: phase 1, last 2, block 1, end 2, blocks 1, each host's pending bytes 2, number of the current block's edition 1, each place 2,
+-- the job, the cursor, two frame buffers
 abbrev pub lastAt : ℕ
 lastAt = 1
 
@@ -85,8 +89,11 @@ pendingAt = blocksAt + 1
 abbrev pub pendingSize : ℕ
 pendingSize = 2 * 4
 
+abbrev pub editionAt : ℕ
+editionAt = pendingAt + pendingSize
+
 abbrev pub placesAt : ℕ
-placesAt = pendingAt + pendingSize
+placesAt = editionAt + 1
 
 abbrev pub placesSize : ℕ
 placesSize = 2 * 256
@@ -104,10 +111,10 @@ abbrev pub unitAt : ℕ
 unitAt = cursorAt + cursorSize
 
 abbrev pub frameAt : ℕ
-frameAt = unitAt + maxFrame
+frameAt = unitAt + bufferLen
 
 abbrev pub recordSize : ℕ
-recordSize = frameAt + maxFrame
+recordSize = frameAt + bufferLen
 
 -- ---- from bytes: every list is some record; past the list's end stand zeros
 
@@ -144,6 +151,7 @@ planIn wipe l =
       time = numberIn (drop timeAt l);
       since = wordsIn 4 (drop sinceAt l);
       size = getD l appendAt 0;
+      edition = getD l makesAt 0;
     }
 
 abbrev pub jobIn : List ℕ → Job
@@ -153,7 +161,8 @@ abbrev pub cursorIn : List ℕ → Cursor
 cursorIn l = cursor (getD l 0 0) (wordAt l madeAt) (wordAt l idAt) (wordAt l sourceAt) (getD l copyAt 0) (getD l offAt 0)
 
 abbrev pub restIn : List ℕ → Rest
-restIn l = counting (rest (getD l blocksAt 0) (wordAt l lastAt) (getD l blockAt 0) (wordAt l endAt)) (wordsIn 4 (drop pendingAt l))
+restIn l =
+    counting (rest (getD l blocksAt 0) (wordAt l lastAt) (getD l blockAt 0) (wordAt l endAt) (getD l editionAt 0)) (wordsIn 4 (drop pendingAt l))
 
 unfoldable pub recordIn : List ℕ → Record
 recordIn l =
@@ -163,8 +172,8 @@ recordIn l =
       places = wordsIn 256 (drop placesAt l);
       job = jobIn (drop jobAt l);
       cursor = cursorIn (drop cursorAt l);
-      unit = bytesIn maxFrame (drop unitAt l);
-      frame = bytesIn maxFrame (drop frameAt l);
+      unit = bytesIn bufferLen (drop unitAt l);
+      frame = bytesIn bufferLen (drop frameAt l);
     }
 
 -- ---- to bytes
@@ -193,14 +202,14 @@ flagByte b = cond b 1 0
 
 -- the bytes of where a record stands, of all before the places, of the plan, of the cursor, and of the whole record: each field where it is read
 abbrev pub restBytes : Rest → List ℕ
-restBytes z = u16le (z .last) ++ (z .block ∷ (u16le (z .end) ++ (z .blocks ∷ wordBytes (z .pending))))
+restBytes z = u16le (z .last) ++ (z .block ∷ (u16le (z .end) ++ (z .blocks ∷ (wordBytes (z .pending) ++ (z .edition ∷ [])))))
 
 abbrev pub headBytes : Record → List ℕ
 headBytes r = phaseByte (r .phase) ∷ restBytes (r .rest)
 
 abbrev pub planBytes : Job → List ℕ
 planBytes j =
-    j .wipes ∷ flagByte (j .moves) ∷ flagByte (j .drops) ∷ j .target ∷ (u32le (j .time) ++ (wordBytes (j .since) ++ (j .size ∷ [])))
+    j .wipes ∷ flagByte (j .moves) ∷ flagByte (j .drops) ∷ j .target ∷ (u32le (j .time) ++ (wordBytes (j .since) ++ (j .size ∷ j .edition ∷ [])))
 
 abbrev pub cursorBytes : Cursor → List ℕ
 cursorBytes c = c .index ∷ (u16le (c .at) ++ (u16le (c .id) ++ (u16le (c .source) ++ (c .size ∷ c .off ∷ []))))
@@ -234,6 +243,7 @@ pub record JobFits (j : Job) : Type 0 where
   pub time : j .time < 4294967296
   pub since : SomeWords 4 (j .since)
   pub size : j .size < 256
+  pub edition : j .edition < 256
 
 pub record CursorFits (c : Cursor) : Type 0 where
   pub index : c .index < 256
@@ -249,14 +259,15 @@ pub record RestFits (z : Rest) : Type 0 where
   pub block : z .block < 256
   pub end : z .end < 65536
   pub pending : SomeWords 4 (z .pending)
+  pub edition : z .edition < 256
 
 pub record RecordFits (r : Record) : Type 0 where
   pub rest : RestFits (r .rest)
   pub places : SomeWords 256 (r .places)
   pub job : JobFits (r .job)
   pub cursor : CursorFits (r .cursor)
-  pub unit : SomeBytes maxFrame (r .unit)
-  pub frame : SomeBytes maxFrame (r .frame)
+  pub unit : SomeBytes bufferLen (r .unit)
+  pub frame : SomeBytes bufferLen (r .frame)
 
 -- the bytes of a record are that record again
 unfoldable pub BytesBack : Type 0

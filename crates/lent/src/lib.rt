@@ -1,6 +1,6 @@
 // The board record lent as bytes, for the edge to C. Here is where each field stands: right after the one before it.
 use flash::MAX_BLOCKS;
-use frame::MAX_FRAME;
+use frame::BUFFER_LEN;
 
 // ---- the record
 
@@ -14,7 +14,9 @@ pub const BLOCKS_AT: usize = END_AT + 2;
 
 pub const PENDING_AT: usize = BLOCKS_AT + 1;
 
-pub const PLACES_AT: usize = PENDING_AT + 2 * 4;
+pub const EDITION_AT: usize = PENDING_AT + 2 * 4;
+
+pub const PLACES_AT: usize = EDITION_AT + 1;
 
 pub const PLACES_SIZE: usize = 2 * 256;
 
@@ -26,9 +28,9 @@ pub const CURSOR_AT: usize = PLAN_AT + PLAN_SIZE;
 
 pub const UNIT_AT: usize = CURSOR_AT + CURSOR_SIZE;
 
-pub const FRAME_AT: usize = UNIT_AT + MAX_FRAME;
+pub const FRAME_AT: usize = UNIT_AT + BUFFER_LEN;
 
-pub const RECORD_SIZE: usize = FRAME_AT + MAX_FRAME;
+pub const RECORD_SIZE: usize = FRAME_AT + BUFFER_LEN;
 
 // ---- the job's plan, which is what follows its blocks to erase
 
@@ -44,7 +46,9 @@ pub const SINCE_AT: usize = TIME_AT + 4;
 
 pub const APPEND_AT: usize = SINCE_AT + 2 * 4;
 
-pub const PLAN_SIZE: usize = APPEND_AT + 1;
+pub const MAKES_AT: usize = APPEND_AT + 1;
+
+pub const PLAN_SIZE: usize = MAKES_AT + 1;
 
 // ---- the cursor
 

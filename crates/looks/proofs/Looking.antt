@@ -10,8 +10,8 @@ use lib.Seq.{drop-cons, getD-set-same, getD-set-other}
 use borrow.Author.Tests.{eq-eqb, ne-eqb, lt-ltb, le-ltb, le-leb, lt-leb, ltb-true, ltb-false}
 use Rattle.flash.specs.Flash.{maxBlocks, numbersFrom}
 use Rattle.flash.proofs.Cases.{on-test}
+use Rattle.frame.specs.Frame.{editionNumber}
 use Rattle.journal.specs.Block.{Journal, BlockState, blank, inProgress, valid, foreign, timeIn}
-use Rattle.journal.specs.Index.{placesOf}
 use Rattle.survey.specs.Survey.{kindIn, surveyOf, placesIn}
 use Rattle.wire.specs.declared.Refusal.{Refusal}
 use Rattle.board.specs.Mount.{Found, isBlank, Store, storeIn, stores, sameTime, newest, tied, wipeList, endOf, upkeepOf, upkeep, transfers, timeOf}
@@ -20,7 +20,7 @@ use Rattle.looks.specs.declared.looks.Newest.{Newest}
 use Rattle.looks.specs.declared.looks.Tie.{Tie}
 use Rattle.looks.specs.declared.looks.Seen.{Seen}
 use Rattle.looks.specs.Surveys.{isBlankKind, orForeignKind, needsIn}
-use Rattle.looks.specs.Seen.{othersIn, newestIn, tieIn, placesFor, noneSeen, hasTime, takesOver, newer, tying, sameAbove, seeing}
+use Rattle.looks.specs.Seen.{othersIn, newestIn, tieIn, storePlaces, placesFor, noneSeen, hasTime, takesOver, newer, tying, sameAbove, seeing}
 
 -- ---- the newest, with one more in front
 
@@ -50,6 +50,7 @@ kept x same =
       end = endOf (x .journal);
       moves = transfers (upkeep x);
       shared = same;
+      edition = editionNumber (x .journal .edition);
     }
 
 newest-more : (x : Store) (xs : List Store)
@@ -68,24 +69,33 @@ newest-more x (y ∷ ys) = go (newest y ys) (newest x (y ∷ ys)) (newest-cons x
 -- the same by what was kept so far
 newer-is : (x : Store) (xs : List Store) {w : Newest} {m same : Bool} → w ≡ newestIn xs → m ≡ transfers (upkeep x)
     → same ≡ sameTime (timeOf x) xs
-    → cond (leb (w .time) (timeOf x)) (record { valid = true; number = x .number; time = timeOf x; end = endOf (x .journal); moves = m; shared = same }) w
-    ≡ newestIn (x ∷ xs)
+    → cond (leb (w .time) (timeOf x))
+    (record {
+      valid = true;
+      number = x .number;
+      time = timeOf x;
+      end = endOf (x .journal);
+      moves = m;
+      shared = same;
+      edition = editionNumber (x .journal .edition);
+    })
+    w ≡ newestIn (x ∷ xs)
 newer-is x xs e f g = rw (e, f, g) (newest-more x xs)
 
 places-more : (p : List ℕ) (x : Store) (xs : List Store)
-    → cond (leb (newestIn xs .time) (timeOf x)) (placesOf (x .journal .frames)) (placesFor p xs) ≡ placesFor p (x ∷ xs)
+    → cond (leb (newestIn xs .time) (timeOf x)) (storePlaces x) (placesFor p xs) ≡ placesFor p (x ∷ xs)
 places-more p x [] = rw (le-leb 0 (timeOf x) (omega arith))
 places-more p x (y ∷ ys) = go (newest y ys) (newest x (y ∷ ys)) (newest-cons x y ys)
   where
     go : (w v : Store) → v ≡ cond (ltb (timeOf x) (timeOf w)) w x
-        → cond (leb (timeOf w) (timeOf x)) (placesOf (x .journal .frames)) (placesOf (w .journal .frames)) ≡ placesOf (v .journal .frames)
+        → cond (leb (timeOf w) (timeOf x)) (storePlaces x) (storePlaces w) ≡ storePlaces v
     go w v e =
         rw e (on-test (ltb (timeOf x) (timeOf w))
         (λ t. rw (t, lt-leb (timeOf w) (timeOf x) (ltb-true (timeOf x) (timeOf w) t)))
         (λ t. rw (t, le-leb (timeOf w) (timeOf x) (ltb-false (timeOf x) (timeOf w) t))))
 
 places-is : (p : List ℕ) (x : Store) (xs : List Store) {w : Newest} {q : List ℕ} → w ≡ newestIn xs → q ≡ placesFor p xs
-    → cond (leb (w .time) (timeOf x)) (placesOf (x .journal .frames)) q ≡ placesFor p (x ∷ xs)
+    → cond (leb (w .time) (timeOf x)) (storePlaces x) q ≡ placesFor p (x ∷ xs)
 places-is p x xs e f = rw (e, f) (places-more p x xs)
 
 tie-more : (x : Store) (xs : List Store) (q : Tie) (same : Bool) → q ≡ tieIn xs → same ≡ sameTime (timeOf x) xs

@@ -6,10 +6,11 @@ use Prim.Native.Nat.{ℕ, _+_, _<_}
 use native.Mathlib.Omega.{arith}
 use lib.Dec.{ltb}
 use borrow.Author.Tests.{lt-ltb}
+use Rattle.frame.specs.declared.Edition.{Edition}
 use Rattle.frame.specs.Frame.{frameLen, total, nextOf}
 use Rattle.frame.specs.Reader.{Tail, clean, cut, bad, ends}
 use Rattle.frame.specs.Sentences.{Torn}
-use Rattle.frame.proofs.First.{tail-cut}
+use Rattle.frame.proofs.Scanned.{tail-cut}
 use Rattle.journal.specs.Replay.{Entry, pendingFrame}
 use Rattle.journal.specs.Block.{Journal, headerLen, valid}
 use Rattle.journal.specs.Room.{pendingOf}
@@ -21,22 +22,23 @@ use Rattle.journal.proofs.States.{Contents}
 use Rattle.board.specs.Mount.{forPending, upkeepBy, upkeepOf, transfers, replayOf}
 use Rattle.looks.specs.Surveys.{sumOf, needsIn}
 
-any-bytes : (es : List Entry) → transfers (forPending es) ≡ ltb 0 (total (map pendingFrame es))
+any-bytes : (ed : Edition) (es : List Entry) → transfers (forPending es) ≡ ltb 0 (total ed (map pendingFrame es))
 unfolding total
-any-bytes [] = refl
-any-bytes (e ∷ es) = sym (lt-ltb 0 (frameLen (pendingFrame e) + total (map pendingFrame es)) (omega arith))
+any-bytes ed [] = refl
+any-bytes ed (e ∷ es) = sym (lt-ltb 0 (frameLen ed (pendingFrame e) + total ed (map pendingFrame es)) (omega arith))
 
 module _ {b : List ℕ} {w : Journal} (x : Contents b w) where
-  legal-now : LegalEntries (replayOf w .pending)
-  legal-now = sound-replay (w .frames) (x .layout .stands) .entries
+  legal-now : LegalEntries (w .edition) (replayOf w .pending)
+  legal-now = sound-replay (w .edition) (w .frames) (x .layout .stands) .entries
 
-  any-is : transfers (forPending (replayOf w .pending)) ≡ ltb 0 (sumOf (pendingOf (w .frames)))
-  any-is = any-bytes (replayOf w .pending) ∙ ap (ltb 0) (bytes-total (replayOf w .pending) legal-now)
+  pub any-is : transfers (forPending (replayOf w .pending)) ≡ ltb 0 (sumOf (pendingOf (w .edition) (w .frames)))
+  any-is =
+      any-bytes (w .edition) (replayOf w .pending) ∙ ap (ltb 0) (bytes-total (w .edition) (replayOf w .pending) legal-now)
 
 torn-some : {b : List ℕ} {w : Journal} {n : ℕ} → Contents b w → w .tail ≡ cut n → 0 < n
 torn-some {b} {w} {n} x e =
     let k : ℕ = nextOf 0 (w .frames) in
-    let y : Torn k (x .rest) n = tail-cut k (headerLen + total (w .frames)) (x .rest) n (x .reads ∙ ap ends e) in
+    let y : Torn (w .edition) k (x .rest) n = tail-cut (w .edition) k (headerLen + total (w .edition) (w .frames)) (x .rest) n (x .reads ∙ ap ends e) in
     omega (arith, y .long)
 
 pub cut-not : {b : List ℕ} {w : Journal} {n : ℕ} → Contents b w → w .tail ≡ cut n → n ≡ 0 → ⊥
@@ -46,7 +48,7 @@ pub needs-is : (b : List ℕ) (w : Journal) → Contents b w → transfers (upke
 unfolding surveyOf
 needs-is b w x = go (w .tail) refl (x .okay)
   where
-    go : (c : Tail) → w .tail ≡ c → Okay c → transfers (upkeepBy w c) ≡ (ltb 0 (tornLen c) || ltb 0 (sumOf (pendingOf (w .frames))))
+    go : (c : Tail) → w .tail ≡ c → Okay c → transfers (upkeepBy w c) ≡ (ltb 0 (tornLen c) || ltb 0 (sumOf (pendingOf (w .edition) (w .frames))))
     go clean e o = any-is x
     go (cut n) e o = sym (rw (lt-ltb 0 n (torn-some x e)))
     go (bad f) e o = absurd o

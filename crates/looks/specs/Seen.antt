@@ -6,6 +6,7 @@ use Prim.Native.Nat.{ℕ, suc}
 use lib.Dec.{eqb, leb}
 use lib.ListN.{length, getD, drop, set, replicate}
 use Rattle.flash.specs.Flash.{maxBlocks, blockNumbers}
+use Rattle.frame.specs.Frame.{editionNumber}
 use Rattle.survey.specs.declared.Survey.{Survey}
 use Rattle.journal.specs.Index.{placesOf}
 use Rattle.wire.specs.declared.Refusal.the-variants as refusal
@@ -35,7 +36,7 @@ othersIn c skips (k ∷ ks) = cond (eqb c k || getD skips k false) (othersIn c s
 
 -- of the valid block with the largest time; zeros if none is valid
 abbrev pub newestIn : List Store → Newest
-newestIn [] = record { valid = false; number = 0; time = 0; end = 0; moves = false; shared = false }
+newestIn [] = record { valid = false; number = 0; time = 0; end = 0; moves = false; shared = false; edition = 0 }
 newestIn (y ∷ ys) =
     let x : Store = newest y ys in
     record {
@@ -45,15 +46,20 @@ newestIn (y ∷ ys) =
       end = endOf (x .journal);
       moves = transfers (upkeep x);
       shared = tied (timeOf x) (y ∷ ys);
+      edition = editionNumber (x .journal .edition);
     }
 
 abbrev pub tieIn : List Store → Tie
 tieIn xs = record { equal = equalTimes xs; lowest = lowestTied xs }
 
--- its places; with no valid block they stay
+-- where the values of a valid block stand
+abbrev pub storePlaces : Store → List ℕ
+storePlaces x = placesOf (x .journal .edition) (x .journal .frames)
+
+-- the newest one's places; with no valid block they stay
 abbrev pub placesFor : List ℕ → List Store → List ℕ
 placesFor p [] = p
-placesFor p (y ∷ ys) = placesOf (newest y ys .journal .frames)
+placesFor p (y ∷ ys) = storePlaces (newest y ys)
 
 -- all that mount and format ask about the blocks of an image: p and q are the places before and after
 pub record Sees (N : ℕ) (img p : List ℕ) (z : Seen) (q : List ℕ) : Type 0 where
@@ -80,7 +86,17 @@ takesOver w s = isValid (s .kind) && leb (w .time) (s .time)
 
 unfoldable pub newer : Newest → ℕ → Survey → Bool → Newest
 newer w k s same =
-    cond (takesOver w s) (record { valid = true; number = k; time = s .time; end = s .end; moves = needsIn s; shared = same }) w
+    cond (takesOver w s)
+    (record {
+      valid = true;
+      number = k;
+      time = s .time;
+      end = s .end;
+      moves = needsIn s;
+      shared = same;
+      edition = editionNumber (s .edition);
+    })
+    w
 
 unfoldable pub tying : Tie → ℕ → Bool → Tie
 tying q k same = cond same (record { equal = true; lowest = k }) q

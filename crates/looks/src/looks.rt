@@ -24,6 +24,8 @@ pub struct Newest {
     pub moves: bool,
     // another valid block has its time
     pub shared: bool,
+    // its edition's number
+    pub edition: u8,
 }
 
 // Two valid blocks have one time, and the lowest block of which that is so.
@@ -52,6 +54,7 @@ fn nothing() -> Seen
         end: 0,
         moves: false,
         shared: false,
+        edition: 0,
     };
     let tie = Tie {
         equal: false,
@@ -131,6 +134,7 @@ fn newer(w: Newest, number: u8, s: Survey, same: bool) -> Newest
     if !takes_over(w, s) {
         return w;
     }
+    let edition = s.edition;
     Newest {
         valid: true,
         number: number,
@@ -138,6 +142,7 @@ fn newer(w: Newest, number: u8, s: Survey, same: bool) -> Newest
         end: s.end,
         moves: needs_transfer(s),
         shared: same,
+        edition: frame::edition_number(edition),
     }
 }
 

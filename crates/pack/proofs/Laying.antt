@@ -11,7 +11,7 @@ use Rattle.flash.specs.Bytes.{u16le}
 use Rattle.wire.specs.Code.{overlay}
 use Rattle.wire.proofs.Laying.{to-end}
 use Rattle.flash.specs.Flash.{maxBlocks}
-use Rattle.frame.specs.Frame.{maxFrame}
+use Rattle.frame.specs.Frame.{bufferLen}
 use Rattle.board.specs.declared.Record.{Record}
 use Rattle.lent.specs.Layout.{cursorSize, planSize, placesAt, placesSize, jobAt, planAt, cursorAt, unitAt, frameAt, recordSize}
 use Rattle.lent.specs.Layout.{wordBytes, headBytes, planBytes, cursorBytes, recordBytes, recordIn}
@@ -113,8 +113,8 @@ module _ (r : Record) (l x₁ x₂ x₃ x₄ x₅ x₆ x₇ h p c : List ℕ) (e
       let u₃ = next jobAt maxBlocks (r .job .wipe) u₂ e₃ (n .wipe) (omega (arith, nl)) in
       let u₄ = next planAt planSize p u₃ e₄ nq (omega (arith, nl)) in
       let u₅ = next cursorAt cursorSize c u₄ e₅ (ap length ec) (omega (arith, nl)) in
-      let u₆ = next unitAt maxFrame (r .unit) u₅ e₆ (n .unit) (omega (arith, nl)) in
-      let u₇ = next frameAt maxFrame (r .frame) u₆ e₇ (n .frame) (omega (arith, nl)) in
+      let u₆ = next unitAt bufferLen (r .unit) u₅ e₆ (n .unit) (omega (arith, nl)) in
+      let u₇ = next frameAt bufferLen (r .frame) u₆ e₇ (n .frame) (omega (arith, nl)) in
       whole recordSize u₇ nl ∙ flat h (wordBytes (r .places)) (r .job .wipe) p c (r .unit) (r .frame) ∙ rw (eh, ep, ec)
 
   pub encoded : Sized r → length p ≡ planSize → length l ≡ recordSize → (x₇ ≡ recordBytes r) × (recordIn x₇ ≡ r)

@@ -8,7 +8,7 @@ use lib.ListN.{length, getD, take, drop, replicate, length-append, length-take, 
 use lib.Seq.{drop-drop, length-take-le}
 use borrow.Author.Tests.{eq-eqb, ne-eqb}
 use Rattle.flash.specs.Flash.{maxBlocks}
-use Rattle.frame.specs.Frame.{maxFrame}
+use Rattle.frame.specs.Frame.{bufferLen}
 use Rattle.board.specs.declared.Record.{Record}
 use Rattle.board.specs.Record.{noPlaces, noFrame}
 use Rattle.job.specs.declared.records.Numbers.{Numbers}
@@ -65,8 +65,8 @@ module _ (n : Numbers) (z : Lengths n) where
         places = length-words-in 256 (drop placesAt b);
         wipe = z .wipe;
         since = z .since;
-        unit = length-bytes-in maxFrame (drop unitAt b);
-        frame = length-bytes-in maxFrame (drop frameAt b);
+        unit = length-bytes-in bufferLen (drop unitAt b);
+        frame = length-bytes-in bufferLen (drop frameAt b);
       }
 
   no-sizes : Sized (assemble n noPlaces noFrame noFrame)
@@ -106,7 +106,7 @@ module _ (s : Stepped) (b after : List ℕ) (l : length b ≡ recordSize) (n : L
       (held (assemble (s .next) noPlaces noFrame noFrame) b after l (no-sizes (s .next) n) (e ∙ rw (c, l) (ended-laid (s .next) n)))
 
 -- another frame that is copied was laid first: x is the buffer then
-pub loaded : (s : Stepped) (u b x after : List ℕ) → length b ≡ recordSize → length u ≡ maxFrame → x ≡ laidAt unitAt u b
+pub loaded : (s : Stepped) (u b x after : List ℕ) → length b ≡ recordSize → length u ≡ bufferLen → x ≡ laidAt unitAt u b
     → Holds (leftIn s x) x after → Holds (loadedIn s u b) b after
 unfolding recordInto
 loaded s u b x after l n e h =

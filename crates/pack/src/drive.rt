@@ -6,7 +6,7 @@ use crate::cursor_bytes;
 use crate::head_bytes;
 use crate::lay_at;
 use crate::plan_bytes;
-use frame::MAX_FRAME;
+use frame::BUFFER_LEN;
 use job::records::Numbers;
 use job::records::Stepped;
 
@@ -53,7 +53,7 @@ pub fn write_step(s: Stepped, bytes: &mut [u8])
 }
 
 // The same with another frame that is copied.
-pub fn write_loaded(s: Stepped, unit: &[u8; MAX_FRAME], bytes: &mut [u8])
+pub fn write_loaded(s: Stepped, unit: &[u8; BUFFER_LEN], bytes: &mut [u8])
     ensures { λ r. ⌜ Holds (loadedIn s (now (unit .entry)) (now (bytes .entry))) (now (bytes .entry)) (now (bytes .exit)) ⌝ }
 {
     if bytes.len() != lent::RECORD_SIZE {

@@ -6,13 +6,13 @@ ghost use Rattle.board.specs.Record.{noFrame};
 ghost use Rattle.job.specs.Code.{assemble};
 ghost use Rattle.pack.specs.Code.{ReadsAs, intoIf, ReadsAsIf};
 use crate::encode_parts;
-use frame::MAX_FRAME;
+use frame::BUFFER_LEN;
 use job::records;
 use job::records::Stepped;
 use wire::Answer;
 
 // What a mount or format left: the record written, and the answer.
-pub fn new_record(s: Stepped, places: &[u16; 256], frame: &[u8; MAX_FRAME], board: &mut [u8]) -> u8
+pub fn new_record(s: Stepped, places: &[u16; 256], frame: &[u8; BUFFER_LEN], board: &mut [u8]) -> u8
     ensures { λ r. ⌜ (r ≡ edgeNumber (s .answer)) × (now (board .exit)
         ≡ recordInto (assemble (s .next) (now (places .entry)) noFrame (now (frame .entry))) (now (board .entry))) ⌝ }
     ensures back { λ r. ⌜ ReadsAs (now (board .entry)) (now (board .exit))
@@ -26,7 +26,7 @@ pub fn new_record(s: Stepped, places: &[u16; 256], frame: &[u8; MAX_FRAME], boar
 }
 
 // What a request left: the record written where a job began, and the answer.
-pub fn begun(s: Stepped, places: &[u16; 256], frame: &[u8; MAX_FRAME], board: &mut [u8]) -> u8
+pub fn begun(s: Stepped, places: &[u16; 256], frame: &[u8; BUFFER_LEN], board: &mut [u8]) -> u8
     ensures { λ r. ⌜ (r ≡ edgeNumber (s .answer)) × (now (board .exit)
         ≡ intoIf (s .answer) (assemble (s .next) (now (places .entry)) noFrame (now (frame .entry))) (now (board .entry))) ⌝ }
     ensures back { λ r. ⌜ ReadsAsIf (s .answer) (now (board .entry)) (now (board .exit))

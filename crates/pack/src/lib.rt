@@ -9,7 +9,7 @@ use board::Record;
 use board::Stage;
 pub use drive::write_loaded;
 pub use drive::write_step;
-use frame::MAX_FRAME;
+use frame::BUFFER_LEN;
 use job::records;
 use job::records::Numbers;
 pub use jobs::begun;
@@ -90,6 +90,7 @@ fn head_bytes(n: Numbers) -> [u8; lent::PLACES_AT]
         high(p[2]),
         low(p[3]),
         high(p[3]),
+        rest.edition,
     ]
 }
 
@@ -117,6 +118,7 @@ fn plan_bytes(job: Job) -> [u8; lent::PLAN_SIZE]
         low(s[3]),
         high(s[3]),
         job.size,
+        job.edition,
     ]
 }
 
@@ -167,8 +169,8 @@ fn lay_words(bytes: &mut [u8], at: usize, words: &[u16])
 pub fn encode_parts(
     n: Numbers,
     places: &[u16; 256],
-    unit: &[u8; MAX_FRAME],
-    frame: &[u8; MAX_FRAME],
+    unit: &[u8; BUFFER_LEN],
+    frame: &[u8; BUFFER_LEN],
     bytes: &mut [u8],
 )
     ensures { λ r. ⌜ now (bytes .exit)

@@ -13,7 +13,7 @@ use Rattle.flash.specs.Flash.{block, sizeOf}
 use Rattle.flash.proofs.Cases.{on-test}
 use Rattle.flash.proofs.Image.{bytes-block}
 use Rattle.frame.specs.declared.Host.{Host}
-use Rattle.frame.specs.Frame.{hostMax, endLen}
+use Rattle.frame.specs.Frame.{hostMax, endLen, editionNumber}
 use Rattle.frame.specs.Reader.{Tail, clean, cut, bad}
 use Rattle.journal.specs.Block.{Journal, headerLen, BlockState, blank, inProgress, valid, foreign, blockState}
 use Rattle.survey.specs.declared.Survey.{Survey}
@@ -119,18 +119,18 @@ module _ {b : List ℕ} {w : Journal} (size : ℕ) (z : Rest) (x : Contents b w)
   abbrev survey : Survey
   survey = surveyOf (valid w)
 
-  -- its end and counts are the record's
+  -- its edition, end and counts are the record's
   abbrev ends : Bool
-  ends = eqb (endOf w) (z .end) && sameBytes (countsOf w) (z .pending)
+  ends = eqb (editionNumber (w .edition)) (z .edition) && (eqb (endOf w) (z .end) && sameBytes (countsOf w) (z .pending))
 
   torn-is : (c : Tail) → w .tail ≡ c
-      → asRecorded size z survey ≡ (eqb (tornLen c) 0 && (ends && leb (claimedIn survey + endLen * openIn (survey .pending)) size))
+      → asRecorded size z survey ≡ (eqb (tornLen c) 0 && (ends && leb (claimedIn survey + endLen (w .edition) * openIn (survey .pending)) size))
   unfolding asRecorded surveyOf
-  torn-is c e = ap (λ (d : Tail). eqb (tornLen d) 0 && (ends && leb (claimedIn survey + endLen * openIn (survey .pending)) size)) e
+  torn-is c e = ap (λ (d : Tail). eqb (tornLen d) 0 && (ends && leb (claimedIn survey + endLen (w .edition) * openIn (survey .pending)) size)) e
 
   fits-is : w .tail ≡ clean → asRecorded size z survey ≡ fitsRecord size z w
   unfolding fitsRecord
-  fits-is e = torn-is clean e ∙ ap₂ (λ (n o : ℕ). ends && leb (n + endLen * o) size) (sym (claimed-is x)) (sym (open-is x))
+  fits-is e = torn-is clean e ∙ ap₂ (λ (n o : ℕ). ends && leb (n + endLen (w .edition) * o) size) (sym (claimed-is x)) (sym (open-is x))
 
   holding-valid : (c : Tail) → w .tail ≡ c → Okay c → Holding size z (valid w)
   holding-valid clean e o =

@@ -1,6 +1,6 @@
 -- The stretch that a read hands back, and a served request as a whole.
 use mathlib.Core.Path.{_≡_, refl, sym, ap, ap₂, _∙_}
-use mathlib.Core.List.{List, []}
+use mathlib.Core.List.{List, [], _∷_}
 use mathlib.Core.Option.{Option, none, some}
 use mathlib.Core.Bool.{Bool, true, false, _&&_, cond}
 use Prim.Native.Nat.{ℕ, _+_, _*_, _≤_, _<_}
@@ -10,6 +10,8 @@ use lib.ListN.{length, getD}
 use borrow.Author.Tests.{leb-true}
 use Rattle.flash.specs.Bytes.{Bytes}
 use Rattle.flash.specs.Flash.{block, sizeOf}
+use Rattle.frame.specs.declared.Edition.{Edition}
+use Rattle.frame.specs.declared.Edition.the-variants as edition
 use Rattle.frame.specs.declared.Host.{Host}
 use Rattle.frame.specs.declared.ObjectId.{ObjectId}
 use Rattle.frame.specs.Frame.{hostMax, idMax, Change, put, delete, Frame, change, commit, abort}
@@ -17,8 +19,8 @@ use Rattle.survey.specs.declared.Survey.{Survey}
 use Rattle.fetch.specs.declared.Found.{Found}
 use Rattle.fetch.specs.declared.Found.the-variants as found
 use Rattle.journal.specs.Block.{Journal, valid, blockState, lastTime}
-use Rattle.journal.specs.Replay.{lookup, isOpen}
-use Rattle.journal.specs.Room.{noRoom, hostFull}
+use Rattle.journal.specs.Replay.{Entry, lookup, isOpen}
+use Rattle.journal.specs.Room.{used, noRoom, hostFull}
 use Rattle.journal.specs.Index.{placesOf, Value, valueAt}
 use Rattle.survey.specs.Survey.{surveyOf, placesIn}
 use Rattle.fetch.specs.Fetch.{foundOf}
@@ -33,7 +35,7 @@ use Rattle.wire.specs.declared.Parsed.the-variants.{Is}
 use Rattle.wire.specs.declared.Page.{Page}
 use Rattle.wire.specs.declared.Page.the-variants.{Summary}
 use Rattle.wire.specs.declared.Request.{Request}
-use Rattle.wire.specs.declared.Request.the-variants.{Put, Delete, Commit, Abort, Read, Log}
+use Rattle.wire.specs.declared.Request.the-variants.{Put, Delete, Commit, Abort, Read, Log, Convert}
 use Rattle.wire.specs.Message.{parse, valueIn, pageLen}
 use Rattle.wire.proofs.Parsing.{InRange, in-range}
 use Rattle.board.specs.declared.Record.{Record}
@@ -41,8 +43,8 @@ use Rattle.board.specs.Record.{allowed, noPlaces, noFrame, Stretch, noStretch, 
 use Rattle.board.specs.Mount.{replayOf}
 use Rattle.board.proofs.Images.{Sized, sized-of, sized-block}
 use Rattle.board.proofs.Replies.{standing-of}
-use Rattle.board.specs.Queue.{append, serveChange, serveEnd, serveRead, serveLog, serve, stretchOf, requestOn, readOn, Asking, asking, sizeFor}
-use Rattle.board.specs.Queue.{movesFor, refuseTo}
+use Rattle.board.specs.Queue.{append, serveChange, serveEnd, convert, convertWith, serveConvert, serveRead, serveLog, serve, stretchOf}
+use Rattle.board.specs.Queue.{requestOn, readOn, Asking, asking, sizeFor, movesFor, refuseTo}
 use Rattle.queue.specs.declared.requests.Ask.{Ask}
 use Rattle.queue.specs.declared.requests.Ask.the-variants as ask
 use Rattle.job.specs.declared.Outcome.{Outcome}
@@ -64,6 +66,9 @@ module _ (a : Asking) (x : Journal) (w : Contents (block (sizeFor a) (a .board .
   abbrev current : List ℕ
   current = block (sizeFor a) (a .board .rest .block) (a .image)
 
+  abbrev ed : Edition
+  ed = x .edition
+
   abbrev start : ℕ
   start = a .board .rest .block * sizeFor a
 
@@ -73,13 +78,13 @@ module _ (a : Asking) (x : Journal) (w : Contents (block (sizeFor a) (a .board .
 
   append-none : (f : Frame) → append a x f .stretch ≡ noStretch
   unfolding append
-  append-none f = cond-none (movesFor a f && eqb (x .time) lastTime) _ _ refl refl
+  append-none f = cond-none (movesFor a x f && eqb (x .time) lastTime) _ _ refl refl
 
   change-none : (c : Change) → serveChange a x c .stretch ≡ noStretch
   unfolding serveChange
   change-none c =
-      cond-none (hostFull (sizeFor a) (replayOf x) (a .host) c) _ _ refl
-      (cond-none (noRoom (sizeFor a) (replayOf x) (a .host) c) _ _ refl (append-none (change (a .host) c)))
+      cond-none (hostFull ed (sizeFor a) (replayOf x) (a .host) c) _ _ refl
+      (cond-none (noRoom ed (sizeFor a) (replayOf x) (a .host) c) _ _ refl (append-none (change (a .host) c)))
 
   end-none : (f : Frame) → serveEnd a x f .stretch ≡ noStretch
   unfolding serveEnd
@@ -89,43 +94,53 @@ module _ (a : Asking) (x : Journal) (w : Contents (block (sizeFor a) (a .board .
   unfolding serveLog
   log-none Summary = cond-none (ltb (length (a .reply)) pageLen) _ _ refl refl
 
+  convert-none : (e : Edition) → convert a x e .stretch ≡ noStretch
+  unfolding convert
+  convert-none edition.First = cond-none (eqb (x .time) lastTime) _ _ refl refl
+  convert-none edition.Second = refl
+
+  converted-none : (es : List Entry) → convertWith a x es .stretch ≡ noStretch
+  converted-none [] = cond-none (ltb (sizeFor a) (used edition.Second (replayOf x))) _ _ refl (convert-none ed)
+  converted-none (e ∷ es) = refl
+
   read-found : (i : ObjectId) → i .0 ≤ idMax → (o : Option (List ℕ)) → lookup i (replayOf x .objects) ≡ o
       → serveRead a x i o .stretch
-      ≡ stretchAt start (foundFor current (placesOf (x .frames)) (Read i))
+      ≡ stretchAt start (foundFor ed current (placesOf ed (x .frames)) (Read i))
   read-found i l none e =
-      let q : valueAt current i (getD (placesOf (x .frames)) (i .0) 0) ≡ none =
-      ap (valueAt current i) (no-place (x .frames) i l e) ∙ value-zero current i in
+      let q : valueAt ed current i (getD (placesOf ed (x .frames)) (i .0) 0) ≡ none =
+      ap (valueAt ed current i) (no-place ed (x .frames) i l e) ∙ value-zero ed current i in
       sym (ap (λ (v : Option Value). stretchAt start (foundOf v)) q)
   read-found i l (some v) e = stretch-of start
-      (valueAt current i (getD (placesOf (x .frames)) (i .0) 0))
+      (valueAt ed current i (getD (placesOf ed (x .frames)) (i .0) 0))
 
   stretch-is : (q : Request) → InRange (a .message) q
       → serve a x q .stretch ≡ stretchAt start
-      (foundFor current (placesOf (x .frames)) q)
-  unfolding serve
+      (foundFor ed current (placesOf ed (x .frames)) q)
+  unfolding serve serveConvert
   stretch-is (Put i) k = change-none (put i (valueIn (a .message)))
   stretch-is (Delete i) k = change-none (delete i)
   stretch-is Commit k = end-none (commit (a .host))
   stretch-is Abort k = end-none (abort (a .host))
   stretch-is (Read i) k = read-found i k (lookup i (replayOf x .objects)) refl
   stretch-is (Log p) k = log-none p
+  stretch-is Convert k = converted-none (replayOf x .pending)
 
   -- what was found says how a read is answered
   read-answers : (i : ObjectId) → i .0 ≤ idMax → (o : Option (List ℕ)) → lookup i (replayOf x .objects) ≡ o → (g : Found)
-      → foundFor current (placesOf (x .frames)) (Read i) ≡ g → answerTo (Read i) g ≡ serveRead a x i o .answer
+      → foundFor ed current (placesOf ed (x .frames)) (Read i) ≡ g → answerTo (Read i) g ≡ serveRead a x i o .answer
   read-answers i l none e g q =
-      let z : valueAt current i (getD (placesOf (x .frames)) (i .0) 0) ≡ none =
-      ap (valueAt current i) (no-place (x .frames) i l e) ∙ value-zero current i in
+      let z : valueAt ed current i (getD (placesOf ed (x .frames)) (i .0) 0) ≡ none =
+      ap (valueAt ed current i) (no-place ed (x .frames) i l e) ∙ value-zero ed current i in
       ap (answerTo (Read i)) (sym q ∙ ap foundOf z)
   read-answers i l (some v) e g q =
-      let z : ValueStands current i (getD (placesOf (x .frames)) (i .0) 0) v =
-      place-law current (x .frames) i v (standing-of w) l e in
+      let z : ValueStands ed current i (getD (placesOf ed (x .frames)) (i .0) 0) v =
+      place-law ed current (x .frames) i v (standing-of w) l e in
       ap (answerTo (Read i)) (sym q ∙ ap foundOf (z .found))
 
   -- by what the message itself comes to, and the empty one
   answers-is : (q : Request) → InRange (a .message) q → requestOn a .answer ≡ serve a x q .answer
       → requestOn (telling a []) .answer ≡ Refused refusal.Malformed → (g : Found)
-      → foundFor current (placesOf (x .frames)) q ≡ g
+      → foundFor ed current (placesOf ed (x .frames)) q ≡ g
       → answerTo q g ≡ requestOn (telling a (readAs (Is q) (a .message))) .answer
   unfolding serve
   answers-is (Put i) k s n g e = ap (answerTo (Put i)) (sym e) ∙ sym n
@@ -134,27 +149,28 @@ module _ (a : Asking) (x : Journal) (w : Contents (block (sizeFor a) (a .board .
   answers-is Abort k s n g e = ap (answerTo Abort) (sym e) ∙ sym n
   answers-is (Read i) k s n g e = read-answers i k (lookup i (replayOf x .objects)) refl g e ∙ sym s
   answers-is (Log p) k s n g e = ap (answerTo (Log p)) (sym e) ∙ sym n
+  answers-is Convert k s n g e = ap (answerTo Convert) (sym e) ∙ sym n
 
   -- what is found lies in the block
   found-in : (i : ObjectId) → i .0 ≤ idMax → (p n : ℕ) (o : Option (List ℕ)) → lookup i (replayOf x .objects) ≡ o
-      → foundFor current (placesOf (x .frames)) (Read i) ≡ found.At p n → p + n ≤ length
+      → foundFor ed current (placesOf ed (x .frames)) (Read i) ≡ found.At p n → p + n ≤ length
       current
   found-in i l p n none e q =
-      let z : valueAt current i (getD (placesOf (x .frames)) (i .0) 0) ≡ none =
-      ap (valueAt current i) (no-place (x .frames) i l e) ∙ value-zero current i in
+      let z : valueAt ed current i (getD (placesOf ed (x .frames)) (i .0) 0) ≡ none =
+      ap (valueAt ed current i) (no-place ed (x .frames) i l e) ∙ value-zero ed current i in
       let y : found.Nothing ≡ found.At p n = sym (ap foundOf z) ∙ q in
       let u : _≡_ {A = ℕ} 0 1 = cc in
       absurd (omega arith)
   found-in i l p n (some v) e q =
-      let z : ValueStands current i (getD (placesOf (x .frames)) (i .0) 0) v =
-      place-law current (x .frames) i v (standing-of w) l e in
+      let z : ValueStands ed current i (getD (placesOf ed (x .frames)) (i .0) 0) v =
+      place-law ed current (x .frames) i v (standing-of w) l e in
       let y : found.At (z .at) (length v) ≡ found.At p n = sym (ap foundOf (z .found)) ∙ q in
       let a : z .at ≡ p = cc in
       let b : length v ≡ n = cc in
       omega (arith, z .fits)
 
   found-inside : (q : Request) (p n : ℕ) → InRange (a .message) q
-      → foundFor current (placesOf (x .frames)) q ≡ found.At p n
+      → foundFor ed current (placesOf ed (x .frames)) q ≡ found.At p n
       → p + n ≤ length current
   found-inside (Put i) p n k e = let u : _≡_ {A = ℕ} 0 1 = cc in absurd (omega arith)
   found-inside (Delete i) p n k e = let u : _≡_ {A = ℕ} 0 1 = cc in absurd (omega arith)
@@ -162,6 +178,7 @@ module _ (a : Asking) (x : Journal) (w : Contents (block (sizeFor a) (a .board .
   found-inside Abort p n k e = let u : _≡_ {A = ℕ} 0 1 = cc in absurd (omega arith)
   found-inside (Read i) p n k e = found-in i k p n (lookup i (replayOf x .objects)) refl e
   found-inside (Log g) p n k e = let u : _≡_ {A = ℕ} 0 1 = cc in absurd (omega arith)
+  found-inside Convert p n k e = let u : _≡_ {A = ℕ} 0 1 = cc in absurd (omega arith)
 
 -- a refused request, and a refused read
 pub refused-all : (a : Asking) (p f : List ℕ) (why : Refusal) (s : Stepped) → requestOn a ≡ refuseTo a why → s ≡ refused why (a .board .rest)
@@ -245,29 +262,37 @@ module _ {N : ℕ} {img : List ℕ} {r : Record} {h : Host} {m : List ℕ} {size
     survey-now : s ≡ surveyOf (valid (served .held))
     survey-now = l .survey ∙ ap surveyOf (served .state)
 
+    edition-now : s .edition ≡ served .held .edition
+    unfolding surveyOf
+    edition-now = ap (λ (y : Survey). y .edition) survey-now
+
     pub served-reply : (reply : List ℕ) → replyIn size s reply q ≡ requestOn (asking N img r h m reply) .reply
     served-reply reply =
         ap₂ (λ (n : ℕ) (x : Survey). replyIn n x reply q) (l .sized) survey-now
         ∙ sym (reply-is (asking N img r h m reply) (served .held) here (served .contents) q) ∙ sym (ap (λ (o : Out). o .reply) (served .serves reply))
 
     module _ (places : List ℕ) (ep : places ≡ placesIn (blockState (block (sizeOf N img) (r .rest .block) img))) where
-      places-now : places ≡ placesOf (served .held .frames)
+      places-now : places ≡ placesOf (served .held .edition) (served .held .frames)
       places-now = ep ∙ ap placesIn (served .state)
 
-      pub served-asks : (reply g f : List ℕ) (y : Stepped) → y ≡ serveIn size (r .rest) reply h m s places q → f ≡ frameIn h m q g
+      pub served-asks : (reply g f : List ℕ) (y : Stepped) → y ≡ serveIn size (r .rest) reply h m s places q → f ≡ frameIn (s .edition) h m q g
           → Asks r places f y (requestOn (asking N img r h m reply))
+      unfolding surveyOf
       served-asks reply g f y ey ef =
           rw (ey, ef, l .sized, survey-now, places-now, served .serves reply)
           (serve-is (asking N img r h m reply) (served .held) here (served .contents) q g range low)
 
-      module _ (b : List ℕ) (eb : b ≡ block size (r .rest .block) img) (f : Found) (ef : f ≡ foundFor b places q) where
-        found-here : f ≡ foundFor (block (sizeOf N img) (r .rest .block) img) places q
-        found-here = ef ∙ ap (λ (x : List ℕ). foundFor x places q) (eb ∙ ap (λ (n : ℕ). block n (r .rest .block) img) (l .sized))
+      module _ (b : List ℕ) (eb : b ≡ block size (r .rest .block) img) (f : Found) (ef : f ≡ foundFor (s .edition) b places q) where
+        found-here : f ≡ foundFor (served .held .edition) (block (sizeOf N img) (r .rest .block) img) places q
+        found-here =
+            ef
+            ∙ ap₂ (λ (v : Edition) (x : List ℕ). foundFor v x places q) edition-now (eb ∙ ap (λ (n : ℕ). block n (r .rest .block) img) (l .sized))
 
         read-stretch : (g : Found) → f ≡ g → readOn N img r h m ≡ stretchAt (r .rest .block * sizeOf N img) g
         read-stretch g eg =
             ap (λ (o : Out). o .stretch) (served .serves []) ∙ stretch-is (asking N img r h m []) (served .held) (served .contents) q range
-            ∙ ap (λ (b : List ℕ). stretchAt (r .rest .block * sizeOf N img) (foundFor (block (sizeOf N img) (r .rest .block) img) b q)) (sym places-now)
+            ∙ ap (λ (b : List ℕ). stretchAt (r .rest .block * sizeOf N img) (foundFor (served .held .edition) (block (sizeOf N img) (r .rest .block) img) b q))
+            (sym places-now)
             ∙ ap (stretchAt (r .rest .block * sizeOf N img)) (sym found-here ∙ eg)
 
         -- it lies in the image
@@ -278,7 +303,7 @@ module _ {N : ℕ} {img : List ℕ} {r : Record} {h : Host} {m : List ℕ} {size
             let z : Sized N (sizeOf N img) img = sized-of N img ok in
             let i : at + n ≤ length (block (sizeOf N img) (r .rest .block) img) =
             found-inside (asking N img r h m []) (served .held) (served .contents) q at n range
-            (ap (λ (b : List ℕ). foundFor (block (sizeOf N img) (r .rest .block) img) b q) (sym places-now) ∙ sym found-here ∙ eg) in
+            (ap (λ (b : List ℕ). foundFor (served .held .edition) (block (sizeOf N img) (r .rest .block) img) b q) (sym places-now) ∙ sym found-here ∙ eg) in
             rw (l .sized) (omega (arith, i, block-length N img (r .rest .block) ok there, sized-block (r .rest .block) z there, z .short))
 
         -- its answer
@@ -287,7 +312,7 @@ module _ {N : ℕ} {img : List ℕ} {r : Record} {h : Host} {m : List ℕ} {size
             answers-is (asking N img r h m []) (served .held) (served .contents) q range (ap (λ (o : Out). o .answer) (served .serves []))
             (ap (λ (o : Out). o .answer)
             (unheard N img r h [] (l .bytes) (l .passed) [] refusal.Malformed (empty-as _ _ _ m q (asked (ask.Serve q) e)))) g
-            (ap (λ (b : List ℕ). foundFor (block (sizeOf N img) (r .rest .block) img) b q) (sym places-now) ∙ sym found-here ∙ eg)
+            (ap (λ (b : List ℕ). foundFor (served .held .edition) (block (sizeOf N img) (r .rest .block) img) b q) (sym places-now) ∙ sym found-here ∙ eg)
             ∙ sym (ap (λ (x : Parsed). requestOn (asking N img r h (readAs x m) []) .answer) (served .says))
 
         pub read-none : f ≡ found.Nothing → (x : Located) → x ≡ nothing (noneFor q) → Finds (asking N img r h m []) x

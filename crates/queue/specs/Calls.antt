@@ -6,8 +6,9 @@ use Prim.Native.Nat.{ℕ, _+_, _*_, _≤_}
 use lib.Dec.{eqb, leb}
 use lib.ListN.{length, getD}
 use Rattle.flash.specs.Bytes.{sameBytes}
+use Rattle.frame.specs.declared.Edition.{Edition}
 use Rattle.frame.specs.declared.Host.{Host}
-use Rattle.frame.specs.Frame.{hostMax, endLen}
+use Rattle.frame.specs.Frame.{hostMax, endLen, editionNumber}
 use Rattle.survey.specs.declared.Survey.{Survey}
 use Rattle.fetch.specs.declared.Found.{Found}
 use Rattle.fetch.specs.declared.Found.the-variants as found
@@ -18,7 +19,7 @@ use Rattle.wire.specs.declared.Answer.the-variants.{Done, Refused}
 use Rattle.wire.specs.declared.Refusal.{Refusal}
 use Rattle.wire.specs.declared.Refusal.the-variants as refusal
 use Rattle.wire.specs.declared.Request.{Request}
-use Rattle.wire.specs.declared.Request.the-variants.{Put, Delete, Commit, Abort, Read, Log}
+use Rattle.wire.specs.declared.Request.the-variants.{Put, Delete, Commit, Abort, Read, Log, Convert}
 use Rattle.wire.specs.declared.Parsed.{Parsed}
 use Rattle.wire.specs.declared.Parsed.the-variants.{Is, Malformed}
 use Rattle.wire.specs.Message.{parse}
@@ -59,7 +60,8 @@ gateOf N img p z h =
 unfoldable pub asRecorded : ℕ → Rest → Survey → Bool
 asRecorded size z s =
     isValid (s .kind) && (eqb (s .torn) 0
-    && ((eqb (s .end) (z .end) && sameBytes (s .pending) (z .pending)) && leb (claimedIn s + endLen * openIn (s .pending)) size))
+    && ((eqb (editionNumber (s .edition)) (z .edition) && (eqb (s .end) (z .end) && sameBytes (s .pending) (z .pending)))
+    && leb (claimedIn s + endLen (s .edition) * openIn (s .pending)) size))
 
 abbrev pub askIf : Parsed → Ask
 askIf (Is q) = ask.Serve q
@@ -105,6 +107,7 @@ readAs (Is Commit) m = []
 readAs (Is Abort) m = []
 readAs (Is (Read i)) m = m
 readAs (Is (Log p)) m = []
+readAs (Is Convert) m = []
 
 abbrev pub telling : Asking → List ℕ → Asking
 telling a m = asking (a .blocks) (a .image) (a .board) (a .host) m (a .reply)
@@ -127,6 +130,7 @@ noneFor Commit = refusal.Malformed
 noneFor Abort = refusal.Malformed
 noneFor (Read i) = refusal.NoObject
 noneFor (Log p) = refusal.Malformed
+noneFor Convert = refusal.Malformed
 
 abbrev pub answerTo : Request → Found → Answer
 answerTo q found.Nothing = Refused (noneFor q)
@@ -138,10 +142,11 @@ stretchAt start found.Nothing = noStretch
 stretchAt start (found.At p n) = record { at = start + p; size = n }
 
 -- the value that a read asks for
-abbrev pub foundFor : List ℕ → List ℕ → Request → Found
-foundFor b places (Put i) = found.Nothing
-foundFor b places (Delete i) = found.Nothing
-foundFor b places Commit = found.Nothing
-foundFor b places Abort = found.Nothing
-foundFor b places (Read i) = foundOf (valueAt b i (getD places (i .0) 0))
-foundFor b places (Log p) = found.Nothing
+abbrev pub foundFor : Edition → List ℕ → List ℕ → Request → Found
+foundFor ed b places (Put i) = found.Nothing
+foundFor ed b places (Delete i) = found.Nothing
+foundFor ed b places Commit = found.Nothing
+foundFor ed b places Abort = found.Nothing
+foundFor ed b places (Read i) = foundOf (valueAt ed b i (getD places (i .0) 0))
+foundFor ed b places (Log p) = found.Nothing
+foundFor ed b places Convert = found.Nothing

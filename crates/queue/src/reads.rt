@@ -16,6 +16,7 @@ use board::Phase;
 use board::Record;
 use board::Rest;
 use fetch::Found;
+use frame::Edition;
 use frame::Host;
 use job::records;
 use wire::Answer;
@@ -56,20 +57,27 @@ fn none_for(ask: Request) -> Refusal
         Request::Commit => return Refusal::Malformed,
         Request::Abort => return Refusal::Malformed,
         Request::Log(_) => return Refusal::Malformed,
+        Request::Convert => return Refusal::Malformed,
     }
 }
 
 // The value that a read asks for, by its place in a block.
-fn value_for(block: &[u8], places: &[u16; 256], ask: Request) -> Found
-    ensures { λ r. ⌜ r ≡ foundFor (now (block .entry)) (now (places .entry)) ask ⌝ }
+fn value_for(block: &[u8], edition: Edition, places: &[u16; 256], ask: Request) -> Found
+    ensures { λ r. ⌜ r ≡ foundFor edition (now (block .entry)) (now (places .entry)) ask ⌝ }
 {
     match ask {
-        Request::Read(id) => return fetch::value_at(block, id, serving::place_of(places, id)),
+        Request::Read(id) => return fetch::value_at(
+            block,
+            edition,
+            id,
+            serving::place_of(places, id),
+        ),
         Request::Put(_) => return Found::Nothing,
         Request::Delete(_) => return Found::Nothing,
         Request::Commit => return Found::Nothing,
         Request::Abort => return Found::Nothing,
         Request::Log(_) => return Found::Nothing,
+        Request::Convert => return Found::Nothing,
     }
 }
 
@@ -91,9 +99,10 @@ pub fn find(
             let mut places = records::no_places();
             let block = flash::block_of(image, size, rest.block);
             let s = survey::survey_block(block, &mut places);
+            let edition = s.edition;
             match requests::hear(size, rest, s, message) {
                 Ask::Refused(why) => return nothing(why),
-                Ask::Serve(ask) => match value_for(block, &places, ask) {
+                Ask::Serve(ask) => match value_for(block, edition, &places, ask) {
                     Found::Nothing => return nothing(none_for(ask)),
                     Found::At(at, n) => {
                         return Located {

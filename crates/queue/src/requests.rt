@@ -12,8 +12,8 @@ ghost use Rattle.queue.specs.Calls.{gateOf, gateIn, asRecorded, askOf, l
 use board::Phase;
 use board::Record;
 use board::Rest;
+use frame::BUFFER_LEN;
 use frame::Host;
-use frame::MAX_FRAME;
 use job::Outcome;
 use job::records;
 use job::records::Stepped;
@@ -131,6 +131,10 @@ fn as_recorded(size: usize, rest: Rest, s: Survey) -> bool
     if s.torn != 0 {
         return false;
     }
+    let edition = s.edition;
+    if frame::edition_number(edition) != rest.edition {
+        return false;
+    }
     if s.end != rest.end {
         return false;
     }
@@ -139,7 +143,7 @@ fn as_recorded(size: usize, rest: Rest, s: Survey) -> bool
     if !same_counts(p, q) {
         return false;
     }
-    room::claimed(s) + room::END * room::open_hosts(p) <= size
+    room::claimed(s) + room::end_len(edition) as usize * room::open_hosts(p) <= size
 }
 
 pub fn hear(size: usize, rest: Rest, s: Survey, message: &[u8]) -> Ask
@@ -155,7 +159,7 @@ pub fn hear(size: usize, rest: Rest, s: Survey, message: &[u8]) -> Ask
 }
 
 // The record after a request: as it was, unless a job began.
-fn kept_or(s: Stepped, board: Record, places: [u16; 256], frame: [u8; MAX_FRAME]) -> Outcome
+fn kept_or(s: Stepped, board: Record, places: [u16; 256], frame: [u8; BUFFER_LEN]) -> Outcome
     ensures { λ r. ⌜ r ≡ outcome (s .answer) (keptOr (s .answer) board (s .next) places frame) ⌝ }
 {
     let answer = s.answer;
@@ -186,7 +190,7 @@ fn request_at(
     message: &[u8],
     reply: &mut [u8],
     places: &mut [u16; 256],
-    frame: &mut [u8; MAX_FRAME],
+    frame: &mut [u8; BUFFER_LEN],
 ) -> Stepped
     ensures { λ r. ⌜ Asked
         (asking blocks (now (image .entry)) (resting phase rest) host (now (message .entry)) (now (reply .entry)))
@@ -216,7 +220,7 @@ fn request_at(
 }
 
 // Only a job needs them.
-fn drop_arrays(ended: bool, places: &mut [u16; 256], frame: &mut [u8; MAX_FRAME])
+fn drop_arrays(ended: bool, places: &mut [u16; 256], frame: &mut [u8; BUFFER_LEN])
     ensures { λ r. ⌜ (now (places .exit) ≡ cond ended noPlaces (now (places .entry)))
         × (now (frame .exit) ≡ cond ended noFrame (now (frame .entry))) ⌝ }
 {
@@ -237,7 +241,7 @@ pub fn request_core(
     message: &[u8],
     reply: &mut [u8],
     places: &mut [u16; 256],
-    frame: &mut [u8; MAX_FRAME],
+    frame: &mut [u8; BUFFER_LEN],
 ) -> Stepped
     ensures { λ r. ⌜ Requested
         (asking blocks (now (image .entry)) (resting phase rest) host (now (message .entry)) (now (reply .entry)))

@@ -3,21 +3,20 @@ use mathlib.Core.Path.{_≡_, refl, sym, ap, ap₂, _∙_}
 use mathlib.Core.List.{List, [], _∷_}
 use mathlib.Core.Logic.{inl, inr}
 use mathlib.Core.Bool.{Bool, true, false, not, _&&_}
-use Prim.Native.Nat.{ℕ, zero, suc, _+_, _-_, _≤_, _<_}
+use Prim.Native.Nat.{ℕ, zero, suc, _+_, _≤_, _<_}
 use native.Mathlib.Omega.{arith}
 use native.Mathlib.Nat.{zero-add, add-zero}
 use lib.Dec.{eqb, leb}
 use borrow.Author.Tests.{leb-true, le-leb, lt-leb, eqb-true, eq-eqb}
-use lib.ListN.{length, getD, take, drop, length-take, length-drop}
+use lib.ListN.{length, getD, drop}
 use Rattle.flash.specs.Bytes.{allFF}
 use Rattle.flash.proofs.Cases.{on-test, clash, and-both, and-no-left, and-no-right, or-right}
-use Rattle.frame.specs.Frame.{Frame, idMax, checkLen, endLenIn, putLenIn, settledLenIn}
+use Rattle.frame.specs.Frame.{Frame, idMax, checkLen, endLen, putLen, settledLen}
 use Rattle.frame.specs.Reader.{Read, blank, whole, torn, wrong, fault, faultAt, Slot, fits, layoutOf, laid, hasLength, onlySettled}
-use Rattle.frame.specs.Reader.{Match, all, part, misfit, match, decode, ofMatch, readLaid, readFrameIn, readFrame}
+use Rattle.frame.specs.Reader.{Match, all, part, misfit, match, decode, ofMatch, readLaid, readFrame}
 use Rattle.frame.specs.Code.{headOf, readOf}
 use Rattle.reader.specs.Misfits.{firstMisfit, misfitFrom}
 use Rattle.frame.specs.declared.Edition.{Edition}
-use Rattle.frame.specs.declared.Edition.the-variants as edition
 use Rattle.frame.specs.declared.Fault.{Fault}
 use Rattle.frame.specs.declared.Field.{Field}
 use Rattle.frame.specs.declared.Field.the-variants as field
@@ -29,7 +28,6 @@ use Rattle.frame.proofs.Fit.{match-go, match-part, match-misfit}
 use Rattle.frame.proofs.Own.{only-yes, SomeLength, length-of, length-inv, tears-not}
 use Rattle.frame.proofs.Layouts.{length-slots}
 use Rattle.frame.proofs.Exact.{lengthFits, read-ff, read-laid, read-short}
-use Rattle.frame.proofs.First.{read-is}
 use Rattle.reader.proofs.Misfits.{first-none, first-at, one-fits, one-fails}
 
 -- ---- a misfit, and the match
@@ -105,18 +103,18 @@ module _ (e : Edition) (next n k : ℕ) (t : List ℕ) (p : n ≡ getD t 0 0) (q
 -- ---- the steps of the reader
 
 module _ (e : Edition) (next n : ℕ) (t : List ℕ) (p : n ≡ getD t 0 0) (a : allFF t ≡ false) where
-  pub front-laid : (k : ℕ) → k ≡ getD t 2 0 → n ≤ length t → hasLength e next n ≡ true → readOf (readFrameIn e next 0 t) ≡ readOf (readLaid e next 0 n k t)
+  pub front-laid : (k : ℕ) → k ≡ getD t 2 0 → n ≤ length t → hasLength e next n ≡ true → readOf (readFrame e next 0 t) ≡ readOf (readLaid e next 0 n k t)
   front-laid k q h l =
       ap readOf (read-laid e next 0 t a
       (ap (λ (x : ℕ). leb x (length t) && hasLength e next x) (sym p) ∙ and-both (leb n (length t)) (hasLength e next n) (le-leb n (length t) h) l)
       ∙ ap₂ (λ (x y : ℕ). readLaid e next 0 x y t) (sym p) (sym q))
 
-  pub front-long : length t < n → readOf (readFrameIn e next 0 t) ≡ read.Wrong (fault field.Length 0)
+  pub front-long : length t < n → readOf (readFrame e next 0 t) ≡ read.Wrong (fault field.Length 0)
   front-long h =
       ap readOf (read-short e next 0 t a
       (ap (λ (x : ℕ). leb x (length t) && hasLength e next x) (sym p) ∙ and-no-left (leb n (length t)) (hasLength e next n) (lt-leb n (length t) h)))
 
-  pub front-none : hasLength e next n ≡ false → readOf (readFrameIn e next 0 t) ≡ read.Wrong (fault field.Length 0)
+  pub front-none : hasLength e next n ≡ false → readOf (readFrame e next 0 t) ≡ read.Wrong (fault field.Length 0)
   front-none l =
       ap readOf (read-short e next 0 t a
       (ap (λ (x : ℕ). leb x (length t) && hasLength e next x) (sym p) ∙ and-no-right (leb n (length t)) (hasLength e next n) l))
@@ -139,7 +137,7 @@ module _ (e : Edition) (next n : ℕ) where
       most (inl (inr s)) = omega arith
       most (inr s) = omega arith
 
-  other : (r : ℕ) → r ≡ checkLen e → (n ≡ 6 + r → ⊥) → n < 8 + r → SomeLength e next n → (next ≤ idMax) × (n ≡ settledLenIn e 0)
+  other : (r : ℕ) → r ≡ checkLen e → (n ≡ 6 + r → ⊥) → n < 8 + r → SomeLength e next n → (next ≤ idMax) × (n ≡ settledLen e 0)
   other r q a b (inl (inl s)) = absurd (a (omega arith))
   other r q a b (inl (inr s)) = absurd (omega arith)
   other r q a b (inr s) = s
@@ -151,22 +149,16 @@ module _ (e : Edition) (next n : ℕ) where
   is-settled r q a b h =
       same-length (eqb n (7 + r)) (λ z. inr (h, omega (arith, eqb-true n (7 + r) z))) (λ s. eq-eqb n (7 + r) (omega (arith, other r q a b s .1)))
 
-pub put-least : (e : Edition) (next n k : ℕ) → onlySettled e next n k ≡ false → hasLength e next n ≡ true → (n ≡ endLenIn e → ⊥) → putLenIn e 0 ≤ n
+pub put-least : (e : Edition) (next n k : ℕ) → onlySettled e next n k ≡ false → hasLength e next n ≡ true → (n ≡ endLen e → ⊥) → putLen e 0 ≤ n
 put-least e next n k s q a = go (length-inv e next n q)
   where
-    go : SomeLength e next n → putLenIn e 0 ≤ n
+    go : SomeLength e next n → putLen e 0 ≤ n
     go (inl (inl h)) = absurd (a h)
     go (inl (inr h)) = h .0
     go (inr h) = clash (onlySettled e next n k) (only-yes e next n k (h .0) (omega arith) (omega arith)
-        (or-right (eqb k 5) (eqb n (settledLenIn e 0)) (eq-eqb n (settledLenIn e 0) (h .1)))) s
+        (or-right (eqb k 5) (eqb n (settledLen e 0)) (eq-eqb n (settledLen e 0) (h .1)))) s
 
 -- ---- heads
-
-pub put-length : (e : Edition) (n : ℕ) (t : List ℕ) → n ≤ length t → length (take (n - putLenIn e 0) (drop 7 t)) ≡ n - (8 + checkLen e)
-put-length e n t h = simp (length-take, length-drop) (omega arith)
-
-pub settled-length : (e : Edition) (n : ℕ) (t : List ℕ) → n ≤ length t → length (take (n - settledLenIn e 0) (drop 6 t)) ≡ n - (7 + checkLen e)
-settled-length e n t h = simp (length-take, length-drop) (omega arith)
 
 pub decode-high : (e : Edition) (k n : ℕ) (t : List ℕ) → 5 ≤ k → decode e k n t ≡ decode e 5 n t
 decode-high e (suc (suc (suc (suc (suc k))))) n t h = refl
@@ -190,7 +182,7 @@ shift-match at n true f (part p) = refl
 shift-match at n false f (part p) = ap (λ (s : ℕ). read.Wrong (fault (p .field) (at + s))) (sym (zero-add (p .start)))
 shift-match at n b f (misfit p) = ap (λ (s : ℕ). read.Wrong (fault (p .field) (at + s))) (sym (zero-add (p .start)))
 
-shift-read : (e : Edition) (next at : ℕ) (t : List ℕ) → readOf (readFrameIn e next at t) ≡ shiftRead at (readOf (readFrameIn e next 0 t))
+pub shift-read : (e : Edition) (next at : ℕ) (t : List ℕ) → readOf (readFrame e next at t) ≡ shiftRead at (readOf (readFrame e next 0 t))
 shift-read e next at t =
     on-test (allFF t)
     (λ a. ap readOf (read-ff e next at t a) ∙ ap (λ (r : Read). shiftRead at (readOf r)) (sym (read-ff e next 0 t a)))
@@ -202,9 +194,6 @@ shift-read e next at t =
     (λ b. ap readOf (read-short e next at t a b)
     ∙ ap (λ (s : ℕ). read.Wrong (fault field.Length s)) (sym (add-zero at))
     ∙ ap (λ (r : Read). shiftRead at (readOf r)) (sym (read-short e next 0 t a b))))
-
-pub shift-first : (next at : ℕ) (t : List ℕ) → readOf (readFrame next at t) ≡ shiftRead at (readOf (readFrameIn edition.First next 0 t))
-shift-first next at t = ap readOf (read-is next at t) ∙ shift-read edition.First next at t
 
 -- back from what the code has of a fault
 pub wrong-read : (r : Read) (e : Fault) → readOf r ≡ read.Wrong e → r ≡ wrong e

@@ -13,7 +13,7 @@ use Rattle.flash.specs.Bytes.{Bytes}
 use Rattle.flash.proofs.Cases.{and-no-left, and-no-right, between-yes}
 use Rattle.flash.proofs.Blank.{byte-at}
 use Rattle.crc.specs.Crc.{crc32Of}
-use Rattle.frame.specs.Frame.{hostMax, finish, checkLen, putLenIn, deleteLenIn, endLenIn, settledLenIn}
+use Rattle.frame.specs.Frame.{hostMax, finish, checkLen, putLen, deleteLen, endLen, settledLen}
 use Rattle.frame.specs.Reader.{Slot, slot, fits, valueSlots, Layout, frontSlots, sealSlots, laid, lastKind, changeLayout, endLayout, settledLayout}
 use Rattle.reader.specs.Misfits.{firstMisfit, oneMisfit, misfitFrom, frontMisfit}
 use Rattle.frame.specs.declared.Edition.{Edition}
@@ -140,25 +140,25 @@ length-value o (suc n) = ap suc (length-value (suc o) n)
 
 -- where the seal is
 module _ (e : Edition) (n : ℕ) (t : List ℕ) (q : n ≡ getD t 0 0) (hi : n ≤ length t) (bs : Bytes t) where
-  pub change-is : putLenIn e 0 ≤ n
+  pub change-is : putLen e 0 ≤ n
       → misfitFrom 0 (laid n (changeLayout e n) t) t
-      ≡ firstMisfit (frontMisfit 1 (lastKind (eqb n (deleteLenIn e))) t)
+      ≡ firstMisfit (frontMisfit 1 (lastKind (eqb n (deleteLen e))) t)
       (firstMisfit (oneMisfit 4 (slot field.Host 4 0 hostMax) (getD t 4 0))
       (firstMisfit (oneMisfit 6 (slot field.Id 5 0 0) (getD t 6 0)) (sealMisfit e (n - 1 - checkLen e) t)))
   change-is lo =
       let l : Layout = changeLayout e n in
-      let v : List Slot = valueSlots 7 (n - putLenIn e 0) in
+      let v : List Slot = valueSlots 7 (n - putLen e 0) in
       let m : ℕ = n - 1 - checkLen e in
-      let r : 4 + length (l .body) ≡ m = omega (arith, length-value 7 (n - putLenIn e 0)) in
+      let r : 4 + length (l .body) ≡ m = omega (arith, length-value 7 (n - putLen e 0)) in
       let ps : List Slot = sealSlots e m (take m t) in
       ap (λ (x : ℕ). misfitFrom 0 (frontSlots n l ++ sealSlots e x (take x t)) t) r
       ∙ front-is n l ps t q (omega arith)
-      ∙ ap (firstMisfit (frontMisfit 1 (lastKind (eqb n (deleteLenIn e))) t))
+      ∙ ap (firstMisfit (frontMisfit 1 (lastKind (eqb n (deleteLen e))) t))
       (then 4 (slot field.Host 4 0 hostMax) (slot field.Id 5 0 255 ∷ slot field.Id 5 0 0 ∷ (v ++ ps)) t _ (omega arith)
       (past 5 (slot field.Id 5 0 255) (slot field.Id 5 0 0 ∷ (v ++ ps)) t (omega arith) (omega arith) (omega (arith, byte-at t 5 bs))
-      ∙ then 6 (slot field.Id 5 0 0) (v ++ ps) t _ (omega arith) (value-is 7 (n - putLenIn e 0) m ps t bs (omega arith) (omega arith))))
+      ∙ then 6 (slot field.Id 5 0 0) (v ++ ps) t _ (omega arith) (value-is 7 (n - putLen e 0) m ps t bs (omega arith) (omega arith))))
 
-  pub end-is : n ≡ endLenIn e
+  pub end-is : n ≡ endLen e
       → misfitFrom 0 (laid n (endLayout e) t) t
       ≡ firstMisfit (frontMisfit 3 4 t) (firstMisfit (oneMisfit 4 (slot field.Host 4 0 hostMax) (getD t 4 0)) (sealMisfit e 5 t))
   end-is s =
@@ -166,19 +166,19 @@ module _ (e : Edition) (n : ℕ) (t : List ℕ) (q : n ≡ getD t 0 0) (hi : n �
       front-is n (endLayout e) ps t q (omega arith)
       ∙ ap (firstMisfit (frontMisfit 3 4 t)) (then 4 (slot field.Host 4 0 hostMax) ps t _ (omega arith) refl)
 
-  pub settled-is : (next : ℕ) → settledLenIn e 0 ≤ n
+  pub settled-is : (next : ℕ) → settledLen e 0 ≤ n
       → misfitFrom 0 (laid n (settledLayout e next n) t) t
       ≡ firstMisfit (frontMisfit 5 5 t)
       (firstMisfit (oneMisfit 4 (slot field.Id 4 next 255) (getD t 4 0))
       (firstMisfit (oneMisfit 5 (slot field.Id 4 0 0) (getD t 5 0)) (sealMisfit e (n - 1 - checkLen e) t)))
   settled-is next lo =
       let l : Layout = settledLayout e next n in
-      let v : List Slot = valueSlots 6 (n - settledLenIn e 0) in
+      let v : List Slot = valueSlots 6 (n - settledLen e 0) in
       let m : ℕ = n - 1 - checkLen e in
-      let r : 4 + length (l .body) ≡ m = omega (arith, length-value 6 (n - settledLenIn e 0)) in
+      let r : 4 + length (l .body) ≡ m = omega (arith, length-value 6 (n - settledLen e 0)) in
       let ps : List Slot = sealSlots e m (take m t) in
       ap (λ (x : ℕ). misfitFrom 0 (frontSlots n l ++ sealSlots e x (take x t)) t) r
       ∙ front-is n l ps t q (omega arith)
       ∙ ap (firstMisfit (frontMisfit 5 5 t))
       (then 4 (slot field.Id 4 next 255) (slot field.Id 4 0 0 ∷ (v ++ ps)) t _ (omega arith)
-      (then 5 (slot field.Id 4 0 0) (v ++ ps) t _ (omega arith) (value-is 6 (n - settledLenIn e 0) m ps t bs (omega arith) (omega arith))))
+      (then 5 (slot field.Id 4 0 0) (v ++ ps) t _ (omega arith) (value-is 6 (n - settledLen e 0) m ps t bs (omega arith) (omega arith))))

@@ -4,10 +4,10 @@ ghost use Prim.Native.Nat.{_+_, _-_, _≤_, _<_};
 ghost use lib.Dec.{eqb};
 ghost use lib.ListN.{length, getD, take, drop};
 ghost use Rattle.flash.specs.Bytes.{le16};
-ghost use Rattle.frame.specs.Frame.{putLenIn, deleteLenIn, endLenIn, settledLenIn, idOf, checkLen};
+ghost use Rattle.frame.specs.Frame.{putLen, deleteLen, endLen, settledLen, idOf, checkLen};
 ghost use mathlib.Core.Bool.{true};
-ghost use Rattle.frame.specs.Code.{headOf, readOf};
-ghost use Rattle.frame.specs.Reader.{hasLength, onlySettled, layoutOf, decode, readLaid, readFrameIn, readFrame};
+ghost use Rattle.frame.specs.Code.{headOf, peekAt, readOf};
+ghost use Rattle.frame.specs.Reader.{hasLength, onlySettled, layoutOf, decode, readLaid, readFrame};
 ghost use Rattle.frame.specs.Reader.{slot, changeLayout, endLayout, settledLayout, sealSlots, laid, lastKind};
 ghost use Rattle.reader.specs.Misfits.{firstMisfit, oneMisfit, misfitFrom, frontMisfit, secondMisfit};
 use crc::crc32;
@@ -25,10 +25,11 @@ use frame::Head;
 use frame::Host;
 use frame::ID_MAX;
 use frame::KIND_AT;
-use frame::MAX_FRAME;
 use frame::ObjectId;
 use frame::PUT_LEN;
+use frame::PUT_VALUE_AT;
 use frame::SETTLED_LEN;
+use frame::SETTLED_VALUE_AT;
 use frame::VALUE_MAX;
 use frame::check_len;
 
@@ -46,7 +47,9 @@ const SETTLED_HIGH: usize = BODY_AT + 1;
 // The finish byte.
 const LAST: usize = FINISH as usize;
 
-// The longest settled frame, without a check.
+// The longest put and the longest settled frame, without a check.
+const MAX_PUT: usize = PUT_LEN as usize + VALUE_MAX;
+
 const MAX_SETTLED: usize = SETTLED_LEN as usize + VALUE_MAX;
 
 // The first byte of a frame that does not fit: its offset, its field, and where that starts.
@@ -79,9 +82,17 @@ fn less(a: u8, b: u8) -> u8
     if a < b { 0 } else { a - b }
 }
 
+// How many bytes a value has that starts at an offset of a frame of n bytes, `least` of them not its own.
+fn value_count(t: &[u8], start: usize, n: u8, least: u8) -> u8
+    ensures { λ r. ⌜ r ≡ length (take (n - least) (drop start (now (t .entry)))) ⌝ }
+{
+    let v = less(n, least);
+    let left = rest(t, start).len();
+    if left < v as usize { left as u8 } else { v }
+}
+
 // The frame of a low kind byte and a length.
 fn head_at(t: &[u8], edition: Edition, k: u8, n: u8) -> Head
-    requires { ⌜ n ≤ length (now t) ⌝ }
     ensures { λ r. ⌜ r ≡ headOf (decode edition k n (now (t .entry))) ⌝ }
 {
     let check = check_len(edition);
@@ -91,14 +102,14 @@ fn head_at(t: &[u8], edition: Edition, k: u8, n: u8) -> Head
         1 => Head::Put(
             host,
             id_of(byte_at(t, ID_AT), byte_at(t, ID_HIGH)),
-            less(n, PUT_LEN + check),
+            value_count(t, PUT_VALUE_AT, n, PUT_LEN + check),
         ),
         2 => Head::Delete(host, id_of(byte_at(t, ID_AT), byte_at(t, ID_HIGH))),
         3 => Head::Commit(host),
         4 => Head::Abort(host),
         _ => Head::Settled(
             id_of(byte_at(t, BODY_AT), byte_at(t, SETTLED_HIGH)),
-            less(n, SETTLED_LEN + check),
+            value_count(t, SETTLED_VALUE_AT, n, SETTLED_LEN + check),
         ),
     }
 }
@@ -168,7 +179,7 @@ fn seal_misfit(t: &[u8], edition: Edition, m: usize) -> Misfit
 
 // Only a frame of a delete's length can be a delete.
 fn last_kind(edition: Edition, n: u8) -> usize
-    ensures { λ r. ⌜ r ≡ lastKind (eqb n (deleteLenIn edition)) ⌝ }
+    ensures { λ r. ⌜ r ≡ lastKind (eqb n (deleteLen edition)) ⌝ }
 {
     if n == DELETE_LEN + check_len(edition) {
         2
@@ -179,7 +190,7 @@ fn last_kind(edition: Edition, n: u8) -> usize
 
 // A put or a delete of n bytes.
 fn change_misfit(t: &[u8], edition: Edition, n: u8) -> Misfit
-    requires { ⌜ (n ≡ getD (now t) 0 0) × (putLenIn edition 0 ≤ n) × (n ≤ length (now t)) ⌝ }
+    requires { ⌜ (n ≡ getD (now t) 0 0) × (putLen edition 0 ≤ n) × (n ≤ length (now t)) ⌝ }
     ensures { λ r. ⌜ r ≡ misfitFrom 0 (laid n (changeLayout edition n) (now (t .entry))) (now (t .entry)) ⌝ }
 {
     let m = n as usize - 1 - check_len(edition) as usize;
@@ -192,7 +203,7 @@ fn change_misfit(t: &[u8], edition: Edition, n: u8) -> Misfit
 
 // A commit or an abort.
 fn end_misfit(t: &[u8], edition: Edition, n: u8) -> Misfit
-    requires { ⌜ (n ≡ getD (now t) 0 0) × (n ≡ endLenIn edition) × (n ≤ length (now t)) ⌝ }
+    requires { ⌜ (n ≡ getD (now t) 0 0) × (n ≡ endLen edition) × (n ≤ length (now t)) ⌝ }
     ensures { λ r. ⌜ r ≡ misfitFrom 0 (laid n (endLayout edition) (now (t .entry))) (now (t .entry)) ⌝ }
 {
     let front = front_misfit(t, 3, 4);
@@ -203,7 +214,7 @@ fn end_misfit(t: &[u8], edition: Edition, n: u8) -> Misfit
 
 // A settled frame of n bytes whose id is at least next.
 fn settled_misfit(t: &[u8], edition: Edition, next: usize, n: u8) -> Misfit
-    requires { ⌜ (n ≡ getD (now t) 0 0) × (settledLenIn edition 0 ≤ n) × (n ≤ length (now t)) ⌝ }
+    requires { ⌜ (n ≡ getD (now t) 0 0) × (settledLen edition 0 ≤ n) × (n ≤ length (now t)) ⌝ }
     ensures { λ r. ⌜ r ≡ misfitFrom 0 (laid n (settledLayout edition next n) (now (t .entry))) (now (t .entry)) ⌝ }
 {
     let m = n as usize - 1 - check_len(edition) as usize;
@@ -223,7 +234,7 @@ fn has_length(edition: Edition, next: usize, n: u8) -> bool
         return true;
     }
     if PUT_LEN + check <= n {
-        return n as usize <= MAX_FRAME + check as usize;
+        return n as usize <= MAX_PUT + check as usize;
     }
     if ID_MAX < next {
         return false;
@@ -287,7 +298,7 @@ fn read_layout(t: &[u8], edition: Edition, next: usize, n: u8, k: u8) -> FrameRe
 
 // The frame at the front of some bytes, which run to the block's end.
 fn read_front(t: &[u8], edition: Edition, next: usize) -> FrameRead
-    ensures { λ r. ⌜ r ≡ readOf (readFrameIn edition next 0 (now (t .entry))) ⌝ }
+    ensures { λ r. ⌜ r ≡ readOf (readFrame edition next 0 (now (t .entry))) ⌝ }
 {
     if flash::is_blank(t) {
         return FrameRead::Blank;
@@ -309,10 +320,10 @@ fn read_front(t: &[u8], edition: Edition, next: usize) -> FrameRead
 }
 
 // The frame at an offset of a block: blank past its end. A settled frame's id is at least next.
-pub fn read_frame(block: &[u8], at: usize, next: usize) -> FrameRead
-    ensures { λ r. ⌜ r ≡ readOf (readFrame next at (drop at (now (block .entry)))) ⌝ }
+pub fn read_frame(block: &[u8], edition: Edition, at: usize, next: usize) -> FrameRead
+    ensures { λ r. ⌜ r ≡ readOf (readFrame edition next at (drop at (now (block .entry)))) ⌝ }
 {
-    match read_front(rest(block, at), Edition::First, next) {
+    match read_front(rest(block, at), edition, next) {
         FrameRead::Blank => FrameRead::Blank,
         FrameRead::Whole(h) => FrameRead::Whole(h),
         FrameRead::Torn(n) => FrameRead::Torn(n),
@@ -324,4 +335,12 @@ pub fn read_frame(block: &[u8], at: usize, next: usize) -> FrameRead
             })
         }
     }
+}
+
+// The head of the frame at an offset of a block, where a frame is known to be whole: nothing is tested.
+pub fn peek(block: &[u8], edition: Edition, at: usize) -> Head
+    ensures { λ r. ⌜ r ≡ peekAt edition (now (block .entry)) at ⌝ }
+{
+    let t = rest(block, at);
+    head_at(t, edition, byte_at(t, KIND_AT), byte_at(t, 0))
 }

@@ -5,10 +5,11 @@ use Prim.Native.Nat.{ℕ, _-_}
 use lib.ListN.{length, drop, replicate}
 use Rattle.flash.specs.Bytes.{allFF, sameBytes}
 use Rattle.flash.specs.Flash.{numbersFrom, sizeIn, writes}
+use Rattle.frame.specs.declared.Edition.the-variants as edition
 use Rattle.frame.specs.Frame.{hostOf, idOf, put, delete, Frame, change, commit, settled, encodeAll, total}
-use Rattle.frame.specs.Reader.{match, readFrame, scan}
+use Rattle.frame.specs.Reader.{hostLayout, layoutOf, match, readFrame, scan}
 use Rattle.journal.specs.Replay.{insert, remove, lookup, changeAll, listOf, without, isOpen, replayFrom}
-use Rattle.journal.specs.Block.{header, validData, headerFault, blockState}
+use Rattle.journal.specs.Block.{header, validData, editionIn, headerFault, blockState}
 use Rattle.journal.specs.Room.{claimed, noRoom, hostFull}
 use Rattle.journal.specs.Index.{sited, placesFrom, sinceFrom, valueAt, nextSettled, nextPending, nextLoad}
 use Rattle.wire.specs.Message.{parse}
@@ -26,7 +27,7 @@ use Rattle.refuted.specs.Rows.{formatAnswer, Rows}
 
 -- a half of 256 bytes, made at a time
 unfoldable halfOf : ℕ → List Frame → List ℕ
-halfOf t fs = let b : List ℕ = header t validData ++ encodeAll fs in b ++ replicate (256 - length b) 0xFF
+halfOf t fs = let b : List ℕ = header edition.First t validData ++ encodeAll edition.First fs in b ++ replicate (256 - length b) 0xFF
 
 unfoldable blankHalf : List ℕ
 blankHalf = replicate 256 0xFF
@@ -49,31 +50,31 @@ newHalf fs = blankHalf ++ halfOf 2 (moved ++ fs)
 
 -- a call's steps and what they leave
 abbrev afterI : ℕ → Ran
-afterI n = record { steps = n; image = oldHalf; board = idle (rest 2 511 0 250); answer = Done }
+afterI n = record { steps = n; image = oldHalf; board = idle (rest 2 511 0 250 1); answer = Done }
 
 abbrev afterDelete : Ran
 afterDelete =
     record {
       steps = 232;
       image = newHalf (deleted ∷ []);
-      board = idle (counting (rest 2 511 1 237) (8 ∷ 0 ∷ 0 ∷ 0 ∷ []));
+      board = idle (counting (rest 2 511 1 237 1) (8 ∷ 0 ∷ 0 ∷ 0 ∷ []));
       answer = Done;
     }
 
 abbrev afterCommit : Ran
-afterCommit = record { steps = 6; image = newHalf (deleted ∷ commit (hostOf 0) ∷ []); board = idle (rest 2 511 1 243); answer = Done }
+afterCommit = record { steps = 6; image = newHalf (deleted ∷ commit (hostOf 0) ∷ []); board = idle (rest 2 511 1 243 1); answer = Done }
 
 abbrev afterL : Ran
 afterL =
     record {
       steps = 8;
       image = newHalf (deleted ∷ commit (hostOf 0) ∷ change (hostOf 0) (put (idOf 4) []) ∷ []);
-      board = idle (counting (rest 2 511 1 251) (8 ∷ 0 ∷ 0 ∷ 0 ∷ []));
+      board = idle (counting (rest 2 511 1 251 1) (8 ∷ 0 ∷ 0 ∷ 0 ∷ []));
       answer = Done;
     }
 
 abbrev afterM : Ran
-afterM = record { steps = 1; image = newHalf []; board = idle (rest 2 511 1 229); answer = Done }
+afterM = record { steps = 1; image = newHalf []; board = idle (rest 2 511 1 229 1); answer = Done }
 
 record Stages : Type 0 where
   i-is : rowI (exec 2) 64 ≡ afterI 6
@@ -85,11 +86,11 @@ record Stages : Type 0 where
   m-223-is : mounted (exec 2) (cutIn (exec 2) (afterI 0) 0 deleteMessage 223) ≡ afterM
 
 stages : Stages
-unfolding numbersFrom sizeIn allowed drive returned ask asked cutIn mounted rowA stores rowI commitMessage putMessage deleteMessage allFF sameBytes
-    writes encodeAll total match readFrame scan insert remove lookup changeAll listOf without isOpen replayFrom headerFault blockState noRoom hostFull
-    sited placesFrom sinceFrom valueAt nextSettled nextPending nextLoad parse noPlaces noFrame enterAppend enterDrop enterCopy enterOpen enterWipe
-    advance stepBusy stepOn mountAt mountFound mountOn formatOrder formatOn fitsRecord held append serveChange serveEnd serveLog serve requestOn
-    halfOf blankHalf
+unfolding numbersFrom sizeIn allowed drive returned ask asked cutIn mounted rowA stores rowI commitMessage putMessage deleteMessage allFF sameBytes writes
+    encodeAll total hostLayout layoutOf match readFrame scan insert remove lookup changeAll listOf without isOpen replayFrom editionIn headerFault
+    blockState noRoom hostFull sited placesFrom sinceFrom valueAt nextSettled nextPending nextLoad parse noPlaces noFrame enterAppend enterDrop enterCopy
+    enterOpen enterWipe advance stepBusy stepOn mountAt mountFound mountOn formatOrder formatOn fitsRecord held append serveChange serveEnd serveLog serve
+    requestOn halfOf blankHalf
 stages =
     record {
       i-is = refl;
@@ -128,10 +129,10 @@ m-223-is = ap (λ (x : Ran). mounted (exec 2) (cutIn (exec 2) x 0 deleteMessage 
 
 pub rows : Rows (exec 2)
 unfolding numbersFrom sizeIn allowed drive returned ask asked cutIn mounted replayed timed part rowA rowB rowC rowD rowE rowF rowG rowH stores rowI rowK
-    rowLDelete rowL rowM three rowALong rowO commitMessage putMessage deleteMessage formatAnswer allFF sameBytes writes encodeAll total match readFrame
-    scan insert remove lookup changeAll listOf without isOpen replayFrom headerFault blockState noRoom hostFull sited placesFrom sinceFrom valueAt
-    nextSettled nextPending nextLoad parse noPlaces noFrame enterAppend enterDrop enterCopy enterOpen enterWipe advance stepBusy stepOn mountAt mountFound
-    mountOn formatOrder formatOn halfOf blankHalf fitsRecord held append serveChange serveEnd serveLog serve requestOn
+    rowLDelete rowL rowM three rowALong rowO commitMessage putMessage deleteMessage formatAnswer allFF sameBytes writes encodeAll total hostLayout layoutOf
+    match readFrame scan insert remove lookup changeAll listOf without isOpen replayFrom editionIn headerFault blockState noRoom hostFull sited placesFrom
+    sinceFrom valueAt nextSettled nextPending nextLoad parse noPlaces noFrame enterAppend enterDrop enterCopy enterOpen enterWipe advance stepBusy stepOn
+    mountAt mountFound mountOn formatOrder formatOn halfOf blankHalf fitsRecord held append serveChange serveEnd serveLog serve requestOn
 rows =
     record {
       a-steps = refl;
@@ -161,7 +162,7 @@ rows =
       h-holds = refl;
       i-accepted = refl;
       i-done = ap (λ (x : Ran). x .board) (stages .i-is);
-      i-claimed = ap (λ (x : Ran). claimed (replayed 0 x)) (stages .i-is);
+      i-claimed = ap (λ (x : Ran). claimed edition.First (replayed 0 x)) (stages .i-is);
       j = ap (λ (x : Ran). ask (exec 2) x 0 (putMessage 4 0) .answer) (stages .i-is);
       k-commit = ap (λ (x : Ran). x .steps) k-is;
       k-refused = ap (λ (x : Ran). ask (exec 2) x 0 (putMessage 4 0) .answer) k-is;

@@ -11,10 +11,10 @@ use borrow.Author.Tests.{ltb-true, le-leb, eqb-false}
 use Rattle.flash.specs.Bytes.{Bytes, allFF, sameBytes}
 use Rattle.flash.specs.Flash.{numbersFrom, sizeIn}
 use Rattle.frame.specs.Frame.{encodeAll, total}
-use Rattle.frame.specs.Reader.{match, readFrame, scan}
+use Rattle.frame.specs.Reader.{hostLayout, layoutOf, match, readFrame, scan}
 use Rattle.journal.specs.Replay.{insert, lookup, changeAll, listOf, without, isOpen, replayFrom}
 use Rattle.flash.proofs.Cases.{and-left, and-right, clash}
-use Rattle.journal.specs.Block.{headerFault, blockState}
+use Rattle.journal.specs.Block.{editionIn, headerFault, blockState}
 use Rattle.journal.specs.Index.{sited, placesFrom, valueAt}
 use Rattle.wire.specs.Message.{parse}
 use Rattle.wire.specs.declared.Answer.the-variants.{More}
@@ -26,17 +26,19 @@ use Rattle.board.specs.Step.{advance, enterAppend, enterOpen, enterWipe, stepBu
 use Rattle.board.specs.Mount.{mountAt, mountFound, mountOn, formatOrder, formatOn}
 use Rattle.board.specs.Queue.{fitsRecord, held, serve, requestOn}
 use Rattle.board.specs.Table.{Exactly, Misplaced, linesOf}
-use Rattle.board.specs.Demand1.{Declared, EndsWithin}
+use Rattle.board.specs.Demand1.{Declared, Rests, EndsWithin}
 use Rattle.board.specs.Exec.{Call, request, step, mount, format, Machine, exec}
 use Rattle.board.specs.Claim.{call}
 use Rattle.board.specs.Promise.{Promise, Kept, Shown, trace, ByteEvents, PromiseDetermines, PromiseDeterminesFrom}
 use Rattle.refuted.specs.Wrong.{Wrongly, onBench, offBench, outsideIsDone, forgedWaits, erasesBlank, ignoresCount}
 use Rattle.refuted.specs.WrongShares.{takesAnyCounts}
+use Rattle.refuted.specs.WrongEditions.{takesAnyEdition}
 use Rattle.refuted.specs.Refuted.{RightOnBench, Refuted}
 use Rattle.refuted.specs.WrongRuns.{nothing, lastFrom, allBytes, bytesIn, begins, Differs, answered, half, blankHalf, stored, reads}
 use Rattle.board.proofs.Determining.{promise-determines, promise-determines-from}
 use Rattle.board.proofs.FollowingPlans.{promise}
 use Rattle.refuted.proofs.RefutingRuns.{runs}
+use Rattle.refuted.proofs.RefutingEditions.{edition-runs}
 
 pub bytes-all : (l : List ℕ) → allBytes l ≡ true → Bytes l
 bytes-all [] e = tt
@@ -82,8 +84,8 @@ right-on-bench w N img r c (inr e) = same-on-bench w N img r c (ap onBench e)
 -- ---- a mount with nothing to do: the other block is blank
 
 erases-blank : Differs 2 erasesBlank stored (mount ∷ []) answered 255 0
-unfolding erasesBlank numbersFrom sizeIn allowed allFF sameBytes encodeAll total match readFrame scan isOpen replayFrom insert changeAll without
-    headerFault blockState placesFrom noPlaces noFrame enterAppend enterOpen enterWipe mountAt mountFound mountOn half blankHalf stored
+unfolding erasesBlank numbersFrom sizeIn allowed allFF sameBytes encodeAll total hostLayout layoutOf match readFrame scan isOpen replayFrom insert changeAll
+    without editionIn headerFault blockState placesFrom noPlaces noFrame enterAppend enterOpen enterWipe mountAt mountFound mountOn half blankHalf stored
 erases-blank = record { is-run = refl; shows-wrong = refl; shows-right = refl; apart = refl }
 
 -- ---- records that no run gives back: by the clause itself
@@ -142,28 +144,41 @@ forged-waits p = never-ends 65536 (p 2 .calls .ends long stuck stuck-declared)
 
 -- host 0's bytes are said to be 1 where nothing is pending
 abbrev miscounted : Record
-miscounted = idle (counting (rest 2 767 0 32) (1 ∷ 0 ∷ 0 ∷ 0 ∷ []))
+miscounted = idle (counting (rest 2 767 0 32 1) (1 ∷ 0 ∷ 0 ∷ 0 ∷ []))
 
 abbrev seenOf : List Shown → ℕ
 seenOf xs = answered (lastFrom nothing xs)
 
-record Miscounted : Type 0 where
+-- a read on a record that is forged so: the wrong store takes it, the machine says 11
+record Taken (w : Wrongly) (r : Record) : Type 0 where
   is-bytes : allBytes stored ≡ true
-  taken : seenOf (trace 2 (offBench takesAnyCounts 2) stored miscounted (call reads ∷ [])) ≡ 0
-  stale : seenOf (trace 2 (exec 2) stored miscounted (call reads ∷ [])) ≡ 11
+  rests : Rests (r .phase)
+  taken : seenOf (trace 2 (offBench w 2) stored r (call reads ∷ [])) ≡ 0
+  stale : seenOf (trace 2 (exec 2) stored r (call reads ∷ [])) ≡ 11
 
-miscounted-read : Miscounted
-unfolding takesAnyCounts numbersFrom sizeIn allowed allFF sameBytes encodeAll total match readFrame scan insert lookup changeAll listOf without isOpen
-    replayFrom headerFault blockState placesFrom valueAt sited parse fitsRecord held serve requestOn noPlaces noFrame half blankHalf stored
-miscounted-read = record { is-bytes = refl; taken = refl; stale = refl }
-
-takes-any-counts : Kept (offBench takesAnyCounts) → ⊥
+takes-it : {w : Wrongly} {r : Record} → Taken w r → Kept (offBench w) → ⊥
 unfolding PromiseDeterminesFrom
-takes-any-counts p =
-    let same : trace 2 (offBench takesAnyCounts 2) stored miscounted (call reads ∷ []) ≡ trace 2 (exec 2) stored miscounted (call reads ∷ []) =
-    promise-determines-from 2 (offBench takesAnyCounts 2) (exec 2) (p 2) promise stored miscounted (call reads ∷ [])
-    (bytes-all stored (miscounted-read .is-bytes)) tt (bytes-in (reads ∷ []) refl) in
-    eqb-false 0 11 refl (sym (miscounted-read .taken) ∙ ap seenOf same ∙ miscounted-read .stale)
+takes-it {w} {r} t p =
+    let same : trace 2 (offBench w 2) stored r (call reads ∷ []) ≡ trace 2 (exec 2) stored r (call reads ∷ []) =
+    promise-determines-from 2 (offBench w 2) (exec 2) (p 2) promise stored r (call reads ∷ [])
+    (bytes-all stored (t .is-bytes)) (t .rests) (bytes-in (reads ∷ []) refl) in
+    eqb-false 0 11 refl (sym (t .taken) ∙ ap seenOf same ∙ t .stale)
+
+any-counts : Taken takesAnyCounts miscounted
+unfolding takesAnyCounts numbersFrom sizeIn allowed allFF sameBytes encodeAll total hostLayout layoutOf match readFrame scan insert lookup changeAll listOf
+    without isOpen replayFrom editionIn headerFault blockState placesFrom valueAt sited parse fitsRecord held serve requestOn noPlaces noFrame half blankHalf
+    stored
+any-counts = record { is-bytes = refl; rests = tt; taken = refl; stale = refl }
+
+-- its edition is said to be 2 where it is 1
+abbrev misdated : Record
+misdated = idle (rest 2 767 0 32 2)
+
+any-edition : Taken takesAnyEdition misdated
+unfolding takesAnyEdition numbersFrom sizeIn allowed allFF sameBytes encodeAll total hostLayout layoutOf match readFrame scan insert lookup changeAll listOf
+    without isOpen replayFrom editionIn headerFault blockState placesFrom valueAt sited parse fitsRecord held serve requestOn noPlaces noFrame half blankHalf
+    stored
+any-edition = record { is-bytes = refl; rests = tt; taken = refl; stale = refl }
 
 pub refuted : Refuted
 refuted =
@@ -215,5 +230,28 @@ refuted =
       abort-keeps = differs (runs .abort-keeps);
       transfer-clears = differs (runs .transfer-clears);
       mount-keeps = differs (runs .mount-keeps);
-      takes-any-counts = takes-any-counts;
+      takes-any-counts = takes-it any-counts;
+      pending-alone = differs (edition-runs .pending-alone);
+      pending-in-first = differs (edition-runs .pending-in-first);
+      room-before-pending = differs (edition-runs .room-before-pending);
+      any-body = differs (edition-runs .any-body);
+      room-by-first = differs (edition-runs .room-by-first);
+      with-reserve = differs (edition-runs .with-reserve);
+      converts-worn = differs (edition-runs .converts-worn);
+      converts-again = differs (edition-runs .converts-again);
+      drops-first = differs (edition-runs .drops-first);
+      falls-back = differs (edition-runs .falls-back);
+      mount-falls-back = differs (edition-runs .mount-falls-back);
+      format-keeps = differs (edition-runs .format-keeps);
+      second-foreign = differs (edition-runs .second-foreign);
+      later-edition = differs (edition-runs .later-edition);
+      record-keeps = differs (edition-runs .record-keeps);
+      takes-any-edition = takes-it any-edition;
+      crc-of-body = differs (edition-runs .crc-of-body);
+      crc-big-endian = differs (edition-runs .crc-big-endian);
+      ignores-crc = differs (edition-runs .ignores-crc);
+      torn-foreign = differs (edition-runs .torn-foreign);
+      room-as-before = differs (edition-runs .room-as-before);
+      full-by-first = differs (edition-runs .full-by-first);
+      logs-by-first = differs (edition-runs .logs-by-first);
     }

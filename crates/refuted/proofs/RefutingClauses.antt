@@ -11,10 +11,11 @@ use Rattle.flash.specs.Bytes.{allFF, sameBytes}
 use Rattle.flash.specs.Flash.{numbersFrom, sizeIn, Step, applyAll, writes, block, sizeOf}
 use Rattle.flash.proofs.Blank.{bytes-replicate}
 use Rattle.flash.proofs.Cases.{and-left, and-right, clash}
+use Rattle.frame.specs.declared.Edition.the-variants as edition
 use Rattle.frame.specs.Frame.{encodeAll, total}
-use Rattle.frame.specs.Reader.{clean, match, readFrame, scan}
+use Rattle.frame.specs.Reader.{clean, hostLayout, layoutOf, match, readFrame, scan}
 use Rattle.journal.specs.Replay.{insert, remove, lookup, changeAll, listOf, without, isOpen, replayFrom}
-use Rattle.journal.specs.Block.{Journal, journal, BlockState, blank, valid, headerFault, blockState}
+use Rattle.journal.specs.Block.{Journal, journal, BlockState, blank, valid, editionIn, headerFault, blockState}
 use Rattle.journal.specs.Room.{noRoom, hostFull}
 use Rattle.journal.specs.Index.{sited, placesFrom, sinceFrom, valueAt, nextSettled, nextPending, nextLoad}
 use Rattle.wire.specs.declared.Answer.{Answer}
@@ -33,7 +34,7 @@ use Rattle.board.specs.Exec.{step, mount, format, Machine}
 use Rattle.board.specs.Plan.{Follows}
 use Rattle.board.specs.Table.{isBusy}
 use Rattle.board.specs.Book.{firstBook, enterCall}
-use Rattle.board.specs.Claim.{call, Run, AgreesIn, Finishes, begunBy, stepsOn, formatted, Claim}
+use Rattle.board.specs.Claim.{call, Run, Track, tracked, track, AgreesIn, Finishes, begunBy, stepsOn, formatted, Claim}
 use Rattle.board.specs.CutFormat.{Empty, Leaves, old-objects, still-none, no-store, empty-store, CutFormat}
 use Rattle.board.specs.Demand2.{UsableFrom}
 use Rattle.refuted.specs.Wrong.{offBench, waitsLong, formatsBlindly, erasesOne}
@@ -43,6 +44,7 @@ use Rattle.refuted.proofs.Refuting.{bytes-all, bytes-in}
 use Rattle.refuted.proofs.RefutingCut.{img, empty, claimed-of, refuses-half-erased}
 use Rattle.refuted.proofs.RefutingOlder.{takes-half-erased}
 use Rattle.refuted.proofs.RefutingShares.{full-by-image}
+use Rattle.refuted.proofs.RefutingConverts.{drops-first, torn-foreign}
 
 -- ---- a request of S + 1 steps
 
@@ -83,17 +85,18 @@ record Late : Type 0 where
   busy : busyFor late 384 (putting .image) (putting .board) ≡ true
 
 late-put : Late
-unfolding numbersFrom sizeIn allowed waitsLong allFF sameBytes applyAll writes encodeAll total match readFrame scan insert
-    remove lookup changeAll listOf without isOpen replayFrom headerFault blockState noRoom hostFull sited placesFrom sinceFrom valueAt nextSettled
+unfolding numbersFrom sizeIn allowed waitsLong allFF sameBytes applyAll writes encodeAll total hostLayout layoutOf match readFrame scan insert
+    remove lookup changeAll listOf without isOpen replayFrom editionIn headerFault blockState noRoom hostFull sited placesFrom sinceFrom valueAt nextSettled
     nextPending nextLoad parse noPlaces noFrame enterAppend enterDrop enterCopy enterOpen enterWipe advance stepBusy stepOn
     fitsRecord held append serveChange serve requestOn half blankHalf
 late-put = record { more = refl; phase = refl; size = refl; busy = refl }
 
 waits-long : Claim 2 late → ⊥
 waits-long p =
-    let run : Run 2 late (empty .image) (empty .board) firstBook false format (call (putEmpty 7) ∷ []) =
+    let run : Run 2 late (empty .image) (empty .board) firstBook (tracked false false) format (call (putEmpty 7) ∷ []) =
     claimed-of late p late-format (call (putEmpty 7) ∷ []) (bytes-in (putEmpty 7 ∷ []) refl .0, tt) in
-    go (subst₂ (λ (a : Answer) (h : Phase). AgreesIn 2 late (begunBy format (putEmpty 7) a) h (putting .image) (putting .board)
+    let u : Track = track (sizeOf 2 (empty .image)) (tracked false false) firstBook (putEmpty 7) (putting .answer) in
+    go (subst₂ (λ (a : Answer) (h : Phase). AgreesIn 2 late (begunBy format (putEmpty 7) a) u h (putting .image) (putting .board)
     (enterCall firstBook (putEmpty 7) (putting .answer))) (late-put .more) (late-put .phase) (run .1))
   where
     go : Finishes 2 late (putEmpty 7) (putting .image) (putting .board) → ⊥
@@ -112,13 +115,13 @@ record Blindly : Type 0 where
   erased-is : stepsOn blindly 1 (blindly (empty .image) (empty .board) format) .image ≡ img
   first-blank : blockState (block (sizeOf 2 img) 0 img) ≡ blank
   second-blank : blockState (block (sizeOf 2 img) 1 img) ≡ blank
-  was-valid : blockState (block (sizeOf 2 (half 1 [] ++ blankHalf)) 0 (half 1 [] ++ blankHalf)) ≡ valid (journal 1 [] clean)
+  was-valid : blockState (block (sizeOf 2 (half 1 [] ++ blankHalf)) 0 (half 1 [] ++ blankHalf)) ≡ valid (journal edition.First 1 [] clean)
   allowed-length : allowed 2 (length img) ≡ true
 
 blindly-done : Blindly
-unfolding numbersFrom sizeIn allowed formatsBlindly allFF sameBytes applyAll writes encodeAll total match readFrame scan headerFault blockState
-    noPlaces noFrame enterAppend enterDrop enterCopy enterOpen enterWipe nextSettled nextPending nextLoad advance stepBusy stepOn formatOrder formatOn
-    half blankHalf
+unfolding numbersFrom sizeIn allowed formatsBlindly allFF sameBytes applyAll writes encodeAll total hostLayout layoutOf match readFrame scan editionIn
+    headerFault blockState noPlaces noFrame enterAppend enterDrop enterCopy enterOpen enterWipe nextSettled nextPending nextLoad advance stepBusy stepOn
+    formatOrder formatOn half blankHalf
 blindly-done =
     record { formatted-is = refl; erased-is = refl; first-blank = refl; second-blank = refl; was-valid = refl; allowed-length = refl }
 
@@ -157,8 +160,8 @@ record Sparing : Type 0 where
   stale : numberOf (sparing (sparing begunTwice mounted step .image) (sparing begunTwice mounted step .board) reads .answer) ≡ some 11
 
 sparing-done : Sparing
-unfolding numbersFrom sizeIn allowed erasesOne allFF sameBytes applyAll writes encodeAll total match readFrame scan insert
-    remove lookup changeAll listOf without isOpen replayFrom headerFault blockState noRoom hostFull sited placesFrom sinceFrom valueAt nextSettled
+unfolding numbersFrom sizeIn allowed erasesOne allFF sameBytes applyAll writes encodeAll total hostLayout layoutOf match readFrame scan insert
+    remove lookup changeAll listOf without isOpen replayFrom editionIn headerFault blockState noRoom hostFull sited placesFrom sinceFrom valueAt nextSettled
     nextPending nextLoad parse noPlaces noFrame enterAppend enterDrop enterCopy enterOpen enterWipe advance stepBusy stepOn mountAt
     mountFound mountOn fitsRecord held append serveChange serveEnd serveLog serve requestOn half blankHalf begun begunTwice
 sparing-done = record { is-bytes = refl; allowed-length = refl; stale = refl }
@@ -176,6 +179,8 @@ seen =
       takes-half-erased = takes-half-erased;
       waits-long = waits-long;
       full-by-image = full-by-image;
+      drops-first = drops-first;
+      torn-foreign = torn-foreign;
       formats-blindly = formats-blindly;
       erases-one = erases-one;
     }

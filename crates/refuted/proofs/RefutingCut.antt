@@ -12,9 +12,9 @@ use Rattle.flash.proofs.Blank.{bytes-replicate}
 use Rattle.flash.proofs.Raising.{raises-raised}
 use Rattle.frame.specs.Frame.{hostOf, idOf, put, change, encodeAll, total}
 use Rattle.frame.specs.declared.Field.the-variants as field
-use Rattle.frame.specs.Reader.{match, readFrame, scan, fault}
+use Rattle.frame.specs.Reader.{hostLayout, layoutOf, match, readFrame, scan, fault}
 use Rattle.journal.specs.Replay.{insert, remove, lookup, changeAll, listOf, without, isOpen, replayFrom}
-use Rattle.journal.specs.Block.{headerFault, blockState}
+use Rattle.journal.specs.Block.{editionIn, headerFault, blockState}
 use Rattle.journal.specs.Room.{noRoom, hostFull}
 use Rattle.journal.specs.Index.{sited, placesFrom, sinceFrom, valueAt, nextSettled, nextPending, nextLoad}
 use Rattle.wire.specs.declared.Answer.the-variants.{Done, Refused}
@@ -27,7 +27,7 @@ use Rattle.board.specs.Queue.{fitsRecord, held, append, serveChange, serveEnd, 
 use Rattle.board.specs.Exec.{Call, step, mount, format, Machine}
 use Rattle.board.specs.Book.{Book, book, nothing, firstBook, join, enterCall}
 use Rattle.board.specs.Table.{InJob}
-use Rattle.board.specs.Claim.{Event, call, cutErase, CutsErase, Happens, Run, formatted, Claim}
+use Rattle.board.specs.Claim.{Event, call, cutErase, CutsErase, Happens, Run, tracked, formatted, Claim}
 use Rattle.board.specs.CutFormat.{Left, afterAll}
 use Rattle.board.specs.Promise.{ByteEvents}
 use Rattle.refuted.specs.Wrong.{offBench, refusesHalfErased}
@@ -48,17 +48,19 @@ abbrev pub img : List ℕ
 img = replicate 768 0xFF
 
 abbrev pub empty : Out
-empty = out Done (half 1 [] ++ blankHalf) (idle (rest 2 767 0 16)) []
+empty = out Done (half 1 [] ++ blankHalf) (idle (rest 2 767 0 16 1)) []
 
 allowed-length : allowed 2 (length img) ≡ true
 unfolding allowed sizeIn
 allowed-length = refl
 
 pub claimed-of : (m : Machine) → Claim 2 m → formatted 2 m img unmounted ≡ empty → (es : List Event) → Happens 2 m (empty .image) (empty .board) firstBook es
-    → Run 2 m (empty .image) (empty .board) firstBook false format es
+    → Run 2 m (empty .image) (empty .board) firstBook (tracked false false) format es
 unfolding Claim
 claimed-of m p e es h =
-    subst (λ (o : Out). (ds : List Event) → Happens 2 m (o .image) (o .board) firstBook ds → Run 2 m (o .image) (o .board) firstBook false format ds)
+    subst
+    (λ (o : Out). (ds : List Event) → Happens 2 m (o .image) (o .board) firstBook ds
+    → Run 2 m (o .image) (o .board) firstBook (tracked false false) format ds)
     e (p img unmounted (bytes-replicate 768) allowed-length .3) es h
 
 -- power is lost inside the erase of half 0
@@ -86,7 +88,7 @@ abbrev holding : Left
 holding =
     record {
       image = half 1 (change (hostOf 2) (put (idOf 7) []) ∷ []) ++ blankHalf;
-      board = idle (counting (rest 2 767 0 24) (0 ∷ 0 ∷ 8 ∷ 0 ∷ []));
+      board = idle (counting (rest 2 767 0 24 1) (0 ∷ 0 ∷ 8 ∷ 0 ∷ []));
       book = join firstBook (hostOf 2) (put (idOf 7) []);
     }
 
@@ -115,8 +117,8 @@ record Computed : Type 0 where
   refused : m (withBlock (sizeOf 2 copied) 0 fading copied) unmounted mount .answer ≡ Refused (tiedTimes 0)
 
 computed : Computed
-unfolding numbersFrom sizeIn allowed refusesHalfErased allFF sameBytes applyAll writes encodeAll total match readFrame scan insert
-    remove lookup changeAll listOf without isOpen replayFrom headerFault blockState noRoom hostFull sited placesFrom sinceFrom valueAt nextSettled
+unfolding numbersFrom sizeIn allowed refusesHalfErased allFF sameBytes applyAll writes encodeAll total hostLayout layoutOf match readFrame scan insert
+    remove lookup changeAll listOf without isOpen replayFrom editionIn headerFault blockState noRoom hostFull sited placesFrom sinceFrom valueAt nextSettled
     nextPending nextLoad parse noPlaces noFrame enterAppend enterDrop enterCopy enterOpen enterWipe advance stepBusy stepOn mountAt
     mountFound mountOn formatOrder formatOn fitsRecord held append serveChange serveEnd serveLog serve requestOn half blankHalf fading
 computed =
@@ -154,9 +156,9 @@ happens =
 
 pub refuses-half-erased : Claim 2 m → ⊥
 refuses-half-erased p =
-    let run : Run 2 m (empty .image) (empty .board) firstBook false format (map call putting ++ (map call mounting ++ after)) =
+    let run : Run 2 m (empty .image) (empty .board) firstBook (tracked false false) format (map call putting ++ (map call mounting ++ after)) =
     claimed-of m p (computed .formatted-is) (map call putting ++ (map call mounting ++ after)) happens in
-    let y = run-rest 2 m (empty .image) (empty .board) firstBook false format (map call putting) (map call mounting ++ after) run in
+    let y = run-rest 2 m (empty .image) (empty .board) firstBook (tracked false false) format (map call putting) (map call mounting ++ after) run in
     let z = run-rest 2 m (holding .image) (holding .board) (holding .book) (y .0) (y .1) (map call mounting) after
     (subst (λ (l : Left). Run 2 m (l .image) (l .board) (l .book) (y .0) (y .1) (map call mounting ++ after)) (computed .holding-is) (y .2)) in
     z .2 .0 .never-foreign 0 (fault field.Created 4)

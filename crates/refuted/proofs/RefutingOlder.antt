@@ -1,7 +1,7 @@
 -- Demand 3 sees a store that takes a half-erased half for the current one: it still reads as valid, at an older time.
 use mathlib.Core.Path.{_≡_, refl, sym, ap, subst, subst₂, _∙_}
 use mathlib.Core.List.{List, [], _∷_, _++_, map}
-use mathlib.Core.Bool.{Bool, false}
+use mathlib.Core.Bool.{false}
 use Prim.Native.Nat.{ℕ}
 use native.Mathlib.Omega.{arith}
 use lib.ListN.{length, set}
@@ -9,10 +9,11 @@ use Rattle.flash.specs.Bytes.{allFF, sameBytes}
 use Rattle.flash.specs.Flash.{numbersFrom, sizeIn, applyAll, writes, block, sizeOf, withBlock, eraseBlock}
 use Rattle.flash.specs.Raised.{Raised}
 use Rattle.flash.proofs.Raising.{raises-raised}
+use Rattle.frame.specs.declared.Edition.the-variants as edition
 use Rattle.frame.specs.Frame.{idOf, settled, encodeAll, total}
-use Rattle.frame.specs.Reader.{clean, match, readFrame, scan}
+use Rattle.frame.specs.Reader.{clean, hostLayout, layoutOf, match, readFrame, scan}
 use Rattle.journal.specs.Replay.{Object, object, insert, remove, lookup, changeAll, listOf, without, isOpen, replayFrom}
-use Rattle.journal.specs.Block.{Journal, journal, valid, headerFault, blockState}
+use Rattle.journal.specs.Block.{Journal, journal, valid, editionIn, headerFault, blockState}
 use Rattle.journal.specs.Room.{noRoom, hostFull}
 use Rattle.journal.specs.Index.{sited, placesFrom, sinceFrom, valueAt, nextSettled, nextPending, nextLoad}
 use Rattle.wire.specs.declared.Answer.{Answer}
@@ -26,7 +27,7 @@ use Rattle.board.specs.Queue.{fitsRecord, held, append, serveChange, serveEnd, 
 use Rattle.board.specs.Exec.{Call, step, mount, format, Machine}
 use Rattle.board.specs.Book.{Book, book, nothing, noLists, firstBook, enterCall}
 use Rattle.board.specs.Table.{InJob}
-use Rattle.board.specs.Claim.{Event, call, cutErase, Happens, Run, IdleAgrees, Agrees, formatted, Claim}
+use Rattle.board.specs.Claim.{Event, call, cutErase, Happens, Run, Track, tracked, track, IdleAgrees, Agrees, formatted, Claim}
 use Rattle.board.specs.CutFormat.{Left, afterAll}
 use Rattle.refuted.specs.Wrong.{offBench, takesHalfErased}
 use Rattle.refuted.specs.WrongRuns.{half, blankHalf, putEmpty, commits, stepping}
@@ -55,10 +56,10 @@ abbrev first : List Call
 first = putEmpty 7 ∷ stepping 8 (commits ∷ stepping 6 (torn 18))
 
 abbrev one : Left
-one = record { image = blankHalf ++ moved 2; board = idle (rest 2 767 1 23); book = book os noLists nothing }
+one = record { image = blankHalf ++ moved 2; board = idle (rest 2 767 1 23 1); book = book os noLists nothing }
 
 abbrev two : Left
-two = record { image = moved 3 ++ blankHalf; board = idle (rest 2 767 0 23); book = book os noLists nothing }
+two = record { image = moved 3 ++ blankHalf; board = idle (rest 2 767 0 23 1); book = book os noLists nothing }
 
 abbrev ready : Left
 ready = afterAll 2 m (two .image) (two .board) (two .book) (map call (torn 17))
@@ -81,8 +82,8 @@ record Begun : Type 0 where
   two-is : afterAll 2 m (one .image) (one .board) (one .book) (map call (torn 18)) ≡ two
 
 begun : Begun
-unfolding numbersFrom sizeIn allowed takesHalfErased allFF sameBytes applyAll writes encodeAll total match readFrame scan insert
-    remove lookup changeAll listOf without isOpen replayFrom headerFault blockState noRoom hostFull sited placesFrom sinceFrom valueAt nextSettled
+unfolding numbersFrom sizeIn allowed takesHalfErased allFF sameBytes applyAll writes encodeAll total hostLayout layoutOf match readFrame scan insert
+    remove lookup changeAll listOf without isOpen replayFrom editionIn headerFault blockState noRoom hostFull sited placesFrom sinceFrom valueAt nextSettled
     nextPending nextLoad parse noPlaces noFrame enterAppend enterDrop enterCopy enterOpen enterWipe advance stepBusy stepOn mountAt
     mountFound mountOn formatOrder formatOn fitsRecord held append serveChange serveEnd serveLog serve requestOn half blankHalf
 begun = record { formatted-is = refl; one-is = refl; two-is = refl }
@@ -95,15 +96,15 @@ record Computed : Type 0 where
   objects-are : afterAll 2 m (two .image) (two .board) (two .book) (map call (torn 17)) .book .objects ≡ os
 
 computed : Computed
-unfolding numbersFrom sizeIn allowed takesHalfErased allFF sameBytes applyAll writes encodeAll total match readFrame scan insert
-    remove lookup changeAll listOf without isOpen replayFrom headerFault blockState noRoom hostFull sited placesFrom sinceFrom valueAt nextSettled
+unfolding numbersFrom sizeIn allowed takesHalfErased allFF sameBytes applyAll writes encodeAll total hostLayout layoutOf match readFrame scan insert
+    remove lookup changeAll listOf without isOpen replayFrom editionIn headerFault blockState noRoom hostFull sited placesFrom sinceFrom valueAt nextSettled
     nextPending nextLoad parse noPlaces noFrame enterAppend enterDrop enterCopy enterOpen enterWipe advance stepBusy stepOn mountAt
     mountFound mountOn formatOrder formatOn fitsRecord held append serveChange serveEnd serveLog serve requestOn half blankHalf
 computed = record { copied-is = refl; erased-is = refl; nothing-under = refl; objects-are = refl }
 
 in-drop : InJob (afterAll 2 m (two .image) (two .board) (two .book) (map call (torn 17)) .board .phase)
-unfolding numbersFrom sizeIn allowed takesHalfErased allFF sameBytes applyAll writes encodeAll total match readFrame scan insert
-    remove lookup changeAll listOf without isOpen replayFrom headerFault blockState noRoom hostFull sited placesFrom sinceFrom valueAt nextSettled
+unfolding numbersFrom sizeIn allowed takesHalfErased allFF sameBytes applyAll writes encodeAll total hostLayout layoutOf match readFrame scan insert
+    remove lookup changeAll listOf without isOpen replayFrom editionIn headerFault blockState noRoom hostFull sited placesFrom sinceFrom valueAt nextSettled
     nextPending nextLoad parse noPlaces noFrame enterAppend enterDrop enterCopy enterOpen enterWipe advance stepBusy stepOn mountAt
     mountFound mountOn formatOrder formatOn fitsRecord held append serveChange serveEnd serveLog serve requestOn half blankHalf
 in-drop = tt
@@ -111,13 +112,13 @@ in-drop = tt
 -- the mount after the cut and its one step leave half 0 alone
 record Mounted : Type 0 where
   image-is : m (mounted copied .image) (mounted copied .board) step .image ≡ fading ++ blankHalf
-  board-is : m (mounted copied .image) (mounted copied .board) step .board ≡ idle (rest 2 767 0 16)
-  reads-as : blockState (block (sizeOf 2 (fading ++ blankHalf)) 0 (fading ++ blankHalf)) ≡ valid (journal 2 [] clean)
+  board-is : m (mounted copied .image) (mounted copied .board) step .board ≡ idle (rest 2 767 0 16 1)
+  reads-as : blockState (block (sizeOf 2 (fading ++ blankHalf)) 0 (fading ++ blankHalf)) ≡ valid (journal edition.First 2 [] clean)
   size-is : sizeOf 2 copied ≡ 384
 
 taken : Mounted
-unfolding numbersFrom sizeIn allowed takesHalfErased allFF sameBytes applyAll writes encodeAll total match readFrame scan insert
-    remove lookup changeAll listOf without isOpen replayFrom headerFault blockState noRoom hostFull sited placesFrom sinceFrom valueAt nextSettled
+unfolding numbersFrom sizeIn allowed takesHalfErased allFF sameBytes applyAll writes encodeAll total hostLayout layoutOf match readFrame scan insert
+    remove lookup changeAll listOf without isOpen replayFrom editionIn headerFault blockState noRoom hostFull sited placesFrom sinceFrom valueAt nextSettled
     nextPending nextLoad parse noPlaces noFrame enterAppend enterDrop enterCopy enterOpen enterWipe advance stepBusy stepOn mountAt
     mountFound mountOn formatOrder formatOn fitsRecord held append serveChange serveEnd serveLog serve requestOn half blankHalf
 taken = record { image-is = refl; board-is = refl; reads-as = refl; size-is = refl }
@@ -151,10 +152,10 @@ happens =
     )))))
 
 -- half 0 alone doesn't agree with the book
-disagrees : {b : Book} → b .objects ≡ os → IdleAgrees 2 (fading ++ blankHalf) (idle (rest 2 767 0 16)) b → ⊥
+disagrees : {b : Book} (u : Track) → b .objects ≡ os → IdleAgrees 2 u (fading ++ blankHalf) (idle (rest 2 767 0 16 1)) b → ⊥
 unfolding replayFrom
-disagrees {b} e y =
-    let v : y .journal ≡ journal 2 [] clean = same-valid (sym (y .is-valid) ∙ taken .reads-as) in
+disagrees {b} u e y =
+    let v : y .journal ≡ journal edition.First 2 [] clean = same-valid (sym (y .is-valid) ∙ taken .reads-as) in
     let w : _≡_ {A = List Object} [] os = ap (λ (x : Journal). replayOf x .objects) (sym v) ∙ y .objects ∙ e in
     let n : _≡_ {A = ℕ} 0 1 = ap (λ (l : List Object). length l) w in omega arith
 
@@ -166,19 +167,22 @@ quiet l (Refused n) = refl
 
 pub takes-half-erased : Claim 2 m → ⊥
 takes-half-erased p =
-    let run : Run 2 m (empty .image) (empty .board) firstBook false format (map call first ++ second) =
+    let run : Run 2 m (empty .image) (empty .board) firstBook (tracked false false) format (map call first ++ second) =
     claimed-of m p (begun .formatted-is) (map call first ++ second) happens in
-    let x = run-rest 2 m (empty .image) (empty .board) firstBook false format (map call first) second run in
+    let x = run-rest 2 m (empty .image) (empty .board) firstBook (tracked false false) format (map call first) second run in
     let y = run-rest 2 m (one .image) (one .board) (one .book) (x .0) (x .1) (map call (torn 18)) third
     (subst (λ (l : Left). Run 2 m (l .image) (l .board) (l .book) (x .0) (x .1) second) (begun .one-is) (x .2)) in
     let z = run-rest 2 m (two .image) (two .board) (two .book) (y .0) (y .1) (map call (torn 17)) after
     (subst (λ (l : Left). Run 2 m (l .image) (l .board) (l .book) (y .0) (y .1) third) (begun .two-is) (y .2)) in
-    disagrees (computed .objects-are) (ends (ready .image) (ready .book) (z .0) (z .1) (computed .copied-is) (z .2))
+    ends (ready .image) (ready .book) (z .0) (z .1) (computed .copied-is) (computed .objects-are) (z .2)
   where
-    ends : (i : List ℕ) (b : Book) (u : Bool) (a : Call) → i ≡ copied → Run 2 m i unmounted b u a after
-        → IdleAgrees 2 (fading ++ blankHalf) (idle (rest 2 767 0 16)) (book (b .objects) noLists nothing)
-    ends i b u a e y =
+    ends : (i : List ℕ) (b : Book) (u : Track) (a : Call) → i ≡ copied → b .objects ≡ os → Run 2 m i unmounted b u a after → ⊥
+    ends i b u a e f y =
         let w : Run 2 m copied unmounted b u a after = subst (λ (l : List ℕ). Run 2 m l unmounted b u a after) e y in
-        let o : Out = m (mounted copied .image) (mounted copied .board) step in
-        subst₂ (λ (l : List ℕ) (r : Record). Agrees 2 m mount l r (book (b .objects) noLists nothing)) (taken .image-is) (taken .board-is)
-        (subst (Agrees 2 m mount (o .image) (o .board)) (quiet (b .objects) (o .answer)) (w .2 .1))
+        let c : Out = mounted copied in
+        let o : Out = m (c .image) (c .board) step in
+        let v : Track = track (sizeOf 2 (withBlock (sizeOf 2 copied) 0 fading copied)) u b mount (c .answer) in
+        let t : Track = track (sizeOf 2 (c .image)) v (enterCall b mount (c .answer)) step (o .answer) in
+        disagrees t f
+        (subst₂ (λ (l : List ℕ) (r : Record). Agrees 2 m mount t l r (book (b .objects) noLists nothing)) (taken .image-is) (taken .board-is)
+        (subst (Agrees 2 m mount t (o .image) (o .board)) (quiet (b .objects) (o .answer)) (w .2 .1)))

@@ -8,18 +8,20 @@ use lib.ListN.{length, replicate, drop, length-replicate}
 use Rattle.flash.specs.Flash.{sizeOf}
 use Rattle.flash.proofs.Cases.{on-test}
 use Rattle.flash.proofs.Image.{length-apply}
+use Rattle.frame.specs.declared.Edition.the-variants as edition
 use Rattle.frame.specs.Frame.{hostOf}
 use Rattle.journal.specs.Room.{claimed}
 use Rattle.wire.specs.declared.Answer.{Answer}
 use Rattle.wire.specs.declared.Answer.the-variants.{Done, More, Refused}
 use Rattle.board.specs.declared.Record.{Record}
+use Rattle.board.specs.declared.Job.{Job}
 use Rattle.board.specs.Record.{unmounted, Out, out}
 use Rattle.board.specs.Exec.{Call, request, step, mount, format, exec}
 use Rattle.board.specs.Demand1.{OneStep}
 use Rattle.refuted.specs.Rows.{Ran, ran, drive, returned, ask, asked, cutIn, mounted, replayed, timed, part, rowA, rowB, rowC, rowD, rowE}
 use Rattle.refuted.specs.Rows.{rowF, rowG, rowH, stores, rowI, rowK, rowLDelete, rowL, rowM, rowALong, rowO, commitMessage, putMessage, deleteMessage}
 use Rattle.refuted.specs.Rows.{formatAnswer, Rows}
-use Rattle.refuted.specs.Wrong.{Wrongly, onBench, offBench, byAnswer, onImage}
+use Rattle.refuted.specs.Wrong.{Wrongly, onBench, offBench, byAnswer, onImage, withJob}
 use Rattle.refuted.specs.Wrong.{refusesAll, refusesPuts, refusesHighIds, ownFormatsOnly, firstHalfOnly, hostFirst, refusalClears}
 use Rattle.refuted.specs.Wrong.{refusedLogWrites, readsAlike, inventsCount, neverCommits, abortsNothing, takesOthers, keepsOld}
 use Rattle.refuted.specs.Wrong.{programsNothing, wholeFrame, waitsLong, inventsStep, erasesFirst, outsideIsDone, forgedWaits, hurriedMount}
@@ -27,6 +29,10 @@ use Rattle.refuted.specs.Wrong.{losesAll, keepsPending, refusesAlike, ov
 use Rattle.refuted.specs.Wrong.{takesHalfErased, formatsAtOnce, formatsBlindly, goesBack, erasesOne, erasesBlank, ignoresCount, evenOnly}
 use Rattle.refuted.specs.WrongShares.{fullAtHalf, fullByAll, fullByValues, fullByImage, fullByTwo, deletesPass, roomFirst, abortKeeps}
 use Rattle.refuted.specs.WrongShares.{transferClears, mountKeeps, takesAnyCounts}
+use Rattle.refuted.specs.WrongEditions.{pendingAlone, withReserve, convertsAgain, dropsFirst, fallsBack, formatKeeps, secondForeign, crcOfBody}
+use Rattle.refuted.specs.WrongEditions.{crcBigEndian, ignoresCrc, roomAsBefore, logsByFirst, takesAnyEdition, making, editionNow}
+use Rattle.refuted.specs.WrongEditions.{pendingInFirst, roomBeforePending, anyBody, roomByFirst, convertsWorn, mountFallsBack, laterEdition}
+use Rattle.refuted.specs.WrongEditions.{recordKeeps, tornForeign, fullByFirst}
 use Rattle.refuted.specs.WrongRows.{RightInRows}
 use Rattle.board.proofs.Refusals.{at-most-one-step}
 use Rattle.refuted.proofs.Bench.{rows}
@@ -216,7 +222,7 @@ rows-kept w f =
       h-holds = ap (λ (x : Ran). replayed 0 x) (same-h w) ∙ rows .h-holds;
       i-accepted = ap (λ (x : Out). x .answer) (same-ask w (same-a w) 0 (putMessage 1 64)) ∙ rows .i-accepted;
       i-done = ap (λ (x : Ran). x .board) (same-i w 64 .same) ∙ rows .i-done;
-      i-claimed = ap (λ (x : Ran). claimed (replayed 0 x)) (same-i w 64 .same) ∙ rows .i-claimed;
+      i-claimed = ap (λ (x : Ran). claimed edition.First (replayed 0 x)) (same-i w 64 .same) ∙ rows .i-claimed;
       j = ap (λ (x : Out). x .answer) (same-ask w (same-i w 64) 0 (putMessage 4 0)) ∙ rows .j;
       k-commit = ap (λ (x : Ran). x .steps) (same-k w 64 .same) ∙ rows .k-commit;
       k-refused = ap (λ (x : Out). x .answer) (same-ask w (same-k w 64) 0 (putMessage 4 0)) ∙ rows .k-refused;
@@ -269,11 +275,24 @@ unfolding formatsBlindly
 formats-blindly img r o =
     accepted-answer (o .answer) o (out (o .answer) img (exec 2 (replicate (length img) 0xFF) unmounted format .board) []) refl
 
+job-answer : (a : Answer) (o x : Out) → a ≡ o .answer → x .answer ≡ More → byAnswer a o x o .answer ≡ o .answer
+job-answer Done o x e f = refl
+job-answer More o x e f = f ∙ e
+job-answer (Refused n) o x e f = refl
+
+format-keeps : FormatsAnswered formatKeeps
+unfolding formatKeeps
+format-keeps img r o =
+    let j : Job = making (o .board .job .size) (editionNow 2 img) (o .board .job) in
+    job-answer (o .answer) o (out More (o .image) (withJob j (o .board)) (o .reply)) refl refl
+
 pub right-in-rows : RightInRows
 unfolding refusesAll refusesPuts refusesHighIds ownFormatsOnly firstHalfOnly hostFirst refusalClears refusedLogWrites readsAlike inventsCount neverCommits
     abortsNothing takesOthers keepsOld programsNothing wholeFrame waitsLong inventsStep erasesFirst outsideIsDone forgedWaits hurriedMount losesAll
     keepsPending refusesAlike overlooksForeign namesSecond tiesAtStart refusesHalfErased takesHalfErased goesBack erasesOne erasesBlank ignoresCount
     evenOnly fullAtHalf fullByAll fullByValues fullByImage fullByTwo deletesPass roomFirst abortKeeps transferClears mountKeeps takesAnyCounts
+    pendingAlone withReserve convertsAgain dropsFirst fallsBack secondForeign takesAnyEdition crcOfBody crcBigEndian ignoresCrc roomAsBefore
+    logsByFirst pendingInFirst roomBeforePending anyBody roomByFirst convertsWorn mountFallsBack laterEdition recordKeeps tornForeign fullByFirst
 right-in-rows =
     record {
       refuses-all = rows-kept refusesAll (λ img r o. refl);
@@ -324,4 +343,27 @@ right-in-rows =
       transfer-clears = rows-kept transferClears (λ img r o. refl);
       mount-keeps = rows-kept mountKeeps (λ img r o. refl);
       takes-any-counts = rows-kept takesAnyCounts (λ img r o. refl);
+      pending-alone = rows-kept pendingAlone (λ img r o. refl);
+      pending-in-first = rows-kept pendingInFirst (λ img r o. refl);
+      room-before-pending = rows-kept roomBeforePending (λ img r o. refl);
+      any-body = rows-kept anyBody (λ img r o. refl);
+      room-by-first = rows-kept roomByFirst (λ img r o. refl);
+      with-reserve = rows-kept withReserve (λ img r o. refl);
+      converts-worn = rows-kept convertsWorn (λ img r o. refl);
+      converts-again = rows-kept convertsAgain (λ img r o. refl);
+      drops-first = rows-kept dropsFirst (λ img r o. refl);
+      falls-back = rows-kept fallsBack (λ img r o. refl);
+      mount-falls-back = rows-kept mountFallsBack (λ img r o. refl);
+      format-keeps = rows-kept formatKeeps format-keeps;
+      second-foreign = rows-kept secondForeign (λ img r o. refl);
+      later-edition = rows-kept laterEdition (λ img r o. refl);
+      record-keeps = rows-kept recordKeeps (λ img r o. refl);
+      takes-any-edition = rows-kept takesAnyEdition (λ img r o. refl);
+      crc-of-body = rows-kept crcOfBody (λ img r o. refl);
+      crc-big-endian = rows-kept crcBigEndian (λ img r o. refl);
+      ignores-crc = rows-kept ignoresCrc (λ img r o. refl);
+      torn-foreign = rows-kept tornForeign (λ img r o. refl);
+      room-as-before = rows-kept roomAsBefore (λ img r o. refl);
+      full-by-first = rows-kept fullByFirst (λ img r o. refl);
+      logs-by-first = rows-kept logsByFirst (λ img r o. refl);
     }

@@ -3,9 +3,9 @@ use mathlib.Core.Path.{refl}
 use Rattle.flash.specs.Bytes.{allFF, sameBytes}
 use Rattle.flash.specs.Flash.{numbersFrom, sizeIn, applyAll, writes}
 use Rattle.frame.specs.Frame.{encodeAll, total}
-use Rattle.frame.specs.Reader.{match, readFrame, scan}
+use Rattle.frame.specs.Reader.{hostLayout, layoutOf, match, readFrame, scan}
 use Rattle.journal.specs.Replay.{insert, remove, lookup, changeAll, listOf, without, isOpen, replayFrom}
-use Rattle.journal.specs.Block.{headerFault, blockState}
+use Rattle.journal.specs.Block.{editionIn, headerFault, blockState}
 use Rattle.journal.specs.Room.{noRoom, hostFull}
 use Rattle.journal.specs.Index.{sited, placesFrom, sinceFrom, valueAt, nextSettled, nextPending, nextLoad}
 use Rattle.wire.specs.Message.{parse}
@@ -27,12 +27,12 @@ pub runs : Runs
 unfolding numbersFrom sizeIn allowed refusesAll refusesPuts refusesHighIds ownFormatsOnly firstHalfOnly hostFirst refusalClears refusedLogWrites readsAlike
     inventsCount neverCommits abortsNothing takesOthers keepsOld programsNothing wholeFrame waitsLong inventsStep erasesFirst hurriedMount losesAll
     keepsPending refusesAlike overlooksForeign namesSecond tiesAtStart refusesHalfErased takesHalfErased formatsAtOnce formatsBlindly goesBack erasesOne
-    evenOnly allFF sameBytes applyAll writes encodeAll total match readFrame scan insert remove lookup changeAll listOf without isOpen replayFrom
-    headerFault blockState noRoom hostFull sited placesFrom sinceFrom valueAt nextSettled nextPending nextLoad parse noPlaces noFrame enterAppend enterDrop
-    enterCopy enterOpen enterWipe advance stepBusy stepOn mountAt mountFound mountOn formatOrder formatOn fitsRecord held append serveChange serveEnd
-    serveLog serve requestOn half blankHalf stored pending later second begun twice tiedHalves bothStrange strange halfErased seemsEmpty inMiddle
-    begunTwice storedFirst heavy nearlyFull fullAtHalf fullByAll fullByValues fullByImage fullByTwo deletesPass roomFirst abortKeeps transferClears
-    mountKeeps
+    evenOnly allFF sameBytes applyAll writes encodeAll total hostLayout layoutOf match readFrame scan insert remove lookup changeAll listOf without isOpen
+    replayFrom editionIn headerFault blockState noRoom hostFull sited placesFrom sinceFrom valueAt nextSettled nextPending nextLoad parse noPlaces noFrame
+    enterAppend enterDrop enterCopy enterOpen enterWipe advance stepBusy stepOn mountAt mountFound mountOn formatOrder formatOn fitsRecord held append
+    serveChange serveEnd serveLog serve requestOn half blankHalf stored pending later second begun twice tiedHalves bothStrange strange halfErased
+    seemsEmpty inMiddle begunTwice storedFirst heavy nearlyFull fullAtHalf fullByAll fullByValues fullByImage fullByTwo deletesPass roomFirst abortKeeps
+    transferClears mountKeeps
 runs =
     record {
       refuses-all = record { is-run = refl; shows-wrong = refl; shows-right = refl; apart = refl };

@@ -1,7 +1,9 @@
 pub mod Rows
 pub mod Wrong
 pub mod WrongShares
+pub mod WrongEditions
 pub mod Refuted
 pub mod WrongRuns
+pub mod EditionRuns
 pub mod Seen
 pub mod WrongRows

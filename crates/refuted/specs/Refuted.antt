@@ -14,6 +14,10 @@ use Rattle.refuted.specs.Wrong.{losesAll, keepsPending, refusesAlike, ov
 use Rattle.refuted.specs.Wrong.{takesHalfErased, formatsAtOnce, formatsBlindly, goesBack, erasesOne, erasesBlank, ignoresCount, evenOnly}
 use Rattle.refuted.specs.WrongShares.{fullAtHalf, fullByAll, fullByValues, fullByImage, fullByTwo, deletesPass, roomFirst, abortKeeps}
 use Rattle.refuted.specs.WrongShares.{transferClears, mountKeeps, takesAnyCounts}
+use Rattle.refuted.specs.WrongEditions.{pendingAlone, withReserve, convertsAgain, dropsFirst, fallsBack, formatKeeps, secondForeign, crcOfBody}
+use Rattle.refuted.specs.WrongEditions.{crcBigEndian, ignoresCrc, roomAsBefore, logsByFirst, takesAnyEdition}
+use Rattle.refuted.specs.WrongEditions.{pendingInFirst, roomBeforePending, anyBody, roomByFirst, convertsWorn, mountFallsBack, laterEdition}
+use Rattle.refuted.specs.WrongEditions.{recordKeeps, tornForeign, fullByFirst}
 
 -- on the bench's images, whatever is done off it; for the rows one by one see WrongRows
 unfoldable pub RightOnBench : Type 0
@@ -69,3 +73,26 @@ pub record Refuted : Type 0 where
   pub transfer-clears : Kept (offBench transferClears) → ⊥
   pub mount-keeps : Kept (offBench mountKeeps) → ⊥
   pub takes-any-counts : Kept (offBench takesAnyCounts) → ⊥
+  pub pending-alone : Kept (offBench pendingAlone) → ⊥
+  pub pending-in-first : Kept (offBench pendingInFirst) → ⊥
+  pub room-before-pending : Kept (offBench roomBeforePending) → ⊥
+  pub any-body : Kept (offBench anyBody) → ⊥
+  pub room-by-first : Kept (offBench roomByFirst) → ⊥
+  pub with-reserve : Kept (offBench withReserve) → ⊥
+  pub converts-worn : Kept (offBench convertsWorn) → ⊥
+  pub converts-again : Kept (offBench convertsAgain) → ⊥
+  pub drops-first : Kept (offBench dropsFirst) → ⊥
+  pub falls-back : Kept (offBench fallsBack) → ⊥
+  pub mount-falls-back : Kept (offBench mountFallsBack) → ⊥
+  pub format-keeps : Kept (offBench formatKeeps) → ⊥
+  pub second-foreign : Kept (offBench secondForeign) → ⊥
+  pub later-edition : Kept (offBench laterEdition) → ⊥
+  pub record-keeps : Kept (offBench recordKeeps) → ⊥
+  pub takes-any-edition : Kept (offBench takesAnyEdition) → ⊥
+  pub crc-of-body : Kept (offBench crcOfBody) → ⊥
+  pub crc-big-endian : Kept (offBench crcBigEndian) → ⊥
+  pub ignores-crc : Kept (offBench ignoresCrc) → ⊥
+  pub torn-foreign : Kept (offBench tornForeign) → ⊥
+  pub room-as-before : Kept (offBench roomAsBefore) → ⊥
+  pub full-by-first : Kept (offBench fullByFirst) → ⊥
+  pub logs-by-first : Kept (offBench logsByFirst) → ⊥

@@ -5,6 +5,7 @@ use mathlib.Core.Path.{_≡_}
 use Prim.Native.Nat.{ℕ, zero, suc, _+_}
 use lib.ListN.{take, drop, replicate}
 use Rattle.flash.specs.Flash.{block}
+use Rattle.frame.specs.declared.Edition.the-variants as edition
 use Rattle.frame.specs.Frame.{hostOf, idOf}
 use Rattle.journal.specs.Replay.{Object, State, state, object, replay}
 use Rattle.journal.specs.Block.{blockState, framesIn, timeIn}
@@ -144,17 +145,17 @@ formatAnswer m n = m (replicate n 0x5A) unmounted format .answer
 
 pub record Rows (m : Machine) : Type 0 where
   pub a-steps : rowA m .steps ≡ 12
-  pub a-done : rowA m .board ≡ idle (rest 2 511 0 16)
+  pub a-done : rowA m .board ≡ idle (rest 2 511 0 16 1)
   pub a-half : part 0 16 (rowA m .image)
       ≡ 0x10 ∷ 0x00 ∷ 0x01 ∷ 0x4A ∷ 0xFE ∷ 0xFF ∷ 0xFF ∷ 0xFF ∷ 0xFC ∷ 0xFF ∷ 0xFF ∷ 0xFF ∷ 0xFF ∷ 0xFF ∷ 0xFF ∷ 0xFF ∷ []
   pub a-rest : drop 16 (rowA m .image) ≡ replicate 496 0xFF
   pub b-steps : rowB m .steps ≡ 10
   -- the put's ten bytes are pending, host 2's
-  pub b-done : rowB m .board ≡ idle (counting (rest 2 511 0 26) (0 ∷ 0 ∷ 10 ∷ 0 ∷ []))
+  pub b-done : rowB m .board ≡ idle (counting (rest 2 511 0 26 1) (0 ∷ 0 ∷ 10 ∷ 0 ∷ []))
   pub b-frame : part 16 10 (rowB m .image) ≡ 0x0A ∷ 0x00 ∷ 0x01 ∷ 0x00 ∷ 0x02 ∷ 0x05 ∷ 0x00 ∷ 0x41 ∷ 0x42 ∷ 0xFE ∷ []
   pub c-steps : rowC m .steps ≡ 6
   pub c-frame : part 26 6 (rowC m .image) ≡ 0x06 ∷ 0x00 ∷ 0x03 ∷ 0x00 ∷ 0x02 ∷ 0xFE ∷ []
-  pub c-end : rowC m .board ≡ idle (rest 2 511 0 32)
+  pub c-end : rowC m .board ≡ idle (rest 2 511 0 32 1)
   pub c-rest : drop 32 (rowC m .image) ≡ replicate 480 0xFF
   pub d-answer : rowD m .answer ≡ Done
   pub d-place : rowD m .stretch ≡ record { at = 23; size = 2 }
@@ -162,19 +163,19 @@ pub record Rows (m : Machine) : Type 0 where
   pub e-reply : rowE m .reply
       ≡ 0x0E ∷ 0x00 ∷ 0x01 ∷ 0x02 ∷ 0x01 ∷ 0x00 ∷ 0x00 ∷ 0x00 ∷ 0x01 ∷ 0x00 ∷ 0x19 ∷ 0x00 ∷ 0x00 ∷ 0x01 ∷ 0xEE ∷ 0xEE ∷ []
   pub f-steps : rowF m .steps ≡ 11
-  pub f-done : rowF m .board ≡ idle (rest 2 511 1 16)
+  pub f-done : rowF m .board ≡ idle (rest 2 511 1 16 1)
   pub f-time : timed 1 (rowF m) ≡ 2
   pub f-holds : replayed 1 (rowF m) ≡ state [] []
   pub g-steps : rowG m .steps ≡ 11
-  pub g-done : rowG m .board ≡ idle (rest 2 511 1 16)
+  pub g-done : rowG m .board ≡ idle (rest 2 511 1 16 1)
   pub g-holds : replayed 1 (rowG m) ≡ state [] []
   pub h-steps : rowH m .steps ≡ 0
-  pub h-done : rowH m .board ≡ idle (rest 2 511 0 32)
+  pub h-done : rowH m .board ≡ idle (rest 2 511 0 32 1)
   pub h-holds : replayed 0 (rowH m) ≡ state (object (idOf 5) (0x41 ∷ 0x42 ∷ []) ∷ []) []
   -- three puts of 72 bytes and three commits of 6 after the header's 16; C = U = 16 + 3·71
   pub i-accepted : ask m (rowA m) 0 (putMessage 1 64) .answer ≡ More
-  pub i-done : rowI m 64 .board ≡ idle (rest 2 511 0 250)
-  pub i-claimed : claimed (replayed 0 (rowI m 64)) ≡ 229
+  pub i-done : rowI m 64 .board ≡ idle (rest 2 511 0 250 1)
+  pub i-claimed : claimed edition.First (replayed 0 (rowI m 64)) ≡ 229
   -- 229 + 8 + 6 + 14 = 257; with 63 bytes in id 3 256. The commit of row k has nothing pending
   pub j : ask m (rowI m 64) 0 (putMessage 4 0) .answer ≡ Refused refusal.NoRoom
   pub k-commit : rowK m 64 .steps ≡ 0
@@ -182,11 +183,11 @@ pub record Rows (m : Machine) : Type 0 where
   pub k-accepted : ask m (rowK m 63) 0 (putMessage 4 0) .answer ≡ More
   -- 250 + 8 > 256: C - 5 = 224 steps, then the delete's 8. Its frame ends at 229 + 8 and is pending
   pub l-transfer : rowLDelete m .steps ≡ 232
-  pub l-pending : rowLDelete m .board ≡ idle (counting (rest 2 511 1 237) (8 ∷ 0 ∷ 0 ∷ 0 ∷ []))
+  pub l-pending : rowLDelete m .board ≡ idle (counting (rest 2 511 1 237 1) (8 ∷ 0 ∷ 0 ∷ 0 ∷ []))
   pub l-steps : rowL m .steps ≡ 8
   -- beyond row l: what it leaves, byte for byte. The old half blank; the new one's header at time 2, the settled frames of ids 1, 2 and 3, 71
   -- bytes each, then delete, commit and put
-  pub l-done : rowL m .board ≡ idle (counting (rest 2 511 1 251) (8 ∷ 0 ∷ 0 ∷ 0 ∷ []))
+  pub l-done : rowL m .board ≡ idle (counting (rest 2 511 1 251 1) (8 ∷ 0 ∷ 0 ∷ 0 ∷ []))
   pub l-old : part 0 256 (rowL m .image) ≡ replicate 256 0xFF
   pub l-header : part 256 16 (rowL m .image)
       ≡ 0x10 ∷ 0x00 ∷ 0x01 ∷ 0x4A ∷ 0xFD ∷ 0xFF ∷ 0xFF ∷ 0xFF ∷ 0xFC ∷ 0xFF ∷ 0xFF ∷ 0xFF ∷ 0xFF ∷ 0xFF ∷ 0xFF ∷ 0xFF ∷ []
@@ -199,14 +200,14 @@ pub record Rows (m : Machine) : Type 0 where
   pub l-rest : drop 507 (rowL m .image) ≡ replicate 5 0xFF
   -- the 223rd step says 0xFC: before it the old half is current, after it the new one. The mount erases the other
   pub m-222-steps : rowM m 222 .steps ≡ 1
-  pub m-222-done : rowM m 222 .board ≡ idle (rest 2 511 0 250)
+  pub m-222-done : rowM m 222 .board ≡ idle (rest 2 511 0 250 1)
   pub m-222-holds : replayed 0 (rowM m 222) ≡ state three []
   pub m-223-steps : rowM m 223 .steps ≡ 1
-  pub m-223-done : rowM m 223 .board ≡ idle (rest 2 511 1 229)
+  pub m-223-done : rowM m 223 .board ≡ idle (rest 2 511 1 229 1)
   pub m-223-holds : replayed 1 (rowM m 223) ≡ state three []
   pub n : ask m (rowA m) 0 (0x05 ∷ 0x00 ∷ 0x03 ∷ 0x01 ∷ []) .answer ≡ Refused refusal.Malformed
   pub o-240-steps : rowO m 240 .steps ≡ 248
-  pub o-240-done : rowO m 240 .board ≡ idle (counting (rest 2 1023 0 264) (248 ∷ 0 ∷ 0 ∷ 0 ∷ []))
+  pub o-240-done : rowO m 240 .board ≡ idle (counting (rest 2 1023 0 264 1) (248 ∷ 0 ∷ 0 ∷ 0 ∷ []))
   pub o-241 : rowO m 241 .answer ≡ Refused refusal.Malformed
   -- beyond row o, K7: where S is 256 a host's pending frames come to 128 bytes at most, so a value has 120 at most
   pub o-240-short : ask m (rowA m) 0 (putMessage 9 240) .answer ≡ Refused refusal.HostFull

@@ -1,10 +1,11 @@
 -- Clauses of the promise that each see a wrong store alone, without the others. The runs are in proofs/RefutingCut, RefutingOlder,
--- RefutingClauses and RefutingShares.
+-- RefutingClauses, RefutingShares and RefutingConverts.
 use Rattle.board.specs.Claim.{Claim}
 use Rattle.board.specs.CutFormat.{CutFormat}
 use Rattle.board.specs.Demand2.{UsableFrom}
 use Rattle.refuted.specs.Wrong.{offBench, refusesHalfErased, takesHalfErased, waitsLong, formatsBlindly, erasesOne}
 use Rattle.refuted.specs.WrongShares.{fullByImage}
+use Rattle.refuted.specs.WrongEditions.{dropsFirst, tornForeign}
 
 pub record Seen : Type 0 where
   -- demand 3: a half-erased half that is foreign; the store before K4
@@ -15,6 +16,9 @@ pub record Seen : Type 0 where
   pub waits-long : Claim 2 (offBench waitsLong 2) → ⊥
   -- demand 3, K7: a host's pending frames come to more than S/2 bytes
   pub full-by-image : Claim 2 (offBench fullByImage 2) → ⊥
+  -- demand 3, K9: a convert that drops an object; a torn frame of edition 2 that makes its block foreign
+  pub drops-first : Claim 2 (offBench dropsFirst 2) → ⊥
+  pub torn-foreign : Claim 2 (offBench tornForeign 2) → ⊥
   -- a format that erases the store's block first
   pub formats-blindly : CutFormat 2 (offBench formatsBlindly 2) → ⊥
   -- a mount that answers 0 and leaves a block that isn't blank beside the store

@@ -259,7 +259,8 @@ abbrev pub lookAlike : List ℕ → Out → List Store → Out
 lookAlike img o [] = o
 lookAlike img o (x ∷ []) = o
 lookAlike img o (x ∷ y ∷ ys) =
-    cond (sameBytes (encodeAll (x .journal .frames)) (encodeAll (y .journal .frames))) (refuse (tiedTimes 0) img unmounted []) o
+    cond (sameBytes (encodeAll (x .journal .edition) (x .journal .frames)) (encodeAll (y .journal .edition) (y .journal .frames)))
+    (refuse (tiedTimes 0) img unmounted []) o
 
 -- 3: "two valid halves of equal time": given for equal content too
 unfoldable pub refusesAlike : Wrongly
@@ -345,6 +346,7 @@ backToFirst r =
       time = j .time;
       since = j .since;
       size = j .size;
+      edition = j .edition;
     }
 
 unfoldable pub goesBack : Wrongly
@@ -366,6 +368,7 @@ oneWipe r =
       time = j .time;
       since = j .since;
       size = j .size;
+      edition = j .edition;
     }
 
 unfoldable pub erasesOne : Wrongly

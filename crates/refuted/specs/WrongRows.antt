@@ -7,6 +7,10 @@ use Rattle.refuted.specs.Wrong.{hurriedMount, losesAll, keepsPending, re
 use Rattle.refuted.specs.Wrong.{takesHalfErased, formatsAtOnce, formatsBlindly, goesBack, erasesOne, erasesBlank, ignoresCount, evenOnly}
 use Rattle.refuted.specs.WrongShares.{fullAtHalf, fullByAll, fullByValues, fullByImage, fullByTwo, deletesPass, roomFirst, abortKeeps}
 use Rattle.refuted.specs.WrongShares.{transferClears, mountKeeps, takesAnyCounts}
+use Rattle.refuted.specs.WrongEditions.{pendingAlone, withReserve, convertsAgain, dropsFirst, fallsBack, formatKeeps, secondForeign, crcOfBody}
+use Rattle.refuted.specs.WrongEditions.{crcBigEndian, ignoresCrc, roomAsBefore, logsByFirst, takesAnyEdition}
+use Rattle.refuted.specs.WrongEditions.{pendingInFirst, roomBeforePending, anyBody, roomByFirst, convertsWorn, mountFallsBack, laterEdition}
+use Rattle.refuted.specs.WrongEditions.{recordKeeps, tornForeign, fullByFirst}
 
 pub record RightInRows : Type 0 where
   pub refuses-all : Rows (offBench refusesAll 2)
@@ -57,3 +61,26 @@ pub record RightInRows : Type 0 where
   pub transfer-clears : Rows (offBench transferClears 2)
   pub mount-keeps : Rows (offBench mountKeeps 2)
   pub takes-any-counts : Rows (offBench takesAnyCounts 2)
+  pub pending-alone : Rows (offBench pendingAlone 2)
+  pub pending-in-first : Rows (offBench pendingInFirst 2)
+  pub room-before-pending : Rows (offBench roomBeforePending 2)
+  pub any-body : Rows (offBench anyBody 2)
+  pub room-by-first : Rows (offBench roomByFirst 2)
+  pub with-reserve : Rows (offBench withReserve 2)
+  pub converts-worn : Rows (offBench convertsWorn 2)
+  pub converts-again : Rows (offBench convertsAgain 2)
+  pub drops-first : Rows (offBench dropsFirst 2)
+  pub falls-back : Rows (offBench fallsBack 2)
+  pub mount-falls-back : Rows (offBench mountFallsBack 2)
+  pub format-keeps : Rows (offBench formatKeeps 2)
+  pub second-foreign : Rows (offBench secondForeign 2)
+  pub later-edition : Rows (offBench laterEdition 2)
+  pub record-keeps : Rows (offBench recordKeeps 2)
+  pub takes-any-edition : Rows (offBench takesAnyEdition 2)
+  pub crc-of-body : Rows (offBench crcOfBody 2)
+  pub crc-big-endian : Rows (offBench crcBigEndian 2)
+  pub ignores-crc : Rows (offBench ignoresCrc 2)
+  pub torn-foreign : Rows (offBench tornForeign 2)
+  pub room-as-before : Rows (offBench roomAsBefore 2)
+  pub full-by-first : Rows (offBench fullByFirst 2)
+  pub logs-by-first : Rows (offBench logsByFirst 2)

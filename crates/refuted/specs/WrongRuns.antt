@@ -6,6 +6,8 @@ use mathlib.Core.Path.{_≡_}
 use Prim.Native.Nat.{ℕ, zero, suc, _+_, _-_}
 use lib.Dec.{eqb, ltb}
 use lib.ListN.{length, getD, drop, replicate}
+use Rattle.frame.specs.declared.Edition.{Edition}
+use Rattle.frame.specs.declared.Edition.the-variants as edition
 use Rattle.frame.specs.Frame.{hostOf, idOf, put, change, commit, abort, settled, Frame, encodeAll}
 use Rattle.journal.specs.Block.{header, inTransfer, validData}
 use Rattle.wire.specs.declared.Answer.the-variants.{Refused}
@@ -85,9 +87,12 @@ replyLength x = length (x .reply)
 
 -- ---- images of 768 bytes
 
--- a valid half, made at a time
+-- a valid block of an edition and so many bytes, made at a time; a half of edition 1
+abbrev pub blockOf : Edition → ℕ → ℕ → List Frame → List ℕ
+blockOf ed size t fs = let b : List ℕ = header ed t validData ++ encodeAll ed fs in b ++ replicate (size - length b) 0xFF
+
 unfoldable pub half : ℕ → List Frame → List ℕ
-half t fs = let b : List ℕ = header t validData ++ encodeAll fs in b ++ replicate (384 - length b) 0xFF
+half t fs = blockOf edition.First 384 t fs
 
 unfoldable pub blankHalf : List ℕ
 blankHalf = replicate 384 0xFF
@@ -115,7 +120,7 @@ unfoldable pub second : List ℕ
 second = blankHalf ++ committed 2
 
 unfoldable pub begun : List ℕ
-begun = committed 1 ++ (header 2 inTransfer ++ replicate 368 0xFF)
+begun = committed 1 ++ (header edition.First 2 inTransfer ++ replicate 368 0xFF)
 
 unfoldable pub twice : List ℕ
 twice = committed 1 ++ committed 2
@@ -155,7 +160,7 @@ unfoldable pub inMiddle : List ℕ
 inMiddle = blankHalf ++ (half 1 (putFrame ∷ []) ++ blankHalf)
 
 unfoldable pub begunTwice : List ℕ
-begunTwice = begun ++ (header 2 inTransfer ++ replicate 368 0xFF)
+begunTwice = begun ++ (header edition.First 2 inTransfer ++ replicate 368 0xFF)
 
 unfoldable pub storedFirst : List ℕ
 storedFirst = stored ++ blankHalf

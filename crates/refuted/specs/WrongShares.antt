@@ -7,19 +7,20 @@ use Prim.Native.Nat.{ℕ, _+_, _*_, _/_}
 use lib.Dec.{eqb, ltb, leb}
 use lib.ListN.{length}
 use Rattle.flash.specs.Flash.{block, sizeOf}
+use Rattle.frame.specs.declared.Edition.{Edition}
 use Rattle.frame.specs.Frame.{Change, put, delete, change, total}
 use Rattle.journal.specs.Replay.{State, entry, listOf, pendingFrame}
-use Rattle.journal.specs.Block.{Journal, blockState, framesIn}
+use Rattle.journal.specs.Block.{Journal, BlockState, blockState, editionOf, framesIn}
 use Rattle.journal.specs.Room.{pendingFor, pendingOf, noRoom, hostFull}
 use Rattle.wire.specs.declared.Refusal.the-variants as refusal
-use Rattle.wire.specs.declared.Request.the-variants.{Put, Delete, Commit, Abort, Read, Log}
+use Rattle.wire.specs.declared.Request.the-variants.{Put, Delete, Commit, Abort, Read, Log, Convert}
 use Rattle.wire.specs.declared.Parsed.{Parsed}
 use Rattle.wire.specs.declared.Parsed.the-variants.{Is, Malformed}
 use Rattle.wire.specs.declared.Answer.the-variants.{More}
 use Rattle.wire.specs.Answer.{edgeNumber}
 use Rattle.wire.specs.Message.{parse, valueIn}
 use Rattle.board.specs.declared.Record.{Record}
-use Rattle.board.specs.Record.{noMarks, counting, Out, out}
+use Rattle.board.specs.Record.{zeroEach, counting, Out, out}
 use Rattle.board.specs.Mount.{allFound, Store, stores, newest, replayOf, countsOf}
 use Rattle.board.specs.Queue.{Asking, asking, sizeFor, heldFor, refuseTo, append}
 use Rattle.board.specs.Exec.{request, exec}
@@ -41,6 +42,7 @@ whereChange s a o x (Is Commit) = o
 whereChange s a o x (Is Abort) = o
 whereChange s a o x (Is (Read i)) = o
 whereChange s a o x (Is (Log p)) = o
+whereChange s a o x (Is Convert) = o
 whereChange s a o x Malformed = o
 
 abbrev pub whereHeld : Serving → Asking → Out → Option Journal → Out
@@ -58,22 +60,22 @@ abbrev pub fullOr : Bool → Asking → Out → Out
 fullOr b a o = cond b (refuseTo a refusal.HostFull) o
 
 abbrev pub roomOr : Asking → Journal → Change → Out → Out
-roomOr a x c o = cond (noRoom (sizeFor a) (replayOf x) (a .host) c) (refuseTo a refusal.NoRoom) o
+roomOr a x c o = cond (noRoom (x .edition) (sizeFor a) (replayOf x) (a .host) c) (refuseTo a refusal.NoRoom) o
 
 abbrev pub appends : Serving
 appends a x c = append a x (change (a .host) c)
 
 -- a store whose 12 goes by another test
-abbrev pub fullBy : (Asking → State → Change → Bool) → Wrongly
-fullBy test = changes (λ a x c. fullOr (test a (replayOf x) c) a (roomOr a x c (appends a x c)))
+abbrev pub fullBy : (Asking → Edition → State → Change → Bool) → Wrongly
+fullBy test = changes (λ a x c. fullOr (test a (x .edition) (replayOf x) c) a (roomOr a x c (appends a x c)))
 
 -- "more than S/2 bytes": S/2 bytes too
 unfoldable pub fullAtHalf : Wrongly
-fullAtHalf = fullBy (λ a s c. leb (sizeFor a) (2 * pendingFor (a .host) (s .pending ++ (entry (a .host) c ∷ []))))
+fullAtHalf = fullBy (λ a ed s c. leb (sizeFor a) (2 * pendingFor ed (a .host) (s .pending ++ (entry (a .host) c ∷ []))))
 
 -- "that host's pending frames": those of all hosts
 unfoldable pub fullByAll : Wrongly
-fullByAll = fullBy (λ a s c. ltb (sizeFor a) (2 * total (map pendingFrame (s .pending ++ (entry (a .host) c ∷ [])))))
+fullByAll = fullBy (λ a ed s c. ltb (sizeFor a) (2 * total ed (map pendingFrame (s .pending ++ (entry (a .host) c ∷ [])))))
 
 abbrev pub valueLen : Change → ℕ
 valueLen (put i v) = length v
@@ -85,14 +87,14 @@ valueBytes (c ∷ cs) = valueLen c + valueBytes cs
 
 -- "frames": their values' bytes alone
 unfoldable pub fullByValues : Wrongly
-fullByValues = fullBy (λ a s c. ltb (sizeFor a) (2 * valueBytes (listOf (a .host) (s .pending ++ (entry (a .host) c ∷ [])))))
+fullByValues = fullBy (λ a ed s c. ltb (sizeFor a) (2 * valueBytes (listOf (a .host) (s .pending ++ (entry (a .host) c ∷ [])))))
 
 -- "S/2": half of the image's length; a quarter of it, as if every image had two blocks
 unfoldable pub fullByImage : Wrongly
-fullByImage = fullBy (λ a s c. hostFull (length (a .image)) s (a .host) c)
+fullByImage = fullBy (λ a ed s c. hostFull ed (length (a .image)) s (a .host) c)
 
 unfoldable pub fullByTwo : Wrongly
-fullByTwo = fullBy (λ a s c. hostFull (length (a .image) / 2) s (a .host) c)
+fullByTwo = fullBy (λ a ed s c. hostFull ed (length (a .image) / 2) s (a .host) c)
 
 abbrev pub isPut : Change → Bool
 isPut (put i v) = true
@@ -100,11 +102,11 @@ isPut (delete i) = false
 
 -- "Refuse a put or delete": a put alone
 unfoldable pub deletesPass : Wrongly
-deletesPass = fullBy (λ a s c. isPut c && hostFull (sizeFor a) s (a .host) c)
+deletesPass = fullBy (λ a ed s c. isPut c && hostFull ed (sizeFor a) s (a .host) c)
 
 -- "a new 12, before 7": after it
 unfoldable pub roomFirst : Wrongly
-roomFirst = changes (λ a x c. roomOr a x c (fullOr (hostFull (sizeFor a) (replayOf x) (a .host) c) a (appends a x c)))
+roomFirst = changes (λ a x c. roomOr a x c (fullOr (hostFull (x .edition) (sizeFor a) (replayOf x) (a .host) c) a (appends a x c)))
 
 -- ---- each host's pending bytes
 
@@ -130,11 +132,11 @@ abortKeeps = requestsOf 0x0104 (λ N img r h m reply o. onCounts (r .rest .pendi
 
 -- a transfer clears them, though it copies the pending frames
 unfoldable pub transferClears : Wrongly
-transferClears = requests (λ N img r h m reply o. cond (o .board .job .moves) (onCounts noMarks o) o)
+transferClears = requests (λ N img r h m reply o. cond (o .board .job .moves) (onCounts zeroEach o) o)
 
 -- a mount keeps them, though it drops what is pending
 abbrev pub countsFound : List Store → List ℕ
-countsFound [] = noMarks
+countsFound [] = zeroEach
 countsFound (x ∷ xs) = countsOf (newest x xs .journal)
 
 unfoldable pub mountKeeps : Wrongly
@@ -145,6 +147,7 @@ unfoldable pub takesAnyCounts : Wrongly
 takesAnyCounts =
     requests
     (λ N img r h m reply o.
-    let ps : List ℕ = pendingOf (framesIn (blockState (block (sizeOf N img) (r .rest .block) img))) in
+    let b : BlockState = blockState (block (sizeOf N img) (r .rest .block) img) in
+    let ps : List ℕ = pendingOf (editionOf b) (framesIn b) in
     let y : Out = exec N img (withCounts ps r) (request h m reply) in
     byAnswer (o .answer) o o (byAnswer (y .answer) y y o))

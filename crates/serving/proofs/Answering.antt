@@ -11,12 +11,14 @@ use lib.Seq.{take-all}
 use borrow.Author.Tests.{lt-ltb, ne-eqb}
 use Rattle.flash.specs.Flash.{block, sizeOf}
 use Rattle.flash.proofs.Cases.{on-test}
+use Rattle.frame.specs.declared.Edition.{Edition}
+use Rattle.frame.specs.declared.Edition.the-variants as edition
 use Rattle.frame.specs.declared.ObjectId.{ObjectId}
 use Rattle.frame.specs.Frame.{hostMax, idMax, valueMax, Change, put, delete, Frame, change, commit, abort, frameLen, endLen}
 use Rattle.survey.specs.declared.Survey.{Survey}
 use Rattle.journal.specs.Block.{Journal, valid, headerLen, lastTime}
-use Rattle.journal.specs.Replay.{State, lookup, isOpen, nextState}
-use Rattle.journal.specs.Room.{noRoom, hostFull, spare, pendingFor, pendingOf}
+use Rattle.journal.specs.Replay.{Entry, State, lookup, isOpen, nextState}
+use Rattle.journal.specs.Room.{used, noRoom, hostFull, spare, pendingFor, pendingOf}
 use Rattle.journal.specs.Index.{placesOf}
 use Rattle.survey.specs.Survey.{surveyOf}
 use Rattle.journal.proofs.PerHost.{per-at, open-bytes}
@@ -30,7 +32,7 @@ use Rattle.wire.specs.declared.Refusal.the-variants as refusal
 use Rattle.wire.specs.declared.Page.{Page}
 use Rattle.wire.specs.declared.Page.the-variants.{Summary}
 use Rattle.wire.specs.declared.Request.{Request}
-use Rattle.wire.specs.declared.Request.the-variants.{Put, Delete, Commit, Abort, Read, Log}
+use Rattle.wire.specs.declared.Request.the-variants.{Put, Delete, Commit, Abort, Read, Log, Convert}
 use Rattle.wire.specs.Message.{valueIn, pageLen}
 use Rattle.wire.specs.Code.{pageInto}
 use Rattle.wire.proofs.Parsing.{InRange}
@@ -41,15 +43,18 @@ use Rattle.board.specs.declared.Cursor.{Cursor}
 use Rattle.board.specs.declared.Rest.{Rest}
 use Rattle.board.specs.declared.Record.{Record}
 use Rattle.board.specs.Record.{noFrame, starting, counting, Out, out, refuse, answerOf}
-use Rattle.board.specs.Mount.{replayOf}
-use Rattle.board.specs.Queue.{needsRoom, append, serveChange, serveEnd, serveRead, serveLog, serve, Asking, asking, sizeFor, movesFor, refuseTo}
+use Rattle.board.specs.Mount.{replayOf, forPending, transfers}
+use Rattle.board.specs.Queue.{needsRoom, append, serveChange, serveEnd, convert, convertWith, serveConvert, serveRead, serveLog, serve}
+use Rattle.board.specs.Queue.{Asking, asking, sizeFor, movesFor, refuseTo}
 use Rattle.board.proofs.Replies.{standing-of}
 use Rattle.job.specs.declared.records.Stepped.{Stepped}
 use Rattle.job.specs.Code.{leavesIf, LeadsTo, goAppend, goOpen, goWipe, begins}
 use Rattle.job.proofs.Entering.{wipe-leaves}
+use Rattle.looks.specs.Surveys.{sumOf}
+use Rattle.looks.proofs.Transfers.{any-is}
 use Rattle.serving.specs.Calls.{done, refused, keptOr, began, Asks, bytesOf, appendPlan, appendIn, changeIn, endIn, readIn, logIn}
-use Rattle.serving.specs.Calls.{serveIn, frameIn, replyIn}
-use Rattle.serving.proofs.Rooms.{no-room-is, full-is}
+use Rattle.serving.specs.Calls.{convertPlan, convertBy, convertIn, serveIn, frameIn, replyIn}
+use Rattle.serving.proofs.Rooms.{no-room-is, full-is, second-is}
 
 -- ---- what a request came to, put together
 
@@ -90,76 +95,108 @@ module _ (a : Asking) (x : Journal) (same : a .blocks ≡ a .board .rest .blocks
   abbrev survey : Survey
   survey = surveyOf (valid x)
 
+  abbrev ed : Edition
+  ed = x .edition
+
   abbrev places : List ℕ
-  places = placesOf (x .frames)
+  places = placesOf ed (x .frames)
 
   no : (f : List ℕ) (why : Refusal) → Asks r places f (refused why (r .rest)) (refuseTo a why)
   no f why = refusing r places f (a .image) (a .reply) why
 
-  append-is : (f : Frame) (ps : List ℕ) → pendingOf (x .frames ++ (f ∷ [])) ≡ ps
-      → Asks r places (bytesOf f) (appendIn (sizeFor a) (r .rest) survey (frameLen f) ps) (append a x f)
+  append-is : (f : Frame) (ps : List ℕ) → pendingOf ed (x .frames ++ (f ∷ [])) ≡ ps
+      → Asks r places (bytesOf ed f) (appendIn (sizeFor a) (r .rest) survey (frameLen ed f) ps) (append a x f)
   unfolding append appendIn surveyOf
   append-is f ps e =
-      let m : Bool = needsRoom (r .rest .blocks) (a .image) r f in
+      let m : Bool = needsRoom (r .rest .blocks) (a .image) r x f in
       let z : Rest = r .rest in
-      let j : Job = appendPlan z survey m (frameLen f) in
-      let y : Rest = counting z (pendingOf (x .frames ++ (f ∷ []))) in
-      let g = goes y z survey m (frameLen f) (starting 0 headerLen) (omega arith) in
-      subst (λ (qs : List ℕ). Asks r places (bytesOf f) (appendIn (sizeFor a) z survey (frameLen f) qs) (append a x f)) e
-      (subst (λ (k : ℕ). Asks r places (bytesOf f) (appendIn (sizeOf k (a .image)) z survey (frameLen f) (y .pending))
+      let j : Job = appendPlan z survey m (frameLen ed f) in
+      let y : Rest = counting z (pendingOf ed (x .frames ++ (f ∷ []))) in
+      let g = goes y z survey m (frameLen ed f) (starting 0 headerLen) (omega arith) in
+      subst (λ (qs : List ℕ). Asks r places (bytesOf ed f) (appendIn (sizeFor a) z survey (frameLen ed f) qs) (append a x f)) e
+      (subst (λ (k : ℕ). Asks r places (bytesOf ed f) (appendIn (sizeOf k (a .image)) z survey (frameLen ed f) (y .pending))
       (append (asking k (a .image) r (a .host) (a .message) (a .reply)) x f)) (sym same)
-      (asks-if r places (bytesOf f) (m && eqb (x .time) lastTime) (no (bytesOf f) refusal.Worn)
+      (asks-if r places (bytesOf ed f) (m && eqb (x .time) lastTime) (no (bytesOf ed f) refusal.Worn)
       (begun r _ _ (a .image) (a .reply) _ _ (g .0) (g .1)
-      (wipe-leaves places noFrame (bytesOf f) (record { phase = Busy Wipe; rest = y; job = j; cursor = starting 0 headerLen })))))
+      (wipe-leaves places noFrame (bytesOf ed f) (record { phase = Busy Wipe; rest = y; job = j; cursor = starting 0 headerLen })))))
 
-  change-is : (c : Change) → a .host .0 ≤ hostMax → Asks r places (bytesOf (change (a .host) c))
-      (changeIn (sizeFor a) (r .rest) survey (a .host) (frameLen (change (a .host) c)) (spare c)) (serveChange a x c)
+  change-is : (c : Change) → a .host .0 ≤ hostMax → Asks r places (bytesOf ed (change (a .host) c))
+      (changeIn (sizeFor a) (r .rest) survey (a .host) (frameLen ed (change (a .host) c)) (spare ed c)) (serveChange a x c)
   unfolding serveChange changeIn surveyOf
   change-is c l =
       rw (← full-is w (sizeFor a) (a .host) c l, ← no-room-is w (sizeFor a) (a .host) c)
-      (asks-if r _ _ (hostFull (sizeFor a) (replayOf x) (a .host) c) (no _ refusal.HostFull)
-      (asks-if r _ _ (noRoom (sizeFor a) (replayOf x) (a .host) c) (no _ refusal.NoRoom)
-      (append-is (change (a .host) c) _ (pending-grows (x .frames) (a .host) c l))))
+      (asks-if r _ _ (hostFull ed (sizeFor a) (replayOf x) (a .host) c) (no _ refusal.HostFull)
+      (asks-if r _ _ (noRoom ed (sizeFor a) (replayOf x) (a .host) c) (no _ refusal.NoRoom)
+      (append-is (change (a .host) c) _ (pending-grows ed (x .frames) (a .host) c l))))
 
   open-is : a .host .0 ≤ hostMax → isOpen (a .host) (replayOf x .pending) ≡ ltb 0 (getD (survey .pending) (a .host .0) 0)
   unfolding surveyOf
   open-is l =
-      open-bytes (a .host) (replayOf x .pending)
-      ∙ ap (ltb 0) (sym (per-at (λ g. pendingFor g (replayOf x .pending)) (a .host) l))
+      open-bytes ed (a .host) (replayOf x .pending)
+      ∙ ap (ltb 0) (sym (per-at (λ g. pendingFor ed g (replayOf x .pending)) (a .host) l))
 
-  end-is : (f : Frame) → frameLen f ≡ endLen → a .host .0 ≤ hostMax
+  end-is : (f : Frame) → frameLen ed f ≡ endLen ed → a .host .0 ≤ hostMax
       → ((s : State) → nextState s f .pending ≡ nextState s (abort (a .host)) .pending)
-      → Asks r places (bytesOf f) (endIn (sizeFor a) (r .rest) survey (a .host)) (serveEnd a x f)
+      → Asks r places (bytesOf ed f) (endIn (sizeFor a) (r .rest) survey (a .host)) (serveEnd a x f)
   unfolding serveEnd endIn surveyOf
   end-is f e l n =
       rw (← open-is l, ← e)
-      (asks-if r _ _ (isOpen (a .host) (replayOf x .pending)) (append-is f _ (pending-ends (x .frames) f (a .host) l n))
+      (asks-if r _ _ (isOpen (a .host) (replayOf x .pending)) (append-is f _ (pending-ends ed (x .frames) f (a .host) l n))
       (doing r _ _ (a .image) (a .reply)))
 
   read-is : (f : List ℕ) (i : ObjectId) → i .0 ≤ idMax → (o : Option (List ℕ)) → lookup i (replayOf x .objects) ≡ o
       → Asks r places f (readIn (r .rest) places i) (serveRead a x i o)
   unfolding readIn
-  read-is f i l none e = rw (no-place (x .frames) i l e) (no f refusal.NoObject)
+  read-is f i l none e = rw (no-place ed (x .frames) i l e) (no f refusal.NoObject)
   read-is f i l (some v) e =
-      let z : ValueStands (block (sizeFor a) (r .rest .block) (a .image)) i (getD (placesOf (x .frames)) (i .0) 0) v =
-      place-law (block (sizeFor a) (r .rest .block) (a .image)) (x .frames) i v (standing-of w) l e in
-      rw (ne-eqb (getD (placesOf (x .frames)) (i .0) 0) 0 (λ q. omega (arith, z .past))) (record { answers = refl; gives = refl; rests = refl })
+      let z : ValueStands ed (block (sizeFor a) (r .rest .block) (a .image)) i (getD (placesOf ed (x .frames)) (i .0) 0) v =
+      place-law ed (block (sizeFor a) (r .rest .block) (a .image)) (x .frames) i v (standing-of w) l e in
+      rw (ne-eqb (getD (placesOf ed (x .frames)) (i .0) 0) 0 (λ q. omega (arith, z .past))) (record { answers = refl; gives = refl; rests = refl })
 
   log-is : (f : List ℕ) (p : Page) → Asks r places f (logIn (r .rest) (a .reply)) (serveLog a x p)
   unfolding serveLog logIn
   log-is f Summary =
       asks-if r _ _ (ltb (length (a .reply)) pageLen) (no f refusal.ShortReply) (record { answers = refl; gives = refl; rests = refl })
 
+  -- K9: nothing is pending exactly if no host has pending bytes
+  pending-is : (es : List Entry) → replayOf x .pending ≡ es → ltb 0 (sumOf (survey .pending)) ≡ transfers (forPending es)
+  unfolding surveyOf
+  pending-is es e = sym (any-is w) ∙ ap (λ (ds : List Entry). transfers (forPending ds)) e
+
+  converts : (e : Edition) → Asks r places noFrame (convertBy (r .rest) survey e) (convert a x e)
+  unfolding convert convertBy surveyOf noFrame goWipe goOpen
+  converts edition.First =
+      let z : Rest = r .rest in
+      let j : Job = convertPlan z survey in
+      let c : Cursor = starting 0 (survey .end) in
+      subst (λ (k : ℕ). Asks r places noFrame (convertBy z survey edition.First)
+      (convert (asking k (a .image) r (a .host) (a .message) (a .reply)) x edition.First)) (sym same)
+      (asks-if r places noFrame (eqb (x .time) lastTime) (no noFrame refusal.Worn)
+      (begun r _ _ (a .image) (a .reply) (begins z j c) _ refl refl
+      (wipe-leaves places noFrame noFrame (record { phase = Busy Wipe; rest = z; job = j; cursor = c }))))
+  converts edition.Second = doing r _ _ (a .image) (a .reply)
+
+  convert-is : Asks r places noFrame (convertIn (sizeFor a) (r .rest) survey) (serveConvert a x)
+  unfolding serveConvert convertIn surveyOf
+  convert-is = go (replayOf x .pending) refl
+    where
+      go : (es : List Entry) → replayOf x .pending ≡ es → Asks r places noFrame (convertIn (sizeFor a) (r .rest) survey) (convertWith a x es)
+      go [] e =
+          rw (pending-is [] e, ← second-is w)
+          (asks-if r _ _ (ltb (sizeFor a) (used edition.Second (replayOf x))) (no noFrame refusal.NoRoom) (converts ed))
+      go (d ∷ es) e = rw (pending-is (d ∷ es) e) (no noFrame refusal.Pending)
+
   pub serve-is : (q : Request) (g : List ℕ) → InRange (a .message) q → a .host .0 ≤ hostMax
-      → Asks r places (frameIn (a .host) (a .message) q g)
+      → Asks r places (frameIn ed (a .host) (a .message) q g)
       (serveIn (sizeFor a) (r .rest) (a .reply) (a .host) (a .message) survey places q) (serve a x q)
-  unfolding serve
+  unfolding serve surveyOf
   serve-is (Put i) g k l = rw (take-all valueMax (valueIn (a .message)) (k .1)) (change-is (put i (valueIn (a .message))) l)
   serve-is (Delete i) g k l = change-is (delete i) l
   serve-is Commit g k l = end-is (commit (a .host)) refl l (λ s. refl)
   serve-is Abort g k l = end-is (abort (a .host)) refl l (λ s. refl)
   serve-is (Read i) g k l = read-is g i k (lookup i (replayOf x .objects)) refl
   serve-is (Log p) g k l = log-is g p
+  serve-is Convert g k l = convert-is
 
   -- ---- the reply
 
@@ -169,13 +206,13 @@ module _ (a : Asking) (x : Journal) (same : a .blocks ≡ a .board .rest .blocks
 
   append-reply : (f : Frame) → append a x f .reply ≡ a .reply
   unfolding append
-  append-reply f = cond-reply (movesFor a f && eqb (x .time) lastTime) _ _ refl refl
+  append-reply f = cond-reply (movesFor a x f && eqb (x .time) lastTime) _ _ refl refl
 
   change-reply : (c : Change) → serveChange a x c .reply ≡ a .reply
   unfolding serveChange
   change-reply c =
-      cond-reply (hostFull (sizeFor a) (replayOf x) (a .host) c) _ _ refl
-      (cond-reply (noRoom (sizeFor a) (replayOf x) (a .host) c) _ _ refl (append-reply (change (a .host) c)))
+      cond-reply (hostFull ed (sizeFor a) (replayOf x) (a .host) c) _ _ refl
+      (cond-reply (noRoom ed (sizeFor a) (replayOf x) (a .host) c) _ _ refl (append-reply (change (a .host) c)))
 
   end-reply : (f : Frame) → serveEnd a x f .reply ≡ a .reply
   unfolding serveEnd
@@ -189,11 +226,21 @@ module _ (a : Asking) (x : Journal) (same : a .blocks ≡ a .board .rest .blocks
   unfolding serveLog pageInto surveyOf
   log-reply Summary = on-test (ltb (length (a .reply)) pageLen) (λ t. rw (t, pageInto)) (λ t. rw (t, pageInto))
 
+  convert-reply : (e : Edition) → convert a x e .reply ≡ a .reply
+  unfolding convert
+  convert-reply edition.First = cond-reply (eqb (x .time) lastTime) _ _ refl refl
+  convert-reply edition.Second = refl
+
+  converted-reply : (es : List Entry) → convertWith a x es .reply ≡ a .reply
+  converted-reply [] = cond-reply (ltb (sizeFor a) (used edition.Second (replayOf x))) _ _ refl (convert-reply ed)
+  converted-reply (d ∷ es) = refl
+
   pub reply-is : (q : Request) → serve a x q .reply ≡ replyIn (sizeFor a) survey (a .reply) q
-  unfolding serve
+  unfolding serve serveConvert
   reply-is (Put i) = change-reply (put i (valueIn (a .message)))
   reply-is (Delete i) = change-reply (delete i)
   reply-is Commit = end-reply (commit (a .host))
   reply-is Abort = end-reply (abort (a .host))
   reply-is (Read i) = read-reply i (lookup i (replayOf x .objects))
   reply-is (Log p) = log-reply p
+  reply-is Convert = converted-reply (replayOf x .pending)

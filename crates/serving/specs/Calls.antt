@@ -5,9 +5,11 @@ use mathlib.Core.Bool.{Bool, true, _&&_, _||_, cond}
 use Prim.Native.Nat.{ℕ, _+_, _*_}
 use lib.Dec.{eqb, ltb}
 use lib.ListN.{length, getD, set, take}
+use Rattle.frame.specs.declared.Edition.{Edition}
+use Rattle.frame.specs.declared.Edition.the-variants as edition
 use Rattle.frame.specs.declared.Host.{Host}
 use Rattle.frame.specs.declared.ObjectId.{ObjectId}
-use Rattle.frame.specs.Frame.{valueMax, put, delete, Frame, change, commit, abort, frameLen, deleteLen, endLen, encode, buffer}
+use Rattle.frame.specs.Frame.{valueMax, put, delete, Frame, change, commit, abort, frameLen, deleteLen, endLen, encode, buffer, editionNumber}
 use Rattle.survey.specs.declared.Survey.{Survey}
 use Rattle.journal.specs.Block.{headerLen, lastTime}
 use Rattle.journal.specs.Room.{one}
@@ -16,14 +18,14 @@ use Rattle.wire.specs.declared.Answer.the-variants.{Done, More, Refused}
 use Rattle.wire.specs.declared.Refusal.{Refusal}
 use Rattle.wire.specs.declared.Refusal.the-variants as refusal
 use Rattle.wire.specs.declared.Request.{Request}
-use Rattle.wire.specs.declared.Request.the-variants.{Put, Delete, Commit, Abort, Read, Log}
+use Rattle.wire.specs.declared.Request.the-variants.{Put, Delete, Commit, Abort, Read, Log, Convert}
 use Rattle.wire.specs.Message.{valueIn, pageLen, logPage}
 use Rattle.wire.specs.Code.{pageInto}
 use Rattle.board.specs.declared.Phase.the-variants.{Idle}
 use Rattle.board.specs.declared.Job.{Job}
 use Rattle.board.specs.declared.Rest.{Rest}
 use Rattle.board.specs.declared.Record.{Record}
-use Rattle.board.specs.Record.{noWipes, noFrame, starting, counting, Out}
+use Rattle.board.specs.Record.{zeroEach, noWipes, noFrame, starting, counting, Out}
 use Rattle.board.specs.Mount.{nextBlock, newTime}
 use Rattle.job.specs.declared.records.Numbers.{Numbers}
 use Rattle.job.specs.declared.records.Stepped.{Stepped}
@@ -74,11 +76,16 @@ openWith h p = openFor (h .0) 0 p + openFor (h .0) 1 p + openFor (h .0) 2 p + op
 abbrev pub claimedIn : Survey → ℕ
 claimedIn s = s .used + sumOf (s .pending)
 
+-- U in the second edition: four bytes more for each object of the first
+abbrev pub secondIn : Edition → Survey → ℕ
+secondIn edition.First s = s .used + 4 * s .count
+secondIn edition.Second s = s .used
+
 -- ---- the requests
 
--- C + n + 6·open + spare > S
+-- C + n + 6·open + spare > S; K9: "10 for each 6"
 unfoldable pub noRoomIn : ℕ → Survey → Host → ℕ → ℕ → Bool
-noRoomIn size s h n spare = ltb size (claimedIn s + n + endLen * openWith h (s .pending) + spare)
+noRoomIn size s h n spare = ltb size (claimedIn s + n + endLen (s .edition) * openWith h (s .pending) + spare)
 
 abbrev pub appendPlan : Rest → Survey → Bool → ℕ → Job
 appendPlan z s moves n =
@@ -91,6 +98,7 @@ appendPlan z s moves n =
       time = newTime moves (s .time);
       since = s .since;
       size = n;
+      edition = editionNumber (s .edition);
     }
 
 -- a frame of n bytes, with which each host has so much pending
@@ -111,7 +119,7 @@ changeIn size z s h n spare =
     (cond (noRoomIn size s h n spare) (refused refusal.NoRoom z) (appendIn size z s n (set (s .pending) (h .0) (bytesWith s h n))))
 
 unfoldable pub endIn : ℕ → Rest → Survey → Host → Stepped
-endIn size z s h = cond (ltb 0 (getD (s .pending) (h .0) 0)) (appendIn size z s endLen (set (s .pending) (h .0) 0)) (done z)
+endIn size z s h = cond (ltb 0 (getD (s .pending) (h .0) 0)) (appendIn size z s (endLen (s .edition)) (set (s .pending) (h .0) 0)) (done z)
 
 unfoldable pub readIn : Rest → List ℕ → ObjectId → Stepped
 readIn z places i = cond (eqb (getD places (i .0) 0) 0) (refused refusal.NoObject z) (done z)
@@ -119,26 +127,55 @@ readIn z places i = cond (eqb (getD places (i .0) 0) 0) (refused refusal.NoObjec
 unfoldable pub logIn : Rest → List ℕ → Stepped
 logIn z reply = cond (ltb (length reply) pageLen) (refused refusal.ShortReply z) (done z)
 
+abbrev pub convertPlan : Rest → Survey → Job
+convertPlan z s =
+    record {
+      wipe = noWipes;
+      wipes = 0;
+      moves = true;
+      drops = true;
+      target = nextBlock (z .blocks) (z .block);
+      time = newTime true (s .time);
+      since = zeroEach;
+      size = 0;
+      edition = 2;
+    }
+
+-- 6, else a transfer to the second edition; nothing to do if the store is there
+unfoldable pub convertBy : Rest → Survey → Edition → Stepped
+convertBy z s edition.First =
+    cond (eqb (s .time) lastTime) (refused refusal.Worn z) (begins z (convertPlan z s) (starting 0 (s .end)))
+convertBy z s edition.Second = done z
+
+-- 16, then 7
+unfoldable pub convertIn : ℕ → Rest → Survey → Stepped
+convertIn size z s =
+    cond (ltb 0 (sumOf (s .pending))) (refused refusal.Pending z)
+    (cond (ltb size (secondIn (s .edition) s)) (refused refusal.NoRoom z) (convertBy z s (s .edition)))
+
 abbrev pub serveIn : ℕ → Rest → List ℕ → Host → List ℕ → Survey → List ℕ → Request → Stepped
-serveIn size z reply h m s places (Put i) = changeIn size z s h (frameLen (change h (put i (valueIn m)))) (deleteLen + endLen)
-serveIn size z reply h m s places (Delete i) = changeIn size z s h deleteLen 0
+serveIn size z reply h m s places (Put i) =
+    let ed : Edition = s .edition in changeIn size z s h (frameLen ed (change h (put i (valueIn m)))) (deleteLen ed + endLen ed)
+serveIn size z reply h m s places (Delete i) = changeIn size z s h (deleteLen (s .edition)) 0
 serveIn size z reply h m s places Commit = endIn size z s h
 serveIn size z reply h m s places Abort = endIn size z s h
 serveIn size z reply h m s places (Read i) = readIn z places i
 serveIn size z reply h m s places (Log p) = logIn z reply
+serveIn size z reply h m s places Convert = convertIn size z s
 
 -- the bytes of a frame
-abbrev pub bytesOf : Frame → List ℕ
-bytesOf f = buffer (encode f)
+abbrev pub bytesOf : Edition → Frame → List ℕ
+bytesOf ed f = buffer (encode ed f)
 
--- the frame to append, in a buffer that stays where there is none
-abbrev pub frameIn : Host → List ℕ → Request → List ℕ → List ℕ
-frameIn h m (Put i) g = bytesOf (change h (put i (take valueMax (valueIn m))))
-frameIn h m (Delete i) g = bytesOf (change h (delete i))
-frameIn h m Commit g = bytesOf (commit h)
-frameIn h m Abort g = bytesOf (abort h)
-frameIn h m (Read i) g = g
-frameIn h m (Log p) g = g
+-- the frame to append, in a buffer that stays for a read and a log; a convert appends none
+abbrev pub frameIn : Edition → Host → List ℕ → Request → List ℕ → List ℕ
+frameIn ed h m (Put i) g = bytesOf ed (change h (put i (take valueMax (valueIn m))))
+frameIn ed h m (Delete i) g = bytesOf ed (change h (delete i))
+frameIn ed h m Commit g = bytesOf ed (commit h)
+frameIn ed h m Abort g = bytesOf ed (abort h)
+frameIn ed h m (Read i) g = g
+frameIn ed h m (Log p) g = g
+frameIn ed h m Convert g = noFrame
 
 abbrev pub replyLog : ℕ → Survey → List ℕ → List ℕ
 replyLog size s reply = pageInto (logPage (s .time) (s .count) (s .used) size) reply
@@ -150,3 +187,4 @@ replyIn size s reply Commit = reply
 replyIn size s reply Abort = reply
 replyIn size s reply (Read i) = reply
 replyIn size s reply (Log p) = replyLog size s reply
+replyIn size s reply Convert = reply

@@ -1,10 +1,11 @@
 // The requests, once nothing earlier refuses them.
 ghost use mathlib.Core.Path.{_≡_};
 ghost use lib.ListN.{getD};
+ghost use Rattle.frame.specs.declared.Edition.the-variants as edition;
 ghost use Rattle.wire.specs.declared.Parsed.the-variants.{Is};
 ghost use Rattle.wire.specs.Message.{parse};
 ghost use Rattle.board.specs.Record.{counting};
-ghost use Rattle.serving.specs.Calls.{done, refused, appendIn, changeIn, endIn, readIn, logIn, serveIn, replyIn, replyLog, frameIn};
+ghost use Rattle.serving.specs.Calls.{done, refused, appendIn, changeIn, endIn, readIn, logIn, convertIn, convertBy, serveIn, replyIn, replyLog, frameIn};
 
 pub mod room;
 
@@ -12,14 +13,13 @@ use board::Job;
 use board::Phase;
 use board::Rest;
 use flash::MAX_BLOCKS;
-use frame::DELETE_LEN;
-use frame::END_LEN;
+use frame::BUFFER_LEN;
+use frame::Edition;
 use frame::Head;
 use frame::Host;
-use frame::MAX_FRAME;
 use frame::ObjectId;
-use frame::PUT_LEN;
 use job::records;
+use job::records::LAST_TIME;
 use job::records::Stepped;
 use looks::image;
 use looks::surveys;
@@ -28,9 +28,6 @@ use wire::Answer;
 use wire::Page;
 use wire::Refusal;
 use wire::Request;
-
-// What a put leaves room for: a delete and a commit.
-const SPARE: u8 = DELETE_LEN + END_LEN;
 
 // Nothing began: what is to be answered.
 fn done(rest: Rest) -> Stepped
@@ -66,6 +63,7 @@ fn counting(rest: Rest, pending: [u16; 4]) -> Rest
         block: rest.block,
         end: rest.end,
         pending: pending,
+        edition: rest.edition,
     }
 }
 
@@ -78,6 +76,7 @@ fn append(size: usize, rest: Rest, s: Survey, n: u8, pending: [u16; 4]) -> Stepp
         return refused(Refusal::Worn, rest);
     }
     let since = s.since;
+    let edition = s.edition;
     let job = Job {
         wipe: [0; MAX_BLOCKS],
         wipes: 0,
@@ -87,6 +86,7 @@ fn append(size: usize, rest: Rest, s: Survey, n: u8, pending: [u16; 4]) -> Stepp
         time: surveys::new_time(moves, s.time),
         since: since,
         size: n,
+        edition: frame::edition_number(edition),
     };
     records::begin(
         counting(rest, pending),
@@ -119,7 +119,14 @@ fn serve_end(size: usize, rest: Rest, s: Survey, host: Host) -> Stepped
     if fetch::of_host(p, host) == 0 {
         return done(rest);
     }
-    append(size, rest, s, END_LEN, fetch::with_host(p, host, 0))
+    let edition = s.edition;
+    append(
+        size,
+        rest,
+        s,
+        room::end_len(edition),
+        fetch::with_host(p, host, 0),
+    )
 }
 
 fn serve_read(rest: Rest, places: &[u16; 256], id: ObjectId) -> Stepped
@@ -145,18 +152,64 @@ fn serve_log(size: u16, rest: Rest, s: Survey, page: Page, reply: &mut [u8]) -> 
     }
 }
 
-// The frame that a message asks to append; none for a read or a log.
-fn lay_frame(host: Host, message: &[u8], ask: Request, frame: &mut [u8; MAX_FRAME])
-    ensures { λ r. ⌜ now (frame .exit) ≡ frameIn host (now (message .entry)) ask (now (frame .entry)) ⌝ }
+// A transfer takes the store to the second edition. Nothing is pending: it starts to look for pending frames at the end.
+fn convert(rest: Rest, s: Survey) -> Stepped
+    ensures { λ r. ⌜ r ≡ convertBy rest s edition.First ⌝ }
+{
+    if s.time == LAST_TIME {
+        return refused(Refusal::Worn, rest);
+    }
+    let job = Job {
+        wipe: [0; MAX_BLOCKS],
+        wipes: 0,
+        moves: true,
+        drops: true,
+        target: image::next_block(rest.blocks, rest.block),
+        time: s.time + 1,
+        since: [0; 4],
+        size: 0,
+        edition: frame::edition_number(Edition::Second),
+    };
+    records::begin(rest, job, records::starting(0, s.end))
+}
+
+// With something pending a store stays as it is.
+fn serve_convert(size: usize, rest: Rest, s: Survey) -> Stepped
+    ensures { λ r. ⌜ r ≡ convertIn size rest s ⌝ }
+{
+    let p = s.pending;
+    if 0 < surveys::sum(p) {
+        return refused(Refusal::Pending, rest);
+    }
+    if size < room::used_second(s) {
+        return refused(Refusal::NoRoom, rest);
+    }
+    let edition = s.edition;
+    match edition {
+        Edition::First => return convert(rest, s),
+        Edition::Second => return done(rest),
+    }
+}
+
+// The frame that a message asks to append, none for a convert; for a read or a log the buffer stays.
+fn lay_frame(
+    edition: Edition,
+    host: Host,
+    message: &[u8],
+    ask: Request,
+    frame: &mut [u8; BUFFER_LEN],
+)
+    ensures { λ r. ⌜ now (frame .exit) ≡ frameIn edition host (now (message .entry)) ask (now (frame .entry)) ⌝ }
 {
     let value = wire::value(message);
     match ask {
-        Request::Put(id) => *frame = frame::encode_frame(Head::Put(host, id, 0), value),
-        Request::Delete(id) => *frame = frame::encode_frame(Head::Delete(host, id), value),
-        Request::Commit => *frame = frame::encode_frame(Head::Commit(host), value),
-        Request::Abort => *frame = frame::encode_frame(Head::Abort(host), value),
+        Request::Put(id) => *frame = frame::encode_frame(edition, Head::Put(host, id, 0), value),
+        Request::Delete(id) => *frame = frame::encode_frame(edition, Head::Delete(host, id), value),
+        Request::Commit => *frame = frame::encode_frame(edition, Head::Commit(host), value),
+        Request::Abort => *frame = frame::encode_frame(edition, Head::Abort(host), value),
         Request::Read(_) => return,
         Request::Log(_) => return,
+        Request::Convert => *frame = records::no_frame(),
     }
 }
 
@@ -169,25 +222,29 @@ pub fn serve(
     reply: &mut [u8],
     s: Survey,
     places: &[u16; 256],
-    frame: &mut [u8; MAX_FRAME],
+    frame: &mut [u8; BUFFER_LEN],
     ask: Request,
 ) -> Stepped
     requires { ⌜ parse (now message) ≡ Is ask ⌝ }
     ensures { λ r. ⌜ (r ≡ serveIn size rest (now (reply .entry)) host (now (message .entry)) s (now (places .entry)) ask)
         × (now (reply .exit) ≡ replyIn size s (now (reply .entry)) ask)
-        × (now (frame .exit) ≡ frameIn host (now (message .entry)) ask (now (frame .entry))) ⌝ }
+        × (now (frame .exit) ≡ frameIn (s .edition) host (now (message .entry)) ask (now (frame .entry))) ⌝ }
 {
-    lay_frame(host, message, ask, frame);
+    let edition = s.edition;
+    let n = room::change_len(edition);
+    lay_frame(edition, host, message, ask, frame);
     let room = size as usize;
     match ask {
         Request::Put(_) => {
-            let n = PUT_LEN + wire::value(message).len() as u8;
-            return serve_change(size, rest, s, host, n, SPARE);
+            let v = wire::value(message).len() as u8;
+            // it leaves room for a delete and a commit
+            return serve_change(size, rest, s, host, n + v, n + room::end_len(edition));
         }
-        Request::Delete(_) => return serve_change(size, rest, s, host, DELETE_LEN, 0),
+        Request::Delete(_) => return serve_change(size, rest, s, host, n, 0),
         Request::Commit => return serve_end(room, rest, s, host),
         Request::Abort => return serve_end(room, rest, s, host),
         Request::Read(id) => return serve_read(rest, places, id),
         Request::Log(page) => return serve_log(size, rest, s, page, reply),
+        Request::Convert => return serve_convert(room, rest, s),
     }
 }

@@ -3,14 +3,29 @@ ghost use mathlib.Core.Path.{_≡_};
 ghost use mathlib.Core.Bool.{_||_};
 ghost use Prim.Native.Nat.{_≤_};
 ghost use lib.Dec.{eqb, ltb};
+ghost use Rattle.frame.specs.Frame.{deleteLen, endLen};
 ghost use Rattle.journal.specs.Room.{one};
-ghost use Rattle.serving.specs.Calls.{claimedIn, openIn, openWith, noRoomIn};
+ghost use Rattle.serving.specs.Calls.{claimedIn, secondIn, openIn, openWith, noRoomIn};
+use frame::DELETE_LEN;
 use frame::END_LEN;
+use frame::Edition;
 use frame::Host;
 use looks::surveys;
 use survey::Survey;
 
-pub const END: usize = END_LEN as usize;
+// The length of a commit or an abort.
+pub fn end_len(edition: Edition) -> u8
+    ensures { λ r. ⌜ (r ≡ endLen edition) × (r ≤ 10) ⌝ }
+{
+    END_LEN + frame::check_len(edition)
+}
+
+// The length of a delete, and of a put without its value.
+pub fn change_len(edition: Edition) -> u8
+    ensures { λ r. ⌜ (r ≡ deleteLen edition) × (r ≤ 12) ⌝ }
+{
+    DELETE_LEN + frame::check_len(edition)
+}
 
 // C.
 pub fn claimed(s: Survey) -> usize
@@ -18,6 +33,17 @@ pub fn claimed(s: Survey) -> usize
 {
     let p = s.pending;
     s.used as usize + surveys::sum(p)
+}
+
+// U in the second edition, in which each object's frame has a check.
+pub fn used_second(s: Survey) -> usize
+    ensures { λ r. ⌜ r ≡ secondIn (s .edition) s ⌝ }
+{
+    let edition = s.edition;
+    match edition {
+        Edition::First => s.used as usize + 4 * s.count as usize,
+        Edition::Second => s.used as usize,
+    }
 }
 
 // 1 for a host with pending bytes.
@@ -56,5 +82,6 @@ pub fn no_room(size: usize, s: Survey, host: Host, n: u8, spare: u8) -> bool
     ensures { λ r. ⌜ r ≡ noRoomIn size s host n spare ⌝ }
 {
     let p = s.pending;
-    size < claimed(s) + n as usize + END * open_with(host, p) + spare as usize
+    let edition = s.edition;
+    size < claimed(s) + n as usize + end_len(edition) as usize * open_with(host, p) + spare as usize
 }

@@ -10,7 +10,6 @@ use borrow.Author.Tests.{lt-ltb, le-ltb}
 use Rattle.flash.specs.Flash.{blockNumbers, sizeOf}
 use Rattle.flash.proofs.Cases.{on-test}
 use Rattle.journal.specs.Block.{lastTime}
-use Rattle.journal.specs.Index.{placesOf}
 use Rattle.wire.specs.declared.Refusal.{Refusal}
 use Rattle.wire.specs.declared.Refusal.the-variants as refusal
 use Rattle.board.specs.declared.Stage.the-variants.{Wipe, Open, Append}
@@ -18,7 +17,7 @@ use Rattle.board.specs.declared.Phase.the-variants.{Busy}
 use Rattle.board.specs.declared.Job.{Job}
 use Rattle.board.specs.declared.Cursor.{Cursor}
 use Rattle.board.specs.declared.Rest.{Rest}
-use Rattle.board.specs.Record.{allowed, noPlaces, noMarks, noFrame, unmounted, rest, starting, busyWith, Out, refuse}
+use Rattle.board.specs.Record.{allowed, noPlaces, zeroEach, noFrame, unmounted, rest, starting, busyWith, Out, refuse}
 use Rattle.board.specs.Step.{first, begin}
 use Rattle.board.specs.Mount.{nextBlock, Found, allFound, Store, stores, equalTimes, newest, tied, wipeList, upkeep, transfers, noneValid, lowestTied, timeOf}
 use Rattle.board.specs.Mount.{tiedTimes, mountAt, mountStores, mountOn, numbersBut, orderFor, formatOrder, formatOn}
@@ -35,7 +34,7 @@ use Rattle.looks.specs.declared.looks.Newest.{Newest}
 use Rattle.looks.specs.declared.looks.Tie.{Tie}
 use Rattle.looks.specs.declared.looks.Seen.{Seen}
 use Rattle.store.specs.Calls.{made, ends, Gives, refused}
-use Rattle.looks.specs.Seen.{erasesOf, othersIn, newestIn, tieIn, placesFor, Sees}
+use Rattle.looks.specs.Seen.{erasesOf, othersIn, newestIn, tieIn, storePlaces, placesFor, Sees}
 use Rattle.store.specs.Mounts.{mountPlan, mountIn, mountSeen, lastErased, orderBy}
 use Rattle.store.proofs.Ordering.{but-none}
 use Rattle.looks.proofs.Looked.{stateAt}
@@ -111,19 +110,19 @@ module _ (N : ℕ) (img p : List ℕ) where
       cond (w .valid) (cond (t .equal) (refused (tiedTimes (t .lowest))) (mountIn N l w (erasesOf (others (w .number))))) (refused why)
 
   mount-with : (xs : List Found) (y : Store) (ys : List Store)
-      → Came (placesOf (newest y ys .journal .frames)) (mountIn N l (newestIn (y ∷ ys)) (erasesOf (wipeList (newest y ys .number) xs)))
+      → Came (storePlaces (newest y ys)) (mountIn N l (newestIn (y ∷ ys)) (erasesOf (wipeList (newest y ys .number) xs)))
       (mountAt N img xs (newest y ys))
   unfolding mountIn mountAt noFrame
   mount-with xs y ys =
       let x : Store = newest y ys in
-      came-if (placesOf (x .journal .frames)) (transfers (upkeep x) && eqb (timeOf x) lastTime) (refusing img _ refusal.Worn)
-      (beginning img (placesOf (x .journal .frames)) _ _ _)
+      came-if (storePlaces x) (transfers (upkeep x) && eqb (timeOf x) lastTime) (refusing img _ refusal.Worn)
+      (beginning img (storePlaces x) _ _ _)
 
   mounts-stores : (xs : List Found) (ys : List Store) (others : ℕ → List ℕ) → ((c : ℕ) → others c ≡ wipeList c xs)
       → Came (placesFor p ys) (kept (newestIn ys) (tieIn ys) (noneValid xs) others) (mountStores N img xs ys)
   mounts-stores xs [] others e = refusing img p (noneValid xs)
   mounts-stores xs (y ∷ ys) others e =
-      rw (e (newest y ys .number)) (came-if (placesOf (newest y ys .journal .frames)) (equalTimes (y ∷ ys)) (refusing img _ (tiedTimes (lowestTied (y ∷ ys))))
+      rw (e (newest y ys .number)) (came-if (storePlaces (newest y ys)) (equalTimes (y ∷ ys)) (refusing img _ (tiedTimes (lowestTied (y ∷ ys))))
       (mount-with xs y ys))
 
   pub mount-is : {z : Seen} {q : List ℕ} → allowed N (length img) ≡ true → Sees N img p z q
@@ -143,7 +142,7 @@ module _ (N : ℕ) (img p : List ℕ) where
 -- b is what the test for the last time gave
 module _ (N l : ℕ) (w : Newest) (es : Erases) (b : Bool) (e : b ≡ (w .moves && eqb (w .time) lastTime)) where
   abbrev begun : Stepped
-  begun = begins (rest N l (w .number) (w .end)) (mountPlan N w es) (starting 0 (w .end))
+  begun = begins (rest N l (w .number) (w .end) (w .edition)) (mountPlan N w es) (starting 0 (w .end))
 
   pub mount-worn : b ≡ true → refused refusal.Worn ≡ mountIn N l w es
   unfolding mountIn
@@ -173,8 +172,8 @@ order-is {N} {img} {p} {z} x =
 
 abbrev formatFrom : ℕ → List ℕ → Erases → Stepped
 formatFrom N img es =
-    begins (rest N (length img - 1) (nextBlock N 0) 16)
-    (record { wipe = es .wipe; wipes = es .count; moves = true; drops = false; target = 0; time = 1; since = noMarks; size = 0 })
+    begins (rest N (length img - 1) (nextBlock N 0) 16 1)
+    (record { wipe = es .wipe; wipes = es .count; moves = true; drops = false; target = 0; time = 1; since = zeroEach; size = 0; edition = 1 })
     (starting 256 16)
 
 pub format-is : (N : ℕ) (img : List ℕ) (es : Erases) → allowed N (length img) ≡ true → es ≡ erasesOf (formatOrder N img)

@@ -7,7 +7,7 @@ use Rattle.flash.specs.Flash.{blockNumbers}
 use Rattle.journal.specs.Block.{lastTime}
 use Rattle.wire.specs.declared.Refusal.the-variants as refusal
 use Rattle.board.specs.declared.Job.{Job}
-use Rattle.board.specs.Record.{noMarks, rest, starting}
+use Rattle.board.specs.Record.{zeroEach, rest, starting}
 use Rattle.board.specs.Mount.{nextBlock, newTime, tiedTimes, numbersBut}
 use Rattle.job.specs.declared.records.Stepped.{Stepped}
 use Rattle.job.specs.Code.{begins}
@@ -28,15 +28,16 @@ mountPlan N w l =
       drops = true;
       target = nextBlock N (w .number);
       time = newTime (w .moves) (w .time);
-      since = noMarks;
+      since = zeroEach;
       size = 0;
+      edition = w .edition;
     }
 
 -- the block that is taken, and the blocks to erase
 unfoldable pub mountIn : ℕ → ℕ → Newest → Erases → Stepped
 mountIn N l w es =
     cond (w .moves && eqb (w .time) lastTime) (refused refusal.Worn)
-    (begins (rest N l (w .number) (w .end)) (mountPlan N w es) (starting 0 (w .end)))
+    (begins (rest N l (w .number) (w .end) (w .edition)) (mountPlan N w es) (starting 0 (w .end)))
 
 unfoldable pub mountSeen : ℕ → ℕ → Seen → Stepped
 mountSeen N l z =

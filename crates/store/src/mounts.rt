@@ -31,11 +31,14 @@ use wire::Refusal;
 // Past the last id: nothing is copied.
 const PAST_IDS: u16 = ID_MAX as u16 + 1;
 
+// The number of the edition that a format writes.
+const FORMATS: u8 = 1;
+
 // A refusal: the record is unmounted.
 fn refused(why: Refusal) -> Stepped
     ensures { λ r. ⌜ r ≡ refused why ⌝ }
 {
-    let rest = records::standing(0, 0, 0, 0);
+    let rest = records::standing(0, 0, 0, 0, 0);
     records::at_rest(Answer::Refused(why), Phase::Unmounted, rest)
 }
 
@@ -83,8 +86,9 @@ fn mount_at(blocks: u8, last: u16, w: Newest, list: Erases) -> Stepped
         time: surveys::new_time(w.moves, w.time),
         since: [0; 4],
         size: 0,
+        edition: w.edition,
     };
-    let rest = records::standing(blocks, last, w.number, w.end);
+    let rest = records::standing(blocks, last, w.number, w.end, w.edition);
     records::begin(rest, job, records::starting(0, w.end))
 }
 
@@ -189,9 +193,16 @@ pub fn format_core(image: &[u8], blocks: u8) -> Stepped
         time: 1,
         since: [0; 4],
         size: 0,
+        edition: FORMATS,
     };
     let last = (image.len() - 1) as u16;
-    let rest = records::standing(blocks, last, image::next_block(blocks, 0), records::START);
+    let rest = records::standing(
+        blocks,
+        last,
+        image::next_block(blocks, 0),
+        records::START,
+        FORMATS,
+    );
     records::begin(rest, job, records::starting(PAST_IDS, records::START))
 }
 

@@ -1,8 +1,8 @@
 -- What the code of a header tests, and which field is then the first bad one.
-use mathlib.Core.Path.{_≡_, refl, sym, _∙_}
+use mathlib.Core.Path.{_≡_, refl, sym, ap, _∙_}
 use mathlib.Core.List.{List, [], _∷_}
 use mathlib.Core.Option.{none, some}
-use mathlib.Core.Bool.{true, false}
+use mathlib.Core.Bool.{Bool, true, false}
 use Prim.Native.Nat.{ℕ, suc, _+_, _-_, _≤_, _<_}
 use native.Mathlib.Omega.{arith}
 use native.Mathlib.Numerals.{add-one}
@@ -12,9 +12,12 @@ use lib.Seq.{drop-cons, take-all}
 use borrow.Author.Tests.{eq-eqb, ne-eqb}
 use Rattle.flash.specs.Bytes.{u16le, allFF, sameBytes}
 use Rattle.flash.proofs.Cases.{on-test}
+use Rattle.frame.specs.declared.Edition.{Edition}
+use Rattle.frame.specs.declared.Edition.the-variants as edition
 use Rattle.frame.specs.declared.Field.the-variants as field
+use Rattle.frame.specs.Frame.{editionNumber}
 use Rattle.frame.specs.Reader.{fault}
-use Rattle.journal.specs.Block.{headerLen, headerKind, stateAt, validData, createdAt, headerFault}
+use Rattle.journal.specs.Block.{headerLen, headerKind, stateAt, validData, createdAt, editionIn, headerFault}
 
 -- ---- two bytes at a place
 
@@ -51,6 +54,25 @@ pub spare-some : (s : List ℕ) (n : ℕ) → length s < 16 → n ≡ length s -
 spare-some s n h e =
     take-all n (drop 9 s) (rw (length-drop 9 s) (omega arith)) ∙ sym (take-all 7 (drop 9 s) (rw (length-drop 9 s) (omega arith)))
 
+-- ---- the kind
+
+module _ (b : List ℕ) where
+  pub edition-second : sameBytes (take 2 (drop 2 b)) (u16le (headerKind edition.Second)) ≡ true → editionIn b ≡ edition.Second
+  unfolding editionIn
+  edition-second p = rw (p, editionIn)
+
+  pub edition-first : sameBytes (take 2 (drop 2 b)) (u16le (headerKind edition.Second)) ≡ false → editionIn b ≡ edition.First
+  unfolding editionIn
+  edition-first p = rw (p, editionIn)
+
+  pub kind-by : (ed : Edition) (v : Bool) → ed ≡ editionIn b → sameBytes (take 2 (drop 2 b)) (u16le (headerKind ed)) ≡ v
+      → sameBytes (take 2 (drop 2 b)) (u16le (headerKind (editionIn b))) ≡ v
+  kind-by ed v e q = ap (λ (x : Edition). sameBytes (take 2 (drop 2 b)) (u16le (headerKind x))) (sym e) ∙ q
+
+pub kind-bytes : (ed : Edition) → u16le (headerKind ed) ≡ editionNumber ed ∷ 0x4A ∷ []
+kind-bytes edition.First = refl
+kind-bytes edition.Second = refl
+
 -- ---- the first bad field
 
 module _ (b : List ℕ) where
@@ -59,11 +81,11 @@ module _ (b : List ℕ) where
   fault-length p = rw (p, headerFault)
 
   module _ (p : sameBytes (take 2 b) (u16le headerLen) ≡ true) where
-    pub fault-kind : sameBytes (take 2 (drop 2 b)) (u16le headerKind) ≡ false → headerFault b ≡ some (fault field.Kind 2)
+    pub fault-kind : sameBytes (take 2 (drop 2 b)) (u16le (headerKind (editionIn b))) ≡ false → headerFault b ≡ some (fault field.Kind 2)
     unfolding headerFault
     fault-kind q = rw (p, q, headerFault)
 
-    module _ (q : sameBytes (take 2 (drop 2 b)) (u16le headerKind) ≡ true) where
+    module _ (q : sameBytes (take 2 (drop 2 b)) (u16le (headerKind (editionIn b))) ≡ true) where
       pub fault-created : eqb (createdAt b) 0 ≡ true → headerFault b ≡ some (fault field.Created 4)
       unfolding headerFault
       fault-created r = rw (p, q, r, headerFault)

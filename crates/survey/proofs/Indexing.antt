@@ -10,11 +10,12 @@ use lib.ListN.{getD, set, length-set}
 use lib.Seq.{ext-getD, getD-set-same, getD-set-other}
 use borrow.Author.Tests.{eqb-true, eqb-false, eq-eqb, ne-eqb, lt-leb}
 use Rattle.flash.proofs.Cases.{on-test, and-no-right}
+use Rattle.frame.specs.declared.Edition.{Edition}
 use Rattle.frame.specs.declared.Host.{Host}
 use Rattle.frame.specs.declared.ObjectId.{ObjectId}
 use Rattle.frame.specs.Frame.{idOf, hostOf, ChangeOf, Change, put, delete, FrameOf, Frame, change, commit, abort, settled, mapChange}
 use Rattle.frame.specs.Frame.{mapFrame, frameLen, total, MayStand, AllMayStand, nextOf}
-use Rattle.frame.proofs.First.{total-snoc}
+use Rattle.frame.proofs.Encode.{total-snoc}
 use Rattle.journal.specs.Block.{headerLen}
 use Rattle.journal.specs.Replay.{ObjectOf, object, EntryOf, StateOf, insert, remove, lookup, change1, changeAll, listOf, nextState, replay}
 use Rattle.journal.specs.Index.{sited, orZero, placesFrom, placesOf, isEnd, pick, sinceFrom, sinceHost}
@@ -79,40 +80,41 @@ commit-change h g since o c es t =
     (λ v. let w : leb (since g) o ≡ false = ap (λ (n : ℕ). leb n o) q ∙ v in rw (u, v, w, changeAt)))
     (λ u. on-test (leb (since g) o) (λ w. rw (u, w, changeAt) (rw (u, listOf))) (λ w. rw (u, w, changeAt)))
 
-commit-pass : (h : Host) (since : Host → ℕ) (o : ℕ) (t : List ℕ) (fs : List Frame)
-    → placeChanges (listOf h (entriesOf offsetThere since o fs)) t ≡ commitPlaces h (since h) o t fs
+commit-pass : (ed : Edition) (h : Host) (since : Host → ℕ) (o : ℕ) (t : List ℕ) (fs : List Frame)
+    → placeChanges (listOf h (entriesOf ed offsetThere since o fs)) t ≡ commitPlaces ed h (since h) o t fs
 unfolding entriesOf listOf placeChanges commitPlaces
-commit-pass h since o t [] = refl
-commit-pass h since o t (change g c ∷ fs) =
-    let n : ℕ = o + frameLen (change g c) in
-    commit-change h g since o c (entriesOf offsetThere since n fs) t ∙ commit-pass h since n (placeFrame h (since h) o (change g c) t) fs
-commit-pass h since o t (commit g ∷ fs) = commit-pass h since (o + frameLen (commit g)) t fs
-commit-pass h since o t (abort g ∷ fs) = commit-pass h since (o + frameLen (abort g)) t fs
-commit-pass h since o t (settled i v ∷ fs) = commit-pass h since (o + frameLen (settled i v)) t fs
+commit-pass ed h since o t [] = refl
+commit-pass ed h since o t (change g c ∷ fs) =
+    let n : ℕ = o + frameLen ed (change g c) in
+    commit-change h g since o c (entriesOf ed offsetThere since n fs) t ∙ commit-pass ed h since n (placeFrame h (since h) o (change g c) t) fs
+commit-pass ed h since o t (commit g ∷ fs) = commit-pass ed h since (o + frameLen ed (commit g)) t fs
+commit-pass ed h since o t (abort g ∷ fs) = commit-pass ed h since (o + frameLen ed (abort g)) t fs
+commit-pass ed h since o t (settled i v ∷ fs) = commit-pass ed h since (o + frameLen ed (settled i v)) t fs
 
 -- ---- the table after one frame more
 
-sited-snoc : (fs : List Frame) (f : Frame) → replay (sited headerLen (fs ++ (f ∷ []))) ≡ nextState (replay (sited headerLen fs))
-    (mapFrame (λ v. headerLen + total fs) f)
-sited-snoc fs f =
-    let o : ℕ = headerLen + total fs in
-    ap replay (located-sited headerLen (fs ++ (f ∷ [])) ∙ located-snoc offsetThere headerLen fs f
-    ∙ ap (λ (x : List (FrameOf ℕ)). x ++ (mapFrame (λ v. o) f ∷ [])) (sym (located-sited headerLen fs)))
-    ∙ replay-snoc (sited headerLen fs) (mapFrame (λ v. o) f)
+sited-snoc : (ed : Edition) (fs : List Frame) (f : Frame) → replay (sited ed headerLen (fs ++ (f ∷ []))) ≡ nextState (replay (sited ed headerLen fs))
+    (mapFrame (λ v. headerLen + total ed fs) f)
+sited-snoc ed fs f =
+    let o : ℕ = headerLen + total ed fs in
+    ap replay (located-sited ed headerLen (fs ++ (f ∷ [])) ∙ located-snoc ed offsetThere headerLen fs f
+    ∙ ap (λ (x : List (FrameOf ℕ)). x ++ (mapFrame (λ v. o) f ∷ [])) (sym (located-sited ed headerLen fs)))
+    ∙ replay-snoc (sited ed headerLen fs) (mapFrame (λ v. o) f)
 
-pub places-change : (fs : List Frame) (h : Host) (c : Change) → placesOf (fs ++ (change h c ∷ [])) ≡ placesOf fs
-places-change fs h c = ap (λ (s : StateOf ℕ). table (s .objects)) (sited-snoc fs (change h c))
+pub places-change : (ed : Edition) (fs : List Frame) (h : Host) (c : Change) → placesOf ed (fs ++ (change h c ∷ [])) ≡ placesOf ed fs
+places-change ed fs h c = ap (λ (s : StateOf ℕ). table (s .objects)) (sited-snoc ed fs (change h c))
 
-pub places-abort : (fs : List Frame) (h : Host) → placesOf (fs ++ (abort h ∷ [])) ≡ placesOf fs
-places-abort fs h = ap (λ (s : StateOf ℕ). table (s .objects)) (sited-snoc fs (abort h))
+pub places-abort : (ed : Edition) (fs : List Frame) (h : Host) → placesOf ed (fs ++ (abort h ∷ [])) ≡ placesOf ed fs
+places-abort ed fs h = ap (λ (s : StateOf ℕ). table (s .objects)) (sited-snoc ed fs (abort h))
 
-pub places-commit : (fs : List Frame) (h : Host) → placesOf (fs ++ (commit h ∷ [])) ≡ commitPlaces h (sinceHost h fs) headerLen (placesOf fs) fs
-places-commit fs h =
-    let s : StateOf ℕ = replay (sited headerLen fs) in
-    ap (λ (x : StateOf ℕ). table (x .objects)) (sited-snoc fs (commit h)) ∙ table-changes (listOf h (s .pending)) (s .objects)
-    ∙ ap (λ (x : List (EntryOf ℕ)). placeChanges (listOf h x) (placesOf fs))
-    (ap (λ (x : List (FrameOf ℕ)). replay x .pending) (located-sited headerLen fs) ∙ pending-located offsetThere fs)
-    ∙ commit-pass h (sinceIn fs) headerLen (placesOf fs) fs
+pub places-commit : (ed : Edition) (fs : List Frame) (h : Host)
+    → placesOf ed (fs ++ (commit h ∷ [])) ≡ commitPlaces ed h (sinceHost ed h fs) headerLen (placesOf ed fs) fs
+places-commit ed fs h =
+    let s : StateOf ℕ = replay (sited ed headerLen fs) in
+    ap (λ (x : StateOf ℕ). table (x .objects)) (sited-snoc ed fs (commit h)) ∙ table-changes (listOf h (s .pending)) (s .objects)
+    ∙ ap (λ (x : List (EntryOf ℕ)). placeChanges (listOf h x) (placesOf ed fs))
+    (ap (λ (x : List (FrameOf ℕ)). replay x .pending) (located-sited ed headerLen fs) ∙ pending-located ed offsetThere fs)
+    ∙ commit-pass ed h (sinceIn ed fs) headerLen (placesOf ed fs) fs
 
 lookup-snoc : {A : Type 0} (j i : ObjectId) (v : A) (os : List (ObjectOf A)) → (j .0 ≡ i .0 → ⊥) → lookup j (os ++ (object i v ∷ [])) ≡ lookup j os
 unfolding lookup
@@ -130,26 +132,26 @@ lookup-last {A} i v (o ∷ os) n =
     (λ t. let z : _≡_ {A = Option A} (some (o .value)) none = sym (lookup-yes i o os t) ∙ n in let y : _≡_ {A = ℕ} 0 1 = cc in absurd (omega arith))
     (λ t. lookup-no i o (os ++ (object i v ∷ [])) t ∙ lookup-last i v os (sym (lookup-no i o os t) ∙ n))
 
-pub places-settled : (fs : List Frame) (i : ObjectId) (v : List ℕ) → AllMayStand 0 fs → MayStand (nextOf 0 fs) (settled i v)
-    → placesOf (fs ++ (settled i v ∷ [])) ≡ set (placesOf fs) (i .0) (headerLen + total fs)
-places-settled fs i v g (a, b, c) =
-    let o : ℕ = headerLen + total fs in
-    let os : List (ObjectOf ℕ) = replay (sited headerLen fs) .objects in
-    let n : lookup i os ≡ none = sited-none fs i (above-none i 0 (replay fs .objects) (nextOf 0 fs) a (sound-replay fs g .rising)) in
-    ap (λ (s : StateOf ℕ). table (s .objects)) (sited-snoc fs (settled i v))
+pub places-settled : (ed : Edition) (fs : List Frame) (i : ObjectId) (v : List ℕ) → AllMayStand ed 0 fs → MayStand ed (nextOf 0 fs) (settled i v)
+    → placesOf ed (fs ++ (settled i v ∷ [])) ≡ set (placesOf ed fs) (i .0) (headerLen + total ed fs)
+places-settled ed fs i v g (a, b, c) =
+    let o : ℕ = headerLen + total ed fs in
+    let os : List (ObjectOf ℕ) = replay (sited ed headerLen fs) .objects in
+    let n : lookup i os ≡ none = sited-none ed fs i (above-none ed i 0 (replay fs .objects) (nextOf 0 fs) a (sound-replay ed fs g .rising)) in
+    ap (λ (s : StateOf ℕ). table (s .objects)) (sited-snoc ed fs (settled i v))
     ∙ table-set os (os ++ (object i o ∷ [])) i o (ap orZero (lookup-last i o os n)) (λ j d. lookup-snoc j i o os d)
 
 -- ---- where a commit's pass may start
 
 -- `since` lies between two frames
-pub record Boundary (h : Host) (fs : List Frame) : Type 0 where
+pub record Boundary (ed : Edition) (h : Host) (fs : List Frame) : Type 0 where
   pub before : List Frame
   pub after : List Frame
   pub split : fs ≡ before ++ after
-  pub lies : sinceHost h fs ≡ headerLen + total before
+  pub lies : sinceHost ed h fs ≡ headerLen + total ed before
 
-boundary-next : (h : Host) (fs : List Frame) (f : Frame) → Boundary h fs → Boundary h (fs ++ (f ∷ []))
-boundary-next h fs f y =
+boundary-next : (ed : Edition) (h : Host) (fs : List Frame) (f : Frame) → Boundary ed h fs → Boundary ed h (fs ++ (f ∷ []))
+boundary-next ed h fs f y =
     on-test (isEnd h f)
     (λ t.
     record {
@@ -157,24 +159,24 @@ boundary-next h fs f y =
       after = [];
       split = sym (append-nil (fs ++ (f ∷ [])));
       lies =
-          since-snoc h headerLen headerLen fs f ∙ ap (λ (x : Bool). pick x (headerLen + total fs + frameLen f) (sinceHost h fs)) t
-          ∙ omega (arith, total-snoc fs f);
+          since-snoc ed h headerLen headerLen fs f ∙ ap (λ (x : Bool). pick x (headerLen + total ed fs + frameLen ed f) (sinceHost ed h fs)) t
+          ∙ omega (arith, total-snoc ed fs f);
     })
     (λ t.
     record {
       before = y .before;
       after = y .after ++ (f ∷ []);
       split = ap (λ (x : List Frame). x ++ (f ∷ [])) (y .split) ∙ append-assoc (y .before) (y .after) (f ∷ []);
-      lies = since-snoc h headerLen headerLen fs f ∙ ap (λ (x : Bool). pick x (headerLen + total fs + frameLen f) (sinceHost h fs)) t ∙ y .lies;
+      lies = since-snoc ed h headerLen headerLen fs f ∙ ap (λ (x : Bool). pick x (headerLen + total ed fs + frameLen ed f) (sinceHost ed h fs)) t ∙ y .lies;
     })
 
-boundary-all : (h : Host) (fs gs : List Frame) → Boundary h fs → Boundary h (fs ++ gs)
-boundary-all h fs [] y = subst (Boundary h) (sym (append-nil fs)) y
-boundary-all h fs (g ∷ gs) y = subst (Boundary h) (append-assoc fs (g ∷ []) gs) (boundary-all h (fs ++ (g ∷ [])) gs (boundary-next h fs g y))
+boundary-all : (ed : Edition) (h : Host) (fs gs : List Frame) → Boundary ed h fs → Boundary ed h (fs ++ gs)
+boundary-all ed h fs [] y = subst (Boundary ed h) (sym (append-nil fs)) y
+boundary-all ed h fs (g ∷ gs) y = subst (Boundary ed h) (append-assoc fs (g ∷ []) gs) (boundary-all ed h (fs ++ (g ∷ [])) gs (boundary-next ed h fs g y))
 
-pub boundary : (h : Host) (fs : List Frame) → Boundary h fs
+pub boundary : (ed : Edition) (h : Host) (fs : List Frame) → Boundary ed h fs
 unfolding sinceFrom total
-boundary h fs = boundary-all h [] fs (record { before = []; after = []; split = refl; lies = refl })
+boundary ed h fs = boundary-all ed h [] fs (record { before = []; after = []; split = refl; lies = refl })
 
 place-early : (h : Host) (d o : ℕ) (f : Frame) (t : List ℕ) → o < d → placeFrame h d o f t ≡ t
 place-early h d o (change g c) t l =
@@ -184,12 +186,12 @@ place-early h d o (abort g) t l = refl
 place-early h d o (settled i v) t l = refl
 
 -- what stands before `since` does nothing
-pub commit-from : (h : Host) (d o : ℕ) (t : List ℕ) (fs gs : List Frame) → o + total fs ≤ d
-    → commitPlaces h d o t (fs ++ gs) ≡ commitPlaces h d (o + total fs) t gs
+pub commit-from : (ed : Edition) (h : Host) (d o : ℕ) (t : List ℕ) (fs gs : List Frame) → o + total ed fs ≤ d
+    → commitPlaces ed h d o t (fs ++ gs) ≡ commitPlaces ed h d (o + total ed fs) t gs
 unfolding commitPlaces total
-commit-from h d o t [] gs l = let e : o ≡ o + 0 = omega arith in ap (λ (x : ℕ). commitPlaces h d x t gs) e
-commit-from h d o t (f ∷ fs) gs l =
-    let n : ℕ = o + frameLen f in
-    let e : n + total fs ≡ o + (frameLen f + total fs) = omega arith in
-    ap (λ (x : List ℕ). commitPlaces h d n x (fs ++ gs)) (place-early h d o f t (omega arith)) ∙ commit-from h d n t fs gs (omega arith)
-    ∙ ap (λ (x : ℕ). commitPlaces h d x t gs) e
+commit-from ed h d o t [] gs l = let e : o ≡ o + 0 = omega arith in ap (λ (x : ℕ). commitPlaces ed h d x t gs) e
+commit-from ed h d o t (f ∷ fs) gs l =
+    let n : ℕ = o + frameLen ed f in
+    let e : n + total ed fs ≡ o + (frameLen ed f + total ed fs) = omega arith in
+    ap (λ (x : List ℕ). commitPlaces ed h d n x (fs ++ gs)) (place-early h d o f t (omega arith)) ∙ commit-from ed h d n t fs gs (omega arith)
+    ∙ ap (λ (x : ℕ). commitPlaces ed h d x t gs) e

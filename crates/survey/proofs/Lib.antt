@@ -2,7 +2,8 @@
 
 pub mod Headers  -- a header's tests: for src/header
 pub mod Indexing  -- places and `since` frame after frame: for Passing
+pub mod Committing  -- a commit's pass over heads, and how long those are: for Passing, src/pass, src/block
 pub mod Passing  -- one frame of the pass: for HeadLaws and src/block
 pub mod HeadLaws  -- the same laws by the heads that the code reads: for src/pass, src/block
-pub mod Collecting  -- the settled frames by their places: for Surveying
+pub mod Collecting  -- the settled values' lengths by their places: for Surveying
 pub mod Surveying  -- a survey by the way the code goes: for src/block, store

@@ -1,67 +1,70 @@
 -- The pass over a block's frames: what each frame adds is what the definitions say of one frame more.
 use mathlib.Core.Path.{_≡_, refl, sym, ap, ap₂, subst₂, _∙_}
-use mathlib.Core.List.{List, [], _∷_, _++_, append-assoc, append-nil}
+use mathlib.Core.List.{List, [], _∷_, _++_, append-assoc}
 use mathlib.Core.Bool.{Bool, true, false}
 use Prim.Native.Nat.{ℕ, _+_, _-_, _≤_}
 use native.Mathlib.Omega.{arith}
 use lib.Dec.{eqb}
-use lib.ListN.{getD, take, drop, set}
+use lib.ListN.{getD, take, drop, set, replicate}
 use lib.Seq.{take-at, drop-at, drop-drop}
 use borrow.Author.Tests.{eq-eqb, ne-eqb}
+use Rattle.frame.specs.declared.Edition.{Edition}
 use Rattle.frame.specs.declared.Host.{Host}
 use Rattle.frame.specs.Frame.{hostMax, put, delete, Frame, change, commit, abort, settled, Change, encode, frameLen, encodeAll, total, MayStand}
 use Rattle.frame.specs.Frame.{AllMayStand, nextAfter, nextOf}
-use Rattle.frame.specs.Reader.{whole, readFrame, clean, Scan, push, scan}
+use Rattle.frame.specs.Reader.{whole, readFrame, Scan, push, scan}
 use Rattle.frame.specs.Code.{headOf}
-use Rattle.frame.proofs.First.{length-all, encode-append, encode-snoc, total-snoc, stands-append, stands-zero, scan-nil, scan-with}
+use Rattle.frame.proofs.Encode.{length-all, encode-append, encode-snoc, total-snoc, stands-append}
 use Rattle.frame.proofs.Encode.{next-append}
 use Rattle.frame.proofs.Scanning.{pushAll}
 use Rattle.survey.specs.declared.Progress.{Progress}
 use Rattle.journal.specs.Block.{headerLen}
-use Rattle.journal.specs.Replay.{Entry, State, nextState, replay}
-use Rattle.journal.specs.Index.{placesOf, isEnd, pick, sinceHost, sinceOf}
-use Rattle.journal.specs.Room.{pendingFor, pendingOf}
-use Rattle.survey.specs.Pass.{commitPlaces, recommit, progress, progressOf, grown, closed, passed, tookFrame, tookPlaces}
+use Rattle.journal.specs.Replay.{Entry, State, lookup, listOf, nextState, replay, replayFrom}
+use Rattle.journal.specs.Index.{sited, placesFrom, placesOf, isEnd, pick, sinceFrom, sinceHost, sinceOf}
+use Rattle.journal.specs.Room.{perHost, pendingFor, pendingOf}
+use Rattle.survey.specs.Pass.{commitPlaces, commitHeads, recommit, progress, progressOf, grown, closed, passed, tookFrame, tookPlaces}
 use Rattle.journal.proofs.Replaying.{replay-snoc}
 use Rattle.journal.proofs.Pending.{since-snoc, since-at}
+use Rattle.survey.proofs.Committing.{heads-whole}
 use Rattle.survey.proofs.Indexing.{places-change, places-abort, places-commit, places-settled, Boundary, boundary, commit-from}
 use Rattle.journal.proofs.PerHost.{per-set, per-same, per-at, bytes-own, bytes-other, bytes-ended, bytes-kept}
 use Rattle.fetch.proofs.FrameReads.{whole-stands, whole-bytes, scan-whole-at, drop-take}
 
 -- ---- `since` and the pending bytes after one frame more
 
-since-stays : (fs : List Frame) (f : Frame) → ((h : Host) → isEnd h f ≡ false) → sinceOf (fs ++ (f ∷ [])) ≡ sinceOf fs
-since-stays fs f n =
-    per-same (λ h. sinceHost h fs) (λ h. sinceHost h (fs ++ (f ∷ [])))
-    (λ h. since-snoc h headerLen headerLen fs f ∙ ap (λ (t : Bool). pick t (headerLen + total fs + frameLen f) (sinceHost h fs)) (n h))
+since-stays : (ed : Edition) (fs : List Frame) (f : Frame) → ((h : Host) → isEnd h f ≡ false) → sinceOf ed (fs ++ (f ∷ [])) ≡ sinceOf ed fs
+since-stays ed fs f n =
+    per-same (λ h. sinceHost ed h fs) (λ h. sinceHost ed h (fs ++ (f ∷ [])))
+    (λ h. since-snoc ed h headerLen headerLen fs f ∙ ap (λ (t : Bool). pick t (headerLen + total ed fs + frameLen ed f) (sinceHost ed h fs)) (n h))
 
-since-moves : (fs : List Frame) (f : Frame) (h : Host) → h .0 ≤ hostMax → ((g : Host) → isEnd g f ≡ eqb (g .0) (h .0))
-    → sinceOf (fs ++ (f ∷ [])) ≡ set (sinceOf fs) (h .0) (headerLen + total fs + frameLen f)
-since-moves fs f h l n =
-    let at : (g : Host) (t : Bool) → isEnd g f ≡ t → sinceHost g (fs ++ (f ∷ [])) ≡ pick t (headerLen + total fs + frameLen f) (sinceHost g fs) =
-    λ g t q. since-snoc g headerLen headerLen fs f ∙ ap (λ (x : Bool). pick x (headerLen + total fs + frameLen f) (sinceHost g fs)) q in
-    per-set (λ g. sinceHost g fs) (λ g. sinceHost g (fs ++ (f ∷ []))) h (headerLen + total fs + frameLen f) l
+since-moves : (ed : Edition) (fs : List Frame) (f : Frame) (h : Host) → h .0 ≤ hostMax → ((g : Host) → isEnd g f ≡ eqb (g .0) (h .0))
+    → sinceOf ed (fs ++ (f ∷ [])) ≡ set (sinceOf ed fs) (h .0) (headerLen + total ed fs + frameLen ed f)
+since-moves ed fs f h l n =
+    let at : (g : Host) (t : Bool) → isEnd g f ≡ t → sinceHost ed g (fs ++ (f ∷ [])) ≡ pick t (headerLen + total ed fs + frameLen ed f) (sinceHost ed g fs) =
+    λ g t q. since-snoc ed g headerLen headerLen fs f ∙ ap (λ (x : Bool). pick x (headerLen + total ed fs + frameLen ed f) (sinceHost ed g fs)) q in
+    per-set (λ g. sinceHost ed g fs) (λ g. sinceHost ed g (fs ++ (f ∷ []))) h (headerLen + total ed fs + frameLen ed f) l
     (at h true (n h ∙ eq-eqb (h .0) (h .0) refl)) (λ g d. at g false (n g ∙ ne-eqb (g .0) (h .0) (λ q. d (sym q))))
 
 -- by what is pending before and after
-pub pending-grows : (fs : List Frame) (h : Host) (c : Change) → h .0 ≤ hostMax
-    → pendingOf (fs ++ (change h c ∷ [])) ≡ set (pendingOf fs) (h .0) (getD (pendingOf fs) (h .0) 0 + frameLen (change h c))
-pending-grows fs h c l =
+pub pending-grows : (ed : Edition) (fs : List Frame) (h : Host) (c : Change) → h .0 ≤ hostMax
+    → pendingOf ed (fs ++ (change h c ∷ [])) ≡ set (pendingOf ed fs) (h .0) (getD (pendingOf ed fs) (h .0) 0 + frameLen ed (change h c))
+pending-grows ed fs h c l =
     let es : List Entry = replay fs .pending in
-    let e : (g : Host) → pendingFor g (replay (fs ++ (change h c ∷ [])) .pending) ≡ pendingFor g (nextState (replay fs) (change h c) .pending) =
-    λ g. ap (λ (s : State). pendingFor g (s .pending)) (replay-snoc fs (change h c)) in
-    per-set (λ g. pendingFor g es) (λ g. pendingFor g (replay (fs ++ (change h c ∷ [])) .pending)) h _ l
-    (e h ∙ bytes-own h es c ∙ ap (λ (x : ℕ). x + frameLen (change h c)) (sym (per-at (λ g. pendingFor g es) h l)))
-    (λ g d. e g ∙ bytes-other g h es c d)
+    let e : (g : Host) → pendingFor ed g (replay (fs ++ (change h c ∷ [])) .pending) ≡ pendingFor ed g (nextState (replay fs) (change h c) .pending) =
+    λ g. ap (λ (s : State). pendingFor ed g (s .pending)) (replay-snoc fs (change h c)) in
+    per-set (λ g. pendingFor ed g es) (λ g. pendingFor ed g (replay (fs ++ (change h c ∷ [])) .pending)) h _ l
+    (e h ∙ bytes-own ed h es c ∙ ap (λ (x : ℕ). x + frameLen ed (change h c)) (sym (per-at (λ g. pendingFor ed g es) h l)))
+    (λ g d. e g ∙ bytes-other ed g h es c d)
 
-pub pending-ends : (fs : List Frame) (f : Frame) (h : Host) → h .0 ≤ hostMax → ((s : State) → nextState s f .pending ≡ nextState s (abort h) .pending)
-    → pendingOf (fs ++ (f ∷ [])) ≡ set (pendingOf fs) (h .0) 0
-pending-ends fs f h l n =
+pub pending-ends : (ed : Edition) (fs : List Frame) (f : Frame) (h : Host) → h .0 ≤ hostMax
+    → ((s : State) → nextState s f .pending ≡ nextState s (abort h) .pending)
+    → pendingOf ed (fs ++ (f ∷ [])) ≡ set (pendingOf ed fs) (h .0) 0
+pending-ends ed fs f h l n =
     let es : List Entry = replay fs .pending in
-    let e : (g : Host) → pendingFor g (replay (fs ++ (f ∷ [])) .pending) ≡ pendingFor g (nextState (replay fs) (abort h) .pending) =
-    λ g. ap (λ (s : State). pendingFor g (s .pending)) (replay-snoc fs f) ∙ ap (pendingFor g) (n (replay fs)) in
-    per-set (λ g. pendingFor g es) (λ g. pendingFor g (replay (fs ++ (f ∷ [])) .pending)) h 0 l (e h ∙ bytes-ended h es)
-    (λ g d. e g ∙ bytes-kept g h es d)
+    let e : (g : Host) → pendingFor ed g (replay (fs ++ (f ∷ [])) .pending) ≡ pendingFor ed g (nextState (replay fs) (abort h) .pending) =
+    λ g. ap (λ (s : State). pendingFor ed g (s .pending)) (replay-snoc fs f) ∙ ap (pendingFor ed g) (n (replay fs)) in
+    per-set (λ g. pendingFor ed g es) (λ g. pendingFor ed g (replay (fs ++ (f ∷ [])) .pending)) h 0 l (e h ∙ bytes-ended ed h es)
+    (λ g d. e g ∙ bytes-kept ed g h es d)
 
 same : {a a′ b b′ : ℕ} {s s′ p p′ : List ℕ} → a ≡ a′ → b ≡ b′ → s ≡ s′ → p ≡ p′ → progress a b s p ≡ progress a′ b′ s′ p′
 same {a} {a′} {b} {b′} {s} {s′} {p} {p′} e f g h =
@@ -70,152 +73,146 @@ same {a} {a′} {b} {b′} {s} {s′} {p} {p′} e f g h =
 next-snoc : (fs : List Frame) (f : Frame) → nextOf 0 (fs ++ (f ∷ [])) ≡ nextAfter f
 next-snoc fs f = next-append 0 fs (f ∷ [])
 
-end-snoc : (fs : List Frame) (f : Frame) → headerLen + total (fs ++ (f ∷ [])) ≡ headerLen + total fs + frameLen f
-end-snoc fs f = omega (arith, total-snoc fs f)
+end-snoc : (ed : Edition) (fs : List Frame) (f : Frame) → headerLen + total ed (fs ++ (f ∷ [])) ≡ headerLen + total ed fs + frameLen ed f
+end-snoc ed fs f = omega (arith, total-snoc ed fs f)
 
-progress-step : (fs : List Frame) (f : Frame) → MayStand (nextOf 0 fs) f → progressOf (fs ++ (f ∷ [])) ≡ tookFrame (progressOf fs) (headOf f)
+progress-step : (ed : Edition) (fs : List Frame) (f : Frame) → MayStand ed (nextOf 0 fs) f
+    → progressOf ed (fs ++ (f ∷ [])) ≡ tookFrame ed (progressOf ed fs) (headOf f)
 unfolding tookFrame grown closed passed
-progress-step fs (change h (put i v)) (a, b, c) =
+progress-step ed fs (change h (put i v)) (a, b, c) =
     let f : Frame = change h (put i v) in
-    same (end-snoc fs f ∙ omega arith) (next-snoc fs f) (since-stays fs f (λ g. refl))
-    (pending-grows fs h (put i v) a ∙ ap (λ (x : ℕ). set (pendingOf fs) (h .0) x) (omega arith))
-progress-step fs (change h (delete i)) (a, b) =
+    same (end-snoc ed fs f ∙ omega arith) (next-snoc fs f) (since-stays ed fs f (λ g. refl))
+    (pending-grows ed fs h (put i v) a ∙ ap (λ (x : ℕ). set (pendingOf ed fs) (h .0) x) (omega arith))
+progress-step ed fs (change h (delete i)) (a, b) =
     let f : Frame = change h (delete i) in
-    same (end-snoc fs f) (next-snoc fs f) (since-stays fs f (λ g. refl)) (pending-grows fs h (delete i) a)
-progress-step fs (commit h) a =
+    same (end-snoc ed fs f) (next-snoc fs f) (since-stays ed fs f (λ g. refl)) (pending-grows ed fs h (delete i) a)
+progress-step ed fs (commit h) a =
     let f : Frame = commit h in
-    same (end-snoc fs f) (next-snoc fs f) (since-moves fs f h a (λ g. refl)) (pending-ends fs f h a (λ s. refl))
-progress-step fs (abort h) a =
+    same (end-snoc ed fs f) (next-snoc fs f) (since-moves ed fs f h a (λ g. refl)) (pending-ends ed fs f h a (λ s. refl))
+progress-step ed fs (abort h) a =
     let f : Frame = abort h in
-    same (end-snoc fs f) (next-snoc fs f) (since-moves fs f h a (λ g. refl)) (pending-ends fs f h a (λ s. refl))
-progress-step fs (settled i v) a =
+    same (end-snoc ed fs f) (next-snoc fs f) (since-moves ed fs f h a (λ g. refl)) (pending-ends ed fs f h a (λ s. refl))
+progress-step ed fs (settled i v) a =
     let f : Frame = settled i v in
-    same (end-snoc fs f ∙ omega arith) (next-snoc fs f) (since-stays fs f (λ g. refl))
-    (per-same (λ g. pendingFor g (replay fs .pending)) (λ g. pendingFor g (replay (fs ++ (f ∷ [])) .pending))
-    (λ g. ap (λ (s : State). pendingFor g (s .pending)) (replay-snoc fs f)))
+    same (end-snoc ed fs f ∙ omega arith) (next-snoc fs f) (since-stays ed fs f (λ g. refl))
+    (per-same (λ g. pendingFor ed g (replay fs .pending)) (λ g. pendingFor ed g (replay (fs ++ (f ∷ [])) .pending))
+    (λ g. ap (λ (s : State). pendingFor ed g (s .pending)) (replay-snoc fs f)))
 
--- ---- a commit reads its host's part again
+-- ---- a commit passes over its host's part again
 
-stands-after : (n : ℕ) (gs hs : List Frame) → AllMayStand n (gs ++ hs) → AllMayStand (nextOf n gs) hs
-stands-after n [] hs g = g
-stands-after n (a ∷ gs) hs (x, y) = stands-after (nextAfter a) gs hs y
-
-stands-from : (n : ℕ) (fs : List Frame) → AllMayStand n fs → AllMayStand 0 fs
-stands-from n [] g = tt
-stands-from n (f ∷ fs) (g, gs) = (stands-zero n f g, gs)
+stands-after : (ed : Edition) (n : ℕ) (gs hs : List Frame) → AllMayStand ed n (gs ++ hs) → AllMayStand ed (nextOf n gs) hs
+stands-after ed n [] hs g = g
+stands-after ed n (a ∷ gs) hs (x, y) = stands-after ed (nextAfter a) gs hs y
 
 -- a block whose journal starts with these frames, whatever its header
-abbrev Starts : List ℕ → List Frame → Type 0
-Starts b fs = drop headerLen b ≡ encodeAll fs ++ drop (headerLen + total fs) b
+abbrev Starts : Edition → List ℕ → List Frame → Type 0
+Starts ed b fs = drop headerLen b ≡ encodeAll ed fs ++ drop (headerLen + total ed fs) b
 
-frames-between : (b : List ℕ) (gs hs : List Frame) → AllMayStand 0 (gs ++ hs) → Starts b (gs ++ hs)
-    → let d : ℕ = headerLen + total gs in scan 0 d 0 (drop d (take (headerLen + total (gs ++ hs)) b)) .frames ≡ hs
-frames-between b gs hs g s =
+bytes-between : (ed : Edition) (b : List ℕ) (gs hs : List Frame) → Starts ed b (gs ++ hs)
+    → drop (headerLen + total ed gs) (take (headerLen + total ed (gs ++ hs)) b) ≡ encodeAll ed hs
+bytes-between ed b gs hs s =
     let fs : List Frame = gs ++ hs in
-    let end : ℕ = headerLen + total fs in
-    let d : ℕ = headerLen + total gs in
-    let n : end - headerLen ≡ total fs = omega arith in
-    let part : drop headerLen (take end b) ≡ encodeAll fs =
-    drop-take headerLen end b ∙ ap₂ (λ (m : ℕ) (x : List ℕ). take m x) n s ∙ take-at (encodeAll fs) (drop end b) (total fs) (length-all fs) in
-    let rest : drop d (take end b) ≡ encodeAll hs ++ [] =
-    sym (drop-drop (total gs) headerLen (take end b)) ∙ ap (drop (total gs)) (part ∙ encode-append gs hs)
-    ∙ drop-at (encodeAll gs) (encodeAll hs) (total gs) (length-all gs) ∙ sym (append-nil (encodeAll hs)) in
-    ap (λ (x : List ℕ). scan 0 d 0 x .frames) rest
-    ∙ ap (λ (x : Scan). x .frames) (scan-with 0 d hs [] clean (stands-from (nextOf 0 gs) hs (stands-after 0 gs hs g))
-    (scan-nil (nextOf 0 hs) (d + total hs) 0))
+    let end : ℕ = headerLen + total ed fs in
+    let n : end - headerLen ≡ total ed fs = omega arith in
+    let part : drop headerLen (take end b) ≡ encodeAll ed fs =
+    drop-take headerLen end b ∙ ap₂ (λ (m : ℕ) (x : List ℕ). take m x) n s ∙ take-at (encodeAll ed fs) (drop end b) (total ed fs) (length-all ed fs) in
+    sym (drop-drop (total ed gs) headerLen (take end b)) ∙ ap (drop (total ed gs)) (part ∙ encode-append ed gs hs)
+    ∙ drop-at (encodeAll ed gs) (encodeAll ed hs) (total ed gs) (length-all ed gs)
 
-commit-again : (b : List ℕ) (fs : List Frame) (h : Host) → h .0 ≤ hostMax → AllMayStand 0 fs → Starts b fs
-    → placesOf (fs ++ (commit h ∷ [])) ≡ recommit (take (headerLen + total fs) b) h (getD (sinceOf fs) (h .0) 0) (placesOf fs)
+commit-again : (ed : Edition) (b : List ℕ) (fs : List Frame) (h : Host) → h .0 ≤ hostMax → AllMayStand ed 0 fs → Starts ed b fs
+    → placesOf ed (fs ++ (commit h ∷ [])) ≡ recommit ed (take (headerLen + total ed fs) b) h (getD (sinceOf ed fs) (h .0) 0) (placesOf ed fs)
 unfolding recommit
-commit-again b fs h l g s =
-    let y : Boundary h fs = boundary h fs in
-    let t : List ℕ = placesOf fs in
+commit-again ed b fs h l g s =
+    let y : Boundary ed h fs = boundary ed h fs in
+    let t : List ℕ = placesOf ed fs in
     let gs : List Frame = y .before in
     let hs : List Frame = y .after in
-    let d : ℕ = sinceHost h fs in
-    let e : scan 0 d 0 (drop d (take (headerLen + total fs) b)) .frames ≡ hs =
-    ap₂ (λ (m : ℕ) (x : List Frame). scan 0 m 0 (drop m (take (headerLen + total x) b)) .frames) (y .lies) (y .split)
-    ∙ frames-between b gs hs (rw (← y .split) g) (rw (← y .split) s) in
-    places-commit fs h
-    ∙ ap (commitPlaces h d headerLen t) (y .split) ∙ commit-from h d headerLen t gs hs (omega (arith, y .lies))
-    ∙ ap (λ (m : ℕ). commitPlaces h d m t hs) (sym (y .lies))
-    ∙ ap (commitPlaces h d d t) (sym e)
-    ∙ ap (λ (m : ℕ). recommit (take (headerLen + total fs) b) h m t) (sym (since-at fs h l))
+    let d : ℕ = sinceHost ed h fs in
+    let e : drop d (take (headerLen + total ed fs) b) ≡ encodeAll ed hs =
+    ap₂ (λ (m : ℕ) (x : List Frame). drop m (take (headerLen + total ed x) b)) (y .lies) (y .split)
+    ∙ bytes-between ed b gs hs (rw (← y .split) s) in
+    places-commit ed fs h
+    ∙ ap (commitPlaces ed h d headerLen t) (y .split) ∙ commit-from ed h d headerLen t gs hs (omega (arith, y .lies))
+    ∙ ap (λ (m : ℕ). commitPlaces ed h d m t hs) (sym (y .lies))
+    ∙ sym (ap (commitHeads ed h d 0 t) e ∙ heads-whole ed h d d (nextOf 0 gs) t hs (omega arith) (stands-after ed 0 gs hs (rw (← y .split) g)))
+    ∙ ap (λ (m : ℕ). recommit ed (take (headerLen + total ed fs) b) h m t) (sym (since-at ed fs h l))
 
-places-step : (b : List ℕ) (fs : List Frame) (f : Frame) → AllMayStand 0 fs → MayStand (nextOf 0 fs) f → Starts b fs
-    → placesOf (fs ++ (f ∷ [])) ≡ tookPlaces b (progressOf fs) (headOf f) (placesOf fs)
+places-step : (ed : Edition) (b : List ℕ) (fs : List Frame) (f : Frame) → AllMayStand ed 0 fs → MayStand ed (nextOf 0 fs) f → Starts ed b fs
+    → placesOf ed (fs ++ (f ∷ [])) ≡ tookPlaces ed b (progressOf ed fs) (headOf f) (placesOf ed fs)
 unfolding tookPlaces
-places-step b fs (change h (put i v)) g m s = places-change fs h (put i v)
-places-step b fs (change h (delete i)) g m s = places-change fs h (delete i)
-places-step b fs (commit h) g m s = commit-again b fs h m g s
-places-step b fs (abort h) g m s = places-abort fs h
-places-step b fs (settled i v) g m s = places-settled fs i v g m
+places-step ed b fs (change h (put i v)) g m s = places-change ed fs h (put i v)
+places-step ed b fs (change h (delete i)) g m s = places-change ed fs h (delete i)
+places-step ed b fs (commit h) g m s = commit-again ed b fs h m g s
+places-step ed b fs (abort h) g m s = places-abort ed fs h
+places-step ed b fs (settled i v) g m s = places-settled ed fs i v g m
 
 -- ---- as far as the frames were read
 
-pub record Reached (b t : List ℕ) (p : Progress) : Type 0 where
+pub record Reached (ed : Edition) (b t : List ℕ) (p : Progress) : Type 0 where
   pub frames : List Frame
-  pub progress : p ≡ progressOf frames
-  pub places : t ≡ placesOf frames
-  pub stand : AllMayStand 0 frames
-  pub starts : Starts b frames
-  pub scanned : scan 0 headerLen 0 (drop headerLen b) ≡ pushAll frames (scan (p .next) (p .end) 0 (drop (p .end) b))
+  pub progress : p ≡ progressOf ed frames
+  pub places : t ≡ placesOf ed frames
+  pub stand : AllMayStand ed 0 frames
+  pub starts : Starts ed b frames
+  pub scanned : scan ed 0 headerLen 0 (drop headerLen b) ≡ pushAll frames (scan ed (p .next) (p .end) 0 (drop (p .end) b))
 
-pub reached-none : (b t : List ℕ) (p : Progress) → t ≡ placesOf [] → p ≡ progressOf [] → Reached b t p
-unfolding total encodeAll
-reached-none b t p e f =
-    subst₂ (Reached b) (sym e) (sym f) (record { frames = []; progress = refl; places = refl; stand = tt; starts = refl; scanned = refl })
+pub reached-none : (ed : Edition) (b t : List ℕ) (p : Progress) → t ≡ replicate 256 0
+    → p ≡ progress headerLen 0 (perHost (λ h. headerLen)) (perHost (λ h. 0)) → Reached ed b t p
+unfolding total encodeAll sinceFrom replayFrom listOf placesFrom sited lookup
+reached-none ed b t p e f =
+    subst₂ (Reached ed b) (sym e) (sym f) (record { frames = []; progress = refl; places = refl; stand = tt; starts = refl; scanned = refl })
 
 push-snoc : (fs : List Frame) (f : Frame) (s : Scan) → pushAll fs (push f s) ≡ pushAll (fs ++ (f ∷ [])) s
 push-snoc [] f s = refl
 push-snoc (g ∷ fs) f s = ap (push g) (push-snoc fs f s)
 
-module _ (b : List ℕ) (fs : List Frame) (f : Frame) where
+module _ (ed : Edition) (b : List ℕ) (fs : List Frame) (f : Frame) where
   abbrev at : ℕ
-  at = headerLen + total fs
+  at = headerLen + total ed fs
 
   abbrev more : List Frame
   more = fs ++ (f ∷ [])
 
-  rest-snoc : drop (frameLen f) (drop at b) ≡ drop (headerLen + total more) b
-  rest-snoc = drop-drop (frameLen f) at b ∙ ap (λ (n : ℕ). drop n b) (sym (end-snoc fs f))
+  rest-snoc : drop (frameLen ed f) (drop at b) ≡ drop (headerLen + total ed more) b
+  rest-snoc = drop-drop (frameLen ed f) at b ∙ ap (λ (n : ℕ). drop n b) (sym (end-snoc ed fs f))
 
-  starts-snoc : Starts b fs → readFrame (nextOf 0 fs) at (drop at b) ≡ whole f → Starts b more
+  starts-snoc : Starts ed b fs → readFrame ed (nextOf 0 fs) at (drop at b) ≡ whole f → Starts ed b more
   starts-snoc s r =
-      s ∙ ap (λ (x : List ℕ). encodeAll fs ++ x) (whole-bytes (nextOf 0 fs) at (drop at b) f r)
-      ∙ sym (append-assoc (encodeAll fs) (encode f) (drop (frameLen f) (drop at b)))
-      ∙ ap₂ (λ (x y : List ℕ). x ++ y) (sym (encode-snoc fs f)) rest-snoc
+      s ∙ ap (λ (x : List ℕ). encodeAll ed fs ++ x) (whole-bytes ed (nextOf 0 fs) at (drop at b) f r)
+      ∙ sym (append-assoc (encodeAll ed fs) (encode ed f) (drop (frameLen ed f) (drop at b)))
+      ∙ ap₂ (λ (x y : List ℕ). x ++ y) (sym (encode-snoc ed fs f)) rest-snoc
 
-  scanned-snoc : readFrame (nextOf 0 fs) at (drop at b) ≡ whole f
-      → pushAll fs (scan (nextOf 0 fs) at 0 (drop at b)) ≡ pushAll more (scan (nextOf 0 more) (headerLen + total more) 0 (drop (headerLen + total more) b))
+  scanned-snoc : readFrame ed (nextOf 0 fs) at (drop at b) ≡ whole f
+      → pushAll fs (scan ed (nextOf 0 fs) at 0 (drop at b)) ≡ pushAll more
+      (scan ed (nextOf 0 more) (headerLen + total ed more) 0 (drop (headerLen + total ed more) b))
   scanned-snoc r =
-      ap (pushAll fs) (scan-whole-at (nextOf 0 fs) at (drop at b) f r)
-      ∙ push-snoc fs f (scan (nextAfter f) (at + frameLen f) 0 (drop (frameLen f) (drop at b)))
-      ∙ ap₂ (λ (n m : ℕ). pushAll more (scan n m 0 (drop (frameLen f) (drop at b)))) (sym (next-snoc fs f)) (sym (end-snoc fs f))
-      ∙ ap (λ (x : List ℕ). pushAll more (scan (nextOf 0 more) (headerLen + total more) 0 x)) rest-snoc
+      ap (pushAll fs) (scan-whole-at ed (nextOf 0 fs) at (drop at b) f r)
+      ∙ push-snoc fs f (scan ed (nextAfter f) (at + frameLen ed f) 0 (drop (frameLen ed f) (drop at b)))
+      ∙ ap₂ (λ (n m : ℕ). pushAll more (scan ed n m 0 (drop (frameLen ed f) (drop at b)))) (sym (next-snoc fs f)) (sym (end-snoc ed fs f))
+      ∙ ap (λ (x : List ℕ). pushAll more (scan ed (nextOf 0 more) (headerLen + total ed more) 0 x)) rest-snoc
 
-on-frames : (b : List ℕ) (fs : List Frame) (f : Frame) → AllMayStand 0 fs → Starts b fs
-    → scan 0 headerLen 0 (drop headerLen b) ≡ pushAll fs (scan (nextOf 0 fs) (headerLen + total fs) 0 (drop (headerLen + total fs) b))
-    → readFrame (nextOf 0 fs) (headerLen + total fs) (drop (headerLen + total fs) b) ≡ whole f
-    → Reached b (tookPlaces b (progressOf fs) (headOf f) (placesOf fs)) (tookFrame (progressOf fs) (headOf f))
-on-frames b fs f g s c r =
-    let m : MayStand (nextOf 0 fs) f = whole-stands (nextOf 0 fs) (headerLen + total fs) (drop (headerLen + total fs) b) f r in
-    subst₂ (Reached b) (places-step b fs f g m s) (progress-step fs f m)
+on-frames : (ed : Edition) (b : List ℕ) (fs : List Frame) (f : Frame) → AllMayStand ed 0 fs → Starts ed b fs
+    → scan ed 0 headerLen 0 (drop headerLen b) ≡ pushAll fs (scan ed (nextOf 0 fs) (headerLen + total ed fs) 0 (drop (headerLen + total ed fs) b))
+    → readFrame ed (nextOf 0 fs) (headerLen + total ed fs) (drop (headerLen + total ed fs) b) ≡ whole f
+    → Reached ed b (tookPlaces ed b (progressOf ed fs) (headOf f) (placesOf ed fs)) (tookFrame ed (progressOf ed fs) (headOf f))
+on-frames ed b fs f g s c r =
+    let m : MayStand ed (nextOf 0 fs) f = whole-stands ed (nextOf 0 fs) (headerLen + total ed fs) (drop (headerLen + total ed fs) b) f r in
+    subst₂ (Reached ed b) (places-step ed b fs f g m s) (progress-step ed fs f m)
     (record {
       frames = fs ++ (f ∷ []);
       progress = refl;
       places = refl;
-      stand = stands-append 0 fs (f ∷ []) g (m, tt);
-      starts = starts-snoc b fs f s r;
-      scanned = c ∙ scanned-snoc b fs f r;
+      stand = stands-append ed 0 fs (f ∷ []) g (m, tt);
+      starts = starts-snoc ed b fs f s r;
+      scanned = c ∙ scanned-snoc ed b fs f r;
     })
 
 -- one frame more
-pub reached-on : {b t : List ℕ} {p : Progress} (f : Frame) → Reached b t p → readFrame (p .next) (p .end) (drop (p .end) b) ≡ whole f
-    → Reached b (tookPlaces b p (headOf f) t) (tookFrame p (headOf f))
-reached-on {b} {t} {p} f y r =
-    let e : p ≡ progressOf (y .frames) = y .progress in
-    subst₂ (λ (q : Progress) (u : List ℕ). Reached b (tookPlaces b q (headOf f) u) (tookFrame q (headOf f))) (sym e) (sym (y .places))
-    (on-frames b (y .frames) f (y .stand) (y .starts)
-    (y .scanned ∙ ap (λ (q : Progress). pushAll (y .frames) (scan (q .next) (q .end) 0 (drop (q .end) b))) e)
-    (ap (λ (q : Progress). readFrame (q .next) (q .end) (drop (q .end) b)) (sym e) ∙ r))
+pub reached-on : (ed : Edition) {b t : List ℕ} {p : Progress} (f : Frame) → Reached ed b t p → readFrame ed (p .next) (p .end) (drop (p .end) b) ≡ whole f
+    → Reached ed b (tookPlaces ed b p (headOf f) t) (tookFrame ed p (headOf f))
+reached-on ed {b} {t} {p} f y r =
+    let e : p ≡ progressOf ed (y .frames) = y .progress in
+    subst₂ (λ (q : Progress) (u : List ℕ). Reached ed b (tookPlaces ed b q (headOf f) u) (tookFrame ed q (headOf f))) (sym e) (sym (y .places))
+    (on-frames ed b (y .frames) f (y .stand) (y .starts)
+    (y .scanned ∙ ap (λ (q : Progress). pushAll (y .frames) (scan ed (q .next) (q .end) 0 (drop (q .end) b))) e)
+    (ap (λ (q : Progress). readFrame ed (q .next) (q .end) (drop (q .end) b)) (sym e) ∙ r))

@@ -2,18 +2,21 @@
 use mathlib.Core.List.{List, [], _∷_}
 use mathlib.Core.Option.{Option, none, some}
 use mathlib.Core.Bool.{Bool, true, false, _&&_}
-use Prim.Native.Nat.{ℕ, zero, suc, _+_}
+use Prim.Native.Nat.{ℕ, zero, suc, _+_, _-_}
 use lib.Dec.{eqb, leb}
 use lib.ListN.{length, getD, take, drop, set}
+use Rattle.frame.specs.declared.Edition.{Edition}
+use Rattle.frame.specs.declared.Edition.the-variants as edition
 use Rattle.frame.specs.declared.Host.{Host}
 use Rattle.frame.specs.declared.ObjectId.{ObjectId}
 use Rattle.frame.specs.declared.Fault.{Fault}
 use Rattle.frame.specs.declared.Head.{Head}
 use Rattle.frame.specs.declared.Head.the-variants as head
-use Rattle.frame.specs.Frame.{idOf, ChangeOf, put, delete, Frame, change, commit, abort, settled, mapChange, frameLen}
+use Rattle.frame.specs.Frame.{ChangeOf, put, delete, Frame, change, commit, abort, settled, mapChange, frameLen}
 use Rattle.frame.specs.Frame.{putLen, deleteLen, endLen, settledLen, total, nextOf}
 use Rattle.frame.specs.Reader.{clean, cut, bad, Scan, scan}
 use Rattle.frame.specs.Reader.{Tail as ScanTail}
+use Rattle.frame.specs.Code.{peekAt, headLen, valueLen}
 use Rattle.survey.specs.declared.HeaderCheck.{HeaderCheck}
 use Rattle.survey.specs.declared.HeaderCheck.the-variants.{Sound, Bad}
 use Rattle.survey.specs.declared.Progress.{Progress}
@@ -25,7 +28,7 @@ use Rattle.survey.specs.declared.BlockKind.the-variants as kind
 use Rattle.survey.specs.declared.Tally.{Tally}
 use Rattle.survey.specs.declared.Survey.{Survey}
 use Rattle.journal.specs.Block.{headerLen, createdAt}
-use Rattle.journal.specs.Index.{sinceOf, Value, valueAt}
+use Rattle.journal.specs.Index.{sinceOf}
 use Rattle.journal.specs.Room.{perHost, pendingOf}
 
 -- the header's first fault, if it has one
@@ -36,8 +39,8 @@ headerOf (some e) = Bad e
 -- ---- the pass
 
 -- the frames of a block, and what follows them, past its header
-abbrev pub scanBlock : List ℕ → Scan
-scanBlock b = scan 0 headerLen 0 (drop headerLen b)
+abbrev pub scanBlock : Edition → List ℕ → Scan
+scanBlock ed b = scan ed 0 headerLen 0 (drop headerLen b)
 
 -- what a change of a frame at offset p does: a put's place is p, and a delete leaves none
 abbrev pub placeChange : ChangeOf ℕ → List ℕ → List ℕ
@@ -55,9 +58,9 @@ placeFrame h d o (commit g) t = t
 placeFrame h d o (abort g) t = t
 placeFrame h d o (settled i v) t = t
 
-unfoldable pub commitPlaces : Host → ℕ → ℕ → List ℕ → List Frame → List ℕ
-commitPlaces h d o t [] = t
-commitPlaces h d o t (f ∷ fs) = commitPlaces h d (o + frameLen f) (placeFrame h d o f t) fs
+unfoldable pub commitPlaces : Edition → Host → ℕ → ℕ → List ℕ → List Frame → List ℕ
+commitPlaces ed h d o t [] = t
+commitPlaces ed h d o t (f ∷ fs) = commitPlaces ed h d (o + frameLen ed f) (placeFrame h d o f t) fs
 
 -- the same by the frame's head, where d ≤ o
 unfoldable pub placeHead : Host → ℕ → Head → List ℕ → List ℕ
@@ -67,73 +70,79 @@ placeHead h o (head.Commit g) t = t
 placeHead h o (head.Abort g) t = t
 placeHead h o (head.Settled i n) t = t
 
--- a commit of host h, whose `since` is d, at the end of some bytes: its puts and deletes from there on are read again
-unfoldable pub recommit : List ℕ → Host → ℕ → List ℕ → List ℕ
-recommit l h d t = commitPlaces h d d t (scan 0 d 0 (drop d l) .frames)
+-- the same for frames one after the other, which start at offset o, by their heads alone; k as in `scan`
+unfoldable pub commitHeads : Edition → Host → ℕ → ℕ → List ℕ → List ℕ → List ℕ
+commitHeads ed h o k t [] = t
+commitHeads ed h o zero t (b ∷ l) =
+    commitHeads ed h (suc o) (headLen ed (peekAt ed (b ∷ l) 0) - 1) (placeHead h o (peekAt ed (b ∷ l) 0) t) l
+commitHeads ed h o (suc k) t (b ∷ l) = commitHeads ed h (suc o) k t l
 
-abbrev pub nextHead : Head → ℕ
-nextHead (head.Put h i n) = 256
-nextHead (head.Delete h i) = 256
-nextHead (head.Commit h) = 256
-nextHead (head.Abort h) = 256
-nextHead (head.Settled i n) = suc (i .0)
+-- a commit of host h, whose `since` is d, at the end of some bytes: they were read before, so its puts and deletes are found by heads
+unfoldable pub recommit : Edition → List ℕ → Host → ℕ → List ℕ → List ℕ
+recommit ed l h d t = commitHeads ed h d 0 t (drop d l)
 
 abbrev pub progress : ℕ → ℕ → List ℕ → List ℕ → Progress
 progress e n ms ps = record { end = e; next = n; since = ms; pending = ps }
 
-abbrev pub progressOf : List Frame → Progress
-progressOf fs = progress (headerLen + total fs) (nextOf 0 fs) (sinceOf fs) (pendingOf fs)
+abbrev pub progressOf : Edition → List Frame → Progress
+progressOf ed fs = progress (headerLen + total ed fs) (nextOf 0 fs) (sinceOf ed fs) (pendingOf ed fs)
 
 -- a host's change of n bytes
 unfoldable pub grown : Progress → Host → ℕ → Progress
 grown p h n = progress (p .end + n) 256 (p .since) (set (p .pending) (h .0) (getD (p .pending) (h .0) 0 + n))
 
--- a host's commit or abort
-unfoldable pub closed : Progress → Host → Progress
-closed p h = progress (p .end + endLen) 256 (set (p .since) (h .0) (p .end + endLen)) (set (p .pending) (h .0) 0)
+-- a host's commit or abort of n bytes
+unfoldable pub closed : Progress → Host → ℕ → Progress
+closed p h n = progress (p .end + n) 256 (set (p .since) (h .0) (p .end + n)) (set (p .pending) (h .0) 0)
 
 -- a settled frame of n bytes
 unfoldable pub passed : Progress → ObjectId → ℕ → Progress
 passed p i n = progress (p .end + n) (suc (i .0)) (p .since) (p .pending)
 
-unfoldable pub tookFrame : Progress → Head → Progress
-tookFrame p (head.Put h i n) = grown p h (putLen n)
-tookFrame p (head.Delete h i) = grown p h deleteLen
-tookFrame p (head.Commit h) = closed p h
-tookFrame p (head.Abort h) = closed p h
-tookFrame p (head.Settled i n) = passed p i (settledLen n)
+unfoldable pub tookFrame : Edition → Progress → Head → Progress
+tookFrame ed p (head.Put h i n) = grown p h (putLen ed n)
+tookFrame ed p (head.Delete h i) = grown p h (deleteLen ed)
+tookFrame ed p (head.Commit h) = closed p h (endLen ed)
+tookFrame ed p (head.Abort h) = closed p h (endLen ed)
+tookFrame ed p (head.Settled i n) = passed p i (settledLen ed n)
 
-unfoldable pub tookPlaces : List ℕ → Progress → Head → List ℕ → List ℕ
-tookPlaces b p (head.Put h i n) t = t
-tookPlaces b p (head.Delete h i) t = t
-tookPlaces b p (head.Commit h) t = recommit (take (p .end) b) h (getD (p .since) (h .0) 0) t
-tookPlaces b p (head.Abort h) t = t
-tookPlaces b p (head.Settled i n) t = set t (i .0) (p .end)
+unfoldable pub tookPlaces : Edition → List ℕ → Progress → Head → List ℕ → List ℕ
+tookPlaces ed b p (head.Put h i n) t = t
+tookPlaces ed b p (head.Delete h i) t = t
+tookPlaces ed b p (head.Commit h) t = recommit ed (take (p .end) b) h (getD (p .since) (h .0) 0) t
+tookPlaces ed b p (head.Abort h) t = t
+tookPlaces ed b p (head.Settled i n) t = set t (i .0) (p .end)
 
 abbrev pub tailOf : ScanTail → Tail
 tailOf clean = tail.Clean
 tailOf (cut n) = tail.Cut n
 tailOf (bad e) = tail.Bad e
 
-abbrev pub walkOf : Scan → Walk
-walkOf s = record { progress = progressOf (s .frames); tail = tailOf (s .tail) }
+abbrev pub walkOf : Edition → Scan → Walk
+walkOf ed s = record { progress = progressOf ed (s .frames); tail = tailOf (s .tail) }
 
--- what each of n settled ids from i on is, as its place tells
-abbrev pub settledWith : ObjectId → Option Value → List Frame → List Frame
-settledWith i none fs = fs
-settledWith i (some x) fs = settled i (x .bytes) ∷ fs
+-- the lengths of the values that n ids from i on have, by the heads at their places, which were read before; place 0 is none
+unfoldable pub lengthsAt : Edition → List ℕ → List ℕ → ℕ → ℕ → List ℕ
+lengthsAt ed b places zero i = []
+lengthsAt ed b places (suc n) i =
+    elim (eqb (getD places i 0) 0) [
+      | true ↦ lengthsAt ed b places n (suc i)
+      | false ↦ valueLen (peekAt ed b (getD places i 0)) ∷ lengthsAt ed b places n (suc i)
+    ]
 
-unfoldable pub settledAt : List ℕ → List ℕ → ℕ → ℕ → List Frame
-settledAt b places zero i = []
-settledAt b places (suc n) i = settledWith (idOf i) (valueAt b (idOf i) (getD places i 0)) (settledAt b places n (suc i))
+-- the bytes of settled frames whose values have these lengths
+abbrev pub settledTotal : Edition → List ℕ → ℕ
+settledTotal ed [] = 0
+settledTotal ed (n ∷ ns) = settledLen ed n + settledTotal ed ns
 
-abbrev pub tallyOf : List Frame → Tally
-tallyOf fs = record { count = length fs; used = headerLen + total fs }
+abbrev pub tallyOf : Edition → List ℕ → Tally
+tallyOf ed ns = record { count = length ns; used = headerLen + settledTotal ed ns }
 
 unfoldable pub emptySurvey : BlockKind → Survey
 emptySurvey k =
     record {
       kind = k;
+      edition = edition.First;
       time = 0;
       end = headerLen;
       torn = 0;
@@ -143,11 +152,12 @@ emptySurvey k =
       used = headerLen;
     }
 
-unfoldable pub foundSurvey : List ℕ → List ℕ → Progress → ℕ → Survey
-foundSurvey b places p n =
-    let t : Tally = tallyOf (settledAt b places 256 0) in
+unfoldable pub foundSurvey : Edition → List ℕ → List ℕ → Progress → ℕ → Survey
+foundSurvey ed b places p n =
+    let t : Tally = tallyOf ed (lengthsAt ed b places 256 0) in
     record {
       kind = kind.Valid;
+      edition = ed;
       time = createdAt b;
       end = p .end;
       torn = n;

@@ -1,15 +1,17 @@
 // A block surveyed: all that a board has to know of it, in one pass.
 ghost use mathlib.Core.Path.{_≡_};
-ghost use mathlib.Core.List.{[]};
 ghost use mathlib.Core.Option.{none};
 ghost use Prim.Native.Nat.{_≤_, _<_};
 ghost use lib.ListN.{length, replicate};
+ghost use Rattle.frame.specs.Frame.{settledLen};
 ghost use Rattle.frame.specs.Reader.{fault};
+ghost use Rattle.frame.specs.Code.{peekAt, valueLen};
 ghost use Rattle.frame.specs.declared.Field.the-variants.{Length};
 ghost use Rattle.journal.specs.Block.{headerLen, blockMax, foreign, ofHeader, blockState};
 ghost use Rattle.journal.specs.Index.{placesOf};
 ghost use Rattle.survey.specs.Survey.{surveyOf, placesIn, stateOf};
-ghost use Rattle.survey.specs.Pass.{scanBlock, settledAt, tallyOf, progressOf, walkOf, emptySurvey, foundSurvey};
+ghost use Rattle.journal.specs.Room.{perHost};
+ghost use Rattle.survey.specs.Pass.{scanBlock, lengthsAt, tallyOf, progress, walkOf, emptySurvey, foundSurvey};
 use crate::BlockKind;
 use crate::HeaderCheck;
 use crate::Progress;
@@ -19,21 +21,18 @@ use crate::Tally;
 use crate::Walk;
 use crate::header;
 use crate::pass;
-use fetch::Found;
+use frame::Edition;
 use frame::Fault;
 use frame::Field;
 use frame::FrameRead;
-use frame::ObjectId;
 use frame::SETTLED_LEN;
 use journal::BLOCK_MAX;
 use journal::HEADER_LEN;
 use journal::IN_TRANSFER;
 use journal::STATE_AT;
 
-// Where a block's frames start, and the length of a settled frame without its value, as offsets are counted.
+// Where a block's frames start, as offsets are counted.
 const START: u16 = HEADER_LEN as u16;
-
-const SETTLED: u16 = SETTLED_LEN as u16;
 
 // No place for any id.
 fn clear(places: &mut [u16])
@@ -48,7 +47,7 @@ fn clear(places: &mut [u16])
 
 // Before the first frame.
 fn begin() -> Progress
-    ensures { λ r. ⌜ r ≡ progressOf [] ⌝ }
+    ensures { λ r. ⌜ r ≡ progress headerLen 0 (perHost (λ h. headerLen)) (perHost (λ h. 0)) ⌝ }
 {
     Progress {
         end: START,
@@ -59,17 +58,18 @@ fn begin() -> Progress
 }
 
 // The frames of a block up to its tail. Offsets fit a u16; no id has a place yet.
-fn walk(block: &[u8], places: &mut [u16; 256]) -> Walk
-    requires { ⌜ (length (now block) ≤ blockMax) × (now places ≡ placesOf []) ⌝ }
-    ensures { λ r. ⌜ (r ≡ walkOf (scanBlock (now (block .entry)))) × (now (places .exit) ≡ placesOf (scanBlock (now (block .entry)) .frames)) ⌝ }
+fn walk(block: &[u8], edition: Edition, places: &mut [u16; 256]) -> Walk
+    requires { ⌜ (length (now block) ≤ blockMax) × (now places ≡ replicate 256 0) ⌝ }
+    ensures { λ r. ⌜ (r ≡ walkOf edition (scanBlock edition (now (block .entry))))
+        × (now (places .exit) ≡ placesOf edition (scanBlock edition (now (block .entry)) .frames)) ⌝ }
 {
     let mut p = begin();
     loop {
         let at = p.end as usize;
         let next = p.next;
-        match reader::read_frame(block, at, next) {
+        match reader::read_frame(block, edition, at, next) {
             FrameRead::Whole(head) => {
-                p = pass::take_frame(block, p, head, places);
+                p = pass::take_frame(block, edition, p, head, places);
             }
             FrameRead::Blank => {
                 return Walk {
@@ -93,24 +93,29 @@ fn walk(block: &[u8], places: &mut [u16; 256]) -> Walk
     }
 }
 
-// The settled objects that the places tell of.
-fn tally(block: &[u8], places: &[u16; 256]) -> Tally
-    ensures { λ r. ⌜ r ≡ tallyOf (settledAt (now (block .entry)) (now (places .entry)) 256 0) ⌝ }
+// How long the value of the frame at a place is, which was found whole before. A settled frame of it has at most 255 bytes.
+fn length_at(block: &[u8], edition: Edition, place: u16) -> usize
+    ensures { λ r. ⌜ (r ≡ valueLen (peekAt edition (now (block .entry)) place)) × (settledLen edition r ≤ 255) ⌝ }
 {
+    frame::value_len(reader::peek(block, edition, place as usize))
+}
+
+// The settled objects that the places tell of.
+fn tally(block: &[u8], edition: Edition, places: &[u16; 256]) -> Tally
+    ensures { λ r. ⌜ r ≡ tallyOf edition (lengthsAt edition (now (block .entry)) (now (places .entry)) 256 0) ⌝ }
+{
+    let least = SETTLED_LEN as usize + frame::check_len(edition) as usize;
     let mut i: u16 = 0;
     let mut count: u16 = 0;
     let mut used: u16 = START;
     while i < 256 {
-        match fetch::value_at(block, ObjectId(i), places[i as usize]) {
-            Found::At(_, n) => {
-                i = i + 1;
-                count = count + 1;
-                used = used + SETTLED + n as u16;
-            }
-            Found::Nothing => {
-                i = i + 1;
-            }
+        let place = places[i as usize];
+        if place != 0 {
+            let n = length_at(block, edition, place);
+            count = count + 1;
+            used = used + (least + n) as u16;
         }
+        i = i + 1;
     }
     Tally {
         count: count,
@@ -124,6 +129,7 @@ fn empty(kind: BlockKind) -> Survey
 {
     Survey {
         kind: kind,
+        edition: Edition::First,
         time: 0,
         end: START,
         torn: 0,
@@ -135,14 +141,15 @@ fn empty(kind: BlockKind) -> Survey
 }
 
 // A valid block.
-fn found(block: &[u8], places: &[u16; 256], p: Progress, torn: u16) -> Survey
-    ensures { λ r. ⌜ r ≡ foundSurvey (now (block .entry)) (now (places .entry)) p torn ⌝ }
+fn found(block: &[u8], edition: Edition, places: &[u16; 256], p: Progress, torn: u16) -> Survey
+    ensures { λ r. ⌜ r ≡ foundSurvey edition (now (block .entry)) (now (places .entry)) p torn ⌝ }
 {
-    let t = tally(block, places);
+    let t = tally(block, edition, places);
     let since = p.since;
     let pending = p.pending;
     Survey {
         kind: BlockKind::Valid,
+        edition: edition,
         time: header::created(block),
         end: p.end,
         torn: torn,
@@ -155,15 +162,16 @@ fn found(block: &[u8], places: &[u16; 256], p: Progress, torn: u16) -> Survey
 
 // A block whose header is without fault. It has one, and its offsets fit a u16.
 fn survey_frames(block: &[u8], places: &mut [u16; 256]) -> Survey
-    requires { ⌜ (headerLen ≤ length (now block)) × (length (now block) ≤ blockMax) × (now places ≡ placesOf []) ⌝ }
+    requires { ⌜ (headerLen ≤ length (now block)) × (length (now block) ≤ blockMax) × (now places ≡ replicate 256 0) ⌝ }
     ensures { λ r. ⌜ (r ≡ surveyOf (ofHeader (now (block .entry)) none)) × (now (places .exit) ≡ placesIn (ofHeader (now (block .entry)) none)) ⌝ }
 {
-    let w = walk(block, places);
+    let edition = header::edition_in(block);
+    let w = walk(block, edition, places);
     let p = w.progress;
     let tail = w.tail;
     match tail {
-        Tail::Clean => return found(block, places, p, 0),
-        Tail::Cut(n) => return found(block, places, p, n as u16),
+        Tail::Clean => return found(block, edition, places, p, 0),
+        Tail::Cut(n) => return found(block, edition, places, p, n as u16),
         Tail::Bad(fault) => {
             clear(places);
             return empty(BlockKind::Foreign(fault));

@@ -3,11 +3,13 @@ ghost use mathlib.Core.Path.{_≡_};
 ghost use mathlib.Core.List.{[], _∷_};
 ghost use Prim.Native.Nat.{_-_, _<_};
 ghost use lib.ListN.{getD, take, drop};
-ghost use Rattle.flash.specs.Bytes.{allFF, sameBytes};
-ghost use Rattle.journal.specs.Block.{headerLen, spareAt, createdAt, headerFault};
+ghost use Rattle.flash.specs.Bytes.{u16le, allFF, sameBytes};
+ghost use Rattle.frame.specs.Frame.{kindAt};
+ghost use Rattle.journal.specs.Block.{headerLen, headerKind, spareAt, createdAt, editionIn, headerFault};
 ghost use Rattle.survey.specs.Pass.{headerOf};
 use crate::HeaderCheck;
 use flash::byte_at;
+use frame::Edition;
 use frame::Fault;
 use frame::Field;
 use frame::KIND_AT;
@@ -17,10 +19,8 @@ use journal::STATE_AT;
 use journal::TIME_AT;
 use journal::VALID_DATA;
 
-// The low bytes of length and kind, and the kind's high byte.
+// The length's low byte and the kind's high byte.
 const LENGTH: u8 = HEADER_LEN as u8;
-
-const KIND_LOW: u8 = 0x01;
 
 const KIND_HIGH: u8 = 0x4A;
 
@@ -69,6 +69,23 @@ fn spare_blank(block: &[u8]) -> bool
     flash::is_blank(&block[SPARE_AT..HEADER_LEN])
 }
 
+// The kind is an edition's: its low byte is the edition's number.
+fn is_kind(block: &[u8], edition: Edition) -> bool
+    ensures { λ r. ⌜ r ≡ sameBytes (take 2 (drop kindAt (now (block .entry)))) (u16le (headerKind edition)) ⌝ }
+{
+    stands(block, KIND_AT, frame::edition_number(edition), KIND_HIGH)
+}
+
+// The edition that a header's kind tells.
+pub fn edition_in(block: &[u8]) -> Edition
+    ensures { λ r. ⌜ r ≡ editionIn (now (block .entry)) ⌝ }
+{
+    if is_kind(block, Edition::Second) {
+        return Edition::Second;
+    }
+    Edition::First
+}
+
 // The first field of a header that is wrong.
 pub fn header_fault(block: &[u8]) -> HeaderCheck
     ensures { λ r. ⌜ r ≡ headerOf (headerFault (now (block .entry))) ⌝ }
@@ -79,7 +96,7 @@ pub fn header_fault(block: &[u8]) -> HeaderCheck
             place: 0,
         });
     }
-    if !stands(block, KIND_AT, KIND_LOW, KIND_HIGH) {
+    if !is_kind(block, edition_in(block)) {
         return HeaderCheck::Bad(Fault {
             field: Field::Kind,
             place: KIND_AT,

@@ -4,6 +4,7 @@ mod header;
 mod pass;
 
 pub use block::survey_block;
+use frame::Edition;
 use frame::Fault;
 
 // What is wrong with a header, if anything is.
@@ -50,6 +51,8 @@ pub struct Tally {
 // All that there is to know of a block; of one that isn't valid, its kind.
 pub struct Survey {
     pub kind: BlockKind,
+    // the format's edition, of a block that isn't valid the first
+    pub edition: Edition,
     pub time: u32,
     // where its whole frames end, and the length of a torn one after them, 0 for none
     pub end: u16,

@@ -2,19 +2,14 @@
 ghost use mathlib.Core.Path.{_≡_};
 ghost use Prim.Native.Nat.{ℕ, _+_, _≤_, _<_};
 ghost use lib.ListN.{length, getD, set};
-ghost use Rattle.frame.specs.Frame.{endLen};
 ghost use Rattle.frame.specs.Code.{headLen};
 ghost use Rattle.journal.specs.Block.{blockMax};
-ghost use Rattle.survey.specs.Pass.{placeHead, nextHead, recommit, grown, closed, passed, tookFrame, tookPlaces};
+ghost use Rattle.survey.specs.Pass.{placeHead, recommit, grown, closed, passed, tookFrame, tookPlaces};
 use crate::Progress;
-use frame::END_LEN;
-use frame::FrameRead;
+use frame::Edition;
 use frame::Head;
 use frame::Host;
 use frame::ObjectId;
-
-// The length of a commit or an abort, as offsets are counted.
-const END: u16 = END_LEN as u16;
 
 // An id's place.
 fn store(places: &mut [u16], id: ObjectId, at: u16)
@@ -51,43 +46,17 @@ fn place_own(places: &mut [u16; 256], host: Host, at: u16, head: Head)
     }
 }
 
-// The least id that a settled frame may have after a frame.
-fn next_after(head: Head) -> usize
-    ensures { λ r. ⌜ r ≡ nextHead head ⌝ }
-{
-    match head {
-        Head::Put(_, _, _) => 256,
-        Head::Delete(_, _) => 256,
-        Head::Commit(_) => 256,
-        Head::Abort(_) => 256,
-        Head::Settled(id, _) => id.0 as usize + 1,
-    }
-}
-
-// A commit of a host: its puts and deletes from its `since` on are read again. Offsets are at most a block's length, and fit a u16.
-fn commit_own(part: &[u8], host: Host, since: usize, places: &mut [u16; 256])
+// A commit of a host at the end of a part whose frames were found whole before: its puts and deletes from its `since` on, by their heads.
+// Offsets are at most a block's length, and fit a u16.
+fn commit_own(part: &[u8], edition: Edition, host: Host, since: usize, places: &mut [u16; 256])
     requires { ⌜ length (now part) ≤ blockMax ⌝ }
-    ensures { λ _. ⌜ now (places .exit) ≡ recommit (now (part .entry)) host since (now (places .entry)) ⌝ }
+    ensures { λ _. ⌜ now (places .exit) ≡ recommit edition (now (part .entry)) host since (now (places .entry)) ⌝ }
 {
     let mut at = since;
-    let mut next: usize = 0;
-    loop {
-        match reader::read_frame(part, at, next) {
-            FrameRead::Whole(head) => {
-                place_own(places, host, at as u16, head);
-                next = next_after(head);
-                at = at + frame::frame_len(head);
-            }
-            FrameRead::Blank => {
-                return;
-            }
-            FrameRead::Torn(_) => {
-                return;
-            }
-            FrameRead::Wrong(_) => {
-                return;
-            }
-        }
+    while at < part.len() {
+        let head = reader::peek(part, edition, at);
+        place_own(places, host, at as u16, head);
+        at = at + frame::frame_len(edition, head);
     }
 }
 
@@ -107,12 +76,12 @@ fn grow(p: Progress, host: Host, n: u16) -> Progress
     }
 }
 
-// A host's commit or abort.
-fn close(p: Progress, host: Host) -> Progress
-    requires { ⌜ p .end + endLen ≤ blockMax ⌝ }
-    ensures { λ r. ⌜ r ≡ closed p host ⌝ }
+// A host's commit or abort of n bytes.
+fn close(p: Progress, host: Host, n: u16) -> Progress
+    requires { ⌜ p .end + n ≤ blockMax ⌝ }
+    ensures { λ r. ⌜ r ≡ closed p host n ⌝ }
 {
-    let end = p.end + END;
+    let end = p.end + n;
     let old = p.since;
     let was = p.pending;
     let since = fetch::with_host(old, host, end);
@@ -141,12 +110,18 @@ fn settle(p: Progress, id: ObjectId, n: u16) -> Progress
 }
 
 // One frame more. It lies in the block, whose offsets fit a u16; what is pending lies there too.
-pub fn take_frame(block: &[u8], p: Progress, head: Head, places: &mut [u16; 256]) -> Progress
-    requires { ⌜ (p .end + headLen head ≤ length (now block)) × (length (now block) ≤ blockMax) × ((k : ℕ) → getD (p .pending) k 0 ≤ p .end) ⌝ }
-    ensures { λ r. ⌜ (r ≡ tookFrame p head) × (now (places .exit) ≡ tookPlaces (now (block .entry)) p head (now (places .entry))) ⌝ }
+pub fn take_frame(
+    block: &[u8],
+    edition: Edition,
+    p: Progress,
+    head: Head,
+    places: &mut [u16; 256],
+) -> Progress
+    requires { ⌜ (p .end + headLen edition head ≤ length (now block)) × (length (now block) ≤ blockMax) × ((k : ℕ) → getD (p .pending) k 0 ≤ p .end) ⌝ }
+    ensures { λ r. ⌜ (r ≡ tookFrame edition p head) × (now (places .exit) ≡ tookPlaces edition (now (block .entry)) p head (now (places .entry))) ⌝ }
 {
     let end = p.end;
-    let size = frame::frame_len(head) as u16;
+    let size = frame::frame_len(edition, head) as u16;
     match head {
         Head::Put(host, _, _) => grow(p, host, size),
         Head::Delete(host, _) => grow(p, host, size),
@@ -154,10 +129,10 @@ pub fn take_frame(block: &[u8], p: Progress, head: Head, places: &mut [u16; 256]
             let all = p.since;
             let since = fetch::of_host(all, host) as usize;
             let e = end as usize;
-            commit_own(&block[..e], host, since, places);
-            close(p, host)
+            commit_own(&block[..e], edition, host, since, places);
+            close(p, host, size)
         }
-        Head::Abort(host) => close(p, host),
+        Head::Abort(host) => close(p, host, size),
         Head::Settled(id, _) => {
             store(places, id, end);
             settle(p, id, size)

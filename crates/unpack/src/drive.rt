@@ -1,7 +1,7 @@
 // What a step needs of a record's bytes: its numbers, and of its arrays what it looks at.
 ghost use mathlib.Core.Path.{_≡_};
 ghost use lib.ListN.{drop, getD};
-ghost use Rattle.frame.specs.Frame.{maxFrame};
+ghost use Rattle.frame.specs.Frame.{bufferLen};
 ghost use Rattle.job.specs.Code.{numbersOf, inHand};
 ghost use Rattle.lent.specs.Layout.{bytesIn, recordIn};
 use crate::cursor_in;
@@ -14,7 +14,7 @@ use crate::tail;
 use board::Phase;
 use board::Stage;
 use flash::byte_at;
-use frame::MAX_FRAME;
+use frame::BUFFER_LEN;
 use job::records::Numbers;
 
 // The record's numbers.
@@ -36,13 +36,13 @@ pub fn places(bytes: &[u8]) -> [u16; 256]
     places_in(tail(bytes, lent::PLACES_AT))
 }
 
-pub fn unit(bytes: &[u8]) -> [u8; MAX_FRAME]
+pub fn unit(bytes: &[u8]) -> [u8; BUFFER_LEN]
     ensures { λ r. ⌜ r ≡ recordIn (now (bytes .entry)) .unit ⌝ }
 {
     frame_in(tail(bytes, lent::UNIT_AT))
 }
 
-pub fn append(bytes: &[u8]) -> [u8; MAX_FRAME]
+pub fn append(bytes: &[u8]) -> [u8; BUFFER_LEN]
     ensures { λ r. ⌜ r ≡ recordIn (now (bytes .entry)) .frame ⌝ }
 {
     frame_in(tail(bytes, lent::FRAME_AT))
@@ -50,10 +50,10 @@ pub fn append(bytes: &[u8]) -> [u8; MAX_FRAME]
 
 // A byte of a frame buffer that starts at a place.
 fn frame_byte(bytes: &[u8], at: usize, i: u8) -> u8
-    ensures { λ r. ⌜ r ≡ getD (bytesIn maxFrame (drop at (now (bytes .entry)))) i 0 ⌝ }
+    ensures { λ r. ⌜ r ≡ getD (bytesIn bufferLen (drop at (now (bytes .entry)))) i 0 ⌝ }
 {
     let k = i as usize;
-    if k < MAX_FRAME {
+    if k < BUFFER_LEN {
         return byte_at(tail(bytes, at), k);
     }
     0

@@ -25,5 +25,6 @@ pub fn rest_of(bytes: &[u8]) -> Rest
         block: byte_at(bytes, lent::BLOCK_AT),
         end: word_in(bytes, lent::END_AT),
         pending: pending,
+        edition: byte_at(bytes, lent::EDITION_AT),
     }
 }

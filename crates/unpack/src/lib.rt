@@ -16,14 +16,14 @@ pub use drive::unit;
 pub use drive::unit_byte;
 use flash::MAX_BLOCKS;
 use flash::byte_at;
-use frame::MAX_FRAME;
+use frame::BUFFER_LEN;
 pub use head::phase_of;
 pub use head::rest_of;
 use wire::word_at;
 ghost use mathlib.Core.Path.{_≡_};
 ghost use lib.ListN.{take, drop};
 ghost use Rattle.flash.specs.Flash.{maxBlocks};
-ghost use Rattle.frame.specs.Frame.{maxFrame};
+ghost use Rattle.frame.specs.Frame.{bufferLen};
 ghost use Rattle.wire.specs.Message.{wordAt};
 ghost use Rattle.lent.specs.Layout.{phaseIn, bytesIn, wordsIn, numberIn, flagIn, jobIn, cursorIn, recordIn};
 
@@ -148,6 +148,7 @@ fn job_in(bytes: &[u8]) -> Job
         time: number_in(tail(plan, lent::TIME_AT)),
         since: since,
         size: byte_at(plan, lent::APPEND_AT),
+        edition: byte_at(plan, lent::MAKES_AT),
     }
 }
 
@@ -164,11 +165,11 @@ fn cursor_in(bytes: &[u8]) -> Cursor
     }
 }
 
-fn frame_in(bytes: &[u8]) -> [u8; MAX_FRAME]
-    ensures { λ r. ⌜ r ≡ bytesIn maxFrame (now (bytes .entry)) ⌝ }
+fn frame_in(bytes: &[u8]) -> [u8; BUFFER_LEN]
+    ensures { λ r. ⌜ r ≡ bytesIn bufferLen (now (bytes .entry)) ⌝ }
 {
-    let mut f = [0u8; MAX_FRAME];
-    wire::lay(&mut f[..], front(bytes, MAX_FRAME));
+    let mut f = [0u8; BUFFER_LEN];
+    wire::lay(&mut f[..], front(bytes, BUFFER_LEN));
     f
 }
 

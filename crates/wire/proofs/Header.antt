@@ -18,6 +18,7 @@ answers-exact =
       host-range = refl;
       stale = refl;
       host-full = refl;
+      pending = refl;
       more = refl;
     }
 
@@ -26,4 +27,4 @@ refused-exact = record { done = refl; more = refl; refused = λ n. refl }
 
 pub fields-exact : FieldsExact
 fields-exact =
-    record { length = refl; kind = refl; host = refl; id = refl; finish = refl; time = refl; state = refl; rest = refl }
+    record { length = refl; kind = refl; host = refl; id = refl; finish = refl; time = refl; state = refl; rest = refl; crc = refl }

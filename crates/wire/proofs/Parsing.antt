@@ -9,7 +9,7 @@ use Rattle.flash.proofs.Blank.{bytes-drop}
 use Rattle.frame.specs.declared.ObjectId.{ObjectId}
 use Rattle.frame.specs.Frame.{idMax, valueMax}
 use Rattle.wire.specs.declared.Request.{Request}
-use Rattle.wire.specs.declared.Request.the-variants.{Put, Delete, Commit, Abort, Read, Log}
+use Rattle.wire.specs.declared.Request.the-variants.{Put, Delete, Commit, Abort, Read, Log, Convert}
 use Rattle.wire.specs.declared.Parsed.the-variants.{Is}
 use Rattle.wire.specs.Message.{valueIn, parse}
 use Rattle.wire.specs.Sentences.{Means, MessagesExact}
@@ -23,6 +23,7 @@ InRange m Commit = Unit {0}
 InRange m Abort = Unit {0}
 InRange m (Read i) = i .0 ≤ idMax
 InRange m (Log p) = Unit {0}
+InRange m Convert = Unit {0}
 
 ranged : (m : List ℕ) (q : Request) → Means m q → InRange m q
 ranged m (Put i) (h, a, b, w, k) = (k, simp length-drop (omega arith))
@@ -31,6 +32,7 @@ ranged m Commit y = tt
 ranged m Abort y = tt
 ranged m (Read i) (h, l, w, k) = k
 ranged m (Log p) y = tt
+ranged m Convert y = tt
 
 pub in-range : (m : List ℕ) (q : Request) → parse m ≡ Is q → InRange m q
 unfolding MessagesExact

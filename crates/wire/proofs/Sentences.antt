@@ -15,7 +15,7 @@ use Rattle.frame.specs.declared.ObjectId.{ObjectId}
 use Rattle.frame.specs.Frame.{idMax, valueMax, idOf}
 use Rattle.wire.specs.declared.Page.the-variants.{Summary}
 use Rattle.wire.specs.declared.Request.{Request}
-use Rattle.wire.specs.declared.Request.the-variants.{Put, Delete, Commit, Abort, Read, Log}
+use Rattle.wire.specs.declared.Request.the-variants.{Put, Delete, Commit, Abort, Read, Log, Convert}
 use Rattle.wire.specs.declared.Parsed.{Parsed}
 use Rattle.wire.specs.declared.Parsed.the-variants.{Is, Malformed}
 use Rattle.wire.specs.Message.{wordAt, idIn, isIf, onlyId, noBody, idAndValue, summaryPage, ofKind, parse, logPage, withPage}
@@ -58,21 +58,21 @@ module _ (m : List ℕ) (l : 4 ≤ length m) (w : number2 m 0 ≡ length m) wher
 
   meant-kind : Meant m (ofKind (wordAt m 2) m)
   meant-kind =
-      let k : ℕ = wordAt m 2 in
-      either (Meant m) (eqb k 0x0101) _ _
+      either (Meant m) _ _ _
       (λ t. meant-if m (idAndValue m) (Put (idIn m)) (λ e. let y = id-and-value m e in (headed 0x0101 t, y .0, y .1, y .2, y .3)))
-      (either (Meant m) (eqb k 0x0102) _ _
+      (either (Meant m) _ _ _
       (λ t. meant-if m (onlyId m) (Delete (idIn m)) (λ e. let y = only-id m e in (headed 0x0102 t, y .0, y .1, y .2)))
-      (either (Meant m) (eqb k 0x0103) _ _ (λ t. meant-if m (noBody m) Commit (λ e. (headed 0x0103 t, eqb-true (length m) 4 e)))
-      (either (Meant m) (eqb k 0x0104) _ _ (λ t. meant-if m (noBody m) Abort (λ e. (headed 0x0104 t, eqb-true (length m) 4 e)))
-      (either (Meant m) (eqb k 0x0105) _ _
+      (either (Meant m) _ _ _ (λ t. meant-if m (noBody m) Commit (λ e. (headed 0x0103 t, eqb-true (length m) 4 e)))
+      (either (Meant m) _ _ _ (λ t. meant-if m (noBody m) Abort (λ e. (headed 0x0104 t, eqb-true (length m) 4 e)))
+      (either (Meant m) _ _ _
       (λ t. meant-if m (onlyId m) (Read (idIn m)) (λ e. let y = only-id m e in (headed 0x0105 t, y .0, y .1, y .2)))
-      (meant-if m (eqb k 0x0106 && summaryPage m) (Log Summary) (λ e.
-      let p : summaryPage m ≡ true = and-right (eqb k 0x0106) (summaryPage m) e in (
-        headed 0x0106 (and-left (eqb k 0x0106) (summaryPage m) e),
-        eqb-true (length m) 5 (and-left (eqb (length m) 5) (eqb (getD m 4 0) 1) p),
-        eqb-true (getD m 4 0) 1 (and-right (eqb (length m) 5) (eqb (getD m 4 0) 1) p),
-      )))))))
+      (either (Meant m) _ _ _
+      (λ t. meant-if m (summaryPage m) (Log Summary) (λ e. (
+        headed 0x0106 t,
+        eqb-true (length m) 5 (and-left (eqb (length m) 5) (eqb (getD m 4 0) 1) e),
+        eqb-true (getD m 4 0) 1 (and-right (eqb (length m) 5) (eqb (getD m 4 0) 1) e),
+      )))
+      (either (Meant m) _ _ _ (λ t. meant-if m (noBody m) Convert (λ e. (headed 0x0108 t, eqb-true (length m) 4 e))) tt))))))
 
 meant-parse : (m : List ℕ) → Meant m (parse m)
 unfolding parse
@@ -114,6 +114,7 @@ parse-means m (Log Summary) (h, l, p) =
     parse-kind m 0x0106 h
     ∙ ap (λ (x : Bool). isIf x (Log Summary))
     (and-both (eqb (length m) 5) (eqb (getD m 4 0) 1) (eq-eqb (length m) 5 l) (eq-eqb (getD m 4 0) 1 p))
+parse-means m Convert (h, l) = parse-kind m 0x0108 h ∙ ap (λ (x : Bool). isIf x Convert) (eq-eqb (length m) 4 l)
 
 pub messages-exact : MessagesExact
 unfolding MessagesExact

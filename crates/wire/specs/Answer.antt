@@ -23,6 +23,7 @@ refusalNumber refusal.ShortReply = 9  -- log: reply under 14 bytes
 refusalNumber refusal.HostRange = 10  -- host above 3
 refusalNumber refusal.Stale = 11  -- the record does not fit the image
 refusalNumber refusal.HostFull = 12  -- document 02, K7: a host's pending frames would come to more than S/2 bytes
+refusalNumber refusal.Pending = 16  -- document 02, K9: convert, and something is pending
 
 -- "Done is 0; an unfinished step says more": more has no number
 abbrev pub numberOf : Answer → Option ℕ
@@ -73,6 +74,7 @@ refusalSpot refusal.ShortReply = spot 0 0 0
 refusalSpot refusal.HostRange = spot 0 0 0
 refusalSpot refusal.Stale = spot 0 0 0
 refusalSpot refusal.HostFull = spot 0 0 0
+refusalSpot refusal.Pending = spot 0 0 0
 
 abbrev pub spotOf : Answer → Spot
 spotOf Done = spot 0 0 0

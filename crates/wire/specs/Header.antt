@@ -23,6 +23,7 @@ pub record AnswersExact : Type 0 where
   pub host-range : edgeNumber (Refused refusal.HostRange) ≡ 10
   pub stale : edgeNumber (Refused refusal.Stale) ≡ 11
   pub host-full : edgeNumber (Refused refusal.HostFull) ≡ 12
+  pub pending : edgeNumber (Refused refusal.Pending) ≡ 16
   pub more : edgeNumber More ≡ 255
 
 -- grommetide_fault: "IMAGE_LENGTH, NO_STORE, WORN: so does a mount answer. DONE: a mount is accepted."
@@ -41,3 +42,4 @@ pub record FieldsExact : Type 0 where
   pub time : fieldNumber field.Created ≡ 6
   pub state : fieldNumber field.State ≡ 7
   pub rest : fieldNumber field.Spare ≡ 8
+  pub crc : fieldNumber field.Crc ≡ 9

@@ -9,7 +9,7 @@ use Rattle.frame.specs.declared.ObjectId.{ObjectId}
 use Rattle.frame.specs.Frame.{idMax, valueMax, kindAt, bodyAt}
 use Rattle.wire.specs.declared.Page.the-variants.{Summary}
 use Rattle.wire.specs.declared.Request.{Request}
-use Rattle.wire.specs.declared.Request.the-variants.{Put, Delete, Commit, Abort, Read, Log}
+use Rattle.wire.specs.declared.Request.the-variants.{Put, Delete, Commit, Abort, Read, Log, Convert}
 use Rattle.wire.specs.declared.Parsed.{Parsed}
 use Rattle.wire.specs.declared.Parsed.the-variants.{Is, Malformed}
 
@@ -38,7 +38,7 @@ isIf false q = Malformed
 abbrev pub onlyId : List ℕ → Bool
 onlyId m = eqb (length m) idEnd && leb (wordAt m bodyAt) idMax
 
--- a commit and an abort are length and kind alone
+-- a commit, an abort and a convert are length and kind alone
 abbrev pub noBody : List ℕ → Bool
 noBody m = eqb (length m) bodyAt
 
@@ -50,7 +50,8 @@ idAndValue m = leb idEnd (length m) && (leb (length m) (idEnd + valueMax) && leb
 abbrev pub summaryPage : List ℕ → Bool
 summaryPage m = eqb (length m) (bodyAt + 1) && eqb (getD m bodyAt 0) 1
 
--- "0x0101 put: id 2, value. 0x0102 delete: id 2. 0x0103 commit. 0x0104 abort. 0x0105 read: id 2. 0x0106 log"
+-- "0x0101 put: id 2, value. 0x0102 delete: id 2. 0x0103 commit. 0x0104 abort. 0x0105 read: id 2. 0x0106 log"; "A convert
+-- request (0x0108, no body)" (document 02, K9)
 abbrev pub ofKind : ℕ → List ℕ → Parsed
 ofKind k m =
     elim (eqb k 0x0101) [
@@ -63,7 +64,10 @@ ofKind k m =
             | true ↦ isIf (noBody m) Abort
             | false ↦ elim (eqb k 0x0105) [
               | true ↦ isIf (onlyId m) (Read (idIn m))
-              | false ↦ isIf (eqb k 0x0106 && summaryPage m) (Log Summary)
+              | false ↦ elim (eqb k 0x0106) [
+                | true ↦ isIf (summaryPage m) (Log Summary)
+                | false ↦ elim (eqb k 0x0108) [ true ↦ isIf (noBody m) Convert | false ↦ Malformed ]
+              ]
             ]
           ]
         ]

@@ -7,7 +7,7 @@ use lib.ListN.{length, getD}
 use Rattle.frame.specs.Frame.{valueMax}
 use Rattle.wire.specs.declared.Page.the-variants.{Summary}
 use Rattle.wire.specs.declared.Request.{Request}
-use Rattle.wire.specs.declared.Request.the-variants.{Put, Delete, Commit, Abort, Read, Log}
+use Rattle.wire.specs.declared.Request.the-variants.{Put, Delete, Commit, Abort, Read, Log, Convert}
 use Rattle.wire.specs.declared.Parsed.the-variants.{Is, Malformed}
 use Rattle.wire.specs.Message.{valueIn, parse, logPage, withPage}
 
@@ -27,7 +27,8 @@ pub record Headed (m : List ℕ) (kind : ℕ) : Type 0 where
   pub kind-is : number2 m 2 ≡ kind
 
 -- "0x0101 put: id 2, value. 0x0102 delete: id 2. 0x0103 commit. 0x0104 abort. 0x0105 read: id 2. 0x0106 log: page 1 byte, which must
--- be 1." "Object ids 0 to 255"; "Raise the value limit from 64 to 240, refusal 1 starting at 241" (document 02, K2)
+-- be 1." "Object ids 0 to 255"; "Raise the value limit from 64 to 240, refusal 1 starting at 241" (document 02, K2); "A convert request
+-- (0x0108, no body)" (K9)
 abbrev pub Means : List ℕ → Request → Type 0
 Means m (Put i) = Headed m 0x0101 × (6 ≤ length m) × (length m ≤ 6 + valueMax) × (number2 m 4 ≡ i .0) × (i .0 ≤ 255)
 Means m (Delete i) = Headed m 0x0102 × (length m ≡ 6) × (number2 m 4 ≡ i .0) × (i .0 ≤ 255)
@@ -35,6 +36,7 @@ Means m Commit = Headed m 0x0103 × (length m ≡ 4)
 Means m Abort = Headed m 0x0104 × (length m ≡ 4)
 Means m (Read i) = Headed m 0x0105 × (length m ≡ 6) × (number2 m 4 ≡ i .0) × (i .0 ≤ 255)
 Means m (Log Summary) = Headed m 0x0106 × (length m ≡ 5) × (getD m 4 0 ≡ 1)
+Means m Convert = Headed m 0x0108 × (length m ≡ 4)
 
 unfoldable pub MessagesExact : Type 0
 MessagesExact = (m : List ℕ) (q : Request) → (parse m ≡ Is q) ↔ Means m q

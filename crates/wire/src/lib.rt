@@ -27,6 +27,7 @@ pub enum Request {
     Abort,
     Read(ObjectId),
     Log(Page),
+    Convert,
 }
 
 // What a message is.
@@ -49,6 +50,7 @@ pub enum Refusal {
     HostRange,
     Stale,
     HostFull,
+    Pending,
 }
 
 // What a call answers.
@@ -161,6 +163,7 @@ fn of_kind(kind: u16, m: &[u8]) -> Parsed
         0x0104 => is_if(no_body(m), Request::Abort),
         0x0105 => is_if(only_id(m), Request::Read(id_in(m))),
         0x0106 => is_if(summary_page(m), Request::Log(Page::Summary)),
+        0x0108 => is_if(no_body(m), Request::Convert),
         _ => Parsed::Malformed,
     }
 }
@@ -194,6 +197,7 @@ fn refusal_number(why: Refusal) -> u8
         Refusal::HostRange => 10,
         Refusal::Stale => 11,
         Refusal::HostFull => 12,
+        Refusal::Pending => 16,
     }
 }
 
@@ -273,6 +277,7 @@ fn refusal_spot(why: Refusal) -> Spot
         Refusal::HostRange => none,
         Refusal::Stale => none,
         Refusal::HostFull => none,
+        Refusal::Pending => none,
     }
 }
 

@@ -20,13 +20,21 @@ struct Builder {
     record: model::Record,
 }
 
+/// Bytes of a frame beside its body: length, kind and finish byte, in edition 2 the CRC too.
+fn around(edition: u8) -> usize {
+    if edition == 2 { 9 } else { 5 }
+}
+
 impl Builder {
-    fn formatted(length: usize, blocks: u8) -> Builder {
+    fn formatted(length: usize, blocks: u8, edition: u8) -> Builder {
         let image = vec![0xFF; length];
         let (answer, record) = Model.format(&image, blocks);
         assert_eq!(answer, Answer::MORE);
         let mut builder = Builder { image, blocks, record };
         builder.finish();
+        if edition == 2 {
+            builder.serve(&message::convert());
+        }
         builder
     }
 
@@ -59,34 +67,35 @@ impl Builder {
 }
 
 /// Two short objects in an otherwise empty journal.
-pub fn sparse(length: usize, blocks: u8) -> Case {
-    let mut builder = Builder::formatted(length, blocks);
+pub fn sparse(length: usize, blocks: u8, edition: u8) -> Case {
+    let mut builder = Builder::formatted(length, blocks, edition);
     for id in [0, 1] {
         builder.serve(&message::put(id, &[id; 8]));
     }
     builder.serve(&message::commit());
-    case(builder, "sparse")
+    case(builder, if edition == 2 { "sparse, edition 2" } else { "sparse" })
 }
 
 /// Bytes of the values that are put and of the objects of a full store. It is less than the store's limit: the figures
 /// stay comparable with those from before the limit was raised, and the smallest image has room for such values.
 pub const OBJECT: usize = 64;
 
-/// As many such objects as leave room for one more put, none of them 255, and a journal with at most 28 bytes left, so
-/// that such a put needs a transfer and a short change with its commit does not.
-pub fn full(length: usize, blocks: u8) -> Case {
-    let mut builder = Builder::formatted(length, blocks);
-    let (put, settled) = (8 + OBJECT, 7 + OBJECT);
-    let objects = ((builder.size() - 16 - (put + 6 + 14)) / settled).min(255);
+/// As many such objects as leave room for one more put, none of them 255, and a journal with so few bytes left that such a
+/// put needs a transfer, and a put of one byte with its commit does not.
+pub fn full(length: usize, blocks: u8, edition: u8) -> Case {
+    let mut builder = Builder::formatted(length, blocks, edition);
+    let (change, end) = (3 + around(edition), 1 + around(edition));
+    let (put, settled) = (change + OBJECT, 2 + around(edition) + OBJECT);
+    let objects = ((builder.size() - 16 - (put + end + change + end)) / settled).min(255);
     for id in 0..objects {
         builder.serve(&message::put(id as u8, &[id as u8; OBJECT]));
         builder.serve(&message::commit());
     }
-    while builder.free() >= 14 + 15 {
+    while builder.free() > 2 * (change + end) {
         builder.serve(&message::put(0, &[]));
         builder.serve(&message::abort());
     }
-    case(builder, "full")
+    case(builder, if edition == 2 { "full, edition 2" } else { "full" })
 }
 
 fn case(mut builder: Builder, fill: &'static str) -> Case {

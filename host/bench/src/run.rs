@@ -8,8 +8,9 @@ use plain::Plain;
 use std::time::Duration;
 use store::Store;
 
-/// Lengths and numbers of blocks. The smallest image has room for two.
-const IMAGES: [(usize, u8); 5] = [(512, 2), (4_096, 2), (4_096, 16), (65_536, 2), (65_536, 16)];
+/// Lengths, numbers of blocks and editions. The smallest image has room for two objects, in edition 1.
+const IMAGES: [(usize, u8, u8); 7] =
+    [(512, 2, 1), (4_096, 2, 1), (4_096, 2, 2), (4_096, 16, 1), (65_536, 2, 1), (65_536, 2, 2), (65_536, 16, 1)];
 
 /// How much is measured: repeats, and of each the time and the goes that it takes at least, so that one held up does not
 /// decide.
@@ -38,8 +39,8 @@ pub struct Row {
 }
 
 fn cases() -> Vec<Case> {
-    let cases = IMAGES.iter().flat_map(|(length, blocks)| [sparse(*length, *blocks), full(*length, *blocks)]);
-    cases.collect()
+    let both = |(length, blocks, edition)| [sparse(length, blocks, edition), full(length, blocks, edition)];
+    IMAGES.into_iter().flat_map(both).collect()
 }
 
 /// The rows of single calls, then those of whole operations.

@@ -3,7 +3,7 @@
 use crate::chip::Chip;
 use crate::hosts::{Request, listed};
 use crate::machine::{Machine, lines_after};
-use check::book::{Book, Objects};
+use check::book::{Book, FIRST, Objects};
 use check::rng::Rng;
 use std::fmt;
 use std::path::{Path, PathBuf};
@@ -158,7 +158,7 @@ impl Bench {
         let expected = request.expected(&self.book);
         assert!(lines[0].starts_with(&expected) && lines.len() == 1, "{request:?}: {lines:?}, not {expected}");
         if let Request::Log = request {
-            let (objects, used) = (self.book.objects.len(), self.book.used());
+            let (objects, used) = (self.book.objects.len(), self.book.used(FIRST));
             let plural = if objects == 1 { "" } else { "s" };
             assert!(
                 lines[0].ends_with(&format!(", {objects} object{plural}, {used} of 4096 bytes used")),

@@ -1,6 +1,6 @@
 //! Four hosts that make requests at random, and the book of what they were told.
 
-use check::book::{Book, Change, Objects};
+use check::book::{Book, Change, FIRST, Objects};
 use check::rng::Rng;
 use store::hex;
 
@@ -49,8 +49,8 @@ impl Request {
     /// How the board's answer must begin, by the book alone.
     pub fn expected(&self, book: &Book) -> String {
         let room = |host: &usize, frame: usize, spare: usize| match () {
-            _ if book.pending(*host) + frame > BLOCK / 2 => "12 host full: ",
-            _ if book.claimed() + frame + spare + 6 * book.open(*host) > BLOCK => "7 no room: ",
+            _ if book.pending(*host, FIRST) + frame > BLOCK / 2 => "12 host full: ",
+            _ if book.claimed(FIRST) + frame + spare + 6 * book.open(*host) > BLOCK => "7 no room: ",
             _ => "0 done",
         };
         match self {

@@ -3,8 +3,7 @@
 use crate::rng::Rng;
 use crate::side::Modelled;
 use crate::twin::{Call, Twin, UNWRITTEN};
-use library::Drive;
-use store::{Answer, Head, Store, message};
+use store::{Answer, Drive, Head, Store, message};
 
 /// Whether an image of this length may have so many blocks: 2 to 16 of a whole multiple of 128 bytes each, from 256 up,
 /// 65,536 bytes in all at most.

@@ -24,13 +24,25 @@ impl Change {
     }
 
     /// The length of its frame.
-    fn length(&self) -> usize {
+    fn length(&self, lengths: Lengths) -> usize {
         match self {
-            Change::Put(_, value) => 8 + value.len(),
-            Change::Delete(_) => 8,
+            Change::Put(_, value) => lengths.change + value.len(),
+            Change::Delete(_) => lengths.change,
         }
     }
 }
+
+/// What frames have beside a value, and what a put must leave free, by the edition (K9).
+#[derive(Clone, Copy)]
+pub struct Lengths {
+    pub mark: usize,
+    pub change: usize,
+    pub settled: usize,
+    pub reserve: usize,
+}
+
+pub const FIRST: Lengths = Lengths { mark: 6, change: 8, settled: 7, reserve: 14 };
+pub const SECOND: Lengths = Lengths { mark: 10, change: 12, settled: 11, reserve: 22 };
 
 enum UnderWay {
     Commit(usize),
@@ -90,18 +102,23 @@ impl Book {
     }
 
     /// Document 01's U.
-    pub fn used(&self) -> usize {
-        16 + self.objects.values().map(|value| 7 + value.len()).sum::<usize>()
+    pub fn used(&self, lengths: Lengths) -> usize {
+        16 + self.objects.values().map(|value| lengths.settled + value.len()).sum::<usize>()
     }
 
     /// Document 01's C.
-    pub fn claimed(&self) -> usize {
-        self.used() + (0..4).map(|host| self.pending(host)).sum::<usize>()
+    pub fn claimed(&self, lengths: Lengths) -> usize {
+        self.used(lengths) + (0..4).map(|host| self.pending(host, lengths)).sum::<usize>()
     }
 
     /// The bytes of the host's pending frames.
-    pub fn pending(&self, host: usize) -> usize {
-        self.lists[host].iter().map(Change::length).sum()
+    pub fn pending(&self, host: usize, lengths: Lengths) -> usize {
+        self.lists[host].iter().map(|change| change.length(lengths)).sum()
+    }
+
+    /// Whether no host has anything pending.
+    pub fn settled(&self) -> bool {
+        self.lists.iter().all(Vec::is_empty)
     }
 
     /// Hosts with something pending once `also` has.

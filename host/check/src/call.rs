@@ -40,6 +40,7 @@ impl Call {
                 message::PUT => "put",
                 message::DELETE => "delete",
                 message::COMMIT => "commit",
+                message::CONVERT => "convert",
                 _ => "abort",
             },
             other => other.name(),

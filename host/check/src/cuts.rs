@@ -6,13 +6,13 @@ use crate::raise;
 use crate::rng::Rng;
 use crate::side::{Modelled, Stores};
 use crate::twin::{Call, Twin};
-use library::{Drive, Library};
+use library::Library;
 use model::block::{self, Block, Journal};
 use model::{Model, cut};
 use plain::Plain;
 use std::collections::{HashSet, VecDeque};
 use std::hash::{DefaultHasher, Hasher};
-use store::{Answer, Idle, Store};
+use store::{Answer, Drive, Idle, Store};
 
 /// Where a job starts: its image, the idle record (mount and format take none) and the call.
 pub struct Start<'a> {

@@ -1,18 +1,21 @@
 //! Images that a store left, that one might have left, and that none did; and idle records forged for them.
 
 use crate::blocks;
+use crate::edition;
 use crate::generate::{self, Manner, Wish};
 use crate::pending;
 use crate::raise;
 use crate::rng::Rng;
+use crate::side::Modelled;
 use crate::twin::{Call, Twin};
 use model::block::{self, Block, Journal};
 use model::cut;
-use model::frame::{self, Host, Id, LONGEST, VALUE_LIMIT};
-use store::{Answer, Idle, message};
+use model::edition::{Edition, crc};
+use model::frame::{self, Host, Id, VALUE_LIMIT};
+use store::{Answer, Drive, Idle, Store, message};
 
 /// Tries one image: mounts it, then asks under forged records.
-pub fn try_image(twin: &mut Twin, rng: &mut Rng, image: &[u8]) {
+pub fn try_image<M: Modelled, L: Drive, P: Store>(twin: &mut Twin<M, L, P>, rng: &mut Rng, image: &[u8]) {
     twin.load(image);
     if twin.whole(&Call::Mount) == (Answer::DONE, 0) {
         assert_eq!(twin.image(), image, "no steps, yet the image changed");
@@ -26,6 +29,7 @@ pub fn try_image(twin: &mut Twin, rng: &mut Rng, image: &[u8]) {
         twin.forge(idle);
         if twin.ask(0, &message::log()) == Answer::DONE {
             pending::mislead(twin, rng, idle);
+            edition::mislead(twin, rng, idle);
         }
         ask(twin, rng);
         ask(twin, rng);
@@ -37,7 +41,7 @@ pub fn try_image(twin: &mut Twin, rng: &mut Rng, image: &[u8]) {
 
 /// Loses power inside each erase of a mount and of a format, then mounts. In an image that no store left, and after a cut
 /// inside a format's erase, a mount may find anything.
-fn cut_erases(twin: &mut Twin, rng: &mut Rng, image: &[u8]) {
+fn cut_erases<M: Modelled, L: Drive, P: Store>(twin: &mut Twin<M, L, P>, rng: &mut Rng, image: &[u8]) {
     for call in [Call::Mount, Call::Format] {
         for whole in [0, 1, rng.below(usize::from(twin.blocks))] {
             twin.load(image);
@@ -57,14 +61,14 @@ fn cut_erases(twin: &mut Twin, rng: &mut Rng, image: &[u8]) {
 }
 
 /// Makes the steps before the job's next erase.
-fn to_erase(twin: &mut Twin) {
+fn to_erase<M: Modelled, L: Drive, P: Store>(twin: &mut Twin<M, L, P>) {
     while twin.busy() && twin.erases_next().is_none() {
         twin.step();
     }
 }
 
 /// Some request or read, with all its steps.
-fn ask(twin: &mut Twin, rng: &mut Rng) {
+fn ask<M: Modelled, L: Drive, P: Store>(twin: &mut Twin<M, L, P>, rng: &mut Rng) {
     let manner = Manner::new(rng, twin.size());
     let host = generate::host(rng);
     let wish = manner.wish(rng);
@@ -90,19 +94,20 @@ fn forged(rng: &mut Rng, image: &[u8], blocks: u8) -> Vec<Idle> {
     let newest = (0..cut.len()).max_by_key(|block| block::read(cut[*block]).time()).expect("a block");
     let mut records = Vec::new();
     for block in [newest, rng.below(cut.len())] {
-        let end = match block::read(cut[block]) {
-            Block::Valid(journal) => journal.end,
-            _ => 16,
+        let (end, edition) = match block::read(cut[block]) {
+            Block::Valid(journal) => (journal.end, journal.edition.number()),
+            _ => (16, 1),
         };
         let near = rng.pick(&[end - 1, end + 1, end + 6, 0, 16, size, size + 1, 65_535]);
         let pending = pending::of_block(cut[block]);
-        let right = Idle { length, block: block as u8, end: end as u16, blocks, pending };
+        let right = Idle { length, block: block as u8, end: end as u16, blocks, edition, pending };
         records.extend([right, Idle { end: near.min(65_535) as u16, ..right }]);
         if rng.once_in(4) {
             records.push(Idle { length: rng.pick(&[length - 1, size, 1, 65_536]), ..right });
             records.push(Idle { block: rng.pick(&[right.block + blocks, blocks, 255]), ..right });
             records.push(Idle { blocks: blocks::other(rng, blocks), ..right });
             records.push(Idle { pending: pending::other(rng, pending), ..right });
+            records.push(Idle { edition: edition::other(rng, edition), ..right });
         }
     }
     records
@@ -151,7 +156,10 @@ const IDS: usize = 6;
 fn written_block(rng: &mut Rng, size: usize) -> Vec<u8> {
     let some = 1 + rng.below(1_000) as u32;
     let time = rng.pick(&[some, some, 1, 2, 3, 0x0102_0304, u32::MAX - 1, u32::MAX, u32::MAX]);
-    let mut block = block::LABEL.to_vec();
+    let edition = rng.pick(&Edition::ALL);
+    // now and then frames of the other edition
+    let label = if rng.once_in(30) { rng.pick(&Edition::ALL) } else { edition };
+    let mut block = label.label().to_vec();
     block.extend((!time).to_le_bytes());
     block.push(block::VALID);
     block.resize(block::HEADER, 0xFF);
@@ -161,17 +169,17 @@ fn written_block(rng: &mut Rng, size: usize) -> Vec<u8> {
     let settled_until = rng.below(limit.min(size - SPARE));
     let mut id = 0;
     while block.len() < settled_until && id < 256 {
-        let most = longest.min(size - frame::SETTLED - block.len());
-        block.extend(settled_frame(rng, id as u8, most));
+        let most = longest.min(size - edition.settled() - block.len());
+        block.extend(settled_frame(rng, edition, id as u8, most));
         id += 1 + rng.below(3);
     }
     while block.len() + SPARE < limit {
-        let most = longest.min(limit - frame::CHANGE - block.len());
-        block.extend(journal_frame(rng, most));
+        let most = longest.min(limit - edition.change() - block.len());
+        block.extend(journal_frame(rng, edition, most));
     }
     let most =
-        if rng.once_in(4) { longest } else { longest.min((size - block.len()).saturating_sub(frame::CHANGE)) };
-    tail(rng, &mut block, size, most);
+        if rng.once_in(4) { longest } else { longest.min((size - block.len()).saturating_sub(edition.change())) };
+    tail(rng, edition, &mut block, size, most);
     block.resize(size, 0xFF);
     block
 }
@@ -183,26 +191,26 @@ fn value(rng: &mut Rng, most: usize) -> Vec<u8> {
     generate::value(rng, length)
 }
 
-fn settled_frame(rng: &mut Rng, id: u8, most: usize) -> Vec<u8> {
-    frame::settled(Id(id), &value(rng, most))
+fn settled_frame(rng: &mut Rng, edition: Edition, id: u8, most: usize) -> Vec<u8> {
+    frame::settled(edition, Id(id), &value(rng, most))
 }
 
-fn journal_frame(rng: &mut Rng, most: usize) -> Vec<u8> {
+fn journal_frame(rng: &mut Rng, edition: Edition, most: usize) -> Vec<u8> {
     let host = Host(rng.below(4) as u8);
     let id = Id(rng.below(IDS) as u8);
     match rng.below(20) {
-        0..=8 => frame::put(host, id, &value(rng, most)),
-        9..=11 => frame::delete(host, id),
-        12..=16 => frame::commit(host),
-        17..=18 => frame::abort(host),
-        _ if rng.once_in(10) => settled_frame(rng, id.0, most),
-        _ => frame::delete(host, id),
+        0..=8 => frame::put(edition, host, id, &value(rng, most)),
+        9..=11 => frame::delete(edition, host, id),
+        12..=16 => frame::commit(edition, host),
+        17..=18 => frame::abort(edition, host),
+        _ if rng.once_in(10) => settled_frame(rng, edition, id.0, most),
+        _ => frame::delete(edition, host, id),
     }
 }
 
 /// The last frame, in part or whole, has a value of at most so many bytes.
-fn tail(rng: &mut Rng, block: &mut Vec<u8>, size: usize, most: usize) {
-    let last = journal_frame(rng, most);
+fn tail(rng: &mut Rng, edition: Edition, block: &mut Vec<u8>, size: usize, most: usize) {
+    let last = journal_frame(rng, edition, most);
     match rng.below(10) {
         0..=1 => block.extend(&last[..rng.below(last.len())]),
         2 => {
@@ -217,22 +225,22 @@ fn tail(rng: &mut Rng, block: &mut Vec<u8>, size: usize, most: usize) {
             block.extend(&last);
             block.truncate(size);
         }
-        4 => fill_to(rng, block, size),
+        4 => fill_to(rng, edition, block, size),
         _ => {}
     }
 }
 
 /// Frames up to the block's very end, or a frame that is one byte too long for it.
-fn fill_to(rng: &mut Rng, block: &mut Vec<u8>, size: usize) {
+fn fill_to(rng: &mut Rng, edition: Edition, block: &mut Vec<u8>, size: usize) {
     let host = Host(rng.below(4) as u8);
-    while size - block.len() > LONGEST + frame::CHANGE {
-        block.extend(frame::put(host, Id(1), &[0xFF; VALUE_LIMIT]));
-        block.extend(frame::commit(host));
+    while size - block.len() > VALUE_LIMIT + 2 * edition.change() {
+        block.extend(frame::put(edition, host, Id(1), &[0xFF; VALUE_LIMIT]));
+        block.extend(frame::commit(edition, host));
     }
     let rest = size - block.len();
-    if rest >= 8 {
-        let value = (rest - 8 + rng.below(2)).min(VALUE_LIMIT);
-        block.extend(frame::put(host, Id(2), &vec![0xFE; value]));
+    if rest >= edition.change() {
+        let value = (rest - edition.change() + rng.below(2)).min(VALUE_LIMIT);
+        block.extend(frame::put(edition, host, Id(2), &vec![0xFE; value]));
         block.truncate(size);
     }
 }
@@ -252,6 +260,27 @@ pub fn harm(rng: &mut Rng, image: &mut [u8], size: usize) {
             .copy_from_slice(&(!rng.pick(&[0, u32::MAX])).to_le_bytes()),
         _ => image[at] = rng.byte(),
     }
+    if rng.once_in(3) {
+        reseal(&mut image[base..base + size], at - base);
+    }
+}
+
+/// Makes the CRC right of the frame that this place is in, if it has one.
+fn reseal(block: &mut [u8], place: usize) {
+    let mut at = block::HEADER;
+    while let Some([low, high, ..]) = block.get(at..)
+        && block::edition(block) == Some(Edition::Second)
+    {
+        let length = usize::from(u16::from_le_bytes([*low, *high]));
+        if length < Edition::Second.mark() || at + length > block.len() {
+            return;
+        }
+        if (at..at + length).contains(&place) {
+            let sum = crc(&block[at..at + length - 5]).to_le_bytes();
+            block[at + length - 5..at + length - 1].copy_from_slice(&sum);
+        }
+        at += length;
+    }
 }
 
 /// A place in a block: of the header, of a frame's fields, or any.
@@ -260,7 +289,9 @@ fn place(rng: &mut Rng, block: &[u8]) -> usize {
         _ if rng.once_in(4) => rng.below(16),
         Block::Valid(Journal { frames, .. }) if !frames.is_empty() && !rng.once_in(5) => {
             let place = frames[rng.below(frames.len())].place.clone();
-            if rng.once_in(3) { place.end - 1 } else { place.start + rng.below(7) }.min(block.len() - 1)
+            // the finish byte, with a CRC before it or the value's end; or a field
+            let end = place.end - 1 - rng.below(2) * rng.below(5);
+            if rng.once_in(3) { end } else { place.start + rng.below(7) }.min(block.len() - 1)
         }
         _ => rng.below(block.len()),
     }

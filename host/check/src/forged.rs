@@ -1,8 +1,9 @@
 //! A step of a job whose record holds any bytes, as the definition says (docs/STORE.md, "A step"; DECISIONS 35, 77 and 111):
 //! over the record's bytes as the header lays them out, written apart from the library. Frames are read by the model.
 
-use library::{JOB, PENDING, RECORD_SIZE, Record};
-use model::frame::{self, Body, Frame, Host, Id, LONGEST};
+use library::{EDITION, JOB, LONGEST, RECORD_SIZE, Record};
+use model::edition::Edition;
+use model::frame::{self, Body, Frame, Host, Id};
 use model::job::Step;
 use std::ops::Range;
 use store::Answer;
@@ -19,9 +20,9 @@ const LENGTH: usize = 1;
 const BLOCK: usize = 3;
 const END: usize = 4;
 const BLOCKS: usize = 6;
-const PLACES: usize = PENDING.end;
+const PLACES: usize = EDITION + 1;
 /// Which blocks are erased first, and how many; whether a block is made, and the old one erased after; the block made, its
-/// time, from where on each host's changes are pending, the length of the frame to append.
+/// time, from where on each host's changes are pending, the length of the frame to append, the edition of the block made.
 const LIST: Range<usize> = JOB.start..JOB.start + 16;
 const WIPES: usize = LIST.end;
 const MOVES: usize = WIPES + 1;
@@ -30,9 +31,10 @@ const TARGET: usize = DROPS + 1;
 const TIME: usize = TARGET + 1;
 const SINCE: usize = TIME + 4;
 const SIZE: usize = SINCE + 8;
+const MAKES: usize = SIZE + 1;
 /// The step of the stage; the next offset of the block made; the next id and the next place of a frame to copy; the length of
 /// the frame that is copied, and its next byte.
-const INDEX: usize = SIZE + 1;
+const INDEX: usize = MAKES + 1;
 const AT: usize = INDEX + 1;
 const ID: usize = AT + 2;
 const SOURCE: usize = ID + 2;
@@ -59,6 +61,11 @@ fn short(record: &Record, at: usize) -> usize {
     usize::from(u16::from_le_bytes([record[at], record[at + 1]]))
 }
 
+/// The edition that a record's number means: 2 is edition 2, any other edition 1. The number itself stays as it is.
+fn edition(record: &Record, at: usize) -> Edition {
+    if record[at] == 2 { Edition::Second } else { Edition::First }
+}
+
 fn set_short(record: &mut Record, at: usize, number: usize) {
     record[at..at + 2].copy_from_slice(&(number as u16).to_le_bytes());
 }
@@ -80,8 +87,9 @@ fn next(length: usize, blocks: u8, record: &Record) -> Option<Step> {
     match record[0] {
         WIPE => erase(byte(LIST, index)),
         OPEN => {
-            let (at, byte) =
-                [(8, 0xFE), (0, 0x10), (1, 0x00), (2, 0x01), (3, 0x4A)].get(index).copied().unwrap_or((8, 0xFE));
+            let kind = edition(record, MAKES).number();
+            let writes = [(8, 0xFE), (0, 0x10), (1, 0x00), (2, kind), (3, 0x4A)];
+            let (at, byte) = writes.get(index).copied().unwrap_or(writes[0]);
             program(record[TARGET], at, byte)
         }
         COPY => program(record[TARGET], short(record, AT), byte(UNIT, usize::from(record[OFFSET]))),
@@ -121,7 +129,7 @@ fn enter(stage: u8, record: &mut Record) {
 
 /// The block made is the current one.
 fn land(record: &mut Record) {
-    record[BLOCK] = record[TARGET];
+    (record[BLOCK], record[EDITION]) = (record[TARGET], record[MAKES]);
     record.copy_within(AT..AT + 2, END);
     enter_append(record);
 }
@@ -130,7 +138,8 @@ fn enter_append(record: &mut Record) {
     if record[SIZE] > 0 { enter(APPEND, record) } else { rest(record, short(record, END)) }
 }
 
-/// Idle: the record says block, end, length, number of blocks and what is pending, which it said all along, and nothing else.
+/// Idle: the record says block, end, length, number of blocks, what is pending, which it said all along, and the edition, and
+/// nothing else.
 fn rest(record: &mut Record, end: usize) {
     record[0] = 1;
     set_short(record, END, end);
@@ -170,25 +179,30 @@ type Load = (Vec<u8>, usize, usize);
 fn settled(block: &[u8], record: &Record) -> Option<Load> {
     (short(record, ID)..256).find_map(|id| {
         let place = short(record, PLACES + 2 * id);
-        let value = match frame::whole(block, place).filter(|_| place > 0)?.body {
+        let value = match frame::whole(edition(record, EDITION), block, place).filter(|_| place > 0)?.body {
             Body::Put(_, Id(owner), value) | Body::Settled(Id(owner), value) if usize::from(owner) == id => value,
             _ => return None,
         };
-        Some((frame::settled(Id(id as u8), &block[value]), id + 1, short(record, SOURCE)))
+        Some((frame::settled(edition(record, MAKES), Id(id as u8), &block[value]), id + 1, short(record, SOURCE)))
     })
 }
 
-/// The first put or delete from the cursor on that is still pending, of the whole frames up to the record's end.
+/// The first put or delete from the cursor on that is still pending, of the whole frames up to the record's end, as a frame of
+/// the block made.
 fn pending(block: &[u8], record: &Record) -> Option<Load> {
     let journal = &block[..short(record, END).min(block.len())];
+    let made = edition(record, MAKES);
     let mut at = short(record, SOURCE);
-    while let Some(Frame { place, body }) = frame::whole(journal, at) {
-        let (Body::Put(Host(host), ..) | Body::Delete(Host(host), _)) = body else {
-            at = place.end;
-            continue;
+    while let Some(Frame { place, body }) = frame::whole(edition(record, EDITION), journal, at) {
+        let change = match body {
+            Body::Put(host, id, value) => Some((host, frame::put(made, host, id, &journal[value]))),
+            Body::Delete(host, id) => Some((host, frame::delete(made, host, id))),
+            _ => None,
         };
-        if at >= short(record, SINCE + 2 * usize::from(host)) {
-            return Some((journal[place.clone()].to_vec(), 256, place.end));
+        if let Some((Host(host), bytes)) = change
+            && at >= short(record, SINCE + 2 * usize::from(host))
+        {
+            return Some((bytes, 256, place.end));
         }
         at = place.end;
     }

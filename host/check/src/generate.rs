@@ -12,6 +12,7 @@ pub enum Wish {
     Abort,
     Read(u8),
     Log,
+    Convert,
 }
 
 impl Wish {
@@ -23,6 +24,7 @@ impl Wish {
             Wish::Abort => message::abort(),
             Wish::Read(id) => message::read(*id),
             Wish::Log => message::log(),
+            Wish::Convert => message::convert(),
         }
     }
 }
@@ -33,6 +35,8 @@ pub struct Manner {
     longest: usize,
     /// One request in so many is a commit.
     commits: usize,
+    /// One in so many is a convert.
+    converts: usize,
 }
 
 impl Manner {
@@ -43,12 +47,16 @@ impl Manner {
             ids: rng.pick(&[1, 3, 12, 256]),
             longest: rng.pick(&[4, 24, 64, long, long]),
             commits: rng.pick(&[3, 6, 20]),
+            converts: rng.pick(&[10, 60, usize::MAX]),
         }
     }
 
     pub fn wish(&self, rng: &mut Rng) -> Wish {
         if rng.once_in(self.commits) {
             return Wish::Commit;
+        }
+        if rng.once_in(self.converts) {
+            return Wish::Convert;
         }
         match rng.below(20) {
             0..=10 => Wish::Put(self.id(rng), self.value(rng)),
@@ -99,7 +107,7 @@ pub fn odd_message(manner: &Manner, rng: &mut Rng) -> Vec<u8> {
     match rng.below(9) {
         0 => bytes[0] = bytes[0].wrapping_add(rng.pick(&[1, 255, 4])),
         1 => bytes[1] = rng.pick(&[1, 255]),
-        2 => bytes[2] = rng.below(9) as u8,
+        2 => bytes[2] = rng.below(10) as u8,
         3 => bytes[3] = rng.pick(&[0, 2, 255]),
         4 => bytes.truncate(rng.below(bytes.len() + 1)),
         5 => bytes.push(rng.byte()),
@@ -110,9 +118,9 @@ pub fn odd_message(manner: &Manner, rng: &mut Rng) -> Vec<u8> {
     bytes
 }
 
-/// The right length, any kind near the six, a body of any size.
+/// The right length, any kind near those there are, a body of any size.
 fn bodies(rng: &mut Rng) -> Vec<u8> {
-    let kind = 0x0100 + rng.below(9) as u16;
+    let kind = 0x0100 + rng.below(10) as u16;
     let size = rng.pick(&[0, 1, 2, 3, 66, 67, 2 + VALUE_LIMIT, 3 + VALUE_LIMIT, 300]);
     let mut body = rng.bytes(size);
     if body.len() > 1 && !rng.once_in(4) {

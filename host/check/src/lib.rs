@@ -5,6 +5,7 @@ pub mod book;
 mod call;
 pub mod cuts;
 pub mod damage;
+pub mod edition;
 pub mod fault;
 pub mod forged;
 pub mod generate;

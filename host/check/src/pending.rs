@@ -3,10 +3,9 @@
 use crate::rng::Rng;
 use crate::side::Modelled;
 use crate::twin::{Call, Twin, UNWRITTEN};
-use library::Drive;
 use model::block::{self, Block};
 use model::frame::Host;
-use store::{Answer, Idle, Store, message};
+use store::{Answer, Drive, Idle, Store, message};
 
 /// The bytes of each host's pending frames in a block; none in one that is not valid.
 pub fn of_block(bytes: &[u8]) -> [u16; 4] {
@@ -35,9 +34,20 @@ pub fn other(rng: &mut Rng, right: [u16; 4]) -> [u16; 4] {
 /// A call under this record, which is right but for its pending bytes, is refused with 11 and changes nothing.
 pub fn mislead<M: Modelled, L: Drive, P: Store>(twin: &mut Twin<M, L, P>, rng: &mut Rng, right: Idle) {
     let wrong = Idle { pending: other(rng, right.pending), ..right };
+    refused(twin, rng, right, wrong);
+    twin.tally.pending += 1;
+}
+
+/// A call under the wrong record is refused with 11 and changes nothing; then the right one is back.
+pub fn refused<M: Modelled, L: Drive, P: Store>(
+    twin: &mut Twin<M, L, P>,
+    rng: &mut Rng,
+    right: Idle,
+    wrong: Idle,
+) {
     let (image, host, id) = (twin.image().to_vec(), rng.below(4) as u8, rng.byte());
-    let messages = [message::put(id, b"x"), message::delete(id), message::commit(), message::abort(), vec![]];
-    let message = messages[rng.below(messages.len())].clone();
+    let short = rng.pick(&[message::commit, message::abort, message::convert, Vec::new])();
+    let message = rng.pick(&[&short, &message::put(id, b"x"), &message::delete(id)]).clone();
     let call = match rng.below(4) {
         0 => Call::Read { host, message: message::read(id) },
         1 => Call::Request { host, message: message::log(), reply: 20 },
@@ -48,6 +58,5 @@ pub fn mislead<M: Modelled, L: Drive, P: Store>(twin: &mut Twin<M, L, P>, rng: &
     assert_eq!(outcome.answer, Answer::STALE, "{call} under {wrong:?}");
     assert!(outcome.reply.iter().all(|byte| *byte == UNWRITTEN), "the reply was written to");
     assert_eq!((twin.idle(), twin.image()), (Some(wrong), &image[..]));
-    twin.tally.count_pending();
     twin.forge(right);
 }

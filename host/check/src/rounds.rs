@@ -3,8 +3,10 @@
 use crate::damage;
 use crate::rng::Rng;
 use crate::runs::{self, Midway, Plan};
+use crate::side::{Modelled, Stores};
 use crate::tally::Tally;
 use crate::twin::Twin;
+use store::{Drive, Store};
 
 #[derive(Default)]
 pub struct Sum {
@@ -70,8 +72,8 @@ const CALM: usize = 600;
 const IMAGES_OF_TWO: [(u8, usize, usize); 6] =
     [(2, 512, 4_000), (2, 768, 1_500), (2, 1_024, 1_000), (2, 1_280, 800), (2, 8_192, 100), (2, 65_536, 10)];
 const IMAGES_OF_MORE: [(u8, usize, usize); 15] = [
-    (3, 768, 2_000),
-    (4, 1_024, 1_500),
+    (3, 768, 2_600),
+    (4, 1_024, 2_000),
     (7, 2_688, 600),
     (16, 4_096, 600),
     (5, 10_240, 80),
@@ -87,75 +89,87 @@ const IMAGES_OF_MORE: [(u8, usize, usize); 15] = [
     (15, 3_840, 200),
 ];
 
-/// The runs of a round with two blocks: each kind once, then short ones near the last time.
-pub fn runs_of_two(round: u64, sum: &mut Sum) {
-    runs_of(&TWO, round * 100, sum);
-    (0..10).for_each(|number| late_run(2, round * 100 + 50, number, sum));
+/// Rounds among such stores, and what they came to.
+pub struct Rounds<F> {
+    stores: F,
+    pub sum: Sum,
 }
 
-/// The same with three to sixteen, and runs in which the blocks' wear must be even.
-pub fn runs_of_more(round: u64, sum: &mut Sum) {
-    runs_of(&MORE, round * 100 + 20, sum);
-    (0..14).for_each(|number| late_run(3 + number as u8, round * 100 + 60, number, sum));
-    for blocks in 2..=16 {
-        let (seed, number) = (round * 100 + 76 + u64::from(blocks), usize::from(blocks));
-        let (length, calls) = (256 * number, CALM * number);
-        let (cut_jobs, most_cuts, filled) = (0, 0, false);
-        let erases =
-            add_run(Plan { seed, blocks, length, calls, time: 1, cut_jobs, most_cuts, filled, calm: true }, sum);
-        sum.even[number] = erases.max(sum.even[number]);
+impl<M: Modelled, L: Drive, P: Store, F: Fn() -> Stores<M, L, P>> Rounds<F> {
+    pub fn among(stores: F) -> Self {
+        Rounds { stores, sum: Sum::default() }
     }
-}
 
-fn runs_of(kinds: &[Kind], seed: u64, sum: &mut Sum) {
-    for (number, (blocks, length, calls, cut_jobs, most_cuts, filled)) in (0..).zip(kinds.iter().copied()) {
-        let seed = seed + number;
-        add_run(Plan { seed, blocks, length, calls, time: 1, cut_jobs, most_cuts, filled, calm: false }, sum);
+    /// The runs of a round with two blocks: each kind once, then short ones near the last time.
+    pub fn runs_of_two(&mut self, round: u64) {
+        self.runs_of(&TWO, round * 100);
+        (0..10).for_each(|number| self.late_run(2, round * 100 + 50, number));
     }
-}
 
-/// A run that begins at one of the last four times.
-fn late_run(blocks: u8, seed: u64, number: u64, sum: &mut Sum) {
-    let (seed, time, length) = (seed + number, u32::MAX - number as u32 % 4, 256 * usize::from(blocks));
-    let (calls, cut_jobs, most_cuts) = (200, 15, EVERYWHERE);
-    add_run(Plan { seed, blocks, length, calls, time, cut_jobs, most_cuts, filled: false, calm: false }, sum);
-}
-
-/// Makes the run; the most erases in it that had to be even.
-fn add_run(plan: Plan, sum: &mut Sum) -> usize {
-    let made = runs::run(plan);
-    sum.tally.add(&made.recoveries);
-    sum.tally.add(&made.own);
-    sum.own.add(&made.own);
-    for (job, cuts) in made.midway {
-        *sum.midway.entry(job).or_default() += cuts;
-    }
-    sum.cuts += made.cuts;
-    sum.inside += made.inside;
-    sum.own_inside += made.own_inside;
-    sum.runs += 1;
-    made.erases
-}
-
-/// The damaged images of a round, with two blocks.
-pub fn images_of_two(round: u64, sum: &mut Sum) {
-    images_of(&IMAGES_OF_TWO, round * 100 + 99, sum);
-}
-
-/// The same with three to sixteen.
-pub fn images_of_more(round: u64, sum: &mut Sum) {
-    images_of(&IMAGES_OF_MORE, round * 100 + 98, sum);
-}
-
-fn images_of(kinds: &[(u8, usize, usize)], seed: u64, sum: &mut Sum) {
-    let mut rng = Rng::new(seed);
-    for (blocks, length, images) in kinds.iter().copied() {
-        let mut twin = Twin::of_blocks(blocks, &vec![0xFF; length]);
-        for _ in 0..images {
-            let image = damage::image(&mut rng, blocks, length);
-            damage::try_image(&mut twin, &mut rng, &image);
+    /// The same with three to sixteen, and runs in which the blocks' wear must be even.
+    pub fn runs_of_more(&mut self, round: u64) {
+        self.runs_of(&MORE, round * 100 + 20);
+        (0..14).for_each(|number| self.late_run(3 + number as u8, round * 100 + 60, number));
+        for blocks in 2..=16 {
+            let (seed, number) = (round * 100 + 76 + u64::from(blocks), usize::from(blocks));
+            let (length, calls) = (256 * number, CALM * number);
+            let (cut_jobs, most_cuts, filled) = (0, 0, false);
+            let erases =
+                self.run(Plan { seed, blocks, length, calls, time: 1, cut_jobs, most_cuts, filled, calm: true });
+            self.sum.even[number] = erases.max(self.sum.even[number]);
         }
-        sum.tally.add(&twin.tally);
-        sum.images += images as u64;
+    }
+
+    fn runs_of(&mut self, kinds: &[Kind], seed: u64) {
+        for (number, (blocks, length, calls, cut_jobs, most_cuts, filled)) in (0..).zip(kinds.iter().copied()) {
+            let seed = seed + number;
+            self.run(Plan { seed, blocks, length, calls, time: 1, cut_jobs, most_cuts, filled, calm: false });
+        }
+    }
+
+    /// A run that begins at one of the last four times.
+    fn late_run(&mut self, blocks: u8, seed: u64, number: u64) {
+        let (seed, time, length) = (seed + number, u32::MAX - number as u32 % 4, 256 * usize::from(blocks));
+        let (calls, cut_jobs, most_cuts) = (200, 15, EVERYWHERE);
+        self.run(Plan { seed, blocks, length, calls, time, cut_jobs, most_cuts, filled: false, calm: false });
+    }
+
+    /// Makes the run; the most erases in it that had to be even.
+    fn run(&mut self, plan: Plan) -> usize {
+        let (made, sum) = (runs::run_among(&self.stores, plan), &mut self.sum);
+        sum.tally.add(&made.recoveries);
+        sum.tally.add(&made.own);
+        sum.own.add(&made.own);
+        for (job, cuts) in made.midway {
+            *sum.midway.entry(job).or_default() += cuts;
+        }
+        sum.cuts += made.cuts;
+        sum.inside += made.inside;
+        sum.own_inside += made.own_inside;
+        sum.runs += 1;
+        made.erases
+    }
+
+    /// The damaged images of a round, with two blocks.
+    pub fn images_of_two(&mut self, round: u64) {
+        self.images_of(&IMAGES_OF_TWO, round * 100 + 99);
+    }
+
+    /// The same with three to sixteen.
+    pub fn images_of_more(&mut self, round: u64) {
+        self.images_of(&IMAGES_OF_MORE, round * 100 + 98);
+    }
+
+    fn images_of(&mut self, kinds: &[(u8, usize, usize)], seed: u64) {
+        let mut rng = Rng::new(seed);
+        for (blocks, length, images) in kinds.iter().copied() {
+            let mut twin = Twin::among((self.stores)(), blocks, &vec![0xFF; length]);
+            for _ in 0..images {
+                let image = damage::image(&mut rng, blocks, length);
+                damage::try_image(&mut twin, &mut rng, &image);
+            }
+            self.sum.tally.add(&twin.tally);
+            self.sum.images += images as u64;
+        }
     }
 }

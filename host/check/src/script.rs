@@ -16,8 +16,9 @@ impl fmt::Display for Setting {
     fn fmt(&self, f: &mut fmt::Formatter) -> fmt::Result {
         writeln!(f, "image {} {}", hex::show(&self.image), self.blocks)?;
         match self.head {
-            Head::Idle(Idle { length, block, end, blocks, pending: [a, b, c, d] }) => {
-                writeln!(f, "idle {length} {block} {end} blocks={blocks} pending={a},{b},{c},{d}")
+            Head::Idle(Idle { length, block, end, blocks, edition, pending: [a, b, c, d] }) => {
+                let edition = format_args!("edition={edition}");
+                writeln!(f, "idle {length} {block} {end} blocks={blocks} {edition} pending={a},{b},{c},{d}")
             }
             _ => Ok(()),
         }

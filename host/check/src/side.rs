@@ -21,6 +21,13 @@ impl Stores<Model, Library, Plain> {
     }
 }
 
+impl Stores<Model, Model, Plain> {
+    /// Model and plain alone, with the model in the library's place: for a request that the library has not got yet.
+    pub fn apart() -> Stores<Model, Model, Plain> {
+        Stores { model: Model, library: Model, driven: Model, plain: Plain }
+    }
+}
+
 /// What may stand in the model's place: the comparison looks into its jobs.
 pub trait Modelled: Store<Record = Record> {}
 

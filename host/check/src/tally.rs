@@ -6,13 +6,17 @@ use std::fmt;
 use store::{Answer, Fault, Field, message};
 
 /// How often each call got each answer, how often with a value of each length (the one put, or the one found), how often
-/// each block was said to have broken in each field, and how many records were refused for their pending bytes alone.
+/// each block was said to have broken in each field, how many records were refused for their pending bytes alone and for
+/// their edition alone, how many idle records of a run were of edition 2, and how many of tight stores.
 #[derive(Default)]
 pub struct Tally {
     answers: BTreeMap<(&'static str, u8), u64>,
     values: BTreeMap<(&'static str, u8, usize), u64>,
     faults: BTreeMap<(usize, Field), u64>,
     pub pending: u64,
+    pub editions: u64,
+    pub second: u64,
+    pub tight: u64,
 }
 
 impl Tally {
@@ -30,12 +34,11 @@ impl Tally {
         }
     }
 
-    pub fn count_pending(&mut self) {
-        self.pending += 1;
-    }
-
     pub fn add(&mut self, other: &Tally) {
         self.pending += other.pending;
+        self.editions += other.editions;
+        self.second += other.second;
+        self.tight += other.tight;
         for (key, count) in &other.answers {
             *self.answers.entry(*key).or_default() += count;
         }
@@ -86,6 +89,8 @@ impl fmt::Display for Tally {
         for ((block, field), count) in &self.faults {
             writeln!(f, "  block {block}: {field:6}  {count}")?;
         }
-        writeln!(f, "  11 for pending bytes  {}", self.pending)
+        writeln!(f, "  11 for pending bytes  {}", self.pending)?;
+        writeln!(f, "  11 for the edition  {}", self.editions)?;
+        writeln!(f, "  idle in edition 2  {}, of these tight  {}", self.second, self.tight)
     }
 }

@@ -7,11 +7,11 @@ use crate::nor::Nor;
 use crate::script::{Begun, Setting};
 use crate::side::{Modelled, Side, Stores};
 use crate::tally::Tally;
-use library::{Drive, Driven, Library, Told};
+use library::{Driven, Library};
 use model::job::{Job, Step};
 use model::{Model, Record, block_of};
 use plain::Plain;
-use store::{Answer, Fault, Head, Idle, Store, message};
+use store::{Answer, Drive, Fault, Head, Idle, Store, Told, message};
 
 pub struct Twin<M: Modelled = Model, L: Drive = Library, P: Store = Plain> {
     model: Side<M>,
@@ -187,14 +187,7 @@ impl<M: Modelled, L: Drive, P: Store> Twin<M, L, P> {
 
     /// What is next, by the model's job.
     fn next(&self) -> (Answer, Told) {
-        match &self.model.record {
-            Record::Job(job) if !self.is_on(job) => (Answer::STALE, Told::default()),
-            Record::Job(job) => match job.next() {
-                Step::Program { at, byte } => (Answer::PROGRAM, Told { at, len: 1, byte }),
-                Step::Erase { at, len } => (Answer::ERASE, Told { at, len, byte: 0xFF }),
-            },
-            _ => (Answer::DONE, Told::default()),
-        }
+        Model.told(self.nor.bytes().len(), self.blocks, &self.model.record)
     }
 
     fn compare_told(&self, call: &Call, before: Head) {

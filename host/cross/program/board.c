@@ -102,7 +102,7 @@ struct message put_of(uint8_t id, const char *text)
     return message_of(PUT, id, (const uint8_t *)text, len);
 }
 
-/* Commit, abort, and log of page 1. */
+/* Commit, abort, convert, and log of page 1. */
 struct message bare(uint8_t kind)
 {
     const uint8_t page = 1;

@@ -37,7 +37,7 @@ static void fill_block(uint32_t size)
 
 static void all_jobs(uint32_t len, uint8_t blocks)
 {
-    const struct message put = put_of(7, "pending");
+    const struct message put = put_of(7, "pending"), convert = bare(CONVERT);
     clear(&here, len, blocks);
     must(call_mount(&here) == GROMMETIDE_NO_STORE);
     finish_beside(call_format(&here));
@@ -47,6 +47,11 @@ static void all_jobs(uint32_t len, uint8_t blocks)
     finish_beside(call_mount(&here));
     must(ask(3, &put) == GROMMETIDE_MORE);
     step_beside();
+    lose_record(&here);
+    finish_beside(call_mount(&here));
+    ask_beside(0, &convert);
+    must(here.record[EDITION] == 2);
+    ask_beside(3, &put);
     lose_record(&here);
     finish_beside(call_mount(&here));
     finish_beside(call_format(&here));

@@ -9,8 +9,20 @@ static uint32_t value_len(void)
     return one_in(12) ? 238 + below(5) : below(24);
 }
 
-/* A frame of this kind; its bytes. */
-static uint32_t frame(uint8_t *to, uint8_t kind, uint8_t id)
+/* CRC-32 of IEEE 802.3, bit by bit, as four bytes behind these. */
+static void seal(uint8_t *bytes, uint32_t len)
+{
+    uint32_t crc = 0xFFFFFFFF;
+    for (uint32_t bit = 0; bit < 8 * len; bit++) {
+        const uint32_t low = (crc ^ (uint32_t)bytes[bit / 8] >> bit % 8) & 1;
+        crc = crc >> 1 ^ (low ? 0xEDB88320 : 0);
+    }
+    for (uint32_t i = 0; i < SEAL; i++)
+        bytes[len + i] = (uint8_t)(~crc >> 8 * i);
+}
+
+/* A frame of this kind in this edition; its bytes. */
+static uint32_t frame(uint8_t *to, uint8_t edition, uint8_t kind, uint8_t id)
 {
     const uint32_t value = kind == PUT || kind == SETTLED ? value_len() : 0;
     const uint8_t host = (uint8_t)below(4);
@@ -23,25 +35,29 @@ static uint32_t frame(uint8_t *to, uint8_t kind, uint8_t id)
     }
     for (uint32_t i = 0; i < value; i++)
         to[at++] = (uint8_t)(one_in(3) ? 0xFF : any());
-    to[at++] = 0xFE;
-    to[0] = (uint8_t)at;
+    to[0] = (uint8_t)(at + 1 + (edition == 2 ? SEAL : 0));
     to[1] = 0;
     to[2] = kind;
     to[3] = 0;
+    if (edition == 2) {
+        seal(to, at);
+        at += SEAL;
+    }
+    to[at++] = 0xFE;
     return at;
 }
 
-/* A field becomes another by a little: in the length, the kind, the host, the id or the finish byte. */
+/* A field becomes another by a little: in the length, the kind, the host, the id, the checksum or the finish byte. */
 static void spoil(uint8_t *bytes, uint32_t len)
 {
-    const uint32_t at = one_in(3) ? len - 1 : below(8) % len;
+    const uint32_t at = one_in(3) ? len - 1 : one_in(4) ? len - 1 - below(6) % len : below(8) % len;
     bytes[at] = (uint8_t)(one_in(2) ? bytes[at] + 1 : one_in(2) ? bytes[at] - 1 : any());
 }
 
-static void header(uint8_t *block)
+static void header(uint8_t *block, uint8_t edition)
 {
     const uint8_t time = (uint8_t)(one_in(20) ? below(2) : 1 + below(6));
-    const uint8_t bytes[] = {16, 0, 1, 0x4A, (uint8_t)~time, 0xFF, 0xFF, 0xFF, (uint8_t)(one_in(10) ? 0xFE : 0xFC)};
+    const uint8_t bytes[] = {16, 0, edition, 0x4A, (uint8_t)~time, 0xFF, 0xFF, 0xFF, (uint8_t)(one_in(10) ? 0xFE : 0xFC)};
     copy(block, bytes, sizeof bytes);
     if (one_in(30))
         fill(block + 4, 0, 4);
@@ -71,10 +87,10 @@ static uint32_t journal(uint8_t *block, uint32_t size)
     static uint8_t bytes[FRAME_MAX];
     const struct plan plan = any_plan(size);
     uint32_t at = HEADER;
-    uint8_t id = (uint8_t)below(3);
-    header(block);
+    uint8_t id = (uint8_t)below(3), edition = (uint8_t)(1 + below(2));
+    header(block, edition);
     for (uint32_t i = 0; i <= plan.frames; i++) {
-        uint32_t len = frame(bytes, i < plan.settled ? SETTLED : (uint8_t)(1 + below(plan.kinds)), id);
+        uint32_t len = frame(bytes, edition, i < plan.settled ? SETTLED : (uint8_t)(1 + below(plan.kinds)), id);
         id = (uint8_t)(id + !one_in(60) + (one_in(4) ? below(90) : 0));
         if (i == plan.bad)
             spoil(bytes, len);

@@ -96,7 +96,9 @@ void goes_on(uint32_t steps);
 struct message message_of(uint8_t kind, uint32_t id, const uint8_t *value, uint32_t len);
 struct message put_of(uint8_t id, const char *text);
 struct message bare(uint8_t kind);
-enum { PUT = 1, DELETE, COMMIT, ABORT, READ, LOG };
+enum { PUT = 1, DELETE, COMMIT, ABORT, READ, LOG, CONVERT = 8 };
+/* Where a record says the edition, and how many bytes more a frame has in edition 2. */
+enum { EDITION = 15, SEAL = 4 };
 uint8_t ask(uint8_t host, const struct message *message);
 /* Answers DONE after exactly so many steps. */
 void serve(uint8_t host, const struct message *message, uint32_t steps);

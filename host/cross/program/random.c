@@ -24,7 +24,7 @@ static void raise_bits(uint8_t *block, uint32_t size)
 static struct message any_message(void)
 {
     static const uint8_t no_value[GROMMETIDE_VALUE_MAX] = {0};
-    const uint8_t kind = (uint8_t)(1 + below(one_in(40) ? 8 : 6));
+    const uint8_t kind = (uint8_t)(one_in(20) ? CONVERT : 1 + below(one_in(40) ? 8 : 6));
     const uint32_t id = one_in(60) ? any() & 0xFFFF : one_in(30) ? 254 + below(4) : below(one_in(8) ? 256 : 6);
     const uint32_t len = below(one_in(6) ? GROMMETIDE_VALUE_MAX + 2 : 24);
     struct message message = message_of(kind, id, no_value, kind == PUT ? len > 240 ? 240 : len : kind == LOG);
@@ -100,8 +100,10 @@ static void any_request(void)
     const struct message message = any_message();
     const uint8_t host = (uint8_t)(one_in(40) ? any() : below(4));
     const uint8_t kind = message.bytes[2];
+    const uint32_t seal = here.record[EDITION] == 2 ? SEAL : 0;
+    const uint32_t frame = kind == PUT ? message.len + 2 : kind == DELETE ? 8 : 6;
     if (call_request(&here, host, &message, one_in(10) ? below(REPLY_BYTES) : 14) == GROMMETIDE_MORE)
-        go_on(kind == PUT ? message.len + 2 : kind == DELETE ? 8 : 6);
+        go_on(kind == CONVERT ? 0 : frame + seal);
 }
 
 static void any_read(void)
@@ -134,7 +136,7 @@ static void forge(void)
     if (!one_in(3))
         into_job();
     for (uint32_t i = 1 + below(4); i != 0; i--) {
-        const uint32_t at = one_in(3) ? below(GROMMETIDE_RECORD_BYTES) : one_in(2) ? below(15) : 527 + below(42);
+        const uint32_t at = one_in(3) ? below(GROMMETIDE_RECORD_BYTES) : one_in(2) ? below(16) : 528 + below(43);
         here.record[at] = (uint8_t)(one_in(2) ? below(9) : any());
     }
     event("a record forged");
@@ -175,8 +177,9 @@ static void by_hand(void)
     fill(here.record, 0, GROMMETIDE_RECORD_BYTES);
     copy(here.record, head, sizeof head);
     count_pending(here.image + here.len / here.blocks * block, end, here.record + sizeof head);
+    here.record[EDITION] = here.image[here.len / here.blocks * block + 2];
     if (one_in(8))
-        here.record[sizeof head + below(8)] ^= (uint8_t)(1u << below(8));
+        here.record[sizeof head + below(9)] ^= (uint8_t)(1u << below(8));
     event("journals written by hand");
     for (uint32_t i = below(5); i != 0; i--)
         one_in(3) ? any_read() : any_request();
@@ -278,7 +281,7 @@ static void begin_round(uint32_t limit, int wide)
 static void every_answer(void)
 {
     for (uint32_t answer = 0; answer < 256; answer++)
-        must(was_seen((uint8_t)answer) == (answer <= 12 || answer >= 252));
+        must(was_seen((uint8_t)answer) == (answer <= 12 || answer == GROMMETIDE_PENDING || answer >= 252));
 }
 
 void at_random(uint32_t rounds, uint32_t limit)

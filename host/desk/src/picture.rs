@@ -75,6 +75,7 @@ fn letter(frame: &Frame, replay: &Replay) -> char {
 mod tests {
     use super::*;
     use model::block;
+    use model::edition::Edition::First;
     use model::frame::{Host, abort, commit, delete, put, settled};
 
     const HEAD: [u8; 16] = [16, 0, 1, 0x4A, 0xFE, 255, 255, 255, 0xFC, 255, 255, 255, 255, 255, 255, 255];
@@ -97,13 +98,13 @@ mod tests {
     fn a_letter_for_each_kind_of_byte() {
         let (zero, one) = (Host(0), Host(1));
         let frames = [
-            settled(Id(1), b"a"),
-            settled(Id(2), b""),
-            put(zero, Id(2), b"b"),
-            commit(zero),
-            put(one, Id(3), b""),
-            abort(one),
-            delete(one, Id(1)),
+            settled(First, Id(1), b"a"),
+            settled(First, Id(2), b""),
+            put(First, zero, Id(2), b"b"),
+            commit(First, zero),
+            put(First, one, Id(3), b""),
+            abort(First, one),
+            delete(First, one, Id(1)),
             vec![9, 0, 1],
         ];
         let expected = "HHHHHHHHHHHHHHHH SSSSSSSS xxxxxxx SSSSSSSSS CCCCCC xxxxxxxx CCCCCC PPPPPPPP TTT";
@@ -123,7 +124,8 @@ mod tests {
     #[test]
     fn only_blank_rows_are_folded() {
         // A value of 0xFF bytes fills the third row: it is written, so it is drawn.
-        let frames = [settled(Id(1), &[0; 41]), settled(Id(2), &[0; 57]), settled(Id(3), &[255; 64])];
+        let frames =
+            [settled(First, Id(1), &[0; 41]), settled(First, Id(2), &[0; 57]), settled(First, Id(3), &[255; 64])];
         let block = valid(&frames, 448);
         let full = |letters: &str| letters.repeat(64);
         let drawn = [

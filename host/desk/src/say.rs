@@ -8,7 +8,7 @@ use store::{Answer, Field, hex};
 const REPEATED: usize = 100;
 
 /// Refusals as include/grommetide.h names them.
-const NAMES: [(Answer, &str); 13] = [
+const NAMES: [(Answer, &str); 14] = [
     (Answer::MALFORMED, "malformed"),
     (Answer::NO_STORE, "no store"),
     (Answer::FOREIGN, "foreign"),
@@ -21,6 +21,7 @@ const NAMES: [(Answer, &str); 13] = [
     (Answer::HOST_RANGE, "host range"),
     (Answer::STALE, "stale"),
     (Answer::HOST_FULL, "host full"),
+    (Answer::PENDING, "pending"),
     (Answer::WRONG_RECORD, "wrong record"),
 ];
 
@@ -46,12 +47,13 @@ pub fn blocks(blocks: u8) -> String {
 pub fn fault(field: Field, place: usize, at: &str) -> String {
     let (name, wrong) = match (field, place) {
         (Field::Length, 0) => ("header's length", "is not 16"),
-        (Field::Kind, 2) => ("header's kind", "is not 0x4A01"),
+        (Field::Kind, 2) => ("header's kind", "is not 0x4A01 or 0x4A02"),
         (Field::Time, _) => ("time", "was never programmed"),
         (Field::State, _) => ("state", "is not 0xFC, valid data"),
         (Field::Rest, _) => ("rest of the header", "is not all 0xFF"),
         (Field::Host, _) => ("host", "is not 0 to 3"),
         (Field::Finish, _) => ("finish byte", "is not 0xFE"),
+        (Field::Crc, _) => ("checksum", "is not its frame's"),
         (Field::Length, _) => ("length", "is not one that may stand there"),
         (Field::Kind, _) => ("kind", "is not one that may stand there"),
         (Field::Id, _) => ("id", "is not one that may stand there"),

@@ -57,7 +57,8 @@ impl Side<'_> {
             Block::Valid(journal) => {
                 let tail = if journal.torn { self.torn(journal.end) } else { "the rest is blank".to_string() };
                 let (frames, end) = (count(journal.frames.len(), "frame"), self.base + journal.end);
-                format!("valid, time {}\n  {frames} up to byte {end}, {tail}", journal.time)
+                let (edition, time) = (journal.edition.number(), journal.time);
+                format!("valid, edition {edition}, time {time}\n  {frames} up to byte {end}, {tail}")
             }
         }
     }

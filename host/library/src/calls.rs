@@ -4,7 +4,7 @@
 //! checker sees to it that a slice which it writes to overlaps no other. It keeps nothing after a call.
 
 use crate::RECORD_SIZE;
-use store::{Answer, Stretch};
+use store::{Answer, Stretch, Told};
 
 unsafe extern "C" {
     fn grommetide_record_size() -> usize;
@@ -65,18 +65,8 @@ unsafe extern "C" {
     ) -> u8;
 }
 
-/// What `next` tells beside its answer: where the flash step is, and the byte that it programs.
-#[derive(Clone, Copy, PartialEq, Eq, Debug, Default)]
-pub struct Told {
-    pub at: usize,
-    pub len: usize,
-    pub byte: u8,
-}
-
-impl Told {
-    /// What stands there before the call, so that a call which does not write it shows.
-    pub const NOTHING: Told = Told { at: usize::MAX, len: usize::MAX, byte: 0xA5 };
-}
+/// What `next` is to tell before the call, so that a call which does not write it shows.
+pub const UNTOLD: Told = Told { at: usize::MAX, len: usize::MAX, byte: 0xA5 };
 
 /// What stands in the number of steps before a run.
 pub const UNCOUNTED: usize = usize::MAX;
@@ -155,7 +145,7 @@ impl Library {
 
     /// The image's length is told, not the image: by the record alone.
     pub fn next_of(&self, image_len: usize, blocks: u8, record: &[u8]) -> (Answer, Told) {
-        let mut told = Told::NOTHING;
+        let mut told = UNTOLD;
         let answer = unsafe {
             grommetide_next(
                 image_len,

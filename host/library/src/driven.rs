@@ -1,13 +1,7 @@
 //! The library with the flash in the caller's hands: a step is told, done here, and made.
 
-use crate::{Library, Record, Told};
-use store::{Answer, Fault, Head, Idle, Store, Stretch};
-
-/// A store that tells its next flash step, by the record alone, and moves on once it was made.
-pub trait Drive: Store {
-    fn told(&self, image_len: usize, blocks: u8, record: &Self::Record) -> (Answer, Told);
-    fn made(&self, image: &[u8], blocks: u8, record: &mut Self::Record) -> Answer;
-}
+use crate::{Library, Record};
+use store::{Answer, Drive, Fault, Head, Idle, Store, Stretch, Told};
 
 impl Drive for Library {
     fn told(&self, image_len: usize, blocks: u8, record: &Record) -> (Answer, Told) {

@@ -3,21 +3,23 @@
 mod calls;
 mod driven;
 
-pub use calls::{Library, Told, UNCOUNTED};
-pub use driven::{Drive, Driven, flash};
+pub use calls::{Library, UNCOUNTED, UNTOLD};
+pub use driven::{Driven, flash};
 
 use std::ops::Range;
 use store::{Answer, Fault, Field, Head, Idle, Store, Stretch};
 
 /// The most bytes of a value.
 pub const VALUE_LIMIT: usize = 240;
-/// Length of the longest frame, a put of the longest value.
-const LONGEST: usize = 8 + VALUE_LIMIT;
+/// Length of the longest frame, a put of the longest value in edition 2.
+pub const LONGEST: usize = 12 + VALUE_LIMIT;
 
 /// Where a record says what each host has pending.
 pub const PENDING: Range<usize> = 7..15;
+/// Where it says the edition.
+pub const EDITION: usize = PENDING.end;
 /// Where the job stands: after the bytes that anyone may know and the places of 256 values.
-pub const JOB: Range<usize> = 527..569;
+pub const JOB: Range<usize> = 528..571;
 /// After the job there are two frames in hand.
 pub const RECORD_SIZE: usize = JOB.end + 2 * LONGEST;
 
@@ -89,6 +91,7 @@ impl Store for Library {
         record[3] = idle.block;
         record[4..6].copy_from_slice(&idle.end.to_le_bytes());
         record[6] = idle.blocks;
+        record[EDITION] = idle.edition;
         for (at, bytes) in PENDING.step_by(2).zip(idle.pending) {
             record[at..at + 2].copy_from_slice(&bytes.to_le_bytes());
         }
@@ -103,6 +106,7 @@ impl Store for Library {
                 block: record[3],
                 end: short(4),
                 blocks: record[6],
+                edition: record[EDITION],
                 pending: [0, 1, 2, 3].map(|host| short(PENDING.start + 2 * host)),
             }),
             stage if JOB_STAGES.contains(&stage) => Head::Job,

@@ -65,6 +65,11 @@ fn the_wear_example() {
     try_example(&["wear"]);
 }
 
+#[test]
+fn the_convert_example() {
+    try_example(&["convert"]);
+}
+
 /// The first block of a language in README, which must have one.
 fn block(language: &str) -> String {
     let readme = text(repository("README.md"));

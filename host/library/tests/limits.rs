@@ -1,7 +1,7 @@
 //! The longest value, the most blocks, the record's layout and the fields' numbers: what the library does, what the header
 //! says and what this wrapper knows are one.
 
-use library::{JOB, Library, PENDING, RECORD_SIZE, Record, VALUE_LIMIT};
+use library::{EDITION, JOB, LONGEST, Library, PENDING, RECORD_SIZE, Record, VALUE_LIMIT};
 use std::fs;
 use store::{Answer, Field, Head, Idle, Store, message};
 
@@ -67,7 +67,7 @@ fn the_fields_have_the_headers_numbers() {
         .collect();
     assert_eq!(stated, Field::ALL.map(|field| (field.to_string(), field as u8)));
     assert_eq!(Field::ALL.map(|field| Field::numbered(field as u8)), Field::ALL.map(Some));
-    assert_eq!([0, 9, 255].map(Field::numbered), [None; 3]);
+    assert_eq!([0, 10, 255].map(Field::numbered), [None; 3]);
 }
 
 /// The header's answers are those of the laws `wire/Header: AnswersExact` and `edge/Header: NumbersExact`, line by line.
@@ -86,6 +86,7 @@ fn the_answers_have_the_laws_numbers() {
         ("host_range", 10),
         ("stale", 11),
         ("host_full", 12),
+        ("pending", 16),
     ];
     let others = [("program", 252), ("erase", 253), ("wrong_record", 254), ("more", 255)];
     let stated = enumerated();
@@ -106,17 +107,18 @@ fn the_library_takes_two_blocks_up_to_the_headers_number() {
     }
 }
 
-/// The bytes that anyone may know are where the header says, and there are zeros after them.
+/// The bytes that anyone may know are where the header says, of edition 1 after a format, and there are zeros after them.
 #[test]
 fn idle_records_are_what_the_header_says() {
     let library = Library::linked();
     for blocks in 2..=16 {
         let (image, record) = formatted(&library, blocks);
-        let idle = Idle { length: image.len(), block: 0, end: 16, blocks, pending: [0; 4] };
+        let idle = Idle { length: image.len(), block: 0, end: 16, blocks, edition: 1, pending: [0; 4] };
         assert_eq!((library.head(&record), record), (Head::Idle(idle), library.idle(idle)));
         let last = ((image.len() - 1) as u16).to_le_bytes();
         assert_eq!(record[..7], [1, last[0], last[1], 0, 16, 0, blocks]);
-        assert_eq!(record[7..], [0; RECORD_SIZE - 7]);
+        assert_eq!((&record[PENDING], record[EDITION]), (&[0; 8][..], 1));
+        assert_eq!(record[EDITION + 1..], [0; RECORD_SIZE - EDITION - 1]);
     }
     let header = header();
     for line in [
@@ -124,6 +126,7 @@ fn idle_records_are_what_the_header_says() {
         "4-5    where the current block's frames end,",
         "6      number of blocks",
         "7-14   pending bytes of hosts 0 to 3, two bytes each",
+        "15     edition of the current block, 1 or 2",
     ] {
         assert!(header.contains(&format!(" *     {line}")), "{line}");
     }
@@ -140,10 +143,10 @@ fn pending_bytes_are_where_the_header_says() {
         while library.step(&mut image, 2, &mut record) == Answer::MORE {}
     }
     assert_eq!(record[PENDING], [108, 0, 16, 0, 0, 0, 0, 1]);
-    assert_eq!(record[PENDING.end..], [0; RECORD_SIZE - PENDING.end]);
+    assert_eq!(record[EDITION + 1..], [0; RECORD_SIZE - EDITION - 1]);
     let (_, mut mounted) = library.mount(&image, 2);
     while library.step(&mut image, 2, &mut mounted) == Answer::MORE {}
-    assert_eq!(mounted[PENDING.start..], [0; RECORD_SIZE - PENDING.start]);
+    assert_eq!(mounted[PENDING], [0; 8]);
     assert_eq!(library.unmounted(), [0; RECORD_SIZE]);
     // a refused mount gives back an unmounted record, zeros throughout
     assert_eq!(library.mount(&[0xFF; 512], 2), (Answer::NO_STORE, library.unmounted()));
@@ -159,14 +162,15 @@ fn the_library_takes_values_up_to_the_limit() {
     }
 }
 
-/// The layout in the header: two frames of the longest value end the record, and a put that is accepted is the second.
+/// The layout in the header: two frames of the longest value end the record, and a put that is accepted is the second. Of
+/// edition 1 it has four bytes less.
 #[test]
 fn frames_in_hand_are_where_the_header_says() {
     let frame = [&[8 + VALUE_LIMIT as u8, 0, 1, 0, 2, 5, 0][..], &[0xA7; VALUE_LIMIT], &[0xFE]].concat();
-    let second = JOB.end + frame.len();
-    assert_eq!(RECORD_SIZE, second + frame.len());
-    assert_eq!(put(VALUE_LIMIT).1[second..], frame);
-    let own = format!("{}-{} the library's own", PENDING.end, RECORD_SIZE - 1);
+    let second = JOB.end + LONGEST;
+    assert_eq!(RECORD_SIZE, second + LONGEST);
+    assert_eq!(put(VALUE_LIMIT).1[second..second + frame.len()], frame);
+    let own = format!("{}-{} the library's own", EDITION + 1, RECORD_SIZE - 1);
     let job = format!("{}-{} the job", JOB.start, JOB.end - 1);
     let frames = format!("{}-{} and {second}-{} frames in hand", JOB.end, second - 1, RECORD_SIZE - 1);
     let header = header();

@@ -149,7 +149,7 @@ impl Board {
         self.image.len() / usize::from(self.blocks)
     }
 
-    /// Every request, found and refused, in a journal that is filled until a put needs a transfer.
+    /// Every request, found and refused, in a journal that is filled until a put needs a transfer, and again in edition 2.
     fn use_all(&mut self) {
         assert_eq!(self.mount(), Answer::NO_STORE);
         assert_eq!(self.format(), Answer::DONE);
@@ -166,6 +166,17 @@ impl Board {
                 break;
             }
         }
+        self.use_store();
+        assert_eq!(self.ask(0, &message::convert()), Answer::DONE);
+        self.use_store();
+        let used = self.image.clone();
+        assert_eq!(self.format(), Answer::DONE);
+        self.image = used;
+        self.break_it();
+    }
+
+    /// Requests that are done and that are refused, and mounts with something pending and with nothing.
+    fn use_store(&mut self) {
         for message in
             [message::delete(0), message::commit(), message::log(), message::read(2), message::read(255)]
         {
@@ -179,10 +190,6 @@ impl Board {
         assert_eq!(self.ask(3, &message::put(9, b"pending")), Answer::DONE);
         assert_eq!(self.mount(), Answer::DONE);
         assert_eq!(self.mount(), Answer::DONE);
-        let used = self.image.clone();
-        assert_eq!(self.format(), Answer::DONE);
-        self.image = used;
-        self.break_it();
     }
 
     /// A sound image, one whose last frame is wrong, and one whose header is.

@@ -1,11 +1,10 @@
 //! A block: its header, its journal, and what replay makes of it.
 
+use crate::edition::Edition;
 use crate::frame::{self, Body, Frame, Host, Id};
 use std::ops::Range;
 
 pub const HEADER: usize = 16;
-/// Header bytes 0 to 3: length and kind.
-pub const LABEL: [u8; 4] = [0x10, 0x00, 0x01, 0x4A];
 /// Where the header's inverted time stands.
 pub const TIME: usize = 4;
 /// Where the header's state byte stands.
@@ -25,6 +24,7 @@ pub enum Block {
 #[derive(PartialEq, Eq, Debug)]
 pub struct Journal {
     pub time: u32,
+    pub edition: Edition,
     pub frames: Vec<Frame>,
     /// Where the last whole frame ends.
     pub end: usize,
@@ -55,26 +55,33 @@ pub fn blank(bytes: &[u8]) -> bool {
 }
 
 fn journal(block: &[u8]) -> Option<Journal> {
-    let time = header_time(block)?;
-    let (frames, _) = frames(block);
+    let (time, edition) = header(block)?;
+    let (frames, _) = frames(edition, block);
     let end = frames.last().map_or(HEADER, |frame| frame.place.end);
     let tail = &block[end..];
     let torn = !blank(tail);
-    (!torn || frame::torn(tail)).then_some(Journal { time, frames, end, torn })
+    (!torn || frame::torn(edition, tail)).then_some(Journal { time, edition, frames, end, torn })
 }
 
-fn header_time(block: &[u8]) -> Option<u32> {
+/// Time and edition of the block, if its header is as it should be.
+fn header(block: &[u8]) -> Option<(u32, Edition)> {
     let inverse = block[TIME..STATE].try_into().expect("four bytes");
     let time = !u32::from_le_bytes(inverse);
-    (block[..TIME] == LABEL && time != 0 && blank(&block[STATE + 1..HEADER])).then_some(time)
+    let edition = edition(block)?;
+    (block[..TIME] == edition.label() && time != 0 && blank(&block[STATE + 1..HEADER])).then_some((time, edition))
+}
+
+/// The edition that the header's kind says.
+pub fn edition(block: &[u8]) -> Option<Edition> {
+    Edition::ALL.into_iter().find(|edition| block[2..TIME] == edition.label()[2..])
 }
 
 /// The whole legal frames from the header on, each where it may stand, and the lowest id that a settled frame may have
 /// after them: 256, which is none, once another frame has stood.
-pub fn frames(block: &[u8]) -> (Vec<Frame>, u16) {
+pub fn frames(edition: Edition, block: &[u8]) -> (Vec<Frame>, u16) {
     let mut frames = Vec::new();
     let (mut at, mut lowest) = (HEADER, 0);
-    while let Some(frame) = frame::whole(block, at).filter(|frame| frame.may_stand(lowest)) {
+    while let Some(frame) = frame::whole(edition, block, at).filter(|frame| frame.may_stand(lowest)) {
         lowest = match frame.body {
             Body::Settled(Id(id), _) => u16::from(id) + 1,
             _ => 256,
@@ -88,6 +95,7 @@ pub fn frames(block: &[u8]) -> (Vec<Frame>, u16) {
 /// What replay of a journal gives.
 #[derive(Debug)]
 pub struct Replay {
+    edition: Edition,
     /// By id, where its settled value stands in the block.
     pub settled: Vec<Option<Range<usize>>>,
     /// The pending puts and deletes of all hosts, as they stand in the journal.
@@ -95,7 +103,7 @@ pub struct Replay {
 }
 
 pub fn replay(journal: &Journal) -> Replay {
-    let mut replay = Replay { settled: vec![None; 256], pending: Vec::new() };
+    let mut replay = Replay { edition: journal.edition, settled: vec![None; 256], pending: Vec::new() };
     for frame in &journal.frames {
         match &frame.body {
             Body::Settled(Id(id), value) => replay.settled[usize::from(*id)] = Some(value.clone()),
@@ -134,7 +142,12 @@ impl Replay {
 
     /// Document 01's U.
     pub fn used(&self) -> usize {
-        HEADER + self.objects().map(|(_, value)| frame::SETTLED + value.len()).sum::<usize>()
+        self.used_in(self.edition)
+    }
+
+    /// What it is in an edition.
+    pub fn used_in(&self, edition: Edition) -> usize {
+        HEADER + self.objects().map(|(_, value)| edition.settled() + value.len()).sum::<usize>()
     }
 
     /// Document 01's C.

@@ -1,9 +1,10 @@
 //! K5: the first bad field of a foreign block. It is found by trying every legal frame: the bytes up to the field's end begin
 //! none that may stand there and fits, and those up to the end of the field before still do.
 
-use crate::block::{self, Block, HEADER, LABEL, STATE, TIME, VALID, blank};
+use crate::block::{self, Block, HEADER, STATE, TIME, VALID, blank};
 use crate::cut;
-use crate::frame::{self, Body, Frame, SAMPLES, SETTLED_SAMPLES};
+use crate::edition::Edition;
+use crate::frame::{self, Body, Frame, samples, settled_samples};
 use std::mem::discriminant;
 use std::ops::Range;
 use store::{Fault, Field};
@@ -28,19 +29,21 @@ pub fn equal_times(read: &[Block]) -> Option<usize> {
 
 /// The first bad field of a foreign block, and where it starts.
 pub fn of_block(block: &[u8]) -> (Field, usize) {
-    of_header(block).unwrap_or_else(|| {
-        let (frames, lowest) = block::frames(block);
-        let end = frames.last().map_or(HEADER, |frame| frame.place.end);
-        let (field, place) = of_frame(&block[end..], lowest);
-        (field, end + place)
-    })
+    let edition = match (of_header(block), block::edition(block)) {
+        (None, Some(edition)) => edition,
+        (wrong, _) => return wrong.expect("no other kind is right"),
+    };
+    let (frames, lowest) = block::frames(edition, block);
+    let end = frames.last().map_or(HEADER, |frame| frame.place.end);
+    let (field, place) = of_frame(edition, &block[end..], lowest);
+    (field, end + place)
 }
 
 /// The first field that is not as the header of a valid block has it.
 fn of_header(block: &[u8]) -> Option<(Field, usize)> {
     let fields = [
-        (Field::Length, 0, block[..2] == LABEL[..2]),
-        (Field::Kind, 2, block[2..TIME] == LABEL[2..]),
+        (Field::Length, 0, block[..2] == Edition::First.label()[..2]),
+        (Field::Kind, 2, block::edition(block).is_some()),
         (Field::Time, TIME, !blank(&block[TIME..STATE])),
         (Field::State, STATE, block[STATE] == VALID),
         (Field::Rest, STATE + 1, blank(&block[STATE + 1..HEADER])),
@@ -49,19 +52,20 @@ fn of_header(block: &[u8]) -> Option<(Field, usize)> {
 }
 
 /// Of all legal frames that fit into these bytes, the one that agrees with them longest says which field is bad.
-fn of_frame(bytes: &[u8], lowest: u16) -> (Field, usize) {
-    let fitting = SAMPLES.iter().chain(&*SETTLED_SAMPLES).filter(|sample| sample.len() <= bytes.len());
-    let tried = fitting.map(|sample| first_bad(bytes, sample.clone(), lowest));
+fn of_frame(edition: Edition, bytes: &[u8], lowest: u16) -> (Field, usize) {
+    let legal = samples(edition).iter().chain(settled_samples(edition));
+    let fitting = legal.filter(|sample| sample.len() <= bytes.len());
+    let tried = fitting.map(|sample| first_bad(edition, bytes, sample.clone(), lowest));
     tried.max_by_key(|(_, place)| *place).unwrap_or((Field::Length, 0))
 }
 
 /// The first field up to whose end the bytes begin no legal frame of the sample's kind and length that may stand there.
-fn first_bad(bytes: &[u8], mut sample: Vec<u8>, lowest: u16) -> (Field, usize) {
+fn first_bad(edition: Edition, bytes: &[u8], mut sample: Vec<u8>, lowest: u16) -> (Field, usize) {
     let shape = |frame: &Frame| (discriminant(&frame.body), frame.place.end);
-    let whole = frame::whole(&sample, 0).expect("samples are legal");
-    for (field, place) in fields(&whole) {
+    let whole = frame::begun(edition, &sample, 0, 0).expect("samples are legal");
+    for (field, place) in fields(edition, &whole) {
         sample[..place.end].copy_from_slice(&bytes[..place.end]);
-        let begun = frame::whole(&sample, 0).filter(|begun| shape(begun) == shape(&whole));
+        let begun = frame::begun(edition, &sample, 0, place.end).filter(|begun| shape(begun) == shape(&whole));
         if !begun.is_some_and(|begun| begun.may_stand(lowest)) {
             return (field, place.start);
         }
@@ -70,12 +74,13 @@ fn first_bad(bytes: &[u8], mut sample: Vec<u8>, lowest: u16) -> (Field, usize) {
 }
 
 /// The fields of a frame in address order, but for the value, which is never bad.
-fn fields(frame: &Frame) -> Vec<(Field, Range<usize>)> {
+fn fields(edition: Edition, frame: &Frame) -> Vec<(Field, Range<usize>)> {
     let body = match frame.body {
         Body::Put(..) | Body::Delete(..) => vec![(Field::Host, 4..5), (Field::Id, 5..7)],
         Body::Commit(_) | Body::Abort(_) => vec![(Field::Host, 4..5)],
         Body::Settled(..) => vec![(Field::Id, 4..6)],
     };
-    let end = frame.place.end;
-    [vec![(Field::Length, 0..2), (Field::Kind, 2..4)], body, vec![(Field::Finish, end - 1..end)]].concat()
+    let (end, seal) = (frame.place.end, frame.seal(edition));
+    let crc = if seal.is_empty() { vec![] } else { vec![(Field::Crc, seal)] };
+    [vec![(Field::Length, 0..2), (Field::Kind, 2..4)], body, crc, vec![(Field::Finish, end - 1..end)]].concat()
 }

@@ -1,19 +1,12 @@
 //! Frames, the entries of a block's journal.
 
+use crate::edition::{Edition, crc};
 use std::ops::Range;
 use std::sync::LazyLock;
 
 pub const FINISH: u8 = 0xFE;
 /// The most bytes of a value (K2).
 pub const VALUE_LIMIT: usize = 240;
-/// Length of a commit or abort frame.
-pub const MARK: usize = 6;
-/// Length of a delete frame, and of a put frame apart from its value.
-pub const CHANGE: usize = 8;
-/// Length of a settled frame apart from its value.
-pub const SETTLED: usize = 7;
-/// Length of the longest frame, a put of the longest value.
-pub const LONGEST: usize = CHANGE + VALUE_LIMIT;
 
 #[derive(Clone, Copy, PartialEq, Eq, Debug)]
 pub struct Host(pub u8);
@@ -48,58 +41,81 @@ impl Frame {
     pub fn may_stand(&self, lowest: u16) -> bool {
         !matches!(self.body, Body::Settled(Id(id), _) if u16::from(id) < lowest)
     }
+
+    /// Where its CRC stands.
+    pub fn seal(&self, edition: Edition) -> Range<usize> {
+        let finish = self.place.end - 1;
+        finish - edition.seal()..finish
+    }
 }
 
-pub fn put(host: Host, id: Id, value: &[u8]) -> Vec<u8> {
-    frame(1, &[&[host.0, id.0, 0], value].concat())
+pub fn put(edition: Edition, host: Host, id: Id, value: &[u8]) -> Vec<u8> {
+    frame(edition, 1, &[&[host.0, id.0, 0], value].concat())
 }
 
-pub fn delete(host: Host, id: Id) -> Vec<u8> {
-    frame(2, &[host.0, id.0, 0])
+pub fn delete(edition: Edition, host: Host, id: Id) -> Vec<u8> {
+    frame(edition, 2, &[host.0, id.0, 0])
 }
 
-pub fn commit(host: Host) -> Vec<u8> {
-    frame(3, &[host.0])
+pub fn commit(edition: Edition, host: Host) -> Vec<u8> {
+    frame(edition, 3, &[host.0])
 }
 
-pub fn abort(host: Host) -> Vec<u8> {
-    frame(4, &[host.0])
+pub fn abort(edition: Edition, host: Host) -> Vec<u8> {
+    frame(edition, 4, &[host.0])
 }
 
-pub fn settled(id: Id, value: &[u8]) -> Vec<u8> {
-    frame(5, &[&[id.0, 0], value].concat())
+pub fn settled(edition: Edition, id: Id, value: &[u8]) -> Vec<u8> {
+    frame(edition, 5, &[&[id.0, 0], value].concat())
 }
 
-fn frame(kind: u16, body: &[u8]) -> Vec<u8> {
-    let length = (body.len() + 5) as u16;
-    [&length.to_le_bytes()[..], &kind.to_le_bytes(), body, &[FINISH]].concat()
+fn frame(edition: Edition, kind: u16, body: &[u8]) -> Vec<u8> {
+    let length = (4 + body.len() + edition.seal() + 1) as u16;
+    let front = [&length.to_le_bytes()[..], &kind.to_le_bytes(), body].concat();
+    [&front[..], &crc(&front).to_le_bytes()[..edition.seal()], &[FINISH]].concat()
 }
 
 /// The whole legal frame at `at`, if one stands there.
-pub fn whole(block: &[u8], at: usize) -> Option<Frame> {
+pub fn whole(edition: Edition, block: &[u8], at: usize) -> Option<Frame> {
+    begun(edition, block, at, block.len())
+}
+
+/// The same where bytes from `seen` on may be others than those that stand there: the CRC's are then the right ones.
+pub fn begun(edition: Edition, block: &[u8], at: usize, seen: usize) -> Option<Frame> {
+    let frame = laid_out(edition, block, at)?;
+    let seal = frame.seal(edition);
+    let seen = seal.start..seal.end.min(seen);
+    let right = seen.is_empty() || crc(&block[at..seal.start]).to_le_bytes().starts_with(&block[seen]);
+    right.then_some(frame)
+}
+
+/// The frame at `at`, if one stands there that is legal but for its CRC.
+fn laid_out(edition: Edition, block: &[u8], at: usize) -> Option<Frame> {
     let length = number(block, at)?;
     let kind = number(block, at + 2)?;
     let place = at..at + length;
-    if !fits(kind, length) || *block.get(place.end - 1)? != FINISH {
+    if !fits(edition, kind, length) || *block.get(place.end - 1)? != FINISH {
         return None;
     }
     let host = || Host::new(block[at + 4]);
+    let value_end = place.end - 1 - edition.seal();
     let body = match kind {
-        1 => Body::Put(host()?, id(block, at + 5)?, at + 7..place.end - 1),
+        1 => Body::Put(host()?, id(block, at + 5)?, at + 7..value_end),
         2 => Body::Delete(host()?, id(block, at + 5)?),
         3 => Body::Commit(host()?),
         4 => Body::Abort(host()?),
-        _ => Body::Settled(id(block, at + 4)?, at + 6..place.end - 1),
+        _ => Body::Settled(id(block, at + 4)?, at + 6..value_end),
     };
     Some(Frame { place, body })
 }
 
-fn fits(kind: usize, length: usize) -> bool {
+fn fits(edition: Edition, kind: usize, length: usize) -> bool {
+    let with_value = |least: usize| (least..=least + VALUE_LIMIT).contains(&length);
     match kind {
-        1 => (CHANGE..=LONGEST).contains(&length),
-        2 => length == CHANGE,
-        3 | 4 => length == MARK,
-        5 => (SETTLED..=SETTLED + VALUE_LIMIT).contains(&length),
+        1 => with_value(edition.change()),
+        2 => length == edition.change(),
+        3 | 4 => length == edition.mark(),
+        5 => with_value(edition.settled()),
         _ => false,
     }
 }
@@ -114,29 +130,43 @@ fn number(block: &[u8], at: usize) -> Option<usize> {
 }
 
 /// Whether `tail` begins with a proper part of a legal frame of kinds 1 to 4 that would fit, followed by 0xFF only.
-pub fn torn(tail: &[u8]) -> bool {
+pub fn torn(edition: Edition, tail: &[u8]) -> bool {
     let programmed = tail.iter().rposition(|byte| *byte != 0xFF).map_or(0, |last| last + 1);
-    programmed > 0 && SAMPLES.iter().any(|sample| begins(&tail[..programmed], sample, tail.len()))
+    programmed > 0
+        && samples(edition).iter().any(|sample| begins(edition, &tail[..programmed], sample, tail.len()))
 }
 
 /// Whether `start` is a proper part of a legal frame of the sample's kind and length.
-fn begins(start: &[u8], sample: &[u8], room: usize) -> bool {
+fn begins(edition: Edition, start: &[u8], sample: &[u8], room: usize) -> bool {
     if start.len() >= sample.len() || sample.len() > room {
         return false;
     }
-    let begun = [start, &sample[start.len()..]].concat();
-    match whole(&begun, 0) {
+    let bytes = [start, &sample[start.len()..]].concat();
+    match begun(edition, &bytes, 0, start.len()) {
         Some(Frame { place, body }) => place.end == sample.len() && !matches!(body, Body::Settled(..)),
         None => false,
     }
 }
 
+type Samples = LazyLock<[Vec<Vec<u8>>; 2]>;
+
 /// A legal frame of each kind from 1 to 4 and each of its lengths.
-pub static SAMPLES: LazyLock<Vec<Vec<u8>>> = LazyLock::new(|| {
-    let puts = (0..=VALUE_LIMIT).map(|size| put(Host(0), Id(0), &vec![0; size]));
-    puts.chain([delete(Host(0), Id(0)), commit(Host(0)), abort(Host(0))]).collect()
-});
+pub fn samples(edition: Edition) -> &'static [Vec<u8>] {
+    static SAMPLES: Samples = LazyLock::new(|| {
+        Edition::ALL.map(|edition| {
+            let puts = (0..=VALUE_LIMIT).map(|size| put(edition, Host(0), Id(0), &vec![0; size]));
+            let delete = delete(edition, Host(0), Id(0));
+            puts.chain([delete, commit(edition, Host(0)), abort(edition, Host(0))]).collect()
+        })
+    });
+    &SAMPLES[edition as usize]
+}
 
 /// A settled frame of each length, with the id that may stand wherever any may.
-pub static SETTLED_SAMPLES: LazyLock<Vec<Vec<u8>>> =
-    LazyLock::new(|| (0..=VALUE_LIMIT).map(|size| settled(Id(255), &vec![0; size])).collect());
+pub fn settled_samples(edition: Edition) -> &'static [Vec<u8>] {
+    static SAMPLES: Samples = LazyLock::new(|| {
+        Edition::ALL
+            .map(|edition| (0..=VALUE_LIMIT).map(|size| settled(edition, Id(255), &vec![0; size])).collect())
+    });
+    &SAMPLES[edition as usize]
+}

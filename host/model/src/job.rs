@@ -1,7 +1,8 @@
 //! Jobs: flash steps still to be done, and the idle record after the last.
 
+use crate::Model;
 use std::collections::VecDeque;
-use store::{Answer, Idle};
+use store::{Answer, Drive, Idle, Told};
 
 #[derive(Clone, PartialEq, Eq, Debug)]
 pub enum Record {
@@ -86,6 +87,31 @@ impl Job {
             }
         }
         self.work.is_empty().then_some(self.idle)
+    }
+}
+
+impl Drive for Model {
+    fn told(&self, length: usize, blocks: u8, record: &Record) -> (Answer, Told) {
+        match record {
+            Record::Job(job) if !job.is_on(length, blocks) => (Answer::STALE, Told::default()),
+            Record::Job(job) => match job.next() {
+                Step::Program { at, byte } => (Answer::PROGRAM, Told { at, len: 1, byte }),
+                Step::Erase { at, len } => (Answer::ERASE, Told { at, len, byte: 0xFF }),
+            },
+            _ => (Answer::DONE, Told::default()),
+        }
+    }
+
+    fn made(&self, image: &[u8], blocks: u8, record: &mut Record) -> Answer {
+        if let Record::Job(job) = record {
+            if !job.is_on(image.len(), blocks) {
+                return Answer::STALE;
+            }
+            if let Some(idle) = job.advance() {
+                *record = Record::Idle(idle);
+            }
+        }
+        answer(record)
     }
 }
 

@@ -1,19 +1,21 @@
-//! Document 01 with K2, K4, K5, K7 and K14 of document 02, implemented straightforwardly and on its own: nothing here is
+//! Document 01 with K2, K4, K5, K7, K9 and K14 of document 02, implemented straightforwardly and on its own: nothing here is
 //! shared with the proved library.
 
 pub mod block;
+pub mod edition;
 pub mod fault;
 pub mod frame;
 pub mod job;
 mod request;
 
 use block::{Block, Journal, Replay};
+use edition::Edition;
 use frame::{Host, Id};
 pub use job::Record;
 use job::Work;
 use request::{Page, Request};
 use store::message::PAGE;
-use store::{Answer, Fault, Head, Idle, Store, Stretch};
+use store::{Answer, Drive, Fault, Head, Idle, Store, Stretch};
 
 const LAST_TIME: u32 = u32::MAX;
 
@@ -57,17 +59,12 @@ impl Store for Model {
     }
 
     fn step(&self, image: &mut [u8], blocks: u8, record: &mut Record) -> Answer {
-        let Record::Job(job) = record else {
-            return Answer::DONE;
-        };
-        if !job.is_on(image.len(), blocks) {
-            return Answer::STALE;
+        if let Record::Job(job) = record
+            && job.is_on(image.len(), blocks)
+        {
+            job.next().make(image);
         }
-        job.next().make(image);
-        if let Some(idle) = job.advance() {
-            *record = Record::Idle(idle);
-        }
-        job::answer(record)
+        self.made(image, blocks, record)
     }
 
     fn read(&self, image: &[u8], blocks: u8, record: &Record, host: u8, message: &[u8]) -> (Answer, Stretch) {
@@ -137,7 +134,7 @@ fn mount(image: &[u8], blocks: u8) -> Result<Record, Answer> {
         return Ok(job::begin(work, board.idle(current, board.journal.end)));
     }
     board.replay.pending.clear();
-    work.extend(board.transfer()?);
+    work.extend(board.transfer(board.journal.edition)?);
     Ok(job::begin(work, board.idle(board.next(), board.replay.used())))
 }
 
@@ -155,16 +152,16 @@ fn format(image: &[u8], blocks: u8) -> Result<Record, Answer> {
     let current = newest(&read);
     let others = (0..read.len()).filter(|block| Some(*block) != current);
     let mut work: Vec<Work> = others.chain(current).map(|block| Work::erase(block, size)).collect();
-    work.extend(write_block(0, 1, Vec::new()));
-    let idle = Idle { length: image.len(), block: 0, end: block::HEADER as u16, blocks, pending: [0; 4] };
-    Ok(job::begin(work, idle))
+    work.extend(write_block(Edition::First, 0, 1, Vec::new()));
+    let (length, end, edition) = (image.len(), block::HEADER as u16, Edition::First.number());
+    Ok(job::begin(work, Idle { length, block: 0, end, blocks, edition, pending: [0; 4] }))
 }
 
 /// Writes a block that starts at `base`: the state byte says "in progress" first and "valid" last.
-fn write_block(base: usize, time: u32, frames: Vec<u8>) -> [Work; 5] {
+fn write_block(edition: Edition, base: usize, time: u32, frames: Vec<u8>) -> [Work; 5] {
     [
         Work::program(base + block::STATE, [block::IN_PROGRESS]),
-        Work::program(base, block::LABEL),
+        Work::program(base, edition.label()),
         Work::program(base + block::HEADER, frames),
         Work::program(base + block::TIME, (!time).to_le_bytes()),
         Work::program(base + block::STATE, [block::VALID]),
@@ -199,17 +196,19 @@ fn serve(
     reply: &mut [u8],
 ) -> Result<Record, Answer> {
     let (board, host) = board(image, blocks, record, host)?;
+    let edition = board.journal.edition;
     match request::parse(message).ok_or(Answer::MALFORMED)? {
         Request::Read(id) => board.find(id).ok_or(Answer::NO_OBJECT).map(|_| record.clone()),
         Request::Log(Page::Store) => {
             reply.get_mut(..PAGE).ok_or(Answer::SHORT_REPLY)?.copy_from_slice(&board.page());
             Ok(record.clone())
         }
-        Request::Put(id, value) => board.change(host, frame::put(host, id, value), 14),
-        Request::Delete(id) => board.change(host, frame::delete(host, id), 0),
+        Request::Put(id, value) => board.change(host, frame::put(edition, host, id, value), edition.reserve()),
+        Request::Delete(id) => board.change(host, frame::delete(edition, host, id), 0),
         Request::Commit | Request::Abort if !board.replay.has_pending(host) => Ok(record.clone()),
-        Request::Commit => board.append(host, frame::commit(host), 0),
-        Request::Abort => board.append(host, frame::abort(host), 0),
+        Request::Commit => board.append(host, frame::commit(edition, host), 0),
+        Request::Abort => board.append(host, frame::abort(edition, host), 0),
+        Request::Convert => board.convert(),
     }
 }
 
@@ -239,10 +238,10 @@ impl<'a> Board<'a> {
         }
         let (block, mut others) = (usize::from(idle.block), cut(image, blocks));
         let board = Board::new(image, blocks, block, block::read(others.remove(block)))?;
-        let room = board.replay.claimed() + frame::MARK * board.replay.open(None) <= board.size();
+        let room = board.replay.claimed() + board.journal.edition.mark() * board.replay.open(None) <= board.size();
         let ends = board.journal.end == usize::from(idle.end) && !board.journal.torn;
-        let counts = idle.pending == board.pending();
-        (ends && room && counts && others.into_iter().all(|other| block::read(other) == Block::Blank))
+        let says = (idle.edition, idle.pending) == (board.journal.edition.number(), board.pending());
+        (ends && room && says && others.into_iter().all(|other| block::read(other) == Block::Blank))
             .then_some(board)
     }
 
@@ -260,8 +259,8 @@ impl<'a> Board<'a> {
     }
 
     fn idle(&self, block: usize, end: usize) -> Idle {
-        let (length, blocks) = (self.image.len(), self.blocks);
-        Idle { length, block: block as u8, end: end as u16, blocks, pending: self.pending() }
+        let (length, blocks, edition) = (self.image.len(), self.blocks, self.journal.edition.number());
+        Idle { length, block: block as u8, end: end as u16, blocks, edition, pending: self.pending() }
     }
 
     /// What the record says of each host (K7).
@@ -293,7 +292,7 @@ impl<'a> Board<'a> {
         if pending > self.size() / 2 {
             return Err(Answer::HOST_FULL);
         }
-        let marks = frame::MARK * self.replay.open(Some(host));
+        let marks = self.journal.edition.mark() * self.replay.open(Some(host));
         if self.replay.claimed() + frame.len() + marks + spare > self.size() {
             return Err(Answer::NO_ROOM);
         }
@@ -303,7 +302,7 @@ impl<'a> Board<'a> {
     /// A frame of this host, which then has so many bytes pending.
     fn append(&self, host: Host, frame: Vec<u8>, pending: usize) -> Result<Record, Answer> {
         let (mut work, block, at) = if self.journal.end + frame.len() > self.size() {
-            (self.transfer()?, self.next(), self.replay.claimed())
+            (self.transfer(self.journal.edition)?, self.next(), self.replay.claimed())
         } else {
             (Vec::new(), self.block, self.journal.end)
         };
@@ -313,19 +312,36 @@ impl<'a> Board<'a> {
         Ok(job::begin(work, idle))
     }
 
-    /// Settled and pending frames into the next block, then the erase of this one.
-    fn transfer(&self) -> Result<Vec<Work>, Answer> {
+    /// K9: the settled objects into a block of edition 2, unless this is one.
+    fn convert(&self) -> Result<Record, Answer> {
+        let used = self.replay.used_in(Edition::Second);
+        if !self.replay.pending.is_empty() {
+            Err(Answer::PENDING)
+        } else if used > self.size() {
+            Err(Answer::NO_ROOM)
+        } else if self.journal.edition == Edition::Second {
+            Ok(Record::Idle(self.idle(self.block, self.journal.end)))
+        } else {
+            let idle = Idle { edition: Edition::Second.number(), ..self.idle(self.next(), used) };
+            Ok(job::begin(self.transfer(Edition::Second)?, idle))
+        }
+    }
+
+    /// Settled and pending frames into the next block, then the erase of this one. Where the edition changes nothing is
+    /// pending.
+    fn transfer(&self, edition: Edition) -> Result<Vec<Work>, Answer> {
         if self.journal.time == LAST_TIME {
             return Err(Answer::WORN);
         }
-        let mut work = Vec::from(write_block(self.next() * self.size(), self.journal.time + 1, self.frames()));
+        let (base, time) = (self.next() * self.size(), self.journal.time + 1);
+        let mut work = Vec::from(write_block(edition, base, time, self.frames(edition)));
         work.push(Work::erase(self.block, self.size()));
         Ok(work)
     }
 
     /// The settled objects as frames, then the pending frames.
-    fn frames(&self) -> Vec<u8> {
-        let settled = self.replay.objects().map(|(id, value)| frame::settled(id, &self.bytes()[value]));
+    fn frames(&self, edition: Edition) -> Vec<u8> {
+        let settled = self.replay.objects().map(|(id, value)| frame::settled(edition, id, &self.bytes()[value]));
         let pending = self.replay.pending.iter().map(|frame| self.bytes()[frame.place.clone()].to_vec());
         settled.chain(pending).collect::<Vec<_>>().concat()
     }

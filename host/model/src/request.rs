@@ -1,7 +1,7 @@
 //! What a host may ask.
 
 use crate::frame::{Id, VALUE_LIMIT};
-use store::message::{ABORT, COMMIT, DELETE, LOG, PUT, READ};
+use store::message::{ABORT, COMMIT, CONVERT, DELETE, LOG, PUT, READ};
 
 pub enum Request<'a> {
     Put(Id, &'a [u8]),
@@ -10,6 +10,7 @@ pub enum Request<'a> {
     Abort,
     Read(Id),
     Log(Page),
+    Convert,
 }
 
 pub enum Page {
@@ -33,6 +34,7 @@ pub fn parse(message: &[u8]) -> Option<Request<'_>> {
         (ABORT, []) => Some(Request::Abort),
         (READ, body) => only_id(body).map(Request::Read),
         (LOG, [1]) => Some(Request::Log(Page::Store)),
+        (CONVERT, []) => Some(Request::Convert),
         _ => None,
     }
 }

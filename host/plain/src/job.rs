@@ -1,8 +1,8 @@
 //! The board record and the steps of a job, one for each call.
 
 use crate::MOST;
-use crate::journal::value_at;
-use crate::journal::{DELETE, FINISH, HEADER, IN_PROGRESS, Journal, LABEL, LONGEST, SETTLED, STATE, TIME, VALID};
+use crate::journal::{DELETE, HEADER, IN_PROGRESS, Journal, KEPT, LABEL, LONGEST, SETTLED, STATE, TIME, VALID};
+use crate::journal::{finish, label, value_at};
 use store::{Answer, Idle};
 
 #[derive(Clone, Copy, PartialEq, Eq, Debug)]
@@ -29,6 +29,8 @@ pub struct Record {
     pub blocks: u8,
     pub block: u8,
     pub end: u16,
+    /// In a job, the edition of the block that is written to.
+    pub edition: u8,
     /// By host, the bytes of its pending frames; in a job, what they are when it ends.
     pub pending: [u16; 4],
     /// The bytes of a block.
@@ -42,6 +44,8 @@ pub struct Record {
     time: u32,
     /// The next of `wipe`, the next write of Open or Seal, the next byte of `unit` or `frame`.
     index: u8,
+    /// The edition of the block that is copied.
+    source: u8,
     /// What is copied: places of settled values from `id` on, then the old block's changes from `from` to `until`, of
     /// each host from `since` on.
     id: u16,
@@ -61,6 +65,7 @@ impl Record {
         blocks: 0,
         block: 0,
         end: 0,
+        edition: 0,
         pending: [0; 4],
         size: 0,
         wipes: 0,
@@ -69,6 +74,7 @@ impl Record {
         drops: false,
         time: 0,
         index: 0,
+        source: 0,
         id: 0,
         from: 0,
         until: 0,
@@ -79,10 +85,11 @@ impl Record {
     };
 
     /// A record that names a block of an image, with nothing to do.
-    pub fn rest(&mut self, Idle { length, block, end, blocks, pending }: Idle) {
+    pub fn rest(&mut self, Idle { length, block, end, blocks, edition, pending }: Idle) {
         self.phase = Phase::Idle;
         self.length = length as u32;
-        (self.blocks, self.block, self.end, self.pending) = (blocks, block, end, pending);
+        (self.blocks, self.block, self.end) = (blocks, block, end);
+        (self.edition, self.pending) = (edition, pending);
         (self.wipes, self.index) = (0, 0);
         (self.makes, self.drops) = (false, false);
         self.frame[0] = 0;
@@ -90,8 +97,8 @@ impl Record {
 
     /// What it names.
     pub fn idle(&self) -> Idle {
-        let (length, pending) = (self.length as usize, self.pending);
-        Idle { length, block: self.block, end: self.end, blocks: self.blocks, pending }
+        let Record { block, end, blocks, edition, pending, .. } = *self;
+        Idle { length: self.length as usize, block, end, blocks, edition, pending }
     }
 
     /// Erases this block after those asked for before.
@@ -101,16 +108,17 @@ impl Record {
     }
 
     /// An empty block is made.
-    pub fn make(&mut self, block: u8, time: u32) {
-        (self.block, self.end) = (block, HEADER as u16);
+    pub fn make(&mut self, block: u8, time: u32, edition: u8) {
+        (self.block, self.end, self.edition) = (block, HEADER as u16, edition);
         (self.makes, self.time) = (true, time);
         (self.id, self.from, self.until) = (256, 0, 0);
     }
 
-    /// The journal goes over to the next block, with its pending frames or without.
-    pub fn transfer(&mut self, journal: &Journal, pending: bool) {
+    /// The journal goes over to the next block in this edition, with its pending frames or without.
+    pub fn transfer(&mut self, journal: &Journal, edition: u8, pending: bool) {
         let next = self.block + 1;
-        self.make(if next == self.blocks { 0 } else { next }, journal.time + 1);
+        self.make(if next == self.blocks { 0 } else { next }, journal.time + 1, edition);
+        self.source = journal.edition;
         self.drops = true;
         self.id = 0;
         self.places = journal.places;
@@ -123,12 +131,12 @@ impl Record {
 
     /// A frame is written: a change adds to what its host has pending, a commit or abort ends that.
     pub fn append(&mut self, head: &[u8], value: &[u8]) {
-        let finish = head.len() + value.len();
+        let front = head.len() + value.len();
         self.frame[..head.len()].copy_from_slice(head);
-        self.frame[head.len()..finish].copy_from_slice(value);
-        self.frame[finish] = FINISH;
+        self.frame[head.len()..front].copy_from_slice(value);
+        finish(&mut self.frame, front, self.edition);
         let pending = &mut self.pending[usize::from(head[4])];
-        *pending = if head[2] <= DELETE { *pending + finish as u16 + 1 } else { 0 };
+        *pending = if head[2] <= DELETE { *pending + u16::from(self.frame[0]) } else { 0 };
     }
 
     /// Takes up what was asked for above.
@@ -187,9 +195,10 @@ impl Record {
                 index + 1 == usize::from(self.wipes)
             }
             Phase::Open => {
-                let (at, byte) = if index == 0 { (STATE, IN_PROGRESS) } else { (index - 1, LABEL[index - 1]) };
+                let (at, byte) =
+                    if index == 0 { (STATE, IN_PROGRESS) } else { (index - 1, label(self.edition)[index - 1]) };
                 self.program(image, at, byte);
-                index == LABEL.len()
+                index == LABEL
             }
             Phase::Copy => {
                 self.program_next(image, self.unit[index]);
@@ -246,10 +255,10 @@ impl Record {
             let (id, place) = (self.id as u8, self.places[usize::from(self.id)]);
             self.id += 1;
             if place != 0 {
-                let (at, length) = value_at(old, usize::from(place));
-                self.unit[..6].copy_from_slice(&[7 + length as u8, 0, SETTLED, 0, id, 0]);
-                self.unit[6..6 + length].copy_from_slice(&old[at..at + length]);
-                self.unit[6 + length] = FINISH;
+                let (at, length) = value_at(old, usize::from(place), self.source);
+                self.unit[..KEPT].copy_from_slice(&[0, 0, SETTLED, 0, id, 0]);
+                self.unit[KEPT..KEPT + length].copy_from_slice(&old[at..at + length]);
+                finish(&mut self.unit, KEPT + length, self.edition);
                 return true;
             }
         }

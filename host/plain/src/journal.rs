@@ -1,10 +1,13 @@
 //! Reading a block: one pass over its frames, into a table of fixed size.
 
+use crate::crc::crc;
 use store::Field;
 
 pub const HEADER: usize = 16;
-/// Header bytes 0 to 3: length 16, kind 0x4A01.
-pub const LABEL: [u8; 4] = [0x10, 0x00, 0x01, 0x4A];
+/// Header bytes 0 to 3 but for the edition, which is the kind's low byte: length 16, kind 0x4A01 or 0x4A02.
+const LENGTH: [u8; 2] = [0x10, 0x00];
+const KIND: u8 = 0x4A;
+pub const LABEL: usize = 4;
 pub const TIME: usize = 4;
 pub const STATE: usize = 8;
 pub const IN_PROGRESS: u8 = 0xFE;
@@ -16,12 +19,16 @@ pub const COMMIT: u8 = 3;
 pub const ABORT: u8 = 4;
 pub const SETTLED: u8 = 5;
 pub const FINISH: u8 = 0xFE;
-/// Length of a commit or abort frame.
-pub const MARK: usize = 6;
 /// The most bytes of a value.
 pub const VALUE_LIMIT: usize = 240;
-/// Length of the longest frame, a put of the longest value. No frame begins with 0xFF, as erased flash does.
-pub const LONGEST: usize = 8 + VALUE_LIMIT;
+/// Bytes of each kind of frame before CRC and finish byte; a put and a settled frame have a value as well.
+pub const MARK: usize = 5;
+pub const CHANGE: usize = 7;
+pub const KEPT: usize = 6;
+const LONGEST_PUT: usize = CHANGE + VALUE_LIMIT;
+const LONGEST_KEPT: usize = KEPT + VALUE_LIMIT;
+/// Length of the longest frame, a put of the longest value with a CRC. No frame begins with 0xFF, as erased flash does.
+pub const LONGEST: usize = LONGEST_PUT + 5;
 const _: () = assert!(LONGEST < 0xFF);
 
 #[derive(PartialEq, Eq)]
@@ -35,10 +42,22 @@ pub enum State {
 /// The first field that is wrong, and where it starts.
 pub type Wrong = (Field, usize);
 
+/// Bytes of CRC and finish byte in this edition.
+pub fn seal(edition: u8) -> usize {
+    if edition == 2 { 5 } else { 1 }
+}
+
+/// Header bytes 0 to 3 of a block.
+pub fn label(edition: u8) -> [u8; LABEL] {
+    [LENGTH[0], LENGTH[1], edition, KIND]
+}
+
 /// What a valid block holds. A place is the offset of a frame in the block; 0 is none.
 #[derive(Clone)]
 pub struct Journal {
     pub time: u32,
+    /// 1 or 2.
+    pub edition: u8,
     /// Where the last whole frame ends.
     pub end: usize,
     pub torn: bool,
@@ -55,6 +74,7 @@ pub struct Journal {
 impl Journal {
     pub const EMPTY: Journal = Journal {
         time: 0,
+        edition: 1,
         end: HEADER,
         torn: false,
         places: [0; 256],
@@ -80,9 +100,10 @@ impl Journal {
 
     fn header(&mut self, block: &[u8]) -> Result<(), Wrong> {
         self.time = !u32::from_le_bytes([block[4], block[5], block[6], block[7]]);
-        if block[..2] != LABEL[..2] {
+        self.edition = block[2];
+        if block[..2] != LENGTH {
             Err((Field::Length, 0))
-        } else if block[2..TIME] != LABEL[2..] {
+        } else if !matches!(block[2..TIME], [1 | 2, KIND]) {
             Err((Field::Kind, 2))
         } else if self.time == 0 {
             Err((Field::Time, TIME))
@@ -96,9 +117,10 @@ impl Journal {
     }
 
     fn frames(&mut self, block: &[u8]) -> Result<(), Wrong> {
+        let seal = seal(self.edition);
         // the least id that a settled frame may still have
         let mut least = 0;
-        while let Some((length, kind)) = frame_at(&block[self.end..]) {
+        while let Some((length, kind)) = frame_at(&block[self.end..], seal) {
             let at = self.end;
             let number = block[at + 4];
             let host = usize::from(number & 3);
@@ -119,10 +141,10 @@ impl Journal {
         }
         let tail = &block[self.end..];
         self.torn = !blank(tail);
-        if !self.torn || begins_frame(tail) {
+        if !self.torn || begins_frame(tail, seal) {
             return Ok(());
         }
-        let (field, place) = wrong_field(tail, least);
+        let (field, place) = wrong_field(tail, least, seal);
         Err((field, self.end + place))
     }
 
@@ -149,12 +171,17 @@ impl Journal {
     }
 
     fn remove(&mut self, block: &[u8], id: u8) {
-        let place = &mut self.places[usize::from(id)];
-        if *place != 0 {
-            self.used -= settled_length(block, usize::from(*place));
+        let place = self.places[usize::from(id)];
+        if place != 0 {
+            self.used -= settled_length(block, usize::from(place));
             self.objects -= 1;
-            *place = 0;
+            self.places[usize::from(id)] = 0;
         }
+    }
+
+    /// What U would be in edition 2.
+    pub fn used_in_2(&self) -> usize {
+        self.used + usize::from(self.objects) * (seal(2) - seal(self.edition))
     }
 
     /// Document 01's C.
@@ -173,66 +200,87 @@ pub fn blank(bytes: &[u8]) -> bool {
 }
 
 /// Where the value of the put or settled frame at `at` stands, and its length.
-pub fn value_at(block: &[u8], at: usize) -> (usize, usize) {
-    let head = if block[at + 2] == PUT { 7 } else { 6 };
-    (at + head, usize::from(block[at]) - head - 1)
+pub fn value_at(block: &[u8], at: usize, edition: u8) -> (usize, usize) {
+    let head = if block[at + 2] == PUT { CHANGE } else { KEPT };
+    (at + head, usize::from(block[at]) - head - seal(edition))
 }
 
+/// Length of the settled frame that has the value of the put or settled frame at `at`.
 fn settled_length(block: &[u8], at: usize) -> usize {
-    7 + value_at(block, at).1
+    usize::from(block[at]) - if block[at + 2] == PUT { CHANGE - KEPT } else { 0 }
+}
+
+/// Writes the length of a frame that has so many bytes before its CRC, then CRC and finish byte.
+pub fn finish(frame: &mut [u8; LONGEST], front: usize, edition: u8) {
+    let last = front + seal(edition) - 1;
+    frame[0] = last as u8 + 1;
+    if last > front {
+        let crc = crc(&frame[..front]);
+        frame[front..last].copy_from_slice(&crc);
+    }
+    frame[last] = FINISH;
 }
 
 /// Length and kind of the whole legal frame that `bytes` begin with.
-fn frame_at(bytes: &[u8]) -> Option<(usize, u8)> {
+fn frame_at(bytes: &[u8], seal: usize) -> Option<(usize, u8)> {
     let [length, 0, kind, 0, ..] = *bytes else { return None };
-    let frame = bytes.get(..usize::from(length))?;
-    let fields = match (kind, frame) {
-        (PUT, [_, _, _, _, 0..=3, _, 0, .., FINISH]) => (8..=LONGEST).contains(&frame.len()),
-        (DELETE, [_, _, _, _, 0..=3, _, 0, FINISH]) => true,
-        (COMMIT | ABORT, [_, _, _, _, 0..=3, FINISH]) => true,
-        (SETTLED, [_, _, _, _, _, 0, .., FINISH]) => (7..LONGEST).contains(&frame.len()),
+    let length = usize::from(length);
+    let (front, sealed) = bytes.get(..length)?.split_at(length.checked_sub(seal)?);
+    let legal = match (kind, front) {
+        (PUT, [_, _, _, _, 0..=3, _, 0, ..]) => front.len() <= LONGEST_PUT,
+        (DELETE, [_, _, _, _, 0..=3, _, 0]) => true,
+        (COMMIT | ABORT, [_, _, _, _, 0..=3]) => true,
+        (SETTLED, [_, _, _, _, _, 0, ..]) => front.len() <= LONGEST_KEPT,
         _ => false,
     };
-    fields.then_some((frame.len(), kind))
+    let right = match sealed {
+        [FINISH] => legal,
+        [sum @ .., FINISH] => legal && *sum == crc(front),
+        _ => false,
+    };
+    right.then_some((length, kind))
 }
 
 /// Whether a tail that is not blank is torn: it begins a put, delete, commit or abort that would fit.
-fn begins_frame(tail: &[u8]) -> bool {
+fn begins_frame(tail: &[u8], seal: usize) -> bool {
     let written = tail.iter().rposition(|byte| *byte != 0xFF).map_or(0, |last| last + 1);
     let seen = |at: usize, fits: bool| at >= written || fits;
     let byte = |at: usize| tail.get(at).copied().unwrap_or(0);
     let length = usize::from(tail[0]);
+    let front = length.saturating_sub(seal);
     let kind = match byte(2) {
-        PUT => (8..=LONGEST).contains(&length),
-        DELETE => length == 8,
-        COMMIT | ABORT => length == MARK,
+        PUT => (CHANGE..=LONGEST_PUT).contains(&front),
+        DELETE => front == CHANGE,
+        COMMIT | ABORT => front == MARK,
         _ => false,
     };
-    (length == MARK || (8..=LONGEST).contains(&length))
+    (front == MARK || (CHANGE..=LONGEST_PUT).contains(&front))
         && written < length
         && length <= tail.len()
         && seen(1, byte(1) == 0)
         && seen(2, kind)
         && seen(3, byte(3) == 0)
         && seen(4, byte(4) <= 3)
-        && seen(6, byte(6) == 0)
+        && seen(6, front == MARK || byte(6) == 0)
+        && (written <= front || crc(&tail[..front]).starts_with(&tail[front..written]))
 }
 
 /// The first wrong field of a tail in which no frame that may stand there is whole, torn or missing.
-fn wrong_field(tail: &[u8], least: u16) -> Wrong {
+fn wrong_field(tail: &[u8], least: u16, seal: usize) -> Wrong {
     let number = |at: usize| tail.get(at..at + 2).map_or(0, |bytes| u16::from_le_bytes([bytes[0], bytes[1]]));
     let (length, kind) = (usize::from(number(0)), number(2));
+    let front = length.saturating_sub(seal);
     let settled = least < 256;
-    let some_kind = match length {
-        MARK | 8..=LONGEST => true,
-        7 => settled,
+    let some_kind = match front {
+        MARK | CHANGE..=LONGEST_PUT => true,
+        KEPT => settled,
         _ => false,
     };
     let this_kind = match kind {
-        1 => length >= 8,
-        2 => length == 8,
-        3 | 4 => length == MARK,
-        5 => settled && (7..LONGEST).contains(&length),
+        1 => front >= CHANGE,
+        2 => front == CHANGE,
+        3 | 4 => front == MARK,
+        5 => settled && (KEPT..=LONGEST_KEPT).contains(&front),
         _ => false,
     };
     if !some_kind || length > tail.len() {
@@ -245,6 +293,8 @@ fn wrong_field(tail: &[u8], least: u16) -> Wrong {
         (Field::Id, 5)
     } else if kind == 5 && !(least..256).contains(&number(4)) {
         (Field::Id, 4)
+    } else if seal > 1 && tail[front..length - 1] != crc(&tail[..front]) {
+        (Field::Crc, front)
     } else {
         (Field::Finish, length - 1)
     }

@@ -4,14 +4,16 @@
 
 #![no_std]
 
+mod crc;
 mod job;
 mod journal;
 mod look;
 
+pub use crc::crc;
 use job::Phase;
 pub use job::Record;
 pub use journal::VALUE_LIMIT;
-use journal::{ABORT, COMMIT, DELETE, HEADER, Journal, MARK, PUT, State, blank, value_at};
+use journal::{ABORT, CHANGE, COMMIT, DELETE, HEADER, Journal, MARK, PUT, State, blank, seal, value_at};
 use look::Look;
 use store::{Answer, Fault, Head, Idle, Store, Stretch};
 
@@ -38,13 +40,14 @@ fn begin_mount(image: &[u8], blocks: u8, record: &mut Record) -> Result<Answer, 
     if dirty && look.journal.time == u32::MAX {
         return Err(Answer::WORN);
     }
-    let (length, end, pending) = (image.len(), look.journal.end as u16, [0; 4]);
-    record.rest(Idle { length, block: block as u8, end, blocks, pending });
+    let Journal { end, edition, .. } = look.journal;
+    let (length, end, pending) = (image.len(), end as u16, [0; 4]);
+    record.rest(Idle { length, block: block as u8, end, blocks, edition, pending });
     for other in (0..MOST).filter(|other| *other != block && look.used[*other]) {
         record.wipe(other);
     }
     if dirty {
-        record.transfer(&look.journal, false);
+        record.transfer(&look.journal, edition, false);
     }
     Ok(record.begin(image))
 }
@@ -69,14 +72,15 @@ pub fn format(image: &[u8], blocks: u8, record: &mut Record) -> Answer {
         Err(refusal) => return refusal,
     };
     let current = Look::at(image, size).current();
-    record.rest(Idle { length: image.len(), block: 0, end: HEADER as u16, blocks, pending: [0; 4] });
+    let (length, end, edition) = (image.len(), HEADER as u16, 1);
+    record.rest(Idle { length, block: 0, end, blocks, edition, pending: [0; 4] });
     for block in (0..usize::from(blocks)).filter(|block| Some(*block) != current) {
         record.wipe(block);
     }
     if let Some(block) = current {
         record.wipe(block);
     }
-    record.make(0, 1);
+    record.make(0, 1, edition);
     record.begin(image)
 }
 
@@ -104,23 +108,25 @@ fn serve(
     let size = fresh(image, blocks, record, host, &mut journal)?;
     let (kind, body) = kind_of(message)?;
     let quiet = journal.pending[usize::from(host)] == 0;
+    let delete = CHANGE + seal(journal.edition);
     match (kind, body) {
         (1, [id, 0, value @ ..]) if value.len() <= VALUE_LIMIT => {
-            let length = 8 + value.len();
+            let length = delete + value.len();
             half(size, record, host, length)?;
-            room(size, &journal, host, length + MARK + 8)?;
-            append(image, size, record, &journal, &[length as u8, 0, PUT, 0, host, *id, 0], value)
+            room(size, &journal, host, length + mark(&journal) + delete)?;
+            append(image, size, record, &journal, &[0, 0, PUT, 0, host, *id, 0], value)
         }
         (2, [id, 0]) => {
-            half(size, record, host, 8)?;
-            room(size, &journal, host, 8)?;
-            append(image, size, record, &journal, &[8, 0, DELETE, 0, host, *id, 0], &[])
+            half(size, record, host, delete)?;
+            room(size, &journal, host, delete)?;
+            append(image, size, record, &journal, &[0, 0, DELETE, 0, host, *id, 0], &[])
         }
         (3 | 4, []) if quiet => Ok(Answer::DONE),
-        (3, []) => append(image, size, record, &journal, &[6, 0, COMMIT, 0, host], &[]),
-        (4, []) => append(image, size, record, &journal, &[6, 0, ABORT, 0, host], &[]),
+        (3, []) => append(image, size, record, &journal, &[0, 0, COMMIT, 0, host], &[]),
+        (4, []) => append(image, size, record, &journal, &[0, 0, ABORT, 0, host], &[]),
         (5, [id, 0]) => settled(&journal, *id).map(|_| Answer::DONE),
         (6, [1]) => log(size, &journal, reply),
+        (8, []) => convert(image, size, record, &journal),
         _ => Err(Answer::MALFORMED),
     }
 }
@@ -132,7 +138,7 @@ pub fn read(image: &[u8], blocks: u8, record: &Record, host: u8, message: &[u8])
     match kind_of(message)? {
         (5, [id, 0]) => {
             let base = size * usize::from(record.block);
-            let (at, len) = value_at(&image[base..base + size], settled(&journal, *id)?);
+            let (at, len) = value_at(&image[base..base + size], settled(&journal, *id)?, journal.edition);
             Ok(Stretch { at: base + at, len })
         }
         _ => Err(Answer::MALFORMED),
@@ -174,11 +180,11 @@ fn rests(image: &[u8], size: usize, record: &Record, journal: &mut Journal) -> b
     let (block, after) = rest.split_at(size);
     journal.read(block) == State::Valid
         && journal.end == usize::from(record.end)
-        && journal.pending == record.pending
+        && (journal.edition, journal.pending) == (record.edition, record.pending)
         && !journal.torn
         && blank(before)
         && blank(after)
-        && journal.claimed() + MARK * journal.open(None) <= size
+        && journal.claimed() + mark(journal) * journal.open(None) <= size
 }
 
 /// The low byte of a message's kind, and its body.
@@ -204,11 +210,17 @@ fn half(size: usize, record: &Record, host: u8, bytes: usize) -> Result<(), Answ
     if pending > size / 2 { Err(Answer::HOST_FULL) } else { Ok(()) }
 }
 
+/// Length of a commit or abort frame.
+fn mark(journal: &Journal) -> usize {
+    MARK + seal(journal.edition)
+}
+
 fn room(size: usize, journal: &Journal, host: u8, bytes: usize) -> Result<(), Answer> {
-    let marks = MARK * journal.open(Some(usize::from(host)));
+    let marks = mark(journal) * journal.open(Some(usize::from(host)));
     if journal.claimed() + bytes + marks > size { Err(Answer::NO_ROOM) } else { Ok(()) }
 }
 
+/// A frame, whose length is written with its end.
 fn append(
     image: &[u8],
     size: usize,
@@ -217,16 +229,33 @@ fn append(
     head: &[u8],
     value: &[u8],
 ) -> Result<Answer, Answer> {
-    let transfer = journal.end + head.len() + value.len() + 1 > size;
+    let transfer = journal.end + head.len() + value.len() + seal(journal.edition) > size;
     if transfer && journal.time == u32::MAX {
         return Err(Answer::WORN);
     }
     record.rest(record.idle());
     if transfer {
-        record.transfer(journal, true);
+        record.transfer(journal, journal.edition, true);
     }
     record.append(head, value);
     Ok(record.begin(image))
+}
+
+/// The settled objects go over to edition 2, unless they are there.
+fn convert(image: &[u8], size: usize, record: &mut Record, journal: &Journal) -> Result<Answer, Answer> {
+    if journal.open(None) > 0 {
+        Err(Answer::PENDING)
+    } else if journal.used_in_2() > size {
+        Err(Answer::NO_ROOM)
+    } else if journal.edition == 2 {
+        Ok(Answer::DONE)
+    } else if journal.time == u32::MAX {
+        Err(Answer::WORN)
+    } else {
+        record.rest(record.idle());
+        record.transfer(journal, 2, false);
+        Ok(record.begin(image))
+    }
 }
 
 fn log(size: usize, journal: &Journal, reply: &mut [u8]) -> Result<Answer, Answer> {

@@ -13,10 +13,11 @@ pub enum Field {
     Time = 6,
     State = 7,
     Rest = 8,
+    Crc = 9,
 }
 
 impl Field {
-    pub const ALL: [Field; 8] = [
+    pub const ALL: [Field; 9] = [
         Field::Length,
         Field::Kind,
         Field::Host,
@@ -25,6 +26,7 @@ impl Field {
         Field::Time,
         Field::State,
         Field::Rest,
+        Field::Crc,
     ];
 
     pub fn numbered(number: u8) -> Option<Field> {
@@ -43,6 +45,7 @@ impl fmt::Display for Field {
             Field::Time => "time",
             Field::State => "state",
             Field::Rest => "rest",
+            Field::Crc => "crc",
         })
     }
 }

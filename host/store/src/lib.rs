@@ -1,9 +1,11 @@
 //! What a settings store offers (document 01), whoever implements it.
 
+mod drive;
 mod fault;
 pub mod hex;
 pub mod message;
 
+pub use drive::{Drive, Told};
 pub use fault::{Fault, Field};
 use std::fmt;
 
@@ -25,6 +27,7 @@ impl Answer {
     pub const HOST_RANGE: Answer = Answer(10);
     pub const STALE: Answer = Answer(11);
     pub const HOST_FULL: Answer = Answer(12);
+    pub const PENDING: Answer = Answer(16);
     pub const PROGRAM: Answer = Answer(252);
     pub const ERASE: Answer = Answer(253);
     pub const WRONG_RECORD: Answer = Answer(254);
@@ -55,6 +58,8 @@ pub struct Idle {
     pub end: u16,
     /// How many blocks the image was said to be.
     pub blocks: u8,
+    /// The edition of the format by which the current block is read, 1 or 2.
+    pub edition: u8,
     /// By host, the bytes of its pending frames.
     pub pending: [u16; 4],
 }

@@ -6,6 +6,7 @@ pub const COMMIT: u16 = 0x0103;
 pub const ABORT: u16 = 0x0104;
 pub const READ: u16 = 0x0105;
 pub const LOG: u16 = 0x0106;
+pub const CONVERT: u16 = 0x0108;
 
 /// Bytes of log page 1.
 pub const PAGE: usize = 14;
@@ -34,6 +35,10 @@ pub fn log() -> Vec<u8> {
     message(LOG, &[1])
 }
 
+pub fn convert() -> Vec<u8> {
+    message(CONVERT, &[])
+}
+
 /// A message of any kind and body, with the length that its bytes have.
 pub fn message(kind: u16, body: &[u8]) -> Vec<u8> {
     let length = (4 + body.len()) as u16;
@@ -51,5 +56,6 @@ mod tests {
         assert_eq!(hex::show(&commit()), "04000301");
         assert_eq!(hex::show(&read(5)), "060005010500");
         assert_eq!(hex::show(&log()), "0500060101");
+        assert_eq!(hex::show(&convert()), "04000801");
     }
 }

@@ -13,7 +13,7 @@ use Rattle.fetch.proofs.next_load.Tie as tie
 returns : tie.Need-returns
 returns c =
     let args′ = c .before .before .before .before .before .args in
-    load-first (now (args′ .block)) (args′ .end) (now (args′ .places)) (args′ .since) (args′ .id) (args′ .source) _
+    load-first (args′ .edition) (now (args′ .block)) (args′ .end) (now (args′ .places)) (args′ .since) (args′ .id) (args′ .source) _
     (sym (c .before .fetch .given .1) ∙ c .before .before .before .next-settled .ensures)
 
 next-pending-requires : tie.Need-next-pending-requires
@@ -25,8 +25,8 @@ returns-2 c =
     let b = now (args′ .block) in
     let places = now (args′ .places) in
     c .next-pending .ensures b places
-    ∙ ap (fetchedOf b places)
-    (load-next b (args′ .end) places (args′ .since) (args′ .id) (args′ .source)
+    ∙ ap (fetchedOf (args′ .edition) b places)
+    (load-next (args′ .edition) b (args′ .end) places (args′ .since) (args′ .id) (args′ .source)
     (sym (c .before .before .enum-told .given .1) ∙ c .before .before .before .before .next-settled .ensures) (c .before .if1 .taken))
 
 slice-aggregate-next-pending : tie.Need-slice-aggregate-next-pending
@@ -46,8 +46,8 @@ returns-3 c =
     let b = now (args′ .block) in
     let places = now (args′ .places) in
     c .next-pending2 .ensures b places
-    ∙ ap (fetchedOf b places)
-    (load-part-next b (args′ .end) places (args′ .since) (args′ .id) (args′ .source)
+    ∙ ap (fetchedOf (args′ .edition) b places)
+    (load-part-next (args′ .edition) b (args′ .end) places (args′ .since) (args′ .id) (args′ .source)
     (sym (c .before .before .before .enum-told .given .1) ∙ c .before .before .before .before .before .next-settled .ensures))
 
 pub next-load-spec : {M : Type 1} → statement M

@@ -1,5 +1,5 @@
 -- The next pending frame: from where the loop stands it is the same as from the source on.
-use Rattle.frame.proofs.First.{value-end}
+use Rattle.frame.proofs.Heads.{value-end}
 use mathlib.Core.Path.{_≡_, refl, sym, ap, _∙_}
 use native.Mathlib.Omega.{arith}
 use Prim.Native.Nat.{_-_}
@@ -14,10 +14,10 @@ use Rattle.fetch.proofs.next_pending.Statement.{statement}
 use Rattle.fetch.proofs.next_pending.Tie as tie
 
 abbrev Inv-loop : tie.InvT-loop
-Inv-loop part since source at₀ at = nextPending since at 0 (drop at part) ≡ nextPending since source 0 (drop source part)
+Inv-loop part edition since source at₀ at = nextPending edition since at 0 (drop at part) ≡ nextPending edition since source 0 (drop source part)
 
 abbrev μ-loop : tie.MeasureT-loop
-μ-loop part since source at₀ at = length part - at
+μ-loop part edition since source at₀ at = length part - at
 
 loop-holds : tie.Need-loop-holds Inv-loop μ-loop
 unfolding fetchedOf
@@ -31,14 +31,14 @@ add-next c =
     let pre′ = c .before .before .before .before .before .before .before .pre in
     omega (
       arith,
-      read-inside 0 (loop′ .at) (now (args′ .part)) _
+      read-inside (args′ .edition) 0 (loop′ .at) (now (args′ .part)) _
           (sym (read-frame′ .ensures) ∙ c .before .before .head .given .1),
       c .frame-len .ensures,
       pre′,
     )
 
-add-t11 : tie.Need-add-t11 Inv-loop μ-loop
-add-t11 c =
+add-t12 : tie.Need-add-t12 Inv-loop μ-loop
+add-t12 c =
     let head′ = c .before .before .before .before .before .head in
     let read-frame′ = c .before .before .before .before .before .before .before .read-frame in
     let loop′ = c .before .before .before .before .before .before .before .before .loop in
@@ -46,15 +46,15 @@ add-t11 c =
     let pre′ = c .before .before .before .before .before .before .before .before .before .before .pre in
     omega (
       arith,
-      read-inside 0 (loop′ .at) (now (args′ .part)) _
+      read-inside (args′ .edition) 0 (loop′ .at) (now (args′ .part)) _
           (sym (read-frame′ .ensures) ∙ head′ .given .1),
       c .value-offset .ensures,
-      value-end (head′ .given .0 .0),
+      value-end (args′ .edition) (head′ .given .0 .0),
       pre′,
     )
 
-cast-t12 : tie.Need-cast-t12 Inv-loop μ-loop
-cast-t12 c =
+cast-t13 : tie.Need-cast-t13 Inv-loop μ-loop
+cast-t13 c =
     let head′ = c .before .before .before .before .before .head in
     let read-frame′ = c .before .before .before .before .before .before .before .read-frame in
     let loop′ = c .before .before .before .before .before .before .before .before .loop in
@@ -62,7 +62,7 @@ cast-t12 c =
     let pre′ = c .before .before .before .before .before .before .before .before .before .before .pre in
     omega (
       arith,
-      read-inside 0 (loop′ .at) (now (args′ .part)) _
+      read-inside (args′ .edition) 0 (loop′ .at) (now (args′ .part)) _
           (sym (read-frame′ .ensures) ∙ head′ .given .1),
       c .before .before .before .frame-len .ensures,
       pre′,
@@ -76,8 +76,8 @@ returns c =
     let loop′ = c .before .before .before .before .before .before .before .before .loop in
     let args′ = c .before .before .before .before .before .before .before .before .before .before .args in
     λ b places. rw (c .value-offset .ensures, c .before .before .before .frame-len .ensures)
-    (fetch-pending (args′ .since) (loop′ .at) (now (args′ .part)) _ (sym (read-frame′ .ensures) ∙ head′ .given .1)
-    (sym (c .before .before .is-pending .ensures) ∙ c .before .if1 .taken) b places ∙ ap (fetchedOf b places) (loop′ .inv))
+    (fetch-pending (args′ .edition) (args′ .since) (loop′ .at) (now (args′ .part)) _ (sym (read-frame′ .ensures) ∙ head′ .given .1)
+    (sym (c .before .before .is-pending .ensures) ∙ c .before .if1 .taken) b places ∙ ap (fetchedOf (args′ .edition) b places) (loop′ .inv))
 
 loop-less : tie.Need-loop-less Inv-loop μ-loop
 unfolding fetchedOf
@@ -86,7 +86,11 @@ loop-less c =
     let read-frame′ = c .before .before .before .before .before .before .read-frame in
     let loop′ = c .before .before .before .before .before .before .before .loop in
     let args′ = c .before .before .before .before .before .before .before .before .before .args in
-    omega (arith, read-inside 0 (loop′ .at) (now (args′ .part)) _ (sym (read-frame′ .ensures) ∙ head′ .given .1), c .before .before .frame-len .ensures)
+    omega (
+      arith,
+      read-inside (args′ .edition) 0 (loop′ .at) (now (args′ .part)) _ (sym (read-frame′ .ensures) ∙ head′ .given .1),
+      c .before .before .frame-len .ensures,
+    )
 
 loop-again : tie.Need-loop-again Inv-loop μ-loop
 unfolding fetchedOf
@@ -95,7 +99,7 @@ loop-again c =
     let read-frame′ = c .before .before .before .before .before .before .read-frame in
     let loop′ = c .before .before .before .before .before .before .before .loop in
     let args′ = c .before .before .before .before .before .before .before .before .before .args in
-    rw (c .before .before .frame-len .ensures) (sym (skip-pending (args′ .since) (loop′ .at) (now (args′ .part)) _
+    rw (c .before .before .frame-len .ensures) (sym (skip-pending (args′ .edition) (args′ .since) (loop′ .at) (now (args′ .part)) _
     (sym (read-frame′ .ensures) ∙ head′ .given .1) (sym (c .before .is-pending .ensures) ∙ c .if1 .left)) ∙ loop′ .inv)
 
 returns-2 : tie.Need-returns-2 Inv-loop μ-loop
@@ -103,7 +107,7 @@ unfolding fetchedOf
 returns-2 c =
     let loop′ = c .before .before .before .loop in
     let args′ = c .before .before .before .before .before .args in
-    λ b places. ap (fetchedOf b places) (sym (no-blank (args′ .since) (loop′ .at) (now (args′ .part))
+    λ b places. ap (fetchedOf (args′ .edition) b places) (sym (no-blank (args′ .edition) (args′ .since) (loop′ .at) (now (args′ .part))
     (sym (c .before .before .read-frame .ensures) ∙ c .enum-told .given .1)) ∙ loop′ .inv)
 
 returns-3 : tie.Need-returns-3 Inv-loop μ-loop
@@ -111,7 +115,7 @@ unfolding fetchedOf
 returns-3 c =
     let loop′ = c .before .before .before .loop in
     let args′ = c .before .before .before .before .before .args in
-    λ b places. ap (fetchedOf b places) (sym (no-torn (args′ .since) (loop′ .at) (now (args′ .part)) _
+    λ b places. ap (fetchedOf (args′ .edition) b places) (sym (no-torn (args′ .edition) (args′ .since) (loop′ .at) (now (args′ .part)) _
     (sym (c .before .before .read-frame .ensures) ∙ c .enum-told2 .given .1)) ∙ loop′ .inv)
 
 returns-4 : tie.Need-returns-4 Inv-loop μ-loop
@@ -119,10 +123,10 @@ unfolding fetchedOf
 returns-4 c =
     let loop′ = c .before .before .before .loop in
     let args′ = c .before .before .before .before .before .args in
-    λ b places. ap (fetchedOf b places) (sym (no-wrong (args′ .since) (loop′ .at) (now (args′ .part)) _
+    λ b places. ap (fetchedOf (args′ .edition) b places) (sym (no-wrong (args′ .edition) (args′ .since) (loop′ .at) (now (args′ .part)) _
     (sym (c .before .before .read-frame .ensures) ∙ c .enum-told3 .given .1)) ∙ loop′ .inv)
 
 pub next-pending-spec : {M : Type 1} → statement M
 next-pending-spec = tie.close (tie.spec
-    Inv-loop μ-loop loop-holds (λ c κs. search needs) (λ c. search needs) (λ c κs. search needs) add-next (λ c κs. search needs) (λ c κs. search needs) add-t11
-    cast-t12 returns loop-less loop-again (λ c. search needs) returns-2 (λ c. search needs) returns-3 (λ c. search needs) returns-4)
+    Inv-loop μ-loop loop-holds (λ c κs. search needs) (λ c. search needs) (λ c κs. search needs) add-next (λ c κs. search needs) (λ c κs. search needs) add-t12
+    cast-t13 returns loop-less loop-again (λ c. search needs) returns-2 (λ c. search needs) returns-3 (λ c. search needs) returns-4)

@@ -11,10 +11,10 @@ use Rattle.fetch.proofs.next_settled.Statement.{statement}
 use Rattle.fetch.proofs.next_settled.Tie as tie
 
 abbrev Inv-loop : tie.InvT-loop
-Inv-loop block places id source i₀ i = nextSettled block places source (256 - i) i ≡ nextSettled block places source (256 - id) id
+Inv-loop block edition places id source i₀ i = nextSettled edition block places source (256 - i) i ≡ nextSettled edition block places source (256 - id) id
 
 abbrev μ-loop : tie.MeasureT-loop
-μ-loop block places id source i₀ i = 256 - i
+μ-loop block edition places id source i₀ i = 256 - i
 
 loop-holds : tie.Need-loop-holds Inv-loop μ-loop
 unfolding fetchedOf
@@ -26,10 +26,10 @@ returns c =
     let loop-test′ = c .before .before .before .before .before .loop-test in
     let loop′ = c .before .before .before .before .before .before .loop in
     let args′ = c .before .before .before .before .before .before .before .before .args in
-    let args′ = args′ in let b = now (args′ .block) in let places = now (args′ .places) in let i = loop′ .i in let w = found-at _ _ _
-    (sym (c .before .before .before .value-at .ensures) ∙ c .before .value .given .1) in fetch-settled b places i _ _ (args′ .source)
+    let b = now (args′ .block) in let places = now (args′ .places) in let i = loop′ .i in let w = found-at _ _ _
+    (sym (c .before .before .before .value-at .ensures) ∙ c .before .value .given .1) in fetch-settled (args′ .edition) b places i _ _ (args′ .source)
     (w .0) (w .1) (w .2) (w .3)
-    ∙ ap (fetchedOf b places) (sym (settled-yes b places (args′ .source) i (loop-test′ .taken) (w .0) (w .1)) ∙ loop′ .inv)
+    ∙ ap (fetchedOf (args′ .edition) b places) (sym (settled-yes (args′ .edition) b places (args′ .source) i (loop-test′ .taken) (w .0) (w .1)) ∙ loop′ .inv)
 
 loop-again : tie.Need-loop-again Inv-loop μ-loop
 unfolding fetchedOf
@@ -37,7 +37,7 @@ loop-again c =
     let loop-test′ = c .before .before .before .before .loop-test in
     let loop′ = c .before .before .before .before .before .loop in
     let args′ = c .before .before .before .before .before .before .before .args in
-    sym (settled-no (now (args′ .block)) (now (args′ .places)) (args′ .source) (loop′ .i) (loop-test′ .taken)
+    sym (settled-no (args′ .edition) (now (args′ .block)) (now (args′ .places)) (args′ .source) (loop′ .i) (loop-test′ .taken)
     (found-none _ (sym (c .before .before .value-at .ensures) ∙ c .enum-told .given .1)))
     ∙ loop′ .inv
 
@@ -47,7 +47,8 @@ returns-2 c =
     let args′ = c .before .before .before .args in
     let b = now (args′ .block) in
     let places = now (args′ .places) in
-    ap (fetchedOf b places) (sym (settled-end b places (args′ .source) (c .before .loop .i) (c .loop-test .left)) ∙ c .before .loop .inv)
+    ap (fetchedOf (args′ .edition) b places)
+    (sym (settled-end (args′ .edition) b places (args′ .source) (c .before .loop .i) (c .loop-test .left)) ∙ c .before .loop .inv)
 
 pub next-settled-spec : {M : Type 1} → statement M
 next-settled-spec = tie.close (tie.spec

@@ -13,7 +13,8 @@ use Rattle.fetch.proofs.value_at.Tie as tie
 returns : tie.Need-returns
 returns c =
     let args′ = c .before .before .args in
-    sym (ap (λ (p : ℕ). foundOf (valueAt (now (args′ .block)) (args′ .id) p)) (c .if1 .taken) ∙ ap foundOf (value-zero (now (args′ .block)) (args′ .id)))
+    sym (ap (λ (p : ℕ). foundOf (valueAt (args′ .edition) (now (args′ .block)) (args′ .id) p)) (c .if1 .taken)
+    ∙ ap foundOf (value-zero (args′ .edition) (now (args′ .block)) (args′ .id)))
 
 returns-2 : tie.Need-returns-2
 returns-2 c =
@@ -21,25 +22,25 @@ returns-2 c =
     let if1′ = c .before .before .before .before .before .if1 in
     let args′ = c .before .before .before .before .before .before .before .args in
     c .value-in .ensures
-    ∙ value-whole (now (args′ .block)) (args′ .id) (args′ .place) (if1′ .left) _
+    ∙ value-whole (args′ .edition) (now (args′ .block)) (args′ .id) (args′ .place) (if1′ .left) _
     (sym (read-frame′ .ensures) ∙ c .before .before .head .given .1)
 
 returns-3 : tie.Need-returns-3
 returns-3 c =
     let args′ = c .before .before .before .before .before .args in
-    value-blank (now (args′ .block)) (args′ .id) (args′ .place) (c .before .before .before .if1 .left)
+    value-blank (args′ .edition) (now (args′ .block)) (args′ .id) (args′ .place) (c .before .before .before .if1 .left)
     (sym (c .before .before .read-frame .ensures) ∙ c .enum-told .given .1)
 
 returns-4 : tie.Need-returns-4
 returns-4 c =
     let args′ = c .before .before .before .before .before .args in
-    value-torn (now (args′ .block)) (args′ .id) (args′ .place) (c .before .before .before .if1 .left) _
+    value-torn (args′ .edition) (now (args′ .block)) (args′ .id) (args′ .place) (c .before .before .before .if1 .left) _
     (sym (c .before .before .read-frame .ensures) ∙ c .enum-told2 .given .1)
 
 returns-5 : tie.Need-returns-5
 returns-5 c =
     let args′ = c .before .before .before .before .before .args in
-    value-wrong (now (args′ .block)) (args′ .id) (args′ .place) (c .before .before .before .if1 .left) _
+    value-wrong (args′ .edition) (now (args′ .block)) (args′ .id) (args′ .place) (c .before .before .before .if1 .left) _
     (sym (c .before .before .read-frame .ensures) ∙ c .enum-told3 .given .1)
 
 pub value-at-spec : {M : Type 1} → statement M

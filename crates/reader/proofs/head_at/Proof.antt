@@ -1,21 +1,23 @@
 -- The frame of each kind.
-use Prim.Native.Nat.{_≤_}
+use mathlib.Core.Path.{_≡_}
+use Prim.Native.Nat.{_+_, _≤_}
 use native.Mathlib.Omega.{arith}
 use denote.Ref.{now}
+use Rattle.frame.specs.Frame.{checkLen, putLen, settledLen}
 use Rattle.frame.proofs.Encode.{check-short}
-use Rattle.reader.proofs.Answers.{put-length, settled-length, decode-high}
+use Rattle.reader.proofs.Answers.{decode-high}
 use borrow.Author.Needs.{needs}
 use Rattle.reader.proofs.head_at.Statement.{statement}
 use Rattle.reader.proofs.head_at.Tie as tie
 
-add-less : tie.Need-add-less
-add-less c =
+add-value-count : tie.Need-add-value-count
+add-value-count c =
     let check-len′ = c .before .before .before .before .before .check-len in
     let args′ = c .before .before .before .before .before .before .before .args in
     omega (arith, check-len′ .ensures, check-short (args′ .edition))
 
-add-less-2 : tie.Need-add-less-2
-add-less-2 c =
+add-value-count-2 : tie.Need-add-value-count-2
+add-value-count-2 c =
     let check-len′ = c .before .before .before .before .before .check-len in
     let args′ = c .before .before .before .before .before .before .before .args in
     omega (arith, check-len′ .ensures, check-short (args′ .edition))
@@ -29,16 +31,16 @@ returns-2 c =
     let byte-at′ = c .before .before .before .before .before .byte-at in
     let check-len′ = c .before .before .before .before .before .before .check-len in
     let args′ = c .before .before .before .before .before .before .before .before .args in
-    let pre′ = c .before .before .before .before .before .before .before .before .pre in
+    let n : putLen (args′ .edition) 0 ≡ 8 + checkLen (args′ .edition) = omega arith in
     rw (
       match′ .keys2,
-      c .less .ensures,
+      c .value-count .ensures,
       c .before .id-of .ensures,
       (byte-at′ .ensures),
       (c .before .before .before .byte-at2 .ensures),
       (c .before .before .byte-at3 .ensures),
       (check-len′ .ensures),
-      put-length (args′ .edition) (args′ .n) (now (args′ .t)) (pre′),
+      n,
     )
 
 returns-3 : tie.Need-returns-3
@@ -62,20 +64,19 @@ returns-6 : tie.Need-returns-6
 returns-6 c =
     let check-len′ = c .before .before .before .before .before .before .check-len in
     let args′ = c .before .before .before .before .before .before .before .before .args in
-    let pre′ = c .before .before .before .before .before .before .before .before .pre in
+    let n : settledLen (args′ .edition) 0 ≡ 7 + checkLen (args′ .edition) = omega arith in
     let h : 5 ≤ (args′ .k) = omega arith in rw (
       decode-high (args′ .edition) (args′ .k) (args′ .n) (now (args′ .t)) h,
-      c .less2 .ensures,
+      c .value-count2 .ensures,
       c .before .id-of3 .ensures,
       (c .before .before .before .byte-at6 .ensures),
       (c .before .before .byte-at7 .ensures),
       (check-len′ .ensures),
-      settled-length (args′ .edition)
-          (args′ .n) (now (args′ .t)) (pre′),
+      n,
     )
 
 pub head-at-spec : {M : Type 1} → statement M
 head-at-spec = tie.close (tie.spec
-    (λ c κs. search needs) (λ c κs. search needs) (λ c κs. search needs) (λ c κs. search needs) (λ c κs. search needs) add-less (λ c κs. search needs)
-    (λ c κs. search needs) (λ c κs. search needs) (λ c κs. search needs) (λ c κs. search needs) (λ c κs. search needs) (λ c κs. search needs) add-less-2
+    (λ c κs. search needs) (λ c κs. search needs) (λ c κs. search needs) (λ c κs. search needs) (λ c κs. search needs) add-value-count (λ c κs. search needs)
+    (λ c κs. search needs) (λ c κs. search needs) (λ c κs. search needs) (λ c κs. search needs) (λ c κs. search needs) (λ c κs. search needs) add-value-count-2
     (λ c κs. search needs) returns returns-2 returns-3 returns-4 returns-5 returns-6)

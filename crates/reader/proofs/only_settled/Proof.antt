@@ -4,7 +4,7 @@ use Prim.Native.Nat.{_+_}
 use native.Mathlib.Omega.{arith}
 use lib.Dec.{eqb}
 use borrow.Author.Tests.{eq-eqb, ne-eqb, le-leb, lt-leb}
-use Rattle.frame.specs.Frame.{settledLenIn}
+use Rattle.frame.specs.Frame.{settledLen}
 use Rattle.frame.proofs.Encode.{check-short}
 use Rattle.frame.specs.Frame.{idMax, valueMax}
 use borrow.Author.Needs.{needs}
@@ -22,7 +22,7 @@ returns-2 c =
     let args′ = c .before .before .before .args in
     rw (
       le-leb (args′ .next) idMax (c .before .if1 .left),
-      lt-leb (settledLenIn (args′ .edition) 0) (args′ .n)
+      lt-leb (settledLen (args′ .edition) 0) (args′ .n)
           (omega (arith, c .if2 .taken, (c .before .before .check-len .ensures))),
     )
 
@@ -32,9 +32,9 @@ returns-3 c =
     let args′ = c .before .before .before .before .args in
     rw (
       le-leb (args′ .next) idMax (c .before .before .if1 .left),
-      le-leb (settledLenIn (args′ .edition) 0) (args′ .n)
+      le-leb (settledLen (args′ .edition) 0) (args′ .n)
           (omega (arith, c .before .if2 .left, (check-len′ .ensures))),
-      lt-leb (args′ .n) (settledLenIn (args′ .edition) valueMax)
+      lt-leb (args′ .n) (settledLen (args′ .edition) valueMax)
           (omega (arith, c .if3 .taken, (check-len′ .ensures))),
     )
 
@@ -44,9 +44,9 @@ returns-4 c =
     let args′ = c .before .before .before .before .before .args in
     rw (
       le-leb (args′ .next) idMax (c .before .before .before .if1 .left),
-      le-leb (settledLenIn (args′ .edition) 0) (args′ .n)
+      le-leb (settledLen (args′ .edition) 0) (args′ .n)
           (omega (arith, c .before .before .if2 .left, (check-len′ .ensures))),
-      le-leb (args′ .n) (settledLenIn (args′ .edition) valueMax)
+      le-leb (args′ .n) (settledLen (args′ .edition) valueMax)
           (omega (arith, c .before .if3 .left, (check-len′ .ensures))),
       eq-eqb (args′ .k) 5 (c .if4 .taken),
     )
@@ -55,11 +55,11 @@ returns-5 : tie.Need-returns-5
 returns-5 c =
     let check-len′ = c .before .before .before .before .check-len in
     let args′ = c .before .before .before .before .before .args in
-    let q : 7 + (check-len′ .result) ≡ (settledLenIn (args′ .edition) 0) = omega (arith, (check-len′ .ensures)) in rw (
+    let q : 7 + (check-len′ .result) ≡ (settledLen (args′ .edition) 0) = omega (arith, (check-len′ .ensures)) in rw (
       le-leb (args′ .next) idMax (c .before .before .before .if1 .left),
-      le-leb (settledLenIn (args′ .edition) 0) (args′ .n)
+      le-leb (settledLen (args′ .edition) 0) (args′ .n)
           (omega (arith, c .before .before .if2 .left, (check-len′ .ensures))),
-      le-leb (args′ .n) (settledLenIn (args′ .edition) valueMax)
+      le-leb (args′ .n) (settledLen (args′ .edition) valueMax)
           (omega (arith, c .before .if3 .left, (check-len′ .ensures))),
       ne-eqb (args′ .k) 5 (c .if4 .left),
     ) (ap (eqb (args′ .n)) q)

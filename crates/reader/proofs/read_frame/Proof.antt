@@ -6,11 +6,10 @@ use Prim.Native.Nat.{ℕ}
 use native.Mathlib.Omega.{arith}
 use lib.ListN.{length, drop, length-drop}
 use denote.Ref.{now}
-use Rattle.frame.specs.declared.Edition.the-variants as edition
-use Rattle.frame.specs.Reader.{readFrameIn}
+use Rattle.frame.specs.Reader.{readFrame}
 use Rattle.frame.specs.Code.{readOf}
 use Rattle.frame.proofs.Faults.{PlacedIn, fault-placed}
-use Rattle.reader.proofs.Answers.{shiftRead, shift-first, wrong-read}
+use Rattle.reader.proofs.Answers.{shiftRead, shift-read, wrong-read}
 use Rattle.reader.proofs.read_frame.Statement.{statement}
 use Rattle.reader.proofs.read_frame.Tie as tie
 
@@ -21,33 +20,33 @@ add-t12 c =
     let rest′ = c .before .before .before .before .before .rest in
     let args′ = c .before .before .before .before .before .before .before .args in
     let good′ = c .before .before .before .before .before .before .before .good in
-    let q : PlacedIn 0 (length (drop (args′ .at) (now (args′ .block)))) (e′ .given .0 .0) = fault-placed edition.First (args′ .next) 0
+    let q : PlacedIn 0 (length (drop (args′ .at) (now (args′ .block)))) (e′ .given .0 .0) = fault-placed (args′ .edition) (args′ .next) 0
     (drop (args′ .at) (now (args′ .block))) (e′ .given .0 .0)
-    (wrong-read (readFrameIn edition.First (args′ .next) 0 (drop (args′ .at) (now (args′ .block)))) (e′ .given .0 .0)
-    (ap (λ (x : List ℕ). readOf (readFrameIn edition.First (args′ .next) 0 x)) (sym (rest′ .ensures)) ∙ sym (read-front′ .ensures) ∙ e′ .given .1)) in omega
+    (wrong-read (readFrame (args′ .edition) (args′ .next) 0 (drop (args′ .at) (now (args′ .block)))) (e′ .given .0 .0)
+    (ap (λ (x : List ℕ). readOf (readFrame (args′ .edition) (args′ .next) 0 x)) (sym (rest′ .ensures)) ∙ sym (read-front′ .ensures) ∙ e′ .given .1)) in omega
     (arith, q .1, length-drop (args′ .at) (now (args′ .block)), good′)
 
 returns : tie.Need-returns
 returns c =
     let args′ = c .before .before .before .before .before .args in
-    sym (shift-first (args′ .next) (args′ .at) (drop (args′ .at) (now (args′ .block)))
-    ∙ ap (shiftRead (args′ .at)) (ap (λ (x : List ℕ). readOf (readFrameIn edition.First (args′ .next) 0 x)) (sym (c .before .before .before .rest .ensures))
+    sym (shift-read (args′ .edition) (args′ .next) (args′ .at) (drop (args′ .at) (now (args′ .block)))
+    ∙ ap (shiftRead (args′ .at)) (ap (λ (x : List ℕ). readOf (readFrame (args′ .edition) (args′ .next) 0 x)) (sym (c .before .before .before .rest .ensures))
     ∙ sym (c .before .before .read-front .ensures) ∙ c .enum-told .given .1))
 
 returns-2 : tie.Need-returns-2
 returns-2 c =
     let rest′ = c .before .before .before .before .rest in
     let args′ = c .before .before .before .before .before .before .args in
-    sym (shift-first (args′ .next) (args′ .at) (drop (args′ .at) (now (args′ .block)))
-    ∙ ap (shiftRead (args′ .at)) (ap (λ (x : List ℕ). readOf (readFrameIn edition.First (args′ .next) 0 x)) (sym (rest′ .ensures))
+    sym (shift-read (args′ .edition) (args′ .next) (args′ .at) (drop (args′ .at) (now (args′ .block)))
+    ∙ ap (shiftRead (args′ .at)) (ap (λ (x : List ℕ). readOf (readFrame (args′ .edition) (args′ .next) 0 x)) (sym (rest′ .ensures))
     ∙ sym (c .before .before .before .read-front .ensures) ∙ c .before .h .given .1))
 
 returns-3 : tie.Need-returns-3
 returns-3 c =
     let rest′ = c .before .before .before .before .rest in
     let args′ = c .before .before .before .before .before .before .args in
-    sym (shift-first (args′ .next) (args′ .at) (drop (args′ .at) (now (args′ .block)))
-    ∙ ap (shiftRead (args′ .at)) (ap (λ (x : List ℕ). readOf (readFrameIn edition.First (args′ .next) 0 x)) (sym (rest′ .ensures))
+    sym (shift-read (args′ .edition) (args′ .next) (args′ .at) (drop (args′ .at) (now (args′ .block)))
+    ∙ ap (shiftRead (args′ .at)) (ap (λ (x : List ℕ). readOf (readFrame (args′ .edition) (args′ .next) 0 x)) (sym (rest′ .ensures))
     ∙ sym (c .before .before .before .read-front .ensures) ∙ c .before .n .given .1))
 
 returns-4 : tie.Need-returns-4
@@ -55,8 +54,8 @@ returns-4 c =
     let read-front′ = c .before .before .before .before .read-front in
     let rest′ = c .before .before .before .before .before .rest in
     let args′ = c .before .before .before .before .before .before .before .args in
-    sym (shift-first (args′ .next) (args′ .at) (drop (args′ .at) (now (args′ .block)))
-    ∙ ap (shiftRead (args′ .at)) (ap (λ (x : List ℕ). readOf (readFrameIn edition.First (args′ .next) 0 x)) (sym (rest′ .ensures))
+    sym (shift-read (args′ .edition) (args′ .next) (args′ .at) (drop (args′ .at) (now (args′ .block)))
+    ∙ ap (shiftRead (args′ .at)) (ap (λ (x : List ℕ). readOf (readFrame (args′ .edition) (args′ .next) 0 x)) (sym (rest′ .ensures))
     ∙ sym (read-front′ .ensures) ∙ c .before .before .e .given .1))
 
 pub read-frame-spec : {M : Type 1} → statement M

@@ -16,7 +16,7 @@ returns-3 c =
     let value′ = c .before .before .before .before .value in
     let args′ = c6 .args in
     rw (ask′ .given .1) (c .encode-frame .ensures ∙ ap
-    (λ (v : List ℕ). bytesOf (change (args′ .host) (put (ask′ .given .0 .0) (take valueMax v)))) (value′ .ensures .0))
+    (λ (v : List ℕ). bytesOf (args′ .edition) (change (args′ .host) (put (ask′ .given .0 .0) (take valueMax v)))) (value′ .ensures .0))
 
 returns-4 : tie.Need-returns-4
 returns-4 c = rw (c .before .before .ask2 .given .1) (c .encode-frame2 .ensures)
@@ -27,8 +27,11 @@ returns-5 c = rw (c .before .enum-told .given .1) (c .encode-frame3 .ensures)
 returns-6 : tie.Need-returns-6
 returns-6 c = rw (c .before .enum-told2 .given .1) (c .encode-frame4 .ensures)
 
+returns-7 : tie.Need-returns-7
+returns-7 c = rw (c .before .enum-told5 .given .1) (c .no-frame .ensures)
+
 pub lay-frame-spec : {M : Type 1} → statement M
 lay-frame-spec = tie.close (tie.spec
     (λ c κs. search needs) (λ c. search needs) (λ c κs. search needs) (λ c. search needs) (λ c κs. search needs) (λ c. search needs) (λ c κs. search needs)
-    (λ c. search needs) (λ c κs. search needs) (λ c. search needs) (λ c. search needs) (λ c. search needs) (λ c. search needs) returns-3 returns-4 returns-5
-    returns-6)
+    (λ c. search needs) (λ c κs. search needs) (λ c. search needs) (λ c. search needs) (λ c. search needs) (λ c. search needs) (λ c. search needs)
+    (λ c κs. search needs) returns-3 returns-4 returns-5 returns-6 returns-7)

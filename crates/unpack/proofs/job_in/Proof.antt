@@ -15,24 +15,26 @@ returns c =
     let c10 = c9 .before in
     let c11 = c10 .before in
     let c12 = c11 .before in
+    let c13 = c12 .before in
     rw (
-      c12 .wipe-in .ensures,
-      c8 .byte-at .ensures,
-      c6 .flag-in .ensures,
-      c7 .byte-at2 .ensures,
-      c4 .flag-in2 .ensures,
-      c5 .byte-at3 .ensures,
-      c3 .byte-at4 .ensures,
-      c .before .number-in .ensures,
-      c .before .before .tail3 .ensures,
-      c9 .hosts-in .ensures,
-      c10 .tail2 .ensures,
-      c .byte-at5 .ensures,
-      c11 .tail .ensures,
+      c13 .wipe-in .ensures,
+      c9 .byte-at .ensures,
+      c7 .flag-in .ensures,
+      c8 .byte-at2 .ensures,
+      c5 .flag-in2 .ensures,
+      c6 .byte-at3 .ensures,
+      c4 .byte-at4 .ensures,
+      c .before .before .number-in .ensures,
+      c3 .tail3 .ensures,
+      c10 .hosts-in .ensures,
+      c11 .tail2 .ensures,
+      c .before .byte-at5 .ensures,
+      c .byte-at6 .ensures,
+      c12 .tail .ensures,
     )
 
 pub job-in-spec : {M : Type 1} → statement M
 job-in-spec = tie.close (tie.spec
     (λ c κs. search needs) (λ c κs. search needs) (λ c κs. search needs) (λ c κs. search needs) (λ c κs. search needs) (λ c κs. search needs)
     (λ c κs. search needs) (λ c κs. search needs) (λ c κs. search needs) (λ c κs. search needs) (λ c κs. search needs) (λ c κs. search needs)
-    (λ c κs. search needs) returns)
+    (λ c κs. search needs) (λ c κs. search needs) returns)

@@ -27,16 +27,19 @@ returns-6 : tie.Need-returns-6
 returns-6 c = simp (c .is-if6 .ensures, c .before .summary-page .ensures, c .before .before .match .keys6)
 
 returns-7 : tie.Need-returns-7
-returns-7 c =
+returns-7 c = simp (c .is-if7 .ensures, c .before .no-body3 .ensures, c .before .before .match .keys7)
+
+returns-8 : tie.Need-returns-8
+returns-8 c =
     let n =
     c .match .rest in rw (
-      ne-eqb _ 257 (n .0 .0 .0 .0 .0 .1),
-      ne-eqb _ 258 (n .0 .0 .0 .0 .1),
-      ne-eqb _ 259 (n .0 .0 .0 .1),
-      ne-eqb _ 260
-          (n .0 .0 .1),
-      ne-eqb _ 261 (n .0 .1),
-      ne-eqb _ 262 (n .1),
+      ne-eqb _ _ (n .0 .0 .0 .0 .0 .0 .1),
+      ne-eqb _ _ (n .0 .0 .0 .0 .0 .1),
+      ne-eqb _ _ (n .0 .0 .0 .0 .1),
+      ne-eqb _ _ (n .0 .0 .0 .1),
+      ne-eqb _ _ (n .0 .0 .1),
+      ne-eqb _ _ (n .0 .1),
+      ne-eqb _ _ (n .1),
       ofKind,
     )
 
@@ -44,4 +47,5 @@ pub of-kind-spec : {M : Type 1} → statement M
 of-kind-spec = tie.close (tie.spec
     (λ c κs. search needs) (λ c κs. search needs) (λ c κs. search needs) (λ c κs. search needs) (λ c κs. search needs) (λ c κs. search needs)
     (λ c κs. search needs) (λ c κs. search needs) (λ c κs. search needs) (λ c κs. search needs) (λ c κs. search needs) (λ c κs. search needs)
-    (λ c κs. search needs) (λ c κs. search needs) (λ c κs. search needs) returns returns-2 returns-3 returns-4 returns-5 returns-6 returns-7)
+    (λ c κs. search needs) (λ c κs. search needs) (λ c κs. search needs) (λ c κs. search needs) (λ c κs. search needs)
+    returns returns-2 returns-3 returns-4 returns-5 returns-6 returns-7 returns-8)

@@ -74,7 +74,7 @@ fn the_store_at_another_place() {
 /// A firmware that answers a commit before its flash steps are made: a cut right behind the answer loses it.
 #[test]
 fn an_early_answer_is_noticed() {
-    let right = "    if (kind == COMMIT || kind == ABORT || !store_is_worn())\n";
+    let right = "    if ((kind != PUT && kind != DELETE) || !store_is_worn())\n";
     let early = r#"    if (kind == COMMIT) {
         say_line("0 done");
         store_request((uint8_t)host, message, len);

@@ -42,6 +42,15 @@ fn damaged() {
     refused("damaged", &[(16, &frame), (0, &HEADER)], "mount: 3 foreign: block 0 broke at its host, byte 20");
 }
 
+/// Object 5 = "AB" in edition 2, and its value has lost a bit.
+#[test]
+fn of_another_checksum() {
+    let frame = [0x0D, 0x00, 0x05, 0x00, 0x05, 0x00, b'A', b'@', 0xC1, 0xF5, 0x84, 0xE8, 0xFE];
+    let mut header = HEADER;
+    header[2] = 0x02;
+    refused("checksum", &[(16, &frame), (0, &header)], "mount: 3 foreign: block 0 broke at its crc, byte 24");
+}
+
 #[test]
 fn of_another_kind() {
     let mut header = HEADER;

@@ -1,6 +1,7 @@
 //! What a person types. Numbers of steps and bytes are STORE.md's, for four blocks of 4,096 bytes.
 
 use crate::*;
+use board::chip::BLOCK;
 
 /// A put takes 8 steps and one for each byte of its value, a delete 8, a commit or abort 6; reads and logs none.
 #[test]
@@ -49,6 +50,32 @@ fn a_restart_drops_what_is_pending() {
     machine.cut();
     let objects = chip.objects().expect("a store");
     assert_eq!(objects.into_iter().collect::<Vec<_>>(), [(5, b"on".to_vec())]);
+}
+
+/// Object 5 needs 16 + 11 + 2 bytes in edition 2: 24 steps. There a put takes 12 steps and one for each byte of its value, a
+/// commit 10. A restart finds edition 2.
+#[test]
+fn a_convert() {
+    let chip = chip("convert", &[]);
+    let mut machine = start(&chip, &[BLANK, FORMATTED]);
+    check(
+        &mut machine,
+        &[
+            ("put 2 5 \"on\"", "0 done, 10 steps"),
+            ("convert 0", "16 pending: a host has changes pending: commit or abort them first"),
+            ("commit 2", "0 done, 6 steps"),
+            ("convert 0", "0 done, 24 steps"),
+            ("log", "0 done: time 2, 1 object, 29 of 4096 bytes used"),
+            ("convert 3", "0 done"),
+            ("put 1 6 \"x\"", "0 done, 13 steps"),
+            ("commit 1", "0 done, 10 steps"),
+        ],
+    );
+    machine.cut();
+    assert_eq!(chip.bytes()[BLOCK..BLOCK + 4], [0x10, 0x00, 0x02, 0x4A]);
+    let mut machine = start(&chip, &[MOUNTED]);
+    assert_eq!(machine.answer("list"), ["5 = \"on\"", "6 = \"x\"", "0 done"]);
+    machine.cut();
 }
 
 #[test]
@@ -121,9 +148,8 @@ fn typing() {
     assert_eq!(typed(&format!("{}\r", "x".repeat(600))), format!("{}\r\n? the line is too long", "x".repeat(575)));
     assert_eq!(typed("\r"), "");
     let help = typed("help\r");
-    for word in
-        ["put", "delete", "commit", "abort", "get", "list", "log", "state", "dump", "mount", "format", "stack"]
-    {
+    let more = ["get", "list", "log", "state", "dump", "mount", "format", "stack"];
+    for word in ["put", "delete", "commit", "abort", "convert"].into_iter().chain(more) {
         assert!(help.contains(&format!("\r\n{word}")), "{word} is not in {help}");
     }
     machine.cut();

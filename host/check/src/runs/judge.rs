@@ -1,15 +1,14 @@
 //! What a run is held to: the book, and what the book and document 01 tell beforehand.
 
 use super::Run;
-use crate::book::{Lists, found};
+use crate::book::{FIRST, Lengths, Lists, SECOND, found};
 use crate::cuts::stuck;
 use crate::damage;
 use crate::generate::Wish;
 use crate::side::Modelled;
 use crate::twin::{Call, Outcome, UNWRITTEN};
-use library::Drive;
 use model::frame::VALUE_LIMIT;
-use store::{Answer, Head, Idle, Store, message};
+use store::{Answer, Drive, Head, Idle, Store, message};
 
 impl<M: Modelled, L: Drive, P: Store> Run<M, L, P> {
     pub fn expected(&self, host: u8, wish: &Wish, reply: usize) -> (Answer, usize) {
@@ -22,20 +21,26 @@ impl<M: Modelled, L: Drive, P: Store> Run<M, L, P> {
     }
 
     fn expected_of_idle(&self, idle: Idle, host: usize, wish: &Wish, reply: usize) -> (Answer, usize) {
-        let taken = self.book.claimed() + 6 * self.book.open(host);
+        let lengths = self.lengths();
+        let (mark, change) = (lengths.mark, lengths.change);
+        let taken = self.book.claimed(lengths) + mark * self.book.open(host);
         let (frame, room) = match wish {
             Wish::Read(id) if self.book.objects.contains_key(id) => return (Answer::DONE, 0),
             Wish::Read(_) => return (Answer::NO_OBJECT, 0),
             Wish::Log if reply < message::PAGE => return (Answer::SHORT_REPLY, 0),
             Wish::Log => return (Answer::DONE, 0),
             Wish::Commit | Wish::Abort if self.book.lists[host].is_empty() => return (Answer::DONE, 0),
-            Wish::Commit | Wish::Abort => (6, true),
+            Wish::Commit | Wish::Abort => (mark, true),
+            Wish::Convert => return self.expected_of_convert(),
             Wish::Put(_, value) if value.len() > VALUE_LIMIT => return (Answer::MALFORMED, 0),
-            Wish::Put(_, value) => (8 + value.len(), taken + 8 + value.len() + 14 <= self.twin.size()),
-            Wish::Delete(_) => (8, taken + 8 <= self.twin.size()),
+            Wish::Put(_, value) => {
+                let frame = change + value.len();
+                (frame, taken + frame + lengths.reserve <= self.twin.size())
+            }
+            Wish::Delete(_) => (change, taken + change <= self.twin.size()),
         };
         if matches!(wish, Wish::Put(..) | Wish::Delete(_))
-            && self.book.pending(host) + frame > self.twin.size() / 2
+            && self.book.pending(host, lengths) + frame > self.twin.size() / 2
         {
             return (Answer::HOST_FULL, 0);
         }
@@ -45,7 +50,23 @@ impl<M: Modelled, L: Drive, P: Store> Run<M, L, P> {
         } else if transfer && self.newest() == Some(u32::MAX) {
             (Answer::WORN, 0)
         } else {
-            (Answer::MORE, frame + if transfer { self.book.claimed() - 5 } else { 0 })
+            (Answer::MORE, frame + if transfer { self.book.claimed(lengths) - 5 } else { 0 })
+        }
+    }
+
+    /// K9: the settled objects go over to edition 2, unless they are there.
+    fn expected_of_convert(&self) -> (Answer, usize) {
+        let used = self.book.used(SECOND);
+        if !self.book.settled() {
+            (Answer::PENDING, 0)
+        } else if used > self.twin.size() {
+            (Answer::NO_ROOM, 0)
+        } else if self.edition == 2 {
+            (Answer::DONE, 0)
+        } else if self.newest() == Some(u32::MAX) {
+            (Answer::WORN, 0)
+        } else {
+            (Answer::MORE, used - 5)
         }
     }
 
@@ -55,7 +76,8 @@ impl<M: Modelled, L: Drive, P: Store> Run<M, L, P> {
         if *wish == Wish::Log && outcome.answer == Answer::DONE {
             let time = self.newest().expect("a valid block");
             let short = |number: usize| (number as u16).to_le_bytes();
-            let numbers = [short(self.book.objects.len()), short(self.book.used()), short(self.twin.size())];
+            let numbers =
+                [short(self.book.objects.len()), short(self.book.used(self.lengths())), short(self.twin.size())];
             let page = [&[14, 0, 1, 2][..], &time.to_le_bytes(), &numbers.concat()].concat();
             expected[..message::PAGE].copy_from_slice(&page);
         }
@@ -107,15 +129,48 @@ impl<M: Modelled, L: Drive, P: Store> Run<M, L, P> {
         }
     }
 
+    pub fn lengths(&self) -> Lengths {
+        if self.edition == 1 { FIRST } else { SECOND }
+    }
+
+    /// A finished convert makes edition 2, a finished format edition 1. A convert that is cut has made edition 2 exactly if the
+    /// time has risen. Nothing else changes the edition.
+    pub fn follow_edition(&mut self, call: &Call, answer: Answer, busy: bool) {
+        let (converts, ended) = (busy && self.job.0 == "convert", call.goes_on() && answer == Answer::DONE);
+        self.convert_cut |= converts && matches!(call, Call::Mount | Call::Format);
+        if ended && converts {
+            self.edition = 2;
+        } else if ended && busy && self.format_open {
+            self.edition = 1;
+        }
+        if answer == Answer::MORE && call.job() == "convert" {
+            self.convert_time = self.newest();
+            self.tight = self.book.used(SECOND) + SECOND.reserve > self.twin.size();
+        }
+        let Some(idle) = self.twin.idle() else { return };
+        if self.convert_cut && self.newest() > self.convert_time {
+            self.edition = 2;
+        }
+        self.convert_cut = false;
+        assert_eq!(idle.edition, self.edition, "another edition after {call}");
+    }
+
     pub fn check_book(&mut self, idle: Idle) {
         let (objects, lists) = found(self.twin.block(usize::from(idle.block)));
         assert_eq!(objects, self.book.objects, "replay's objects are not the book's");
         assert_eq!(lists, self.book.lists, "replay's lists are not the book's");
-        let pending = [0, 1, 2, 3].map(|host| self.book.pending(host));
+        let lengths = self.lengths();
+        let pending = [0, 1, 2, 3].map(|host| self.book.pending(host, lengths));
         assert_eq!(idle.pending.map(usize::from), pending, "the record's pending bytes are not the book's");
         assert!(pending.iter().all(|bytes| *bytes <= self.twin.size() / 2), "a host has more than half a block");
+        let tight = self.edition == 2 && self.tight;
+        self.twin.tally.second += u64::from(self.edition == 2);
+        self.twin.tally.tight += u64::from(tight);
         if lists == Lists::default() {
-            assert!(self.book.used() + 14 <= self.twin.size(), "U + 14 exceeds S though nothing is pending");
+            let free = self.twin.size().checked_sub(self.book.used(lengths)).expect("U is at most S");
+            assert!(tight || free >= lengths.reserve, "no room for a delete though nothing is pending");
+        } else {
+            assert!(!tight, "something is pending in a tight store");
         }
         if self.rng.once_in(10) {
             self.harm_a_copy();

@@ -5,6 +5,7 @@ mod judge;
 use crate::blocks::{self, Wear};
 use crate::book::Book;
 use crate::cuts::{Allowed, Cuts, Start, newest};
+use crate::edition;
 use crate::generate::{self, Manner, Wish};
 use crate::pending;
 use crate::raise;
@@ -12,10 +13,9 @@ use crate::rng::Rng;
 use crate::side::{Modelled, Stores};
 use crate::tally::Tally;
 use crate::twin::{Call, Outcome, Twin};
-use library::Drive;
 use model::frame::VALUE_LIMIT;
 use std::collections::BTreeMap;
-use store::{Answer, Head, Idle, Store, message};
+use store::{Answer, Drive, Head, Idle, Store, message};
 
 /// What a run is to be like.
 #[derive(Clone, Copy)]
@@ -52,6 +52,13 @@ struct Run<M: Modelled, L: Drive, P: Store> {
     midway: Midway,
     /// A format was accepted and has neither finished nor been followed by an accepted mount.
     format_open: bool,
+    /// The edition by what was finished; the time that the last convert began at, and whether it was cut since the last idle
+    /// record.
+    edition: u8,
+    convert_time: Option<u32>,
+    convert_cut: bool,
+    /// Whether the last accepted convert left no room for a delete and its commit.
+    tight: bool,
     /// Steps that the job in hand has still to make, where document 01 gives their number.
     due: Option<usize>,
 }
@@ -72,11 +79,7 @@ pub struct Made {
     pub erases: usize,
 }
 
-pub fn run(plan: Plan) -> Made {
-    run_among(Stores::real, plan)
-}
-
-/// The same with any stores, which are asked for twice: copies of the images are cut beside the run.
+/// A run among such stores, which are asked for twice: copies of the images are cut beside the run.
 pub fn run_among<M: Modelled, L: Drive, P: Store>(stores: impl Fn() -> Stores<M, L, P>, plan: Plan) -> Made {
     let mut rng = Rng::new(plan.seed);
     let mut run = Run {
@@ -91,6 +94,10 @@ pub fn run_among<M: Modelled, L: Drive, P: Store>(stores: impl Fn() -> Stores<M,
         midway: Midway::default(),
         cut_jobs: 0,
         format_open: false,
+        edition: 1,
+        convert_time: None,
+        convert_cut: false,
+        tight: false,
         due: None,
         rng,
     };
@@ -146,7 +153,8 @@ impl<M: Modelled, L: Drive, P: Store> Run<M, L, P> {
             (Head::Idle(_), 2..=9) => self.put_at_the_limit(),
             (Head::Idle(_), 10..=17) => self.put_at_the_hosts_limit(),
             (Head::Idle(idle), 18..=20) => pending::mislead(&mut self.twin, &mut self.rng, idle),
-            (Head::Idle(_), 21..=96) => self.any_request(),
+            (Head::Idle(idle), 21) => edition::mislead(&mut self.twin, &mut self.rng, idle),
+            (Head::Idle(_), 22..=96) => self.any_request(),
             (Head::Unmounted, 0..=19) => self.any_request(),
             (Head::Unmounted, 20..=24) => self.steps(1),
             _ => self.restart(),
@@ -178,9 +186,10 @@ impl<M: Modelled, L: Drive, P: Store> Run<M, L, P> {
         self.restart();
     }
 
-    /// A mount, now and then a format.
+    /// A mount, now and then a format; less often where wear is counted from one to the next.
     fn restart(&mut self) {
-        let call = if self.rng.once_in(8) { Call::Format } else { Call::Mount };
+        let formats = if self.calm { 20 } else { 8 };
+        let call = if self.rng.once_in(formats) { Call::Format } else { Call::Mount };
         self.call(call);
     }
 
@@ -196,6 +205,7 @@ impl<M: Modelled, L: Drive, P: Store> Run<M, L, P> {
                     self.twin.cut_erase(&mask);
                     assert_eq!(self.newest(), before, "a block looks newer, half erased");
                     self.inside += 1;
+                    self.convert_cut |= self.job.0 == "convert";
                     self.wear.end();
                     self.restart();
                     if self.rng.once_in(2) {
@@ -224,14 +234,18 @@ impl<M: Modelled, L: Drive, P: Store> Run<M, L, P> {
     /// The longest put that the room rule and the limit take, or the next longer one.
     fn put_at_the_limit(&mut self) {
         let host = self.rng.below(4);
-        let taken = self.book.claimed() + 8 + 6 * self.book.open(host) + 14;
+        let lengths = self.lengths();
+        let marks = lengths.mark * self.book.open(host);
+        let taken = self.book.claimed(lengths) + lengths.change + marks + lengths.reserve;
         self.put_of_about(host, self.twin.size().saturating_sub(taken));
     }
 
     /// The longest put that makes half a block with what its host has pending, or the next longer one; or a delete.
     fn put_at_the_hosts_limit(&mut self) {
         let host = self.rng.below(4);
-        let free = (self.twin.size() / 2).saturating_sub(self.book.pending(host) + 8);
+        let lengths = self.lengths();
+        let taken = self.book.pending(host, lengths) + lengths.change;
+        let free = (self.twin.size() / 2).saturating_sub(taken);
         if free < 8 && self.rng.once_in(2) {
             let id = self.manner.id(&mut self.rng);
             return self.wish(host as u8, &Wish::Delete(id));
@@ -264,6 +278,7 @@ impl<M: Modelled, L: Drive, P: Store> Run<M, L, P> {
         let busy = self.twin.busy();
         let idle = self.twin.idle();
         let outcome = self.twin.call(&call);
+        self.follow_edition(&call, outcome.answer, busy);
         self.follow_job(&call, &outcome, busy);
         self.check_available(&call, outcome.answer, busy);
         if outcome.answer == Answer::MORE && !call.goes_on() {

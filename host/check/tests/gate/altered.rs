@@ -1,10 +1,9 @@
 //! The model with some calls replaced: wrong stores for the tests that must tell them from right ones.
 
 use check::side::Stores;
-use library::{Drive, Told};
-use model::job::{Step, Work, answer, begin};
+use model::job::{Step, Work, begin};
 use model::{Model, Record};
-use store::{Answer, Fault, Field, Head, Idle, Store, Stretch};
+use store::{Answer, Drive, Fault, Field, Head, Idle, Store, Stretch, Told};
 
 pub type Begun = (Answer, Record);
 type Said = (Answer, Option<Fault>);
@@ -22,7 +21,7 @@ pub struct Altered {
     pub read: fn(&[u8], u8, &Record, u8, &[u8]) -> Found,
     pub idle: fn(Idle) -> Record,
     pub told: fn(usize, u8, &Record) -> (Answer, Told),
-    pub made: fn(usize, u8, &mut Record) -> Answer,
+    pub made: fn(&[u8], u8, &mut Record) -> Answer,
 }
 
 pub const RIGHT: Altered = Altered {
@@ -39,37 +38,13 @@ pub const RIGHT: Altered = Altered {
     step: |image, blocks, record| Model.step(image, blocks, record),
     read: |image, blocks, record, host, message| Model.read(image, blocks, record, host, message),
     idle: Record::Idle,
-    told,
-    made,
+    told: |length, blocks, record| Model.told(length, blocks, record),
+    made: |image, blocks, record| Model.made(image, blocks, record),
 };
 
 /// A mount that is wrong to refuse with 3 has to name something.
 fn first_fault(image: &[u8], blocks: u8) -> Fault {
     Model.fault(image, blocks).1.unwrap_or(Fault { block: 0, field: Field::Time, place: 4 })
-}
-
-pub fn told(length: usize, blocks: u8, record: &Record) -> (Answer, Told) {
-    match record {
-        Record::Job(job) if !job.is_on(length, blocks) => (Answer::STALE, Told::default()),
-        Record::Job(job) => match job.next() {
-            Step::Program { at, byte } => (Answer::PROGRAM, Told { at, len: 1, byte }),
-            Step::Erase { at, len } => (Answer::ERASE, Told { at, len, byte: 0xFF }),
-        },
-        _ => (Answer::DONE, Told::default()),
-    }
-}
-
-pub fn made(length: usize, blocks: u8, record: &mut Record) -> Answer {
-    match record {
-        Record::Job(job) if !job.is_on(length, blocks) => return Answer::STALE,
-        Record::Job(job) => {
-            if let Some(idle) = job.advance() {
-                *record = Record::Idle(idle);
-            }
-        }
-        _ => {}
-    }
-    answer(record)
 }
 
 /// All steps of a job, and the idle record after them.
@@ -154,6 +129,6 @@ impl Drive for Altered {
     }
 
     fn made(&self, image: &[u8], blocks: u8, record: &mut Record) -> Answer {
-        (self.made)(image.len(), blocks, record)
+        (self.made)(image, blocks, record)
     }
 }

@@ -2,6 +2,7 @@
 
 use check::twin::{Call, Twin};
 use model::block::HEADER;
+use model::edition::Edition;
 use model::frame::{self, Id};
 use std::ops::Range;
 use store::{Answer, message};
@@ -26,7 +27,7 @@ fn each_bit(twin: &mut Twin, image: &[u8], places: Range<usize>) {
 /// A block with one settled object of `size` bytes, beside a blank one.
 fn settled(size: usize) -> (Vec<u8>, usize) {
     let mut image = Twin::formatted(LENGTH).image()[..HEADER].to_vec();
-    image.extend(frame::settled(Id(1), &vec![0; size]));
+    image.extend(frame::settled(Edition::First, Id(1), &vec![0; size]));
     let end = image.len();
     image.resize(LENGTH, 0xFF);
     (image, end)

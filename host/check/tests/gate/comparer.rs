@@ -1,13 +1,12 @@
 //! The comparison itself: each of these stores is wrong in one thing that `Twin` compares, in the place of the library, the
 //! library driven, plain or the model. The test must fail, and say what differs.
 
-use super::altered::{Altered, RIGHT, job, made, steps, told};
+use super::altered::{Altered, RIGHT, job, steps};
 use check::side::{Modelled, Stores};
 use check::twin::{Call, Twin};
-use library::Drive;
 use model::job::Step;
 use model::{Model, Record};
-use store::{Answer, Fault, Idle, Store, Stretch, message};
+use store::{Answer, Drive, Fault, Idle, Store, Stretch, message};
 
 const LENGTH: usize = 512;
 
@@ -128,7 +127,7 @@ fn a_record() {
 
 /// The same with other bytes pending.
 #[test]
-#[should_panic(expected = "end: 16, blocks: 2, pending: [0, 0, 1, 0] }), the model's Idle(")]
+#[should_panic(expected = "end: 16, blocks: 2, edition: 1, pending: [0, 0, 1, 0] }), the model's Idle(")]
 fn a_record_of_other_pending_bytes() {
     in_plain(Altered {
         format: |image, blocks| {
@@ -170,7 +169,7 @@ fn an_image_of_the_model() {
 /// Tells to program a byte with one bit less.
 const TELLS: Altered = Altered {
     told: |length, blocks, record| {
-        let (answer, mut step) = told(length, blocks, record);
+        let (answer, mut step) = Model.told(length, blocks, record);
         step.byte &= if answer == Answer::PROGRAM { 0x7F } else { 0xFF };
         (answer, step)
     },
@@ -194,8 +193,8 @@ fn what_is_next() {
 #[should_panic(expected = "the library driven has another record than by steps")]
 fn a_record_of_the_library_driven() {
     in_the_library_driven(Altered {
-        made: |length, blocks, record| {
-            let answer = made(length, blocks, record);
+        made: |image, blocks, record| {
+            let answer = Model.made(image, blocks, record);
             if let Some((steps, idle)) = steps(record) {
                 *record = job(steps, idle);
             }

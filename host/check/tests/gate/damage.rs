@@ -2,7 +2,8 @@
 
 use check::twin::{Call, Twin};
 use model::block::HEADER;
-use model::frame::{self, Host, Id, LONGEST, VALUE_LIMIT};
+use model::edition::Edition::First;
+use model::frame::{self, Host, Id, VALUE_LIMIT};
 use store::{Answer, Idle, Stretch, message};
 
 const LENGTH: usize = 512;
@@ -74,14 +75,14 @@ fn image_of(start: &[u8]) -> Vec<u8> {
 /// bytes are left for it. So only the tail can make a mount transfer.
 fn with_tail(tail: &[u8], room: usize) -> Twin {
     let mut block = FORMATTED.to_vec();
-    block.extend(frame::settled(Id(1), b"kept"));
+    block.extend(frame::settled(First, Id(1), b"kept"));
     // a put and its abort
-    let (least, most) = (8 + 6, LONGEST + 6);
+    let (least, most) = (8 + 6, 8 + VALUE_LIMIT + 6);
     while block.len() < S - room {
         let left = S - room - block.len();
         let length = if left > most { (left - least).min(most) } else { left };
-        block.extend(frame::put(Host(0), Id(2), &vec![0; length - least]));
-        block.extend(frame::abort(Host(0)));
+        block.extend(frame::put(First, Host(0), Id(2), &vec![0; length - least]));
+        block.extend(frame::abort(First, Host(0)));
     }
     block.extend(tail);
     Twin::new(&image_of(&block))
@@ -89,8 +90,9 @@ fn with_tail(tail: &[u8], room: usize) -> Twin {
 
 fn samples() -> Vec<Vec<u8>> {
     let value = [0xFF; VALUE_LIMIT];
-    let puts = (0..=VALUE_LIMIT).map(|size| frame::put(Host(3), Id(255), &value[..size]));
-    puts.chain([frame::delete(Host(1), Id(0)), frame::commit(Host(2)), frame::abort(Host(0))]).collect()
+    let puts = (0..=VALUE_LIMIT).map(|size| frame::put(First, Host(3), Id(255), &value[..size]));
+    puts.chain([frame::delete(First, Host(1), Id(0)), frame::commit(First, Host(2)), frame::abort(First, Host(0))])
+        .collect()
 }
 
 /// Without a tail there is nothing to do.
@@ -131,7 +133,7 @@ fn frames_torn_after_every_byte() {
 #[test]
 fn settled_frames_torn_after_every_byte() {
     for size in 0..=VALUE_LIMIT {
-        let frame = frame::settled(Id(9), &[0; VALUE_LIMIT][..size]);
+        let frame = frame::settled(First, Id(9), &[0; VALUE_LIMIT][..size]);
         for programmed in 1..frame.len() {
             let torn = found_torn(with_tail(&frame[..programmed], AMPLE));
             assert_eq!(torn, programmed <= 2 && size > 0, "{programmed} bytes of {frame:?}");
@@ -142,7 +144,7 @@ fn settled_frames_torn_after_every_byte() {
 /// Each field of a torn put with a value that no legal frame has.
 #[test]
 fn torn_frames_with_a_wrong_field() {
-    let frame = frame::put(Host(3), Id(255), &[7; 10]);
+    let frame = frame::put(First, Host(3), Id(255), &[7; 10]);
     for (at, byte) in [(0, 5), (0, 7), (0, 249), (1, 1), (2, 0), (2, 2), (2, 3), (2, 6), (3, 1), (4, 4), (6, 1)] {
         let mut part = frame[..12].to_vec();
         part[at] = byte;
@@ -153,7 +155,7 @@ fn torn_frames_with_a_wrong_field() {
 /// A frame's first byte tells it from erased flash: it is 6 or 8 to 248, and never 0xFF.
 #[test]
 fn every_first_byte_of_a_tail() {
-    let kept = frame::settled(Id(1), b"kept");
+    let kept = frame::settled(First, Id(1), b"kept");
     for byte in 0..=255 {
         let mut twin = Twin::new(&image_of(&[&FORMATTED[..], &kept, &[byte]].concat()));
         let expected = match byte {
@@ -170,18 +172,18 @@ fn every_first_byte_of_a_tail() {
 fn frames_of_the_longest_value() {
     let value = [0xFE; VALUE_LIMIT + 1];
     for (size, expected) in [(VALUE_LIMIT, Answer::DONE), (VALUE_LIMIT + 1, Answer::FOREIGN)] {
-        let put = frame::put(Host(0), Id(1), &value[..size]);
-        assert_eq!(mount_of_frames(&[put, frame::commit(Host(0))]), expected);
-        assert_eq!(mount_of_frames(&[frame::settled(Id(1), &value[..size])]), expected);
+        let put = frame::put(First, Host(0), Id(1), &value[..size]);
+        assert_eq!(mount_of_frames(&[put, frame::commit(First, Host(0))]), expected);
+        assert_eq!(mount_of_frames(&[frame::settled(First, Id(1), &value[..size])]), expected);
     }
 }
 
 /// Frames that run exactly to S leave an empty tail.
 #[test]
 fn frames_to_the_very_end() {
-    let last = [frame::put(Host(0), Id(2), b"last"), frame::commit(Host(0))].concat();
+    let last = [frame::put(First, Host(0), Id(2), b"last"), frame::commit(First, Host(0))].concat();
     let mut twin = with_tail(&last, last.len());
-    twin.forge(Idle { length: LONG, block: 0, end: S as u16, blocks: 2, pending: [0; 4] });
+    twin.forge(Idle { length: LONG, block: 0, end: S as u16, blocks: 2, edition: 1, pending: [0; 4] });
     assert_eq!(twin.ask(1, &message::commit()), Answer::DONE);
     assert_eq!(twin.whole(&Call::Mount), (Answer::DONE, 0));
     assert_eq!(twin.ids(), [1, 2]);
@@ -194,12 +196,14 @@ fn mount_of_frames(frames: &[Vec<u8>]) -> Answer {
 
 #[test]
 fn settled_frames_stand_first_with_rising_ids() {
-    let settled = |id: u8| frame::settled(Id(id), b"v");
+    let settled = |id: u8| frame::settled(First, Id(id), b"v");
     assert_eq!(mount_of_frames(&[settled(0), settled(1), settled(255)]), Answer::DONE);
     assert_eq!(mount_of_frames(&[settled(1), settled(0)]), Answer::FOREIGN);
     assert_eq!(mount_of_frames(&[settled(1), settled(1)]), Answer::FOREIGN);
     assert_eq!(mount_of_frames(&[settled(255), settled(255)]), Answer::FOREIGN);
-    for other in [frame::commit(Host(0)), frame::abort(Host(1)), frame::delete(Host(2), Id(0))] {
+    for other in
+        [frame::commit(First, Host(0)), frame::abort(First, Host(1)), frame::delete(First, Host(2), Id(0))]
+    {
         assert_eq!(mount_of_frames(&[settled(0), other.clone()]) == Answer::MORE, other[2] == 2);
         assert_eq!(mount_of_frames(&[settled(0), other, settled(1)]), Answer::FOREIGN);
     }
@@ -232,7 +236,7 @@ fn with_state(state: u8) -> Vec<u8> {
 /// K4: beside a valid block a foreign one is erased, as any that isn't blank; without one it is 3.
 #[test]
 fn a_block_of_every_state_beside_another() {
-    let valid = with_tail(&frame::put(Host(0), Id(2), &[]), AMPLE).image()[..S].to_vec();
+    let valid = with_tail(&frame::put(First, Host(0), Id(2), &[]), AMPLE).image()[..S].to_vec();
     for state in 0..=255 {
         let other = with_state(state);
         let foreign = state < 0xFE;
@@ -258,7 +262,7 @@ fn a_block_of_every_state_beside_another() {
 /// Foreign by each header field, by a frame and by its tail, beside a clean block: one step, and it is blank.
 #[test]
 fn a_foreign_block_is_erased_beside_a_valid_one() {
-    let clean = image_of(&[&FORMATTED[..], &frame::settled(Id(1), b"kept")].concat())[..S].to_vec();
+    let clean = image_of(&[&FORMATTED[..], &frame::settled(First, Id(1), b"kept")].concat())[..S].to_vec();
     for (at, byte) in
         [(0, 0x11), (1, 1), (2, 3), (3, 0x4B), (8, 0xFD), (9, 0xFE), (15, 0), (16, 0), (17, 1), (S - 1, 0)]
     {
@@ -272,7 +276,7 @@ fn a_foreign_block_is_erased_beside_a_valid_one() {
             assert_eq!(twin.whole(&Call::Mount), (Answer::DONE, 1), "byte {at}");
             assert_eq!(
                 twin.idle(),
-                Some(Idle { length: LONG, block: block as u8, end: 27, blocks: 2, pending: [0; 4] })
+                Some(Idle { length: LONG, block: block as u8, end: 27, blocks: 2, edition: 1, pending: [0; 4] })
             );
             assert_eq!(twin.image()[(1 - block) * S..][..S], [0xFF; S]);
             assert_eq!(twin.value(1), Some(b"kept".to_vec()));

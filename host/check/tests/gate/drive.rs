@@ -4,10 +4,10 @@
 
 use check::forged;
 use check::rng::Rng;
-use check::twin::Twin;
-use library::{Driven, JOB, Library, PENDING, RECORD_SIZE, Record, Told};
+use check::twin::{Call, Twin};
+use library::{Driven, EDITION, JOB, Library, PENDING, RECORD_SIZE, Record};
 use std::collections::BTreeMap;
-use store::{Answer, Head, Store, message};
+use store::{Answer, Head, Store, Told, message};
 
 /// An image, how many blocks it is said to have, and a record, whether they belong together or not.
 #[derive(Clone, PartialEq)]
@@ -23,11 +23,12 @@ const STAGES: std::ops::RangeInclusive<u8> = 2..=7;
 /// Where the record says how many blocks there are.
 const BLOCKS: usize = 6;
 
-/// One-byte fields of a job by their place in the record, with values on both sides of what is in range: current block,
-/// the first two and the last of the blocks to erase and their number, two flags, block made, length to append, step,
-/// length copied and its next byte.
-const BYTES: [(usize, &[u8]); 12] = [
+/// One-byte fields of a job by their place in the record, with values on both sides of what is in range: current block and
+/// its edition, the first two and the last of the blocks to erase and their number, two flags, block made, length to append,
+/// edition made, step, length copied and its next byte.
+const BYTES: [(usize, &[u8]); 14] = [
     (3, &[0, 0, 1, 1, 2, 15, 16, 255]),
+    (EDITION, &[0, 1, 1, 2, 2, 3, 7, 255]),
     (JOB.start, &[0, 1, 2, 15, 16, 255]),
     (JOB.start + 1, &[0, 1, 2, 15, 16, 255]),
     (JOB.start + 15, &[0, 1, 2, 15, 16, 255]),
@@ -35,10 +36,11 @@ const BYTES: [(usize, &[u8]); 12] = [
     (JOB.start + 17, &[0, 1, 5]),
     (JOB.start + 18, &[0, 1, 5]),
     (JOB.start + 19, &[0, 0, 1, 1, 2, 15, 16, 255]),
-    (JOB.start + 32, &[0, 1, 6, 247, 248, 249, 255]),
-    (JOB.start + 33, &[0, 1, 3, 4, 5, 6, 246, 247, 248, 255]),
-    (JOB.start + 40, &[0, 1, 7, 247, 248, 249, 255]),
-    (JOB.start + 41, &[0, 1, 6, 246, 247, 248, 254, 255]),
+    (JOB.start + 32, &[0, 1, 6, 10, 248, 251, 252, 253, 255]),
+    (JOB.start + 33, &[0, 1, 1, 2, 2, 3, 7, 255]),
+    (JOB.start + 34, &[0, 1, 3, 4, 5, 6, 250, 251, 252, 255]),
+    (JOB.start + 41, &[0, 1, 7, 11, 248, 251, 252, 253, 255]),
+    (JOB.start + 42, &[0, 1, 6, 10, 250, 251, 252, 254, 255]),
 ];
 
 /// Two-byte fields: end, what the first and the last host have pending, then in the job each host's mark, next offset, next
@@ -51,38 +53,54 @@ const WORDS: [usize; 10] = [
     JOB.start + 26,
     JOB.start + 28,
     JOB.start + 30,
-    JOB.start + 34,
-    JOB.start + 36,
-    JOB.start + 38,
+    JOB.start + 35,
+    JOB.start + 37,
+    JOB.start + 39,
 ];
 
-/// A job of each kind on an image of so many blocks: format, append, append after a transfer, mount with erase and
-/// transfer.
+/// A job of each kind on an image of so many blocks, in edition 1 and in edition 2: format, append, append after a transfer,
+/// mount with erase and transfer; between the editions a convert.
 fn jobs(blocks: u8, length: usize) -> Vec<Board> {
-    let (library, size) = (Library::linked(), length / usize::from(blocks));
     let mut twin = Twin::formatted_of(blocks, length);
-    let board = |image: &[u8], record| Board { image: image.to_vec(), blocks, record };
-    let mut jobs = vec![board(twin.image(), library.format(twin.image(), blocks).1)];
-    let ask = |image: &[u8], message: &[u8]| {
-        let mut record = library.mount(image, blocks).1;
-        assert_eq!(library.request(image, blocks, &mut record, 1, message, &mut []), Answer::MORE);
-        board(image, record)
-    };
-    jobs.push(ask(twin.image(), &message::put(9, &[9; 20])));
-    let value = vec![7; (size / 8).min(200)];
-    while twin.image()[size] == 0xFF {
-        let transfer = ask(twin.image(), &message::put(2, &value));
+    assert_eq!(twin.serve(0, &message::put(7, b"both")).0, Answer::DONE);
+    assert_eq!(twin.serve(0, &message::commit()).0, Answer::DONE);
+    let convert = asked(twin.image(), blocks, &message::convert());
+    let mut second = Twin::of_blocks(blocks, twin.image());
+    assert_eq!(second.whole(&Call::Mount), (Answer::DONE, 0));
+    assert_eq!(second.serve(0, &message::convert()).0, Answer::DONE);
+    [jobs_from(twin), vec![convert], jobs_from(second)].concat()
+}
+
+/// The image with the job that a request of host 1 begins.
+fn asked(image: &[u8], blocks: u8, message: &[u8]) -> Board {
+    let library = Library::linked();
+    let mut record = library.mount(image, blocks).1;
+    assert_eq!(library.request(image, blocks, &mut record, 1, message, &mut []), Answer::MORE);
+    Board { image: image.to_vec(), blocks, record }
+}
+
+/// The jobs of a store's own edition.
+fn jobs_from(mut twin: Twin) -> Vec<Board> {
+    let (library, blocks, size) = (Library::linked(), twin.blocks, twin.size());
+    let block = |twin: &Twin| usize::from(twin.idle().expect("idle").block);
+    let format = library.format(twin.image(), blocks).1;
+    let mut jobs = vec![Board { image: twin.image().to_vec(), blocks, record: format }];
+    jobs.push(asked(twin.image(), blocks, &message::put(9, &[9; 20])));
+    let (value, start) = (vec![7; (size / 8).min(200)], block(&twin));
+    while block(&twin) == start {
+        let transfer = asked(twin.image(), blocks, &message::put(2, &value));
         for message in [message::put(1, &value), message::commit(), message::put(2, &value), message::commit()] {
             assert_eq!(twin.serve(1, &message).0, Answer::DONE);
         }
-        if twin.image()[size] != 0xFF {
+        if block(&twin) != start {
             jobs.push(transfer);
         }
     }
     assert_eq!(twin.serve(3, &message::put(3, b"pending")).0, Answer::DONE);
     let mut image = twin.image().to_vec();
-    image[8] = 0xFE;
-    jobs.push(board(&image, library.mount(&image, blocks).1));
+    image[(block(&twin) + 1) % usize::from(blocks) * size + 8] = 0xFE;
+    let record = library.mount(&image, blocks).1;
+    jobs.push(Board { image, blocks, record });
     jobs
 }
 

@@ -1,8 +1,8 @@
 //! The edge to C: buffers of wrong sizes, forged records in no job, nothing kept between calls.
 
 use check::rng::Rng;
-use library::{Library, PENDING, RECORD_SIZE, Record, Told, UNCOUNTED};
-use store::{Answer, Head, Store, Stretch, message};
+use library::{EDITION, Library, RECORD_SIZE, Record, UNCOUNTED, UNTOLD};
+use store::{Answer, Head, Store, Stretch, Told, message};
 
 const LENGTH: usize = 512;
 
@@ -35,7 +35,7 @@ fn record_buffers_of_another_size() {
             library.read_on(&image, 2, &record, 0, &message::read(1)).0,
         ];
         assert_eq!(answers, [Answer::WRONG_RECORD; 5]);
-        assert_eq!(library.next_of(LENGTH, 2, &record), (Answer::WRONG_RECORD, Told::NOTHING));
+        assert_eq!(library.next_of(LENGTH, 2, &record), (Answer::WRONG_RECORD, UNTOLD));
         assert_eq!(library.made_on(&image, 2, &mut record), Answer::WRONG_RECORD);
         assert_eq!(library.run_on(&mut image, 2, &mut record, 9), (Answer::WRONG_RECORD, UNCOUNTED));
         assert_eq!((record, reply, &image), (vec![1; size], [7; 14], &before));
@@ -69,7 +69,7 @@ fn records_of_no_phase() {
     }
 }
 
-/// An idle record's first fifteen bytes decide, whatever the others are.
+/// An idle record's first sixteen bytes decide, whatever the others are.
 #[test]
 fn idle_records_with_other_bytes_set() {
     let library = Library::linked();
@@ -77,7 +77,7 @@ fn idle_records_with_other_bytes_set() {
     let mut rng = Rng::new(2);
     for _ in 0..100 {
         let mut record: Record = rng.bytes(RECORD_SIZE).try_into().expect("a record's bytes");
-        record[..PENDING.end].copy_from_slice(&tidy[..PENDING.end]);
+        record[..=EDITION].copy_from_slice(&tidy[..=EDITION]);
         let kept = record;
         no_steps(&library, &mut image, &mut record);
         assert_eq!(library.request(&image, 2, &mut record, 0, &message::read(1), &mut []), Answer::NO_OBJECT);

@@ -1,8 +1,10 @@
 //! K5: where a block broke. What is expected stands in document 01's tables; the frames are spelt out by them.
 
+use super::second;
 use check::fault::agreed;
 use check::rng::Rng;
 use check::twin::{Call, Twin};
+use model::edition::Edition::First;
 use model::frame::{self, Host, Id};
 use std::collections::BTreeSet;
 use store::{Answer, Fault, Field};
@@ -10,6 +12,9 @@ use store::{Answer, Fault, Field};
 const S: usize = 256;
 /// Length, kind, time 1, valid data, the rest.
 pub const HEADER: [u8; 16] = *b"\x10\0\x01\x4A\xFE\xFF\xFF\xFF\xFC\xFF\xFF\xFF\xFF\xFF\xFF\xFF";
+
+/// The same in edition 2.
+const SECOND: [u8; 16] = *b"\x10\0\x02\x4A\xFE\xFF\xFF\xFF\xFC\xFF\xFF\xFF\xFF\xFF\xFF\xFF";
 
 pub const PUT: [u8; 10] = [10, 0, 1, 0, 2, 5, 0, 0x41, 0x42, 0xFE];
 const DELETE: [u8; 8] = [8, 0, 2, 0, 1, 5, 0, 0xFE];
@@ -60,7 +65,7 @@ fn of_bytes(field: Field) -> usize {
     match field {
         Field::Length | Field::Kind | Field::Id => 2,
         Field::Host | Field::Finish | Field::State => 1,
-        Field::Time => 4,
+        Field::Time | Field::Crc => 4,
         Field::Rest => 7,
     }
 }
@@ -76,6 +81,8 @@ fn journals() -> Vec<Vec<u8>> {
         block(&[&HEADER, &EMPTY, &longer]),
         block(&[&HEADER, &DELETE, &PUT[..7]]),
         block(&[&HEADER, &SETTLED, &COMMIT[..5]]),
+        block(&[&SECOND, &second::SETTLED, &second::EMPTY, &second::DELETE, &second::COMMIT]),
+        block(&[&SECOND, &second::ABORT, &second::PUT[..11]]),
     ]
 }
 
@@ -257,14 +264,14 @@ fn a_torn_frame_with_something_behind() {
 /// A frame that would not fit has a bad length. Fewer than six bytes hold no frame at all.
 #[test]
 fn frames_at_the_end_of_the_block() {
-    let filler = frame::put(Host(0), Id(1), &[0; S - 16 - 8 - 10]);
+    let filler = frame::put(First, Host(0), Id(1), &[0; S - 16 - 8 - 10]);
     assert_eq!(behind(&[&filler], &PUT), None);
     assert_eq!(behind(&[&filler], &with(&PUT, 9, 0)), Some((Field::Finish, 9)));
     assert_eq!(behind(&[&filler], &with(&PUT, 0, 11)), Some((Field::Length, 0)));
     assert_eq!(behind(&[&filler], &[11]), Some((Field::Length, 0)));
     assert_eq!(behind(&[&filler], &[10]), None);
     for rest in 1..6 {
-        let filler = frame::put(Host(0), Id(1), &vec![0; S - 16 - 8 - rest]);
+        let filler = frame::put(First, Host(0), Id(1), &vec![0; S - 16 - 8 - rest]);
         assert_eq!(behind(&[&filler], &COMMIT[..rest]), Some((Field::Length, 0)));
         assert_eq!(behind(&[&filler], &vec![0xFF; rest]), None);
     }
@@ -298,6 +305,8 @@ fn each_field_of_the_header() {
                 (8, 0xFE) => (Answer::NO_STORE, None),
                 (4, 0xFF) => foreign(0, Field::Time, 4),
                 (4..8, _) => (Answer::DONE, None),
+                // a header of edition 2, in which a put has 12 bytes or more
+                (2, 2) => foreign(0, Field::Kind, 18),
                 _ => foreign(0, field, place),
             };
             assert_eq!(of_blocks([&damaged, &blank()]), expected, "byte {at} is {byte:#04x}");
@@ -309,7 +318,7 @@ fn each_field_of_the_header() {
 #[test]
 fn several_fields_of_the_header() {
     let whole = block(&[&HEADER, &PUT, &with(&COMMIT, 4, 9)]);
-    let bad = [(0, 17, Field::Length), (2, 2, Field::Kind), (4, 0xFF, Field::Time), (8, 0xF0, Field::State)];
+    let bad = [(0, 17, Field::Length), (2, 3, Field::Kind), (4, 0xFF, Field::Time), (8, 0xF0, Field::State)];
     let bad = [&bad[..], &[(9, 0, Field::Rest)]].concat();
     for first in 0..bad.len() {
         let (place, _, field) = bad[first];

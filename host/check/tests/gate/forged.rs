@@ -124,7 +124,7 @@ fn jobs_without_an_end() {
 }
 
 /// A mount's job with 255 erases first and 255 bytes to append: 255 erases, five writes, the frames of 256 objects, five
-/// writes, the erase of the old block, 255 bytes of which the last seven are in no frame.
+/// writes, the erase of the old block, 255 bytes of which the last three are in no frame.
 #[test]
 fn the_longest_jobs() {
     let library = Library::linked();
@@ -156,6 +156,7 @@ fn the_longest_jobs() {
                 block: target,
                 end: (16 + 256 * (7 + value) + 255) as u16,
                 blocks,
+                edition: 1,
                 pending: [0; 4],
             })
         );

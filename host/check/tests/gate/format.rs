@@ -77,7 +77,7 @@ fn the_order_of_the_erases() {
             assert_eq!(twin.image(), [block(&FORMATTED), block(&[])].concat());
             assert_eq!(
                 twin.head(),
-                Head::Idle(Idle { length: LENGTH, block: 0, end: 16, blocks: 2, pending: [0; 4] })
+                Head::Idle(Idle { length: LENGTH, block: 0, end: 16, blocks: 2, edition: 1, pending: [0; 4] })
             );
             seen[order[1]] += 1;
         }

@@ -131,7 +131,10 @@ fn a_mount_that_keeps_what_is_pending() {
     let mount = |image: &[u8], blocks| match &read(image, blocks)[..] {
         [Block::Valid(journal), Block::Blank] if !journal.torn => {
             let end = journal.end as u16;
-            (Answer::DONE, Record::Idle(Idle { length: image.len(), block: 0, end, blocks, pending: [0; 4] }))
+            (
+                Answer::DONE,
+                Record::Idle(Idle { length: image.len(), block: 0, end, blocks, edition: 1, pending: [0; 4] }),
+            )
         }
         _ => Model.mount(image, blocks),
     };

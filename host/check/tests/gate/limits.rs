@@ -33,7 +33,7 @@ fn recorded(size: usize, time: u32, frames: &[Vec<u8>]) -> Twin {
     image.resize(2 * size, 0xFF);
     let mut twin = Twin::new(&image);
     let pending = of_block(&image[..size]);
-    twin.forge(Idle { length: 2 * size, block: 0, end: end as u16, blocks: 2, pending });
+    twin.forge(Idle { length: 2 * size, block: 0, end: end as u16, blocks: 2, edition: 1, pending });
     twin
 }
 
@@ -77,12 +77,18 @@ fn a_mark_where_c_and_six_are_s() {
         assert_eq!(twin.ask(0, &message::delete(3)), Answer::HOST_FULL);
         assert_eq!(twin.ask(1, &message::delete(3)), Answer::NO_ROOM);
         assert_eq!(twin.serve(0, &message), done(6));
-        assert_eq!(twin.idle(), Some(Idle { length: LENGTH, block: 0, end: 256, blocks: 2, pending: [0; 4] }));
+        assert_eq!(
+            twin.idle(),
+            Some(Idle { length: LENGTH, block: 0, end: 256, blocks: 2, edition: 1, pending: [0; 4] })
+        );
         assert_eq!(twin.ids(), ids);
 
         let mut twin = one_mark_left(std::slice::from_ref(&idle_mark));
         assert_eq!(twin.serve(0, &message), done(250 - 5 + 6));
-        assert_eq!(twin.idle(), Some(Idle { length: LENGTH, block: 1, end: 256, blocks: 2, pending: [0; 4] }));
+        assert_eq!(
+            twin.idle(),
+            Some(Idle { length: LENGTH, block: 1, end: 256, blocks: 2, edition: 1, pending: [0; 4] })
+        );
         assert_eq!(twin.image()[LENGTH - 6..], [6, 0, kind, 0, 0, 0xFE]);
         assert_eq!(twin.ids(), ids);
     }

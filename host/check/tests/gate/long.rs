@@ -3,6 +3,7 @@
 use check::book::Objects;
 use check::cuts::{Allowed, Cuts, Start};
 use check::twin::{Call, Outcome, Twin};
+use model::edition::Edition;
 use store::{Answer, Head, Idle, Stretch, message};
 
 const LENGTH: usize = 1_024;
@@ -19,7 +20,7 @@ fn done(steps: usize) -> (Answer, usize) {
 }
 
 fn idle(block: u8, end: usize) -> Head {
-    Head::Idle(Idle { length: LENGTH, block, end: end as u16, blocks: 2, pending: [0; 4] })
+    Head::Idle(Idle { length: LENGTH, block, end: end as u16, blocks: 2, edition: 1, pending: [0; 4] })
 }
 
 fn request(host: u8, message: Vec<u8>) -> Call {
@@ -53,7 +54,8 @@ fn cut_after(twin: &mut Twin, steps: usize) -> (Answer, usize) {
 #[test]
 fn one_limit() {
     assert_eq!([model::frame::VALUE_LIMIT, plain::VALUE_LIMIT, library::VALUE_LIMIT], [LONGEST_VALUE; 3]);
-    assert_eq!(model::frame::LONGEST, LONGEST_FRAME);
+    let frames = Edition::ALL.map(|edition| edition.change() + LONGEST_VALUE);
+    assert_eq!(frames, [LONGEST_FRAME, LONGEST_FRAME + 4]);
 }
 
 #[test]
@@ -192,7 +194,10 @@ fn before_a_transfer() -> Twin {
     assert_eq!(twin.serve(0, &message::commit()), done(6));
     assert_eq!(twin.serve(3, &put(7)), done(LONGEST_FRAME));
     let pending = [0, 0, 0, 248];
-    assert_eq!(twin.idle(), Some(Idle { length: 2 * LENGTH, block: 0, end: 1_020, blocks: 2, pending }));
+    assert_eq!(
+        twin.idle(),
+        Some(Idle { length: 2 * LENGTH, block: 0, end: 1_020, blocks: 2, edition: 1, pending })
+    );
     twin
 }
 
@@ -201,7 +206,10 @@ fn before_a_transfer() -> Twin {
 fn a_transfer_of_long_values() {
     let mut twin = before_a_transfer();
     assert_eq!(twin.serve(3, &message::commit()), done(753 + 6));
-    assert_eq!(twin.idle(), Some(Idle { length: 2 * LENGTH, block: 1, end: 764, blocks: 2, pending: [0; 4] }));
+    assert_eq!(
+        twin.idle(),
+        Some(Idle { length: 2 * LENGTH, block: 1, end: 764, blocks: 2, edition: 1, pending: [0; 4] })
+    );
     let value = |id: u8| vec![id; LONGEST_VALUE];
     let settled = |id: u8| [&[0xF7, 0, 5, 0, id, 0][..], &value(id), &[0xFE]].concat();
     let put = [&[0xF8, 0, 1, 0, 3, 7, 0][..], &value(7), &[0xFE]].concat();

@@ -242,7 +242,7 @@ fn more_than_half_a_block_from_before() {
         let mut image = Twin::formatted(LENGTH).image().to_vec();
         image[16..16 + frames.len()].copy_from_slice(&frames);
         let mut twin = Twin::new(&image);
-        twin.forge(Idle { length: LENGTH, block: 0, end: 232, blocks: 2, pending: [0, 216, 0, 0] });
+        twin.forge(Idle { length: LENGTH, block: 0, end: 232, blocks: 2, edition: 1, pending: [0, 216, 0, 0] });
         for message in [put(1, 0), message::delete(1)] {
             assert_eq!(twin.ask(1, &message), Answer::HOST_FULL);
         }

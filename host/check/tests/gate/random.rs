@@ -1,6 +1,7 @@
 //! Random runs and damaged images, fixed seeds. `cargo run --release -p check` makes more rounds of the same.
 
-use check::rounds::{Sum, images_of_more, images_of_two, runs_of_more, runs_of_two};
+use check::rounds::{Rounds, Sum};
+use check::side::Stores;
 use check::tally::Tally;
 use store::{Answer, Field};
 
@@ -35,6 +36,12 @@ fn seen_pending(tally: &Tally) {
     assert!(tally.pending > 100, "{} counts were wrong", tally.pending);
 }
 
+/// Runs were in edition 2, in tight stores too, and records of other editions were tried, not just a few times.
+fn seen_editions(tally: &Tally) {
+    assert!(tally.second > 1_000 && tally.tight > 20, "{} in edition 2, {} tight", tally.second, tally.tight);
+    assert!(tally.editions > 50, "{} editions were wrong", tally.editions);
+}
+
 /// Each block up to this one was found broken in each field.
 fn seen_faults(sum: &Sum, last: usize) {
     for (block, field) in (0..=last).flat_map(|block| Field::ALL.map(|field| (block, field))) {
@@ -48,12 +55,13 @@ fn seen_runs(sum: &Sum) {
     assert!(sum.own_inside > 50, "{} of them in runs themselves", sum.own_inside);
     assert_eq!(sum.tally.of("mount", Answer::FOREIGN), 0);
     seen(&sum.own, "mount", &[0, 2, 6, 255].map(Answer));
-    seen(&sum.own, "request", &[0, 1, 2, 4, 5, 6, 7, 8, 9, 10, 11, 12, 255].map(Answer));
+    seen(&sum.own, "request", &[0, 1, 2, 4, 5, 6, 7, 8, 9, 10, 11, 12, 16, 255].map(Answer));
     seen_pending(&sum.own);
+    seen_editions(&sum.own);
     seen(&sum.own, "step", &[0, 11, 255].map(Answer));
     seen(&sum.own, "run", &[0, 11, 255].map(Answer));
     seen(&sum.own, "read", &[0, 4, 5, 8, 10, 11].map(Answer));
-    for job in ["put", "delete", "commit", "abort", "mount", "format"] {
+    for job in ["put", "delete", "commit", "abort", "convert", "mount", "format"] {
         assert!(sum.midway.contains_key(job), "no {job} of a run was cut between its steps");
     }
     let cuts = sum.midway.values().sum::<u64>();
@@ -62,10 +70,10 @@ fn seen_runs(sum: &Sum) {
 }
 
 fn runs_of(rounds: std::ops::Range<u64>) {
-    let mut sum = Sum::default();
-    rounds.for_each(|round| runs_of_two(round, &mut sum));
-    seen_runs(&sum);
-    seen_values(&sum);
+    let mut made = Rounds::among(Stores::real);
+    rounds.for_each(|round| made.runs_of_two(round));
+    seen_runs(&made.sum);
+    seen_values(&made.sum);
 }
 
 #[test]
@@ -80,8 +88,9 @@ fn runs_of_later_rounds() {
 
 #[test]
 fn runs_of_more_blocks() {
-    let mut sum = Sum::default();
-    runs_of_more(0, &mut sum);
+    let mut rounds = Rounds::among(Stores::real);
+    rounds.runs_of_more(0);
+    let sum = rounds.sum;
     seen_runs(&sum);
     for blocks in 2..=16 {
         assert!(sum.even[blocks] > 2 * blocks, "{} erases of {blocks} blocks", sum.even[blocks]);
@@ -90,24 +99,26 @@ fn runs_of_more_blocks() {
 
 fn seen_images(sum: &Sum) {
     seen(&sum.tally, "mount", &[0, 2, 3, 6, 255].map(Answer));
-    seen(&sum.tally, "request", &[0, 1, 2, 6, 7, 8, 9, 10, 11, 12, 255].map(Answer));
+    seen(&sum.tally, "request", &[0, 1, 2, 6, 7, 8, 9, 10, 11, 12, 16, 255].map(Answer));
     seen_pending(&sum.tally);
+    assert!(sum.tally.editions > 100, "{} editions were wrong", sum.tally.editions);
     seen(&sum.tally, "read", &[0, 1, 2, 8, 10, 11].map(Answer));
 }
 
 #[test]
 fn images_of_first_rounds() {
-    let mut sum = Sum::default();
-    (0..2).for_each(|round| images_of_two(round, &mut sum));
-    seen_images(&sum);
-    seen_values(&sum);
-    seen_faults(&sum, 1);
+    let mut rounds = Rounds::among(Stores::real);
+    (0..2).for_each(|round| rounds.images_of_two(round));
+    seen_images(&rounds.sum);
+    seen_values(&rounds.sum);
+    seen_faults(&rounds.sum, 1);
 }
 
 #[test]
 fn images_of_more_blocks() {
-    let mut sum = Sum::default();
-    (0..2).for_each(|round| images_of_more(round, &mut sum));
+    let mut rounds = Rounds::among(Stores::real);
+    (0..2).for_each(|round| rounds.images_of_more(round));
+    let sum = rounds.sum;
     seen_images(&sum);
     seen_faults(&sum, 2);
     for block in 3..16 {

@@ -60,7 +60,7 @@ fn idle(block: u8, end: u16) -> Head {
 }
 
 fn pending(block: u8, end: u16, pending: [u16; 4]) -> Head {
-    Head::Idle(Idle { length: 2 * S, block, end, blocks: 2, pending })
+    Head::Idle(Idle { length: 2 * S, block, end, blocks: 2, edition: 1, pending })
 }
 
 /// A block that begins with these bytes and is 0xFF after them.
@@ -251,7 +251,10 @@ fn o_value_limits() {
     assert_eq!(twin.ask(0, &message::put(9, &value)), Answer::MORE);
     assert_eq!(twin.finish(), done(248));
     let pending = [248, 0, 0, 0];
-    assert_eq!(twin.head(), Head::Idle(Idle { length: 1_024, block: 0, end: 264, blocks: 2, pending }));
+    assert_eq!(
+        twin.head(),
+        Head::Idle(Idle { length: 1_024, block: 0, end: 264, blocks: 2, edition: 1, pending })
+    );
     let frame = [&bytes("F8 00 01 00 00 09 00")[..], &value, &[0xFE]].concat();
     assert_eq!(twin.image()[16..264], frame);
 

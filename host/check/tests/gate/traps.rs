@@ -126,7 +126,10 @@ fn the_time_is_inverted() {
     older[5] = 0xFF;
     twin.load(&image);
     assert_eq!(twin.whole(&Call::Mount), done(1));
-    assert_eq!(twin.idle(), Some(Idle { length: LENGTH, block: 1, end: 16, blocks: 2, pending: [0; 4] }));
+    assert_eq!(
+        twin.idle(),
+        Some(Idle { length: LENGTH, block: 1, end: 16, blocks: 2, edition: 1, pending: [0; 4] })
+    );
 }
 
 #[test]
@@ -183,7 +186,7 @@ fn pending_changes_go_over_a_transfer() {
     let mut twin = before_a_transfer();
     assert_eq!(twin.serve(0, &message::put(1, &[2; 64])), done(71 + 72));
     let pending = [28 + 72, 0, 0, 13];
-    assert_eq!(twin.idle(), Some(Idle { length: LENGTH, block: 1, end: 148, blocks: 2, pending }));
+    assert_eq!(twin.idle(), Some(Idle { length: LENGTH, block: 1, end: 148, blocks: 2, edition: 1, pending }));
 
     let settled_7 = [&[0x0C, 0, 5, 0, 7, 0][..], b"seven", &[0xFE]].concat();
     let settled_9 = vec![0x07, 0, 5, 0, 9, 0, 0xFE];

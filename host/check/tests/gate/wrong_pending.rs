@@ -58,11 +58,12 @@ fn refusing(
     Answer::MORE
 }
 
-macro_rules! refusing {
-    ($full:expr) => {
+/// A store whose requests are `refusing` or `leaving` by this rule.
+macro_rules! requests {
+    ($ask:ident, $rule:expr) => {
         Altered {
             request: |image, blocks, record, host, message, reply| {
-                refusing($full, (image, blocks), record, (host, message), reply)
+                $ask($rule, (image, blocks), record, (host, message), reply)
             },
             ..RIGHT
         }
@@ -71,37 +72,37 @@ macro_rules! refusing {
 
 #[test]
 fn the_right_limit() {
-    run(refusing!(|Asked { own, frame, size, .. }| own + frame > size / 2), 2);
+    run(requests!(refusing, |Asked { own, frame, size, .. }| own + frame > size / 2), 2);
 }
 
 #[test]
 #[should_panic(expected = "failed: host ")]
 fn half_a_block_is_too_much() {
-    run(refusing!(|Asked { own, frame, size, .. }| own + frame >= size / 2), 2);
+    run(requests!(refusing, |Asked { own, frame, size, .. }| own + frame >= size / 2), 2);
 }
 
 #[test]
 #[should_panic(expected = "failed: host ")]
 fn all_hosts_together() {
-    run(refusing!(|Asked { all, frame, size, .. }| all + frame > size / 2), 2);
+    run(requests!(refusing, |Asked { all, frame, size, .. }| all + frame > size / 2), 2);
 }
 
 #[test]
 #[should_panic(expected = "failed: host ")]
 fn what_was_pending_before_alone() {
-    run(refusing!(|Asked { own, size, .. }| own > size / 2), 2);
+    run(requests!(refusing, |Asked { own, size, .. }| own > size / 2), 2);
 }
 
 #[test]
 #[should_panic(expected = "failed: host ")]
 fn a_frame_without_its_head() {
-    run(refusing!(|Asked { own, frame, size, .. }| own + frame - 8 > size / 2), 2);
+    run(requests!(refusing, |Asked { own, frame, size, .. }| own + frame - 8 > size / 2), 2);
 }
 
 #[test]
 #[should_panic(expected = "failed: host ")]
 fn half_of_the_image() {
-    run(refusing!(|Asked { own, frame, size, .. }| own + frame > size), 2);
+    run(requests!(refusing, |Asked { own, frame, size, .. }| own + frame > size), 2);
 }
 
 /// 7 where both apply.
@@ -135,22 +136,11 @@ fn leaving(
     answer
 }
 
-macro_rules! leaving {
-    ($other:expr) => {
-        Altered {
-            request: |image, blocks, record, host, message, reply| {
-                leaving($other, (image, blocks), record, (host, message), reply)
-            },
-            ..RIGHT
-        }
-    };
-}
-
 #[test]
 #[should_panic(expected = "the record's pending bytes are not the book's")]
 fn an_abort_that_keeps_the_count() {
     run(
-        leaving!(|before, after, _, message| {
+        requests!(leaving, |before, after, _, message| {
             if message == message::abort() { before.pending } else { after.pending }
         }),
         2,
@@ -161,7 +151,7 @@ fn an_abort_that_keeps_the_count() {
 #[should_panic(expected = "the record's pending bytes are not the book's")]
 fn a_transfer_that_clears_the_counts() {
     run(
-        leaving!(|before, after, host, _| {
+        requests!(leaving, |before, after, host, _| {
             let mut pending = after.pending;
             for other in (0..4).filter(|other| *other != usize::from(host) && before.block != after.block) {
                 pending[other] = 0;
@@ -175,7 +165,12 @@ fn a_transfer_that_clears_the_counts() {
 #[test]
 #[should_panic(expected = "the record's pending bytes are not the book's")]
 fn a_commit_that_clears_all_counts() {
-    run(leaving!(|_, after, _, message| if message == message::commit() { [0; 4] } else { after.pending }), 2);
+    run(
+        requests!(leaving, |_, after, _, message| {
+            if message == message::commit() { [0; 4] } else { after.pending }
+        }),
+        2,
+    );
 }
 
 /// A mount that drops the changes and says that they are pending still.

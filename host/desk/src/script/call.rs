@@ -40,7 +40,7 @@ impl<S: Store> Call<S> {
         Call { name: "log", takes: "HOST", make: log },
         Call { name: "dump", takes: "", make: dump },
         Call { name: "record", takes: "", make: record },
-        Call { name: "idle", takes: "LEN HALF END [blocks=BLOCKS] [pending=A,B,C,D]", make: idle },
+        Call { name: "idle", takes: "LEN HALF END [blocks=BLOCKS] [edition=E] [pending=A,B,C,D]", make: idle },
         Call { name: "unmount", takes: "", make: unmount },
         Call { name: "poke", takes: "OFFSET HEX", make: poke },
     ];
@@ -191,20 +191,23 @@ fn dump<S: Store>(board: &mut Board<S>, _: &[Word]) -> Made {
 fn record<S: Store>(board: &mut Board<S>, _: &[Word]) -> Made {
     Ok(Back::Plain(match board.head() {
         Head::Unmounted => "unmounted".to_string(),
-        Head::Idle(Idle { length, block, end, blocks, pending: [a, b, c, d] }) => {
-            format!("idle len={length} half={block} end={end} blocks={blocks} pending={a},{b},{c},{d}")
+        Head::Idle(Idle { length, block, end, blocks, edition, pending: [a, b, c, d] }) => {
+            let head = format!("idle len={length} half={block} end={end}");
+            format!("{head} blocks={blocks} edition={edition} pending={a},{b},{c},{d}")
         }
         Head::Job => "job".to_string(),
     }))
 }
 
-/// Fields that are not given are as after a format of this board: its number of blocks, nothing pending.
+/// Fields that are not given are as after a format of this board: its number of blocks, edition 1, nothing pending.
 fn idle<S: Store>(board: &mut Board<S>, words: &[Word]) -> Made {
     let (length, block, end) = (words[0].number(1, 65_536)?, words[1].byte()?, words[2].short()?);
-    let (mut blocks, mut pending) = (None, None);
+    let (mut blocks, mut edition, mut pending) = (None, None, None);
     for word in &words[3..] {
         let again = if let Some(number) = word.field("blocks") {
             blocks.replace(number.byte()?).is_some()
+        } else if let Some(number) = word.field("edition") {
+            edition.replace(number.number(1, 2)? as u8).is_some()
         } else if let Some(numbers) = word.field("pending") {
             pending.replace(numbers.four()?).is_some()
         } else {
@@ -214,8 +217,9 @@ fn idle<S: Store>(board: &mut Board<S>, words: &[Word]) -> Made {
             return Err(format!("{} is there twice", word.said()));
         }
     }
-    let (blocks, pending) = (blocks.unwrap_or(board.blocks), pending.unwrap_or_default());
-    board.record = board.store.idle(Idle { length, block, end, blocks, pending });
+    let (blocks, edition) = (blocks.unwrap_or(board.blocks), edition.unwrap_or(1));
+    let pending = pending.unwrap_or_default();
+    board.record = board.store.idle(Idle { length, block, end, blocks, edition, pending });
     Ok(Back::Ok)
 }
 

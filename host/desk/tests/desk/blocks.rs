@@ -27,7 +27,7 @@ fn three_blocks() {
         ("new 768 3", "ok"),
         ("format", "more"),
         ("run", "0 steps=13"),
-        ("record", "idle len=768 half=0 end=16 blocks=3 pending=0,0,0,0"),
+        ("record", "idle len=768 half=0 end=16 blocks=3 edition=1 pending=0,0,0,0"),
         ("req 0 0800010105004142 0", "more"),
         ("step 3", "more"),
         ("blocks 2", "ok"),
@@ -35,7 +35,7 @@ fn three_blocks() {
         ("blocks 3", "ok"),
         ("mount", "more"),
         ("run", "0 steps=11"),
-        ("record", "idle len=768 half=1 end=16 blocks=3 pending=0,0,0,0"),
+        ("record", "idle len=768 half=1 end=16 blocks=3 edition=1 pending=0,0,0,0"),
         ("poke 512 1000014afefffffffc", "ok"),
         ("mount", "more"),
         ("poke 512 1000014afdfffffffc", "ok"),
@@ -112,12 +112,12 @@ fn lengths_and_numbers() {
     check(&[("new 512", "ok"), ("format", "more"), ("run", "0 steps=12")]);
     for blocks in 2..=16 {
         let (new, steps) = (format!("new {} {blocks}", 384 * blocks), format!("0 steps={}", blocks + 10));
-        let record = format!("idle len={} half=0 end=16 blocks={blocks} pending=0,0,0,0", 384 * blocks);
+        let record = format!("idle len={} half=0 end=16 blocks={blocks} edition=1 pending=0,0,0,0", 384 * blocks);
         check(&[(&new, "ok"), ("format", "more"), ("run", &steps), ("record", &record)]);
     }
 }
 
-const GOES_WITH: &str = "? idle goes with LEN HALF END [blocks=BLOCKS] [pending=A,B,C,D]";
+const GOES_WITH: &str = "? idle goes with LEN HALF END [blocks=BLOCKS] [edition=E] [pending=A,B,C,D]";
 
 #[test]
 fn numbers_and_fields_that_cannot_be_read() {
@@ -137,17 +137,20 @@ fn numbers_and_fields_that_cannot_be_read() {
         ("idle 512 0 16 blocks", "? blocks is no field of a record"),
         ("idle 512 0 16 \"blocks=2\"", "? \"blocks=2\" is no field of a record"),
         ("idle 512 0 16 2", "? 2 is no field of a record"),
-        ("idle 512 0 16 edition=1", "? edition=1 is no field of a record"),
+        ("idle 512 0 16 edition=0", "? 0 is less than 1"),
+        ("idle 512 0 16 edition=3", "? 3 is more than 2"),
+        ("idle 512 0 16 edition=", "? edition= is no field of a record"),
+        ("idle 512 0 16 edition=1 edition=2", "? edition=2 is there twice"),
         ("idle 512 0 16 blocks=2 blocks=2", "? blocks=2 is there twice"),
         ("idle 512 0 16 pending=0,0,0,0 pending=0,0,0,0", "? pending=0,0,0,0 is there twice"),
-        ("idle 512 0 16 blocks=2 pending=0,0,0,0 blocks=2", GOES_WITH),
+        ("idle 512 0 16 blocks=2 pending=0,0,0,0 edition=1 blocks=2", GOES_WITH),
         ("idle 512 0 16 pending=", "? pending= is no field of a record"),
         ("idle 512 0 16 pending=0", "? 0 is not four numbers with commas between them"),
         ("idle 512 0 16 pending=0,0,0", "? 0,0,0 is not four numbers with commas between them"),
         ("idle 512 0 16 pending=0,0,0,0,0", "? 0,0,0,0,0 is not four numbers with commas between them"),
         ("idle 512 0 16 pending=0,0,65536,0", "? 65536 is more than 65535"),
         ("idle 512 0 16 pending=0,0,-1,0", "? -1 is no number"),
-        ("record", "idle len=1024 half=0 end=16 blocks=4 pending=0,0,0,0"),
+        ("record", "idle len=1024 half=0 end=16 blocks=4 edition=1 pending=0,0,0,0"),
         ("put 0 1 -", "more"),
     ]);
 }
@@ -160,30 +163,30 @@ fn records_there_and_back() {
         ("format", "more"),
         ("run", "0 steps=14"),
         ("idle 1024 3 99 blocks=0", "ok"),
-        ("record", "idle len=1024 half=3 end=99 blocks=0 pending=0,0,0,0"),
+        ("record", "idle len=1024 half=3 end=99 blocks=0 edition=1 pending=0,0,0,0"),
         ("req 0 04000301 0", "11"),
         ("idle 1024 0 16 blocks=255", "ok"),
-        ("record", "idle len=1024 half=0 end=16 blocks=255 pending=0,0,0,0"),
+        ("record", "idle len=1024 half=0 end=16 blocks=255 edition=1 pending=0,0,0,0"),
         ("idle 1024 0 16", "ok"),
-        ("record", "idle len=1024 half=0 end=16 blocks=4 pending=0,0,0,0"),
+        ("record", "idle len=1024 half=0 end=16 blocks=4 edition=1 pending=0,0,0,0"),
         ("req 0 04000301 0", "0"),
         ("blocks 2", "ok"),
-        ("record", "idle len=1024 half=0 end=16 blocks=4 pending=0,0,0,0"),
+        ("record", "idle len=1024 half=0 end=16 blocks=4 edition=1 pending=0,0,0,0"),
         ("idle 1024 0 16", "ok"),
-        ("record", "idle len=1024 half=0 end=16 blocks=2 pending=0,0,0,0"),
+        ("record", "idle len=1024 half=0 end=16 blocks=2 edition=1 pending=0,0,0,0"),
         // Blocks 2 and 3 are one half now, and blank.
         ("req 0 04000301 0", "0"),
         // An image has two blocks if nothing else is said, whatever the one before had.
         ("blocks 4", "ok"),
         ("image ff", "ok"),
         ("idle 1 0 0", "ok"),
-        ("record", "idle len=1 half=0 end=0 blocks=2 pending=0,0,0,0"),
+        ("record", "idle len=1 half=0 end=0 blocks=2 edition=1 pending=0,0,0,0"),
         ("image ff 9", "ok"),
         ("idle 1 0 0", "ok"),
-        ("record", "idle len=1 half=0 end=0 blocks=9 pending=0,0,0,0"),
+        ("record", "idle len=1 half=0 end=0 blocks=9 edition=1 pending=0,0,0,0"),
         ("load /dev/null", "ok"),
         ("idle 1 0 0", "ok"),
-        ("record", "idle len=1 half=0 end=0 blocks=2 pending=0,0,0,0"),
+        ("record", "idle len=1 half=0 end=0 blocks=2 edition=1 pending=0,0,0,0"),
     ]);
 }
 
@@ -191,8 +194,8 @@ fn records_there_and_back() {
 #[test]
 fn transfers_go_round() {
     let mut lines = vec![("new 1024 4", "ok"), ("format", "more"), ("run", "0 steps=14")];
-    let records =
-        [1, 2, 3, 0, 1].map(|block| format!("idle len=1024 half={block} end=16 blocks=4 pending=0,0,0,0"));
+    let records = [1, 2, 3, 0, 1]
+        .map(|block| format!("idle len=1024 half={block} end=16 blocks=4 edition=1 pending=0,0,0,0"));
     for record in &records {
         // A put that is not committed: the mount moves what is settled, nothing.
         lines.extend([("put 2 5 \"AB\"", "more"), ("run", "0 steps=10"), ("mount", "more")]);
@@ -225,7 +228,7 @@ fn power_lost_inside_the_erases_of_a_mount() {
         ("mount", "more"),
         ("run", "0 steps=2"),
         ("cut-erase ff", &format!("? {NO_ERASE}")),
-        ("record", "idle len=1024 half=1 end=16 blocks=4 pending=0,0,0,0"),
+        ("record", "idle len=1024 half=1 end=16 blocks=4 edition=1 pending=0,0,0,0"),
     ]);
 }
 
@@ -240,10 +243,10 @@ fn the_order_of_a_formats_erases() {
         ("step 3", "more"),
         ("dump", &left),
         ("mount", "0"),
-        ("record", "idle len=1024 half=2 end=16 blocks=4 pending=0,0,0,0"),
+        ("record", "idle len=1024 half=2 end=16 blocks=4 edition=1 pending=0,0,0,0"),
         ("format", "more"),
         ("run", "0 steps=14"),
-        ("record", "idle len=1024 half=0 end=16 blocks=4 pending=0,0,0,0"),
+        ("record", "idle len=1024 half=0 end=16 blocks=4 edition=1 pending=0,0,0,0"),
     ]);
 }
 
@@ -269,12 +272,12 @@ block 0: foreign: power was lost while it was being erased, or it is damaged
       0  ?{}
      64  192 bytes blank
 
-block 1, current: valid, time 2
+block 1, current: valid, edition 1, time 2
   2 frames up to byte 288, the rest is blank
     256  HHHHHHHHHHHHHHHHSSSSSSSSSSCCCCCC................................
     320  192 bytes blank
 
-block 2, older: valid, time 1
+block 2, older: valid, edition 1, time 1
   no frames up to byte 528, the rest is blank
     512  HHHHHHHHHHHHHHHH................................................
     576  192 bytes blank
@@ -321,7 +324,7 @@ It erases the foreign blocks.\nBlock 2 is then current.\n";
     // The newest block's objects are listed, also where two others have equal times.
     let (_, report) = show("--blocks=3", &image_of(256, [old, &format!("{newer}{PUT}{COMMIT}"), old]));
     assert!(
-        report.contains("block 1: valid, time 2\n") && report.contains("Settled in block 1: 1 object;"),
+        report.contains("block 1: valid, edition 1, time 2\n") && report.contains("Settled in block 1: 1 object;"),
         "{report}"
     );
     assert_eq!(report.matches("Settled").count(), 1);
@@ -340,7 +343,7 @@ fn objects_of_every_block() {
         let row = format!("{}{}{}{}", "H".repeat(16), "S".repeat(10), "C".repeat(6), ".".repeat(32));
         for expected in [
             format!(
-                "\nblock {block}, current: valid, time 1\n  2 frames up to byte {}, the rest is blank\n",
+                "\nblock {block}, current: valid, edition 1, time 1\n  2 frames up to byte {}, the rest is blank\n",
                 base + 32
             ),
             format!("\n  {base:>5}  {row}\n"),
@@ -374,7 +377,7 @@ multiple of 128 from 256 up, and 65,536 bytes at most.\n";
     image[61_440..61_456].copy_from_slice(&super::unhex(HEADER));
     let (status, report) = show("--blocks=16", &image);
     assert!(status == 0 && report.contains("65,536 bytes, 16 blocks of 4,096\n"), "{report}");
-    assert!(report.contains("block 15, current: valid, time 1\n"), "{report}");
+    assert!(report.contains("block 15, current: valid, edition 1, time 1\n"), "{report}");
     for (option, why) in [
         ("--blocks=", "--blocks= goes with a number from 0 to 255, not \n"),
         ("--blocks=256", "--blocks= goes with a number from 0 to 255, not 256\n"),

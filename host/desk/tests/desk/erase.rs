@@ -20,7 +20,7 @@ fn a_transfer_and_a_mount() {
         ("cut-erase -", "ok"),
         ("mount", "more"),
         ("run", "0 steps=1"),
-        ("record", "idle len=512 half=1 end=16 blocks=2 pending=0,0,0,0"),
+        ("record", "idle len=512 half=1 end=16 blocks=2 edition=1 pending=0,0,0,0"),
         ("cut-erase ff", "? line 15: the next step is no erase"),
     ];
     check(&[&FORMATTED[..], &calls].concat());
@@ -38,7 +38,7 @@ fn a_format() {
         ("step", "more"),
         ("cut-erase 00", "ok"),
         ("mount", "0"),
-        ("record", "idle len=512 half=1 end=16 blocks=2 pending=0,0,0,0"),
+        ("record", "idle len=512 half=1 end=16 blocks=2 edition=1 pending=0,0,0,0"),
     ];
     check(&[&FORMATTED[..], &calls].concat());
 }
@@ -72,7 +72,7 @@ fn masks_of_any_length() {
             ("mount", "more"),
             ("run", "0 steps=1"),
             ("get 0 5", "0 value=4142"),
-            ("record", "idle len=768 half=0 end=25 blocks=2 pending=0,0,0,0"),
+            ("record", "idle len=768 half=0 end=25 blocks=2 edition=1 pending=0,0,0,0"),
         ]);
     }
 }
@@ -100,7 +100,7 @@ fn no_erase_comes_next() {
         ("record", "job"),
         ("cut-erase ff", "ok"),
         ("mount", "0"),
-        ("record", "idle len=512 half=1 end=16 blocks=2 pending=0,0,0,0"),
+        ("record", "idle len=512 half=1 end=16 blocks=2 edition=1 pending=0,0,0,0"),
     ];
     let mut lines: Vec<(String, String)> = Vec::new();
     for (line, answer) in FORMATTED.into_iter().chain(calls) {
@@ -147,7 +147,7 @@ fn a_put_with_a_transfer() {
         ("run", "0 steps=72"),
         ("commit 0", "more"),
         ("run", "0 steps=6"),
-        ("record", "idle len=512 half=0 end=172 blocks=2 pending=0,0,0,0"),
+        ("record", "idle len=512 half=0 end=172 blocks=2 edition=1 pending=0,0,0,0"),
         ("put 3 9 -", "more"),
         ("run", "0 steps=8"),
         ("abort 3", "more"),

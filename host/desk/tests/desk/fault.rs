@@ -24,7 +24,7 @@ fn what_mount_says_of_a_poked_image() {
         ("poke 260 fd", "ok"),
         ("mount", "more"),
         ("run", "0 steps=1"),
-        ("record", "idle len=512 half=1 end=16 blocks=2 pending=0,0,0,0"),
+        ("record", "idle len=512 half=1 end=16 blocks=2 edition=1 pending=0,0,0,0"),
     ]);
 }
 
@@ -56,7 +56,7 @@ fn broken() -> Vec<(String, &'static str, &'static str)> {
     let header = |bytes: &str| format!("{bytes}{}", &HEADER[bytes.len()..]);
     vec![
         (header("11"), "length place=0", "the header's length at byte 0 is not 16"),
-        (header("1000024a"), "kind place=2", "the header's kind at byte 2 is not 0x4A01"),
+        (header("1000034a"), "kind place=2", "the header's kind at byte 2 is not 0x4A01 or 0x4A02"),
         (header("1000014affffffff00"), "time place=4", "the time at byte 4 was never programmed"),
         (header("1000014afefffffffd"), "state place=8", "the state at byte 8 is not 0xFC, valid data"),
         (format!("{}fe", &HEADER[..30]), "rest place=9", "the rest of the header at byte 9 is not all 0xFF"),

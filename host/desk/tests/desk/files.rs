@@ -19,7 +19,7 @@ fn saved_byte_for_byte_and_loaded_again() {
         ("commit 2", "more"),
         ("run", "0 steps=6"),
         (&save, "ok"),
-        ("record", "idle len=512 half=0 end=32 blocks=2 pending=0,0,0,0"),
+        ("record", "idle len=512 half=0 end=32 blocks=2 edition=1 pending=0,0,0,0"),
         (&load_spaces, "ok"),
         ("record", "unmounted"),
         ("mount", "more"),
@@ -80,7 +80,7 @@ fn files_that_cannot_be_had_change_nothing() {
         ("load", "? line 12: load goes with FILE [BLOCKS]"),
         ("save a b", "? line 13: save goes with FILE"),
         ("load \"a\u{1b}\"", "? line 14: \"a\\u{1b}\": no such file or directory"),
-        ("record", "idle len=512 half=0 end=16 blocks=2 pending=0,0,0,0"),
+        ("record", "idle len=512 half=0 end=16 blocks=2 edition=1 pending=0,0,0,0"),
         ("put 0 1 -", "more"),
     ]);
 }

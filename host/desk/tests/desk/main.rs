@@ -2,6 +2,7 @@
 
 mod blocks;
 mod demo;
+mod editions;
 mod erase;
 mod fault;
 mod files;

@@ -25,7 +25,7 @@ fn rows_a_to_h() {
         ("req 2 04000301 0", "more"),
         ("run", "0 steps=6"),
         ("dump", &image(&format!("{header}{put}0600030002fe"))),
-        ("record", "idle len=512 half=0 end=32 blocks=2 pending=0,0,0,0"),
+        ("record", "idle len=512 half=0 end=32 blocks=2 edition=1 pending=0,0,0,0"),
         ("read 1 060005010500", "0 at=23 len=2"),
         ("req 1 0500060101 14", "0 reply=0e00010201000000010019000001"),
         ("mount", "0"),
@@ -35,7 +35,7 @@ fn rows_a_to_h() {
         ("mount", "more"),
         ("run", "0 steps=11"),
         ("read 1 060005010500", "8"),
-        ("record", "idle len=512 half=1 end=16 blocks=2 pending=0,0,0,0"),
+        ("record", "idle len=512 half=1 end=16 blocks=2 edition=1 pending=0,0,0,0"),
         (&image(&format!("{header}{put}0600030002")).replace('=', " "), "ok"),
         ("mount", "more"),
         ("run", "0 steps=11"),
@@ -53,26 +53,28 @@ fn rows_i_to_m() {
         (&first[..], "more"),
         ("run", "0 steps=72"),
         (&second, "12"),
-        ("record", "idle len=512 half=0 end=88 blocks=2 pending=72,0,0,0"),
+        ("record", "idle len=512 half=0 end=88 blocks=2 edition=1 pending=72,0,0,0"),
     ];
     let [second, third] = [&second, &third].map(|put| [(&put[..], "more"), ("run", "0 steps=72")]);
     let delete = [
-        ("record", "idle len=512 half=0 end=250 blocks=2 pending=0,0,0,0"),
+        ("record", "idle len=512 half=0 end=250 blocks=2 edition=1 pending=0,0,0,0"),
         ("req 0 060001010400 0", "7"),
         ("req 0 04000301 0", "0"),
         ("req 0 060001010400 0", "7"),
         ("req 0 060002010100 0", "more"),
     ];
     let before = [&formatted[..], &full, &commit, &second, &commit, &third, &commit, &delete].concat();
-    let deleted = [("run", "0 steps=232"), ("record", "idle len=512 half=1 end=237 blocks=2 pending=8,0,0,0")];
+    let deleted =
+        [("run", "0 steps=232"), ("record", "idle len=512 half=1 end=237 blocks=2 edition=1 pending=8,0,0,0")];
     let put = [
         ("req 0 060001010400 0", "more"),
         ("run", "0 steps=8"),
-        ("record", "idle len=512 half=1 end=251 blocks=2 pending=8,0,0,0"),
+        ("record", "idle len=512 half=1 end=251 blocks=2 edition=1 pending=8,0,0,0"),
     ];
     check(&[&before[..], &deleted, &commit, &put].concat());
-    let old = ("step 222", "idle len=512 half=0 end=250 blocks=2 pending=0,0,0,0", ["23", "101", "179"]);
-    let new = ("step 223", "idle len=512 half=1 end=229 blocks=2 pending=0,0,0,0", ["278", "349", "420"]);
+    let old = ("step 222", "idle len=512 half=0 end=250 blocks=2 edition=1 pending=0,0,0,0", ["23", "101", "179"]);
+    let new =
+        ("step 223", "idle len=512 half=1 end=229 blocks=2 edition=1 pending=0,0,0,0", ["278", "349", "420"]);
     for (cut, record, places) in [old, new] {
         let mount = [(cut, "more"), ("mount", "more"), ("run", "0 steps=1"), ("record", record)];
         let [one, two, three] = places.map(|place| format!("0 at={place} len=64"));
@@ -93,7 +95,7 @@ fn a_host_that_is_full() {
         ("run", "0 steps=12"),
         (&put_2, "more"),
         ("run", "0 steps=72"),
-        ("record", "idle len=512 half=0 end=88 blocks=2 pending=0,0,72,0"),
+        ("record", "idle len=512 half=0 end=88 blocks=2 edition=1 pending=0,0,72,0"),
         (&put_2, "12"),
         (&put_1, "more"),
         ("idle 512 0 88 pending=0,0,71,0", "ok"),
@@ -103,7 +105,7 @@ fn a_host_that_is_full() {
     ]);
 }
 
-/// Without the field nothing is pending, whatever the image holds; blocks= and pending= in any order.
+/// Without the field nothing is pending, whatever the image holds; the fields in any order.
 #[test]
 fn records_with_and_without_pending() {
     check(&[
@@ -116,24 +118,27 @@ fn records_with_and_without_pending() {
         ("req 1 060002010500 0", "more"),
         ("record", "job"),
         ("run", "0 steps=8"),
-        ("record", "idle len=512 half=0 end=24 blocks=2 pending=0,8,0,0"),
+        ("record", "idle len=512 half=0 end=24 blocks=2 edition=1 pending=0,8,0,0"),
         ("idle 512 0 24", "ok"),
-        ("record", "idle len=512 half=0 end=24 blocks=2 pending=0,0,0,0"),
+        ("record", "idle len=512 half=0 end=24 blocks=2 edition=1 pending=0,0,0,0"),
         ("req 1 04000301 0", "11"),
         ("read 1 060005010500", "11"),
         ("idle 512 0 24 pending=0,8,0,0 blocks=2", "ok"),
         ("read 1 060005010500", "8"),
         ("idle 512 0 24 blocks=3 pending=65535,0,00001,65534", "ok"),
-        ("record", "idle len=512 half=0 end=24 blocks=3 pending=65535,0,1,65534"),
-        ("idle 512 0 24 blocks=2 pending=0,8,0,0", "ok"),
+        ("record", "idle len=512 half=0 end=24 blocks=3 edition=1 pending=65535,0,1,65534"),
+        ("idle 512 0 24 edition=2 pending=0,8,0,0 blocks=2", "ok"),
+        ("record", "idle len=512 half=0 end=24 blocks=2 edition=2 pending=0,8,0,0"),
+        ("req 1 04000301 0", "11"),
+        ("idle 512 0 24 pending=0,8,0,0 edition=1", "ok"),
         ("req 1 04000301 0", "more"),
         ("run", "0 steps=6"),
-        ("record", "idle len=512 half=0 end=30 blocks=2 pending=0,0,0,0"),
+        ("record", "idle len=512 half=0 end=30 blocks=2 edition=1 pending=0,0,0,0"),
         ("put 3 1 -", "more"),
         ("run", "0 steps=8"),
         ("mount", "more"),
         ("run", "0 steps=11"),
-        ("record", "idle len=512 half=1 end=16 blocks=2 pending=0,0,0,0"),
+        ("record", "idle len=512 half=1 end=16 blocks=2 edition=1 pending=0,0,0,0"),
     ]);
 }
 
@@ -224,9 +229,9 @@ fn lines_that_cannot_be_read() {
         ("poke 18446744073709551615 00", "? line 14: the image has only 0 bytes"),
         ("idle 0 0 0", "? line 15: 0 is less than 1"),
         ("idle 65536 255 65535", "ok"),
-        ("record", "idle len=65536 half=255 end=65535 blocks=2 pending=0,0,0,0"),
+        ("record", "idle len=65536 half=255 end=65535 blocks=2 edition=1 pending=0,0,0,0"),
         ("idle 65537 0 0", "? line 18: 65537 is more than 65536"),
-        ("record", "idle len=65536 half=255 end=65535 blocks=2 pending=0,0,0,0"),
+        ("record", "idle len=65536 half=255 end=65535 blocks=2 edition=1 pending=0,0,0,0"),
         ("unmount", "ok"),
         ("record", "unmounted"),
     ]);
@@ -276,11 +281,9 @@ fn pokes_and_forged_records() {
 #[test]
 fn calls_and_fields_that_are_not_there_yet() {
     check(&[
-        ("idle 512 0 16 edition=1", "? line 1: edition=1 is no field of a record"),
-        ("idle 512 0 16 pending=0,0,0,0 edition=1", "? line 2: edition=1 is no field of a record"),
-        ("idle 512 0 16 place=5:16", "? line 3: place=5:16 is no field of a record"),
-        ("log-open", "? line 4: no call is named log-open"),
-        ("boot-read", "? line 5: no call is named boot-read"),
+        ("idle 512 0 16 place=5:16", "? line 1: place=5:16 is no field of a record"),
+        ("log-open", "? line 2: no call is named log-open"),
+        ("boot-read", "? line 3: no call is named boot-read"),
         ("dump", "image=-"),
         ("record", "unmounted"),
     ]);

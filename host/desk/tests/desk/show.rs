@@ -40,7 +40,7 @@ fn a_whole_report() {
         "{named}: 512 bytes, two halves of 256
 
 {LEGEND}
-half 0, current: valid, time 1
+half 0, current: valid, edition 1, time 1
   4 frames up to byte 49, the rest is blank
       0  HHHHHHHHHHHHHHHHSSSSSSSSSSCCCCCCPPPPPPPPPPPPPPPPP...............
      64  192 bytes blank
@@ -89,14 +89,16 @@ Settled in half 1";
 fn nothing_to_tidy_up() {
     let nothing = ["Settled in half 0: no objects; 16 of 256 bytes used\n\n", "Pending in half 0: no changes\n\n"];
     let mount = "mount answers 0, done, without a step.\nHalf 0 is then current.\n";
-    let state = "half 0, current: valid, time 1\n  no frames up to byte 16, the rest is blank\n";
+    let state = "half 0, current: valid, edition 1, time 1\n  no frames up to byte 16, the rest is blank\n";
     check([HEADER, ""], 0, &[state, nothing[0], nothing[1], mount]);
     let settled = format!("{HEADER}{PUT}{COMMIT}");
     check([&settled, ""], 0, &["2 frames up to byte 32, the rest is blank\n", "  \"AB\"\n", mount]);
     // A settled frame in half 1: places count from the image's start. The last time does no harm here.
     let second = format!("{LAST}0900050005004142fe");
-    let parts =
-        ["half 1, current: valid, time 4294967295\n  1 frame up to byte 281,", "    5    278      2  \"AB\"\n"];
+    let parts = [
+        "half 1, current: valid, edition 1, time 4294967295\n  1 frame up to byte 281,",
+        "    5    278      2  \"AB\"\n",
+    ];
     check(["", &second], 0, &[parts[0], parts[1], "without a step.\nHalf 1 is then current.\n"]);
 }
 
@@ -106,8 +108,11 @@ fn halves_beside_the_current_one() {
     let cut = "half 1: in progress: power was lost while it was being written\n    256  ........w.......";
     check([HEADER, "fffffffffffffffffe"], 0, &["half 0, current: valid", cut, one_step]);
     let old = format!("{HEADER}{PUT}{COMMIT}");
-    let parts =
-        ["half 0, current: valid, time 2\n", "half 1, older: valid, time 1\n", "Settled in half 0: no objects"];
+    let parts = [
+        "half 0, current: valid, edition 1, time 2\n",
+        "half 1, older: valid, edition 1, time 1\n",
+        "Settled in half 0: no objects",
+    ];
     check([SECOND, &old], 0, &[parts[0], parts[1], parts[2], one_step]);
     let (_, report) = show(&image_of(256, [SECOND, &old]));
     assert!(!report.contains("AB"), "{report}");
@@ -125,7 +130,7 @@ fn torn_frames() {
         ("08", "1 byte of a torn frame", "PPPPPPPPPPT..."),
     ] {
         let half = format!("{HEADER}{PUT}{torn}");
-        let state = format!("half 0, current: valid, time 1\n  1 frame up to byte 26, then {said}\n");
+        let state = format!("half 0, current: valid, edition 1, time 1\n  1 frame up to byte 26, then {said}\n");
         check(
             [&half, ""],
             0,
@@ -156,7 +161,7 @@ fn foreign_halves_and_equal_times() {
     let pending = format!("{HEADER}{PUT}");
     let parts = ["Settled in half 0: 1 object;", "Settled in half 1: no objects;", "  host 2  put 5 = \"AB\"\n"];
     let time = refused("half 0: the time at byte 4 is the other half's too");
-    check([&old, &pending], 1, &["half 1: valid, time 1\n", parts[0], parts[1], parts[2], &time]);
+    check([&old, &pending], 1, &["half 1: valid, edition 1, time 1\n", parts[0], parts[1], parts[2], &time]);
 }
 
 /// K4: what the valid half holds counts, and the foreign one is erased.
@@ -168,7 +173,7 @@ fn a_foreign_half_beside_a_valid_one() {
     let mount = "mount answers more (255 in C), and 0, done, after 1 step.
 Its first step erases the foreign half.\nHalf 0 is then current.\n";
     let object = "    5     23      2  \"AB\"\n";
-    check([&old, "00"], 0, &["half 0, current: valid, time 1\n", state, object, mount]);
+    check([&old, "00"], 0, &["half 0, current: valid, edition 1, time 1\n", state, object, mount]);
     // Row f with a foreign half 1: 1 + 11 steps.
     let mount = "mount answers more (255 in C), and 0, done, after 12 steps.
 Its first step erases the foreign half.\nHalf 1 is then current.\n";
@@ -180,7 +185,7 @@ fn worn_out() {
     let half = format!("{LAST}{PUT}{COMMIT}{PUT}");
     let refused = "mount answers 6, worn. A transfer is needed, and the time cannot rise.
 Only a format helps, and it loses all objects.\n";
-    let state = "half 0, current: valid, time 4294967295\n";
+    let state = "half 0, current: valid, edition 1, time 4294967295\n";
     check([&half, ""], 1, &[state, "    5     23      2  \"AB\"\n", "  host 2  put 5 = \"AB\"\n", refused]);
 }
 

@@ -110,8 +110,8 @@ const REFUSED: [(&str, &str, &str); 16] = [
     ("nothing", "? line 15: no call is named nothing", "? line 15: no call is named nothing"),
     (
         "record",
-        "idle len=512 half=0 end=16 blocks=2 pending=0,0,0,0",
-        "idle len=512 half=0 end=16 blocks=2 pending=0,0,0,0",
+        "idle len=512 half=0 end=16 blocks=2 edition=1 pending=0,0,0,0",
+        "idle len=512 half=0 end=16 blocks=2 edition=1 pending=0,0,0,0",
     ),
 ];
 
@@ -187,7 +187,8 @@ fn words_that_cannot_be_read() {
         lines.push((line.to_string(), format!("? line {}: {why}", lines.len() + 1)));
     }
     lines.push((most, "1".to_string()));
-    lines.push(("record".to_string(), "idle len=512 half=0 end=16 blocks=2 pending=0,0,0,0".to_string()));
+    lines
+        .push(("record".to_string(), "idle len=512 half=0 end=16 blocks=2 edition=1 pending=0,0,0,0".to_string()));
     check(&lines.iter().map(|(line, answer)| (&line[..], &answer[..])).collect::<Vec<_>>());
 }
 

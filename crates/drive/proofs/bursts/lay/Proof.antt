@@ -6,6 +6,7 @@ use native.Mathlib.Nat.{add-sub-cancel-left}
 use lib.ListN.{length, take, drop, length-take, length-drop}
 use denote.Ref.{now}
 use Rattle.flash.specs.Flash.{writes, writeAll}
+use Rattle.frame.specs.Frame.{bufferLen}
 use Rattle.drive.proofs.Telling.{lane-ends}
 use borrow.Author.Needs.{needs}
 use Rattle.drive.proofs.bursts.lay.Statement.{statement}
@@ -53,7 +54,7 @@ returns-2 c =
     let args′ = c .before .before .before .before .before .before .before .before .before .before .before .before .before .args in
     let h : 0 < burst-len′ .result = omega (arith, if1′ .left) in
     let s = burst-len′ .ensures .1 h in
-    let l : length (now (args′ .frame)) ≡ 248 = search needs in (
+    let l : length (now (args′ .frame)) ≡ bufferLen = search needs in (
       burst-len′ .ensures .0,
       λ z. s,
       λ z. (

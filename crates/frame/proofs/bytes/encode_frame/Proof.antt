@@ -4,50 +4,51 @@ use mathlib.Core.List.{List}
 use Prim.Native.Nat.{ℕ}
 use native.Mathlib.Omega.{arith}
 use lib.ListN.{length-take}
+use Rattle.frame.specs.declared.Head.{Head}
 use Rattle.frame.specs.Frame.{buffer, encode}
 use Rattle.frame.specs.Code.{frameOf}
-use Rattle.frame.specs.declared.Head.{Head}
 use borrow.Author.Needs.{needs}
 use Rattle.frame.proofs.bytes.encode_frame.Statement.{statement}
 use Rattle.frame.proofs.bytes.encode_frame.Tie as tie
 
-put-bytes-requires : tie.Need-put-bytes-requires
-put-bytes-requires c κs = rw (c .before .before .before .cut .ensures) (simp length-take (omega arith))
-
-settled-bytes-requires : tie.Need-settled-bytes-requires
-settled-bytes-requires c κs = rw (c .before .before .before .cut .ensures) (simp length-take (omega arith))
-
 returns : tie.Need-returns
 returns c =
     let cut′ = c .before .before .before .before .cut in
+    let args′ = c .before .before .before .before .before .before .args in
     c .put-bytes .ensures
-    ∙ ap₂ (λ (x : Head) (v : List ℕ). buffer (encode (frameOf x v))) (sym (c .before .before .head .given .1)) (cut′ .ensures)
+    ∙ ap₂ (λ (x : Head) (v : List ℕ). buffer (encode (args′ .edition) (frameOf x v))) (sym (c .before .before .head .given .1)) (cut′ .ensures)
 
 returns-2 : tie.Need-returns-2
 returns-2 c =
     let cut′ = c .before .before .before .before .cut in
+    let args′ = c .before .before .before .before .before .before .args in
     c .delete-bytes .ensures
-    ∙ ap₂ (λ (x : Head) (v : List ℕ). buffer (encode (frameOf x v))) (sym (c .before .before .head2 .given .1)) (cut′ .ensures)
+    ∙ ap₂ (λ (x : Head) (v : List ℕ). buffer (encode (args′ .edition) (frameOf x v))) (sym (c .before .before .head2 .given .1)) (cut′ .ensures)
 
 returns-3 : tie.Need-returns-3
 returns-3 c =
     let cut′ = c .before .before .before .before .cut in
+    let args′ = c .before .before .before .before .before .before .args in
     c .commit-bytes .ensures
-    ∙ ap₂ (λ (x : Head) (v : List ℕ). buffer (encode (frameOf x v))) (sym (c .before .before .head3 .given .1)) (cut′ .ensures)
+    ∙ ap₂ (λ (x : Head) (v : List ℕ). buffer (encode (args′ .edition) (frameOf x v))) (sym (c .before .before .head3 .given .1)) (cut′ .ensures)
 
 returns-4 : tie.Need-returns-4
 returns-4 c =
     let cut′ = c .before .before .before .before .cut in
+    let args′ = c .before .before .before .before .before .before .args in
     c .abort-bytes .ensures
-    ∙ ap₂ (λ (x : Head) (v : List ℕ). buffer (encode (frameOf x v))) (sym (c .before .before .head4 .given .1)) (cut′ .ensures)
+    ∙ ap₂ (λ (x : Head) (v : List ℕ). buffer (encode (args′ .edition) (frameOf x v))) (sym (c .before .before .head4 .given .1)) (cut′ .ensures)
 
 returns-5 : tie.Need-returns-5
 returns-5 c =
     let cut′ = c .before .before .before .before .cut in
+    let args′ = c .before .before .before .before .before .before .args in
     c .settled-bytes .ensures
-    ∙ ap₂ (λ (x : Head) (v : List ℕ). buffer (encode (frameOf x v))) (sym (c .before .before .head5 .given .1)) (cut′ .ensures)
+    ∙ ap₂ (λ (x : Head) (v : List ℕ). buffer (encode (args′ .edition) (frameOf x v))) (sym (c .before .before .head5 .given .1)) (cut′ .ensures)
 
 pub encode-frame-spec : {M : Type 1} → statement M
 encode-frame-spec = tie.close (tie.spec
-    (λ c κs. search needs) (λ c. search needs) put-bytes-requires (λ c. search needs) (λ c κs. search needs) (λ c. search needs) (λ c κs. search needs)
-    (λ c. search needs) (λ c κs. search needs) (λ c. search needs) settled-bytes-requires returns returns-2 returns-3 returns-4 returns-5)
+    (λ c κs. search needs) (λ c. search needs) (λ c κs. rw (c .before .before .before .cut .ensures) (simp length-take (omega arith)))
+    (λ c. search needs) (λ c κs. search needs) (λ c. search needs) (λ c κs. search needs) (λ c. search needs) (λ c κs. search needs)
+    (λ c. search needs) (λ c κs. rw (c .before .before .before .cut .ensures) (simp length-take (omega arith))) returns returns-2 returns-3 returns-4
+    returns-5)

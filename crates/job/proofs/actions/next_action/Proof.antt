@@ -1,4 +1,8 @@
 -- The next flash step, stage by stage.
+use mathlib.Core.Path.{ap, _∙_}
+use Rattle.flash.specs.Flash.{writeStep}
+use Rattle.frame.specs.declared.Edition.{Edition}
+use Rattle.journal.specs.Block.{openWrite}
 use borrow.Author.Needs.{needs}
 use Rattle.job.proofs.actions.next_action.Statement.{statement}
 use Rattle.job.proofs.actions.next_action.Tie as tie
@@ -7,7 +11,10 @@ returns : tie.Need-returns
 returns c = rw (c .before .before .enum-told .given .1, c .wiped .ensures)
 
 returns-2 : tie.Need-returns-2
-returns-2 c = rw (c .before .enum-told2 .given .1) (c .open-action .ensures)
+returns-2 c =
+    let args′ = c .before .before .before .before .before .before .before .args in
+    rw (c .before .before .enum-told2 .given .1) (c .open-action .ensures
+    ∙ ap (λ (e : Edition). writeStep (args′ .n .job .target) (openWrite e (args′ .n .cursor .index))) (c .before .edition-by .ensures))
 
 returns-3 : tie.Need-returns-3
 returns-3 c = rw (c .before .enum-told3 .given .1)
@@ -23,6 +30,6 @@ returns-6 c = rw (c .before .before .enum-told6 .given .1)
 
 pub next-action-spec : {M : Type 1} → statement M
 next-action-spec = tie.close (tie.spec
-    (λ c. search needs) (λ c κs. search needs) returns (λ c. search needs) (λ c κs. search needs) returns-2 (λ c. search needs) (λ c. search needs) returns-3
-    (λ c. search needs) (λ c κs. search needs) returns-4 (λ c. search needs) returns-5 (λ c. search needs) (λ c. search needs) (λ c. search needs)
+    (λ c. search needs) (λ c κs. search needs) returns (λ c. search needs) (λ c κs. search needs) (λ c κs. search needs) returns-2 (λ c. search needs)
+    (λ c. search needs) returns-3 (λ c. search needs) (λ c κs. search needs) returns-4 (λ c. search needs) returns-5 (λ c. search needs) (λ c. search needs) (λ c. search needs)
     (λ c. search needs) returns-6)

@@ -13,8 +13,12 @@ returns c = rw (sym (c .before .takes-over .ensures) ∙ not-true (c .before .ta
 returns-2 : tie.Need-returns-2
 unfolding newer
 returns-2 c =
-    let takes-over′ = c .before .before .takes-over in
-    rw (sym (takes-over′ .ensures) ∙ not-false (takes-over′ .result) (c .before .if1 .left), c .needs-transfer .ensures)
+    let takes-over′ = c .before .before .before .takes-over in
+    rw (
+      sym (takes-over′ .ensures) ∙ not-false (takes-over′ .result) (c .before .before .if1 .left),
+      c .before .needs-transfer .ensures,
+      c .edition-number .ensures,
+    )
 
 pub newer-spec : {M : Type 1} → statement M
-newer-spec = tie.close (tie.spec (λ c κs. search needs) returns (λ c κs. search needs) returns-2)
+newer-spec = tie.close (tie.spec (λ c κs. search needs) returns (λ c κs. search needs) (λ c κs. search needs) returns-2)

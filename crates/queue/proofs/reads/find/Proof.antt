@@ -106,11 +106,11 @@ returns-3 c =
     (value-for′ .result) (value-for′ .ensures) (c .before .before .enum-told2 .given .1) _
     (c .nothing3 .ensures ∙ ap nothing (c .before .none-for .ensures))
 
-mul-t26 : tie.Need-mul-t26
-mul-t26 c = let k = inside (c .before .before) in omega arith
+mul-t27 : tie.Need-mul-t27
+mul-t27 c = let k = inside (c .before .before) in omega arith
 
-add-t27 : tie.Need-add-t27
-add-t27 c = let k = inside (c .before .before) in omega arith
+add-t28 : tie.Need-add-t28
+add-t28 c = let k = inside (c .before .before) in omega arith
 
 returns-4 : tie.Need-returns-4
 returns-4 c =
@@ -131,5 +131,5 @@ pub find-spec : {M : Type 1} → statement M
 find-spec = tie.close (tie.spec
     (λ c κs. search needs) (λ c. search needs) (λ c κs. search needs) returns (λ c. search needs) (λ c κs. search needs) (λ c κs. search needs)
     (λ c κs. search needs) (λ c κs. search needs) (λ c κs. search needs) (λ c. search needs) (λ c κs. search needs) returns-2 (λ c. search needs)
-    (λ c κs. search needs) (λ c. search needs) (λ c κs. search needs) (λ c κs. search needs) returns-3 (λ c. search needs) (λ c. search needs) mul-t26 add-t27
+    (λ c κs. search needs) (λ c. search needs) (λ c κs. search needs) (λ c κs. search needs) returns-3 (λ c. search needs) (λ c. search needs) mul-t27 add-t28
     (λ c. search needs) returns-4)

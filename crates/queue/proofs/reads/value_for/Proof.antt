@@ -12,10 +12,11 @@ returns : tie.Need-returns
 returns c =
     let ask′ = c .before .before .before .before .ask in
     let args′ = c .before .before .before .before .before .before .before .args in
-    rw (ask′ .given .1) (c .value-at .ensures ∙ ap (λ (p : ℕ). foundOf (valueAt (now (args′ .block)) (ask′ .given .0 .0) p))
+    rw (ask′ .given .1) (c .value-at .ensures ∙ ap (λ (p : ℕ). foundOf (valueAt (args′ .edition) (now (args′ .block)) (ask′ .given .0 .0) p))
     (c .before .place-of .ensures))
 
 pub value-for-spec : {M : Type 1} → statement M
 value-for-spec = tie.close (tie.spec
     (λ c. search needs) (λ c κs. search needs) (λ c κs. search needs) returns (λ c. search needs) (λ c. search needs) (λ c. search needs) (λ c. search needs)
-    (λ c. search needs) (λ c. search needs) (λ c. search needs) (λ c. search needs) (λ c. search needs) (λ c. search needs))
+    (λ c. search needs) (λ c. search needs) (λ c. search needs) (λ c. search needs) (λ c. search needs) (λ c. search needs) (λ c. search needs)
+    (λ c. search needs))

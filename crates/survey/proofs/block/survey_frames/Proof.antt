@@ -12,19 +12,21 @@ use Rattle.survey.proofs.block.survey_frames.Tie as tie
 returns : tie.Need-returns
 returns c =
     let walk′ = c .before .before .before .before .before .walk in
-    let args′ = c .before .before .before .before .before .before .before .before .args in
-    let pre′ = c .before .before .before .before .before .before .before .before .pre in
-    right-clean (now (args′ .block)) (pre′ .0) (walk′ .result) _ _ (walk′ .ensures .0) (walk′ .ensures .1)
+    let edition-in′ = c .before .before .before .before .before .before .before .edition-in in
+    let args′ = c .before .before .before .before .before .before .before .before .before .args in
+    let pre′ = c .before .before .before .before .before .before .before .before .before .pre in
+    right-clean (edition-in′ .result) (now (args′ .block)) (edition-in′ .ensures) (pre′ .0) (walk′ .result) _ _ (walk′ .ensures .0) (walk′ .ensures .1)
     (c .before .before .enum-told .given .1) (c .found .ensures)
 
 cast-found : tie.Need-cast-found
 cast-found c =
     let walk′ = c .before .before .before .before .before .walk in
-    let args′ = c .before .before .before .before .before .before .before .before .args in
-    let pre′ = c .before .before .before .before .before .before .before .before .pre in
+    let edition-in′ = c .before .before .before .before .before .before .before .edition-in in
+    let args′ = c .before .before .before .before .before .before .before .before .before .args in
+    let pre′ = c .before .before .before .before .before .before .before .before .before .pre in
     omega (
       arith,
-      cut-fits (now (args′ .block)) (pre′ .0) (walk′ .result) _ (emptySurvey kind.Blank) (walk′ .ensures .0)
+      cut-fits (edition-in′ .result) (now (args′ .block)) (edition-in′ .ensures) (pre′ .0) (walk′ .result) _ (emptySurvey kind.Blank) (walk′ .ensures .0)
           (walk′ .ensures .1) _ (c .before .before .tail .given .1),
       pre′,
     )
@@ -32,21 +34,25 @@ cast-found c =
 returns-2 : tie.Need-returns-2
 returns-2 c =
     let walk′ = c .before .before .before .before .before .before .walk in
-    let args′ = c .before .before .before .before .before .before .before .before .before .args in
-    let pre′ = c .before .before .before .before .before .before .before .before .before .pre in
-    right-cut (now (args′ .block)) (pre′ .0) (walk′ .result) _ _ (walk′ .ensures .0) (walk′ .ensures .1) _
+    let edition-in′ = c .before .before .before .before .before .before .before .before .edition-in in
+    let args′ = c .before .before .before .before .before .before .before .before .before .before .args in
+    let pre′ = c .before .before .before .before .before .before .before .before .before .before .pre in
+    right-cut (edition-in′ .result) (now (args′ .block)) (edition-in′ .ensures) (pre′ .0) (walk′ .result) _ _ (walk′ .ensures .0) (walk′ .ensures .1) _
     (c .before .before .before .tail .given .1) (c .found2 .ensures)
 
 returns-3 : tie.Need-returns-3
 returns-3 c =
     let tail2′ = c .before .before .before .before .tail2 in
     let walk′ = c .before .before .before .before .before .before .before .walk in
-    let args′ = c .before .before .before .before .before .before .before .before .before .before .args in
-    let pre′ = c .before .before .before .before .before .before .before .before .before .before .pre in
-    right-bad (now (args′ .block)) (pre′ .0) (walk′ .result) _ _ (walk′ .ensures .0) (walk′ .ensures .1) _ _ (tail2′ .given .1)
+    let edition-in′ = c .before .before .before .before .before .before .before .before .before .edition-in in
+    let args′ = c .before .before .before .before .before .before .before .before .before .before .before .args in
+    let pre′ = c .before .before .before .before .before .before .before .before .before .before .before .pre in
+    right-bad (edition-in′ .result) (now (args′ .block)) (edition-in′ .ensures) (pre′ .0) (walk′ .result) _ _ (walk′ .ensures .0) (walk′ .ensures .1) _ _
+    (tail2′ .given .1)
     (c .empty .ensures) (c .before .clear .ensures ∙ no-places-of _ (c .before .before .clear-arg .given .0 .1))
 
 pub survey-frames-spec : {M : Type 1} → statement M
 survey-frames-spec = tie.close (tie.spec
-    (λ c κs. search needs) (λ c. search needs) (λ c κs. search needs) returns (λ c. search needs) cast-found (λ c κs. search needs) returns-2
+    (λ c κs. search needs) (λ c κs. search needs) (λ c. search needs) (λ c κs. search needs) returns (λ c. search needs) cast-found (λ c κs. search needs)
+    returns-2
     (λ c. search needs) (λ c κs. search needs) (λ c κs. search needs) returns-3)

@@ -12,13 +12,13 @@ use Rattle.survey.proofs.block.walk.Statement.{statement}
 use Rattle.survey.proofs.block.walk.Tie as tie
 
 abbrev Inv-loop : tie.InvT-loop
-Inv-loop block places₀ p₀ places p = Reached block places p
+Inv-loop block edition places₀ p₀ places p = Reached edition block places p
 
 abbrev μ-loop : tie.MeasureT-loop
-μ-loop block places₀ p₀ places p = length block - p .end
+μ-loop block edition places₀ p₀ places p = length block - p .end
 
 loop-holds : tie.Need-loop-holds Inv-loop μ-loop
-loop-holds c = reached-none _ _ _ (c .before .before .pre .1) (c .begin .ensures)
+loop-holds c = reached-none _ _ _ _ (c .before .before .pre .1) (c .begin .ensures)
 
 take-frame-requires : tie.Need-take-frame-requires Inv-loop μ-loop
 take-frame-requires c κs =
@@ -26,10 +26,10 @@ take-frame-requires c κs =
     let loop′ = c .before .before .before .before .before .before .loop in
     let args′ = c .before .before .before .before .before .before .before .before .before .args in
     let pre′ = c .before .before .before .before .before .before .before .before .before .pre in (
-      read-inside (loop′ .p .next) (loop′ .p .end) (now (args′ .block)) _
+      read-inside (args′ .edition) (loop′ .p .next) (loop′ .p .end) (now (args′ .block)) _
           (sym (read-frame′ .ensures) ∙ c .before .before .head .given .1) .0,
       pre′ .0,
-      reached-pending (loop′ .inv),
+      reached-pending _ (loop′ .inv),
     )
 
 loop-less : tie.Need-loop-less Inv-loop μ-loop
@@ -39,8 +39,8 @@ loop-less c =
     let args′ = c .before .before .before .before .before .before .before .before .before .before .args in
     omega (
       arith,
-      taken-end _ _ _ (c .take-frame .ensures .0),
-      read-inside (loop′ .p .next) (loop′ .p .end) (now (args′ .block)) _
+      taken-end _ _ _ _ (c .take-frame .ensures .0),
+      read-inside (args′ .edition) (loop′ .p .next) (loop′ .p .end) (now (args′ .block)) _
           (sym (read-frame′ .ensures) ∙ c .before .before .before .head .given .1),
     )
 
@@ -48,21 +48,21 @@ loop-again : tie.Need-loop-again Inv-loop μ-loop
 loop-again c =
     let read-frame′ = c .before .before .before .before .before .read-frame in
     let loop′ = c .before .before .before .before .before .before .before .loop in
-    reached-more (loop′ .inv) _ _ _ (sym (read-frame′ .ensures) ∙ c .before .before .before .head .given .1) (c .take-frame .ensures .0)
+    reached-more _ (loop′ .inv) _ _ _ (sym (read-frame′ .ensures) ∙ c .before .before .before .head .given .1) (c .take-frame .ensures .0)
     (c .take-frame .ensures .1)
 
 returns : tie.Need-returns Inv-loop μ-loop
-returns c = ends-blank (c .before .before .before .before .loop .inv) (sym (c .before .before .read-frame .ensures) ∙ c .enum-told .given .1)
+returns c = ends-blank _ (c .before .before .before .before .loop .inv) (sym (c .before .before .read-frame .ensures) ∙ c .enum-told .given .1)
 
 returns-2 : tie.Need-returns-2 Inv-loop μ-loop
 returns-2 c =
     let loop′ = c .before .before .before .before .before .loop in
-    ends-torn (loop′ .inv) _ (sym (c .before .before .before .read-frame .ensures) ∙ c .before .n .given .1)
+    ends-torn _ (loop′ .inv) _ (sym (c .before .before .before .read-frame .ensures) ∙ c .before .n .given .1)
 
 returns-3 : tie.Need-returns-3 Inv-loop μ-loop
 returns-3 c =
     let loop′ = c .before .before .before .before .before .loop in
-    ends-wrong (loop′ .inv) _ (sym (c .before .before .before .read-frame .ensures) ∙ c .before .fault .given .1)
+    ends-wrong _ (loop′ .inv) _ (sym (c .before .before .before .read-frame .ensures) ∙ c .before .fault .given .1)
 
 pub walk-spec : {M : Type 1} → statement M
 walk-spec = tie.close (tie.spec

@@ -1,95 +1,64 @@
--- A commit: the frames from here on do what the frames from `since` on did.
-use mathlib.Core.Path.{_≡_, refl, sym, _∙_}
+-- A commit: the heads from here on do what the heads from `since` on did.
+use mathlib.Core.Path.{_≡_, refl, sym, ap, _∙_}
 use native.Mathlib.Omega.{arith}
-use Prim.Native.Nat.{_-_, _≤_}
+use Prim.Native.Nat.{_-_}
 use denote.Ref.{now}
 use lib.ListN.{length, drop}
 use borrow.Author.Needs.{needs}
-use Rattle.survey.proofs.HeadLaws.{commit-blank, commit-torn, commit-wrong, commit-on}
-use Rattle.frame.specs.Reader.{scan}
-use Rattle.survey.specs.Pass.{commitPlaces, recommit}
-use Rattle.fetch.proofs.FrameReads.{read-inside}
+use Rattle.frame.specs.Code.{headLen}
+use Rattle.survey.specs.Pass.{commitHeads, recommit}
+use Rattle.survey.proofs.Committing.{head-least, head-most, heads-on, heads-end}
 use Rattle.survey.proofs.pass.commit_own.Statement.{statement}
 use Rattle.survey.proofs.pass.commit_own.Tie as tie
 
 abbrev Inv-loop : tie.InvT-loop
-Inv-loop part host since places₀ at₀ next₀ places at next =
-    (commitPlaces host since at places (scan next at 0 (drop at part) .frames) ≡ recommit part host since places₀) × (since ≤ at)
+Inv-loop part edition host since places₀ at₀ places at = commitHeads edition host at 0 places (drop at part) ≡ recommit edition part host since places₀
 
 abbrev μ-loop : tie.MeasureT-loop
-μ-loop part host since places₀ at₀ next₀ places at next = length part - at
+μ-loop part edition host since places₀ at₀ places at = length part - at
 
 loop-holds : tie.Need-loop-holds Inv-loop μ-loop
 unfolding recommit
-loop-holds c = (refl, omega arith)
+loop-holds c = refl
 
 cast-place-own : tie.Need-cast-place-own Inv-loop μ-loop
-cast-place-own c =
-    let read-frame′ = c .before .before .before .before .read-frame in
-    let loop′ = c .before .before .before .before .before .loop in
-    let args′ = c .before .before .before .before .before .before .before .args in
-    let pre′ = c .before .before .before .before .before .before .before .pre in
-    omega (arith, read-inside (loop′ .next) (loop′ .at) (now (args′ .part)) _ (sym (read-frame′ .ensures) ∙ c .before .before .head .given .1), pre′)
+cast-place-own c = omega (arith, c .before .before .loop-test .taken, c .before .before .before .before .before .pre)
 
 add-at : tie.Need-add-at Inv-loop μ-loop
 add-at c =
-    let head′ = c .before .before .before .before .before .head in
-    let read-frame′ = c .before .before .before .before .before .before .before .read-frame in
-    let loop′ = c .before .before .before .before .before .before .before .before .loop in
-    let args′ = c .before .before .before .before .before .before .before .before .before .before .args in
-    let pre′ = c .before .before .before .before .before .before .before .before .before .before .pre in
-    omega (arith, read-inside (loop′ .next) (loop′ .at) (now (args′ .part)) _ (sym (read-frame′ .ensures) ∙ head′ .given .1), c .frame-len .ensures, pre′)
-
-loop-less : tie.Need-loop-less Inv-loop μ-loop
-unfolding recommit
-loop-less c =
-    let head′ = c .before .before .before .before .before .head in
-    let read-frame′ = c .before .before .before .before .before .before .before .read-frame in
-    let loop′ = c .before .before .before .before .before .before .before .before .loop in
-    let args′ = c .before .before .before .before .before .before .before .before .before .before .args in
-    omega (arith, read-inside (loop′ .next) (loop′ .at) (now (args′ .part)) _ (sym (read-frame′ .ensures) ∙ head′ .given .1), c .frame-len .ensures)
-
-loop-again : tie.Need-loop-again Inv-loop μ-loop
-unfolding recommit
-loop-again c =
-    let head′ = c .before .before .before .before .before .head in
-    let read-frame′ = c .before .before .before .before .before .before .before .read-frame in
-    let loop′ = c .before .before .before .before .before .before .before .before .loop in
-    let args′ = c .before .before .before .before .before .before .before .before .before .before .args in (
-      rw (c .before .before .place-own .ensures, c .before .next-after .ensures, c .frame-len .ensures)
-          (sym (commit-on (args′ .host) (args′ .since) (loop′ .next) (loop′ .at) (loop′ .places) (now (args′ .part)) _ (loop′ .inv .1)
-          (sym (read-frame′ .ensures) ∙ head′ .given .1)) ∙ loop′ .inv .0),
-      omega arith,
+    let loop-test′ = c .before .before .before .before .loop-test in
+    let loop′ = c .before .before .before .before .before .loop in
+    let known′ = c .before .before .before .before .before .before .shared-slice-known in
+    let args′ = c .before .before .before .before .before .before .before .args in
+    let pre′ = c .before .before .before .before .before .before .before .pre in
+    omega (
+      arith,
+      loop-test′ .taken,
+      pre′,
+      c .frame-len .ensures ∙ ap (headLen (args′ .edition)) (c .before .before .before .peek .ensures),
+      head-most (args′ .edition) (now (args′ .part)) (loop′ .at) (λ i. omega (arith, known′ .given i)),
     )
 
+loop-less : tie.Need-loop-less Inv-loop μ-loop
+loop-less c =
+    let loop-test′ = c .before .before .before .before .loop-test in
+    let args′ = c .before .before .before .before .before .before .before .args in
+    omega (arith, loop-test′ .taken, c .frame-len .ensures, head-least (args′ .edition) (c .before .before .before .peek .result))
+
+loop-again : tie.Need-loop-again Inv-loop μ-loop
+loop-again c =
+    let loop-test′ = c .before .before .before .before .loop-test in
+    let loop′ = c .before .before .before .before .before .loop in
+    let args′ = c .before .before .before .before .before .before .before .args in
+    rw (c .before .place-own .ensures, c .frame-len .ensures, c .before .before .before .peek .ensures)
+    (sym (heads-on (args′ .edition) (args′ .host) (loop′ .at) (loop′ .places) (now (args′ .part)) (loop-test′ .taken)) ∙ loop′ .inv)
+
 returns : tie.Need-returns Inv-loop μ-loop
-unfolding recommit
 returns c =
-    let loop′ = c .before .before .before .loop in
-    let args′ = c .before .before .before .before .before .args in
-    sym (commit-blank (args′ .host) (args′ .since) (loop′ .next) (loop′ .at) (loop′ .places) (now (args′ .part))
-    (sym (c .before .before .read-frame .ensures) ∙ c .enum-told .given .1))
-    ∙ loop′ .inv .0
-
-returns-2 : tie.Need-returns-2 Inv-loop μ-loop
-unfolding recommit
-returns-2 c =
-    let loop′ = c .before .before .before .loop in
-    let args′ = c .before .before .before .before .before .args in
-    sym (commit-torn (args′ .host) (args′ .since) (loop′ .next) (loop′ .at) (loop′ .places) (now (args′ .part)) _
-    (sym (c .before .before .read-frame .ensures) ∙ c .enum-told2 .given .1))
-    ∙ loop′ .inv .0
-
-returns-3 : tie.Need-returns-3 Inv-loop μ-loop
-unfolding recommit
-returns-3 c =
-    let loop′ = c .before .before .before .loop in
-    let args′ = c .before .before .before .before .before .args in
-    sym (commit-wrong (args′ .host) (args′ .since) (loop′ .next) (loop′ .at) (loop′ .places) (now (args′ .part)) _
-    (sym (c .before .before .read-frame .ensures) ∙ c .enum-told3 .given .1))
-    ∙ loop′ .inv .0
+    let loop′ = c .before .loop in
+    let args′ = c .before .before .before .args in
+    sym (heads-end (args′ .edition) (args′ .host) (loop′ .at) (loop′ .places) (now (args′ .part)) (c .loop-test .left)) ∙ loop′ .inv
 
 pub commit-own-spec : {M : Type 1} → statement M
 commit-own-spec = tie.close (tie.spec
-    Inv-loop μ-loop loop-holds (λ c κs. search needs) (λ c. search needs) cast-place-own (λ c κs. search needs) (λ c κs. search needs) (λ c κs. search needs)
-    add-at loop-less loop-again (λ c. search needs) returns (λ c. search needs) returns-2 (λ c. search needs) returns-3)
+    Inv-loop μ-loop loop-holds (λ c κs. search needs) cast-place-own (λ c κs. search needs) (λ c κs. search needs) add-at loop-less loop-again returns)

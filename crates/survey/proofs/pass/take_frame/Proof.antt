@@ -7,7 +7,7 @@ use lib.ListN.{take}
 use lib.ListN.{length-take}
 use lib.Seq.{length-take-le}
 use Rattle.frame.specs.Code.{headLen}
-use Rattle.survey.specs.Pass.{recommit, grown, passed, tookFrame, tookPlaces}
+use Rattle.survey.specs.Pass.{recommit, grown, closed, passed, tookFrame, tookPlaces}
 use borrow.Author.Needs.{needs}
 use Rattle.survey.proofs.pass.take_frame.Statement.{statement}
 use Rattle.survey.proofs.pass.take_frame.Tie as tie
@@ -36,44 +36,57 @@ commit-own-requires c κs =
 
 close-requires : tie.Need-close-requires
 close-requires c κs =
-    let head3′ = c .before .before .before .before .before .before .head3 in
+    let frame-len′ = c .before .before .before .before .before .before .before .before .frame-len in
     let pre′ = c .before .before .before .before .before .before .before .before .before .before .pre in
-    omega (arith, pre′, ap headLen (head3′ .given .1))
+    omega (arith, frame-len′ .ensures, pre′)
 
 close-requires-2 : tie.Need-close-requires-2
-close-requires-2 c κs = omega (arith, c .before .before .before .before .before .pre, ap headLen (c .before .head4 .given .1))
+close-requires-2 c κs = omega (arith, c .before .before .before .frame-len .ensures, c .before .before .before .before .before .pre)
 
 returns : tie.Need-returns
 unfolding tookFrame tookPlaces
 returns c =
     let head′ = c .before .before .head in
     let frame-len′ = c .before .before .before .before .frame-len in
-    let args′ = c .before .before .before .before .before .before .args in
-    (rw (head′ .given .1) (c .grow .ensures ∙ ap (grown (args′ .p) _) (frame-len′ .ensures ∙ ap headLen (head′ .given .1))), rw (head′ .given .1))
+    let args′ = c .before .before .before .before .before .before .args in (
+      rw (head′ .given .1) (c .grow .ensures
+          ∙ ap (grown (args′ .p) _) (frame-len′ .ensures ∙ ap (headLen (args′ .edition)) (head′ .given .1))),
+      rw (head′ .given .1),
+    )
 
 returns-2 : tie.Need-returns-2
 unfolding tookFrame tookPlaces
 returns-2 c =
     let head2′ = c .before .before .head2 in
     let frame-len′ = c .before .before .before .before .frame-len in
-    let args′ = c .before .before .before .before .before .before .args in
-    (rw (head2′ .given .1) (c .grow2 .ensures ∙ ap (grown (args′ .p) _) (frame-len′ .ensures ∙ ap headLen (head2′ .given .1))), rw (head2′ .given .1))
+    let args′ = c .before .before .before .before .before .before .args in (
+      rw (head2′ .given .1) (c .grow2 .ensures
+          ∙ ap (grown (args′ .p) _) (frame-len′ .ensures ∙ ap (headLen (args′ .edition)) (head2′ .given .1))),
+      rw (head2′ .given .1),
+    )
 
 returns-3 : tie.Need-returns-3
 unfolding tookFrame tookPlaces
 returns-3 c =
     let of-host′ = c .before .before .before .before .of-host in
     let head3′ = c .before .before .before .before .before .before .before .head3 in
+    let frame-len′ = c .before .before .before .before .before .before .before .before .before .frame-len in
     let args′ = c .before .before .before .before .before .before .before .before .before .before .before .args in (
-      rw (head3′ .given .1) (c .close .ensures),
+      rw (head3′ .given .1) (c .close .ensures ∙ ap (closed (args′ .p) _) (frame-len′ .ensures ∙ ap (headLen (args′ .edition)) (head3′ .given .1))),
       rw (head3′ .given .1)
-          (c .before .commit-own .ensures ∙ ap (λ (m : ℕ). recommit (take (args′ .p .end) (now (args′ .block))) (head3′ .given .0 .0) m
+          (c .before .commit-own .ensures ∙ ap (λ (m : ℕ). recommit (args′ .edition) (take (args′ .p .end) (now (args′ .block))) (head3′ .given .0 .0) m
           (now (args′ .places))) (of-host′ .ensures)),
     )
 
 returns-4 : tie.Need-returns-4
 unfolding tookFrame tookPlaces
-returns-4 c = (rw (c .before .before .head4 .given .1) (c .close2 .ensures), rw (c .before .before .head4 .given .1))
+returns-4 c =
+    let head4′ = c .before .before .head4 in
+    let frame-len′ = c .before .before .before .before .frame-len in
+    let args′ = c .before .before .before .before .before .before .args in (
+      rw (head4′ .given .1) (c .close2 .ensures ∙ ap (closed (args′ .p) _) (frame-len′ .ensures ∙ ap (headLen (args′ .edition)) (head4′ .given .1))),
+      rw (head4′ .given .1),
+    )
 
 returns-5 : tie.Need-returns-5
 unfolding tookFrame tookPlaces
@@ -81,7 +94,7 @@ returns-5 c =
     let head5′ = c .before .before .before .before .head5 in
     let frame-len′ = c .before .before .before .before .before .before .frame-len in
     let args′ = c .before .before .before .before .before .before .before .before .args in (
-      rw (head5′ .given .1) (c .settle .ensures ∙ ap (passed (args′ .p) _) (frame-len′ .ensures ∙ ap headLen (head5′ .given .1))),
+      rw (head5′ .given .1) (c .settle .ensures ∙ ap (passed (args′ .p) _) (frame-len′ .ensures ∙ ap (headLen (args′ .edition)) (head5′ .given .1))),
       rw (head5′ .given .1) (c .before .store .ensures),
     )
 

@@ -1,4 +1,4 @@
--- The fourteen bytes after it.
+-- The fifteen bytes after it.
 use Rattle.lent.specs.Layout.{recordIn}
 use borrow.Author.Needs.{needs}
 use Rattle.unpack.proofs.head.rest_of.Statement.{statement}
@@ -13,11 +13,13 @@ rest-of-spec = tie.close (tie.spec
     (λ c κs. search needs)
     (λ c κs. search needs)
     (λ c κs. search needs)
+    (λ c κs. search needs)
     (λ c. rw (
-      c .before .before .before .before .hosts-in .ensures,
-      c .before .before .before .before .before .tail .ensures,
-      c .before .before .before .byte-at .ensures,
-      c .before .before .word-in .ensures,
-      c .before .byte-at2 .ensures,
-      c .word-in2 .ensures,
+      c .before .before .before .before .before .hosts-in .ensures,
+      c .before .before .before .before .before .before .tail .ensures,
+      c .before .before .before .before .byte-at .ensures,
+      c .before .before .before .word-in .ensures,
+      c .before .before .byte-at2 .ensures,
+      c .before .word-in2 .ensures,
+      c .byte-at3 .ensures,
     )))
