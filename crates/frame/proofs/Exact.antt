@@ -14,7 +14,7 @@ use Rattle.flash.proofs.Blank.{allFF-all, allFF-at, all-ff, is-ff}
 use Rattle.frame.specs.declared.Edition.{Edition}
 use Rattle.frame.specs.declared.Fault.{Fault}
 use Rattle.frame.specs.declared.Field.the-variants as field
-use Rattle.frame.specs.Frame.{Frame, encode, frameLen, MayStand, OfHost}
+use Rattle.frame.specs.Frame.{Frame, encode, frameLen, MayStand, Tears}
 use Rattle.frame.specs.Reader.{Read, blank, whole, torn, wrong, fault, Slot, hasLength, layoutOf, Match, all, part, misfit, match, decode, ofMatch}
 use Rattle.frame.specs.Reader.{readLaid, readFrame}
 use Rattle.frame.specs.Sentences.{Whole, Torn, Blank, Wrong}
@@ -146,7 +146,7 @@ third (a ∷ []) m h l = getD-replicate m 1 255 0 (omega arith)
 third (a ∷ b ∷ []) m h l = getD-replicate m 0 255 0 (omega arith)
 third (a ∷ b ∷ c ∷ x) m h l = absurd (omega arith)
 
-pub read-torn : (e : Edition) (next at : ℕ) (f : Frame) (k m : ℕ) → OfHost f → MayStand e next f → 1 ≤ k → k < frameLen e f → frameLen e f ≤ k + m
+pub read-torn : (e : Edition) (next at : ℕ) (f : Frame) (k m : ℕ) → Tears f → MayStand e next f → 1 ≤ k → k < frameLen e f → frameLen e f ≤ k + m
     → readFrame e next at (take k (encode e f) ++ replicate m 255) ≡ torn (frameLen e f)
 read-torn e next at f k m u g h lo hi =
     let x : List ℕ = take k (encode e f) in
@@ -173,7 +173,7 @@ torn-reads e next at t n y =
     let l : length t ≡ y .k + y .left =
     ap length (y .bytes) ∙ length-cut (y .k) (encode e (y .frame)) (y .left) (omega (arith, length-encode e (y .frame), y .not-all)) in
     ap (readFrame e next at) (y .bytes)
-    ∙ read-torn e next at (y .frame) (y .k) (y .left) (y .of-host) (y .legal) (y .some) (y .not-all) (omega (arith, y .would-fit))
+    ∙ read-torn e next at (y .frame) (y .k) (y .left) (y .tears) (y .legal) (y .some) (y .not-all) (omega (arith, y .would-fit))
     ∙ ap torn (sym (y .long))
 
 record OfTorn (n : ℕ) (b : Bool) (m : Match) (x : ℕ) : Type 0 where
@@ -212,7 +212,7 @@ torn-sound e next at t x q =
       frame = z .frame;
       k = i;
       left = w .0;
-      of-host = z .tears (o .tears);
+      tears = z .tears (o .tears);
       legal = z .stands;
       some = some i (w .0) a (w .1);
       not-all = omega (arith, z .size);

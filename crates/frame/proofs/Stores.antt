@@ -10,7 +10,7 @@ use Rattle.flash.specs.Bytes.{u16le, u32le}
 use Rattle.crc.specs.Crc.{crc32Of}
 use Rattle.frame.specs.declared.Edition.{Edition}
 use Rattle.frame.specs.declared.Edition.the-variants as edition
-use Rattle.frame.specs.Frame.{Frame, kindOf, body, check, checkLen, finish, sealed, front, encode, frameLen, buffer}
+use Rattle.frame.specs.Frame.{sealOf, Frame, kindOf, body, check, checkLen, finish, sealed, front, encode, frameLen, buffer}
 use Rattle.frame.proofs.Encode.{kind-small, length-sealed}
 
 pub copy-more : (s d : List ℕ) (i : ℕ) → i < length s → i < length d → set (take i s ++ drop i d) i (getD s i 0) ≡ take (i + 1) s ++ drop (i + 1) d
@@ -97,8 +97,8 @@ pub front-of : (e : Edition) (f : Frame) (n : ℕ) → n ≡ frameLen e f → n 
 front-of e f n q h = front-bytes n (kindOf f) (body f) h (kind-small f) ∙ ap (λ (x : ℕ). u16le x ++ (u16le (kindOf f) ++ body f)) q
 
 pub written : (e : Edition) (f : Frame) (n : ℕ) → n ≡ frameLen e f → n < 255
-    → buffer (sealed e (n ∷ 0 ∷ kindOf f ∷ 0 ∷ body f)) ≡ buffer (encode e f)
-written e f n q h = ap (λ (x : List ℕ). buffer (sealed e x)) (front-of e f n q h)
+    → buffer (sealed (sealOf e f) (n ∷ 0 ∷ kindOf f ∷ 0 ∷ body f)) ≡ buffer (encode e f)
+written e f n q h = ap (λ (x : List ℕ). buffer (sealed (sealOf e f) x)) (front-of e f n q h)
 
 -- ---- the seal's bytes, one store each
 

@@ -12,8 +12,9 @@ use Rattle.frame.specs.declared.ObjectId.{ObjectId}
 use Rattle.frame.specs.declared.Fault.{Fault}
 use Rattle.frame.specs.declared.Field.{Field}
 use Rattle.frame.specs.declared.Field.the-variants as field
-use Rattle.frame.specs.Frame.{Frame, change, commit, abort, settled, put, delete, hostMax, idMax, valueMax, finish, check, checkLen}
-use Rattle.frame.specs.Frame.{kindAt, bodyAt, putValueAt, settledValueAt, frameLen, putLen, deleteLen, endLen, settledLen, nextAfter}
+use Rattle.frame.specs.Frame.{Frame, change, commit, abort, settled, closed, reset, put, delete, hostMax, idMax, valueMax, finish, check, checkLen}
+use Rattle.frame.specs.Frame.{kindAt, bodyAt, putValueAt, settledValueAt, frameLen, putLen, deleteLen, endLen, settledLen, resetLen, closedLen}
+use Rattle.frame.specs.Frame.{nextAfter}
 
 -- a bad field and its offset in the block
 abbrev pub fault : Field → ℕ → Fault
@@ -83,25 +84,41 @@ settledLayout e next n = record {
   tears = false;
 }
 
+-- a closed frame of n bytes: its body and check are ignored
+abbrev pub closedLayout : ℕ → Layout
+closedLayout n = record { from = 0; to = 0; body = valueSlots bodyAt (n - closedLen 0); seal = edition.First; tears = true }
+
+abbrev pub resetLayout : Edition → Layout
+resetLayout e = record { from = 7; to = 7; body = []; seal = e; tears = true }
+
 -- a settled frame may stand: after id 255 none may
 abbrev pub idLeft : ℕ → Bool
 idLeft next = leb next idMax
 
 -- some frame that may stand has n bytes
 abbrev pub hasLength : Edition → ℕ → ℕ → Bool
-hasLength e next n = eqb n (endLen e) || ((leb (putLen e 0) n && leb n (putLen e valueMax)) || (idLeft next && eqb n (settledLen e 0)))
+hasLength e next n =
+    eqb n (resetLen e) || (eqb n (endLen e) || ((leb (putLen e 0) n && leb n (putLen e valueMax)) || (idLeft next && eqb n (settledLen e 0))))
 
 -- the bytes can only be a settled frame's: by their kind, or by a length that no other kind has
 abbrev pub onlySettled : Edition → ℕ → ℕ → ℕ → Bool
 onlySettled e next n k = idLeft next && (leb (settledLen e 0) n && leb n (settledLen e valueMax)) && (eqb k 5 || eqb n (settledLen e 0))
 
--- kinds 1 to 4: the length tells commit and abort from put and delete
+-- kinds 1 to 4 and 7: the length tells a reset, then a commit and an abort, from a put and a delete
 unfoldable pub hostLayout : Edition → ℕ → Layout
-hostLayout e n = elim (eqb n (endLen e)) [ true ↦ endLayout e | false ↦ changeLayout e n ]
+hostLayout e n =
+    elim (eqb n (resetLen e)) [
+      | true ↦ resetLayout e
+      | false ↦ elim (eqb n (endLen e)) [ true ↦ endLayout e | false ↦ changeLayout e n ]
+    ]
 
 -- the layout of frames of n bytes, where the kind's low byte is k
 unfoldable pub layoutOf : Edition → ℕ → ℕ → ℕ → Layout
-layoutOf e next n k = elim (onlySettled e next n k) [ true ↦ settledLayout e next n | false ↦ hostLayout e n ]
+layoutOf e next n k =
+    elim (onlySettled e next n k) [
+      | true ↦ settledLayout e next n
+      | false ↦ elim (eqb k 0) [ true ↦ closedLayout n | false ↦ hostLayout e n ]
+    ]
 
 -- length and kind, both with a high byte of 0, and the body
 abbrev pub frontSlots : ℕ → Layout → List Slot
@@ -143,14 +160,15 @@ hostAt t i = record { 0 = getD t i 0 }
 abbrev pub idAt : List ℕ → ℕ → ObjectId
 idAt t i = record { 0 = le16 (getD t i 0) (getD t (suc i) 0) }
 
--- the frame that bytes are, by their low kind byte and their length; used only where they fit its layout, so kind 0 never is
+-- the frame that bytes are, by their low kind byte and their length; used only where they fit its layout, so kind 6 never is
 abbrev pub decode : Edition → ℕ → ℕ → List ℕ → Frame
-decode e zero n t = commit (hostAt t bodyAt)
+decode e zero n t = closed (take (n - closedLen 0) (drop bodyAt t))
 decode e (suc zero) n t = change (hostAt t bodyAt) (put (idAt t (bodyAt + 1)) (take (n - putLen e 0) (drop putValueAt t)))
 decode e (suc (suc zero)) n t = change (hostAt t bodyAt) (delete (idAt t (bodyAt + 1)))
 decode e (suc (suc (suc zero))) n t = commit (hostAt t bodyAt)
 decode e (suc (suc (suc (suc zero)))) n t = abort (hostAt t bodyAt)
-decode e (suc (suc (suc (suc (suc k))))) n t = settled (idAt t bodyAt) (take (n - settledLen e 0) (drop settledValueAt t))
+decode e (suc (suc (suc (suc (suc zero))))) n t = settled (idAt t bodyAt) (take (n - settledLen e 0) (drop settledValueAt t))
+decode e (suc (suc (suc (suc (suc (suc k)))))) n t = reset
 
 -- a bad slot of a frame that starts at an offset of the block
 abbrev pub faultAt : ℕ → Slot → Fault

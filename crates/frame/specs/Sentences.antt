@@ -7,8 +7,8 @@ use lib.ListN.{length, take, replicate}
 use Rattle.flash.specs.Bytes.{Bytes}
 use Rattle.frame.specs.declared.Edition.{Edition}
 use Rattle.frame.specs.declared.Edition.the-variants as edition
-use Rattle.frame.specs.Frame.{Frame, change, commit, abort, settled, idOf, idMax, body, checkLen, sealOf, bodyAt}
-use Rattle.frame.specs.Frame.{LegalValue, encode, frameLen, maxFrame, MayStand, OfHost, nextAfter}
+use Rattle.frame.specs.Frame.{Frame, change, commit, abort, settled, closed, reset, idOf, idMax, body, checkLen, sealOf, bodyAt}
+use Rattle.frame.specs.Frame.{LegalValue, encode, frameLen, maxFrame, MayStand, Tears, nextAfter}
 use Rattle.frame.specs.Reader.{blank, whole, torn, wrong, fault, readFrame}
 use Rattle.frame.specs.declared.Fault.{Fault}
 use Rattle.frame.specs.declared.Field.{Field}
@@ -26,7 +26,7 @@ pub record Torn (e : Edition) (next : ℕ) (t : List ℕ) (n : ℕ) : Type 0 whe
   pub frame : Frame
   pub k : ℕ
   pub left : ℕ
-  pub of-host : OfHost frame
+  pub tears : Tears frame
   pub legal : MayStand e next frame
   pub some : 1 ≤ k
   pub not-all : k < frameLen e frame
@@ -71,6 +71,8 @@ bodyFields (change h c) = span field.Host 4 5 ∷ span field.Id 5 7 ∷ []
 bodyFields (commit h) = span field.Host 4 5 ∷ []
 bodyFields (abort h) = span field.Host 4 5 ∷ []
 bodyFields (settled i v) = span field.Id 4 6 ∷ []
+bodyFields (closed v) = []
+bodyFields reset = []
 
 -- the check and the finish byte, from offset o on
 abbrev pub checkFields : Edition → ℕ → List Span

@@ -3,7 +3,9 @@ ghost use mathlib.Core.Path.{_≡_};
 ghost use mathlib.Core.List.{_++_};
 ghost use Prim.Native.Nat.{_+_, _≤_, _<_};
 ghost use lib.ListN.{length, take, drop};
-ghost use Rattle.frame.specs.Frame.{change, commit, abort, settled, put, delete, valueMax, bufferLen, checkLen, sealed, buffer, encode};
+ghost use Rattle.frame.specs.Frame.{change, commit, abort, settled, closed, reset, put, delete, valueMax, bufferLen, checkLen};
+ghost use Rattle.frame.specs.Frame.{sealed, front, buffer, encode};
+ghost use Rattle.frame.specs.declared.Edition.the-variants.{First};
 ghost use Rattle.frame.specs.Code.{frameOf};
 use crate::BUFFER_LEN;
 use crate::DELETE_LEN;
@@ -14,6 +16,7 @@ use crate::Head;
 use crate::Host;
 use crate::ObjectId;
 use crate::PUT_LEN;
+use crate::RESET_LEN;
 use crate::SETTLED_LEN;
 use crate::VALUE_MAX;
 use crate::check_len;
@@ -122,6 +125,24 @@ fn settled_bytes(edition: Edition, i: ObjectId, v: &[u8]) -> [u8; BUFFER_LEN]
     assemble(edition, &front, v)
 }
 
+// A closed frame's bytes: it has no check.
+fn closed_bytes(v: &[u8]) -> [u8; BUFFER_LEN]
+    requires { ⌜ length (now v) ≤ valueMax ⌝ }
+    ensures { λ r. ⌜ r ≡ buffer (sealed First (front First (closed (now (v .entry))))) ⌝ }
+{
+    let n = RESET_LEN + v.len() as u8;
+    let front = [n, 0, 0, 0];
+    assemble(Edition::First, &front, v)
+}
+
+// A reset's bytes.
+fn reset_bytes(edition: Edition, v: &[u8]) -> [u8; BUFFER_LEN]
+    ensures { λ r. ⌜ r ≡ buffer (encode edition reset) ⌝ }
+{
+    let front = [RESET_LEN + check_len(edition), 0, 7, 0];
+    assemble(edition, &front, &v[..0])
+}
+
 // The frame with this head and this value, of which at most VALUE_MAX bytes are taken, and zeros after it.
 // The head's own count is not looked at.
 pub fn encode_frame(edition: Edition, head: Head, value: &[u8]) -> [u8; BUFFER_LEN]
@@ -134,5 +155,7 @@ pub fn encode_frame(edition: Edition, head: Head, value: &[u8]) -> [u8; BUFFER_L
         Head::Commit(h) => commit_bytes(edition, h, v),
         Head::Abort(h) => abort_bytes(edition, h, v),
         Head::Settled(i, _) => settled_bytes(edition, i, v),
+        Head::Closed(_) => closed_bytes(v),
+        Head::Reset => reset_bytes(edition, v),
     }
 }
