@@ -18,6 +18,7 @@ pub mod Outcomes
 pub mod Lengths  -- of plans
 pub mod Pipeline  -- one stage
 pub mod PipelineEnd  -- Seal, Drop, Append
+pub mod PipelineClose  -- Close
 pub mod PipelineCopy  -- Open, Copy
 pub mod PipelineJob  -- all stages
 pub mod Accepted  -- the job of each accepted call follows its plan
