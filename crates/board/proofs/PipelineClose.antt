@@ -16,7 +16,8 @@ use Rattle.board.specs.declared.Cursor.{Cursor}
 use Rattle.board.specs.declared.Rest.{Rest}
 use Rattle.board.specs.declared.Record.{Record}
 use Rattle.board.specs.Record.{buffer, cursor, ending, idle}
-use Rattle.board.specs.Step.{enter, enterAppend, enterClose, closeByte, advance}
+use Rattle.journal.specs.Block.{closeByte}
+use Rattle.board.specs.Step.{enter, enterAppend, enterClose, advance}
 use Rattle.board.specs.Mount.{closeArray}
 use Rattle.board.specs.Exec.{exec}
 use Rattle.board.specs.Plan.{Follows, onBlock}

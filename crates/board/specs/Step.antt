@@ -1,13 +1,13 @@
 -- A step call on any record and any image, document 01, "Jobs" and "When the queue says no".
 use mathlib.Core.List.{List, []}
 use mathlib.Core.Option.{Option, none, some}
-use mathlib.Core.Bool.{Bool, true, false, _&&_, cond}
+use mathlib.Core.Bool.{Bool, _&&_, cond}
 use Prim.Native.Nat.{ℕ, suc, _+_}
 use lib.Dec.{eqb, ltb}
 use lib.ListN.{length, getD}
 use Rattle.flash.specs.Flash.{Step, program, erase, apply, block, sizeOf, within, writeStep}
-use Rattle.frame.specs.Frame.{encode, frameLen, finish}
-use Rattle.journal.specs.Block.{openWrite, sealWrite, markWrites}
+use Rattle.frame.specs.Frame.{encode, frameLen}
+use Rattle.journal.specs.Block.{openWrite, sealWrite, markWrites, closeByte}
 use Rattle.journal.specs.Index.{Load, nextLoad}
 use Rattle.wire.specs.declared.Refusal.the-variants as refusal
 use Rattle.wire.specs.declared.Answer.the-variants.{Done}
@@ -90,11 +90,6 @@ abbrev pub begin : List ℕ → List ℕ → Record → Out
 begin img reply r = out (answerOf (enterWipe r)) img (enterWipe r) reply
 
 -- ---- one step
-
--- a torn frame is closed by zeros, the last byte is its finish byte
-abbrev pub closeByte : Bool → ℕ
-closeByte true = finish
-closeByte false = 0
 
 -- the flash step that a job does next
 abbrev pub action : Stage → Record → Step

@@ -1,7 +1,7 @@
 -- A block's header and its state, document 01, "Half header" and "Frames".
 use mathlib.Core.List.{List, [], _∷_, _++_}
 use mathlib.Core.Option.{Option, none, some}
-use mathlib.Core.Bool.{true, false, cond}
+use mathlib.Core.Bool.{Bool, true, false, cond}
 use Prim.Native.Nat.{ℕ, suc, _+_, _-_}
 use lib.Dec.{eqb}
 use lib.ListN.{getD, take, drop}
@@ -178,6 +178,11 @@ closing at n = write (at + 1) 0 ∷ write (at + kindAt) 0 ∷ write (at + suc ki
 unfoldable pub changing : List ℕ → List Write → List Write
 changing b [] = []
 changing b (w ∷ ws) = cond (eqb (getD b (w .at) 0) (w .byte)) (changing b ws) (w ∷ changing b ws)
+
+-- all write zeros, except that the last writes the finish byte
+abbrev pub closeByte : Bool → ℕ
+closeByte true = finish
+closeByte false = 0
 
 -- the writes that close what follows the whole frames, which end at an offset
 abbrev pub closeWrites : List ℕ → ℕ → Tail → List Write
