@@ -66,15 +66,24 @@ body-bytes e next (settled i v) (hn, hi, (hv, hb)) = (omega arith, (omega arith,
 body-bytes e next (closed v) (h, hb) = hb
 body-bytes e next reset g = tt
 
--- frames of kinds 1 to 4 may stand anywhere
+-- frames that may be cut short may stand anywhere
 pub stands-any : (e : Edition) (a b : ℕ) (f : Frame) → Tears f → MayStand e a f → MayStand e b f
 stands-any e a b (change h (put i v)) u g = g
 stands-any e a b (change h (delete i)) u g = g
 stands-any e a b (commit h) u g = g
 stands-any e a b (abort h) u g = g
 stands-any e a b (settled i v) u g = absurd u
-stands-any e a b (closed v) u g = g
+stands-any e a b (closed v) u g = absurd u
 stands-any e a b reset u g = g
+
+pub tears-kind : (f : Frame) → Tears f → kindOf f ≡ 0 → ⊥
+tears-kind (change h (put i v)) u q = omega arith
+tears-kind (change h (delete i)) u q = omega arith
+tears-kind (commit h) u q = omega arith
+tears-kind (abort h) u q = omega arith
+tears-kind (settled i v) u q = absurd u
+tears-kind (closed v) u q = absurd u
+tears-kind reset u q = omega arith
 
 -- what may stand somewhere may stand first
 pub stands-zero : (e : Edition) (n : ℕ) (f : Frame) → MayStand e n f → MayStand e 0 f

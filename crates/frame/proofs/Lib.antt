@@ -9,6 +9,7 @@ pub mod Fit  -- bytes held against slots: for Own, Shape, Layouts, Exact
 pub mod Own  -- each kind: its length, its layout, its bytes read back: for Shape, Exact, src/reader
 pub mod Shape  -- and what fits a layout is a frame: for Layouts, Faults
 pub mod Layouts  -- frames and slots, every kind and edition at once: for Exact, Faults
+pub mod BeingClosed  -- a frame that is being closed: for Exact, Closing, src/reader
 pub mod Exact  -- document 01's sentences on a frame: for Scanned, Sentences, the crates above
 pub mod Fields  -- fields of frames, the first bad one: for Faults, journal
 pub mod Faults  -- where the reader says wrong: for Sentences, src/reader, journal

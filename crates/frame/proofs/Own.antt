@@ -98,13 +98,17 @@ host-may-tear e n =
     (λ r. rw (r, hostLayout))
     (λ r. on-test (eqb n (endLen e)) (λ q. rw (r, q, hostLayout)) (λ q. rw (r, q, hostLayout)))
 
--- only settled frames are never torn
-pub tears-not : (e : Edition) (next n k : ℕ) → layoutOf e next n k .tears ≡ not (onlySettled e next n k)
+-- settled frames and closed ones are never cut short
+pub tears-closed : (e : Edition) (next n k : ℕ) → k ≡ 0 → layoutOf e next n k .tears ≡ false
 unfolding layoutOf
-tears-not e next n k =
+tears-closed e next n k z = on-test (onlySettled e next n k) (λ s. rw (s, layoutOf)) (λ s. rw (s, eq-eqb k 0 z, layoutOf))
+
+pub tears-not : (e : Edition) (next n k : ℕ) → (k ≡ 0 → ⊥) → layoutOf e next n k .tears ≡ not (onlySettled e next n k)
+unfolding layoutOf
+tears-not e next n k z =
     on-test (onlySettled e next n k)
     (λ s. rw (s, layoutOf))
-    (λ s. on-test (eqb k 0) (λ z. rw (s, z, layoutOf)) (λ z. rw (s, z, layoutOf) (host-may-tear e n)))
+    (λ s. rw (s, ne-eqb k 0 z, layoutOf) (host-may-tear e n))
 
 -- ---- a frame's own layout
 
@@ -170,7 +174,7 @@ own e next (closed v) (h, hb) =
       to = omega arith;
       fit = fit-value 4 (n - closedLen 0) v (omega arith) hb;
       seal = refl;
-      tears = λ u. refl;
+      tears = λ u. absurd u;
     })
 own e next reset g =
     let n : ℕ = frameLen e reset in
@@ -178,18 +182,18 @@ own e next reset g =
     (record { from = omega arith; to = omega arith; fit = tt; seal = refl; tears = λ u. refl })
 
 -- the layout before the kind can be seen
-host-tears : (e : Edition) (next n k : ℕ) → (k ≡ 5 → ⊥) → ClosedLength e n → layoutOf e next n k .tears ≡ true
-host-tears e next n k a h = tears-not e next n k ∙ ap not (only-no e next n k a (closed-other e n h))
+host-tears : (e : Edition) (next n k : ℕ) → (k ≡ 5 → ⊥) → (k ≡ 0 → ⊥) → ClosedLength e n → layoutOf e next n k .tears ≡ true
+host-tears e next n k a z h = tears-not e next n k z ∙ ap not (only-no e next n k a (closed-other e n h))
 
 pub unseen : (e : Edition) (next : ℕ) (f : Frame) → Tears f → MayStand e next f → layoutOf e next (frameLen e f) 255 .tears ≡ true
 unseen e next (change h (put i v)) u (hh, hi, (hv, hb)) =
-    host-tears e next (frameLen e (change h (put i v))) 255 (omega arith) (inr (inr (omega arith, omega arith)))
-unseen e next (change h (delete i)) u g = host-tears e next (frameLen e (change h (delete i))) 255 (omega arith) (inr (inr (omega arith, omega arith)))
-unseen e next (commit h) u g = host-tears e next (endLen e) 255 (omega arith) (inr (inl refl))
-unseen e next (abort h) u g = host-tears e next (endLen e) 255 (omega arith) (inr (inl refl))
+    host-tears e next (frameLen e (change h (put i v))) 255 (omega arith) (omega arith) (inr (inr (omega arith, omega arith)))
+unseen e next (change h (delete i)) u g = host-tears e next (frameLen e (change h (delete i))) 255 (omega arith) (omega arith) (inr (inr (omega arith, omega arith)))
+unseen e next (commit h) u g = host-tears e next (endLen e) 255 (omega arith) (omega arith) (inr (inl refl))
+unseen e next (abort h) u g = host-tears e next (endLen e) 255 (omega arith) (omega arith) (inr (inl refl))
 unseen e next (settled i v) u g = absurd u
-unseen e next (closed v) u (h, hb) = host-tears e next (frameLen e (closed v)) 255 (omega arith) h
-unseen e next reset u g = host-tears e next (frameLen e reset) 255 (omega arith) (inl (omega arith))
+unseen e next (closed v) u g = absurd u
+unseen e next reset u g = host-tears e next (frameLen e reset) 255 (omega arith) (omega arith) (inl (omega arith))
 
 -- a settled frame that may stand is known by its kind, or by its length if it has no value
 pub settled-tears : (e : Edition) (next : ℕ) (i : ObjectId) (v : List ℕ) (k : ℕ) → MayStand e next (settled i v) → (k ≡ 5) ⊎ (v ≡ [])
@@ -214,7 +218,7 @@ last-layout e next n h lo =
 
 -- ---- its length
 
-on-or : {P : Type 0} (a b : Bool) → (a || b) ≡ true → (a ≡ true → P) → (b ≡ true → P) → P
+pub on-or : {P : Type 0} (a b : Bool) → (a || b) ≡ true → (a ≡ true → P) → (b ≡ true → P) → P
 on-or true b q f g = f refl
 on-or false b q f g = g q
 

@@ -189,7 +189,7 @@ module _ (e : Edition) (next n : ℕ) where
         kind = omega arith;
         is-body = refl;
         seal = refl;
-        tears = λ u. tt;
+        tears = λ u. clash true refl (sym u);
         covered = cover-value [] 4 4 (n - closedLen 0) (omega arith);
       }
 

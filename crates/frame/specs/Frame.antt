@@ -209,13 +209,13 @@ nextAfter (settled i v) = suc (i .0)
 nextAfter (closed v) = 256
 nextAfter reset = 256
 
--- kinds 1 to 4; "A frame cut while being closed, or a cut reset, is torn too" (document 02, K11)
+-- kinds 1 to 4 may be cut short; "a cut reset, is torn too" (document 02, K11)
 abbrev pub Tears : Frame → Type 0
 Tears (change h c) = Unit {0}
 Tears (commit h) = Unit {0}
 Tears (abort h) = Unit {0}
 Tears (settled i v) = ⊥
-Tears (closed v) = Unit {0}
+Tears (closed v) = ⊥
 Tears reset = Unit {0}
 
 -- ---- frames one after the other

@@ -1,6 +1,6 @@
 -- Reading one frame, and the frames of a journal, out of any bytes.
 use mathlib.Core.List.{List, [], _∷_, _++_}
-use mathlib.Core.Bool.{Bool, true, false, _&&_, _||_}
+use mathlib.Core.Bool.{Bool, true, false, not, _&&_, _||_}
 use Prim.Native.Nat.{ℕ, zero, suc, _+_, _-_}
 use lib.Dec.{eqb, leb}
 use lib.ListN.{length, getD, take, drop}
@@ -48,7 +48,7 @@ abbrev pub valueSlots : ℕ → ℕ → List Slot
 valueSlots o zero = []
 valueSlots o (suc v) = slot field.Finish o 0 255 ∷ valueSlots (suc o) v
 
--- a layout: some kinds whose bodies have these slots, the edition by which they are sealed, and whether they may be torn
+-- a layout: some kinds whose bodies have these slots, the edition by which they are sealed, and whether they may be cut short
 pub record Layout : Type 0 where
   pub from : ℕ
   pub to : ℕ
@@ -74,7 +74,7 @@ changeLayout e n = record {
 abbrev pub endLayout : Edition → Layout
 endLayout e = record { from = 3; to = 4; body = slot field.Host bodyAt 0 hostMax ∷ []; seal = e; tears = true }
 
--- a settled frame of n bytes whose id is at least next. Only "kinds 1 to 4" are torn: a settled frame that is cut off is wrong.
+-- a settled frame of n bytes whose id is at least next. Only "kinds 1 to 4" and 7 are cut short: a settled frame that is cut off is wrong.
 abbrev pub settledLayout : Edition → ℕ → ℕ → Layout
 settledLayout e next n = record {
   from = 5;
@@ -84,9 +84,9 @@ settledLayout e next n = record {
   tears = false;
 }
 
--- a closed frame of n bytes: its body and check are ignored
+-- a closed frame of n bytes: its body and check are ignored. What is `beingClosed` is never held against it.
 abbrev pub closedLayout : ℕ → Layout
-closedLayout n = record { from = 0; to = 0; body = valueSlots bodyAt (n - closedLen 0); seal = edition.First; tears = true }
+closedLayout n = record { from = 0; to = 0; body = valueSlots bodyAt (n - closedLen 0); seal = edition.First; tears = false }
 
 abbrev pub resetLayout : Edition → Layout
 resetLayout e = record { from = 7; to = 7; body = []; seal = e; tears = true }
@@ -174,7 +174,8 @@ decode e (suc (suc (suc (suc (suc (suc k)))))) n t = reset
 abbrev pub faultAt : ℕ → Slot → Fault
 faultAt at p = fault (p .field) (at + p .start)
 
--- "Torn means: the first k bytes, k at least 1 and fewer than all, of some legal frame of kinds 1 to 4 that would fit, then 0xFF only."
+-- "Torn means: the first k bytes, k at least 1 and fewer than all, of some legal frame of kinds 1 to 4 that would fit, then 0xFF only.";
+-- "or a cut reset" (document 02, K11)
 abbrev pub ofMatch : ℕ → ℕ → Bool → Frame → Match → Read
 ofMatch at n tears f all = whole f
 ofMatch at n true f (part p) = torn n
@@ -185,6 +186,13 @@ ofMatch at n tears f (misfit p) = wrong (faultAt at p)
 abbrev pub readLaid : Edition → ℕ → ℕ → ℕ → ℕ → List ℕ → Read
 readLaid e next at n k t = ofMatch at n (layoutOf e next n k .tears) (decode e k n t) (match (laid n (layoutOf e next n k) t) t)
 
+-- "A frame cut while being closed": the high byte of its length and the low byte of its kind are 0, the kind's high byte is 0 or still 0xFF, its length n is
+-- no settled frame's alone, and from the finish byte on all is 0xFF. "Once its kind's low byte is 0, its body and CRC are ignored."
+abbrev pub beingClosed : Edition → ℕ → List ℕ → Bool
+beingClosed e n t =
+    eqb (getD t kindAt 0) 0 && (eqb (getD t 1 0) 0 && ((eqb (getD t (kindAt + 1) 0) 0 || eqb (getD t (kindAt + 1) 0) 255)
+    && (not (eqb n (settledLen e 0)) && allFF (drop (n - 1) t))))
+
 -- the frame at the front of t, which runs to the block's end and starts at offset `at` of it; settled ids from `next` on.
 -- A frame longer than t would not fit: it is neither whole nor torn.
 unfoldable pub readFrame : Edition → ℕ → ℕ → List ℕ → Read
@@ -192,7 +200,10 @@ readFrame e next at t =
     elim (allFF t) [
       | true ↦ blank
       | false ↦ elim (leb (getD t 0 0) (length t) && hasLength e next (getD t 0 0)) [
-        | true ↦ readLaid e next at (getD t 0 0) (getD t kindAt 0) t
+        | true ↦ elim (beingClosed e (getD t 0 0) t) [
+          | true ↦ torn (getD t 0 0)
+          | false ↦ readLaid e next at (getD t 0 0) (getD t kindAt 0) t
+        ]
         | false ↦ wrong (fault field.Length at)
       ]
     ]

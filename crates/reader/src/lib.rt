@@ -10,6 +10,9 @@ ghost use Rattle.frame.specs.Code.{headOf, peekAt, readOf};
 ghost use Rattle.frame.specs.Reader.{hasLength, onlySettled, layoutOf, decode, readLaid, readFrame};
 ghost use Rattle.frame.specs.Reader.{slot, changeLayout, endLayout, settledLayout, closedLayout, resetLayout, hostLayout, sealSlots, laid, lastKind};
 ghost use Rattle.reader.specs.Misfits.{firstMisfit, oneMisfit, misfitFrom, frontMisfit, secondMisfit};
+
+mod torn;
+
 use crc::crc32;
 use flash::byte_at;
 use frame::BODY_AT;
@@ -33,6 +36,8 @@ use frame::SETTLED_LEN;
 use frame::SETTLED_VALUE_AT;
 use frame::VALUE_MAX;
 use frame::check_len;
+use torn::being_closed;
+use torn::never_cut;
 
 // The other offsets in a frame: high bytes, and the id of a put or a delete.
 const LENGTH_HIGH: usize = 1;
@@ -316,16 +321,16 @@ fn layout_misfit(t: &[u8], edition: Edition, next: usize, n: u8, k: u8) -> Misfi
     host_misfit(t, edition, n)
 }
 
-// The frame of n and k: of a settled one that is cut off the fault, of others that they are torn.
+// The frame of n and k: of one that is never cut short the fault, of others that they are torn.
 fn read_layout(t: &[u8], edition: Edition, next: usize, n: u8, k: u8) -> FrameRead
     requires { ⌜ (n ≡ getD (now t) 0 0) × (hasLength edition next n ≡ true) × (n ≤ length (now t)) × (k ≡ getD (now t) 2 0) ⌝ }
     ensures { λ r. ⌜ r ≡ readOf (readLaid edition next 0 n k (now (t .entry))) ⌝ }
 {
-    let settled = only_settled(edition, next, n, k);
+    let whole = never_cut(edition, next, n, k);
     match layout_misfit(t, edition, next, n, k) {
         Misfit::None => FrameRead::Whole(head_at(t, edition, k, n)),
         Misfit::At(o, f, s) => {
-            if settled {
+            if whole {
                 return FrameRead::Wrong(Fault { field: f, place: s });
             }
             if flash::is_blank(rest(t, o)) {
@@ -351,6 +356,9 @@ fn read_front(t: &[u8], edition: Edition, next: usize) -> FrameRead
         });
     }
     if has_length(edition, next, n) {
+        if being_closed(t, edition, n) {
+            return FrameRead::Torn(n as usize);
+        }
         return read_layout(t, edition, next, n, byte_at(t, KIND_AT));
     }
     FrameRead::Wrong(Fault {
