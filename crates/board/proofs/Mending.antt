@@ -74,7 +74,7 @@ module _ {N s k : ℕ} {img : List ℕ} {w : Journal} (a : Alone N s img k w) (c
           subst (λ (l : List Write). Tidy N s (applyAll s (onBlock k l) img) k w) (sym none)
           (record { journal = w; alone = a; is-clean = e; edition = refl; same = refl; ends = ends })
       go (cut n) e =
-          let y : Closed (block s k img) w n = c .after n e in
+          let y : Closed (writeAll (block s k img) ws) w n = c .after n e in
           record {
             journal = with-frame w (closed (y .value));
             alone = alone-written ws a below (y .contents);

@@ -12,7 +12,7 @@ use Rattle.frame.specs.declared.Edition.{Edition}
 use Rattle.frame.specs.declared.Fault.{Fault}
 use Rattle.frame.specs.Frame.{total, nextOf}
 use Rattle.frame.specs.Reader.{Tail, clean, cut, bad, scan, ends}
-use Rattle.frame.specs.Sentences.{Torn}
+use Rattle.frame.specs.Sentences.{Torn, cut-short, being-closed}
 use Rattle.frame.proofs.Exact.{torn-reads}
 use Rattle.frame.proofs.Scanning.{scan-read-torn, scan-blank}
 use Rattle.frame.proofs.Scanned.{tail-clean, tail-cut}
@@ -37,8 +37,9 @@ progress-is b e =
 
 -- ---- valid
 
-scan-torn : (ed : Edition) (next at : ℕ) (l : List ℕ) (n : ℕ) → Torn ed next l n → scan ed next at 0 l ≡ ends (cut n)
-scan-torn ed next at [] n y = absurd (omega (arith, y .would-fit))
+pub scan-torn : (ed : Edition) (next at : ℕ) (l : List ℕ) (n : ℕ) → Torn ed next l n → scan ed next at 0 l ≡ ends (cut n)
+scan-torn ed next at [] n (cut-short y) = absurd (omega (arith, y .would-fit))
+scan-torn ed next at [] n (being-closed y) = let z : _≡_ {A = ℕ} 0 1 = cc in absurd (omega arith)
 scan-torn ed next at (b ∷ l) n y = scan-read-torn ed next at b l n (torn-reads ed next at (b ∷ l) n y)
 
 tail-okay : (ed : Edition) (next : ℕ) (l : List ℕ) (c : Tail) → TailIs ed next l c → Okay c
