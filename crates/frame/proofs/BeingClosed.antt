@@ -2,7 +2,7 @@
 use mathlib.Core.Path.{_≡_, refl, sym, ap, subst, _∙_}
 use mathlib.Core.List.{List, [], _∷_, _++_, append-assoc}
 use mathlib.Core.Logic.{_⊎_, inl, inr, ⊎-elim}
-use mathlib.Core.Bool.{Bool, true, false, not, _&&_, _||_}
+use mathlib.Core.Bool.{Bool, true, false, not, _||_}
 use Prim.Native.Nat.{ℕ, suc, _+_, _-_, _≤_, _<_}
 use native.Mathlib.Omega.{arith}
 use native.Mathlib.Nat.{add-zero}
@@ -14,7 +14,7 @@ use Rattle.flash.specs.Bytes.{allFF}
 use Rattle.flash.proofs.Cases.{on-test, clash, and-both, and-left, and-right, or-left, or-right, or-no-left, or-no-right}
 use Rattle.flash.proofs.Blank.{allFF-all, allFF-at, all-ff}
 use Rattle.frame.specs.declared.Edition.{Edition}
-use Rattle.frame.specs.Frame.{Frame, sealOf, check, finish, front, encode, frameLen, settledLen, closedLen, ClosedLength}
+use Rattle.frame.specs.Frame.{Frame, sealOf, check, finish, front, encode, frameLen, settledLen, ClosedLength}
 use Rattle.frame.specs.Reader.{beingClosed}
 use Rattle.frame.specs.Sentences.{BeingClosed}
 use Rattle.frame.proofs.Encode.{length-encode}

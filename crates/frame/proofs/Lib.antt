@@ -14,9 +14,10 @@ pub mod Exact  -- document 01's sentences on a frame: for Scanned, Sentences, th
 pub mod Fields  -- fields of frames, the first bad one: for Faults, journal
 pub mod Faults  -- where the reader says wrong: for Sentences, src/reader, journal
 pub mod Sentences  -- all of them: to read
+pub mod Closing  -- a torn frame closed in place, step by step: for the crates above
 pub mod Heads  -- a frame is its head and its value: for the crates above
 -- ---- journals
 pub mod Scanning  -- frames written are read back: for the crates above
 pub mod Scanned  -- any bytes read as a journal: for the crates above
 -- ---- rows
-pub mod Examples  -- rows b and c
+pub mod Examples  -- rows b and c, a frame closed in place

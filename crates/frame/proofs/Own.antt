@@ -17,7 +17,8 @@ use Rattle.frame.specs.declared.Edition.{Edition}
 use Rattle.frame.specs.declared.Edition.the-variants as edition
 use Rattle.frame.specs.declared.ObjectId.{ObjectId}
 use Rattle.frame.specs.Frame.{Frame, change, commit, abort, settled, closed, reset, put, delete, idOf, idMax, valueMax, kindOf, body, check}
-use Rattle.frame.specs.Frame.{finish, sealOf, frameLen, front, encode, putLen, deleteLen, endLen, settledLen, closedLen, resetLen, ClosedLength, MayStand, Tears}
+use Rattle.frame.specs.Frame.{finish, sealOf, frameLen, front, encode, putLen, deleteLen, endLen, settledLen, closedLen, resetLen}
+use Rattle.frame.specs.Frame.{ClosedLength, MayStand, Tears}
 use Rattle.frame.specs.Reader.{valueSlots, Layout, lastKind, changeLayout, endLayout, settledLayout, closedLayout, resetLayout, hostLayout, idLeft}
 use Rattle.frame.specs.Reader.{hasLength, onlySettled, layoutOf, decode}
 use Rattle.frame.proofs.Fit.{Fit}
@@ -188,7 +189,8 @@ host-tears e next n k a z h = tears-not e next n k z ∙ ap not (only-no e next 
 pub unseen : (e : Edition) (next : ℕ) (f : Frame) → Tears f → MayStand e next f → layoutOf e next (frameLen e f) 255 .tears ≡ true
 unseen e next (change h (put i v)) u (hh, hi, (hv, hb)) =
     host-tears e next (frameLen e (change h (put i v))) 255 (omega arith) (omega arith) (inr (inr (omega arith, omega arith)))
-unseen e next (change h (delete i)) u g = host-tears e next (frameLen e (change h (delete i))) 255 (omega arith) (omega arith) (inr (inr (omega arith, omega arith)))
+unseen e next (change h (delete i)) u g =
+    host-tears e next (frameLen e (change h (delete i))) 255 (omega arith) (omega arith) (inr (inr (omega arith, omega arith)))
 unseen e next (commit h) u g = host-tears e next (endLen e) 255 (omega arith) (omega arith) (inr (inl refl))
 unseen e next (abort h) u g = host-tears e next (endLen e) 255 (omega arith) (omega arith) (inr (inl refl))
 unseen e next (settled i v) u g = absurd u

@@ -93,7 +93,8 @@ cut-off e next at i v k m g s h lo hi =
     let p : Partly (match ps t) = match-some k ps x m fit (closed-slots e next t) (omega arith) (omega arith) in
     let known : (getD t 2 0 ≡ 5) ⊎ (v ≡ []) = seen s (λ b. begins-kind e next t k f g q b) in
     let open-still : beingClosed e (getD t 0 0) t ≡ false =
-    ⊎-elim (λ b. not-kind e (getD t 0 0) t (omega arith)) (λ b. not-settled e (getD t 0 0) t (n ∙ ap (λ (z : List ℕ). frameLen e (settled i z)) b ∙ omega arith))
+    ⊎-elim (λ b. not-kind e (getD t 0 0) t (omega arith))
+    (λ b. not-settled e (getD t 0 0) t (n ∙ ap (λ (z : List ℕ). frameLen e (settled i z)) b ∙ omega arith))
     known in
     let tears : layoutAt e next t .tears ≡ false =
     ap (λ (z : ℕ). layoutOf e next z (getD t 2 0) .tears) n ∙ settled-tears e next i v (getD t 2 0) g known in (

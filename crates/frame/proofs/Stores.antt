@@ -22,10 +22,10 @@ copy-more s d i l m =
 abbrev pub sealAt : Edition → ℕ → List ℕ → List ℕ
 sealAt e m f = sealed e (take m f) ++ drop (m + checkLen e + 1) f
 
-drop-zeros : (n m : ℕ) → drop {A = ℕ} n (replicate m 0) ≡ replicate (m - n) 0
-drop-zeros zero m = let e : m - 0 ≡ m = omega arith in rw e
-drop-zeros (suc n) zero = let e : 0 - suc n ≡ 0 = omega arith in rw e
-drop-zeros (suc n) (suc m) = let e : suc m - suc n ≡ m - n = omega arith in rw e (drop-zeros n m)
+pub drop-replicate : (a n m : ℕ) → drop {A = ℕ} n (replicate m a) ≡ replicate (m - n) a
+drop-replicate a zero m = let e : m - 0 ≡ m = omega arith in rw e
+drop-replicate a (suc n) zero = let e : 0 - suc n ≡ 0 = omega arith in rw e
+drop-replicate a (suc n) (suc m) = let e : suc m - suc n ≡ m - n = omega arith in rw e (drop-replicate a n m)
 
 -- a front, then a value and then the finish byte, stored into m zeros: f is the list after the first store, g the part after the second
 module _ (p v f g : List ℕ) (m : ℕ) (l : length p + length v < m)
@@ -35,7 +35,7 @@ module _ (p v f g : List ℕ) (m : ℕ) (l : length p + length v < m)
 
   front-is : f ≡ p ++ zeros
   unfolding zeros
-  front-is = hf ∙ ap (λ (x : List ℕ). p ++ x) (drop-zeros (length p) m)
+  front-is = hf ∙ ap (λ (x : List ℕ). p ++ x) (drop-replicate 0 (length p) m)
 
   rest-is : drop (length p) f ≡ zeros
   rest-is = ap (drop (length p)) front-is ∙ drop-at p zeros (length p) refl
@@ -48,7 +48,7 @@ module _ (p v f g : List ℕ) (m : ℕ) (l : length p + length v < m)
   unfolding zeros
   after-value =
       let e : m - length p - length v ≡ suc (m - (length p + length v + 1)) = omega arith in
-      drop-zeros (length v) (m - length p) ∙ ap (λ (n : ℕ). replicate n 0) e
+      drop-replicate 0 (length v) (m - length p) ∙ ap (λ (n : ℕ). replicate n 0) e
 
   part-is : g ≡ v ++ (0 ∷ replicate (m - (length p + length v + 1)) 0)
   part-is =
@@ -81,7 +81,7 @@ module _ (p v f g : List ℕ) (m : ℕ) (l : length p + length v < m)
       ∙ ap₂ (λ (y w : List ℕ). sealed e y ++ w) (take-at x z k lx)
       (ap (λ (n : ℕ). drop n (x ++ z)) n1
       ∙ drop-append-add x z (checkLen e + 1)
-      ∙ drop-zeros (checkLen e + 1) (m - k)
+      ∙ drop-replicate 0 (checkLen e + 1) (m - k)
       ∙ ap (λ (n : ℕ). replicate n 0) n2)
 
 -- a front that is worked out

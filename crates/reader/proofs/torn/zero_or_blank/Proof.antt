@@ -1,8 +1,5 @@
 -- Two tests.
-use mathlib.Core.Path.{sym}
-use lib.Dec.{eqb}
 use borrow.Author.Tests.{eq-eqb, ne-eqb}
-use borrow.Author.Needs.{needs}
 use Rattle.reader.proofs.torn.zero_or_blank.Statement.{statement}
 use Rattle.reader.proofs.torn.zero_or_blank.Tie as tie
 
