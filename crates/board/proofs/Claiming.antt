@@ -216,7 +216,7 @@ module _ {N : ℕ} {s : ℕ} {img : List ℕ} (b : Book) {u : Track} (v : Bare N
       subst (MountKeeps N s img b u) (sym e)
       (turned-down b refusal.Worn v (λ k f c. let w : _≡_ {A = ℕ} 0 1 = cc in omega arith) (λ c. let w : _≡_ {A = ℕ} 0 1 = cc in omega arith)
       (λ c. let w : _≡_ {A = ℕ} 0 1 = cc in absurd (omega arith)) (λ c. w))
-  mount-found x y h k f (begins t e) = subst (MountKeeps N s img b u) (sym e) (mount-begun x y h k f (in-time-at (v .sized) t))
+  mount-found x y h k f (begins t e) = subst (MountKeeps N s img b u) (sym e) (mount-begun x y h k f (in-time-at x (v .sized) t))
 
   mount-call : MountKeeps N s img b u (mountOn N img)
   mount-call = go (mount-safe (v .sized) (v .safe))

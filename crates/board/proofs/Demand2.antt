@@ -10,7 +10,7 @@ use lib.ListN.{length, getD, drop, length-take, List·getD-eq-default}
 use lib.Seq.{getD-take, getD-drop}
 use borrow.Author.Tests.{ltb-true, ltb-false}
 use Rattle.flash.specs.Bytes.{Bytes}
-use Rattle.flash.specs.Flash.{Step, program, erase, apply, applyAll, block, sizeOf, withBlock, programAt}
+use Rattle.flash.specs.Flash.{Step, program, erase, apply, applyAll, block, sizeOf, withBlock, write, programAt}
 use Rattle.flash.proofs.Cases.{on-test}
 use Rattle.flash.proofs.Image.{length-apply, bytes-apply, block-program}
 use Rattle.flash.proofs.Raising.{length-with, bytes-with}
@@ -35,7 +35,7 @@ use Rattle.board.specs.Table.{InJob as JobPhase, Fresh, Exactly, request
 use Rattle.board.specs.Demand1.{Rests}
 use Rattle.board.specs.Book.{Book, enterCall}
 use Rattle.board.specs.Claim.{Begins as Restarting, Event, call, cutErase, CutsErase, Happens}
-use Rattle.board.specs.Demand2.{Accepted, Mounts, OneStore, LandsAt, StepLands as OneLands, EachCall, FromAny, NotStale, UsableFrom, LandsFrom}
+use Rattle.board.specs.Demand2.{Accepted, Mounts, OneStore, ClosesKind, LandsAt, StepLands as OneLands, EachCall, FromAny, NotStale, UsableFrom, LandsFrom}
 use Rattle.board.proofs.Images.{Sized, size-of, sized-of, sized-as, sized-block, length-all-steps, bytes-all-steps}
 use Rattle.board.proofs.Invariant.{StepLands, Ready, InJob, Sound}
 use Rattle.board.proofs.Outcomes.{format-begins, step-resting}
@@ -71,13 +71,13 @@ module _ {N : ℕ} {s : ℕ} {img : List ℕ} (z : Sized N s img) (by : Bytes im
       mount-performs x z by (y .taken .there) (y .holds)
 
   after : After N s (x .journal .edition) (applyAll s (mountWork N img x .steps) img) last (settledOnly (replayOf (x .journal)))
-  after = mount-ends x z by (y .taken .there) (y .holds) (in-time-at z (y .in-time))
+  after = mount-ends x z by (y .taken .there) (y .holds) (in-time-at (y .store) z (y .in-time))
 
   -- the job is begun, or there is none
   mount-begun : Begun N s (StepLands s) (Ready N s) img job
   mount-begun =
       job-begins img job (mountWork N img x .steps) last mount-follows
-      (mount-lands x z by (y .taken .there) (y .holds) (in-time-at z (y .in-time))) (after .ready) (ready-idle (after .ready))
+      (mount-lands x z by (y .taken .there) (y .holds) (in-time-at (y .store) z (y .in-time))) (after .ready) (ready-idle (after .ready))
 
 pub one-store : (N : ℕ) → OneStore N (exec N)
 unfolding OneStore
@@ -95,8 +95,8 @@ one-store N img r by ok a =
       is-valid = y .taken .is-valid;
       newest = taken-newest z (y .taken);
       follows = mount-follows z by y;
-      short = mount-short x z by (y .taken .there) (y .holds) (in-time-at z (y .in-time));
-      erases = mount-erases x z by (y .taken .there) (y .holds) (in-time-at z (y .in-time));
+      short = mount-short x z by (y .taken .there) (y .holds) (in-time-at (y .store) z (y .in-time));
+      erases = mount-erases x z by (y .taken .there) (y .holds) (in-time-at (y .store) z (y .in-time));
       holding = e .ready .journal;
       is-fresh = ready-fresh (sized-as after-image (length-all-steps s (mountWork N img x .steps) img) z)
           (bytes-all-steps s (mountWork N img x .steps) img by) (e .ready);

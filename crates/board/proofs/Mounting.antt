@@ -5,8 +5,9 @@ use Prim.Native.Nat.{ℕ, suc, _+_, _-_, _≤_, _<_}
 use native.Mathlib.Omega.{arith}
 use lib.ListN.{length}
 use Rattle.flash.specs.Bytes.{Bytes}
-use Rattle.flash.specs.Flash.{Step, erase, applyAll, block, sizeOf, writes}
+use Rattle.flash.specs.Flash.{Step, erase, applyAll, block, sizeOf, write, writes}
 use Rattle.flash.proofs.Image.{bytes-block}
+use Rattle.flash.proofs.Offsets.{below-at}
 use Rattle.frame.specs.declared.Edition.{Edition}
 use Rattle.frame.specs.Frame.{editionNumber}
 use Rattle.journal.specs.Replay.{Object, State, settledOnly}
@@ -39,8 +40,8 @@ use Rattle.board.proofs.Deciding.{StoreThere, InTime}
 use Rattle.board.proofs.Wiping.{wipes-others, wipes-few}
 
 -- the same of the image's blocks
-pub in-time-at : {N s : ℕ} {img : List ℕ} {x : Store} → Sized N s img → InTime (sizeOf N img) x → InTime s x
-in-time-at {x = x} z t = subst (λ (n : ℕ). InTime n x) (size-of z) t
+pub in-time-at : {N s : ℕ} {img : List ℕ} (x : Store) → Sized N s img → InTime (sizeOf N img) x → InTime s x
+in-time-at x z t = subst (λ (n : ℕ). InTime n x) (size-of z) t
 
 -- ---- its step calls
 
@@ -52,7 +53,12 @@ module _ {N : ℕ} {s : ℕ} {img : List ℕ} (x : Store) (z : Sized N s img) (b
   closing =
       record {
         bytes = well .bytes;
-        below = λ i l. omega (arith, inside-at (well .below) i l, block-long (x .number) z h);
+        below = λ i l.
+            omega (
+              arith,
+              below-at (length (block s (x .number) img)) (closesFor mends (block s (x .number) img) (x .journal)) i (write 0 0) (well .below) l,
+              block-long (x .number) z h,
+            );
       }
 
   pub closed-fits : closedEnd (x .journal) ≤ s
@@ -103,16 +109,16 @@ module _ {N : ℕ} {s : ℕ} {img : List ℕ} (x : Store) (z : Sized N s img) (b
   reset-room : upkeep s x ≡ mends → closedEnd (x .journal) + length (dueReset (x .journal)) ≤ s
   reset-room q = mends-fits s (x .journal) q (closed-fits x z by h y)
 
-  over : {P : List Step → Type 0}
+  over : (P : List Step → Type 0)
       → P (onBlock (x .number) (closesFor mends (block s (x .number) wiped) (x .journal)) ++ onBlock (x .number) (writes (closedEnd (x .journal)) (dueReset (x .journal))))
       → P (kept mends .steps)
-  over {P} p =
+  over P p =
       subst (λ (b : List ℕ). P (onBlock (x .number) (closesFor mends b (x .journal)) ++ onBlock (x .number) (writes (closedEnd (x .journal)) (dueReset (x .journal)))))
       same p
 
   lands-kept : (u : Upkeep) → upkeep s x ≡ u → Each s (StepLands s) (kept u .steps) wiped
   lands-kept moves q = transfer-lands alone ed st (moves-settled alone (t q))
-  lands-kept mends q = over {P = λ xs. Each s (StepLands s) xs wiped} (mend-lands alone well-wiped (reset-room q))
+  lands-kept mends q = over (λ xs. Each s (StepLands s) xs wiped) (mend-lands alone well-wiped (reset-room q))
   lands-kept rests q = λ j k. absurd (omega arith)
 
   pub mount-lands : Each s (StepLands s) (mountWork N img x .steps) img
@@ -123,7 +129,7 @@ module _ {N : ℕ} {s : ℕ} {img : List ℕ} (x : Store) (z : Sized N s img) (b
   keeps-kept : {os : List Object} (v : Track) → Keeps (v .tight) s ed (replayOf (x .journal)) os → (u : Upkeep) → upkeep s x ≡ u
       → Each s (Guard N s os v) (kept u .steps) wiped
   keeps-kept v p moves q = transfer-guard alone ed st (moves-settled alone (t q)) v p (keeps-settled p)
-  keeps-kept {os} v p mends q = over {P = λ xs. Each s (Guard N s os v) xs wiped} (mend-guard alone well-wiped (reset-room q) v p)
+  keeps-kept {os} v p mends q = over (λ xs. Each s (Guard N s os v) xs wiped) (mend-guard alone well-wiped (reset-room q) v p)
   keeps-kept v p rests q = λ j k. absurd (omega arith)
 
   pub mount-keeps : {os : List Object} (u : Track) → Keeps (u .tight) s (x .journal .edition) (replayOf (x .journal)) os
@@ -145,7 +151,7 @@ module _ {N : ℕ} {s : ℕ} {img : List ℕ} (x : Store) (z : Sized N s img) (b
       (transferred alone ed st (moves-settled alone (t e)) (storeAt N (length img - 1) x) refl long
       (sym (counts-none ed (st .objects))) (roomy-settled alone))
   ends-kept mends e =
-      over {P = λ xs. After N s ed (applyAll s xs wiped) (kept mends .last) st}
+      over (λ xs. After N s ed (applyAll s xs wiped) (kept mends .last) st)
       (mend-ends alone well-wiped (reset-room e) (storeAt N (length img - 1) x) refl long (sym (counts-none ed (st .objects))) (roomy-settled alone))
   ends-kept rests e =
       alone-after (storeAt N (length img - 1) x) st alone (rests-clean s (x .journal) e) refl long (rests-settled s (x .journal) e)

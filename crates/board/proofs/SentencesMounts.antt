@@ -98,6 +98,11 @@ reset-is : (ed : Edition) → encode ed reset ≡ resetFrame ed
 reset-is edition.First = refl
 reset-is edition.Second = refl
 
+in-range : (xs : List Step) (n : ℕ) (d e : Step) → n < length xs → getD xs n d ≡ getD xs n e
+in-range [] n d e h = absurd (omega arith)
+in-range (x ∷ xs) zero d e h = refl
+in-range (x ∷ xs) (suc n) d e h = in-range xs n d e (omega arith)
+
 programs-bytes : (k o : ℕ) (bs : List ℕ) → Programs k o bs (onBlock k (writes o bs))
 programs-bytes k o bs =
     record {
@@ -110,11 +115,6 @@ programs-bytes k o bs =
     at n d h l =
         in-range (onBlock k (writes o bs)) n d (program k 0 0) l ∙ List·getD-map (writeStep k) (writes o bs) n (write 0 0)
         ∙ ap (writeStep k) (writes-at o bs n (write 0 0) h)
-
-    in-range : (xs : List Step) (n : ℕ) (d e : Step) → n < length xs → getD xs n d ≡ getD xs n e
-    in-range [] n d e h = absurd (omega arith)
-    in-range (x ∷ xs) zero d e h = refl
-    in-range (x ∷ xs) (suc n) d e h = in-range xs n d e (omega arith)
 
 -- ---- the steps and the record of a mount that mends
 

@@ -13,7 +13,7 @@ use Rattle.flash.proofs.Cases.{on-test, on-order, and-both}
 use Rattle.flash.proofs.Image.{bytes-block}
 use Rattle.journal.specs.Block.{Journal, BlockState, blank, inProgress, valid, foreign, blockState, lastTime}
 use Rattle.journal.proofs.Places.{Standing}
-use Rattle.journal.proofs.States.{valid-inv}
+use Rattle.journal.proofs.States.{Contents, valid-inv}
 use Rattle.wire.specs.declared.Refusal.{Refusal}
 use Rattle.wire.specs.declared.Refusal.the-variants as refusal
 use Rattle.board.specs.Record.{allowed, unmounted, Out, refuse}
@@ -21,13 +21,14 @@ use Rattle.board.specs.Mount.{nextBlock, Found, allFound, isBlank, Store
 use Rattle.board.specs.Mount.{orderFor, formatOrder, formatOn}
 use Rattle.board.specs.Exec.{exec}
 use Rattle.board.specs.Plan.{Work, Performs, formatIn, formatWork, mountIn, convertIn}
-use Rattle.board.specs.Two.{Choice, takes, refuses, allowedTwo, stateTwo, beside, chooseTwo, mountTwo, lastTwo, formatTwo, TwoBlocks}
+use Rattle.board.specs.Two.{sizeTwo, Choice, takes, refuses, allowedTwo, stateTwo, beside, chooseTwo, mountTwo, lastTwo, formatTwo, TwoBlocks}
 use Rattle.board.proofs.Images.{Sized, sized-of}
 use Rattle.board.proofs.Blocks.{Besides, wiped-besides}
 use Rattle.board.proofs.Found.{found-all, store}
 use Rattle.board.proofs.Current.{block-long}
 use Rattle.board.proofs.Replies.{standing-of}
 use Rattle.board.proofs.Outcomes.{mount-stores, mount-worn, mount-begins, format-begins}
+use Rattle.board.proofs.Mounting.{closing, closed-fits}
 use Rattle.board.proofs.Accepted.{follows-format, follows-mount}
 use Rattle.board.proofs.Two.{two-lengths, two-sizes, two-fresh, two-frame, two-framed, two-step, next-beside}
 

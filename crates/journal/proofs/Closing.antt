@@ -24,10 +24,10 @@ use Rattle.frame.proofs.Scanning.{scan-blank}
 use Rattle.frame.proofs.Scanned.{tail-cut}
 use Rattle.frame.proofs.Closing.{Closable, Closes, ignored, torn-closable, closing-length, closing-kind, closing-high, closing-finish}
 use Rattle.journal.specs.Block.{Journal, journal, headerLen, validData, header, tornLen, closing, changing, closeWrites, closeByte}
-use Rattle.journal.specs.Sentences.{closesIn}
+use Rattle.journal.specs.Sentences.{ValidBlock, closesIn, ClosingExact}
 use Rattle.journal.proofs.Blocks.{Okay, layout-size}
-use Rattle.journal.proofs.States.{Contents, contents-valid}
-use Rattle.journal.proofs.Sentences.{scan-torn}
+use Rattle.journal.proofs.States.{Contents, contents-valid, valid-inv}
+use Rattle.journal.proofs.Sentences.{scan-torn, valid-state, valid-is}
 use Rattle.journal.proofs.Building.{Lands, lands-ff}
 
 -- the torn frame's bytes, once it is closed
@@ -151,8 +151,7 @@ module _ {b₀ : List ℕ} {w : Journal} {n : ℕ} (c : Contents b₀ w) (torn :
           × Goes w n (front ++ programAt t i v) (changing (front ++ programAt t i v) ws)
           → Goes w n (front ++ t) (at i v ∷ changing (front ++ t) ws)
       go (l, z, g) =
-          let e : front ++ programAt t i v ≡ programAt (front ++ t) (length front + i) v = sym (program-behind front t i v) in
-          (
+          let e : front ++ programAt t i v ≡ programAt (front ++ t) (length front + i) v = sym (program-behind front t i v) in (
             torn-block t y,
             l,
             z,
@@ -316,7 +315,7 @@ closes-well {b} {w} c by = go (w .tail) refl
     size = layout-size (c .layout)
 
     none : closesIn b w ≡ [] → tornLen (w .tail) ≡ 0 → ((n : ℕ) → w .tail ≡ cut n → ⊥) → ClosesWell b w
-    none e z no =
+    none e z never =
         let few : length (closesIn b w) ≡ 0 = ap (λ (l : List Write). length l) e in
         record {
           fits = omega (arith, size);
@@ -324,7 +323,7 @@ closes-well {b} {w} c by = go (w .tail) refl
           bytes = λ i h. absurd (omega arith);
           lands = λ i h. absurd (omega arith);
           during = λ i h. absurd (omega arith);
-          after = λ n q. absurd (no n q);
+          after = λ n q. absurd (never n q);
         }
 
     go : (t : Tail) → w .tail ≡ t → ClosesWell b w
@@ -349,3 +348,21 @@ closes-well {b} {w} c by = go (w .tail) refl
       where
         same : {m : ℕ} → w .tail ≡ cut m → w .tail ≡ cut n → n ≡ m
         same {m} p q = let z : cut n ≡ cut m = sym q ∙ p in cc
+
+-- ---- in document 02's words
+
+valid-contents : {b : List ℕ} {j : Journal} → Bytes b → ValidBlock b j → Contents b j
+valid-contents {b} {j} by y =
+    valid-inv b j by (omega (arith, ap (λ (l : List ℕ). length l) (y .bytes))) (valid-state b j y)
+
+pub closing-exact : ClosingExact
+closing-exact =
+    record {
+      torn-still = λ b j i by y h. valid-is (writeAll b (take i (closesIn b j))) j (closes-well (valid-contents by y) by .during i h);
+      closed-then = λ b j n by y q.
+          let z : Closed (writeAll b (closesIn b j)) j n = closes-well (valid-contents by y) by .after n q in (
+            z .value,
+            omega (arith, z .long),
+            valid-is (writeAll b (closesIn b j)) (journal (j .edition) (j .time) (j .frames ++ (closed (z .value) ∷ [])) clean) (z .contents),
+          );
+    }

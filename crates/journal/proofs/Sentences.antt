@@ -57,14 +57,14 @@ tail-is ed next at l clean o e = tail-clean ed next at l e
 tail-is ed next at l (cut n) o e = tail-cut ed next at l n e
 tail-is ed next at l (bad f) o e = o
 
-valid-state : (b : List ℕ) (j : Journal) → ValidBlock b j → blockState b ≡ valid j
+pub valid-state : (b : List ℕ) (j : Journal) → ValidBlock b j → blockState b ≡ valid j
 valid-state b j y =
     let n : ℕ = nextOf 0 (j .frames) in
     valid-block {s = length b} j (record { is = y .bytes; stands = y .frames; time-lo = y .time-lo; time-hi = y .time-hi; size = refl })
     (tail-scan (j .edition) n (headerLen + total (j .edition) (j .frames)) (y .rest) (j .tail) (y .tail))
     (tail-okay (j .edition) n (y .rest) (j .tail) (y .tail))
 
-valid-is : (b : List ℕ) (j : Journal) → Contents b j → ValidBlock b j
+pub valid-is : (b : List ℕ) (j : Journal) → Contents b j → ValidBlock b j
 valid-is b j x =
     record {
       rest = x .rest;
