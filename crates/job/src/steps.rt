@@ -177,6 +177,7 @@ pub fn in_hand(n: Numbers, unit: &[u8; BUFFER_LEN], frame: &[u8; BUFFER_LEN]) ->
             Stage::Seal => return 0,
             Stage::Drop => return 0,
             Stage::Append => return flash::byte_at(frame, cursor.index as usize),
+            Stage::Close => return 0,
         },
     }
 }
