@@ -7,7 +7,7 @@ use lib.Dec.{eqb, ltb}
 use lib.ListN.{getD}
 use Rattle.flash.specs.Flash.{Step, program, erase, apply, sizeIn, sizeOf, within, writeStep}
 use Rattle.frame.specs.Frame.{editionBy}
-use Rattle.journal.specs.Block.{openWrite, sealWrite}
+use Rattle.journal.specs.Block.{openWrite, sealWrite, closeByte}
 use Rattle.wire.specs.declared.Answer.{Answer}
 use Rattle.wire.specs.declared.Answer.the-variants.{Done, More}
 use Rattle.board.specs.declared.Stage.{Stage}
@@ -19,7 +19,7 @@ use Rattle.board.specs.declared.Cursor.{Cursor}
 use Rattle.board.specs.declared.Record.{Record}
 use Rattle.board.specs.declared.Rest.{Rest}
 use Rattle.board.specs.Record.{noPlaces, noFrame, noJob, cursor, landing, idle, answerOf, Out}
-use Rattle.board.specs.Step.{first, enterCopy, closeByte, sameShape}
+use Rattle.board.specs.Step.{first, enterCopy, sameShape}
 use Rattle.job.specs.declared.Outcome.{Outcome}
 use Rattle.job.specs.declared.records.Numbers.{Numbers}
 use Rattle.job.specs.declared.records.Stepped.{Stepped}
