@@ -17,6 +17,7 @@ use Rattle.frame.specs.Frame.{Frame, total, nextOf}
 use Rattle.frame.specs.Reader.{fault, Tail, clean, cut, bad, Scan, ends}
 use Rattle.frame.specs.Sentences.{Torn}
 use Rattle.frame.proofs.Scanned.{Scanned, scan-inv, scan-length, tail-cut}
+use Rattle.frame.proofs.Exact.{torn-fits}
 use Rattle.survey.specs.declared.HeaderCheck.the-variants as check
 use Rattle.survey.specs.declared.Progress.{Progress}
 use Rattle.survey.specs.declared.Tail.the-variants as tail
@@ -220,7 +221,7 @@ module _ (ed : Edition) (b : List ℕ) (g : ed ≡ editionIn b) (h : headerLen �
     cut-fits n q =
         let y : Torn ed (nextOf 0 fs) (whole .rest) n =
         tail-cut ed (nextOf 0 fs) (headerLen + total ed fs) (whole .rest) n (whole .tail ∙ ap ends (cut-is n (frames-scan .tail) (tail-is ∙ q))) in
-        omega (arith, y .would-fit, y .long, scan-length ed 0 headerLen (drop headerLen b) frames-scan whole, length-drop headerLen b)
+        omega (arith, torn-fits ed (nextOf 0 fs) (whole .rest) n y .1, scan-length ed 0 headerLen (drop headerLen b) frames-scan whole, length-drop headerLen b)
 
     -- the table is cleared again
     pub right-bad : (x : Fault) (u : List ℕ) → w .tail ≡ tail.Bad x → r ≡ emptySurvey (kind.Foreign x) → u ≡ replicate 256 0 → Right (ofHeader b none) r u
