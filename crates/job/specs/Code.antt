@@ -184,7 +184,7 @@ inHandIn (Busy s) n unit frame = inHandAt s n unit frame
 abbrev pub inHand : Numbers → List ℕ → List ℕ → ℕ
 inHand n unit frame = inHandIn (n .phase) n unit frame
 
--- a byte that is given for it: where no frame's byte is programmed, any will do
+-- a byte that is given for it: where no frame is copied or appended, any will do
 abbrev pub HandsAt : Stage → Numbers → ℕ → List ℕ → List ℕ → Type 0
 HandsAt Wipe n b unit frame = Unit {0}
 HandsAt Open n b unit frame = Unit {0}
