@@ -14,7 +14,7 @@ use Rattle.frame.specs.Frame.{encodeAll, total}
 use Rattle.frame.specs.Reader.{hostLayout, layoutOf, match, readFrame, scan}
 use Rattle.journal.specs.Replay.{insert, lookup, changeAll, listOf, without, isOpen, replayFrom}
 use Rattle.flash.proofs.Cases.{and-left, and-right, clash}
-use Rattle.journal.specs.Block.{editionIn, headerFault, blockState}
+use Rattle.journal.specs.Block.{editionIn, headerFault, blockState, changing}
 use Rattle.journal.specs.Index.{sited, placesFrom, valueAt}
 use Rattle.wire.specs.Message.{parse}
 use Rattle.wire.specs.declared.Answer.the-variants.{More}
@@ -22,7 +22,7 @@ use Rattle.board.specs.declared.Stage.the-variants.{Wipe}
 use Rattle.board.specs.declared.Phase.the-variants.{Unmounted, Idle, Busy}
 use Rattle.board.specs.declared.Record.{Record}
 use Rattle.board.specs.Record.{allowed, noPlaces, noFrame, unmounted, rest, counting, idle, cursor, inStage}
-use Rattle.board.specs.Step.{advance, enterAppend, enterOpen, enterWipe, stepBusy, stepOn}
+use Rattle.board.specs.Step.{advance, enterAppend, enterOpen, enterClose, enterWipe, stepBusy, stepOn}
 use Rattle.board.specs.Mount.{mountAt, mountFound, mountOn, formatOrder, formatOn}
 use Rattle.board.specs.Queue.{fitsRecord, held, serve, requestOn}
 use Rattle.board.specs.Table.{Exactly, Misplaced, linesOf}
@@ -85,7 +85,8 @@ right-on-bench w N img r c (inr e) = same-on-bench w N img r c (ap onBench e)
 
 erases-blank : Differs 2 erasesBlank stored (mount ∷ []) answered 255 0
 unfolding erasesBlank numbersFrom sizeIn allowed allFF sameBytes encodeAll total hostLayout layoutOf match readFrame scan isOpen replayFrom insert changeAll
-    without editionIn headerFault blockState placesFrom noPlaces noFrame enterAppend enterOpen enterWipe mountAt mountFound mountOn half blankHalf stored
+    without editionIn headerFault blockState changing placesFrom noPlaces noFrame enterAppend enterOpen enterClose enterWipe mountAt mountFound mountOn half
+    blankHalf stored
 erases-blank = record { is-run = refl; shows-wrong = refl; shows-right = refl; apart = refl }
 
 -- ---- records that no run gives back: by the clause itself
@@ -137,7 +138,7 @@ never-ends (suc n) (inr (inr e)) = never-ends n e
 
 stuck-declared : Declared stuck
 unfolding stuck formatting allFF blockState numbersFrom sizeIn allowed formatOrder formatOn enterWipe
-stuck-declared = record { last = omega arith; wipes = omega arith; append = omega arith; copy = omega arith }
+stuck-declared = record { last = omega arith; wipes = omega arith; append = omega arith; copy = omega arith; closes = omega arith }
 
 forged-waits : Kept (offBench forgedWaits) → ⊥
 forged-waits p = never-ends 65536 (p 2 .calls .ends long stuck stuck-declared)
