@@ -39,6 +39,7 @@ use Rattle.board.proofs.Determining.{promise-determines, promise-determines-fro
 use Rattle.board.proofs.FollowingPlans.{promise}
 use Rattle.refuted.proofs.RefutingRuns.{runs}
 use Rattle.refuted.proofs.RefutingEditions.{edition-runs}
+use Rattle.refuted.proofs.RefutingMends.{mend-runs}
 
 pub bytes-all : (l : List ℕ) → allBytes l ≡ true → Bytes l
 bytes-all [] e = tt
@@ -255,4 +256,33 @@ refuted =
       room-as-before = differs (edition-runs .room-as-before);
       full-by-first = differs (edition-runs .full-by-first);
       logs-by-first = differs (edition-runs .logs-by-first);
+      moves-always = differs (mend-runs .moves-always);
+      moves-at-edge = differs (mend-runs .moves-at-edge);
+      moves-undue = differs (mend-runs .moves-undue);
+      never-moves = differs (mend-runs .never-moves);
+      fits-unclosed = differs (mend-runs .fits-unclosed);
+      fits-five = differs (mend-runs .fits-five);
+      leaves-torn = differs (mend-runs .leaves-torn);
+      worn-mends = differs (mend-runs .worn-mends);
+      closes-and-moves = differs (mend-runs .closes-and-moves);
+      high-first = differs (mend-runs .high-first);
+      length-stays = differs (mend-runs .length-stays);
+      closes-all = differs (mend-runs .closes-all);
+      clears-body = differs (mend-runs .clears-body);
+      finish-first = differs (mend-runs .finish-first);
+      closes-alone = differs (mend-runs .closes-alone);
+      always-resets = differs (mend-runs .always-resets);
+      aborts-one = differs (mend-runs .aborts-one);
+      reset-bare = differs (mend-runs .reset-bare);
+      finishes-reset = differs (mend-runs .finishes-reset);
+      end-stays = differs (mend-runs .end-stays);
+      mend-keeps = differs (mend-runs .mend-keeps);
+      closing-foreign = differs (mend-runs .closing-foreign);
+      reset-foreign = differs (mend-runs .reset-foreign);
+      closes-seven = differs (mend-runs .closes-seven);
+      checks-body = differs (mend-runs .checks-body);
+      checks-crc = differs (mend-runs .checks-crc);
+      past-reset = differs (mend-runs .past-reset);
+      room-with-closed = differs (mend-runs .room-with-closed);
+      logs-closed = differs (mend-runs .logs-closed);
     }

@@ -45,6 +45,7 @@ use Rattle.refuted.proofs.RefutingCut.{img, empty, claimed-of, refuses-
 use Rattle.refuted.proofs.RefutingOlder.{takes-half-erased}
 use Rattle.refuted.proofs.RefutingShares.{full-by-image}
 use Rattle.refuted.proofs.RefutingConverts.{drops-first, torn-foreign}
+use Rattle.refuted.proofs.RefutingTorn.{finish-first, closes-alone, high-first, end-stays}
 
 -- ---- a request of S + 1 steps
 
@@ -181,6 +182,10 @@ seen =
       full-by-image = full-by-image;
       drops-first = drops-first;
       torn-foreign = torn-foreign;
+      finish-first = finish-first;
+      closes-alone = closes-alone;
+      high-first = high-first;
       formats-blindly = formats-blindly;
       erases-one = erases-one;
+      end-stays = end-stays;
     }
