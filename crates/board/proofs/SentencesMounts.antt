@@ -24,7 +24,7 @@ use Rattle.board.specs.Mount.{nextBlock, allFound, wipeList, Store, Upke
 use Rattle.board.specs.Mount.{closedEnd, closesFor, resetBytes, dueReset, blockIn}
 use Rattle.board.specs.Table.{DueTransfer}
 use Rattle.board.specs.Plan.{Work, onBlock, mendWork, upkeepWork}
-use Rattle.board.specs.Sentences.{Member, OnlyIf, changes, stays, Closes, ClosesTail, resetFrame, Programs, Mends, MountExact}
+use Rattle.board.specs.Sentences.{Member, OnlyIf, changes, stays, Closes, ClosesTail, resetFrame, Programs, MendExact, MountExact}
 use Rattle.board.proofs.Upkeep.{rests-clean, rests-none, due-moves, moves-due}
 use Rattle.board.proofs.Lengths.{mend-programs, mend-few}
 use Rattle.board.proofs.Erasing.{In}
@@ -132,7 +132,7 @@ module _ (N l : ℕ) (b : List ℕ) (x : Store) where
   number-is edition.First = refl
   number-is edition.Second = refl
 
-  mends-exact : Mends N l (x .number) b j mended
+  mends-exact : MendExact N l (x .number) b j mended
   unfolding mended writes
   mends-exact =
       let k : ℕ = x .number in
@@ -173,14 +173,14 @@ module _ (N l : ℕ) (b : List ℕ) (x : Store) where
   nothing-due =
       let e : endOf j + 0 + 0 ≡ endOf j = omega arith in ap (λ (n : ℕ). record { steps = []; last = idle (ending z n) }) e
 
-  rests-exact : j .tail ≡ clean → replayOf j .pending ≡ [] → Mends N l (x .number) b j (record { steps = []; last = idle z })
+  rests-exact : j .tail ≡ clean → replayOf j .pending ≡ [] → MendExact N l (x .number) b j (record { steps = []; last = idle z })
   unfolding mended mend-by
-  rests-exact c p = subst (Mends N l (x .number) b j) (ap₂ mend-by c p ∙ nothing-due) mends-exact
+  rests-exact c p = subst (MendExact N l (x .number) b j) (ap₂ mend-by c p ∙ nothing-due) mends-exact
 
 -- ---- a mount
 
 mends-or-rests : (N : ℕ) (img : List ℕ) (x : Store) (u : Upkeep) → upkeep (sizeOf N img) x ≡ u → (DueTransfer (sizeOf N img) (x .journal) → ⊥)
-    → Mends N (length img - 1) (x .number) (blockIn N img x) (x .journal)
+    → MendExact N (length img - 1) (x .number) (blockIn N img x) (x .journal)
     (upkeepWork u (nextBlock N (x .number)) (blockIn N img x) (storeAt N (length img - 1) x) x)
 unfolding mended
 mends-or-rests N img x moves e n = absurd (n (due-moves (sizeOf N img) (x .journal) (ap transfers e)))

@@ -193,7 +193,7 @@ resetFrame edition.First = 5 ∷ 0 ∷ 7 ∷ 0 ∷ 0xFE ∷ []
 resetFrame edition.Second = withCrc (9 ∷ 0 ∷ 7 ∷ 0 ∷ [])
 
 -- the steps of a mount that mends block k, whose bytes are b and which holds x; and the record after them, of an image whose length less one is l
-pub record Mends (N l k : ℕ) (b : List ℕ) (x : Journal) (w : Work) : Type 0 where
+pub record MendExact (N l k : ℕ) (b : List ℕ) (x : Journal) (w : Work) : Type 0 where
   pub closes : List Step
   pub resets : List Step
   pub steps : w .steps ≡ closes ++ resets
@@ -228,7 +228,7 @@ pub record MountSteps (N : ℕ) (img : List ℕ) (x : Store) : Type 0 where
   pub moves : DueTransfer (sizeOf N img) (x .journal)
       → after .steps ≡ transferPlan (x .journal .edition) N (x .number) (x .journal) (state (objectsAfter (x .journal .frames)) [])
   pub mends : (DueTransfer (sizeOf N img) (x .journal) → ⊥)
-      → Mends N (length img - 1) (x .number) (block (sizeOf N img) (x .number) img) (x .journal) after
+      → MendExact N (length img - 1) (x .number) (block (sizeOf N img) (x .number) img) (x .journal) after
 
 unfoldable pub MountExact : Type 0
 MountExact = (N : ℕ) (img : List ℕ) (x : Store) → MountSteps N img x
