@@ -8,7 +8,7 @@ use lib.Dec.{eqb, ltb}
 use lib.ListN.{length}
 use borrow.Author.Tests.{lt-ltb, le-ltb}
 use Rattle.flash.specs.Bytes.{Bytes}
-use Rattle.flash.specs.Flash.{blockNumbers, sizeOf}
+use Rattle.flash.specs.Flash.{blockNumbers, block, sizeOf}
 use Rattle.flash.proofs.Cases.{on-test}
 use Rattle.frame.specs.Frame.{editionNumber}
 use Rattle.journal.specs.Block.{lastTime}
@@ -38,7 +38,7 @@ use Rattle.looks.specs.declared.looks.Tie.{Tie}
 use Rattle.looks.specs.declared.looks.Seen.{Seen}
 use Rattle.store.specs.declared.mends.Mend.{Mend}
 use Rattle.store.specs.Calls.{made, ends, Gives, refused}
-use Rattle.store.specs.Mends.{resetIn}
+use Rattle.store.specs.Mends.{mendIn, resetIn}
 use Rattle.looks.specs.Seen.{erasesOf, othersIn, newestIn, tieIn, storePlaces, placesFor, Sees}
 use Rattle.store.specs.Mounts.{mountPlan, mountIn, mountTaken, mountSeen, lastErased, orderBy}
 use Rattle.looks.proofs.Looked.{stateAt, Held, NewestHeld, newest-held}
@@ -159,6 +159,13 @@ module _ (N : ℕ) (img p : List ℕ) where
           ∙ ap (λ (t : Tie). kept (newestIn ys) t (z .why) f) (x .tie)
           ∙ ap (λ (n : Refusal). kept (newestIn ys) (tieIn ys) n f) (x .why) in
           rw e (mounts-stores (allFound N img) ys f (newest-held N img a b) (x .others))
+
+-- the same by what its parts gave, where a block is taken
+pub taken-is : (N : ℕ) (img : List ℕ) (z : Seen) {es : Erases} {m : Mend} {b : List ℕ} {s : ℕ} → z .newest .valid ≡ true → z .tie .equal ≡ false
+    → es ≡ erasesOf (othersIn (z .newest .number) (z .blanks) (blockNumbers N)) → m ≡ mendIn b (z .newest) → b ≡ block s (z .newest .number) img
+    → s ≡ sizeOf N img → mountIn N (length img - 1) (z .newest) es m ≡ mountSeen N img z
+unfolding mountSeen
+taken-is N img z v t e f g h = rw (e, f, g, h) (when-false (z .tie .equal) _ _ t ∙ when-true (z .newest .valid) _ _ v)
 
 -- b is what the test for the last time gave
 module _ (N l : ℕ) (w : Newest) (es : Erases) (m : Mend) (b : Bool) (e : b ≡ (m .moves && eqb (w .time) lastTime)) where

@@ -1,18 +1,13 @@
 -- A valid block, then equal times; then what is done with the block.
-use mathlib.Core.Path.{ap, ap₂, _∙_}
-use mathlib.Core.List.{List}
-use Prim.Native.Nat.{ℕ, _-_}
+use mathlib.Core.Path.{ap, _∙_}
 use native.Mathlib.Omega.{arith}
 use denote.Ref.{now}
-use lib.ListN.{length}
 use borrow.Author.Tests.{not-true, not-false}
-use Rattle.flash.specs.Flash.{block}
 use Rattle.board.proofs.Images.{sized-of}
 use Rattle.job.proofs.Entering.{when-true, when-false}
 use Rattle.store.specs.Calls.{refused}
-use Rattle.store.specs.Mends.{mendIn}
-use Rattle.store.specs.Mounts.{mountIn, mountSeen}
-use Rattle.store.proofs.Outcomes.{last-fits}
+use Rattle.store.specs.Mounts.{mountSeen}
+use Rattle.store.proofs.Outcomes.{last-fits, taken-is}
 use borrow.Author.Needs.{needs}
 use Rattle.store.proofs.mounts.mount_seen.Statement.{statement}
 use Rattle.store.proofs.mounts.mount_seen.Tie as tie
@@ -52,7 +47,6 @@ cast-mount-at c =
     omega (arith, last-fits (args′ .blocks) (now (args′ .image)) (pre′ .0))
 
 returns-3 : tie.Need-returns-3
-unfolding mountSeen
 returns-3 c =
     let size-of′ = c .before .before .before .size-of in
     let others′ = c .before .before .before .before .others in
@@ -60,12 +54,8 @@ returns-3 c =
     let if1′ = c .before .before .before .before .before .before .before .if1 in
     let args′ = c .before .before .before .before .before .before .before .before .before .before .before .before .args in
     c .mount-at .ensures
-    ∙ ap₂ (mountIn (args′ .blocks) (length (now (args′ .image)) - 1) (args′ .z .newest)) (others′ .ensures)
-    (c .before .mending .ensures
-    ∙ ap (λ (b : List ℕ). mendIn b (args′ .z .newest))
-    (c .before .before .block-of .ensures ∙ ap (λ (s : ℕ). block s (args′ .z .newest .number) (now (args′ .image))) (size-of′ .ensures)))
-    ∙ when-false (args′ .z .tie .equal) _ _ (if2′ .left)
-    ∙ when-true (args′ .z .newest .valid) _ _ (not-false (args′ .z .newest .valid) (if1′ .left))
+    ∙ taken-is (args′ .blocks) (now (args′ .image)) (args′ .z) (not-false (args′ .z .newest .valid) (if1′ .left)) (if2′ .left) (others′ .ensures)
+    (c .before .mending .ensures) (c .before .before .block-of .ensures) (size-of′ .ensures)
 
 pub mount-seen-spec : {M : Type 1} → statement M
 mount-seen-spec = tie.close (tie.spec
