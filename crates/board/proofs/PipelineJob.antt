@@ -1,4 +1,4 @@
--- A whole job: its step calls do the wipes, the transfer if it makes one, and the frame that it appends.
+-- A whole job: its step calls do the wipes, the transfer or the closing if it makes one, and the frame that it appends.
 use mathlib.Core.Path.{_≡_, refl, sym, ap, subst, _∙_, subst₂}
 use mathlib.Core.List.{List, [], _∷_, _++_, append-assoc, map}
 use mathlib.Core.Bool.{Bool, true, false, cond}

@@ -36,7 +36,7 @@ use Rattle.board.specs.Claim.{Event, call, cutErase, Happens}
 
 -- ---- every image reads as one store
 
--- the store that an accepted mount takes: a valid block, newer than every other valid one; its plan is document 01's, and leaves a block
+-- the store that an accepted mount takes: a valid block, newer than every other valid one; its plan is the papers', and leaves a block
 -- that replays to its settled objects and nothing pending. Image and record then pass line 11 of the table: the store can be used
 pub record Mounts (N : ℕ) (m : Machine) (img : List ℕ) (o : Out) : Type 0 where
   pub store : Store

@@ -31,7 +31,7 @@ pub struct Job {
     pub drops: bool,
     pub target: u8,
     pub time: u32,
-    // the offset past each host's last commit or abort
+    // the offset past each host's last commit or abort, or a reset
     pub since: [u16; 4],
     // the length of the frame to append, 0 for none
     pub size: u8,

@@ -1,4 +1,4 @@
--- What is pending after a replay: the changes that stand past their host's last commit or abort.
+-- What is pending after a replay: the changes that stand past their host's last commit or abort, or a reset.
 use mathlib.Core.Path.{_≡_, refl, sym, ap, ap₂, subst, fun-ext, _∙_}
 use mathlib.Core.List.{List, [], _∷_, _++_, append-assoc, append-nil}
 use mathlib.Core.Bool.{Bool, true, false}
@@ -18,7 +18,7 @@ use Rattle.journal.specs.Index.{isEnd, pick, sinceFrom, sinceHost, since
 use Rattle.journal.proofs.Replaying.{replay-snoc}
 use Rattle.journal.proofs.Mapping.{located, located-plain, located-snoc}
 
--- ---- the offsets past each host's last commit or abort
+-- ---- the offsets past each host's last commit or abort, or a reset
 
 pub since-snoc : (ed : Edition) (h : Host) (o d : ℕ) (fs : List Frame) (f : Frame)
     → sinceFrom ed h o d (fs ++ (f ∷ [])) ≡ pick (isEnd h f) (o + total ed fs + frameLen ed f) (sinceFrom ed h o d fs)
