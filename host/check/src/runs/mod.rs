@@ -1,18 +1,21 @@
 //! Random runs from a finished format, held to the book at every idle record.
 
 mod judge;
+mod mended;
 
 use crate::blocks::{self, Wear};
 use crate::book::Book;
 use crate::cuts::{Allowed, Cuts, Start, newest};
 use crate::edition;
 use crate::generate::{self, Manner, Wish};
+use crate::mend::{self, Dirt, Due};
 use crate::pending;
 use crate::raise;
 use crate::rng::Rng;
 use crate::side::{Modelled, Stores};
 use crate::tally::Tally;
 use crate::twin::{Call, Outcome, Twin};
+use model::block::HEADER;
 use model::frame::VALUE_LIMIT;
 use std::collections::BTreeMap;
 use store::{Answer, Drive, Head, Idle, Store, message};
@@ -61,6 +64,11 @@ struct Run<M: Modelled, L: Drive, P: Store> {
     tight: bool,
     /// Steps that the job in hand has still to make, where document 01 gives their number.
     due: Option<usize>,
+    /// What the current block held when the job in hand began, and what that is to do to it; where a mount is to end: block and
+    /// end.
+    dirt: Dirt,
+    plan: mend::Plan,
+    rest: Option<(usize, usize)>,
 }
 
 /// By job, how often a mount or format began after its first step and before its last, in the run itself.
@@ -99,6 +107,9 @@ pub fn run_among<M: Modelled, L: Drive, P: Store>(stores: impl Fn() -> Stores<M,
         convert_cut: false,
         tight: false,
         due: None,
+        dirt: Dirt::up_to(HEADER, false),
+        plan: mend::Plan::None,
+        rest: None,
         rng,
     };
     run.wear.start(run.twin.erases());
@@ -150,8 +161,9 @@ impl<M: Modelled, L: Drive, P: Store> Run<M, L, P> {
             (Head::Job, 90..=92) => self.any_request(),
             (Head::Job, _) => self.cut_short(),
             (Head::Idle(_), 0..=1) => self.steps(1),
-            (Head::Idle(_), 2..=9) => self.put_at_the_limit(),
-            (Head::Idle(_), 10..=17) => self.put_at_the_hosts_limit(),
+            (Head::Idle(_), 2..=7) => self.put_at_the_limit(),
+            (Head::Idle(_), 8..=13) => self.put_at_the_hosts_limit(),
+            (Head::Idle(idle), 14..=17) => self.put_to_the_end(idle),
             (Head::Idle(idle), 18..=20) => pending::mislead(&mut self.twin, &mut self.rng, idle),
             (Head::Idle(idle), 21) => edition::mislead(&mut self.twin, &mut self.rng, idle),
             (Head::Idle(_), 22..=96) => self.any_request(),
@@ -253,6 +265,15 @@ impl<M: Modelled, L: Drive, P: Store> Run<M, L, P> {
         self.put_of_about(host, free);
     }
 
+    /// A put after which a reset just fits or just does not, alone or behind a frame that is torn later.
+    fn put_to_the_end(&mut self, idle: Idle) {
+        let host = self.rng.below(4);
+        let lengths = self.lengths();
+        let behind = self.rng.pick(&[0, 0, lengths.mark, lengths.change]) + lengths.reset + self.rng.below(2);
+        let free = self.twin.size().saturating_sub(usize::from(idle.end) + lengths.change + behind);
+        self.put_of_about(host, free);
+    }
+
     /// A put of so many bytes, of the longest value if these are more, or of one byte more than that.
     fn put_of_about(&mut self, host: usize, free: usize) {
         let size = free.min(VALUE_LIMIT) + self.rng.below(2);
@@ -277,6 +298,8 @@ impl<M: Modelled, L: Drive, P: Store> Run<M, L, P> {
     fn call(&mut self, call: Call) -> Outcome {
         let busy = self.twin.busy();
         let idle = self.twin.idle();
+        self.follow_cut(&call);
+        let due = self.due_of_mount(&call);
         let outcome = self.twin.call(&call);
         self.follow_edition(&call, outcome.answer, busy);
         self.follow_job(&call, &outcome, busy);
@@ -284,11 +307,14 @@ impl<M: Modelled, L: Drive, P: Store> Run<M, L, P> {
         if outcome.answer == Answer::MORE && !call.goes_on() {
             self.cut_job(idle, &call);
         }
+        let steps = due.as_ref().map(Due::steps);
+        self.follow_plan(&call, outcome.answer, idle, due);
         self.book.feed(&call, outcome.answer);
-        self.count_steps(&call, &outcome, busy);
+        self.count_steps(&call, &outcome, busy, steps);
         self.wear.check(self.twin.blocks, self.twin.erases());
         if let Some(idle) = self.twin.idle() {
             self.check_book(idle);
+            self.follow_rest(idle);
         }
         outcome
     }
