@@ -112,6 +112,15 @@ impl Dirt {
 }
 
 impl Plan {
+    /// Whether a mount or request has an erase to make.
+    pub fn erases(self) -> bool {
+        match self {
+            Plan::None | Plan::Format => false,
+            Plan::Append { moves, .. } => moves > 0,
+            Plan::Mount { erases, mending } => erases + mending.moves > 0,
+        }
+    }
+
     /// What a cut after so many steps of a mount falls into, apart from its erases and before its last step.
     pub fn cut_in(self, made: usize) -> Option<&'static str> {
         let Plan::Mount { erases, mending: Mending { closes, reset, moves, .. } } = self else { return None };

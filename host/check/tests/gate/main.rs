@@ -27,6 +27,7 @@ mod second;
 mod tight;
 mod told;
 mod traps;
+mod worn;
 mod wrong;
 mod wrong_blocks;
 mod wrong_edition;
