@@ -4,6 +4,8 @@
 use crate::book::{Lengths, lengths};
 use model::block::{self, Block, Journal};
 use model::cut;
+use model::edition::Edition;
+use model::frame::closed_samples;
 
 /// What the current block holds, as far as it matters to a mount.
 #[derive(Clone, Copy, PartialEq, Eq, Debug, Default)]
@@ -209,4 +211,13 @@ pub fn current(image: &[u8], blocks: u8) -> Option<(usize, Journal)> {
 pub fn erases(image: &[u8], blocks: u8, current: usize) -> usize {
     let others = cut(image, blocks).into_iter().enumerate().filter(|(number, _)| *number != current);
     others.filter(|(_, bytes)| !block::blank(bytes)).count()
+}
+
+/// Closed frames from where a block's frames end, up to where no reset fits.
+pub fn stuff(block: &mut [u8], mut end: usize, edition: Edition) {
+    let samples = closed_samples(edition);
+    while let Some(closed) = samples.iter().rfind(|closed| end + closed.len() <= block.len()) {
+        block[end..end + closed.len()].copy_from_slice(closed);
+        end += closed.len();
+    }
 }

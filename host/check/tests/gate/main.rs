@@ -12,6 +12,7 @@ mod drive;
 mod edge;
 mod erase;
 mod fault;
+mod fault_blocks;
 mod flips;
 mod forged;
 mod format;
