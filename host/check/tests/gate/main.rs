@@ -19,6 +19,7 @@ mod format;
 mod judged;
 mod limits;
 mod long;
+mod mend;
 mod misled;
 mod pending;
 mod random;
