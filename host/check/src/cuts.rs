@@ -73,9 +73,11 @@ impl<M: Modelled, L: Drive, P: Store> Cuts<M, L, P> {
         let mut seen = HashSet::new();
         let mut images = self.images(start, 1, RAISED, &mut seen).expect("an accepted call");
         let finished = self.twin.image().to_vec();
-        // a job may end with an image seen before: the format of a store just formatted does
+        // a job may end with an image seen before: the format of a store just formatted does; no recovery may, unless what is
+        // found before and after is the same
         if images.last().is_some_and(|left| left.image == finished) {
             images.pop();
+            seen.remove(&digest(&finished));
         }
         // an image without a store, which a cut format may leave, must not be left by a mount
         let seen = if matches!(before, Allowed::OrGone(_)) { HashSet::new() } else { seen };

@@ -13,16 +13,17 @@ use store::{Answer, Idle, Store, message};
 const LENGTH: usize = 512;
 const S: usize = LENGTH / 2;
 
-/// How much room there is for a put: ample; none for one of 72 bytes without a transfer; or 60 bytes, which a put just fills, so
-/// that a mount has no room for a reset.
+/// How much room there is for a put: ample; none for one of 72 bytes without a transfer; 60 bytes, which a put just fills, so
+/// that a mount has no room for a reset; or 60 of which it leaves 8, so that there is none behind its commit.
 #[derive(Clone, Copy, PartialEq)]
-enum Room {
+pub enum Room {
     Ample,
     Transfer,
     Exact,
+    Nearly,
 }
 
-use Room::{Ample, Exact, Transfer};
+use Room::{Ample, Exact, Nearly, Transfer};
 
 /// Object 1 is settled, and there is so much room.
 fn board(room: Room) -> Twin {
@@ -38,10 +39,15 @@ fn board(room: Room) -> Twin {
 }
 
 /// Cuts a put everywhere, and its commit: until that ends object 1 is there alone.
-fn cut_everywhere(store: Altered, room: Room) {
+pub fn cut_everywhere(store: Altered, room: Room) {
     let mut twin = board(room);
     let mut objects = Objects::from([(1, b"kept".to_vec())]);
-    let value = vec![7; if room == Exact { 52 } else { 64 }];
+    let size = match room {
+        Ample | Transfer => 64,
+        Exact => 52,
+        Nearly => 44,
+    };
+    let value = vec![7; size];
     for message in [message::put(2, &value), message::commit()] {
         let before = objects.clone();
         if message == message::commit() {
@@ -57,7 +63,7 @@ fn cut_everywhere(store: Altered, room: Room) {
 
 #[test]
 fn right_stores_are_cut() {
-    for room in [Ample, Transfer, Exact] {
+    for room in [Ample, Transfer, Exact, Nearly] {
         cut_everywhere(RIGHT, room);
     }
 }
