@@ -197,6 +197,8 @@ fn change(label: &str, side: &Side, frame: &Frame, out: &mut impl Write) -> io::
         Body::Delete(_, id) => writeln!(out, "{label}delete {}", id.0),
         Body::Commit(_) => writeln!(out, "{label}commit"),
         Body::Abort(_) => writeln!(out, "{label}abort"),
+        Body::Closed => writeln!(out, "{label}closed"),
+        Body::Reset => writeln!(out, "{label}reset"),
     }
 }
 

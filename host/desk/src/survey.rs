@@ -88,6 +88,6 @@ impl Side<'_> {
 pub fn owner(frame: &Frame) -> Option<Host> {
     match frame.body {
         Body::Put(host, ..) | Body::Delete(host, _) | Body::Commit(host) | Body::Abort(host) => Some(host),
-        Body::Settled(..) => None,
+        Body::Settled(..) | Body::Closed | Body::Reset => None,
     }
 }

@@ -116,7 +116,7 @@ fn bytes_of_0xff_that_are_no_steps() {
         };
         with_steps(fewer, (image, blocks), record, (host, message), reply)
     };
-    run(Altered { request, ..RIGHT }, 2);
+    run(Altered { request, ..RIGHT }, 3);
 }
 
 /// U is said to be S.
