@@ -69,15 +69,16 @@
  *   - Erased bytes read 0xFF, and each block can be erased by itself: S is a whole number of sectors.
  *   - Bytes can be programmed one at a time, at any address. The store asks for no alignment.
  *   - A byte may be programmed again while bits are only cleared: byte 8 of a block's header goes from 0xFF to 0xFE and
- *     later to 0xFC. So flash with ECC over words, and flash whose words can be written only once, will not do.
+ *     later to 0xFC, and byte 2 of a frame that a power cut stopped goes to 0 in the mount after it. So flash with ECC over
+ *     words, and flash whose words can be written only once, will not do.
  *   - A power cut falls between steps or inside an erase. Inside an erase it leaves each bit of the block as it was or 1,
  *     freely; so a block of several sectors may be erased sector by sector, in any order. Programming a byte happens whole
  *     or not at all. The proofs assume this; a flash that a cut leaves with a weakly programmed byte, or with bits that
  *     read now so and now so, is not covered: such a byte may make its block foreign, and a mount then answers
  *     GROMMETIDE_FOREIGN and changes nothing, or it may go unnoticed. Nor is a cut inside one of a format's erases covered:
  *     format again.
- *   - Times run out in the end: a block made at time 4,294,967,295 is the last. A mount of it that finds something pending
- *     or a torn frame, after a power cut, is refused with GROMMETIDE_WORN.
+ *   - Times run out in the end: a block made at time 4,294,967,295 is the last. A mount of it that finds something pending,
+ *     after a power cut, and too little room behind its frames to drop it there, is refused with GROMMETIDE_WORN.
  *   - Flash reads back what was programmed. What damage is noticed goes by the block's edition, see below.
  *
  * The two editions of the flash format
@@ -87,8 +88,9 @@
  *   four bytes one after the other, otherwise in all but about one of 4,294,967,296 cases (what is known of every CRC-32,
  *   and not proved here; that our bytes are a CRC-32's is). A mount then answers GROMMETIDE_FOREIGN, and grommetide_fault
  *   names GROMMETIDE_FIELD_CRC or another field of that frame; a request on a mounted store gets GROMMETIDE_STALE. Not told
- *   in either edition: damage that leaves just what a power cut could have left (the last frame ends in 0xFF, or is gone; a
- *   block's byte 8 is 0xFE), and another time in a block's header, which has no checksum.
+ *   in either edition: damage that leaves just what a power cut or the mount after it could have left (the last frame ends in
+ *   0xFF, or is gone; a frame's kind is 0, as that of one that was stopped and closed, and nothing in it counts; a block's
+ *   byte 8 is 0xFE), and another time in a block's header, which has no checksum.
  *
  *   A block's edition is told by its header's kind (GROMMETIDE_BLOCK_KIND, GROMMETIDE_BLOCK_KIND_2), that of the mounted
  *   store by byte 15 of the record. A format writes edition 1. A store of edition 1 stays so until a host sends a convert,
@@ -117,14 +119,14 @@
  *   GROMMETIDE_RECORD_BYTES bytes, in the caller's memory; it need not survive a power cut. mount and format write it,
  *   whatever was in it; the other calls take it as the last call left it. Numbers are little-endian.
  *
- *     0      phase: 0 unmounted, 1 idle, 2 to 7 in a job; any other value reads as unmounted
+ *     0      phase: 0 unmounted, 1 idle, 2 to 8 in a job; any other value reads as unmounted
  *     1-2    image length less one
  *     3      current block, from 0 on
  *     4-5    where the current block's frames end, counted from its start
  *     6      number of blocks
  *     7-14   pending bytes of hosts 0 to 3, two bytes each
  *     15     edition of the current block, 1 or 2
- *     16-1074 the library's own: 16-527 places of values, 528-570 the job, 571-822 and 823-1074 frames in hand
+ *     16-1083 the library's own: 16-527 places of values, 528-579 the job, 580-831 and 832-1083 frames in hand
  *
  *   Bytes 1 to 15 mean this in an idle record. An unmounted or idle record that the library hands out has zeros in all
  *   bytes it does not use. A record that does not belong to the image is noticed (GROMMETIDE_STALE), or, in a job, does
@@ -190,6 +192,11 @@ typedef uint64_t grommetide_size;
 /*
  * This header's version. A record is of use only to the version that wrote it; the flash may outlive versions.
  *
+ *   0.10 a mount after a power cut mends its block in place: a frame that was stopped is closed and what is pending is dropped by
+ *        a frame of 5 or 9 bytes, at most 13 bytes in all. It erases and moves the store only where these would not fit. A record
+ *        of 1,084 bytes. It takes the flash of 0.9 as it is. Never go back: to a library before 0.10 a block that was mended is
+ *        foreign, and beside an older block whose erase was cut and that still reads as valid, one of 0.4 to 0.9 keeps the older
+ *        and erases the good one.
  *   0.9  a second edition of the flash format, with a CRC-32 in each frame, which a host's convert (0x0108) takes a store to;
  *        GROMMETIDE_PENDING, GROMMETIDE_FIELD_CRC; a record of 1,075 bytes, which says the edition. A store that is not
  *        converted has the flash of 0.8 and is served as by 0.8. See "The two editions" before you go back.
@@ -209,7 +216,7 @@ typedef uint64_t grommetide_size;
  *   0.1  values of up to 64 bytes, a record of 690 bytes. It finds flash in which a longer value stands foreign.
  */
 #define GROMMETIDE_VERSION_MAJOR 0
-#define GROMMETIDE_VERSION_MINOR 9
+#define GROMMETIDE_VERSION_MINOR 10
 #define GROMMETIDE_VERSION_PATCH 0
 
 /*
@@ -221,7 +228,7 @@ typedef uint64_t grommetide_size;
 #define GROMMETIDE_BLOCK_KIND 0x4A01
 #define GROMMETIDE_BLOCK_KIND_2 0x4A02
 
-#define GROMMETIDE_RECORD_BYTES 1075
+#define GROMMETIDE_RECORD_BYTES 1084
 
 /* The most blocks of an image. The fewest are two. */
 #define GROMMETIDE_BLOCKS_MAX 16
@@ -269,8 +276,9 @@ enum {
 grommetide_size grommetide_record_size(void);
 
 /*
- * Finds the store in an image and begins to tidy up after a power cut. Pending changes are dropped. Every block beside the
- * store's is erased if it is not blank, one that no store wrote too: read the image out before, to look at it.
+ * Finds the store in an image and begins to tidy up after a power cut. A frame that was stopped is closed, and pending changes
+ * are dropped, in place by a few bytes; where these would not fit, by a move to the next block. Every block beside the store's
+ * is erased if it is not blank, one that no store wrote too: read the image out before, to look at it.
  * DONE: the store is mounted. MORE: steps are left. Refused: IMAGE_LENGTH, NO_STORE, FOREIGN, WORN.
  */
 uint8_t grommetide_mount(const uint8_t *image, grommetide_size image_len, uint8_t blocks, uint8_t *record,
