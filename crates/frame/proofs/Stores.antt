@@ -64,6 +64,14 @@ module _ (p v f g : List ℕ) (m : ℕ) (l : length p + length v < m)
       ∙ append-nil (v ++ (0 ∷ replicate (m - (length p + length v + 1)) 0)))
       ∙ sym (append-assoc p v (0 ∷ replicate (m - (length p + length v + 1)) 0))
 
+  pub length-joined : length (take (length p) f ++ (g ++ drop (m - length p) (drop (length p) f))) ≡ m
+  length-joined =
+      let k : ℕ = length p + length v in
+      let z : List ℕ = 0 ∷ replicate (m - (k + 1)) 0 in
+      let lx : length (p ++ v) ≡ k = length-append p v in
+      let lz : length {A = ℕ} (replicate (m - (k + 1)) 0) ≡ m - (k + 1) = length-replicate (m - (k + 1)) 0 in
+      ap length joined ∙ length-append (p ++ v) z ∙ omega (arith, lx, lz, l)
+
   -- and the seal after them
   pub assembled : (e : Edition) → length p + length v + checkLen e < m
       → sealAt e (length p + length v) (take (length p) f ++ (g ++ drop (m - length p) (drop (length p) f)))

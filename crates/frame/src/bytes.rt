@@ -35,24 +35,21 @@ fn copy_front(dst: &mut [u8], src: &[u8])
 }
 
 // The check and the finish byte after m bytes.
-fn seal(f: [u8; BUFFER_LEN], edition: Edition, m: usize) -> [u8; BUFFER_LEN]
-    requires { ⌜ m + checkLen edition < bufferLen ⌝ }
-    ensures { λ r. ⌜ r ≡ sealed edition (take m f) ++ drop (m + checkLen edition + 1) f ⌝ }
+fn seal(g: &mut [u8], edition: Edition, m: usize)
+    requires { ⌜ m + checkLen edition < length (now g) ⌝ }
+    ensures { λ _. ⌜ now (g .exit) ≡ sealed edition (take m (now (g .entry))) ++ drop (m + checkLen edition + 1) (now (g .entry)) ⌝ }
 {
-    let mut g = f;
     match edition {
         Edition::First => {
             g[m] = FINISH;
-            g
         }
         Edition::Second => {
-            let c = crc32(&f[..m]);
+            let c = crc32(&g[..m]);
             g[m] = (c % 256) as u8;
             g[m + 1] = (c / 256 % 256) as u8;
             g[m + 2] = (c / 65536 % 256) as u8;
             g[m + 3] = (c / 16777216) as u8;
             g[m + 4] = FINISH;
-            g
         }
     }
 }
@@ -67,7 +64,8 @@ fn assemble(edition: Edition, front: &[u8], value: &[u8]) -> [u8; BUFFER_LEN]
     let mut f = [0u8; BUFFER_LEN];
     copy_front(&mut f[..], front);
     copy_front(&mut f[a..], value);
-    seal(f, edition, a + n)
+    seal(&mut f[..], edition, a + n);
+    f
 }
 
 // As much of a value as a frame holds.
