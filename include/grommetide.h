@@ -186,15 +186,15 @@
  *   stack):
  *
  *                               x86-64   Cortex-M3
- *     grommetide_mount           3,072       3,328
- *     grommetide_fault           3,072       3,072
- *     grommetide_format          3,328       3,584
- *     grommetide_request         3,072       2,816
+ *     grommetide_mount           3,584       3,584
+ *     grommetide_fault           3,584       3,584
+ *     grommetide_format          3,584       3,584
+ *     grommetide_request         2,560       3,072
  *     grommetide_read            1,792       1,792
- *     grommetide_next              576         512
- *     grommetide_made            3,840       3,328
- *     grommetide_step            3,584       3,072
- *     grommetide_run             4,096       3,584
+ *     grommetide_next              576         576
+ *     grommetide_made            3,328       3,328
+ *     grommetide_step            2,816       3,072
+ *     grommetide_run             3,584       3,584
  */
 #ifndef GROMMETIDE_H
 #define GROMMETIDE_H
