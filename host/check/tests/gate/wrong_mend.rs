@@ -78,6 +78,15 @@ fn closing_without_a_reset() {
     cut_everywhere(Altered { mount, ..RIGHT }, Room::Ample);
 }
 
+#[test]
+#[should_panic(expected = "a mount ends in another block or at another place")]
+fn a_record_that_says_another_end() {
+    let mount = |image: &[u8], blocks| {
+        other(image, blocks, |_, (steps, idle)| (steps, Idle { end: idle.end + 1, ..idle }))
+    };
+    run(Altered { mount, ..RIGHT }, 1);
+}
+
 /// Program steps of the reset at the end of the current block, and the record after them.
 fn with_reset(image: &[u8], blocks: u8, idle: Idle) -> Begun {
     let edition = Edition::ALL[usize::from(idle.edition) - 1];
