@@ -336,8 +336,8 @@ impl<M: Modelled, L: Drive, P: Store> Run<M, L, P> {
         self.count_steps(&call, &outcome, busy, steps);
         self.wear.check(self.twin.blocks, self.twin.erases());
         if let Some(idle) = self.twin.idle() {
-            self.check_book(idle);
             self.follow_rest(idle);
+            self.check_book(idle);
         }
         outcome
     }

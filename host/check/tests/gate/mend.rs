@@ -8,7 +8,7 @@ use check::side::Stores;
 use check::twin::{Call, Twin};
 use model::edition::Edition;
 use model::frame::{self, Host, Id};
-use store::{Answer, Head, message};
+use store::{Answer, Head, Idle, message};
 
 const S: usize = 256;
 
@@ -258,6 +258,31 @@ fn nothing_counts_in_c() {
         let put = frame::put(edition, Host(0), Id(2), &vec![2; longest]);
         let moved = filled(&[&header(edition.number(), 8), &kept, &put], S);
         assert_eq!(board.image(), [vec![0xFF; S], moved].concat());
+    }
+}
+
+/// Host 1's changes go over a transfer, and not what was torn between them: a put of its own that was closed, and a reset of
+/// others' changes before.
+#[test]
+fn a_transfer_leaves_them_behind() {
+    for edition in Edition::ALL {
+        let put = |id: u8, size: usize| frame::put(edition, Host(1), Id(id), &vec![id; size]);
+        let (settled, old, first, second) = (settled(edition), put(7, 20), put(2, 10), put(3, 30));
+        let mut closed = put(4, 90);
+        closed[2] = 0;
+        let frames = [&settled[..], &old, reset(edition), &first, &closed, &second];
+        let mut board = Twin::new(&image(2, 0, (edition, 7), &frames));
+        let (end, pending) = (16 + frames.concat().len(), [0, (first.len() + second.len()) as u16, 0, 0]);
+        let (length, number) = (2 * S, edition.number());
+        board.forge(Idle { length, block: 0, end: end as u16, blocks: 2, edition: number, pending });
+        let last = put(5, 40);
+        assert!(end + last.len() > S);
+        let claimed = 16 + [&settled[..], &first, &second].concat().len();
+        assert_eq!(board.serve(1, &message::put(5, &[5; 40])), done(claimed - 5 + last.len()));
+        let moved = filled(&[&header(number, 8), &settled, &first, &second, &last], S);
+        assert_eq!(board.image(), [vec![0xFF; S], moved].concat());
+        serve(&mut board, 1, &message::commit());
+        assert_eq!(board.ids(), [1, 2, 3, 5]);
     }
 }
 

@@ -78,6 +78,24 @@ fn closing_without_a_reset() {
     cut_everywhere(Altered { mount, ..RIGHT }, Room::Ample);
 }
 
+/// The record after a mount's last step says that frames end a byte later.
+const SAYS_ANOTHER_END: Altered = Altered {
+    mount: |image, blocks| other(image, blocks, |_, (steps, idle)| (steps, Idle { end: idle.end + 1, ..idle })),
+    ..RIGHT
+};
+
+#[test]
+#[should_panic(expected = "a mount ends in another block or at another place")]
+fn a_record_that_says_another_end() {
+    run(SAYS_ANOTHER_END, 1);
+}
+
+#[test]
+#[should_panic(expected = "a mount ends in another block or at another place")]
+fn a_record_that_says_another_end_after_a_cut() {
+    cut_everywhere(SAYS_ANOTHER_END, Room::Ample);
+}
+
 /// Program steps of the reset at the end of the current block, and the record after them.
 fn with_reset(image: &[u8], blocks: u8, idle: Idle) -> Begun {
     let edition = Edition::ALL[usize::from(idle.edition) - 1];
