@@ -172,8 +172,8 @@
  *
  *     x86-64, AArch64, RISC-V 64   memcpy, memset
  *     RISC-V 32                    memcpy, memset, __udivdi3
- *     Cortex-M3, Cortex-M4         __aeabi_memcpy, __aeabi_memcpy4, __aeabi_memcpy8, __aeabi_memset, __aeabi_memclr,
- *                                  __aeabi_memclr4, __aeabi_memclr8, __aeabi_uldivmod
+ *     Cortex-M3, Cortex-M4         __aeabi_memcpy, __aeabi_memcpy8, __aeabi_memset, __aeabi_memclr, __aeabi_memclr4,
+ *                                  __aeabi_memclr8, __aeabi_uldivmod
  *     Cortex-M0                    these and __aeabi_uidiv, __aeabi_lmul
  *     WebAssembly                  none
  *
