@@ -68,27 +68,53 @@
  *
  *   - Erased bytes read 0xFF, and each block can be erased by itself: S is a whole number of sectors.
  *   - Bytes can be programmed one at a time, at any address. The store asks for no alignment.
- *   - A byte may be programmed again while bits are only cleared: byte 8 of a block's header goes from 0xFF to 0xFE and
- *     later to 0xFC. So flash with ECC over words, and flash whose words can be written only once, will not do.
+ *   - A byte may be programmed again while bits are only cleared. There are two such bytes. Byte 8 of a block's header goes
+ *     from 0xFF to 0xFE and later to 0xFC. And since 0.10 byte 2 of a frame that a power cut left unfinished, its kind, goes
+ *     from 1, 2, 3, 4 or 7 to 0 in the next mount. So flash with ECC over words, and flash whose words can be written only
+ *     once, will not do.
  *   - A power cut falls between steps or inside an erase. Inside an erase it leaves each bit of the block as it was or 1,
  *     freely; so a block of several sectors may be erased sector by sector, in any order. Programming a byte happens whole
  *     or not at all. The proofs assume this; a flash that a cut leaves with a weakly programmed byte, or with bits that
  *     read now so and now so, is not covered: such a byte may make its block foreign, and a mount then answers
  *     GROMMETIDE_FOREIGN and changes nothing, or it may go unnoticed. Nor is a cut inside one of a format's erases covered:
  *     format again.
- *   - Times run out in the end: a block made at time 4,294,967,295 is the last. A mount of it that finds something pending
- *     or a torn frame, after a power cut, is refused with GROMMETIDE_WORN.
+ *   - Times run out in the end: a block made at time 4,294,967,295 is the last. A mount of it that finds something pending,
+ *     after a power cut, and has no room for a reset (below), is refused with GROMMETIDE_WORN.
  *   - Flash reads back what was programmed. What damage is noticed goes by the block's edition, see below.
+ *
+ * After a power cut
+ *
+ *   A mount that finds a frame cut off (torn), or changes that no host has committed, mends the block in place. It closes
+ *   the torn frame: at most 4 bytes are programmed, and the frame then means nothing. If anything is pending it writes a
+ *   reset behind that, a frame of 5 bytes, in edition 2 of 9, by which all of it is dropped. So it programs at most 13 bytes,
+ *   and it erases no block that was blank. Power may be lost in it too: mount again. Only where a reset is due and has no
+ *   room left in the block do the settled objects move to the next block instead: U - 5 steps, the last of them an erase,
+ *   where U is what they need.
+ *
+ *   Closed frames and resets stay in the block until the store moves on to the next one. They take room there, at most the
+ *   torn frame's bytes and 9 more for each mount, so the store moves on a little earlier. No request is refused for them,
+ *   except at the last creation time, where GROMMETIDE_WORN comes earlier.
+ *
+ *   Do not go back to a library before 0.10 once a mount of 0.10 may have mended the block. To it a block with a closed frame
+ *   or a reset is foreign: a mount answers GROMMETIDE_FOREIGN. One of 0.4 to 0.9 that finds an older block beside it which
+ *   still reads as valid, half erased, keeps that one and erases the good one. (A mount of 0.10 mends only when all other
+ *   blocks are blank, so it does not leave two such blocks side by side.) So all firmware that may be started on a board, a
+ *   fallback image too, must have 0.10 before the first mount by 0.10. Going back is safe only while the store is in a block
+ *   that has no such frame: from the end of a job that moved the store to another block, or of a format, until the next mount
+ *   that mends. The log page shows a move: its creation time is one more than before. No request asks for a move alone, so
+ *   put and commit until it comes; then go back with nothing pending and no job under way.
  *
  * The two editions of the flash format
  *
  *   Edition 1 has no checksum: damage that leaves legal frames goes unnoticed. In edition 2 each frame has a CRC-32 over all
  *   that precedes it in the frame, so damage to a frame is noticed: always if its length stands and all that changed lies in
  *   four bytes one after the other, otherwise in all but about one of 4,294,967,296 cases (what is known of every CRC-32,
- *   and not proved here; that our bytes are a CRC-32's is). A mount then answers GROMMETIDE_FOREIGN, and grommetide_fault
- *   names GROMMETIDE_FIELD_CRC or another field of that frame; a request on a mounted store gets GROMMETIDE_STALE. Not told
- *   in either edition: damage that leaves just what a power cut could have left (the last frame ends in 0xFF, or is gone; a
- *   block's byte 8 is 0xFE), and another time in a block's header, which has no checksum.
+ *   and not proved here; that our bytes are a CRC-32's is); except if its kind becomes 0. A mount then answers
+ *   GROMMETIDE_FOREIGN, and grommetide_fault names GROMMETIDE_FIELD_CRC or another field of that frame; a request on a
+ *   mounted store gets GROMMETIDE_STALE. Not told in either edition: damage that leaves just what a power cut could have left
+ *   (the last frame ends in 0xFF, or is gone; a block's byte 8 is 0xFE); a frame whose kind has become 0, since it reads as a
+ *   closed one, whose body and CRC are ignored (a put, a delete or an abort must lose one bit for that, a commit two); and
+ *   another time in a block's header, which has no checksum.
  *
  *   A block's edition is told by its header's kind (GROMMETIDE_BLOCK_KIND, GROMMETIDE_BLOCK_KIND_2), that of the mounted
  *   store by byte 15 of the record. A format writes edition 1. A store of edition 1 stays so until a host sends a convert,
@@ -117,14 +143,14 @@
  *   GROMMETIDE_RECORD_BYTES bytes, in the caller's memory; it need not survive a power cut. mount and format write it,
  *   whatever was in it; the other calls take it as the last call left it. Numbers are little-endian.
  *
- *     0      phase: 0 unmounted, 1 idle, 2 to 7 in a job; any other value reads as unmounted
+ *     0      phase: 0 unmounted, 1 idle, 2 to 8 in a job; any other value reads as unmounted
  *     1-2    image length less one
  *     3      current block, from 0 on
  *     4-5    where the current block's frames end, counted from its start
  *     6      number of blocks
  *     7-14   pending bytes of hosts 0 to 3, two bytes each
  *     15     edition of the current block, 1 or 2
- *     16-1074 the library's own: 16-527 places of values, 528-570 the job, 571-822 and 823-1074 frames in hand
+ *     16-1083 the library's own: 16-527 places of values, 528-579 the job, 580-831 and 832-1083 frames in hand
  *
  *   Bytes 1 to 15 mean this in an idle record. An unmounted or idle record that the library hands out has zeros in all
  *   bytes it does not use. A record that does not belong to the image is noticed (GROMMETIDE_STALE), or, in a job, does
@@ -146,8 +172,8 @@
  *
  *     x86-64, AArch64, RISC-V 64   memcpy, memset
  *     RISC-V 32                    memcpy, memset, __udivdi3
- *     Cortex-M3, Cortex-M4         __aeabi_memcpy, __aeabi_memcpy4, __aeabi_memcpy8, __aeabi_memset, __aeabi_memclr,
- *                                  __aeabi_memclr4, __aeabi_memclr8, __aeabi_uldivmod
+ *     Cortex-M3, Cortex-M4         __aeabi_memcpy, __aeabi_memcpy8, __aeabi_memset, __aeabi_memclr, __aeabi_memclr4,
+ *                                  __aeabi_memclr8, __aeabi_uldivmod
  *     Cortex-M0                    these and __aeabi_uidiv, __aeabi_lmul
  *     WebAssembly                  none
  *
@@ -160,15 +186,15 @@
  *   stack):
  *
  *                               x86-64   Cortex-M3
- *     grommetide_mount           3,072       3,328
- *     grommetide_fault           3,072       3,072
- *     grommetide_format          3,328       3,584
- *     grommetide_request         3,072       2,816
+ *     grommetide_mount           3,584       3,584
+ *     grommetide_fault           3,584       3,584
+ *     grommetide_format          3,584       3,584
+ *     grommetide_request         2,560       3,072
  *     grommetide_read            1,792       1,792
- *     grommetide_next              576         512
- *     grommetide_made            3,840       3,328
- *     grommetide_step            3,584       3,072
- *     grommetide_run             4,096       3,584
+ *     grommetide_next              576         576
+ *     grommetide_made            3,328       3,328
+ *     grommetide_step            2,816       3,072
+ *     grommetide_run             3,584       3,584
  */
 #ifndef GROMMETIDE_H
 #define GROMMETIDE_H
@@ -190,6 +216,9 @@ typedef uint64_t grommetide_size;
 /*
  * This header's version. A record is of use only to the version that wrote it; the flash may outlive versions.
  *
+ *   0.10 a mount after a power cut mends the block in place and moves the store no longer, except where that has no room; only
+ *        there it can be refused with GROMMETIDE_WORN. So two new kinds of frame, a byte of a torn frame that is programmed
+ *        twice, and a record of 1,084 bytes. It takes the flash of 0.9 as it is. See "After a power cut" before you go back.
  *   0.9  a second edition of the flash format, with a CRC-32 in each frame, which a host's convert (0x0108) takes a store to;
  *        GROMMETIDE_PENDING, GROMMETIDE_FIELD_CRC; a record of 1,075 bytes, which says the edition. A store that is not
  *        converted has the flash of 0.8 and is served as by 0.8. See "The two editions" before you go back.
@@ -209,7 +238,7 @@ typedef uint64_t grommetide_size;
  *   0.1  values of up to 64 bytes, a record of 690 bytes. It finds flash in which a longer value stands foreign.
  */
 #define GROMMETIDE_VERSION_MAJOR 0
-#define GROMMETIDE_VERSION_MINOR 9
+#define GROMMETIDE_VERSION_MINOR 10
 #define GROMMETIDE_VERSION_PATCH 0
 
 /*
@@ -221,7 +250,7 @@ typedef uint64_t grommetide_size;
 #define GROMMETIDE_BLOCK_KIND 0x4A01
 #define GROMMETIDE_BLOCK_KIND_2 0x4A02
 
-#define GROMMETIDE_RECORD_BYTES 1075
+#define GROMMETIDE_RECORD_BYTES 1084
 
 /* The most blocks of an image. The fewest are two. */
 #define GROMMETIDE_BLOCKS_MAX 16
@@ -237,7 +266,7 @@ enum {
     GROMMETIDE_FOREIGN = 3,          /* mount: no block is valid and one is foreign, or valid ones have equal times */
     GROMMETIDE_IMAGE_LENGTH = 4,     /* image_len or blocks is not allowed */
     GROMMETIDE_BUSY = 5,             /* a job has steps left */
-    GROMMETIDE_WORN = 6,             /* a transfer is needed, but the creation time cannot rise any more */
+    GROMMETIDE_WORN = 6,             /* the store has to move to the next block, and the creation time cannot rise any more */
     GROMMETIDE_NO_ROOM = 7,          /* put or delete: commits must always fit, and this would leave too little room;
                                         convert: the objects need more than a block in edition 2 */
     GROMMETIDE_NO_OBJECT = 8,        /* read: there is no settled object of this id */
@@ -269,9 +298,12 @@ enum {
 grommetide_size grommetide_record_size(void);
 
 /*
- * Finds the store in an image and begins to tidy up after a power cut. Pending changes are dropped. Every block beside the
- * store's is erased if it is not blank, one that no store wrote too: read the image out before, to look at it.
- * DONE: the store is mounted. MORE: steps are left. Refused: IMAGE_LENGTH, NO_STORE, FOREIGN, WORN.
+ * Finds the store in an image and begins to tidy up after a power cut. Every block beside the store's is erased if it is not
+ * blank, one that no store wrote too: read the image out before, to look at it. Then a torn frame is closed and what is
+ * pending is dropped, in place, by at most 13 programmed bytes, or by a move to the next block where there is no room for a
+ * reset ("After a power cut").
+ * DONE: the store is mounted. MORE: steps are left. Refused: IMAGE_LENGTH, NO_STORE, FOREIGN; WORN, at the last creation
+ * time, if something is pending and a reset has no room.
  */
 uint8_t grommetide_mount(const uint8_t *image, grommetide_size image_len, uint8_t blocks, uint8_t *record,
                          grommetide_size record_len);

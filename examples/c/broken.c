@@ -51,10 +51,10 @@ int main(void)
     request(commit);
     diagnose("as it was");
 
-    image[28] &= 0xFC; /* the commit's kind was 3 */
+    image[28] &= 0xFD; /* the commit's kind was 3; with no bit left it would be a closed frame's */
     if (grommetide_mount(image, sizeof image, BLOCKS, record, sizeof record) != GROMMETIDE_FOREIGN)
         return 1;
-    diagnose("two bits lost in byte 28");
+    diagnose("one bit lost in byte 28");
 
     image[20] |= 0x10; /* the put's host was 2 */
     diagnose("one bit gained in byte 20");

@@ -9,10 +9,15 @@
  * C - 5 = (16 + 9 + 9 + 10) - 5 steps: 307. Three of them erase: two in the format, one in the transfer.
  *
  * A byte takes 4 commands (write enable, program, status twice), an erase 6 (status four times). So the script has
- * 304 * 4 + 3 * 6 = 1234. After 50 of the cuts there is no store, and the restart formats: 52 commands. Where something is
- * pending or torn it has U - 5 steps, the last an erase: 46 commands while there is no object (U = 16; 100 cuts), 82 with
- * one (24 cuts), 118 with two (874 cuts); and 6 more, an erase first, if the transfer had begun (152 cuts). After the other
- * 34 it has nothing to do. Sum: 50 * 52 + 100 * 46 + 24 * 82 + 874 * 118 + 152 * 124 = 131148.
+ * 304 * 4 + 3 * 6 = 1234. After 50 of the cuts there is no store, and the restart formats: 52 commands.
+ *
+ * Otherwise a restart mends the block. Of a frame that was cut after 1, 2, 3 or more bytes it closes 4, 3, 3 or 2, and where
+ * something is pending a reset of 5 bytes follows. Four cuts leave each image. So in a round the cuts inside host 0's put,
+ * when nothing is pending, have 4 + 3 + 3 + 6 * 2 = 22 bytes to program, those inside host 3's put 22 + 9 * 5 = 67, those
+ * inside each commit 4 + 3 + 3 + 2 * 2 + 5 * 5 = 39, and those behind either put or the first commit 5: 182 bytes, four times
+ * each, and four commands for each. The transfer of round 8 has 38 images more before its erase, left by 152 cuts, where 6
+ * commands of an erase come before the reset's 20, and one behind it, left by 6 cuts. Where nothing is pending or torn, after
+ * 34 cuts, there is nothing to do. Sum: 50 * 52 + 8 * 4 * 4 * 182 + 152 * 26 + 6 * 20 = 29968.
  */
 #include <stdio.h>
 #include <string.h>

@@ -85,11 +85,8 @@ fn row_e(c: Bench) {
 
 fn row_f(b: Bench) {
     let f = mount(b);
-    let image = f.image;
     tell(b"f  after b, cut, mount", f);
-    say(b"   block 0: ");
-    blank(front(&image, 256));
-    bytes(f, 256, 265);
+    bytes(f, 26, 31);
     objects(f);
 }
 
@@ -98,6 +95,7 @@ fn rows_g_h(b: Bench) {
     tell(b"g  in c, cut", five);
     let g = mount(five);
     tell(b"   mount", g);
+    bytes(g, 26, 37);
     objects(g);
     let six = ask_some(b, 2, &[4, 0, 3, 1], 6);
     tell(b"h  in c, cut", six);

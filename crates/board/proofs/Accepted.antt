@@ -25,16 +25,17 @@ use Rattle.board.specs.declared.Record.{Record}
 use Rattle.board.specs.Record.{allowed, noPlaces, zeroEach, landing, ending, idle}
 use Rattle.board.specs.Step.{enterWipe}
 use Rattle.board.specs.Mount.{nextBlock, newTime, endOf, Store, Upkeep, moves, upkeep, transfers, mountJob, formatOrder, formatJob, replayOf, usedOf}
-use Rattle.board.specs.Mount.{claimedOf, timeOf}
+use Rattle.board.specs.Mount.{claimedOf, timeOf, rests, mends, storeAt, closedEnd, closesFor, dueReset, standsFor, blockIn}
 use Rattle.board.specs.Queue.{appendJob, counted, convertJob}
 use Rattle.board.specs.Exec.{exec}
-use Rattle.board.specs.Plan.{Follows, Work, Performs, onBlock, formatWork, upkeepWork, mountIn, frameWork, convertWork}
+use Rattle.board.specs.Plan.{Follows, Performs, afterSteps, onBlock, formatWork, upkeepWork, mountIn, frameWork, convertWork}
 use Rattle.board.proofs.Numbers.{next-there, next-other}
 use Rattle.board.proofs.Images.{Sized, sized-of, sized-last}
 use Rattle.board.proofs.Blocks.{Besides, besides-blocks, besides-kept}
-use Rattle.board.proofs.Upkeep.{on-upkeep}
+use Rattle.board.proofs.Upkeep.{mends-fits}
 use Rattle.board.proofs.Lengths.{frame-cases}
 use Rattle.board.proofs.Order.{order-blocks}
+use Rattle.board.proofs.PipelineClose.{Closing, closing-none}
 use Rattle.board.proofs.PipelineJob.{Has, follows-staying, follows-moving}
 
 -- a journal in a block lies below the block's end
@@ -53,8 +54,8 @@ unfolding writes encodeAll total
 follows-format N img h =
     let j : Job = formatJob N img .job in
     let sized : Sized N (sizeOf N img) img = sized-of N img h in
-    follows-moving img (formatJob N img .rest) noPlaces j 256 headerLen [] (formatOrder N img) (sized-last sized) (sized .count) refl
-    (order-blocks N img) (record { wipe = refl; wipes = refl; size = refl }) (next-there 0 (omega (arith, sized .few)))
+    follows-moving img (formatJob N img .rest) noPlaces j 256 headerLen [] [] (formatOrder N img) (sized-last sized) (sized .count) refl
+    (order-blocks N img) (record { wipe = refl; wipes = refl; closes = refl; close = refl; size = refl }) (next-there 0 (omega (arith, sized .few)))
     (omega (arith, sized .low)) edition.First edition.First refl refl [] refl
     (omega (arith, sized .few)) (λ q. next-other 0 (sized .few) (omega (arith, sized .few)) (sym q)) (omega (arith, sized .low))
     (yields-none edition.First (block (sizeOf N img) (nextBlock N 0) (applyAll (sizeOf N img) (map erase (formatOrder N img)) img)) headerLen noPlaces zeroEach)
@@ -66,48 +67,78 @@ no-append : (k e : ℕ) (xs ys : List Step) → xs ++ (ys ++ onBlock k (writes e
 unfolding writes
 no-append k e xs ys = ap (λ (zs : List Step). xs ++ zs) (append-nil ys)
 
-pub follows-mount : {N : ℕ} (img : List ℕ) (x : Store) (ks : List ℕ) → allowed N (length img) ≡ true → x .number < N → Besides N (x .number) ks
-    → Standing (x .journal .edition) (block (sizeOf N img) (x .number) img) (x .journal .frames)
-    → Performs N (exec N) img (enterWipe (mountJob N img x ks)) (mountIn N (length img - 1) ks (nextBlock N (x .number)) x)
-follows-mount {N} img x ks h here others g =
-    let k : ℕ = x .number in
-    let ed : Edition = x .journal .edition in
-    let n : ℕ = editionNumber ed in
-    let fs : List Frame = x .journal .frames in
-    let s : ℕ = sizeOf N img in
-    let e : ℕ = endOf (x .journal) in
-    let st : State = settledOnly (replayOf (x .journal)) in
-    let r : Record = mountJob N img x ks in
-    let z : Rest = r .rest in
-    let kept : Upkeep → Work = λ u. upkeepWork u (nextBlock N k) z x in
-    let sized : Sized N (sizeOf N img) img = sized-of N img h in
-    let fits : e ≤ s = journal-fits ed s k img fs g in
-    let has : Has (r .job) ks [] = record { wipe = refl; wipes = refl; size = refl } in
-    on-upkeep (upkeep x)
-    (λ t.
-    let same : block s k (applyAll s (map erase ks) img) ≡ block s k img = besides-kept N s k ks img others in
-    let total-is : headerLen + total ed (framesOf st) ≡ usedOf (x .journal) = frames-total ed st ∙ claimed-settled ed (replayOf (x .journal)) in
-    let end-is : headerLen + total ed (framesOf st) + 0 ≡ usedOf (x .journal) = omega arith in
-    subst (λ (u : Upkeep). Follows N (exec N) img (enterWipe r) (map erase ks ++ kept u .steps) (kept u .last)) (sym t)
-    (subst (λ (m : ℕ). Follows N (exec N) img (enterWipe r) (map erase ks ++ (onBlock (nextBlock N k) (build ed m (framesOf st)) ++ (erase k ∷ [])))
-    (kept moves .last))
-    (ap (λ (u : Upkeep). newTime (transfers u) (timeOf x)) t)
-    (subst (λ (m : ℕ). Follows N (exec N) img (enterWipe r) (map erase ks ++ (onBlock (nextBlock N k) (build ed (r .job .time) (framesOf st))
-    ++ (erase k ∷ []))) (idle (landing z n (nextBlock N k) m))) end-is
-    (subst (λ (ys : List Step). Follows N (exec N) img (enterWipe r) ys (idle (landing z n (nextBlock N k) (headerLen + total ed (framesOf st) + 0))))
-    (no-append (nextBlock N k) (headerLen + total ed (framesOf st)) (map erase ks)
-    (onBlock (nextBlock N k) (build ed (r .job .time) (framesOf st)) ++ (erase k ∷ [])))
-    (follows-moving img z (placesOf ed fs) (r .job) 0 e [] ks (sized-last sized) (sized .count) refl (besides-blocks N k ks others) has here (omega arith)
-    ed ed (edition-back ed) (edition-back ed) (framesOf st) (ap transfers t) (next-there k here) (next-other k (sized .few) here)
-    (omega (arith, used-claimed ed (replayOf (x .journal)), claimed-replay ed fs))
-    (subst (λ (b : List ℕ). Yields ed b e (placesOf ed fs) zeroEach 0 e (framesOf st)) (sym same) (yields-settled ed (block s k img) fs zeroEach g)))))))
-    (λ t.
-    let end-is : e + 0 ≡ e = omega arith in
-    subst (λ (u : Upkeep). Follows N (exec N) img (enterWipe r) (map erase ks ++ kept u .steps) (kept u .last)) (sym t)
-    (subst (λ (n : ℕ). Follows N (exec N) img (enterWipe r) (map erase ks ++ []) (idle (ending z n))) end-is
-    (subst (λ (ys : List Step). Follows N (exec N) img (enterWipe r) ys (idle (ending z (e + 0)))) (no-append k e (map erase ks) [])
-    (follows-staying img z (placesOf ed fs) (r .job) 0 e [] ks (sized-last sized) (sized .count) refl (besides-blocks N k ks others) has here
-    (omega arith) (ap transfers t) (omega arith)))))
+-- by what it does after the erases
+module _ {N : ℕ} (img : List ℕ) (x : Store) (ks : List ℕ) (h : allowed N (length img) ≡ true) (here : x .number < N) (others : Besides N (x .number) ks)
+    (g : Standing (x .journal .edition) (block (sizeOf N img) (x .number) img) (x .journal .frames)) where
+  abbrev k : ℕ
+  k = x .number
+
+  abbrev ed : Edition
+  ed = x .journal .edition
+
+  abbrev fs : List Frame
+  fs = x .journal .frames
+
+  abbrev s : ℕ
+  s = sizeOf N img
+
+  abbrev e : ℕ
+  e = endOf (x .journal)
+
+  abbrev at : Rest
+  at = storeAt N (length img - 1) x
+
+  abbrev job : Upkeep → Record
+  job u = mountJob N img x ks u
+
+  abbrev Does : Upkeep → Type 0
+  Does u = Performs N (exec N) img (enterWipe (job u)) (afterSteps (map erase ks) (upkeepWork u (nextBlock N k) (blockIn N img x) at x))
+
+  sized : Sized N (sizeOf N img) img
+  sized = sized-of N img h
+
+  fits : e ≤ s
+  fits = journal-fits ed s k img fs g
+
+  mount-moves : Does moves
+  mount-moves =
+      let st : State = settledOnly (replayOf (x .journal)) in
+      let same : block s k (applyAll s (map erase ks) img) ≡ block s k img = besides-kept N s k ks img others in
+      let total-is : headerLen + total ed (framesOf st) ≡ usedOf (x .journal) = frames-total ed st ∙ claimed-settled ed (replayOf (x .journal)) in
+      let end-is : headerLen + total ed (framesOf st) + 0 ≡ usedOf (x .journal) = omega arith in
+      let made : List Step = onBlock (nextBlock N k) (build ed (suc (timeOf x)) (framesOf st)) ++ (erase k ∷ []) in
+      subst (λ (m : ℕ). Follows N (exec N) img (enterWipe (job moves)) (map erase ks ++ made) (idle (landing at (editionNumber ed) (nextBlock N k) m))) end-is
+      (subst (λ (ys : List Step). Follows N (exec N) img (enterWipe (job moves)) ys
+      (idle (landing at (editionNumber ed) (nextBlock N k) (headerLen + total ed (framesOf st) + 0))))
+      (no-append (nextBlock N k) (headerLen + total ed (framesOf st)) (map erase ks) made)
+      (follows-moving img at (placesOf ed fs) (job moves .job) 0 e [] [] ks (sized-last sized) (sized .count) refl (besides-blocks N k ks others)
+      (record { wipe = refl; wipes = refl; closes = refl; close = refl; size = refl }) here (omega (arith, fits))
+      ed ed (edition-back ed) (edition-back ed) (framesOf st) refl (next-there k here) (next-other k (sized .few) here)
+      (omega (arith, fits, used-claimed ed (replayOf (x .journal)), claimed-replay ed fs))
+      (subst (λ (b : List ℕ). Yields ed b e (placesOf ed fs) zeroEach 0 e (framesOf st)) (sym same) (yields-settled ed (block s k img) fs zeroEach g))))
+
+  mount-rests : Does rests
+  mount-rests =
+      let end-is : e + 0 ≡ e = omega arith in
+      subst (λ (n : ℕ). Follows N (exec N) img (enterWipe (job rests)) (map erase ks ++ []) (idle (ending at n))) end-is
+      (subst (λ (ys : List Step). Follows N (exec N) img (enterWipe (job rests)) ys (idle (ending at (e + 0)))) (no-append k e (map erase ks) [])
+      (follows-staying img at (placesOf ed fs) (job rests .job) 0 e [] [] ks (sized-last sized) (sized .count) refl (besides-blocks N k ks others)
+      (record { wipe = refl; wipes = refl; closes = refl; close = refl; size = refl }) here (omega (arith, fits)) refl (omega (arith, fits)) (closing-none s)))
+
+  mount-mends : Closing s (closesFor mends (blockIn N img x) (x .journal)) → closedEnd (x .journal) + length (dueReset (x .journal)) ≤ s → Does mends
+  mount-mends fit room =
+      follows-staying img (standsFor mends at (x .journal)) (placesOf ed fs) (job mends .job) 0 e (closesFor mends (blockIn N img x) (x .journal))
+      (dueReset (x .journal)) ks (sized-last sized) (sized .count) refl (besides-blocks N k ks others)
+      (record { wipe = refl; wipes = refl; closes = refl; close = refl; size = refl }) here (omega (arith, fits)) refl room fit
+
+  pub follows-mount : Closing s (closesFor mends (blockIn N img x) (x .journal)) → closedEnd (x .journal) ≤ s
+      → Performs N (exec N) img (enterWipe (mountJob N img x ks (upkeep s x))) (mountIn N img ks (nextBlock N (x .number)) x)
+  follows-mount fit low = go (upkeep s x) refl
+    where
+      go : (u : Upkeep) → upkeep s x ≡ u → Does u
+      go moves q = mount-moves
+      go rests q = mount-rests
+      go mends q = mount-mends fit (mends-fits s (x .journal) q low)
 
 -- ---- a queue request's frame
 
@@ -126,7 +157,7 @@ follows-frame {N} img r x f count long blocks here g end kind room =
     let fs : List Frame = framesOf st in
     let a : Record = appendJob N img r x f in
     let header : headerLen ≤ s = omega (arith, journal-fits ed s k img (x .frames) g) in
-    let has : Has (a .job) [] (encode ed f) = record { wipe = refl; wipes = refl; size = sym (length-encode ed f) } in
+    let has : Has (a .job) [] [] (encode ed f) = record { wipe = refl; wipes = refl; closes = refl; close = refl; size = sym (length-encode ed f) } in
     let begun : Record = enterWipe a in
     frame-cases (λ w. Performs N (exec N) img begun w) s (nextBlock N k) z x f
     (λ t.
@@ -147,15 +178,15 @@ follows-frame {N} img r x f count long blocks here g end kind room =
     ((onBlock (nextBlock N k) (build ed (a .job .time) fs) ++ (erase k ∷ [])) ++ onBlock (nextBlock N k) (writes (headerLen + total ed fs) (encode ed f)))
     (idle (landing z n (nextBlock N k) (headerLen + total ed fs + length (encode ed f)))))
     (sym kind)
-    (follows-moving img z (placesOf ed (x .frames)) (a .job) 0 headerLen (encode ed f) [] long count blocks tt has here header
+    (follows-moving img z (placesOf ed (x .frames)) (a .job) 0 headerLen [] (encode ed f) [] long count blocks tt has here header
     ed ed (edition-back ed) (ap editionBy kind ∙ edition-back ed) fs t (next-there k here)
     (next-other k (between 2 N maxBlocks count .0) here) (omega (arith, length-encode ed f))
     (subst (λ (n : ℕ). Yields ed (block s k img) n (placesOf ed (x .frames)) (sinceOf ed (x .frames)) 0 headerLen fs) (sym end)
     (yields-all ed (block s k img) (x .frames) g))))))
     (λ t.
     subst (λ (m : ℕ). Follows N (exec N) img begun (onBlock k (writes (z .end) (encode ed f))) (idle (ending z (z .end + m)))) (length-encode ed f)
-    (follows-staying img z (placesOf ed (x .frames)) (a .job) 0 headerLen (encode ed f) [] long count blocks tt has here header t
-    (omega (arith, length-encode ed f, ltb-false (sizeOf N img) (r .rest .end + frameLen ed f) t))))
+    (follows-staying img z (placesOf ed (x .frames)) (a .job) 0 headerLen [] (encode ed f) [] long count blocks tt has here header t
+    (omega (arith, length-encode ed f, ltb-false (sizeOf N img) (r .rest .end + frameLen ed f) t)) (closing-none s)))
 
 -- ---- a convert
 
@@ -173,14 +204,14 @@ follows-convert {N} img r x count long blocks here g end kind room =
     let c : Record = convertJob N img r x in
     let ys : List Step = onBlock (nextBlock N k) (build edition.Second (suc (x .time)) fs) ++ (erase k ∷ []) in
     let header : headerLen ≤ s = omega (arith, journal-fits ed s k img (x .frames) g) in
-    let has : Has (c .job) [] [] = record { wipe = refl; wipes = refl; size = refl } in
+    let has : Has (c .job) [] [] [] = record { wipe = refl; wipes = refl; closes = refl; close = refl; size = refl } in
     let total-is : headerLen + total edition.Second fs ≡ used edition.Second (replayOf x) =
     frames-total edition.Second st ∙ claimed-settled edition.Second (replayOf x) in
     let end-is : headerLen + total edition.Second fs + 0 ≡ used edition.Second (replayOf x) = omega arith in
     subst (λ (n : ℕ). Follows N (exec N) img (enterWipe c) ys (idle (landing (r .rest) 2 (nextBlock N k) n))) end-is
     (subst (λ (zs : List Step). Follows N (exec N) img (enterWipe c) zs (idle (landing (r .rest) 2 (nextBlock N k) (headerLen + total edition.Second fs + 0))))
     (no-append (nextBlock N k) (headerLen + total edition.Second fs) [] ys)
-    (follows-moving img (r .rest) (placesOf ed (x .frames)) (c .job) 0 (endOf x) [] [] long count blocks tt has here header
+    (follows-moving img (r .rest) (placesOf ed (x .frames)) (c .job) 0 (endOf x) [] [] [] long count blocks tt has here header
     edition.Second ed refl (ap editionBy kind ∙ edition-back ed) fs refl (next-there k here)
     (next-other k (between 2 N maxBlocks count .0) here) (omega (arith, end-is))
     (subst (λ (n : ℕ). Yields ed (block s k img) n (placesOf ed (x .frames)) zeroEach 0 (endOf x) fs) (sym end)

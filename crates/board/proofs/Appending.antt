@@ -1,19 +1,16 @@
 -- A frame appended to the current block: each of its bytes lands, every prefix keeps what a mount finds, and the block then has one frame more.
 use mathlib.Core.Path.{_≡_, refl, sym, ap, ap₂, subst, _∙_}
 use mathlib.Core.List.{List, [], _∷_, _++_, append-assoc, append-nil}
-use mathlib.Core.Logic.{inl}
 use Prim.Native.Nat.{ℕ, zero, suc, _+_, _-_, _≤_, _<_}
 use native.Mathlib.Omega.{arith}
-use lib.Bits.{bitAnd}
 use lib.ListN.{length, getD, take, replicate, length-take, length-replicate, getD-replicate}
 use lib.Seq.{length-take-le, getD-append-add}
 use Rattle.flash.specs.Bytes.{Bytes}
 use Rattle.flash.specs.Flash.{Step, applyAll, block, Write, write, writes, writeAll}
 use Rattle.flash.proofs.Blank.{bytes-take}
-use Rattle.flash.proofs.Programming.{and-ff, write-bytes, take-writes, length-writes, writes-at}
-use Rattle.flash.proofs.Image.{program-same}
+use Rattle.flash.proofs.Programming.{write-bytes, take-writes, length-writes, writes-at}
 use Rattle.flash.proofs.Offsets.{Below, below-writes, Given, given-writes, given-at, Fresh, fresh-at, fresh-stretch, untouched}
-use Rattle.frame.specs.Frame.{Frame, encode, frameLen, encodeAll, MayStand, OfHost, nextOf, editionNumber}
+use Rattle.frame.specs.Frame.{Frame, encode, frameLen, encodeAll, MayStand, Tears, nextOf, editionNumber}
 use Rattle.frame.specs.Reader.{clean, cut}
 use Rattle.frame.proofs.Encode.{length-encode, length-all, bytes-encode, stands-any, stands-append, encode-snoc, total-snoc}
 use Rattle.frame.proofs.Scanning.{scan-blank, scan-cut}
@@ -22,7 +19,7 @@ use Rattle.journal.specs.Replay.{Object, nextState}
 use Rattle.journal.proofs.Blocks.{layout-size}
 use Rattle.journal.proofs.Replaying.{replay-snoc}
 use Rattle.journal.proofs.States.{Contents}
-use Rattle.journal.proofs.Building.{Lands}
+use Rattle.journal.proofs.Building.{Lands, lands-ff}
 use Rattle.journal.specs.Room.{countsIn}
 use Rattle.board.specs.declared.Rest.{Rest}
 use Rattle.board.specs.Record.{landing, idle}
@@ -74,7 +71,7 @@ written {b} {w} y c bs g h =
 
 -- the frame and where it goes: at the end of a block of s bytes
 pub record Fits (s : ℕ) (w : Journal) (f : Frame) : Type 0 where
-  pub host : OfHost f
+  pub host : Tears f
   pub legal : MayStand (w .edition) 256 f
   pub short : endOf w + frameLen (w .edition) f ≤ s
 
@@ -101,7 +98,7 @@ torn-contents {b} {w} y c f x j lo hi =
     }
 
 -- all of them: one frame more
-abbrev with-frame : Journal → Frame → Journal
+abbrev pub with-frame : Journal → Frame → Journal
 with-frame w f = journal (w .edition) (w .time) (w .frames ++ (f ∷ [])) clean
 
 whole-contents : {b : List ℕ} {w : Journal} → Contents b w → w .tail ≡ clean → (f : Frame) → Fits (length b) w f
@@ -134,10 +131,7 @@ lands-fresh : (l : List ℕ) (ws : List Write) (q : ℕ) (d : Write) → Fresh w
 lands-fresh l ws q d f g h e =
     let w : Write = getD ws q d in
     let was : getD (writeAll l (take q ws)) (w .at) 0 ≡ 255 = untouched (w .at) l (take q ws) (fresh-at ws q d f h) ∙ e in
-    record {
-      before = inl was;
-      after = program-same (writeAll l (take q ws)) (w .at) (w .byte) ∙ ap (λ (x : ℕ). bitAnd x (w .byte)) was ∙ and-ff (w .byte) (given-at ws q d g h);
-    }
+    lands-ff (writeAll l (take q ws)) w (given-at ws q d g h) was
 
 abbrev frameWrites : Journal → Frame → List Write
 frameWrites w f = writes (endOf w) (encode (w .edition) f)

@@ -162,9 +162,9 @@ unclear xs [] = noneValid xs
 unclear xs (y ∷ ys) = tiedTimes (lowestTied (y ∷ ys))
 
 -- 6, "by a mount too": of the valid halves the newest is current
-abbrev pub wornStore : List Store → Bool
-wornStore [] = false
-wornStore (x ∷ xs) = let y : Store = newest x xs in transfers (upkeep y) && eqb (timeOf y) lastTime
+abbrev pub wornStore : ℕ → List Store → Bool
+wornStore s [] = false
+wornStore s (x ∷ xs) = let y : Store = newest x xs in transfers (upkeep s y) && eqb (timeOf y) lastTime
 
 -- 4, 2, 3, 6
 abbrev pub mountChecks : ℕ → List ℕ → List Check
@@ -173,7 +173,7 @@ mountChecks N img =
     ∷ check refusal.NoStore (noStore (stores (allFound N img)) && not (anyForeign (allFound N img)))
     ∷ check (unclear (allFound N img) (stores (allFound N img)))
     ((noStore (stores (allFound N img)) && anyForeign (allFound N img)) || equalTimes (stores (allFound N img)))
-    ∷ check refusal.Worn (wornStore (stores (allFound N img))) ∷ []
+    ∷ check refusal.Worn (wornStore (sizeOf N img) (stores (allFound N img))) ∷ []
 
 -- the lines that concern each call: 11 alone concerns a step, 4 alone a format
 abbrev pub checks : ℕ → List ℕ → Record → Call → List Check

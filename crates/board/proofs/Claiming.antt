@@ -14,7 +14,6 @@ use Rattle.frame.specs.Frame.{total, Change}
 use Rattle.journal.specs.Replay.{Object, State, state, listOf, settledOnly}
 use Rattle.journal.specs.Block.{blockState}
 use Rattle.journal.proofs.Room.{kept-none, used-claimed}
-use Rattle.journal.proofs.Places.{Standing}
 use Rattle.journal.proofs.States.{contents-valid}
 use Rattle.journal.specs.Laws.{changesBytes}
 use Rattle.journal.proofs.ReplayLaws.{changes-total, pending-exact}
@@ -27,7 +26,7 @@ use Rattle.board.specs.declared.Phase.the-variants.{Unmounted, Idle, Bus
 use Rattle.board.specs.declared.Record.{Record}
 use Rattle.board.specs.Record.{Out, out, refuse, unmounted, answerOf, allowed}
 use Rattle.board.specs.Step.{enterWipe, begin}
-use Rattle.board.specs.Mount.{Store, allFound, wipeList, mountJob, mountOn, formatJob, formatOn, replayOf, timeOf}
+use Rattle.board.specs.Mount.{Store, allFound, wipeList, upkeep, mountJob, mountOn, formatJob, formatOn, replayOf, timeOf}
 use Rattle.board.specs.Exec.{Call, request, step, mount, format, exec}
 use Rattle.board.specs.Plan.{formatWork, mountWork}
 use Rattle.board.specs.Table.{InJob as JobPhase}
@@ -42,13 +41,11 @@ use Rattle.board.proofs.Current.{After, Keeps, keeps-settled}
 use Rattle.board.proofs.Jobs.{Begun, job-starts, job-begins}
 use Rattle.board.proofs.Stepping.{follows-steps}
 use Rattle.board.proofs.Keeping.{Working, inv-unmounted, inv-idle, inv-busy, ready-idle, step-keeps, Bare, bare-of, cut-bare}
-use Rattle.board.proofs.Accepted.{follows-format, follows-mount}
-use Rattle.board.proofs.Blocks.{wiped-besides}
+use Rattle.board.proofs.Accepted.{follows-format}
 use Rattle.board.proofs.Lengths.{length-format, format-some}
-use Rattle.board.proofs.Replies.{standing-of}
 use Rattle.board.proofs.Formatting.{format-safe, format-ends}
 use Rattle.board.proofs.Deciding.{Taken, StoreThere, InTime, Outcome, worn-out, begins, mount-outcome, MountSafe, nothing-there, store-there, mount-safe}
-use Rattle.board.proofs.Mounting.{mount-keeps, mount-ends}
+use Rattle.board.proofs.Mounting.{in-time-at, mount-performs, mount-keeps, mount-ends}
 use Rattle.board.proofs.Requests.{Requested, request-keeps}
 use Rattle.board.proofs.Promising.{calls}
 use Rattle.board.proofs.Finishing.{Ends, idle-ends, call-ends, restart-ends}
@@ -189,17 +186,16 @@ accepted-says o (inr e) =
 
 module _ {N : ℕ} {s : ℕ} {img : List ℕ} (b : Book) {u : Track} (v : Bare N s img (b .objects) u) where
   mount-begun : (x : Store) → Taken N s img x → StoreThere s img x → Keeps (u .tight) s (x .journal .edition) (replayOf (x .journal)) (b .objects)
-      → Lessers N s img (timeOf x) (x .number) → InTime x → MountKeeps N s img b u (begin img [] (mountJob N img x (wipeList (x .number) (allFound N img))))
+      → Lessers N s img (timeOf x) (x .number) → InTime s x
+      → MountKeeps N s img b u (begin img [] (mountJob N img x (wipeList (x .number) (allFound N img)) (upkeep (sizeOf N img) x)))
   mount-begun x y h k f t =
-      let ks : List ℕ = wipeList (x .number) (allFound N img) in
-      let g : Record = enterWipe (mountJob N img x ks) in
+      let g : Record = enterWipe (mountJob N img x (wipeList (x .number) (allFound N img)) (upkeep (sizeOf N img) x)) in
       let last : Record = mountWork N img x .last in
       let a : After N s (x .journal .edition) (applyAll s (mountWork N img x .steps) img) last (settledOnly (replayOf (x .journal))) =
-      mount-ends x (v .sized) (y .there) h t in
+      mount-ends x (v .sized) (v .bytes) (y .there) h t in
       finish g (job-begins img g (mountWork N img x .steps) last
-      (follows-mount img x ks (v .sized .ok) (y .there) (wiped-besides N (x .number) img)
-      (subst (λ (n : ℕ). Standing (x .journal .edition) (block n (x .number) img) (x .journal .frames)) (sym (size-of (v .sized))) (standing-of h)))
-      (λ n l. let g = mount-keeps x (v .sized) (y .there) h t (tracked false (u .tight)) k f n l in (g .0, λ d. g .1))
+      (mount-performs x (v .sized) (v .bytes) (y .there) h)
+      (λ n l. let g = mount-keeps x (v .sized) (v .bytes) (y .there) h t (tracked false (u .tight)) k f n l in (g .0, λ d. g .1))
       (settled-book (tracked false (u .tight)) k a) (ready-idle (a .ready)))
     where
       finish : (g : Record) → Begun N s (GuardIn N s (b .objects) (tracked false (u .tight)) nothing)
@@ -220,7 +216,7 @@ module _ {N : ℕ} {s : ℕ} {img : List ℕ} (b : Book) {u : Track} (v : Bare N
       subst (MountKeeps N s img b u) (sym e)
       (turned-down b refusal.Worn v (λ k f c. let w : _≡_ {A = ℕ} 0 1 = cc in omega arith) (λ c. let w : _≡_ {A = ℕ} 0 1 = cc in omega arith)
       (λ c. let w : _≡_ {A = ℕ} 0 1 = cc in absurd (omega arith)) (λ c. w))
-  mount-found x y h k f (begins t e) = subst (MountKeeps N s img b u) (sym e) (mount-begun x y h k f t)
+  mount-found x y h k f (begins t e) = subst (MountKeeps N s img b u) (sym e) (mount-begun x y h k f (in-time-at x (v .sized) t))
 
   mount-call : MountKeeps N s img b u (mountOn N img)
   mount-call = go (mount-safe (v .sized) (v .safe))

@@ -18,7 +18,7 @@ use Rattle.journal.specs.Block.{Journal, lastTime}
 use Rattle.journal.specs.Room.{used, usedBy}
 use Rattle.journal.proofs.Places.{Standing}
 use Rattle.journal.proofs.PerHost.{counts-none, host-most}
-use Rattle.journal.proofs.Replaying.{stands-settled, LegalEntries, sound-replay}
+use Rattle.journal.proofs.Replaying.{stands-settled, none-closed, LegalEntries, sound-replay}
 use Rattle.journal.proofs.Room.{kept-none, claimed-settled}
 use Rattle.wire.specs.declared.Refusal.the-variants as refusal
 use Rattle.wire.specs.declared.Answer.the-variants.{More, Done, Refused}
@@ -62,7 +62,7 @@ module _ {N : ℕ} {s : ℕ} {img : List ℕ} {r : Record} {x : Journal} (h : As
       record {
         young = y .young;
         stands =
-            stands-edition (x .edition) edition.Second 0 (framesOf st) (stands-settled (x .edition) (x .frames) (h .alone .contents .layout .stands));
+            stands-edition (x .edition) edition.Second 0 (framesOf st) (none-closed st) (stands-settled (x .edition) (x .frames) (h .alone .contents .layout .stands));
         short = omega (arith, y .fits, claimed-settled edition.Second (replayOf x));
       }
 

@@ -13,7 +13,7 @@ use Rattle.journal.specs.Laws.{then, pendingAfter, changeBytes, changesBytes, C
 use Rattle.journal.proofs.ReplayLaws.{replay-laws, pending-exact}
 use Rattle.board.specs.declared.Rest.{Rest}
 use Rattle.board.specs.declared.Record.{Record}
-use Rattle.board.specs.Mount.{nextBlock, Store, Upkeep, rests, moves, upkeep, storeAt}
+use Rattle.board.specs.Mount.{nextBlock, Store, Upkeep, rests, mends, moves, upkeep, storeAt, blockIn}
 use Rattle.board.specs.Queue.{counted}
 use Rattle.board.specs.Plan.{upkeepWork, frameWork}
 use Rattle.board.specs.Sentences.{countIn, countAfter, CountsExact}
@@ -23,9 +23,10 @@ changes-snoc : (ed : Edition) (cs : List Change) (c : Change) → changesBytes e
 changes-snoc ed [] c = omega arith
 changes-snoc ed (x ∷ cs) c = omega (arith, changes-snoc ed cs c)
 
-upkeep-keeps : (u : Upkeep) (j : ℕ) (z : Rest) (x : Store) → upkeepWork u j z x .last .rest .pending ≡ z .pending
-upkeep-keeps rests j z x = refl
-upkeep-keeps moves j z x = refl
+upkeep-keeps : (u : Upkeep) (j : ℕ) (b : List ℕ) (z : Rest) (x : Store) → upkeepWork u j b z x .last .rest .pending ≡ z .pending
+upkeep-keeps rests j b z x = refl
+upkeep-keeps mends j b z x = refl
+upkeep-keeps moves j b z x = refl
 
 module _ (N : ℕ) (img : List ℕ) (r : Record) (x : Journal) where
   after-frame : (f : Frame) → CountsAre (x .edition) (frameWork N img r x f .last .rest .pending) (then (x .frames) f)
@@ -55,6 +56,6 @@ counts-exact =
       commit-other = λ N img r x g h l n y. stays N img r x (commit h) g l y (replay-laws .commit-other (x .frames) g h n);
       abort-own = λ N img r x h l. comes-to N img r x (abort h) h [] l (replay-laws .abort-own (x .frames) h);
       abort-other = λ N img r x g h l n y. stays N img r x (abort h) g l y (replay-laws .abort-other (x .frames) g h n);
-      mounted = λ N img x. upkeep-keeps (upkeep x) (nextBlock N (x .number)) (storeAt N (length img - 1) x) x;
+      mounted = λ N img x. upkeep-keeps (upkeep (sizeOf N img) x) (nextBlock N (x .number)) (blockIn N img x) (storeAt N (length img - 1) x) x;
       formatted = λ N img. refl;
     }

@@ -24,7 +24,7 @@ use Rattle.board.specs.Mount.{mountJob, mountAt, mountOn, noneValid, tie
 use Rattle.board.specs.Claim.{WornOut, Track}
 use Rattle.board.specs.CutFormat.{Beside}
 use Rattle.board.specs.Demand2.{Accepted}
-use Rattle.board.proofs.Upkeep.{is-moves}
+use Rattle.board.proofs.Upkeep.{due-moves}
 use Rattle.board.proofs.Images.{Sized, size-of}
 use Rattle.board.proofs.Invariant.{Quiet, Others, Lessers, Safe, no-valid, some-valid}
 use Rattle.board.proofs.Found.{Among, Rising, same-number, newest-among, Pair, untied-one, newest-strict, unequal-untied}
@@ -168,12 +168,12 @@ module _ {N : ℕ} {s : ℕ} {img : List ℕ} {x : Store} (z : Sized N s img) (y
 -- ---- the outcome
 
 -- a transfer is not due at the last time
-abbrev pub InTime : Store → Type 0
-InTime x = upkeep x ≡ moves → x .journal .time < lastTime
+abbrev pub InTime : ℕ → Store → Type 0
+InTime s x = upkeep s x ≡ moves → x .journal .time < lastTime
 
 pub data Outcome (N : ℕ) (img : List ℕ) (x : Store) : Type 0 where
   worn-out : WornOut N img → mountOn N img ≡ refuse refusal.Worn img unmounted [] → Outcome N img x
-  begins : InTime x → mountOn N img ≡ begin img [] (mountJob N img x (wipeList (x .number) (allFound N img)))
+  begins : InTime (sizeOf N img) x → mountOn N img ≡ begin img [] (mountJob N img x (wipeList (x .number) (allFound N img)) (upkeep (sizeOf N img) x))
       → Outcome N img x
 
 abbrev pub StoreThere : ℕ → List ℕ → Store → Type 0
@@ -181,7 +181,7 @@ StoreThere s img x = Contents (block s (x .number) img) (x .journal)
 
 pub mount-outcome : {N : ℕ} {s : ℕ} {img : List ℕ} (x : Store) → Sized N s img → Taken N s img x → StoreThere s img x → Outcome N img x
 mount-outcome {N} {s} {img} x z k y =
-    let n : Bool = transfers (upkeep x) in
+    let n : Bool = transfers (upkeep (sizeOf N img) x) in
     let e : Bool = eqb (timeOf x) lastTime in
     on-test (n && e)
     (λ t. worn-out
@@ -191,7 +191,7 @@ mount-outcome {N} {s} {img} x z k y =
       there = k .there;
       is-valid = ap (λ (m : ℕ). blockState (block m (x .number) img)) (size-of z) ∙ k .is-valid;
       last-time = eqb-true (timeOf x) lastTime (and-right n e t);
-      due = is-moves (upkeep x) (and-left n e t);
+      due = due-moves (sizeOf N img) (x .journal) (and-left n e t);
     })
     (k .decides ∙ mount-worn N img (allFound N img) x t))
     (λ t. begins
@@ -210,8 +210,9 @@ pub record Begins (N : ℕ) (s : ℕ) (img : List ℕ) : Type 0 where
   pub store : Store
   pub taken : Taken N s img store
   pub holds : StoreThere s img store
-  pub in-time : InTime store
-  pub begins : mountOn N img ≡ begin img [] (mountJob N img store (wipeList (store .number) (allFound N img)))
+  pub in-time : InTime (sizeOf N img) store
+  pub begins : mountOn N img
+      ≡ begin img [] (mountJob N img store (wipeList (store .number) (allFound N img)) (upkeep (sizeOf N img) store))
 
 answer : {o p : Out} → o ≡ p → o .answer ≡ p .answer
 answer e = ap (λ (x : Out). x .answer) e

@@ -10,7 +10,7 @@ use lib.ListN.{length, getD, drop, length-take, List·getD-eq-default}
 use lib.Seq.{getD-take, getD-drop}
 use borrow.Author.Tests.{ltb-true, ltb-false}
 use Rattle.flash.specs.Bytes.{Bytes}
-use Rattle.flash.specs.Flash.{Step, program, erase, apply, applyAll, block, sizeOf, withBlock, programAt}
+use Rattle.flash.specs.Flash.{Step, program, erase, apply, applyAll, block, sizeOf, withBlock, write, programAt}
 use Rattle.flash.proofs.Cases.{on-test}
 use Rattle.flash.proofs.Image.{length-apply, bytes-apply, block-program}
 use Rattle.flash.proofs.Raising.{length-with, bytes-with}
@@ -18,7 +18,7 @@ use Rattle.frame.specs.declared.Edition.the-variants as edition
 use Rattle.frame.specs.declared.Host.{Host}
 use Rattle.journal.specs.Replay.{state, settledOnly}
 use Rattle.journal.specs.Block.{Journal, stateAt, inTransfer}
-use Rattle.journal.proofs.Places.{Standing}
+use Rattle.journal.proofs.Building as building
 use Rattle.wire.specs.declared.Answer.{Answer}
 use Rattle.wire.specs.declared.Answer.the-variants.{Done, More, Refused}
 use Rattle.wire.specs.Answer.{numberOf}
@@ -27,7 +27,7 @@ use Rattle.board.specs.declared.Phase.the-variants.{Unmounted, Idle, Bus
 use Rattle.board.specs.declared.Record.{Record}
 use Rattle.board.specs.Record.{Out, out, unmounted, answerOf}
 use Rattle.board.specs.Step.{stepOn, enterWipe}
-use Rattle.board.specs.Mount.{Store, allFound, wipeList, mountJob, mountOn, formatJob, formatOn, replayOf}
+use Rattle.board.specs.Mount.{Store, allFound, wipeList, upkeep, mountJob, mountOn, formatJob, formatOn, replayOf}
 use Rattle.board.specs.Queue.{requestOn, Asking, asking}
 use Rattle.board.specs.Exec.{Call, request, step, mount, format, exec}
 use Rattle.board.specs.Plan.{Follows, formatWork, mountWork}
@@ -35,17 +35,15 @@ use Rattle.board.specs.Table.{InJob as JobPhase, Fresh, Exactly, request
 use Rattle.board.specs.Demand1.{Rests}
 use Rattle.board.specs.Book.{Book, enterCall}
 use Rattle.board.specs.Claim.{Begins as Restarting, Event, call, cutErase, CutsErase, Happens}
-use Rattle.board.specs.Demand2.{Accepted, Mounts, OneStore, LandsAt, StepLands as OneLands, EachCall, FromAny, NotStale, UsableFrom, LandsFrom}
+use Rattle.board.specs.Demand2.{Accepted, Mounts, OneStore, ClosesKind, LandsAt, StepLands as OneLands, EachCall, FromAny, NotStale, UsableFrom, LandsFrom}
 use Rattle.board.proofs.Images.{Sized, size-of, sized-of, sized-as, sized-block, length-all-steps, bytes-all-steps}
 use Rattle.board.proofs.Invariant.{StepLands, Ready, InJob, Sound}
 use Rattle.board.proofs.Outcomes.{format-begins, step-resting}
 use Rattle.board.proofs.Current.{After, block-long}
 use Rattle.board.proofs.Jobs.{Stepped, job-step, Begun, job-starts, job-begins}
 use Rattle.board.proofs.Keeping.{more-busy, ready-idle}
-use Rattle.board.proofs.Accepted.{follows-format, follows-mount}
-use Rattle.board.proofs.Blocks.{wiped-besides}
+use Rattle.board.proofs.Accepted.{follows-format}
 use Rattle.board.proofs.Lengths.{length-format}
-use Rattle.board.proofs.Replies.{standing-of}
 use Rattle.board.proofs.Freshness.{ready-fresh}
 use Rattle.board.proofs.Answering.{number-accepted, other-number, not-numbered}
 use Rattle.board.proofs.Tabling.{request-lines, format-lines}
@@ -53,12 +51,12 @@ use Rattle.board.proofs.TablingMounts.{mount-lines}
 use Rattle.board.proofs.Refusals.{refusals-untouched, at-most-one-step}
 use Rattle.board.proofs.Formatting.{format-lands, format-ends}
 use Rattle.board.proofs.Deciding.{Begins, mount-accepted, taken-newest}
-use Rattle.board.proofs.Mounting.{mount-lands, mount-ends, mount-short, mount-erases}
+use Rattle.board.proofs.Mounting.{mount-performs, in-time-at, mount-lands, mount-ends, mount-short, mount-erases}
 use Rattle.board.proofs.Planning.{jobOf, convertOf, Met, refused, done, begun, converting, request-met, frame-begins, convert-job-begins}
 
 -- ---- one store
 
-module _ {N : ℕ} {s : ℕ} {img : List ℕ} (z : Sized N s img) (y : Begins N s img) where
+module _ {N : ℕ} {s : ℕ} {img : List ℕ} (z : Sized N s img) (by : Bytes img) (y : Begins N s img) where
   abbrev x : Store
   x = y .store
 
@@ -66,21 +64,20 @@ module _ {N : ℕ} {s : ℕ} {img : List ℕ} (z : Sized N s img) (y : Begins N 
   last = mountWork N img x .last
 
   abbrev job : Record
-  job = enterWipe (mountJob N img x (wipeList (x .number) (allFound N img)))
+  job = enterWipe (mountJob N img x (wipeList (x .number) (allFound N img)) (upkeep (sizeOf N img) x))
 
   mount-follows : Follows N (exec N) img job (mountWork N img x .steps) last
   mount-follows =
-      follows-mount img x (wipeList (x .number) (allFound N img)) (z .ok) (y .taken .there) (wiped-besides N (x .number) img)
-      (subst (λ (n : ℕ). Standing (x .journal .edition) (block n (x .number) img) (x .journal .frames)) (sym (size-of z)) (standing-of (y .holds)))
+      mount-performs x z by (y .taken .there) (y .holds)
 
   after : After N s (x .journal .edition) (applyAll s (mountWork N img x .steps) img) last (settledOnly (replayOf (x .journal)))
-  after = mount-ends x z (y .taken .there) (y .holds) (y .in-time)
+  after = mount-ends x z by (y .taken .there) (y .holds) (in-time-at (y .store) z (y .in-time))
 
   -- the job is begun, or there is none
   mount-begun : Begun N s (StepLands s) (Ready N s) img job
   mount-begun =
       job-begins img job (mountWork N img x .steps) last mount-follows
-      (mount-lands x z (y .taken .there) (y .holds) (y .in-time)) (after .ready) (ready-idle (after .ready))
+      (mount-lands x z by (y .taken .there) (y .holds) (in-time-at (y .store) z (y .in-time))) (after .ready) (ready-idle (after .ready))
 
 pub one-store : (N : ℕ) → OneStore N (exec N)
 unfolding OneStore
@@ -90,16 +87,16 @@ one-store N img r by ok a =
     let y : Begins N s img = mount-accepted z by a in
     let x : Store = y .store in
     let after-image : List ℕ = applyAll s (mountWork N img x .steps) img in
-    let e : After N s (x .journal .edition) (applyAll s (mountWork N img x .steps) img) (last z y) (settledOnly (replayOf (x .journal))) = after z y in
+    let e : After N s (x .journal .edition) (applyAll s (mountWork N img x .steps) img) (last z by y) (settledOnly (replayOf (x .journal))) = after z by y in
     subst (Mounts N (exec N) img) (sym (y .begins))
     (record {
       store = x;
       there = y .taken .there;
       is-valid = y .taken .is-valid;
       newest = taken-newest z (y .taken);
-      follows = mount-follows z y;
-      short = mount-short x z (y .taken .there) (y .holds) (y .in-time);
-      erases = mount-erases x z (y .taken .there) (y .holds) (y .in-time);
+      follows = mount-follows z by y;
+      short = mount-short x z by (y .taken .there) (y .holds) (in-time-at (y .store) z (y .in-time));
+      erases = mount-erases x z by (y .taken .there) (y .holds) (in-time-at (y .store) z (y .in-time));
       holding = e .ready .journal;
       is-fresh = ready-fresh (sized-as after-image (length-all-steps s (mountWork N img x .steps) img) z)
           (bytes-all-steps s (mountWork N img x .steps) img by) (e .ready);
@@ -108,29 +105,29 @@ one-store N img r by ok a =
 
 -- ---- a step that lands in its block lands in the image
 
--- a byte that isn't 0 lies in the list
-inside : (l : List ℕ) (i : ℕ) → 0 < getD l i 0 → i < length l
-inside l i h =
-    on-test (ltb i (length l)) (ltb-true i (length l))
-    (λ t. let e : getD l i 0 ≡ 0 = List·getD-eq-default l 0 (ltb-false i (length l) t) in absurd (omega arith))
-
 lands-at : (s : ℕ) (x : Step) (img : List ℕ) → StepLands s x img → LandsAt s x img
 lands-at s (erase k) img y = tt
 lands-at s (program k o v) img y =
     let n : length (block s k img) ≤ s = omega (arith, length-take s (drop (k * s) img)) in
-    let h : o < s = omega (arith, inside (block s k img) o (some-bit (y .before))) in
+    let h : o < s = omega (arith, y .inside) in
     let same : (i : List ℕ) → getD (block s k i) o 0 ≡ getD i (k * s + o) 0 = λ i. getD-take s (drop (k * s) i) o 0 h ∙ getD-drop (k * s) i o 0 in
     (over (same img) (y .before), sym (same (programAt img (k * s + o) v)) ∙ ap (λ (l : List ℕ). getD l o 0) (block-program s k o v img h) ∙ y .after)
   where
-    Was : ℕ → Type 0
-    Was b = (b ≡ 255) ⊎ ((o ≡ stateAt) × (b ≡ inTransfer))
+    Was : Type 0 → ℕ → Type 0
+    Was C b = (b ≡ 255) ⊎ (((o ≡ stateAt) × (b ≡ inTransfer)) ⊎ C)
 
-    some-bit : Was (getD (block s k img) o 0) → 0 < getD (block s k img) o 0
-    some-bit (inl e) = omega arith
-    some-bit (inr (a, e)) = omega arith
-
-    over : {a b : ℕ} → a ≡ b → Was a → Was b
-    over e w = subst Was e w
+    over : {a b : ℕ} → a ≡ b → Was (building.ClosesKind (block s k img) (write o v)) a → Was (ClosesKind s k o v img) b
+    over e (inl w) = inl (sym e ∙ w)
+    over e (inr (inl (p, w))) = inr (inl (p, sym e ∙ w))
+    over e (inr (inr c)) =
+        inr (inr (record {
+          journal = c .journal;
+          long = c .long;
+          is-valid = c .is-valid;
+          is-torn = c .is-torn;
+          at-kind = c .at-kind;
+          to-zero = c .to-zero;
+        }))
 
 -- ---- what holds between calls, whatever the image was
 
@@ -206,7 +203,7 @@ mount-kept {N} {s} {img} z by = go (mountOn N img .answer) refl
     goes : (a : Answer) → mountOn N img .answer ≡ a → Accepted a → Steady N s img (mountOn N img .board)
     goes a e f =
         let y : Begins N s img = mount-accepted z by (subst Accepted (sym e) f) in
-        subst (λ (o : Out). Steady N s img (o .board)) (sym (y .begins)) (steady-begun z by (job z y) (mount-begun z y))
+        subst (λ (o : Out). Steady N s img (o .board)) (sym (y .begins)) (steady-begun z by (job z by y) (mount-begun z by y))
 
     go : (a : Answer) → mountOn N img .answer ≡ a → Steady N s img (mountOn N img .board)
     go Done e = goes Done e tt

@@ -27,7 +27,7 @@ use Rattle.board.specs.declared.Phase.the-variants.{Unmounted, Idle, Bus
 use Rattle.board.specs.declared.Rest.{Rest}
 use Rattle.board.specs.declared.Record.{Record}
 use Rattle.board.specs.Record.{allowed, unmounted, noStretch, Out, out, answerOf}
-use Rattle.board.specs.Mount.{Store, Upkeep, rests, moves, upkeep, mountOn, nextBlock, storeAt}
+use Rattle.board.specs.Mount.{Store, Upkeep, rests, mends, moves, upkeep, mountOn, nextBlock, storeAt, blockIn}
 use Rattle.board.specs.Queue.{held, Asking, asking, counted}
 use Rattle.board.specs.Exec.{Call, request, step, mount, format}
 use Rattle.board.specs.Plan.{Work, formatWork, upkeepWork, mountWork, frameWork, convertWork}
@@ -49,12 +49,13 @@ use Rattle.board.proofs.Freshness.{fresh-exact}
 -- ---- what a machine that keeps the promise gives back
 
 -- a plan's last record is idle
-kept-idle : (u : Upkeep) (j : ℕ) (z : Rest) (x : Store) → upkeepWork u j z x .last .phase ≡ Idle
-kept-idle rests j z x = refl
-kept-idle moves j z x = refl
+kept-idle : (u : Upkeep) (j : ℕ) (b : List ℕ) (z : Rest) (x : Store) → upkeepWork u j b z x .last .phase ≡ Idle
+kept-idle rests j b z x = refl
+kept-idle mends j b z x = refl
+kept-idle moves j b z x = refl
 
 pub mounted-idle : (N : ℕ) (img : List ℕ) (x : Store) → mountWork N img x .last .phase ≡ Idle
-mounted-idle N img x = kept-idle (upkeep x) (nextBlock N (x .number)) (storeAt N (length img - 1) x) x
+mounted-idle N img x = kept-idle (upkeep (sizeOf N img) x) (nextBlock N (x .number)) (blockIn N img x) (storeAt N (length img - 1) x) x
 
 pub job-idle : {N : ℕ} {img : List ℕ} {r : Record} {c : Call} {w : Work} → Job N img r c w → w .last .phase ≡ Idle
 job-idle {N} {img} {r} (frame-job h msg reply x q f v k g) =

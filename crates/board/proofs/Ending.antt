@@ -18,15 +18,16 @@ use Rattle.journal.specs.Index.{Load}
 use Rattle.wire.specs.declared.Answer.the-variants.{Refused}
 use Rattle.wire.specs.declared.Refusal.the-variants as refusal
 use Rattle.board.specs.declared.Stage.{Stage}
-use Rattle.board.specs.declared.Stage.the-variants.{Wipe, Open, Copy, Seal, Drop, Append}
+use Rattle.board.specs.declared.Stage.the-variants.{Wipe, Open, Copy, Seal, Drop, Append, Close}
 use Rattle.board.specs.declared.Phase.{Phase}
 use Rattle.board.specs.declared.Phase.the-variants.{Unmounted, Idle, Busy}
 use Rattle.board.specs.declared.Record.{Record}
 use Rattle.board.specs.Record.{inStage, Out}
-use Rattle.board.specs.Step.{sameShape, landed, enterAppend, enterDrop, enterCopy, enterOpen, action, pastFrame, advance, stepOn}
+use Rattle.board.specs.Step.{sameShape, landed, enterAppend, enterDrop, enterCopy, enterClose, enterOpen, action, pastFrame, advance, stepOn}
 use Rattle.board.specs.Exec.{exec}
 use Rattle.board.specs.Demand1.{Declared, Rests, EndsWithin}
 use Rattle.board.proofs.Outcomes.{nextFor, open-enters, open-skips, copy-loads, copy-ends, drop-enters, drop-skips, append-enters}
+use Rattle.board.proofs.Outcomes.{close-enters, close-skips, close-next, close-last}
 use Rattle.board.proofs.Outcomes.{append-skips, wipe-next, wipe-last, open-next, open-last, copy-next, copy-last, seal-next}
 use Rattle.board.proofs.Outcomes.{seal-last, drop-last, append-next, append-last, step-outside, step-goes}
 
@@ -44,8 +45,11 @@ inSeal r = markWrites + inDrop r
 abbrev inCopy : ℕ → Record → ℕ
 inCopy z r = z - r .cursor .at + inSeal r
 
+abbrev inClose : Record → ℕ
+inClose r = r .job .closes + inAppend r
+
 abbrev inOpen : ℕ → Record → ℕ
-inOpen z r = markWrites + (z + inSeal r)
+inOpen z r = markWrites + (z + inSeal r) + r .job .closes
 
 abbrev leftIn : Phase → ℕ → Record → ℕ
 leftIn Unmounted z r = 0
@@ -56,6 +60,7 @@ leftIn (Busy Copy) z r = inCopy z r
 leftIn (Busy Seal) z r = suc (markWrites - suc (r .cursor .index)) + inDrop r
 leftIn (Busy Drop) z r = inDrop r
 leftIn (Busy Append) z r = suc (r .job .size - suc (r .cursor .index))
+leftIn (Busy Close) z r = suc (r .job .closes - suc (r .cursor .index)) + inAppend r
 
 abbrev left : ℕ → Record → ℕ
 left z r = leftIn (r .phase) z r
@@ -81,11 +86,17 @@ copy-left N z img r = go (nextFor N img r) refl
     go (some u) e = rw (copy-loads N img r u e) (omega arith)
     go none e = rw (copy-ends N img r e) (omega arith)
 
+close-left : (z : ℕ) (r : Record) → left z (enterClose r) ≤ inClose r
+close-left z r =
+    on-test (ltb 0 (r .job .closes))
+    (λ e. rw (close-enters r e) (omega (arith, ltb-true 0 (r .job .closes) e)))
+    (λ e. rw (close-skips r e) (omega (arith, append-left z r)))
+
 open-left : (z : ℕ) (r : Record) → left z (enterOpen r) ≤ inOpen z r
 open-left z r =
     on-test (r .job .moves)
     (λ e. rw (open-enters r e) (omega arith))
-    (λ e. rw (open-skips r e) (omega (arith, append-left z r)))
+    (λ e. rw (open-skips r e) (omega (arith, close-left z r)))
 
 -- ---- each step leaves less
 
@@ -114,6 +125,10 @@ advance-less N z Append img r w =
     on-test (ltb (suc (r .cursor .index)) (r .job .size))
     (λ e. rw (append-next N img r e) (omega (arith, ltb-true (suc (r .cursor .index)) (r .job .size) e)))
     (λ e. rw (append-last N img r e) (omega arith))
+advance-less N z Close img r w =
+    on-test (ltb (suc (r .cursor .index)) (r .job .closes))
+    (λ e. rw (close-next N img r e) (omega (arith, ltb-true (suc (r .cursor .index)) (r .job .closes) e)))
+    (λ e. rw (close-last N img r e) (omega (arith, append-left z r)))
 
 -- ---- so they end
 
@@ -126,6 +141,7 @@ none-left (Busy Copy) z r h = omega arith
 none-left (Busy Seal) z r h = omega arith
 none-left (Busy Drop) z r h = omega arith
 none-left (Busy Append) z r h = omega arith
+none-left (Busy Close) z r h = omega arith
 
 -- one call more
 module _ (N : ℕ) (n : ℕ) (img : List ℕ) (r : Record) where
@@ -179,6 +195,7 @@ few-left N (Busy Copy) img r d e = omega arith
 few-left N (Busy Seal) img r d e = omega arith
 few-left N (Busy Drop) img r d e = omega arith
 few-left N (Busy Append) img r d e = omega arith
+few-left N (Busy Close) img r d e = omega arith
 
 -- at least two blocks in at most 65,536 bytes
 few-bytes : (N n : ℕ) → isCount N ≡ true → n ≤ 65536 → sizeIn N n ≤ 32768

@@ -8,7 +8,7 @@ use borrow.Author.Tests.{ltb-false}
 use Rattle.frame.specs.declared.Edition.{Edition}
 use Rattle.frame.specs.declared.Edition.the-variants as edition
 use Rattle.frame.specs.declared.Host.{Host}
-use Rattle.frame.specs.Frame.{hostMax, Change, put, delete, Frame, change, commit, abort, frameLen, endLen, OfHost, MayStand}
+use Rattle.frame.specs.Frame.{hostMax, Change, put, delete, Frame, change, commit, abort, frameLen, endLen, Tears, MayStand}
 use Rattle.journal.specs.Replay.{State, entry, nextState, isOpen}
 use Rattle.journal.specs.Block.{Journal}
 use Rattle.journal.specs.Room.{claimed, openHosts, noRoom, spare}
@@ -26,7 +26,7 @@ use Rattle.board.proofs.Serving.{Legal}
 
 -- a legal frame that there is room for, and after it for the commits
 pub record Fitting (s : ℕ) (ed : Edition) (st : State) (f : Frame) : Type 0 where
-  pub host : OfHost f
+  pub host : Tears f
   pub legal : MayStand ed 256 f
   pub fits : claimed ed st + frameLen ed f ≤ s
   pub room : Roomy s ed (nextState st f)

@@ -9,7 +9,7 @@ use lib.ListN.{length}
 use borrow.Author.Tests.{ltb-false}
 use Rattle.flash.specs.Flash.{Step, applyAll, sizeOf}
 use Rattle.frame.specs.declared.Edition.{Edition}
-use Rattle.frame.specs.Frame.{Frame, frameLen, MayStand, OfHost, editionNumber}
+use Rattle.frame.specs.Frame.{Frame, frameLen, MayStand, Tears, editionNumber}
 use Rattle.frame.specs.Reader.{clean}
 use Rattle.journal.specs.Block.{Journal, lastTime}
 use Rattle.journal.specs.Replay.{Object, State, nextState}
@@ -53,7 +53,7 @@ ready-holds {N} {s} {img} {r} {x} z y e =
 
 -- a frame that a request may append
 pub record Appendable (N : ℕ) (s : ℕ) (img : List ℕ) (r : Record) (x : Journal) (f : Frame) : Type 0 where
-  pub host : OfHost f
+  pub host : Tears f
   pub legal : MayStand (x .edition) 256 f
   pub fits : claimedOf x + frameLen (x .edition) f ≤ s
   pub young : needsRoom N img r x f ≡ true → x .time < lastTime

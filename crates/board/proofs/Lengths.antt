@@ -1,25 +1,29 @@
 -- How many steps each plan has.
-use mathlib.Core.Path.{_≡_, refl, ap, _∙_}
-use mathlib.Core.List.{List, [], _∷_, _++_, map}
+use mathlib.Core.Path.{_≡_, refl, sym, ap, _∙_}
+use mathlib.Core.List.{List, [], _∷_, _++_, append-nil, map}
 use mathlib.Core.Bool.{Bool, true, false, cond}
-use Prim.Native.Nat.{ℕ, suc, _+_, _≤_, _<_}
+use Prim.Native.Nat.{ℕ, suc, _+_, _-_, _≤_, _<_}
 use native.Mathlib.Omega.{arith}
-use lib.Dec.{ltb}
-use lib.ListN.{length, length-append, length-map}
-use Rattle.flash.specs.Flash.{Step, erase, Write, writeStep, writes}
+use lib.Dec.{eqb, ltb}
+use lib.ListN.{length, getD, length-append, length-map}
+use Rattle.flash.specs.Flash.{Step, erase, sizeOf, Write, writeStep, writes}
+use Rattle.flash.proofs.Cases.{on-test}
 use Rattle.flash.proofs.Programming.{length-writes}
 use Rattle.frame.specs.declared.Edition.{Edition}
 use Rattle.frame.specs.declared.Edition.the-variants as edition
 use Rattle.frame.specs.Frame.{Frame, encode, encodeAll, frameLen}
+use Rattle.frame.specs.Reader.{Tail, clean, cut, bad}
 use Rattle.frame.proofs.Encode.{length-encode}
 use Rattle.journal.specs.Replay.{State, framesOf, settledOnly}
-use Rattle.journal.specs.Block.{Journal, build}
+use Rattle.journal.specs.Block.{Journal, build, closing, changing, closeWrites}
 use Rattle.journal.specs.Room.{claimed}
 use Rattle.journal.proofs.Room.{frames-total, claimed-settled}
 use Rattle.journal.proofs.Building.{length-build}
 use Rattle.board.specs.declared.Rest.{Rest}
-use Rattle.board.specs.Mount.{Store, storeAt, Upkeep, rests, moves, upkeep, formatOrder, replayOf, usedOf, claimedOf}
-use Rattle.board.specs.Plan.{onBlock, transferTo, appendPlan, programs, Work, formatWork, upkeepWork, mountIn, appendWork, movedWork, frameIn}
+use Rattle.board.specs.Mount.{Store, storeAt, Upkeep, rests, mends, moves, upkeep, formatOrder, replayOf, usedOf, claimedOf}
+use Rattle.board.specs.Mount.{endOf, closedEnd, closesFor, dueReset, blockIn}
+use Rattle.board.specs.Plan.{onBlock, transferTo, appendPlan, programs, Work, formatWork, mendWork, upkeepWork, mountIn, appendWork, movedWork, frameIn}
+use Rattle.board.proofs.Upkeep.{reset-few}
 use Rattle.board.proofs.Order.{length-order}
 
 -- "C - 5 steps"
@@ -102,15 +106,52 @@ programs-transfer ed j k w st =
 
 -- ---- a mount
 
--- its steps but the first erases program what a transfer does, or nothing; one erase more is the transfer's
+-- its steps but the first erases program what a transfer does, at most thirteen bytes, or nothing; one erase more is the transfer's
 pub record UpkeepSteps (x : Store) (xs : List Step) : Type 0 where
   pub programmed : length (programs xs) ≤ usedOf (x .journal)
   pub erased : length xs ≤ suc (length (programs xs))
 
-pub upkeep-steps : (u : Upkeep) (j : ℕ) (z : Rest) (x : Store) → UpkeepSteps x (upkeepWork u j z x .steps)
+changing-few : (b : List ℕ) (ws : List Write) → length (changing b ws) ≤ length ws
+unfolding changing
+changing-few b [] = omega arith
+changing-few b (w ∷ ws) =
+    on-test (eqb (getD b (w .at) 0) (w .byte)) (λ t. rw (t, changing) (omega (arith, changing-few b ws))) (λ t. rw (t, changing) (omega (arith, changing-few b ws)))
+
+-- at most four bytes close a torn frame
+pub closes-few : (b : List ℕ) (at : ℕ) (c : Tail) → length (closeWrites b at c) ≤ 4
+closes-few b at clean = omega arith
+closes-few b at (cut n) = omega (arith, changing-few b (closing at n))
+closes-few b at (bad e) = omega arith
+
+-- a mended block: every step programs a byte, and there are at most thirteen
+pub mend-programs : (k : ℕ) (b : List ℕ) (z : Rest) (x : Journal) → programs (mendWork k b z x .steps) ≡ mendWork k b z x .steps
 unfolding programs
-upkeep-steps rests j z x = record { programmed = omega arith; erased = omega arith }
-upkeep-steps moves j z x =
+mend-programs k b z x =
+    programs-writes k (closesFor mends b x) (onBlock k (writes (closedEnd x) (dueReset x)))
+    ∙ ap (λ (ys : List Step). onBlock k (closesFor mends b x) ++ ys)
+    (ap programs (sym (append-nil (onBlock k (writes (closedEnd x) (dueReset x))))) ∙ programs-writes k (writes (closedEnd x) (dueReset x)) []
+    ∙ append-nil (onBlock k (writes (closedEnd x) (dueReset x))))
+
+pub mend-few : (k : ℕ) (b : List ℕ) (z : Rest) (x : Journal) → length (mendWork k b z x .steps) ≤ 13
+mend-few k b z x =
+    omega (
+      arith,
+      length-append (onBlock k (closesFor mends b x)) (onBlock k (writes (closedEnd x) (dueReset x))),
+      length-map (closesFor mends b x) (writeStep k),
+      length-map (writes (closedEnd x) (dueReset x)) (writeStep k),
+      length-writes (closedEnd x) (dueReset x),
+      closes-few b (endOf x) (x .tail),
+      reset-few x,
+    )
+
+pub upkeep-steps : (u : Upkeep) (j : ℕ) (b : List ℕ) (z : Rest) (x : Store) → UpkeepSteps x (upkeepWork u j b z x .steps)
+unfolding programs
+upkeep-steps rests j b z x = record { programmed = omega arith; erased = omega arith }
+upkeep-steps mends j b z x =
+    let e : length (programs (mendWork (x .number) b z (x .journal) .steps)) ≡ length (mendWork (x .number) b z (x .journal) .steps) =
+    ap (λ (xs : List Step). length xs) (mend-programs (x .number) b z (x .journal)) in
+    record { programmed = omega (arith, e, mend-few (x .number) b z (x .journal)); erased = omega (arith, e) }
+upkeep-steps moves j b z x =
     let st : State = settledOnly (replayOf (x .journal)) in
     let ed : Edition = x .journal .edition in
     let n = programs-transfer ed j (x .number) (x .journal) st in
@@ -120,11 +161,13 @@ upkeep-steps moves j z x =
     }
 
 -- the same with the erases before it
-pub mount-steps : (N l : ℕ) (ks : List ℕ) (j : ℕ) (x : Store)
-    → (length (programs (mountIn N l ks j x .steps)) ≤ usedOf (x .journal))
-    × (length (mountIn N l ks j x .steps) ≤ length (programs (mountIn N l ks j x .steps)) + suc (length ks))
-mount-steps N l ks j x =
-    let xs : List Step = upkeepWork (upkeep x) j (storeAt N l x) x .steps in
-    let y : UpkeepSteps x xs = upkeep-steps (upkeep x) j (storeAt N l x) x in
+pub mount-steps : (N : ℕ) (img ks : List ℕ) (j : ℕ) (x : Store)
+    → (length (programs (mountIn N img ks j x .steps)) ≤ usedOf (x .journal))
+    × (length (mountIn N img ks j x .steps) ≤ length (programs (mountIn N img ks j x .steps)) + suc (length ks))
+mount-steps N img ks j x =
+    let u : Upkeep = upkeep (sizeOf N img) x in
+    let z : Rest = storeAt N (length img - 1) x in
+    let xs : List Step = upkeepWork u j (blockIn N img x) z x .steps in
+    let y : UpkeepSteps x xs = upkeep-steps u j (blockIn N img x) z x in
     let e : length (programs (map erase ks ++ xs)) ≡ length (programs xs) = ap (λ (ys : List Step). length ys) (programs-wipes ks xs) in
     (omega (arith, e, y .programmed), omega (arith, e, y .erased, wipes-then ks xs))

@@ -18,6 +18,7 @@ pub mod Outcomes
 pub mod Lengths  -- of plans
 pub mod Pipeline  -- one stage
 pub mod PipelineEnd  -- Seal, Drop, Append
+pub mod PipelineClose  -- Close
 pub mod PipelineCopy  -- Open, Copy
 pub mod PipelineJob  -- all stages
 pub mod Accepted  -- the job of each accepted call follows its plan
@@ -32,6 +33,7 @@ pub mod Formatting  -- what a format does
 pub mod Appending  -- a frame appended
 pub mod Transferring  -- a transfer
 pub mod Framing  -- a frame appended, after a transfer or without
+pub mod Mending  -- a torn frame closed, and a reset
 pub mod Holding  -- an image that passes refusal 11
 pub mod Replies  -- what reads and the log say
 pub mod Books  -- the book beside replay
@@ -52,6 +54,7 @@ pub mod Wear  -- erases counted, and the plans level: for WearRuns
 pub mod WearRuns  -- K14, erase counts of every run: to read
 -- ---- the promise
 pub mod Sentences  -- frames, plans and places, which the promise uses, are as document 01 words them
+pub mod SentencesMounts  -- and so are a mount's steps
 pub mod Freshness  -- and so is refusal 11
 pub mod Counting  -- and so are a record's pending counts after each job
 pub mod Lines  -- from tests to the table's lines: for Tabling

@@ -22,12 +22,12 @@ use Rattle.wire.specs.declared.Request.the-variants.{Put, Delete, Commit, Abort
 use Rattle.wire.specs.declared.Parsed.the-variants.{Is, Malformed}
 use Rattle.wire.specs.Message.{parse, valueIn, pageLen, logPage, withPage}
 use Rattle.board.specs.declared.Stage.{Stage}
-use Rattle.board.specs.declared.Stage.the-variants.{Wipe, Open, Copy, Seal, Drop, Append}
+use Rattle.board.specs.declared.Stage.the-variants.{Wipe, Open, Copy, Seal, Drop, Append, Close}
 use Rattle.board.specs.declared.Phase.{Phase}
 use Rattle.board.specs.declared.Phase.the-variants.{Unmounted, Idle, Busy}
 use Rattle.board.specs.declared.Record.{Record}
 use Rattle.board.specs.Record.{allowed, unmounted, ending, idle, inStage, noStretch, out, refuse, readsIn}
-use Rattle.board.specs.Step.{enter, enterAppend, landed, enterDrop, loaded, enterCopy, enterOpen, enterWipe, begin, action}
+use Rattle.board.specs.Step.{enter, enterAppend, landed, enterDrop, loaded, enterCopy, enterClose, enterOpen, enterWipe, begin, action}
 use Rattle.board.specs.Step.{nextIndex, nextByte, pastFrame, advance, sameShape, stepped, stepBusy, stepIn, stepOn}
 use Rattle.board.specs.Mount.{allFound, Found, Store, stores, equalTimes, newest, wipeList, upkeep, transfers, mountJob, replayOf, usedOf, timeOf}
 use Rattle.board.specs.Mount.{noneValid, lowestTied, tiedTimes, mountAt, mountStores, mountFound, mountOn, formatJob, formatOn}
@@ -195,13 +195,13 @@ module _ (N : ℕ) (img : List ℕ) (a : allowed N (length img) ≡ true) where
       → mountOn N img ≡ mountAt N img (allFound N img) (newest y ys)
   mount-at y ys e t = mount-stores ∙ ap (mountStores N img (allFound N img)) e ∙ rw t
 
-pub mount-worn : (N : ℕ) (img : List ℕ) (xs : List Found) (x : Store) → (transfers (upkeep x) && eqb (timeOf x) lastTime) ≡ true
+pub mount-worn : (N : ℕ) (img : List ℕ) (xs : List Found) (x : Store) → (transfers (upkeep (sizeOf N img) x) && eqb (timeOf x) lastTime) ≡ true
     → mountAt N img xs x ≡ refuse refusal.Worn img unmounted []
 unfolding mountAt
 mount-worn N img xs x e = rw (e, mountAt)
 
-pub mount-begins : (N : ℕ) (img : List ℕ) (xs : List Found) (x : Store) → (transfers (upkeep x) && eqb (timeOf x) lastTime) ≡ false
-    → mountAt N img xs x ≡ begin img [] (mountJob N img x (wipeList (x .number) xs))
+pub mount-begins : (N : ℕ) (img : List ℕ) (xs : List Found) (x : Store) → (transfers (upkeep (sizeOf N img) x) && eqb (timeOf x) lastTime) ≡ false
+    → mountAt N img xs x ≡ begin img [] (mountJob N img x (wipeList (x .number) xs) (upkeep (sizeOf N img) x))
 unfolding mountAt
 mount-begins N img xs x e = rw (e, mountAt)
 
@@ -251,9 +251,17 @@ pub open-enters : (r : Record) → r .job .moves ≡ true → enterOpen r ≡ en
 unfolding enterOpen
 open-enters r e = rw (e, enterOpen)
 
-pub open-skips : (r : Record) → r .job .moves ≡ false → enterOpen r ≡ enterAppend r
+pub open-skips : (r : Record) → r .job .moves ≡ false → enterOpen r ≡ enterClose r
 unfolding enterOpen
 open-skips r e = rw (e, enterOpen)
+
+pub close-enters : (r : Record) → ltb 0 (r .job .closes) ≡ true → enterClose r ≡ enter Close r
+unfolding enterClose
+close-enters r e = rw (e, enterClose)
+
+pub close-skips : (r : Record) → ltb 0 (r .job .closes) ≡ false → enterClose r ≡ enterAppend r
+unfolding enterClose
+close-skips r e = rw (e, enterClose)
 
 abbrev pub nextFor : ℕ → List ℕ → Record → Option Load
 nextFor N img r =
@@ -331,3 +339,11 @@ module _ (N : ℕ) (img : List ℕ) (r : Record) where
       → advance N Append img r ≡ idle (ending (r .rest) (r .rest .end + r .job .size))
   unfolding advance
   append-last e = rw e
+
+  pub close-next : ltb (suc (r .cursor .index)) (r .job .closes) ≡ true → advance N Close img r ≡ inStage Close (nextIndex (r .cursor)) r
+  unfolding advance
+  close-next e = rw e
+
+  pub close-last : ltb (suc (r .cursor .index)) (r .job .closes) ≡ false → advance N Close img r ≡ enterAppend r
+  unfolding advance
+  close-last e = rw e

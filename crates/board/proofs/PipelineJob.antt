@@ -1,4 +1,4 @@
--- A whole job: its step calls do the wipes, the transfer if it makes one, and the frame that it appends.
+-- A whole job: its step calls do the wipes, the transfer or the closing if it makes one, and the frame that it appends.
 use mathlib.Core.Path.{_≡_, refl, sym, ap, subst, _∙_, subst₂}
 use mathlib.Core.List.{List, [], _∷_, _++_, append-assoc, map}
 use mathlib.Core.Bool.{Bool, true, false, cond}
@@ -7,7 +7,7 @@ use native.Mathlib.Omega.{arith}
 use lib.Dec.{ltb}
 use lib.ListN.{length, getD, length-map, List·getD-map, List·getD-append, replicate}
 use borrow.Author.Tests.{ltb-true, ltb-false}
-use Rattle.flash.specs.Flash.{maxBlocks, sizeIn, isCount, Step, erase, block, sizeOf, within, applyAll, writeStep, writes}
+use Rattle.flash.specs.Flash.{maxBlocks, sizeIn, isCount, Step, erase, block, sizeOf, within, applyAll, Write, writeStep, writes}
 use Rattle.flash.proofs.Cases.{on-test}
 use Rattle.frame.specs.declared.Edition.{Edition}
 use Rattle.frame.specs.Frame.{editionBy, Frame, encodeAll, total}
@@ -18,14 +18,15 @@ use Rattle.board.specs.declared.Job.{Job}
 use Rattle.board.specs.declared.Rest.{Rest}
 use Rattle.board.specs.declared.Record.{Record}
 use Rattle.board.specs.Record.{noFrame, buffer, cursor, landing, ending, starting, idle, busy}
-use Rattle.board.specs.Step.{enter, enterAppend, enterOpen, enterWipe, advance}
-use Rattle.board.specs.Mount.{wipeArray}
+use Rattle.board.specs.Step.{enter, enterClose, enterOpen, enterWipe, advance}
+use Rattle.board.specs.Mount.{wipeArray, closeArray}
 use Rattle.board.specs.Exec.{exec}
 use Rattle.board.specs.Plan.{Follows, onBlock}
 use Rattle.board.proofs.Blocks.{Blocks, a-block}
 use Rattle.board.proofs.Images.{length-all-steps}
 use Rattle.board.proofs.Pipeline.{inside-yes, Shape, Runs, follows-stage}
-use Rattle.board.proofs.PipelineEnd.{jobAt, onward-on, onward-off, dropped, follows-append}
+use Rattle.board.proofs.PipelineEnd.{jobAt, onward-on, onward-off, dropped}
+use Rattle.board.proofs.PipelineClose.{Closing, follows-close}
 use Rattle.board.proofs.PipelineCopy.{map-append, follows-open}
 
 no-wipes : (ks : List ℕ) → length ks ≡ 0 → map erase ks ≡ []
@@ -82,10 +83,12 @@ module _ (N s : ℕ) (home : Rest) (shape : Shape N home s) (ks : List ℕ) (the
 
 -- ---- the jobs
 
--- what a job with wipes and a frame to append has in its record
-pub record Has (j : Job) (ks bytes : List ℕ) : Type 0 where
+-- what a job with wipes, a torn frame to close and a frame to append has in its record
+pub record Has (j : Job) (ks : List ℕ) (ws : List Write) (bytes : List ℕ) : Type 0 where
   pub wipe : j .wipe ≡ wipeArray ks
   pub wipes : j .wipes ≡ length ks
+  pub closes : j .closes ≡ length ws
+  pub close : j .close ≡ closeArray ws
   pub size : j .size ≡ length bytes
 
 -- the plan of a transfer and what follows it, as the stages do it
@@ -98,24 +101,29 @@ built : (ed : Edition) (k time : ℕ) (fs : List Frame) (xs ys : List Step)
     (onBlock k (writes headerLen (encodeAll ed fs)) ++ (onBlock k (sealWrites time) ++ (xs ++ ys)))
 built ed k time fs xs ys = map-three (writeStep k) (openWrites ed) (writes headerLen (encodeAll ed fs)) (sealWrites time) xs ys
 
-module _ {N : ℕ} (img : List ℕ) (home : Rest) (places : List ℕ) (j : Job) (id source : ℕ) (bytes ks : List ℕ) (long : length img ≡ suc (home .last))
+module _ {N : ℕ} (img : List ℕ) (home : Rest) (places : List ℕ) (j : Job) (id source : ℕ) (ws : List Write) (bytes ks : List ℕ)
+    (long : length img ≡ suc (home .last))
     (some-blocks : isCount N ≡ true) (blocks : home .blocks ≡ N) (there : Blocks N ks)
-    (has : Has j ks bytes) (here : home .block < N) (header : headerLen ≤ sizeOf N img) where
+    (has : Has j ks ws bytes) (here : home .block < N) (header : headerLen ≤ sizeOf N img) where
   shape : Shape N home (sizeOf N img)
   shape = record { count = some-blocks; blocks = blocks; size = ap (sizeIn N) (sym long) }
 
-  pub follows-staying : j .moves ≡ false → home .end + length bytes ≤ sizeOf N img
-      → Follows N (exec N) img (enterWipe (busy home places j (starting id source) bytes)) (map erase ks ++ onBlock (home .block) (writes (home .end) bytes))
+  -- the steps that close the torn frame, and those of the frame that is appended
+  abbrev staying : List Step
+  staying = onBlock (home .block) ws ++ onBlock (home .block) (writes (home .end) bytes)
+
+  pub follows-staying : j .moves ≡ false → home .end + length bytes ≤ sizeOf N img → Closing (sizeOf N img) ws
+      → Follows N (exec N) img (enterWipe (busy home places j (starting id source) bytes)) (map erase ks ++ staying)
       (idle (ending home (home .end + length bytes)))
   unfolding enterOpen
-  follows-staying t room =
+  follows-staying t room fit =
       follows-wipe N (sizeOf N img) home shape ks there (omega arith) places j (buffer bytes) (has .wipe) (has .wipes) headerLen id source 0 0 noFrame img
-      (onBlock (home .block) (writes (home .end) bytes)) (idle (ending home (home .end + length bytes))) long
+      staying (idle (ending home (home .end + length bytes))) long
       (λ n img′ q′ p.
       let r : Record = jobAt home places j (buffer bytes) Wipe (cursor n headerLen id source 0 0) noFrame in
-      subst (λ (b : Bool). Follows N (exec N) img′ (cond b (enter Open r) (enterAppend r)) (onBlock (home .block) (writes (home .end) bytes))
-      (idle (ending home (home .end + length bytes)))) (sym t)
-      (follows-append (sizeOf N img) home shape places j bytes (has .size) here room Wipe (cursor n headerLen id source 0 0) noFrame img′ q′))
+      subst (λ (b : Bool). Follows N (exec N) img′ (cond b (enter Open r) (enterClose r)) staying (idle (ending home (home .end + length bytes)))) (sym t)
+      (follows-close (sizeOf N img) home shape places j ws bytes (has .closes) (has .close) (has .size) here room fit Wipe (cursor n headerLen id source 0 0)
+      noFrame img′ q′))
 
   -- the edition that is made, and the one that is read
   abbrev ed : Edition
@@ -143,7 +151,7 @@ module _ {N : ℕ} (img : List ℕ) (home : Rest) (places : List ℕ) (j : Job) 
       follows-wipe N s home shape ks there (omega arith) places j (buffer bytes) (has .wipe) (has .wipes) headerLen id source 0 0 noFrame img tail done long
       (λ n img′ q′ p.
       let r : Record = jobAt home places j (buffer bytes) Wipe (cursor n headerLen id source 0 0) noFrame in
-      subst (λ (b : Bool). Follows N (exec N) img′ (cond b (enter Open r) (enterAppend r)) tail done) (sym t)
+      subst (λ (b : Bool). Follows N (exec N) img′ (cond b (enter Open r) (enterClose r)) tail done) (sym t)
       (subst (λ (xs : List Step). Follows N (exec N) img′ (enter Open r) xs done)
       (sym (built ed (j .target) (j .time) fs (dropped j (home .block)) (onBlock (j .target) (writes (headerLen + total ed fs) bytes))))
       (follows-open s home shape places j bytes (has .size) here target apart header

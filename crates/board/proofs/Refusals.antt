@@ -201,11 +201,12 @@ abbrev Made : List ℕ → List Check → Out → Type 0
 Made img cs o = Follows (Same img) img unmounted [] cs o
 
 at-made : (N : ℕ) (img : List ℕ) (xs : List Found) (x : Store)
-    → Made img (check refusal.Worn (transfers (upkeep x) && eqb (timeOf x) lastTime) ∷ []) (mountAt N img xs x)
+    → Made img (check refusal.Worn (transfers (upkeep (sizeOf N img) x) && eqb (timeOf x) lastTime) ∷ []) (mountAt N img xs x)
 at-made N img xs x =
-    on-test (transfers (upkeep x) && eqb (timeOf x) lastTime)
+    on-test (transfers (upkeep (sizeOf N img) x) && eqb (timeOf x) lastTime)
     (λ e. stops refl e (mount-worn N img xs x e))
-    (λ e. over (mount-begins N img xs x e) (passes e (accepted (begin-accepts (enterWipe (mountJob N img x (wipeList (x .number) xs)) .phase)) refl)))
+    (λ e. over (mount-begins N img xs x e)
+    (passes e (accepted (begin-accepts (enterWipe (mountJob N img x (wipeList (x .number) xs) (upkeep (sizeOf N img) x)) .phase)) refl)))
 
 none-foreign : (xs : List Found) → anyForeign xs ≡ false → noneValid xs ≡ refusal.NoStore
 none-foreign [] e = refl
@@ -221,7 +222,7 @@ none-foreign (x ∷ xs) e =
 stores-made : (N : ℕ) (img : List ℕ) (xs : List Found) (ys : List Store)
     → Made img
     (check refusal.NoStore (noStore ys && not (anyForeign xs)) ∷ check (unclear xs ys) ((noStore ys && anyForeign xs) || equalTimes ys)
-    ∷ check refusal.Worn (wornStore ys) ∷ [])
+    ∷ check refusal.Worn (wornStore (sizeOf N img) ys) ∷ [])
     (mountStores N img xs ys)
 stores-made N img xs [] =
     on-test (anyForeign xs)

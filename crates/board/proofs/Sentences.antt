@@ -28,20 +28,17 @@ use Rattle.journal.proofs.Lists.{open-none}
 use Rattle.journal.proofs.Room.{frames-total, claimed-settled}
 use Rattle.journal.proofs.ReplayLaws.{order-laws, used-exact}
 use Rattle.journal.proofs.Sources.{place-exact}
-use Rattle.board.specs.Mount.{nextBlock, allFound, wipeList, forPending, Upkeep, upkeepBy, upkeep, numbersBut, formatOrder, storeAt, replayOf, claimedOf}
+use Rattle.board.specs.Mount.{nextBlock, numbersBut, formatOrder, replayOf, claimedOf}
 use Rattle.board.specs.Record.{allowed, idle, landing}
 use Rattle.board.specs.Queue.{stretchOf}
 use Rattle.board.specs.Table.{endTask, convertTask, appends}
-use Rattle.board.specs.Plan.{onBlock, transferPlan, formatWork, appendPlan, upkeepWork}
+use Rattle.board.specs.Plan.{onBlock, transferPlan, formatWork, appendPlan}
 use Rattle.board.specs.CutFormat.{Beside}
 use Rattle.board.specs.Sentences.{FrameExact, NeedsExact, Programs, NextOf, following, round, TransferExact, AppendExact, StretchExact}
-use Rattle.board.specs.Sentences.{firstHeader, ByNumber, LastIs, NewestAt, FormatExact, Member, MountExact, taskBytes, ConvertExact}
+use Rattle.board.specs.Sentences.{firstHeader, ByNumber, LastIs, NewestAt, FormatExact, taskBytes, ConvertExact}
 use Rattle.board.proofs.Numbers.{next-up, next-round, length-numbers, number-at, length-but, but-below, but-above}
-use Rattle.board.proofs.Upkeep.{pending-moves}
 use Rattle.board.proofs.Lengths.{length-transfer, length-format}
 use Rattle.board.proofs.Order.{beside-of, StateOf, Newest, order-last, order-rises}
-use Rattle.board.proofs.Erasing.{In}
-use Rattle.board.proofs.Wiping.{Rising, wipes-rise, wipes-exact}
 use Rattle.board.proofs.Tabling.{is-allowed}
 use Rattle.board.proofs.TablingMounts.{valid-at, at-valid}
 
@@ -250,44 +247,6 @@ convert-exact =
           length-transfer edition.Second (nextBlock N (r .rest .block)) (r .rest .block) x (settledOnly (replayOf x))
           ∙ claimed-settled edition.Second (replayOf x) ∙ used-exact .used-is edition.Second (replayOf x);
       last = λ N j img r x e. ap₂ (λ (k n : ℕ). idle (landing (r .rest) 2 k n)) (next-of e) (used-exact .used-is edition.Second (replayOf x));
-    }
-
--- ---- mount
-
-rising-at : (a : ℕ) (ns : List ℕ) → Rising a ns → (i : ℕ) → suc i < length ns → getD ns i 0 < getD ns (suc i) 0
-rising-at a [] r i h = absurd (omega arith)
-rising-at a (n ∷ []) r i h = absurd (omega arith)
-rising-at a (n ∷ m ∷ ns) (l, (g, r)) zero h = omega arith
-rising-at a (n ∷ m ∷ ns) (l, r) (suc i) h = rising-at (suc n) (m ∷ ns) r i (omega arith)
-
-in-member : (j : ℕ) (ns : List ℕ) → In j ns → Member j ns
-in-member j [] i = absurd i
-in-member j (n ∷ ns) (inl e) = (0, omega arith, sym e)
-in-member j (n ∷ ns) (inr i) = let (k, h, e) = in-member j ns i in (suc k, omega arith, e)
-
-member-in : (j : ℕ) (ns : List ℕ) (i : ℕ) → i < length ns → getD ns i 0 ≡ j → In j ns
-member-in j [] i h e = absurd (omega arith)
-member-in j (n ∷ ns) zero h e = inl (sym e)
-member-in j (n ∷ ns) (suc i) h e = inr (member-in j ns i (omega arith) e)
-
-pub mount-exact : MountExact
-unfolding MountExact
-mount-exact N img x =
-    let ks : List ℕ = wipeList (x .number) (allFound N img) in
-    let kept : Upkeep → List Step = λ u. upkeepWork u (nextBlock N (x .number)) (storeAt N (length img - 1) x) x .steps in
-    record {
-      erased = ks;
-      moves = kept (upkeep x);
-      steps = refl;
-      by-number = rising-at 0 ks (wipes-rise N (x .number) img);
-      every = λ j. let w = wipes-exact N (x .number) img j in (λ (i, h, e). w .0 (member-in j ks i h e), λ y. in-member j ks (w .1 y));
-      torn = λ n q. ap (λ (t : Tail). kept (upkeepBy (x .journal) t)) q;
-      pending = λ q n.
-          ap (λ (t : Tail). kept (upkeepBy (x .journal) t)) q
-          ∙ ap kept (pending-moves (replayOf (x .journal) .pending) n);
-      at-rest = λ q n.
-          ap (λ (t : Tail). kept (upkeepBy (x .journal) t)) q
-          ∙ ap (λ (es : List Entry). kept (forPending es)) n;
     }
 
 -- ---- a read's stretch

@@ -14,7 +14,7 @@ use Rattle.flash.specs.Bytes.{Bytes}
 use Rattle.flash.specs.Flash.{Step, applyAll, block, sizeOf}
 use Rattle.flash.proofs.Cases.{on-test}
 use Rattle.frame.specs.declared.Host.{Host}
-use Rattle.frame.specs.Frame.{hostMax, Change, put, delete, Frame, change, commit, abort, OfHost, MayStand}
+use Rattle.frame.specs.Frame.{hostMax, Change, put, delete, Frame, change, commit, abort, Tears, MayStand}
 use Rattle.journal.specs.Replay.{State, lookup, nextState, isOpen, Entry, state, settledOnly, listOf, Object}
 use Rattle.journal.specs.Block.{Journal, lastTime}
 use Rattle.journal.specs.Room.{used, noRoom, hostFull, countsIn}
@@ -130,7 +130,7 @@ module _ {N : ℕ} {s : ℕ} {img : List ℕ} {r : Record} {b : Book} (u : Track
   no-refusal : {a : Answer} {n : Refusal} → a ≡ More → a ≡ Refused n → ⊥
   no-refusal p q = let w : _≡_ {A = ℕ} 0 1 = cc in omega arith
 
-  begun : (q : Request) (f : Frame) → OfHost f → MayStand ed 256 f → Entered (u .tight) s ed st f (accept b h m q More)
+  begun : (q : Request) (f : Frame) → Tears f → MayStand ed 256 f → Entered (u .tight) s ed st f (accept b h m q More)
       → accept b h m q More .objects ≡ b .objects → Forgets q → (needsRoom N img r x f && eqb (y .ready .journal .time) lastTime) ≡ false
       → Served N s b u h m q (begin img reply (appendJob N img r x f))
   begun q f o g e os w t =
@@ -175,7 +175,7 @@ module _ {N : ℕ} {s : ℕ} {img : List ℕ} {r : Record} {b : Book} (u : Track
         λ c. (let w : _≡_ {A = ℕ} 0 1 = cc in omega arith),
       )
 
-  appended : (q : Request) (f : Frame) → OfHost f → MayStand ed 256 f → Entered (u .tight) s ed st f (accept b h m q More)
+  appended : (q : Request) (f : Frame) → Tears f → MayStand ed 256 f → Entered (u .tight) s ed st f (accept b h m q More)
       → accept b h m q More .objects ≡ b .objects → Forgets q → Served N s b u h m q (append a x f)
   appended q f o g e os w =
       on-test (needsRoom N img r x f && eqb (y .ready .journal .time) lastTime)
@@ -203,7 +203,7 @@ module _ {N : ℕ} {s : ℕ} {img : List ℕ} {r : Record} {b : Book} (u : Track
       (subst (λ (n : ℕ). noRoom ed n st h c ≡ false) (size-of z) t)))
       (ap (λ (w : Book). w .objects) e) (w, ap (λ (c : Book). trackStep u (c .under) Done) e ∙ rests))))
 
-  ended : (q : Request) (f : Frame) → OfHost f → MayStand ed 256 f → (isOpen h (st .pending) ≡ true → Entered (u .tight) s ed st f (accept b h m q More))
+  ended : (q : Request) (f : Frame) → Tears f → MayStand ed 256 f → (isOpen h (st .pending) ≡ true → Entered (u .tight) s ed st f (accept b h m q More))
       → accept b h m q More .objects ≡ b .objects → Forgets q
       → (isOpen h (st .pending) ≡ false → IdleBook N s (trackParsed s u b (Is q)) img r (accept b h m q Done)) → Served N s b u h m q (serveEnd a x f)
   ended q f o g e os w n =

@@ -28,10 +28,10 @@ use Rattle.board.specs.declared.Phase.the-variants.{Unmounted, Idle, Bus
 use Rattle.board.specs.declared.Record.{Record}
 use Rattle.board.specs.Record.{allowed, unmounted, Out, refuse, answerIn}
 use Rattle.board.specs.Step.{enterWipe}
-use Rattle.board.specs.Mount.{Store, moves, upkeepBy, upkeepOf, upkeep, forPending, allFound, wipeList, mountJob, mountOn, replayOf}
+use Rattle.board.specs.Mount.{Store, upkeep, allFound, wipeList, mountJob, mountOn}
 use Rattle.board.specs.Demand2.{Accepted, Mounts}
 use Rattle.board.specs.Table.{line, Exactly, ValidAt, ForeignAt, NothingThere, Unclear, foreign-only, equal-times, TiedAt, tied-with}
-use Rattle.board.specs.Table.{MountWorn, mountLines, Names, names-foreign, names-equal}
+use Rattle.board.specs.Table.{DueTransfer, MountWorn, mountLines, Names, names-foreign, names-equal}
 use Rattle.board.specs.Promise.{Machine, Current}
 use Rattle.board.proofs.Images.{Sized, sized-of}
 use Rattle.board.proofs.Invariant.{Quiet}
@@ -42,7 +42,7 @@ use Rattle.board.proofs.Erasing.{same-valid}
 use Rattle.board.proofs.Deciding as deciding
 use Rattle.board.proofs.Deciding.{Taken, SameTimes, Decided, Outcome, InTime, worn-out, begins, foreign-block, none-valid, at-store}
 use Rattle.board.proofs.Deciding.{mount-decides, mount-outcome, mount-accepted, taken-holds, taken-newest}
-use Rattle.board.proofs.Upkeep.{not-both, pending-moves}
+use Rattle.board.proofs.Upkeep.{moves-due}
 use Rattle.board.proofs.Tabling.{allowed-is, is-allowed, allowed-not}
 use Rattle.journal.specs.Faults.{FaultIn}
 use Rattle.wire.specs.declared.Answer.{Answer}
@@ -52,26 +52,6 @@ begun : (p : Phase) → Accepted (answerIn p)
 begun Unmounted = tt
 begun Idle = tt
 begun (Busy g) = tt
-
--- ---- a transfer is due
-
-some-pending : (ps : List Entry) → forPending ps ≡ moves → ps ≡ [] → ⊥
-some-pending ps t e = not-both (sym t ∙ ap forPending e)
-
--- "has a torn tail or anything pending"
-abbrev UnsettledBy : Journal → Tail → Type 0
-UnsettledBy w c = (c ≡ clean → ⊥) ⊎ (replayOf w .pending ≡ [] → ⊥)
-
-unsettled-due : (w : Journal) (c : Tail) → UnsettledBy w c → upkeepBy w c ≡ moves
-unsettled-due w clean (inl n) = absurd (n refl)
-unsettled-due w clean (inr n) = pending-moves (replayOf w .pending) n
-unsettled-due w (cut k) u = refl
-unsettled-due w (bad e) u = refl
-
-due-unsettled : (w : Journal) (c : Tail) → upkeepBy w c ≡ moves → UnsettledBy w c
-due-unsettled w clean t = inr (some-pending (replayOf w .pending) t)
-due-unsettled w (cut k) t = inl (λ e. let z : _≡_ {A = ℕ} 0 1 = cc in omega arith)
-due-unsettled w (bad e) t = inl (λ e. let z : _≡_ {A = ℕ} 0 1 = cc in omega arith)
 
 answer : {n : Refusal} (N : ℕ) (img : List ℕ) → mountOn N img ≡ refuse n img unmounted [] → numberOf (mountOn N img .answer) ≡ some (refusalNumber n)
 answer N img e = ap (λ (o : Out). numberOf (o .answer)) e
@@ -130,13 +110,13 @@ module _ {N : ℕ} (img : List ℕ) (by : Bytes img) (ok : allowed N (length img
     clear (foreign-only k f n) = n (x .number) (x .journal) (valid-at (y .there) (y .is-valid))
     clear (equal-times k w) = let p = same-tied w in y .untied k (p .0) (p .1)
 
-    not-worn : InTime x → MountWorn N img → ⊥
+    not-worn : InTime (sizeOf N img) x → MountWorn N img → ⊥
     not-worn t w =
         on-test (eqb (w .number) (x .number))
         (λ p.
         let e : w .journal ≡ x .journal = at-number (w .is-valid) (eqb-true (w .number) (x .number) p) in
-        let d : upkeep x ≡ moves = ap upkeepOf (sym e) ∙ unsettled-due (w .journal) (w .journal .tail) (w .unsettled) in
-        omega (arith, ap (λ (i : Journal). i .time) e, w .last-time, t d))
+        let d : DueTransfer (sizeOf N img) (x .journal) = subst (DueTransfer (sizeOf N img)) e (w .due) in
+        omega (arith, ap (λ (i : Journal). i .time) e, w .last-time, t (moves-due (sizeOf N img) (x .journal) d)))
         (λ p. omega (
           arith,
           taken-holds x z by y .layout .time-hi,
@@ -155,12 +135,12 @@ module _ {N : ℕ} (img : List ℕ) (by : Bytes img) (ok : allowed N (length img
                 journal = w .journal;
                 is-valid = valid-at (w .there) (w .is-valid);
                 last-time = w .last-time;
-                unsettled = due-unsettled (w .journal) (w .journal .tail) (w .due);
+                due = w .due;
               },
               answer N img e,
             )
         last (begins t e) =
-            let g : Record = enterWipe (mountJob N img x (wipeList (x .number) (allFound N img))) in
+            let g : Record = enterWipe (mountJob N img x (wipeList (x .number) (allFound N img)) (upkeep (sizeOf N img) x)) in
             inr (not-worn t, subst (λ (o : Out). Accepted (o .answer)) (sym e) (begun (g .phase)))
 
   current-of : (x : Store) → Taken N (sizeOf N img) img x → Current N img x
@@ -271,7 +251,7 @@ mount-names {N} img by k e q =
         out : Outcome N img x → Names N img k e
         out (worn-out w r) = let t = told r in let w : _≡_ {A = ℕ} 0 1 = cc in absurd (omega arith)
         out (begins t r) =
-            let g : Record = enterWipe (mountJob N img x (wipeList (x .number) (allFound N img))) in
+            let g : Record = enterWipe (mountJob N img x (wipeList (x .number) (allFound N img)) (upkeep (sizeOf N img) x)) in
             absurd (subst Accepted q (subst (λ (o : Out). Accepted (o .answer)) (sym r) (begun (g .phase))))
 
 lowest-one : {P : ℕ → Type 0} (k j : ℕ) → P k → P j → ((i : ℕ) → i < k → P i → ⊥) → ((i : ℕ) → i < j → P i → ⊥) → k ≡ j

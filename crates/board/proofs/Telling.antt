@@ -17,12 +17,12 @@ use Rattle.wire.specs.declared.Refusal.{Refusal}
 use Rattle.wire.specs.declared.Refusal.the-variants as refusal
 use Rattle.wire.specs.Answer.{numberOf}
 use Rattle.board.specs.declared.Stage.{Stage}
-use Rattle.board.specs.declared.Stage.the-variants.{Wipe, Open, Copy, Seal, Drop, Append}
+use Rattle.board.specs.declared.Stage.the-variants.{Wipe, Open, Copy, Seal, Drop, Append, Close}
 use Rattle.board.specs.declared.Phase.{Phase}
 use Rattle.board.specs.declared.Phase.the-variants.{Unmounted, Idle, Busy}
 use Rattle.board.specs.declared.Record.{Record}
 use Rattle.board.specs.Record.{allowed, idle, inStage, noStretch, Out, out, refuse, answerIn, answerOf, readsIn}
-use Rattle.board.specs.Step.{sameShape, enter, landed, loadOr, enterAppend, enterDrop, enterCopy, enterOpen, enterWipe, action, nextIndex}
+use Rattle.board.specs.Step.{sameShape, enter, landed, loadOr, enterAppend, enterDrop, enterCopy, enterClose, enterOpen, enterWipe, action, nextIndex}
 use Rattle.board.specs.Step.{nextByte, pastFrame, advance, stepOn}
 use Rattle.board.specs.Mount.{allFound, Store, stores, equalTimes, newest, upkeep, transfers, wipeList, mountJob, timeOf}
 use Rattle.board.specs.Mount.{noneValid, lowestTied, tiedTimes, mountAt, mountOn, formatJob, formatOn}
@@ -68,9 +68,13 @@ up-copy N img r =
     up-load r
     (nextLoad (readsIn r) (block (sizeOf N img) (r .rest .block) img) (r .rest .end) (r .places) (r .job .since) (r .cursor .id) (r .cursor .source))
 
+up-close : (r : Record) → Up (enterClose r)
+unfolding enterClose
+up-close r = up-cond (ltb 0 (r .job .closes)) (enter Close r) (enterAppend r) tt (up-append r)
+
 up-open : (r : Record) → Up (enterOpen r)
 unfolding enterOpen
-up-open r = up-cond (r .job .moves) (enter Open r) (enterAppend r) tt (up-append r)
+up-open r = up-cond (r .job .moves) (enter Open r) (enterClose r) tt (up-close r)
 
 up-wipe : (r : Record) → Up (enterWipe r)
 unfolding enterWipe
@@ -86,6 +90,7 @@ up-advance N Copy img r =
 up-advance N Seal img r = up-cond (ltb (suc (r .cursor .index)) markWrites) (inStage Seal (nextIndex (r .cursor)) r) (enterDrop r) tt (up-drop r)
 up-advance N Drop img r = up-append (landed r)
 up-advance N Append img r = up-cond (ltb (suc (r .cursor .index)) (r .job .size)) (inStage Append (nextIndex (r .cursor)) r) _ tt tt
+up-advance N Close img r = up-cond (ltb (suc (r .cursor .index)) (r .job .closes)) (inStage Close (nextIndex (r .cursor)) r) (enterAppend r) tt (up-append r)
 
 -- ---- outcomes
 
@@ -125,9 +130,9 @@ plain-silent (begun-plain img g u e) = (ap (λ (x : Out). x .reply) e, ap (λ (x
 
 at-plain : (N : ℕ) (img : List ℕ) (x : Store) → Plain (mountAt N img (allFound N img) x)
 at-plain N img x =
-    on-test (transfers (upkeep x) && eqb (timeOf x) lastTime)
+    on-test (transfers (upkeep (sizeOf N img) x) && eqb (timeOf x) lastTime)
     (λ t. refused-plain refusal.Worn img _ (mount-worn N img (allFound N img) x t))
-    (λ t. let j : Record = mountJob N img x (wipeList (x .number) (allFound N img)) in
+    (λ t. let j : Record = mountJob N img x (wipeList (x .number) (allFound N img)) (upkeep (sizeOf N img) x) in
     begun-plain img (enterWipe j) (up-wipe j) (mount-begins N img (allFound N img) x t))
 
 mount-plain : (N : ℕ) (img : List ℕ) → Plain (mountOn N img)

@@ -13,7 +13,7 @@ use Rattle.flash.proofs.Cases.{on-test, on-order, and-both}
 use Rattle.flash.proofs.Image.{bytes-block}
 use Rattle.journal.specs.Block.{Journal, BlockState, blank, inProgress, valid, foreign, blockState, lastTime}
 use Rattle.journal.proofs.Places.{Standing}
-use Rattle.journal.proofs.States.{valid-inv}
+use Rattle.journal.proofs.States.{Contents, valid-inv}
 use Rattle.wire.specs.declared.Refusal.{Refusal}
 use Rattle.wire.specs.declared.Refusal.the-variants as refusal
 use Rattle.board.specs.Record.{allowed, unmounted, Out, refuse}
@@ -21,13 +21,14 @@ use Rattle.board.specs.Mount.{nextBlock, Found, allFound, isBlank, Store
 use Rattle.board.specs.Mount.{orderFor, formatOrder, formatOn}
 use Rattle.board.specs.Exec.{exec}
 use Rattle.board.specs.Plan.{Work, Performs, formatIn, formatWork, mountIn, convertIn}
-use Rattle.board.specs.Two.{Choice, takes, refuses, allowedTwo, stateTwo, beside, chooseTwo, mountTwo, lastTwo, formatTwo, TwoBlocks}
+use Rattle.board.specs.Two.{sizeTwo, Choice, takes, refuses, allowedTwo, stateTwo, beside, chooseTwo, mountTwo, lastTwo, formatTwo, TwoBlocks}
 use Rattle.board.proofs.Images.{Sized, sized-of}
 use Rattle.board.proofs.Blocks.{Besides, wiped-besides}
 use Rattle.board.proofs.Found.{found-all, store}
 use Rattle.board.proofs.Current.{block-long}
 use Rattle.board.proofs.Replies.{standing-of}
 use Rattle.board.proofs.Outcomes.{mount-stores, mount-worn, mount-begins, format-begins}
+use Rattle.board.proofs.Mounting.{closing, closed-fits}
 use Rattle.board.proofs.Accepted.{follows-format, follows-mount}
 use Rattle.board.proofs.Two.{two-lengths, two-sizes, two-fresh, two-frame, two-framed, two-step, next-beside}
 
@@ -130,30 +131,34 @@ module _ (img : List ℕ) (t : allowedTwo (length img) ≡ true) where
     two-takes = mount-two ∙ chosen e .2
 
     -- the block that is taken holds its frames
-    two-journal : Bytes img → Standing (w .edition) (block (sizeOf 2 img) k img) (w .frames)
+    two-journal : Bytes img → Contents (block (sizeOf 2 img) k img) w
     two-journal by =
         let s : ℕ = sizeOf 2 img in
         let z : Sized 2 s img = sized-of 2 img ok in
         let v : blockState (block s k img) ≡ valid w = ap (λ (n : ℕ). blockState (block n k img)) (two-sizes img) ∙ chosen e .1 in
-        standing-of (valid-inv (block s k img) w (bytes-block s k img by) (omega (arith, block-long k z (chosen e .0), z .low)) v)
+        valid-inv (block s k img) w (bytes-block s k img by) (omega (arith, block-long k z (chosen e .0), z .low)) v
 
-    two-worn : w .time ≡ lastTime → upkeepOf w ≡ moves → mountOn 2 img ≡ refuse refusal.Worn img unmounted []
+    two-worn : w .time ≡ lastTime → upkeepOf (sizeTwo img) w ≡ moves → mountOn 2 img ≡ refuse refusal.Worn img unmounted []
     two-worn l n =
         two-takes
-        ∙ mount-worn 2 img states (store k w) (and-both (transfers (upkeepOf w)) (eqb (w .time) lastTime) (ap transfers n) (eq-eqb (w .time) lastTime l))
+        ∙ mount-worn 2 img states (store k w) (and-both (transfers (upkeepOf (sizeOf 2 img) w)) (eqb (w .time) lastTime)
+        (ap (λ (s : ℕ). transfers (upkeepOf s w)) (two-sizes img) ∙ ap transfers n) (eq-eqb (w .time) lastTime l))
 
-    two-mounts : Bytes img → (transfers (upkeepOf w) && eqb (w .time) lastTime) ≡ false
+    two-mounts : Bytes img → (transfers (upkeepOf (sizeTwo img) w) && eqb (w .time) lastTime) ≡ false
         → Performs 2 (exec 2) img (mountOn 2 img .board) (mountTwo img k w)
     two-mounts by n =
         let x : Store = store k w in
         let here : k < 2 = chosen e .0 in
-        let does : List ℕ → ℕ → Work = λ ks j. mountIn 2 (length img - 1) ks j x in
+        let does : List ℕ → ℕ → Work = λ ks j. mountIn 2 img ks j x in
+        let n′ : (transfers (upkeepOf (sizeOf 2 img) w) && eqb (w .time) lastTime) ≡ false =
+        ap (λ (s : ℕ). transfers (upkeepOf s w) && eqb (w .time) lastTime) (two-sizes img) ∙ n in
         subst₂ (λ (ks : List ℕ) (j : ℕ). Performs 2 (exec 2) img (mountOn 2 img .board) (does ks j))
         (wipes-beside k (stateTwo img) here) (next-beside k here)
         (subst (λ (o : Out). Performs 2 (exec 2) img (o .board) (does (wipeList k states) (nextBlock 2 k)))
-        (sym (two-takes ∙ mount-begins 2 img states x n))
+        (sym (two-takes ∙ mount-begins 2 img states x n′))
         (follows-mount img x (wipeList k states) ok here
-        (subst (λ (xs : List Found). Besides 2 k (wipeList k xs)) (all-two img) (wiped-besides 2 k img)) (two-journal by)))
+        (subst (λ (xs : List Found). Besides 2 k (wipeList k xs)) (all-two img) (wiped-besides 2 k img)) (standing-of (two-journal by))
+        (closing x (sized-of 2 img ok) by here (two-journal by)) (closed-fits x (sized-of 2 img ok) by here (two-journal by))))
 
   order-two : formatOrder 2 img ≡ beside (lastTwo (stateTwo img 0) (stateTwo img 1)) ∷ lastTwo (stateTwo img 0) (stateTwo img 1) ∷ []
   unfolding formatOrder

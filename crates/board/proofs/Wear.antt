@@ -23,7 +23,8 @@ use Rattle.journal.proofs.Blocks.{blank-block}
 use Rattle.journal.proofs.Sentences.{states-exact}
 use Rattle.board.specs.declared.Rest.{Rest}
 use Rattle.board.specs.declared.Record.{Record}
-use Rattle.board.specs.Mount.{allFound, nextBlock, Upkeep, rests, moves, upkeep, Store, wipeList, storeAt, replayOf, claimedOf}
+use Rattle.board.specs.Mount.{allFound, nextBlock, Upkeep, rests, mends, moves, upkeep, Store, wipeList, storeAt, replayOf, claimedOf}
+use Rattle.board.specs.Mount.{closedEnd, closesFor, dueReset, blockIn}
 use Rattle.board.specs.Exec.{Call, request, step, mount, format}
 use Rattle.board.specs.Plan.{onBlock, transferPlan, Work, upkeepWork, frameIn}
 use Rattle.board.specs.Promise.{Job, frame-job, mount-job, format-job, convert-job}
@@ -162,10 +163,13 @@ module _ {N : ℕ} where
       (leads-on j j ws (erase k ∷ onBlock j us) l (λ zs h. ((k, h), leads-writes j us (level-next h)))))
       (λ e. leads-writes k (writes (z .end) (encode (x .edition) f)) l)
 
-  leads-upkeep : {xs : List Step} (u : Upkeep) (n : ℕ) (x : Store) → Level N xs (x .number)
-      → WorkLeads N xs (upkeepWork u (nextBlock N (x .number)) (storeAt N n x) x)
-  leads-upkeep moves n x l = leads-transfer (x .journal .edition) (x .journal) (settledOnly (replayOf (x .journal))) l
-  leads-upkeep rests n x l = l
+  leads-upkeep : {xs : List Step} (u : Upkeep) (n : ℕ) (b : List ℕ) (x : Store) → Level N xs (x .number)
+      → WorkLeads N xs (upkeepWork u (nextBlock N (x .number)) b (storeAt N n x) x)
+  leads-upkeep moves n b x l = leads-transfer (x .journal .edition) (x .journal) (settledOnly (replayOf (x .journal))) l
+  leads-upkeep rests n b x l = l
+  leads-upkeep mends n b x l =
+      leads-on (x .number) (x .number) (closesFor mends b (x .journal)) (onBlock (x .number) (writes (closedEnd (x .journal)) (dueReset (x .journal)))) l
+      (λ zs h. leads-writes (x .number) (writes (closedEnd (x .journal)) (dueReset (x .journal))) h)
 
 -- ---- the image between jobs
 
@@ -216,5 +220,5 @@ module _ {N s : ℕ} {img : List ℕ} {xs : List Step} (z : Sized N s img) (by :
   job-leads n (mount-job x v) =
       let e : y .0 .rest .block ≡ x .number = same-block (x .number) (v .is-valid .0) (v .is-valid .1) in
       rw (wipes-none (x .number) e)
-      (leads-upkeep (upkeep x) (length img - 1) x (subst (Level N xs) e (y .2)))
+      (leads-upkeep (upkeep (sizeOf N img) x) (length img - 1) (blockIn N img x) x (subst (Level N xs) e (y .2)))
   job-leads n format-job = absurd n

@@ -32,10 +32,10 @@ use Rattle.board.specs.declared.Phase.{Phase}
 use Rattle.board.specs.declared.Phase.the-variants.{Unmounted, Idle, Busy}
 use Rattle.board.specs.declared.Record.{Record}
 use Rattle.board.specs.Record.{allowed, readsIn, Out}
-use Rattle.board.specs.Mount.{moves, upkeepOf, replayOf, usedOf}
+use Rattle.board.specs.Mount.{replayOf, usedOf}
 use Rattle.board.specs.Exec.{Call, request, step, mount, format, Machine}
 use Rattle.board.specs.Plan.{Work, Performs}
-use Rattle.board.specs.Table.{InJob}
+use Rattle.board.specs.Table.{InJob, DueTransfer}
 use Rattle.board.specs.Demand1.{Short}
 use Rattle.board.specs.Book.{Book, UnderWay, nothing, committing, formatting, firstBook, enterCall}
 
@@ -171,7 +171,7 @@ pub record WornOut (N : ℕ) (img : List ℕ) : Type 0 where
   pub there : number < N
   pub is-valid : blockState (block (sizeOf N img) number img) ≡ valid journal
   pub last-time : journal .time ≡ lastTime
-  pub due : upkeepOf journal ≡ moves
+  pub due : DueTransfer (sizeOf N img) journal
 
 pub record MountSays (N : ℕ) (img : List ℕ) (u : Track) (o : Out) : Type 0 where
   pub never-foreign : (k : ℕ) (e : Fault) → Never (refusal.Foreign k e) o

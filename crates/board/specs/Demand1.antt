@@ -52,6 +52,7 @@ pub record Declared (r : Record) : Type 0 where
   pub wipes : r .job .wipes < 256
   pub append : r .job .size < 256
   pub copy : r .cursor .size < 256
+  pub closes : r .job .closes < 256
 
 -- a record in no job
 abbrev pub Rests : Phase → Type 0

@@ -13,7 +13,9 @@ use Rattle.frame.specs.declared.Edition.the-variants as edition
 use Rattle.frame.specs.declared.Host.{Host}
 use Rattle.frame.specs.declared.ObjectId.{ObjectId}
 use Rattle.journal.specs.Replay.{settledOnly}
-use Rattle.journal.specs.Block.{Journal, valid, blockState, stateAt, inTransfer}
+use Rattle.frame.specs.Frame.{total}
+use Rattle.frame.specs.Reader.{cut}
+use Rattle.journal.specs.Block.{Journal, valid, blockState, headerLen, stateAt, inTransfer}
 use Rattle.wire.specs.declared.Request.the-variants.{Put, Delete, Commit, Abort, Convert}
 use Rattle.wire.specs.declared.Request.{Request}
 use Rattle.wire.specs.declared.Answer.the-variants.{Done, More}
@@ -34,7 +36,7 @@ use Rattle.board.specs.Claim.{Event, call, cutErase, Happens}
 
 -- ---- every image reads as one store
 
--- the store that an accepted mount takes: a valid block, newer than every other valid one; its plan is document 01's, and leaves a block
+-- the store that an accepted mount takes: a valid block, newer than every other valid one; its plan is the papers', and leaves a block
 -- that replays to its settled objects and nothing pending. Image and record then pass line 11 of the table: the store can be used
 pub record Mounts (N : ℕ) (m : Machine) (img : List ℕ) (o : Out) : Type 0 where
   pub store : Store
@@ -79,10 +81,19 @@ UsableFrom N m = FromAny N m (λ img o. NotStale o)
 
 -- ---- every programmed byte lands as given
 
--- the place was 0xFF, or is byte 8 and was 0xFE; afterwards it holds the byte given
+-- document 02, K11: "kind to 0x0000 low byte first": the kind's low byte of a torn tail of block k goes to 0
+pub record ClosesKind (s k o v : ℕ) (img : List ℕ) : Type 0 where
+  pub journal : Journal
+  pub long : ℕ
+  pub is-valid : blockState (block s k img) ≡ valid journal
+  pub is-torn : journal .tail ≡ cut long
+  pub at-kind : o ≡ headerLen + total (journal .edition) (journal .frames) + 2
+  pub to-zero : v ≡ 0
+
+-- the place was 0xFF, or is byte 8 and was 0xFE, or is closed; afterwards it holds the byte given
 abbrev pub LandsAt : ℕ → Step → List ℕ → Type 0
 LandsAt s (program k o v) img =
-    ((getD img (k * s + o) 0 ≡ 255) ⊎ ((o ≡ stateAt) × (getD img (k * s + o) 0 ≡ inTransfer)))
+    ((getD img (k * s + o) 0 ≡ 255) ⊎ (((o ≡ stateAt) × (getD img (k * s + o) 0 ≡ inTransfer)) ⊎ ClosesKind s k o v img))
     × (getD (apply s (program k o v) img) (k * s + o) 0 ≡ v)
 LandsAt s (erase k) img = Unit {0}
 

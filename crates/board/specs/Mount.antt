@@ -4,19 +4,19 @@ use mathlib.Core.Bool.{Bool, true, false, _&&_, _||_, cond}
 use Prim.Native.Nat.{ℕ, suc, _+_, _-_}
 use lib.Dec.{eqb, ltb}
 use lib.ListN.{length, replicate}
-use Rattle.flash.specs.Flash.{maxBlocks, blockNumbers, block, sizeOf}
-use Rattle.frame.specs.Frame.{total, editionNumber}
+use Rattle.flash.specs.Flash.{maxBlocks, blockNumbers, block, sizeOf, Write}
+use Rattle.frame.specs.Frame.{reset, encode, resetLen, total, editionNumber}
 use Rattle.frame.specs.Reader.{fault, Tail, clean, cut, bad}
 use Rattle.frame.specs.declared.Field.the-variants as field
 use Rattle.journal.specs.Replay.{Entry, State, replay}
-use Rattle.journal.specs.Block.{Journal, BlockState, blank, inProgress, valid, foreign, blockState, headerLen, timeAt, lastTime}
+use Rattle.journal.specs.Block.{Journal, BlockState, blank, inProgress, valid, foreign, blockState, headerLen, timeAt, lastTime, tornLen, closeWrites}
 use Rattle.journal.specs.Room.{used, claimed, countsIn}
 use Rattle.journal.specs.Index.{placesOf}
 use Rattle.wire.specs.declared.Refusal.{Refusal}
 use Rattle.wire.specs.declared.Refusal.the-variants as refusal
 use Rattle.board.specs.declared.Rest.{Rest}
 use Rattle.board.specs.declared.Record.{Record}
-use Rattle.board.specs.Record.{allowed, noPlaces, zeroEach, rest, starting, unmounted, busy, Out, refuse}
+use Rattle.board.specs.Record.{allowed, noPlaces, zeroEach, noCloses, rest, ending, starting, unmounted, busy, Out, refuse}
 use Rattle.board.specs.Step.{begin}
 
 -- K14: "A transfer goes to the next block in number, round to 0"
@@ -121,31 +121,70 @@ wipeList k (x ∷ xs) = cond (eqb k (x .number) || isBlank (x .state)) (wipeList
 abbrev pub wipeArray : List ℕ → List ℕ
 wipeArray ks = ks ++ replicate (maxBlocks - length ks) 0
 
--- what a mount does with the current block after its erases
+-- what a mount does with the current block after its erases: nothing, K11's mending in place, or a transfer
 pub data Upkeep : Type 0 where
   rests : Upkeep
+  mends : Upkeep
   moves : Upkeep
 
--- "If the current one has a torn tail or anything pending, a transfer of the settled objects alone follows."
-abbrev pub forPending : List Entry → Upkeep
-forPending [] = rests
-forPending (e ∷ es) = moves
+-- where the frames end once a torn one is closed
+abbrev pub closedEnd : Journal → ℕ
+closedEnd x = endOf x + tornLen (x .tail)
 
-abbrev pub upkeepBy : Journal → Tail → Upkeep
-upkeepBy x clean = forPending (replayOf x .pending)
-upkeepBy x (cut n) = moves
-upkeepBy x (bad e) = moves
+-- nothing is pending: a torn frame is closed
+abbrev pub forTail : Tail → Upkeep
+forTail clean = rests
+forTail (cut n) = mends
+forTail (bad e) = mends
 
-abbrev pub upkeepOf : Journal → Upkeep
-upkeepOf x = upkeepBy x (x .tail)
+-- K11: "Then, if anything is pending, a reset frame .. Only where a due reset wouldn't fit after the closed frame is the old transfer made, instead of
+-- both.": in a block of s bytes
+abbrev pub forPending : ℕ → Journal → List Entry → Upkeep
+forPending s x [] = forTail (x .tail)
+forPending s x (e ∷ es) = cond (ltb s (closedEnd x + resetLen (x .edition))) moves mends
 
-abbrev pub upkeep : Store → Upkeep
-upkeep x = upkeepOf (x .journal)
+abbrev pub upkeepOf : ℕ → Journal → Upkeep
+upkeepOf s x = forPending s x (replayOf x .pending)
+
+abbrev pub upkeep : ℕ → Store → Upkeep
+upkeep s x = upkeepOf s (x .journal)
 
 -- it makes a block
 abbrev pub transfers : Upkeep → Bool
 transfers rests = false
+transfers mends = false
 transfers moves = true
+
+-- ---- mending
+
+-- the reset's bytes, if anything is pending
+abbrev pub resetBytes : Journal → List Entry → List ℕ
+resetBytes x [] = []
+resetBytes x (e ∷ es) = encode (x .edition) reset
+
+abbrev pub dueReset : Journal → List ℕ
+dueReset x = resetBytes x (replayOf x .pending)
+
+-- what each kind of upkeep writes to the current block, whose bytes are b: the closing, and the bytes to append
+abbrev pub closesFor : Upkeep → List ℕ → Journal → List Write
+closesFor rests b x = []
+closesFor mends b x = closeWrites b (endOf x) (x .tail)
+closesFor moves b x = []
+
+abbrev pub appendsFor : Upkeep → Journal → List ℕ
+appendsFor rests x = []
+appendsFor mends x = dueReset x
+appendsFor moves x = []
+
+-- where the record stands from the mount's acceptance on: past the frame that is closed
+abbrev pub standsFor : Upkeep → Rest → Journal → Rest
+standsFor rests z x = z
+standsFor mends z x = ending z (closedEnd x)
+standsFor moves z x = z
+
+-- the offsets of the bytes to write, in the record's array
+abbrev pub closeArray : List Write → List ℕ
+closeArray ws = map (λ (w : Write). w .at) ws ++ replicate (4 - length ws) 0
 
 -- ---- mount
 
@@ -153,28 +192,34 @@ transfers moves = true
 abbrev pub storeAt : ℕ → ℕ → Store → Rest
 storeAt N l x = rest N l (x .number) (endOf (x .journal)) (editionNumber (x .journal .edition))
 
+-- the block that a store is in
+abbrev pub blockIn : ℕ → List ℕ → Store → List ℕ
+blockIn N img x = block (sizeOf N img) (x .number) img
+
 -- K9: "other transfers keep theirs". A transfer copies no pending frame: it starts to look for them at the end
-abbrev pub mountJob : ℕ → List ℕ → Store → List ℕ → Record
-mountJob N img x ks =
-    busy (storeAt N (length img - 1) x) (placesOf (x .journal .edition) (x .journal .frames))
+abbrev pub mountJob : ℕ → List ℕ → Store → List ℕ → Upkeep → Record
+mountJob N img x ks u =
+    busy (standsFor u (storeAt N (length img - 1) x) (x .journal)) (placesOf (x .journal .edition) (x .journal .frames))
     (record {
       wipe = wipeArray ks;
       wipes = length ks;
-      moves = transfers (upkeep x);
+      moves = transfers u;
       drops = true;
       target = nextBlock N (x .number);
-      time = newTime (transfers (upkeep x)) (timeOf x);
+      time = newTime (transfers u) (timeOf x);
       since = zeroEach;
-      size = 0;
+      size = length (appendsFor u (x .journal));
       edition = editionNumber (x .journal .edition);
+      closes = length (closesFor u (blockIn N img x) (x .journal));
+      close = closeArray (closesFor u (blockIn N img x) (x .journal));
     })
-    (starting 0 (endOf (x .journal))) []
+    (starting 0 (endOf (x .journal))) (appendsFor u (x .journal))
 
 -- 6: "a transfer is needed, by a mount too, at time 4,294,967,295"
 unfoldable pub mountAt : ℕ → List ℕ → List Found → Store → Out
 mountAt N img xs x =
-    cond (transfers (upkeep x) && eqb (timeOf x) lastTime) (refuse refusal.Worn img unmounted [])
-    (begin img [] (mountJob N img x (wipeList (x .number) xs)))
+    let u : Upkeep = upkeep (sizeOf N img) x in
+    cond (transfers u && eqb (timeOf x) lastTime) (refuse refusal.Worn img unmounted []) (begin img [] (mountJob N img x (wipeList (x .number) xs) u))
 
 -- with no valid block, 3 "names the foreign half (0 first) and, within it, the fault and its place" (K5); 2: "no valid half and none foreign"
 abbrev pub orForeign : ℕ → BlockState → Refusal → Refusal
@@ -246,6 +291,8 @@ formatJob N img =
       since = zeroEach;
       size = 0;
       edition = 1;
+      closes = 0;
+      close = noCloses;
     })
     (starting 256 headerLen) []
 

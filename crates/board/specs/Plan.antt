@@ -16,7 +16,8 @@ use Rattle.wire.specs.declared.Answer.the-variants.{More}
 use Rattle.board.specs.declared.Rest.{Rest}
 use Rattle.board.specs.declared.Record.{Record}
 use Rattle.board.specs.Record.{answerOf, out, rest, landing, ending, idle}
-use Rattle.board.specs.Mount.{nextBlock, formatOrder, allFound, Store, storeAt, wipeList, Upkeep, rests, moves, upkeep, replayOf, usedOf, claimedOf}
+use Rattle.board.specs.Mount.{nextBlock, formatOrder, allFound, Store, storeAt, wipeList, Upkeep, rests, mends, moves, upkeep, replayOf, usedOf, claimedOf}
+use Rattle.board.specs.Mount.{closedEnd, closesFor, dueReset, blockIn}
 use Rattle.board.specs.Queue.{counted}
 use Rattle.board.specs.Exec.{Machine, step}
 
@@ -75,23 +76,32 @@ formatIn N l ks = afterSteps (map erase ks) (record { steps = onBlock 0 (build e
 abbrev pub formatWork : ℕ → List ℕ → Work
 formatWork N img = formatIn N (length img - 1) (formatOrder N img)
 
--- what a mount does after its erases with store x, whose record stands at z; a transfer goes to block j
-abbrev pub upkeepWork : Upkeep → ℕ → Rest → Store → Work
-upkeepWork rests j z x = record { steps = []; last = idle z }
-upkeepWork moves j z x =
+-- K11: a torn frame is closed, then a reset is appended "if anything is pending": block k, whose bytes are b, holds journal x, and the record stands at z
+abbrev pub mendWork : ℕ → List ℕ → Rest → Journal → Work
+mendWork k b z x =
+    record {
+      steps = onBlock k (closesFor mends b x) ++ onBlock k (writes (closedEnd x) (dueReset x));
+      last = idle (ending z (closedEnd x + length (dueReset x)));
+    }
+
+-- what a mount does after its erases with store x, whose block's bytes are b and whose record stands at z; a transfer goes to block j
+abbrev pub upkeepWork : Upkeep → ℕ → List ℕ → Rest → Store → Work
+upkeepWork rests j b z x = record { steps = []; last = idle z }
+upkeepWork mends j b z x = mendWork (x .number) b z (x .journal)
+upkeepWork moves j b z x =
     record {
       steps = transferTo (x .journal .edition) j (x .number) (x .journal) (settledOnly (replayOf (x .journal)));
       last = idle (landing z (z .edition) j (usedOf (x .journal)));
     }
 
 -- the erases of blocks ks, and that
-abbrev pub mountIn : ℕ → ℕ → List ℕ → ℕ → Store → Work
-mountIn N l ks j x = afterSteps (map erase ks) (upkeepWork (upkeep x) j (storeAt N l x) x)
+abbrev pub mountIn : ℕ → List ℕ → List ℕ → ℕ → Store → Work
+mountIn N img ks j x =
+    afterSteps (map erase ks) (upkeepWork (upkeep (sizeOf N img) x) j (blockIn N img x) (storeAt N (length img - 1) x) x)
 
--- K14: "mount erases every other that isn't blank, by number". "If the current one has a torn tail or anything pending, a transfer of the
--- settled objects alone follows."
+-- K14: "mount erases every other that isn't blank, by number"; then K11's mending, or the transfer in its place
 abbrev pub mountWork : ℕ → List ℕ → Store → Work
-mountWork N img x = mountIn N (length img - 1) (wipeList (x .number) (allFound N img)) (nextBlock N (x .number)) x
+mountWork N img x = mountIn N img (wipeList (x .number) (allFound N img)) (nextBlock N (x .number)) x
 
 -- "Put, delete, commit, abort: one frame of n bytes": where the record stands
 abbrev pub appendWork : Edition → Rest → Frame → Work

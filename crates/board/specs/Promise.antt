@@ -125,8 +125,7 @@ pub data Job (N : ℕ) (img : List ℕ) (r : Record) : Call → Work → Type 0 
   -- K9: "else a transfer takes the store to edition 2"
   convert-job : (h : Host) (msg reply : List ℕ) (x : Journal) (q : Request) → Fresh N img r x → Means msg q → taskFor h msg x q ≡ converts
       → Job N img r (request h msg reply) (convertWork N img r x)
-  -- K14: "mount erases every other that isn't blank, by number". "If the current one has a torn tail or anything pending, a transfer of the
-  -- settled objects alone follows."
+  -- K14: "mount erases every other that isn't blank, by number"; K11: "A torn frame is closed in place .. Then, if anything is pending, a reset frame"
   mount-job : (x : Store) → Current N img x
       → Job N img r mount (mountWork N img x)
   -- K14: "Format erases all in number order, but the current block last if there is one, then writes block 0"
@@ -183,7 +182,7 @@ pub record Promise (N : ℕ) (m : Machine) : Type 0 where
   pub wear : WearExact N m
   -- K9: 16, 7 and 6 of a convert
   pub converting : ConvertAnswers N m
-  -- demand 2: in a run every programmed byte lands as given, where 0xFF was or byte 8 goes on
+  -- demand 2: in a run every programmed byte lands as given, where 0xFF was, byte 8 goes on or a torn frame is closed
   pub lands : LandsFrom N m
   -- demand 3
   pub claim : Claim N m

@@ -31,7 +31,7 @@ use Rattle.board.specs.declared.Phase.{Phase}
 use Rattle.board.specs.declared.Phase.the-variants.{Unmounted, Idle, Busy}
 use Rattle.board.specs.declared.Rest.{Rest}
 use Rattle.board.specs.declared.Record.{Record}
-use Rattle.board.specs.Record.{allowed, zeroEach, noWipes, starting, busy, Stretch, noStretch, Out, refuse, counting}
+use Rattle.board.specs.Record.{allowed, zeroEach, noWipes, noCloses, starting, busy, Stretch, noStretch, Out, refuse, counting}
 use Rattle.board.specs.Step.{begin, sameShape}
 use Rattle.board.specs.Mount.{nextBlock, newTime, endOf, replayOf, usedOf, countsOf, claimedOf}
 
@@ -98,6 +98,8 @@ appendJob N img r x f =
       since = sinceOf (x .edition) (x .frames);
       size = frameLen (x .edition) f;
       edition = editionNumber (x .edition);
+      closes = 0;
+      close = noCloses;
     })
     (starting 0 headerLen) (encode (x .edition) f)
 
@@ -115,6 +117,8 @@ convertJob N img r x =
       since = zeroEach;
       size = 0;
       edition = 2;
+      closes = 0;
+      close = noCloses;
     })
     (starting 0 (endOf x)) []
 

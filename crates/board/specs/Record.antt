@@ -42,8 +42,25 @@ zeroEach = 0 ∷ 0 ∷ 0 ∷ 0 ∷ []
 abbrev pub noWipes : List ℕ
 noWipes = replicate maxBlocks 0
 
+-- no byte of a torn frame
+abbrev pub noCloses : List ℕ
+noCloses = 0 ∷ 0 ∷ 0 ∷ 0 ∷ []
+
 abbrev pub noJob : Job
-noJob = record { wipe = noWipes; wipes = 0; moves = false; drops = false; target = 0; time = 0; since = zeroEach; size = 0; edition = 0 }
+noJob =
+    record {
+      wipe = noWipes;
+      wipes = 0;
+      moves = false;
+      drops = false;
+      target = 0;
+      time = 0;
+      since = zeroEach;
+      size = 0;
+      edition = 0;
+      closes = 0;
+      close = noCloses;
+    }
 
 -- step of the stage; next offset of the block made; next id and next journal offset to copy; copied frame's length and next byte
 abbrev pub cursor : ℕ → ℕ → ℕ → ℕ → ℕ → ℕ → Cursor

@@ -13,11 +13,12 @@ use Rattle.frame.specs.declared.Host.{Host}
 use Rattle.frame.specs.declared.ObjectId.{ObjectId}
 use Rattle.frame.specs.declared.Edition.{Edition}
 use Rattle.frame.specs.declared.Edition.the-variants as edition
-use Rattle.frame.specs.Frame.{Change, Frame, change, commit, abort, encode, encodeAll}
+use Rattle.frame.specs.Frame.{Change, Frame, change, commit, abort, encode, encodeAll, total}
 use Rattle.frame.specs.ByKind.{withCrc}
-use Rattle.frame.specs.Reader.{clean, cut}
+use Rattle.frame.specs.Reader.{Tail, clean, cut, bad}
+use Rattle.frame.specs.declared.Fault.{Fault}
 use Rattle.journal.specs.Replay.{State, state, lookup, framesOf}
-use Rattle.journal.specs.Block.{Journal, blank, blockState}
+use Rattle.journal.specs.Block.{Journal, blank, blockState, tornLen}
 use Rattle.journal.specs.Room.{claimed}
 use Rattle.journal.specs.Sentences.{ValidBlock}
 use Rattle.journal.specs.Laws.{byEdition, objectsAfter, pendingAfter, changeBytes, CountsAre, TakenFrom}
@@ -28,8 +29,8 @@ use Rattle.board.specs.declared.Record.{Record}
 use Rattle.board.specs.Record.{idle}
 use Rattle.board.specs.Mount.{Store, replayOf}
 use Rattle.board.specs.Queue.{needsRoom, placeOf}
-use Rattle.board.specs.Table.{Task, idles, appends, converts, taskFor, secondUsed, Allowed, ValidAt}
-use Rattle.board.specs.Plan.{transferPlan, formatWork, frameWork, mountWork, convertWork}
+use Rattle.board.specs.Table.{Task, idles, appends, converts, taskFor, secondUsed, Allowed, ValidAt, DueTransfer}
+use Rattle.board.specs.Plan.{Work, programs, transferPlan, formatWork, frameWork, mountWork, convertWork}
 
 -- ---- which requests append a frame, and its bytes
 
@@ -162,19 +163,72 @@ pub record ConvertExact : Type 0 where
 abbrev pub Member : ℕ → List ℕ → Type 0
 Member j l = (i : ℕ) × (i < length l) × (getD l i 0 ≡ j)
 
--- K14: "mount erases every other that isn't blank, by number". "If the current one has a torn tail or anything pending, a transfer of the settled
--- objects alone follows." Of the current block x
+-- K11: "each a step only if it must change": byte o of block k, whose bytes are b, made v
+pub data OnlyIf (b : List ℕ) (k o v : ℕ) : List Step → Type 0 where
+  changes : (getD b o 0 ≡ v → ⊥) → OnlyIf b k o v (program k o v ∷ [])
+  stays : getD b o 0 ≡ v → OnlyIf b k o v []
+
+-- "A torn frame is closed in place by clearing bits: length's high byte to 0, kind to 0x0000 low byte first, then its finish byte": a frame of n bytes
+-- at an offset of the block
+pub record Closes (b : List ℕ) (k at n : ℕ) (steps : List Step) : Type 0 where
+  pub length-high : List Step
+  pub kind-low : List Step
+  pub kind-high : List Step
+  pub finish : List Step
+  pub in-order : steps ≡ length-high ++ (kind-low ++ (kind-high ++ finish))
+  pub of-length : OnlyIf b k (at + 1) 0 length-high
+  pub of-kind : OnlyIf b k (at + 2) 0 kind-low
+  pub of-kind-high : OnlyIf b k (at + 3) 0 kind-high
+  pub of-finish : OnlyIf b k (at + (n - 1)) 0xFE finish
+
+-- with no torn frame there is nothing to close
+abbrev pub ClosesTail : List ℕ → ℕ → ℕ → Tail → List Step → Type 0
+ClosesTail b k at clean steps = steps ≡ []
+ClosesTail b k at (cut n) steps = Closes b k at n steps
+ClosesTail b k at (bad e) steps = Unit {0}
+
+-- "a reset frame (kind 7, no body, length 5 or in edition 2 nine)"
+abbrev pub resetFrame : Edition → List ℕ
+resetFrame edition.First = 5 ∷ 0 ∷ 7 ∷ 0 ∷ 0xFE ∷ []
+resetFrame edition.Second = withCrc (9 ∷ 0 ∷ 7 ∷ 0 ∷ [])
+
+-- the steps of a mount that mends block k, whose bytes are b and which holds x; and the record after them, of an image whose length less one is l
+pub record MendExact (N l k : ℕ) (b : List ℕ) (x : Journal) (w : Work) : Type 0 where
+  pub closes : List Step
+  pub resets : List Step
+  pub steps : w .steps ≡ closes ++ resets
+  pub closing : ClosesTail b k (16 + total (x .edition) (x .frames)) (x .tail) closes
+  -- "Then, if anything is pending, a reset frame .. drops all of it": after the closed frame
+  pub no-reset : replayOf x .pending ≡ [] → resets ≡ []
+  pub reset : (replayOf x .pending ≡ [] → ⊥)
+      → Programs k (16 + total (x .edition) (x .frames) + tornLen (x .tail)) (resetFrame (x .edition)) resets
+  -- the block stays; the end is past all that was written, and nothing is pending
+  pub last : w .last
+      ≡ idle (record {
+        blocks = N;
+        last = l;
+        block = k;
+        end = 16 + total (x .edition) (x .frames) + tornLen (x .tail) + length resets;
+        pending = 0 ∷ 0 ∷ 0 ∷ 0 ∷ [];
+        edition = byEdition (x .edition) 1 2;
+      })
+  -- what it costs: at most 4 bytes to close and 9 for the reset, and no erase
+  pub few : length (w .steps) ≤ 13
+  pub no-erase : programs (w .steps) ≡ w .steps
+
+-- K14: "mount erases every other that isn't blank, by number"; then K11: "Only where a due reset wouldn't fit after the closed frame is the old
+-- transfer made, instead of both." Of the current block x
 pub record MountSteps (N : ℕ) (img : List ℕ) (x : Store) : Type 0 where
   pub erased : List ℕ
-  pub moves : List Step
-  pub steps : mountWork N img x .steps ≡ map erase erased ++ moves
+  pub after : Work
+  pub steps : mountWork N img x .steps ≡ map erase erased ++ after .steps
+  pub last : mountWork N img x .last ≡ after .last
   pub by-number : (i : ℕ) → suc i < length erased → getD erased i 0 < getD erased (suc i) 0
   pub every : (j : ℕ) → Member j erased ↔ ((j < N) × (j ≡ x .number → ⊥) × (blockState (block (sizeOf N img) j img) ≡ blank → ⊥))
-  pub torn : (n : ℕ) → x .journal .tail ≡ cut n
-      → moves ≡ transferPlan (x .journal .edition) N (x .number) (x .journal) (state (objectsAfter (x .journal .frames)) [])
-  pub pending : x .journal .tail ≡ clean → (replayOf (x .journal) .pending ≡ [] → ⊥)
-      → moves ≡ transferPlan (x .journal .edition) N (x .number) (x .journal) (state (objectsAfter (x .journal .frames)) [])
-  pub at-rest : x .journal .tail ≡ clean → replayOf (x .journal) .pending ≡ [] → moves ≡ []
+  pub moves : DueTransfer (sizeOf N img) (x .journal)
+      → after .steps ≡ transferPlan (x .journal .edition) N (x .number) (x .journal) (state (objectsAfter (x .journal .frames)) [])
+  pub mends : (DueTransfer (sizeOf N img) (x .journal) → ⊥)
+      → MendExact N (length img - 1) (x .number) (block (sizeOf N img) (x .number) img) (x .journal) after
 
 unfoldable pub MountExact : Type 0
 MountExact = (N : ℕ) (img : List ℕ) (x : Store) → MountSteps N img x

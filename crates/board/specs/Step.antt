@@ -7,12 +7,12 @@ use lib.Dec.{eqb, ltb}
 use lib.ListN.{length, getD}
 use Rattle.flash.specs.Flash.{Step, program, erase, apply, block, sizeOf, within, writeStep}
 use Rattle.frame.specs.Frame.{encode, frameLen}
-use Rattle.journal.specs.Block.{openWrite, sealWrite, markWrites}
+use Rattle.journal.specs.Block.{openWrite, sealWrite, markWrites, closeByte}
 use Rattle.journal.specs.Index.{Load, nextLoad}
 use Rattle.wire.specs.declared.Refusal.the-variants as refusal
 use Rattle.wire.specs.declared.Answer.the-variants.{Done}
 use Rattle.board.specs.declared.Stage.{Stage}
-use Rattle.board.specs.declared.Stage.the-variants.{Wipe, Open, Copy, Seal, Drop, Append}
+use Rattle.board.specs.declared.Stage.the-variants.{Wipe, Open, Copy, Seal, Drop, Append, Close}
 use Rattle.board.specs.declared.Phase.{Phase}
 use Rattle.board.specs.declared.Phase.the-variants.{Unmounted, Idle, Busy}
 use Rattle.board.specs.declared.Cursor.{Cursor}
@@ -73,9 +73,13 @@ enterCopy N img r =
     loadOr r
     (nextLoad (readsIn r) (block (sizeOf N img) (r .rest .block) img) (r .rest .end) (r .places) (r .job .since) (r .cursor .id) (r .cursor .source))
 
--- a job that makes no block goes on to its frame
+-- the bytes that close a torn frame, if there are any (document 02, K11)
+unfoldable pub enterClose : Record → Record
+enterClose r = cond (ltb 0 (r .job .closes)) (enter Close r) (enterAppend r)
+
+-- a job that makes no block goes on to these
 unfoldable pub enterOpen : Record → Record
-enterOpen r = cond (r .job .moves) (enter Open r) (enterAppend r)
+enterOpen r = cond (r .job .moves) (enter Open r) (enterClose r)
 
 -- the blocks to erase, if there are any
 unfoldable pub enterWipe : Record → Record
@@ -95,6 +99,8 @@ action Copy r = program (r .job .target) (r .cursor .at) (getD (r .unit) (r .cur
 action Seal r = writeStep (r .job .target) (sealWrite (r .job .time) (r .cursor .index))
 action Drop r = erase (r .rest .block)
 action Append r = program (r .rest .block) (r .rest .end + r .cursor .index) (getD (r .frame) (r .cursor .index) 0)
+action Close r =
+    program (r .rest .block) (getD (r .job .close) (r .cursor .index) 0) (closeByte (eqb (suc (r .cursor .index)) (r .job .closes)))
 
 -- the cursor past a step, and past a byte that is copied
 abbrev pub nextIndex : Cursor → Cursor
@@ -121,6 +127,7 @@ advance N Copy img r =
 advance N Seal img r = onward Seal markWrites r (enterDrop r)
 advance N Drop img r = enterAppend (landed r)
 advance N Append img r = onward Append (r .job .size) r (idle (ending (r .rest) (r .rest .end + r .job .size)))
+advance N Close img r = onward Close (r .job .closes) r (enterAppend r)
 
 -- "the last one answers 0 with the record idle", any other more
 abbrev pub stepped : List ℕ → Record → Out

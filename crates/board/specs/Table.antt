@@ -17,7 +17,7 @@ use Rattle.frame.specs.Reader.{fault, clean}
 use Rattle.frame.specs.declared.Fault.{Fault}
 use Rattle.frame.specs.declared.Field.the-variants as field
 use Rattle.journal.specs.Replay.{entry, lookup, isOpen, listOf}
-use Rattle.journal.specs.Block.{Journal, headerLen}
+use Rattle.journal.specs.Block.{Journal, headerLen, tornLen}
 use Rattle.journal.specs.Faults.{FaultIn}
 use Rattle.journal.specs.Sentences.{BlankBlock, ValidBlock, ForeignBlock}
 use Rattle.journal.specs.Room.{openHosts}
@@ -245,9 +245,11 @@ pub data Names (N : ℕ) (img : List ℕ) (k : ℕ) (e : Fault) : Type 0 where
   names-foreign : NoneValid N img → ForeignAt N img k → FaultIn (block (sizeOf N img) k img) e → ((j : ℕ) → j < k → ForeignAt N img j → ⊥) → Names N img k e
   names-equal : TiedAt N img k → e ≡ fault field.Created 4 → ((j : ℕ) → j < k → TiedAt N img j → ⊥) → Names N img k e
 
--- "has a torn tail or anything pending"
-abbrev pub Unsettled : Journal → Type 0
-Unsettled x = (x .tail ≡ clean → ⊥) ⊎ (replayOf x .pending ≡ [] → ⊥)
+-- document 02, K11: "Then, if anything is pending, a reset frame (.., length 5 or in edition 2 nine) .. Only where a due reset wouldn't fit after the
+-- closed frame is the old transfer made": in a block of s bytes that holds x
+pub record DueTransfer (s : ℕ) (x : Journal) : Type 0 where
+  pub some-pending : replayOf x .pending ≡ [] → ⊥
+  pub no-fit : s < headerLen + total (x .edition) (x .frames) + tornLen (x .tail) + byEdition (x .edition) 5 9
 
 -- 6: "a transfer is needed, by a mount too, at time 4,294,967,295": no time is larger, so that this half is the current one
 pub record MountWorn (N : ℕ) (img : List ℕ) : Type 0 where
@@ -255,7 +257,7 @@ pub record MountWorn (N : ℕ) (img : List ℕ) : Type 0 where
   pub journal : Journal
   pub is-valid : ValidAt N img number journal
   pub last-time : journal .time ≡ 4294967295
-  pub unsettled : Unsettled journal
+  pub due : DueTransfer (sizeOf N img) journal
 
 abbrev pub mountLines : ℕ → List ℕ → List Line
 mountLines N img =

@@ -72,7 +72,7 @@ chooseTwo inProgress inProgress = refuses refusal.NoStore
 -- "The other is erased if it isn't blank." A transfer goes "into the blank half"
 abbrev pub mountTwo : List ℕ → ℕ → Journal → Work
 mountTwo img k x =
-    mountIn 2 (length img - 1) (cond (isBlank (stateTwo img (beside k))) [] (beside k ∷ [])) (beside k)
+    mountIn 2 img (cond (isBlank (stateTwo img (beside k))) [] (beside k ∷ [])) (beside k)
     (record { number = k; journal = x })
 
 -- ---- format
@@ -122,10 +122,10 @@ pub record TwoBlocks : Type 0 where
   pub mount-refused : (img : List ℕ) (n : Refusal) → allowedTwo (length img) ≡ true → chooseTwo (stateTwo img 0) (stateTwo img 1) ≡ refuses n
       → mountOn 2 img ≡ refuse n img unmounted []
   pub mount-worn : (img : List ℕ) (k : ℕ) (x : Journal) → allowedTwo (length img) ≡ true
-      → chooseTwo (stateTwo img 0) (stateTwo img 1) ≡ takes k x → x .time ≡ lastTime → upkeepOf x ≡ moves
+      → chooseTwo (stateTwo img 0) (stateTwo img 1) ≡ takes k x → x .time ≡ lastTime → upkeepOf (sizeTwo img) x ≡ moves
       → mountOn 2 img ≡ refuse refusal.Worn img unmounted []
   pub mount-steps : (img : List ℕ) (k : ℕ) (x : Journal) → Bytes img → allowedTwo (length img) ≡ true
-      → chooseTwo (stateTwo img 0) (stateTwo img 1) ≡ takes k x → (transfers (upkeepOf x) && eqb (x .time) lastTime) ≡ false
+      → chooseTwo (stateTwo img 0) (stateTwo img 1) ≡ takes k x → (transfers (upkeepOf (sizeTwo img) x) && eqb (x .time) lastTime) ≡ false
       → Performs 2 (exec 2) img (mountOn 2 img .board) (mountTwo img k x)
   pub format-steps : (img : List ℕ) → allowedTwo (length img) ≡ true
       → Performs 2 (exec 2) img (formatOn 2 img .board) (formatTwo img)

@@ -3,7 +3,8 @@ use flash::MAX_BLOCKS;
 use frame::BUFFER_LEN;
 use wire::Refusal;
 
-// The stages of a job, in their order. A stage with nothing to do is passed over.
+// The stages of a job. After Wipe comes a block made, Open to Drop, or a torn frame closed, Close; Append is the last. A stage with nothing to do
+// is passed over.
 pub enum Stage {
     Wipe,
     Open,
@@ -11,6 +12,7 @@ pub enum Stage {
     Seal,
     Drop,
     Append,
+    Close,
 }
 
 pub enum Phase {
@@ -29,12 +31,15 @@ pub struct Job {
     pub drops: bool,
     pub target: u8,
     pub time: u32,
-    // the offset past each host's last commit or abort
+    // the offset past each host's last commit or abort, or a reset
     pub since: [u16; 4],
     // the length of the frame to append, 0 for none
     pub size: u8,
     // the edition of the block that is made, by its number
     pub edition: u8,
+    // how many bytes close a torn frame, and their offsets
+    pub closes: u8,
+    pub close: [u16; 4],
 }
 
 // How far a job has come.

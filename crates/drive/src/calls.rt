@@ -41,7 +41,7 @@ fn next_busy(len: usize, blocks: u8, stage: Stage, n: Numbers, byte: u8) -> Next
     Next::Refused(Refusal::Stale)
 }
 
-// Inner part of next, by value and over bytes. By a record's numbers and the byte in hand, any byte where no frame's byte is programmed, on an
+// Inner part of next, by value and over bytes. By a record's numbers and the byte in hand, any byte where no frame is copied or appended, on an
 // image of a length and so many blocks.
 pub fn next_of(len: usize, blocks: u8, n: Numbers, byte: u8) -> Next
     ensures { λ r. ⌜ ((p u f : List ℕ) → Hands n byte u f → r ≡ nextOn blocks len (assemble n p u f)) ⌝ }

@@ -1,21 +1,22 @@
 -- Every call leaves the arrays of a record at their lengths: its bytes then read back as the record.
-use mathlib.Core.Path.{_≡_, refl, sym, subst, _∙_}
-use mathlib.Core.List.{List, [], _∷_}
+use mathlib.Core.Path.{_≡_, refl, sym, ap, subst, _∙_}
+use mathlib.Core.List.{List, [], _∷_, map}
 use mathlib.Core.Option.{Option, none, some}
 use mathlib.Core.Bool.{true, _&&_, _||_}
 use Prim.Native.Nat.{ℕ, zero, suc, _+_, _-_, _≤_}
 use native.Mathlib.Omega.{arith}
 use lib.Dec.{eqb, ltb}
 use lib.ListN.{length, getD, take, drop, replicate, length-append, length-map, length-replicate}
-use Rattle.flash.specs.Flash.{maxBlocks, blockNumbers, apply, sizeOf, within}
+use Rattle.flash.specs.Flash.{maxBlocks, blockNumbers, apply, sizeOf, within, Write}
 use Rattle.flash.proofs.Cases.{on-test}
 use Rattle.frame.specs.declared.Edition.{Edition}
 use Rattle.frame.specs.declared.Edition.the-variants as edition
 use Rattle.frame.specs.declared.ObjectId.{ObjectId}
-use Rattle.frame.specs.Frame.{valueMax, bufferLen, idOf, Frame, settled, frameLen, encode, buffer}
+use Rattle.frame.specs.Frame.{valueMax, bufferLen, idOf, Frame, settled, reset, frameLen, encode, buffer}
 use Rattle.frame.specs.Reader.{Read, blank, whole, torn, wrong, readFrame}
 use Rattle.frame.proofs.Encode.{length-encode, frame-fits}
-use Rattle.journal.specs.Block.{lastTime, markWrites}
+use Rattle.journal.specs.Replay.{Entry}
+use Rattle.journal.specs.Block.{Journal, lastTime, markWrites}
 use Rattle.journal.specs.Index.{Value, valueAt, Load, load, nextSettled, isPending, nextPending, orElse, nextLoad}
 use Rattle.journal.proofs.Places.{length-places}
 use Rattle.fetch.proofs.FrameReads.{whole-stands}
@@ -25,21 +26,23 @@ use Rattle.wire.specs.declared.Answer.the-variants.{Done, More, Refused}
 use Rattle.wire.specs.declared.Refusal.the-variants as refusal
 use Rattle.wire.specs.declared.Parsed.the-variants.{Malformed}
 use Rattle.board.specs.declared.Stage.{Stage}
-use Rattle.board.specs.declared.Stage.the-variants.{Wipe, Open, Copy, Seal, Drop, Append}
+use Rattle.board.specs.declared.Stage.the-variants.{Wipe, Open, Copy, Seal, Drop, Append, Close}
 use Rattle.board.specs.declared.Phase.{Phase}
 use Rattle.board.specs.declared.Phase.the-variants.{Unmounted, Idle, Busy}
 use Rattle.board.specs.declared.Cursor.{Cursor}
 use Rattle.board.specs.declared.Rest.{Rest}
 use Rattle.board.specs.declared.Record.{Record}
 use Rattle.board.specs.Record.{allowed, noPlaces, noFrame, resting, inStage, makesIn, Out, answerIn}
-use Rattle.board.specs.Step.{enterAppend, landed, enterDrop, loaded, enterCopy, enterOpen, enterWipe, begin, action}
+use Rattle.board.specs.Step.{enterAppend, landed, enterDrop, loaded, enterCopy, enterClose, enterOpen, enterWipe, begin, action}
 use Rattle.board.specs.Step.{advance, sameShape, stepOn}
 use Rattle.board.specs.Mount.{Found, Store, allFound, found, stores, equalTimes, newest, isBlank, wipeList, wipeArray, upkeep, transfers, mountJob}
-use Rattle.board.specs.Mount.{mountOn, timeOf}
+use Rattle.board.specs.Mount.{mountOn, timeOf, Upkeep, rests, mends, moves, endOf, closesFor, appendsFor, resetBytes, standsFor, closeArray, blockIn}
+use Rattle.board.specs.Mount.{storeAt, replayOf}
 use Rattle.board.specs.Mount.{formatOrder, formatJob, formatOn}
 use Rattle.board.specs.Demand1.{Rests}
 use Rattle.board.proofs.Images.{allowed-tests}
 use Rattle.board.proofs.Numbers.{length-numbers}
+use Rattle.board.proofs.Lengths.{closes-few}
 use Rattle.board.proofs.Order.{length-order}
 use Rattle.board.proofs.Outcomes as outcome
 use Rattle.lent.proofs.Inverse.{Sized}
@@ -48,13 +51,13 @@ use Rattle.lent.proofs.Inverse.{Sized}
 
 pub rests-sized : (p : Phase) (z : Rest) → length (z .pending) ≡ 4 → Sized (resting p z)
 unfolding noPlaces noFrame
-rests-sized p z h = record { pending = h; places = refl; wipe = refl; since = refl; unit = refl; frame = refl }
+rests-sized p z h = record { pending = h; places = refl; wipe = refl; since = refl; close = refl; unit = refl; frame = refl }
 
 stage-sized : (s : Stage) (c : Cursor) (r : Record) → Sized r → Sized (inStage s c r)
-stage-sized s c r h = record { pending = h .pending; places = h .places; wipe = h .wipe; since = h .since; unit = h .unit; frame = h .frame }
+stage-sized s c r h = record { pending = h .pending; places = h .places; wipe = h .wipe; since = h .since; close = h .close; unit = h .unit; frame = h .frame }
 
 landed-sized : (r : Record) → Sized r → Sized (landed r)
-landed-sized r h = record { pending = h .pending; places = h .places; wipe = h .wipe; since = h .since; unit = h .unit; frame = h .frame }
+landed-sized r h = record { pending = h .pending; places = h .places; wipe = h .wipe; since = h .since; close = h .close; unit = h .unit; frame = h .frame }
 
 -- ---- a frame to copy fits its buffer
 
@@ -138,6 +141,7 @@ loaded-sized r u s h =
       places = h .places;
       wipe = h .wipe;
       since = h .since;
+      close = h .close;
       unit = buffer-sized (makesIn r) (u .frame) (s (makesIn r));
       frame = h .frame;
     }
@@ -149,11 +153,17 @@ copy-sized N img r h = go (outcome.nextFor N img r) refl
     go none e = subst Sized (sym (outcome.copy-ends N img r e)) (stage-sized Seal _ r h)
     go (some u) e = subst Sized (sym (outcome.copy-loads N img r u e)) (loaded-sized r u (load-short _ _ _ _ _ _ _ u e) h)
 
+close-sized : (r : Record) → Sized r → Sized (enterClose r)
+close-sized r h =
+    on-test (ltb 0 (r .job .closes))
+    (λ t. subst Sized (sym (outcome.close-enters r t)) (stage-sized Close _ r h))
+    (λ t. subst Sized (sym (outcome.close-skips r t)) (append-sized r h))
+
 open-sized : (r : Record) → Sized r → Sized (enterOpen r)
 open-sized r h =
     on-test (r .job .moves)
     (λ t. subst Sized (sym (outcome.open-enters r t)) (stage-sized Open _ r h))
-    (λ t. subst Sized (sym (outcome.open-skips r t)) (append-sized r h))
+    (λ t. subst Sized (sym (outcome.open-skips r t)) (close-sized r h))
 
 wipe-sized : (r : Record) → Sized r → Sized (enterWipe r)
 wipe-sized r h =
@@ -185,6 +195,10 @@ advance-sized N Append img r h =
     on-test (ltb (suc (r .cursor .index)) (r .job .size))
     (λ t. subst Sized (sym (outcome.append-next N img r t)) (stage-sized Append _ r h))
     (λ t. subst Sized (sym (outcome.append-last N img r t)) (rests-sized Idle _ (h .pending)))
+advance-sized N Close img r h =
+    on-test (ltb (suc (r .cursor .index)) (r .job .closes))
+    (λ t. subst Sized (sym (outcome.close-next N img r t)) (stage-sized Close _ r h))
+    (λ t. subst Sized (sym (outcome.close-last N img r t)) (append-sized r h))
 
 -- ---- and no refusal but a mount's names a block
 
@@ -240,16 +254,42 @@ array-sized : (ks : List ℕ) → length ks ≤ maxBlocks → length (wipeArray 
 array-sized ks h =
     length-append ks (replicate (maxBlocks - length ks) 0) ∙ omega (arith, length-replicate {A = ℕ} (maxBlocks - length ks) 0)
 
-mount-job-sized : (N : ℕ) (img : List ℕ) (x : Store) (ks : List ℕ) → length ks ≤ maxBlocks → Sized (mountJob N img x ks)
+-- at most four offsets, and a reset to append
+close-array : (ws : List Write) → length ws ≤ 4 → length (closeArray ws) ≡ 4
+close-array ws h =
+    length-append (map (λ (w : Write). w .at) ws) (replicate (4 - length ws) 0)
+    ∙ omega (arith, length-map ws (λ (w : Write). w .at), length-replicate {A = ℕ} (4 - length ws) 0)
+
+closes-sized : (u : Upkeep) (b : List ℕ) (x : Journal) → length (closeArray (closesFor u b x)) ≡ 4
+closes-sized rests b x = refl
+closes-sized mends b x = close-array (closesFor mends b x) (closes-few b (endOf x) (x .tail))
+closes-sized moves b x = refl
+
+reset-sized : (x : Journal) (ps : List Entry) → length (buffer (resetBytes x ps)) ≡ bufferLen
+reset-sized x [] = refl
+reset-sized x (p ∷ ps) = buffer-sized (x .edition) reset (frame-fits (x .edition) (x .edition) 0 reset tt)
+
+appends-sized : (u : Upkeep) (x : Journal) → length (buffer (appendsFor u x)) ≡ bufferLen
+appends-sized rests x = refl
+appends-sized mends x = reset-sized x (replayOf x .pending)
+appends-sized moves x = refl
+
+stands-pending : (u : Upkeep) (z : Rest) (x : Journal) → standsFor u z x .pending ≡ z .pending
+stands-pending rests z x = refl
+stands-pending mends z x = refl
+stands-pending moves z x = refl
+
+mount-job-sized : (N : ℕ) (img : List ℕ) (x : Store) (ks : List ℕ) (u : Upkeep) → length ks ≤ maxBlocks → Sized (mountJob N img x ks u)
 unfolding noFrame
-mount-job-sized N img x ks h =
+mount-job-sized N img x ks u h =
     record {
-      pending = refl;
+      pending = ap (λ (l : List ℕ). length l) (stands-pending u (storeAt N (length img - 1) x) (x .journal));
       places = length-places (x .journal .edition) (x .journal .frames);
       wipe = array-sized ks h;
       since = refl;
+      close = closes-sized u (blockIn N img x) (x .journal);
       unit = refl;
-      frame = refl;
+      frame = appends-sized u (x .journal);
     }
 
 abbrev pub Left : Out → Type 0
@@ -273,10 +313,10 @@ mount-sized N img = on-test (allowed N (length img)) goes (λ t. subst Left (sym
             (λ q.
             let x : Store = newest y ys in
             let m = outcome.mount-at N img t y ys e q in
-            on-test (transfers (upkeep x) && eqb (timeOf x) lastTime)
+            on-test (transfers (upkeep (sizeOf N img) x) && eqb (timeOf x) lastTime)
             (λ w. subst Left (sym (m ∙ outcome.mount-worn N img (allFound N img) x w)) (rests-sized Unmounted _ refl))
             (λ w. subst Left (sym (m ∙ outcome.mount-begins N img (allFound N img) x w))
-            (wipe-sized _ (mount-job-sized N img x (wipeList (x .number) (allFound N img)) (few t (x .number))))))
+            (wipe-sized _ (mount-job-sized N img x (wipeList (x .number) (allFound N img)) (upkeep (sizeOf N img) x) (few t (x .number))))))
 
 pub format-sized : (N : ℕ) (img : List ℕ) → Leaves (formatOn N img)
 unfolding noPlaces noFrame
@@ -289,6 +329,7 @@ format-sized N img =
       places = refl;
       wipe = array-sized (formatOrder N img) h;
       since = refl;
+      close = refl;
       unit = refl;
       frame = refl;
     } in

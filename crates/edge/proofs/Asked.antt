@@ -114,6 +114,7 @@ module _ (a : Asking) (s : Sized (a .board)) where
         places = length-places (x .edition) (x .frames);
         wipe = refl;
         since = refl;
+        close = refl;
         unit = refl;
         frame = buffer-sized (x .edition) f (k (x .edition));
       }
@@ -124,7 +125,8 @@ module _ (a : Asking) (s : Sized (a .board)) where
       let w = outcome.wipe-skips (job x f) refl in
       on-test (movesFor a x f)
       (λ t. ap answerOf (w ∙ outcome.open-enters (job x f) t))
-      (λ t. ap answerOf (w ∙ outcome.open-skips (job x f) t ∙ outcome.append-enters (job x f) (some-bytes (x .edition) f)))
+      (λ t. ap answerOf (w ∙ outcome.open-skips (job x f) t ∙ outcome.close-skips (job x f) refl
+      ∙ outcome.append-enters (job x f) (some-bytes (x .edition) f)))
 
   appended : (AsksRead (parse (a .message)) → ⊥) → (x : Journal) (f : Frame) → Short f → Serves (append a x f)
   appended not x f k =
@@ -158,7 +160,7 @@ module _ (a : Asking) (s : Sized (a .board)) where
   moving-sized : (x : Journal) → Sized (moving x)
   unfolding noFrame
   moving-sized x =
-      record { pending = s .pending; places = length-places (x .edition) (x .frames); wipe = refl; since = refl; unit = refl; frame = refl }
+      record { pending = s .pending; places = length-places (x .edition) (x .frames); wipe = refl; since = refl; close = refl; unit = refl; frame = refl }
 
   moving-more : (x : Journal) → answerOf (enterWipe (moving x)) ≡ More
   moving-more x = ap answerOf (outcome.wipe-skips (moving x) refl ∙ outcome.open-enters (moving x) refl)

@@ -41,13 +41,12 @@ Replaces img b after n o =
     let e : Edge = anew img b o in
     ((n ≡ e .answer) × (after ≡ e .board)) × ReadsBack b after (o .board)
 
-pub replaced : (img b after p f : List ℕ) (n : ℕ) (s : Stepped) (o : Out) → length b ≡ recordSize → Gives p s o → f ≡ noFrame
+pub replaced : (img b after p f : List ℕ) (n : ℕ) (s : Stepped) (o : Out) → length b ≡ recordSize → Gives p f s o
     → ((n ≡ edgeNumber (s .answer)) × (after ≡ recordInto (assemble (s .next) p noFrame f) b)) × ReadsAs b after (assemble (s .next) p noFrame f)
     → Replaces img b after n o
-replaced img b after p f n s o l g ef h =
-    let e : assemble (s .next) p noFrame f ≡ o .board = ap (assemble (s .next) p noFrame) ef ∙ g .gives in
-    let w : after ≡ recordBytes (o .board) = h .0 .1 ∙ filled _ b l ∙ ap recordBytes e in
-    (rw (eq-eqb _ _ l) (h .0 .0 ∙ ap edgeNumber (g .answers), w), λ l. h .1 l ∙ e)
+replaced img b after p f n s o l g h =
+    let w : after ≡ recordBytes (o .board) = h .0 .1 ∙ filled _ b l ∙ ap recordBytes (g .gives) in
+    (rw (eq-eqb _ _ l) (h .0 .0 ∙ ap edgeNumber (g .answers), w), λ l. h .1 l ∙ g .gives)
 
 -- ---- a request writes the record of the job that it begins
 

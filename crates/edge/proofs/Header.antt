@@ -12,7 +12,7 @@ numbers-exact = record { program = λ at v. refl; erase = λ at n. refl; record-
 pub wrong-record : WrongRecordExact
 unfolding WrongRecordExact edgeRequest edgeStep edgeMade edgeMount edgeFormat edgeRead edgeNext edgeRun
 wrong-record N img b h =
-    let t : holdsRecord b ≡ false = ne-eqb (length b) 1075 h in
+    let t : holdsRecord b ≡ false = ne-eqb (length b) 1084 h in
     record {
       request = λ x m reply. rw t;
       step = rw t;

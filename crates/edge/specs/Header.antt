@@ -11,7 +11,7 @@ use Rattle.edge.specs.Edge.{edge, edgeRequest, edgeStep, edgeMade, edgeM
 pub record NumbersExact : Type 0 where
   pub program : (at v : ℕ) → tells (next.Program at v) .answer ≡ 252
   pub erase : (at n : ℕ) → tells (next.Erase at n) .answer ≡ 253
-  pub record-bytes : recordSize ≡ 1075
+  pub record-bytes : recordSize ≡ 1084
 
 -- GROMMETIDE_WRONG_RECORD: "record_len is not GROMMETIDE_RECORD_BYTES; nothing was done", by any call that takes a record
 pub record WrongRecord (N : ℕ) (img b : List ℕ) : Type 0 where
@@ -25,4 +25,4 @@ pub record WrongRecord (N : ℕ) (img b : List ℕ) : Type 0 where
   pub run : (n steps : ℕ) → edgeRun N img b n steps ≡ run 254 steps img b
 
 unfoldable pub WrongRecordExact : Type 0
-WrongRecordExact = (N : ℕ) (img b : List ℕ) → (length b ≡ 1075 → ⊥) → WrongRecord N img b
+WrongRecordExact = (N : ℕ) (img b : List ℕ) → (length b ≡ 1084 → ⊥) → WrongRecord N img b

@@ -18,7 +18,7 @@ use Rattle.fetch.specs.declared.Fetched.the-variants as fetched
 use Rattle.journal.specs.Index.{Value, valueAt, Load, load, nextSettled, isPending, nextPending, orElse, nextLoad}
 use Rattle.fetch.specs.Fetch.{orStart, fetchedOf, Fetches}
 use Rattle.fetch.proofs.FrameReads.{part-same, value-there, value-inside}
-use Rattle.fetch.proofs.Fetching.{InBlock, in-block, pending-blank, pending-torn, pending-wrong, pending-yes, value-pending}
+use Rattle.fetch.proofs.Fetching.{InBlock, in-block, pending-blank, pending-torn, pending-wrong, pending-yes, value-pending, pending-open}
 
 -- ---- a settled frame
 
@@ -66,7 +66,8 @@ module _ (ed : Edition) (b places since l : List ℕ) where
   pending-there at f r t =
       let q : readFrame ed 0 at (drop at (take (length l) l)) ≡ whole f = ap (λ (x : List ℕ). readFrame ed 0 at (drop at x)) (take-length l) ∙ r in
       let v = value-pending ed b places since at f t in
-      let w : (at + valueStart (headOf f) + valueLen (headOf f) ≤ length l) × (valueLen (headOf f) ≤ valueMax) = value-inside ed 0 at at (length l) l f q in (
+      let w : (at + valueStart (headOf f) + valueLen (headOf f) ≤ length l) × (valueLen (headOf f) ≤ valueMax) =
+      value-inside ed 0 at at (length l) l f q (pending-open since at f t) in (
         ap (λ (g : Frame). some (load g 256 (at + frameLen ed f)))
             (ap (λ (o : ℕ). frameOf (headOf f) (take (valueLen (headOf f)) (drop o l))) v
             ∙ ap (frameOf (headOf f)) (value-there ed 0 at at (length l) l f q) ∙ frame-of-head f),

@@ -13,9 +13,10 @@ use Rattle.flash.proofs.Cases.{on-test}
 use Rattle.frame.specs.declared.Edition.{Edition}
 use Rattle.frame.specs.declared.ObjectId.{ObjectId}
 use Rattle.frame.specs.declared.Fault.{Fault}
-use Rattle.frame.specs.Frame.{idOf, valueMax, put, delete, Frame, change, commit, abort, settled, frameLen}
+use Rattle.frame.specs.Frame.{idOf, valueMax, put, delete, Frame, change, commit, abort, settled, closed, reset, frameLen}
 use Rattle.frame.specs.Reader.{Read, blank, whole, torn, wrong, readFrame}
 use Rattle.frame.specs.Code.{headOf, peekAt, valueOf, valueLen, valueStart}
+use Rattle.frame.proofs.Encode.{NotClosed}
 use Rattle.frame.proofs.Heads.{value-len, peek-whole}
 use Rattle.frame.proofs.Exact.{read-blank}
 use Rattle.fetch.specs.declared.Found.the-variants as found
@@ -35,6 +36,8 @@ value-head i p (change h (delete j)) = refl
 value-head i p (commit h) = refl
 value-head i p (abort h) = refl
 value-head i p (settled j v) = on-test (eqb (i .0) (j .0)) (λ t. rw t) (λ t. rw t)
+value-head i p (closed v) = refl
+value-head i p reset = refl
 
 pub pending-head : (since : List ℕ) (at : ℕ) (f : Frame) → pendingHead since at (headOf f) ≡ isPending since at f
 unfolding pendingHead
@@ -43,6 +46,8 @@ pending-head since at (change h (delete i)) = refl
 pending-head since at (commit h) = refl
 pending-head since at (abort h) = refl
 pending-head since at (settled i v) = refl
+pending-head since at (closed v) = refl
+pending-head since at reset = refl
 
 -- ---- a value at a place
 
@@ -55,16 +60,19 @@ only-some : {A : Type 0} (t : Bool) (x y : A) → onlyIf t x ≡ some y → x �
 only-some true x y e = cc
 only-some false x y e = let z : _≡_ {A = ℕ} 0 1 = cc in absurd (omega arith)
 
-value-of : (i : ObjectId) (p : ℕ) (f : Frame) (x : Value) → frameValue i p f ≡ some x → (x .at ≡ p + valueStart (headOf f)) × (x .bytes ≡ valueOf f)
+value-of : (i : ObjectId) (p : ℕ) (f : Frame) (x : Value) → frameValue i p f ≡ some x
+    → (x .at ≡ p + valueStart (headOf f)) × (x .bytes ≡ valueOf f) × NotClosed f
 value-of i p (change h (put j v)) x e =
     let q : record { at = p + 7; bytes = v } ≡ x = only-some (eqb (i .0) (j .0)) _ x e in
-    (sym (ap (λ (y : Value). y .at) q), sym (ap (λ (y : Value). y .bytes) q))
+    (sym (ap (λ (y : Value). y .at) q), sym (ap (λ (y : Value). y .bytes) q), tt)
 value-of i p (change h (delete j)) x e = let z : _≡_ {A = ℕ} 0 1 = cc in absurd (omega arith)
 value-of i p (commit h) x e = let z : _≡_ {A = ℕ} 0 1 = cc in absurd (omega arith)
 value-of i p (abort h) x e = let z : _≡_ {A = ℕ} 0 1 = cc in absurd (omega arith)
 value-of i p (settled j v) x e =
     let q : record { at = p + 6; bytes = v } ≡ x = only-some (eqb (i .0) (j .0)) _ x e in
-    (sym (ap (λ (y : Value). y .at) q), sym (ap (λ (y : Value). y .bytes) q))
+    (sym (ap (λ (y : Value). y .at) q), sym (ap (λ (y : Value). y .bytes) q), tt)
+value-of i p (closed v) x e = let z : _≡_ {A = ℕ} 0 1 = cc in absurd (omega arith)
+value-of i p reset x e = let z : _≡_ {A = ℕ} 0 1 = cc in absurd (omega arith)
 
 -- the value that a place holds are bytes of the block
 pub record InBlock (b : List ℕ) (x : Value) : Type 0 where
@@ -76,9 +84,10 @@ frame-in-block : (ed : Edition) (b : List ℕ) (i : ObjectId) (p : ℕ) (f : Fra
     → InBlock b x
 frame-in-block ed b i p f x r e =
     let q : readFrame ed 0 p (drop p (take (length b) b)) ≡ whole f = ap (λ (l : List ℕ). readFrame ed 0 p (drop p l)) (take-length b) ∙ r in
-    let v : (x .at ≡ p + valueStart (headOf f)) × (x .bytes ≡ valueOf f) = value-of i p f x e in
+    let v : (x .at ≡ p + valueStart (headOf f)) × (x .bytes ≡ valueOf f) × NotClosed f = value-of i p f x e in
     let n : length (x .bytes) ≡ valueLen (headOf f) = ap length (v .1) ∙ sym (value-len f) in
-    let w : (p + valueStart (headOf f) + valueLen (headOf f) ≤ length b) × (valueLen (headOf f) ≤ valueMax) = value-inside ed 0 p p (length b) b f q in
+    let w : (p + valueStart (headOf f) + valueLen (headOf f) ≤ length b) × (valueLen (headOf f) ≤ valueMax) =
+    value-inside ed 0 p p (length b) b f q (v .2) in
     record {
       same = ap₂ (λ (m o : ℕ). take m (drop o b)) n (v .0) ∙ value-there ed 0 p p (length b) b f q ∙ sym (v .1);
       inside = omega (arith, w .0, v .0, n);
@@ -211,6 +220,17 @@ value-pending ed b places since at (change h (delete i)) t = omega arith
 value-pending ed b places since at (commit h) t = omega arith
 value-pending ed b places since at (abort h) t = omega arith
 value-pending ed b places since at (settled i v) t = let z : _≡_ {A = ℕ} 0 1 = cc in absurd (omega arith)
+value-pending ed b places since at (closed v) t = omega arith
+value-pending ed b places since at reset t = omega arith
+
+-- and it is no closed frame
+pub pending-open : (since : List ℕ) (at : ℕ) (f : Frame) → isPending since at f ≡ true → NotClosed f
+pending-open since at (change h c) t = tt
+pending-open since at (commit h) t = tt
+pending-open since at (abort h) t = tt
+pending-open since at (settled i v) t = tt
+pending-open since at (closed v) t = let z : _≡_ {A = ℕ} 0 1 = cc in absurd (omega arith)
+pending-open since at reset t = tt
 
 -- ---- the settled frames first, then the pending ones
 

@@ -14,7 +14,7 @@ use Rattle.frame.specs.Frame.{Frame, valueMax, encode, frameLen, MayStand, next
 use Rattle.frame.specs.Reader.{Read, blank, whole, torn, wrong, readFrame, clean, cut, bad, push, ends, scan}
 use Rattle.frame.specs.Sentences.{Whole}
 use Rattle.frame.specs.Code.{headOf, valueOf, readOf, headLen, valueLen, valueStart}
-use Rattle.frame.proofs.Encode.{length-encode}
+use Rattle.frame.proofs.Encode.{NotClosed, length-encode}
 use Rattle.frame.proofs.Exact.{whole-sound, read-blank}
 use Rattle.frame.proofs.Heads.{head-len, value-stands}
 use Rattle.frame.proofs.Scanning.{scan-nil, scan-skip, scan-read-blank, scan-read-whole}
@@ -130,5 +130,5 @@ module _ (ed : Edition) (next at o e : ℕ) (b : List ℕ) (f : Frame) (r : read
       ∙ ap (take n) (sym (drop-drop s at (take e b)))
       ∙ value-stands ed next o (drop at (take e b)) f r
 
-  pub value-inside : (at + valueStart (headOf f) + valueLen (headOf f) ≤ length b) × (valueLen (headOf f) ≤ valueMax)
-  value-inside = (omega (arith, frame-inside, value-in-frame), value-small ed next f (whole-stands ed next o (drop at (take e b)) f r))
+  pub value-inside : NotClosed f → (at + valueStart (headOf f) + valueLen (headOf f) ≤ length b) × (valueLen (headOf f) ≤ valueMax)
+  value-inside u = (omega (arith, frame-inside, value-in-frame), value-small ed next f u (whole-stands ed next o (drop at (take e b)) f r))

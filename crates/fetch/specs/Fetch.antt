@@ -10,7 +10,7 @@ use Rattle.frame.specs.declared.Edition.{Edition}
 use Rattle.frame.specs.declared.ObjectId.{ObjectId}
 use Rattle.frame.specs.declared.Head.{Head}
 use Rattle.frame.specs.declared.Head.the-variants as head
-use Rattle.frame.specs.Frame.{valueMax, Frame, change, commit, abort, settled, frameLen, putValueAt, settledValueAt}
+use Rattle.frame.specs.Frame.{valueMax, Frame, change, commit, abort, settled, closed, reset, frameLen, putValueAt, settledValueAt}
 use Rattle.frame.specs.Code.{headOf, frameOf, valueLen, valueStart}
 use Rattle.fetch.specs.declared.Found.{Found}
 use Rattle.fetch.specs.declared.Found.the-variants as found
@@ -35,6 +35,8 @@ valueFrom ed b places s (change h c) = s - frameLen ed (change h c) + valueStart
 valueFrom ed b places s (commit h) = s - frameLen ed (commit h) + valueStart (headOf (commit h))
 valueFrom ed b places s (abort h) = s - frameLen ed (abort h) + valueStart (headOf (abort h))
 valueFrom ed b places s (settled i v) = orStart (valueAt ed b i (getD places (i .0) 0))
+valueFrom ed b places s (closed v) = s - frameLen ed (closed v) + valueStart (headOf (closed v))
+valueFrom ed b places s reset = s - frameLen ed reset + valueStart (headOf reset)
 
 abbrev pub fetchOf : Edition → List ℕ → List ℕ → Load → Fetch
 fetchOf ed b places l =
@@ -76,6 +78,8 @@ valueHead i p (head.Delete h j) = found.Nothing
 valueHead i p (head.Commit h) = found.Nothing
 valueHead i p (head.Abort h) = found.Nothing
 valueHead i p (head.Settled j n) = onlyAt (eqb (i .0) (j .0)) (p + settledValueAt) n
+valueHead i p (head.Closed n) = found.Nothing
+valueHead i p head.Reset = found.Nothing
 
 -- a put or delete at or past its host's `since`, by the head
 unfoldable pub pendingHead : List ℕ → ℕ → Head → Bool
@@ -84,3 +88,5 @@ pendingHead since at (head.Delete h i) = leb (getD since (h .0) 0) at
 pendingHead since at (head.Commit h) = false
 pendingHead since at (head.Abort h) = false
 pendingHead since at (head.Settled i n) = false
+pendingHead since at (head.Closed n) = false
+pendingHead since at head.Reset = false

@@ -57,6 +57,8 @@ fn value_in(id: ObjectId, place: u16, head: Head) -> Found
             }
             return Found::Nothing;
         }
+        Head::Closed(_) => return Found::Nothing,
+        Head::Reset => return Found::Nothing,
     }
 }
 
@@ -115,6 +117,8 @@ fn is_pending(since: [u16; 4], at: usize, head: Head) -> bool
         Head::Commit(_) => false,
         Head::Abort(_) => false,
         Head::Settled(_, _) => false,
+        Head::Closed(_) => false,
+        Head::Reset => false,
     }
 }
 

@@ -19,5 +19,8 @@ frame-exact =
       delete-second = λ h i. refl;
       commit-second = λ h. refl;
       abort-second = λ h. refl;
+      reset-bytes = refl;
+      reset-second = refl;
+      closed-bytes = λ e v. refl;
       settled-second = λ i v. let e : frameLen edition.Second (settled i v) ≡ 11 + length v = omega arith in rw e;
     }

@@ -1,6 +1,7 @@
 -- The bytes of frames: how many, that they are bytes, and one frame more.
 use mathlib.Core.Path.{_≡_, refl, sym, ap, _∙_}
 use mathlib.Core.List.{List, [], _∷_, _++_, append-assoc, append-nil}
+use mathlib.Core.Logic.{inl, inr}
 use Prim.Native.Nat.{ℕ, _+_, _≤_, _<_}
 use native.Mathlib.Omega.{arith}
 use lib.ListN.{length, length-append}
@@ -10,9 +11,9 @@ use Rattle.crc.specs.Crc.{crc32Of}
 use Rattle.crc.proofs.Small.{crc32-small}
 use Rattle.frame.specs.declared.Edition.{Edition}
 use Rattle.frame.specs.declared.Edition.the-variants as edition
-use Rattle.frame.specs.Frame.{Frame, change, commit, abort, settled, put, delete, kindOf, body, check, checkLen, sealed, sealOf, finish}
-use Rattle.frame.specs.Frame.{editionNumber, editionBy, bufferLen}
-use Rattle.frame.specs.Frame.{front, encode, frameLen, encodeAll, total, maxFrame, MayStand, AllMayStand, OfHost, nextAfter, nextOf}
+use Rattle.frame.specs.Frame.{Frame, change, commit, abort, settled, closed, reset, put, delete, kindOf, body, check, checkLen, sealed}
+use Rattle.frame.specs.Frame.{sealOf, finish, editionNumber, editionBy, bufferLen}
+use Rattle.frame.specs.Frame.{front, encode, frameLen, encodeAll, total, maxFrame, MayStand, AllMayStand, Tears, nextAfter, nextOf}
 use Rattle.frame.specs.Sentences.{LengthShows}
 
 pub edition-back : (e : Edition) → editionBy (editionNumber e) ≡ e
@@ -42,6 +43,10 @@ frame-short e next (change h (delete i)) g = omega arith
 frame-short e next (commit h) g = omega arith
 frame-short e next (abort h) g = omega arith
 frame-short e next (settled i v) (hn, hi, (hv, hb)) = omega arith
+frame-short e next (closed v) (inl h, hb) = omega arith
+frame-short e next (closed v) (inr (inl h), hb) = omega arith
+frame-short e next (closed v) (inr (inr h), hb) = omega arith
+frame-short e next reset g = omega arith
 
 pub kind-small : (f : Frame) → kindOf f < 255
 kind-small (change h (put i v)) = omega arith
@@ -49,6 +54,8 @@ kind-small (change h (delete i)) = omega arith
 kind-small (commit h) = omega arith
 kind-small (abort h) = omega arith
 kind-small (settled i v) = omega arith
+kind-small (closed v) = omega arith
+kind-small reset = omega arith
 
 body-bytes : (e : Edition) (next : ℕ) (f : Frame) → MayStand e next f → Bytes (body f)
 body-bytes e next (change h (put i v)) (hh, hi, (hv, hb)) = (omega arith, (omega arith, (omega arith, hb)))
@@ -56,14 +63,27 @@ body-bytes e next (change h (delete i)) (hh, hi) = omega arith
 body-bytes e next (commit h) hh = omega arith
 body-bytes e next (abort h) hh = omega arith
 body-bytes e next (settled i v) (hn, hi, (hv, hb)) = (omega arith, (omega arith, hb))
+body-bytes e next (closed v) (h, hb) = hb
+body-bytes e next reset g = tt
 
--- frames of kinds 1 to 4 may stand anywhere
-pub stands-any : (e : Edition) (a b : ℕ) (f : Frame) → OfHost f → MayStand e a f → MayStand e b f
+-- frames that may be cut short may stand anywhere
+pub stands-any : (e : Edition) (a b : ℕ) (f : Frame) → Tears f → MayStand e a f → MayStand e b f
 stands-any e a b (change h (put i v)) u g = g
 stands-any e a b (change h (delete i)) u g = g
 stands-any e a b (commit h) u g = g
 stands-any e a b (abort h) u g = g
 stands-any e a b (settled i v) u g = absurd u
+stands-any e a b (closed v) u g = absurd u
+stands-any e a b reset u g = g
+
+pub tears-kind : (f : Frame) → Tears f → kindOf f ≡ 0 → ⊥
+tears-kind (change h (put i v)) u q = omega arith
+tears-kind (change h (delete i)) u q = omega arith
+tears-kind (commit h) u q = omega arith
+tears-kind (abort h) u q = omega arith
+tears-kind (settled i v) u q = absurd u
+tears-kind (closed v) u q = absurd u
+tears-kind reset u q = omega arith
 
 -- what may stand somewhere may stand first
 pub stands-zero : (e : Edition) (n : ℕ) (f : Frame) → MayStand e n f → MayStand e 0 f
@@ -71,6 +91,8 @@ stands-zero e n (change h c) g = stands-any e n 0 (change h c) tt g
 stands-zero e n (commit h) g = g
 stands-zero e n (abort h) g = g
 stands-zero e n (settled i v) (a, b, c) = (omega arith, b, c)
+stands-zero e n (closed v) g = g
+stands-zero e n reset g = g
 
 -- ---- one frame
 
@@ -137,19 +159,39 @@ next-append next (f ∷ fs) gs = next-append (nextAfter f) fs gs
 
 -- ---- from one edition to another
 
--- what is legal in one edition is so in any
-may-edition : (d e : Edition) (n : ℕ) (f : Frame) → MayStand d n f → MayStand e n f
-may-edition d e n (change h (put i v)) g = g
-may-edition d e n (change h (delete i)) g = g
-may-edition d e n (commit h) g = g
-may-edition d e n (abort h) g = g
-may-edition d e n (settled i v) g = g
+-- a closed frame's legal lengths are its edition's
+abbrev pub NotClosed : Frame → Type 0
+NotClosed (change h c) = Unit {0}
+NotClosed (commit h) = Unit {0}
+NotClosed (abort h) = Unit {0}
+NotClosed (settled i v) = Unit {0}
+NotClosed (closed v) = ⊥
+NotClosed reset = Unit {0}
 
--- and so every frame that may stand fits a buffer, whichever edition it is then written in
+abbrev pub NoneClosed : List Frame → Type 0
+NoneClosed [] = Unit {0}
+NoneClosed (f ∷ fs) = NotClosed f × NoneClosed fs
+
+-- any other that is legal in one edition is so in any
+pub may-edition : (d e : Edition) (n : ℕ) (f : Frame) → NotClosed f → MayStand d n f → MayStand e n f
+may-edition d e n (change h (put i v)) u g = g
+may-edition d e n (change h (delete i)) u g = g
+may-edition d e n (commit h) u g = g
+may-edition d e n (abort h) u g = g
+may-edition d e n (settled i v) u g = g
+may-edition d e n (closed v) u g = absurd u
+may-edition d e n reset u g = tt
+
+pub stands-edition : (d e : Edition) (n : ℕ) (fs : List Frame) → NoneClosed fs → AllMayStand d n fs → AllMayStand e n fs
+stands-edition d e n [] u g = tt
+stands-edition d e n (f ∷ fs) (u, us) (g, gs) = (may-edition d e n f u g, stands-edition d e (nextAfter f) fs us gs)
+
+-- every frame that may stand fits a buffer, whichever edition it is then written in
 pub frame-fits : (d e : Edition) (n : ℕ) (f : Frame) → MayStand d n f → frameLen e f ≤ bufferLen
-frame-fits d edition.First n f g = omega (arith, frame-short edition.First n f (may-edition d edition.First n f g))
-frame-fits d edition.Second n f g = frame-short edition.Second n f (may-edition d edition.Second n f g)
-
-pub stands-edition : (d e : Edition) (n : ℕ) (fs : List Frame) → AllMayStand d n fs → AllMayStand e n fs
-stands-edition d e n [] g = tt
-stands-edition d e n (f ∷ fs) (g, gs) = (may-edition d e n f g, stands-edition d e (nextAfter f) fs gs)
+frame-fits d e n (change h (put i v)) (hh, hi, (hv, hb)) = omega (arith, check-short e)
+frame-fits d e n (change h (delete i)) g = omega (arith, check-short e)
+frame-fits d e n (commit h) g = omega (arith, check-short e)
+frame-fits d e n (abort h) g = omega (arith, check-short e)
+frame-fits d e n (settled i v) (hn, hi, (hv, hb)) = omega (arith, check-short e)
+frame-fits d e n (closed v) g = omega (arith, check-short d, frame-short d n (closed v) g)
+frame-fits d e n reset g = omega (arith, check-short e)

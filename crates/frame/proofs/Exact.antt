@@ -1,6 +1,7 @@
--- The reader says blank, whole, torn or wrong exactly where document 01's sentences do. No law of this file goes by kinds or by editions.
+-- The reader says blank, whole, torn or wrong exactly where the papers' sentences do. No law of this file goes by kinds or by editions.
 use mathlib.Core.Path.{_≡_, refl, sym, ap, ap₂, subst, _∙_}
 use mathlib.Core.List.{List, [], _∷_, _++_}
+use mathlib.Core.Logic.{_⊎_, inl, inr, ⊎-elim}
 use mathlib.Core.Bool.{Bool, true, false, _&&_}
 use Prim.Native.Nat.{ℕ, zero, suc, _+_, _≤_, _<_}
 use native.Mathlib.Omega.{arith}
@@ -14,14 +15,15 @@ use Rattle.flash.proofs.Blank.{allFF-all, allFF-at, all-ff, is-ff}
 use Rattle.frame.specs.declared.Edition.{Edition}
 use Rattle.frame.specs.declared.Fault.{Fault}
 use Rattle.frame.specs.declared.Field.the-variants as field
-use Rattle.frame.specs.Frame.{Frame, encode, frameLen, MayStand, OfHost}
+use Rattle.frame.specs.Frame.{Frame, kindOf, encode, frameLen, maxFrame, settledLen, ClosedLength, MayStand, Tears}
 use Rattle.frame.specs.Reader.{Read, blank, whole, torn, wrong, fault, Slot, hasLength, layoutOf, Match, all, part, misfit, match, decode, ofMatch}
-use Rattle.frame.specs.Reader.{readLaid, readFrame}
-use Rattle.frame.specs.Sentences.{Whole, Torn, Blank, Wrong}
-use Rattle.frame.proofs.Encode.{frame-small, length-encode}
+use Rattle.frame.specs.Reader.{beingClosed, readLaid, readFrame}
+use Rattle.frame.specs.Sentences.{Whole, CutShort, BeingClosed, Torn, cut-short, being-closed, Blank, Wrong}
+use Rattle.frame.proofs.Encode.{frame-small, length-encode, length-shows, tears-kind}
 use Rattle.frame.proofs.Fit.{Fit, match-all, Partly, match-some, match-seen, Stopped, Blanks, Stuck, match-stuck}
-use Rattle.frame.proofs.Own.{own, unseen, has-length, decode-own}
+use Rattle.frame.proofs.Own.{own, unseen, SomeLength, length-of, length-inv, has-length, closed-least, decode-own}
 use Rattle.frame.proofs.Layouts.{layoutAt, slotsAt, length-slots, closed-slots, begins-length, begins-kind, begins-fit, Begun, complete}
+use Rattle.frame.proofs.BeingClosed.{Clearing, being-inv, being-of, not-kind, not-whole, being-sound, being-clears}
 
 -- ---- the steps of the reader
 
@@ -36,39 +38,49 @@ read-blank e next at m = read-ff e next at (replicate m 255) (allFF-all m)
 abbrev pub lengthFits : Edition → ℕ → List ℕ → Bool
 lengthFits e next t = leb (getD t 0 0) (length t) && hasLength e next (getD t 0 0)
 
-pub read-laid : (e : Edition) (next at : ℕ) (t : List ℕ) → allFF t ≡ false → lengthFits e next t ≡ true
+pub read-laid : (e : Edition) (next at : ℕ) (t : List ℕ) → allFF t ≡ false → lengthFits e next t ≡ true → beingClosed e (getD t 0 0) t ≡ false
     → readFrame e next at t ≡ readLaid e next at (getD t 0 0) (getD t 2 0) t
 unfolding readFrame
-read-laid e next at t p q = rw (p, q, readFrame)
+read-laid e next at t p q c = rw (p, q, c, readFrame)
+
+pub read-being : (e : Edition) (next at : ℕ) (t : List ℕ) → allFF t ≡ false → lengthFits e next t ≡ true → beingClosed e (getD t 0 0) t ≡ true
+    → readFrame e next at t ≡ torn (getD t 0 0)
+unfolding readFrame
+read-being e next at t p q c = rw (p, q, c, readFrame)
 
 pub read-short : (e : Edition) (next at : ℕ) (t : List ℕ) → allFF t ≡ false → lengthFits e next t ≡ false
     → readFrame e next at t ≡ wrong (fault field.Length at)
 unfolding readFrame
 read-short e next at t p q = rw (p, q, readFrame)
 
--- which of the three it takes
+-- which of the four it takes
 pub on-read : {P : Type 0} (e : Edition) (next at : ℕ) (t : List ℕ) (x : Read) → readFrame e next at t ≡ x → (allFF t ≡ true → blank ≡ x → P)
     → (allFF t ≡ false → lengthFits e next t ≡ false → wrong (fault field.Length at) ≡ x → P)
+    → (getD t 0 0 ≤ length t → hasLength e next (getD t 0 0) ≡ true → beingClosed e (getD t 0 0) t ≡ true → torn (getD t 0 0) ≡ x → P)
     → (allFF t ≡ false → getD t 0 0 ≤ length t → hasLength e next (getD t 0 0) ≡ true → readLaid e next at (getD t 0 0) (getD t 2 0) t ≡ x → P) → P
-on-read e next at t x q f g h =
+on-read e next at t x q f g k h =
     let n : ℕ = getD t 0 0 in
     on-test (allFF t)
     (λ a. f a (sym (read-ff e next at t a) ∙ q))
     (λ a. on-test (lengthFits e next t)
-    (λ b. h a (leb-true n (length t) (and-left (leb n (length t)) (hasLength e next n) b)) (and-right (leb n (length t)) (hasLength e next n) b)
-    (sym (read-laid e next at t a b) ∙ q))
+    (λ b.
+    let l : n ≤ length t = leb-true n (length t) (and-left (leb n (length t)) (hasLength e next n) b) in
+    let m : hasLength e next n ≡ true = and-right (leb n (length t)) (hasLength e next n) b in
+    on-test (beingClosed e n t)
+    (λ c. k l m c (sym (read-being e next at t a b c) ∙ q))
+    (λ c. h a l m (sym (read-laid e next at t a b c) ∙ q)))
     (λ b. g a b (sym (read-short e next at t a b) ∙ q)))
 
 -- ---- bytes that begin a legal frame
 
 module _ (e : Edition) (next at : ℕ) (t : List ℕ) (j : ℕ) (f : Frame) (g : MayStand e next f) (q : take j t ≡ take j (encode e f)) (h : 1 ≤ j)
     (l : frameLen e f ≤ length t) where
-  pub begins-laid : readFrame e next at t ≡ readLaid e next at (getD t 0 0) (getD t 2 0) t
-  begins-laid =
+  pub begins-laid : beingClosed e (getD t 0 0) t ≡ false → readFrame e next at t ≡ readLaid e next at (getD t 0 0) (getD t 2 0) t
+  begins-laid c =
       let n : getD t 0 0 ≡ frameLen e f = begins-length e next t j f g q h in
       read-laid e next at t (allFF-at t 0 (omega arith) (omega (arith, frame-small e next f g)))
       (and-both (leb (getD t 0 0) (length t)) (hasLength e next (getD t 0 0)) (le-leb (getD t 0 0) (length t) (omega arith))
-      (ap (hasLength e next) n ∙ has-length e next f g))
+      (ap (hasLength e next) n ∙ has-length e next f g)) c
 
   pub begins-slots : length (slotsAt e next t) ≡ frameLen e f
   begins-slots =
@@ -90,7 +102,7 @@ read-back e next at f rest g =
     let fit : Fit ps (encode e f) =
     subst (Fit ps) q0
     (subst (λ (x : List Slot). Fit x (take n t)) (take-all n ps (omega arith)) (begins-fit e next t n f g q (omega arith))) in
-    begins-laid e next at t n f g q (omega arith) l
+    begins-laid e next at t n f g q (omega arith) l (not-whole e f rest (getD t 0 0) (begins-length e next t n f g q (omega arith)))
     ∙ ap₂ (λ (x : Frame) (m : Match). ofMatch at (getD t 0 0) (layoutAt e next t .tears) x m)
     (ap₂ (λ (k m : ℕ). decode e k m t) (begins-kind e next t n f g q (omega arith)) (begins-length e next t n f g q (omega arith)) ∙ decode-own e f rest)
     (match-all ps (encode e f) rest fit)
@@ -109,6 +121,7 @@ whole-decoded e next at t f q =
     on-read e next at t (whole f) q
     (λ a r. let z : _≡_ {A = ℕ} 0 1 = cc in absurd (omega arith))
     (λ a b r. let z : _≡_ {A = ℕ} 0 1 = cc in absurd (omega arith))
+    (λ l b c r. let z : _≡_ {A = ℕ} 0 1 = cc in absurd (omega arith))
     (λ a l b r. of-all at (getD t 0 0) (layoutAt e next t .tears) (decode e (getD t 2 0) (getD t 0 0) t) f (match (slotsAt e next t) t) r .1)
 
 pub whole-sound : (e : Edition) (next at : ℕ) (t : List ℕ) (f : Frame) → readFrame e next at t ≡ whole f → Whole e next t f
@@ -118,6 +131,7 @@ whole-sound e next at t f q =
     on-read e next at t (whole f) q
     (λ a r. let z : _≡_ {A = ℕ} 0 1 = cc in absurd (omega arith))
     (λ a b r. let z : _≡_ {A = ℕ} 0 1 = cc in absurd (omega arith))
+    (λ l b c r. let z : _≡_ {A = ℕ} 0 1 = cc in absurd (omega arith))
     (λ a l b r.
     let m : match ps t ≡ all = of-all at n (layoutAt e next t .tears) (decode e (getD t 2 0) n t) f (match ps t) r .0 in
     let size : length ps ≡ n = length-slots e next t b in
@@ -135,6 +149,21 @@ whole-sound e next at t f q =
 
 -- ---- torn
 
+-- how long a torn frame is
+pub closed-most : (e : Edition) (n : ℕ) → ClosedLength e n → n ≤ maxFrame e
+closed-most e n (inl h) = omega arith
+closed-most e n (inr (inl h)) = omega arith
+closed-most e n (inr (inr h)) = h .1
+
+being-fits : (e : Edition) (t : List ℕ) (n : ℕ) → BeingClosed e t n → n ≤ length t
+being-fits e t n y =
+    let r : List ℕ = replicate (suc (y .left)) 255 in
+    omega (arith, ap length (y .bytes), length-append (y .body) r, length-replicate {A = ℕ} (suc (y .left)) 255, y .size)
+
+pub torn-fits : (e : Edition) (next : ℕ) (t : List ℕ) (n : ℕ) → Torn e next t n → (5 ≤ n) × (n ≤ length t)
+torn-fits e next t n (cut-short y) = (omega (arith, y .long), omega (arith, y .long, y .would-fit))
+torn-fits e next t n (being-closed y) = (closed-least e n (y .has-length), being-fits e t n y)
+
 pub length-cut : (k : ℕ) (x : List ℕ) (m : ℕ) → k ≤ length x → length (take k x ++ replicate m 255) ≡ k + m
 length-cut k x m h =
     length-append (take k x) (replicate m 255) ∙ ap₂ (λ (a b : ℕ). a + b) (length-take-le k x h) (length-replicate {A = ℕ} m 255)
@@ -146,7 +175,7 @@ third (a ∷ []) m h l = getD-replicate m 1 255 0 (omega arith)
 third (a ∷ b ∷ []) m h l = getD-replicate m 0 255 0 (omega arith)
 third (a ∷ b ∷ c ∷ x) m h l = absurd (omega arith)
 
-pub read-torn : (e : Edition) (next at : ℕ) (f : Frame) (k m : ℕ) → OfHost f → MayStand e next f → 1 ≤ k → k < frameLen e f → frameLen e f ≤ k + m
+pub read-torn : (e : Edition) (next at : ℕ) (f : Frame) (k m : ℕ) → Tears f → MayStand e next f → 1 ≤ k → k < frameLen e f → frameLen e f ≤ k + m
     → readFrame e next at (take k (encode e f) ++ replicate m 255) ≡ torn (frameLen e f)
 read-torn e next at f k m u g h lo hi =
     let x : List ℕ = take k (encode e f) in
@@ -159,22 +188,42 @@ read-torn e next at f k m u g h lo hi =
     let size : length ps ≡ frameLen e f = begins-slots e next at t k f g q h (omega arith) in
     let fit : Fit (take k ps) x = subst (Fit (take k ps)) q (begins-fit e next t k f g q h) in
     let p : Partly (match ps t) = match-some k ps x m fit (closed-slots e next t) (omega arith) (omega arith) in
+    let kind : (getD t 2 0 ≡ kindOf f) ⊎ (getD t 2 0 ≡ 255) =
+    on-test (leb 3 k)
+    (λ b. inl (begins-kind e next t k f g q (leb-true 3 k b)))
+    (λ b. inr (third x m (omega (arith, leb-false 3 k b)) (omega arith))) in
     let tears : layoutAt e next t .tears ≡ true =
     ap (λ (z : ℕ). layoutOf e next z (getD t 2 0) .tears) n
-    ∙ on-test (leb 3 k)
-    (λ b. ap (λ (z : ℕ). layoutOf e next (frameLen e f) z .tears) (begins-kind e next t k f g q (leb-true 3 k b)) ∙ own e next f g .tears u)
-    (λ b. ap (λ (z : ℕ). layoutOf e next (frameLen e f) z .tears) (third x m (omega (arith, leb-false 3 k b)) (omega arith)) ∙ unseen e next f u g) in
+    ∙ ⊎-elim
+    (λ b. ap (λ (z : ℕ). layoutOf e next (frameLen e f) z .tears) b ∙ own e next f g .tears u)
+    (λ b. ap (λ (z : ℕ). layoutOf e next (frameLen e f) z .tears) b ∙ unseen e next f u g) kind in
     begins-laid e next at t k f g q h (omega arith)
+    (not-kind e (getD t 0 0) t (λ z. ⊎-elim (λ b. tears-kind f u (sym b ∙ z)) (λ b. omega arith) kind))
     ∙ ap₂ (λ (b : Bool) (y : Match). ofMatch at (getD t 0 0) b (decode e (getD t 2 0) (getD t 0 0) t) y) tears (p .is)
     ∙ ap torn n
 
-pub torn-reads : (e : Edition) (next at : ℕ) (t : List ℕ) (n : ℕ) → Torn e next t n → readFrame e next at t ≡ torn n
-torn-reads e next at t n y =
+cut-reads : (e : Edition) (next at : ℕ) (t : List ℕ) (n : ℕ) → CutShort e next t n → readFrame e next at t ≡ torn n
+cut-reads e next at t n y =
     let l : length t ≡ y .k + y .left =
     ap length (y .bytes) ∙ length-cut (y .k) (encode e (y .frame)) (y .left) (omega (arith, length-encode e (y .frame), y .not-all)) in
     ap (readFrame e next at) (y .bytes)
-    ∙ read-torn e next at (y .frame) (y .k) (y .left) (y .of-host) (y .legal) (y .some) (y .not-all) (omega (arith, y .would-fit))
+    ∙ read-torn e next at (y .frame) (y .k) (y .left) (y .tears) (y .legal) (y .some) (y .not-all) (omega (arith, y .would-fit))
     ∙ ap torn (sym (y .long))
+
+being-reads : (e : Edition) (next at : ℕ) (t : List ℕ) (n : ℕ) → BeingClosed e t n → readFrame e next at t ≡ torn n
+being-reads e next at t n y =
+    let q : getD t 0 0 ≡ n = ap (λ (x : List ℕ). getD x 0 0) (y .bytes) in
+    let l : n ≤ length t = being-fits e t n y in
+    let five : 5 ≤ n = closed-least e n (y .has-length) in
+    read-being e next at t (allFF-at t 0 (omega arith) (omega (arith, closed-most e n (y .has-length), length-shows e)))
+    (and-both (leb (getD t 0 0) (length t)) (hasLength e next (getD t 0 0)) (le-leb (getD t 0 0) (length t) (omega arith))
+    (ap (hasLength e next) q ∙ length-of e next n (inl (y .has-length))))
+    (ap (λ (z : ℕ). beingClosed e z t) q ∙ being-of e n t (being-clears e n t y))
+    ∙ ap torn q
+
+pub torn-reads : (e : Edition) (next at : ℕ) (t : List ℕ) (n : ℕ) → Torn e next t n → readFrame e next at t ≡ torn n
+torn-reads e next at t n (cut-short y) = cut-reads e next at t n y
+torn-reads e next at t n (being-closed y) = being-reads e next at t n y
 
 record OfTorn (n : ℕ) (b : Bool) (m : Match) (x : ℕ) : Type 0 where
   tears : b ≡ true
@@ -198,6 +247,10 @@ torn-sound e next at t x q =
     on-read e next at t (torn x) q
     (λ a r. let z : _≡_ {A = ℕ} 0 1 = cc in absurd (omega arith))
     (λ a b r. let z : _≡_ {A = ℕ} 0 1 = cc in absurd (omega arith))
+    (λ l b c r.
+    let s : n ≡ x = cc in
+    let y : Clearing e n t = being-inv e n t c in
+    subst (Torn e next t) s (being-closed (being-sound e n t refl l (closable (y .other) (length-inv e next n b)) y)))
     (λ a l b r.
     let o : OfTorn n (layoutAt e next t .tears) (match ps t) x =
     of-torn at n (layoutAt e next t .tears) (decode e (getD t 2 0) n t) (match ps t) x r in
@@ -208,19 +261,23 @@ torn-sound e next at t x q =
     let size : length ps ≡ n = length-slots e next t b in
     let in-ps : i < length ps = stuck-before ps t p y in
     let z : Begun e next t i = complete e next t i b (y .fit) (omega arith) in
-    record {
+    cut-short (record {
       frame = z .frame;
       k = i;
       left = w .0;
-      of-host = z .tears (o .tears);
+      tears = z .tears (o .tears);
       legal = z .stands;
       some = some i (w .0) a (w .1);
       not-all = omega (arith, z .size);
       would-fit = omega (arith, z .size);
       bytes = w .1 ∙ ap (λ (u : List ℕ). u ++ replicate (w .0) 255) (sym (z .bytes));
       long = sym (o .long) ∙ sym (z .size);
-    })
+    }))
   where
+    closable : {n : ℕ} → (n ≡ settledLen e 0 → ⊥) → SomeLength e next n → ClosedLength e n
+    closable h (inl a) = a
+    closable h (inr a) = absurd (h (a .1))
+
     some : (i m : ℕ) → allFF t ≡ false → t ≡ take i t ++ replicate m 255 → 1 ≤ i
     some zero m a r = clash (allFF t) (ap allFF r ∙ allFF-all m) a
     some (suc i) m a r = omega arith
@@ -238,6 +295,7 @@ blank-sound e next at t q =
     on-read e next at t blank q
     (λ a r. all-ff t a)
     (λ a b r. let z : _≡_ {A = ℕ} 0 1 = cc in absurd (omega arith))
+    (λ l b c r. let z : _≡_ {A = ℕ} 0 1 = cc in absurd (omega arith))
     (λ a l b r. absurd (of-blank at (getD t 0 0) (layoutAt e next t .tears) (decode e (getD t 2 0) (getD t 0 0) t) (match (slotsAt e next t) t) r))
 
 pub blank-reads : (e : Edition) (next at : ℕ) (t : List ℕ) → Blank t → readFrame e next at t ≡ blank

@@ -124,6 +124,7 @@ wrong-at-sound e next at t x by q =
     (λ a b r.
     let s : fault field.Length (at + 0) ≡ x = ap (fault field.Length) (add-zero at) ∙ cc in
     subst (WrongAt e next at t) s (length-bad e next at t by w b))
+    (λ l b c r. let z : _≡_ {A = ℕ} 0 1 = cc in absurd (omega arith))
     (λ a l b r.
     let m : Match = match (slotsAt e next t) t in
     let y : Stops at m x = of-wrong at (getD t 0 0) (layoutAt e next t .tears) (decode e (getD t 2 0) (getD t 0 0) t) m x r in
@@ -154,6 +155,7 @@ fault-placed e next at t x q =
     (λ a b r.
     let s : fault field.Length at ≡ x = cc in
     subst (PlacedIn at (length t)) s (omega arith, omega (arith, some t a)))
+    (λ l b c r. let z : _≡_ {A = ℕ} 0 1 = cc in absurd (omega arith))
     (λ a l b r.
     let m : Match = match (slotsAt e next t) t in
     let y : Stops at m x = of-wrong at (getD t 0 0) (layoutAt e next t .tears) (decode e (getD t 2 0) (getD t 0 0) t) m x r in

@@ -2,7 +2,7 @@
 use mathlib.Core.Path.{_≡_, refl, sym, ap, ap₂, subst, _∙_}
 use mathlib.Core.List.{List, [], _∷_, _++_}
 use mathlib.Core.Logic.{inl, inr}
-use mathlib.Core.Bool.{true, false}
+use mathlib.Core.Bool.{true, false, _||_}
 use Prim.Native.Nat.{ℕ, _+_, _-_, _≤_, _<_}
 use native.Mathlib.Omega.{arith}
 use lib.Dec.{eqb, leb}
@@ -13,7 +13,7 @@ use Rattle.flash.proofs.Cases.{on-test}
 use Rattle.frame.specs.declared.Edition.{Edition}
 use Rattle.frame.specs.declared.Edition.the-variants as edition
 use Rattle.frame.specs.declared.Field.the-variants as field
-use Rattle.frame.specs.Frame.{Frame, change, commit, abort, settled, put, delete, kindOf, body, checkLen, sealOf, bodyAt, encode, frameLen}
+use Rattle.frame.specs.Frame.{Frame, change, commit, abort, settled, closed, reset, put, delete, kindOf, body, checkLen, sealOf, bodyAt, encode, frameLen}
 use Rattle.frame.specs.Sentences.{Span, span, Among, bodyFields, sealFields, fieldsOf, Begins, FirstBad}
 use Rattle.frame.proofs.Layouts.{begins-length, begins-kind}
 
@@ -59,17 +59,22 @@ ordered-body e (change h (delete i)) = (omega arith, omega arith, (omega arith, 
 ordered-body e (commit h) = (omega arith, omega arith, ordered-seal e 5 5 (omega arith))
 ordered-body e (abort h) = (omega arith, omega arith, ordered-seal e 5 5 (omega arith))
 ordered-body e (settled i v) = (omega arith, omega arith, ordered-seal e (bodyAt + length (body (settled i v))) 6 (omega arith))
+ordered-body e (closed v) = ordered-seal edition.First (bodyAt + length v) 4 (omega arith)
+ordered-body e reset = ordered-seal e 4 4 (omega arith)
 
 -- the fields by the number of the kind
 abbrev bodyBy : ℕ → List Span
 bodyBy k =
     elim (eqb k 5) [
       | true ↦ span field.Id 4 6 ∷ []
-      | false ↦ elim (leb k 2) [ true ↦ span field.Host 4 5 ∷ span field.Id 5 7 ∷ [] | false ↦ span field.Host 4 5 ∷ [] ]
+      | false ↦ elim (eqb k 0 || eqb k 7) [
+        | true ↦ []
+        | false ↦ elim (leb k 2) [ true ↦ span field.Host 4 5 ∷ span field.Id 5 7 ∷ [] | false ↦ span field.Host 4 5 ∷ [] ]
+      ]
     ]
 
 abbrev sealBy : Edition → ℕ → Edition
-sealBy e k = e
+sealBy e k = elim (eqb k 0) [ true ↦ edition.First | false ↦ e ]
 
 body-by : (f : Frame) → bodyFields f ≡ bodyBy (kindOf f)
 body-by (change h (put i v)) = refl
@@ -77,12 +82,17 @@ body-by (change h (delete i)) = refl
 body-by (commit h) = refl
 body-by (abort h) = refl
 body-by (settled i v) = refl
+body-by (closed v) = refl
+body-by reset = refl
 
 seal-by : (e : Edition) (f : Frame) → sealOf e f ≡ sealBy e (kindOf f)
-seal-by e (change h c) = refl
+seal-by e (change h (put i v)) = refl
+seal-by e (change h (delete i)) = refl
 seal-by e (commit h) = refl
 seal-by e (abort h) = refl
 seal-by e (settled i v) = refl
+seal-by e (closed v) = refl
+seal-by e reset = refl
 
 -- ---- the fields of a frame
 

@@ -14,7 +14,7 @@ use Rattle.flash.proofs.Cases.{on-test}
 use Rattle.frame.specs.declared.Edition.{Edition}
 use Rattle.frame.specs.declared.Edition.the-variants as edition
 use Rattle.frame.specs.declared.Field.the-variants as field
-use Rattle.frame.specs.Frame.{Frame, kindOf, body, check, checkLen, finish, sealOf, overhead, frameLen, front, encode, bodyAt, MayStand, OfHost}
+use Rattle.frame.specs.Frame.{Frame, kindOf, body, check, checkLen, finish, sealOf, overhead, frameLen, front, encode, bodyAt, MayStand, Tears}
 use Rattle.frame.specs.Reader.{Slot, slot, Layout, hasLength, layoutOf, frontSlots, checkSlots, finishSlot, sealSlots, laid}
 use Rattle.frame.specs.Sentences.{Span, span, Among, bodyFields, sealFields, fieldsOf}
 use Rattle.frame.proofs.Encode.{check-length, frame-small, kind-small}
@@ -146,7 +146,7 @@ record Fronted (e : Edition) (next n : ℕ) (l : Layout) (xs : List ℕ) : Type 
   size : frameLen e frame ≡ n
   is-front : front e frame ≡ xs
   seal : sealOf e frame ≡ l .seal
-  tears : l .tears ≡ true → OfHost frame
+  tears : l .tears ≡ true → Tears frame
   covered : Covered (bodyFields frame) 4 (l .body)
 
 four : {a b k c a′ b′ k′ c′ : ℕ} {x y : List ℕ} → a ≡ a′ → b ≡ b′ → k ≡ k′ → c ≡ c′ → x ≡ y
@@ -239,7 +239,7 @@ pub record Begun (e : Edition) (next : ℕ) (t : List ℕ) (i : ℕ) : Type 0 wh
   pub stands : MayStand e next frame
   pub size : frameLen e frame ≡ getD t 0 0
   pub bytes : take i (encode e frame) ≡ take i t
-  pub tears : layoutAt e next t .tears ≡ true → OfHost frame
+  pub tears : layoutAt e next t .tears ≡ true → Tears frame
   pub covered : Covered (fieldsOf e frame) 0 (slotsAt e next t)
 
 module _ (e : Edition) (next : ℕ) (t : List ℕ) (i : ℕ) (q : hasLength e next (getD t 0 0) ≡ true) (r : Fit (take i (slotsAt e next t)) (take i t))

@@ -7,7 +7,7 @@ use native.Mathlib.Nat.{add-zero}
 use lib.ListN.{length, take, drop, replicate}
 use lib.Seq.{drop-at}
 use Rattle.frame.specs.declared.Edition.{Edition}
-use Rattle.frame.specs.Frame.{Frame, encode, frameLen, encodeAll, total, MayStand, AllMayStand, OfHost, nextAfter, nextOf}
+use Rattle.frame.specs.Frame.{Frame, encode, frameLen, encodeAll, total, MayStand, AllMayStand, Tears, nextAfter, nextOf}
 use Rattle.frame.specs.Reader.{blank, whole, torn, wrong, readFrame, Tail, clean, cut, bad, Scan, push, ends, scan}
 use Rattle.frame.specs.declared.Fault.{Fault}
 use Rattle.frame.proofs.Encode.{length-encode}
@@ -88,7 +88,7 @@ pub scan-blank : (ed : Edition) (next at m : ℕ) → scan ed next at 0 (replica
 scan-blank ed next at zero = scan-nil ed next at 0
 scan-blank ed next at (suc m) = scan-read-blank ed next at 255 (replicate m 255) (read-blank ed next at (suc m))
 
-pub scan-cut : (ed : Edition) (next at : ℕ) (f : Frame) (k m : ℕ) → OfHost f → MayStand ed next f → 1 ≤ k → k < frameLen ed f → frameLen ed f ≤ k + m
+pub scan-cut : (ed : Edition) (next at : ℕ) (f : Frame) (k m : ℕ) → Tears f → MayStand ed next f → 1 ≤ k → k < frameLen ed f → frameLen ed f ≤ k + m
     → scan ed next at 0 (take k (encode ed f) ++ replicate m 255) ≡ ends (cut (frameLen ed f))
 scan-cut ed next at f zero m u g p lo hi = absurd (omega arith)
 scan-cut ed next at f (suc j) m u g p lo hi =

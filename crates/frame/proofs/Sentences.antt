@@ -1,7 +1,7 @@
 -- The reader is the papers': what it says, where it says wrong, and what that is of settled frames, in each edition.
 use mathlib.Core.Path.{_≡_, sym, ap, ap₂, subst, _∙_}
 use mathlib.Core.List.{List, [], _∷_, _++_}
-use mathlib.Core.Logic.{_⊎_, inl, inr}
+use mathlib.Core.Logic.{_⊎_, inl, inr, ⊎-elim}
 use mathlib.Core.Bool.{Bool, false}
 use Prim.Native.Nat.{ℕ, _+_, _/_, _%_, _≤_, _<_}
 use native.Mathlib.Omega.{arith}
@@ -17,12 +17,13 @@ use Rattle.frame.specs.declared.Field.the-variants as field
 use Rattle.frame.specs.declared.ObjectId.{ObjectId}
 use Rattle.frame.specs.Frame.{Frame, change, settled, put, hostOf, idOf, idMax, bodyAt, encode, frameLen, LegalValue, MayStand}
 use Rattle.frame.specs.Reader.{wrong, Slot, slot, Layout, layoutOf, frontSlots, sealSlots, hasLength, Match, misfit, match, decode, faultAt}
-use Rattle.frame.specs.Reader.{ofMatch, readFrame}
+use Rattle.frame.specs.Reader.{ofMatch, beingClosed, readFrame}
 use Rattle.frame.specs.Sentences.{ReaderExact, SettledWrong, lastFault}
 use Rattle.frame.proofs.Encode.{frame-small, length-encode}
 use Rattle.frame.proofs.Fit.{Fit, Partly, match-go, match-misfit, match-some}
 use Rattle.frame.proofs.Own.{has-length, settled-tears, last-length, last-layout}
 use Rattle.frame.proofs.Layouts.{layoutAt, slotsAt, closed-slots, begins-length, begins-kind, begins-fit}
+use Rattle.frame.proofs.BeingClosed.{not-kind, not-settled}
 use Rattle.frame.proofs.Exact.{read-laid, read-short, begins-laid, begins-slots, length-cut}
 use Rattle.frame.proofs.Exact.{blank-sound, blank-reads, whole-sound, whole-reads, torn-sound, torn-reads, wrong-sound, wrong-reads}
 use Rattle.frame.proofs.Faults.{wrong-at-sound, wrong-at-reads}
@@ -69,7 +70,7 @@ after-last e at i (b ∷ v) rest hi (hv, (h, hb)) =
     read-laid e 256 at t (allFF-no (n % 256) (drop 1 t) (omega arith))
     (and-both (leb (n % 256) (length t)) (hasLength e 256 (n % 256))
     (le-leb (n % 256) (length t) (omega (arith, length-append (encode e f) rest, length-encode e f)))
-    (ap (hasLength e 256) (sym same) ∙ has-length e 256 g (omega arith, omega arith, (omega arith, hb))))
+    (ap (hasLength e 256) (sym same) ∙ has-length e 256 g (omega arith, omega arith, (omega arith, hb)))) (not-kind e (n % 256) t (omega arith))
     ∙ ap (ofMatch at (n % 256) (l .tears) (decode e 5 (n % 256) t))
     (kind-bad l (sealSlots (l .seal) m (take m t)) (n % 256) (n / 256) (drop 3 t) (omega arith) (last-layout e 256 (n % 256) (omega arith) (omega arith)))
 
@@ -91,10 +92,14 @@ cut-off e next at i v k m g s h lo hi =
     let fit : Fit (take k ps) x = subst (Fit (take k ps)) q (begins-fit e next t k f g q h) in
     let p : Partly (match ps t) = match-some k ps x m fit (closed-slots e next t) (omega arith) (omega arith) in
     let known : (getD t 2 0 ≡ 5) ⊎ (v ≡ []) = seen s (λ b. begins-kind e next t k f g q b) in
+    let open-still : beingClosed e (getD t 0 0) t ≡ false =
+    ⊎-elim (λ b. not-kind e (getD t 0 0) t (omega arith))
+    (λ b. not-settled e (getD t 0 0) t (n ∙ ap (λ (z : List ℕ). frameLen e (settled i z)) b ∙ omega arith))
+    known in
     let tears : layoutAt e next t .tears ≡ false =
     ap (λ (z : ℕ). layoutOf e next z (getD t 2 0) .tears) n ∙ settled-tears e next i v (getD t 2 0) g known in (
       faultAt at (p .at),
-      begins-laid e next at t k f g q h (omega arith)
+      begins-laid e next at t k f g q h (omega arith) open-still
           ∙ ap₂ (λ (b : Bool) (y : Match). ofMatch at (getD t 0 0) b (decode e (getD t 2 0) (getD t 0 0) t) y) tears (p .is),
     )
   where

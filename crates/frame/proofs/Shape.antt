@@ -12,12 +12,14 @@ use Rattle.flash.specs.Bytes.{Bytes}
 use Rattle.flash.proofs.Cases.{on-test, clash, or-right}
 use Rattle.frame.specs.declared.Edition.{Edition}
 use Rattle.frame.specs.declared.Field.the-variants as field
-use Rattle.frame.specs.Frame.{Frame, change, commit, abort, settled, put, delete, hostOf, idOf, idMax, valueMax, kindOf, body, sealOf}
-use Rattle.frame.specs.Frame.{overhead, putLen, deleteLen, endLen, settledLen, MayStand, OfHost}
-use Rattle.frame.specs.Reader.{Slot, valueSlots, Layout, lastKind, changeLayout, endLayout, settledLayout, hasLength, onlySettled, layoutOf}
+use Rattle.frame.specs.Frame.{Frame, change, commit, abort, settled, closed, reset, put, delete, hostOf, idOf, idMax, valueMax, kindOf, body, sealOf}
+use Rattle.frame.specs.Frame.{overhead, putLen, deleteLen, endLen, settledLen, closedLen, resetLen, ClosedLength, MayStand, Tears}
+use Rattle.frame.specs.Reader.{Slot, valueSlots, Layout, lastKind, changeLayout, endLayout, settledLayout, closedLayout, resetLayout, hasLength}
+use Rattle.frame.specs.Reader.{onlySettled, layoutOf}
 use Rattle.frame.specs.Sentences.{Span, span, Among, bodyFields}
 use Rattle.frame.proofs.Fit.{Fit, Wide}
-use Rattle.frame.proofs.Own.{HostLength, last-kind, only-yes, only-size, layout-settled, layout-end, layout-change, length-inv}
+use Rattle.frame.proofs.Own.{last-kind, closed-least, only-yes, only-size, layout-settled, layout-closed, layout-reset, layout-end, layout-change}
+use Rattle.frame.proofs.Own.{length-inv}
 
 -- ---- slots and fields
 
@@ -38,7 +40,7 @@ pub record Made (e : Edition) (next : ℕ) (l : Layout) (k : ℕ) (b : List ℕ)
   pub kind : kindOf frame ≡ k
   pub is-body : body frame ≡ b
   pub seal : sealOf e frame ≡ l .seal
-  pub tears : l .tears ≡ true → OfHost frame
+  pub tears : l .tears ≡ true → Tears frame
   pub covered : Covered (bodyFields frame) 4 (l .body)
 
 -- every kind and body that fit the layout are, and it has n bytes
@@ -177,6 +179,36 @@ module _ (e : Edition) (next n : ℕ) where
   make-settled k [] lo hi k1 k2 r = absurd r
   make-settled k (i ∷ []) lo hi k1 k2 r = absurd (r .2)
 
+  make-closed : (k : ℕ) (b : List ℕ) → ClosedLength e n → 0 ≤ k → k ≤ 0 → Fit (closedLayout n .body) b → Made e next (closedLayout n) k b
+  make-closed k b h k1 k2 r =
+      let y : (length b ≡ n - closedLen 0) × Bytes b = value-bytes 4 (n - closedLen 0) b r in
+      let q : n ≡ closedLen (length b) = omega (arith, y .0, closed-least e n h) in
+      record {
+        frame = closed b;
+        stands = (subst (ClosedLength e) q h, y .1);
+        kind = omega arith;
+        is-body = refl;
+        seal = refl;
+        tears = λ u. clash true refl (sym u);
+        covered = cover-value [] 4 4 (n - closedLen 0) (omega arith);
+      }
+
+  make-reset : (k : ℕ) (b : List ℕ) → 7 ≤ k → k ≤ 7 → Fit (resetLayout e .body) b → Made e next (resetLayout e) k b
+  make-reset k [] k1 k2 r = record { frame = reset; stands = tt; kind = omega arith; is-body = refl; seal = refl; tears = λ u. tt; covered = tt }
+  make-reset k (x ∷ b) k1 k2 r = absurd r
+
+  shape-closed : ClosedLength e n → Shape e next n (closedLayout n)
+  shape-closed h = record {
+    kinds = omega arith;
+    small = omega arith;
+    wide = wide-value 4 (n - closedLen 0);
+    size = omega (arith, length-value 4 (n - closedLen 0), closed-least e n h);
+    make = λ k b k1 k2 r. make-closed k b h k1 k2 r;
+  }
+
+  shape-reset : n ≡ resetLen e → Shape e next n (resetLayout e)
+  shape-reset q = record { kinds = omega arith; small = omega arith; wide = tt; size = omega arith; make = make-reset }
+
   shape-change : putLen e 0 ≤ n → n ≤ putLen e valueMax → Shape e next n (changeLayout e n)
   shape-change lo hi = record {
     kinds = last-kind (eqb n (deleteLen e));
@@ -198,9 +230,10 @@ module _ (e : Edition) (next n : ℕ) where
     make = λ k b k1 k2 r. make-settled k b lo hi k1 k2 r;
   }
 
-  shape-host : (k : ℕ) → onlySettled e next n k ≡ false → HostLength e n → Shape e next n (layoutOf e next n k)
-  shape-host k s (inl h) = subst (Shape e next n) (sym (layout-end e next n k s h)) (shape-end h)
-  shape-host k s (inr (lo, hi)) = subst (Shape e next n) (sym (layout-change e next n k s lo)) (shape-change lo hi)
+  shape-host : (k : ℕ) → onlySettled e next n k ≡ false → (k ≡ 0 → ⊥) → ClosedLength e n → Shape e next n (layoutOf e next n k)
+  shape-host k s z (inl h) = subst (Shape e next n) (sym (layout-reset e next n k s z h)) (shape-reset h)
+  shape-host k s z (inr (inl h)) = subst (Shape e next n) (sym (layout-end e next n k s z h)) (shape-end h)
+  shape-host k s z (inr (inr (lo, hi))) = subst (Shape e next n) (sym (layout-change e next n k s z lo)) (shape-change lo hi)
 
   pub shape : (k : ℕ) → hasLength e next n ≡ true → Shape e next n (layoutOf e next n k)
   shape k q =
@@ -209,7 +242,9 @@ module _ (e : Edition) (next n : ℕ) where
       let w : (settledLen e 0 ≤ n) × (n ≤ settledLen e valueMax) × (next ≤ idMax) = only-size e next n k s in
       subst (Shape e next n) (sym (layout-settled e next n k s)) (shape-settled (w .0) (w .1) (w .2)))
       (λ s. ⊎-elim
-      (shape-host k s)
+      (λ h. on-test (eqb k 0)
+      (λ z. subst (Shape e next n) (sym (layout-closed e next n k s (eqb-true k 0 z))) (shape-closed h))
+      (λ z. shape-host k s (eqb-false k 0 z) h))
       (λ h. clash (onlySettled e next n k)
       (only-yes e next n k (h .0) (omega (arith, h .1)) (omega (arith, h .1))
       (or-right (eqb k 5) (eqb n (settledLen e 0)) (eq-eqb n (settledLen e 0) (h .1)))) s)

@@ -10,7 +10,7 @@ use Rattle.flash.specs.Bytes.{u16le, u32le}
 use Rattle.crc.specs.Crc.{crc32Of}
 use Rattle.frame.specs.declared.Edition.{Edition}
 use Rattle.frame.specs.declared.Edition.the-variants as edition
-use Rattle.frame.specs.Frame.{Frame, kindOf, body, check, checkLen, finish, sealed, front, encode, frameLen, buffer}
+use Rattle.frame.specs.Frame.{sealOf, Frame, kindOf, body, check, checkLen, finish, sealed, front, encode, frameLen, buffer}
 use Rattle.frame.proofs.Encode.{kind-small, length-sealed}
 
 pub copy-more : (s d : List ℕ) (i : ℕ) → i < length s → i < length d → set (take i s ++ drop i d) i (getD s i 0) ≡ take (i + 1) s ++ drop (i + 1) d
@@ -22,10 +22,10 @@ copy-more s d i l m =
 abbrev pub sealAt : Edition → ℕ → List ℕ → List ℕ
 sealAt e m f = sealed e (take m f) ++ drop (m + checkLen e + 1) f
 
-drop-zeros : (n m : ℕ) → drop {A = ℕ} n (replicate m 0) ≡ replicate (m - n) 0
-drop-zeros zero m = let e : m - 0 ≡ m = omega arith in rw e
-drop-zeros (suc n) zero = let e : 0 - suc n ≡ 0 = omega arith in rw e
-drop-zeros (suc n) (suc m) = let e : suc m - suc n ≡ m - n = omega arith in rw e (drop-zeros n m)
+pub drop-replicate : (a n m : ℕ) → drop {A = ℕ} n (replicate m a) ≡ replicate (m - n) a
+drop-replicate a zero m = let e : m - 0 ≡ m = omega arith in rw e
+drop-replicate a (suc n) zero = let e : 0 - suc n ≡ 0 = omega arith in rw e
+drop-replicate a (suc n) (suc m) = let e : suc m - suc n ≡ m - n = omega arith in rw e (drop-replicate a n m)
 
 -- a front, then a value and then the finish byte, stored into m zeros: f is the list after the first store, g the part after the second
 module _ (p v f g : List ℕ) (m : ℕ) (l : length p + length v < m)
@@ -35,7 +35,7 @@ module _ (p v f g : List ℕ) (m : ℕ) (l : length p + length v < m)
 
   front-is : f ≡ p ++ zeros
   unfolding zeros
-  front-is = hf ∙ ap (λ (x : List ℕ). p ++ x) (drop-zeros (length p) m)
+  front-is = hf ∙ ap (λ (x : List ℕ). p ++ x) (drop-replicate 0 (length p) m)
 
   rest-is : drop (length p) f ≡ zeros
   rest-is = ap (drop (length p)) front-is ∙ drop-at p zeros (length p) refl
@@ -48,7 +48,7 @@ module _ (p v f g : List ℕ) (m : ℕ) (l : length p + length v < m)
   unfolding zeros
   after-value =
       let e : m - length p - length v ≡ suc (m - (length p + length v + 1)) = omega arith in
-      drop-zeros (length v) (m - length p) ∙ ap (λ (n : ℕ). replicate n 0) e
+      drop-replicate 0 (length v) (m - length p) ∙ ap (λ (n : ℕ). replicate n 0) e
 
   part-is : g ≡ v ++ (0 ∷ replicate (m - (length p + length v + 1)) 0)
   part-is =
@@ -63,6 +63,14 @@ module _ (p v f g : List ℕ) (m : ℕ) (l : length p + length v < m)
       (ap₂ (λ (x y : List ℕ). x ++ y) part-is (ap (drop (m - length p)) rest-is ∙ drop-of-length-le zeros {i = m - length p} (omega (arith, length-zeros)))
       ∙ append-nil (v ++ (0 ∷ replicate (m - (length p + length v + 1)) 0)))
       ∙ sym (append-assoc p v (0 ∷ replicate (m - (length p + length v + 1)) 0))
+
+  pub length-joined : length (take (length p) f ++ (g ++ drop (m - length p) (drop (length p) f))) ≡ m
+  length-joined =
+      let k : ℕ = length p + length v in
+      let z : List ℕ = 0 ∷ replicate (m - (k + 1)) 0 in
+      let lx : length (p ++ v) ≡ k = length-append p v in
+      let lz : length {A = ℕ} (replicate (m - (k + 1)) 0) ≡ m - (k + 1) = length-replicate (m - (k + 1)) 0 in
+      ap length joined ∙ length-append (p ++ v) z ∙ omega (arith, lx, lz, l)
 
   -- and the seal after them
   pub assembled : (e : Edition) → length p + length v + checkLen e < m
@@ -81,7 +89,7 @@ module _ (p v f g : List ℕ) (m : ℕ) (l : length p + length v < m)
       ∙ ap₂ (λ (y w : List ℕ). sealed e y ++ w) (take-at x z k lx)
       (ap (λ (n : ℕ). drop n (x ++ z)) n1
       ∙ drop-append-add x z (checkLen e + 1)
-      ∙ drop-zeros (checkLen e + 1) (m - k)
+      ∙ drop-replicate 0 (checkLen e + 1) (m - k)
       ∙ ap (λ (n : ℕ). replicate n 0) n2)
 
 -- a front that is worked out
@@ -97,8 +105,8 @@ pub front-of : (e : Edition) (f : Frame) (n : ℕ) → n ≡ frameLen e f → n 
 front-of e f n q h = front-bytes n (kindOf f) (body f) h (kind-small f) ∙ ap (λ (x : ℕ). u16le x ++ (u16le (kindOf f) ++ body f)) q
 
 pub written : (e : Edition) (f : Frame) (n : ℕ) → n ≡ frameLen e f → n < 255
-    → buffer (sealed e (n ∷ 0 ∷ kindOf f ∷ 0 ∷ body f)) ≡ buffer (encode e f)
-written e f n q h = ap (λ (x : List ℕ). buffer (sealed e x)) (front-of e f n q h)
+    → buffer (sealed (sealOf e f) (n ∷ 0 ∷ kindOf f ∷ 0 ∷ body f)) ≡ buffer (encode e f)
+written e f n q h = ap (λ (x : List ℕ). buffer (sealed (sealOf e f) x)) (front-of e f n q h)
 
 -- ---- the seal's bytes, one store each
 

@@ -5,10 +5,11 @@ use mathlib.Core.Path.{_≡_}
 use Prim.Native.Nat.{ℕ, _+_, _/_, _%_}
 use lib.ListN.{length}
 use Rattle.crc.specs.Crc.{crc32Of}
+use Rattle.frame.specs.declared.Edition.{Edition}
 use Rattle.frame.specs.declared.Edition.the-variants as edition
 use Rattle.frame.specs.declared.Host.{Host}
 use Rattle.frame.specs.declared.ObjectId.{ObjectId}
-use Rattle.frame.specs.Frame.{change, commit, abort, settled, put, delete, encode}
+use Rattle.frame.specs.Frame.{change, commit, abort, settled, closed, reset, put, delete, encode}
 
 -- "four bytes of CRC-32 (IEEE 802.3), over all that precedes them in the frame, before the finish byte" (document 02, K9)
 abbrev pub withCrc : List ℕ → List ℕ
@@ -37,3 +38,8 @@ pub record FrameExact : Type 0 where
   pub abort-second : (h : Host) → encode edition.Second (abort h) ≡ withCrc (10 ∷ 0 ∷ 4 ∷ 0 ∷ h .0 ∷ [])
   pub settled-second : (i : ObjectId) (v : List ℕ) → encode edition.Second (settled i v)
       ≡ withCrc ((11 + length v) % 256 ∷ (11 + length v) / 256 ∷ 5 ∷ 0 ∷ i .0 % 256 ∷ i .0 / 256 ∷ v)
+  -- document 02, K11: "a reset frame (kind 7, no body, length 5 or in edition 2 nine)"
+  pub reset-bytes : encode edition.First reset ≡ 5 ∷ 0 ∷ 7 ∷ 0 ∷ 0xFE ∷ []
+  pub reset-second : encode edition.Second reset ≡ withCrc (9 ∷ 0 ∷ 7 ∷ 0 ∷ [])
+  -- "length's high byte to 0, kind to 0x0000", "its body and CRC are ignored", in both editions
+  pub closed-bytes : (e : Edition) (v : List ℕ) → encode e (closed v) ≡ (5 + length v) % 256 ∷ (5 + length v) / 256 ∷ 0 ∷ 0 ∷ (v ++ (0xFE ∷ []))

@@ -8,8 +8,8 @@ use Rattle.frame.specs.declared.Head.{Head}
 use Rattle.frame.specs.declared.Head.the-variants as head
 use Rattle.frame.specs.declared.FrameRead.{FrameRead}
 use Rattle.frame.specs.declared.FrameRead.the-variants as read
-use Rattle.frame.specs.Frame.{Frame, change, commit, abort, settled, put, delete, putValueAt, settledValueAt, kindAt, putLen}
-use Rattle.frame.specs.Frame.{deleteLen, endLen, settledLen}
+use Rattle.frame.specs.Frame.{Frame, change, commit, abort, settled, closed, reset, put, delete, putValueAt, settledValueAt, kindAt, bodyAt}
+use Rattle.frame.specs.Frame.{putLen, deleteLen, endLen, settledLen, closedLen, resetLen}
 use Rattle.frame.specs.Reader.{Read, blank, whole, torn, wrong, decode}
 
 -- a frame without its value's bytes
@@ -19,6 +19,8 @@ headOf (change h (delete i)) = head.Delete h i
 headOf (commit h) = head.Commit h
 headOf (abort h) = head.Abort h
 headOf (settled i v) = head.Settled i (length v)
+headOf (closed v) = head.Closed (length v)
+headOf reset = head.Reset
 
 -- the head of the frame at an offset of a block, by its bytes for length, kind, host and id: nothing is tested
 unfoldable pub peekAt : Edition → List ℕ → ℕ → Head
@@ -31,6 +33,8 @@ valueOf (change h (delete i)) = []
 valueOf (commit h) = []
 valueOf (abort h) = []
 valueOf (settled i v) = v
+valueOf (closed v) = v
+valueOf reset = []
 
 -- the frame with these bytes for its value: the head's own count is not looked at
 abbrev pub frameOf : Head → List ℕ → Frame
@@ -39,6 +43,8 @@ frameOf (head.Delete h i) v = change h (delete i)
 frameOf (head.Commit h) v = commit h
 frameOf (head.Abort h) v = abort h
 frameOf (head.Settled i n) v = settled i v
+frameOf (head.Closed n) v = closed v
+frameOf head.Reset v = reset
 
 abbrev pub readOf : Read → FrameRead
 readOf blank = read.Blank
@@ -53,6 +59,8 @@ headLen e (head.Delete h i) = deleteLen e
 headLen e (head.Commit h) = endLen e
 headLen e (head.Abort h) = endLen e
 headLen e (head.Settled i n) = settledLen e n
+headLen e (head.Closed n) = closedLen n
+headLen e head.Reset = resetLen e
 
 -- how many bytes its value has, and where in the frame they start
 abbrev pub valueLen : Head → ℕ
@@ -61,6 +69,8 @@ valueLen (head.Delete h i) = 0
 valueLen (head.Commit h) = 0
 valueLen (head.Abort h) = 0
 valueLen (head.Settled i n) = n
+valueLen (head.Closed n) = n
+valueLen head.Reset = 0
 
 abbrev pub valueStart : Head → ℕ
 valueStart (head.Put h i n) = putValueAt
@@ -68,3 +78,5 @@ valueStart (head.Delete h i) = 0
 valueStart (head.Commit h) = 0
 valueStart (head.Abort h) = 0
 valueStart (head.Settled i n) = settledValueAt
+valueStart (head.Closed n) = bodyAt
+valueStart head.Reset = 0

@@ -1,6 +1,8 @@
 -- Frames, document 01, "Frames": what they say and their bytes, over the edition of document 02's K9.
 use mathlib.Core.List.{List, [], _∷_, _++_}
 use mathlib.Core.Bool.{Bool, true, false}
+use mathlib.Core.Logic.{_⊎_}
+use mathlib.Core.Path.{_≡_}
 use Prim.Native.Nat.{ℕ, suc, _+_, _-_, _≤_}
 use lib.Dec.{eqb}
 use lib.ListN.{length, replicate}
@@ -33,12 +35,15 @@ pub data ChangeOf (A : Type 0) : Type 0 where
   put : ObjectId → A → ChangeOf A
   delete : ObjectId → ChangeOf A
 
--- the five kinds of frame; a put and a delete are the changes
+-- the kinds of frame; a put and a delete are the changes. A closed frame (document 02, K11) is a torn one closed in place: its body and check are
+-- ignored, and stand here as its value. A reset drops what is pending.
 pub data FrameOf (A : Type 0) : Type 0 where
   change : Host → ChangeOf A → FrameOf A
   commit : Host → FrameOf A
   abort : Host → FrameOf A
   settled : ObjectId → A → FrameOf A
+  closed : A → FrameOf A
+  reset : FrameOf A
 
 -- with the bytes for the value
 abbrev pub Change : Type 0
@@ -57,6 +62,8 @@ mapFrame f (change h c) = change h (mapChange f c)
 mapFrame f (commit h) = commit h
 mapFrame f (abort h) = abort h
 mapFrame f (settled i v) = settled i (f v)
+mapFrame f (closed v) = closed (f v)
+mapFrame f reset = reset
 
 -- the number of an edition; 2 is the second's, any other the first's
 abbrev pub editionNumber : Edition → ℕ
@@ -79,6 +86,8 @@ kindOf (change h (delete i)) = 2
 kindOf (commit h) = 3
 kindOf (abort h) = 4
 kindOf (settled i v) = 5
+kindOf (closed v) = 0
+kindOf reset = 7
 
 abbrev pub body : Frame → List ℕ
 body (change h (put i v)) = h .0 ∷ (u16le (i .0) ++ v)
@@ -86,6 +95,8 @@ body (change h (delete i)) = h .0 ∷ u16le (i .0)
 body (commit h) = h .0 ∷ []
 body (abort h) = h .0 ∷ []
 body (settled i v) = u16le (i .0) ++ v
+body (closed v) = v
+body reset = []
 
 -- ---- the seal: the check and the finish byte
 
@@ -107,9 +118,14 @@ finish = 0xFE
 abbrev pub sealed : Edition → List ℕ → List ℕ
 sealed s x = x ++ (check s x ++ (finish ∷ []))
 
--- the edition whose check a frame has: of every kind the journal's own
+-- the edition whose check a frame has: of every kind the journal's own, but a closed frame's is ignored
 abbrev pub sealOf : Edition → Frame → Edition
-sealOf e f = e
+sealOf e (change h c) = e
+sealOf e (commit h) = e
+sealOf e (abort h) = e
+sealOf e (settled i v) = e
+sealOf e (closed v) = edition.First
+sealOf e reset = e
 
 -- "Length (2, whole frame), kind (2), body, finish byte 0xFE."
 abbrev pub overhead : Edition → ℕ
@@ -151,6 +167,13 @@ endLen e = overhead e + 1
 abbrev pub settledLen : Edition → ℕ → ℕ
 settledLen e v = overhead e + 2 + v
 
+-- "kind 7, no body, length 5 or in edition 2 nine"
+abbrev pub resetLen : Edition → ℕ
+resetLen e = overhead e
+
+abbrev pub closedLen : ℕ → ℕ
+closedLen v = overhead edition.First + v
+
 -- a put of the longest value: 248 or 252
 abbrev pub maxFrame : Edition → ℕ
 maxFrame e = putLen e valueMax
@@ -161,6 +184,10 @@ maxFrame e = putLen e valueMax
 abbrev pub LegalValue : List ℕ → Type 0
 LegalValue v = (length v ≤ valueMax) × Bytes v
 
+-- a closed frame's "length is one of kinds 1 to 4 or 7"
+abbrev pub ClosedLength : Edition → ℕ → Type 0
+ClosedLength e n = (n ≡ resetLen e) ⊎ ((n ≡ endLen e) ⊎ ((putLen e 0 ≤ n) × (n ≤ putLen e valueMax)))
+
 -- "A frame is legal if its length fits its kind, its host is at most 3, its id at most 255, v at most 64 and its last byte 0xFE." (K2: 240.)
 -- Length and last byte are `encode`'s. "Settled frames stand first, ids strictly rising": a settled frame may stand where
 -- its id is at least `next`, which is 256 where none may stand.
@@ -170,6 +197,8 @@ MayStand e next (change h (delete i)) = (h .0 ≤ hostMax) × (i .0 ≤ idMax)
 MayStand e next (commit h) = h .0 ≤ hostMax
 MayStand e next (abort h) = h .0 ≤ hostMax
 MayStand e next (settled i v) = (next ≤ i .0) × (i .0 ≤ idMax) × LegalValue v
+MayStand e next (closed v) = ClosedLength e (closedLen (length v)) × Bytes v
+MayStand e next reset = Unit {0}
 
 -- the least id that a settled frame may have after this frame
 abbrev pub nextAfter : Frame → ℕ
@@ -177,13 +206,17 @@ nextAfter (change h c) = 256
 nextAfter (commit h) = 256
 nextAfter (abort h) = 256
 nextAfter (settled i v) = suc (i .0)
+nextAfter (closed v) = 256
+nextAfter reset = 256
 
--- kinds 1 to 4
-abbrev pub OfHost : Frame → Type 0
-OfHost (change h c) = Unit {0}
-OfHost (commit h) = Unit {0}
-OfHost (abort h) = Unit {0}
-OfHost (settled i v) = ⊥
+-- kinds 1 to 4 may be cut short; "a cut reset, is torn too" (document 02, K11)
+abbrev pub Tears : Frame → Type 0
+Tears (change h c) = Unit {0}
+Tears (commit h) = Unit {0}
+Tears (abort h) = Unit {0}
+Tears (settled i v) = ⊥
+Tears (closed v) = ⊥
+Tears reset = Unit {0}
 
 -- ---- frames one after the other
 

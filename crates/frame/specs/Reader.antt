@@ -1,6 +1,6 @@
 -- Reading one frame, and the frames of a journal, out of any bytes.
 use mathlib.Core.List.{List, [], _∷_, _++_}
-use mathlib.Core.Bool.{Bool, true, false, _&&_, _||_}
+use mathlib.Core.Bool.{Bool, true, false, not, _&&_, _||_}
 use Prim.Native.Nat.{ℕ, zero, suc, _+_, _-_}
 use lib.Dec.{eqb, leb}
 use lib.ListN.{length, getD, take, drop}
@@ -12,8 +12,9 @@ use Rattle.frame.specs.declared.ObjectId.{ObjectId}
 use Rattle.frame.specs.declared.Fault.{Fault}
 use Rattle.frame.specs.declared.Field.{Field}
 use Rattle.frame.specs.declared.Field.the-variants as field
-use Rattle.frame.specs.Frame.{Frame, change, commit, abort, settled, put, delete, hostMax, idMax, valueMax, finish, check, checkLen}
-use Rattle.frame.specs.Frame.{kindAt, bodyAt, putValueAt, settledValueAt, frameLen, putLen, deleteLen, endLen, settledLen, nextAfter}
+use Rattle.frame.specs.Frame.{Frame, change, commit, abort, settled, closed, reset, put, delete, hostMax, idMax, valueMax, finish, check, checkLen}
+use Rattle.frame.specs.Frame.{kindAt, bodyAt, putValueAt, settledValueAt, frameLen, putLen, deleteLen, endLen, settledLen, resetLen, closedLen}
+use Rattle.frame.specs.Frame.{nextAfter}
 
 -- a bad field and its offset in the block
 abbrev pub fault : Field → ℕ → Fault
@@ -47,7 +48,7 @@ abbrev pub valueSlots : ℕ → ℕ → List Slot
 valueSlots o zero = []
 valueSlots o (suc v) = slot field.Finish o 0 255 ∷ valueSlots (suc o) v
 
--- a layout: some kinds whose bodies have these slots, the edition by which they are sealed, and whether they may be torn
+-- a layout: some kinds whose bodies have these slots, the edition by which they are sealed, and whether they may be cut short
 pub record Layout : Type 0 where
   pub from : ℕ
   pub to : ℕ
@@ -73,7 +74,7 @@ changeLayout e n = record {
 abbrev pub endLayout : Edition → Layout
 endLayout e = record { from = 3; to = 4; body = slot field.Host bodyAt 0 hostMax ∷ []; seal = e; tears = true }
 
--- a settled frame of n bytes whose id is at least next. Only "kinds 1 to 4" are torn: a settled frame that is cut off is wrong.
+-- a settled frame of n bytes whose id is at least next. Only "kinds 1 to 4" and 7 are cut short: a settled frame that is cut off is wrong.
 abbrev pub settledLayout : Edition → ℕ → ℕ → Layout
 settledLayout e next n = record {
   from = 5;
@@ -83,25 +84,41 @@ settledLayout e next n = record {
   tears = false;
 }
 
+-- a closed frame of n bytes: its body and check are ignored. What is `beingClosed` is never held against it.
+abbrev pub closedLayout : ℕ → Layout
+closedLayout n = record { from = 0; to = 0; body = valueSlots bodyAt (n - closedLen 0); seal = edition.First; tears = false }
+
+abbrev pub resetLayout : Edition → Layout
+resetLayout e = record { from = 7; to = 7; body = []; seal = e; tears = true }
+
 -- a settled frame may stand: after id 255 none may
 abbrev pub idLeft : ℕ → Bool
 idLeft next = leb next idMax
 
 -- some frame that may stand has n bytes
 abbrev pub hasLength : Edition → ℕ → ℕ → Bool
-hasLength e next n = eqb n (endLen e) || ((leb (putLen e 0) n && leb n (putLen e valueMax)) || (idLeft next && eqb n (settledLen e 0)))
+hasLength e next n =
+    eqb n (resetLen e) || (eqb n (endLen e) || ((leb (putLen e 0) n && leb n (putLen e valueMax)) || (idLeft next && eqb n (settledLen e 0))))
 
 -- the bytes can only be a settled frame's: by their kind, or by a length that no other kind has
 abbrev pub onlySettled : Edition → ℕ → ℕ → ℕ → Bool
 onlySettled e next n k = idLeft next && (leb (settledLen e 0) n && leb n (settledLen e valueMax)) && (eqb k 5 || eqb n (settledLen e 0))
 
--- kinds 1 to 4: the length tells commit and abort from put and delete
+-- kinds 1 to 4 and 7: the length tells a reset, then a commit and an abort, from a put and a delete
 unfoldable pub hostLayout : Edition → ℕ → Layout
-hostLayout e n = elim (eqb n (endLen e)) [ true ↦ endLayout e | false ↦ changeLayout e n ]
+hostLayout e n =
+    elim (eqb n (resetLen e)) [
+      | true ↦ resetLayout e
+      | false ↦ elim (eqb n (endLen e)) [ true ↦ endLayout e | false ↦ changeLayout e n ]
+    ]
 
 -- the layout of frames of n bytes, where the kind's low byte is k
 unfoldable pub layoutOf : Edition → ℕ → ℕ → ℕ → Layout
-layoutOf e next n k = elim (onlySettled e next n k) [ true ↦ settledLayout e next n | false ↦ hostLayout e n ]
+layoutOf e next n k =
+    elim (onlySettled e next n k) [
+      | true ↦ settledLayout e next n
+      | false ↦ elim (eqb k 0) [ true ↦ closedLayout n | false ↦ hostLayout e n ]
+    ]
 
 -- length and kind, both with a high byte of 0, and the body
 abbrev pub frontSlots : ℕ → Layout → List Slot
@@ -143,20 +160,22 @@ hostAt t i = record { 0 = getD t i 0 }
 abbrev pub idAt : List ℕ → ℕ → ObjectId
 idAt t i = record { 0 = le16 (getD t i 0) (getD t (suc i) 0) }
 
--- the frame that bytes are, by their low kind byte and their length; used only where they fit its layout, so kind 0 never is
+-- the frame that bytes are, by their low kind byte and their length; used only where they fit its layout, so kind 6 never is
 abbrev pub decode : Edition → ℕ → ℕ → List ℕ → Frame
-decode e zero n t = commit (hostAt t bodyAt)
+decode e zero n t = closed (take (n - closedLen 0) (drop bodyAt t))
 decode e (suc zero) n t = change (hostAt t bodyAt) (put (idAt t (bodyAt + 1)) (take (n - putLen e 0) (drop putValueAt t)))
 decode e (suc (suc zero)) n t = change (hostAt t bodyAt) (delete (idAt t (bodyAt + 1)))
 decode e (suc (suc (suc zero))) n t = commit (hostAt t bodyAt)
 decode e (suc (suc (suc (suc zero)))) n t = abort (hostAt t bodyAt)
-decode e (suc (suc (suc (suc (suc k))))) n t = settled (idAt t bodyAt) (take (n - settledLen e 0) (drop settledValueAt t))
+decode e (suc (suc (suc (suc (suc zero))))) n t = settled (idAt t bodyAt) (take (n - settledLen e 0) (drop settledValueAt t))
+decode e (suc (suc (suc (suc (suc (suc k)))))) n t = reset
 
 -- a bad slot of a frame that starts at an offset of the block
 abbrev pub faultAt : ℕ → Slot → Fault
 faultAt at p = fault (p .field) (at + p .start)
 
--- "Torn means: the first k bytes, k at least 1 and fewer than all, of some legal frame of kinds 1 to 4 that would fit, then 0xFF only."
+-- "Torn means: the first k bytes, k at least 1 and fewer than all, of some legal frame of kinds 1 to 4 that would fit, then 0xFF only.";
+-- "or a cut reset" (document 02, K11)
 abbrev pub ofMatch : ℕ → ℕ → Bool → Frame → Match → Read
 ofMatch at n tears f all = whole f
 ofMatch at n true f (part p) = torn n
@@ -167,6 +186,13 @@ ofMatch at n tears f (misfit p) = wrong (faultAt at p)
 abbrev pub readLaid : Edition → ℕ → ℕ → ℕ → ℕ → List ℕ → Read
 readLaid e next at n k t = ofMatch at n (layoutOf e next n k .tears) (decode e k n t) (match (laid n (layoutOf e next n k) t) t)
 
+-- "A frame cut while being closed": the high byte of its length and the low byte of its kind are 0, the kind's high byte is 0 or still 0xFF, its length n is
+-- no settled frame's alone, and from the finish byte on all is 0xFF. "Once its kind's low byte is 0, its body and CRC are ignored."
+abbrev pub beingClosed : Edition → ℕ → List ℕ → Bool
+beingClosed e n t =
+    eqb (getD t kindAt 0) 0 && (eqb (getD t 1 0) 0 && ((eqb (getD t (kindAt + 1) 0) 0 || eqb (getD t (kindAt + 1) 0) 255)
+    && (not (eqb n (settledLen e 0)) && allFF (drop (n - 1) t))))
+
 -- the frame at the front of t, which runs to the block's end and starts at offset `at` of it; settled ids from `next` on.
 -- A frame longer than t would not fit: it is neither whole nor torn.
 unfoldable pub readFrame : Edition → ℕ → ℕ → List ℕ → Read
@@ -174,7 +200,10 @@ readFrame e next at t =
     elim (allFF t) [
       | true ↦ blank
       | false ↦ elim (leb (getD t 0 0) (length t) && hasLength e next (getD t 0 0)) [
-        | true ↦ readLaid e next at (getD t 0 0) (getD t kindAt 0) t
+        | true ↦ elim (beingClosed e (getD t 0 0) t) [
+          | true ↦ torn (getD t 0 0)
+          | false ↦ readLaid e next at (getD t 0 0) (getD t kindAt 0) t
+        ]
         | false ↦ wrong (fault field.Length at)
       ]
     ]

@@ -2,13 +2,13 @@
 use mathlib.Core.List.{List, [], _∷_, _++_}
 use mathlib.Core.Logic.{_↔_, _⊎_}
 use mathlib.Core.Path.{_≡_}
-use Prim.Native.Nat.{ℕ, _+_, _≤_, _<_}
+use Prim.Native.Nat.{ℕ, suc, _+_, _≤_, _<_}
 use lib.ListN.{length, take, replicate}
 use Rattle.flash.specs.Bytes.{Bytes}
 use Rattle.frame.specs.declared.Edition.{Edition}
 use Rattle.frame.specs.declared.Edition.the-variants as edition
-use Rattle.frame.specs.Frame.{Frame, change, commit, abort, settled, idOf, idMax, body, checkLen, sealOf, bodyAt}
-use Rattle.frame.specs.Frame.{LegalValue, encode, frameLen, maxFrame, MayStand, OfHost, nextAfter}
+use Rattle.frame.specs.Frame.{Frame, change, commit, abort, settled, closed, reset, idOf, idMax, body, checkLen, sealOf, bodyAt}
+use Rattle.frame.specs.Frame.{LegalValue, ClosedLength, encode, frameLen, maxFrame, MayStand, Tears, nextAfter}
 use Rattle.frame.specs.Reader.{blank, whole, torn, wrong, fault, readFrame}
 use Rattle.frame.specs.declared.Fault.{Fault}
 use Rattle.frame.specs.declared.Field.{Field}
@@ -21,18 +21,34 @@ pub record Whole (e : Edition) (next : ℕ) (t : List ℕ) (f : Frame) : Type 0 
   pub stands : MayStand e next f
   pub bytes : t ≡ encode e f ++ rest
 
--- "Torn means: the first k bytes, k at least 1 and fewer than all, of some legal frame of kinds 1 to 4 that would fit, then 0xFF only."
-pub record Torn (e : Edition) (next : ℕ) (t : List ℕ) (n : ℕ) : Type 0 where
+-- "Torn means: the first k bytes, k at least 1 and fewer than all, of some legal frame of kinds 1 to 4 that would fit, then 0xFF only.";
+-- "or a cut reset, is torn too" (document 02, K11)
+pub record CutShort (e : Edition) (next : ℕ) (t : List ℕ) (n : ℕ) : Type 0 where
   pub frame : Frame
   pub k : ℕ
   pub left : ℕ
-  pub of-host : OfHost frame
+  pub tears : Tears frame
   pub legal : MayStand e next frame
   pub some : 1 ≤ k
   pub not-all : k < frameLen e frame
   pub would-fit : frameLen e frame ≤ length t
   pub bytes : t ≡ take k (encode e frame) ++ replicate left 255
   pub long : n ≡ frameLen e frame
+
+-- "A frame cut while being closed" (document 02, K11): "length's high byte to 0, kind to 0x0000 low byte first, then its finish byte". "Once its kind's low
+-- byte is 0, its body and CRC are ignored and its length is one of kinds 1 to 4 or 7." Its finish byte and all that follows are still 0xFF.
+pub record BeingClosed (e : Edition) (t : List ℕ) (n : ℕ) : Type 0 where
+  pub high : ℕ  -- the kind's high byte
+  pub body : List ℕ
+  pub left : ℕ
+  pub has-length : ClosedLength e n
+  pub size : n ≡ 5 + length body
+  pub high-is : (high ≡ 0) ⊎ (high ≡ 0xFF)
+  pub bytes : t ≡ n ∷ 0 ∷ 0 ∷ high ∷ (body ++ replicate (suc left) 0xFF)
+
+pub data Torn (e : Edition) (next : ℕ) (t : List ℕ) (n : ℕ) : Type 0 where
+  cut-short : CutShort e next t n → Torn e next t n
+  being-closed : BeingClosed e t n → Torn e next t n
 
 -- "all 0xFF"
 abbrev pub Blank : List ℕ → Type 0
@@ -71,6 +87,8 @@ bodyFields (change h c) = span field.Host 4 5 ∷ span field.Id 5 7 ∷ []
 bodyFields (commit h) = span field.Host 4 5 ∷ []
 bodyFields (abort h) = span field.Host 4 5 ∷ []
 bodyFields (settled i v) = span field.Id 4 6 ∷ []
+bodyFields (closed v) = []
+bodyFields reset = []
 
 -- the check and the finish byte, from offset o on
 abbrev pub checkFields : Edition → ℕ → List Span
@@ -119,7 +137,7 @@ abbrev pub lastFault : ℕ → List ℕ → Fault
 lastFault at [] = fault field.Length at
 lastFault at (b ∷ v) = fault field.Kind (at + 2)
 
--- and "of kinds 1 to 4" alone are torn: a cut settled frame is wrong once its kind can be seen, or its length 7 (11)
+-- and no settled frame is torn: a cut settled frame is wrong once its kind can be seen, or its length 7 (11)
 pub record SettledWrong (e : Edition) : Type 0 where
   pub after-last : (at : ℕ) (i : ObjectId) (v w rest : List ℕ) → i .0 ≤ idMax → LegalValue v
       → readFrame e (nextAfter (settled (idOf idMax) w)) at (encode e (settled i v) ++ rest) ≡ wrong (lastFault at v)

@@ -3,7 +3,9 @@ ghost use mathlib.Core.Path.{_≡_};
 ghost use mathlib.Core.List.{_++_};
 ghost use Prim.Native.Nat.{_+_, _≤_, _<_};
 ghost use lib.ListN.{length, take, drop};
-ghost use Rattle.frame.specs.Frame.{change, commit, abort, settled, put, delete, valueMax, bufferLen, checkLen, sealed, buffer, encode};
+ghost use Rattle.frame.specs.Frame.{change, commit, abort, settled, closed, reset, put, delete, valueMax, bufferLen, checkLen};
+ghost use Rattle.frame.specs.Frame.{sealed, front, buffer, encode};
+ghost use Rattle.frame.specs.declared.Edition.the-variants.{First};
 ghost use Rattle.frame.specs.Code.{frameOf};
 use crate::BUFFER_LEN;
 use crate::DELETE_LEN;
@@ -14,6 +16,7 @@ use crate::Head;
 use crate::Host;
 use crate::ObjectId;
 use crate::PUT_LEN;
+use crate::RESET_LEN;
 use crate::SETTLED_LEN;
 use crate::VALUE_MAX;
 use crate::check_len;
@@ -32,24 +35,21 @@ fn copy_front(dst: &mut [u8], src: &[u8])
 }
 
 // The check and the finish byte after m bytes.
-fn seal(f: [u8; BUFFER_LEN], edition: Edition, m: usize) -> [u8; BUFFER_LEN]
-    requires { ⌜ m + checkLen edition < bufferLen ⌝ }
-    ensures { λ r. ⌜ r ≡ sealed edition (take m f) ++ drop (m + checkLen edition + 1) f ⌝ }
+fn seal(g: &mut [u8], edition: Edition, m: usize)
+    requires { ⌜ m + checkLen edition < length (now g) ⌝ }
+    ensures { λ _. ⌜ now (g .exit) ≡ sealed edition (take m (now (g .entry))) ++ drop (m + checkLen edition + 1) (now (g .entry)) ⌝ }
 {
-    let mut g = f;
     match edition {
         Edition::First => {
             g[m] = FINISH;
-            g
         }
         Edition::Second => {
-            let c = crc32(&f[..m]);
+            let c = crc32(&g[..m]);
             g[m] = (c % 256) as u8;
             g[m + 1] = (c / 256 % 256) as u8;
             g[m + 2] = (c / 65536 % 256) as u8;
             g[m + 3] = (c / 16777216) as u8;
             g[m + 4] = FINISH;
-            g
         }
     }
 }
@@ -64,7 +64,8 @@ fn assemble(edition: Edition, front: &[u8], value: &[u8]) -> [u8; BUFFER_LEN]
     let mut f = [0u8; BUFFER_LEN];
     copy_front(&mut f[..], front);
     copy_front(&mut f[a..], value);
-    seal(f, edition, a + n)
+    seal(&mut f[..], edition, a + n);
+    f
 }
 
 // As much of a value as a frame holds.
@@ -122,6 +123,24 @@ fn settled_bytes(edition: Edition, i: ObjectId, v: &[u8]) -> [u8; BUFFER_LEN]
     assemble(edition, &front, v)
 }
 
+// A closed frame's bytes: it has no check.
+fn closed_bytes(v: &[u8]) -> [u8; BUFFER_LEN]
+    requires { ⌜ length (now v) ≤ valueMax ⌝ }
+    ensures { λ r. ⌜ r ≡ buffer (sealed First (front First (closed (now (v .entry))))) ⌝ }
+{
+    let n = RESET_LEN + v.len() as u8;
+    let front = [n, 0, 0, 0];
+    assemble(Edition::First, &front, v)
+}
+
+// A reset's bytes.
+fn reset_bytes(edition: Edition, v: &[u8]) -> [u8; BUFFER_LEN]
+    ensures { λ r. ⌜ r ≡ buffer (encode edition reset) ⌝ }
+{
+    let front = [RESET_LEN + check_len(edition), 0, 7, 0];
+    assemble(edition, &front, &v[..0])
+}
+
 // The frame with this head and this value, of which at most VALUE_MAX bytes are taken, and zeros after it.
 // The head's own count is not looked at.
 pub fn encode_frame(edition: Edition, head: Head, value: &[u8]) -> [u8; BUFFER_LEN]
@@ -134,5 +153,7 @@ pub fn encode_frame(edition: Edition, head: Head, value: &[u8]) -> [u8; BUFFER_L
         Head::Commit(h) => commit_bytes(edition, h, v),
         Head::Abort(h) => abort_bytes(edition, h, v),
         Head::Settled(i, _) => settled_bytes(edition, i, v),
+        Head::Closed(_) => closed_bytes(v),
+        Head::Reset => reset_bytes(edition, v),
     }
 }

@@ -67,6 +67,9 @@ pub const END_LEN: u8 = 6;
 
 pub const SETTLED_LEN: u8 = 7;
 
+// A reset's, and a closed frame's without what it ignores.
+pub const RESET_LEN: u8 = 5;
+
 // The longest frame: a put of the longest value, in the second edition.
 pub const BUFFER_LEN: usize = PUT_LEN as usize + 4 + VALUE_MAX;
 
@@ -77,6 +80,8 @@ pub enum Head {
     Commit(Host),
     Abort(Host),
     Settled(ObjectId, u8),
+    Closed(u8),
+    Reset,
 }
 
 // What stands at a place: of a torn frame its length, of wrong bytes the first bad field.
@@ -128,6 +133,8 @@ pub fn frame_len(edition: Edition, head: Head) -> usize
         Head::Commit(_) => END_LEN as usize + check,
         Head::Abort(_) => END_LEN as usize + check,
         Head::Settled(_, n) => SETTLED_LEN as usize + check + n as usize,
+        Head::Closed(n) => RESET_LEN as usize + n as usize,
+        Head::Reset => RESET_LEN as usize + check,
     }
 }
 
@@ -141,6 +148,8 @@ pub fn value_len(head: Head) -> usize
         Head::Commit(_) => 0,
         Head::Abort(_) => 0,
         Head::Settled(_, n) => n as usize,
+        Head::Closed(n) => n as usize,
+        Head::Reset => 0,
     }
 }
 
@@ -154,5 +163,7 @@ pub fn value_offset(head: Head) -> usize
         Head::Commit(_) => 0,
         Head::Abort(_) => 0,
         Head::Settled(_, _) => SETTLED_VALUE_AT,
+        Head::Closed(_) => BODY_AT,
+        Head::Reset => 0,
     }
 }

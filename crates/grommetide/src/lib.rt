@@ -35,8 +35,8 @@ pub extern "C" fn grommetide_mount(image: &[u8], blocks: u8, board: &mut [u8]) -
         return WRONG_RECORD;
     }
     let mut places = records::no_places();
-    let s = store::mount_core(image, blocks, &mut places);
-    let frame = records::no_frame();
+    let mut frame = records::no_frame();
+    let s = store::mount_core(image, blocks, &mut places, &mut frame);
     pack::new_record(s, &places, &frame, board)
 }
 
@@ -51,7 +51,8 @@ pub extern "C" fn grommetide_fault(
     ensures { λ r. ⌜ broken r (now (block .exit)) (now (field .exit)) (now (place .exit)) ≡ edgeFault blocks (now (image .entry)) ⌝ }
 {
     let mut places = records::no_places();
-    let mounted = store::mount_core(image, blocks, &mut places);
+    let mut frame = records::no_frame();
+    let mounted = store::mount_core(image, blocks, &mut places, &mut frame);
     let answer = mounted.answer;
     let spot = wire::spot_of(answer);
     *block = spot.half as usize;

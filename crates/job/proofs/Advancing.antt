@@ -15,7 +15,7 @@ use Rattle.wire.specs.declared.Answer.{Answer}
 use Rattle.wire.specs.declared.Answer.the-variants.{Done, More, Refused}
 use Rattle.wire.specs.declared.Refusal.the-variants as refusal
 use Rattle.board.specs.declared.Stage.{Stage}
-use Rattle.board.specs.declared.Stage.the-variants.{Wipe, Open, Copy, Seal, Drop, Append}
+use Rattle.board.specs.declared.Stage.the-variants.{Wipe, Open, Copy, Seal, Drop, Append, Close}
 use Rattle.board.specs.declared.Phase.{Phase}
 use Rattle.board.specs.declared.Phase.the-variants.{Unmounted, Idle, Busy}
 use Rattle.board.specs.declared.Record.{Record}
@@ -116,6 +116,7 @@ offset-low Copy N len n b w h = below (actionBy Copy n b) N len w h
 offset-low Seal N len n b w h = omega arith
 offset-low Drop N len n b w h = omega arith
 offset-low Append N len n b w h = below (actionBy Append n b) N len w h
+offset-low Close N len n b w h = omega arith
 
 -- by the byte in hand it is the record's step
 pub by-hand : (st : Stage) (n : Numbers) (b : ℕ) (p u f : List ℕ) → HandsAt st n b u f → actionBy st n b ≡ action st (assemble n p u f)
@@ -125,6 +126,7 @@ by-hand Copy n b p u f e = ap (actionBy Copy n) e
 by-hand Seal n b p u f e = refl
 by-hand Drop n b p u f e = refl
 by-hand Append n b p u f e = ap (actionBy Append n) e
+by-hand Close n b p u f e = refl
 
 -- ---- a step call in a job
 
@@ -183,6 +185,7 @@ same-place Copy N s n b p u f = refl
 same-place Seal N s n b p u f = refl
 same-place Drop N s n b p u f = refl
 same-place Append N s n b p u f = refl
+same-place Close N s n b p u f = refl
 
 module _ (N : ℕ) (img p u f : List ℕ) (st : Stage) (n : Numbers) (len b : ℕ) (same : length img ≡ len) where
   abbrev standing : Record
@@ -233,6 +236,7 @@ hand-in (Busy Copy) n b u f e = e
 hand-in (Busy Seal) n b u f e = tt
 hand-in (Busy Drop) n b u f e = tt
 hand-in (Busy Append) n b u f e = e
+hand-in (Busy Close) n b u f e = tt
 
 pub hands : (n : Numbers) (b : ℕ) (u f : List ℕ) → b ≡ inHand n u f → Hands n b u f
 hands n b u f e = hand-in (n .phase) n b u f e

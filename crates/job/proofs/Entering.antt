@@ -7,15 +7,15 @@ use native.Mathlib.Omega.{arith}
 use lib.Dec.{ltb}
 use Rattle.wire.specs.declared.Answer.the-variants.{Done, More}
 use Rattle.board.specs.declared.Stage.{Stage}
-use Rattle.board.specs.declared.Stage.the-variants.{Wipe, Open, Drop, Append}
+use Rattle.board.specs.declared.Stage.the-variants.{Wipe, Open, Drop, Append, Close}
 use Rattle.board.specs.declared.Cursor.{Cursor}
 use Rattle.board.specs.declared.Record.{Record}
 use Rattle.board.specs.declared.Rest.{Rest}
 use Rattle.board.specs.Record.{idle, inStage}
-use Rattle.board.specs.Step.{first, enterAppend, enterDrop, enterOpen, enterWipe}
+use Rattle.board.specs.Step.{first, enterAppend, enterDrop, enterClose, enterOpen, enterWipe}
 use Rattle.job.specs.declared.records.Numbers.{Numbers}
 use Rattle.job.specs.declared.records.Stepped.{Stepped}
-use Rattle.job.specs.Code.{assemble, going, over, LeadsTo, goAppend, landedOn, goDrop, goOpen, goWipe}
+use Rattle.job.specs.Code.{assemble, going, over, LeadsTo, goAppend, landedOn, goDrop, goClose, goOpen, goWipe}
 
 -- a test as a variable of its own: a rewrite of a record's field would reach into the record
 pub when-true : {A : Type 0} (b : Bool) (x y : A) → b ≡ true → x ≡ cond b x y
@@ -46,9 +46,13 @@ module _ (p u f : List ℕ) where
   unfolding goDrop enterDrop
   drop-leaves n = leaves-if (n .job .drops) (going-leaves Drop (first (n .cursor)) n) (append-leaves (landedOn n))
 
+  pub close-leaves : (n : Numbers) → LeadsTo p u f (goClose n) (enterClose (assemble n p u f))
+  unfolding goClose enterClose
+  close-leaves n = leaves-if (ltb 0 (n .job .closes)) (going-leaves Close (first (n .cursor)) n) (append-leaves n)
+
   pub open-leaves : (n : Numbers) → LeadsTo p u f (goOpen n) (enterOpen (assemble n p u f))
   unfolding goOpen enterOpen
-  open-leaves n = leaves-if (n .job .moves) (going-leaves Open (first (n .cursor)) n) (append-leaves n)
+  open-leaves n = leaves-if (n .job .moves) (going-leaves Open (first (n .cursor)) n) (close-leaves n)
 
   pub wipe-leaves : (n : Numbers) → LeadsTo p u f (goWipe n) (enterWipe (assemble n p u f))
   unfolding goWipe enterWipe

@@ -3,15 +3,15 @@ use mathlib.Core.Path.{_≡_}
 use mathlib.Core.List.{List}
 use mathlib.Core.Bool.{Bool, true, false, _&&_, cond}
 use Prim.Native.Nat.{ℕ, suc, _+_}
-use lib.Dec.{ltb}
+use lib.Dec.{eqb, ltb}
 use lib.ListN.{getD}
 use Rattle.flash.specs.Flash.{Step, program, erase, apply, sizeIn, sizeOf, within, writeStep}
 use Rattle.frame.specs.Frame.{editionBy}
-use Rattle.journal.specs.Block.{openWrite, sealWrite}
+use Rattle.journal.specs.Block.{openWrite, sealWrite, closeByte}
 use Rattle.wire.specs.declared.Answer.{Answer}
 use Rattle.wire.specs.declared.Answer.the-variants.{Done, More}
 use Rattle.board.specs.declared.Stage.{Stage}
-use Rattle.board.specs.declared.Stage.the-variants.{Wipe, Open, Copy, Seal, Drop, Append}
+use Rattle.board.specs.declared.Stage.the-variants.{Wipe, Open, Copy, Seal, Drop, Append, Close}
 use Rattle.board.specs.declared.Phase.{Phase}
 use Rattle.board.specs.declared.Phase.the-variants.{Unmounted, Idle, Busy}
 use Rattle.board.specs.declared.Job.{Job}
@@ -113,8 +113,11 @@ landedOn n =
 unfoldable pub goDrop : Numbers → Stepped
 goDrop n = cond (n .job .drops) (going Drop (first (n .cursor)) n) (goAppend (landedOn n))
 
+unfoldable pub goClose : Numbers → Stepped
+goClose n = cond (ltb 0 (n .job .closes)) (going Close (first (n .cursor)) n) (goAppend n)
+
 unfoldable pub goOpen : Numbers → Stepped
-goOpen n = cond (n .job .moves) (going Open (first (n .cursor)) n) (goAppend n)
+goOpen n = cond (n .job .moves) (going Open (first (n .cursor)) n) (goClose n)
 
 unfoldable pub goWipe : Numbers → Stepped
 goWipe n = cond (ltb 0 (n .job .wipes)) (going Wipe (first (n .cursor)) n) (goOpen n)
@@ -142,6 +145,8 @@ actionBy Copy n b = program (n .job .target) (n .cursor .at) b
 actionBy Seal n b = writeStep (n .job .target) (sealWrite (n .job .time) (n .cursor .index))
 actionBy Drop n b = erase (n .rest .block)
 actionBy Append n b = program (n .rest .block) (n .rest .end + n .cursor .index) b
+actionBy Close n b =
+    program (n .rest .block) (getD (n .job .close) (n .cursor .index) 0) (closeByte (eqb (suc (n .cursor .index)) (n .job .closes)))
 
 -- an image of N blocks and n bytes is the record's, by where that stands, and a step's place lies in it
 abbrev pub takes : ℕ → ℕ → Rest → Step → Bool
@@ -159,6 +164,7 @@ offsetFor Copy n = n .cursor .at
 offsetFor Seal n = 0
 offsetFor Drop n = 0
 offsetFor Append n = n .rest .end + n .cursor .index
+offsetFor Close n = 0
 
 -- the byte that the next step programs, of the frame that is copied or appended
 abbrev pub inHandAt : Stage → Numbers → List ℕ → List ℕ → ℕ
@@ -168,6 +174,7 @@ inHandAt Copy n unit frame = getD unit (n .cursor .off) 0
 inHandAt Seal n unit frame = 0
 inHandAt Drop n unit frame = 0
 inHandAt Append n unit frame = getD frame (n .cursor .index) 0
+inHandAt Close n unit frame = 0
 
 abbrev pub inHandIn : Phase → Numbers → List ℕ → List ℕ → ℕ
 inHandIn Unmounted n unit frame = 0
@@ -177,7 +184,7 @@ inHandIn (Busy s) n unit frame = inHandAt s n unit frame
 abbrev pub inHand : Numbers → List ℕ → List ℕ → ℕ
 inHand n unit frame = inHandIn (n .phase) n unit frame
 
--- a byte that is given for it: where no frame's byte is programmed, any will do
+-- a byte that is given for it: where no frame is copied or appended, any will do
 abbrev pub HandsAt : Stage → Numbers → ℕ → List ℕ → List ℕ → Type 0
 HandsAt Wipe n b unit frame = Unit {0}
 HandsAt Open n b unit frame = Unit {0}
@@ -185,6 +192,7 @@ HandsAt Copy n b unit frame = b ≡ getD unit (n .cursor .off) 0
 HandsAt Seal n b unit frame = Unit {0}
 HandsAt Drop n b unit frame = Unit {0}
 HandsAt Append n b unit frame = b ≡ getD frame (n .cursor .index) 0
+HandsAt Close n b unit frame = Unit {0}
 
 abbrev pub HandsIn : Phase → Numbers → ℕ → List ℕ → List ℕ → Type 0
 HandsIn Unmounted n b unit frame = Unit {0}

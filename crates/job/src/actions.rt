@@ -1,11 +1,11 @@
 // The flash step that a job does next, and doing it.
 ghost use mathlib.Core.Path.{_≡_};
 ghost use mathlib.Core.Bool.{_&&_};
-ghost use lib.Dec.{ltb};
+ghost use lib.Dec.{eqb, ltb};
 ghost use lib.ListN.{getD};
 ghost use Rattle.flash.specs.Flash.{program, erase, isCount, sizeOf, within, writeStep};
-ghost use Rattle.journal.specs.Block.{headerKind, openWrite, sealWrite};
-ghost use Prim.Native.Nat.{_%_};
+ghost use Rattle.journal.specs.Block.{headerKind, openWrite, sealWrite, closeByte};
+ghost use Prim.Native.Nat.{suc, _%_};
 ghost use Rattle.board.specs.Record.{idle};
 ghost use Rattle.board.specs.Step.{sameShape};
 ghost use Rattle.job.specs.Code.{actionBy, flashStep, takes, did};
@@ -16,6 +16,7 @@ use board::Rest;
 use board::Stage;
 use flash::MAX_BLOCKS;
 use frame::Edition;
+use frame::FINISH;
 use journal::IN_TRANSFER;
 use journal::STATE_AT;
 use journal::TIME_AT;
@@ -75,6 +76,27 @@ fn seal_action(target: u8, time: u32, i: u8) -> Action
     }
 }
 
+// The offset of a byte that closes a torn frame; 0 past the last of them.
+fn closed_at(close: [u16; 4], i: u8) -> u16
+    ensures { λ r. ⌜ r ≡ getD close i 0 ⌝ }
+{
+    let k = i as usize;
+    if k < 4 {
+        return close[k];
+    }
+    0
+}
+
+// The byte itself: the last one is the frame's finish byte.
+fn close_byte(i: u8, closes: u8) -> u8
+    ensures { λ r. ⌜ r ≡ closeByte (eqb (suc i) closes) ⌝ }
+{
+    if i as usize + 1 == closes as usize {
+        return FINISH;
+    }
+    0
+}
+
 // By the byte in hand alone: no array is read.
 pub fn next_action(stage: Stage, n: Numbers, byte: u8) -> Action
     ensures { λ r. ⌜ flashStep r ≡ actionBy stage n byte ⌝ }
@@ -98,6 +120,11 @@ pub fn next_action(stage: Stage, n: Numbers, byte: u8) -> Action
             rest.end as usize + cursor.index as usize,
             byte,
         ),
+        Stage::Close => {
+            let close = job.close;
+            let at = closed_at(close, cursor.index) as usize;
+            return Action::Program(rest.block, at, close_byte(cursor.index, job.closes));
+        }
     }
 }
 

@@ -163,6 +163,17 @@ fn after_append(n: Numbers) -> Stepped
     records::over(rest)
 }
 
+fn after_close(n: Numbers) -> Stepped
+    ensures { λ r. ⌜ ((N : ℕ) (i p u f : List ℕ) → LeadsTo p u f r (advance N stages.Close i (assemble n p u f))) ⌝ }
+{
+    let job = n.job;
+    let cursor = n.cursor;
+    if has_next(cursor.index, job.closes) {
+        return next_step(Stage::Close, n);
+    }
+    records::enter_append(n)
+}
+
 // After a step whose place was in the image.
 pub fn advance(stage: Stage, n: Numbers) -> Moved
     requires { ⌜ offsetFor stage n < 32768 ⌝ }
@@ -175,5 +186,6 @@ pub fn advance(stage: Stage, n: Numbers) -> Moved
         Stage::Seal => return still(after_seal(n)),
         Stage::Drop => return still(after_drop(n)),
         Stage::Append => return still(after_append(n)),
+        Stage::Close => return still(after_close(n)),
     }
 }

@@ -3,7 +3,8 @@ ghost use mathlib.Core.Path.{_≡_};
 ghost use Rattle.board.specs.Record.{noPlaces, noFrame, noJob, cursor, starting, resting, unmounted, idle};
 ghost use Rattle.board.specs.Record as boards;
 ghost use Rattle.board.specs.Step.{first};
-ghost use Rattle.job.specs.Code.{numbersOf, assemble, going, atRest, over, staying, leaves, outcome, goAppend, landedOn, goDrop, goOpen, goWipe, begins};
+ghost use Rattle.job.specs.Code.{numbersOf, assemble, going, atRest, over, staying, leaves, outcome};
+ghost use Rattle.job.specs.Code.{goAppend, landedOn, goDrop, goClose, goOpen, goWipe, begins};
 use crate::Outcome;
 use board::Cursor;
 use board::Job;
@@ -63,6 +64,8 @@ pub fn no_job() -> Job
         since: [0; 4],
         size: 0,
         edition: 0,
+        closes: 0,
+        close: [0; 4],
     }
 }
 
@@ -314,6 +317,16 @@ pub fn enter_drop(n: Numbers) -> Stepped
     enter_append(landed(n))
 }
 
+fn enter_close(n: Numbers) -> Stepped
+    ensures { λ r. ⌜ r ≡ goClose n ⌝ }
+{
+    let job = n.job;
+    if 0 < job.closes {
+        return enter(Stage::Close, n);
+    }
+    enter_append(n)
+}
+
 pub fn enter_open(n: Numbers) -> Stepped
     ensures { λ r. ⌜ r ≡ goOpen n ⌝ }
 {
@@ -321,7 +334,7 @@ pub fn enter_open(n: Numbers) -> Stepped
     if job.moves {
         return enter(Stage::Open, n);
     }
-    enter_append(n)
+    enter_close(n)
 }
 
 fn enter_wipe(n: Numbers) -> Stepped

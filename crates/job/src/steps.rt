@@ -119,7 +119,7 @@ fn try_busy(image: &mut [u8], blocks: u8, stage: Stage, n: Numbers, byte: u8) ->
 }
 
 // Inner part of step_core, and of the steps over the record's bytes. It reads no array of the record: the byte in hand is given, any byte where no
-// frame's byte is programmed, and the next frame is still to be loaded where one is due.
+// frame is copied or appended, and the next frame is still to be loaded where one is due.
 pub fn try_step(image: &mut [u8], blocks: u8, n: Numbers, byte: u8) -> Moved
     ensures { λ r. ⌜ ((p u f : List ℕ) → Hands n byte u f → Steps (answered r) (r .stepped .ended) (reached blocks r (now (image .exit)) p u f)
         (now (image .exit)) (stepOn blocks (now (image .entry)) (assemble n p u f))) ⌝ }
@@ -177,6 +177,7 @@ pub fn in_hand(n: Numbers, unit: &[u8; BUFFER_LEN], frame: &[u8; BUFFER_LEN]) ->
             Stage::Seal => return 0,
             Stage::Drop => return 0,
             Stage::Append => return flash::byte_at(frame, cursor.index as usize),
+            Stage::Close => return 0,
         },
     }
 }

@@ -1,4 +1,4 @@
--- Blocks of edition 2 are foreign to the store before K9, at their kind; all others are read as it read them.
+-- Blocks of edition 2 are foreign by the header's rule before K9, at their kind; all other headers are read as they were.
 use mathlib.Core.Path.{_≡_, refl, sym, ap, _∙_}
 use mathlib.Core.List.{List, _++_}
 use mathlib.Core.Option.{Option, none, some}

@@ -6,7 +6,7 @@ use Prim.Native.Nat.{ℕ, zero, suc, _+_, _-_, _/_, _%_, _≤_, _<_}
 use native.Mathlib.Omega.{arith}
 use lib.Bits.{bitAnd}
 use lib.Dec.{ltb}
-use lib.ListN.{length, getD, take, replicate, length-append, length-replicate, getD-replicate, replicate-append-replicate, List·getD-append}
+use lib.ListN.{length, getD, take, replicate, length-append, length-replicate, getD-replicate, replicate-append-replicate, List·getD-append, List·getD-eq-default}
 use lib.Seq.{take-append-le, getD-at}
 use borrow.Author.Tests.{ltb-true, ltb-false}
 use Rattle.flash.specs.Bytes.{Bytes, u16le, u32le}
@@ -20,10 +20,10 @@ use Rattle.flash.proofs.Offsets.{off-take, off-writes, untouched, Fresh, fresh-
 use Rattle.frame.specs.declared.Edition.{Edition}
 use Rattle.frame.specs.declared.Edition.the-variants as edition
 use Rattle.frame.specs.Frame.{Frame, encodeAll, total, AllMayStand, nextOf}
-use Rattle.frame.specs.Reader.{clean}
+use Rattle.frame.specs.Reader.{clean, cut}
 use Rattle.frame.proofs.Encode.{bytes-all, length-all}
 use Rattle.frame.proofs.Scanning.{scan-blank}
-use Rattle.journal.specs.Block.{headerLen, headerKind, lastTime, stateAt, inTransfer, validData, header, journal, inProgress, valid}
+use Rattle.journal.specs.Block.{headerLen, headerKind, lastTime, stateAt, inTransfer, validData, header, Journal, journal, inProgress, valid}
 use Rattle.journal.specs.Block.{blockState, openWrites, sealWrites, build}
 use Rattle.journal.proofs.Blocks.{Layout, valid-block, progress-block}
 
@@ -211,10 +211,35 @@ making ed s t (suc q) fs h p l =
     ap (λ (ws : List Write). blockState (writeAll (replicate s 255) ws)) (take-build ed t (suc q) fs l)
     ∙ progress-block (writeAll (replicate s 255) (take (suc q) (unsealed ed t fs))) (omega arith) (marked ed s t q fs h)
 
--- a write that meets 0xFF, or the state byte's 0xFE, and leaves the byte that it gives
+-- a write of 0 to the kind's low byte of a torn frame
+pub record ClosesKind (l : List ℕ) (w : Write) : Type 0 where
+  pub journal : Journal
+  pub long : ℕ
+  pub is-valid : blockState l ≡ valid journal
+  pub is-torn : journal .tail ≡ cut long
+  pub at-kind : w .at ≡ headerLen + total (journal .edition) (journal .frames) + 2
+  pub to-zero : w .byte ≡ 0
+
+-- a write that meets 0xFF, or the state byte's 0xFE, or closes a frame, and leaves the byte that it gives
 pub record Lands (l : List ℕ) (w : Write) : Type 0 where
-  pub before : (getD l (w .at) 0 ≡ 255) ⊎ ((w .at ≡ stateAt) × (getD l (w .at) 0 ≡ inTransfer))
+  pub inside : w .at < length l
+  pub before : (getD l (w .at) 0 ≡ 255) ⊎ (((w .at ≡ stateAt) × (getD l (w .at) 0 ≡ inTransfer)) ⊎ ClosesKind l w)
   pub after : getD (programAt l (w .at) (w .byte)) (w .at) 0 ≡ w .byte
+
+-- a byte that isn't 0 lies in the list
+some-inside : (l : List ℕ) (i : ℕ) → 0 < getD l i 0 → i < length l
+some-inside l i h =
+    on-test (ltb i (length l)) (ltb-true i (length l))
+    (λ t. let e : getD l i 0 ≡ 0 = List·getD-eq-default l 0 (ltb-false i (length l) t) in absurd (omega arith))
+
+-- where 0xFF stands every byte lands
+pub lands-ff : (l : List ℕ) (w : Write) → w .byte < 256 → getD l (w .at) 0 ≡ 255 → Lands l w
+lands-ff l w h was =
+    record {
+      inside = some-inside l (w .at) (omega arith);
+      before = inl was;
+      after = program-same l (w .at) (w .byte) ∙ ap (λ (x : ℕ). bitAnd x (w .byte)) was ∙ and-ff (w .byte) h;
+    }
 
 pub lands : (ed : Edition) (s t q : ℕ) (fs : List Frame) (d : Write) → headerLen + total ed fs ≤ s → AllMayStand ed 0 fs → q < length (build ed t fs)
     → Lands (writeAll (replicate s 255) (take q (build ed t fs))) (getD (build ed t fs) q d)
@@ -237,12 +262,7 @@ lands ed s t q fs d h g l =
         let w : Write = getD ws q d in
         let was = fresh-ff s ws q d (fresh-unsealed ed t fs) (below-unsealed ed s t fs h) k in
         over w (ap (λ (x : List Write). getD x q d) (build-is ed t fs) ∙ List·getD-append ws seal d q k)
-        (record {
-          before = inl was;
-          after =
-              program-same (writeAll (replicate s 255) (take q ws)) (w .at) (w .byte) ∙ ap (λ (x : ℕ). bitAnd x (w .byte)) was
-              ∙ and-ff (w .byte) (given-at ws q d (given-unsealed ed t fs g) k);
-        })
+        (lands-ff (writeAll (replicate s 255) (take q ws)) w (given-at ws q d (given-unsealed ed t fs g) k) was)
 
     last : q ≡ length (unsealed ed t fs) → Lands (writeAll (replicate s 255) (take q (build ed t fs))) (getD (build ed t fs) q d)
     last k =
@@ -250,6 +270,10 @@ lands ed s t q fs d h g l =
         let was : getD x stateAt 0 ≡ inTransfer =
         ap (λ (n : ℕ). getD (writeAll (replicate s 255) (take n ws)) stateAt 0) k ∙ marked ed s t (length (middle ed t fs)) fs h in
         over (write stateAt validData) (ap (λ (y : List Write). getD y q d) (build-is ed t fs) ∙ getD-at ws (write stateAt validData) [] d q (sym k))
-        (record { before = inr (refl, was); after = program-same x stateAt validData ∙ ap (λ (n : ℕ). bitAnd n validData) was })
+        (record {
+          inside = some-inside x stateAt (omega arith);
+          before = inr (inl (refl, was));
+          after = program-same x stateAt validData ∙ ap (λ (n : ℕ). bitAnd n validData) was;
+        })
 
 -- ---- each by its number

@@ -15,6 +15,7 @@ pub mod Sentences  -- document 01's sentence on the states of a half, a theorem 
 pub mod Raising  -- document 02's sentence on a half whose erase was cut, and what stays harmless: for board
 pub mod Before  -- the store before K9 and blocks of edition 2, a theorem to read
 pub mod Building  -- a block made write by write: for board
+pub mod Closing  -- a torn frame closed in place: for board
 -- ---- places: where values and pending frames stand
 pub mod Places  -- a place holds its value: for the files below, board, store
 pub mod Pending  -- what is pending stands past `since`: for Loading, Indexing, Passing

@@ -12,7 +12,7 @@ use borrow.Author.Tests.{ne-eqb, eqb-true, eqb-false, leb-true, leb-false}
 use Rattle.flash.proofs.Cases.{on-test}
 use Rattle.frame.specs.declared.Edition.{Edition}
 use Rattle.frame.specs.declared.Host.{Host}
-use Rattle.frame.specs.Frame.{hostMax, idOf, Change, put, delete, Frame, change, commit, abort, settled, encode, encodeAll, frameLen, total}
+use Rattle.frame.specs.Frame.{hostMax, idOf, Change, put, delete, Frame, change, commit, abort, settled, closed, reset, encode, encodeAll, frameLen, total}
 use Rattle.frame.specs.Frame.{MayStand, AllMayStand, nextAfter, nextOf}
 use Rattle.frame.proofs.Encode.{length-encode, length-all, stands-zero}
 use Rattle.frame.proofs.Exact.{read-back}
@@ -115,6 +115,8 @@ module _ (ed : Edition) (b : List ℕ) (end : ℕ) (places since : List ℕ) whe
     one-frame o n (commit h) rest es g e e′ k y = pass o n (commit h) rest (map pendingFrame es) g refl e e′ y
     one-frame o n (abort h) rest es g e e′ k y = pass o n (abort h) rest (map pendingFrame es) g refl e e′ y
     one-frame o n (settled i v) rest es g e e′ k y = pass o n (settled i v) rest (map pendingFrame es) g refl e e′ y
+    one-frame o n (closed v) rest es g e e′ k y = pass o n (closed v) rest (map pendingFrame es) g refl e e′ y
+    one-frame o n reset rest es g e e′ k y = pass o n reset rest (map pendingFrame es) g refl e e′ y
 
     yields-pending : (o n : ℕ) (fs : List Frame) → AllMayStand ed n fs → drop o (take end b) ≡ encodeAll ed fs → o + total ed fs ≡ end
         → Yields ed b end places since 256 o (map pendingFrame (entriesOf ed bytesThere m o fs))

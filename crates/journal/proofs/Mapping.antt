@@ -10,7 +10,7 @@ use Rattle.flash.proofs.Cases.{on-test, on-order}
 use Rattle.frame.specs.declared.Edition.{Edition}
 use Rattle.frame.specs.declared.Host.{Host}
 use Rattle.frame.specs.declared.ObjectId.{ObjectId}
-use Rattle.frame.specs.Frame.{idOf, ChangeOf, put, delete, FrameOf, Frame, change, commit, abort, settled, mapChange, mapFrame, frameLen, total}
+use Rattle.frame.specs.Frame.{idOf, ChangeOf, put, delete, FrameOf, Frame, change, commit, abort, settled, closed, reset, mapChange, mapFrame, frameLen, total}
 use Rattle.frame.proofs.Heads.{map-twice, map-plain}
 use Rattle.journal.specs.Replay.{ObjectOf, object, EntryOf, entry, StateOf, state, insert, remove, lookup, change1, changeAll, listOf}
 use Rattle.journal.specs.Replay.{without, nextState, replayFrom, replay}
@@ -88,6 +88,8 @@ module _ {A B : Type 0} (f : A → B) where
       (map-without h (s .pending))
   map-next s (abort h) = ap (state (map mapObject (s .objects))) (map-without h (s .pending))
   map-next s (settled i v) = ap (λ (x : List (ObjectOf B)). state x (map mapEntry (s .pending))) (map-snoc mapObject (s .objects) (object i v))
+  map-next s (closed v) = refl
+  map-next s reset = refl
 
   map-from : (s : StateOf A) (xs : List (FrameOf A)) → replayFrom (mapState s) (map (mapFrame f) xs) ≡ mapState (replayFrom s xs)
   unfolding replayFrom
@@ -121,6 +123,8 @@ module _ {A : Type 0} (P : ObjectId → A → Type 0) where
   OfFrame (commit h) = Unit {0}
   OfFrame (abort h) = Unit {0}
   OfFrame (settled i v) = P i v
+  OfFrame (closed v) = Unit {0}
+  OfFrame reset = Unit {0}
 
   abbrev pub AllFrames : List (FrameOf A) → Type 0
   AllFrames [] = Unit {0}
@@ -175,6 +179,8 @@ module _ {A : Type 0} (P : ObjectId → A → Type 0) where
   all-next s (commit h) p (a, e) = (all-changes (listOf h (s .pending)) (s .objects) (all-list h (s .pending) e) a, all-without h (s .pending) e)
   all-next s (abort h) p (a, e) = (a, all-without h (s .pending) e)
   all-next s (settled i v) p (a, e) = (all-objects-snoc (s .objects) (object i v) p a, e)
+  all-next s (closed v) p k = k
+  all-next s reset p (a, e) = (a, tt)
 
   all-from : (s : StateOf A) (xs : List (FrameOf A)) → AllFrames xs → OfState s → OfState (replayFrom s xs)
   unfolding replayFrom
@@ -204,6 +210,8 @@ by-holder H P val y (change h (delete i)) k = tt
 by-holder H P val y (commit h) k = tt
 by-holder H P val y (abort h) k = tt
 by-holder H P val y (settled i v) k = y settledAs i v k
+by-holder H P val y (closed v) k = tt
+by-holder H P val y reset k = tt
 
 -- ---- frames whose values are made of their offset and bytes
 

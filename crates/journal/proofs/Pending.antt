@@ -1,4 +1,4 @@
--- What is pending after a replay: the changes that stand past their host's last commit or abort.
+-- What is pending after a replay: the changes that stand past their host's last commit or abort, or a reset.
 use mathlib.Core.Path.{_≡_, refl, sym, ap, ap₂, subst, fun-ext, _∙_}
 use mathlib.Core.List.{List, [], _∷_, _++_, append-assoc, append-nil}
 use mathlib.Core.Bool.{Bool, true, false}
@@ -10,14 +10,15 @@ use borrow.Author.Tests.{eqb-true, eqb-false, eq-eqb, ne-eqb, le-leb, lt-leb}
 use Rattle.flash.proofs.Cases.{on-test}
 use Rattle.frame.specs.declared.Edition.{Edition}
 use Rattle.frame.specs.declared.Host.{Host}
-use Rattle.frame.specs.Frame.{hostOf, hostMax, Change, put, delete, Frame, change, commit, abort, settled, mapChange, mapFrame, frameLen, total}
+use Rattle.frame.specs.Frame.{hostOf, hostMax, Change, put, delete, Frame, change, commit, abort, settled, closed, reset, mapChange, mapFrame, frameLen, total}
+use Rattle.frame.proofs.Encode.{total-snoc}
 use Rattle.journal.specs.Block.{headerLen}
 use Rattle.journal.specs.Replay.{EntryOf, entry, StateOf, without, nextState, replay, replayFrom}
 use Rattle.journal.specs.Index.{isEnd, pick, sinceFrom, sinceHost, sinceOf}
 use Rattle.journal.proofs.Replaying.{replay-snoc}
 use Rattle.journal.proofs.Mapping.{located, located-plain, located-snoc}
 
--- ---- the offsets past each host's last commit or abort
+-- ---- the offsets past each host's last commit or abort, or a reset
 
 pub since-snoc : (ed : Edition) (h : Host) (o d : ℕ) (fs : List Frame) (f : Frame)
     → sinceFrom ed h o d (fs ++ (f ∷ [])) ≡ pick (isEnd h f) (o + total ed fs + frameLen ed f) (sinceFrom ed h o d fs)
@@ -64,6 +65,8 @@ changeAt val since o (change h c) = elim (leb (since h) o) [ true ↦ entry h (m
 changeAt val since o (commit h) = []
 changeAt val since o (abort h) = []
 changeAt val since o (settled i v) = []
+changeAt val since o (closed v) = []
+changeAt val since o reset = []
 
 -- those of frames that start at offset o
 unfoldable pub entriesOf : (ed : Edition) {A : Type 0} → (ℕ → List ℕ → A) → (Host → ℕ) → ℕ → List Frame → List (EntryOf A)
@@ -116,6 +119,8 @@ module _ (ed : Edition) {A : Type 0} (val : ℕ → List ℕ → A) where
     moved-frame o (commit g) l = refl
     moved-frame o (abort g) l = refl
     moved-frame o (settled i v) l = refl
+    moved-frame o (closed v) l = refl
+    moved-frame o reset l = refl
 
     moved : (o : ℕ) (fs : List Frame) → o + total ed fs ≤ new h → entriesOf ed val new o fs ≡ without h (entriesOf ed val old o fs)
     unfolding entriesOf total without
@@ -153,6 +158,22 @@ module _ (ed : Edition) {A : Type 0} (val : ℕ → List ℕ → A) where
       ∙ ap (λ (t : Bool). pick t (headerLen + total ed fs + frameLen ed f) (sinceHost ed g fs)) (n g ∙ ne-eqb (g .0) (h .0) (λ q. d (sym q))))
       headerLen fs (omega (arith, own))
 
+  -- a reset moves every host's
+  none-left : (m : Host → ℕ) (o : ℕ) (fs : List Frame) → ((h : Host) → o + total ed fs ≤ m h) → entriesOf ed val m o fs ≡ []
+  unfolding entriesOf total
+  none-left m o [] l = refl
+  none-left m o (f ∷ fs) l =
+      ap₂ (λ (x y : List (EntryOf A)). x ++ y) (below f (λ h. let q : o + (frameLen ed f + total ed fs) ≤ m h = l h in omega arith))
+      (none-left m (o + frameLen ed f) fs (λ h. omega (arith, l h)))
+    where
+      below : (g : Frame) → ((h : Host) → o < m h) → changeAt val m o g ≡ []
+      below (change h c) k = change-no m o h c (k h)
+      below (commit h) k = refl
+      below (abort h) k = refl
+      below (settled i v) k = refl
+      below (closed v) k = refl
+      below reset k = refl
+
   -- what is pending after one frame more
   after : (fs : List Frame) (f : Frame) → replay (located ed val headerLen (fs ++ (f ∷ []))) ≡ nextState (replay (located ed val headerLen fs))
       (mapFrame (val (headerLen + total ed fs)) f)
@@ -171,6 +192,13 @@ module _ (ed : Edition) {A : Type 0} (val : ℕ → List ℕ → A) where
   right-next fs (settled i v) r =
       ap (λ (s : StateOf A). s .pending) (after fs (settled i v)) ∙ r ∙ sym (append-nil (entriesOf ed val (sinceIn ed fs) headerLen fs))
       ∙ sym (stays fs (settled i v) (λ g. refl))
+  right-next fs (closed v) r =
+      ap (λ (s : StateOf A). s .pending) (after fs (closed v)) ∙ r ∙ sym (append-nil (entriesOf ed val (sinceIn ed fs) headerLen fs))
+      ∙ sym (stays fs (closed v) (λ g. refl))
+  right-next fs reset r =
+      ap (λ (s : StateOf A). s .pending) (after fs reset)
+      ∙ sym (none-left (sinceIn ed (fs ++ (reset ∷ []))) headerLen (fs ++ (reset ∷ []))
+      (λ h. omega (arith, since-snoc ed h headerLen headerLen fs reset, total-snoc ed fs reset)))
 
   right-all : (fs gs : List Frame) → Right fs → Right (fs ++ gs)
   right-all fs [] r = subst Right (sym (append-nil fs)) r

@@ -14,7 +14,7 @@ use Rattle.frame.specs.declared.Edition.{Edition}
 use Rattle.frame.specs.declared.Edition.the-variants as edition
 use Rattle.frame.specs.declared.Host.{Host}
 use Rattle.frame.specs.declared.ObjectId.{ObjectId}
-use Rattle.frame.specs.Frame.{hostOf, Change, put, delete, Frame, change, commit, abort, settled, MayStand, AllMayStand, nextAfter, nextOf}
+use Rattle.frame.specs.Frame.{hostOf, Change, put, delete, Frame, change, commit, abort, settled, closed, reset, MayStand, AllMayStand, nextAfter, nextOf}
 use Rattle.frame.specs.Frame.{checkLen, frameLen, total}
 use Rattle.journal.specs.Replay.{Object, object, Entry, entry, State, state, lookup, changeAll, listOf, without, isOpen, replayFrom}
 use Rattle.journal.specs.Replay.{replay, settledFrame, pendingFrame, framesOf}
@@ -81,6 +81,9 @@ module _ (fs : List Frame) where
   after-settled : (i : ObjectId) (v : List ℕ) → replay (then fs (settled i v)) ≡ state (was .objects ++ (object i v ∷ [])) (was .pending)
   after-settled i v = replay-snoc fs (settled i v)
 
+  after-reset : replay (then fs reset) ≡ state (was .objects) []
+  after-reset = replay-snoc fs reset
+
   nothing-left : (h : Host) → listOf h (was .pending) ≡ [] → without h (was .pending) ≡ was .pending
   nothing-left h e = without-none h (was .pending) (open-none h (was .pending) e)
 
@@ -94,7 +97,7 @@ module _ (fs : List Frame) where
   abort-nothing h e = after-abort h ∙ ap (λ (es : List Entry). state (was .objects) es) (nothing-left h e)
 
 pub replay-laws : ReplayLaws
-unfolding replayFrom
+unfolding replayFrom listOf
 replay-laws =
     record {
       nothing = refl;
@@ -119,6 +122,10 @@ replay-laws =
           ap (λ (s : State). listOf g (s .pending)) (after-abort fs h) ∙ list-other g h (replay fs .pending) (λ e. n (sym e));
       commit-nothing = commit-nothing;
       abort-nothing = abort-nothing;
+      closed-nothing = λ fs v. replay-snoc fs (closed v);
+      reset-objects = λ fs. ap (λ (s : State). s .objects) (after-reset fs);
+      reset-pending = λ fs h. ap (λ (s : State). listOf h (s .pending)) (after-reset fs);
+      reset-nothing = λ fs e. after-reset fs ∙ ap (state (replay fs .objects)) (sym e);
     }
 
 without-taken : (h : Host) (xs ys : List Entry) (c : Change) → without h (xs ++ (entry h c ∷ ys)) ≡ without h (xs ++ ys)
@@ -135,6 +142,7 @@ order-laws =
       joins = λ fs h c. ap (λ (s : State). s .pending) (after-change fs h c);
       after-commit = λ fs h. ap (λ (s : State). s .pending) (after-commit fs h);
       after-abort = λ fs h. ap (λ (s : State). s .pending) (after-abort fs h);
+      after-reset = λ fs. ap (λ (s : State). s .pending) (after-reset fs);
       taken = without-taken;
       left = λ h es e. without-none h es (open-none h es e);
       is-open = λ h es. (

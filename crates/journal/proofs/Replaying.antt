@@ -10,8 +10,8 @@ use Rattle.flash.proofs.Cases.{on-test, on-order}
 use Rattle.frame.specs.declared.Edition.{Edition}
 use Rattle.frame.specs.declared.Host.{Host}
 use Rattle.frame.specs.declared.ObjectId.{ObjectId}
-use Rattle.frame.specs.Frame.{hostOf, Change, put, delete, FrameOf, Frame, change, commit, abort, settled, MayStand, AllMayStand, nextAfter, nextOf}
-use Rattle.frame.proofs.Encode.{stands-any, stands-append}
+use Rattle.frame.specs.Frame.{hostOf, Change, put, delete, FrameOf, Frame, change, commit, abort, settled, closed, reset, MayStand, AllMayStand, nextAfter, nextOf}
+use Rattle.frame.proofs.Encode.{stands-any, stands-append, NoneClosed}
 use Rattle.journal.specs.Replay.{ObjectOf, object, EntryOf, entry, StateOf, state, Object, Entry, State, insert, remove, lookup, change1, changeAll}
 use Rattle.journal.specs.Replay.{listOf, without, nextState, replayFrom, replay, settledFrame, pendingFrame, framesOf, settledOnly}
 use Rattle.journal.proofs.Lookups.{lookup-no, insert-lt, insert-eq, insert-gt}
@@ -167,6 +167,8 @@ sound-next ed n s (commit h) g k =
 sound-next ed n s (abort h) g k =
     record { rising = rising-to ed 0 (s .objects) n 256 (k .low) (k .rising); low = omega arith; entries = legal-without ed h (s .pending) (k .entries) }
 sound-next ed n s (settled i v) g k = record { rising = rising-snoc ed 0 (s .objects) n i v g (k .rising); low = omega arith; entries = k .entries }
+sound-next ed n s (closed v) g k = record { rising = rising-to ed 0 (s .objects) n 256 (k .low) (k .rising); low = omega arith; entries = k .entries }
+sound-next ed n s reset g k = record { rising = rising-to ed 0 (s .objects) n 256 (k .low) (k .rising); low = omega arith; entries = tt }
 
 sound-from : (ed : Edition) (n : ℕ) (s : State) (fs : List Frame) → AllMayStand ed n fs → Sound ed n s → Sound ed (nextOf n fs) (replayFrom s fs)
 unfolding replayFrom
@@ -199,3 +201,15 @@ stands-replay ed fs g = stands-framesOf ed (nextOf 0 fs) (replay fs) (sound-repl
 
 pub stands-settled : (ed : Edition) (fs : List Frame) → AllMayStand ed 0 fs → AllMayStand ed 0 (framesOf (settledOnly (replay fs)))
 stands-settled ed fs g = stands-framesOf ed (nextOf 0 fs) (settledOnly (replay fs)) (sound-settled ed (nextOf 0 fs) (replay fs) (sound-replay ed fs g))
+
+-- none of the frames that a transfer writes is a closed one
+pub none-closed : (s : State) → NoneClosed (framesOf s)
+none-closed s = objects (s .objects)
+  where
+    entries : (es : List Entry) → NoneClosed (map pendingFrame es)
+    entries [] = tt
+    entries (e ∷ es) = (tt, entries es)
+
+    objects : (os : List Object) → NoneClosed (map settledFrame os ++ map pendingFrame (s .pending))
+    objects [] = entries (s .pending)
+    objects (o ∷ os) = (tt, objects os)

@@ -12,7 +12,7 @@ use Rattle.frame.specs.declared.Edition.{Edition}
 use Rattle.frame.specs.declared.Edition.the-variants as edition
 use Rattle.frame.specs.declared.Host.{Host}
 use Rattle.frame.specs.declared.ObjectId.{ObjectId}
-use Rattle.frame.specs.Frame.{hostOf, hostMax, Change, put, delete, Frame, change, commit, abort, settled, frameLen, putLen, total}
+use Rattle.frame.specs.Frame.{hostOf, hostMax, Change, put, delete, Frame, change, commit, abort, settled, closed, reset, frameLen, putLen, total}
 use Rattle.frame.proofs.Encode.{total-append}
 use Rattle.journal.specs.Block.{headerLen}
 use Rattle.journal.specs.Replay.{Object, object, Entry, entry, State, state, insert, remove, change1, changeAll, listOf, without}
@@ -107,6 +107,8 @@ room-next ed s (change h c) = omega (arith, change-room ed s h c)
 room-next ed s (commit h) = omega (arith, commit-room ed s h)
 room-next ed s (abort h) = omega (arith, abort-room ed s h)
 room-next ed s (settled i v) = omega (arith, objects-snoc ed (s .objects) (object i v))
+room-next ed s (closed v) = omega arith
+room-next ed s reset = omega (arith, claimed-settled ed s, used-claimed ed s)
 
 room-from : (ed : Edition) (s : State) (fs : List Frame) → claimed ed (replayFrom s fs) ≤ claimed ed s + total ed fs
 unfolding replayFrom total

@@ -12,7 +12,7 @@ use Rattle.frame.specs.declared.Edition.{Edition}
 use Rattle.frame.specs.declared.Fault.{Fault}
 use Rattle.frame.specs.Frame.{total, nextOf}
 use Rattle.frame.specs.Reader.{Tail, clean, cut, bad, scan, ends}
-use Rattle.frame.specs.Sentences.{Torn}
+use Rattle.frame.specs.Sentences.{Torn, cut-short, being-closed}
 use Rattle.frame.proofs.Exact.{torn-reads}
 use Rattle.frame.proofs.Scanning.{scan-read-torn, scan-blank}
 use Rattle.frame.proofs.Scanned.{tail-clean, tail-cut}
@@ -37,8 +37,9 @@ progress-is b e =
 
 -- ---- valid
 
-scan-torn : (ed : Edition) (next at : ℕ) (l : List ℕ) (n : ℕ) → Torn ed next l n → scan ed next at 0 l ≡ ends (cut n)
-scan-torn ed next at [] n y = absurd (omega (arith, y .would-fit))
+pub scan-torn : (ed : Edition) (next at : ℕ) (l : List ℕ) (n : ℕ) → Torn ed next l n → scan ed next at 0 l ≡ ends (cut n)
+scan-torn ed next at [] n (cut-short y) = absurd (omega (arith, y .would-fit))
+scan-torn ed next at [] n (being-closed y) = let z : _≡_ {A = ℕ} 0 1 = cc in absurd (omega arith)
 scan-torn ed next at (b ∷ l) n y = scan-read-torn ed next at b l n (torn-reads ed next at (b ∷ l) n y)
 
 tail-okay : (ed : Edition) (next : ℕ) (l : List ℕ) (c : Tail) → TailIs ed next l c → Okay c
@@ -56,14 +57,14 @@ tail-is ed next at l clean o e = tail-clean ed next at l e
 tail-is ed next at l (cut n) o e = tail-cut ed next at l n e
 tail-is ed next at l (bad f) o e = o
 
-valid-state : (b : List ℕ) (j : Journal) → ValidBlock b j → blockState b ≡ valid j
+pub valid-state : (b : List ℕ) (j : Journal) → ValidBlock b j → blockState b ≡ valid j
 valid-state b j y =
     let n : ℕ = nextOf 0 (j .frames) in
     valid-block {s = length b} j (record { is = y .bytes; stands = y .frames; time-lo = y .time-lo; time-hi = y .time-hi; size = refl })
     (tail-scan (j .edition) n (headerLen + total (j .edition) (j .frames)) (y .rest) (j .tail) (y .tail))
     (tail-okay (j .edition) n (y .rest) (j .tail) (y .tail))
 
-valid-is : (b : List ℕ) (j : Journal) → Contents b j → ValidBlock b j
+pub valid-is : (b : List ℕ) (j : Journal) → Contents b j → ValidBlock b j
 valid-is b j x =
     record {
       rest = x .rest;

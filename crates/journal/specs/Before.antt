@@ -1,5 +1,5 @@
--- The store before document 02's K9, its rule for headers as it stood: what it makes of a block of edition 2, and that all other blocks are read as it
--- read them.
+-- The rule for headers as it stood before document 02's K9: what it makes of a block of edition 2, and that every other header is read as it was. The
+-- frames after it are read by today's reader, which knows K11's kinds too.
 use mathlib.Core.List.{List, [], _∷_}
 use mathlib.Core.Option.{Option, none, some}
 use mathlib.Core.Bool.{true, false}
@@ -46,9 +46,9 @@ stateBefore b =
     ]
 
 pub record Compatible : Type 0 where
-  -- the store before finds a valid block of edition 2 foreign, at its kind
+  -- by that rule a valid block of edition 2 is foreign, at its kind
   pub second-foreign : (b : List ℕ) (j : Journal) → ValidBlock b j → j .edition ≡ edition.Second → stateBefore b ≡ foreign (fault field.Kind 2)
-  -- a block whose bytes 2 and 3 are not 0x4A02 is read as before, whatever its other bytes are
+  -- a block whose bytes 2 and 3 are not 0x4A02 is read as by that rule, whatever its other bytes are
   pub as-before : (b : List ℕ) → (take 2 (drop 2 b) ≡ 0x02 ∷ 0x4A ∷ [] → ⊥) → blockState b ≡ stateBefore b
-  -- and what the store before took is taken still: the same frames at the same time
+  -- and what is valid by that rule is valid still: the same frames at the same time
   pub still-valid : (b : List ℕ) (j : Journal) → stateBefore b ≡ valid j → blockState b ≡ valid j

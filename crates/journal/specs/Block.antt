@@ -1,8 +1,8 @@
 -- A block's header and its state, document 01, "Half header" and "Frames".
 use mathlib.Core.List.{List, [], _∷_, _++_}
 use mathlib.Core.Option.{Option, none, some}
-use mathlib.Core.Bool.{true, false}
-use Prim.Native.Nat.{ℕ, _+_, _-_}
+use mathlib.Core.Bool.{Bool, true, false, cond}
+use Prim.Native.Nat.{ℕ, suc, _+_, _-_}
 use lib.Dec.{eqb}
 use lib.ListN.{getD, take, drop}
 use Rattle.flash.specs.Bytes.{u16le, u32le, le32, allFF, sameBytes}
@@ -11,7 +11,7 @@ use Rattle.frame.specs.declared.Edition.{Edition}
 use Rattle.frame.specs.declared.Edition.the-variants as edition
 use Rattle.frame.specs.declared.Fault.{Fault}
 use Rattle.frame.specs.declared.Field.the-variants as field
-use Rattle.frame.specs.Frame.{Frame, encodeAll, kindAt}
+use Rattle.frame.specs.Frame.{Frame, encodeAll, kindAt, finish}
 use Rattle.frame.specs.Reader.{fault, Tail, clean, cut, bad, Scan, scan}
 
 -- header bytes 0-1 and 2-3: "length, 16", "kind, 0x4A01"; document 02, K9: "In edition 2 the header kind is 0x4A02"
@@ -161,3 +161,31 @@ markWrites = 5
 -- all writes that make a blank block a valid one of these frames
 abbrev pub build : Edition → ℕ → List Frame → List Write
 build ed time fs = openWrites ed ++ (writes headerLen (encodeAll ed fs) ++ sealWrites time)
+
+-- ---- a torn frame closed in place, document 02, K11
+
+-- how long it is; 0 where there is none
+abbrev pub tornLen : Tail → ℕ
+tornLen clean = 0
+tornLen (cut n) = n
+tornLen (bad e) = 0
+
+-- "length's high byte to 0, kind to 0x0000 low byte first, then its finish byte": of a frame of n bytes at an offset of the block
+abbrev pub closing : ℕ → ℕ → List Write
+closing at n = write (at + 1) 0 ∷ write (at + kindAt) 0 ∷ write (at + suc kindAt) 0 ∷ write (at + (n - 1)) finish ∷ []
+
+-- "each a step only if it must change": those of some writes that are not what block b has there
+unfoldable pub changing : List ℕ → List Write → List Write
+changing b [] = []
+changing b (w ∷ ws) = cond (eqb (getD b (w .at) 0) (w .byte)) (changing b ws) (w ∷ changing b ws)
+
+-- all write zeros, except that the last writes the finish byte
+abbrev pub closeByte : Bool → ℕ
+closeByte true = finish
+closeByte false = 0
+
+-- the writes that close what follows the whole frames, which end at an offset
+abbrev pub closeWrites : List ℕ → ℕ → Tail → List Write
+closeWrites b at clean = []
+closeWrites b at (cut n) = changing b (closing at n)
+closeWrites b at (bad e) = []

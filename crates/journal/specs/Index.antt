@@ -8,7 +8,8 @@ use lib.ListN.{getD, take, drop}
 use Rattle.frame.specs.declared.Edition.{Edition}
 use Rattle.frame.specs.declared.Host.{Host}
 use Rattle.frame.specs.declared.ObjectId.{ObjectId}
-use Rattle.frame.specs.Frame.{hostOf, idOf, put, delete, FrameOf, Frame, change, commit, abort, settled, mapFrame, frameLen, putValueAt, settledValueAt}
+use Rattle.frame.specs.Frame.{hostOf, idOf, put, delete, FrameOf, Frame, change, commit, abort, settled, closed, reset, mapFrame, frameLen}
+use Rattle.frame.specs.Frame.{putValueAt, settledValueAt}
 use Rattle.frame.specs.Reader.{Read, blank, whole, torn, wrong, readFrame}
 use Rattle.journal.specs.Replay.{ObjectOf, lookup, replay}
 use Rattle.journal.specs.Block.{headerLen}
@@ -32,18 +33,20 @@ placesFrom (suc n) i os = orZero (lookup (idOf i) os) ∷ placesFrom n (suc i) o
 abbrev pub placesOf : Edition → List Frame → List ℕ
 placesOf ed fs = placesFrom 256 0 (replay (sited ed headerLen fs) .objects)
 
--- the frame ends a host's pending list
+-- the frame ends a host's pending list: a reset every host's
 abbrev pub isEnd : Host → Frame → Bool
 isEnd h (change g c) = false
 isEnd h (commit g) = eqb (h .0) (g .0)
 isEnd h (abort g) = eqb (h .0) (g .0)
 isEnd h (settled i v) = false
+isEnd h (closed v) = false
+isEnd h reset = true
 
 abbrev pub pick : Bool → ℕ → ℕ → ℕ
 pick true a b = a
 pick false a b = b
 
--- the offset past a host's last commit or abort, of frames that start at o; d where there is none
+-- the offset past a host's last commit or abort, or a reset, of frames that start at o; d where there is none
 unfoldable pub sinceFrom : Edition → Host → ℕ → ℕ → List Frame → ℕ
 sinceFrom ed h o d [] = d
 sinceFrom ed h o d (f ∷ fs) = sinceFrom ed h (o + frameLen ed f) (pick (isEnd h f) (o + frameLen ed f) d) fs
@@ -73,6 +76,8 @@ frameValue i p (change h (delete j)) = none
 frameValue i p (commit h) = none
 frameValue i p (abort h) = none
 frameValue i p (settled j v) = onlyIf (eqb (i .0) (j .0)) (record { at = p + settledValueAt; bytes = v })
+frameValue i p (closed v) = none
+frameValue i p reset = none
 
 -- only a whole frame holds a value
 abbrev pub valueRead : ObjectId → ℕ → Read → Option Value
@@ -111,6 +116,8 @@ isPending since at (change h c) = leb (getD since (h .0) 0) at
 isPending since at (commit h) = false
 isPending since at (abort h) = false
 isPending since at (settled i v) = false
+isPending since at (closed v) = false
+isPending since at reset = false
 
 -- the first pending frame of a journal's bytes, which start at offset `at` of the block; k as in `scan`; settled frames are passed over
 unfoldable pub nextPending : Edition → List ℕ → ℕ → ℕ → List ℕ → Option Load

@@ -10,7 +10,7 @@ use Rattle.frame.specs.declared.Edition.{Edition}
 use Rattle.frame.specs.declared.Edition.the-variants as edition
 use Rattle.frame.specs.declared.Host.{Host}
 use Rattle.frame.specs.declared.ObjectId.{ObjectId}
-use Rattle.frame.specs.Frame.{Change, put, delete, Frame, change, commit, abort, settled, encodeAll, AllMayStand}
+use Rattle.frame.specs.Frame.{Change, put, delete, Frame, change, commit, abort, settled, closed, reset, encodeAll, AllMayStand}
 use Rattle.journal.specs.Replay.{Object, object, Entry, entry, State, state, insert, remove, lookup, changeAll, listOf, without, isOpen, replay, framesOf}
 use Rattle.journal.specs.Room.{used, claimed, openHosts, hostFull, pendingOf}
 use Rattle.journal.specs.Index.{placesOf, valueAt}
@@ -95,6 +95,11 @@ pub record ReplayLaws : Type 0 where
   -- "A commit or abort with nothing pending is read and does nothing."
   pub commit-nothing : (fs : List Frame) (h : Host) → pendingAfter h fs ≡ [] → replay (then fs (commit h)) ≡ replay fs
   pub abort-nothing : (fs : List Frame) (h : Host) → pendingAfter h fs ≡ [] → replay (then fs (abort h)) ≡ replay fs
+  -- document 02, K11: a closed frame means nothing; a reset "drops all of it": every host's list is emptied, objects stay
+  pub closed-nothing : (fs : List Frame) (v : List ℕ) → replay (then fs (closed v)) ≡ replay fs
+  pub reset-objects : (fs : List Frame) → objectsAfter (then fs reset) ≡ objectsAfter fs
+  pub reset-pending : (fs : List Frame) (h : Host) → pendingAfter h (then fs reset) ≡ []
+  pub reset-nothing : (fs : List Frame) → replay fs .pending ≡ [] → replay (then fs reset) ≡ replay fs
 
 -- the hosts' changes stand in one list in journal order: a change comes last, a commit or abort takes out its host's and leaves the
 -- others in their order
@@ -102,6 +107,7 @@ pub record OrderLaws : Type 0 where
   pub joins : (fs : List Frame) (h : Host) (c : Change) → replay (then fs (change h c)) .pending ≡ replay fs .pending ++ (entry h c ∷ [])
   pub after-commit : (fs : List Frame) (h : Host) → replay (then fs (commit h)) .pending ≡ without h (replay fs .pending)
   pub after-abort : (fs : List Frame) (h : Host) → replay (then fs (abort h)) .pending ≡ without h (replay fs .pending)
+  pub after-reset : (fs : List Frame) → replay (then fs reset) .pending ≡ []
   pub taken : (h : Host) (xs ys : List Entry) (c : Change) → without h (xs ++ (entry h c ∷ ys)) ≡ without h (xs ++ ys)
   pub left : (h : Host) (es : List Entry) → listOf h es ≡ [] → without h es ≡ es
   pub is-open : (h : Host) (es : List Entry) → (isOpen h es ≡ true) ↔ (listOf h es ≡ [] → ⊥)

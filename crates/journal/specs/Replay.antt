@@ -6,7 +6,7 @@ use Prim.Native.Nat.{ℕ, compare, Ordering·lt, Ordering·eq, Ordering·gt}
 use lib.Dec.{eqb}
 use Rattle.frame.specs.declared.Host.{Host}
 use Rattle.frame.specs.declared.ObjectId.{ObjectId}
-use Rattle.frame.specs.Frame.{ChangeOf, put, delete, FrameOf, change, commit, abort, settled}
+use Rattle.frame.specs.Frame.{ChangeOf, put, delete, FrameOf, change, commit, abort, settled, closed, reset}
 
 -- an object: its id and its value
 pub record ObjectOf (A : Type 0) : Type 0 where
@@ -91,12 +91,15 @@ isOpen h (e ∷ es) = elim (eqb (h .0) (e .host .0)) [ true ↦ true | false ↦
 -- ---- replay
 
 -- "settled frames give the settled objects. A put or delete joins its host's pending list; commit applies that list in order and
--- empties it; abort empties it. A commit or abort with nothing pending is read and does nothing."
+-- empties it; abort empties it. A commit or abort with nothing pending is read and does nothing." Document 02, K11: a closed frame means nothing; "a reset
+-- frame .. drops all of it"
 abbrev pub nextState : {A : Type 0} → StateOf A → FrameOf A → StateOf A
 nextState s (change h c) = state (s .objects) (s .pending ++ (entry h c ∷ []))
 nextState s (commit h) = state (changeAll (listOf h (s .pending)) (s .objects)) (without h (s .pending))
 nextState s (abort h) = state (s .objects) (without h (s .pending))
 nextState s (settled i v) = state (s .objects ++ (object i v ∷ [])) (s .pending)
+nextState s (closed v) = s
+nextState s reset = state (s .objects) []
 
 -- frame after frame, at first with no objects and nothing pending
 unfoldable pub replayFrom : {A : Type 0} → StateOf A → List (FrameOf A) → StateOf A

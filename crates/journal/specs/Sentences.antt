@@ -1,20 +1,21 @@
 -- Document 01's sentence on the states of a half, and the statement that `blockState` says exactly this; document 02's, K4, on a half whose
 -- erase was cut.
-use mathlib.Core.List.{List, _++_}
+use mathlib.Core.List.{List, [], _∷_, _++_}
 use mathlib.Core.Logic.{_↔_}
 use mathlib.Core.Path.{_≡_}
-use Prim.Native.Nat.{ℕ, _%_, _≤_, _<_}
-use lib.ListN.{length, getD}
+use Prim.Native.Nat.{ℕ, _+_, _%_, _≤_, _<_}
+use lib.ListN.{length, getD, take}
 use Rattle.flash.specs.Bytes.{Bytes}
+use Rattle.flash.specs.Flash.{Write, writeAll}
 use Rattle.flash.specs.Raised.{Raised}
 use Rattle.frame.specs.declared.Edition.{Edition}
 use Rattle.frame.specs.declared.Fault.{Fault}
-use Rattle.frame.specs.Frame.{encodeAll, AllMayStand, nextOf}
+use Rattle.frame.specs.Frame.{closed, encodeAll, total, AllMayStand, nextOf}
 use Rattle.frame.specs.Reader.{Tail, clean, cut, bad}
 use Rattle.journal.specs.Faults.{FaultIn}
 use Rattle.frame.specs.Sentences.{Blank, Torn}
 use Rattle.journal.specs.Block.{headerLen, lastTime, stateAt, inTransfer, validData, header, createdAt}
-use Rattle.journal.specs.Block.{Journal, blank, inProgress, valid, foreign, blockState}
+use Rattle.journal.specs.Block.{Journal, journal, blank, inProgress, valid, foreign, blockState, closeWrites}
 
 -- "A half is blank if every byte is 0xFF"
 abbrev pub BlankBlock : List ℕ → Type 0
@@ -64,3 +65,16 @@ pub record NeverNewer : Type 0 where
   pub of-any : (old new : List ℕ) → Raised old new → createdAt new ≤ createdAt old
   -- 0xFC has neither of its two low bits: with one of them in byte 8 a half isn't valid and never becomes so
   pub stays-out : (old new : List ℕ) (j : Journal) → Raised old new → 0 < getD old stateAt 0 % 4 → blockState new ≡ valid j → ⊥
+
+-- ---- K11: "A torn frame is closed in place by clearing bits"
+
+-- the writes that close the torn frame of a valid block
+abbrev pub closesIn : List ℕ → Journal → List Write
+closesIn b j = closeWrites b (headerLen + total (j .edition) (j .frames)) (j .tail)
+
+-- before its last write the frame is torn still, and the block holds what it held; after it the frame is a closed one of the same length, with only 0xFF
+-- behind it
+pub record ClosingExact : Type 0 where
+  pub torn-still : (b : List ℕ) (j : Journal) (i : ℕ) → Bytes b → ValidBlock b j → i < length (closesIn b j) → ValidBlock (writeAll b (take i (closesIn b j))) j
+  pub closed-then : (b : List ℕ) (j : Journal) (n : ℕ) → Bytes b → ValidBlock b j → j .tail ≡ cut n
+      → (v : List ℕ) × (length v + 5 ≡ n) × ValidBlock (writeAll b (closesIn b j)) (journal (j .edition) (j .time) (j .frames ++ (closed v ∷ [])) clean)

@@ -14,6 +14,7 @@ use Rattle.board.specs.declared.Cursor.{Cursor}
 use Rattle.board.specs.Record.{inStage}
 use Rattle.board.specs.Step.{nextIndex, nextByte}
 use Rattle.lent.specs.Layout.{madeAt, idAt, sourceAt, copyAt, offAt, movesAt, dropsAt, targetAt, timeAt, sinceAt, sinceSize, appendAt, makesAt}
+use Rattle.lent.specs.Layout.{closesAt, closeAt, closeSize}
 use Rattle.lent.specs.Layout.{placesAt, placesSize, jobAt, planAt, cursorAt, unitAt, recordSize}
 use Rattle.lent.specs.Layout.{phaseIn, flagIn, wordsIn, numberIn, jobIn, cursorIn, recordIn}
 use Rattle.lent.specs.Layout.{phaseByte, flagByte, wordBytes, headBytes, planBytes, cursorBytes, recordBytes}
@@ -21,7 +22,7 @@ use Rattle.lent.proofs.Words.{length-word-bytes, words-own}
 use Rattle.lent.proofs.Rests.{one, some, two, rest-own}
 use Rattle.lent.proofs.Own.{own-sized, bytes-own, places-own, frames-own}
 
-phase-own : (n : ℕ) → n < 8 → phaseByte (phaseIn n) ≡ n
+phase-own : (n : ℕ) → n < 9 → phaseByte (phaseIn n) ≡ n
 phase-own zero h = refl
 phase-own (suc zero) h = refl
 phase-own (suc (suc zero)) h = refl
@@ -30,7 +31,8 @@ phase-own (suc (suc (suc (suc zero)))) h = refl
 phase-own (suc (suc (suc (suc (suc zero))))) h = refl
 phase-own (suc (suc (suc (suc (suc (suc zero)))))) h = refl
 phase-own (suc (suc (suc (suc (suc (suc (suc zero))))))) h = refl
-phase-own (suc (suc (suc (suc (suc (suc (suc (suc n)))))))) h = absurd (omega arith)
+phase-own (suc (suc (suc (suc (suc (suc (suc (suc zero)))))))) h = refl
+phase-own (suc (suc (suc (suc (suc (suc (suc (suc (suc n))))))))) h = absurd (omega arith)
 
 flag-own : (n : ℕ) → n < 2 → flagByte (flagIn n) ≡ n
 flag-own zero h = refl
@@ -64,7 +66,7 @@ module _ (b : List ℕ) (ok : (i : ℕ) → getD b i 0 < 256) where
 
 -- phase and flags as they are written
 pub record Canonical (b : List ℕ) : Type 0 where
-  pub phase : getD b 0 0 < 8
+  pub phase : getD b 0 0 < 9
   pub moves : getD b (planAt + movesAt) 0 < 2
   pub drops : getD b (planAt + dropsAt) 0 < 2
 
@@ -78,10 +80,13 @@ module _ (b : List ℕ) (size : length b ≡ recordSize) (ok : (i : ℕ) → get
       λ i. ap (drop i) (drop-drop maxBlocks jobAt b) ∙ drop-drop i planAt b in
       let flag : (i : ℕ) → getD b (planAt + i) 0 < 2 → flagByte (flagIn (getD (drop maxBlocks (drop jobAt b)) i 0)) ≡ getD b (planAt + i) 0 =
       λ i h. ap (λ (n : ℕ). flagByte (flagIn n)) (at-plan i) ∙ flag-own (getD b (planAt + i) 0) h in
-      let since = jobIn (drop jobAt b) .since in
-      let long = getD (drop maxBlocks (drop jobAt b)) appendAt 0 in
-      let makes = getD (drop maxBlocks (drop jobAt b)) makesAt 0 in
-      let last : List ℕ = long ∷ makes ∷ [] in
+      let job = jobIn (drop jobAt b) in
+      let since = job .since in
+      let close = wordBytes (job .close) in
+      let last : List ℕ = job .size ∷ job .edition ∷ job .closes ∷ close in
+      let words : (i : ℕ) → planAt + i + 8 ≤ length b → wordBytes (wordsIn 4 (drop i (drop maxBlocks (drop jobAt b)))) ≡ take 8 (drop (planAt + i) b) =
+      λ i h. ap (λ (l : List ℕ). wordBytes (wordsIn 4 l)) (from i)
+      ∙ words-own 4 (drop (planAt + i) b) (λ k. rw getD-drop (ok (planAt + i + k))) (simp length-drop (omega arith)) in
       one b ok planAt _ _ (omega arith) (at-plan 0)
       (one b ok (planAt + movesAt) _ _ (omega arith) (flag movesAt (canon .moves))
       (one b ok (planAt + dropsAt) _ _ (omega arith) (flag dropsAt (canon .drops))
@@ -89,11 +94,11 @@ module _ (b : List ℕ) (size : length b ≡ recordSize) (ok : (i : ℕ) → get
       (ap (λ (l : List ℕ). u32le (numberIn l) ++ ((wordBytes since ++ last) ++ t)) (from timeAt)
       ∙ four b ok (planAt + timeAt) ((wordBytes since ++ last) ++ t) (omega arith)
       (append-assoc (wordBytes since) last t
-      ∙ some b ok (planAt + sinceAt) sinceSize (wordBytes since) (long ∷ makes ∷ t)
-      (ap (λ (l : List ℕ). wordBytes (wordsIn 4 l)) (from sinceAt)
-      ∙ words-own 4 (drop (planAt + sinceAt) b) (λ i. rw getD-drop (ok (planAt + sinceAt + i))) (simp length-drop (omega arith)))
+      ∙ some b ok (planAt + sinceAt) sinceSize (wordBytes since) (job .size ∷ job .edition ∷ job .closes ∷ (close ++ t)) (words sinceAt (omega arith))
       (one b ok (planAt + appendAt) _ _ (omega arith) (at-plan appendAt)
-      (one b ok (planAt + makesAt) _ _ (omega arith) (at-plan makesAt) f)))))))
+      (one b ok (planAt + makesAt) _ _ (omega arith) (at-plan makesAt)
+      (one b ok (planAt + closesAt) _ _ (omega arith) (at-plan closesAt)
+      (some b ok (planAt + closeAt) closeSize close t (words closeAt (omega arith)) f)))))))))
 
   cursor-own : (t : List ℕ) → t ≡ drop unitAt b → cursorBytes (cursorIn (drop cursorAt b)) ++ t ≡ drop cursorAt b
   cursor-own t f =
@@ -132,10 +137,12 @@ module _ (b : List ℕ) (size : length b ≡ recordSize) (ok : (i : ℕ) → get
         length-word-bytes (r .rest .pending),
         length-word-bytes (r .places),
         length-word-bytes (r .job .since),
+        length-word-bytes (r .job .close),
         z .pending,
         z .places,
         z .wipe,
         z .since,
+        z .close,
       )) in
       let uf = r .unit ++ r .frame in
       let front : p ≡ take cursorAt b =

@@ -2,15 +2,15 @@
 use mathlib.Core.Path.{_≡_, refl, sym, ap, _∙_}
 use mathlib.Core.List.{List, [], _∷_, _++_, append-assoc, append-nil}
 use mathlib.Core.Bool.{Bool, true, false}
-use Prim.Native.Nat.{ℕ, suc, _+_, _-_, _<_}
+use Prim.Native.Nat.{ℕ, _+_, _-_, _<_}
 use native.Mathlib.Omega.{arith}
 use lib.ListN.{length, getD, drop, length-append}
-use lib.Seq.{take-at, getD-at, getD-append-add, drop-at, drop-drop}
+use lib.Seq.{take-at, getD-append-add, drop-at, drop-drop}
 use Rattle.flash.specs.Bytes.{Bytes, u32le}
 use Rattle.flash.proofs.Blank.{bytes-append, le16-u16, le32-u32}
 use Rattle.flash.specs.Flash.{maxBlocks}
 use Rattle.frame.specs.Frame.{bufferLen}
-use Rattle.board.specs.declared.Stage.the-variants.{Wipe, Open, Copy, Seal, Drop, Append}
+use Rattle.board.specs.declared.Stage.the-variants.{Wipe, Open, Copy, Seal, Drop, Append, Close}
 use Rattle.board.specs.declared.Phase.{Phase}
 use Rattle.board.specs.declared.Phase.the-variants.{Unmounted, Idle, Busy}
 use Rattle.board.specs.declared.Job.{Job}
@@ -35,6 +35,7 @@ phase-back (Busy Copy) = refl
 phase-back (Busy Seal) = refl
 phase-back (Busy Drop) = refl
 phase-back (Busy Append) = refl
+phase-back (Busy Close) = refl
 
 flag-back : (b : Bool) → flagIn (flagByte b) ≡ b
 flag-back true = refl
@@ -46,29 +47,35 @@ array-back n f t e = let z : n - length f ≡ 0 = omega arith in rw (take-at f t
 cursor-back : (c : Cursor) (t : List ℕ) → cursorIn (cursorBytes c ++ t) ≡ c
 cursor-back c t = rw (le16-u16 (c .at), le16-u16 (c .id), le16-u16 (c .source))
 
-plan-back : (j : Job) (x : List ℕ) → length (j .since) ≡ 4 → planIn (j .wipe) (planBytes j ++ x) ≡ j
-plan-back j x q =
+plan-back : (j : Job) (x : List ℕ) → length (j .since) ≡ 4 → length (j .close) ≡ 4 → planIn (j .wipe) (planBytes j ++ x) ≡ j
+plan-back j x q p =
     let s = wordBytes (j .since) in
     let n : length s ≡ sinceSize = length-word-bytes (j .since) ∙ rw q in
-    let last : getD (s ++ (j .size ∷ j .edition ∷ x)) (suc sinceSize) 0 ≡ j .edition =
-    (let e : suc sinceSize ≡ length s + 1 = omega (arith, n) in
-    ap (λ (i : ℕ). getD (s ++ (j .size ∷ j .edition ∷ x)) i 0) e ∙ getD-append-add s (j .size ∷ j .edition ∷ x) 1 0) in
+    let w = wordBytes (j .close) in
+    let after = j .size ∷ j .edition ∷ j .closes ∷ (w ++ x) in
+    let at : (k : ℕ) → getD (s ++ after) (sinceSize + k) 0 ≡ getD after k 0 =
+    λ k. ap (λ (i : ℕ). getD (s ++ after) (i + k) 0) (sym n) ∙ getD-append-add s after k 0 in
+    let last : drop (sinceSize + 3) (s ++ after) ≡ w ++ x = sym (drop-drop 3 sinceSize (s ++ after)) ∙ ap (drop 3) (drop-at s after sinceSize n) in
     rw (
-      append-assoc s (j .size ∷ j .edition ∷ []) x,
-      words-back (j .since) (j .size ∷ j .edition ∷ x) 4 q,
-      getD-at s (j .size) (j .edition ∷ x) 0 sinceSize n,
+      append-assoc s (j .size ∷ j .edition ∷ j .closes ∷ w) x,
+      words-back (j .since) after 4 q,
+      at 0,
+      at 1,
+      at 2,
       last,
+      words-back (j .close) x 4 p,
       flag-back (j .moves),
       flag-back (j .drops),
       le32-u32 (j .time),
     )
 
-job-back : (j : Job) (x : List ℕ) → length (j .wipe) ≡ maxBlocks → length (j .since) ≡ 4 → jobIn (j .wipe ++ (planBytes j ++ x)) ≡ j
-job-back j x p q =
+job-back : (j : Job) (x : List ℕ) → length (j .wipe) ≡ maxBlocks → length (j .since) ≡ 4 → length (j .close) ≡ 4
+    → jobIn (j .wipe ++ (planBytes j ++ x)) ≡ j
+job-back j x p q k =
     let rest = planBytes j ++ x in
     ap (λ (w : List ℕ). planIn w (drop maxBlocks (j .wipe ++ rest))) (array-back maxBlocks (j .wipe) rest p)
     ∙ ap (planIn (j .wipe)) (drop-at (j .wipe) rest maxBlocks p)
-    ∙ plan-back j x q
+    ∙ plan-back j x q k
 
 parts-back : (l : List ℕ) (r : Record) → phaseIn (getD l 0 0) ≡ r .phase → restIn l ≡ r .rest
     → wordsIn 256 (drop placesAt l) ≡ r .places → jobIn (drop jobAt l) ≡ r .job
@@ -88,6 +95,7 @@ phase-byte (Busy Copy) = omega arith
 phase-byte (Busy Seal) = omega arith
 phase-byte (Busy Drop) = omega arith
 phase-byte (Busy Append) = omega arith
+phase-byte (Busy Close) = omega arith
 
 flag-byte : (b : Bool) → flagByte b < 256
 flag-byte true = omega arith
@@ -101,9 +109,10 @@ cursor-bytes c h = (h .index, (omega arith, (omega arith, (omega arith, (omega a
 
 plan-bytes : (j : Job) → JobFits j → Bytes (planBytes j)
 plan-bytes j h =
-    let since = bytes-append (wordBytes (j .since)) (j .size ∷ j .edition ∷ []) (word-bytes (j .since) (h .since .1)) (h .size, (h .edition, tt)) in
+    let since = bytes-append (wordBytes (j .since)) (j .size ∷ j .edition ∷ j .closes ∷ wordBytes (j .close)) (word-bytes (j .since) (h .since .1))
+    (h .size, (h .edition, (h .closes, word-bytes (j .close) (h .close .1)))) in
     let t = h .time in
-    let time : Bytes (u32le (j .time) ++ (wordBytes (j .since) ++ (j .size ∷ j .edition ∷ []))) =
+    let time : Bytes (u32le (j .time) ++ (wordBytes (j .since) ++ (j .size ∷ j .edition ∷ j .closes ∷ wordBytes (j .close)))) =
     (omega (arith, t), (omega (arith, t), (omega (arith, t), (omega (arith, t), since)))) in
     (h .wipes, (flag-byte (j .moves), (flag-byte (j .drops), (h .target, time))))
 
@@ -122,6 +131,7 @@ pub record Sized (r : Record) : Type 0 where
   pub places : length (r .places) ≡ 256
   pub wipe : length (r .job .wipe) ≡ maxBlocks
   pub since : length (r .job .since) ≡ 4
+  pub close : length (r .job .close) ≡ 4
   pub unit : length (r .unit) ≡ bufferLen
   pub frame : length (r .frame) ≡ bufferLen
 
@@ -156,7 +166,7 @@ module _ (r : Record) (h : Sized r) where
   length-W = length-word-bytes (r .places) ∙ rw (h .places)
 
   length-P : length (P r) ≡ planSize
-  length-P = length-plan (r .job) (h .since)
+  length-P = length-plan (r .job) (h .since) (h .close)
 
   from-places : drop placesAt (recordBytes r) ≡ W r ++ EPCUF r
   unfolding recordBytes
@@ -183,7 +193,7 @@ module _ (r : Record) (h : Sized r) where
       parts-back (recordBytes r) r (phase-back (r .phase))
       (rest-back (phaseByte (r .phase)) (r .rest) (W r ++ EPCUF r) (h .pending))
       (ap (wordsIn 256) from-places ∙ words-back (r .places) (EPCUF r) 256 (h .places))
-      (ap jobIn from-job ∙ job-back (r .job) (CUF r) (h .wipe) (h .since))
+      (ap jobIn from-job ∙ job-back (r .job) (CUF r) (h .wipe) (h .since) (h .close))
       (ap cursorIn from-cursor ∙ cursor-back (r .cursor) (UF r))
       (ap (bytesIn bufferLen) from-unit ∙ array-back bufferLen (r .unit) (r .frame) (h .unit))
       (ap (bytesIn bufferLen) from-frame ∙ array-back bufferLen (r .frame) [] (h .frame))
@@ -197,8 +207,10 @@ module _ (r : Record) (h : Sized r) where
         length-word-bytes (r .rest .pending),
         h .pending,
         length-word-bytes (r .job .since),
+        length-word-bytes (r .job .close),
         h .wipe,
         h .since,
+        h .close,
         h .unit,
         h .frame,
       ))
@@ -210,6 +222,7 @@ sized r h =
       places = h .places .0;
       wipe = h .job .wipe .0;
       since = h .job .since .0;
+      close = h .job .close .0;
       unit = h .unit .0;
       frame = h .frame .0;
     }

@@ -7,7 +7,8 @@ use lib.ListN.{length, getD, take, drop, length-append, length-take, length-drop
 use lib.Seq.{take-all, drop-at, drop-drop, drop-append-le, getD-drop, length-take-le}
 use Rattle.flash.specs.Flash.{maxBlocks}
 use Rattle.frame.specs.Frame.{bufferLen}
-use Rattle.lent.specs.Layout.{sinceAt, pendingAt, placesAt, placesSize, jobAt, unitAt, frameAt, recordSize, bytesIn, wordsIn, recordIn, wordBytes}
+use Rattle.lent.specs.Layout.{sinceAt, closeAt, pendingAt, placesAt, placesSize, jobAt, unitAt, frameAt, recordSize}
+use Rattle.lent.specs.Layout.{bytesIn, wordsIn, recordIn, wordBytes}
 use Rattle.lent.proofs.Words.{words-own}
 use Rattle.lent.proofs.Inverse.{Sized, array-back}
 
@@ -29,6 +30,7 @@ own-sized l =
       places = length-words-in 256 (drop placesAt l);
       wipe = length-bytes-in maxBlocks (drop jobAt l);
       since = length-words-in 4 (drop sinceAt (drop maxBlocks (drop jobAt l)));
+      close = length-words-in 4 (drop closeAt (drop maxBlocks (drop jobAt l)));
       unit = length-bytes-in bufferLen (drop unitAt l);
       frame = length-bytes-in bufferLen (drop frameAt l);
     }

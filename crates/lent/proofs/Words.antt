@@ -45,36 +45,36 @@ next-word-bytes [] w = refl
 next-word-bytes (v ∷ ws) w = ap (λ (t : List ℕ). u16le v ++ t) (next-word-bytes ws w)
 
 -- four words by their bytes
-pub four-words : (s t : List ℕ) → length s ≡ 4
-    → u16le (getD s 0 0) ++ (u16le (getD s 1 0) ++ (u16le (getD s 2 0) ++ (u16le (getD s 3 0) ++ t))) ≡ wordBytes s ++ t
+pub four-words : (s : List ℕ) → length s ≡ 4 → (a₀ b₀ a₁ b₁ a₂ b₂ a₃ b₃ : ℕ)
+    → a₀ ≡ getD s 0 0 % 256 → b₀ ≡ getD s 0 0 / 256 → a₁ ≡ getD s 1 0 % 256 → b₁ ≡ getD s 1 0 / 256
+    → a₂ ≡ getD s 2 0 % 256 → b₂ ≡ getD s 2 0 / 256 → a₃ ≡ getD s 3 0 % 256 → b₃ ≡ getD s 3 0 / 256
+    → a₀ ∷ b₀ ∷ a₁ ∷ b₁ ∷ a₂ ∷ b₂ ∷ a₃ ∷ b₃ ∷ [] ≡ wordBytes s
 unfolding wordBytes
-four-words [] t e = absurd (omega arith)
-four-words (a ∷ []) t e = absurd (omega arith)
-four-words (a ∷ b ∷ []) t e = absurd (omega arith)
-four-words (a ∷ b ∷ c ∷ []) t e = absurd (omega arith)
-four-words (a ∷ b ∷ c ∷ d ∷ []) t e = refl
-four-words (a ∷ b ∷ c ∷ d ∷ x ∷ s) t e = absurd (omega arith)
+four-words s q a₀ b₀ a₁ b₁ a₂ b₂ a₃ b₃ e₀ f₀ e₁ f₁ e₂ f₂ e₃ f₃ = rw (e₀, f₀, e₁, f₁, e₂, f₂, e₃, f₃) (go s q)
+  where
+    go : (s : List ℕ) → length s ≡ 4
+        → u16le (getD s 0 0) ++ (u16le (getD s 1 0) ++ (u16le (getD s 2 0) ++ u16le (getD s 3 0))) ≡ wordBytes s
+    go [] e = absurd (omega arith)
+    go (a ∷ []) e = absurd (omega arith)
+    go (a ∷ b ∷ []) e = absurd (omega arith)
+    go (a ∷ b ∷ c ∷ []) e = absurd (omega arith)
+    go (a ∷ b ∷ c ∷ d ∷ []) e = refl
+    go (a ∷ b ∷ c ∷ d ∷ x ∷ s) e = absurd (omega arith)
 
 -- the bytes before the places, one by one
-pub head-is : (r : Record) → length (r .rest .pending) ≡ 4 → (p l₀ l₁ e₀ e₁ a₀ b₀ a₁ b₁ a₂ b₂ a₃ b₃ : ℕ) → p ≡ phaseByte (r .phase)
-    → l₀ ≡ r .rest .last % 256 → l₁ ≡ r .rest .last / 256 → e₀ ≡ r .rest .end % 256 → e₁ ≡ r .rest .end / 256
-    → a₀ ≡ getD (r .rest .pending) 0 0 % 256 → b₀ ≡ getD (r .rest .pending) 0 0 / 256 → a₁ ≡ getD (r .rest .pending) 1 0 % 256
-    → b₁ ≡ getD (r .rest .pending) 1 0 / 256 → a₂ ≡ getD (r .rest .pending) 2 0 % 256 → b₂ ≡ getD (r .rest .pending) 2 0 / 256
-    → a₃ ≡ getD (r .rest .pending) 3 0 % 256 → b₃ ≡ getD (r .rest .pending) 3 0 / 256
-    → p ∷ l₀ ∷ l₁ ∷ r .rest .block ∷ e₀ ∷ e₁ ∷ r .rest .blocks ∷ a₀ ∷ b₀ ∷ a₁ ∷ b₁ ∷ a₂ ∷ b₂ ∷ a₃ ∷ b₃ ∷ r .rest .edition ∷ [] ≡ headBytes r
-head-is r q p l₀ l₁ e₀ e₁ a₀ b₀ a₁ b₁ a₂ b₂ a₃ b₃ ep f₀ f₁ g₀ g₁ h₀ k₀ h₁ k₁ h₂ k₂ h₃ k₃ =
-    rw (ep, f₀, f₁, g₀, g₁, h₀, k₀, h₁, k₁, h₂, k₂, h₃, k₃, ← four-words (r .rest .pending) (r .rest .edition ∷ []) q)
+pub head-is : (r : Record) (p l₀ l₁ e₀ e₁ : ℕ) (s : List ℕ) → p ≡ phaseByte (r .phase) → l₀ ≡ r .rest .last % 256 → l₁ ≡ r .rest .last / 256
+    → e₀ ≡ r .rest .end % 256 → e₁ ≡ r .rest .end / 256 → s ≡ wordBytes (r .rest .pending)
+    → p ∷ l₀ ∷ l₁ ∷ r .rest .block ∷ e₀ ∷ e₁ ∷ r .rest .blocks ∷ (s ++ (r .rest .edition ∷ [])) ≡ headBytes r
+head-is r p l₀ l₁ e₀ e₁ s ep f₀ f₁ g₀ g₁ h = rw (ep, f₀, f₁, g₀, g₁, h)
 
 -- a plan's bytes, one by one
-pub plan-is : (j : Job) → length (j .since) ≡ 4 → (m d a₀ b₀ a₁ b₁ a₂ b₂ a₃ b₃ : ℕ) → m ≡ flagByte (j .moves) → d ≡ flagByte (j .drops)
-    → a₀ ≡ getD (j .since) 0 0 % 256 → b₀ ≡ getD (j .since) 0 0 / 256 → a₁ ≡ getD (j .since) 1 0 % 256 → b₁ ≡ getD (j .since) 1 0 / 256
-    → a₂ ≡ getD (j .since) 2 0 % 256 → b₂ ≡ getD (j .since) 2 0 / 256 → a₃ ≡ getD (j .since) 3 0 % 256 → b₃ ≡ getD (j .since) 3 0 / 256
-    → j .wipes ∷ m ∷ d ∷ j .target ∷ (u32le (j .time) ++ (a₀ ∷ b₀ ∷ a₁ ∷ b₁ ∷ a₂ ∷ b₂ ∷ a₃ ∷ b₃ ∷ j .size ∷ j .edition ∷ [])) ≡ planBytes j
-plan-is j q m d a₀ b₀ a₁ b₁ a₂ b₂ a₃ b₃ em ed e₀ f₀ e₁ f₁ e₂ f₂ e₃ f₃ =
-    rw (em, ed, e₀, f₀, e₁, f₁, e₂, f₂, e₃, f₃, ← four-words (j .since) (j .size ∷ j .edition ∷ []) q)
+pub plan-is : (j : Job) (m d : ℕ) (s c : List ℕ) → m ≡ flagByte (j .moves) → d ≡ flagByte (j .drops) → s ≡ wordBytes (j .since)
+    → c ≡ wordBytes (j .close)
+    → j .wipes ∷ m ∷ d ∷ j .target ∷ (u32le (j .time) ++ (s ++ (j .size ∷ j .edition ∷ j .closes ∷ c))) ≡ planBytes j
+plan-is j m d s c em ed es ec = rw (em, ed, es, ec)
 
-pub length-plan : (j : Job) → length (j .since) ≡ 4 → length (planBytes j) ≡ planSize
-length-plan j q = simp (length-append, length-word-bytes) (omega arith)
+pub length-plan : (j : Job) → length (j .since) ≡ 4 → length (j .close) ≡ 4 → length (planBytes j) ≡ planSize
+length-plan j q p = simp (length-append, length-word-bytes) (omega arith)
 
 -- ---- words and their bytes, there and back
 

@@ -10,7 +10,7 @@ use Rattle.flash.specs.Flash.{maxBlocks}
 use Rattle.frame.specs.Frame.{bufferLen}
 use Rattle.wire.specs.Message.{wordAt}
 use Rattle.board.specs.declared.Stage.{Stage}
-use Rattle.board.specs.declared.Stage.the-variants.{Wipe, Open, Copy, Seal, Drop, Append}
+use Rattle.board.specs.declared.Stage.the-variants.{Wipe, Open, Copy, Seal, Drop, Append, Close}
 use Rattle.board.specs.declared.Phase.{Phase}
 use Rattle.board.specs.declared.Phase.the-variants.{Unmounted, Idle, Busy}
 use Rattle.board.specs.declared.Job.{Job}
@@ -41,7 +41,7 @@ abbrev pub cursorSize : ℕ
 cursorSize = offAt + 1
 
 -- in a job's plan, which is what follows its blocks to erase: how many of them 1, two flags 1 each, target 1, time 4, each host's mark 2,
--- length of the frame to append 1, number of the edition of the block that is made 1
+-- length of the frame to append 1, number of the edition of the block that is made 1, how many bytes close a torn frame 1, each one's offset 2
 abbrev pub movesAt : ℕ
 movesAt = 1
 
@@ -66,8 +66,17 @@ appendAt = sinceAt + sinceSize
 abbrev pub makesAt : ℕ
 makesAt = appendAt + 1
 
+abbrev pub closesAt : ℕ
+closesAt = makesAt + 1
+
+abbrev pub closeAt : ℕ
+closeAt = closesAt + 1
+
+abbrev pub closeSize : ℕ
+closeSize = 2 * 4
+
 abbrev pub planSize : ℕ
-planSize = makesAt + 1
+planSize = closeAt + closeSize
 
 -- in the record: phase 1, last 2, block 1, end 2, blocks 1, each host's pending bytes 2, number of the current block's edition 1, each place 2,
 -- the job, the cursor, two frame buffers
@@ -120,7 +129,7 @@ recordSize = frameAt + bufferLen
 
 -- the phase by its number; any number past these is unmounted
 abbrev pub phases : List Phase
-phases = Unmounted ∷ Idle ∷ Busy Wipe ∷ Busy Open ∷ Busy Copy ∷ Busy Seal ∷ Busy Drop ∷ Busy Append ∷ []
+phases = Unmounted ∷ Idle ∷ Busy Wipe ∷ Busy Open ∷ Busy Copy ∷ Busy Seal ∷ Busy Drop ∷ Busy Append ∷ Busy Close ∷ []
 
 abbrev pub phaseIn : ℕ → Phase
 phaseIn b = getD phases b Unmounted
@@ -152,6 +161,8 @@ planIn wipe l =
       since = wordsIn 4 (drop sinceAt l);
       size = getD l appendAt 0;
       edition = getD l makesAt 0;
+      closes = getD l closesAt 0;
+      close = wordsIn 4 (drop closeAt l);
     }
 
 abbrev pub jobIn : List ℕ → Job
@@ -186,6 +197,7 @@ stageByte Copy = 4
 stageByte Seal = 5
 stageByte Drop = 6
 stageByte Append = 7
+stageByte Close = 8
 
 abbrev pub phaseByte : Phase → ℕ
 phaseByte Unmounted = 0
@@ -209,7 +221,8 @@ headBytes r = phaseByte (r .phase) ∷ restBytes (r .rest)
 
 abbrev pub planBytes : Job → List ℕ
 planBytes j =
-    j .wipes ∷ flagByte (j .moves) ∷ flagByte (j .drops) ∷ j .target ∷ (u32le (j .time) ++ (wordBytes (j .since) ++ (j .size ∷ j .edition ∷ [])))
+    j .wipes ∷ flagByte (j .moves) ∷ flagByte (j .drops) ∷ j .target
+    ∷ (u32le (j .time) ++ (wordBytes (j .since) ++ (j .size ∷ j .edition ∷ j .closes ∷ wordBytes (j .close))))
 
 abbrev pub cursorBytes : Cursor → List ℕ
 cursorBytes c = c .index ∷ (u16le (c .at) ++ (u16le (c .id) ++ (u16le (c .source) ++ (c .size ∷ c .off ∷ []))))
@@ -244,6 +257,8 @@ pub record JobFits (j : Job) : Type 0 where
   pub since : SomeWords 4 (j .since)
   pub size : j .size < 256
   pub edition : j .edition < 256
+  pub closes : j .closes < 256
+  pub close : SomeWords 4 (j .close)
 
 pub record CursorFits (c : Cursor) : Type 0 where
   pub index : c .index < 256

@@ -48,7 +48,11 @@ pub const APPEND_AT: usize = SINCE_AT + 2 * 4;
 
 pub const MAKES_AT: usize = APPEND_AT + 1;
 
-pub const PLAN_SIZE: usize = MAKES_AT + 1;
+pub const CLOSES_AT: usize = MAKES_AT + 1;
+
+pub const CLOSE_AT: usize = CLOSES_AT + 1;
+
+pub const PLAN_SIZE: usize = CLOSE_AT + 2 * 4;
 
 // ---- the cursor
 

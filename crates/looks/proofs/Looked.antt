@@ -1,26 +1,28 @@
--- The blocks of an allowed image, looked at from the last down to k.
-use mathlib.Core.Path.{_≡_, refl, subst}
-use mathlib.Core.List.{List}
+-- The blocks of an allowed image, looked at from the last down to k; and what the newest one holds.
+use mathlib.Core.Path.{_≡_, refl, sym, subst}
+use mathlib.Core.List.{List, [], _∷_}
 use mathlib.Core.Bool.{true, cond}
-use Prim.Native.Nat.{ℕ, suc, _-_, _≤_, _<_}
+use Prim.Native.Nat.{ℕ, suc, _+_, _-_, _≤_, _<_}
 use native.Mathlib.Omega.{arith}
 use native.Mathlib.Nat.{sub-zero}
 use lib.ListN.{length}
 use Rattle.flash.specs.Bytes.{Bytes}
 use Rattle.flash.specs.Flash.{numbersFrom, block, sizeOf}
 use Rattle.flash.proofs.Image.{bytes-block}
-use Rattle.journal.specs.Block.{BlockState, blank, inProgress, valid, foreign, blockState}
+use Rattle.journal.specs.Block.{BlockState, blank, inProgress, valid, foreign, blockState, blockMax}
 use Rattle.journal.proofs.States.{Contents, valid-inv}
 use Rattle.survey.specs.declared.Survey.{Survey}
 use Rattle.survey.specs.Survey.{surveyOf, placesIn, stateOf}
 use Rattle.survey.proofs.Surveying.{half-fits}
 use Rattle.board.specs.Record.{allowed}
+use Rattle.board.specs.Mount.{allFound, Store, stores, newest, blockIn}
 use Rattle.board.proofs.Images.{sized-of}
-use Rattle.board.proofs.Found.{foundFrom}
+use Rattle.board.proofs.Found.{foundFrom, Holds, Among, newest-among, among-holds}
+use Rattle.looks.specs.declared.looks.Newest.{Newest}
 use Rattle.looks.specs.declared.looks.Seen.{Seen}
-use Rattle.looks.specs.Seen.{Sees, noneSeen, takesOver, seeing}
-use Rattle.looks.proofs.Images.{block-fits}
-use Rattle.looks.proofs.Transfers.{needs-is}
+use Rattle.looks.specs.Seen.{newestIn, Sees, noneSeen, takesOver, seeing}
+use Rattle.looks.proofs.Images.{block-length, block-fits}
+use Rattle.looks.proofs.Transfers.{pends-is, closed-fits}
 use Rattle.looks.proofs.Looking.{Tells, Seeing, none-seen, seen-next}
 
 abbrev pub stateAt : ℕ → List ℕ → ℕ → BlockState
@@ -36,7 +38,7 @@ told N img k a y h = go (stateAt N img k) refl
     go (valid w) e =
         let b : List ℕ = block (sizeOf N img) k img in
         let x : Contents b w = valid-inv b w (bytes-block (sizeOf N img) k img y) (block-fits N img k a h .0) e in
-        record { needs = needs-is b w x; some = x .layout .time-lo }
+        record { pends = pends-is x; some = x .layout .time-lo }
 
 -- the state that a survey of block k tells of
 pub state-is : (N : ℕ) (img : List ℕ) (k s : ℕ) (b : List ℕ) → allowed N (length img) ≡ true → k < N → s ≡ sizeOf N img → b ≡ block s k img
@@ -73,3 +75,38 @@ module _ (N : ℕ) (img p : List ℕ) where
       (λ (m : ℕ). Seeing j m (foundFrom (stateAt N img) j m) p (seeing j (surveyOf (stateAt N img j)) z)
       (cond (takesOver (z .newest) (surveyOf (stateAt N img j))) (placesIn (stateAt N img j)) q)) n
       (seen-next (omega (arith, sized-of N img a .most)) (subst (λ (i : ℕ). Looked N img p i z q) d x) (stateAt N img j) (told N img j a y (omega arith))))
+
+-- ---- the newest one
+
+-- a block of an image that is valid
+pub record Held (N : ℕ) (img : List ℕ) (x : Store) : Type 0 where
+  pub holds : Contents (blockIn N img x) (x .journal)
+  pub long : length (blockIn N img x) ≡ sizeOf N img
+
+abbrev pub NewestHeld : ℕ → List ℕ → List Store → Type 0
+NewestHeld N img [] = Unit {0}
+NewestHeld N img (y ∷ ys) = Held N img (newest y ys)
+
+module _ (N : ℕ) (img : List ℕ) (a : allowed N (length img) ≡ true) (b : Bytes img) where
+  pub newest-held : NewestHeld N img (stores (allFound N img))
+  newest-held = go (stores (allFound N img)) refl
+    where
+      go : (xs : List Store) → stores (allFound N img) ≡ xs → NewestHeld N img xs
+      go [] e = tt
+      go (y ∷ ys) e =
+          let x : Store = newest y ys in
+          let h : Holds (stateAt N img) 0 N x = among-holds (stateAt N img) 0 N x (subst (Among x) (sym e) (newest-among y ys)) in
+          record {
+            holds =
+                valid-inv (blockIn N img x) (x .journal) (bytes-block (sizeOf N img) (x .number) img b)
+                (block-fits N img (x .number) a (omega (arith, h .below)) .0) (h .is-valid);
+            long = block-length N img (x .number) a (omega (arith, h .below));
+          }
+
+  -- it has room for its torn frame
+  pub newest-fits : {p : List ℕ} {z : Seen} {q : List ℕ} → Sees N img p z q → z .newest .end + z .newest .torn ≤ blockMax
+  newest-fits {p} {z} x = subst (λ (w : Newest). w .end + w .torn ≤ blockMax) (sym (x .newest)) (go (stores (allFound N img)) newest-held)
+    where
+      go : (xs : List Store) → NewestHeld N img xs → newestIn xs .end + newestIn xs .torn ≤ blockMax
+      go [] h = omega arith
+      go (y ∷ ys) h = omega (arith, closed-fits (h .holds), h .long, sized-of N img a .high)

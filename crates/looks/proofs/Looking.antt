@@ -11,16 +11,17 @@ use borrow.Author.Tests.{eq-eqb, ne-eqb, lt-ltb, le-ltb, le-leb, lt-leb, ltb-tru
 use Rattle.flash.specs.Flash.{maxBlocks, numbersFrom}
 use Rattle.flash.proofs.Cases.{on-test}
 use Rattle.frame.specs.Frame.{editionNumber}
-use Rattle.journal.specs.Block.{Journal, BlockState, blank, inProgress, valid, foreign, timeIn}
+use Rattle.journal.specs.Block.{Journal, BlockState, blank, inProgress, valid, foreign, timeIn, tornLen}
 use Rattle.survey.specs.Survey.{kindIn, surveyOf, placesIn}
 use Rattle.wire.specs.declared.Refusal.{Refusal}
-use Rattle.board.specs.Mount.{Found, isBlank, Store, storeIn, stores, sameTime, newest, tied, wipeList, endOf, upkeepOf, upkeep, transfers, timeOf}
+use Rattle.board.specs.Mount.{Found, isBlank, Store, storeIn, stores, sameTime, newest, tied, wipeList, endOf, replayOf, timeOf}
 use Rattle.board.specs.Mount.{orForeign, noneValid}
 use Rattle.looks.specs.declared.looks.Newest.{Newest}
 use Rattle.looks.specs.declared.looks.Tie.{Tie}
 use Rattle.looks.specs.declared.looks.Seen.{Seen}
-use Rattle.looks.specs.Surveys.{isBlankKind, orForeignKind, needsIn}
-use Rattle.looks.specs.Seen.{othersIn, newestIn, tieIn, storePlaces, placesFor, noneSeen, hasTime, takesOver, newer, tying, sameAbove, seeing}
+use Rattle.looks.specs.Surveys.{isBlankKind, orForeignKind, pendsIn}
+use Rattle.looks.specs.Seen.{othersIn, someOf, keptOf, newestIn, tieIn, storePlaces, placesFor, noneSeen, hasTime, takesOver, newer, tying, seeing}
+use Rattle.looks.specs.Seen.{sameAbove}
 
 -- ---- the newest, with one more in front
 
@@ -41,25 +42,14 @@ newest-cons x y [] = refl
 newest-cons x y (z ∷ zs) =
     newer-of x y (newest z zs) (newest x (z ∷ zs)) (newest y (z ∷ zs)) (newest-cons x z zs) (newest-cons y z zs)
 
-abbrev kept : Store → Bool → Newest
-kept x same =
-    record {
-      valid = true;
-      number = x .number;
-      time = timeOf x;
-      end = endOf (x .journal);
-      moves = transfers (upkeep x);
-      shared = same;
-      edition = editionNumber (x .journal .edition);
-    }
-
 newest-more : (x : Store) (xs : List Store)
-    → cond (leb (newestIn xs .time) (timeOf x)) (kept x (sameTime (timeOf x) xs)) (newestIn xs) ≡ newestIn (x ∷ xs)
+    → cond (leb (newestIn xs .time) (timeOf x)) (keptOf x (sameTime (timeOf x) xs)) (newestIn xs) ≡ newestIn (x ∷ xs)
 newest-more x [] = rw (le-leb 0 (timeOf x) (omega arith), eq-eqb (timeOf x) (timeOf x) refl)
 newest-more x (y ∷ ys) = go (newest y ys) (newest x (y ∷ ys)) (newest-cons x y ys)
   where
     go : (w v : Store) → v ≡ cond (ltb (timeOf x) (timeOf w)) w x
-        → cond (leb (timeOf w) (timeOf x)) (kept x (sameTime (timeOf x) (y ∷ ys))) (kept w (tied (timeOf w) (y ∷ ys))) ≡ kept v (tied (timeOf v) (x ∷ y ∷ ys))
+        → cond (leb (timeOf w) (timeOf x)) (keptOf x (sameTime (timeOf x) (y ∷ ys))) (keptOf w (tied (timeOf w) (y ∷ ys)))
+        ≡ keptOf v (tied (timeOf v) (x ∷ y ∷ ys))
     go w v e =
         rw e (on-test (ltb (timeOf x) (timeOf w))
         (λ t. let l = ltb-true (timeOf x) (timeOf w) t in
@@ -67,7 +57,7 @@ newest-more x (y ∷ ys) = go (newest y ys) (newest x (y ∷ ys)) (newest-cons x
         (λ t. rw (t, le-leb (timeOf w) (timeOf x) (ltb-false (timeOf x) (timeOf w) t), eq-eqb (timeOf x) (timeOf x) refl)))
 
 -- the same by what was kept so far
-newer-is : (x : Store) (xs : List Store) {w : Newest} {m same : Bool} → w ≡ newestIn xs → m ≡ transfers (upkeep x)
+newer-is : (x : Store) (xs : List Store) {w : Newest} {m same : Bool} → w ≡ newestIn xs → m ≡ someOf (replayOf (x .journal) .pending)
     → same ≡ sameTime (timeOf x) xs
     → cond (leb (w .time) (timeOf x))
     (record {
@@ -75,7 +65,8 @@ newer-is : (x : Store) (xs : List Store) {w : Newest} {m same : Bool} → w ≡ 
       number = x .number;
       time = timeOf x;
       end = endOf (x .journal);
-      moves = m;
+      torn = tornLen (x .journal .tail);
+      pends = m;
       shared = same;
       edition = editionNumber (x .journal .edition);
     })
@@ -149,9 +140,9 @@ why-more k (foreign f) e = refl
 
 -- ---- the blocks from k on, n of them
 
--- what the bytes of a block say of a valid one: a survey tells whether a transfer is needed, and its time isn't 0
+-- what the bytes of a block say of a valid one: a survey tells whether something is pending, and its time isn't 0
 pub record Told (w : Journal) : Type 0 where
-  pub needs : transfers (upkeepOf w) ≡ needsIn (surveyOf (valid w))
+  pub pends : someOf (replayOf w .pending) ≡ pendsIn (surveyOf (valid w))
   pub some : 0 < w .time
 
 abbrev pub Tells : BlockState → Type 0
@@ -227,6 +218,6 @@ module _ {k n : ℕ} {xs : List Found} {p : List ℕ} {z : Seen} {q : List ℕ} 
   seen-next (foreign e) d = seen-by (foreign e) (x .newest) (x .tie) (x .places) untimed
   seen-next (valid w) d =
       let s : Store = record { number = k; journal = w } in
-      seen-by (valid w) (newer-is s (stores xs) (x .newest) (sym (d .needs)) (x .times (w .time) (d .some)))
+      seen-by (valid w) (newer-is s (stores xs) (x .newest) (sym (d .pends)) (x .times (w .time) (d .some)))
       (tie-more s (stores xs) (z .tie) (hasTime (w .time) (drop (suc k) (z .times))) (x .tie) (x .times (w .time) (d .some)))
       (places-is p s (stores xs) (x .newest) (x .places)) (λ u l. refl)

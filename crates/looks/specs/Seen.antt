@@ -8,14 +8,16 @@ use lib.ListN.{length, getD, drop, set, replicate}
 use Rattle.flash.specs.Flash.{maxBlocks, blockNumbers}
 use Rattle.frame.specs.Frame.{editionNumber}
 use Rattle.survey.specs.declared.Survey.{Survey}
+use Rattle.journal.specs.Replay.{Entry}
+use Rattle.journal.specs.Block.{tornLen}
 use Rattle.journal.specs.Index.{placesOf}
 use Rattle.wire.specs.declared.Refusal.the-variants as refusal
-use Rattle.board.specs.Mount.{allFound, Store, stores, equalTimes, lowestTied, newest, tied, wipeList, wipeArray, endOf, upkeep, transfers, noneValid, timeOf}
+use Rattle.board.specs.Mount.{allFound, Store, stores, equalTimes, lowestTied, newest, tied, wipeList, wipeArray, endOf, replayOf, noneValid, timeOf}
 use Rattle.looks.specs.declared.lists.Erases.{Erases}
 use Rattle.looks.specs.declared.looks.Newest.{Newest}
 use Rattle.looks.specs.declared.looks.Tie.{Tie}
 use Rattle.looks.specs.declared.looks.Seen.{Seen}
-use Rattle.looks.specs.Surveys.{isValid, isBlankKind, orForeignKind, needsIn}
+use Rattle.looks.specs.Surveys.{isValid, isBlankKind, orForeignKind, pendsIn}
 
 -- ---- blocks to erase
 
@@ -34,20 +36,29 @@ othersIn c skips (k ∷ ks) = cond (eqb c k || getD skips k false) (othersIn c s
 
 -- ---- what is kept
 
--- of the valid block with the largest time; zeros if none is valid
-abbrev pub newestIn : List Store → Newest
-newestIn [] = record { valid = false; number = 0; time = 0; end = 0; moves = false; shared = false; edition = 0 }
-newestIn (y ∷ ys) =
-    let x : Store = newest y ys in
+-- there are pending changes
+abbrev pub someOf : List Entry → Bool
+someOf [] = false
+someOf (e ∷ es) = true
+
+-- of a valid block, whose time another one has or not
+abbrev pub keptOf : Store → Bool → Newest
+keptOf x same =
     record {
       valid = true;
       number = x .number;
       time = timeOf x;
       end = endOf (x .journal);
-      moves = transfers (upkeep x);
-      shared = tied (timeOf x) (y ∷ ys);
+      torn = tornLen (x .journal .tail);
+      pends = someOf (replayOf (x .journal) .pending);
+      shared = same;
       edition = editionNumber (x .journal .edition);
     }
+
+-- of the valid block with the largest time; zeros if none is valid
+abbrev pub newestIn : List Store → Newest
+newestIn [] = record { valid = false; number = 0; time = 0; end = 0; torn = 0; pends = false; shared = false; edition = 0 }
+newestIn (y ∷ ys) = keptOf (newest y ys) (tied (timeOf (newest y ys)) (y ∷ ys))
 
 abbrev pub tieIn : List Store → Tie
 tieIn xs = record { equal = equalTimes xs; lowest = lowestTied xs }
@@ -92,7 +103,8 @@ newer w k s same =
       number = k;
       time = s .time;
       end = s .end;
-      moves = needsIn s;
+      torn = s .torn;
+      pends = pendsIn s;
       shared = same;
       edition = editionNumber (s .edition);
     })

@@ -1,6 +1,6 @@
 -- What a survey tells of a block. proofs/ ties it to board's definitions.
 use mathlib.Core.List.{List}
-use mathlib.Core.Bool.{Bool, true, false, _&&_, _||_, cond}
+use mathlib.Core.Bool.{Bool, true, false, _&&_, cond}
 use Prim.Native.Nat.{ℕ, _+_}
 use lib.Dec.{eqb, ltb}
 use lib.ListN.{getD}
@@ -35,9 +35,9 @@ orForeignKind k (kind.Foreign e) why = refusal.Foreign k e
 abbrev pub sumOf : List ℕ → ℕ
 sumOf p = getD p 0 0 + getD p 1 0 + getD p 2 0 + getD p 3 0
 
--- a torn frame, or something pending
-abbrev pub needsIn : Survey → Bool
-needsIn s = ltb 0 (s .torn) || ltb 0 (sumOf (s .pending))
+-- something is pending
+abbrev pub pendsIn : Survey → Bool
+pendsIn s = ltb 0 (sumOf (s .pending))
 
 -- the creation time of the block that is made; 0 for none, also where there is no later time
 abbrev pub timeFor : Bool → ℕ → ℕ

@@ -5,7 +5,7 @@ ghost use Prim.Native.Nat.{_<_};
 ghost use lib.ListN.{length, drop};
 ghost use Rattle.flash.specs.Flash.{maxBlocks};
 ghost use Rattle.board.specs.Record.{allowed};
-ghost use Rattle.looks.specs.Surveys.{isBlankKind, orForeignKind, needsIn};
+ghost use Rattle.looks.specs.Surveys.{isBlankKind, orForeignKind, pendsIn};
 ghost use Rattle.looks.specs.Seen.{hasTime, takesOver, newer, tying, seeing, noneSeen, Sees};
 use crate::surveys;
 use flash::MAX_BLOCKS;
@@ -20,8 +20,10 @@ pub struct Newest {
     pub number: u8,
     pub time: u32,
     pub end: u16,
-    // it has a torn frame, or something is pending
-    pub moves: bool,
+    // the length of a torn frame after its whole ones, 0 for none
+    pub torn: u16,
+    // something is pending
+    pub pends: bool,
     // another valid block has its time
     pub shared: bool,
     // its edition's number
@@ -52,7 +54,8 @@ fn nothing() -> Seen
         number: 0,
         time: 0,
         end: 0,
-        moves: false,
+        torn: 0,
+        pends: false,
         shared: false,
         edition: 0,
     };
@@ -92,13 +95,10 @@ fn or_foreign(number: u8, kind: BlockKind, why: Refusal) -> Refusal
     }
 }
 
-// There is a torn frame, or something is pending.
-fn needs_transfer(s: Survey) -> bool
-    ensures { λ r. ⌜ r ≡ needsIn s ⌝ }
+// Something is pending.
+fn pends(s: Survey) -> bool
+    ensures { λ r. ⌜ r ≡ pendsIn s ⌝ }
 {
-    if 0 < s.torn {
-        return true;
-    }
     let p = s.pending;
     0 < surveys::sum(p)
 }
@@ -140,7 +140,8 @@ fn newer(w: Newest, number: u8, s: Survey, same: bool) -> Newest
         number: number,
         time: s.time,
         end: s.end,
-        moves: needs_transfer(s),
+        torn: s.torn,
+        pends: pends(s),
         shared: same,
         edition: frame::edition_number(edition),
     }

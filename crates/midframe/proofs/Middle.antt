@@ -121,6 +121,7 @@ module _ (N : ℕ) (img b img′ b′ : List ℕ) (size : length b ≡ recordSiz
         places = z .places;
         wipe = z .wipe;
         since = z .since;
+        close = z .close;
         unit = z .unit;
         frame = z .frame;
       } in
@@ -137,7 +138,7 @@ module _ (N : ℕ) (img b img′ b′ : List ℕ) (size : length b ≡ recordSiz
       }
 
   module _ (ok : (i : ℕ) → getD b i 0 < 256) where
-    canonical : (p : ℕ) → Stands N b (length img) p → p < 8 → Canonical b
+    canonical : (p : ℕ) → Stands N b (length img) p → p < 9 → Canonical b
     canonical p s h = record { phase = rw (s .phase) h; moves = s .moves; drops = s .drops }
 
     same : (p : ℕ) → Stands N b (length img) p → sameShape N (length img) (recordIn b) ≡ true

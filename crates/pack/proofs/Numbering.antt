@@ -40,6 +40,7 @@ pub record Lengths (n : Numbers) : Type 0 where
   pub pending : length (n .rest .pending) ≡ 4
   pub wipe : length (n .job .wipe) ≡ maxBlocks
   pub since : length (n .job .since) ≡ 4
+  pub close : length (n .job .close) ≡ 4
 
 module _ (n : Numbers) (z : Lengths n) where
   numbers-laid : (l p u f : List ℕ) → length l ≡ recordSize → wordBytes p ≡ take placesSize (drop placesAt l) → u ++ f ≡ drop unitAt l
@@ -53,7 +54,7 @@ module _ (n : Numbers) (z : Lengths n) where
       let u₁ = next 0 placesAt h u₀ refl (length-head (assemble n [] [] []) (z .pending)) (omega (arith, size)) in
       let u₂ = keep placesAt placesSize u₁ (omega (arith, size)) in
       let u₃ = next jobAt maxBlocks (n .job .wipe) u₂ refl (z .wipe) (omega (arith, size)) in
-      let u₄ = next planAt planSize q u₃ refl (length-plan (n .job) (z .since)) (omega (arith, size)) in
+      let u₄ = next planAt planSize q u₃ refl (length-plan (n .job) (z .since) (z .close)) (omega (arith, size)) in
       let u₅ = next cursorAt cursorSize c u₄ refl refl (omega (arith, size)) in
       u₅ .written ∙ flat h (take placesSize (drop placesAt l)) (n .job .wipe) q c (drop unitAt l) ∙ rw (← ep, ← ef)
 
@@ -65,13 +66,14 @@ module _ (n : Numbers) (z : Lengths n) where
         places = length-words-in 256 (drop placesAt b);
         wipe = z .wipe;
         since = z .since;
+        close = z .close;
         unit = length-bytes-in bufferLen (drop unitAt b);
         frame = length-bytes-in bufferLen (drop frameAt b);
       }
 
   no-sizes : Sized (assemble n noPlaces noFrame noFrame)
   unfolding noPlaces noFrame
-  no-sizes = record { pending = z .pending; places = refl; wipe = z .wipe; since = z .since; unit = refl; frame = refl }
+  no-sizes = record { pending = z .pending; places = refl; wipe = z .wipe; since = z .since; close = z .close; unit = refl; frame = refl }
 
   -- over zeros: a job that ended
   ended-laid : numbersInto n (replicate recordSize 0) ≡ recordBytes (assemble n noPlaces noFrame noFrame)

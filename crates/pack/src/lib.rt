@@ -34,6 +34,7 @@ fn stage_byte(stage: Stage) -> u8
         Stage::Seal => 5,
         Stage::Drop => 6,
         Stage::Append => 7,
+        Stage::Close => 8,
     }
 }
 
@@ -100,6 +101,7 @@ fn plan_bytes(job: Job) -> [u8; lent::PLAN_SIZE]
 {
     let t = job.time;
     let s = job.since;
+    let c = job.close;
     [
         job.wipes,
         flag_byte(job.moves),
@@ -119,6 +121,15 @@ fn plan_bytes(job: Job) -> [u8; lent::PLAN_SIZE]
         high(s[3]),
         job.size,
         job.edition,
+        job.closes,
+        low(c[0]),
+        high(c[0]),
+        low(c[1]),
+        high(c[1]),
+        low(c[2]),
+        high(c[2]),
+        low(c[3]),
+        high(c[3]),
     ]
 }
 

@@ -15,9 +15,9 @@ use Rattle.flash.proofs.Image.{bytes-block}
 use Rattle.frame.specs.declared.Host.{Host}
 use Rattle.frame.specs.Frame.{hostMax, endLen, editionNumber}
 use Rattle.frame.specs.Reader.{Tail, clean, cut, bad}
-use Rattle.journal.specs.Block.{Journal, headerLen, BlockState, blank, inProgress, valid, foreign, blockState}
+use Rattle.journal.specs.Block.{Journal, headerLen, BlockState, blank, inProgress, valid, foreign, blockState, tornLen}
 use Rattle.survey.specs.declared.Survey.{Survey}
-use Rattle.survey.specs.Survey.{tornLen, surveyOf, stateOf}
+use Rattle.survey.specs.Survey.{surveyOf, stateOf}
 use Rattle.survey.proofs.Surveying.{half-fits}
 use Rattle.journal.proofs.Blocks.{Okay}
 use Rattle.journal.proofs.States.{Contents, valid-inv}

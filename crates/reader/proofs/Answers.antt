@@ -2,7 +2,7 @@
 use mathlib.Core.Path.{_≡_, refl, sym, ap, ap₂, _∙_}
 use mathlib.Core.List.{List, [], _∷_}
 use mathlib.Core.Logic.{inl, inr}
-use mathlib.Core.Bool.{Bool, true, false, not, _&&_}
+use mathlib.Core.Bool.{Bool, true, false, _&&_}
 use Prim.Native.Nat.{ℕ, zero, suc, _+_, _≤_, _<_}
 use native.Mathlib.Omega.{arith}
 use native.Mathlib.Nat.{zero-add, add-zero}
@@ -11,9 +11,9 @@ use borrow.Author.Tests.{leb-true, le-leb, lt-leb, eqb-true, eq-eqb}
 use lib.ListN.{length, getD, drop}
 use Rattle.flash.specs.Bytes.{allFF}
 use Rattle.flash.proofs.Cases.{on-test, clash, and-both, and-no-left, and-no-right, or-right}
-use Rattle.frame.specs.Frame.{Frame, idMax, checkLen, endLen, putLen, settledLen}
+use Rattle.frame.specs.Frame.{Frame, reset, idMax, checkLen, putLen, settledLen, ClosedLength}
 use Rattle.frame.specs.Reader.{Read, blank, whole, torn, wrong, fault, faultAt, Slot, fits, layoutOf, laid, hasLength, onlySettled}
-use Rattle.frame.specs.Reader.{Match, all, part, misfit, match, decode, ofMatch, readLaid, readFrame}
+use Rattle.frame.specs.Reader.{Match, all, part, misfit, match, decode, ofMatch, beingClosed, readLaid, readFrame}
 use Rattle.frame.specs.Code.{headOf, readOf}
 use Rattle.reader.specs.Misfits.{firstMisfit, misfitFrom}
 use Rattle.frame.specs.declared.Edition.{Edition}
@@ -25,9 +25,9 @@ use Rattle.frame.specs.declared.FrameRead.the-variants as read
 use Rattle.reader.specs.declared.Misfit.{Misfit}
 use Rattle.reader.specs.declared.Misfit.the-variants as found
 use Rattle.frame.proofs.Fit.{match-go, match-part, match-misfit}
-use Rattle.frame.proofs.Own.{only-yes, SomeLength, length-of, length-inv, tears-not}
+use Rattle.frame.proofs.Own.{only-yes, SomeLength, length-of, length-inv}
 use Rattle.frame.proofs.Layouts.{length-slots}
-use Rattle.frame.proofs.Exact.{lengthFits, read-ff, read-laid, read-short}
+use Rattle.frame.proofs.Exact.{lengthFits, read-ff, read-laid, read-being, read-short}
 use Rattle.reader.proofs.Misfits.{first-none, first-at, one-fits, one-fails}
 
 -- ---- a misfit, and the match
@@ -95,18 +95,24 @@ module _ (e : Edition) (next n k : ℕ) (t : List ℕ) (p : n ≡ getD t 0 0) (q
       ∙ length-slots e next t (ap (hasLength e next) (sym p) ∙ l) ∙ sym p
 
   pub laid-read : readOf (readLaid e next 0 n k t)
-      ≡ laidRead (not (onlySettled e next n k)) n (decode e k n t) t (misfitFrom 0 (laid n (layoutOf e next n k) t) t)
-  laid-read =
-      read-from (layoutOf e next n k .tears) n (decode e k n t) t 0 (laid n (layoutOf e next n k) t) t refl (omega (arith, size-is))
-      ∙ ap (λ (b : Bool). laidRead b n (decode e k n t) t (misfitFrom 0 (laid n (layoutOf e next n k) t) t)) (tears-not e next n k)
+      ≡ laidRead (layoutOf e next n k .tears) n (decode e k n t) t (misfitFrom 0 (laid n (layoutOf e next n k) t) t)
+  laid-read = read-from (layoutOf e next n k .tears) n (decode e k n t) t 0 (laid n (layoutOf e next n k) t) t refl (omega (arith, size-is))
 
 -- ---- the steps of the reader
 
 module _ (e : Edition) (next n : ℕ) (t : List ℕ) (p : n ≡ getD t 0 0) (a : allFF t ≡ false) where
-  pub front-laid : (k : ℕ) → k ≡ getD t 2 0 → n ≤ length t → hasLength e next n ≡ true → readOf (readFrame e next 0 t) ≡ readOf (readLaid e next 0 n k t)
-  front-laid k q h l =
-      ap readOf (read-laid e next 0 t a
-      (ap (λ (x : ℕ). leb x (length t) && hasLength e next x) (sym p) ∙ and-both (leb n (length t)) (hasLength e next n) (le-leb n (length t) h) l)
+  length-fits : n ≤ length t → hasLength e next n ≡ true → lengthFits e next t ≡ true
+  length-fits h l =
+      ap (λ (x : ℕ). leb x (length t) && hasLength e next x) (sym p) ∙ and-both (leb n (length t)) (hasLength e next n) (le-leb n (length t) h) l
+
+  pub front-being : n ≤ length t → hasLength e next n ≡ true → beingClosed e n t ≡ true → readOf (readFrame e next 0 t) ≡ read.Torn n
+  front-being h l c =
+      ap readOf (read-being e next 0 t a (length-fits h l) (ap (λ (x : ℕ). beingClosed e x t) (sym p) ∙ c)) ∙ ap read.Torn (sym p)
+
+  pub front-laid : (k : ℕ) → k ≡ getD t 2 0 → n ≤ length t → hasLength e next n ≡ true → beingClosed e n t ≡ false
+      → readOf (readFrame e next 0 t) ≡ readOf (readLaid e next 0 n k t)
+  front-laid k q h l c =
+      ap readOf (read-laid e next 0 t a (length-fits h l) (ap (λ (x : ℕ). beingClosed e x t) (sym p) ∙ c)
       ∙ ap₂ (λ (x y : ℕ). readLaid e next 0 x y t) (sym p) (sym q))
 
   pub front-long : length t < n → readOf (readFrame e next 0 t) ≡ read.Wrong (fault field.Length 0)
@@ -126,47 +132,59 @@ module _ (e : Edition) (next n : ℕ) where
   same-length true f g = sym (length-of e next n (f refl))
   same-length false f g = sym (on-test (hasLength e next n) (λ q. clash true refl (sym (g (length-inv e next n q)))) (λ q. q))
 
+  pub is-reset : (r : ℕ) → r ≡ checkLen e → n ≡ 5 + r → true ≡ hasLength e next n
+  is-reset r q h = same-length true (λ b. inl (inl (omega arith))) (λ s. refl)
+
   pub is-end : (r : ℕ) → r ≡ checkLen e → n ≡ 6 + r → true ≡ hasLength e next n
-  is-end r q h = same-length true (λ b. inl (inl (omega arith))) (λ s. refl)
+  is-end r q h = same-length true (λ b. inl (inr (inl (omega arith)))) (λ s. refl)
 
   pub is-put : (r : ℕ) → r ≡ checkLen e → 8 + r ≤ n → leb n (248 + r) ≡ hasLength e next n
-  is-put r q h = same-length (leb n (248 + r)) (λ b. inl (inr (omega arith, omega (arith, leb-true n (248 + r) b)))) (λ s. le-leb n (248 + r) (most s))
+  is-put r q h =
+      same-length (leb n (248 + r)) (λ b. inl (inr (inr (omega arith, omega (arith, leb-true n (248 + r) b))))) (λ s. le-leb n (248 + r) (most s))
     where
       most : SomeLength e next n → n ≤ 248 + r
       most (inl (inl s)) = omega arith
-      most (inl (inr s)) = omega arith
+      most (inl (inr (inl s))) = omega arith
+      most (inl (inr (inr s))) = omega arith
       most (inr s) = omega arith
 
-  other : (r : ℕ) → r ≡ checkLen e → (n ≡ 6 + r → ⊥) → n < 8 + r → SomeLength e next n → (next ≤ idMax) × (n ≡ settledLen e 0)
-  other r q a b (inl (inl s)) = absurd (a (omega arith))
-  other r q a b (inl (inr s)) = absurd (omega arith)
-  other r q a b (inr s) = s
+  other : (r : ℕ) → r ≡ checkLen e → (n ≡ 5 + r → ⊥) → (n ≡ 6 + r → ⊥) → n < 8 + r → SomeLength e next n → (next ≤ idMax) × (n ≡ settledLen e 0)
+  other r q z a b (inl (inl s)) = absurd (z (omega arith))
+  other r q z a b (inl (inr (inl s))) = absurd (a (omega arith))
+  other r q z a b (inl (inr (inr s))) = absurd (omega arith)
+  other r q z a b (inr s) = s
 
-  pub is-none : (r : ℕ) → r ≡ checkLen e → (n ≡ 6 + r → ⊥) → n < 8 + r → idMax < next → false ≡ hasLength e next n
-  is-none r q a b h = same-length false (λ z. clash true refl (sym z)) (λ s. let y : next ≤ idMax = other r q a b s .0 in absurd (omega arith))
+  pub is-none : (r : ℕ) → r ≡ checkLen e → (n ≡ 5 + r → ⊥) → (n ≡ 6 + r → ⊥) → n < 8 + r → idMax < next → false ≡ hasLength e next n
+  is-none r q z a b h = same-length false (λ y. clash true refl (sym y)) (λ s. let y : next ≤ idMax = other r q z a b s .0 in absurd (omega arith))
 
-  pub is-settled : (r : ℕ) → r ≡ checkLen e → (n ≡ 6 + r → ⊥) → n < 8 + r → next ≤ idMax → eqb n (7 + r) ≡ hasLength e next n
-  is-settled r q a b h =
-      same-length (eqb n (7 + r)) (λ z. inr (h, omega (arith, eqb-true n (7 + r) z))) (λ s. eq-eqb n (7 + r) (omega (arith, other r q a b s .1)))
+  pub is-settled : (r : ℕ) → r ≡ checkLen e → (n ≡ 5 + r → ⊥) → (n ≡ 6 + r → ⊥) → n < 8 + r → next ≤ idMax → eqb n (7 + r) ≡ hasLength e next n
+  is-settled r q z a b h =
+      same-length (eqb n (7 + r)) (λ y. inr (h, omega (arith, eqb-true n (7 + r) y))) (λ s. eq-eqb n (7 + r) (omega (arith, other r q z a b s .1)))
 
-pub put-least : (e : Edition) (next n k : ℕ) → onlySettled e next n k ≡ false → hasLength e next n ≡ true → (n ≡ endLen e → ⊥) → putLen e 0 ≤ n
-put-least e next n k s q a = go (length-inv e next n q)
+pub host-length : (e : Edition) (next n k : ℕ) → onlySettled e next n k ≡ false → hasLength e next n ≡ true → ClosedLength e n
+host-length e next n k s q = go (length-inv e next n q)
   where
-    go : SomeLength e next n → putLen e 0 ≤ n
-    go (inl (inl h)) = absurd (a h)
-    go (inl (inr h)) = h .0
-    go (inr h) = clash (onlySettled e next n k) (only-yes e next n k (h .0) (omega arith) (omega arith)
+    go : SomeLength e next n → ClosedLength e n
+    go (inl h) = h
+    go (inr h) =
+        clash (onlySettled e next n k) (only-yes e next n k (h .0) (omega arith) (omega arith)
         (or-right (eqb k 5) (eqb n (settledLen e 0)) (eq-eqb n (settledLen e 0) (h .1)))) s
+
+pub put-least : (e : Edition) (n r : ℕ) → r ≡ checkLen e → (n ≡ 5 + r → ⊥) → (n ≡ 6 + r → ⊥) → ClosedLength e n → putLen e 0 ≤ n
+put-least e n r q a b (inl h) = absurd (a (omega arith))
+put-least e n r q a b (inr (inl h)) = absurd (b (omega arith))
+put-least e n r q a b (inr (inr h)) = h .0
 
 -- ---- heads
 
-pub decode-high : (e : Edition) (k n : ℕ) (t : List ℕ) → 5 ≤ k → decode e k n t ≡ decode e 5 n t
-decode-high e (suc (suc (suc (suc (suc k))))) n t h = refl
+pub decode-high : (e : Edition) (k n : ℕ) (t : List ℕ) → 6 ≤ k → decode e k n t ≡ reset
+decode-high e (suc (suc (suc (suc (suc (suc k)))))) n t h = refl
 decode-high e zero n t h = absurd (omega arith)
 decode-high e (suc zero) n t h = absurd (omega arith)
 decode-high e (suc (suc zero)) n t h = absurd (omega arith)
 decode-high e (suc (suc (suc zero))) n t h = absurd (omega arith)
 decode-high e (suc (suc (suc (suc zero)))) n t h = absurd (omega arith)
+decode-high e (suc (suc (suc (suc (suc zero))))) n t h = absurd (omega arith)
 
 -- ---- the same at an offset
 
@@ -187,10 +205,12 @@ shift-read e next at t =
     on-test (allFF t)
     (λ a. ap readOf (read-ff e next at t a) ∙ ap (λ (r : Read). shiftRead at (readOf r)) (sym (read-ff e next 0 t a)))
     (λ a. on-test (lengthFits e next t)
-    (λ b. ap readOf (read-laid e next at t a b)
+    (λ b. on-test (beingClosed e (getD t 0 0) t)
+    (λ c. ap readOf (read-being e next at t a b c) ∙ ap (λ (r : Read). shiftRead at (readOf r)) (sym (read-being e next 0 t a b c)))
+    (λ c. ap readOf (read-laid e next at t a b c)
     ∙ shift-match at (getD t 0 0) (layoutOf e next (getD t 0 0) (getD t 2 0) .tears) (decode e (getD t 2 0) (getD t 0 0) t)
     (match (laid (getD t 0 0) (layoutOf e next (getD t 0 0) (getD t 2 0)) t) t)
-    ∙ ap (λ (r : Read). shiftRead at (readOf r)) (sym (read-laid e next 0 t a b)))
+    ∙ ap (λ (r : Read). shiftRead at (readOf r)) (sym (read-laid e next 0 t a b c))))
     (λ b. ap readOf (read-short e next at t a b)
     ∙ ap (λ (s : ℕ). read.Wrong (fault field.Length s)) (sym (add-zero at))
     ∙ ap (λ (r : Read). shiftRead at (readOf r)) (sym (read-short e next 0 t a b))))

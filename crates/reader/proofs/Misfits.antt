@@ -13,8 +13,9 @@ use Rattle.flash.specs.Bytes.{Bytes}
 use Rattle.flash.proofs.Cases.{and-no-left, and-no-right, between-yes}
 use Rattle.flash.proofs.Blank.{byte-at}
 use Rattle.crc.specs.Crc.{crc32Of}
-use Rattle.frame.specs.Frame.{hostMax, finish, checkLen, putLen, deleteLen, endLen, settledLen}
+use Rattle.frame.specs.Frame.{hostMax, finish, checkLen, putLen, deleteLen, endLen, settledLen, closedLen, resetLen}
 use Rattle.frame.specs.Reader.{Slot, slot, fits, valueSlots, Layout, frontSlots, sealSlots, laid, lastKind, changeLayout, endLayout, settledLayout}
+use Rattle.frame.specs.Reader.{closedLayout, resetLayout}
 use Rattle.reader.specs.Misfits.{firstMisfit, oneMisfit, misfitFrom, frontMisfit}
 use Rattle.frame.specs.declared.Edition.{Edition}
 use Rattle.frame.specs.declared.Edition.the-variants as edition
@@ -182,3 +183,17 @@ module _ (e : Edition) (n : ℕ) (t : List ℕ) (q : n ≡ getD t 0 0) (hi : n �
       ∙ ap (firstMisfit (frontMisfit 5 5 t))
       (then 4 (slot field.Id 4 next 255) (slot field.Id 4 0 0 ∷ (v ++ ps)) t _ (omega arith)
       (then 5 (slot field.Id 4 0 0) (v ++ ps) t _ (omega arith) (value-is 6 (n - settledLen e 0) m ps t bs (omega arith) (omega arith))))
+
+  pub closed-is : closedLen 0 ≤ n
+      → misfitFrom 0 (laid n (closedLayout n) t) t ≡ firstMisfit (frontMisfit 0 0 t) (sealMisfit edition.First (n - 1) t)
+  closed-is lo =
+      let l : Layout = closedLayout n in
+      let m : ℕ = n - 1 in
+      let r : 4 + length (l .body) ≡ m = omega (arith, length-value 4 (n - closedLen 0)) in
+      let ps : List Slot = sealSlots edition.First m (take m t) in
+      ap (λ (x : ℕ). misfitFrom 0 (frontSlots n l ++ sealSlots edition.First x (take x t)) t) r
+      ∙ front-is n l ps t q (omega arith)
+      ∙ ap (firstMisfit (frontMisfit 0 0 t)) (value-is 4 (n - closedLen 0) m ps t bs (omega arith) (omega arith))
+
+  pub reset-is : n ≡ resetLen e → misfitFrom 0 (laid n (resetLayout e) t) t ≡ firstMisfit (frontMisfit 7 7 t) (sealMisfit e 4 t)
+  reset-is s = front-is n (resetLayout e) (sealSlots e 4 (take 4 t)) t q (omega arith)

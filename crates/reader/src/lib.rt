@@ -4,12 +4,15 @@ ghost use Prim.Native.Nat.{_+_, _-_, _≤_, _<_};
 ghost use lib.Dec.{eqb};
 ghost use lib.ListN.{length, getD, take, drop};
 ghost use Rattle.flash.specs.Bytes.{le16};
-ghost use Rattle.frame.specs.Frame.{putLen, deleteLen, endLen, settledLen, idOf, checkLen};
+ghost use Rattle.frame.specs.Frame.{putLen, deleteLen, endLen, settledLen, closedLen, resetLen, ClosedLength, idOf, checkLen};
 ghost use mathlib.Core.Bool.{true};
 ghost use Rattle.frame.specs.Code.{headOf, peekAt, readOf};
 ghost use Rattle.frame.specs.Reader.{hasLength, onlySettled, layoutOf, decode, readLaid, readFrame};
-ghost use Rattle.frame.specs.Reader.{slot, changeLayout, endLayout, settledLayout, sealSlots, laid, lastKind};
+ghost use Rattle.frame.specs.Reader.{slot, changeLayout, endLayout, settledLayout, closedLayout, resetLayout, hostLayout, sealSlots, laid, lastKind};
 ghost use Rattle.reader.specs.Misfits.{firstMisfit, oneMisfit, misfitFrom, frontMisfit, secondMisfit};
+
+mod torn;
+
 use crc::crc32;
 use flash::byte_at;
 use frame::BODY_AT;
@@ -28,10 +31,13 @@ use frame::KIND_AT;
 use frame::ObjectId;
 use frame::PUT_LEN;
 use frame::PUT_VALUE_AT;
+use frame::RESET_LEN;
 use frame::SETTLED_LEN;
 use frame::SETTLED_VALUE_AT;
 use frame::VALUE_MAX;
 use frame::check_len;
+use torn::being_closed;
+use torn::never_cut;
 
 // The other offsets in a frame: high bytes, and the id of a put or a delete.
 const LENGTH_HIGH: usize = 1;
@@ -98,7 +104,7 @@ fn head_at(t: &[u8], edition: Edition, k: u8, n: u8) -> Head
     let check = check_len(edition);
     let host = Host(byte_at(t, BODY_AT));
     match k {
-        0 => Head::Commit(host),
+        0 => Head::Closed(value_count(t, BODY_AT, n, RESET_LEN)),
         1 => Head::Put(
             host,
             id_of(byte_at(t, ID_AT), byte_at(t, ID_HIGH)),
@@ -107,10 +113,11 @@ fn head_at(t: &[u8], edition: Edition, k: u8, n: u8) -> Head
         2 => Head::Delete(host, id_of(byte_at(t, ID_AT), byte_at(t, ID_HIGH))),
         3 => Head::Commit(host),
         4 => Head::Abort(host),
-        _ => Head::Settled(
+        5 => Head::Settled(
             id_of(byte_at(t, BODY_AT), byte_at(t, SETTLED_HIGH)),
             value_count(t, SETTLED_VALUE_AT, n, SETTLED_LEN + check),
         ),
+        _ => Head::Reset,
     }
 }
 
@@ -225,11 +232,49 @@ fn settled_misfit(t: &[u8], edition: Edition, next: usize, n: u8) -> Misfit
     first(front, first(id, first(high, seal)))
 }
 
+// A closed frame of n bytes.
+fn closed_misfit(t: &[u8], n: u8) -> Misfit
+    requires { ⌜ (n ≡ getD (now t) 0 0) × (closedLen 0 ≤ n) × (n ≤ length (now t)) ⌝ }
+    ensures { λ r. ⌜ r ≡ misfitFrom 0 (laid n (closedLayout n) (now (t .entry))) (now (t .entry)) ⌝ }
+{
+    let front = front_misfit(t, 0, 0);
+    let seal = seal_misfit(t, Edition::First, n as usize - 1);
+    first(front, seal)
+}
+
+// A reset.
+fn reset_misfit(t: &[u8], edition: Edition, n: u8) -> Misfit
+    requires { ⌜ (n ≡ getD (now t) 0 0) × (n ≡ resetLen edition) × (n ≤ length (now t)) ⌝ }
+    ensures { λ r. ⌜ r ≡ misfitFrom 0 (laid n (resetLayout edition) (now (t .entry))) (now (t .entry)) ⌝ }
+{
+    let front = front_misfit(t, 7, 7);
+    let seal = seal_misfit(t, edition, BODY_AT);
+    first(front, seal)
+}
+
+// A frame of kinds 1 to 4 or 7, by its length.
+fn host_misfit(t: &[u8], edition: Edition, n: u8) -> Misfit
+    requires { ⌜ (n ≡ getD (now t) 0 0) × ClosedLength edition n × (n ≤ length (now t)) ⌝ }
+    ensures { λ r. ⌜ r ≡ misfitFrom 0 (laid n (hostLayout edition n) (now (t .entry))) (now (t .entry)) ⌝ }
+{
+    let check = check_len(edition);
+    if n == RESET_LEN + check {
+        return reset_misfit(t, edition, n);
+    }
+    if n == END_LEN + check {
+        return end_misfit(t, edition, n);
+    }
+    change_misfit(t, edition, n)
+}
+
 // Some frame that may stand has n bytes.
 fn has_length(edition: Edition, next: usize, n: u8) -> bool
     ensures { λ r. ⌜ r ≡ hasLength edition next n ⌝ }
 {
     let check = check_len(edition);
+    if n == RESET_LEN + check {
+        return true;
+    }
     if n == END_LEN + check {
         return true;
     }
@@ -270,22 +315,22 @@ fn layout_misfit(t: &[u8], edition: Edition, next: usize, n: u8, k: u8) -> Misfi
     if only_settled(edition, next, n, k) {
         return settled_misfit(t, edition, next, n);
     }
-    if n == END_LEN + check_len(edition) {
-        return end_misfit(t, edition, n);
+    if k == 0 {
+        return closed_misfit(t, n);
     }
-    change_misfit(t, edition, n)
+    host_misfit(t, edition, n)
 }
 
-// The frame of n and k: of a settled one that is cut off the fault, of others that they are torn.
+// The frame of n and k: of one that is never cut short the fault, of others that they are torn.
 fn read_layout(t: &[u8], edition: Edition, next: usize, n: u8, k: u8) -> FrameRead
     requires { ⌜ (n ≡ getD (now t) 0 0) × (hasLength edition next n ≡ true) × (n ≤ length (now t)) × (k ≡ getD (now t) 2 0) ⌝ }
     ensures { λ r. ⌜ r ≡ readOf (readLaid edition next 0 n k (now (t .entry))) ⌝ }
 {
-    let settled = only_settled(edition, next, n, k);
+    let whole = never_cut(edition, next, n, k);
     match layout_misfit(t, edition, next, n, k) {
         Misfit::None => FrameRead::Whole(head_at(t, edition, k, n)),
         Misfit::At(o, f, s) => {
-            if settled {
+            if whole {
                 return FrameRead::Wrong(Fault { field: f, place: s });
             }
             if flash::is_blank(rest(t, o)) {
@@ -311,6 +356,9 @@ fn read_front(t: &[u8], edition: Edition, next: usize) -> FrameRead
         });
     }
     if has_length(edition, next, n) {
+        if being_closed(t, edition, n) {
+            return FrameRead::Torn(n as usize);
+        }
         return read_layout(t, edition, next, n, byte_at(t, KIND_AT));
     }
     FrameRead::Wrong(Fault {

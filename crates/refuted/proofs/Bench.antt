@@ -9,13 +9,13 @@ use Rattle.frame.specs.declared.Edition.the-variants as edition
 use Rattle.frame.specs.Frame.{hostOf, idOf, put, delete, Frame, change, commit, settled, encodeAll, total}
 use Rattle.frame.specs.Reader.{hostLayout, layoutOf, match, readFrame, scan}
 use Rattle.journal.specs.Replay.{insert, remove, lookup, changeAll, listOf, without, isOpen, replayFrom}
-use Rattle.journal.specs.Block.{header, validData, editionIn, headerFault, blockState}
+use Rattle.journal.specs.Block.{header, validData, editionIn, headerFault, blockState, changing}
 use Rattle.journal.specs.Room.{claimed, noRoom, hostFull}
 use Rattle.journal.specs.Index.{sited, placesFrom, sinceFrom, valueAt, nextSettled, nextPending, nextLoad}
 use Rattle.wire.specs.Message.{parse}
 use Rattle.wire.specs.declared.Answer.the-variants.{Done}
 use Rattle.board.specs.Record.{allowed, rest, counting, idle, noPlaces, noFrame}
-use Rattle.board.specs.Step.{enterAppend, enterDrop, enterCopy, enterOpen, enterWipe, advance, stepBusy, stepOn}
+use Rattle.board.specs.Step.{enterAppend, enterDrop, enterCopy, enterOpen, enterClose, enterWipe, advance, stepBusy, stepOn}
 use Rattle.board.specs.Mount.{mountAt, mountFound, mountOn, formatOrder, formatOn}
 use Rattle.board.specs.Queue.{fitsRecord, held, append, serveChange, serveEnd, serveLog, serve, requestOn}
 use Rattle.board.specs.Exec.{exec}
@@ -87,10 +87,10 @@ record Stages : Type 0 where
 
 stages : Stages
 unfolding numbersFrom sizeIn allowed drive returned ask asked cutIn mounted rowA stores rowI commitMessage putMessage deleteMessage allFF sameBytes writes
-    encodeAll total hostLayout layoutOf match readFrame scan insert remove lookup changeAll listOf without isOpen replayFrom editionIn headerFault
-    blockState noRoom hostFull sited placesFrom sinceFrom valueAt nextSettled nextPending nextLoad parse noPlaces noFrame enterAppend enterDrop enterCopy
-    enterOpen enterWipe advance stepBusy stepOn mountAt mountFound mountOn formatOrder formatOn fitsRecord held append serveChange serveEnd serveLog serve
-    requestOn halfOf blankHalf
+    encodeAll total hostLayout layoutOf match readFrame scan insert remove lookup changeAll listOf without isOpen replayFrom editionIn headerFault blockState
+    changing noRoom hostFull sited placesFrom sinceFrom valueAt nextSettled nextPending nextLoad parse noPlaces noFrame enterAppend enterDrop enterCopy
+    enterOpen enterClose enterWipe advance stepBusy stepOn mountAt mountFound mountOn formatOrder formatOn fitsRecord held append serveChange serveEnd
+    serveLog serve requestOn halfOf blankHalf
 stages =
     record {
       i-is = refl;
@@ -130,9 +130,10 @@ m-223-is = ap (λ (x : Ran). mounted (exec 2) (cutIn (exec 2) x 0 deleteMessage 
 pub rows : Rows (exec 2)
 unfolding numbersFrom sizeIn allowed drive returned ask asked cutIn mounted replayed timed part rowA rowB rowC rowD rowE rowF rowG rowH stores rowI rowK
     rowLDelete rowL rowM three rowALong rowO commitMessage putMessage deleteMessage formatAnswer allFF sameBytes writes encodeAll total hostLayout layoutOf
-    match readFrame scan insert remove lookup changeAll listOf without isOpen replayFrom editionIn headerFault blockState noRoom hostFull sited placesFrom
-    sinceFrom valueAt nextSettled nextPending nextLoad parse noPlaces noFrame enterAppend enterDrop enterCopy enterOpen enterWipe advance stepBusy stepOn
-    mountAt mountFound mountOn formatOrder formatOn halfOf blankHalf fitsRecord held append serveChange serveEnd serveLog serve requestOn
+    match readFrame scan insert remove lookup changeAll listOf without isOpen replayFrom editionIn headerFault blockState changing noRoom hostFull sited
+    placesFrom sinceFrom valueAt nextSettled nextPending nextLoad parse noPlaces noFrame enterAppend enterDrop enterCopy enterOpen enterClose enterWipe
+    advance stepBusy stepOn mountAt mountFound mountOn formatOrder formatOn halfOf blankHalf fitsRecord held append serveChange serveEnd serveLog serve
+    requestOn
 rows =
     record {
       a-steps = refl;
@@ -153,9 +154,14 @@ rows =
       f-steps = refl;
       f-done = refl;
       f-time = refl;
+      f-reset = refl;
+      f-rest = refl;
       f-holds = refl;
       g-steps = refl;
       g-done = refl;
+      g-closed = refl;
+      g-reset = refl;
+      g-rest = refl;
       g-holds = refl;
       h-steps = refl;
       h-done = refl;

@@ -14,7 +14,7 @@ use Rattle.frame.specs.Frame.{encodeAll, total}
 use Rattle.frame.specs.Reader.{hostLayout, layoutOf, match, readFrame, scan}
 use Rattle.journal.specs.Replay.{insert, lookup, changeAll, listOf, without, isOpen, replayFrom}
 use Rattle.flash.proofs.Cases.{and-left, and-right, clash}
-use Rattle.journal.specs.Block.{editionIn, headerFault, blockState}
+use Rattle.journal.specs.Block.{editionIn, headerFault, blockState, changing}
 use Rattle.journal.specs.Index.{sited, placesFrom, valueAt}
 use Rattle.wire.specs.Message.{parse}
 use Rattle.wire.specs.declared.Answer.the-variants.{More}
@@ -22,7 +22,7 @@ use Rattle.board.specs.declared.Stage.the-variants.{Wipe}
 use Rattle.board.specs.declared.Phase.the-variants.{Unmounted, Idle, Busy}
 use Rattle.board.specs.declared.Record.{Record}
 use Rattle.board.specs.Record.{allowed, noPlaces, noFrame, unmounted, rest, counting, idle, cursor, inStage}
-use Rattle.board.specs.Step.{advance, enterAppend, enterOpen, enterWipe, stepBusy, stepOn}
+use Rattle.board.specs.Step.{advance, enterAppend, enterOpen, enterClose, enterWipe, stepBusy, stepOn}
 use Rattle.board.specs.Mount.{mountAt, mountFound, mountOn, formatOrder, formatOn}
 use Rattle.board.specs.Queue.{fitsRecord, held, serve, requestOn}
 use Rattle.board.specs.Table.{Exactly, Misplaced, linesOf}
@@ -39,6 +39,7 @@ use Rattle.board.proofs.Determining.{promise-determines, promise-determines-fro
 use Rattle.board.proofs.FollowingPlans.{promise}
 use Rattle.refuted.proofs.RefutingRuns.{runs}
 use Rattle.refuted.proofs.RefutingEditions.{edition-runs}
+use Rattle.refuted.proofs.RefutingMends.{mend-runs}
 
 pub bytes-all : (l : List ℕ) → allBytes l ≡ true → Bytes l
 bytes-all [] e = tt
@@ -85,7 +86,8 @@ right-on-bench w N img r c (inr e) = same-on-bench w N img r c (ap onBench e)
 
 erases-blank : Differs 2 erasesBlank stored (mount ∷ []) answered 255 0
 unfolding erasesBlank numbersFrom sizeIn allowed allFF sameBytes encodeAll total hostLayout layoutOf match readFrame scan isOpen replayFrom insert changeAll
-    without editionIn headerFault blockState placesFrom noPlaces noFrame enterAppend enterOpen enterWipe mountAt mountFound mountOn half blankHalf stored
+    without editionIn headerFault blockState changing placesFrom noPlaces noFrame enterAppend enterOpen enterClose enterWipe mountAt mountFound mountOn half
+    blankHalf stored
 erases-blank = record { is-run = refl; shows-wrong = refl; shows-right = refl; apart = refl }
 
 -- ---- records that no run gives back: by the clause itself
@@ -137,7 +139,7 @@ never-ends (suc n) (inr (inr e)) = never-ends n e
 
 stuck-declared : Declared stuck
 unfolding stuck formatting allFF blockState numbersFrom sizeIn allowed formatOrder formatOn enterWipe
-stuck-declared = record { last = omega arith; wipes = omega arith; append = omega arith; copy = omega arith }
+stuck-declared = record { last = omega arith; wipes = omega arith; append = omega arith; copy = omega arith; closes = omega arith }
 
 forged-waits : Kept (offBench forgedWaits) → ⊥
 forged-waits p = never-ends 65536 (p 2 .calls .ends long stuck stuck-declared)
@@ -254,4 +256,33 @@ refuted =
       room-as-before = differs (edition-runs .room-as-before);
       full-by-first = differs (edition-runs .full-by-first);
       logs-by-first = differs (edition-runs .logs-by-first);
+      moves-always = differs (mend-runs .moves-always);
+      moves-at-edge = differs (mend-runs .moves-at-edge);
+      moves-undue = differs (mend-runs .moves-undue);
+      never-moves = differs (mend-runs .never-moves);
+      fits-unclosed = differs (mend-runs .fits-unclosed);
+      fits-five = differs (mend-runs .fits-five);
+      leaves-torn = differs (mend-runs .leaves-torn);
+      worn-mends = differs (mend-runs .worn-mends);
+      closes-and-moves = differs (mend-runs .closes-and-moves);
+      high-first = differs (mend-runs .high-first);
+      length-stays = differs (mend-runs .length-stays);
+      closes-all = differs (mend-runs .closes-all);
+      clears-body = differs (mend-runs .clears-body);
+      finish-first = differs (mend-runs .finish-first);
+      closes-alone = differs (mend-runs .closes-alone);
+      always-resets = differs (mend-runs .always-resets);
+      aborts-one = differs (mend-runs .aborts-one);
+      reset-bare = differs (mend-runs .reset-bare);
+      finishes-reset = differs (mend-runs .finishes-reset);
+      end-stays = differs (mend-runs .end-stays);
+      mend-keeps = differs (mend-runs .mend-keeps);
+      closing-foreign = differs (mend-runs .closing-foreign);
+      reset-foreign = differs (mend-runs .reset-foreign);
+      closes-seven = differs (mend-runs .closes-seven);
+      checks-body = differs (mend-runs .checks-body);
+      checks-crc = differs (mend-runs .checks-crc);
+      past-reset = differs (mend-runs .past-reset);
+      room-with-closed = differs (mend-runs .room-with-closed);
+      logs-closed = differs (mend-runs .logs-closed);
     }

@@ -15,7 +15,7 @@ use Rattle.frame.specs.declared.Edition.the-variants as edition
 use Rattle.frame.specs.Frame.{encodeAll, total}
 use Rattle.frame.specs.Reader.{clean, hostLayout, layoutOf, match, readFrame, scan}
 use Rattle.journal.specs.Replay.{insert, remove, lookup, changeAll, listOf, without, isOpen, replayFrom}
-use Rattle.journal.specs.Block.{Journal, journal, BlockState, blank, valid, editionIn, headerFault, blockState}
+use Rattle.journal.specs.Block.{Journal, journal, BlockState, blank, valid, editionIn, headerFault, blockState, changing}
 use Rattle.journal.specs.Room.{noRoom, hostFull}
 use Rattle.journal.specs.Index.{sited, placesFrom, sinceFrom, valueAt, nextSettled, nextPending, nextLoad}
 use Rattle.wire.specs.declared.Answer.{Answer}
@@ -27,7 +27,7 @@ use Rattle.board.specs.declared.Phase.{Phase}
 use Rattle.board.specs.declared.Phase.the-variants.{Idle, Busy}
 use Rattle.board.specs.declared.Record.{Record}
 use Rattle.board.specs.Record.{allowed, unmounted, Out, noPlaces, noFrame}
-use Rattle.board.specs.Step.{enterAppend, enterDrop, enterCopy, enterOpen, enterWipe, advance, stepBusy, stepOn}
+use Rattle.board.specs.Step.{enterAppend, enterDrop, enterCopy, enterOpen, enterClose, enterWipe, advance, stepBusy, stepOn}
 use Rattle.board.specs.Mount.{mountAt, mountFound, mountOn, formatOrder, formatOn}
 use Rattle.board.specs.Queue.{fitsRecord, held, append, serveChange, serveEnd, serveLog, serve, requestOn}
 use Rattle.board.specs.Exec.{step, mount, format, Machine}
@@ -45,6 +45,7 @@ use Rattle.refuted.proofs.RefutingCut.{img, empty, claimed-of, refuses-
 use Rattle.refuted.proofs.RefutingOlder.{takes-half-erased}
 use Rattle.refuted.proofs.RefutingShares.{full-by-image}
 use Rattle.refuted.proofs.RefutingConverts.{drops-first, torn-foreign}
+use Rattle.refuted.proofs.RefutingTorn.{finish-first, closes-alone, high-first, end-stays}
 
 -- ---- a request of S + 1 steps
 
@@ -74,8 +75,8 @@ abbrev putting : Out
 putting = late (empty .image) (empty .board) (putEmpty 7)
 
 late-format : formatted 2 late img unmounted ≡ empty
-unfolding numbersFrom sizeIn allowed waitsLong allFF applyAll writes encodeAll blockState noPlaces noFrame enterAppend enterDrop enterCopy enterOpen enterWipe
-    nextSettled nextPending nextLoad advance stepBusy stepOn formatOrder formatOn half blankHalf
+unfolding numbersFrom sizeIn allowed waitsLong allFF applyAll writes encodeAll blockState noPlaces noFrame enterAppend enterDrop enterCopy enterOpen
+    enterClose enterWipe nextSettled nextPending nextLoad advance stepBusy stepOn formatOrder formatOn half blankHalf
 late-format = refl
 
 record Late : Type 0 where
@@ -87,7 +88,7 @@ record Late : Type 0 where
 late-put : Late
 unfolding numbersFrom sizeIn allowed waitsLong allFF sameBytes applyAll writes encodeAll total hostLayout layoutOf match readFrame scan insert
     remove lookup changeAll listOf without isOpen replayFrom editionIn headerFault blockState noRoom hostFull sited placesFrom sinceFrom valueAt nextSettled
-    nextPending nextLoad parse noPlaces noFrame enterAppend enterDrop enterCopy enterOpen enterWipe advance stepBusy stepOn
+    nextPending nextLoad parse noPlaces noFrame enterAppend enterDrop enterCopy enterOpen enterClose enterWipe advance stepBusy stepOn
     fitsRecord held append serveChange serve requestOn half blankHalf
 late-put = record { more = refl; phase = refl; size = refl; busy = refl }
 
@@ -120,8 +121,8 @@ record Blindly : Type 0 where
 
 blindly-done : Blindly
 unfolding numbersFrom sizeIn allowed formatsBlindly allFF sameBytes applyAll writes encodeAll total hostLayout layoutOf match readFrame scan editionIn
-    headerFault blockState noPlaces noFrame enterAppend enterDrop enterCopy enterOpen enterWipe nextSettled nextPending nextLoad advance stepBusy stepOn
-    formatOrder formatOn half blankHalf
+    headerFault blockState noPlaces noFrame enterAppend enterDrop enterCopy enterOpen enterClose enterWipe nextSettled nextPending nextLoad advance stepBusy
+    stepOn formatOrder formatOn half blankHalf
 blindly-done =
     record { formatted-is = refl; erased-is = refl; first-blank = refl; second-blank = refl; was-valid = refl; allowed-length = refl }
 
@@ -160,10 +161,10 @@ record Sparing : Type 0 where
   stale : numberOf (sparing (sparing begunTwice mounted step .image) (sparing begunTwice mounted step .board) reads .answer) ≡ some 11
 
 sparing-done : Sparing
-unfolding numbersFrom sizeIn allowed erasesOne allFF sameBytes applyAll writes encodeAll total hostLayout layoutOf match readFrame scan insert
-    remove lookup changeAll listOf without isOpen replayFrom editionIn headerFault blockState noRoom hostFull sited placesFrom sinceFrom valueAt nextSettled
-    nextPending nextLoad parse noPlaces noFrame enterAppend enterDrop enterCopy enterOpen enterWipe advance stepBusy stepOn mountAt
-    mountFound mountOn fitsRecord held append serveChange serveEnd serveLog serve requestOn half blankHalf begun begunTwice
+unfolding numbersFrom sizeIn allowed erasesOne allFF sameBytes applyAll writes encodeAll total hostLayout layoutOf match readFrame scan insert remove lookup
+    changeAll listOf without isOpen replayFrom editionIn headerFault blockState changing noRoom hostFull sited placesFrom sinceFrom valueAt nextSettled
+    nextPending nextLoad parse noPlaces noFrame enterAppend enterDrop enterCopy enterOpen enterClose enterWipe advance stepBusy stepOn mountAt mountFound
+    mountOn fitsRecord held append serveChange serveEnd serveLog serve requestOn half blankHalf begun begunTwice
 sparing-done = record { is-bytes = refl; allowed-length = refl; stale = refl }
 
 erases-one : UsableFrom 3 sparing → ⊥
@@ -181,6 +182,10 @@ seen =
       full-by-image = full-by-image;
       drops-first = drops-first;
       torn-foreign = torn-foreign;
+      finish-first = finish-first;
+      closes-alone = closes-alone;
+      high-first = high-first;
       formats-blindly = formats-blindly;
       erases-one = erases-one;
+      end-stays = end-stays;
     }

@@ -13,14 +13,14 @@ use Rattle.frame.specs.declared.Field.the-variants as field
 use Rattle.frame.specs.Frame.{hostOf, idOf, put, change, commit, encodeAll, total}
 use Rattle.frame.specs.Reader.{clean, hostLayout, layoutOf, match, readFrame, scan, fault}
 use Rattle.journal.specs.Replay.{Object, object, insert, remove, lookup, changeAll, listOf, without, isOpen, replayFrom}
-use Rattle.journal.specs.Block.{Journal, journal, valid, editionIn, headerFault, blockState}
+use Rattle.journal.specs.Block.{Journal, journal, valid, editionIn, headerFault, blockState, changing}
 use Rattle.journal.specs.Room.{noRoom, hostFull}
 use Rattle.journal.specs.Index.{sited, placesFrom, sinceFrom, valueAt, nextSettled, nextPending, nextLoad}
 use Rattle.wire.specs.declared.Answer.the-variants.{Refused}
 use Rattle.wire.specs.declared.Refusal.the-variants as refusal
 use Rattle.wire.specs.Message.{parse}
 use Rattle.board.specs.Record.{allowed, unmounted, rest, idle, Out, noPlaces, noFrame}
-use Rattle.board.specs.Step.{enterAppend, enterDrop, enterCopy, enterOpen, enterWipe, advance, stepBusy, stepOn}
+use Rattle.board.specs.Step.{enterAppend, enterDrop, enterCopy, enterOpen, enterClose, enterWipe, advance, stepBusy, stepOn}
 use Rattle.board.specs.Mount.{mountAt, mountFound, mountOn, formatOrder, formatOn, replayOf}
 use Rattle.board.specs.Queue.{fitsRecord, held, append, serveChange, serveEnd, convert, serveConvert, serve, requestOn}
 use Rattle.board.specs.Exec.{Call, mount, format, Machine}
@@ -80,9 +80,9 @@ record Computed : Type 0 where
 
 computed : Computed
 unfolding dropsFirst numbersFrom sizeIn allowed allFF sameBytes applyAll writes encodeAll total hostLayout layoutOf match readFrame scan insert remove lookup
-    changeAll listOf without isOpen replayFrom editionIn headerFault blockState noRoom hostFull sited placesFrom sinceFrom valueAt nextSettled nextPending
-    nextLoad parse noPlaces noFrame enterAppend enterDrop enterCopy enterOpen enterWipe advance stepBusy stepOn mountAt mountFound mountOn formatOrder formatOn
-    fitsRecord held append serveChange serveEnd convert serveConvert serve requestOn half blankHalf
+    changeAll listOf without isOpen replayFrom editionIn headerFault blockState changing noRoom hostFull sited placesFrom sinceFrom valueAt nextSettled
+    nextPending nextLoad parse noPlaces noFrame enterAppend enterDrop enterCopy enterOpen enterClose enterWipe advance stepBusy stepOn mountAt mountFound
+    mountOn formatOrder formatOn fitsRecord held append serveChange serveEnd convert serveConvert serve requestOn half blankHalf
 computed = record { formatted-is = refl; holding-is = refl; dropped-is = refl; reads-as = refl }
 
 abbrev after : List Event
@@ -130,9 +130,9 @@ record Torn : Type 0 where
 
 torn-put : Torn
 unfolding tornForeign numbersFrom sizeIn allowed allFF sameBytes applyAll writes shift32 shifted32 crc32From encodeAll total hostLayout layoutOf match
-    readFrame scan insert remove lookup changeAll listOf without isOpen replayFrom editionIn headerFault blockState noRoom hostFull sited placesFrom
-    sinceFrom valueAt nextSettled nextPending nextLoad parse noPlaces noFrame enterAppend enterDrop enterCopy enterOpen enterWipe advance stepBusy stepOn
-    mountAt mountFound mountOn formatOrder formatOn fitsRecord held append serveChange serveEnd convert serveConvert serve requestOn half blankHalf
+    readFrame scan insert remove lookup changeAll listOf without isOpen replayFrom editionIn headerFault blockState changing noRoom hostFull sited placesFrom
+    sinceFrom valueAt nextSettled nextPending nextLoad parse noPlaces noFrame enterAppend enterDrop enterCopy enterOpen enterClose enterWipe advance stepBusy
+    stepOn mountAt mountFound mountOn formatOrder formatOn fitsRecord held append serveChange serveEnd convert serveConvert serve requestOn half blankHalf
 torn-put = record { formatted-is = refl; refused = refl }
 
 pub torn-foreign : Claim 2 strict → ⊥

@@ -10,28 +10,30 @@ use Rattle.flash.specs.Flash.{numbersFrom, sizeIn, applyAll, writes, block, siz
 use Rattle.flash.specs.Raised.{Raised}
 use Rattle.flash.proofs.Blank.{bytes-replicate}
 use Rattle.flash.proofs.Raising.{raises-raised}
-use Rattle.frame.specs.Frame.{hostOf, idOf, put, change, encodeAll, total}
+use Rattle.frame.specs.declared.Edition.the-variants as edition
+use Rattle.frame.specs.Frame.{encodeAll, total}
 use Rattle.frame.specs.declared.Field.the-variants as field
 use Rattle.frame.specs.Reader.{hostLayout, layoutOf, match, readFrame, scan, fault}
 use Rattle.journal.specs.Replay.{insert, remove, lookup, changeAll, listOf, without, isOpen, replayFrom}
-use Rattle.journal.specs.Block.{editionIn, headerFault, blockState}
+use Rattle.journal.specs.Block.{editionIn, headerFault, blockState, changing}
 use Rattle.journal.specs.Room.{noRoom, hostFull}
 use Rattle.journal.specs.Index.{sited, placesFrom, sinceFrom, valueAt, nextSettled, nextPending, nextLoad}
 use Rattle.wire.specs.declared.Answer.the-variants.{Done, Refused}
 use Rattle.wire.specs.Message.{parse}
 use Rattle.board.specs.declared.Record.{Record}
-use Rattle.board.specs.Record.{allowed, unmounted, Out, out, rest, counting, idle, noPlaces, noFrame}
-use Rattle.board.specs.Step.{enterAppend, enterDrop, enterCopy, enterOpen, enterWipe, advance, stepBusy, stepOn}
+use Rattle.board.specs.Record.{allowed, unmounted, Out, out, rest, idle, noPlaces, noFrame}
+use Rattle.board.specs.Step.{enterAppend, enterDrop, enterCopy, enterOpen, enterClose, enterWipe, advance, stepBusy, stepOn}
 use Rattle.board.specs.Mount.{mountAt, mountFound, mountOn, formatOrder, formatOn, tiedTimes}
-use Rattle.board.specs.Queue.{fitsRecord, held, append, serveChange, serveEnd, serveLog, serve, requestOn}
+use Rattle.board.specs.Queue.{fitsRecord, held, convert, serveConvert, serve, requestOn}
 use Rattle.board.specs.Exec.{Call, step, mount, format, Machine}
-use Rattle.board.specs.Book.{Book, book, nothing, firstBook, join, enterCall}
+use Rattle.board.specs.Book.{Book, nothing, firstBook, enterCall}
 use Rattle.board.specs.Table.{InJob}
 use Rattle.board.specs.Claim.{Event, call, cutErase, CutsErase, Happens, Run, tracked, formatted, Claim}
 use Rattle.board.specs.CutFormat.{Left, afterAll}
 use Rattle.board.specs.Promise.{ByteEvents}
 use Rattle.refuted.specs.Wrong.{offBench, refusesHalfErased}
-use Rattle.refuted.specs.WrongRuns.{half, blankHalf, putEmpty, stepping}
+use Rattle.refuted.specs.WrongRuns.{blockOf, half, blankHalf, stepping}
+use Rattle.refuted.specs.EditionRuns.{converts}
 use Rattle.board.proofs.Runs.{HappensAfter, run-rest}
 use Rattle.refuted.proofs.Refuting.{bytes-in}
 
@@ -80,51 +82,37 @@ cut-at {m} {copied} {new} i r b e j n s size raised =
 abbrev m : Machine
 m = offBench refusesHalfErased 2
 
--- the put
-abbrev putting : List Call
-putting = putEmpty 7 ∷ stepping 8 []
-
-abbrev holding : Left
-holding =
-    record {
-      image = half 1 (change (hostOf 2) (put (idOf 7) []) ∷ []) ++ blankHalf;
-      board = idle (counting (rest 2 767 0 24 1) (0 ∷ 0 ∷ 8 ∷ 0 ∷ []));
-      book = join firstBook (hostOf 2) (put (idOf 7) []);
-    }
-
--- a mount, which makes a transfer since the put is pending, up to its last step, the erase of half 0
-abbrev mounting : List Call
-mounting = mount ∷ stepping 10 []
+-- a convert of the empty store, up to its last step, the erase of half 0
+abbrev converting : List Call
+converting = converts ∷ stepping 10 []
 
 abbrev ready : Left
-ready = afterAll 2 m (holding .image) (holding .board) (holding .book) (map call mounting)
+ready = afterAll 2 m (empty .image) (empty .board) firstBook (map call converting)
 
 abbrev copied : List ℕ
-copied = half 1 (change (hostOf 2) (put (idOf 7) []) ∷ []) ++ half 2 []
+copied = half 1 [] ++ blockOf edition.Second 384 2 []
 
 -- what the erase leaves: eight bytes of 0xFF
 unfoldable fading : List ℕ
-fading = replicate 8 0xFF ++ drop 8 (half 1 (change (hostOf 2) (put (idOf 7) []) ∷ []))
+fading = replicate 8 0xFF ++ drop 8 (half 1 [])
 
 -- all of it computed; the mount after the cut is refused
 record Computed : Type 0 where
   formatted-is : formatted 2 m img unmounted ≡ empty
-  holding-is : afterAll 2 m (empty .image) (empty .board) firstBook (map call putting) ≡ holding
-  copied-is : afterAll 2 m (holding .image) (holding .board) (holding .book) (map call (mount ∷ stepping 10 [])) .image ≡ copied
-  erased-is : afterAll 2 m (holding .image) (holding .board) (holding .book) (map call (mount ∷ stepping 11 [])) .image ≡ eraseBlock 384 0 copied
+  copied-is : afterAll 2 m (empty .image) (empty .board) firstBook (map call (converts ∷ stepping 10 [])) .image ≡ copied
+  erased-is : afterAll 2 m (empty .image) (empty .board) firstBook (map call (converts ∷ stepping 11 [])) .image ≡ eraseBlock 384 0 copied
   in-drop : InJob (ready .board .phase)
   nothing-under : ready .book .under ≡ nothing
   refused : m (withBlock (sizeOf 2 copied) 0 fading copied) unmounted mount .answer ≡ Refused (tiedTimes 0)
 
 computed : Computed
-unfolding numbersFrom sizeIn allowed refusesHalfErased allFF sameBytes applyAll writes encodeAll total hostLayout layoutOf match readFrame scan insert
-    remove lookup changeAll listOf without isOpen replayFrom editionIn headerFault blockState noRoom hostFull sited placesFrom sinceFrom valueAt nextSettled
-    nextPending nextLoad parse noPlaces noFrame enterAppend enterDrop enterCopy enterOpen enterWipe advance stepBusy stepOn mountAt
-    mountFound mountOn formatOrder formatOn fitsRecord held append serveChange serveEnd serveLog serve requestOn half blankHalf fading
+unfolding numbersFrom sizeIn allowed refusesHalfErased allFF sameBytes applyAll writes encodeAll total hostLayout layoutOf match readFrame scan insert remove
+    lookup changeAll listOf without isOpen replayFrom editionIn headerFault blockState changing noRoom hostFull sited placesFrom sinceFrom valueAt nextSettled
+    nextPending nextLoad parse noPlaces noFrame enterAppend enterDrop enterCopy enterOpen enterClose enterWipe advance stepBusy stepOn mountAt mountFound
+    mountOn formatOrder formatOn fitsRecord held convert serveConvert serve requestOn half blankHalf fading
 computed =
     record {
       formatted-is = refl;
-      holding-is = refl;
       copied-is = refl;
       erased-is = refl;
       in-drop = tt;
@@ -143,23 +131,19 @@ raised = raises-raised (block (sizeOf 2 copied) 0 copied) fading refl
 abbrev after : List Event
 after = cutErase 0 fading unmounted ∷ call mount ∷ []
 
-happens : Happens 2 m (empty .image) (empty .board) firstBook (map call putting ++ (map call mounting ++ after))
+happens : Happens 2 m (empty .image) (empty .board) firstBook (map call converting ++ after)
 happens =
-    calls-then m putting (empty .image) (empty .board) firstBook (bytes-in putting refl) (map call mounting ++ after)
-    (subst (λ (l : Left). HappensAfter 2 m l (map call mounting ++ after)) (sym (computed .holding-is))
-    (calls-then m mounting (holding .image) (holding .board) (holding .book) (bytes-in mounting refl) after (
+    calls-then m converting (empty .image) (empty .board) firstBook (bytes-in converting refl) after (
       cut-at (ready .image) (ready .board) (ready .book) (computed .copied-is) (computed .in-drop) (computed .nothing-under) (computed .erased-is)
           size-is raised,
       tt,
       (tt, tt),
-    )))
+    )
 
 pub refuses-half-erased : Claim 2 m → ⊥
 refuses-half-erased p =
-    let run : Run 2 m (empty .image) (empty .board) firstBook (tracked false false) format (map call putting ++ (map call mounting ++ after)) =
-    claimed-of m p (computed .formatted-is) (map call putting ++ (map call mounting ++ after)) happens in
-    let y = run-rest 2 m (empty .image) (empty .board) firstBook (tracked false false) format (map call putting) (map call mounting ++ after) run in
-    let z = run-rest 2 m (holding .image) (holding .board) (holding .book) (y .0) (y .1) (map call mounting) after
-    (subst (λ (l : Left). Run 2 m (l .image) (l .board) (l .book) (y .0) (y .1) (map call mounting ++ after)) (computed .holding-is) (y .2)) in
-    z .2 .0 .never-foreign 0 (fault field.Created 4)
+    let run : Run 2 m (empty .image) (empty .board) firstBook (tracked false false) format (map call converting ++ after) =
+    claimed-of m p (computed .formatted-is) (map call converting ++ after) happens in
+    let y = run-rest 2 m (empty .image) (empty .board) firstBook (tracked false false) format (map call converting) after run in
+    y .2 .0 .never-foreign 0 (fault field.Created 4)
     (ap (λ (i : List ℕ). m (withBlock (sizeOf 2 i) 0 fading i) unmounted mount .answer) (computed .copied-is) ∙ computed .refused)

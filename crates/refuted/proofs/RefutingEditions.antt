@@ -6,12 +6,12 @@ use Rattle.crc.specs.Crc.{shift32, shifted32, crc32From}
 use Rattle.frame.specs.Frame.{encodeAll, total}
 use Rattle.frame.specs.Reader.{hostLayout, layoutOf, match, readFrame, scan}
 use Rattle.journal.specs.Replay.{insert, remove, lookup, changeAll, listOf, without, isOpen, replayFrom}
-use Rattle.journal.specs.Block.{editionIn, headerFault, blockState}
+use Rattle.journal.specs.Block.{editionIn, headerFault, blockState, changing}
 use Rattle.journal.specs.Room.{noRoom, hostFull}
 use Rattle.journal.specs.Index.{sited, placesFrom, sinceFrom, valueAt, nextSettled, nextPending, nextLoad}
 use Rattle.wire.specs.Message.{parse}
 use Rattle.board.specs.Record.{allowed, noPlaces, noFrame}
-use Rattle.board.specs.Step.{enterAppend, enterDrop, enterCopy, enterOpen, enterWipe, advance, stepBusy, stepOn}
+use Rattle.board.specs.Step.{enterAppend, enterDrop, enterCopy, enterOpen, enterClose, enterWipe, advance, stepBusy, stepOn}
 use Rattle.board.specs.Mount.{mountAt, mountFound, mountOn, formatOrder, formatOn}
 use Rattle.board.specs.Queue.{fitsRecord, held, append, serveChange, serveEnd, serveLog, convert, serveConvert, serve, requestOn}
 use Rattle.refuted.specs.WrongEditions.{pendingAlone, withReserve, convertsAgain, dropsFirst, fallsBack, formatKeeps, secondForeign, crcOfBody}
@@ -19,15 +19,15 @@ use Rattle.refuted.specs.WrongEditions.{crcBigEndian, ignoresCrc, roomAs
 use Rattle.refuted.specs.WrongEditions.{roomByFirst, convertsWorn, mountFallsBack, laterEdition, recordKeeps, tornForeign, fullByFirst}
 use Rattle.refuted.specs.WrongRuns.{half, blankHalf, stored}
 use Rattle.refuted.specs.EditionRuns.{newEmpty, newStored, newPending, newTorn, newSpoiled, oldEmpty, worn, bothEditions, manyObjects, tightHalf}
-use Rattle.refuted.specs.EditionRuns.{objectZero, newFull, newHeavy, EditionRuns}
+use Rattle.refuted.specs.EditionRuns.{objectZero, newFull, newDue, newHeavy, EditionRuns}
 
 pub edition-runs : EditionRuns
 unfolding numbersFrom sizeIn allowed allFF sameBytes applyAll writes shift32 shifted32 crc32From encodeAll total hostLayout layoutOf match readFrame scan
-    insert remove lookup changeAll listOf without isOpen replayFrom editionIn headerFault blockState noRoom hostFull sited placesFrom sinceFrom valueAt
-    nextSettled nextPending nextLoad parse noPlaces noFrame enterAppend enterDrop enterCopy enterOpen enterWipe advance stepBusy stepOn mountAt mountFound
-    mountOn formatOrder formatOn fitsRecord held append serveChange serveEnd serveLog convert serveConvert serve requestOn half blankHalf stored newEmpty
-    newStored newSpoiled tightHalf objectZero newFull newHeavy pendingAlone withReserve convertsAgain dropsFirst fallsBack formatKeeps secondForeign
-    crcOfBody crcBigEndian ignoresCrc roomAsBefore logsByFirst pendingInFirst roomBeforePending anyBody roomByFirst convertsWorn mountFallsBack
+    insert remove lookup changeAll listOf without isOpen replayFrom editionIn headerFault blockState changing noRoom hostFull sited placesFrom sinceFrom
+    valueAt nextSettled nextPending nextLoad parse noPlaces noFrame enterAppend enterDrop enterCopy enterOpen enterClose enterWipe advance stepBusy stepOn
+    mountAt mountFound mountOn formatOrder formatOn fitsRecord held append serveChange serveEnd serveLog convert serveConvert serve requestOn half blankHalf
+    stored newEmpty newStored newSpoiled tightHalf objectZero newFull newDue newHeavy pendingAlone withReserve convertsAgain dropsFirst fallsBack formatKeeps
+    secondForeign crcOfBody crcBigEndian ignoresCrc roomAsBefore logsByFirst pendingInFirst roomBeforePending anyBody roomByFirst convertsWorn mountFallsBack
     laterEdition recordKeeps tornForeign fullByFirst newPending newTorn oldEmpty worn bothEditions manyObjects
 edition-runs =
     record {

@@ -10,10 +10,10 @@ use Rattle.flash.specs.Flash.{numbersFrom, sizeIn, applyAll, writes, block, siz
 use Rattle.flash.specs.Raised.{Raised}
 use Rattle.flash.proofs.Raising.{raises-raised}
 use Rattle.frame.specs.declared.Edition.the-variants as edition
-use Rattle.frame.specs.Frame.{idOf, settled, encodeAll, total}
+use Rattle.frame.specs.Frame.{hostOf, idOf, put, Frame, change, settled, reset, encodeAll, total}
 use Rattle.frame.specs.Reader.{clean, hostLayout, layoutOf, match, readFrame, scan}
 use Rattle.journal.specs.Replay.{Object, object, insert, remove, lookup, changeAll, listOf, without, isOpen, replayFrom}
-use Rattle.journal.specs.Block.{Journal, journal, valid, editionIn, headerFault, blockState}
+use Rattle.journal.specs.Block.{Journal, journal, valid, editionIn, headerFault, blockState, changing}
 use Rattle.journal.specs.Room.{noRoom, hostFull}
 use Rattle.journal.specs.Index.{sited, placesFrom, sinceFrom, valueAt, nextSettled, nextPending, nextLoad}
 use Rattle.wire.specs.declared.Answer.{Answer}
@@ -21,7 +21,7 @@ use Rattle.wire.specs.declared.Answer.the-variants.{Done, More, Refused}
 use Rattle.wire.specs.Message.{parse}
 use Rattle.board.specs.declared.Record.{Record}
 use Rattle.board.specs.Record.{allowed, unmounted, Out, rest, idle, noPlaces, noFrame}
-use Rattle.board.specs.Step.{enterAppend, enterDrop, enterCopy, enterOpen, enterWipe, advance, stepBusy, stepOn}
+use Rattle.board.specs.Step.{enterAppend, enterDrop, enterCopy, enterOpen, enterClose, enterWipe, advance, stepBusy, stepOn}
 use Rattle.board.specs.Mount.{mountAt, mountFound, mountOn, formatOrder, formatOn, replayOf}
 use Rattle.board.specs.Queue.{fitsRecord, held, append, serveChange, serveEnd, serveLog, serve, requestOn}
 use Rattle.board.specs.Exec.{Call, step, mount, format, Machine}
@@ -30,7 +30,7 @@ use Rattle.board.specs.Table.{InJob}
 use Rattle.board.specs.Claim.{Event, call, cutErase, Happens, Run, Track, tracked, track, IdleAgrees, Agrees, formatted, Claim}
 use Rattle.board.specs.CutFormat.{Left, afterAll}
 use Rattle.refuted.specs.Wrong.{offBench, takesHalfErased}
-use Rattle.refuted.specs.WrongRuns.{half, blankHalf, putEmpty, commits, stepping}
+use Rattle.refuted.specs.WrongRuns.{half, blankHalf, filler, puts, putEmpty, commits, stepping}
 use Rattle.board.proofs.Erasing.{same-valid}
 use Rattle.board.proofs.Runs.{HappensAfter, run-rest}
 use Rattle.refuted.proofs.Refuting.{bytes-in}
@@ -46,14 +46,19 @@ os = object (idOf 7) [] ∷ []
 abbrev moved : ℕ → List ℕ
 moved t = half t (settled (idOf 7) [] ∷ [])
 
--- a put cut after one byte, and a mount, which makes a transfer since the put is torn: n steps of it
-abbrev torn : ℕ → List Call
-torn n = putEmpty 7 ∷ step ∷ mount ∷ stepping n []
+-- a put that is pending, another host's of 192 bytes that is cut after its first, and a mount, which closes it and writes a reset
+abbrev mending : List Call → List Call
+mending cs = putEmpty 7 ∷ stepping 8 (puts 1 184 ∷ step ∷ mount ∷ stepping 9 cs)
+
+-- a put that is pending, another host's of v bytes that is cut after its first and would reach the half's end, and a mount, which makes a transfer: n steps
+-- of it
+abbrev moving : ℕ → ℕ → List Call
+moving v n = mending (putEmpty 7 ∷ stepping 8 (puts 1 v ∷ step ∷ mount ∷ stepping n []))
 
 -- ---- the run: a put and its commit, and a transfer to half 1; one back to half 0; a third one up to its last step, the erase of half 0
 
 abbrev first : List Call
-first = putEmpty 7 ∷ stepping 8 (commits ∷ stepping 6 (torn 18))
+first = putEmpty 7 ∷ stepping 8 (commits ∷ stepping 6 (moving 133 18))
 
 abbrev one : Left
 one = record { image = blankHalf ++ moved 2; board = idle (rest 2 767 1 23 1); book = book os noLists nothing }
@@ -61,12 +66,18 @@ one = record { image = blankHalf ++ moved 2; board = idle (rest 2 767 1 23 1); b
 abbrev two : Left
 two = record { image = moved 3 ++ blankHalf; board = idle (rest 2 767 0 23 1); book = book os noLists nothing }
 
+abbrev torn : ℕ → List Call
+torn n = moving 140 n
+
 abbrev ready : Left
 ready = afterAll 2 m (two .image) (two .board) (two .book) (map call (torn 17))
 
--- half 0 has the put's first byte behind its frame
+-- half 0 has these behind its frame: put, closed frame, reset, put, and the first byte of one of 148
+abbrev putting : Frame
+putting = change (hostOf 2) (put (idOf 7) [])
+
 abbrev copied : List ℕ
-copied = set (moved 3) 23 8 ++ moved 4
+copied = set (half 3 (settled (idOf 7) [] ∷ putting ∷ filler 192 ∷ reset ∷ putting ∷ [])) 236 148 ++ moved 4
 
 -- what its erase leaves: the frames are gone, and so is one bit of the time
 abbrev fading : List ℕ
@@ -82,10 +93,10 @@ record Begun : Type 0 where
   two-is : afterAll 2 m (one .image) (one .board) (one .book) (map call (torn 18)) ≡ two
 
 begun : Begun
-unfolding numbersFrom sizeIn allowed takesHalfErased allFF sameBytes applyAll writes encodeAll total hostLayout layoutOf match readFrame scan insert
-    remove lookup changeAll listOf without isOpen replayFrom editionIn headerFault blockState noRoom hostFull sited placesFrom sinceFrom valueAt nextSettled
-    nextPending nextLoad parse noPlaces noFrame enterAppend enterDrop enterCopy enterOpen enterWipe advance stepBusy stepOn mountAt
-    mountFound mountOn formatOrder formatOn fitsRecord held append serveChange serveEnd serveLog serve requestOn half blankHalf
+unfolding numbersFrom sizeIn allowed takesHalfErased allFF sameBytes applyAll writes encodeAll total hostLayout layoutOf match readFrame scan insert remove
+    lookup changeAll listOf without isOpen replayFrom editionIn headerFault blockState changing noRoom hostFull sited placesFrom sinceFrom valueAt nextSettled
+    nextPending nextLoad parse noPlaces noFrame enterAppend enterDrop enterCopy enterOpen enterClose enterWipe advance stepBusy stepOn mountAt mountFound
+    mountOn formatOrder formatOn fitsRecord held append serveChange serveEnd serveLog serve requestOn half blankHalf
 begun = record { formatted-is = refl; one-is = refl; two-is = refl }
 
 -- up to its last step
@@ -96,17 +107,17 @@ record Computed : Type 0 where
   objects-are : afterAll 2 m (two .image) (two .board) (two .book) (map call (torn 17)) .book .objects ≡ os
 
 computed : Computed
-unfolding numbersFrom sizeIn allowed takesHalfErased allFF sameBytes applyAll writes encodeAll total hostLayout layoutOf match readFrame scan insert
-    remove lookup changeAll listOf without isOpen replayFrom editionIn headerFault blockState noRoom hostFull sited placesFrom sinceFrom valueAt nextSettled
-    nextPending nextLoad parse noPlaces noFrame enterAppend enterDrop enterCopy enterOpen enterWipe advance stepBusy stepOn mountAt
-    mountFound mountOn formatOrder formatOn fitsRecord held append serveChange serveEnd serveLog serve requestOn half blankHalf
+unfolding numbersFrom sizeIn allowed takesHalfErased allFF sameBytes applyAll writes encodeAll total hostLayout layoutOf match readFrame scan insert remove
+    lookup changeAll listOf without isOpen replayFrom editionIn headerFault blockState changing noRoom hostFull sited placesFrom sinceFrom valueAt nextSettled
+    nextPending nextLoad parse noPlaces noFrame enterAppend enterDrop enterCopy enterOpen enterClose enterWipe advance stepBusy stepOn mountAt mountFound
+    mountOn formatOrder formatOn fitsRecord held append serveChange serveEnd serveLog serve requestOn half blankHalf
 computed = record { copied-is = refl; erased-is = refl; nothing-under = refl; objects-are = refl }
 
 in-drop : InJob (afterAll 2 m (two .image) (two .board) (two .book) (map call (torn 17)) .board .phase)
-unfolding numbersFrom sizeIn allowed takesHalfErased allFF sameBytes applyAll writes encodeAll total hostLayout layoutOf match readFrame scan insert
-    remove lookup changeAll listOf without isOpen replayFrom editionIn headerFault blockState noRoom hostFull sited placesFrom sinceFrom valueAt nextSettled
-    nextPending nextLoad parse noPlaces noFrame enterAppend enterDrop enterCopy enterOpen enterWipe advance stepBusy stepOn mountAt
-    mountFound mountOn formatOrder formatOn fitsRecord held append serveChange serveEnd serveLog serve requestOn half blankHalf
+unfolding numbersFrom sizeIn allowed takesHalfErased allFF sameBytes applyAll writes encodeAll total hostLayout layoutOf match readFrame scan insert remove
+    lookup changeAll listOf without isOpen replayFrom editionIn headerFault blockState changing noRoom hostFull sited placesFrom sinceFrom valueAt nextSettled
+    nextPending nextLoad parse noPlaces noFrame enterAppend enterDrop enterCopy enterOpen enterClose enterWipe advance stepBusy stepOn mountAt mountFound
+    mountOn formatOrder formatOn fitsRecord held append serveChange serveEnd serveLog serve requestOn half blankHalf
 in-drop = tt
 
 -- the mount after the cut and its one step leave half 0 alone
@@ -117,10 +128,10 @@ record Mounted : Type 0 where
   size-is : sizeOf 2 copied ≡ 384
 
 taken : Mounted
-unfolding numbersFrom sizeIn allowed takesHalfErased allFF sameBytes applyAll writes encodeAll total hostLayout layoutOf match readFrame scan insert
-    remove lookup changeAll listOf without isOpen replayFrom editionIn headerFault blockState noRoom hostFull sited placesFrom sinceFrom valueAt nextSettled
-    nextPending nextLoad parse noPlaces noFrame enterAppend enterDrop enterCopy enterOpen enterWipe advance stepBusy stepOn mountAt
-    mountFound mountOn formatOrder formatOn fitsRecord held append serveChange serveEnd serveLog serve requestOn half blankHalf
+unfolding numbersFrom sizeIn allowed takesHalfErased allFF sameBytes applyAll writes encodeAll total hostLayout layoutOf match readFrame scan insert remove
+    lookup changeAll listOf without isOpen replayFrom editionIn headerFault blockState changing noRoom hostFull sited placesFrom sinceFrom valueAt nextSettled
+    nextPending nextLoad parse noPlaces noFrame enterAppend enterDrop enterCopy enterOpen enterClose enterWipe advance stepBusy stepOn mountAt mountFound
+    mountOn formatOrder formatOn fitsRecord held append serveChange serveEnd serveLog serve requestOn half blankHalf
 taken = record { image-is = refl; board-is = refl; reads-as = refl; size-is = refl }
 
 raised : Raised (block (sizeOf 2 copied) 0 copied) fading

@@ -5,12 +5,12 @@ use Rattle.flash.specs.Flash.{numbersFrom, sizeIn, applyAll, writes}
 use Rattle.frame.specs.Frame.{encodeAll, total}
 use Rattle.frame.specs.Reader.{hostLayout, layoutOf, match, readFrame, scan}
 use Rattle.journal.specs.Replay.{insert, remove, lookup, changeAll, listOf, without, isOpen, replayFrom}
-use Rattle.journal.specs.Block.{editionIn, headerFault, blockState}
+use Rattle.journal.specs.Block.{editionIn, headerFault, blockState, changing}
 use Rattle.journal.specs.Room.{noRoom, hostFull}
 use Rattle.journal.specs.Index.{sited, placesFrom, sinceFrom, valueAt, nextSettled, nextPending, nextLoad}
 use Rattle.wire.specs.Message.{parse}
 use Rattle.board.specs.Record.{allowed, noPlaces, noFrame}
-use Rattle.board.specs.Step.{enterAppend, enterDrop, enterCopy, enterOpen, enterWipe, advance, stepBusy, stepOn}
+use Rattle.board.specs.Step.{enterAppend, enterDrop, enterCopy, enterOpen, enterClose, enterWipe, advance, stepBusy, stepOn}
 use Rattle.board.specs.Mount.{mountAt, mountFound, mountOn, formatOrder, formatOn}
 use Rattle.board.specs.Queue.{fitsRecord, held, append, serveChange, serveEnd, serveLog, serve, requestOn}
 use Rattle.refuted.specs.Wrong.{refusesAll, refusesPuts, refusesHighIds, ownFormatsOnly, firstHalfOnly, hostFirst, refusalClears}
@@ -21,17 +21,17 @@ use Rattle.refuted.specs.Wrong.{formatsBlindly, goesBack, erasesOne, eve
 use Rattle.refuted.specs.WrongShares.{fullAtHalf, fullByAll, fullByValues, fullByImage, fullByTwo, deletesPass, roomFirst, abortKeeps}
 use Rattle.refuted.specs.WrongShares.{transferClears, mountKeeps}
 use Rattle.refuted.specs.WrongRuns.{half, blankHalf, stored, pending, later, second, begun, twice, tiedHalves, bothStrange, strange}
-use Rattle.refuted.specs.WrongRuns.{halfErased, seemsEmpty, heavy, nearlyFull, inMiddle, begunTwice, storedFirst, Runs}
+use Rattle.refuted.specs.WrongRuns.{halfErased, seemsEmpty, heavy, nearlyFull, full, inMiddle, begunTwice, storedFirst, Runs}
 
 pub runs : Runs
 unfolding numbersFrom sizeIn allowed refusesAll refusesPuts refusesHighIds ownFormatsOnly firstHalfOnly hostFirst refusalClears refusedLogWrites readsAlike
     inventsCount neverCommits abortsNothing takesOthers keepsOld programsNothing wholeFrame waitsLong inventsStep erasesFirst hurriedMount losesAll
     keepsPending refusesAlike overlooksForeign namesSecond tiesAtStart refusesHalfErased takesHalfErased formatsAtOnce formatsBlindly goesBack erasesOne
     evenOnly allFF sameBytes applyAll writes encodeAll total hostLayout layoutOf match readFrame scan insert remove lookup changeAll listOf without isOpen
-    replayFrom editionIn headerFault blockState noRoom hostFull sited placesFrom sinceFrom valueAt nextSettled nextPending nextLoad parse noPlaces noFrame
-    enterAppend enterDrop enterCopy enterOpen enterWipe advance stepBusy stepOn mountAt mountFound mountOn formatOrder formatOn fitsRecord held append
-    serveChange serveEnd serveLog serve requestOn half blankHalf stored pending later second begun twice tiedHalves bothStrange strange halfErased
-    seemsEmpty inMiddle begunTwice storedFirst heavy nearlyFull fullAtHalf fullByAll fullByValues fullByImage fullByTwo deletesPass roomFirst abortKeeps
+    replayFrom editionIn headerFault blockState changing noRoom hostFull sited placesFrom sinceFrom valueAt nextSettled nextPending nextLoad parse noPlaces
+    noFrame enterAppend enterDrop enterCopy enterOpen enterClose enterWipe advance stepBusy stepOn mountAt mountFound mountOn formatOrder formatOn fitsRecord
+    held append serveChange serveEnd serveLog serve requestOn half blankHalf stored pending later second begun twice tiedHalves bothStrange strange halfErased
+    seemsEmpty inMiddle begunTwice storedFirst heavy nearlyFull full fullAtHalf fullByAll fullByValues fullByImage fullByTwo deletesPass roomFirst abortKeeps
     transferClears mountKeeps
 runs =
     record {

@@ -10,12 +10,12 @@ use Rattle.flash.specs.Flash.{numbersFrom, sizeIn, applyAll, writes, sizeOf}
 use Rattle.frame.specs.Frame.{hostOf, idOf, Change, put, change, encodeAll, total}
 use Rattle.frame.specs.Reader.{hostLayout, layoutOf, match, readFrame, scan}
 use Rattle.journal.specs.Replay.{listOf, isOpen, replayFrom}
-use Rattle.journal.specs.Block.{editionIn, headerFault, blockState}
+use Rattle.journal.specs.Block.{editionIn, headerFault, blockState, changing}
 use Rattle.journal.specs.Room.{noRoom, hostFull}
 use Rattle.journal.specs.Index.{placesFrom, sinceFrom, nextSettled, nextPending, nextLoad}
 use Rattle.wire.specs.Message.{parse}
 use Rattle.board.specs.Record.{allowed, unmounted, rest, counting, idle, Out, noPlaces, noFrame}
-use Rattle.board.specs.Step.{enterAppend, enterDrop, enterCopy, enterOpen, enterWipe, advance, stepBusy, stepOn}
+use Rattle.board.specs.Step.{enterAppend, enterDrop, enterCopy, enterOpen, enterClose, enterWipe, advance, stepBusy, stepOn}
 use Rattle.board.specs.Mount.{formatOrder, formatOn}
 use Rattle.board.specs.Queue.{fitsRecord, held, append, serveChange, serve, requestOn}
 use Rattle.board.specs.Exec.{Call, format, Machine}
@@ -58,7 +58,8 @@ record Computed : Type 0 where
 computed : Computed
 unfolding fullByImage numbersFrom sizeIn allowed allFF sameBytes applyAll writes encodeAll total hostLayout layoutOf match readFrame scan listOf isOpen
     replayFrom editionIn headerFault blockState noRoom hostFull placesFrom sinceFrom nextSettled nextPending nextLoad parse noPlaces noFrame enterAppend
-    enterDrop enterCopy enterOpen enterWipe advance stepBusy stepOn formatOrder formatOn fitsRecord held append serveChange serve requestOn half blankHalf
+    enterDrop enterCopy enterOpen enterClose enterWipe advance stepBusy stepOn formatOrder formatOn fitsRecord held append serveChange serve requestOn half
+    blankHalf
 computed = record { formatted-is = refl; holding-is = refl; half-block = refl }
 
 pub full-by-image : Claim 2 m → ⊥

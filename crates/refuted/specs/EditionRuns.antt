@@ -3,10 +3,10 @@ use mathlib.Core.List.{List, [], _∷_, _++_}
 use Prim.Native.Nat.{ℕ, zero, suc}
 use lib.ListN.{take, replicate}
 use Rattle.frame.specs.declared.Edition.the-variants as edition
-use Rattle.frame.specs.Frame.{hostOf, idOf, Frame, commit, settled}
+use Rattle.frame.specs.Frame.{hostOf, idOf, put, Frame, change, settled}
 use Rattle.journal.specs.Block.{header, validData, lastTime}
 use Rattle.board.specs.Exec.{Call, mount, format}
-use Rattle.refuted.specs.WrongRuns.{Differs, answered, byteAt, replied, blockOf, half, blankHalf, putFrame, stored, stepping, asks}
+use Rattle.refuted.specs.WrongRuns.{Differs, answered, byteAt, replied, blockOf, half, blankHalf, putFrame, stored, filler, stepping, asks}
 use Rattle.refuted.specs.WrongRuns.{putEmpty, puts, deletes, commits, logs}
 use Rattle.refuted.specs.WrongEditions.{pendingAlone, withReserve, convertsAgain, dropsFirst, fallsBack, formatKeeps, secondForeign, crcOfBody}
 use Rattle.refuted.specs.WrongEditions.{crcBigEndian, ignoresCrc, roomAsBefore, logsByFirst, pendingInFirst, roomBeforePending, anyBody}
@@ -58,13 +58,13 @@ tightHalf = half 1 (settled (idOf 1) (replicate 240 0x41) ∷ settled (idOf 2) (
 unfoldable pub objectZero : List ℕ
 objectZero = half 1 (settled (idOf 0) [] ∷ []) ++ blankHalf
 
--- three blocks of 256 bytes, of edition 2: 23 commits, 16 + 230 = 246; a value of 190 bytes, U = 217
-abbrev pub commitsFor : ℕ → List Frame
-commitsFor zero = []
-commitsFor (suc n) = commit (hostOf 2) ∷ commitsFor n
-
+-- three blocks of 256 bytes, of edition 2: a closed frame, 16 + 230 = 246; one and a put that is pending, 236 + 12 = 248, where a reset's nine bytes
+-- don't fit; a value of 190 bytes, U = 217
 unfoldable pub newFull : List ℕ
-newFull = blockOf edition.Second 256 1 (commitsFor 23) ++ replicate 512 0xFF
+newFull = blockOf edition.Second 256 1 (filler 230 ∷ []) ++ replicate 512 0xFF
+
+unfoldable pub newDue : List ℕ
+newDue = blockOf edition.Second 256 1 (filler 220 ∷ change (hostOf 2) (put (idOf 7) []) ∷ []) ++ replicate 512 0xFF
 
 unfoldable pub newHeavy : List ℕ
 newHeavy = blockOf edition.Second 256 1 (settled (idOf 1) (replicate 190 0x41) ∷ []) ++ replicate 512 0xFF
@@ -94,7 +94,7 @@ pub record EditionRuns : Type 0 where
   pub drops-first : Differs 2 dropsFirst objectZero (mount ∷ converts ∷ stepping 22 (readsZero ∷ [])) answered 8 0
   -- the second block's kind: 246 + 12 > 256
   pub falls-back : Differs 3 fallsBack newFull (mount ∷ putEmpty 7 ∷ stepping 4 []) (byteAt 258) 0x01 0x02
-  pub mount-falls-back : Differs 2 mountFallsBack newPending (mount ∷ stepping 4 []) (byteAt 386) 0x01 0x02
+  pub mount-falls-back : Differs 3 mountFallsBack newDue (mount ∷ stepping 4 []) (byteAt 258) 0x01 0x02
   -- the first block's kind, after two erases
   pub format-keeps : Differs 2 formatKeeps newEmpty (format ∷ stepping 6 []) (byteAt 2) 0x02 0x01
   pub second-foreign : Differs 2 secondForeign newEmpty (mount ∷ []) answered 3 0

@@ -2,8 +2,11 @@ pub mod Rows
 pub mod Wrong
 pub mod WrongShares
 pub mod WrongEditions
+pub mod WrongMends
+pub mod WrongClosed
 pub mod Refuted
 pub mod WrongRuns
 pub mod EditionRuns
+pub mod MendRuns
 pub mod Seen
 pub mod WrongRows

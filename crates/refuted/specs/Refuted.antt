@@ -18,6 +18,10 @@ use Rattle.refuted.specs.WrongEditions.{pendingAlone, withReserve, conve
 use Rattle.refuted.specs.WrongEditions.{crcBigEndian, ignoresCrc, roomAsBefore, logsByFirst, takesAnyEdition}
 use Rattle.refuted.specs.WrongEditions.{pendingInFirst, roomBeforePending, anyBody, roomByFirst, convertsWorn, mountFallsBack, laterEdition}
 use Rattle.refuted.specs.WrongEditions.{recordKeeps, tornForeign, fullByFirst}
+use Rattle.refuted.specs.WrongMends.{movesAlways, movesUndue, movesAtEdge, neverMoves, fitsUnclosed, fitsFive, leavesTorn, wornMends}
+use Rattle.refuted.specs.WrongMends.{closesAndMoves, highFirst, lengthStays, closesAll, clearsBody, finishFirst, closesAlone, alwaysResets}
+use Rattle.refuted.specs.WrongMends.{abortsOne, resetBare, finishesReset, endStays, mendKeeps}
+use Rattle.refuted.specs.WrongClosed.{closingForeign, resetForeign, closesSeven, checksBody, checksCrc, pastReset, roomWithClosed, logsClosed}
 
 -- on the bench's images, whatever is done off it; for the rows one by one see WrongRows
 unfoldable pub RightOnBench : Type 0
@@ -96,3 +100,32 @@ pub record Refuted : Type 0 where
   pub room-as-before : Kept (offBench roomAsBefore) → ⊥
   pub full-by-first : Kept (offBench fullByFirst) → ⊥
   pub logs-by-first : Kept (offBench logsByFirst) → ⊥
+  pub moves-always : Kept (offBench movesAlways) → ⊥
+  pub moves-at-edge : Kept (offBench movesAtEdge) → ⊥
+  pub moves-undue : Kept (offBench movesUndue) → ⊥
+  pub never-moves : Kept (offBench neverMoves) → ⊥
+  pub fits-unclosed : Kept (offBench fitsUnclosed) → ⊥
+  pub fits-five : Kept (offBench fitsFive) → ⊥
+  pub leaves-torn : Kept (offBench leavesTorn) → ⊥
+  pub worn-mends : Kept (offBench wornMends) → ⊥
+  pub closes-and-moves : Kept (offBench closesAndMoves) → ⊥
+  pub high-first : Kept (offBench highFirst) → ⊥
+  pub length-stays : Kept (offBench lengthStays) → ⊥
+  pub closes-all : Kept (offBench closesAll) → ⊥
+  pub clears-body : Kept (offBench clearsBody) → ⊥
+  pub finish-first : Kept (offBench finishFirst) → ⊥
+  pub closes-alone : Kept (offBench closesAlone) → ⊥
+  pub always-resets : Kept (offBench alwaysResets) → ⊥
+  pub aborts-one : Kept (offBench abortsOne) → ⊥
+  pub reset-bare : Kept (offBench resetBare) → ⊥
+  pub finishes-reset : Kept (offBench finishesReset) → ⊥
+  pub end-stays : Kept (offBench endStays) → ⊥
+  pub mend-keeps : Kept (offBench mendKeeps) → ⊥
+  pub closing-foreign : Kept (offBench closingForeign) → ⊥
+  pub reset-foreign : Kept (offBench resetForeign) → ⊥
+  pub closes-seven : Kept (offBench closesSeven) → ⊥
+  pub checks-body : Kept (offBench checksBody) → ⊥
+  pub checks-crc : Kept (offBench checksCrc) → ⊥
+  pub past-reset : Kept (offBench pastReset) → ⊥
+  pub room-with-closed : Kept (offBench roomWithClosed) → ⊥
+  pub logs-closed : Kept (offBench logsClosed) → ⊥

@@ -1,5 +1,5 @@
--- Document 01's starred bench rows, S = 256, rows l, m and p; rows i to m as document 02, K7 has them, row o's values as K2 has them: one
--- table over a machine of two blocks.
+-- Document 01's starred bench rows, S = 256, rows l, m and p; rows f and g as document 02, K11 has them, rows i to m as K7, row o's values as
+-- K2: one table over a machine of two blocks.
 use mathlib.Core.List.{List, [], _∷_, _++_}
 use mathlib.Core.Path.{_≡_}
 use Prim.Native.Nat.{ℕ, zero, suc, _+_}
@@ -162,13 +162,20 @@ pub record Rows (m : Machine) : Type 0 where
   pub e-answer : rowE m .answer ≡ Done
   pub e-reply : rowE m .reply
       ≡ 0x0E ∷ 0x00 ∷ 0x01 ∷ 0x02 ∷ 0x01 ∷ 0x00 ∷ 0x00 ∷ 0x00 ∷ 0x01 ∷ 0x00 ∷ 0x19 ∷ 0x00 ∷ 0x00 ∷ 0x01 ∷ 0xEE ∷ 0xEE ∷ []
-  pub f-steps : rowF m .steps ≡ 11
-  pub f-done : rowF m .board ≡ idle (rest 2 511 1 16 1)
-  pub f-time : timed 1 (rowF m) ≡ 2
-  pub f-holds : replayed 1 (rowF m) ≡ state [] []
-  pub g-steps : rowG m .steps ≡ 11
-  pub g-done : rowG m .board ≡ idle (rest 2 511 1 16 1)
-  pub g-holds : replayed 1 (rowG m) ≡ state [] []
+  -- K11: "Row f becomes 5 steps and row g 7, both staying in half 0." The put ends at 26; in f a reset follows it
+  pub f-steps : rowF m .steps ≡ 5
+  pub f-done : rowF m .board ≡ idle (rest 2 511 0 31 1)
+  pub f-time : timed 0 (rowF m) ≡ 1
+  pub f-reset : part 26 5 (rowF m .image) ≡ 0x05 ∷ 0x00 ∷ 0x07 ∷ 0x00 ∷ 0xFE ∷ []
+  pub f-rest : drop 31 (rowF m .image) ≡ replicate 481 0xFF
+  pub f-holds : replayed 0 (rowF m) ≡ state [] []
+  -- in g the commit's five bytes are closed first: its kind's low byte and its finish byte must change
+  pub g-steps : rowG m .steps ≡ 7
+  pub g-done : rowG m .board ≡ idle (rest 2 511 0 37 1)
+  pub g-closed : part 26 6 (rowG m .image) ≡ 0x06 ∷ 0x00 ∷ 0x00 ∷ 0x00 ∷ 0x02 ∷ 0xFE ∷ []
+  pub g-reset : part 32 5 (rowG m .image) ≡ 0x05 ∷ 0x00 ∷ 0x07 ∷ 0x00 ∷ 0xFE ∷ []
+  pub g-rest : drop 37 (rowG m .image) ≡ replicate 475 0xFF
+  pub g-holds : replayed 0 (rowG m) ≡ state [] []
   pub h-steps : rowH m .steps ≡ 0
   pub h-done : rowH m .board ≡ idle (rest 2 511 0 32 1)
   pub h-holds : replayed 0 (rowH m) ≡ state (object (idOf 5) (0x41 ∷ 0x42 ∷ []) ∷ []) []

@@ -16,7 +16,7 @@ use Rattle.wire.specs.declared.Answer.{Answer}
 use Rattle.wire.specs.declared.Answer.the-variants.{Done, More, Refused}
 use Rattle.wire.specs.declared.Refusal.the-variants as refusal
 use Rattle.wire.specs.Message.{wordAt}
-use Rattle.board.specs.declared.Stage.the-variants.{Wipe, Open, Copy, Seal, Drop, Append}
+use Rattle.board.specs.declared.Stage.the-variants.{Wipe, Open, Copy, Seal, Drop, Append, Close}
 use Rattle.board.specs.declared.Phase.{Phase}
 use Rattle.board.specs.declared.Phase.the-variants.{Unmounted, Idle, Busy}
 use Rattle.board.specs.declared.Job.{Job}
@@ -25,7 +25,7 @@ use Rattle.board.specs.declared.Record.{Record}
 use Rattle.board.specs.Record.{allowed, unmounted, counting, idle, cursor, inStage, Stretch, Out, out, refuse, answerOf}
 use Rattle.board.specs.Step.{begin}
 use Rattle.board.specs.Mount.{allFound, anyForeign, Store, stores, newest, equalTimes, noneValid, tiedTimes, storeAt, mountJob, mountAt, numbersBut}
-use Rattle.board.specs.Mount.{found, timeOf, countsOf}
+use Rattle.board.specs.Mount.{found, timeOf, countsOf, upkeep}
 use Rattle.board.specs.Queue.{held}
 use Rattle.board.specs.Table.{isNone}
 use Rattle.board.specs.Exec.{Call, request, step, mount, format, Family, exec}
@@ -181,6 +181,7 @@ byStage (Busy Copy) x y z o = o
 byStage (Busy Seal) x y z o = x
 byStage (Busy Drop) x y z o = y
 byStage (Busy Append) x y z o = z
+byStage (Busy Close) x y z o = o
 
 -- the step's outcome, but for the image
 abbrev pub onImage : List ℕ → Out → Out
@@ -333,21 +334,27 @@ withJob j r =
 abbrev pub onJob : (Record → Job) → Out → Out
 onJob f o = byAnswer (o .answer) o (out More (o .image) (withJob (f (o .board)) (o .board)) (o .reply)) o
 
+-- the same job with other erases, another block to make, of an edition by its number, and another frame to append
+abbrev pub jobWith : Job → ℕ → ℕ → ℕ → ℕ → Job
+jobWith j wipes target size edition =
+    record {
+      wipe = j .wipe;
+      wipes = wipes;
+      moves = j .moves;
+      drops = j .drops;
+      target = target;
+      time = j .time;
+      since = j .since;
+      size = size;
+      edition = edition;
+      closes = j .closes;
+      close = j .close;
+    }
+
 -- K14: "A transfer goes to the next block in number, round to 0": back to block 0 each time
 abbrev pub backToFirst : Record → Job
 backToFirst r =
-    let j : Job = r .job in
-    record {
-      wipe = j .wipe;
-      wipes = j .wipes;
-      moves = j .moves;
-      drops = j .drops;
-      target = cond (eqb (r .rest .block) 0) (j .target) 0;
-      time = j .time;
-      since = j .since;
-      size = j .size;
-      edition = j .edition;
-    }
+    let j : Job = r .job in jobWith j (j .wipes) (cond (eqb (r .rest .block) 0) (j .target) 0) (j .size) (j .edition)
 
 unfoldable pub goesBack : Wrongly
 goesBack N img r (request h m reply) o = onJob backToFirst o
@@ -357,19 +364,7 @@ goesBack N img r format o = o
 
 -- K14: "mount erases every other that isn't blank": one of them
 abbrev pub oneWipe : Record → Job
-oneWipe r =
-    let j : Job = r .job in
-    record {
-      wipe = j .wipe;
-      wipes = cond (ltb 1 (j .wipes)) 1 (j .wipes);
-      moves = j .moves;
-      drops = j .drops;
-      target = j .target;
-      time = j .time;
-      since = j .since;
-      size = j .size;
-      edition = j .edition;
-    }
+oneWipe r = let j : Job = r .job in jobWith j (cond (ltb 1 (j .wipes)) 1 (j .wipes)) (j .target) (j .size) (j .edition)
 
 unfoldable pub erasesOne : Wrongly
 erasesOne = mounts (λ N img o. onJob oneWipe o)
@@ -377,7 +372,8 @@ erasesOne = mounts (λ N img o. onJob oneWipe o)
 -- K14: "mount erases every other that isn't blank": every other, so that blank blocks are erased once more at each mount
 abbrev pub allOthers : ℕ → List ℕ → Out → List Store → Out
 allOthers N img o [] = o
-allOthers N img o (x ∷ xs) = let y : Store = newest x xs in begin img [] (mountJob N img y (numbersBut (y .number) (blockNumbers N)))
+allOthers N img o (x ∷ xs) =
+    let y : Store = newest x xs in begin img [] (mountJob N img y (numbersBut (y .number) (blockNumbers N)) (upkeep (sizeOf N img) y))
 
 unfoldable pub erasesBlank : Wrongly
 erasesBlank = mounts (λ N img o. accepted o (allOthers N img o (stores (allFound N img))))

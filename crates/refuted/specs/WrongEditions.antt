@@ -32,7 +32,7 @@ use Rattle.board.specs.Step.{begin}
 use Rattle.board.specs.Mount.{Found, allFound, Store, stores, newest, equalTimes, mountAt, mountFound, replayOf, endOf}
 use Rattle.board.specs.Queue.{Asking, asking, sizeFor, heldFor, refuseTo, doneAt, convertJob, convert, convertWith}
 use Rattle.board.specs.Exec.{request, mount, exec}
-use Rattle.refuted.specs.Wrong.{Wrongly, requests, requestsOf, steps, byStage, mounts, formats, byAnswer, accepted, onImage, onJob}
+use Rattle.refuted.specs.Wrong.{Wrongly, requests, requestsOf, steps, byStage, mounts, formats, byAnswer, accepted, onImage, jobWith, onJob}
 use Rattle.refuted.specs.WrongShares.{changes, fullOr, fullBy, appends}
 
 -- ---- converts
@@ -111,18 +111,7 @@ dropsFirst = requestsOf 0x0108 (λ N img r h m reply o. onBoard fromOne o)
 
 -- the same job with a frame of n bytes to append, making a block of an edition by its number
 abbrev pub making : ℕ → ℕ → Job → Job
-making n e j =
-    record {
-      wipe = j .wipe;
-      wipes = j .wipes;
-      moves = j .moves;
-      drops = j .drops;
-      target = j .target;
-      time = j .time;
-      since = j .since;
-      size = n;
-      edition = e;
-    }
+making n e j = jobWith j (j .wipes) (j .target) n e
 
 -- the same job with its frame to append, and the block that is made, in edition 1
 abbrev pub inFirst : Journal → Frame → Record → Record

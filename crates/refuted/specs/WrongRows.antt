@@ -11,6 +11,10 @@ use Rattle.refuted.specs.WrongEditions.{pendingAlone, withReserve, conve
 use Rattle.refuted.specs.WrongEditions.{crcBigEndian, ignoresCrc, roomAsBefore, logsByFirst, takesAnyEdition}
 use Rattle.refuted.specs.WrongEditions.{pendingInFirst, roomBeforePending, anyBody, roomByFirst, convertsWorn, mountFallsBack, laterEdition}
 use Rattle.refuted.specs.WrongEditions.{recordKeeps, tornForeign, fullByFirst}
+use Rattle.refuted.specs.WrongMends.{movesAlways, movesUndue, movesAtEdge, neverMoves, fitsUnclosed, fitsFive, leavesTorn, wornMends}
+use Rattle.refuted.specs.WrongMends.{closesAndMoves, highFirst, lengthStays, closesAll, clearsBody, finishFirst, closesAlone, alwaysResets}
+use Rattle.refuted.specs.WrongMends.{abortsOne, resetBare, finishesReset, endStays, mendKeeps}
+use Rattle.refuted.specs.WrongClosed.{closingForeign, resetForeign, closesSeven, checksBody, checksCrc, pastReset, roomWithClosed, logsClosed}
 
 pub record RightInRows : Type 0 where
   pub refuses-all : Rows (offBench refusesAll 2)
@@ -84,3 +88,32 @@ pub record RightInRows : Type 0 where
   pub room-as-before : Rows (offBench roomAsBefore 2)
   pub full-by-first : Rows (offBench fullByFirst 2)
   pub logs-by-first : Rows (offBench logsByFirst 2)
+  pub moves-always : Rows (offBench movesAlways 2)
+  pub moves-at-edge : Rows (offBench movesAtEdge 2)
+  pub moves-undue : Rows (offBench movesUndue 2)
+  pub never-moves : Rows (offBench neverMoves 2)
+  pub fits-unclosed : Rows (offBench fitsUnclosed 2)
+  pub fits-five : Rows (offBench fitsFive 2)
+  pub leaves-torn : Rows (offBench leavesTorn 2)
+  pub worn-mends : Rows (offBench wornMends 2)
+  pub closes-and-moves : Rows (offBench closesAndMoves 2)
+  pub high-first : Rows (offBench highFirst 2)
+  pub length-stays : Rows (offBench lengthStays 2)
+  pub closes-all : Rows (offBench closesAll 2)
+  pub clears-body : Rows (offBench clearsBody 2)
+  pub finish-first : Rows (offBench finishFirst 2)
+  pub closes-alone : Rows (offBench closesAlone 2)
+  pub always-resets : Rows (offBench alwaysResets 2)
+  pub aborts-one : Rows (offBench abortsOne 2)
+  pub reset-bare : Rows (offBench resetBare 2)
+  pub finishes-reset : Rows (offBench finishesReset 2)
+  pub end-stays : Rows (offBench endStays 2)
+  pub mend-keeps : Rows (offBench mendKeeps 2)
+  pub closing-foreign : Rows (offBench closingForeign 2)
+  pub reset-foreign : Rows (offBench resetForeign 2)
+  pub closes-seven : Rows (offBench closesSeven 2)
+  pub checks-body : Rows (offBench checksBody 2)
+  pub checks-crc : Rows (offBench checksCrc 2)
+  pub past-reset : Rows (offBench pastReset 2)
+  pub room-with-closed : Rows (offBench roomWithClosed 2)
+  pub logs-closed : Rows (offBench logsClosed 2)

@@ -8,7 +8,7 @@ use lib.Dec.{eqb, ltb}
 use lib.ListN.{length, getD, drop, replicate}
 use Rattle.frame.specs.declared.Edition.{Edition}
 use Rattle.frame.specs.declared.Edition.the-variants as edition
-use Rattle.frame.specs.Frame.{hostOf, idOf, put, change, commit, abort, settled, Frame, encodeAll}
+use Rattle.frame.specs.Frame.{hostOf, idOf, put, change, commit, abort, settled, closed, Frame, encodeAll}
 use Rattle.journal.specs.Block.{header, inTransfer, validData}
 use Rattle.wire.specs.declared.Answer.the-variants.{Refused}
 use Rattle.wire.specs.declared.Refusal.the-variants as refusal
@@ -153,11 +153,21 @@ aborted = change (hostOf 2) (put (idOf 5) (replicate 166 0x41)) ∷ abort (hostO
 unfoldable pub nearlyFull : List ℕ
 nearlyFull = half 1 (aborted ++ aborted) ++ blankHalf
 
+-- two closed frames, and a put of eight bytes that is pending and ends at n; at the half's end, so that a mount makes a transfer
+abbrev pub filler : ℕ → Frame
+filler n = closed (replicate (n - 5) 0xFF)
+
+abbrev pub endingAt : ℕ → List ℕ
+endingAt n = half 1 (filler 248 ∷ filler (n - 272) ∷ change (hostOf 2) (put (idOf 7) []) ∷ [])
+
+unfoldable pub full : List ℕ
+full = endingAt 384 ++ blankHalf
+
 -- ---- images of 1,152 bytes: three blocks
 
 -- the second block is current, and a transfer is due; the first is, beside two cut transfers; the first is, and nothing is due
 unfoldable pub inMiddle : List ℕ
-inMiddle = blankHalf ++ (half 1 (putFrame ∷ []) ++ blankHalf)
+inMiddle = blankHalf ++ (endingAt 384 ++ blankHalf)
 
 unfoldable pub begunTwice : List ℕ
 begunTwice = begun ++ (header edition.First 2 inTransfer ++ replicate 368 0xFF)
@@ -239,11 +249,11 @@ pub record Runs : Type 0 where
   pub waits-long : Differs 2 waitsLong stored (mount ∷ putCD ∷ stepping 10 []) answered 255 0
   pub invents-step : Differs 2 inventsStep begun (mount ∷ step ∷ []) answered 255 0
   -- the old half's first byte, after ten of the transfer's eleven steps
-  pub erases-first : Differs 2 erasesFirst pending (mount ∷ stepping 10 []) (byteAt 0) 0xFF 0x10
+  pub erases-first : Differs 2 erasesFirst full (mount ∷ stepping 10 []) (byteAt 0) 0xFF 0x10
   pub hurried-mount : Differs 2 hurriedMount pending (mount ∷ []) answered 0 255
   pub loses-all : Differs 2 losesAll pending (mount ∷ []) answered 2 255
   -- a commit after the cut finds what was left pending before it
-  pub keeps-pending : Differs 2 keepsPending pending (mount ∷ stepping 11 (commits ∷ [])) answered 255 0
+  pub keeps-pending : Differs 2 keepsPending pending (mount ∷ stepping 5 (commits ∷ [])) answered 255 0
   pub refuses-alike : Differs 2 refusesAlike twice (mount ∷ []) answered 3 255
   pub overlooks-foreign : Differs 2 overlooksForeign strange (mount ∷ []) answered 2 3
   pub names-second : Differs 2 namesSecond bothStrange (mount ∷ []) halfNamed 1 0
@@ -271,4 +281,4 @@ pub record Runs : Type 0 where
   pub abort-keeps : Differs 2 abortKeeps stored (afterPut (aborts ∷ stepping 6 (commits ∷ []))) answered 11 0
   -- C = 24: a transfer of 19 steps, and the frame's 8
   pub transfer-clears : Differs 2 transferClears nearlyFull (afterPut (putEmpty 8 ∷ stepping 27 (commits ∷ []))) answered 11 255
-  pub mount-keeps : Differs 2 mountKeeps pending (mount ∷ stepping 11 (commits ∷ [])) answered 11 0
+  pub mount-keeps : Differs 2 mountKeeps full (mount ∷ stepping 11 (commits ∷ [])) answered 11 0

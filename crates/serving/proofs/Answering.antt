@@ -43,14 +43,15 @@ use Rattle.board.specs.declared.Cursor.{Cursor}
 use Rattle.board.specs.declared.Rest.{Rest}
 use Rattle.board.specs.declared.Record.{Record}
 use Rattle.board.specs.Record.{noFrame, starting, counting, Out, out, refuse, answerOf}
-use Rattle.board.specs.Mount.{replayOf, forPending, transfers}
+use Rattle.board.specs.Mount.{replayOf}
 use Rattle.board.specs.Queue.{needsRoom, append, serveChange, serveEnd, convert, convertWith, serveConvert, serveRead, serveLog, serve}
 use Rattle.board.specs.Queue.{Asking, asking, sizeFor, movesFor, refuseTo}
 use Rattle.board.proofs.Replies.{standing-of}
 use Rattle.job.specs.declared.records.Stepped.{Stepped}
-use Rattle.job.specs.Code.{leavesIf, LeadsTo, goAppend, goOpen, goWipe, begins}
+use Rattle.job.specs.Code.{leavesIf, LeadsTo, goAppend, goClose, goOpen, goWipe, begins}
 use Rattle.job.proofs.Entering.{wipe-leaves}
 use Rattle.looks.specs.Surveys.{sumOf}
+use Rattle.looks.specs.Seen.{someOf}
 use Rattle.looks.proofs.Transfers.{any-is}
 use Rattle.serving.specs.Calls.{done, refused, keptOr, began, Asks, bytesOf, appendPlan, appendIn, changeIn, endIn, readIn, logIn}
 use Rattle.serving.specs.Calls.{convertPlan, convertBy, convertIn, serveIn, frameIn, replyIn}
@@ -83,7 +84,7 @@ module _ (r : Record) (p f : List ℕ) where
 -- a job that appends a frame has a step
 goes : (y z : Rest) (s : Survey) (m : Bool) (n : ℕ) (c : Cursor) → 0 < n
     → let x : Stepped = begins y (appendPlan z s m n) c in (x .answer ≡ More) × (x .ended ≡ false)
-unfolding goWipe goOpen goAppend
+unfolding goWipe goOpen goClose goAppend
 goes y z s true n c l = (refl, refl)
 goes y z s false n c l = rw (lt-ltb 0 n l) (refl, refl)
 
@@ -159,9 +160,9 @@ module _ (a : Asking) (x : Journal) (same : a .blocks ≡ a .board .rest .blocks
       asks-if r _ _ (ltb (length (a .reply)) pageLen) (no f refusal.ShortReply) (record { answers = refl; gives = refl; rests = refl })
 
   -- K9: nothing is pending exactly if no host has pending bytes
-  pending-is : (es : List Entry) → replayOf x .pending ≡ es → ltb 0 (sumOf (survey .pending)) ≡ transfers (forPending es)
+  pending-is : (es : List Entry) → replayOf x .pending ≡ es → ltb 0 (sumOf (survey .pending)) ≡ someOf es
   unfolding surveyOf
-  pending-is es e = sym (any-is w) ∙ ap (λ (ds : List Entry). transfers (forPending ds)) e
+  pending-is es e = sym (any-is w) ∙ ap someOf e
 
   converts : (e : Edition) → Asks r places noFrame (convertBy (r .rest) survey e) (convert a x e)
   unfolding convert convertBy surveyOf noFrame goWipe goOpen

@@ -25,7 +25,7 @@ use Rattle.board.specs.declared.Phase.the-variants.{Idle}
 use Rattle.board.specs.declared.Job.{Job}
 use Rattle.board.specs.declared.Rest.{Rest}
 use Rattle.board.specs.declared.Record.{Record}
-use Rattle.board.specs.Record.{zeroEach, noWipes, noFrame, starting, counting, Out}
+use Rattle.board.specs.Record.{zeroEach, noWipes, noCloses, noFrame, starting, counting, Out}
 use Rattle.board.specs.Mount.{nextBlock, newTime}
 use Rattle.job.specs.declared.records.Numbers.{Numbers}
 use Rattle.job.specs.declared.records.Stepped.{Stepped}
@@ -99,6 +99,8 @@ appendPlan z s moves n =
       since = s .since;
       size = n;
       edition = editionNumber (s .edition);
+      closes = 0;
+      close = noCloses;
     }
 
 -- a frame of n bytes, with which each host has so much pending
@@ -139,6 +141,8 @@ convertPlan z s =
       since = zeroEach;
       size = 0;
       edition = 2;
+      closes = 0;
+      close = noCloses;
     }
 
 -- 6, else a transfer to the second edition; nothing to do if the store is there

@@ -87,6 +87,8 @@ fn append(size: usize, rest: Rest, s: Survey, n: u8, pending: [u16; 4]) -> Stepp
         since: since,
         size: n,
         edition: frame::edition_number(edition),
+        closes: 0,
+        close: [0; 4],
     };
     records::begin(
         counting(rest, pending),
@@ -169,6 +171,8 @@ fn convert(rest: Rest, s: Survey) -> Stepped
         since: [0; 4],
         size: 0,
         edition: frame::edition_number(Edition::Second),
+        closes: 0,
+        close: [0; 4],
     };
     records::begin(rest, job, records::starting(0, s.end))
 }

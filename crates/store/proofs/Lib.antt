@@ -1,2 +1,4 @@
 pub mod Ordering
+pub mod Closing
+pub mod Mending
 pub mod Outcomes

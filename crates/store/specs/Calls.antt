@@ -12,9 +12,9 @@ use Rattle.job.specs.declared.Outcome.{Outcome}
 use Rattle.job.specs.declared.records.Stepped.{Stepped}
 use Rattle.job.specs.Code.{assemble, atRest, outcome}
 
--- as a record: no frame is copied or appended yet
-abbrev pub made : List ℕ → Stepped → Outcome
-made places s = outcome (s .answer) (assemble (s .next) places noFrame noFrame)
+-- as a record: no frame is copied yet
+abbrev pub made : List ℕ → List ℕ → Stepped → Outcome
+made places frame s = outcome (s .answer) (assemble (s .next) places noFrame frame)
 
 -- an answer that leaves no job
 abbrev pub ends : Answer → Bool
@@ -22,10 +22,10 @@ ends Done = true
 ends More = false
 ends (Refused n) = true
 
--- it is what the definition gives back, with these places
-pub record Gives (places : List ℕ) (s : Stepped) (o : Out) : Type 0 where
+-- it is what the definition gives back, with these places and this frame to append
+pub record Gives (places frame : List ℕ) (s : Stepped) (o : Out) : Type 0 where
   pub answers : s .answer ≡ o .answer
-  pub gives : assemble (s .next) places noFrame noFrame ≡ o .board
+  pub gives : assemble (s .next) places noFrame frame ≡ o .board
   pub ended : s .ended ≡ ends (o .answer)
 
 -- a refusal: the record is unmounted

@@ -1,4 +1,5 @@
 // Mount and format in code: each equal to its definition, on every input.
+mod mends;
 mod mounts;
 
 pub use mounts::format;

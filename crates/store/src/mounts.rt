@@ -1,17 +1,21 @@
 // Mount and format.
 ghost use mathlib.Core.Path.{_≡_};
 ghost use mathlib.Core.Bool.{true, cond};
-ghost use Prim.Native.Nat.{_≤_};
+ghost use Prim.Native.Nat.{_+_, _≤_};
 ghost use lib.ListN.{length};
 ghost use Rattle.flash.specs.Flash.{maxBlocks};
-ghost use Rattle.board.specs.Record.{allowed, noPlaces, Out};
+ghost use Rattle.journal.specs.Block.{blockMax};
+ghost use Rattle.board.specs.Record.{allowed, noPlaces, noFrame, Out};
 ghost use Rattle.board.specs.Mount.{tiedTimes, mountOn, formatOrder, formatOn};
 ghost use Rattle.looks.specs.Seen.{erasesOf};
 ghost use Rattle.store.specs.Calls.{Gives, made, refused};
 ghost use Rattle.store.specs.Mounts.{mountIn, mountSeen, lastErased, orderBy};
+use crate::mends;
+use crate::mends::Mend;
 use board::Job;
 use board::Phase;
 use flash::MAX_BLOCKS;
+use frame::BUFFER_LEN;
 use frame::Fault;
 use frame::Field;
 use frame::ID_MAX;
@@ -42,15 +46,15 @@ fn refused(why: Refusal) -> Stepped
     records::at_rest(Answer::Refused(why), Phase::Unmounted, rest)
 }
 
-// What a mount or format came to, as a record: no frame is copied or appended yet.
-fn made(s: Stepped, places: [u16; 256]) -> Outcome
-    ensures { λ r. ⌜ r ≡ made places s ⌝ }
+// What a mount or format came to, as a record: no frame is copied yet.
+fn made(s: Stepped, places: [u16; 256], frame: [u8; BUFFER_LEN]) -> Outcome
+    ensures { λ r. ⌜ r ≡ made places frame s ⌝ }
 {
     let answer = s.answer;
     let next = s.next;
     Outcome {
         answer: answer,
-        board: records::assemble(next, places, records::no_frame(), records::no_frame()),
+        board: records::assemble(next, places, records::no_frame(), frame),
     }
 }
 
@@ -69,32 +73,37 @@ fn tied_times(number: u8) -> Refusal
     )
 }
 
-// The block that is taken, and the blocks to erase.
-fn mount_at(blocks: u8, last: u16, w: Newest, list: Erases) -> Stepped
-    ensures { λ r. ⌜ r ≡ mountIn blocks last w list ⌝ }
+// The block that is taken, the blocks to erase, and what is done with the one.
+fn mount_at(blocks: u8, last: u16, w: Newest, list: Erases, m: Mend) -> Stepped
+    ensures { λ r. ⌜ r ≡ mountIn blocks last w list m ⌝ }
 {
-    if surveys::is_worn(w.moves, w.time) {
+    if surveys::is_worn(m.moves, w.time) {
         return refused(Refusal::Worn);
     }
     let wipe = list.wipe;
+    let closes = m.closes;
+    let close = closes.at;
     let job = Job {
         wipe: wipe,
         wipes: list.count,
-        moves: w.moves,
+        moves: m.moves,
         drops: true,
         target: image::next_block(blocks, w.number),
-        time: surveys::new_time(w.moves, w.time),
+        time: surveys::new_time(m.moves, w.time),
         since: [0; 4],
-        size: 0,
+        size: m.size,
         edition: w.edition,
+        closes: closes.count,
+        close: close,
     };
-    let rest = records::standing(blocks, last, w.number, w.end, w.edition);
+    let rest = records::standing(blocks, last, w.number, m.end, w.edition);
     records::begin(rest, job, records::starting(0, w.end))
 }
 
-fn mount_seen(blocks: u8, last: u16, z: Seen) -> Stepped
-    requires { ⌜ blocks ≤ maxBlocks ⌝ }
-    ensures { λ r. ⌜ r ≡ mountSeen blocks last z ⌝ }
+// The torn frame of the block that is taken lies in it.
+fn mount_seen(image: &[u8], blocks: u8, z: Seen) -> Stepped
+    requires { ⌜ (allowed blocks (length (now image)) ≡ true) × (z .newest .end + z .newest .torn ≤ blockMax) ⌝ }
+    ensures { λ r. ⌜ r ≡ mountSeen blocks (now (image .entry)) z ⌝ }
 {
     let w = z.newest;
     let tie = z.tie;
@@ -106,7 +115,10 @@ fn mount_seen(blocks: u8, last: u16, z: Seen) -> Stepped
         return refused(tied_times(tie.lowest));
     }
     let blanks = z.blanks;
-    mount_at(blocks, last, w, lists::others(blocks, w.number, blanks))
+    let list = lists::others(blocks, w.number, blanks);
+    let size = flash::size_of(blocks, image.len());
+    let m = mends::mending(flash::block_of(image, size, w.number), w);
+    mount_at(blocks, (image.len() - 1) as u16, w, list, m)
 }
 
 // Only a job needs the places.
@@ -118,17 +130,24 @@ fn drop_places(ended: bool, places: &mut [u16; 256])
     }
 }
 
-// A mount, with its places lent.
-pub fn mount_core(image: &[u8], blocks: u8, places: &mut [u16; 256]) -> Stepped
-    ensures { λ r. ⌜ Gives (now (places .exit)) r (mountOn blocks (now (image .entry))) ⌝ }
+// A mount, with its places and the frame to append lent.
+pub fn mount_core(
+    image: &[u8],
+    blocks: u8,
+    places: &mut [u16; 256],
+    frame: &mut [u8; BUFFER_LEN],
+) -> Stepped
+    ensures { λ r. ⌜ Gives (now (places .exit)) (now (frame .exit)) r (mountOn blocks (now (image .entry))) ⌝ }
 {
     if !image::is_allowed(blocks, image.len()) {
         *places = records::no_places();
+        *frame = records::no_frame();
         return refused(Refusal::ImageLength);
     }
     let seen = looks::look(image, blocks, places);
-    let s = mount_seen(blocks, (image.len() - 1) as u16, seen);
+    let s = mount_seen(image, blocks, seen);
     drop_places(s.ended, places);
+    mends::lay_reset(s, frame);
     s
 }
 
@@ -136,8 +155,9 @@ pub fn mount(image: &[u8], blocks: u8) -> Outcome
     ensures { λ r. ⌜ (let o : Out = mountOn blocks (now (image .entry)) in (r .answer ≡ o .answer) × (r .board ≡ o .board)) ⌝ }
 {
     let mut places = records::no_places();
-    let s = mount_core(image, blocks, &mut places);
-    made(s, places)
+    let mut frame = records::no_frame();
+    let s = mount_core(image, blocks, &mut places, &mut frame);
+    made(s, places, frame)
 }
 
 // ---- format
@@ -175,9 +195,9 @@ fn format_order(image: &[u8], blocks: u8) -> Erases
     format_list(blocks, last_erased(blocks, w))
 }
 
-// A format, which leaves no places.
+// A format, which leaves no places and appends no frame.
 pub fn format_core(image: &[u8], blocks: u8) -> Stepped
-    ensures { λ r. ⌜ Gives noPlaces r (formatOn blocks (now (image .entry))) ⌝ }
+    ensures { λ r. ⌜ Gives noPlaces noFrame r (formatOn blocks (now (image .entry))) ⌝ }
 {
     if !image::is_allowed(blocks, image.len()) {
         return refused(Refusal::ImageLength);
@@ -194,6 +214,8 @@ pub fn format_core(image: &[u8], blocks: u8) -> Stepped
         since: [0; 4],
         size: 0,
         edition: FORMATS,
+        closes: 0,
+        close: [0; 4],
     };
     let last = (image.len() - 1) as u16;
     let rest = records::standing(
@@ -209,5 +231,9 @@ pub fn format_core(image: &[u8], blocks: u8) -> Stepped
 pub fn format(image: &[u8], blocks: u8) -> Outcome
     ensures { λ r. ⌜ (let o : Out = formatOn blocks (now (image .entry)) in (r .answer ≡ o .answer) × (r .board ≡ o .board)) ⌝ }
 {
-    made(format_core(image, blocks), records::no_places())
+    made(
+        format_core(image, blocks),
+        records::no_places(),
+        records::no_frame(),
+    )
 }

@@ -12,10 +12,10 @@ use Rattle.frame.specs.declared.Edition.{Edition}
 use Rattle.frame.specs.declared.Host.{Host}
 use Rattle.frame.specs.declared.Head.{Head}
 use Rattle.frame.specs.declared.Head.the-variants as head
-use Rattle.frame.specs.Frame.{put, delete, Frame, change, commit, abort, settled, encode, frameLen, encodeAll, AllMayStand, nextAfter}
-use Rattle.frame.specs.Frame.{kindAt, putValueAt, settledValueAt, putLen, settledLen}
+use Rattle.frame.specs.Frame.{put, delete, Frame, change, commit, abort, settled, closed, reset, encode, frameLen, encodeAll, AllMayStand, nextAfter}
+use Rattle.frame.specs.Frame.{kindAt, bodyAt, putValueAt, settledValueAt, putLen, settledLen, closedLen}
 use Rattle.frame.specs.Reader.{decode}
-use Rattle.frame.specs.Code.{headOf, peekAt, headLen, valueLen}
+use Rattle.frame.specs.Code.{headOf, peekAt, headLen}
 use Rattle.frame.proofs.Encode.{check-short, length-encode}
 use Rattle.frame.proofs.Exact.{read-back}
 use Rattle.frame.proofs.Heads.{head-len, peek-whole}
@@ -28,6 +28,8 @@ place-head h d o (change g (delete i)) t l = on-test (eqb (h .0) (g .0)) (λ u. 
 place-head h d o (commit g) t l = refl
 place-head h d o (abort g) t l = refl
 place-head h d o (settled i v) t l = refl
+place-head h d o (closed v) t l = refl
+place-head h d o reset t l = refl
 
 pub head-least : (ed : Edition) (k : Head) → 5 ≤ headLen ed k
 head-least ed (head.Put h i n) = omega arith
@@ -35,38 +37,24 @@ head-least ed (head.Delete h i) = omega arith
 head-least ed (head.Commit h) = omega arith
 head-least ed (head.Abort h) = omega arith
 head-least ed (head.Settled i n) = omega arith
+head-least ed (head.Closed n) = omega arith
+head-least ed head.Reset = omega arith
 
 -- ---- a head's length, of any bytes
 
-value-decoded : (ed : Edition) (k n : ℕ) (l : List ℕ) → valueLen (headOf (decode ed k n l)) ≤ n - settledLen ed 0
-value-decoded ed zero n l = omega arith
-value-decoded ed (suc zero) n l = omega (arith, length-take (n - putLen ed 0) (drop putValueAt l))
-value-decoded ed (suc (suc zero)) n l = omega arith
-value-decoded ed (suc (suc (suc zero))) n l = omega arith
-value-decoded ed (suc (suc (suc (suc zero)))) n l = omega arith
-value-decoded ed (suc (suc (suc (suc (suc k))))) n l = omega (arith, length-take (n - settledLen ed 0) (drop settledValueAt l))
+head-decoded : (ed : Edition) (k n : ℕ) (l : List ℕ) → n ≤ 255 → headLen ed (headOf (decode ed k n l)) ≤ 255
+head-decoded ed zero n l g = omega (arith, length-take (n - closedLen 0) (drop bodyAt l))
+head-decoded ed (suc zero) n l g = omega (arith, check-short ed, length-take (n - putLen ed 0) (drop putValueAt l))
+head-decoded ed (suc (suc zero)) n l g = omega (arith, check-short ed)
+head-decoded ed (suc (suc (suc zero))) n l g = omega (arith, check-short ed)
+head-decoded ed (suc (suc (suc (suc zero)))) n l g = omega (arith, check-short ed)
+head-decoded ed (suc (suc (suc (suc (suc zero))))) n l g = omega (arith, check-short ed, length-take (n - settledLen ed 0) (drop settledValueAt l))
+head-decoded ed (suc (suc (suc (suc (suc (suc k)))))) n l g = omega (arith, check-short ed)
 
--- a settled frame of that value is at most 255 bytes long
-pub peek-small : (ed : Edition) (l : List ℕ) (o : ℕ) → ((i : ℕ) → getD l i 0 < 256) → settledLen ed (valueLen (peekAt ed l o)) ≤ 255
+pub head-most : (ed : Edition) (l : List ℕ) (o : ℕ) → ((i : ℕ) → getD l i 0 < 256) → headLen ed (peekAt ed l o) ≤ 255
 unfolding peekAt
-peek-small ed l o b =
-    omega (
-      arith,
-      value-decoded ed (getD (drop o l) kindAt 0) (getD (drop o l) 0 0) (drop o l),
-      getD-drop o l 0 0,
-      b (o + 0),
-      check-short ed,
-    )
-
-head-long : (ed : Edition) (k : Head) → headLen ed k ≤ settledLen ed (valueLen k) + 1
-head-long ed (head.Put h i n) = omega arith
-head-long ed (head.Delete h i) = omega arith
-head-long ed (head.Commit h) = omega arith
-head-long ed (head.Abort h) = omega arith
-head-long ed (head.Settled i n) = omega arith
-
-pub head-most : (ed : Edition) (l : List ℕ) (o : ℕ) → ((i : ℕ) → getD l i 0 < 256) → headLen ed (peekAt ed l o) ≤ 256
-head-most ed l o b = omega (arith, head-long ed (peekAt ed l o), peek-small ed l o b)
+head-most ed l o b =
+    head-decoded ed (getD (drop o l) kindAt 0) (getD (drop o l) 0 0) (drop o l) (omega (arith, getD-drop o l 0 0, b (o + 0)))
 
 -- ---- the pass
 

@@ -18,8 +18,7 @@ use Rattle.frame.proofs.Scanning.{pushAll, push-ends}
 use Rattle.survey.specs.declared.Progress.{Progress}
 use Rattle.journal.specs.Block.{headerLen}
 use Rattle.journal.specs.Index.{placesOf}
-use Rattle.survey.specs.Pass.{grown, closed}
-use Rattle.survey.specs.Pass.{passed, tookFrame, tookPlaces, tailOf, walkOf, lengthsAt, settledTotal, tallyOf}
+use Rattle.survey.specs.Pass.{grown, ended, endedAll, passed, tookFrame, tookPlaces, tailOf, walkOf, lengthsAt, settledTotal, tallyOf}
 use Rattle.journal.proofs.PerHost.{pending-most}
 use Rattle.fetch.proofs.FrameReads.{whole-is, blank-is, torn-is, scan-blank-at, scan-torn-at, scan-wrong-at}
 use Rattle.survey.proofs.Passing.{Reached, reached-on}
@@ -27,12 +26,14 @@ use Rattle.survey.proofs.Passing.{Reached, reached-on}
 -- ---- the walk
 
 took-end : (ed : Edition) (p : Progress) (k : Head) → tookFrame ed p k .end ≡ p .end + headLen ed k
-unfolding tookFrame grown closed passed
+unfolding tookFrame grown ended endedAll passed
 took-end ed p (head.Put h i n) = refl
 took-end ed p (head.Delete h i) = refl
 took-end ed p (head.Commit h) = refl
 took-end ed p (head.Abort h) = refl
 took-end ed p (head.Settled i n) = refl
+took-end ed p (head.Closed n) = refl
+took-end ed p head.Reset = refl
 
 pub taken-end : (ed : Edition) (p q : Progress) (k : Head) → q ≡ tookFrame ed p k → q .end ≡ p .end + headLen ed k
 taken-end ed p q k e = ap (λ (x : Progress). x .end) e ∙ took-end ed p k

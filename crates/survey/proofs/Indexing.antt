@@ -13,7 +13,7 @@ use Rattle.flash.proofs.Cases.{on-test, and-no-right}
 use Rattle.frame.specs.declared.Edition.{Edition}
 use Rattle.frame.specs.declared.Host.{Host}
 use Rattle.frame.specs.declared.ObjectId.{ObjectId}
-use Rattle.frame.specs.Frame.{idOf, hostOf, ChangeOf, Change, put, delete, FrameOf, Frame, change, commit, abort, settled, mapChange}
+use Rattle.frame.specs.Frame.{idOf, hostOf, ChangeOf, Change, put, delete, FrameOf, Frame, change, commit, abort, settled, closed, reset, mapChange}
 use Rattle.frame.specs.Frame.{mapFrame, frameLen, total, MayStand, AllMayStand, nextOf}
 use Rattle.frame.proofs.Encode.{total-snoc}
 use Rattle.journal.specs.Block.{headerLen}
@@ -90,6 +90,8 @@ commit-pass ed h since o t (change g c ∷ fs) =
 commit-pass ed h since o t (commit g ∷ fs) = commit-pass ed h since (o + frameLen ed (commit g)) t fs
 commit-pass ed h since o t (abort g ∷ fs) = commit-pass ed h since (o + frameLen ed (abort g)) t fs
 commit-pass ed h since o t (settled i v ∷ fs) = commit-pass ed h since (o + frameLen ed (settled i v)) t fs
+commit-pass ed h since o t (closed v ∷ fs) = commit-pass ed h since (o + frameLen ed (closed v)) t fs
+commit-pass ed h since o t (reset ∷ fs) = commit-pass ed h since (o + frameLen ed reset) t fs
 
 -- ---- the table after one frame more
 
@@ -101,11 +103,11 @@ sited-snoc ed fs f =
     ∙ ap (λ (x : List (FrameOf ℕ)). x ++ (mapFrame (λ v. o) f ∷ [])) (sym (located-sited ed headerLen fs)))
     ∙ replay-snoc (sited ed headerLen fs) (mapFrame (λ v. o) f)
 
-pub places-change : (ed : Edition) (fs : List Frame) (h : Host) (c : Change) → placesOf ed (fs ++ (change h c ∷ [])) ≡ placesOf ed fs
-places-change ed fs h c = ap (λ (s : StateOf ℕ). table (s .objects)) (sited-snoc ed fs (change h c))
-
-pub places-abort : (ed : Edition) (fs : List Frame) (h : Host) → placesOf ed (fs ++ (abort h ∷ [])) ≡ placesOf ed fs
-places-abort ed fs h = ap (λ (s : StateOf ℕ). table (s .objects)) (sited-snoc ed fs (abort h))
+-- a frame that leaves the objects
+pub places-stay : (ed : Edition) (fs : List Frame) (f : Frame) → ((s : StateOf ℕ) (o : ℕ) → nextState s (mapFrame (λ v. o) f) .objects ≡ s .objects)
+    → placesOf ed (fs ++ (f ∷ [])) ≡ placesOf ed fs
+places-stay ed fs f n =
+    ap (λ (s : StateOf ℕ). table (s .objects)) (sited-snoc ed fs f) ∙ ap table (n (replay (sited ed headerLen fs)) (headerLen + total ed fs))
 
 pub places-commit : (ed : Edition) (fs : List Frame) (h : Host)
     → placesOf ed (fs ++ (commit h ∷ [])) ≡ commitPlaces ed h (sinceHost ed h fs) headerLen (placesOf ed fs) fs
@@ -184,6 +186,8 @@ place-early h d o (change g c) t l =
 place-early h d o (commit g) t l = refl
 place-early h d o (abort g) t l = refl
 place-early h d o (settled i v) t l = refl
+place-early h d o (closed v) t l = refl
+place-early h d o reset t l = refl
 
 -- what stands before `since` does nothing
 pub commit-from : (ed : Edition) (h : Host) (d o : ℕ) (t : List ℕ) (fs gs : List Frame) → o + total ed fs ≤ d

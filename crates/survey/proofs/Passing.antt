@@ -10,8 +10,8 @@ use lib.Seq.{take-at, drop-at, drop-drop}
 use borrow.Author.Tests.{eq-eqb, ne-eqb}
 use Rattle.frame.specs.declared.Edition.{Edition}
 use Rattle.frame.specs.declared.Host.{Host}
-use Rattle.frame.specs.Frame.{hostMax, put, delete, Frame, change, commit, abort, settled, Change, encode, frameLen, encodeAll, total, MayStand}
-use Rattle.frame.specs.Frame.{AllMayStand, nextAfter, nextOf}
+use Rattle.frame.specs.Frame.{hostMax, put, delete, Frame, change, commit, abort, settled, closed, reset, Change, encode, frameLen, encodeAll, total, MayStand}
+use Rattle.frame.specs.Frame.{AllMayStand, nextAfter, nextOf, resetLen}
 use Rattle.frame.specs.Reader.{whole, readFrame, Scan, push, scan}
 use Rattle.frame.specs.Code.{headOf}
 use Rattle.frame.proofs.Encode.{length-all, encode-append, encode-snoc, total-snoc, stands-append}
@@ -21,21 +21,23 @@ use Rattle.survey.specs.declared.Progress.{Progress}
 use Rattle.journal.specs.Block.{headerLen}
 use Rattle.journal.specs.Replay.{Entry, State, lookup, listOf, nextState, replay, replayFrom}
 use Rattle.journal.specs.Index.{sited, placesFrom, placesOf, isEnd, pick, sinceFrom, sinceHost, sinceOf}
-use Rattle.journal.specs.Room.{perHost, pendingFor, pendingOf}
-use Rattle.survey.specs.Pass.{commitPlaces, commitHeads, recommit, progress, progressOf, grown, closed, passed, tookFrame, tookPlaces}
+use Rattle.journal.specs.Room.{perHost, pendingFor, countsIn, pendingOf}
+use Rattle.survey.specs.Pass.{commitPlaces, commitHeads, recommit, progress, progressOf, grown, ended, endedAll, passed, tookFrame, tookPlaces}
 use Rattle.journal.proofs.Replaying.{replay-snoc}
 use Rattle.journal.proofs.Pending.{since-snoc, since-at}
 use Rattle.survey.proofs.Committing.{heads-whole}
-use Rattle.survey.proofs.Indexing.{places-change, places-abort, places-commit, places-settled, Boundary, boundary, commit-from}
-use Rattle.journal.proofs.PerHost.{per-set, per-same, per-at, bytes-own, bytes-other, bytes-ended, bytes-kept}
+use Rattle.survey.proofs.Indexing.{places-stay, places-commit, places-settled, Boundary, boundary, commit-from}
+use Rattle.journal.proofs.PerHost.{per-set, per-same, per-at, bytes-own, bytes-other, bytes-ended, bytes-kept, counts-none}
 use Rattle.fetch.proofs.FrameReads.{whole-stands, whole-bytes, scan-whole-at, drop-take}
 
 -- ---- `since` and the pending bytes after one frame more
 
-since-stays : (ed : Edition) (fs : List Frame) (f : Frame) → ((h : Host) → isEnd h f ≡ false) → sinceOf ed (fs ++ (f ∷ [])) ≡ sinceOf ed fs
-since-stays ed fs f n =
-    per-same (λ h. sinceHost ed h fs) (λ h. sinceHost ed h (fs ++ (f ∷ [])))
-    (λ h. since-snoc ed h headerLen headerLen fs f ∙ ap (λ (t : Bool). pick t (headerLen + total ed fs + frameLen ed f) (sinceHost ed h fs)) (n h))
+-- a frame that ends every host's list, or none
+since-alike : (ed : Edition) (fs : List Frame) (f : Frame) (t : Bool) → ((h : Host) → isEnd h f ≡ t)
+    → sinceOf ed (fs ++ (f ∷ [])) ≡ perHost (λ h. pick t (headerLen + total ed fs + frameLen ed f) (sinceHost ed h fs))
+since-alike ed fs f t n =
+    per-same (λ h. pick t (headerLen + total ed fs + frameLen ed f) (sinceHost ed h fs)) (λ h. sinceHost ed h (fs ++ (f ∷ [])))
+    (λ h. since-snoc ed h headerLen headerLen fs f ∙ ap (λ (x : Bool). pick x (headerLen + total ed fs + frameLen ed f) (sinceHost ed h fs)) (n h))
 
 since-moves : (ed : Edition) (fs : List Frame) (f : Frame) (h : Host) → h .0 ≤ hostMax → ((g : Host) → isEnd g f ≡ eqb (g .0) (h .0))
     → sinceOf ed (fs ++ (f ∷ [])) ≡ set (sinceOf ed fs) (h .0) (headerLen + total ed fs + frameLen ed f)
@@ -66,6 +68,9 @@ pending-ends ed fs f h l n =
     per-set (λ g. pendingFor ed g es) (λ g. pendingFor ed g (replay (fs ++ (f ∷ [])) .pending)) h 0 l (e h ∙ bytes-ended ed h es)
     (λ g d. e g ∙ bytes-kept ed g h es d)
 
+pending-then : (ed : Edition) (fs : List Frame) (f : Frame) → pendingOf ed (fs ++ (f ∷ [])) ≡ countsIn ed (nextState (replay fs) f)
+pending-then ed fs f = ap (countsIn ed) (replay-snoc fs f)
+
 same : {a a′ b b′ : ℕ} {s s′ p p′ : List ℕ} → a ≡ a′ → b ≡ b′ → s ≡ s′ → p ≡ p′ → progress a b s p ≡ progress a′ b′ s′ p′
 same {a} {a′} {b} {b′} {s} {s′} {p} {p′} e f g h =
     ap₂ (λ (x y : ℕ). progress x y s p) e f ∙ ap₂ (λ (x y : List ℕ). progress a′ b′ x y) g h
@@ -78,14 +83,14 @@ end-snoc ed fs f = omega (arith, total-snoc ed fs f)
 
 progress-step : (ed : Edition) (fs : List Frame) (f : Frame) → MayStand ed (nextOf 0 fs) f
     → progressOf ed (fs ++ (f ∷ [])) ≡ tookFrame ed (progressOf ed fs) (headOf f)
-unfolding tookFrame grown closed passed
+unfolding tookFrame grown ended endedAll passed
 progress-step ed fs (change h (put i v)) (a, b, c) =
     let f : Frame = change h (put i v) in
-    same (end-snoc ed fs f ∙ omega arith) (next-snoc fs f) (since-stays ed fs f (λ g. refl))
+    same (end-snoc ed fs f ∙ omega arith) (next-snoc fs f) (since-alike ed fs f false (λ g. refl))
     (pending-grows ed fs h (put i v) a ∙ ap (λ (x : ℕ). set (pendingOf ed fs) (h .0) x) (omega arith))
 progress-step ed fs (change h (delete i)) (a, b) =
     let f : Frame = change h (delete i) in
-    same (end-snoc ed fs f) (next-snoc fs f) (since-stays ed fs f (λ g. refl)) (pending-grows ed fs h (delete i) a)
+    same (end-snoc ed fs f) (next-snoc fs f) (since-alike ed fs f false (λ g. refl)) (pending-grows ed fs h (delete i) a)
 progress-step ed fs (commit h) a =
     let f : Frame = commit h in
     same (end-snoc ed fs f) (next-snoc fs f) (since-moves ed fs f h a (λ g. refl)) (pending-ends ed fs f h a (λ s. refl))
@@ -94,9 +99,14 @@ progress-step ed fs (abort h) a =
     same (end-snoc ed fs f) (next-snoc fs f) (since-moves ed fs f h a (λ g. refl)) (pending-ends ed fs f h a (λ s. refl))
 progress-step ed fs (settled i v) a =
     let f : Frame = settled i v in
-    same (end-snoc ed fs f ∙ omega arith) (next-snoc fs f) (since-stays ed fs f (λ g. refl))
-    (per-same (λ g. pendingFor ed g (replay fs .pending)) (λ g. pendingFor ed g (replay (fs ++ (f ∷ [])) .pending))
-    (λ g. ap (λ (s : State). pendingFor ed g (s .pending)) (replay-snoc fs f)))
+    same (end-snoc ed fs f ∙ omega arith) (next-snoc fs f) (since-alike ed fs f false (λ g. refl)) (pending-then ed fs f)
+progress-step ed fs (closed v) a =
+    let f : Frame = closed v in
+    same (end-snoc ed fs f ∙ omega arith) (next-snoc fs f) (since-alike ed fs f false (λ g. refl)) (pending-then ed fs f)
+progress-step ed fs reset a =
+    let n : headerLen + total ed fs + frameLen ed reset ≡ headerLen + total ed fs + resetLen ed = omega arith in
+    same (end-snoc ed fs reset ∙ n) (next-snoc fs reset) (since-alike ed fs reset true (λ g. refl) ∙ ap (λ (x : ℕ). perHost (λ h. x)) n)
+    (pending-then ed fs reset ∙ counts-none ed (replay fs .objects))
 
 -- ---- a commit passes over its host's part again
 
@@ -140,11 +150,13 @@ commit-again ed b fs h l g s =
 places-step : (ed : Edition) (b : List ℕ) (fs : List Frame) (f : Frame) → AllMayStand ed 0 fs → MayStand ed (nextOf 0 fs) f → Starts ed b fs
     → placesOf ed (fs ++ (f ∷ [])) ≡ tookPlaces ed b (progressOf ed fs) (headOf f) (placesOf ed fs)
 unfolding tookPlaces
-places-step ed b fs (change h (put i v)) g m s = places-change ed fs h (put i v)
-places-step ed b fs (change h (delete i)) g m s = places-change ed fs h (delete i)
+places-step ed b fs (change h (put i v)) g m s = places-stay ed fs (change h (put i v)) (λ x o. refl)
+places-step ed b fs (change h (delete i)) g m s = places-stay ed fs (change h (delete i)) (λ x o. refl)
 places-step ed b fs (commit h) g m s = commit-again ed b fs h m g s
-places-step ed b fs (abort h) g m s = places-abort ed fs h
+places-step ed b fs (abort h) g m s = places-stay ed fs (abort h) (λ x o. refl)
 places-step ed b fs (settled i v) g m s = places-settled ed fs i v g m
+places-step ed b fs (closed v) g m s = places-stay ed fs (closed v) (λ x o. refl)
+places-step ed b fs reset g m s = places-stay ed fs reset (λ x o. refl)
 
 -- ---- as far as the frames were read
 

@@ -17,6 +17,7 @@ use Rattle.frame.specs.Frame.{Frame, total, nextOf}
 use Rattle.frame.specs.Reader.{fault, Tail, clean, cut, bad, Scan, ends}
 use Rattle.frame.specs.Sentences.{Torn}
 use Rattle.frame.proofs.Scanned.{Scanned, scan-inv, scan-length, tail-cut}
+use Rattle.frame.proofs.Exact.{torn-fits}
 use Rattle.survey.specs.declared.HeaderCheck.the-variants as check
 use Rattle.survey.specs.declared.Progress.{Progress}
 use Rattle.survey.specs.declared.Tail.the-variants as tail
@@ -27,13 +28,14 @@ use Rattle.survey.specs.declared.Survey.{Survey}
 use Rattle.journal.specs.Replay.{lookup, listOf, replay, replayFrom}
 use Rattle.journal.specs.Block.{headerLen, blockMax, stateAt, inTransfer, createdAt, editionIn, headerFault, Journal, journal, BlockState, blank}
 use Rattle.journal.specs.Block.{inProgress, valid}
-use Rattle.journal.specs.Block.{foreign, ofJournal, ofHeader, blockState}
+use Rattle.journal.specs.Block.{foreign, ofJournal, ofHeader, blockState, tornLen}
 use Rattle.journal.specs.Index.{sited, placesFrom, placesOf, sinceFrom, sinceOf}
-use Rattle.journal.specs.Room.{pendingOf}
-use Rattle.survey.specs.Survey.{tornLen, surveyOf, placesIn, stateOf}
-use Rattle.survey.specs.Pass.{headerOf, scanBlock, progressOf, tailOf, walkOf, lengthsAt, settledTotal, emptySurvey, foundSurvey}
+use Rattle.journal.specs.Room.{used, pendingOf}
+use Rattle.survey.specs.Survey.{surveyOf, placesIn, stateOf}
+use Rattle.survey.specs.Pass.{headerOf, scanBlock, progressOf, tailOf, walkOf, lengthsAt, settledTotal, tallyOf, emptySurvey, foundSurvey}
 use Rattle.journal.proofs.Replaying.{rising-to, Sound, sound-replay}
 use Rattle.journal.proofs.Places.{Standing}
+use Rattle.journal.proofs.Room.{claimed-replay}
 use Rattle.survey.proofs.Collecting.{place-held, valueLens, collect, settled-total}
 
 -- ---- no frames
@@ -149,6 +151,21 @@ module _ (ed : Edition) (b : List ℕ) (g : ed ≡ editionIn b) (h : headerLen �
       collect ed b (placesOf ed fs) 256 0 (replay fs .objects) (omega arith) (rising-to ed 0 (replay fs .objects) (nextOf 0 fs) 256 (k .low) (k .rising))
       (λ j u w. place-held ed b fs (record { 0 = j }) standing w)
 
+  tallied : tallyOf ed (lengthsAt ed b (placesOf ed fs) 256 0) .used ≡ used ed (replay fs)
+  tallied =
+      ap (λ (x : List ℕ). headerLen + settledTotal ed x) settled-all ∙ ap (λ (n : ℕ). headerLen + n) (settled-total ed (replay fs .objects))
+
+  -- U is at most what the frames take
+  pub tally-fits : (t : List ℕ) → t ≡ placesOf ed fs → tallyOf ed (lengthsAt ed b t 256 0) .used ≤ length b
+  tally-fits t p =
+      omega (
+        arith,
+        ap (λ (x : List ℕ). tallyOf ed (lengthsAt ed b x 256 0) .used) p ∙ tallied,
+        claimed-replay ed fs,
+        scan-length ed 0 headerLen (drop headerLen b) frames-scan whole,
+        length-drop headerLen b,
+      )
+
   abbrev read : Tail → Journal
   read c = journal ed (createdAt b) fs c
 
@@ -171,7 +188,7 @@ module _ (ed : Edition) (b : List ℕ) (g : ed ≡ editionIn b) (h : headerLen �
         used = u;
       })
       (ap length settled-all ∙ length-map (replay fs .objects) _)
-      (ap (λ (x : List ℕ). headerLen + settledTotal ed x) settled-all ∙ ap (λ (n : ℕ). headerLen + n) (settled-total ed (replay fs .objects)))
+      tallied
 
   module _ (w : Walk) (t : List ℕ) (r : Survey) (e : w ≡ walkOf ed frames-scan) (p : t ≡ placesOf ed fs) where
     tail-is : tailOf (frames-scan .tail) ≡ w .tail
@@ -204,7 +221,7 @@ module _ (ed : Edition) (b : List ℕ) (g : ed ≡ editionIn b) (h : headerLen �
     cut-fits n q =
         let y : Torn ed (nextOf 0 fs) (whole .rest) n =
         tail-cut ed (nextOf 0 fs) (headerLen + total ed fs) (whole .rest) n (whole .tail ∙ ap ends (cut-is n (frames-scan .tail) (tail-is ∙ q))) in
-        omega (arith, y .would-fit, y .long, scan-length ed 0 headerLen (drop headerLen b) frames-scan whole, length-drop headerLen b)
+        omega (arith, torn-fits ed (nextOf 0 fs) (whole .rest) n y .1, scan-length ed 0 headerLen (drop headerLen b) frames-scan whole, length-drop headerLen b)
 
     -- the table is cleared again
     pub right-bad : (x : Fault) (u : List ℕ) → w .tail ≡ tail.Bad x → r ≡ emptySurvey (kind.Foreign x) → u ≡ replicate 256 0 → Right (ofHeader b none) r u

@@ -8,12 +8,11 @@ use lib.ListN.{length, getD, take, drop, set}
 use Rattle.frame.specs.declared.Edition.{Edition}
 use Rattle.frame.specs.declared.Edition.the-variants as edition
 use Rattle.frame.specs.declared.Host.{Host}
-use Rattle.frame.specs.declared.ObjectId.{ObjectId}
 use Rattle.frame.specs.declared.Fault.{Fault}
 use Rattle.frame.specs.declared.Head.{Head}
 use Rattle.frame.specs.declared.Head.the-variants as head
-use Rattle.frame.specs.Frame.{ChangeOf, put, delete, Frame, change, commit, abort, settled, mapChange, frameLen}
-use Rattle.frame.specs.Frame.{putLen, deleteLen, endLen, settledLen, total, nextOf}
+use Rattle.frame.specs.Frame.{ChangeOf, put, delete, Frame, change, commit, abort, settled, closed, reset, mapChange, frameLen}
+use Rattle.frame.specs.Frame.{putLen, deleteLen, endLen, settledLen, closedLen, resetLen, total, nextOf}
 use Rattle.frame.specs.Reader.{clean, cut, bad, Scan, scan}
 use Rattle.frame.specs.Reader.{Tail as ScanTail}
 use Rattle.frame.specs.Code.{peekAt, headLen, valueLen}
@@ -57,6 +56,8 @@ placeFrame h d o (change g c) t = placeIf (eqb (h .0) (g .0) && leb d o) (mapCha
 placeFrame h d o (commit g) t = t
 placeFrame h d o (abort g) t = t
 placeFrame h d o (settled i v) t = t
+placeFrame h d o (closed v) t = t
+placeFrame h d o reset t = t
 
 unfoldable pub commitPlaces : Edition → Host → ℕ → ℕ → List ℕ → List Frame → List ℕ
 commitPlaces ed h d o t [] = t
@@ -69,6 +70,8 @@ placeHead h o (head.Delete g i) t = placeIf (eqb (h .0) (g .0)) (delete i) t
 placeHead h o (head.Commit g) t = t
 placeHead h o (head.Abort g) t = t
 placeHead h o (head.Settled i n) t = t
+placeHead h o (head.Closed n) t = t
+placeHead h o head.Reset t = t
 
 -- the same for frames one after the other, which start at offset o, by their heads alone; k as in `scan`
 unfoldable pub commitHeads : Edition → Host → ℕ → ℕ → List ℕ → List ℕ → List ℕ
@@ -92,19 +95,25 @@ unfoldable pub grown : Progress → Host → ℕ → Progress
 grown p h n = progress (p .end + n) 256 (p .since) (set (p .pending) (h .0) (getD (p .pending) (h .0) 0 + n))
 
 -- a host's commit or abort of n bytes
-unfoldable pub closed : Progress → Host → ℕ → Progress
-closed p h n = progress (p .end + n) 256 (set (p .since) (h .0) (p .end + n)) (set (p .pending) (h .0) 0)
+unfoldable pub ended : Progress → Host → ℕ → Progress
+ended p h n = progress (p .end + n) 256 (set (p .since) (h .0) (p .end + n)) (set (p .pending) (h .0) 0)
 
--- a settled frame of n bytes
-unfoldable pub passed : Progress → ObjectId → ℕ → Progress
-passed p i n = progress (p .end + n) (suc (i .0)) (p .since) (p .pending)
+-- a reset of n bytes: every host's list ends
+unfoldable pub endedAll : Progress → ℕ → Progress
+endedAll p n = progress (p .end + n) 256 (perHost (λ h. p .end + n)) (perHost (λ h. 0))
+
+-- a frame of n bytes that no list knows of, a settled or a closed one, and the least id that a settled frame may have after it
+unfoldable pub passed : Progress → ℕ → ℕ → Progress
+passed p next n = progress (p .end + n) next (p .since) (p .pending)
 
 unfoldable pub tookFrame : Edition → Progress → Head → Progress
 tookFrame ed p (head.Put h i n) = grown p h (putLen ed n)
 tookFrame ed p (head.Delete h i) = grown p h (deleteLen ed)
-tookFrame ed p (head.Commit h) = closed p h (endLen ed)
-tookFrame ed p (head.Abort h) = closed p h (endLen ed)
-tookFrame ed p (head.Settled i n) = passed p i (settledLen ed n)
+tookFrame ed p (head.Commit h) = ended p h (endLen ed)
+tookFrame ed p (head.Abort h) = ended p h (endLen ed)
+tookFrame ed p (head.Settled i n) = passed p (suc (i .0)) (settledLen ed n)
+tookFrame ed p (head.Closed n) = passed p 256 (closedLen n)
+tookFrame ed p head.Reset = endedAll p (resetLen ed)
 
 unfoldable pub tookPlaces : Edition → List ℕ → Progress → Head → List ℕ → List ℕ
 tookPlaces ed b p (head.Put h i n) t = t
@@ -112,6 +121,8 @@ tookPlaces ed b p (head.Delete h i) t = t
 tookPlaces ed b p (head.Commit h) t = recommit ed (take (p .end) b) h (getD (p .since) (h .0) 0) t
 tookPlaces ed b p (head.Abort h) t = t
 tookPlaces ed b p (head.Settled i n) t = set t (i .0) (p .end)
+tookPlaces ed b p (head.Closed n) t = t
+tookPlaces ed b p head.Reset t = t
 
 abbrev pub tailOf : ScanTail → Tail
 tailOf clean = tail.Clean

@@ -7,12 +7,12 @@ use lib.ListN.{length}
 use Rattle.frame.specs.declared.Edition.{Edition}
 use Rattle.frame.specs.declared.Field.the-variants as field
 use Rattle.frame.specs.Frame.{Frame, total}
-use Rattle.frame.specs.Reader.{fault, Tail, clean, cut, bad}
+use Rattle.frame.specs.Reader.{fault}
 use Rattle.survey.specs.declared.BlockKind.{BlockKind}
 use Rattle.survey.specs.declared.BlockKind.the-variants as kind
 use Rattle.survey.specs.declared.Survey.{Survey}
 use Rattle.journal.specs.Replay.{replay}
-use Rattle.journal.specs.Block.{headerLen, blockMax, BlockState, blank, inProgress, valid, foreign, blockState, editionOf, framesIn, timeIn}
+use Rattle.journal.specs.Block.{headerLen, blockMax, BlockState, blank, inProgress, valid, foreign, blockState, editionOf, framesIn, timeIn, tornLen}
 use Rattle.journal.specs.Room.{used, pendingOf}
 use Rattle.journal.specs.Index.{placesOf, sinceOf}
 
@@ -23,11 +23,6 @@ kindIn blank = kind.Blank
 kindIn inProgress = kind.InProgress
 kindIn (valid x) = kind.Valid
 kindIn (foreign e) = kind.Foreign e
-
-abbrev pub tornLen : Tail → ℕ
-tornLen clean = 0
-tornLen (cut n) = n
-tornLen (bad e) = 0
 
 abbrev pub tornIn : BlockState → ℕ
 tornIn blank = 0

@@ -3,7 +3,6 @@ ghost use mathlib.Core.Path.{_≡_};
 ghost use mathlib.Core.Option.{none};
 ghost use Prim.Native.Nat.{_≤_, _<_};
 ghost use lib.ListN.{length, replicate};
-ghost use Rattle.frame.specs.Frame.{settledLen};
 ghost use Rattle.frame.specs.Reader.{fault};
 ghost use Rattle.frame.specs.Code.{peekAt, valueLen};
 ghost use Rattle.frame.specs.declared.Field.the-variants.{Length};
@@ -93,15 +92,16 @@ fn walk(block: &[u8], edition: Edition, places: &mut [u16; 256]) -> Walk
     }
 }
 
-// How long the value of the frame at a place is, which was found whole before. A settled frame of it has at most 255 bytes.
+// How long the value of the frame at a place is, which was found whole before.
 fn length_at(block: &[u8], edition: Edition, place: u16) -> usize
-    ensures { λ r. ⌜ (r ≡ valueLen (peekAt edition (now (block .entry)) place)) × (settledLen edition r ≤ 255) ⌝ }
+    ensures { λ r. ⌜ r ≡ valueLen (peekAt edition (now (block .entry)) place) ⌝ }
 {
     frame::value_len(reader::peek(block, edition, place as usize))
 }
 
-// The settled objects that the places tell of.
+// The settled objects that the places tell of, whose U is at most a block's length.
 fn tally(block: &[u8], edition: Edition, places: &[u16; 256]) -> Tally
+    requires { ⌜ tallyOf edition (lengthsAt edition (now block) (now places) 256 0) .used ≤ blockMax ⌝ }
     ensures { λ r. ⌜ r ≡ tallyOf edition (lengthsAt edition (now (block .entry)) (now (places .entry)) 256 0) ⌝ }
 {
     let least = SETTLED_LEN as usize + frame::check_len(edition) as usize;
@@ -140,8 +140,9 @@ fn empty(kind: BlockKind) -> Survey
     }
 }
 
-// A valid block.
+// A valid block, with its places.
 fn found(block: &[u8], edition: Edition, places: &[u16; 256], p: Progress, torn: u16) -> Survey
+    requires { ⌜ tallyOf edition (lengthsAt edition (now block) (now places) 256 0) .used ≤ blockMax ⌝ }
     ensures { λ r. ⌜ r ≡ foundSurvey edition (now (block .entry)) (now (places .entry)) p torn ⌝ }
 {
     let t = tally(block, edition, places);

@@ -18,7 +18,7 @@ pub struct Progress {
     // where the next frame stands, and the least id that it may have if it is settled
     pub end: u16,
     pub next: usize,
-    // for each host the offset past its last commit or abort, and its pending frames' bytes
+    // for each host the offset past its last commit or abort, or a reset, and its pending frames' bytes
     pub since: [u16; 4],
     pub pending: [u16; 4],
 }
@@ -57,7 +57,7 @@ pub struct Survey {
     // where its whole frames end, and the length of a torn one after them, 0 for none
     pub end: u16,
     pub torn: u16,
-    // for each host the offset past its last commit or abort, and its pending frames' bytes
+    // for each host the offset past its last commit or abort, or a reset, and its pending frames' bytes
     pub since: [u16; 4],
     pub pending: [u16; 4],
     // settled objects, and U

@@ -4,7 +4,7 @@ ghost use Prim.Native.Nat.{ℕ, _+_, _≤_, _<_};
 ghost use lib.ListN.{length, getD, set};
 ghost use Rattle.frame.specs.Code.{headLen};
 ghost use Rattle.journal.specs.Block.{blockMax};
-ghost use Rattle.survey.specs.Pass.{placeHead, recommit, grown, closed, passed, tookFrame, tookPlaces};
+ghost use Rattle.survey.specs.Pass.{placeHead, recommit, grown, ended, endedAll, passed, tookFrame, tookPlaces};
 use crate::Progress;
 use frame::Edition;
 use frame::Head;
@@ -43,6 +43,8 @@ fn place_own(places: &mut [u16; 256], host: Host, at: u16, head: Head)
         Head::Commit(_) => return,
         Head::Abort(_) => return,
         Head::Settled(_, _) => return,
+        Head::Closed(_) => return,
+        Head::Reset => return,
     }
 }
 
@@ -77,9 +79,9 @@ fn grow(p: Progress, host: Host, n: u16) -> Progress
 }
 
 // A host's commit or abort of n bytes.
-fn close(p: Progress, host: Host, n: u16) -> Progress
+fn end_list(p: Progress, host: Host, n: u16) -> Progress
     requires { ⌜ p .end + n ≤ blockMax ⌝ }
-    ensures { λ r. ⌜ r ≡ closed p host n ⌝ }
+    ensures { λ r. ⌜ r ≡ ended p host n ⌝ }
 {
     let end = p.end + n;
     let old = p.since;
@@ -94,16 +96,30 @@ fn close(p: Progress, host: Host, n: u16) -> Progress
     }
 }
 
-// A settled frame of n bytes.
-fn settle(p: Progress, id: ObjectId, n: u16) -> Progress
+// A reset of n bytes: every host's list ends.
+fn end_all(p: Progress, n: u16) -> Progress
     requires { ⌜ p .end + n ≤ blockMax ⌝ }
-    ensures { λ r. ⌜ r ≡ passed p id n ⌝ }
+    ensures { λ r. ⌜ r ≡ endedAll p n ⌝ }
+{
+    let end = p.end + n;
+    Progress {
+        end: end,
+        next: 256,
+        since: [end, end, end, end],
+        pending: [0, 0, 0, 0],
+    }
+}
+
+// A frame of n bytes that no list knows of, after which settled ids start at `next`.
+fn pass_over(p: Progress, next: usize, n: u16) -> Progress
+    requires { ⌜ p .end + n ≤ blockMax ⌝ }
+    ensures { λ r. ⌜ r ≡ passed p next n ⌝ }
 {
     let since = p.since;
     let pending = p.pending;
     Progress {
         end: p.end + n,
-        next: id.0 as usize + 1,
+        next: next,
         since: since,
         pending: pending,
     }
@@ -130,12 +146,14 @@ pub fn take_frame(
             let since = fetch::of_host(all, host) as usize;
             let e = end as usize;
             commit_own(&block[..e], edition, host, since, places);
-            close(p, host, size)
+            end_list(p, host, size)
         }
-        Head::Abort(host) => close(p, host, size),
+        Head::Abort(host) => end_list(p, host, size),
         Head::Settled(id, _) => {
             store(places, id, end);
-            settle(p, id, size)
+            pass_over(p, id.0 as usize + 1, size)
         }
+        Head::Closed(_) => pass_over(p, 256, size),
+        Head::Reset => end_all(p, size),
     }
 }

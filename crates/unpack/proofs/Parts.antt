@@ -29,10 +29,10 @@ past : (k b : ℕ) → k ≤ b → (b ≡ k → ⊥) → suc k ≤ b
 past k b h n = omega arith
 
 pub no-phase : (b : ℕ) → (b ≡ 0 → ⊥) → (b ≡ 1 → ⊥) → (b ≡ 2 → ⊥) → (b ≡ 3 → ⊥) → (b ≡ 4 → ⊥) → (b ≡ 5 → ⊥) → (b ≡ 6 → ⊥) → (b ≡ 7 → ⊥)
-    → Unmounted ≡ phaseIn b
-no-phase b n0 n1 n2 n3 n4 n5 n6 n7 =
-    sym (List·getD-eq-default phases Unmounted (past 7 b (past 6 b (past 5 b (past 4 b (past 3 b (past 2 b (past 1 b (past 0 b
-    (omega arith) n0) n1) n2) n3) n4) n5) n6) n7))
+    → (b ≡ 8 → ⊥) → Unmounted ≡ phaseIn b
+no-phase b n0 n1 n2 n3 n4 n5 n6 n7 n8 =
+    sym (List·getD-eq-default phases Unmounted (past 8 b (past 7 b (past 6 b (past 5 b (past 4 b (past 3 b (past 2 b (past 1 b (past 0 b
+    (omega arith) n0) n1) n2) n3) n4) n5) n6) n7) n8))
 
 -- ---- a byte of a buffer
 

@@ -87,6 +87,7 @@ pub fn in_hand(n: Numbers, bytes: &[u8]) -> u8
             Stage::Seal => return 0,
             Stage::Drop => return 0,
             Stage::Append => return append_byte(bytes, cursor.index),
+            Stage::Close => return 0,
         },
     }
 }

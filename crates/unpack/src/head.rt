@@ -1,7 +1,7 @@
 // Where a record stands: all that a request or a read looks at.
 ghost use mathlib.Core.Path.{_≡_};
 ghost use Rattle.lent.specs.Layout.{recordIn};
-use crate::hosts_in;
+use crate::four_in;
 use crate::phase_in;
 use crate::tail;
 use crate::word_in;
@@ -18,7 +18,7 @@ pub fn phase_of(bytes: &[u8]) -> Phase
 pub fn rest_of(bytes: &[u8]) -> Rest
     ensures { λ r. ⌜ r ≡ recordIn (now (bytes .entry)) .rest ⌝ }
 {
-    let pending = hosts_in(tail(bytes, lent::PENDING_AT));
+    let pending = four_in(tail(bytes, lent::PENDING_AT));
     Rest {
         blocks: byte_at(bytes, lent::BLOCKS_AT),
         last: word_in(bytes, lent::LAST_AT),

@@ -67,6 +67,7 @@ fn phase_in(number: u8) -> Phase
         5 => Phase::Busy(Stage::Seal),
         6 => Phase::Busy(Stage::Drop),
         7 => Phase::Busy(Stage::Append),
+        8 => Phase::Busy(Stage::Close),
         _ => Phase::Unmounted,
     }
 }
@@ -100,8 +101,8 @@ fn places_in(bytes: &[u8]) -> [u16; 256]
     words
 }
 
-// A number for each host.
-fn hosts_in(bytes: &[u8]) -> [u16; 4]
+// Four words.
+fn four_in(bytes: &[u8]) -> [u16; 4]
     ensures { λ r. ⌜ r ≡ wordsIn 4 (now (bytes .entry)) ⌝ }
 {
     [
@@ -138,7 +139,8 @@ fn job_in(bytes: &[u8]) -> Job
 {
     let wipe = wipe_in(bytes);
     let plan = tail(bytes, MAX_BLOCKS);
-    let since = hosts_in(tail(plan, lent::SINCE_AT));
+    let since = four_in(tail(plan, lent::SINCE_AT));
+    let close = four_in(tail(plan, lent::CLOSE_AT));
     Job {
         wipe: wipe,
         wipes: byte_at(plan, 0),
@@ -149,6 +151,8 @@ fn job_in(bytes: &[u8]) -> Job
         since: since,
         size: byte_at(plan, lent::APPEND_AT),
         edition: byte_at(plan, lent::MAKES_AT),
+        closes: byte_at(plan, lent::CLOSES_AT),
+        close: close,
     }
 }
 

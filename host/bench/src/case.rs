@@ -1,9 +1,12 @@
 //! The images that are measured.
 
 use model::Model;
+use model::edition::Edition;
+use model::frame::closed_samples;
 use store::{Answer, Head, Idle, Store, message};
 
-/// A store at rest, and the same with one change of host 0 pending.
+/// A store at rest, and the same with one change of host 0 pending; with its commit torn behind it, after one byte; and with
+/// closed frames behind it, so that a mount has no room for a reset.
 pub struct Case {
     pub blocks: u8,
     pub fill: &'static str,
@@ -11,6 +14,8 @@ pub struct Case {
     pub rest_idle: Idle,
     pub pending: Vec<u8>,
     pub pending_idle: Idle,
+    pub torn: Vec<u8>,
+    pub crowded: Vec<u8>,
 }
 
 /// A board under the model, which builds the images.
@@ -81,7 +86,7 @@ pub fn sparse(length: usize, blocks: u8, edition: u8) -> Case {
 pub const OBJECT: usize = 64;
 
 /// As many such objects as leave room for one more put, none of them 255, and a journal with so few bytes left that such a
-/// put needs a transfer, and a put of one byte with its commit does not.
+/// put needs a transfer, and a put of one byte with its commit and a reset does not.
 pub fn full(length: usize, blocks: u8, edition: u8) -> Case {
     let mut builder = Builder::formatted(length, blocks, edition);
     let (change, end) = (3 + around(edition), 1 + around(edition));
@@ -91,7 +96,7 @@ pub fn full(length: usize, blocks: u8, edition: u8) -> Case {
         builder.serve(&message::put(id as u8, &[id as u8; OBJECT]));
         builder.serve(&message::commit());
     }
-    while builder.free() > 2 * (change + end) {
+    while builder.free() > 3 * (change + end) {
         builder.serve(&message::put(0, &[]));
         builder.serve(&message::abort());
     }
@@ -103,5 +108,27 @@ fn case(mut builder: Builder, fill: &'static str) -> Case {
     builder.serve(&message::put(0, &[1]));
     let pending_idle = builder.idle();
     assert_eq!(pending_idle.block, rest_idle.block, "no transfer");
-    Case { blocks: builder.blocks, fill, rest, rest_idle, pending: builder.image, pending_idle }
+    let (torn, crowded) = (torn(&builder), crowded(&builder));
+    Case { blocks: builder.blocks, fill, rest, rest_idle, pending: builder.image, pending_idle, torn, crowded }
+}
+
+/// Where the board's frames end in the image.
+fn end(builder: &Builder) -> usize {
+    usize::from(builder.idle().block) * builder.size() + usize::from(builder.idle().end)
+}
+
+fn torn(builder: &Builder) -> Vec<u8> {
+    let mut image = builder.image.clone();
+    image[end(builder)] = 1 + around(builder.idle().edition) as u8;
+    image
+}
+
+fn crowded(builder: &Builder) -> Vec<u8> {
+    let (mut image, mut at, until) = (builder.image.clone(), end(builder), end(builder) + builder.free());
+    let closed = closed_samples(Edition::ALL[usize::from(builder.idle().edition) - 1]);
+    while let Some(frame) = closed.iter().rfind(|frame| at + frame.len() <= until) {
+        image[at..at + frame.len()].copy_from_slice(frame);
+        at += frame.len();
+    }
+    image
 }

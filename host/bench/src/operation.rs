@@ -8,6 +8,7 @@ use store::{Answer, Idle, Store, message};
 #[derive(Clone, Copy)]
 pub enum Operation {
     Mount,
+    DirtyMount,
     Read,
     ReadNothing,
     Log,
@@ -21,13 +22,16 @@ pub enum Operation {
     Commit,
     Abort,
     Format,
+    Reset,
+    Closing,
     Transfer,
     TransferByRun,
 }
 
 /// One call each.
-pub const SINGLE: [(Operation, &str); 8] = [
+pub const SINGLE: [(Operation, &str); 9] = [
     (Operation::Mount, "mount, nothing to do"),
+    (Operation::DirtyMount, "mount, a change pending and a torn frame"),
     (Operation::Read, "read"),
     (Operation::ReadNothing, "read that finds nothing"),
     (Operation::Log, "log"),
@@ -38,13 +42,15 @@ pub const SINGLE: [(Operation, &str); 8] = [
 ];
 
 /// The request, mount or format and all its steps.
-pub const WHOLE: [(Operation, &str); 8] = [
+pub const WHOLE: [(Operation, &str); 10] = [
     (Operation::Put, "put of 64 bytes"),
     (Operation::PutByRun, "put of 64 bytes, by run"),
     (Operation::Delete, "delete"),
     (Operation::Commit, "commit"),
     (Operation::Abort, "abort"),
     (Operation::Format, "format"),
+    (Operation::Reset, "mount that drops a change"),
+    (Operation::Closing, "mount that also closes a torn frame"),
     (Operation::Transfer, "mount with a transfer"),
     (Operation::TransferByRun, "mount with a transfer, by run"),
 ];
@@ -55,6 +61,9 @@ const VALUE: [u8; OBJECT] = [7; OBJECT];
 pub fn once<S: Store>(store: &S, operation: Operation, case: &Case) -> (Duration, usize) {
     match operation {
         Operation::Mount => timed(|| assert_eq!(store.mount(black_box(&case.rest), case.blocks).0, Answer::DONE)),
+        Operation::DirtyMount => {
+            timed(|| assert_eq!(store.mount(black_box(&case.torn), case.blocks).0, Answer::MORE))
+        }
         Operation::Read => read(store, case, message::read(1), Answer::DONE),
         Operation::ReadNothing => read(store, case, message::read(255), Answer::NO_OBJECT),
         Operation::Log => {
@@ -76,8 +85,10 @@ pub fn once<S: Store>(store: &S, operation: Operation, case: &Case) -> (Duration
         Operation::Commit => serve(store, &case.pending, case.pending_idle, message::commit(), finish),
         Operation::Abort => serve(store, &case.pending, case.pending_idle, message::abort(), finish),
         Operation::Format => restart(store, &case.rest, case.blocks, S::format, finish),
-        Operation::Transfer => restart(store, &case.pending, case.blocks, S::mount, finish),
-        Operation::TransferByRun => restart(store, &case.pending, case.blocks, S::mount, run),
+        Operation::Reset => restart(store, &case.pending, case.blocks, S::mount, finish),
+        Operation::Closing => restart(store, &case.torn, case.blocks, S::mount, finish),
+        Operation::Transfer => restart(store, &case.crowded, case.blocks, S::mount, finish),
+        Operation::TransferByRun => restart(store, &case.crowded, case.blocks, S::mount, run),
     }
 }
 
@@ -101,7 +112,7 @@ fn steps_of_put<S: Store>(store: &S, case: &Case) -> (Duration, usize) {
 
 /// The mount before it does not count.
 fn run_of_transfer<S: Store>(store: &S, case: &Case) -> (Duration, usize) {
-    let mut image = case.pending.clone();
+    let mut image = case.crowded.clone();
     let (answer, mut record) = store.mount(&image, case.blocks);
     assert_eq!(answer, Answer::MORE);
     timed(|| assert!(run(store, &mut image, case.blocks, &mut record) > 0))

@@ -94,6 +94,7 @@ fn median(mut values: Vec<f64>) -> f64 {
 #[cfg(test)]
 mod tests {
     use super::*;
+    use store::Head;
 
     /// Each operation asserts what it is answered; both stores make as many steps.
     #[test]
@@ -103,6 +104,23 @@ mod tests {
                 let [(_, plain), (_, model)] = [once(&Plain, operation, &case), once(&Model, operation, &case)];
                 assert_eq!(plain, model, "{name}, {} blocks in {} bytes", case.blocks, case.rest.len());
             }
+        }
+    }
+
+    /// A reset of 5 bytes, in edition 2 of 9; four more close a torn frame; a transfer ends in the next block.
+    #[test]
+    fn dirty_mounts_are_what_they_are_called() {
+        for case in cases() {
+            let reset = if case.rest_idle.edition == 2 { 9 } else { 5 };
+            let mounted = |image: &[u8]| {
+                let (mut image, (_, mut record)) = (image.to_vec(), Model.mount(image, case.blocks));
+                let steps = Model.run(&mut image, case.blocks, &mut record, usize::MAX).1;
+                let Head::Idle(idle) = Model.head(&record) else { panic!("idle") };
+                (steps, idle.block)
+            };
+            let block = case.rest_idle.block;
+            assert_eq!([mounted(&case.pending), mounted(&case.torn)], [(reset, block), (4 + reset, block)]);
+            assert_eq!(mounted(&case.crowded).1, (block + 1) % case.blocks);
         }
     }
 }

@@ -39,10 +39,15 @@ pub struct Lengths {
     pub change: usize,
     pub settled: usize,
     pub reserve: usize,
+    pub reset: usize,
 }
 
-pub const FIRST: Lengths = Lengths { mark: 6, change: 8, settled: 7, reserve: 14 };
-pub const SECOND: Lengths = Lengths { mark: 10, change: 12, settled: 11, reserve: 22 };
+pub const FIRST: Lengths = Lengths { mark: 6, change: 8, settled: 7, reserve: 14, reset: 5 };
+pub const SECOND: Lengths = Lengths { mark: 10, change: 12, settled: 11, reserve: 22, reset: 9 };
+
+pub fn lengths(edition: u8) -> Lengths {
+    if edition == 1 { FIRST } else { SECOND }
+}
 
 enum UnderWay {
     Commit(usize),

@@ -1,14 +1,14 @@
-//! Power cuts after every step of a job and inside its erases, in every recovery from them, in every recovery from those,
-//! and so on.
+//! Power cuts after every step of a job and inside its erases, in every recovery from them, and in every recovery from
+//! those.
 
 use crate::book::{Lists, Objects, found};
+use crate::mend::{Due, current};
 use crate::raise;
 use crate::rng::Rng;
 use crate::side::{Modelled, Stores};
 use crate::twin::{Call, Twin};
 use library::Library;
-use model::block::{self, Block, Journal};
-use model::{Model, cut};
+use model::Model;
 use plain::Plain;
 use std::collections::{HashSet, VecDeque};
 use std::hash::{DefaultHasher, Hasher};
@@ -32,17 +32,25 @@ pub enum Allowed<'a> {
 /// How many images are tried that a cut inside an erase of the job leaves. In a recovery it is one, or none.
 const RAISED: usize = 6;
 
-/// An image that a cut left, and whether it fell inside an erase.
+/// How many cuts there are one in the other's recovery. There is no last one of its own: a reset that is cut is closed, and
+/// another comes behind it, which may be cut.
+const DEEP: usize = 3;
+
+/// An image that a cut left, whether it fell inside an erase, and how many cuts there were.
 struct Left {
     image: Vec<u8>,
     inside: bool,
+    cuts: usize,
 }
 
 pub struct Cuts<M: Modelled = Model, L: Drive = Library, P: Store = Plain> {
     pub twin: Twin<M, L, P>,
     rng: Rng,
-    /// The most images to recover from after one job; if there may be more, cuts are made at only some steps.
+    /// The most images to recover from after one job; if there may be more, cuts are made at only some steps, and chance says
+    /// which images are recovered from.
     most: usize,
+    /// The steps of the job begun last.
+    steps: usize,
     pub cuts: u64,
     /// How many of them fell inside an erase.
     pub inside: u64,
@@ -57,49 +65,59 @@ impl Cuts {
 impl<M: Modelled, L: Drive, P: Store> Cuts<M, L, P> {
     pub fn among(stores: Stores<M, L, P>, blocks: u8, length: usize, most: usize, seed: u64) -> Self {
         let twin = Twin::among(stores, blocks, &vec![0xFF; length]);
-        Cuts { twin, rng: Rng::new(seed), most, cuts: 0, inside: 0 }
+        Cuts { twin, rng: Rng::new(seed), most, steps: 0, cuts: 0, inside: 0 }
     }
 
     /// Cuts the job everywhere: up to its last step `before` must be found, after it `after`.
     pub fn of_job(&mut self, start: &Start, before: Allowed, after: &Objects) {
         let mut seen = HashSet::new();
-        let mut images = self.images(start, RAISED, &mut seen).expect("an accepted call");
+        let mut images = self.images(start, 1, RAISED, &mut seen).expect("an accepted call");
         let finished = self.twin.image().to_vec();
-        // a job may end with an image seen before: the format of a store just formatted does
+        // a job may end with an image seen before: the format of a store just formatted does; no recovery may, unless what is
+        // found before and after is the same
         if images.last().is_some_and(|left| left.image == finished) {
             images.pop();
+            seen.remove(&digest(&finished));
         }
         // an image without a store, which a cut format may leave, must not be left by a mount
         let seen = if matches!(before, Allowed::OrGone(_)) { HashSet::new() } else { seen };
         self.recover(images, seen, before);
-        let last = Left { image: finished, inside: false };
+        let last = Left { image: finished, inside: false, cuts: 1 };
         self.recover(vec![last], HashSet::new(), Allowed::Exactly(after));
     }
 
     /// The images not seen so far before the first step and after each, or after some, and so many that cuts inside each
-    /// erase leave; or the call's refusal. A cut inside a format's erase is no part of a run.
-    fn images(&mut self, start: &Start, raised: usize, seen: &mut HashSet<u64>) -> Result<Vec<Left>, Answer> {
+    /// erase leave; or the call's refusal. A cut inside a format's erase is no part of a run. With these there were so many
+    /// cuts.
+    fn images(
+        &mut self,
+        start: &Start,
+        cuts: usize,
+        raised: usize,
+        seen: &mut HashSet<u64>,
+    ) -> Result<Vec<Left>, Answer> {
         self.begin(start)?;
+        self.steps = self.twin.steps_left();
         let mut images = Vec::new();
-        keep(self.twin.image(), false, &mut images, seen);
-        let stride = self.twin.steps_left() * 2 / self.most + 1;
+        keep(Left { image: self.twin.image().to_vec(), inside: false, cuts }, &mut images, seen);
+        let stride = self.steps * 2 / self.most + 1;
         for step in 1.. {
             if !self.twin.busy() {
                 break;
             }
             if *start.call != Call::Format {
-                self.raise(raised, &mut images, seen);
+                self.raise(cuts, raised, &mut images, seen);
             }
             assert!(!self.twin.step().refused());
             if step % stride == 0 || step < 3 || self.twin.steps_left() < 3 {
-                keep(self.twin.image(), false, &mut images, seen);
+                keep(Left { image: self.twin.image().to_vec(), inside: false, cuts }, &mut images, seen);
             }
         }
         Ok(images)
     }
 
     /// If the next step is an erase, some images that a cut inside it leaves. In none does its block look newer.
-    fn raise(&mut self, raised: usize, images: &mut Vec<Left>, seen: &mut HashSet<u64>) {
+    fn raise(&mut self, cuts: usize, raised: usize, images: &mut Vec<Left>, seen: &mut HashSet<u64>) {
         let Some(block) = self.twin.erases_next() else { return };
         let (size, newest) = (self.twin.size(), self.newest(self.twin.image()));
         for _ in 0..raised {
@@ -108,7 +126,7 @@ impl<M: Modelled, L: Drive, P: Store> Cuts<M, L, P> {
             let mask = raise::mask(&mut self.rng, bytes);
             bytes.iter_mut().zip(mask).for_each(|(byte, bits)| *byte |= bits);
             assert_eq!(self.newest(&image), newest, "a block looks newer, half erased");
-            keep(&image, true, images, seen);
+            keep(Left { image, inside: true, cuts }, images, seen);
         }
     }
 
@@ -125,28 +143,35 @@ impl<M: Modelled, L: Drive, P: Store> Cuts<M, L, P> {
     fn recover(&mut self, images: Vec<Left>, mut seen: HashSet<u64>, allowed: Allowed) {
         let mut images: VecDeque<(Left, Allowed)> = images.into_iter().map(|left| (left, allowed)).collect();
         for _ in 0..self.most {
-            let Some((Left { image, inside }, allowed)) = images.pop_front() else { break };
+            let some = if self.most < usize::MAX { self.rng.below(images.len().max(1)) } else { 0 };
+            let Some((Left { image, inside, cuts }, allowed)) = images.swap_remove_front(some) else { break };
             self.cuts += 1;
             self.inside += u64::from(inside);
+            let start = Start { image: &image, idle: None, call: &Call::Mount };
             let raised = usize::from(self.rng.once_in(2));
-            match self.images(&Start { image: &image, idle: None, call: &Call::Mount }, raised, &mut seen) {
+            match self.images(&start, cuts + 1, raised, &mut seen) {
                 Err(refusal) => self.judge_refusal(refusal, &image, allowed),
                 Ok(reached) => {
-                    let objects = self.judge(allowed);
-                    images.extend(reached.into_iter().map(|left| (left, Allowed::Exactly(objects))));
+                    let objects = self.judge(&image, allowed);
+                    let reached = reached.into_iter().filter(|left| left.cuts <= DEEP);
+                    images.extend(reached.map(|left| (left, Allowed::Exactly(objects))));
                 }
             }
         }
     }
 
-    /// The objects that were to be found, and are.
-    fn judge<'a>(&mut self, allowed: Allowed<'a>) -> &'a Objects {
+    /// The objects that were to be found, and are; in the block where they were to be, mended or transferred.
+    fn judge<'a>(&mut self, image: &[u8], allowed: Allowed<'a>) -> &'a Objects {
         let idle = self.twin.idle().expect("a mount whose steps are all made ends idle");
         let (objects, lists) = found(self.twin.block(usize::from(idle.block)));
         assert_eq!(lists, Lists::default(), "something is pending after a mount");
         assert_eq!(idle.pending, [0; 4], "the record says that something is");
         let (Allowed::Exactly(expected) | Allowed::OrGone(expected)) = allowed;
         assert_eq!(objects, *expected, "a mount found other objects");
+        let due = Due::of(image, self.twin.blocks).expect("a current block");
+        let ends = (usize::from(idle.block), usize::from(idle.end));
+        assert_eq!(ends, due.rest(self.twin.blocks), "a mount ends in another block or at another place");
+        assert_eq!(self.steps, due.steps(), "a mount has another number of steps");
         expected
     }
 
@@ -166,29 +191,20 @@ impl<M: Modelled, L: Drive, P: Store> Cuts<M, L, P> {
 }
 
 /// Keeps the image unless it was seen.
-fn keep(image: &[u8], inside: bool, images: &mut Vec<Left>, seen: &mut HashSet<u64>) {
-    if seen.insert(digest(image)) {
-        images.push(Left { image: image.to_vec(), inside });
+fn keep(left: Left, images: &mut Vec<Left>, seen: &mut HashSet<u64>) {
+    if seen.insert(digest(&left.image)) {
+        images.push(left);
     }
 }
 
 /// The largest time of the valid blocks.
 pub fn newest(image: &[u8], blocks: u8) -> Option<u32> {
-    current(image, blocks).map(|journal| journal.time)
+    current(image, blocks).map(|(_, journal)| journal.time)
 }
 
 /// Whether a mount would need a transfer at the last time.
 pub fn stuck(image: &[u8], blocks: u8) -> bool {
-    let dirty = |journal: &Journal| journal.torn || !block::replay(journal).pending.is_empty();
-    current(image, blocks).is_some_and(|journal| journal.time == u32::MAX && dirty(&journal))
-}
-
-fn current(image: &[u8], blocks: u8) -> Option<Journal> {
-    let journal = |bytes| match block::read(bytes) {
-        Block::Valid(journal) => Some(journal),
-        _ => None,
-    };
-    cut(image, blocks).into_iter().filter_map(journal).max_by_key(|journal| journal.time)
+    Due::of(image, blocks).is_some_and(|due| due.worn())
 }
 
 fn digest(image: &[u8]) -> u64 {

@@ -3,6 +3,7 @@
 use crate::blocks;
 use crate::edition;
 use crate::generate::{self, Manner, Wish};
+use crate::mend::Due;
 use crate::pending;
 use crate::raise;
 use crate::rng::Rng;
@@ -17,9 +18,7 @@ use store::{Answer, Drive, Idle, Store, message};
 /// Tries one image: mounts it, then asks under forged records.
 pub fn try_image<M: Modelled, L: Drive, P: Store>(twin: &mut Twin<M, L, P>, rng: &mut Rng, image: &[u8]) {
     twin.load(image);
-    if twin.whole(&Call::Mount) == (Answer::DONE, 0) {
-        assert_eq!(twin.image(), image, "no steps, yet the image changed");
-    }
+    mount(twin, image);
     for id in 0..IDS as u8 {
         twin.call(&Call::Read { host: 0, message: message::read(id) });
     }
@@ -36,6 +35,21 @@ pub fn try_image<M: Modelled, L: Drive, P: Store>(twin: &mut Twin<M, L, P>, rng:
     }
     if rng.once_in(3) {
         cut_erases(twin, rng, image);
+    }
+}
+
+/// A mount does what the image asks for, in as many steps.
+fn mount<M: Modelled, L: Drive, P: Store>(twin: &mut Twin<M, L, P>, image: &[u8]) {
+    let (due, (answer, steps)) = (Due::of(image, twin.blocks), twin.whole(&Call::Mount));
+    match (answer, due) {
+        (Answer::DONE, Some(due)) => {
+            let ends = twin.idle().map(|idle| (usize::from(idle.block), usize::from(idle.end)));
+            assert_eq!((steps, ends), (due.steps(), Some(due.rest(twin.blocks))), "a mount does something else");
+            assert!(steps > 0 || twin.image() == image, "no steps, yet the image changed");
+            twin.tally.count_mend(Some(due.mending.name()));
+        }
+        (Answer::WORN, Some(due)) => assert!(due.worn()),
+        _ => assert!([Answer::FOREIGN, Answer::NO_STORE].contains(&answer), "mount answered {answer}"),
     }
 }
 
@@ -198,21 +212,57 @@ fn settled_frame(rng: &mut Rng, edition: Edition, id: u8, most: usize) -> Vec<u8
 fn journal_frame(rng: &mut Rng, edition: Edition, most: usize) -> Vec<u8> {
     let host = Host(rng.below(4) as u8);
     let id = Id(rng.below(IDS) as u8);
-    match rng.below(20) {
+    match rng.below(24) {
         0..=8 => frame::put(edition, host, id, &value(rng, most)),
         9..=11 => frame::delete(edition, host, id),
         12..=16 => frame::commit(edition, host),
         17..=18 => frame::abort(edition, host),
+        19 => frame::reset(edition),
+        20..=22 => closed_frame(rng, edition, most),
         _ if rng.once_in(10) => settled_frame(rng, edition, id.0, most),
         _ => frame::delete(edition, host, id),
     }
 }
 
+/// A closed frame: one that was torn, or one that no store wrote, of any body, and now and then of a length that none has.
+fn closed_frame(rng: &mut Rng, edition: Edition, most: usize) -> Vec<u8> {
+    let put = frame::put(edition, Host(1), Id(2), &value(rng, most));
+    let short = [frame::reset(edition), frame::commit(edition, Host(3)), frame::delete(edition, Host(0), Id(1))];
+    let torn = if rng.once_in(2) { &put } else { &short[rng.below(3)] };
+    let mut bytes = if rng.once_in(2) { closing(rng, torn) } else { rng.bytes(torn.len()) };
+    if rng.once_in(20) {
+        bytes.resize(edition.settled(), 0xFF);
+    }
+    let length = bytes.len();
+    bytes[..4].copy_from_slice(&[length as u8, 0, 0, 0]);
+    bytes[length - 1] = frame::FINISH;
+    bytes
+}
+
+/// A frame that was torn, and closed up to some step or by bytes that no closing leaves.
+fn closing(rng: &mut Rng, frame: &[u8]) -> Vec<u8> {
+    let mut bytes = frame[..1 + rng.below(frame.len() - 1)].to_vec();
+    bytes.resize(frame.len(), 0xFF);
+    bytes[1..1 + rng.below(4)].fill(0);
+    match rng.below(8) {
+        0 => bytes[4..frame.len() - 1].fill(rng.byte()),
+        1 => bytes[3] = rng.pick(&[0xFF, 0xFE, 0x01]),
+        2 => bytes[0] = rng.pick(&[4, 5, 6, 7, 8, 9, 10, 11, 12, 249, 253]),
+        3 => bytes[frame.len() - 1] = rng.pick(&[0xFE, 0xFC]),
+        _ => {}
+    }
+    bytes
+}
+
 /// The last frame, in part or whole, has a value of at most so many bytes.
 fn tail(rng: &mut Rng, edition: Edition, block: &mut Vec<u8>, size: usize, most: usize) {
     let last = journal_frame(rng, edition, most);
-    match rng.below(10) {
+    match rng.below(12) {
         0..=1 => block.extend(&last[..rng.below(last.len())]),
+        10..=11 => {
+            block.extend(closing(rng, &last));
+            block.truncate(size);
+        }
         2 => {
             let mut torn = last[..rng.below(last.len())].to_vec();
             if let Some(byte) = torn.last_mut() {
@@ -230,14 +280,14 @@ fn tail(rng: &mut Rng, edition: Edition, block: &mut Vec<u8>, size: usize, most:
     }
 }
 
-/// Frames up to the block's very end, or a frame that is one byte too long for it.
+/// Frames up to the block's very end or so far that a reset just fits, or one byte more.
 fn fill_to(rng: &mut Rng, edition: Edition, block: &mut Vec<u8>, size: usize) {
     let host = Host(rng.below(4) as u8);
     while size - block.len() > VALUE_LIMIT + 2 * edition.change() {
         block.extend(frame::put(edition, host, Id(1), &[0xFF; VALUE_LIMIT]));
         block.extend(frame::commit(edition, host));
     }
-    let rest = size - block.len();
+    let rest = (size - block.len()).saturating_sub(rng.pick(&[0, 0, edition.reset()]));
     if rest >= edition.change() {
         let value = (rest - edition.change() + rng.below(2)).min(VALUE_LIMIT);
         block.extend(frame::put(edition, host, Id(2), &vec![0xFE; value]));
@@ -254,7 +304,10 @@ pub fn harm(rng: &mut Rng, image: &mut [u8], size: usize) {
         1 => image[at] &= rng.byte(),
         2 => image[at] |= rng.byte(),
         3 => image[at] = image[at].wrapping_add(rng.pick(&[1, 255])),
-        4 => image[at] = rng.pick(&[0x00, 0x01, 0x04, 0x06, 0x07, 0x08, 0xF7, 0xF8, 0xF9, 0xFC, 0xFE, 0xFF]),
+        4 => {
+            image[at] =
+                rng.pick(&[0x00, 0x01, 0x04, 0x05, 0x06, 0x07, 0x08, 0x09, 0xF7, 0xF8, 0xF9, 0xFC, 0xFE, 0xFF])
+        }
         5 => image[at..base + size].fill(0xFF),
         6 => image[base + block::TIME..base + block::STATE]
             .copy_from_slice(&(!rng.pick(&[0, u32::MAX])).to_le_bytes()),

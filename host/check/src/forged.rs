@@ -3,7 +3,7 @@
 
 use library::{EDITION, JOB, LONGEST, RECORD_SIZE, Record};
 use model::edition::Edition;
-use model::frame::{self, Body, Frame, Host, Id};
+use model::frame::{self, Body, FINISH, Frame, Host, Id};
 use model::job::Step;
 use std::ops::Range;
 use store::Answer;
@@ -15,6 +15,7 @@ const COPY: u8 = 4;
 const SEAL: u8 = 5;
 const DROP: u8 = 6;
 const APPEND: u8 = 7;
+const CLOSE: u8 = 8;
 
 const LENGTH: usize = 1;
 const BLOCK: usize = 3;
@@ -22,7 +23,8 @@ const END: usize = 4;
 const BLOCKS: usize = 6;
 const PLACES: usize = EDITION + 1;
 /// Which blocks are erased first, and how many; whether a block is made, and the old one erased after; the block made, its
-/// time, from where on each host's changes are pending, the length of the frame to append, the edition of the block made.
+/// time, from where on each host's changes are pending, the length of the frame to append, the edition of the block made, how
+/// many bytes of a torn frame are programmed, and their offsets.
 const LIST: Range<usize> = JOB.start..JOB.start + 16;
 const WIPES: usize = LIST.end;
 const MOVES: usize = WIPES + 1;
@@ -32,9 +34,11 @@ const TIME: usize = TARGET + 1;
 const SINCE: usize = TIME + 4;
 const SIZE: usize = SINCE + 8;
 const MAKES: usize = SIZE + 1;
+const CLOSES: usize = MAKES + 1;
+const CLOSING: Range<usize> = CLOSES + 1..CLOSES + 9;
 /// The step of the stage; the next offset of the block made; the next id and the next place of a frame to copy; the length of
 /// the frame that is copied, and its next byte.
-const INDEX: usize = MAKES + 1;
+const INDEX: usize = CLOSING.end;
 const AT: usize = INDEX + 1;
 const ID: usize = AT + 2;
 const SOURCE: usize = ID + 2;
@@ -96,6 +100,10 @@ fn next(length: usize, blocks: u8, record: &Record) -> Option<Step> {
         SEAL if index < 4 => program(record[TARGET], 4 + index, !record[TIME + index]),
         SEAL => program(record[TARGET], 8, 0xFC),
         DROP => erase(record[BLOCK]),
+        CLOSE => {
+            let at = CLOSING.step_by(2).nth(index).map_or(0, |at| short(record, at));
+            program(record[BLOCK], at, if index + 1 == usize::from(record[CLOSES]) { FINISH } else { 0 })
+        }
         _ => program(record[BLOCK], short(record, END) + index, byte(FRAME, index)),
     }
 }
@@ -107,6 +115,7 @@ fn advance(image: &[u8], record: &mut Record) {
         OPEN | SEAL => WRITES,
         COPY => return copied(image, record),
         DROP => return land(record),
+        CLOSE => record[CLOSES],
         _ => record[SIZE],
     };
     if u16::from(record[INDEX]) + 1 < u16::from(last) {
@@ -115,7 +124,8 @@ fn advance(image: &[u8], record: &mut Record) {
     }
     match record[0] {
         WIPE if record[MOVES] > 0 => enter(OPEN, record),
-        WIPE => enter_append(record),
+        WIPE if record[CLOSES] > 0 => enter(CLOSE, record),
+        WIPE | CLOSE => enter_append(record),
         OPEN => enter_copy(image, record),
         SEAL if record[DROPS] > 0 => enter(DROP, record),
         SEAL => land(record),

@@ -9,6 +9,7 @@ pub mod edition;
 pub mod fault;
 pub mod forged;
 pub mod generate;
+pub mod mend;
 pub mod nor;
 pub mod pending;
 pub mod raise;

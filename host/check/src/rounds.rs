@@ -24,17 +24,18 @@ pub struct Sum {
     pub even: [usize; 17],
 }
 
-const EVERYWHERE: usize = usize::MAX;
+/// The most recoveries after a job that is cut in a small image.
+const MANY: usize = 400;
 
 /// Number of blocks, length, calls, one job in so many cut, the most recoveries after it, whether the journal is filled
 /// first.
 type Kind = (u8, usize, usize, usize, usize, bool);
 
 const TWO: [Kind; 11] = [
-    (2, 512, 800, 15, EVERYWHERE, false),
+    (2, 512, 800, 15, MANY, false),
     (2, 512, 3_000, 0, 0, false),
-    (2, 768, 500, 40, EVERYWHERE, false),
-    (2, 1_024, 500, 60, EVERYWHERE, false),
+    (2, 768, 500, 40, MANY, false),
+    (2, 1_024, 500, 60, MANY, false),
     (2, 2_816, 600, 40, 100, true),
     (2, 4_096, 600, 20, 100, false),
     (2, 33_024, 150, 0, 0, false),
@@ -45,8 +46,8 @@ const TWO: [Kind; 11] = [
 ];
 
 const MORE: [Kind; 18] = [
-    (3, 768, 800, 20, EVERYWHERE, false),
-    (4, 1_024, 500, 40, EVERYWHERE, false),
+    (3, 768, 800, 20, MANY, false),
+    (4, 1_024, 500, 40, MANY, false),
     (7, 2_688, 500, 40, 400, false),
     (16, 4_096, 400, 30, 400, false),
     (3, 1_152, 2_000, 0, 0, false),
@@ -130,7 +131,7 @@ impl<M: Modelled, L: Drive, P: Store, F: Fn() -> Stores<M, L, P>> Rounds<F> {
     /// A run that begins at one of the last four times.
     fn late_run(&mut self, blocks: u8, seed: u64, number: u64) {
         let (seed, time, length) = (seed + number, u32::MAX - number as u32 % 4, 256 * usize::from(blocks));
-        let (calls, cut_jobs, most_cuts) = (200, 15, EVERYWHERE);
+        let (calls, cut_jobs, most_cuts) = (200, 15, MANY);
         self.run(Plan { seed, blocks, length, calls, time, cut_jobs, most_cuts, filled: false, calm: false });
     }
 

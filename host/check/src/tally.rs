@@ -7,7 +7,8 @@ use store::{Answer, Fault, Field, message};
 
 /// How often each call got each answer, how often with a value of each length (the one put, or the one found), how often
 /// each block was said to have broken in each field, how many records were refused for their pending bytes alone and for
-/// their edition alone, how many idle records of a run were of edition 2, and how many of tight stores.
+/// their edition alone, how many idle records of a run were of edition 2, and how many of tight stores; what mounts of runs
+/// did, and where they were cut.
 #[derive(Default)]
 pub struct Tally {
     answers: BTreeMap<(&'static str, u8), u64>,
@@ -17,6 +18,7 @@ pub struct Tally {
     pub editions: u64,
     pub second: u64,
     pub tight: u64,
+    mends: BTreeMap<&'static str, u64>,
 }
 
 impl Tally {
@@ -34,6 +36,12 @@ impl Tally {
         }
     }
 
+    pub fn count_mend(&mut self, what: Option<&'static str>) {
+        if let Some(what) = what {
+            *self.mends.entry(what).or_default() += 1;
+        }
+    }
+
     pub fn add(&mut self, other: &Tally) {
         self.pending += other.pending;
         self.editions += other.editions;
@@ -47,6 +55,9 @@ impl Tally {
         }
         for (key, count) in &other.faults {
             *self.faults.entry(*key).or_default() += count;
+        }
+        for (key, count) in &other.mends {
+            *self.mends.entry(*key).or_default() += count;
         }
     }
 
@@ -62,6 +73,11 @@ impl Tally {
     /// How often this block was said to have broken in this field.
     pub fn faults(&self, block: usize, field: Field) -> u64 {
         self.faults.get(&(block, field)).copied().unwrap_or(0)
+    }
+
+    /// How many mounts of runs did this, or were cut there.
+    pub fn mends(&self, what: &'static str) -> u64 {
+        self.mends.get(&what).copied().unwrap_or(0)
     }
 
     pub fn calls(&self) -> u64 {
@@ -88,6 +104,9 @@ impl fmt::Display for Tally {
         }
         for ((block, field), count) in &self.faults {
             writeln!(f, "  block {block}: {field:6}  {count}")?;
+        }
+        for (what, count) in &self.mends {
+            writeln!(f, "  mount, {what}  {count}")?;
         }
         writeln!(f, "  11 for pending bytes  {}", self.pending)?;
         writeln!(f, "  11 for the edition  {}", self.editions)?;

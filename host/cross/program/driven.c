@@ -35,6 +35,41 @@ static void fill_block(uint32_t size)
     }
 }
 
+/* Mounts that drop a change, that close a torn frame, and that do both. */
+static void mend_block(const struct message *put)
+{
+    for (int what = 1; what <= 3; what++) {
+        if (what & 1)
+            ask_beside(3, put);
+        if (what & 2) {
+            must(ask(2, put) == GROMMETIDE_MORE);
+            step_beside();
+        }
+        lose_record(&here);
+        finish_beside(call_mount(&here));
+    }
+}
+
+/* Something is pending, and closed frames of 12 to 23 bytes leave a mount no room for a reset: it makes a transfer. */
+static void fill_up(void)
+{
+    const struct message delete = message_of(DELETE, 9, NULL, 0);
+    const uint32_t size = here.len / here.blocks;
+    uint32_t end;
+    uint8_t *bytes;
+    ask_beside(1, &delete);
+    end = here.record[4] + 256u * here.record[5];
+    bytes = here.image + size * here.record[3];
+    while (size - end >= 12) {
+        const uint32_t len = size - end < 24 ? size - end : 12;
+        const uint8_t head[] = {(uint8_t)len, 0, 0, 0};
+        copy(bytes + end, head, 4);
+        bytes[end + len - 1] = 0xFE;
+        end += len;
+    }
+    event("closed frames up to the block's end");
+}
+
 static void all_jobs(uint32_t len, uint8_t blocks)
 {
     const struct message put = put_of(7, "pending"), convert = bare(CONVERT);
@@ -42,16 +77,11 @@ static void all_jobs(uint32_t len, uint8_t blocks)
     must(call_mount(&here) == GROMMETIDE_NO_STORE);
     finish_beside(call_format(&here));
     fill_block(len / blocks);
-    ask_beside(3, &put);
-    lose_record(&here);
-    finish_beside(call_mount(&here));
-    must(ask(3, &put) == GROMMETIDE_MORE);
-    step_beside();
-    lose_record(&here);
-    finish_beside(call_mount(&here));
+    mend_block(&put);
     ask_beside(0, &convert);
     must(here.record[EDITION] == 2);
-    ask_beside(3, &put);
+    mend_block(&put);
+    fill_up();
     lose_record(&here);
     finish_beside(call_mount(&here));
     finish_beside(call_format(&here));

@@ -1,7 +1,7 @@
 /* Journals as a store might have left them, and such that are foreign in one field. */
 #include "program.h"
 
-enum { HEADER = 16, SETTLED = 5, FRAME_MAX = 260 };
+enum { HEADER = 16, SETTLED = 5, RESET = 7, FRAME_MAX = 260 };
 
 /* The length of a frame's value: most are short, some near the longest that there may be. */
 static uint32_t value_len(void)
@@ -27,7 +27,7 @@ static uint32_t frame(uint8_t *to, uint8_t edition, uint8_t kind, uint8_t id)
     const uint32_t value = kind == PUT || kind == SETTLED ? value_len() : 0;
     const uint8_t host = (uint8_t)below(4);
     uint32_t at = 4;
-    if (kind != SETTLED)
+    if (kind != SETTLED && kind != RESET)
         to[at++] = host;
     if (kind == PUT || kind == DELETE || kind == SETTLED) {
         to[at++] = id;
@@ -45,6 +45,16 @@ static uint32_t frame(uint8_t *to, uint8_t edition, uint8_t kind, uint8_t id)
     }
     to[at++] = 0xFE;
     return at;
+}
+
+/* A frame that was torn and closed: its kind is 0, its finish byte there, or not yet; its body may be any. */
+static void close_frame(uint8_t *bytes, uint32_t len, int whole)
+{
+    for (uint32_t i = 4; one_in(2) && i + 1 < len; i++)
+        bytes[i] = (uint8_t)(one_in(2) ? 0xFF : any());
+    bytes[2] = 0;
+    bytes[3] = whole || one_in(2) ? 0 : 0xFF;
+    bytes[len - 1] = whole ? 0xFE : 0xFF;
 }
 
 /* A field becomes another by a little: in the length, the kind, the host, the id, the checksum or the finish byte. */
@@ -71,6 +81,12 @@ struct plan {
     uint8_t kinds; /* puts and deletes, or commits and aborts too */
 };
 
+/* The kind of a frame that is no settled one. */
+static uint8_t any_kind(const struct plan *plan)
+{
+    return (uint8_t)(one_in(12) ? RESET : 1 + below(plan->kinds));
+}
+
 static struct plan any_plan(uint32_t size)
 {
     struct plan plan;
@@ -90,14 +106,16 @@ static uint32_t journal(uint8_t *block, uint32_t size)
     uint8_t id = (uint8_t)below(3), edition = (uint8_t)(1 + below(2));
     header(block, edition);
     for (uint32_t i = 0; i <= plan.frames; i++) {
-        uint32_t len = frame(bytes, edition, i < plan.settled ? SETTLED : (uint8_t)(1 + below(plan.kinds)), id);
+        uint32_t len = frame(bytes, edition, i < plan.settled ? SETTLED : any_kind(&plan), id);
         id = (uint8_t)(id + !one_in(60) + (one_in(4) ? below(90) : 0));
-        if (i == plan.bad)
+        if (i >= plan.settled && one_in(8))
+            close_frame(bytes, len, i < plan.frames);
+        else if (i == plan.frames)
+            len = one_in(2) ? 0 : below(len);
+        if (i == plan.bad && len != 0)
             spoil(bytes, len);
         if (len > size - at)
             break;
-        if (i == plan.frames)
-            len = one_in(2) ? 0 : below(len);
         copy(block + at, bytes, len);
         at += i == plan.frames ? 0 : len;
     }
@@ -113,6 +131,8 @@ void count_pending(const uint8_t *block, uint32_t end, uint8_t *counts)
             bytes[host] += block[at];
         else if (kind == COMMIT || kind == ABORT)
             bytes[host] = 0;
+        else if (kind == RESET)
+            bytes[0] = bytes[1] = bytes[2] = bytes[3] = 0;
     }
     for (uint32_t host = 0; host < 4; host++) {
         counts[2 * host] = (uint8_t)bytes[host];

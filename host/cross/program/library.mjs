@@ -13,7 +13,7 @@ const bytes = new Uint8Array(exports.memory.buffer);
 const [image, record, message, reply, at, len] = [0, 1024, 2560, 3072, 3200, 3208].map((offset) => exports.__heap_base.value + offset);
 if (bytes.length < len + 8) throw new Error("too little memory behind __heap_base");
 const size = exports.grommetide_record_size();
-same(size, 1075n);
+same(size, 1084n);
 const board = [image, 512n, 2, record, size];
 const part = (from, count) => [...bytes.subarray(from, from + count)];
 

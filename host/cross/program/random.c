@@ -136,8 +136,8 @@ static void forge(void)
     if (!one_in(3))
         into_job();
     for (uint32_t i = 1 + below(4); i != 0; i--) {
-        const uint32_t at = one_in(3) ? below(GROMMETIDE_RECORD_BYTES) : one_in(2) ? below(16) : 528 + below(43);
-        here.record[at] = (uint8_t)(one_in(2) ? below(9) : any());
+        const uint32_t at = one_in(3) ? below(GROMMETIDE_RECORD_BYTES) : one_in(2) ? below(16) : 528 + below(52);
+        here.record[at] = (uint8_t)(one_in(2) ? below(10) : any());
     }
     event("a record forged");
     for (uint32_t i = below(6); i != 0; i--)

@@ -1,4 +1,5 @@
-/* Document 01's bench rows a to p: S = 256, each value as its table has it; rows i to m as document 02's K7 has them. */
+/* Document 01's bench rows a to p: S = 256, each value as its table has it; rows f and g as document 02's K11 has them, rows i
+   to m as its K7 has them. */
 #include "program.h"
 
 #define S 256
@@ -7,6 +8,7 @@
 #define REST 0xFF, 0xFF, 0xFF, 0xFF, 0xFF, 0xFF, 0xFF
 #define FRAME_B 0x0A, 0x00, 0x01, 0x00, 0x02, 0x05, 0x00, 0x41, 0x42, 0xFE
 #define FRAME_C 0x06, 0x00, 0x03, 0x00, 0x02, 0xFE
+#define RESET 0x05, 0x00, 0x07, 0x00, 0xFE
 
 static const struct message put_b = {{0x08, 0x00, 0x01, 0x01, 0x05, 0x00, 0x41, 0x42}, 8};
 static const struct message commit_c = {{0x04, 0x00, 0x03, 0x01}, 4};
@@ -77,18 +79,22 @@ static void rows_d_e(void)
 
 static void rows_f_g_h(void)
 {
-    static const uint8_t f[] = {HEADER_2};
+    static const uint8_t f[] = {HEADER_1, REST, FRAME_B, RESET};
+    static const uint8_t g[] = {HEADER_1, REST, FRAME_B, 0x06, 0x00, 0x00, 0x00, 0x02, 0xFE, RESET};
     after_b();
-    mounts(11);
-    block_is(0, f, 0);
-    block_is(1, f, sizeof f);
-    is_idle(1, 16);
-    log_says(2, 0, 16);
+    mounts(5);
+    block_is(0, f, sizeof f);
+    block_is(1, f, 0);
+    is_idle(0, 31);
+    log_says(1, 0, 16);
     after_b();
     must(ask(2, &commit_c) == GROMMETIDE_MORE);
     goes_on(5);
-    mounts(11);
-    log_says(2, 0, 16);
+    mounts(7);
+    block_is(0, g, sizeof g);
+    block_is(1, g, 0);
+    is_idle(0, 37);
+    log_says(1, 0, 16);
     holds_none(5);
     after_c();
     mounts(0);

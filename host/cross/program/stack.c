@@ -179,6 +179,17 @@ static void broken(uint32_t size)
     must(measure(FAULT) == GROMMETIDE_FOREIGN);
 }
 
+/* Mounts that drop a change, and that close the first byte of a commit behind one too. */
+static void mended(uint32_t size)
+{
+    for (int torn = 0; torn < 2; torn++) {
+        must(asks(3, PUT, 9, text, sizeof text) == GROMMETIDE_DONE);
+        if (torn)
+            here.image[size * here.record[3] + here.record[4] + 256u * here.record[5]] = here.record[EDITION] == 2 ? 10 : 6;
+        must(finished(measure(MOUNT)) == GROMMETIDE_DONE);
+    }
+}
+
 static void use_all(uint32_t len, uint8_t blocks)
 {
     const uint32_t size = len / blocks;
@@ -187,13 +198,11 @@ static void use_all(uint32_t len, uint8_t blocks)
     must(finished(measure(FORMAT)) == GROMMETIDE_DONE);
     use_up(size);
     requests();
-    must(asks(3, PUT, 9, text, sizeof text) == GROMMETIDE_DONE);
-    must(finished(measure(MOUNT)) == GROMMETIDE_DONE);
+    mended(size);
     must(finished(measure(MOUNT)) == GROMMETIDE_DONE);
     must(asks_bare(0, CONVERT) == GROMMETIDE_DONE);
     requests();
-    must(asks(3, PUT, 9, text, sizeof text) == GROMMETIDE_DONE);
-    must(finished(measure(MOUNT)) == GROMMETIDE_DONE);
+    mended(size);
     broken(size);
     must(finished(measure(FORMAT)) == GROMMETIDE_DONE);
     measure(RECORD_SIZE);

@@ -6,7 +6,7 @@ use model::block::{Block, HEADER, Replay};
 use model::frame::{Body, Frame, Id};
 
 pub const LEGEND: &str = concat!(
-    "  H header     S settled value   P pending change   C commit or abort mark\n",
+    "  H header     S settled value   P pending change   C commit, abort, reset\n",
     "  x used up    T torn frame      w being written    ? foreign   . blank\n",
     "  In front of each row: where it starts, counted from the image's start.\n",
 );
@@ -60,7 +60,7 @@ fn letters(side: &Side) -> Vec<char> {
 
 fn letter(frame: &Frame, replay: &Replay) -> char {
     match &frame.body {
-        Body::Commit(_) | Body::Abort(_) => 'C',
+        Body::Commit(_) | Body::Abort(_) | Body::Reset => 'C',
         _ if replay.pending.contains(frame) => 'P',
         Body::Put(_, Id(id), value) | Body::Settled(Id(id), value)
             if replay.settled[usize::from(*id)].as_ref() == Some(value) =>
@@ -76,7 +76,7 @@ mod tests {
     use super::*;
     use model::block;
     use model::edition::Edition::First;
-    use model::frame::{Host, abort, commit, delete, put, settled};
+    use model::frame::{Host, abort, closed, commit, delete, put, reset, settled};
 
     const HEAD: [u8; 16] = [16, 0, 1, 0x4A, 0xFE, 255, 255, 255, 0xFC, 255, 255, 255, 255, 255, 255, 255];
 
@@ -104,11 +104,15 @@ mod tests {
             commit(First, zero),
             put(First, one, Id(3), b""),
             abort(First, one),
+            delete(First, zero, Id(1)),
+            closed(6),
+            reset(First),
             delete(First, one, Id(1)),
             vec![9, 0, 1],
         ];
-        let expected = "HHHHHHHHHHHHHHHH SSSSSSSS xxxxxxx SSSSSSSSS CCCCCC xxxxxxxx CCCCCC PPPPPPPP TTT";
-        assert_eq!(text(&valid(&frames, 96)).trim_end_matches('.'), expected.replace(' ', ""));
+        let first = "HHHHHHHHHHHHHHHH SSSSSSSS xxxxxxx SSSSSSSSS CCCCCC xxxxxxxx CCCCCC";
+        let expected = format!("{first} xxxxxxxx xxxxxx CCCCC PPPPPPPP TTT");
+        assert_eq!(text(&valid(&frames, 112)).trim_end_matches('.'), expected.replace(' ', ""));
     }
 
     #[test]

@@ -113,6 +113,22 @@ impl<'a> Report<'a> {
         })
     }
 
+    /// What a mount does with what is torn or pending in the current block.
+    fn mended(&self) -> String {
+        let Some((side, journal)) = self.listed().next() else { return String::new() };
+        let pending = !replay(journal).pending.is_empty();
+        let done = match (journal.torn, pending) {
+            _ if self.current.map(usize::from) != Some(side.number) => {
+                return "There is no room to drop what is pending, so it moves what is settled.\n".to_string();
+            }
+            (true, true) => "It closes the torn frame and drops what is pending",
+            (true, false) => "It closes the torn frame",
+            (false, true) => "It drops what is pending",
+            (false, false) => return String::new(),
+        };
+        format!("{done}, in {} itself.\n", side.name())
+    }
+
     /// What a mount does to the foreign blocks.
     fn erased(&self) -> &'static str {
         match self.sides.iter().filter(|side| side.block == Block::Foreign).count() {
@@ -144,7 +160,7 @@ impl<'a> Report<'a> {
         }
         let name = if self.blocks == 2 { "Half" } else { "Block" };
         let current = self.current.map(|block| format!("{name} {block} is then current.\n"));
-        write!(out, "{}{}", self.erased(), current.unwrap_or_default())
+        write!(out, "{}{}{}", self.erased(), self.mended(), current.unwrap_or_default())
     }
 }
 
@@ -197,6 +213,8 @@ fn change(label: &str, side: &Side, frame: &Frame, out: &mut impl Write) -> io::
         Body::Delete(_, id) => writeln!(out, "{label}delete {}", id.0),
         Body::Commit(_) => writeln!(out, "{label}commit"),
         Body::Abort(_) => writeln!(out, "{label}abort"),
+        Body::Closed => writeln!(out, "{label}closed, {}", count(frame.place.len(), "byte")),
+        Body::Reset => writeln!(out, "{label}reset"),
     }
 }
 

@@ -6,8 +6,10 @@ use model::cut;
 use model::fault;
 use model::frame::{Body, Frame, Host};
 
-/// Frames of kinds 1 to 4, which may be torn.
-const KINDS: [&str; 4] = ["put", "delete", "commit", "abort"];
+/// Kinds of frames that may be torn; those of hosts come first.
+const KINDS: [(u8, &str); 5] = [(1, "put"), (2, "delete"), (3, "commit"), (4, "abort"), (7, "reset")];
+/// The kind of a frame that is closed, or was being closed.
+const CLOSED: u8 = 0;
 
 pub struct Side<'a> {
     /// What people call it: half or block.
@@ -77,10 +79,14 @@ impl Side<'_> {
     fn torn(&self, end: usize) -> String {
         let tail = &self.bytes[end..];
         let length = tail.iter().rposition(|byte| *byte != 0xFF).map_or(0, |last| last + 1);
-        let kind = tail[..length].get(2).and_then(|kind| KINDS.get(usize::from(*kind).checked_sub(1)?));
-        let host = tail[..length].get(4).map(|host| format!(" of host {host}"));
-        let (kind, host) = (kind.unwrap_or(&"frame"), host.unwrap_or_default());
-        format!("then {} of a torn {kind}{host}", count(length, "byte"))
+        let written = &tail[..length];
+        if written.get(2) == Some(&CLOSED) {
+            return format!("then a torn frame of {}, closed in part", count(usize::from(tail[0]), "byte"));
+        }
+        let kind = written.get(2).and_then(|kind| KINDS.iter().find(|(number, _)| number == kind));
+        let host = written.get(4).filter(|_| kind.is_some_and(|(number, _)| *number < 5));
+        let host = host.map_or(String::new(), |host| format!(" of host {host}"));
+        format!("then {} of a torn {}{host}", count(length, "byte"), kind.map_or("frame", |(_, name)| name))
     }
 }
 
@@ -88,6 +94,6 @@ impl Side<'_> {
 pub fn owner(frame: &Frame) -> Option<Host> {
     match frame.body {
         Body::Put(host, ..) | Body::Delete(host, _) | Body::Commit(host) | Body::Abort(host) => Some(host),
-        Body::Settled(..) => None,
+        Body::Settled(..) | Body::Closed | Body::Reset => None,
     }
 }

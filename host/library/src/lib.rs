@@ -19,7 +19,7 @@ pub const PENDING: Range<usize> = 7..15;
 /// Where it says the edition.
 pub const EDITION: usize = PENDING.end;
 /// Where the job stands: after the bytes that anyone may know and the places of 256 values.
-pub const JOB: Range<usize> = 528..571;
+pub const JOB: Range<usize> = 528..580;
 /// After the job there are two frames in hand.
 pub const RECORD_SIZE: usize = JOB.end + 2 * LONGEST;
 
@@ -28,7 +28,8 @@ pub type Record = [u8; RECORD_SIZE];
 
 const UNMOUNTED: u8 = 0;
 const IDLE: u8 = 1;
-const JOB_STAGES: std::ops::RangeInclusive<u8> = 2..=7;
+/// The stages of a job, a record's first byte.
+pub const STAGES: std::ops::RangeInclusive<u8> = 2..=8;
 
 /// What a new record buffer holds, so that a call which does not write all of it shows.
 const STALE: Record = [0xA5; RECORD_SIZE];
@@ -109,7 +110,7 @@ impl Store for Library {
                 edition: record[EDITION],
                 pending: [0, 1, 2, 3].map(|host| short(PENDING.start + 2 * host)),
             }),
-            stage if JOB_STAGES.contains(&stage) => Head::Job,
+            stage if STAGES.contains(&stage) => Head::Job,
             _ => Head::Unmounted,
         }
     }

@@ -5,7 +5,7 @@
 use library::{Library, RECORD_SIZE, Record, flash};
 use std::ffi::c_void;
 use std::{ptr, slice};
-use store::{Answer, Head, Store, message};
+use store::{Answer, Head, Idle, Store, message};
 
 unsafe extern "C" {
     fn mmap(at: *mut c_void, len: usize, protection: i32, flags: i32, file: i32, offset: i64) -> *mut c_void;
@@ -113,17 +113,35 @@ impl Board {
         }
     }
 
-    /// The current block.
-    fn current(&self) -> u8 {
+    fn idle(&self) -> Idle {
         let record: &Record = self.record.bytes().try_into().expect("a record's bytes");
         match self.library.head(record) {
-            Head::Idle(idle) => idle.block,
+            Head::Idle(idle) => idle,
             other => panic!("{other:?}"),
         }
     }
+
+    /// The current block.
+    fn current(&self) -> u8 {
+        self.idle().block
+    }
+
+    /// Host 0 puts and aborts until there is room for one more put, and puts that: it ends where the block does.
+    fn fill_up(&mut self) {
+        let size = self.image.len / usize::from(self.blocks);
+        let free = |board: &Board| size - usize::from(board.idle().end);
+        while free(self) > 120 {
+            let value = vec![0; (free(self) - 8 - 6 - 8).min(100)];
+            assert_eq!(self.ask(0, &message::put(3, &value)), Answer::DONE);
+            assert_eq!(self.ask(0, &message::abort()), Answer::DONE);
+        }
+        let value = vec![0; free(self) - 8];
+        assert_eq!(self.ask(0, &message::put(3, &value)), Answer::DONE);
+        assert_eq!(free(self), 0);
+    }
 }
 
-/// A format, puts up to a transfer and on, a restart with a change pending, and reads.
+/// A format, puts up to a transfer and on, restarts with a change pending, where a reset fits and where none does, and reads.
 #[test]
 fn flash_that_is_mapped_to_be_read_only() {
     let each = (2..=16).map(|blocks| (256 * usize::from(blocks), blocks));
@@ -145,6 +163,9 @@ fn flash_that_is_mapped_to_be_read_only() {
         assert_eq!(board.ask(0, &message::log()), Answer::DONE);
         assert_eq!(board.ask(0, &message::commit()[..3]), Answer::MALFORMED);
         assert_eq!(board.mount(), Answer::DONE);
-        assert_eq!((board.current(), board.value(1), board.value(2)), (2 % blocks, Some(&value(last)[..]), None));
+        assert_eq!((board.current(), board.value(1), board.value(2)), (1, Some(&value(last)[..]), None));
+        board.fill_up();
+        assert_eq!(board.mount(), Answer::DONE);
+        assert_eq!((board.current(), board.value(1), board.value(3)), (2 % blocks, Some(&value(last)[..]), None));
     }
 }

@@ -5,7 +5,7 @@ use std::arch::asm;
 use std::collections::BTreeMap;
 use std::fs;
 use std::mem;
-use store::{Answer, Store, message};
+use store::{Answer, Head, Store, message};
 
 const HEADER: &str = concat!(env!("CARGO_MANIFEST_DIR"), "/../../include/grommetide.h");
 const AREA: usize = 64 * 1024;
@@ -175,7 +175,8 @@ impl Board {
         self.break_it();
     }
 
-    /// Requests that are done and that are refused, and mounts with something pending and with nothing.
+    /// Requests that are done and that are refused, and mounts with something pending, also behind a torn frame, and with
+    /// nothing.
     fn use_store(&mut self) {
         for message in
             [message::delete(0), message::commit(), message::log(), message::read(2), message::read(255)]
@@ -187,9 +188,23 @@ impl Board {
         assert_eq!(self.read(&message::read(2)), Answer::DONE);
         assert_eq!(self.read(&message::read(255)), Answer::NO_OBJECT);
         assert_eq!(self.read(&message::put(2, b"no read")), Answer::MALFORMED);
-        assert_eq!(self.ask(3, &message::put(9, b"pending")), Answer::DONE);
+        for torn in [false, true] {
+            assert_eq!(self.ask(3, &message::put(9, b"pending")), Answer::DONE);
+            if torn {
+                self.tear();
+            }
+            assert_eq!(self.mount(), Answer::DONE);
+        }
         assert_eq!(self.mount(), Answer::DONE);
-        assert_eq!(self.mount(), Answer::DONE);
+    }
+
+    /// The first byte of a commit behind the frames.
+    fn tear(&mut self) {
+        let Head::Idle(idle) = self.library.head(&self.record) else { panic!("idle") };
+        let (end, length) = (usize::from(idle.end), if idle.edition == 2 { 10 } else { 6 });
+        assert!(end + length <= self.size(), "no room for a frame");
+        let at = usize::from(idle.block) * self.size() + end;
+        self.image[at] = length as u8;
     }
 
     /// A sound image, one whose last frame is wrong, and one whose header is.

@@ -110,6 +110,8 @@ pub fn replay(journal: &Journal) -> Replay {
             Body::Put(..) | Body::Delete(..) => replay.pending.push(frame.clone()),
             Body::Commit(host) => replay.commit(*host),
             Body::Abort(host) => replay.pending.retain(|frame| !belongs(frame, *host)),
+            Body::Closed => {}
+            Body::Reset => replay.pending.clear(),
         }
     }
     replay

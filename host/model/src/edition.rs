@@ -29,6 +29,11 @@ impl Edition {
         self.either(6, 10)
     }
 
+    /// Length of a reset frame (K11).
+    pub fn reset(self) -> usize {
+        self.either(5, 9)
+    }
+
     /// Length of a delete frame, and of a put frame apart from its value.
     pub fn change(self) -> usize {
         self.either(8, 12)

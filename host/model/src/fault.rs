@@ -4,7 +4,7 @@
 use crate::block::{self, Block, HEADER, STATE, TIME, VALID, blank};
 use crate::cut;
 use crate::edition::Edition;
-use crate::frame::{self, Body, Frame, samples, settled_samples};
+use crate::frame::{self, Body, Frame, closed_samples, samples, settled_samples};
 use std::mem::discriminant;
 use std::ops::Range;
 use store::{Fault, Field};
@@ -53,7 +53,7 @@ fn of_header(block: &[u8]) -> Option<(Field, usize)> {
 
 /// Of all legal frames that fit into these bytes, the one that agrees with them longest says which field is bad.
 fn of_frame(edition: Edition, bytes: &[u8], lowest: u16) -> (Field, usize) {
-    let legal = samples(edition).iter().chain(settled_samples(edition));
+    let legal = samples(edition).iter().chain(settled_samples(edition)).chain(closed_samples(edition));
     let fitting = legal.filter(|sample| sample.len() <= bytes.len());
     let tried = fitting.map(|sample| first_bad(edition, bytes, sample.clone(), lowest));
     tried.max_by_key(|(_, place)| *place).unwrap_or((Field::Length, 0))
@@ -73,12 +73,13 @@ fn first_bad(edition: Edition, bytes: &[u8], mut sample: Vec<u8>, lowest: u16) -
     unreachable!("a whole legal frame stands there")
 }
 
-/// The fields of a frame in address order, but for the value, which is never bad.
+/// The fields of a frame in address order, but for the value and a closed frame's body and CRC, which are never bad.
 fn fields(edition: Edition, frame: &Frame) -> Vec<(Field, Range<usize>)> {
     let body = match frame.body {
         Body::Put(..) | Body::Delete(..) => vec![(Field::Host, 4..5), (Field::Id, 5..7)],
         Body::Commit(_) | Body::Abort(_) => vec![(Field::Host, 4..5)],
         Body::Settled(..) => vec![(Field::Id, 4..6)],
+        Body::Closed | Body::Reset => vec![],
     };
     let (end, seal) = (frame.place.end, frame.seal(edition));
     let crc = if seal.is_empty() { vec![] } else { vec![(Field::Crc, seal)] };

@@ -1,11 +1,12 @@
-//! Document 01 with K2, K4, K5, K7, K9 and K14 of document 02, implemented straightforwardly and on its own: nothing here is
-//! shared with the proved library.
+//! Document 01 with K2, K4, K5, K7, K9, K11 and K14 of document 02, implemented straightforwardly and on its own: nothing
+//! here is shared with the proved library.
 
 pub mod block;
 pub mod edition;
 pub mod fault;
 pub mod frame;
 pub mod job;
+mod mend;
 mod request;
 
 use block::{Block, Journal, Replay};
@@ -129,13 +130,10 @@ fn mount(image: &[u8], blocks: u8) -> Result<Record, Answer> {
     };
     let dirty = |block: &usize| *block != current && read[*block] != Block::Blank;
     let mut work: Vec<Work> = (0..read.len()).filter(dirty).map(|block| Work::erase(block, size)).collect();
-    let mut board = Board::new(image, blocks, current, read.swap_remove(current)).expect("the newest is valid");
-    if !board.journal.torn && board.replay.pending.is_empty() {
-        return Ok(job::begin(work, board.idle(current, board.journal.end)));
-    }
-    board.replay.pending.clear();
-    work.extend(board.transfer(board.journal.edition)?);
-    Ok(job::begin(work, board.idle(board.next(), board.replay.used())))
+    let board = Board::new(image, blocks, current, read.swap_remove(current)).expect("the newest is valid");
+    let (mending, idle) = board.mend()?;
+    work.extend(mending);
+    Ok(job::begin(work, idle))
 }
 
 /// The valid block with the strictly largest time.

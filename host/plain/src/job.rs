@@ -1,8 +1,10 @@
 //! The board record and the steps of a job, one for each call.
 
 use crate::MOST;
-use crate::journal::{DELETE, HEADER, IN_PROGRESS, Journal, KEPT, LABEL, LONGEST, SETTLED, STATE, TIME, VALID};
-use crate::journal::{finish, label, value_at};
+use crate::journal::{
+    BARE, DELETE, FINISH, HEADER, IN_PROGRESS, Journal, KEPT, LABEL, LONGEST, PUT, RESET, SETTLED,
+};
+use crate::journal::{STATE, TIME, VALID, finish, label, value_at};
 use store::{Answer, Idle};
 
 #[derive(Clone, Copy, PartialEq, Eq, Debug)]
@@ -18,6 +20,8 @@ pub enum Phase {
     Seal,
     /// Erasing the old block.
     Drop,
+    /// Closing a torn frame.
+    Close,
     Append,
 }
 
@@ -42,7 +46,10 @@ pub struct Record {
     makes: bool,
     drops: bool,
     time: u32,
-    /// The next of `wipe`, the next write of Open or Seal, the next byte of `unit` or `frame`.
+    /// How many bytes of a torn frame are programmed, and which, in this order: the last is its finish byte.
+    closes: u8,
+    close: [u16; 4],
+    /// The next of `wipe` or `close`, the next write of Open or Seal, the next byte of `unit` or `frame`.
     index: u8,
     /// The edition of the block that is copied.
     source: u8,
@@ -73,6 +80,8 @@ impl Record {
         makes: false,
         drops: false,
         time: 0,
+        closes: 0,
+        close: [0; 4],
         index: 0,
         source: 0,
         id: 0,
@@ -90,7 +99,7 @@ impl Record {
         self.length = length as u32;
         (self.blocks, self.block, self.end) = (blocks, block, end);
         (self.edition, self.pending) = (edition, pending);
-        (self.wipes, self.index) = (0, 0);
+        (self.wipes, self.closes, self.index) = (0, 0, 0);
         (self.makes, self.drops) = (false, false);
         self.frame[0] = 0;
     }
@@ -129,6 +138,24 @@ impl Record {
         }
     }
 
+    /// The frame that the journal's tail is torn from is closed, which leaves its end behind it: length, kind and finish byte,
+    /// but for those bytes that are as they should be.
+    pub fn close(&mut self, block: &[u8], journal: &Journal) {
+        for place in [1, 2, 3, journal.torn - 1].map(|offset| journal.end + offset) {
+            if block[place] != 0 {
+                self.close[usize::from(self.closes)] = place as u16;
+                self.closes += 1;
+            }
+        }
+        self.end += journal.torn as u16;
+    }
+
+    /// A reset is written.
+    pub fn reset(&mut self) {
+        self.frame[..BARE].copy_from_slice(&[0, 0, RESET, 0]);
+        finish(&mut self.frame, BARE, self.edition);
+    }
+
     /// A frame is written: a change adds to what its host has pending, a commit or abort ends that.
     pub fn append(&mut self, head: &[u8], value: &[u8]) {
         let front = head.len() + value.len();
@@ -162,7 +189,8 @@ impl Record {
                 Phase::Open => (Phase::Copy, self.makes && self.load(image)),
                 Phase::Copy => (Phase::Seal, self.makes),
                 Phase::Seal => (Phase::Drop, self.drops),
-                Phase::Drop => (Phase::Append, self.frame[0] != 0),
+                Phase::Drop => (Phase::Close, self.closes > 0),
+                Phase::Close => (Phase::Append, self.frame[0] != 0),
                 Phase::Append | Phase::Idle | Phase::Unmounted => (Phase::Idle, true),
             };
             self.phase = next;
@@ -213,6 +241,11 @@ impl Record {
             Phase::Drop => {
                 self.erase(image, self.old());
                 true
+            }
+            Phase::Close => {
+                let last = index + 1 == usize::from(self.closes);
+                self.program(image, usize::from(self.close[index]), if last { FINISH } else { 0 });
+                last
             }
             _ => {
                 self.program_next(image, self.frame[index]);
@@ -266,7 +299,7 @@ impl Record {
             let at = usize::from(self.from);
             let (length, kind, host) = (usize::from(old[at]), old[at + 2], usize::from(old[at + 4] & 3));
             self.from += length as u16;
-            if kind <= DELETE && at >= usize::from(self.since[host]) {
+            if matches!(kind, PUT | DELETE) && at >= usize::from(self.since[host]) {
                 self.unit[..length].copy_from_slice(&old[at..at + length]);
                 return true;
             }

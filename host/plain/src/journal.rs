@@ -18,10 +18,15 @@ pub const DELETE: u8 = 2;
 pub const COMMIT: u8 = 3;
 pub const ABORT: u8 = 4;
 pub const SETTLED: u8 = 5;
+/// A frame that was torn and closed in place: whole, and without a meaning.
+const CLOSED: u8 = 0;
+/// Drops what all hosts have pending.
+pub const RESET: u8 = 7;
 pub const FINISH: u8 = 0xFE;
 /// The most bytes of a value.
 pub const VALUE_LIMIT: usize = 240;
 /// Bytes of each kind of frame before CRC and finish byte; a put and a settled frame have a value as well.
+pub const BARE: usize = 4;
 pub const MARK: usize = 5;
 pub const CHANGE: usize = 7;
 pub const KEPT: usize = 6;
@@ -60,7 +65,8 @@ pub struct Journal {
     pub edition: u8,
     /// Where the last whole frame ends.
     pub end: usize,
-    pub torn: bool,
+    /// The length of the frame that a power cut stopped there; 0 is none.
+    pub torn: usize,
     /// By id, the frame that the settled value stands in.
     pub places: [u16; 256],
     pub objects: u16,
@@ -76,7 +82,7 @@ impl Journal {
         time: 0,
         edition: 1,
         end: HEADER,
-        torn: false,
+        torn: 0,
         places: [0; 256],
         objects: 0,
         used: HEADER,
@@ -129,6 +135,8 @@ impl Journal {
                 SETTLED => self.set(block, number, at),
                 COMMIT => self.commit(block, host),
                 ABORT => self.pending[host] = 0,
+                RESET => self.pending = [0; 4],
+                CLOSED => {}
                 _ => {
                     if self.pending[host] == 0 {
                         self.since[host] = at as u16;
@@ -140,8 +148,11 @@ impl Journal {
             self.end += length;
         }
         let tail = &block[self.end..];
-        self.torn = !blank(tail);
-        if !self.torn || begins_frame(tail, seal) {
+        if blank(tail) {
+            return Ok(());
+        }
+        if begins_frame(tail, seal) {
+            self.torn = usize::from(tail[0]);
             return Ok(());
         }
         let (field, place) = wrong_field(tail, least, seal);
@@ -231,37 +242,47 @@ fn frame_at(bytes: &[u8], seal: usize) -> Option<(usize, u8)> {
         (DELETE, [_, _, _, _, 0..=3, _, 0]) => true,
         (COMMIT | ABORT, [_, _, _, _, 0..=3]) => true,
         (SETTLED, [_, _, _, _, _, 0, ..]) => front.len() <= LONGEST_KEPT,
+        (RESET, [_, _, _, _]) => true,
+        (CLOSED, _) => closable(front.len()),
         _ => false,
     };
     let right = match sealed {
         [FINISH] => legal,
+        [.., FINISH] if kind == CLOSED => legal,
         [sum @ .., FINISH] => legal && *sum == crc(front),
         _ => false,
     };
     right.then_some((length, kind))
 }
 
-/// Whether a tail that is not blank is torn: it begins a put, delete, commit or abort that would fit.
+/// Whether frames that may be torn, and so closed, have so many bytes before CRC and finish byte.
+fn closable(front: usize) -> bool {
+    matches!(front, BARE | MARK | CHANGE..=LONGEST_PUT)
+}
+
+/// Whether a tail that is not blank is torn: it begins a put, delete, commit, abort or reset that would fit, or one that was
+/// being closed.
 fn begins_frame(tail: &[u8], seal: usize) -> bool {
     let written = tail.iter().rposition(|byte| *byte != 0xFF).map_or(0, |last| last + 1);
-    let seen = |at: usize, fits: bool| at >= written || fits;
-    let byte = |at: usize| tail.get(at).copied().unwrap_or(0);
     let length = usize::from(tail[0]);
     let front = length.saturating_sub(seal);
-    let kind = match byte(2) {
-        PUT => (CHANGE..=LONGEST_PUT).contains(&front),
+    if !closable(front) || length > tail.len() || written >= length {
+        return false;
+    }
+    let seen = |at: usize, fits: bool| at >= written || fits;
+    let kind = match tail[2] {
+        CLOSED => return tail[1] == 0 && matches!(tail[3], 0 | 0xFF),
+        PUT => front >= CHANGE,
         DELETE => front == CHANGE,
         COMMIT | ABORT => front == MARK,
+        RESET => front == BARE,
         _ => false,
     };
-    (front == MARK || (CHANGE..=LONGEST_PUT).contains(&front))
-        && written < length
-        && length <= tail.len()
-        && seen(1, byte(1) == 0)
+    seen(1, tail[1] == 0)
         && seen(2, kind)
-        && seen(3, byte(3) == 0)
-        && seen(4, byte(4) <= 3)
-        && seen(6, front == MARK || byte(6) == 0)
+        && seen(3, tail[3] == 0)
+        && seen(4, front == BARE || tail[4] <= 3)
+        && seen(6, front < CHANGE || tail[6] == 0)
         && (written <= front || crc(&tail[..front]).starts_with(&tail[front..written]))
 }
 
@@ -271,29 +292,27 @@ fn wrong_field(tail: &[u8], least: u16, seal: usize) -> Wrong {
     let (length, kind) = (usize::from(number(0)), number(2));
     let front = length.saturating_sub(seal);
     let settled = least < 256;
-    let some_kind = match front {
-        MARK | CHANGE..=LONGEST_PUT => true,
-        KEPT => settled,
-        _ => false,
-    };
+    let some_kind = closable(front) || settled && front == KEPT;
     let this_kind = match kind {
+        0 => closable(front),
         1 => front >= CHANGE,
         2 => front == CHANGE,
         3 | 4 => front == MARK,
         5 => settled && (KEPT..=LONGEST_KEPT).contains(&front),
+        7 => front == BARE,
         _ => false,
     };
     if !some_kind || length > tail.len() {
         (Field::Length, 0)
     } else if !this_kind {
         (Field::Kind, 2)
-    } else if kind < 5 && tail[4] > 3 {
+    } else if (1..=4).contains(&kind) && tail[4] > 3 {
         (Field::Host, 4)
-    } else if kind < 3 && number(5) > 255 {
+    } else if (1..=2).contains(&kind) && number(5) > 255 {
         (Field::Id, 5)
     } else if kind == 5 && !(least..256).contains(&number(4)) {
         (Field::Id, 4)
-    } else if seal > 1 && tail[front..length - 1] != crc(&tail[..front]) {
+    } else if kind != 0 && seal > 1 && tail[front..length - 1] != crc(&tail[..front]) {
         (Field::Crc, front)
     } else {
         (Field::Finish, length - 1)

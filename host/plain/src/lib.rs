@@ -13,7 +13,7 @@ pub use crc::crc;
 use job::Phase;
 pub use job::Record;
 pub use journal::VALUE_LIMIT;
-use journal::{ABORT, CHANGE, COMMIT, DELETE, HEADER, Journal, MARK, PUT, State, blank, seal, value_at};
+use journal::{ABORT, BARE, CHANGE, COMMIT, DELETE, HEADER, Journal, MARK, PUT, State, blank, seal, value_at};
 use look::Look;
 use store::{Answer, Fault, Head, Idle, Store, Stretch};
 
@@ -29,27 +29,41 @@ pub fn mount(image: &[u8], blocks: u8, record: &mut Record) -> Answer {
 }
 
 fn begin_mount(image: &[u8], blocks: u8, record: &mut Record) -> Result<Answer, Answer> {
-    let look = Look::at(image, size_of(image, blocks)?);
+    let size = size_of(image, blocks)?;
+    let look = Look::at(image, size);
     let block = match look.current() {
         _ if look.equal().is_some() => return Err(Answer::FOREIGN),
         Some(block) => block,
         None if look.foreign.is_some() => return Err(Answer::FOREIGN),
         None => return Err(Answer::NO_STORE),
     };
-    let dirty = look.journal.torn || look.journal.open(None) > 0;
-    if dirty && look.journal.time == u32::MAX {
+    let journal = &look.journal;
+    let pending = journal.open(None) > 0;
+    let moves = pending && journal.end + journal.torn + BARE + seal(journal.edition) > size;
+    if moves && journal.time == u32::MAX {
         return Err(Answer::WORN);
     }
-    let Journal { end, edition, .. } = look.journal;
-    let (length, end, pending) = (image.len(), end as u16, [0; 4]);
-    record.rest(Idle { length, block: block as u8, end, blocks, edition, pending });
+    let (length, end, edition) = (image.len(), journal.end as u16, journal.edition);
+    record.rest(Idle { length, block: block as u8, end, blocks, edition, pending: [0; 4] });
     for other in (0..MOST).filter(|other| *other != block && look.used[*other]) {
         record.wipe(other);
     }
-    if dirty {
-        record.transfer(&look.journal, edition, false);
+    if moves {
+        record.transfer(journal, edition, false);
+    } else {
+        mend(&image[size * block..], record, journal, pending);
     }
     Ok(record.begin(image))
+}
+
+/// Where the journal stands, its torn frame is closed and a reset drops what is pending.
+fn mend(block: &[u8], record: &mut Record, journal: &Journal, pending: bool) {
+    if journal.torn > 0 {
+        record.close(block, journal);
+    }
+    if pending {
+        record.reset();
+    }
 }
 
 /// Why a mount would be refused, and with 3 where the image broke; 0 if it would be accepted.
@@ -181,7 +195,7 @@ fn rests(image: &[u8], size: usize, record: &Record, journal: &mut Journal) -> b
     journal.read(block) == State::Valid
         && journal.end == usize::from(record.end)
         && (journal.edition, journal.pending) == (record.edition, record.pending)
-        && !journal.torn
+        && journal.torn == 0
         && blank(before)
         && blank(after)
         && journal.claimed() + mark(journal) * journal.open(None) <= size

@@ -24,7 +24,15 @@ returns-5 : tie.Need-returns-5
 unfolding pendingHead
 returns-5 c = rw (c .enum-told3 .given .1)
 
+returns-6 : tie.Need-returns-6
+unfolding pendingHead
+returns-6 c = rw (c .enum-told4 .given .1)
+
+returns-7 : tie.Need-returns-7
+unfolding pendingHead
+returns-7 c = rw (c .enum-told5 .given .1)
+
 pub is-pending-spec : {M : Type 1} → statement M
 is-pending-spec = tie.close (tie.spec
     (λ c. search needs) (λ c κs. search needs) (λ c. search needs) (λ c. search needs) (λ c κs. search needs) (λ c. search needs) (λ c. search needs)
-    (λ c. search needs) (λ c. search needs) returns returns-2 returns-3 returns-4 returns-5)
+    (λ c. search needs) (λ c. search needs) (λ c. search needs) (λ c. search needs) returns returns-2 returns-3 returns-4 returns-5 returns-6 returns-7)

@@ -33,7 +33,15 @@ returns-7 : tie.Need-returns-7
 unfolding valueHead
 returns-7 c = rw (c .before .before .before .before .head2 .given .1, ne-eqb _ _ (c .if2 .left))
 
+returns-8 : tie.Need-returns-8
+unfolding valueHead
+returns-8 c = rw (c .enum-told4 .given .1)
+
+returns-9 : tie.Need-returns-9
+unfolding valueHead
+returns-9 c = rw (c .enum-told5 .given .1)
+
 pub value-in-spec : {M : Type 1} → statement M
 value-in-spec = tie.close (tie.spec
     (λ c. search needs) (λ c. search needs) returns returns-2 (λ c. search needs) returns-3 (λ c. search needs) returns-4 (λ c. search needs) returns-5
-    (λ c. search needs) (λ c. search needs) returns-6 returns-7)
+    (λ c. search needs) (λ c. search needs) returns-6 returns-7 (λ c. search needs) returns-8 (λ c. search needs) returns-9)

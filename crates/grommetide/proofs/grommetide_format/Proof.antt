@@ -26,7 +26,7 @@ returns-2 c =
     let if1′ = c9 .if1 in
     let args′ = c12 .args in
     replaced _ _ _ _ _ _ (format-core′ .result) (formatOn (args′ .blocks) (now (args′ .image))) (if1′ .left) (format-core′ .ensures)
-    (no-frame′ .ensures) (rw (no-places′ .ensures) at (c .before .before .new-record .ensures))
+    (rw (no-places′ .ensures, no-frame′ .ensures) at (c .before .before .new-record .ensures))
 
 pub grommetide-format-spec : {M : Type 1} → statement M
 grommetide-format-spec = tie.close (tie.spec

@@ -16,15 +16,13 @@ returns-2 : tie.Need-returns-2
 unfolding edgeMount
 returns-2 c =
     let c6 = c .before .before .before .before .before .before in
-    let c7 = c6 .before in
-    let c10 = c7 .before .before .before in
-    let c13 = c10 .before .before .before in
-    let no-frame′ = c6 .no-frame in
-    let mount-core′ = c7 .mount-core in
-    let if1′ = c10 .if1 in
-    let args′ = c13 .args in
+    let c11 = c6 .before .before .before .before .before in
+    let c14 = c11 .before .before .before in
+    let mount-core′ = c6 .mount-core in
+    let if1′ = c11 .if1 in
+    let args′ = c14 .args in
     replaced _ _ _ _ _ _ (mount-core′ .result) (mountOn (args′ .blocks) (now (args′ .image))) (if1′ .left) (mount-core′ .ensures)
-    (no-frame′ .ensures) (c .before .before .new-record .ensures)
+    (c .before .before .new-record .ensures)
 
 pub grommetide-mount-spec : {M : Type 1} → statement M
 grommetide-mount-spec = tie.close (tie.spec

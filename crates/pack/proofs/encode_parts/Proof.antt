@@ -63,6 +63,7 @@ returns-2 c =
       places = search (needs, lay-words-arg2′ .given);
       wipe = search (needs, good′ .0 .1 .1 .1 .1 .0 .1 .1 .0);
       since = search (needs, good′ .0 .1 .1 .1 .1 .0 .1 .1 .1 .1 .1 .1 .1 .1 .0);
+      close = search (needs, good′ .0 .1 .1 .1 .1 .0 .1 .1 .1 .1 .1 .1 .1 .1 .1 .1 .1 .1 .0);
       unit = search (needs, lay-at-arg6′ .given, lay-at-arg8′ .given);
       frame = search (needs, lay-at-arg6′ .given, lay-at-arg8′ .given);
     } in

@@ -23,7 +23,7 @@ add-value-count-2 c =
     omega (arith, check-len′ .ensures, check-short (args′ .edition))
 
 returns : tie.Need-returns
-returns c = rw (c .match .keys1, c .before .byte-at .ensures)
+returns c = rw (c .before .match .keys1, c .value-count .ensures)
 
 returns-2 : tie.Need-returns-2
 returns-2 c =
@@ -34,7 +34,7 @@ returns-2 c =
     let n : putLen (args′ .edition) 0 ≡ 8 + checkLen (args′ .edition) = omega arith in
     rw (
       match′ .keys2,
-      c .value-count .ensures,
+      c .value-count2 .ensures,
       c .before .id-of .ensures,
       (byte-at′ .ensures),
       (c .before .before .before .byte-at2 .ensures),
@@ -65,9 +65,9 @@ returns-6 c =
     let check-len′ = c .before .before .before .before .before .before .check-len in
     let args′ = c .before .before .before .before .before .before .before .before .args in
     let n : settledLen (args′ .edition) 0 ≡ 7 + checkLen (args′ .edition) = omega arith in
-    let h : 5 ≤ (args′ .k) = omega arith in rw (
-      decode-high (args′ .edition) (args′ .k) (args′ .n) (now (args′ .t)) h,
-      c .value-count2 .ensures,
+    rw (
+      c .before .before .before .before .match .keys6,
+      c .value-count3 .ensures,
       c .before .id-of3 .ensures,
       (c .before .before .before .byte-at6 .ensures),
       (c .before .before .byte-at7 .ensures),
@@ -75,8 +75,14 @@ returns-6 c =
       n,
     )
 
+returns-7 : tie.Need-returns-7
+returns-7 c =
+    let args′ = c .before .before .before .before .args in
+    let h : 6 ≤ (args′ .k) = omega arith in rw (decode-high (args′ .edition) (args′ .k) (args′ .n) (now (args′ .t)) h)
+
 pub head-at-spec : {M : Type 1} → statement M
 head-at-spec = tie.close (tie.spec
-    (λ c κs. search needs) (λ c κs. search needs) (λ c κs. search needs) (λ c κs. search needs) (λ c κs. search needs) add-value-count (λ c κs. search needs)
-    (λ c κs. search needs) (λ c κs. search needs) (λ c κs. search needs) (λ c κs. search needs) (λ c κs. search needs) (λ c κs. search needs) add-value-count-2
-    (λ c κs. search needs) returns returns-2 returns-3 returns-4 returns-5 returns-6)
+    (λ c κs. search needs) (λ c κs. search needs) (λ c κs. search needs) (λ c κs. search needs) (λ c κs. search needs) (λ c κs. search needs)
+    add-value-count (λ c κs. search needs) (λ c κs. search needs) (λ c κs. search needs) (λ c κs. search needs) (λ c κs. search needs)
+    (λ c κs. search needs) (λ c κs. search needs) add-value-count-2 (λ c κs. search needs) returns returns-2 returns-3 returns-4 returns-5 returns-6
+    returns-7)

@@ -5,8 +5,7 @@ use Rattle.unpack.proofs.job_in.Tie as tie
 
 returns : tie.Need-returns
 returns c =
-    let c3 = c .before .before .before in
-    let c4 = c3 .before in
+    let c4 = c .before .before .before .before in
     let c5 = c4 .before in
     let c6 = c5 .before in
     let c7 = c6 .before in
@@ -16,25 +15,30 @@ returns c =
     let c11 = c10 .before in
     let c12 = c11 .before in
     let c13 = c12 .before in
+    let c14 = c13 .before in
+    let c15 = c14 .before in
     rw (
-      c13 .wipe-in .ensures,
-      c9 .byte-at .ensures,
-      c7 .flag-in .ensures,
-      c8 .byte-at2 .ensures,
-      c5 .flag-in2 .ensures,
-      c6 .byte-at3 .ensures,
-      c4 .byte-at4 .ensures,
-      c .before .before .number-in .ensures,
-      c3 .tail3 .ensures,
-      c10 .hosts-in .ensures,
-      c11 .tail2 .ensures,
-      c .before .byte-at5 .ensures,
-      c .byte-at6 .ensures,
-      c12 .tail .ensures,
+      c15 .before .wipe-in .ensures,
+      c10 .byte-at .ensures,
+      c8 .flag-in .ensures,
+      c9 .byte-at2 .ensures,
+      c6 .flag-in2 .ensures,
+      c7 .byte-at3 .ensures,
+      c5 .byte-at4 .ensures,
+      c .before .before .before .number-in .ensures,
+      c4 .tail4 .ensures,
+      c13 .four-in .ensures,
+      c14 .tail2 .ensures,
+      c .before .before .byte-at5 .ensures,
+      c .before .byte-at6 .ensures,
+      c .byte-at7 .ensures,
+      c11 .four-in2 .ensures,
+      c12 .tail3 .ensures,
+      c15 .tail .ensures,
     )
 
 pub job-in-spec : {M : Type 1} → statement M
 job-in-spec = tie.close (tie.spec
     (λ c κs. search needs) (λ c κs. search needs) (λ c κs. search needs) (λ c κs. search needs) (λ c κs. search needs) (λ c κs. search needs)
     (λ c κs. search needs) (λ c κs. search needs) (λ c κs. search needs) (λ c κs. search needs) (λ c κs. search needs) (λ c κs. search needs)
-    (λ c κs. search needs) (λ c κs. search needs) returns)
+    (λ c κs. search needs) (λ c κs. search needs) (λ c κs. search needs) (λ c κs. search needs) (λ c κs. search needs) returns)

@@ -23,10 +23,14 @@ returns-8 : tie.Need-returns-8
 returns-8 c = rw (c .match .keys8)
 
 returns-9 : tie.Need-returns-9
-returns-9 c =
-    no-phase (c .before .args .number) (c .match .rest .0 .0 .0 .0 .0 .0 .0 .1) (c .match .rest .0 .0 .0 .0 .0 .0 .1)
-    (c .match .rest .0 .0 .0 .0 .0 .1) (c .match .rest .0 .0 .0 .0 .1) (c .match .rest .0 .0 .0 .1) (c .match .rest .0 .0 .1)
-    (c .match .rest .0 .1) (c .match .rest .1)
+returns-9 c = rw (c .match .keys9)
+
+returns-10 : tie.Need-returns-10
+returns-10 c =
+    let n = c .match .rest in
+    no-phase (c .before .args .number) (n .0 .0 .0 .0 .0 .0 .0 .0 .1) (n .0 .0 .0 .0 .0 .0 .0 .1) (n .0 .0 .0 .0 .0 .0 .1) (n .0 .0 .0 .0 .0 .1)
+    (n .0 .0 .0 .0 .1) (n .0 .0 .0 .1) (n .0 .0 .1) (n .0 .1) (n .1)
 
 pub phase-in-spec : {M : Type 1} → statement M
-phase-in-spec = tie.close (tie.spec (λ c. search needs) (λ c. search needs) returns-3 returns-4 returns-5 returns-6 returns-7 returns-8 returns-9)
+phase-in-spec = tie.close (tie.spec (λ c. search needs) (λ c. search needs) returns-3 returns-4 returns-5 returns-6 returns-7 returns-8 returns-9
+    returns-10)

@@ -73,11 +73,18 @@ fn without_a_store_and_not_blank() {
     refused("progress", &[(0, &header), (16, &PUT), (26, &COMMIT)], first);
 }
 
-/// The last time, and a change pending, which a mount would leave behind by a transfer.
+/// The last time, and changes pending up to the block's end, 16 + 16 * 248 + 104 + 8 bytes: a mount has no room to drop them there,
+/// and would leave them behind by a transfer.
 #[test]
 fn worn_and_a_transfer_due() {
     let first = "mount: 6 worn: a transfer is needed, and the creation time can't rise any more";
-    refused("worn", &[(16, &PUT), (0, &LAST)], first);
+    let put = |length: u8| {
+        let value = vec![b'v'; usize::from(length) - 8];
+        [&[length, 0x00, 0x01, 0x00, 0x02, 0x05, 0x00][..], &value, &[0xFE]].concat()
+    };
+    let puts = [put(248).repeat(16), put(104)].concat();
+    let delete = [0x08, 0x00, 0x02, 0x00, 0x01, 0x05, 0x00, 0xFE];
+    refused("worn", &[(BLOCK - delete.len(), &delete), (16, &puts), (0, &LAST)], first);
 }
 
 /// The last time, nothing pending: what is there can be read, and nothing is taken that a power cut could leave pending.

@@ -36,7 +36,7 @@ fn overlapping_transactions() {
     machine.cut();
 }
 
-/// A mount after a change was left pending is a transfer of what is settled, 16 + 7 + 2 bytes: 20 steps.
+/// A mount after a change was left pending drops it by a reset, 5 steps.
 #[test]
 fn a_restart_drops_what_is_pending() {
     let chip = chip("restart", &[]);
@@ -44,12 +44,22 @@ fn a_restart_drops_what_is_pending() {
     check(&mut machine, &[("put 2 5 \"on\"", "0 done, 10 steps"), ("commit 2", "0 done, 6 steps")]);
     check(&mut machine, &[("put 2 5 \"lost\"", "0 done, 12 steps")]);
     machine.cut();
-    let mut machine = start(&chip, &["mount: 0 done, 20 steps"]);
+    let mut machine = start(&chip, &["mount: 0 done, 5 steps"]);
     check(&mut machine, &[("commit 2", "0 done"), ("get 5", "0 done: \"on\""), ("mount", MOUNTED)]);
-    check(&mut machine, &[("log", "0 done: time 2, 1 object, 25 of 4096 bytes used")]);
+    check(&mut machine, &[("log", "0 done: time 1, 1 object, 25 of 4096 bytes used")]);
     machine.cut();
     let objects = chip.objects().expect("a store");
     assert_eq!(objects.into_iter().collect::<Vec<_>>(), [(5, b"on".to_vec())]);
+}
+
+/// A commit that was cut before its last byte, at 42: its kind becomes 0, then its last byte 0xFE, and a reset of 5 bytes follows.
+#[test]
+fn a_restart_closes_a_torn_frame() {
+    let chip = chip("torn", &[(0, &HEADER), (16, &PUT), (26, &COMMIT), (32, &PUT), (42, &COMMIT[..5])]);
+    let mut machine = start(&chip, &["mount: 0 done, 7 steps"]);
+    check(&mut machine, &[("get 5", "0 done: \"on\""), ("commit 2", "0 done"), ("mount", MOUNTED)]);
+    machine.cut();
+    assert_eq!(chip.bytes()[42..54], [6, 0, 0, 0, 2, 0xFE, 5, 0, 7, 0, 0xFE, 0xFF]);
 }
 
 /// Object 5 needs 16 + 11 + 2 bytes in edition 2: 24 steps. There a put takes 12 steps and one for each byte of its value, a
@@ -181,7 +191,7 @@ fn typed_ahead() {
 #[test]
 fn the_stack_suffices() {
     let chip = chip("stack", &[(0, &HEADER), (16, &PUT), (26, &COMMIT), (32, &PUT)]);
-    let mut machine = start(&chip, &["mount: 0 done, 20 steps"]);
+    let mut machine = start(&chip, &["mount: 0 done, 5 steps"]);
     machine.answer("put 0 1 00");
     machine.answer("commit 0");
     machine.answer("list");

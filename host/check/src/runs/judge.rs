@@ -1,7 +1,7 @@
 //! What a run is held to: the book, and what the book and document 01 tell beforehand.
 
 use super::Run;
-use crate::book::{FIRST, Lengths, Lists, SECOND, found};
+use crate::book::{Lengths, Lists, SECOND, found, lengths};
 use crate::cuts::stuck;
 use crate::damage;
 use crate::generate::Wish;
@@ -114,11 +114,11 @@ impl<M: Modelled, L: Drive, P: Store> Run<M, L, P> {
         };
     }
 
-    /// The job's steps are as many as document 01 says.
-    pub fn count_steps(&mut self, call: &Call, outcome: &Outcome, busy: bool) {
+    /// The job's steps are as many as document 01 says, a mount's those that it has to do.
+    pub fn count_steps(&mut self, call: &Call, outcome: &Outcome, busy: bool, mount: Option<usize>) {
         match call {
             Call::Format => self.due = Some(usize::from(self.twin.blocks) + 10),
-            Call::Mount => self.due = None,
+            Call::Mount => self.due = mount,
             Call::Request { .. } if outcome.answer == Answer::MORE => self.due = None,
             Call::Step | Call::Run(_) if busy => {
                 self.due = self.due.map(|due| due.checked_sub(outcome.steps).expect("more steps than due"));
@@ -130,7 +130,7 @@ impl<M: Modelled, L: Drive, P: Store> Run<M, L, P> {
     }
 
     pub fn lengths(&self) -> Lengths {
-        if self.edition == 1 { FIRST } else { SECOND }
+        lengths(self.edition)
     }
 
     /// A finished convert makes edition 2, a finished format edition 1. A convert that is cut has made edition 2 exactly if the

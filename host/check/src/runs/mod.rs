@@ -1,18 +1,21 @@
 //! Random runs from a finished format, held to the book at every idle record.
 
 mod judge;
+mod mended;
 
 use crate::blocks::{self, Wear};
 use crate::book::Book;
 use crate::cuts::{Allowed, Cuts, Start, newest};
 use crate::edition;
 use crate::generate::{self, Manner, Wish};
+use crate::mend::{self, Dirt, Due};
 use crate::pending;
 use crate::raise;
 use crate::rng::Rng;
 use crate::side::{Modelled, Stores};
 use crate::tally::Tally;
 use crate::twin::{Call, Outcome, Twin};
+use model::block::HEADER;
 use model::frame::VALUE_LIMIT;
 use std::collections::BTreeMap;
 use store::{Answer, Drive, Head, Idle, Store, message};
@@ -35,6 +38,9 @@ pub struct Plan {
     /// Whether no power is lost inside a job.
     pub calm: bool,
 }
+
+/// How much oftener a job with an erase is cut than others, of which there are more.
+const ERASES_OFTENER: usize = 5;
 
 struct Run<M: Modelled, L: Drive, P: Store> {
     twin: Twin<M, L, P>,
@@ -61,6 +67,11 @@ struct Run<M: Modelled, L: Drive, P: Store> {
     tight: bool,
     /// Steps that the job in hand has still to make, where document 01 gives their number.
     due: Option<usize>,
+    /// What the current block held when the job in hand began, and what that is to do to it; where a mount is to end: block and
+    /// end.
+    dirt: Dirt,
+    plan: mend::Plan,
+    rest: Option<(usize, usize)>,
 }
 
 /// By job, how often a mount or format began after its first step and before its last, in the run itself.
@@ -99,6 +110,9 @@ pub fn run_among<M: Modelled, L: Drive, P: Store>(stores: impl Fn() -> Stores<M,
         convert_cut: false,
         tight: false,
         due: None,
+        dirt: Dirt::up_to(HEADER, false),
+        plan: mend::Plan::None,
+        rest: None,
         rng,
     };
     run.wear.start(run.twin.erases());
@@ -144,16 +158,20 @@ impl<M: Modelled, L: Drive, P: Store> Run<M, L, P> {
         }
         match (self.twin.head(), self.rng.below(100)) {
             (Head::Job, 84..) if self.calm => self.steps(usize::MAX),
-            (Head::Job, 0..=77) => self.steps(usize::MAX),
-            (Head::Job, 78..=83) => self.some_steps(),
-            (Head::Job, 84..=89) => self.cut_erase(),
+            (Head::Job, 70..=89) if self.plan.erases() && !self.calm => self.cut_erase(),
+            (Head::Job, 60..=69) if self.plan.erases() && !self.calm => self.cut_short(),
+            (Head::Job, 34..=59) if ["mount", "format"].contains(&self.job.0) && !self.calm => self.cut_short(),
+            (Head::Job, 0..=80) => self.steps(usize::MAX),
+            (Head::Job, 81..=89) => self.some_steps(),
             (Head::Job, 90..=92) => self.any_request(),
             (Head::Job, _) => self.cut_short(),
             (Head::Idle(_), 0..=1) => self.steps(1),
-            (Head::Idle(_), 2..=9) => self.put_at_the_limit(),
-            (Head::Idle(_), 10..=17) => self.put_at_the_hosts_limit(),
+            (Head::Idle(_), 2..=7) => self.put_at_the_limit(),
+            (Head::Idle(_), 8..=13) => self.put_at_the_hosts_limit(),
+            (Head::Idle(idle), 14..=17) => self.put_to_the_end(idle),
             (Head::Idle(idle), 18..=20) => pending::mislead(&mut self.twin, &mut self.rng, idle),
             (Head::Idle(idle), 21) => edition::mislead(&mut self.twin, &mut self.rng, idle),
+            (Head::Idle(_), 22) if self.edition == 1 && !self.calm => self.fill_up(),
             (Head::Idle(_), 22..=96) => self.any_request(),
             (Head::Unmounted, 0..=19) => self.any_request(),
             (Head::Unmounted, 20..=24) => self.steps(1),
@@ -231,6 +249,23 @@ impl<M: Modelled, L: Drive, P: Store> Run<M, L, P> {
         }
     }
 
+    /// A host's longest puts, each committed, then a convert: if nothing else is pending, it may leave no room for a delete.
+    fn fill_up(&mut self) {
+        let (host, lengths) = (self.rng.below(4), self.lengths());
+        for _ in 0..4 {
+            let taken = self.book.claimed(lengths) + lengths.mark * self.book.open(host) + lengths.reserve;
+            let free = self.twin.size().saturating_sub(taken).min(self.twin.size() / 2);
+            let Some(longest) = free.checked_sub(lengths.change) else { break };
+            let value = generate::value(&mut self.rng, longest.min(VALUE_LIMIT));
+            let id = self.rng.byte();
+            for wish in [Wish::Commit, Wish::Put(id, value), Wish::Commit] {
+                self.wish(host as u8, &wish);
+                self.steps(usize::MAX);
+            }
+        }
+        self.wish(host as u8, &Wish::Convert);
+    }
+
     /// The longest put that the room rule and the limit take, or the next longer one.
     fn put_at_the_limit(&mut self) {
         let host = self.rng.below(4);
@@ -250,6 +285,15 @@ impl<M: Modelled, L: Drive, P: Store> Run<M, L, P> {
             let id = self.manner.id(&mut self.rng);
             return self.wish(host as u8, &Wish::Delete(id));
         }
+        self.put_of_about(host, free);
+    }
+
+    /// A put after which a reset just fits or just does not, alone or behind a frame that is torn later.
+    fn put_to_the_end(&mut self, idle: Idle) {
+        let host = self.rng.below(4);
+        let lengths = self.lengths();
+        let behind = self.rng.pick(&[0, 0, lengths.mark, lengths.change]) + lengths.reset + self.rng.below(2);
+        let free = self.twin.size().saturating_sub(usize::from(idle.end) + lengths.change + behind);
         self.put_of_about(host, free);
     }
 
@@ -277,17 +321,22 @@ impl<M: Modelled, L: Drive, P: Store> Run<M, L, P> {
     fn call(&mut self, call: Call) -> Outcome {
         let busy = self.twin.busy();
         let idle = self.twin.idle();
+        self.follow_cut(&call);
+        let due = self.due_of_mount(&call);
         let outcome = self.twin.call(&call);
         self.follow_edition(&call, outcome.answer, busy);
         self.follow_job(&call, &outcome, busy);
         self.check_available(&call, outcome.answer, busy);
+        let steps = due.as_ref().map(Due::steps);
+        self.follow_plan(&call, outcome.answer, idle, due);
         if outcome.answer == Answer::MORE && !call.goes_on() {
             self.cut_job(idle, &call);
         }
         self.book.feed(&call, outcome.answer);
-        self.count_steps(&call, &outcome, busy);
+        self.count_steps(&call, &outcome, busy, steps);
         self.wear.check(self.twin.blocks, self.twin.erases());
         if let Some(idle) = self.twin.idle() {
+            self.follow_rest(idle);
             self.check_book(idle);
         }
         outcome
@@ -306,8 +355,10 @@ impl<M: Modelled, L: Drive, P: Store> Run<M, L, P> {
         }
     }
 
+    /// Now and then the job is cut everywhere, on copies of the image; oftener one with an erase.
     fn cut_job(&mut self, idle: Option<Idle>, call: &Call) {
-        if self.cut_jobs == 0 || !self.rng.once_in(self.cut_jobs) {
+        let every = if self.plan.erases() { self.cut_jobs.div_ceil(ERASES_OFTENER) } else { self.cut_jobs };
+        if every == 0 || !self.rng.once_in(every) {
             return;
         }
         let objects = self.book.objects.clone();

@@ -18,9 +18,11 @@ pub enum Part {
     Valid(u32),
     /// With a put of host 1 pending.
     Pending(u32),
+    /// With a put pending that ends where the block does: a mount has no room for a reset.
+    Full(u32),
 }
 
-use Part::{Blank, Foreign, InProgress, Pending, Valid};
+use Part::{Blank, Foreign, Full, InProgress, Pending, Valid};
 
 /// Such a block; a valid one has object 5, "AB".
 fn block(part: Part) -> Vec<u8> {
@@ -34,7 +36,9 @@ fn block(part: Part) -> Vec<u8> {
         Foreign => vec![0x10, 0, 1, 0x4A, 0, 0, 0, 0, 0xFD],
         Valid(time) => valid(time, &[]),
         Pending(time) => valid(time, &[8, 0, 1, 0, 1, 7, 0, 0xFE]),
+        Full(time) => valid(time, &[&[231, 0, 1, 0, 1, 7, 0][..], &[0; 223], &[0xFE]].concat()),
     };
+    assert!(bytes.len() <= S);
     bytes.resize(S, 0xFF);
     bytes
 }
@@ -91,11 +95,31 @@ fn a_mount_erases_every_other_block_in_number_order() {
     }
 }
 
-/// The erases come first, and the transfer goes to the next block, whatever stood there.
+/// The erases come first, then the reset, in the same block.
 #[test]
-fn a_mount_that_drops_changes_goes_to_the_next_block() {
+fn a_mount_that_drops_changes_stays_in_its_block() {
     for (mut parts, current) in boards() {
         parts[current] = Pending(4);
+        let mut mounted = twin(&parts);
+        assert_eq!(mounted.call(&Call::Mount).answer, Answer::MORE);
+        let others = |number: &usize| *number != current && !matches!(parts[*number], Blank);
+        let order: Vec<usize> = (0..parts.len()).filter(others).collect();
+        let steps = order.len() + 5;
+        assert_eq!(erased(&mut mounted), (order, steps));
+        let mut mended = block(Pending(4));
+        mended[33..38].copy_from_slice(&[5, 0, 7, 0, 0xFE]);
+        for number in 0..parts.len() {
+            assert_eq!(mounted.block(number), if number == current { mended.clone() } else { block(Blank) });
+        }
+        assert_eq!(mounted.idle().map(|idle| (usize::from(idle.block), idle.end)), Some((current, 38)));
+    }
+}
+
+/// The erases come first, and the transfer goes to the next block, whatever stood there.
+#[test]
+fn a_mount_without_room_for_a_reset_goes_to_the_next_block() {
+    for (mut parts, current) in boards() {
+        parts[current] = Full(4);
         let mut mounted = twin(&parts);
         assert_eq!(mounted.call(&Call::Mount).answer, Answer::MORE);
         let next = if current + 1 == parts.len() { 0 } else { current + 1 };
@@ -258,7 +282,7 @@ fn cuts_inside_a_mounts_erases_one_in_the_others_recovery() {
     for blocks in NUMBERS.map(usize::from) {
         for current in 0..blocks {
             let mut parts = vec![InProgress; blocks];
-            parts[current] = if rng.once_in(2) { Valid(6) } else { Pending(6) };
+            parts[current] = rng.pick(&[Valid(6), Pending(6), Full(6)]);
             let mut twin = twin(&parts);
             for _ in 0..3 * blocks {
                 assert!(!twin.call(&Call::Mount).answer.refused());

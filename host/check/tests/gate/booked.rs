@@ -106,17 +106,28 @@ fn a_step_too_many() {
 }
 
 /// Document 01: "each one a step, 0xFF bytes too".
-#[test]
-#[should_panic(expected = "fewer steps than due")]
-fn bytes_of_0xff_that_are_no_steps() {
-    let request = |image: &[u8], blocks, record: &mut Record, host, message: &[u8], reply: &mut [u8]| {
+const SKIPS_0XFF: Altered = Altered {
+    request: |image, blocks, record, host, message, reply| {
         let fewer: fn(Vec<Step>) -> Vec<Step> = |mut steps| {
             steps.retain(|step| !matches!(step, Step::Program { byte: 0xFF, .. }));
             steps
         };
         with_steps(fewer, (image, blocks), record, (host, message), reply)
-    };
-    run(Altered { request, ..RIGHT }, 2);
+    },
+    ..RIGHT
+};
+
+#[test]
+#[should_panic(expected = "fewer steps than due")]
+fn bytes_of_0xff_that_are_no_steps() {
+    run(SKIPS_0XFF, 3);
+}
+
+/// The same cut after some steps: more is written than was to be.
+#[test]
+#[should_panic(expected = "power was lost and left something else")]
+fn a_cut_that_leaves_something_else() {
+    run(SKIPS_0XFF, 2);
 }
 
 /// U is said to be S.

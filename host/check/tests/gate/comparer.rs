@@ -10,7 +10,8 @@ use store::{Answer, Drive, Fault, Idle, Store, Stretch, message};
 
 const LENGTH: usize = 512;
 
-/// A format, a change, its commit, a read, a log, a refusal, a restart that drops a change, and an image that is refused.
+/// A format, a change, its commit, a read, a log, a refusal, a restart that drops a change, a convert, and an image that is
+/// refused.
 fn use_all<M: Modelled, L: Drive, P: Store>(stores: Stores<M, L, P>) {
     let mut twin = Twin::formatted_among(stores, 2, LENGTH);
     assert_eq!(twin.serve(0, &message::put(1, b"one")), (Answer::DONE, 11));
@@ -19,7 +20,8 @@ fn use_all<M: Modelled, L: Drive, P: Store>(stores: Stores<M, L, P>) {
     assert_eq!(twin.log()[8..], [1, 0, 26, 0, 0, 1]);
     assert_eq!(twin.ask(0, &message::read(2)), Answer::NO_OBJECT);
     assert_eq!(twin.serve(1, &message::delete(1)), (Answer::DONE, 8));
-    assert_eq!(twin.whole(&Call::Mount), (Answer::DONE, 21));
+    assert_eq!(twin.whole(&Call::Mount), (Answer::DONE, 5));
+    assert_eq!(twin.serve(0, &message::convert()), (Answer::DONE, 16 + 11 + 3 - 5));
     let mut image = twin.image().to_vec();
     image[LENGTH / 2] = 0;
     twin.load(&image);

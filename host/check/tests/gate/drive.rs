@@ -3,11 +3,13 @@
 //! two blocks and of more. `Twin` compares the same on all its runs.
 
 use check::forged;
+use check::mend;
 use check::rng::Rng;
 use check::twin::{Call, Twin};
-use library::{Driven, EDITION, JOB, Library, PENDING, RECORD_SIZE, Record};
+use library::{Driven, EDITION, JOB, Library, PENDING, RECORD_SIZE, Record, STAGES};
+use model::edition::Edition;
 use std::collections::BTreeMap;
-use store::{Answer, Head, Store, Told, message};
+use store::{Answer, Head, Idle, Store, Told, message};
 
 /// An image, how many blocks it is said to have, and a record, whether they belong together or not.
 #[derive(Clone, PartialEq)]
@@ -17,16 +19,13 @@ struct Board {
     record: Record,
 }
 
-/// The stages of a job, the record's first byte.
-const STAGES: std::ops::RangeInclusive<u8> = 2..=7;
-
 /// Where the record says how many blocks there are.
 const BLOCKS: usize = 6;
 
 /// One-byte fields of a job by their place in the record, with values on both sides of what is in range: current block and
 /// its edition, the first two and the last of the blocks to erase and their number, two flags, block made, length to append,
-/// edition made, step, length copied and its next byte.
-const BYTES: [(usize, &[u8]); 14] = [
+/// edition made, number of bytes to close, step, length copied and its next byte.
+const BYTES: [(usize, &[u8]); 15] = [
     (3, &[0, 0, 1, 1, 2, 15, 16, 255]),
     (EDITION, &[0, 1, 1, 2, 2, 3, 7, 255]),
     (JOB.start, &[0, 1, 2, 15, 16, 255]),
@@ -38,14 +37,15 @@ const BYTES: [(usize, &[u8]); 14] = [
     (JOB.start + 19, &[0, 0, 1, 1, 2, 15, 16, 255]),
     (JOB.start + 32, &[0, 1, 6, 10, 248, 251, 252, 253, 255]),
     (JOB.start + 33, &[0, 1, 1, 2, 2, 3, 7, 255]),
-    (JOB.start + 34, &[0, 1, 3, 4, 5, 6, 250, 251, 252, 255]),
-    (JOB.start + 41, &[0, 1, 7, 11, 248, 251, 252, 253, 255]),
-    (JOB.start + 42, &[0, 1, 6, 10, 250, 251, 252, 254, 255]),
+    (JOB.start + 34, &[0, 0, 1, 2, 3, 4, 5, 255]),
+    (JOB.start + 43, &[0, 1, 2, 3, 4, 5, 6, 250, 251, 252, 255]),
+    (JOB.start + 50, &[0, 1, 7, 11, 248, 251, 252, 253, 255]),
+    (JOB.start + 51, &[0, 1, 6, 10, 250, 251, 252, 254, 255]),
 ];
 
-/// Two-byte fields: end, what the first and the last host have pending, then in the job each host's mark, next offset, next
-/// id, next frame to copy.
-const WORDS: [usize; 10] = [
+/// Two-byte fields: end, what the first and the last host have pending, then in the job each host's mark, the places to close,
+/// next offset, next id, next frame to copy.
+const WORDS: [usize; 14] = [
     4,
     PENDING.start,
     PENDING.end - 2,
@@ -56,10 +56,14 @@ const WORDS: [usize; 10] = [
     JOB.start + 35,
     JOB.start + 37,
     JOB.start + 39,
+    JOB.start + 41,
+    JOB.start + 44,
+    JOB.start + 46,
+    JOB.start + 48,
 ];
 
 /// A job of each kind on an image of so many blocks, in edition 1 and in edition 2: format, append, append after a transfer,
-/// mount with erase and transfer; between the editions a convert.
+/// mount with erase and reset, with a closing before the reset, with erase and transfer; between the editions a convert.
 fn jobs(blocks: u8, length: usize) -> Vec<Board> {
     let mut twin = Twin::formatted_of(blocks, length);
     assert_eq!(twin.serve(0, &message::put(7, b"both")).0, Answer::DONE);
@@ -99,8 +103,16 @@ fn jobs_from(mut twin: Twin) -> Vec<Board> {
     assert_eq!(twin.serve(3, &message::put(3, b"pending")).0, Answer::DONE);
     let mut image = twin.image().to_vec();
     image[(block(&twin) + 1) % usize::from(blocks) * size + 8] = 0xFE;
-    let record = library.mount(&image, blocks).1;
-    jobs.push(Board { image, blocks, record });
+    let Idle { end, edition, .. } = twin.idle().expect("idle");
+    let (current, end) = (block(&twin) * size, usize::from(end));
+    let mut torn = image.clone();
+    torn[current + end] = 12;
+    let mut full = image.clone();
+    mend::stuff(&mut full[current..][..size], end, Edition::ALL[usize::from(edition) - 1]);
+    for image in [image, torn, full] {
+        let record = library.mount(&image, blocks).1;
+        jobs.push(Board { image, blocks, record });
+    }
     jobs
 }
 
@@ -109,7 +121,7 @@ fn jobs_from(mut twin: Twin) -> Vec<Board> {
 fn forged(rng: &mut Rng, real: &Board) -> Board {
     let Board { image, mut blocks, mut record } = real.clone();
     if rng.once_in(2) {
-        record[0] = 2 + rng.below(6) as u8;
+        record[0] = 2 + rng.below(STAGES.count()) as u8;
     }
     let size = (image.len() / usize::from(blocks)) as u16;
     for (at, bytes) in BYTES {

@@ -24,15 +24,21 @@ pub struct Scene {
     objects: Objects,
     /// The time of the block that stays.
     time: u32,
-    /// Steps of the mount after its erase: a transfer if the block that stays is dirty.
+    /// Steps of the mount after its erase: a reset or a transfer if the block that stays is dirty.
     rest: usize,
+    /// Whether it is a transfer.
+    moves: bool,
 }
+
+/// A transfer of the settled objects, U - 5, and a reset.
+const TRANSFER: usize = 30;
+const RESET: usize = 5;
 
 impl Scene {
     fn now(twin: &Twin, time: u32, rest: usize) -> Scene {
         let block = twin.erases_next().expect("the next step is an erase");
         let objects = [(7, b"seven".to_vec()), (9, vec![])].into();
-        Scene { image: twin.image().to_vec(), block, objects, time, rest }
+        Scene { image: twin.image().to_vec(), block, objects, time, rest, moves: rest == TRANSFER }
     }
 
     fn erased(&self) -> &[u8] {
@@ -64,9 +70,8 @@ impl Scene {
 
     fn judge(&self, twin: &mut Twin) {
         let Idle { block, .. } = twin.idle().expect("idle");
-        let moved = self.rest > 0;
-        assert_eq!(usize::from(block) == self.block, moved);
-        assert_eq!(newest(twin.image(), 2), Some(self.time + u32::from(moved)));
+        assert_eq!(usize::from(block) == self.block, self.moves);
+        assert_eq!(newest(twin.image(), 2), Some(self.time + u32::from(self.moves)));
         assert_eq!(block_of(twin.image(), 2, 1 - usize::from(block)), [0xFF; S]);
         assert_eq!(found(block_of(twin.image(), 2, usize::from(block))), (self.objects.clone(), Lists::default()));
         for (id, value) in &self.objects {
@@ -85,7 +90,8 @@ fn steps(twin: &mut Twin, count: usize) {
     }
 }
 
-/// Objects 7 and 9 settled in block 0, U being 16 + 12 + 7, then a put pending. Its time is this one.
+/// Objects 7 and 9 settled in block 0, U being 16 + 12 + 7, then aborted puts and one that is pending. Frames end at
+/// 43 + 3 * 54 + 35 + 14 = 254, where no reset fits. Its time is this one.
 fn pending(time: u32) -> Twin {
     let mut twin = Twin::formatted(LENGTH);
     let mut image = twin.image().to_vec();
@@ -94,7 +100,12 @@ fn pending(time: u32) -> Twin {
     serve(&mut twin, 1, &message::put(7, b"seven"));
     serve(&mut twin, 1, &message::put(9, &[]));
     serve(&mut twin, 1, &message::commit());
+    for size in [40, 40, 40, 21] {
+        serve(&mut twin, 0, &message::put(1, &vec![0xFF; size]));
+        serve(&mut twin, 0, &message::abort());
+    }
     serve(&mut twin, 2, &message::put(7, b"\x06\x00\x03\x00\x02\xFE"));
+    assert_eq!(twin.idle().map(|idle| idle.end), Some(254));
     twin
 }
 
@@ -119,20 +130,16 @@ fn mount_in_progress(time: u32) -> Scene {
     assert_eq!(twin.call(&Call::Mount).answer, Answer::MORE);
     steps(&mut twin, 20);
     assert_eq!(twin.call(&Call::Mount).answer, Answer::MORE);
-    Scene::now(&twin, time, 30)
+    Scene::now(&twin, time, TRANSFER)
 }
 
-/// A put that needs a transfer, pending frames included. The mount after the cut drops them by a transfer of its own.
+/// A put that needs a transfer, pending frames included. The mount after the cut drops them by a reset.
 fn put_transfer(time: u32) -> Scene {
     let mut twin = pending(time);
-    while twin.idle().is_some_and(|idle| usize::from(idle.end) + 72 <= S) {
-        serve(&mut twin, 0, &message::put(1, &[1; 40]));
-        serve(&mut twin, 0, &message::abort());
-    }
     assert_eq!(twin.ask(0, &message::put(1, &[2; 64])), Answer::MORE);
     // C is U and the pending put of 14 bytes; its transfer has C - 5 steps, of which the erase is the last.
     steps(&mut twin, 35 + 14 - 6);
-    Scene::now(&twin, time + 1, 30)
+    Scene::now(&twin, time + 1, RESET)
 }
 
 fn scenes(time: u32) -> [Scene; 4] {
@@ -309,17 +316,22 @@ fn a_changed_value_in_a_half_erased_block() {
     scene.mount(&mut Twin::blank(LENGTH), &mask);
 }
 
-/// The block that stays has the last time. Clean, it is mounted; with a put pending a transfer would be needed: 6, and the old
-/// block stays as the cut left it.
+/// The block that stays has the last time. Clean it is mounted, and with a put pending that a reset drops. With a put pending up
+/// to its end, which no store leaves beside a block that was being erased, a transfer would be needed: 6, and the old block
+/// stays as the cut left it.
 #[test]
 fn cuts_at_the_last_time() {
     let (clean, dirty) = (mount_transfer(u32::MAX - 1), put_transfer(u32::MAX - 1));
+    let mut stuck = mount_transfer(u32::MAX - 1);
+    let last = [&[(S - 35) as u8, 0, 1, 0, 1, 7, 0][..], &[0; S - 35 - 8], &[0xFE]].concat();
+    stuck.image[S + 35..].copy_from_slice(&last);
     let mut twin = Twin::blank(LENGTH);
     for (at, bit) in zeros(clean.erased()) {
         let mut mask = [0; S];
         mask[at] = bit;
         clean.mount(&mut twin, &mask);
-        let image = dirty.raised(&mask);
+        dirty.mount(&mut twin, &mask);
+        let image = stuck.raised(&mask);
         twin.load(&image);
         assert_eq!(twin.call(&Call::Mount).answer, Answer::WORN);
         assert_eq!((twin.image(), twin.head()), (&image[..], Head::Unmounted));

@@ -3,7 +3,6 @@
 use super::second;
 use check::fault::agreed;
 use check::rng::Rng;
-use check::twin::{Call, Twin};
 use model::edition::Edition::First;
 use model::frame::{self, Host, Id};
 use std::collections::BTreeSet;
@@ -23,6 +22,9 @@ const ABORT: [u8; 6] = [6, 0, 4, 0, 2, 0xFE];
 pub const SETTLED: [u8; 9] = [9, 0, 5, 0, 5, 0, 0x41, 0x42, 0xFE];
 /// An empty value: the one length that no other kind has.
 pub const EMPTY: [u8; 7] = [7, 0, 5, 0, 6, 0, 0xFE];
+const RESET: [u8; 5] = [5, 0, 7, 0, 0xFE];
+/// A put that was torn after its id, and closed.
+const CLOSED: [u8; 10] = [10, 0, 0, 0, 2, 5, 0, 0xFF, 0xFF, 0xFE];
 
 /// A block that begins with these bytes.
 pub fn block(parts: &[&[u8]]) -> Vec<u8> {
@@ -32,7 +34,7 @@ pub fn block(parts: &[&[u8]]) -> Vec<u8> {
     block
 }
 
-fn blank() -> Vec<u8> {
+pub fn blank() -> Vec<u8> {
     block(&[])
 }
 
@@ -83,6 +85,8 @@ fn journals() -> Vec<Vec<u8>> {
         block(&[&HEADER, &SETTLED, &COMMIT[..5]]),
         block(&[&SECOND, &second::SETTLED, &second::EMPTY, &second::DELETE, &second::COMMIT]),
         block(&[&SECOND, &second::ABORT, &second::PUT[..11]]),
+        block(&[&HEADER, &EMPTY, &CLOSED, &DELETE, &RESET, &CLOSED[..9]]),
+        block(&[&SECOND, &second::PUT, &second::CLOSED, &second::RESET, &second::CLOSED[..6]]),
     ]
 }
 
@@ -125,13 +129,13 @@ fn nothing_after_the_bad_field_matters() {
 }
 
 /// A frame, one byte of it changed, and the first field that is then bad, with its place in the frame.
-const BAD: [(&[u8], usize, u8, Field, usize); 36] = [
+const BAD: [(&[u8], usize, u8, Field, usize); 50] = [
     (&PUT, 0, 0, Field::Length, 0),
-    (&PUT, 0, 5, Field::Length, 0),
+    (&PUT, 0, 4, Field::Length, 0),
     (&PUT, 0, 249, Field::Length, 0),
     (&PUT, 1, 1, Field::Length, 0),
+    (&PUT, 0, 5, Field::Kind, 2),
     (&PUT, 0, 6, Field::Kind, 2),
-    (&PUT, 2, 0, Field::Kind, 2),
     (&PUT, 2, 2, Field::Kind, 2),
     (&PUT, 2, 3, Field::Kind, 2),
     (&PUT, 2, 6, Field::Kind, 2),
@@ -162,6 +166,20 @@ const BAD: [(&[u8], usize, u8, Field, usize); 36] = [
     (&EMPTY, 2, 1, Field::Kind, 2),
     (&EMPTY, 5, 1, Field::Id, 4),
     (&EMPTY, 6, 0xFA, Field::Finish, 6),
+    (&RESET, 0, 6, Field::Kind, 2),
+    (&RESET, 1, 1, Field::Length, 0),
+    (&RESET, 2, 3, Field::Kind, 2),
+    (&RESET, 2, 6, Field::Kind, 2),
+    (&RESET, 3, 1, Field::Kind, 2),
+    (&RESET, 4, 0xFC, Field::Finish, 4),
+    (&CLOSED, 0, 4, Field::Length, 0),
+    (&CLOSED, 0, 7, Field::Kind, 2),
+    (&CLOSED, 0, 9, Field::Finish, 8),
+    (&CLOSED, 1, 1, Field::Length, 0),
+    (&CLOSED, 1, 0xFF, Field::Length, 0),
+    (&CLOSED, 3, 1, Field::Kind, 2),
+    (&CLOSED, 3, 0xFF, Field::Kind, 2),
+    (&CLOSED, 9, 0xFF, Field::Finish, 9),
 ];
 
 #[test]
@@ -205,11 +223,11 @@ fn settled_frames_that_may_not_stand_there() {
     assert_eq!(behind(&[&settled(255)], &with(&settled(5), 5, 9)), Some((Field::Kind, 2)));
 }
 
-/// A cut frame of kinds 1 to 4 is torn. Of a cut settled frame the missing bytes are 0xFF, and the first field that they
+/// A cut frame of kinds 1 to 4 or 7 is torn. Of a cut settled frame the missing bytes are 0xFF, and the first field that they
 /// spoil is bad; its length alone may begin a put.
 #[test]
 fn frames_cut_after_each_byte() {
-    for frame in [&PUT[..], &DELETE, &COMMIT, &ABORT] {
+    for frame in [&PUT[..], &DELETE, &COMMIT, &ABORT, &RESET] {
         for cut in 0..=frame.len() {
             assert_eq!(behind(&[&SETTLED], &frame[..cut]), None, "{:?}", &frame[..cut]);
         }
@@ -261,7 +279,7 @@ fn a_torn_frame_with_something_behind() {
     }
 }
 
-/// A frame that would not fit has a bad length. Fewer than six bytes hold no frame at all.
+/// A frame that would not fit has a bad length. Fewer than five bytes hold no frame at all, five a reset alone.
 #[test]
 fn frames_at_the_end_of_the_block() {
     let filler = frame::put(First, Host(0), Id(1), &[0; S - 16 - 8 - 10]);
@@ -273,111 +291,7 @@ fn frames_at_the_end_of_the_block() {
     for rest in 1..6 {
         let filler = frame::put(First, Host(0), Id(1), &vec![0; S - 16 - 8 - rest]);
         assert_eq!(behind(&[&filler], &COMMIT[..rest]), Some((Field::Length, 0)));
+        assert_eq!(behind(&[&filler], &RESET[..rest]), (rest < 5).then_some((Field::Length, 0)));
         assert_eq!(behind(&[&filler], &vec![0xFF; rest]), None);
     }
-}
-
-/// What is said of an image whose blocks are these.
-fn of_blocks(blocks: [&[u8]; 2]) -> (Answer, Option<Fault>) {
-    agreed(&blocks.concat(), 2)
-}
-
-fn foreign(block: usize, field: Field, place: usize) -> (Answer, Option<Fault>) {
-    (Answer::FOREIGN, Some(Fault { block, field, place }))
-}
-
-/// Fields in address order, each named at its own start, the rest always at 9.
-#[test]
-fn each_field_of_the_header() {
-    let whole = block(&[&HEADER, &PUT, &COMMIT]);
-    for (at, right) in HEADER.into_iter().enumerate() {
-        let (field, place) = match at {
-            0..2 => (Field::Length, 0),
-            2..4 => (Field::Kind, 2),
-            4..8 => (Field::Time, 4),
-            8 => (Field::State, 8),
-            _ => (Field::Rest, 9),
-        };
-        for byte in 0..=255 {
-            let damaged = with(&whole, at, byte);
-            let expected = match (at, byte) {
-                _ if byte == right => (Answer::DONE, None),
-                (8, 0xFE) => (Answer::NO_STORE, None),
-                (4, 0xFF) => foreign(0, Field::Time, 4),
-                (4..8, _) => (Answer::DONE, None),
-                // a header of edition 2, in which a put has 12 bytes or more
-                (2, 2) => foreign(0, Field::Kind, 18),
-                _ => foreign(0, field, place),
-            };
-            assert_eq!(of_blocks([&damaged, &blank()]), expected, "byte {at} is {byte:#04x}");
-        }
-    }
-}
-
-/// Of several bad fields the first is named: a time never programmed goes before the state byte, both before the rest.
-#[test]
-fn several_fields_of_the_header() {
-    let whole = block(&[&HEADER, &PUT, &with(&COMMIT, 4, 9)]);
-    let bad = [(0, 17, Field::Length), (2, 3, Field::Kind), (4, 0xFF, Field::Time), (8, 0xF0, Field::State)];
-    let bad = [&bad[..], &[(9, 0, Field::Rest)]].concat();
-    for first in 0..bad.len() {
-        let (place, _, field) = bad[first];
-        let damaged = bad[first..].iter().fold(whole.clone(), |block, (at, byte, _)| with(&block, *at, *byte));
-        assert_eq!(of_blocks([&damaged, &blank()]), foreign(0, field, place));
-    }
-    assert_eq!(of_blocks([&whole, &blank()]), foreign(0, Field::Host, 30));
-    for state in [0x00, 0xF8, 0xFD, 0xFF] {
-        let without_time = with(&with(&whole, 4, 0xFF), 8, state);
-        assert_eq!(of_blocks([&without_time, &blank()]), foreign(0, Field::Time, 4));
-        assert_eq!(of_blocks([&with(&whole, 8, state), &blank()]), foreign(0, Field::State, 8));
-    }
-    // nothing but one byte programmed somewhere: the length was never programmed
-    assert_eq!(of_blocks([&blank(), &with(&blank(), 100, 0)]), foreign(1, Field::Length, 0));
-}
-
-/// Block 0 is named before block 1; a block that is blank or in progress has no fault.
-#[test]
-fn which_block_is_named() {
-    let (host, rest) = (block(&[&HEADER, &with(&COMMIT, 4, 9)]), block(&[&with(&HEADER, 15, 0)]));
-    assert_eq!(of_blocks([&host, &rest]), foreign(0, Field::Host, 20));
-    assert_eq!(of_blocks([&rest, &host]), foreign(0, Field::Rest, 9));
-    for other in [blank(), with(&host, 8, 0xFE)] {
-        assert_eq!(of_blocks([&host, &other]), foreign(0, Field::Host, 20));
-        assert_eq!(of_blocks([&other, &rest]), foreign(1, Field::Rest, 9));
-        assert_eq!(of_blocks([&other, &other]), (Answer::NO_STORE, None));
-    }
-    // K4: beside a valid block a foreign one is erased
-    let valid = block(&[&HEADER, &SETTLED]);
-    for blocks in [[&valid[..], &host], [&host, &valid]] {
-        assert_eq!(of_blocks(blocks), (Answer::DONE, None));
-        let mut twin = Twin::new(&blocks.concat());
-        assert_eq!(twin.whole(&Call::Mount), (Answer::DONE, 1));
-        assert_eq!(twin.fault(), (Answer::DONE, None));
-    }
-}
-
-#[test]
-fn equal_times() {
-    let [one, other] = [block(&[&HEADER, &SETTLED]), block(&[&HEADER, &PUT[..4]])];
-    for blocks in [[&one[..], &other], [&other, &one], [&one, &one]] {
-        assert_eq!(of_blocks(blocks), foreign(0, Field::Time, 4));
-    }
-    assert_eq!(of_blocks([&one, &with(&other, 4, 0xFD)]), (Answer::DONE, None));
-}
-
-/// The other refusals of a mount, in their order, and accepted ones: no block, field or place.
-#[test]
-fn other_answers() {
-    for length in [0, 1, 256, 511, 513, 65_792] {
-        assert_eq!(agreed(&vec![0; length], 2), (Answer::IMAGE_LENGTH, None));
-    }
-    for length in [512, 768, 65_536] {
-        assert_eq!(agreed(&vec![0xFF; length], 2), (Answer::NO_STORE, None));
-        assert_eq!(agreed(&vec![0; length], 2), foreign(0, Field::Length, 0));
-    }
-    let last = |frames: &[u8]| block(&[b"\x10\0\x01\x4A\0\0\0\0", &HEADER[8..], frames]);
-    assert_eq!(of_blocks([&last(&PUT), &blank()]), (Answer::WORN, None));
-    assert_eq!(of_blocks([&last(&PUT[..1]), &blank()]), (Answer::WORN, None));
-    assert_eq!(of_blocks([&blank(), &last(&SETTLED)]), (Answer::DONE, None));
-    assert_eq!(of_blocks([&last(&with(&PUT, 4, 4)), &blank()]), foreign(0, Field::Host, 20));
 }

@@ -1,8 +1,8 @@
 //! K9: every bit of short journals of edition 2, turned. What is expected is said by the paper alone: frames are noticed by
-//! their CRC; time, state, tails and blank blocks have none.
+//! their CRC; time, state, tails, blank blocks and closed frames (K11) have none.
 
 use super::convert::header;
-use super::second::{ABORT, COMMIT, DELETE, EMPTY, PUT, SETTLED, image_of};
+use super::second::{ABORT, CLOSED, COMMIT, DELETE, EMPTY, PUT, RESET, SETTLED, image_of};
 use check::book::{Lists, Objects, found};
 use check::twin::{Call, Twin};
 use std::ops::Range;
@@ -30,15 +30,28 @@ impl Journal {
         self.frames.last().map_or(16, |frame| frame.end)
     }
 
-    /// What is settled if frames end here.
-    fn settled(&self, end: usize) -> Objects {
+    /// What is settled if frames end here, and whether anything is pending.
+    fn found(&self, end: usize) -> (Objects, bool) {
         let mut block = self.image[..S].to_vec();
         block[end..].fill(0xFF);
-        found(&block).0
+        let (objects, lists) = found(&block);
+        (objects, lists != Lists::default())
+    }
+
+    /// The same of all frames but this one.
+    fn without(&self, frame: &Range<usize>) -> (Objects, bool) {
+        let others = self.frames.iter().filter(|other| *other != frame);
+        let others: Vec<&[u8]> = others.map(|other| &self.image[other.clone()]).collect();
+        let others = Journal::of(&others);
+        others.found(others.end())
+    }
+
+    fn pending(&self) -> bool {
+        self.found(self.end()).1
     }
 }
 
-fn journals() -> [Journal; 6] {
+fn journals() -> [Journal; 9] {
     [
         Journal::of(&[]),
         Journal::of(&[&PUT]),
@@ -46,6 +59,9 @@ fn journals() -> [Journal; 6] {
         Journal::of(&[&SETTLED, &EMPTY]),
         Journal::of(&[&SETTLED, &EMPTY, &DELETE, &ABORT, &PUT, &COMMIT]),
         Journal::of(&[&DELETE, &PUT, &COMMIT, &PUT, &ABORT, &DELETE]),
+        Journal::of(&[&PUT, &CLOSED, &RESET, &PUT, &COMMIT]),
+        Journal::of(&[&SETTLED, &CLOSED]),
+        Journal::of(&[&DELETE, &RESET]),
     ]
 }
 
@@ -79,21 +95,26 @@ fn seen(board: &mut Twin, image: &[u8]) -> Seen {
     }
 }
 
-/// What a mount drops by a transfer: 16 bytes and a settled frame for each object, less five, and the erase of block 1 before
-/// it if that is not blank.
-fn moved(objects: Objects, erases: usize) -> Seen {
-    let steps = objects.values().map(|value| 11 + value.len()).sum::<usize>() + 16 - 5;
-    Seen::Found(objects, 2, steps + erases)
+/// What a mount leaves of a journal up to here, with a torn frame of so many bytes behind it, of which so many are changed to
+/// close it, and after so many erases: it drops what is pending by a reset of nine bytes, or where that does not fit by a
+/// transfer, of 16 bytes and a settled frame for each object, less five.
+fn mended((objects, pending): (Objects, bool), end: usize, closes: usize, erases: usize) -> Seen {
+    let reset = if pending { 9 } else { 0 };
+    if end + reset > S {
+        let steps = objects.values().map(|value| 11 + value.len()).sum::<usize>() + 16 - 5;
+        return Seen::Found(objects, 2, steps + erases);
+    }
+    Seen::Found(objects, 1, closes + reset + erases)
 }
 
-fn pending(journal: &Journal) -> bool {
-    found(&journal.image[..S]).1 != Lists::default()
+/// With a frame torn that begins here.
+fn torn(journal: &Journal, start: usize, length: usize, closes: usize) -> Seen {
+    mended(journal.found(start), start + length, closes, 0)
 }
 
 /// Without a bit turned, and as it is with one in block 1, which is then erased.
 fn whole(journal: &Journal, erases: usize) -> Seen {
-    let objects = journal.settled(journal.end());
-    if pending(journal) { moved(objects, erases) } else { Seen::Found(objects, 1, erases) }
+    mended(journal.found(journal.end()), journal.end(), 0, erases)
 }
 
 /// Of the header: time has no CRC, so another time is another time; 0xFE is in progress; anything else is 3.
@@ -117,45 +138,36 @@ fn of_header(journal: &Journal, at: usize, turned: u8) -> Seen {
     }
 }
 
-/// Of the blank tail: a first byte that is the length of a put which would fit is torn, and dropped as that is.
+/// Of the blank tail: a first byte that is the length of a put which would fit is torn, and closed as that is, in four bytes.
 fn of_tail(journal: &Journal, at: usize, turned: u8) -> Seen {
     let (end, length) = (journal.end(), usize::from(turned));
     if at == end && length <= 252 && end + length <= S {
-        moved(journal.settled(end), 0)
+        torn(journal, end, length, 4)
     } else {
         Seen::Broken(Field::Length, end)
     }
 }
 
-/// Of a frame: never accepted, but for the last one's finish byte, as if its last step had not been made (of a settled frame
-/// that is wrong), and a put's length that reaches behind the journal's end, as if that put were being written.
+/// Of a frame: accepted only as what a cut or a mount may have left. The last one's finish byte is gone, as if its last step had
+/// not been made (of a settled frame that is wrong); a put's length reaches behind the journal's end, as if that put were being
+/// written, or a closed frame's, as if it were being closed; the kind's one bit is gone, as if the frame had been closed.
 fn of_frame(journal: &Journal, frame: &Range<usize>, at: usize, turned: u8, seen: &Seen) {
     let (block, end) = (&journal.image[..S], journal.end());
     let kind = block[frame.start + 2];
     let value = frame.start + if kind == 5 { 6 } else { 7 };
     let crc = frame.end - 5;
-    let longer = usize::from(turned);
+    let longer = frame.start + usize::from(turned);
+    let fits = longer <= S && turned <= 252;
+    let closes = if kind == 0 { 1 } else { 2 };
     let expected = match at - frame.start {
-        _ if at + 1 == end && turned == 0xFF && kind < 5 => moved(journal.settled(frame.start), 0),
+        _ if at + 1 == end && turned == 0xFF && kind != 5 => torn(journal, frame.start, frame.len(), closes),
         _ if at + 1 == frame.end => Seen::Broken(Field::Finish, at),
+        4.. if kind == 0 => whole(journal, 0),
+        2 if turned == 0 => mended(journal.without(frame), end, 0, 0),
+        0 if kind == 1 && fits && longer - 5 >= end => torn(journal, frame.start, longer - frame.start, closes),
+        0 if kind == 0 && fits && longer > end => torn(journal, frame.start, longer - frame.start, closes),
+        0..4 => return broken(frame, longer, at, seen),
         _ if at >= crc || (at >= value && matches!(kind, 1 | 5)) => Seen::Broken(Field::Crc, crc),
-        0 if kind == 1 && frame.start + longer <= S && (frame.start + longer - 5 >= end) && longer <= 252 => {
-            moved(journal.settled(frame.start), 0)
-        }
-        0 | 1 => {
-            let broken = |field, place: usize| *seen == Seen::Broken(field, place);
-            let at_crc = broken(Field::Crc, (frame.start + longer).saturating_sub(5));
-            assert!(
-                broken(Field::Length, frame.start) || broken(Field::Kind, frame.start + 2) || at_crc,
-                "{seen:?}"
-            );
-            return;
-        }
-        2 | 3 => {
-            let Seen::Broken(_, place) = seen else { panic!("{seen:?}") };
-            assert!((frame.start + 2..=crc).contains(place), "{seen:?}");
-            return;
-        }
         4 if kind < 5 && turned > 3 => Seen::Broken(Field::Host, at),
         5 if kind == 5 => Seen::Broken(Field::Id, at - 1),
         6 if kind < 3 => Seen::Broken(Field::Id, at - 1),
@@ -165,7 +177,18 @@ fn of_frame(journal: &Journal, frame: &Range<usize>, at: usize, turned: u8, seen
     assert_eq!(*seen, expected, "byte {at} is {turned:#04x}");
 }
 
-/// Nothing turned goes unnoticed, but in changes that a mount drops in any case.
+/// In its length or kind: at that field, or at one of those that another length or kind makes of the bytes behind it.
+fn broken(frame: &Range<usize>, longer: usize, at: usize, seen: &Seen) {
+    let Seen::Broken(field, place) = seen else { panic!("{seen:?}") };
+    let places = match at - frame.start {
+        0 | 1 => [frame.start, frame.start + 2, longer.saturating_sub(5), longer.saturating_sub(1)],
+        _ => [frame.start + 2, frame.start + 4, frame.start + 5, frame.end - 5],
+    };
+    assert!(places.contains(place), "{field} at {place}, byte {at}");
+}
+
+/// Nothing turned goes unnoticed, but in changes that a mount drops in any case, in what a closed frame was before, and where a
+/// kind of one bit, a put's, a delete's or an abort's, loses it: that frame is a closed one, and means nothing.
 #[test]
 fn every_bit_of_short_journals() {
     for journal in journals() {
@@ -176,8 +199,10 @@ fn every_bit_of_short_journals() {
             let mut image = journal.image.clone();
             image[at] ^= 1 << bit;
             let (turned, seen) = (image[at], seen(&mut board, &image));
-            assert!(seen != before || pending(&journal), "bit {bit} of byte {at}");
-            match journal.frames.iter().find(|frame| frame.contains(&at)) {
+            let frame = journal.frames.iter().find(|frame| frame.contains(&at));
+            let closed = frame.is_some_and(|frame| image[frame.start + 2] == 0);
+            assert!(seen != before || journal.pending() || closed, "bit {bit} of byte {at}");
+            match frame {
                 _ if at >= S => assert_eq!(seen, whole(&journal, 1)),
                 _ if at < 16 => assert_eq!(seen, of_header(&journal, at, turned), "bit {bit} of byte {at}"),
                 None => assert_eq!(seen, of_tail(&journal, at, turned), "bit {bit} of byte {at}"),

@@ -2,9 +2,11 @@
 //! gets 11 within 65,536 step calls, whatever the number of blocks.
 
 use check::forged;
+use check::mend;
 use check::rng::Rng;
 use check::twin::{Call, Twin};
-use library::{JOB, Library, RECORD_SIZE, Record};
+use library::{JOB, Library, RECORD_SIZE, Record, STAGES};
+use model::edition::Edition::First;
 use store::{Answer, Head, Store, message};
 
 /// Whether one flash step, or none, leads from `before` to `after`, of blocks of this size.
@@ -32,7 +34,7 @@ fn forged_job(rng: &mut Rng, real: &Record) -> Record {
         let at = if rng.once_in(2) { rng.below(RECORD_SIZE) } else { JOB.start + rng.below(JOB.len()) };
         record[at] = rng.byte();
     }
-    record[0] = 2 + rng.below(6) as u8;
+    record[0] = 2 + rng.below(STAGES.count()) as u8;
     record
 }
 
@@ -123,8 +125,12 @@ fn jobs_without_an_end() {
     });
 }
 
+/// The header of a block at time 1.
+const HEADER: [u8; 16] = *b"\x10\0\x01\x4A\xFE\xFF\xFF\xFF\xFC\xFF\xFF\xFF\xFF\xFF\xFF\xFF";
+
 /// A mount's job with 255 erases first and 255 bytes to append: 255 erases, five writes, the frames of 256 objects, five
-/// writes, the erase of the old block, 255 bytes of which the last three are in no frame.
+/// writes, the erase of the old block, 255 bytes of which the last three are in no frame. Closed frames leave no room for a
+/// reset.
 #[test]
 fn the_longest_jobs() {
     let library = Library::linked();
@@ -133,10 +139,11 @@ fn the_longest_jobs() {
         let value = ((size - 16 - 8 - 255) / 256 - 7).min(50);
         let settled =
             (0..=255).flat_map(|id| [&[7 + value as u8, 0, 5, 0, id, 0][..], &vec![id; value], &[0xFE]].concat());
-        let header = *b"\x10\0\x01\x4A\xFE\xFF\xFF\xFF\xFC\xFF\xFF\xFF\xFF\xFF\xFF\xFF";
         let pending = [8, 0, 2, 0, 1, 5, 0, 0xFE];
-        let mut current: Vec<u8> = header.into_iter().chain(settled).chain(pending).collect();
+        let mut current: Vec<u8> = HEADER.into_iter().chain(settled).chain(pending).collect();
+        let end = current.len();
         current.resize(size, 0xFF);
+        mend::stuff(&mut current, end, First);
         let mut image = vec![0xFF; number * size];
         image[size..2 * size].copy_from_slice(&current);
         let (answer, mut record) = library.mount(&image, blocks);
@@ -160,6 +167,34 @@ fn the_longest_jobs() {
                 pending: [0; 4],
             })
         );
+    }
+}
+
+/// A mount's job that closes a frame torn at 24 and appends a reset, with 255 erases first, 255 bytes to close and 255 to append.
+/// Past the list's sixteen block 0 is erased. The fifth byte to close and those after it are at offset 0.
+#[test]
+fn the_longest_mends() {
+    let library = Library::linked();
+    for blocks in 2..=16 {
+        let size = largest(blocks);
+        let mut image = [&HEADER[..], &[8, 0, 2, 0, 1, 5, 0, 0xFE, 20]].concat();
+        image.resize(usize::from(blocks) * size, 0xFF);
+        let (answer, mut record) = library.mount(&image, blocks);
+        assert_eq!((answer, record[0]), (Answer::MORE, *STAGES.end()));
+        // the blocks to erase, their number, the length to append, the bytes to close, by their places in the record
+        let plan = &mut record[JOB];
+        assert_eq!((plan[32], plan[34], &plan[35..43]), (5, 4, &[25, 0, 26, 0, 27, 0, 43, 0][..]));
+        plan[..16].fill(1);
+        (plan[16], plan[32], plan[34]) = (255, 255, 255);
+        record[0] = 2;
+        assert_eq!(
+            library.run(&mut image, blocks, &mut record, 65_536),
+            (Answer::DONE, 3 * 255),
+            "{blocks} blocks"
+        );
+        assert_eq!((image[0], &image[24..28], image[43]), (0, &[0xFF, 0, 0, 0][..], 0));
+        let Head::Idle(idle) = library.head(&record) else { panic!("idle") };
+        assert_eq!((idle.block, idle.end, idle.pending), (0, 44 + 255, [0; 4]));
     }
 }
 
@@ -187,7 +222,7 @@ fn starting(start: &[u8], length: usize) -> Vec<u8> {
     image
 }
 
-/// A format and an append read nothing: under any other image of their length, library, model and plain go on alike, with the
+/// A format, an append and a mount that mends read nothing: under any other image of their length, library, model and plain go on alike, with the
 /// bytes that are left. The record is then not the image's.
 #[test]
 fn jobs_that_read_nothing_go_on_under_another_image() {
@@ -215,6 +250,17 @@ fn jobs_that_read_nothing_go_on_under_another_image() {
         twin.swap_image(&vec![0xFF; length]);
         assert_eq!(twin.finish(), (Answer::DONE, 7));
         assert_eq!(twin.image(), starting(&[&[0xFF; 19][..], b"\0\x02\x05\0AB\xFE"].concat(), length));
+        assert_eq!(twin.ask(2, &message::commit()), Answer::STALE);
+
+        let torn = starting(&[&HEADER[..], b"\x08\0\x02\0\x01\x05\0\xFE\x08\0\x02"].concat(), length);
+        let mut twin = Twin::of_blocks(blocks, &torn);
+        assert_eq!(twin.call(&Call::Mount).answer, Answer::MORE);
+        assert_eq!(twin.step(), Answer::MORE);
+        twin.swap_image(&vec![0xFF; length]);
+        // the kind's high byte, the finish byte and the reset
+        assert_eq!(twin.finish(), (Answer::DONE, 2 + 5));
+        let left = [&[0xFF; 27][..], b"\0\xFF\xFF\xFF\xFE\x05\0\x07\0\xFE"].concat();
+        assert_eq!(twin.image(), starting(&left, length));
         assert_eq!(twin.ask(2, &message::commit()), Answer::STALE);
     }
 }

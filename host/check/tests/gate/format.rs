@@ -87,26 +87,28 @@ fn the_order_of_the_erases() {
     assert_eq!(seen, [30 + 2 + 3 + 4, 11 * 11 - 39]);
 }
 
-/// Object 5 settled in this block, and the older block not erased yet. There a put of it stands at 16, or a settled frame.
+/// Object 5 settled in this block, and the older block not erased yet: a put of 72 bytes after aborted ones needs a transfer.
+/// In the older block a put of the object stands at 16, or a settled frame.
 pub fn transferred(current: usize) -> Vec<u8> {
     let mut twin = Twin::formatted(LENGTH);
-    for transfer in 0.. {
-        // only the first put is committed, the mount drops the others
-        assert_eq!(twin.serve(2, &message::put(5, b"AB")).0, Answer::DONE);
-        if transfer == 0 {
-            assert_eq!(twin.serve(2, &message::commit()).0, Answer::DONE);
-            assert_eq!(twin.serve(2, &message::put(5, b"CD")).0, Answer::DONE);
+    let serve = |twin: &mut Twin, message: &[u8]| assert_eq!(twin.serve(2, message).0, Answer::DONE);
+    serve(&mut twin, &message::put(5, b"AB"));
+    serve(&mut twin, &message::commit());
+    loop {
+        while twin.idle().is_some_and(|idle| usize::from(idle.end) + 72 <= S) {
+            serve(&mut twin, &message::put(5, &[0; 40]));
+            serve(&mut twin, &message::abort());
         }
-        assert_eq!(twin.call(&Call::Mount).answer, Answer::MORE);
+        assert_eq!(twin.ask(2, &message::put(5, &[1; 64])), Answer::MORE);
         while twin.erases_next().is_none() {
             assert_eq!(twin.step(), Answer::MORE);
         }
         if twin.erases_next() == Some(1 - current) {
-            break;
+            return twin.image().to_vec();
         }
-        assert_eq!(twin.step(), Answer::DONE);
+        assert_eq!(twin.finish().0, Answer::DONE);
+        serve(&mut twin, &message::abort());
     }
-    twin.image().to_vec()
 }
 
 /// What may stand beside the current block: the older one whole, half erased in some ways, and erased.

@@ -13,13 +13,25 @@ use store::{Answer, Idle, Store, message};
 const LENGTH: usize = 512;
 const S: usize = LENGTH / 2;
 
-/// Object 1 is settled; a frame of 72 bytes is then appended, or needs a transfer.
-fn board(transfer: bool) -> Twin {
+/// How much room there is for a put: ample; none for one of 72 bytes without a transfer; 60 bytes, which a put just fills, so
+/// that a mount has no room for a reset; or 60 of which it leaves 8, so that there is none behind its commit.
+#[derive(Clone, Copy, PartialEq)]
+pub enum Room {
+    Ample,
+    Transfer,
+    Exact,
+    Nearly,
+}
+
+use Room::{Ample, Exact, Nearly, Transfer};
+
+/// Object 1 is settled, and there is so much room.
+fn board(room: Room) -> Twin {
     let mut twin = Twin::formatted(LENGTH);
     for message in [message::put(1, b"kept"), message::commit()] {
         assert_eq!(twin.serve(0, &message).0, Answer::DONE);
     }
-    while transfer && twin.idle().is_some_and(|idle| usize::from(idle.end) + 72 <= S) {
+    while room != Ample && twin.idle().is_some_and(|idle| usize::from(idle.end) + 72 <= S) {
         assert_eq!(twin.serve(2, &message::put(2, &[2; 40])).0, Answer::DONE);
         assert_eq!(twin.serve(2, &message::abort()).0, Answer::DONE);
     }
@@ -27,13 +39,19 @@ fn board(transfer: bool) -> Twin {
 }
 
 /// Cuts a put everywhere, and its commit: until that ends object 1 is there alone.
-fn cut_everywhere(store: Altered, transfer: bool) {
-    let mut twin = board(transfer);
+pub fn cut_everywhere(store: Altered, room: Room) {
+    let mut twin = board(room);
     let mut objects = Objects::from([(1, b"kept".to_vec())]);
-    for message in [message::put(2, &[7; 64]), message::commit()] {
+    let size = match room {
+        Ample | Transfer => 64,
+        Exact => 52,
+        Nearly => 44,
+    };
+    let value = vec![7; size];
+    for message in [message::put(2, &value), message::commit()] {
         let before = objects.clone();
         if message == message::commit() {
-            objects.insert(2, vec![7; 64]);
+            objects.insert(2, value.clone());
         }
         let call = Call::Request { host: 0, message: message.clone(), reply: 0 };
         let start = Start { image: twin.image(), idle: twin.idle(), call: &call };
@@ -45,8 +63,8 @@ fn cut_everywhere(store: Altered, transfer: bool) {
 
 #[test]
 fn right_stores_are_cut() {
-    for transfer in [false, true] {
-        cut_everywhere(RIGHT, transfer);
+    for room in [Ample, Transfer, Exact, Nearly] {
+        cut_everywhere(RIGHT, room);
     }
 }
 
@@ -79,7 +97,7 @@ fn mount_that_seals_first(image: &[u8], blocks: u8) -> Begun {
 #[test]
 #[should_panic(expected = "a mount found other objects")]
 fn a_recovery_that_is_wrong_only_if_it_is_cut() {
-    cut_everywhere(Altered { mount: mount_that_seals_first, ..RIGHT }, false);
+    cut_everywhere(Altered { mount: mount_that_seals_first, ..RIGHT }, Exact);
 }
 
 #[test]
@@ -90,7 +108,7 @@ fn a_transfer_that_makes_the_block_valid_first() {
         reordered(answer, record, sealed_first);
         answer
     };
-    cut_everywhere(Altered { request, ..RIGHT }, true);
+    cut_everywhere(Altered { request, ..RIGHT }, Transfer);
 }
 
 /// The trap of document 01: the old block is erased before the new one says 0xFC.
@@ -109,7 +127,7 @@ pub const ERASES_FIRST: Altered = Altered {
 #[test]
 #[should_panic(expected = "a block looks newer, half erased")]
 fn a_transfer_that_erases_first() {
-    cut_everywhere(ERASES_FIRST, true);
+    cut_everywhere(ERASES_FIRST, Transfer);
 }
 
 /// A commit that writes an abort: nothing is found amiss up to its last step.
@@ -121,7 +139,7 @@ fn a_commit_that_settles_nothing() {
         let message = if message == message::commit() { &abort } else { message };
         Model.request(image, blocks, record, host, message, reply)
     };
-    cut_everywhere(Altered { request, ..RIGHT }, false);
+    cut_everywhere(Altered { request, ..RIGHT }, Ample);
 }
 
 /// Pending changes stay where nothing is torn and no other block is to be erased.
@@ -138,7 +156,7 @@ fn a_mount_that_keeps_what_is_pending() {
         }
         _ => Model.mount(image, blocks),
     };
-    cut_everywhere(Altered { mount, ..RIGHT }, false);
+    cut_everywhere(Altered { mount, ..RIGHT }, Ample);
 }
 
 fn read(image: &[u8], blocks: u8) -> Vec<Block> {
@@ -161,17 +179,17 @@ const WORN: Altered = Altered { mount: |image, blocks| refused(image, blocks, An
 #[test]
 #[should_panic(expected = "the store is gone")]
 fn a_mount_that_finds_no_store_after_a_cut() {
-    cut_everywhere(NO_STORE, true);
+    cut_everywhere(NO_STORE, Transfer);
 }
 
 #[test]
 #[should_panic(expected = "mount after a cut answered 3")]
 fn a_mount_that_answers_3_after_a_cut() {
-    cut_everywhere(FOREIGN, true);
+    cut_everywhere(FOREIGN, Transfer);
 }
 
 #[test]
 #[should_panic(expected = "6 though the time may rise or nothing is to be done")]
 fn a_mount_that_answers_6_after_a_cut() {
-    cut_everywhere(WORN, true);
+    cut_everywhere(WORN, Transfer);
 }

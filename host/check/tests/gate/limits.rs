@@ -37,7 +37,8 @@ fn recorded(size: usize, time: u32, frames: &[Vec<u8>]) -> Twin {
     twin
 }
 
-/// Settled objects take 8 bytes each, a put and its commit 15: 16 + 256 * 15 = 3,856 of 4,096 bytes, and U = 2,064.
+/// Settled objects take 8 bytes each, a put and its commit 15: 16 + 256 * 15 = 3,856 of 4,096 bytes, and U = 2,064. After a
+/// transfer and a put of 248 bytes, aborted puts of 6 * 254 + 132 + 128 bytes leave a mount no room for a reset.
 #[test]
 fn objects_of_every_id() {
     const SIZE: usize = 4_096;
@@ -54,6 +55,11 @@ fn objects_of_every_id() {
     let blank = vec![0xFF; SIZE];
     let moved = [header(2), settled.clone(), put(1, 7, &[9; 240]), blank[2_312..].to_vec()].concat();
     assert_eq!(twin.image(), [blank.clone(), moved].concat());
+    for size in [240, 240, 240, 240, 240, 240, 118, 114] {
+        assert_eq!(twin.serve(2, &message::put(7, &vec![1; size])), done(8 + size));
+        assert_eq!(twin.serve(2, &message::abort()), done(6));
+    }
+    assert_eq!(twin.idle().map(|idle| usize::from(idle.end)), Some(SIZE));
     assert_eq!(twin.whole(&Call::Mount), done(2_064 - 5));
     let moved = [header(3), settled, blank[2_064..].to_vec()].concat();
     assert_eq!(twin.image(), [moved, blank].concat());
@@ -131,12 +137,14 @@ fn log_pages() {
     }
 }
 
-/// The time of the next block, told by the log, in flash and by which block counts.
+/// The time of the next block, told by the log, in flash and by which block counts. Frames end at 16 + 108 + 6 + 115 + 8 = 253.
 #[test]
 fn times_with_a_carry() {
     let times = [0xFF, 0xFFFF, 0x00FF_FFFF, 0x7FFF_FFFF, 0x0001_FFFF, 0x0102_FFFF, u32::MAX - 1];
     for time in times {
-        let mut store = recorded(S, time, &[delete(0, 1)]);
+        let abort = vec![6, 0, 4, 0, 0, 0xFE];
+        let frames = [put(0, 1, &[7; 100]), abort, put(0, 1, &[7; 107]), delete(0, 1)];
+        let mut store = recorded(S, time, &frames);
         assert_eq!(store.log()[4..8], time.to_le_bytes());
         assert_eq!(store.whole(&Call::Mount), done(11));
         assert_eq!(store.log()[4..8], (time + 1).to_le_bytes());
@@ -175,7 +183,7 @@ fn equal_times_below_a_block_that_cannot_be_moved() {
     for blocks in NUMBERS.skip(1).map(usize::from) {
         for newest in 0..blocks {
             let mut parts = vec![Part::Valid(2); blocks];
-            parts[newest] = Part::Pending(u32::MAX);
+            parts[newest] = Part::Full(u32::MAX);
             let fault = Fault { block: usize::from(newest == 0), field: Field::Time, place: 4 };
             let mut refused = twin(&parts);
             assert_eq!(refused.call(&Call::Mount).answer, Answer::FOREIGN);

@@ -7,13 +7,10 @@ use model::edition::Edition;
 use store::{Answer, Head, Idle, Stretch, message};
 
 const LENGTH: usize = 1_024;
-const S: usize = LENGTH / 2;
 const LONGEST_VALUE: usize = 240;
 const LONGEST_FRAME: usize = 248;
 /// What host 0 has committed before the tests: object 1, whose put (12 bytes) and commit (6) end at 34.
 const KEPT: &[u8] = b"kept";
-/// U with that object: 16 + 7 + 4.
-const KEPT_USED: usize = 27;
 
 fn done(steps: usize) -> (Answer, usize) {
     (Answer::DONE, steps)
@@ -108,24 +105,35 @@ fn room_beside_a_long_value() {
     }
 }
 
-/// The torn frame is dropped and what was settled goes to block 1: U - 5 steps. The whole frame is pending, and dropped too.
+/// How many bytes of a frame that was cut after so many are changed to close it.
+fn closes(cut: usize) -> usize {
+    [0, 4, 3, 3].get(cut).copied().unwrap_or(2)
+}
+
+/// The torn frame is closed in place: length's high byte, kind and finish byte, those that are not so already. The whole frame is
+/// pending, and a reset drops it.
 #[test]
 fn a_put_cut_after_each_byte() {
-    let settled = [&[0x0B, 0, 5, 0, 1, 0][..], KEPT, &[0xFE]].concat();
-    let header = [&[0x10, 0, 1, 0x4A, 0xFD, 0xFF, 0xFF, 0xFF, 0xFC][..], &[0xFF; 7]].concat();
-    let blank = [0xFF; S];
-    let after = [&blank[..], &header, &settled, &blank[KEPT_USED..]].concat();
     for value in values() {
+        let frame = [&[0xF8, 0, 1, 0, 0, 1, 0][..], &value, &[0xFE]].concat();
         for cut in 0..=LONGEST_FRAME {
             let mut twin = kept();
-            let before = twin.image().to_vec();
+            let mut image = twin.image().to_vec();
             assert_eq!(twin.ask(0, &message::put(1, &value)), Answer::MORE);
-            let (steps, image, head) = match cut {
-                0 => (0, &before, idle(0, 34)),
-                _ => (KEPT_USED - 5, &after, idle(1, KEPT_USED)),
+            let (steps, end) = match cut {
+                0 => (0, 34),
+                LONGEST_FRAME => (5, 34 + LONGEST_FRAME + 5),
+                _ => (closes(cut), 34 + LONGEST_FRAME),
             };
+            image[34..34 + cut].copy_from_slice(&frame[..cut]);
+            if cut == LONGEST_FRAME {
+                image[end - 5..end].copy_from_slice(&[5, 0, 7, 0, 0xFE]);
+            } else if cut > 0 {
+                image[35..38].fill(0);
+                image[end - 1] = 0xFE;
+            }
             assert_eq!(cut_after(&mut twin, cut), done(steps), "{cut} bytes");
-            assert_eq!((twin.image(), twin.head()), (&image[..], head), "{cut} bytes");
+            assert_eq!((twin.image(), twin.head()), (&image[..], idle(0, end)), "{cut} bytes");
             assert_eq!(twin.value(1), Some(KEPT.to_vec()));
         }
     }
@@ -143,7 +151,8 @@ fn a_commit_of_a_long_value_cut_after_each_byte() {
             let Outcome { answer, stretch, .. } = twin.call(&Call::Read { host: 2, message: message::read(1) });
             assert_eq!(answer, Answer::DONE);
             if cut < 6 {
-                assert_eq!((recovered, stretch.of(twin.image())), (done(KEPT_USED - 5), KEPT));
+                assert_eq!((recovered, stretch.of(twin.image())), (done(closes(cut) + 5), KEPT));
+                assert_eq!(twin.head(), idle(0, 282 + if cut == 0 { 5 } else { 11 }));
             } else {
                 assert_eq!((recovered, stretch), (done(0), Stretch { at: 41, len: LONGEST_VALUE }));
                 assert_eq!(stretch.of(twin.image()), value);
@@ -154,7 +163,7 @@ fn a_commit_of_a_long_value_cut_after_each_byte() {
 }
 
 /// Cuts in the put, in its commit, and in the restart that moves the value to block 1 (U = 16 + 247), and in every recovery
-/// from them.
+/// from them. A put of 206 bytes and a delete, pending, end at 288 + 214 + 8 = 510, where no reset fits.
 #[test]
 fn long_values_cut_anywhere() {
     for value in values() {
@@ -172,6 +181,7 @@ fn long_values_cut_anywhere() {
         job(&twin, twin.idle(), &request(0, commit.clone()), &before, &after);
         assert_eq!(twin.serve(0, &commit), done(6));
         assert_eq!(twin.value(1).as_ref(), Some(&value));
+        assert_eq!(twin.serve(1, &message::put(1, &[1; 206])), done(214));
         assert_eq!(twin.serve(1, &message::delete(1)), done(8));
         job(&twin, None, &Call::Mount, &after, &after);
         assert_eq!(twin.whole(&Call::Mount), done(263 - 5));

@@ -128,7 +128,7 @@ fn a_transfer_keeps_the_counts() {
 /// What was pending is dropped, with its count; a cut job's change has none.
 #[test]
 fn a_mount_or_format_clears_all_counts() {
-    for (call, steps) in [(Call::Mount, [0, 11, 11]), (Call::Format, [12; 3])] {
+    for (call, steps) in [(Call::Mount, [0, 5, 5]), (Call::Format, [12; 3])] {
         for (made, steps) in (0..3).zip(steps) {
             let mut twin = Twin::formatted(LENGTH);
             for host in 0..made {

@@ -42,6 +42,20 @@ fn seen_editions(tally: &Tally) {
     assert!(tally.editions > 50, "{} editions were wrong", tally.editions);
 }
 
+/// Mounts found nothing to do, closed a frame, dropped changes, both, and made a transfer because the reset did not fit.
+fn seen_mends(tally: &Tally) {
+    for what in ["clean", "closed", "reset", "closed and reset", "moved"] {
+        assert!(tally.mends(what) > 10, "{what}: {} mounts", tally.mends(what));
+    }
+}
+
+/// Mounts were cut in each of these.
+fn seen_cut_mends(tally: &Tally) {
+    for what in ["cut in closing", "cut before a reset", "cut in a reset", "cut in a transfer"] {
+        assert!(tally.mends(what) > 0, "no mount was {what}");
+    }
+}
+
 /// Each block up to this one was found broken in each field.
 fn seen_faults(sum: &Sum, last: usize) {
     for (block, field) in (0..=last).flat_map(|block| Field::ALL.map(|field| (block, field))) {
@@ -58,6 +72,8 @@ fn seen_runs(sum: &Sum) {
     seen(&sum.own, "request", &[0, 1, 2, 4, 5, 6, 7, 8, 9, 10, 11, 12, 16, 255].map(Answer));
     seen_pending(&sum.own);
     seen_editions(&sum.own);
+    seen_mends(&sum.own);
+    seen_cut_mends(&sum.own);
     seen(&sum.own, "step", &[0, 11, 255].map(Answer));
     seen(&sum.own, "run", &[0, 11, 255].map(Answer));
     seen(&sum.own, "read", &[0, 4, 5, 8, 10, 11].map(Answer));
@@ -101,6 +117,7 @@ fn seen_images(sum: &Sum) {
     seen(&sum.tally, "mount", &[0, 2, 3, 6, 255].map(Answer));
     seen(&sum.tally, "request", &[0, 1, 2, 6, 7, 8, 9, 10, 11, 12, 16, 255].map(Answer));
     seen_pending(&sum.tally);
+    seen_mends(&sum.tally);
     assert!(sum.tally.editions > 100, "{} editions were wrong", sum.tally.editions);
     seen(&sum.tally, "read", &[0, 1, 2, 8, 10, 11].map(Answer));
 }

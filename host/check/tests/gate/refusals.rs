@@ -11,7 +11,7 @@ fn formatted() -> Twin {
 }
 
 /// A store whose block has this creation time.
-fn formatted_at(time: u32) -> Twin {
+pub fn formatted_at(time: u32) -> Twin {
     let mut twin = formatted();
     let mut image = twin.image().to_vec();
     image[4..8].copy_from_slice(&(!time).to_le_bytes());
@@ -248,7 +248,7 @@ fn short_reply() {
 }
 
 /// Fills the journal with a put that is aborted again and again, until a frame of 72 bytes no longer fits.
-fn nearly_full(twin: &mut Twin) {
+pub fn nearly_full(twin: &mut Twin) {
     while twin.idle().is_some_and(|idle| usize::from(idle.end) + 72 <= LENGTH / 2) {
         assert_eq!(twin.serve(0, &message::put(1, &[1; 40])), (Answer::DONE, 48));
         assert_eq!(twin.serve(0, &message::abort()), (Answer::DONE, 6));
@@ -299,53 +299,7 @@ fn one_before_the_last_time_a_transfer_is_made() {
     assert_eq!(twin.image()[256 + 4..256 + 8], [0; 4]);
 }
 
-#[test]
-fn mount_at_the_last_time() {
-    let mut twin = formatted_at(u32::MAX);
-    assert_eq!(twin.whole(&Call::Mount), (Answer::DONE, 0));
-    assert_eq!(twin.serve(0, &message::put(1, b"x")), (Answer::DONE, 9));
-    let image = twin.image().to_vec();
-    assert_eq!(twin.call(&Call::Mount).answer, Answer::WORN);
-    assert_eq!((twin.image(), twin.head()), (&image[..], Head::Unmounted));
-    assert_eq!(twin.whole(&Call::Format), (Answer::DONE, 12));
-}
-
-/// The other block would have to be erased: 6 comes first and nothing is.
-#[test]
-fn mount_at_the_last_time_erases_nothing() {
-    let mut image = formatted_at(u32::MAX).image().to_vec();
-    image[16] = 6;
-    image[256 + 8] = 0xFE;
-    let mut twin = Twin::new(&image);
-    assert_eq!(twin.call(&Call::Mount).answer, Answer::WORN);
-    assert_eq!((twin.image(), twin.head()), (&image[..], Head::Unmounted));
-}
-
-/// A foreign block beside the valid one does not make it 3 (K4), so it is 6, and nothing is erased.
-#[test]
-fn mount_at_the_last_time_beside_a_foreign_block() {
-    let mut image = formatted_at(u32::MAX).image().to_vec();
-    image[256..].fill(0);
-    let mut twin = Twin::new(&image);
-    assert_eq!(twin.whole(&Call::Mount), (Answer::DONE, 1));
-    image[16] = 6;
-    twin.load(&image);
-    assert_eq!(twin.call(&Call::Mount).answer, Answer::WORN);
-    assert_eq!((twin.image(), twin.head()), (&image[..], Head::Unmounted));
-}
-
-/// Two valid blocks of the last time, one torn: 3 goes before 6.
-#[test]
-fn equal_times_go_before_the_last_time() {
-    let block = formatted_at(u32::MAX).image()[..256].to_vec();
-    let mut torn = block.clone();
-    torn[16] = 6;
-    assert_eq!(mount_of(&block, &torn), Answer::FOREIGN);
-    assert_eq!(mount_of(&torn, &block), Answer::FOREIGN);
-    assert_eq!(mount_of(&torn, &torn), Answer::FOREIGN);
-}
-
-fn mount_of(first: &[u8], second: &[u8]) -> Answer {
+pub fn mount_of(first: &[u8], second: &[u8]) -> Answer {
     let mut twin = Twin::new(&[first, second].concat());
     let answer = twin.call(&Call::Mount).answer;
     assert_eq!(twin.head() == Head::Unmounted, answer.refused());

@@ -1,4 +1,5 @@
-//! Document 01's bench rows: S = 256, each value as the table has it; rows i to m as document 02's K7 has them.
+//! Document 01's bench rows: S = 256, each value as the table has it; rows f and g as document 02's K11 has them, i to m as
+//! its K7 has them.
 
 use check::twin::{Call, Outcome, Twin, UNWRITTEN};
 use store::{Answer, Head, Idle, Stretch, hex, message};
@@ -129,10 +130,10 @@ fn e_log() {
 #[test]
 fn f_cut_with_a_put_pending() {
     let mut twin = after_b();
-    assert_eq!(cut_and_mount(&mut twin), done(11));
-    assert_eq!(twin.image(), [block(""), block("10 00 01 4A FD FF FF FF FC")].concat());
-    assert_eq!(twin.head(), idle(1, 16));
-    assert_eq!(twin.log()[4..10], [2, 0, 0, 0, 0, 0]);
+    assert_eq!(cut_and_mount(&mut twin), done(5));
+    assert_eq!(twin.image(), [block(&format!("{WITH_B} 05 00 07 00 FE")), block("")].concat());
+    assert_eq!(twin.head(), idle(0, 31));
+    assert_eq!(twin.log()[4..10], [1, 0, 0, 0, 0, 0]);
     assert_eq!(twin.ids(), []);
 }
 
@@ -143,7 +144,10 @@ fn g_cut_before_the_finish_byte() {
     for _ in 0..5 {
         assert_eq!(twin.step(), Answer::MORE);
     }
-    assert_eq!(cut_and_mount(&mut twin), done(11));
+    assert_eq!(cut_and_mount(&mut twin), done(7));
+    let mended = format!("{WITH_B} 06 00 00 00 02 FE 05 00 07 00 FE");
+    assert_eq!(twin.image(), [block(&mended), block("")].concat());
+    assert_eq!(twin.head(), idle(0, 37));
     assert_eq!(twin.ids(), []);
 }
 

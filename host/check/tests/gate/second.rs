@@ -15,6 +15,9 @@ pub const COMMIT: [u8; 10] = [10, 0, 3, 0, 2, 0xC9, 0x30, 0xDA, 0x60, 0xFE];
 pub const ABORT: [u8; 10] = [10, 0, 4, 0, 2, 0x4C, 0x26, 0x95, 0x65, 0xFE];
 pub const SETTLED: [u8; 13] = [13, 0, 5, 0, 5, 0, 0x41, 0x42, 0xC1, 0xF5, 0x84, 0xE8, 0xFE];
 pub const EMPTY: [u8; 11] = [11, 0, 5, 0, 6, 0, 0xD4, 0x06, 0x81, 0xBA, 0xFE];
+pub const RESET: [u8; 9] = [9, 0, 7, 0, 0x51, 0x06, 0x0D, 0x13, 0xFE];
+/// A delete that was torn in its CRC, and closed.
+pub const CLOSED: [u8; 12] = [12, 0, 0, 0, 1, 5, 0, 0x18, 0x78, 0xFF, 0xFF, 0xFE];
 
 /// An image of these frames in edition 2, at time 1, beside a blank block.
 pub fn image_of(frames: &[&[u8]]) -> Vec<u8> {
@@ -52,10 +55,16 @@ fn frames_byte_for_byte() {
     assert_eq!(board.value(5), Some(b"AB".to_vec()));
 }
 
-/// A mount drops what is pending by a transfer into edition 2; a put's transfer takes what is pending over as it stands.
+/// A mount drops what is pending by a reset, or where that does not fit by a transfer into edition 2; a put's transfer takes
+/// what is pending over as it stands.
 #[test]
 fn transfers_keep_the_edition() {
     let mut board = Twin::new(&image_of(&[&SETTLED, &EMPTY, &DELETE]));
+    assert_eq!(board.whole(&Call::Mount), done(9));
+    assert_eq!(board.image(), image_of(&[&SETTLED, &EMPTY, &DELETE, &RESET]));
+
+    // 16 + 13 + 11 + 12 + 196 is 248, with a reset 257
+    let mut board = Twin::new(&image_of(&[&SETTLED, &EMPTY, &DELETE, &frame::closed(196)]));
     assert_eq!(board.whole(&Call::Mount), done(16 + 13 + 11 - 5));
     assert_eq!(board.image(), [filled(&[], S), filled(&[&header(2, 2), &SETTLED, &EMPTY], S)].concat());
 
@@ -165,7 +174,7 @@ fn the_longest_value() {
     assert_eq!(board.value(8), Some(vec![0xFF; 240]));
 }
 
-/// A job's frame cut after each byte: a mount drops it, and what was pending.
+/// A job's frame cut after each byte: a mount closes it, and a reset drops what was pending.
 #[test]
 fn appends_cut_after_each_byte() {
     let messages =
@@ -181,7 +190,8 @@ fn appends_cut_after_each_byte() {
             start.forge(right);
             start.ask(2, message);
             start.call(&Call::Run(made));
-            assert_eq!(start.whole(&Call::Mount), done(16 + 13 - 5), "{message:?} after {made} bytes");
+            let closes = [0, 4, 3, 3].get(made).copied().unwrap_or(2);
+            assert_eq!(start.whole(&Call::Mount), done(closes + 9), "{message:?} after {made} bytes");
             assert_eq!((start.ids(), idle(&start).edition), (vec![5], 2));
         }
     }
@@ -190,7 +200,7 @@ fn appends_cut_after_each_byte() {
 /// Once a byte of the CRC stands, all before it is fixed: another such byte is wrong there, 0xFF as the last is one byte less.
 #[test]
 fn frames_cut_inside_their_crc() {
-    for frame in [&PUT[..], &DELETE, &COMMIT, &ABORT] {
+    for frame in [&PUT[..], &DELETE, &COMMIT, &ABORT, &RESET] {
         let (n, front) = (frame.len(), frame.len() - 5);
         for cut in 0..=n {
             assert_eq!(broke(&[&SETTLED, &frame[..cut]]), None);
@@ -214,8 +224,9 @@ fn frames_cut_inside_their_crc() {
 /// A frame, one byte of it changed, and the first field that is then bad. A settled frame that is cut is wrong.
 #[test]
 fn each_field_of_each_frame() {
-    let bad: [(&[u8], usize, u8, Field, usize); 22] = [
-        (&PUT, 0, 9, Field::Length, 0),
+    let bad: [(&[u8], usize, u8, Field, usize); 29] = [
+        (&PUT, 0, 8, Field::Length, 0),
+        (&PUT, 0, 9, Field::Kind, 2),
         (&PUT, 0, 253, Field::Length, 0),
         (&PUT, 1, 1, Field::Length, 0),
         (&PUT, 0, 10, Field::Kind, 2),
@@ -237,6 +248,12 @@ fn each_field_of_each_frame() {
         (&SETTLED, 5, 1, Field::Id, 4),
         (&SETTLED, 12, 0xFF, Field::Finish, 12),
         (&EMPTY, 2, 1, Field::Kind, 2),
+        (&RESET, 0, 10, Field::Kind, 2),
+        (&RESET, 2, 3, Field::Kind, 2),
+        (&RESET, 7, 0x12, Field::Crc, 4),
+        (&RESET, 8, 0xFC, Field::Finish, 8),
+        (&CLOSED, 0, 11, Field::Kind, 2),
+        (&CLOSED, 11, 0xFC, Field::Finish, 11),
     ];
     for (frame, at, byte, field, place) in bad {
         let bytes = with(frame, at, byte);
@@ -254,7 +271,7 @@ fn each_field_of_each_frame() {
 fn frames_of_the_other_edition() {
     let first: [&[u8]; 3] =
         [&[10, 0, 1, 0, 2, 5, 0, 0x41, 0x42, 0xFE], &[6, 0, 3, 0, 2, 0xFE], &[9, 0, 5, 0, 5, 0, 0x41, 0x42, 0xFE]];
-    for (frame, expected) in first.into_iter().zip([Field::Kind, Field::Length, Field::Length]) {
+    for (frame, expected) in first.into_iter().zip([Field::Kind, Field::Length, Field::Kind]) {
         let place = if expected == Field::Kind { 2 } else { 0 };
         assert_eq!(broke(&[frame]), Some((expected, place)));
     }

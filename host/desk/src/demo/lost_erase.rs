@@ -1,37 +1,42 @@
 //! Ticket 3: power lost inside the erase of the old block, a half of the flash.
 
-use super::power_cuts::{before_the_changes, judge, tell_objects};
+use super::power_cuts::{before_the_changes, changes, judge, tell_objects};
 use super::{BLOCKS, Checked, SIZE, serve};
 use crate::board::Board;
 use crate::picture::picture;
 use crate::say::grouped;
 use std::io::{self, Write};
-use store::{Answer, Store, message};
+use store::{Answer, Store};
 
 pub fn tell<S: Store>(store: &S, checked: &mut Checked, out: &mut impl Write) -> io::Result<()> {
     writeln!(out, "TICKET 3: power is lost inside an erase\n")?;
     writeln!(out, "What used to happen: the old half was left half erased, each bit as it was or")?;
     writeln!(out, "1, and the board refused to start.\n")?;
     let image = before_the_erase(store);
-    writeln!(out, "The settings as in ticket 2, host 1's change not committed. A restart has moved")?;
-    writeln!(out, "what is settled to half 1 and is about to erase half 0:\n\n{}", picture(&image, BLOCKS))?;
+    writeln!(out, "The settings as in ticket 2, hosts 1 and 3 in the middle of their changes. The")?;
+    writeln!(out, "third put does not fit, so that all has moved to half 1, and half 0 is about to")?;
+    writeln!(out, "be erased:\n\n{}", picture(&image, BLOCKS))?;
 
     let mut board = half_erased(store, &image, &[0x0F, 0xF0, 0xFF, 0x00, 0xFF]);
     writeln!(out, "Power is lost inside that erase, and half 0 is left like this, say:\n")?;
     writeln!(out, "{}", picture(&board.image, BLOCKS))?;
     let steps = restart(&mut board);
-    assert_eq!(steps, 1);
-    writeln!(out, "The next restart takes half 1, which is newer, and erases half 0 again:\n")?;
+    assert_eq!(steps, 1 + 5);
+    writeln!(out, "The next restart takes half 1, which is newer, erases half 0 again and drops")?;
+    writeln!(out, "what is pending by a reset:\n")?;
     writeln!(out, "{}", picture(&board.image, BLOCKS))?;
     tell_objects(&mut board, checked, out)?;
     every_bit(store, &image, checked, out)
 }
 
-/// Half 0 with a change pending has been moved to half 1; its erase is the next step.
+/// Half 0 with two changes pending has been moved to half 1, for a third; its erase is the next step.
 fn before_the_erase<S: Store>(store: &S) -> Vec<u8> {
     let mut board = before_the_changes(store);
-    serve(&mut board, 1, &message::put(1, b"low 35"));
-    assert_eq!(board.mount(), Answer::MORE);
+    let [first, second, (host, third), ..] = changes();
+    for (host, message) in [first, second] {
+        serve(&mut board, host, &message);
+    }
+    assert_eq!(board.request(host, &third, &mut []), Answer::MORE);
     while board.erases_next().is_none() {
         assert_eq!(board.step(), Answer::MORE);
     }

@@ -157,10 +157,10 @@ mod tests {
     fn half_changes_are_counted() {
         let (whole, story) = told(&Mixed { mounted: Cell::new(false) });
         assert!(!whole);
-        // Each of 140 + 7,116 + 4,924 restarts.
-        assert!(story.ends_with("  12,180  half changes found\n"), "{story}");
+        // Each of 140 + 977 + 5,196 restarts.
+        assert!(story.ends_with("   6,313  half changes found\n"), "{story}");
         assert!(story.contains("     140  half a change\n"), "{story}");
-        assert!(story.contains("   4,924  half a change\n"), "{story}");
+        assert!(story.contains("   5,196  half a change\n"), "{story}");
         let (whole, story) = told(&Model);
         assert!(whole && story.ends_with("       0  half changes found\n"), "{story}");
     }

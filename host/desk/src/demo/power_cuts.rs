@@ -55,7 +55,7 @@ pub fn before_the_changes<S: Store>(store: &S) -> Board<'_, S> {
 }
 
 /// The changes of hosts 1 and 3, in turns. Each host's two belong together.
-fn changes() -> [(u8, Vec<u8>); 6] {
+pub fn changes() -> [(u8, Vec<u8>); 6] {
     [
         (1, message::put(1, b"low 35")),
         (3, message::put(3, b"blink")),

@@ -20,7 +20,7 @@ fn check_lines(pairs: &[(&str, &str)]) {
     check(&answers.iter().map(|(line, answer)| (*line, &answer[..])).collect::<Vec<_>>());
 }
 
-/// The desk's own example: a put cut, a step under another number of blocks, equal times, a cut format.
+/// The desk's own example: a put cut after three bytes, a step under another number of blocks, equal times, a cut format.
 #[test]
 fn three_blocks() {
     check(&[
@@ -34,12 +34,12 @@ fn three_blocks() {
         ("step", "11"),
         ("blocks 3", "ok"),
         ("mount", "more"),
-        ("run", "0 steps=11"),
-        ("record", "idle len=768 half=1 end=16 blocks=3 edition=1 pending=0,0,0,0"),
+        ("run", "0 steps=3"),
+        ("record", "idle len=768 half=0 end=26 blocks=3 edition=1 pending=0,0,0,0"),
         ("poke 512 1000014afefffffffc", "ok"),
-        ("mount", "more"),
+        ("mount", "3 half=0 fault=time place=4"),
         ("poke 512 1000014afdfffffffc", "ok"),
-        ("mount", "3 half=1 fault=time place=4"),
+        ("mount", "more"),
         ("format", "more"),
         ("step 2", "more"),
         ("mount", "0"),
@@ -193,15 +193,18 @@ fn records_there_and_back() {
 /// A transfer goes to the next block, round to 0, and its erase is that of the block it came from.
 #[test]
 fn transfers_go_round() {
+    // Half a block, aborted: the next such put begins with a transfer of nothing, 16 - 5 steps.
+    let (value, put) = ("77".repeat(120), format!("put 2 5 {}", "77".repeat(120)));
     let mut lines = vec![("new 1024 4", "ok"), ("format", "more"), ("run", "0 steps=14")];
+    lines.extend([(&put[..], "more"), ("run", "0 steps=128")]);
     let records = [1, 2, 3, 0, 1]
-        .map(|block| format!("idle len=1024 half={block} end=16 blocks=4 edition=1 pending=0,0,0,0"));
+        .map(|block| format!("idle len=1024 half={block} end=144 blocks=4 edition=1 pending=0,0,128,0"));
     for record in &records {
-        // A put that is not committed: the mount moves what is settled, nothing.
-        lines.extend([("put 2 5 \"AB\"", "more"), ("run", "0 steps=10"), ("mount", "more")]);
-        lines.extend([("run", "0 steps=11"), ("record", &record[..])]);
+        lines.extend([("abort 2", "more"), ("run", "0 steps=6"), (&put, "more"), ("run", "0 steps=139")]);
+        lines.push(("record", record));
     }
-    let image = format!("image={}", hex(&image_of(256, ["", "1000014af9fffffffc", "", ""])));
+    let last = format!("1000014af9fffffffcffffffffffffff80000100020500{value}fe");
+    let image = format!("image={}", hex(&image_of(256, ["", &last, "", ""])));
     lines.push(("dump", &image));
     check(&lines);
 }
@@ -263,7 +266,7 @@ fn a_whole_report() {
     let expected = format!(
         "standard input: 1,024 bytes, 4 blocks of 256
 
-  H header     S settled value   P pending change   C commit or abort mark
+  H header     S settled value   P pending change   C commit, abort, reset
   x used up    T torn frame      w being written    ? foreign   . blank
   In front of each row: where it starts, counted from the image's start.
 

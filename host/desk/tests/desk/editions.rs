@@ -59,16 +59,19 @@ fn a_convert() {
     ]);
 }
 
-/// Frames of edition 2, byte for byte; a mount's transfer keeps the edition, a format writes edition 1.
+/// Frames of edition 2, byte for byte; a mount's reset has a checksum too, a format writes edition 1.
 #[test]
 fn bytes_of_edition_2() {
     let half = |start: &str| format!("{start}{}", "ff".repeat(256 - start.len() / 2));
     let (put, commit) = ("0e0001000205004142223912b4fe", "0a00030002c930da60fe");
-    let [converted, put, committed] =
-        [SECOND.to_string(), format!("{SECOND}{put}"), format!("{SECOND}{put}{commit}")]
-            .map(|start| format!("image={}{}", half(""), half(&start)));
-    let time = SECOND.replace("4afd", "4afc");
-    let moved = format!("image={}{}", half(&time), half(""));
+    let (delete, reset) = ("0c0002000105001878b95cfe", "0900070051060d13fe");
+    let [converted, put, committed, mended] = [
+        SECOND.to_string(),
+        format!("{SECOND}{put}"),
+        format!("{SECOND}{put}{commit}"),
+        format!("{SECOND}{put}{commit}{delete}{reset}"),
+    ]
+    .map(|start| format!("image={}{}", half(""), half(&start)));
     let lines = [
         ("req 0 04000801 0", "more"),
         ("run", "0 steps=24"),
@@ -84,9 +87,9 @@ fn bytes_of_edition_2() {
         ("req 1 060002010500 0", "more"),
         ("run", "0 steps=12"),
         ("mount", "more"),
-        ("run", "0 steps=24"),
-        ("record", "idle len=512 half=0 end=29 blocks=2 edition=2 pending=0,0,0,0"),
-        ("dump", &moved),
+        ("run", "0 steps=9"),
+        ("record", "idle len=512 half=1 end=74 blocks=2 edition=2 pending=0,0,0,0"),
+        ("dump", &mended),
         ("format", "more"),
         ("run", "0 steps=12"),
         ("record", "idle len=512 half=0 end=16 blocks=2 edition=1 pending=0,0,0,0"),
@@ -110,7 +113,7 @@ fn converts_with_something_pending() {
         ("run", "0 steps=12"),
         ("req 3 04000801 0", "16 pending"),
         ("mount", "more"),
-        ("run", "0 steps=24"),
+        ("run", "0 steps=9"),
         ("req 3 04000801 0", "0"),
     ];
     let named: Vec<_> = SETTLED.iter().chain(&lines).copied().collect();

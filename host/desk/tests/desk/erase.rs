@@ -5,14 +5,25 @@ use super::{COMMIT, HEADER, PUT, check, check_with, image_of};
 const FORMATTED: [(&str, &str); 3] = [("new 512", "ok"), ("format", "more"), ("run", "0 steps=12")];
 const NO_ERASE: &str = "the next step is no erase";
 
-/// A put, a power cut, and a mount whose transfer is cut inside the erase of half 0: byte 8 and each ninth byte after it
-/// become 0xFF. The next mount erases that half, and is cut too.
+/// A put of half a half, 128 bytes, of an object that was put before and aborted: it begins with a transfer of nothing, 11 steps.
+fn put_twice() -> [(String, &'static str); 5] {
+    let put = format!("put 2 5 {}", "77".repeat(120));
+    let [run, abort] = ["run", "abort 2"].map(str::to_string);
+    [(put.clone(), "more"), (run.clone(), "0 steps=128"), (abort, "more"), (run, "0 steps=6"), (put, "more")]
+}
+
+/// Checks calls behind a format and those of `put_twice`.
+fn check_after_put(calls: &[(&str, &str)]) {
+    let puts = put_twice();
+    let puts: Vec<(&str, &str)> = puts.iter().map(|(line, answer)| (&line[..], *answer)).collect();
+    check(&[&FORMATTED[..], &puts, calls].concat());
+}
+
+/// A transfer that is cut inside the erase of half 0: byte 8 and each ninth byte after it become 0xFF. The next mount erases
+/// that half, and is cut too.
 #[test]
 fn a_transfer_and_a_mount() {
-    let calls = [
-        ("req 2 0800010105004142 0", "more"),
-        ("run", "0 steps=10"),
-        ("mount", "more"),
+    check_after_put(&[
         ("step 10", "more"),
         ("cut-erase 0000000000000000ff", "ok"),
         ("record", "unmounted"),
@@ -21,26 +32,23 @@ fn a_transfer_and_a_mount() {
         ("mount", "more"),
         ("run", "0 steps=1"),
         ("record", "idle len=512 half=1 end=16 blocks=2 edition=1 pending=0,0,0,0"),
-        ("cut-erase ff", "? line 15: the next step is no erase"),
-    ];
-    check(&[&FORMATTED[..], &calls].concat());
+        ("cut-erase ff", "? line 17: the next step is no erase"),
+    ]);
 }
 
 /// Format erases the valid half last: half 1, so the cut inside the second erase leaves half 0 blank.
 #[test]
 fn a_format() {
-    let calls = [
-        ("req 2 0800010105004142 0", "more"),
-        ("run", "0 steps=10"),
-        ("mount", "more"),
-        ("run", "0 steps=11"),
+    check_after_put(&[
+        ("run", "0 steps=139"),
+        ("abort 2", "more"),
+        ("run", "0 steps=6"),
         ("format", "more"),
         ("step", "more"),
         ("cut-erase 00", "ok"),
         ("mount", "0"),
-        ("record", "idle len=512 half=1 end=16 blocks=2 edition=1 pending=0,0,0,0"),
-    ];
-    check(&[&FORMATTED[..], &calls].concat());
+        ("record", "idle len=512 half=1 end=150 blocks=2 edition=1 pending=0,0,0,0"),
+    ]);
 }
 
 /// The image as a dump shows it.
@@ -48,10 +56,15 @@ fn dump(image: &[u8]) -> String {
     format!("image={}", image.iter().map(|byte| format!("{byte:02x}")).collect::<String>())
 }
 
-/// The mask starts anew at the half and ends with it: halves of 384 bytes, masks of one, seven and 400 bytes.
+/// The mask starts anew at the half and ends with it: halves of 384 bytes, masks of one, seven and 400 bytes. Two puts that are
+/// pending, of 248 and 104 bytes, end where the half does: a mount has no room for a reset.
 #[test]
 fn masks_of_any_length() {
-    let old = format!("{HEADER}{PUT}{COMMIT}{PUT}");
+    let [long, short] = [("f8", 240), ("68", 96)].map(|(length, size)| {
+        let value = "77".repeat(size);
+        format!("{length}000100020600{value}fe")
+    });
+    let old = format!("{HEADER}{PUT}{COMMIT}{long}{short}");
     for mask in ["01".to_string(), "00010204081020".to_string(), "20".repeat(383) + &"ff".repeat(17)] {
         let mut image = image_of(384, ["", &old]);
         let bits = super::unhex(&mask);
@@ -91,16 +104,17 @@ fn no_erase_comes_next() {
         ("unmount", "ok"),
         ("cut-erase ff", NO_ERASE),
         ("mount", "more"),
-        ("step 9", "more"),
+        ("step 4", "more"),
         ("cut-erase ff", NO_ERASE),
-        ("step", "more"),
+        ("step", "0"),
+        ("format", "more"),
         ("cut-erase", "cut-erase goes with MASKHEX"),
         ("cut-erase 0 1", "cut-erase goes with MASKHEX"),
         ("cut-erase f", "bytes are hex digits, two a byte, or - for none"),
         ("record", "job"),
         ("cut-erase ff", "ok"),
         ("mount", "0"),
-        ("record", "idle len=512 half=1 end=16 blocks=2 edition=1 pending=0,0,0,0"),
+        ("record", "idle len=512 half=0 end=31 blocks=2 edition=1 pending=0,0,0,0"),
     ];
     let mut lines: Vec<(String, String)> = Vec::new();
     for (line, answer) in FORMATTED.into_iter().chain(calls) {

@@ -31,15 +31,16 @@ fn what_mount_says_of_a_poked_image() {
 /// Other refusals stay bare numbers, and so do those of other calls.
 #[test]
 fn only_mount_and_only_after_a_3() {
-    let last = format!("poke 0 1000014a00000000fcffffffffffffff{PUT}");
+    // a put of 240 bytes, pending up to the half's end
+    let last = format!("poke 0 1000014a00000000fcfffffffffffffff0000100020500{}fe", "77".repeat(232));
     check(&[
         ("mount", "4"),
         ("new 512", "ok"),
         ("mount", "2"),
         (&last, "ok"),
         ("mount", "6"),
-        ("poke 25 00", "ok"),
-        ("mount", "3 half=0 fault=finish place=25"),
+        ("poke 255 00", "ok"),
+        ("mount", "3 half=0 fault=finish place=255"),
         ("log 0", "2"),
         ("format", "more"),
         ("log 0", "5"),
@@ -60,7 +61,8 @@ fn broken() -> Vec<(String, &'static str, &'static str)> {
         (header("1000014affffffff00"), "time place=4", "the time at byte 4 was never programmed"),
         (header("1000014afefffffffd"), "state place=8", "the state at byte 8 is not 0xFC, valid data"),
         (format!("{}fe", &HEADER[..30]), "rest place=9", "the rest of the header at byte 9 is not all 0xFF"),
-        (behind("0500030002fe"), "length place=32", "the length at byte 32 is not one that may stand there"),
+        (behind("0400030002fe"), "length place=32", "the length at byte 32 is not one that may stand there"),
+        (behind("0500030002fe"), "kind place=34", "the kind at byte 34 is not one that may stand there"),
         (behind("0600060002fe"), "kind place=34", "the kind at byte 34 is not one that may stand there"),
         (behind("0600030004fe"), "host place=36", "the host at byte 36 is not 0 to 3"),
         (behind("08000200000001fe"), "id place=37", "the id at byte 37 is not one that may stand there"),
@@ -68,6 +70,8 @@ fn broken() -> Vec<(String, &'static str, &'static str)> {
         // a settled frame behind others, of a length that others have and of one that they don't
         (behind("080005000900fffe"), "kind place=34", "the kind at byte 34 is not one that may stand there"),
         (behind("070005000900fe"), "length place=32", "the length at byte 32 is not one that may stand there"),
+        // a closed frame of that length
+        (behind("070000000900fe"), "length place=32", "the length at byte 32 is not one that may stand there"),
     ]
 }
 

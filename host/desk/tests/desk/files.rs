@@ -23,7 +23,7 @@ fn saved_byte_for_byte_and_loaded_again() {
         (&load_spaces, "ok"),
         ("record", "unmounted"),
         ("mount", "more"),
-        ("run", "0 steps=11"),
+        ("run", "0 steps=5"),
         ("get 0 5", "8"),
         (&load, "ok"),
         ("mount", "0"),
@@ -94,6 +94,7 @@ fn a_returned_board_from_end_to_end() {
     assert_eq!(status, 0);
     assert!(shown.contains("  host 2  put 5 = \"AB\"\n"), "{shown}");
     // Row f.
-    let mount = "mount answers more (255 in C), and 0, done, after 11 steps.\nHalf 1 is then current.\n";
+    let mount = "mount answers more (255 in C), and 0, done, after 5 steps.
+It drops what is pending, in half 0 itself.\nHalf 0 is then current.\n";
     assert!(shown.ends_with(mount), "{shown}");
 }

@@ -7,6 +7,7 @@ mod erase;
 mod fault;
 mod files;
 mod input;
+mod mended;
 mod part;
 mod replay;
 mod show;

@@ -33,13 +33,37 @@ fn rows_a_to_h() {
         ("read 1 060005010500", "0 at=23 len=2"),
         (&image(&format!("{header}{put}")).replace('=', " "), "ok"),
         ("mount", "more"),
-        ("run", "0 steps=11"),
+        ("run", "0 steps=5"),
         ("read 1 060005010500", "8"),
-        ("record", "idle len=512 half=1 end=16 blocks=2 edition=1 pending=0,0,0,0"),
+        ("record", "idle len=512 half=0 end=31 blocks=2 edition=1 pending=0,0,0,0"),
+        ("dump", &image(&format!("{header}{put}05000700fe"))),
         (&image(&format!("{header}{put}0600030002")).replace('=', " "), "ok"),
         ("mount", "more"),
-        ("run", "0 steps=11"),
+        ("run", "0 steps=7"),
         ("read 1 060005010500", "8"),
+        ("dump", &image(&format!("{header}{put}0600000002fe05000700fe"))),
+    ]);
+}
+
+/// The desk's own example of K11: rows f and g, one after the other.
+#[test]
+fn rows_f_and_g() {
+    check(&[
+        ("new 512", "ok"),
+        ("format", "more"),
+        ("run", "0 steps=12"),
+        ("req 2 0800010105004142 0", "more"),
+        ("run", "0 steps=10"),
+        ("mount", "more"),
+        ("run", "0 steps=5"),
+        ("record", "idle len=512 half=0 end=31 blocks=2 edition=1 pending=0,0,0,0"),
+        ("req 2 0800010105004142 0", "more"),
+        ("run", "0 steps=10"),
+        ("req 2 04000301 0", "more"),
+        ("step 5", "more"),
+        ("mount", "more"),
+        ("run", "0 steps=7"),
+        ("record", "idle len=512 half=0 end=52 blocks=2 edition=1 pending=0,0,0,0"),
     ]);
 }
 
@@ -137,8 +161,8 @@ fn records_with_and_without_pending() {
         ("put 3 1 -", "more"),
         ("run", "0 steps=8"),
         ("mount", "more"),
-        ("run", "0 steps=11"),
-        ("record", "idle len=512 half=1 end=16 blocks=2 edition=1 pending=0,0,0,0"),
+        ("run", "0 steps=5"),
+        ("record", "idle len=512 half=0 end=43 blocks=2 edition=1 pending=0,0,0,0"),
     ]);
 }
 

@@ -4,9 +4,9 @@ use super::{COMMIT, Folder, HEADER, PUT, image_of, replay, replay_with, run, unh
 
 /// A header of time 2, and one of the last time.
 const SECOND: &str = "1000014afdfffffffcffffffffffffff";
-const LAST: &str = "1000014a00000000fcffffffffffffff";
+pub const LAST: &str = "1000014a00000000fcffffffffffffff";
 
-const LEGEND: &str = "  H header     S settled value   P pending change   C commit or abort mark
+const LEGEND: &str = "  H header     S settled value   P pending change   C commit, abort, reset
   x used up    T torn frame      w being written    ? foreign   . blank
   In front of each row: where it starts, counted from the image's start.
 ";
@@ -20,7 +20,7 @@ fn show(image: &[u8]) -> (i32, String) {
 }
 
 /// Checks the exit status and, in this order, parts of the report.
-fn check(halves: [&str; 2], status: i32, parts: &[&str]) {
+pub fn check(halves: [&str; 2], status: i32, parts: &[&str]) {
     let (found, report) = show(&image_of(256, halves));
     let mut rest = &report[..];
     for part in parts {
@@ -58,8 +58,9 @@ Pending in half 0: 2 changes, which a mount drops
   host 3  delete 5
           8 of 128 bytes used
 
-mount answers more (255 in C), and 0, done, after 20 steps.
-Half 1 is then current.
+mount answers more (255 in C), and 0, done, after 5 steps.
+It drops what is pending, in half 0 itself.
+Half 0 is then current.
 "
     );
     assert_eq!(run(&["show", &file], b""), (0, expected, String::new()));
@@ -119,27 +120,6 @@ fn halves_beside_the_current_one() {
 }
 
 #[test]
-fn torn_frames() {
-    // Row g: cut after 5 of the commit's 6 steps.
-    let mount = "mount answers more (255 in C), and 0, done, after 11 steps.\nHalf 1 is then current.\n";
-    for (torn, said, drawn) in [
-        ("0600030002", "5 bytes of a torn commit of host 2", "PPPPPPPPPPTTTTT..."),
-        ("060004", "3 bytes of a torn abort", "PPPPPPPPPPTTT..."),
-        ("08000200", "4 bytes of a torn delete", "PPPPPPPPPPTTTT..."),
-        ("48000100010600ff00", "9 bytes of a torn put of host 1", "PPPPPPPPPPTTTTTTT.T..."),
-        ("08", "1 byte of a torn frame", "PPPPPPPPPPT..."),
-    ] {
-        let half = format!("{HEADER}{PUT}{torn}");
-        let state = format!("half 0, current: valid, edition 1, time 1\n  1 frame up to byte 26, then {said}\n");
-        check(
-            [&half, ""],
-            0,
-            &[&state, drawn, "1 change, which a mount drops\n  host 2  put 5 = \"AB\"\n", mount],
-        );
-    }
-}
-
-#[test]
 fn no_store() {
     let none = "mount answers 2, no store. No half is valid. A format makes an empty store.\n";
     check(["", ""], 1, &["half 0: blank\n      0  256 bytes blank\n\nhalf 1: blank\n", none]);
@@ -174,19 +154,10 @@ fn a_foreign_half_beside_a_valid_one() {
 Its first step erases the foreign half.\nHalf 0 is then current.\n";
     let object = "    5     23      2  \"AB\"\n";
     check([&old, "00"], 0, &["half 0, current: valid, edition 1, time 1\n", state, object, mount]);
-    // Row f with a foreign half 1: 1 + 11 steps.
-    let mount = "mount answers more (255 in C), and 0, done, after 12 steps.
-Its first step erases the foreign half.\nHalf 1 is then current.\n";
+    // Row f with a foreign half 1: 1 + 5 steps.
+    let mount = "mount answers more (255 in C), and 0, done, after 6 steps.
+Its first step erases the foreign half.\nIt drops what is pending, in half 0 itself.\nHalf 0 is then current.\n";
     check([&format!("{HEADER}{PUT}"), "00"], 0, &["half 0, current: valid", state, mount]);
-}
-
-#[test]
-fn worn_out() {
-    let half = format!("{LAST}{PUT}{COMMIT}{PUT}");
-    let refused = "mount answers 6, worn. A transfer is needed, and the time cannot rise.
-Only a format helps, and it loses all objects.\n";
-    let state = "half 0, current: valid, edition 1, time 4294967295\n";
-    check([&half, ""], 1, &[state, "    5     23      2  \"AB\"\n", "  host 2  put 5 = \"AB\"\n", refused]);
 }
 
 #[test]

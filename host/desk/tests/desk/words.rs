@@ -27,10 +27,9 @@ fn rows_b_to_h_in_words() {
         ("put 2 6 4142", "more"),
         ("run", "0 steps=10"),
         ("mount", "more"),
-        // U - 5, U being 16 + 9.
-        ("run", "0 steps=20"),
+        ("run", "0 steps=5"),
         ("get 0 6", "8"),
-        ("log 3", "0 time=2 objects=1 used=25 size=256"),
+        ("log 3", "0 time=1 objects=1 used=25 size=256"),
     ];
     check(&[&FORMATTED[..], &after].concat());
 }
@@ -123,15 +122,16 @@ fn refusals_by_name() {
     let commit = [("commit 0", "more"), ("run", "0 steps=6")];
     let [one, two, three] = [&first, &second, &third].map(|put| [(&put[..], "more"), ("run", "0 steps=72")]);
     let full = [(&second[..], "12 host full")];
+    let last = format!("poke 16 f0000100000100{}fe", "aa".repeat(232));
     let after = [
         // Row j.
         ("put 0 4 -", "7 no room"),
         ("idle 512 0 17", "ok"),
         ("commit 0", "11 stale"),
         ("new 512", "ok"),
-        // Time 4,294,967,295, inverted 0, and a put of an empty value that is not committed.
+        // Time 4,294,967,295, inverted 0, and a put that is not committed and ends where the half does.
         ("poke 0 1000014a00000000fc", "ok"),
-        ("poke 16 08000100000100fe", "ok"),
+        (&last, "ok"),
         ("mount", "6 worn"),
     ];
     let begin = [&FORMATTED[..], &one, &full, &commit, &two, &commit].concat();

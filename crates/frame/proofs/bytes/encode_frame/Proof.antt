@@ -46,9 +46,24 @@ returns-5 c =
     c .settled-bytes .ensures
     ∙ ap₂ (λ (x : Head) (v : List ℕ). buffer (encode (args′ .edition) (frameOf x v))) (sym (c .before .before .head5 .given .1)) (cut′ .ensures)
 
+returns-6 : tie.Need-returns-6
+returns-6 c =
+    let cut′ = c .before .before .before .cut in
+    let args′ = c .before .before .before .before .before .args in
+    c .closed-bytes .ensures
+    ∙ ap₂ (λ (x : Head) (v : List ℕ). buffer (encode (args′ .edition) (frameOf x v))) (sym (c .before .enum-told .given .1)) (cut′ .ensures)
+
+returns-7 : tie.Need-returns-7
+returns-7 c =
+    let cut′ = c .before .before .before .cut in
+    let args′ = c .before .before .before .before .before .args in
+    c .reset-bytes .ensures
+    ∙ ap₂ (λ (x : Head) (v : List ℕ). buffer (encode (args′ .edition) (frameOf x v))) (sym (c .before .enum-told2 .given .1)) (cut′ .ensures)
+
 pub encode-frame-spec : {M : Type 1} → statement M
 encode-frame-spec = tie.close (tie.spec
     (λ c κs. search needs) (λ c. search needs) (λ c κs. rw (c .before .before .before .cut .ensures) (simp length-take (omega arith)))
     (λ c. search needs) (λ c κs. search needs) (λ c. search needs) (λ c κs. search needs) (λ c. search needs) (λ c κs. search needs)
-    (λ c. search needs) (λ c κs. rw (c .before .before .before .cut .ensures) (simp length-take (omega arith))) returns returns-2 returns-3 returns-4
-    returns-5)
+    (λ c. search needs) (λ c κs. rw (c .before .before .before .cut .ensures) (simp length-take (omega arith)))
+    (λ c. search needs) (λ c κs. rw (c .before .before .cut .ensures) (simp length-take (omega arith))) (λ c. search needs) (λ c κs. search needs)
+    returns returns-2 returns-3 returns-4 returns-5 returns-6 returns-7)

@@ -37,8 +37,14 @@ returns-6 c =
     λ N i p u f. rw (c .before .before .enum-told6 .given .1, c .still4 .ensures)
     (still-moves N i p u f _ _ (c .before .after-append .ensures N i p u f))
 
+returns-7 : tie.Need-returns-7
+returns-7 c =
+    λ N i p u f. rw (c .before .before .enum-told7 .given .1, c .still5 .ensures)
+    (still-moves N i p u f _ _ (c .before .after-close .ensures N i p u f))
+
 pub advance-spec : {M : Type 1} → statement M
 advance-spec = tie.close (tie.spec
     (λ c. search needs) (λ c κs. search needs) (λ c κs. search needs) returns (λ c. search needs) (λ c κs. search needs) returns-2 (λ c. search needs)
     after-copy-requires returns-3 (λ c. search needs) (λ c κs. search needs) (λ c κs. search needs) returns-4 (λ c. search needs) (λ c κs. search needs)
-    (λ c κs. search needs) returns-5 (λ c. search needs) after-append-requires (λ c κs. search needs) returns-6)
+    (λ c κs. search needs) returns-5 (λ c. search needs) after-append-requires (λ c κs. search needs) returns-6 (λ c. search needs) (λ c κs. search needs)
+    (λ c κs. search needs) returns-7)

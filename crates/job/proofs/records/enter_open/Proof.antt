@@ -12,4 +12,4 @@ enter-open-spec = tie.close (tie.spec
     (λ c κs. search needs)
     (λ c. c .enter .ensures ∙ when-true _ _ _ (c .before .if1 .taken))
     (λ c κs. search needs)
-    (λ c. c .enter-append .ensures ∙ when-false _ _ _ (c .before .if1 .left)))
+    (λ c. c .enter-close .ensures ∙ when-false _ _ _ (c .before .if1 .left)))

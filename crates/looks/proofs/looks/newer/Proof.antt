@@ -16,7 +16,7 @@ returns-2 c =
     let takes-over′ = c .before .before .before .takes-over in
     rw (
       sym (takes-over′ .ensures) ∙ not-false (takes-over′ .result) (c .before .before .if1 .left),
-      c .before .needs-transfer .ensures,
+      c .before .pends .ensures,
       c .edition-number .ensures,
     )
 

@@ -21,6 +21,7 @@ returns-2 c =
       pending = search (needs, good′ .0 .1 .1 .1 .0 .1 .1 .1 .0 .1 .1 .1 .1 .1 .1 .0);
       wipe = search (needs, good′ .0 .1 .1 .1 .0 .1 .1 .1 .1 .0 .1 .1 .0);
       since = search (needs, good′ .0 .1 .1 .1 .0 .1 .1 .1 .1 .0 .1 .1 .1 .1 .1 .1 .1 .1 .0);
+      close = search (needs, good′ .0 .1 .1 .1 .0 .1 .1 .1 .1 .0 .1 .1 .1 .1 .1 .1 .1 .1 .1 .1 .1 .1 .0);
     }) _ (clear′ .ensures) (if2′ .taken)
     (c .before .before .lay-numbers .ensures)
 
@@ -36,6 +37,7 @@ returns-3 c =
       pending = search (needs, good′ .0 .1 .1 .1 .0 .1 .1 .1 .0 .1 .1 .1 .1 .1 .1 .0);
       wipe = search (needs, good′ .0 .1 .1 .1 .0 .1 .1 .1 .1 .0 .1 .1 .0);
       since = search (needs, good′ .0 .1 .1 .1 .0 .1 .1 .1 .1 .0 .1 .1 .1 .1 .1 .1 .1 .1 .0);
+      close = search (needs, good′ .0 .1 .1 .1 .0 .1 .1 .1 .1 .0 .1 .1 .1 .1 .1 .1 .1 .1 .1 .1 .1 .1 .0);
     }) (λ i. slice-known′ .given i .fits) (if2′ .left)
     (c .before .before .lay-numbers2 .ensures)
 

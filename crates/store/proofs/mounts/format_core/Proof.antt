@@ -15,7 +15,7 @@ returns c =
     let is-allowed′ = c .before .before .is-allowed in
     let args′ = c .before .before .before .before .args in
     refusal-given refusal.ImageLength (format-length (args′ .blocks) (now (args′ .image))
-    (sym (is-allowed′ .ensures) ∙ not-true (is-allowed′ .result) (c .before .if1 .taken))) (c .refused .ensures) refl
+    (sym (is-allowed′ .ensures) ∙ not-true (is-allowed′ .result) (c .before .if1 .taken))) (c .refused .ensures) refl refl
 
 format-order-requires : tie.Need-format-order-requires
 format-order-requires c κs = (sym (c .before .is-allowed .ensures) ∙ not-false (c .before .is-allowed .result) (c .if1 .left))

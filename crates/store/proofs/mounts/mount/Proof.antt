@@ -9,4 +9,5 @@ mount-spec = tie.close (tie.spec
     (λ c κs. search needs)
     (λ c κs. search needs)
     (λ c κs. search needs)
+    (λ c κs. search needs)
     (λ c. made-is (c .made .ensures) (c .before .mount-core .ensures)))

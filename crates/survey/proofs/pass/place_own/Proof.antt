@@ -37,7 +37,15 @@ returns-7 : tie.Need-returns-7
 unfolding placeHead
 returns-7 c = rw (c .enum-told3 .given .1)
 
+returns-8 : tie.Need-returns-8
+unfolding placeHead
+returns-8 c = rw (c .enum-told4 .given .1)
+
+returns-9 : tie.Need-returns-9
+unfolding placeHead
+returns-9 c = rw (c .enum-told5 .given .1)
+
 pub place-own-spec : {M : Type 1} → statement M
 place-own-spec = tie.close (tie.spec
     (λ c. search needs) (λ c κs. search needs) returns returns-2 (λ c. search needs) (λ c κs. search needs) returns-3 returns-4 (λ c. search needs) returns-5
-    (λ c. search needs) returns-6 (λ c. search needs) returns-7)
+    (λ c. search needs) returns-6 (λ c. search needs) returns-7 (λ c. search needs) returns-8 (λ c. search needs) returns-9)

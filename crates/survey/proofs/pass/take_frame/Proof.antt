@@ -1,5 +1,6 @@
 -- One frame more, by its head.
-use mathlib.Core.Path.{sym, ap, _∙_}
+use mathlib.Core.Path.{sym, ap, ap₂, _∙_}
+use native.Mathlib.Numerals.{add-one}
 use native.Mathlib.Omega.{arith}
 use Prim.Native.Nat.{ℕ}
 use denote.Ref.{now}
@@ -7,7 +8,7 @@ use lib.ListN.{take}
 use lib.ListN.{length-take}
 use lib.Seq.{length-take-le}
 use Rattle.frame.specs.Code.{headLen}
-use Rattle.survey.specs.Pass.{recommit, grown, closed, passed, tookFrame, tookPlaces}
+use Rattle.survey.specs.Pass.{recommit, grown, ended, endedAll, passed, tookFrame, tookPlaces}
 use borrow.Author.Needs.{needs}
 use Rattle.survey.proofs.pass.take_frame.Statement.{statement}
 use Rattle.survey.proofs.pass.take_frame.Tie as tie
@@ -34,14 +35,14 @@ commit-own-requires c κs =
     let pre′ = c .before .before .before .before .before .before .before .before .before .pre in
     omega (arith, length-take (args′ .p .end) (now (args′ .block)), pre′)
 
-close-requires : tie.Need-close-requires
-close-requires c κs =
+end-list-requires : tie.Need-end-list-requires
+end-list-requires c κs =
     let frame-len′ = c .before .before .before .before .before .before .before .before .frame-len in
     let pre′ = c .before .before .before .before .before .before .before .before .before .before .pre in
     omega (arith, frame-len′ .ensures, pre′)
 
-close-requires-2 : tie.Need-close-requires-2
-close-requires-2 c κs = omega (arith, c .before .before .before .frame-len .ensures, c .before .before .before .before .before .pre)
+end-list-requires-2 : tie.Need-end-list-requires-2
+end-list-requires-2 c κs = omega (arith, c .before .before .before .frame-len .ensures, c .before .before .before .before .before .pre)
 
 returns : tie.Need-returns
 unfolding tookFrame tookPlaces
@@ -72,7 +73,7 @@ returns-3 c =
     let head3′ = c .before .before .before .before .before .before .before .head3 in
     let frame-len′ = c .before .before .before .before .before .before .before .before .before .frame-len in
     let args′ = c .before .before .before .before .before .before .before .before .before .before .before .args in (
-      rw (head3′ .given .1) (c .close .ensures ∙ ap (closed (args′ .p) _) (frame-len′ .ensures ∙ ap (headLen (args′ .edition)) (head3′ .given .1))),
+      rw (head3′ .given .1) (c .end-list .ensures ∙ ap (ended (args′ .p) _) (frame-len′ .ensures ∙ ap (headLen (args′ .edition)) (head3′ .given .1))),
       rw (head3′ .given .1)
           (c .before .commit-own .ensures ∙ ap (λ (m : ℕ). recommit (args′ .edition) (take (args′ .p .end) (now (args′ .block))) (head3′ .given .0 .0) m
           (now (args′ .places))) (of-host′ .ensures)),
@@ -84,22 +85,44 @@ returns-4 c =
     let head4′ = c .before .before .head4 in
     let frame-len′ = c .before .before .before .before .frame-len in
     let args′ = c .before .before .before .before .before .before .args in (
-      rw (head4′ .given .1) (c .close2 .ensures ∙ ap (closed (args′ .p) _) (frame-len′ .ensures ∙ ap (headLen (args′ .edition)) (head4′ .given .1))),
+      rw (head4′ .given .1) (c .end-list2 .ensures ∙ ap (ended (args′ .p) _) (frame-len′ .ensures ∙ ap (headLen (args′ .edition)) (head4′ .given .1))),
       rw (head4′ .given .1),
     )
 
 returns-5 : tie.Need-returns-5
 unfolding tookFrame tookPlaces
 returns-5 c =
-    let head5′ = c .before .before .before .before .head5 in
-    let frame-len′ = c .before .before .before .before .before .before .frame-len in
-    let args′ = c .before .before .before .before .before .before .before .before .args in (
-      rw (head5′ .given .1) (c .settle .ensures ∙ ap (passed (args′ .p) _) (frame-len′ .ensures ∙ ap (headLen (args′ .edition)) (head5′ .given .1))),
-      rw (head5′ .given .1) (c .before .store .ensures),
+    let head5′ = c .before .before .before .before .before .head5 in
+    let frame-len′ = c .before .before .before .before .before .before .before .frame-len in
+    let args′ = c .before .before .before .before .before .before .before .before .before .args in (
+      rw (head5′ .given .1) (c .pass-over .ensures
+          ∙ ap₂ (passed (args′ .p)) (add-one _) (frame-len′ .ensures ∙ ap (headLen (args′ .edition)) (head5′ .given .1))),
+      rw (head5′ .given .1) (c .before .before .store .ensures),
+    )
+
+returns-6 : tie.Need-returns-6
+unfolding tookFrame tookPlaces
+returns-6 c =
+    let told′ = c .before .enum-told in
+    let args′ = c .before .before .before .before .before .args in (
+      rw (told′ .given .1) (c .pass-over2 .ensures
+          ∙ ap (passed (args′ .p) 256) (c .before .before .before .frame-len .ensures ∙ ap (headLen (args′ .edition)) (told′ .given .1))),
+      rw (told′ .given .1),
+    )
+
+returns-7 : tie.Need-returns-7
+unfolding tookFrame tookPlaces
+returns-7 c =
+    let told′ = c .before .enum-told2 in
+    let args′ = c .before .before .before .before .before .args in (
+      rw (told′ .given .1) (c .end-all .ensures
+          ∙ ap (endedAll (args′ .p)) (c .before .before .before .frame-len .ensures ∙ ap (headLen (args′ .edition)) (told′ .given .1))),
+      rw (told′ .given .1),
     )
 
 pub take-frame-spec : {M : Type 1} → statement M
 take-frame-spec = tie.close (tie.spec
     (λ c κs. search needs) (λ c. search needs) (λ c. search needs) grow-requires (λ c. search needs) grow-requires-2 (λ c. search needs) (λ c κs. search needs)
-    (λ c. search needs) (λ c. search needs) slice-aggregate-commit-own commit-own-requires close-requires (λ c. search needs) close-requires-2
-    (λ c. search needs) (λ c κs. search needs) (λ c κs. search needs) returns returns-2 returns-3 returns-4 returns-5)
+    (λ c. search needs) (λ c. search needs) slice-aggregate-commit-own commit-own-requires end-list-requires (λ c. search needs) end-list-requires-2
+    (λ c. search needs) (λ c κs. search needs) (λ c. search needs) (λ c. search needs) (λ c κs. search needs) (λ c. search needs) (λ c κs. search needs)
+    (λ c. search needs) (λ c κs. search needs) returns returns-2 returns-3 returns-4 returns-5 returns-6 returns-7)

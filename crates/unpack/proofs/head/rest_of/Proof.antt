@@ -15,7 +15,7 @@ rest-of-spec = tie.close (tie.spec
     (λ c κs. search needs)
     (λ c κs. search needs)
     (λ c. rw (
-      c .before .before .before .before .before .hosts-in .ensures,
+      c .before .before .before .before .before .four-in .ensures,
       c .before .before .before .before .before .before .tail .ensures,
       c .before .before .before .before .byte-at .ensures,
       c .before .before .before .word-in .ensures,
