@@ -1,6 +1,6 @@
 -- Steps on the record's bytes: what the parts of the code came to is what the definitions say.
 use mathlib.Core.Path.{_≡_, sym, ap, subst, _∙_}
-use mathlib.Core.List.{List}
+use mathlib.Core.List.{List, []}
 use mathlib.Core.Bool.{Bool, true, false, true≢false, cond}
 use Prim.Native.Nat.{ℕ}
 use lib.ListN.{length}
@@ -13,6 +13,7 @@ use Rattle.board.specs.declared.Phase.{Phase}
 use Rattle.board.specs.declared.Record.{Record}
 use Rattle.board.specs.Record.{Out}
 use Rattle.board.specs.Step.{enterCopy, stepOn}
+use Rattle.board.specs.Drive.{madeOn}
 use Rattle.job.specs.declared.records.Numbers.{Numbers}
 use Rattle.job.specs.declared.records.Stepped.{Stepped}
 use Rattle.job.specs.declared.moves.Moved.{Moved}
@@ -20,7 +21,7 @@ use Rattle.job.specs.Code.{assemble, LeadsTo, reachedIf, answeredIf, answered, 
 use Rattle.lent.specs.Layout.{recordSize, recordIn, recordBytes, recordInto}
 use Rattle.pack.specs.Code.{loadedIn, leftIn, Holds, changes}
 use Rattle.midframe.specs.Code.{Made}
-use Rattle.edge.specs.Edge.{edgeStep, written}
+use Rattle.edge.specs.Edge.{guarded, written, edgeStep, edgeMade, ReadsBack}
 use Rattle.edge.specs.Code.{over, reachedIn, Went, DoesStep}
 use Rattle.edge.proofs.Buffers.{filled}
 use Rattle.edge.proofs.Kept.{Keeps}
@@ -86,16 +87,27 @@ driven img b after n m o l s k w =
           (λ t. ap recordIn (e ∙ ap (λ (d : Bool). cond d (recordBytes (o .board)) b) t) ∙ sym (k t)),
     )
 
--- a step in the middle of a frame
-pub middle : {N : ℕ} (img b img′ b′ : List ℕ) (n : ℕ) → n ≡ edgeNumber More → Made N img b img′ b′ → DoesStep N img b n img′ b′
+-- a call that answers more in the middle of a frame
+module _ (o : Out) (img b img′ b′ : List ℕ) (n : ℕ) (e : n ≡ edgeNumber More) (m : Made o b img′ b′) where
+  pub midway : (n ≡ guarded img b [] o (written b o) .answer) × (img′ ≡ guarded img b [] o (written b o) .image)
+      × (b′ ≡ guarded img b [] o (written b o) .board)
+  midway = (
+    rw (eq-eqb _ _ (m .size)) (e ∙ ap edgeNumber (sym (m .answers))),
+    rw (eq-eqb _ _ (m .size)) (m .image),
+    rw (eq-eqb _ _ (m .size))
+        (m .bytes ∙ sym (ap (λ (a : Answer). cond (changes (recordIn b .phase) a) (recordBytes (o .board)) b) (m .answers))),
+  )
+
+-- a step
+pub middle : {N : ℕ} (img b img′ b′ : List ℕ) (n : ℕ) → n ≡ edgeNumber More → Made (stepOn N img (recordIn b)) b img′ b′ → DoesStep N img b n img′ b′
 unfolding edgeStep
 middle {N} img b img′ b′ n e m =
-    let o = stepOn N img (recordIn b) in
-    record {
-      answer = rw (eq-eqb _ _ (m .size)) (e ∙ ap edgeNumber (sym (m .answers)));
-      image = rw (eq-eqb _ _ (m .size)) (m .image);
-      board =
-          rw (eq-eqb _ _ (m .size))
-          (m .bytes ∙ sym (ap (λ (a : Answer). cond (changes (recordIn b .phase) a) (recordBytes (o .board)) b) (m .answers)));
-      back = λ _. m .back;
-    }
+    let d = midway (stepOn N img (recordIn b)) img b img′ b′ n e m in
+    record { answer = d .0; image = d .1; board = d .2; back = λ _. m .back }
+
+-- a step that was made
+pub middle-made : (N : ℕ) (img b b′ : List ℕ) (n : ℕ) → n ≡ edgeNumber More → Made (madeOn N img (recordIn b)) b img b′
+    → ((n ≡ edgeMade N img b .answer) × (b′ ≡ edgeMade N img b .board)) × ReadsBack b b′ (madeOn N img (recordIn b) .board)
+unfolding edgeMade
+middle-made N img b b′ n e m =
+    let d = midway (madeOn N img (recordIn b)) img b img b′ n e m in ((d .0, d .2), λ _. m .back)

@@ -28,6 +28,9 @@ pub extern "C" fn grommetide_made(image: &[u8], blocks: u8, board: &mut [u8]) ->
     ensures back { λ r. ⌜ ReadsBack (now (board .entry)) (now (board .exit))
         (madeOn blocks (now (image .entry)) (recordIn (now (board .entry))) .board) ⌝ }
 {
+    if midframe::try_made(image.len(), blocks, board) {
+        return wire::number(Answer::More);
+    }
     if board.len() != RECORD_SIZE {
         return WRONG_RECORD;
     }

@@ -1,50 +1,45 @@
--- A step in the middle of a frame: what the bytes that the code reads and writes are.
-use mathlib.Core.Path.{_≡_, refl, sym, ap, _∙_}
-use mathlib.Core.List.{List}
-use mathlib.Core.Bool.{Bool, true, false, false≢true, cond}
-use Prim.Native.Nat.{ℕ, suc, _+_, _/_, _%_, _<_}
+-- The middle of a frame: what the bytes that the code reads and writes are.
+use mathlib.Core.Path.{_≡_, refl, sym, ap, subst, _∙_}
+use mathlib.Core.List.{List, []}
+use mathlib.Core.Bool.{Bool, true, false, false≢true, _&&_, cond}
+use Prim.Native.Nat.{ℕ, suc, _+_, _*_, _/_, _%_, _<_}
 use native.Mathlib.Omega.{arith}
-use lib.ListN.{length, getD, set, drop}
+use lib.ListN.{length, length-set, getD, set, drop}
 use lib.Seq.{drop-drop, getD-drop}
 use borrow.Author.Tests.{eq-eqb, lt-ltb}
-use Rattle.flash.specs.Flash.{maxBlocks, Step, program, apply, sizeOf, within}
-use Rattle.flash.proofs.Cases.{and-both}
+use Rattle.flash.specs.Flash.{maxBlocks, Step, program, programAt, sizeIn, within}
+use Rattle.flash.proofs.Cases.{on-test, and-both}
 use Rattle.flash.specs.Bytes.{le16}
 use Rattle.wire.specs.Message.{wordAt}
+use Rattle.wire.specs.declared.Refusal.the-variants as refusal
 use Rattle.board.specs.declared.Stage.{Stage}
 use Rattle.board.specs.declared.Stage.the-variants.{Copy, Append}
+use Rattle.board.specs.declared.Phase.{Phase}
 use Rattle.board.specs.declared.Phase.the-variants.{Busy}
+use Rattle.board.specs.declared.Next.{Next}
+use Rattle.board.specs.declared.Next.the-variants as next
 use Rattle.board.specs.declared.Cursor.{Cursor}
 use Rattle.board.specs.declared.Record.{Record}
-use Rattle.board.specs.Record.{Out, inStage}
+use Rattle.board.specs.Record.{Out, inStage, refuse}
 use Rattle.board.specs.Step.{action, nextIndex, nextByte, advance, stepped, sameShape, stepOn}
-use Rattle.board.proofs.Outcomes.{step-goes}
-use Rattle.job.specs.Code.{did}
+use Rattle.board.specs.Drive.{placed, nextIn, nextOn, flashed, madeIn, madeOn, NextThenMade}
+use Rattle.board.proofs.Driving.{next-then-made}
 use Rattle.job.proofs.Acting.{in-parts, size-low}
 use Rattle.lent.specs.Layout.{madeAt, copyAt, offAt, targetAt, appendAt, lastAt, blockAt, endAt, blocksAt, jobAt, planAt, cursorAt, recordSize}
 use Rattle.lent.specs.Layout.{phaseIn, recordIn, recordBytes}
 use Rattle.lent.proofs.Inverse.{Sized, record-back}
 use Rattle.lent.proofs.Own.{own-sized}
 use Rattle.lent.proofs.Canonical.{Canonical, at-cursor, byte-copied, byte-appended}
-use Rattle.midframe.specs.Code.{Stands, Made, Tried}
+use Rattle.midframe.specs.declared.Aim.the-variants.{At}
+use Rattle.midframe.specs.declared.Found.{Found}
+use Rattle.midframe.specs.declared.Found.the-variants.{Nothing, Byte}
+use Rattle.midframe.specs.Code.{Stands, Aims, Lies, Ready, Finds, Made, Tried}
 
-pub nothing : (N : ℕ) (img b img′ b′ : List ℕ) → img′ ≡ img → b′ ≡ b → Tried N false img b img′ b′
-nothing N img b img′ b′ e f = record { made = λ t. absurd (false≢true t); left = λ _. (e, f) }
+pub nothing : (o : Out) (img b img′ b′ : List ℕ) → img′ ≡ img → b′ ≡ b → Tried o false img b img′ b′
+nothing o img b img′ b′ e f = record { made = λ t. absurd (false≢true t); left = λ _. (e, f) }
 
-pub done : (N : ℕ) (img b img′ b′ : List ℕ) → Made N img b img′ b′ → Tried N true img b img′ b′
-done N img b img′ b′ m = record { made = λ _. m; left = λ t. absurd (false≢true (sym t)) }
-
--- nothing is programmed outside the image
-pub not-done : (N : ℕ) (x : Step) (img img′ : List ℕ) (t : Bool) → t ≡ within N (sizeOf N img) x → img′ ≡ did N x img → t ≡ false → img′ ≡ img
-unfolding did
-not-done N x img img′ t e d f = d ∙ ap (λ (q : Bool). cond q (apply (sizeOf N img) x img) img) (sym e ∙ f)
-
--- an offset inside a block can be counted on
-pub counts-on : (N : ℕ) (img b : List ℕ) (block at v : ℕ) → ((i : ℕ) → getD b i 0 < 256) → length img ≡ suc (wordAt b lastAt)
-    → within N (sizeOf N img) (program block at v) ≡ true → at < 32768
-counts-on N img b block at v ok n w =
-    let h = in-parts N (sizeOf N img) (program block at v) w in
-    omega (arith, n, ok lastAt, ok (lastAt + 1), h .2, size-low N (length img) (h .0))
+pub done : (o : Out) (img b img′ b′ : List ℕ) → Made o b img′ b′ → Tried o true img b img′ b′
+done o img b img′ b′ m = record { made = λ _. m; left = λ t. absurd (false≢true (sym t)) }
 
 -- a frame that has a byte more
 copy-on : (N : ℕ) (r : Record) (after : List ℕ) → suc (r .cursor .off) < r .cursor .size
@@ -106,14 +101,98 @@ module _ (b : List ℕ) where
   unfolding recordIn
   end-is = refl
 
-module _ (N : ℕ) (img b img′ b′ : List ℕ) (size : length b ≡ recordSize) where
+  -- the byte of either frame
+  pub copy-is : (off at block v : ℕ) → getD b 0 0 ≡ 4 → off ≡ getD b (cursorAt + offAt) 0 → at ≡ wordAt b (cursorAt + madeAt)
+      → block ≡ getD b (planAt + targetAt) 0 → v ≡ getD (recordIn b .unit) off 0 → Aims b (At Copy block at v)
+  copy-is off at block v p eo ea ek ev =
+      let fo : off ≡ recordIn b .cursor .off = eo ∙ sym off-is in (
+        rw p (omega arith),
+        phase-is 4 p,
+        ap (program block at) ev ∙ (λ j. program ((ek ∙ sym target-is) j) ((ea ∙ sym at-is) j) (getD (recordIn b .unit) (fo j) 0)),
+      )
+
+  pub append-at : (index at block v : ℕ) → getD b 0 0 ≡ 7 → index ≡ getD b cursorAt 0 → at ≡ wordAt b endAt + index → block ≡ getD b blockAt 0
+      → v ≡ getD (recordIn b .frame) index 0 → Aims b (At Append block at v)
+  append-at index at block v p ei ea ek ev =
+      let fi : index ≡ recordIn b .cursor .index = ei ∙ sym index-is in (
+        rw p (omega arith),
+        phase-is 7 p,
+        ap (program block at) ev
+            ∙ (λ j. program ((ek ∙ sym block-is) j) ((ea ∙ (λ k. sym end-is k + fi k)) j) (getD (recordIn b .frame) (fi j) 0)),
+      )
+
+-- ---- what is next
+
+-- what is found at a place in the image is next
+pub finds : (N n : ℕ) (b : List ℕ) (s : Stage) (k o v : ℕ) (f : Found) → ((i : ℕ) → getD b i 0 < 256) → length b ≡ recordSize → Stands N b n
+    → Aims b (At s k o v) → Lies N n s (program k o v) f → Finds N n b f
+unfolding nextOn
+finds N n b s k o v Nothing ok size t a l = tt
+finds N n b s k o v (Byte q at w) ok size t a l =
+    let r = recordIn b in
+    let in′ : within N (sizeIn N n) (action s r) ≡ true = subst (λ (y : Step). within N (sizeIn N n) y ≡ true) (a .2) (l .1) in
+    let h = in-parts N (sizeIn N n) (action s r) in′ in
+    let shape : sameShape N n r ≡ true = and-both _ _ (eq-eqb _ _ (last-is b n (t .fits))) (eq-eqb _ _ (count-is b N (t .count))) in
+    let low : Ready b s = record {
+      size = size;
+      busy = a .1;
+      phase = a .0;
+      moves = t .moves;
+      drops = t .drops;
+      low = omega (arith, t .fits, ok lastAt, ok (lastAt + 1), h .2, size-low N n (h .0));
+    } in (
+      subst (Ready b) (sym (l .0)) low,
+      ap (λ (p : Phase). nextIn N p n r) (a .1)
+          ∙ ap (λ (k : Bool). cond k (placed (sizeIn N n) (action s r)) (next.Refused refusal.Stale)) (and-both _ _ shape in′)
+          ∙ ap (placed (sizeIn N n)) (sym (a .2))
+          ∙ l .2,
+    )
+
+-- ---- it is made
+
+module _ (N : ℕ) (b b′ : List ℕ) (s : Stage) (at v : ℕ) (t : Bool) (y : Ready b s)
+    (on : (img : List ℕ) → Tried (stepped img (advance N s img (recordIn b))) t img b img b′) where
+  -- where a byte is next, the place lies in the image
+  made-goes : (img : List ℕ) → nextOn N (length img) (recordIn b) ≡ next.Program at v
+      → madeOn N img (recordIn b) ≡ stepped img (advance N s img (recordIn b))
+  unfolding nextOn madeOn
+  made-goes img e =
+      let r = recordIn b in
+      let n = length img in
+      let p = y .busy in
+      let taken = sameShape N n r && within N (sizeIn N n) (action s r) in
+      let e′ : nextIn N (Busy s) n r ≡ next.Program at v = sym (ap (λ (q : Phase). nextIn N q n r) p) ∙ e in
+      ap (λ (q : Phase). madeIn N q img r) p
+      ∙ on-test taken
+      (λ k. ap (λ (q : Bool). cond q (stepped img (advance N s img r)) (refuse refusal.Stale img r [])) k)
+      (λ k.
+      let z : next.Refused refusal.Stale ≡ next.Program at v =
+      sym (ap (λ (q : Bool). cond q (placed (sizeIn N n) (action s r)) (next.Refused refusal.Stale)) k) ∙ e′ in
+      let o : _≡_ {A = ℕ} 0 1 = cc in absurd (omega arith))
+
+  -- a step that the caller made
+  pub made-on : (img : List ℕ) → nextOn N (length img) (recordIn b) ≡ next.Program at v → Tried (madeOn N img (recordIn b)) t img b img b′
+  made-on img e = subst (λ (o : Out). Tried o t img b img b′) (sym (made-goes img e)) (on img)
+
+  -- a step
+  pub step-on : (img : List ℕ) → nextOn N (length img) (recordIn b) ≡ next.Program at v → t ≡ true
+      → Made (stepOn N img (recordIn b)) b (programAt img at v) b′
+  unfolding NextThenMade
+  step-on img e d =
+      let img′ = programAt img at v in
+      let same : length img′ ≡ length img = simp length-set in
+      let m = made-on img′ (ap (λ (n : ℕ). nextOn N n (recordIn b)) same ∙ e) .made d in
+      let q : madeOn N img′ (recordIn b) ≡ stepOn N img (recordIn b) =
+      ap (λ (x : Next). madeOn N (flashed x img) (recordIn b)) (sym e) ∙ next-then-made N img (recordIn b) in
+      subst (λ (o : Out). Made o b img′ b′) q m
+
+-- ---- the cursor counts it
+
+module _ (b b′ : List ℕ) (ok : (i : ℕ) → getD b i 0 < 256) where
   -- the job goes on in its stage
-  goes-on : (s : Stage) (c : Cursor) (x : Step) → recordIn b .phase ≡ Busy s → sameShape N (length img) (recordIn b) ≡ true
-      → action s (recordIn b) ≡ x → within N (sizeOf N img) x ≡ true
-      → ((after : List ℕ) → advance N s after (recordIn b) ≡ inStage s c (recordIn b))
-      → img′ ≡ did N x img → b′ ≡ recordBytes (inStage s c (recordIn b)) → Made N img b img′ b′
-  unfolding did
-  goes-on s c x p n a w v i e =
+  goes-on : (N : ℕ) (img : List ℕ) (s : Stage) (c : Cursor) → Ready b s → advance N s img (recordIn b) ≡ inStage s c (recordIn b)
+      → b′ ≡ recordBytes (inStage s c (recordIn b)) → Made (stepped img (advance N s img (recordIn b))) b img b′
+  goes-on N img s c y v e =
       let r = recordIn b in
       let z = own-sized b in
       let sz : Sized (inStage s c r) = record {
@@ -125,64 +204,46 @@ module _ (N : ℕ) (img b img′ b′ : List ℕ) (size : length b ≡ recordSiz
         unit = z .unit;
         frame = z .frame;
       } in
-      let q : stepOn N img r ≡ stepped (apply (sizeOf N img) x img) (inStage s c r) =
-      step-goes N img r s p (and-both _ _ n (ap (within N (sizeOf N img)) a ∙ w))
-      ∙ ap (λ (y : Step). stepped (apply (sizeOf N img) y img) (advance N s (apply (sizeOf N img) y img) r)) a
-      ∙ ap (stepped (apply (sizeOf N img) x img)) (v (apply (sizeOf N img) x img)) in
-      record {
-        size = size;
-        answers = ap (λ (o : Out). o .answer) q;
-        image = i ∙ ap (λ (t : Bool). cond t (apply (sizeOf N img) x img) img) w ∙ sym (ap (λ (o : Out). o .image) q);
-        bytes = e ∙ sym (ap (λ (o : Out). recordBytes (o .board)) q);
-        back = ap recordIn e ∙ record-back (inStage s c r) sz ∙ sym (ap (λ (o : Out). o .board) q);
-      }
+      subst (λ (q : Record). Made (stepped img q) b img b′) (sym v)
+      (record { size = y .size; answers = refl; image = refl; bytes = e; back = ap recordIn e ∙ record-back (inStage s c r) sz })
 
-  module _ (ok : (i : ℕ) → getD b i 0 < 256) where
-    canonical : (p : ℕ) → Stands N b (length img) p → p < 9 → Canonical b
-    canonical p s h = record { phase = rw (s .phase) h; moves = s .moves; drops = s .drops }
+  canonical : (s : Stage) → Ready b s → Canonical b
+  canonical s y = record { phase = y .phase; moves = y .moves; drops = y .drops }
 
-    same : (p : ℕ) → Stands N b (length img) p → sameShape N (length img) (recordIn b) ≡ true
-    same p s = and-both _ _ (eq-eqb _ _ (last-is b (length img) (s .fits))) (eq-eqb _ _ (count-is b N (s .count)))
+  -- an offset that can be counted on
+  pub counts-on : (at : ℕ) → Ready b Copy → at ≡ wordAt b (cursorAt + madeAt) → at < 32768
+  counts-on at y e = rw (e, ← at-is b) (y .low)
 
-    -- the frame that is copied
-    pub copied : Stands N b (length img) 4 → (off n at block v low high : ℕ) → off ≡ getD b (cursorAt + offAt) 0 → n ≡ getD b (cursorAt + copyAt) 0
-        → off + 1 < n → at ≡ wordAt b (cursorAt + madeAt) → block ≡ getD b (planAt + targetAt) 0 → v ≡ getD (recordIn b .unit) off 0
-        → within N (sizeOf N img) (program block at v) ≡ true → img′ ≡ did N (program block at v) img
-        → low ≡ (at + 1) % 256 → high ≡ (at + 1) / 256
-        → b′ ≡ set (set (set b (cursorAt + madeAt) low) (cursorAt + (madeAt + 1)) high) (cursorAt + offAt) (off + 1) → Made N img b img′ b′
-    copied s off n at block v low high eo en h ea ek ev w i el eh e =
-        let r = recordIn b in
-        let c = r .cursor in
-        let y = canonical 4 s (omega arith) in
-        let p = phase-is b 4 (s .phase) in
-        let fo : c .off ≡ off = off-is b ∙ sym eo in
-        let fn : c .size ≡ n = size-is b ∙ sym en in
-        let fa : c .at ≡ at = at-is b ∙ sym ea in
-        let ft : r .job .target ≡ block = target-is b ∙ sym ek in
-        let a : action Copy r ≡ program block at v = (λ j. program (ft j) (fa j) (getD (r .unit) (fo j) 0)) ∙ ap (program block at) (sym ev) in
-        let q : at + 1 ≡ suc (c .at) = omega (arith, fa) in
-        let el′ = el ∙ ap (λ (k : ℕ). k % 256) q in
-        let eh′ = eh ∙ ap (λ (k : ℕ). k / 256) q in
-        let eo′ : off + 1 ≡ suc (c .off) = omega (arith, fo) in
-        goes-on Copy (nextByte c) (program block at v) p (same 4 s) a w (λ after. copy-on N r after (omega (arith, fo, fn))) i
-        (e ∙ (λ j. set (set (set b (cursorAt + madeAt) (el′ j)) (cursorAt + (madeAt + 1)) (eh′ j)) (cursorAt + offAt) (eo′ j))
-        ∙ byte-copied b size ok y (suc (c .at)) c refl refl ∙ sym (at-cursor b size ok y Copy (nextByte c) p))
+  -- of the frame that is copied
+  pub copied : (off n at low high : ℕ) → Ready b Copy → off ≡ getD b (cursorAt + offAt) 0 → n ≡ getD b (cursorAt + copyAt) 0 → off + 1 < n
+      → at ≡ wordAt b (cursorAt + madeAt) → low ≡ (at + 1) % 256 → high ≡ (at + 1) / 256
+      → b′ ≡ set (set (set b (cursorAt + madeAt) low) (cursorAt + (madeAt + 1)) high) (cursorAt + offAt) (off + 1)
+      → (N : ℕ) (img : List ℕ) → Tried (stepped img (advance N Copy img (recordIn b))) true img b img b′
+  copied off n at low high y eo en h ea el eh e N img =
+      let r = recordIn b in
+      let c = r .cursor in
+      let k = canonical Copy y in
+      let fo : c .off ≡ off = off-is b ∙ sym eo in
+      let fn : c .size ≡ n = size-is b ∙ sym en in
+      let fa : c .at ≡ at = at-is b ∙ sym ea in
+      let q : at + 1 ≡ suc (c .at) = omega (arith, fa) in
+      let el′ = el ∙ ap (λ (k : ℕ). k % 256) q in
+      let eh′ = eh ∙ ap (λ (k : ℕ). k / 256) q in
+      let eo′ : off + 1 ≡ suc (c .off) = omega (arith, fo) in
+      done _ _ _ _ _ (goes-on N img Copy (nextByte c) y (copy-on N r img (omega (arith, fo, fn)))
+      (e ∙ (λ j. set (set (set b (cursorAt + madeAt) (el′ j)) (cursorAt + (madeAt + 1)) (eh′ j)) (cursorAt + offAt) (eo′ j))
+      ∙ byte-copied b (y .size) ok k (suc (c .at)) c refl refl ∙ sym (at-cursor b (y .size) ok k Copy (nextByte c) (y .busy))))
 
-    -- the frame to append
-    pub appended : Stands N b (length img) 7 → (index n at block v : ℕ) → index ≡ getD b cursorAt 0 → n ≡ getD b (planAt + appendAt) 0
-        → index + 1 < n → at ≡ wordAt b endAt + index → block ≡ getD b blockAt 0 → v ≡ getD (recordIn b .frame) index 0
-        → within N (sizeOf N img) (program block at v) ≡ true → img′ ≡ did N (program block at v) img
-        → b′ ≡ set b cursorAt (index + 1) → Made N img b img′ b′
-    appended s index n at block v ei en h ea ek ev w i e =
-        let r = recordIn b in
-        let c = r .cursor in
-        let y = canonical 7 s (omega arith) in
-        let p = phase-is b 7 (s .phase) in
-        let fi : c .index ≡ index = index-is b ∙ sym ei in
-        let fn : r .job .size ≡ n = append-is b ∙ sym en in
-        let fk : r .rest .block ≡ block = block-is b ∙ sym ek in
-        let fa : r .rest .end + c .index ≡ at = (λ j. end-is b j + fi j) ∙ sym ea in
-        let a : action Append r ≡ program block at v = (λ j. program (fk j) (fa j) (getD (r .frame) (fi j) 0)) ∙ ap (program block at) (sym ev) in
-        let ei′ : index + 1 ≡ suc (c .index) = omega (arith, fi) in
-        goes-on Append (nextIndex c) (program block at v) p (same 7 s) a w (λ after. append-on N r after (omega (arith, fi, fn))) i
-        (e ∙ ap (set b cursorAt) ei′ ∙ byte-appended b size ok y c refl ∙ sym (at-cursor b size ok y Append (nextIndex c) p))
+  -- of the frame to append
+  pub appended : (index n : ℕ) → Ready b Append → index ≡ getD b cursorAt 0 → n ≡ getD b (planAt + appendAt) 0 → index + 1 < n
+      → b′ ≡ set b cursorAt (index + 1) → (N : ℕ) (img : List ℕ) → Tried (stepped img (advance N Append img (recordIn b))) true img b img b′
+  appended index n y ei en h e N img =
+      let r = recordIn b in
+      let c = r .cursor in
+      let k = canonical Append y in
+      let fi : c .index ≡ index = index-is b ∙ sym ei in
+      let fn : r .job .size ≡ n = append-is b ∙ sym en in
+      let ei′ : index + 1 ≡ suc (c .index) = omega (arith, fi) in
+      done _ _ _ _ _ (goes-on N img Append (nextIndex c) y (append-on N r img (omega (arith, fi, fn)))
+      (e ∙ ap (set b cursorAt) ei′ ∙ byte-appended b (y .size) ok k c refl
+      ∙ sym (at-cursor b (y .size) ok k Append (nextIndex c) (y .busy))))
