@@ -221,41 +221,43 @@ fn frames_cut_inside_their_crc() {
     }
 }
 
-/// A frame, one byte of it changed, and the first field that is then bad. A settled frame that is cut is wrong.
+/// A frame, one byte of it changed, and the first field that is then bad.
+const BAD: [(&[u8], usize, u8, Field, usize); 29] = [
+    (&PUT, 0, 8, Field::Length, 0),
+    (&PUT, 0, 9, Field::Kind, 2),
+    (&PUT, 0, 253, Field::Length, 0),
+    (&PUT, 1, 1, Field::Length, 0),
+    (&PUT, 0, 10, Field::Kind, 2),
+    (&PUT, 0, 11, Field::Kind, 2),
+    (&PUT, 2, 2, Field::Kind, 2),
+    (&PUT, 2, 5, Field::Id, 4),
+    (&PUT, 4, 4, Field::Host, 4),
+    (&PUT, 4, 3, Field::Crc, 9),
+    (&PUT, 5, 6, Field::Crc, 9),
+    (&PUT, 6, 1, Field::Id, 5),
+    (&PUT, 7, 0x40, Field::Crc, 9),
+    (&PUT, 0, 13, Field::Crc, 8),
+    (&DELETE, 4, 2, Field::Crc, 7),
+    (&DELETE, 0, 8, Field::Length, 0),
+    (&COMMIT, 2, 4, Field::Crc, 5),
+    (&COMMIT, 0, 6, Field::Length, 0),
+    (&ABORT, 2, 3, Field::Crc, 5),
+    (&SETTLED, 4, 4, Field::Crc, 8),
+    (&SETTLED, 5, 1, Field::Id, 4),
+    (&SETTLED, 12, 0xFF, Field::Finish, 12),
+    (&EMPTY, 2, 1, Field::Kind, 2),
+    (&RESET, 0, 10, Field::Kind, 2),
+    (&RESET, 2, 3, Field::Kind, 2),
+    (&RESET, 7, 0x12, Field::Crc, 4),
+    (&RESET, 8, 0xFC, Field::Finish, 8),
+    (&CLOSED, 0, 11, Field::Kind, 2),
+    (&CLOSED, 11, 0xFC, Field::Finish, 11),
+];
+
+/// A settled frame that is cut is wrong.
 #[test]
 fn each_field_of_each_frame() {
-    let bad: [(&[u8], usize, u8, Field, usize); 29] = [
-        (&PUT, 0, 8, Field::Length, 0),
-        (&PUT, 0, 9, Field::Kind, 2),
-        (&PUT, 0, 253, Field::Length, 0),
-        (&PUT, 1, 1, Field::Length, 0),
-        (&PUT, 0, 10, Field::Kind, 2),
-        (&PUT, 0, 11, Field::Kind, 2),
-        (&PUT, 2, 2, Field::Kind, 2),
-        (&PUT, 2, 5, Field::Id, 4),
-        (&PUT, 4, 4, Field::Host, 4),
-        (&PUT, 4, 3, Field::Crc, 9),
-        (&PUT, 5, 6, Field::Crc, 9),
-        (&PUT, 6, 1, Field::Id, 5),
-        (&PUT, 7, 0x40, Field::Crc, 9),
-        (&PUT, 0, 13, Field::Crc, 8),
-        (&DELETE, 4, 2, Field::Crc, 7),
-        (&DELETE, 0, 8, Field::Length, 0),
-        (&COMMIT, 2, 4, Field::Crc, 5),
-        (&COMMIT, 0, 6, Field::Length, 0),
-        (&ABORT, 2, 3, Field::Crc, 5),
-        (&SETTLED, 4, 4, Field::Crc, 8),
-        (&SETTLED, 5, 1, Field::Id, 4),
-        (&SETTLED, 12, 0xFF, Field::Finish, 12),
-        (&EMPTY, 2, 1, Field::Kind, 2),
-        (&RESET, 0, 10, Field::Kind, 2),
-        (&RESET, 2, 3, Field::Kind, 2),
-        (&RESET, 7, 0x12, Field::Crc, 4),
-        (&RESET, 8, 0xFC, Field::Finish, 8),
-        (&CLOSED, 0, 11, Field::Kind, 2),
-        (&CLOSED, 11, 0xFC, Field::Finish, 11),
-    ];
-    for (frame, at, byte, field, place) in bad {
+    for (frame, at, byte, field, place) in BAD {
         let bytes = with(frame, at, byte);
         assert_eq!(broke(&[&bytes, &[0]]), Some((field, place)), "{bytes:?}");
     }
