@@ -191,7 +191,7 @@
  *     grommetide_format          3,584       3,584
  *     grommetide_request         2,560       3,072
  *     grommetide_read            1,792       1,792
- *     grommetide_next              576         576
+ *     grommetide_next              640         640
  *     grommetide_made            3,328       3,328
  *     grommetide_step            2,816       3,072
  *     grommetide_run             3,584       3,584
